@@ -1,0 +1,5 @@
+pub mod Fault
+pub mod Rule
+pub mod Shares
+pub mod Standard
+pub mod Tables

@@ -1,0 +1,42 @@
+-- Standard values, records and files.
+use Rattle.std.specs.Prelude.{◌≡◌, ℕ, List, [], ◌∷◌, map, position, bytes_eq, Option, ⊤, ℤ, pos, negsuc, ◌≤ℤ◌}
+use Rattle.std.specs.Str.{IsUtf8}
+use Rattle.std.specs.declared.alloc.Global.{Global}
+use Rattle.std.specs.declared.vec.Vec.{Vec}
+use Rattle.link_base.specs.declared.standard.Value.{Value}
+use Rattle.link_base.specs.declared.standard.Value.TheVariants as value
+
+-- a record: its id, and its value in each field
+pub record Record : Type 0 where
+  pub id : List ℕ
+  pub row : List Value
+
+-- the records of the entries of a map from ids to rows
+abbrev pub records_of : List (Vec ℕ Global × List Value) → List Record
+records_of entries = map (λ (e : Vec ℕ Global × List Value). record { id = e.0.items; row = e.1 }) entries
+
+-- the value and the record past the end of a list
+abbrev pub absent : Value
+absent = value.Absent
+
+abbrev pub no_record : Record
+no_record = record { id = []; row = [] }
+
+-- the position of the record with an id
+abbrev pub position_of_id : List ℕ → List Record → Option ℕ
+position_of_id id records = position (λ (r : Record). bytes_eq id r.id) records
+
+-- the rows of values
+abbrev pub rows_of : List Record → List (List Value)
+rows_of records = map (λ (r : Record). r.row) records
+
+-- a day from 0001-01-01 to 9999-12-31, counted from 1970-01-01
+pub record IsDay (day : ℤ) : Type 0 where
+  pub low : negsuc 719161 ≤ℤ day
+  pub high : day ≤ℤ pos 2932896
+
+-- words are text, and days have a civil date of four digits
+abbrev pub IsValid : Value → Type 0
+IsValid value.Absent = ⊤
+IsValid (value.Word text) = IsUtf8 text
+IsValid (value.Day day) = IsDay day

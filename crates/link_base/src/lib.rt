@@ -1,0 +1,21 @@
+//! The plain types of record linkage: texts, standard values and files, the plan's kinds, the rule's
+//! cells, candidates, and the faults of a run.
+#![tactic(auto)]
+
+mod fault;
+mod plan;
+mod rule;
+mod shares;
+mod sides;
+mod standard;
+mod tables;
+mod text;
+
+pub use fault::{Fault, FileRole, status_of};
+pub use plan::{CompareKind, DateForm, FieldSort, KeyKind, Part, Pass, PassList};
+pub use rule::{Candidate, Decision, Levels, Outcome, PairAt, RuleCell, RuleTable, Step, Verdict};
+pub use shares::{FieldShares, Shape};
+pub use sides::Sides;
+pub use standard::{StdFile, StdRow, Value};
+pub use tables::{Tables, WordPair, WordPairs};
+pub use text::{NoMemory, Text, TextList, push_number};
