@@ -1,0 +1,5 @@
+pub mod Outside
+pub mod Holdings
+pub mod Fakes
+pub mod Pieces
+pub mod Place

@@ -1,0 +1,17 @@
+//! The outside of a run: a store of named texts, a sink of bytes, their forms in memory, and the line
+//! of a fault.
+#![tactic(auto)]
+
+mod holdings;
+mod line;
+mod memory_sink;
+mod memory_store;
+mod outside;
+mod piece;
+mod sure;
+
+pub use line::write_fault;
+pub use memory_sink::MemorySink;
+pub use memory_store::{Failure, MemoryStore};
+pub use outside::{Load, Sink, SinkError, Store, StoreCall, StoreError};
+pub use sure::{SureSink, SureStore};

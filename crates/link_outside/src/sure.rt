@@ -1,0 +1,104 @@
+// A store and a sink that never fail.
+ghost use Rattle.std.specs.Prelude.{◌≡◌, [], ℕ, List, Some, IfOk, option_map, ⊤};
+ghost use Rattle.link_outside.specs.Fakes.{sure_held, sure_taken};
+ghost use Rattle.link_outside.specs.Outside.{held_with, PutsAs};
+
+use crate::holdings::{Holdings, cut_to};
+use crate::outside::{Load, Sink, SinkError, Store, StoreError};
+use link_base::NoMemory;
+use std::alloc::Global;
+
+/// A store in memory that holds every name. One that was never put holds no bytes.
+#[derive(Debug, Drop)]
+pub struct SureStore {
+    pub(crate) holdings: Holdings,
+}
+
+impl SureStore {
+    /// A store in which every name holds no bytes.
+    pub fn new(alloc: Global) -> Result<SureStore, NoMemory>
+        ensures { IfOk result (λ store. (name : List ℕ) → sure_held store name ≡ Some []) }
+    {
+        let holdings = Holdings::new(alloc);
+        Ok(SureStore { holdings })
+    }
+
+    /// Has a name hold these bytes.
+    pub fn hold(&mut self, alloc: Global, name: &str, bytes: &[u8]) -> Result<(), NoMemory>
+        ensures { PutsAs (held_with name.now bytes.now (sure_held self.old)) (sure_held self.old) (sure_held self.new) result }
+    {
+        self.holdings.hold(alloc, name.as_bytes(), bytes)?;
+        Ok(())
+    }
+
+    /// What a name holds.
+    pub fn held(&self, name: &str) -> Option<&[u8]>
+        ensures { option_map (λ s. s.now) result ≡ sure_held self.now name.now }
+    {
+        Some(self.bytes_at(name))
+    }
+
+    fn bytes_at(&self, name: &str) -> &[u8]
+        ensures { Some result.now ≡ sure_held self.now name.now }
+    {
+        match self.holdings.find(name.as_bytes()) {
+            Some(bytes) => bytes,
+            None => b"",
+        }
+    }
+}
+
+impl Store for SureStore {
+    ghost tells = { ⊤ };
+
+    ghost held = { sure_held };
+
+    ghost faults = { λ _. [] };
+
+    fn load(&mut self, alloc: Global, name: &str, limit: u64) -> Result<Load, StoreError> {
+        Ok(cut_to(alloc, self.bytes_at(name), limit)?)
+    }
+
+    fn put(&mut self, alloc: Global, name: &str, bytes: &[u8]) -> Result<(), StoreError> {
+        self.hold(alloc, name, bytes)?;
+        Ok(())
+    }
+}
+
+/// A sink in memory that takes all.
+#[derive(Debug, Drop)]
+pub struct SureSink {
+    pub(crate) bytes: Vec<u8>,
+}
+
+impl SureSink {
+    /// A sink that has taken nothing.
+    pub fn new(alloc: Global) -> Result<SureSink, NoMemory>
+        ensures { IfOk result (λ sink. sure_taken sink ≡ []) }
+    {
+        let bytes = Vec::new(alloc);
+        Ok(SureSink { bytes })
+    }
+
+    /// The bytes taken.
+    pub fn bytes(&self) -> &[u8]
+        ensures { result.now ≡ sure_taken self.now }
+    {
+        &self.bytes
+    }
+}
+
+impl Sink for SureSink {
+    ghost tells = { ⊤ };
+
+    ghost taken = { sure_taken };
+
+    ghost faults = { λ _. 0 };
+
+    fn put_all(&mut self, _alloc: Global, bytes: &[u8]) -> Result<(), SinkError> {
+        match self.bytes.extend_from_slice(bytes) {
+            Ok(()) => Ok(()),
+            Err(_) => Err(SinkError::NoMemory),
+        }
+    }
+}
