@@ -1,0 +1,4 @@
+pub mod FieldFacts
+pub mod IdFacts
+pub mod ReadFacts
+pub mod RowFacts

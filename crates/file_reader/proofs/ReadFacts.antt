@@ -1,0 +1,70 @@
+-- One record more is read, or refused.
+use Rattle.std.proofs.Common.{◌≡◌, ◌<◌, ◌≤◌, ◌+◌, ◌-◌, ◌∷◌, ◌++◌, ◌∙◌, ℕ, suc, Bool, true, false, List, [], length, map, Option, Some, None, Result, Ok, Err, refl, sym, ap, arith, nat_lt}
+use Rattle.std.proofs.lemmas.Bool.Decides.{nat_tests}
+use Rattle.link_base.specs.Fault.{Refuses}
+use Rattle.link_base.specs.declared.fault.Fault.{Fault}
+use Rattle.link_base.specs.declared.fault.Fault.TheVariants as fault
+use Rattle.file_reader.specs.Layout.{Heading}
+use Rattle.file_reader.specs.Rows.{ids_of, known_ids, TableRow}
+use Rattle.file_reader.specs.Table.{ids_after, row_fault, rows_read, taken, TakesRow, Tests}
+
+abbrev Records : Type 0
+Records = List (List (List ℕ))
+
+ids_push : (rows : List TableRow) (row : TableRow) → ids_of (rows ++ row ∷ []) ≡ ids_of rows ++ row.id ∷ []
+ids_push [] row = refl
+ids_push (r ∷ rows) row = ap (λ (ids : List (List ℕ)). r.id ∷ ids) (ids_push rows row)
+
+pub known_push : (has_id : Bool) (rows : List TableRow) (row : TableRow) → known_ids has_id (rows ++ row ∷ []) ≡ ids_after has_id (known_ids has_id rows) row.id
+known_push true rows row = ids_push rows row
+known_push false rows row = refl
+
+-- a record without a fault is taken
+pub step : (heading : Heading) (table new : List TableRow) (left rest : Records) (row : List (List ℕ)) (number : ℕ) (ids : List (List ℕ))
+    → left ≡ row ∷ rest → number ≡ length table + 1 → ids ≡ known_ids heading.has_id table → row_fault heading number ids row ≡ None → new ≡ table ++ taken heading row ∷ []
+    → rows_read heading table left ≡ rows_read heading new rest
+step heading table new left rest row number ids el en ei ef ew = rw (el, ← en, ← ei, ef, ew) refl
+
+-- a record with a fault ends the table
+pub refused : (heading : Heading) (table : List TableRow) (left rest : Records) (row : List (List ℕ)) (number : ℕ) (ids : List (List ℕ)) (f : Fault)
+    → left ≡ row ∷ rest → number ≡ length table + 1 → ids ≡ known_ids heading.has_id table → row_fault heading number ids row ≡ Some f
+    → rows_read heading table left ≡ Err f
+refused heading table left rest row number ids f el en ei ef = rw (el, ← en, ← ei, ef) refl
+
+pub refuses : (heading : Heading) (table : List TableRow) (left rest all : Records) (row : List (List ℕ)) (number : ℕ) (ids new : List (List ℕ)) (f : Fault)
+    → rows_read heading [] all ≡ rows_read heading table left → left ≡ row ∷ rest → number ≡ length table + 1 → ids ≡ known_ids heading.has_id table
+    → TakesRow {T = Unit {0}} (row_fault heading number ids row) heading row ids new (Err f) → Refuses (rows_read heading [] all) f
+refuses heading table left rest all row number ids new fault.NoMemory told el en ei h = tt
+refuses heading table left rest all row number ids new f told el en ei h = told ∙ refused heading table left rest row number ids f el en ei h
+
+too_many : (heading : Heading) (ids row : List (List ℕ)) (number : ℕ) → nat_lt heading.most number ≡ true → row_fault heading number ids row ≡ Some (fault.TooManyRows heading.role heading.most)
+too_many heading ids row number h = rw h refl
+
+pub one_too_many : (heading : Heading) (table : List TableRow) (left rest all : Records) (row : List (List ℕ))
+    → rows_read heading [] all ≡ rows_read heading table left → left ≡ row ∷ rest → heading.most ≤ length table
+    → rows_read heading [] all ≡ Err (fault.TooManyRows heading.role heading.most)
+one_too_many heading table left rest all row told el le =
+    let over : nat_lt heading.most (length table + 1) ≡ true = grind (arith, nat_tests) in
+    told ∙ refused heading table left rest row (length table + 1) (known_ids heading.has_id table) (fault.TooManyRows heading.role heading.most) el refl refl (too_many heading (known_ids heading.has_id table) row (length table + 1) over)
+
+-- what holds after one row more
+pub record IsRead (heading : Heading) (new : List TableRow) (ids : List (List ℕ)) (rest all : Records) : Type 0 where
+  pub known : ids ≡ known_ids heading.has_id new
+  pub told : rows_read heading [] all ≡ rows_read heading new rest
+
+pub read : (x : Unit {0}) (heading : Heading) (table new : List TableRow) (left rest all : Records) (row : List (List ℕ)) (number : ℕ) (ids ids2 : List (List ℕ))
+    → rows_read heading [] all ≡ rows_read heading table left → left ≡ row ∷ rest → number ≡ length table + 1 → ids ≡ known_ids heading.has_id table
+    → TakesRow {T = Unit {0}} (row_fault heading number ids row) heading row ids ids2 (Ok x) → new ≡ table ++ taken heading row ∷ [] → IsRead heading new ids2 rest all
+read x heading table new left rest all row number ids ids2 told el en ei h ew =
+    record {
+      known = h.1 ∙ ap (λ known. ids_after heading.has_id known (taken heading row).id) ei ∙ sym (known_push heading.has_id table (taken heading row)) ∙ ap (known_ids heading.has_id) (sym ew);
+      told = told ∙ step heading table new left rest row number ids el en ei h.0 ew;
+    }
+
+length_ids : (rows : List TableRow) → length (ids_of rows) ≡ length rows
+length_ids [] = refl
+length_ids (r ∷ rows) = ap suc (length_ids rows)
+
+pub known_short : (has_id : Bool) (rows : List TableRow) → length (known_ids has_id rows) ≤ length rows
+known_short true rows = omega (arith, length_ids rows)
+known_short false rows = omega arith

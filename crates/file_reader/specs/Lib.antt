@@ -1,0 +1,4 @@
+pub mod Layout
+pub mod Rows
+pub mod Table
+pub mod Ids

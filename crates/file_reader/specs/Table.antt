@@ -1,0 +1,101 @@
+-- The table of a file, or its first fault.
+use Rattle.std.specs.Prelude.{◌≡◌, ◌+◌, ℕ, List, [], ◌∷◌, ◌++◌, length, find, min, position, Bool, ◌==◌, not, nat_lt, bytes_eq, if◌then◌else◌, Option, Some, None, Result, Ok, Err, ⊤, is_some}
+use Rattle.std.specs.Str.{is_utf8}
+use Rattle.link_base.specs.Fault.{or_else}
+use Rattle.link_base.specs.declared.fault.Fault.{Fault}
+use Rattle.link_base.specs.declared.fault.Fault.TheVariants as fault
+use Rattle.link_base.specs.declared.fault.FileRole.{FileRole}
+use Rattle.file_reader.specs.Layout.{cell, cells_of, columns_of, count_in, Heading, heading_under, needed_of, Wanted}
+use Rattle.file_reader.specs.Rows.{known_ids, row_of_cells, TableRow}
+use Rattle.file_reader.specs.declared.layout.Column.{Column}
+
+-- the fault that is made of what was found
+abbrev pub fault_by : {A : Type 0} → (A → Fault) → Option A → Option Fault
+fault_by make None = None
+fault_by make (Some a) = Some (make a)
+
+-- the first fault of a header: a needed column that stands twice, one that is missing, too many columns
+abbrev pub header_fault : FileRole → List (List ℕ) → List (List ℕ) → Option Fault
+header_fault role names header =
+    or_else (fault_by (fault.RepeatedColumn role) (find (λ name. nat_lt 1 (count_in header name)) names))
+    (or_else (fault_by (fault.NoColumn role) (find (λ name. count_in header name == 0) names))
+    (if nat_lt 64 (length header) then Some (fault.TooManyColumns role (min (length header) 4294967295) 64) else None))
+
+-- the first needed field at fault: one that is no text, one that is too long
+abbrev pub text_fault : Heading → ℕ → List (List ℕ) → Option Fault
+text_fault heading number row =
+    or_else (fault_by (λ (c : Column). fault.NotUtf8 heading.role number c.name) (find (λ c. not (is_utf8 (cell row c))) heading.columns))
+    (fault_by (λ (c : Column). fault.FieldTooLong heading.role number c.name) (find (λ c. nat_lt 255 (length (cell row c))) heading.columns))
+
+-- the fault of an id after these ids: it is empty, or an earlier row has it
+abbrev pub id_fault : FileRole → ℕ → List ℕ → List (List ℕ) → Option Fault
+id_fault role number id ids =
+    if length id == 0 then Some (fault.EmptyId role number)
+    else fault_by (λ place. fault.RepeatedId role number (place + 1)) (position (bytes_eq id) ids)
+
+-- a record as a row of the table
+abbrev pub taken : Heading → List (List ℕ) → TableRow
+taken heading row = row_of_cells heading.has_id (cells_of heading.columns row)
+
+-- the first fault of the id of a row, if the file has ids
+abbrev pub key_fault : Heading → ℕ → List (List ℕ) → List (List ℕ) → Option Fault
+key_fault heading number ids row =
+    if heading.has_id then id_fault heading.role number (taken heading row).id ids else None
+
+-- the first fault of the fields of a row
+abbrev pub fields_fault : Heading → ℕ → List (List ℕ) → List (List ℕ) → Option Fault
+fields_fault heading number ids row = or_else (text_fault heading number row) (key_fault heading number ids row)
+
+-- the first fault of a row, by its number, after rows with these ids
+abbrev pub row_fault : Heading → ℕ → List (List ℕ) → List (List ℕ) → Option Fault
+row_fault heading number ids row =
+    if nat_lt heading.most number then Some (fault.TooManyRows heading.role heading.most)
+    else if not (length row == heading.width) then Some (fault.Ragged heading.role number)
+    else fields_fault heading number ids row
+
+abbrev pub unless_fault : {A : Type 0} → Option Fault → Result A Fault → Result A Fault
+unless_fault None next = next
+unless_fault (Some f) next = Err f
+
+-- the table with the rows that are left, after those that were read; the first row with a fault decides
+abbrev pub rows_read : Heading → List TableRow → List (List (List ℕ)) → Result (List TableRow) Fault
+rows_read heading table [] = Ok table
+rows_read heading table (row ∷ rows) =
+    unless_fault (row_fault heading (length table + 1) (known_ids heading.has_id table) row)
+    (rows_read heading (table ++ taken heading row ∷ []) rows)
+
+-- the table of the records under a header
+abbrev pub under_header : FileRole → Wanted → List (List ℕ) → List (List (List ℕ)) → Result (List TableRow) Fault
+under_header role wanted header rows =
+    unless_fault (header_fault role (needed_of wanted) header) (rows_read (heading_under role wanted header) [] rows)
+
+-- the table of a file, whose first record is its header
+abbrev pub table_of : FileRole → Wanted → List (List (List ℕ)) → Result (List TableRow) Fault
+table_of role wanted [] = Err (fault.NoHeader role)
+table_of role wanted (header ∷ rows) = under_header role wanted header rows
+
+-- a test answers the fault that is defined, but for want of memory
+abbrev pub Tests : {T : Type 0} → Option Fault → Result T Fault → Type 0
+Tests expected (Ok x) = expected ≡ None
+Tests expected (Err fault.NoMemory) = ⊤
+Tests expected (Err f) = expected ≡ Some f
+
+-- the ids after a row's
+abbrev pub ids_after : Bool → List (List ℕ) → List ℕ → List (List ℕ)
+ids_after has_id ids id = if has_id then ids ++ id ∷ [] else ids
+
+-- an id that is new is kept, and the place of one that is held is found
+abbrev pub Keeps : List ℕ → List (List ℕ) → List (List ℕ) → Option ℕ → Type 0
+Keeps id old new found = (found ≡ position (bytes_eq id) old) × (new ≡ (if is_some found then old else old ++ id ∷ []))
+
+-- an id is kept, or it has the fault that is defined
+abbrev pub KeepsId : {T : Type 0} → Option Fault → List ℕ → List (List ℕ) → List (List ℕ) → Result T Fault → Type 0
+KeepsId expected id old new (Ok x) = (expected ≡ None) × (new ≡ old ++ id ∷ [])
+KeepsId expected id old new (Err fault.NoMemory) = ⊤
+KeepsId expected id old new (Err f) = expected ≡ Some f
+
+-- a row is taken and its id is kept, or it has the fault that is defined
+abbrev pub TakesRow : {T : Type 0} → Option Fault → Heading → List (List ℕ) → List (List ℕ) → List (List ℕ) → Result T Fault → Type 0
+TakesRow expected heading row old new (Ok x) = (expected ≡ None) × (new ≡ ids_after heading.has_id old (taken heading row).id)
+TakesRow expected heading row old new (Err fault.NoMemory) = ⊤
+TakesRow expected heading row old new (Err f) = expected ≡ Some f

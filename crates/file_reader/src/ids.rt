@@ -1,0 +1,49 @@
+// Distinct ids with their places.
+ghost use Rattle.std.specs.Prelude.{◌≡◌, ◌<◌, [], length, IfOk, IfSome, OnErr};
+ghost use Rattle.file_reader.specs.Table.{Keeps};
+
+use indexmap::IndexSet;
+use link_base::NoMemory;
+use std::alloc::Global;
+use std::marker::Model;
+
+// Distinct ids in order, which contracts see as the list of them.
+#[derive(Drop)]
+pub(crate) struct Ids {
+    ids: IndexSet<Vec<u8>>,
+}
+
+impl Model for Ids {
+    ghost use Rattle.std.specs.Prelude.{ℕ, List};
+    ghost use Rattle.file_reader.specs.Ids.{texts_of};
+
+    ghost Value = { List (List ℕ) };
+
+    ghost view = { λ x. texts_of x.ids.keys };
+}
+
+impl Ids {
+    pub(crate) fn new(alloc: Global) -> Ids
+        ensures { result ≡ [] }
+    {
+        Ids {
+            ids: IndexSet::new(alloc),
+        }
+    }
+
+    // Keeps an id that is new; else gives its place.
+    pub(crate) fn keep(&mut self, alloc: Global, id: &[u8]) -> Result<Option<usize>, NoMemory>
+        ensures keeps { IfOk result (λ found. Keeps id.now self.old self.new found) }
+        ensures within { IfOk result (λ found. IfSome found (λ place. place < length self.old)) }
+    {
+        match self.ids.get_index_of(id) {
+            Some(place) => return Ok(Some(place)),
+            None => {}
+        }
+        let key = Vec::from_slice(alloc, id)?;
+        match self.ids.insert(key) {
+            Ok(_) => return Ok(None),
+            Err(_) => return Err(NoMemory),
+        }
+    }
+}

@@ -1,0 +1,13 @@
+//! Tables of CSV files: the needed columns of the rows under a header, or the first fault.
+#![tactic(auto)]
+
+mod fields;
+mod header;
+mod ids;
+mod layout;
+mod rows;
+mod table;
+
+pub use layout::Layout;
+pub use rows::read_table;
+pub use table::Table;
