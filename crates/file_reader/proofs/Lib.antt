@@ -2,3 +2,4 @@ pub mod FieldFacts
 pub mod IdFacts
 pub mod ReadFacts
 pub mod RowFacts
+pub mod WidthFacts

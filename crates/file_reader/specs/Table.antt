@@ -1,5 +1,5 @@
 -- The table of a file, or its first fault.
-use Rattle.std.specs.Prelude.{◌≡◌, ◌+◌, ℕ, List, [], ◌∷◌, ◌++◌, length, find, min, position, Bool, ◌==◌, not, nat_lt, bytes_eq, if◌then◌else◌, Option, Some, None, Result, Ok, Err, ⊤, is_some}
+use Rattle.std.specs.Prelude.{◌≡◌, ◌+◌, ℕ, List, [], ◌∷◌, ◌++◌, All, length, find, min, position, Bool, ◌==◌, not, nat_lt, bytes_eq, if◌then◌else◌, Option, Some, None, Result, Ok, Err, ⊤, is_some}
 use Rattle.std.specs.Str.{is_utf8}
 use Rattle.link_base.specs.Fault.{or_else}
 use Rattle.link_base.specs.declared.fault.Fault.{Fault}
@@ -99,3 +99,7 @@ abbrev pub TakesRow : {T : Type 0} → Option Fault → Heading → List (List �
 TakesRow expected heading row old new (Ok x) = (expected ≡ None) × (new ≡ ids_after heading.has_id old (taken heading row).id)
 TakesRow expected heading row old new (Err fault.NoMemory) = ⊤
 TakesRow expected heading row old new (Err f) = expected ≡ Some f
+
+-- each row has as many fields as columns are wanted beside the id
+abbrev pub HasWidth : Wanted → List TableRow → Type 0
+HasWidth wanted table = All (λ (r : TableRow). length r.fields ≡ length wanted.columns) table
