@@ -1,0 +1,3 @@
+pub mod WordFacts
+pub mod ColumnFacts
+pub mod NumberFacts

@@ -1,0 +1,68 @@
+-- What a load of an input gives, by what its name holds.
+use Rattle.std.specs.Prelude.{false, ◌≡◌, ◌⊎◌, ◌++◌, ◌∷◌, [], ℕ, List, length, nat_le, if◌then◌else◌, Option, Some, None, Result, Ok, Err, IsOk, ⊤}
+use Rattle.link_base.specs.Fault.{and_then}
+use Rattle.link_base.specs.declared.fault.Fault.{Fault}
+use Rattle.link_base.specs.declared.fault.Fault.TheVariants as fault
+use Rattle.link_base.specs.declared.fault.FileRole.{FileRole}
+use Rattle.link_base.specs.declared.fault.FileRole.TheVariants as role
+use Rattle.link_outside.specs.Outside.{Held}
+use Rattle.link_outside.specs.declared.outside.StoreCall.{StoreCall}
+use Rattle.link_shell.specs.Words.{Columns}
+use Rattle.link_shell.specs.declared.load.Inputs.{Inputs}
+
+-- the bytes of an input, where its name is held and they are within the limit
+abbrev pub loaded : FileRole → ℕ → List ℕ → Option (List ℕ) → Result (List ℕ) Fault
+loaded r limit name None = Err (fault.StoreFault name)
+loaded r limit name (Some bytes) = if nat_le (length bytes) limit then Ok bytes else Err (fault.FileTooLong r limit)
+
+-- the most bytes of a loaded file
+abbrev pub most_bytes : ℕ
+most_bytes = 67108864
+
+abbrev pub loaded_a : Columns → Held → Result (List ℕ) Fault
+loaded_a w held = loaded role.A most_bytes w.a (held w.a)
+
+abbrev pub loaded_b : Columns → Held → Result (List ℕ) Fault
+loaded_b w held = loaded role.B most_bytes w.b (held w.b)
+
+-- both files, A first
+abbrev pub both_loaded : Columns → Held → Result Inputs Fault
+both_loaded w held = and_then (loaded_a w held) (λ a. and_then (loaded_b w held) (λ b. Ok (record { a = a; b = b })))
+
+-- the call that loads a name
+abbrev pub load_of : List ℕ → StoreCall
+load_of name = record { put = false; name = name }
+
+-- the refusal of a step is the one that is defined, but for want of memory and the store, whose causes stand apart
+abbrev pub StepRefuses : {T : Type 0} → Result T Fault → Fault → Type 0
+StepRefuses expected fault.NoMemory = ⊤
+StepRefuses expected (fault.StoreFault name) = ⊤
+StepRefuses expected f = expected ≡ Err f
+
+-- the answer of a step is the value that is defined, or a refusal
+abbrev pub StepGives : {T : Type 0} → Result T Fault → Result T Fault → Type 0
+StepGives expected (Ok x) = expected ≡ Ok x
+StepGives expected (Err f) = StepRefuses expected f
+
+-- a fault of a load: the file is too long, the store failed, or memory is wanted
+abbrev pub IsLoadFault : FileRole → ℕ → List ℕ → Fault → Type 0
+IsLoadFault r limit name (fault.FileTooLong file most) = (file ≡ r) × (most ≡ limit)
+IsLoadFault r limit name (fault.StoreFault failed) = failed ≡ name
+IsLoadFault r limit name fault.NoMemory = ⊤
+IsLoadFault r limit name f = ⊥
+
+-- a store fault names the call that failed, which the list of faults has gained; no other answer changes the list
+abbrev pub HasStoreCause : {T : Type 0} → List StoreCall → List StoreCall → (StoreCall → Type 0) → Result T Fault → Type 0
+HasStoreCause old new place (Ok x) = new ≡ old
+HasStoreCause old new place (Err (fault.StoreFault name)) = (call : StoreCall) × (new ≡ old ++ call ∷ []) × (call.name ≡ name) × place call
+HasStoreCause old new place (Err f) = new ≡ old
+
+-- the calls of `pairs A B COLUMN` that may fail: the load of A, and that of B once A is loaded
+abbrev pub IsColumnLoad : Columns → Held → StoreCall → Type 0
+IsColumnLoad w held call = (call ≡ load_of w.a) ⊎ ((call ≡ load_of w.b) × IsOk (loaded_a w held))
+
+-- a fault that a step of loading or reading may have: neither of the words nor of `out`
+abbrev pub IsOutsideFault : Fault → Type 0
+IsOutsideFault fault.Usage = ⊥
+IsOutsideFault fault.SinkFault = ⊥
+IsOutsideFault f = ⊤

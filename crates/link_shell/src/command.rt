@@ -1,0 +1,136 @@
+// The top calls.
+ghost use Rattle.std.specs.Prelude.{◌≡◌, ◌≤◌, List, map, Result, string_bytes, ℕ};
+ghost use Rattle.link_base.specs.declared.fault.Fault.{Fault as AnyFault};
+ghost use Rattle.link_outside.specs.Outside.{Rose};
+ghost use Rattle.link_shell.specs.Causes.{Ends, HasOutCause, IsComplete, IsExactUsage, IsNoStoreFault, IsNoUsage, IsQuiet, Stands, Takes};
+ghost use Rattle.link_shell.specs.ColumnPairs.{text_of_files};
+ghost use Rattle.link_shell.specs.Linked.{Performed, Reported};
+ghost use Rattle.link_shell.specs.Loads.{HasStoreCause, IsColumnLoad};
+ghost use Rattle.link_shell.specs.Outcome.{due_text, IsPlace, outcome, outcome_of_columns};
+ghost use Rattle.link_shell.specs.Words.{columns_of_request, command_of};
+ghost use Rattle.link_shell.specs.declared.command.Ended.{Ended as AnyEnded};
+
+use crate::columns::text_for_files;
+use crate::load::{Inputs, load_both};
+use crate::words::{ColumnRequest, Command, read_command};
+use link_base::{Fault, status_of};
+use link_outside::{Sink, SinkError, Store, write_fault};
+use std::alloc::Global;
+
+/// How a command ended that was not refused.
+#[derive(Clone, Copy, Debug, PartialEq, Eq)]
+pub enum Ended {
+    /// It did what it does.
+    Done,
+    /// It verified files, and they do not meet their definitions.
+    Refuted,
+}
+
+// Hands the text of two loaded files to `out`.
+fn hand_pairs<O: Sink>(
+    alloc: Global,
+    column: &str,
+    inputs: &Inputs,
+    out: &mut O,
+) -> Result<Ended, Fault>
+    ensures answer { Ends (due_text (text_of_files column.now inputs.now.a inputs.now.b)) result }
+    ensures no_store_fault { IsNoStoreFault result }
+    ensures no_usage { IsNoUsage result }
+    ensures output { O.tells → Takes (due_text (text_of_files column.now inputs.now.a inputs.now.b)) (O.taken out.old) (O.taken out.new) result }
+    ensures later { O.faults out.old ≤ O.faults out.new }
+    ensures cause { HasOutCause (O.faults out.old) (O.faults out.new) result }
+{
+    match text_for_files(alloc, column, inputs.a.bytes(), inputs.b.bytes()) {
+        Ok(text) => match out.put_all(alloc, text.bytes()) {
+            Ok(()) => Ok(Ended::Done),
+            Err(SinkError::Failed) => Err(Fault::SinkFault),
+            Err(SinkError::NoMemory) => Err(Fault::NoMemory),
+        },
+        Err(fault) => Err(fault),
+    }
+}
+
+// Does `pairs A B COLUMN`.
+fn perform_columns<S: Store, O: Sink>(
+    alloc: Global,
+    request: &ColumnRequest<'_>,
+    store: &mut S,
+    out: &mut O,
+) -> Result<Ended, Fault>
+    ensures answer { S.tells → Ends (outcome_of_columns (columns_of_request request.now) (S.held store.old)) result }
+    ensures no_usage { IsNoUsage result }
+    ensures output { S.tells → O.tells → Takes (outcome_of_columns (columns_of_request request.now) (S.held store.old)) (O.taken out.old) (O.taken out.new) result }
+    ensures quiet { O.tells → IsQuiet (O.taken out.old) (O.taken out.new) result }
+    ensures unchanged { S.held store.new ≡ S.held store.old }
+    ensures store_cause { HasStoreCause (S.faults store.old) (S.faults store.new) (λ call. S.tells → IsColumnLoad (columns_of_request request.now) (S.held store.old) call) result }
+    ensures out_later { O.faults out.old ≤ O.faults out.new }
+    ensures out_cause { HasOutCause (O.faults out.old) (O.faults out.new) result }
+{
+    match load_both(alloc, store, request) {
+        Ok(inputs) => hand_pairs(alloc, request.column, &inputs, out),
+        Err(fault) => Err(fault),
+    }
+}
+
+/// Does the command that the words name, all but the line of a fault.
+pub fn perform<S: Store, O: Sink>(
+    alloc: Global,
+    words: &[String],
+    store: &mut S,
+    out: &mut O,
+) -> Result<Ended, Fault>
+    // It ends as is due by the words and by what names hold, or with the first refusal.
+    ensures answer { S.tells → Ends (outcome (map string_bytes words.now) (S.held store.old)) result }
+    ensures usage { IsExactUsage (command_of (map string_bytes words.now)) result }
+
+    // What `out` takes, and what names hold at the end.
+    ensures output { S.tells → O.tells → Takes (outcome (map string_bytes words.now) (S.held store.old)) (O.taken out.old) (O.taken out.new) result }
+    ensures quiet { O.tells → IsQuiet (O.taken out.old) (O.taken out.new) result }
+    ensures stands { S.tells → Stands (outcome (map string_bytes words.now) (S.held store.old)) (S.held store.old) (S.held store.new) result }
+
+    // A fault of the outside has its cause there, and without one the command is done or refused as is defined.
+    ensures store_cause { HasStoreCause (S.faults store.old) (S.faults store.new) (λ call. S.tells → IsPlace (command_of (map string_bytes words.now)) (S.held store.old) call) result }
+    ensures out_later { O.faults out.old ≤ O.faults out.new }
+    ensures out_cause { HasOutCause (O.faults out.old) (O.faults out.new) result }
+    ensures complete { S.tells → S.faults store.new ≡ S.faults store.old → ¬ (Rose (O.faults out.old) (O.faults out.new)) → IsComplete (outcome (map string_bytes words.now) (S.held store.old)) result }
+{
+    match read_command(words) {
+        Some(Command::PairsOfColumns(request)) => perform_columns(alloc, &request, store, out),
+        None => Err(Fault::Usage),
+    }
+}
+
+// Hands the line of a fault to `err`, and says the status.
+fn report<E: Sink>(alloc: Global, answer: &Result<Ended, Fault>, err: &mut E) -> u8
+    ensures { Reported (record { tells = E.tells; taken_before = E.taken err.old; taken_after = E.taken err.new; faults_before = E.faults err.old; faults_after = E.faults err.new }) answer.now result }
+{
+    match answer {
+        Ok(Ended::Done) => 0,
+        Ok(Ended::Refuted) => 9,
+        Err(fault) => match write_fault(alloc, fault, err) {
+            Ok(()) => status_of(fault),
+            Err(SinkError::Failed) => status_of(fault),
+            Err(SinkError::NoMemory) => 8,
+        },
+    }
+}
+
+/// Does the command that the words name over the store, hands what it prints to `out` and the line of a
+/// fault to `err`, and answers its exit status: 0 done, 9 refuted, and else that of the fault.
+pub fn linkage<S: Store, O: Sink, E: Sink>(
+    alloc: Global,
+    words: &[String],
+    store: &mut S,
+    out: &mut O,
+    err: &mut E,
+) -> u8
+    ensures { (answer : Result AnyEnded AnyFault)
+        × Performed (map string_bytes words.now)
+        (record { tells = S.tells; held_before = S.held store.old; held_after = S.held store.new; faults_before = S.faults store.old; faults_after = S.faults store.new })
+        (record { tells = O.tells; taken_before = O.taken out.old; taken_after = O.taken out.new; faults_before = O.faults out.old; faults_after = O.faults out.new })
+        answer
+        × Reported (record { tells = E.tells; taken_before = E.taken err.old; taken_after = E.taken err.new; faults_before = E.faults err.old; faults_after = E.faults err.new }) answer result }
+{
+    let answer = perform(alloc, words, store, out);
+    report(alloc, &answer, err)
+}

@@ -1,0 +1,12 @@
+//! The commands over a store and a sink: which command the words name, what it loads, what is due, and
+//! why it is refused.
+#![tactic(auto)]
+
+mod columns;
+mod command;
+mod load;
+mod report;
+mod words;
+
+pub use command::{Ended, linkage, perform};
+pub use load::load_whole;
