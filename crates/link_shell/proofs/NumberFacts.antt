@@ -29,7 +29,7 @@ pub fresh : (file rest : List Record) (cells : Cells) (at : ℕ) (id : List ℕ)
 fresh file rest cells at id told count small is k d lt same =
     let whole : length file + length rest ≡ length cells = sym (length-append file rest) ∙ ap length told ∙ length_numbered 0 cells in
     let here : (get_or file k d).id ≡ decimal (0 + k + 1) =
-      ap (λ (r : Record). r.id) (sym (get_or_append_left file rest d k lt) ∙ ap (λ (rs : List Record). get_or rs k d) told) ∙ id_at 0 cells k d (omega (arith, whole)) in
+    ap (λ (r : Record). r.id) (sym (get_or_append_left file rest d k lt) ∙ ap (λ (rs : List Record). get_or rs k d) told) ∙ id_at 0 cells k d (omega (arith, whole)) in
     let equal = decimal_injective (0 + k + 1) (at + 1) (omega (arith, count, small)) (omega (arith, small)) (sym here ∙ same ∙ is) in
     omega (arith, equal, count)
 
@@ -42,9 +42,9 @@ told_push file new rows at id cell row told lt ei ec er en =
     let within : at < length cells = rw (length-map rows cell_of) lt in
     let rest : List Record = numbered (at + 1) (drop (suc at) cells) in
     let here : drop at cells ≡ cell ∷ drop (suc at) cells =
-      drop-cons cells at [] within ∙ ap (λ (c : List ℕ). c ∷ drop (suc at) cells) (get_or-map cell_of rows at no_row [] lt ∙ sym ec) in
+    drop-cons cells at [] within ∙ ap (λ (c : List ℕ). c ∷ drop (suc at) cells) (get_or-map cell_of rows at no_row [] lt ∙ sym ec) in
     let first : numbered at (drop at cells) ≡ record { id = id; row = row } ∷ rest =
-      ap (numbered at) here ∙ ap (λ (i : List ℕ). record { id = i; row = value_of cell ∷ [] } ∷ rest) (sym ei) ∙ ap (λ (r : List Value). record { id = id; row = r } ∷ rest) (sym er) in
+    ap (numbered at) here ∙ ap (λ (i : List ℕ). record { id = i; row = value_of cell ∷ [] } ∷ rest) (sym ei) ∙ ap (λ (r : List Value). record { id = id; row = r } ∷ rest) (sym er) in
     let one : at + 1 ≡ suc at = omega arith in
     let next : numbered (at + 1) (drop (at + 1) cells) ≡ rest = ap (λ n. numbered (at + 1) (drop n cells)) one in
     rw (en, next) (append_assoc file (record { id = id; row = row } ∷ []) rest ∙ ap (λ (rs : List Record). file ++ rs) (sym first) ∙ told)

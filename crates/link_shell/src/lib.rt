@@ -10,3 +10,6 @@ mod words;
 
 pub use command::{Ended, linkage, perform};
 pub use load::load_whole;
+
+#[cfg(test)]
+mod tests;
