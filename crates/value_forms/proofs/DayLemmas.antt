@@ -1,5 +1,5 @@
 -- Day numbers of the years 0001 to 9999.
-use Rattle.std.proofs.Common.{◌≡◌, ℕ, ◌≤◌, inl, inr, cond, true, Some, None, refl, sym, subst, ap, ◌∙◌, arith, rules, ℤ, pos, negsuc, neg_ℤ, ◌≤ℤ◌, to_z, of_z, w16, w32}
+use Rattle.std.proofs.Common.{◌≡◌, ℕ, ◌≤◌, ◌&&◌, nat_le, inl, inr, cond, true, Some, None, refl, sym, subst, ap, ◌∙◌, arith, rules, ℤ, pos, negsuc, neg_ℤ, ◌≤ℤ◌, to_z, of_z, w16, w32}
 use Rattle.std.proofs.lemmas.Int.{by_lt_z}
 use Rattle.std.proofs.lemmas.Bool.Decides.{nat_tests}
 use Rattle.jiff_core.specs.declared.civil.date.Date.{Date}
@@ -10,7 +10,9 @@ use Rattle.jiff_core.proofs.CalendarLemmas.{days_from_civil-day_count}
 use Rattle.jiff_core.proofs.MarchLemmas.{day_count-early}
 use Rattle.jiff_core.proofs.DateLemmas.{cases_date, epoch_day-lt, epoch_day_same, IsEarlier}
 use Rattle.link_base.specs.Standard.{IsDay}
-use Rattle.value_forms.specs.Days.{civil_day, is_civil}
+use Rattle.value_forms.specs.Days.{civil_day, is_civil, month_day_of_day, month_of_day, year_of_day}
+use Rattle.value_forms.proofs.BegunLemmas.{month_day_is, month_is, near_year, year_is}
+use Rattle.std.proofs.lemmas.Option.{cond_some}
 use lib.IntN.{nat_abs}
 
 year_one : Date
@@ -72,3 +74,23 @@ held_day d z low is within =
     let first = from_first_day d low in
     let late : neg_ℤ (pos 719_162) ≤ℤ z = omega (arith, signed_arith) in
     subst IsDay (sym (back z late within.1)) (record { low = late; high = within.1 })
+
+-- what the test of a civil date says
+civil_if : (y m d dim : ℕ) → (nat_le 1 y && nat_le y 9999 && nat_le 1 m && nat_le m 12 && nat_le 1 d && nat_le d dim) ≡ true → (1 ≤ y) × (y ≤ 9999) × (1 ≤ m) × (m ≤ 12) × (1 ≤ d) × (d ≤ dim)
+civil_if y m d dim h = (grind (arith, nat_tests), grind (arith, nat_tests), grind (arith, nat_tests), grind (arith, nat_tests), grind (arith, nat_tests), grind (arith, nat_tests))
+
+civil_date : (y m d : ℕ) → (1 ≤ y) × (y ≤ 9999) × (1 ≤ m) × (m ≤ 12) × (1 ≤ d) × (d ≤ days_in_month (pos y) m) → Date
+civil_date y m d h = record { year = pos y; month = m; day = d; year_in = near_year y h.1; month_in = (h.2, h.3); day_in = (h.4, h.5) }
+
+-- the parts of a day's date are those that it was made of
+pub civil_day_parts : (y m d : ℕ) (day : ℤ) → civil_day y m d ≡ Some day → (y ≡ year_of_day day) × (m ≡ month_of_day day) × (d ≡ month_day_of_day day)
+unfolding civil_date
+civil_day_parts y m d day is =
+    let found = cond_some (is_civil y m d) (days_from_civil (pos y) m d) day is in
+    let h = civil_if y m d (days_in_month (pos y) m) found.0 in
+    let date = civil_date y m d h in
+    let same : epoch_day date ≡ day = found.1 in (
+      sym (year_is date y refl h.0 h.1) ∙ ap year_of_day same,
+      sym (month_is date y refl h.0 h.1) ∙ ap month_of_day same,
+      sym (month_day_is date y refl h.0 h.1) ∙ ap month_day_of_day same,
+    )

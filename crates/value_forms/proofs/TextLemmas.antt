@@ -3,7 +3,8 @@ use Rattle.std.proofs.Common.{◌≡◌, ℕ, ◌+◌, ◌-◌, ◌*◌, ◌/◌
 use Rattle.std.proofs.lemmas.Bool.Decides.{nat_tests}
 use Rattle.std.proofs.lemmas.Option.{cond_some, option_and_then_some}
 use Rattle.jiff_core.specs.Calendar.{days_from_civil}
-use Rattle.value_forms.specs.Days.{civil_day, date_text, four_of, is_civil, iso_day, IsDayText, two_of, ◌>>=◌}
+use Rattle.value_forms.proofs.DayLemmas.{civil_day_parts}
+use Rattle.value_forms.specs.Days.{civil_day, date_text, four_of, is_civil, iso_day, IsDayText, month_of_day, text_of_day, two_of, year_of_day, ◌>>=◌}
 
 two_back : (n : ℕ) → n < 100 → two_of (48 + n / 10) (48 + n % 10) ≡ Some n
 two_back n lt =
@@ -38,11 +39,11 @@ iso_of_text y m d day h =
     let p = civil_parts y m d day h in
     let year = four_back y (let a = p.year in omega arith) in
     let month = two_back m (let a = p.month in omega arith) in
-    let mday = two_back d (let a = p.day in omega arith) in
-    rw (year, month, mday) h
+    let month_day = two_back d (let a = p.day in omega arith) in
+    rw (year, month, month_day) h
 
 pub iso_from_text : (t : List ℕ) (day : ℤ) → IsDayText day t → iso_day t ≡ Some day
-iso_from_text t day is = ap iso_day is.text_is ∙ iso_of_text is.year is.month is.mday day is.day_is
+iso_from_text t day is = ap iso_day is.text_is ∙ iso_of_text is.year is.month is.month_day day is.day_is
 
 -- two bytes that are read as a number are its digits
 record Digits (a b n : ℕ) : Type 0 where
@@ -111,4 +112,14 @@ iso_to_text t day h =
     option_and_then_some _ (four_of (slice_index t 0) (slice_index t 1) (slice_index t 2) (slice_index t 3)) day whole.1 (λ y is rest.
     option_and_then_some _ (two_of (slice_index t 5) (slice_index t 6)) day rest (λ m is' rest'.
     option_and_then_some _ (two_of (slice_index t 8) (slice_index t 9)) day rest' (λ d is'' found.
-    record { year = y; month = m; mday = d; day_is = found; text_is = text_by_parts t y m d at.size at.first at.second (four_read _ _ _ _ y is) (two_read _ _ m is') (two_read _ _ d is'') })))
+    record { year = y; month = m; month_day = d; day_is = found; text_is = text_by_parts t y m d at.size at.first at.second (four_read _ _ _ _ y is) (two_read _ _ m is') (two_read _ _ d is'') })))
+
+-- a day has one text
+pub text_is : (t : List ℕ) (day : ℤ) → IsDayText day t → t ≡ text_of_day day
+unfolding text_of_day
+text_is t day is =
+    let parts = civil_day_parts is.year is.month is.month_day day is.day_is in
+    is.text_is
+    ∙ ap (λ y. date_text y is.month is.month_day) parts.0
+    ∙ ap (λ m. date_text (year_of_day day) m is.month_day) parts.1
+    ∙ ap (λ d. date_text (year_of_day day) (month_of_day day) d) parts.2

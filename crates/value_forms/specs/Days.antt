@@ -1,5 +1,6 @@
 -- Civil dates of the years 0001 to 9999, their day numbers and their texts.
-use Rattle.std.specs.Prelude.{◌≡◌, ℕ, List, [], ◌∷◌, ◌++◌, ◌+◌, ◌*◌, ◌/◌, ◌%◌, Bool, ◌&&◌, nat_le, ◌==◌, ◌-◌, length, slice_index, if◌then◌else◌, Option, Some, None, ℤ, pos, option_and_then}
+use Rattle.std.specs.Prelude.{◌≡◌, ℕ, List, [], ◌∷◌, ◌++◌, ◌+◌, ◌*◌, ◌/◌, ◌%◌, Bool, ◌&&◌, nat_le, ◌==◌, ◌-◌, length, filter, int_le, slice_index, if◌then◌else◌, Option, Some, None, ℤ, pos, option_and_then}
+use Rattle.std.specs.List.{range_with_len}
 use Rattle.jiff_core.specs.Calendar.{days_in_month, days_from_civil}
 
 -- the calendar has this date, in the years 0001 to 9999
@@ -21,13 +22,31 @@ four_digits n = two_digits (n / 100) ++ two_digits (n % 100)
 abbrev pub date_text : ℕ → ℕ → ℕ → List ℕ
 date_text y m d = four_digits y ++ 45 ∷ two_digits m ++ 45 ∷ two_digits d
 
--- the text of a day
+-- how many of the numbers from 1 on have begun by a day, where these are the days on which they begin
+abbrev pub begun_by : ℤ → (ℕ → ℤ) → ℕ → ℕ
+begun_by day begins most = length (filter (λ n. int_le (begins n) day) (range_with_len 1 most))
+
+-- the year of a day, its month, and its day of the month
+unfoldable pub year_of_day : ℤ → ℕ
+year_of_day day = begun_by day (λ year. days_from_civil (pos year) 1 1) 9999
+
+unfoldable pub month_of_day : ℤ → ℕ
+month_of_day day = begun_by day (λ month. days_from_civil (pos (year_of_day day)) month 1) 12
+
+unfoldable pub month_day_of_day : ℤ → ℕ
+month_day_of_day day = begun_by day (λ date. days_from_civil (pos (year_of_day day)) (month_of_day day) date) 31
+
+-- the text of a day, YYYY-MM-DD
+unfoldable pub text_of_day : ℤ → List ℕ
+text_of_day day = date_text (year_of_day day) (month_of_day day) (month_day_of_day day)
+
+-- it is the text of a day
 pub record IsDayText (day : ℤ) (text : List ℕ) : Type 0 where
   pub year : ℕ
   pub month : ℕ
-  pub mday : ℕ
-  pub day_is : civil_day year month mday ≡ Some day
-  pub text_is : text ≡ date_text year month mday
+  pub month_day : ℕ
+  pub day_is : civil_day year month month_day ≡ Some day
+  pub text_is : text ≡ date_text year month month_day
 
 infixl 10 ◌>>=◌
 abbrev pub ◌>>=◌ : {A B : Type 0} → Option A → (A → Option B) → Option B

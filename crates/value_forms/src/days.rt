@@ -1,7 +1,7 @@
 // Civil days of the years 0001 to 9999, and their texts.
 ghost use Rattle.std.specs.Prelude.{◌≡◌, ◌≤◌, ℤ, Some, IfSome, IsNone, MatchOption};
 ghost use Rattle.link_base.specs.Standard.{IsDay};
-ghost use Rattle.value_forms.specs.Days.{civil_day, four_of, IsDayText, iso_day, one_of, two_of};
+ghost use Rattle.value_forms.specs.Days.{civil_day, four_of, IsDayText, iso_day, month_day_of_day, month_of_day, one_of, text_of_day, two_of, year_of_day};
 
 use jiff_core::civil::Date;
 
@@ -20,7 +20,15 @@ pub struct Civil {
 /// `None` exactly where the three numbers are no such date.
 pub fn day_of(year: u16, month: u8, day: u8) -> Option<i32>
     ensures day { result ≡ civil_day year month day }
-    ensures valid { IfSome result (λ day. IsDay day) }
+    ensures valid { IfSome result (λ number. IsDay number) }
+    ensures parts { IfSome result (λ number. (year ≡ year_of_day number) × (month ≡ month_of_day number) × (day ≡ month_day_of_day number)) }
+{
+    day_number(year, month, day)
+}
+
+fn day_number(year: u16, month: u8, day: u8) -> Option<i32>
+    ensures day { result ≡ civil_day year month day }
+    ensures valid { IfSome result (λ number. IsDay number) }
 {
     if year < 1 || year > 9999 || month > 12 || day > 31 {
         return None;
@@ -35,6 +43,7 @@ pub fn day_of(year: u16, month: u8, day: u8) -> Option<i32>
 pub fn civil_of(day: i32) -> Civil
     requires { IsDay day }
     ensures day { civil_day result.year result.month result.day ≡ Some day }
+    ensures parts { (result.year ≡ year_of_day day) × (result.month ≡ month_of_day day) × (result.day ≡ month_day_of_day day) }
     ensures year { result.year ≤ 9999 }
     ensures month { result.month ≤ 12 }
     ensures day_of_month { result.day ≤ 31 }
@@ -77,9 +86,11 @@ pub(crate) fn four(a: u8, b: u8, c: u8, d: u8) -> Option<u16>
 }
 
 /// The text of a day, as `YYYY-MM-DD` of ISO 8601.
+#[tactic(auto, unfolding(crate::specs::Days::text_of_day))]
 pub fn day_text(day: i32) -> [u8; 10]
     requires { IsDay day }
-    ensures { IsDayText day result }
+    ensures text { result ≡ text_of_day day }
+    ensures date { IsDayText day result }
 {
     let date = civil_of(day);
     let high = (date.year / 100) as u8;
@@ -102,6 +113,7 @@ pub fn day_text(day: i32) -> [u8; 10]
 pub fn read_iso(text: &[u8]) -> Option<i32>
     ensures value { result ≡ iso_day text.now }
     ensures valid { IfSome result (λ day. IsDay day) }
+    ensures same { IfSome result (λ day. text.now ≡ text_of_day day) }
     ensures text { MatchOption result ((day : ℤ) → ¬ IsDayText day text.now) (λ day. IsDayText day text.now) }
 {
     iso(text)
