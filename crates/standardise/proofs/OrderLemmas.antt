@@ -1,14 +1,17 @@
 -- A binary search in texts that rise finds what stands there.
-use Rattle.std.proofs.Common.{◌≡◌, ℕ, zero, suc, ◌+◌, ◌<◌, ◌≤◌, inl, inr, List, [], ◌∷◌, true, false, ◌||◌, cond, Some, None, Err, Ordering, length, get_or, IsTrue, bytes_eq, refl, ap, sym, ◌∙◌, subst, arith}
+use Rattle.std.proofs.Common.{◌≡◌, ℕ, zero, suc, ◌+◌, ◌<◌, ◌≤◌, inl, inr, List, [], ◌∷◌, ◌++◌, take, Bool, true, false, ◌||◌, cond, Some, None, Err, Ordering, length, get_or, IsTrue, bytes_eq, refl, ap, sym, ◌∙◌, subst, arith}
 use Rattle.std.specs.declared.cmp.Ordering.TheVariants.{Less, Equal, Greater}
 use Rattle.std.specs.Ordering.{is_eq, is_lt, ordering_index, ordering_reverse}
 use Rattle.std.specs.List.Sorted.{IsBinarySearchResult, IsNonDecreasingBy, IsSortedBy}
 use Rattle.std.proofs.lemmas.Bool.{cases_lt}
+use Rattle.std.proofs.lemmas.Grind.{common_steps}
 use Rattle.std.proofs.lemmas.Cmp.{nat_list_cmp_total}
 use Rattle.std.proofs.lemmas.List.Folds.{list_any_at}
 use Rattle.std.proofs.lemmas.List.Sorted.{IsNonDecreasingBy-from_all_adjacent}
 use Rattle.std.proofs.lemmas.Map.Lookups.{exact_bytes}
 use Rattle.std.proofs.lemmas.Map.Text.{is_eq-slice_cmp}
+use Rattle.std.proofs.lemmas.Slice.Eq.{bytes_eq-Decides}
+use Rattle.standardise.specs.WordSets.{AreNoLonger}
 use Rattle.link_base.specs.declared.tables.WordPair.{WordPair}
 use Rattle.link_base.specs.Tables.{AreWordPairs, is_word}
 use Rattle.standardise.specs.Tables.{contains_text, text_cmp, word_for}
@@ -106,3 +109,28 @@ one_pair p from to = record {
     first : (k : ℕ) (d : WordPair) → k < length (p ∷ []) → (P : WordPair → Type 0) → P p → P (get_or (p ∷ []) k d)
     first zero d lt P h = h
     first (suc k) d lt P h = absurd (omega arith)
+
+-- a text that is longer than each of them is not there
+pub longer_text : (ts : List (List ℕ)) (w : List ℕ) (most : ℕ) → AreNoLonger most ts → most < length w → contains_text ts w ≡ false
+longer_text [] w most few long = refl
+longer_text (t ∷ ts) w most few long =
+    ap (λ b. b || contains_text ts w) (other (bytes_eq t w) refl)
+    ∙ longer_text ts w most (λ k d lt. few (suc k) d (omega arith)) long
+  where
+    other : (b : Bool) → bytes_eq t w ≡ b → b ≡ false
+    other true is = absurd (let same : t ≡ w = (bytes_eq-Decides t w).0 is in let n = ap length same in let short = few 0 t (omega arith) in omega arith)
+    other false is = refl
+
+push_no_longer : (xs : List (List ℕ)) (t : List ℕ) (old new : ℕ) → AreNoLonger old xs → old ≤ new → length t ≤ new → (k : ℕ) (d : List ℕ) → k < length (xs ++ t ∷ []) → length (get_or (xs ++ t ∷ []) k d) ≤ new
+push_no_longer [] t old new h le few zero d lt = few
+push_no_longer [] t old new h le few (suc k) d lt = absurd (omega arith)
+push_no_longer (x ∷ xs) t old new h le few zero d lt = let a = h 0 d (omega arith) in omega arith
+push_no_longer (x ∷ xs) t old new h le few (suc k) d lt = push_no_longer xs t old new (λ j e l. h (suc j) e (omega arith)) le few k d (omega arith)
+
+pub no_longer_more : (ts : List (List ℕ)) (i : ℕ) (t : List ℕ) (old new : ℕ) → i < length ts → t ≡ get_or ts i t → AreNoLonger old (take i ts) → old ≤ new → length t ≤ new → AreNoLonger new (take (i + 1) ts)
+no_longer_more ts i t old new lt is h le few =
+    let split : take (i + 1) ts ≡ take i ts ++ t ∷ [] = grind (arith, common_steps) in
+    subst (AreNoLonger new) (sym split) (push_no_longer (take i ts) t old new h le few)
+
+pub no_longer_all : (ts : List (List ℕ)) (i most : ℕ) → length ts ≤ i → AreNoLonger most (take i ts) → AreNoLonger most ts
+no_longer_all ts i most end h = let all : take i ts ≡ ts = grind (arith, common_steps) in subst (AreNoLonger most) all h

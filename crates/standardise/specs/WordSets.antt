@@ -1,5 +1,5 @@
 -- Texts that are found by an ordered search.
-use Rattle.std.specs.Prelude.{ℕ, List}
+use Rattle.std.specs.Prelude.{ℕ, List, ◌≤◌, All, length}
 use Rattle.std.specs.Ordering.{ordering_index}
 use Rattle.std.specs.List.Sorted.{IsNonDecreasingBy, IsPermutation}
 use Rattle.standardise.specs.Tables.{text_cmp}
@@ -8,3 +8,7 @@ use Rattle.standardise.specs.Tables.{text_cmp}
 pub record IsOrdered (texts ordered : List (List ℕ)) : Type 0 where
   pub same : IsPermutation texts ordered
   pub rising : (text : List ℕ) → IsNonDecreasingBy (λ t. ordering_index (text_cmp t text)) ordered
+
+-- no text is longer
+abbrev pub AreNoLonger : ℕ → List (List ℕ) → Type 0
+AreNoLonger most texts = All (λ t. length t ≤ most) texts

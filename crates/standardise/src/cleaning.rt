@@ -48,7 +48,7 @@ fn letters(c: char) -> (char, Option<char>)
         '\u{DF}' | '\u{1E9E}' => ('S', Some('S')),
         '\u{C6}' | '\u{E6}' => ('A', Some('E')),
         '\u{152}' | '\u{153}' => ('O', Some('E')),
-        '\u{D8}' | '\u{F8}' => ('O', None),
+        '\u{00D8}' | '\u{F8}' => ('O', None),
         '\u{141}' | '\u{142}' => ('L', None),
         '\u{110}' | '\u{111}' | '\u{D0}' | '\u{F0}' => ('D', None),
         '\u{DE}' | '\u{FE}' => ('T', Some('H')),

@@ -1,5 +1,5 @@
 // Names and places.
-ghost use Rattle.std.specs.Prelude.{◌≡◌, IfOk, map};
+ghost use Rattle.std.specs.Prelude.{◌≡◌, ◌∷◌, [], IfOk, map};
 ghost use Rattle.std.specs.Str.{IsUtf8};
 ghost use Rattle.link_base.specs.Standard.{IsValid};
 ghost use Rattle.link_base.specs.Tables.{AreWordPairs};
@@ -7,9 +7,9 @@ ghost use Rattle.standardise.specs.Names.{name_value, place_value, word_or_absen
 ghost use Rattle.standardise.specs.Words.{joined, replaced, words};
 
 use crate::cleaning::clean;
-use crate::pairs::{in_place, push_words};
+use crate::pairs::{found, in_place, push_words};
 use crate::tables::{NameTables, PlaceTables};
-use crate::words::next_word;
+use crate::words::{is_one_word, next_word};
 use link_base::{NoMemory, Text, Value, WordPair};
 use std::alloc::Global;
 
@@ -29,6 +29,9 @@ pub fn std_name(alloc: Global, text: &str, tables: &NameTables) -> Result<Value,
         return Ok(Value::Absent);
     }
     let cleaned = clean(alloc, name)?;
+    if is_one_word(&cleaned) {
+        return standard_word(alloc, cleaned, tables.pairs());
+    }
     let kept = tables.untitled(&cleaned);
     standard_words(alloc, kept, tables.pairs())
 }
@@ -45,7 +48,24 @@ pub fn std_place(alloc: Global, text: &str, tables: &PlaceTables) -> Result<Valu
         return Ok(Value::Absent);
     }
     let cleaned = clean(alloc, place)?;
+    if is_one_word(&cleaned) {
+        return standard_word(alloc, cleaned, tables.pairs());
+    }
     standard_words(alloc, &cleaned, tables.pairs())
+}
+
+// A text that is one word, replaced. A word that stays is not copied.
+fn standard_word(alloc: Global, word: Vec<u8>, pairs: &[WordPair]) -> Result<Value, NoMemory>
+    requires one { words word.items ≡ word.items ∷ [] }
+    requires utf8 { IsUtf8 word.items }
+    requires pairs { AreWordPairs pairs.now }
+    ensures value { IfOk result (λ v. v ≡ word_or_absent pairs.now (words word.items)) }
+    ensures valid { IfOk result (λ v. IsValid v) }
+{
+    match found(pairs, word.as_slice()) {
+        Some(to) => Ok(Value::Word(Text::new(alloc, to)?)),
+        None => Ok(Value::Word(Text::of(word))),
+    }
 }
 
 // The words of a text, each replaced, with a space between them.

@@ -25,7 +25,7 @@ fn place_in(pairs: &[WordPair], word: &[u8]) -> Result<usize, usize>
 }
 
 // The word that pairs have for a word.
-fn found<'a>(pairs: &'a [WordPair], word: &[u8]) -> Option<&'a [u8]>
+pub(crate) fn found<'a>(pairs: &'a [WordPair], word: &[u8]) -> Option<&'a [u8]>
     requires { AreWordPairs pairs.now }
     ensures word { option_map (λ s. s.now) result ≡ word_for pairs.now word.now }
     ensures utf8 { IfSome result (λ s. IsUtf8 s.now) }

@@ -45,6 +45,19 @@ fn parted(text: &[u8], at: usize) -> (&[u8], &[u8])
     (&text[..at], &text[at + 1..])
 }
 
+/// Whether a text is one word, with nothing beside it.
+pub(crate) fn is_one_word(text: &[u8]) -> bool
+    ensures { IsTrue result → words text.now ≡ text.now ∷ [] }
+{
+    if text.is_empty() {
+        return false;
+    }
+    match first_space(text) {
+        Some(_) => false,
+        None => true,
+    }
+}
+
 /// The first word of a text, and what follows it.
 pub(crate) fn next_word(text: &[u8]) -> Option<(&[u8], &[u8])>
     ensures words { MatchOption result (words text.now ≡ []) (λ found. words text.now ≡ found.0.now ∷ words found.1.now) }
@@ -92,10 +105,10 @@ pub(crate) fn dropped_at_front<'a>(text: &'a [u8], titles: &WordSet) -> &'a [u8]
 {
     let mut left = text;
     while let Some((word, rest)) = next_word(left) {
-        if !titles.contains(word) {
+        if next_word(rest).is_none() {
             return left;
         }
-        if next_word(rest).is_none() {
+        if !titles.contains(word) {
             return left;
         }
         left = rest;
@@ -116,10 +129,10 @@ pub(crate) fn dropped_at_end<'a>(text: &'a [u8], titles: &WordSet, suffixes: &Wo
 {
     let mut left = text;
     while let Some((word, rest)) = last_word(left) {
-        if !is_either(titles, suffixes, word) {
+        if last_word(rest).is_none() {
             return left;
         }
-        if last_word(rest).is_none() {
+        if !is_either(titles, suffixes, word) {
             return left;
         }
         left = rest;
