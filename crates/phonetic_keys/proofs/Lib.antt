@@ -1,0 +1,4 @@
+pub mod CarryingLaw
+pub mod KeyLemmas
+pub mod TailLemmas
+pub mod WalkLemmas

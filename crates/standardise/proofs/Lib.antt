@@ -1,0 +1,3 @@
+pub mod CleaningLemmas
+pub mod OrderLemmas
+pub mod WordLemmas

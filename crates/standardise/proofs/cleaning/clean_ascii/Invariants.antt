@@ -1,0 +1,8 @@
+use Rattle.std.proofs.Common.{◌≡◌, take}
+use Rattle.std.specs.List.{flat_map}
+use Rattle.std.specs.Option.{option_to_list}
+use Rattle.standardise.specs.Cleaning.{ascii_cleaned}
+use Rattle.standardise.proofs.cleaning.clean_ascii.Given as goal
+
+abbrev pub invariant-loop-byte : goal.invariant-loop-byte
+invariant-loop-byte l = l.out.items ≡ flat_map (λ c. option_to_list (ascii_cleaned c)) (take l.byte-index l.text)

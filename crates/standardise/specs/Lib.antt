@@ -1,0 +1,6 @@
+pub mod Cleaning
+pub mod DateReads
+pub mod Names
+pub mod Tables
+pub mod WordSets
+pub mod Words

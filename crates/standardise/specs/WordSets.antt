@@ -1,0 +1,14 @@
+-- Texts that are found by an ordered search.
+use Rattle.std.specs.Prelude.{ℕ, List, ◌≤◌, All, length}
+use Rattle.std.specs.Ordering.{ordering_index}
+use Rattle.std.specs.List.Sorted.{IsNonDecreasingBy, IsPermutation}
+use Rattle.standardise.specs.Tables.{text_cmp}
+
+-- the texts in the order of their bytes: along them the order to any text does not fall
+pub record IsOrdered (texts ordered : List (List ℕ)) : Type 0 where
+  pub same : IsPermutation texts ordered
+  pub rising : (text : List ℕ) → IsNonDecreasingBy (λ t. ordering_index (text_cmp t text)) ordered
+
+-- no text is longer
+abbrev pub AreNoLonger : ℕ → List (List ℕ) → Type 0
+AreNoLonger most texts = All (λ t. length t ≤ most) texts

@@ -1,0 +1,134 @@
+// The tables of names and of places.
+ghost use Rattle.std.specs.Prelude.{◌≡◌, IfOk};
+ghost use Rattle.std.specs.Str.{IsUtf8};
+ghost use Rattle.link_base.specs.Tables.{AreWordPairs};
+ghost use Rattle.standardise.specs.Tables.{contains_text};
+ghost use Rattle.standardise.specs.Words.{without_titles, words};
+
+use crate::word_set::WordSet;
+use crate::words::{dropped_at_end, dropped_at_front};
+use link_base::{NoMemory, Tables, WordPair, WordPairs};
+use std::alloc::Global;
+use std::marker::Model;
+
+/// The marks of a missing value and the words of places.
+#[derive(Debug, Drop)]
+pub struct PlaceTables {
+    marks: WordSet,
+    words: WordPairs,
+}
+
+impl Model for PlaceTables {
+    ghost use Rattle.standardise.specs.Tables.{PlaceView};
+
+    ghost Value = { PlaceView };
+
+    ghost view = { λ t. record { marks = t.marks; words = t.words } };
+}
+
+impl PlaceTables {
+    /// The tables of places of a plan.
+    pub fn new(alloc: Global, plan: &Tables) -> Result<PlaceTables, NoMemory>
+        ensures marks { IfOk result (λ t. t.marks ≡ plan.now.missing) }
+        ensures words { IfOk result (λ t. t.words ≡ plan.now.places) }
+    {
+        let marks = WordSet::new(alloc, &plan.missing)?;
+        let words = copied_pairs(alloc, &plan.places)?;
+        Ok(PlaceTables { marks, words })
+    }
+
+    /// Whether a text is one of the missing marks.
+    pub(crate) fn is_missing(&self, text: &[u8]) -> bool
+        ensures { result ≡ contains_text self.now.marks text.now }
+    {
+        self.marks.contains(text)
+    }
+
+    pub(crate) fn pairs(&self) -> &[WordPair]
+        ensures all { result.now ≡ self.now.words }
+        ensures rising { AreWordPairs self.now.words }
+    {
+        self.words.pairs()
+    }
+}
+
+/// The marks of a missing value, the titles, the suffixes and the words of names.
+#[derive(Debug, Drop)]
+pub struct NameTables {
+    marks: WordSet,
+    titles: WordSet,
+    suffixes: WordSet,
+    words: WordPairs,
+}
+
+impl Model for NameTables {
+    ghost use Rattle.standardise.specs.Tables.{NameView};
+
+    ghost Value = { NameView };
+
+    ghost view = { λ t. record { marks = t.marks; titles = t.titles; suffixes = t.suffixes; words = t.words } };
+}
+
+impl NameTables {
+    /// The tables of names of a plan.
+    pub fn new(alloc: Global, plan: &Tables) -> Result<NameTables, NoMemory>
+        ensures marks { IfOk result (λ t. t.marks ≡ plan.now.missing) }
+        ensures titles { IfOk result (λ t. t.titles ≡ plan.now.titles) }
+        ensures suffixes { IfOk result (λ t. t.suffixes ≡ plan.now.suffixes) }
+        ensures words { IfOk result (λ t. t.words ≡ plan.now.names) }
+    {
+        let marks = WordSet::new(alloc, &plan.missing)?;
+        let titles = WordSet::new(alloc, &plan.titles)?;
+        let suffixes = WordSet::new(alloc, &plan.suffixes)?;
+        let words = copied_pairs(alloc, &plan.names)?;
+        Ok(NameTables {
+            marks,
+            titles,
+            suffixes,
+            words,
+        })
+    }
+
+    /// Whether a text is one of the missing marks.
+    pub(crate) fn is_missing(&self, text: &[u8]) -> bool
+        ensures { result ≡ contains_text self.now.marks text.now }
+    {
+        self.marks.contains(text)
+    }
+
+    /// The text without titles at its front, and without titles and suffixes at its end.
+    pub(crate) fn untitled<'a>(&self, text: &'a [u8]) -> &'a [u8]
+        ensures words { words result.now ≡ without_titles self.now.titles self.now.suffixes (words text.now) }
+        ensures utf8 { IsUtf8 text.now → IsUtf8 result.now }
+    {
+        let rest = dropped_at_front(text, &self.titles);
+        dropped_at_end(rest, &self.titles, &self.suffixes)
+    }
+
+    pub(crate) fn pairs(&self) -> &[WordPair]
+        ensures all { result.now ≡ self.now.words }
+        ensures rising { AreWordPairs self.now.words }
+    {
+        self.words.pairs()
+    }
+}
+
+// The same pairs.
+fn copied_pairs(alloc: Global, pairs: &WordPairs) -> Result<WordPairs, NoMemory>
+    ensures { IfOk result (λ v. v ≡ pairs.now) }
+{
+    let copies = copied_each(alloc, pairs.pairs())?;
+    Ok(WordPairs::of(copies))
+}
+
+fn copied_each(alloc: Global, pairs: &[WordPair]) -> Result<Vec<WordPair>, NoMemory>
+    ensures { IfOk result (λ v. v.items ≡ pairs.now) }
+{
+    let mut out = Vec::new(alloc);
+    for pair in pairs {
+        let from = pair.from.copy(alloc)?;
+        let to = pair.to.copy(alloc)?;
+        out.push(WordPair { from, to })?;
+    }
+    Ok(out)
+}

@@ -1,0 +1,99 @@
+// Values that are known from elsewhere.
+ghost use Rattle.std.specs.Prelude.{IsTrue};
+ghost use Rattle.link_base.specs.Tables.{is_word};
+
+use crate::{DateRead, NameTables, PlaceTables, std_date, std_name, std_place};
+use link_base::{DateForm, NoMemory, Tables, Text, Value, WordPair, WordPairs};
+use std::alloc::Global;
+
+#[tactic(auto, using(crate::proofs::OrderLemmas::one_pair))]
+fn one_pair(alloc: Global, from: &[u8], to: &[u8]) -> Result<WordPairs, NoMemory>
+    requires from { IsTrue (is_word from.now) }
+    requires to { IsTrue (is_word to.now) }
+{
+    let mut pairs = Vec::new(alloc);
+    let from = Text::new(alloc, from)?;
+    let to = Text::new(alloc, to)?;
+    pairs.push(WordPair { from, to })?;
+    Ok(WordPairs::of(pairs))
+}
+
+fn is_text(value: Value, wanted: &str) -> bool {
+    match value {
+        Value::Word(word) => word.bytes() == wanted.as_bytes(),
+        Value::Absent => wanted.is_empty(),
+        Value::Day(_) => false,
+    }
+}
+
+#[test]
+fn known_names(rt: HostRuntime) -> Result<(), NoMemory> {
+    let alloc = rt.alloc();
+    let plan = Tables::standard(alloc)?;
+    let tables = NameTables::new(alloc, &plan)?;
+    let rows: [(&str, &str); 18] = [
+        ("O'Brien-Müller, Dr.", "OBRIEN MULLER"),
+        ("Dr.", "DR"),
+        ("MacDonald", "MACDONALD"),
+        ("42", "42"),
+        ("-", ""),
+        ("  Dr. Bill O'Brien, Jr. ", "BILL OBRIEN"),
+        ("Mr. Dr.", "DR"),
+        ("JR Ewing", "JR EWING"),
+        ("Smith JR II", "SMITH"),
+        (" N/A\t", ""),
+        ("--", ""),
+        ("n/a", "N A"),
+        ("Müller-Lüdenscheidt", "MULLER LUDENSCHEIDT"),
+        ("Straße", "STRASSE"),
+        ("Łódź", "LODZ"),
+        ("Þór Æsir", "THOR AESIR"),
+        ("D’Angelo `x´", "DANGELO X"),
+        ("\u{3000}Ноэль\u{A0}", "Ноэль"),
+    ];
+    for (text, wanted) in rows {
+        assert!(rt; is_text(std_name(alloc, text, &tables)?, wanted));
+    }
+    Ok(())
+}
+
+#[test]
+fn known_places(rt: HostRuntime) -> Result<(), NoMemory> {
+    let alloc = rt.alloc();
+    let mut plan = Tables::standard(alloc)?;
+    plan.places = one_pair(alloc, b"ST", b"SAINT")?;
+    let tables = PlaceTables::new(alloc, &plan)?;
+    let rows: [(&str, &str); 4] = [
+        ("St. Gallen", "SAINT GALLEN"),
+        ("Sankt St St", "SANKT SAINT SAINT"),
+        ("Dr. Str.", "DR STR"),
+        ("?", ""),
+    ];
+    for (text, wanted) in rows {
+        assert!(rt; is_text(std_place(alloc, text, &tables)?, wanted));
+    }
+    Ok(())
+}
+
+#[test]
+fn known_dates(rt: HostRuntime) -> Result<(), NoMemory> {
+    let alloc = rt.alloc();
+    let plan = Tables::standard(alloc)?;
+    let tables = PlaceTables::new(alloc, &plan)?;
+    let rows: [(&str, DateRead); 10] = [
+        ("03/02/1980", DateRead::Day(3685)),
+        ("31/02/1980", DateRead::Unreadable),
+        ("-", DateRead::Absent),
+        (" ? ", DateRead::Absent),
+        ("17.11.1975", DateRead::Day(2146)),
+        (" 17111975 ", DateRead::Day(2146)),
+        ("17-11/1975", DateRead::Unreadable),
+        ("29.2.1900", DateRead::Unreadable),
+        ("17.11.1975 10:00", DateRead::Unreadable),
+        ("--", DateRead::Unreadable),
+    ];
+    for (text, wanted) in rows {
+        assert!(rt; std_date(text, DateForm::Dmy, &tables) == wanted);
+    }
+    Ok(())
+}

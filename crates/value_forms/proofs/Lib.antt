@@ -1,0 +1,4 @@
+pub mod BegunLemmas
+pub mod DayLemmas
+pub mod FirstLemmas
+pub mod TextLemmas

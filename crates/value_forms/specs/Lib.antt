@@ -1,0 +1,3 @@
+pub mod Days
+pub mod Written
+pub mod Firsts

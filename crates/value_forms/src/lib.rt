@@ -1,0 +1,14 @@
+//! Forms of standard values: civil days, the texts of days, dates as people write them, and the first
+//! characters of a text.
+#![tactic(auto)]
+
+mod days;
+mod first;
+mod written;
+
+pub use days::{Civil, civil_of, day_of, day_text, read_iso};
+pub use first::first_chars;
+pub use written::read_date;
+
+#[cfg(test)]
+mod tests;
