@@ -1,0 +1,4 @@
+pub mod PowerLemmas
+pub mod WeightLemmas
+pub mod PatternLemmas
+pub mod Digits
