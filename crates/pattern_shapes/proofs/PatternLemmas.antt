@@ -5,7 +5,7 @@ use Rattle.std.specs.List.{count_by, range_with_len}
 use Rattle.std.proofs.Math.Nat.{pow-le-pow_left, pow-le-pow_right}
 use Rattle.std.proofs.lemmas.Int.{ints}
 use Rattle.std.proofs.lemmas.Bool.{le-leb}
-use Rattle.std.proofs.lemmas.Nat.{div_below, mod_below, mul-le}
+use Rattle.std.proofs.lemmas.Nat.{div_below, mod_below, mul-le, pow-add}
 use Rattle.std.proofs.lemmas.List.{length-map}
 use Rattle.std.proofs.lemmas.List.FromFn.{length-range_with_len}
 use Rattle.std.proofs.lemmas.List.Sums.{sum_by-cons, count_by-le-length}
@@ -56,6 +56,27 @@ u_of_pos (field ∷ fields) pattern lt =
     let share : 1 ≤ get_or field.u (pattern / pattern_count_of fields) 0 = field.of_unmatched.1 _ (first_in field fields pattern lt) in
     let rest : 1 ≤ u_of fields (pattern % pattern_count_of fields) = omega (arith, u_of_pos fields (pattern % pattern_count_of fields) (later_in fields pattern)) in
     omega (arith, mul-le 1 1 _ _ share rest)
+
+product_small : (share rest n : ℕ) → share ≤ 1022 → rest ≤ 1024 ^ n → share * rest ≤ 1024 ^ (n + 1)
+product_small share rest n h k =
+    let p : 1024 ^ (n + 1) ≡ 1024 ^ n * 1024 ^ 1 = pow-add 1024 n 1 in
+    let most : share * rest ≤ 1024 * 1024 ^ n = mul-le share rest 1024 (1024 ^ n) (omega (arith, h)) k in
+    rw p (omega (arith, most))
+
+-- a chance is at most the whole
+pub m_of_small : (shares : List FieldShares) (pattern : ℕ) → pattern < pattern_count_of shares → m_of shares pattern ≤ 1024 ^ length shares
+m_of_small [] pattern lt = omega arith
+m_of_small (field ∷ fields) pattern lt =
+    let share = share_bounds field.rare field.m (pattern / pattern_count_of fields) field.of_matched (first_in field fields pattern lt) in
+    let one : length (field ∷ fields) ≡ length fields + 1 = omega arith in
+    rw one (product_small _ _ (length fields) share.1 (m_of_small fields (pattern % pattern_count_of fields) (later_in fields pattern)))
+
+pub u_of_small : (shares : List FieldShares) (pattern : ℕ) → pattern < pattern_count_of shares → u_of shares pattern ≤ 1024 ^ length shares
+u_of_small [] pattern lt = omega arith
+u_of_small (field ∷ fields) pattern lt =
+    let share = share_bounds field.rare field.u (pattern / pattern_count_of fields) field.of_unmatched (first_in field fields pattern lt) in
+    let one : length (field ∷ fields) ≡ length fields + 1 = omega arith in
+    rw one (product_small _ _ (length fields) share.1 (u_of_small fields (pattern % pattern_count_of fields) (later_in fields pattern)))
 
 count_first : (p : ℕ → Bool) (n : ℕ) → p 0 ≡ true → 1 ≤ count_by p (range_with_len 0 (suc n))
 count_first p n first =
