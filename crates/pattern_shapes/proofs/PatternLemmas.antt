@@ -1,8 +1,8 @@
 -- The chances and the weight of a pattern, field by field.
-use Rattle.std.proofs.Common.{ℕ, ℤ, Bool, true, false, cond, leb, zero, suc, ◌≡◌, ◌+◌, ◌*◌, ◌/◌, ◌%◌, ◌^◌, ◌<◌, ◌≤◌, List, [], ◌∷◌, length, map, arith, get_or}
+use Rattle.std.proofs.Common.{ℕ, Bool, true, cond, leb, zero, suc, ◌≡◌, ◌+◌, ◌*◌, ◌/◌, ◌%◌, ◌^◌, ◌<◌, ◌≤◌, List, [], ◌∷◌, length, arith, get_or}
 use Rattle.std.specs.Prelude.{pos, ◌-ℤ◌, ◌≤ℤ◌}
 use Rattle.std.specs.List.{count_by, range_with_len}
-use Rattle.std.proofs.Math.Nat.{pow-le-pow_left, pow-le-pow_right}
+use Rattle.std.proofs.Math.Nat.{pow-le-pow_left}
 use Rattle.std.proofs.lemmas.Int.{ints}
 use Rattle.std.proofs.lemmas.Bool.{le-leb}
 use Rattle.std.proofs.lemmas.Nat.{div_below, mod_below, mul-le, pow-add}

@@ -3,7 +3,7 @@ use Rattle.std.proofs.Common.{◌≡◌, ℕ, zero, suc, Bool, true, false, cond
 use mir.Val.{bool_byte}
 use Rattle.link_base.specs.Shares.{IsShares}
 use Rattle.share_counts.proofs.RankFour.{IsRanked, rank_four}
-use Rattle.std.specs.List.{All, sum_by, count_by, range_with_len}
+use Rattle.std.specs.List.{sum_by, count_by, range_with_len}
 use Rattle.std.proofs.Math.Nat.{div-mul-le_self, le_of_mul-le-mul_right, lt_of_mul-lt-mul_right}
 use Rattle.std.proofs.lemmas.Nat.{div-add-mod', mod_below}
 use Rattle.std.proofs.lemmas.Bool.{false≢true}

@@ -1,5 +1,4 @@
-use Rattle.std.proofs.Common.{◌≡◌, ◌-◌, arith, ap, drop, sym, ◌∙◌}
-use Rattle.pattern_shapes.specs.Shapes.{outcome_at}
+use Rattle.std.proofs.Common.{◌≡◌, arith, sym, ◌∙◌}
 use Rattle.pattern_shapes.proofs.Digits.{outcome-last, outcome-step}
 use Rattle.pattern_shapes.proofs.shapes.outcome_in.Goals as goal
 

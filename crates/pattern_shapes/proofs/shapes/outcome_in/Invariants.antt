@@ -1,4 +1,4 @@
-use Rattle.std.proofs.Common.{◌≡◌, ◌-◌, ◌≤◌, drop}
+use Rattle.std.proofs.Common.{◌≡◌, ◌-◌, drop}
 use Rattle.pattern_shapes.specs.Shapes.{outcome_at}
 use Rattle.pattern_shapes.proofs.shapes.outcome_in.Given as goal
 
