@@ -1,8 +1,8 @@
 -- The exchange at the two borders of a table.
-use Rattle.std.proofs.Common.{◌≡◌, ℕ, ◌+◌, ◌*◌, ◌<◌, ◌≤◌, List, length, arith, inl, inr, subst, get_or}
+use Rattle.std.proofs.Common.{◌≡◌, ℕ, ◌+◌, ◌*◌, ◌<◌, ◌≤◌, List, length, arith, inl, inr, subst}
 use Rattle.std.proofs.Math.Nat.{mul-le-mul_left}
 use Rattle.std.proofs.lemmas.Bool.{cases_order, cases_lt}
-use Rattle.std.specs.List.{sum_by, All, AllPairs}
+use Rattle.std.specs.List.{sum_by, All}
 use Rattle.std.proofs.lemmas.List.Elements.{All-from_get_or, All-weaker}
 use Rattle.decision_rule.specs.Exchange.{IsCutForm, IsCell, LinksEndAt, NonlinksStartAt, cell_at, matched_links_of, rule_matched_links, unmatched_nonlinks_of, rule_unmatched_nonlinks}
 use Rattle.link_base.specs.Rule.{empty_cell}

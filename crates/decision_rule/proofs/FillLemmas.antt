@@ -1,10 +1,9 @@
-use Rattle.std.proofs.Common.{◌≡◌, ℕ, ℤ, Bool, true, false, zero, suc, ◌+◌, ◌*◌, ◌/◌, ◌%◌, ◌^◌, ◌<◌, ◌≤◌, List, [], ◌∷◌, length, refl, ap, arith, sym, ◌∙◌, get_or, drop, drop-cons, map}
+use Rattle.std.proofs.Common.{◌≡◌, ℕ, ℤ, zero, suc, ◌+◌, ◌*◌, ◌/◌, ◌%◌, ◌^◌, ◌<◌, ◌≤◌, List, [], ◌∷◌, length, refl, ap, arith, sym, ◌∙◌, get_or, drop, drop-cons, map}
 use Rattle.std.specs.Prelude.{◌+ℤ◌}
 use Rattle.std.proofs.Math.Nat.{mul-le-mul_left, mul-div_cancel_left, pow-le-pow_right}
 use Rattle.std.proofs.lemmas.Int.{ints}
 use Rattle.std.proofs.lemmas.Nat.{div_below, mul-le, pow-add}
 use Rattle.pattern_shapes.specs.Weight.{eighth_weight_of}
-use Rattle.link_base.specs.Shares.{IsShares, outcomes_of}
 use Rattle.pattern_shapes.specs.Patterns.{base_of, pattern_count_of, m_of, u_of, weight_of}
 use Rattle.link_base.specs.declared.shares.FieldShares.{FieldShares}
 use Rattle.std.specs.List.{range_with_len}

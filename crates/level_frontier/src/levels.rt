@@ -22,7 +22,7 @@ ghost use Rattle.level_frontier.specs.Asked.{IsWithinAsked};
 ghost use Rattle.level_frontier.specs.declared.levels.FrontierRow.{FrontierRow};
 
 /// The row of each asked level of links in `mus`, all with the asked level `lambda_ppm` of non-links, in parts per
-/// million. The table is used on the way, and is afterwards that of the last row.
+/// million. The cells of the table are used on the way.
 pub fn frontier(
     shares: &[FieldShares],
     lambda_ppm: u32,
