@@ -2,3 +2,4 @@ pub mod PowerLemmas
 pub mod WeightLemmas
 pub mod PatternLemmas
 pub mod Digits
+pub mod WholeLemmas
