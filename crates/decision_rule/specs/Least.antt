@@ -18,5 +18,7 @@ pub record HasLevelsWithin (shares : List FieldShares) (cells : List RuleCell) (
 
 -- no such rule, of any denominator, has a lower chance of a possible link, among matched or among unmatched pairs
 pub record IsLeast (shares : List FieldShares) (cells : List RuleCell) : Type 0 where
-  pub matched : (denominator : ℕ) (r : Rule) → HasLevelsWithin shares cells denominator r → denominator * possible_m_of cells ≤ 65536 * sum_over shares (m_of shares) r.possible
-  pub unmatched : (denominator : ℕ) (r : Rule) → HasLevelsWithin shares cells denominator r → denominator * possible_u_of cells ≤ 65536 * sum_over shares (u_of shares) r.possible
+  pub matched : (denominator : ℕ) (r : Rule) → HasLevelsWithin shares cells denominator r
+      → denominator * possible_m_of cells ≤ 65536 * sum_over shares (m_of shares) r.possible
+  pub unmatched : (denominator : ℕ) (r : Rule) → HasLevelsWithin shares cells denominator r
+      → denominator * possible_u_of cells ≤ 65536 * sum_over shares (u_of shares) r.possible

@@ -77,7 +77,7 @@ fn block_of(rng: &mut ChaCha20Rng, block: u64) -> [u32; 16]
     ensures stream { rng.new.stream ≡ 0 }
     ensures words { (i : ℕ) → i < 16 → slice_index result i ≡ word_at 10 rng.old.key 0 (block * 16 + i) }
 {
-    rng.set_word_pos(u128::from(block) * 16);
+    rng.set_word_pos(u128::from(block * BLOCK_WORDS));
     let mut words = [0; 16];
     for i in 0..words.len() {
         words[i] = rng.next_word();

@@ -61,7 +61,8 @@ fn cell_of(shares: &[FieldShares], pattern: u16) -> RuleCell
 pub fn fill(shares: &[FieldShares], cells: &mut [RuleCell])
     requires fields { length shares.now ≤ 6 }
     requires size { length cells.old ≡ pattern_count_of shares.now }
-    ensures { map chances_of cells.new ≡ map (chances_at shares.now) (range_with_len 0 (pattern_count_of shares.now)) }
+    ensures { map chances_of cells.new
+        ≡ map (chances_at shares.now) (range_with_len 0 (pattern_count_of shares.now)) }
 {
     for i in 0..cells.len() {
         cells[i] = cell_of(shares, i as u16);

@@ -26,7 +26,8 @@ pub fn link_exchange()
     ensures { (cells : List RuleCell) (i units : ℕ) → LinksEndAt cells i → (denominator : ℕ) (rule : Rule)
         → IsRuleOver denominator cells rule
         → 65536 * rule_mu rule cells ≤ denominator * (mu_of cells + units * (cell_at cells i).u)
-        → 65536 * rule_matched_links rule cells ≤ denominator * (matched_links_of cells + units * (cell_at cells i).m) }
+        → 65536 * rule_matched_links rule cells
+        ≤ denominator * (matched_links_of cells + units * (cell_at cells i).m) }
 {}
 
 /// At the border of the non-links: a rule whose level `lambda` is at most that of a table with some 65,536ths of the
@@ -35,7 +36,8 @@ pub fn nonlink_exchange()
     ensures { (cells : List RuleCell) (j units : ℕ) → NonlinksStartAt cells j → (denominator : ℕ) (rule : Rule)
         → IsRuleOver denominator cells rule
         → 65536 * rule_lambda rule cells ≤ denominator * (lambda_of cells + units * (cell_at cells j).m)
-        → 65536 * rule_unmatched_nonlinks rule cells ≤ denominator * (unmatched_nonlinks_of cells + units * (cell_at cells j).u) }
+        → 65536 * rule_unmatched_nonlinks rule cells
+        ≤ denominator * (unmatched_nonlinks_of cells + units * (cell_at cells j).u) }
 {}
 
 /// A rule whose levels pass those of a table by at most some 65,536ths of the two borders has a chance of a possible
@@ -45,12 +47,16 @@ pub fn slack_exchange()
         → (denominator : ℕ) (rule : Rule) → IsRuleOver denominator cells rule
         → 65536 * rule_mu rule cells ≤ denominator * (mu_of cells + links * (cell_at cells i).u)
         → 65536 * rule_lambda rule cells ≤ denominator * (lambda_of cells + nonlinks * (cell_at cells j).m)
-        → denominator * possible_m_of cells ≤ 65536 * rule_possible_m rule cells + denominator * (links * (cell_at cells i).m + nonlinks * (cell_at cells j).m) }
+        → denominator * possible_m_of cells
+        ≤ 65536 * rule_possible_m rule cells
+        + denominator * (links * (cell_at cells i).m + nonlinks * (cell_at cells j).m) }
     ensures unmatched { (cells : List RuleCell) (i j links nonlinks : ℕ) → LinksEndAt cells i → NonlinksStartAt cells j
         → (denominator : ℕ) (rule : Rule) → IsRuleOver denominator cells rule
         → 65536 * rule_mu rule cells ≤ denominator * (mu_of cells + links * (cell_at cells i).u)
         → 65536 * rule_lambda rule cells ≤ denominator * (lambda_of cells + nonlinks * (cell_at cells j).m)
-        → denominator * possible_u_of cells ≤ 65536 * rule_possible_u rule cells + denominator * (links * (cell_at cells i).u + nonlinks * (cell_at cells j).u) }
+        → denominator * possible_u_of cells
+        ≤ 65536 * rule_possible_u rule cells
+        + denominator * (links * (cell_at cells i).u + nonlinks * (cell_at cells j).u) }
 {}
 
 /// A filled table is in cut form.

@@ -19,7 +19,8 @@ fn rank(a: &RuleCell, b: &RuleCell) -> Ordering
 /// Puts the cells into their order.
 pub fn order(cells: &mut [RuleCell])
     ensures permutation { IsPermutation cells.old cells.new }
-    ensures sorted { (i j : ℕ) (d : RuleCell) → i < j → j < length cells.new → stands_before (slice_index_or cells.new j d) (slice_index_or cells.new i d) ≡ false }
+    ensures sorted { (i j : ℕ) (d : RuleCell) → i < j → j < length cells.new
+        → stands_before (slice_index_or cells.new j d) (slice_index_or cells.new i d) ≡ false }
 {
     cells.sort_unstable_by(|a, b| rank(a, b));
 }

@@ -1,7 +1,7 @@
 -- The rows of the frontier.
-use Rattle.std.proofs.Common.{◌≡◌, ℕ, ◌+◌, ◌*◌, ◌^◌, ◌<◌, ◌≤◌, List, Bool, true, false, [], ◌∷◌, reverse, length, map, ltb, ◌-◌, set, refl, sym, ap, arith, ◌∙◌, get_or, Option, Some, None, inl, inr}
+use Rattle.std.proofs.Common.{ℕ, ◌+◌, ◌^◌, ◌<◌, ◌≤◌, List, Bool, [], ◌∷◌, reverse, length, map, ltb, ◌-◌, set, arith, get_or, inl, inr}
 use Rattle.std.proofs.Math.Nat.{pow-le-pow_right}
-use Rattle.std.specs.List.{All, AllByRecursion, range_with_len, find}
+use Rattle.std.specs.List.{All, AllByRecursion, find}
 use Rattle.std.proofs.lemmas.List.{get_or-map, length-map, get_or-set_same, get_or-set_other}
 use Rattle.std.proofs.lemmas.List.FromFn.{get_or-map-range_with_len, length-map-range_with_len}
 use Rattle.std.proofs.lemmas.List.Elements.{All-from_get_or, recursion_from_All}
@@ -10,15 +10,12 @@ use Rattle.std.proofs.lemmas.Bool.{cases_Bool, cases_eq}
 use Rattle.link_base.specs.Rule.{empty_cell}
 use Rattle.link_base.specs.declared.rule.RuleCell.{RuleCell}
 use Rattle.link_base.specs.declared.shares.FieldShares.{FieldShares}
-use Rattle.pattern_shapes.specs.Patterns.{pattern_count_of, m_of, u_of}
+use Rattle.pattern_shapes.specs.Patterns.{pattern_count_of}
 use Rattle.pattern_shapes.proofs.PatternLemmas.{m_of_small, u_of_small}
-use Rattle.decision_rule.specs.Rule.{Rule}
 use Rattle.decision_rule.specs.Filled.{Chances, chances_of, chances_at, IsFilled}
-use Rattle.decision_rule.specs.Least.{sum_over}
 use Rattle.decision_rule.proofs.FilledLemmas.{all_chances}
-use Rattle.level_frontier.specs.Asked.{IsWithinAsked}
-use Rattle.level_frontier.specs.Borders.{border_m, border_u, link_border_of, nonlink_border_of, slack_m_of, slack_u_of}
-use Rattle.level_frontier.specs.Frontier.{IsFrontierRow}
+use Rattle.level_frontier.specs.Borders.{border_m, border_u, slack_m_of, slack_u_of}
+use Rattle.level_frontier.specs.Frontier.{FallsTo, IsFrontierRow, IsNearLeast}
 use Rattle.level_frontier.specs.declared.levels.FrontierRow.{FrontierRow}
 use Rattle.level_frontier.proofs.FrontierLemmas.{near_m, near_u}
 use Rattle.level_frontier.proofs.FallLemmas.{sums_fall}
@@ -62,18 +59,19 @@ slack_small shares mu_ppm lambda_ppm cells few filled =
     let nonlink = found_small (λ c. ltb c.nonlink (65536 - c.link)) (reverse cells) (recursion_from_All IsSmall (reverse cells) turned) in
     (omega (arith, link.0, nonlink.0), omega (arith, link.1, nonlink.1))
 
-pub rows_fall : (shares : List FieldShares) (mu_ppm more_ppm lambda_ppm : ℕ) (x y : FrontierRow) → mu_ppm ≤ more_ppm → IsFrontierRow shares mu_ppm lambda_ppm x → IsFrontierRow shares more_ppm lambda_ppm y → (y.levels.possible_m ≤ x.levels.possible_m) × (y.levels.possible_u ≤ x.levels.possible_u)
+pub rows_fall : (shares : List FieldShares) (mu_ppm more_ppm lambda_ppm : ℕ) (x y : FrontierRow) → mu_ppm ≤ more_ppm → IsFrontierRow shares mu_ppm lambda_ppm x → IsFrontierRow shares more_ppm lambda_ppm y → FallsTo x y
 rows_fall shares mu_ppm more_ppm lambda_ppm x y le hx hy =
     let falls = sums_fall shares mu_ppm more_ppm lambda_ppm hx.0 hy.0 le hx.1 hy.1 in
-    (omega (arith, falls.0, hx.2.possible_m, hy.2.possible_m), omega (arith, falls.1, hx.2.possible_u, hy.2.possible_u))
+    record {
+      matched = omega (arith, falls.0, hx.2.possible_m, hy.2.possible_m);
+      unmatched = omega (arith, falls.1, hx.2.possible_u, hy.2.possible_u);
+    }
 
-pub row_near_m : (shares : List FieldShares) (mu_ppm lambda_ppm : ℕ) (row : FrontierRow) → IsFrontierRow shares mu_ppm lambda_ppm row → (d : ℕ) (r : Rule) → IsWithinAsked shares mu_ppm lambda_ppm d r → d * row.levels.possible_m ≤ 65536 * sum_over shares (m_of shares) r.possible + d * row.slack_m
-row_near_m shares mu_ppm lambda_ppm row h d r w =
-    rw (h.2.possible_m, h.2.slack_m) (near_m shares mu_ppm lambda_ppm h.0 h.1 d r w)
-
-pub row_near_u : (shares : List FieldShares) (mu_ppm lambda_ppm : ℕ) (row : FrontierRow) → IsFrontierRow shares mu_ppm lambda_ppm row → (d : ℕ) (r : Rule) → IsWithinAsked shares mu_ppm lambda_ppm d r → d * row.levels.possible_u ≤ 65536 * sum_over shares (u_of shares) r.possible + d * row.slack_u
-row_near_u shares mu_ppm lambda_ppm row h d r w =
-    rw (h.2.possible_u, h.2.slack_u) (near_u shares mu_ppm lambda_ppm h.0 h.1 d r w)
+pub row_near : (shares : List FieldShares) (mu_ppm lambda_ppm : ℕ) (row : FrontierRow) → IsFrontierRow shares mu_ppm lambda_ppm row → IsNearLeast shares mu_ppm lambda_ppm row
+row_near shares mu_ppm lambda_ppm row h = record {
+  matched = λ d r w. rw (h.2.possible_m, h.2.slack_m) (near_m shares mu_ppm lambda_ppm h.0 h.1 d r w);
+  unmatched = λ d r w. rw (h.2.possible_u, h.2.slack_u) (near_u shares mu_ppm lambda_ppm h.0 h.1 d r w);
+}
 
 -- one row more
 pub row_step : (shares : List FieldShares) (lambda_ppm : ℕ) (mus : List ℕ) (rows : List FrontierRow) (i : ℕ) (row : FrontierRow) → i < length rows

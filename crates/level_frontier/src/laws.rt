@@ -15,11 +15,13 @@ pub fn near_least()
     ensures matched { (shares : List FieldShares) (mu_ppm lambda_ppm : ℕ) (cells : List RuleCell)
         → IsFilled shares mu_ppm lambda_ppm cells
         → (denominator : ℕ) (rule : Rule) → IsWithinAsked shares mu_ppm lambda_ppm denominator rule
-        → denominator * possible_m_of cells ≤ 65536 * sum_over shares (m_of shares) rule.possible + denominator * slack_m_of cells }
+        → denominator * possible_m_of cells
+        ≤ 65536 * sum_over shares (m_of shares) rule.possible + denominator * slack_m_of cells }
     ensures unmatched { (shares : List FieldShares) (mu_ppm lambda_ppm : ℕ) (cells : List RuleCell)
         → IsFilled shares mu_ppm lambda_ppm cells
         → (denominator : ℕ) (rule : Rule) → IsWithinAsked shares mu_ppm lambda_ppm denominator rule
-        → denominator * possible_u_of cells ≤ 65536 * sum_over shares (u_of shares) rule.possible + denominator * slack_u_of cells }
+        → denominator * possible_u_of cells
+        ≤ 65536 * sum_over shares (u_of shares) rule.possible + denominator * slack_u_of cells }
 {}
 
 /// A higher asked level of links leaves no cell a greater possible share.

@@ -1,8 +1,6 @@
 // The rows of the frontier.
-ghost use Rattle.std.specs.Prelude.{◌≡◌, ℕ, ◌+◌, ◌*◌, ◌<◌, ◌≤◌, length, slice_index, slice_index_or, vec_len, All};
-ghost use Rattle.pattern_shapes.specs.Patterns.{m_of, pattern_count_of, u_of};
-ghost use Rattle.decision_rule.specs.Rule.{Rule};
-ghost use Rattle.decision_rule.specs.Least.{sum_over};
+ghost use Rattle.std.specs.Prelude.{◌≡◌, ℕ, ◌<◌, ◌≤◌, length, slice_index, slice_index_or, vec_len, All};
+ghost use Rattle.pattern_shapes.specs.Patterns.{pattern_count_of};
 
 use crate::borders::{link_border, matched_chance, nonlink_border, unmatched_chance};
 use decision_rule::{attained, cut_rule};
@@ -17,8 +15,7 @@ pub struct FrontierRow {
     pub slack_u: u64,
 }
 
-ghost use Rattle.level_frontier.specs.Frontier.{IsFrontierRow};
-ghost use Rattle.level_frontier.specs.Asked.{IsWithinAsked};
+ghost use Rattle.level_frontier.specs.Frontier.{FallsTo, IsFrontierRow, IsNearLeast};
 ghost use Rattle.level_frontier.specs.declared.levels.FrontierRow.{FrontierRow};
 
 /// The row of each asked level of links in `mus`, all with the asked level `lambda_ppm` of non-links, in parts per
@@ -36,23 +33,17 @@ pub fn frontier(
     requires size { vec_len table.old.cells ≡ pattern_count_of shares.now }
     requires rows { length rows.old ≡ length mus.now }
     ensures size { vec_len table.new.cells ≡ vec_len table.old.cells }
-    ensures rows { (k : ℕ) (d : FrontierRow) → k < length mus.now → IsFrontierRow shares.now (slice_index mus.now k) lambda_ppm (slice_index_or rows.new k d) }
+    ensures rows { (k : ℕ) (d : FrontierRow) → k < length mus.now
+        → IsFrontierRow shares.now (slice_index mus.now k) lambda_ppm (slice_index_or rows.new k d) }
 
     // A higher asked level of links gives no higher chance of a possible link.
-    ensures matched_falls { (j k : ℕ) (d : FrontierRow) → j < length mus.now → k < length mus.now
+    ensures falling { (j k : ℕ) (d : FrontierRow) → j < length mus.now → k < length mus.now
         → slice_index mus.now j ≤ slice_index mus.now k
-        → (slice_index_or rows.new k d).levels.possible_m ≤ (slice_index_or rows.new j d).levels.possible_m }
-    ensures unmatched_falls { (j k : ℕ) (d : FrontierRow) → j < length mus.now → k < length mus.now
-        → slice_index mus.now j ≤ slice_index mus.now k
-        → (slice_index_or rows.new k d).levels.possible_u ≤ (slice_index_or rows.new j d).levels.possible_u }
+        → FallsTo (slice_index_or rows.new j d) (slice_index_or rows.new k d) }
 
     // No randomised rule at the asked levels does better than a row by more than its slack.
-    ensures near_matched { (k : ℕ) (d : FrontierRow) → k < length mus.now → (denominator : ℕ) (rule : Rule)
-        → IsWithinAsked shares.now (slice_index mus.now k) lambda_ppm denominator rule
-        → denominator * (slice_index_or rows.new k d).levels.possible_m ≤ 65536 * sum_over shares.now (m_of shares.now) rule.possible + denominator * (slice_index_or rows.new k d).slack_m }
-    ensures near_unmatched { (k : ℕ) (d : FrontierRow) → k < length mus.now → (denominator : ℕ) (rule : Rule)
-        → IsWithinAsked shares.now (slice_index mus.now k) lambda_ppm denominator rule
-        → denominator * (slice_index_or rows.new k d).levels.possible_u ≤ 65536 * sum_over shares.now (u_of shares.now) rule.possible + denominator * (slice_index_or rows.new k d).slack_u }
+    ensures near_least { (k : ℕ) (d : FrontierRow) → k < length mus.now
+        → IsNearLeast shares.now (slice_index mus.now k) lambda_ppm (slice_index_or rows.new k d) }
 {
     fill_rows(shares, lambda_ppm, mus, table, rows);
 }
@@ -71,7 +62,8 @@ fn fill_rows(
     requires size { vec_len table.old.cells ≡ pattern_count_of shares.now }
     requires rows { length rows.old ≡ length mus.now }
     ensures size { vec_len table.new.cells ≡ vec_len table.old.cells }
-    ensures rows { (k : ℕ) (d : FrontierRow) → k < length mus.now → IsFrontierRow shares.now (slice_index mus.now k) lambda_ppm (slice_index_or rows.new k d) }
+    ensures rows { (k : ℕ) (d : FrontierRow) → k < length mus.now
+        → IsFrontierRow shares.now (slice_index mus.now k) lambda_ppm (slice_index_or rows.new k d) }
 {
     for k in 0..mus.len() {
         rows[k] = row_of(shares, mus[k], lambda_ppm, table);

@@ -1,6 +1,6 @@
-use Rattle.std.proofs.Common.{◌≡◌, ◌+◌, ap, arith, ◌∙◌}
+use Rattle.std.proofs.Common.{◌≡◌, ap, arith, ◌∙◌}
 use Rattle.pattern_shapes.proofs.PatternLemmas.{pattern_count_small}
-use Rattle.level_frontier.specs.Borders.{border_m, border_u, link_border_of, nonlink_border_of, slack_m_of, slack_u_of}
+use Rattle.level_frontier.specs.Borders.{border_m, border_u, link_border_of, nonlink_border_of}
 use Rattle.level_frontier.proofs.RowLemmas.{slack_small}
 use Rattle.level_frontier.proofs.levels.row_of.Goals as goal
 
