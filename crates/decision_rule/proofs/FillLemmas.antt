@@ -1,0 +1,89 @@
+use Rattle.std.proofs.Common.{◌≡◌, ℕ, ℤ, zero, suc, ◌+◌, ◌*◌, ◌/◌, ◌%◌, ◌^◌, ◌<◌, ◌≤◌, List, [], ◌∷◌, length, refl, ap, arith, sym, ◌∙◌, get_or, drop, drop-cons, map}
+use Rattle.std.specs.Prelude.{◌+ℤ◌}
+use Rattle.std.proofs.Math.Nat.{mul-le-mul_left, mul-div_cancel_left, pow-le-pow_right}
+use Rattle.std.proofs.lemmas.Int.{ints}
+use Rattle.std.proofs.lemmas.Nat.{div_below, mul-le, pow-add}
+use Rattle.pattern_shapes.specs.Weight.{eighth_weight_of}
+use Rattle.pattern_shapes.specs.Patterns.{base_of, pattern_count_of, m_of, u_of, weight_of}
+use Rattle.link_base.specs.declared.shares.FieldShares.{FieldShares}
+use Rattle.std.specs.List.{range_with_len}
+use Rattle.std.proofs.lemmas.List.{get_or-map, length-map}
+use Rattle.std.proofs.lemmas.List.FromFn.{fill_by_all}
+use Rattle.decision_rule.specs.Filled.{chances_of, chances_at}
+use Rattle.link_base.specs.declared.rule.RuleCell.{RuleCell}
+use Rattle.link_base.specs.Rule.{empty_cell}
+use Rattle.pattern_shapes.proofs.PatternLemmas.{pattern_count_pos, pattern_count_small, base_some, share_bounds}
+
+pub drop_step : (shares : List FieldShares) (i : ℕ) (field : FieldShares) → i < length shares → field ≡ get_or shares i field → drop i shares ≡ field ∷ drop (i + 1) shares
+drop_step shares i field lt e =
+    let d : drop i shares ≡ get_or shares i field ∷ drop (suc i) shares = drop-cons shares i field lt in
+    let one : suc i ≡ i + 1 = omega arith in
+    d ∙ ap (λ f. f ∷ drop (suc i) shares) (sym e) ∙ ap (λ n. field ∷ drop n shares) one
+
+-- a loop's step: the first field that is left
+pub record Step (shares : List FieldShares) (i below rest base : ℕ) (field : FieldShares) : Type 0 where
+  pub below_is : below / base ≡ pattern_count_of (drop (i + 1) shares)
+  pub some : 0 < below / base
+  pub outcome : rest / (below / base) < base_of field
+  pub m_is : m_of (drop i shares) rest ≡ get_or field.m (rest / (below / base)) 0 * m_of (drop (i + 1) shares) (rest % (below / base))
+  pub u_is : u_of (drop i shares) rest ≡ get_or field.u (rest / (below / base)) 0 * u_of (drop (i + 1) shares) (rest % (below / base))
+  pub weight_is : weight_of (drop i shares) rest ≡ eighth_weight_of (get_or field.m (rest / (below / base)) 0) (get_or field.u (rest / (below / base)) 0) +ℤ weight_of (drop (i + 1) shares) (rest % (below / base))
+  pub m_share : (1 ≤ get_or field.m (rest / (below / base)) 0) × (get_or field.m (rest / (below / base)) 0 ≤ 1022)
+  pub u_share : (1 ≤ get_or field.u (rest / (below / base)) 0) × (get_or field.u (rest / (below / base)) 0 ≤ 1022)
+
+pub step : (shares : List FieldShares) (i below rest base : ℕ) (field : FieldShares) → base ≡ base_of field → i < length shares → field ≡ get_or shares i field → below ≡ pattern_count_of (drop i shares) → rest < below → Step shares i below rest base field
+step shares i below rest base field eb lt e b r =
+    let d = drop_step shares i field lt e in
+    let pos : 0 < base = omega (arith, eb, (base_some field).0) in
+    let is : below ≡ base * pattern_count_of (drop (i + 1) shares) = b ∙ ap pattern_count_of d ∙ ap (λ n. n * pattern_count_of (drop (i + 1) shares)) (sym eb) in
+    let third : below / base ≡ pattern_count_of (drop (i + 1) shares) = ap (λ n. n / base) is ∙ mul-div_cancel_left (pattern_count_of (drop (i + 1) shares)) pos in
+    let some : 0 < below / base = omega (arith, third, pattern_count_pos (drop (i + 1) shares)) in
+    let whole : rest < base_of field * (below / base) = rw (third, ← eb) (omega (arith, r, is)) in
+    let outcome : rest / (below / base) < base_of field = div_below rest (below / base) (base_of field) some whole in
+    record {
+      below_is = third;
+      some = some;
+      outcome = outcome;
+      m_is = rw (d, third) refl;
+      u_is = rw (d, third) refl;
+      weight_is = rw (d, third) refl;
+      m_share = share_bounds field.rare field.m _ field.of_matched outcome;
+      u_share = share_bounds field.rare field.u _ field.of_unmatched outcome;
+    }
+
+pub product_small : (m share i : ℕ) → m ≤ 1024 ^ i → share ≤ 1022 → m * share ≤ 1024 ^ (i + 1)
+product_small m share i h k =
+    let p : 1024 ^ (i + 1) ≡ 1024 ^ i * 1024 ^ 1 = pow-add 1024 i 1 in
+    let most : m * share ≤ 1024 ^ i * 1024 = mul-le m share (1024 ^ i) 1024 h (omega arith) in
+    rw p (omega (arith, most))
+
+pub product_fits : (m share i : ℕ) → m ≤ 1024 ^ i → share ≤ 1022 → i < 6 → m * share < 2 ^ 64
+product_fits m share i h k lt =
+    let more : i + 1 ≤ 6 = omega arith in
+    let most : 1024 ^ (i + 1) ≤ 1024 ^ 6 = pow-le-pow_right (omega arith) more in
+    omega (arith, product_small m share i h k, most)
+
+-- a read past no end is the same at each default
+same_default : (shares : List FieldShares) (i : ℕ) (d e : FieldShares) → i < length shares → get_or shares i d ≡ get_or shares i e
+same_default [] i d e lt = absurd (omega (arith, lt))
+same_default (field ∷ fields) zero d e lt = refl
+same_default (field ∷ fields) (suc i) d e lt = same_default fields i d e (omega (arith, lt))
+
+pub count_step : (shares : List FieldShares) (i count base : ℕ) (field : FieldShares) → base ≡ base_of field → i < length shares → field ≡ get_or shares i field → length shares ≤ 6 → count * pattern_count_of (drop i shares) ≡ pattern_count_of shares → (count * base ≤ 4096) × ((count * base) * pattern_count_of (drop (i + 1) shares) ≡ pattern_count_of shares)
+count_step shares i count base field eb lt ef few e =
+    let more : pattern_count_of (drop i shares) ≡ base * pattern_count_of (drop (i + 1) shares) = ap pattern_count_of (drop_step shares i field lt ef) ∙ ap (λ n. n * pattern_count_of (drop (i + 1) shares)) (sym eb) in
+    let is : count * (base * pattern_count_of (drop (i + 1) shares)) ≡ pattern_count_of shares = rw more at e in
+    let one : 1 ≤ pattern_count_of (drop (i + 1) shares) = omega (arith, pattern_count_pos (drop (i + 1) shares)) in
+    let le : (count * base) * 1 ≤ (count * base) * pattern_count_of (drop (i + 1) shares) = mul-le-mul_left (count * base) one in
+    (omega (arith, is, le, pattern_count_small shares few), omega (arith, is))
+
+pub product_step : (m share same total old new : ℕ) → m * old ≡ total → old ≡ same * new → share ≡ same → m * share * new ≡ total
+product_step m share same total old new e f g = let h : m * (same * new) ≡ total = rw f at e in rw g (omega (arith, h))
+
+pub weight_step : (w e new total old w' : ℤ) → w +ℤ old ≡ total → old ≡ e +ℤ new → w' ≡ w +ℤ e → w' +ℤ new ≡ total
+weight_step w e new total old w' h k f = omega (arith, ints, h, k, f)
+
+pub filled_all : (shares : List FieldShares) (cells : List RuleCell) → length cells ≡ pattern_count_of shares → ((k : ℕ) (d : RuleCell) → k < length cells → chances_of (get_or cells k d) ≡ chances_at shares k) → map chances_of cells ≡ map (chances_at shares) (range_with_len 0 (pattern_count_of shares))
+filled_all shares cells size h =
+    fill_by_all (chances_at shares) (map chances_of cells) (pattern_count_of shares) (chances_of empty_cell) (omega (arith, size, length-map cells chances_of))
+    (λ k lt. let there : k < length cells = omega (arith, size, lt) in rw (get_or-map chances_of cells k empty_cell (chances_of empty_cell) there) (h k empty_cell there))

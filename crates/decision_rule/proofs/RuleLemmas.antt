@@ -1,0 +1,132 @@
+-- The cells of a rule against its patterns.
+use Rattle.std.proofs.Common.{◌≡◌, ℕ, Bool, false, eqb, ◌+◌, ◌*◌, ◌^◌, ◌<◌, ◌≤◌, List, [], ◌∷◌, length, map, refl, ap, arith, sym, ◌∙◌, get_or}
+use Rattle.std.specs.Prelude.{ℤ, pos, negsuc, ◌-ℤ◌, ◌≤ℤ◌}
+use Rattle.std.proofs.Math.Nat.{pow-le-pow_right}
+use Rattle.std.proofs.lemmas.Int.{ints}
+use Rattle.std.proofs.lemmas.Bool.Decides.{nat_tests}
+use Rattle.std.proofs.lemmas.Nat.{mul-le}
+use Rattle.std.specs.List.{sum_by, All, AllPairs, range_with_len, IsDistinct}
+use Rattle.std.specs.List.Sorted.{IsPermutation}
+use Rattle.std.proofs.lemmas.List.{get_or-map, length-map}
+use Rattle.std.proofs.lemmas.List.FromFn.{get_or-map-range_with_len, length-map-range_with_len}
+use Rattle.std.proofs.lemmas.List.Sorted.{IsPermutation-map, All-permutation, sum_by-IsPermutation}
+use Rattle.std.proofs.lemmas.List.Sums.{sum_by-cons}
+use Rattle.std.proofs.lemmas.List.Elements.{All-from_get_or}
+use Rattle.std.proofs.lemmas.Map.Keys.{IsDistinct-from_apart, IsDistinct-IsPermutation, apart_from_distinct}
+use Rattle.decision_rule.specs.Rule.{Rule, IsRule, IsRuleOver, StandsBefore, stands_before}
+use Rattle.decision_rule.specs.Least.{IsLeast}
+use Rattle.pattern_shapes.specs.Patterns.{pattern_count_of}
+use Rattle.decision_rule.specs.Filled.{Chances, chances_of, chances_at, HasWeightInRange, IsFilled}
+use Rattle.link_base.specs.declared.rule.RuleCell.{RuleCell}
+use Rattle.link_base.specs.declared.shares.FieldShares.{FieldShares}
+use Rattle.link_base.specs.Rule.{empty_cell}
+use Rattle.pattern_shapes.proofs.PatternLemmas.{weight_range}
+use Rattle.decision_rule.proofs.CutForm.{possible_bound_m, possible_bound_u, LinksEndAt-from_cut_form, NonlinksStartAt-from_cut_form}
+use Rattle.decision_rule.proofs.FilledLemmas.{all_chances, positive_cells, cut_form_from_filled}
+use Rattle.decision_rule.proofs.OrderLemmas.{stands_from_test}
+use Rattle.decision_rule.proofs.OneFilled.{Ranks, ranked_chances, ranked_cells}
+
+-- the patterns of the cells before a sort, and after
+pub permuted : (shares : List FieldShares) (filled ordered : List RuleCell) → map chances_of filled ≡ all_chances shares → IsPermutation filled ordered → IsPermutation (all_chances shares) (map chances_of ordered)
+permuted shares filled ordered e p = rw e at (IsPermutation-map chances_of filled ordered p)
+
+abbrev same_pattern : Chances → Chances → Bool
+same_pattern a b = eqb a.pattern b.pattern
+
+differ_before : (shares : List FieldShares) → IsDistinct same_pattern (all_chances shares)
+differ_before shares =
+    IsDistinct-from_apart same_pattern (all_chances shares)
+    (λ i j d lt there. let n = pattern_count_of shares in
+    let j_in : j < n = omega (arith, there, length-map-range_with_len (chances_at shares) 0 n) in
+    let i_in : i < n = omega (arith, lt, j_in) in
+    rw (get_or-map-range_with_len (chances_at shares) 0 n i i d i_in (omega arith), get_or-map-range_with_len (chances_at shares) 0 n j j d j_in (omega arith))
+    (grind (arith, nat_tests)))
+
+not_apart : (p q : ℕ) → p ≡ q → eqb p q ≡ false → ⊥
+not_apart p q e h = grind (arith, nat_tests)
+
+differ : (shares : List FieldShares) (cells : List RuleCell) → IsPermutation (all_chances shares) (map chances_of cells) → (i j : ℕ) (d : RuleCell) → i < j → j < length cells → (get_or cells i d).pattern ≡ (get_or cells j d).pattern → ⊥
+differ shares cells p i j d lt there e =
+    let apart = IsDistinct-IsPermutation same_pattern (λ x y. grind (arith, nat_tests)) _ _ p (differ_before shares) in
+    let i_in : i < length cells = omega arith in
+    let at = apart_from_distinct same_pattern (map chances_of cells) i j (chances_of d) apart lt (omega (arith, there, length-map cells chances_of)) in
+    let test = rw (get_or-map chances_of cells i d (chances_of d) i_in, get_or-map chances_of cells j d (chances_of d) there) at at in
+    not_apart _ _ e test
+
+pub in_order : (shares : List FieldShares) (cells : List RuleCell) → IsPermutation (all_chances shares) (map chances_of cells) → ((i j : ℕ) (d : RuleCell) → i < j → j < length cells → stands_before (get_or cells j d) (get_or cells i d) ≡ false) → AllPairs StandsBefore cells
+in_order shares cells p h i j d lt there =
+    let pos = positive_cells shares cells p in
+    stands_from_test (get_or cells i d) (get_or cells j d) (pos i d (omega (arith, lt, there))).1 (pos j d there).1 (differ shares cells p i j d lt there) (h i j d lt there)
+
+-- the order depends on the chances alone
+pub order_kept : (xs ys : List RuleCell) → map chances_of xs ≡ map chances_of ys → AllPairs StandsBefore ys → AllPairs StandsBefore xs
+order_kept xs ys e h = let ranks : AllPairs Ranks (map chances_of xs) = rw e (ranked_chances ys h) in ranked_cells xs ranks
+
+sum_by-map : {X Y : Type 0} (f : X → Y) (g : Y → ℕ) (xs : List X) → sum_by g (map f xs) ≡ sum_by (λ x. g (f x)) xs
+sum_by-map f g [] = refl
+sum_by-map f g (x ∷ xs) =
+    sum_by-cons g (f x) (map f xs) ∙ ap (λ n. g (f x) + n) (sum_by-map f g xs) ∙ sym (sum_by-cons (λ x. g (f x)) x xs)
+
+-- a sum over the cells is the sum over the patterns
+pub over_patterns : (shares : List FieldShares) (cells : List RuleCell) → IsPermutation (all_chances shares) (map chances_of cells) → (g : Chances → ℕ) → sum_by (λ c. g (chances_of c)) cells ≡ sum_by (λ p. g (chances_at shares p)) (range_with_len 0 (pattern_count_of shares))
+over_patterns shares cells p g =
+    sym (sum_by-map chances_of g cells) ∙ sum_by-IsPermutation g (all_chances shares) (map chances_of cells) p ∙ sum_by-map (chances_at shares) g (range_with_len 0 (pattern_count_of shares))
+
+-- the patterns of the cells are in range
+abbrev InRange : ℕ → Chances → Type 0
+InRange n ch = ch.pattern < n
+
+patterns_in_range : (shares : List FieldShares) (cells : List RuleCell) → IsPermutation (all_chances shares) (map chances_of cells) → All (λ (c : RuleCell). c.pattern < pattern_count_of shares) cells
+patterns_in_range shares cells perm =
+    let n = pattern_count_of shares in
+    let before : All (InRange n) (all_chances shares) = All-from_get_or (InRange n) (all_chances shares) (chances_of empty_cell)
+    (λ k lt. let in_range : k < n = omega (arith, lt, length-map-range_with_len (chances_at shares) 0 n) in
+    rw (get_or-map-range_with_len (chances_at shares) 0 n k k (chances_of empty_cell) in_range (omega arith)) in_range) in
+    let all = All-permutation (InRange n) _ _ perm before in
+    λ k d lt. let there : k < length (map chances_of cells) = omega (arith, lt, length-map cells chances_of) in
+    rw (get_or-map chances_of cells k d (chances_of d) lt) at (all k (chances_of d) there)
+
+pub rule_over : (shares : List FieldShares) (cells : List RuleCell) (d : ℕ) (r : Rule) → IsPermutation (all_chances shares) (map chances_of cells) → IsRule d (pattern_count_of shares) r → IsRuleOver d cells r
+rule_over shares cells d r perm h k e lt = h _ (patterns_in_range shares cells perm k e lt)
+
+pub least : (shares : List FieldShares) (mu lambda : ℕ) (cells : List RuleCell) → IsFilled shares mu lambda cells → IsLeast shares cells
+least shares mu lambda cells filled =
+    let w = cut_form_from_filled shares mu lambda cells filled in
+    let links = LinksEndAt-from_cut_form cells w.0 w.1 w.2 in
+    let nonlinks = NonlinksStartAt-from_cut_form cells w.0 w.1 w.2 in
+    let over = over_patterns shares cells filled.patterns in
+    record {
+      matched = λ d r h.
+          let m = over (λ ch. ch.u * r.link ch.pattern) in
+          let l = over (λ ch. ch.m * r.nonlink ch.pattern) in
+          let p = over (λ ch. ch.m * r.possible ch.pattern) in
+          rw (← p) (omega (arith, possible_bound_m cells w.0 w.1 0 0 d r links nonlinks (rule_over shares cells d r filled.patterns h.is_rule) (omega (arith, m, h.mu)) (omega (arith, l, h.lambda))));
+      unmatched = λ d r h.
+          let m = over (λ ch. ch.u * r.link ch.pattern) in
+          let l = over (λ ch. ch.m * r.nonlink ch.pattern) in
+          let p = over (λ ch. ch.u * r.possible ch.pattern) in
+          rw (← p) (omega (arith, possible_bound_u cells w.0 w.1 0 0 d r links nonlinks (rule_over shares cells d r filled.patterns h.is_rule) (omega (arith, m, h.mu)) (omega (arith, l, h.lambda))));
+    }
+
+pub total_small : (k : ℕ) → k ≤ 6 → 1024 ^ k ≤ 2 ^ 60
+total_small k h = pow-le-pow_right (omega arith) h
+
+pub asked_small : (ppm k : ℕ) → ppm ≤ 1000000 → k ≤ 6 → ppm * 1024 ^ k ≤ 1000000 * 2 ^ 60
+asked_small ppm k h le = mul-le ppm (1024 ^ k) 1000000 (2 ^ 60) h (total_small k le)
+
+abbrev IsWeightOf : ℕ → ℤ → Type 0
+IsWeightOf k w = ((pos 0 -ℤ pos (80 * k)) ≤ℤ w) × (w ≤ℤ pos (79 * k))
+
+of_six : (k : ℕ) (w : ℤ) → k ≤ 6 → IsWeightOf k w → (negsuc 479 ≤ℤ w) × (w ≤ℤ pos 474)
+of_six k w few h = (omega (arith, ints, h.0, few), omega (arith, ints, h.1, few))
+
+-- the weights of the cells are within the bounds of six fields
+pub weights_in_range : (shares : List FieldShares) (mu lambda : ℕ) (cells : List RuleCell) → length shares ≤ 6 → IsFilled shares mu lambda cells → All HasWeightInRange cells
+weights_in_range shares mu lambda cells few filled =
+    let n = pattern_count_of shares in
+    let before : All (λ (ch : Chances). IsWeightOf (length shares) ch.weight) (all_chances shares) = All-from_get_or (λ (ch : Chances). IsWeightOf (length shares) ch.weight) (all_chances shares) (chances_of empty_cell)
+    (λ k lt. let in_range : k < n = omega (arith, lt, length-map-range_with_len (chances_at shares) 0 n) in
+    rw (get_or-map-range_with_len (chances_at shares) 0 n k k (chances_of empty_cell) in_range (omega arith)) (weight_range shares k in_range)) in
+    let all = All-permutation (λ (ch : Chances). IsWeightOf (length shares) ch.weight) _ _ filled.patterns before in
+    λ k d lt. let there : k < length (map chances_of cells) = omega (arith, lt, length-map cells chances_of) in
+    of_six (length shares) _ few (rw (get_or-map chances_of cells k d (chances_of d) lt) at (all k (chances_of d) there))

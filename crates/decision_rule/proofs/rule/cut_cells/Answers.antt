@@ -1,0 +1,36 @@
+use Rattle.decision_rule.proofs.CutSteps.{links_kept}
+use Rattle.std.proofs.Common.{◌≡◌, ◌∙◌, map}
+use Rattle.decision_rule.specs.Filled.{chances_of}
+use Rattle.decision_rule.proofs.RuleLemmas.{permuted, in_order, order_kept, least, weights_in_range}
+use Rattle.decision_rule.proofs.FilledLemmas.{positive_cells}
+use Rattle.decision_rule.proofs.rule.cut_cells.Goals as goal
+
+pub cut_links-requires : goal.cut_links-requires
+cut_links-requires c =
+    let p = permuted c.args.shares.now c.fill.new.cells c.order.new.cells c.fill.ensures c.order.ensures.permutation in
+    λ k d lt. (positive_cells c.args.shares.now c.order.new.cells p k d lt).1
+
+pub cut_nonlinks-requires-clause-weights : goal.cut_nonlinks-requires-clause-weights
+cut_nonlinks-requires-clause-weights c =
+    let p = permuted c.args.shares.now c.fill.new.cells c.order.new.cells c.fill.ensures c.order.ensures.permutation in
+    let q = rw (← c.cut_links.ensures.chances) at p in
+    λ k d lt. (positive_cells c.args.shares.now c.cut_links.new.cells q k d lt).0
+
+pub returns-clause-filled : goal.returns-clause-filled
+returns-clause-filled c =
+    let p = permuted c.args.shares.now c.fill.new.cells c.order.new.cells c.fill.ensures c.order.ensures.permutation in
+    let same : map chances_of c.cut_nonlinks.new.cells ≡ map chances_of c.order.new.cells = c.cut_nonlinks.ensures.chances ∙ c.cut_links.ensures.chances in
+    let q = rw (← c.cut_links.ensures.chances) at p in
+    record {
+      patterns = rw same p;
+      in_order = order_kept c.cut_nonlinks.new.cells c.order.new.cells same (in_order c.args.shares.now c.order.new.cells p c.order.ensures.sorted);
+      rule = c.cut_nonlinks.ensures.bound;
+      links = links_kept c.cut_nonlinks.new.cells c.cut_links.new.cells _ c.cut_nonlinks.ensures.chances c.cut_nonlinks.ensures.same_links (λ k d lt. (positive_cells c.args.shares.now c.cut_links.new.cells q k d lt).1) (rw (← c.asked.ensures) c.cut_links.ensures.cut);
+      nonlinks = rw (← c.asked-2.ensures) c.cut_nonlinks.ensures.cut;
+    }
+
+pub returns-clause-least : goal.returns-clause-least
+returns-clause-least c = least c.args.shares.now c.args.mu_ppm c.args.lambda_ppm c.cut_nonlinks.new.cells (returns-clause-filled c)
+
+pub returns-clause-weights : goal.returns-clause-weights
+returns-clause-weights c = weights_in_range c.args.shares.now c.args.mu_ppm c.args.lambda_ppm c.cut_nonlinks.new.cells c.requires.fields (returns-clause-filled c)

@@ -1,0 +1,55 @@
+-- Randomised decision rules (Fellegi and Sunter 1969, section 2).
+use Rattle.std.specs.Prelude.{◌≡◌, ℕ, ◌+◌, ◌-◌, ◌*◌, ◌<◌, ◌⊎◌, Bool, ◌||◌, ◌&&◌, ◌==◌, nat_lt, max, List, sum_by, All}
+use Rattle.link_base.specs.declared.rule.RuleCell.{RuleCell}
+
+-- the share of a possible link in a cell, in 65,536ths
+abbrev pub possible_of : RuleCell → ℕ
+possible_of c = 65536 - c.link - c.nonlink
+
+-- the two error levels of a table, and its chances of a possible link among matched and unmatched pairs
+abbrev pub mu_of : List RuleCell → ℕ
+mu_of cells = sum_by (λ c. c.u * c.link) cells
+
+abbrev pub lambda_of : List RuleCell → ℕ
+lambda_of cells = sum_by (λ c. c.m * c.nonlink) cells
+
+abbrev pub possible_m_of : List RuleCell → ℕ
+possible_m_of cells = sum_by (λ c. c.m * possible_of c) cells
+
+abbrev pub possible_u_of : List RuleCell → ℕ
+possible_u_of cells = sum_by (λ c. c.u * possible_of c) cells
+
+-- a randomised rule gives each pattern three shares
+pub record Rule : Type 0 where
+  pub link : ℕ → ℕ
+  pub possible : ℕ → ℕ
+  pub nonlink : ℕ → ℕ
+
+-- the three shares of each of so many patterns add up to the denominator
+abbrev pub IsRule : ℕ → ℕ → Rule → Type 0
+IsRule denominator count r = (pattern : ℕ) → pattern < count → r.link pattern + r.possible pattern + r.nonlink pattern ≡ denominator
+
+-- the same of the patterns of these cells
+abbrev pub IsRuleOver : ℕ → List RuleCell → Rule → Type 0
+IsRuleOver denominator cells r = All (λ (c : RuleCell). r.link c.pattern + r.possible c.pattern + r.nonlink c.pattern ≡ denominator) cells
+
+-- the two levels and the two chances of a possible link of a rule over the patterns of a table
+abbrev pub rule_mu : Rule → List RuleCell → ℕ
+rule_mu r cells = sum_by (λ c. c.u * r.link c.pattern) cells
+
+abbrev pub rule_lambda : Rule → List RuleCell → ℕ
+rule_lambda r cells = sum_by (λ c. c.m * r.nonlink c.pattern) cells
+
+abbrev pub rule_possible_m : Rule → List RuleCell → ℕ
+rule_possible_m r cells = sum_by (λ c. c.m * r.possible c.pattern) cells
+
+abbrev pub rule_possible_u : Rule → List RuleCell → ℕ
+rule_possible_u r cells = sum_by (λ c. c.u * r.possible c.pattern) cells
+
+-- the first cell has the greater m/u, or an equal one and the smaller pattern
+abbrev pub StandsBefore : RuleCell → RuleCell → Type 0
+StandsBefore c d = (d.m * c.u < c.m * d.u) ⊎ ((c.m * d.u ≡ d.m * c.u) × (c.pattern < d.pattern))
+
+-- the same as a test, where a u of 0 is read as 1
+abbrev pub stands_before : RuleCell → RuleCell → Bool
+stands_before c d = nat_lt (d.m * max c.u 1) (c.m * max d.u 1) || (c.m * max d.u 1 == d.m * max c.u 1 && nat_lt c.pattern d.pattern)

@@ -1,0 +1,70 @@
+// The cells of all patterns, in the order of their numbers.
+ghost use Rattle.std.specs.Prelude.{◌≡◌, ℕ, ◌+◌, ◌≤◌, ◌<◌, map, length};
+ghost use Rattle.std.specs.List.{range_with_len};
+ghost use Rattle.pattern_shapes.specs.Patterns.{base_of, pattern_count_of};
+ghost use Rattle.decision_rule.specs.Filled.{chances_of, chances_at};
+
+use link_base::{FieldShares, RuleCell};
+use pattern_shapes::eighth_weight;
+
+/// How many outcomes a field has.
+fn base(field: &FieldShares) -> u16
+    ensures { result ≡ base_of field.now }
+{
+    if field.rare { 4 } else { 3 }
+}
+
+/// How many patterns the fields have.
+fn pattern_count(shares: &[FieldShares]) -> u16
+    requires { length shares.now ≤ 6 }
+    ensures { result ≡ pattern_count_of shares.now }
+{
+    let mut count = 1;
+    for field in shares {
+        count *= base(field);
+    }
+    count
+}
+
+/// The cell of a pattern, with nothing given yet.
+fn cell_of(shares: &[FieldShares], pattern: u16) -> RuleCell
+    requires fields { length shares.now ≤ 6 }
+    requires pattern { pattern < pattern_count_of shares.now }
+    ensures { chances_of result ≡ chances_at shares.now pattern }
+{
+    let mut below = pattern_count(shares);
+    let mut rest = pattern;
+    let mut m: u64 = 1;
+    let mut u: u64 = 1;
+    let mut weight: i32 = 0;
+    for field in shares {
+        below /= base(field);
+        let outcome = usize::from(rest / below);
+        rest %= below;
+        let share_m = field.m[outcome];
+        let share_u = field.u[outcome];
+        m *= u64::from(share_m);
+        u *= u64::from(share_u);
+        weight += i32::from(eighth_weight(share_m, share_u));
+    }
+    RuleCell {
+        pattern,
+        m,
+        u,
+        weight,
+        link: 0,
+        nonlink: 0,
+    }
+}
+
+/// Writes each pattern's cell at its number.
+pub fn fill(shares: &[FieldShares], cells: &mut [RuleCell])
+    requires fields { length shares.now ≤ 6 }
+    requires size { length cells.old ≡ pattern_count_of shares.now }
+    ensures { map chances_of cells.new
+        ≡ map (chances_at shares.now) (range_with_len 0 (pattern_count_of shares.now)) }
+{
+    for i in 0..cells.len() {
+        cells[i] = cell_of(shares, i as u16);
+    }
+}

@@ -1,0 +1,3 @@
+pub mod FrontierLemmas
+pub mod FallLemmas
+pub mod RowLemmas

@@ -1,0 +1,37 @@
+-- The rows of the frontier.
+use Rattle.std.specs.Prelude.{◌≡◌, ℕ, ◌+◌, ◌*◌, ◌^◌, ◌≤◌, List, length}
+use Rattle.link_base.specs.declared.rule.RuleCell.{RuleCell}
+use Rattle.link_base.specs.declared.shares.FieldShares.{FieldShares}
+use Rattle.pattern_shapes.specs.Patterns.{m_of, u_of}
+use Rattle.decision_rule.specs.Least.{sum_over}
+use Rattle.decision_rule.specs.Rule.{Rule, mu_of, lambda_of, possible_m_of, possible_u_of}
+use Rattle.decision_rule.specs.Filled.{IsFilled}
+use Rattle.level_frontier.specs.declared.levels.FrontierRow.{FrontierRow}
+use Rattle.level_frontier.specs.Asked.{IsWithinAsked}
+use Rattle.level_frontier.specs.Borders.{slack_m_of, slack_u_of}
+
+-- the four sums and the slack of a table
+pub record HasLevelsOf (shares : List FieldShares) (cells : List RuleCell) (row : FrontierRow) : Type 0 where
+  pub denominator : row.levels.denominator ≡ 1024 ^ length shares * 65536
+  pub mu : row.levels.mu ≡ mu_of cells
+  pub lambda : row.levels.lambda ≡ lambda_of cells
+  pub possible_m : row.levels.possible_m ≡ possible_m_of cells
+  pub possible_u : row.levels.possible_u ≡ possible_u_of cells
+  pub slack_m : row.slack_m ≡ slack_m_of cells
+  pub slack_u : row.slack_u ≡ slack_u_of cells
+
+-- the row of asked levels is that of their filled table
+abbrev pub IsFrontierRow : List FieldShares → ℕ → ℕ → FrontierRow → Type 0
+IsFrontierRow shares mu_ppm lambda_ppm row = (cells : List RuleCell) × IsFilled shares mu_ppm lambda_ppm cells × HasLevelsOf shares cells row
+
+-- the chances of a possible link fall from one row to another, or stay
+pub record FallsTo (before after : FrontierRow) : Type 0 where
+  pub matched : after.levels.possible_m ≤ before.levels.possible_m
+  pub unmatched : after.levels.possible_u ≤ before.levels.possible_u
+
+-- no rule at the asked levels has a chance of a possible link that is lower than that of the row by more than its slack
+pub record IsNearLeast (shares : List FieldShares) (mu_ppm lambda_ppm : ℕ) (row : FrontierRow) : Type 0 where
+  pub matched : (denominator : ℕ) (r : Rule) → IsWithinAsked shares mu_ppm lambda_ppm denominator r
+      → denominator * row.levels.possible_m ≤ 65536 * sum_over shares (m_of shares) r.possible + denominator * row.slack_m
+  pub unmatched : (denominator : ℕ) (r : Rule) → IsWithinAsked shares mu_ppm lambda_ppm denominator r
+      → denominator * row.levels.possible_u ≤ 65536 * sum_over shares (u_of shares) r.possible + denominator * row.slack_u

@@ -1,0 +1,95 @@
+// The rows of the frontier.
+ghost use Rattle.std.specs.Prelude.{◌≡◌, ℕ, ◌<◌, ◌≤◌, length, slice_index, slice_index_or, vec_len, All};
+ghost use Rattle.pattern_shapes.specs.Patterns.{pattern_count_of};
+
+use crate::borders::{link_border, matched_chance, nonlink_border, unmatched_chance};
+use decision_rule::{attained, cut_rule};
+use link_base::{FieldShares, Levels, RuleTable};
+
+/// The attained levels of one asked level of links, and what one 65,536th of each border pattern is worth: how much
+/// lower a chance of a possible link any rule at the asked levels can have, in the unit of the levels.
+#[derive(Clone, Copy, Debug, PartialEq, Eq)]
+pub struct FrontierRow {
+    pub levels: Levels,
+    pub slack_m: u64,
+    pub slack_u: u64,
+}
+
+ghost use Rattle.level_frontier.specs.Frontier.{FallsTo, IsFrontierRow, IsNearLeast};
+ghost use Rattle.level_frontier.specs.declared.levels.FrontierRow.{FrontierRow};
+
+/// The row of each asked level of links in `mus`, all with the asked level `lambda_ppm` of non-links, in parts per
+/// million. The cells of the table are used on the way.
+pub fn frontier(
+    shares: &[FieldShares],
+    lambda_ppm: u32,
+    mus: &[u32],
+    table: &mut RuleTable,
+    rows: &mut [FrontierRow],
+)
+    requires fields { length shares.now ≤ 6 }
+    requires mus { All (λ mu. mu ≤ 1000000) mus.now }
+    requires lambda { lambda_ppm ≤ 1000000 }
+    requires size { vec_len table.old.cells ≡ pattern_count_of shares.now }
+    requires rows { length rows.old ≡ length mus.now }
+    ensures size { vec_len table.new.cells ≡ vec_len table.old.cells }
+    ensures rows { (k : ℕ) (d : FrontierRow) → k < length mus.now
+        → IsFrontierRow shares.now (slice_index mus.now k) lambda_ppm (slice_index_or rows.new k d) }
+
+    // A higher asked level of links gives no higher chance of a possible link.
+    ensures falling { (j k : ℕ) (d : FrontierRow) → j < length mus.now → k < length mus.now
+        → slice_index mus.now j ≤ slice_index mus.now k
+        → FallsTo (slice_index_or rows.new j d) (slice_index_or rows.new k d) }
+
+    // No randomised rule at the asked levels does better than a row by more than its slack.
+    ensures near_least { (k : ℕ) (d : FrontierRow) → k < length mus.now
+        → IsNearLeast shares.now (slice_index mus.now k) lambda_ppm (slice_index_or rows.new k d) }
+{
+    fill_rows(shares, lambda_ppm, mus, table, rows);
+}
+
+/// Writes each row.
+fn fill_rows(
+    shares: &[FieldShares],
+    lambda_ppm: u32,
+    mus: &[u32],
+    table: &mut RuleTable,
+    rows: &mut [FrontierRow],
+)
+    requires fields { length shares.now ≤ 6 }
+    requires mus { All (λ mu. mu ≤ 1000000) mus.now }
+    requires lambda { lambda_ppm ≤ 1000000 }
+    requires size { vec_len table.old.cells ≡ pattern_count_of shares.now }
+    requires rows { length rows.old ≡ length mus.now }
+    ensures size { vec_len table.new.cells ≡ vec_len table.old.cells }
+    ensures rows { (k : ℕ) (d : FrontierRow) → k < length mus.now
+        → IsFrontierRow shares.now (slice_index mus.now k) lambda_ppm (slice_index_or rows.new k d) }
+{
+    for k in 0..mus.len() {
+        rows[k] = row_of(shares, mus[k], lambda_ppm, table);
+    }
+}
+
+/// The row of one asked level.
+fn row_of(
+    shares: &[FieldShares],
+    mu_ppm: u32,
+    lambda_ppm: u32,
+    table: &mut RuleTable,
+) -> FrontierRow
+    requires fields { length shares.now ≤ 6 }
+    requires mu { mu_ppm ≤ 1000000 }
+    requires lambda { lambda_ppm ≤ 1000000 }
+    requires size { vec_len table.old.cells ≡ pattern_count_of shares.now }
+    ensures size { vec_len table.new.cells ≡ vec_len table.old.cells }
+    ensures row { IsFrontierRow shares.now mu_ppm lambda_ppm result }
+{
+    cut_rule(shares, mu_ppm, lambda_ppm, table);
+    let link = link_border(table.cells());
+    let nonlink = nonlink_border(table.cells());
+    FrontierRow {
+        levels: attained(shares.len() as u8, table),
+        slack_m: matched_chance(link) + matched_chance(nonlink),
+        slack_u: unmatched_chance(link) + unmatched_chance(nonlink),
+    }
+}

@@ -1,0 +1,5 @@
+pub mod PowerLemmas
+pub mod WeightLemmas
+pub mod PatternLemmas
+pub mod Digits
+pub mod WholeLemmas

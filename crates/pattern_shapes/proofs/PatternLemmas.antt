@@ -1,0 +1,109 @@
+-- The chances and the weight of a pattern, field by field.
+use Rattle.std.proofs.Common.{ℕ, Bool, true, cond, leb, zero, suc, ◌≡◌, ◌+◌, ◌*◌, ◌/◌, ◌%◌, ◌^◌, ◌<◌, ◌≤◌, List, [], ◌∷◌, length, arith, get_or}
+use Rattle.std.specs.Prelude.{pos, ◌-ℤ◌, ◌≤ℤ◌}
+use Rattle.std.specs.List.{count_by, range_with_len}
+use Rattle.std.proofs.Math.Nat.{pow-le-pow_left}
+use Rattle.std.proofs.lemmas.Int.{ints}
+use Rattle.std.proofs.lemmas.Bool.{le-leb}
+use Rattle.std.proofs.lemmas.Nat.{div_below, mod_below, mul-le, pow-add}
+use Rattle.std.proofs.lemmas.List.{length-map}
+use Rattle.std.proofs.lemmas.List.FromFn.{length-range_with_len}
+use Rattle.std.proofs.lemmas.List.Sums.{sum_by-cons, count_by-le-length}
+use Rattle.link_base.specs.Shares.{IsShares, outcomes_of}
+use Rattle.link_base.specs.declared.shares.FieldShares.{FieldShares}
+use Rattle.pattern_shapes.specs.Weight.{eighth_weight_of}
+use Rattle.pattern_shapes.specs.Patterns.{base_of, pattern_count_of, rare_in, m_of, u_of, weight_of}
+use Rattle.pattern_shapes.proofs.Digits.{count-pos, count-le, outcomes_bounds}
+
+pub base_some : (field : FieldShares) → (1 ≤ base_of field) × (base_of field ≤ 4)
+base_some field = let base = outcomes_bounds field.rare in (omega (arith, base.0), base.1)
+
+pub pattern_count_pos : (shares : List FieldShares) → 0 < pattern_count_of shares
+pattern_count_pos shares = omega (arith, count-pos (rare_in shares))
+
+pub pattern_count_small : (shares : List FieldShares) → length shares ≤ 6 → pattern_count_of shares ≤ 4096
+pattern_count_small shares few = omega (arith, count-le (rare_in shares) 6 (simp length-map few))
+
+pub share_bounds : (rare : Bool) (xs : List ℕ) (k : ℕ) → IsShares (outcomes_of rare) xs → k < outcomes_of rare → (1 ≤ get_or xs k 0) × (get_or xs k 0 ≤ 1022)
+share_bounds rare (a ∷ b ∷ c ∷ d ∷ []) zero h lt = let n = (outcomes_bounds rare).0 in (h.1 0 lt, omega (arith, h.3, h.1 1 (omega (arith, n)), h.1 2 (omega (arith, n))))
+share_bounds rare (a ∷ b ∷ c ∷ d ∷ []) (suc zero) h lt = let n = (outcomes_bounds rare).0 in (h.1 1 lt, omega (arith, h.3, h.1 0 (omega (arith, n)), h.1 2 (omega (arith, n))))
+share_bounds rare (a ∷ b ∷ c ∷ d ∷ []) (suc (suc zero)) h lt = let n = (outcomes_bounds rare).0 in (h.1 2 lt, omega (arith, h.3, h.1 0 (omega (arith, n)), h.1 1 (omega (arith, n))))
+share_bounds rare (a ∷ b ∷ c ∷ d ∷ []) (suc (suc (suc zero))) h lt = let n = (outcomes_bounds rare).0 in (h.1 3 lt, omega (arith, h.3, h.1 0 (omega (arith, n)), h.1 1 (omega (arith, n))))
+share_bounds rare (a ∷ b ∷ c ∷ d ∷ []) (suc (suc (suc (suc k)))) h lt = absurd (omega (arith, lt, (outcomes_bounds rare).1))
+share_bounds rare [] k h lt = absurd (omega (arith, h.0))
+share_bounds rare (a ∷ []) k h lt = absurd (omega (arith, h.0))
+share_bounds rare (a ∷ b ∷ []) k h lt = absurd (omega (arith, h.0))
+share_bounds rare (a ∷ b ∷ c ∷ []) k h lt = absurd (omega (arith, h.0))
+share_bounds rare (a ∷ b ∷ c ∷ d ∷ e ∷ xs) k h lt = absurd (omega (arith, h.0))
+
+-- the digit of the first field, in range, and the share there
+first_in : (field : FieldShares) (fields : List FieldShares) (pattern : ℕ) → pattern < pattern_count_of (field ∷ fields) → pattern / pattern_count_of fields < base_of field
+first_in field fields pattern lt = div_below pattern (pattern_count_of fields) (base_of field) (pattern_count_pos fields) lt
+
+later_in : (fields : List FieldShares) (pattern : ℕ) → pattern % pattern_count_of fields < pattern_count_of fields
+later_in fields pattern = mod_below pattern (pattern_count_of fields) (pattern_count_pos fields)
+
+pub m_of_pos : (shares : List FieldShares) (pattern : ℕ) → pattern < pattern_count_of shares → 0 < m_of shares pattern
+m_of_pos [] pattern lt = omega arith
+m_of_pos (field ∷ fields) pattern lt =
+    let share : 1 ≤ get_or field.m (pattern / pattern_count_of fields) 0 = field.of_matched.1 _ (first_in field fields pattern lt) in
+    let rest : 1 ≤ m_of fields (pattern % pattern_count_of fields) = omega (arith, m_of_pos fields (pattern % pattern_count_of fields) (later_in fields pattern)) in
+    omega (arith, mul-le 1 1 _ _ share rest)
+
+pub u_of_pos : (shares : List FieldShares) (pattern : ℕ) → pattern < pattern_count_of shares → 0 < u_of shares pattern
+u_of_pos [] pattern lt = omega arith
+u_of_pos (field ∷ fields) pattern lt =
+    let share : 1 ≤ get_or field.u (pattern / pattern_count_of fields) 0 = field.of_unmatched.1 _ (first_in field fields pattern lt) in
+    let rest : 1 ≤ u_of fields (pattern % pattern_count_of fields) = omega (arith, u_of_pos fields (pattern % pattern_count_of fields) (later_in fields pattern)) in
+    omega (arith, mul-le 1 1 _ _ share rest)
+
+product_small : (share rest n : ℕ) → share ≤ 1022 → rest ≤ 1024 ^ n → share * rest ≤ 1024 ^ (n + 1)
+product_small share rest n h k =
+    let p : 1024 ^ (n + 1) ≡ 1024 ^ n * 1024 ^ 1 = pow-add 1024 n 1 in
+    let most : share * rest ≤ 1024 * 1024 ^ n = mul-le share rest 1024 (1024 ^ n) (omega (arith, h)) k in
+    rw p (omega (arith, most))
+
+-- a chance is at most the whole
+pub m_of_small : (shares : List FieldShares) (pattern : ℕ) → pattern < pattern_count_of shares → m_of shares pattern ≤ 1024 ^ length shares
+m_of_small [] pattern lt = omega arith
+m_of_small (field ∷ fields) pattern lt =
+    let share = share_bounds field.rare field.m (pattern / pattern_count_of fields) field.of_matched (first_in field fields pattern lt) in
+    let one : length (field ∷ fields) ≡ length fields + 1 = omega arith in
+    rw one (product_small _ _ (length fields) share.1 (m_of_small fields (pattern % pattern_count_of fields) (later_in fields pattern)))
+
+pub u_of_small : (shares : List FieldShares) (pattern : ℕ) → pattern < pattern_count_of shares → u_of shares pattern ≤ 1024 ^ length shares
+u_of_small [] pattern lt = omega arith
+u_of_small (field ∷ fields) pattern lt =
+    let share = share_bounds field.rare field.u (pattern / pattern_count_of fields) field.of_unmatched (first_in field fields pattern lt) in
+    let one : length (field ∷ fields) ≡ length fields + 1 = omega arith in
+    rw one (product_small _ _ (length fields) share.1 (u_of_small fields (pattern % pattern_count_of fields) (later_in fields pattern)))
+
+count_first : (p : ℕ → Bool) (n : ℕ) → p 0 ≡ true → 1 ≤ count_by p (range_with_len 0 (suc n))
+count_first p n first =
+    rw (sum_by-cons (λ x. cond (p x) 1 0) 0 (range_with_len 1 n), first) (omega arith)
+
+count_most : (p : ℕ → Bool) (n : ℕ) → count_by p (range_with_len 0 n) ≤ n
+count_most p n = omega (arith, count_by-le-length p (range_with_len 0 n), length-range_with_len 0 n)
+
+between : (c : ℕ) → 1 ≤ c → c ≤ 160 → ((pos 0 -ℤ pos 80) ≤ℤ (pos c -ℤ pos 81)) × ((pos c -ℤ pos 81) ≤ℤ pos 79)
+between c some most = (omega (arith, ints), omega (arith, ints))
+
+eighth_range : (m u : ℕ) → 1 ≤ m → u ≤ 1022 → ((pos 0 -ℤ pos 80) ≤ℤ eighth_weight_of m u) × (eighth_weight_of m u ≤ℤ pos 79)
+unfolding eighth_weight_of
+eighth_range m u some small =
+    let p : ℕ → Bool = λ n. leb (u ^ 8 * 2 ^ n) (m ^ 8 * 2 ^ 80) in
+    let um : u ^ 8 ≤ 1022 ^ 8 = pow-le-pow_left small 8 in
+    let mm : 1 ^ 8 ≤ m ^ 8 = pow-le-pow_left some 8 in
+    let first : p 0 ≡ true = le-leb _ _ (omega (arith, um, mm)) in
+    between (count_by p (range_with_len 0 160)) (count_first p 159 first) (count_most p 160)
+
+-- a pattern's weight is within 80 eighths a field below, and 79 above
+pub weight_range : (shares : List FieldShares) (pattern : ℕ) → pattern < pattern_count_of shares → ((pos 0 -ℤ pos (80 * length shares)) ≤ℤ weight_of shares pattern) × (weight_of shares pattern ≤ℤ pos (79 * length shares))
+weight_range [] pattern lt = (omega (arith, ints), omega (arith, ints))
+weight_range (field ∷ fields) pattern lt =
+    let digit = first_in field fields pattern lt in
+    let m = share_bounds field.rare field.m (pattern / pattern_count_of fields) field.of_matched digit in
+    let u = share_bounds field.rare field.u (pattern / pattern_count_of fields) field.of_unmatched digit in
+    let first = eighth_range _ _ m.0 u.1 in
+    let rest = weight_range fields (pattern % pattern_count_of fields) (later_in fields pattern) in
+    (omega (arith, ints, first.0, rest.0), omega (arith, ints, first.1, rest.1))

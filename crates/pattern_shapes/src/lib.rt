@@ -1,0 +1,13 @@
+//! Comparison patterns as numbers, and the weight of an outcome.
+#![tactic(auto)]
+
+mod laws;
+mod shapes;
+mod weight;
+
+pub use laws::chances;
+pub use shapes::{outcome_of, pattern_count};
+pub use weight::eighth_weight;
+
+#[cfg(test)]
+mod tests;

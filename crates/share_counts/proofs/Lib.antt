@@ -1,0 +1,2 @@
+pub mod RankFour
+pub mod RemainderLemmas

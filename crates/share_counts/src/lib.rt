@@ -1,0 +1,9 @@
+//! The shares of counted outcomes, in 1,024ths.
+#![tactic(auto)]
+
+mod remainders;
+
+pub use remainders::{shares, shares4};
+
+#[cfg(test)]
+mod tests;
