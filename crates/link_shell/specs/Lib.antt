@@ -4,3 +4,4 @@ pub mod ColumnPairs
 pub mod Outcome
 pub mod Causes
 pub mod Linked
+pub mod KeysText

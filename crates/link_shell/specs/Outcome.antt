@@ -5,9 +5,10 @@ use Rattle.link_base.specs.declared.fault.Fault.{Fault}
 use Rattle.link_base.specs.declared.fault.Fault.TheVariants as fault
 use Rattle.link_outside.specs.Outside.{Held, held_with}
 use Rattle.link_outside.specs.declared.outside.StoreCall.{StoreCall}
-use Rattle.link_shell.specs.Words.{Columns, Command, command_of, pairs_of_columns}
+use Rattle.link_shell.specs.Words.{Columns, Command, command_of, keys, pairs_of_columns}
 use Rattle.link_shell.specs.Loads.{both_loaded, IsColumnLoad}
 use Rattle.link_shell.specs.ColumnPairs.{text_of_files}
+use Rattle.link_shell.specs.KeysText.{keys_text}
 use Rattle.link_shell.specs.declared.command.Ended.{Ended}
 use Rattle.link_shell.specs.declared.command.Ended.TheVariants.{Done}
 
@@ -40,6 +41,7 @@ outcome_of_columns w held = and_then (both_loaded w held) (λ inputs. due_text (
 
 abbrev pub outcome_of : Command → Held → Result Due Fault
 outcome_of (pairs_of_columns w) held = outcome_of_columns w held
+outcome_of (keys words) held = Ok (text_due (keys_text words))
 
 abbrev pub outcome_of_words : Option Command → Held → Result Due Fault
 outcome_of_words None held = Err fault.Usage
@@ -51,6 +53,7 @@ outcome words held = outcome_of_words (command_of words) held
 -- the calls of a command's store that may fail, each once the steps before it are passed
 abbrev pub IsPlaceOf : Command → Held → StoreCall → Type 0
 IsPlaceOf (pairs_of_columns w) held call = IsColumnLoad w held call
+IsPlaceOf (keys words) held call = ⊥
 
 abbrev pub IsPlace : Option Command → Held → StoreCall → Type 0
 IsPlace None held call = ⊥

@@ -1,19 +1,21 @@
 // The top calls.
-ghost use Rattle.std.specs.Prelude.{◌≡◌, ◌≤◌, List, map, Result, string_bytes, ℕ};
+ghost use Rattle.std.specs.Prelude.{◌≡◌, ◌≤◌, List, map, Ok, Result, string_bytes, ℕ};
 ghost use Rattle.link_base.specs.declared.fault.Fault.{Fault as AnyFault};
 ghost use Rattle.link_outside.specs.Outside.{Rose};
 ghost use Rattle.link_shell.specs.Causes.{Ends, HasOutCause, IsComplete, IsExactUsage, IsNoStoreFault, IsNoUsage, IsQuiet, Stands, Takes};
 ghost use Rattle.link_shell.specs.ColumnPairs.{text_of_files};
+ghost use Rattle.link_shell.specs.KeysText.{keys_text};
 ghost use Rattle.link_shell.specs.Linked.{Performed, Reported};
 ghost use Rattle.link_shell.specs.Loads.{HasStoreCause, IsColumnLoad};
-ghost use Rattle.link_shell.specs.Outcome.{due_text, IsPlace, outcome, outcome_of_columns};
+ghost use Rattle.link_shell.specs.Outcome.{due_text, IsPlace, outcome, outcome_of_columns, text_due};
 ghost use Rattle.link_shell.specs.Words.{columns_of_request, command_of};
 ghost use Rattle.link_shell.specs.declared.command.Ended.{Ended as AnyEnded};
 
 use crate::columns::text_for_files;
+use crate::keys::lines_of;
 use crate::load::{Inputs, load_both};
 use crate::words::{ColumnRequest, Command, read_command};
-use link_base::{Fault, status_of};
+use link_base::{Fault, NoMemory, status_of};
 use link_outside::{Sink, SinkError, Store, write_fault};
 use std::alloc::Global;
 
@@ -24,6 +26,22 @@ pub enum Ended {
     Done,
     /// It verified files, and they do not meet their definitions.
     Refuted,
+}
+
+// Hands a text to `out`.
+fn hand<O: Sink>(alloc: Global, text: &[u8], out: &mut O) -> Result<Ended, Fault>
+    ensures answer { Ends (Ok (text_due text.now)) result }
+    ensures no_store_fault { IsNoStoreFault result }
+    ensures no_usage { IsNoUsage result }
+    ensures output { O.tells → Takes (Ok (text_due text.now)) (O.taken out.old) (O.taken out.new) result }
+    ensures later { O.faults out.old ≤ O.faults out.new }
+    ensures cause { HasOutCause (O.faults out.old) (O.faults out.new) result }
+{
+    match out.put_all(alloc, text) {
+        Ok(()) => Ok(Ended::Done),
+        Err(SinkError::Failed) => Err(Fault::SinkFault),
+        Err(SinkError::NoMemory) => Err(Fault::NoMemory),
+    }
 }
 
 // Hands the text of two loaded files to `out`.
@@ -41,12 +59,23 @@ fn hand_pairs<O: Sink>(
     ensures cause { HasOutCause (O.faults out.old) (O.faults out.new) result }
 {
     match text_for_files(alloc, column, inputs.a.bytes(), inputs.b.bytes()) {
-        Ok(text) => match out.put_all(alloc, text.bytes()) {
-            Ok(()) => Ok(Ended::Done),
-            Err(SinkError::Failed) => Err(Fault::SinkFault),
-            Err(SinkError::NoMemory) => Err(Fault::NoMemory),
-        },
+        Ok(text) => hand(alloc, text.bytes(), out),
         Err(fault) => Err(fault),
+    }
+}
+
+// Does `keys WORD..`.
+fn perform_keys<O: Sink>(alloc: Global, words: &[String], out: &mut O) -> Result<Ended, Fault>
+    ensures answer { Ends (Ok (text_due (keys_text (map string_bytes words.now)))) result }
+    ensures no_store_fault { IsNoStoreFault result }
+    ensures no_usage { IsNoUsage result }
+    ensures output { O.tells → Takes (Ok (text_due (keys_text (map string_bytes words.now)))) (O.taken out.old) (O.taken out.new) result }
+    ensures later { O.faults out.old ≤ O.faults out.new }
+    ensures cause { HasOutCause (O.faults out.old) (O.faults out.new) result }
+{
+    match lines_of(alloc, words) {
+        Ok(lines) => hand(alloc, &lines, out),
+        Err(NoMemory) => Err(Fault::NoMemory),
     }
 }
 
@@ -96,6 +125,7 @@ pub fn perform<S: Store, O: Sink>(
 {
     match read_command(words) {
         Some(Command::PairsOfColumns(request)) => perform_columns(alloc, &request, store, out),
+        Some(Command::Keys(rest)) => perform_keys(alloc, rest, out),
         None => Err(Fault::Usage),
     }
 }

@@ -4,6 +4,7 @@
 
 mod columns;
 mod command;
+mod keys;
 mod load;
 mod report;
 mod words;

@@ -39,7 +39,7 @@ fn repeated(
 #[test]
 fn pairs_are_printed_and_refusals_named(rt: HostRuntime) -> Result<(), Fail> {
     let alloc = rt.alloc();
-    let rows: [(&[u8], &[&str], u8, &[u8], &[u8]); 11] = [
+    let rows: [(&[u8], &[&str], u8, &[u8], &[u8]); 15] = [
         (
             A,
             &["pairs", "a", "b", "surname"],
@@ -99,6 +99,22 @@ fn pairs_are_printed_and_refusals_named(rt: HostRuntime) -> Result<(), Fail> {
             b"linkage: usage\n",
         ),
         (A, &[], 2, b"", b"linkage: usage\n"),
+        (
+            b"",
+            &["keys", "Ashcraft", "Pfister", "Tymczak", "Lloyd"],
+            0,
+            b"ASHCRAFT,A261,ASCRAF\nPFISTER,P236,FASTAR\nTYMCZAK,T522,TYNCSA\nLLOYD,L300,LAYD\n",
+            b"",
+        ),
+        (
+            b"",
+            &["keys", "MacDonald", "Lee", "Knuth", "Schmidt"],
+            0,
+            b"MACDONALD,M235,MCDANA\nLEE,L000,LY\nKNUTH,K530,NAT\nSCHMIDT,S530,SNAD\n",
+            b"",
+        ),
+        (b"", &["keys", "42", "-"], 0, b"42,,\n,,\n", b""),
+        (b"", &["keys"], 2, b"", b"linkage: usage\n"),
     ];
     for (a, command, status, out, err) in rows {
         let mut store = SureStore::new(alloc)?;

@@ -1,6 +1,7 @@
 // The words of a command.
-ghost use Rattle.std.specs.Prelude.{◌≡◌, ◌<◌, [], length, map, option_map, slice_index_or, string_bytes};
-ghost use Rattle.link_shell.specs.Words.{command_in, command_of, is_short_word};
+ghost use Rattle.std.specs.Prelude.{◌≡◌, ◌<◌, [], drop, IfSome, is_some, length, map, nat_le, option_map, slice_index_or, string_bytes};
+ghost use Rattle.std.specs.List.{list_all};
+ghost use Rattle.link_shell.specs.Words.{are_column_words, are_keys_words, columns_in, columns_of_request, command_in, command_of, is_short_word};
 
 /// The files and the column of `pairs A B COLUMN`.
 #[derive(Clone, Copy, Debug)]
@@ -14,6 +15,8 @@ pub(crate) struct ColumnRequest<'w> {
 #[derive(Clone, Copy, Debug)]
 pub(crate) enum Command<'w> {
     PairsOfColumns(ColumnRequest<'w>),
+    // The words that are standardised.
+    Keys(&'w [String]),
 }
 
 #[tactic(auto, using(crate::proofs::WordFacts::word_there))]
@@ -31,9 +34,10 @@ fn is_short(word: &str) -> bool
     1 <= word.len() && word.len() <= 255
 }
 
-/// The command that the words are a form of.
-pub(crate) fn read_command(words: &[String]) -> Option<Command<'_>>
-    ensures { option_map command_in result ≡ command_of (map string_bytes words.now) }
+// pairs A B COLUMN
+fn read_columns(words: &[String]) -> Option<ColumnRequest<'_>>
+    ensures some { is_some result ≡ are_column_words (map string_bytes words.now) }
+    ensures request { IfSome result (λ r. columns_of_request r ≡ columns_in (map string_bytes words.now)) }
 {
     if words.len() != 4 || word_at(words, 0) != "pairs" {
         return None;
@@ -42,8 +46,47 @@ pub(crate) fn read_command(words: &[String]) -> Option<Command<'_>>
     let b = word_at(words, 2);
     let column = word_at(words, 3);
     if is_short(a) && is_short(b) && is_short(column) {
-        Some(Command::PairsOfColumns(ColumnRequest { a, b, column }))
+        Some(ColumnRequest { a, b, column })
     } else {
         None
+    }
+}
+
+// Whether each word has at most 255 bytes.
+fn are_within(words: &[String]) -> bool
+    ensures { result ≡ list_all (λ w. nat_le (length w) 255) (map string_bytes words.now) }
+{
+    for word in words {
+        if word.as_str().len() > 255 {
+            return false;
+        }
+    }
+    true
+}
+
+// keys WORD..
+#[tactic(auto, using(crate::proofs::WordFacts::words_after_first))]
+fn read_keys(words: &[String]) -> Option<&[String]>
+    ensures some { is_some result ≡ are_keys_words (map string_bytes words.now) }
+    ensures rest { IfSome result (λ rest. map string_bytes rest.now ≡ drop 1 (map string_bytes words.now)) }
+{
+    if words.len() < 2 || words.len() > 101 || word_at(words, 0) != "keys" {
+        return None;
+    }
+    let rest = &words[1..];
+    if are_within(rest) { Some(rest) } else { None }
+}
+
+/// The command that the words are a form of.
+pub(crate) fn read_command(words: &[String]) -> Option<Command<'_>>
+    ensures { option_map command_in result ≡ command_of (map string_bytes words.now) }
+{
+    match read_columns(words) {
+        Some(request) => return Some(Command::PairsOfColumns(request)),
+        None => {}
+    }
+    match read_keys(words) {
+        Some(rest) => return Some(Command::Keys(rest)),
+        None => return None,
     }
 }
