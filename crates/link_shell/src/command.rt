@@ -90,10 +90,11 @@ fn perform_columns<S: Store, O: Sink>(
     ensures no_usage { IsNoUsage result }
     ensures output { S.tells → O.tells → Takes (outcome_of_columns (columns_of_request request.now) (S.held store.old)) (O.taken out.old) (O.taken out.new) result }
     ensures quiet { O.tells → IsQuiet (O.taken out.old) (O.taken out.new) result }
-    ensures unchanged { S.held store.new ≡ S.held store.old }
+    ensures stands { S.tells → Stands (outcome_of_columns (columns_of_request request.now) (S.held store.old)) (S.held store.old) (S.held store.new) result }
     ensures store_cause { HasStoreCause (S.faults store.old) (S.faults store.new) (λ call. S.tells → IsColumnLoad (columns_of_request request.now) (S.held store.old) call) result }
     ensures out_later { O.faults out.old ≤ O.faults out.new }
     ensures out_cause { HasOutCause (O.faults out.old) (O.faults out.new) result }
+    ensures complete { S.tells → S.faults store.new ≡ S.faults store.old → ¬ (Rose (O.faults out.old) (O.faults out.new)) → IsComplete (outcome_of_columns (columns_of_request request.now) (S.held store.old)) result }
 {
     match load_both(alloc, store, request) {
         Ok(inputs) => hand_pairs(alloc, request.column, &inputs, out),
