@@ -1,0 +1,5 @@
+pub mod Documents
+pub mod Parts
+pub mod Sharing
+pub mod GivenShares
+pub mod WordTables

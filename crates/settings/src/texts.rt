@@ -1,0 +1,126 @@
+// Texts and numbers in their ranges.
+ghost use Rattle.std.specs.Prelude.{◌≡◌, ◌^◌, ◌-◌};
+ghost use Rattle.std.specs.List.{list_all};
+ghost use Rattle.link_base.specs.Tables.{is_word_byte};
+ghost use Rattle.settings_readers.specs.Values.{whole};
+ghost use Rattle.settings.specs.Values.{is_output, is_name_byte, fits, text};
+
+use link_base::{Fault, Text};
+use settings_readers::{Place, Reader, whole_number};
+use std::alloc::Global;
+use toml::Value;
+
+/// Which texts are in range at a key.
+#[derive(Clone, Copy)]
+pub(crate) enum TextRule {
+    /// A file that is read: 1 to 255 bytes, and none of the files that a run writes.
+    File,
+    /// 1 to 255 bytes.
+    Label,
+    /// At most 64 bytes.
+    Mark,
+    /// 1 to 32 bytes of A to Z and 0 to 9.
+    Word,
+    /// 1 to 32 bytes of a to z, 0 to 9 and _.
+    FieldName,
+}
+
+fn is_output(text: &str) -> bool
+    ensures { result ≡ is_output text.now }
+{
+    text == "pairs.csv"
+        || text == "rule.csv"
+        || text == "links.csv"
+        || text == "prices.csv"
+        || text == "report.txt"
+}
+
+fn is_word_byte(byte: u8) -> bool
+    ensures { result ≡ is_word_byte byte }
+{
+    matches!(byte, b'A'..=b'Z' | b'0'..=b'9')
+}
+
+fn is_name_byte(byte: u8) -> bool
+    ensures { result ≡ is_name_byte byte }
+{
+    matches!(byte, b'a'..=b'z' | b'0'..=b'9' | b'_')
+}
+
+fn has_word_bytes(text: &[u8]) -> bool
+    ensures { result ≡ list_all is_word_byte text.now }
+{
+    text.iter().all(|byte| is_word_byte(*byte))
+}
+
+fn has_name_bytes(text: &[u8]) -> bool
+    ensures { result ≡ list_all is_name_byte text.now }
+{
+    text.iter().all(|byte| is_name_byte(*byte))
+}
+
+/// Whether a text is in range.
+pub(crate) fn fits(rule: TextRule, text: &str) -> bool
+    ensures { result ≡ fits rule text.now }
+{
+    let len = text.len();
+    match rule {
+        TextRule::File => 1 <= len && len <= 255 && !is_output(text),
+        TextRule::Label => 1 <= len && len <= 255,
+        TextRule::Mark => len <= 64,
+        TextRule::Word => 1 <= len && len <= 32 && has_word_bytes(text.as_bytes()),
+        TextRule::FieldName => 1 <= len && len <= 32 && has_name_bytes(text.as_bytes()),
+    }
+}
+
+impl Reader for TextRule {
+    type Item = Text;
+
+    ghost gives = { text };
+
+    fn read(&self, alloc: Global, place: &Place, value: &Value) -> Result<Text, Fault> {
+        match value.as_str() {
+            None => Err(Fault::WrongType {
+                key: place.text(alloc)?,
+            }),
+            Some(text) => {
+                if !fits(*self, text) {
+                    return Err(Fault::OutOfRange {
+                        key: place.text(alloc)?,
+                    });
+                }
+                Ok(Text::new(alloc, text.as_bytes())?)
+            }
+        }
+    }
+}
+
+/// How many first letters are taken, 1 to 20.
+#[derive(Drop)]
+pub(crate) struct Letters;
+
+impl Reader for Letters {
+    type Item = u8;
+
+    ghost gives = { λ _. whole 1 20 };
+
+    fn read(&self, alloc: Global, place: &Place, value: &Value) -> Result<u8, Fault> {
+        Ok(whole_number(alloc, 1, 20, place, value)? as u8)
+    }
+}
+
+const GREATEST_SEED: u64 = 9_223_372_036_854_775_807;
+
+/// The number that random words come from, 0 to 2^63 - 1.
+#[derive(Drop)]
+pub(crate) struct Seed;
+
+impl Reader for Seed {
+    type Item = u64;
+
+    ghost gives = { λ _. whole 0 (2 ^ 63 - 1) };
+
+    fn read(&self, alloc: Global, place: &Place, value: &Value) -> Result<u64, Fault> {
+        whole_number(alloc, 0, GREATEST_SEED, place, value)
+    }
+}
