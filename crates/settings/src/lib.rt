@@ -14,3 +14,6 @@ mod words;
 pub use plan::{FieldList, FieldPlan, Plan};
 pub use settings_readers::least_unknown_key;
 pub use top::read_settings;
+
+#[cfg(test)]
+mod tests;
