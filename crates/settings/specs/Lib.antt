@@ -6,3 +6,4 @@ pub mod Field
 pub mod Pass
 pub mod Settings
 pub mod Shape
+pub mod Ranges

@@ -31,8 +31,11 @@ pass_keys = codes "parts" ∷ []
 abbrev pub part_keys : List (List ℕ)
 part_keys = codes "field" ∷ codes "key" ∷ codes "n" ∷ []
 
+abbrev pub delimiters : List (List ℕ × ℕ)
+delimiters = (codes "comma", 44) ∷ (codes "semicolon", 59) ∷ (codes "tab", 9) ∷ []
+
 abbrev pub delimiter_named : List ℕ → Option ℕ
-delimiter_named = named_in ((codes "comma", 44) ∷ (codes "semicolon", 59) ∷ (codes "tab", 9) ∷ [])
+delimiter_named = named_in delimiters
 
 abbrev pub kind_named : List ℕ → Option Kind
 kind_named = named_in ((codes "name", kind.Name) ∷ (codes "place", kind.Place) ∷ (codes "date", kind.Date) ∷ [])
@@ -41,11 +44,17 @@ abbrev pub form_named : List ℕ → Option DateForm
 form_named = named_in ((codes "ymd", form.Ymd) ∷ (codes "dmy", form.Dmy) ∷ (codes "mdy", form.Mdy) ∷ [])
 
 -- comparisons of names and places, and of dates
+abbrev pub name_comparisons : List (List ℕ × CompareWord)
+name_comparisons = (codes "exact", compare.Exact) ∷ (codes "soundex", compare.Soundex) ∷ (codes "nysiis", compare.Nysiis) ∷ (codes "first", compare.First) ∷ (codes "initials", compare.Initials) ∷ []
+
 abbrev pub name_compare : List ℕ → Option CompareWord
-name_compare = named_in ((codes "exact", compare.Exact) ∷ (codes "soundex", compare.Soundex) ∷ (codes "nysiis", compare.Nysiis) ∷ (codes "first", compare.First) ∷ (codes "initials", compare.Initials) ∷ [])
+name_compare = named_in name_comparisons
+
+abbrev pub date_comparisons : List (List ℕ × CompareWord)
+date_comparisons = (codes "exact", compare.Exact) ∷ (codes "days", compare.Days) ∷ (codes "years", compare.Years) ∷ []
 
 abbrev pub date_compare : List ℕ → Option CompareWord
-date_compare = named_in ((codes "exact", compare.Exact) ∷ (codes "days", compare.Days) ∷ (codes "years", compare.Years) ∷ [])
+date_compare = named_in date_comparisons
 
 abbrev pub compare_named : Kind → List ℕ → Option CompareWord
 compare_named kind.Name = name_compare
@@ -53,11 +62,17 @@ compare_named kind.Place = name_compare
 compare_named kind.Date = date_compare
 
 -- keys of names and places, and of dates
+abbrev pub name_keys : List (List ℕ × KeyWord)
+name_keys = (codes "whole", key.Whole) ∷ (codes "soundex", key.Soundex) ∷ (codes "nysiis", key.Nysiis) ∷ (codes "first", key.First) ∷ []
+
 abbrev pub name_key : List ℕ → Option KeyWord
-name_key = named_in ((codes "whole", key.Whole) ∷ (codes "soundex", key.Soundex) ∷ (codes "nysiis", key.Nysiis) ∷ (codes "first", key.First) ∷ [])
+name_key = named_in name_keys
+
+abbrev pub date_keys : List (List ℕ × KeyWord)
+date_keys = (codes "whole", key.Whole) ∷ (codes "year", key.Year) ∷ []
 
 abbrev pub date_key : List ℕ → Option KeyWord
-date_key = named_in ((codes "whole", key.Whole) ∷ (codes "year", key.Year) ∷ [])
+date_key = named_in date_keys
 
 abbrev pub key_named : FieldSort → List ℕ → Option KeyWord
 key_named sort.Name = name_key

@@ -1,9 +1,11 @@
 // The keys of the top table.
-ghost use Rattle.std.specs.Prelude.{◌≡◌, ◌∷◌, option_to_list, not};
+ghost use Rattle.std.specs.Prelude.{◌≡◌, ◌∷◌, IfErr, IfOk, option_to_list, not};
 ghost use Rattle.toml.specs.View.{table_view};
+ghost use Rattle.link_base.specs.declared.fault.Fault.TheVariants as fault;
 ghost use Rattle.link_base.specs.Fault.{IsAnswer};
 ghost use Rattle.settings.specs.Words.{one_of};
-ghost use Rattle.settings.specs.Settings.{is_free, journal_of, sources, numbers, tables, plan_of, settings};
+ghost use Rattle.settings.specs.Settings.{is_free, journal_of, sources, numbers, tables, plan_of, document, settings};
+ghost use Rattle.settings.specs.Ranges.{IsSettingsFault, KeepsRanges};
 
 use crate::fields::Fields;
 use crate::passes::Passes;
@@ -217,7 +219,10 @@ fn plan_of(alloc: Global, keys: &Keys) -> Result<Plan, Fault>
 
 /// The plan of a settings file, or its first key at fault. Bytes that are not UTF-8 are not TOML.
 pub fn read_settings(alloc: Global, bytes: &[u8]) -> Result<Plan, Fault>
-    ensures { IsAnswer (settings bytes.now) result }
+    ensures gives { IsAnswer (settings bytes.now) result }
+    ensures not_toml { result ≡ Err fault.NotToml → document bytes.now ≡ None }
+    ensures kind { IfErr result IsSettingsFault }
+    ensures ranges { IfOk result KeepsRanges }
 {
     match toml::table_from_slice(alloc, bytes) {
         Ok(table) => {

@@ -2,3 +2,4 @@ pub mod Parts
 pub mod Values
 pub mod Lists
 pub mod Laws
+pub mod KeyFaults
