@@ -1,5 +1,5 @@
 -- The types and ranges that a plan of a settings file keeps, and the faults of one.
-use Rattle.std.specs.Prelude.{◌≡◌, ◌<◌, ◌≤◌, ◌^◌, ℕ, List, length, Bool, true, false, not, Option, is_some, IfSome, All, nat_le, ◌&&◌, ◌||◌, ◌==◌, ⊤}
+use Rattle.std.specs.Prelude.{◌≡◌, ◌<◌, ◌≤◌, ◌^◌, ℕ, List, length, Bool, true, false, not, Option, is_some, IfSome, IsUtf8, All, nat_le, ◌&&◌, ◌||◌, ◌==◌, ⊤}
 use Rattle.std.specs.List.{HoldsAt}
 use Rattle.link_base.specs.declared.fault.Fault.{Fault}
 use Rattle.link_base.specs.declared.fault.Fault.TheVariants as fault
@@ -72,6 +72,13 @@ pub record KeepsRanges (plan : Plan) : Type 0 where
   pub some_passes : 1 ≤ length plan.passes
   pub few_passes : length plan.passes ≤ 8
   pub passes : All (IsPass plan.fields) plan.passes
+
+-- the files of a plan have names that are UTF-8
+pub record NamesFiles (plan : Plan) : Type 0 where
+  pub file_a : IsUtf8 plan.file_a
+  pub file_b : IsUtf8 plan.file_b
+  pub sample : IfSome plan.sample IsUtf8
+  pub journal : IfSome plan.journal IsUtf8
 
 -- the faults of a settings file
 abbrev pub IsSettingsFault : Fault → Type 0

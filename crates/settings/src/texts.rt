@@ -1,13 +1,15 @@
 // Texts and numbers in their ranges.
-ghost use Rattle.std.specs.Prelude.{◌≡◌, ◌^◌, ◌-◌};
+ghost use Rattle.std.specs.Prelude.{◌≡◌, ◌^◌, ◌-◌, IfOk, IsUtf8};
 ghost use Rattle.std.specs.List.{list_all};
 ghost use Rattle.link_base.specs.Tables.{is_word_byte};
 ghost use Rattle.settings_readers.specs.Values.{whole};
+ghost use Rattle.settings.specs.declared.texts.TextRule.TheVariants as rule;
 ghost use Rattle.settings.specs.Values.{is_output, is_name_byte, fits, text};
 
-use link_base::{Fault, Text};
+use link_base::{Fault, NoMemory, Text};
 use settings_readers::{Place, Reader, whole_number};
 use std::alloc::Global;
+use std::marker::Model;
 use toml::Value;
 
 /// Which texts are in range at a key.
@@ -90,6 +92,72 @@ impl Reader for TextRule {
                     });
                 }
                 Ok(Text::new(alloc, text.as_bytes())?)
+            }
+        }
+    }
+}
+
+/// The name of a file that is read, which is UTF-8.
+#[derive(Drop)]
+pub(crate) struct FileName {
+    name: Text,
+}
+
+impl Model for FileName {
+    ghost use Rattle.std.specs.Prelude.{List, ℕ, IsUtf8};
+
+    ghost Value = { List ℕ };
+
+    ghost view = { λ f. f.name };
+
+    ghost invariant = { λ f. IsUtf8 f.name };
+}
+
+impl FileName {
+    fn new(alloc: Global, name: &str) -> Result<FileName, NoMemory>
+        ensures { IfOk result (λ f. f ≡ name.now) }
+    {
+        let name = Text::new(alloc, name.as_bytes())?;
+        Ok(FileName { name })
+    }
+
+    /// The bytes.
+    pub(crate) fn bytes(&self) -> &[u8]
+        ensures { result.now ≡ self.now }
+    {
+        self.name.bytes()
+    }
+
+    /// The name as a text.
+    pub(crate) fn into_text(self) -> Text
+        ensures same { result ≡ self }
+        ensures utf8 { IsUtf8 result }
+    {
+        self.name
+    }
+}
+
+/// A reader of the name of a file that is read.
+#[derive(Drop)]
+pub(crate) struct File;
+
+impl Reader for File {
+    type Item = FileName;
+
+    ghost gives = { λ _. text rule.File };
+
+    fn read(&self, alloc: Global, place: &Place, value: &Value) -> Result<FileName, Fault> {
+        match value.as_str() {
+            None => Err(Fault::WrongType {
+                key: place.text(alloc)?,
+            }),
+            Some(name) => {
+                if !fits(TextRule::File, name) {
+                    return Err(Fault::OutOfRange {
+                        key: place.text(alloc)?,
+                    });
+                }
+                Ok(FileName::new(alloc, name)?)
             }
         }
     }

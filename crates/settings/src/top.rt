@@ -1,16 +1,17 @@
 // The keys of the top table.
-ghost use Rattle.std.specs.Prelude.{◌≡◌, ◌∷◌, IfErr, IfOk, option_to_list, not};
+ghost use Rattle.std.specs.Prelude.{◌≡◌, ◌∷◌, IfErr, IfOk, IfSome, IsUtf8, option_to_list, not};
 ghost use Rattle.toml.specs.View.{table_view};
 ghost use Rattle.link_base.specs.declared.fault.Fault.TheVariants as fault;
 ghost use Rattle.link_base.specs.Fault.{IsAnswer};
+ghost use Rattle.link_base.specs.Tables.{AreWordPairs};
 ghost use Rattle.settings.specs.Words.{one_of};
 ghost use Rattle.settings.specs.Settings.{is_free, journal_of, sources, numbers, tables, plan_of, document, settings};
-ghost use Rattle.settings.specs.Ranges.{IsSettingsFault, KeepsRanges};
+ghost use Rattle.settings.specs.Ranges.{IsSettingsFault, KeepsRanges, NamesFiles};
 
 use crate::fields::Fields;
 use crate::passes::Passes;
 use crate::plan::Plan;
-use crate::texts::{Seed, TextRule};
+use crate::texts::{File, FileName, Seed, TextRule};
 use crate::word_tables::{Texts, WordTable};
 use crate::words::Delimiters;
 use link_base::{Fault, Tables, Text};
@@ -44,14 +45,14 @@ const TOP_KEYS: [&str; 21] = [
 /// The keys on the files.
 #[derive(Drop)]
 pub(crate) struct SourceKeys {
-    file_a: Text,
-    file_b: Text,
+    file_a: FileName,
+    file_b: FileName,
     id_a: Text,
     id_b: Text,
     delimiter_a: u8,
     delimiter_b: u8,
-    sample: Option<Text>,
-    journal: Option<Text>,
+    sample: Option<FileName>,
+    journal: Option<FileName>,
 }
 
 /// The keys that are numbers and truth values.
@@ -65,7 +66,7 @@ pub(crate) struct NumberKeys {
     double: bool,
 }
 
-fn differs(name: &Text, sample: &Option<Text>) -> bool
+fn differs(name: &FileName, sample: &Option<FileName>) -> bool
     ensures { result ≡ not (one_of (option_to_list sample.now) name.now) }
 {
     match sample {
@@ -75,7 +76,12 @@ fn differs(name: &Text, sample: &Option<Text>) -> bool
 }
 
 /// Whether the journal is none of the files that are read.
-fn is_free(file_a: &Text, file_b: &Text, sample: &Option<Text>, journal: &Option<Text>) -> bool
+fn is_free(
+    file_a: &FileName,
+    file_b: &FileName,
+    sample: &Option<FileName>,
+    journal: &Option<FileName>,
+) -> bool
     ensures { result ≡ is_free (file_a.now ∷ file_b.now ∷ option_to_list sample.now) journal.now }
 {
     match journal {
@@ -91,14 +97,14 @@ fn is_free(file_a: &Text, file_b: &Text, sample: &Option<Text>, journal: &Option
 #[tactic(auto, unfolding(crate::specs::Settings::journal_of))]
 fn journal_of(
     alloc: Global,
-    file_a: &Text,
-    file_b: &Text,
-    sample: &Option<Text>,
+    file_a: &FileName,
+    file_b: &FileName,
+    sample: &Option<FileName>,
     keys: &Keys,
-) -> Result<Option<Text>, Fault>
+) -> Result<Option<FileName>, Fault>
     ensures { IsAnswer (journal_of (file_a.now ∷ file_b.now ∷ option_to_list sample.now) (table_view keys.now.table.now) keys.now.above.now) result }
 {
-    let journal = keys.optional(alloc, &TextRule::File, "journal")?;
+    let journal = keys.optional(alloc, &File, "journal")?;
     if !is_free(file_a, file_b, sample, &journal) {
         return Err(Fault::OutOfRange {
             key: Place::new(keys.above, b"journal").text(alloc)?,
@@ -113,13 +119,13 @@ fn sources(alloc: Global, keys: &Keys) -> Result<SourceKeys, Fault>
 {
     let label = TextRule::Label;
     let delimiter = Choice(Delimiters);
-    let file_a = keys.needed(alloc, &TextRule::File, "file_a")?;
-    let file_b = keys.needed(alloc, &TextRule::File, "file_b")?;
+    let file_a = keys.needed(alloc, &File, "file_a")?;
+    let file_b = keys.needed(alloc, &File, "file_b")?;
     let id_a = keys.defaulted(alloc, &label, Text::new(alloc, b"id")?, "id_a")?;
     let id_b = keys.defaulted(alloc, &label, Text::new(alloc, b"id")?, "id_b")?;
     let delimiter_a = keys.defaulted(alloc, &delimiter, b',', "delimiter_a")?;
     let delimiter_b = keys.defaulted(alloc, &delimiter, b',', "delimiter_b")?;
-    let sample = keys.optional(alloc, &TextRule::File, "sample")?;
+    let sample = keys.optional(alloc, &File, "sample")?;
     let journal = journal_of(alloc, &file_a, &file_b, &sample, keys)?;
     Ok(SourceKeys {
         file_a,
@@ -160,7 +166,9 @@ fn numbers(alloc: Global, keys: &Keys) -> Result<NumberKeys, Fault>
 
 #[tactic(auto, unfolding(crate::specs::Settings::tables))]
 fn tables(alloc: Global, keys: &Keys) -> Result<Tables, Fault>
-    ensures { IsAnswer (tables (table_view keys.now.table.now) keys.now.above.now) result }
+    ensures gives { IsAnswer (tables (table_view keys.now.table.now) keys.now.above.now) result }
+    ensures names { IfOk result (λ tables. AreWordPairs tables.names) }
+    ensures places { IfOk result (λ tables. AreWordPairs tables.places) }
 {
     let marks = Texts {
         most: 50,
@@ -176,6 +184,9 @@ fn tables(alloc: Global, keys: &Keys) -> Result<Tables, Fault>
     let suffixes = keys.defaulted(alloc, &words, standard.suffixes, "suffixes")?;
     let names = keys.defaulted(alloc, &WordTable, standard.names, "names")?;
     let places = keys.defaulted(alloc, &WordTable, standard.places, "places")?;
+    // That pairs are words and rise is a fact of their type, which the clauses repeat.
+    let _ = names.pairs();
+    let _ = places.pairs();
     Ok(Tables {
         missing,
         titles,
@@ -185,9 +196,22 @@ fn tables(alloc: Global, keys: &Keys) -> Result<Tables, Fault>
     })
 }
 
+fn optional_text(name: Option<FileName>) -> Option<Text>
+    ensures same { result ≡ name }
+    ensures utf8 { IfSome result IsUtf8 }
+{
+    match name {
+        None => None,
+        Some(name) => Some(name.into_text()),
+    }
+}
+
 #[tactic(auto, unfolding(crate::specs::Settings::plan_of))]
 fn plan_of(alloc: Global, keys: &Keys) -> Result<Plan, Fault>
-    ensures { IsAnswer (plan_of (table_view keys.now.table.now) keys.now.above.now) result }
+    ensures gives { IsAnswer (plan_of (table_view keys.now.table.now) keys.now.above.now) result }
+    ensures files { IfOk result NamesFiles }
+    ensures names { IfOk result (λ plan. AreWordPairs plan.tables.names) }
+    ensures places { IfOk result (λ plan. AreWordPairs plan.tables.places) }
 {
     keys.known(alloc, &TOP_KEYS)?;
     let sources = sources(alloc, keys)?;
@@ -197,14 +221,14 @@ fn plan_of(alloc: Global, keys: &Keys) -> Result<Plan, Fault>
     let fields = keys.needed(alloc, &Fields { sampled }, "field")?;
     let passes = keys.needed(alloc, &Passes { fields: &fields }, "pass")?;
     Ok(Plan {
-        file_a: sources.file_a,
-        file_b: sources.file_b,
+        file_a: sources.file_a.into_text(),
+        file_b: sources.file_b.into_text(),
         id_a: sources.id_a,
         id_b: sources.id_b,
         delimiter_a: sources.delimiter_a,
         delimiter_b: sources.delimiter_b,
-        sample: sources.sample,
-        journal: sources.journal,
+        sample: optional_text(sources.sample),
+        journal: optional_text(sources.journal),
         mu_ppm: numbers.mu_ppm,
         lambda_ppm: numbers.lambda_ppm,
         seed: numbers.seed,
@@ -223,6 +247,9 @@ pub fn read_settings(alloc: Global, bytes: &[u8]) -> Result<Plan, Fault>
     ensures not_toml { result ≡ Err fault.NotToml → document bytes.now ≡ None }
     ensures kind { IfErr result IsSettingsFault }
     ensures ranges { IfOk result KeepsRanges }
+    ensures files { IfOk result NamesFiles }
+    ensures names { IfOk result (λ plan. AreWordPairs plan.tables.names) }
+    ensures places { IfOk result (λ plan. AreWordPairs plan.tables.places) }
 {
     match toml::table_from_slice(alloc, bytes) {
         Ok(table) => {
