@@ -1,6 +1,8 @@
 // Texts and numbers in their ranges.
 ghost use Rattle.std.specs.Prelude.{◌≡◌, ◌^◌, ◌-◌, IfOk, IsUtf8};
 ghost use Rattle.std.specs.List.{list_all};
+ghost use Rattle.toml.specs.View.{view};
+ghost use Rattle.link_base.specs.Fault.{Gives};
 ghost use Rattle.link_base.specs.Tables.{is_word_byte};
 ghost use Rattle.settings_readers.specs.Values.{whole};
 ghost use Rattle.settings.specs.declared.texts.TextRule.TheVariants as rule;
@@ -75,25 +77,38 @@ pub(crate) fn fits(rule: TextRule, text: &str) -> bool
     }
 }
 
+/// A text in its range.
+fn text_in<'a>(
+    alloc: Global,
+    rule: TextRule,
+    place: &Place,
+    value: &'a Value,
+) -> Result<&'a str, Fault>
+    ensures { Gives (λ text. text.now) (text rule place.now (view value.now)) result }
+{
+    match value.as_str() {
+        None => Err(Fault::WrongType {
+            key: place.text(alloc)?,
+        }),
+        Some(text) => {
+            if !fits(rule, text) {
+                return Err(Fault::OutOfRange {
+                    key: place.text(alloc)?,
+                });
+            }
+            Ok(text)
+        }
+    }
+}
+
 impl Reader for TextRule {
     type Item = Text;
 
     ghost gives = { text };
 
     fn read(&self, alloc: Global, place: &Place, value: &Value) -> Result<Text, Fault> {
-        match value.as_str() {
-            None => Err(Fault::WrongType {
-                key: place.text(alloc)?,
-            }),
-            Some(text) => {
-                if !fits(*self, text) {
-                    return Err(Fault::OutOfRange {
-                        key: place.text(alloc)?,
-                    });
-                }
-                Ok(Text::new(alloc, text.as_bytes())?)
-            }
-        }
+        let text = text_in(alloc, *self, place, value)?;
+        Ok(Text::new(alloc, text.as_bytes())?)
     }
 }
 
@@ -147,19 +162,8 @@ impl Reader for File {
     ghost gives = { λ _. text rule.File };
 
     fn read(&self, alloc: Global, place: &Place, value: &Value) -> Result<FileName, Fault> {
-        match value.as_str() {
-            None => Err(Fault::WrongType {
-                key: place.text(alloc)?,
-            }),
-            Some(name) => {
-                if !fits(TextRule::File, name) {
-                    return Err(Fault::OutOfRange {
-                        key: place.text(alloc)?,
-                    });
-                }
-                Ok(FileName::new(alloc, name)?)
-            }
-        }
+        let name = text_in(alloc, TextRule::File, place, value)?;
+        Ok(FileName::new(alloc, name)?)
     }
 }
 
