@@ -1,0 +1,100 @@
+-- What the pairs of a word table are: words, in the order of the keys.
+use Rattle.std.proofs.Common.{◌≡◌, ℕ, List, [], ◌∷◌, ◌++◌, length, true, Some, Ok, Less, nat_cmp, refl, ◌∙◌, sym, append_assoc, arith, inl, inr}
+use Rattle.std.specs.Prelude.{All, AllPairs, nat_le}
+use Rattle.std.specs.Cmp.Lexicographic.{slice_cmp}
+use Rattle.std.proofs.lemmas.Bool.{and_parts}
+use Rattle.std.proofs.lemmas.List.{append-nil}
+use Rattle.std.proofs.lemmas.List.Elements.{All-nil, All-cons}
+use Rattle.std.proofs.lemmas.List.Kept.{AllPairs-cons}
+use Rattle.toml.specs.Data.{Data, Members, no_members, member, as_str, as_table, is_before}
+use Rattle.toml.specs.View.{members_view}
+use Rattle.toml.proofs.Views.{Entry}
+use Rattle.link_base.specs.declared.tables.WordPair.{WordPair}
+use Rattle.link_base.specs.Tables.{AreWordPairs, is_word}
+use Rattle.settings_readers.specs.Parts.{typed, in_range}
+use Rattle.settings_readers.specs.Laws.{IsKeyOf, keys_ascend}
+use Rattle.settings_readers.proofs.Ascending.{above}
+use Rattle.settings.specs.declared.texts.TextRule.TheVariants as rule
+use Rattle.settings.specs.Values.{fits, text}
+use Rattle.settings.specs.WordTables.{members_len, word_pair, pairs, small_table}
+use Rattle.settings.proofs.Parts.{bind_ok, in_range_ok}
+
+members_len-view : (es : List Entry) → members_len (members_view es) ≡ length es
+members_len-view [] = refl
+members_len-view (e ∷ es) = omega (arith, members_len-view es)
+
+pub small_table_is : (n : ℕ) (at : List ℕ) (d : Data) (es : List Entry) → Some (members_view es) ≡ as_table d → n ≡ length es
+    → small_table at d ≡ in_range at (nat_le n 1000) (members_view es)
+small_table_is n at d es is len = rw (← is, members_len-view, ← len)
+
+abbrev IsAfter : List ℕ → WordPair → Type 0
+IsAfter k p = slice_cmp nat_cmp k p.from ≡ Less
+
+abbrev FromWord : WordPair → Type 0
+FromWord p = is_word p.from ≡ true
+
+abbrev ToWord : WordPair → Type 0
+ToWord p = is_word p.to ≡ true
+
+abbrev Rises : WordPair → WordPair → Type 0
+Rises p q = slice_cmp nat_cmp p.from q.from ≡ Less
+
+-- pairs of words that stand for the members in turn
+abbrev ArePairsOf : Members → List WordPair → Type 0
+ArePairsOf no_members [] = Unit {0}
+ArePairsOf no_members (p ∷ ps) = ⊥
+ArePairsOf (member k d ms) [] = ⊥
+ArePairsOf (member k d ms) (p ∷ ps) = (p.from ≡ k) × (is_word p.from ≡ true) × (is_word p.to ≡ true) × ArePairsOf ms ps
+
+word_is : (at : List ℕ) (d : Data) (x : List ℕ) → text rule.Word at d ≡ Ok x → is_word x ≡ true
+word_is at d x h =
+    let s = bind_ok (typed at (as_str d)) _ x h in
+    let r = in_range_ok at (fits rule.Word s.0) s.0 x s.2 in
+    rw (← r.1) r.0
+
+word_pair_is : (at key : List ℕ) (d : Data) (x : WordPair) → word_pair at key d ≡ Ok x → (x.from ≡ key) × (is_word x.from ≡ true) × (is_word x.to ≡ true)
+word_pair_is at key d x h =
+    let a = bind_ok (in_range at (is_word key) key) _ x h in
+    let r = in_range_ok at (is_word key) key a.0 a.1 in
+    let b = bind_ok (text rule.Word at d) _ x a.2 in
+    let made : Ok (record { from = a.0; to = b.0 }) ≡ Ok x = b.2 in
+    let same : record { from = a.0; to = b.0 } ≡ x = cc in
+    (rw (← same) (sym r.1), rw (← same, ← r.1) r.0, rw (← same) (word_is at d b.0 b.1))
+
+pairs_are : (path : List ℕ) (ms : Members) (before all : List WordPair) → pairs path ms before ≡ Ok all → (ps : List WordPair) × (all ≡ before ++ ps) × ArePairsOf ms ps
+pairs_are path no_members before all h = let same : before ≡ all = cc in ([], sym same ∙ sym (append-nil before), tt)
+pairs_are path (member k d ms) before all h =
+    let a = bind_ok (word_pair (path ++ k) k d) _ all h in
+    let w = word_pair_is (path ++ k) k d a.0 a.1 in
+    let r = pairs_are path ms (before ++ a.0 ∷ []) all a.2 in
+    (a.0 ∷ r.0, r.1 ∙ append_assoc before (a.0 ∷ []) r.0, (w.0, w.1, w.2, r.2))
+
+all_after : (k : List ℕ) (ms : Members) (ps : List WordPair) → ((q : List ℕ) → IsKeyOf ms q → slice_cmp nat_cmp k q ≡ Less) → ArePairsOf ms ps → All (IsAfter k) ps
+all_after k no_members [] h are = All-nil (IsAfter k)
+all_after k no_members (p ∷ ps) h are = absurd are
+all_after k (member l d ms) [] h are = absurd are
+all_after k (member l d ms) (p ∷ ps) h are =
+    All-cons (IsAfter k) p ps (rw are.0 (h l (inl refl))) (all_after k ms ps (λ q later. h q (inr later)) are.3)
+
+no_pairs : (R : WordPair → WordPair → Type 0) → AllPairs R []
+no_pairs R i j d lt within = absurd (omega arith)
+
+pairs_sound : (ms : Members) (ps : List WordPair) → keys_ascend ms ≡ true → ArePairsOf ms ps → AreWordPairs ps
+pairs_sound no_members [] sorted are = record { from_words = All-nil FromWord; to_words = All-nil ToWord; rising = no_pairs Rises }
+pairs_sound no_members (p ∷ ps) sorted are = absurd are
+pairs_sound (member k d ms) [] sorted are = absurd are
+pairs_sound (member k d ms) (p ∷ ps) sorted are =
+    let (front, more) = and_parts (is_before k ms) (keys_ascend ms) sorted in
+    let rest = pairs_sound ms ps more are.3 in
+    let later : All (IsAfter p.from) ps = rw are.0 (all_after k ms ps (above k ms front more) are.3) in
+    record {
+      from_words = All-cons FromWord p ps are.1 rest.from_words;
+      to_words = All-cons ToWord p ps are.2 rest.to_words;
+      rising = AllPairs-cons Rises p ps later rest.rising;
+    }
+
+-- the pairs of a table whose keys ascend
+pub pairs_are_word_pairs : (path : List ℕ) (ms : Members) (all : List WordPair) → keys_ascend ms ≡ true → pairs path ms [] ≡ Ok all → AreWordPairs all
+pairs_are_word_pairs path ms all sorted h =
+    let r = pairs_are path ms [] all h in
+    rw r.1 (pairs_sound ms r.0 sorted r.2)

@@ -1,0 +1,148 @@
+-- A field's table.
+use Rattle.std.specs.Prelude.{List, ℕ, ℤ, Bool, true, false, not, ◌++◌, [], ◌∷◌, codes, length, map, sum, Option, Some, None, is_some, option_map, Result, Ok, ◌&&◌, nat_le, ◌==◌, if◌then◌else◌, option_and_then}
+use Rattle.std.specs.List.{list_any, list_all}
+use Rattle.std.specs.Option.{option_map_or}
+use Rattle.std.specs.Str.{bytes_eq}
+use Rattle.toml.specs.Data.{Data, Items, no_items, item, Members, as_array, as_integer}
+use Rattle.link_base.specs.declared.fault.Fault.{Fault}
+use Rattle.link_base.specs.declared.plan.FieldSort.{FieldSort}
+use Rattle.link_base.specs.declared.plan.FieldSort.TheVariants as sort
+use Rattle.link_base.specs.declared.plan.CompareKind.{CompareKind}
+use Rattle.link_base.specs.declared.plan.CompareKind.TheVariants as by
+use Rattle.link_base.specs.Shares.{outcomes_of}
+use Rattle.settings_readers.specs.Parts.{◌>>=◌, typed, ranged, in_range, needed, optional, defaulted, absent, known}
+use Rattle.settings_readers.specs.Values.{choice, whole, magnitude}
+use Rattle.settings_readers.specs.Lists.{array_of, on_table}
+use Rattle.settings.specs.Plan.{FieldKeys, PlainShares}
+use Rattle.settings.specs.Values.{text}
+use Rattle.settings.specs.Words.{one_of, field_keys, kind_named, form_named, compare_named}
+use Rattle.settings.specs.declared.texts.TextRule.TheVariants as rule
+use Rattle.settings.specs.declared.words.Kind.{Kind}
+use Rattle.settings.specs.declared.words.Kind.TheVariants as kind
+use Rattle.settings.specs.declared.words.CompareWord.{CompareWord}
+use Rattle.settings.specs.declared.words.CompareWord.TheVariants as compare
+
+-- a name that no earlier field has
+unfoldable pub new_name : List FieldKeys → Members → List ℕ → Result (List ℕ) Fault
+new_name before t above = do
+  name ← needed (text rule.FieldName) t above (codes "name")
+  in_range (above ++ codes "name") (not (list_any (λ f. bytes_eq name f.name) before)) name
+
+-- both forms of a date; no forms for another kind
+unfoldable pub date_sort : Members → List ℕ → Result FieldSort Fault
+date_sort t above = do
+  a ← needed (choice form_named) t above (codes "form_a")
+  b ← needed (choice form_named) t above (codes "form_b")
+  Ok (sort.Date a b)
+
+unfoldable pub plain_sort : FieldSort → Members → List ℕ → Result FieldSort Fault
+plain_sort s t above = do
+  no_a ← absent t above (codes "form_a")
+  no_b ← absent t above (codes "form_b")
+  Ok s
+
+abbrev pub sort_of : Kind → Members → List ℕ → Result FieldSort Fault
+sort_of kind.Name = plain_sort sort.Name
+sort_of kind.Place = plain_sort sort.Place
+sort_of kind.Date = date_sort
+
+-- n for `first` alone, and t for `days` and `years` alone
+unfoldable pub by_letters : Members → List ℕ → Result CompareKind Fault
+by_letters t above = do
+  n ← needed (whole 1 20) t above (codes "n")
+  no_t ← absent t above (codes "t")
+  Ok (by.FirstLetters n)
+
+unfoldable pub by_days : Members → List ℕ → Result CompareKind Fault
+by_days t above = do
+  no_n ← absent t above (codes "n")
+  days ← needed (whole 0 36500) t above (codes "t")
+  Ok (by.DaysWithin days)
+
+unfoldable pub by_years : Members → List ℕ → Result CompareKind Fault
+by_years t above = do
+  no_n ← absent t above (codes "n")
+  years ← needed (whole 0 100) t above (codes "t")
+  Ok (by.YearsWithin years)
+
+unfoldable pub plain_compare : CompareKind → Members → List ℕ → Result CompareKind Fault
+plain_compare c t above = do
+  no_n ← absent t above (codes "n")
+  no_t ← absent t above (codes "t")
+  Ok c
+
+abbrev pub compare_by : CompareWord → Members → List ℕ → Result CompareKind Fault
+compare_by compare.Exact = plain_compare by.Exact
+compare_by compare.Soundex = plain_compare by.BySoundex
+compare_by compare.Nysiis = plain_compare by.ByNysiis
+compare_by compare.First = by_letters
+compare_by compare.Initials = plain_compare by.Initials
+compare_by compare.Days = by_days
+compare_by compare.Years = by_years
+
+-- a rare number, where values are compared by a canon
+abbrev pub may_be_rare : CompareKind → Bool
+may_be_rare (by.DaysWithin t) = false
+may_be_rare (by.YearsWithin t) = false
+may_be_rare _ = true
+
+abbrev pub rare_of : CompareKind → Members → List ℕ → Result (Option ℕ) Fault
+rare_of c t above = if may_be_rare c then optional (whole 2 200000) t above (codes "rare") else (absent t above (codes "rare") >>= λ no_rare. Ok None)
+
+-- the whole numbers of an array of nothing else
+abbrev pub wholes : Items → Option (List ℤ)
+wholes no_items = Some []
+wholes (item d ds) = option_and_then (λ z. option_map (λ zs. z ∷ zs) (wholes ds)) (as_integer d)
+
+-- as many shares as there are outcomes, each at least 1, with sum 1,024
+abbrev pub are_shares : Bool → List ℕ → Bool
+are_shares rare xs = length xs == outcomes_of rare && list_all (nat_le 1) xs && sum xs == 1024
+
+-- the shares of four outcomes, of which the last has none where it is no outcome of its own
+abbrev pub four : Bool → List ℕ → List ℕ
+four rare xs = if rare then xs else xs ++ 0 ∷ []
+
+abbrev pub shares_or_none : Bool → List ℕ → Option (List ℕ)
+shares_or_none rare xs = if are_shares rare xs then Some (four rare xs) else None
+
+abbrev pub shares : Bool → List ℕ → Data → Result (List ℕ) Fault
+shares rare at d = typed at (as_array d) >>= λ ds. typed at (wholes ds) >>= λ zs. ranged at (shares_or_none rare (map magnitude zs))
+
+-- a whole number, or 0 where there is none or it is negative
+abbrev pub share_at : Data → ℕ
+share_at d = option_map_or magnitude (as_integer d) 0
+
+unfoldable pub given_shares : Bool → Members → List ℕ → Result (Option PlainShares) Fault
+given_shares rare t above = do
+  m ← needed (shares rare) t above (codes "m")
+  u ← needed (shares rare) t above (codes "u")
+  Ok (Some (record { rare = rare; m = m; u = u }))
+
+unfoldable pub no_shares : Members → List ℕ → Result (Option PlainShares) Fault
+no_shares t above = do
+  no_m ← absent t above (codes "m")
+  no_u ← absent t above (codes "u")
+  Ok None
+
+abbrev pub shares_of : Bool → Bool → Members → List ℕ → Result (Option PlainShares) Fault
+shares_of sampled rare t above = if sampled then no_shares t above else given_shares rare t above
+
+-- a field, after those before it; sampled says that the settings name a sample, and a column has the
+-- name of the field where its key is not there
+unfoldable pub field : Bool → List FieldKeys → Members → List ℕ → Result FieldKeys Fault
+field sampled before t above = do
+  listed ← known (one_of field_keys) t above
+  name ← new_name before t above
+  column_a ← defaulted (text rule.Label) name t above (codes "column_a")
+  column_b ← defaulted (text rule.Label) name t above (codes "column_b")
+  kind ← needed (choice kind_named) t above (codes "kind")
+  sort ← sort_of kind t above
+  word ← needed (choice (compare_named kind)) t above (codes "compare")
+  compare ← compare_by word t above
+  rare ← rare_of compare t above
+  shares ← shares_of sampled (is_some rare) t above
+  Ok (record { name = name; column_a = column_a; column_b = column_b; sort = sort; compare = compare; rare = rare; shares = shares })
+
+-- an array of one to six fields
+abbrev pub fields : Bool → List ℕ → Data → Result (List FieldKeys) Fault
+fields sampled at d = array_of 1 6 (λ before. on_table (field sampled before)) at d

@@ -1,0 +1,9 @@
+pub mod Plan
+pub mod Values
+pub mod Words
+pub mod WordTables
+pub mod Field
+pub mod Pass
+pub mod Settings
+pub mod Shape
+pub mod Ranges

@@ -1,0 +1,31 @@
+-- Which texts are in range at a key.
+use Rattle.std.specs.Prelude.{List, ℕ, Bool, not, codes, length, Result, ◌&&◌, ◌||◌, nat_le, ◌==◌}
+use Rattle.std.specs.List.{list_all}
+use Rattle.std.specs.Str.{bytes_eq}
+use Rattle.toml.specs.Data.{Data, as_str}
+use Rattle.link_base.specs.declared.fault.Fault.{Fault}
+use Rattle.link_base.specs.Tables.{is_word}
+use Rattle.settings_readers.specs.Parts.{◌>>=◌, typed, in_range}
+use Rattle.settings.specs.declared.texts.TextRule.{TextRule}
+use Rattle.settings.specs.declared.texts.TextRule.TheVariants as rule
+
+-- the five files that a run writes
+abbrev pub is_output : List ℕ → Bool
+is_output s = bytes_eq s (codes "pairs.csv") || bytes_eq s (codes "rule.csv") || bytes_eq s (codes "links.csv") || bytes_eq s (codes "prices.csv") || bytes_eq s (codes "report.txt")
+
+abbrev pub has_len : ℕ → ℕ → List ℕ → Bool
+has_len low high s = nat_le low (length s) && nat_le (length s) high
+
+-- a to z, 0 to 9 and _
+abbrev pub is_name_byte : ℕ → Bool
+is_name_byte b = (nat_le 97 b && nat_le b 122) || (nat_le 48 b && nat_le b 57) || b == 95
+
+abbrev pub fits : TextRule → List ℕ → Bool
+fits rule.File s = has_len 1 255 s && not (is_output s)
+fits rule.Label s = has_len 1 255 s
+fits rule.Mark s = has_len 0 64 s
+fits rule.Word s = is_word s
+fits rule.FieldName s = has_len 1 32 s && list_all is_name_byte s
+
+abbrev pub text : TextRule → List ℕ → Data → Result (List ℕ) Fault
+text rule at d = typed at (as_str d) >>= λ s. in_range at (fits rule s) s

@@ -1,0 +1,80 @@
+-- The listed keys of each table, and the words that name choices.
+use Rattle.std.specs.Prelude.{List, ℕ, Bool, [], ◌∷◌, codes, Option}
+use Rattle.std.specs.List.{list_any}
+use Rattle.std.specs.Str.{bytes_eq}
+use Rattle.link_base.specs.declared.plan.DateForm.{DateForm}
+use Rattle.link_base.specs.declared.plan.DateForm.TheVariants as form
+use Rattle.link_base.specs.declared.plan.FieldSort.{FieldSort}
+use Rattle.link_base.specs.declared.plan.FieldSort.TheVariants as sort
+use Rattle.settings_readers.specs.Values.{named_in}
+use Rattle.settings.specs.declared.words.Kind.{Kind}
+use Rattle.settings.specs.declared.words.Kind.TheVariants as kind
+use Rattle.settings.specs.declared.words.CompareWord.{CompareWord}
+use Rattle.settings.specs.declared.words.CompareWord.TheVariants as compare
+use Rattle.settings.specs.declared.words.KeyWord.{KeyWord}
+use Rattle.settings.specs.declared.words.KeyWord.TheVariants as key
+
+abbrev pub one_of : List (List ℕ) → List ℕ → Bool
+one_of words s = list_any (bytes_eq s) words
+
+abbrev pub top_keys : List (List ℕ)
+top_keys = codes "file_a" ∷ codes "file_b" ∷ codes "id_a" ∷ codes "id_b" ∷ codes "delimiter_a" ∷ codes "delimiter_b" ∷ codes "sample" ∷ codes "journal"
+    ∷ codes "mu_ppm" ∷ codes "lambda_ppm" ∷ codes "seed" ∷ codes "award" ∷ codes "strict" ∷ codes "double"
+    ∷ codes "missing" ∷ codes "titles" ∷ codes "suffixes" ∷ codes "names" ∷ codes "places" ∷ codes "field" ∷ codes "pass" ∷ []
+
+abbrev pub field_keys : List (List ℕ)
+field_keys = codes "name" ∷ codes "column_a" ∷ codes "column_b" ∷ codes "kind" ∷ codes "form_a" ∷ codes "form_b" ∷ codes "compare" ∷ codes "n" ∷ codes "t" ∷ codes "rare" ∷ codes "m" ∷ codes "u" ∷ []
+
+abbrev pub pass_keys : List (List ℕ)
+pass_keys = codes "parts" ∷ []
+
+abbrev pub part_keys : List (List ℕ)
+part_keys = codes "field" ∷ codes "key" ∷ codes "n" ∷ []
+
+abbrev pub delimiters : List (List ℕ × ℕ)
+delimiters = (codes "comma", 44) ∷ (codes "semicolon", 59) ∷ (codes "tab", 9) ∷ []
+
+abbrev pub delimiter_named : List ℕ → Option ℕ
+delimiter_named = named_in delimiters
+
+abbrev pub kind_named : List ℕ → Option Kind
+kind_named = named_in ((codes "name", kind.Name) ∷ (codes "place", kind.Place) ∷ (codes "date", kind.Date) ∷ [])
+
+abbrev pub form_named : List ℕ → Option DateForm
+form_named = named_in ((codes "ymd", form.Ymd) ∷ (codes "dmy", form.Dmy) ∷ (codes "mdy", form.Mdy) ∷ [])
+
+-- comparisons of names and places, and of dates
+abbrev pub name_comparisons : List (List ℕ × CompareWord)
+name_comparisons = (codes "exact", compare.Exact) ∷ (codes "soundex", compare.Soundex) ∷ (codes "nysiis", compare.Nysiis) ∷ (codes "first", compare.First) ∷ (codes "initials", compare.Initials) ∷ []
+
+abbrev pub name_compare : List ℕ → Option CompareWord
+name_compare = named_in name_comparisons
+
+abbrev pub date_comparisons : List (List ℕ × CompareWord)
+date_comparisons = (codes "exact", compare.Exact) ∷ (codes "days", compare.Days) ∷ (codes "years", compare.Years) ∷ []
+
+abbrev pub date_compare : List ℕ → Option CompareWord
+date_compare = named_in date_comparisons
+
+abbrev pub compare_named : Kind → List ℕ → Option CompareWord
+compare_named kind.Name = name_compare
+compare_named kind.Place = name_compare
+compare_named kind.Date = date_compare
+
+-- keys of names and places, and of dates
+abbrev pub name_keys : List (List ℕ × KeyWord)
+name_keys = (codes "whole", key.Whole) ∷ (codes "soundex", key.Soundex) ∷ (codes "nysiis", key.Nysiis) ∷ (codes "first", key.First) ∷ []
+
+abbrev pub name_key : List ℕ → Option KeyWord
+name_key = named_in name_keys
+
+abbrev pub date_keys : List (List ℕ × KeyWord)
+date_keys = (codes "whole", key.Whole) ∷ (codes "year", key.Year) ∷ []
+
+abbrev pub date_key : List ℕ → Option KeyWord
+date_key = named_in date_keys
+
+abbrev pub key_named : FieldSort → List ℕ → Option KeyWord
+key_named sort.Name = name_key
+key_named sort.Place = name_key
+key_named (sort.Date a b) = date_key

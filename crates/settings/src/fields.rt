@@ -1,0 +1,146 @@
+// A field's table.
+ghost use Rattle.std.specs.Prelude.{◌≡◌, option_map};
+ghost use Rattle.std.specs.List.{list_any};
+ghost use Rattle.std.specs.Str.{bytes_eq};
+ghost use Rattle.toml.specs.View.{table_view};
+ghost use Rattle.link_base.specs.Fault.{Gives, IsAnswer};
+ghost use Rattle.settings.specs.Plan.{plain_shares};
+ghost use Rattle.settings.specs.Field.{new_name, given_shares, no_shares, shares_of, field, fields};
+
+use crate::kinds::{compare_by, rare_of, sort_of};
+use crate::plan::{FieldList, FieldPlan};
+use crate::shares::Shares;
+use crate::texts::TextRule;
+use crate::words::Kinds;
+use link_base::{Fault, FieldShares, Text};
+use settings_readers::{Choice, Items, Keys, Place, Reader, Row, Rows};
+use std::alloc::Global;
+use toml::Value;
+
+const FIELD_KEYS: [&str; 12] = [
+    "name", "column_a", "column_b", "kind", "form_a", "form_b", "compare", "n", "t", "rare", "m",
+    "u",
+];
+
+fn is_taken(before: &[FieldPlan], name: &Text) -> bool
+    ensures { result ≡ list_any (λ f. bytes_eq name.now f.name) before.now }
+{
+    let name = name.bytes();
+    before.iter().any(|field| field.is_named(name))
+}
+
+#[tactic(auto, unfolding(crate::specs::Field::new_name))]
+fn new_name(alloc: Global, before: &[FieldPlan], keys: &Keys) -> Result<Text, Fault>
+    ensures { IsAnswer (new_name before.now (table_view keys.now.table.now) keys.now.above.now) result }
+{
+    let name = keys.needed(alloc, &TextRule::FieldName, "name")?;
+    if is_taken(before, &name) {
+        return Err(Fault::OutOfRange {
+            key: Place::new(keys.above, b"name").text(alloc)?,
+        });
+    }
+    Ok(name)
+}
+
+#[tactic(auto, unfolding(crate::specs::Field::given_shares))]
+fn given_shares(alloc: Global, rare: bool, keys: &Keys) -> Result<Option<FieldShares>, Fault>
+    ensures { Gives (λ s. option_map plain_shares s) (given_shares rare (table_view keys.now.table.now) keys.now.above.now) result }
+{
+    let m = keys.needed(alloc, &Shares { rare }, "m")?;
+    let u = keys.needed(alloc, &Shares { rare }, "u")?;
+    Ok(Some(FieldShares { rare, m, u }))
+}
+
+#[tactic(auto, unfolding(crate::specs::Field::no_shares))]
+fn no_shares(alloc: Global, keys: &Keys) -> Result<Option<FieldShares>, Fault>
+    ensures { Gives (λ s. option_map plain_shares s) (no_shares (table_view keys.now.table.now) keys.now.above.now) result }
+{
+    keys.absent(alloc, "m")?;
+    keys.absent(alloc, "u")?;
+    Ok(None)
+}
+
+fn shares_of(
+    alloc: Global,
+    sampled: bool,
+    rare: bool,
+    keys: &Keys,
+) -> Result<Option<FieldShares>, Fault>
+    ensures { Gives (λ s. option_map plain_shares s) (shares_of sampled rare (table_view keys.now.table.now) keys.now.above.now) result }
+{
+    if sampled {
+        no_shares(alloc, keys)
+    } else {
+        given_shares(alloc, rare, keys)
+    }
+}
+
+#[tactic(auto, unfolding(crate::specs::Field::field))]
+fn field(
+    alloc: Global,
+    sampled: bool,
+    before: &[FieldPlan],
+    keys: &Keys,
+) -> Result<FieldPlan, Fault>
+    ensures { IsAnswer (field sampled before.now (table_view keys.now.table.now) keys.now.above.now) result }
+{
+    keys.known(alloc, &FIELD_KEYS)?;
+    let name = new_name(alloc, before, keys)?;
+    let label = TextRule::Label;
+    let column_a = keys.defaulted(alloc, &label, name.copy(alloc)?, "column_a")?;
+    let column_b = keys.defaulted(alloc, &label, name.copy(alloc)?, "column_b")?;
+    let kind = keys.needed(alloc, &Choice(Kinds), "kind")?;
+    let sort = sort_of(alloc, kind, keys)?;
+    let word = keys.needed(alloc, &Choice(kind), "compare")?;
+    let compare = compare_by(alloc, word, keys)?;
+    let rare = rare_of(alloc, compare, keys)?;
+    let shares = shares_of(alloc, sampled, rare.is_some(), keys)?;
+    Ok(FieldPlan {
+        name,
+        column_a,
+        column_b,
+        sort,
+        compare,
+        rare,
+        shares,
+    })
+}
+
+/// A field's table; `sampled` says that the settings name a sample.
+#[derive(Drop)]
+struct FieldTable {
+    sampled: bool,
+}
+
+impl Row for FieldTable {
+    type Item = FieldPlan;
+
+    ghost gives = { λ f. field f.sampled };
+
+    fn read(&self, alloc: Global, before: &[FieldPlan], keys: &Keys) -> Result<FieldPlan, Fault> {
+        field(alloc, self.sampled, before, keys)
+    }
+}
+
+/// One to six fields; `sampled` says that the settings name a sample.
+#[derive(Drop)]
+pub(crate) struct Fields {
+    pub(crate) sampled: bool,
+}
+
+impl Reader for Fields {
+    type Item = FieldList;
+
+    ghost gives = { λ f. fields f.sampled };
+
+    fn read(&self, alloc: Global, place: &Place, value: &Value) -> Result<FieldList, Fault> {
+        let rows = Items {
+            low: 1,
+            high: 6,
+            element: Rows(FieldTable {
+                sampled: self.sampled,
+            }),
+        };
+        Ok(FieldList::new(rows.read(alloc, place, value)?))
+    }
+}

@@ -1,0 +1,127 @@
+// What a field holds, and how it is compared.
+ghost use Rattle.std.specs.Prelude.{◌≡◌};
+ghost use Rattle.toml.specs.View.{table_view};
+ghost use Rattle.link_base.specs.Fault.{IsAnswer};
+ghost use Rattle.settings.specs.Field.{date_sort, plain_sort, sort_of, by_letters, by_days, by_years, plain_compare, compare_by, may_be_rare, rare_of};
+
+use crate::texts::Letters;
+use crate::words::{CompareWord, Forms, Kind};
+use link_base::{CompareKind, Fault, FieldSort};
+use settings_readers::{Choice, Keys, Whole};
+use std::alloc::Global;
+
+#[tactic(auto, unfolding(crate::specs::Field::date_sort))]
+fn date_sort(alloc: Global, keys: &Keys) -> Result<FieldSort, Fault>
+    ensures { IsAnswer (date_sort (table_view keys.now.table.now) keys.now.above.now) result }
+{
+    let a = keys.needed(alloc, &Choice(Forms), "form_a")?;
+    let b = keys.needed(alloc, &Choice(Forms), "form_b")?;
+    Ok(FieldSort::Date(a, b))
+}
+
+#[tactic(auto, unfolding(crate::specs::Field::plain_sort))]
+fn plain_sort(alloc: Global, sort: FieldSort, keys: &Keys) -> Result<FieldSort, Fault>
+    ensures { IsAnswer (plain_sort sort (table_view keys.now.table.now) keys.now.above.now) result }
+{
+    keys.absent(alloc, "form_a")?;
+    keys.absent(alloc, "form_b")?;
+    Ok(sort)
+}
+
+/// The sort of a field of a kind. A date has two forms, and nothing else has one.
+pub(crate) fn sort_of(alloc: Global, kind: Kind, keys: &Keys) -> Result<FieldSort, Fault>
+    ensures { IsAnswer (sort_of kind (table_view keys.now.table.now) keys.now.above.now) result }
+{
+    match kind {
+        Kind::Name => plain_sort(alloc, FieldSort::Name, keys),
+        Kind::Place => plain_sort(alloc, FieldSort::Place, keys),
+        Kind::Date => date_sort(alloc, keys),
+    }
+}
+
+#[tactic(auto, unfolding(crate::specs::Field::by_letters))]
+fn by_letters(alloc: Global, keys: &Keys) -> Result<CompareKind, Fault>
+    ensures { IsAnswer (by_letters (table_view keys.now.table.now) keys.now.above.now) result }
+{
+    let letters = keys.needed(alloc, &Letters, "n")?;
+    keys.absent(alloc, "t")?;
+    Ok(CompareKind::FirstLetters(letters))
+}
+
+#[tactic(auto, unfolding(crate::specs::Field::by_days))]
+fn by_days(alloc: Global, keys: &Keys) -> Result<CompareKind, Fault>
+    ensures { IsAnswer (by_days (table_view keys.now.table.now) keys.now.above.now) result }
+{
+    let most = Whole {
+        low: 0,
+        high: 36_500,
+    };
+    keys.absent(alloc, "n")?;
+    let days = keys.needed(alloc, &most, "t")?;
+    Ok(CompareKind::DaysWithin(days))
+}
+
+#[tactic(auto, unfolding(crate::specs::Field::by_years))]
+fn by_years(alloc: Global, keys: &Keys) -> Result<CompareKind, Fault>
+    ensures { IsAnswer (by_years (table_view keys.now.table.now) keys.now.above.now) result }
+{
+    keys.absent(alloc, "n")?;
+    let years = keys.needed(alloc, &Whole { low: 0, high: 100 }, "t")?;
+    Ok(CompareKind::YearsWithin(years))
+}
+
+#[tactic(auto, unfolding(crate::specs::Field::plain_compare))]
+fn plain_compare(alloc: Global, compare: CompareKind, keys: &Keys) -> Result<CompareKind, Fault>
+    ensures { IsAnswer (plain_compare compare (table_view keys.now.table.now) keys.now.above.now) result }
+{
+    keys.absent(alloc, "n")?;
+    keys.absent(alloc, "t")?;
+    Ok(compare)
+}
+
+/// The comparison that a word names, with its number where it has one.
+pub(crate) fn compare_by(
+    alloc: Global,
+    word: CompareWord,
+    keys: &Keys,
+) -> Result<CompareKind, Fault>
+    ensures { IsAnswer (compare_by word (table_view keys.now.table.now) keys.now.above.now) result }
+{
+    match word {
+        CompareWord::Exact => plain_compare(alloc, CompareKind::Exact, keys),
+        CompareWord::Soundex => plain_compare(alloc, CompareKind::BySoundex, keys),
+        CompareWord::Nysiis => plain_compare(alloc, CompareKind::ByNysiis, keys),
+        CompareWord::First => by_letters(alloc, keys),
+        CompareWord::Initials => plain_compare(alloc, CompareKind::Initials, keys),
+        CompareWord::Days => by_days(alloc, keys),
+        CompareWord::Years => by_years(alloc, keys),
+    }
+}
+
+fn may_be_rare(compare: CompareKind) -> bool
+    ensures { result ≡ may_be_rare compare }
+{
+    !matches!(
+        compare,
+        CompareKind::DaysWithin(_) | CompareKind::YearsWithin(_)
+    )
+}
+
+/// The rare number of a field that is compared so.
+pub(crate) fn rare_of(
+    alloc: Global,
+    compare: CompareKind,
+    keys: &Keys,
+) -> Result<Option<u32>, Fault>
+    ensures { IsAnswer (rare_of compare (table_view keys.now.table.now) keys.now.above.now) result }
+{
+    if may_be_rare(compare) {
+        let most = Whole {
+            low: 2,
+            high: 200_000,
+        };
+        return keys.optional(alloc, &most, "rare");
+    }
+    keys.absent(alloc, "rare")?;
+    Ok(None)
+}

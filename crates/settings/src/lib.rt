@@ -1,0 +1,19 @@
+//! The settings of a run: the bytes of a TOML file to a plan, or the first key at fault.
+#![tactic(auto)]
+
+mod fields;
+mod kinds;
+mod passes;
+mod plan;
+mod shares;
+mod texts;
+mod top;
+mod word_tables;
+mod words;
+
+pub use plan::{FieldList, FieldPlan, Plan};
+pub use settings_readers::least_unknown_key;
+pub use top::read_settings;
+
+#[cfg(test)]
+mod tests;

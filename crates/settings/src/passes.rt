@@ -1,0 +1,171 @@
+// A pass's table, and its parts.
+ghost use Rattle.std.specs.Prelude.{◌≡◌};
+ghost use Rattle.toml.specs.View.{table_view};
+ghost use Rattle.link_base.specs.Fault.{IsAnswer};
+ghost use Rattle.settings.specs.Pass.{field_named, first_key, plain_key, key_by, part, parts, pass, passes};
+
+use crate::plan::FieldList;
+use crate::texts::Letters;
+use crate::words::{KeyWord, KeysOf};
+use link_base::{Fault, FieldSort, KeyKind, Part, Pass, PassList};
+use settings_readers::{Choice, Choices, Items, Keys, Place, Reader, Row, Rows};
+use std::alloc::Global;
+use toml::Value;
+
+const PASS_KEYS: [&str; 1] = ["parts"];
+
+const PART_KEYS: [&str; 3] = ["field", "key", "n"];
+
+fn field_named(fields: &FieldList, name: &str) -> Option<(u8, FieldSort)>
+    ensures { result ≡ field_named fields.now 0 name.now }
+{
+    let mut number = 0u8;
+    for field in fields.fields() {
+        if field.is_named(name.as_bytes()) {
+            return Some((number, field.sort));
+        }
+        number += 1;
+    }
+    None
+}
+
+/// The fields, by their names.
+#[derive(Drop)]
+struct FieldNames<'a> {
+    fields: &'a FieldList,
+}
+
+impl Choices for FieldNames<'_> {
+    type Item = (u8, FieldSort);
+
+    ghost gives = { λ f. field_named f.fields.now 0 };
+
+    fn named(&self, text: &str) -> Option<(u8, FieldSort)> {
+        field_named(self.fields, text)
+    }
+}
+
+#[tactic(auto, unfolding(crate::specs::Pass::first_key))]
+fn first_key(alloc: Global, keys: &Keys) -> Result<KeyKind, Fault>
+    ensures { IsAnswer (first_key (table_view keys.now.table.now) keys.now.above.now) result }
+{
+    let letters = keys.needed(alloc, &Letters, "n")?;
+    Ok(KeyKind::First(letters))
+}
+
+#[tactic(auto, unfolding(crate::specs::Pass::plain_key))]
+fn plain_key(alloc: Global, key: KeyKind, keys: &Keys) -> Result<KeyKind, Fault>
+    ensures { IsAnswer (plain_key key (table_view keys.now.table.now) keys.now.above.now) result }
+{
+    keys.absent(alloc, "n")?;
+    Ok(key)
+}
+
+fn key_by(alloc: Global, word: KeyWord, keys: &Keys) -> Result<KeyKind, Fault>
+    ensures { IsAnswer (key_by word (table_view keys.now.table.now) keys.now.above.now) result }
+{
+    match word {
+        KeyWord::Whole => plain_key(alloc, KeyKind::Whole, keys),
+        KeyWord::Soundex => plain_key(alloc, KeyKind::Soundex, keys),
+        KeyWord::Nysiis => plain_key(alloc, KeyKind::Nysiis, keys),
+        KeyWord::First => first_key(alloc, keys),
+        KeyWord::Year => plain_key(alloc, KeyKind::Year, keys),
+    }
+}
+
+#[tactic(auto, unfolding(crate::specs::Pass::part))]
+fn part(alloc: Global, fields: &FieldList, keys: &Keys) -> Result<Part, Fault>
+    ensures { IsAnswer (part fields.now (table_view keys.now.table.now) keys.now.above.now) result }
+{
+    keys.known(alloc, &PART_KEYS)?;
+    let (field, sort) = keys.needed(alloc, &Choice(FieldNames { fields }), "field")?;
+    let word = keys.needed(alloc, &Choice(KeysOf(sort)), "key")?;
+    let key = key_by(alloc, word, keys)?;
+    Ok(Part { field, key })
+}
+
+/// A part's table, over these fields.
+#[derive(Drop)]
+struct PartTable<'a> {
+    fields: &'a FieldList,
+}
+
+impl Row for PartTable<'_> {
+    type Item = Part;
+
+    ghost gives = { λ p before. part p.fields.now };
+
+    fn read(&self, alloc: Global, _before: &[Part], keys: &Keys) -> Result<Part, Fault> {
+        part(alloc, self.fields, keys)
+    }
+}
+
+/// One to four parts, over these fields.
+#[derive(Drop)]
+struct Parts<'a> {
+    fields: &'a FieldList,
+}
+
+impl Reader for Parts<'_> {
+    type Item = Pass;
+
+    ghost gives = { λ p. parts p.fields.now };
+
+    fn read(&self, alloc: Global, place: &Place, value: &Value) -> Result<Pass, Fault> {
+        let rows = Items {
+            low: 1,
+            high: 4,
+            element: Rows(PartTable {
+                fields: self.fields,
+            }),
+        };
+        Ok(Pass::new(rows.read(alloc, place, value)?))
+    }
+}
+
+#[tactic(auto, unfolding(crate::specs::Pass::pass))]
+fn pass(alloc: Global, fields: &FieldList, keys: &Keys) -> Result<Pass, Fault>
+    ensures { IsAnswer (pass fields.now (table_view keys.now.table.now) keys.now.above.now) result }
+{
+    keys.known(alloc, &PASS_KEYS)?;
+    keys.needed(alloc, &Parts { fields }, "parts")
+}
+
+/// A pass's table, over these fields.
+#[derive(Drop)]
+struct PassTable<'a> {
+    fields: &'a FieldList,
+}
+
+impl Row for PassTable<'_> {
+    type Item = Pass;
+
+    ghost gives = { λ p before. pass p.fields.now };
+
+    fn read(&self, alloc: Global, _before: &[Pass], keys: &Keys) -> Result<Pass, Fault> {
+        pass(alloc, self.fields, keys)
+    }
+}
+
+/// One to eight passes, over these fields.
+#[derive(Drop)]
+pub(crate) struct Passes<'a> {
+    pub(crate) fields: &'a FieldList,
+}
+
+impl Reader for Passes<'_> {
+    type Item = PassList;
+
+    ghost gives = { λ p. passes p.fields.now };
+
+    fn read(&self, alloc: Global, place: &Place, value: &Value) -> Result<PassList, Fault> {
+        let rows = Items {
+            low: 1,
+            high: 8,
+            element: Rows(PassTable {
+                fields: self.fields,
+            }),
+        };
+        Ok(PassList::new(rows.read(alloc, place, value)?))
+    }
+}

@@ -1,0 +1,121 @@
+// What the settings say.
+ghost use Rattle.std.specs.Prelude.{◌≡◌, ◌≤◌, length, is_some, bytes_eq};
+
+use link_base::{CompareKind, FieldShares, FieldSort, PassList, Shape, Tables, Text};
+use std::marker::Model;
+
+/// What the settings say of a field. Contracts see the values of its keys, with plain shares. A rare
+/// number is from 2 to 200,000; shares are given where the settings name no sample.
+#[derive(Debug, Drop)]
+pub struct FieldPlan {
+    pub name: Text,
+    pub column_a: Text,
+    pub column_b: Text,
+    pub sort: FieldSort,
+    pub compare: CompareKind,
+    pub rare: Option<u32>,
+    pub shares: Option<FieldShares>,
+}
+
+impl Model for FieldPlan {
+    ghost use Rattle.std.specs.Prelude.{option_map};
+    ghost use Rattle.settings.specs.Plan.{FieldKeys, plain_shares};
+
+    ghost Value = { FieldKeys };
+
+    ghost view = { λ f. record { name = f.name; column_a = f.column_a; column_b = f.column_b; sort = f.sort; compare = f.compare; rare = f.rare; shares = option_map plain_shares f.shares } };
+}
+
+impl FieldPlan {
+    pub(crate) fn is_named(&self, name: &[u8]) -> bool
+        ensures { result ≡ bytes_eq name.now self.now.name }
+    {
+        name == self.name.bytes()
+    }
+
+    fn has_rare_number(&self) -> bool
+        ensures { result ≡ is_some self.now.rare }
+    {
+        self.rare.is_some()
+    }
+}
+
+/// One to six fields, which contracts see as the list of them.
+#[derive(Debug, Drop)]
+pub struct FieldList {
+    fields: Vec<FieldPlan>,
+}
+
+impl Model for FieldList {
+    ghost use Rattle.std.specs.Prelude.{List, length, ◌≤◌};
+    ghost use Rattle.settings.specs.Plan.{FieldKeys};
+
+    ghost Value = { List FieldKeys };
+
+    ghost view = { λ f. f.fields.items };
+
+    ghost invariant = { λ f. (1 ≤ length f.fields.items) × (length f.fields.items ≤ 6) };
+}
+
+impl FieldList {
+    /// The list of these fields.
+    pub fn new(fields: Vec<FieldPlan>) -> FieldList
+        requires some { 1 ≤ length fields.items }
+        requires few { length fields.items ≤ 6 }
+        ensures { result ≡ fields.items }
+    {
+        FieldList { fields }
+    }
+
+    /// The fields.
+    pub fn fields(&self) -> &[FieldPlan]
+        ensures all { result.now ≡ self.now }
+        ensures some { 1 ≤ length result.now }
+        ensures few { length result.now ≤ 6 }
+    {
+        &self.fields
+    }
+}
+
+/// What the settings say of a run. Levels are in millionths.
+#[derive(Debug, Drop)]
+pub struct Plan {
+    pub file_a: Text,
+    pub file_b: Text,
+    pub id_a: Text,
+    pub id_b: Text,
+    pub delimiter_a: u8,
+    pub delimiter_b: u8,
+    pub sample: Option<Text>,
+    pub journal: Option<Text>,
+    pub mu_ppm: u32,
+    pub lambda_ppm: u32,
+    pub seed: u64,
+    pub award: u32,
+    pub strict: bool,
+    pub double: bool,
+    pub tables: Tables,
+    pub fields: FieldList,
+    pub passes: PassList,
+}
+
+impl Plan {
+    ghost use Rattle.settings.specs.Shape.{rare_flags};
+
+    /// The shape of comparison patterns: a field for each field of the plan, and rare where that field
+    /// has a rare number.
+    pub fn shape(&self) -> Shape
+        ensures fields { result.fields ≡ length self.now.fields }
+        ensures rare { result.rare ≡ rare_flags self.now.fields }
+    {
+        let fields = self.fields.fields();
+        let mut rare = [false; 6];
+        for (i, field) in fields.iter().enumerate() {
+            rare[i] = field.has_rare_number();
+        }
+        Shape {
+            fields: fields.len() as u8,
+            rare,
+        }
+    }
+}

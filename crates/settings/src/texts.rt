@@ -1,0 +1,198 @@
+// Texts and numbers in their ranges.
+ghost use Rattle.std.specs.Prelude.{◌≡◌, ◌^◌, ◌-◌, IfOk, IsUtf8};
+ghost use Rattle.std.specs.List.{list_all};
+ghost use Rattle.toml.specs.View.{view};
+ghost use Rattle.link_base.specs.Fault.{Gives};
+ghost use Rattle.link_base.specs.Tables.{is_word_byte};
+ghost use Rattle.settings_readers.specs.Values.{whole};
+ghost use Rattle.settings.specs.declared.texts.TextRule.TheVariants as rule;
+ghost use Rattle.settings.specs.Values.{is_output, is_name_byte, fits, text};
+
+use link_base::{Fault, NoMemory, Text};
+use settings_readers::{Place, Reader, whole_number};
+use std::alloc::Global;
+use std::marker::Model;
+use toml::Value;
+
+/// Which texts are in range at a key.
+#[derive(Clone, Copy)]
+pub(crate) enum TextRule {
+    /// A file that is read: 1 to 255 bytes, and none of the files that a run writes.
+    File,
+    /// 1 to 255 bytes.
+    Label,
+    /// At most 64 bytes.
+    Mark,
+    /// 1 to 32 bytes of A to Z and 0 to 9.
+    Word,
+    /// 1 to 32 bytes of a to z, 0 to 9 and _.
+    FieldName,
+}
+
+fn is_output(text: &str) -> bool
+    ensures { result ≡ is_output text.now }
+{
+    text == "pairs.csv"
+        || text == "rule.csv"
+        || text == "links.csv"
+        || text == "prices.csv"
+        || text == "report.txt"
+}
+
+fn is_word_byte(byte: u8) -> bool
+    ensures { result ≡ is_word_byte byte }
+{
+    matches!(byte, b'A'..=b'Z' | b'0'..=b'9')
+}
+
+fn is_name_byte(byte: u8) -> bool
+    ensures { result ≡ is_name_byte byte }
+{
+    matches!(byte, b'a'..=b'z' | b'0'..=b'9' | b'_')
+}
+
+fn has_word_bytes(text: &[u8]) -> bool
+    ensures { result ≡ list_all is_word_byte text.now }
+{
+    text.iter().all(|byte| is_word_byte(*byte))
+}
+
+fn has_name_bytes(text: &[u8]) -> bool
+    ensures { result ≡ list_all is_name_byte text.now }
+{
+    text.iter().all(|byte| is_name_byte(*byte))
+}
+
+/// Whether a text is in range.
+pub(crate) fn fits(rule: TextRule, text: &str) -> bool
+    ensures { result ≡ fits rule text.now }
+{
+    let len = text.len();
+    match rule {
+        TextRule::File => 1 <= len && len <= 255 && !is_output(text),
+        TextRule::Label => 1 <= len && len <= 255,
+        TextRule::Mark => len <= 64,
+        TextRule::Word => 1 <= len && len <= 32 && has_word_bytes(text.as_bytes()),
+        TextRule::FieldName => 1 <= len && len <= 32 && has_name_bytes(text.as_bytes()),
+    }
+}
+
+/// A text in its range.
+fn text_in<'a>(
+    alloc: Global,
+    rule: TextRule,
+    place: &Place,
+    value: &'a Value,
+) -> Result<&'a str, Fault>
+    ensures { Gives (λ text. text.now) (text rule place.now (view value.now)) result }
+{
+    match value.as_str() {
+        None => Err(Fault::WrongType {
+            key: place.text(alloc)?,
+        }),
+        Some(text) => {
+            if !fits(rule, text) {
+                return Err(Fault::OutOfRange {
+                    key: place.text(alloc)?,
+                });
+            }
+            Ok(text)
+        }
+    }
+}
+
+impl Reader for TextRule {
+    type Item = Text;
+
+    ghost gives = { text };
+
+    fn read(&self, alloc: Global, place: &Place, value: &Value) -> Result<Text, Fault> {
+        let text = text_in(alloc, *self, place, value)?;
+        Ok(Text::new(alloc, text.as_bytes())?)
+    }
+}
+
+/// The name of a file that is read, which is UTF-8.
+#[derive(Drop)]
+pub(crate) struct FileName {
+    name: Text,
+}
+
+impl Model for FileName {
+    ghost use Rattle.std.specs.Prelude.{List, ℕ, IsUtf8};
+
+    ghost Value = { List ℕ };
+
+    ghost view = { λ f. f.name };
+
+    ghost invariant = { λ f. IsUtf8 f.name };
+}
+
+impl FileName {
+    fn new(alloc: Global, name: &str) -> Result<FileName, NoMemory>
+        ensures { IfOk result (λ f. f ≡ name.now) }
+    {
+        let name = Text::new(alloc, name.as_bytes())?;
+        Ok(FileName { name })
+    }
+
+    /// The bytes.
+    pub(crate) fn bytes(&self) -> &[u8]
+        ensures { result.now ≡ self.now }
+    {
+        self.name.bytes()
+    }
+
+    /// The name as a text.
+    pub(crate) fn into_text(self) -> Text
+        ensures same { result ≡ self }
+        ensures utf8 { IsUtf8 result }
+    {
+        self.name
+    }
+}
+
+/// A reader of the name of a file that is read.
+#[derive(Drop)]
+pub(crate) struct File;
+
+impl Reader for File {
+    type Item = FileName;
+
+    ghost gives = { λ _. text rule.File };
+
+    fn read(&self, alloc: Global, place: &Place, value: &Value) -> Result<FileName, Fault> {
+        let name = text_in(alloc, TextRule::File, place, value)?;
+        Ok(FileName::new(alloc, name)?)
+    }
+}
+
+/// How many first letters are taken, 1 to 20.
+#[derive(Drop)]
+pub(crate) struct Letters;
+
+impl Reader for Letters {
+    type Item = u8;
+
+    ghost gives = { λ _. whole 1 20 };
+
+    fn read(&self, alloc: Global, place: &Place, value: &Value) -> Result<u8, Fault> {
+        Ok(whole_number(alloc, 1, 20, place, value)? as u8)
+    }
+}
+
+const GREATEST_SEED: u64 = 9_223_372_036_854_775_807;
+
+/// The number that random words come from, 0 to 2^63 - 1.
+#[derive(Drop)]
+pub(crate) struct Seed;
+
+impl Reader for Seed {
+    type Item = u64;
+
+    ghost gives = { λ _. whole 0 (2 ^ 63 - 1) };
+
+    fn read(&self, alloc: Global, place: &Place, value: &Value) -> Result<u64, Fault> {
+        whole_number(alloc, 0, GREATEST_SEED, place, value)
+    }
+}

@@ -1,0 +1,270 @@
+// The keys of the top table.
+ghost use Rattle.std.specs.Prelude.{◌≡◌, ◌∷◌, IfErr, IfOk, IfSome, IsUtf8, option_to_list, not};
+ghost use Rattle.toml.specs.View.{table_view};
+ghost use Rattle.link_base.specs.declared.fault.Fault.TheVariants as fault;
+ghost use Rattle.link_base.specs.Fault.{IsAnswer};
+ghost use Rattle.link_base.specs.Tables.{AreWordPairs};
+ghost use Rattle.settings.specs.Words.{one_of};
+ghost use Rattle.settings.specs.Settings.{is_free, journal_of, sources, numbers, tables, plan_of, document, settings};
+ghost use Rattle.settings.specs.Ranges.{IsSettingsFault, KeepsRanges, NamesFiles};
+
+use crate::fields::Fields;
+use crate::passes::Passes;
+use crate::plan::Plan;
+use crate::texts::{File, FileName, Seed, TextRule};
+use crate::word_tables::{Texts, WordTable};
+use crate::words::Delimiters;
+use link_base::{Fault, Tables, Text};
+use settings_readers::{Choice, Keys, Place, Truth, Whole};
+use std::alloc::Global;
+
+const TOP_KEYS: [&str; 21] = [
+    "file_a",
+    "file_b",
+    "id_a",
+    "id_b",
+    "delimiter_a",
+    "delimiter_b",
+    "sample",
+    "journal",
+    "mu_ppm",
+    "lambda_ppm",
+    "seed",
+    "award",
+    "strict",
+    "double",
+    "missing",
+    "titles",
+    "suffixes",
+    "names",
+    "places",
+    "field",
+    "pass",
+];
+
+/// The keys on the files.
+#[derive(Drop)]
+pub(crate) struct SourceKeys {
+    file_a: FileName,
+    file_b: FileName,
+    id_a: Text,
+    id_b: Text,
+    delimiter_a: u8,
+    delimiter_b: u8,
+    sample: Option<FileName>,
+    journal: Option<FileName>,
+}
+
+/// The keys that are numbers and truth values.
+#[derive(Drop)]
+pub(crate) struct NumberKeys {
+    mu_ppm: u32,
+    lambda_ppm: u32,
+    seed: u64,
+    award: u32,
+    strict: bool,
+    double: bool,
+}
+
+fn differs(name: &FileName, sample: &Option<FileName>) -> bool
+    ensures { result ≡ not (one_of (option_to_list sample.now) name.now) }
+{
+    match sample {
+        None => true,
+        Some(sample) => name.bytes() != sample.bytes(),
+    }
+}
+
+/// Whether the journal is none of the files that are read.
+fn is_free(
+    file_a: &FileName,
+    file_b: &FileName,
+    sample: &Option<FileName>,
+    journal: &Option<FileName>,
+) -> bool
+    ensures { result ≡ is_free (file_a.now ∷ file_b.now ∷ option_to_list sample.now) journal.now }
+{
+    match journal {
+        None => true,
+        Some(name) => {
+            name.bytes() != file_a.bytes()
+                && name.bytes() != file_b.bytes()
+                && differs(name, sample)
+        }
+    }
+}
+
+#[tactic(auto, unfolding(crate::specs::Settings::journal_of))]
+fn journal_of(
+    alloc: Global,
+    file_a: &FileName,
+    file_b: &FileName,
+    sample: &Option<FileName>,
+    keys: &Keys,
+) -> Result<Option<FileName>, Fault>
+    ensures { IsAnswer (journal_of (file_a.now ∷ file_b.now ∷ option_to_list sample.now) (table_view keys.now.table.now) keys.now.above.now) result }
+{
+    let journal = keys.optional(alloc, &File, "journal")?;
+    if !is_free(file_a, file_b, sample, &journal) {
+        return Err(Fault::OutOfRange {
+            key: Place::new(keys.above, b"journal").text(alloc)?,
+        });
+    }
+    Ok(journal)
+}
+
+#[tactic(auto, unfolding(crate::specs::Settings::sources))]
+fn sources(alloc: Global, keys: &Keys) -> Result<SourceKeys, Fault>
+    ensures { IsAnswer (sources (table_view keys.now.table.now) keys.now.above.now) result }
+{
+    let label = TextRule::Label;
+    let delimiter = Choice(Delimiters);
+    let file_a = keys.needed(alloc, &File, "file_a")?;
+    let file_b = keys.needed(alloc, &File, "file_b")?;
+    let id_a = keys.defaulted(alloc, &label, Text::new(alloc, b"id")?, "id_a")?;
+    let id_b = keys.defaulted(alloc, &label, Text::new(alloc, b"id")?, "id_b")?;
+    let delimiter_a = keys.defaulted(alloc, &delimiter, b',', "delimiter_a")?;
+    let delimiter_b = keys.defaulted(alloc, &delimiter, b',', "delimiter_b")?;
+    let sample = keys.optional(alloc, &File, "sample")?;
+    let journal = journal_of(alloc, &file_a, &file_b, &sample, keys)?;
+    Ok(SourceKeys {
+        file_a,
+        file_b,
+        id_a,
+        id_b,
+        delimiter_a,
+        delimiter_b,
+        sample,
+        journal,
+    })
+}
+
+#[tactic(auto, unfolding(crate::specs::Settings::numbers))]
+fn numbers(alloc: Global, keys: &Keys) -> Result<NumberKeys, Fault>
+    ensures { IsAnswer (numbers (table_view keys.now.table.now) keys.now.above.now) result }
+{
+    let level = Whole {
+        low: 0,
+        high: 1_000_000,
+    };
+    let points = Whole { low: 0, high: 1000 };
+    let mu_ppm = keys.needed(alloc, &level, "mu_ppm")?;
+    let lambda_ppm = keys.needed(alloc, &level, "lambda_ppm")?;
+    let seed = keys.defaulted(alloc, &Seed, 0, "seed")?;
+    let award = keys.defaulted(alloc, &points, 500, "award")?;
+    let strict = keys.defaulted(alloc, &Truth, false, "strict")?;
+    let double = keys.defaulted(alloc, &Truth, false, "double")?;
+    Ok(NumberKeys {
+        mu_ppm,
+        lambda_ppm,
+        seed,
+        award,
+        strict,
+        double,
+    })
+}
+
+#[tactic(auto, unfolding(crate::specs::Settings::tables))]
+fn tables(alloc: Global, keys: &Keys) -> Result<Tables, Fault>
+    ensures gives { IsAnswer (tables (table_view keys.now.table.now) keys.now.above.now) result }
+    ensures names { IfOk result (λ tables. AreWordPairs tables.names) }
+    ensures places { IfOk result (λ tables. AreWordPairs tables.places) }
+{
+    let marks = Texts {
+        most: 50,
+        rule: TextRule::Mark,
+    };
+    let words = Texts {
+        most: 200,
+        rule: TextRule::Word,
+    };
+    let standard = Tables::standard(alloc)?;
+    let missing = keys.defaulted(alloc, &marks, standard.missing, "missing")?;
+    let titles = keys.defaulted(alloc, &words, standard.titles, "titles")?;
+    let suffixes = keys.defaulted(alloc, &words, standard.suffixes, "suffixes")?;
+    let names = keys.defaulted(alloc, &WordTable, standard.names, "names")?;
+    let places = keys.defaulted(alloc, &WordTable, standard.places, "places")?;
+    // That pairs are words and rise is a fact of their type, which the clauses repeat.
+    let _ = names.pairs();
+    let _ = places.pairs();
+    Ok(Tables {
+        missing,
+        titles,
+        suffixes,
+        names,
+        places,
+    })
+}
+
+fn optional_text(name: Option<FileName>) -> Option<Text>
+    ensures same { result ≡ name }
+    ensures utf8 { IfSome result IsUtf8 }
+{
+    match name {
+        None => None,
+        Some(name) => Some(name.into_text()),
+    }
+}
+
+#[tactic(auto, unfolding(crate::specs::Settings::plan_of))]
+fn plan_of(alloc: Global, keys: &Keys) -> Result<Plan, Fault>
+    ensures gives { IsAnswer (plan_of (table_view keys.now.table.now) keys.now.above.now) result }
+    ensures files { IfOk result NamesFiles }
+    ensures names { IfOk result (λ plan. AreWordPairs plan.tables.names) }
+    ensures places { IfOk result (λ plan. AreWordPairs plan.tables.places) }
+{
+    keys.known(alloc, &TOP_KEYS)?;
+    let sources = sources(alloc, keys)?;
+    let numbers = numbers(alloc, keys)?;
+    let tables = tables(alloc, keys)?;
+    let sampled = sources.sample.is_some();
+    let fields = keys.needed(alloc, &Fields { sampled }, "field")?;
+    let passes = keys.needed(alloc, &Passes { fields: &fields }, "pass")?;
+    Ok(Plan {
+        file_a: sources.file_a.into_text(),
+        file_b: sources.file_b.into_text(),
+        id_a: sources.id_a,
+        id_b: sources.id_b,
+        delimiter_a: sources.delimiter_a,
+        delimiter_b: sources.delimiter_b,
+        sample: optional_text(sources.sample),
+        journal: optional_text(sources.journal),
+        mu_ppm: numbers.mu_ppm,
+        lambda_ppm: numbers.lambda_ppm,
+        seed: numbers.seed,
+        award: numbers.award,
+        strict: numbers.strict,
+        double: numbers.double,
+        tables,
+        fields,
+        passes,
+    })
+}
+
+/// The plan of a settings file, or its first key at fault. Bytes that are not UTF-8 are not TOML.
+pub fn read_settings(alloc: Global, bytes: &[u8]) -> Result<Plan, Fault>
+    ensures gives { IsAnswer (settings bytes.now) result }
+    ensures not_toml { result ≡ Err fault.NotToml → document bytes.now ≡ None }
+    ensures kind { IfErr result IsSettingsFault }
+    ensures ranges { IfOk result KeepsRanges }
+    ensures files { IfOk result NamesFiles }
+    ensures names { IfOk result (λ plan. AreWordPairs plan.tables.names) }
+    ensures places { IfOk result (λ plan. AreWordPairs plan.tables.places) }
+{
+    match toml::table_from_slice(alloc, bytes) {
+        Ok(table) => {
+            let keys = Keys {
+                table: &table,
+                above: b"",
+            };
+            plan_of(alloc, &keys)
+        }
+        Err(e) => {
+            if e.is_memory() {
+                Err(Fault::NoMemory)
+            } else {
+                Err(Fault::NotToml)
+            }
+        }
+    }
+}

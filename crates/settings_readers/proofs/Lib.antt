@@ -1,0 +1,5 @@
+pub mod Walks
+pub mod Steps
+pub mod Ascending
+pub mod KeyFaults
+pub mod Kept

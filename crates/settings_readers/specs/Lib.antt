@@ -1,0 +1,5 @@
+pub mod Parts
+pub mod Values
+pub mod Lists
+pub mod Laws
+pub mod KeyFaults

@@ -1,0 +1,58 @@
+-- Parts of a settings file, one after the other: each gives a value or its first fault.
+use Rattle.std.specs.Prelude.{List, ℕ, Bool, ◌++◌, Option, Some, None, unwrap_or, Result, Ok, Err, if◌then◌else◌}
+use Rattle.toml.specs.Data.{Data, Members, no_members, member, get_member}
+use Rattle.link_base.specs.declared.fault.Fault.{Fault}
+use Rattle.link_base.specs.declared.fault.Fault.TheVariants.{UnknownKey, MissingKey, WrongType, OutOfRange}
+
+-- a part, and where it gives a value the next part
+infixl 10 ◌>>=◌
+abbrev pub ◌>>=◌ : {A B : Type 0} → Result A Fault → (A → Result B Fault) → Result B Fault
+(Ok x) >>= next = next x
+(Err f) >>= next = Err f
+
+-- what stands at a path, where it has its type
+abbrev pub typed : {A : Type 0} → List ℕ → Option A → Result A Fault
+typed at None = Err (WrongType at)
+typed at (Some x) = Ok x
+
+-- what stands at a path, where it is in its range
+abbrev pub ranged : {A : Type 0} → List ℕ → Option A → Result A Fault
+ranged at None = Err (OutOfRange at)
+ranged at (Some x) = Ok x
+
+abbrev pub in_range : {A : Type 0} → List ℕ → Bool → A → Result A Fault
+in_range at ok x = if ok then Ok x else Err (OutOfRange at)
+
+-- a key that has to be there, read at its path
+abbrev pub read_needed : {A : Type 0} → (List ℕ → Data → Result A Fault) → List ℕ → Option Data → Result A Fault
+read_needed read at None = Err (MissingKey at)
+read_needed read at (Some d) = read at d
+
+-- a key that may be there
+abbrev pub read_optional : {A : Type 0} → (List ℕ → Data → Result A Fault) → List ℕ → Option Data → Result (Option A) Fault
+read_optional read at None = Ok None
+read_optional read at (Some d) = read at d >>= λ x. Ok (Some x)
+
+-- a key that does not belong
+abbrev pub read_absent : List ℕ → Option Data → Result (Unit {0}) Fault
+read_absent at None = Ok tt
+read_absent at (Some d) = Err (UnknownKey at)
+
+-- the same at a key of a table; what stands above is empty, or a path and a point
+abbrev pub needed : {A : Type 0} → (List ℕ → Data → Result A Fault) → Members → List ℕ → List ℕ → Result A Fault
+needed read t above key = read_needed read (above ++ key) (get_member key t)
+
+abbrev pub optional : {A : Type 0} → (List ℕ → Data → Result A Fault) → Members → List ℕ → List ℕ → Result (Option A) Fault
+optional read t above key = read_optional read (above ++ key) (get_member key t)
+
+abbrev pub absent : Members → List ℕ → List ℕ → Result (Unit {0}) Fault
+absent t above key = read_absent (above ++ key) (get_member key t)
+
+-- a key that may be there, with its default
+abbrev pub defaulted : {A : Type 0} → (List ℕ → Data → Result A Fault) → A → Members → List ℕ → List ℕ → Result A Fault
+defaulted read default t above key = optional read t above key >>= λ o. Ok (unwrap_or o default)
+
+-- every key of a table is known; else the fault names the first that is not, and keys ascend
+abbrev pub known : (List ℕ → Bool) → Members → List ℕ → Result (Unit {0}) Fault
+known is_known no_members above = Ok tt
+known is_known (member key d ms) above = if is_known key then known is_known ms above else Err (UnknownKey (above ++ key))

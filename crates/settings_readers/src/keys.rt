@@ -1,0 +1,107 @@
+// Keys of a table.
+ghost use Rattle.std.specs.Prelude.{◌≡◌, option_map};
+ghost use Rattle.std.specs.List.{list_any};
+ghost use Rattle.std.specs.Str.{bytes_eq};
+ghost use Rattle.toml.specs.Data.{get_member};
+ghost use Rattle.toml.specs.View.{view, table_view};
+ghost use Rattle.link_base.specs.Fault.{IsAnswer};
+ghost use Rattle.settings_readers.specs.Parts.{absent, defaulted, known, needed, optional};
+
+use crate::place::Place;
+use crate::readers::Reader;
+use link_base::Fault;
+use std::alloc::Global;
+use toml::{Table, Value};
+
+/// The keys of a table, and what stands before them in their paths: nothing, or a path and a point.
+#[derive(Clone, Copy)]
+pub struct Keys<'a> {
+    pub table: &'a Table,
+    pub above: &'a [u8],
+}
+
+/// The value at a key.
+fn find<'a>(table: &'a Table, key: &str) -> Option<&'a Value>
+    ensures { option_map (λ v. view v.now) result ≡ get_member key.now (table_view table.now) }
+{
+    table.get(key)
+}
+
+/// Whether a key is one of those listed.
+fn is_listed(listed: &[&str], key: &str) -> bool
+    ensures { result ≡ list_any (λ k. bytes_eq key.now k.now) listed.now }
+{
+    listed.iter().any(|other| key == *other)
+}
+
+impl Keys<'_> {
+    /// Refuses a table that has a key that is not listed: the fault names the least such key by its bytes.
+    pub fn known(&self, alloc: Global, listed: &[&str]) -> Result<(), Fault>
+        ensures { IsAnswer (known (λ q. list_any (λ k. bytes_eq q k.now) listed.now) (table_view self.now.table.now) self.now.above.now) result }
+    {
+        let above = self.above;
+        let table = self.table;
+        for (key, _value) in table {
+            if !is_listed(listed, key.as_str()) {
+                return Err(Fault::UnknownKey {
+                    key: Place::new(above, key.as_str().as_bytes()).text(alloc)?,
+                });
+            }
+        }
+        Ok(())
+    }
+
+    /// Refuses a key that does not belong.
+    pub fn absent(&self, alloc: Global, key: &str) -> Result<(), Fault>
+        ensures { IsAnswer (absent (table_view self.now.table.now) self.now.above.now key.now) result }
+    {
+        match find(self.table, key) {
+            None => Ok(()),
+            Some(_) => Err(Fault::UnknownKey {
+                key: Place::new(self.above, key.as_bytes()).text(alloc)?,
+            }),
+        }
+    }
+
+    /// What a reader gives at a key that has to be there.
+    pub fn needed<R: Reader>(&self, alloc: Global, reader: &R, key: &str) -> Result<R::Item, Fault>
+        ensures { IsAnswer (needed (R.gives reader.now) (table_view self.now.table.now) self.now.above.now key.now) result }
+    {
+        let place = Place::new(self.above, key.as_bytes());
+        match find(self.table, key) {
+            None => Err(Fault::MissingKey {
+                key: place.text(alloc)?,
+            }),
+            Some(value) => reader.read(alloc, &place, value),
+        }
+    }
+
+    /// What a reader gives at a key that may be there.
+    pub fn optional<R: Reader>(
+        &self,
+        alloc: Global,
+        reader: &R,
+        key: &str,
+    ) -> Result<Option<R::Item>, Fault>
+        ensures { IsAnswer (optional (R.gives reader.now) (table_view self.now.table.now) self.now.above.now key.now) result }
+    {
+        let place = Place::new(self.above, key.as_bytes());
+        match find(self.table, key) {
+            None => Ok(None),
+            Some(value) => Ok(Some(reader.read(alloc, &place, value)?)),
+        }
+    }
+
+    /// The same, or a default where the key is not there.
+    pub fn defaulted<R: Reader>(
+        &self,
+        alloc: Global,
+        reader: &R,
+        default: R::Item,
+        key: &str,
+    ) -> Result<R::Item, Fault>
+        ensures { IsAnswer (defaulted (R.gives reader.now) default (table_view self.now.table.now) self.now.above.now key.now) result }
+    {
+        Ok(self.optional(alloc, reader, key)?.unwrap_or(default))
+    }
+}

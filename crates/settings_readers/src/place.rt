@@ -1,0 +1,50 @@
+// Where a value stands.
+ghost use Rattle.std.specs.Prelude.{◌≡◌, ◌++◌, IfOk, codes};
+
+use link_base::{NoMemory, Text};
+use std::alloc::Global;
+use std::marker::Model;
+
+/// Where a value stands: the keys, and the numbers of items from 1, on the way down to it, joined by
+/// points, as `field.2.kind`. Contracts see the bytes of this path.
+#[derive(Drop)]
+pub struct Place<'a> {
+    above: &'a [u8],
+    key: &'a [u8],
+}
+
+impl<'a> Model for Place<'a> {
+    ghost use Rattle.std.specs.Prelude.{List, ℕ, ◌++◌};
+
+    ghost Value = { List ℕ };
+
+    ghost view = { λ p. p.above.now ++ p.key.now };
+}
+
+impl<'a> Place<'a> {
+    /// The place of a key; `above` is empty or ends in a point.
+    pub fn new(above: &'a [u8], key: &'a [u8]) -> Place<'a>
+        ensures { result ≡ above.now ++ key.now }
+    {
+        Place { above, key }
+    }
+
+    /// The path, as a fault names it.
+    pub fn text(&self, alloc: Global) -> Result<Text, NoMemory>
+        ensures { IfOk result (λ text. text ≡ self.now) }
+    {
+        let mut bytes = Vec::from_slice(alloc, self.above)?;
+        bytes.extend_from_slice(self.key)?;
+        Ok(Text::of(bytes))
+    }
+
+    /// What stands before the keys and the items of the value here: the path and a point.
+    pub fn below(&self, alloc: Global) -> Result<Vec<u8>, NoMemory>
+        ensures { IfOk result (λ above. above.items ≡ self.now ++ codes ".") }
+    {
+        let mut bytes = Vec::from_slice(alloc, self.above)?;
+        bytes.extend_from_slice(self.key)?;
+        bytes.extend_from_slice(b".")?;
+        Ok(bytes)
+    }
+}
