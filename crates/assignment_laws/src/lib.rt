@@ -1,0 +1,7 @@
+//! One-to-one lists of candidates for links, what makes such a list the greatest, and the laws of the
+//! dual prices that certify it (linear assignment: Kuhn 1955, Munkres 1957).
+#![tactic(auto)]
+
+mod laws;
+
+pub use laws::{certificate_is_tight, certified_is_greatest};
