@@ -1,4 +1,4 @@
-//! The assigner and its answer.
+// The assigner and its answer.
 ghost use Rattle.std.specs.Prelude.{◌≡◌, ◌+◌, ◌<◌, ◌≤◌, ◌^◌, ℕ, length, List, All, AllPairs, IfOk, ℤ, pos, ◌≤ℤ◌};
 ghost use Rattle.assignment_laws.specs.Assignment.{IsBefore, IsOneToOne, IsGreatest, Certifies, price_of};
 ghost use Rattle.assignment.specs.Final.{IsAllowed, IsWithin};
@@ -8,9 +8,9 @@ ghost use Rattle.assignment.specs.Round.{IsBetween, AreSmall};
 use crate::market::{Edge, Tree};
 use crate::round::all_rounds;
 use crate::solve::{clean_tree, edges_of, first_prices, linked, no_links, zeros};
-use link_base::Candidate;
 use assignment_laws::certified_is_greatest;
-use std::alloc::{AllocError, Global};
+use link_base::{Candidate, NoMemory};
+use std::alloc::Global;
 use std::marker::Model;
 
 /// All that a solution needs, its memory included.
@@ -85,7 +85,7 @@ impl Assigner {
         rows_a: u32,
         rows_b: u32,
         candidates: &[Candidate],
-    ) -> Result<Assigner, AllocError>
+    ) -> Result<Assigner, NoMemory>
         requires rising { AllPairs IsBefore candidates.now }
         requires within { All (IsWithin rows_a rows_b) candidates.now }
         requires small { All IsAllowed candidates.now }

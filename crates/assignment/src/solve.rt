@@ -1,4 +1,4 @@
-//! From candidates to a greatest list with its prices.
+// From candidates to a greatest list with its prices.
 ghost use Rattle.std.specs.Prelude.{◌≡◌, ◌≢◌, ◌+◌, ◌-◌, ◌<◌, ◌≤◌, ◌^◌, ℕ, length, slice_index, slice_index_or, List, [], None, Some, Contains, All, AllPairs, vec_len, vec_capacity, MatchOption, IfOk, filter, filter_map, replicate};
 ghost use Rattle.assignment_laws.specs.Assignment.{IsBefore, IsGreatest, Certifies};
 ghost use Rattle.assignment.specs.Core.{number, edge};
@@ -7,9 +7,8 @@ ghost use Rattle.assignment.specs.Round.{IsBetween, AreSmall};
 ghost use Rattle.assignment.specs.Growth.{IsClean, IsRising};
 
 use crate::market::{Edge, FAR, Tree};
-use link_base::Candidate;
-use assignment_laws::certified_is_greatest;
-use std::alloc::{AllocError, Global};
+use link_base::{Candidate, NoMemory};
+use std::alloc::Global;
 
 /// A candidate as an edge, where its value is positive.
 fn edge_from(c: Candidate) -> Option<Edge>
@@ -27,14 +26,15 @@ fn edge_from(c: Candidate) -> Option<Edge>
 }
 
 /// The candidates with positive values as edges.
-pub fn edges_of(alloc: Global, candidates: &[Candidate]) -> Result<Vec<Edge>, AllocError>
+pub fn edges_of(alloc: Global, candidates: &[Candidate]) -> Result<Vec<Edge>, NoMemory>
     requires { All IsAllowed candidates.now }
     ensures { IfOk result (λ v. v.items ≡ edges_of candidates.now) }
 {
-    candidates
+    let edges = candidates
         .iter()
         .filter_map(|c| edge_from(*c))
-        .collect(alloc)
+        .collect(alloc)?;
+    Ok(edges)
 }
 
 /// Whether a candidate is linked.
@@ -65,7 +65,7 @@ pub fn linked(
 }
 
 /// For each row of A the greatest value of its edges, or 0.
-pub fn first_prices(alloc: Global, edges: &[Edge], rows_a: usize) -> Result<Vec<u64>, AllocError>
+pub fn first_prices(alloc: Global, edges: &[Edge], rows_a: usize) -> Result<Vec<u64>, NoMemory>
     requires small { AreSmall edges.now }
     requires within { (k : ℕ) → k < length edges.now → (edge edges.now k).a < rows_a }
     ensures { IfOk result (λ v. ReachAll edges.now rows_a v.items) }
@@ -90,7 +90,7 @@ fn raise_to(prices: &mut [u64], row: usize, value: u64)
 }
 
 /// A tree with nothing in it.
-pub fn clean_tree(alloc: Global, rows_a: usize, rows_b: usize) -> Result<Tree, AllocError>
+pub fn clean_tree(alloc: Global, rows_a: usize, rows_b: usize) -> Result<Tree, NoMemory>
     ensures { IfOk result (λ t. IsClean rows_a rows_b t) }
 {
     let dist_a = vec![in alloc; FAR; rows_a]?;
@@ -115,15 +115,17 @@ pub fn clean_tree(alloc: Global, rows_a: usize, rows_b: usize) -> Result<Tree, A
 }
 
 /// As many zeros.
-pub fn zeros(alloc: Global, n: usize) -> Result<Vec<u64>, AllocError>
+pub fn zeros(alloc: Global, n: usize) -> Result<Vec<u64>, NoMemory>
     ensures { IfOk result (λ v. v.items ≡ replicate n 0) }
 {
-    vec![in alloc; 0u64; n]
+    let zeros = vec![in alloc; 0u64; n]?;
+    Ok(zeros)
 }
 
 /// As many rows without a link.
-pub fn no_links(alloc: Global, n: usize) -> Result<Vec<Option<usize>>, AllocError>
+pub fn no_links(alloc: Global, n: usize) -> Result<Vec<Option<usize>>, NoMemory>
     ensures { IfOk result (λ v. v.items ≡ replicate n None) }
 {
-    vec![in alloc; None; n]
+    let links = vec![in alloc; None; n]?;
+    Ok(links)
 }

@@ -1,2 +1,3 @@
 pub mod Assignment
 pub mod Law
+pub mod Parts

@@ -4,4 +4,4 @@
 
 mod laws;
 
-pub use laws::{certificate_is_tight, certified_is_greatest};
+pub use laws::{certificate_is_tight, certified_is_greatest, parts_together_are_certified};
