@@ -1,0 +1,6 @@
+//! Rows by distance, the nearest first, in memory that is taken beforehand.
+#![tactic(auto)]
+
+mod queue;
+
+pub use queue::{DistanceQueue, FARTHEST, Near};
