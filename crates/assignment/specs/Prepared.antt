@@ -1,4 +1,4 @@
-use Rattle.std.specs.Prelude.{◌≡◌, length, AllPairs}
+use Rattle.std.specs.Prelude.{◌≡◌, ◌≤◌, length, AllPairs}
 use Rattle.assignment_laws.specs.Assignment.{IsBefore}
 use Rattle.assignment.specs.declared.assigner.Assigner.TheInside.{Inside}
 use Rattle.assignment.specs.Growth.{IsClean, IsRising}
@@ -15,3 +15,4 @@ pub record IsPrepared (s : Inside) : Type 0 where
   pub rows_a : length s.price_a.items ≡ s.rows_a
   pub rows_b : length s.price_b.items ≡ s.rows_b
   pub clean : IsClean (length s.price_a.items) (length s.price_b.items) s.tree
+  pub queue : length s.edges.items ≤ s.tree.frontier.room

@@ -71,6 +71,7 @@ fn run(
     requires small { AreSmall edges.now.items }
     requires between { IsBetween edges.now.items price_a.old.items price_b.old.items link_a.old.items link_b.old.items 0 }
     requires clean { IsClean (length price_a.old.items) (length price_b.old.items) tree.old }
+    requires queue { length edges.now.items ≤ tree.old.frontier.room }
     ensures between { IsBetween edges.now.items price_a.new.items price_b.new.items link_a.new.items link_b.new.items (length price_a.new.items) }
     ensures rows_a { length price_a.new.items ≡ length price_a.old.items }
     ensures rows_b { length price_b.new.items ≡ length price_b.old.items }
@@ -98,7 +99,7 @@ impl Assigner {
         let price_b = zeros(alloc, rows_b as usize)?;
         let link_a = no_links(alloc, rows_a as usize)?;
         let link_b = no_links(alloc, rows_b as usize)?;
-        let tree = clean_tree(alloc, rows_a as usize, rows_b as usize)?;
+        let tree = clean_tree(alloc, rows_a as usize, rows_b as usize, edges.len())?;
         let candidates = Vec::from_slice(alloc, candidates)?;
         Ok(Assigner {
             rows_a,

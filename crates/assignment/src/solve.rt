@@ -7,6 +7,7 @@ ghost use Rattle.assignment.specs.Round.{IsBetween, AreSmall};
 ghost use Rattle.assignment.specs.Growth.{IsClean, IsRising};
 
 use crate::market::{Edge, FAR, Tree};
+use distance_queue::DistanceQueue;
 use link_base::{Candidate, NoMemory};
 use std::alloc::Global;
 
@@ -90,8 +91,14 @@ fn raise_to(prices: &mut [u64], row: usize, value: u64)
 }
 
 /// A tree with nothing in it.
-pub fn clean_tree(alloc: Global, rows_a: usize, rows_b: usize) -> Result<Tree, NoMemory>
-    ensures { IfOk result (λ t. IsClean rows_a rows_b t) }
+pub fn clean_tree(
+    alloc: Global,
+    rows_a: usize,
+    rows_b: usize,
+    edges: usize,
+) -> Result<Tree, NoMemory>
+    ensures clean { IfOk result (λ t. IsClean rows_a rows_b t) }
+    ensures queue { IfOk result (λ t. edges ≤ t.frontier.room) }
 {
     let dist_a = vec![in alloc; FAR; rows_a]?;
     let rank = vec![in alloc; 0usize; rows_a]?;
@@ -99,7 +106,7 @@ pub fn clean_tree(alloc: Global, rows_a: usize, rows_b: usize) -> Result<Tree, N
     let from = vec![in alloc; 0usize; rows_b]?;
     let rows = Vec::with_capacity(alloc, rows_a)?;
     let touched = Vec::with_capacity(alloc, rows_b)?;
-    let frontier = Vec::with_capacity(alloc, rows_b)?;
+    let frontier = DistanceQueue::new(alloc, edges)?;
     Ok(Tree {
         dist_a,
         rank,
