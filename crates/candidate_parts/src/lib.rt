@@ -1,0 +1,7 @@
+//! The parts of candidates that share no row with others, directly or through others.
+#![tactic(auto)]
+
+mod forest;
+mod numbering;
+
+pub use numbering::{PartNumbers, part_numbers};
