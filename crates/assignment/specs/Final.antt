@@ -37,11 +37,13 @@ is_linked es la c = links_to es c (link la c.a)
 abbrev pub prices_of : List ℕ → List ℤ
 prices_of ps = map pos ps
 
--- what an assigner is made from
-pub record Input : Type 0 where
+-- what an assigner is made from, with the numbers of the parts
+pub record Problem : Type 0 where
   pub rows_a : ℕ
   pub rows_b : ℕ
   pub candidates : List Candidate
+  pub part_numbers : List ℕ
+  pub parts : ℕ
 
 -- a list of links with prices
 pub record Solution : Type 0 where

@@ -3,6 +3,7 @@ use Rattle.assignment_laws.specs.Assignment.{IsBefore}
 use Rattle.assignment.specs.declared.assigner.Assigner.TheInside.{Inside}
 use Rattle.assignment.specs.Growth.{IsClean, IsRising}
 use Rattle.assignment.specs.Round.{IsBetween, AreSmall}
+use Rattle.candidate_parts.specs.Parts.{ArePartNumbers}
 use Rattle.assignment.specs.Final.{edges_of}
 
 -- all is ready for the first round
@@ -16,3 +17,4 @@ pub record IsPrepared (s : Inside) : Type 0 where
   pub rows_b : length s.price_b.items ≡ s.rows_b
   pub clean : IsClean (length s.price_a.items) (length s.price_b.items) s.tree
   pub queue : length s.edges.items ≤ s.tree.frontier.room
+  pub parts : ArePartNumbers s.candidates.items s.part_numbers.numbers.items s.part_numbers.parts

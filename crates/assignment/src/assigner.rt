@@ -1,6 +1,7 @@
 // The assigner and its answer.
-ghost use Rattle.std.specs.Prelude.{◌≡◌, ◌+◌, ◌<◌, ◌≤◌, ◌^◌, ℕ, length, List, All, AllPairs, IfOk, ℤ, pos, ◌≤ℤ◌};
+ghost use Rattle.std.specs.Prelude.{◌≡◌, ◌+◌, ◌<◌, ◌≤◌, ◌^◌, ℕ, length, List, All, AllPairs, IfOk, slice_index, ℤ, pos, ◌≤ℤ◌};
 ghost use Rattle.assignment_laws.specs.Assignment.{IsBefore, IsOneToOne, IsGreatest, Certifies, price_of};
+ghost use Rattle.candidate_parts.specs.Parts.{ArePartNumbers};
 ghost use Rattle.assignment.specs.Final.{IsAllowed, IsWithin};
 ghost use Rattle.assignment.specs.Growth.{IsClean, IsRising};
 ghost use Rattle.assignment.specs.Round.{IsBetween, AreSmall};
@@ -9,6 +10,7 @@ use crate::market::{Edge, Tree};
 use crate::round::all_rounds;
 use crate::solve::{clean_tree, edges_of, first_prices, linked, no_links, zeros};
 use assignment_laws::certified_is_greatest;
+use candidate_parts::{PartNumbers, part_numbers};
 use link_base::{Candidate, NoMemory};
 use std::alloc::Global;
 use std::marker::Model;
@@ -19,6 +21,7 @@ pub struct Assigner {
     rows_a: u32,
     rows_b: u32,
     candidates: Vec<Candidate>,
+    part_numbers: PartNumbers,
     edges: Vec<Edge>,
     price_a: Vec<u64>,
     price_b: Vec<u64>,
@@ -28,13 +31,14 @@ pub struct Assigner {
 }
 
 impl Model for Assigner {
-    ghost use Rattle.assignment.specs.Final.{Input};
+    ghost use Rattle.candidate_parts.specs.Parts.{ArePartNumbers};
+    ghost use Rattle.assignment.specs.Final.{Problem};
 
-    ghost Value = { Input };
+    ghost Value = { Problem };
 
     ghost use Rattle.assignment.specs.Prepared.{IsPrepared};
 
-    ghost view = { λ s. record { rows_a = s.rows_a; rows_b = s.rows_b; candidates = s.candidates.items } };
+    ghost view = { λ s. record { rows_a = s.rows_a; rows_b = s.rows_b; candidates = s.candidates.items; part_numbers = s.part_numbers.numbers.items; parts = s.part_numbers.parts } };
 
     ghost invariant = { λ s. IsPrepared s };
 }
@@ -48,6 +52,7 @@ pub struct Assignment {
 }
 
 impl Model for Assignment {
+    ghost use Rattle.candidate_parts.specs.Parts.{ArePartNumbers};
     ghost use Rattle.assignment.specs.Final.{Solution, prices_of};
     ghost use Rattle.std.specs.Prelude.{All, ◌≤◌};
 
@@ -87,6 +92,7 @@ impl Assigner {
         rows_b: u32,
         candidates: &[Candidate],
     ) -> Result<Assigner, NoMemory>
+        requires count { length candidates.now ≤ 2000000 }
         requires rising { AllPairs IsBefore candidates.now }
         requires within { All (IsWithin rows_a rows_b) candidates.now }
         requires small { All IsAllowed candidates.now }
@@ -100,11 +106,13 @@ impl Assigner {
         let link_a = no_links(alloc, rows_a as usize)?;
         let link_b = no_links(alloc, rows_b as usize)?;
         let tree = clean_tree(alloc, rows_a as usize, rows_b as usize, edges.len())?;
+        let part_numbers = part_numbers(alloc, rows_b, candidates)?;
         let candidates = Vec::from_slice(alloc, candidates)?;
         Ok(Assigner {
             rows_a,
             rows_b,
             candidates,
+            part_numbers,
             edges,
             price_a,
             price_b,
@@ -114,7 +122,25 @@ impl Assigner {
         })
     }
 
-    /// A greatest list, and prices that certify it.
+    /// How many parts the candidates have. Two candidates are of one part exactly where a chain of
+    /// candidates leads from one to the other in which each shares a row with the next. Parts are
+    /// numbered from 0 in the order of their first candidates.
+    pub fn parts(&self) -> u32
+        ensures { ArePartNumbers self.now.candidates self.now.part_numbers result }
+    {
+        self.part_numbers.parts
+    }
+
+    /// The number of the part of the candidate at an index.
+    pub fn part_of(&self, candidate: u32) -> u32
+        requires { candidate < length self.now.candidates }
+        ensures number { result ≡ slice_index self.now.part_numbers candidate }
+        ensures numbered { ArePartNumbers self.now.candidates self.now.part_numbers self.now.parts }
+    {
+        self.part_numbers.numbers[candidate as usize]
+    }
+
+    /// A greatest one-to-one list of the candidates, and prices that certify it.
     pub fn solve(self) -> Assignment
         ensures rows_a { length result.prices_a ≡ self.rows_a }
         ensures rows_b { length result.prices_b ≡ self.rows_b }
@@ -126,6 +152,7 @@ impl Assigner {
             rows_a: _,
             rows_b: _,
             candidates,
+            part_numbers: _,
             edges,
             mut price_a,
             mut price_b,

@@ -2,7 +2,7 @@
 ghost use Rattle.std.specs.Prelude.{◌≡◌, ◌≢◌, ◌+◌, ◌-◌, ◌<◌, ◌≤◌, ◌^◌, ℕ, length, slice_index, slice_index_or, List, [], None, Some, Contains, All, AllPairs, vec_len, vec_capacity, MatchOption, IfOk, filter, filter_map, replicate};
 ghost use Rattle.assignment_laws.specs.Assignment.{IsBefore, IsGreatest, Certifies};
 ghost use Rattle.assignment.specs.Core.{number, edge};
-ghost use Rattle.assignment.specs.Final.{edges_of, edge_from, is_linked, prices_of, IsAllowed, ReachAll, IsWithin, Input, Solution};
+ghost use Rattle.assignment.specs.Final.{edges_of, edge_from, is_linked, prices_of, IsAllowed, ReachAll, IsWithin};
 ghost use Rattle.assignment.specs.Round.{IsBetween, AreSmall};
 ghost use Rattle.assignment.specs.Growth.{IsClean, IsRising};
 
