@@ -1,6 +1,6 @@
 use Rattle.std.specs.Prelude.{◌≡◌, ◌≢◌, ◌⊎◌, ℕ, ◌<◌, ℤ, pos, ◌+ℤ◌, ◌≤ℤ◌, neg_ℤ, Bool, true, false, List, All, Contains, slice_index_or, length, Option, Some, None, MatchOption}
 use Rattle.link_base.specs.declared.rule.Candidate.{Candidate}
-use Rattle.assignment_laws.specs.Assignment.{IsOneToOne, Certifies, IsCovered, worth, price_sum}
+use Rattle.assignment_laws.specs.Assignment.{IsOneToOne, IsGreatest, Certifies, IsCovered, worth, price_sum}
 use Rattle.link_base.specs.declared.rule.PairAt.{PairAt}
 use Rattle.link_base.specs.declared.fault.FileRole.{FileRole}
 use Rattle.link_base.specs.declared.fault.FileRole.TheVariants.{A, B}
@@ -64,6 +64,10 @@ pub record AreLinks (candidates : List Candidate) (links : List PairAt) (chosen 
 -- the links are a one-to-one list of candidates that the prices certify
 abbrev pub AreCertified : List Candidate → List PairAt → List ℤ → List ℤ → Type 0
 AreCertified cs ls ps qs = (chosen : List Candidate) × (AreLinks cs ls chosen × IsOneToOne cs chosen × Certifies cs chosen ps qs)
+
+-- the links are a one-to-one list of candidates, and no such list is worth more
+abbrev pub AreGreatest : List Candidate → List PairAt → Type 0
+AreGreatest cs ls = (chosen : List Candidate) × (AreLinks cs ls chosen × IsGreatest cs chosen)
 
 -- the first price below 0, those of A before those of B
 abbrev pub IsFirstNegative : List ℤ → List ℤ → FileRole → ℕ → Type 0
