@@ -1,2 +1,3 @@
 pub mod Duality
 pub mod Together
+pub mod Rising

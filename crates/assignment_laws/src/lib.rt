@@ -3,5 +3,9 @@
 #![tactic(auto)]
 
 mod laws;
+mod order;
+#[cfg(test)]
+mod tests;
 
 pub use laws::{certificate_is_tight, certified_is_greatest, parts_together_are_certified};
+pub use order::are_rising;

@@ -3,6 +3,8 @@
 
 mod certificate;
 mod first;
+#[cfg(test)]
+mod tests;
 mod verdict;
 
 pub use certificate::check;
