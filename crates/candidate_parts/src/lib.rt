@@ -3,5 +3,7 @@
 
 mod forest;
 mod numbering;
+#[cfg(test)]
+mod tests;
 
 pub use numbering::{PartNumbers, part_numbers};

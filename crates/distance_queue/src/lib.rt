@@ -2,5 +2,7 @@
 #![tactic(auto)]
 
 mod queue;
+#[cfg(test)]
+mod tests;
 
 pub use queue::{DistanceQueue, FARTHEST, Near};
