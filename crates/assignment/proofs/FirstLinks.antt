@@ -4,7 +4,7 @@ use Rattle.std.specs.Option.{is_some}
 use Rattle.std.proofs.lemmas.Bool.{false≢true}
 use Rattle.std.proofs.lemmas.List.{length-set}
 use Rattle.assignment.specs.declared.market.Edge.{Edge}
-use Rattle.assignment.specs.Core.{IsTight, link, edge, number}
+use Rattle.assignment.specs.Core.{IsTight, link, edge}
 use Rattle.assignment.specs.Round.{IsBetween}
 use Rattle.assignment.proofs.Links.{matched_joined, link-set}
 use Rattle.assignment.proofs.Ways.{tight_turned}

@@ -1,12 +1,12 @@
 -- Chains of candidates, and what uniting two places keeps.
-use Rattle.std.proofs.Common.{◌≡◌, ◌≢◌, ◌⊎◌, ℕ, zero, suc, ◌<◌, ◌≤◌, ◌+◌, ◌-◌, List, length, min, Some, None, refl, ap, sym, ◌∙◌, inl, inr, arith}
-use Rattle.std.specs.Prelude.{AllPairs, slice_index, ◌==◌}
+use Rattle.std.proofs.Common.{◌≡◌, ◌⊎◌, ℕ, zero, suc, ◌<◌, ◌≤◌, ◌+◌, ◌-◌, List, length, refl, ap, sym, ◌∙◌, inl, inr, arith}
+use Rattle.std.specs.Prelude.{AllPairs, slice_index}
 use Rattle.std.proofs.lemmas.Bool.{cases_eq, cases_lt}
 use Rattle.std.proofs.lemmas.Bool.Decides.{nat_tests}
 use Rattle.link_base.specs.declared.rule.Candidate.{Candidate}
 use Rattle.assignment_laws.specs.Assignment.{IsBefore}
 use Rattle.candidate_parts.specs.Parts.{ShareRow, Chain, IsJoined, candidate, no_candidate}
-use Rattle.candidate_parts.specs.Forest.{PointsUp, top, merged, AreUnited, IsLast}
+use Rattle.candidate_parts.specs.Forest.{PointsUp, top, merged, AreUnited}
 use Rattle.candidate_parts.proofs.Tops.{top_low, top_itself}
 use Rattle.std.proofs.lemmas.List.{get_or_past}
 

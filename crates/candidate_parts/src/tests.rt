@@ -51,7 +51,12 @@ fn parts_follow_shared_rows(rt: HostRuntime) -> Result<(), NoMemory> {
         candidate(5, 6),
     ];
     assert!(rt; has_parts(alloc, &apart, &[0, 1, 2, 2, 2, 3, 4], 5)?);
-    let late = [candidate(0, 0), candidate(1, 1), candidate(2, 0), candidate(2, 1)];
+    let late = [
+        candidate(0, 0),
+        candidate(1, 1),
+        candidate(2, 0),
+        candidate(2, 1),
+    ];
     assert!(rt; has_parts(alloc, &late, &[0, 0, 0, 0], 1)?);
     assert!(rt; has_parts(alloc, &[], &[], 0)?);
     Ok(())

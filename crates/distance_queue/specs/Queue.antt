@@ -1,4 +1,4 @@
-use Rattle.std.specs.Prelude.{◌≡◌, ℕ, ◌-◌, ◌/◌, List, map}
+use Rattle.std.specs.Prelude.{ℕ, ◌-◌, ◌/◌, List}
 
 -- the distance and the row that an entry stands for
 abbrev pub waiting_of : ℕ × ℕ → ℕ × ℕ

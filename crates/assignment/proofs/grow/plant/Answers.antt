@@ -1,4 +1,4 @@
-use Rattle.std.proofs.Common.{◌≡◌, ap, ◌∙◌, arith}
+use Rattle.std.proofs.Common.{ap, arith}
 use Rattle.assignment.proofs.Count.{left_few}
 use Rattle.assignment.proofs.grow.plant.Goals as goal
 

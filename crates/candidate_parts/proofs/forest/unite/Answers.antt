@@ -1,4 +1,4 @@
-use Rattle.std.proofs.Common.{◌≡◌, sym, ◌∙◌, arith}
+use Rattle.std.proofs.Common.{◌∙◌, arith}
 use Rattle.candidate_parts.specs.Forest.{top}
 use Rattle.candidate_parts.proofs.Tops.{united_tops, merged_swap}
 use Rattle.candidate_parts.proofs.forest.unite.Goals as goal

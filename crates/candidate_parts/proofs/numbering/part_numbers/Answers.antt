@@ -1,4 +1,4 @@
-use Rattle.std.proofs.Common.{◌≡◌, length, ◌∙◌, sym, arith}
+use Rattle.std.proofs.Common.{length, ◌∙◌, arith}
 use Rattle.candidate_parts.specs.Forest.{AreByTop}
 use Rattle.candidate_parts.proofs.Chains.{united_first}
 use Rattle.candidate_parts.proofs.Numbers.{part_numbers_are}

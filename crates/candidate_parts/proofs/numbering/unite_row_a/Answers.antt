@@ -1,6 +1,6 @@
-use Rattle.std.proofs.Common.{◌≡◌, ◌-◌, ◌<◌, length, inl, inr, ◌∙◌, ap, arith}
+use Rattle.std.proofs.Common.{◌≡◌, ◌-◌, ◌<◌, length, inl, inr, ◌∙◌, arith}
 use Rattle.std.proofs.lemmas.Bool.{cases_eq}
-use Rattle.candidate_parts.specs.Parts.{candidate, IsJoined}
+use Rattle.candidate_parts.specs.Parts.{IsJoined}
 use Rattle.candidate_parts.specs.Forest.{top}
 use Rattle.candidate_parts.proofs.Chains.{joined_by, united_after, kept_after, one_after, same_a_before}
 use Rattle.candidate_parts.proofs.numbering.unite_row_a.Goals as goal

@@ -1,5 +1,5 @@
-use Rattle.std.proofs.Common.{◌≡◌, ◌≤◌, ◌+◌, ◌-◌, ◌*◌, ap, arith, heap_items}
-use Rattle.distance_queue.specs.Queue.{Queue, waiting_of}
+use Rattle.std.proofs.Common.{◌≤◌, ap, arith, heap_items}
+use Rattle.distance_queue.specs.Queue.{waiting_of}
 use Rattle.distance_queue.proofs.Members.{mapped_stays, mapped_added, mapped_only, dist_of_place}
 use Rattle.distance_queue.proofs.queue.DistanceQueue.put.Goals as goal
 use Rattle.distance_queue.proofs.queue.DistanceQueue.put.Goals.{then-first, else-first}

@@ -1,9 +1,9 @@
-use Rattle.std.proofs.Common.{ℕ, ◌≡◌, ◌≤◌, ap, sym, heap_items}
+use Rattle.std.proofs.Common.{ℕ, ◌≤◌, ap, sym, heap_items}
 use Rattle.std.specs.Prelude.{All}
 use Rattle.std.specs.Ordering.{nat_cmp}
 use Rattle.std.proofs.lemmas.List.Sorted.{first_le_from_greatest}
 use Rattle.std.proofs.lemmas.List.Elements.{All-map}
-use Rattle.distance_queue.specs.Queue.{Queue, waiting_of}
+use Rattle.distance_queue.specs.Queue.{waiting_of}
 use Rattle.distance_queue.proofs.Members.{left_stays, left_only, falls_with_place}
 use Rattle.distance_queue.proofs.queue.DistanceQueue.take.Goals as goal
 
