@@ -85,7 +85,8 @@ fn run(
 }
 
 impl Assigner {
-    /// Takes all the memory that a solution needs.
+    /// Takes all the memory that a solution needs, for at most 2,000,000 candidates that rise strictly
+    /// by their rows, each of a value of at most 1,000,000. Want of memory is the only error.
     pub fn new(
         alloc: Global,
         rows_a: u32,
@@ -178,12 +179,14 @@ impl Assigner {
 }
 
 impl Assignment {
+    /// The links, rising by their rows.
     pub fn links(&self) -> &[Candidate]
         ensures { result.now ≡ self.now.links }
     {
         self.links.as_slice()
     }
 
+    /// The dual price of a row of A, at least 0 and in the unit of the values.
     pub fn price_a(&self, a: u32) -> i64
         requires { a < length self.now.prices_a }
         ensures price { result ≡ price_of self.now.prices_a a }
@@ -192,6 +195,7 @@ impl Assignment {
         self.price_a[a as usize] as i64
     }
 
+    /// The dual price of a row of B, at least 0 and in the unit of the values.
     pub fn price_b(&self, b: u32) -> i64
         requires { b < length self.now.prices_b }
         ensures price { result ≡ price_of self.now.prices_b b }
