@@ -1,0 +1,31 @@
+-- A link over a tight edge, of which neither row has a link.
+use Rattle.std.proofs.Common.{◌≡◌, ℕ, ◌<◌, List, length, set, Option, Some, None, false, refl, sym, ◌∙◌, inl, inr, arith}
+use Rattle.std.specs.Option.{is_some}
+use Rattle.std.proofs.lemmas.Bool.{false≢true}
+use Rattle.std.proofs.lemmas.List.{length-set}
+use Rattle.assignment.specs.declared.market.Edge.{Edge}
+use Rattle.assignment.specs.Core.{IsTight, link, edge}
+use Rattle.assignment.specs.Round.{IsBetween}
+use Rattle.assignment.proofs.Links.{matched_joined, link-set}
+use Rattle.assignment.proofs.Ways.{tight_turned}
+
+pub between_linked : (es : List Edge) (pa pb : List ℕ) (la lb : List (Option ℕ)) (k : ℕ) → IsBetween es pa pb la lb 0 → k < length es → link la (edge es k).a ≡ None → link lb (edge es k).b ≡ None → IsTight es pa pb k → IsBetween es pa pb (set la (edge es k).a (Some k)) (set lb (edge es k).b (Some k)) 0
+between_linked es pa pb la lb k w lt free_a free_b tight =
+    let ra : (edge es k).a < length la = omega (arith, w.in_range.row_a k lt, w.rows_a) in
+    let rb : (edge es k).b < length lb = omega (arith, w.in_range.row_b k lt, w.rows_b) in
+    record {
+      rows_a = rw length-set w.rows_a;
+      rows_b = rw length-set w.rows_b;
+      in_range = w.in_range;
+      covered = w.covered;
+      small_a = w.small_a;
+      small_b = w.small_b;
+      matched = matched_joined es la lb k w.matched lt ra rb free_a free_b;
+      tight = tight_turned es pa pb la k ra w.tight tight;
+      free_a = λ a low none. absurd (omega arith);
+      free_b = λ b none. elim (link-set lb (edge es k).b b (Some k) rb) [ inl p ↦ absurd (let clash : Some k ≡ None = sym p.1 ∙ none in cc) | inr p ↦ w.free_b b (sym p.1 ∙ none) ];
+    }
+
+pub not_linked : (x : Option ℕ) → is_some x ≡ false → x ≡ None
+not_linked None h = refl
+not_linked (Some k) h = absurd (false≢true (sym h))

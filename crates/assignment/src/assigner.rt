@@ -1,0 +1,206 @@
+// The assigner and its answer.
+ghost use Rattle.std.specs.Prelude.{◌≡◌, ◌+◌, ◌<◌, ◌≤◌, ◌^◌, ℕ, length, List, All, AllPairs, IfOk, slice_index, ℤ, pos, ◌≤ℤ◌};
+ghost use Rattle.assignment_laws.specs.Assignment.{IsBefore, IsOneToOne, IsGreatest, Certifies, price_of};
+ghost use Rattle.candidate_parts.specs.Parts.{ArePartNumbers};
+ghost use Rattle.assignment.specs.Final.{IsAllowed, IsWithin};
+ghost use Rattle.assignment.specs.Growth.{IsClean, IsRising};
+ghost use Rattle.assignment.specs.Round.{IsBetween, AreSmall};
+
+use crate::market::{Edge, Tree};
+use crate::round::all_rounds;
+use crate::solve::{clean_tree, edges_of, first_prices, linked, no_links, zeros};
+use assignment_laws::certified_is_greatest;
+use candidate_parts::{PartNumbers, part_numbers};
+use link_base::{Candidate, NoMemory};
+use std::alloc::Global;
+use std::marker::Model;
+
+/// All that a solution needs, its memory included.
+#[derive(Drop)]
+pub struct Assigner {
+    rows_a: u32,
+    rows_b: u32,
+    candidates: Vec<Candidate>,
+    part_numbers: PartNumbers,
+    edges: Vec<Edge>,
+    price_a: Vec<u64>,
+    price_b: Vec<u64>,
+    link_a: Vec<Option<usize>>,
+    link_b: Vec<Option<usize>>,
+    tree: Tree,
+}
+
+impl Model for Assigner {
+    ghost use Rattle.candidate_parts.specs.Parts.{ArePartNumbers};
+    ghost use Rattle.assignment.specs.Final.{Problem};
+
+    ghost Value = { Problem };
+
+    ghost use Rattle.assignment.specs.Prepared.{IsPrepared};
+
+    ghost view = { λ s. record { rows_a = s.rows_a; rows_b = s.rows_b; candidates = s.candidates.items; part_numbers = s.part_numbers.numbers.items; parts = s.part_numbers.parts } };
+
+    ghost invariant = { λ s. IsPrepared s };
+}
+
+/// A greatest one-to-one list, with prices that show it.
+#[derive(Drop)]
+pub struct Assignment {
+    links: Vec<Candidate>,
+    price_a: Vec<u64>,
+    price_b: Vec<u64>,
+}
+
+impl Model for Assignment {
+    ghost use Rattle.candidate_parts.specs.Parts.{ArePartNumbers};
+    ghost use Rattle.assignment.specs.Final.{Solution, prices_of};
+    ghost use Rattle.std.specs.Prelude.{All, ◌≤◌};
+
+    ghost Value = { Solution };
+
+    ghost view = { λ s. record { links = s.links.items; prices_a = prices_of s.price_a.items; prices_b = prices_of s.price_b.items } };
+
+    ghost invariant = { λ s. All (λ p. p ≤ 1000000) s.price_a.items × All (λ p. p ≤ 1000000) s.price_b.items };
+}
+
+/// Takes every row of A up in turn.
+fn run(
+    edges: &Vec<Edge>,
+    price_a: &mut Vec<u64>,
+    price_b: &mut Vec<u64>,
+    link_a: &mut Vec<Option<usize>>,
+    link_b: &mut Vec<Option<usize>>,
+    tree: &mut Tree,
+)
+    requires rising { IsRising edges.now.items }
+    requires small { AreSmall edges.now.items }
+    requires between { IsBetween edges.now.items price_a.old.items price_b.old.items link_a.old.items link_b.old.items 0 }
+    requires clean { IsClean (length price_a.old.items) (length price_b.old.items) tree.old }
+    requires queue { length edges.now.items ≤ tree.old.frontier.room }
+    ensures between { IsBetween edges.now.items price_a.new.items price_b.new.items link_a.new.items link_b.new.items (length price_a.new.items) }
+    ensures rows_a { length price_a.new.items ≡ length price_a.old.items }
+    ensures rows_b { length price_b.new.items ≡ length price_b.old.items }
+{
+    all_rounds(edges, price_a, price_b, link_a, link_b, tree);
+}
+
+impl Assigner {
+    /// Takes all the memory that a solution needs, for at most 2,000,000 candidates that rise strictly
+    /// by their rows, each of a value of at most 1,000,000. Want of memory is the only error.
+    pub fn new(
+        alloc: Global,
+        rows_a: u32,
+        rows_b: u32,
+        candidates: &[Candidate],
+    ) -> Result<Assigner, NoMemory>
+        requires count { length candidates.now ≤ 2000000 }
+        requires rising { AllPairs IsBefore candidates.now }
+        requires within { All (IsWithin rows_a rows_b) candidates.now }
+        requires small { All IsAllowed candidates.now }
+        ensures rows_a { IfOk result (λ s. s.rows_a ≡ rows_a) }
+        ensures rows_b { IfOk result (λ s. s.rows_b ≡ rows_b) }
+        ensures candidates { IfOk result (λ s. s.candidates ≡ candidates.now) }
+    {
+        let edges = edges_of(alloc, candidates)?;
+        let price_a = first_prices(alloc, &edges, rows_a as usize)?;
+        let price_b = zeros(alloc, rows_b as usize)?;
+        let link_a = no_links(alloc, rows_a as usize)?;
+        let link_b = no_links(alloc, rows_b as usize)?;
+        let tree = clean_tree(alloc, rows_a as usize, rows_b as usize, edges.len())?;
+        let part_numbers = part_numbers(alloc, rows_b, candidates)?;
+        let candidates = Vec::from_slice(alloc, candidates)?;
+        Ok(Assigner {
+            rows_a,
+            rows_b,
+            candidates,
+            part_numbers,
+            edges,
+            price_a,
+            price_b,
+            link_a,
+            link_b,
+            tree,
+        })
+    }
+
+    /// How many parts the candidates have. Two candidates are of one part exactly where a chain of
+    /// candidates leads from one to the other in which each shares a row with the next. Parts are
+    /// numbered from 0 in the order of their first candidates.
+    pub fn parts(&self) -> u32
+        ensures { ArePartNumbers self.now.candidates self.now.part_numbers result }
+    {
+        self.part_numbers.parts
+    }
+
+    /// The number of the part of the candidate at an index.
+    pub fn part_of(&self, candidate: u32) -> u32
+        requires { candidate < length self.now.candidates }
+        ensures number { result ≡ slice_index self.now.part_numbers candidate }
+        ensures numbered { ArePartNumbers self.now.candidates self.now.part_numbers self.now.parts }
+    {
+        self.part_numbers.numbers[candidate as usize]
+    }
+
+    /// A greatest one-to-one list of the candidates, and prices that certify it.
+    pub fn solve(self) -> Assignment
+        ensures rows_a { length result.prices_a ≡ self.rows_a }
+        ensures rows_b { length result.prices_b ≡ self.rows_b }
+        ensures greatest { IsGreatest self.candidates result.links }
+        ensures certified { Certifies self.candidates result.links result.prices_a result.prices_b }
+    {
+        certified_is_greatest();
+        let Assigner {
+            rows_a: _,
+            rows_b: _,
+            candidates,
+            part_numbers: _,
+            edges,
+            mut price_a,
+            mut price_b,
+            mut link_a,
+            mut link_b,
+            mut tree,
+        } = self;
+        run(
+            &edges,
+            &mut price_a,
+            &mut price_b,
+            &mut link_a,
+            &mut link_b,
+            &mut tree,
+        );
+        let links = linked(candidates, &edges, &link_a);
+        Assignment {
+            links,
+            price_a,
+            price_b,
+        }
+    }
+}
+
+impl Assignment {
+    /// The links, rising by their rows.
+    pub fn links(&self) -> &[Candidate]
+        ensures { result.now ≡ self.now.links }
+    {
+        self.links.as_slice()
+    }
+
+    /// The dual price of a row of A, at least 0 and in the unit of the values.
+    pub fn price_a(&self, a: u32) -> i64
+        requires { a < length self.now.prices_a }
+        ensures price { result ≡ price_of self.now.prices_a a }
+        ensures floor { pos 0 ≤ℤ result }
+    {
+        self.price_a[a as usize] as i64
+    }
+
+    /// The dual price of a row of B, at least 0 and in the unit of the values.
+    pub fn price_b(&self, b: u32) -> i64
+        requires { b < length self.now.prices_b }
+        ensures price { result ≡ price_of self.now.prices_b b }
+        ensures floor { pos 0 ≤ℤ result }
+    {
+        self.price_b[b as usize] as i64
+    }
+}

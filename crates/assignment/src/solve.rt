@@ -1,0 +1,138 @@
+// From candidates to a greatest list with its prices.
+ghost use Rattle.std.specs.Prelude.{◌≡◌, ◌≢◌, ◌+◌, ◌-◌, ◌<◌, ◌≤◌, ◌^◌, ℕ, length, slice_index, slice_index_or, List, [], None, Some, Contains, All, AllPairs, vec_len, vec_capacity, MatchOption, IfOk, filter, filter_map, replicate};
+ghost use Rattle.assignment_laws.specs.Assignment.{IsBefore, IsGreatest, Certifies};
+ghost use Rattle.assignment.specs.Core.{number, edge};
+ghost use Rattle.assignment.specs.Final.{edges_of, edge_from, is_linked, prices_of, IsAllowed, ReachAll, IsWithin};
+ghost use Rattle.assignment.specs.Round.{IsBetween, AreSmall};
+ghost use Rattle.assignment.specs.Growth.{IsClean, IsRising};
+
+use crate::market::{Edge, FAR, Tree};
+use distance_queue::DistanceQueue;
+use link_base::{Candidate, NoMemory};
+use std::alloc::Global;
+
+/// A candidate as an edge, where its value is positive.
+fn edge_from(c: Candidate) -> Option<Edge>
+    requires { IsAllowed c }
+    ensures { result ≡ edge_from c }
+{
+    if c.value <= 0 {
+        return None;
+    }
+    Some(Edge {
+        a: c.a as usize,
+        b: c.b as usize,
+        value: c.value as u64,
+    })
+}
+
+/// The candidates with positive values as edges.
+pub fn edges_of(alloc: Global, candidates: &[Candidate]) -> Result<Vec<Edge>, NoMemory>
+    requires { All IsAllowed candidates.now }
+    ensures { IfOk result (λ v. v.items ≡ edges_of candidates.now) }
+{
+    let edges = candidates
+        .iter()
+        .filter_map(|c| edge_from(*c))
+        .collect(alloc)?;
+    Ok(edges)
+}
+
+/// Whether a candidate is linked.
+fn is_linked(edges: &[Edge], link_a: &[Option<usize>], c: &Candidate) -> bool
+    requires links { (a k : ℕ) → slice_index_or link_a.now a None ≡ Some k → k < length edges.now }
+    ensures { result ≡ is_linked edges.now link_a.now c.now }
+{
+    if c.a as usize >= link_a.len() {
+        return false;
+    }
+    match link_a[c.a as usize] {
+        None => false,
+        Some(k) => c.value > 0 && edges[k].b == c.b as usize,
+    }
+}
+
+/// The linked candidates, in their order.
+pub fn linked(
+    mut candidates: Vec<Candidate>,
+    edges: &[Edge],
+    link_a: &[Option<usize>],
+) -> Vec<Candidate>
+    requires links { (a k : ℕ) → slice_index_or link_a.now a None ≡ Some k → k < length edges.now }
+    ensures { result.items ≡ filter (is_linked edges.now link_a.now) candidates.items }
+{
+    candidates.retain(|c| is_linked(edges, link_a, c));
+    candidates
+}
+
+/// For each row of A the greatest value of its edges, or 0.
+pub fn first_prices(alloc: Global, edges: &[Edge], rows_a: usize) -> Result<Vec<u64>, NoMemory>
+    requires small { AreSmall edges.now }
+    requires within { (k : ℕ) → k < length edges.now → (edge edges.now k).a < rows_a }
+    ensures { IfOk result (λ v. ReachAll edges.now rows_a v.items) }
+{
+    let mut prices = vec![in alloc; 0u64; rows_a]?;
+    for k in 0..edges.len() {
+        raise_to(&mut prices, edges[k].a, edges[k].value);
+    }
+    Ok(prices)
+}
+
+/// A price that is at least this value.
+fn raise_to(prices: &mut [u64], row: usize, value: u64)
+    requires { row < length prices.old }
+    ensures here { value ≤ number prices.new row }
+    ensures kept { (r : ℕ) → number prices.old r ≤ number prices.new r }
+    ensures small { value ≤ 1000000 → ((r : ℕ) → number prices.old r ≤ 1000000) → (r : ℕ) → number prices.new r ≤ 1000000 }
+{
+    if prices[row] < value {
+        prices[row] = value;
+    }
+}
+
+/// A tree with nothing in it.
+pub fn clean_tree(
+    alloc: Global,
+    rows_a: usize,
+    rows_b: usize,
+    edges: usize,
+) -> Result<Tree, NoMemory>
+    ensures clean { IfOk result (λ t. IsClean rows_a rows_b t) }
+    ensures queue { IfOk result (λ t. edges ≤ t.frontier.room) }
+{
+    let dist_a = vec![in alloc; FAR; rows_a]?;
+    let rank = vec![in alloc; 0usize; rows_a]?;
+    let dist_b = vec![in alloc; FAR; rows_b]?;
+    let from = vec![in alloc; 0usize; rows_b]?;
+    let rows = Vec::with_capacity(alloc, rows_a)?;
+    let touched = Vec::with_capacity(alloc, rows_b)?;
+    let frontier = DistanceQueue::new(alloc, edges)?;
+    Ok(Tree {
+        dist_a,
+        rank,
+        dist_b,
+        from,
+        rows,
+        touched,
+        frontier,
+        best: 0,
+        best_row: 0,
+        current: 0,
+    })
+}
+
+/// As many zeros.
+pub fn zeros(alloc: Global, n: usize) -> Result<Vec<u64>, NoMemory>
+    ensures { IfOk result (λ v. v.items ≡ replicate n 0) }
+{
+    let zeros = vec![in alloc; 0u64; n]?;
+    Ok(zeros)
+}
+
+/// As many rows without a link.
+pub fn no_links(alloc: Global, n: usize) -> Result<Vec<Option<usize>>, NoMemory>
+    ensures { IfOk result (λ v. v.items ≡ replicate n None) }
+{
+    let links = vec![in alloc; None; n]?;
+    Ok(links)
+}

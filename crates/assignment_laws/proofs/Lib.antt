@@ -1,0 +1,3 @@
+pub mod Duality
+pub mod Together
+pub mod Rising

@@ -1,0 +1,9 @@
+use Rattle.std.proofs.Common.{refl, arith}
+use Rattle.assignment_laws.proofs.Rising.{no_candidate, rising_more, rising_at}
+use Rattle.assignment_laws.proofs.order.are_rising.Goals as goal
+
+pub loop-k-preserved : goal.loop-k-preserved
+loop-k-preserved c = rising_more c.args.candidates.now no_candidate c.loop-k.k (omega arith) c.loop-k.invariant (c.if-not-is_before.ensures.0 refl)
+
+pub returns : goal.returns
+returns c = (λ t. rising_at c.args.candidates.now no_candidate (λ i j lt within. c.loop-k.invariant i j lt (omega arith)), λ h. refl)

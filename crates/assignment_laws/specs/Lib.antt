@@ -1,0 +1,3 @@
+pub mod Assignment
+pub mod Law
+pub mod Parts

@@ -1,0 +1,34 @@
+use Rattle.std.specs.Prelude.{◌≢◌, ◌==◌, ℕ, zero, suc, ◌<◌, ℤ, ◌+ℤ◌, List, [], ◌∷◌, All, AllPairs, Contains, filter}
+use Rattle.link_base.specs.declared.rule.Candidate.{Candidate}
+use Rattle.assignment_laws.specs.Assignment.{IsBefore, SharesNoRow, IsOneToOne, Certifies}
+
+-- the prices of two lists, added row by row
+abbrev pub added : List ℤ → List ℤ → List ℤ
+added [] qs = qs
+added (p ∷ ps) [] = p ∷ ps
+added (p ∷ ps) (q ∷ qs) = (p +ℤ q) ∷ added ps qs
+
+-- the prices of the parts below n, put together row by row
+abbrev pub prices_together : ℕ → (ℕ → List ℤ) → List ℤ
+prices_together zero prices = []
+prices_together (suc n) prices = added (prices n) (prices_together n prices)
+
+-- the members of a part, by the part's number
+abbrev pub in_part : (Candidate → ℕ) → ℕ → List Candidate → List Candidate
+in_part part number cs = filter (λ c. part c == number) cs
+
+-- parts with numbers below n, of which no two share a row
+pub record AreApart (part : Candidate → ℕ) (n : ℕ) (candidates : List Candidate) : Type 0 where
+  pub below : All (λ c. part c < n) candidates
+  pub apart : (x y : Candidate) → Contains candidates x → Contains candidates y → part x ≢ part y → SharesNoRow x y
+
+-- in each part the members of `links` are a one-to-one list that the part's prices certify
+pub record AreCertifiedParts (candidates links : List Candidate) (part : Candidate → ℕ) (n : ℕ) (prices_a prices_b : ℕ → List ℤ) : Type 0 where
+  pub apart : AreApart part n candidates
+  pub one_to_one : (p : ℕ) → p < n → IsOneToOne (in_part part p candidates) (in_part part p links)
+  pub certified : (p : ℕ) → p < n → Certifies (in_part part p candidates) (in_part part p links) (prices_a p) (prices_b p)
+
+-- a rising list of candidates that is certified in each part is certified by the parts' prices together
+abbrev pub PartsTogether : Type 0
+PartsTogether =
+    (candidates links : List Candidate) (part : Candidate → ℕ) (n : ℕ) (prices_a prices_b : ℕ → List ℤ) → All (Contains candidates) links → AllPairs IsBefore links → AreCertifiedParts candidates links part n prices_a prices_b → IsOneToOne candidates links × Certifies candidates links (prices_together n prices_a) (prices_together n prices_b)

@@ -1,0 +1,36 @@
+// The order of candidates, by examples, and the laws, which can be called.
+use crate::{
+    are_rising, certificate_is_tight, certified_is_greatest, parts_together_are_certified,
+};
+use link_base::Candidate;
+
+fn candidate(a: u32, b: u32) -> Candidate {
+    Candidate {
+        a,
+        b,
+        weight: 0,
+        value: 0,
+        reviewed: false,
+    }
+}
+
+#[test]
+fn candidates_rise_by_row_of_a_and_then_of_b(rt: HostRuntime) {
+    let rows: [([(u32, u32); 3], bool); 6] = [
+        ([(0, 0), (0, 1), (1, 0)], true),
+        ([(0, 5), (1, 0), (2, 0)], true),
+        ([(0, 0), (0, 0), (1, 0)], false),
+        ([(0, 1), (0, 0), (1, 0)], false),
+        ([(0, 0), (2, 0), (1, 9)], false),
+        ([(3, 0), (4, 0), (4, 0)], false),
+    ];
+    for (pairs, wanted) in rows {
+        let [(a, b), (c, d), (e, f)] = pairs;
+        let candidates = [candidate(a, b), candidate(c, d), candidate(e, f)];
+        assert_eq!(rt; are_rising(&candidates), wanted);
+    }
+    assert!(rt; are_rising(&[]));
+    certified_is_greatest();
+    certificate_is_tight();
+    parts_together_are_certified();
+}

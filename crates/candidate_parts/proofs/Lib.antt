@@ -1,0 +1,3 @@
+pub mod Tops
+pub mod Chains
+pub mod Numbers

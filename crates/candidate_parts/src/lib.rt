@@ -1,0 +1,9 @@
+//! The parts of candidates that share no row with others, directly or through others.
+#![tactic(auto)]
+
+mod forest;
+mod numbering;
+#[cfg(test)]
+mod tests;
+
+pub use numbering::{PartNumbers, part_numbers};

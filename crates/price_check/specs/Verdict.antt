@@ -1,0 +1,89 @@
+use Rattle.std.specs.Prelude.{◌≡◌, ◌≢◌, ◌⊎◌, ℕ, ◌<◌, ℤ, pos, ◌+ℤ◌, ◌≤ℤ◌, neg_ℤ, Bool, true, false, List, All, Contains, slice_index_or, length, Option, Some, None, MatchOption}
+use Rattle.link_base.specs.declared.rule.Candidate.{Candidate}
+use Rattle.assignment_laws.specs.Assignment.{IsOneToOne, IsGreatest, Certifies, IsCovered, worth, price_sum}
+use Rattle.link_base.specs.declared.rule.PairAt.{PairAt}
+use Rattle.link_base.specs.declared.fault.FileRole.{FileRole}
+use Rattle.link_base.specs.declared.fault.FileRole.TheVariants.{A, B}
+use Rattle.price_check.specs.declared.verdict.Reason.TheVariants.{NotCandidate, Reused, Negative, Uncovered, Sum}
+use Rattle.price_check.specs.declared.verdict.Reason.{Reason}
+use Rattle.price_check.specs.declared.verdict.Verified.{Verified}
+use Rattle.price_check.specs.declared.verdict.Verified.TheVariants.{Yes, No}
+
+-- the first place, if there is one, at which Good fails
+abbrev pub IsFirstBad : {X : Type 0} → (X → Type 0) → List X → Option ℕ → Type 0
+IsFirstBad {X} Good xs place = MatchOption place (All Good xs) (λ i. (i < length xs) × ((k : ℕ) (d : X) → k < i → Good (slice_index_or xs k d)) × ((d : X) → Good (slice_index_or xs i d) → ⊥))
+
+abbrev pub IsInRange : ℕ → ℕ → Candidate → Type 0
+IsInRange rows_a rows_b c = (c.a < rows_a) × (c.b < rows_b)
+
+-- a price of at most a million in size
+abbrev pub IsSmallPrice : ℤ → Type 0
+IsSmallPrice p = (neg_ℤ (pos 1000000) ≤ℤ p) × (p ≤ℤ pos 1000000)
+
+abbrev pub HasPositions : PairAt → Candidate → Type 0
+HasPositions l c = (c.a ≡ l.a) × (c.b ≡ l.b)
+
+-- the candidate at place k has these positions
+abbrev pub IsCandidateAt : List Candidate → PairAt → ℕ → Type 0
+IsCandidateAt candidates l k = (k < length candidates) × ((d : Candidate) → HasPositions l (slice_index_or candidates k d))
+
+-- some candidate has these positions
+abbrev pub IsCandidate : List Candidate → PairAt → Type 0
+IsCandidate candidates l = (k : ℕ) × IsCandidateAt candidates l k
+
+abbrev pub IsPairBefore : PairAt → PairAt → Type 0
+IsPairBefore x y = (x.a < y.a) ⊎ ((x.a ≡ y.a) × (x.b < y.b))
+
+-- no earlier link has a position of the one at i
+abbrev pub IsFresh : List PairAt → ℕ → Type 0
+IsFresh links i = (k : ℕ) (d : PairAt) → k < i → ((slice_index_or links k d).a ≢ (slice_index_or links i d).a) × ((slice_index_or links k d).b ≢ (slice_index_or links i d).b)
+
+abbrev pub IsFirstReused : List PairAt → Option ℕ → Type 0
+IsFirstReused links place = MatchOption place ((i : ℕ) → i < length links → IsFresh links i) (λ i. (i < length links) × ((k : ℕ) → k < i → IsFresh links k) × (IsFresh links i → ⊥))
+
+abbrev pub IsPairInRange : ℕ → PairAt → Type 0
+IsPairInRange rows_b l = l.b < rows_b
+
+abbrev pub IsCandidateBefore : Candidate → PairAt → Type 0
+IsCandidateBefore c l = (c.a < l.a) ⊎ ((c.a ≡ l.a) × (c.b < l.b))
+
+-- a row of B is marked where a link below i has it
+pub record AreMarks (taken : List Bool) (links : List PairAt) (i : ℕ) : Type 0 where
+  pub marked : (k : ℕ) (d : PairAt) → k < i → slice_index_or taken (slice_index_or links k d).b false ≡ true
+  pub marks : (b : ℕ) → slice_index_or taken b false ≡ true → (k : ℕ) × ((k < i) × ((d : PairAt) → (slice_index_or links k d).b ≡ b))
+
+abbrev pub IsAllowed : Candidate → Type 0
+IsAllowed c = (neg_ℤ (pos 1000000) ≤ℤ c.value) × (c.value ≤ℤ pos 1000000)
+
+-- the candidates that the links name
+pub record AreLinks (candidates : List Candidate) (links : List PairAt) (chosen : List Candidate) : Type 0 where
+  pub count : length chosen ≡ length links
+  pub among : All (Contains candidates) chosen
+  pub positions : (k : ℕ) (d : PairAt) (e : Candidate) → k < length links → HasPositions (slice_index_or links k d) (slice_index_or chosen k e)
+
+-- the links are a one-to-one list of candidates that the prices certify
+abbrev pub AreCertified : List Candidate → List PairAt → List ℤ → List ℤ → Type 0
+AreCertified cs ls ps qs = (chosen : List Candidate) × (AreLinks cs ls chosen × IsOneToOne cs chosen × Certifies cs chosen ps qs)
+
+-- the links are a one-to-one list of candidates, and no such list is worth more
+abbrev pub AreGreatest : List Candidate → List PairAt → Type 0
+AreGreatest cs ls = (chosen : List Candidate) × (AreLinks cs ls chosen × IsGreatest cs chosen)
+
+-- the first price below 0, those of A before those of B
+abbrev pub IsFirstNegative : List ℤ → List ℤ → FileRole → ℕ → Type 0
+IsFirstNegative ps qs A i = IsFirstBad (λ p. pos 0 ≤ℤ p) ps (Some i)
+IsFirstNegative ps qs B i = All (λ p. pos 0 ≤ℤ p) ps × IsFirstBad (λ p. pos 0 ≤ℤ p) qs (Some i)
+IsFirstNegative ps qs _ i = ⊥
+
+-- the reason holds, and none before it in the order of the reasons
+abbrev pub IsFirstReason : List Candidate → List PairAt → List ℤ → List ℤ → Reason → Type 0
+IsFirstReason cs ls ps qs (NotCandidate i) = IsFirstBad (IsCandidate cs) ls (Some i)
+IsFirstReason cs ls ps qs (Reused i) = All (IsCandidate cs) ls × IsFirstReused ls (Some i)
+IsFirstReason cs ls ps qs (Negative side i) = All (IsCandidate cs) ls × IsFirstReused ls None × IsFirstNegative ps qs side i
+IsFirstReason cs ls ps qs (Uncovered i) = All (IsCandidate cs) ls × IsFirstReused ls None × All (λ p. pos 0 ≤ℤ p) ps × All (λ p. pos 0 ≤ℤ p) qs × IsFirstBad (IsCovered ps qs) cs (Some i)
+IsFirstReason cs ls ps qs (Sum l p) = All (IsCandidate cs) ls × IsFirstReused ls None × All (λ p. pos 0 ≤ℤ p) ps × All (λ p. pos 0 ≤ℤ p) qs × All (IsCovered ps qs) cs × (p ≡ price_sum ps +ℤ price_sum qs) × ((chosen : List Candidate) → AreLinks cs ls chosen → l ≡ worth chosen) × (l ≢ p)
+
+-- the answer of a check
+abbrev pub IsVerdict : List Candidate → List PairAt → List ℤ → List ℤ → Verified → Type 0
+IsVerdict cs ls ps qs Yes = AreCertified cs ls ps qs
+IsVerdict cs ls ps qs (No reason) = IsFirstReason cs ls ps qs reason

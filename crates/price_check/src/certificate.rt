@@ -1,0 +1,129 @@
+// The check of a certificate.
+ghost use Rattle.std.specs.Prelude.{◌≡◌, ◌+◌, ◌<◌, ◌≤◌, ◌^◌, ℤ, pos, ◌≤ℤ◌, neg_ℤ, List, length, AllPairs, All, IfOk, ◌↔◌};
+ghost use Rattle.link_base.specs.declared.rule.Candidate.{Candidate as ACandidate};
+ghost use Rattle.assignment_laws.specs.Assignment.{IsBefore, worth, price_sum};
+ghost use Rattle.price_check.specs.Verdict.{IsCandidate, IsInRange, IsSmallPrice, IsPairBefore, IsPairInRange, IsAllowed, AreCertified, AreGreatest, AreLinks, IsVerdict};
+
+use crate::first::{candidate_at, first_negative, first_reused, first_stranger, first_uncovered};
+use crate::verdict::{Reason, Verified};
+use assignment_laws::certified_is_greatest;
+use link_base::{Candidate, FileRole, NoMemory, PairAt};
+use std::alloc::Global;
+
+/// The sum of prices.
+fn price_total(prices: &[i64]) -> i64
+    requires count { length prices.now < 2 ^ 32 }
+    requires small { All IsSmallPrice prices.now }
+    ensures value { result ≡ price_sum prices.now }
+    ensures low { neg_ℤ (pos 5000000000000000) ≤ℤ result }
+    ensures high { result ≤ℤ pos 5000000000000000 }
+{
+    let mut sum = 0;
+    for p in prices {
+        sum += *p;
+    }
+    sum
+}
+
+/// What the links are worth.
+fn links_worth(candidates: &[Candidate], links: &[PairAt]) -> i64
+    requires count { length links.now < 2 ^ 32 }
+    requires rising { AllPairs IsBefore candidates.now }
+    requires small { All IsAllowed candidates.now }
+    requires are { All (IsCandidate candidates.now) links.now }
+    ensures { (chosen : List ACandidate) → AreLinks candidates.now links.now chosen → result ≡ worth chosen }
+{
+    let mut sum = 0;
+    for link in links {
+        let Some(k) = candidate_at(candidates, *link) else {
+            unreachable!();
+        };
+        sum += i64::from(candidates[k].value);
+    }
+    sum
+}
+
+/// The first reason why prices do not certify links, if there is one.
+fn verdict(
+    alloc: Global,
+    rows_a: u32,
+    rows_b: u32,
+    candidates: &[Candidate],
+    links: &[PairAt],
+    prices_a: &[i64],
+    prices_b: &[i64],
+) -> Result<Verified, NoMemory>
+    requires count { length candidates.now < 2 ^ 32 }
+    requires rising { AllPairs IsBefore candidates.now }
+    requires in_range { All (IsInRange rows_a rows_b) candidates.now }
+    requires allowed { All IsAllowed candidates.now }
+    requires link_count { length links.now < 2 ^ 32 }
+    requires links_rising { AllPairs IsPairBefore links.now }
+    requires rows_a { length prices_a.now ≡ rows_a }
+    requires rows_b { length prices_b.now ≡ rows_b }
+    requires small_a { All IsSmallPrice prices_a.now }
+    requires small_b { All IsSmallPrice prices_b.now }
+    ensures { IfOk result (λ v. IsVerdict candidates.now links.now prices_a.now prices_b.now v) }
+{
+    if let Some(index) = first_stranger(candidates, links) {
+        return Ok(Verified::No(Reason::NotCandidate { index }));
+    }
+    if let Some(index) = first_reused(alloc, rows_b, links)? {
+        return Ok(Verified::No(Reason::Reused { index }));
+    }
+    if let Some(at) = first_negative(prices_a) {
+        return Ok(Verified::No(Reason::Negative {
+            side: FileRole::A,
+            at,
+        }));
+    }
+    if let Some(at) = first_negative(prices_b) {
+        return Ok(Verified::No(Reason::Negative {
+            side: FileRole::B,
+            at,
+        }));
+    }
+    if let Some(index) = first_uncovered(candidates, prices_a, prices_b) {
+        return Ok(Verified::No(Reason::Uncovered { index }));
+    }
+    let worth = links_worth(candidates, links);
+    let prices = price_total(prices_a) + price_total(prices_b);
+    if worth != prices {
+        return Ok(Verified::No(Reason::Sum {
+            links: worth,
+            prices,
+        }));
+    }
+    Ok(Verified::Yes)
+}
+
+/// Whether prices certify links as a one-to-one list of candidates, which is then greatest, and else the
+/// first reason why not, in the order of [`Reason`]. Candidates and links rise strictly by their
+/// positions; values and prices are at most 1,000,000 in size, and there is a price for each row.
+pub fn check(
+    alloc: Global,
+    rows_a: u32,
+    rows_b: u32,
+    candidates: &[Candidate],
+    links: &[PairAt],
+    prices_a: &[i64],
+    prices_b: &[i64],
+) -> Result<Verified, NoMemory>
+    requires count { length candidates.now < 2 ^ 32 }
+    requires rising { AllPairs IsBefore candidates.now }
+    requires in_range { All (IsInRange rows_a rows_b) candidates.now }
+    requires allowed { All IsAllowed candidates.now }
+    requires link_count { length links.now < 2 ^ 32 }
+    requires links_rising { AllPairs IsPairBefore links.now }
+    requires rows_a { length prices_a.now ≡ rows_a }
+    requires rows_b { length prices_b.now ≡ rows_b }
+    requires small_a { All IsSmallPrice prices_a.now }
+    requires small_b { All IsSmallPrice prices_b.now }
+    ensures first_reason { IfOk result (λ v. IsVerdict candidates.now links.now prices_a.now prices_b.now v) }
+    ensures certified { IfOk result (λ v. (v ≡ Verified.Yes) ↔ AreCertified candidates.now links.now prices_a.now prices_b.now) }
+    ensures greatest { IfOk result (λ v. v ≡ Verified.Yes → AreGreatest candidates.now links.now) }
+{
+    certified_is_greatest();
+    let answer = verdict(alloc, rows_a, rows_b, candidates, links, prices_a, prices_b)?;
+    Ok(answer)
+}
