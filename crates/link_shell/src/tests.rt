@@ -39,7 +39,7 @@ fn repeated(
 #[test]
 fn pairs_are_printed_and_refusals_named(rt: HostRuntime) -> Result<(), Fail> {
     let alloc = rt.alloc();
-    let rows: [(&[u8], &[&str], u8, &[u8], &[u8]); 15] = [
+    let rows: [(&[u8], &[&str], u8, &[u8], &[u8]); 16] = [
         (
             A,
             &["pairs", "a", "b", "surname"],
@@ -114,6 +114,13 @@ fn pairs_are_printed_and_refusals_named(rt: HostRuntime) -> Result<(), Fail> {
             b"",
         ),
         (b"", &["keys", "42", "-"], 0, b"42,,\n,,\n", b""),
+        (
+            "id,surname,given,birth\nA1,M\u{fc}ller,Anna,03/02/1980\nA2,O'Brien,John,17/11/1975\nA3,Smith,Maria,01/05/1990\nA4,Schmidt,Karl,31/02/1980\nA5,Lee,Wei,12/12/1968\nA6,,Paul".as_bytes(),
+            &["pairs", "a", "b", "surname"],
+            4,
+            b"",
+            b"linkage: a: row 6: number of fields\n",
+        ),
         (b"", &["keys"], 2, b"", b"linkage: usage\n"),
     ];
     for (a, command, status, out, err) in rows {
@@ -251,13 +258,14 @@ fn a_file_is_loaded_up_to_its_limit(rt: HostRuntime) -> Result<(), Fail> {
 #[test]
 fn a_failure_of_the_outside_is_named_and_changes_nothing(rt: HostRuntime) -> Result<(), Fail> {
     let alloc = rt.alloc();
-    let rows: [(u32, &[u32], u8, &[u8], &[u8]); 4] = [
-        (1, &[], 6, b"", b"linkage: store: a\n"),
-        (2, &[], 6, b"", b"linkage: store: b\n"),
-        (3, &[], 0, b"row_a,row_b\n1,2\n1,4\n3,1\n", b""),
-        (3, &[1], 7, b"", b"linkage: output\n"),
+    let rows: [(u32, &[u32], &str, u8, &[u8], &[u8]); 5] = [
+        (1, &[], "b", 6, b"", b"linkage: store: a\n"),
+        (2, &[], "b", 6, b"", b"linkage: store: b\n"),
+        (3, &[], "c", 6, b"", b"linkage: store: c\n"),
+        (3, &[], "b", 0, b"row_a,row_b\n1,2\n1,4\n3,1\n", b""),
+        (3, &[1], "b", 7, b"", b"linkage: output\n"),
     ];
-    for (call, fails, status, out, err) in rows {
+    for (call, fails, name, status, out, err) in rows {
         let mut store = MemoryStore::new(
             alloc,
             &[Failure {
@@ -269,7 +277,7 @@ fn a_failure_of_the_outside_is_named_and_changes_nothing(rt: HostRuntime) -> Res
         store.hold(alloc, "b", B)?;
         let mut printed = MemorySink::new(alloc, fails)?;
         let mut said = MemorySink::new(alloc, &[])?;
-        let words = words_of(alloc, &["pairs", "a", "b", "surname"])?;
+        let words = words_of(alloc, &["pairs", "a", name, "surname"])?;
         let got = linkage(alloc, &words, &mut store, &mut printed, &mut said);
         assert_eq!(rt; got, status);
         assert_eq!(rt; printed.bytes(), out);
