@@ -1,7 +1,6 @@
-use Rattle.std.proofs.Common.{◌≡◌, ◌+◌, ◌-◌, ◌≢◌, [], length, get_or, sym, ◌∙◌, rules, arith}
+use Rattle.std.proofs.Common.{◌-◌, length, sym, ◌∙◌, rules, arith}
 use Rattle.std.specs.Prelude.{slice_range}
 use Rattle.std.proofs.lemmas.Slice.Eq.{bytes_eq-Decides}
-use Rattle.std.proofs.lemmas.Grind.{common_steps}
 use Rattle.value_pool.specs.Texts.{nexts_of, texts_at}
 use Rattle.std.proofs.lemmas.List.{length-map}
 use Rattle.value_pool.proofs.RegionLemmas.{found_at}

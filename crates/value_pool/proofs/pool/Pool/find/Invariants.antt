@@ -1,4 +1,4 @@
-use Rattle.std.proofs.Common.{◌≡◌, length}
+use Rattle.std.proofs.Common.{length}
 use Rattle.value_pool.specs.Texts.{texts_at}
 use Rattle.value_pool.proofs.ChainLemmas.{IsLeft}
 use Rattle.value_pool.proofs.pool.Pool.find.Given as goal

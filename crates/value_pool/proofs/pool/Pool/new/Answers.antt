@@ -1,4 +1,4 @@
-use Rattle.std.proofs.Common.{◌≡◌, ◌<◌, ◌≤◌, ℕ, get_or, length, arith, refl, rules}
+use Rattle.std.proofs.Common.{arith, refl, rules}
 use Rattle.value_pool.proofs.ChainLemmas.{chained_none}
 use Rattle.value_pool.proofs.pool.Pool.new.Goals as goal
 
