@@ -1,0 +1,44 @@
+-- Ids that stand for values.
+use Rattle.std.specs.Prelude.{◌≡◌, Bool, true, false, Option, Some, None, List, ℕ, ℤ, ⊤, slice_get}
+use Rattle.link_base.specs.declared.rule.Outcome.{Outcome}
+use Rattle.link_base.specs.declared.rule.Outcome.TheVariants.{Agree, Rare}
+use Rattle.link_base.specs.declared.plan.CompareKind.{CompareKind}
+use Rattle.link_base.specs.declared.plan.CompareKind.TheVariants as compare
+use Rattle.link_base.specs.declared.standard.Value.{Value}
+use Rattle.comparators.specs.declared.ids.IdValue.{IdValue}
+use Rattle.comparators.specs.declared.ids.IdValue.TheVariants as id
+use Rattle.comparators.specs.Canons.{exact_canon, soundex_canon, nysiis_canon, first_letters_canon, initials_canon, day_in}
+
+-- the id of a canon among these texts, and none where there is no canon
+abbrev pub NamesCanon : List (List ℕ) → Option (List ℕ) → IdValue → Type 0
+NamesCanon texts None id.Absent = ⊤
+NamesCanon texts None (id.Id place) = ⊥
+NamesCanon texts None (id.Day day) = ⊥
+NamesCanon texts (Some canon) id.Absent = ⊥
+NamesCanon texts (Some canon) (id.Id place) = slice_get texts place ≡ Some canon
+NamesCanon texts (Some canon) (id.Day day) = ⊥
+
+-- a day itself
+abbrev pub IsDayItself : Option ℤ → IdValue → Type 0
+IsDayItself None id.Absent = ⊤
+IsDayItself None (id.Id place) = ⊥
+IsDayItself None (id.Day day) = ⊥
+IsDayItself (Some day) id.Absent = ⊥
+IsDayItself (Some day) (id.Id place) = ⊥
+IsDayItself (Some day) (id.Day other) = other ≡ day
+
+-- what stands for a value that is compared by a kind: the id of its canon, or its day
+abbrev pub StandsFor : List (List ℕ) → CompareKind → Value → IdValue → Type 0
+StandsFor texts compare.Exact x side = NamesCanon texts (exact_canon x) side
+StandsFor texts compare.BySoundex x side = NamesCanon texts (soundex_canon x) side
+StandsFor texts compare.ByNysiis x side = NamesCanon texts (nysiis_canon x) side
+StandsFor texts (compare.FirstLetters n) x side = NamesCanon texts (first_letters_canon n x) side
+StandsFor texts compare.Initials x side = NamesCanon texts (initials_canon x) side
+StandsFor texts (compare.DaysWithin t) x side = IsDayItself (day_in x) side
+StandsFor texts (compare.YearsWithin t) x side = IsDayItself (day_in x) side
+
+-- an outcome whose agreement is rare
+abbrev pub rare_where : Bool → Outcome → Outcome
+rare_where true Agree = Rare
+rare_where true other = other
+rare_where false outcome = outcome

@@ -1,0 +1,70 @@
+// Tables of ids, one row of them per record.
+ghost use Rattle.std.specs.Prelude.{◌≡◌, ◌+◌, ◌<◌, ◌^◌, ◌++◌, ◌∷◌, [], IfOk, OnErr, OnOk, length};
+
+use crate::ids::IdValue;
+use link_base::{NoMemory, Sides};
+use std::alloc::Global;
+use std::marker::Model;
+
+/// A table of ids, row by row. Contracts see it as the number of values of a row and the list of its rows.
+#[derive(Debug, Drop)]
+pub struct IdTable {
+    // The rows, one behind the other.
+    values: Vec<IdValue>,
+    rows: u32,
+    fields: u8,
+}
+
+impl Model for IdTable {
+    ghost use Rattle.std.specs.Prelude.{◌≡◌, ◌*◌, length};
+    ghost use Rattle.comparators.specs.Rows.{IdRows, rows_in};
+
+    ghost Value = { IdRows };
+
+    ghost view = { λ t. record { fields = t.fields; rows = rows_in t.fields t.rows t.values.items } };
+
+    ghost invariant = { λ t. length t.values.items ≡ t.rows * t.fields };
+}
+
+impl IdTable {
+    /// The table of no rows, for rows of so many values.
+    pub fn new(alloc: Global, fields: u8) -> Result<IdTable, NoMemory>
+        ensures fields { IfOk result (λ table. table.fields ≡ fields) }
+        ensures rows { IfOk result (λ table. table.rows ≡ []) }
+    {
+        Ok(IdTable {
+            values: Vec::new(alloc),
+            rows: 0,
+            fields,
+        })
+    }
+
+    /// Appends a row. A table has at most 4,294,967,295 rows.
+    pub fn push(&mut self, row: &[IdValue]) -> Result<(), NoMemory>
+        requires width { length row.now ≡ self.old.fields }
+        requires room { length self.old.rows + 1 < 2 ^ 32 }
+        ensures fields { self.new.fields ≡ self.old.fields }
+        ensures ok { OnOk result (self.new.rows ≡ self.old.rows ++ row.now ∷ []) }
+        ensures err { OnErr result (self.new.rows ≡ self.old.rows) }
+    {
+        if self.values.extend_from_slice(row).is_err() {
+            return Err(NoMemory);
+        }
+        self.rows += 1;
+        Ok(())
+    }
+}
+
+impl Sides<IdValue> for IdTable {
+    ghost all = { λ table. table.rows };
+
+    fn count(&self) -> u32 {
+        self.rows
+    }
+
+    fn sides(&self, at: u32) -> &[IdValue] {
+        let width = usize::from(self.fields);
+        let start = at as usize * width;
+        &self.values[start..start + width]
+    }
+}

@@ -1,0 +1,83 @@
+-- On the number of a pattern.
+use Rattle.std.proofs.Common.{◌≡◌, ◌<◌, ◌≤◌, ◌+◌, ◌-◌, ◌*◌, ◌/◌, ◌%◌, ℕ, zero, suc, ◌^◌, Bool, true, false, List, [], ◌∷◌, length, map, drop, get_or, refl, ap, sym, ◌∙◌, subst, arith, rules, drop-cons, add-one, mul_comm}
+use Rattle.std.proofs.lemmas.List.{length-map}
+use Rattle.std.proofs.Math.Nat.{one-le-pow, mul-one, pow-succ'}
+use Rattle.std.proofs.lemmas.Nat.{div-mul-add, mod-mul-add, mul-add-lt, mul-le}
+use Rattle.std.proofs.lemmas.Grind.{common_steps}
+use Rattle.link_base.specs.declared.rule.Outcome.{Outcome}
+use Rattle.link_base.specs.declared.rule.Outcome.TheVariants.{Agree, Disagree, Missing, Rare}
+use Rattle.link_base.specs.Shares.{outcomes_of}
+use Rattle.pattern_shapes.specs.Shapes.{digit_of, outcome_at, outcome_with, pattern_count_by}
+use Rattle.pattern_shapes.proofs.Digits.{count-le, count-pos, outcomes_bounds}
+use Rattle.patterns.specs.Patterns.{AreSides, FitsShape, number_of, outcomes}
+
+pub digit-le : (o : Outcome) → digit_of o ≤ 3
+digit-le Agree = omega arith
+digit-le Disagree = omega arith
+digit-le Missing = omega arith
+digit-le Rare = omega arith
+
+digit-lt : (r : Bool) (o : Outcome) → (o ≡ Rare → r ≡ true) → digit_of o < outcomes_of r
+digit-lt true o h = let bound = digit-le o in omega arith
+digit-lt false Agree h = omega arith
+digit-lt false Disagree h = omega arith
+digit-lt false Missing h = omega arith
+digit-lt false Rare h = let never : false ≡ true = h refl in cc
+
+with-digit : (o : Outcome) → outcome_with (digit_of o) ≡ o
+with-digit Agree = refl
+with-digit Disagree = refl
+with-digit Missing = refl
+with-digit Rare = refl
+
+pub number-lt : (rs : List Bool) (os : List Outcome) → FitsShape rs os → number_of rs os < pattern_count_by rs
+number-lt [] [] h = omega arith
+number-lt [] (o ∷ os) h = absurd h
+number-lt (r ∷ rs) [] h = absurd h
+number-lt (r ∷ rs) (o ∷ os) h =
+    let placed = mul-add-lt (digit_of o) (pattern_count_by rs) (number_of rs os) (outcomes_of r) (digit-lt r o h.0) (number-lt rs os h.1) in
+    rw (mul_comm (outcomes_of r) (pattern_count_by rs)) placed
+
+-- each digit of the number is its outcome
+pub outcome-number : (rs : List Bool) (os : List Outcome) (k : ℕ) (d : Outcome) → FitsShape rs os → k < length rs → outcome_at rs (number_of rs os) k ≡ get_or os k d
+outcome-number [] os k d fits h = absurd (omega arith)
+outcome-number (r ∷ rs) [] k d fits h = absurd fits
+outcome-number (r ∷ rs) (o ∷ os) zero d fits h = rw (div-mul-add (digit_of o) (pattern_count_by rs) (number_of rs os) (number-lt rs os fits.1)) (with-digit o)
+outcome-number (r ∷ rs) (o ∷ os) (suc k) d fits h = rw (mod-mul-add (digit_of o) (pattern_count_by rs) (number_of rs os) (number-lt rs os fits.1)) (outcome-number rs os k d fits.1 (omega arith))
+
+module _ {C S : Type 0} {outcome : C → S → S → Outcome} where
+  -- from the law of a comparator alone
+  pub outcomes-swap : ((c : C) (x y : S) → outcome c x y ≡ outcome c y x) → (cs : List C) (xs ys : List S) → outcomes outcome cs xs ys ≡ outcomes outcome cs ys xs
+  outcomes-swap law [] xs ys = refl
+  outcomes-swap law (c ∷ cs) [] [] = refl
+  outcomes-swap law (c ∷ cs) [] (y ∷ ys) = refl
+  outcomes-swap law (c ∷ cs) (x ∷ xs) [] = refl
+  outcomes-swap law (c ∷ cs) (x ∷ xs) (y ∷ ys) = λ i. law c x y i ∷ outcomes-swap law cs xs ys i
+
+module _ {C S : Type 0} {rare : C → Bool} {outcome : C → S → S → Outcome} where
+  pub outcomes_fit : ((c : C) (x y : S) → outcome c x y ≡ Rare → rare c ≡ true) → (cs : List C) (xs ys : List S) → length xs ≡ length cs → length ys ≡ length cs → FitsShape (map rare cs) (outcomes outcome cs xs ys)
+  outcomes_fit law [] xs ys h k = tt
+  outcomes_fit law (c ∷ cs) [] ys h k = absurd (omega arith)
+  outcomes_fit law (c ∷ cs) (x ∷ xs) [] h k = absurd (omega arith)
+  outcomes_fit law (c ∷ cs) (x ∷ xs) (y ∷ ys) h k = (law c x y, outcomes_fit law cs xs ys (omega arith) (omega arith))
+
+-- what the front of a pattern adds up to
+total-bound : (n c k w : ℕ) → 1 ≤ c → n * c + k ≡ w → n ≤ w
+total-bound n c k w h e = let product = mul-le n 1 n c (omega arith) h in omega (arith, mul-one n)
+
+pub next-le : (n : ℕ) (r : Bool) → n < 4096 → n * outcomes_of r ≤ 16380
+next-le n r h = let base = outcomes_bounds r in let product = mul-le n (outcomes_of r) 4095 4 (omega arith) base.1 in omega arith
+
+module _ {C S : Type 0} {rare : C → Bool} {outcome : C → S → S → Outcome} (only_rare : (c : C) (x y : S) → outcome c x y ≡ Rare → rare c ≡ true) where
+  pub pattern-lt : (cs : List C) (xs ys : List S) → length xs ≡ length cs → length ys ≡ length cs → number_of (map rare cs) (outcomes outcome cs xs ys) < pattern_count_by (map rare cs)
+  pattern-lt cs xs ys h k = number-lt (map rare cs) (outcomes outcome cs xs ys) (outcomes_fit only_rare cs xs ys h k)
+
+  pub front-lt : (cs : List C) (xs ys : List S) (rest : List Bool) (n m : ℕ) → length cs ≤ 6 → length xs ≡ length cs → length ys ≡ length cs → n * pattern_count_by rest + m ≡ number_of (map rare cs) (outcomes outcome cs xs ys) → n < 4096
+  front-lt cs xs ys rest n m few h k e =
+      let whole = pattern-lt cs xs ys h k in
+      let count = count-le (map rare cs) 6 (simp length-map few) in
+      let front = total-bound n (pattern_count_by rest) m _ (count-pos rest) e in
+      omega arith
+
+  pub outcome-pattern : (cs : List C) (xs ys : List S) → length xs ≡ length cs → length ys ≡ length cs → (k : ℕ) (d : Outcome) → k < length cs → outcome_at (map rare cs) (number_of (map rare cs) (outcomes outcome cs xs ys)) k ≡ get_or (outcomes outcome cs xs ys) k d
+  outcome-pattern cs xs ys h l k d within = outcome-number (map rare cs) (outcomes outcome cs xs ys) k d (outcomes_fit only_rare cs xs ys h l) (simp length-map within)

@@ -1,0 +1,37 @@
+-- Comparison patterns (Fellegi and Sunter 1969, section 2): the outcomes of all fields, and their number.
+use Rattle.std.specs.Prelude.{◌≡◌, ◌<◌, ◌+◌, ◌*◌, ℕ, Bool, true, false, List, [], ◌∷◌, length, map, slice_index_or, ⊤}
+use Rattle.link_base.specs.declared.rule.Outcome.{Outcome}
+use Rattle.link_base.specs.declared.rule.Outcome.TheVariants.{Rare}
+use Rattle.link_base.specs.declared.standard.Value.{Value}
+use Rattle.pattern_shapes.specs.Shapes.{digit_of, pattern_count_by}
+use Rattle.comparators.specs.declared.fields.FieldKind.{FieldKind}
+use Rattle.comparators.specs.Fields.{kind_outcome}
+
+-- the number with these digits in mixed base, the digit of the first field most significant
+abbrev pub number_of : List Bool → List Outcome → ℕ
+number_of [] outcomes = 0
+number_of (rare ∷ rares) [] = 0
+number_of (rare ∷ rares) (outcome ∷ outcomes) = digit_of outcome * pattern_count_by rares + number_of rares outcomes
+
+-- the outcomes of two rows of sides, field by field
+abbrev pub outcomes : {C S : Type 0} → (C → S → S → Outcome) → List C → List S → List S → List Outcome
+outcomes outcome [] xs ys = []
+outcomes outcome (c ∷ cs) [] ys = []
+outcomes outcome (c ∷ cs) (x ∷ xs) [] = []
+outcomes outcome (c ∷ cs) (x ∷ xs) (y ∷ ys) = outcome c x y ∷ outcomes outcome cs xs ys
+
+-- one valid side for each comparator
+pub record AreSides {C S : Type 0} (valid : C → S → Type 0) (kinds : List C) (sides : List S) : Type 0 where
+  pub as_many : length sides ≡ length kinds
+  pub valid_at : (k : ℕ) (c : C) (s : S) → k < length kinds → valid (slice_index_or kinds k c) (slice_index_or sides k s)
+
+-- one outcome for each field, rare only where the field may be
+abbrev pub FitsShape : List Bool → List Outcome → Type 0
+FitsShape [] [] = ⊤
+FitsShape [] (outcome ∷ outcomes) = ⊥
+FitsShape (rare ∷ rares) [] = ⊥
+FitsShape (rare ∷ rares) (outcome ∷ outcomes) = (outcome ≡ Rare → rare ≡ true) × FitsShape rares outcomes
+
+-- the pattern of two rows of standard values, of which none is rare
+abbrev pub pattern_of : List FieldKind → List Value → List Value → ℕ
+pattern_of kinds a b = number_of (map (λ (_ : FieldKind). false) kinds) (outcomes kind_outcome kinds a b)

@@ -1,0 +1,87 @@
+// The number of a comparison pattern, and its shape.
+ghost use Rattle.std.specs.Prelude.{◌≡◌, ◌<◌, ◌≤◌, ℕ, false, length, map, slice_index_or, take};
+ghost use Rattle.link_base.specs.Shares.{outcomes_of};
+ghost use Rattle.link_base.specs.declared.rule.Outcome.{Outcome};
+ghost use Rattle.pattern_shapes.specs.Shapes.{digit_of, outcome_at, pattern_count_by, rare_of};
+ghost use Rattle.patterns.specs.Patterns.{AreSides, number_of, outcomes};
+
+use comparators::Comparator;
+use link_base::{Outcome, Shape};
+
+/// How many outcomes a field has.
+fn base(rare: bool) -> u16
+    ensures { result ≡ outcomes_of rare }
+{
+    if rare { 4 } else { 3 }
+}
+
+fn digit(outcome: Outcome) -> u16
+    ensures { result ≡ digit_of outcome }
+{
+    match outcome {
+        Outcome::Agree => 0,
+        Outcome::Disagree => 1,
+        Outcome::Missing => 2,
+        Outcome::Rare => 3,
+    }
+}
+
+// The number itself. What the laws of the comparator say of it stands below.
+fn number_over<C: Comparator>(kinds: &[C], a: &[C::Side], b: &[C::Side]) -> u16
+    requires few { length kinds.now ≤ 6 }
+    requires sides_a { AreSides C.is_valid kinds.now a.now }
+    requires sides_b { AreSides C.is_valid kinds.now b.now }
+    ensures { result ≡ number_of (map C.is_rare kinds.now) (outcomes C.outcome_of kinds.now a.now b.now) }
+{
+    let mut number = 0;
+    for i in 0..kinds.len() {
+        let kind = &kinds[i];
+        let outcome = kind.outcome(&a[i], &b[i]);
+        number = number * base(kind.rare()) + digit(outcome);
+    }
+    number
+}
+
+/// The pattern of two rows of sides, of at most six fields: the number whose digits are the outcomes in the order agree 0,
+/// disagree 1, missing 2, rare 3, the first field most significant. The base of a digit is 4 where the field's comparator
+/// can answer `Rare`, else 3. The pattern does not change when the two rows change places.
+pub fn pattern_over<C: Comparator>(kinds: &[C], a: &[C::Side], b: &[C::Side]) -> u16
+    requires few { length kinds.now ≤ 6 }
+    requires sides_a { AreSides C.is_valid kinds.now a.now }
+    requires sides_b { AreSides C.is_valid kinds.now b.now }
+    ensures number { result ≡ number_of (map C.is_rare kinds.now) (outcomes C.outcome_of kinds.now a.now b.now) }
+    ensures range { result < pattern_count_by (map C.is_rare kinds.now) }
+    ensures symmetric { result ≡ number_of (map C.is_rare kinds.now) (outcomes C.outcome_of kinds.now b.now a.now) }
+    ensures digits { (k : ℕ) (d : Outcome) → k < length kinds.now
+        → outcome_at (map C.is_rare kinds.now) result k ≡ slice_index_or (outcomes C.outcome_of kinds.now a.now b.now) k d }
+{
+    number_over(kinds, a, b)
+}
+
+/// The shape of the patterns of 1 to 6 comparators, with which `pattern_shapes` reads the outcomes of a pattern.
+pub fn shape_of<C: Comparator>(kinds: &[C]) -> Shape
+    requires some { 1 ≤ length kinds.now }
+    requires few { length kinds.now ≤ 6 }
+    ensures fields { result.fields ≡ length kinds.now }
+    ensures rare { rare_of result ≡ map C.is_rare kinds.now }
+{
+    let rare = rare_fields(kinds);
+    Shape {
+        fields: kinds.len() as u8,
+        rare,
+    }
+}
+
+// Which fields may be rare.
+fn rare_fields<C: Comparator>(kinds: &[C]) -> [bool; 6]
+    requires few { length kinds.now ≤ 6 }
+    ensures front { take (length kinds.now) result ≡ map C.is_rare kinds.now }
+    ensures unused { (k : ℕ) → length kinds.now ≤ k → slice_index_or result k false ≡ false }
+{
+    let mut rare = [false; 6];
+    for i in 0..kinds.len() {
+        let kind = &kinds[i];
+        rare[i] = kind.rare();
+    }
+    rare
+}
