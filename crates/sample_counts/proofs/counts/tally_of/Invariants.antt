@@ -1,0 +1,8 @@
+use Rattle.std.proofs.Common.{◌≡◌, ◌<◌, ℕ, length, take}
+use Rattle.std.specs.List.{filter}
+use Rattle.pattern_shapes.specs.Shapes.{rare_of}
+use Rattle.sample_counts.specs.Counts.{counted_at, digit_in, is_digit}
+use Rattle.sample_counts.proofs.counts.tally_of.Given as goal
+
+abbrev pub invariant-loop-row : goal.invariant-loop-row
+invariant-loop-row l = (k : ℕ) → k < 4 → counted_at l.counts k ≡ length (filter (λ row. is_digit k (digit_in (rare_of l.shape) l.field l.matched row)) (take l.row-index l.rows))

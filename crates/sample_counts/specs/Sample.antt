@@ -1,0 +1,102 @@
+-- The sample of reviewed pairs, or its first fault.
+use Rattle.std.specs.Prelude.{◌≡◌, ◌+◌, ◌==◌, ◌&&◌, ◌<◌, ◌≤◌, All, ℕ, Bool, true, false, not, List, [], ◌∷◌, ◌++◌, length, position, Option, Some, None, Result, Ok, Err, codes, bytes_eq, slice_index_or, if◌then◌else◌}
+use Rattle.std.specs.List.{list_any}
+use Rattle.link_base.specs.Fault.{and_then}
+use Rattle.link_base.specs.Standard.{Record, position_of_id}
+use Rattle.link_base.specs.declared.fault.Fault.{Fault}
+use Rattle.link_base.specs.declared.fault.Fault.TheVariants as fault
+use Rattle.link_base.specs.declared.fault.FileRole.TheVariants as role
+use Rattle.file_reader.specs.Layout.{Wanted}
+use Rattle.file_reader.specs.Rows.{TableRow}
+use Rattle.file_reader.specs.Table.{table_of}
+use Rattle.sample_counts.specs.declared.reviewed.Reviewed.{Reviewed}
+
+-- the columns of a sample, and the most rows that it may have
+abbrev pub sample_wanted : Wanted
+sample_wanted = record { id = None; columns = codes "id_a" ∷ codes "id_b" ∷ codes "status" ∷ []; most = 100000 }
+
+-- whether a status says that the pair is matched
+abbrev pub is_matched_by : List ℕ → Option Bool
+is_matched_by status =
+    if bytes_eq status (codes "matched") then Some true
+    else if bytes_eq status (codes "unmatched") then Some false
+    else None
+
+-- what was found, or this fault
+abbrev pub or_fault : {A : Type 0} → Fault → Option A → Result A Fault
+or_fault f None = Err f
+or_fault f (Some x) = Ok x
+
+abbrev pub field_at : List (List ℕ) → ℕ → List ℕ
+field_at fields k = slice_index_or fields k []
+
+-- the record of a file that an id of this row names
+abbrev pub known_record : ℕ → List ℕ → List ℕ → List Record → Result ℕ Fault
+known_record number column id records = or_fault (fault.UnknownId role.Sample number column) (position_of_id id records)
+
+-- the pair of a row with this status: its id in A is tested first, then its id in B
+abbrev pub named_pair : List Record → List Record → ℕ → List (List ℕ) → Bool → Result Reviewed Fault
+named_pair a b number fields matched =
+    and_then (known_record number (codes "id_a") (field_at fields 0) a) (λ of_a.
+    and_then (known_record number (codes "id_b") (field_at fields 1) b) (λ of_b.
+    Ok (record { a = of_a; b = of_b; matched = matched })))
+
+-- the reviewed pair of a row, whose status is tested before its ids
+abbrev pub reviewed_row : List Record → List Record → ℕ → List (List ℕ) → Result Reviewed Fault
+reviewed_row a b number fields =
+    and_then (or_fault (fault.BadStatus number) (is_matched_by (field_at fields 2))) (named_pair a b number fields)
+
+abbrev pub same_pair : Reviewed → Reviewed → Bool
+same_pair r s = r.a == s.a && r.b == s.b
+
+-- a pair that none of the earlier rows names
+abbrev pub unless_repeated : ℕ → Reviewed → Option ℕ → Result Reviewed Fault
+unless_repeated number r None = Ok r
+unless_repeated number r (Some place) = Err (fault.RepeatedPair number (place + 1))
+
+abbrev pub new_after : List Reviewed → ℕ → Reviewed → Result Reviewed Fault
+new_after done number r = unless_repeated number r (position (same_pair r) done)
+
+-- the pair of a row after these
+abbrev pub sample_row : List Record → List Record → List Reviewed → List (List ℕ) → Result Reviewed Fault
+sample_row a b done fields =
+    and_then (reviewed_row a b (length done + 1) fields) (new_after done (length done + 1))
+
+-- the pairs with those of the rows that are left; the first row with a fault decides
+abbrev pub reviewed_rows : List Record → List Record → List Reviewed → List TableRow → Result (List Reviewed) Fault
+reviewed_rows a b done [] = Ok done
+reviewed_rows a b done (row ∷ rows) =
+    and_then (sample_row a b done row.fields) (λ r. reviewed_rows a b (done ++ r ∷ []) rows)
+
+-- a sample has a matched and an unmatched pair
+abbrev pub with_both : List Reviewed → Result (List Reviewed) Fault
+with_both sample =
+    if list_any (λ (r : Reviewed). r.matched) sample
+    then (if list_any (λ (r : Reviewed). not r.matched) sample then Ok sample else Err fault.NoUnmatched)
+    else Err fault.NoMatched
+
+-- the sample in a table, and in the records of a file
+abbrev pub sample_under : List Record → List Record → List TableRow → Result (List Reviewed) Fault
+sample_under a b table = and_then (reviewed_rows a b [] table) with_both
+
+abbrev pub sample_of : List Record → List Record → List (List (List ℕ)) → Result (List Reviewed) Fault
+sample_of a b records = and_then (table_of role.Sample sample_wanted records) (sample_under a b)
+
+-- the two positions of a pair
+abbrev pub places_of : Reviewed → ℕ × ℕ
+places_of r = (r.a, r.b)
+
+abbrev pub is_at : ℕ → ℕ → ℕ × ℕ → Bool
+is_at a b pair = a == pair.0 && b == pair.1
+
+-- positions of files of so many records
+pub record IsInFiles (rows_a rows_b : ℕ) (r : Reviewed) : Type 0 where
+  pub of_a : r.a < rows_a
+  pub of_b : r.b < rows_b
+
+-- reviewed pairs of both kinds, at most 100,000
+pub record IsSample (rows_a rows_b : ℕ) (sample : List Reviewed) : Type 0 where
+  pub few : length sample ≤ 100000
+  pub in_files : All (IsInFiles rows_a rows_b) sample
+  pub matched : list_any (λ (r : Reviewed). r.matched) sample ≡ true
+  pub unmatched : list_any (λ (r : Reviewed). not r.matched) sample ≡ true

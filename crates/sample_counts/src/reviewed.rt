@@ -1,0 +1,227 @@
+// The reviewed pairs of a sample.
+ghost use Rattle.std.specs.Prelude.{◌≡◌, ◌≤◌, ◌<◌, ◌+◌, ◌++◌, ◌∷◌, [], All, IfErr, IfOk, OnOk, length, map, not, slice_index_or, true};
+ghost use Rattle.std.specs.List.{list_any};
+ghost use Rattle.csv_records.specs.Left.{records_in};
+ghost use Rattle.link_base.specs.Fault.{Gives, IsAnswer, IsInputFault};
+ghost use Rattle.link_base.specs.Standard.{position_of_id};
+ghost use Rattle.file_reader.specs.Layout.{wanted_of};
+ghost use Rattle.file_reader.specs.Rows.{TableRow, no_row};
+ghost use Rattle.sample_counts.specs.Sample.{IsInFiles, is_matched_by, known_record, places_of, reviewed_row, reviewed_rows, sample_of, sample_row, sample_under, sample_wanted, with_both, IsSample};
+
+use crate::index::PairIndex;
+use file_reader::{Layout, Table, read_table};
+use link_base::{Fault, FileRole, NoMemory, StdFile, Text};
+use std::alloc::Global;
+
+/// The most rows of a sample.
+const MOST_ROWS: u32 = 100_000;
+
+/// A reviewed pair: the positions of its records in A and in B, and whether it is matched.
+#[derive(Clone, Copy, Debug)]
+pub struct Reviewed {
+    pub(crate) a: u32,
+    pub(crate) b: u32,
+    pub(crate) matched: bool,
+}
+
+fn layout(alloc: Global) -> Result<Layout, NoMemory>
+    ensures wanted { IfOk result (λ layout. wanted_of layout ≡ sample_wanted) }
+    ensures delimiter { IfOk result (λ layout. layout.delimiter ≡ 44) }
+{
+    let mut columns = Vec::new(alloc);
+    columns.push(Text::new(alloc, b"id_a")?)?;
+    columns.push(Text::new(alloc, b"id_b")?)?;
+    columns.push(Text::new(alloc, b"status")?)?;
+    Ok(Layout {
+        delimiter: b',',
+        id: None,
+        columns,
+        most_rows: MOST_ROWS,
+    })
+}
+
+// Whether a status says that the pair is matched.
+fn matched_by(status: &[u8]) -> Option<bool>
+    ensures { result ≡ is_matched_by status.now }
+{
+    if status == b"matched".as_slice() {
+        return Some(true);
+    }
+    if status == b"unmatched".as_slice() {
+        return Some(false);
+    }
+    None
+}
+
+// The record that an id of a row names.
+fn known(alloc: Global, row: u32, column: &[u8], id: &[u8], file: &StdFile) -> Result<u32, Fault>
+    ensures kind { IfErr result IsInputFault }
+    ensures answer { IsAnswer (known_record row column.now id.now file.now) result }
+    ensures within { IfOk result (λ at. at < length file.now) }
+{
+    match file.find(id) {
+        Some(at) => Ok(at),
+        None => {
+            let column = Text::new(alloc, column)?;
+            Err(Fault::UnknownId {
+                role: FileRole::Sample,
+                row,
+                column,
+            })
+        }
+    }
+}
+
+// The reviewed pair of the row at a position.
+fn reviewed_at(
+    alloc: Global,
+    table: &Table,
+    at: u32,
+    a: &StdFile,
+    b: &StdFile,
+) -> Result<Reviewed, Fault>
+    requires within { at < length table.now }
+    requires width { length (slice_index_or table.now at no_row).fields ≡ 3 }
+    requires few { length table.now ≤ 100000 }
+    ensures kind { IfErr result IsInputFault }
+    ensures answer { IsAnswer (reviewed_row a.now b.now (at + 1) (slice_index_or table.now at no_row).fields) result }
+    ensures in_files { IfOk result (λ r. IsInFiles (length a.now) (length b.now) r) }
+{
+    let row = at + 1;
+    let matched = match matched_by(table.field(at, 2)) {
+        Some(matched) => matched,
+        None => return Err(Fault::BadStatus { row }),
+    };
+    let of_a = match known(alloc, row, b"id_a", table.field(at, 0), a) {
+        Ok(of_a) => of_a,
+        Err(fault) => return Err(fault),
+    };
+    match known(alloc, row, b"id_b", table.field(at, 1), b) {
+        Ok(of_b) => Ok(Reviewed {
+            a: of_a,
+            b: of_b,
+            matched,
+        }),
+        Err(fault) => Err(fault),
+    }
+}
+
+// The reviewed pair of the row at a position, which no earlier row names.
+fn sample_at(
+    alloc: Global,
+    table: &Table,
+    at: u32,
+    a: &StdFile,
+    b: &StdFile,
+    done: &[Reviewed],
+    index: &mut PairIndex,
+) -> Result<Reviewed, Fault>
+    requires within { at < length table.now }
+    requires width { length (slice_index_or table.now at no_row).fields ≡ 3 }
+    requires few { length table.now ≤ 100000 }
+    requires done { length done.now ≡ at }
+    requires index { index.old ≡ map places_of done.now }
+    ensures kind { IfErr result IsInputFault }
+    ensures answer { IsAnswer (sample_row a.now b.now done.now (slice_index_or table.now at no_row).fields) result }
+    ensures in_files { IfOk result (λ r. IsInFiles (length a.now) (length b.now) r) }
+    ensures index { IfOk result (λ r. index.new ≡ map places_of done.now ++ places_of r ∷ []) }
+{
+    let pair = match reviewed_at(alloc, table, at, a, b) {
+        Ok(pair) => pair,
+        Err(fault) => return Err(fault),
+    };
+    match index.keep(pair.a, pair.b) {
+        Ok(None) => Ok(pair),
+        Ok(Some(place)) => Err(Fault::RepeatedPair {
+            row: at + 1,
+            first: place as u32 + 1,
+        }),
+        Err(NoMemory) => Err(Fault::NoMemory),
+    }
+}
+
+// The reviewed pairs of the rows of a table.
+fn reviewed_in(
+    alloc: Global,
+    table: &Table,
+    a: &StdFile,
+    b: &StdFile,
+) -> Result<Vec<Reviewed>, Fault>
+    requires width { All (λ (r : TableRow). length r.fields ≡ 3) table.now }
+    requires few { length table.now ≤ 100000 }
+    ensures kind { IfErr result IsInputFault }
+    ensures answer { Gives (λ sample. sample.items) (reviewed_rows a.now b.now [] table.now) result }
+    ensures in_files { IfOk result (λ sample. All (IsInFiles (length a.now) (length b.now)) sample.items) }
+    ensures rows { IfOk result (λ sample. length sample.items ≡ length table.now) }
+{
+    let mut index = PairIndex::new(alloc);
+    let mut done = Vec::new(alloc);
+    for at in 0..table.rows() {
+        match sample_at(alloc, table, at, a, b, &done, &mut index) {
+            Ok(pair) => done.push(pair)?,
+            Err(fault) => return Err(fault),
+        }
+    }
+    Ok(done)
+}
+
+fn has_matched(sample: &[Reviewed]) -> bool
+    ensures { result ≡ list_any (λ (r : Reviewed). r.matched) sample.now }
+{
+    sample.iter().any(|pair| pair.matched)
+}
+
+fn has_unmatched(sample: &[Reviewed]) -> bool
+    ensures { result ≡ list_any (λ (r : Reviewed). not r.matched) sample.now }
+{
+    sample.iter().any(|pair| !pair.matched)
+}
+
+// The sample, where it has a matched and an unmatched pair.
+fn with_both_kinds(sample: Vec<Reviewed>) -> Result<Vec<Reviewed>, Fault>
+    ensures kind { IfErr result IsInputFault }
+    ensures answer { Gives (λ sample. sample.items) (with_both sample.items) result }
+    ensures same { IfOk result (λ kept. kept.items ≡ sample.items) }
+    ensures matched { OnOk result (list_any (λ (r : Reviewed). r.matched) sample.items ≡ true) }
+    ensures unmatched { OnOk result (list_any (λ (r : Reviewed). not r.matched) sample.items ≡ true) }
+{
+    if !has_matched(&sample) {
+        return Err(Fault::NoMatched);
+    }
+    if !has_unmatched(&sample) {
+        return Err(Fault::NoUnmatched);
+    }
+    Ok(sample)
+}
+
+// The sample in a table.
+fn sample_in(alloc: Global, table: &Table, a: &StdFile, b: &StdFile) -> Result<Vec<Reviewed>, Fault>
+    requires width { All (λ (r : TableRow). length r.fields ≡ 3) table.now }
+    requires few { length table.now ≤ 100000 }
+    ensures kind { IfErr result IsInputFault }
+    ensures answer { Gives (λ sample. sample.items) (sample_under a.now b.now table.now) result }
+    ensures is { IfOk result (λ sample. IsSample (length a.now) (length b.now) sample.items) }
+{
+    match reviewed_in(alloc, table, a, b) {
+        Ok(sample) => with_both_kinds(sample),
+        Err(fault) => Err(fault),
+    }
+}
+
+/// The reviewed pairs of a sample file, or its first fault.
+pub(crate) fn read_sample(
+    alloc: Global,
+    bytes: &[u8],
+    a: &StdFile,
+    b: &StdFile,
+) -> Result<Vec<Reviewed>, Fault>
+    ensures kind { IfErr result IsInputFault }
+    ensures answer { Gives (λ sample. sample.items) (sample_of a.now b.now (records_in 44 bytes.now)) result }
+    ensures is { IfOk result (λ sample. IsSample (length a.now) (length b.now) sample.items) }
+{
+    let layout = layout(alloc)?;
+    match read_table(alloc, bytes, FileRole::Sample, &layout) {
+        Ok(table) => sample_in(alloc, &table, a, b),
+        Err(fault) => Err(fault),
+    }
+}
