@@ -1,0 +1,99 @@
+-- One text more in a region of bytes.
+use Rattle.std.proofs.Common.{◌≡◌, ◌<◌, ◌≤◌, ◌+◌, ◌-◌, ℕ, zero, suc, Bool, true, false, cond, ◌||◌, ◌≢◌, List, [], ◌∷◌, ◌++◌, length, map, get_or, take, drop, refl, ap, sym, ◌∙◌, arith, length-append, length-drop}
+use Rattle.std.specs.Prelude.{Option, Some, slice_get, slice_range, if◌then◌else◌}
+use Rattle.std.specs.Str.{bytes_eq}
+use Rattle.std.specs.List.{All, AllPairs, list_any, sum_by}
+use Rattle.std.proofs.lemmas.List.Sums.{sum_by_push}
+use Rattle.std.proofs.lemmas.List.{take-append-le, drop-append-le, length-map}
+use Rattle.std.proofs.lemmas.List.Quantifiers.{all_pairs_push}
+use Rattle.std.proofs.lemmas.List.Folds.{list_any-append}
+use Rattle.std.proofs.lemmas.List.Elements.{All-push}
+use Rattle.std.proofs.lemmas.Slice.Eq.{bytes_eq-Decides}
+use Rattle.std.proofs.lemmas.Grind.{common_steps}
+use Rattle.value_pool.specs.declared.chains.Slot.{Slot}
+use Rattle.value_pool.specs.Texts.{IsWithin, most_texts, texts_at}
+
+pub found_at : (bytes : List ℕ) (slots : List Slot) (i : ℕ) (s : Slot) (text : List ℕ) → i < length slots → s ≡ get_or slots i s → slice_range bytes s.start s.end ≡ text → slice_get (texts_at bytes slots) i ≡ Some text
+found_at bytes [] i s text h e r = absurd (omega arith)
+found_at bytes (x ∷ xs) zero s text h e r = ap (λ (y : Slot). Some (slice_range bytes y.start y.end)) (sym e) ∙ ap Some r
+found_at bytes (x ∷ xs) (suc i) s text h e r = found_at bytes xs i s text (omega arith) e r
+
+read-append : (bytes more : List ℕ) (a b : ℕ) → a ≤ b → b ≤ length bytes → slice_range (bytes ++ more) a b ≡ slice_range bytes a b
+read-append bytes more a b h k =
+    let rest : b - a ≤ length (drop a bytes) = simp length-drop (omega arith) in
+    ap (take (b - a)) (drop-append-le a bytes more (omega arith)) ∙ take-append-le (b - a) (drop a bytes) more rest
+
+pub texts-append : (bytes more : List ℕ) (slots : List Slot) → All (IsWithin (length bytes)) slots → texts_at (bytes ++ more) slots ≡ texts_at bytes slots
+texts-append bytes more [] h = refl
+texts-append bytes more (s ∷ ss) h =
+    let here = h 0 s (omega arith) in
+    let rest = texts-append bytes more ss (λ k d within. h (suc k) d (omega arith)) in
+    λ i. read-append bytes more s.start s.end here.ordered here.within i ∷ rest i
+
+pub map-push : (bytes : List ℕ) (slots : List Slot) (s : Slot) → texts_at bytes (slots ++ s ∷ []) ≡ texts_at bytes slots ++ slice_range bytes s.start s.end ∷ []
+map-push bytes [] s = refl
+map-push bytes (x ∷ xs) s = ap (λ ts. slice_range bytes x.start x.end ∷ ts) (map-push bytes xs s)
+
+read-last : (bytes text : List ℕ) (a b : ℕ) → a ≡ length bytes → b ≡ a + length text → slice_range (bytes ++ text) a b ≡ text
+read-last bytes text a b e f = grind (arith, common_steps)
+
+pub texts-push : (bytes text : List ℕ) (slots : List Slot) (s : Slot) → All (IsWithin (length bytes)) slots → s.start ≡ length bytes → s.end ≡ length bytes + length text → texts_at (bytes ++ text) (slots ++ s ∷ []) ≡ texts_at bytes slots ++ text ∷ []
+texts-push bytes text slots s h e f =
+    map-push (bytes ++ text) slots s ∙ (λ i. texts-append bytes text slots h i ++ read-last bytes text s.start s.end e (f ∙ ap (λ n. n + length text) (sym e)) i ∷ [])
+
+first_false : (a b : Bool) → (a || b) ≡ false → a ≡ false
+first_false true b h = cc
+first_false false b h = refl
+
+second_false : (a b : Bool) → (a || b) ≡ false → b ≡ false
+second_false true b h = cc
+second_false false b h = h
+
+pub differs_at : (texts : List (List ℕ)) (text : List ℕ) → list_any (λ held. bytes_eq held text) texts ≡ false → (k : ℕ) (d : List ℕ) → k < length texts → get_or texts k d ≢ text
+differs_at [] text h k d within = absurd (omega arith)
+differs_at (t ∷ ts) text h zero d within = λ same. let yes_ = (bytes_eq-Decides t text).1 same in let no_ = first_false (bytes_eq t text) _ h in cc
+differs_at (t ∷ ts) text h (suc k) d within = differs_at ts text (second_false (bytes_eq t text) _ h) k d (omega arith)
+
+pub distinct-push : (texts : List (List ℕ)) (text : List ℕ) → AllPairs (λ a b. a ≢ b) texts → list_any (λ held. bytes_eq held text) texts ≡ false → AllPairs (λ a b. a ≢ b) (texts ++ text ∷ [])
+distinct-push texts text h fresh = all_pairs_push (λ a b. a ≢ b) texts text h (differs_at texts text fresh)
+
+abbrev any_empty : List (List ℕ) → Bool
+any_empty texts = list_any (λ text. bytes_eq text []) texts
+
+pub most-push : (n bytes : ℕ) (texts : List (List ℕ)) (text : List ℕ) → n ≤ most_texts bytes texts → list_any (λ held. bytes_eq held text) texts ≡ false → n + 1 ≤ most_texts (bytes + length text) (texts ++ text ∷ [])
+most-push n bytes texts [] h fresh = rw (list_any-append (λ text. bytes_eq text []) texts ([] ∷ [])) (by_empty (any_empty texts) fresh h)
+  where
+    by_empty : (b : Bool) → b ≡ false → n ≤ bytes + (if b then 1 else 0) → n + 1 ≤ bytes + 0 + (if (b || true) then 1 else 0)
+    by_empty true e k = cc
+    by_empty false e k = omega arith
+most-push n bytes texts (x ∷ xs) h fresh = rw (list_any-append (λ text. bytes_eq text []) texts ((x ∷ xs) ∷ [])) (by_other (any_empty texts) h)
+  where
+    by_other : (b : Bool) → n ≤ bytes + (if b then 1 else 0) → n + 1 ≤ bytes + suc (length xs) + (if (b || false) then 1 else 0)
+    by_other true k = omega arith
+    by_other false k = omega arith
+
+pub within-push : (bytes more : ℕ) (slots : List Slot) (s : Slot) → All (IsWithin bytes) slots → s.start ≡ bytes → s.end ≡ bytes + more → All (IsWithin (bytes + more)) (slots ++ s ∷ [])
+within-push bytes more slots s h e f =
+    let before : All (IsWithin (bytes + more)) slots = λ k d within. let old = h k d within in record { ordered = old.ordered; within = omega arith } in
+    All-push (IsWithin (bytes + more)) slots s before (record { ordered = omega arith; within = omega arith })
+
+-- what holds of a region after one text more
+pub record IsAppended (bytes text : List ℕ) (slots : List Slot) (bytes' : List ℕ) (slots' : List Slot) : Type 0 where
+  pub texts : texts_at bytes' slots' ≡ texts_at bytes slots ++ text ∷ []
+  pub within : All (IsWithin (length bytes')) slots'
+  pub distinct : AllPairs (λ a b. a ≢ b) (texts_at bytes' slots')
+  pub most : length slots' ≤ most_texts (length bytes') (texts_at bytes' slots')
+  pub texts_sum : sum_by length (texts_at bytes slots) ≡ length bytes → sum_by length (texts_at bytes' slots') ≡ length bytes'
+
+pub appended : (bytes text : List ℕ) (slots : List Slot) (s : Slot) (bytes' : List ℕ) (slots' : List Slot) → All (IsWithin (length bytes)) slots → AllPairs (λ a b. a ≢ b) (texts_at bytes slots) → length slots ≤ most_texts (length bytes) (texts_at bytes slots) → list_any (λ held. bytes_eq held text) (texts_at bytes slots) ≡ false → s.start ≡ length bytes → s.end ≡ length bytes + length text → bytes' ≡ bytes ++ text → slots' ≡ slots ++ s ∷ [] → IsAppended bytes text slots bytes' slots'
+appended bytes text slots s bytes' slots' h distinct most fresh e f is_bytes is_slots =
+    let is_texts : texts_at bytes' slots' ≡ texts_at bytes slots ++ text ∷ [] = rw (is_bytes, is_slots) (texts-push bytes text slots s h e f) in
+    let long : length bytes' ≡ length bytes + length text = ap length is_bytes ∙ length-append bytes text in
+    let many : length slots' ≡ length slots + 1 = ap length is_slots ∙ length-append slots (s ∷ []) in
+    record {
+      texts = is_texts;
+      within = rw (long, is_slots) (within-push (length bytes) (length text) slots s h e f);
+      distinct = rw is_texts (distinct-push (texts_at bytes slots) text distinct fresh);
+      most = rw (many, long, is_texts) (most-push (length slots) (length bytes) (texts_at bytes slots) text most fresh);
+      texts_sum = λ before. ap (sum_by length) is_texts ∙ sum_by_push length (texts_at bytes slots) text ∙ ap (λ n. n + length text) before ∙ sym long;
+    }

@@ -1,0 +1,14 @@
+//! Distinct texts in one region of bytes, each named by its place, with room that can be reserved.
+#![tactic(auto)]
+
+mod chains;
+mod id;
+mod laws;
+mod pool;
+
+pub use id::Id;
+pub use laws::reserved_room;
+pub use pool::{Pool, PoolFault};
+
+#[cfg(test)]
+mod tests;
