@@ -1,0 +1,5 @@
+pub mod ChainLemmas
+pub mod CodeLemmas
+pub mod NumberLemmas
+pub mod RowLemmas
+pub mod TestLemmas
