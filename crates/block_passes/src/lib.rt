@@ -10,3 +10,6 @@ mod parts;
 
 pub use index::{Index, PassRows, build_index};
 pub use keys::{PassKey, pass_key};
+
+#[cfg(test)]
+mod tests;
