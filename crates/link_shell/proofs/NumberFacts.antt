@@ -8,7 +8,6 @@ use Rattle.link_base.specs.Standard.{Record}
 use Rattle.link_base.specs.declared.standard.Value.{Value}
 use Rattle.link_base.specs.declared.standard.Value.TheVariants as value
 use Rattle.file_reader.specs.Rows.{no_row, TableRow}
-use Rattle.pair_walk.specs.Keys.{HasNoDays, IsWordOrAbsent}
 use Rattle.link_shell.specs.ColumnPairs.{cell_of, numbered, value_of}
 
 abbrev Cells : Type 0
@@ -48,23 +47,3 @@ told_push file new rows at id cell row told lt ei ec er en =
     let one : at + 1 ≡ suc at = omega arith in
     let next : numbered (at + 1) (drop (at + 1) cells) ≡ rest = ap (λ n. numbered (at + 1) (drop n cells)) one in
     rw (en, next) (append_assoc file (record { id = id; row = row } ∷ []) rest ∙ ap (λ (rs : List Record). file ++ rs) (sym first) ∙ told)
-
-no_days : (cell : List ℕ) → IsWordOrAbsent (value_of cell)
-no_days [] = tt
-no_days (b ∷ bs) = tt
-
-one_value : (v d : Value) (k : ℕ) → IsWordOrAbsent v → k < 1 → IsWordOrAbsent (get_or (v ∷ []) k d)
-one_value v d zero h lt = h
-one_value v d (suc k) h lt = absurd (omega arith)
-
--- no value is a day
-words : (n : ℕ) (cells : Cells) (k : ℕ) (d : Record) → k < length (numbered n cells) → HasNoDays (get_or (numbered n cells) k d)
-words n [] k d h = absurd (omega arith)
-words n (cell ∷ cells) zero d h = λ j e lt. one_value (value_of cell) e j (no_days cell) lt
-words n (cell ∷ cells) (suc k) d h = words (n + 1) cells k d (omega arith)
-
-pub told_words : (file rest : List Record) (cells : Cells) → file ++ rest ≡ numbered 0 cells → All HasNoDays file
-told_words file rest cells told k d lt =
-    let whole : length file + length rest ≡ length (numbered 0 cells) = sym (length-append file rest) ∙ ap length told in
-    let here : get_or file k d ≡ get_or (numbered 0 cells) k d = sym (get_or_append_left file rest d k lt) ∙ ap (λ (rs : List Record). get_or rs k d) told in
-    subst HasNoDays (sym here) (words 0 cells k d (omega (arith, whole)))

@@ -1,8 +1,8 @@
 -- What a walk gives.
-use Rattle.std.specs.Prelude.{◌≡◌, ◌≤◌, ◌<◌, ◌++◌, List, length, Result, Ok, Err, ⊤}
+use Rattle.std.specs.Prelude.{◌≡◌, ◌≤◌, ◌<◌, List, length, Result, Ok, Err, ⊤}
 use Rattle.link_base.specs.declared.rule.PairAt.{PairAt}
-use Rattle.pair_walk.specs.declared.product.WalkFault.{WalkFault}
-use Rattle.pair_walk.specs.declared.product.WalkFault.TheVariants as fault
+use Rattle.pair_walk.specs.declared.fault.WalkFault.{WalkFault}
+use Rattle.pair_walk.specs.declared.fault.WalkFault.TheVariants as fault
 
 -- there are too many of these pairs, or memory is wanted
 abbrev pub RefusesPairs : List PairAt → WalkFault → Type 0
@@ -13,8 +13,3 @@ RefusesPairs pairs fault.NoMemory = ⊤
 abbrev pub GivesPairs : List PairAt → Result (List PairAt) WalkFault → Type 0
 GivesPairs pairs (Ok given) = (given ≡ pairs) × (length pairs ≤ 2000000)
 GivesPairs pairs (Err f) = RefusesPairs pairs f
-
--- the pairs are added, or there would be too many
-abbrev pub AddsPairs : {T : Type 0} → List PairAt → List PairAt → List PairAt → Result T WalkFault → Type 0
-AddsPairs old new row (Ok x) = (new ≡ old ++ row) × (length (old ++ row) ≤ 2000000)
-AddsPairs old new row (Err f) = RefusesPairs (old ++ row) f

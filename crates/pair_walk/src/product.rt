@@ -1,26 +1,16 @@
-// The walk over the product.
-ghost use Rattle.std.specs.Prelude.{All, ◌≡◌, ◌<◌, ◌≤◌, ◌+◌, ◌^◌, ◌++◌, ◌∷◌, [], length, filter, IfOk};
-ghost use Rattle.pair_walk.specs.Keys.{HasNoDays, IsWholePart};
-ghost use Rattle.pair_walk.specs.Pairs.{compared_pairs, is_compared, pairs_of_row};
-ghost use Rattle.pair_walk.specs.Walk.{GivesPairs, AddsPairs};
+// The list of the compared pairs.
+ghost use Rattle.std.specs.Prelude.{◌≡◌, ◌≤◌, ◌++◌, map, length, List, OnOk};
+ghost use Rattle.link_base.specs.Standard.{Record};
+ghost use Rattle.link_base.specs.declared.plan.Part.{Part};
+ghost use Rattle.pair_walk.specs.Pairs.{compared_pairs, pair, pairs_of_rows};
+ghost use Rattle.pair_walk.specs.Rows.{AreAllReady, all_rows};
+ghost use Rattle.pair_walk.specs.Walk.{GivesPairs};
 
-use crate::keys::shares_key;
+use crate::fault::WalkFault;
+use crate::walker::{RowPairs, Walker};
 use link_base::{NoMemory, PairAt, PassList, StdFile};
-use std::alloc::{AllocFailed, Global};
+use std::alloc::Global;
 use std::marker::Model;
-use thiserror::Error;
-
-/// The most compared pairs.
-const MOST_PAIRS: u64 = 2_000_000;
-
-/// Why there are no pairs: there are more than they may be, or memory is wanted.
-#[derive(Clone, Copy, Debug, PartialEq, Eq, Error)]
-pub enum WalkFault {
-    #[error("more than {limit} pairs")]
-    TooManyPairs { limit: u64 },
-    #[error("want of memory")]
-    NoMemory,
-}
 
 /// The compared pairs, rising, which contracts see as the list of them.
 #[derive(Debug, Drop)]
@@ -46,66 +36,43 @@ impl Pairs {
     }
 }
 
-// Adds a pair, if its rows share a key.
-fn compare_at(
-    pairs: &mut Vec<PairAt>,
-    at: PairAt,
-    a: &StdFile,
-    b: &StdFile,
-    passes: &PassList,
-) -> Result<(), WalkFault>
-    requires in_a { at.a < length a.now }
-    requires in_b { at.b < length b.now }
-    requires few { length pairs.old.items ≤ 2000000 }
-    ensures { AddsPairs pairs.old.items pairs.new.items (filter (is_compared a.now b.now passes.now) (at ∷ [])) result }
-{
-    if !shares_key(a.row(at.a), b.row(at.b), passes) {
-        return Ok(());
-    }
-    if pairs.len() as u64 >= MOST_PAIRS {
-        return Err(WalkFault::TooManyPairs { limit: MOST_PAIRS });
-    }
-    match pairs.push(at) {
-        Ok(()) => Ok(()),
-        Err(_) => Err(WalkFault::NoMemory),
-    }
-}
+/// The rows of a walk, joined, are the compared pairs: the pairs of the product that share a key in
+/// some pass, rising.
+pub fn rows_joined()
+    ensures { (a b : List Record) (passes : List (List Part)) → pairs_of_rows (all_rows a b passes) ≡ compared_pairs a b passes }
+{}
 
-// Adds the pairs of one row of A.
-fn walk_row(
-    pairs: &mut Vec<PairAt>,
-    at: u32,
-    a: &StdFile,
-    b: &StdFile,
-    passes: &PassList,
-) -> Result<(), WalkFault>
-    requires within { at < length a.now }
-    requires few { length pairs.old.items ≤ 2000000 }
-    ensures { AddsPairs pairs.old.items pairs.new.items (filter (is_compared a.now b.now passes.now) (pairs_of_row at 0 (length b.now))) result }
+// Appends the pairs of a row.
+fn push_row(pairs: &mut Vec<PairAt>, row: &RowPairs) -> Result<(), NoMemory>
+    ensures { OnOk result (pairs.new.items ≡ pairs.old.items ++ map (pair row.now.a) row.now.bs.items) }
 {
-    for other in 0..b.rows() {
-        match compare_at(pairs, PairAt { a: at, b: other }, a, b, passes) {
-            Ok(()) => {}
-            Err(fault) => return Err(fault),
-        }
+    let a = row.a;
+    for b in &row.bs {
+        pairs.push(PairAt { a, b: *b })?;
     }
     Ok(())
 }
 
-/// The compared pairs of two files: those that share a key in some blocking pass. Parts of keys are
-/// whole values, and values are no days.
+/// The compared pairs of two files: those that share a key in some blocking pass. There are too many
+/// exactly where they are more than 2,000,000.
 pub fn walk(alloc: Global, a: &StdFile, b: &StdFile, passes: &PassList) -> Result<Pairs, WalkFault>
-    requires whole { All (All IsWholePart) passes.now }
-    requires words_a { All HasNoDays a.now }
-    requires words_b { All HasNoDays b.now }
+    requires ready_a { AreAllReady passes.now a.now }
+    requires ready_b { AreAllReady passes.now b.now }
     ensures { GivesPairs (compared_pairs a.now b.now passes.now) result }
 {
+    let mut walker = match Walker::new(alloc, a, b, passes) {
+        Ok(walker) => walker,
+        Err(_) => return Err(WalkFault::NoMemory),
+    };
     let mut pairs = Vec::new(alloc);
-    for at in 0..a.rows() {
-        match walk_row(&mut pairs, at, a, b, passes) {
-            Ok(()) => {}
+    'rows: loop {
+        match walker.next_row(alloc) {
             Err(fault) => return Err(fault),
+            Ok(None) => return Ok(Pairs { pairs }),
+            Ok(Some(row)) => match push_row(&mut pairs, &row) {
+                Ok(()) => {}
+                Err(_) => return Err(WalkFault::NoMemory),
+            },
         }
     }
-    Ok(Pairs { pairs })
 }

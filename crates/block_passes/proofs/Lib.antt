@@ -1,0 +1,6 @@
+pub mod ChainLemmas
+pub mod CodeLemmas
+pub mod NumberLemmas
+pub mod PartLemmas
+pub mod RowLemmas
+pub mod TestLemmas

@@ -1,0 +1,37 @@
+-- Tests that agree, and filters by them.
+use Rattle.std.proofs.Common.{◌≡◌, ◌<◌, ◌+◌, ◌==◌, ◌∷◌, List, [], ℕ, zero, suc, Bool, true, false, ◌&&◌, refl, sym, filter, arith}
+use Rattle.block_passes.specs.Groups.{numbers_from}
+
+-- a test that is true just where another is
+pub same-test : (p q : Bool) → (p ≡ true → q ≡ true) → (q ≡ true → p ≡ true) → p ≡ q
+same-test true true f g = refl
+same-test true false f g = sym (f refl)
+same-test false true f g = g refl
+same-test false false f g = refl
+
+pub eq-true : (a b : ℕ) → (a == b) ≡ true → a ≡ b
+eq-true a b h = grind arith
+
+pub true-eq : (a b : ℕ) → a ≡ b → (a == b) ≡ true
+true-eq a b h = grind arith
+
+pub and-false : (b : Bool) → (b && false) ≡ false
+and-false true = refl
+and-false false = refl
+
+pub and-assoc : (p q r : Bool) → ((p && q) && r) ≡ (p && (q && r))
+and-assoc true q r = refl
+and-assoc false q r = refl
+
+-- filters of one list that agree below a bound are equal
+pub filter-agree : (p q : ℕ → Bool) (n count : ℕ) → ((j : ℕ) → j < n + count → p j ≡ q j) → filter p (numbers_from n count) ≡ filter q (numbers_from n count)
+filter-agree p q n zero h = refl
+filter-agree p q n (suc count) h =
+    let rest = filter-agree p q (n + 1) count (λ j lt. h j (omega arith)) in
+    rw (h n (omega arith), rest) refl
+
+pub filter-empty : (p : ℕ → Bool) (n count : ℕ) → ((j : ℕ) → j < n + count → p j ≡ false) → filter p (numbers_from n count) ≡ []
+filter-empty p n zero h = refl
+filter-empty p n (suc count) h =
+    let rest = filter-empty p (n + 1) count (λ j lt. h j (omega arith)) in
+    rw (h n (omega arith)) rest

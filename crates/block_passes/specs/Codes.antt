@@ -1,0 +1,23 @@
+-- The code of a key: its texts as one list of bytes, each ended by a 0, with a 1 before each 0 and 1 of a text.
+use Rattle.std.specs.Prelude.{ℕ, List, [], ◌∷◌, ◌++◌, Option, Some, None, nat_le, if◌then◌else◌, option_map}
+
+abbrev pub marked : ℕ → List ℕ
+marked byte = if nat_le byte 1 then 1 ∷ byte ∷ [] else byte ∷ []
+
+-- the bytes of a text, marked, and its end
+abbrev pub coded_text : List ℕ → List ℕ
+coded_text [] = 0 ∷ []
+coded_text (byte ∷ bytes) = marked byte ++ coded_text bytes
+
+abbrev pub coded_texts : List (List ℕ) → List ℕ
+coded_texts [] = []
+coded_texts (text ∷ texts) = coded_text text ++ coded_texts texts
+
+-- the code of a key, if it is present
+abbrev pub key_code : Option (List (List ℕ)) → Option (List ℕ)
+key_code key = option_map coded_texts key
+
+-- the code that starts with these bytes
+abbrev pub extended_code : List ℕ → Option (List ℕ) → Option (List ℕ)
+extended_code front None = None
+extended_code front (Some rest) = Some (front ++ rest)

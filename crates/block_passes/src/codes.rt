@@ -1,0 +1,51 @@
+// The code of a key: its texts as one list of bytes.
+ghost use Rattle.std.specs.Prelude.{◌≡◌, ◌++◌, IfOk, OnOk, option_map};
+ghost use Rattle.block_passes.specs.Codes.{coded_text, key_code, marked};
+ghost use Rattle.block_passes.specs.Keys.{AreReadable, InRange, key_in_pass};
+
+use crate::parts::{bytes_of, part_text};
+use link_base::{NoMemory, Pass, StdRow};
+use std::alloc::Global;
+
+fn push_byte(code: &mut Vec<u8>, byte: u8) -> Result<(), NoMemory>
+    ensures { OnOk result (code.new.items ≡ code.old.items ++ marked byte) }
+{
+    if byte <= 1 {
+        code.push(1)?;
+        code.push(byte)?;
+        return Ok(());
+    }
+    code.push(byte)?;
+    Ok(())
+}
+
+/// Appends the code of a text.
+pub(crate) fn push_text(code: &mut Vec<u8>, text: &[u8]) -> Result<(), NoMemory>
+    ensures { OnOk result (code.new.items ≡ code.old.items ++ coded_text text.now) }
+{
+    for byte in text {
+        push_byte(code, *byte)?;
+    }
+    code.push(0)?;
+    Ok(())
+}
+
+/// The code of the key of a row in a pass.
+pub(crate) fn row_code(
+    alloc: Global,
+    row: &StdRow,
+    pass: &Pass,
+) -> Result<Option<Vec<u8>>, NoMemory>
+    requires in_range { InRange row.now pass.now }
+    requires readable { AreReadable row.now pass.now }
+    ensures { IfOk result (λ code. option_map (λ bytes. bytes.items) code ≡ key_code (key_in_pass row.now pass.now)) }
+{
+    let mut code = Vec::new(alloc);
+    for part in pass.parts() {
+        match part_text(row, *part) {
+            None => return Ok(None),
+            Some(text) => push_text(&mut code, bytes_of(&text))?,
+        }
+    }
+    Ok(Some(code))
+}

@@ -1,0 +1,147 @@
+// The rows of a file by their keys.
+ghost use Rattle.std.specs.Prelude.{◌≡◌, ◌<◌, ◌≤◌, ◌^◌, ℕ, List, [], length, map, slice_index_or, IfOk, Option, Some};
+ghost use Rattle.block_passes.specs.Index.{AreNumbered, AreNumbers, AreReady, code_at, row_at, rows_with_code, rows_with_key};
+ghost use Rattle.block_passes.specs.Numbering.{number_of};
+ghost use Rattle.block_passes.specs.IndexRows.{index_rows};
+ghost use Rattle.block_passes.specs.Keys.{key_in_pass};
+
+use crate::codes::row_code;
+use crate::groups::Groups;
+use crate::keys::PassKey;
+use crate::numbering::Numbering;
+use link_base::{NoMemory, Pass, StdFile};
+use std::alloc::Global;
+use std::marker::Model;
+
+// Gives each row of a file the number of its code, or the next number.
+fn number_rows(
+    alloc: Global,
+    file: &StdFile,
+    pass: &Pass,
+    numbering: &mut Numbering,
+) -> Result<Vec<u32>, NoMemory>
+    requires ready { AreReady pass.now file.now }
+    requires empty { numbering.old ≡ [] }
+    ensures few { IfOk result (λ numbers. length numbers.items < 2 ^ 32) }
+    ensures numbers { IfOk result (λ numbers. AreNumbers numbering.new pass.now file.now (length file.now) numbers.items) }
+    ensures numbered { IfOk result (λ _. AreNumbered numbering.new pass.now file.now (length file.now)) }
+{
+    let mut numbers = Vec::new(alloc);
+    for at in 0..file.rows() {
+        let number = numbering.number(row_code(alloc, file.row(at), pass)?)?;
+        numbers.push(number)?;
+    }
+    Ok(numbers)
+}
+
+// The number of each row of a file.
+fn find_rows(
+    alloc: Global,
+    file: &StdFile,
+    pass: &Pass,
+    numbering: &Numbering,
+) -> Result<Vec<u32>, NoMemory>
+    requires { AreReady pass.now file.now }
+    ensures { IfOk result (λ numbers. AreNumbers numbering.now pass.now file.now (length file.now) numbers.items) }
+{
+    let mut numbers = Vec::new(alloc);
+    for at in 0..file.rows() {
+        let number = numbering.find(row_code(alloc, file.row(at), pass)?);
+        numbers.push(number)?;
+    }
+    Ok(numbers)
+}
+
+/// The rows of a file by their keys in a blocking pass.
+#[derive(Drop)]
+pub struct Index {
+    pub(crate) numbering: Numbering,
+    pub(crate) groups: Groups,
+}
+
+impl Index {
+    /// The rising list of the positions whose key is equal to this one.
+    pub fn rows_of(&self, key: &PassKey) -> &[u32]
+        ensures { result.now ≡ index_rows self.now key.now }
+    {
+        self.groups.rows(self.numbering.place(key.code()))
+    }
+
+    fn into_groups(self) -> Groups
+        ensures { result ≡ self.groups }
+    {
+        self.groups
+    }
+}
+
+/// The index of a file by the keys of its rows in a blocking pass: for each key the rising list of
+/// the positions of the rows that have it.
+pub fn build_index(alloc: Global, file: &StdFile, pass: &Pass) -> Result<Index, NoMemory>
+    requires { AreReady pass.now file.now }
+    ensures { IfOk result (λ index. (key : List (List ℕ)) → index_rows index key ≡ rows_with_key pass.now file.now (Some key)) }
+{
+    let index = index_file(alloc, file, pass)?;
+    Ok(index)
+}
+
+// The index, as the codes of keys tell it.
+fn index_file(alloc: Global, file: &StdFile, pass: &Pass) -> Result<Index, NoMemory>
+    requires { AreReady pass.now file.now }
+    ensures { IfOk result (λ index. (code : Option (List ℕ)) → slice_index_or index.groups (number_of index.numbering code) [] ≡ rows_with_code pass.now file.now code) }
+{
+    let mut numbering = Numbering::new(alloc);
+    let numbers = number_rows(alloc, file, pass, &mut numbering)?;
+    let groups = Groups::new(alloc, &numbers, numbering.count())?;
+    Ok(Index { numbering, groups })
+}
+
+/// For each row of a file the rows of another that have its key in a pass, which contracts see as
+/// the list of these lists.
+#[derive(Drop)]
+pub struct PassRows {
+    numbers: Vec<u32>,
+    groups: Groups,
+}
+
+impl Model for PassRows {
+    ghost use Rattle.std.specs.Prelude.{ℕ, List, [], map, slice_index_or};
+
+    ghost Value = { List (List ℕ) };
+
+    ghost view = { λ p. map (λ n. slice_index_or p.groups n []) p.numbers.items };
+}
+
+impl PassRows {
+    fn of(numbers: Vec<u32>, groups: Groups) -> PassRows
+        ensures { result ≡ map (λ n. slice_index_or groups n []) numbers.items }
+    {
+        PassRows { numbers, groups }
+    }
+
+    /// The rows of `b` for each row of `a`: the rising list of those with the same key.
+    pub fn new(alloc: Global, a: &StdFile, b: &StdFile, pass: &Pass) -> Result<PassRows, NoMemory>
+        requires ready_a { AreReady pass.now a.now }
+        requires ready_b { AreReady pass.now b.now }
+        ensures len { IfOk result (λ rows. length rows ≡ length a.now) }
+        ensures rows { IfOk result (λ rows. (at : ℕ) → at < length a.now → slice_index_or rows at [] ≡ rows_with_key pass.now b.now (key_in_pass (row_at a.now at) pass.now)) }
+    {
+        let index = index_file(alloc, b, pass)?;
+        let numbers = find_rows(alloc, a, pass, &index.numbering)?;
+        Ok(PassRows::of(numbers, index.into_groups()))
+    }
+
+    /// The rows of the second file for a row of the first, rising.
+    pub fn rows(&self, at: u32) -> &[u32]
+        requires { at < length self.now }
+        ensures { result.now ≡ slice_index_or self.now at [] }
+    {
+        self.groups.rows(self.numbers[at as usize])
+    }
+
+    /// How many rows the first file has.
+    pub fn len(&self) -> usize
+        ensures { result ≡ length self.now }
+    {
+        self.numbers.len()
+    }
+}

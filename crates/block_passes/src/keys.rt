@@ -1,0 +1,82 @@
+// The key of a row in a pass.
+ghost use Rattle.std.specs.Prelude.{◌≡◌, IfOk};
+ghost use Rattle.block_passes.specs.Codes.{coded_texts};
+ghost use Rattle.block_passes.specs.Keys.{AreReadable, InRange, key_in_pass};
+
+use crate::codes::push_text;
+use crate::parts::{bytes_of, part_text};
+use link_base::{NoMemory, Pass, StdRow, Text};
+use std::alloc::Global;
+use std::marker::Model;
+
+/// The key of a row in a pass, which contracts see as the list of its texts, one a part.
+#[derive(Debug, Drop)]
+pub struct PassKey {
+    texts: Vec<Text>,
+    code: Vec<u8>,
+}
+
+impl Model for PassKey {
+    ghost use Rattle.std.specs.Prelude.{◌≡◌, ℕ, List};
+    ghost use Rattle.block_passes.specs.Codes.{coded_texts};
+
+    ghost Value = { List (List ℕ) };
+
+    ghost view = { λ k. k.texts.items };
+
+    ghost invariant = { λ k. k.code.items ≡ coded_texts k.texts.items };
+}
+
+impl PassKey {
+    // The key of these texts.
+    fn of(alloc: Global, texts: Vec<Text>) -> Result<PassKey, NoMemory>
+        ensures { IfOk result (λ key. key ≡ texts.items) }
+    {
+        let code = code_of(alloc, &texts)?;
+        Ok(PassKey { texts, code })
+    }
+
+    /// The texts of the parts.
+    pub fn texts(&self) -> &[Text]
+        ensures { result.now ≡ self.now }
+    {
+        &self.texts
+    }
+
+    // The code.
+    pub(crate) fn code(&self) -> &[u8]
+        ensures { result.now ≡ coded_texts self.now }
+    {
+        &self.code
+    }
+}
+
+// The code of the key of these texts.
+fn code_of(alloc: Global, texts: &[Text]) -> Result<Vec<u8>, NoMemory>
+    ensures { IfOk result (λ code. code.items ≡ coded_texts texts.now) }
+{
+    let mut code = Vec::new(alloc);
+    for text in texts {
+        push_text(&mut code, text.bytes())?;
+    }
+    Ok(code)
+}
+
+/// The key of a row in a blocking pass: the list of the parts, `None` exactly where some part is
+/// missing. A part of kind `Whole` is the text of a word or the date `YYYY-MM-DD` of a day, one of
+/// kind `Soundex` or `Nysiis` the phonetic key of a word with a letter, one of kind `First` the first
+/// characters of a word, and one of kind `Year` the four digits of a day's year.
+pub fn pass_key(alloc: Global, row: &StdRow, pass: &Pass) -> Result<Option<PassKey>, NoMemory>
+    requires in_range { InRange row.now pass.now }
+    requires readable { AreReadable row.now pass.now }
+    ensures { IfOk result (λ key. key ≡ key_in_pass row.now pass.now) }
+{
+    let mut texts = Vec::new(alloc);
+    for part in pass.parts() {
+        match part_text(row, *part) {
+            None => return Ok(None),
+            Some(text) => texts.push(Text::new(alloc, bytes_of(&text))?)?,
+        }
+    }
+    Ok(Some(PassKey::of(alloc, texts)?))
+}

@@ -1,0 +1,5 @@
+use Rattle.pair_walk.proofs.PairLemmas.{all-pairs}
+use Rattle.pair_walk.proofs.product.rows_joined.Goals as goal
+
+pub returns : goal.returns
+returns c = all-pairs

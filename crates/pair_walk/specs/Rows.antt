@@ -1,0 +1,28 @@
+-- The rows of B for each row of A.
+use Rattle.std.specs.Prelude.{◌<◌, ℕ, zero, suc, ◌+◌, List, [], ◌∷◌, filter, length, slice_index_or}
+use Rattle.block_passes.specs.Groups.{numbers_from}
+use Rattle.block_passes.specs.Index.{AreReady, row_at}
+use Rattle.link_base.specs.Standard.{Record}
+use Rattle.link_base.specs.declared.plan.Part.{Part}
+use Rattle.pair_walk.specs.Keys.{share_key}
+
+-- the positions of B that share a key with the row of A, rising
+abbrev pub partners : List Record → List Record → List (List Part) → ℕ → List ℕ
+partners a b passes at = filter (λ j. share_key passes (row_at a at) (row_at b j)) (numbers_from 0 (length b))
+
+-- the pairs of one row of A: the rising positions of B
+pub record RowAt : Type 0 where
+  pub a : ℕ
+  pub bs : List ℕ
+
+-- the pairs of `count` rows of A from `at` on
+abbrev pub rows_from : List Record → List Record → List (List Part) → ℕ → ℕ → List RowAt
+rows_from a b passes at zero = []
+rows_from a b passes at (suc count) = record { a = at; bs = partners a b passes at } ∷ rows_from a b passes (at + 1) count
+
+abbrev pub all_rows : List Record → List Record → List (List Part) → List RowAt
+all_rows a b passes = rows_from a b passes 0 (length a)
+
+-- each row of a file has the fields of each part of a pass, with valid values
+abbrev pub AreAllReady : List (List Part) → List Record → Type 0
+AreAllReady passes file = (k : ℕ) → k < length passes → AreReady (slice_index_or passes k []) file

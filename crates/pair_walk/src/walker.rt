@@ -1,0 +1,112 @@
+// The pairs row by row.
+ghost use Rattle.std.specs.Prelude.{◌≡◌, ◌<◌, ◌≤◌, ℕ, [], length, slice_index_or, IfOk};
+ghost use Rattle.pair_walk.specs.Rows.{AreAllReady, all_rows};
+ghost use Rattle.pair_walk.specs.Walker.{ArePassRows};
+
+use crate::fault::WalkFault;
+use crate::merging::join_row;
+use block_passes::PassRows;
+use link_base::{NoMemory, PassList, StdFile};
+use std::alloc::Global;
+use std::marker::Model;
+
+/// The most compared pairs.
+const MOST_PAIRS: u64 = 2_000_000;
+
+/// The pairs of a row of A: its position, and the rising list of the positions of B, which may be empty.
+#[derive(Debug, Drop)]
+pub struct RowPairs {
+    pub a: u32,
+    pub bs: Vec<u32>,
+}
+
+// The rows of each pass.
+fn find_passes(
+    alloc: Global,
+    a: &StdFile,
+    b: &StdFile,
+    passes: &PassList,
+) -> Result<Vec<PassRows>, NoMemory>
+    requires ready_a { AreAllReady passes.now a.now }
+    requires ready_b { AreAllReady passes.now b.now }
+    ensures len { IfOk result (λ found. length found.items ≡ length passes.now) }
+    ensures rows { IfOk result (λ found. (k : ℕ) → k < length passes.now → ArePassRows (slice_index_or passes.now k []) a.now b.now (slice_index_or found.items k [])) }
+{
+    let mut found = Vec::new(alloc);
+    for pass in passes.passes() {
+        found.push(PassRows::new(alloc, a, b, pass)?)?;
+    }
+    Ok(found)
+}
+
+/// The compared pairs of two files, row by row. Contracts see the list of the rows not yet given and
+/// the number of pairs given so far.
+#[derive(Drop)]
+pub struct Walker {
+    passes: Vec<PassRows>,
+    width: u32,
+    rows: u32,
+    at: u32,
+    given: u64,
+}
+
+impl Model for Walker {
+    ghost use Rattle.std.specs.Prelude.{◌≤◌, ◌-◌};
+    ghost use Rattle.pair_walk.specs.Walker.{AreRising, HaveRows, Walked, joined_from};
+
+    ghost Value = { Walked };
+
+    ghost view = { λ w. record { left = joined_from w.passes.items w.width w.at (w.rows - w.at); given = w.given } };
+
+    ghost invariant = { λ w. (w.at ≤ w.rows) × (w.given ≤ 2000000) × HaveRows w.passes.items w.rows × AreRising w.passes.items w.width w.rows };
+}
+
+impl Walker {
+    ghost use Rattle.pair_walk.specs.Next.{NextRow};
+
+    /// The pairs of two files by their blocking passes: for each row of `a` the rows of `b` that
+    /// have its key in some pass.
+    pub fn new(
+        alloc: Global,
+        a: &StdFile,
+        b: &StdFile,
+        passes: &PassList,
+    ) -> Result<Walker, NoMemory>
+        requires ready_a { AreAllReady passes.now a.now }
+        requires ready_b { AreAllReady passes.now b.now }
+        ensures left { IfOk result (λ w. w.left ≡ all_rows a.now b.now passes.now) }
+        ensures given { IfOk result (λ w. w.given ≡ 0) }
+    {
+        let found = find_passes(alloc, a, b, passes)?;
+        Ok(Walker {
+            passes: found,
+            width: b.rows(),
+            rows: a.rows(),
+            at: 0,
+            given: 0,
+        })
+    }
+
+    /// The pairs of the next row of A, and `None` exactly where every row was given. There are too
+    /// many pairs exactly where those given so far and those of this row pass 2,000,000. A refusal
+    /// changes nothing.
+    pub fn next_row(&mut self, alloc: Global) -> Result<Option<RowPairs>, WalkFault>
+        ensures { NextRow self.old self.new result }
+    {
+        if self.at >= self.rows {
+            return Ok(None);
+        }
+        let a = self.at;
+        let bs = match join_row(alloc, &self.passes, a) {
+            Ok(bs) => bs,
+            Err(_) => return Err(WalkFault::NoMemory),
+        };
+        let given = self.given + bs.len() as u64;
+        if given > MOST_PAIRS {
+            return Err(WalkFault::TooManyPairs { limit: 2_000_000 });
+        }
+        self.at = a + 1;
+        self.given = given;
+        Ok(Some(RowPairs { a, bs }))
+    }
+}
