@@ -2,4 +2,5 @@ pub mod FieldFacts
 pub mod IdFacts
 pub mod ReadFacts
 pub mod RowFacts
+pub mod TextFacts
 pub mod WidthFacts

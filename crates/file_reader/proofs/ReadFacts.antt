@@ -1,12 +1,12 @@
 -- One record more is read, or refused.
-use Rattle.std.proofs.Common.{◌≡◌, ◌<◌, ◌≤◌, ◌+◌, ◌-◌, ◌∷◌, ◌++◌, ◌∙◌, ℕ, suc, Bool, true, false, List, [], length, map, Option, Some, None, Result, Ok, Err, refl, sym, ap, arith, nat_lt}
+use Rattle.std.proofs.Common.{◌≡◌, ◌≤◌, ◌+◌, ◌∷◌, ◌++◌, ◌∙◌, ℕ, suc, Bool, true, false, List, [], length, Some, None, Ok, Err, refl, sym, ap, arith, nat_lt}
 use Rattle.std.proofs.lemmas.Bool.Decides.{nat_tests}
 use Rattle.link_base.specs.Fault.{Refuses}
 use Rattle.link_base.specs.declared.fault.Fault.{Fault}
 use Rattle.link_base.specs.declared.fault.Fault.TheVariants as fault
 use Rattle.file_reader.specs.Layout.{Heading}
 use Rattle.file_reader.specs.Rows.{ids_of, known_ids, TableRow}
-use Rattle.file_reader.specs.Table.{ids_after, row_fault, rows_read, taken, TakesRow, Tests}
+use Rattle.file_reader.specs.Table.{ids_after, row_fault, rows_read, taken, TakesRow}
 
 abbrev Records : Type 0
 Records = List (List (List ℕ))

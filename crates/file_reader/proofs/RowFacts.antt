@@ -1,8 +1,8 @@
 -- Rows of cells side by side.
-use Rattle.std.proofs.Common.{◌≡◌, ◌<◌, ◌≤◌, ◌+◌, ◌-◌, ◌*◌, ◌∷◌, ◌++◌, ◌∙◌, ℕ, zero, suc, Bool, true, false, IsTrue, List, [], length, map, get_or, take, drop, refl, sym, ap, arith, add-one, add-zero, length-drop, length-append}
+use Rattle.std.proofs.Common.{◌≡◌, ◌<◌, ◌≤◌, ◌+◌, ◌*◌, ◌∷◌, ◌++◌, ◌∙◌, ℕ, zero, suc, Bool, true, false, IsTrue, List, [], length, map, get_or, take, drop, refl, sym, ap, arith, add-one, add-zero, length-drop}
 use Rattle.std.proofs.lemmas.List.{take-append-le, drop-append-le, get_or-take, get_or-drop, length-take-le}
 use Rattle.std.proofs.Math.Seq.{take-length}
-use Rattle.file_reader.specs.Rows.{ids_of, no_row, row_of_cells, rows_in, skipped, table_rows, TableRow}
+use Rattle.file_reader.specs.Rows.{no_row, row_of_cells, rows_in, skipped, table_rows, TableRow}
 
 abbrev Cells : Type 0
 Cells = List (List ℕ)

@@ -1,7 +1,6 @@
 -- What holds of each row of a table.
-use Rattle.std.proofs.Common.{◌≡◌, ◌+◌, ◌∷◌, ◌++◌, ◌∙◌, ℕ, Bool, true, false, List, [], length, Option, Some, None, Result, Ok, Err, refl, subst, sym, ap}
+use Rattle.std.proofs.Common.{◌≡◌, ◌+◌, ◌∷◌, ◌++◌, ◌∙◌, ℕ, List, [], length, Option, Some, None, Result, Ok, Err, refl, subst}
 use Rattle.std.specs.List.{All}
-use Rattle.std.specs.Prelude.{is_some, option_to_list}
 use Rattle.std.proofs.lemmas.List.{length-map}
 use Rattle.std.proofs.lemmas.List.Elements.{All-nil, All-push}
 use Rattle.std.specs.Prelude.{IfOk}
@@ -10,30 +9,36 @@ use Rattle.link_base.specs.declared.fault.Fault.{Fault}
 use Rattle.link_base.specs.declared.fault.FileRole.{FileRole}
 use Rattle.file_reader.specs.Layout.{cell, cells_of, columns_of, Heading, heading_under, needed_of, place_in, Wanted}
 use Rattle.file_reader.specs.Rows.{known_ids, TableRow}
-use Rattle.file_reader.specs.Table.{HasWidth, header_fault, row_fault, rows_read, table_of, taken, under_header, unless_fault}
-use Rattle.file_reader.specs.declared.layout.Column.{Column}
+use Rattle.file_reader.specs.Table.{HasWidth, header_fault, row_fault, rows_read, table_of, taken, unless_fault}
 
 abbrev Records : Type 0
 Records = List (List (List ℕ))
 
-after_fault : (P : TableRow → Type 0) (heading : Heading) → ((number : ℕ) (ids row : List (List ℕ)) → row_fault heading number ids row ≡ None → P (taken heading row))
-    → (table : List TableRow) (number : ℕ) (row : List (List ℕ)) (rows : Records) (all : List TableRow) → All P table
-    → (All P (table ++ taken heading row ∷ []) → rows_read heading (table ++ taken heading row ∷ []) rows ≡ Ok all → All P all)
+after_fault : (Q : List TableRow → Type 0) (heading : Heading)
+    → ((table : List TableRow) (number : ℕ) (row : List (List ℕ)) → row_fault heading number (known_ids heading.has_id table) row ≡ None → Q table → Q (table ++ taken heading row ∷ []))
+    → (table : List TableRow) (number : ℕ) (row : List (List ℕ)) (rows : Records) (all : List TableRow) → Q table
+    → (Q (table ++ taken heading row ∷ []) → rows_read heading (table ++ taken heading row ∷ []) rows ≡ Ok all → Q all)
     → (o : Option Fault) → row_fault heading number (known_ids heading.has_id table) row ≡ o
-    → unless_fault o (rows_read heading (table ++ taken heading row ∷ []) rows) ≡ Ok all → All P all
-after_fault P heading each table number row rows all h next None none e =
-    next (All-push P table (taken heading row) h (each number (known_ids heading.has_id table) row none)) e
-after_fault P heading each table number row rows all h next (Some f) some e = cc e
+    → unless_fault o (rows_read heading (table ++ taken heading row ∷ []) rows) ≡ Ok all → Q all
+after_fault Q heading each table number row rows all h next None none e = next (each table number row none h) e
+after_fault Q heading each table number row rows all h next (Some f) some e = cc e
 
 same_ok : (x y : List TableRow) (r s : Result (List TableRow) Fault) → r ≡ Ok x → s ≡ Ok y → r ≡ s → x ≡ y
 same_ok x y r s ex ey e = cc (ex, ey, e)
 
+-- what a row without a fault keeps of the table before it holds of the whole table
+pub rows_kept : (Q : List TableRow → Type 0) (heading : Heading)
+    → ((table : List TableRow) (number : ℕ) (row : List (List ℕ)) → row_fault heading number (known_ids heading.has_id table) row ≡ None → Q table → Q (table ++ taken heading row ∷ []))
+    → (table : List TableRow) (rows : Records) (all : List TableRow) → Q table → rows_read heading table rows ≡ Ok all → Q all
+rows_kept Q heading each table [] all h e = subst Q (same_ok table all (Ok table) (Ok all) refl refl e) h
+rows_kept Q heading each table (row ∷ rows) all h e =
+    after_fault Q heading each table (length table + 1) row rows all h (rows_kept Q heading each (table ++ taken heading row ∷ []) rows all) (row_fault heading (length table + 1) (known_ids heading.has_id table) row) refl e
+
 -- what holds of each record that has no fault holds of each row
 pub rows_all : (P : TableRow → Type 0) (heading : Heading) → ((number : ℕ) (ids row : List (List ℕ)) → row_fault heading number ids row ≡ None → P (taken heading row))
     → (table : List TableRow) (rows : Records) (all : List TableRow) → All P table → rows_read heading table rows ≡ Ok all → All P all
-rows_all P heading each table [] all h e = subst (λ (t : List TableRow). All P t) (same_ok table all (Ok table) (Ok all) refl refl e) h
-rows_all P heading each table (row ∷ rows) all h e =
-    after_fault P heading each table (length table + 1) row rows all h (rows_all P heading each (table ++ taken heading row ∷ []) rows all) (row_fault heading (length table + 1) (known_ids heading.has_id table) row) refl e
+rows_all P heading each =
+    rows_kept (λ (t : List TableRow). All P t) heading (λ table number row none h. All-push P table (taken heading row) h (each number (known_ids heading.has_id table) row none))
 
 count_cells : (names header row : List (List ℕ)) → length (cells_of (columns_of names header) row) ≡ length names
 count_cells names header row =

@@ -1,5 +1,5 @@
 -- What is wanted of a file, and where its needed columns stand under a header.
-use Rattle.std.specs.Prelude.{◌==◌, ◌++◌, ℕ, List, map, length, count_by, bytes_eq, slice_index_or, [], Bool, is_some, Option, option_to_list}
+use Rattle.std.specs.Prelude.{◌++◌, ℕ, List, map, length, count_by, bytes_eq, slice_index_or, [], Bool, is_some, Option, option_to_list}
 use Rattle.std.specs.List.{position_or_len}
 use Rattle.link_base.specs.declared.fault.FileRole.{FileRole}
 use Rattle.file_reader.specs.declared.layout.Column.{Column}

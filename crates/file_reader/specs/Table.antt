@@ -1,11 +1,11 @@
 -- The table of a file, or its first fault.
-use Rattle.std.specs.Prelude.{◌≡◌, ◌+◌, ℕ, List, [], ◌∷◌, ◌++◌, All, length, find, min, position, Bool, ◌==◌, not, nat_lt, bytes_eq, if◌then◌else◌, Option, Some, None, Result, Ok, Err, ⊤, is_some}
-use Rattle.std.specs.Str.{is_utf8}
+use Rattle.std.specs.Prelude.{◌≡◌, ◌≢◌, ◌≤◌, ◌+◌, ℕ, List, [], ◌∷◌, ◌++◌, All, AllPairs, IsTrue, length, find, min, position, Bool, ◌==◌, not, nat_lt, bytes_eq, if◌then◌else◌, Option, Some, None, Result, Ok, Err, ⊤, is_some}
+use Rattle.std.specs.Str.{is_utf8, IsUtf8}
 use Rattle.link_base.specs.Fault.{or_else}
 use Rattle.link_base.specs.declared.fault.Fault.{Fault}
 use Rattle.link_base.specs.declared.fault.Fault.TheVariants as fault
 use Rattle.link_base.specs.declared.fault.FileRole.{FileRole}
-use Rattle.file_reader.specs.Layout.{cell, cells_of, columns_of, count_in, Heading, heading_under, needed_of, Wanted}
+use Rattle.file_reader.specs.Layout.{cell, cells_of, count_in, Heading, heading_under, needed_of, Wanted}
 use Rattle.file_reader.specs.Rows.{known_ids, row_of_cells, TableRow}
 use Rattle.file_reader.specs.declared.layout.Column.{Column}
 
@@ -103,3 +103,21 @@ TakesRow expected heading row old new (Err f) = expected ≡ Some f
 -- each row has as many fields as columns are wanted beside the id
 abbrev pub HasWidth : Wanted → List TableRow → Type 0
 HasWidth wanted table = All (λ (r : TableRow). length r.fields ≡ length wanted.columns) table
+
+-- a text in UTF-8 of at most 255 bytes
+pub record IsFieldText (text : List ℕ) : Type 0 where
+  pub utf8 : IsUtf8 text
+  pub short : length text ≤ 255
+
+-- a row of such texts
+pub record IsTextRow (row : TableRow) : Type 0 where
+  pub id : IsFieldText row.id
+  pub fields : All IsFieldText row.fields
+
+-- each row of a table is one
+abbrev pub HasTexts : List TableRow → Type 0
+HasTexts table = All IsTextRow table
+
+-- where an id is wanted, no two rows have the same
+abbrev pub HasDistinctIds : Wanted → List TableRow → Type 0
+HasDistinctIds wanted table = IsTrue (is_some wanted.id) → AllPairs (λ (x y : TableRow). x.id ≢ y.id) table

@@ -6,7 +6,7 @@ ghost use Rattle.csv.specs.Records.{fields_of};
 ghost use Rattle.csv_records.specs.Left.{records_in};
 ghost use Rattle.link_base.specs.Fault.{IsAnswer, IsInputFault};
 ghost use Rattle.file_reader.specs.Layout.{cell, cells_of, heading_of, wanted_of};
-ghost use Rattle.file_reader.specs.Table.{HasWidth, id_fault, KeepsId, row_fault, rows_read, table_of, taken, TakesRow, Tests, text_fault, under_header};
+ghost use Rattle.file_reader.specs.Table.{HasDistinctIds, HasTexts, HasWidth, id_fault, KeepsId, row_fault, rows_read, table_of, taken, TakesRow, Tests, text_fault, under_header};
 
 use crate::fields::{field_of, is_text};
 use crate::header::{find_columns, needed_names, test_header};
@@ -206,6 +206,8 @@ pub fn read_table(
     ensures kind { IfErr result IsInputFault }
     ensures few { IfOk result (λ table. length table ≤ layout.now.most_rows) }
     ensures width { IfOk result (HasWidth (wanted_of layout.now)) }
+    ensures texts { IfOk result HasTexts }
+    ensures distinct { IfOk result (HasDistinctIds (wanted_of layout.now)) }
     ensures answer { IsAnswer (table_of role (wanted_of layout.now) (records_in layout.now.delimiter bytes.now)) result }
 {
     let mut left = Records::new(alloc, bytes, layout.delimiter);

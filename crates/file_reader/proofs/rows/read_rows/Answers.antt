@@ -1,8 +1,8 @@
-use Rattle.std.proofs.Common.{◌≡◌, ◌<◌, ◌≤◌, ◌+◌, ◌*◌, ◌∷◌, ◌++◌, ◌∙◌, [], ap, arith, length, refl, rules, sym, length-append}
+use Rattle.std.proofs.Common.{◌≡◌, ◌+◌, ◌∷◌, ◌++◌, ◌∙◌, ap, arith, length, refl, rules, length-append}
 use Rattle.std.proofs.lemmas.List.{length-map}
 use Rattle.csv.specs.Records.{fields_of}
 use Rattle.file_reader.specs.Layout.{cell, cells_of, heading_of}
-use Rattle.file_reader.specs.Rows.{known_ids, table_rows}
+use Rattle.file_reader.specs.Rows.{table_rows}
 use Rattle.file_reader.proofs.ReadFacts.{known_short, one_too_many, read, refuses}
 use Rattle.file_reader.proofs.RowFacts.{length_table, table_push}
 use Rattle.file_reader.proofs.rows.read_rows.Goals as goal

@@ -1,5 +1,4 @@
-use Rattle.std.proofs.Common.{◌≡◌, ◌∙◌, ap, refl, rules, sym}
-use Rattle.std.specs.Prelude.{is_some}
+use Rattle.std.proofs.Common.{◌∙◌, refl, sym}
 use Rattle.file_reader.proofs.IdFacts.{kept, position_texts}
 use Rattle.file_reader.proofs.ids.Ids.keep.Goals as goal
 

@@ -1,4 +1,4 @@
-use Rattle.std.proofs.Common.{◌≡◌, ◌<◌, ◌+◌, ◌∙◌, [], ap, arith, get_or, sym}
+use Rattle.std.proofs.Common.{◌<◌, ◌+◌, ◌∙◌, [], ap, arith, get_or, sym}
 use Rattle.file_reader.proofs.RowFacts.{length_table, seen}
 use Rattle.file_reader.specs.Rows.{rows_in}
 use Rattle.file_reader.proofs.table.Table.field.Goals as goal

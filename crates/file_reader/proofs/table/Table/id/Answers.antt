@@ -1,4 +1,4 @@
-use Rattle.std.proofs.Common.{◌≡◌, ◌<◌, ◌∙◌, sym}
+use Rattle.std.proofs.Common.{◌<◌, ◌∙◌, sym}
 use Rattle.file_reader.proofs.RowFacts.{length_table, seen}
 use Rattle.file_reader.proofs.table.Table.id.Goals as goal
 
