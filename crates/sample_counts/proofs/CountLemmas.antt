@@ -1,11 +1,10 @@
 -- Counts of pairs by status and outcome.
-use Rattle.std.proofs.Common.{◌≡◌, ◌<◌, ◌≤◌, ◌+◌, ◌*◌, ◌/◌, ◌%◌, ◌∷◌, ◌++◌, ◌∙◌, ◌==◌, ℕ, zero, suc, Bool, true, false, not, cond, ◌||◌, List, [], length, map, take, get_or, sum, Option, Some, None, refl, sym, ap, arith, if◌then◌else◌, rules}
+use Rattle.std.proofs.Common.{◌≡◌, ◌<◌, ◌≤◌, ◌+◌, ◌/◌, ◌%◌, ◌∷◌, ◌∙◌, ◌==◌, ℕ, zero, suc, Bool, true, false, not, cond, List, [], length, map, take, get_or, sum, Option, Some, None, refl, sym, ap, arith, if◌then◌else◌}
 use Rattle.std.specs.List.{All, filter, list_any}
-use Rattle.std.proofs.lemmas.List.{length-map, length-take-le, length-take}
+use Rattle.std.proofs.lemmas.List.{length-map, length-take}
 use Rattle.std.proofs.lemmas.List.Sums.{length-filter, count_by-le-length}
 use Rattle.std.proofs.lemmas.List.Filters.{length-filter_more}
 use Rattle.std.proofs.lemmas.Nat.{div_below, mod_below}
-use Rattle.std.proofs.lemmas.Grind.{common_steps}
 use Rattle.link_base.specs.Shares.{outcomes_of}
 use Rattle.link_base.specs.declared.rule.Outcome.{Outcome}
 use Rattle.link_base.specs.declared.rule.Outcome.TheVariants.{Agree, Disagree, Missing, Rare}

@@ -1,8 +1,8 @@
 -- Rows of a sample one by one.
-use Rattle.std.proofs.Common.{◌≡◌, ◌<◌, ◌≤◌, ◌+◌, ◌∷◌, ◌++◌, ◌∙◌, ◌==◌, ◌&&◌, ℕ, suc, Bool, true, false, not, cond, List, [], length, map, drop, get_or, Option, Some, None, Result, Ok, Err, refl, sym, ap, arith, drop-cons, add-one, subst}
+use Rattle.std.proofs.Common.{◌≡◌, ◌<◌, ◌+◌, ◌∷◌, ◌++◌, ◌∙◌, ℕ, suc, Bool, not, cond, List, [], length, map, drop, get_or, Option, Some, Result, Ok, refl, sym, ap, arith, drop-cons, subst}
 use Rattle.std.specs.Prelude.{codes}
-use Rattle.std.specs.List.{position, position_or_len, list_any}
-use Rattle.link_base.specs.Fault.{Gives, IsAnswer, Refuses, and_then}
+use Rattle.std.specs.List.{position, position_or_len}
+use Rattle.link_base.specs.Fault.{Refuses, and_then}
 use Rattle.link_base.specs.Standard.{Record}
 use Rattle.link_base.specs.declared.fault.Fault.{Fault}
 use Rattle.link_base.specs.declared.fault.Fault.TheVariants as fault

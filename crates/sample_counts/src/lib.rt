@@ -8,3 +8,6 @@ mod rows;
 
 pub use counts::Counts;
 pub use rows::{count_sample, count_sample_over};
+
+#[cfg(test)]
+mod tests;

@@ -65,6 +65,7 @@ pub fn count_sample_over<C: Comparator, T: Sides<C::Side>>(
     requires sides_a { All (AreSides C.is_valid kinds.now) (T.all sides_a.now) }
     requires sides_b { All (AreSides C.is_valid kinds.now) (T.all sides_b.now) }
     ensures kind { IfErr result IsInputFault }
+    ensures fields { IfOk result (λ counts. counts.rares ≡ map C.is_rare kinds.now) }
     ensures answer { IsAnswer (and_then (sample_of a.now b.now (records_in 44 bytes.now))
         (λ sample. Ok (counts_by C.is_rare C.outcome_of kinds.now (T.all sides_a.now) (T.all sides_b.now) sample))) result }
 {
@@ -89,6 +90,7 @@ pub fn count_sample(
     requires rows_a { All (IsRowOf fields.now) (rows_of a.now) }
     requires rows_b { All (IsRowOf fields.now) (rows_of b.now) }
     ensures kind { IfErr result IsInputFault }
+    ensures fields { IfOk result (λ counts. counts.rares ≡ map (λ (_ : FieldKind). false) fields.now) }
     ensures answer { IsAnswer (and_then (sample_of a.now b.now (records_in 44 bytes.now))
         (λ sample. Ok (counts_by (λ (_ : FieldKind). false) kind_outcome fields.now (rows_of a.now) (rows_of b.now) sample))) result }
 {

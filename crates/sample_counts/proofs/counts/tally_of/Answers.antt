@@ -1,4 +1,4 @@
-use Rattle.std.proofs.Common.{◌∙◌, ◌<◌, ℕ, List, ap, arith, false, length, take, rules}
+use Rattle.std.proofs.Common.{◌∙◌, List, ap, arith, false, length}
 use Rattle.std.specs.List.{filter}
 use Rattle.std.proofs.lemmas.List.{take_all}
 use Rattle.pattern_shapes.specs.Shapes.{rare_of}

@@ -1,4 +1,4 @@
-use Rattle.std.proofs.Common.{◌≡◌, ◌≤◌, ◌<◌, ◌∙◌, ◌∷◌, ℕ, [], arith, length, sum, true}
+use Rattle.std.proofs.Common.{◌≡◌, ◌∙◌, ◌∷◌, [], arith, length, sum}
 use Rattle.std.specs.List.{filter}
 use Rattle.pattern_shapes.specs.Shapes.{rare_of}
 use Rattle.sample_counts.specs.Counts.{has_status}
