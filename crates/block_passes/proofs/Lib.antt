@@ -1,5 +1,6 @@
 pub mod ChainLemmas
 pub mod CodeLemmas
+pub mod IdLemmas
 pub mod NumberLemmas
 pub mod PartLemmas
 pub mod RowLemmas

@@ -1,5 +1,5 @@
 -- Numbers stand for codes.
-use Rattle.std.proofs.Common.{◌≡◌, ◌<◌, ◌≤◌, ◌+◌, ◌==◌, List, [], ◌∷◌, ◌++◌, ◌^◌, ℕ, suc, Bool, true, false, not, cond, ◌||◌, Option, Some, None, Result, Ok, Err, OnErr, refl, sym, ◌∙◌, ap, length, length-append, filter, get_or, map, arith, inl, inr, bytes_eq, nat_eq, nat_lt, if◌then◌else◌}
+use Rattle.std.proofs.Common.{◌≡◌, ◌<◌, ◌≤◌, ◌+◌, ◌==◌, List, [], ◌∷◌, ◌++◌, ◌^◌, ℕ, suc, Bool, true, false, not, cond, ◌||◌, Option, Some, None, Result, Ok, Err, OnErr, refl, sym, ◌∙◌, ap, length, length-append, filter, get_or, arith, inl, inr, bytes_eq, nat_eq, nat_lt, if◌then◌else◌}
 use Rattle.std.specs.Prelude.{IfOk, unwrap_or}
 use Rattle.std.specs.List.{position, position_or_len, list_any}
 use Rattle.std.specs.Cmp.Lexicographic.{pointwise}
@@ -43,7 +43,7 @@ codes-insert keys key =
       | inr new ↦ rw (any-items key.items keys, new) (codes-push keys key)
     ]
 
-any-place : {T : Type 0} (p : T → Bool) (xs : List T) → list_any p xs ≡ true → position_or_len p xs < length xs
+pub any-place : {T : Type 0} (p : T → Bool) (xs : List T) → list_any p xs ≡ true → position_or_len p xs < length xs
 any-place p [] h = absurd (false≢true h)
 any-place p (x ∷ xs) h =
     elim (cases_Bool (p x)) [
@@ -104,10 +104,10 @@ kept-with codes code q h =
       | inr new ↦ rw new (kept-push codes code q h)
     ]
 
-at-place : (codes : List (List ℕ)) (p : List ℕ) → place_of codes p < length codes → p ≡ get_or codes (place_of codes p) []
+pub at-place : (codes : List (List ℕ)) (p : List ℕ) → place_of codes p < length codes → p ≡ get_or codes (place_of codes p) []
 at-place codes p lt = (bytes_eq-Decides p _).0 (passes_at_first (bytes_eq p) codes [] lt)
 
-place-same : (codes : List (List ℕ)) (p q : List ℕ) → place_of codes p < length codes → place_of codes q < length codes → (place_of codes q == place_of codes p) ≡ bytes_eq p q
+pub place-same : (codes : List (List ℕ)) (p q : List ℕ) → place_of codes p < length codes → place_of codes q < length codes → (place_of codes q == place_of codes p) ≡ bytes_eq p q
 place-same codes p q hp hq =
     same-test (place_of codes q == place_of codes p) (bytes_eq p q)
     (λ h. (bytes_eq-Decides p q).1 (at-place codes p hp ∙ ap (λ n. get_or codes n []) (sym (eq-true (place_of codes q) (place_of codes p) h)) ∙ sym (at-place codes q hq)))

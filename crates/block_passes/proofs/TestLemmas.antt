@@ -1,5 +1,5 @@
 -- Tests that agree, and filters by them.
-use Rattle.std.proofs.Common.{◌≡◌, ◌<◌, ◌+◌, ◌==◌, ◌∷◌, List, [], ℕ, zero, suc, Bool, true, false, ◌&&◌, refl, sym, filter, arith}
+use Rattle.std.proofs.Common.{◌≡◌, ◌<◌, ◌+◌, ◌==◌, [], ℕ, zero, suc, Bool, true, false, ◌&&◌, refl, sym, filter, arith}
 use Rattle.block_passes.specs.Groups.{numbers_from}
 
 -- a test that is true just where another is
@@ -14,6 +14,9 @@ eq-true a b h = grind arith
 
 pub true-eq : (a b : ℕ) → a ≡ b → (a == b) ≡ true
 true-eq a b h = grind arith
+
+pub apart : (a b : ℕ) → (a ≡ b → ⊥) → (a == b) ≡ false
+apart a b ne = same-test (a == b) false (λ h. absurd (ne (eq-true a b h))) (λ h. cc)
 
 pub and-false : (b : Bool) → (b && false) ≡ false
 and-false true = refl

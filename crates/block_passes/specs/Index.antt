@@ -1,9 +1,8 @@
 -- The rows of a file by their keys.
-use Rattle.std.specs.Prelude.{◌≡◌, ℕ, ◌<◌, List, filter, length, slice_index_or, Option}
+use Rattle.std.specs.Prelude.{ℕ, ◌<◌, List, filter, length, slice_index_or, Option}
 use Rattle.block_passes.specs.Codes.{key_code}
 use Rattle.block_passes.specs.Keys.{AreReadable, InRange, key_in_pass, same_key, same_text}
 use Rattle.block_passes.specs.Groups.{numbers_from}
-use Rattle.block_passes.specs.Numbering.{number_of, IsNumbered}
 use Rattle.link_base.specs.Standard.{no_record, Record}
 use Rattle.link_base.specs.declared.plan.Part.{Part}
 use Rattle.link_base.specs.declared.standard.Value.{Value}
@@ -24,15 +23,9 @@ rows_with_key parts file key = filter (λ at. same_key key (key_in_pass (row_at 
 abbrev pub code_at : List Part → List Record → ℕ → Option (List ℕ)
 code_at parts file at = key_code (key_in_pass (row_at file at) parts)
 
--- the positions whose code is this one, rising
+-- the positions below `count` whose code is this one, rising
+abbrev pub rows_of_code : (ℕ → Option (List ℕ)) → ℕ → Option (List ℕ) → List ℕ
+rows_of_code code_of count code = filter (λ at. same_text code (code_of at)) (numbers_from 0 count)
+
 abbrev pub rows_with_code : List Part → List Record → Option (List ℕ) → List ℕ
-rows_with_code parts file code = filter (λ at. same_text code (code_at parts file at)) (numbers_from 0 (length file))
-
--- these are the numbers of the rows
-abbrev pub AreNumbers : List (List ℕ) → List Part → List Record → ℕ → List ℕ → Type 0
-AreNumbers codes parts file count numbers =
-    (length numbers ≡ count) × ((at : ℕ) → at < count → slice_index_or numbers at 0 ≡ number_of codes (code_at parts file at))
-
--- each row has a number, if it has a code
-abbrev pub AreNumbered : List (List ℕ) → List Part → List Record → ℕ → Type 0
-AreNumbered codes parts file count = (at : ℕ) → at < count → IsNumbered codes (code_at parts file at)
+rows_with_code parts file code = rows_of_code (code_at parts file) (length file) code

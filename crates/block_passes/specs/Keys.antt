@@ -1,5 +1,5 @@
 -- The keys of rows in blocking passes (Newcombe et al. 1959; Fellegi and Sunter 1969, section 4).
-use Rattle.std.specs.Prelude.{◌<◌, ℕ, List, [], ◌∷◌, ◌++◌, length, Bool, false, ◌||◌, Option, Some, None, bytes_eq, slice_index_or, ⊤, ℤ}
+use Rattle.std.specs.Prelude.{◌<◌, ℕ, List, [], ◌∷◌, ◌++◌, length, Bool, false, Option, Some, None, bytes_eq, slice_index_or, ⊤, ℤ}
 use Rattle.std.specs.Cmp.Lexicographic.{pointwise}
 use Rattle.std.specs.Str.{IsUtf8}
 use Rattle.link_base.specs.Standard.{absent, IsDay}

@@ -5,3 +5,6 @@ pub mod Numbering
 pub mod Groups
 pub mod Index
 pub mod IndexRows
+pub mod Ids
+pub mod IdCodes
+pub mod IdIndexRows

@@ -1,17 +1,21 @@
 // The rows of a file by their keys.
 ghost use Rattle.std.specs.Prelude.{◌≡◌, ◌<◌, ◌≤◌, ◌^◌, ℕ, List, [], length, map, slice_index_or, IfOk, Option, Some};
-ghost use Rattle.block_passes.specs.Index.{AreNumbered, AreNumbers, AreReady, code_at, row_at, rows_with_code, rows_with_key};
-ghost use Rattle.block_passes.specs.Numbering.{number_of};
+ghost use Rattle.block_passes.specs.Ids.{AreAllHeld};
+ghost use Rattle.block_passes.specs.Index.{AreReady, code_at, row_at, rows_with_code, rows_with_key};
+ghost use Rattle.block_passes.specs.Numbering.{AreNumbered, AreNumbers, number_of};
 ghost use Rattle.block_passes.specs.IndexRows.{index_rows};
 ghost use Rattle.block_passes.specs.Keys.{key_in_pass};
 
 use crate::codes::row_code;
 use crate::groups::Groups;
+use crate::id_codes::MOST_IDS;
+use crate::id_index::{find_ids, index_ids};
 use crate::keys::PassKey;
 use crate::numbering::Numbering;
 use link_base::{NoMemory, Pass, StdFile};
 use std::alloc::Global;
 use std::marker::Model;
+use value_pool::Pool;
 
 // Gives each row of a file the number of its code, or the next number.
 fn number_rows(
@@ -23,8 +27,8 @@ fn number_rows(
     requires ready { AreReady pass.now file.now }
     requires empty { numbering.old ≡ [] }
     ensures few { IfOk result (λ numbers. length numbers.items < 2 ^ 32) }
-    ensures numbers { IfOk result (λ numbers. AreNumbers numbering.new pass.now file.now (length file.now) numbers.items) }
-    ensures numbered { IfOk result (λ _. AreNumbered numbering.new pass.now file.now (length file.now)) }
+    ensures numbers { IfOk result (λ numbers. AreNumbers numbering.new (code_at pass.now file.now) (length file.now) numbers.items) }
+    ensures numbered { IfOk result (λ _. AreNumbered numbering.new (code_at pass.now file.now) (length file.now)) }
 {
     let mut numbers = Vec::new(alloc);
     for at in 0..file.rows() {
@@ -42,7 +46,7 @@ fn find_rows(
     numbering: &Numbering,
 ) -> Result<Vec<u32>, NoMemory>
     requires { AreReady pass.now file.now }
-    ensures { IfOk result (λ numbers. AreNumbers numbering.now pass.now file.now (length file.now) numbers.items) }
+    ensures { IfOk result (λ numbers. AreNumbers numbering.now (code_at pass.now file.now) (length file.now) numbers.items) }
 {
     let mut numbers = Vec::new(alloc);
     for at in 0..file.rows() {
@@ -127,6 +131,29 @@ impl PassRows {
     {
         let index = index_file(alloc, b, pass)?;
         let numbers = find_rows(alloc, a, pass, &index.numbering)?;
+        Ok(PassRows::of(numbers, index.into_groups()))
+    }
+
+    /// The same rows, found by the ids of the texts of the keys, which stand in a pool.
+    pub fn new_in(
+        alloc: Global,
+        a: &StdFile,
+        b: &StdFile,
+        pass: &Pass,
+        pool: &Pool,
+    ) -> Result<PassRows, NoMemory>
+        requires ready_a { AreReady pass.now a.now }
+        requires ready_b { AreReady pass.now b.now }
+        requires held_a { AreAllHeld pool.now.texts pass.now a.now }
+        requires held_b { AreAllHeld pool.now.texts pass.now b.now }
+        ensures len { IfOk result (λ rows. length rows ≡ length a.now) }
+        ensures rows { IfOk result (λ rows. (at : ℕ) → at < length a.now → slice_index_or rows at [] ≡ rows_with_key pass.now b.now (key_in_pass (row_at a.now at) pass.now)) }
+    {
+        if pass.parts().len() > MOST_IDS {
+            return PassRows::new(alloc, a, b, pass);
+        }
+        let index = index_ids(alloc, b, pass, pool)?;
+        let numbers = find_ids(alloc, a, pass, pool, &index.numbering)?;
         Ok(PassRows::of(numbers, index.into_groups()))
     }
 

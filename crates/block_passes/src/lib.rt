@@ -3,13 +3,20 @@
 
 mod codes;
 mod groups;
+mod id_codes;
+mod id_index;
+mod id_numbering;
+mod ids;
 mod index;
 mod keys;
 mod numbering;
 mod parts;
 
+pub use id_index::{IdIndex, build_index_in};
+pub use ids::{IdKey, id_key, ids_tell_keys};
 pub use index::{Index, PassRows, build_index};
 pub use keys::{PassKey, pass_key};
+pub use parts::{PartText, bytes_of, part_text, value_text};
 
 #[cfg(test)]
 mod tests;

@@ -9,17 +9,21 @@ use link_base::{KeyKind, Part, StdRow, Value};
 use phonetic_keys::{Nysiis, nysiis, soundex};
 use value_forms::{civil_of, day_text, first_chars};
 
-// The bytes of a part of a key, which take no memory.
+/// The bytes of a part of a key, which take no memory.
 #[derive(Drop)]
-pub(crate) enum PartText<'r> {
+pub enum PartText<'r> {
+    /// A word, or its first characters.
     Slice(&'r [u8]),
+    /// A Soundex key, or the digits of a year.
     Short([u8; 4]),
+    /// A day as `YYYY-MM-DD`.
     Date([u8; 10]),
+    /// A NYSIIS key.
     Letters(Nysiis),
 }
 
 /// The bytes, without a copy.
-pub(crate) fn bytes_of<'t>(part: &'t PartText) -> &'t [u8]
+pub fn bytes_of<'t>(part: &'t PartText) -> &'t [u8]
     ensures { result.now ≡ part_bytes part.now }
 {
     match part {
@@ -75,7 +79,8 @@ fn date_text<'r>(kind: KeyKind, day: i32) -> Option<PartText<'r>>
     }
 }
 
-fn value_text<'r>(kind: KeyKind, value: &'r Value) -> Option<PartText<'r>>
+/// The part of a key that a value makes, `None` exactly where it makes none.
+pub fn value_text<'r>(kind: KeyKind, value: &'r Value) -> Option<PartText<'r>>
     requires { IsReadable kind value.now }
     ensures { option_map part_bytes result ≡ value_part kind value.now }
 {
@@ -86,8 +91,8 @@ fn value_text<'r>(kind: KeyKind, value: &'r Value) -> Option<PartText<'r>>
     }
 }
 
-/// The part of a key that a row has.
-pub(crate) fn part_text<'r>(row: &'r StdRow, part: Part) -> Option<PartText<'r>>
+/// The part of a key that a row has, `None` exactly where its value makes none.
+pub fn part_text<'r>(row: &'r StdRow, part: Part) -> Option<PartText<'r>>
     requires within { part.field < length row.now }
     requires readable { IsPartReadable row.now part }
     ensures { option_map part_bytes result ≡ part_key row.now part }

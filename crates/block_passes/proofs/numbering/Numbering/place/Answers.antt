@@ -1,6 +1,6 @@
 use Rattle.std.proofs.Common.{◌∙◌, sym}
 use Rattle.std.specs.Str.{bytes_eq}
-use Rattle.block_passes.proofs.NumberLemmas.{length-codes, place-found, place-items, place-missed}
+use Rattle.block_passes.proofs.NumberLemmas.{place-found, place-items, place-missed}
 use Rattle.block_passes.proofs.numbering.Numbering.place.Goals as goal
 
 pub returns-in-Some : goal.returns-in-Some

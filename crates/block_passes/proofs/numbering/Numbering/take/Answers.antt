@@ -1,4 +1,4 @@
-use Rattle.std.proofs.Common.{◌∙◌, sym, ap, length}
+use Rattle.std.proofs.Common.{◌∙◌, sym, ap}
 use Rattle.block_passes.specs.Numbering.{codes_of, place_of}
 use Rattle.block_passes.proofs.NumberLemmas.{codes-insert, few-kept, kept-with, length-with, place-items, place-with, place-within}
 use Rattle.block_passes.proofs.numbering.Numbering.take.Goals as goal

@@ -1,0 +1,19 @@
+-- Up to four ids side by side, for a table of keys.
+use Rattle.std.specs.Prelude.{ℕ, zero, suc, List, [], ◌∷◌, Option, option_map}
+use Rattle.block_passes.specs.Ids.{id_key_in}
+use Rattle.block_passes.specs.Index.{row_at}
+use Rattle.link_base.specs.Standard.{Record}
+use Rattle.link_base.specs.declared.plan.Part.{Part}
+
+-- the first ids, 0 past the last of them
+abbrev pub padded : ℕ → List ℕ → List ℕ
+padded zero ids = []
+padded (suc n) [] = 0 ∷ padded n []
+padded (suc n) (id ∷ ids) = id ∷ padded n ids
+
+abbrev pub four_of : Option (List ℕ) → Option (List ℕ)
+four_of ids = option_map (padded 4) ids
+
+-- the four ids of the key of the row at a position
+abbrev pub four_at : List (List ℕ) → List Part → List Record → ℕ → Option (List ℕ)
+four_at texts parts file at = four_of (id_key_in texts (row_at file at) parts)

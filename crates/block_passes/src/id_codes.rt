@@ -1,0 +1,51 @@
+// Up to four ids side by side.
+ghost use Rattle.std.specs.Prelude.{◌≡◌, ◌≤◌, ℕ, length, slice_index_or};
+ghost use Rattle.block_passes.specs.Ids.{AreHeld, id_key_in};
+ghost use Rattle.block_passes.specs.IdCodes.{four_of, padded};
+ghost use Rattle.block_passes.specs.Keys.{AreReadable, InRange};
+
+use crate::ids::part_id;
+use link_base::{Pass, StdRow};
+use value_pool::{Id, Pool};
+
+/// The most parts of a key that has a code of ids.
+pub(crate) const MOST_IDS: usize = 4;
+
+/// The ids of the key of a row in a pass of at most four parts.
+pub(crate) fn row_ids(row: &StdRow, pass: &Pass, pool: &Pool) -> Option<[u32; MOST_IDS]>
+    requires few { length pass.now ≤ 4 }
+    requires in_range { InRange row.now pass.now }
+    requires readable { AreReadable row.now pass.now }
+    requires held { AreHeld pool.now.texts row.now pass.now }
+    ensures { result ≡ four_of (id_key_in pool.now.texts row.now pass.now) }
+{
+    let mut ids = [0; MOST_IDS];
+    for (at, part) in pass.parts().iter().enumerate() {
+        match part_id(row, *part, pool) {
+            None => return None,
+            Some(id) => ids[at] = id.place(),
+        }
+    }
+    Some(ids)
+}
+
+fn place_at(ids: &[Id], at: usize) -> u32
+    ensures { result ≡ slice_index_or ids.now at 0 }
+{
+    match ids.get(at) {
+        None => 0,
+        Some(id) => id.place(),
+    }
+}
+
+/// The first four ids.
+pub(crate) fn first_ids(ids: &[Id]) -> [u32; MOST_IDS]
+    ensures { result ≡ padded 4 ids.now }
+{
+    [
+        place_at(ids, 0),
+        place_at(ids, 1),
+        place_at(ids, 2),
+        place_at(ids, 3),
+    ]
+}

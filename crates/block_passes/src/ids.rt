@@ -1,0 +1,79 @@
+// The key of a row in a pass as ids of a pool.
+ghost use Rattle.std.specs.Prelude.{◌≡◌, ◌<◌, ℕ, List, length, option_map, IfOk};
+ghost use Rattle.block_passes.specs.Ids.{AreHeld, IsHeld, id_key_in, same_ids};
+ghost use Rattle.block_passes.specs.Keys.{AreReadable, InRange, IsPartReadable, key_in_pass, part_key, same_key};
+ghost use Rattle.block_passes.specs.Numbering.{place_of};
+ghost use Rattle.link_base.specs.declared.plan.Part.{Part as KeyPart};
+ghost use Rattle.link_base.specs.declared.standard.Value.{Value};
+
+use crate::parts::{bytes_of, part_text};
+use link_base::{NoMemory, Part, Pass, StdRow};
+use std::alloc::Global;
+use std::marker::Model;
+use value_pool::{Id, Pool};
+
+/// The key of a row in a pass as ids, which contracts see as the list of them, one a part.
+#[derive(Debug, Drop)]
+pub struct IdKey {
+    ids: Vec<Id>,
+}
+
+impl Model for IdKey {
+    ghost use Rattle.std.specs.Prelude.{ℕ, List};
+
+    ghost Value = { List ℕ };
+
+    ghost view = { λ k. k.ids.items };
+}
+
+impl IdKey {
+    /// The ids of the parts.
+    pub fn ids(&self) -> &[Id]
+        ensures { result.now ≡ self.now }
+    {
+        &self.ids
+    }
+}
+
+/// The id of the part of a key that a row has, which the pool holds.
+pub(crate) fn part_id(row: &StdRow, part: Part, pool: &Pool) -> Option<Id>
+    requires within { part.field < length row.now }
+    requires readable { IsPartReadable row.now part }
+    requires held { IsHeld pool.now.texts (part_key row.now part) }
+    ensures { result ≡ option_map (place_of pool.now.texts) (part_key row.now part) }
+{
+    pool.are_distinct();
+    match part_text(row, part) {
+        None => None,
+        Some(text) => pool.find(bytes_of(&text)),
+    }
+}
+
+/// The key of a row in a blocking pass as the ids of its texts in a pool that holds them: `None`
+/// exactly where some part is missing.
+pub fn id_key(
+    alloc: Global,
+    row: &StdRow,
+    pass: &Pass,
+    pool: &Pool,
+) -> Result<Option<IdKey>, NoMemory>
+    requires in_range { InRange row.now pass.now }
+    requires readable { AreReadable row.now pass.now }
+    requires held { AreHeld pool.now.texts row.now pass.now }
+    ensures { IfOk result (λ key. key ≡ id_key_in pool.now.texts row.now pass.now) }
+{
+    let mut ids = Vec::new(alloc);
+    for part in pass.parts() {
+        match part_id(row, *part, pool) {
+            None => return Ok(None),
+            Some(id) => ids.push(id)?,
+        }
+    }
+    Ok(Some(IdKey { ids }))
+}
+
+/// Two keys of ids over one list of texts are present and equal exactly where the keys of texts are.
+pub fn ids_tell_keys()
+    ensures { (texts : List (List ℕ)) (a b : List Value) (p q : List KeyPart) → AreHeld texts a p → AreHeld texts b q
+        → same_ids (id_key_in texts a p) (id_key_in texts b q) ≡ same_key (key_in_pass a p) (key_in_pass b q) }
+{}
