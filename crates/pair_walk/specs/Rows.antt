@@ -1,6 +1,7 @@
 -- The rows of B for each row of A.
 use Rattle.std.specs.Prelude.{◌<◌, ℕ, zero, suc, ◌+◌, List, [], ◌∷◌, filter, length, slice_index_or}
 use Rattle.block_passes.specs.Groups.{numbers_from}
+use Rattle.block_passes.specs.Ids.{AreAllHeld}
 use Rattle.block_passes.specs.Index.{AreReady, row_at}
 use Rattle.link_base.specs.Standard.{Record}
 use Rattle.link_base.specs.declared.plan.Part.{Part}
@@ -26,3 +27,7 @@ all_rows a b passes = rows_from a b passes 0 (length a)
 -- each row of a file has the fields of each part of a pass, with valid values
 abbrev pub AreAllReady : List (List Part) → List Record → Type 0
 AreAllReady passes file = (k : ℕ) → k < length passes → AreReady (slice_index_or passes k []) file
+
+-- the parts of the keys of a file in each pass stand among the texts
+abbrev pub AreKeysHeld : List (List ℕ) → List (List Part) → List Record → Type 0
+AreKeysHeld texts passes file = (k : ℕ) → k < length passes → AreAllHeld texts (slice_index_or passes k []) file

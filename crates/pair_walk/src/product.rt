@@ -3,7 +3,7 @@ ghost use Rattle.std.specs.Prelude.{◌≡◌, ◌≤◌, ◌++◌, map, length,
 ghost use Rattle.link_base.specs.Standard.{Record};
 ghost use Rattle.link_base.specs.declared.plan.Part.{Part};
 ghost use Rattle.pair_walk.specs.Pairs.{compared_pairs, pair, pairs_of_rows};
-ghost use Rattle.pair_walk.specs.Rows.{AreAllReady, all_rows};
+ghost use Rattle.pair_walk.specs.Rows.{AreAllReady, AreKeysHeld, all_rows};
 ghost use Rattle.pair_walk.specs.Walk.{GivesPairs};
 
 use crate::fault::WalkFault;
@@ -11,6 +11,7 @@ use crate::walker::{RowPairs, Walker};
 use link_base::{NoMemory, PairAt, PassList, StdFile};
 use std::alloc::Global;
 use std::marker::Model;
+use value_pool::Pool;
 
 /// The compared pairs, rising, which contracts see as the list of them.
 #[derive(Debug, Drop)]
@@ -53,17 +54,11 @@ fn push_row(pairs: &mut Vec<PairAt>, row: &RowPairs) -> Result<(), NoMemory>
     Ok(())
 }
 
-/// The compared pairs of two files: those that share a key in some blocking pass. There are too many
-/// exactly where they are more than 2,000,000.
-pub fn walk(alloc: Global, a: &StdFile, b: &StdFile, passes: &PassList) -> Result<Pairs, WalkFault>
-    requires ready_a { AreAllReady passes.now a.now }
-    requires ready_b { AreAllReady passes.now b.now }
-    ensures { GivesPairs (compared_pairs a.now b.now passes.now) result }
+// The pairs of the rows that a new walker gives.
+fn collect(alloc: Global, mut walker: Walker) -> Result<Pairs, WalkFault>
+    requires { walker.given ≡ 0 }
+    ensures { GivesPairs (pairs_of_rows walker.left) result }
 {
-    let mut walker = match Walker::new(alloc, a, b, passes) {
-        Ok(walker) => walker,
-        Err(_) => return Err(WalkFault::NoMemory),
-    };
     let mut pairs = Vec::new(alloc);
     'rows: loop {
         match walker.next_row(alloc) {
@@ -74,5 +69,38 @@ pub fn walk(alloc: Global, a: &StdFile, b: &StdFile, passes: &PassList) -> Resul
                 Err(_) => return Err(WalkFault::NoMemory),
             },
         }
+    }
+}
+
+/// The compared pairs of two files: those that share a key in some blocking pass. There are too many
+/// exactly where they are more than 2,000,000.
+pub fn walk(alloc: Global, a: &StdFile, b: &StdFile, passes: &PassList) -> Result<Pairs, WalkFault>
+    requires ready_a { AreAllReady passes.now a.now }
+    requires ready_b { AreAllReady passes.now b.now }
+    ensures { GivesPairs (compared_pairs a.now b.now passes.now) result }
+{
+    match Walker::new(alloc, a, b, passes) {
+        Ok(walker) => collect(alloc, walker),
+        Err(_) => Err(WalkFault::NoMemory),
+    }
+}
+
+/// The same pairs, found by the ids of the texts of the keys, which stand in a pool.
+pub fn walk_in(
+    alloc: Global,
+    a: &StdFile,
+    b: &StdFile,
+    passes: &PassList,
+    pool: &Pool,
+) -> Result<Pairs, WalkFault>
+    requires ready_a { AreAllReady passes.now a.now }
+    requires ready_b { AreAllReady passes.now b.now }
+    requires held_a { AreKeysHeld pool.now.texts passes.now a.now }
+    requires held_b { AreKeysHeld pool.now.texts passes.now b.now }
+    ensures { GivesPairs (compared_pairs a.now b.now passes.now) result }
+{
+    match Walker::new_in(alloc, a, b, passes, pool) {
+        Ok(walker) => collect(alloc, walker),
+        Err(_) => Err(WalkFault::NoMemory),
     }
 }

@@ -1,14 +1,15 @@
 // The pairs row by row.
-ghost use Rattle.std.specs.Prelude.{◌≡◌, ◌<◌, ◌≤◌, ℕ, [], length, slice_index_or, IfOk};
-ghost use Rattle.pair_walk.specs.Rows.{AreAllReady, all_rows};
-ghost use Rattle.pair_walk.specs.Walker.{ArePassRows};
+ghost use Rattle.std.specs.Prelude.{◌≡◌, ◌≤◌, IfOk, IfSome};
+ghost use Rattle.pair_walk.specs.Rows.{AreAllReady, AreKeysHeld, all_rows};
 
 use crate::fault::WalkFault;
 use crate::merging::join_row;
+use crate::passes::find_passes;
 use block_passes::PassRows;
 use link_base::{NoMemory, PassList, StdFile};
 use std::alloc::Global;
 use std::marker::Model;
+use value_pool::Pool;
 
 /// The most compared pairs.
 const MOST_PAIRS: u64 = 2_000_000;
@@ -18,25 +19,6 @@ const MOST_PAIRS: u64 = 2_000_000;
 pub struct RowPairs {
     pub a: u32,
     pub bs: Vec<u32>,
-}
-
-// The rows of each pass.
-fn find_passes(
-    alloc: Global,
-    a: &StdFile,
-    b: &StdFile,
-    passes: &PassList,
-) -> Result<Vec<PassRows>, NoMemory>
-    requires ready_a { AreAllReady passes.now a.now }
-    requires ready_b { AreAllReady passes.now b.now }
-    ensures len { IfOk result (λ found. length found.items ≡ length passes.now) }
-    ensures rows { IfOk result (λ found. (k : ℕ) → k < length passes.now → ArePassRows (slice_index_or passes.now k []) a.now b.now (slice_index_or found.items k [])) }
-{
-    let mut found = Vec::new(alloc);
-    for pass in passes.passes() {
-        found.push(PassRows::new(alloc, a, b, pass)?)?;
-    }
-    Ok(found)
 }
 
 /// The compared pairs of two files, row by row. Contracts see the list of the rows not yet given and
@@ -77,7 +59,43 @@ impl Walker {
         ensures left { IfOk result (λ w. w.left ≡ all_rows a.now b.now passes.now) }
         ensures given { IfOk result (λ w. w.given ≡ 0) }
     {
-        let found = find_passes(alloc, a, b, passes)?;
+        Walker::by(alloc, a, b, passes, None)
+    }
+
+    /// The same pairs, found by the ids of the texts of the keys, which stand in a pool.
+    pub fn new_in(
+        alloc: Global,
+        a: &StdFile,
+        b: &StdFile,
+        passes: &PassList,
+        pool: &Pool,
+    ) -> Result<Walker, NoMemory>
+        requires ready_a { AreAllReady passes.now a.now }
+        requires ready_b { AreAllReady passes.now b.now }
+        requires held_a { AreKeysHeld pool.now.texts passes.now a.now }
+        requires held_b { AreKeysHeld pool.now.texts passes.now b.now }
+        ensures left { IfOk result (λ w. w.left ≡ all_rows a.now b.now passes.now) }
+        ensures given { IfOk result (λ w. w.given ≡ 0) }
+    {
+        Walker::by(alloc, a, b, passes, Some(pool))
+    }
+
+    // The pairs, by ids where there is a pool.
+    fn by(
+        alloc: Global,
+        a: &StdFile,
+        b: &StdFile,
+        passes: &PassList,
+        pool: Option<&Pool>,
+    ) -> Result<Walker, NoMemory>
+        requires ready_a { AreAllReady passes.now a.now }
+        requires ready_b { AreAllReady passes.now b.now }
+        requires held_a { IfSome pool (λ pool. AreKeysHeld pool.now.texts passes.now a.now) }
+        requires held_b { IfSome pool (λ pool. AreKeysHeld pool.now.texts passes.now b.now) }
+        ensures left { IfOk result (λ w. w.left ≡ all_rows a.now b.now passes.now) }
+        ensures given { IfOk result (λ w. w.given ≡ 0) }
+    {
+        let found = find_passes(alloc, a, b, passes, pool)?;
         Ok(Walker {
             passes: found,
             width: b.rows(),
@@ -103,7 +121,7 @@ impl Walker {
         };
         let given = self.given + bs.len() as u64;
         if given > MOST_PAIRS {
-            return Err(WalkFault::TooManyPairs { limit: 2_000_000 });
+            return Err(WalkFault::TooManyPairs { limit: MOST_PAIRS });
         }
         self.at = a + 1;
         self.given = given;
