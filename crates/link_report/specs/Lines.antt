@@ -1,0 +1,18 @@
+-- The texts that are printed and written: lines of fields, as RFC 4180 has them.
+use Rattle.std.specs.Prelude.{ℕ, List, [], ◌∷◌, ◌++◌, codes, slice_index_or}
+use Rattle.std.specs.List.{flat_map}
+use Rattle.csv.specs.Writing.{default_writer, field_text, row_text}
+use Rattle.link_base.specs.Standard.{no_record, Record}
+use Rattle.link_base.specs.declared.rule.PairAt.{PairAt}
+
+-- the id of the record at a position
+abbrev pub id_at : List Record → ℕ → List ℕ
+id_at file at = (slice_index_or file at no_record).id
+
+-- a line for the ids of a pair
+abbrev pub ids_line : List Record → List Record → PairAt → List ℕ
+ids_line a b at = row_text default_writer (id_at a at.a ∷ id_at b at.b ∷ [])
+
+-- a header, and a line for each pair
+abbrev pub ids_text : List Record → List Record → List PairAt → List ℕ
+ids_text a b pairs = row_text default_writer (codes "id_a" ∷ codes "id_b" ∷ []) ++ flat_map (ids_line a b) pairs
