@@ -13,6 +13,7 @@ mod words;
 
 pub use plan::{FieldList, FieldPlan, Plan};
 pub use settings_readers::least_unknown_key;
+pub use texts::is_output;
 pub use top::read_settings;
 
 #[cfg(test)]

@@ -29,7 +29,8 @@ pub(crate) enum TextRule {
     FieldName,
 }
 
-fn is_output(text: &str) -> bool
+/// Whether a name is that of a file that a run writes.
+pub fn is_output(text: &str) -> bool
     ensures { result ≡ is_output text.now }
 {
     text == "pairs.csv"
