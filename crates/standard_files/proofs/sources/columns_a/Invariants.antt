@@ -1,0 +1,10 @@
+use Rattle.std.proofs.Common.{◌≡◌, map, take}
+use Rattle.settings.specs.Plan.{FieldKeys}
+use Rattle.standard_files.specs.Values.{sort_in_a}
+use Rattle.standard_files.proofs.sources.columns_a.Given as goal
+
+abbrev pub invariant-loop-field : goal.invariant-loop-field
+invariant-loop-field l = record {
+  names : l.names.items ≡ map (λ (f : FieldKeys). f.column_a) (take l.field-index l.fields);
+  sorts : l.sorts.items ≡ map (λ (f : FieldKeys). sort_in_a f.sort) (take l.field-index l.fields);
+}

@@ -1,0 +1,101 @@
+-- The standard files of a plan: the tables of A and of B with each text as its standard value.
+use Rattle.std.specs.Prelude.{◌≡◌, ◌≢◌, ◌+◌, ◌≤◌, ℕ, List, [], ◌∷◌, length, map, All, AllPairs, Option, Some, None, Result, Ok, if◌then◌else◌, slice_index_or}
+use Rattle.link_base.specs.Fault.{and_then, or_else}
+use Rattle.link_base.specs.Standard.{Record}
+use Rattle.link_base.specs.declared.fault.Fault.{Fault}
+use Rattle.link_base.specs.declared.fault.Fault.TheVariants as fault
+use Rattle.link_base.specs.declared.fault.FileRole.{FileRole}
+use Rattle.link_base.specs.declared.fault.FileRole.TheVariants as role
+use Rattle.link_base.specs.declared.plan.FieldSort.{FieldSort}
+use Rattle.csv_records.specs.Left.{records_in}
+use Rattle.file_reader.specs.Layout.{Wanted}
+use Rattle.file_reader.specs.Rows.{TableRow}
+use Rattle.file_reader.specs.Table.{HasTexts, table_of, unless_fault}
+use Rattle.settings.specs.Plan.{FieldKeys}
+use Rattle.settings.specs.declared.plan.Plan.{Plan}
+use Rattle.standard_files.specs.Values.{AreOfSorts, sort_in_a, sort_in_b, standard_records, unreadable_from, unreadable_in}
+use Rattle.standard_files.specs.declared.sorts.TextSort.{TextSort}
+
+-- the most rows of a file
+abbrev pub most_rows : ℕ
+most_rows = 100000
+
+-- what a plan wants of A, and of B
+abbrev pub wanted_a : Plan → Wanted
+wanted_a plan = record { id = Some plan.id_a; columns = map (λ (f : FieldKeys). f.column_a) plan.fields; most = most_rows }
+
+abbrev pub wanted_b : Plan → Wanted
+wanted_b plan = record { id = Some plan.id_b; columns = map (λ (f : FieldKeys). f.column_b) plan.fields; most = most_rows }
+
+abbrev pub table_a : Plan → List ℕ → Result (List TableRow) Fault
+table_a plan bytes = table_of role.A (wanted_a plan) (records_in plan.delimiter_a bytes)
+
+abbrev pub table_b : Plan → List ℕ → Result (List TableRow) Fault
+table_b plan bytes = table_of role.B (wanted_b plan) (records_in plan.delimiter_b bytes)
+
+-- what the fields of a plan hold, in each file
+abbrev pub sorts_of : Plan → List FieldSort
+sorts_of plan = map (λ (f : FieldKeys). f.sort) plan.fields
+
+abbrev pub sorts_a : Plan → List TextSort
+sorts_a plan = map (λ (f : FieldKeys). sort_in_a f.sort) plan.fields
+
+abbrev pub sorts_b : Plan → List TextSort
+sorts_b plan = map (λ (f : FieldKeys). sort_in_b f.sort) plan.fields
+
+-- the name of a field, by its place
+abbrev pub field_name : Plan → ℕ → List ℕ
+field_name plan at = slice_index_or (map (λ (f : FieldKeys). f.name) plan.fields) at []
+
+-- the fault of the first unreadable date of a row, by the row's number
+abbrev pub date_fault : FileRole → Plan → ℕ → Option ℕ → Option Fault
+date_fault r plan number None = None
+date_fault r plan number (Some at) = Some (fault.BadValue r number (field_name plan at))
+
+-- the fault of the first unreadable date of rows whose first has the number
+abbrev pub dates_fault : FileRole → Plan → List TextSort → ℕ → List TableRow → Option Fault
+dates_fault r plan sorts number [] = None
+dates_fault r plan sorts number (row ∷ rows) =
+    or_else (date_fault r plan number (unreadable_from plan.tables 0 sorts row.fields)) (dates_fault r plan sorts (number + 1) rows)
+
+-- a file in standard values
+pub record StandardFile : Type 0 where
+  pub records : List Record
+  pub unreadable : ℕ
+
+-- the table of a file in standard values; a strict plan refuses the first unreadable date
+abbrev pub standard_file : FileRole → Plan → List TextSort → List TableRow → Result StandardFile Fault
+standard_file r plan sorts table =
+    unless_fault (if plan.strict then dates_fault r plan sorts 1 table else None)
+    (Ok (record { records = standard_records plan.tables sorts table; unreadable = unreadable_in plan.tables sorts table }))
+
+-- both files
+pub record StandardPair : Type 0 where
+  pub a : StandardFile
+  pub b : StandardFile
+
+-- both tables in standard values: a fault of A comes before one of B
+abbrev pub standard_pair : Plan → List TableRow → List TableRow → Result StandardPair Fault
+standard_pair plan of_a of_b =
+    and_then (standard_file role.A plan (sorts_a plan) of_a) (λ a.
+    and_then (standard_file role.B plan (sorts_b plan) of_b) (λ b.
+    Ok (record { a = a; b = b })))
+
+-- the tables of A and then of B, and then their values: the first fault in this order decides
+abbrev pub standard_files : Plan → List ℕ → List ℕ → Result StandardPair Fault
+standard_files plan bytes_a bytes_b =
+    and_then (table_a plan bytes_a) (λ of_a.
+    and_then (table_b plan bytes_b) (λ of_b.
+    standard_pair plan of_a of_b))
+
+-- at most so many records, each with a value for each field of the plan
+pub record AreOfPlan (plan : Plan) (records : List Record) : Type 0 where
+  pub few : length records ≤ most_rows
+  pub sorts : All (λ (r : Record). AreOfSorts (sorts_of plan) r.row) records
+
+-- a table that was read for a plan: a text for each field, and no id twice
+pub record IsReadTable (plan : Plan) (table : List TableRow) : Type 0 where
+  pub few : length table ≤ most_rows
+  pub width : All (λ (r : TableRow). length r.fields ≡ length plan.fields) table
+  pub texts : HasTexts table
+  pub distinct : AllPairs (λ (x y : TableRow). x.id ≢ y.id) table

@@ -1,0 +1,37 @@
+// What a field of one file holds.
+ghost use Rattle.std.specs.Prelude.{◌≡◌};
+ghost use Rattle.standard_files.specs.Values.{sort_in_a, sort_in_b};
+
+use link_base::{DateForm, FieldSort};
+
+/// What a field of one file holds: a name, a place, or a date in one form.
+#[derive(Clone, Copy, Debug, PartialEq, Eq)]
+pub enum TextSort {
+    Name,
+    Place,
+    Date(DateForm),
+}
+
+impl TextSort {
+    // What a field holds as the first file writes it.
+    pub(crate) fn in_a(sort: FieldSort) -> TextSort
+        ensures { result ≡ sort_in_a sort }
+    {
+        match sort {
+            FieldSort::Name => TextSort::Name,
+            FieldSort::Place => TextSort::Place,
+            FieldSort::Date(form, _) => TextSort::Date(form),
+        }
+    }
+
+    // What it holds as the second file writes it.
+    pub(crate) fn in_b(sort: FieldSort) -> TextSort
+        ensures { result ≡ sort_in_b sort }
+    {
+        match sort {
+            FieldSort::Name => TextSort::Name,
+            FieldSort::Place => TextSort::Place,
+            FieldSort::Date(_, form) => TextSort::Date(form),
+        }
+    }
+}
