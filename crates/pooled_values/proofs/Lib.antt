@@ -1,0 +1,7 @@
+pub mod TakingLemmas
+pub mod PlaceLemmas
+pub mod FileLemmas
+pub mod StandLemmas
+pub mod SideLemmas
+pub mod DistinctLemmas
+pub mod ExampleLemmas

@@ -1,0 +1,110 @@
+-- The sides of rows, one by one.
+use Rattle.std.proofs.Common.{◌≡◌, ◌<◌, ℕ, zero, suc, true, List, [], ◌∷◌, length, get_or, Option, Some, None, inl, inr, refl, ap, ◌∙◌, arith}
+use Rattle.std.specs.List.{All, slice_get}
+use Rattle.std.specs.Str.{bytes_eq}
+use Rattle.std.proofs.lemmas.Bool.{cases_Bool}
+use Rattle.std.proofs.lemmas.List.{get_or-map}
+use Rattle.std.proofs.lemmas.List.Sums.{passes_at_first}
+use Rattle.std.proofs.lemmas.Option.{slice_get-get_or}
+use Rattle.std.proofs.lemmas.Slice.Eq.{bytes_eq-Decides}
+use Rattle.block_passes.specs.Index.{row_at}
+use Rattle.comparators.specs.Canons.{day_in, exact_canon, first_letters_canon, initials_canon, nysiis_canon, soundex_canon}
+use Rattle.comparators.specs.Fields.{field_of, IsDayOrAbsent, IsFieldSide, IsIdOrAbsent}
+use Rattle.comparators.specs.OfPool.{IsDayItself, NamesCanon, StandsFor}
+use Rattle.comparators.specs.declared.ids.IdValue.{IdValue}
+use Rattle.comparators.specs.declared.ids.IdValue.TheVariants as id
+use Rattle.link_base.specs.Standard.{absent, IsValid, no_record, Record}
+use Rattle.link_base.specs.declared.plan.CompareKind.{CompareKind}
+use Rattle.link_base.specs.declared.plan.CompareKind.TheVariants as by
+use Rattle.link_base.specs.declared.standard.Value.{Value}
+use Rattle.link_base.specs.declared.standard.Value.TheVariants as value
+use Rattle.pooled_values.specs.Ready.{AreFileSides, AreRowSides, IsHeld, IsRowFor}
+use Rattle.pooled_values.specs.Sides.{day_side, id_of_text, id_side, side_of, sides_of_file, sides_of_row}
+use Rattle.pooled_values.specs.Texts.{canon_of, canons_of_row, file_texts, stands_among}
+use Rattle.pooled_values.proofs.StandLemmas.{held-by, stands-canons, stands-flat}
+
+place-bound : (texts : List (List ℕ)) (text : List ℕ) → stands_among texts text ≡ true → id_of_text texts text < length texts
+place-bound [] text h = cc
+place-bound (t ∷ ts) text h =
+    elim (cases_Bool (bytes_eq t text)) [
+      | inl here ↦ rw here (omega arith)
+      | inr other ↦ let rest = place-bound ts text (rw other at h) in rw other (omega arith)
+    ]
+
+-- a text that stands among others is read at its place
+place-reads : (texts : List (List ℕ)) (text : List ℕ) → stands_among texts text ≡ true → slice_get texts (id_of_text texts text) ≡ Some text
+place-reads texts text h =
+    let at = id_of_text texts text in
+    let within = place-bound texts text h in
+    slice_get-get_or texts at [] within ∙ ap Some ((bytes_eq-Decides (get_or texts at []) text).0 (passes_at_first (λ held. bytes_eq held text) texts [] within))
+
+names : (texts : List (List ℕ)) (canon : Option (List ℕ)) → IsHeld texts canon → NamesCanon texts canon (id_side texts canon)
+names texts None h = tt
+names texts (Some text) h = place-reads texts text h
+
+day-stands : (v : Value) → IsDayItself (day_in v) (day_side v)
+day-stands value.Absent = tt
+day-stands (value.Word text) = tt
+day-stands (value.Day day) = refl
+
+stands-for : (texts : List (List ℕ)) (kind : CompareKind) (v : Value) → IsHeld texts (canon_of kind v) → StandsFor texts kind v (side_of texts kind v)
+stands-for texts by.Exact v h = names texts (exact_canon v) h
+stands-for texts by.BySoundex v h = names texts (soundex_canon v) h
+stands-for texts by.ByNysiis v h = names texts (nysiis_canon v) h
+stands-for texts (by.FirstLetters n) v h = names texts (first_letters_canon n v) h
+stands-for texts by.Initials v h = names texts (initials_canon v) h
+stands-for texts (by.DaysWithin t) v h = day-stands v
+stands-for texts (by.YearsWithin t) v h = day-stands v
+
+id-valid : (texts : List (List ℕ)) (canon : Option (List ℕ)) → IsIdOrAbsent (id_side texts canon)
+id-valid texts None = tt
+id-valid texts (Some text) = tt
+
+day-valid : (v : Value) → IsValid v → IsDayOrAbsent (day_side v)
+day-valid value.Absent h = tt
+day-valid (value.Word text) h = tt
+day-valid (value.Day day) h = h
+
+side-valid : (texts : List (List ℕ)) (kind : CompareKind) (v : Value) → IsValid v → IsFieldSide (field_of kind) (side_of texts kind v)
+side-valid texts by.Exact v h = id-valid texts (exact_canon v)
+side-valid texts by.BySoundex v h = id-valid texts (soundex_canon v)
+side-valid texts by.ByNysiis v h = id-valid texts (nysiis_canon v)
+side-valid texts (by.FirstLetters n) v h = id-valid texts (first_letters_canon n v)
+side-valid texts by.Initials v h = id-valid texts (initials_canon v)
+side-valid texts (by.DaysWithin t) v h = day-valid v h
+side-valid texts (by.YearsWithin t) v h = day-valid v h
+
+side-at : (texts : List (List ℕ)) (kinds : List CompareKind) (row : List Value) (k : ℕ) → k < length kinds → length row ≡ length kinds → get_or (sides_of_row texts kinds row) k id.Absent ≡ side_of texts (get_or kinds k by.Exact) (get_or row k absent)
+side-at texts [] row k lt many = absurd (omega arith)
+side-at texts (kind ∷ kinds) [] k lt many = absurd (omega arith)
+side-at texts (kind ∷ kinds) (v ∷ vs) zero lt many = refl
+side-at texts (kind ∷ kinds) (v ∷ vs) (suc k) lt many = side-at texts kinds vs k (omega arith) (omega arith)
+
+sides-many : (texts : List (List ℕ)) (kinds : List CompareKind) (row : List Value) → length row ≡ length kinds → length (sides_of_row texts kinds row) ≡ length kinds
+sides-many texts [] row many = refl
+sides-many texts (kind ∷ kinds) [] many = absurd (omega arith)
+sides-many texts (kind ∷ kinds) (v ∷ vs) many = ap suc (sides-many texts kinds vs (omega arith))
+
+row-sides : (texts : List (List ℕ)) (kinds : List CompareKind) (row : List Value) → length row ≡ length kinds → All IsValid row → ((text : List ℕ) → stands_among (canons_of_row kinds row) text ≡ true → stands_among texts text ≡ true) → AreRowSides texts kinds row (sides_of_row texts kinds row)
+row-sides texts kinds row many valid all = record {
+  as_many = sides-many texts kinds row many;
+  stand = λ k lt.
+      let kind = get_or kinds k by.Exact in
+      let v = get_or row k absent in
+      rw (side-at texts kinds row k lt many) (stands-for texts kind v (held-by texts (canon_of kind v) (λ text h. all text (stands-canons kinds row k text lt many h))));
+  valid = λ k lt. rw (side-at texts kinds row k lt many) (side-valid texts (get_or kinds k by.Exact) (get_or row k absent) (valid k absent (omega arith)));
+}
+
+length-sides : (texts : List (List ℕ)) (kinds : List CompareKind) (file : List Record) → length (sides_of_file texts kinds file) ≡ length file
+length-sides texts kinds [] = refl
+length-sides texts kinds (r ∷ rs) = ap suc (length-sides texts kinds rs)
+
+pub file-sides : (texts : List (List ℕ)) (kinds : List CompareKind) (file : List Record) (rows : List (List IdValue)) → All (IsRowFor kinds) file → sides_of_file texts kinds file ≡ rows
+    → ((text : List ℕ) → stands_among (file_texts (canons_of_row kinds) file) text ≡ true → stands_among texts text ≡ true) → AreFileSides texts kinds file rows
+file-sides texts kinds file rows for_kinds e all = rw (← e) (record {
+  as_many = length-sides texts kinds file;
+  of_row = λ at lt.
+      let here = for_kinds at no_record lt in
+      rw (get_or-map (λ (r : Record). sides_of_row texts kinds r.row) file at no_record [] lt)
+      (row-sides texts kinds (row_at file at) here.as_many here.valid (λ text h. all text (stands-flat (λ (r : Record). canons_of_row kinds r.row) file at no_record text lt h)));
+})

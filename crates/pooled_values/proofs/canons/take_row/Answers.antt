@@ -1,0 +1,28 @@
+use Rattle.std.proofs.Common.{◌≡◌, ◌+◌, ◌++◌, ◌∷◌, [], drop, get_or, option_to_list, arith, rules, length-append}
+use Rattle.link_base.specs.declared.plan.CompareKind.TheVariants as by
+use Rattle.pooled_values.specs.Sides.{side_of, sides_of_row}
+use Rattle.pooled_values.specs.Texts.{canon_of, canons_of_row}
+use Rattle.pooled_values.proofs.FileLemmas.{canons-at, push-sides, sides-at}
+use Rattle.pooled_values.proofs.PlaceLemmas.{extends-before}
+use Rattle.pooled_values.proofs.TakingLemmas.{goes-on}
+use Rattle.pooled_values.proofs.canons.take_row.Goals as goal
+
+pub loop-field-preserved : goal.loop-field-preserved
+loop-field-preserved c =
+    let kinds = c.args.kinds.now in
+    let row = c.args.row.now in
+    let at = c.loop-field.field in
+    let v = c.index-values-field.result in
+    let canons = option_to_list (canon_of (get_or kinds at by.Exact) v) in
+    let is_value : v ≡ get_or row at v = rw c.values-values.ensures at c.index-values-field.is in
+    let pushed : c.push.new.self.items ≡ c.loop-field.sides.items ++ c.in_ok-side.side ∷ [] = search rules in
+    record {
+      goes = goes-on canons (canons_of_row (drop (at + 1) kinds) (drop (at + 1) row)) c.loop-field.invariant.goes
+          (canons-at kinds row at v (omega arith) c.requires.as_many is_value) c.take_canon.ensures.limit c.in_ok-side.ensures.texts;
+      width = rw pushed (omega (arith, length-append c.loop-field.sides.items (c.in_ok-side.side ∷ []), c.loop-field.invariant.width));
+      sides = λ final e.
+          let before = extends-before c.loop-field.pool.limit canons c.loop-field.pool.texts c.take_canon.new.pool.texts final c.in_ok-side.ensures.texts e in
+          rw pushed (push-sides c.loop-field.sides.items (sides_of_row final (drop (at + 1) kinds) (drop (at + 1) row)) (sides_of_row final kinds row) (sides_of_row final (drop at kinds) (drop at row))
+          (side_of final (get_or kinds at by.Exact) v) c.in_ok-side.side (c.loop-field.invariant.sides final before)
+          (sides-at final kinds row at v (omega arith) c.requires.as_many is_value) (c.in_ok-side.ensures.side final e));
+    }

@@ -1,0 +1,5 @@
+pub mod Texts
+pub mod Sides
+pub mod Ready
+pub mod Taking
+pub mod Distinct

@@ -1,0 +1,44 @@
+-- The files whose values are pooled, and what is known of them in a pool.
+use Rattle.std.specs.Prelude.{◌≡◌, ◌<◌, ℕ, List, [], length, slice_index_or, All}
+pub use Rattle.block_passes.specs.Ids.{IsHeld}
+use Rattle.block_passes.specs.Ids.{AreAllHeld}
+use Rattle.block_passes.specs.Index.{row_at}
+use Rattle.comparators.specs.Fields.{field_of, IsFieldSide}
+use Rattle.comparators.specs.OfPool.{StandsFor}
+use Rattle.comparators.specs.declared.ids.IdValue.{IdValue}
+use Rattle.comparators.specs.declared.ids.IdValue.TheVariants as id
+use Rattle.link_base.specs.Standard.{absent, IsValid, Record}
+use Rattle.link_base.specs.declared.plan.CompareKind.{CompareKind}
+use Rattle.link_base.specs.declared.plan.CompareKind.TheVariants as by
+use Rattle.link_base.specs.declared.plan.Part.{Part}
+use Rattle.link_base.specs.declared.standard.Value.{Value}
+
+-- a valid value for each kind of comparison
+pub record IsRowFor (kinds : List CompareKind) (r : Record) : Type 0 where
+  pub as_many : length r.row ≡ length kinds
+  pub valid : All IsValid r.row
+
+-- the parts of the passes speak of these fields
+abbrev pub AreInRange : ℕ → List (List Part) → Type 0
+AreInRange fields passes = All (λ pass. All (λ (p : Part). p.field < fields) pass) passes
+
+-- a valid value for each part of the passes
+pub record HasParts (passes : List (List Part)) (r : Record) : Type 0 where
+  pub in_range : AreInRange (length r.row) passes
+  pub valid : All IsValid r.row
+
+-- the parts of the keys of all rows of a file stand among the texts
+abbrev pub HoldsParts : List (List ℕ) → List (List Part) → List Record → Type 0
+HoldsParts texts passes file = (k : ℕ) → k < length passes → AreAllHeld texts (slice_index_or passes k []) file
+
+-- each side of a row stands for its value, and is a valid side of its kind of comparison
+pub record AreRowSides (texts : List (List ℕ)) (kinds : List CompareKind) (row : List Value) (sides : List IdValue) : Type 0 where
+  pub as_many : length sides ≡ length kinds
+  pub stand : (k : ℕ) → k < length kinds
+      → StandsFor texts (slice_index_or kinds k by.Exact) (slice_index_or row k absent) (slice_index_or sides k id.Absent)
+  pub valid : (k : ℕ) → k < length kinds → IsFieldSide (field_of (slice_index_or kinds k by.Exact)) (slice_index_or sides k id.Absent)
+
+-- the sides of a file, row by row
+pub record AreFileSides (texts : List (List ℕ)) (kinds : List CompareKind) (file : List Record) (rows : List (List IdValue)) : Type 0 where
+  pub as_many : length rows ≡ length file
+  pub of_row : (at : ℕ) → at < length file → AreRowSides texts kinds (row_at file at) (slice_index_or rows at [])
