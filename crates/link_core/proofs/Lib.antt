@@ -1,0 +1,3 @@
+pub mod ReadyLemmas
+pub mod PreparedLemmas
+pub mod PairLemmas

@@ -1,0 +1,17 @@
+use Rattle.std.proofs.Common.{◌≡◌, rules}
+use Rattle.link_core.proofs.PreparedLemmas.{refused_values}
+use Rattle.link_core.proofs.ReadyLemmas.{plan_ready}
+use Rattle.link_core.proofs.preparing.prepare.Goals as goal
+
+pub returns-in-Ok-pool_files-clause-ready_a : goal.returns-in-Ok-pool_files-clause-ready_a
+returns-in-Ok-pool_files-clause-ready_a c = plan_ready c.args.plan.now c.in-Ok.files.a.records c.requires.ranges c.in-Ok.ensures.of_a
+
+pub returns-in-Ok-pool_files-clause-ready_b : goal.returns-in-Ok-pool_files-clause-ready_b
+returns-in-Ok-pool_files-clause-ready_b c = plan_ready c.args.plan.now c.in-Ok.files.b.records c.requires.ranges c.in-Ok.ensures.of_b
+
+pub returns-in-Err-pool_files-clause-answer : goal.returns-in-Err-pool_files-clause-answer
+returns-in-Err-pool_files-clause-answer c =
+    let of_a : c.records.result.now ≡ c.in-Ok.files.a.records = search (rules, c.records.ensures, c.files.view_is) in
+    let of_b : c.records-2.result.now ≡ c.in-Ok.files.b.records = search (rules, c.records-2.ensures, c.files.view_is) in
+    refused_values c.args.plan.now c.args.pool_limit c.args.a.now c.args.b.now c.in-Ok.files c.records.result.now c.records-2.result.now c.in-Err-pool_files.fault
+    c.in-Ok.ensures.answer of_a of_b c.in-Err-pool_files.ensures.answer

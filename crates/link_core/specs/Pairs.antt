@@ -1,0 +1,30 @@
+-- The compared pairs of a plan.
+use Rattle.std.specs.Prelude.{ℕ, List, length, nat_le, if◌then◌else◌, Result, Ok, Err}
+use Rattle.link_base.specs.Fault.{and_then}
+use Rattle.link_base.specs.declared.fault.Fault.{Fault}
+use Rattle.link_base.specs.declared.fault.Fault.TheVariants as fault
+use Rattle.link_base.specs.declared.rule.PairAt.{PairAt}
+use Rattle.pair_walk.specs.Pairs.{compared_pairs}
+use Rattle.settings.specs.declared.plan.Plan.{Plan}
+use Rattle.standard_files.specs.Files.{StandardPair}
+use Rattle.link_report.specs.Lines.{ids_text}
+use Rattle.link_core.specs.Prepared.{prepared}
+
+-- the most compared pairs
+abbrev pub most_pairs : ℕ
+most_pairs = 2000000
+
+-- pairs, where they are not too many
+abbrev pub pairs_within : List PairAt → Result (List PairAt) Fault
+pairs_within pairs = if nat_le (length pairs) most_pairs then Ok pairs else Err (fault.TooManyPairs most_pairs)
+
+-- the pairs of two standard files that share a key in some blocking pass of the plan
+abbrev pub plan_pairs : Plan → StandardPair → Result (List PairAt) Fault
+plan_pairs plan files = pairs_within (compared_pairs files.a.records files.b.records plan.passes)
+
+-- the ids of the compared pairs of two files, or the first fault: of the files, of the pool, too many pairs
+abbrev pub ids_of_pairs : Plan → ℕ → List ℕ → List ℕ → Result (List ℕ) Fault
+ids_of_pairs plan limit bytes_a bytes_b =
+    and_then (prepared plan limit bytes_a bytes_b) (λ p.
+    and_then (plan_pairs plan p.files) (λ pairs.
+    Ok (ids_text p.files.a.records p.files.b.records pairs)))

@@ -1,0 +1,59 @@
+-- What is prepared of the two files of a plan: their standard values, and these in a pool.
+use Rattle.std.specs.Prelude.{ℕ, List, map, Result, Ok, Err, ⊤}
+use Rattle.link_base.specs.Fault.{and_then}
+use Rattle.link_base.specs.declared.fault.Fault.{Fault}
+use Rattle.link_base.specs.declared.fault.Fault.TheVariants as fault
+use Rattle.link_base.specs.declared.fault.FileRole.{FileRole}
+use Rattle.link_base.specs.declared.fault.FileRole.TheVariants as role
+use Rattle.link_base.specs.declared.plan.CompareKind.{CompareKind}
+use Rattle.comparators.specs.declared.ids.IdValue.{IdValue}
+use Rattle.value_pool.specs.declared.pool.PoolFault.{PoolFault}
+use Rattle.value_pool.specs.declared.pool.PoolFault.TheVariants as pool
+use Rattle.settings.specs.Plan.{FieldKeys}
+use Rattle.settings.specs.declared.plan.Plan.{Plan}
+use Rattle.standard_files.specs.Files.{standard_files, StandardPair}
+use Rattle.pooled_values.specs.Sides.{pooled_values, PooledView}
+
+-- the comparisons of a plan's fields
+abbrev pub kinds_of : Plan → List CompareKind
+kinds_of plan = map (λ (f : FieldKeys). f.compare) plan.fields
+
+-- the fault of a pool
+abbrev pub pool_fault : PoolFault → Fault
+pool_fault (pool.Full used limit) = fault.PoolFull used limit
+pool_fault pool.NoMemory = fault.NoMemory
+
+abbrev pub with_fault : {T : Type 0} → Result T PoolFault → Result T Fault
+with_fault (Ok x) = Ok x
+with_fault (Err f) = Err (pool_fault f)
+
+-- what is seen of prepared files
+pub record PreparedView : Type 0 where
+  pub files : StandardPair
+  pub values : PooledView
+
+-- the values of two standard files in a pool
+abbrev pub pooled : Plan → ℕ → StandardPair → Result PooledView Fault
+pooled plan limit files = with_fault (pooled_values limit (kinds_of plan) plan.passes files.a.records files.b.records)
+
+-- the two files in standard values, and their texts in a pool of at most `limit` bytes
+abbrev pub prepared : Plan → ℕ → List ℕ → List ℕ → Result PreparedView Fault
+prepared plan limit bytes_a bytes_b =
+    and_then (standard_files plan bytes_a bytes_b) (λ files.
+    and_then (pooled plan limit files) (λ values.
+    Ok (record { files = files; values = values })))
+
+-- A or B
+abbrev pub IsOneOfBoth : FileRole → Type 0
+IsOneOfBoth role.A = ⊤
+IsOneOfBoth role.B = ⊤
+IsOneOfBoth r = ⊥
+
+-- what the rows of one of both files are compared by, and how many of its dates could not be read
+abbrev pub sides_in : PreparedView → FileRole → List (List IdValue)
+sides_in p role.B = p.values.b
+sides_in p r = p.values.a
+
+abbrev pub unreadable_in : PreparedView → FileRole → ℕ
+unreadable_in p role.B = p.files.b.unreadable
+unreadable_in p r = p.files.a.unreadable

@@ -1,0 +1,181 @@
+// Two files ready to be compared.
+ghost use Rattle.std.specs.Prelude.{◌≡◌, ◌≤◌, ◌^◌, All, IfErr, IfOk, length};
+ghost use Rattle.link_base.specs.Fault.{IsAnswer, IsInputFault};
+ghost use Rattle.link_core.specs.Prepared.{IsOneOfBoth, kinds_of, prepared, sides_in, unreadable_in, with_fault};
+ghost use Rattle.pooled_values.specs.Ready.{AreInRange, HoldsParts, IsRowFor};
+ghost use Rattle.pooled_values.specs.Sides.{pooled_values};
+ghost use Rattle.pair_walk.specs.Rows.{AreAllReady, AreKeysHeld};
+ghost use Rattle.settings.specs.Ranges.{KeepsRanges};
+ghost use Rattle.standard_files.specs.Files.{AreOfPlan};
+
+use comparators::IdTable;
+use link_base::{CompareKind, Fault, FileRole, NoMemory, PassList, StdFile};
+use pooled_values::{PooledValues, pool_values};
+use settings::Plan;
+use standard_files::{StandardFile, StandardPair, read_files};
+use std::alloc::Global;
+use std::marker::Model;
+use value_pool::{Pool, PoolFault};
+
+/// Two files in standard values, with their texts in a pool. Contracts see the records of both files, how many of their dates
+/// could not be read, the texts of the pool, and what the rows are compared by.
+#[derive(Drop)]
+pub struct Prepared {
+    files: StandardPair,
+    values: PooledValues,
+}
+
+impl Model for Prepared {
+    ghost use Rattle.link_core.specs.Prepared.{PreparedView};
+
+    ghost Value = { PreparedView };
+
+    ghost view = { λ p. record { files = p.files; values = p.values } };
+}
+
+impl Prepared {
+    /// The file A.
+    pub fn a(&self) -> &StdFile
+        ensures { result.now ≡ self.now.files.a.records }
+    {
+        &self.files.a.file
+    }
+
+    /// The file B.
+    pub fn b(&self) -> &StdFile
+        ensures { result.now ≡ self.now.files.b.records }
+    {
+        &self.files.b.file
+    }
+
+    /// The distinct texts of both files.
+    pub fn pool(&self) -> &Pool
+        ensures { result.now.texts ≡ self.now.values.texts }
+    {
+        &self.values.pool
+    }
+
+    /// What the rows of A or of B are compared by: the ids of canons, and days.
+    pub fn sides(&self, role: FileRole) -> &IdTable
+        requires { IsOneOfBoth role }
+        ensures { result.now.rows ≡ sides_in self.now role }
+    {
+        match role {
+            FileRole::B => &self.values.b,
+            _ => &self.values.a,
+        }
+    }
+
+    /// How many dates of A or of B could not be read.
+    pub fn unreadable(&self, role: FileRole) -> u32
+        requires { IsOneOfBoth role }
+        ensures { result ≡ unreadable_in self.now role }
+    {
+        match role {
+            FileRole::B => self.files.b.unreadable,
+            _ => self.files.a.unreadable,
+        }
+    }
+}
+
+// The comparisons of the fields of a plan.
+fn kinds_of_plan(alloc: Global, plan: &Plan) -> Result<Vec<CompareKind>, NoMemory>
+    ensures kinds { IfOk result (λ kinds. kinds.items ≡ kinds_of plan.now) }
+    ensures few { IfOk result (λ kinds. length kinds.items ≤ 6) }
+{
+    let mut kinds = Vec::new(alloc);
+    for field in plan.fields.fields() {
+        kinds.push(field.compare)?;
+    }
+    Ok(kinds)
+}
+
+// The values of two standard files in a pool.
+fn pool_by(
+    alloc: Global,
+    kinds: &[CompareKind],
+    passes: &PassList,
+    a: &StdFile,
+    b: &StdFile,
+    pool_limit: u64,
+) -> Result<PooledValues, Fault>
+    requires few { length kinds.now ≤ 6 }
+    requires limit { pool_limit ≤ 2 ^ 30 }
+    requires rows_a { All (IsRowFor kinds.now) a.now }
+    requires rows_b { All (IsRowFor kinds.now) b.now }
+    requires parts { AreInRange (length kinds.now) passes.now }
+    ensures kind { IfErr result IsInputFault }
+    ensures answer { IsAnswer (with_fault (pooled_values pool_limit kinds.now passes.now a.now b.now)) result }
+    ensures parts_a { IfOk result (λ v. HoldsParts v.texts passes.now a.now) }
+    ensures parts_b { IfOk result (λ v. HoldsParts v.texts passes.now b.now) }
+{
+    match pool_values(alloc, kinds, passes, a, b, pool_limit) {
+        Ok(values) => Ok(values),
+        Err(PoolFault::Full { used, limit }) => Err(Fault::PoolFull { used, limit }),
+        Err(PoolFault::NoMemory) => Err(Fault::NoMemory),
+    }
+}
+
+// The values of the two standard files of a plan in a pool.
+fn pool_files(
+    alloc: Global,
+    plan: &Plan,
+    a: &StdFile,
+    b: &StdFile,
+    pool_limit: u64,
+) -> Result<PooledValues, Fault>
+    requires ranges { KeepsRanges plan.now }
+    requires limit { pool_limit ≤ 2 ^ 30 }
+    requires of_a { AreOfPlan plan.now a.now }
+    requires of_b { AreOfPlan plan.now b.now }
+    ensures kind { IfErr result IsInputFault }
+    ensures answer { IsAnswer (with_fault (pooled_values pool_limit (kinds_of plan.now) plan.now.passes a.now b.now)) result }
+    ensures parts_a { IfOk result (λ v. HoldsParts v.texts plan.now.passes a.now) }
+    ensures parts_b { IfOk result (λ v. HoldsParts v.texts plan.now.passes b.now) }
+{
+    let kinds = kinds_of_plan(alloc, plan)?;
+    pool_by(alloc, &kinds, &plan.passes, a, b, pool_limit)
+}
+
+// The records of a standard file.
+fn records(file: &StandardFile) -> &StdFile
+    ensures { result.now ≡ file.now.records }
+{
+    &file.file
+}
+
+/// Prepares the two files of a plan: the table of A, the table of B, their standard values, and their texts in a pool of at
+/// most `pool_limit` bytes.
+pub fn prepare(
+    alloc: Global,
+    plan: &Plan,
+    a: &[u8],
+    b: &[u8],
+    pool_limit: u64,
+) -> Result<Prepared, Fault>
+    requires ranges { KeepsRanges plan.now }
+    requires limit { pool_limit ≤ 2 ^ 30 }
+    ensures kind { IfErr result IsInputFault }
+    ensures answer { IsAnswer (prepared plan.now pool_limit a.now b.now) result }
+    ensures of_a { IfOk result (λ p. AreOfPlan plan.now p.files.a.records) }
+    ensures of_b { IfOk result (λ p. AreOfPlan plan.now p.files.b.records) }
+    ensures ready_a { IfOk result (λ p. AreAllReady plan.now.passes p.files.a.records) }
+    ensures ready_b { IfOk result (λ p. AreAllReady plan.now.passes p.files.b.records) }
+    ensures held_a { IfOk result (λ p. AreKeysHeld p.values.texts plan.now.passes p.files.a.records) }
+    ensures held_b { IfOk result (λ p. AreKeysHeld p.values.texts plan.now.passes p.files.b.records) }
+{
+    let files = match read_files(alloc, plan, a, b) {
+        Ok(files) => files,
+        Err(fault) => return Err(fault),
+    };
+    match pool_files(
+        alloc,
+        plan,
+        records(&files.a),
+        records(&files.b),
+        pool_limit,
+    ) {
+        Ok(values) => Ok(Prepared { files, values }),
+        Err(fault) => Err(fault),
+    }
+}
