@@ -1,5 +1,5 @@
 -- What a load of an input gives, by what its name holds.
-use Rattle.std.specs.Prelude.{false, ◌≡◌, ◌⊎◌, ◌++◌, ◌∷◌, [], ℕ, List, length, nat_le, if◌then◌else◌, Option, Some, None, Result, Ok, Err, IsOk, ⊤}
+use Rattle.std.specs.Prelude.{false, ◌≡◌, ◌⊎◌, ◌++◌, ◌∷◌, [], ℕ, List, length, nat_le, if◌then◌else◌, Option, Some, None, Result, Ok, Err, IsOk, IsOkAnd, ⊤}
 use Rattle.link_base.specs.Fault.{and_then}
 use Rattle.link_base.specs.declared.fault.Fault.{Fault}
 use Rattle.link_base.specs.declared.fault.Fault.TheVariants as fault
@@ -7,7 +7,8 @@ use Rattle.link_base.specs.declared.fault.FileRole.{FileRole}
 use Rattle.link_base.specs.declared.fault.FileRole.TheVariants as role
 use Rattle.link_outside.specs.Outside.{Held}
 use Rattle.link_outside.specs.declared.outside.StoreCall.{StoreCall}
-use Rattle.link_shell.specs.Words.{Columns}
+use Rattle.settings.specs.Settings.{settings}
+use Rattle.settings.specs.declared.plan.Plan.{Plan}
 use Rattle.link_shell.specs.declared.load.Inputs.{Inputs}
 
 -- the bytes of an input, where its name is held and they are within the limit
@@ -19,15 +20,15 @@ loaded r limit name (Some bytes) = if nat_le (length bytes) limit then Ok bytes 
 abbrev pub most_bytes : ℕ
 most_bytes = 67108864
 
-abbrev pub loaded_a : Columns → Held → Result (List ℕ) Fault
-loaded_a w held = loaded role.A most_bytes w.a (held w.a)
+abbrev pub loaded_a : List ℕ → Held → Result (List ℕ) Fault
+loaded_a name held = loaded role.A most_bytes name (held name)
 
-abbrev pub loaded_b : Columns → Held → Result (List ℕ) Fault
-loaded_b w held = loaded role.B most_bytes w.b (held w.b)
+abbrev pub loaded_b : List ℕ → Held → Result (List ℕ) Fault
+loaded_b name held = loaded role.B most_bytes name (held name)
 
--- both files, A first
-abbrev pub both_loaded : Columns → Held → Result Inputs Fault
-both_loaded w held = and_then (loaded_a w held) (λ a. and_then (loaded_b w held) (λ b. Ok (record { a = a; b = b })))
+-- both files by their names, A first
+abbrev pub both_loaded : List ℕ → List ℕ → Held → Result Inputs Fault
+both_loaded name_a name_b held = and_then (loaded_a name_a held) (λ a. and_then (loaded_b name_b held) (λ b. Ok (record { a = a; b = b })))
 
 -- the call that loads a name
 abbrev pub load_of : List ℕ → StoreCall
@@ -57,9 +58,18 @@ HasStoreCause old new place (Ok x) = new ≡ old
 HasStoreCause old new place (Err (fault.StoreFault name)) = (call : StoreCall) × (new ≡ old ++ call ∷ []) × (call.name ≡ name) × place call
 HasStoreCause old new place (Err f) = new ≡ old
 
--- the calls of `pairs A B COLUMN` that may fail: the load of A, and that of B once A is loaded
-abbrev pub IsColumnLoad : Columns → Held → StoreCall → Type 0
-IsColumnLoad w held call = (call ≡ load_of w.a) ⊎ ((call ≡ load_of w.b) × IsOk (loaded_a w held))
+-- the calls that load both files and may fail: the load of A, and that of B once A is loaded
+abbrev pub IsInputLoad : List ℕ → List ℕ → Held → StoreCall → Type 0
+IsInputLoad name_a name_b held call = (call ≡ load_of name_a) ⊎ ((call ≡ load_of name_b) × IsOk (loaded_a name_a held))
+
+-- the plan of a settings file that is loaded
+abbrev pub loaded_plan : List ℕ → Held → Result Plan Fault
+loaded_plan name held = and_then (loaded role.Settings most_bytes name (held name)) settings
+
+-- the calls of a command on a settings file that may fail: its load, and once it gives a plan the loads of both files
+abbrev pub IsPlanLoad : List ℕ → Held → StoreCall → Type 0
+IsPlanLoad name held call =
+    (call ≡ load_of name) ⊎ IsOkAnd (loaded_plan name held) (λ (plan : Plan). IsInputLoad plan.file_a plan.file_b held call)
 
 -- a fault that a step of loading or reading may have: neither of the words nor of `out`
 abbrev pub IsOutsideFault : Fault → Type 0

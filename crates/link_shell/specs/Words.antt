@@ -1,6 +1,7 @@
 -- The words of a command.
-use Rattle.std.specs.Prelude.{ℕ, List, drop, map, string_bytes, length, Bool, ◌==◌, ◌&&◌, nat_le, bytes_eq, codes, slice_index_or, [], if◌then◌else◌, Option, Some, None}
+use Rattle.std.specs.Prelude.{ℕ, List, drop, map, string_bytes, length, Bool, ◌==◌, ◌&&◌, nat_le, bytes_eq, not, codes, slice_index_or, [], if◌then◌else◌, Option, Some, None}
 use Rattle.std.specs.List.{list_all}
+use Rattle.settings.specs.Values.{is_output}
 use Rattle.link_shell.specs.declared.words.Command.{Command as CommandWords}
 use Rattle.link_shell.specs.declared.words.Command.TheVariants as words
 use Rattle.link_shell.specs.declared.words.ColumnRequest.{ColumnRequest}
@@ -14,6 +15,7 @@ pub record Columns : Type 0 where
 -- a command that is built
 pub data Command : Type 0 where
   pairs_of_columns : Columns → Command
+  pairs_of_settings : List ℕ → Command
   keys : List (List ℕ) → Command
 
 -- a file, a column: 1 to 255 bytes
@@ -32,6 +34,14 @@ are_column_words words =
 abbrev pub columns_in : List (List ℕ) → Columns
 columns_in words = record { a = word words 1; b = word words 2; column = word words 3 }
 
+-- a settings file: 1 to 255 bytes, and none of the files that a run writes
+abbrev pub is_settings_word : List ℕ → Bool
+is_settings_word word = is_short_word word && not (is_output word)
+
+-- pairs SETTINGS
+abbrev pub are_settings_words : List (List ℕ) → Bool
+are_settings_words words = (length words == 2) && bytes_eq (word words 0) (codes "pairs") && is_settings_word (word words 1)
+
 -- keys WORD.., 1 to 100 words of at most 255 bytes
 abbrev pub are_keys_words : List (List ℕ) → Bool
 are_keys_words words =
@@ -43,6 +53,7 @@ abbrev pub command_of : List (List ℕ) → Option Command
 command_of words =
     if are_column_words words
     then Some (pairs_of_columns (columns_in words))
+    else if are_settings_words words then Some (pairs_of_settings (word words 1))
     else if are_keys_words words then Some (keys (drop 1 words)) else None
 
 -- the words of a command, as they are held
@@ -51,4 +62,5 @@ columns_of_request r = record { a = r.a.now; b = r.b.now; column = r.column.now 
 
 abbrev pub command_in : CommandWords → Command
 command_in (words.PairsOfColumns request) = pairs_of_columns (columns_of_request request)
+command_in (words.PairsOfSettings name) = pairs_of_settings name.now
 command_in (words.Keys rest) = keys (map string_bytes rest.now)

@@ -4,20 +4,27 @@ ghost use Rattle.link_base.specs.declared.fault.Fault.{Fault as AnyFault};
 ghost use Rattle.link_outside.specs.Outside.{Rose};
 ghost use Rattle.link_shell.specs.Causes.{Ends, HasOutCause, IsComplete, IsExactUsage, IsNoStoreFault, IsNoUsage, IsQuiet, Stands, Takes};
 ghost use Rattle.link_shell.specs.ColumnPairs.{text_of_files};
+ghost use Rattle.link_core.specs.Pairs.{ids_of_pairs};
 ghost use Rattle.link_shell.specs.KeysText.{keys_text};
 ghost use Rattle.link_shell.specs.Linked.{Performed, Reported};
-ghost use Rattle.link_shell.specs.Loads.{HasStoreCause, IsColumnLoad};
-ghost use Rattle.link_shell.specs.Outcome.{due_text, IsPlace, outcome, outcome_of_columns, text_due};
+ghost use Rattle.link_shell.specs.Loads.{HasStoreCause, IsInputLoad, IsPlanLoad};
+ghost use Rattle.link_shell.specs.Outcome.{due_text, IsPlace, most_pooled, outcome, outcome_of_columns, outcome_of_plan, outcome_of_settings, text_due};
 ghost use Rattle.link_shell.specs.Words.{columns_of_request, command_of};
+ghost use Rattle.settings.specs.Ranges.{KeepsRanges, NamesFiles};
 ghost use Rattle.link_shell.specs.declared.command.Ended.{Ended as AnyEnded};
 
 use crate::columns::text_for_files;
 use crate::keys::lines_of;
-use crate::load::{Inputs, load_both};
+use crate::load::{Inputs, file_name, load_both, load_plan};
 use crate::words::{ColumnRequest, Command, read_command};
 use link_base::{Fault, NoMemory, status_of};
+use link_core::pair_ids;
 use link_outside::{Sink, SinkError, Store, write_fault};
+use settings::Plan;
 use std::alloc::Global;
+
+/// The most bytes of the texts of both files in a pool: 192 MiB.
+const MOST_POOLED: u64 = 201_326_592;
 
 /// How a command ended that was not refused.
 #[derive(Clone, Copy, Debug, PartialEq, Eq)]
@@ -91,13 +98,87 @@ fn perform_columns<S: Store, O: Sink>(
     ensures output { S.tells → O.tells → Takes (outcome_of_columns (columns_of_request request.now) (S.held store.old)) (O.taken out.old) (O.taken out.new) result }
     ensures quiet { O.tells → IsQuiet (O.taken out.old) (O.taken out.new) result }
     ensures stands { S.tells → Stands (outcome_of_columns (columns_of_request request.now) (S.held store.old)) (S.held store.old) (S.held store.new) result }
-    ensures store_cause { HasStoreCause (S.faults store.old) (S.faults store.new) (λ call. S.tells → IsColumnLoad (columns_of_request request.now) (S.held store.old) call) result }
+    ensures store_cause { HasStoreCause (S.faults store.old) (S.faults store.new) (λ call. S.tells → IsInputLoad request.now.a.now request.now.b.now (S.held store.old) call) result }
     ensures out_later { O.faults out.old ≤ O.faults out.new }
     ensures out_cause { HasOutCause (O.faults out.old) (O.faults out.new) result }
     ensures complete { S.tells → S.faults store.new ≡ S.faults store.old → ¬ (Rose (O.faults out.old) (O.faults out.new)) → IsComplete (outcome_of_columns (columns_of_request request.now) (S.held store.old)) result }
 {
-    match load_both(alloc, store, request) {
+    match load_both(alloc, store, request.a, request.b) {
         Ok(inputs) => hand_pairs(alloc, request.column, &inputs, out),
+        Err(fault) => Err(fault),
+    }
+}
+
+// Hands the ids of the pairs of two loaded files of a plan to `out`.
+fn hand_pair_ids<O: Sink>(
+    alloc: Global,
+    plan: &Plan,
+    inputs: &Inputs,
+    out: &mut O,
+) -> Result<Ended, Fault>
+    requires { KeepsRanges plan.now }
+    ensures answer { Ends (due_text (ids_of_pairs plan.now most_pooled inputs.now.a inputs.now.b)) result }
+    ensures no_store_fault { IsNoStoreFault result }
+    ensures no_usage { IsNoUsage result }
+    ensures output { O.tells → Takes (due_text (ids_of_pairs plan.now most_pooled inputs.now.a inputs.now.b)) (O.taken out.old) (O.taken out.new) result }
+    ensures later { O.faults out.old ≤ O.faults out.new }
+    ensures cause { HasOutCause (O.faults out.old) (O.faults out.new) result }
+{
+    match pair_ids(alloc, plan, inputs.a.bytes(), inputs.b.bytes(), MOST_POOLED) {
+        Ok(text) => hand(alloc, text.bytes(), out),
+        Err(fault) => Err(fault),
+    }
+}
+
+// Does `pairs SETTINGS` for a plan.
+fn perform_plan<S: Store, O: Sink>(
+    alloc: Global,
+    plan: &Plan,
+    store: &mut S,
+    out: &mut O,
+) -> Result<Ended, Fault>
+    requires ranges { KeepsRanges plan.now }
+    requires files { NamesFiles plan.now }
+    ensures answer { S.tells → Ends (outcome_of_plan plan.now (S.held store.old)) result }
+    ensures no_usage { IsNoUsage result }
+    ensures output { S.tells → O.tells → Takes (outcome_of_plan plan.now (S.held store.old)) (O.taken out.old) (O.taken out.new) result }
+    ensures quiet { O.tells → IsQuiet (O.taken out.old) (O.taken out.new) result }
+    ensures stands { S.tells → Stands (outcome_of_plan plan.now (S.held store.old)) (S.held store.old) (S.held store.new) result }
+    ensures store_cause { HasStoreCause (S.faults store.old) (S.faults store.new) (λ call. S.tells → IsInputLoad plan.now.file_a plan.now.file_b (S.held store.old) call) result }
+    ensures out_later { O.faults out.old ≤ O.faults out.new }
+    ensures out_cause { HasOutCause (O.faults out.old) (O.faults out.new) result }
+    ensures complete { S.tells → S.faults store.new ≡ S.faults store.old → ¬ (Rose (O.faults out.old) (O.faults out.new)) → IsComplete (outcome_of_plan plan.now (S.held store.old)) result }
+{
+    match load_both(
+        alloc,
+        store,
+        file_name(&plan.file_a),
+        file_name(&plan.file_b),
+    ) {
+        Ok(inputs) => hand_pair_ids(alloc, plan, &inputs, out),
+        Err(fault) => Err(fault),
+    }
+}
+
+// Does `pairs SETTINGS`.
+fn perform_settings<S: Store, O: Sink>(
+    alloc: Global,
+    name: &str,
+    store: &mut S,
+    out: &mut O,
+) -> Result<Ended, Fault>
+    ensures answer { S.tells → Ends (outcome_of_settings name.now (S.held store.old)) result }
+    ensures no_usage { IsNoUsage result }
+    ensures output { S.tells → O.tells → Takes (outcome_of_settings name.now (S.held store.old)) (O.taken out.old) (O.taken out.new) result }
+    ensures quiet { O.tells → IsQuiet (O.taken out.old) (O.taken out.new) result }
+    ensures stands { S.tells → Stands (outcome_of_settings name.now (S.held store.old)) (S.held store.old) (S.held store.new) result }
+    ensures store_cause { HasStoreCause (S.faults store.old) (S.faults store.new) (λ call. S.tells → IsPlanLoad name.now (S.held store.old) call) result }
+    ensures out_later { O.faults out.old ≤ O.faults out.new }
+    ensures out_cause { HasOutCause (O.faults out.old) (O.faults out.new) result }
+    ensures complete { S.tells → S.faults store.new ≡ S.faults store.old → ¬ (Rose (O.faults out.old) (O.faults out.new)) → IsComplete (outcome_of_settings name.now (S.held store.old)) result }
+{
+    match load_plan(alloc, store, name) {
+        Ok(plan) => perform_plan(alloc, &plan, store, out),
         Err(fault) => Err(fault),
     }
 }
@@ -126,6 +207,7 @@ pub fn perform<S: Store, O: Sink>(
 {
     match read_command(words) {
         Some(Command::PairsOfColumns(request)) => perform_columns(alloc, &request, store, out),
+        Some(Command::PairsOfSettings(name)) => perform_settings(alloc, name, store, out),
         Some(Command::Keys(rest)) => perform_keys(alloc, rest, out),
         None => Err(Fault::Usage),
     }

@@ -1,11 +1,11 @@
 // Loads of inputs.
-ghost use Rattle.std.specs.Prelude.{◌≡◌, ◌≤◌, ◌<◌, ◌+◌, ◌^◌, IfErr, IfOk, length};
-ghost use Rattle.link_shell.specs.Loads.{both_loaded, HasStoreCause, IsColumnLoad, IsLoadFault, IsOutsideFault, load_of, loaded, StepGives};
-ghost use Rattle.link_shell.specs.Words.{columns_of_request};
+ghost use Rattle.std.specs.Prelude.{◌≡◌, ◌≤◌, ◌<◌, ◌+◌, ◌^◌, IfErr, IfOk, IsUtf8, length};
+ghost use Rattle.link_shell.specs.Loads.{both_loaded, HasStoreCause, IsInputLoad, IsLoadFault, IsOutsideFault, load_of, loaded, loaded_plan, StepGives};
+ghost use Rattle.settings.specs.Ranges.{KeepsRanges, NamesFiles};
 
-use crate::words::ColumnRequest;
 use link_base::{Fault, FileRole, Text};
 use link_outside::{Load, Store, StoreError};
+use settings::{Plan, read_settings};
 use std::alloc::Global;
 
 /// The most bytes of a loaded file: 64 MiB.
@@ -47,18 +47,45 @@ pub(crate) struct Inputs {
 pub(crate) fn load_both<S: Store>(
     alloc: Global,
     store: &mut S,
-    request: &ColumnRequest<'_>,
+    name_a: &str,
+    name_b: &str,
 ) -> Result<Inputs, Fault>
     ensures kind { IfErr result IsOutsideFault }
-    ensures content { S.tells → StepGives (both_loaded (columns_of_request request.now) (S.held store.old)) result }
+    ensures content { S.tells → StepGives (both_loaded name_a.now name_b.now (S.held store.old)) result }
     ensures unchanged { S.held store.new ≡ S.held store.old }
-    ensures cause { HasStoreCause (S.faults store.old) (S.faults store.new) (λ call. S.tells → IsColumnLoad (columns_of_request request.now) (S.held store.old) call) result }
+    ensures cause { HasStoreCause (S.faults store.old) (S.faults store.new) (λ call. S.tells → IsInputLoad name_a.now name_b.now (S.held store.old) call) result }
 {
-    match load_whole(alloc, store, request.a, FileRole::A, MOST_BYTES) {
-        Ok(a) => match load_whole(alloc, store, request.b, FileRole::B, MOST_BYTES) {
+    match load_whole(alloc, store, name_a, FileRole::A, MOST_BYTES) {
+        Ok(a) => match load_whole(alloc, store, name_b, FileRole::B, MOST_BYTES) {
             Ok(b) => Ok(Inputs { a, b }),
             Err(fault) => Err(fault),
         },
         Err(fault) => Err(fault),
+    }
+}
+
+// Loads a settings file and reads its plan.
+pub(crate) fn load_plan<S: Store>(alloc: Global, store: &mut S, name: &str) -> Result<Plan, Fault>
+    ensures kind { IfErr result IsOutsideFault }
+    ensures content { S.tells → StepGives (loaded_plan name.now (S.held store.old)) result }
+    ensures unchanged { S.held store.new ≡ S.held store.old }
+    ensures cause { HasStoreCause (S.faults store.old) (S.faults store.new) (λ call. call ≡ load_of name.now) result }
+    ensures ranges { IfOk result KeepsRanges }
+    ensures files { IfOk result NamesFiles }
+{
+    match load_whole(alloc, store, name, FileRole::Settings, MOST_BYTES) {
+        Ok(bytes) => read_settings(alloc, bytes.bytes()),
+        Err(fault) => Err(fault),
+    }
+}
+
+// The name of a file, which is UTF-8.
+pub(crate) fn file_name(name: &Text) -> &str
+    requires { IsUtf8 name.now }
+    ensures { result.now ≡ name.now }
+{
+    match str::from_utf8(name.bytes()) {
+        Ok(name) => name,
+        Err(_) => unreachable!(),
     }
 }

@@ -138,6 +138,98 @@ fn pairs_are_printed_and_refusals_named(rt: HostRuntime) -> Result<(), Fail> {
     Ok(())
 }
 
+const SETTINGS: &str =
+    "file_a = \"a.csv\"\nfile_b = \"b.csv\"\ndelimiter_b = \"semicolon\"\nsample = \"sample.csv\"\njournal = \"journal.csv\"\nmu_ppm = 40\nlambda_ppm = 2000\naward = 100\n\n[[field]]\nname = \"surname\"\ncolumn_b = \"family\"\nkind = \"name\"\ncompare = \"soundex\"\n\n[[field]]\nname = \"given\"\ncolumn_b = \"first\"\nkind = \"name\"\ncompare = \"exact\"\n\n[[field]]\nname = \"birth\"\ncolumn_b = \"dob\"\nkind = \"date\"\nform_a = \"dmy\"\nform_b = \"ymd\"\ncompare = \"exact\"\n\n[[pass]]\nparts = [{ field = \"surname\", key = \"soundex\" }]\n\n[[pass]]\nparts = [{ field = \"birth\", key = \"year\" }]\n";
+
+const PEOPLE_A: &str =
+    "id,surname,given,birth\nA1,M\u{fc}ller,Anna,03/02/1980\nA2,O'Brien,John,17/11/1975\nA3,Smith,Maria,01/05/1990\nA4,Schmidt,Karl,31/02/1980\nA5,Lee,Wei,12/12/1968\nA6,,Paul,05/06/1955\n";
+
+const PEOPLE_B: &str =
+    "id;family;first;dob\nB1;MUELLER;ANNA;1980-02-03\nB2;OBrien;Jon;1975-11-17\nB3;Smith;Mary;1990-05-01\nB4;Smyth;Maria;1990-05-01\nB5;Dr. Schmidt;Karl;1980-02-28\nB6;Li;Wei;1968-12-12\nB7;-;Paul;1955-06-05\n";
+
+const EIGHT_IDS: &str =
+    "id,surname,given,birth\n1,,,\n2,,,\n7,,,\n3,,,\n4,,,\n5,,,\n6,,,\n8,,,\n7,,,\n";
+
+const PAIRS: &str =
+    "id_a,id_b\nA1,B1\nA1,B5\nA2,B2\nA3,B3\nA3,B4\nA3,B5\nA4,B3\nA4,B4\nA4,B5\nA5,B6\nA6,B7\n";
+
+#[test]
+fn pairs_of_a_settings_file(rt: HostRuntime) -> Result<(), Fail> {
+    let alloc = rt.alloc();
+    let rows: [(&str, &str, &str, &str, u8, &str, &str); 7] = [
+        ("s.toml", "", SETTINGS, PEOPLE_A, 0, PAIRS, ""),
+        (
+            "s.toml",
+            "strict = true\n",
+            SETTINGS,
+            PEOPLE_A,
+            4,
+            "",
+            "linkage: a: row 4: birth is no date\n",
+        ),
+        (
+            "s.toml",
+            "",
+            SETTINGS,
+            EIGHT_IDS,
+            4,
+            "",
+            "linkage: a: row 9: id of row 3\n",
+        ),
+        (
+            "s.toml",
+            "",
+            SETTINGS,
+            "id,surname,given\n",
+            4,
+            "",
+            "linkage: a: no column birth\n",
+        ),
+        (
+            "s.toml",
+            "",
+            SETTINGS,
+            "id,surname,given,birth\n",
+            0,
+            "id_a,id_b\n",
+            "",
+        ),
+        (
+            "s.toml",
+            "mu_ppm = \"x\"\n",
+            "",
+            PEOPLE_A,
+            3,
+            "",
+            "linkage: settings: missing key file_a\n",
+        ),
+        (
+            "report.txt",
+            "",
+            SETTINGS,
+            PEOPLE_A,
+            2,
+            "",
+            "linkage: usage\n",
+        ),
+    ];
+    for (name, front, settings, a, status, out, err) in rows {
+        let mut store = SureStore::new(alloc)?;
+        let text = repeated(alloc, front.as_bytes(), settings.as_bytes(), 1, b"")?;
+        store.hold(alloc, "s.toml", &text)?;
+        store.hold(alloc, "a.csv", a.as_bytes())?;
+        store.hold(alloc, "b.csv", PEOPLE_B.as_bytes())?;
+        let mut printed = SureSink::new(alloc)?;
+        let mut said = SureSink::new(alloc)?;
+        let words = words_of(alloc, &["pairs", name])?;
+        let got = linkage(alloc, &words, &mut store, &mut printed, &mut said);
+        assert_eq!(rt; got, status);
+        assert_eq!(rt; printed.bytes(), out.as_bytes());
+        assert_eq!(rt; said.bytes(), err.as_bytes());
+    }
+    Ok(())
+}
+
 fn id_layout(alloc: Global) -> Result<Layout, NoMemory> {
     let mut columns = Vec::new(alloc);
     columns.push(Text::new(alloc, b"surname")?)?;

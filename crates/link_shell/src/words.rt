@@ -1,7 +1,9 @@
 // The words of a command.
 ghost use Rattle.std.specs.Prelude.{◌≡◌, ◌<◌, [], drop, IfSome, is_some, length, map, nat_le, option_map, slice_index_or, string_bytes};
 ghost use Rattle.std.specs.List.{list_all};
-ghost use Rattle.link_shell.specs.Words.{are_column_words, are_keys_words, columns_in, columns_of_request, command_in, command_of, is_short_word};
+ghost use Rattle.link_shell.specs.Words.{are_column_words, are_keys_words, are_settings_words, columns_in, columns_of_request, command_in, command_of, is_short_word};
+
+use settings::is_output;
 
 /// The files and the column of `pairs A B COLUMN`.
 #[derive(Clone, Copy, Debug)]
@@ -15,6 +17,8 @@ pub(crate) struct ColumnRequest<'w> {
 #[derive(Clone, Copy, Debug)]
 pub(crate) enum Command<'w> {
     PairsOfColumns(ColumnRequest<'w>),
+    // The name of the settings file.
+    PairsOfSettings(&'w str),
     // The words that are standardised.
     Keys(&'w [String]),
 }
@@ -52,6 +56,22 @@ fn read_columns(words: &[String]) -> Option<ColumnRequest<'_>>
     }
 }
 
+// pairs SETTINGS
+fn read_settings_name(words: &[String]) -> Option<&str>
+    ensures some { is_some result ≡ are_settings_words (map string_bytes words.now) }
+    ensures name { IfSome result (λ name. name.now ≡ slice_index_or (map string_bytes words.now) 1 []) }
+{
+    if words.len() != 2 || word_at(words, 0) != "pairs" {
+        return None;
+    }
+    let name = word_at(words, 1);
+    if is_short(name) && !is_output(name) {
+        Some(name)
+    } else {
+        None
+    }
+}
+
 // Whether each word has at most 255 bytes.
 fn are_within(words: &[String]) -> bool
     ensures { result ≡ list_all (λ w. nat_le (length w) 255) (map string_bytes words.now) }
@@ -83,6 +103,10 @@ pub(crate) fn read_command(words: &[String]) -> Option<Command<'_>>
 {
     match read_columns(words) {
         Some(request) => return Some(Command::PairsOfColumns(request)),
+        None => {}
+    }
+    match read_settings_name(words) {
+        Some(name) => return Some(Command::PairsOfSettings(name)),
         None => {}
     }
     match read_keys(words) {
