@@ -2,10 +2,11 @@
 ghost use Rattle.std.specs.Prelude.{◌≡◌, ◌∷◌, [], IfOk};
 ghost use Rattle.link_base.specs.Standard.{IsValid};
 
-use crate::{PassKey, build_index, pass_key};
+use crate::{PassKey, build_index, build_index_in, id_key, pass_key};
 use link_base::{KeyKind, NoMemory, Part, Pass, StdFile, StdRow, Text, Value};
 use std::alloc::Global;
 use value_forms::day_of;
+use value_pool::Pool;
 
 fn word(alloc: Global, text: &str) -> Result<Value, NoMemory>
     ensures { IfOk result (λ value. IsValid value) }
@@ -101,4 +102,22 @@ fn rows_without_records(alloc: Global) -> Result<usize, NoMemory> {
 #[test]
 fn no_rows_without_records(rt: HostRuntime) {
     assert!(rt; rows_without_records(rt.alloc()) == Ok(0));
+}
+
+// The rows of a key without parts, by ids, in a file without records.
+fn rows_by_ids_without_records(alloc: Global) -> Result<usize, NoMemory> {
+    let file = StdFile::new(alloc)?;
+    let pool = Pool::new(alloc, 10)?;
+    let pass = Pass::new(Vec::new(alloc));
+    let row = StdRow::new(Vec::new(alloc));
+    let index = build_index_in(alloc, &file, &pass, &pool)?;
+    match id_key(alloc, &row, &pass, &pool)? {
+        Some(key) => Ok(index.rows_of(&key).len()),
+        None => Ok(1),
+    }
+}
+
+#[test]
+fn no_rows_by_ids_without_records(rt: HostRuntime) {
+    assert!(rt; rows_by_ids_without_records(rt.alloc()) == Ok(0));
 }

@@ -1,5 +1,5 @@
 -- Files of two fields, and passes of one part.
-use Rattle.std.proofs.Common.{◌≡◌, ◌<◌, ◌∷◌, ◌++◌, List, [], ℕ, zero, suc, Bool, true, false, ◌||◌, Option, Some, None, Result, Ok, Err, OnErr, refl, sym, length, get_or, arith, bytes_eq, nat_lt, inl, inr}
+use Rattle.std.proofs.Common.{◌≡◌, ◌<◌, ◌∷◌, ◌++◌, List, [], ℕ, zero, suc, Bool, true, false, ◌||◌, Some, None, Result, Ok, Err, OnErr, refl, sym, length, get_or, arith, bytes_eq, nat_lt, inl, inr}
 use Rattle.std.specs.Prelude.{All, OnOk, ◌≢◌}
 use Rattle.std.specs.List.{list_any, position_or_len}
 use Rattle.std.proofs.lemmas.Bool.{cases_Bool}
