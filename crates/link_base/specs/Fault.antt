@@ -1,5 +1,6 @@
--- The statuses and lines of the faults, and answers that may be refused.
-use Rattle.std.specs.Prelude.{◌≡◌, Option, Some, None, Result, Ok, Err, ⊤, ℕ, List, [], ◌∷◌, ◌++◌, codes, decimal}
+-- The statuses and lines of the faults (`status_of`), and answers that may be refused by one (every clause `answer`).
+use Rattle.std.specs.Prelude.{◌≡◌, Bool, true, false, Option, Some, None, Result, Ok, Err, ⊤, ℕ, List, [], ◌∷◌, ◌++◌, codes, decimal}
+use Rattle.link_base.specs.Answers.{GivesBut, RefusesBut}
 use Rattle.link_base.specs.declared.fault.Fault.{Fault}
 use Rattle.link_base.specs.declared.fault.Fault.TheVariants as fault
 use Rattle.link_base.specs.declared.fault.FileRole.{FileRole}
@@ -13,6 +14,27 @@ fault_status (fault.UnknownKey key) = 3
 fault_status (fault.MissingKey key) = 3
 fault_status (fault.WrongType key) = 3
 fault_status (fault.OutOfRange key) = 3
+fault_status (fault.NoHeader r) = 4
+fault_status (fault.RepeatedColumn r column) = 4
+fault_status (fault.NoColumn r column) = 4
+fault_status (fault.Ragged r row) = 4
+fault_status (fault.NotUtf8 r row column) = 4
+fault_status (fault.EmptyId r row) = 4
+fault_status (fault.RepeatedId r row first) = 4
+fault_status (fault.BadValue r row field) = 4
+fault_status (fault.BadStatus row) = 4
+fault_status (fault.UnknownId r row column) = 4
+fault_status (fault.RepeatedPair row first) = 4
+fault_status fault.NoMatched = 4
+fault_status fault.NoUnmatched = 4
+fault_status (fault.BadNumber row) = 4
+fault_status (fault.BadDate row) = 4
+fault_status (fault.DateBack r row) = 4
+fault_status (fault.EmptyReviewer row) = 4
+fault_status (fault.BadVerdict r row) = 4
+fault_status (fault.BadStep row) = 4
+fault_status (fault.BadCapacity row) = 4
+fault_status (fault.NotPossible row) = 4
 fault_status (fault.TooManyColumns r count limit) = 5
 fault_status (fault.TooManyRows r limit) = 5
 fault_status (fault.FieldTooLong r row column) = 5
@@ -23,7 +45,6 @@ fault_status (fault.FileTooLong r limit) = 5
 fault_status (fault.StoreFault name) = 6
 fault_status fault.SinkFault = 7
 fault_status fault.NoMemory = 8
-fault_status f = 4
 
 -- a file, as the line of a fault names it
 abbrev pub role_name : FileRole → List ℕ
@@ -87,25 +108,23 @@ fault_text fault.NoMemory = codes "want of memory"
 abbrev pub fault_line : Fault → List ℕ
 fault_line f = codes "linkage: " ++ fault_text f ++ codes "\n"
 
--- a step that goes on with what the step before gave, and ends at its fault
-abbrev pub and_then : {A B : Type 0} → Result A Fault → (A → Result B Fault) → Result B Fault
-and_then (Ok x) next = next x
-and_then (Err f) next = Err f
-
 -- the first of two faults, where there is one
 abbrev pub or_else : Option Fault → Option Fault → Option Fault
 or_else None next = next
 or_else (Some f) next = Some f
 
+-- want of memory is the one free answer: no clause ties it to a cause
+abbrev pub is_want : Fault → Bool
+is_want fault.NoMemory = true
+is_want f = false
+
 -- a refusal is the one that is defined, but for want of memory
 abbrev pub Refuses : {T : Type 0} → Result T Fault → Fault → Type 0
-Refuses expected fault.NoMemory = ⊤
-Refuses expected f = expected ≡ Err f
+Refuses expected f = RefusesBut is_want expected f
 
 -- an answer, seen by `view`, is the one that is defined, but for want of memory
 abbrev pub Gives : {X T : Type 0} → (X → T) → Result T Fault → Result X Fault → Type 0
-Gives view expected (Ok x) = expected ≡ Ok (view x)
-Gives view expected (Err f) = Refuses expected f
+Gives view expected result = GivesBut is_want view expected result
 
 -- an answer is the one that is defined, but for want of memory
 abbrev pub IsAnswer : {T : Type 0} → Result T Fault → Result T Fault → Type 0

@@ -1,5 +1,6 @@
--- Standard values, records and files.
-use Rattle.std.specs.Prelude.{◌≡◌, ℕ, List, [], ◌∷◌, map, position, bytes_eq, Option, ⊤, ℤ, pos, negsuc, ◌≤ℤ◌}
+-- Standard values, records and files: what `StdFile` and `StdRow` are seen as (`find`, clauses `position` and `fresh`;
+-- `distinct_ids`).
+use Rattle.std.specs.Prelude.{◌≡◌, ◌≢◌, ℕ, List, [], ◌∷◌, All, AllPairs, map, position, bytes_eq, Option, ⊤, ℤ, pos, negsuc, ◌≤ℤ◌}
 use Rattle.std.specs.Str.{IsUtf8}
 use Rattle.std.specs.declared.alloc.Global.{Global}
 use Rattle.std.specs.declared.vec.Vec.{Vec}
@@ -25,6 +26,14 @@ no_record = record { id = []; row = [] }
 -- the position of the record with an id
 abbrev pub position_of_id : List ℕ → List Record → Option ℕ
 position_of_id id records = position (λ (r : Record). bytes_eq id r.id) records
+
+-- no id stands twice
+abbrev pub HaveDistinctIds : List Record → Type 0
+HaveDistinctIds records = AllPairs (λ (x y : Record). x.id ≢ y.id) records
+
+-- no record has this id
+abbrev pub IsFreshId : List ℕ → List Record → Type 0
+IsFreshId id records = All (λ (r : Record). r.id ≢ id) records
 
 -- the rows of values
 abbrev pub rows_of : List Record → List (List Value)

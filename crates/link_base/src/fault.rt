@@ -206,6 +206,27 @@ pub fn status_of(fault: &Fault) -> u8
         | Fault::MissingKey { .. }
         | Fault::WrongType { .. }
         | Fault::OutOfRange { .. } => 3,
+        Fault::NoHeader { .. }
+        | Fault::RepeatedColumn { .. }
+        | Fault::NoColumn { .. }
+        | Fault::Ragged { .. }
+        | Fault::NotUtf8 { .. }
+        | Fault::EmptyId { .. }
+        | Fault::RepeatedId { .. }
+        | Fault::BadValue { .. }
+        | Fault::BadStatus { .. }
+        | Fault::UnknownId { .. }
+        | Fault::RepeatedPair { .. }
+        | Fault::NoMatched
+        | Fault::NoUnmatched
+        | Fault::BadNumber { .. }
+        | Fault::BadDate { .. }
+        | Fault::DateBack { .. }
+        | Fault::EmptyReviewer { .. }
+        | Fault::BadVerdict { .. }
+        | Fault::BadStep { .. }
+        | Fault::BadCapacity { .. }
+        | Fault::NotPossible { .. } => 4,
         Fault::TooManyColumns { .. }
         | Fault::TooManyRows { .. }
         | Fault::FieldTooLong { .. }
@@ -216,6 +237,5 @@ pub fn status_of(fault: &Fault) -> u8
         Fault::StoreFault { .. } => 6,
         Fault::SinkFault => 7,
         Fault::NoMemory => 8,
-        _ => 4,
     }
 }

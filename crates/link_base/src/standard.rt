@@ -1,6 +1,6 @@
 // Standard values, rows and files.
-ghost use Rattle.std.specs.Prelude.{◌≡◌, ◌≢◌, ◌+◌, ◌^◌, ◌<◌, ◌++◌, ◌∷◌, [], All, IfOk, IfSome, OnErr, OnOk, length, slice_index_or};
-ghost use Rattle.link_base.specs.Standard.{absent, no_record, position_of_id, Record, rows_of};
+ghost use Rattle.std.specs.Prelude.{◌≡◌, ◌+◌, ◌^◌, ◌<◌, ◌++◌, ◌∷◌, [], IfNone, IfOk, IfSome, OnErr, OnOk, length, slice_index_or};
+ghost use Rattle.link_base.specs.Standard.{absent, HaveDistinctIds, IsFreshId, no_record, position_of_id, Record, rows_of};
 
 use crate::sides::Sides;
 use crate::text::{NoMemory, Text};
@@ -65,15 +65,14 @@ pub struct StdFile {
 }
 
 impl Model for StdFile {
-    ghost use Rattle.std.specs.Prelude.{◌≢◌, ◌^◌, ◌<◌, AllPairs, List, length};
-    ghost use Rattle.link_base.specs.Standard.{Record, records_of};
+    ghost use Rattle.std.specs.Prelude.{◌^◌, ◌<◌, List, length};
+    ghost use Rattle.link_base.specs.Standard.{HaveDistinctIds, Record, records_of};
 
     ghost Value = { List Record };
 
     ghost view = { λ f. records_of f.rows.entries };
 
-    ghost invariant = { λ f. AllPairs (λ (x y : Record). x.id ≢ y.id) (records_of f.rows.entries)
-        × (length f.rows.entries < 2 ^ 32) };
+    ghost invariant = { λ f. HaveDistinctIds (records_of f.rows.entries) × (length f.rows.entries < 2 ^ 32) };
 }
 
 impl StdFile {
@@ -89,7 +88,7 @@ impl StdFile {
     /// Appends a record, whose id no earlier one has.
     pub fn push(&mut self, id: Text, row: StdRow) -> Result<(), NoMemory>
         requires room { length self.old + 1 < 2 ^ 32 }
-        requires fresh { All (λ (r : Record). r.id ≢ id) self.old }
+        requires fresh { IsFreshId id self.old }
         ensures ok { OnOk result (self.new ≡ self.old ++ record { id = id; row = row } ∷ []) }
         ensures err { OnErr result (self.new ≡ self.old) }
     {
@@ -130,12 +129,20 @@ impl StdFile {
     pub fn find(&self, id: &[u8]) -> Option<u32>
         ensures position { result ≡ position_of_id id.now self.now }
         ensures within { IfSome result (λ at. at < length self.now) }
+        ensures fresh { IfNone result (IsFreshId id.now self.now) }
     {
         match self.rows.get_index_of(id) {
             Some(at) => Some(at as u32),
             None => None,
         }
     }
+}
+
+/// Law: the ids of a file's records are distinct.
+pub fn distinct_ids(file: &StdFile)
+    ensures { HaveDistinctIds file.now }
+{
+    let _ = &file.rows;
 }
 
 impl Sides<Value> for StdFile {

@@ -1,6 +1,7 @@
 -- Steps of what is prepared.
 use Rattle.std.proofs.Common.{◌≡◌, ℕ, List, Result, Ok, ap, sym, subst}
-use Rattle.link_base.specs.Fault.{and_then, Refuses}
+use Rattle.link_base.specs.Answers.{and_then}
+use Rattle.link_base.specs.Fault.{Refuses}
 use Rattle.link_base.specs.Standard.{Record}
 use Rattle.link_base.specs.declared.fault.Fault.{Fault}
 use Rattle.link_base.specs.declared.fault.Fault.TheVariants as fault

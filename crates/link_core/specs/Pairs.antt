@@ -1,6 +1,6 @@
 -- The compared pairs of a plan.
 use Rattle.std.specs.Prelude.{ℕ, List, length, nat_le, if◌then◌else◌, Result, Ok, Err}
-use Rattle.link_base.specs.Fault.{and_then}
+use Rattle.link_base.specs.Answers.{and_then}
 use Rattle.link_base.specs.declared.fault.Fault.{Fault}
 use Rattle.link_base.specs.declared.fault.Fault.TheVariants as fault
 use Rattle.link_base.specs.declared.rule.PairAt.{PairAt}

@@ -1,6 +1,6 @@
 -- What is prepared of the two files of a plan: their standard values, and these in a pool.
 use Rattle.std.specs.Prelude.{ℕ, List, map, Result, Ok, Err, ⊤}
-use Rattle.link_base.specs.Fault.{and_then}
+use Rattle.link_base.specs.Answers.{and_then}
 use Rattle.link_base.specs.declared.fault.Fault.{Fault}
 use Rattle.link_base.specs.declared.fault.Fault.TheVariants as fault
 use Rattle.link_base.specs.declared.fault.FileRole.{FileRole}

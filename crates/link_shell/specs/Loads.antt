@@ -1,6 +1,6 @@
 -- What a load of an input gives, by what its name holds.
 use Rattle.std.specs.Prelude.{false, ◌≡◌, ◌⊎◌, ◌++◌, ◌∷◌, [], ℕ, List, length, nat_le, if◌then◌else◌, Option, Some, None, Result, Ok, Err, IsOk, IsOkAnd, ⊤}
-use Rattle.link_base.specs.Fault.{and_then}
+use Rattle.link_base.specs.Answers.{and_then}
 use Rattle.link_base.specs.declared.fault.Fault.{Fault}
 use Rattle.link_base.specs.declared.fault.Fault.TheVariants as fault
 use Rattle.link_base.specs.declared.fault.FileRole.{FileRole}

@@ -1,6 +1,6 @@
 -- What a command comes to, by its words and by what names hold at its start: what is due, or its first refusal.
 use Rattle.std.specs.Prelude.{◌∷◌, [], ℕ, List, Option, Some, None, Result, Ok, Err}
-use Rattle.link_base.specs.Fault.{and_then}
+use Rattle.link_base.specs.Answers.{and_then}
 use Rattle.link_base.specs.declared.fault.Fault.{Fault}
 use Rattle.link_base.specs.declared.fault.Fault.TheVariants as fault
 use Rattle.link_outside.specs.Outside.{Held, held_with}

@@ -2,7 +2,8 @@
 use Rattle.std.proofs.Common.{◌≡◌, ◌<◌, ◌+◌, ◌∷◌, ◌++◌, ◌∙◌, ℕ, suc, Bool, not, cond, List, [], length, map, drop, get_or, Option, Some, Result, Ok, refl, sym, ap, arith, drop-cons, subst}
 use Rattle.std.specs.Prelude.{codes}
 use Rattle.std.specs.List.{position, position_or_len}
-use Rattle.link_base.specs.Fault.{Refuses, and_then}
+use Rattle.link_base.specs.Answers.{and_then}
+use Rattle.link_base.specs.Fault.{Refuses}
 use Rattle.link_base.specs.Standard.{Record}
 use Rattle.link_base.specs.declared.fault.Fault.{Fault}
 use Rattle.link_base.specs.declared.fault.Fault.TheVariants as fault

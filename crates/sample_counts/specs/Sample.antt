@@ -1,7 +1,7 @@
 -- The sample of reviewed pairs, or its first fault.
 use Rattle.std.specs.Prelude.{◌≡◌, ◌+◌, ◌==◌, ◌&&◌, ◌<◌, ◌≤◌, All, ℕ, Bool, true, false, not, List, [], ◌∷◌, ◌++◌, length, position, Option, Some, None, Result, Ok, Err, codes, bytes_eq, slice_index_or, if◌then◌else◌}
 use Rattle.std.specs.List.{list_any}
-use Rattle.link_base.specs.Fault.{and_then}
+use Rattle.link_base.specs.Answers.{and_then}
 use Rattle.link_base.specs.Standard.{Record, position_of_id}
 use Rattle.link_base.specs.declared.fault.Fault.{Fault}
 use Rattle.link_base.specs.declared.fault.Fault.TheVariants as fault

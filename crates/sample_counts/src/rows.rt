@@ -1,7 +1,8 @@
 // The counts of a sample.
 ghost use Rattle.std.specs.Prelude.{◌≡◌, ◌≤◌, ◌<◌, All, false, IfErr, IfOk, Ok, length, map};
 ghost use Rattle.csv_records.specs.Left.{records_in};
-ghost use Rattle.link_base.specs.Fault.{IsAnswer, IsInputFault, and_then};
+ghost use Rattle.link_base.specs.Answers.{and_then};
+ghost use Rattle.link_base.specs.Fault.{IsAnswer, IsInputFault};
 ghost use Rattle.link_base.specs.Standard.{rows_of};
 ghost use Rattle.link_base.specs.declared.standard.Value.{Value};
 ghost use Rattle.comparators.specs.Fields.{kind_outcome};

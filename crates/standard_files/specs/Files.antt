@@ -1,6 +1,7 @@
 -- The standard files of a plan: the tables of A and of B with each text as its standard value.
 use Rattle.std.specs.Prelude.{◌≡◌, ◌≢◌, ◌+◌, ◌≤◌, ℕ, List, [], ◌∷◌, length, map, All, AllPairs, Option, Some, None, Result, Ok, if◌then◌else◌, slice_index_or}
-use Rattle.link_base.specs.Fault.{and_then, or_else}
+use Rattle.link_base.specs.Answers.{and_then}
+use Rattle.link_base.specs.Fault.{or_else}
 use Rattle.link_base.specs.Standard.{Record}
 use Rattle.link_base.specs.declared.fault.Fault.{Fault}
 use Rattle.link_base.specs.declared.fault.Fault.TheVariants as fault
