@@ -1,5 +1,6 @@
 pub mod Outside
 pub mod Holdings
+pub mod Planned
 pub mod Fakes
 pub mod Pieces
 pub mod Place

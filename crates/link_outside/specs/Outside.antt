@@ -1,4 +1,4 @@
--- What the calls of a store and a sink do.
+-- What the calls of a store and a sink do: the clauses of the traits `Store` (`load`, `put`) and `Sink` (`put_all`).
 use Rattle.std.specs.Prelude.{◌≡◌, ◌⊎◌, ◌+◌, ◌-◌, ◌^◌, ◌<◌, ◌≤◌, ℕ, List, [], ◌∷◌, ◌++◌, take, length, min, bytes_eq, if◌then◌else◌, Option, Some, None, Result, Ok, Err, ⊤, IsSomeAnd}
 use Rattle.link_outside.specs.declared.outside.Load.{Load}
 use Rattle.link_outside.specs.declared.outside.Load.TheVariants.{Whole, Over}
@@ -59,11 +59,11 @@ Appends bytes old new (Err e) = TakesFront bytes old new
 abbrev pub Rose : ℕ → ℕ → Type 0
 Rose before now = min (before + 1) (2 ^ 64 - 1) ≤ now
 
--- a sink fails only where its count rose
+-- a sink's count rises where it fails, and stays where it does not
 abbrev pub FailsByRise : {T : Type 0} → ℕ → ℕ → Result T SinkError → Type 0
-FailsByRise before now (Ok x) = ⊤
+FailsByRise before now (Ok x) = now ≡ before
 FailsByRise before now (Err sink.Failed) = Rose before now
-FailsByRise before now (Err sink.NoMemory) = ⊤
+FailsByRise before now (Err sink.NoMemory) = now ≡ before
 
 pub record HasCause {T : Type 0} (before now : ℕ) (result : Result T SinkError) : Type 0 where
   pub later : before ≤ now

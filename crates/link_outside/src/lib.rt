@@ -9,9 +9,11 @@ mod memory_store;
 mod outside;
 mod piece;
 mod sure;
+#[cfg(test)]
+mod tests;
 
 pub use line::write_fault;
 pub use memory_sink::MemorySink;
 pub use memory_store::{Failure, MemoryStore};
-pub use outside::{Load, Sink, SinkError, Store, StoreCall, StoreError};
+pub use outside::{Load, Sink, SinkError, Store, StoreCall, StoreError, entry_of_call};
 pub use sure::{SureSink, SureStore};

@@ -1,12 +1,14 @@
 // A store in memory that fails at the calls that it is given.
-ghost use Rattle.std.specs.Prelude.{◌≡◌, [], ℕ, List, None, IfOk, option_map, ⊤};
-ghost use Rattle.link_outside.specs.Fakes.{memory_faults, memory_held};
-ghost use Rattle.link_outside.specs.Outside.{held_with, IsLogged, PutsAs};
+ghost use Rattle.std.specs.Prelude.{◌≡◌, ◌+◌, ◌^◌, ◌<◌, [], false, true, IfOk, OnErr, OnOk, option_map, ⊤};
+ghost use Rattle.link_outside.specs.Fakes.{memory_held, StoreInMemory};
+ghost use Rattle.link_outside.specs.Outside.{held_with, IsWithin, Loads, LogsFailure, PutsAs};
+ghost use Rattle.link_outside.specs.Planned.{failure_at, LoadsByPlan, next_call, PutsByPlan};
 
 use crate::holdings::{Holdings, cut_to};
-use crate::outside::{Load, Store, StoreCall, StoreError};
-use link_base::{NoMemory, Text};
+use crate::outside::{Load, Store, StoreCall, StoreError, entry_of_call};
+use link_base::NoMemory;
 use std::alloc::Global;
+use std::marker::Model;
 
 /// A planned failure: the number of a call, from 1, loads and puts counted together. A failing put
 /// that is applied has written its bytes.
@@ -19,43 +21,45 @@ pub struct Failure {
 /// A store in memory with planned failures. A load of a name that is not held fails too.
 #[derive(Debug, Drop)]
 pub struct MemoryStore {
-    pub(crate) holdings: Holdings,
-    fails: Vec<Failure>,
+    holdings: Holdings,
+    plan: Vec<Failure>,
     calls: u32,
-    pub(crate) faults: Vec<StoreCall>,
+    faults: Vec<StoreCall>,
 }
 
-// Puts a call into the list of those that failed.
-fn log_failure(alloc: Global, faults: &mut Vec<StoreCall>, put: bool, name: &str) -> StoreError
-    ensures { IsLogged faults.old.items faults.new.items (record { put = put; name = name.now }) result }
-{
-    let Ok(name) = Text::new(alloc, name.as_bytes()) else {
-        return StoreError::NoMemory;
-    };
-    match faults.push(StoreCall { put, name }) {
-        Ok(()) => StoreError::Failed,
-        Err(_) => StoreError::NoMemory,
-    }
+impl Model for MemoryStore {
+    ghost use Rattle.link_outside.specs.Fakes.{StoreInMemory};
+
+    ghost Value = { StoreInMemory };
+
+    ghost view = { λ s. record {
+      entries = s.holdings.entries.items;
+      plan = s.plan.items;
+      calls = s.calls;
+      faults = s.faults.items;
+    } };
 }
 
 impl MemoryStore {
     /// A store that holds no name, and fails at these calls.
-    pub fn new(alloc: Global, fails: &[Failure]) -> Result<MemoryStore, NoMemory>
-        ensures held { IfOk result (λ store. (name : List ℕ) → memory_held store name ≡ None) }
-        ensures faults { IfOk result (λ store. memory_faults store ≡ []) }
+    pub fn new(alloc: Global, plan: &[Failure]) -> Result<MemoryStore, NoMemory>
+        ensures { IfOk result (λ store. store ≡ record { entries = []; plan = plan.now; calls = 0; faults = [] }) }
     {
         Ok(MemoryStore {
             holdings: Holdings::new(alloc),
-            fails: Vec::from_slice(alloc, fails)?,
+            plan: Vec::from_slice(alloc, plan)?,
             calls: 0,
             faults: Vec::new(alloc),
         })
     }
 
-    /// Has a name hold these bytes. It counts as no call.
+    /// Has a name hold these bytes. It counts as no call, and changes nothing where it is refused.
     pub fn hold(&mut self, alloc: Global, name: &str, bytes: &[u8]) -> Result<(), NoMemory>
-        ensures held { PutsAs (held_with name.now bytes.now (memory_held self.old)) (memory_held self.old) (memory_held self.new) result }
-        ensures faults { memory_faults self.new ≡ memory_faults self.old }
+        ensures ok { OnOk result (memory_held self.new ≡ held_with name.now bytes.now (memory_held self.old)) }
+        ensures err { OnErr result (self.new.entries ≡ self.old.entries) }
+        ensures plan { self.new.plan ≡ self.old.plan }
+        ensures calls { self.new.calls ≡ self.old.calls }
+        ensures faults { self.new.faults ≡ self.old.faults }
     {
         self.holdings.hold(alloc, name.as_bytes(), bytes)?;
         Ok(())
@@ -67,16 +71,13 @@ impl MemoryStore {
     {
         self.holdings.find(name.as_bytes())
     }
+}
 
-    // Counts a call, and says whether it fails.
-    fn next_failure(&mut self) -> Option<Failure>
-        ensures held { self.new.holdings ≡ self.old.holdings }
-        ensures faults { self.new.faults ≡ self.old.faults }
-    {
-        self.calls = self.calls.saturating_add(1);
-        let call = self.calls;
-        self.fails.iter().copied().find(|fail| fail.call == call)
-    }
+// The failure that is planned at a call.
+fn failure_of(plan: &[Failure], call: u32) -> Option<Failure>
+    ensures { result ≡ failure_at plan.now call }
+{
+    plan.iter().copied().find(|fail| fail.call == call)
 }
 
 impl Store for MemoryStore {
@@ -84,28 +85,49 @@ impl Store for MemoryStore {
 
     ghost held = { memory_held };
 
-    ghost faults = { memory_faults };
+    ghost faults = { λ s. s.faults };
 
-    fn load(&mut self, alloc: Global, name: &str, limit: u64) -> Result<Load, StoreError> {
-        let failure = self.next_failure();
-        match (failure, self.holdings.find(name.as_bytes())) {
+    fn load(&mut self, alloc: Global, name: &str, limit: u64) -> Result<Load, StoreError>
+        requires { limit + 1 < 2 ^ 64 }
+        ensures within { IfOk result (IsWithin limit) }
+        ensures content { ⊤ → Loads (memory_held self.old name.now) limit result }
+        ensures unchanged { memory_held self.new ≡ memory_held self.old }
+        ensures cause { LogsFailure self.old.faults self.new.faults (record { put = false; name = name.now }) result }
+        ensures planned { LoadsByPlan (failure_at self.old.plan (next_call self.old.calls)) (memory_held self.old name.now) limit result }
+        ensures plan { self.new.plan ≡ self.old.plan }
+        ensures calls { self.new.calls ≡ next_call self.old.calls }
+    {
+        self.calls = self.calls.saturating_add(1);
+        let entry = entry_of_call(alloc, &mut self.faults, false, name)?;
+        match (
+            failure_of(&self.plan, self.calls),
+            self.holdings.find(name.as_bytes()),
+        ) {
             (None, Some(bytes)) => Ok(cut_to(alloc, bytes, limit)?),
-            _ => Err(log_failure(alloc, &mut self.faults, false, name)),
+            _ => {
+                self.faults.push_reserved(entry);
+                Err(StoreError::Failed)
+            }
         }
     }
 
-    fn put(&mut self, alloc: Global, name: &str, bytes: &[u8]) -> Result<(), StoreError> {
-        match self.next_failure() {
-            None => {
-                self.hold(alloc, name, bytes)?;
-                Ok(())
-            }
-            Some(failure) => {
-                if failure.applied {
-                    self.hold(alloc, name, bytes)?;
-                }
-                Err(log_failure(alloc, &mut self.faults, true, name))
-            }
+    fn put(&mut self, alloc: Global, name: &str, bytes: &[u8]) -> Result<(), StoreError>
+        ensures content { ⊤ → PutsAs (held_with name.now bytes.now (memory_held self.old)) (memory_held self.old) (memory_held self.new) result }
+        ensures cause { LogsFailure self.old.faults self.new.faults (record { put = true; name = name.now }) result }
+        ensures planned { PutsByPlan (failure_at self.old.plan (next_call self.old.calls)) (held_with name.now bytes.now (memory_held self.old)) (memory_held self.old) (memory_held self.new) result }
+        ensures plan { self.new.plan ≡ self.old.plan }
+        ensures calls { self.new.calls ≡ next_call self.old.calls }
+    {
+        self.calls = self.calls.saturating_add(1);
+        let entry = entry_of_call(alloc, &mut self.faults, true, name)?;
+        let failure = failure_of(&self.plan, self.calls);
+        if failure.is_none_or(|fail| fail.applied) {
+            self.holdings.hold(alloc, name.as_bytes(), bytes)?;
         }
+        if failure.is_none() {
+            return Ok(());
+        }
+        self.faults.push_reserved(entry);
+        Err(StoreError::Failed)
     }
 }

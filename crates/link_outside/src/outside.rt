@@ -1,5 +1,5 @@
 // The store and the sink that a run is handed.
-ghost use Rattle.std.specs.Prelude.{◌≡◌, ◌+◌, ◌^◌, ◌<◌, List, ℕ, Option, IfOk, true, false};
+ghost use Rattle.std.specs.Prelude.{◌≡◌, ◌+◌, ◌^◌, ◌<◌, List, ℕ, Option, IfOk, OnOk, true, false, vec_capacity, vec_len};
 ghost use Rattle.link_outside.specs.Outside.{Appends, HasCause, held_with, IsWithin, Loads, LogsFailure, PutsAs};
 ghost use Rattle.link_outside.specs.declared.outside.StoreCall.{StoreCall};
 
@@ -41,6 +41,23 @@ pub enum SinkError {
 pub struct StoreCall {
     pub put: bool,
     pub name: Text,
+}
+
+/// The entry of a call for a store's list of failed calls, with room for it there. A store takes it before it tries
+/// the call, so that a failure can always be logged.
+pub fn entry_of_call(
+    alloc: Global,
+    faults: &mut Vec<StoreCall>,
+    put: bool,
+    name: &str,
+) -> Result<StoreCall, NoMemory>
+    ensures entry { IfOk result (λ entry. entry ≡ record { put = put; name = name.now }) }
+    ensures room { OnOk result (vec_len faults.new < vec_capacity faults.new) }
+    ensures same { faults.new.items ≡ faults.old.items }
+{
+    let name = Text::new(alloc, name.as_bytes())?;
+    faults.reserve(1)?;
+    Ok(StoreCall { put, name })
 }
 
 /// What a load gives.

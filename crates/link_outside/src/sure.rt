@@ -1,31 +1,42 @@
 // A store and a sink that never fail.
-ghost use Rattle.std.specs.Prelude.{◌≡◌, [], ℕ, List, Some, IfOk, option_map, ⊤};
-ghost use Rattle.link_outside.specs.Fakes.{sure_held, sure_taken};
-ghost use Rattle.link_outside.specs.Outside.{held_with, PutsAs};
+ghost use Rattle.std.specs.Prelude.{◌≡◌, [], Some, IfOk, OnErr, OnOk, option_map, ⊤};
+ghost use Rattle.link_outside.specs.Fakes.{sure_held};
+ghost use Rattle.link_outside.specs.Outside.{held_with};
 
 use crate::holdings::{Holdings, cut_to};
 use crate::outside::{Load, Sink, SinkError, Store, StoreError};
 use link_base::NoMemory;
 use std::alloc::Global;
+use std::marker::Model;
 
 /// A store in memory that holds every name. One that was never put holds no bytes.
 #[derive(Debug, Drop)]
 pub struct SureStore {
-    pub(crate) holdings: Holdings,
+    holdings: Holdings,
+}
+
+impl Model for SureStore {
+    ghost use Rattle.std.specs.Prelude.{List};
+    ghost use Rattle.link_outside.specs.declared.holdings.Entry.{Entry};
+
+    ghost Value = { List Entry };
+
+    ghost view = { λ s. s.holdings.entries.items };
 }
 
 impl SureStore {
     /// A store in which every name holds no bytes.
     pub fn new(alloc: Global) -> Result<SureStore, NoMemory>
-        ensures { IfOk result (λ store. (name : List ℕ) → sure_held store name ≡ Some []) }
+        ensures { IfOk result (λ store. store ≡ []) }
     {
         let holdings = Holdings::new(alloc);
         Ok(SureStore { holdings })
     }
 
-    /// Has a name hold these bytes.
+    /// Has a name hold these bytes, and changes nothing where it is refused.
     pub fn hold(&mut self, alloc: Global, name: &str, bytes: &[u8]) -> Result<(), NoMemory>
-        ensures { PutsAs (held_with name.now bytes.now (sure_held self.old)) (sure_held self.old) (sure_held self.new) result }
+        ensures ok { OnOk result (sure_held self.new ≡ held_with name.now bytes.now (sure_held self.old)) }
+        ensures err { OnErr result (self.new ≡ self.old) }
     {
         self.holdings.hold(alloc, name.as_bytes(), bytes)?;
         Ok(())
@@ -68,13 +79,21 @@ impl Store for SureStore {
 /// A sink in memory that takes all.
 #[derive(Debug, Drop)]
 pub struct SureSink {
-    pub(crate) bytes: Vec<u8>,
+    bytes: Vec<u8>,
+}
+
+impl Model for SureSink {
+    ghost use Rattle.std.specs.Prelude.{List, ℕ};
+
+    ghost Value = { List ℕ };
+
+    ghost view = { λ s. s.bytes.items };
 }
 
 impl SureSink {
     /// A sink that has taken nothing.
     pub fn new(alloc: Global) -> Result<SureSink, NoMemory>
-        ensures { IfOk result (λ sink. sure_taken sink ≡ []) }
+        ensures { IfOk result (λ sink. sink ≡ []) }
     {
         let bytes = Vec::new(alloc);
         Ok(SureSink { bytes })
@@ -82,7 +101,7 @@ impl SureSink {
 
     /// The bytes taken.
     pub fn bytes(&self) -> &[u8]
-        ensures { result.now ≡ sure_taken self.now }
+        ensures { result.now ≡ self.now }
     {
         &self.bytes
     }
@@ -91,7 +110,7 @@ impl SureSink {
 impl Sink for SureSink {
     ghost tells = { ⊤ };
 
-    ghost taken = { sure_taken };
+    ghost taken = { λ s. s };
 
     ghost faults = { λ _. 0 };
 

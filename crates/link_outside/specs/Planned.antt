@@ -1,0 +1,48 @@
+-- What a store and a sink in memory do by their plan of failures: the clauses `planned` of `MemoryStore::load`,
+-- `MemoryStore::put` and `MemorySink::put_all`.
+use Rattle.std.specs.Prelude.{◌≡◌, ◌+◌, ◌-◌, ◌^◌, ◌==◌, ℕ, List, [], ◌++◌, min, find, if◌then◌else◌, Bool, true, false, Option, Some, None, Result, Ok, Err, ⊤}
+use Rattle.std.specs.List.{list_any}
+use Rattle.link_outside.specs.Outside.{Held, Shows}
+use Rattle.link_outside.specs.declared.memory_store.Failure.{Failure}
+use Rattle.link_outside.specs.declared.outside.Load.{Load}
+use Rattle.link_outside.specs.declared.outside.SinkError.{SinkError}
+use Rattle.link_outside.specs.declared.outside.SinkError.TheVariants as sink
+use Rattle.link_outside.specs.declared.outside.StoreError.{StoreError}
+use Rattle.link_outside.specs.declared.outside.StoreError.TheVariants as store
+
+-- the number of the next call, from 1; it stays at the last value of a `u32`
+abbrev pub next_call : ℕ → ℕ
+next_call calls = min (calls + 1) (2 ^ 32 - 1)
+
+-- the failure that is planned at a call: the first of the plan with its number
+abbrev pub failure_at : List Failure → ℕ → Option Failure
+failure_at plan call = find (λ (f : Failure). f.call == call) plan
+
+-- a call is planned to fail
+abbrev pub is_planned : List ℕ → ℕ → Bool
+is_planned plan call = list_any (λ n. n == call) plan
+
+-- a load fails exactly where that is planned or the name is not held, and else shows what is held; want of memory is free
+abbrev pub LoadsByPlan : Option Failure → Option (List ℕ) → ℕ → Result Load StoreError → Type 0
+LoadsByPlan None (Some bytes) limit (Ok load) = Shows bytes limit load
+LoadsByPlan None (Some bytes) limit (Err store.Failed) = ⊥
+LoadsByPlan None None limit (Ok load) = ⊥
+LoadsByPlan (Some f) content limit (Ok load) = ⊥
+LoadsByPlan planned content limit (Err e) = ⊤
+
+-- a put fails exactly where that is planned. What names hold then: the new bytes where the failure is applied, else
+-- what they held; and what they held at want of memory, which is free
+abbrev pub PutsByPlan : {T : Type 0} → Option Failure → Held → Held → Held → Result T StoreError → Type 0
+PutsByPlan None wanted old new (Ok x) = new ≡ wanted
+PutsByPlan None wanted old new (Err store.Failed) = ⊥
+PutsByPlan (Some f) wanted old new (Ok x) = ⊥
+PutsByPlan (Some f) wanted old new (Err store.Failed) = new ≡ (if f.applied then wanted else old)
+PutsByPlan planned wanted old new (Err store.NoMemory) = new ≡ old
+
+-- a sink fails exactly where that is planned, and then takes nothing; want of memory is free
+abbrev pub TakesByPlan : {T : Type 0} → Bool → List ℕ → List ℕ → List ℕ → Result T SinkError → Type 0
+TakesByPlan false bytes old new (Ok x) = new ≡ old ++ bytes
+TakesByPlan false bytes old new (Err sink.Failed) = ⊥
+TakesByPlan true bytes old new (Ok x) = ⊥
+TakesByPlan true bytes old new (Err sink.Failed) = new ≡ old
+TakesByPlan planned bytes old new (Err sink.NoMemory) = new ≡ old
