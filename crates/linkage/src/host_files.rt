@@ -1,16 +1,13 @@
 // Files of the host.
-ghost use Rattle.std.specs.Prelude.{◌≡◌, ◌≤◌, ◌+◌, ◌^◌, ◌<◌, [], None, length, vec_len, IfOk};
-ghost use Rattle.link_outside.specs.Outside.{IsLogged, IsWithin};
+ghost use Rattle.std.specs.Prelude.{◌≡◌, ◌+◌, ◌^◌, ◌<◌, [], ℕ, List, None, take, vec_capacity, vec_len, IfOk, IfSome};
+ghost use Rattle.link_outside.specs.Outside.{IsLogged, IsWithin, Shows};
 
 use link_base::Text;
-use link_outside::{Load, Store, StoreCall, StoreError};
+use link_outside::{Load, Store, StoreCall, StoreError, entry_of_call};
 use std::alloc::{AllocError, Global};
 use std::io::{Read, Write};
 use std::rt::Files;
 use std::{fs, io};
-
-/// The bytes that one turn of a load reads at most.
-const CHUNK: usize = 65_536;
 
 /// The files of the host, named by their paths. They tell nothing of what they hold. A put writes the file
 /// `NAME.new` and renames it, so a crash leaves the old file or the new one, and a file of that name is lost.
@@ -21,7 +18,10 @@ pub(crate) struct HostFiles<'r, R> {
 }
 
 impl<'r, R> HostFiles<'r, R> {
-    pub(crate) fn new(alloc: Global, rt: &'r R) -> HostFiles<'r, R> {
+    /// The files of the host, none of whose calls has failed yet.
+    pub(crate) fn new(alloc: Global, rt: &'r R) -> HostFiles<'r, R>
+        ensures { result.faults.items ≡ [] }
+    {
         HostFiles {
             rt,
             faults: Vec::new(alloc),
@@ -51,39 +51,38 @@ impl From<io::Error> for HostError {
     }
 }
 
-// Reads until the end, or until one byte more than the limit was taken.
-fn read_up_to<F: Read>(alloc: Global, file: &mut F, limit: u64) -> Result<Load, HostError>
+// What a load gives of a text that was read up to one byte past the limit.
+fn load_of(mut text: Vec<u8>, limit: u64) -> Load
     requires { limit + 1 < 2 ^ 64 }
-    ensures { IfOk result (IsWithin limit) }
+    ensures within { IsWithin limit result }
+    ensures content { (bytes : List ℕ) → text.items ≡ take (limit + 1) bytes → Shows bytes limit result }
 {
-    let mut chunk = vec![in alloc; 0u8; CHUNK]?;
-    let mut text = Vec::new(alloc);
-    'turns: while text.len() as u64 <= limit {
-        let count = read_piece(file, &mut chunk, limit - text.len() as u64)?;
-        if count == 0 {
-            return Ok(Load::Whole(Text::of(text)));
-        }
-        text.extend_from_slice(&chunk[..count])?;
+    if text.len() as u64 <= limit {
+        return Load::Whole(Text::of(text));
     }
-    Ok(Load::Over(Text::of(text)))
+    text.truncate(limit as usize + 1);
+    Load::Over(Text::of(text))
 }
 
-// Reads at most one byte more than `rest`.
-fn read_piece<F: Read>(file: &mut F, chunk: &mut Vec<u8>, rest: u64) -> Result<usize, HostError>
-    requires { rest + 1 < 2 ^ 64 }
-    ensures most { IfOk result (λ n. n ≤ rest + 1) }
-    ensures within { IfOk result (λ n. n ≤ length chunk.new.items) }
+// Reads until the end, or until one byte more than the limit was taken. Of a reader that tells its bytes it gives all
+// that were left, or that many of them.
+fn read_up_to<F: Read + Drop>(alloc: Global, file: F, limit: u64) -> Result<Load, HostError>
+    requires { limit + 1 < 2 ^ 64 }
+    ensures within { IfOk result (IsWithin limit) }
+    ensures content { IfSome (F.remaining file) (λ bytes. IfOk result (Shows bytes limit)) }
 {
-    let most = (rest + 1).min(chunk.len() as u64) as usize;
-    Ok(file.read(&mut chunk[..most])?)
+    let mut text = Vec::new(alloc);
+    let mut front = file.take(limit + 1);
+    front.read_to_end(&mut text)?;
+    Ok(load_of(text, limit))
 }
 
 fn load_file<R: Files>(alloc: Global, rt: &R, name: &str, limit: u64) -> Result<Load, HostError>
     requires { limit + 1 < 2 ^ 64 }
     ensures { IfOk result (IsWithin limit) }
 {
-    let mut file = fs::open(rt, name)?;
-    read_up_to(alloc, &mut file, limit)
+    let file = fs::open(rt, name)?;
+    read_up_to(alloc, file, limit)
 }
 
 // Writes a file beside the name, and puts it in its place.
@@ -94,16 +93,17 @@ fn put_file<R: Files>(alloc: Global, rt: &R, name: &str, bytes: &[u8]) -> Result
     Ok(())
 }
 
-// The error of a call, which stands in the list of faults where it failed.
-fn logged(error: HostError, faults: &mut Vec<StoreCall>, put: bool, name: Text) -> StoreError
-    ensures { IsLogged faults.old.items faults.new.items (record { put = put; name = name }) result }
+// The error of a call, whose entry stands in the list of faults where it failed.
+fn logged(error: HostError, faults: &mut Vec<StoreCall>, entry: StoreCall) -> StoreError
+    requires { vec_len faults.old < vec_capacity faults.old }
+    ensures { IsLogged faults.old.items faults.new.items entry result }
 {
     match error {
         HostError::NoMemory => StoreError::NoMemory,
-        HostError::Failed => match faults.push(StoreCall { put, name }) {
-            Ok(()) => StoreError::Failed,
-            Err(_) => StoreError::NoMemory,
-        },
+        HostError::Failed => {
+            faults.push_reserved(entry);
+            StoreError::Failed
+        }
     }
 }
 
@@ -115,18 +115,18 @@ impl<'r, R: Files> Store for HostFiles<'r, R> {
     ghost faults = { λ s. s.faults.items };
 
     fn load(&mut self, alloc: Global, name: &str, limit: u64) -> Result<Load, StoreError> {
-        let entry = Text::new(alloc, name.as_bytes())?;
+        let entry = entry_of_call(alloc, &mut self.faults, false, name)?;
         match load_file(alloc, self.rt, name, limit) {
             Ok(load) => Ok(load),
-            Err(error) => Err(logged(error, &mut self.faults, false, entry)),
+            Err(error) => Err(logged(error, &mut self.faults, entry)),
         }
     }
 
     fn put(&mut self, alloc: Global, name: &str, bytes: &[u8]) -> Result<(), StoreError> {
-        let entry = Text::new(alloc, name.as_bytes())?;
+        let entry = entry_of_call(alloc, &mut self.faults, true, name)?;
         match put_file(alloc, self.rt, name, bytes) {
             Ok(()) => Ok(()),
-            Err(error) => Err(logged(error, &mut self.faults, true, entry)),
+            Err(error) => Err(logged(error, &mut self.faults, entry)),
         }
     }
 }

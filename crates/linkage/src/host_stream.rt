@@ -1,5 +1,5 @@
 // A stream of the host.
-ghost use Rattle.std.specs.Prelude.{[]};
+ghost use Rattle.std.specs.Prelude.{◌≡◌, []};
 
 use link_outside::{Sink, SinkError};
 use std::alloc::Global;
@@ -14,7 +14,10 @@ pub(crate) struct HostStream<W> {
 }
 
 impl<W> HostStream<W> {
-    pub(crate) fn new(inner: W) -> HostStream<W> {
+    /// A stream that has not failed yet.
+    pub(crate) fn new(inner: W) -> HostStream<W>
+        ensures { result.faults ≡ 0 }
+    {
         HostStream { inner, faults: 0 }
     }
 }

@@ -31,6 +31,28 @@ fn files_are_put_whole_and_loaded_up_to_a_limit(rt: HostRuntime) -> Result<(), F
     Ok(())
 }
 
+fn is_whole(load: Result<Load, StoreError>, want: &[u8]) -> bool {
+    match load {
+        Ok(Load::Whole(text)) => text.bytes() == want,
+        Ok(Load::Over(_)) => false,
+        Err(_) => false,
+    }
+}
+
+#[test]
+fn a_long_file_is_loaded_whole(rt: HostRuntime) -> Result<(), Fail> {
+    let alloc = rt.alloc();
+    let folder = env::temp_dir(&rt)?;
+    let name = format!(in alloc; "{}/linkage-long-test.csv", folder.as_path().display())?;
+    let long = vec![in alloc; b'x'; 200_000]?;
+    let mut files = HostFiles::new(alloc, &rt);
+    assert!(rt; files.put(alloc, &name, &long).is_ok());
+    let load = files.load(alloc, &name, 200_000);
+    assert!(rt; is_whole(load, &long));
+    fs::remove_file(&rt, name.as_str())?;
+    Ok(())
+}
+
 // A writer that takes nothing.
 #[derive(Drop)]
 struct Full;

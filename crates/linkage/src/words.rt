@@ -1,0 +1,36 @@
+// The words of a command.
+ghost use Rattle.std.specs.Prelude.{◌≡◌, drop};
+
+use std::alloc::{AllocError, Global};
+use std::{env, io};
+
+// The words after the first, which is the program's name.
+fn after_name(mut all: Vec<String>) -> Vec<String>
+    ensures { result.items ≡ drop 1 all.items }
+{
+    if !all.is_empty() {
+        let _name = all.remove(0);
+    }
+    all
+}
+
+/// The words after the program's name; none where the system does not give them as text.
+pub(crate) fn words_after_name(
+    alloc: Global,
+    args: io::Result<env::Args>,
+) -> Result<Vec<String>, AllocError> {
+    let mut all = Vec::new(alloc);
+    match args {
+        Ok(words) => {
+            for word in words {
+                all.push(word)?;
+            }
+        }
+        Err(error) => {
+            if error.kind() == io::ErrorKind::OutOfMemory {
+                return Err(AllocError);
+            }
+        }
+    }
+    Ok(after_name(all))
+}
