@@ -1,8 +1,9 @@
 // Outcomes of comparison, the cells of a decision rule, decisions, and candidates for links.
-ghost use Rattle.std.specs.Prelude.{◌≡◌, ◌≤◌, IfOk, replicate};
-ghost use Rattle.link_base.specs.Rule.{empty_cell};
+ghost use Rattle.std.specs.Prelude.{◌≡◌, ◌≤◌, All, IfOk, replicate};
+ghost use Rattle.link_base.specs.Rule.{IsWithinRanges, empty_cell};
 
 use crate::text::NoMemory;
+use link_limits::MOST_PATTERNS;
 use std::alloc::Global;
 
 /// What the comparison of a field comes to. The order is that of the digits of a comparison pattern.
@@ -52,7 +53,8 @@ pub struct PairAt {
 
 /// A comparison pattern in a decision rule: its chances `m` among matched and `u` among unmatched pairs
 /// over 1,024 to the number of fields, its weight in eighths of a bit, from -480 to 474, and how often
-/// it is a link and a non-link, in 65,536ths that add up to at most 65,536.
+/// it is a link and a non-link, in 65,536ths that add up to at most 65,536. A table keeps the ranges of
+/// its cells; a call that takes a cell alone asks for them.
 #[derive(Clone, Copy, Debug, PartialEq, Eq)]
 pub struct RuleCell {
     pub pattern: u16,
@@ -63,17 +65,18 @@ pub struct RuleCell {
     pub nonlink: u32,
 }
 
-/// The cells of a decision rule.
+/// The cells of a decision rule, each within its ranges.
 #[derive(Debug, Drop)]
 pub struct RuleTable {
     pub cells: Vec<RuleCell>,
+    pub ghost in_range: { All IsWithinRanges cells.items },
 }
 
 impl RuleTable {
     /// A table of so many cells of zeros, to be filled.
     pub fn with_patterns(alloc: Global, count: u16) -> Result<RuleTable, NoMemory>
         requires some { 3 ≤ count }
-        requires few { count ≤ 4096 }
+        requires few { count ≤ MOST_PATTERNS }
         ensures { IfOk result (λ table. table.cells.items ≡ replicate count empty_cell) }
     {
         let cell = RuleCell {
@@ -90,7 +93,8 @@ impl RuleTable {
 
     /// The cells.
     pub fn cells(&self) -> &[RuleCell]
-        ensures { result.now ≡ self.now.cells.items }
+        ensures all { result.now ≡ self.now.cells.items }
+        ensures in_range { All IsWithinRanges result.now }
     {
         &self.cells
     }

@@ -1,6 +1,7 @@
 // The shares of a field's outcomes, and the shape of a comparison pattern.
 ghost use Rattle.std.specs.Prelude.{◌≡◌, ◌≤◌, ℕ, false, slice_index_or};
 ghost use Rattle.link_base.specs.Shares.{IsShares, outcomes_of};
+ghost use Rattle.link_limits.specs.declared.TheConstants.{MOST_FIELDS};
 
 /// The chances of a field's outcomes among matched pairs (`m`) and unmatched pairs (`u`), in 1,024ths,
 /// in the order agree, disagree, missing, rare (Fellegi and Sunter 1969, section 2). Each of the four
@@ -22,6 +23,6 @@ pub struct Shape {
     pub fields: u8,
     pub rare: [bool; 6],
     ghost some: { 1 ≤ fields },
-    ghost few: { fields ≤ 6 },
+    ghost few: { fields ≤ MOST_FIELDS },
     ghost unused: { (k : ℕ) → fields ≤ k → slice_index_or rare k false ≡ false },
 }
