@@ -34,7 +34,7 @@ count-le (rare ∷ rares) (suc n) h =
     omega (arith, product, power)
 
 -- what the front of a pattern adds up to
-total-bound : (n c k w : ℕ) → 1 ≤ c → n * c + k ≡ w → n ≤ w
+pub total-bound : (n c k w : ℕ) → 1 ≤ c → n * c + k ≡ w → n ≤ w
 total-bound n c k w h e = let product = mul-le n 1 n c (omega arith) h in omega (arith, mul-one n)
 
 pub count-next : (rares : List Bool) (i n : ℕ) (rare : Bool) → length rares ≤ 6 → n * pattern_count_by (drop i rares) ≡ pattern_count_by rares → n * outcomes_of rare ≤ 16384

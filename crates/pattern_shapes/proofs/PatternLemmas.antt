@@ -57,7 +57,8 @@ u_of_pos (field ∷ fields) pattern lt =
     let rest : 1 ≤ u_of fields (pattern % pattern_count_of fields) = omega (arith, u_of_pos fields (pattern % pattern_count_of fields) (later_in fields pattern)) in
     omega (arith, mul-le 1 1 _ _ share rest)
 
-product_small : (share rest n : ℕ) → share ≤ 1022 → rest ≤ 1024 ^ n → share * rest ≤ 1024 ^ (n + 1)
+-- one field more
+pub product_small : (share rest n : ℕ) → share ≤ 1022 → rest ≤ 1024 ^ n → share * rest ≤ 1024 ^ (n + 1)
 product_small share rest n h k =
     let p : 1024 ^ (n + 1) ≡ 1024 ^ n * 1024 ^ 1 = pow-add 1024 n 1 in
     let most : share * rest ≤ 1024 * 1024 ^ n = mul-le share rest 1024 (1024 ^ n) (omega (arith, h)) k in

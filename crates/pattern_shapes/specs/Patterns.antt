@@ -1,5 +1,6 @@
 -- The chances and the weight of a comparison pattern, of independent fields (Fellegi and Sunter 1969, section 3;
--- weights in eighths of a bit after Newcombe et al. 1959).
+-- weights in eighths of a bit after Newcombe et al. 1959). The law `chances` carries what holds of the chances; a cell of
+-- a rule has them by `cut_rule`, clause `filled`.
 use Rattle.std.specs.Prelude.{ℕ, ℤ, pos, ◌*◌, ◌/◌, ◌%◌, ◌+ℤ◌, Bool, List, [], ◌∷◌, map, slice_index}
 use Rattle.link_base.specs.Shares.{outcomes_of}
 use Rattle.link_base.specs.declared.shares.FieldShares.{FieldShares}

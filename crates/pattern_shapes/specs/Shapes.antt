@@ -1,4 +1,5 @@
--- Comparison patterns (Fellegi and Sunter 1969, section 2) as numbers in mixed base (Knuth, vol. 2, 4.1).
+-- Comparison patterns (Fellegi and Sunter 1969, section 2) as numbers in mixed base (Knuth, vol. 2, 4.1): `pattern_count`
+-- carries how many there are by its clause `count`, `outcome_of` by its one clause the outcome of a field in a pattern.
 use Rattle.std.specs.Prelude.{ℕ, zero, suc, ◌*◌, ◌/◌, ◌%◌, ◌==◌, Bool, if◌then◌else◌, List, [], ◌∷◌, take}
 use Rattle.link_base.specs.Shares.{outcomes_of}
 use Rattle.link_base.specs.declared.rule.Outcome.{Outcome}

@@ -4,12 +4,13 @@ ghost use Rattle.link_base.specs.Shares.{outcomes_of};
 ghost use Rattle.pattern_shapes.specs.Shapes.{outcome_at, outcome_with, pattern_count_by, rare_of};
 
 use link_base::{Outcome, Shape};
+use link_limits::{MOST_FIELDS, MOST_PATTERNS};
 
 /// How many comparison patterns a shape has, 3 to 4,096.
 pub fn pattern_count(shape: &Shape) -> u16
     ensures count { result ≡ pattern_count_by (rare_of shape.now) }
     ensures some { 3 ≤ result }
-    ensures few { result ≤ 4096 }
+    ensures few { result ≤ MOST_PATTERNS }
 {
     count(&shape.rare[..usize::from(shape.fields)])
 }
@@ -36,7 +37,7 @@ fn base(rare: bool) -> u16
 
 /// How many patterns these fields have.
 fn count(fields: &[bool]) -> u16
-    requires { length fields.now ≤ 6 }
+    requires { length fields.now ≤ MOST_FIELDS }
     ensures { result ≡ pattern_count_by fields.now }
 {
     let mut count = 1;
@@ -48,7 +49,7 @@ fn count(fields: &[bool]) -> u16
 
 /// How many patterns the fields from a place on have.
 fn count_from(fields: &[bool], from: usize) -> u16
-    requires few { length fields.now ≤ 6 }
+    requires few { length fields.now ≤ MOST_FIELDS }
     requires within { from ≤ length fields.now }
     ensures value { result ≡ pattern_count_by (drop from fields.now) }
     ensures some { 1 ≤ result }
@@ -70,7 +71,7 @@ fn outcome_by(digit: u16) -> Outcome
 
 /// The outcome of the field at a place.
 fn outcome_in(fields: &[bool], pattern: u16, place: usize) -> Outcome
-    requires few { length fields.now ≤ 6 }
+    requires few { length fields.now ≤ MOST_FIELDS }
     requires within { place < length fields.now }
     ensures { result ≡ outcome_at fields.now pattern place }
 {

@@ -1,10 +1,12 @@
--- The shares of counted outcomes by largest remainders (the method of Hamilton).
+-- The shares of counted outcomes by largest remainders (the method of Hamilton): `shares` and `shares4` carry them by
+-- their clause `value`.
 use Rattle.std.specs.Prelude.{ℕ, ◌+◌, ◌-◌, ◌*◌, ◌/◌, ◌%◌, Bool, ◌==◌, ◌||◌, ◌&&◌, nat_lt, if◌then◌else◌, List, length, slice_index, sum, sum_by, count_by}
 use Rattle.std.specs.List.{range_with_len}
+use Rattle.link_limits.specs.declared.TheConstants.{WHOLE_FIELD}
 
--- what is shared out in proportion: 1,024 less 1 for each outcome
+-- what is shared out in proportion: the whole, 1,024, less 1 for each outcome
 abbrev pub spread_of : List ℕ → ℕ
-spread_of counts = 1024 - length counts
+spread_of counts = WHOLE_FIELD - length counts
 
 -- the whole part of an outcome's proportion, and the remainder
 abbrev pub quota_of : List ℕ → ℕ → ℕ

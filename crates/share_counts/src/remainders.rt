@@ -4,11 +4,13 @@ ghost use Rattle.std.specs.List.{range_with_len};
 ghost use Rattle.link_base.specs.Shares.{IsShares};
 ghost use Rattle.share_counts.specs.Remainders.{share_of, quota_of, rest_of, left_of, ahead_of, spread_of};
 
+use link_limits::{MOST_ROWS, WHOLE_FIELD};
+
 /// The shares of three counted outcomes, in 1,024ths: each outcome has 1, and the other 1,021 are given in proportion to
 /// the counts, by largest remainders, of equal ones to the earlier outcome. Between 1 and 100,000 are counted.
 pub fn shares(counts: &[u64; 3]) -> [u16; 3]
     requires some { 1 ≤ sum counts.now }
-    requires few { sum counts.now ≤ 100000 }
+    requires few { sum counts.now ≤ MOST_ROWS }
     ensures value { result ≡ map (share_of counts.now) (range_with_len 0 3) }
     ensures valid { IsShares 3 (result ++ 0 ∷ []) }
 {
@@ -22,7 +24,7 @@ pub fn shares(counts: &[u64; 3]) -> [u16; 3]
 /// The same of four counted outcomes: the other 1,020 are given in proportion.
 pub fn shares4(counts: &[u64; 4]) -> [u16; 4]
     requires some { 1 ≤ sum counts.now }
-    requires few { sum counts.now ≤ 100000 }
+    requires few { sum counts.now ≤ MOST_ROWS }
     ensures value { result ≡ map (share_of counts.now) (range_with_len 0 4) }
     ensures valid { IsShares 4 result }
 {
@@ -36,10 +38,18 @@ pub fn shares4(counts: &[u64; 4]) -> [u16; 4]
 
 /// The sum of the counts.
 fn total(counts: &[u64]) -> u64
-    requires { sum counts.now ≤ 100000 }
+    requires { sum counts.now ≤ MOST_ROWS }
     ensures { result ≡ sum counts.now }
 {
     counts.iter().sum()
+}
+
+/// What is given in proportion: the whole less 1 for each outcome.
+fn spread(counts: &[u64]) -> u64
+    requires { length counts.now ≤ 4 }
+    ensures { result ≡ spread_of counts.now }
+{
+    u64::from(WHOLE_FIELD) - counts.len() as u64
 }
 
 /// What the whole parts leave.
@@ -47,10 +57,10 @@ fn left_over(counts: &[u64], n: u64) -> u64
     requires few { length counts.now ≤ 4 }
     requires n { n ≡ sum counts.now }
     requires some { 1 ≤ n }
-    requires small { n ≤ 100000 }
+    requires small { n ≤ MOST_ROWS }
     ensures { result ≡ left_of counts.now }
 {
-    let spread = 1024 - counts.len() as u64;
+    let spread = spread(counts);
     let mut left = spread;
     for count in counts {
         left -= spread * *count / n;
@@ -70,11 +80,11 @@ fn ahead(counts: &[u64], n: u64, i: usize) -> u64
     requires few { length counts.now ≤ 4 }
     requires n { n ≡ sum counts.now }
     requires some { 1 ≤ n }
-    requires small { n ≤ 100000 }
+    requires small { n ≤ MOST_ROWS }
     requires place { i < length counts.now }
     ensures { result ≡ ahead_of counts.now i }
 {
-    let spread = 1024 - counts.len() as u64;
+    let spread = spread(counts);
     let rest = spread * counts[i] % n;
     let mut ahead = 0;
     for k in 0..counts.len() {
@@ -88,12 +98,12 @@ fn ahead(counts: &[u64], n: u64, i: usize) -> u64
 fn share_at(counts: &[u64], i: usize) -> u16
     requires few { length counts.now ≤ 4 }
     requires some { 1 ≤ sum counts.now }
-    requires small { sum counts.now ≤ 100000 }
+    requires small { sum counts.now ≤ MOST_ROWS }
     requires place { i < length counts.now }
     ensures { result ≡ share_of counts.now i }
 {
     let n = total(counts);
-    let quota = (1024 - counts.len() as u64) * counts[i] / n;
+    let quota = spread(counts) * counts[i] / n;
     let more = u64::from(ahead(counts, n, i) < left_over(counts, n));
     (1 + quota + more) as u16
 }
