@@ -6,11 +6,12 @@ use Rattle.std.specs.List.{sum_by, All}
 use Rattle.std.proofs.lemmas.List.Elements.{All-from_get_or, All-weaker}
 use Rattle.decision_rule.specs.Exchange.{IsCutForm, IsCell, LinksEndAt, NonlinksStartAt, cell_at, matched_links_of, rule_matched_links, unmatched_nonlinks_of, rule_unmatched_nonlinks}
 use Rattle.link_base.specs.Rule.{empty_cell}
-use Rattle.decision_rule.specs.Rule.{Rule, IsRuleOver, StandsBefore, possible_of, mu_of, lambda_of, possible_m_of, possible_u_of, rule_mu, rule_lambda, rule_possible_m, rule_possible_u}
+use Rattle.decision_rule.specs.Rule.{Rule, IsRuleOver, possible_of, mu_of, lambda_of, possible_m_of, possible_u_of, rule_mu, rule_lambda, rule_possible_m, rule_possible_u}
+use Rattle.decision_rule.specs.Order.{RanksBefore}
 use Rattle.link_base.specs.declared.rule.RuleCell.{RuleCell}
 use Rattle.decision_rule.proofs.ExchangeLemmas.{Favours, exchange_bound, split_sum, third_share}
 
-crossed : (c d : RuleCell) → StandsBefore c d → d.m * c.u ≤ c.m * d.u
+crossed : (c d : RuleCell) → RanksBefore c d → d.m * c.u ≤ c.m * d.u
 crossed c d h = elim h [ inl w ↦ omega (arith, w) | inr w ↦ omega (arith, w.0) ]
 
 all_of : (d s x y : ℕ) → y ≡ s → x ≤ d → s * x ≤ d * y

@@ -2,7 +2,7 @@ use Rattle.std.proofs.Common.{◌≡◌, ℕ, ℤ, zero, suc, ◌+◌, ◌*◌, 
 use Rattle.std.specs.Prelude.{◌+ℤ◌}
 use Rattle.std.proofs.Math.Nat.{mul-le-mul_left, mul-div_cancel_left, pow-le-pow_right}
 use Rattle.std.proofs.lemmas.Int.{ints}
-use Rattle.std.proofs.lemmas.Nat.{div_below, mul-le, pow-add}
+use Rattle.std.proofs.lemmas.Nat.{div_below}
 use Rattle.pattern_shapes.specs.Weight.{eighth_weight_of}
 use Rattle.pattern_shapes.specs.Patterns.{base_of, pattern_count_of, m_of, u_of, weight_of}
 use Rattle.link_base.specs.declared.shares.FieldShares.{FieldShares}
@@ -12,7 +12,7 @@ use Rattle.std.proofs.lemmas.List.FromFn.{fill_by_all}
 use Rattle.decision_rule.specs.Filled.{chances_of, chances_at}
 use Rattle.link_base.specs.declared.rule.RuleCell.{RuleCell}
 use Rattle.link_base.specs.Rule.{empty_cell}
-use Rattle.pattern_shapes.proofs.PatternLemmas.{pattern_count_pos, pattern_count_small, base_some, share_bounds}
+use Rattle.pattern_shapes.proofs.PatternLemmas.{pattern_count_pos, pattern_count_small, base_some, product_small, share_bounds}
 
 pub drop_step : (shares : List FieldShares) (i : ℕ) (field : FieldShares) → i < length shares → field ≡ get_or shares i field → drop i shares ≡ field ∷ drop (i + 1) shares
 drop_step shares i field lt e =
@@ -51,17 +51,11 @@ step shares i below rest base field eb lt e b r =
       u_share = share_bounds field.rare field.u _ field.of_unmatched outcome;
     }
 
-pub product_small : (m share i : ℕ) → m ≤ 1024 ^ i → share ≤ 1022 → m * share ≤ 1024 ^ (i + 1)
-product_small m share i h k =
-    let p : 1024 ^ (i + 1) ≡ 1024 ^ i * 1024 ^ 1 = pow-add 1024 i 1 in
-    let most : m * share ≤ 1024 ^ i * 1024 = mul-le m share (1024 ^ i) 1024 h (omega arith) in
-    rw p (omega (arith, most))
-
 pub product_fits : (m share i : ℕ) → m ≤ 1024 ^ i → share ≤ 1022 → i < 6 → m * share < 2 ^ 64
 product_fits m share i h k lt =
     let more : i + 1 ≤ 6 = omega arith in
     let most : 1024 ^ (i + 1) ≤ 1024 ^ 6 = pow-le-pow_right (omega arith) more in
-    omega (arith, product_small m share i h k, most)
+    omega (arith, product_small share m i k h, most)
 
 -- a read past no end is the same at each default
 same_default : (shares : List FieldShares) (i : ℕ) (d e : FieldShares) → i < length shares → get_or shares i d ≡ get_or shares i e

@@ -4,7 +4,7 @@ use Rattle.std.specs.List.Sorted.{IsPermutation}
 use Rattle.std.proofs.lemmas.List.{get_or-map, length-map, reverse-append, reverse-reverse, map-append}
 use Rattle.std.proofs.lemmas.List.Elements.{recursion_from_All}
 use Rattle.std.proofs.lemmas.List.Sorted.{Contains-permutation, IsPermutation-sym, IsPermutation-trans, IsPermutation-reverse, All-permutation}
-use Rattle.decision_rule.specs.Rule.{StandsBefore}
+use Rattle.decision_rule.specs.Order.{RanksBefore}
 use Rattle.decision_rule.specs.Filled.{Chances, chances_of, IsFilled, asked_of}
 use Rattle.link_base.specs.declared.rule.RuleCell.{RuleCell}
 use Rattle.link_base.specs.declared.shares.FieldShares.{FieldShares}
@@ -56,20 +56,20 @@ ranks_one_way c d h k =
       | inr v ↦ elim k [ inl w ↦ omega (arith, v.0, w) | inr w ↦ omega (arith, v.1, w.1) ]
     ]
 
-pub ranked_chances : (cells : List RuleCell) → AllPairs StandsBefore cells → AllPairs Ranks (map chances_of cells)
+pub ranked_chances : (cells : List RuleCell) → AllPairs RanksBefore cells → AllPairs Ranks (map chances_of cells)
 ranked_chances cells h i j d lt there =
     let e : RuleCell = record { pattern = d.pattern; m = d.m; u = d.u; weight = d.weight; link = 0; nonlink = 0 } in
     let in_cells : j < length cells = omega (arith, there, length-map cells chances_of) in
     let i_in : i < length cells = omega (arith, lt, in_cells) in
     rw (get_or-map chances_of cells i e d i_in, get_or-map chances_of cells j e d in_cells) (h i j e lt in_cells)
 
-pub ranked_cells : (cells : List RuleCell) → AllPairs Ranks (map chances_of cells) → AllPairs StandsBefore cells
+pub ranked_cells : (cells : List RuleCell) → AllPairs Ranks (map chances_of cells) → AllPairs RanksBefore cells
 ranked_cells cells h i j d lt there =
     let in_map : j < length (map chances_of cells) = omega (arith, there, length-map cells chances_of) in
     let i_in : i < length cells = omega (arith, lt, there) in
     rw (get_or-map chances_of cells i d (chances_of d) i_in, get_or-map chances_of cells j d (chances_of d) there) at (h i j (chances_of d) lt in_map)
 
-pub same_chances : (shares : List FieldShares) (xs ys : List RuleCell) → IsPermutation (all_chances shares) (map chances_of xs) → IsPermutation (all_chances shares) (map chances_of ys) → AllPairs StandsBefore xs → AllPairs StandsBefore ys → map chances_of xs ≡ map chances_of ys
+pub same_chances : (shares : List FieldShares) (xs ys : List RuleCell) → IsPermutation (all_chances shares) (map chances_of xs) → IsPermutation (all_chances shares) (map chances_of ys) → AllPairs RanksBefore xs → AllPairs RanksBefore ys → map chances_of xs ≡ map chances_of ys
 same_chances shares xs ys p q up vp =
     let there = IsPermutation-trans _ _ _ (IsPermutation-sym _ _ p) q in
     let back = IsPermutation-trans _ _ _ (IsPermutation-sym _ _ q) p in

@@ -3,7 +3,8 @@ use Rattle.std.proofs.Math.Nat.{mul-le-mul_right, le_of_mul-le-mul_right}
 use Rattle.std.proofs.lemmas.Bool.{cases_lt, cases_eq}
 use Rattle.std.proofs.lemmas.Bool.Decides.{nat_tests}
 use Rattle.std.specs.Cmp.{IsStrictWeakOrder}
-use Rattle.decision_rule.specs.Rule.{stands_before, StandsBefore}
+use Rattle.decision_rule.specs.Order.{RanksBefore}
+use Rattle.decision_rule.specs.Sorting.{ranks_before}
 use Rattle.link_base.specs.declared.rule.RuleCell.{RuleCell}
 
 -- what its failure says
@@ -46,8 +47,8 @@ chain_not xm xu xp ym yu yp zm zu zp px py pz h k = record {
       omega (arith, h.ties left, k.ties right);
 }
 
-pub stands_before-IsStrictWeakOrder : IsStrictWeakOrder stands_before
-stands_before-IsStrictWeakOrder = record {
+pub ranks_before-IsStrictWeakOrder : IsStrictWeakOrder ranks_before
+ranks_before-IsStrictWeakOrder = record {
   one_way = λ x y h. flips (x.m * max y.u 1) (y.m * max x.u 1) x.pattern y.pattern h;
   chain = λ x y z h k. fails_back _ _ _ _
       (chain_not x.m (max x.u 1) x.pattern y.m (max y.u 1) y.pattern z.m (max z.u 1) z.pattern (omega arith) (omega arith) (omega arith)
@@ -55,8 +56,8 @@ stands_before-IsStrictWeakOrder = record {
 }
 
 -- cells whose patterns differ are in order where the test of the later before the earlier fails
-pub stands_from_test : (c d : RuleCell) → 0 < c.u → 0 < d.u → (c.pattern ≡ d.pattern → ⊥) → stands_before d c ≡ false → StandsBefore c d
-stands_from_test c d pc pd differ h =
+pub ranks_from_test : (c d : RuleCell) → 0 < c.u → 0 < d.u → (c.pattern ≡ d.pattern → ⊥) → ranks_before d c ≡ false → RanksBefore c d
+ranks_from_test c d pc pd differ h =
     let w = fails (d.m * max c.u 1) (c.m * max d.u 1) d.pattern c.pattern h in
     let ec : max c.u 1 ≡ c.u = omega arith in
     let ed : max d.u 1 ≡ d.u = omega arith in

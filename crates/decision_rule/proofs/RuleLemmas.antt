@@ -1,10 +1,9 @@
 -- The cells of a rule against its patterns.
 use Rattle.std.proofs.Common.{◌≡◌, ℕ, Bool, false, eqb, ◌+◌, ◌*◌, ◌^◌, ◌<◌, ◌≤◌, List, [], ◌∷◌, length, map, refl, ap, arith, sym, ◌∙◌, get_or}
-use Rattle.std.specs.Prelude.{ℤ, pos, negsuc, ◌-ℤ◌, ◌≤ℤ◌}
+use Rattle.std.specs.Prelude.{ℤ, pos, ◌-ℤ◌, ◌≤ℤ◌}
 use Rattle.std.proofs.Math.Nat.{pow-le-pow_right}
 use Rattle.std.proofs.lemmas.Int.{ints}
 use Rattle.std.proofs.lemmas.Bool.Decides.{nat_tests}
-use Rattle.std.proofs.lemmas.Nat.{mul-le}
 use Rattle.std.specs.List.{sum_by, All, AllPairs, range_with_len, IsDistinct}
 use Rattle.std.specs.List.Sorted.{IsPermutation}
 use Rattle.std.proofs.lemmas.List.{get_or-map, length-map}
@@ -13,17 +12,19 @@ use Rattle.std.proofs.lemmas.List.Sorted.{IsPermutation-map, All-permutation, su
 use Rattle.std.proofs.lemmas.List.Sums.{sum_by-cons}
 use Rattle.std.proofs.lemmas.List.Elements.{All-from_get_or}
 use Rattle.std.proofs.lemmas.Map.Keys.{IsDistinct-from_apart, IsDistinct-IsPermutation, apart_from_distinct}
-use Rattle.decision_rule.specs.Rule.{Rule, IsRule, IsRuleOver, StandsBefore, stands_before}
+use Rattle.decision_rule.specs.Rule.{Rule, IsRule, IsRuleOver}
+use Rattle.decision_rule.specs.Order.{RanksBefore}
+use Rattle.decision_rule.specs.Sorting.{ranks_before}
 use Rattle.decision_rule.specs.Least.{IsLeast}
 use Rattle.pattern_shapes.specs.Patterns.{pattern_count_of}
-use Rattle.decision_rule.specs.Filled.{Chances, chances_of, chances_at, HasWeightInRange, IsFilled}
+use Rattle.decision_rule.specs.Filled.{Chances, chances_of, chances_at, IsFilled}
 use Rattle.link_base.specs.declared.rule.RuleCell.{RuleCell}
 use Rattle.link_base.specs.declared.shares.FieldShares.{FieldShares}
-use Rattle.link_base.specs.Rule.{empty_cell}
+use Rattle.link_base.specs.Rule.{IsWithinRanges, empty_cell}
 use Rattle.pattern_shapes.proofs.PatternLemmas.{weight_range}
 use Rattle.decision_rule.proofs.CutForm.{possible_bound_m, possible_bound_u, LinksEndAt-from_cut_form, NonlinksStartAt-from_cut_form}
 use Rattle.decision_rule.proofs.FilledLemmas.{all_chances, positive_cells, cut_form_from_filled}
-use Rattle.decision_rule.proofs.OrderLemmas.{stands_from_test}
+use Rattle.decision_rule.proofs.OrderLemmas.{ranks_from_test}
 use Rattle.decision_rule.proofs.OneFilled.{Ranks, ranked_chances, ranked_cells}
 
 -- the patterns of the cells before a sort, and after
@@ -53,13 +54,13 @@ differ shares cells p i j d lt there e =
     let test = rw (get_or-map chances_of cells i d (chances_of d) i_in, get_or-map chances_of cells j d (chances_of d) there) at at in
     not_apart _ _ e test
 
-pub in_order : (shares : List FieldShares) (cells : List RuleCell) → IsPermutation (all_chances shares) (map chances_of cells) → ((i j : ℕ) (d : RuleCell) → i < j → j < length cells → stands_before (get_or cells j d) (get_or cells i d) ≡ false) → AllPairs StandsBefore cells
+pub in_order : (shares : List FieldShares) (cells : List RuleCell) → IsPermutation (all_chances shares) (map chances_of cells) → ((i j : ℕ) (d : RuleCell) → i < j → j < length cells → ranks_before (get_or cells j d) (get_or cells i d) ≡ false) → AllPairs RanksBefore cells
 in_order shares cells p h i j d lt there =
     let pos = positive_cells shares cells p in
-    stands_from_test (get_or cells i d) (get_or cells j d) (pos i d (omega (arith, lt, there))).1 (pos j d there).1 (differ shares cells p i j d lt there) (h i j d lt there)
+    ranks_from_test (get_or cells i d) (get_or cells j d) (pos i d (omega (arith, lt, there))).1 (pos j d there).1 (differ shares cells p i j d lt there) (h i j d lt there)
 
 -- the order depends on the chances alone
-pub order_kept : (xs ys : List RuleCell) → map chances_of xs ≡ map chances_of ys → AllPairs StandsBefore ys → AllPairs StandsBefore xs
+pub order_kept : (xs ys : List RuleCell) → map chances_of xs ≡ map chances_of ys → AllPairs RanksBefore ys → AllPairs RanksBefore xs
 order_kept xs ys e h = let ranks : AllPairs Ranks (map chances_of xs) = rw e (ranked_chances ys h) in ranked_cells xs ranks
 
 sum_by-map : {X Y : Type 0} (f : X → Y) (g : Y → ℕ) (xs : List X) → sum_by g (map f xs) ≡ sum_by (λ x. g (f x)) xs
@@ -111,22 +112,23 @@ least shares mu lambda cells filled =
 pub total_small : (k : ℕ) → k ≤ 6 → 1024 ^ k ≤ 2 ^ 60
 total_small k h = pow-le-pow_right (omega arith) h
 
-pub asked_small : (ppm k : ℕ) → ppm ≤ 1000000 → k ≤ 6 → ppm * 1024 ^ k ≤ 1000000 * 2 ^ 60
-asked_small ppm k h le = mul-le ppm (1024 ^ k) 1000000 (2 ^ 60) h (total_small k le)
-
 abbrev IsWeightOf : ℕ → ℤ → Type 0
 IsWeightOf k w = ((pos 0 -ℤ pos (80 * k)) ≤ℤ w) × (w ≤ℤ pos (79 * k))
 
-of_six : (k : ℕ) (w : ℤ) → k ≤ 6 → IsWeightOf k w → (negsuc 479 ≤ℤ w) × (w ≤ℤ pos 474)
-of_six k w few h = (omega (arith, ints, h.0, few), omega (arith, ints, h.1, few))
+of_six : (k : ℕ) (c : RuleCell) → k ≤ 6 → IsWeightOf k c.weight → c.link + c.nonlink ≤ 65536 → IsWithinRanges c
+of_six k c few h shares = record {
+  weight_low = omega (arith, ints, h.0, few);
+  weight_high = omega (arith, ints, h.1, few);
+  shares = shares;
+}
 
--- the weights of the cells are within the bounds of six fields
-pub weights_in_range : (shares : List FieldShares) (mu lambda : ℕ) (cells : List RuleCell) → length shares ≤ 6 → IsFilled shares mu lambda cells → All HasWeightInRange cells
-weights_in_range shares mu lambda cells few filled =
+-- the cells are within their ranges
+pub within_ranges : (shares : List FieldShares) (mu lambda : ℕ) (cells : List RuleCell) → length shares ≤ 6 → IsFilled shares mu lambda cells → All IsWithinRanges cells
+within_ranges shares mu lambda cells few filled =
     let n = pattern_count_of shares in
     let before : All (λ (ch : Chances). IsWeightOf (length shares) ch.weight) (all_chances shares) = All-from_get_or (λ (ch : Chances). IsWeightOf (length shares) ch.weight) (all_chances shares) (chances_of empty_cell)
     (λ k lt. let in_range : k < n = omega (arith, lt, length-map-range_with_len (chances_at shares) 0 n) in
     rw (get_or-map-range_with_len (chances_at shares) 0 n k k (chances_of empty_cell) in_range (omega arith)) (weight_range shares k in_range)) in
     let all = All-permutation (λ (ch : Chances). IsWeightOf (length shares) ch.weight) _ _ filled.patterns before in
     λ k d lt. let there : k < length (map chances_of cells) = omega (arith, lt, length-map cells chances_of) in
-    of_six (length shares) _ few (rw (get_or-map chances_of cells k d (chances_of d) lt) at (all k (chances_of d) there))
+    of_six (length shares) (get_or cells k d) few (rw (get_or-map chances_of cells k d (chances_of d) lt) at (all k (chances_of d) there)) (filled.rule k d lt)

@@ -8,7 +8,7 @@ use Rattle.link_base.specs.Rule.{empty_cell}
 pub sum_step : (f : RuleCell → ℕ) (cells : List RuleCell) (i s x : ℕ) → i < length cells → s ≡ sum_by f (take i cells) → x ≡ f (get_or cells i empty_cell) → s + x ≡ sum_by f (take (i + 1) cells)
 sum_step f cells i s x lt e g = omega (arith, sum_by_more f cells i empty_cell lt, e, g)
 
-pub small_step : (s i a b : ℕ) → s ≤ i * 2 ^ 96 → a < 2 ^ 64 → b < 2 ^ 32 → s + a * b ≤ (i + 1) * 2 ^ 96
+pub small_step : (s i a b : ℕ) → s ≤ i * 2 ^ 80 → a < 2 ^ 64 → b ≤ 65536 → s + a * b ≤ (i + 1) * 2 ^ 80
 small_step s i a b h la lb =
-    let p : a * b ≤ 2 ^ 64 * 2 ^ 32 = mul-le a b (2 ^ 64) (2 ^ 32) (omega arith) (omega arith) in
+    let p : a * b ≤ 2 ^ 64 * 2 ^ 16 = mul-le a b (2 ^ 64) (2 ^ 16) (omega arith) lb in
     omega (arith, h, p)

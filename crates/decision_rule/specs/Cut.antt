@@ -1,5 +1,7 @@
--- Shares that are given in an order, each up to its bound, as far as an asked level allows.
+-- Shares that are given in an order, each up to its bound, as far as an asked level allows: `cut_rule` carries it for the
+-- links and the non-links by the parts `links` and `nonlinks` of its clause `filled`.
 use Rattle.std.specs.Prelude.{◌≡◌, ℕ, ◌+◌, ◌*◌, ◌<◌, ◌≤◌, ◌⊎◌, List, length, slice_index_or, sum_by, All}
+use Rattle.link_limits.specs.declared.TheConstants.{PER_MILLION}
 
 -- the sum of the shares, each times its weight
 abbrev pub level_of : {X : Type 0} → (X → ℕ) → (X → ℕ) → List X → ℕ
@@ -12,9 +14,9 @@ pub record IsBorder {X : Type 0} (share bound weight : X → ℕ) (asked : ℕ) 
   pub less : (d : X) → share (slice_index_or xs i d) < bound (slice_index_or xs i d)
   pub earlier : (k : ℕ) (d : X) → k < i → share (slice_index_or xs k d) ≡ bound (slice_index_or xs k d)
   pub later : (k : ℕ) (d : X) → i < k → k < length xs → share (slice_index_or xs k d) ≡ 0
-  pub one_more : (d : X) → asked < (level_of weight share xs + weight (slice_index_or xs i d)) * 1000000
+  pub one_more : (d : X) → asked < (level_of weight share xs + weight (slice_index_or xs i d)) * PER_MILLION
 
 -- the level is within what is asked, in millionths, and either every share is its bound or there is a border
 pub record IsCut {X : Type 0} (share bound weight : X → ℕ) (asked : ℕ) (xs : List X) : Type 0 where
-  pub within : level_of weight share xs * 1000000 ≤ asked
+  pub within : level_of weight share xs * PER_MILLION ≤ asked
   pub ends : All (λ x. share x ≡ bound x) xs ⊎ ((i : ℕ) × IsBorder share bound weight asked xs i)

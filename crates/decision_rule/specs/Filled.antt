@@ -1,10 +1,12 @@
--- The filled rule of given shares and asked levels (Fellegi and Sunter 1969, section 2).
-use Rattle.std.specs.Prelude.{ℕ, ℤ, pos, negsuc, ◌≤ℤ◌, ◌+◌, ◌-◌, ◌*◌, ◌^◌, ◌≤◌, List, map, reverse, length, All, AllPairs, IsPermutation}
+-- The filled rule of given shares and asked levels (Fellegi and Sunter 1969, section 2): `cut_rule` carries it by its
+-- clause `filled`, and the law `one_filled` says that there is one at most.
+use Rattle.std.specs.Prelude.{ℕ, ℤ, ◌+◌, ◌-◌, ◌*◌, ◌^◌, ◌≤◌, List, map, reverse, length, All, AllPairs, IsPermutation}
 use Rattle.std.specs.List.{range_with_len}
+use Rattle.link_limits.specs.declared.TheConstants.{WHOLE_FIELD, WHOLE_RULE}
 use Rattle.link_base.specs.declared.rule.RuleCell.{RuleCell}
 use Rattle.link_base.specs.declared.shares.FieldShares.{FieldShares}
 use Rattle.pattern_shapes.specs.Patterns.{pattern_count_of, m_of, u_of, weight_of}
-use Rattle.decision_rule.specs.Rule.{StandsBefore}
+use Rattle.decision_rule.specs.Order.{RanksBefore}
 use Rattle.decision_rule.specs.Cut.{IsCut}
 
 -- a pattern with its chances and its weight
@@ -22,25 +24,21 @@ chances_at shares pattern = record { pattern = pattern; m = m_of shares pattern;
 
 -- an asked level, over 1,024 to the number of fields times 65,536, in millionths
 abbrev pub asked_of : List FieldShares → ℕ → ℕ
-asked_of shares ppm = ppm * 1024 ^ length shares * 65536
+asked_of shares ppm = ppm * WHOLE_FIELD ^ length shares * WHOLE_RULE
 
 -- the links are given from the first cell on, up to 65,536ths, and count by u
 abbrev pub LinksAreCut : ℕ → List RuleCell → Type 0
-LinksAreCut = IsCut (λ (c : RuleCell). c.link) (λ (c : RuleCell). 65536) (λ (c : RuleCell). c.u)
+LinksAreCut = IsCut (λ (c : RuleCell). c.link) (λ (c : RuleCell). WHOLE_RULE) (λ (c : RuleCell). c.u)
 
 -- the non-links are given in the order of the list, up to what the links leave, and count by m
 abbrev pub NonlinksAreCut : ℕ → List RuleCell → Type 0
-NonlinksAreCut = IsCut (λ (c : RuleCell). c.nonlink) (λ (c : RuleCell). 65536 - c.link) (λ (c : RuleCell). c.m)
+NonlinksAreCut = IsCut (λ (c : RuleCell). c.nonlink) (λ (c : RuleCell). WHOLE_RULE - c.link) (λ (c : RuleCell). c.m)
 
 -- each pattern stands in one cell, the greater m/u first; the links are cut from the first cell on, the non-links from
 -- the last cell back
 pub record IsFilled (shares : List FieldShares) (mu_ppm lambda_ppm : ℕ) (cells : List RuleCell) : Type 0 where
   pub patterns : IsPermutation (map (chances_at shares) (range_with_len 0 (pattern_count_of shares))) (map chances_of cells)
-  pub in_order : AllPairs StandsBefore cells
-  pub rule : All (λ c. c.link + c.nonlink ≤ 65536) cells
+  pub in_order : AllPairs RanksBefore cells
+  pub rule : All (λ c. c.link + c.nonlink ≤ WHOLE_RULE) cells
   pub links : LinksAreCut (asked_of shares mu_ppm) cells
   pub nonlinks : NonlinksAreCut (asked_of shares lambda_ppm) (reverse cells)
-
--- the weight of a cell is from -480 to 474
-abbrev pub HasWeightInRange : RuleCell → Type 0
-HasWeightInRange c = (negsuc 479 ≤ℤ c.weight) × (c.weight ≤ℤ pos 474)

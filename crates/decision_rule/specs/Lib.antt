@@ -1,8 +1,11 @@
 pub mod Rule
+pub mod Order
 pub mod Exchange
 pub mod Cut
-pub mod Walk
 pub mod Filled
 pub mod Least
 pub mod Border
 pub mod Decide
+pub mod Sorting
+pub mod Walk
+pub mod Block

@@ -1,10 +1,13 @@
--- Randomised decision rules (Fellegi and Sunter 1969, section 2).
-use Rattle.std.specs.Prelude.{◌≡◌, ℕ, ◌+◌, ◌-◌, ◌*◌, ◌<◌, ◌⊎◌, Bool, ◌||◌, ◌&&◌, ◌==◌, nat_lt, max, List, sum_by, All}
+-- Randomised decision rules (Fellegi and Sunter 1969, section 2), and the two error levels and two chances of a possible
+-- link of a table and of a rule. `attained` carries those of a table by its clauses `mu`, `lambda`, `possible_m` and
+-- `possible_u`; the laws `exchange` and `filled_is_least` set them against those of every rule.
+use Rattle.std.specs.Prelude.{◌≡◌, ℕ, ◌+◌, ◌-◌, ◌*◌, ◌<◌, List, sum_by, All}
+use Rattle.link_limits.specs.declared.TheConstants.{WHOLE_RULE}
 use Rattle.link_base.specs.declared.rule.RuleCell.{RuleCell}
 
 -- the share of a possible link in a cell, in 65,536ths
 abbrev pub possible_of : RuleCell → ℕ
-possible_of c = 65536 - c.link - c.nonlink
+possible_of c = WHOLE_RULE - c.link - c.nonlink
 
 -- the two error levels of a table, and its chances of a possible link among matched and unmatched pairs
 abbrev pub mu_of : List RuleCell → ℕ
@@ -45,11 +48,3 @@ rule_possible_m r cells = sum_by (λ c. c.m * r.possible c.pattern) cells
 
 abbrev pub rule_possible_u : Rule → List RuleCell → ℕ
 rule_possible_u r cells = sum_by (λ c. c.u * r.possible c.pattern) cells
-
--- the first cell has the greater m/u, or an equal one and the smaller pattern
-abbrev pub StandsBefore : RuleCell → RuleCell → Type 0
-StandsBefore c d = (d.m * c.u < c.m * d.u) ⊎ ((c.m * d.u ≡ d.m * c.u) × (c.pattern < d.pattern))
-
--- the same as a test, where a u of 0 is read as 1
-abbrev pub stands_before : RuleCell → RuleCell → Bool
-stands_before c d = nat_lt (d.m * max c.u 1) (c.m * max d.u 1) || (c.m * max d.u 1 == d.m * max c.u 1 && nat_lt c.pattern d.pattern)

@@ -1,4 +1,4 @@
--- The walk that gives shares in an order, each as far as the room allows.
+-- Machinery of the two cuts: the walk that gives shares in an order, each as far as the room allows.
 use Rattle.std.specs.Prelude.{◌≡◌, ℕ, ◌-◌, ◌*◌, ◌/◌, eqb, cond, min, List, [], ◌∷◌}
 
 -- what is left after a cell: nothing after the first share below its bound

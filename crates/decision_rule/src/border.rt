@@ -2,6 +2,7 @@
 ghost use Rattle.std.specs.Prelude.{◌≡◌, ℕ, ◌+◌, ◌*◌, ◌^◌, ◌<◌, slice_index};
 ghost use Rattle.rand_chacha.specs.ChaCha.{word_at};
 
+use link_limits::MOST_ROWS;
 use rand_chacha::ChaCha20Rng;
 use rand_core::SeedableRng;
 use rand_core::utils::NextWord;
@@ -23,7 +24,8 @@ pub struct BorderWords {
 
 impl Model for BorderWords {
     ghost use Rattle.std.specs.Prelude.{◌≡◌, ℕ};
-    ghost use Rattle.decision_rule.specs.Border.{IsBlock, border_key};
+    ghost use Rattle.decision_rule.specs.Block.{IsBlock};
+    ghost use Rattle.decision_rule.specs.Border.{border_key};
 
     ghost Value = { ℕ };
 
@@ -54,8 +56,8 @@ impl BorderWords {
 
     /// The word of the pair at positions `a` in A and `b` in B.
     pub fn word(&mut self, a: u32, b: u32) -> u32
-        requires a { a < 100000 }
-        requires b { b < 100000 }
+        requires a { a < MOST_ROWS }
+        requires b { b < MOST_ROWS }
         ensures same { self.new ≡ self.old }
         ensures word { result ≡ border_word self.old a b }
     {

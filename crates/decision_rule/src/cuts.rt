@@ -5,6 +5,7 @@ ghost use Rattle.decision_rule.specs.Walk.{room_after};
 ghost use Rattle.link_base.specs.declared.rule.RuleCell.{RuleCell};
 
 use link_base::RuleCell;
+use link_limits::{PER_MILLION, WHOLE_RULE};
 
 /// The share of a cell for which there is room, up to its bound, and the room that this leaves: none past a cell that
 /// could not have all.
@@ -25,13 +26,13 @@ fn give(bound: u32, weight: u64, room: u128) -> (u32, u128)
 pub fn cut_links(cells: &mut [RuleCell], asked: u128)
     requires { All (λ (c : RuleCell). 0 < c.u) cells.old }
     ensures chances { map chances_of cells.new ≡ map chances_of cells.old }
-    ensures bound { All (λ (c : RuleCell). c.link ≤ 65536) cells.new }
+    ensures bound { All (λ (c : RuleCell). c.link ≤ WHOLE_RULE) cells.new }
     ensures cut { LinksAreCut asked cells.new }
 {
-    let mut room = asked / 1_000_000;
+    let mut room = asked / u128::from(PER_MILLION);
     for i in 0..cells.len() {
         let cell = &mut cells[i];
-        let (share, left) = give(65536, cell.u, room);
+        let (share, left) = give(WHOLE_RULE, cell.u, room);
         cell.link = share;
         room = left;
     }
@@ -40,18 +41,18 @@ pub fn cut_links(cells: &mut [RuleCell], asked: u128)
 /// Gives the non-link shares from the last cell on, within what the links leave. What is asked is in millionths.
 pub fn cut_nonlinks(cells: &mut [RuleCell], asked: u128)
     requires weights { All (λ (c : RuleCell). 0 < c.m) cells.old }
-    requires links { All (λ (c : RuleCell). c.link ≤ 65536) cells.old }
+    requires links { All (λ (c : RuleCell). c.link ≤ WHOLE_RULE) cells.old }
     ensures chances { map chances_of cells.new ≡ map chances_of cells.old }
     ensures same_links { map (λ (c : RuleCell). c.link) cells.new ≡ map (λ (c : RuleCell). c.link) cells.old }
-    ensures bound { All (λ (c : RuleCell). c.link + c.nonlink ≤ 65536) cells.new }
+    ensures bound { All (λ (c : RuleCell). c.link + c.nonlink ≤ WHOLE_RULE) cells.new }
     ensures cut { NonlinksAreCut asked (reverse cells.new) }
 {
-    let mut room = asked / 1_000_000;
+    let mut room = asked / u128::from(PER_MILLION);
     let mut i = cells.len();
     while i > 0 {
         i -= 1;
         let cell = &mut cells[i];
-        let (share, left) = give(65536 - cell.link, cell.m, room);
+        let (share, left) = give(WHOLE_RULE - cell.link, cell.m, room);
         cell.nonlink = share;
         room = left;
     }

@@ -5,6 +5,7 @@ ghost use Rattle.pattern_shapes.specs.Patterns.{base_of, pattern_count_of};
 ghost use Rattle.decision_rule.specs.Filled.{chances_of, chances_at};
 
 use link_base::{FieldShares, RuleCell};
+use link_limits::MOST_FIELDS;
 use pattern_shapes::eighth_weight;
 
 /// How many outcomes a field has.
@@ -16,7 +17,7 @@ fn base(field: &FieldShares) -> u16
 
 /// How many patterns the fields have.
 fn pattern_count(shares: &[FieldShares]) -> u16
-    requires { length shares.now ≤ 6 }
+    requires { length shares.now ≤ MOST_FIELDS }
     ensures { result ≡ pattern_count_of shares.now }
 {
     let mut count = 1;
@@ -28,7 +29,7 @@ fn pattern_count(shares: &[FieldShares]) -> u16
 
 /// The cell of a pattern, with nothing given yet.
 fn cell_of(shares: &[FieldShares], pattern: u16) -> RuleCell
-    requires fields { length shares.now ≤ 6 }
+    requires fields { length shares.now ≤ MOST_FIELDS }
     requires pattern { pattern < pattern_count_of shares.now }
     ensures { chances_of result ≡ chances_at shares.now pattern }
 {
@@ -59,7 +60,7 @@ fn cell_of(shares: &[FieldShares], pattern: u16) -> RuleCell
 
 /// Writes each pattern's cell at its number.
 pub fn fill(shares: &[FieldShares], cells: &mut [RuleCell])
-    requires fields { length shares.now ≤ 6 }
+    requires fields { length shares.now ≤ MOST_FIELDS }
     requires size { length cells.old ≡ pattern_count_of shares.now }
     ensures { map chances_of cells.new
         ≡ map (chances_at shares.now) (range_with_len 0 (pattern_count_of shares.now)) }

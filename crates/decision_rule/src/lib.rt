@@ -10,10 +10,14 @@ mod laws;
 mod order;
 mod rule;
 mod sums;
+mod unit;
 
 pub use border::BorderWords;
 pub use choice::decide;
-pub use laws::{cut_form, exchange, link_exchange, nonlink_exchange, one_filled, slack_exchange};
+pub use laws::{
+    cut_form, exchange, filled_is_least, link_exchange, nonlink_exchange, one_filled,
+    slack_exchange,
+};
 pub use rule::cut_rule;
 pub use sums::attained;
 

@@ -1,26 +1,28 @@
 // The rule of given shares and asked levels.
 ghost use Rattle.std.specs.Prelude.{◌≡◌, ◌≤◌, length, vec_len, All};
 ghost use Rattle.pattern_shapes.specs.Patterns.{pattern_count_of};
-ghost use Rattle.decision_rule.specs.Filled.{IsFilled, asked_of, HasWeightInRange};
+ghost use Rattle.link_base.specs.Rule.{IsWithinRanges};
+ghost use Rattle.decision_rule.specs.Filled.{IsFilled, asked_of};
 ghost use Rattle.decision_rule.specs.Least.{IsLeast};
 
 use crate::cuts::{cut_links, cut_nonlinks};
 use crate::fill::fill;
 use crate::order::order;
+use crate::unit::denominator;
 use link_base::{FieldShares, RuleCell, RuleTable};
+use link_limits::{MOST_FIELDS, PER_MILLION};
 
 /// Fills a table with the rule of these shares and asked levels, in parts per million: the patterns in the order of
 /// m/u, links from the first on as far as `mu_ppm` allows, non-links from the last back as far as `lambda_ppm` allows,
 /// and possible links between. No randomised rule with levels at most the table's own has a lower chance of a possible
 /// link, among matched or among unmatched pairs (Fellegi and Sunter 1969, section 2).
 pub fn cut_rule(shares: &[FieldShares], mu_ppm: u32, lambda_ppm: u32, table: &mut RuleTable)
-    requires fields { length shares.now ≤ 6 }
-    requires mu { mu_ppm ≤ 1000000 }
-    requires lambda { lambda_ppm ≤ 1000000 }
+    requires fields { length shares.now ≤ MOST_FIELDS }
+    requires mu { mu_ppm ≤ PER_MILLION }
+    requires lambda { lambda_ppm ≤ PER_MILLION }
     requires size { vec_len table.old.cells ≡ pattern_count_of shares.now }
     ensures size { vec_len table.new.cells ≡ vec_len table.old.cells }
     ensures filled { IsFilled shares.now mu_ppm lambda_ppm table.new.cells.items }
-    ensures weights { All HasWeightInRange table.new.cells.items }
     ensures least { IsLeast shares.now table.new.cells.items }
 {
     let cells = table.cells.as_mut_slice();
@@ -29,12 +31,12 @@ pub fn cut_rule(shares: &[FieldShares], mu_ppm: u32, lambda_ppm: u32, table: &mu
 
 /// The same on the cells.
 fn cut_cells(shares: &[FieldShares], mu_ppm: u32, lambda_ppm: u32, cells: &mut [RuleCell])
-    requires fields { length shares.now ≤ 6 }
-    requires mu { mu_ppm ≤ 1000000 }
-    requires lambda { lambda_ppm ≤ 1000000 }
+    requires fields { length shares.now ≤ MOST_FIELDS }
+    requires mu { mu_ppm ≤ PER_MILLION }
+    requires lambda { lambda_ppm ≤ PER_MILLION }
     requires size { length cells.old ≡ pattern_count_of shares.now }
     ensures filled { IsFilled shares.now mu_ppm lambda_ppm cells.new }
-    ensures weights { All HasWeightInRange cells.new }
+    ensures in_range { All IsWithinRanges cells.new }
     ensures least { IsLeast shares.now cells.new }
 {
     fill(shares, cells);
@@ -45,9 +47,9 @@ fn cut_cells(shares: &[FieldShares], mu_ppm: u32, lambda_ppm: u32, cells: &mut [
 
 /// An asked level in millionths of the unit that levels are counted in.
 fn asked(shares: &[FieldShares], ppm: u32) -> u128
-    requires fields { length shares.now ≤ 6 }
-    requires ppm { ppm ≤ 1000000 }
+    requires fields { length shares.now ≤ MOST_FIELDS }
+    requires ppm { ppm ≤ PER_MILLION }
     ensures { result ≡ asked_of shares.now ppm }
 {
-    u128::from(ppm) * 1024u128.pow(shares.len() as u32) * 65_536
+    u128::from(ppm) * denominator(shares.len() as u8)
 }

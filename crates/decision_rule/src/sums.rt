@@ -1,22 +1,26 @@
 // The attained levels of a rule.
 ghost use Rattle.std.specs.Prelude.{◌≡◌, ◌*◌, ◌^◌, ◌≤◌, ◌<◌, vec_len, length};
+ghost use Rattle.link_base.specs.Rule.{HasBoundedSums};
 ghost use Rattle.decision_rule.specs.Rule.{mu_of, lambda_of, possible_m_of, possible_u_of};
 
+use crate::unit::denominator;
 use link_base::{Levels, RuleTable};
+use link_limits::{MOST_FIELDS, MOST_PATTERNS, WHOLE_FIELD, WHOLE_RULE};
 
 /// The attained levels of a table of so many fields and its chances of a possible link, as sums over one denominator:
 /// 1,024 to the number of fields times 65,536.
 pub fn attained(fields: u8, table: &RuleTable) -> Levels
-    requires fields { fields ≤ 6 }
-    requires size { vec_len table.now.cells ≤ 4096 }
-    ensures denominator { result.denominator ≡ 1024 ^ fields * 65536 }
+    requires fields { fields ≤ MOST_FIELDS }
+    requires size { vec_len table.now.cells ≤ MOST_PATTERNS }
+    ensures denominator { result.denominator ≡ WHOLE_FIELD ^ fields * WHOLE_RULE }
     ensures mu { result.mu ≡ mu_of table.now.cells.items }
     ensures lambda { result.lambda ≡ lambda_of table.now.cells.items }
     ensures possible_m { result.possible_m ≡ possible_m_of table.now.cells.items }
     ensures possible_u { result.possible_u ≡ possible_u_of table.now.cells.items }
+    ensures bounded { HasBoundedSums result }
 {
     let mut levels = Levels {
-        denominator: 1024u128.pow(u32::from(fields)) * 65_536,
+        denominator: denominator(fields),
         mu: 0,
         lambda: 0,
         possible_m: 0,
@@ -25,11 +29,7 @@ pub fn attained(fields: u8, table: &RuleTable) -> Levels
     for cell in &table.cells {
         let m = u128::from(cell.m);
         let u = u128::from(cell.u);
-        let possible = u128::from(
-            65_536u32
-                .saturating_sub(cell.link)
-                .saturating_sub(cell.nonlink),
-        );
+        let possible = u128::from(WHOLE_RULE - cell.link - cell.nonlink);
         levels.mu += u * u128::from(cell.link);
         levels.lambda += m * u128::from(cell.nonlink);
         levels.possible_m += m * possible;

@@ -63,7 +63,7 @@ both shares mu_ppm lambda_ppm cells i q filled b n =
     let level : level_of (λ (c : RuleCell). c.m) (λ (c : RuleCell). c.nonlink) (reverse cells) ≡ lambda_of cells = sum_by-IsPermutation (λ (c : RuleCell). c.m * c.nonlink) cells (reverse cells) (IsPermutation-reverse cells) in
     let more = rw (there, level) at (n.one_more empty_cell) in
     let link : link_border_of cells ≡ Some (cell_at cells i) = find_first (λ c. ltb c.link 65536) cells i i_in (λ k lt. le-ltb _ _ (omega (arith, b.earlier k empty_cell lt))) (lt-ltb _ _ (b.less empty_cell)) in
-    let nonlink : nonlink_border_of cells ≡ Some (cell_at cells j) = find_first (λ c. ltb c.nonlink (65536 - c.link)) (reverse cells) q n.in_table (λ k lt. le-ltb _ _ (omega (arith, n.earlier k empty_cell lt))) (lt-ltb _ _ (n.less empty_cell)) ∙ ap Some there in
+    let nonlink : nonlink_border_of cells ≡ Some (cell_at cells j) = find_first (λ c. ltb (c.link + c.nonlink) 65536) (reverse cells) q n.in_table (λ k lt. le-ltb _ _ (omega (arith, n.earlier k empty_cell lt))) (lt-ltb _ _ (omega (arith, n.less empty_cell))) ∙ ap Some there in
     record {
       links = record { in_order = filled.in_order; shares = is_cell; in_table = i_in; before = λ k lt. b.earlier k empty_cell lt; after = λ k lt in_table. b.later k empty_cell lt in_table };
       nonlinks = record {

@@ -1,5 +1,5 @@
 -- The rows of the frontier.
-use Rattle.std.proofs.Common.{ℕ, ◌+◌, ◌^◌, ◌<◌, ◌≤◌, List, Bool, [], ◌∷◌, reverse, length, map, ltb, ◌-◌, set, arith, get_or, inl, inr}
+use Rattle.std.proofs.Common.{ℕ, ◌+◌, ◌^◌, ◌<◌, ◌≤◌, List, Bool, [], ◌∷◌, reverse, length, map, ltb, set, arith, get_or, inl, inr}
 use Rattle.std.proofs.Math.Nat.{pow-le-pow_right}
 use Rattle.std.specs.List.{All, AllByRecursion, find}
 use Rattle.std.proofs.lemmas.List.{get_or-map, length-map, get_or-set_same, get_or-set_other}
@@ -56,7 +56,7 @@ slack_small shares mu_ppm lambda_ppm cells few filled =
     let small = small_cells shares mu_ppm lambda_ppm cells few filled in
     let turned : All IsSmall (reverse cells) = All-permutation IsSmall cells (reverse cells) (IsPermutation-reverse cells) small in
     let link = found_small (λ c. ltb c.link 65536) cells (recursion_from_All IsSmall cells small) in
-    let nonlink = found_small (λ c. ltb c.nonlink (65536 - c.link)) (reverse cells) (recursion_from_All IsSmall (reverse cells) turned) in
+    let nonlink = found_small (λ c. ltb (c.link + c.nonlink) 65536) (reverse cells) (recursion_from_All IsSmall (reverse cells) turned) in
     (omega (arith, link.0, nonlink.0), omega (arith, link.1, nonlink.1))
 
 pub rows_fall : (shares : List FieldShares) (mu_ppm more_ppm lambda_ppm : ℕ) (x y : FrontierRow) → mu_ppm ≤ more_ppm → IsFrontierRow shares mu_ppm lambda_ppm x → IsFrontierRow shares more_ppm lambda_ppm y → FallsTo x y

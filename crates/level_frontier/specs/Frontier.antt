@@ -1,5 +1,6 @@
--- The rows of the frontier.
+-- The rows of the frontier: `frontier` carries them by its clauses `rows`, `falling` and `near_least`.
 use Rattle.std.specs.Prelude.{◌≡◌, ℕ, ◌+◌, ◌*◌, ◌^◌, ◌≤◌, List, length}
+use Rattle.link_limits.specs.declared.TheConstants.{WHOLE_FIELD, WHOLE_RULE}
 use Rattle.link_base.specs.declared.rule.RuleCell.{RuleCell}
 use Rattle.link_base.specs.declared.shares.FieldShares.{FieldShares}
 use Rattle.pattern_shapes.specs.Patterns.{m_of, u_of}
@@ -12,7 +13,7 @@ use Rattle.level_frontier.specs.Borders.{slack_m_of, slack_u_of}
 
 -- the four sums and the slack of a table
 pub record HasLevelsOf (shares : List FieldShares) (cells : List RuleCell) (row : FrontierRow) : Type 0 where
-  pub denominator : row.levels.denominator ≡ 1024 ^ length shares * 65536
+  pub denominator : row.levels.denominator ≡ WHOLE_FIELD ^ length shares * WHOLE_RULE
   pub mu : row.levels.mu ≡ mu_of cells
   pub lambda : row.levels.lambda ≡ lambda_of cells
   pub possible_m : row.levels.possible_m ≡ possible_m_of cells
@@ -32,6 +33,6 @@ pub record FallsTo (before after : FrontierRow) : Type 0 where
 -- no rule at the asked levels has a chance of a possible link that is lower than that of the row by more than its slack
 pub record IsNearLeast (shares : List FieldShares) (mu_ppm lambda_ppm : ℕ) (row : FrontierRow) : Type 0 where
   pub matched : (denominator : ℕ) (r : Rule) → IsWithinAsked shares mu_ppm lambda_ppm denominator r
-      → denominator * row.levels.possible_m ≤ 65536 * sum_over shares (m_of shares) r.possible + denominator * row.slack_m
+      → denominator * row.levels.possible_m ≤ WHOLE_RULE * sum_over shares (m_of shares) r.possible + denominator * row.slack_m
   pub unmatched : (denominator : ℕ) (r : Rule) → IsWithinAsked shares mu_ppm lambda_ppm denominator r
-      → denominator * row.levels.possible_u ≤ 65536 * sum_over shares (u_of shares) r.possible + denominator * row.slack_u
+      → denominator * row.levels.possible_u ≤ WHOLE_RULE * sum_over shares (u_of shares) r.possible + denominator * row.slack_u

@@ -1,25 +1,29 @@
 // The borders of a filled rule.
-ghost use Rattle.std.specs.Prelude.{◌≡◌};
+ghost use Rattle.std.specs.Prelude.{◌≡◌, ◌+◌, nat_lt};
 ghost use Rattle.level_frontier.specs.Borders.{border_m, border_u, link_border_of, nonlink_border_of};
 
 use link_base::RuleCell;
+use link_limits::WHOLE_RULE;
 
 /// The border of the links: the first cell that is not a link throughout.
 pub fn link_border(cells: &[RuleCell]) -> Option<RuleCell>
     ensures { result ≡ link_border_of cells.now }
 {
-    cells.iter().copied().find(|c| c.link < 65_536)
+    cells.iter().copied().find(|c| c.link < WHOLE_RULE)
 }
 
-/// The border of the non-links: the last cell that has fewer of them than the links leave.
+/// The border of the non-links: the last cell whose links and non-links leave a share of possible links.
 pub fn nonlink_border(cells: &[RuleCell]) -> Option<RuleCell>
     ensures { result ≡ nonlink_border_of cells.now }
 {
-    cells
-        .iter()
-        .rev()
-        .copied()
-        .find(|c| c.nonlink < 65_536u32.saturating_sub(c.link))
+    cells.iter().rev().copied().find(leaves_possible)
+}
+
+/// The links and the non-links of a cell leave a share of possible links.
+fn leaves_possible(cell: &RuleCell) -> bool
+    ensures { result ≡ nat_lt (cell.now.link + cell.now.nonlink) WHOLE_RULE }
+{
+    u64::from(cell.link) + u64::from(cell.nonlink) < u64::from(WHOLE_RULE)
 }
 
 /// The chance of a border among matched pairs, 0 where it is missing.

@@ -1,5 +1,6 @@
 // The laws of the frontier.
 ghost use Rattle.std.specs.Prelude.{◌≡◌, ℕ, ◌+◌, ◌*◌, ◌<◌, ◌≤◌, List, length, slice_index_or};
+ghost use Rattle.link_limits.specs.declared.TheConstants.{WHOLE_RULE};
 ghost use Rattle.link_base.specs.declared.rule.RuleCell.{RuleCell};
 ghost use Rattle.link_base.specs.declared.shares.FieldShares.{FieldShares};
 ghost use Rattle.pattern_shapes.specs.Patterns.{m_of, u_of};
@@ -16,12 +17,12 @@ pub fn near_least()
         → IsFilled shares mu_ppm lambda_ppm cells
         → (denominator : ℕ) (rule : Rule) → IsWithinAsked shares mu_ppm lambda_ppm denominator rule
         → denominator * possible_m_of cells
-        ≤ 65536 * sum_over shares (m_of shares) rule.possible + denominator * slack_m_of cells }
+        ≤ WHOLE_RULE * sum_over shares (m_of shares) rule.possible + denominator * slack_m_of cells }
     ensures unmatched { (shares : List FieldShares) (mu_ppm lambda_ppm : ℕ) (cells : List RuleCell)
         → IsFilled shares mu_ppm lambda_ppm cells
         → (denominator : ℕ) (rule : Rule) → IsWithinAsked shares mu_ppm lambda_ppm denominator rule
         → denominator * possible_u_of cells
-        ≤ 65536 * sum_over shares (u_of shares) rule.possible + denominator * slack_u_of cells }
+        ≤ WHOLE_RULE * sum_over shares (u_of shares) rule.possible + denominator * slack_u_of cells }
 {}
 
 /// A higher asked level of links leaves no cell a greater possible share.

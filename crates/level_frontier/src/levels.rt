@@ -5,6 +5,7 @@ ghost use Rattle.pattern_shapes.specs.Patterns.{pattern_count_of};
 use crate::borders::{link_border, matched_chance, nonlink_border, unmatched_chance};
 use decision_rule::{attained, cut_rule};
 use link_base::{FieldShares, Levels, RuleTable};
+use link_limits::{MOST_FIELDS, PER_MILLION};
 
 /// The attained levels of one asked level of links, and what one 65,536th of each border pattern is worth: how much
 /// lower a chance of a possible link any rule at the asked levels can have, in the unit of the levels.
@@ -27,9 +28,9 @@ pub fn frontier(
     table: &mut RuleTable,
     rows: &mut [FrontierRow],
 )
-    requires fields { length shares.now ≤ 6 }
-    requires mus { All (λ mu. mu ≤ 1000000) mus.now }
-    requires lambda { lambda_ppm ≤ 1000000 }
+    requires fields { length shares.now ≤ MOST_FIELDS }
+    requires mus { All (λ mu. mu ≤ PER_MILLION) mus.now }
+    requires lambda { lambda_ppm ≤ PER_MILLION }
     requires size { vec_len table.old.cells ≡ pattern_count_of shares.now }
     requires rows { length rows.old ≡ length mus.now }
     ensures size { vec_len table.new.cells ≡ vec_len table.old.cells }
@@ -56,9 +57,9 @@ fn fill_rows(
     table: &mut RuleTable,
     rows: &mut [FrontierRow],
 )
-    requires fields { length shares.now ≤ 6 }
-    requires mus { All (λ mu. mu ≤ 1000000) mus.now }
-    requires lambda { lambda_ppm ≤ 1000000 }
+    requires fields { length shares.now ≤ MOST_FIELDS }
+    requires mus { All (λ mu. mu ≤ PER_MILLION) mus.now }
+    requires lambda { lambda_ppm ≤ PER_MILLION }
     requires size { vec_len table.old.cells ≡ pattern_count_of shares.now }
     requires rows { length rows.old ≡ length mus.now }
     ensures size { vec_len table.new.cells ≡ vec_len table.old.cells }
@@ -77,9 +78,9 @@ fn row_of(
     lambda_ppm: u32,
     table: &mut RuleTable,
 ) -> FrontierRow
-    requires fields { length shares.now ≤ 6 }
-    requires mu { mu_ppm ≤ 1000000 }
-    requires lambda { lambda_ppm ≤ 1000000 }
+    requires fields { length shares.now ≤ MOST_FIELDS }
+    requires mu { mu_ppm ≤ PER_MILLION }
+    requires lambda { lambda_ppm ≤ PER_MILLION }
     requires size { vec_len table.old.cells ≡ pattern_count_of shares.now }
     ensures size { vec_len table.new.cells ≡ vec_len table.old.cells }
     ensures row { IsFrontierRow shares.now mu_ppm lambda_ppm result }

@@ -2,7 +2,8 @@ use Rattle.std.proofs.Common.{◌≡◌, ◌/◌, get_or, arith, rules, ap, ◌�
 use Rattle.std.proofs.lemmas.Int.{ints}
 use Rattle.std.proofs.lemmas.Nat.{mod_below}
 use Rattle.pattern_shapes.specs.Weight.{eighth_weight_of}
-use Rattle.decision_rule.proofs.FillLemmas.{step, product_step, product_fits, product_small}
+use Rattle.pattern_shapes.proofs.PatternLemmas.{product_small}
+use Rattle.decision_rule.proofs.FillLemmas.{step, product_step, product_fits}
 use Rattle.decision_rule.proofs.fill.cell_of.Goals as goal
 
 pub overflow_mul-m : goal.overflow_mul-m
@@ -48,8 +49,8 @@ loop-field-preserved c =
       m_is = product_step c.loop-field.m _ _ _ _ _ inv.m_is s.m_is em;
       u_is = product_step c.loop-field.u _ _ _ _ _ inv.u_is s.u_is eu;
       weight_is = omega (arith, ints, c.from-weight.ensures, inv.weight_low, inv.weight_high, c.eighth_weight.ensures.low, c.eighth_weight.ensures.high, value, s.weight_is, inv.weight_is);
-      m_small = product_small c.loop-field.m c.from-m.result i inv.m_small (omega (arith, em, s.m_share.1));
-      u_small = product_small c.loop-field.u c.from-u.result i inv.u_small (omega (arith, eu, s.u_share.1));
+      m_small = omega (arith, product_small c.from-m.result c.loop-field.m i (omega (arith, em, s.m_share.1)) inv.m_small);
+      u_small = omega (arith, product_small c.from-u.result c.loop-field.u i (omega (arith, eu, s.u_share.1)) inv.u_small);
       weight_low = omega (arith, ints, c.from-weight.ensures, inv.weight_low, inv.weight_high, c.eighth_weight.ensures.low, c.eighth_weight.ensures.high);
       weight_high = omega (arith, ints, c.from-weight.ensures, inv.weight_low, inv.weight_high, c.eighth_weight.ensures.low, c.eighth_weight.ensures.high);
     }

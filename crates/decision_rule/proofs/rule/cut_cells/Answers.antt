@@ -1,7 +1,7 @@
 use Rattle.decision_rule.proofs.CutSteps.{links_kept}
 use Rattle.std.proofs.Common.{◌≡◌, ◌∙◌, map}
 use Rattle.decision_rule.specs.Filled.{chances_of}
-use Rattle.decision_rule.proofs.RuleLemmas.{permuted, in_order, order_kept, least, weights_in_range}
+use Rattle.decision_rule.proofs.RuleLemmas.{permuted, in_order, order_kept, least, within_ranges}
 use Rattle.decision_rule.proofs.FilledLemmas.{positive_cells}
 use Rattle.decision_rule.proofs.rule.cut_cells.Goals as goal
 
@@ -32,5 +32,5 @@ returns-clause-filled c =
 pub returns-clause-least : goal.returns-clause-least
 returns-clause-least c = least c.args.shares.now c.args.mu_ppm c.args.lambda_ppm c.cut_nonlinks.new.cells (returns-clause-filled c)
 
-pub returns-clause-weights : goal.returns-clause-weights
-returns-clause-weights c = weights_in_range c.args.shares.now c.args.mu_ppm c.args.lambda_ppm c.cut_nonlinks.new.cells c.requires.fields (returns-clause-filled c)
+pub returns-clause-in_range : goal.returns-clause-in_range
+returns-clause-in_range c = within_ranges c.args.shares.now c.args.mu_ppm c.args.lambda_ppm c.cut_nonlinks.new.cells c.requires.fields (returns-clause-filled c)
