@@ -11,6 +11,9 @@ use std::marker::Model;
 // The words of a ChaCha block.
 const BLOCK_WORDS: u64 = 16;
 
+// How far the words of two neighbours in A stand apart: 2^17, more than B has rows.
+const ROW_WORDS: u64 = 131_072;
+
 /// The border words of a seed: the word of the pair at positions `a` and `b` is word number `a * 2^17 + b` of
 /// ChaCha20, stream 0, under the key of the seed's eight bytes, least first, and 24 zeros. The block at hand is kept,
 /// and no answer depends on it.
@@ -61,7 +64,7 @@ impl BorderWords {
         ensures same { self.new ≡ self.old }
         ensures word { result ≡ border_word self.old a b }
     {
-        let place = u64::from(a) * 131_072 + u64::from(b);
+        let place = u64::from(a) * ROW_WORDS + u64::from(b);
         let block = place / BLOCK_WORDS;
         if block != self.block {
             self.words = block_of(&mut self.rng, block);

@@ -46,26 +46,6 @@ pub fn frontier(
     ensures near_least { (k : ℕ) (d : FrontierRow) → k < length mus.now
         → IsNearLeast shares.now (slice_index mus.now k) lambda_ppm (slice_index_or rows.new k d) }
 {
-    fill_rows(shares, lambda_ppm, mus, table, rows);
-}
-
-/// Writes each row.
-fn fill_rows(
-    shares: &[FieldShares],
-    lambda_ppm: u32,
-    mus: &[u32],
-    table: &mut RuleTable,
-    rows: &mut [FrontierRow],
-)
-    requires fields { length shares.now ≤ MOST_FIELDS }
-    requires mus { All (λ mu. mu ≤ PER_MILLION) mus.now }
-    requires lambda { lambda_ppm ≤ PER_MILLION }
-    requires size { vec_len table.old.cells ≡ pattern_count_of shares.now }
-    requires rows { length rows.old ≡ length mus.now }
-    ensures size { vec_len table.new.cells ≡ vec_len table.old.cells }
-    ensures rows { (k : ℕ) (d : FrontierRow) → k < length mus.now
-        → IsFrontierRow shares.now (slice_index mus.now k) lambda_ppm (slice_index_or rows.new k d) }
-{
     for k in 0..mus.len() {
         rows[k] = row_of(shares, mus[k], lambda_ppm, table);
     }

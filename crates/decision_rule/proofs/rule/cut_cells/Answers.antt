@@ -1,6 +1,6 @@
 use Rattle.decision_rule.proofs.CutSteps.{links_kept}
-use Rattle.std.proofs.Common.{◌≡◌, ◌∙◌, map}
-use Rattle.decision_rule.specs.Filled.{chances_of}
+use Rattle.std.proofs.Common.{◌≡◌, ℕ, ◌∙◌, map, reverse, subst}
+use Rattle.decision_rule.specs.Filled.{chances_of, LinksAreCut, NonlinksAreCut}
 use Rattle.decision_rule.proofs.RuleLemmas.{permuted, in_order, order_kept, least, within_ranges}
 use Rattle.decision_rule.proofs.FilledLemmas.{positive_cells}
 use Rattle.decision_rule.proofs.rule.cut_cells.Goals as goal
@@ -25,8 +25,8 @@ returns-clause-filled c =
       patterns = rw same p;
       in_order = order_kept c.cut_nonlinks.new.cells c.order.new.cells same (in_order c.args.shares.now c.order.new.cells p c.order.ensures.sorted);
       rule = c.cut_nonlinks.ensures.bound;
-      links = links_kept c.cut_nonlinks.new.cells c.cut_links.new.cells _ c.cut_nonlinks.ensures.chances c.cut_nonlinks.ensures.same_links (λ k d lt. (positive_cells c.args.shares.now c.cut_links.new.cells q k d lt).1) (rw (← c.asked.ensures) c.cut_links.ensures.cut);
-      nonlinks = rw (← c.asked-2.ensures) c.cut_nonlinks.ensures.cut;
+      links = links_kept c.cut_nonlinks.new.cells c.cut_links.new.cells _ c.cut_nonlinks.ensures.chances c.cut_nonlinks.ensures.same_links (λ k d lt. (positive_cells c.args.shares.now c.cut_links.new.cells q k d lt).1) (subst (λ (a : ℕ). LinksAreCut a c.cut_links.new.cells) c.asked.ensures c.cut_links.ensures.cut);
+      nonlinks = subst (λ (a : ℕ). NonlinksAreCut a (reverse c.cut_nonlinks.new.cells)) c.asked-2.ensures c.cut_nonlinks.ensures.cut;
     }
 
 pub returns-clause-least : goal.returns-clause-least

@@ -2,7 +2,7 @@ use Rattle.std.proofs.Common.{◌≡◌, ℕ, ◌<◌, length, slice_index, slic
 use Rattle.pattern_shapes.specs.Patterns.{pattern_count_of}
 use Rattle.level_frontier.specs.Frontier.{IsFrontierRow}
 use Rattle.level_frontier.specs.declared.levels.FrontierRow.{FrontierRow}
-use Rattle.level_frontier.proofs.levels.fill_rows.Given as goal
+use Rattle.level_frontier.proofs.levels.frontier.Given as goal
 
 abbrev pub invariant-loop-k : goal.invariant-loop-k
 invariant-loop-k l = record {
