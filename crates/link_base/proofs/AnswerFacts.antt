@@ -1,5 +1,5 @@
 -- Steps that were refused.
-use Rattle.std.proofs.Common.{◌≡◌, Bool, true, false, Result, Ok, Err, ap}
+use Rattle.std.proofs.Common.{◌≡◌, Bool, true, false, Result, Err, ap}
 use Rattle.std.specs.Prelude.{MatchBool, ⊤}
 use Rattle.link_base.specs.Answers.{and_then, RefusesBut}
 use Rattle.link_base.specs.Fault.{is_want, Refuses}

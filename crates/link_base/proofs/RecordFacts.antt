@@ -1,5 +1,5 @@
 -- Records by their ids, and one record more.
-use Rattle.std.proofs.Common.{◌≡◌, ◌≢◌, ◌+◌, ◌<◌, ◌∷◌, ◌++◌, ◌∙◌, ◌^◌, ℕ, zero, suc, List, [], length, map, get_or, Bool, true, false, not, cond, nat_lt, Option, Some, None, Result, Ok, Err, OnOk, OnErr, nat_eq, length-append, refl, sym, ap, arith, inl, inr}
+use Rattle.std.proofs.Common.{◌≡◌, ◌≢◌, ◌+◌, ◌<◌, ◌∷◌, ◌++◌, ◌∙◌, ◌^◌, ℕ, suc, List, [], length, get_or, Bool, true, false, not, cond, nat_lt, None, Result, Ok, Err, OnOk, OnErr, nat_eq, length-append, refl, sym, ap, arith, inl, inr}
 use Rattle.std.specs.List.{AllByRecursion, position, position_or_len}
 use Rattle.std.specs.Map.{keys_of}
 use Rattle.std.specs.Str.{bytes_eq}

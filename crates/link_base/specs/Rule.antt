@@ -1,6 +1,6 @@
 -- The cells of a rule: `RuleTable` keeps the ranges of each by its ghost field `in_range`, `cells` tells them by its
 -- clause `in_range`, and `with_patterns` makes the empty ones.
-use Rattle.std.specs.Prelude.{ℤ, pos, negsuc, ◌+◌, ◌^◌, ◌≤◌, ◌≤ℤ◌}
+use Rattle.std.specs.Prelude.{pos, negsuc, ◌+◌, ◌^◌, ◌≤◌, ◌≤ℤ◌}
 use Rattle.link_limits.specs.declared.TheConstants.{WHOLE_RULE}
 use Rattle.link_base.specs.declared.rule.Levels.{Levels}
 use Rattle.link_base.specs.declared.rule.RuleCell.{RuleCell}

@@ -1,6 +1,6 @@
 -- Standard values, records and files: what `StdFile` and `StdRow` are seen as (`find`, clauses `position` and `fresh`;
 -- `distinct_ids`).
-use Rattle.std.specs.Prelude.{◌≡◌, ◌≢◌, ℕ, List, [], ◌∷◌, All, AllPairs, map, position, bytes_eq, Option, ⊤, ℤ, pos, negsuc, ◌≤ℤ◌}
+use Rattle.std.specs.Prelude.{◌≢◌, ℕ, List, [], All, AllPairs, map, position, bytes_eq, Option, ⊤, ℤ, pos, negsuc, ◌≤ℤ◌}
 use Rattle.std.specs.Str.{IsUtf8}
 use Rattle.std.specs.declared.alloc.Global.{Global}
 use Rattle.std.specs.declared.vec.Vec.{Vec}

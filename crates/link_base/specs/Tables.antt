@@ -1,4 +1,5 @@
--- The words and marks that standard values go by.
+-- The words and marks that standard values go by: what `Tables::standard` gives, and what `WordPairs` keeps (`pairs`,
+-- clause `rising`).
 use Rattle.std.specs.Prelude.{◌≡◌, ℕ, List, [], ◌∷◌, Bool, ◌&&◌, ◌||◌, nat_le, length, AllPairs, All, IsTrue, codes}
 use Rattle.std.specs.List.{list_all}
 use Rattle.std.specs.Ordering.{nat_cmp}

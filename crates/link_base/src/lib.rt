@@ -9,6 +9,8 @@ mod shares;
 mod sides;
 mod standard;
 mod tables;
+#[cfg(test)]
+mod tests;
 mod text;
 
 pub use fault::{Fault, FileRole, status_of};

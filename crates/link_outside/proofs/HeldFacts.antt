@@ -1,6 +1,6 @@
 -- A name without an entry holds no bytes.
-use Rattle.std.proofs.Common.{◌≡◌, ◌∷◌, ℕ, List, [], Bool, true, false, Option, Some, bytes_eq, refl, inl, inr}
-use Rattle.std.specs.Prelude.{unwrap_or, if◌then◌else◌}
+use Rattle.std.proofs.Common.{◌≡◌, ◌∷◌, ℕ, List, [], Some, bytes_eq, refl, inl, inr}
+use Rattle.std.specs.Prelude.{unwrap_or}
 use Rattle.std.proofs.lemmas.Bool.{cases_Bool}
 use Rattle.link_outside.specs.Holdings.{held_in, surely_held_in}
 use Rattle.link_outside.specs.declared.holdings.Entry.{Entry}

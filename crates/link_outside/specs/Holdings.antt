@@ -1,5 +1,5 @@
 -- What names hold in memory: entries, of which the first with a name counts.
-use Rattle.std.specs.Prelude.{ℕ, List, [], ◌∷◌, Option, Some, None, bytes_eq, if◌then◌else◌, unwrap_or}
+use Rattle.std.specs.Prelude.{ℕ, List, [], ◌∷◌, Option, Some, None, bytes_eq, if◌then◌else◌}
 use Rattle.link_outside.specs.declared.holdings.Entry.{Entry}
 
 abbrev pub held_in : List Entry → List ℕ → Option (List ℕ)

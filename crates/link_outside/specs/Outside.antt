@@ -1,5 +1,5 @@
 -- What the calls of a store and a sink do: the clauses of the traits `Store` (`load`, `put`) and `Sink` (`put_all`).
-use Rattle.std.specs.Prelude.{◌≡◌, ◌⊎◌, ◌+◌, ◌-◌, ◌^◌, ◌<◌, ◌≤◌, ℕ, List, [], ◌∷◌, ◌++◌, take, length, min, bytes_eq, if◌then◌else◌, Option, Some, None, Result, Ok, Err, ⊤, IsSomeAnd}
+use Rattle.std.specs.Prelude.{◌≡◌, ◌⊎◌, ◌+◌, ◌-◌, ◌^◌, ◌<◌, ◌≤◌, ℕ, List, [], ◌∷◌, ◌++◌, take, length, min, bytes_eq, if◌then◌else◌, Option, Some, Result, Ok, Err, ⊤, IsSomeAnd}
 use Rattle.link_outside.specs.declared.outside.Load.{Load}
 use Rattle.link_outside.specs.declared.outside.Load.TheVariants.{Whole, Over}
 use Rattle.link_outside.specs.declared.outside.StoreCall.{StoreCall}

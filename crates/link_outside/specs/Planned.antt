@@ -1,6 +1,6 @@
 -- What a store and a sink in memory do by their plan of failures: the clauses `planned` of `MemoryStore::load`,
 -- `MemoryStore::put` and `MemorySink::put_all`.
-use Rattle.std.specs.Prelude.{◌≡◌, ◌+◌, ◌-◌, ◌^◌, ◌==◌, ℕ, List, [], ◌++◌, min, find, if◌then◌else◌, Bool, true, false, Option, Some, None, Result, Ok, Err, ⊤}
+use Rattle.std.specs.Prelude.{◌≡◌, ◌+◌, ◌-◌, ◌^◌, ◌==◌, ℕ, List, ◌++◌, min, find, if◌then◌else◌, Bool, true, false, Option, Some, None, Result, Ok, Err, ⊤}
 use Rattle.std.specs.List.{list_any}
 use Rattle.link_outside.specs.Outside.{Held, Shows}
 use Rattle.link_outside.specs.declared.memory_store.Failure.{Failure}

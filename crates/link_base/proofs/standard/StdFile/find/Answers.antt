@@ -1,4 +1,4 @@
-use Rattle.std.proofs.Common.{◌∙◌, sym}
+use Rattle.std.proofs.Common.{◌∙◌}
 use Rattle.link_base.proofs.RecordFacts.{fresh_if_none, position_of_key}
 use Rattle.link_base.proofs.standard.StdFile.find.Goals as goal
 
