@@ -12,7 +12,7 @@ use Rattle.std.proofs.lemmas.List.Sums.{sum_by-cons, count_by-le-length}
 use Rattle.link_base.specs.Shares.{IsShares, outcomes_of}
 use Rattle.link_base.specs.declared.shares.FieldShares.{FieldShares}
 use Rattle.pattern_shapes.specs.Weight.{eighth_weight_of}
-use Rattle.pattern_shapes.specs.Patterns.{base_of, pattern_count_of, rare_in, m_of, u_of, weight_of}
+use Rattle.pattern_shapes.specs.Patterns.{base_of, pattern_count_of, rare_in, chance_of, m_of, u_of, weight_of}
 use Rattle.pattern_shapes.proofs.Digits.{count-pos, count-le, outcomes_bounds}
 
 pub base_some : (field : FieldShares) → (1 ≤ base_of field) × (base_of field ≤ 4)
@@ -43,19 +43,22 @@ first_in field fields pattern lt = div_below pattern (pattern_count_of fields) (
 later_in : (fields : List FieldShares) (pattern : ℕ) → pattern % pattern_count_of fields < pattern_count_of fields
 later_in fields pattern = mod_below pattern (pattern_count_of fields) (pattern_count_pos fields)
 
-pub m_of_pos : (shares : List FieldShares) (pattern : ℕ) → pattern < pattern_count_of shares → 0 < m_of shares pattern
-m_of_pos [] pattern lt = omega arith
-m_of_pos (field ∷ fields) pattern lt =
-    let share : 1 ≤ get_or field.m (pattern / pattern_count_of fields) 0 = field.of_matched.1 _ (first_in field fields pattern lt) in
-    let rest : 1 ≤ m_of fields (pattern % pattern_count_of fields) = omega (arith, m_of_pos fields (pattern % pattern_count_of fields) (later_in fields pattern)) in
+-- the shares that a chance is made of
+abbrev pub AreShares : (FieldShares → List ℕ) → Type 0
+AreShares shares = (field : FieldShares) → IsShares (outcomes_of field.rare) (shares field)
+
+chance_pos : (shares : FieldShares → List ℕ) → AreShares shares → (fields : List FieldShares) (pattern : ℕ) → pattern < pattern_count_of fields → 0 < chance_of shares fields pattern
+chance_pos shares h [] pattern lt = omega arith
+chance_pos shares h (field ∷ fields) pattern lt =
+    let share : 1 ≤ get_or (shares field) (pattern / pattern_count_of fields) 0 = (h field).1 _ (first_in field fields pattern lt) in
+    let rest : 1 ≤ chance_of shares fields (pattern % pattern_count_of fields) = omega (arith, chance_pos shares h fields (pattern % pattern_count_of fields) (later_in fields pattern)) in
     omega (arith, mul-le 1 1 _ _ share rest)
 
+pub m_of_pos : (shares : List FieldShares) (pattern : ℕ) → pattern < pattern_count_of shares → 0 < m_of shares pattern
+m_of_pos = chance_pos (λ field. field.m) (λ field. field.of_matched)
+
 pub u_of_pos : (shares : List FieldShares) (pattern : ℕ) → pattern < pattern_count_of shares → 0 < u_of shares pattern
-u_of_pos [] pattern lt = omega arith
-u_of_pos (field ∷ fields) pattern lt =
-    let share : 1 ≤ get_or field.u (pattern / pattern_count_of fields) 0 = field.of_unmatched.1 _ (first_in field fields pattern lt) in
-    let rest : 1 ≤ u_of fields (pattern % pattern_count_of fields) = omega (arith, u_of_pos fields (pattern % pattern_count_of fields) (later_in fields pattern)) in
-    omega (arith, mul-le 1 1 _ _ share rest)
+u_of_pos = chance_pos (λ field. field.u) (λ field. field.of_unmatched)
 
 -- one field more
 pub product_small : (share rest n : ℕ) → share ≤ 1022 → rest ≤ 1024 ^ n → share * rest ≤ 1024 ^ (n + 1)
@@ -65,19 +68,18 @@ product_small share rest n h k =
     rw p (omega (arith, most))
 
 -- a chance is at most the whole
-pub m_of_small : (shares : List FieldShares) (pattern : ℕ) → pattern < pattern_count_of shares → m_of shares pattern ≤ 1024 ^ length shares
-m_of_small [] pattern lt = omega arith
-m_of_small (field ∷ fields) pattern lt =
-    let share = share_bounds field.rare field.m (pattern / pattern_count_of fields) field.of_matched (first_in field fields pattern lt) in
+chance_small : (shares : FieldShares → List ℕ) → AreShares shares → (fields : List FieldShares) (pattern : ℕ) → pattern < pattern_count_of fields → chance_of shares fields pattern ≤ 1024 ^ length fields
+chance_small shares h [] pattern lt = omega arith
+chance_small shares h (field ∷ fields) pattern lt =
+    let share = share_bounds field.rare (shares field) (pattern / pattern_count_of fields) (h field) (first_in field fields pattern lt) in
     let one : length (field ∷ fields) ≡ length fields + 1 = omega arith in
-    rw one (product_small _ _ (length fields) share.1 (m_of_small fields (pattern % pattern_count_of fields) (later_in fields pattern)))
+    rw one (product_small _ _ (length fields) share.1 (chance_small shares h fields (pattern % pattern_count_of fields) (later_in fields pattern)))
+
+pub m_of_small : (shares : List FieldShares) (pattern : ℕ) → pattern < pattern_count_of shares → m_of shares pattern ≤ 1024 ^ length shares
+m_of_small = chance_small (λ field. field.m) (λ field. field.of_matched)
 
 pub u_of_small : (shares : List FieldShares) (pattern : ℕ) → pattern < pattern_count_of shares → u_of shares pattern ≤ 1024 ^ length shares
-u_of_small [] pattern lt = omega arith
-u_of_small (field ∷ fields) pattern lt =
-    let share = share_bounds field.rare field.u (pattern / pattern_count_of fields) field.of_unmatched (first_in field fields pattern lt) in
-    let one : length (field ∷ fields) ≡ length fields + 1 = omega arith in
-    rw one (product_small _ _ (length fields) share.1 (u_of_small fields (pattern % pattern_count_of fields) (later_in fields pattern)))
+u_of_small = chance_small (λ field. field.u) (λ field. field.of_unmatched)
 
 count_first : (p : ℕ → Bool) (n : ℕ) → p 0 ≡ true → 1 ≤ count_by p (range_with_len 0 (suc n))
 count_first p n first =

@@ -1,12 +1,12 @@
 -- The chances of all patterns add up to the whole.
-use Rattle.std.proofs.Common.{ℕ, Bool, true, false, zero, suc, ◌≡◌, ◌+◌, ◌*◌, ◌/◌, ◌%◌, ◌^◌, ◌<◌, List, [], ◌∷◌, ◌++◌, length, get_or, sum, refl, ap, sym, ◌∙◌, arith}
+use Rattle.std.proofs.Common.{ℕ, Bool, true, false, zero, suc, ◌≡◌, ◌+◌, ◌*◌, ◌/◌, ◌%◌, ◌^◌, ◌<◌, List, [], ◌∷◌, ◌++◌, length, get_or, refl, ap, ◌∙◌, arith}
 use Rattle.std.specs.List.{sum_by, range_with_len}
 use Rattle.std.proofs.lemmas.List.Sums.{sum_by-append, sum_by-cons}
 use Rattle.std.proofs.lemmas.Nat.{div-mul-add, mod-mul-add, pow-add}
 use Rattle.link_base.specs.Shares.{IsShares, outcomes_of}
 use Rattle.link_base.specs.declared.shares.FieldShares.{FieldShares}
-use Rattle.pattern_shapes.specs.Patterns.{base_of, pattern_count_of, m_of, u_of}
-use Rattle.pattern_shapes.proofs.PatternLemmas.{pattern_count_pos}
+use Rattle.pattern_shapes.specs.Patterns.{base_of, pattern_count_of, chance_of, m_of, u_of}
+use Rattle.pattern_shapes.proofs.PatternLemmas.{AreShares}
 
 range_split : (a n k : ℕ) → range_with_len a (n + k) ≡ range_with_len a n ++ range_with_len (a + n) k
 range_split a zero k =
@@ -58,20 +58,17 @@ shares_sum rare (a ∷ b ∷ c ∷ d ∷ e ∷ xs) h = absurd (omega (arith, h.0
 whole_step : (fields : List FieldShares) (one rest : ℕ) → one ≡ 1024 → rest ≡ 1024 ^ length fields → one * rest ≡ 1024 ^ (length fields + 1)
 whole_step fields one rest e f = let p : 1024 ^ (length fields + 1) ≡ 1024 ^ length fields * 1024 ^ 1 = pow-add 1024 (length fields) 1 in rw (e, f, p) (omega arith)
 
-pub m_whole : (shares : List FieldShares) → sum_by (m_of shares) (range_with_len 0 (pattern_count_of shares)) ≡ 1024 ^ length shares
-m_whole [] = omega arith
-m_whole (field ∷ fields) =
+chance_whole : (shares : FieldShares → List ℕ) → AreShares shares → (fields : List FieldShares) → sum_by (chance_of shares fields) (range_with_len 0 (pattern_count_of fields)) ≡ 1024 ^ length fields
+chance_whole shares h [] = omega arith
+chance_whole shares h (field ∷ fields) =
     let n = pattern_count_of fields in
     let start : 0 * n ≡ 0 = omega arith in
     let longer : length (field ∷ fields) ≡ length fields + 1 = omega arith in
-    let both = digits_sum (λ k. get_or field.m k 0) (m_of fields) 0 (base_of field) n in
-    rw longer (rw start at both ∙ whole_step fields _ _ (shares_sum field.rare field.m field.of_matched) (m_whole fields))
+    let both = digits_sum (λ k. get_or (shares field) k 0) (chance_of shares fields) 0 (base_of field) n in
+    rw longer (rw start at both ∙ whole_step fields _ _ (shares_sum field.rare (shares field) (h field)) (chance_whole shares h fields))
+
+pub m_whole : (shares : List FieldShares) → sum_by (m_of shares) (range_with_len 0 (pattern_count_of shares)) ≡ 1024 ^ length shares
+m_whole = chance_whole (λ field. field.m) (λ field. field.of_matched)
 
 pub u_whole : (shares : List FieldShares) → sum_by (u_of shares) (range_with_len 0 (pattern_count_of shares)) ≡ 1024 ^ length shares
-u_whole [] = omega arith
-u_whole (field ∷ fields) =
-    let n = pattern_count_of fields in
-    let start : 0 * n ≡ 0 = omega arith in
-    let longer : length (field ∷ fields) ≡ length fields + 1 = omega arith in
-    let both = digits_sum (λ k. get_or field.u k 0) (u_of fields) 0 (base_of field) n in
-    rw longer (rw start at both ∙ whole_step fields _ _ (shares_sum field.rare field.u field.of_unmatched) (u_whole fields))
+u_whole = chance_whole (λ field. field.u) (λ field. field.of_unmatched)

@@ -26,14 +26,17 @@ first_outcome fields pattern = pattern / pattern_count_of fields
 abbrev pub later_pattern : List FieldShares → ℕ → ℕ
 later_pattern fields pattern = pattern % pattern_count_of fields
 
+-- the product of the shares of a pattern's outcomes
+abbrev pub chance_of : (FieldShares → List ℕ) → List FieldShares → ℕ → ℕ
+chance_of shares [] pattern = 1
+chance_of shares (field ∷ fields) pattern = slice_index (shares field) (first_outcome fields pattern) * chance_of shares fields (later_pattern fields pattern)
+
 -- the chance of a pattern among matched, and among unmatched pairs, over 1,024 to the number of fields
 abbrev pub m_of : List FieldShares → ℕ → ℕ
-m_of [] pattern = 1
-m_of (field ∷ fields) pattern = slice_index field.m (first_outcome fields pattern) * m_of fields (later_pattern fields pattern)
+m_of = chance_of (λ (field : FieldShares). field.m)
 
 abbrev pub u_of : List FieldShares → ℕ → ℕ
-u_of [] pattern = 1
-u_of (field ∷ fields) pattern = slice_index field.u (first_outcome fields pattern) * u_of fields (later_pattern fields pattern)
+u_of = chance_of (λ (field : FieldShares). field.u)
 
 -- the weight of a pattern is the sum over its fields, in eighths of a bit
 abbrev pub weight_of : List FieldShares → ℕ → ℤ
