@@ -74,16 +74,16 @@ over_patterns shares cells p g =
     sym (sum_by-map chances_of g cells) ∙ sum_by-IsPermutation g (all_chances shares) (map chances_of cells) p ∙ sum_by-map (chances_at shares) g (range_with_len 0 (pattern_count_of shares))
 
 -- the patterns of the cells are in range
-abbrev InRange : ℕ → Chances → Type 0
-InRange n ch = ch.pattern < n
+abbrev IsNumbered : ℕ → Chances → Type 0
+IsNumbered n ch = ch.pattern < n
 
 patterns_in_range : (shares : List FieldShares) (cells : List RuleCell) → IsPermutation (all_chances shares) (map chances_of cells) → All (λ (c : RuleCell). c.pattern < pattern_count_of shares) cells
 patterns_in_range shares cells perm =
     let n = pattern_count_of shares in
-    let before : All (InRange n) (all_chances shares) = All-from_get_or (InRange n) (all_chances shares) (chances_of empty_cell)
+    let before : All (IsNumbered n) (all_chances shares) = All-from_get_or (IsNumbered n) (all_chances shares) (chances_of empty_cell)
     (λ k lt. let in_range : k < n = omega (arith, lt, length-map-range_with_len (chances_at shares) 0 n) in
     rw (get_or-map-range_with_len (chances_at shares) 0 n k k (chances_of empty_cell) in_range (omega arith)) in_range) in
-    let all = All-permutation (InRange n) _ _ perm before in
+    let all = All-permutation (IsNumbered n) _ _ perm before in
     λ k d lt. let there : k < length (map chances_of cells) = omega (arith, lt, length-map cells chances_of) in
     rw (get_or-map chances_of cells k d (chances_of d) lt) at (all k (chances_of d) there)
 

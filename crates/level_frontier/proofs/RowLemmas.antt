@@ -20,13 +20,13 @@ use Rattle.level_frontier.specs.declared.levels.FrontierRow.{FrontierRow}
 use Rattle.level_frontier.proofs.FrontierLemmas.{near_m, near_u}
 use Rattle.level_frontier.proofs.FallLemmas.{sums_fall}
 
-abbrev AreSmall : Chances → Type 0
-AreSmall ch = (ch.m ≤ 2 ^ 60) × (ch.u ≤ 2 ^ 60)
+abbrev HasSmallChances : Chances → Type 0
+HasSmallChances ch = (ch.m ≤ 2 ^ 60) × (ch.u ≤ 2 ^ 60)
 
-all_small : (shares : List FieldShares) → length shares ≤ 6 → All AreSmall (all_chances shares)
+all_small : (shares : List FieldShares) → length shares ≤ 6 → All HasSmallChances (all_chances shares)
 all_small shares few =
     let whole : 1024 ^ length shares ≤ 1024 ^ 6 = pow-le-pow_right (omega arith) few in
-    All-from_get_or AreSmall (all_chances shares) (chances_of empty_cell)
+    All-from_get_or HasSmallChances (all_chances shares) (chances_of empty_cell)
     (λ k lt. let n = pattern_count_of shares in
     let in_range : k < n = omega (arith, lt, length-map-range_with_len (chances_at shares) 0 n) in
     rw (get_or-map-range_with_len (chances_at shares) 0 n k k (chances_of empty_cell) in_range (omega arith))
@@ -38,7 +38,7 @@ IsSmall c = (c.m ≤ 2 ^ 60) × (c.u ≤ 2 ^ 60)
 
 pub small_cells : (shares : List FieldShares) (mu_ppm lambda_ppm : ℕ) (cells : List RuleCell) → length shares ≤ 6 → IsFilled shares mu_ppm lambda_ppm cells → All IsSmall cells
 small_cells shares mu_ppm lambda_ppm cells few filled =
-    let all = All-permutation AreSmall _ _ filled.patterns (all_small shares few) in
+    let all = All-permutation HasSmallChances _ _ filled.patterns (all_small shares few) in
     λ k d lt. let there : k < length (map chances_of cells) = omega (arith, lt, length-map cells chances_of) in
     rw (get_or-map chances_of cells k d (chances_of d) lt) at (all k (chances_of d) there)
 
