@@ -1,14 +1,14 @@
 -- Chains of the places whose texts have one bucket, the last first.
 use Rattle.std.proofs.Common.{◌≡◌, ◌<◌, ◌≤◌, ◌+◌, ◌-◌, ◌==◌, ℕ, zero, suc, Bool, true, false, ◌||◌, ◌≢◌, List, [], ◌∷◌, ◌++◌, length, get_or, refl, ap, sym, ◌∙◌, arith, eqb-true, eq-eqb, if◌then◌else◌, nat_lt, ltb-true, set, length-set}
 use Rattle.std.specs.Str.{bytes_eq}
-use Rattle.std.specs.List.{list_any}
 use Rattle.std.proofs.lemmas.Grind.{common_steps}
 use Rattle.std.proofs.lemmas.Slice.Eq.{bytes_eq-Decides}
 use Rattle.std.proofs.lemmas.Bool.Decides.{nat_tests}
 use Rattle.std.specs.Prelude.{slice_range}
 use Rattle.std.proofs.lemmas.List.{length-map}
 use Rattle.value_pool.specs.declared.chains.Slot.{Slot}
-use Rattle.value_pool.specs.Texts.{nexts_of, texts_at}
+use Rattle.value_pool.specs.Texts.{stands_among}
+use Rattle.value_pool.specs.Region.{nexts_of, texts_at}
 use Rattle.value_pool.specs.Chains.{IsChained, bucket_of, last_in}
 
 module _ (m : ℕ) where
@@ -44,11 +44,11 @@ module _ (m : ℕ) where
   last-skip texts b zero q h k = absurd (omega arith)
   last-skip texts b (suc n) q h k = skip-at texts b n q (q == n) (bucket_of m (get_or texts n []) == b) refl refl h k (last-skip texts b n q)
 
-  pub none-held : (texts : List (List ℕ)) (text : List ℕ) → ((q : ℕ) → q < length texts → get_or texts q [] ≢ text) → list_any (λ held. bytes_eq held text) texts ≡ false
+  pub none-held : (texts : List (List ℕ)) (text : List ℕ) → ((q : ℕ) → q < length texts → get_or texts q [] ≢ text) → stands_among texts text ≡ false
   none-held [] text h = refl
   none-held (t ∷ ts) text h = by_test (bytes_eq t text) refl (none-held ts text (λ q within. h (suc q) (omega arith)))
     where
-      by_test : (u : Bool) → bytes_eq t text ≡ u → list_any (λ held. bytes_eq held text) ts ≡ false → (u || list_any (λ held. bytes_eq held text) ts) ≡ false
+      by_test : (u : Bool) → bytes_eq t text ≡ u → stands_among ts text ≡ false → (u || stands_among ts text) ≡ false
       by_test true e rest = absurd (h 0 (omega arith) ((bytes_eq-Decides t text).0 e))
       by_test false e rest = rest
 
@@ -119,9 +119,9 @@ left-next heads texts nexts text b at p next h is_b left is_at is_next differs =
 pub inside_slots : (bytes : List ℕ) (slots : List Slot) (at : ℕ) → at ≤ length (texts_at bytes slots) → at ≢ 0 → at - 1 < length slots
 inside_slots bytes slots at h k = omega (arith, length-map slots (λ (s : Slot). slice_range bytes s.start s.end))
 
-pub held_where : (texts : List (List ℕ)) (text : List ℕ) (k : ℕ) → k < length texts → get_or texts k [] ≡ text → list_any (λ held. bytes_eq held text) texts ≡ true
+pub held_where : (texts : List (List ℕ)) (text : List ℕ) (k : ℕ) → k < length texts → get_or texts k [] ≡ text → stands_among texts text ≡ true
 held_where [] text k h e = absurd (omega arith)
-held_where (t ∷ ts) text zero h e = ap (λ b. b || list_any (λ held. bytes_eq held text) ts) ((bytes_eq-Decides t text).1 e)
+held_where (t ∷ ts) text zero h e = ap (λ b. b || stands_among ts text) ((bytes_eq-Decides t text).1 e)
 held_where (t ∷ ts) text (suc k) h e = rw (held_where ts text k (omega arith) e) (or_true (bytes_eq t text))
   where
     or_true : (b : Bool) → (b || true) ≡ true

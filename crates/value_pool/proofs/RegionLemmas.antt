@@ -11,7 +11,8 @@ use Rattle.std.proofs.lemmas.List.Elements.{All-push}
 use Rattle.std.proofs.lemmas.Slice.Eq.{bytes_eq-Decides}
 use Rattle.std.proofs.lemmas.Grind.{common_steps}
 use Rattle.value_pool.specs.declared.chains.Slot.{Slot}
-use Rattle.value_pool.specs.Texts.{IsWithin, most_texts, texts_at}
+use Rattle.value_pool.specs.Texts.{stands_among}
+use Rattle.value_pool.specs.Region.{IsWithin, most_texts, texts_at}
 
 pub found_at : (bytes : List ℕ) (slots : List Slot) (i : ℕ) (s : Slot) (text : List ℕ) → i < length slots → s ≡ get_or slots i s → slice_range bytes s.start s.end ≡ text → slice_get (texts_at bytes slots) i ≡ Some text
 found_at bytes [] i s text h e r = absurd (omega arith)
@@ -49,18 +50,18 @@ second_false : (a b : Bool) → (a || b) ≡ false → b ≡ false
 second_false true b h = cc
 second_false false b h = h
 
-pub differs_at : (texts : List (List ℕ)) (text : List ℕ) → list_any (λ held. bytes_eq held text) texts ≡ false → (k : ℕ) (d : List ℕ) → k < length texts → get_or texts k d ≢ text
+pub differs_at : (texts : List (List ℕ)) (text : List ℕ) → stands_among texts text ≡ false → (k : ℕ) (d : List ℕ) → k < length texts → get_or texts k d ≢ text
 differs_at [] text h k d within = absurd (omega arith)
 differs_at (t ∷ ts) text h zero d within = λ same. let yes_ = (bytes_eq-Decides t text).1 same in let no_ = first_false (bytes_eq t text) _ h in cc
 differs_at (t ∷ ts) text h (suc k) d within = differs_at ts text (second_false (bytes_eq t text) _ h) k d (omega arith)
 
-pub distinct-push : (texts : List (List ℕ)) (text : List ℕ) → AllPairs (λ a b. a ≢ b) texts → list_any (λ held. bytes_eq held text) texts ≡ false → AllPairs (λ a b. a ≢ b) (texts ++ text ∷ [])
+pub distinct-push : (texts : List (List ℕ)) (text : List ℕ) → AllPairs (λ a b. a ≢ b) texts → stands_among texts text ≡ false → AllPairs (λ a b. a ≢ b) (texts ++ text ∷ [])
 distinct-push texts text h fresh = all_pairs_push (λ a b. a ≢ b) texts text h (differs_at texts text fresh)
 
 abbrev any_empty : List (List ℕ) → Bool
 any_empty texts = list_any (λ text. bytes_eq text []) texts
 
-pub most-push : (n bytes : ℕ) (texts : List (List ℕ)) (text : List ℕ) → n ≤ most_texts bytes texts → list_any (λ held. bytes_eq held text) texts ≡ false → n + 1 ≤ most_texts (bytes + length text) (texts ++ text ∷ [])
+pub most-push : (n bytes : ℕ) (texts : List (List ℕ)) (text : List ℕ) → n ≤ most_texts bytes texts → stands_among texts text ≡ false → n + 1 ≤ most_texts (bytes + length text) (texts ++ text ∷ [])
 most-push n bytes texts [] h fresh = rw (list_any-append (λ text. bytes_eq text []) texts ([] ∷ [])) (by_empty (any_empty texts) fresh h)
   where
     by_empty : (b : Bool) → b ≡ false → n ≤ bytes + (if b then 1 else 0) → n + 1 ≤ bytes + 0 + (if (b || true) then 1 else 0)

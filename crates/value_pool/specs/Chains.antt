@@ -1,4 +1,5 @@
--- Buckets of texts, and their chains (Knuth, vol. 3, 6.4: hashing with separate chaining).
+-- Machinery of the pool: buckets of texts, and their chains (Knuth, vol. 3, 6.4: hashing with separate chaining). No
+-- public clause names it; the invariant of `Pool` does.
 use Rattle.std.specs.Prelude.{◌≡◌, ◌<◌, ◌≤◌, length, ℕ, zero, suc, ◌+◌, ◌*◌, ◌%◌, ◌==◌, List, [], ◌∷◌, slice_index_or, if◌then◌else◌}
 
 -- one byte further

@@ -1,9 +1,10 @@
--- Texts as parts of one list of bytes.
-use Rattle.std.specs.Prelude.{ℕ, ◌+◌, List, [], map, ◌≤◌, slice_range, bytes_eq, if◌then◌else◌}
-use Rattle.std.specs.List.{list_any}
-use Rattle.value_pool.specs.declared.chains.Slot.{Slot}
+-- The texts of a pool: what a pool is seen as, whether a text stands among others, and its place. `Pool::intern` carries
+-- them (clauses `found`, `texts`, `used`), and `Pool::are_distinct` that a place and a text name each other.
+use Rattle.std.specs.Prelude.{◌≡◌, ℕ, List, Bool, true, Option, Some, None, bytes_eq, ⊤}
+use Rattle.std.specs.List.{list_any, position_or_len}
 
--- what is seen of a pool
+-- what is seen of a pool: its texts in the order in which they came, the limit of their bytes, how many they have, and
+-- the room for more texts and more bytes
 pub record PoolState : Type 0 where
   pub texts : List (List ℕ)
   pub limit : ℕ
@@ -11,16 +12,15 @@ pub record PoolState : Type 0 where
   pub spare_texts : ℕ
   pub spare_bytes : ℕ
 
-abbrev pub texts_at : List ℕ → List Slot → List (List ℕ)
-texts_at bytes slots = map (λ (s : Slot). slice_range bytes s.start s.end) slots
+-- whether a text stands among others
+abbrev pub stands_among : List (List ℕ) → List ℕ → Bool
+stands_among texts text = list_any (λ held. bytes_eq held text) texts
 
-abbrev pub nexts_of : List Slot → List ℕ
-nexts_of slots = map (λ (s : Slot). s.next) slots
+-- the first place of a text among others, or how many they are where it is none of them
+abbrev pub place_among : List (List ℕ) → List ℕ → ℕ
+place_among texts text = position_or_len (bytes_eq text) texts
 
-pub record IsWithin (bytes : ℕ) (slot : Slot) : Type 0 where
-  pub ordered : slot.start ≤ slot.end
-  pub within : slot.end ≤ bytes
-
--- how many distinct texts of so many bytes there may be: one of them may be empty
-abbrev pub most_texts : ℕ → List (List ℕ) → ℕ
-most_texts bytes texts = bytes + (if list_any (λ text. bytes_eq text []) texts then 1 else 0)
+-- the text stands among these, if there is one
+abbrev pub IsHeld : List (List ℕ) → Option (List ℕ) → Type 0
+IsHeld texts None = ⊤
+IsHeld texts (Some text) = stands_among texts text ≡ true

@@ -1,7 +1,7 @@
 // Chains of the texts of one bucket (Knuth, vol. 3, 6.4: hashing with separate chaining).
 ghost use Rattle.std.specs.Prelude.{◌≡◌, ◌≤◌, ◌<◌, ◌^◌, All, ℕ, IfOk, length, slice_index_or};
 ghost use Rattle.value_pool.specs.Chains.{IsChained, bucket_of, hash_step};
-ghost use Rattle.value_pool.specs.Texts.{IsWithin, nexts_of, texts_at};
+ghost use Rattle.value_pool.specs.Region.{IsWithin, nexts_of, texts_at};
 
 use link_base::NoMemory;
 use std::alloc::Global;

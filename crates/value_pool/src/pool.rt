@@ -1,10 +1,12 @@
 // Distinct texts, a limit of their bytes, and room for more of them.
-ghost use Rattle.std.specs.Prelude.{◌≡◌, ◌≤◌, ◌≢◌, AllPairs, ◌<◌, ◌+◌, ◌^◌, ◌++◌, ◌∷◌, [], ℕ, true, false, is_some, IfOk, IfSome, OnErr, OnOk, length, slice_get, slice_index_or, sum_by, if◌then◌else◌};
-ghost use Rattle.value_pool.specs.Pool.{FullExactly, HasRoom, KeepsRoom, is_held, with_text};
+ghost use Rattle.std.specs.Prelude.{◌≡◌, ◌≤◌, ◌≢◌, AllPairs, ◌<◌, ◌+◌, ◌++◌, ◌∷◌, [], ℕ, true, false, is_some, IfOk, IfSome, OnErr, OnOk, length, slice_get, slice_index_or, sum_by, if◌then◌else◌};
+ghost use Rattle.value_pool.specs.Pool.{FullExactly, HasRoom, KeepsRoom, with_text};
+ghost use Rattle.value_pool.specs.Texts.{stands_among};
 
 use crate::chains::{Slot, bucket, empty_heads, thread};
 use crate::id::Id;
 use link_base::NoMemory;
+use link_limits::MOST_POOL_LIMIT;
 use std::alloc::Global;
 use std::marker::Model;
 
@@ -31,8 +33,10 @@ pub struct Pool {
 }
 
 impl Model for Pool {
-    ghost use Rattle.std.specs.Prelude.{◌≡◌, ◌≤◌, ◌^◌, ◌-◌, All, AllPairs, ◌≢◌, length, sum_by, vec_capacity, vec_len};
-    ghost use Rattle.value_pool.specs.Texts.{IsWithin, PoolState, most_texts, nexts_of, texts_at};
+    ghost use Rattle.std.specs.Prelude.{◌≡◌, ◌≤◌, ◌-◌, All, AllPairs, ◌≢◌, length, sum_by, vec_capacity, vec_len};
+    ghost use Rattle.link_limits.specs.declared.TheConstants.{MOST_POOL_LIMIT};
+    ghost use Rattle.value_pool.specs.Region.{IsWithin, most_texts, nexts_of, texts_at};
+    ghost use Rattle.value_pool.specs.Texts.{PoolState};
     ghost use Rattle.value_pool.specs.Chains.{IsChained};
 
     ghost Value = { PoolState };
@@ -49,14 +53,14 @@ impl Model for Pool {
         × AllPairs (λ a b. a ≢ b) (texts_at p.bytes.items p.slots.items)
         × (length p.slots.items ≤ most_texts (length p.bytes.items) (texts_at p.bytes.items p.slots.items))
         × IsChained p.heads.items (texts_at p.bytes.items p.slots.items) (nexts_of p.slots.items)
-        × (length p.bytes.items ≤ p.limit) × (p.limit ≤ 2 ^ 30)
+        × (length p.bytes.items ≤ p.limit) × (p.limit ≤ MOST_POOL_LIMIT)
         × (sum_by length (texts_at p.bytes.items p.slots.items) ≡ length p.bytes.items) };
 }
 
 impl Pool {
-    /// The pool of no texts, with a limit of at most 1,073,741,824 bytes.
+    /// The pool of no texts, with a limit of at most `MOST_POOL_LIMIT` bytes.
     pub fn new(alloc: Global, limit: u64) -> Result<Pool, NoMemory>
-        requires { limit ≤ 2 ^ 30 }
+        requires { limit ≤ MOST_POOL_LIMIT }
         ensures texts { IfOk result (λ pool. pool.texts ≡ []) }
         ensures limit { IfOk result (λ pool. pool.limit ≡ limit) }
         ensures used { IfOk result (λ pool. pool.used ≡ 0) }
@@ -107,7 +111,7 @@ impl Pool {
     /// The id of a text, and `None` exactly where it is not held.
     pub fn find(&self, text: &[u8]) -> Option<Id>
         ensures found { IfSome result (λ id. slice_get self.now.texts id ≡ Some text.now) }
-        ensures held { is_some result ≡ is_held self.now text.now }
+        ensures held { is_some result ≡ stands_among self.now.texts text.now }
     {
         let bucket = bucket(text, self.heads.len());
         let mut at = self.heads[bucket];
@@ -124,7 +128,7 @@ impl Pool {
 
     // Appends a text that is not held and fits the limit.
     fn append(&mut self, text: &[u8]) -> Result<Id, NoMemory>
-        requires fresh { is_held self.old text.now ≡ false }
+        requires fresh { stands_among self.old.texts text.now ≡ false }
         requires fits { self.old.used + length text.now ≤ self.old.limit }
         ensures id { IfOk result (λ id. id ≡ length self.old.texts) }
         ensures ok { OnOk result (self.new.texts ≡ self.old.texts ++ text.now ∷ []) }
@@ -183,11 +187,11 @@ impl Pool {
         ensures texts { OnOk result (self.new.texts ≡ with_text self.old text.now) }
         ensures refused { OnErr result (self.new.texts ≡ self.old.texts) }
         ensures limit { self.new.limit ≡ self.old.limit }
-        ensures used { OnOk result (self.new.used ≡ self.old.used + (if is_held self.old text.now then 0 else length text.now)) }
+        ensures used { OnOk result (self.new.used ≡ self.old.used + (if stands_among self.old.texts text.now then 0 else length text.now)) }
         ensures used_refused { OnErr result (self.new.used ≡ self.old.used) }
         ensures full { FullExactly self.old text.now result }
         ensures room { KeepsRoom self.old self.new 1 (length text.now) }
-        ensures room_held { is_held self.old text.now ≡ true → KeepsRoom self.old self.new 0 0 }
+        ensures room_held { stands_among self.old.texts text.now ≡ true → KeepsRoom self.old self.new 0 0 }
         ensures room_refused { OnErr result (KeepsRoom self.old self.new 0 0) }
     {
         if let Some(id) = self.find(text) {

@@ -5,7 +5,7 @@ use Rattle.std.proofs.lemmas.List.{length-map, map-set}
 use Rattle.std.proofs.lemmas.List.Elements.{All-set}
 use Rattle.value_pool.specs.declared.chains.Slot.{Slot}
 use Rattle.value_pool.specs.Chains.{bucket_of}
-use Rattle.value_pool.specs.Texts.{IsWithin, nexts_of, texts_at}
+use Rattle.value_pool.specs.Region.{IsWithin, nexts_of, texts_at}
 use Rattle.value_pool.proofs.ChainLemmas.{text_at, threaded_step}
 use Rattle.value_pool.proofs.chains.thread.Goals as goal
 

@@ -1,5 +1,5 @@
 use Rattle.std.proofs.Common.{◌≡◌, All, length}
-use Rattle.value_pool.specs.Texts.{IsWithin, nexts_of, texts_at}
+use Rattle.value_pool.specs.Region.{IsWithin, nexts_of, texts_at}
 use Rattle.value_pool.proofs.ChainLemmas.{IsThreaded}
 use Rattle.value_pool.proofs.chains.thread.Given as goal
 

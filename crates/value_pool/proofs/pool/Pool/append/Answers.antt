@@ -3,7 +3,7 @@ use Rattle.std.specs.Prelude.{slice_range}
 use Rattle.std.proofs.lemmas.List.{length-map}
 use Rattle.value_pool.specs.declared.chains.Slot.{Slot}
 use Rattle.value_pool.specs.Chains.{IsChained}
-use Rattle.value_pool.specs.Texts.{nexts_of, texts_at}
+use Rattle.value_pool.specs.Region.{nexts_of, texts_at}
 use Rattle.value_pool.proofs.RegionLemmas.{IsAppended, appended}
 use Rattle.value_pool.proofs.ChainLemmas.{chained-push, nexts-push}
 use Rattle.value_pool.proofs.pool.Pool.append.Goals as goal

@@ -1,7 +1,7 @@
 use Rattle.std.proofs.Common.{◌-◌, length, sym, ◌∙◌, rules, arith}
 use Rattle.std.specs.Prelude.{slice_range}
 use Rattle.std.proofs.lemmas.Slice.Eq.{bytes_eq-Decides}
-use Rattle.value_pool.specs.Texts.{nexts_of, texts_at}
+use Rattle.value_pool.specs.Region.{nexts_of, texts_at}
 use Rattle.std.proofs.lemmas.List.{length-map}
 use Rattle.value_pool.proofs.RegionLemmas.{found_at}
 use Rattle.value_pool.proofs.ChainLemmas.{held_where, inside_slots, left-start, next_left, none-held, text_at_slot}

@@ -1,5 +1,5 @@
 use Rattle.std.proofs.Common.{length}
-use Rattle.value_pool.specs.Texts.{texts_at}
+use Rattle.value_pool.specs.Region.{texts_at}
 use Rattle.value_pool.proofs.ChainLemmas.{IsLeft}
 use Rattle.value_pool.proofs.pool.Pool.find.Given as goal
 
