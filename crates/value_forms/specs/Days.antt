@@ -1,4 +1,5 @@
--- Civil dates of the years 0001 to 9999, their day numbers and their texts.
+-- Civil dates of the years 0001 to 9999, their day numbers and their texts (ISO 8601). `day_of` and `civil_of` carry the
+-- day numbers (clauses `day`, `parts`), `day_text` and `read_iso` the texts (clauses `text`, `date`, `value`).
 use Rattle.std.specs.Prelude.{◌≡◌, ℕ, List, [], ◌∷◌, ◌++◌, ◌+◌, ◌*◌, ◌/◌, ◌%◌, Bool, ◌&&◌, nat_le, ◌==◌, ◌-◌, length, filter, int_le, slice_index, if◌then◌else◌, Option, Some, None, ℤ, pos, option_and_then}
 use Rattle.std.specs.List.{range_with_len}
 use Rattle.jiff_core.specs.Calendar.{days_in_month, days_from_civil}

@@ -1,4 +1,4 @@
--- The first characters of a text.
+-- The first characters of a text: what `first_chars` gives.
 use Rattle.std.specs.Prelude.{ℕ, List, take, drop, chars, encode_utf8_all}
 
 -- the first characters of a text, or all where there are fewer

@@ -1,3 +1,5 @@
 pub mod Days
 pub mod Written
 pub mod Firsts
+pub mod InitialBytes
+pub mod Initials

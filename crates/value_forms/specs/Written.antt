@@ -1,4 +1,4 @@
--- Dates as people write them: three numbers in the order of a form.
+-- Dates as people write them: three numbers in the order of a form. `read_date` carries them (clause `value`).
 use Rattle.std.specs.Prelude.{ℕ, List, ◌+◌, Bool, ◌==◌, ◌||◌, length, slice_index, take, drop, position, is_some, if◌then◌else◌, Option, None, ℤ}
 use Rattle.link_base.specs.declared.plan.DateForm.{DateForm}
 use Rattle.link_base.specs.declared.plan.DateForm.TheVariants as form
