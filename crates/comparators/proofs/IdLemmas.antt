@@ -11,9 +11,9 @@ use Rattle.link_base.specs.declared.standard.Value.TheVariants as value
 use Rattle.value_forms.specs.Days.{year_of_day}
 use Rattle.comparators.specs.declared.ids.IdValue.{IdValue}
 use Rattle.comparators.specs.declared.ids.IdValue.TheVariants as id
-use Rattle.comparators.specs.Canons.{exact_canon, soundex_canon, nysiis_canon, first_letters_canon, initials_canon, day_in, year_in}
+use Rattle.value_canons.specs.Canons.{exact_canon, soundex_canon, nysiis_canon, first_letters_canon, initials_canon, day_in, year_in}
 use Rattle.comparators.specs.Fields.{day_of_id, field_of, field_outcome, id_in, kind_of, kind_outcome, year_of_id}
-use Rattle.comparators.specs.Laws.{agree_where, near, outcome_by, same_id, same_or_rare, same_text}
+use Rattle.comparators.specs.Laws.{agree_where, near, outcome_by, outcome_of_ids, outcome_of_counted, outcome_of_texts}
 use Rattle.comparators.specs.OfPool.{IsDayItself, NamesCanon, StandsFor, rare_where}
 
 get-bound : (texts : List (List ℕ)) (i : ℕ) (text : List ℕ) → slice_get texts i ≡ Some text → i < length texts
@@ -39,7 +39,7 @@ module _ (texts : List (List ℕ)) (distinct : (a b : ℕ) → a < length texts 
   pub ids_alike : (m n : ℕ) (c d : List ℕ) → slice_get texts m ≡ Some c → slice_get texts n ≡ Some d → (m == n) ≡ bytes_eq c d
   ids_alike m n c d h k = by_test m n c d (m == n) (bytes_eq c d) refl refl h k
 
-  pub outcome_of_canons : (x y : Option (List ℕ)) (a b : IdValue) → NamesCanon texts x a → NamesCanon texts y b → outcome_by same_id (id_in a) (id_in b) ≡ outcome_by same_text x y
+  pub outcome_of_canons : (x y : Option (List ℕ)) (a b : IdValue) → NamesCanon texts x a → NamesCanon texts y b → outcome_by outcome_of_ids (id_in a) (id_in b) ≡ outcome_by outcome_of_texts x y
   outcome_of_canons None y id.Absent b h k = refl
   outcome_of_canons None y (id.Id m) b h k = absurd h
   outcome_of_canons None y (id.Day m) b h k = absurd h
@@ -63,7 +63,7 @@ days_alike t x y a b h k = ap (λ (o : Option ℤ). outcome_by (near t) o (day_o
     day_is (Some d) (id.Id m) h = absurd h
     day_is (Some d) (id.Day m) h = ap Some h
 
-rare-test : (most m n : ℕ) (counts : List ℕ) (u : Bool) → (m == n) ≡ u → same_or_rare most counts m n ≡ rare_where (nat_le (slice_index counts m) most) (agree_where u)
+rare-test : (most m n : ℕ) (counts : List ℕ) (u : Bool) → (m == n) ≡ u → outcome_of_counted most counts m n ≡ rare_where (nat_le (slice_index counts m) most) (agree_where u)
 rare-test most m n counts true e = rw e (by_count (nat_le (slice_index counts m) most))
   where
     by_count : (b : Bool) → (if b then Rare else Agree) ≡ rare_where b (agree_where true)
@@ -99,5 +99,5 @@ outcomes_alike texts distinct compare.Initials x y a b h k = outcome_of_canons t
 outcomes_alike texts distinct (compare.DaysWithin t) x y a b h k = days_alike t (day_in x) (day_in y) a b h k
 outcomes_alike texts distinct (compare.YearsWithin t) x y a b h k = years_alike t x y a b h k
 
-pub rare_alike : (texts : List (List ℕ)) (distinct : (a b : ℕ) → a < length texts → slice_get texts a ≡ slice_get texts b → a ≡ b) (most : ℕ) (counts : List ℕ) (m n : ℕ) (c d : List ℕ) → slice_get texts m ≡ Some c → slice_get texts n ≡ Some d → same_or_rare most counts m n ≡ rare_where (nat_le (slice_index counts m) most) (same_text c d)
+pub rare_alike : (texts : List (List ℕ)) (distinct : (a b : ℕ) → a < length texts → slice_get texts a ≡ slice_get texts b → a ≡ b) (most : ℕ) (counts : List ℕ) (m n : ℕ) (c d : List ℕ) → slice_get texts m ≡ Some c → slice_get texts n ≡ Some d → outcome_of_counted most counts m n ≡ rare_where (nat_le (slice_index counts m) most) (outcome_of_texts c d)
 rare_alike texts distinct most counts m n c d h k = rare-test most m n counts (m == n) refl ∙ ap (λ u. rare_where (nat_le (slice_index counts m) most) (agree_where u)) (ids_alike texts distinct m n c d h k)

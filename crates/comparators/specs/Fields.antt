@@ -1,4 +1,5 @@
--- What the enums over the kinds answer.
+-- What the enums over the kinds answer: `FieldKind::of` and `FieldById::of` give the comparator of a kind, and the impls of
+-- `Comparator` for both carry its outcome (member `outcome_of`).
 use Rattle.std.specs.Prelude.{Bool, true, false, Option, Some, None, is_some, ℕ, ℤ, pos, ◌<◌, length, ⊤}
 use Rattle.link_base.specs.declared.rule.Outcome.{Outcome}
 use Rattle.link_base.specs.declared.plan.CompareKind.{CompareKind}
@@ -12,9 +13,9 @@ use Rattle.comparators.specs.declared.ids.IdValue.{IdValue}
 use Rattle.comparators.specs.declared.ids.IdValue.TheVariants as id
 use Rattle.comparators.specs.declared.ids.FieldById.{FieldById}
 use Rattle.comparators.specs.declared.ids.FieldById.TheVariants as field
-use Rattle.comparators.specs.Canons.{exact_canon, soundex_canon, nysiis_canon, first_letters_canon, initials_canon, day_in, year_in}
-use Rattle.comparators.specs.Laws.{ComparatorLaws, outcome_by, same_text, same_id, same_or_rare, near}
-use Rattle.comparators.specs.LawsBy.{laws_by, same_text_laws, same_id_laws, same_or_rare_laws, near_laws}
+use Rattle.value_canons.specs.Canons.{exact_canon, soundex_canon, nysiis_canon, first_letters_canon, initials_canon, day_in, year_in}
+use Rattle.comparators.specs.Laws.{ComparatorLaws, outcome_by, outcome_of_texts, outcome_of_ids, outcome_of_counted, near}
+use Rattle.comparators.specs.LawsBy.{laws_by, text_laws, id_laws, rare_id_laws, near_laws}
 
 abbrev pub kind_present : FieldKind → Value → Bool
 kind_present (kind.Exact c) x = is_some (exact_canon x)
@@ -26,11 +27,11 @@ kind_present (kind.DaysWithin c) x = is_some (day_in x)
 kind_present (kind.YearsWithin c) x = is_some (year_in x)
 
 abbrev pub kind_outcome : FieldKind → Value → Value → Outcome
-kind_outcome (kind.Exact c) x y = outcome_by same_text (exact_canon x) (exact_canon y)
-kind_outcome (kind.BySoundex c) x y = outcome_by same_text (soundex_canon x) (soundex_canon y)
-kind_outcome (kind.ByNysiis c) x y = outcome_by same_text (nysiis_canon x) (nysiis_canon y)
-kind_outcome (kind.FirstLetters c) x y = outcome_by same_text (first_letters_canon c.n x) (first_letters_canon c.n y)
-kind_outcome (kind.Initials c) x y = outcome_by same_text (initials_canon x) (initials_canon y)
+kind_outcome (kind.Exact c) x y = outcome_by outcome_of_texts (exact_canon x) (exact_canon y)
+kind_outcome (kind.BySoundex c) x y = outcome_by outcome_of_texts (soundex_canon x) (soundex_canon y)
+kind_outcome (kind.ByNysiis c) x y = outcome_by outcome_of_texts (nysiis_canon x) (nysiis_canon y)
+kind_outcome (kind.FirstLetters c) x y = outcome_by outcome_of_texts (first_letters_canon c.n x) (first_letters_canon c.n y)
+kind_outcome (kind.Initials c) x y = outcome_by outcome_of_texts (initials_canon x) (initials_canon y)
 kind_outcome (kind.DaysWithin c) x y = outcome_by (near c.t) (day_in x) (day_in y)
 kind_outcome (kind.YearsWithin c) x y = outcome_by (near c.t) (year_in x) (year_in y)
 
@@ -45,11 +46,11 @@ kind_of (compare.DaysWithin t) = kind.DaysWithin (record { t = t })
 kind_of (compare.YearsWithin t) = kind.YearsWithin (record { t = t })
 
 pub kind_laws : (c : FieldKind) → ComparatorLaws false (kind_present c) (kind_outcome c)
-kind_laws (kind.Exact c) = laws_by same_text_laws exact_canon
-kind_laws (kind.BySoundex c) = laws_by same_text_laws soundex_canon
-kind_laws (kind.ByNysiis c) = laws_by same_text_laws nysiis_canon
-kind_laws (kind.FirstLetters c) = laws_by same_text_laws (first_letters_canon c.n)
-kind_laws (kind.Initials c) = laws_by same_text_laws initials_canon
+kind_laws (kind.Exact c) = laws_by text_laws exact_canon
+kind_laws (kind.BySoundex c) = laws_by text_laws soundex_canon
+kind_laws (kind.ByNysiis c) = laws_by text_laws nysiis_canon
+kind_laws (kind.FirstLetters c) = laws_by text_laws (first_letters_canon c.n)
+kind_laws (kind.Initials c) = laws_by text_laws initials_canon
 kind_laws (kind.DaysWithin c) = laws_by (near_laws c.t) day_in
 kind_laws (kind.YearsWithin c) = laws_by (near_laws c.t) year_in
 
@@ -107,14 +108,14 @@ field_present (field.Days c) x = is_some (day_of_id x)
 field_present (field.Years c) x = is_some (year_of_id x)
 
 abbrev pub field_outcome : FieldById → IdValue → IdValue → Outcome
-field_outcome (field.Same c) x y = outcome_by same_id (id_in x) (id_in y)
-field_outcome (field.Rare c) x y = outcome_by (same_or_rare c.most c.counts.items) (id_in x) (id_in y)
+field_outcome (field.Same c) x y = outcome_by outcome_of_ids (id_in x) (id_in y)
+field_outcome (field.Rare c) x y = outcome_by (outcome_of_counted c.most c.counts.items) (id_in x) (id_in y)
 field_outcome (field.Days c) x y = outcome_by (near c.t) (day_of_id x) (day_of_id y)
 field_outcome (field.Years c) x y = outcome_by (near c.t) (year_of_id x) (year_of_id y)
 
 pub field_laws : (c : FieldById) → ComparatorLaws (field_rare c) (field_present c) (field_outcome c)
-field_laws (field.Same c) = laws_by same_id_laws id_in
-field_laws (field.Rare c) = laws_by (same_or_rare_laws c.most c.counts.items) id_in
+field_laws (field.Same c) = laws_by id_laws id_in
+field_laws (field.Rare c) = laws_by (rare_id_laws c.most c.counts.items) id_in
 field_laws (field.Days c) = laws_by (near_laws c.t) day_of_id
 field_laws (field.Years c) = laws_by (near_laws c.t) year_of_id
 

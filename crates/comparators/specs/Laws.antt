@@ -1,4 +1,5 @@
--- What the answers of a comparator keep, and outcomes made from what is read of each side.
+-- What the answers of a comparator keep, and outcomes made from what is read of each side. The traits carry the laws
+-- (`Comparator`, member `laws`; `KeyComparator`, member `canon_laws`), and each impl's `outcome_of` its outcome.
 use Rattle.std.specs.Prelude.{◌≡◌, Bool, true, false, not, ◌&&◌, Option, Some, None, is_some, List, ℕ, ◌==◌, nat_le, if◌then◌else◌, slice_index, ℤ, ◌-ℤ◌, unsigned_abs, bytes_eq}
 use Rattle.link_base.specs.declared.rule.Outcome.{Outcome}
 use Rattle.link_base.specs.declared.rule.Outcome.TheVariants.{Agree, Disagree, Missing, Rare}
@@ -45,16 +46,16 @@ abbrev pub agree_where : Bool → Outcome
 agree_where true = Agree
 agree_where false = Disagree
 
-abbrev pub same_text : List ℕ → List ℕ → Outcome
-same_text x y = agree_where (bytes_eq x y)
+abbrev pub outcome_of_texts : List ℕ → List ℕ → Outcome
+outcome_of_texts x y = agree_where (bytes_eq x y)
 
-abbrev pub same_id : ℕ → ℕ → Outcome
-same_id x y = agree_where (x == y)
+abbrev pub outcome_of_ids : ℕ → ℕ → Outcome
+outcome_of_ids x y = agree_where (x == y)
 
 -- two numbers that differ by at most `most`
 abbrev pub near : ℕ → ℤ → ℤ → Outcome
 near most x y = agree_where (nat_le (unsigned_abs (x -ℤ y)) most)
 
 -- two ids, whose agreement is rare where at most `most` rows have them
-abbrev pub same_or_rare : ℕ → List ℕ → ℕ → ℕ → Outcome
-same_or_rare most counts x y = if x == y then (if nat_le (slice_index counts x) most then Rare else Agree) else Disagree
+abbrev pub outcome_of_counted : ℕ → List ℕ → ℕ → ℕ → Outcome
+outcome_of_counted most counts x y = if x == y then (if nat_le (slice_index counts x) most then Rare else Agree) else Disagree

@@ -1,4 +1,5 @@
--- The laws of outcomes that are made from what is read of each side.
+-- The laws of outcomes that are made from what is read of each side: proofs that the impls give as their members `laws`
+-- and `canon_laws`.
 use Rattle.std.specs.Cmp.{nat_eq_equiv}
 use Rattle.std.proofs.Common.{◌≡◌, ℕ, ℤ, ◌-ℤ◌, nat_le, ◌==◌, slice_index, if◌then◌else◌, unsigned_abs, eqb-true, Bool, true, false, not, ◌&&◌, Option, Some, None, is_some, List, refl, ap, sym, ◌∙◌, arith}
 use Rattle.std.specs.Str.{bytes_eq}
@@ -8,7 +9,7 @@ use Rattle.std.proofs.lemmas.Int.{ints}
 use Rattle.std.proofs.lemmas.Bool.Decides.{nat_tests}
 use Rattle.link_base.specs.declared.rule.Outcome.{Outcome}
 use Rattle.link_base.specs.declared.rule.Outcome.TheVariants.{Agree, Disagree, Rare}
-use Rattle.comparators.specs.Laws.{CanonLaws, ComparatorLaws, IsComparison, agree_where, is_agreement, is_missing, near, outcome_by, same_id, same_or_rare, same_text}
+use Rattle.comparators.specs.Laws.{CanonLaws, ComparatorLaws, IsComparison, agree_where, is_agreement, is_missing, near, outcome_by, outcome_of_ids, outcome_of_counted, outcome_of_texts}
 
 module _ {K : Type 0} {rare : Bool} {both : K → K → Outcome} (laws : IsComparison rare both) where
   symmetric_by : (x y : Option K) → outcome_by both x y ≡ outcome_by both y x
@@ -57,15 +58,15 @@ test_laws {test = test} symm same = record {
     never_rare true h = cc
     never_rare false h = cc
 
-pub same_text_laws : IsComparison false same_text
-same_text_laws = test_laws nat_list_eq_equiv.symm nat_list_eq_equiv.refl
+pub text_laws : IsComparison false outcome_of_texts
+text_laws = test_laws nat_list_eq_equiv.symm nat_list_eq_equiv.refl
 
-alike_by : (x y : Option (List ℕ)) → is_some x ≡ true → is_some y ≡ true → x ≡ y → is_agreement (outcome_by same_text x y) ≡ true
+alike_by : (x y : Option (List ℕ)) → is_some x ≡ true → is_some y ≡ true → x ≡ y → is_agreement (outcome_by outcome_of_texts x y) ≡ true
 alike_by None y p q e = cc
 alike_by (Some x) None p q e = cc
 alike_by (Some x) (Some y) p q e = let alike : x ≡ y = cc in ap (λ b. is_agreement (agree_where b)) ((bytes_eq-Decides x y).1 alike)
 
-equal_by : (x y : Option (List ℕ)) → is_agreement (outcome_by same_text x y) ≡ true → x ≡ y
+equal_by : (x y : Option (List ℕ)) → is_agreement (outcome_by outcome_of_texts x y) ≡ true → x ≡ y
 equal_by None y h = cc
 equal_by (Some x) None h = cc
 equal_by (Some x) (Some y) h = ap Some ((bytes_eq-Decides x y).0 (of_agreement (bytes_eq x y) h))
@@ -75,15 +76,15 @@ equal_by (Some x) (Some y) h = ap Some ((bytes_eq-Decides x y).0 (of_agreement (
     of_agreement false h = cc
 
 -- a comparison of texts has them as its canons
-pub canon_laws_by : {S : Type 0} (read : S → Option (List ℕ)) → CanonLaws (λ s. is_some (read s)) (λ x y. outcome_by same_text (read x) (read y)) read
+pub canon_laws_by : {S : Type 0} (read : S → Option (List ℕ)) → CanonLaws (λ s. is_some (read s)) (λ x y. outcome_by outcome_of_texts (read x) (read y)) read
 canon_laws_by read = record {
   present_at = λ x. refl;
   alike = λ x y. alike_by (read x) (read y);
   equal = λ x y. equal_by (read x) (read y);
 }
 
-pub same_id_laws : IsComparison false same_id
-same_id_laws = test_laws nat_eq_equiv.symm nat_eq_equiv.refl
+pub id_laws : IsComparison false outcome_of_ids
+id_laws = test_laws nat_eq_equiv.symm nat_eq_equiv.refl
 
 gap-symmetric : (x y : ℤ) → unsigned_abs (x -ℤ y) ≡ unsigned_abs (y -ℤ x)
 gap-symmetric x y = omega (arith, ints)
@@ -97,15 +98,15 @@ near_laws most = test_laws (λ x y. ap (λ n. nat_le n most) (gap-symmetric x y)
     zero_within : (n : ℕ) → nat_le 0 n ≡ true
     zero_within n = grind (arith, nat_tests)
 
-pub same_or_rare_laws : (most : ℕ) (counts : List ℕ) → IsComparison true (same_or_rare most counts)
-same_or_rare_laws most counts = record {
+pub rare_id_laws : (most : ℕ) (counts : List ℕ) → IsComparison true (outcome_of_counted most counts)
+rare_id_laws most counts = record {
   symmetric = λ x y. swapped x y (x == y) refl;
   same = λ x. rw (nat_eq_equiv.refl x) (agrees (nat_le (slice_index counts x) most));
   present = λ x y. there (x == y) (nat_le (slice_index counts x) most);
   only_rare = λ x y h. refl;
 }
   where
-    swapped : (x y : ℕ) (b : Bool) → (x == y) ≡ b → same_or_rare most counts x y ≡ same_or_rare most counts y x
+    swapped : (x y : ℕ) (b : Bool) → (x == y) ≡ b → outcome_of_counted most counts x y ≡ outcome_of_counted most counts y x
     swapped x y true e = let equal : x ≡ y = eqb-true x y e in rw equal refl
     swapped x y false e = let back : (y == x) ≡ false = sym (nat_eq_equiv.symm x y) ∙ e in rw (e, back) refl
 

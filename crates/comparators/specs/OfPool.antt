@@ -1,13 +1,12 @@
--- Ids that stand for values.
-use Rattle.std.specs.Prelude.{◌≡◌, Bool, true, false, Option, Some, None, List, ℕ, ℤ, ⊤, slice_get}
+-- Ids that stand for values. `same_outcomes` carries what they are worth (clause `fields`).
+use Rattle.std.specs.Prelude.{◌≡◌, MatchBool, Bool, true, false, Option, Some, None, List, ℕ, ℤ, ⊤, slice_get}
 use Rattle.link_base.specs.declared.rule.Outcome.{Outcome}
 use Rattle.link_base.specs.declared.rule.Outcome.TheVariants.{Agree, Rare}
 use Rattle.link_base.specs.declared.plan.CompareKind.{CompareKind}
-use Rattle.link_base.specs.declared.plan.CompareKind.TheVariants as compare
 use Rattle.link_base.specs.declared.standard.Value.{Value}
 use Rattle.comparators.specs.declared.ids.IdValue.{IdValue}
 use Rattle.comparators.specs.declared.ids.IdValue.TheVariants as id
-use Rattle.comparators.specs.Canons.{exact_canon, soundex_canon, nysiis_canon, first_letters_canon, initials_canon, day_in}
+use Rattle.value_canons.specs.Canons.{canon_of, compares_days, day_in}
 
 -- the id of a canon among these texts, and none where there is no canon
 abbrev pub NamesCanon : List (List ℕ) → Option (List ℕ) → IdValue → Type 0
@@ -27,15 +26,9 @@ IsDayItself (Some day) id.Absent = ⊥
 IsDayItself (Some day) (id.Id place) = ⊥
 IsDayItself (Some day) (id.Day other) = other ≡ day
 
--- what stands for a value that is compared by a kind: the id of its canon, or its day
+-- what stands for a value that is compared by a kind: its day, where the kind compares days, and else the id of its canon
 abbrev pub StandsFor : List (List ℕ) → CompareKind → Value → IdValue → Type 0
-StandsFor texts compare.Exact x side = NamesCanon texts (exact_canon x) side
-StandsFor texts compare.BySoundex x side = NamesCanon texts (soundex_canon x) side
-StandsFor texts compare.ByNysiis x side = NamesCanon texts (nysiis_canon x) side
-StandsFor texts (compare.FirstLetters n) x side = NamesCanon texts (first_letters_canon n x) side
-StandsFor texts compare.Initials x side = NamesCanon texts (initials_canon x) side
-StandsFor texts (compare.DaysWithin t) x side = IsDayItself (day_in x) side
-StandsFor texts (compare.YearsWithin t) x side = IsDayItself (day_in x) side
+StandsFor texts kind x side = MatchBool (compares_days kind) (IsDayItself (day_in x) side) (NamesCanon texts (canon_of kind x) side)
 
 -- an outcome whose agreement is rare
 abbrev pub rare_where : Bool → Outcome → Outcome

@@ -1,11 +1,11 @@
--- Rows that stand one behind the other.
+-- Rows that stand one behind the other: what `IdTable` is seen as. `IdTable::push` carries it (clauses `fields`, `ok`).
 use Rattle.std.specs.Prelude.{ℕ, zero, suc, List, [], ◌∷◌, take, drop}
 use Rattle.comparators.specs.declared.ids.IdValue.{IdValue}
 
 -- so many rows of the same width
-abbrev pub rows_in : {X : Type 0} → ℕ → ℕ → List X → List (List X)
-rows_in width zero xs = []
-rows_in width (suc count) xs = take width xs ∷ rows_in width count (drop width xs)
+abbrev pub rows_of_width : {X : Type 0} → ℕ → ℕ → List X → List (List X)
+rows_of_width width zero xs = []
+rows_of_width width (suc count) xs = take width xs ∷ rows_of_width width count (drop width xs)
 
 -- what is seen of a table of ids: how many values a row has, and its rows
 pub record IdRows : Type 0 where

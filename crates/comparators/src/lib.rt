@@ -6,7 +6,6 @@ mod days;
 mod fields;
 mod ids;
 mod laws;
-mod letters;
 mod tables;
 mod words;
 

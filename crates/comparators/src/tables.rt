@@ -17,11 +17,11 @@ pub struct IdTable {
 
 impl Model for IdTable {
     ghost use Rattle.std.specs.Prelude.{◌≡◌, ◌*◌, length};
-    ghost use Rattle.comparators.specs.Rows.{IdRows, rows_in};
+    ghost use Rattle.comparators.specs.Rows.{IdRows, rows_of_width};
 
     ghost Value = { IdRows };
 
-    ghost view = { λ t. record { fields = t.fields; rows = rows_in t.fields t.rows t.values.items } };
+    ghost view = { λ t. record { fields = t.fields; rows = rows_of_width t.fields t.rows t.values.items } };
 
     ghost invariant = { λ t. length t.values.items ≡ t.rows * t.fields };
 }

@@ -3,10 +3,9 @@ ghost use Rattle.std.specs.Prelude.{IfOk};
 ghost use Rattle.link_base.specs.Standard.{IsValid};
 
 use crate::{
-    ById, ByNysiis, BySoundex, Comparator, DaysWithin, Exact, FieldById, FirstLetters, IdTable,
-    IdValue, Initials, KeyComparator, RareById, YearsWithin,
+    ById, ByNysiis, BySoundex, Comparator, Exact, FirstLetters, Initials, KeyComparator, RareById,
 };
-use link_base::{CompareKind, NoMemory, Outcome, Sides, Text, Value};
+use link_base::{NoMemory, Outcome, Text, Value};
 use std::alloc::Global;
 use value_forms::day_of;
 use value_pool::{Id, Pool};
@@ -52,17 +51,6 @@ fn known_canons(rt: HostRuntime) {
 }
 
 #[test]
-fn days_that_are_near(rt: HostRuntime) {
-    let near = DaysWithin { t: 1 };
-    let first = day(1980, 2, 28);
-    assert!(rt; near.outcome(&first, &day(1980, 2, 29)) == Outcome::Agree);
-    assert!(rt; near.outcome(&first, &day(1980, 3, 1)) == Outcome::Disagree);
-    let years = YearsWithin { t: 1 };
-    assert!(rt; years.outcome(&first, &day(1981, 12, 31)) == Outcome::Agree);
-    assert!(rt; years.outcome(&first, &day(1982, 1, 1)) == Outcome::Disagree);
-}
-
-#[test]
 fn rare_ids(rt: HostRuntime) {
     let alloc = rt.alloc();
     let mut pool = Pool::new(alloc, 100).expect(&rt, "memory");
@@ -80,17 +68,4 @@ fn rare_ids(rt: HostRuntime) {
         assert!(rt; rare.outcome(&a, &b) == by_count);
         assert!(rt; ById.outcome(&a, &b) == by_id);
     }
-}
-
-#[test]
-fn tables_of_ids(rt: HostRuntime) {
-    let alloc = rt.alloc();
-    let mut table = IdTable::new(alloc, 2).expect(&rt, "memory");
-    let row = [IdValue::Absent, IdValue::Day(3685)];
-    assert!(rt; table.push(&row).is_ok());
-    assert!(rt; table.count() == 1);
-    assert!(rt; table.sides(0) == row.as_slice());
-    let years = FieldById::of(CompareKind::YearsWithin(0));
-    assert!(rt; years.outcome(&row[1], &row[1]) == Outcome::Agree);
-    assert!(rt; !years.rare());
 }
