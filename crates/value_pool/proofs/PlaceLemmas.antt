@@ -27,14 +27,15 @@ held-turned text (t ∷ ts) = rw (nat_list_eq_equiv.symm t text, held-turned tex
 pub held-place : (texts : List (List ℕ)) (text : List ℕ) → stands_among texts text ≡ true → place_among texts text < length texts
 held-place texts text h = any-place (bytes_eq text) texts (sym (held-turned text texts) ∙ h)
 
--- and it is read at its place
-pub at-place : (texts : List (List ℕ)) (text : List ℕ) → place_among texts text < length texts → slice_get texts (place_among texts text) ≡ Some text
-at-place texts text within =
-    let at = place_among texts text in
-    slice_get-get_or texts at [] within ∙ ap Some (sym ((bytes_eq-Decides text (get_or texts at [])).0 (passes_at_first (bytes_eq text) texts [] within)))
+-- and it stands at its place
+pub at-place : (texts : List (List ℕ)) (text : List ℕ) → place_among texts text < length texts → text ≡ get_or texts (place_among texts text) []
+at-place texts text within = (bytes_eq-Decides text _).0 (passes_at_first (bytes_eq text) texts [] within)
 
+-- and is read there
 pub place-reads : (texts : List (List ℕ)) (text : List ℕ) → stands_among texts text ≡ true → slice_get texts (place_among texts text) ≡ Some text
-place-reads texts text h = at-place texts text (held-place texts text h)
+place-reads texts text h =
+    let within = held-place texts text h in
+    slice_get-get_or texts (place_among texts text) [] within ∙ ap Some (sym (at-place texts text within))
 
 -- what is found for a text that stands among distinct ones is its place
 pub found-place : (texts : List (List ℕ)) (text : List ℕ) (found : Option ℕ) → ((a b : ℕ) → a < length texts → slice_get texts a ≡ slice_get texts b → a ≡ b)
