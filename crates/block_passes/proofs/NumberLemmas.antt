@@ -1,26 +1,27 @@
 -- Numbers stand for codes.
 use Rattle.std.proofs.Common.{◌≡◌, ◌<◌, ◌≤◌, ◌+◌, ◌==◌, List, [], ◌∷◌, ◌++◌, ◌^◌, ℕ, suc, Bool, true, false, not, cond, ◌||◌, Option, Some, None, Result, Ok, Err, OnErr, refl, sym, ◌∙◌, ap, length, length-append, filter, get_or, arith, inl, inr, bytes_eq, nat_eq, nat_lt, if◌then◌else◌}
+use Rattle.std.specs.List.{list_any, position, position_or_len, range_with_len}
+use Rattle.value_pool.specs.Texts.{place_among}
 use Rattle.std.specs.Prelude.{IfOk, unwrap_or}
-use Rattle.std.specs.List.{position, position_or_len, list_any}
 use Rattle.std.specs.Cmp.Lexicographic.{pointwise}
 use Rattle.std.specs.declared.alloc.Global.{Global}
 use Rattle.std.specs.declared.vec.Vec.{Vec}
 use Rattle.std.proofs.lemmas.Bool.{cases_Bool, cases_lt, false≢true}
 use Rattle.std.proofs.lemmas.List.{get_or_past}
 use Rattle.std.proofs.lemmas.List.Folds.{position_or_len_push}
-use Rattle.std.proofs.lemmas.List.Sums.{passes_at_first}
 use Rattle.std.proofs.lemmas.Slice.Eq.{bytes_eq-Decides}
 use Rattle.indexmap.specs.IndexSet.{insert_key}
+use Rattle.value_pool.proofs.PlaceLemmas.{any-place, at-place}
 use Rattle.block_passes.specs.Keys.{same_text}
-use Rattle.block_passes.specs.Groups.{AreGroups, numbers_from}
-use Rattle.block_passes.specs.Numbering.{codes_of, place_of, no_number, number_of, IsNumbered, KeepNumbers}
+use Rattle.block_passes.specs.Groups.{AreGroups}
+use Rattle.block_passes.specs.Numbering.{codes_of, no_number, number_among, IsNumbered, KeepNumbers}
 use Rattle.block_passes.proofs.TestLemmas.{eq-true, true-eq, same-test, filter-agree, filter-empty}
 
 -- the codes with one more, where it is new
 abbrev with_code : List (List ℕ) → List ℕ → List (List ℕ)
 with_code codes code = if list_any (bytes_eq code) codes then codes else codes ++ code ∷ []
 
-pub place-items : (code : List ℕ) (keys : List (Vec ℕ Global)) → position_or_len (λ k. bytes_eq code k.items) keys ≡ place_of (codes_of keys) code
+pub place-items : (code : List ℕ) (keys : List (Vec ℕ Global)) → position_or_len (λ k. bytes_eq code k.items) keys ≡ place_among (codes_of keys) code
 place-items code [] = refl
 place-items code (k ∷ keys) = ap (λ n. cond (not (bytes_eq code k.items)) (1 + n) 0) (place-items code keys)
 
@@ -43,14 +44,6 @@ codes-insert keys key =
       | inr new ↦ rw (any-items key.items keys, new) (codes-push keys key)
     ]
 
-pub any-place : {T : Type 0} (p : T → Bool) (xs : List T) → list_any p xs ≡ true → position_or_len p xs < length xs
-any-place p [] h = absurd (false≢true h)
-any-place p (x ∷ xs) h =
-    elim (cases_Bool (p x)) [
-      | inl here ↦ rw here (omega arith)
-      | inr later ↦ let rest = any-place p xs (rw later at h) in rw later (omega arith)
-    ]
-
 none-place : {T : Type 0} (p : T → Bool) (xs : List T) → list_any p xs ≡ false → position_or_len p xs ≡ length xs
 none-place p [] h = refl
 none-place p (x ∷ xs) h =
@@ -62,24 +55,24 @@ none-place p (x ∷ xs) h =
 same-itself : (code : List ℕ) → bytes_eq code code ≡ true
 same-itself code = (bytes_eq-Decides code code).1 refl
 
-place-old : (codes : List (List ℕ)) (code q : List ℕ) → place_of codes q < length codes → place_of (codes ++ code ∷ []) q ≡ place_of codes q
+place-old : (codes : List (List ℕ)) (code q : List ℕ) → place_among codes q < length codes → place_among (codes ++ code ∷ []) q ≡ place_among codes q
 place-old codes code q lt =
-    let differ : (place_of codes q == length codes) ≡ false = grind arith in
+    let differ : (place_among codes q == length codes) ≡ false = grind arith in
     position_or_len_push (bytes_eq q) codes code ∙ rw differ refl
 
-place-new : (codes : List (List ℕ)) (code : List ℕ) → list_any (bytes_eq code) codes ≡ false → place_of (codes ++ code ∷ []) code ≡ length codes
+place-new : (codes : List (List ℕ)) (code : List ℕ) → list_any (bytes_eq code) codes ≡ false → place_among (codes ++ code ∷ []) code ≡ length codes
 place-new codes code new =
-    let same : (place_of codes code == length codes) ≡ true = true-eq _ _ (none-place (bytes_eq code) codes new) in
+    let same : (place_among codes code == length codes) ≡ true = true-eq _ _ (none-place (bytes_eq code) codes new) in
     position_or_len_push (bytes_eq code) codes code ∙ rw (same, same-itself code) (omega arith)
 
-pub place-with : (codes : List (List ℕ)) (code : List ℕ) → place_of (with_code codes code) code ≡ place_of codes code
+pub place-with : (codes : List (List ℕ)) (code : List ℕ) → place_among (with_code codes code) code ≡ place_among codes code
 place-with codes code =
     elim (cases_Bool (list_any (bytes_eq code) codes)) [
       | inl held ↦ rw held refl
       | inr new ↦ rw new (place-new codes code new ∙ sym (none-place (bytes_eq code) codes new))
     ]
 
-pub place-within : (codes : List (List ℕ)) (code : List ℕ) → place_of (with_code codes code) code < length (with_code codes code)
+pub place-within : (codes : List (List ℕ)) (code : List ℕ) → place_among (with_code codes code) code < length (with_code codes code)
 place-within codes code =
     elim (cases_Bool (list_any (bytes_eq code) codes)) [
       | inl held ↦ rw held (any-place (bytes_eq code) codes held)
@@ -104,43 +97,40 @@ kept-with codes code q h =
       | inr new ↦ rw new (kept-push codes code q h)
     ]
 
-pub at-place : (codes : List (List ℕ)) (p : List ℕ) → place_of codes p < length codes → p ≡ get_or codes (place_of codes p) []
-at-place codes p lt = (bytes_eq-Decides p _).0 (passes_at_first (bytes_eq p) codes [] lt)
-
-pub place-same : (codes : List (List ℕ)) (p q : List ℕ) → place_of codes p < length codes → place_of codes q < length codes → (place_of codes q == place_of codes p) ≡ bytes_eq p q
+pub place-same : (codes : List (List ℕ)) (p q : List ℕ) → place_among codes p < length codes → place_among codes q < length codes → (place_among codes q == place_among codes p) ≡ bytes_eq p q
 place-same codes p q hp hq =
-    same-test (place_of codes q == place_of codes p) (bytes_eq p q)
-    (λ h. (bytes_eq-Decides p q).1 (at-place codes p hp ∙ ap (λ n. get_or codes n []) (sym (eq-true (place_of codes q) (place_of codes p) h)) ∙ sym (at-place codes q hq)))
-    (λ h. true-eq (place_of codes q) (place_of codes p) (ap (place_of codes) (sym ((bytes_eq-Decides p q).0 h))))
+    same-test (place_among codes q == place_among codes p) (bytes_eq p q)
+    (λ h. (bytes_eq-Decides p q).1 (at-place codes p hp ∙ ap (λ n. get_or codes n []) (sym (eq-true (place_among codes q) (place_among codes p) h)) ∙ sym (at-place codes q hq)))
+    (λ h. true-eq (place_among codes q) (place_among codes p) (ap (place_among codes) (sym ((bytes_eq-Decides p q).0 h))))
 
 -- rows with a number are those with the code
-test-is : (codes : List (List ℕ)) → length codes ≤ no_number → (c d : Option (List ℕ)) → IsNumbered codes d → number_of codes c < length codes
-    → (number_of codes d == number_of codes c) ≡ same_text c d
+test-is : (codes : List (List ℕ)) → length codes ≤ no_number → (c d : Option (List ℕ)) → IsNumbered codes d → number_among codes c < length codes
+    → (number_among codes d == number_among codes c) ≡ same_text c d
 test-is codes few None d k lt = absurd (omega arith)
-test-is codes few (Some p) None k lt = let h : no_number == number_of codes (Some p) ≡ false = grind arith in h
+test-is codes few (Some p) None k lt = let h : no_number == number_among codes (Some p) ≡ false = grind arith in h
 test-is codes few (Some p) (Some q) k lt = place-same codes p q lt k
 
 -- a number past the codes is no row's
-test-past : (codes : List (List ℕ)) (c d : Option (List ℕ)) → IsNumbered codes d → length codes ≤ number_of codes c → same_text c d ≡ false
+test-past : (codes : List (List ℕ)) (c d : Option (List ℕ)) → IsNumbered codes d → length codes ≤ number_among codes c → same_text c d ≡ false
 test-past codes None d k le = refl
 test-past codes (Some p) None k le = refl
 test-past codes (Some p) (Some q) k le =
-    same-test (bytes_eq p q) false (λ h. let e = ap (place_of codes) ((bytes_eq-Decides p q).0 h) in absurd (omega arith)) (λ h. cc)
+    same-test (bytes_eq p q) false (λ h. let e = ap (place_among codes) ((bytes_eq-Decides p q).0 h) in absurd (omega arith)) (λ h. cc)
 
 -- the rows of the number of a code are the rows of the code
 pub group-is : (codes : List (List ℕ)) → length codes ≤ no_number → (numbers : List ℕ) (groups : List (List ℕ)) (code_of : ℕ → Option (List ℕ)) (rows : ℕ)
     → AreGroups numbers (length codes) groups → length numbers ≡ rows
-    → ((j : ℕ) → j < rows → get_or numbers j 0 ≡ number_of codes (code_of j)) → ((j : ℕ) → j < rows → IsNumbered codes (code_of j))
-    → (c : Option (List ℕ)) → get_or groups (number_of codes c) [] ≡ filter (λ j. same_text c (code_of j)) (numbers_from 0 rows)
+    → ((j : ℕ) → j < rows → get_or numbers j 0 ≡ number_among codes (code_of j)) → ((j : ℕ) → j < rows → IsNumbered codes (code_of j))
+    → (c : Option (List ℕ)) → get_or groups (number_among codes c) [] ≡ filter (λ j. same_text c (code_of j)) (range_with_len 0 rows)
 group-is codes few numbers groups code_of rows g len told known c =
-    elim (cases_lt (number_of codes c) (length codes)) [
+    elim (cases_lt (number_among codes c) (length codes)) [
       | inl lt ↦
-          g.1 (number_of codes c) lt
+          g.1 (number_among codes c) lt
           ∙ rw len refl
-          ∙ filter-agree (λ j. get_or numbers j 0 == number_of codes c) (λ j. same_text c (code_of j)) 0 rows
-          (λ j k. let below : j < rows = omega arith in ap (λ t. t == number_of codes c) (told j below) ∙ test-is codes few c (code_of j) (known j below) lt)
+          ∙ filter-agree (λ j. get_or numbers j 0 == number_among codes c) (λ j. same_text c (code_of j)) 0 rows
+          (λ j k. let below : j < rows = omega arith in ap (λ t. t == number_among codes c) (told j below) ∙ test-is codes few c (code_of j) (known j below) lt)
       | inr le ↦
-          get_or_past groups (number_of codes c) [] (rw g.0 le)
+          get_or_past groups (number_among codes c) [] (rw g.0 le)
           ∙ sym (filter-empty (λ j. same_text c (code_of j)) 0 rows (λ j k. test-past codes c (code_of j) (known j (omega arith)) le))
     ]
 

@@ -1,4 +1,4 @@
--- Up to four ids side by side, for a table of keys.
+-- Machinery of the index: up to four ids side by side. No public clause names them.
 use Rattle.std.specs.Prelude.{ℕ, zero, suc, List, [], ◌∷◌, Option, option_map}
 use Rattle.block_passes.specs.Ids.{id_key_in}
 use Rattle.block_passes.specs.Index.{row_at}
@@ -11,9 +11,9 @@ padded zero ids = []
 padded (suc n) [] = 0 ∷ padded n []
 padded (suc n) (id ∷ ids) = id ∷ padded n ids
 
-abbrev pub four_of : Option (List ℕ) → Option (List ℕ)
-four_of ids = option_map (padded 4) ids
+abbrev pub four_ids : Option (List ℕ) → Option (List ℕ)
+four_ids ids = option_map (padded 4) ids
 
 -- the four ids of the key of the row at a position
-abbrev pub four_at : List (List ℕ) → List Part → List Record → ℕ → Option (List ℕ)
-four_at texts parts file at = four_of (id_key_in texts (row_at file at) parts)
+abbrev pub four_ids_at : List (List ℕ) → List Part → List Record → ℕ → Option (List ℕ)
+four_ids_at texts parts file at = four_ids (id_key_in texts (row_at file at) parts)

@@ -1,18 +1,13 @@
--- Keys as ids: the places of their texts in a pool.
-use Rattle.std.specs.Prelude.{◌≡◌, ◌<◌, ℕ, List, map, filter, length, slice_index_or, Bool, true, Option, Some, None, option_map, bytes_eq, ⊤}
-use Rattle.std.specs.List.{list_any}
+-- Keys as ids: the places of their texts in a pool. `id_key` carries them (its clause), `build_index_in` the rows by them, and
+-- `ids_tell_keys` what they are worth.
+use Rattle.std.specs.Prelude.{◌<◌, ℕ, List, map, filter, length, slice_index_or, Bool, Option, option_map}
+use Rattle.std.specs.List.{range_with_len}
+use Rattle.value_pool.specs.Texts.{IsHeld, place_among}
 use Rattle.block_passes.specs.Keys.{key_in_pass, no_part, part_key, same_text}
-use Rattle.block_passes.specs.Groups.{numbers_from}
 use Rattle.block_passes.specs.Index.{row_at}
-use Rattle.block_passes.specs.Numbering.{place_of}
 use Rattle.link_base.specs.Standard.{Record}
 use Rattle.link_base.specs.declared.plan.Part.{Part}
 use Rattle.link_base.specs.declared.standard.Value.{Value}
-
--- the text stands among these, if it is present
-abbrev pub IsHeld : List (List ℕ) → Option (List ℕ) → Type 0
-IsHeld texts None = ⊤
-IsHeld texts (Some text) = list_any (λ held. bytes_eq held text) texts ≡ true
 
 -- each part of the key of a row stands among the texts, if it is present
 abbrev pub AreHeld : List (List ℕ) → List Value → List Part → Type 0
@@ -23,12 +18,12 @@ abbrev pub AreAllHeld : List (List ℕ) → List Part → List Record → Type 0
 AreAllHeld texts parts file = (at : ℕ) → at < length file → AreHeld texts (row_at file at) parts
 
 -- the ids of the texts of a key
-abbrev pub ids_of : List (List ℕ) → Option (List (List ℕ)) → Option (List ℕ)
-ids_of texts key = option_map (map (place_of texts)) key
+abbrev pub ids_of_key : List (List ℕ) → Option (List (List ℕ)) → Option (List ℕ)
+ids_of_key texts key = option_map (map (place_among texts)) key
 
 -- the key of a row in a pass as ids, present where each part is
 abbrev pub id_key_in : List (List ℕ) → List Value → List Part → Option (List ℕ)
-id_key_in texts row parts = ids_of texts (key_in_pass row parts)
+id_key_in texts row parts = ids_of_key texts (key_in_pass row parts)
 
 -- both lists of ids are present, and they are equal
 abbrev pub same_ids : Option (List ℕ) → Option (List ℕ) → Bool
@@ -36,4 +31,4 @@ same_ids k l = same_text k l
 
 -- the positions whose ids are these, rising
 abbrev pub rows_with_ids : List (List ℕ) → List Part → List Record → Option (List ℕ) → List ℕ
-rows_with_ids texts parts file ids = filter (λ at. same_ids ids (id_key_in texts (row_at file at) parts)) (numbers_from 0 (length file))
+rows_with_ids texts parts file ids = filter (λ at. same_ids ids (id_key_in texts (row_at file at) parts)) (range_with_len 0 (length file))

@@ -1,8 +1,8 @@
--- The rows of a file by their keys.
+-- The rows of a file by their keys: `build_index` carries them (its clause), and `PassRows::new` and `PassRows::new_in`
+-- (clause `rows`).
 use Rattle.std.specs.Prelude.{ℕ, ◌<◌, List, filter, length, slice_index_or, Option}
-use Rattle.block_passes.specs.Codes.{key_code}
-use Rattle.block_passes.specs.Keys.{AreReadable, InRange, key_in_pass, same_key, same_text}
-use Rattle.block_passes.specs.Groups.{numbers_from}
+use Rattle.std.specs.List.{range_with_len}
+use Rattle.block_passes.specs.Keys.{AreReadable, InRange, key_in_pass, same_key}
 use Rattle.link_base.specs.Standard.{no_record, Record}
 use Rattle.link_base.specs.declared.plan.Part.{Part}
 use Rattle.link_base.specs.declared.standard.Value.{Value}
@@ -17,15 +17,4 @@ AreReady parts file = (at : ℕ) → at < length file → InRange (row_at file a
 
 -- the positions whose key is this one, rising
 abbrev pub rows_with_key : List Part → List Record → Option (List (List ℕ)) → List ℕ
-rows_with_key parts file key = filter (λ at. same_key key (key_in_pass (row_at file at) parts)) (numbers_from 0 (length file))
-
--- the code of the key of the row at a position
-abbrev pub code_at : List Part → List Record → ℕ → Option (List ℕ)
-code_at parts file at = key_code (key_in_pass (row_at file at) parts)
-
--- the positions below `count` whose code is this one, rising
-abbrev pub rows_of_code : (ℕ → Option (List ℕ)) → ℕ → Option (List ℕ) → List ℕ
-rows_of_code code_of count code = filter (λ at. same_text code (code_of at)) (numbers_from 0 count)
-
-abbrev pub rows_with_code : List Part → List Record → Option (List ℕ) → List ℕ
-rows_with_code parts file code = rows_of_code (code_at parts file) (length file) code
+rows_with_key parts file key = filter (λ at. same_key key (key_in_pass (row_at file at) parts)) (range_with_len 0 (length file))

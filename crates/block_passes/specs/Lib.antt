@@ -1,9 +1,9 @@
 pub mod Keys
-pub mod PartTexts
 pub mod Codes
 pub mod Numbering
 pub mod Groups
 pub mod Index
+pub mod CodedRows
 pub mod IndexRows
 pub mod Ids
 pub mod IdCodes

@@ -3,9 +3,10 @@ ghost use Rattle.std.specs.Prelude.{◌≡◌, ◌++◌, IfOk, OnOk, option_map}
 ghost use Rattle.block_passes.specs.Codes.{coded_text, key_code, marked};
 ghost use Rattle.block_passes.specs.Keys.{AreReadable, InRange, key_in_pass};
 
-use crate::parts::{bytes_of, part_text};
+use crate::parts::part_text;
 use link_base::{NoMemory, Pass, StdRow};
 use std::alloc::Global;
+use value_canons::bytes_of;
 
 fn push_byte(code: &mut Vec<u8>, byte: u8) -> Result<(), NoMemory>
     ensures { OnOk result (code.new.items ≡ code.old.items ++ marked byte) }

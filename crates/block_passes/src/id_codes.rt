@@ -1,7 +1,7 @@
 // Up to four ids side by side.
 ghost use Rattle.std.specs.Prelude.{◌≡◌, ◌≤◌, ℕ, length, slice_index_or};
 ghost use Rattle.block_passes.specs.Ids.{AreHeld, id_key_in};
-ghost use Rattle.block_passes.specs.IdCodes.{four_of, padded};
+ghost use Rattle.block_passes.specs.IdCodes.{four_ids, padded};
 ghost use Rattle.block_passes.specs.Keys.{AreReadable, InRange};
 
 use crate::ids::part_id;
@@ -17,7 +17,7 @@ pub(crate) fn row_ids(row: &StdRow, pass: &Pass, pool: &Pool) -> Option<[u32; MO
     requires in_range { InRange row.now pass.now }
     requires readable { AreReadable row.now pass.now }
     requires held { AreHeld pool.now.texts row.now pass.now }
-    ensures { result ≡ four_of (id_key_in pool.now.texts row.now pass.now) }
+    ensures { result ≡ four_ids (id_key_in pool.now.texts row.now pass.now) }
 {
     let mut ids = [0; MOST_IDS];
     for (at, part) in pass.parts().iter().enumerate() {

@@ -1,10 +1,11 @@
 // The rows of a file by the ids of their keys.
 ghost use Rattle.std.specs.Prelude.{◌≡◌, ◌<◌, ◌≤◌, ◌^◌, ℕ, List, [], length, slice_index_or, IfOk, Option, Some};
 ghost use Rattle.block_passes.specs.Ids.{AreAllHeld, rows_with_ids};
-ghost use Rattle.block_passes.specs.IdCodes.{four_at};
+ghost use Rattle.block_passes.specs.IdCodes.{four_ids_at};
 ghost use Rattle.block_passes.specs.IdIndexRows.{id_index_rows};
-ghost use Rattle.block_passes.specs.Index.{AreReady, rows_of_code};
-ghost use Rattle.block_passes.specs.Numbering.{AreNumbered, AreNumbers, number_of};
+ghost use Rattle.block_passes.specs.Index.{AreReady};
+ghost use Rattle.block_passes.specs.CodedRows.{rows_of_code};
+ghost use Rattle.block_passes.specs.Numbering.{AreNumbered, AreNumbers, number_among};
 
 use crate::groups::Groups;
 use crate::id_codes::{first_ids, row_ids};
@@ -27,8 +28,8 @@ fn number_ids(
     requires held { AreAllHeld pool.now.texts pass.now file.now }
     requires empty { numbering.old ≡ [] }
     ensures few { IfOk result (λ numbers. length numbers.items < 2 ^ 32) }
-    ensures numbers { IfOk result (λ numbers. AreNumbers numbering.new (four_at pool.now.texts pass.now file.now) (length file.now) numbers.items) }
-    ensures numbered { IfOk result (λ _. AreNumbered numbering.new (four_at pool.now.texts pass.now file.now) (length file.now)) }
+    ensures numbers { IfOk result (λ numbers. AreNumbers numbering.new (four_ids_at pool.now.texts pass.now file.now) (length file.now) numbers.items) }
+    ensures numbered { IfOk result (λ _. AreNumbered numbering.new (four_ids_at pool.now.texts pass.now file.now) (length file.now)) }
 {
     let mut numbers = Vec::new(alloc);
     for at in 0..file.rows() {
@@ -49,7 +50,7 @@ pub(crate) fn find_ids(
     requires parts { length pass.now ≤ 4 }
     requires ready { AreReady pass.now file.now }
     requires held { AreAllHeld pool.now.texts pass.now file.now }
-    ensures { IfOk result (λ numbers. AreNumbers numbering.now (four_at pool.now.texts pass.now file.now) (length file.now) numbers.items) }
+    ensures { IfOk result (λ numbers. AreNumbers numbering.now (four_ids_at pool.now.texts pass.now file.now) (length file.now) numbers.items) }
 {
     let mut numbers = Vec::new(alloc);
     for at in 0..file.rows() {
@@ -114,7 +115,7 @@ pub(crate) fn index_ids(
     requires ready { AreReady pass.now file.now }
     requires held { AreAllHeld pool.now.texts pass.now file.now }
     ensures parts { IfOk result (λ index. index.parts ≡ length pass.now) }
-    ensures rows { IfOk result (λ index. (ids : Option (List ℕ)) → slice_index_or index.groups (number_of index.numbering ids) [] ≡ rows_of_code (four_at pool.now.texts pass.now file.now) (length file.now) ids) }
+    ensures rows { IfOk result (λ index. (ids : Option (List ℕ)) → slice_index_or index.groups (number_among index.numbering ids) [] ≡ rows_of_code (four_ids_at pool.now.texts pass.now file.now) (length file.now) ids) }
 {
     let mut numbering = IdNumbering::new(alloc);
     let numbers = number_ids(alloc, file, pass, pool, &mut numbering)?;

@@ -1,6 +1,7 @@
 // Lists of four ids with their numbers.
 ghost use Rattle.std.specs.Prelude.{◌≡◌, ◌<◌, ◌≤◌, ◌+◌, ◌^◌, [], length, IfOk, OnOk};
-ghost use Rattle.block_passes.specs.Numbering.{IsNumbered, KeepNumbers, number_of, place_of};
+ghost use Rattle.value_pool.specs.Texts.{place_among};
+ghost use Rattle.block_passes.specs.Numbering.{IsNumbered, KeepNumbers, number_among};
 
 use crate::id_codes::MOST_IDS;
 use indexmap::IndexSet;
@@ -45,7 +46,7 @@ impl IdNumbering {
 
     /// The place of a list, or the number of lists where it is none of them.
     pub(crate) fn place(&self, code: &[u32; MOST_IDS]) -> u32
-        ensures { result ≡ place_of self.now code.now }
+        ensures { result ≡ place_among self.now code.now }
     {
         match self.codes.get_index_of(code) {
             Some(at) => at as u32,
@@ -55,7 +56,7 @@ impl IdNumbering {
 
     /// The number of a list.
     pub(crate) fn find(&self, code: Option<[u32; MOST_IDS]>) -> u32
-        ensures { result ≡ number_of self.now code }
+        ensures { result ≡ number_among self.now code }
     {
         match code {
             None => NO_NUMBER,
@@ -66,7 +67,7 @@ impl IdNumbering {
     /// The number of a list, the next one if it had none.
     pub(crate) fn number(&mut self, code: Option<[u32; MOST_IDS]>) -> Result<u32, NoMemory>
         requires room { length self.old + 1 < 2 ^ 32 }
-        ensures number { IfOk result (λ n. n ≡ number_of self.new code) }
+        ensures number { IfOk result (λ n. n ≡ number_among self.new code) }
         ensures numbered { OnOk result (IsNumbered self.new code) }
         ensures kept { OnOk result (KeepNumbers self.old self.new) }
         ensures count { OnOk result (length self.new ≤ length self.old + 1) }
@@ -80,8 +81,8 @@ impl IdNumbering {
     // The place of a list, which goes last if it is new.
     fn take(&mut self, code: [u32; MOST_IDS]) -> Result<u32, NoMemory>
         requires room { length self.old + 1 < 2 ^ 32 }
-        ensures number { IfOk result (λ n. n ≡ place_of self.new code) }
-        ensures numbered { OnOk result (place_of self.new code < length self.new) }
+        ensures number { IfOk result (λ n. n ≡ place_among self.new code) }
+        ensures numbered { OnOk result (place_among self.new code < length self.new) }
         ensures kept { OnOk result (KeepNumbers self.old self.new) }
         ensures count { OnOk result (length self.new ≤ length self.old + 1) }
     {

@@ -1,15 +1,16 @@
 // The key of a row in a pass as ids of a pool.
 ghost use Rattle.std.specs.Prelude.{◌≡◌, ◌<◌, ℕ, List, length, option_map, IfOk};
-ghost use Rattle.block_passes.specs.Ids.{AreHeld, IsHeld, id_key_in, same_ids};
+ghost use Rattle.value_pool.specs.Texts.{IsHeld, place_among};
+ghost use Rattle.block_passes.specs.Ids.{AreHeld, id_key_in, same_ids};
 ghost use Rattle.block_passes.specs.Keys.{AreReadable, InRange, IsPartReadable, key_in_pass, part_key, same_key};
-ghost use Rattle.block_passes.specs.Numbering.{place_of};
 ghost use Rattle.link_base.specs.declared.plan.Part.{Part as KeyPart};
 ghost use Rattle.link_base.specs.declared.standard.Value.{Value};
 
-use crate::parts::{bytes_of, part_text};
+use crate::parts::part_text;
 use link_base::{NoMemory, Part, Pass, StdRow};
 use std::alloc::Global;
 use std::marker::Model;
+use value_canons::bytes_of;
 use value_pool::{Id, Pool};
 
 /// The key of a row in a pass as ids, which contracts see as the list of them, one a part.
@@ -40,7 +41,7 @@ pub(crate) fn part_id(row: &StdRow, part: Part, pool: &Pool) -> Option<Id>
     requires within { part.field < length row.now }
     requires readable { IsPartReadable row.now part }
     requires held { IsHeld pool.now.texts (part_key row.now part) }
-    ensures { result ≡ option_map (place_of pool.now.texts) (part_key row.now part) }
+    ensures { result ≡ option_map (place_among pool.now.texts) (part_key row.now part) }
 {
     pool.are_distinct();
     match part_text(row, part) {

@@ -1,8 +1,9 @@
 // The rows of a file by their keys.
 ghost use Rattle.std.specs.Prelude.{◌≡◌, ◌<◌, ◌≤◌, ◌^◌, ℕ, List, [], length, map, slice_index_or, IfOk, Option, Some};
 ghost use Rattle.block_passes.specs.Ids.{AreAllHeld};
-ghost use Rattle.block_passes.specs.Index.{AreReady, code_at, row_at, rows_with_code, rows_with_key};
-ghost use Rattle.block_passes.specs.Numbering.{AreNumbered, AreNumbers, number_of};
+ghost use Rattle.block_passes.specs.Index.{AreReady, row_at, rows_with_key};
+ghost use Rattle.block_passes.specs.CodedRows.{code_of_row, rows_with_code};
+ghost use Rattle.block_passes.specs.Numbering.{AreNumbered, AreNumbers, number_among};
 ghost use Rattle.block_passes.specs.IndexRows.{index_rows};
 ghost use Rattle.block_passes.specs.Keys.{key_in_pass};
 
@@ -27,8 +28,8 @@ fn number_rows(
     requires ready { AreReady pass.now file.now }
     requires empty { numbering.old ≡ [] }
     ensures few { IfOk result (λ numbers. length numbers.items < 2 ^ 32) }
-    ensures numbers { IfOk result (λ numbers. AreNumbers numbering.new (code_at pass.now file.now) (length file.now) numbers.items) }
-    ensures numbered { IfOk result (λ _. AreNumbered numbering.new (code_at pass.now file.now) (length file.now)) }
+    ensures numbers { IfOk result (λ numbers. AreNumbers numbering.new (code_of_row pass.now file.now) (length file.now) numbers.items) }
+    ensures numbered { IfOk result (λ _. AreNumbered numbering.new (code_of_row pass.now file.now) (length file.now)) }
 {
     let mut numbers = Vec::new(alloc);
     for at in 0..file.rows() {
@@ -46,7 +47,7 @@ fn find_rows(
     numbering: &Numbering,
 ) -> Result<Vec<u32>, NoMemory>
     requires { AreReady pass.now file.now }
-    ensures { IfOk result (λ numbers. AreNumbers numbering.now (code_at pass.now file.now) (length file.now) numbers.items) }
+    ensures { IfOk result (λ numbers. AreNumbers numbering.now (code_of_row pass.now file.now) (length file.now) numbers.items) }
 {
     let mut numbers = Vec::new(alloc);
     for at in 0..file.rows() {
@@ -91,7 +92,7 @@ pub fn build_index(alloc: Global, file: &StdFile, pass: &Pass) -> Result<Index, 
 // The index, as the codes of keys tell it.
 fn index_file(alloc: Global, file: &StdFile, pass: &Pass) -> Result<Index, NoMemory>
     requires { AreReady pass.now file.now }
-    ensures { IfOk result (λ index. (code : Option (List ℕ)) → slice_index_or index.groups (number_of index.numbering code) [] ≡ rows_with_code pass.now file.now code) }
+    ensures { IfOk result (λ index. (code : Option (List ℕ)) → slice_index_or index.groups (number_among index.numbering code) [] ≡ rows_with_code pass.now file.now code) }
 {
     let mut numbering = Numbering::new(alloc);
     let numbers = number_rows(alloc, file, pass, &mut numbering)?;

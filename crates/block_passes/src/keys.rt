@@ -4,10 +4,11 @@ ghost use Rattle.block_passes.specs.Codes.{coded_texts};
 ghost use Rattle.block_passes.specs.Keys.{AreReadable, InRange, key_in_pass};
 
 use crate::codes::push_text;
-use crate::parts::{bytes_of, part_text};
+use crate::parts::part_text;
 use link_base::{NoMemory, Pass, StdRow, Text};
 use std::alloc::Global;
 use std::marker::Model;
+use value_canons::bytes_of;
 
 /// The key of a row in a pass, which contracts see as the list of its texts, one a part.
 #[derive(Debug, Drop)]

@@ -16,7 +16,7 @@ pub use id_index::{IdIndex, build_index_in};
 pub use ids::{IdKey, id_key, ids_tell_keys};
 pub use index::{Index, PassRows, build_index};
 pub use keys::{PassKey, pass_key};
-pub use parts::{PartText, bytes_of, part_text, value_text};
+pub use parts::part_text;
 
 #[cfg(test)]
 mod tests;

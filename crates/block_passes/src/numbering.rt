@@ -1,6 +1,7 @@
 // Codes with their numbers.
 ghost use Rattle.std.specs.Prelude.{◌≡◌, ◌<◌, ◌≤◌, ◌+◌, ◌^◌, [], length, IfOk, OnOk, option_map};
-ghost use Rattle.block_passes.specs.Numbering.{IsNumbered, KeepNumbers, number_of, place_of};
+ghost use Rattle.value_pool.specs.Texts.{place_among};
+ghost use Rattle.block_passes.specs.Numbering.{IsNumbered, KeepNumbers, number_among};
 
 use indexmap::IndexSet;
 use link_base::NoMemory;
@@ -45,7 +46,7 @@ impl Numbering {
 
     /// The place of a code, or the number of codes where it is none of them.
     pub(crate) fn place(&self, code: &[u8]) -> u32
-        ensures { result ≡ place_of self.now code.now }
+        ensures { result ≡ place_among self.now code.now }
     {
         match self.codes.get_index_of(code) {
             Some(at) => at as u32,
@@ -55,7 +56,7 @@ impl Numbering {
 
     /// The number of a code.
     pub(crate) fn find(&self, code: Option<Vec<u8>>) -> u32
-        ensures { result ≡ number_of self.now (option_map (λ bytes. bytes.items) code) }
+        ensures { result ≡ number_among self.now (option_map (λ bytes. bytes.items) code) }
     {
         match code {
             None => NO_NUMBER,
@@ -66,7 +67,7 @@ impl Numbering {
     /// The number of a code, the next one if it had none.
     pub(crate) fn number(&mut self, code: Option<Vec<u8>>) -> Result<u32, NoMemory>
         requires room { length self.old + 1 < 2 ^ 32 }
-        ensures number { IfOk result (λ n. n ≡ number_of self.new (option_map (λ bytes. bytes.items) code)) }
+        ensures number { IfOk result (λ n. n ≡ number_among self.new (option_map (λ bytes. bytes.items) code)) }
         ensures numbered { OnOk result (IsNumbered self.new (option_map (λ bytes. bytes.items) code)) }
         ensures kept { OnOk result (KeepNumbers self.old self.new) }
         ensures count { OnOk result (length self.new ≤ length self.old + 1) }
@@ -80,8 +81,8 @@ impl Numbering {
     // The place of a code, which goes last if it is new.
     fn take(&mut self, code: Vec<u8>) -> Result<u32, NoMemory>
         requires room { length self.old + 1 < 2 ^ 32 }
-        ensures number { IfOk result (λ n. n ≡ place_of self.new code.items) }
-        ensures numbered { OnOk result (place_of self.new code.items < length self.new) }
+        ensures number { IfOk result (λ n. n ≡ place_among self.new code.items) }
+        ensures numbered { OnOk result (place_among self.new code.items < length self.new) }
         ensures kept { OnOk result (KeepNumbers self.old self.new) }
         ensures count { OnOk result (length self.new ≤ length self.old + 1) }
     {

@@ -1,6 +1,6 @@
 use Rattle.std.proofs.Common.{◌≡◌, Some, sym, ap, ◌∙◌}
+use Rattle.value_pool.proofs.PlaceLemmas.{found-place}
 use Rattle.block_passes.specs.Keys.{part_key}
-use Rattle.block_passes.proofs.IdLemmas.{found-place}
 use Rattle.block_passes.proofs.ids.part_id.Goals as goal
 
 pub returns-in-Some : goal.returns-in-Some

@@ -1,5 +1,5 @@
 use Rattle.std.proofs.Common.{[], get_or, ap, ◌∙◌}
-use Rattle.block_passes.specs.IdCodes.{four_at}
+use Rattle.block_passes.specs.IdCodes.{four_ids_at}
 use Rattle.block_passes.specs.Index.{row_at}
 use Rattle.block_passes.proofs.IdLemmas.{rows-by-four}
 use Rattle.block_passes.proofs.RowLemmas.{mapped-at}
@@ -14,5 +14,5 @@ returns-clause-rows c = λ at lt.
     rw (c.of.ensures, c.into_groups.ensures) (
     mapped-at _ c.in_ok-numbers.numbers.items at (rw numbers.0 lt)
     ∙ ap (λ n. get_or c.in_ok-index.index.groups n []) (numbers.1 at lt)
-    ∙ c.in_ok-index.ensures.rows (four_at texts parts c.args.a.now at)
+    ∙ c.in_ok-index.ensures.rows (four_ids_at texts parts c.args.a.now at)
     ∙ rows-by-four texts parts c.args.b.now (row_at c.args.a.now at) few (c.requires.held_a at lt) c.requires.held_b)

@@ -1,5 +1,6 @@
 use Rattle.std.proofs.Common.{◌∙◌, sym, ap}
-use Rattle.block_passes.specs.Numbering.{codes_of, place_of}
+use Rattle.value_pool.specs.Texts.{place_among}
+use Rattle.block_passes.specs.Numbering.{codes_of}
 use Rattle.block_passes.proofs.NumberLemmas.{codes-insert, few-kept, kept-with, length-with, place-items, place-with, place-within}
 use Rattle.block_passes.proofs.numbering.Numbering.take.Goals as goal
 
@@ -11,7 +12,7 @@ pub returns-in-Ok-clause-number : goal.returns-in-Ok-clause-number
 returns-in-Ok-clause-number c =
     let keys = c.self.inside.codes.keys in
     let new = ap codes_of c.in-Ok.ensures.keys ∙ codes-insert keys c.args.code in
-    c.in-Ok.ensures.index ∙ place-items c.args.code.items keys ∙ sym (place-with (codes_of keys) c.args.code.items) ∙ ap (λ codes. place_of codes c.args.code.items) (sym new)
+    c.in-Ok.ensures.index ∙ place-items c.args.code.items keys ∙ sym (place-with (codes_of keys) c.args.code.items) ∙ ap (λ codes. place_among codes c.args.code.items) (sym new)
 
 pub returns-in-Ok-clause-numbered : goal.returns-in-Ok-clause-numbered
 returns-in-Ok-clause-numbered c =

@@ -1,0 +1,19 @@
+-- Machinery of the index: the rows of a file by the codes of their keys. No public clause names them.
+use Rattle.std.specs.Prelude.{ℕ, List, filter, length, Option}
+use Rattle.std.specs.List.{range_with_len}
+use Rattle.block_passes.specs.Codes.{key_code}
+use Rattle.block_passes.specs.Index.{row_at}
+use Rattle.block_passes.specs.Keys.{key_in_pass, same_text}
+use Rattle.link_base.specs.Standard.{Record}
+use Rattle.link_base.specs.declared.plan.Part.{Part}
+
+-- the code of the key of the row at a position
+abbrev pub code_of_row : List Part → List Record → ℕ → Option (List ℕ)
+code_of_row parts file at = key_code (key_in_pass (row_at file at) parts)
+
+-- the positions below `count` whose code is this one, rising
+abbrev pub rows_of_code : (ℕ → Option (List ℕ)) → ℕ → Option (List ℕ) → List ℕ
+rows_of_code code_of count code = filter (λ at. same_text code (code_of at)) (range_with_len 0 count)
+
+abbrev pub rows_with_code : List Part → List Record → Option (List ℕ) → List ℕ
+rows_with_code parts file code = rows_of_code (code_of_row parts file) (length file) code
