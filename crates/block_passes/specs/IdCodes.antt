@@ -1,5 +1,6 @@
--- Machinery of the index: up to four ids side by side. No public clause names them.
-use Rattle.std.specs.Prelude.{ℕ, zero, suc, List, [], ◌∷◌, Option, option_map}
+-- Machinery of the index: up to four ids side by side, and longer lists of ids as bytes. No public clause names them.
+use Rattle.std.specs.Prelude.{ℕ, zero, suc, ◌/◌, ◌%◌, List, [], ◌∷◌, map, Option, option_map}
+use Rattle.block_passes.specs.Codes.{coded_texts}
 use Rattle.block_passes.specs.Ids.{id_key_in}
 use Rattle.block_passes.specs.Index.{row_at}
 use Rattle.link_base.specs.Standard.{Record}
@@ -17,3 +18,15 @@ four_ids ids = option_map (padded 4) ids
 -- the four ids of the key of the row at a position
 abbrev pub four_ids_at : List (List ℕ) → List Part → List Record → ℕ → Option (List ℕ)
 four_ids_at texts parts file at = four_ids (id_key_in texts (row_at file at) parts)
+
+-- the bytes of an id, the lowest first
+abbrev pub id_bytes : ℕ → List ℕ
+id_bytes id = (id % 256) ∷ (id / 256 % 256) ∷ (id / 65536 % 256) ∷ (id / 16777216) ∷ []
+
+-- ids as one list of bytes
+abbrev pub coded_ids : List ℕ → List ℕ
+coded_ids ids = coded_texts (map id_bytes ids)
+
+-- the code of the ids of the key of the row at a position
+abbrev pub long_ids_at : List (List ℕ) → List Part → List Record → ℕ → Option (List ℕ)
+long_ids_at texts parts file at = option_map coded_ids (id_key_in texts (row_at file at) parts)

@@ -7,4 +7,3 @@ pub mod CodedRows
 pub mod IndexRows
 pub mod Ids
 pub mod IdCodes
-pub mod IdIndexRows

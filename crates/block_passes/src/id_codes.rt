@@ -1,11 +1,13 @@
-// Up to four ids side by side.
-ghost use Rattle.std.specs.Prelude.{◌≡◌, ◌≤◌, ℕ, length, slice_index_or};
+// Up to four ids side by side, and longer lists of them as bytes.
+ghost use Rattle.std.specs.Prelude.{◌≡◌, ◌≤◌, ℕ, IfOk, length, slice_index_or};
 ghost use Rattle.block_passes.specs.Ids.{AreHeld, id_key_in};
-ghost use Rattle.block_passes.specs.IdCodes.{four_ids, padded};
+ghost use Rattle.block_passes.specs.IdCodes.{coded_ids, four_ids, id_bytes, padded};
 ghost use Rattle.block_passes.specs.Keys.{AreReadable, InRange};
 
+use crate::codes::push_text;
 use crate::ids::part_id;
-use link_base::{Pass, StdRow};
+use link_base::{NoMemory, Pass, StdRow};
+use std::alloc::Global;
 use value_pool::{Id, Pool};
 
 /// The most parts of a key that has a code of ids.
@@ -48,4 +50,27 @@ pub(crate) fn first_ids(ids: &[Id]) -> [u32; MOST_IDS]
         place_at(ids, 2),
         place_at(ids, 3),
     ]
+}
+
+fn bytes_of_id(id: Id) -> [u8; 4]
+    ensures { result ≡ id_bytes id }
+{
+    let place = id.place();
+    [
+        (place % 256) as u8,
+        (place / 256 % 256) as u8,
+        (place / 65_536 % 256) as u8,
+        (place / 16_777_216) as u8,
+    ]
+}
+
+/// Ids as one list of bytes.
+pub(crate) fn code_of_ids(alloc: Global, ids: &[Id]) -> Result<Vec<u8>, NoMemory>
+    ensures { IfOk result (λ code. code.items ≡ coded_ids ids.now) }
+{
+    let mut code = Vec::new(alloc);
+    for id in ids {
+        push_text(&mut code, &bytes_of_id(*id))?;
+    }
+    Ok(code)
 }

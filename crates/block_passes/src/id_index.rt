@@ -1,17 +1,20 @@
 // The rows of a file by the ids of their keys.
-ghost use Rattle.std.specs.Prelude.{◌≡◌, ◌<◌, ◌≤◌, ◌^◌, ℕ, List, [], length, slice_index_or, IfOk, Option, Some};
-ghost use Rattle.block_passes.specs.Ids.{AreAllHeld, rows_with_ids};
-ghost use Rattle.block_passes.specs.IdCodes.{four_ids_at};
-ghost use Rattle.block_passes.specs.IdIndexRows.{id_index_rows};
+ghost use Rattle.std.specs.Prelude.{◌≡◌, ◌<◌, ◌≤◌, ◌^◌, ℕ, List, [], length, option_map, slice_index_or, IfOk, Option, Some};
+ghost use Rattle.block_passes.specs.Ids.{AreAllHeld, AreHeld, id_key_in, rows_with_ids};
+ghost use Rattle.block_passes.specs.IdCodes.{coded_ids, four_ids_at, long_ids_at};
+ghost use Rattle.block_passes.specs.IndexRows.{id_index_rows, rows_by_ids};
+ghost use Rattle.block_passes.specs.Keys.{AreReadable, InRange};
 ghost use Rattle.block_passes.specs.Index.{AreReady};
 ghost use Rattle.block_passes.specs.CodedRows.{rows_of_code};
 ghost use Rattle.block_passes.specs.Numbering.{AreNumbered, AreNumbers, number_among};
 
 use crate::groups::Groups;
-use crate::id_codes::{first_ids, row_ids};
+use crate::id_codes::{MOST_IDS, first_ids, row_ids};
 use crate::id_numbering::IdNumbering;
-use crate::ids::IdKey;
-use link_base::{NoMemory, Pass, StdFile};
+use crate::ids::{IdKey, id_key};
+use crate::index::RowsByCode;
+use crate::numbering::Numbering;
+use link_base::{NoMemory, Pass, StdFile, StdRow};
 use std::alloc::Global;
 use value_pool::Pool;
 
@@ -60,70 +63,153 @@ pub(crate) fn find_ids(
     Ok(numbers)
 }
 
-/// The rows of a file by the ids of their keys in a blocking pass.
+// The rows of a file by the numbers of four ids.
 #[derive(Drop)]
-pub struct IdIndex {
-    pub(crate) parts: usize,
+pub(crate) struct RowsByFour {
     pub(crate) numbering: IdNumbering,
     pub(crate) groups: Groups,
 }
 
+// The rows of a file by up to four ids, or by the bytes of more of them.
+#[derive(Drop)]
+enum RowsByIds {
+    Four(RowsByFour),
+    Long(RowsByCode),
+}
+
+impl RowsByIds {
+    fn rows(&self, key: &IdKey) -> &[u32]
+        ensures { result.now ≡ rows_by_ids self.now key.now }
+    {
+        match self {
+            RowsByIds::Four(rows) => rows
+                .groups
+                .rows(rows.numbering.place(&first_ids(key.ids()))),
+            RowsByIds::Long(rows) => rows.groups.rows(rows.numbering.place(key.code())),
+        }
+    }
+}
+
+/// The rows of a file by the ids of their keys in a blocking pass. What it gives for the ids of a
+/// key is the word `id_index_rows`.
+#[derive(Drop)]
+pub struct IdIndex {
+    parts: usize,
+    rows: RowsByIds,
+}
+
 impl IdIndex {
-    /// The rising list of the positions whose ids are those of this key.
+    /// The rising list of the positions whose ids are those of this key. It takes no memory.
+    #[tactic(auto, unfolding(crate::specs::IndexRows::id_index_rows))]
     pub fn rows_of(&self, key: &IdKey) -> &[u32]
         ensures { result.now ≡ id_index_rows self.now key.now }
     {
         if key.ids().len() != self.parts {
             return &[];
         }
-        self.groups
-            .rows(self.numbering.place(&first_ids(key.ids())))
-    }
-
-    pub(crate) fn into_groups(self) -> Groups
-        ensures { result ≡ self.groups }
-    {
-        self.groups
+        self.rows.rows(key)
     }
 }
 
-/// The index of a file by the ids of its rows' keys in a blocking pass of at most four parts: for
-/// each key the rising list of the positions of the rows that have it.
+/// The index of a file by the ids of its rows' keys in a blocking pass: for each key the rising
+/// list of the positions of the rows that have it.
 pub fn build_index_in(
     alloc: Global,
     file: &StdFile,
     pass: &Pass,
     pool: &Pool,
 ) -> Result<IdIndex, NoMemory>
-    requires parts { length pass.now ≤ 4 }
     requires ready { AreReady pass.now file.now }
     requires held { AreAllHeld pool.now.texts pass.now file.now }
     ensures { IfOk result (λ index. (ids : List ℕ) → id_index_rows index ids ≡ rows_with_ids pool.now.texts pass.now file.now (Some ids)) }
 {
-    let index = index_ids(alloc, file, pass, pool)?;
-    Ok(index)
+    let parts = pass.parts().len();
+    if parts > MOST_IDS {
+        let rows = index_long(alloc, file, pass, pool)?;
+        return Ok(IdIndex {
+            parts,
+            rows: RowsByIds::Long(rows),
+        });
+    }
+    let rows = index_ids(alloc, file, pass, pool)?;
+    Ok(IdIndex {
+        parts,
+        rows: RowsByIds::Four(rows),
+    })
 }
 
-/// The index, as the numbers of the ids tell it.
+/// The index of a pass of at most four parts, as the numbers of the ids tell it.
 pub(crate) fn index_ids(
     alloc: Global,
     file: &StdFile,
     pass: &Pass,
     pool: &Pool,
-) -> Result<IdIndex, NoMemory>
+) -> Result<RowsByFour, NoMemory>
     requires parts { length pass.now ≤ 4 }
     requires ready { AreReady pass.now file.now }
     requires held { AreAllHeld pool.now.texts pass.now file.now }
-    ensures parts { IfOk result (λ index. index.parts ≡ length pass.now) }
-    ensures rows { IfOk result (λ index. (ids : Option (List ℕ)) → slice_index_or index.groups (number_among index.numbering ids) [] ≡ rows_of_code (four_ids_at pool.now.texts pass.now file.now) (length file.now) ids) }
+    ensures { IfOk result (λ rows. (ids : Option (List ℕ)) → slice_index_or rows.groups (number_among rows.numbering ids) [] ≡ rows_of_code (four_ids_at pool.now.texts pass.now file.now) (length file.now) ids) }
 {
     let mut numbering = IdNumbering::new(alloc);
     let numbers = number_ids(alloc, file, pass, pool, &mut numbering)?;
     let groups = Groups::new(alloc, &numbers, numbering.count())?;
-    let parts = pass.parts().len();
-    Ok(IdIndex {
-        parts,
-        numbering,
-        groups,
-    })
+    Ok(RowsByFour { numbering, groups })
+}
+
+// The ids of the key of a row as bytes.
+fn long_code(
+    alloc: Global,
+    row: &StdRow,
+    pass: &Pass,
+    pool: &Pool,
+) -> Result<Option<Vec<u8>>, NoMemory>
+    requires in_range { InRange row.now pass.now }
+    requires readable { AreReadable row.now pass.now }
+    requires held { AreHeld pool.now.texts row.now pass.now }
+    ensures { IfOk result (λ code. option_map (λ bytes. bytes.items) code ≡ option_map coded_ids (id_key_in pool.now.texts row.now pass.now)) }
+{
+    match id_key(alloc, row, pass, pool)? {
+        None => Ok(None),
+        Some(key) => Ok(Some(key.into_code())),
+    }
+}
+
+// Gives each row of a file the number of the bytes of its ids, or the next number.
+fn number_long(
+    alloc: Global,
+    file: &StdFile,
+    pass: &Pass,
+    pool: &Pool,
+    numbering: &mut Numbering,
+) -> Result<Vec<u32>, NoMemory>
+    requires ready { AreReady pass.now file.now }
+    requires held { AreAllHeld pool.now.texts pass.now file.now }
+    requires empty { numbering.old ≡ [] }
+    ensures few { IfOk result (λ numbers. length numbers.items < 2 ^ 32) }
+    ensures numbers { IfOk result (λ numbers. AreNumbers numbering.new (long_ids_at pool.now.texts pass.now file.now) (length file.now) numbers.items) }
+    ensures numbered { IfOk result (λ _. AreNumbered numbering.new (long_ids_at pool.now.texts pass.now file.now) (length file.now)) }
+{
+    let mut numbers = Vec::new(alloc);
+    for at in 0..file.rows() {
+        let number = numbering.number(long_code(alloc, file.row(at), pass, pool)?)?;
+        numbers.push(number)?;
+    }
+    Ok(numbers)
+}
+
+// The index of a pass of any length, as the numbers of the bytes of ids tell it.
+fn index_long(
+    alloc: Global,
+    file: &StdFile,
+    pass: &Pass,
+    pool: &Pool,
+) -> Result<RowsByCode, NoMemory>
+    requires ready { AreReady pass.now file.now }
+    requires held { AreAllHeld pool.now.texts pass.now file.now }
+    ensures { IfOk result (λ rows. (code : Option (List ℕ)) → slice_index_or rows.groups (number_among rows.numbering code) [] ≡ rows_of_code (long_ids_at pool.now.texts pass.now file.now) (length file.now) code) }
+{
+    let mut numbering = Numbering::new(alloc);
+    let numbers = number_long(alloc, file, pass, pool, &mut numbering)?;
+    let groups = Groups::new(alloc, &numbers, numbering.count())?;
+    Ok(RowsByCode { numbering, groups })
 }

@@ -1,11 +1,13 @@
 // The key of a row in a pass as ids of a pool.
 ghost use Rattle.std.specs.Prelude.{◌≡◌, ◌<◌, ℕ, List, length, option_map, IfOk};
 ghost use Rattle.value_pool.specs.Texts.{IsHeld, place_among};
+ghost use Rattle.block_passes.specs.IdCodes.{coded_ids};
 ghost use Rattle.block_passes.specs.Ids.{AreHeld, id_key_in, same_ids};
 ghost use Rattle.block_passes.specs.Keys.{AreReadable, InRange, IsPartReadable, key_in_pass, part_key, same_key};
 ghost use Rattle.link_base.specs.declared.plan.Part.{Part as KeyPart};
 ghost use Rattle.link_base.specs.declared.standard.Value.{Value};
 
+use crate::id_codes::code_of_ids;
 use crate::parts::part_text;
 use link_base::{NoMemory, Part, Pass, StdRow};
 use std::alloc::Global;
@@ -17,22 +19,47 @@ use value_pool::{Id, Pool};
 #[derive(Debug, Drop)]
 pub struct IdKey {
     ids: Vec<Id>,
+    code: Vec<u8>,
 }
 
 impl Model for IdKey {
-    ghost use Rattle.std.specs.Prelude.{ℕ, List};
+    ghost use Rattle.std.specs.Prelude.{◌≡◌, ℕ, List};
+    ghost use Rattle.block_passes.specs.IdCodes.{coded_ids};
 
     ghost Value = { List ℕ };
 
     ghost view = { λ k. k.ids.items };
+
+    ghost invariant = { λ k. k.code.items ≡ coded_ids k.ids.items };
 }
 
 impl IdKey {
+    // The key of these ids.
+    fn of(alloc: Global, ids: Vec<Id>) -> Result<IdKey, NoMemory>
+        ensures { IfOk result (λ key. key ≡ ids.items) }
+    {
+        let code = code_of_ids(alloc, &ids)?;
+        Ok(IdKey { ids, code })
+    }
+
     /// The ids of the parts.
     pub fn ids(&self) -> &[Id]
         ensures { result.now ≡ self.now }
     {
         &self.ids
+    }
+
+    // The ids as bytes.
+    pub(crate) fn code(&self) -> &[u8]
+        ensures { result.now ≡ coded_ids self.now }
+    {
+        &self.code
+    }
+
+    pub(crate) fn into_code(self) -> Vec<u8>
+        ensures { result.items ≡ coded_ids self }
+    {
+        self.code
     }
 }
 
@@ -70,7 +97,7 @@ pub fn id_key(
             Some(id) => ids.push(id)?,
         }
     }
-    Ok(Some(IdKey { ids }))
+    Ok(Some(IdKey::of(alloc, ids)?))
 }
 
 /// Two keys of ids over one list of texts are present and equal exactly where the keys of texts are.

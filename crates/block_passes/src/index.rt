@@ -1,10 +1,10 @@
 // The rows of a file by their keys.
 ghost use Rattle.std.specs.Prelude.{◌≡◌, ◌<◌, ◌≤◌, ◌^◌, ℕ, List, [], length, map, slice_index_or, IfOk, Option, Some};
 ghost use Rattle.block_passes.specs.Ids.{AreAllHeld};
+ghost use Rattle.block_passes.specs.IndexRows.{index_rows};
 ghost use Rattle.block_passes.specs.Index.{AreReady, row_at, rows_with_key};
 ghost use Rattle.block_passes.specs.CodedRows.{code_of_row, rows_with_code};
 ghost use Rattle.block_passes.specs.Numbering.{AreNumbered, AreNumbers, number_among};
-ghost use Rattle.block_passes.specs.IndexRows.{index_rows};
 ghost use Rattle.block_passes.specs.Keys.{key_in_pass};
 
 use crate::codes::row_code;
@@ -57,25 +57,28 @@ fn find_rows(
     Ok(numbers)
 }
 
-/// The rows of a file by their keys in a blocking pass.
+// The rows of a file by the numbers of codes.
 #[derive(Drop)]
-pub struct Index {
+pub(crate) struct RowsByCode {
     pub(crate) numbering: Numbering,
     pub(crate) groups: Groups,
 }
 
+/// The rows of a file by their keys in a blocking pass. What it gives for a key is the
+/// word `index_rows`.
+#[derive(Drop)]
+pub struct Index {
+    rows: RowsByCode,
+}
+
 impl Index {
     /// The rising list of the positions whose key is equal to this one.
+    #[tactic(auto, unfolding(crate::specs::IndexRows::index_rows))]
     pub fn rows_of(&self, key: &PassKey) -> &[u32]
         ensures { result.now ≡ index_rows self.now key.now }
     {
-        self.groups.rows(self.numbering.place(key.code()))
-    }
-
-    fn into_groups(self) -> Groups
-        ensures { result ≡ self.groups }
-    {
-        self.groups
+        let rows = &self.rows;
+        rows.groups.rows(rows.numbering.place(key.code()))
     }
 }
 
@@ -85,19 +88,19 @@ pub fn build_index(alloc: Global, file: &StdFile, pass: &Pass) -> Result<Index, 
     requires { AreReady pass.now file.now }
     ensures { IfOk result (λ index. (key : List (List ℕ)) → index_rows index key ≡ rows_with_key pass.now file.now (Some key)) }
 {
-    let index = index_file(alloc, file, pass)?;
-    Ok(index)
+    let rows = index_file(alloc, file, pass)?;
+    Ok(Index { rows })
 }
 
 // The index, as the codes of keys tell it.
-fn index_file(alloc: Global, file: &StdFile, pass: &Pass) -> Result<Index, NoMemory>
+fn index_file(alloc: Global, file: &StdFile, pass: &Pass) -> Result<RowsByCode, NoMemory>
     requires { AreReady pass.now file.now }
-    ensures { IfOk result (λ index. (code : Option (List ℕ)) → slice_index_or index.groups (number_among index.numbering code) [] ≡ rows_with_code pass.now file.now code) }
+    ensures { IfOk result (λ rows. (code : Option (List ℕ)) → slice_index_or rows.groups (number_among rows.numbering code) [] ≡ rows_with_code pass.now file.now code) }
 {
     let mut numbering = Numbering::new(alloc);
     let numbers = number_rows(alloc, file, pass, &mut numbering)?;
     let groups = Groups::new(alloc, &numbers, numbering.count())?;
-    Ok(Index { numbering, groups })
+    Ok(RowsByCode { numbering, groups })
 }
 
 /// For each row of a file the rows of another that have its key in a pass, which contracts see as
@@ -132,7 +135,7 @@ impl PassRows {
     {
         let index = index_file(alloc, b, pass)?;
         let numbers = find_rows(alloc, a, pass, &index.numbering)?;
-        Ok(PassRows::of(numbers, index.into_groups()))
+        Ok(PassRows::of(numbers, index.groups))
     }
 
     /// The same rows, found by the ids of the texts of the keys, which stand in a pool.
@@ -155,7 +158,7 @@ impl PassRows {
         }
         let index = index_ids(alloc, b, pass, pool)?;
         let numbers = find_ids(alloc, a, pass, pool, &index.numbering)?;
-        Ok(PassRows::of(numbers, index.into_groups()))
+        Ok(PassRows::of(numbers, index.groups))
     }
 
     /// The rows of the second file for a row of the first, rising.

@@ -6,8 +6,8 @@ use Rattle.block_passes.proofs.id_index.index_ids.Goals as goal
 pub new-requires : goal.new-requires
 new-requires c = rw c.deref.ensures.value c.in_ok-numbers.ensures.few
 
-pub returns-clause-rows : goal.returns-clause-rows
-returns-clause-rows c = λ ids.
+pub returns : goal.returns
+returns c = λ ids.
     let made = c.in_ok-numbers.ensures in
     let groups = rw (c.deref.ensures.value, c.count.ensures.count) at c.in_ok-groups.ensures in
     group-is c.number_ids.new.numbering (omega (arith, c.count.ensures.few)) c.in_ok-numbers.numbers.items c.in_ok-groups.groups (four_ids_at c.args.pool.now.texts c.args.pass.now c.args.file.now) (length c.args.file.now)

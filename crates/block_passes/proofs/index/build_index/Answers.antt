@@ -1,7 +1,9 @@
 use Rattle.std.proofs.Common.{◌∙◌, Some}
 use Rattle.block_passes.specs.Codes.{coded_texts}
+use Rattle.block_passes.specs.IndexRows.{index_rows}
 use Rattle.block_passes.proofs.RowLemmas.{rows-are-keys}
 use Rattle.block_passes.proofs.index.build_index.Goals as goal
 
 pub returns : goal.returns
-returns c = λ key. c.in_ok-index.ensures (Some (coded_texts key)) ∙ rows-are-keys c.args.pass.now c.args.file.now (Some key)
+unfolding index_rows
+returns c = λ key. c.in_ok-rows.ensures (Some (coded_texts key)) ∙ rows-are-keys c.args.pass.now c.args.file.now (Some key)

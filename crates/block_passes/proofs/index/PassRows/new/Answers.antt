@@ -8,7 +8,7 @@ use Rattle.block_passes.proofs.index.PassRows.new.Goals as goal
 pub returns-clause-rows : goal.returns-clause-rows
 returns-clause-rows c = λ at lt.
     let numbers = c.in_ok-numbers.ensures in
-    rw (c.of.ensures, c.into_groups.ensures) (
+    rw c.of.ensures (
     mapped-at _ c.in_ok-numbers.numbers.items at (rw numbers.0 lt)
     ∙ ap (λ n. get_or c.in_ok-index.index.groups n []) (numbers.1 at lt)
     ∙ c.in_ok-index.ensures (code_of_row c.args.pass.now c.args.a.now at)
