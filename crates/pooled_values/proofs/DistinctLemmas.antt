@@ -9,9 +9,10 @@ use Rattle.std.proofs.lemmas.List.Kept.{AllPairs-filter}
 use Rattle.std.proofs.lemmas.List.Sums.{sum_by-cons, sum_by_push}
 use Rattle.std.proofs.lemmas.Map.Views.{any-filter_same}
 use Rattle.std.proofs.lemmas.Slice.Eq.{bytes_eq-Decides}
+use Rattle.value_pool.specs.Texts.{stands_among}
 use Rattle.value_pool.specs.declared.pool.PoolFault.TheVariants as fault
 use Rattle.pooled_values.specs.Distinct.{distinct_texts, IsFullAt}
-use Rattle.pooled_values.specs.Texts.{stands_among, texts_taken}
+use Rattle.pooled_values.specs.Texts.{texts_taken}
 
 -- two texts that are not told apart
 same-text : (t u : List ℕ) → bytes_eq t u ≡ true → t ≡ u

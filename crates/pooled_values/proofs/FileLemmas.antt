@@ -2,6 +2,7 @@
 use Rattle.std.proofs.Common.{◌≡◌, ◌<◌, ◌+◌, ℕ, List, [], ◌∷◌, ◌++◌, length, get_or, drop, option_to_list, sym, ap, ◌∙◌, append_assoc, arith}
 use Rattle.std.proofs.lemmas.List.{at_drop_more, drop_more}
 use Rattle.std.specs.List.{All}
+use Rattle.value_canons.specs.Canons.{canon_of}
 use Rattle.link_base.specs.Standard.{IsValid, no_record, Record}
 use Rattle.link_base.specs.declared.plan.CompareKind.{CompareKind}
 use Rattle.link_base.specs.declared.plan.CompareKind.TheVariants as by
@@ -9,7 +10,7 @@ use Rattle.link_base.specs.declared.plan.Part.{Part}
 use Rattle.link_base.specs.declared.standard.Value.{Value}
 use Rattle.pooled_values.specs.Ready.{AreInRange, HasParts}
 use Rattle.pooled_values.specs.Sides.{side_of, sides_of_file, sides_of_row}
-use Rattle.pooled_values.specs.Texts.{canon_of, canons_of_row, file_texts, parts_in_pass, parts_of_row}
+use Rattle.pooled_values.specs.Texts.{canons_of_row, file_texts, parts_in_pass, parts_of_row}
 
 pub file-row : (texts : List Value → List (List ℕ)) (file : List Record) (at : ℕ) (row : List Value) → at < length file → row ≡ (get_or file at no_record).row → file_texts texts (drop at file) ≡ texts row ++ file_texts texts (drop (at + 1) file)
 file-row texts file at row lt e =

@@ -7,8 +7,9 @@ use Rattle.std.proofs.lemmas.Slice.Eq.{bytes_eq-Decides}
 use Rattle.std.proofs.lemmas.List.{get_or_append_left}
 use Rattle.std.proofs.lemmas.List.Sums.{position_or_len_is}
 use Rattle.std.proofs.lemmas.Option.{get_or_from_slice_get, slice_get-get_or, slice_get_within}
+use Rattle.value_pool.specs.Texts.{place_among}
 use Rattle.comparators.specs.declared.ids.IdValue.TheVariants as id
-use Rattle.pooled_values.specs.Sides.{id_of_text, id_side}
+use Rattle.pooled_values.specs.Sides.{id_side}
 use Rattle.pooled_values.specs.Taking.{Extends}
 use Rattle.pooled_values.specs.Texts.{texts_taken}
 use Rattle.pooled_values.proofs.TakingLemmas.{taken-cases}
@@ -35,17 +36,17 @@ pub extends-self : (texts : List (List ℕ)) → AllPairs (λ a b. a ≢ b) text
 extends-self texts h = record { distinct = h; kept = λ i text at. at }
 
 -- the id of a text is its place, wherever that is found
-pub place-in : {held final : List (List ℕ)} (i : ℕ) (text : List ℕ) → Extends held final → slice_get held i ≡ Some text → id_of_text final text ≡ i
+pub place-in : {held final : List (List ℕ)} (i : ℕ) (text : List ℕ) → Extends held final → slice_get held i ≡ Some text → place_among final text ≡ i
 place-in {final = final} i text e h =
     let here = e.kept i text h in
     let within : i < length final = slice_get_within final i text here in
     let at : get_or final i [] ≡ text = get_or_from_slice_get final i text [] here in
-    position_or_len_is (λ held. bytes_eq held text) final i [] (omega arith) (λ k lt. other k lt within at) (λ _. (bytes_eq-Decides (get_or final i []) text).1 at)
+    position_or_len_is (bytes_eq text) final i [] (omega arith) (λ k lt. other k lt within at) (λ _. (bytes_eq-Decides text (get_or final i [])).1 (sym at))
   where
-    other : (k : ℕ) → k < i → i < length final → get_or final i [] ≡ text → bytes_eq (get_or final k []) text ≡ false
+    other : (k : ℕ) → k < i → i < length final → get_or final i [] ≡ text → bytes_eq text (get_or final k []) ≡ false
     other k lt within at =
-        elim (cases_Bool (bytes_eq (get_or final k []) text)) [
-          | inl same ↦ absurd (e.distinct k i [] lt within ((bytes_eq-Decides (get_or final k []) text).0 same ∙ sym at))
+        elim (cases_Bool (bytes_eq text (get_or final k []))) [
+          | inl same ↦ absurd (e.distinct k i [] lt within (sym ((bytes_eq-Decides text (get_or final k [])).0 same) ∙ sym at))
           | inr differ ↦ differ
         ]
 

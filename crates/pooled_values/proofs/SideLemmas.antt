@@ -1,42 +1,25 @@
 -- The sides of rows, one by one.
-use Rattle.std.proofs.Common.{◌≡◌, ◌<◌, ℕ, zero, suc, true, List, [], ◌∷◌, length, get_or, Option, Some, None, inl, inr, refl, ap, ◌∙◌, arith}
-use Rattle.std.specs.List.{All, slice_get}
-use Rattle.std.specs.Str.{bytes_eq}
-use Rattle.std.proofs.lemmas.Bool.{cases_Bool}
+use Rattle.std.proofs.Common.{◌≡◌, ◌<◌, ℕ, zero, suc, true, List, [], ◌∷◌, length, get_or, Option, Some, None, refl, ap, arith}
+use Rattle.std.specs.List.{All}
 use Rattle.std.proofs.lemmas.List.{get_or-map}
-use Rattle.std.proofs.lemmas.List.Sums.{passes_at_first}
-use Rattle.std.proofs.lemmas.Option.{slice_get-get_or}
-use Rattle.std.proofs.lemmas.Slice.Eq.{bytes_eq-Decides}
+use Rattle.value_pool.specs.Texts.{IsHeld, stands_among}
+use Rattle.value_canons.specs.Canons.{canon_of, compares_days, day_in, exact_canon, first_letters_canon, initials_canon, nysiis_canon, soundex_canon}
 use Rattle.block_passes.specs.Index.{row_at}
-use Rattle.comparators.specs.Canons.{day_in, exact_canon, first_letters_canon, initials_canon, nysiis_canon, soundex_canon}
 use Rattle.comparators.specs.Fields.{field_of, IsDayOrAbsent, IsFieldSide, IsIdOrAbsent}
 use Rattle.comparators.specs.OfPool.{IsDayItself, NamesCanon, StandsFor}
 use Rattle.comparators.specs.declared.ids.IdValue.{IdValue}
 use Rattle.comparators.specs.declared.ids.IdValue.TheVariants as id
 use Rattle.link_base.specs.Standard.{absent, IsValid, no_record, Record}
+use Rattle.std.specs.Prelude.{Bool, true, false, MatchBool, if◌then◌else◌}
+use Rattle.value_pool.proofs.PlaceLemmas.{place-reads}
 use Rattle.link_base.specs.declared.plan.CompareKind.{CompareKind}
 use Rattle.link_base.specs.declared.plan.CompareKind.TheVariants as by
 use Rattle.link_base.specs.declared.standard.Value.{Value}
 use Rattle.link_base.specs.declared.standard.Value.TheVariants as value
-use Rattle.pooled_values.specs.Ready.{AreFileSides, AreRowSides, IsHeld, IsRowFor}
-use Rattle.pooled_values.specs.Sides.{day_side, id_of_text, id_side, side_of, sides_of_file, sides_of_row}
-use Rattle.pooled_values.specs.Texts.{canon_of, canons_of_row, file_texts, stands_among}
+use Rattle.pooled_values.specs.Ready.{AreFileSides, AreRowSides, IsRowFor}
+use Rattle.pooled_values.specs.Sides.{day_side, id_side, side_of, sides_of_file, sides_of_row}
+use Rattle.pooled_values.specs.Texts.{canons_of_row, file_texts}
 use Rattle.pooled_values.proofs.StandLemmas.{held-by, stands-canons, stands-flat}
-
-place-bound : (texts : List (List ℕ)) (text : List ℕ) → stands_among texts text ≡ true → id_of_text texts text < length texts
-place-bound [] text h = cc
-place-bound (t ∷ ts) text h =
-    elim (cases_Bool (bytes_eq t text)) [
-      | inl here ↦ rw here (omega arith)
-      | inr other ↦ let rest = place-bound ts text (rw other at h) in rw other (omega arith)
-    ]
-
--- a text that stands among others is read at its place
-place-reads : (texts : List (List ℕ)) (text : List ℕ) → stands_among texts text ≡ true → slice_get texts (id_of_text texts text) ≡ Some text
-place-reads texts text h =
-    let at = id_of_text texts text in
-    let within = place-bound texts text h in
-    slice_get-get_or texts at [] within ∙ ap Some ((bytes_eq-Decides (get_or texts at []) text).0 (passes_at_first (λ held. bytes_eq held text) texts [] within))
 
 names : (texts : List (List ℕ)) (canon : Option (List ℕ)) → IsHeld texts canon → NamesCanon texts canon (id_side texts canon)
 names texts None h = tt
@@ -48,13 +31,21 @@ day-stands (value.Word text) = tt
 day-stands (value.Day day) = refl
 
 stands-for : (texts : List (List ℕ)) (kind : CompareKind) (v : Value) → IsHeld texts (canon_of kind v) → StandsFor texts kind v (side_of texts kind v)
-stands-for texts by.Exact v h = names texts (exact_canon v) h
-stands-for texts by.BySoundex v h = names texts (soundex_canon v) h
-stands-for texts by.ByNysiis v h = names texts (nysiis_canon v) h
-stands-for texts (by.FirstLetters n) v h = names texts (first_letters_canon n v) h
-stands-for texts by.Initials v h = names texts (initials_canon v) h
-stands-for texts (by.DaysWithin t) v h = day-stands v
-stands-for texts (by.YearsWithin t) v h = day-stands v
+stands-for texts kind v h = by_test (compares_days kind)
+  where
+    by_test : (t : Bool) → MatchBool t (IsDayItself (day_in v) (if t then day_side v else id_side texts (canon_of kind v))) (NamesCanon texts (canon_of kind v) (if t then day_side v else id_side texts (canon_of kind v)))
+    by_test true = day-stands v
+    by_test false = names texts (canon_of kind v) h
+
+-- a value has no canon for a kind that compares days
+pub no-canon : (kind : CompareKind) (v : Value) → compares_days kind ≡ true → canon_of kind v ≡ None
+no-canon by.Exact v h = cc
+no-canon by.BySoundex v h = cc
+no-canon by.ByNysiis v h = cc
+no-canon (by.FirstLetters n) v h = cc
+no-canon by.Initials v h = cc
+no-canon (by.DaysWithin t) v h = refl
+no-canon (by.YearsWithin t) v h = refl
 
 id-valid : (texts : List (List ℕ)) (canon : Option (List ℕ)) → IsIdOrAbsent (id_side texts canon)
 id-valid texts None = tt

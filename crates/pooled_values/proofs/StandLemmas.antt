@@ -5,6 +5,8 @@ use Rattle.std.specs.Str.{bytes_eq}
 use Rattle.std.proofs.lemmas.Bool.{cases_Bool}
 use Rattle.std.proofs.lemmas.List.Folds.{list_any-append}
 use Rattle.std.proofs.lemmas.Slice.Eq.{bytes_eq-Decides}
+use Rattle.value_canons.specs.Canons.{canon_of}
+use Rattle.value_pool.specs.Texts.{IsHeld, stands_among}
 use Rattle.block_passes.specs.Index.{row_at}
 use Rattle.block_passes.specs.Keys.{no_part, part_key}
 use Rattle.link_base.specs.Standard.{absent, no_record, Record}
@@ -12,8 +14,8 @@ use Rattle.link_base.specs.declared.plan.CompareKind.{CompareKind}
 use Rattle.link_base.specs.declared.plan.CompareKind.TheVariants as by
 use Rattle.link_base.specs.declared.plan.Part.{Part}
 use Rattle.link_base.specs.declared.standard.Value.{Value}
-use Rattle.pooled_values.specs.Ready.{HoldsParts, IsHeld}
-use Rattle.pooled_values.specs.Texts.{all_texts, both_texts, canon_of, canons_of_row, file_texts, parts_in_pass, parts_of_row, stands_among, texts_of_row, texts_taken}
+use Rattle.pooled_values.specs.Ready.{HoldsParts}
+use Rattle.pooled_values.specs.Texts.{all_texts, both_texts, canons_of_row, file_texts, parts_in_pass, parts_of_row, texts_of_row, texts_taken}
 use Rattle.pooled_values.proofs.TakingLemmas.{taken-cases}
 
 pub itself : (text : List ℕ) → bytes_eq text text ≡ true

@@ -1,4 +1,5 @@
--- The distinct texts of a list.
+-- The distinct texts of a list, and where they pass a limit. `distinct_taken` carries them (clauses `among`, `once`, `taken`,
+-- `full`).
 use Rattle.std.specs.Prelude.{◌≡◌, ◌<◌, ◌≤◌, ℕ, List, [], ◌∷◌, length, sum_by, filter, not, bytes_eq, Err}
 use Rattle.value_pool.specs.declared.pool.PoolFault.TheVariants as fault
 use Rattle.pooled_values.specs.Texts.{texts_taken}

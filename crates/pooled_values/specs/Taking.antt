@@ -1,14 +1,15 @@
--- Texts taken into a pool one after the other.
+-- Machinery of `pool_values`: texts taken into a pool one after the other. No public clause names it.
 use Rattle.std.specs.Prelude.{◌≡◌, ◌≢◌, ℕ, List, AllPairs, Some, slice_get, Result, Ok, Err}
 use Rattle.value_pool.specs.Texts.{PoolState}
 use Rattle.value_pool.specs.declared.pool.PoolFault.{PoolFault}
-use Rattle.pooled_values.specs.Sides.{PoolRefuses}
+use Rattle.link_base.specs.Answers.{RefusesBut}
+use Rattle.value_pool.specs.Pool.{is_want_of_pool}
 use Rattle.pooled_values.specs.Texts.{texts_taken}
 
 -- a pool has taken these texts, or refuses the first that passes its limit
 abbrev pub Takes : {T : Type 0} → PoolState → PoolState → List (List ℕ) → Result T PoolFault → Type 0
 Takes old new texts (Ok x) = texts_taken old.limit old.texts texts ≡ Ok new.texts
-Takes old new texts (Err f) = PoolRefuses (texts_taken old.limit old.texts texts) f
+Takes old new texts (Err f) = RefusesBut is_want_of_pool (texts_taken old.limit old.texts texts) f
 
 -- distinct texts, among which each of some texts keeps its place
 pub record Extends (held final : List (List ℕ)) : Type 0 where

@@ -1,14 +1,16 @@
--- The texts of two files that a pool holds, in their order.
-use Rattle.std.specs.Prelude.{◌+◌, ℕ, List, [], ◌∷◌, ◌++◌, length, sum_by, Bool, bytes_eq, nat_lt, if◌then◌else◌, Option, Some, None, option_to_list, Result, Ok, Err}
-use Rattle.std.specs.List.{flat_map, list_any}
+-- The texts of two files that a pool holds, in their order. `pool_values` carries them (clause `gives`), and
+-- `distinct_taken` which they are.
+use Rattle.std.specs.Prelude.{◌+◌, ℕ, List, [], ◌∷◌, ◌++◌, length, sum_by, nat_lt, if◌then◌else◌, Option, Some, None, option_to_list, Result, Ok, Err}
+use Rattle.std.specs.List.{flat_map}
 use Rattle.link_base.specs.Standard.{Record}
 use Rattle.link_base.specs.declared.plan.CompareKind.{CompareKind}
-use Rattle.link_base.specs.declared.plan.CompareKind.TheVariants as by
 use Rattle.link_base.specs.declared.plan.Part.{Part}
 use Rattle.link_base.specs.declared.standard.Value.{Value}
 use Rattle.link_base.specs.declared.standard.Value.TheVariants as value
 use Rattle.block_passes.specs.Keys.{part_key}
-use Rattle.comparators.specs.Canons.{exact_canon, first_letters_canon, initials_canon, nysiis_canon, soundex_canon}
+use Rattle.link_base.specs.Answers.{and_then}
+use Rattle.value_canons.specs.Canons.{canon_of}
+use Rattle.value_pool.specs.Texts.{stands_among}
 use Rattle.value_pool.specs.declared.pool.PoolFault.{PoolFault}
 use Rattle.value_pool.specs.declared.pool.PoolFault.TheVariants as fault
 
@@ -17,16 +19,6 @@ abbrev pub standard_text : Value → Option (List ℕ)
 standard_text value.Absent = None
 standard_text (value.Word text) = Some text
 standard_text (value.Day day) = None
-
--- the canon by which a kind compares a value; days within a distance are compared as they are
-abbrev pub canon_of : CompareKind → Value → Option (List ℕ)
-canon_of by.Exact v = exact_canon v
-canon_of by.BySoundex v = soundex_canon v
-canon_of by.ByNysiis v = nysiis_canon v
-canon_of (by.FirstLetters n) v = first_letters_canon n v
-canon_of by.Initials v = initials_canon v
-canon_of (by.DaysWithin t) v = None
-canon_of (by.YearsWithin t) v = None
 
 -- the texts of a row: its standard texts, its canons, and its parts of keys
 abbrev pub texts_of_row : List Value → List (List ℕ)
@@ -56,10 +48,6 @@ abbrev pub all_texts : List CompareKind → List (List Part) → List Record →
 all_texts kinds passes a b =
     both_texts texts_of_row a b ++ both_texts (canons_of_row kinds) a b ++ both_texts (parts_of_row passes) a b
 
--- whether a text stands among others
-abbrev pub stands_among : List (List ℕ) → List ℕ → Bool
-stands_among held text = list_any (λ t. bytes_eq t text) held
-
 -- a text after those that are held: one that is held is not taken again, and a new one has to keep the limit of their bytes
 abbrev pub text_taken : ℕ → List (List ℕ) → List ℕ → Result (List (List ℕ)) PoolFault
 text_taken limit held text =
@@ -67,14 +55,10 @@ text_taken limit held text =
     else if nat_lt limit (sum_by length held + length text) then Err (fault.Full (sum_by length held + length text) limit)
     else Ok (held ++ text ∷ [])
 
-abbrev pub then_texts : {A B : Type 0} → Result A PoolFault → (A → Result B PoolFault) → Result B PoolFault
-then_texts (Ok x) next = next x
-then_texts (Err f) next = Err f
-
 -- the distinct texts of a list after those that are held, or the first text that passes the limit
 abbrev pub texts_taken : ℕ → List (List ℕ) → List (List ℕ) → Result (List (List ℕ)) PoolFault
 texts_taken limit held [] = Ok held
-texts_taken limit held (text ∷ texts) = then_texts (text_taken limit held text) (λ more. texts_taken limit more texts)
+texts_taken limit held (text ∷ texts) = and_then (text_taken limit held text) (λ more. texts_taken limit more texts)
 
 -- the distinct texts of both files, each at the place where it first stands
 abbrev pub pooled_texts : ℕ → List CompareKind → List (List Part) → List Record → List Record → Result (List (List ℕ)) PoolFault

@@ -1,18 +1,18 @@
 // What values are compared by, and their canons taken into a pool.
 ghost use Rattle.std.specs.Prelude.{◌≡◌, ◌≤◌, All, IfOk, List, [], OnOk, ℕ, length, option_to_list};
-ghost use Rattle.block_passes.specs.Keys.{IsReadable, value_part};
-ghost use Rattle.comparators.specs.Canons.{initials_canon};
+ghost use Rattle.value_canons.specs.Canons.{IsReadable, canon_of, value_part};
 ghost use Rattle.link_base.specs.Standard.{IsValid};
 ghost use Rattle.pooled_values.specs.Ready.{IsRowFor};
 ghost use Rattle.pooled_values.specs.Sides.{day_side, id_side, side_of, sides_of_file, sides_of_row};
 ghost use Rattle.pooled_values.specs.Taking.{Extends, Takes};
-ghost use Rattle.pooled_values.specs.Texts.{both_texts, canon_of, canons_of_row, file_texts};
+ghost use Rattle.pooled_values.specs.Texts.{both_texts, canons_of_row, file_texts};
 
 use crate::texts::take_text;
-use block_passes::{bytes_of, value_text};
-use comparators::{IdTable, IdValue, Initials, KeyComparator};
+use comparators::{IdTable, IdValue};
 use link_base::{CompareKind, KeyKind, NoMemory, StdFile, StdRow, Value};
+use link_limits::MOST_FIELDS;
 use std::alloc::Global;
+use value_canons::{bytes_of, canon_text, compares_days, value_text};
 use value_pool::{Pool, PoolFault};
 
 /// Takes the part of a key that a value makes, and gives its id.
@@ -30,20 +30,6 @@ pub(crate) fn take_part(
     match value_text(kind, value) {
         None => Ok(IdValue::Absent),
         Some(text) => Ok(IdValue::Id(take_text(alloc, pool, bytes_of(&text))?)),
-    }
-}
-
-// Takes the initials of a value, and gives their id.
-fn take_initials(alloc: Global, pool: &mut Pool, value: &Value) -> Result<IdValue, PoolFault>
-    requires { IsValid value.now }
-    ensures limit { pool.new.limit ≡ pool.old.limit }
-    ensures texts { Takes pool.old pool.new (option_to_list (initials_canon value.now)) result }
-    ensures side { IfOk result (λ side. (final : List (List ℕ)) → Extends pool.new.texts final → id_side final (initials_canon value.now) ≡ side) }
-{
-    match Initials.canon(alloc, value) {
-        Err(NoMemory) => Err(PoolFault::NoMemory),
-        Ok(None) => Ok(IdValue::Absent),
-        Ok(Some(text)) => Ok(IdValue::Id(take_text(alloc, pool, text.bytes())?)),
     }
 }
 
@@ -69,13 +55,13 @@ fn take_canon(
     ensures texts { Takes pool.old pool.new (option_to_list (canon_of kind value.now)) result }
     ensures side { IfOk result (λ side. (final : List (List ℕ)) → Extends pool.new.texts final → side_of final kind value.now ≡ side) }
 {
-    match kind {
-        CompareKind::Exact => take_part(alloc, pool, KeyKind::Whole, value),
-        CompareKind::BySoundex => take_part(alloc, pool, KeyKind::Soundex, value),
-        CompareKind::ByNysiis => take_part(alloc, pool, KeyKind::Nysiis, value),
-        CompareKind::FirstLetters(n) => take_part(alloc, pool, KeyKind::First(n), value),
-        CompareKind::Initials => take_initials(alloc, pool, value),
-        CompareKind::DaysWithin(_) | CompareKind::YearsWithin(_) => Ok(day_of(value)),
+    if compares_days(kind) {
+        return Ok(day_of(value));
+    }
+    match canon_text(alloc, kind, value) {
+        Err(NoMemory) => Err(PoolFault::NoMemory),
+        Ok(None) => Ok(IdValue::Absent),
+        Ok(Some(text)) => Ok(IdValue::Id(take_text(alloc, pool, bytes_of(&text))?)),
     }
 }
 
@@ -116,6 +102,7 @@ fn take_rows(
     requires rows { All (IsRowFor kinds.now) file.now }
     requires fields { table.old.fields ≡ length kinds.now }
     requires empty { table.old.rows ≡ [] }
+    ensures fields { table.new.fields ≡ table.old.fields }
     ensures limit { pool.new.limit ≡ pool.old.limit }
     ensures texts { Takes pool.old pool.new (file_texts (canons_of_row kinds.now) file.now) result }
     ensures sides { OnOk result ((final : List (List ℕ)) → Extends pool.new.texts final → sides_of_file final kinds.now file.now ≡ table.new.rows) }
@@ -137,10 +124,11 @@ fn take_file(
     kinds: &[CompareKind],
     file: &StdFile,
 ) -> Result<IdTable, PoolFault>
-    requires few { length kinds.now ≤ 6 }
+    requires few { length kinds.now ≤ MOST_FIELDS }
     requires rows { All (IsRowFor kinds.now) file.now }
     ensures limit { pool.new.limit ≡ pool.old.limit }
     ensures texts { Takes pool.old pool.new (file_texts (canons_of_row kinds.now) file.now) result }
+    ensures fields { IfOk result (λ table. table.fields ≡ length kinds.now) }
     ensures sides { IfOk result (λ table. (final : List (List ℕ)) → Extends pool.new.texts final → sides_of_file final kinds.now file.now ≡ table.rows) }
 {
     let mut table = match IdTable::new(alloc, kinds.len() as u8) {
@@ -159,11 +147,13 @@ pub(crate) fn take_canons(
     a: &StdFile,
     b: &StdFile,
 ) -> Result<(IdTable, IdTable), PoolFault>
-    requires few { length kinds.now ≤ 6 }
+    requires few { length kinds.now ≤ MOST_FIELDS }
     requires rows_a { All (IsRowFor kinds.now) a.now }
     requires rows_b { All (IsRowFor kinds.now) b.now }
     ensures limit { pool.new.limit ≡ pool.old.limit }
     ensures texts { Takes pool.old pool.new (both_texts (canons_of_row kinds.now) a.now b.now) result }
+    ensures fields_a { IfOk result (λ t. t.0.fields ≡ length kinds.now) }
+    ensures fields_b { IfOk result (λ t. t.1.fields ≡ length kinds.now) }
     ensures a { IfOk result (λ t. (final : List (List ℕ)) → Extends pool.new.texts final → sides_of_file final kinds.now a.now ≡ t.0.rows) }
     ensures b { IfOk result (λ t. (final : List (List ℕ)) → Extends pool.new.texts final → sides_of_file final kinds.now b.now ≡ t.1.rows) }
 {

@@ -1,5 +1,5 @@
 // The bytes of the texts of small files.
-ghost use Rattle.std.specs.Prelude.{◌≡◌, ◌≤◌, ◌^◌, ◌∷◌, [], ℕ, All, IfOk, length};
+ghost use Rattle.std.specs.Prelude.{◌≡◌, ◌≤◌, ◌∷◌, [], ℕ, All, IfOk, length};
 ghost use Rattle.link_base.specs.Standard.{IsValid};
 ghost use Rattle.pooled_values.specs.Ready.{AreInRange, IsRowFor};
 
@@ -7,62 +7,14 @@ use crate::{distinct_taken, pool_values};
 use link_base::{
     CompareKind, KeyKind, NoMemory, Part, Pass, PassList, StdFile, StdRow, Text, Value,
 };
+use link_limits::{MOST_FIELDS, MOST_POOL_LIMIT};
 use std::alloc::Global;
-use value_forms::day_of;
 use value_pool::PoolFault;
 
-// A date by its year, month and day.
-type Date = Option<(u16, u8, u8)>;
-
-const A: [(&str, &str, Date); 6] = [
-    ("MULLER", "ANNA", Some((1980, 2, 3))),
-    ("OBRIEN", "JOHN", Some((1975, 11, 17))),
-    ("SMITH", "MARIA", Some((1990, 5, 1))),
-    ("SCHMIDT", "KARL", None),
-    ("LEE", "WEI", Some((1968, 12, 12))),
-    ("", "PAUL", Some((1955, 6, 5))),
-];
-
-const B: [(&str, &str, Date); 7] = [
-    ("MUELLER", "ANNA", Some((1980, 2, 3))),
-    ("OBRIEN", "JON", Some((1975, 11, 17))),
-    ("SMITH", "MARY", Some((1990, 5, 1))),
-    ("SMYTH", "MARIA", Some((1990, 5, 1))),
-    ("SCHMIDT", "KARL", Some((1980, 2, 28))),
-    ("LI", "WEI", Some((1968, 12, 12))),
-    ("", "PAUL", Some((1955, 6, 5))),
-];
-
-// A name, which is missing where the text is empty.
 fn name(alloc: Global, text: &str) -> Result<Value, NoMemory>
     ensures { IfOk result IsValid }
 {
-    if text.is_empty() {
-        return Ok(Value::Absent);
-    }
     Ok(Value::Word(Text::new(alloc, text.as_bytes())?))
-}
-
-fn birth(date: Date) -> Value
-    ensures { IsValid result }
-{
-    let Some((year, month, day)) = date else {
-        return Value::Absent;
-    };
-    match day_of(year, month, day) {
-        Some(day) => Value::Day(day),
-        None => Value::Absent,
-    }
-}
-
-fn person(alloc: Global, surname: &str, given: &str, date: Date) -> Result<StdRow, NoMemory>
-    ensures { IfOk result (λ row. (length row ≡ 3) × All IsValid row) }
-{
-    let mut values = Vec::new(alloc);
-    values.push(name(alloc, surname)?)?;
-    values.push(name(alloc, given)?)?;
-    values.push(birth(date))?;
-    Ok(StdRow::new(values))
 }
 
 fn one_name(alloc: Global, text: &str) -> Result<StdRow, NoMemory>
@@ -93,26 +45,6 @@ fn add(
     }
 }
 
-fn people(
-    alloc: Global,
-    kinds: &[CompareKind],
-    rows: &[(&str, &str, Date)],
-) -> Result<StdFile, NoMemory>
-    requires { length kinds.now ≡ 3 }
-    ensures { IfOk result (All (IsRowFor kinds.now)) }
-{
-    let mut file = StdFile::new(alloc)?;
-    for (surname, given, date) in rows {
-        add(
-            alloc,
-            kinds,
-            &mut file,
-            person(alloc, *surname, *given, *date)?,
-        )?;
-    }
-    Ok(file)
-}
-
 fn names(alloc: Global, kinds: &[CompareKind], rows: &[&str]) -> Result<StdFile, NoMemory>
     requires { length kinds.now ≡ 1 }
     ensures { IfOk result (All (IsRowFor kinds.now)) }
@@ -132,15 +64,6 @@ fn one_part(alloc: Global, field: u8, key: KeyKind) -> Result<Pass, NoMemory>
     Ok(Pass::new(parts))
 }
 
-fn two_passes(alloc: Global) -> Result<PassList, NoMemory>
-    ensures { IfOk result (AreInRange 3) }
-{
-    let mut passes = Vec::new(alloc);
-    passes.push(one_part(alloc, 0, KeyKind::Soundex)?)?;
-    passes.push(one_part(alloc, 2, KeyKind::Year)?)?;
-    Ok(PassList::new(passes))
-}
-
 fn one_pass(alloc: Global) -> Result<PassList, NoMemory>
     ensures { IfOk result (AreInRange 1) }
 {
@@ -158,8 +81,8 @@ fn full_at(
     b: &StdFile,
     limit: u64,
 ) -> Result<Option<u64>, NoMemory>
-    requires few { length kinds.now ≤ 6 }
-    requires limit { limit ≤ 2 ^ 30 }
+    requires few { length kinds.now ≤ MOST_FIELDS }
+    requires limit { limit ≤ MOST_POOL_LIMIT }
     requires rows_a { All (IsRowFor kinds.now) a.now }
     requires rows_b { All (IsRowFor kinds.now) b.now }
     requires parts { AreInRange (length kinds.now) passes.now }
@@ -171,22 +94,8 @@ fn full_at(
     }
 }
 
-fn people_full_at(alloc: Global, limit: u64) -> Result<Option<u64>, NoMemory>
-    requires { limit ≤ 2 ^ 30 }
-{
-    let kinds = [
-        CompareKind::BySoundex,
-        CompareKind::Exact,
-        CompareKind::Exact,
-    ];
-    let a = people(alloc, &kinds, &A)?;
-    let b = people(alloc, &kinds, &B)?;
-    let passes = two_passes(alloc)?;
-    full_at(alloc, &kinds, &passes, &a, &b, limit)
-}
-
 fn names_full_at(alloc: Global, limit: u64) -> Result<Option<u64>, NoMemory>
-    requires { limit ≤ 2 ^ 30 }
+    requires { limit ≤ MOST_POOL_LIMIT }
 {
     let kinds = [CompareKind::BySoundex];
     let a = names(alloc, &kinds, &["LEE", "KO"])?;
@@ -199,8 +108,6 @@ fn names_full_at(alloc: Global, limit: u64) -> Result<Option<u64>, NoMemory>
 fn distinct_texts_keep_their_limit(rt: HostRuntime) {
     distinct_taken();
     let alloc = rt.alloc();
-    assert!(rt; people_full_at(alloc, 168) == Ok(None));
-    assert!(rt; people_full_at(alloc, 167) == Ok(Some(168)));
     assert!(rt; names_full_at(alloc, 13) == Ok(None));
     assert!(rt; names_full_at(alloc, 12) == Ok(Some(13)));
 }

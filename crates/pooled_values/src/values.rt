@@ -1,7 +1,9 @@
 // The pooled values of two files.
 ghost use Rattle.std.specs.Prelude.{◌≡◌, ◌≤◌, ◌^◌, All, IfOk, List, ℕ, length};
+ghost use Rattle.link_base.specs.Answers.{GivesBut};
+ghost use Rattle.value_pool.specs.Pool.{is_want_of_pool};
 ghost use Rattle.pooled_values.specs.Ready.{AreFileSides, AreInRange, HoldsParts, IsRowFor};
-ghost use Rattle.pooled_values.specs.Sides.{PoolGives, pooled_values, sides_of_file};
+ghost use Rattle.pooled_values.specs.Sides.{pooled_values, sides_of_file};
 ghost use Rattle.pooled_values.specs.Taking.{Extends, Takes};
 ghost use Rattle.pooled_values.specs.Texts.{all_texts};
 
@@ -10,11 +12,13 @@ use crate::keys::take_keys;
 use crate::texts::take_texts;
 use comparators::IdTable;
 use link_base::{CompareKind, NoMemory, PassList, StdFile};
+use link_limits::{MOST_FIELDS, MOST_POOL_LIMIT};
 use std::alloc::Global;
 use std::marker::Model;
 use value_pool::{Pool, PoolFault};
 
-/// The values of two files in a pool. Contracts see the texts of the pool, and what the rows of each file are compared by.
+/// The values of two files in a pool. Contracts see the texts of the pool, its limit, and the tables
+/// of what the rows of each file are compared by.
 #[derive(Drop)]
 pub struct PooledValues {
     pub pool: Pool,
@@ -27,7 +31,7 @@ impl Model for PooledValues {
 
     ghost Value = { PooledView };
 
-    ghost view = { λ p. record { texts = p.pool.texts; a = p.a.rows; b = p.b.rows } };
+    ghost view = { λ p. record { texts = p.pool.texts; limit = p.pool.limit; a = p.a; b = p.b } };
 }
 
 // Takes the three groups of texts, and gives what the rows of both files are compared by.
@@ -39,12 +43,14 @@ fn take_values(
     a: &StdFile,
     b: &StdFile,
 ) -> Result<(IdTable, IdTable), PoolFault>
-    requires few { length kinds.now ≤ 6 }
+    requires few { length kinds.now ≤ MOST_FIELDS }
     requires rows_a { All (IsRowFor kinds.now) a.now }
     requires rows_b { All (IsRowFor kinds.now) b.now }
     requires parts { AreInRange (length kinds.now) passes.now }
     ensures limit { pool.new.limit ≡ pool.old.limit }
     ensures texts { Takes pool.old pool.new (all_texts kinds.now passes.now a.now b.now) result }
+    ensures fields_a { IfOk result (λ t. t.0.fields ≡ length kinds.now) }
+    ensures fields_b { IfOk result (λ t. t.1.fields ≡ length kinds.now) }
     ensures a { IfOk result (λ t. (final : List (List ℕ)) → Extends pool.new.texts final → sides_of_file final kinds.now a.now ≡ t.0.rows) }
     ensures b { IfOk result (λ t. (final : List (List ℕ)) → Extends pool.new.texts final → sides_of_file final kinds.now b.now ≡ t.1.rows) }
 {
@@ -54,7 +60,7 @@ fn take_values(
     Ok(tables)
 }
 
-/// Takes the texts of two files into a pool of at most `limit` bytes: the standard texts, then the canons by which the fields
+/// Takes the texts of two files into a pool of at most `limit` bytes, at most `MOST_POOL_LIMIT`: the standard texts, then the canons by which the fields
 /// are compared, and then the parts of the keys of the passes, in each group those of A before those of B, row by row. `Full`
 /// names the first text that passes the limit.
 pub fn pool_values(
@@ -65,16 +71,19 @@ pub fn pool_values(
     b: &StdFile,
     limit: u64,
 ) -> Result<PooledValues, PoolFault>
-    requires few { length kinds.now ≤ 6 }
-    requires limit { limit ≤ 2 ^ 30 }
+    requires few { length kinds.now ≤ MOST_FIELDS }
+    requires limit { limit ≤ MOST_POOL_LIMIT }
     requires rows_a { All (IsRowFor kinds.now) a.now }
     requires rows_b { All (IsRowFor kinds.now) b.now }
     requires parts { AreInRange (length kinds.now) passes.now }
-    ensures gives { PoolGives (pooled_values limit kinds.now passes.now a.now b.now) result }
+    ensures gives { GivesBut is_want_of_pool (λ pooled. pooled) (pooled_values limit kinds.now passes.now a.now b.now) result }
+    ensures limit { IfOk result (λ p. p.limit ≡ limit) }
+    ensures fields_a { IfOk result (λ p. p.a.fields ≡ length kinds.now) }
+    ensures fields_b { IfOk result (λ p. p.b.fields ≡ length kinds.now) }
     ensures parts_a { IfOk result (λ p. HoldsParts p.texts passes.now a.now) }
     ensures parts_b { IfOk result (λ p. HoldsParts p.texts passes.now b.now) }
-    ensures sides_a { IfOk result (λ p. AreFileSides p.texts kinds.now a.now p.a) }
-    ensures sides_b { IfOk result (λ p. AreFileSides p.texts kinds.now b.now p.b) }
+    ensures sides_a { IfOk result (λ p. AreFileSides p.texts kinds.now a.now p.a.rows) }
+    ensures sides_b { IfOk result (λ p. AreFileSides p.texts kinds.now b.now p.b.rows) }
 {
     let mut pool = match Pool::new(alloc, limit) {
         Ok(pool) => pool,

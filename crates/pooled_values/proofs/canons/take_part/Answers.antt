@@ -1,5 +1,5 @@
 use Rattle.std.proofs.Common.{◌≡◌, Some, rules}
-use Rattle.block_passes.specs.Keys.{value_part}
+use Rattle.value_canons.specs.Canons.{value_part}
 use Rattle.pooled_values.proofs.PlaceLemmas.{side-in}
 use Rattle.pooled_values.proofs.canons.take_part.Goals as goal
 

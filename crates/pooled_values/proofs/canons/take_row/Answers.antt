@@ -1,7 +1,8 @@
 use Rattle.std.proofs.Common.{◌≡◌, ◌+◌, ◌++◌, ◌∷◌, [], drop, get_or, option_to_list, arith, rules, length-append}
+use Rattle.value_canons.specs.Canons.{canon_of}
 use Rattle.link_base.specs.declared.plan.CompareKind.TheVariants as by
 use Rattle.pooled_values.specs.Sides.{side_of, sides_of_row}
-use Rattle.pooled_values.specs.Texts.{canon_of, canons_of_row}
+use Rattle.pooled_values.specs.Texts.{canons_of_row}
 use Rattle.pooled_values.proofs.FileLemmas.{canons-at, push-sides, sides-at}
 use Rattle.pooled_values.proofs.PlaceLemmas.{extends-before}
 use Rattle.pooled_values.proofs.TakingLemmas.{goes-on}
