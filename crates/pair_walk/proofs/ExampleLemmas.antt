@@ -6,10 +6,10 @@ use Rattle.std.proofs.lemmas.Bool.{cases_Bool}
 use Rattle.std.proofs.lemmas.Bool.Decides.{nat_tests}
 use Rattle.std.proofs.lemmas.List.Elements.{All-push}
 use Rattle.std.proofs.lemmas.Slice.Eq.{bytes_eq-Decides}
-use Rattle.block_passes.proofs.NumberLemmas.{any-place}
+use Rattle.value_canons.proofs.ReadableLemmas.{readable_valid}
+use Rattle.value_pool.proofs.PlaceLemmas.{any-place}
 use Rattle.block_passes.specs.Index.{AreReady, row_at}
 use Rattle.block_passes.specs.Keys.{AreReadable, InRange}
-use Rattle.block_passes.proofs.PartLemmas.{readable-valid}
 use Rattle.link_base.specs.Standard.{IsValid, Record, absent, no_record, position_of_id}
 use Rattle.link_base.specs.declared.plan.KeyKind.{KeyKind}
 use Rattle.link_base.specs.declared.plan.KeyKind.TheVariants.{Soundex, Year}
@@ -34,7 +34,7 @@ part-in-range field kind row lt zero below = lt
 part-in-range field kind row lt (suc k) below = absurd (omega arith)
 
 part-readable : (field : ℕ) (kind : KeyKind) (row : List Value) → IsValid (get_or row field absent) → AreReadable row (record { field = field; key = kind } ∷ [])
-part-readable field kind row h zero below = readable-valid kind (get_or row field absent) h
+part-readable field kind row h zero below = readable_valid kind (get_or row field absent) h
 part-readable field kind row h (suc k) below = absurd (omega arith)
 
 part-ready : (field : ℕ) (kind : KeyKind) (file : List Record) → field < 2 → AreTwo file → AreReady (record { field = field; key = kind } ∷ []) file

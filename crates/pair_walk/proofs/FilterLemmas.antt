@@ -1,7 +1,7 @@
 -- The members of filters.
 use Rattle.std.proofs.Common.{◌≡◌, ◌+◌, ◌<◌, ◌≤◌, ◌==◌, ◌∷◌, ◌++◌, ℕ, zero, suc, List, [], filter, Bool, true, false, ◌||◌, refl, sym, ap, ◌∙◌, arith, inl, inr}
+use Rattle.std.specs.List.{range_with_len}
 use Rattle.std.proofs.lemmas.Bool.{cases_Bool, cases_eq}
-use Rattle.block_passes.specs.Groups.{numbers_from}
 use Rattle.block_passes.proofs.TestLemmas.{filter-agree, true-eq}
 use Rattle.pair_walk.specs.Walker.{IsRisingBelow, stands_in}
 
@@ -26,7 +26,7 @@ apart s n ne = elim (cases_Bool (s == n)) [
   | inr other ↦ other
 ]
 
-stands-below : (p : ℕ → Bool) (s c n : ℕ) → n < s → stands_in (filter p (numbers_from s c)) n ≡ false
+stands-below : (p : ℕ → Bool) (s c n : ℕ) → n < s → stands_in (filter p (range_with_len s c)) n ≡ false
 stands-below p s zero n lt = refl
 stands-below p s (suc c) n lt =
     let rest = stands-below p (s + 1) c n (omega arith) in
@@ -35,7 +35,7 @@ stands-below p s (suc c) n lt =
       | inr skip ↦ rw skip rest
     ]
 
-stands-within : (p : ℕ → Bool) (s c n : ℕ) → s ≤ n → n < s + c → stands_in (filter p (numbers_from s c)) n ≡ p n
+stands-within : (p : ℕ → Bool) (s c n : ℕ) → s ≤ n → n < s + c → stands_in (filter p (range_with_len s c)) n ≡ p n
 stands-within p s zero n le lt = absurd (omega arith)
 stands-within p s (suc c) n le lt =
     elim (cases_eq s n) [
@@ -52,10 +52,10 @@ stands-within p s (suc c) n le lt =
     ]
 
 -- what stands in a filter passes its test
-pub stands-filter : (p : ℕ → Bool) (width n : ℕ) → n < width → stands_in (filter p (numbers_from 0 width)) n ≡ p n
+pub stands-filter : (p : ℕ → Bool) (width n : ℕ) → n < width → stands_in (filter p (range_with_len 0 width)) n ≡ p n
 stands-filter p width n lt = stands-within p 0 width n (omega arith) (omega arith)
 
 -- a filter of the numbers below a width rises
-pub filter-rises : (p : ℕ → Bool) (width : ℕ) (xs : List ℕ) → xs ≡ filter p (numbers_from 0 width) → IsRisingBelow width xs
+pub filter-rises : (p : ℕ → Bool) (width : ℕ) (xs : List ℕ) → xs ≡ filter p (range_with_len 0 width) → IsRisingBelow width xs
 filter-rises p width xs e =
     e ∙ filter-agree p (stands_in xs) 0 width (λ n lt. sym (stands-filter p width n (omega arith)) ∙ ap (λ ys. stands_in ys n) (sym e))

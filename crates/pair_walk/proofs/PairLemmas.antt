@@ -1,15 +1,15 @@
 -- The pairs of the rows are the filter of the product.
 use Rattle.std.proofs.Common.{◌≡◌, ◌+◌, ◌∷◌, ◌++◌, ℕ, zero, suc, List, length, filter, map, Bool, refl, sym, ap, ◌∙◌, inl, inr}
+use Rattle.std.specs.List.{range_with_len}
 use Rattle.std.proofs.lemmas.Bool.{cases_Bool}
 use Rattle.std.proofs.lemmas.List.Elements.{filter-append}
-use Rattle.block_passes.specs.Groups.{numbers_from}
 use Rattle.link_base.specs.Standard.{Record}
 use Rattle.link_base.specs.declared.plan.Part.{Part}
 use Rattle.link_base.specs.declared.rule.PairAt.{PairAt}
 use Rattle.pair_walk.specs.Pairs.{compared_pairs, is_compared, pair, pairs_of_row, pairs_of_rows, product_from}
 use Rattle.pair_walk.specs.Rows.{all_rows, rows_from}
 
-row-pairs : (p : PairAt → Bool) (a b count : ℕ) → map (pair a) (filter (λ j. p (pair a j)) (numbers_from b count)) ≡ filter p (pairs_of_row a b count)
+row-pairs : (p : PairAt → Bool) (a b count : ℕ) → map (pair a) (filter (λ j. p (pair a j)) (range_with_len b count)) ≡ filter p (pairs_of_row a b count)
 row-pairs p a b zero = refl
 row-pairs p a b (suc count) =
     let rest = row-pairs p a (b + 1) count in

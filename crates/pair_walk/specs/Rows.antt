@@ -1,6 +1,6 @@
 -- The rows of B for each row of A.
 use Rattle.std.specs.Prelude.{◌<◌, ℕ, zero, suc, ◌+◌, List, [], ◌∷◌, filter, length, slice_index_or}
-use Rattle.block_passes.specs.Groups.{numbers_from}
+use Rattle.std.specs.List.{range_with_len}
 use Rattle.block_passes.specs.Ids.{AreAllHeld}
 use Rattle.block_passes.specs.Index.{AreReady, row_at}
 use Rattle.link_base.specs.Standard.{Record}
@@ -9,7 +9,7 @@ use Rattle.pair_walk.specs.Keys.{share_key}
 
 -- the positions of B that share a key with the row of A, rising
 abbrev pub partners : List Record → List Record → List (List Part) → ℕ → List ℕ
-partners a b passes at = filter (λ j. share_key passes (row_at a at) (row_at b j)) (numbers_from 0 (length b))
+partners a b passes at = filter (λ j. share_key passes (row_at a at) (row_at b j)) (range_with_len 0 (length b))
 
 -- the pairs of one row of A: the rising positions of B
 pub record RowAt : Type 0 where
