@@ -1,10 +1,13 @@
 -- What a part that gave a value has kept.
-use Rattle.std.proofs.Common.{◌≡◌, ℕ, ◌+◌, ◌≤◌, List, [], ◌∷◌, ◌++◌, length, codes, Bool, true, false, Option, Some, None, Result, Ok, Err, refl, ap, ◌∙◌, sym, arith, length-append}
+use Rattle.std.proofs.Common.{◌≡◌, ℕ, ℤ, pos, negsuc, ◌+◌, ◌≤◌, List, [], ◌∷◌, ◌++◌, length, codes, Bool, true, false, Option, Some, None, Result, Ok, Err, refl, ap, ◌∙◌, arith, length-append, inl, inr}
 use Rattle.std.specs.Prelude.{decimal, nat_le, ◌&&◌, unwrap_or, IfSome}
-use Rattle.std.proofs.lemmas.Bool.{and_parts, leb-true}
-use Rattle.toml.specs.Data.{Data, Items, no_items, item, Members, get_member, as_array, as_table}
+use Rattle.std.specs.List.{AllByRecursion}
+use Rattle.std.specs.Str.{bytes_eq}
+use Rattle.std.proofs.lemmas.Bool.{and_parts, cases_Bool, leb-true}
+use Rattle.toml.specs.Data.{Data, Items, no_items, item, Members, get_member, as_str, as_integer, as_array, as_table}
 use Rattle.link_base.specs.declared.fault.Fault.{Fault}
 use Rattle.settings_readers.specs.Parts.{◌>>=◌, typed, ranged, in_range, read_needed, read_optional, needed, optional, defaulted}
+use Rattle.settings_readers.specs.Values.{choice, is_within, magnitude, named_in, whole}
 use Rattle.settings_readers.specs.Lists.{items_len, each, sized, array_of, on_table}
 
 pub then_ok : {A B : Type 0} (r : Result A Fault) (next : A → Result B Fault) (y : B) → (r >>= next) ≡ Ok y → (x : A) × (r ≡ Ok x) × (next x ≡ Ok y)
@@ -81,3 +84,38 @@ pub on_table_keeps : {A : Type 0} (P : A → Type 0) (read : Members → List �
 on_table_keeps P read h at d x e =
     let r = then_ok (typed at (as_table d)) _ x e in
     h r.0 (at ++ codes ".") x r.2
+
+-- a whole number is in its range
+abbrev pub IsWithin : ℕ → ℕ → ℕ → Type 0
+IsWithin low high n = (low ≤ n) × (n ≤ high)
+
+within_is : (low high : ℕ) (z : ℤ) → is_within low high z ≡ true → IsWithin low high (magnitude z)
+within_is low high (pos n) h =
+    let (least, most) = and_parts (nat_le low n) (nat_le n high) h in
+    (leb-true low n least, leb-true n high most)
+within_is low high (negsuc n) h = absurd cc
+
+pub whole_keeps : (low high : ℕ) → Reads (whole low high) (IsWithin low high)
+whole_keeps low high at d x e =
+    let a = then_ok (typed at (as_integer d)) _ x e in
+    let b = in_range_ok at (is_within low high a.0) (magnitude a.0) x a.2 in
+    rw (← b.1) (within_is low high a.0 b.0)
+
+pub choice_keeps : {A : Type 0} (P : A → Type 0) (named : List ℕ → Option A) → ((s : List ℕ) (x : A) → named s ≡ Some x → P x) → Reads (choice named) P
+choice_keeps P named h at d x e =
+    let a = then_ok (typed at (as_str d)) _ x e in
+    h a.0 x (ranged_ok at (named a.0) x a.2)
+
+-- what the words of a table name
+pub named_keeps : {A : Type 0} (P : A → Type 0) (cs : List (List ℕ × A)) → AllByRecursion (λ (c : List ℕ × A). P c.1) cs → (s : List ℕ) (x : A) → named_in cs s ≡ Some x → P x
+named_keeps P [] all s x e = absurd cc
+named_keeps P (c ∷ cs) all s x e =
+    elim (cases_Bool (bytes_eq s c.0)) [
+      | inl is ↦
+          let here : Some c.1 ≡ Some x = rw is at e in
+          let same : c.1 ≡ x = cc in
+          rw (← same) all.0
+      | inr other ↦
+          let later : named_in cs s ≡ Some x = rw other at e in
+          named_keeps P cs all.1 s x later
+    ]

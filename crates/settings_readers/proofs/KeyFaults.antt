@@ -1,13 +1,18 @@
 -- Every reader gives a value, or a fault that names a key.
-use Rattle.std.proofs.Common.{◌≡◌, ℕ, List, ◌∷◌, ◌++◌, ◌+◌, [], codes, Bool, true, false, Option, Some, None, Result, Ok, Err, cond}
-use Rattle.std.specs.Prelude.{decimal, nat_le, unwrap_or, ◌&&◌}
+use Rattle.std.proofs.Common.{ℕ, List, ◌∷◌, ◌++◌, ◌+◌, [], codes, Bool, true, false, Option, Some, None, Result, Ok, Err, cond}
+use Rattle.std.specs.Prelude.{⊤, decimal, nat_le, unwrap_or, ◌&&◌}
 use Rattle.toml.specs.Data.{Data, Items, no_items, item, Members, no_members, member, get_member, as_str, as_integer, as_bool, as_array, as_table}
 use Rattle.link_base.specs.declared.fault.Fault.{Fault}
 use Rattle.link_base.specs.declared.fault.Fault.TheVariants.{UnknownKey}
-use Rattle.settings_readers.specs.KeyFaults.{NamesKey}
+use Rattle.settings_readers.specs.KeyFaults.{IsKeyFault}
 use Rattle.settings_readers.specs.Parts.{◌>>=◌, typed, ranged, in_range, read_needed, read_optional, read_absent, needed, optional, absent, defaulted, known}
 use Rattle.settings_readers.specs.Values.{choice, whole, truth, is_within, magnitude}
 use Rattle.settings_readers.specs.Lists.{items_len, each, sized, array_of, on_table}
+
+-- a part gives a value, or a fault that names a key
+unfoldable pub NamesKey : {A : Type 0} → Result A Fault → Type 0
+NamesKey (Ok x) = ⊤
+NamesKey (Err f) = IsKeyFault f
 
 -- a part that gives a value
 pub value_key : {A : Type 0} (x : A) → NamesKey (Ok x)

@@ -1,19 +1,11 @@
--- Steps of a part.
-use Rattle.std.proofs.Common.{◌≡◌, ℕ, List, [], ◌∷◌, length, Result, Some, refl, arith}
+-- The length of an array.
+use Rattle.std.proofs.Common.{◌≡◌, ℕ, List, [], ◌∷◌, length, Some, refl, arith}
 use Rattle.std.specs.Prelude.{nat_le, ◌&&◌}
 use Rattle.toml.specs.Data.{Data, as_array}
 use Rattle.toml.specs.View.{items_view}
 use Rattle.toml.specs.declared.value.Value.{Value}
-use Rattle.link_base.specs.declared.fault.Fault.{Fault}
-use Rattle.link_base.specs.declared.fault.Fault.TheVariants as fault
-use Rattle.link_base.specs.Fault.{Refuses}
-use Rattle.settings_readers.specs.Parts.{◌>>=◌, in_range}
+use Rattle.settings_readers.specs.Parts.{in_range}
 use Rattle.settings_readers.specs.Lists.{items_len, sized}
-
--- a fault of the first part is one of the whole
-pub fault_through : {A B : Type 0} (r : Result A Fault) (next : A → Result B Fault) (f : Fault) → Refuses r f → Refuses (r >>= next) f
-fault_through r next fault.NoMemory h = tt
-fault_through r next f h = rw h
 
 pub items_len-view : (vs : List Value) → items_len (items_view vs) ≡ length vs
 items_len-view [] = refl

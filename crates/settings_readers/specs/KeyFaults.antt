@@ -1,5 +1,6 @@
--- Faults of a key.
-use Rattle.std.specs.Prelude.{Result, Ok, Err, ⊤}
+-- The faults that name a key of a settings file: those of every reader here (a caller's clause on the kinds of its faults
+-- cites them).
+use Rattle.std.specs.Prelude.{⊤}
 use Rattle.link_base.specs.declared.fault.Fault.{Fault}
 use Rattle.link_base.specs.declared.fault.Fault.TheVariants as fault
 
@@ -10,8 +11,3 @@ IsKeyFault (fault.MissingKey key) = ⊤
 IsKeyFault (fault.WrongType key) = ⊤
 IsKeyFault (fault.OutOfRange key) = ⊤
 IsKeyFault f = ⊥
-
--- a part gives a value, or a fault that names a key
-unfoldable pub NamesKey : {A : Type 0} → Result A Fault → Type 0
-NamesKey (Ok x) = ⊤
-NamesKey (Err f) = IsKeyFault f

@@ -1,4 +1,4 @@
--- Which unknown key a fault names.
+-- Which unknown key a fault names: the least (`least_unknown_key`, over tables that `keys_ascend` speaks of).
 use Rattle.std.specs.Prelude.{◌≡◌, ◌⊎◌, ℕ, List, Bool, true, false, ◌&&◌}
 use Rattle.std.specs.Ordering.{nat_cmp}
 use Rattle.std.specs.declared.cmp.Ordering.TheVariants.{Less}

@@ -1,4 +1,5 @@
--- Arrays.
+-- Arrays: their length is tested first, then each item in the light of those before it (`Items::read`, clause `gives`;
+-- `Rows::read`).
 use Rattle.std.specs.Prelude.{List, ℕ, ◌+◌, ◌++◌, [], ◌∷◌, codes, decimal, Result, Ok, ◌&&◌, nat_le}
 use Rattle.toml.specs.Data.{Data, Items, no_items, item, Members, as_array, as_table}
 use Rattle.link_base.specs.declared.fault.Fault.{Fault}

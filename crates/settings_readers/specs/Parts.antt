@@ -1,14 +1,15 @@
--- Parts of a settings file, one after the other: each gives a value or its first fault.
+-- Parts of a settings file, one after the other: each gives a value or its first fault (`Keys::known`, `Keys::absent`,
+-- `Keys::needed`, `Keys::optional` and `Keys::defaulted`, each by its one clause).
 use Rattle.std.specs.Prelude.{List, ℕ, Bool, ◌++◌, Option, Some, None, unwrap_or, Result, Ok, Err, if◌then◌else◌}
 use Rattle.toml.specs.Data.{Data, Members, no_members, member, get_member}
+use Rattle.link_base.specs.Answers.{and_then}
 use Rattle.link_base.specs.declared.fault.Fault.{Fault}
 use Rattle.link_base.specs.declared.fault.Fault.TheVariants.{UnknownKey, MissingKey, WrongType, OutOfRange}
 
 -- a part, and where it gives a value the next part
 infixl 10 ◌>>=◌
 abbrev pub ◌>>=◌ : {A B : Type 0} → Result A Fault → (A → Result B Fault) → Result B Fault
-(Ok x) >>= next = next x
-(Err f) >>= next = Err f
+r >>= next = and_then r next
 
 -- what stands at a path, where it has its type
 abbrev pub typed : {A : Type 0} → List ℕ → Option A → Result A Fault

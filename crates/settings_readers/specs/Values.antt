@@ -1,4 +1,5 @@
--- Single values: their types and ranges.
+-- Single values: their types and ranges (`whole_number`, clause `gives`; `named_in`; the readers `Choice`, `Whole` and
+-- `Truth`, by the clause of `Reader::read`).
 use Rattle.std.specs.Prelude.{List, [], ◌∷◌, ℕ, ℤ, pos, negsuc, Bool, false, Option, Some, None, Result, ◌&&◌, nat_le, if◌then◌else◌}
 use Rattle.std.specs.Str.{bytes_eq}
 use Rattle.toml.specs.Data.{Data, as_str, as_integer, as_bool}
