@@ -5,10 +5,12 @@ use Rattle.toml.specs.Data.{Members}
 use Rattle.link_base.specs.declared.fault.Fault.{Fault}
 use Rattle.link_base.specs.declared.fault.Fault.TheVariants as fault
 use Rattle.link_base.specs.Fault.{IsAnswer}
-use Rattle.settings_readers.specs.KeyFaults.{NamesKey, IsKeyFault}
+use Rattle.settings_readers.specs.KeyFaults.{IsKeyFault}
+use Rattle.settings_readers.proofs.KeyFaults.{NamesKey}
 use Rattle.settings.specs.Settings.{document, plan_of, plan_or_not_toml, settings}
 use Rattle.settings.specs.Ranges.{IsSettingsFault, KeepsRanges}
 use Rattle.settings.specs.declared.plan.Plan.{Plan}
+use Rattle.link_base.specs.Tables.{AreWordPairs}
 use Rattle.settings.proofs.KeyFaults.{plan_key}
 use Rattle.settings.proofs.Ranges.{plan_is}
 
@@ -32,7 +34,7 @@ none_is : (o : Option Members) → plan_or_not_toml o ≡ Err fault.NotToml → 
 none_is None e = cc
 none_is (Some t) e = absurd (key_fault (plan_of t []) fault.NotToml (plan_key t []) e)
 
-kept_is : (o : Option Members) (x : Plan) → plan_or_not_toml o ≡ Ok x → KeepsRanges x
+kept_is : (o : Option Members) (x : Plan) → plan_or_not_toml o ≡ Ok x → AreWordPairs x.tables.names → AreWordPairs x.tables.places → KeepsRanges x
 kept_is None x e = absurd cc
 kept_is (Some t) x e = plan_is t [] x e
 
@@ -44,9 +46,9 @@ pub answer_kind : (bytes : List ℕ) (result : Result Plan Fault) → IsAnswer (
 answer_kind bytes (Ok x) h = tt
 answer_kind bytes (Err f) h = refused (settings bytes) f h (fault_is (document bytes))
 
-pub answer_ranges : (bytes : List ℕ) (result : Result Plan Fault) → IsAnswer (settings bytes) result → IfOk result KeepsRanges
-answer_ranges bytes (Ok x) h = kept_is (document bytes) x h
-answer_ranges bytes (Err f) h = tt
+pub answer_ranges : (bytes : List ℕ) (result : Result Plan Fault) → IsAnswer (settings bytes) result → IfOk result (λ (plan : Plan). AreWordPairs plan.tables.names) → IfOk result (λ (plan : Plan). AreWordPairs plan.tables.places) → IfOk result KeepsRanges
+answer_ranges bytes (Ok x) h names places = kept_is (document bytes) x h names places
+answer_ranges bytes (Err f) h names places = tt
 
 pub answer_not_toml : (bytes : List ℕ) (result : Result Plan Fault) → IsAnswer (settings bytes) result → result ≡ Err fault.NotToml → document bytes ≡ None
 answer_not_toml bytes (Ok x) h e = absurd cc

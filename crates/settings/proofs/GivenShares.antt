@@ -11,7 +11,7 @@ use Rattle.link_base.specs.Shares.{IsShares, outcomes_of}
 use Rattle.settings_readers.specs.Parts.{typed, read_needed}
 use Rattle.settings_readers.specs.Values.{magnitude}
 use Rattle.settings.specs.Field.{are_shares, four, wholes, shares_or_none, shares}
-use Rattle.settings.proofs.Parts.{bind_ok, ranged_ok, needed_ok}
+use Rattle.settings_readers.proofs.Kept.{ranged_ok, read_needed_ok, then_ok}
 
 at_least_one : (xs : List ℕ) → list_all (nat_le 1) xs ≡ true → (k : ℕ) → k < length xs → 1 ≤ slice_index xs k
 at_least_one [] all k lt = absurd (omega arith)
@@ -59,7 +59,7 @@ some_is rare xs ys e =
 -- what was read at the key of shares
 pub given_are : (rare : Bool) (at : List ℕ) (o : Option Data) (xs : List ℕ) → read_needed (shares rare) at o ≡ Ok xs → IsShares (outcomes_of rare) xs
 given_are rare at o xs e =
-    let a = needed_ok (shares rare) at o xs e in
-    let b = bind_ok (typed at (as_array a.0)) _ xs a.1 in
-    let z = bind_ok (typed at (wholes b.0)) _ xs b.2 in
+    let a = read_needed_ok (shares rare) at o xs e in
+    let b = then_ok (typed at (as_array a.0)) _ xs a.1 in
+    let z = then_ok (typed at (wholes b.0)) _ xs b.2 in
     some_is rare xs (map magnitude z.0) (ranged_ok at (shares_or_none rare (map magnitude z.0)) xs z.2)

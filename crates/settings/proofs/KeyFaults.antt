@@ -1,29 +1,28 @@
 -- The parts of the settings give a value, or a fault that names a key.
-use Rattle.std.proofs.Common.{◌≡◌, ℕ, List, [], ◌∷◌, ◌++◌, codes, Bool, true, false, Option, Some, None, Result, Ok, Err, cond}
-use Rattle.std.specs.Prelude.{nat_le, is_some, not, option_to_list, ◌&&◌, ◌^◌, ◌-◌}
+use Rattle.std.proofs.Common.{ℕ, List, [], ◌∷◌, ◌++◌, codes, Bool, true, false, None, Ok, cond}
+use Rattle.std.specs.Prelude.{nat_le, is_some, not, option_to_list}
 use Rattle.std.specs.List.{list_any}
 use Rattle.std.specs.Str.{bytes_eq}
 use Rattle.toml.specs.Data.{Data, Members, no_members, member, as_str, as_array, as_table}
-use Rattle.link_base.specs.declared.fault.Fault.{Fault}
 use Rattle.link_base.specs.declared.plan.FieldSort.{FieldSort}
 use Rattle.link_base.specs.declared.plan.CompareKind.{CompareKind}
-use Rattle.link_base.specs.declared.plan.CompareKind.TheVariants as by
 use Rattle.link_base.specs.declared.plan.KeyKind.{KeyKind}
 use Rattle.link_base.specs.declared.tables.WordPair.{WordPair}
 use Rattle.link_base.specs.Tables.{is_word}
-use Rattle.settings_readers.specs.KeyFaults.{NamesKey}
-use Rattle.settings_readers.specs.Parts.{◌>>=◌, typed, in_range, needed, optional, absent, defaulted, known}
-use Rattle.settings_readers.specs.Values.{choice, whole, truth, magnitude}
-use Rattle.settings_readers.specs.Lists.{array_of, on_table}
-use Rattle.settings_readers.proofs.KeyFaults.{ReadsKey, value_key, then_key, typed_key, ranged_key, in_range_key, needed_key, optional_key, defaulted_key, absent_key, known_key, choice_key, whole_key, truth_key, array_key, on_table_key}
+use Rattle.settings_readers.specs.Parts.{◌>>=◌, typed, in_range, needed, optional, absent}
+use Rattle.settings_readers.specs.Values.{choice, whole, truth}
+use Rattle.settings_readers.specs.Lists.{on_table}
+use Rattle.settings_readers.proofs.KeyFaults.{NamesKey, ReadsKey, value_key, then_key, typed_key, ranged_key, in_range_key, needed_key, optional_key, defaulted_key, absent_key, known_key, choice_key, whole_key, truth_key, array_key, on_table_key}
 use Rattle.settings.specs.Plan.{FieldKeys}
 use Rattle.settings.specs.Values.{fits, text}
 use Rattle.settings.specs.WordTables.{texts, word_pair, pairs, small_table, word_table, members_len}
 use Rattle.link_base.specs.Tables.{missing_marks, name_titles, name_suffixes}
 use Rattle.settings.specs.Words.{one_of, top_keys, kind_named, compare_named, key_named, delimiter_named}
-use Rattle.settings.specs.Field.{new_name, date_sort, plain_sort, sort_of, by_letters, by_days, by_years, plain_compare, compare_by, may_be_rare, rare_of, wholes, shares_or_none, shares, given_shares, no_shares, shares_of, field, fields}
+use Rattle.settings.specs.Field.{new_name, date_sort, plain_sort, sort_of, by_letters, by_days, by_years, plain_compare, compare_by, may_be_rare, rare_of, wholes, shares, given_shares, no_shares, shares_of, field, fields}
 use Rattle.settings.specs.Pass.{field_named, first_key, plain_key, key_by, part, parts, pass, passes}
 use Rattle.settings.specs.Settings.{is_free, journal_of, sources, numbers, tables, plan_of}
+use Rattle.link_limits.specs.declared.TheConstants.{MOST_FIELDS, PER_MILLION}
+use Rattle.settings.specs.declared.limits.TheConstants.{LEAST_RARE, MOST_AWARD, MOST_DAYS, MOST_LETTERS, MOST_LISTED_WORDS, MOST_MARKS, MOST_PARTS, MOST_PASSES, MOST_RARE, MOST_SEED, MOST_WORD_PAIRS, MOST_YEARS}
 use Rattle.settings.specs.declared.texts.TextRule.{TextRule}
 use Rattle.settings.specs.declared.texts.TextRule.TheVariants as rule
 use Rattle.settings.specs.declared.words.Kind.{Kind}
@@ -49,7 +48,7 @@ pairs_key above no_members before = value_key before
 pairs_key above (member key d ms) before = then_key (word_pair (above ++ key) key d) _ (word_pair_key (above ++ key) key d) (λ x. pairs_key above ms (before ++ x ∷ []))
 
 small_table_key : ReadsKey small_table
-small_table_key at d = then_key (typed at (as_table d)) _ (typed_key at (as_table d)) (λ ms. in_range_key at (nat_le (members_len ms) 1000) ms)
+small_table_key at d = then_key (typed at (as_table d)) _ (typed_key at (as_table d)) (λ ms. in_range_key at (nat_le (members_len ms) MOST_WORD_PAIRS) ms)
 
 word_table_key : ReadsKey word_table
 word_table_key at d = then_key (small_table at d) _ (small_table_key at d) (λ ms. pairs_key (at ++ codes ".") ms [])
@@ -75,15 +74,15 @@ sort_of_key kind.Date t above = date_sort_key t above
 
 by_letters_key : (t : Members) (above : List ℕ) → NamesKey (by_letters t above)
 unfolding by_letters
-by_letters_key t above = then_key _ _ (needed_key _ t above (codes "n") (whole_key 1 20)) (λ n. then_key _ _ (absent_key t above (codes "t")) (λ no_t. value_key _))
+by_letters_key t above = then_key _ _ (needed_key _ t above (codes "n") (whole_key 1 MOST_LETTERS)) (λ n. then_key _ _ (absent_key t above (codes "t")) (λ no_t. value_key _))
 
 by_days_key : (t : Members) (above : List ℕ) → NamesKey (by_days t above)
 unfolding by_days
-by_days_key t above = then_key _ _ (absent_key t above (codes "n")) (λ no_n. then_key _ _ (needed_key _ t above (codes "t") (whole_key 0 36500)) (λ days. value_key _))
+by_days_key t above = then_key _ _ (absent_key t above (codes "n")) (λ no_n. then_key _ _ (needed_key _ t above (codes "t") (whole_key 0 MOST_DAYS)) (λ days. value_key _))
 
 by_years_key : (t : Members) (above : List ℕ) → NamesKey (by_years t above)
 unfolding by_years
-by_years_key t above = then_key _ _ (absent_key t above (codes "n")) (λ no_n. then_key _ _ (needed_key _ t above (codes "t") (whole_key 0 100)) (λ years. value_key _))
+by_years_key t above = then_key _ _ (absent_key t above (codes "n")) (λ no_n. then_key _ _ (needed_key _ t above (codes "t") (whole_key 0 MOST_YEARS)) (λ years. value_key _))
 
 plain_compare_key : (c : CompareKind) (t : Members) (above : List ℕ) → NamesKey (plain_compare c t above)
 unfolding plain_compare
@@ -98,8 +97,8 @@ compare_by_key compare.Initials t above = plain_compare_key _ t above
 compare_by_key compare.Days t above = by_days_key t above
 compare_by_key compare.Years t above = by_years_key t above
 
-rare_where : (may : Bool) (t : Members) (above : List ℕ) → NamesKey (cond may (optional (whole 2 200000) t above (codes "rare")) (absent t above (codes "rare") >>= λ no_rare. Ok None))
-rare_where true t above = optional_key (whole 2 200000) t above (codes "rare") (whole_key 2 200000)
+rare_where : (may : Bool) (t : Members) (above : List ℕ) → NamesKey (cond may (optional (whole LEAST_RARE MOST_RARE) t above (codes "rare")) (absent t above (codes "rare") >>= λ no_rare. Ok None))
+rare_where true t above = optional_key (whole LEAST_RARE MOST_RARE) t above (codes "rare") (whole_key LEAST_RARE MOST_RARE)
 rare_where false t above = then_key _ _ (absent_key t above (codes "rare")) (λ no_rare. value_key _)
 
 rare_of_key : (c : CompareKind) (t : Members) (above : List ℕ) → NamesKey (rare_of c t above)
@@ -135,11 +134,11 @@ field_key sampled before t above =
     then_key _ _ (shares_of_key sampled (is_some rare) t above) (λ shares. value_key _))))))))))
 
 fields_key : (sampled : Bool) → ReadsKey (fields sampled)
-fields_key sampled at d = array_key 1 6 (λ before. on_table (field sampled before)) (λ before. on_table_key (field sampled before) (field_key sampled before)) at d
+fields_key sampled at d = array_key 1 MOST_FIELDS (λ before. on_table (field sampled before)) (λ before. on_table_key (field sampled before) (field_key sampled before)) at d
 
 first_key_key : (t : Members) (above : List ℕ) → NamesKey (first_key t above)
 unfolding first_key
-first_key_key t above = then_key _ _ (needed_key _ t above (codes "n") (whole_key 1 20)) (λ n. value_key _)
+first_key_key t above = then_key _ _ (needed_key _ t above (codes "n") (whole_key 1 MOST_LETTERS)) (λ n. value_key _)
 
 plain_key_key : (k : KeyKind) (t : Members) (above : List ℕ) → NamesKey (plain_key k t above)
 unfolding plain_key
@@ -161,14 +160,14 @@ part_key fs t above =
     then_key _ _ (key_by_key word t above) (λ key. value_key _))))
 
 parts_key : (fs : List FieldKeys) → ReadsKey (parts fs)
-parts_key fs at d = array_key 1 4 (λ before. on_table (part fs)) (λ before. on_table_key (part fs) (part_key fs)) at d
+parts_key fs at d = array_key 1 MOST_PARTS (λ before. on_table (part fs)) (λ before. on_table_key (part fs) (part_key fs)) at d
 
 pass_key : (fs : List FieldKeys) (t : Members) (above : List ℕ) → NamesKey (pass fs t above)
 unfolding pass
 pass_key fs t above = then_key _ _ (known_key _ t above) (λ listed. needed_key _ t above (codes "parts") (parts_key fs))
 
 passes_key : (fs : List FieldKeys) → ReadsKey (passes fs)
-passes_key fs at d = array_key 1 8 (λ before. on_table (pass fs)) (λ before. on_table_key (pass fs) (pass_key fs)) at d
+passes_key fs at d = array_key 1 MOST_PASSES (λ before. on_table (pass fs)) (λ before. on_table_key (pass fs) (pass_key fs)) at d
 
 journal_key : (taken : List (List ℕ)) (t : Members) (above : List ℕ) → NamesKey (journal_of taken t above)
 unfolding journal_of
@@ -191,19 +190,19 @@ sources_key t above =
 numbers_key : (t : Members) (above : List ℕ) → NamesKey (numbers t above)
 unfolding numbers
 numbers_key t above =
-    then_key _ _ (needed_key (whole 0 1000000) t above (codes "mu_ppm") (whole_key 0 1000000)) (λ mu_ppm.
-    then_key _ _ (needed_key (whole 0 1000000) t above (codes "lambda_ppm") (whole_key 0 1000000)) (λ lambda_ppm.
-    then_key _ _ (defaulted_key (whole 0 (2 ^ 63 - 1)) 0 t above (codes "seed") (whole_key 0 (2 ^ 63 - 1))) (λ seed.
-    then_key _ _ (defaulted_key (whole 0 1000) 500 t above (codes "award") (whole_key 0 1000)) (λ award.
+    then_key _ _ (needed_key (whole 0 PER_MILLION) t above (codes "mu_ppm") (whole_key 0 PER_MILLION)) (λ mu_ppm.
+    then_key _ _ (needed_key (whole 0 PER_MILLION) t above (codes "lambda_ppm") (whole_key 0 PER_MILLION)) (λ lambda_ppm.
+    then_key _ _ (defaulted_key (whole 0 MOST_SEED) 0 t above (codes "seed") (whole_key 0 MOST_SEED)) (λ seed.
+    then_key _ _ (defaulted_key (whole 0 MOST_AWARD) 500 t above (codes "award") (whole_key 0 MOST_AWARD)) (λ award.
     then_key _ _ (defaulted_key truth false t above (codes "strict") truth_key) (λ strict.
     then_key _ _ (defaulted_key truth false t above (codes "double") truth_key) (λ double. value_key _))))))
 
 tables_key : (t : Members) (above : List ℕ) → NamesKey (tables t above)
 unfolding tables
 tables_key t above =
-    then_key _ _ (defaulted_key (texts 50 rule.Mark) missing_marks t above (codes "missing") (texts_key 50 rule.Mark)) (λ missing.
-    then_key _ _ (defaulted_key (texts 200 rule.Word) name_titles t above (codes "titles") (texts_key 200 rule.Word)) (λ titles.
-    then_key _ _ (defaulted_key (texts 200 rule.Word) name_suffixes t above (codes "suffixes") (texts_key 200 rule.Word)) (λ suffixes.
+    then_key _ _ (defaulted_key (texts MOST_MARKS rule.Mark) missing_marks t above (codes "missing") (texts_key MOST_MARKS rule.Mark)) (λ missing.
+    then_key _ _ (defaulted_key (texts MOST_LISTED_WORDS rule.Word) name_titles t above (codes "titles") (texts_key MOST_LISTED_WORDS rule.Word)) (λ titles.
+    then_key _ _ (defaulted_key (texts MOST_LISTED_WORDS rule.Word) name_suffixes t above (codes "suffixes") (texts_key MOST_LISTED_WORDS rule.Word)) (λ suffixes.
     then_key _ _ (defaulted_key word_table [] t above (codes "names") word_table_key) (λ names.
     then_key _ _ (defaulted_key word_table [] t above (codes "places") word_table_key) (λ places. value_key _)))))
 

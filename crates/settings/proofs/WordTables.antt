@@ -1,34 +1,35 @@
 -- What the pairs of a word table are: words, in the order of the keys.
-use Rattle.std.proofs.Common.{◌≡◌, ℕ, List, [], ◌∷◌, ◌++◌, length, true, Some, Ok, Less, nat_cmp, refl, ◌∙◌, sym, append_assoc, arith, inl, inr}
+use Rattle.std.proofs.Common.{◌≡◌, ℕ, List, [], ◌∷◌, ◌++◌, length, true, Some, Ok, refl, ap, codes, ◌≤◌, ◌∙◌, sym, append_assoc, arith, inl, inr}
 use Rattle.std.specs.Prelude.{All, AllPairs, nat_le}
-use Rattle.std.specs.Cmp.Lexicographic.{slice_cmp}
-use Rattle.std.proofs.lemmas.Bool.{and_parts}
+use Rattle.std.proofs.lemmas.Bool.{and_parts, leb-true}
 use Rattle.std.proofs.lemmas.List.{append-nil}
 use Rattle.std.proofs.lemmas.List.Elements.{All-nil, All-cons}
 use Rattle.std.proofs.lemmas.List.Kept.{AllPairs-cons}
-use Rattle.toml.specs.Data.{Data, Members, no_members, member, as_str, as_table, is_before}
+use Rattle.toml.specs.Data.{Data, Members, no_members, member, as_table, is_before}
 use Rattle.toml.specs.View.{members_view}
 use Rattle.toml.proofs.Views.{Entry}
 use Rattle.link_base.specs.declared.tables.WordPair.{WordPair}
-use Rattle.link_base.specs.Tables.{AreWordPairs, is_word}
+use Rattle.link_base.specs.Tables.{AreWordPairs, is_word, StandsBefore}
 use Rattle.settings_readers.specs.Parts.{typed, in_range}
 use Rattle.settings_readers.specs.Laws.{IsKeyOf, keys_ascend}
 use Rattle.settings_readers.proofs.Ascending.{above}
+use Rattle.settings.specs.declared.limits.TheConstants.{MOST_WORD_PAIRS}
 use Rattle.settings.specs.declared.texts.TextRule.TheVariants as rule
-use Rattle.settings.specs.Values.{fits, text}
-use Rattle.settings.specs.WordTables.{members_len, word_pair, pairs, small_table}
-use Rattle.settings.proofs.Parts.{bind_ok, in_range_ok}
+use Rattle.settings.specs.Values.{text}
+use Rattle.settings.specs.WordTables.{members_len, word_pair, pairs, small_table, word_table}
+use Rattle.settings.proofs.TextRanges.{text_keeps}
+use Rattle.settings_readers.proofs.Kept.{in_range_ok, Reads, then_ok}
 
 members_len-view : (es : List Entry) → members_len (members_view es) ≡ length es
 members_len-view [] = refl
 members_len-view (e ∷ es) = omega (arith, members_len-view es)
 
 pub small_table_is : (n : ℕ) (at : List ℕ) (d : Data) (es : List Entry) → Some (members_view es) ≡ as_table d → n ≡ length es
-    → small_table at d ≡ in_range at (nat_le n 1000) (members_view es)
+    → small_table at d ≡ in_range at (nat_le n MOST_WORD_PAIRS) (members_view es)
 small_table_is n at d es is len = rw (← is, members_len-view, ← len)
 
 abbrev IsAfter : List ℕ → WordPair → Type 0
-IsAfter k p = slice_cmp nat_cmp k p.from ≡ Less
+IsAfter k p = StandsBefore k p.from
 
 abbrev FromWord : WordPair → Type 0
 FromWord p = is_word p.from ≡ true
@@ -37,7 +38,7 @@ abbrev ToWord : WordPair → Type 0
 ToWord p = is_word p.to ≡ true
 
 abbrev Rises : WordPair → WordPair → Type 0
-Rises p q = slice_cmp nat_cmp p.from q.from ≡ Less
+Rises p q = StandsBefore p.from q.from
 
 -- pairs of words that stand for the members in turn
 abbrev ArePairsOf : Members → List WordPair → Type 0
@@ -46,30 +47,24 @@ ArePairsOf no_members (p ∷ ps) = ⊥
 ArePairsOf (member k d ms) [] = ⊥
 ArePairsOf (member k d ms) (p ∷ ps) = (p.from ≡ k) × (is_word p.from ≡ true) × (is_word p.to ≡ true) × ArePairsOf ms ps
 
-word_is : (at : List ℕ) (d : Data) (x : List ℕ) → text rule.Word at d ≡ Ok x → is_word x ≡ true
-word_is at d x h =
-    let s = bind_ok (typed at (as_str d)) _ x h in
-    let r = in_range_ok at (fits rule.Word s.0) s.0 x s.2 in
-    rw (← r.1) r.0
-
 word_pair_is : (at key : List ℕ) (d : Data) (x : WordPair) → word_pair at key d ≡ Ok x → (x.from ≡ key) × (is_word x.from ≡ true) × (is_word x.to ≡ true)
 word_pair_is at key d x h =
-    let a = bind_ok (in_range at (is_word key) key) _ x h in
+    let a = then_ok (in_range at (is_word key) key) _ x h in
     let r = in_range_ok at (is_word key) key a.0 a.1 in
-    let b = bind_ok (text rule.Word at d) _ x a.2 in
+    let b = then_ok (text rule.Word at d) _ x a.2 in
     let made : Ok (record { from = a.0; to = b.0 }) ≡ Ok x = b.2 in
     let same : record { from = a.0; to = b.0 } ≡ x = cc in
-    (rw (← same) (sym r.1), rw (← same, ← r.1) r.0, rw (← same) (word_is at d b.0 b.1))
+    (rw (← same) (sym r.1), rw (← same, ← r.1) r.0, rw (← same) (text_keeps rule.Word at d b.0 b.1))
 
 pairs_are : (path : List ℕ) (ms : Members) (before all : List WordPair) → pairs path ms before ≡ Ok all → (ps : List WordPair) × (all ≡ before ++ ps) × ArePairsOf ms ps
 pairs_are path no_members before all h = let same : before ≡ all = cc in ([], sym same ∙ sym (append-nil before), tt)
 pairs_are path (member k d ms) before all h =
-    let a = bind_ok (word_pair (path ++ k) k d) _ all h in
+    let a = then_ok (word_pair (path ++ k) k d) _ all h in
     let w = word_pair_is (path ++ k) k d a.0 a.1 in
     let r = pairs_are path ms (before ++ a.0 ∷ []) all a.2 in
     (a.0 ∷ r.0, r.1 ∙ append_assoc before (a.0 ∷ []) r.0, (w.0, w.1, w.2, r.2))
 
-all_after : (k : List ℕ) (ms : Members) (ps : List WordPair) → ((q : List ℕ) → IsKeyOf ms q → slice_cmp nat_cmp k q ≡ Less) → ArePairsOf ms ps → All (IsAfter k) ps
+all_after : (k : List ℕ) (ms : Members) (ps : List WordPair) → ((q : List ℕ) → IsKeyOf ms q → StandsBefore k q) → ArePairsOf ms ps → All (IsAfter k) ps
 all_after k no_members [] h are = All-nil (IsAfter k)
 all_after k no_members (p ∷ ps) h are = absurd are
 all_after k (member l d ms) [] h are = absurd are
@@ -98,3 +93,25 @@ pub pairs_are_word_pairs : (path : List ℕ) (ms : Members) (all : List WordPair
 pairs_are_word_pairs path ms all sorted h =
     let r = pairs_are path ms [] all h in
     rw r.1 (pairs_sound ms r.0 sorted r.2)
+
+-- as many pairs as members
+as_many : (ms : Members) (ps : List WordPair) → ArePairsOf ms ps → length ps ≡ members_len ms
+as_many no_members [] are = refl
+as_many no_members (p ∷ ps) are = absurd are
+as_many (member k d ms) [] are = absurd are
+as_many (member k d ms) (p ∷ ps) are = omega (arith, as_many ms ps are.3)
+
+small_table_keeps : Reads small_table (λ ms. members_len ms ≤ MOST_WORD_PAIRS)
+small_table_keeps at d x e =
+    let a = then_ok (typed at (as_table d)) _ x e in
+    let b = in_range_ok at (nat_le (members_len a.0) MOST_WORD_PAIRS) a.0 x a.2 in
+    rw (← b.1) (leb-true (members_len a.0) MOST_WORD_PAIRS b.0)
+
+-- a table that was read is small
+pub word_table_keeps : Reads word_table (λ (ps : List WordPair). length ps ≤ MOST_WORD_PAIRS)
+word_table_keeps at d x e =
+    let a = then_ok (small_table at d) _ x e in
+    let few = small_table_keeps at d a.0 a.1 in
+    let r = pairs_are (at ++ codes ".") a.0 [] x a.2 in
+    let same : length x ≡ length r.0 = ap length r.1 in
+    omega (arith, few, same, as_many a.0 r.0 r.2)

@@ -1,9 +1,11 @@
--- A field's table.
+-- A field's table: its keys in order, with what each gives (`Fields`, by the clause of `Reader::read`; the parts, by the
+-- one clause of the function of their name).
 use Rattle.std.specs.Prelude.{List, ℕ, ℤ, Bool, true, false, not, ◌++◌, [], ◌∷◌, codes, length, map, sum, Option, Some, None, is_some, option_map, Result, Ok, ◌&&◌, nat_le, ◌==◌, if◌then◌else◌, option_and_then}
 use Rattle.std.specs.List.{list_any, list_all}
 use Rattle.std.specs.Option.{option_map_or}
 use Rattle.std.specs.Str.{bytes_eq}
 use Rattle.toml.specs.Data.{Data, Items, no_items, item, Members, as_array, as_integer}
+use Rattle.link_limits.specs.declared.TheConstants.{MOST_FIELDS, WHOLE_FIELD}
 use Rattle.link_base.specs.declared.fault.Fault.{Fault}
 use Rattle.link_base.specs.declared.plan.FieldSort.{FieldSort}
 use Rattle.link_base.specs.declared.plan.FieldSort.TheVariants as sort
@@ -16,6 +18,7 @@ use Rattle.settings_readers.specs.Lists.{array_of, on_table}
 use Rattle.settings.specs.Plan.{FieldKeys, PlainShares}
 use Rattle.settings.specs.Values.{text}
 use Rattle.settings.specs.Words.{one_of, field_keys, kind_named, form_named, compare_named}
+use Rattle.settings.specs.declared.limits.TheConstants.{LEAST_RARE, MOST_DAYS, MOST_LETTERS, MOST_RARE, MOST_YEARS}
 use Rattle.settings.specs.declared.texts.TextRule.TheVariants as rule
 use Rattle.settings.specs.declared.words.Kind.{Kind}
 use Rattle.settings.specs.declared.words.Kind.TheVariants as kind
@@ -49,20 +52,20 @@ sort_of kind.Date = date_sort
 -- n for `first` alone, and t for `days` and `years` alone
 unfoldable pub by_letters : Members → List ℕ → Result CompareKind Fault
 by_letters t above = do
-  n ← needed (whole 1 20) t above (codes "n")
+  n ← needed (whole 1 MOST_LETTERS) t above (codes "n")
   no_t ← absent t above (codes "t")
   Ok (by.FirstLetters n)
 
 unfoldable pub by_days : Members → List ℕ → Result CompareKind Fault
 by_days t above = do
   no_n ← absent t above (codes "n")
-  days ← needed (whole 0 36500) t above (codes "t")
+  days ← needed (whole 0 MOST_DAYS) t above (codes "t")
   Ok (by.DaysWithin days)
 
 unfoldable pub by_years : Members → List ℕ → Result CompareKind Fault
 by_years t above = do
   no_n ← absent t above (codes "n")
-  years ← needed (whole 0 100) t above (codes "t")
+  years ← needed (whole 0 MOST_YEARS) t above (codes "t")
   Ok (by.YearsWithin years)
 
 unfoldable pub plain_compare : CompareKind → Members → List ℕ → Result CompareKind Fault
@@ -87,16 +90,16 @@ may_be_rare (by.YearsWithin t) = false
 may_be_rare _ = true
 
 abbrev pub rare_of : CompareKind → Members → List ℕ → Result (Option ℕ) Fault
-rare_of c t above = if may_be_rare c then optional (whole 2 200000) t above (codes "rare") else (absent t above (codes "rare") >>= λ no_rare. Ok None)
+rare_of c t above = if may_be_rare c then optional (whole LEAST_RARE MOST_RARE) t above (codes "rare") else (absent t above (codes "rare") >>= λ no_rare. Ok None)
 
 -- the whole numbers of an array of nothing else
 abbrev pub wholes : Items → Option (List ℤ)
 wholes no_items = Some []
 wholes (item d ds) = option_and_then (λ z. option_map (λ zs. z ∷ zs) (wholes ds)) (as_integer d)
 
--- as many shares as there are outcomes, each at least 1, with sum 1,024
+-- as many shares as there are outcomes, each at least 1, that add up to the whole
 abbrev pub are_shares : Bool → List ℕ → Bool
-are_shares rare xs = length xs == outcomes_of rare && list_all (nat_le 1) xs && sum xs == 1024
+are_shares rare xs = length xs == outcomes_of rare && list_all (nat_le 1) xs && sum xs == WHOLE_FIELD
 
 -- the shares of four outcomes, of which the last has none where it is no outcome of its own
 abbrev pub four : Bool → List ℕ → List ℕ
@@ -143,6 +146,6 @@ field sampled before t above = do
   shares ← shares_of sampled (is_some rare) t above
   Ok (record { name = name; column_a = column_a; column_b = column_b; sort = sort; compare = compare; rare = rare; shares = shares })
 
--- an array of one to six fields
+-- an array of fields
 abbrev pub fields : Bool → List ℕ → Data → Result (List FieldKeys) Fault
-fields sampled at d = array_of 1 6 (λ before. on_table (field sampled before)) at d
+fields sampled at d = array_of 1 MOST_FIELDS (λ before. on_table (field sampled before)) at d

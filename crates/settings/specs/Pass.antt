@@ -1,4 +1,5 @@
--- A pass's table, and its parts.
+-- A pass's table, and its parts (`Passes`, by the clause of `Reader::read`; the parts, by the one clause of the function
+-- of their name).
 use Rattle.std.specs.Prelude.{List, ℕ, ◌+◌, [], ◌∷◌, codes, Option, Some, None, Result, Ok, if◌then◌else◌}
 use Rattle.std.specs.Str.{bytes_eq}
 use Rattle.toml.specs.Data.{Data, Members}
@@ -8,6 +9,7 @@ use Rattle.link_base.specs.declared.plan.KeyKind.{KeyKind}
 use Rattle.link_base.specs.declared.plan.KeyKind.TheVariants as by
 use Rattle.link_base.specs.declared.plan.Part.{Part}
 use Rattle.settings.specs.Plan.{FieldKeys}
+use Rattle.settings.specs.declared.limits.TheConstants.{MOST_LETTERS, MOST_PARTS, MOST_PASSES}
 use Rattle.settings.specs.declared.words.KeyWord.{KeyWord}
 use Rattle.settings.specs.declared.words.KeyWord.TheVariants as key
 use Rattle.settings_readers.specs.Parts.{◌>>=◌, needed, absent, known}
@@ -22,7 +24,7 @@ field_named (f ∷ fs) n name = if bytes_eq name f.name then Some (n, f.sort) el
 
 -- n for `first` alone
 unfoldable pub first_key : Members → List ℕ → Result KeyKind Fault
-first_key t above = needed (whole 1 20) t above (codes "n") >>= λ n. Ok (by.First n)
+first_key t above = needed (whole 1 MOST_LETTERS) t above (codes "n") >>= λ n. Ok (by.First n)
 
 unfoldable pub plain_key : KeyKind → Members → List ℕ → Result KeyKind Fault
 plain_key k t above = absent t above (codes "n") >>= λ no_n. Ok k
@@ -44,7 +46,7 @@ part fields t above = do
 
 -- an array of one to four parts
 abbrev pub parts : List FieldKeys → List ℕ → Data → Result (List Part) Fault
-parts fields at d = array_of 1 4 (λ before. on_table (part fields)) at d
+parts fields at d = array_of 1 MOST_PARTS (λ before. on_table (part fields)) at d
 
 unfoldable pub pass : List FieldKeys → Members → List ℕ → Result (List Part) Fault
 pass fields t above = do
@@ -53,4 +55,4 @@ pass fields t above = do
 
 -- an array of one to eight passes
 abbrev pub passes : List FieldKeys → List ℕ → Data → Result (List (List Part)) Fault
-passes fields at d = array_of 1 8 (λ before. on_table (pass fields)) at d
+passes fields at d = array_of 1 MOST_PASSES (λ before. on_table (pass fields)) at d

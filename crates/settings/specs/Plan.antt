@@ -1,4 +1,4 @@
--- What the settings say of a field, as plain values.
+-- What the settings say of a field, as plain values: what a `FieldPlan` is seen as (`FieldList::fields`, clause `all`).
 use Rattle.std.specs.Prelude.{List, ℕ, Bool, Option}
 use Rattle.link_base.specs.declared.shares.FieldShares.{FieldShares}
 use Rattle.link_base.specs.declared.plan.FieldSort.{FieldSort}

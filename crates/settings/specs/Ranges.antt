@@ -1,6 +1,10 @@
--- The types and ranges that a plan of a settings file keeps, and the faults of one.
-use Rattle.std.specs.Prelude.{◌≡◌, ◌<◌, ◌≤◌, ◌^◌, ℕ, List, length, Bool, true, false, not, Option, is_some, IfSome, IsUtf8, All, nat_le, ◌&&◌, ◌||◌, ◌==◌, ⊤}
+-- The ranges of the settings, whole: what every plan of a settings file keeps (`read_settings`, clause `ranges`), and the
+-- faults of one (clause `kind`). A run writes five outputs and its journal, and by `AreFiles` none of them is a file that
+-- it reads.
+use Rattle.std.specs.Prelude.{◌≡◌, ◌≢◌, ◌<◌, ◌≤◌, ℕ, List, ◌∷◌, length, Bool, true, false, not, Option, is_some, option_to_list, IfSome, IsTrue, IsUtf8, All, AllPairs, nat_le, ◌&&◌, ◌||◌, ◌==◌, ⊤}
 use Rattle.std.specs.List.{HoldsAt}
+use Rattle.link_base.specs.Shares.{IsShares, outcomes_of}
+use Rattle.link_base.specs.Tables.{AreWordPairs, is_word}
 use Rattle.link_base.specs.declared.fault.Fault.{Fault}
 use Rattle.link_base.specs.declared.fault.Fault.TheVariants as fault
 use Rattle.link_base.specs.declared.plan.FieldSort.{FieldSort}
@@ -10,42 +14,117 @@ use Rattle.link_base.specs.declared.plan.CompareKind.TheVariants as by
 use Rattle.link_base.specs.declared.plan.KeyKind.{KeyKind}
 use Rattle.link_base.specs.declared.plan.KeyKind.TheVariants as key
 use Rattle.link_base.specs.declared.plan.Part.{Part}
+use Rattle.link_base.specs.declared.tables.Tables.{Tables}
+use Rattle.link_base.specs.declared.tables.WordPair.{WordPair}
+use Rattle.link_limits.specs.declared.TheConstants.{MOST_FIELDS, MOST_NAME_BYTES, PER_MILLION}
+use Rattle.settings_readers.specs.KeyFaults.{IsKeyFault}
 use Rattle.settings.specs.Plan.{FieldKeys, PlainShares}
 use Rattle.settings.specs.Field.{may_be_rare}
+use Rattle.settings.specs.Values.{is_name_byte, is_output}
+use Rattle.settings.specs.declared.limits.TheConstants.{LEAST_RARE, MOST_AWARD, MOST_DAYS, MOST_FIELD_NAME_BYTES, MOST_LABEL_BYTES, MOST_LETTERS, MOST_LISTED_WORDS, MOST_MARK_BYTES, MOST_MARKS, MOST_PARTS, MOST_PASSES, MOST_RARE, MOST_SEED, MOST_WORD_PAIRS, MOST_YEARS}
 use Rattle.settings.specs.declared.plan.Plan.{Plan}
 
--- the comparisons that a sort of field has, with their numbers in range
-abbrev pub is_compared : FieldSort → CompareKind → Bool
-is_compared (sort.Date a b) by.Exact = true
-is_compared (sort.Date a b) (by.DaysWithin t) = nat_le t 36500
-is_compared (sort.Date a b) (by.YearsWithin t) = nat_le t 100
-is_compared (sort.Date a b) c = false
-is_compared s (by.FirstLetters n) = nat_le 1 n && nat_le n 20
-is_compared s (by.DaysWithin t) = false
-is_compared s (by.YearsWithin t) = false
-is_compared s c = true
+-- the name of a file that a run reads, or of its journal: no file that the run writes anew
+pub record IsFileName (name : List ℕ) : Type 0 where
+  pub some : 1 ≤ length name
+  pub short : length name ≤ MOST_NAME_BYTES
+  pub no_output : is_output name ≡ false
 
--- the keys that a sort of field has
+-- the files that a run reads: A, B, and the sample where there is one
+abbrev pub files_read : List ℕ → List ℕ → Option (List ℕ) → List (List ℕ)
+files_read file_a file_b sample = file_a ∷ file_b ∷ option_to_list sample
+
+-- the files of a run; the journal is none of those that are read
+pub record AreFiles (name_a name_b : List ℕ) (name_of_sample name_of_journal : Option (List ℕ)) : Type 0 where
+  pub file_a : IsFileName name_a
+  pub file_b : IsFileName name_b
+  pub sample : IfSome name_of_sample IsFileName
+  pub journal : IfSome name_of_journal IsFileName
+  pub apart : IfSome name_of_journal (λ (name : List ℕ). All (λ (other : List ℕ). name ≢ other) (files_read name_a name_b name_of_sample))
+
+-- the name of a column
+pub record IsLabel (name : List ℕ) : Type 0 where
+  pub some : 1 ≤ length name
+  pub short : length name ≤ MOST_LABEL_BYTES
+
+-- a comma, a semicolon or a tab
+abbrev pub is_delimiter : ℕ → Bool
+is_delimiter b = b == 44 || b == 59 || b == 9
+
+-- marks of a missing value
+pub record AreMarks (marks : List (List ℕ)) : Type 0 where
+  pub few : length marks ≤ MOST_MARKS
+  pub short : All (λ (mark : List ℕ). length mark ≤ MOST_MARK_BYTES) marks
+
+-- titles, or suffixes
+pub record AreListedWords (words : List (List ℕ)) : Type 0 where
+  pub few : length words ≤ MOST_LISTED_WORDS
+  pub each : All (λ (word : List ℕ). IsTrue (is_word word)) words
+
+-- the words that are replaced in names, or in places: each once
+pub record IsWordTable (pairs : List WordPair) : Type 0 where
+  pub few : length pairs ≤ MOST_WORD_PAIRS
+  pub each : AreWordPairs pairs
+
+-- what standard values go by
+pub record AreTables (tables : Tables) : Type 0 where
+  pub missing : AreMarks tables.missing
+  pub titles : AreListedWords tables.titles
+  pub suffixes : AreListedWords tables.suffixes
+  pub names : IsWordTable tables.names
+  pub places : IsWordTable tables.places
+
+-- the comparisons that a sort of field has, with their numbers in range
+abbrev pub has_comparison : FieldSort → CompareKind → Bool
+has_comparison (sort.Date a b) by.Exact = true
+has_comparison (sort.Date a b) (by.DaysWithin t) = nat_le t MOST_DAYS
+has_comparison (sort.Date a b) (by.YearsWithin t) = nat_le t MOST_YEARS
+has_comparison (sort.Date a b) c = false
+has_comparison s (by.FirstLetters n) = nat_le 1 n && nat_le n MOST_LETTERS
+has_comparison s (by.DaysWithin t) = false
+has_comparison s (by.YearsWithin t) = false
+has_comparison s c = true
+
+-- the keys that a sort of field has, with their numbers in range
 abbrev pub is_keyed : FieldSort → KeyKind → Bool
 is_keyed (sort.Date a b) key.Whole = true
 is_keyed (sort.Date a b) key.Year = true
 is_keyed (sort.Date a b) k = false
-is_keyed s (key.First n) = nat_le 1 n && nat_le n 20
+is_keyed s (key.First n) = nat_le 1 n && nat_le n MOST_LETTERS
 is_keyed s key.Year = false
 is_keyed s k = true
 
+-- the name of a field
+pub record IsFieldName (name : List ℕ) : Type 0 where
+  pub some : 1 ≤ length name
+  pub short : length name ≤ MOST_FIELD_NAME_BYTES
+  pub bytes : All (λ (byte : ℕ). IsTrue (is_name_byte byte)) name
+
 -- a rare number, where values are compared by a canon
 pub record IsRareNumber (compare : CompareKind) (n : ℕ) : Type 0 where
-  pub least : 2 ≤ n
-  pub most : n ≤ 200000
+  pub least : LEAST_RARE ≤ n
+  pub most : n ≤ MOST_RARE
   pub by_canon : may_be_rare compare ≡ true
+
+-- the shares of the outcomes of a field, of which rare agreement is one where it has a rare number
+pub record AreShares (has_rare : Bool) (shares : PlainShares) : Type 0 where
+  pub rare : shares.rare ≡ has_rare
+  pub m : IsShares (outcomes_of has_rare) shares.m
+  pub u : IsShares (outcomes_of has_rare) shares.u
 
 -- a field; it has shares exactly where there is no sample
 pub record IsField (sampled : Bool) (f : FieldKeys) : Type 0 where
-  pub compare : is_compared f.sort f.compare ≡ true
+  pub name : IsFieldName f.name
+  pub column_a : IsLabel f.column_a
+  pub column_b : IsLabel f.column_b
+  pub compare : has_comparison f.sort f.compare ≡ true
   pub rare : IfSome f.rare (IsRareNumber f.compare)
   pub given : is_some f.shares ≡ not sampled
-  pub shares : IfSome f.shares (λ (s : PlainShares). s.rare ≡ is_some f.rare)
+  pub shares : IfSome f.shares (AreShares (is_some f.rare))
+
+-- no two fields have one name
+abbrev pub HaveDistinctNames : List FieldKeys → Type 0
+HaveDistinctNames fields = AllPairs (λ (f g : FieldKeys). f.name ≢ g.name) fields
 
 -- a part of a pass over the fields
 pub record IsPart (fields : List FieldKeys) (p : Part) : Type 0 where
@@ -54,23 +133,27 @@ pub record IsPart (fields : List FieldKeys) (p : Part) : Type 0 where
 
 pub record IsPass (fields : List FieldKeys) (pass : List Part) : Type 0 where
   pub some : 1 ≤ length pass
-  pub few : length pass ≤ 4
+  pub few : length pass ≤ MOST_PARTS
   pub parts : All (IsPart fields) pass
 
--- a comma, a semicolon or a tab
-abbrev pub is_delimiter : ℕ → Bool
-is_delimiter b = b == 44 || b == 59 || b == 9
-
+-- the ranges of the settings
 pub record KeepsRanges (plan : Plan) : Type 0 where
+  pub files : AreFiles plan.file_a plan.file_b plan.sample plan.journal
+  pub id_a : IsLabel plan.id_a
+  pub id_b : IsLabel plan.id_b
   pub delimiter_a : is_delimiter plan.delimiter_a ≡ true
   pub delimiter_b : is_delimiter plan.delimiter_b ≡ true
-  pub mu : plan.mu_ppm ≤ 1000000
-  pub lambda : plan.lambda_ppm ≤ 1000000
-  pub seed : plan.seed < 2 ^ 63
-  pub award : plan.award ≤ 1000
+  pub mu : plan.mu_ppm ≤ PER_MILLION
+  pub lambda : plan.lambda_ppm ≤ PER_MILLION
+  pub seed : plan.seed ≤ MOST_SEED
+  pub award : plan.award ≤ MOST_AWARD
+  pub tables : AreTables plan.tables
+  pub some_fields : 1 ≤ length plan.fields
+  pub few_fields : length plan.fields ≤ MOST_FIELDS
   pub fields : All (IsField (is_some plan.sample)) plan.fields
+  pub distinct_fields : HaveDistinctNames plan.fields
   pub some_passes : 1 ≤ length plan.passes
-  pub few_passes : length plan.passes ≤ 8
+  pub few_passes : length plan.passes ≤ MOST_PASSES
   pub passes : All (IsPass plan.fields) plan.passes
 
 -- the files of a plan have names that are UTF-8
@@ -83,9 +166,5 @@ pub record NamesFiles (plan : Plan) : Type 0 where
 -- the faults of a settings file
 abbrev pub IsSettingsFault : Fault → Type 0
 IsSettingsFault fault.NotToml = ⊤
-IsSettingsFault (fault.UnknownKey key) = ⊤
-IsSettingsFault (fault.MissingKey key) = ⊤
-IsSettingsFault (fault.WrongType key) = ⊤
-IsSettingsFault (fault.OutOfRange key) = ⊤
 IsSettingsFault fault.NoMemory = ⊤
-IsSettingsFault f = ⊥
+IsSettingsFault f = IsKeyFault f

@@ -1,8 +1,10 @@
--- The settings: the bytes of a file to a plan, or the first key at fault.
-use Rattle.std.specs.Prelude.{List, ℕ, Bool, true, false, not, [], ◌∷◌, ◌++◌, ◌^◌, ◌-◌, codes, Option, Some, None, is_some, option_to_list, Result, Ok, Err, if◌then◌else◌}
+-- The settings: the bytes of a file to a plan, or the first key at fault (`read_settings`, clauses `gives` and
+-- `not_toml`).
+use Rattle.std.specs.Prelude.{List, ℕ, Bool, true, false, not, [], ◌∷◌, ◌++◌, codes, Option, Some, None, is_some, option_to_list, Result, Ok, Err, if◌then◌else◌}
 use Rattle.std.specs.Str.{is_utf8}
 use Rattle.toml.specs.Data.{Members}
 use Rattle.toml.specs.Parse.{parse_document}
+use Rattle.link_limits.specs.declared.TheConstants.{PER_MILLION}
 use Rattle.link_base.specs.declared.fault.Fault.{Fault}
 use Rattle.link_base.specs.declared.fault.Fault.TheVariants.{NotToml}
 use Rattle.link_base.specs.declared.tables.Tables.{Tables}
@@ -14,6 +16,7 @@ use Rattle.settings.specs.Words.{one_of, top_keys, delimiter_named}
 use Rattle.settings.specs.WordTables.{texts, word_table}
 use Rattle.settings.specs.Field.{fields}
 use Rattle.settings.specs.Pass.{passes}
+use Rattle.settings.specs.declared.limits.TheConstants.{MOST_AWARD, MOST_LISTED_WORDS, MOST_MARKS, MOST_SEED}
 use Rattle.settings.specs.declared.plan.Plan.{Plan}
 use Rattle.settings.specs.declared.texts.TextRule.TheVariants as rule
 use Rattle.settings.specs.declared.top.SourceKeys.{SourceKeys}
@@ -43,19 +46,19 @@ sources t above = do
 
 unfoldable pub numbers : Members → List ℕ → Result NumberKeys Fault
 numbers t above = do
-  mu_ppm ← needed (whole 0 1000000) t above (codes "mu_ppm")
-  lambda_ppm ← needed (whole 0 1000000) t above (codes "lambda_ppm")
-  seed ← defaulted (whole 0 (2 ^ 63 - 1)) 0 t above (codes "seed")
-  award ← defaulted (whole 0 1000) 500 t above (codes "award")
+  mu_ppm ← needed (whole 0 PER_MILLION) t above (codes "mu_ppm")
+  lambda_ppm ← needed (whole 0 PER_MILLION) t above (codes "lambda_ppm")
+  seed ← defaulted (whole 0 MOST_SEED) 0 t above (codes "seed")
+  award ← defaulted (whole 0 MOST_AWARD) 500 t above (codes "award")
   strict ← defaulted truth false t above (codes "strict")
   double ← defaulted truth false t above (codes "double")
   Ok (record { mu_ppm = mu_ppm; lambda_ppm = lambda_ppm; seed = seed; award = award; strict = strict; double = double })
 
 unfoldable pub tables : Members → List ℕ → Result Tables Fault
 tables t above = do
-  missing ← defaulted (texts 50 rule.Mark) missing_marks t above (codes "missing")
-  titles ← defaulted (texts 200 rule.Word) name_titles t above (codes "titles")
-  suffixes ← defaulted (texts 200 rule.Word) name_suffixes t above (codes "suffixes")
+  missing ← defaulted (texts MOST_MARKS rule.Mark) missing_marks t above (codes "missing")
+  titles ← defaulted (texts MOST_LISTED_WORDS rule.Word) name_titles t above (codes "titles")
+  suffixes ← defaulted (texts MOST_LISTED_WORDS rule.Word) name_suffixes t above (codes "suffixes")
   names ← defaulted word_table [] t above (codes "names")
   places ← defaulted word_table [] t above (codes "places")
   Ok (record { missing = missing; titles = titles; suffixes = suffixes; names = names; places = places })

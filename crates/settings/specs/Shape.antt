@@ -1,7 +1,8 @@
--- The shape of a plan's comparison patterns.
+-- The shape of a plan's comparison patterns (`Plan::shape`, clause `rare`).
 use Rattle.std.specs.Prelude.{List, Bool, false, length, map, ◌++◌, ◌-◌, replicate, is_some}
+use Rattle.link_limits.specs.declared.TheConstants.{MOST_FIELDS}
 use Rattle.settings.specs.Plan.{FieldKeys}
 
--- which of six fields have a rare number; there are none past the last
+-- which fields have a rare number; none past the last has one
 abbrev pub rare_flags : List FieldKeys → List Bool
-rare_flags fields = map (λ (f : FieldKeys). is_some f.rare) fields ++ replicate (6 - length fields) false
+rare_flags fields = map (λ (f : FieldKeys). is_some f.rare) fields ++ replicate (MOST_FIELDS - length fields) false

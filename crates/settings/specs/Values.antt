@@ -1,4 +1,4 @@
--- Which texts are in range at a key.
+-- Which texts are in range at a key (`is_output` and `fits`, and `TextRule`, by the clause of `Reader::read`).
 use Rattle.std.specs.Prelude.{List, ℕ, Bool, not, codes, length, Result, ◌&&◌, ◌||◌, nat_le, ◌==◌}
 use Rattle.std.specs.List.{list_all}
 use Rattle.std.specs.Str.{bytes_eq}
@@ -6,6 +6,8 @@ use Rattle.toml.specs.Data.{Data, as_str}
 use Rattle.link_base.specs.declared.fault.Fault.{Fault}
 use Rattle.link_base.specs.Tables.{is_word}
 use Rattle.settings_readers.specs.Parts.{◌>>=◌, typed, in_range}
+use Rattle.link_limits.specs.declared.TheConstants.{MOST_NAME_BYTES}
+use Rattle.settings.specs.declared.limits.TheConstants.{MOST_FIELD_NAME_BYTES, MOST_LABEL_BYTES, MOST_MARK_BYTES}
 use Rattle.settings.specs.declared.texts.TextRule.{TextRule}
 use Rattle.settings.specs.declared.texts.TextRule.TheVariants as rule
 
@@ -21,11 +23,11 @@ abbrev pub is_name_byte : ℕ → Bool
 is_name_byte b = (nat_le 97 b && nat_le b 122) || (nat_le 48 b && nat_le b 57) || b == 95
 
 abbrev pub fits : TextRule → List ℕ → Bool
-fits rule.File s = has_len 1 255 s && not (is_output s)
-fits rule.Label s = has_len 1 255 s
-fits rule.Mark s = has_len 0 64 s
+fits rule.File s = has_len 1 MOST_NAME_BYTES s && not (is_output s)
+fits rule.Label s = has_len 1 MOST_LABEL_BYTES s
+fits rule.Mark s = has_len 0 MOST_MARK_BYTES s
 fits rule.Word s = is_word s
-fits rule.FieldName s = has_len 1 32 s && list_all is_name_byte s
+fits rule.FieldName s = has_len 1 MOST_FIELD_NAME_BYTES s && list_all is_name_byte s
 
 abbrev pub text : TextRule → List ℕ → Data → Result (List ℕ) Fault
 text rule at d = typed at (as_str d) >>= λ s. in_range at (fits rule s) s

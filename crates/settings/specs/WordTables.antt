@@ -1,4 +1,5 @@
--- Lists of texts, and tables from word to word.
+-- Lists of texts, and tables from word to word (`Texts` and `WordTable`, by the clause of `Reader::read`; `small_table`,
+-- clause `gives`).
 use Rattle.std.specs.Prelude.{List, ℕ, ◌+◌, ◌++◌, [], ◌∷◌, codes, Result, Ok, nat_le}
 use Rattle.toml.specs.Data.{Data, Members, no_members, member, as_table}
 use Rattle.link_base.specs.declared.fault.Fault.{Fault}
@@ -7,6 +8,7 @@ use Rattle.link_base.specs.Tables.{is_word}
 use Rattle.settings_readers.specs.Parts.{◌>>=◌, typed, in_range}
 use Rattle.settings_readers.specs.Lists.{array_of}
 use Rattle.settings.specs.Values.{text}
+use Rattle.settings.specs.declared.limits.TheConstants.{MOST_WORD_PAIRS}
 use Rattle.settings.specs.declared.texts.TextRule.{TextRule}
 use Rattle.settings.specs.declared.texts.TextRule.TheVariants as rule
 
@@ -28,8 +30,8 @@ members_len no_members = 0
 members_len (member k d ms) = 1 + members_len ms
 
 abbrev pub small_table : List ℕ → Data → Result Members Fault
-small_table at d = typed at (as_table d) >>= λ ms. in_range at (nat_le (members_len ms) 1000) ms
+small_table at d = typed at (as_table d) >>= λ ms. in_range at (nat_le (members_len ms) MOST_WORD_PAIRS) ms
 
--- a table of at most a thousand words
+-- a table of few enough words
 abbrev pub word_table : List ℕ → Data → Result (List WordPair) Fault
 word_table at d = small_table at d >>= λ ms. pairs (at ++ codes ".") ms []

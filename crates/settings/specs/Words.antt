@@ -1,4 +1,5 @@
--- The listed keys of each table, and the words that name choices.
+-- The listed keys of each table, and the words that name choices (the `Choices` of src/words.rt, by the clause of
+-- `Choices::named`).
 use Rattle.std.specs.Prelude.{List, ℕ, Bool, [], ◌∷◌, codes, Option}
 use Rattle.std.specs.List.{list_any}
 use Rattle.std.specs.Str.{bytes_eq}

@@ -13,6 +13,7 @@ use crate::shares::Shares;
 use crate::texts::TextRule;
 use crate::words::Kinds;
 use link_base::{Fault, FieldShares, Text};
+use link_limits::MOST_FIELDS;
 use settings_readers::{Choice, Items, Keys, Place, Reader, Row, Rows};
 use std::alloc::Global;
 use toml::Value;
@@ -136,7 +137,7 @@ impl Reader for Fields {
     fn read(&self, alloc: Global, place: &Place, value: &Value) -> Result<FieldList, Fault> {
         let rows = Items {
             low: 1,
-            high: 6,
+            high: usize::from(MOST_FIELDS),
             element: Rows(FieldTable {
                 sampled: self.sampled,
             }),

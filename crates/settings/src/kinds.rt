@@ -4,6 +4,7 @@ ghost use Rattle.toml.specs.View.{table_view};
 ghost use Rattle.link_base.specs.Fault.{IsAnswer};
 ghost use Rattle.settings.specs.Field.{date_sort, plain_sort, sort_of, by_letters, by_days, by_years, plain_compare, compare_by, may_be_rare, rare_of};
 
+use crate::limits::{LEAST_RARE, MOST_DAYS, MOST_RARE, MOST_YEARS};
 use crate::texts::Letters;
 use crate::words::{CompareWord, Forms, Kind};
 use link_base::{CompareKind, Fault, FieldSort};
@@ -54,7 +55,7 @@ fn by_days(alloc: Global, keys: &Keys) -> Result<CompareKind, Fault>
 {
     let most = Whole {
         low: 0,
-        high: 36_500,
+        high: MOST_DAYS,
     };
     keys.absent(alloc, "n")?;
     let days = keys.needed(alloc, &most, "t")?;
@@ -65,8 +66,12 @@ fn by_days(alloc: Global, keys: &Keys) -> Result<CompareKind, Fault>
 fn by_years(alloc: Global, keys: &Keys) -> Result<CompareKind, Fault>
     ensures { IsAnswer (by_years (table_view keys.now.table.now) keys.now.above.now) result }
 {
+    let most = Whole {
+        low: 0,
+        high: MOST_YEARS,
+    };
     keys.absent(alloc, "n")?;
-    let years = keys.needed(alloc, &Whole { low: 0, high: 100 }, "t")?;
+    let years = keys.needed(alloc, &most, "t")?;
     Ok(CompareKind::YearsWithin(years))
 }
 
@@ -117,8 +122,8 @@ pub(crate) fn rare_of(
 {
     if may_be_rare(compare) {
         let most = Whole {
-            low: 2,
-            high: 200_000,
+            low: LEAST_RARE,
+            high: MOST_RARE,
         };
         return keys.optional(alloc, &most, "rare");
     }

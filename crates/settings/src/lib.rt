@@ -3,6 +3,7 @@
 
 mod fields;
 mod kinds;
+mod limits;
 mod passes;
 mod plan;
 mod shares;

@@ -4,6 +4,7 @@ ghost use Rattle.toml.specs.View.{table_view};
 ghost use Rattle.link_base.specs.Fault.{IsAnswer};
 ghost use Rattle.settings.specs.Pass.{field_named, first_key, plain_key, key_by, part, parts, pass, passes};
 
+use crate::limits::{MOST_PARTS, MOST_PASSES};
 use crate::plan::FieldList;
 use crate::texts::Letters;
 use crate::words::{KeyWord, KeysOf};
@@ -114,7 +115,7 @@ impl Reader for Parts<'_> {
     fn read(&self, alloc: Global, place: &Place, value: &Value) -> Result<Pass, Fault> {
         let rows = Items {
             low: 1,
-            high: 4,
+            high: MOST_PARTS,
             element: Rows(PartTable {
                 fields: self.fields,
             }),
@@ -161,7 +162,7 @@ impl Reader for Passes<'_> {
     fn read(&self, alloc: Global, place: &Place, value: &Value) -> Result<PassList, Fault> {
         let rows = Items {
             low: 1,
-            high: 8,
+            high: MOST_PASSES,
             element: Rows(PassTable {
                 fields: self.fields,
             }),

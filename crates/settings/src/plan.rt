@@ -2,6 +2,7 @@
 ghost use Rattle.std.specs.Prelude.{◌≡◌, ◌≤◌, length, is_some, bytes_eq};
 
 use link_base::{CompareKind, FieldShares, FieldSort, PassList, Shape, Tables, Text};
+use link_limits::MOST_FIELDS;
 use std::marker::Model;
 
 /// What the settings say of a field. Contracts see the values of its keys, with plain shares. A rare
@@ -48,20 +49,21 @@ pub struct FieldList {
 
 impl Model for FieldList {
     ghost use Rattle.std.specs.Prelude.{List, length, ◌≤◌};
+    ghost use Rattle.link_limits.specs.declared.TheConstants.{MOST_FIELDS};
     ghost use Rattle.settings.specs.Plan.{FieldKeys};
 
     ghost Value = { List FieldKeys };
 
     ghost view = { λ f. f.fields.items };
 
-    ghost invariant = { λ f. (1 ≤ length f.fields.items) × (length f.fields.items ≤ 6) };
+    ghost invariant = { λ f. (1 ≤ length f.fields.items) × (length f.fields.items ≤ MOST_FIELDS) };
 }
 
 impl FieldList {
     /// The list of these fields.
     pub fn new(fields: Vec<FieldPlan>) -> FieldList
         requires some { 1 ≤ length fields.items }
-        requires few { length fields.items ≤ 6 }
+        requires few { length fields.items ≤ MOST_FIELDS }
         ensures { result ≡ fields.items }
     {
         FieldList { fields }
@@ -71,7 +73,7 @@ impl FieldList {
     pub fn fields(&self) -> &[FieldPlan]
         ensures all { result.now ≡ self.now }
         ensures some { 1 ≤ length result.now }
-        ensures few { length result.now ≤ 6 }
+        ensures few { length result.now ≤ MOST_FIELDS }
     {
         &self.fields
     }
@@ -109,7 +111,7 @@ impl Plan {
         ensures rare { result.rare ≡ rare_flags self.now.fields }
     {
         let fields = self.fields.fields();
-        let mut rare = [false; 6];
+        let mut rare = [false; MOST_FIELDS as usize];
         for (i, field) in fields.iter().enumerate() {
             rare[i] = field.has_rare_number();
         }

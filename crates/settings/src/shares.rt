@@ -5,6 +5,7 @@ ghost use Rattle.settings_readers.specs.Values.{magnitude};
 ghost use Rattle.settings.specs.Field.{wholes, share_at, shares_or_none, shares};
 
 use link_base::Fault;
+use link_limits::WHOLE_FIELD;
 use settings_readers::{Place, Reader};
 use std::alloc::Global;
 use toml::Value;
@@ -89,7 +90,7 @@ fn three_shares(agree: u64, disagree: u64, missing: u64) -> Option<[u16; 4]>
     ensures { result ≡ shares_or_none false (agree ∷ disagree ∷ missing ∷ []) }
 {
     let sum = u128::from(agree) + (u128::from(disagree) + u128::from(missing));
-    if 1 <= agree && 1 <= disagree && 1 <= missing && sum == 1024 {
+    if 1 <= agree && 1 <= disagree && 1 <= missing && sum == u128::from(WHOLE_FIELD) {
         Some([agree as u16, disagree as u16, missing as u16, 0])
     } else {
         None
@@ -101,7 +102,7 @@ fn four_shares(agree: u64, disagree: u64, missing: u64, often: u64) -> Option<[u
 {
     let sum = u128::from(agree)
         + (u128::from(disagree) + (u128::from(missing) + u128::from(often)));
-    if 1 <= agree && 1 <= disagree && 1 <= missing && 1 <= often && sum == 1024 {
+    if 1 <= agree && 1 <= disagree && 1 <= missing && 1 <= often && sum == u128::from(WHOLE_FIELD) {
         Some([agree as u16, disagree as u16, missing as u16, often as u16])
     } else {
         None

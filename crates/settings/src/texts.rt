@@ -1,5 +1,5 @@
 // Texts and numbers in their ranges.
-ghost use Rattle.std.specs.Prelude.{◌≡◌, ◌^◌, ◌-◌, IfOk, IsUtf8};
+ghost use Rattle.std.specs.Prelude.{◌≡◌, IfOk, IsUtf8};
 ghost use Rattle.std.specs.List.{list_all};
 ghost use Rattle.toml.specs.View.{view};
 ghost use Rattle.link_base.specs.Fault.{Gives};
@@ -8,7 +8,11 @@ ghost use Rattle.settings_readers.specs.Values.{whole};
 ghost use Rattle.settings.specs.declared.texts.TextRule.TheVariants as rule;
 ghost use Rattle.settings.specs.Values.{is_output, is_name_byte, fits, text};
 
+use crate::limits::{
+    MOST_FIELD_NAME_BYTES, MOST_LABEL_BYTES, MOST_LETTERS, MOST_MARK_BYTES, MOST_SEED,
+};
 use link_base::{Fault, NoMemory, Text};
+use link_limits::MOST_NAME_BYTES;
 use settings_readers::{Place, Reader, whole_number};
 use std::alloc::Global;
 use std::marker::Model;
@@ -70,11 +74,13 @@ pub(crate) fn fits(rule: TextRule, text: &str) -> bool
 {
     let len = text.len();
     match rule {
-        TextRule::File => 1 <= len && len <= 255 && !is_output(text),
-        TextRule::Label => 1 <= len && len <= 255,
-        TextRule::Mark => len <= 64,
+        TextRule::File => 1 <= len && len <= MOST_NAME_BYTES && !is_output(text),
+        TextRule::Label => 1 <= len && len <= MOST_LABEL_BYTES,
+        TextRule::Mark => len <= MOST_MARK_BYTES,
         TextRule::Word => 1 <= len && len <= 32 && has_word_bytes(text.as_bytes()),
-        TextRule::FieldName => 1 <= len && len <= 32 && has_name_bytes(text.as_bytes()),
+        TextRule::FieldName => {
+            1 <= len && len <= MOST_FIELD_NAME_BYTES && has_name_bytes(text.as_bytes())
+        }
     }
 }
 
@@ -168,32 +174,34 @@ impl Reader for File {
     }
 }
 
-/// How many first letters are taken, 1 to 20.
+/// How many first letters are taken, at least 1.
 #[derive(Drop)]
 pub(crate) struct Letters;
 
 impl Reader for Letters {
+    ghost use Rattle.settings.specs.declared.limits.TheConstants.{MOST_LETTERS};
+
     type Item = u8;
 
-    ghost gives = { λ _. whole 1 20 };
+    ghost gives = { λ _. whole 1 MOST_LETTERS };
 
     fn read(&self, alloc: Global, place: &Place, value: &Value) -> Result<u8, Fault> {
-        Ok(whole_number(alloc, 1, 20, place, value)? as u8)
+        Ok(whole_number(alloc, 1, u64::from(MOST_LETTERS), place, value)? as u8)
     }
 }
-
-const GREATEST_SEED: u64 = 9_223_372_036_854_775_807;
 
 /// The number that random words come from, 0 to 2^63 - 1.
 #[derive(Drop)]
 pub(crate) struct Seed;
 
 impl Reader for Seed {
+    ghost use Rattle.settings.specs.declared.limits.TheConstants.{MOST_SEED};
+
     type Item = u64;
 
-    ghost gives = { λ _. whole 0 (2 ^ 63 - 1) };
+    ghost gives = { λ _. whole 0 MOST_SEED };
 
     fn read(&self, alloc: Global, place: &Place, value: &Value) -> Result<u64, Fault> {
-        whole_number(alloc, 0, GREATEST_SEED, place, value)
+        whole_number(alloc, 0, MOST_SEED, place, value)
     }
 }

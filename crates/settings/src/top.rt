@@ -9,12 +9,14 @@ ghost use Rattle.settings.specs.Settings.{is_free, journal_of, sources, numbers,
 ghost use Rattle.settings.specs.Ranges.{IsSettingsFault, KeepsRanges, NamesFiles};
 
 use crate::fields::Fields;
+use crate::limits::{MOST_AWARD, MOST_LISTED_WORDS, MOST_MARKS};
 use crate::passes::Passes;
 use crate::plan::Plan;
 use crate::texts::{File, FileName, Seed, TextRule};
 use crate::word_tables::{Texts, WordTable};
 use crate::words::Delimiters;
 use link_base::{Fault, Tables, Text};
+use link_limits::PER_MILLION;
 use settings_readers::{Choice, Keys, Place, Truth, Whole};
 use std::alloc::Global;
 
@@ -145,9 +147,12 @@ fn numbers(alloc: Global, keys: &Keys) -> Result<NumberKeys, Fault>
 {
     let level = Whole {
         low: 0,
-        high: 1_000_000,
+        high: PER_MILLION,
     };
-    let points = Whole { low: 0, high: 1000 };
+    let points = Whole {
+        low: 0,
+        high: MOST_AWARD,
+    };
     let mu_ppm = keys.needed(alloc, &level, "mu_ppm")?;
     let lambda_ppm = keys.needed(alloc, &level, "lambda_ppm")?;
     let seed = keys.defaulted(alloc, &Seed, 0, "seed")?;
@@ -171,11 +176,11 @@ fn tables(alloc: Global, keys: &Keys) -> Result<Tables, Fault>
     ensures places { IfOk result (λ tables. AreWordPairs tables.places) }
 {
     let marks = Texts {
-        most: 50,
+        most: MOST_MARKS,
         rule: TextRule::Mark,
     };
     let words = Texts {
-        most: 200,
+        most: MOST_LISTED_WORDS,
         rule: TextRule::Word,
     };
     let standard = Tables::standard(alloc)?;

@@ -6,6 +6,7 @@ ghost use Rattle.settings_readers.specs.Laws.{keys_ascend};
 ghost use Rattle.settings.specs.Values.{text};
 ghost use Rattle.settings.specs.WordTables.{texts, word_pair, pairs, small_table, word_table};
 
+use crate::limits::MOST_WORD_PAIRS;
 use crate::texts::{TextRule, fits};
 use link_base::{Fault, Text, TextList, WordPair, WordPairs};
 use settings_readers::{Element, Items, Place, Reader};
@@ -76,8 +77,6 @@ fn pairs(alloc: Global, table: &Table, above: &[u8]) -> Result<Vec<WordPair>, Fa
     Ok(before)
 }
 
-const MOST_WORDS: usize = 1000;
-
 fn small_table<'a>(alloc: Global, place: &Place, value: &'a Value) -> Result<&'a Table, Fault>
     ensures gives { Gives (λ t. table_view t.now) (small_table place.now (view value.now)) result }
     ensures ascending { IfOk result (λ t. keys_ascend (table_view t.now) ≡ true) }
@@ -87,7 +86,7 @@ fn small_table<'a>(alloc: Global, place: &Place, value: &'a Value) -> Result<&'a
             key: place.text(alloc)?,
         }),
         Some(table) => {
-            if MOST_WORDS < table.len() {
+            if MOST_WORD_PAIRS < table.len() {
                 return Err(Fault::OutOfRange {
                     key: place.text(alloc)?,
                 });
@@ -97,7 +96,7 @@ fn small_table<'a>(alloc: Global, place: &Place, value: &'a Value) -> Result<&'a
     }
 }
 
-/// A table of at most a thousand words.
+/// A table of at most `MOST_WORD_PAIRS` words.
 #[derive(Drop)]
 pub(crate) struct WordTable;
 

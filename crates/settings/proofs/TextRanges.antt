@@ -1,0 +1,58 @@
+-- A text that was read is in its range.
+use Rattle.std.proofs.Common.{◌≡◌, ℕ, ◌≤◌, List, length, true, not}
+use Rattle.std.specs.Prelude.{nat_le}
+use Rattle.std.specs.List.{list_all}
+use Rattle.std.proofs.Common.{arith}
+use Rattle.std.proofs.lemmas.Bool.{and_parts, leb-true, not-true}
+use Rattle.std.proofs.lemmas.List.Sums.{AllPass-from_list_all}
+use Rattle.toml.specs.Data.{as_str}
+use Rattle.link_limits.specs.declared.TheConstants.{MOST_NAME_BYTES}
+use Rattle.settings_readers.specs.Parts.{typed}
+use Rattle.settings_readers.proofs.Kept.{in_range_ok, Reads, then_ok}
+use Rattle.settings.specs.Ranges.{IsFieldName, IsFileName, IsLabel}
+use Rattle.settings.specs.Values.{fits, has_len, is_name_byte, is_output, text}
+use Rattle.settings.specs.declared.limits.TheConstants.{MOST_FIELD_NAME_BYTES, MOST_LABEL_BYTES, MOST_MARK_BYTES}
+use Rattle.settings.specs.declared.texts.TextRule.{TextRule}
+use Rattle.settings.specs.declared.texts.TextRule.TheVariants as rule
+
+-- a text is in the range of a rule
+abbrev pub Fits : TextRule → List ℕ → Type 0
+Fits rule s = fits rule s ≡ true
+
+pub text_keeps : (rule : TextRule) → Reads (text rule) (Fits rule)
+text_keeps rule at d x e =
+    let s = then_ok (typed at (as_str d)) _ x e in
+    let r = in_range_ok at (fits rule s.0) s.0 x s.2 in
+    rw (← r.1) r.0
+
+len_is : (low high : ℕ) (s : List ℕ) → has_len low high s ≡ true → (low ≤ length s) × (length s ≤ high)
+len_is low high s h =
+    let (least, most) = and_parts (nat_le low (length s)) (nat_le (length s) high) h in
+    (leb-true low (length s) least, leb-true (length s) high most)
+
+as_file : (s : List ℕ) → Fits rule.File s → IsFileName s
+as_file s h =
+    let (long, other) = and_parts (has_len 1 MOST_NAME_BYTES s) (not (is_output s)) h in
+    let len = len_is 1 MOST_NAME_BYTES s long in
+    record { some = len.0; short = len.1; no_output = not-true (is_output s) other }
+
+pub file_keeps : Reads (text rule.File) IsFileName
+file_keeps at d x e = as_file x (text_keeps rule.File at d x e)
+
+pub label_keeps : Reads (text rule.Label) IsLabel
+label_keeps at d x e =
+    let len = len_is 1 MOST_LABEL_BYTES x (text_keeps rule.Label at d x e) in
+    record { some = len.0; short = len.1 }
+
+pub as_mark : (s : List ℕ) → Fits rule.Mark s → length s ≤ MOST_MARK_BYTES
+as_mark s h = (len_is 0 MOST_MARK_BYTES s h).1
+
+pub name_keeps : Reads (text rule.FieldName) IsFieldName
+name_keeps at d x e =
+    let (long, bytes) = and_parts (has_len 1 MOST_FIELD_NAME_BYTES x) (list_all is_name_byte x) (text_keeps rule.FieldName at d x e) in
+    let len = len_is 1 MOST_FIELD_NAME_BYTES x long in
+    record { some = len.0; short = len.1; bytes = AllPass-from_list_all is_name_byte x bytes }
+
+-- the name of a field can be that of a column
+pub name_as_label : (s : List ℕ) → IsFieldName s → IsLabel s
+name_as_label s h = record { some = h.some; short = omega (arith, h.short) }
