@@ -1,5 +1,6 @@
 pub mod FieldFacts
 pub mod IdFacts
+pub mod LeastFaulty
 pub mod ReadFacts
 pub mod RowFacts
 pub mod TextFacts

@@ -6,7 +6,8 @@ use Rattle.link_base.specs.declared.fault.Fault.{Fault}
 use Rattle.link_base.specs.declared.fault.Fault.TheVariants as fault
 use Rattle.file_reader.specs.Layout.{Heading}
 use Rattle.file_reader.specs.Rows.{ids_of, known_ids, TableRow}
-use Rattle.file_reader.specs.Table.{ids_after, row_fault, rows_read, taken, TakesRow}
+use Rattle.file_reader.specs.Steps.{ids_after, TakesRow}
+use Rattle.file_reader.specs.Table.{row_fault, rows_read, taken}
 
 abbrev Records : Type 0
 Records = List (List (List ℕ))

@@ -14,6 +14,7 @@ use Rattle.link_base.specs.Fault.{IsAnswer, or_else}
 use Rattle.link_base.specs.declared.fault.Fault.{Fault}
 use Rattle.link_base.specs.declared.fault.Fault.TheVariants as fault
 use Rattle.link_base.specs.declared.fault.FileRole.{FileRole}
+use Rattle.link_limits.specs.declared.TheConstants.{MOST_FIELD_BYTES}
 use Rattle.file_reader.specs.Layout.{cell, cells_of, Heading, heading_under, needed_of, Wanted}
 use Rattle.file_reader.specs.Rows.{ids_of, known_ids, row_of_cells, TableRow}
 use Rattle.file_reader.specs.Table.{fault_by, fields_fault, HasDistinctIds, HasTexts, header_fault, id_fault, IsFieldText, IsTextRow, key_fault, row_fault, rows_read, table_of, taken, text_fault, unless_fault}
@@ -53,7 +54,7 @@ if_true_none : (b : Bool) (o : Option Fault) → IsTrue b → cond b o None ≡ 
 if_true_none true o h e = e
 if_true_none false o h e = cc h
 
-is_text : (row : List (List ℕ)) (c : Column) → not (is_utf8 (cell row c)) ≡ false → nat_lt 255 (length (cell row c)) ≡ false → IsFieldText (cell row c)
+is_text : (row : List (List ℕ)) (c : Column) → not (is_utf8 (cell row c)) ≡ false → nat_lt MOST_FIELD_BYTES (length (cell row c)) ≡ false → IsFieldText (cell row c)
 is_text row c utf8 short =
     record { utf8 = IsUtf8-from_is_utf8 (cell row c) (not_false (is_utf8 (cell row c)) utf8); short = grind (arith, nat_tests, short) }
   where
@@ -63,9 +64,9 @@ is_text row c utf8 short =
 
 cells_text : (heading : Heading) (number : ℕ) (row : List (List ℕ)) → text_fault heading number row ≡ None → All IsFieldText (cells_of heading.columns row)
 cells_text heading number row e =
-    let tests = both_none (fault_by (λ (c : Column). fault.NotUtf8 heading.role number c.name) (find (λ (c : Column). not (is_utf8 (cell row c))) heading.columns)) (fault_by (λ (c : Column). fault.FieldTooLong heading.role number c.name) (find (λ (c : Column). nat_lt 255 (length (cell row c))) heading.columns)) e in
+    let tests = both_none (fault_by (λ (c : Column). fault.NotUtf8 heading.role number c.name) (find (λ (c : Column). not (is_utf8 (cell row c))) heading.columns)) (fault_by (λ (c : Column). fault.FieldTooLong heading.role number c.name) (find (λ (c : Column). nat_lt MOST_FIELD_BYTES (length (cell row c))) heading.columns)) e in
     let utf8 = find_none (λ (c : Column). not (is_utf8 (cell row c))) heading.columns (by_none (λ (c : Column). fault.NotUtf8 heading.role number c.name) _ tests.first) in
-    let short = find_none (λ (c : Column). nat_lt 255 (length (cell row c))) heading.columns (by_none (λ (c : Column). fault.FieldTooLong heading.role number c.name) _ tests.second) in
+    let short = find_none (λ (c : Column). nat_lt MOST_FIELD_BYTES (length (cell row c))) heading.columns (by_none (λ (c : Column). fault.FieldTooLong heading.role number c.name) _ tests.second) in
     All-map IsFieldText (cell row) heading.columns (λ k d h. is_text row (get_or heading.columns k d) (utf8 k d h) (short k d h))
 
 no_text : IsFieldText []

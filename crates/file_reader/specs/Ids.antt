@@ -1,4 +1,4 @@
--- The texts of the keys of a set.
+-- The texts of the keys of a set, as which `Ids` is seen.
 use Rattle.std.specs.Prelude.{ℕ, List, map}
 use Rattle.std.specs.declared.alloc.Global.{Global}
 use Rattle.std.specs.declared.vec.Vec.{Vec}

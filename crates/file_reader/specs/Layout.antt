@@ -1,4 +1,5 @@
--- What is wanted of a file, and where its needed columns stand under a header.
+-- What is wanted of a file, and where its needed columns stand under a header (`read_table`, clause `answer`, takes
+-- `wanted_of`; `find_columns` finds the places).
 use Rattle.std.specs.Prelude.{◌++◌, ℕ, List, map, length, count_by, bytes_eq, slice_index_or, [], Bool, is_some, Option, option_to_list}
 use Rattle.std.specs.List.{position_or_len}
 use Rattle.link_base.specs.declared.fault.FileRole.{FileRole}

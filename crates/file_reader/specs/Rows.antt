@@ -1,4 +1,4 @@
--- The rows of a table, and their cells side by side.
+-- The rows of a table, and their cells side by side: what `Table` is seen as (`Table::id` and `Table::field`).
 use Rattle.std.specs.Prelude.{ℕ, zero, suc, Bool, true, false, List, [], ◌∷◌, map, take, drop, if◌then◌else◌}
 
 -- a row of a table: its id, if the file has one, and its other needed fields

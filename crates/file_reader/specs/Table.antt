@@ -1,10 +1,12 @@
--- The table of a file, or its first fault.
-use Rattle.std.specs.Prelude.{◌≡◌, ◌≢◌, ◌≤◌, ◌+◌, ℕ, List, [], ◌∷◌, ◌++◌, All, AllPairs, IsTrue, length, find, min, position, Bool, ◌==◌, not, nat_lt, bytes_eq, if◌then◌else◌, Option, Some, None, Result, Ok, Err, ⊤, is_some}
+-- The table of a file, or its first fault (`read_table`, clause `answer`; what every table keeps: `width`, `texts` and
+-- `distinct`).
+use Rattle.std.specs.Prelude.{◌≡◌, ◌≢◌, ◌≤◌, ◌+◌, ℕ, List, [], ◌∷◌, ◌++◌, All, AllPairs, IsTrue, length, find, min, position, ◌==◌, not, nat_lt, bytes_eq, if◌then◌else◌, Option, Some, None, Result, Ok, Err, ⊤, is_some}
 use Rattle.std.specs.Str.{is_utf8, IsUtf8}
 use Rattle.link_base.specs.Fault.{or_else}
 use Rattle.link_base.specs.declared.fault.Fault.{Fault}
 use Rattle.link_base.specs.declared.fault.Fault.TheVariants as fault
 use Rattle.link_base.specs.declared.fault.FileRole.{FileRole}
+use Rattle.link_limits.specs.declared.TheConstants.{MOST_COLUMNS, MOST_FIELD_BYTES}
 use Rattle.file_reader.specs.Layout.{cell, cells_of, count_in, Heading, heading_under, needed_of, Wanted}
 use Rattle.file_reader.specs.Rows.{known_ids, row_of_cells, TableRow}
 use Rattle.file_reader.specs.declared.layout.Column.{Column}
@@ -19,13 +21,13 @@ abbrev pub header_fault : FileRole → List (List ℕ) → List (List ℕ) → O
 header_fault role names header =
     or_else (fault_by (fault.RepeatedColumn role) (find (λ name. nat_lt 1 (count_in header name)) names))
     (or_else (fault_by (fault.NoColumn role) (find (λ name. count_in header name == 0) names))
-    (if nat_lt 64 (length header) then Some (fault.TooManyColumns role (min (length header) 4294967295) 64) else None))
+    (if nat_lt MOST_COLUMNS (length header) then Some (fault.TooManyColumns role (min (length header) 4294967295) MOST_COLUMNS) else None))
 
 -- the first needed field at fault: one that is no text, one that is too long
 abbrev pub text_fault : Heading → ℕ → List (List ℕ) → Option Fault
 text_fault heading number row =
     or_else (fault_by (λ (c : Column). fault.NotUtf8 heading.role number c.name) (find (λ c. not (is_utf8 (cell row c))) heading.columns))
-    (fault_by (λ (c : Column). fault.FieldTooLong heading.role number c.name) (find (λ c. nat_lt 255 (length (cell row c))) heading.columns))
+    (fault_by (λ (c : Column). fault.FieldTooLong heading.role number c.name) (find (λ c. nat_lt MOST_FIELD_BYTES (length (cell row c))) heading.columns))
 
 -- the fault of an id after these ids: it is empty, or an earlier row has it
 abbrev pub id_fault : FileRole → ℕ → List ℕ → List (List ℕ) → Option Fault
@@ -80,34 +82,14 @@ Tests expected (Ok x) = expected ≡ None
 Tests expected (Err fault.NoMemory) = ⊤
 Tests expected (Err f) = expected ≡ Some f
 
--- the ids after a row's
-abbrev pub ids_after : Bool → List (List ℕ) → List ℕ → List (List ℕ)
-ids_after has_id ids id = if has_id then ids ++ id ∷ [] else ids
-
--- an id that is new is kept, and the place of one that is held is found
-abbrev pub Keeps : List ℕ → List (List ℕ) → List (List ℕ) → Option ℕ → Type 0
-Keeps id old new found = (found ≡ position (bytes_eq id) old) × (new ≡ (if is_some found then old else old ++ id ∷ []))
-
--- an id is kept, or it has the fault that is defined
-abbrev pub KeepsId : {T : Type 0} → Option Fault → List ℕ → List (List ℕ) → List (List ℕ) → Result T Fault → Type 0
-KeepsId expected id old new (Ok x) = (expected ≡ None) × (new ≡ old ++ id ∷ [])
-KeepsId expected id old new (Err fault.NoMemory) = ⊤
-KeepsId expected id old new (Err f) = expected ≡ Some f
-
--- a row is taken and its id is kept, or it has the fault that is defined
-abbrev pub TakesRow : {T : Type 0} → Option Fault → Heading → List (List ℕ) → List (List ℕ) → List (List ℕ) → Result T Fault → Type 0
-TakesRow expected heading row old new (Ok x) = (expected ≡ None) × (new ≡ ids_after heading.has_id old (taken heading row).id)
-TakesRow expected heading row old new (Err fault.NoMemory) = ⊤
-TakesRow expected heading row old new (Err f) = expected ≡ Some f
-
 -- each row has as many fields as columns are wanted beside the id
 abbrev pub HasWidth : Wanted → List TableRow → Type 0
 HasWidth wanted table = All (λ (r : TableRow). length r.fields ≡ length wanted.columns) table
 
--- a text in UTF-8 of at most 255 bytes
+-- a text in UTF-8 that is not too long
 pub record IsFieldText (text : List ℕ) : Type 0 where
   pub utf8 : IsUtf8 text
-  pub short : length text ≤ 255
+  pub short : length text ≤ MOST_FIELD_BYTES
 
 -- a row of such texts
 pub record IsTextRow (row : TableRow) : Type 0 where

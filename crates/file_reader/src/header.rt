@@ -10,10 +10,8 @@ use crate::fields::{count_of, place_of};
 use crate::layout::{Column, Layout};
 use csv::ByteRecord;
 use link_base::{Fault, FileRole, NoMemory, Text};
+use link_limits::MOST_COLUMNS;
 use std::alloc::Global;
-
-/// The most columns that a header may have.
-const MOST_COLUMNS: usize = 64;
 
 // The names of the needed columns, the id first.
 pub(crate) fn needed_names(alloc: Global, layout: &Layout) -> Result<Vec<Text>, NoMemory>
@@ -59,12 +57,12 @@ pub(crate) fn test_header(
         let column = name.copy(alloc)?;
         return Err(Fault::NoColumn { role, column });
     }
-    if row.len() > MOST_COLUMNS {
+    if row.len() > MOST_COLUMNS as usize {
         let count = row.len().min(u32::MAX as usize) as u32;
         return Err(Fault::TooManyColumns {
             role,
             count,
-            limit: MOST_COLUMNS as u64,
+            limit: u64::from(MOST_COLUMNS),
         });
     }
     Ok(())

@@ -1,6 +1,6 @@
 // Distinct ids with their places.
 ghost use Rattle.std.specs.Prelude.{◌≡◌, ◌<◌, [], length, IfOk, IfSome, OnErr};
-ghost use Rattle.file_reader.specs.Table.{Keeps};
+ghost use Rattle.file_reader.specs.Steps.{Keeps};
 
 use indexmap::IndexSet;
 use link_base::NoMemory;
@@ -43,7 +43,7 @@ impl Ids {
         let key = Vec::from_slice(alloc, id)?;
         match self.ids.insert(key) {
             Ok(_) => return Ok(None),
-            Err(_) => return Err(NoMemory),
+            Err(failed) => return Err(NoMemory::from(failed)),
         }
     }
 }

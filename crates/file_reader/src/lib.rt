@@ -4,10 +4,15 @@
 mod fields;
 mod header;
 mod ids;
+mod laws;
 mod layout;
 mod rows;
 mod table;
 
+pub use laws::{first_fault, whole_table};
 pub use layout::Layout;
 pub use rows::read_table;
 pub use table::Table;
+
+#[cfg(test)]
+mod tests;

@@ -6,7 +6,8 @@ ghost use Rattle.csv.specs.Records.{fields_of};
 ghost use Rattle.csv_records.specs.Left.{records_in};
 ghost use Rattle.link_base.specs.Fault.{IsAnswer, IsInputFault};
 ghost use Rattle.file_reader.specs.Layout.{cell, cells_of, heading_of, wanted_of};
-ghost use Rattle.file_reader.specs.Table.{HasDistinctIds, HasTexts, HasWidth, id_fault, KeepsId, row_fault, rows_read, table_of, taken, TakesRow, Tests, text_fault, under_header};
+ghost use Rattle.file_reader.specs.Steps.{KeepsId, TakesRow};
+ghost use Rattle.file_reader.specs.Table.{HasDistinctIds, HasTexts, HasWidth, id_fault, row_fault, rows_read, table_of, taken, Tests, text_fault, under_header};
 
 use crate::fields::{field_of, is_text};
 use crate::header::{find_columns, needed_names, test_header};
@@ -16,11 +17,9 @@ use crate::table::Table;
 use csv::ByteRecord;
 use csv_records::Records;
 use link_base::{Fault, FileRole, NoMemory};
+use link_limits::MOST_FIELD_BYTES;
 use std::alloc::Global;
 use text_region::TextRegion;
-
-/// The most bytes of a needed field.
-const MOST_BYTES: usize = 255;
 
 fn first_not_text<'c>(columns: &'c [Column], row: &ByteRecord) -> Option<&'c Column>
     ensures { option_copied result ≡ find (λ c. not (is_utf8 (cell (fields_of row.now) c))) columns.now }
@@ -31,11 +30,9 @@ fn first_not_text<'c>(columns: &'c [Column], row: &ByteRecord) -> Option<&'c Col
 }
 
 fn first_long<'c>(columns: &'c [Column], row: &ByteRecord) -> Option<&'c Column>
-    ensures { option_copied result ≡ find (λ c. nat_lt 255 (length (cell (fields_of row.now) c))) columns.now }
+    ensures { option_copied result ≡ find (λ c. nat_lt MOST_FIELD_BYTES (length (cell (fields_of row.now) c))) columns.now }
 {
-    columns
-        .iter()
-        .find(|column| field_of(row, column.place).len() > MOST_BYTES)
+    columns.iter().find(|column| field_of(row, column.place).len() > MOST_FIELD_BYTES)
 }
 
 // Tests the needed fields of a row.

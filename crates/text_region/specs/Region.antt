@@ -1,4 +1,4 @@
--- Texts side by side in a region of bytes.
+-- Texts side by side in a region of bytes: as which `TextRegion` is seen (`push`, clause `ok`, and `get`).
 use Rattle.std.specs.Prelude.{◌≡◌, ◌≤◌, ℕ, zero, suc, List, [], ◌∷◌, slice_index, slice_range}
 
 -- the texts that end at these places, of which the first begins at `start`

@@ -8,6 +8,9 @@ use link_base::NoMemory;
 use std::alloc::Global;
 use std::marker::Model;
 
+#[cfg(test)]
+mod tests;
+
 /// Texts in one region of bytes, which contracts see as the list of them. No text has memory of its own.
 #[derive(Debug, Drop)]
 pub struct TextRegion {

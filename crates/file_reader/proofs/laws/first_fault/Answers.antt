@@ -1,0 +1,5 @@
+use Rattle.file_reader.proofs.LeastFaulty.{fault_is_first}
+use Rattle.file_reader.proofs.laws.first_fault.Goals as goal
+
+pub returns : goal.returns
+returns c = fault_is_first

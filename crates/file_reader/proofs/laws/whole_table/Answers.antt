@@ -1,0 +1,5 @@
+use Rattle.file_reader.proofs.LeastFaulty.{table_is_whole}
+use Rattle.file_reader.proofs.laws.whole_table.Goals as goal
+
+pub returns : goal.returns
+returns c = table_is_whole
