@@ -1,4 +1,4 @@
--- What a text is as a date.
+-- What a text is as a date (`std_date`, clauses `read` and `valid`).
 use Rattle.std.specs.Prelude.{ℕ, List, Option, Some, None, ℤ, if◌then◌else◌, ⊤}
 use Rattle.std.specs.Str.{trim}
 use Rattle.link_base.specs.Standard.{IsDay}

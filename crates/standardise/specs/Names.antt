@@ -1,4 +1,4 @@
--- The standard values of names and places: the steps in turn.
+-- The standard values of names and places: the steps in turn (`std_name` and `std_place`, clause `value`).
 use Rattle.std.specs.Prelude.{ℕ, List, [], ◌∷◌, if◌then◌else◌, map, chars, encode_utf8_all}
 use Rattle.std.specs.Str.{trim}
 use Rattle.unicode_normalization.specs.Forms.{nfd}

@@ -1,4 +1,4 @@
--- What standard values go by, and what stands in it.
+-- What standard values go by, and what stands in it: as which `NameTables` and `PlaceTables` are seen (their `new`).
 use Rattle.std.specs.Prelude.{ℕ, List, [], ◌∷◌, Bool, Option, Some, None, if◌then◌else◌, bytes_eq}
 use Rattle.std.specs.List.{list_any}
 use Rattle.std.specs.Ordering.{nat_cmp}

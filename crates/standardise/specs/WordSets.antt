@@ -1,4 +1,4 @@
--- Texts that are found by an ordered search.
+-- How a `WordSet` holds its texts for an ordered search (`in_order` and `longest_of`).
 use Rattle.std.specs.Prelude.{ℕ, List, ◌≤◌, All, length}
 use Rattle.std.specs.Ordering.{ordering_index}
 use Rattle.std.specs.List.Sorted.{IsNonDecreasingBy, IsPermutation}

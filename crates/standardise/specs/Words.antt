@@ -1,4 +1,5 @@
--- The words of a text.
+-- The words of a text, which titles are dropped from and words are replaced in (`NameTables::untitled`, clause `words`;
+-- `in_place`, clause `value`).
 use Rattle.std.specs.Prelude.{ℕ, List, [], ◌∷◌, ◌++◌, ◌==◌, if◌then◌else◌, reverse, unwrap_or}
 use Rattle.link_base.specs.declared.tables.WordPair.{WordPair}
 use Rattle.standardise.specs.Tables.{contains_text, word_for}
