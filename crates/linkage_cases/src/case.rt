@@ -1,0 +1,94 @@
+// Worked cases as a case file writes them.
+use serde::Deserialize;
+
+/// A list of cases.
+#[derive(Drop, Deserialize)]
+#[serde(deny_unknown_fields)]
+pub(crate) struct CaseFile {
+    pub(crate) case: Vec<Case>,
+}
+
+/// Files, and commands that are run over them one after the other.
+#[derive(Drop, Deserialize)]
+#[serde(deny_unknown_fields)]
+pub(crate) struct Case {
+    /// What the case shows.
+    pub(crate) name: String,
+    #[serde(default)]
+    pub(crate) file: Vec<Change>,
+    pub(crate) run: Vec<Run>,
+}
+
+/// What a file comes to hold before a command: the pieces in turn, or what it holds where there are none, with texts
+/// replaced. Without a `name` of its own a file that is taken `from` the folder keeps its name.
+#[derive(Drop, Deserialize)]
+#[serde(deny_unknown_fields)]
+pub(crate) struct Change {
+    pub(crate) name: String,
+    /// The name of a file beside the case file, whose bytes come first.
+    #[serde(default)]
+    pub(crate) from: Option<String>,
+    /// A text, which comes next.
+    #[serde(default)]
+    pub(crate) text: Option<String>,
+    /// Texts that are repeated, which come last.
+    #[serde(default)]
+    pub(crate) piece: Vec<Piece>,
+    /// Texts that are then replaced, each where it first stands.
+    #[serde(default)]
+    pub(crate) replace: Vec<Replacement>,
+    /// How many bytes are kept, from the front.
+    #[serde(default)]
+    pub(crate) cut: Option<u32>,
+    /// Whether the file is no longer held.
+    #[serde(default)]
+    pub(crate) missing: bool,
+}
+
+/// A text so many times, once where nothing is said. `{n}` in it stands for the number of the time, from 1.
+#[derive(Drop, Deserialize)]
+#[serde(deny_unknown_fields)]
+pub(crate) struct Piece {
+    #[serde(default)]
+    pub(crate) text: String,
+    /// Bytes in place of a text.
+    #[serde(default)]
+    pub(crate) bytes: Vec<u8>,
+    #[serde(default)]
+    pub(crate) times: Option<u32>,
+}
+
+/// A text, and what stands in its place.
+#[derive(Drop, Deserialize)]
+#[serde(deny_unknown_fields)]
+pub(crate) struct Replacement {
+    pub(crate) old: String,
+    pub(crate) new: String,
+}
+
+/// A command: its words, what files come to hold before it, and which calls fail.
+#[derive(Drop, Deserialize)]
+#[serde(deny_unknown_fields)]
+pub(crate) struct Run {
+    pub(crate) words: Vec<String>,
+    #[serde(default)]
+    pub(crate) file: Vec<Change>,
+    /// The calls of the store that fail.
+    #[serde(default)]
+    pub(crate) fails: Vec<Fail>,
+    /// The calls of standard output that fail.
+    #[serde(default)]
+    pub(crate) out_fails: Vec<u32>,
+    /// The calls of standard error that fail.
+    #[serde(default)]
+    pub(crate) err_fails: Vec<u32>,
+}
+
+/// A call of the store, from 1, loads and puts counted together; `applied` where a failing put has written its bytes.
+#[derive(Drop, Deserialize)]
+#[serde(deny_unknown_fields)]
+pub(crate) struct Fail {
+    pub(crate) call: u32,
+    #[serde(default)]
+    pub(crate) applied: bool,
+}

@@ -1,0 +1,54 @@
+// What a command wrote, as it is shown.
+use crate::files::{Files, Named};
+use link_outside::MemoryStore;
+use std::io;
+use std::io::Write;
+
+/// The longest text that is shown whole, in bytes.
+const LONGEST: usize = 4_096;
+
+/// How many bytes of a longer text are shown at its front and at its end.
+const SHOWN: usize = 64;
+
+/// Shows a text: whole, or its front, its end and its size.
+pub(crate) fn show_text<R: Print>(rt: &R, bytes: &[u8]) -> anyhow::Result<()> {
+    let mut out = io::writer(rt);
+    if bytes.len() <= LONGEST {
+        out.write_all(bytes)?;
+        return Ok(());
+    }
+    out.write_all(bytes.get(..SHOWN).unwrap_or_default())?;
+    let lines = bytes.iter().filter(|byte| **byte == b'\n').count();
+    println!(rt; "..")?;
+    println!(rt; ".. {} bytes in {lines} lines, which end:", bytes.len())?;
+    out.write_all(
+        bytes
+            .get(bytes.len().saturating_sub(SHOWN)..)
+            .unwrap_or_default(),
+    )?;
+    Ok(())
+}
+
+// Shows what a name holds, where it is not what it held.
+fn show_change<R: Print>(rt: &R, named: &Named, held: Option<&[u8]>) -> anyhow::Result<()> {
+    if held == named.bytes.as_deref() {
+        return Ok(());
+    }
+    println!(rt; "-- {}", named.name)?;
+    match held {
+        Some(bytes) => show_text(rt, bytes),
+        None => Ok(()),
+    }
+}
+
+/// Shows each file that a command changed.
+pub(crate) fn show_changes<R: Print>(
+    rt: &R,
+    files: &Files,
+    store: &MemoryStore,
+) -> anyhow::Result<()> {
+    for named in &files.all {
+        show_change(rt, named, store.held(&named.name))?;
+    }
+    Ok(())
+}
