@@ -1,6 +1,6 @@
-use Rattle.std.proofs.Common.{◌≡◌, ℕ, ℤ, zero, suc, ◌+◌, ◌*◌, ◌/◌, ◌%◌, ◌^◌, ◌<◌, ◌≤◌, List, [], ◌∷◌, length, refl, ap, arith, sym, ◌∙◌, get_or, drop, drop-cons, map}
+use Rattle.std.proofs.Common.{◌≡◌, ℕ, ℤ, zero, suc, ◌+◌, ◌*◌, ◌/◌, ◌%◌, ◌^◌, ◌<◌, ◌≤◌, List, [], ◌∷◌, length, refl, ap, arith, sym, ◌∙◌, get_or, drop, map}
 use Rattle.std.specs.Prelude.{◌+ℤ◌}
-use Rattle.std.proofs.Math.Nat.{mul-le-mul_left, mul-div_cancel_left, pow-le-pow_right}
+use Rattle.std.proofs.Math.Nat.{mul-div_cancel_left, pow-le-pow_right}
 use Rattle.std.proofs.lemmas.Int.{ints}
 use Rattle.std.proofs.lemmas.Nat.{div_below}
 use Rattle.pattern_shapes.specs.Weight.{eighth_weight_of}
@@ -12,13 +12,7 @@ use Rattle.std.proofs.lemmas.List.FromFn.{fill_by_all}
 use Rattle.decision_rule.specs.Filled.{chances_of, chances_at}
 use Rattle.link_base.specs.declared.rule.RuleCell.{RuleCell}
 use Rattle.link_base.specs.Rule.{empty_cell}
-use Rattle.pattern_shapes.proofs.PatternLemmas.{pattern_count_pos, pattern_count_small, base_some, product_small, share_bounds}
-
-pub drop_step : (shares : List FieldShares) (i : ℕ) (field : FieldShares) → i < length shares → field ≡ get_or shares i field → drop i shares ≡ field ∷ drop (i + 1) shares
-drop_step shares i field lt e =
-    let d : drop i shares ≡ get_or shares i field ∷ drop (suc i) shares = drop-cons shares i field lt in
-    let one : suc i ≡ i + 1 = omega arith in
-    d ∙ ap (λ f. f ∷ drop (suc i) shares) (sym e) ∙ ap (λ n. field ∷ drop n shares) one
+use Rattle.pattern_shapes.proofs.PatternLemmas.{pattern_count_pos, base_some, drop_step, product_small, share_bounds}
 
 -- a loop's step: the first field that is left
 pub record Step (shares : List FieldShares) (i below rest base : ℕ) (field : FieldShares) : Type 0 where
@@ -62,14 +56,6 @@ same_default : (shares : List FieldShares) (i : ℕ) (d e : FieldShares) → i <
 same_default [] i d e lt = absurd (omega (arith, lt))
 same_default (field ∷ fields) zero d e lt = refl
 same_default (field ∷ fields) (suc i) d e lt = same_default fields i d e (omega (arith, lt))
-
-pub count_step : (shares : List FieldShares) (i count base : ℕ) (field : FieldShares) → base ≡ base_of field → i < length shares → field ≡ get_or shares i field → length shares ≤ 6 → count * pattern_count_of (drop i shares) ≡ pattern_count_of shares → (count * base ≤ 4096) × ((count * base) * pattern_count_of (drop (i + 1) shares) ≡ pattern_count_of shares)
-count_step shares i count base field eb lt ef few e =
-    let more : pattern_count_of (drop i shares) ≡ base * pattern_count_of (drop (i + 1) shares) = ap pattern_count_of (drop_step shares i field lt ef) ∙ ap (λ n. n * pattern_count_of (drop (i + 1) shares)) (sym eb) in
-    let is : count * (base * pattern_count_of (drop (i + 1) shares)) ≡ pattern_count_of shares = rw more at e in
-    let one : 1 ≤ pattern_count_of (drop (i + 1) shares) = omega (arith, pattern_count_pos (drop (i + 1) shares)) in
-    let le : (count * base) * 1 ≤ (count * base) * pattern_count_of (drop (i + 1) shares) = mul-le-mul_left (count * base) one in
-    (omega (arith, is, le, pattern_count_small shares few), omega (arith, is))
 
 pub product_step : (m share same total old new : ℕ) → m * old ≡ total → old ≡ same * new → share ≡ same → m * share * new ≡ total
 product_step m share same total old new e f g = let h : m * (same * new) ≡ total = rw f at e in rw g (omega (arith, h))

@@ -1,31 +1,12 @@
 // The cells of all patterns, in the order of their numbers.
 ghost use Rattle.std.specs.Prelude.{◌≡◌, ℕ, ◌+◌, ◌≤◌, ◌<◌, map, length};
 ghost use Rattle.std.specs.List.{range_with_len};
-ghost use Rattle.pattern_shapes.specs.Patterns.{base_of, pattern_count_of};
+ghost use Rattle.pattern_shapes.specs.Patterns.{pattern_count_of};
 ghost use Rattle.decision_rule.specs.Filled.{chances_of, chances_at};
 
 use link_base::{FieldShares, RuleCell};
 use link_limits::MOST_FIELDS;
-use pattern_shapes::eighth_weight;
-
-/// How many outcomes a field has.
-fn base(field: &FieldShares) -> u16
-    ensures { result ≡ base_of field.now }
-{
-    if field.rare { 4 } else { 3 }
-}
-
-/// How many patterns the fields have.
-fn pattern_count(shares: &[FieldShares]) -> u16
-    requires { length shares.now ≤ MOST_FIELDS }
-    ensures { result ≡ pattern_count_of shares.now }
-{
-    let mut count = 1;
-    for field in shares {
-        count *= base(field);
-    }
-    count
-}
+use pattern_shapes::{eighth_weight, outcome_count, patterns_of};
 
 /// The cell of a pattern, with nothing given yet.
 fn cell_of(shares: &[FieldShares], pattern: u16) -> RuleCell
@@ -33,13 +14,13 @@ fn cell_of(shares: &[FieldShares], pattern: u16) -> RuleCell
     requires pattern { pattern < pattern_count_of shares.now }
     ensures { chances_of result ≡ chances_at shares.now pattern }
 {
-    let mut below = pattern_count(shares);
+    let mut below = patterns_of(shares);
     let mut rest = pattern;
     let mut m: u64 = 1;
     let mut u: u64 = 1;
     let mut weight: i32 = 0;
     for field in shares {
-        below /= base(field);
+        below /= outcome_count(field);
         let outcome = usize::from(rest / below);
         rest %= below;
         let share_m = field.m[outcome];

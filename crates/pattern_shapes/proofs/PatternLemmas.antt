@@ -1,8 +1,8 @@
 -- The chances and the weight of a pattern, field by field.
-use Rattle.std.proofs.Common.{ℕ, Bool, true, cond, leb, zero, suc, ◌≡◌, ◌+◌, ◌*◌, ◌/◌, ◌%◌, ◌^◌, ◌<◌, ◌≤◌, List, [], ◌∷◌, length, arith, get_or}
+use Rattle.std.proofs.Common.{ℕ, Bool, true, cond, leb, zero, suc, ◌≡◌, ◌+◌, ◌*◌, ◌/◌, ◌%◌, ◌^◌, ◌<◌, ◌≤◌, List, [], ◌∷◌, length, arith, get_or, drop, drop-cons, ap, sym, ◌∙◌}
 use Rattle.std.specs.Prelude.{pos, ◌-ℤ◌, ◌≤ℤ◌}
 use Rattle.std.specs.List.{count_by, range_with_len}
-use Rattle.std.proofs.Math.Nat.{pow-le-pow_left}
+use Rattle.std.proofs.Math.Nat.{mul-le-mul_left, pow-le-pow_left}
 use Rattle.std.proofs.lemmas.Int.{ints}
 use Rattle.std.proofs.lemmas.Bool.{le-leb}
 use Rattle.std.proofs.lemmas.Nat.{div_below, mod_below, mul-le, pow-add}
@@ -23,6 +23,22 @@ pattern_count_pos shares = omega (arith, count-pos (rare_in shares))
 
 pub pattern_count_small : (shares : List FieldShares) → length shares ≤ 6 → pattern_count_of shares ≤ 4096
 pattern_count_small shares few = omega (arith, count-le (rare_in shares) 6 (simp length-map few))
+
+-- the fields from a place on
+pub drop_step : (shares : List FieldShares) (i : ℕ) (field : FieldShares) → i < length shares → field ≡ get_or shares i field → drop i shares ≡ field ∷ drop (i + 1) shares
+drop_step shares i field lt e =
+    let d : drop i shares ≡ get_or shares i field ∷ drop (suc i) shares = drop-cons shares i field lt in
+    let one : suc i ≡ i + 1 = omega arith in
+    d ∙ ap (λ f. f ∷ drop (suc i) shares) (sym e) ∙ ap (λ n. field ∷ drop n shares) one
+
+-- one field further in a count
+pub count_step : (shares : List FieldShares) (i count base : ℕ) (field : FieldShares) → base ≡ base_of field → i < length shares → field ≡ get_or shares i field → length shares ≤ 6 → count * pattern_count_of (drop i shares) ≡ pattern_count_of shares → (count * base ≤ 4096) × ((count * base) * pattern_count_of (drop (i + 1) shares) ≡ pattern_count_of shares)
+count_step shares i count base field eb lt ef few e =
+    let more : pattern_count_of (drop i shares) ≡ base * pattern_count_of (drop (i + 1) shares) = ap pattern_count_of (drop_step shares i field lt ef) ∙ ap (λ n. n * pattern_count_of (drop (i + 1) shares)) (sym eb) in
+    let is : count * (base * pattern_count_of (drop (i + 1) shares)) ≡ pattern_count_of shares = rw more at e in
+    let one : 1 ≤ pattern_count_of (drop (i + 1) shares) = omega (arith, pattern_count_pos (drop (i + 1) shares)) in
+    let le : (count * base) * 1 ≤ (count * base) * pattern_count_of (drop (i + 1) shares) = mul-le-mul_left (count * base) one in
+    (omega (arith, is, le, pattern_count_small shares few), omega (arith, is))
 
 pub share_bounds : (rare : Bool) (xs : List ℕ) (k : ℕ) → IsShares (outcomes_of rare) xs → k < outcomes_of rare → (1 ≤ get_or xs k 0) × (get_or xs k 0 ≤ 1022)
 share_bounds rare (a ∷ b ∷ c ∷ d ∷ []) zero h lt = let n = (outcomes_bounds rare).0 in (h.1 0 lt, omega (arith, h.3, h.1 1 (omega (arith, n)), h.1 2 (omega (arith, n))))

@@ -6,7 +6,7 @@ mod shapes;
 mod weight;
 
 pub use laws::chances;
-pub use shapes::{outcome_of, pattern_count};
+pub use shapes::{outcome_count, outcome_of, pattern_count, patterns_of};
 pub use weight::eighth_weight;
 
 #[cfg(test)]

@@ -1,9 +1,10 @@
 // How many comparison patterns there are, and the outcomes of one.
-ghost use Rattle.std.specs.Prelude.{◌≡◌, ◌<◌, ◌≤◌, drop, length};
+ghost use Rattle.std.specs.Prelude.{◌≡◌, ◌*◌, ◌<◌, ◌≤◌, drop, length};
 ghost use Rattle.link_base.specs.Shares.{outcomes_of};
+ghost use Rattle.pattern_shapes.specs.Patterns.{base_of, pattern_count_of};
 ghost use Rattle.pattern_shapes.specs.Shapes.{outcome_at, outcome_with, pattern_count_by, rare_of};
 
-use link_base::{Outcome, Shape};
+use link_base::{FieldShares, Outcome, Shape};
 use link_limits::{MOST_FIELDS, MOST_PATTERNS};
 
 /// How many comparison patterns a shape has, 3 to 4,096.
@@ -26,6 +27,27 @@ pub fn outcome_of(shape: &Shape, pattern: u16, field: u8) -> Outcome
         pattern,
         usize::from(field),
     )
+}
+
+/// How many outcomes a field with these shares has, 3 or 4.
+pub fn outcome_count(field: &FieldShares) -> u16
+    ensures { result ≡ base_of field.now }
+{
+    base(field.rare)
+}
+
+/// How many comparison patterns fields with these shares have: 1 without a field, else 3 to 4,096.
+pub fn patterns_of(shares: &[FieldShares]) -> u16
+    requires { length shares.now ≤ MOST_FIELDS }
+    ensures count { result ≡ pattern_count_of shares.now }
+    ensures some { 1 ≤ length shares.now → 3 ≤ result }
+    ensures few { result ≤ MOST_PATTERNS }
+{
+    let mut count = 1;
+    for field in shares {
+        count *= outcome_count(field);
+    }
+    count
 }
 
 /// How many outcomes a field has.
