@@ -51,8 +51,8 @@ IsOneOfBoth r = ⊥
 
 -- what the rows of one of both files are compared by, and how many of its dates could not be read
 abbrev pub sides_in : PreparedView → FileRole → List (List IdValue)
-sides_in p role.B = p.values.b
-sides_in p r = p.values.a
+sides_in p role.B = p.values.b.rows
+sides_in p r = p.values.a.rows
 
 abbrev pub unreadable_in : PreparedView → FileRole → ℕ
 unreadable_in p role.B = p.files.b.unreadable
