@@ -1,6 +1,6 @@
 -- Ids of distinct texts are equal where the texts are.
 use Rattle.std.proofs.Common.{if◌then◌else◌, ◌≡◌, ◌<◌, ◌==◌, ℕ, zero, suc, Bool, true, false, List, [], ◌∷◌, length, Option, Some, None, refl, ap, sym, ◌∙◌, arith, eqb-true, eq-eqb, nat_le, slice_index}
-use Rattle.std.specs.Prelude.{slice_get, ℤ, pos}
+use Rattle.std.specs.Prelude.{MatchBool, slice_get, ℤ, pos}
 use Rattle.std.specs.Str.{bytes_eq}
 use Rattle.std.proofs.lemmas.Slice.Eq.{bytes_eq-Decides}
 use Rattle.link_base.specs.declared.rule.Outcome.TheVariants.{Agree, Disagree, Rare}
@@ -11,8 +11,8 @@ use Rattle.link_base.specs.declared.standard.Value.TheVariants as value
 use Rattle.value_forms.specs.Days.{year_of_day}
 use Rattle.comparators.specs.declared.ids.IdValue.{IdValue}
 use Rattle.comparators.specs.declared.ids.IdValue.TheVariants as id
-use Rattle.value_canons.specs.Canons.{exact_canon, soundex_canon, nysiis_canon, first_letters_canon, initials_canon, day_in, year_in}
-use Rattle.comparators.specs.Fields.{day_of_id, field_of, field_outcome, id_in, kind_of, kind_outcome, year_of_id}
+use Rattle.value_canons.specs.Canons.{compares_days, exact_canon, soundex_canon, nysiis_canon, first_letters_canon, initials_canon, day_in, year_in}
+use Rattle.comparators.specs.Fields.{day_of_id, field_of, field_outcome, id_in, IsDayOrAbsent, IsFieldSide, IsIdOrAbsent, kind_of, kind_outcome, year_of_id}
 use Rattle.comparators.specs.Laws.{agree_where, near, outcome_by, outcome_of_ids, outcome_of_counted, outcome_of_texts}
 use Rattle.comparators.specs.OfPool.{IsDayItself, NamesCanon, StandsFor, rare_where}
 
@@ -98,6 +98,16 @@ outcomes_alike texts distinct (compare.FirstLetters n) x y a b h k = outcome_of_
 outcomes_alike texts distinct compare.Initials x y a b h k = outcome_of_canons texts distinct (initials_canon x) (initials_canon y) a b h k
 outcomes_alike texts distinct (compare.DaysWithin t) x y a b h k = days_alike t (day_in x) (day_in y) a b h k
 outcomes_alike texts distinct (compare.YearsWithin t) x y a b h k = years_alike t x y a b h k
+
+-- a side by what a kind compares is a valid one of its comparator over ids
+pub side-valid : (kind : CompareKind) (x : IdValue) → MatchBool (compares_days kind) (IsDayOrAbsent x) (IsIdOrAbsent x) → IsFieldSide (field_of kind) x
+side-valid compare.Exact x h = h
+side-valid compare.BySoundex x h = h
+side-valid compare.ByNysiis x h = h
+side-valid (compare.FirstLetters n) x h = h
+side-valid compare.Initials x h = h
+side-valid (compare.DaysWithin t) x h = h
+side-valid (compare.YearsWithin t) x h = h
 
 pub rare_alike : (texts : List (List ℕ)) (distinct : (a b : ℕ) → a < length texts → slice_get texts a ≡ slice_get texts b → a ≡ b) (most : ℕ) (counts : List ℕ) (m n : ℕ) (c d : List ℕ) → slice_get texts m ≡ Some c → slice_get texts n ≡ Some d → outcome_of_counted most counts m n ≡ rare_where (nat_le (slice_index counts m) most) (outcome_of_texts c d)
 rare_alike texts distinct most counts m n c d h k = rare-test most m n counts (m == n) refl ∙ ap (λ u. rare_where (nat_le (slice_index counts m) most) (agree_where u)) (ids_alike texts distinct m n c d h k)

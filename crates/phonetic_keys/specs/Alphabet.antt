@@ -1,4 +1,4 @@
--- Letters by their codes.
+-- Letters by their codes, as the rules of NYSIIS name them.
 use Rattle.std.specs.Prelude.{ℕ, Bool, ◌==◌, ◌||◌}
 
 abbrev pub A : ℕ

@@ -1,4 +1,4 @@
--- Keys of letters.
+-- The form of a NYSIIS key: what `Nysiis` is seen as (`Nysiis::bytes`, clause `letters`).
 use Rattle.std.specs.Prelude.{ℕ, List, ◌≤◌, All, IsTrue, length}
 use Rattle.phonetic_keys.specs.Letters.{in_alphabet}
 

@@ -1,4 +1,4 @@
--- The letters of a text.
+-- The letters A to Z of a text, of which both keys are made (`soundex`, clause `letter`; `nysiis`).
 use Rattle.std.specs.Prelude.{ℕ, List, Bool, ◌&&◌, nat_le, filter}
 
 abbrev pub in_alphabet : ℕ → Bool

@@ -1,4 +1,4 @@
--- This project's NYSIIS: tail(body(end(front(letters)))).
+-- This project's NYSIIS: tail(body(end(front(letters)))). `nysiis` carries it (clause `key`).
 use Rattle.std.specs.Prelude.{ℕ, zero, suc, List, [], ◌∷◌, ◌++◌, ◌-◌, ◌&&◌, ◌||◌, not, ◌==◌, nat_lt, if◌then◌else◌, Option, Some, None, take, length, slice_index}
 use Rattle.phonetic_keys.specs.Letters.{letters_of}
 use Rattle.phonetic_keys.specs.declared.rewriting.Three.{Three}

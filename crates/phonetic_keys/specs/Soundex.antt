@@ -1,4 +1,5 @@
--- Soundex, by looking back from each place on the list of letters.
+-- Soundex, by looking back from each place on the list of letters (Knuth, The Art of Computer Programming, volume 3, second
+-- edition, chapter 6). `soundex` carries it (clause `key`), and `carrying` that carrying a code gives the same.
 use Rattle.std.specs.Prelude.{ℕ, List, [], ◌∷◌, ◌++◌, Bool, true, ◌-◌, ◌&&◌, ◌||◌, not, ◌==◌, if◌then◌else◌, Option, Some, None, codes, find, filter, map, reverse, take, length, slice_index}
 use Rattle.std.specs.List.{range_with_len}
 use Rattle.std.specs.Option.{option_map_or}

@@ -3,7 +3,7 @@ use Rattle.std.proofs.Common.{◌≡◌, ◌<◌, ℕ, zero, suc, true, List, []
 use Rattle.std.specs.List.{All}
 use Rattle.std.proofs.lemmas.List.{get_or-map}
 use Rattle.value_pool.specs.Texts.{IsHeld, stands_among}
-use Rattle.value_canons.specs.Canons.{canon_of, compares_days, day_in, exact_canon, first_letters_canon, initials_canon, nysiis_canon, soundex_canon}
+use Rattle.value_canons.specs.Canons.{canon_of, compares_days, day_in}
 use Rattle.block_passes.specs.Index.{row_at}
 use Rattle.comparators.specs.Fields.{field_of, IsDayOrAbsent, IsFieldSide, IsIdOrAbsent}
 use Rattle.comparators.specs.OfPool.{IsDayItself, NamesCanon, StandsFor}
@@ -11,6 +11,7 @@ use Rattle.comparators.specs.declared.ids.IdValue.{IdValue}
 use Rattle.comparators.specs.declared.ids.IdValue.TheVariants as id
 use Rattle.link_base.specs.Standard.{absent, IsValid, no_record, Record}
 use Rattle.std.specs.Prelude.{Bool, true, false, MatchBool, if◌then◌else◌}
+use Rattle.comparators.proofs.IdLemmas.{side-valid}
 use Rattle.value_pool.proofs.PlaceLemmas.{place-reads}
 use Rattle.link_base.specs.declared.plan.CompareKind.{CompareKind}
 use Rattle.link_base.specs.declared.plan.CompareKind.TheVariants as by
@@ -37,16 +38,6 @@ stands-for texts kind v h = by_test (compares_days kind)
     by_test true = day-stands v
     by_test false = names texts (canon_of kind v) h
 
--- a value has no canon for a kind that compares days
-pub no-canon : (kind : CompareKind) (v : Value) → compares_days kind ≡ true → canon_of kind v ≡ None
-no-canon by.Exact v h = cc
-no-canon by.BySoundex v h = cc
-no-canon by.ByNysiis v h = cc
-no-canon (by.FirstLetters n) v h = cc
-no-canon by.Initials v h = cc
-no-canon (by.DaysWithin t) v h = refl
-no-canon (by.YearsWithin t) v h = refl
-
 id-valid : (texts : List (List ℕ)) (canon : Option (List ℕ)) → IsIdOrAbsent (id_side texts canon)
 id-valid texts None = tt
 id-valid texts (Some text) = tt
@@ -56,14 +47,12 @@ day-valid value.Absent h = tt
 day-valid (value.Word text) h = tt
 day-valid (value.Day day) h = h
 
-side-valid : (texts : List (List ℕ)) (kind : CompareKind) (v : Value) → IsValid v → IsFieldSide (field_of kind) (side_of texts kind v)
-side-valid texts by.Exact v h = id-valid texts (exact_canon v)
-side-valid texts by.BySoundex v h = id-valid texts (soundex_canon v)
-side-valid texts by.ByNysiis v h = id-valid texts (nysiis_canon v)
-side-valid texts (by.FirstLetters n) v h = id-valid texts (first_letters_canon n v)
-side-valid texts by.Initials v h = id-valid texts (initials_canon v)
-side-valid texts (by.DaysWithin t) v h = day-valid v h
-side-valid texts (by.YearsWithin t) v h = day-valid v h
+valid-side : (texts : List (List ℕ)) (kind : CompareKind) (v : Value) → IsValid v → IsFieldSide (field_of kind) (side_of texts kind v)
+valid-side texts kind v h = side-valid kind (side_of texts kind v) (by_test (compares_days kind))
+  where
+    by_test : (t : Bool) → MatchBool t (IsDayOrAbsent (if t then day_side v else id_side texts (canon_of kind v))) (IsIdOrAbsent (if t then day_side v else id_side texts (canon_of kind v)))
+    by_test true = day-valid v h
+    by_test false = id-valid texts (canon_of kind v)
 
 side-at : (texts : List (List ℕ)) (kinds : List CompareKind) (row : List Value) (k : ℕ) → k < length kinds → length row ≡ length kinds → get_or (sides_of_row texts kinds row) k id.Absent ≡ side_of texts (get_or kinds k by.Exact) (get_or row k absent)
 side-at texts [] row k lt many = absurd (omega arith)
@@ -83,7 +72,7 @@ row-sides texts kinds row many valid all = record {
       let kind = get_or kinds k by.Exact in
       let v = get_or row k absent in
       rw (side-at texts kinds row k lt many) (stands-for texts kind v (held-by texts (canon_of kind v) (λ text h. all text (stands-canons kinds row k text lt many h))));
-  valid = λ k lt. rw (side-at texts kinds row k lt many) (side-valid texts (get_or kinds k by.Exact) (get_or row k absent) (valid k absent (omega arith)));
+  valid = λ k lt. rw (side-at texts kinds row k lt many) (valid-side texts (get_or kinds k by.Exact) (get_or row k absent) (valid k absent (omega arith)));
 }
 
 length-sides : (texts : List (List ℕ)) (kinds : List CompareKind) (file : List Record) → length (sides_of_file texts kinds file) ≡ length file

@@ -1,7 +1,7 @@
 use Rattle.std.proofs.Common.{◌≡◌, Some, true, false, refl, rules, sym, ◌∙◌}
 use Rattle.value_canons.specs.Canons.{canon_of, compares_days}
 use Rattle.pooled_values.proofs.PlaceLemmas.{side-in}
-use Rattle.pooled_values.proofs.SideLemmas.{no-canon}
+use Rattle.value_canons.proofs.KindLemmas.{no-canon}
 use Rattle.pooled_values.proofs.canons.take_canon.Goals as goal
 
 pub returns-then-compares_days-clause-texts : goal.returns-then-compares_days-clause-texts
