@@ -1,3 +1,5 @@
 pub mod ReadyLemmas
 pub mod PreparedLemmas
 pub mod PairLemmas
+pub mod ColumnLemmas
+pub mod NumberLemmas

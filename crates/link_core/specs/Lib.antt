@@ -1,2 +1,5 @@
 pub mod Prepared
 pub mod Pairs
+pub mod ColumnPairs
+pub mod ColumnRecords
+pub mod NameKeys

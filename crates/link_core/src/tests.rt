@@ -1,11 +1,12 @@
 // What is prepared of worked files.
 ghost use Rattle.std.specs.Prelude.{◌≤◌, ◌^◌};
 
-use crate::{Prepared, pair_ids, prepare};
+use crate::{Prepared, key_lines, pair_ids, pair_rows, prepare};
 use comparators::IdTable;
 use link_base::{Fault, FileRole, Sides, Text};
 use settings::read_settings;
 use std::alloc::Global;
+use std::test::Fail;
 
 const SETTINGS: &str =
     "file_a = \"a.csv\"\nfile_b = \"b.csv\"\ndelimiter_b = \"semicolon\"\nsample = \"sample.csv\"\njournal = \"journal.csv\"\nmu_ppm = 40\nlambda_ppm = 2000\naward = 100\n\n[[field]]\nname = \"surname\"\ncolumn_b = \"family\"\nkind = \"name\"\ncompare = \"soundex\"\n\n[[field]]\nname = \"given\"\ncolumn_b = \"first\"\nkind = \"name\"\ncompare = \"exact\"\n\n[[field]]\nname = \"birth\"\ncolumn_b = \"dob\"\nkind = \"date\"\nform_a = \"dmy\"\nform_b = \"ymd\"\ncompare = \"exact\"\n\n[[pass]]\nparts = [{ field = \"surname\", key = \"soundex\" }]\n\n[[pass]]\nparts = [{ field = \"birth\", key = \"year\" }]\n";
@@ -133,4 +134,18 @@ fn equal_texts_of_both_files_count_once(rt: HostRuntime) {
             })
         )
     );
+}
+
+#[test]
+fn rows_of_a_column_and_keys_of_words(rt: HostRuntime) -> Result<(), Fail> {
+    let alloc = rt.alloc();
+    match pair_rows(alloc, "n", b"n\nx\n\n", b"n\ny\nx\n") {
+        Ok(text) => assert_eq!(rt; text.bytes(), b"row_a,row_b\n1,2\n".as_slice()),
+        Err(_) => assert!(rt; false),
+    }
+    let mut words = Vec::new(alloc);
+    words.push(String::from_str(alloc, "Lee")?)?;
+    let text = key_lines(alloc, &words)?;
+    assert_eq!(rt; text.bytes(), b"LEE,L000,LY\n".as_slice());
+    Ok(())
 }

@@ -1,3 +1,5 @@
 pub mod WordFacts
-pub mod ColumnFacts
-pub mod NumberFacts
+pub mod StepFacts
+pub mod DoesFacts
+pub mod PutFacts
+pub mod Laws

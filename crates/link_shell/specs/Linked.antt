@@ -1,45 +1,72 @@
--- What the top call does.
-use Rattle.std.specs.Prelude.{◌≡◌, ◌≤◌, ℕ, List, Result, Ok, Err}
+-- What the top calls do: the clauses of `perform` and `linkage`.
+use Rattle.std.specs.Prelude.{◌≡◌, ◌≢◌, ◌≤◌, ℕ, List, Option, Some, None, Result, Ok, Err, ⊤}
 use Rattle.link_base.specs.Fault.{fault_line, fault_status}
 use Rattle.link_base.specs.declared.fault.Fault.{Fault}
-use Rattle.link_outside.specs.Outside.{Appends, HasCause, Held, Rose}
-use Rattle.link_outside.specs.declared.outside.StoreCall.{StoreCall}
+use Rattle.link_base.specs.declared.fault.Fault.TheVariants as fault
+use Rattle.link_outside.specs.Outside.{Appends, HasCause, Rose}
 use Rattle.link_outside.specs.declared.outside.SinkError.{SinkError}
 use Rattle.link_outside.specs.declared.outside.SinkError.TheVariants as sink
-use Rattle.link_shell.specs.Words.{command_of}
-use Rattle.link_shell.specs.Loads.{HasStoreCause}
-use Rattle.link_shell.specs.Outcome.{IsPlace, outcome}
-use Rattle.link_shell.specs.Causes.{Ends, HasOutCause, IsComplete, IsExactUsage, IsQuiet, Stands, Takes}
-use Rattle.link_shell.specs.declared.command.Ended.{Ended}
-use Rattle.link_shell.specs.declared.command.Ended.TheVariants.{Done, Refuted}
+use Rattle.link_shell.specs.Causes.{Cause, cause_of, the_memory}
+use Rattle.link_shell.specs.Commands.{Command, command_of, script_of}
+use Rattle.link_shell.specs.Does.{Does, IsDue, Script}
+use Rattle.link_shell.specs.Due.{Due, ended_of, Prints}
+use Rattle.link_shell.specs.Seen.{IsUncalled, IsUntouched, SinkSeen, StoreSeen}
+use Rattle.link_shell.specs.Steps.{ComesTo}
+use Rattle.link_shell.specs.declared.ends.Ended.{Ended}
+use Rattle.link_shell.specs.declared.ends.Ended.TheVariants.{Done, Refuted}
 
--- a store as clauses see it, before and after
-pub record StoreSeen : Type 1 where
-  pub tells : Type 0
-  pub held_before : Held
-  pub held_after : Held
-  pub faults_before : List StoreCall
-  pub faults_after : List StoreCall
+-- words that are no form of a command: `Usage` is answered, and nothing is done
+pub record IsNoForm (store : StoreSeen) (out : SinkSeen) (answer : Result Ended Fault) : Type 0 where
+  pub usage : answer ≡ Err fault.Usage
+  pub untouched : IsUntouched store
+  pub quiet : IsUncalled out
 
--- a sink as clauses see it, before and after
-pub record SinkSeen : Type 1 where
-  pub tells : Type 0
-  pub taken_before : List ℕ
-  pub taken_after : List ℕ
-  pub faults_before : ℕ
-  pub faults_after : ℕ
+abbrev pub Follows : Option Command → StoreSeen → SinkSeen → Result Ended Fault → Type 0
+Follows None store out answer = IsNoForm store out answer
+Follows (Some command) store out answer = Does (script_of command) store out answer
 
--- what a command does to the store and to `out`, with its answer
+-- `Usage` is answered exactly to words that are no form of a command
+abbrev pub IsExactUsage : Option Command → Result Ended Fault → Type 0
+IsExactUsage None answer = answer ≡ Err fault.Usage
+IsExactUsage (Some command) answer = answer ≢ Err fault.Usage
+
+-- no text is ever due of a command; no put is
+abbrev pub NeverPrints : Script → Type 0
+NeverPrints script = (found : script.Found) (due : Due) → script.due found due → ¬ Prints due
+
+abbrev pub NeverPuts : Script → Type 0
+NeverPuts script = (found : script.Found) (due : Due) → script.due found due → Prints due
+
+-- where no text is ever due `out` is not called, and so is never at fault
+abbrev pub IsSilent : Option Command → SinkSeen → Result Ended Fault → Type 0
+IsSilent None out answer = IsUncalled out
+IsSilent (Some command) out answer = NeverPrints (script_of command) → IsUncalled out × (answer ≢ Err fault.SinkFault)
+
+-- where no put is ever due no name holds anything else than it did
+abbrev pub IsStill : Option Command → StoreSeen → Type 0
+IsStill None store = store.held_after ≡ store.held_before
+IsStill (Some command) store = NeverPuts (script_of command) → store.held_after ≡ store.held_before
+
+-- a refusal is that of the steps, but for want of memory
+abbrev pub RefusesBy : Cause → Script → StoreSeen → Fault → Type 0
+RefusesBy the_memory script store f = ⊤
+RefusesBy cause script store f = ComesTo script.steps store (Err f)
+
+-- a command is done or refused as is defined, but for want of memory
+abbrev pub IsComplete : Option Command → StoreSeen → Result Ended Fault → Type 0
+IsComplete None store answer = answer ≡ Err fault.Usage
+IsComplete (Some command) store (Ok ended) = (due : Due) × IsDue (script_of command) store due × (ended_of due ≡ ended)
+IsComplete (Some command) store (Err f) = RefusesBy (cause_of f) (script_of command) store f
+
+-- what words do to the store and to `out`, with the answer; it is complete where nothing of the outside failed
 pub record Performed (words : List (List ℕ)) (store : StoreSeen) (out : SinkSeen) (answer : Result Ended Fault) : Type 0 where
-  pub answered : store.tells → Ends (outcome words store.held_before) answer
   pub usage : IsExactUsage (command_of words) answer
-  pub output : store.tells → out.tells → Takes (outcome words store.held_before) out.taken_before out.taken_after answer
-  pub quiet : out.tells → IsQuiet out.taken_before out.taken_after answer
-  pub stands : store.tells → Stands (outcome words store.held_before) store.held_before store.held_after answer
-  pub store_cause : HasStoreCause store.faults_before store.faults_after (λ call. store.tells → IsPlace (command_of words) store.held_before call) answer
-  pub out_later : out.faults_before ≤ out.faults_after
-  pub out_cause : HasOutCause out.faults_before out.faults_after answer
-  pub complete : store.tells → store.faults_after ≡ store.faults_before → ¬ (Rose out.faults_before out.faults_after) → IsComplete (outcome words store.held_before) answer
+  pub follows : Follows (command_of words) store out answer
+  pub silent : IsSilent (command_of words) out answer
+  pub still : IsStill (command_of words) store
+  pub later : out.faults_before ≤ out.faults_after
+  pub complete : store.faults_after ≡ store.faults_before → ¬ (Rose out.faults_before out.faults_after)
+      → IsComplete (command_of words) store answer
 
 -- the status after a fault whose line was handed to `err`
 abbrev pub status_after : {T : Type 0} → Fault → Result T SinkError → ℕ
@@ -47,11 +74,15 @@ status_after f (Ok x) = fault_status f
 status_after f (Err sink.Failed) = fault_status f
 status_after f (Err sink.NoMemory) = 8
 
+-- the line of a fault was handed to `err`, and the status is that of the fault
+pub record Told (err : SinkSeen) (f : Fault) (status : ℕ) : Type 0 where
+  pub written : Result (Unit {0}) SinkError
+  pub status_is : status ≡ status_after f written
+  pub line : err.tells → Appends (fault_line f) err.taken_before err.taken_after written
+  pub cause : HasCause err.faults_before err.faults_after written
+
 -- what `err` takes, and the status: nothing at 0 and 9, and else the line of the fault or a front of it
 abbrev pub Reported : SinkSeen → Result Ended Fault → ℕ → Type 0
-Reported err (Ok Done) status = (status ≡ 0) × (err.tells → err.taken_after ≡ err.taken_before)
-Reported err (Ok Refuted) status = (status ≡ 9) × (err.tells → err.taken_after ≡ err.taken_before)
-Reported err (Err f) status =
-    (written : Result (Unit {0}) SinkError) × (status ≡ status_after f written)
-    × (err.tells → Appends (fault_line f) err.taken_before err.taken_after written)
-    × HasCause err.faults_before err.faults_after written
+Reported err (Ok Done) status = (status ≡ 0) × IsUncalled err
+Reported err (Ok Refuted) status = (status ≡ 9) × IsUncalled err
+Reported err (Err f) status = Told err f status

@@ -2,14 +2,17 @@
 //! why it is refused.
 #![tactic(auto)]
 
-mod columns;
 mod command;
+mod ends;
+mod front;
 mod keys;
 mod load;
-mod report;
+mod pairs_columns;
+mod pairs_settings;
 mod words;
 
-pub use command::{Ended, linkage, perform};
+pub use command::{linkage, perform};
+pub use ends::Ended;
 pub use load::load_whole;
 
 #[cfg(test)]

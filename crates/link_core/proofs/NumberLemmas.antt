@@ -1,0 +1,49 @@
+-- Records numbered by their rows.
+use Rattle.std.proofs.Common.{◌≡◌, ◌≢◌, ◌<◌, ◌+◌, ◌^◌, ◌∷◌, ◌++◌, ◌∙◌, ℕ, zero, suc, List, [], length, map, get_or, drop, decimal, refl, sym, ap, arith, append_assoc, length-append}
+use Rattle.std.specs.List.{All}
+use Rattle.std.proofs.lemmas.Fmt.{decimal_injective}
+use Rattle.std.proofs.lemmas.List.{get_or-map, get_or_append_left, length-map}
+use Rattle.std.proofs.Math.Seq.{drop-cons}
+use Rattle.link_base.specs.Standard.{Record}
+use Rattle.link_base.specs.declared.standard.Value.{Value}
+use Rattle.file_reader.specs.Rows.{no_row, TableRow}
+use Rattle.link_core.specs.ColumnPairs.{cell_of}
+use Rattle.link_core.specs.ColumnRecords.{numbered, value_of}
+
+abbrev Cells : Type 0
+Cells = List (List ℕ)
+
+pub length_numbered : (n : ℕ) (cells : Cells) → length (numbered n cells) ≡ length cells
+length_numbered n [] = refl
+length_numbered n (cell ∷ cells) = ap suc (length_numbered (n + 1) cells)
+
+id_at : (n : ℕ) (cells : Cells) (k : ℕ) (d : Record) → k < length cells → (get_or (numbered n cells) k d).id ≡ decimal (n + k + 1)
+id_at n [] k d h = absurd (omega arith)
+id_at n (cell ∷ cells) zero d h = ap decimal (omega arith)
+id_at n (cell ∷ cells) (suc k) d h = id_at (n + 1) cells k d (omega arith) ∙ ap decimal (omega arith)
+
+-- the next number is new
+pub fresh : (file rest : List Record) (cells : Cells) (at : ℕ) (id : List ℕ) → file ++ rest ≡ numbered 0 cells → length file ≡ at → at < 2 ^ 32 → id ≡ decimal (at + 1)
+    → All (λ (r : Record). r.id ≢ id) file
+fresh file rest cells at id told count small is k d lt same =
+    let whole : length file + length rest ≡ length cells = sym (length-append file rest) ∙ ap length told ∙ length_numbered 0 cells in
+    let here : (get_or file k d).id ≡ decimal (0 + k + 1) =
+    ap (λ (r : Record). r.id) (sym (get_or_append_left file rest d k lt) ∙ ap (λ (rs : List Record). get_or rs k d) told) ∙ id_at 0 cells k d (omega (arith, whole)) in
+    let equal = decimal_injective (0 + k + 1) (at + 1) (omega (arith, count, small)) (omega (arith, small)) (sym here ∙ same ∙ is) in
+    omega (arith, equal, count)
+
+-- one record more
+pub told_push : (file new : List Record) (rows : List TableRow) (at : ℕ) (id cell : List ℕ) (row : List Value)
+    → file ++ numbered at (drop at (map cell_of rows)) ≡ numbered 0 (map cell_of rows) → at < length rows → id ≡ decimal (at + 1) → cell ≡ cell_of (get_or rows at no_row) → row ≡ value_of cell ∷ []
+    → new ≡ file ++ record { id = id; row = row } ∷ [] → new ++ numbered (at + 1) (drop (at + 1) (map cell_of rows)) ≡ numbered 0 (map cell_of rows)
+told_push file new rows at id cell row told lt ei ec er en =
+    let cells : Cells = map cell_of rows in
+    let within : at < length cells = rw (length-map rows cell_of) lt in
+    let rest : List Record = numbered (at + 1) (drop (suc at) cells) in
+    let here : drop at cells ≡ cell ∷ drop (suc at) cells =
+    drop-cons cells at [] within ∙ ap (λ (c : List ℕ). c ∷ drop (suc at) cells) (get_or-map cell_of rows at no_row [] lt ∙ sym ec) in
+    let first : numbered at (drop at cells) ≡ record { id = id; row = row } ∷ rest =
+    ap (numbered at) here ∙ ap (λ (i : List ℕ). record { id = i; row = value_of cell ∷ [] } ∷ rest) (sym ei) ∙ ap (λ (r : List Value). record { id = id; row = r } ∷ rest) (sym er) in
+    let one : at + 1 ≡ suc at = omega arith in
+    let next : numbered (at + 1) (drop (at + 1) cells) ≡ rest = ap (λ n. numbered (at + 1) (drop n cells)) one in
+    rw (en, next) (append_assoc file (record { id = id; row = row } ∷ []) rest ∙ ap (λ (rs : List Record). file ++ rs) (sym first) ∙ told)

@@ -1,0 +1,63 @@
+-- The pairs of rows with the same field in one column, and their text: the clause `answer` of `pair_rows`.
+use Rattle.std.specs.Prelude.{◌+◌, ◌++◌, ◌∷◌, [], ℕ, List, length, map, codes, decimal, filter, slice_index_or, Bool, Option, Some, None, Result, Ok}
+use Rattle.std.specs.List.{flat_map}
+use Rattle.csv_records.specs.Left.{records_in}
+use Rattle.link_base.specs.Answers.{and_then}
+use Rattle.link_base.specs.declared.fault.Fault.{Fault}
+use Rattle.link_base.specs.declared.fault.FileRole.{FileRole}
+use Rattle.link_base.specs.declared.fault.FileRole.TheVariants as role
+use Rattle.link_base.specs.declared.rule.PairAt.{PairAt}
+use Rattle.link_limits.specs.declared.TheConstants.{MOST_ROWS}
+use Rattle.file_reader.specs.Layout.{Wanted}
+use Rattle.file_reader.specs.Rows.{TableRow}
+use Rattle.file_reader.specs.Table.{table_of}
+use Rattle.pair_walk.specs.Keys.{same_text}
+use Rattle.pair_walk.specs.Pairs.{product_from}
+use Rattle.link_core.specs.Pairs.{pairs_within}
+
+-- one column of a file of at most 100,000 rows
+abbrev pub wanted_column : List ℕ → Wanted
+wanted_column column = record { id = None; columns = column ∷ []; most = MOST_ROWS }
+
+-- the first field of a row
+abbrev pub cell_of : TableRow → List ℕ
+cell_of row = slice_index_or row.fields 0 []
+
+-- the fields of the column of a comma file
+abbrev pub column_of : FileRole → List ℕ → List ℕ → Result (List (List ℕ)) Fault
+column_of r column bytes = and_then (table_of r (wanted_column column) (records_in 44 bytes)) (λ rows. Ok (map cell_of rows))
+
+-- a field that is not empty
+abbrev pub present : List ℕ → Option (List ℕ)
+present [] = None
+present (byte ∷ bytes) = Some (byte ∷ bytes)
+
+-- both fields are there, and they are equal byte for byte
+abbrev pub is_column_pair : List (List ℕ) → List (List ℕ) → PairAt → Bool
+is_column_pair a b at = same_text (present (slice_index_or a at.a [])) (present (slice_index_or b at.b []))
+
+-- the pairs of the product with the same field, rising
+abbrev pub column_pairs : List (List ℕ) → List (List ℕ) → List PairAt
+column_pairs a b = filter (is_column_pair a b) (product_from (length b) 0 (length a))
+
+-- the pairs of two columns, where they are not too many
+abbrev pub pairs_of_fields : List (List ℕ) → List (List ℕ) → Result (List PairAt) Fault
+pairs_of_fields a b = pairs_within (column_pairs a b)
+
+-- the pairs of a column of two files: the faults of A, then those of B, then the pairs
+abbrev pub pairs_of_files : List ℕ → List ℕ → List ℕ → Result (List PairAt) Fault
+pairs_of_files column bytes_a bytes_b =
+    and_then (column_of role.A column bytes_a) (λ a.
+    and_then (column_of role.B column bytes_b) (λ b.
+    pairs_of_fields a b))
+
+-- a header, and a line per pair with the rows of both, from 1
+abbrev pub pair_line : PairAt → List ℕ
+pair_line at = decimal (at.a + 1) ++ codes "," ++ decimal (at.b + 1) ++ codes "\n"
+
+abbrev pub pairs_text : List PairAt → List ℕ
+pairs_text pairs = codes "row_a,row_b\n" ++ flat_map pair_line pairs
+
+-- the text of the pairs of a column of two files, or the first fault
+abbrev pub rows_of_pairs : List ℕ → List ℕ → List ℕ → Result (List ℕ) Fault
+rows_of_pairs column bytes_a bytes_b = and_then (pairs_of_files column bytes_a bytes_b) (λ pairs. Ok (pairs_text pairs))

@@ -1,0 +1,140 @@
+// The pairs of rows with the same field in one column.
+ghost use Rattle.std.specs.Prelude.{◌≡◌, ◌≤◌, ◌∷◌, [], All, decimal, IfErr, IfOk, length, map};
+ghost use Rattle.link_base.specs.Fault.{IsAnswer, IsInputFault};
+ghost use Rattle.file_reader.specs.Layout.{wanted_of};
+ghost use Rattle.file_reader.specs.Rows.{TableRow};
+ghost use Rattle.file_reader.specs.Table.{HasWidth, table_of};
+ghost use Rattle.csv_records.specs.Left.{records_in};
+ghost use Rattle.link_core.specs.ColumnPairs.{cell_of, pairs_of_fields, pairs_of_files, rows_of_pairs, wanted_column};
+ghost use Rattle.link_core.specs.ColumnRecords.{numbered, value_of, whole_field};
+
+use crate::row_text::rows_text;
+use file_reader::{Layout, Table, read_table};
+use link_base::{
+    Fault, FileRole, KeyKind, NoMemory, Part, Pass, PassList, StdFile, StdRow, Text, Value,
+};
+use link_limits::MOST_ROWS;
+use pair_walk::{Pairs, WalkFault, walk};
+use std::alloc::Global;
+
+fn column_layout(alloc: Global, column: &str) -> Result<Layout, NoMemory>
+    ensures comma { IfOk result (λ layout. layout.delimiter ≡ 44) }
+    ensures wanted { IfOk result (λ layout. wanted_of layout ≡ wanted_column column.now) }
+{
+    let mut columns = Vec::new(alloc);
+    columns.push(Text::new(alloc, column.as_bytes())?)?;
+    Ok(Layout {
+        delimiter: b',',
+        id: None,
+        columns,
+        most_rows: MOST_ROWS,
+    })
+}
+
+fn read_column(alloc: Global, role: FileRole, column: &str, bytes: &[u8]) -> Result<Table, Fault>
+    ensures kind { IfErr result IsInputFault }
+    ensures few { IfOk result (λ table. length table ≤ MOST_ROWS) }
+    ensures width { IfOk result (HasWidth (wanted_column column.now)) }
+    ensures answer { IsAnswer (table_of role (wanted_column column.now) (records_in 44 bytes.now)) result }
+{
+    let layout = column_layout(alloc, column)?;
+    read_table(alloc, bytes, role, &layout)
+}
+
+fn cell_value(alloc: Global, cell: &[u8]) -> Result<Value, NoMemory>
+    ensures { IfOk result (λ value. value ≡ value_of cell.now) }
+{
+    if cell.is_empty() {
+        return Ok(Value::Absent);
+    }
+    Ok(Value::Word(Text::new(alloc, cell)?))
+}
+
+fn row_of(alloc: Global, cell: &[u8]) -> Result<StdRow, NoMemory>
+    ensures { IfOk result (λ row. row ≡ value_of cell.now ∷ []) }
+{
+    let mut values = Vec::new(alloc);
+    values.push(cell_value(alloc, cell)?)?;
+    Ok(StdRow::new(values))
+}
+
+fn whole_pass(alloc: Global) -> Result<PassList, NoMemory>
+    ensures { IfOk result (λ passes. passes ≡ whole_field) }
+{
+    let mut parts = Vec::new(alloc);
+    parts.push(Part {
+        field: 0,
+        key: KeyKind::Whole,
+    })?;
+    let mut passes = Vec::new(alloc);
+    passes.push(Pass::new(parts))?;
+    Ok(PassList::new(passes))
+}
+
+fn row_id(alloc: Global, row: u64) -> Result<Text, NoMemory>
+    ensures { IfOk result (λ id. id ≡ decimal row) }
+{
+    let digits = format!(in alloc; "{row}")?;
+    Text::new(alloc, digits.as_bytes())
+}
+
+// The rows of a column as standard records, each with its number as its id.
+fn numbered_file(alloc: Global, table: &Table) -> Result<StdFile, NoMemory>
+    requires few { length table.now ≤ MOST_ROWS }
+    requires width { All (λ (r : TableRow). length r.fields ≡ 1) table.now }
+    ensures { IfOk result (λ file. file ≡ numbered 0 (map cell_of table.now)) }
+{
+    let mut file = StdFile::new(alloc)?;
+    for at in 0..table.rows() {
+        let id = row_id(alloc, u64::from(at) + 1)?;
+        file.push(id, row_of(alloc, table.field(at, 0))?)?;
+    }
+    Ok(file)
+}
+
+// The pairs of rows of two columns with the same field.
+#[tactic(auto, using(crate::proofs::ColumnLemmas::columns_compared))]
+fn compare_columns(alloc: Global, a: &Table, b: &Table) -> Result<Pairs, Fault>
+    requires few_a { length a.now ≤ MOST_ROWS }
+    requires few_b { length b.now ≤ MOST_ROWS }
+    requires width_a { All (λ (r : TableRow). length r.fields ≡ 1) a.now }
+    requires width_b { All (λ (r : TableRow). length r.fields ≡ 1) b.now }
+    ensures kind { IfErr result IsInputFault }
+    ensures answer { IsAnswer (pairs_of_fields (map cell_of a.now) (map cell_of b.now)) result }
+{
+    let a = numbered_file(alloc, a)?;
+    let b = numbered_file(alloc, b)?;
+    let passes = whole_pass(alloc)?;
+    match walk(alloc, &a, &b, &passes) {
+        Ok(pairs) => Ok(pairs),
+        Err(WalkFault::TooManyPairs { limit }) => Err(Fault::TooManyPairs { limit }),
+        Err(WalkFault::NoMemory) => Err(Fault::NoMemory),
+    }
+}
+
+// The pairs of a column of two files.
+fn compare_files(alloc: Global, column: &str, a: &[u8], b: &[u8]) -> Result<Pairs, Fault>
+    ensures kind { IfErr result IsInputFault }
+    ensures answer { IsAnswer (pairs_of_files column.now a.now b.now) result }
+{
+    match read_column(alloc, FileRole::A, column, a) {
+        Ok(of_a) => match read_column(alloc, FileRole::B, column, b) {
+            Ok(of_b) => compare_columns(alloc, &of_a, &of_b),
+            Err(fault) => Err(fault),
+        },
+        Err(fault) => Err(fault),
+    }
+}
+
+/// The rows of the pairs of a column of two comma files: the header `row_a,row_b`, and a line for each pair of rows whose
+/// fields in the column are equal byte for byte and not empty, rising, with the numbers of both rows from 1 on. The first
+/// fault is that of A, then that of B, and then `TooManyPairs` exactly where there are more than 2,000,000 pairs.
+pub fn pair_rows(alloc: Global, column: &str, a: &[u8], b: &[u8]) -> Result<Text, Fault>
+    ensures kind { IfErr result IsInputFault }
+    ensures answer { IsAnswer (rows_of_pairs column.now a.now b.now) result }
+{
+    match compare_files(alloc, column, a, b) {
+        Ok(pairs) => Ok(Text::of(rows_text(alloc, pairs.get())?)),
+        Err(fault) => Err(fault),
+    }
+}

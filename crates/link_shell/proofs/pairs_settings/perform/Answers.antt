@@ -1,0 +1,15 @@
+use Rattle.std.proofs.Common.{rules}
+use Rattle.link_shell.proofs.DoesFacts.{does_fail, does_go, does_print, does_stop}
+use Rattle.link_shell.proofs.StepFacts.{takes_ok, takes_value}
+use Rattle.link_shell.proofs.pairs_settings.perform.Goals as goal
+
+pub returns-in_err-described : goal.returns-in_err-described
+returns-in_err-described g c = does_stop _ _ _ c.in_err-described.ensures.takes c.from_residual.ensures.1
+
+pub returns-in_err-text : goal.returns-in_err-text
+returns-in_err-text g c =
+    does_go _ _ _ c.in_ok-described.ensures.takes (does_fail _ _ (takes_value c.in_err-text.ensures.kind (search rules)) c.from_residual-in_err-text.ensures.1)
+
+pub returns : goal.returns
+returns g c =
+    does_go _ _ _ c.in_ok-described.ensures.takes (does_print _ _ (takes_ok c.in_ok-text.text (search rules)) c.print.ensures (search rules))

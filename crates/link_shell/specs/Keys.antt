@@ -1,0 +1,19 @@
+-- The command `keys WORD..`.
+use Rattle.std.specs.Prelude.{ℕ, List, drop, length, Bool, ◌&&◌, nat_le, bytes_eq, codes, Ok}
+use Rattle.std.specs.List.{list_all}
+use Rattle.link_limits.specs.declared.TheConstants.{MOST_NAME_BYTES}
+use Rattle.link_core.specs.NameKeys.{keys_text}
+use Rattle.link_shell.specs.Does.{Script}
+use Rattle.link_shell.specs.Due.{is_printed}
+use Rattle.link_shell.specs.Steps.{gives}
+use Rattle.link_shell.specs.Words.{word}
+
+-- 1 to 100 words of at most 255 bytes
+abbrev pub are_keys_words : List (List ℕ) → Bool
+are_keys_words words =
+    nat_le 2 (length words) && nat_le (length words) 101 && bytes_eq (word words 0) (codes "keys")
+    && list_all (λ w. nat_le (length w) MOST_NAME_BYTES) (drop 1 words)
+
+-- the text of the words: nothing is loaded
+abbrev pub keys_script : List (List ℕ) → Script
+keys_script words = record { Found = List ℕ; steps = gives (Ok (keys_text words)); due = is_printed }
