@@ -5,13 +5,12 @@ use Rattle.std.proofs.lemmas.List.Elements.{All-get_or, All-weaker}
 use Rattle.link_base.specs.Standard.{absent, IsValid, no_record, Record}
 use Rattle.link_base.specs.declared.plan.FieldSort.{FieldSort}
 use Rattle.link_base.specs.declared.plan.FieldSort.TheVariants as sort
-use Rattle.link_base.specs.declared.plan.KeyKind.{KeyKind}
-use Rattle.link_base.specs.declared.plan.KeyKind.TheVariants as key
 use Rattle.link_base.specs.declared.plan.Part.{Part}
 use Rattle.link_base.specs.declared.standard.Value.{Value}
 use Rattle.link_base.specs.declared.standard.Value.TheVariants as value
 use Rattle.block_passes.specs.Index.{row_at}
-use Rattle.block_passes.specs.Keys.{AreReadable, InRange, IsReadable, no_part}
+use Rattle.block_passes.specs.Keys.{AreReadable, InRange, no_part}
+use Rattle.value_canons.proofs.ReadableLemmas.{readable_valid}
 use Rattle.pair_walk.specs.Rows.{AreAllReady}
 use Rattle.pooled_values.specs.Ready.{AreInRange, IsRowFor}
 use Rattle.settings.specs.Plan.{FieldKeys}
@@ -32,15 +31,6 @@ valid_of_sort (sort.Date a b) value.Absent h = tt
 valid_of_sort (sort.Date a b) (value.Word x) h = absurd h
 valid_of_sort (sort.Date a b) (value.Day d) h = h
 
-readable_of_valid : (k : KeyKind) (v : Value) → IsValid v → IsReadable k v
-readable_of_valid k value.Absent h = tt
-readable_of_valid key.Whole (value.Word x) h = tt
-readable_of_valid key.Soundex (value.Word x) h = tt
-readable_of_valid key.Nysiis (value.Word x) h = tt
-readable_of_valid (key.First n) (value.Word x) h = h
-readable_of_valid key.Year (value.Word x) h = tt
-readable_of_valid k (value.Day d) h = h
-
 values_valid : (ss : List FieldSort) (vs : List Value) → AreOfSorts ss vs → (k : ℕ) (d : Value) → k < length vs → IsValid (get_or vs k d)
 values_valid [] [] h k d lt = absurd (omega arith)
 values_valid [] (v ∷ vs) h k d lt = absurd h
@@ -59,7 +49,7 @@ module _ (fields : List FieldKeys) (parts : List Part) (row : List Value) (all :
   fields_in_range k lt = let of : (get_or parts k no_part).field < length fields = (All-get_or (IsPart fields) parts k no_part lt all).field in omega arith
 
   values_readable : AreReadable row parts
-  values_readable k lt = readable_of_valid (get_or parts k no_part).key (get_or row (get_or parts k no_part).field absent) (valid (get_or parts k no_part).field absent (fields_in_range k lt))
+  values_readable k lt = readable_valid (get_or parts k no_part).key (get_or row (get_or parts k no_part).field absent) (valid (get_or parts k no_part).field absent (fields_in_range k lt))
 
 width_of_plan : (plan : Plan) (row : List Value) → AreOfSorts (sorts_of plan) row → length row ≡ length plan.fields
 width_of_plan plan row h = as_many (sorts_of plan) row h ∙ length-map plan.fields (λ (f : FieldKeys). f.sort)
