@@ -4,7 +4,7 @@ use Rattle.std.specs.List.{All}
 use Rattle.std.specs.Str.{trim}
 use Rattle.std.proofs.lemmas.List.{length-map}
 use Rattle.std.proofs.lemmas.List.Elements.{All-cons, All-head, All-nil, All-tail}
-use Rattle.link_base.specs.Standard.{IsValid, Record}
+use Rattle.link_base.specs.Standard.{HaveDistinctIds, IsValid, Record}
 use Rattle.link_base.specs.declared.fault.Fault.{Fault}
 use Rattle.link_base.specs.declared.fault.FileRole.{FileRole}
 use Rattle.link_base.specs.declared.plan.DateForm.{DateForm}
@@ -87,11 +87,12 @@ records_are (Some f) whole file e = cc e
 
 -- the records of a file in standard values are of the plan
 pub file_of_plan : (sort_in : FieldSort → TextSort) → Keeps sort_in → (r : FileRole) (plan : Plan) (sorts : List TextSort) (table : List TableRow) (file : StandardFile)
-    → sorts ≡ sorts_in sort_in plan.fields → IsReadTable plan table → standard_file r plan sorts table ≡ Ok file → All HasValid file.records → AreOfPlan plan file.records
-file_of_plan sort_in keeps r plan sorts table file es known e valid =
+    → sorts ≡ sorts_in sort_in plan.fields → IsReadTable plan table → standard_file r plan sorts table ≡ Ok file → All HasValid file.records → HaveDistinctIds file.records → AreOfPlan plan file.records
+file_of_plan sort_in keeps r plan sorts table file es known e valid distinct =
     let is = records_are (cond plan.strict (dates_fault r plan sorts 1 table) None) (record { records = standard_records plan.tables sorts table; unreadable = unreadable_in plan.tables sorts table }) file e in
     let same : file.records ≡ standard_records plan.tables (sorts_in sort_in plan.fields) table = rw (← es) is in
     record {
       few = rw (same, length-map table (standard_record plan.tables (sorts_in sort_in plan.fields))) known.few;
+      distinct = distinct;
       sorts = rw same (rows_of_sorts sort_in keeps plan.tables plan.fields table known.width (rw same at valid));
     }

@@ -1,8 +1,10 @@
--- The standard files of a plan: the tables of A and of B with each text as its standard value.
+-- The standard files of a plan: the tables of A and of B with each text as its standard value (`read_files`, clause
+-- `answer`; what their records keep: `of_a` and `of_b`).
 use Rattle.std.specs.Prelude.{◌≡◌, ◌≢◌, ◌+◌, ◌≤◌, ℕ, List, [], ◌∷◌, length, map, All, AllPairs, Option, Some, None, Result, Ok, if◌then◌else◌, slice_index_or}
 use Rattle.link_base.specs.Answers.{and_then}
 use Rattle.link_base.specs.Fault.{or_else}
-use Rattle.link_base.specs.Standard.{Record}
+use Rattle.link_limits.specs.declared.TheConstants.{MOST_ROWS}
+use Rattle.link_base.specs.Standard.{HaveDistinctIds, Record}
 use Rattle.link_base.specs.declared.fault.Fault.{Fault}
 use Rattle.link_base.specs.declared.fault.Fault.TheVariants as fault
 use Rattle.link_base.specs.declared.fault.FileRole.{FileRole}
@@ -17,16 +19,12 @@ use Rattle.settings.specs.declared.plan.Plan.{Plan}
 use Rattle.standard_files.specs.Values.{AreOfSorts, sort_in_a, sort_in_b, standard_records, unreadable_from, unreadable_in}
 use Rattle.standard_files.specs.declared.sorts.TextSort.{TextSort}
 
--- the most rows of a file
-abbrev pub most_rows : ℕ
-most_rows = 100000
-
 -- what a plan wants of A, and of B
 abbrev pub wanted_a : Plan → Wanted
-wanted_a plan = record { id = Some plan.id_a; columns = map (λ (f : FieldKeys). f.column_a) plan.fields; most = most_rows }
+wanted_a plan = record { id = Some plan.id_a; columns = map (λ (f : FieldKeys). f.column_a) plan.fields; most = MOST_ROWS }
 
 abbrev pub wanted_b : Plan → Wanted
-wanted_b plan = record { id = Some plan.id_b; columns = map (λ (f : FieldKeys). f.column_b) plan.fields; most = most_rows }
+wanted_b plan = record { id = Some plan.id_b; columns = map (λ (f : FieldKeys). f.column_b) plan.fields; most = MOST_ROWS }
 
 abbrev pub table_a : Plan → List ℕ → Result (List TableRow) Fault
 table_a plan bytes = table_of role.A (wanted_a plan) (records_in plan.delimiter_a bytes)
@@ -89,14 +87,15 @@ standard_files plan bytes_a bytes_b =
     and_then (table_b plan bytes_b) (λ of_b.
     standard_pair plan of_a of_b))
 
--- at most so many records, each with a value for each field of the plan
+-- at most so many records, no id twice, each with a value for each field of the plan
 pub record AreOfPlan (plan : Plan) (records : List Record) : Type 0 where
-  pub few : length records ≤ most_rows
+  pub few : length records ≤ MOST_ROWS
+  pub distinct : HaveDistinctIds records
   pub sorts : All (λ (r : Record). AreOfSorts (sorts_of plan) r.row) records
 
 -- a table that was read for a plan: a text for each field, and no id twice
 pub record IsReadTable (plan : Plan) (table : List TableRow) : Type 0 where
-  pub few : length table ≤ most_rows
+  pub few : length table ≤ MOST_ROWS
   pub width : All (λ (r : TableRow). length r.fields ≡ length plan.fields) table
   pub texts : HasTexts table
   pub distinct : AllPairs (λ (x y : TableRow). x.id ≢ y.id) table

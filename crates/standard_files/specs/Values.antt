@@ -1,4 +1,4 @@
--- The standard values of the texts of a file.
+-- The standard values of the texts of a file, of which `standard_files` makes its records (`read_files`, clause `answer`).
 use Rattle.std.specs.Prelude.{◌+◌, ℕ, List, [], ◌∷◌, map, Bool, true, false, Option, Some, None, IsUtf8, if◌then◌else◌, sum_by, ⊤}
 use Rattle.link_base.specs.Standard.{IsDay, Record}
 use Rattle.link_base.specs.declared.plan.FieldSort.{FieldSort}

@@ -1,14 +1,15 @@
 // The standard files of a plan.
 ghost use Rattle.std.specs.Prelude.{◌≡◌, ◌+◌, ◌*◌, ◌<◌, ◌≤◌, ◌∷◌, ◌++◌, [], All, length, IfErr, IfOk, IfSome, OnOk, None, if◌then◌else◌};
 ghost use Rattle.link_base.specs.Fault.{IsAnswer, IsInputFault};
-ghost use Rattle.link_base.specs.Standard.{IsValid, Record};
+ghost use Rattle.link_base.specs.Standard.{HaveDistinctIds, IsValid, Record};
 ghost use Rattle.file_reader.specs.Table.{Tests};
 ghost use Rattle.standard_files.specs.Files.{AreOfPlan, date_fault, IsReadTable, sorts_a, sorts_b, standard_file, standard_files, standard_pair};
 
 use crate::row::standard_row;
 use crate::sources::{Source, read_a, read_b};
 use crate::values::ValueTables;
-use link_base::{Fault, FileRole, StdFile, StdRow, Text};
+use link_base::{Fault, FileRole, StdFile, StdRow, Text, distinct_ids};
+use link_limits::MOST_FIELDS;
 use settings::Plan;
 use std::alloc::Global;
 use std::marker::Model;
@@ -81,10 +82,11 @@ fn standard_file(
     requires tables { tables.now ≡ plan.now.tables }
     requires table { IsReadTable plan.now source.now.table }
     requires sorts { length source.now.sorts.items ≡ length plan.now.fields }
-    requires few { length source.now.sorts.items ≤ 6 }
+    requires few { length source.now.sorts.items ≤ MOST_FIELDS }
     ensures kind { IfErr result IsInputFault }
     ensures answer { IsAnswer (standard_file role plan.now source.now.sorts.items source.now.table) result }
     ensures valid { IfOk result (λ file. All (λ (r : Record). All IsValid r.row) file.records) }
+    ensures distinct { IfOk result (λ file. HaveDistinctIds file.records) }
 {
     let table = &source.table;
     let mut file = StdFile::new(alloc)?;
@@ -98,6 +100,7 @@ fn standard_file(
         unreadable += row.unreadable;
         file.push(Text::new(alloc, table.id(at))?, StdRow::new(row.values))?;
     }
+    distinct_ids(&file);
     Ok(StandardFile { file, unreadable })
 }
 
@@ -107,8 +110,8 @@ fn standard_pair(alloc: Global, plan: &Plan, a: &Source, b: &Source) -> Result<S
     requires read_b { IsReadTable plan.now b.now.table }
     requires sorts_a { a.now.sorts.items ≡ sorts_a plan.now }
     requires sorts_b { b.now.sorts.items ≡ sorts_b plan.now }
-    requires few_a { length a.now.sorts.items ≤ 6 }
-    requires few_b { length b.now.sorts.items ≤ 6 }
+    requires few_a { length a.now.sorts.items ≤ MOST_FIELDS }
+    requires few_b { length b.now.sorts.items ≤ MOST_FIELDS }
     ensures kind { IfErr result IsInputFault }
     ensures answer { IsAnswer (standard_pair plan.now a.now.table b.now.table) result }
     ensures of_a { IfOk result (λ pair. AreOfPlan plan.now pair.a.records) }

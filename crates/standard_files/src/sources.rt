@@ -9,11 +9,9 @@ ghost use Rattle.standard_files.specs.declared.sources.Source.{Source};
 use crate::sorts::TextSort;
 use file_reader::{Layout, Table, read_table};
 use link_base::{Fault, FileRole, NoMemory, Text};
+use link_limits::{MOST_FIELDS, MOST_ROWS};
 use settings::{FieldPlan, Plan};
 use std::alloc::Global;
-
-/// The most rows of a file.
-const MOST_ROWS: u32 = 100_000;
 
 // The columns of a file's fields, and what they hold.
 #[derive(Drop)]
@@ -60,7 +58,7 @@ pub(crate) fn read_a(alloc: Global, plan: &Plan, bytes: &[u8]) -> Result<Source,
     ensures answer { Gives (λ (source : Source). source.table) (table_a plan.now bytes.now) result }
     ensures read { IfOk result (λ source. IsReadTable plan.now source.table) }
     ensures sorts { IfOk result (λ source. source.sorts.items ≡ sorts_a plan.now) }
-    ensures few { IfOk result (λ source. length source.sorts.items ≤ 6) }
+    ensures few { IfOk result (λ source. length source.sorts.items ≤ MOST_FIELDS) }
 {
     let columns = columns_a(alloc, plan.fields.fields())?;
     let layout = Layout {
@@ -83,7 +81,7 @@ pub(crate) fn read_b(alloc: Global, plan: &Plan, bytes: &[u8]) -> Result<Source,
     ensures answer { Gives (λ (source : Source). source.table) (table_b plan.now bytes.now) result }
     ensures read { IfOk result (λ source. IsReadTable plan.now source.table) }
     ensures sorts { IfOk result (λ source. source.sorts.items ≡ sorts_b plan.now) }
-    ensures few { IfOk result (λ source. length source.sorts.items ≤ 6) }
+    ensures few { IfOk result (λ source. length source.sorts.items ≤ MOST_FIELDS) }
 {
     let columns = columns_b(alloc, plan.fields.fields())?;
     let layout = Layout {
