@@ -42,23 +42,23 @@ count_few : (t : Edge → ℕ → Bool) (xs : List Edge) (i : ℕ) → count_at 
 count_few t [] i = omega arith
 count_few t (x ∷ xs) i = (let rest = count_few t xs (suc i) in elim (t x i) as (λ b. (cond b 1 0) + count_at t xs (suc i) ≤ length (x ∷ xs)) [ true ↦ omega (arith, rest) | false ↦ omega (arith, rest) ])
 
-pub left_few : (es : List Edge) (da : List ℕ) (row next : ℕ) → left es da row next ≤ length es
-left_few es da row next = count_few (is_left da row next) es 0
+pub left_few : (es : List Edge) (da : List ℕ) (position next : ℕ) → left es da position next ≤ length es
+left_few es da position next = count_few (is_left da position next) es 0
 
 -- fewer are left from a later place on
-pub left_later : (es : List Edge) (da : List ℕ) (row n m : ℕ) → n ≤ m → left es da row m ≤ left es da row n
-left_later es da row n m le = count_fewer (is_left da row n) (is_left da row m) es 0 (λ e k on. grind (arith, nat_tests))
+pub left_later : (es : List Edge) (da : List ℕ) (position n m : ℕ) → n ≤ m → left es da position m ≤ left es da position n
+left_later es da position n m le = count_fewer (is_left da position n) (is_left da position m) es 0 (λ e k on. grind (arith, nat_tests))
 
--- past the last edge it does not matter of which row
-pub left_any : (es : List Edge) (da : List ℕ) (row row' : ℕ) → left es da row (length es) ≡ left es da row' (length es)
-left_any es da row row' = count_same (is_left da row (length es)) (is_left da row' (length es)) es 0 (λ k l. grind (arith, nat_tests))
+-- past the last edge it does not matter of which record
+pub left_any : (es : List Edge) (da : List ℕ) (position position' : ℕ) → left es da position (length es) ≡ left es da position' (length es)
+left_any es da position position' = count_same (is_left da position (length es)) (is_left da position' (length es)) es 0 (λ k l. grind (arith, nat_tests))
 
 -- the two tests, by the facts on the numbers
-left_yes : (da : List ℕ) (row next : ℕ) (e : Edge) (i : ℕ) → e.a ≡ row → next ≤ i → is_left da row next e i ≡ true
-left_yes da row next e i same le = grind (arith, nat_tests)
+left_yes : (da : List ℕ) (position next : ℕ) (e : Edge) (i : ℕ) → e.a ≡ position → next ≤ i → is_left da position next e i ≡ true
+left_yes da position next e i same le = grind (arith, nat_tests)
 
-left_no : (da : List ℕ) (row next : ℕ) (e : Edge) (i : ℕ) → distance da e.a < far → i < next → is_left da row next e i ≡ false
-left_no da row next e i near lt = grind (arith, nat_tests)
+left_no : (da : List ℕ) (position next : ℕ) (e : Edge) (i : ℕ) → distance da e.a < far → i < next → is_left da position next e i ≡ false
+left_no da position next e i near lt = grind (arith, nat_tests)
 
 pub left_relaxed : (es : List Edge) (da : List ℕ) (k : ℕ) → k < length es → distance da (edge es k).a < far → left es da (edge es k).a k ≡ left es da (edge es k).a (k + 1) + 1
 left_relaxed es da k lt near =
@@ -67,10 +67,10 @@ left_relaxed es da k lt near =
     (left_no da (edge es k).a (k + 1) (edge es k) (0 + k) near (omega arith))
     (λ j l ne. grind (arith, nat_tests))
 
-pub left_joined : (es : List Edge) (da : List ℕ) (row last dist : ℕ) → row < length da → distance da row ≡ far → dist < far → left es (set da row dist) row 0 ≡ left es da last (length es)
-left_joined es da row last dist lt new near =
-    count_same (is_left (set da row dist) row 0) (is_left da last (length es)) es 0 (λ k l.
-    elim (cases_eq (edge es k).a row) [
-      | inl e ↦ rw (e, get_or-set_same da row dist far lt) (grind (arith, nat_tests))
-      | inr ne ↦ rw (get_or-set_other da row (edge es k).a dist far ne) (grind (arith, nat_tests))
+pub left_joined : (es : List Edge) (da : List ℕ) (position last dist : ℕ) → position < length da → distance da position ≡ far → dist < far → left es (set da position dist) position 0 ≡ left es da last (length es)
+left_joined es da position last dist lt new near =
+    count_same (is_left (set da position dist) position 0) (is_left da last (length es)) es 0 (λ k l.
+    elim (cases_eq (edge es k).a position) [
+      | inl e ↦ rw (e, get_or-set_same da position dist far lt) (grind (arith, nat_tests))
+      | inr ne ↦ rw (get_or-set_other da position (edge es k).a dist far ne) (grind (arith, nat_tests))
     ])

@@ -1,4 +1,4 @@
--- A link over a tight edge, of which neither row has a link.
+-- A link over a tight edge, of which neither record has a link.
 use Rattle.std.proofs.Common.{◌≡◌, ℕ, ◌<◌, List, length, set, Option, Some, None, false, refl, sym, ◌∙◌, inl, inr, arith}
 use Rattle.std.specs.Option.{is_some}
 use Rattle.std.proofs.lemmas.Bool.{false≢true}
@@ -11,8 +11,8 @@ use Rattle.assignment.proofs.Ways.{tight_turned}
 
 pub between_linked : (es : List Edge) (pa pb : List ℕ) (la lb : List (Option ℕ)) (k : ℕ) → IsBetween es pa pb la lb 0 → k < length es → link la (edge es k).a ≡ None → link lb (edge es k).b ≡ None → IsTight es pa pb k → IsBetween es pa pb (set la (edge es k).a (Some k)) (set lb (edge es k).b (Some k)) 0
 between_linked es pa pb la lb k w lt free_a free_b tight =
-    let ra : (edge es k).a < length la = omega (arith, w.in_range.row_a k lt, w.rows_a) in
-    let rb : (edge es k).b < length lb = omega (arith, w.in_range.row_b k lt, w.rows_b) in
+    let ra : (edge es k).a < length la = omega (arith, w.in_range.record_a k lt, w.rows_a) in
+    let rb : (edge es k).b < length lb = omega (arith, w.in_range.record_b k lt, w.rows_b) in
     record {
       rows_a = rw length-set w.rows_a;
       rows_b = rw length-set w.rows_b;

@@ -1,8 +1,8 @@
 // The assigner and its answer.
 ghost use Rattle.std.specs.Prelude.{◌≡◌, ◌+◌, ◌<◌, ◌≤◌, ◌^◌, ℕ, length, List, All, AllPairs, IfOk, slice_index, ℤ, pos, ◌≤ℤ◌};
-ghost use Rattle.assignment_laws.specs.Assignment.{IsBefore, IsOneToOne, IsGreatest, Certifies, price_of};
+ghost use Rattle.assignment_laws.specs.Assignment.{IsBefore, IsWithin, IsGreatest, Certifies, greatest_value, price_of};
 ghost use Rattle.candidate_parts.specs.Parts.{ArePartNumbers};
-ghost use Rattle.assignment.specs.Final.{IsAllowed, IsWithin};
+ghost use Rattle.assignment.specs.Solution.{HasSmallValue};
 ghost use Rattle.assignment.specs.Growth.{IsClean, IsRising};
 ghost use Rattle.assignment.specs.Round.{IsBetween, AreSmall};
 
@@ -12,6 +12,7 @@ use crate::solve::{clean_tree, edges_of, first_prices, linked, no_links, zeros};
 use assignment_laws::certified_is_greatest;
 use candidate_parts::{PartNumbers, part_numbers};
 use link_base::{Candidate, NoMemory};
+use link_limits::MOST_PAIRS;
 use std::alloc::Global;
 use std::marker::Model;
 
@@ -31,8 +32,7 @@ pub struct Assigner {
 }
 
 impl Model for Assigner {
-    ghost use Rattle.candidate_parts.specs.Parts.{ArePartNumbers};
-    ghost use Rattle.assignment.specs.Final.{Problem};
+    ghost use Rattle.assignment.specs.Solution.{Problem};
 
     ghost Value = { Problem };
 
@@ -52,18 +52,18 @@ pub struct Assignment {
 }
 
 impl Model for Assignment {
-    ghost use Rattle.candidate_parts.specs.Parts.{ArePartNumbers};
-    ghost use Rattle.assignment.specs.Final.{Solution, prices_of};
-    ghost use Rattle.std.specs.Prelude.{All, ◌≤◌};
+    ghost use Rattle.assignment.specs.Final.{prices_of};
+    ghost use Rattle.assignment.specs.Prepared.{AreBounded};
+    ghost use Rattle.assignment.specs.Solution.{Solution};
 
     ghost Value = { Solution };
 
     ghost view = { λ s. record { links = s.links.items; prices_a = prices_of s.price_a.items; prices_b = prices_of s.price_b.items } };
 
-    ghost invariant = { λ s. All (λ p. p ≤ 1000000) s.price_a.items × All (λ p. p ≤ 1000000) s.price_b.items };
+    ghost invariant = { λ s. AreBounded s.links.items s.price_a.items × AreBounded s.links.items s.price_b.items };
 }
 
-/// Takes every row of A up in turn.
+/// Takes every record of A up in turn.
 fn run(
     edges: &Vec<Edge>,
     price_a: &mut Vec<u64>,
@@ -85,18 +85,19 @@ fn run(
 }
 
 impl Assigner {
-    /// Takes all the memory that a solution needs, for at most 2,000,000 candidates that rise strictly
-    /// by their rows, each of a value of at most 1,000,000. Want of memory is the only error.
+    /// Takes all the memory that a solution needs, for at most [`MOST_PAIRS`] candidates that rise strictly
+    /// by record of A, then of B, each of a value of at most `link_limits::MOST_VALUE`. Want of memory is
+    /// the only error.
     pub fn new(
         alloc: Global,
         rows_a: u32,
         rows_b: u32,
         candidates: &[Candidate],
     ) -> Result<Assigner, NoMemory>
-        requires count { length candidates.now ≤ 2000000 }
+        requires count { length candidates.now ≤ MOST_PAIRS }
         requires rising { AllPairs IsBefore candidates.now }
         requires within { All (IsWithin rows_a rows_b) candidates.now }
-        requires small { All IsAllowed candidates.now }
+        requires small { All HasSmallValue candidates.now }
         ensures rows_a { IfOk result (λ s. s.rows_a ≡ rows_a) }
         ensures rows_b { IfOk result (λ s. s.rows_b ≡ rows_b) }
         ensures candidates { IfOk result (λ s. s.candidates ≡ candidates.now) }
@@ -124,7 +125,7 @@ impl Assigner {
     }
 
     /// How many parts the candidates have. Two candidates are of one part exactly where a chain of
-    /// candidates leads from one to the other in which each shares a row with the next. Parts are
+    /// candidates leads from one to the other in which each shares a record with the next. Parts are
     /// numbered from 0 in the order of their first candidates.
     pub fn parts(&self) -> u32
         ensures { ArePartNumbers self.now.candidates self.now.part_numbers result }
@@ -179,27 +180,31 @@ impl Assigner {
 }
 
 impl Assignment {
-    /// The links, rising by their rows.
+    /// The links, rising by their records.
     pub fn links(&self) -> &[Candidate]
         ensures { result.now ≡ self.now.links }
     {
         self.links.as_slice()
     }
 
-    /// The dual price of a row of A, at least 0 and in the unit of the values.
+    /// The dual price of a record of A, in the unit of the values: at least 0, and at most the greatest of 0
+    /// and the links' values.
     pub fn price_a(&self, a: u32) -> i64
         requires { a < length self.now.prices_a }
         ensures price { result ≡ price_of self.now.prices_a a }
         ensures floor { pos 0 ≤ℤ result }
+        ensures most { result ≤ℤ greatest_value self.now.links }
     {
         self.price_a[a as usize] as i64
     }
 
-    /// The dual price of a row of B, at least 0 and in the unit of the values.
+    /// The dual price of a record of B, in the unit of the values: at least 0, and at most the greatest of 0
+    /// and the links' values.
     pub fn price_b(&self, b: u32) -> i64
         requires { b < length self.now.prices_b }
         ensures price { result ≡ price_of self.now.prices_b b }
         ensures floor { pos 0 ≤ℤ result }
+        ensures most { result ≤ℤ greatest_value self.now.links }
     {
         self.price_b[b as usize] as i64
     }

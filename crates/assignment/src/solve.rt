@@ -2,8 +2,10 @@
 ghost use Rattle.std.specs.Prelude.{◌≡◌, ◌≢◌, ◌+◌, ◌-◌, ◌<◌, ◌≤◌, ◌^◌, ℕ, length, slice_index, slice_index_or, List, [], None, Some, Contains, All, AllPairs, vec_len, vec_capacity, MatchOption, IfOk, filter, filter_map, replicate};
 ghost use Rattle.assignment_laws.specs.Assignment.{IsBefore, IsGreatest, Certifies};
 ghost use Rattle.assignment.specs.Core.{number, edge};
-ghost use Rattle.assignment.specs.Final.{edges_of, edge_from, is_linked, prices_of, IsAllowed, ReachAll, IsWithin};
-ghost use Rattle.assignment.specs.Round.{IsBetween, AreSmall};
+ghost use Rattle.assignment.specs.Final.{edges_of, edge_from, is_linked, prices_of, ReachAll};
+ghost use Rattle.assignment.specs.Round.{AreSmall};
+ghost use Rattle.assignment.specs.Solution.{HasSmallValue};
+ghost use Rattle.link_limits.specs.declared.TheConstants.{MOST_VALUE};
 ghost use Rattle.assignment.specs.Growth.{IsClean, IsRising};
 
 use crate::market::{Edge, FAR, Tree};
@@ -13,7 +15,7 @@ use std::alloc::Global;
 
 /// A candidate as an edge, where its value is positive.
 fn edge_from(c: Candidate) -> Option<Edge>
-    requires { IsAllowed c }
+    requires { HasSmallValue c }
     ensures { result ≡ edge_from c }
 {
     if c.value <= 0 {
@@ -28,7 +30,7 @@ fn edge_from(c: Candidate) -> Option<Edge>
 
 /// The candidates with positive values as edges.
 pub fn edges_of(alloc: Global, candidates: &[Candidate]) -> Result<Vec<Edge>, NoMemory>
-    requires { All IsAllowed candidates.now }
+    requires { All HasSmallValue candidates.now }
     ensures { IfOk result (λ v. v.items ≡ edges_of candidates.now) }
 {
     let edges = candidates
@@ -65,7 +67,7 @@ pub fn linked(
     candidates
 }
 
-/// For each row of A the greatest value of its edges, or 0.
+/// For each record of A the greatest value of its edges, or 0.
 pub fn first_prices(alloc: Global, edges: &[Edge], rows_a: usize) -> Result<Vec<u64>, NoMemory>
     requires small { AreSmall edges.now }
     requires within { (k : ℕ) → k < length edges.now → (edge edges.now k).a < rows_a }
@@ -79,14 +81,14 @@ pub fn first_prices(alloc: Global, edges: &[Edge], rows_a: usize) -> Result<Vec<
 }
 
 /// A price that is at least this value.
-fn raise_to(prices: &mut [u64], row: usize, value: u64)
-    requires { row < length prices.old }
-    ensures here { value ≤ number prices.new row }
+fn raise_to(prices: &mut [u64], position: usize, value: u64)
+    requires { position < length prices.old }
+    ensures here { value ≤ number prices.new position }
     ensures kept { (r : ℕ) → number prices.old r ≤ number prices.new r }
-    ensures small { value ≤ 1000000 → ((r : ℕ) → number prices.old r ≤ 1000000) → (r : ℕ) → number prices.new r ≤ 1000000 }
+    ensures small { value ≤ MOST_VALUE → ((r : ℕ) → number prices.old r ≤ MOST_VALUE) → (r : ℕ) → number prices.new r ≤ MOST_VALUE }
 {
-    if prices[row] < value {
-        prices[row] = value;
+    if prices[position] < value {
+        prices[position] = value;
     }
 }
 
@@ -104,7 +106,7 @@ pub fn clean_tree(
     let rank = vec![in alloc; 0usize; rows_a]?;
     let dist_b = vec![in alloc; FAR; rows_b]?;
     let from = vec![in alloc; 0usize; rows_b]?;
-    let rows = Vec::with_capacity(alloc, rows_a)?;
+    let records = Vec::with_capacity(alloc, rows_a)?;
     let touched = Vec::with_capacity(alloc, rows_b)?;
     let frontier = DistanceQueue::new(alloc, edges)?;
     Ok(Tree {
@@ -112,11 +114,11 @@ pub fn clean_tree(
         rank,
         dist_b,
         from,
-        rows,
+        records,
         touched,
         frontier,
         best: 0,
-        best_row: 0,
+        best_record: 0,
         current: 0,
     })
 }
@@ -129,7 +131,7 @@ pub fn zeros(alloc: Global, n: usize) -> Result<Vec<u64>, NoMemory>
     Ok(zeros)
 }
 
-/// As many rows without a link.
+/// As many records without a link.
 pub fn no_links(alloc: Global, n: usize) -> Result<Vec<Option<usize>>, NoMemory>
     ensures { IfOk result (λ v. v.items ≡ replicate n None) }
 {

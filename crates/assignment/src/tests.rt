@@ -1,10 +1,12 @@
 // Links that are known from elsewhere, and a plain search over all one-to-one lists.
 ghost use Rattle.std.specs.Prelude.{All, IfOk, IfSome, IsTrue, length, ◌≡◌, ◌≤◌};
-ghost use Rattle.assignment.specs.Final.{IsAllowed, IsWithin};
+ghost use Rattle.assignment.specs.Solution.{HasSmallValue};
+ghost use Rattle.assignment_laws.specs.Assignment.{IsWithin};
 
-use crate::{Assigner, Assignment};
+use crate::Assigner;
 use assignment_laws::are_rising;
 use link_base::{Candidate, NoMemory};
+use link_limits::{MOST_PAIRS, MOST_VALUE};
 use std::alloc::Global;
 
 fn candidate(a: u32, b: u32, value: i32) -> Candidate {
@@ -23,27 +25,27 @@ fn are_within(candidates: &[Candidate], rows_a: u32, rows_b: u32) -> bool
     candidates.iter().all(|c| c.a < rows_a && c.b < rows_b)
 }
 
-fn are_allowed(candidates: &[Candidate]) -> bool
-    ensures { IsTrue result → All IsAllowed candidates.now }
+fn are_small(candidates: &[Candidate]) -> bool
+    ensures { IsTrue result → All HasSmallValue candidates.now }
 {
-    candidates.iter().all(|c| c.value <= 1000000)
+    candidates.iter().all(|c| c.value <= MOST_VALUE as i32)
 }
 
-/// The assigner of these candidates, where they rise and stand in the rows.
+/// The assigner of these candidates, where they rise and stand in the records.
 fn assigner(
     alloc: Global,
-    rows: u32,
+    records: u32,
     candidates: &[Candidate],
 ) -> Result<Option<Assigner>, NoMemory>
-    ensures { IfOk result (λ made. IfSome made (λ s. (s.candidates ≡ candidates.now) × (s.rows_a ≡ rows) × (s.rows_b ≡ rows))) }
+    ensures { IfOk result (λ made. IfSome made (λ s. (s.candidates ≡ candidates.now) × (s.rows_a ≡ records) × (s.rows_b ≡ records))) }
 {
-    if candidates.len() > 2000000 || !are_rising(candidates) {
+    if candidates.len() > MOST_PAIRS as usize || !are_rising(candidates) {
         return Ok(None);
     }
-    if !are_within(candidates, rows, rows) || !are_allowed(candidates) {
+    if !are_within(candidates, records, records) || !are_small(candidates) {
         return Ok(None);
     }
-    let made = Assigner::new(alloc, rows, rows, candidates)?;
+    let made = Assigner::new(alloc, records, records, candidates)?;
     Ok(Some(made))
 }
 
@@ -55,7 +57,7 @@ fn total(links: &[Candidate]) -> i64 {
     sum
 }
 
-/// What the candidates that a number's bits choose are worth, where no row stands in two of them.
+/// What the candidates that a number's bits choose are worth, where no record stands in two of them.
 fn worth_of(candidates: &[Candidate], chosen: u32) -> Option<i64> {
     let mut rows_a: u32 = 0;
     let mut rows_b: u32 = 0;
@@ -88,7 +90,7 @@ fn most_of(candidates: &[Candidate]) -> i64 {
     most
 }
 
-/// Up to nine candidates of three rows a side, of values from -3 to 3, that a number makes.
+/// Up to nine candidates of three records a side, of values from -3 to 3, that a number makes.
 fn made_from(alloc: Global, number: u32) -> Result<Vec<Candidate>, NoMemory> {
     let mut out = Vec::new(alloc);
     let mut state = u64::from(number);
@@ -104,8 +106,12 @@ fn made_from(alloc: Global, number: u32) -> Result<Vec<Candidate>, NoMemory> {
     Ok(out)
 }
 
-fn total_of(alloc: Global, rows: u32, candidates: &[Candidate]) -> Result<Option<i64>, NoMemory> {
-    match assigner(alloc, rows, candidates)? {
+fn total_of(
+    alloc: Global,
+    records: u32,
+    candidates: &[Candidate],
+) -> Result<Option<i64>, NoMemory> {
+    match assigner(alloc, records, candidates)? {
         None => Ok(None),
         Some(made) => Ok(Some(total(made.solve().links()))),
     }
@@ -164,29 +170,5 @@ fn parts_of_six_and_seven_records(rt: HostRuntime) -> Result<(), NoMemory> {
     };
     assert!(rt; has_parts(&made, [0, 1, 2, 2, 2, 3, 4], 5));
     assert_eq!(rt; total(made.solve().links()), 920);
-    Ok(())
-}
-
-/// The sum of the prices of all rows.
-fn price_sum(solved: &Assignment, rows: u32) -> i64
-    requires rows_a { rows ≤ length solved.now.prices_a }
-    requires rows_b { rows ≤ length solved.now.prices_b }
-{
-    let mut sum: i64 = 0;
-    for row in 0..rows {
-        sum = sum.wrapping_add(solved.price_a(row));
-        sum = sum.wrapping_add(solved.price_b(row));
-    }
-    sum
-}
-
-#[test]
-fn prices_add_up_to_what_the_links_are_worth(rt: HostRuntime) -> Result<(), NoMemory> {
-    let crossed = [candidate(0, 0, 10), candidate(0, 1, 9), candidate(1, 0, 9)];
-    let Some(made) = assigner(rt.alloc(), 2, &crossed)? else {
-        assert!(rt; false);
-        return Ok(());
-    };
-    assert_eq!(rt; price_sum(&made.solve(), 2), 18);
     Ok(())
 }

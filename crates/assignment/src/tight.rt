@@ -4,7 +4,7 @@ ghost use Rattle.assignment.specs.Round.{IsBetween};
 
 use crate::market::Net;
 
-/// Links the rows of the edge `k` where neither has a link and their prices add up to its value.
+/// Links the records of the edge `k` where neither has a link and their prices add up to its value.
 fn link_if_tight(net: Net<'_>, link_a: &mut [Option<usize>], link_b: &mut [Option<usize>], k: usize)
     requires place { k < length net.edges.now }
     requires between { IsBetween net.edges.now net.price_a.now net.price_b.now link_a.old link_b.old 0 }
@@ -24,7 +24,7 @@ fn link_if_tight(net: Net<'_>, link_a: &mut [Option<usize>], link_b: &mut [Optio
     link_b[edge.b] = Some(k);
 }
 
-/// Links rows over tight edges, in the order of the edges.
+/// Links records over tight edges, in the order of the edges.
 pub fn link_tight(net: Net<'_>, link_a: &mut [Option<usize>], link_b: &mut [Option<usize>])
     requires { IsBetween net.edges.now net.price_a.now net.price_b.now link_a.old link_b.old 0 }
     ensures { IsBetween net.entry.edges.now net.entry.price_a.now net.entry.price_b.now link_a.new link_b.new 0 }

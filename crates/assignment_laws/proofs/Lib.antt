@@ -1,3 +1,5 @@
 pub mod Duality
 pub mod Together
 pub mod Rising
+pub mod Members
+pub mod Bounds

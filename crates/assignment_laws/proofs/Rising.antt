@@ -1,13 +1,10 @@
 -- Neighbours that rise make a rising list.
-use Rattle.std.proofs.Common.{◌≡◌, ℕ, ◌<◌, ◌≤◌, ◌+◌, ◌-◌, pos, false, List, length, get_or, inl, inr, arith}
+use Rattle.std.proofs.Common.{◌≡◌, ℕ, ◌<◌, ◌≤◌, ◌+◌, ◌-◌, List, length, get_or, inl, inr, arith}
 use Rattle.std.specs.Prelude.{AllPairs}
 use Rattle.std.proofs.lemmas.List.{get_or_default}
 use Rattle.std.proofs.lemmas.Bool.{cases_eq}
 use Rattle.link_base.specs.declared.rule.Candidate.{Candidate}
 use Rattle.assignment_laws.specs.Assignment.{IsBefore}
-
-abbrev pub no_candidate : Candidate
-no_candidate = record { a = 0; b = 0; weight = pos 0; value = pos 0; reviewed = false }
 
 before_on : (x y z : Candidate) → IsBefore x y → IsBefore y z → IsBefore x z
 before_on x y z (inl p) (inl q) = inl (omega (arith, p, q))

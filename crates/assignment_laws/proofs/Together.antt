@@ -1,15 +1,16 @@
--- The prices of parts that share no row, put together.
-use Rattle.std.proofs.Common.{◌≡◌, ℕ, zero, suc, ◌<◌, ◌≤◌, ℤ, pos, ◌+ℤ◌, ◌≤ℤ◌, Bool, true, false, cond, filter, List, [], ◌∷◌, length, get_or, refl, ap, sym, ◌∙◌, inl, inr, arith}
+-- The prices of parts that share no record, put together.
+use Rattle.std.proofs.Common.{◌≡◌, ℕ, zero, suc, ◌<◌, ◌≤◌, ℤ, pos, ◌+ℤ◌, ◌≤ℤ◌, Bool, true, false, cond, List, [], ◌∷◌, length, get_or, refl, ap, sym, ◌∙◌, inl, inr, arith}
 use Rattle.std.specs.Prelude.{All, AllPairs, Contains, ◌==◌}
 use Rattle.std.proofs.lemmas.Int.{ints}
-use Rattle.std.proofs.lemmas.Bool.{cases_eq, cases_lt, false≢true}
+use Rattle.std.proofs.lemmas.Bool.{cases_eq, cases_lt}
 use Rattle.std.proofs.lemmas.Bool.Decides.{nat_tests}
 use Rattle.std.proofs.lemmas.List.{get_or_default}
 use Rattle.std.proofs.lemmas.List.Elements.{All-head, All-tail, All-cons, All-nil, All-contains, Contains-get_or}
 use Rattle.link_base.specs.declared.rule.Candidate.{Candidate}
-use Rattle.assignment_laws.specs.Assignment.{price_sum, price_of, worth, IsBefore, SharesNoRow, IsCovered, IsOneToOne, Certifies}
+use Rattle.assignment_laws.specs.Assignment.{price_sum, price_of, worth, IsBefore, SharesNoRecord, IsCovered, IsOneToOne, Certifies}
 use Rattle.assignment_laws.specs.Parts.{added, prices_together, in_part, AreCertifiedParts}
 use Rattle.assignment_laws.proofs.Duality.{IsFloored, price_of-floor}
+use Rattle.assignment_laws.proofs.Members.{Contains-filter, clash}
 
 -- Sums over the parts.
 
@@ -58,18 +59,18 @@ worth_parts part n (c ∷ cs) h =
     let rest = worth_parts part n cs (All-tail (λ c. part c < n) c cs h) in
     each ∙ (split ∙ omega (arith, ints, one, rest))
 
--- Prices added row by row.
+-- Prices added record by record.
 
 price_sum-added : (ps qs : List ℤ) → price_sum (added ps qs) ≡ price_sum ps +ℤ price_sum qs
 price_sum-added [] qs = omega (arith, ints)
 price_sum-added (p ∷ ps) [] = omega (arith, ints)
 price_sum-added (p ∷ ps) (q ∷ qs) = omega (arith, ints, price_sum-added ps qs)
 
-price_of-added : (ps qs : List ℤ) (row : ℕ) → price_of (added ps qs) row ≡ price_of ps row +ℤ price_of qs row
-price_of-added [] qs row = omega (arith, ints)
-price_of-added (p ∷ ps) [] row = omega (arith, ints)
+price_of-added : (ps qs : List ℤ) (position : ℕ) → price_of (added ps qs) position ≡ price_of ps position +ℤ price_of qs position
+price_of-added [] qs position = omega (arith, ints)
+price_of-added (p ∷ ps) [] position = omega (arith, ints)
 price_of-added (p ∷ ps) (q ∷ qs) zero = refl
-price_of-added (p ∷ ps) (q ∷ qs) (suc row) = price_of-added ps qs row
+price_of-added (p ∷ ps) (q ∷ qs) (suc position) = price_of-added ps qs position
 
 floored-added : (ps qs : List ℤ) → IsFloored ps → IsFloored qs → IsFloored (added ps qs)
 floored-added [] qs fp fq = fq
@@ -87,56 +88,34 @@ floored-together : (n : ℕ) (prices : ℕ → List ℤ) → ((p : ℕ) → p < 
 floored-together zero prices h = All-nil (λ p. pos 0 ≤ℤ p)
 floored-together (suc n) prices h = floored-added (prices n) (prices_together n prices) (h n (omega arith)) (floored-together n prices (λ p lt. h p (omega arith)))
 
--- a row costs together at least what it costs in one part
-price_of-together : (n : ℕ) (prices : ℕ → List ℤ) (p row : ℕ) → ((p : ℕ) → p < n → IsFloored (prices p)) → p < n → price_of (prices p) row ≤ℤ price_of (prices_together n prices) row
-price_of-together zero prices p row h lt = absurd (omega arith)
-price_of-together (suc n) prices p row h lt =
-    let both = price_of-added (prices n) (prices_together n prices) row in
+-- a record costs together at least what it costs in one part
+price_of-together : (n : ℕ) (prices : ℕ → List ℤ) (p position : ℕ) → ((p : ℕ) → p < n → IsFloored (prices p)) → p < n → price_of (prices p) position ≤ℤ price_of (prices_together n prices) position
+price_of-together zero prices p position h lt = absurd (omega arith)
+price_of-together (suc n) prices p position h lt =
+    let both = price_of-added (prices n) (prices_together n prices) position in
     let more : (p : ℕ) → p < n → IsFloored (prices p) = λ p lt. h p (omega arith) in
     elim (cases_eq p n) [
-      | inl e ↦ rw e (omega (arith, ints, both, price_of-floor (prices_together n prices) row (floored-together n prices more)))
-      | inr ne ↦ omega (arith, ints, both, price_of-floor (prices n) row (h n (omega arith)), price_of-together n prices p row more (omega arith))
+      | inl e ↦ rw e (omega (arith, ints, both, price_of-floor (prices_together n prices) position (floored-together n prices more)))
+      | inr ne ↦ omega (arith, ints, both, price_of-floor (prices n) position (h n (omega arith)), price_of-together n prices p position more (omega arith))
     ]
 
 -- Members of a part.
 
-Contains-later : {X : Type 0} (y : X) (xs : List X) (x : X) → Contains xs x → Contains (y ∷ xs) x
-Contains-later y xs x h = (suc h.0, omega (arith, h.1), h.2)
-
-kept_head : {X : Type 0} (p : X → Bool) (y : X) (ys : List X) (x : X) → (Contains ys x → Contains (filter p ys) x) → p x ≡ true → (k : ℕ) → k < length (y ∷ ys) → get_or (y ∷ ys) k x ≡ x → (b : Bool) → p y ≡ b → Contains (cond b (y ∷ filter p ys) (filter p ys)) x
-kept_head p y ys x rest t zero lt e true q = (zero, omega arith, e)
-kept_head p y ys x rest t zero lt e false q = absurd (false≢true (sym q ∙ (ap p e ∙ t)))
-kept_head p y ys x rest t (suc k) lt e true q = Contains-later y (filter p ys) x (rest (k, omega arith, e))
-kept_head p y ys x rest t (suc k) lt e false q = rest (k, omega arith, e)
-
--- a member that passes the test stays
-pub Contains-filter : {X : Type 0} (p : X → Bool) (xs : List X) (x : X) → Contains xs x → p x ≡ true → Contains (filter p xs) x
-Contains-filter p [] x h t = absurd (omega (arith, h.1))
-Contains-filter {X} p (y ∷ ys) x h t = kept_head p y ys x (λ g. Contains-filter p ys x g t) t h.0 h.1 h.2 (p y) refl
-
 in_part-of : (part : Candidate → ℕ) (p : ℕ) (cs : List Candidate) (c : Candidate) → Contains cs c → part c ≡ p → Contains (in_part part p cs) c
 in_part-of part p cs c inside e = Contains-filter (λ (c : Candidate). part c == p) cs c inside (grind (arith, nat_tests))
 
--- a candidate does not stand before itself
-not_before : (x y : Candidate) → x ≡ y → IsBefore x y → ⊥
-not_before x y e h = before (ap (λ (c : Candidate). c.a) e) (ap (λ (c : Candidate). c.b) e) h
-  where
-    before : x.a ≡ y.a → x.b ≡ y.b → IsBefore x y → ⊥
-    before e f (inl p) = omega (arith, p, e)
-    before e f (inr p) = omega (arith, p.1, f)
-
-pair_apart : (u v x y : Candidate) → u ≡ x → v ≡ y → SharesNoRow u v → SharesNoRow x y
+pair_apart : (u v x y : Candidate) → u ≡ x → v ≡ y → SharesNoRecord u v → SharesNoRecord x y
 pair_apart u v x y eu ev h = (λ e. h.0 (ap (λ (c : Candidate). c.a) eu ∙ (e ∙ sym (ap (λ (c : Candidate). c.a) ev))), λ e. h.1 (ap (λ (c : Candidate). c.b) eu ∙ (e ∙ sym (ap (λ (c : Candidate). c.b) ev))))
 
-turned : (x y : Candidate) → SharesNoRow y x → SharesNoRow x y
+turned : (x y : Candidate) → SharesNoRecord y x → SharesNoRecord x y
 turned x y h = (λ e. h.0 (sym e), λ e. h.1 (sym e))
 
-members_apart : (ms : List Candidate) (x y : Candidate) → AllPairs SharesNoRow ms → Contains ms x → Contains ms y → IsBefore x y → SharesNoRow x y
+members_apart : (ms : List Candidate) (x y : Candidate) → AllPairs SharesNoRecord ms → Contains ms x → Contains ms y → IsBefore x y → SharesNoRecord x y
 members_apart ms x y pairs hx hy before = elim (cases_lt hx.0 hy.0) [
   | inl p ↦ pair_apart (get_or ms hx.0 x) (get_or ms hy.0 x) x y hx.2 (get_or_default ms hy.0 x y hy.1 ∙ hy.2) (pairs hx.0 hy.0 x p hy.1)
   | inr p ↦ elim (cases_lt hy.0 hx.0) [
     | inl q ↦ turned x y (pair_apart (get_or ms hy.0 x) (get_or ms hx.0 x) y x (get_or_default ms hy.0 x y hy.1 ∙ hy.2) hx.2 (pairs hy.0 hx.0 x q hx.1))
-    | inr q ↦ (let at : hx.0 ≡ hy.0 = omega arith in absurd (not_before x y (sym hx.2 ∙ (ap (λ n. get_or ms n x) at ∙ (get_or_default ms hy.0 x y hy.1 ∙ hy.2))) before))
+    | inr q ↦ (let at : hx.0 ≡ hy.0 = omega arith in let same : x ≡ y = sym hx.2 ∙ (ap (λ n. get_or ms n x) at ∙ (get_or_default ms hy.0 x y hy.1 ∙ hy.2)) in absurd (clash x y before (ap (λ (c : Candidate). c.a) same) (ap (λ (c : Candidate). c.b) same)))
   ]
 ]
 
@@ -150,7 +129,7 @@ module _ (candidates links : List Candidate) (part : Candidate → ℕ) (n : ℕ
   floors_b : (p : ℕ) → p < n → IsFloored (pb p)
   floors_b p lt = (h.certified p lt).floor_b
 
-  two_apart : (x y : Candidate) → Contains links x → Contains links y → Contains candidates x → Contains candidates y → part x < n → IsBefore x y → SharesNoRow x y
+  two_apart : (x y : Candidate) → Contains links x → Contains links y → Contains candidates x → Contains candidates y → part x < n → IsBefore x y → SharesNoRecord x y
   two_apart x y lx ly cx cy lt before = elim (cases_eq (part x) (part y)) [
     | inl e ↦ members_apart (in_part part (part x) links) x y (h.one_to_one (part x) lt).apart (in_part-of part (part x) links x lx refl) (in_part-of part (part x) links y ly (sym e)) before
     | inr ne ↦ h.apart.apart x y cx cy ne

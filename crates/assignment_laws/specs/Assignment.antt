@@ -1,5 +1,13 @@
-use Rattle.std.specs.Prelude.{◌≡◌, ◌≢◌, ◌⊎◌, ℕ, ◌<◌, ℤ, pos, ◌+ℤ◌, ◌≤ℤ◌, List, [], ◌∷◌, All, AllPairs, Contains, slice_index_or}
+-- One-to-one lists of candidates, greatest lists, and certificates by dual prices (Kuhn 1955).
+-- Promised by `Assigner::solve` of `assignment` (clauses `greatest` and `certified`) and decided by `check`
+-- of `price_check` (clauses `certified` and `greatest`).
+use Rattle.std.specs.Prelude.{◌≡◌, ◌≢◌, ◌⊎◌, ℕ, ◌<◌, ℤ, pos, ◌+ℤ◌, ◌≤ℤ◌, false, List, [], ◌∷◌, All, AllPairs, Contains, fold, map, slice_index_or}
+use Rattle.std.specs.Int.{int_max}
 use Rattle.link_base.specs.declared.rule.Candidate.{Candidate}
+
+-- what is read past the end of a list of candidates
+abbrev pub no_candidate : Candidate
+no_candidate = record { a = 0; b = 0; weight = pos 0; value = pos 0; reviewed = false }
 
 -- the sum of what the members are worth
 abbrev pub total : {X : Type 0} → (X → ℤ) → List X → ℤ
@@ -10,34 +18,42 @@ total f (x ∷ xs) = f x +ℤ total f xs
 abbrev pub price_sum : List ℤ → ℤ
 price_sum prices = total (λ p. p) prices
 
--- the price of a row, 0 for a row that is not there
+-- the price of a record, 0 for a record that is not there
 abbrev pub price_of : List ℤ → ℕ → ℤ
-price_of prices row = slice_index_or prices row (pos 0)
+price_of prices position = slice_index_or prices position (pos 0)
 
 -- what a list of candidates is worth
 abbrev pub worth : List Candidate → ℤ
 worth links = total (λ c. c.value) links
 
+-- the greatest of 0 and the candidates' values
+abbrev pub greatest_value : List Candidate → ℤ
+greatest_value candidates = fold int_max (pos 0) (map (λ c. c.value) candidates)
+
 -- x stands before y by (a, b)
 abbrev pub IsBefore : Candidate → Candidate → Type 0
 IsBefore x y = (x.a < y.a) ⊎ ((x.a ≡ y.a) × (x.b < y.b))
 
--- no row stands in both
-abbrev pub SharesNoRow : Candidate → Candidate → Type 0
-SharesNoRow x y = (x.a ≢ y.a) × (x.b ≢ y.b)
+-- the candidate is of two records that are there
+abbrev pub IsWithin : ℕ → ℕ → Candidate → Type 0
+IsWithin rows_a rows_b c = (c.a < rows_a) × (c.b < rows_b)
+
+-- no record stands in both
+abbrev pub SharesNoRecord : Candidate → Candidate → Type 0
+SharesNoRecord x y = (x.a ≢ y.a) × (x.b ≢ y.b)
 
 -- a one-to-one list of candidates
 pub record IsOneToOne (candidates links : List Candidate) : Type 0 where
   pub among : All (Contains candidates) links
   pub rising : AllPairs IsBefore links
-  pub apart : AllPairs SharesNoRow links
+  pub apart : AllPairs SharesNoRecord links
 
 -- no one-to-one list of candidates is worth more
 pub record IsGreatest (candidates links : List Candidate) : Type 0 where
   pub one_to_one : IsOneToOne candidates links
   pub most : (others : List Candidate) → IsOneToOne candidates others → worth others ≤ℤ worth links
 
--- the prices of the two rows reach the candidate's value
+-- the prices of the two records reach the candidate's value
 abbrev pub IsCovered : List ℤ → List ℤ → Candidate → Type 0
 IsCovered prices_a prices_b c = c.value ≤ℤ (price_of prices_a c.a +ℤ price_of prices_b c.b)
 

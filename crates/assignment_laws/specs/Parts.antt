@@ -1,14 +1,15 @@
+-- Certificates of parts that share no record, put together: clause of `parts_together_are_certified`.
 use Rattle.std.specs.Prelude.{◌≢◌, ◌==◌, ℕ, zero, suc, ◌<◌, ℤ, ◌+ℤ◌, List, [], ◌∷◌, All, AllPairs, Contains, filter}
 use Rattle.link_base.specs.declared.rule.Candidate.{Candidate}
-use Rattle.assignment_laws.specs.Assignment.{IsBefore, SharesNoRow, IsOneToOne, Certifies}
+use Rattle.assignment_laws.specs.Assignment.{IsBefore, SharesNoRecord, IsOneToOne, Certifies}
 
--- the prices of two lists, added row by row
+-- the prices of two lists, added record by record
 abbrev pub added : List ℤ → List ℤ → List ℤ
 added [] qs = qs
 added (p ∷ ps) [] = p ∷ ps
 added (p ∷ ps) (q ∷ qs) = (p +ℤ q) ∷ added ps qs
 
--- the prices of the parts below n, put together row by row
+-- the prices of the parts below n, put together record by record
 abbrev pub prices_together : ℕ → (ℕ → List ℤ) → List ℤ
 prices_together zero prices = []
 prices_together (suc n) prices = added (prices n) (prices_together n prices)
@@ -17,10 +18,10 @@ prices_together (suc n) prices = added (prices n) (prices_together n prices)
 abbrev pub in_part : (Candidate → ℕ) → ℕ → List Candidate → List Candidate
 in_part part number cs = filter (λ c. part c == number) cs
 
--- parts with numbers below n, of which no two share a row
+-- parts with numbers below n, of which no two share a record
 pub record AreApart (part : Candidate → ℕ) (n : ℕ) (candidates : List Candidate) : Type 0 where
   pub below : All (λ c. part c < n) candidates
-  pub apart : (x y : Candidate) → Contains candidates x → Contains candidates y → part x ≢ part y → SharesNoRow x y
+  pub apart : (x y : Candidate) → Contains candidates x → Contains candidates y → part x ≢ part y → SharesNoRecord x y
 
 -- in each part the members of `links` are a one-to-one list that the part's prices certify
 pub record AreCertifiedParts (candidates links : List Candidate) (part : Candidate → ℕ) (n : ℕ) (prices_a prices_b : ℕ → List ℤ) : Type 0 where

@@ -7,5 +7,8 @@ mod order;
 #[cfg(test)]
 mod tests;
 
-pub use laws::{certificate_is_tight, certified_is_greatest, parts_together_are_certified};
+pub use laws::{
+    certificate_is_tight, certified_is_greatest, greatest_value_is_least,
+    parts_together_are_certified, prices_are_bounded,
+};
 pub use order::are_rising;

@@ -4,14 +4,14 @@ ghost use Rattle.assignment_laws.specs.Assignment.{IsBefore};
 
 use link_base::Candidate;
 
-/// Whether a candidate stands before another by its rows.
+/// Whether a candidate stands before another by its record of A, then of B.
 fn is_before(x: Candidate, y: Candidate) -> bool
     ensures { IsTrue result ↔ IsBefore x y }
 {
     x.a < y.a || (x.a == y.a && x.b < y.b)
 }
 
-/// Whether candidates rise strictly by their rows, as lists of candidates must.
+/// Whether candidates rise strictly by record of A, then of B, as lists of candidates must.
 pub fn are_rising(candidates: &[Candidate]) -> bool
     ensures { IsTrue result ↔ AllPairs IsBefore candidates.now }
 {

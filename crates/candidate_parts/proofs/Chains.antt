@@ -4,13 +4,13 @@ use Rattle.std.specs.Prelude.{AllPairs, slice_index}
 use Rattle.std.proofs.lemmas.Bool.{cases_eq, cases_lt}
 use Rattle.std.proofs.lemmas.Bool.Decides.{nat_tests}
 use Rattle.link_base.specs.declared.rule.Candidate.{Candidate}
-use Rattle.assignment_laws.specs.Assignment.{IsBefore}
-use Rattle.candidate_parts.specs.Parts.{ShareRow, Chain, IsJoined, candidate, no_candidate}
+use Rattle.assignment_laws.specs.Assignment.{IsBefore, no_candidate}
+use Rattle.candidate_parts.specs.Parts.{ShareRecord, Chain, IsJoined, candidate}
 use Rattle.candidate_parts.specs.Forest.{PointsUp, top, merged, AreUnited}
 use Rattle.candidate_parts.proofs.Tops.{top_low, top_itself}
 use Rattle.std.proofs.lemmas.List.{get_or_past}
 
-pub share_turned : (cs : List Candidate) (j k : ℕ) → ShareRow cs j k → ShareRow cs k j
+pub share_turned : (cs : List Candidate) (j k : ℕ) → ShareRecord cs j k → ShareRecord cs k j
 share_turned cs j k (inl e) = inl (sym e)
 share_turned cs j k (inr e) = inr (sym e)
 
@@ -24,7 +24,7 @@ chain_on cs (suc n) i j k c h = (let rest = chain_on cs n c.0 j k c.1.2 h in (su
 pub joined_on : (cs : List Candidate) (i j k : ℕ) → IsJoined cs i j → IsJoined cs j k → IsJoined cs i k
 joined_on cs i j k h g = chain_on cs h.0 i j k h.1 g
 
-pub joined_by : (cs : List Candidate) (j k : ℕ) → k < length cs → ShareRow cs j k → IsJoined cs j k
+pub joined_by : (cs : List Candidate) (j k : ℕ) → k < length cs → ShareRecord cs j k → IsJoined cs j k
 joined_by cs j k lt s = (suc zero, (k, (lt, s, refl)))
 
 chain_turned : (cs : List Candidate) (n i k : ℕ) → i < length cs → Chain cs n i k → IsJoined cs k i
@@ -82,9 +82,9 @@ module _ (cs : List Candidate) (up up' : List ℕ) (k x y : ℕ) (u : AreUnited 
     shared = λ i j lt ltk s. kept_after i j (u.shared i j lt ltk s);
   }
 
--- rows of A rise
-pub row_a_le : (cs : List Candidate) → AllPairs IsBefore cs → (i j : ℕ) → i ≤ j → j < length cs → (candidate cs i).a ≤ (candidate cs j).a
-row_a_le cs rising i j le lt = elim (cases_lt i j) [
+-- records of A rise
+pub record_a_le : (cs : List Candidate) → AllPairs IsBefore cs → (i j : ℕ) → i ≤ j → j < length cs → (candidate cs i).a ≤ (candidate cs j).a
+record_a_le cs rising i j le lt = elim (cases_lt i j) [
   | inl below ↦ of_before (candidate cs i) (candidate cs j) (rising i j no_candidate below lt)
   | inr past ↦ (let e : i ≡ j = omega arith in rw e (omega arith))
 ]
@@ -93,7 +93,7 @@ row_a_le cs rising i j le lt = elim (cases_lt i j) [
     of_before x y (inl p) = omega (arith, p)
     of_before x y (inr p) = omega (arith, p.0)
 
--- the candidate at k has the top of the earlier ones that share its row of A, and of the last that has its row of B
+-- the candidate at k has the top of the earlier ones that share its record of A, and of the last that has its record of B
 pub united_more : (cs : List Candidate) (up : List ℕ) (k : ℕ) → AreUnited cs up k → ((i : ℕ) → i < k → (candidate cs i).a ≡ (candidate cs k).a → top up i ≡ top up k) → ((i : ℕ) → i < k → (candidate cs i).b ≡ (candidate cs k).b → top up i ≡ top up k) → AreUnited cs up (k + 1)
 united_more cs up k u here_a here_b = record {
   count = u.count;
@@ -105,7 +105,7 @@ united_more cs up k u here_a here_b = record {
   ];
 }
   where
-    at_k : (i : ℕ) → i < k → ShareRow cs i k → top up i ≡ top up k
+    at_k : (i : ℕ) → i < k → ShareRecord cs i k → top up i ≡ top up k
     at_k i lt (inl e) = here_a i lt e
     at_k i lt (inr e) = here_b i lt e
 
@@ -118,9 +118,9 @@ united_first cs up count self = record {
   shared = λ i j low high s. absurd (omega arith);
 }
 
--- the place before has the same row of A, or none before has it
+-- the place before has the same record of A, or none before has it
 pub same_a_before : (cs : List Candidate) → AllPairs IsBefore cs → (i k : ℕ) → i < k → k < length cs → (candidate cs i).a ≡ (candidate cs k).a → (candidate cs i).a ≡ (candidate cs (k - 1)).a
 same_a_before cs rising i k lt within e =
-    let low = row_a_le cs rising i (k - 1) (omega arith) (omega arith) in
-    let high = row_a_le cs rising (k - 1) k (omega arith) within in
+    let low = record_a_le cs rising i (k - 1) (omega arith) (omega arith) in
+    let high = record_a_le cs rising (k - 1) k (omega arith) within in
     omega (arith, low, high, e)

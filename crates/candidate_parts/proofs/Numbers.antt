@@ -3,7 +3,7 @@ use Rattle.std.proofs.Common.{◌≡◌, ◌≢◌, ℕ, zero, suc, ◌<◌, ◌
 use Rattle.std.specs.Prelude.{slice_index}
 use Rattle.std.proofs.lemmas.Bool.{cases_eq, cases_lt}
 use Rattle.link_base.specs.declared.rule.Candidate.{Candidate}
-use Rattle.candidate_parts.specs.Parts.{ShareRow, Chain, IsJoined, IsFirstOf, ArePartNumbers}
+use Rattle.candidate_parts.specs.Parts.{ShareRecord, Chain, IsJoined, IsFirstOf, ArePartNumbers}
 use Rattle.candidate_parts.specs.Forest.{PointsUp, top, AreUnited, AreByTop}
 use Rattle.candidate_parts.proofs.Tops.{top_low, top_top, top_above, top_itself}
 use Rattle.candidate_parts.proofs.Chains.{joined_on, joined_turned, share_turned}
@@ -73,7 +73,7 @@ module _ (cs : List Candidate) (up numbers : List ℕ) (parts : ℕ) (u : AreUni
   joined_from : (j k : ℕ) → j < length cs → k < length cs → slice_index numbers j ≡ slice_index numbers k → IsJoined cs j k
   joined_from j k lj lk e = joined_on cs j (top up j) k (u.joined j lj) (rw (same_top j k lj lk e) (joined_turned cs k (top up k) lk (u.joined k lk)))
 
-  shared_top : (i j : ℕ) → i < length cs → j < length cs → ShareRow cs i j → top up i ≡ top up j
+  shared_top : (i j : ℕ) → i < length cs → j < length cs → ShareRecord cs i j → top up i ≡ top up j
   shared_top i j li lj s = elim (cases_lt i j) [
     | inl p ↦ u.shared i j p lj s
     | inr p ↦ elim (cases_lt j i) [ inl q ↦ sym (u.shared j i q li (share_turned cs i j s)) | inr q ↦ ap (top up) (let e : i ≡ j = omega arith in e) ]

@@ -1,7 +1,9 @@
+-- Machinery of `part_numbers`: sets of places as trees, each place below an earlier one (Tarjan 1975), and the
+-- numbers that the tops take.
 use Rattle.std.specs.Prelude.{◌≡◌, ◌≢◌, ℕ, zero, suc, ◌<◌, ◌≤◌, ◌||◌, ◌==◌, if◌then◌else◌, List, length, slice_index, slice_index_or, Option, None, MatchOption}
 use Rattle.std.proofs.Common.{min}
 use Rattle.link_base.specs.declared.rule.Candidate.{Candidate}
-use Rattle.candidate_parts.specs.Parts.{ShareRow, IsJoined, candidate}
+use Rattle.candidate_parts.specs.Parts.{ShareRecord, IsJoined, candidate}
 
 -- each place points to itself or to an earlier one
 abbrev pub PointsUp : List ℕ → Type 0
@@ -20,20 +22,20 @@ top up x = climbed up x x
 abbrev pub merged : ℕ → ℕ → ℕ → ℕ
 merged s t r = if (r == s) || (r == t) then min s t else r
 
--- the last place before k whose candidate has this row of B, or none
+-- the last place before k whose candidate has this record of B, or none
 abbrev pub IsLast : List Candidate → ℕ → ℕ → Option ℕ → Type 0
 IsLast cs k b place = MatchOption place ((i : ℕ) → i < k → (candidate cs i).b ≢ b) (λ p. (p < k) × ((candidate cs p).b ≡ b) × ((i : ℕ) → i < k → (candidate cs i).b ≡ b → i ≤ p))
 
--- the last place of each row of B, before k
+-- the last place of each record of B, before k
 abbrev pub AreLast : List Candidate → List (Option ℕ) → ℕ → Type 0
 AreLast cs last k = (b : ℕ) → b < length last → IsLast cs k b (slice_index_or last b None)
 
--- the candidates before k that share a row have one top, and none has the top of a part of others
+-- the candidates before k that share a record have one top, and none has the top of a part of others
 pub record AreUnited (cs : List Candidate) (up : List ℕ) (k : ℕ) : Type 0 where
   pub count : length up ≡ length cs
   pub earlier : PointsUp up
   pub joined : (x : ℕ) → x < length cs → IsJoined cs x (top up x)
-  pub shared : (i j : ℕ) → i < j → j < k → ShareRow cs i j → top up i ≡ top up j
+  pub shared : (i j : ℕ) → i < j → j < k → ShareRecord cs i j → top up i ≡ top up j
 
 -- numbers by the tops, each new one the next
 pub record AreByTop (up numbers : List ℕ) (i parts : ℕ) : Type 0 where

@@ -1,21 +1,21 @@
-use Rattle.std.specs.Prelude.{◌≡◌, ◌≢◌, ◌⊎◌, ◌↔◌, ℕ, zero, suc, ◌<◌, pos, false, List, length, slice_index_or, slice_index}
+-- The parts of candidates, with their numbers: the clause of `part_numbers`, and of `parts` and `part_of` (clause
+-- `numbered`) of `Assigner` in `assignment`.
+use Rattle.std.specs.Prelude.{◌≡◌, ◌≢◌, ◌⊎◌, ◌↔◌, ℕ, zero, suc, ◌<◌, List, length, slice_index_or, slice_index}
 use Rattle.link_base.specs.declared.rule.Candidate.{Candidate}
-
-abbrev pub no_candidate : Candidate
-no_candidate = record { a = 0; b = 0; weight = pos 0; value = pos 0; reviewed = false }
+use Rattle.assignment_laws.specs.Assignment.{no_candidate}
 
 -- the candidate at a place
 abbrev pub candidate : List Candidate → ℕ → Candidate
 candidate cs k = slice_index_or cs k no_candidate
 
--- the candidates at two places share their row of A or their row of B
-abbrev pub ShareRow : List Candidate → ℕ → ℕ → Type 0
-ShareRow cs j k = ((candidate cs j).a ≡ (candidate cs k).a) ⊎ ((candidate cs j).b ≡ (candidate cs k).b)
+-- the candidates at two places share their record of A or their record of B
+abbrev pub ShareRecord : List Candidate → ℕ → ℕ → Type 0
+ShareRecord cs j k = ((candidate cs j).a ≡ (candidate cs k).a) ⊎ ((candidate cs j).b ≡ (candidate cs k).b)
 
--- a chain of so many candidates leads from one place to the other, each of which shares a row with the next
+-- a chain of so many candidates leads from one place to the other, each of which shares a record with the next
 abbrev pub Chain : List Candidate → ℕ → ℕ → ℕ → Type 0
 Chain cs zero j k = j ≡ k
-Chain cs (suc n) j k = (i : ℕ) × ((i < length cs) × ShareRow cs j i × Chain cs n i k)
+Chain cs (suc n) j k = (i : ℕ) × ((i < length cs) × ShareRecord cs j i × Chain cs n i k)
 
 -- some chain does
 abbrev pub IsJoined : List Candidate → ℕ → ℕ → Type 0

@@ -1,4 +1,4 @@
-//! The parts of candidates that share no row with others, directly or through others.
+//! The parts of candidates that share no record with others, directly or through others.
 #![tactic(auto)]
 
 mod forest;

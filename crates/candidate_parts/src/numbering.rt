@@ -15,8 +15,8 @@ pub struct PartNumbers {
     pub parts: u32,
 }
 
-/// Unites the candidate at place `k` with the one before it, where that has its row of A.
-fn unite_row_a(candidates: &[Candidate], up: &mut [usize], k: usize)
+/// Unites the candidate at place `k` with the one before it, where that has its record of A.
+fn unite_record_a(candidates: &[Candidate], up: &mut [usize], k: usize)
     requires place { k < length candidates.now }
     requires rising { AllPairs IsBefore candidates.now }
     requires united { AreUnited candidates.now up.old k }
@@ -32,8 +32,8 @@ fn unite_row_a(candidates: &[Candidate], up: &mut [usize], k: usize)
     unite(up, k - 1, k);
 }
 
-/// Unites the candidate at place `k` with the last one before it that has its row of B.
-fn unite_row_b(candidates: &[Candidate], up: &mut [usize], last: Option<usize>, k: usize)
+/// Unites the candidate at place `k` with the last one before it that has its record of B.
+fn unite_record_b(candidates: &[Candidate], up: &mut [usize], last: Option<usize>, k: usize)
     requires place { k < length candidates.now }
     requires united { AreUnited candidates.now up.old k }
     requires here { (i : ℕ) → i < k → (candidate candidates.now i).a ≡ (candidate candidates.now k).a → top up.old i ≡ top up.old k }
@@ -46,7 +46,7 @@ fn unite_row_b(candidates: &[Candidate], up: &mut [usize], last: Option<usize>, 
     unite(up, earlier, k);
 }
 
-/// Unites the candidate at place `k` with the earlier ones that share a row with it.
+/// Unites the candidate at place `k` with the earlier ones that share a record with it.
 fn unite_at(candidates: &[Candidate], up: &mut [usize], last: &mut [Option<usize>], k: usize)
     requires place { k < length candidates.now }
     requires rising { AllPairs IsBefore candidates.now }
@@ -57,12 +57,12 @@ fn unite_at(candidates: &[Candidate], up: &mut [usize], last: &mut [Option<usize
     ensures last { AreLast candidates.now last.new (k + 1) }
 {
     let b = candidates[k].b as usize;
-    unite_row_a(candidates, up, k);
-    unite_row_b(candidates, up, last[b], k);
+    unite_record_a(candidates, up, k);
+    unite_record_b(candidates, up, last[b], k);
     last[b] = Some(k);
 }
 
-/// Unites all candidates that share a row.
+/// Unites all candidates that share a record.
 fn unite_all(candidates: &[Candidate], up: &mut [usize], last: &mut [Option<usize>])
     requires rising { AllPairs IsBefore candidates.now }
     requires within { All (λ c. c.b < length last.old) candidates.now }
@@ -75,7 +75,7 @@ fn unite_all(candidates: &[Candidate], up: &mut [usize], last: &mut [Option<usiz
     }
 }
 
-/// Unites all candidates that share a row.
+/// Unites all candidates that share a record.
 fn united(candidates: &[Candidate], up: &mut Vec<usize>, last: &mut Vec<Option<usize>>)
     requires rising { AllPairs IsBefore candidates.now }
     requires within { All (λ c. c.b < length last.old.items) candidates.now }
@@ -98,7 +98,7 @@ fn single_places(alloc: Global, count: usize) -> Result<Vec<usize>, NoMemory>
     Ok(up)
 }
 
-/// No last place, for so many rows of B.
+/// No last place, for so many records of B.
 fn no_places(alloc: Global, rows_b: usize) -> Result<Vec<Option<usize>>, NoMemory>
     ensures { IfOk result (λ last. last.items ≡ replicate rows_b None) }
 {
@@ -150,8 +150,8 @@ fn numbered(up: &Vec<usize>, numbers: &mut Vec<u32>) -> u32
     number(up, numbers)
 }
 
-/// The parts of candidates that rise strictly by their rows: two candidates are of one part exactly
-/// where a chain of candidates leads from one to the other in which each shares a row with the next.
+/// The parts of candidates that rise strictly by record of A, then of B: two candidates are of one part exactly
+/// where a chain of candidates leads from one to the other in which each shares a record with the next.
 /// Parts are numbered from 0 in the order of their first candidates.
 pub fn part_numbers(
     alloc: Global,

@@ -22,7 +22,7 @@ fn are_within(candidates: &[Candidate]) -> bool
     candidates.iter().all(|c| c.b < 7)
 }
 
-/// Whether candidates of rows below 7 have these part numbers, and so many parts.
+/// Whether candidates of records below 7 have these part numbers, and so many parts.
 fn has_parts(
     alloc: Global,
     candidates: &[Candidate],
@@ -37,7 +37,7 @@ fn has_parts(
 }
 
 #[test]
-fn parts_follow_shared_rows(rt: HostRuntime) -> Result<(), NoMemory> {
+fn parts_follow_shared_records(rt: HostRuntime) -> Result<(), NoMemory> {
     let alloc = rt.alloc();
     let crossed = [candidate(0, 0), candidate(0, 1), candidate(1, 0)];
     assert!(rt; has_parts(alloc, &crossed, &[0, 0, 0], 1)?);

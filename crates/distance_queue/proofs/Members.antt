@@ -1,5 +1,6 @@
 use Rattle.std.proofs.Common.{◌≡◌, ◌⊎◌, ℕ, zero, suc, ◌+◌, ◌-◌, ◌*◌, ◌/◌, ◌<◌, ◌≤◌, List, [], ◌∷◌, length, get_or, map, refl, sym, ap, ◌∙◌, inl, inr, arith}
 use Rattle.std.specs.Prelude.{Contains, IsPermutation}
+use Rattle.distance_queue.specs.declared.queue.TheConstants.{FARTHEST, FIRST, STEP}
 use Rattle.std.proofs.lemmas.List.Sorted.{Contains-permutation, IsPermutation-sym}
 
 at_cons : {X : Type 0} (y : X) (ys : List X) (x : X) (k : ℕ) → k < length (y ∷ ys) → get_or (y ∷ ys) k x ≡ x → Contains ys x ⊎ (x ≡ y)
@@ -71,8 +72,8 @@ pub left_only : {X Y : Type 0} (f : X → Y) (xs ys : List X) (e : X) → IsPerm
 left_only f xs ys e p y h = (let r = Contains-unmap f ys y h in rw (← r.1.1) (Contains-map f xs r.0 (popped_only xs ys e p r.0 r.1.0)))
 
 -- the distance that an entry was made from
-pub dist_of_place : (dist before order : ℕ) → dist ≤ 1000000000 → before ≤ 4294967296 → order < 4294967296 → 1000000000 - ((1000000000 - dist) * 8589934592 + before + order) / 8589934592 ≡ dist
-dist_of_place dist before order small first late = omega arith
+pub distance_of_place : (distance before order : ℕ) → distance ≤ FARTHEST → before ≤ FIRST → order < FIRST → FARTHEST - ((FARTHEST - distance) * STEP + before + order) / STEP ≡ distance
+distance_of_place distance before order small first late = omega arith
 
-pub falls_with_place : (x y : ℕ) → y ≤ x → 1000000000 - x / 8589934592 ≤ 1000000000 - y / 8589934592
+pub falls_with_place : (x y : ℕ) → y ≤ x → FARTHEST - x / STEP ≤ FARTHEST - y / STEP
 falls_with_place x y le = omega arith

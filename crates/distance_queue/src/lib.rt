@@ -1,4 +1,4 @@
-//! Rows by distance, the nearest first, in memory that is taken beforehand.
+//! Records by distance, the nearest first, in memory that is taken beforehand.
 #![tactic(auto)]
 
 mod queue;

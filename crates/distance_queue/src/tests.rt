@@ -1,4 +1,4 @@
-// The order in which rows leave a queue.
+// The order in which records leave a queue.
 use crate::{DistanceQueue, Near};
 use link_base::NoMemory;
 
@@ -11,8 +11,8 @@ fn nearest_first_then_first_ones_then_earlier_ones(rt: HostRuntime) -> Result<()
     queue.put(3, true, 4);
     queue.put(0, false, 5);
     let wanted: [(usize, u64); 5] = [(5, 0), (4, 3), (2, 3), (9, 3), (1, 7)];
-    for (row, dist) in wanted {
-        assert_eq!(rt; queue.take(), Some(Near { row, dist }));
+    for (position, distance) in wanted {
+        assert_eq!(rt; queue.take(), Some(Near { position, distance }));
     }
     assert!(rt; queue.take().is_none());
     queue.clear();

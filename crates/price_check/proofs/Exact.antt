@@ -1,20 +1,17 @@
 -- A certified list leaves no reason.
-use Rattle.std.proofs.Common.{◌≡◌, ◌↔◌, ℕ, ◌<◌, ℤ, pos, ◌≤ℤ◌, false, List, length, get_or, refl, sym, ◌∙◌, ap, arith}
+use Rattle.std.proofs.Common.{◌≡◌, ◌↔◌, ℕ, ◌<◌, ℤ, pos, ◌≤ℤ◌, List, length, get_or, refl, sym, ◌∙◌, ap, arith}
 use Rattle.std.specs.Prelude.{All}
 use Rattle.std.proofs.lemmas.List.{get_or_default}
 use Rattle.link_base.specs.declared.rule.Candidate.{Candidate}
 use Rattle.link_base.specs.declared.rule.PairAt.{PairAt}
 use Rattle.link_base.specs.declared.fault.FileRole.{FileRole}
 use Rattle.link_base.specs.declared.fault.FileRole.TheVariants.{Settings, A, B, Sample, Journal, Verdicts, Rule, Links, Prices, Capacities}
-use Rattle.assignment_laws.specs.Assignment.{IsOneToOne}
+use Rattle.assignment_laws.specs.Assignment.{IsOneToOne, no_candidate}
 use Rattle.price_check.specs.declared.verdict.Reason.{Reason}
 use Rattle.price_check.specs.declared.verdict.Reason.TheVariants.{NotCandidate, Reused, Negative, Uncovered, Sum}
 use Rattle.price_check.specs.declared.verdict.Verified.{Verified}
 use Rattle.price_check.specs.declared.verdict.Verified.TheVariants.{Yes, No}
 use Rattle.price_check.specs.Verdict.{IsCandidate, IsFresh, AreLinks, AreCertified, IsFirstNegative, IsFirstReason, IsVerdict}
-
-no_candidate : Candidate
-no_candidate = record { a = 0; b = 0; weight = pos 0; value = pos 0; reviewed = false }
 
 no_pair : PairAt
 no_pair = record { a = 0; b = 0 }

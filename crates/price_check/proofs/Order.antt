@@ -1,13 +1,16 @@
-use Rattle.std.proofs.Common.{◌≡◌, ℕ, ◌+◌, ◌-◌, ◌<◌, ◌≤◌, inl, inr, List, [], ◌∷◌, zero, suc, ℤ, ◌+ℤ◌, take, ap, refl, Bool, true, false, sym, ◌∙◌, get_or, length, arith}
+-- Candidates found at links, and links as a one-to-one list of candidates.
+use Rattle.std.proofs.Common.{◌≡◌, ℕ, ◌+◌, ◌-◌, ◌<◌, ◌≤◌, inl, inr, List, [], ◌∷◌, zero, suc, ℤ, ◌+ℤ◌, take, refl, Bool, true, false, sym, ◌∙◌, get_or, length, arith}
 use Rattle.std.proofs.lemmas.Bool.{cases_lt, false≢true}
 use Rattle.std.proofs.lemmas.List.{get_or_default}
 use Rattle.std.proofs.lemmas.List.Elements.{Contains-get_or, All-cons}
 use Rattle.std.proofs.lemmas.Int.{ints}
 use Rattle.link_base.specs.declared.rule.Candidate.{Candidate}
 use Rattle.assignment_laws.specs.Assignment.{IsBefore, total, worth, IsOneToOne}
+use Rattle.assignment_laws.proofs.Members.{same_member}
 use Rattle.std.specs.Prelude.{AllPairs, Contains, All}
 use Rattle.link_base.specs.declared.rule.PairAt.{PairAt}
-use Rattle.price_check.specs.Verdict.{IsCandidateBefore, IsCandidate, HasPositions, IsPairBefore, IsFresh, AreMarks, AreLinks, IsCandidateAt}
+use Rattle.price_check.specs.Search.{IsCandidateBefore, AreMarks}
+use Rattle.price_check.specs.Verdict.{IsCandidate, HasPositions, IsPairBefore, IsFresh, AreLinks, IsCandidateAt}
 
 -- what stands before a candidate that stands before the link stands before it too
 pub down : (x y : Candidate) (l : PairAt) → IsBefore x y → IsCandidateBefore y l → IsCandidateBefore x l
@@ -53,7 +56,7 @@ pair_le : (x y : PairAt) → IsPairBefore x y → x.a ≤ y.a
 pair_le x y (inl p) = omega (arith, p)
 pair_le x y (inr p) = omega (arith, p.0)
 
--- a link whose row of B is not marked, and whose row of A the one before it has not
+-- a link whose record of B is not marked, and whose record of A the one before it has not
 pub fresh_last : (links : List PairAt) (taken : List Bool) (i : ℕ) (e : PairAt) → AllPairs IsPairBefore links → i < length links → AreMarks taken links i → get_or taken (get_or links i e).b false ≡ false → ((get_or links (i - 1) e).a ≡ (get_or links i e).a → ⊥) → (0 < i) → IsFresh links i
 fresh_last links taken i e rising lt m free other some = λ k d lk.
     let di : get_or links i d ≡ get_or links i e = get_or_default links i d e lt in
@@ -76,23 +79,6 @@ total_more f (x ∷ xs) zero d lt = omega (arith, ints)
 total_more f (x ∷ xs) (suc i) d lt =
     let e : suc i + 1 ≡ suc (i + 1) = omega arith in
     rw e (omega (arith, ints, total_more f xs i d (omega arith)))
-
-clash : (u v x y : Candidate) → u ≡ x → v ≡ y → IsBefore u v → x.a ≡ y.a → x.b ≡ y.b → ⊥
-clash u v x y eu ev h e f = before (rw (eu, ev) e) (rw (eu, ev) f) h
-  where
-    before : u.a ≡ v.a → u.b ≡ v.b → IsBefore u v → ⊥
-    before e f (inl p) = omega (arith, p, e)
-    before e f (inr p) = omega (arith, p.1, f)
-
--- two members with the same positions are one
-pub same_member : (cs : List Candidate) (x y : Candidate) → AllPairs IsBefore cs → Contains cs x → Contains cs y → x.a ≡ y.a → x.b ≡ y.b → x ≡ y
-same_member cs x y rising hx hy ea eb = elim (cases_lt hx.0 hy.0) [
-  | inl p ↦ absurd (clash (get_or cs hx.0 x) (get_or cs hy.0 x) x y hx.2 (get_or_default cs hy.0 x y hy.1 ∙ hy.2) (rising hx.0 hy.0 x p hy.1) ea eb)
-  | inr p ↦ elim (cases_lt hy.0 hx.0) [
-    | inl q ↦ absurd (clash (get_or cs hy.0 x) (get_or cs hx.0 x) y x (get_or_default cs hy.0 x y hy.1 ∙ hy.2) hx.2 (rising hy.0 hx.0 x q hx.1) (sym ea) (sym eb))
-    | inr q ↦ (let at : hx.0 ≡ hy.0 = omega arith in sym hx.2 ∙ (ap (λ n. get_or cs n x) at ∙ (get_or_default cs hy.0 x y hy.1 ∙ hy.2)))
-  ]
-]
 
 -- the candidate found at a link is the one chosen there
 pub worth_more : (cs : List Candidate) (ls : List PairAt) (chosen : List Candidate) (i k : ℕ) (d : PairAt) (e : Candidate) (sum : ℤ) → AllPairs IsBefore cs → AreLinks cs ls chosen → i < length ls → IsCandidateAt cs (get_or ls i d) k → sum ≡ worth (take i chosen) → (sum +ℤ (get_or cs k e).value) ≡ worth (take (i + 1) chosen)

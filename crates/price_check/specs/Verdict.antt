@@ -1,4 +1,7 @@
-use Rattle.std.specs.Prelude.{◌≡◌, ◌≢◌, ◌⊎◌, ℕ, ◌<◌, ℤ, pos, ◌+ℤ◌, ◌≤ℤ◌, neg_ℤ, Bool, true, false, List, All, Contains, slice_index_or, length, Option, Some, None, MatchOption}
+-- What a check needs and what it answers: clauses `first_reason`, `certified` and `greatest` of `check`. The reasons
+-- are tried in the order in which `IsFirstReason` lists them.
+use Rattle.std.specs.Prelude.{◌≡◌, ◌≢◌, ◌⊎◌, ℕ, ◌<◌, ℤ, pos, ◌+ℤ◌, ◌≤ℤ◌, neg_ℤ, List, All, Contains, slice_index_or, length, Option, Some, None, MatchOption}
+use Rattle.link_limits.specs.declared.TheConstants.{MOST_VALUE}
 use Rattle.link_base.specs.declared.rule.Candidate.{Candidate}
 use Rattle.assignment_laws.specs.Assignment.{IsOneToOne, IsGreatest, Certifies, IsCovered, worth, price_sum}
 use Rattle.link_base.specs.declared.rule.PairAt.{PairAt}
@@ -9,17 +12,19 @@ use Rattle.price_check.specs.declared.verdict.Reason.{Reason}
 use Rattle.price_check.specs.declared.verdict.Verified.{Verified}
 use Rattle.price_check.specs.declared.verdict.Verified.TheVariants.{Yes, No}
 
+-- a price is at most the greatest allowed in size: clauses `small_a` and `small_b`
+abbrev pub IsAllowedPrice : ℤ → Type 0
+IsAllowedPrice p = (neg_ℤ (pos MOST_VALUE) ≤ℤ p) × (p ≤ℤ pos MOST_VALUE)
+
+-- a candidate's value is at most the greatest allowed in size: clause `allowed`
+abbrev pub HasAllowedValue : Candidate → Type 0
+HasAllowedValue c = (neg_ℤ (pos MOST_VALUE) ≤ℤ c.value) × (c.value ≤ℤ pos MOST_VALUE)
+
 -- the first place, if there is one, at which Good fails
 abbrev pub IsFirstBad : {X : Type 0} → (X → Type 0) → List X → Option ℕ → Type 0
 IsFirstBad {X} Good xs place = MatchOption place (All Good xs) (λ i. (i < length xs) × ((k : ℕ) (d : X) → k < i → Good (slice_index_or xs k d)) × ((d : X) → Good (slice_index_or xs i d) → ⊥))
 
-abbrev pub IsInRange : ℕ → ℕ → Candidate → Type 0
-IsInRange rows_a rows_b c = (c.a < rows_a) × (c.b < rows_b)
-
--- a price of at most a million in size
-abbrev pub IsSmallPrice : ℤ → Type 0
-IsSmallPrice p = (neg_ℤ (pos 1000000) ≤ℤ p) × (p ≤ℤ pos 1000000)
-
+-- the candidate is of the link's records
 abbrev pub HasPositions : PairAt → Candidate → Type 0
 HasPositions l c = (c.a ≡ l.a) × (c.b ≡ l.b)
 
@@ -31,6 +36,7 @@ IsCandidateAt candidates l k = (k < length candidates) × ((d : Candidate) → H
 abbrev pub IsCandidate : List Candidate → PairAt → Type 0
 IsCandidate candidates l = (k : ℕ) × IsCandidateAt candidates l k
 
+-- x stands before y by (a, b)
 abbrev pub IsPairBefore : PairAt → PairAt → Type 0
 IsPairBefore x y = (x.a < y.a) ⊎ ((x.a ≡ y.a) × (x.b < y.b))
 
@@ -38,22 +44,9 @@ IsPairBefore x y = (x.a < y.a) ⊎ ((x.a ≡ y.a) × (x.b < y.b))
 abbrev pub IsFresh : List PairAt → ℕ → Type 0
 IsFresh links i = (k : ℕ) (d : PairAt) → k < i → ((slice_index_or links k d).a ≢ (slice_index_or links i d).a) × ((slice_index_or links k d).b ≢ (slice_index_or links i d).b)
 
+-- the first link that is not fresh, if there is one
 abbrev pub IsFirstReused : List PairAt → Option ℕ → Type 0
 IsFirstReused links place = MatchOption place ((i : ℕ) → i < length links → IsFresh links i) (λ i. (i < length links) × ((k : ℕ) → k < i → IsFresh links k) × (IsFresh links i → ⊥))
-
-abbrev pub IsPairInRange : ℕ → PairAt → Type 0
-IsPairInRange rows_b l = l.b < rows_b
-
-abbrev pub IsCandidateBefore : Candidate → PairAt → Type 0
-IsCandidateBefore c l = (c.a < l.a) ⊎ ((c.a ≡ l.a) × (c.b < l.b))
-
--- a row of B is marked where a link below i has it
-pub record AreMarks (taken : List Bool) (links : List PairAt) (i : ℕ) : Type 0 where
-  pub marked : (k : ℕ) (d : PairAt) → k < i → slice_index_or taken (slice_index_or links k d).b false ≡ true
-  pub marks : (b : ℕ) → slice_index_or taken b false ≡ true → (k : ℕ) × ((k < i) × ((d : PairAt) → (slice_index_or links k d).b ≡ b))
-
-abbrev pub IsAllowed : Candidate → Type 0
-IsAllowed c = (neg_ℤ (pos 1000000) ≤ℤ c.value) × (c.value ≤ℤ pos 1000000)
 
 -- the candidates that the links name
 pub record AreLinks (candidates : List Candidate) (links : List PairAt) (chosen : List Candidate) : Type 0 where

@@ -1,8 +1,10 @@
 // The check of a certificate.
-ghost use Rattle.std.specs.Prelude.{◌≡◌, ◌+◌, ◌<◌, ◌≤◌, ◌^◌, ℤ, pos, ◌≤ℤ◌, neg_ℤ, List, length, AllPairs, All, IfOk, ◌↔◌};
+ghost use Rattle.std.specs.Prelude.{◌≡◌, ◌+◌, ◌*◌, ◌<◌, ◌≤◌, ◌^◌, ℤ, pos, ◌≤ℤ◌, neg_ℤ, List, length, AllPairs, All, IfOk, ◌↔◌};
 ghost use Rattle.link_base.specs.declared.rule.Candidate.{Candidate as ACandidate};
-ghost use Rattle.assignment_laws.specs.Assignment.{IsBefore, worth, price_sum};
-ghost use Rattle.price_check.specs.Verdict.{IsCandidate, IsInRange, IsSmallPrice, IsPairBefore, IsPairInRange, IsAllowed, AreCertified, AreGreatest, AreLinks, IsVerdict};
+ghost use Rattle.link_limits.specs.declared.TheConstants.{MOST_VALUE};
+ghost use Rattle.assignment_laws.specs.Assignment.{IsBefore, worth, price_sum, IsWithin};
+ghost use Rattle.price_check.specs.Search.{IsPairWithin};
+ghost use Rattle.price_check.specs.Verdict.{IsCandidate, IsAllowedPrice, IsPairBefore, HasAllowedValue, AreCertified, AreGreatest, AreLinks, IsVerdict};
 
 use crate::first::{candidate_at, first_negative, first_reused, first_stranger, first_uncovered};
 use crate::verdict::{Reason, Verified};
@@ -13,10 +15,10 @@ use std::alloc::Global;
 /// The sum of prices.
 fn price_total(prices: &[i64]) -> i64
     requires count { length prices.now < 2 ^ 32 }
-    requires small { All IsSmallPrice prices.now }
+    requires small { All IsAllowedPrice prices.now }
     ensures value { result ≡ price_sum prices.now }
-    ensures low { neg_ℤ (pos 5000000000000000) ≤ℤ result }
-    ensures high { result ≤ℤ pos 5000000000000000 }
+    ensures low { neg_ℤ (pos (2 ^ 32 * MOST_VALUE)) ≤ℤ result }
+    ensures high { result ≤ℤ pos (2 ^ 32 * MOST_VALUE) }
 {
     let mut sum = 0;
     for p in prices {
@@ -29,7 +31,7 @@ fn price_total(prices: &[i64]) -> i64
 fn links_worth(candidates: &[Candidate], links: &[PairAt]) -> i64
     requires count { length links.now < 2 ^ 32 }
     requires rising { AllPairs IsBefore candidates.now }
-    requires small { All IsAllowed candidates.now }
+    requires small { All HasAllowedValue candidates.now }
     requires are { All (IsCandidate candidates.now) links.now }
     ensures { (chosen : List ACandidate) → AreLinks candidates.now links.now chosen → result ≡ worth chosen }
 {
@@ -55,14 +57,14 @@ fn verdict(
 ) -> Result<Verified, NoMemory>
     requires count { length candidates.now < 2 ^ 32 }
     requires rising { AllPairs IsBefore candidates.now }
-    requires in_range { All (IsInRange rows_a rows_b) candidates.now }
-    requires allowed { All IsAllowed candidates.now }
+    requires in_range { All (IsWithin rows_a rows_b) candidates.now }
+    requires allowed { All HasAllowedValue candidates.now }
     requires link_count { length links.now < 2 ^ 32 }
     requires links_rising { AllPairs IsPairBefore links.now }
     requires rows_a { length prices_a.now ≡ rows_a }
     requires rows_b { length prices_b.now ≡ rows_b }
-    requires small_a { All IsSmallPrice prices_a.now }
-    requires small_b { All IsSmallPrice prices_b.now }
+    requires small_a { All IsAllowedPrice prices_a.now }
+    requires small_b { All IsAllowedPrice prices_b.now }
     ensures { IfOk result (λ v. IsVerdict candidates.now links.now prices_a.now prices_b.now v) }
 {
     if let Some(index) = first_stranger(candidates, links) {
@@ -99,7 +101,7 @@ fn verdict(
 
 /// Whether prices certify links as a one-to-one list of candidates, which is then greatest, and else the
 /// first reason why not, in the order of [`Reason`]. Candidates and links rise strictly by their
-/// positions; values and prices are at most 1,000,000 in size, and there is a price for each row.
+/// positions; values and prices are at most `link_limits::MOST_VALUE` in size, and there is a price for each record.
 pub fn check(
     alloc: Global,
     rows_a: u32,
@@ -111,14 +113,14 @@ pub fn check(
 ) -> Result<Verified, NoMemory>
     requires count { length candidates.now < 2 ^ 32 }
     requires rising { AllPairs IsBefore candidates.now }
-    requires in_range { All (IsInRange rows_a rows_b) candidates.now }
-    requires allowed { All IsAllowed candidates.now }
+    requires in_range { All (IsWithin rows_a rows_b) candidates.now }
+    requires allowed { All HasAllowedValue candidates.now }
     requires link_count { length links.now < 2 ^ 32 }
     requires links_rising { AllPairs IsPairBefore links.now }
     requires rows_a { length prices_a.now ≡ rows_a }
     requires rows_b { length prices_b.now ≡ rows_b }
-    requires small_a { All IsSmallPrice prices_a.now }
-    requires small_b { All IsSmallPrice prices_b.now }
+    requires small_a { All IsAllowedPrice prices_a.now }
+    requires small_b { All IsAllowedPrice prices_b.now }
     ensures first_reason { IfOk result (λ v. IsVerdict candidates.now links.now prices_a.now prices_b.now v) }
     ensures certified { IfOk result (λ v. (v ≡ Verified.Yes) ↔ AreCertified candidates.now links.now prices_a.now prices_b.now) }
     ensures greatest { IfOk result (λ v. v ≡ Verified.Yes → AreGreatest candidates.now links.now) }

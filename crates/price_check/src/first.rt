@@ -1,7 +1,8 @@
 // The first place at which something is wrong.
 ghost use Rattle.std.specs.Prelude.{◌≡◌, ◌<◌, ◌≤◌, ◌^◌, ℤ, pos, ◌≤ℤ◌, length, AllPairs, All, IsTrue, ◌↔◌, MatchOption, slice_index_or, ℕ, IfOk, MatchBool, false, true};
-ghost use Rattle.assignment_laws.specs.Assignment.{IsBefore, IsCovered};
-ghost use Rattle.price_check.specs.Verdict.{IsFirstBad, IsCandidate, IsInRange, IsSmallPrice, IsPairBefore, IsFirstReused, IsCandidateAt, IsPairInRange, IsCandidateBefore, HasPositions, AreMarks, IsFresh};
+ghost use Rattle.assignment_laws.specs.Assignment.{IsBefore, IsCovered, IsWithin};
+ghost use Rattle.price_check.specs.Search.{IsPairWithin, IsCandidateBefore, AreMarks};
+ghost use Rattle.price_check.specs.Verdict.{IsFirstBad, IsCandidate, IsAllowedPrice, IsPairBefore, IsFirstReused, IsCandidateAt, HasPositions, IsFresh};
 ghost use Rattle.link_base.specs.declared.rule.Candidate.{Candidate as ACandidate};
 
 use link_base::{Candidate, NoMemory, PairAt};
@@ -21,9 +22,9 @@ pub fn first_negative(prices: &[i64]) -> Option<u32>
 }
 
 fn is_covered(c: Candidate, prices_a: &[i64], prices_b: &[i64]) -> bool
-    requires in_range { IsInRange (length prices_a.now) (length prices_b.now) c }
-    requires small_a { All IsSmallPrice prices_a.now }
-    requires small_b { All IsSmallPrice prices_b.now }
+    requires in_range { IsWithin (length prices_a.now) (length prices_b.now) c }
+    requires small_a { All IsAllowedPrice prices_a.now }
+    requires small_b { All IsAllowedPrice prices_b.now }
     ensures { IsTrue result ↔ IsCovered prices_a.now prices_b.now c }
 {
     let paid = prices_a[c.a as usize] + prices_b[c.b as usize];
@@ -33,9 +34,9 @@ fn is_covered(c: Candidate, prices_a: &[i64], prices_b: &[i64]) -> bool
 /// The first candidate whose two prices do not reach its value.
 pub fn first_uncovered(candidates: &[Candidate], prices_a: &[i64], prices_b: &[i64]) -> Option<u32>
     requires count { length candidates.now < 2 ^ 32 }
-    requires in_range { All (IsInRange (length prices_a.now) (length prices_b.now)) candidates.now }
-    requires small_a { All IsSmallPrice prices_a.now }
-    requires small_b { All IsSmallPrice prices_b.now }
+    requires in_range { All (IsWithin (length prices_a.now) (length prices_b.now)) candidates.now }
+    requires small_a { All IsAllowedPrice prices_a.now }
+    requires small_b { All IsAllowedPrice prices_b.now }
     ensures { IsFirstBad (IsCovered prices_a.now prices_b.now) candidates.now result }
 {
     for (i, c) in candidates.iter().enumerate() {
@@ -112,7 +113,7 @@ pub fn first_stranger(candidates: &[Candidate], links: &[PairAt]) -> Option<u32>
 fn is_reused(taken: &[bool], links: &[PairAt], i: usize) -> bool
     requires place { i < length links.now }
     requires rising { AllPairs IsPairBefore links.now }
-    requires in_range { All (IsPairInRange (length taken.now)) links.now }
+    requires in_range { All (IsPairWithin (length taken.now)) links.now }
     requires marks { AreMarks taken.now links.now i }
     ensures { MatchBool result (IsFresh links.now i → ⊥) (IsFresh links.now i) }
 {
@@ -133,7 +134,7 @@ fn is_reused(taken: &[bool], links: &[PairAt], i: usize) -> bool
 pub fn first_reused(alloc: Global, rows_b: u32, links: &[PairAt]) -> Result<Option<u32>, NoMemory>
     requires count { length links.now < 2 ^ 32 }
     requires rising { AllPairs IsPairBefore links.now }
-    requires in_range { All (IsPairInRange rows_b) links.now }
+    requires in_range { All (IsPairWithin rows_b) links.now }
     ensures { IfOk result (λ place. IsFirstReused links.now place) }
 {
     let mut taken = vec![in alloc; false; rows_b as usize]?;
@@ -144,7 +145,7 @@ pub fn first_reused(alloc: Global, rows_b: u32, links: &[PairAt]) -> Result<Opti
 fn reused_in(taken: &mut [bool], links: &[PairAt]) -> Option<u32>
     requires count { length links.now < 2 ^ 32 }
     requires rising { AllPairs IsPairBefore links.now }
-    requires in_range { All (IsPairInRange (length taken.old)) links.now }
+    requires in_range { All (IsPairWithin (length taken.old)) links.now }
     requires unset { (b : ℕ) → slice_index_or taken.old b false ≡ false }
     ensures { IsFirstReused links.now result }
 {

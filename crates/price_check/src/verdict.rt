@@ -6,9 +6,9 @@ use link_base::FileRole;
 pub enum Reason {
     /// The link at this index is no candidate.
     NotCandidate { index: u32 },
-    /// An earlier link has a row of the link at this index.
+    /// An earlier link has a record of the link at this index.
     Reused { index: u32 },
-    /// The price of the row at this position of A or B is below 0.
+    /// The price of the record at this position of A or B is below 0.
     Negative { side: FileRole, at: u32 },
     /// The two prices of the candidate at this index add up to less than its value.
     Uncovered { index: u32 },

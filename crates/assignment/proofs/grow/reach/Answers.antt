@@ -10,9 +10,9 @@ returns-clause-reaches c =
       rank = ap (λ v. v.items) r.rank;
       db = ap (λ v. set v.items c.args.b c.args.reach) r.dist_b;
       from = ap (λ v. set v.items c.args.b c.args.k) r.from;
-      rows = ap (λ v. v.items) r.rows;
+      records = ap (λ v. v.items) r.records;
       best = r.best;
-      best_row = r.best_row;
+      best_record = r.best_record;
       current = r.current;
       notes = record { touched = c.note_first.ensures.notes.touched; first_touched = c.note_first.ensures.notes.first_touched };
       waits = record { stays = rw (← same) c.put.ensures.stays; added = c.put.ensures.added; only = rw (← same) c.put.ensures.only };

@@ -4,10 +4,10 @@ use Rattle.assignment_laws.proofs.Duality.{unlinked_a, unlinked_b, covered_links
 use Rattle.assignment_laws.proofs.laws.certificate_is_tight.Goals as goal
 
 pub returns-clause-unlinked : goal.returns-clause-unlinked
-returns-clause-unlinked c = λ candidates links ps qs one cert row.
+returns-clause-unlinked c = λ candidates links ps qs one cert position.
     let covered = covered_links candidates links ps qs one.among cert.covered in (
-      unlinked_a links ps qs row cert.floor_a cert.floor_b one.apart covered (omega (arith, ints, cert.balanced)),
-      unlinked_b links ps qs row cert.floor_a cert.floor_b one.apart covered (omega (arith, ints, cert.balanced)),
+      unlinked_a links ps qs position cert.floor_a cert.floor_b one.apart covered (omega (arith, ints, cert.balanced)),
+      unlinked_b links ps qs position cert.floor_a cert.floor_b one.apart covered (omega (arith, ints, cert.balanced)),
     )
 
 pub returns-clause-linked : goal.returns-clause-linked

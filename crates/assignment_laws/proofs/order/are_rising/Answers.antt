@@ -1,5 +1,6 @@
 use Rattle.std.proofs.Common.{refl, arith}
-use Rattle.assignment_laws.proofs.Rising.{no_candidate, rising_more, rising_at}
+use Rattle.assignment_laws.specs.Assignment.{no_candidate}
+use Rattle.assignment_laws.proofs.Rising.{rising_more, rising_at}
 use Rattle.assignment_laws.proofs.order.are_rising.Goals as goal
 
 pub loop-k-preserved : goal.loop-k-preserved

@@ -1,6 +1,5 @@
 use Rattle.std.proofs.Common.{ℕ, ◌<◌, get_or}
-use Rattle.assignment_laws.specs.Assignment.{IsBefore}
-use Rattle.assignment_laws.proofs.Rising.{no_candidate}
+use Rattle.assignment_laws.specs.Assignment.{IsBefore, no_candidate}
 use Rattle.assignment_laws.proofs.order.are_rising.Given as goal
 
 abbrev pub invariant-loop-k : goal.invariant-loop-k

@@ -6,5 +6,5 @@ abbrev pub invariant-loop-k : goal.invariant-loop-k
 invariant-loop-k l = record {
   united : AreUnited l.candidates l.up l.k;
   last : AreLast l.candidates l.last l.k;
-  rows : length l.last ≡ length l.fn.last;
+  records : length l.last ≡ length l.fn.last;
 }

@@ -1,11 +1,8 @@
-use Rattle.std.proofs.Common.{pos, false, arith}
+use Rattle.std.proofs.Common.{arith}
 use Rattle.std.proofs.lemmas.Int.{ints}
-use Rattle.link_base.specs.declared.rule.Candidate.{Candidate}
+use Rattle.assignment_laws.specs.Assignment.{no_candidate}
 use Rattle.price_check.proofs.Order.{choose, one_to_one_links}
 use Rattle.price_check.proofs.certificate.verdict.Goals as goal
-
-no_candidate : Candidate
-no_candidate = record { a = 0; b = 0; weight = pos 0; value = pos 0; reviewed = false }
 
 pub first_reused-requires-clause-in_range : goal.first_reused-requires-clause-in_range
 first_reused-requires-clause-in_range c = λ k d lt.

@@ -1,6 +1,6 @@
 use Rattle.std.proofs.Common.{ℕ, ◌<◌, ◌≤◌, ◌-◌, get_or, length}
 use Rattle.link_base.specs.declared.rule.Candidate.{Candidate}
-use Rattle.price_check.specs.Verdict.{IsCandidateBefore}
+use Rattle.price_check.specs.Search.{IsCandidateBefore}
 use Rattle.price_check.proofs.first.count_before.Given as goal
 
 abbrev pub invariant-loop-low : goal.invariant-loop-low

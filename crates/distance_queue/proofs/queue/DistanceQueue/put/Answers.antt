@@ -1,6 +1,7 @@
 use Rattle.std.proofs.Common.{◌≤◌, ap, arith, heap_items}
-use Rattle.distance_queue.specs.Queue.{waiting_of}
-use Rattle.distance_queue.proofs.Members.{mapped_stays, mapped_added, mapped_only, dist_of_place}
+use Rattle.distance_queue.specs.Entries.{waiting_of}
+use Rattle.distance_queue.specs.declared.queue.TheConstants.{FIRST}
+use Rattle.distance_queue.proofs.Members.{mapped_stays, mapped_added, mapped_only, distance_of_place}
 use Rattle.distance_queue.proofs.queue.DistanceQueue.put.Goals as goal
 use Rattle.distance_queue.proofs.queue.DistanceQueue.put.Goals.{then-first, else-first}
 
@@ -9,12 +10,12 @@ returns-clause-stays c = rw (← c.self.view_is) (mapped_stays waiting_of (heap_
 
 pub returns-clause-added : goal.returns-clause-added
 returns-clause-added c =
-    let small : c.if-first.before ≤ 4294967296 = elim c.if-first.branch [ then-first w ↦ omega (arith, w.before-is) | else-first w ↦ omega (arith, w.before-is) ] in
-    let is = dist_of_place c.args.dist c.if-first.before c.self.inside.order c.requires.dist small c.self.invariant.0 in
-    mapped_added waiting_of (heap_items c.self.inside.heap) (heap_items c.push.new.self) _ (c.args.dist, c.args.row) (ap (λ d. (d, c.args.row)) is) c.in-Ok.ensures.permutation
+    let small : c.if-first.before ≤ FIRST = elim c.if-first.branch [ then-first w ↦ omega (arith, w.before-is) | else-first w ↦ omega (arith, w.before-is) ] in
+    let is = distance_of_place c.args.distance c.if-first.before c.self.inside.order c.requires.near small c.self.invariant.0 in
+    mapped_added waiting_of (heap_items c.self.inside.heap) (heap_items c.push.new.self) _ (c.args.distance, c.args.position) (ap (λ d. (d, c.args.position)) is) c.in-Ok.ensures.permutation
 
 pub returns-clause-only : goal.returns-clause-only
 returns-clause-only c =
-    let small : c.if-first.before ≤ 4294967296 = elim c.if-first.branch [ then-first w ↦ omega (arith, w.before-is) | else-first w ↦ omega (arith, w.before-is) ] in
-    let is = dist_of_place c.args.dist c.if-first.before c.self.inside.order c.requires.dist small c.self.invariant.0 in
-    rw (← c.self.view_is) (mapped_only waiting_of (heap_items c.self.inside.heap) (heap_items c.push.new.self) _ (c.args.dist, c.args.row) (ap (λ d. (d, c.args.row)) is) c.in-Ok.ensures.permutation)
+    let small : c.if-first.before ≤ FIRST = elim c.if-first.branch [ then-first w ↦ omega (arith, w.before-is) | else-first w ↦ omega (arith, w.before-is) ] in
+    let is = distance_of_place c.args.distance c.if-first.before c.self.inside.order c.requires.near small c.self.invariant.0 in
+    rw (← c.self.view_is) (mapped_only waiting_of (heap_items c.self.inside.heap) (heap_items c.push.new.self) _ (c.args.distance, c.args.position) (ap (λ d. (d, c.args.position)) is) c.in-Ok.ensures.permutation)

@@ -3,7 +3,7 @@ use Rattle.std.proofs.lemmas.Bool.{cases_eq}
 use Rattle.candidate_parts.specs.Parts.{candidate, IsJoined}
 use Rattle.candidate_parts.specs.Forest.{top}
 use Rattle.candidate_parts.proofs.Chains.{joined_by, united_after, kept_after, one_after, united_more}
-use Rattle.candidate_parts.proofs.numbering.unite_row_b.Goals as goal
+use Rattle.candidate_parts.proofs.numbering.unite_record_b.Goals as goal
 
 pub returns : goal.returns
 returns c =

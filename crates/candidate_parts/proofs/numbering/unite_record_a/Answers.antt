@@ -3,7 +3,7 @@ use Rattle.std.proofs.lemmas.Bool.{cases_eq}
 use Rattle.candidate_parts.specs.Parts.{IsJoined}
 use Rattle.candidate_parts.specs.Forest.{top}
 use Rattle.candidate_parts.proofs.Chains.{joined_by, united_after, kept_after, one_after, same_a_before}
-use Rattle.candidate_parts.proofs.numbering.unite_row_a.Goals as goal
+use Rattle.candidate_parts.proofs.numbering.unite_record_a.Goals as goal
 
 pub returns-clause-united : goal.returns-clause-united
 returns-clause-united c =
