@@ -1,1 +1,4 @@
+pub mod FrontierLemmas
+pub mod HeaderLemmas
 pub mod LineLemmas
+pub mod RowLemmas

@@ -1,1 +1,3 @@
+pub mod FrontierText
 pub mod Lines
+pub mod RuleText

@@ -1,0 +1,13 @@
+-- The headers of texts, byte by byte.
+use Rattle.std.proofs.Common.{◌≡◌, List, ℕ, refl, codes}
+use Rattle.csv.specs.Writing.{default_writer, fields_text, is_blank, row_text}
+use Rattle.link_report.specs.FrontierText.{frontier_header}
+use Rattle.link_report.specs.RuleText.{rule_header}
+
+pub rule_header_text : row_text default_writer rule_header ≡ codes "pattern,outcomes,m,u,weight,link,possible,nonlink\n"
+unfolding fields_text is_blank
+rule_header_text = refl
+
+pub frontier_header_text : row_text default_writer frontier_header ≡ codes "mu_ppm,mu,lambda,possible_m,possible_u,denominator,slack_m,slack_u\n"
+unfolding fields_text is_blank
+frontier_header_text = refl

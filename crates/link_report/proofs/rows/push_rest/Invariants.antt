@@ -1,0 +1,8 @@
+use Rattle.std.proofs.Common.{◌≡◌, ◌++◌, drop, map}
+use Rattle.csv.specs.Writing.{default_writer, fields_text}
+use Rattle.link_report.proofs.rows.push_rest.Given as goal
+
+abbrev pub invariant-loop-field : goal.invariant-loop-field
+invariant-loop-field l =
+    l.text.items ++ fields_text default_writer (map (λ field. field.now) (drop l.field-index l.fields))
+    ≡ l.fn.text.items ++ fields_text default_writer (map (λ field. field.now) l.fields)
