@@ -19,19 +19,18 @@ pub(crate) struct Case {
     pub(crate) run: Vec<Run>,
 }
 
-/// What a file comes to hold before a command: the pieces in turn, or what it holds where there are none, with texts
-/// replaced. Without a `name` of its own a file that is taken `from` the folder keeps its name.
+/// What a file comes to hold before a command: a text, the bytes of a file beside the case file and pieces, in this order,
+/// or what it holds where none of them is given; then with texts replaced, and cut.
 #[derive(Drop, Deserialize)]
 #[serde(deny_unknown_fields)]
 pub(crate) struct Change {
     pub(crate) name: String,
-    /// The name of a file beside the case file, whose bytes come first.
-    #[serde(default)]
-    pub(crate) from: Option<String>,
-    /// A text, which comes next.
     #[serde(default)]
     pub(crate) text: Option<String>,
-    /// Texts that are repeated, which come last.
+    /// The name of a file beside the case file.
+    #[serde(default)]
+    pub(crate) from: Option<String>,
+    /// Texts that are repeated.
     #[serde(default)]
     pub(crate) piece: Vec<Piece>,
     /// Texts that are then replaced, each where it first stands.

@@ -91,11 +91,11 @@ fn changed<R: HostFiles + AllocGlobal>(
     } else {
         held.unwrap_or(Vec::new(alloc))
     };
-    if let Some(from) = &change.from {
-        bytes.extend_from_slice(&fs::read(rt, from.as_str())?)?;
-    }
     if let Some(text) = &change.text {
         bytes.extend_from_slice(text.as_bytes())?;
+    }
+    if let Some(from) = &change.from {
+        bytes.extend_from_slice(&fs::read(rt, from.as_str())?)?;
     }
     for piece in &change.piece {
         push_piece(alloc, &mut bytes, piece)?;
