@@ -1,4 +1,5 @@
--- Machinery of the index: the code of a key, which is its texts as one list of bytes, each ended by a 0, with a 1 before each 0 and 1 of a text.
+-- Machinery of the index: the code of a key, which is its texts as one list of bytes, each ended by a 0, with a 1 before
+-- each 0 and 1 of a text. No public clause names it.
 use Rattle.std.specs.Prelude.{ℕ, List, [], ◌∷◌, ◌++◌, Option, Some, None, nat_le, if◌then◌else◌, option_map}
 
 abbrev pub marked : ℕ → List ℕ

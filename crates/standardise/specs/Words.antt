@@ -1,22 +1,9 @@
 -- The words of a text, which titles are dropped from and words are replaced in (`NameTables::untitled`, clause `words`;
 -- `in_place`, clause `value`).
-use Rattle.std.specs.Prelude.{ℕ, List, [], ◌∷◌, ◌++◌, ◌==◌, if◌then◌else◌, reverse, unwrap_or}
+use Rattle.std.specs.Prelude.{ℕ, List, [], ◌∷◌, ◌++◌, if◌then◌else◌, reverse, unwrap_or}
+pub use Rattle.value_forms.specs.Words.{run_words, words, words_after}
 use Rattle.link_base.specs.declared.tables.WordPair.{WordPair}
 use Rattle.standardise.specs.Tables.{contains_text, word_for}
-
--- a run as a list of words: none where it is empty
-abbrev pub run_words : List ℕ → List (List ℕ)
-run_words [] = []
-run_words (c ∷ cs) = (c ∷ cs) ∷ []
-
--- the words of a run and the characters that follow it
-abbrev pub words_after : List ℕ → List ℕ → List (List ℕ)
-words_after run [] = run_words run
-words_after run (c ∷ cs) = if c == 32 then run_words run ++ words_after [] cs else words_after (run ++ c ∷ []) cs
-
--- the longest runs without a space
-abbrev pub words : List ℕ → List (List ℕ)
-words cs = words_after [] cs
 
 -- while there is more than one word and the first stands in the list, the first is dropped
 abbrev pub without_first : List (List ℕ) → List (List ℕ) → List (List ℕ)

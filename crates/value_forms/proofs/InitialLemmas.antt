@@ -7,7 +7,8 @@ use Rattle.std.specs.Char.{encode_utf8}
 use Rattle.std.proofs.lemmas.Bool.Decides.{nat_tests}
 use Rattle.std.proofs.lemmas.Str.{encodes-chars}
 use Rattle.value_forms.specs.InitialBytes.{goes_on, initials_from}
-use Rattle.value_forms.specs.Initials.{initials_of, words_after}
+use Rattle.value_forms.specs.Initials.{initials_of}
+use Rattle.value_forms.specs.Words.{words_after}
 
 -- the initials of characters, where a word may start
 abbrev initials_on : Bool → List ℕ → List ℕ

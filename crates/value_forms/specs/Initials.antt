@@ -1,21 +1,8 @@
--- The words of a text and its initials: the first character of each of its words, joined. `initials_text` carries them
--- (clause `text`), and `same_initials` compares them.
-use Rattle.std.specs.Prelude.{ℕ, List, [], ◌∷◌, ◌++◌, ◌==◌, if◌then◌else◌, take, chars, encode_utf8_all}
+-- The initials of a text: the first character of each of its words, joined. `initials_text` carries them (clause `text`), and
+-- `same_initials` compares two texts by them.
+use Rattle.std.specs.Prelude.{ℕ, List, take, chars, encode_utf8_all}
 use Rattle.std.specs.List.{flat_map}
-
--- a run of characters as a list of words: none where it is empty
-abbrev pub run_words : List ℕ → List (List ℕ)
-run_words [] = []
-run_words (c ∷ cs) = (c ∷ cs) ∷ []
-
--- the words of a run and the characters that follow it
-abbrev pub words_after : List ℕ → List ℕ → List (List ℕ)
-words_after run [] = run_words run
-words_after run (c ∷ cs) = if c == 32 then run_words run ++ words_after [] cs else words_after (run ++ c ∷ []) cs
-
--- the words of these characters: the longest runs without a space
-abbrev pub words : List ℕ → List (List ℕ)
-words cs = words_after [] cs
+use Rattle.value_forms.specs.Words.{words}
 
 -- the first character of each word, joined
 abbrev pub initials_of : List ℕ → List ℕ

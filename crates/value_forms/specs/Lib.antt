@@ -3,3 +3,4 @@ pub mod Written
 pub mod Firsts
 pub mod InitialBytes
 pub mod Initials
+pub mod Words
