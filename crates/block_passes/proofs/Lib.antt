@@ -2,6 +2,5 @@ pub mod ChainLemmas
 pub mod CodeLemmas
 pub mod IdLemmas
 pub mod NumberLemmas
-pub mod PartLemmas
 pub mod RowLemmas
 pub mod TestLemmas
