@@ -5,6 +5,7 @@ use Rattle.std.proofs.lemmas.List.{length-map, length-take}
 use Rattle.std.proofs.lemmas.List.Sums.{length-filter, count_by-le-length}
 use Rattle.std.proofs.lemmas.List.Filters.{length-filter_more}
 use Rattle.std.proofs.lemmas.Nat.{div_below, mod_below}
+use Rattle.link_limits.specs.declared.TheConstants.{MOST_ROWS}
 use Rattle.link_base.specs.Shares.{outcomes_of}
 use Rattle.link_base.specs.declared.rule.Outcome.{Outcome}
 use Rattle.link_base.specs.declared.rule.Outcome.TheVariants.{Agree, Disagree, Missing, Rare}
@@ -104,7 +105,7 @@ some-unmatched judged same (r ∷ sample) h = by_test r.matched refl (some-unmat
     by_test false e rest = let first : ◌≡◌ {A = ℕ} (cond (has_status false (judged r)) 1 0) 1 = ap (λ b. cond (not b) 1 0) (same r ∙ e) in omega (arith, of-status [] 0 false (judged r) (map judged sample), first)
     by_test true e rest = let more = rest (rw e at h) in omega (arith, of-status [] 0 false (judged r) (map judged sample), more)
 
-pub are-judged : (rares : List Bool) (judged : Reviewed → Judged) (same : (r : Reviewed) → (judged r).matched ≡ r.matched) (sample : List Reviewed) (rows : List Judged) → rows ≡ map judged sample → length sample ≤ 100000 → list_any (λ (r : Reviewed). r.matched) sample ≡ true → list_any (λ (r : Reviewed). not r.matched) sample ≡ true → All (λ (row : Judged). row.pattern < pattern_count_by rares) rows → AreJudged rares rows
+pub are-judged : (rares : List Bool) (judged : Reviewed → Judged) (same : (r : Reviewed) → (judged r).matched ≡ r.matched) (sample : List Reviewed) (rows : List Judged) → rows ≡ map judged sample → length sample ≤ MOST_ROWS → list_any (λ (r : Reviewed). r.matched) sample ≡ true → list_any (λ (r : Reviewed). not r.matched) sample ≡ true → All (λ (row : Judged). row.pattern < pattern_count_by rares) rows → AreJudged rares rows
 are-judged rares judged same sample rows is few m u fit =
     let long : length rows ≡ length sample = ap length is ∙ length-map sample judged in
     record {

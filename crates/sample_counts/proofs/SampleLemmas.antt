@@ -5,16 +5,13 @@ use Rattle.std.specs.List.{position, position_or_len}
 use Rattle.link_base.specs.Answers.{and_then}
 use Rattle.link_base.specs.Fault.{Refuses}
 use Rattle.link_base.specs.Standard.{Record}
+use Rattle.link_base.proofs.AnswerFacts.{refuses_then}
 use Rattle.link_base.specs.declared.fault.Fault.{Fault}
 use Rattle.link_base.specs.declared.fault.Fault.TheVariants as fault
 use Rattle.file_reader.specs.Rows.{TableRow, no_row}
 use Rattle.sample_counts.specs.declared.reviewed.Reviewed.{Reviewed}
-use Rattle.sample_counts.specs.Sample.{field_at, is_at, is_matched_by, known_record, named_pair, new_after, or_fault, places_of, reviewed_row, reviewed_rows, same_pair, sample_row, unless_repeated}
-
--- a refusal stays one for what comes after
-pub refuses_then : {A B : Type 0} (x : Result A Fault) (next : A → Result B Fault) (f : Fault) → Refuses x f → Refuses (and_then x next) f
-refuses_then x next fault.NoMemory h = tt
-refuses_then x next f h = ap (λ (r : Result _ Fault). and_then r next) h
+use Rattle.sample_counts.specs.Sample.{field_at, is_matched_by, known_record, named_pair, new_after, or_fault, reviewed_row, reviewed_rows, same_pair, sample_row, unless_repeated}
+use Rattle.sample_counts.specs.Places.{is_at, places_of}
 
 -- the place of a pair is that of its positions
 or_len_places : (r : Reviewed) (done : List Reviewed) → position_or_len (is_at r.a r.b) (map places_of done) ≡ position_or_len (same_pair r) done

@@ -1,2 +1,4 @@
 pub mod Counts
+pub mod Places
 pub mod Sample
+pub mod Tallies

@@ -1,6 +1,8 @@
--- The sample of reviewed pairs, or its first fault.
+-- The reviewed pairs of a sample file, or its first fault: of the table, then row by row. `count_sample_over` and
+-- `count_sample` carry it (clause `answer`, by `sample_of`).
 use Rattle.std.specs.Prelude.{◌≡◌, ◌+◌, ◌==◌, ◌&&◌, ◌<◌, ◌≤◌, All, ℕ, Bool, true, false, not, List, [], ◌∷◌, ◌++◌, length, position, Option, Some, None, Result, Ok, Err, codes, bytes_eq, slice_index_or, if◌then◌else◌}
 use Rattle.std.specs.List.{list_any}
+use Rattle.link_limits.specs.declared.TheConstants.{MOST_ROWS}
 use Rattle.link_base.specs.Answers.{and_then}
 use Rattle.link_base.specs.Standard.{Record, position_of_id}
 use Rattle.link_base.specs.declared.fault.Fault.{Fault}
@@ -13,7 +15,7 @@ use Rattle.sample_counts.specs.declared.reviewed.Reviewed.{Reviewed}
 
 -- the columns of a sample, and the most rows that it may have
 abbrev pub sample_wanted : Wanted
-sample_wanted = record { id = None; columns = codes "id_a" ∷ codes "id_b" ∷ codes "status" ∷ []; most = 100000 }
+sample_wanted = record { id = None; columns = codes "id_a" ∷ codes "id_b" ∷ codes "status" ∷ []; most = MOST_ROWS }
 
 -- whether a status says that the pair is matched
 abbrev pub is_matched_by : List ℕ → Option Bool
@@ -82,21 +84,14 @@ sample_under a b table = and_then (reviewed_rows a b [] table) with_both
 abbrev pub sample_of : List Record → List Record → List (List (List ℕ)) → Result (List Reviewed) Fault
 sample_of a b records = and_then (table_of role.Sample sample_wanted records) (sample_under a b)
 
--- the two positions of a pair
-abbrev pub places_of : Reviewed → ℕ × ℕ
-places_of r = (r.a, r.b)
-
-abbrev pub is_at : ℕ → ℕ → ℕ × ℕ → Bool
-is_at a b pair = a == pair.0 && b == pair.1
-
 -- positions of files of so many records
 pub record IsInFiles (rows_a rows_b : ℕ) (r : Reviewed) : Type 0 where
   pub of_a : r.a < rows_a
   pub of_b : r.b < rows_b
 
--- reviewed pairs of both kinds, at most 100,000
+-- reviewed pairs of both kinds, at most `MOST_ROWS`
 pub record IsSample (rows_a rows_b : ℕ) (sample : List Reviewed) : Type 0 where
-  pub few : length sample ≤ 100000
+  pub few : length sample ≤ MOST_ROWS
   pub in_files : All (IsInFiles rows_a rows_b) sample
   pub matched : list_any (λ (r : Reviewed). r.matched) sample ≡ true
   pub unmatched : list_any (λ (r : Reviewed). not r.matched) sample ≡ true

@@ -1,9 +1,11 @@
 // Reviewed pairs with their patterns, and their counts.
 ghost use Rattle.std.specs.Prelude.{◌≡◌, ◌≤◌, ◌<◌, ◌+◌, ◌^◌, ℕ, All, false, length, filter, sum, slice_index, slice_index_or, if◌then◌else◌};
 ghost use Rattle.pattern_shapes.specs.Shapes.{digit_of, pattern_count_by, rare_of};
-ghost use Rattle.sample_counts.specs.Counts.{AreJudged, count_of, counted_at, digit_in, is_digit};
+ghost use Rattle.sample_counts.specs.Counts.{AreJudged, count_of, digit_in, is_digit};
+ghost use Rattle.sample_counts.specs.Tallies.{counted_at};
 
 use link_base::{Outcome, Shape};
+use link_limits::MOST_ROWS;
 use pattern_shapes::outcome_of;
 use std::marker::Model;
 
@@ -68,7 +70,7 @@ pub(crate) struct Tally {
 
 // One more at a digit, where there is one.
 fn more_at(tally: Tally, digit: Option<usize>) -> Tally
-    requires { (k : ℕ) → k < 4 → counted_at tally k ≤ 100000 }
+    requires { (k : ℕ) → k < 4 → counted_at tally k ≤ MOST_ROWS }
     ensures { (k : ℕ) → k < 4 → counted_at result k ≡ counted_at tally k + (if is_digit k digit then 1 else 0) }
 {
     match digit {
@@ -96,7 +98,7 @@ fn more_at(tally: Tally, digit: Option<usize>) -> Tally
 fn tally_of(shape: &Shape, rows: &[Judged], field: u8, matched: bool) -> Tally
     requires patterns { All (λ (row : Judged). row.pattern < pattern_count_by (rare_of shape.now)) rows.now }
     requires field { field < shape.now.fields }
-    requires few { length rows.now ≤ 100000 }
+    requires few { length rows.now ≤ MOST_ROWS }
     ensures { (k : ℕ) → k < 4
         → counted_at result k ≡ length (filter (λ row. is_digit k (digit_in (rare_of shape.now) field matched row)) rows.now) }
 {
@@ -123,12 +125,12 @@ impl Counts {
     }
 
     /// How many pairs of a status have each outcome in a field, counted from 0, in the order agree, disagree, missing, rare.
-    /// Between 1 and 100,000 pairs have the status, and none is rare where the field may not be.
+    /// Between 1 and `MOST_ROWS` pairs have the status, and none is rare where the field may not be.
     pub fn of(&self, field: u8, matched: bool) -> [u64; 4]
         requires { field < length self.now.rares }
         ensures counts { (k : ℕ) → k < 4 → slice_index result k ≡ count_of self.now field matched k }
         ensures some { 1 ≤ sum result }
-        ensures few { sum result ≤ 100000 }
+        ensures few { sum result ≤ MOST_ROWS }
         ensures rare { slice_index_or self.now.rares field false ≡ false → slice_index result 3 ≡ 0 }
     {
         let counts = tally_of(&self.shape, &self.rows, field, matched);

@@ -1,6 +1,6 @@
 // The pairs of earlier rows, found by their positions.
 ghost use Rattle.std.specs.Prelude.{◌≡◌, ◌++◌, ◌∷◌, ◌<◌, [], is_some, position, length, IfOk, IfSome, if◌then◌else◌};
-ghost use Rattle.sample_counts.specs.Sample.{is_at};
+ghost use Rattle.sample_counts.specs.Places.{is_at};
 
 use indexmap::IndexSet;
 use link_base::NoMemory;

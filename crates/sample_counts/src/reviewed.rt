@@ -6,15 +6,14 @@ ghost use Rattle.link_base.specs.Fault.{Gives, IsAnswer, IsInputFault};
 ghost use Rattle.link_base.specs.Standard.{position_of_id};
 ghost use Rattle.file_reader.specs.Layout.{wanted_of};
 ghost use Rattle.file_reader.specs.Rows.{TableRow, no_row};
-ghost use Rattle.sample_counts.specs.Sample.{IsInFiles, is_matched_by, known_record, places_of, reviewed_row, reviewed_rows, sample_of, sample_row, sample_under, sample_wanted, with_both, IsSample};
+ghost use Rattle.sample_counts.specs.Sample.{IsInFiles, is_matched_by, known_record, reviewed_row, reviewed_rows, sample_of, sample_row, sample_under, sample_wanted, with_both, IsSample};
+ghost use Rattle.sample_counts.specs.Places.{places_of};
 
 use crate::index::PairIndex;
 use file_reader::{Layout, Table, read_table};
 use link_base::{Fault, FileRole, NoMemory, StdFile, Text};
+use link_limits::MOST_ROWS;
 use std::alloc::Global;
-
-/// The most rows of a sample.
-const MOST_ROWS: u32 = 100_000;
 
 /// A reviewed pair: the positions of its records in A and in B, and whether it is matched.
 #[derive(Clone, Copy, Debug)]
@@ -82,7 +81,7 @@ fn reviewed_at(
 ) -> Result<Reviewed, Fault>
     requires within { at < length table.now }
     requires width { length (slice_index_or table.now at no_row).fields ≡ 3 }
-    requires few { length table.now ≤ 100000 }
+    requires few { length table.now ≤ MOST_ROWS }
     ensures kind { IfErr result IsInputFault }
     ensures answer { IsAnswer (reviewed_row a.now b.now (at + 1) (slice_index_or table.now at no_row).fields) result }
     ensures in_files { IfOk result (λ r. IsInFiles (length a.now) (length b.now) r) }
@@ -118,7 +117,7 @@ fn sample_at(
 ) -> Result<Reviewed, Fault>
     requires within { at < length table.now }
     requires width { length (slice_index_or table.now at no_row).fields ≡ 3 }
-    requires few { length table.now ≤ 100000 }
+    requires few { length table.now ≤ MOST_ROWS }
     requires done { length done.now ≡ at }
     requires index { index.old ≡ map places_of done.now }
     ensures kind { IfErr result IsInputFault }
@@ -148,7 +147,7 @@ fn reviewed_in(
     b: &StdFile,
 ) -> Result<Vec<Reviewed>, Fault>
     requires width { All (λ (r : TableRow). length r.fields ≡ 3) table.now }
-    requires few { length table.now ≤ 100000 }
+    requires few { length table.now ≤ MOST_ROWS }
     ensures kind { IfErr result IsInputFault }
     ensures answer { Gives (λ sample. sample.items) (reviewed_rows a.now b.now [] table.now) result }
     ensures in_files { IfOk result (λ sample. All (IsInFiles (length a.now) (length b.now)) sample.items) }
@@ -197,7 +196,7 @@ fn with_both_kinds(sample: Vec<Reviewed>) -> Result<Vec<Reviewed>, Fault>
 // The sample in a table.
 fn sample_in(alloc: Global, table: &Table, a: &StdFile, b: &StdFile) -> Result<Vec<Reviewed>, Fault>
     requires width { All (λ (r : TableRow). length r.fields ≡ 3) table.now }
-    requires few { length table.now ≤ 100000 }
+    requires few { length table.now ≤ MOST_ROWS }
     ensures kind { IfErr result IsInputFault }
     ensures answer { Gives (λ sample. sample.items) (sample_under a.now b.now table.now) result }
     ensures is { IfOk result (λ sample. IsSample (length a.now) (length b.now) sample.items) }

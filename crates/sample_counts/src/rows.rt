@@ -1,5 +1,5 @@
 // The counts of a sample.
-ghost use Rattle.std.specs.Prelude.{◌≡◌, ◌≤◌, ◌<◌, All, false, IfErr, IfOk, Ok, length, map};
+ghost use Rattle.std.specs.Prelude.{◌≡◌, ◌≤◌, ◌<◌, All, false, IfErr, IfOk, List, Ok, length, map};
 ghost use Rattle.csv_records.specs.Left.{records_in};
 ghost use Rattle.link_base.specs.Answers.{and_then};
 ghost use Rattle.link_base.specs.Fault.{IsAnswer, IsInputFault};
@@ -9,13 +9,15 @@ ghost use Rattle.comparators.specs.Fields.{kind_outcome};
 ghost use Rattle.comparators.specs.declared.fields.FieldKind.{FieldKind};
 ghost use Rattle.pattern_shapes.specs.Shapes.{pattern_count_by};
 ghost use Rattle.patterns.specs.Patterns.{AreSides};
-ghost use Rattle.sample_counts.specs.Counts.{IsRowOf, counts_by, judged_by};
+ghost use Rattle.sample_counts.specs.Counts.{AreOutcomeCounts, IsRowOf, counts_by, judged_by};
+ghost use Rattle.sample_counts.specs.declared.reviewed.Reviewed.{Reviewed as ReviewedPair};
 ghost use Rattle.sample_counts.specs.Sample.{IsInFiles, sample_of};
 
 use crate::counts::{Counts, Judged};
 use crate::reviewed::{Reviewed, read_sample};
 use comparators::Comparator;
 use link_base::{Fault, NoMemory, Sides, StdFile};
+use link_limits::MOST_FIELDS;
 use patterns::{Fields, pattern_over, shape_of};
 use std::alloc::Global;
 
@@ -27,7 +29,7 @@ fn judge<C: Comparator, T: Sides<C::Side>>(
     sides_a: &T,
     sides_b: &T,
 ) -> Result<Vec<Judged>, NoMemory>
-    requires few { length kinds.now ≤ 6 }
+    requires few { length kinds.now ≤ MOST_FIELDS }
     requires sides_a { All (AreSides C.is_valid kinds.now) (T.all sides_a.now) }
     requires sides_b { All (AreSides C.is_valid kinds.now) (T.all sides_b.now) }
     requires in_files { All (IsInFiles (length (T.all sides_a.now)) (length (T.all sides_b.now))) sample.now }
@@ -60,7 +62,7 @@ pub fn count_sample_over<C: Comparator, T: Sides<C::Side>>(
     sides_b: &T,
 ) -> Result<Counts, Fault>
     requires some { 1 ≤ length kinds.now }
-    requires few { length kinds.now ≤ 6 }
+    requires few { length kinds.now ≤ MOST_FIELDS }
     requires rows_a { length (T.all sides_a.now) ≡ length a.now }
     requires rows_b { length (T.all sides_b.now) ≡ length b.now }
     requires sides_a { All (AreSides C.is_valid kinds.now) (T.all sides_a.now) }
@@ -69,6 +71,8 @@ pub fn count_sample_over<C: Comparator, T: Sides<C::Side>>(
     ensures fields { IfOk result (λ counts. counts.rares ≡ map C.is_rare kinds.now) }
     ensures answer { IsAnswer (and_then (sample_of a.now b.now (records_in 44 bytes.now))
         (λ sample. Ok (counts_by C.is_rare C.outcome_of kinds.now (T.all sides_a.now) (T.all sides_b.now) sample))) result }
+    ensures outcomes { IfOk result (λ counts. (sample : List ReviewedPair) → sample_of a.now b.now (records_in 44 bytes.now) ≡ Ok sample
+        → AreOutcomeCounts C.outcome_of kinds.now (T.all sides_a.now) (T.all sides_b.now) sample counts) }
 {
     let sample = match read_sample(alloc, bytes, a, b) {
         Ok(sample) => sample,
@@ -94,6 +98,8 @@ pub fn count_sample(
     ensures fields { IfOk result (λ counts. counts.rares ≡ map (λ (_ : FieldKind). false) fields.now) }
     ensures answer { IsAnswer (and_then (sample_of a.now b.now (records_in 44 bytes.now))
         (λ sample. Ok (counts_by (λ (_ : FieldKind). false) kind_outcome fields.now (rows_of a.now) (rows_of b.now) sample))) result }
+    ensures outcomes { IfOk result (λ counts. (sample : List ReviewedPair) → sample_of a.now b.now (records_in 44 bytes.now) ≡ Ok sample
+        → AreOutcomeCounts kind_outcome fields.now (rows_of a.now) (rows_of b.now) sample counts) }
 {
     count_sample_over(alloc, bytes, a, b, fields.kinds(), a, b)
 }

@@ -1,15 +1,17 @@
 use Rattle.std.proofs.Common.{◌∙◌, List, ap, arith, false, length}
 use Rattle.std.specs.List.{filter}
 use Rattle.std.proofs.lemmas.List.{take_all}
+use Rattle.link_limits.specs.declared.TheConstants.{MOST_ROWS}
 use Rattle.pattern_shapes.specs.Shapes.{rare_of}
 use Rattle.sample_counts.specs.declared.counts.Judged.{Judged}
-use Rattle.sample_counts.specs.Counts.{counted_at, digit_in, is_digit}
+use Rattle.sample_counts.specs.Counts.{digit_in, is_digit}
+use Rattle.sample_counts.specs.Tallies.{counted_at}
 use Rattle.sample_counts.proofs.CountLemmas.{front-le, tally-step}
 use Rattle.sample_counts.proofs.counts.tally_of.Goals as goal
 
 pub more_at-counts-requires : goal.more_at-counts-requires
 more_at-counts-requires c = λ k h.
-    rw (c.loop-row.invariant k h) (front-le (λ row. is_digit k (digit_in (rare_of c.args.shape.now) c.args.field c.args.matched row)) c.args.rows.now c.loop-row.row-index 100000 c.requires.few)
+    rw (c.loop-row.invariant k h) (front-le (λ row. is_digit k (digit_in (rare_of c.args.shape.now) c.args.field c.args.matched row)) c.args.rows.now c.loop-row.row-index MOST_ROWS c.requires.few)
 
 pub loop-row-preserved : goal.loop-row-preserved
 loop-row-preserved c = λ k h.

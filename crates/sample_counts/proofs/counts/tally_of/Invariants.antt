@@ -1,7 +1,8 @@
 use Rattle.std.proofs.Common.{◌≡◌, ◌<◌, ℕ, length, take}
 use Rattle.std.specs.List.{filter}
 use Rattle.pattern_shapes.specs.Shapes.{rare_of}
-use Rattle.sample_counts.specs.Counts.{counted_at, digit_in, is_digit}
+use Rattle.sample_counts.specs.Counts.{digit_in, is_digit}
+use Rattle.sample_counts.specs.Tallies.{counted_at}
 use Rattle.sample_counts.proofs.counts.tally_of.Given as goal
 
 abbrev pub invariant-loop-row : goal.invariant-loop-row

@@ -1,5 +1,6 @@
 use Rattle.std.proofs.Common.{◌≡◌, All, [], length, map, drop}
-use Rattle.sample_counts.specs.Sample.{IsInFiles, places_of, reviewed_rows}
+use Rattle.sample_counts.specs.Sample.{IsInFiles, reviewed_rows}
+use Rattle.sample_counts.specs.Places.{places_of}
 use Rattle.sample_counts.proofs.reviewed.reviewed_in.Given as goal
 
 abbrev pub invariant-loop-at : goal.invariant-loop-at

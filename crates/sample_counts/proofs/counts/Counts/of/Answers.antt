@@ -1,5 +1,6 @@
 use Rattle.std.proofs.Common.{◌≡◌, ◌∙◌, ◌∷◌, [], arith, length, sum}
 use Rattle.std.specs.List.{filter}
+use Rattle.link_limits.specs.declared.TheConstants.{MOST_ROWS}
 use Rattle.pattern_shapes.specs.Shapes.{rare_of}
 use Rattle.sample_counts.specs.Counts.{has_status}
 use Rattle.sample_counts.proofs.CountLemmas.{filter-le, none-rare, some-of, total-of}
@@ -16,7 +17,7 @@ pub returns-clause-some : goal.returns-clause-some
 returns-clause-some c = omega (arith, total c, some-of (rare_of c.self.inside.shape) c.self.inside.rows.items c.args.matched c.self.invariant)
 
 pub returns-clause-few : goal.returns-clause-few
-returns-clause-few c = omega (arith, total c, filter-le (has_status c.args.matched) c.self.inside.rows.items 100000 c.self.invariant.few)
+returns-clause-few c = omega (arith, total c, filter-le (has_status c.args.matched) c.self.inside.rows.items MOST_ROWS c.self.invariant.few)
 
 pub returns-clause-rare : goal.returns-clause-rare
 returns-clause-rare c =

@@ -1,0 +1,10 @@
+-- The positions of reviewed pairs, as `PairIndex` keeps them (its `keep`, clauses `found` and `pairs`).
+use Rattle.std.specs.Prelude.{ℕ, Bool, ◌==◌, ◌&&◌}
+use Rattle.sample_counts.specs.declared.reviewed.Reviewed.{Reviewed}
+
+-- the two positions of a pair
+abbrev pub places_of : Reviewed → ℕ × ℕ
+places_of r = (r.a, r.b)
+
+abbrev pub is_at : ℕ → ℕ → ℕ × ℕ → Bool
+is_at a b pair = a == pair.0 && b == pair.1
