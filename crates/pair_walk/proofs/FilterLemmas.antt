@@ -3,7 +3,7 @@ use Rattle.std.proofs.Common.{◌≡◌, ◌+◌, ◌<◌, ◌≤◌, ◌==◌, 
 use Rattle.std.specs.List.{range_with_len}
 use Rattle.std.proofs.lemmas.Bool.{cases_Bool, cases_eq}
 use Rattle.block_passes.proofs.TestLemmas.{filter-agree, true-eq}
-use Rattle.pair_walk.specs.Walker.{IsRisingBelow, stands_in}
+use Rattle.pair_walk.specs.Joining.{IsRisingBelow, stands_in}
 
 or-assoc : (p q r : Bool) → ((p || q) || r) ≡ (p || (q || r))
 or-assoc true q r = refl

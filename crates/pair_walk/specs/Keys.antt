@@ -1,4 +1,4 @@
--- Rows that share a key.
+-- Rows that share a key (blocking, Newcombe et al. 1959). `walk` and `walk_in` carry it, in `compared_pairs`.
 pub use Rattle.block_passes.specs.Keys.{key_in_pass, same_key, same_text}
 use Rattle.std.specs.Prelude.{List, Bool}
 use Rattle.std.specs.List.{list_any}

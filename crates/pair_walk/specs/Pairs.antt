@@ -1,4 +1,5 @@
--- The compared pairs: the pairs of the product of two files that share a key in some pass.
+-- The compared pairs: the pairs of the product of two files that share a key in some pass. `walk` and
+-- `walk_in` carry it (their lone clauses), and `rows_joined` for the rows of a walker.
 use Rattle.std.specs.Prelude.{ℕ, zero, suc, ◌+◌, List, [], ◌∷◌, ◌++◌, length, filter, map, Bool}
 use Rattle.block_passes.specs.Index.{row_at}
 use Rattle.link_base.specs.declared.plan.Part.{Part}

@@ -1,4 +1,5 @@
--- The rows of B for each row of A.
+-- The rows of B for each row of A. `Walker::new` and `Walker::new_in` carry it (clause `left`); `rows_joined` says that
+-- joined they are the compared pairs.
 use Rattle.std.specs.Prelude.{◌<◌, ℕ, zero, suc, ◌+◌, List, [], ◌∷◌, filter, length, slice_index_or}
 use Rattle.std.specs.List.{range_with_len}
 use Rattle.block_passes.specs.Ids.{AreAllHeld}

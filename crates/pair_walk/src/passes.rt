@@ -3,7 +3,7 @@ ghost use Rattle.std.specs.Prelude.{◌≡◌, ◌<◌, ℕ, Bool, [], length, s
 ghost use Rattle.block_passes.specs.Ids.{AreAllHeld};
 ghost use Rattle.block_passes.specs.Index.{AreReady};
 ghost use Rattle.pair_walk.specs.Rows.{AreAllReady, AreKeysHeld};
-ghost use Rattle.pair_walk.specs.Walker.{AreFound, ArePassRows};
+ghost use Rattle.pair_walk.specs.Joining.{AreFound, ArePassRows};
 
 use block_passes::PassRows;
 use link_base::{NoMemory, Part, Pass, PassList, StdFile};

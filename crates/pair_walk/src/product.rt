@@ -66,14 +66,14 @@ fn collect(alloc: Global, mut walker: Walker) -> Result<Pairs, WalkFault>
             Ok(None) => return Ok(Pairs { pairs }),
             Ok(Some(row)) => match push_row(&mut pairs, &row) {
                 Ok(()) => {}
-                Err(_) => return Err(WalkFault::NoMemory),
+                Err(NoMemory) => return Err(WalkFault::NoMemory),
             },
         }
     }
 }
 
 /// The compared pairs of two files: those that share a key in some blocking pass. There are too many
-/// exactly where they are more than 2,000,000.
+/// exactly where they are more than `MOST_PAIRS`.
 pub fn walk(alloc: Global, a: &StdFile, b: &StdFile, passes: &PassList) -> Result<Pairs, WalkFault>
     requires ready_a { AreAllReady passes.now a.now }
     requires ready_b { AreAllReady passes.now b.now }
@@ -81,7 +81,7 @@ pub fn walk(alloc: Global, a: &StdFile, b: &StdFile, passes: &PassList) -> Resul
 {
     match Walker::new(alloc, a, b, passes) {
         Ok(walker) => collect(alloc, walker),
-        Err(_) => Err(WalkFault::NoMemory),
+        Err(NoMemory) => Err(WalkFault::NoMemory),
     }
 }
 
@@ -101,6 +101,6 @@ pub fn walk_in(
 {
     match Walker::new_in(alloc, a, b, passes, pool) {
         Ok(walker) => collect(alloc, walker),
-        Err(_) => Err(WalkFault::NoMemory),
+        Err(NoMemory) => Err(WalkFault::NoMemory),
     }
 }

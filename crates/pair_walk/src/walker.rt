@@ -7,12 +7,10 @@ use crate::merging::join_row;
 use crate::passes::find_passes;
 use block_passes::PassRows;
 use link_base::{NoMemory, PassList, StdFile};
+use link_limits::MOST_PAIRS;
 use std::alloc::Global;
 use std::marker::Model;
 use value_pool::Pool;
-
-/// The most compared pairs.
-const MOST_PAIRS: u64 = 2_000_000;
 
 /// The pairs of a row of A: its position, and the rising list of the positions of B, which may be empty.
 #[derive(Debug, Drop)]
@@ -34,13 +32,15 @@ pub struct Walker {
 
 impl Model for Walker {
     ghost use Rattle.std.specs.Prelude.{◌≤◌, ◌-◌};
-    ghost use Rattle.pair_walk.specs.Walker.{AreRising, HaveRows, Walked, joined_from};
+    ghost use Rattle.link_limits.specs.declared.TheConstants.{MOST_PAIRS};
+    ghost use Rattle.pair_walk.specs.Joining.{AreRising, HaveRows, joined_from};
+    ghost use Rattle.pair_walk.specs.Walker.{Walked};
 
     ghost Value = { Walked };
 
     ghost view = { λ w. record { left = joined_from w.passes.items w.width w.at (w.rows - w.at); given = w.given } };
 
-    ghost invariant = { λ w. (w.at ≤ w.rows) × (w.given ≤ 2000000) × HaveRows w.passes.items w.rows × AreRising w.passes.items w.width w.rows };
+    ghost invariant = { λ w. (w.at ≤ w.rows) × (w.given ≤ MOST_PAIRS) × HaveRows w.passes.items w.rows × AreRising w.passes.items w.width w.rows };
 }
 
 impl Walker {
@@ -106,7 +106,7 @@ impl Walker {
     }
 
     /// The pairs of the next row of A, and `None` exactly where every row was given. There are too
-    /// many pairs exactly where those given so far and those of this row pass 2,000,000. A refusal
+    /// many pairs exactly where those given so far and those of this row pass `MOST_PAIRS`. A refusal
     /// changes nothing.
     pub fn next_row(&mut self, alloc: Global) -> Result<Option<RowPairs>, WalkFault>
         ensures { NextRow self.old self.new result }
@@ -117,7 +117,7 @@ impl Walker {
         let a = self.at;
         let bs = match join_row(alloc, &self.passes, a) {
             Ok(bs) => bs,
-            Err(_) => return Err(WalkFault::NoMemory),
+            Err(NoMemory) => return Err(WalkFault::NoMemory),
         };
         let given = self.given + bs.len() as u64;
         if given > MOST_PAIRS {

@@ -1,4 +1,4 @@
-use Rattle.pair_walk.specs.Walker.{AreFound}
+use Rattle.pair_walk.specs.Joining.{AreFound}
 use Rattle.pair_walk.proofs.passes.find_passes.Given as goal
 
 abbrev pub invariant-loop-at : goal.invariant-loop-at

@@ -1,5 +1,5 @@
 use Rattle.std.proofs.Common.{rules, ◌+◌, ◌-◌, sym, ap, ◌∙◌}
-use Rattle.pair_walk.specs.Walker.{joined_from}
+use Rattle.pair_walk.specs.Joining.{joined_from}
 use Rattle.pair_walk.proofs.JoinLemmas.{joined-step, row-cons}
 use Rattle.pair_walk.proofs.walker.Walker.next_row.Goals as goal
 
