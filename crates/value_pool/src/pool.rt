@@ -1,5 +1,5 @@
 // Distinct texts, a limit of their bytes, and room for more of them.
-ghost use Rattle.std.specs.Prelude.{◌≡◌, ◌≤◌, ◌≢◌, AllPairs, ◌<◌, ◌+◌, ◌++◌, ◌∷◌, [], ℕ, true, false, is_some, IfOk, IfSome, OnErr, OnOk, length, slice_get, slice_index_or, sum_by, if◌then◌else◌};
+ghost use Rattle.std.specs.Prelude.{◌≡◌, ◌≤◌, ◌↔◌, IsTrue, ◌≢◌, AllPairs, ◌<◌, ◌+◌, ◌++◌, ◌∷◌, [], ℕ, true, false, is_some, IfOk, IfSome, OnErr, OnOk, length, slice_get, slice_index_or, sum_by, if◌then◌else◌};
 ghost use Rattle.value_pool.specs.Pool.{FullExactly, HasRoom, KeepsRoom, with_text};
 ghost use Rattle.value_pool.specs.Texts.{stands_among};
 
@@ -87,6 +87,20 @@ impl Pool {
         self.slots.reserve(texts as usize)?;
         self.bytes.reserve(bytes as usize)?;
         Ok(())
+    }
+
+    /// The number of texts.
+    pub fn len(&self) -> u32
+        ensures { result ≡ length self.now.texts }
+    {
+        self.slots.len() as u32
+    }
+
+    /// Whether there is no text.
+    pub fn is_empty(&self) -> bool
+        ensures { IsTrue result ↔ (length self.now.texts ≡ 0) }
+    {
+        self.slots.is_empty()
     }
 
     /// The bytes of a text.
