@@ -2,7 +2,8 @@
 use Rattle.std.proofs.Common.{◌≡◌, ◌<◌, ◌+◌, ℕ, zero, suc, List, length, All, arith, Bool, true, false, Ok, Err, cond, nat_le, subst}
 use Rattle.link_base.specs.declared.fault.Fault.{Fault}
 use Rattle.link_base.specs.declared.fault.Fault.TheVariants as fault
-use Rattle.link_core.specs.Pairs.{most_pairs, pairs_within}
+use Rattle.link_limits.specs.declared.TheConstants.{MOST_PAIRS}
+use Rattle.link_core.specs.Pairs.{pairs_within}
 use Rattle.std.proofs.lemmas.List.Elements.{All-append, All-cons, All-filter, All-nil}
 use Rattle.link_base.specs.Standard.{Record}
 use Rattle.link_base.specs.declared.plan.Part.{Part}
@@ -35,7 +36,7 @@ module _ (a b : List Record) (passes : List (List Part)) (pairs : List PairAt) (
   are_inside : All (IsInside (length a) (length b)) pairs
   are_inside =
       let inside : List PairAt → Type 0 = λ ps. All (IsInside (length a) (length b)) ps in
-      subst inside (only_value (nat_le (length (compared_pairs a b passes)) most_pairs) (compared_pairs a b passes) pairs (fault.TooManyPairs most_pairs) given) (compared_inside a b passes)
+      subst inside (only_value (nat_le (length (compared_pairs a b passes)) MOST_PAIRS) (compared_pairs a b passes) pairs (fault.TooManyPairs MOST_PAIRS) given) (compared_inside a b passes)
 
   pub inside_a : All (λ (p : PairAt). p.a < length a) pairs
   inside_a k d lt = (are_inside k d lt).0

@@ -1,19 +1,14 @@
 -- Steps of what is prepared.
-use Rattle.std.proofs.Common.{◌≡◌, ℕ, List, Result, Ok, ap, sym, subst}
+use Rattle.std.proofs.Common.{◌≡◌, ℕ, List, Result, Ok, sym, subst}
 use Rattle.link_base.specs.Answers.{and_then}
 use Rattle.link_base.specs.Fault.{Refuses}
 use Rattle.link_base.specs.Standard.{Record}
 use Rattle.link_base.specs.declared.fault.Fault.{Fault}
-use Rattle.link_base.specs.declared.fault.Fault.TheVariants as fault
+use Rattle.link_base.proofs.AnswerFacts.{refuses_then}
 use Rattle.pooled_values.specs.Sides.{pooled_values}
 use Rattle.settings.specs.declared.plan.Plan.{Plan}
 use Rattle.standard_files.specs.Files.{standard_files, StandardPair}
 use Rattle.link_core.specs.Prepared.{kinds_of, pooled, prepared, PreparedView, with_fault}
-
--- a refusal stays one for what comes after
-pub refuses_then : {A B : Type 0} (x : Result A Fault) (next : A → Result B Fault) (f : Fault) → Refuses x f → Refuses (and_then x next) f
-refuses_then x next fault.NoMemory h = tt
-refuses_then x next f h = ap (λ (r : Result _ Fault). and_then r next) h
 
 module _ (plan : Plan) (limit : ℕ) where
   with_values : StandardPair → Result PreparedView Fault

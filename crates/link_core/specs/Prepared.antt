@@ -1,17 +1,20 @@
--- What is prepared of the two files of a plan: their standard values, and these in a pool.
-use Rattle.std.specs.Prelude.{ℕ, List, map, Result, Ok, Err, ⊤}
+-- What is prepared of the two files of a plan: their standard values, and these in a pool. `prepare` carries it (clause
+-- `answer`, by `prepared`), and says of it what later steps need (clauses from `limit` on).
+use Rattle.std.specs.Prelude.{◌≡◌, ℕ, List, length, map, Result, Ok, Err, ⊤}
 use Rattle.link_base.specs.Answers.{and_then}
+use Rattle.link_base.specs.Standard.{Record}
 use Rattle.link_base.specs.declared.fault.Fault.{Fault}
 use Rattle.link_base.specs.declared.fault.Fault.TheVariants as fault
 use Rattle.link_base.specs.declared.fault.FileRole.{FileRole}
 use Rattle.link_base.specs.declared.fault.FileRole.TheVariants as role
 use Rattle.link_base.specs.declared.plan.CompareKind.{CompareKind}
-use Rattle.comparators.specs.declared.ids.IdValue.{IdValue}
+use Rattle.comparators.specs.Rows.{IdRows}
 use Rattle.value_pool.specs.declared.pool.PoolFault.{PoolFault}
 use Rattle.value_pool.specs.declared.pool.PoolFault.TheVariants as pool
 use Rattle.settings.specs.Plan.{FieldKeys}
 use Rattle.settings.specs.declared.plan.Plan.{Plan}
 use Rattle.standard_files.specs.Files.{standard_files, StandardPair}
+use Rattle.pooled_values.specs.Ready.{AreFileSides}
 use Rattle.pooled_values.specs.Sides.{pooled_values, PooledView}
 
 -- the comparisons of a plan's fields
@@ -50,10 +53,18 @@ IsOneOfBoth role.B = ⊤
 IsOneOfBoth r = ⊥
 
 -- what the rows of one of both files are compared by, and how many of its dates could not be read
-abbrev pub sides_in : PreparedView → FileRole → List (List IdValue)
-sides_in p role.B = p.values.b.rows
-sides_in p r = p.values.a.rows
+abbrev pub sides_in : PreparedView → FileRole → IdRows
+sides_in p role.B = p.values.b
+sides_in p r = p.values.a
 
 abbrev pub unreadable_in : PreparedView → FileRole → ℕ
 unreadable_in p role.B = p.files.b.unreadable
 unreadable_in p r = p.files.a.unreadable
+
+-- the pool has this limit, and the tables have a valid side for each value of both files, which stands for it
+pub record ArePooled (most : ℕ) (kinds : List CompareKind) (a b : List Record) (v : PooledView) : Type 0 where
+  pub limit : v.limit ≡ most
+  pub fields_a : v.a.fields ≡ length kinds
+  pub fields_b : v.b.fields ≡ length kinds
+  pub sides_a : AreFileSides v.texts kinds a v.a.rows
+  pub sides_b : AreFileSides v.texts kinds b v.b.rows

@@ -1,5 +1,5 @@
 // The compared pairs of a plan.
-ghost use Rattle.std.specs.Prelude.{◌≡◌, ◌≤◌, ◌^◌, IfErr};
+ghost use Rattle.std.specs.Prelude.{◌≡◌, ◌≤◌, IfErr};
 ghost use Rattle.link_base.specs.Fault.{IsAnswer, IsInputFault};
 ghost use Rattle.link_core.specs.Pairs.{ids_of_pairs, pairs_within};
 ghost use Rattle.pair_walk.specs.Pairs.{compared_pairs};
@@ -8,6 +8,7 @@ ghost use Rattle.settings.specs.Ranges.{KeepsRanges};
 
 use crate::preparing::{Prepared, prepare};
 use link_base::{Fault, PassList, Text};
+use link_limits::MOST_POOL_LIMIT;
 use link_report::ids_text_of;
 use pair_walk::{Pairs, WalkFault, walk_in};
 use settings::Plan;
@@ -31,7 +32,7 @@ fn compare(alloc: Global, passes: &PassList, prepared: &Prepared) -> Result<Pair
 
 /// The ids of the compared pairs of the two files of a plan: the header `id_a,id_b`, and a line for each pair of records that
 /// share a key in some blocking pass, rising by position. The first fault is one of the files, then that of the pool, and
-/// then `TooManyPairs` exactly where there are more than 2,000,000 pairs.
+/// then `TooManyPairs` exactly where there are more than `MOST_PAIRS` pairs.
 pub fn pair_ids(
     alloc: Global,
     plan: &Plan,
@@ -40,7 +41,7 @@ pub fn pair_ids(
     pool_limit: u64,
 ) -> Result<Text, Fault>
     requires ranges { KeepsRanges plan.now }
-    requires limit { pool_limit ≤ 2 ^ 30 }
+    requires limit { pool_limit ≤ MOST_POOL_LIMIT }
     ensures kind { IfErr result IsInputFault }
     ensures answer { IsAnswer (ids_of_pairs plan.now pool_limit a.now b.now) result }
 {

@@ -1,8 +1,8 @@
 // Two files ready to be compared.
-ghost use Rattle.std.specs.Prelude.{◌≡◌, ◌≤◌, ◌^◌, All, IfErr, IfOk, length};
+ghost use Rattle.std.specs.Prelude.{◌≡◌, ◌≤◌, All, IfErr, IfOk, length};
 ghost use Rattle.link_base.specs.Fault.{IsAnswer, IsInputFault};
-ghost use Rattle.link_core.specs.Prepared.{IsOneOfBoth, kinds_of, prepared, sides_in, unreadable_in, with_fault};
-ghost use Rattle.pooled_values.specs.Ready.{AreInRange, HoldsParts, IsRowFor};
+ghost use Rattle.link_core.specs.Prepared.{ArePooled, IsOneOfBoth, kinds_of, prepared, sides_in, unreadable_in, with_fault};
+ghost use Rattle.pooled_values.specs.Ready.{AreFileSides, AreInRange, HoldsParts, IsRowFor};
 ghost use Rattle.pooled_values.specs.Sides.{pooled_values};
 ghost use Rattle.pair_walk.specs.Rows.{AreAllReady, AreKeysHeld};
 ghost use Rattle.settings.specs.Ranges.{KeepsRanges};
@@ -10,6 +10,7 @@ ghost use Rattle.standard_files.specs.Files.{AreOfPlan};
 
 use comparators::IdTable;
 use link_base::{CompareKind, Fault, FileRole, NoMemory, PassList, StdFile};
+use link_limits::{MOST_FIELDS, MOST_POOL_LIMIT};
 use pooled_values::{PooledValues, pool_values};
 use settings::Plan;
 use standard_files::{StandardFile, StandardPair, read_files};
@@ -50,7 +51,8 @@ impl Prepared {
 
     /// The distinct texts of both files.
     pub fn pool(&self) -> &Pool
-        ensures { result.now.texts ≡ self.now.values.texts }
+        ensures texts { result.now.texts ≡ self.now.values.texts }
+        ensures limit { result.now.limit ≡ self.now.values.limit }
     {
         &self.values.pool
     }
@@ -58,7 +60,7 @@ impl Prepared {
     /// What the rows of A or of B are compared by: the ids of canons, and days.
     pub fn sides(&self, role: FileRole) -> &IdTable
         requires { IsOneOfBoth role }
-        ensures { result.now.rows ≡ sides_in self.now role }
+        ensures { result.now ≡ sides_in self.now role }
     {
         match role {
             FileRole::B => &self.values.b,
@@ -81,7 +83,7 @@ impl Prepared {
 // The comparisons of the fields of a plan.
 fn kinds_of_plan(alloc: Global, plan: &Plan) -> Result<Vec<CompareKind>, NoMemory>
     ensures kinds { IfOk result (λ kinds. kinds.items ≡ kinds_of plan.now) }
-    ensures few { IfOk result (λ kinds. length kinds.items ≤ 6) }
+    ensures few { IfOk result (λ kinds. length kinds.items ≤ MOST_FIELDS) }
 {
     let mut kinds = Vec::new(alloc);
     for field in plan.fields.fields() {
@@ -99,13 +101,14 @@ fn pool_by(
     b: &StdFile,
     pool_limit: u64,
 ) -> Result<PooledValues, Fault>
-    requires few { length kinds.now ≤ 6 }
-    requires limit { pool_limit ≤ 2 ^ 30 }
+    requires few { length kinds.now ≤ MOST_FIELDS }
+    requires limit { pool_limit ≤ MOST_POOL_LIMIT }
     requires rows_a { All (IsRowFor kinds.now) a.now }
     requires rows_b { All (IsRowFor kinds.now) b.now }
     requires parts { AreInRange (length kinds.now) passes.now }
     ensures kind { IfErr result IsInputFault }
     ensures answer { IsAnswer (with_fault (pooled_values pool_limit kinds.now passes.now a.now b.now)) result }
+    ensures pooled { IfOk result (ArePooled pool_limit kinds.now a.now b.now) }
     ensures parts_a { IfOk result (λ v. HoldsParts v.texts passes.now a.now) }
     ensures parts_b { IfOk result (λ v. HoldsParts v.texts passes.now b.now) }
 {
@@ -125,11 +128,12 @@ fn pool_files(
     pool_limit: u64,
 ) -> Result<PooledValues, Fault>
     requires ranges { KeepsRanges plan.now }
-    requires limit { pool_limit ≤ 2 ^ 30 }
+    requires limit { pool_limit ≤ MOST_POOL_LIMIT }
     requires of_a { AreOfPlan plan.now a.now }
     requires of_b { AreOfPlan plan.now b.now }
     ensures kind { IfErr result IsInputFault }
     ensures answer { IsAnswer (with_fault (pooled_values pool_limit (kinds_of plan.now) plan.now.passes a.now b.now)) result }
+    ensures pooled { IfOk result (ArePooled pool_limit (kinds_of plan.now) a.now b.now) }
     ensures parts_a { IfOk result (λ v. HoldsParts v.texts plan.now.passes a.now) }
     ensures parts_b { IfOk result (λ v. HoldsParts v.texts plan.now.passes b.now) }
 {
@@ -145,7 +149,8 @@ fn records(file: &StandardFile) -> &StdFile
 }
 
 /// Prepares the two files of a plan: the table of A, the table of B, their standard values, and their texts in a pool of at
-/// most `pool_limit` bytes.
+/// most `pool_limit` bytes, itself at most `MOST_POOL_LIMIT`. The records of each file are of the plan: at most `MOST_ROWS`,
+/// with distinct ids and one value of its sort for each field.
 pub fn prepare(
     alloc: Global,
     plan: &Plan,
@@ -154,11 +159,16 @@ pub fn prepare(
     pool_limit: u64,
 ) -> Result<Prepared, Fault>
     requires ranges { KeepsRanges plan.now }
-    requires limit { pool_limit ≤ 2 ^ 30 }
+    requires limit { pool_limit ≤ MOST_POOL_LIMIT }
     ensures kind { IfErr result IsInputFault }
     ensures answer { IsAnswer (prepared plan.now pool_limit a.now b.now) result }
     ensures of_a { IfOk result (λ p. AreOfPlan plan.now p.files.a.records) }
     ensures of_b { IfOk result (λ p. AreOfPlan plan.now p.files.b.records) }
+    ensures limit { IfOk result (λ p. p.values.limit ≡ pool_limit) }
+    ensures fields_a { IfOk result (λ p. p.values.a.fields ≡ length plan.now.fields) }
+    ensures fields_b { IfOk result (λ p. p.values.b.fields ≡ length plan.now.fields) }
+    ensures sides_a { IfOk result (λ p. AreFileSides p.values.texts (kinds_of plan.now) p.files.a.records p.values.a.rows) }
+    ensures sides_b { IfOk result (λ p. AreFileSides p.values.texts (kinds_of plan.now) p.files.b.records p.values.b.rows) }
     ensures ready_a { IfOk result (λ p. AreAllReady plan.now.passes p.files.a.records) }
     ensures ready_b { IfOk result (λ p. AreAllReady plan.now.passes p.files.b.records) }
     ensures held_a { IfOk result (λ p. AreKeysHeld p.values.texts plan.now.passes p.files.a.records) }

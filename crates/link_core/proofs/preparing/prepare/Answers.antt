@@ -1,4 +1,9 @@
-use Rattle.std.proofs.Common.{◌≡◌, rules}
+use Rattle.std.proofs.Common.{◌≡◌, ◌∙◌, List, rules, subst}
+use Rattle.std.proofs.lemmas.List.{length-map}
+use Rattle.link_base.specs.Standard.{Record}
+use Rattle.pooled_values.specs.Ready.{AreFileSides}
+use Rattle.settings.specs.Plan.{FieldKeys}
+use Rattle.link_core.specs.Prepared.{kinds_of}
 use Rattle.link_core.proofs.PreparedLemmas.{refused_values}
 use Rattle.link_core.proofs.ReadyLemmas.{plan_ready}
 use Rattle.link_core.proofs.preparing.prepare.Goals as goal
@@ -15,3 +20,23 @@ returns-in-Err-pool_files-clause-answer c =
     let of_b : c.records-2.result.now ≡ c.in-Ok.files.b.records = search (rules, c.records-2.ensures, c.files.view_is) in
     refused_values c.args.plan.now c.args.pool_limit c.args.a.now c.args.b.now c.in-Ok.files c.records.result.now c.records-2.result.now c.in-Err-pool_files.fault
     c.in-Ok.ensures.answer of_a of_b c.in-Err-pool_files.ensures.answer
+
+pub returns-in-Ok-pool_files-clause-fields_a : goal.returns-in-Ok-pool_files-clause-fields_a
+returns-in-Ok-pool_files-clause-fields_a c = c.in-Ok-pool_files.ensures.pooled.fields_a ∙ length-map c.args.plan.now.fields (λ (f : FieldKeys). f.compare)
+
+pub returns-in-Ok-pool_files-clause-fields_b : goal.returns-in-Ok-pool_files-clause-fields_b
+returns-in-Ok-pool_files-clause-fields_b c = c.in-Ok-pool_files.ensures.pooled.fields_b ∙ length-map c.args.plan.now.fields (λ (f : FieldKeys). f.compare)
+
+pub returns-in-Ok-pool_files-clause-sides_a : goal.returns-in-Ok-pool_files-clause-sides_a
+returns-in-Ok-pool_files-clause-sides_a c =
+    let of_a : c.records.result.now ≡ c.in-Ok.files.a.records = search (rules, c.records.ensures, c.files.view_is) in
+    let v = c.in-Ok-pool_files.values in
+    let sides : List Record → Type 0 = λ file. AreFileSides v.texts (kinds_of c.args.plan.now) file v.a.rows in
+    subst sides of_a c.in-Ok-pool_files.ensures.pooled.sides_a
+
+pub returns-in-Ok-pool_files-clause-sides_b : goal.returns-in-Ok-pool_files-clause-sides_b
+returns-in-Ok-pool_files-clause-sides_b c =
+    let of_b : c.records-2.result.now ≡ c.in-Ok.files.b.records = search (rules, c.records-2.ensures, c.files.view_is) in
+    let v = c.in-Ok-pool_files.values in
+    let sides : List Record → Type 0 = λ file. AreFileSides v.texts (kinds_of c.args.plan.now) file v.b.rows in
+    subst sides of_b c.in-Ok-pool_files.ensures.pooled.sides_b
