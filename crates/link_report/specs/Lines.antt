@@ -1,4 +1,5 @@
--- The texts that are printed and written: lines of fields, as RFC 4180 has them.
+-- The texts of ids that are printed: lines of fields, as RFC 4180 has them. `ids_text_of` carries it (its lone clause), and
+-- `push_field` the text of one field.
 use Rattle.std.specs.Prelude.{ℕ, List, [], ◌∷◌, ◌++◌, codes, slice_index_or}
 use Rattle.std.specs.List.{flat_map}
 use Rattle.csv.specs.Writing.{default_writer, field_text, row_text}
