@@ -1,15 +1,24 @@
 -- On the number of a pattern.
 use Rattle.std.proofs.Common.{◌≡◌, ◌<◌, ◌≤◌, ◌+◌, ◌-◌, ◌*◌, ◌/◌, ◌%◌, ℕ, zero, suc, ◌^◌, Bool, true, false, List, [], ◌∷◌, length, map, drop, get_or, refl, ap, sym, ◌∙◌, subst, arith, rules, drop-cons, add-one, mul_comm}
+use Rattle.std.specs.Prelude.{⊤}
 use Rattle.std.proofs.lemmas.List.{length-map}
 use Rattle.std.proofs.Math.Nat.{one-le-pow, mul-one, pow-succ'}
 use Rattle.std.proofs.lemmas.Nat.{div-mul-add, mod-mul-add, mul-add-lt, mul-le}
 use Rattle.std.proofs.lemmas.Grind.{common_steps}
+use Rattle.link_limits.specs.declared.TheConstants.{MOST_FIELDS, MOST_PATTERNS}
 use Rattle.link_base.specs.declared.rule.Outcome.{Outcome}
 use Rattle.link_base.specs.declared.rule.Outcome.TheVariants.{Agree, Disagree, Missing, Rare}
 use Rattle.link_base.specs.Shares.{outcomes_of}
 use Rattle.pattern_shapes.specs.Shapes.{digit_of, outcome_at, outcome_with, pattern_count_by}
 use Rattle.pattern_shapes.proofs.Digits.{count-le, count-pos, outcomes_bounds}
-use Rattle.patterns.specs.Patterns.{AreSides, FitsShape, number_of, outcomes}
+use Rattle.patterns.specs.Patterns.{number_of, outcomes}
+
+-- one outcome for each field, rare only where the field may be
+abbrev pub FitsShape : List Bool → List Outcome → Type 0
+FitsShape [] [] = ⊤
+FitsShape [] (outcome ∷ outcomes) = ⊥
+FitsShape (rare ∷ rares) [] = ⊥
+FitsShape (rare ∷ rares) (outcome ∷ outcomes) = (outcome ≡ Rare → rare ≡ true) × FitsShape rares outcomes
 
 pub digit-le : (o : Outcome) → digit_of o ≤ 3
 digit-le Agree = omega arith
@@ -65,14 +74,14 @@ module _ {C S : Type 0} {rare : C → Bool} {outcome : C → S → S → Outcome
 total-bound : (n c k w : ℕ) → 1 ≤ c → n * c + k ≡ w → n ≤ w
 total-bound n c k w h e = let product = mul-le n 1 n c (omega arith) h in omega (arith, mul-one n)
 
-pub next-le : (n : ℕ) (r : Bool) → n < 4096 → n * outcomes_of r ≤ 16380
+pub next-le : (n : ℕ) (r : Bool) → n < MOST_PATTERNS → n * outcomes_of r ≤ 16380
 next-le n r h = let base = outcomes_bounds r in let product = mul-le n (outcomes_of r) 4095 4 (omega arith) base.1 in omega arith
 
 module _ {C S : Type 0} {rare : C → Bool} {outcome : C → S → S → Outcome} (only_rare : (c : C) (x y : S) → outcome c x y ≡ Rare → rare c ≡ true) where
   pub pattern-lt : (cs : List C) (xs ys : List S) → length xs ≡ length cs → length ys ≡ length cs → number_of (map rare cs) (outcomes outcome cs xs ys) < pattern_count_by (map rare cs)
   pattern-lt cs xs ys h k = number-lt (map rare cs) (outcomes outcome cs xs ys) (outcomes_fit only_rare cs xs ys h k)
 
-  pub front-lt : (cs : List C) (xs ys : List S) (rest : List Bool) (n m : ℕ) → length cs ≤ 6 → length xs ≡ length cs → length ys ≡ length cs → n * pattern_count_by rest + m ≡ number_of (map rare cs) (outcomes outcome cs xs ys) → n < 4096
+  pub front-lt : (cs : List C) (xs ys : List S) (rest : List Bool) (n m : ℕ) → length cs ≤ MOST_FIELDS → length xs ≡ length cs → length ys ≡ length cs → n * pattern_count_by rest + m ≡ number_of (map rare cs) (outcomes outcome cs xs ys) → n < MOST_PATTERNS
   front-lt cs xs ys rest n m few h k e =
       let whole = pattern-lt cs xs ys h k in
       let count = count-le (map rare cs) 6 (simp length-map few) in

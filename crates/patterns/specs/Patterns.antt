@@ -1,7 +1,7 @@
--- Comparison patterns (Fellegi and Sunter 1969, section 2): the outcomes of all fields, and their number.
-use Rattle.std.specs.Prelude.{◌≡◌, ◌<◌, ◌+◌, ◌*◌, ℕ, Bool, true, false, List, [], ◌∷◌, length, map, slice_index_or, ⊤}
+-- Comparison patterns (Fellegi and Sunter 1969, section 2): the outcomes of all fields, and their number. `pattern_over`
+-- and `pattern` carry it (clauses `number`, `range`, `symmetric` and `digits`).
+use Rattle.std.specs.Prelude.{◌≡◌, ◌<◌, ◌+◌, ◌*◌, ℕ, Bool, false, List, [], ◌∷◌, length, map, slice_index_or}
 use Rattle.link_base.specs.declared.rule.Outcome.{Outcome}
-use Rattle.link_base.specs.declared.rule.Outcome.TheVariants.{Rare}
 use Rattle.link_base.specs.declared.standard.Value.{Value}
 use Rattle.pattern_shapes.specs.Shapes.{digit_of, pattern_count_by}
 use Rattle.comparators.specs.declared.fields.FieldKind.{FieldKind}
@@ -24,13 +24,6 @@ outcomes outcome (c ∷ cs) (x ∷ xs) (y ∷ ys) = outcome c x y ∷ outcomes o
 pub record AreSides {C S : Type 0} (valid : C → S → Type 0) (kinds : List C) (sides : List S) : Type 0 where
   pub as_many : length sides ≡ length kinds
   pub valid_at : (k : ℕ) (c : C) (s : S) → k < length kinds → valid (slice_index_or kinds k c) (slice_index_or sides k s)
-
--- one outcome for each field, rare only where the field may be
-abbrev pub FitsShape : List Bool → List Outcome → Type 0
-FitsShape [] [] = ⊤
-FitsShape [] (outcome ∷ outcomes) = ⊥
-FitsShape (rare ∷ rares) [] = ⊥
-FitsShape (rare ∷ rares) (outcome ∷ outcomes) = (outcome ≡ Rare → rare ≡ true) × FitsShape rares outcomes
 
 -- the pattern of two rows of standard values, of which none is rare
 abbrev pub pattern_of : List FieldKind → List Value → List Value → ℕ

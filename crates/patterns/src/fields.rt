@@ -10,10 +10,11 @@ ghost use Rattle.patterns.specs.Patterns.{outcomes, pattern_of};
 use crate::numbers::pattern_over;
 use comparators::FieldKind;
 use link_base::{CompareKind, NoMemory, StdRow};
+use link_limits::MOST_FIELDS;
 use std::alloc::Global;
 use std::marker::Model;
 
-/// One to six fields, which contracts see as the list of their kinds.
+/// From 1 to `MOST_FIELDS` fields, which contracts see as the list of their kinds.
 #[derive(Debug, Drop)]
 pub struct Fields {
     kinds: Vec<FieldKind>,
@@ -21,20 +22,21 @@ pub struct Fields {
 
 impl Model for Fields {
     ghost use Rattle.std.specs.Prelude.{List, ◌≤◌, length};
+    ghost use Rattle.link_limits.specs.declared.TheConstants.{MOST_FIELDS};
     ghost use Rattle.comparators.specs.declared.fields.FieldKind.{FieldKind};
 
     ghost Value = { List FieldKind };
 
     ghost view = { λ f. f.kinds.items };
 
-    ghost invariant = { λ f. (1 ≤ length f.kinds.items) × (length f.kinds.items ≤ 6) };
+    ghost invariant = { λ f. (1 ≤ length f.kinds.items) × (length f.kinds.items ≤ MOST_FIELDS) };
 }
 
 impl Fields {
     /// The fields of these kinds.
     pub fn new(alloc: Global, kinds: &[CompareKind]) -> Result<Fields, NoMemory>
         requires some { 1 ≤ length kinds.now }
-        requires few { length kinds.now ≤ 6 }
+        requires few { length kinds.now ≤ MOST_FIELDS }
         ensures { IfOk result (λ fields. fields ≡ map kind_of kinds.now) }
     {
         let mut fields = Vec::new(alloc);
@@ -48,7 +50,7 @@ impl Fields {
     pub fn kinds(&self) -> &[FieldKind]
         ensures kinds { result.now ≡ self.now }
         ensures some { 1 ≤ length self.now }
-        ensures few { length self.now ≤ 6 }
+        ensures few { length self.now ≤ MOST_FIELDS }
     {
         &self.kinds
     }

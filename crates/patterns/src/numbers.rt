@@ -7,6 +7,7 @@ ghost use Rattle.patterns.specs.Patterns.{AreSides, number_of, outcomes};
 
 use comparators::Comparator;
 use link_base::{Outcome, Shape};
+use link_limits::MOST_FIELDS;
 
 /// How many outcomes a field has.
 fn base(rare: bool) -> u16
@@ -28,7 +29,7 @@ fn digit(outcome: Outcome) -> u16
 
 // The number itself. What the laws of the comparator say of it stands below.
 fn number_over<C: Comparator>(kinds: &[C], a: &[C::Side], b: &[C::Side]) -> u16
-    requires few { length kinds.now ≤ 6 }
+    requires few { length kinds.now ≤ MOST_FIELDS }
     requires sides_a { AreSides C.is_valid kinds.now a.now }
     requires sides_b { AreSides C.is_valid kinds.now b.now }
     ensures { result ≡ number_of (map C.is_rare kinds.now) (outcomes C.outcome_of kinds.now a.now b.now) }
@@ -42,11 +43,11 @@ fn number_over<C: Comparator>(kinds: &[C], a: &[C::Side], b: &[C::Side]) -> u16
     number
 }
 
-/// The pattern of two rows of sides, of at most six fields: the number whose digits are the outcomes in the order agree 0,
+/// The pattern of two rows of sides, of at most `MOST_FIELDS` fields: the number whose digits are the outcomes in the order agree 0,
 /// disagree 1, missing 2, rare 3, the first field most significant. The base of a digit is 4 where the field's comparator
 /// can answer `Rare`, else 3. The pattern does not change when the two rows change places.
 pub fn pattern_over<C: Comparator>(kinds: &[C], a: &[C::Side], b: &[C::Side]) -> u16
-    requires few { length kinds.now ≤ 6 }
+    requires few { length kinds.now ≤ MOST_FIELDS }
     requires sides_a { AreSides C.is_valid kinds.now a.now }
     requires sides_b { AreSides C.is_valid kinds.now b.now }
     ensures number { result ≡ number_of (map C.is_rare kinds.now) (outcomes C.outcome_of kinds.now a.now b.now) }
@@ -58,10 +59,10 @@ pub fn pattern_over<C: Comparator>(kinds: &[C], a: &[C::Side], b: &[C::Side]) ->
     number_over(kinds, a, b)
 }
 
-/// The shape of the patterns of 1 to 6 comparators, with which `pattern_shapes` reads the outcomes of a pattern.
+/// The shape of the patterns of 1 to `MOST_FIELDS` comparators, with which `pattern_shapes` reads the outcomes of a pattern.
 pub fn shape_of<C: Comparator>(kinds: &[C]) -> Shape
     requires some { 1 ≤ length kinds.now }
-    requires few { length kinds.now ≤ 6 }
+    requires few { length kinds.now ≤ MOST_FIELDS }
     ensures fields { result.fields ≡ length kinds.now }
     ensures rare { rare_of result ≡ map C.is_rare kinds.now }
 {
@@ -74,7 +75,7 @@ pub fn shape_of<C: Comparator>(kinds: &[C]) -> Shape
 
 // Which fields may be rare.
 fn rare_fields<C: Comparator>(kinds: &[C]) -> [bool; 6]
-    requires few { length kinds.now ≤ 6 }
+    requires few { length kinds.now ≤ MOST_FIELDS }
     ensures front { take (length kinds.now) result ≡ map C.is_rare kinds.now }
     ensures unused { (k : ℕ) → length kinds.now ≤ k → slice_index_or result k false ≡ false }
 {
