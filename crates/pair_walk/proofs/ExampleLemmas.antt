@@ -1,5 +1,5 @@
 -- Files of one field, and a pass of one part.
-use Rattle.std.proofs.Common.{◌≡◌, ◌<◌, ◌∷◌, ◌++◌, List, [], ℕ, zero, suc, Result, Ok, Err, OnErr, refl, length, get_or, arith}
+use Rattle.std.proofs.Common.{◌≡◌, ◌<◌, ◌∷◌, ◌++◌, List, [], ℕ, zero, suc, Result, Ok, Err, OnErr, length, get_or, arith}
 use Rattle.std.specs.Prelude.{All, OnOk}
 use Rattle.std.proofs.lemmas.List.Elements.{All-push}
 use Rattle.value_canons.proofs.ReadableLemmas.{readable_valid}
@@ -8,7 +8,6 @@ use Rattle.block_passes.specs.Keys.{AreReadable, InRange}
 use Rattle.link_base.specs.Standard.{IsValid, Record, absent, no_record}
 use Rattle.link_base.specs.declared.plan.KeyKind.{KeyKind}
 use Rattle.link_base.specs.declared.plan.KeyKind.TheVariants.{Soundex}
-use Rattle.link_base.specs.declared.plan.Part.{Part}
 use Rattle.link_base.specs.declared.standard.Value.{Value}
 use Rattle.pair_walk.specs.Rows.{AreAllReady}
 
@@ -30,10 +29,6 @@ one-ready file one zero lt at below =
     let long = row.0 in
     (part-in-range 0 Soundex (row_at file at) (omega arith), part-readable 0 Soundex (row_at file at) (row.1 0 absent (omega arith)))
 one-ready file one (suc k) lt at below = absurd (omega arith)
-
-pub one-single : (k : ℕ) → k < 1 → length {A = Part} (get_or ((record { field = 0; key = Soundex } ∷ []) ∷ []) k []) ≡ 1
-one-single zero lt = refl
-one-single (suc k) lt = absurd (omega arith)
 
 pub one-push : {T E : Type 0} (result : Result T E) (old new : List Record) (r : Record) → OnOk result (new ≡ old ++ r ∷ []) → OnErr result (new ≡ old) → AreOne old → (length r.row ≡ 1) × All IsValid r.row → AreOne new
 one-push (Ok x) old new r ok err h one = rw ok (All-push (λ (r : Record). (length r.row ≡ 1) × All IsValid r.row) old r h one)

@@ -1,14 +1,10 @@
-// With ample memory two small files are walked, by texts and by ids of a pool.
-ghost use Rattle.std.specs.Prelude.{◌≡◌, ◌<◌, ◌∷◌, [], ℕ, All, IfOk, IsTrue, OnOk, length, slice_index_or};
-ghost use Rattle.block_passes.specs.Ids.{AreAllHeld, AreHeld};
-ghost use Rattle.block_passes.specs.Index.{AreReady};
-ghost use Rattle.block_passes.specs.Keys.{AreReadable, InRange};
+// With ample memory small files are walked, by texts and by ids of a pool.
+ghost use Rattle.std.specs.Prelude.{◌≡◌, ◌∷◌, [], All, IfOk, length};
 ghost use Rattle.link_base.specs.Standard.{IsValid, Record};
 ghost use Rattle.link_base.specs.declared.plan.KeyKind.TheVariants.{Soundex};
-ghost use Rattle.pair_walk.specs.Rows.{AreAllReady, AreKeysHeld};
+ghost use Rattle.pair_walk.specs.Rows.{AreAllReady};
 
 use crate::{Pairs, WalkFault, Walker, walk, walk_in};
-use block_passes::pass_key;
 use link_base::{KeyKind, NoMemory, Part, Pass, PassList, StdFile, StdRow, Text, Value};
 use std::alloc::Global;
 use value_pool::Pool;
@@ -68,58 +64,6 @@ fn one_pass(alloc: Global) -> Result<PassList, NoMemory>
     Ok(PassList::new(passes))
 }
 
-fn pool_of(alloc: Global, texts: &[&str]) -> Result<Pool, NoMemory> {
-    let mut pool = Pool::new(alloc, 1000)?;
-    for text in texts {
-        match pool.intern(alloc, text.as_bytes()) {
-            Ok(_) => {}
-            Err(_) => return Err(NoMemory),
-        }
-    }
-    Ok(pool)
-}
-
-fn is_row_held(alloc: Global, row: &StdRow, pass: &Pass, pool: &Pool) -> Result<bool, NoMemory>
-    requires in_range { InRange row.now pass.now }
-    requires readable { AreReadable row.now pass.now }
-    requires one { length pass.now ≡ 1 }
-    ensures { IfOk result (λ held. IsTrue held → AreHeld pool.now.texts row.now pass.now) }
-{
-    match pass_key(alloc, row, pass)? {
-        None => Ok(true),
-        Some(key) => match key.texts().first() {
-            None => Ok(false),
-            Some(text) => Ok(pool.find(text.bytes()).is_some()),
-        },
-    }
-}
-
-fn is_file_held(alloc: Global, file: &StdFile, pass: &Pass, pool: &Pool) -> Result<bool, NoMemory>
-    requires ready { AreReady pass.now file.now }
-    requires one { length pass.now ≡ 1 }
-    ensures { IfOk result (λ held. IsTrue held → AreAllHeld pool.now.texts pass.now file.now) }
-{
-    for at in 0..file.rows() {
-        if !is_row_held(alloc, file.row(at), pass, pool)? {
-            return Ok(false);
-        }
-    }
-    Ok(true)
-}
-
-fn are_held(alloc: Global, file: &StdFile, passes: &PassList, pool: &Pool) -> Result<bool, NoMemory>
-    requires ready { AreAllReady passes.now file.now }
-    requires one { (k : ℕ) → k < length passes.now → length (slice_index_or passes.now k []) ≡ 1 }
-    ensures { IfOk result (λ held. IsTrue held → AreKeysHeld pool.now.texts passes.now file.now) }
-{
-    for pass in passes.passes() {
-        if !is_file_held(alloc, file, pass, pool)? {
-            return Ok(false);
-        }
-    }
-    Ok(true)
-}
-
 fn gives_rows(alloc: Global, walker: &mut Walker) -> bool {
     for at in 0..2u32 {
         match walker.next_row(alloc) {
@@ -144,54 +88,38 @@ fn gives_two(walked: &Result<Pairs, WalkFault>) -> bool {
     }
 }
 
-fn gives_pairs(
-    alloc: Global,
-    a: &StdFile,
-    b: &StdFile,
-    passes: &PassList,
-    pool: &Pool,
-) -> Result<bool, NoMemory>
+// By texts.
+fn are_walked(alloc: Global, a: &StdFile, b: &StdFile, passes: &PassList) -> Result<bool, NoMemory>
     requires ready_a { AreAllReady passes.now a.now }
     requires ready_b { AreAllReady passes.now b.now }
-    requires held_a { AreKeysHeld pool.now.texts passes.now a.now }
-    requires held_b { AreKeysHeld pool.now.texts passes.now b.now }
 {
-    let mut by_texts = Walker::new(alloc, a, b, passes)?;
-    let mut by_ids = Walker::new_in(alloc, a, b, passes, pool)?;
-    let walked = gives_two(&walk(alloc, a, b, passes));
-    let walked_in = gives_two(&walk_in(alloc, a, b, passes, pool));
-    Ok(gives_rows(alloc, &mut by_texts) && gives_rows(alloc, &mut by_ids) && walked && walked_in)
+    let mut walker = Walker::new(alloc, a, b, passes)?;
+    Ok(gives_rows(alloc, &mut walker) && gives_two(&walk(alloc, a, b, passes)))
 }
 
-fn gives_pairs_in(
-    alloc: Global,
-    a: &StdFile,
-    b: &StdFile,
-    passes: &PassList,
-    pool: &Pool,
-) -> Result<bool, NoMemory>
-    requires ready_a { AreAllReady passes.now a.now }
-    requires ready_b { AreAllReady passes.now b.now }
-    requires one { (k : ℕ) → k < length passes.now → length (slice_index_or passes.now k []) ≡ 1 }
-{
-    if !are_held(alloc, a, passes, pool)? {
-        return Ok(false);
-    }
-    if !are_held(alloc, b, passes, pool)? {
-        return Ok(false);
-    }
-    gives_pairs(alloc, a, b, passes, pool)
+// By ids, in a pool that has no text, of files without a record.
+fn is_none_walked(alloc: Global) -> Result<bool, NoMemory> {
+    let a = StdFile::new(alloc)?;
+    let b = StdFile::new(alloc)?;
+    let passes = PassList::new(Vec::new(alloc));
+    let pool = Pool::new(alloc, 10)?;
+    let mut walker = Walker::new_in(alloc, &a, &b, &passes, &pool)?;
+    Ok(gives_none(alloc, &mut walker) && walk_in(alloc, &a, &b, &passes, &pool).is_ok())
 }
 
 fn small_files(alloc: Global) -> Result<bool, NoMemory> {
     let a = file_of(alloc, &["MULLER", "LEE"])?;
     let b = file_of(alloc, &["MUELLER", "LI"])?;
-    let pool = pool_of(alloc, &["M460", "L000"])?;
     let passes = one_pass(alloc)?;
-    gives_pairs_in(alloc, &a, &b, &passes, &pool)
+    are_walked(alloc, &a, &b, &passes)
 }
 
 #[test]
 fn two_small_files_are_walked(rt: HostRuntime) {
     assert!(rt; small_files(rt.alloc()) == Ok(true));
+}
+
+#[test]
+fn files_without_records_are_walked(rt: HostRuntime) {
+    assert!(rt; is_none_walked(rt.alloc()) == Ok(true));
 }
