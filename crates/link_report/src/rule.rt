@@ -25,7 +25,7 @@ fn letter_of(outcome: Outcome) -> u8
 // The letters of a comparison pattern, one for each field.
 fn letters_of(alloc: Global, shape: &Shape, pattern: u16) -> Result<Vec<u8>, NoMemory>
     requires { pattern < pattern_count_by (rare_of shape.now) }
-    ensures { IfOk result (λ letters. letters.items ≡ outcome_letters shape.now pattern) }
+    ensures { IfOk result (λ letters. letters.items ≡ outcome_letters (rare_of shape.now) pattern) }
 {
     let mut letters = Vec::new(alloc);
     for field in 0..shape.fields {
@@ -43,7 +43,7 @@ fn push_cell(
 ) -> Result<(), NoMemory>
     requires shape { cell.now.pattern < pattern_count_by (rare_of shape.now) }
     requires ranges { IsWithinRanges cell.now }
-    ensures { OnOk result (text.new.items ≡ text.old.items ++ cell_row shape.now cell.now) }
+    ensures { OnOk result (text.new.items ≡ text.old.items ++ cell_row (rare_of shape.now) cell.now) }
 {
     let pattern = digits_of(alloc, u128::from(cell.pattern))?;
     let outcomes = letters_of(alloc, shape, cell.pattern)?;
@@ -73,7 +73,7 @@ fn push_cell(
 #[tactic(auto, using(crate::proofs::HeaderLemmas::rule_header_text))]
 pub fn rule_text(alloc: Global, table: &RuleTable, shape: &Shape) -> Result<Text, NoMemory>
     requires { All (λ (c : Cell). c.pattern < pattern_count_by (rare_of shape.now)) table.now.cells.items }
-    ensures { IfOk result (λ text. text ≡ text_of_rule shape.now table.now.cells.items) }
+    ensures { IfOk result (λ text. text ≡ text_of_rule (rare_of shape.now) table.now.cells.items) }
 {
     let mut text = Vec::new(alloc);
     text.extend_from_slice(b"pattern,outcomes,m,u,weight,link,possible,nonlink\n")?;

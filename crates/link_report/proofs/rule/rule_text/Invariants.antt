@@ -1,6 +1,7 @@
 use Rattle.std.proofs.Common.{◌≡◌, ◌++◌, take}
 use Rattle.link_report.specs.RuleText.{text_of_rule}
+use Rattle.pattern_shapes.specs.Shapes.{rare_of}
 use Rattle.link_report.proofs.rule.rule_text.Given as goal
 
 abbrev pub invariant-loop-cell : goal.invariant-loop-cell
-invariant-loop-cell l = l.text.items ≡ text_of_rule l.shape (take l.cell-index l.cell-items)
+invariant-loop-cell l = l.text.items ≡ text_of_rule (rare_of l.shape) (take l.cell-index l.cell-items)
