@@ -1,0 +1,6 @@
+pub mod AnswerLemmas
+pub mod ComparatorLemmas
+pub mod CountLemmas
+pub mod ListSteps
+pub mod PatternLemmas
+pub mod ShareLemmas

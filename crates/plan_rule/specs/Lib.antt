@@ -1,0 +1,4 @@
+pub mod Comparators
+pub mod Sides
+pub mod PlanShares
+pub mod PlanRule
