@@ -1,5 +1,5 @@
--- The decision rule of a plan for given shares: the filled table at the levels that the plan asks for. By the law
--- `one_filled` there is at most one. `rule_of_shares` carries it (clause `rule`).
+-- The decision rule of a plan for given shares: the filled table at the levels that the plan asks for. `rule_of_shares`
+-- carries it (clause `rule`), and the law `one_rule` says that there is one at most.
 use Rattle.std.specs.Prelude.{◌≡◌, List}
 use Rattle.link_base.specs.declared.rule.RuleCell.{RuleCell}
 use Rattle.link_base.specs.declared.shares.FieldShares.{FieldShares}
