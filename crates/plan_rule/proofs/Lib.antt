@@ -4,4 +4,6 @@ pub mod CountLemmas
 pub mod ListSteps
 pub mod OneRule
 pub mod PatternLemmas
+pub mod RareLemmas
 pub mod ShareLemmas
+pub mod SideLemmas

@@ -2,3 +2,4 @@ pub mod Comparators
 pub mod Sides
 pub mod PlanShares
 pub mod PlanRule
+pub mod RareValues
