@@ -3,3 +3,4 @@ pub mod PreparedLemmas
 pub mod PairLemmas
 pub mod ColumnLemmas
 pub mod NumberLemmas
+pub mod RuleLemmas

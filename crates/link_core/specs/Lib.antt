@@ -3,3 +3,4 @@ pub mod Pairs
 pub mod ColumnPairs
 pub mod ColumnRecords
 pub mod NameKeys
+pub mod Rules

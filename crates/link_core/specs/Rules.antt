@@ -1,0 +1,57 @@
+-- What a plan's rule comes to: the shares of its fields by its sample of two prepared files (`counted`, clause `answer`),
+-- and the texts of the rule (`rule_lines`) and of its frontier of levels (`frontier_lines`) for given shares.
+use Rattle.std.specs.Prelude.{◌≡◌, ◌<◌, ◌≤◌, ℕ, Bool, List, length, map, slice_index, slice_index_or, Result}
+use Rattle.link_base.specs.declared.fault.Fault.{Fault}
+use Rattle.link_base.specs.declared.rule.RuleCell.{RuleCell}
+use Rattle.link_base.specs.declared.shares.FieldShares.{FieldShares}
+use Rattle.decision_rule.specs.Least.{IsLeast}
+use Rattle.level_frontier.specs.Frontier.{FallsTo, IsFrontierRow, IsNearLeast}
+use Rattle.level_frontier.specs.declared.levels.FrontierRow.{FrontierRow}
+use Rattle.link_report.specs.FrontierText.{text_of_frontier}
+use Rattle.link_report.specs.RuleText.{text_of_rule}
+use Rattle.plan_rule.specs.Comparators.{rares_of}
+use Rattle.plan_rule.specs.PlanRule.{IsRuleOf}
+use Rattle.plan_rule.specs.PlanShares.{counted_in, plain_all}
+use Rattle.settings.specs.Plan.{PlainShares}
+use Rattle.settings.specs.declared.plan.Plan.{Plan}
+use Rattle.standard_files.specs.Files.{AreOfPlan}
+use Rattle.pooled_values.specs.Ready.{AreFileSides}
+use Rattle.link_core.specs.Prepared.{kinds_of, PreparedView}
+
+-- prepared files are those of a plan: at most so many records each, and a side for each of their values, which stands for it
+-- and is valid for its kind of comparison
+pub record IsPreparedFor (plan : Plan) (p : PreparedView) : Type 0 where
+  pub of_a : AreOfPlan plan p.files.a.records
+  pub of_b : AreOfPlan plan p.files.b.records
+  pub sides_a : AreFileSides p.values.texts (kinds_of plan) p.files.a.records p.values.a.rows
+  pub sides_b : AreFileSides p.values.texts (kinds_of plan) p.files.b.records p.values.b.rows
+
+-- in which fields agreement on a rare value is an outcome of its own
+abbrev pub shared_rares : List PlainShares → List Bool
+shared_rares shares = map (λ (s : PlainShares). s.rare) shares
+
+-- the shares of a plan's fields by its sample of these files, or the first fault of the sample
+abbrev pub counted_by : Plan → PreparedView → List ℕ → Result (List PlainShares) Fault
+counted_by plan p sample =
+    counted_in (length p.values.texts) plan.fields p.files.a.records p.files.b.records p.values.a.rows p.values.b.rows sample
+
+-- the text of the filled table of a plan for these shares, of which there is one: of all randomised rules with levels at most
+-- its own, none has a smaller chance of a possible link (Fellegi and Sunter 1969, section 2)
+pub record IsRuleText (plan : Plan) (shares : List PlainShares) (text : List ℕ) : Type 0 where
+  pub cells : List RuleCell
+  pub rule : IsRuleOf plan shares cells
+  pub least : IsLeast rule.by_shares cells
+  pub lines : text ≡ text_of_rule (rares_of plan.fields) cells
+
+-- the text of the frontier of a plan at these asked levels of links: each row is that of its filled table, the chances of a
+-- possible link never rise with the asked level, and no rule at the asked levels does better by more than the slack
+pub record IsFrontierText (plan : Plan) (shares : List PlainShares) (mus : List ℕ) (text : List ℕ) : Type 0 where
+  pub by_shares : List FieldShares
+  pub same : plain_all by_shares ≡ shares
+  pub rows : List FrontierRow
+  pub as_many : length rows ≡ length mus
+  pub each : (k : ℕ) (d : FrontierRow) → k < length mus → IsFrontierRow by_shares (slice_index mus k) plan.lambda_ppm (slice_index_or rows k d)
+  pub falling : (j k : ℕ) (d : FrontierRow) → j < length mus → k < length mus → slice_index mus j ≤ slice_index mus k
+      → FallsTo (slice_index_or rows j d) (slice_index_or rows k d)
+  pub near_least : (k : ℕ) (d : FrontierRow) → k < length mus → IsNearLeast by_shares (slice_index mus k) plan.lambda_ppm (slice_index_or rows k d)
+  pub lines : text ≡ text_of_frontier mus rows
