@@ -4,6 +4,7 @@ use Rattle.link_shell.specs.Does.{Script}
 use Rattle.link_shell.specs.Keys.{are_keys_words, keys_script}
 use Rattle.link_shell.specs.PairsColumns.{are_column_words, Columns, columns_in, columns_of_request, columns_script}
 use Rattle.link_shell.specs.PairsSettings.{are_settings_words, settings_script}
+use Rattle.link_shell.specs.RuleSettings.{are_rule_words, rule_script}
 use Rattle.link_shell.specs.Words.{word}
 use Rattle.link_shell.specs.declared.command.Command.{Command as CommandWords}
 use Rattle.link_shell.specs.declared.command.Command.TheVariants as words
@@ -13,6 +14,7 @@ pub data Command : Type 0 where
   pairs_of_columns : Columns → Command
   pairs_of_settings : List ℕ → Command
   keys : List (List ℕ) → Command
+  rule_of_settings : List ℕ → Command
 
 -- the command that the words are a form of
 abbrev pub command_of : List (List ℕ) → Option Command
@@ -20,16 +22,19 @@ command_of words =
     if are_column_words words
     then Some (pairs_of_columns (columns_in words))
     else if are_settings_words words then Some (pairs_of_settings (word words 1))
-    else if are_keys_words words then Some (keys (drop 1 words)) else None
+    else if are_keys_words words then Some (keys (drop 1 words))
+    else if are_rule_words words then Some (rule_of_settings (word words 1)) else None
 
 -- the script of a command
 abbrev pub script_of : Command → Script
 script_of (pairs_of_columns w) = columns_script w
 script_of (pairs_of_settings name) = settings_script name
 script_of (keys words) = keys_script words
+script_of (rule_of_settings name) = rule_script name
 
 -- a command, as its words are held
 abbrev pub command_in : CommandWords → Command
 command_in (words.PairsOfColumns request) = pairs_of_columns (columns_of_request request)
 command_in (words.PairsOfSettings name) = pairs_of_settings name.now
 command_in (words.Keys rest) = keys (map string_bytes rest.now)
+command_in (words.RuleOfSettings name) = rule_of_settings name.now

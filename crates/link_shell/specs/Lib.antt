@@ -12,3 +12,4 @@ pub mod PairsSettings
 pub mod Keys
 pub mod Commands
 pub mod Linked
+pub mod RuleSettings

@@ -8,7 +8,7 @@ ghost use Rattle.link_shell.specs.declared.ends.Ended.{Ended as AnyEnded};
 
 use crate::ends::Ended;
 use crate::pairs_columns::ColumnRequest;
-use crate::{keys, pairs_columns, pairs_settings};
+use crate::{keys, pairs_columns, pairs_settings, rule_settings};
 use link_base::{Fault, status_of};
 use link_outside::{Sink, SinkError, Store, write_fault};
 use std::alloc::Global;
@@ -21,6 +21,8 @@ pub(crate) enum Command<'w> {
     PairsOfSettings(&'w str),
     // The words that are standardised.
     Keys(&'w [String]),
+    // The name of the settings file.
+    RuleOfSettings(&'w str),
 }
 
 // The command that the words are a form of.
@@ -37,6 +39,10 @@ fn read_command(words: &[String]) -> Option<Command<'_>>
     }
     match keys::read(words) {
         Some(rest) => return Some(Command::Keys(rest)),
+        None => {}
+    }
+    match rule_settings::read(words) {
+        Some(name) => return Some(Command::RuleOfSettings(name)),
         None => return None,
     }
 }
@@ -56,6 +62,7 @@ fn follow<S: Store, O: Sink>(
         ),
         Some(Command::PairsOfSettings(name)) => pairs_settings::perform(alloc, name, store, out),
         Some(Command::Keys(rest)) => keys::perform(alloc, rest, store, out),
+        Some(Command::RuleOfSettings(name)) => rule_settings::perform(alloc, name, store, out),
         None => Err(Fault::Usage),
     }
 }

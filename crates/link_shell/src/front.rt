@@ -1,12 +1,16 @@
 // What several commands load at their front.
-ghost use Rattle.std.specs.Prelude.{◌≡◌, IfOk, IsUtf8};
-ghost use Rattle.link_shell.specs.Front.{both_files, described_files, plan_file};
+ghost use Rattle.std.specs.Prelude.{◌≡◌, IfOk, IsUtf8, Some};
+ghost use Rattle.link_core.specs.Rules.{shared_rares};
+ghost use Rattle.link_shell.specs.Front.{both_files, described_files, plan_file, shared_plan, shares_of};
+ghost use Rattle.plan_rule.specs.Comparators.{rares_of};
 ghost use Rattle.link_shell.specs.Seen.{store_seen};
 ghost use Rattle.link_shell.specs.Steps.{Takes};
 ghost use Rattle.settings.specs.Ranges.{KeepsRanges, NamesFiles};
 
 use crate::load::load_file;
-use link_base::{Fault, FileRole, Text};
+use link_base::{Fault, FileRole, NoMemory, Text};
+use link_core::{PlanShares, counted, prepare};
+use link_limits::MOST_POOLED_BYTES;
 use link_outside::Store;
 use settings::{Plan, read_settings};
 use std::alloc::Global;
@@ -85,4 +89,66 @@ pub(crate) fn load_described<S: Store>(
     let plan = load_plan(alloc, store, name)?;
     let inputs = load_files(alloc, store, &plan)?;
     Ok(Described { plan, inputs })
+}
+
+/// The plan of a settings file, with the shares of its fields.
+#[derive(Drop)]
+pub(crate) struct Shared {
+    pub(crate) plan: Plan,
+    pub(crate) shares: PlanShares,
+}
+
+// Counts the sample of a plan, which has this name, over the two files of the plan.
+fn count_named<S: Store>(
+    alloc: Global,
+    store: &mut S,
+    plan: &Plan,
+    name: &str,
+) -> Result<PlanShares, Fault>
+    requires ranges { KeepsRanges plan.now }
+    requires files { NamesFiles plan.now }
+    ensures takes { Takes (shares_of plan.now (Some name.now)) (store_seen S.tells S.held S.faults store.old store.new) result }
+    ensures rares { IfOk result (λ shares. shared_rares shares ≡ rares_of plan.now.fields) }
+{
+    let inputs = load_files(alloc, store, plan)?;
+    let files = prepare(
+        alloc,
+        plan,
+        inputs.a.bytes(),
+        inputs.b.bytes(),
+        MOST_POOLED_BYTES,
+    )?;
+    let sample = load_file(alloc, store, name, FileRole::Sample)?;
+    counted(alloc, plan, &files, sample.bytes())
+}
+
+// The shares of a plan's fields.
+fn load_shares<S: Store>(alloc: Global, store: &mut S, plan: &Plan) -> Result<PlanShares, Fault>
+    requires ranges { KeepsRanges plan.now }
+    requires files { NamesFiles plan.now }
+    ensures takes { Takes (shares_of plan.now plan.now.sample) (store_seen S.tells S.held S.faults store.old store.new) result }
+    ensures rares { IfOk result (λ shares. shared_rares shares ≡ rares_of plan.now.fields) }
+{
+    match &plan.sample {
+        Some(name) => count_named(alloc, store, plan, file_name(name)),
+        None => match PlanShares::given(alloc, plan) {
+            Ok(shares) => Ok(shares),
+            Err(NoMemory) => Err(Fault::NoMemory),
+        },
+    }
+}
+
+// Loads a settings file, and finds the shares of its fields.
+pub(crate) fn load_shared<S: Store>(
+    alloc: Global,
+    store: &mut S,
+    name: &str,
+) -> Result<Shared, Fault>
+    ensures takes { Takes (shared_plan name.now) (store_seen S.tells S.held S.faults store.old store.new) result }
+    ensures ranges { IfOk result (λ s. KeepsRanges s.plan) }
+    ensures rares { IfOk result (λ s. shared_rares s.shares ≡ rares_of s.plan.fields) }
+{
+    let plan = load_plan(alloc, store, name)?;
+    let shares = load_shares(alloc, store, &plan)?;
+    Ok(Shared { plan, shares })
 }

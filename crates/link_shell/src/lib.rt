@@ -9,6 +9,7 @@ mod keys;
 mod load;
 mod pairs_columns;
 mod pairs_settings;
+mod rule_settings;
 mod words;
 
 pub use command::{linkage, perform};

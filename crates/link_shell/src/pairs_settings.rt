@@ -6,12 +6,11 @@ ghost use Rattle.link_shell.specs.Seen.{sink_seen, store_seen};
 
 use crate::ends::{Ended, print};
 use crate::front::load_described;
-use crate::words::{is_short, word_at};
+use crate::words::{is_settings, word_at};
 use link_base::Fault;
 use link_core::pair_ids;
 use link_limits::MOST_POOLED_BYTES;
 use link_outside::{Sink, Store};
-use settings::is_output;
 use std::alloc::Global;
 
 // Reads the words: the name of the settings file.
@@ -23,11 +22,7 @@ pub(crate) fn read(words: &[String]) -> Option<&str>
         return None;
     }
     let name = word_at(words, 1);
-    if is_short(name) && !is_output(name) {
-        Some(name)
-    } else {
-        None
-    }
+    if is_settings(name) { Some(name) } else { None }
 }
 
 // Follows the script.

@@ -1,9 +1,11 @@
 // The words of a command.
 ghost use Rattle.std.specs.Prelude.{◌≡◌, ◌<◌, [], length, map, nat_le, slice_index_or, string_bytes};
 ghost use Rattle.std.specs.List.{list_all};
+ghost use Rattle.link_shell.specs.PairsSettings.{is_settings_word};
 ghost use Rattle.link_shell.specs.Words.{is_short_word};
 
 use link_limits::MOST_NAME_BYTES;
+use settings::is_output;
 
 // The word at a place.
 #[tactic(auto, using(crate::proofs::WordFacts::word_there))]
@@ -19,6 +21,13 @@ pub(crate) fn is_short(word: &str) -> bool
     ensures { result ≡ is_short_word word.now }
 {
     1 <= word.len() && word.len() <= MOST_NAME_BYTES
+}
+
+// Whether a word may name a settings file.
+pub(crate) fn is_settings(word: &str) -> bool
+    ensures { result ≡ is_settings_word word.now }
+{
+    is_short(word) && !is_output(word)
 }
 
 // Whether each word has at most 255 bytes.

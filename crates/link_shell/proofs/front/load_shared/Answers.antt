@@ -1,0 +1,14 @@
+use Rattle.std.proofs.Common.{refl}
+use Rattle.link_shell.proofs.StepFacts.{takes_go, takes_stop, takes_value}
+use Rattle.link_shell.proofs.front.load_shared.Goals as goal
+
+pub returns-in_err-plan-clause-takes : goal.returns-in_err-plan-clause-takes
+returns-in_err-plan-clause-takes g c = takes_stop _ _ c.in_err-plan.ensures.takes c.from_residual.ensures.1
+
+pub returns-in_err-shares-clause-takes : goal.returns-in_err-shares-clause-takes
+returns-in_err-shares-clause-takes g c =
+    takes_go _ _ c.in_ok-plan.ensures.takes (takes_stop _ _ c.in_err-shares.ensures.takes c.from_residual-in_err-shares.ensures.1)
+
+pub returns-clause-takes : goal.returns-clause-takes
+returns-clause-takes g c =
+    takes_go _ _ c.in_ok-plan.ensures.takes (takes_go _ _ c.in_ok-shares.ensures.takes (takes_value tt refl))

@@ -1,0 +1,39 @@
+// The command `rule SETTINGS`.
+ghost use Rattle.std.specs.Prelude.{◌≡◌, [], IfSome, is_some, map, slice_index_or, string_bytes};
+ghost use Rattle.link_shell.specs.Does.{Does};
+ghost use Rattle.link_shell.specs.RuleSettings.{are_rule_words, rule_script};
+ghost use Rattle.link_shell.specs.Seen.{sink_seen, store_seen};
+
+use crate::ends::{Ended, print};
+use crate::front::load_shared;
+use crate::words::{is_settings, word_at};
+use link_base::Fault;
+use link_core::rule_lines;
+use link_outside::{Sink, Store};
+use std::alloc::Global;
+
+// Reads the words: the name of the settings file.
+pub(crate) fn read(words: &[String]) -> Option<&str>
+    ensures some { is_some result ≡ are_rule_words (map string_bytes words.now) }
+    ensures name { IfSome result (λ name. name.now ≡ slice_index_or (map string_bytes words.now) 1 []) }
+{
+    if words.len() != 2 || word_at(words, 0) != "rule" {
+        return None;
+    }
+    let name = word_at(words, 1);
+    if is_settings(name) { Some(name) } else { None }
+}
+
+// Follows the script.
+pub(crate) fn perform<S: Store, O: Sink>(
+    alloc: Global,
+    name: &str,
+    store: &mut S,
+    out: &mut O,
+) -> Result<Ended, Fault>
+    ensures { Does (rule_script name.now) (store_seen S.tells S.held S.faults store.old store.new) (sink_seen O.tells O.taken O.faults out.old out.new) result }
+{
+    let shared = load_shared(alloc, store, name)?;
+    let text = rule_lines(alloc, &shared.plan, &shared.shares)?;
+    print(alloc, Ended::Done, text.bytes(), out)
+}
