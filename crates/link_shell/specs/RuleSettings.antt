@@ -1,5 +1,10 @@
--- The command `rule SETTINGS`: its words, its steps and what is due.
+-- The command `rule SETTINGS`: its words, its steps and what is due; the law `printed_rule_is_least` says that it is least.
 use Rattle.std.specs.Prelude.{◌≡◌, ℕ, List, length, Bool, ◌==◌, ◌&&◌, bytes_eq, codes}
+use Rattle.link_base.specs.declared.rule.RuleCell.{RuleCell}
+use Rattle.decision_rule.specs.Least.{IsLeast}
+use Rattle.link_report.specs.RuleText.{text_of_rule}
+use Rattle.plan_rule.specs.Comparators.{rares_of}
+use Rattle.plan_rule.specs.PlanRule.{IsRuleOf}
 use Rattle.link_core.specs.Rules.{IsRuleText}
 use Rattle.link_shell.specs.Does.{Script}
 use Rattle.link_shell.specs.Due.{Due, prints}
@@ -18,3 +23,11 @@ rule_is_printed shared due = (text : List ℕ) × IsRuleText shared.plan shared.
 
 abbrev pub rule_script : List ℕ → Script
 rule_script name = record { Found = Shared; steps = shared_plan name; due = rule_is_printed }
+
+-- what is printed is the text of cells that are filled for the plan and its shares, and least: no randomised rule of any
+-- denominator with levels at most theirs has a smaller chance of a possible link, for matched or for unmatched pairs
+pub record PrintsLeastRule (shared : Shared) (due : Due) : Type 0 where
+  pub cells : List RuleCell
+  pub rule : IsRuleOf shared.plan shared.shares cells
+  pub least : IsLeast rule.by_shares cells
+  pub printed : due ≡ prints Done (text_of_rule (rares_of shared.plan.fields) cells)

@@ -15,6 +15,7 @@ mod words;
 pub use command::{linkage, perform};
 pub use ends::Ended;
 pub use load::load_whole;
+pub use rule_settings::printed_rule_is_least;
 
 #[cfg(test)]
 mod tests;

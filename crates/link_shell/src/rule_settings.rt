@@ -1,8 +1,10 @@
 // The command `rule SETTINGS`.
 ghost use Rattle.std.specs.Prelude.{◌≡◌, [], IfSome, is_some, map, slice_index_or, string_bytes};
 ghost use Rattle.link_shell.specs.Does.{Does};
-ghost use Rattle.link_shell.specs.RuleSettings.{are_rule_words, rule_script};
+ghost use Rattle.link_shell.specs.Due.{Due};
+ghost use Rattle.link_shell.specs.RuleSettings.{are_rule_words, PrintsLeastRule, rule_is_printed, rule_script};
 ghost use Rattle.link_shell.specs.Seen.{sink_seen, store_seen};
+ghost use Rattle.link_shell.specs.declared.front.Shared.{Shared as AnyShared};
 
 use crate::ends::{Ended, print};
 use crate::front::load_shared;
@@ -11,6 +13,12 @@ use link_base::Fault;
 use link_core::rule_lines;
 use link_outside::{Sink, Store};
 use std::alloc::Global;
+
+/// Law: what `rule SETTINGS` prints is the text of a table of which no randomised rule with error levels at most its own has a
+/// smaller chance of a possible link, for matched and for unmatched pairs (Fellegi and Sunter 1969, section 2, the theorem).
+pub fn printed_rule_is_least()
+    ensures { (shared : AnyShared) (due : Due) → rule_is_printed shared due → PrintsLeastRule shared due }
+{}
 
 // Reads the words: the name of the settings file.
 pub(crate) fn read(words: &[String]) -> Option<&str>
