@@ -1,4 +1,4 @@
--- What names hold in memory: entries, of which the first with a name counts.
+-- What names hold in memory: entries, of which the first with a name counts. `MemoryStore::held` and `SureStore::held` carry it.
 use Rattle.std.specs.Prelude.{ℕ, List, [], ◌∷◌, Option, Some, None, bytes_eq, if◌then◌else◌}
 use Rattle.link_outside.specs.declared.holdings.Entry.{Entry}
 

@@ -1,4 +1,4 @@
--- A text made of pieces.
+-- A text made of pieces: machinery of `write_fault`, whose clause `content` speaks of the line alone.
 use Rattle.std.specs.Prelude.{ℕ, List, [], ◌∷◌, ◌++◌, decimal}
 use Rattle.link_outside.specs.declared.piece.Piece.{Piece}
 use Rattle.link_outside.specs.declared.piece.Piece.TheVariants as piece

@@ -1,4 +1,4 @@
--- The place that a fault names.
+-- The place that a fault names: machinery of `write_fault`.
 use Rattle.std.specs.Prelude.{ℕ, List, []}
 use Rattle.link_base.specs.Fault.{role_name, row_name}
 use Rattle.link_base.specs.declared.fault.Fault.{Fault}

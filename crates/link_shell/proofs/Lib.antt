@@ -3,3 +3,4 @@ pub mod StepFacts
 pub mod DoesFacts
 pub mod PutFacts
 pub mod Laws
+pub mod LevelFacts

@@ -10,6 +10,7 @@ pub mod Front
 pub mod PairsColumns
 pub mod PairsSettings
 pub mod Keys
+pub mod FrontierSettings
 pub mod Commands
 pub mod Linked
 pub mod RuleSettings

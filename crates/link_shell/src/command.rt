@@ -1,14 +1,15 @@
 // The top calls.
-ghost use Rattle.std.specs.Prelude.{◌≡◌, map, option_map, Result, string_bytes};
+ghost use Rattle.std.specs.Prelude.{◌≡◌, IfSome, map, option_map, Result, string_bytes};
 ghost use Rattle.link_base.specs.declared.fault.Fault.{Fault as AnyFault};
-ghost use Rattle.link_shell.specs.Commands.{command_in, command_of};
+ghost use Rattle.link_shell.specs.Commands.{command_in, command_of, HasLevels};
 ghost use Rattle.link_shell.specs.Linked.{Follows, Performed, Reported};
 ghost use Rattle.link_shell.specs.Seen.{sink_seen, store_seen};
 ghost use Rattle.link_shell.specs.declared.ends.Ended.{Ended as AnyEnded};
 
 use crate::ends::Ended;
+use crate::frontier_settings::FrontierRequest;
 use crate::pairs_columns::ColumnRequest;
-use crate::{keys, pairs_columns, pairs_settings, rule_settings};
+use crate::{frontier_settings, keys, pairs_columns, pairs_settings, rule_settings};
 use link_base::{Fault, status_of};
 use link_outside::{Sink, SinkError, Store, write_fault};
 use std::alloc::Global;
@@ -23,11 +24,13 @@ pub(crate) enum Command<'w> {
     Keys(&'w [String]),
     // The name of the settings file.
     RuleOfSettings(&'w str),
+    FrontierOfSettings(FrontierRequest<'w>),
 }
 
 // The command that the words are a form of.
 fn read_command(words: &[String]) -> Option<Command<'_>>
-    ensures { option_map command_in result ≡ command_of (map string_bytes words.now) }
+    ensures command { option_map command_in result ≡ command_of (map string_bytes words.now) }
+    ensures levels { IfSome result HasLevels }
 {
     match pairs_columns::read(words) {
         Some(request) => return Some(Command::PairsOfColumns(request)),
@@ -43,6 +46,10 @@ fn read_command(words: &[String]) -> Option<Command<'_>>
     }
     match rule_settings::read(words) {
         Some(name) => return Some(Command::RuleOfSettings(name)),
+        None => {}
+    }
+    match frontier_settings::read(words) {
+        Some(request) => return Some(Command::FrontierOfSettings(request)),
         None => return None,
     }
 }
@@ -63,6 +70,9 @@ fn follow<S: Store, O: Sink>(
         Some(Command::PairsOfSettings(name)) => pairs_settings::perform(alloc, name, store, out),
         Some(Command::Keys(rest)) => keys::perform(alloc, rest, store, out),
         Some(Command::RuleOfSettings(name)) => rule_settings::perform(alloc, name, store, out),
+        Some(Command::FrontierOfSettings(request)) => frontier_settings::perform(
+            alloc, &request, store, out,
+        ),
         None => Err(Fault::Usage),
     }
 }

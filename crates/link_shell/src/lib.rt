@@ -5,6 +5,7 @@
 mod command;
 mod ends;
 mod front;
+mod frontier_settings;
 mod keys;
 mod load;
 mod pairs_columns;

@@ -1,0 +1,60 @@
+-- The command `frontier SETTINGS MU..`: its words, its steps and what is due, by the clause `follows` of `perform`.
+use Rattle.std.specs.Prelude.{◌≡◌, ◌+◌, ◌-◌, ◌*◌, ℕ, List, [], ◌∷◌, length, drop, map, Bool, true, not, ◌==◌, ◌&&◌, ◌||◌, nat_le, bytes_eq, codes, slice_index_or, string_bytes}
+use Rattle.std.specs.Char.{is_ascii_digit}
+use Rattle.std.specs.List.{list_all}
+use Rattle.link_limits.specs.declared.TheConstants.{PER_MILLION}
+use Rattle.link_core.specs.Rules.{IsFrontierText}
+use Rattle.link_shell.specs.Does.{Script}
+use Rattle.link_shell.specs.Due.{Due, prints}
+use Rattle.link_shell.specs.Front.{shared_plan}
+use Rattle.link_shell.specs.PairsSettings.{is_settings_word}
+use Rattle.link_shell.specs.Words.{word}
+use Rattle.link_shell.specs.declared.ends.Ended.TheVariants.{Done}
+use Rattle.link_shell.specs.declared.front.Shared.{Shared}
+use Rattle.link_shell.specs.declared.frontier_settings.FrontierRequest.{FrontierRequest}
+
+-- the number that decimal digits write, after those before
+abbrev pub number_after : ℕ → List ℕ → ℕ
+number_after n [] = n
+number_after n (digit ∷ digits) = number_after (n * 10 + (digit - 48)) digits
+
+abbrev pub number_in : List ℕ → ℕ
+number_in digits = number_after 0 digits
+
+-- digits without a leading zero
+abbrev pub is_number_word : List ℕ → Bool
+is_number_word w = nat_le 1 (length w) && list_all is_ascii_digit w && (length w == 1 || not (slice_index_or w 0 48 == 48))
+
+-- a level in parts per million
+abbrev pub is_level_word : List ℕ → Bool
+is_level_word w = is_number_word w && nat_le (number_in w) PER_MILLION
+
+-- levels of which the first is at least this, and each above the one before
+abbrev pub are_levels_from : ℕ → List (List ℕ) → Bool
+are_levels_from least [] = true
+are_levels_from least (w ∷ ws) = is_level_word w && nat_le least (number_in w) && are_levels_from (number_in w + 1) ws
+
+-- a settings file, and 1 to 100 levels that rise
+abbrev pub are_frontier_words : List (List ℕ) → Bool
+are_frontier_words words =
+    nat_le 3 (length words) && nat_le (length words) 102 && bytes_eq (word words 0) (codes "frontier") && is_settings_word (word words 1)
+    && are_levels_from 0 (drop 2 words)
+
+-- the settings file, and the asked levels of links
+pub record Asked : Type 0 where
+  pub name : List ℕ
+  pub levels : List ℕ
+
+abbrev pub asked_in : List (List ℕ) → Asked
+asked_in words = record { name = word words 1; levels = map number_in (drop 2 words) }
+
+-- the words as they are held
+abbrev pub asked_of_request : FrontierRequest → Asked
+asked_of_request r = record { name = r.name.now; levels = map number_in (map string_bytes r.levels.now) }
+
+-- the text of the frontier of the plan at these levels is printed
+abbrev pub frontier_is_printed : List ℕ → Shared → Due → Type 0
+frontier_is_printed levels shared due = (text : List ℕ) × IsFrontierText shared.plan shared.shares levels text × (due ≡ prints Done text)
+
+abbrev pub frontier_script : Asked → Script
+frontier_script asked = record { Found = Shared; steps = shared_plan asked.name; due = frontier_is_printed asked.levels }
