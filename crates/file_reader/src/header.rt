@@ -3,12 +3,15 @@ ghost use Rattle.std.specs.Prelude.{◌≡◌, ◌==◌, find, nat_lt, IfErr, If
 ghost use Rattle.std.specs.Option.{option_copied};
 ghost use Rattle.csv.specs.Records.{fields_of};
 ghost use Rattle.link_base.specs.Fault.{IsInputFault};
+ghost use Rattle.csv_records.specs.Left.{records_in};
+ghost use Rattle.file_reader.specs.Header.{header_has};
 ghost use Rattle.file_reader.specs.Layout.{columns_of, count_in, needed_of, place_in, wanted_of};
 ghost use Rattle.file_reader.specs.Table.{header_fault, Tests};
 
 use crate::fields::{count_of, place_of};
 use crate::layout::{Column, Layout};
 use csv::ByteRecord;
+use csv_records::Records;
 use link_base::{Fault, FileRole, NoMemory, Text};
 use link_limits::MOST_COLUMNS;
 use std::alloc::Global;
@@ -89,4 +92,22 @@ pub(crate) fn find_columns(
         columns.push(column_of(alloc, name, row)?)?;
     }
     Ok(columns)
+}
+
+/// Whether a text has a header, its first record (RFC 4180), with a column of this name. One byte order mark at the start
+/// is dropped.
+pub fn has_column(
+    alloc: Global,
+    bytes: &[u8],
+    delimiter: u8,
+    column: &[u8],
+) -> Result<bool, NoMemory>
+    ensures { IfOk result (λ has. has ≡ header_has column.now (records_in delimiter bytes.now)) }
+{
+    let mut left = Records::new(alloc, bytes, delimiter);
+    let mut row = ByteRecord::new(alloc);
+    if left.next(&mut row)? {
+        return Ok(count_of(&row, column) > 0);
+    }
+    Ok(false)
 }

@@ -4,11 +4,14 @@
 mod fields;
 mod header;
 mod ids;
+mod known;
 mod laws;
 mod layout;
 mod rows;
 mod table;
 
+pub use header::has_column;
+pub use known::known_record;
 pub use laws::{first_fault, whole_table};
 pub use layout::Layout;
 pub use rows::read_table;

@@ -8,9 +8,11 @@ use Rattle.link_base.specs.Standard.{Record}
 use Rattle.link_base.proofs.AnswerFacts.{refuses_then}
 use Rattle.link_base.specs.declared.fault.Fault.{Fault}
 use Rattle.link_base.specs.declared.fault.Fault.TheVariants as fault
+use Rattle.link_base.specs.declared.fault.FileRole.TheVariants as role
+use Rattle.file_reader.specs.Known.{known_in, or_fault}
 use Rattle.file_reader.specs.Rows.{TableRow, no_row}
 use Rattle.sample_counts.specs.declared.reviewed.Reviewed.{Reviewed}
-use Rattle.sample_counts.specs.Sample.{field_at, is_matched_by, known_record, named_pair, new_after, or_fault, reviewed_row, reviewed_rows, same_pair, sample_row, unless_repeated}
+use Rattle.sample_counts.specs.Sample.{field_at, is_matched_by, named_pair, new_after, reviewed_row, reviewed_rows, same_pair, sample_row, unless_repeated}
 use Rattle.sample_counts.specs.Places.{is_at, places_of}
 
 -- the place of a pair is that of its positions
@@ -46,17 +48,17 @@ module _ (a b : List Record) where
   named_refused : (number : ℕ) (fields : List (List ℕ)) (status : List ℕ) (matched : Bool) (f : Fault) → status ≡ field_at fields 2 → Some matched ≡ is_matched_by status → Refuses (named_pair a b number fields matched) f → Refuses (reviewed_row a b number fields) f
   named_refused number fields status matched f es em h = subst (λ (o : Option Bool). Refuses (and_then (or_fault (fault.BadStatus number) o) (named_pair a b number fields)) f) (sym (found_status fields status matched es em)) h
 
-  pub refused_a : (number : ℕ) (fields : List (List ℕ)) (status id : List ℕ) (matched : Bool) (f : Fault) → status ≡ field_at fields 2 → id ≡ field_at fields 0 → Some matched ≡ is_matched_by status → Refuses (known_record number (codes "id_a") id a) f → Refuses (reviewed_row a b number fields) f
+  pub refused_a : (number : ℕ) (fields : List (List ℕ)) (status id : List ℕ) (matched : Bool) (f : Fault) → status ≡ field_at fields 2 → id ≡ field_at fields 0 → Some matched ≡ is_matched_by status → Refuses (known_in role.Sample number (codes "id_a") id a) f → Refuses (reviewed_row a b number fields) f
   refused_a number fields status id matched f es ei em h =
-      let told = subst (λ (i : List ℕ). Refuses (known_record number (codes "id_a") i a) f) ei h in
-      named_refused number fields status matched f es em (refuses_then (known_record number (codes "id_a") (field_at fields 0) a) _ f told)
+      let told = subst (λ (i : List ℕ). Refuses (known_in role.Sample number (codes "id_a") i a) f) ei h in
+      named_refused number fields status matched f es em (refuses_then (known_in role.Sample number (codes "id_a") (field_at fields 0) a) _ f told)
 
-  pub refused_b : (number : ℕ) (fields : List (List ℕ)) (status id_a id_b : List ℕ) (matched : Bool) (of_a : ℕ) (f : Fault) → status ≡ field_at fields 2 → id_a ≡ field_at fields 0 → id_b ≡ field_at fields 1 → Some matched ≡ is_matched_by status → known_record number (codes "id_a") id_a a ≡ Ok of_a → Refuses (known_record number (codes "id_b") id_b b) f → Refuses (reviewed_row a b number fields) f
+  pub refused_b : (number : ℕ) (fields : List (List ℕ)) (status id_a id_b : List ℕ) (matched : Bool) (of_a : ℕ) (f : Fault) → status ≡ field_at fields 2 → id_a ≡ field_at fields 0 → id_b ≡ field_at fields 1 → Some matched ≡ is_matched_by status → known_in role.Sample number (codes "id_a") id_a a ≡ Ok of_a → Refuses (known_in role.Sample number (codes "id_b") id_b b) f → Refuses (reviewed_row a b number fields) f
   refused_b number fields status id_a id_b matched of_a f es ea eb em ka h =
-      let told = subst (λ (i : List ℕ). Refuses (known_record number (codes "id_b") i b) f) eb h in
-      let first : known_record number (codes "id_a") (field_at fields 0) a ≡ Ok of_a = ap (λ (i : List ℕ). known_record number (codes "id_a") i a) (sym ea) ∙ ka in
-      let after : ℕ → Result Reviewed Fault = λ x. and_then (known_record number (codes "id_b") (field_at fields 1) b) (λ y. Ok (record { a = x; b = y; matched = matched })) in
-      named_refused number fields status matched f es em (subst (λ (r : Result ℕ Fault). Refuses (and_then r after) f) (sym first) (refuses_then (known_record number (codes "id_b") (field_at fields 1) b) (λ y. Ok (record { a = of_a; b = y; matched = matched })) f told))
+      let told = subst (λ (i : List ℕ). Refuses (known_in role.Sample number (codes "id_b") i b) f) eb h in
+      let first : known_in role.Sample number (codes "id_a") (field_at fields 0) a ≡ Ok of_a = ap (λ (i : List ℕ). known_in role.Sample number (codes "id_a") i a) (sym ea) ∙ ka in
+      let after : ℕ → Result Reviewed Fault = λ x. and_then (known_in role.Sample number (codes "id_b") (field_at fields 1) b) (λ y. Ok (record { a = x; b = y; matched = matched })) in
+      named_refused number fields status matched f es em (subst (λ (r : Result ℕ Fault). Refuses (and_then r after) f) (sym first) (refuses_then (known_in role.Sample number (codes "id_b") (field_at fields 1) b) (λ y. Ok (record { a = of_a; b = y; matched = matched })) f told))
 
   pub kept_row : (done : List Reviewed) (fields : List (List ℕ)) (at : ℕ) (pair : Reviewed) (found : Option ℕ) (index : List (ℕ × ℕ)) → length done ≡ at → reviewed_row a b (at + 1) fields ≡ Ok pair → index ≡ map places_of done → found ≡ position (is_at pair.a pair.b) index → sample_row a b done fields ≡ unless_repeated (at + 1) pair found
   kept_row done fields at pair found index ed er ei ef =

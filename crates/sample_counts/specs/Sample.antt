@@ -8,6 +8,7 @@ use Rattle.link_base.specs.Standard.{Record, position_of_id}
 use Rattle.link_base.specs.declared.fault.Fault.{Fault}
 use Rattle.link_base.specs.declared.fault.Fault.TheVariants as fault
 use Rattle.link_base.specs.declared.fault.FileRole.TheVariants as role
+use Rattle.file_reader.specs.Known.{known_in, or_fault}
 use Rattle.file_reader.specs.Layout.{Wanted}
 use Rattle.file_reader.specs.Rows.{TableRow}
 use Rattle.file_reader.specs.Table.{table_of}
@@ -24,23 +25,14 @@ is_matched_by status =
     else if bytes_eq status (codes "unmatched") then Some false
     else None
 
--- what was found, or this fault
-abbrev pub or_fault : {A : Type 0} → Fault → Option A → Result A Fault
-or_fault f None = Err f
-or_fault f (Some x) = Ok x
-
 abbrev pub field_at : List (List ℕ) → ℕ → List ℕ
 field_at fields k = slice_index_or fields k []
-
--- the record of a file that an id of this row names
-abbrev pub known_record : ℕ → List ℕ → List ℕ → List Record → Result ℕ Fault
-known_record number column id records = or_fault (fault.UnknownId role.Sample number column) (position_of_id id records)
 
 -- the pair of a row with this status: its id in A is tested first, then its id in B
 abbrev pub named_pair : List Record → List Record → ℕ → List (List ℕ) → Bool → Result Reviewed Fault
 named_pair a b number fields matched =
-    and_then (known_record number (codes "id_a") (field_at fields 0) a) (λ of_a.
-    and_then (known_record number (codes "id_b") (field_at fields 1) b) (λ of_b.
+    and_then (known_in role.Sample number (codes "id_a") (field_at fields 0) a) (λ of_a.
+    and_then (known_in role.Sample number (codes "id_b") (field_at fields 1) b) (λ of_b.
     Ok (record { a = of_a; b = of_b; matched = matched })))
 
 -- the reviewed pair of a row, whose status is tested before its ids

@@ -3,14 +3,13 @@ ghost use Rattle.std.specs.Prelude.{◌≡◌, ◌≤◌, ◌<◌, ◌+◌, ◌+
 ghost use Rattle.std.specs.List.{list_any};
 ghost use Rattle.csv_records.specs.Left.{records_in};
 ghost use Rattle.link_base.specs.Fault.{Gives, IsAnswer, IsInputFault};
-ghost use Rattle.link_base.specs.Standard.{position_of_id};
 ghost use Rattle.file_reader.specs.Layout.{wanted_of};
 ghost use Rattle.file_reader.specs.Rows.{TableRow, no_row};
-ghost use Rattle.sample_counts.specs.Sample.{IsInFiles, is_matched_by, known_record, reviewed_row, reviewed_rows, sample_of, sample_row, sample_under, sample_wanted, with_both, IsSample};
+ghost use Rattle.sample_counts.specs.Sample.{IsInFiles, is_matched_by, reviewed_row, reviewed_rows, sample_of, sample_row, sample_under, sample_wanted, with_both, IsSample};
 ghost use Rattle.sample_counts.specs.Places.{places_of};
 
 use crate::index::PairIndex;
-use file_reader::{Layout, Table, read_table};
+use file_reader::{Layout, Table, known_record, read_table};
 use link_base::{Fault, FileRole, NoMemory, StdFile, Text};
 use link_limits::MOST_ROWS;
 use std::alloc::Global;
@@ -52,25 +51,6 @@ fn matched_by(status: &[u8]) -> Option<bool>
     None
 }
 
-// The record that an id of a row names.
-fn known(alloc: Global, row: u32, column: &[u8], id: &[u8], file: &StdFile) -> Result<u32, Fault>
-    ensures kind { IfErr result IsInputFault }
-    ensures answer { IsAnswer (known_record row column.now id.now file.now) result }
-    ensures within { IfOk result (λ at. at < length file.now) }
-{
-    match file.find(id) {
-        Some(at) => Ok(at),
-        None => {
-            let column = Text::new(alloc, column)?;
-            Err(Fault::UnknownId {
-                role: FileRole::Sample,
-                row,
-                column,
-            })
-        }
-    }
-}
-
 // The reviewed pair of the row at a position.
 fn reviewed_at(
     alloc: Global,
@@ -91,11 +71,11 @@ fn reviewed_at(
         Some(matched) => matched,
         None => return Err(Fault::BadStatus { row }),
     };
-    let of_a = match known(alloc, row, b"id_a", table.field(at, 0), a) {
+    let of_a = match known_record(alloc, FileRole::Sample, row, b"id_a", table.field(at, 0), a) {
         Ok(of_a) => of_a,
         Err(fault) => return Err(fault),
     };
-    match known(alloc, row, b"id_b", table.field(at, 1), b) {
+    match known_record(alloc, FileRole::Sample, row, b"id_b", table.field(at, 1), b) {
         Ok(of_b) => Ok(Reviewed {
             a: of_a,
             b: of_b,

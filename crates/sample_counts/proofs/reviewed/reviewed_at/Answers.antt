@@ -7,6 +7,6 @@ pub returns-in-Err-clause-answer : goal.returns-in-Err-clause-answer
 returns-in-Err-clause-answer c =
     refused_a c.args.a.now c.args.b.now (c.args.at + 1) (get_or c.args.table.now c.args.at no_row).fields c.field.result.now c.field-2.result.now c.in-Some.matched c.in-Err.fault c.field.ensures c.field-2.ensures c.in-Some.ensures c.in-Err.ensures.answer
 
-pub returns-in-Err-known-clause-answer : goal.returns-in-Err-known-clause-answer
-returns-in-Err-known-clause-answer c =
-    refused_b c.args.a.now c.args.b.now (c.args.at + 1) (get_or c.args.table.now c.args.at no_row).fields c.field.result.now c.field-2.result.now c.field-3.result.now c.in-Some.matched c.in-Ok.of_a c.in-Err-known.fault c.field.ensures c.field-2.ensures c.field-3.ensures c.in-Some.ensures c.in-Ok.ensures.answer c.in-Err-known.ensures.answer
+pub returns-in-Err-known_record-clause-answer : goal.returns-in-Err-known_record-clause-answer
+returns-in-Err-known_record-clause-answer c =
+    refused_b c.args.a.now c.args.b.now (c.args.at + 1) (get_or c.args.table.now c.args.at no_row).fields c.field.result.now c.field-2.result.now c.field-3.result.now c.in-Some.matched c.in-Ok.of_a c.in-Err-known_record.fault c.field.ensures c.field-2.ensures c.field-3.ensures c.in-Some.ensures c.in-Ok.ensures.answer c.in-Err-known_record.ensures.answer
