@@ -1,7 +1,8 @@
 -- The headers of texts, byte by byte.
-use Rattle.std.proofs.Common.{◌≡◌, List, ℕ, refl, codes}
+use Rattle.std.proofs.Common.{◌≡◌, refl, codes}
 use Rattle.csv.specs.Writing.{default_writer, fields_text, is_blank, row_text}
 use Rattle.link_report.specs.FrontierText.{frontier_header}
+use Rattle.link_report.specs.OpenText.{open_header}
 use Rattle.link_report.specs.RuleText.{rule_header}
 
 pub rule_header_text : row_text default_writer rule_header ≡ codes "pattern,outcomes,m,u,weight,link,possible,nonlink\n"
@@ -11,3 +12,7 @@ rule_header_text = refl
 pub frontier_header_text : row_text default_writer frontier_header ≡ codes "mu_ppm,mu,lambda,possible_m,possible_u,denominator,slack_m,slack_u\n"
 unfolding fields_text is_blank
 frontier_header_text = refl
+
+pub open_header_text : row_text default_writer open_header ≡ codes "id_a,id_b,pattern,weight\n"
+unfolding fields_text is_blank
+open_header_text = refl

@@ -1,4 +1,3 @@
 pub mod FrontierLemmas
 pub mod HeaderLemmas
 pub mod LineLemmas
-pub mod RowLemmas

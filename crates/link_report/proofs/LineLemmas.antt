@@ -1,5 +1,4 @@
 -- The text of a line of two fields.
-use native.Mathlib.Omega.{arith}
 use Rattle.std.proofs.Common.{◌≡◌, ℕ, List, [], ◌∷◌, ◌++◌, refl, ap, sym, ◌∙◌}
 use Rattle.std.proofs.lemmas.List.{append_assoc, append-nil}
 use Rattle.csv.specs.Writing.{default_writer, field_text, fields_text, is_blank, row_text}

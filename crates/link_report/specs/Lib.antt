@@ -1,3 +1,4 @@
 pub mod FrontierText
 pub mod Lines
+pub mod OpenText
 pub mod RuleText

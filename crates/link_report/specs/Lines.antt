@@ -1,8 +1,7 @@
--- The texts of ids that are printed: lines of fields, as RFC 4180 has them. `ids_text_of` carries it (its lone clause), and
--- `push_field` the text of one field.
+-- The texts of ids that are printed: lines of fields, as RFC 4180 has them (`ids_text_of`, its lone clause).
 use Rattle.std.specs.Prelude.{ℕ, List, [], ◌∷◌, ◌++◌, codes, slice_index_or}
 use Rattle.std.specs.List.{flat_map}
-use Rattle.csv.specs.Writing.{default_writer, field_text, row_text}
+use Rattle.csv.specs.Writing.{default_writer, row_text}
 use Rattle.link_base.specs.Standard.{no_record, Record}
 use Rattle.link_base.specs.declared.rule.PairAt.{PairAt}
 

@@ -2,7 +2,7 @@
 ghost use Rattle.std.specs.Prelude.{◌≡◌, ◌++◌, IfOk, OnOk, length};
 ghost use Rattle.link_report.specs.FrontierText.{level_row, text_of_frontier};
 
-use crate::rows::{digits_of, push_row};
+use csv_rows::{digits_of, push_row};
 use level_frontier::FrontierRow;
 use link_base::{NoMemory, Text};
 use std::alloc::Global;

@@ -3,7 +3,7 @@ ghost use Rattle.std.specs.Prelude.{◌≡◌, ◌<◌, ◌++◌, All, IfOk, OnO
 ghost use Rattle.link_base.specs.declared.rule.PairAt.{PairAt as Pair};
 ghost use Rattle.link_report.specs.Lines.{ids_line, ids_text};
 
-use crate::fields::push_field;
+use csv_rows::push_field;
 use link_base::{NoMemory, PairAt, StdFile, Text};
 use std::alloc::Global;
 

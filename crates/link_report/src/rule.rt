@@ -5,7 +5,7 @@ ghost use Rattle.link_base.specs.declared.rule.RuleCell.{RuleCell as Cell};
 ghost use Rattle.link_report.specs.RuleText.{cell_row, outcome_letter, outcome_letters, text_of_rule};
 ghost use Rattle.pattern_shapes.specs.Shapes.{pattern_count_by, rare_of};
 
-use crate::rows::{digits_of, push_row};
+use csv_rows::{digits_of, push_row};
 use link_base::{NoMemory, Outcome, RuleCell, RuleTable, Shape, Text};
 use link_limits::WHOLE_RULE;
 use pattern_shapes::outcome_of;

@@ -1,4 +1,4 @@
-use Rattle.std.proofs.Common.{◌≡◌, ◌++◌, take}
+use Rattle.std.proofs.Common.{◌≡◌, take}
 use Rattle.link_report.specs.FrontierText.{text_of_frontier}
 use Rattle.link_report.proofs.frontier.frontier_text.Given as goal
 

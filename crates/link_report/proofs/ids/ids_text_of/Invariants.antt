@@ -1,4 +1,4 @@
-use Rattle.std.proofs.Common.{◌≡◌, ◌++◌, take}
+use Rattle.std.proofs.Common.{◌≡◌, take}
 use Rattle.link_report.specs.Lines.{ids_text}
 use Rattle.link_report.proofs.ids.ids_text_of.Given as goal
 

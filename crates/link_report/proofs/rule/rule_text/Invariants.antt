@@ -1,4 +1,4 @@
-use Rattle.std.proofs.Common.{◌≡◌, ◌++◌, take}
+use Rattle.std.proofs.Common.{◌≡◌, take}
 use Rattle.link_report.specs.RuleText.{text_of_rule}
 use Rattle.pattern_shapes.specs.Shapes.{rare_of}
 use Rattle.link_report.proofs.rule.rule_text.Given as goal

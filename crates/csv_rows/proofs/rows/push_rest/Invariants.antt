@@ -1,6 +1,6 @@
 use Rattle.std.proofs.Common.{◌≡◌, ◌++◌, drop, map}
 use Rattle.csv.specs.Writing.{default_writer, fields_text}
-use Rattle.link_report.proofs.rows.push_rest.Given as goal
+use Rattle.csv_rows.proofs.rows.push_rest.Given as goal
 
 abbrev pub invariant-loop-field : goal.invariant-loop-field
 invariant-loop-field l =

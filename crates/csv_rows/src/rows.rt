@@ -28,8 +28,8 @@ fn push_rest(text: &mut Vec<u8>, fields: &[&[u8]]) -> Result<(), NoMemory>
     Ok(())
 }
 
-/// A number in decimal digits.
-pub(crate) fn digits_of(alloc: Global, number: u128) -> Result<String, NoMemory>
+/// The decimal digits of a number.
+pub fn digits_of(alloc: Global, number: u128) -> Result<String, NoMemory>
     ensures { IfOk result (λ text. string_bytes text ≡ decimal number) }
 {
     Ok(format!(in alloc; "{number}")?)

@@ -1,5 +1,5 @@
-use Rattle.link_report.proofs.RowLemmas.{row_written}
-use Rattle.link_report.proofs.rows.push_row.Goals as goal
+use Rattle.csv_rows.proofs.RowLemmas.{row_written}
+use Rattle.csv_rows.proofs.rows.push_row.Goals as goal
 
 pub returns : goal.returns
 returns c =

@@ -1,5 +1,5 @@
-use Rattle.link_report.proofs.RowLemmas.{at_end, rest_more}
-use Rattle.link_report.proofs.rows.push_rest.Goals as goal
+use Rattle.csv_rows.proofs.RowLemmas.{at_end, rest_more}
+use Rattle.csv_rows.proofs.rows.push_rest.Goals as goal
 
 pub loop-field-preserved : goal.loop-field-preserved
 loop-field-preserved c =

@@ -1,6 +1,6 @@
 use Rattle.std.proofs.Common.{◌≡◌, ◌++◌, drop}
 use Rattle.csv.specs.Writing.{default_writer, escaped}
-use Rattle.link_report.proofs.fields.push_escaped.Given as goal
+use Rattle.csv_rows.proofs.fields.push_escaped.Given as goal
 
 abbrev pub invariant-loop-byte : goal.invariant-loop-byte
 invariant-loop-byte l =

@@ -1,0 +1,13 @@
+//! Fields and rows as RFC 4180 writes them: what is written reads as the rows that it was.
+#![tactic(auto)]
+
+mod fields;
+mod laws;
+mod rows;
+
+pub use fields::push_field;
+pub use laws::rows_read_again;
+pub use rows::{digits_of, push_row};
+
+#[cfg(test)]
+mod tests;
