@@ -4,6 +4,9 @@ pub mod CountLemmas
 pub mod ListSteps
 pub mod OneRule
 pub mod PatternLemmas
+pub mod PlainPatterns
+pub mod RankedCells
 pub mod RareLemmas
 pub mod ShareLemmas
 pub mod SideLemmas
+pub mod TheRule

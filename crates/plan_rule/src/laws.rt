@@ -8,6 +8,7 @@ ghost use Rattle.decision_rule.specs.Least.{IsLeast};
 ghost use Rattle.plan_rule.specs.Comparators.{count_of_id};
 ghost use Rattle.plan_rule.specs.PlanRule.{IsRuleOf};
 ghost use Rattle.plan_rule.specs.RareValues.{StandInField, records_with};
+ghost use Rattle.plan_rule.specs.TheRule.{the_rule};
 ghost use Rattle.settings.specs.Plan.{PlainShares};
 ghost use Rattle.settings.specs.declared.plan.Plan.{Plan};
 ghost use Rattle.value_canons.specs.Canons.{compares_days};
@@ -18,6 +19,12 @@ use value_pool::Pool;
 pub fn one_rule()
     ensures { (plan : Plan) (shares : List PlainShares) (xs ys : List RuleCell)
         → IsRuleOf plan shares xs → IsRuleOf plan shares ys → xs ≡ ys }
+{}
+
+/// The rule of a plan is the one that its asked levels and the shares of its fields determine.
+pub fn is_the_rule()
+    ensures { (plan : Plan) (shares : List PlainShares) (cells : List RuleCell)
+        → IsRuleOf plan shares cells → cells ≡ the_rule plan.mu_ppm plan.lambda_ppm shares }
 {}
 
 /// The rule of a plan is least: among all randomised rules of every denominator whose levels are at most its own, none

@@ -18,7 +18,7 @@ use lib.IntN.{nat_abs}
 year_one : Date
 year_one = record { year = pos 1; month = 1; day = 1; year_in = search rules; month_in = search rules; day_in = search rules }
 
-first_day : days_from_civil (pos 1) 1 1 ≡ neg_ℤ (pos 719_162)
+pub first_day : days_from_civil (pos 1) 1 1 ≡ neg_ℤ (pos 719_162)
 first_day = omega (arith, signed_arith, days_from_civil-day_count, day_count-early (pos 1) 10000 1 1 refl (omega arith) (omega arith) (omega arith))
 
 -- a day from 0001-01-01 on is of a year from 1 on

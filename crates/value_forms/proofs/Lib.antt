@@ -1,4 +1,5 @@
 pub mod BegunLemmas
+pub mod CivilLemmas
 pub mod DayLemmas
 pub mod FirstLemmas
 pub mod InitialLemmas

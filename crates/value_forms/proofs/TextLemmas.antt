@@ -18,7 +18,7 @@ four_back y lt =
     ∙ ap Some (omega arith)
 
 -- what a civil date's parts are at most
-record Parts (y m d : ℕ) : Type 0 where
+pub record Parts (y m d : ℕ) : Type 0 where
   pub year : y ≤ 9999
   pub month : m ≤ 12
   pub day : d ≤ 31
@@ -26,7 +26,7 @@ record Parts (y m d : ℕ) : Type 0 where
 parts : (y m d : ℕ) → is_civil y m d ≡ true → Parts y m d
 parts y m d h = record { year = grind (arith, nat_tests); month = grind (arith, nat_tests); day = grind (arith, nat_tests) }
 
-civil_parts : (y m d : ℕ) (day : ℤ) → civil_day y m d ≡ Some day → Parts y m d
+pub civil_parts : (y m d : ℕ) (day : ℤ) → civil_day y m d ≡ Some day → Parts y m d
 civil_parts y m d day h = by (is_civil y m d) refl
   where
     by : (b : Bool) → is_civil y m d ≡ b → Parts y m d

@@ -1,5 +1,6 @@
 // Civil days of the years 0001 to 9999, and their texts.
-ghost use Rattle.std.specs.Prelude.{◌≡◌, ◌≤◌, ℤ, Some, IfSome, IsNone, MatchOption};
+ghost use Rattle.std.specs.Prelude.{◌≡◌, ◌≤◌, ℤ, Some, IfSome, IsNone, MatchOption, length};
+ghost use Rattle.std.specs.Str.{IsAscii};
 ghost use Rattle.link_base.specs.Standard.{IsDay};
 ghost use Rattle.value_forms.specs.Days.{civil_day, four_of, IsDayText, iso_day, month_day_of_day, month_of_day, one_of, text_of_day, two_of, year_of_day};
 
@@ -132,3 +133,10 @@ fn iso(text: &[u8]) -> Option<i32>
     let day = two(text[8], text[9])?;
     day_of(year, month, day)
 }
+
+/// Law: a day is read from its text, which is ten bytes of ASCII.
+pub fn day_read_again()
+    ensures same { (day : ℤ) → IsDay day → iso_day (text_of_day day) ≡ Some day }
+    ensures ascii { (day : ℤ) → IsDay day → IsAscii (text_of_day day) }
+    ensures long { (day : ℤ) → length (text_of_day day) ≡ 10 }
+{}

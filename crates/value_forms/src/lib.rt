@@ -7,7 +7,7 @@ mod first;
 mod initials;
 mod written;
 
-pub use days::{Civil, civil_of, day_of, day_text, read_iso};
+pub use days::{Civil, civil_of, day_of, day_read_again, day_text, read_iso};
 pub use first::first_chars;
 pub use initials::{initials_text, same_initials};
 pub use written::read_date;
