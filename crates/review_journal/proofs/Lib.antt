@@ -1,0 +1,4 @@
+pub mod EntryLemmas
+pub mod PlaceLemmas
+pub mod SearchLemmas
+pub mod VerdictLemmas

@@ -1,0 +1,6 @@
+pub mod Verdict
+pub mod Steps
+pub mod Journal
+pub mod Places
+pub mod Adding
+pub mod Search

@@ -1,0 +1,24 @@
+-- Machinery of the journal: where the last entry on each pair stands. No public clause names it; the invariant of `Journal`
+-- does.
+use Rattle.std.specs.Prelude.{◌≡◌, ◌<◌, ◌==◌, ◌&&◌, ℕ, Bool, List, length, Option, Some, option_and_then, slice_get}
+use Rattle.std.specs.declared.hash.BuildHasherDefault.{BuildHasherDefault}
+use Rattle.std.specs.declared.hash.FoldHasher.{FoldHasher}
+use Rattle.indexmap.specs.IndexMap.{IndexMap, get}
+use Rattle.review_journal.specs.Verdict.{last_on}
+use Rattle.review_journal.specs.declared.entry.Entry.{Entry}
+
+-- from pairs to places in a list of entries
+abbrev pub Places : Type 0
+Places = IndexMap (ℕ × ℕ) ℕ (BuildHasherDefault FoldHasher)
+
+abbrev pub same_pair : ℕ × ℕ → ℕ × ℕ → Bool
+same_pair x y = (x.0 == y.0) && (x.1 == y.1)
+
+-- the place of a pair
+abbrev pub place_of : Places → ℕ → ℕ → Option ℕ
+place_of places a b = get same_pair places (a, b)
+
+-- each pair has the place of the last entry on it, and a pair that no entry names has none
+pub record IsIndexed (places : Places) (entries : List Entry) : Type 0 where
+  pub found : (a b : ℕ) → option_and_then (slice_get entries) (place_of places a b) ≡ last_on entries a b
+  pub within : (a b place : ℕ) → place_of places a b ≡ Some place → place < length entries
