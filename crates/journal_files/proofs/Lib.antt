@@ -1,0 +1,5 @@
+pub mod AgainLemmas
+pub mod EntryFacts
+pub mod RowLemmas
+pub mod TableLemmas
+pub mod VersionLemmas

@@ -1,0 +1,5 @@
+pub mod Rows
+pub mod Row
+pub mod Reading
+pub mod Batch
+pub mod Text
