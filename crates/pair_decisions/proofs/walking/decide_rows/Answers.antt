@@ -1,0 +1,36 @@
+use Rattle.std.proofs.Common.{◌∙◌, Ok, Option, arith, length, subst}
+use Rattle.link_base.specs.declared.rule.Decision.TheVariants.{Link, Possible}
+use Rattle.link_base.specs.declared.rule.PairAt.{PairAt}
+use Rattle.pair_decisions.proofs.WalkLemmas.{count_more, rest_holds, row_holds, row_more}
+use Rattle.pair_decisions.specs.Decisions.{decision_at, is_same}
+use Rattle.pair_decisions.specs.PairRule.{side_rule}
+use Rattle.pair_decisions.specs.Pairs.{IsInside}
+use Rattle.pair_walk.specs.Next.{GivesRow, NextRow}
+use Rattle.pair_walk.specs.declared.walker.RowPairs.{RowPairs}
+use Rattle.pair_decisions.proofs.walking.decide_rows.Goals as goal
+
+pub decide_row-requires-clause-inside : goal.decide_row-requires-clause-inside
+decide_row-requires-clause-inside c =
+    let P : Option RowPairs → Type 0 = λ row. NextRow c.rows.walker c.next_row.new.self (Ok row) in
+    let next : GivesRow c.rows.walker c.next_row.new.self c.in-Ok-Some.row = subst P c.in-Ok-Some.field-0-is c.in-Ok-Some.ensures in
+    row_holds (IsInside (length c.args.sides_a.now.rows) (length c.args.sides_b.now.rows)) c.rows.walker.left c.next_row.new.self.left c.in-Ok-Some.row.a c.in-Ok-Some.row.bs.items next.0 c.rows.invariant.inside
+
+pub rows-preserved : goal.rows-preserved
+rows-preserved c =
+    let old = c.rows.walker.left in
+    let rest = c.next_row.new.self.left in
+    let a = c.in-Ok-Some.row.a in
+    let bs = c.in-Ok-Some.row.bs.items in
+    let P : Option RowPairs → Type 0 = λ row. NextRow c.rows.walker c.next_row.new.self (Ok row) in
+    let next : GivesRow c.rows.walker c.next_row.new.self c.in-Ok-Some.row = subst P c.in-Ok-Some.field-0-is c.in-Ok-Some.ensures in
+    let decided = decision_at (side_rule c.args.rule.now) c.args.sides_a.now.rows c.args.sides_b.now.rows in
+    let more = count_more old rest a bs next.0 in
+    record {
+      same = c.decide_row.ensures.same ∙ c.rows.invariant.same;
+      given = omega (arith, next.1, c.decide_row.ensures.compared);
+      few = omega (arith, next.1, next.2, c.decide_row.ensures.compared);
+      compared = omega (arith, c.decide_row.ensures.compared);
+      links = row_more (λ (at : PairAt). is_same Link (decided at)) old rest a bs _ _ _ next.0 c.in-Ok.ensures.links c.rows.invariant.links;
+      possible = row_more (λ (at : PairAt). is_same Possible (decided at)) old rest a bs _ _ _ next.0 c.in-Ok.ensures.possible c.rows.invariant.possible;
+      inside = rest_holds (IsInside (length c.args.sides_a.now.rows) (length c.args.sides_b.now.rows)) old rest a bs next.0 c.rows.invariant.inside;
+    }

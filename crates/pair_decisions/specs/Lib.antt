@@ -1,0 +1,4 @@
+pub mod PairRule
+pub mod Places
+pub mod Pairs
+pub mod Decisions

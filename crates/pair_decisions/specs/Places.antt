@@ -1,0 +1,21 @@
+-- The places of the cells of a rule by their patterns: the machinery of `PairRule`, whose contracts speak of `cell_of` alone.
+use Rattle.std.specs.Prelude.{◌≡◌, ◌<◌, ◌≤◌, ℕ, List, length, map, slice_index}
+use Rattle.std.specs.List.{position_or_len}
+use Rattle.comparators.specs.Fields.{field_rare}
+use Rattle.comparators.specs.declared.ids.FieldById.{FieldById}
+use Rattle.link_base.specs.declared.rule.RuleCell.{RuleCell}
+use Rattle.link_limits.specs.declared.TheConstants.{MOST_FIELDS}
+use Rattle.pattern_shapes.specs.Shapes.{pattern_count_by}
+use Rattle.pair_decisions.specs.PairRule.{has_pattern}
+
+-- the place of the first cell of a pattern
+abbrev pub place_of : List RuleCell → ℕ → ℕ
+place_of cells pattern = position_or_len (has_pattern pattern) cells
+
+-- each pattern has a cell, whose place is told
+pub record KeepsPlaces (comparators : List FieldById) (cells : List RuleCell) (places : List ℕ) : Type 0 where
+  pub few : length comparators ≤ MOST_FIELDS
+  pub patterns : length cells ≡ pattern_count_by (map field_rare comparators)
+  pub as_many : length places ≡ length cells
+  pub told : (pattern : ℕ) → pattern < length cells → slice_index places pattern ≡ place_of cells pattern
+  pub stands : (pattern : ℕ) → pattern < length cells → place_of cells pattern < length cells

@@ -1,0 +1,16 @@
+//! The decisions of the decision rule of Fellegi and Sunter (1969) on all compared pairs of two files.
+#![tactic(auto)]
+
+mod choice;
+mod deciding;
+mod laws;
+mod pair_rule;
+mod places;
+mod walking;
+
+pub use deciding::{Decided, decide_pairs};
+pub use laws::rule_has_patterns;
+pub use pair_rule::PairRule;
+
+#[cfg(test)]
+mod tests;

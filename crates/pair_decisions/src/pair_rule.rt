@@ -1,0 +1,106 @@
+// The rule of a plan over the sides of two files.
+ghost use Rattle.std.specs.Prelude.{◌≡◌, ◌<◌, ◌≤◌, All, IfOk, Some, find, length};
+ghost use Rattle.link_base.specs.Rule.{IsWithinRanges};
+ghost use Rattle.pair_decisions.specs.PairRule.{AreCellsOf, AreSidesFor, has_pattern, pattern_by, side_rule, side_rule_of};
+ghost use Rattle.pattern_shapes.specs.Shapes.{pattern_count_by};
+ghost use Rattle.plan_rule.specs.Comparators.{rares_of};
+ghost use Rattle.plan_rule.specs.Sides.{AreSidesOf};
+ghost use Rattle.settings.specs.Ranges.{KeepsRanges};
+
+use crate::places::places_of;
+use comparators::{FieldById, IdTable, IdValue};
+use link_base::{NoMemory, RuleCell, RuleTable};
+use link_limits::MOST_ROWS;
+use patterns::pattern_over;
+use plan_rule::comparisons_of;
+use settings::Plan;
+use std::alloc::Global;
+use std::marker::Model;
+
+/// The decision rule of a plan over the sides of two files. Contracts see its comparators, the cells
+/// of its filled table, and the seed of its border words.
+#[derive(Debug, Drop)]
+pub struct PairRule {
+    comparators: Vec<FieldById>,
+    table: RuleTable,
+    // The place of the cell of each pattern.
+    places: Vec<u16>,
+    seed: u64,
+}
+
+impl Model for PairRule {
+    ghost use Rattle.pair_decisions.specs.PairRule.{PairRuleView};
+    ghost use Rattle.pair_decisions.specs.Places.{KeepsPlaces};
+
+    ghost Value = { PairRuleView };
+
+    ghost view = { λ r. record { comparators = r.comparators.items; cells = r.table.cells.items; seed = r.seed } };
+
+    ghost invariant = { λ r. KeepsPlaces r.comparators.items r.table.cells.items r.places.items };
+}
+
+impl PairRule {
+    /// The rule of a plan over the sides of two files, whose ids name `texts` texts, by its filled table, which has a cell for
+    /// each pattern.
+    pub fn new(
+        alloc: Global,
+        plan: &Plan,
+        table: RuleTable,
+        texts: u32,
+        sides_a: &IdTable,
+        sides_b: &IdTable,
+    ) -> Result<PairRule, NoMemory>
+        requires ranges { KeepsRanges plan.now }
+        requires few_a { length sides_a.now.rows ≤ MOST_ROWS }
+        requires few_b { length sides_b.now.rows ≤ MOST_ROWS }
+        requires sides_a { All (AreSidesOf texts plan.now.fields) sides_a.now.rows }
+        requires sides_b { All (AreSidesOf texts plan.now.fields) sides_b.now.rows }
+        requires cells { AreCellsOf (pattern_count_by (rares_of plan.now.fields)) table.cells.items }
+        ensures rule { IfOk result (λ rule. side_rule rule ≡ side_rule_of plan.now texts sides_a.now.rows sides_b.now.rows table.cells.items) }
+        ensures sides_a { IfOk result (λ rule. All (AreSidesFor rule) sides_a.now.rows) }
+        ensures sides_b { IfOk result (λ rule. All (AreSidesFor rule) sides_b.now.rows) }
+    {
+        let comparators = comparisons_of(alloc, plan, texts, sides_a, sides_b)?;
+        let places = places_of(alloc, table.cells())?;
+        Ok(PairRule {
+            comparators,
+            table,
+            places,
+            seed: plan.seed,
+        })
+    }
+
+    /// The filled table.
+    pub fn table(&self) -> &RuleTable
+        ensures { result.now.cells.items ≡ self.now.cells }
+    {
+        &self.table
+    }
+
+    /// The seed of the border words.
+    pub(crate) fn seed(&self) -> u64
+        ensures { result ≡ self.now.seed }
+    {
+        self.seed
+    }
+
+    /// The comparison pattern of a row of A and a row of B.
+    pub fn pattern(&self, a: &[IdValue], b: &[IdValue]) -> u16
+        requires sides_a { AreSidesFor self.now a.now }
+        requires sides_b { AreSidesFor self.now b.now }
+        ensures number { result ≡ pattern_by (side_rule self.now).comparators a.now b.now }
+        ensures range { result < length self.now.cells }
+    {
+        pattern_over(&self.comparators, a, b)
+    }
+
+    /// The cell of a pattern.
+    pub fn cell(&self, pattern: u16) -> &RuleCell
+        requires pattern { pattern < length self.now.cells }
+        ensures found { find (has_pattern pattern) self.now.cells ≡ Some result.now }
+        ensures in_range { IsWithinRanges result.now }
+    {
+        let place = self.places[usize::from(pattern)];
+        &self.table.cells()[usize::from(place)]
+    }
+}
