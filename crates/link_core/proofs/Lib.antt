@@ -4,3 +4,4 @@ pub mod PairLemmas
 pub mod ColumnLemmas
 pub mod NumberLemmas
 pub mod RuleLemmas
+pub mod ReviewLemmas

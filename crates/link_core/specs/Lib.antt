@@ -4,3 +4,5 @@ pub mod ColumnPairs
 pub mod ColumnRecords
 pub mod NameKeys
 pub mod Rules
+pub mod Decisions
+pub mod Review

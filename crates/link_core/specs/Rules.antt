@@ -15,16 +15,21 @@ use Rattle.plan_rule.specs.PlanShares.{counted_in, plain_all}
 use Rattle.settings.specs.Plan.{PlainShares}
 use Rattle.settings.specs.declared.plan.Plan.{Plan}
 use Rattle.standard_files.specs.Files.{AreOfPlan}
+use Rattle.pair_walk.specs.Rows.{AreAllReady, AreKeysHeld}
 use Rattle.pooled_values.specs.Ready.{AreFileSides}
 use Rattle.link_core.specs.Prepared.{kinds_of, PreparedView}
 
--- prepared files are those of a plan: at most so many records each, and a side for each of their values, which stands for it
--- and is valid for its kind of comparison
+-- prepared files are those of a plan: at most so many records each, with keys in its passes whose parts stand in the pool, and a
+-- side for each of their values, which stands for it and is valid for its kind of comparison
 pub record IsPreparedFor (plan : Plan) (p : PreparedView) : Type 0 where
   pub of_a : AreOfPlan plan p.files.a.records
   pub of_b : AreOfPlan plan p.files.b.records
   pub sides_a : AreFileSides p.values.texts (kinds_of plan) p.files.a.records p.values.a.rows
   pub sides_b : AreFileSides p.values.texts (kinds_of plan) p.files.b.records p.values.b.rows
+  pub ready_a : AreAllReady plan.passes p.files.a.records
+  pub ready_b : AreAllReady plan.passes p.files.b.records
+  pub held_a : AreKeysHeld p.values.texts plan.passes p.files.a.records
+  pub held_b : AreKeysHeld p.values.texts plan.passes p.files.b.records
 
 -- in which fields agreement on a rare value is an outcome of its own
 abbrev pub shared_rares : List PlainShares → List Bool

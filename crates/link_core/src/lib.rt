@@ -2,16 +2,21 @@
 #![tactic(auto)]
 
 mod column_pairs;
+mod decisions;
 mod name_keys;
 mod pairs;
 mod preparing;
+mod review;
 mod row_text;
 mod rules;
 
 pub use column_pairs::pair_rows;
+pub use decisions::decide_all;
 pub use name_keys::key_lines;
+pub use pair_decisions::Decided;
 pub use pairs::pair_ids;
 pub use preparing::{Prepared, prepare};
+pub use review::{add_verdicts, journal_in_files, journal_lines, open_lines, open_rows};
 pub use rules::{PlanShares, counted, frontier_lines, rule_lines};
 
 #[cfg(test)]

@@ -1,9 +1,10 @@
 // The decision rule of a plan, and its frontier of levels.
-ghost use Rattle.std.specs.Prelude.{◌≡◌, ◌≤◌, All, IfErr, IfOk, None};
+ghost use Rattle.std.specs.Prelude.{◌≡◌, ◌≤◌, All, IfErr, IfOk, None, length};
 ghost use Rattle.link_base.specs.Fault.{IsAnswer, IsInputFault};
 ghost use Rattle.link_core.specs.Rules.{counted_by, IsFrontierText, IsPreparedFor, IsRuleText, shared_rares};
 ghost use Rattle.plan_rule.specs.Comparators.{rares_of};
-ghost use Rattle.plan_rule.specs.PlanShares.{given_in};
+ghost use Rattle.link_limits.specs.declared.TheConstants.{MOST_FIELDS};
+ghost use Rattle.plan_rule.specs.PlanShares.{given_in, plain_all};
 ghost use Rattle.settings.specs.Ranges.{KeepsRanges};
 
 use crate::preparing::Prepared;
@@ -46,6 +47,15 @@ impl PlanShares {
     {
         let all = given_shares(alloc, plan)?;
         Ok(PlanShares { all })
+    }
+
+    // The shares, field by field.
+    pub(crate) fn fields(&self) -> &[FieldShares]
+        ensures shares { plain_all result.now ≡ self.now }
+        ensures some { 1 ≤ length result.now }
+        ensures few { length result.now ≤ MOST_FIELDS }
+    {
+        &self.all
     }
 }
 

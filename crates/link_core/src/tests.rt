@@ -1,4 +1,6 @@
 // With ample memory two small files are prepared and have pairs.
+ghost use Rattle.std.specs.Prelude.{◌≤◌};
+
 use crate::{Prepared, key_lines, pair_ids, pair_rows, prepare};
 use link_base::{Fault, FileRole, Sides, Text};
 use settings::read_settings;
@@ -10,9 +12,12 @@ const SURNAMES: &str =
 
 const TWO: &str = "id,surname\n1,LEE\n2,KO\n";
 
-fn prepared_of(alloc: Global) -> Result<Prepared, Fault> {
+// With a pool of so many bytes.
+fn prepared_of(alloc: Global, limit: u64) -> Result<Prepared, Fault>
+    requires { limit ≤ 100 }
+{
     match read_settings(alloc, SURNAMES.as_bytes()) {
-        Ok(plan) => prepare(alloc, &plan, TWO.as_bytes(), TWO.as_bytes(), 13),
+        Ok(plan) => prepare(alloc, &plan, TWO.as_bytes(), TWO.as_bytes(), limit),
         Err(fault) => Err(fault),
     }
 }
@@ -26,9 +31,23 @@ fn pairs_of(alloc: Global) -> Result<Text, Fault> {
 
 #[test]
 fn two_files_are_prepared(rt: HostRuntime) {
-    let right = match prepared_of(rt.alloc()) {
+    let right = match prepared_of(rt.alloc(), 13) {
         Ok(prepared) => prepared.a().rows() == 2 && prepared.sides(FileRole::B).count() == 2,
         Err(_) => false,
+    };
+    assert!(rt; right);
+}
+
+#[test]
+fn texts_past_the_limit_of_a_pool_are_refused(rt: HostRuntime) {
+    let right = match prepared_of(rt.alloc(), 12) {
+        Err(
+            Fault::PoolFull {
+                used: 13,
+                limit: 12,
+            },
+        ) => true,
+        _ => false,
     };
     assert!(rt; right);
 }

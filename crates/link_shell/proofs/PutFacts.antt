@@ -1,10 +1,11 @@
 -- Puts one after the other.
-use Rattle.std.proofs.Common.{◌≡◌, ◌⊎◌, ◌≤◌, ◌<◌, ◌+◌, inl, inr, ◌++◌, ◌∷◌, ℕ, zero, suc, List, [], Err, get_or, refl, sym, ap, subst, ◌∙◌, arith, take, length, add-one}
+use Rattle.std.proofs.Common.{◌≡◌, ◌⊎◌, ◌≤◌, ◌<◌, ◌+◌, inl, inr, ◌++◌, ◌∷◌, ℕ, zero, suc, List, [], Err, get_or, refl, sym, ap, subst, ◌∙◌, arith, take, length, add-one, Option, Some}
+use Rattle.std.specs.Prelude.{unwrap_or}
 use Rattle.link_base.specs.declared.fault.Fault.{Fault}
 use Rattle.link_outside.specs.Outside.{Held, held_with}
 use Rattle.link_outside.specs.declared.outside.StoreCall.{StoreCall}
 use Rattle.link_shell.specs.Causes.{Cause, cause_of, the_memory, the_store}
-use Rattle.link_shell.specs.Due.{after_puts, no_put, Put, put_of}
+use Rattle.link_shell.specs.Due.{after_puts, no_put, Put, put_of, puts}
 use Rattle.link_shell.specs.Ways.{EachFails, OneFails, PutsEach, PutsOne}
 
 -- one put more
@@ -57,3 +58,8 @@ pub puts_go : (all : List Put) (n : ℕ) (put : Put) (h0 h1 h2 : Held) → n < l
 puts_go all n put h0 h1 h2 lt e before made =
     let P : Put → Type 0 = λ p. h2 ≡ held_with p.name p.bytes h1 in
     subst P (sym e) made ∙ ap (λ (h : Held). held_with (get_or all n no_put).name (get_or all n no_put).bytes h) before ∙ sym (after_one all n h0 lt)
+
+-- what is put under the name of a plan's journal
+pub journal_put : (name : List ℕ) (journal : Option (List ℕ)) (b bytes : List ℕ) → Some name ≡ journal → b ≡ bytes
+    → puts (record { name = name; bytes = b } ∷ []) ≡ puts (record { name = unwrap_or journal []; bytes = bytes } ∷ [])
+journal_put name journal b bytes of_name of_bytes = λ i. puts (record { name = unwrap_or (of_name i) []; bytes = of_bytes i } ∷ [])

@@ -1,7 +1,7 @@
 -- Steps, and then those that their value leads to.
 use Rattle.std.proofs.Common.{◌≡◌, inl, inr, ◌++◌, ◌∷◌, [], ℕ, List, Result, Ok, Err, IsErrAnd, IsOkAnd, IfErr, refl, sym, ap, subst, ◌∙◌}
 use Rattle.link_base.specs.Answers.{and_then}
-use Rattle.link_base.specs.Fault.{IsAnswer, IsInputFault, Refuses}
+use Rattle.link_base.specs.Fault.{Gives, IsAnswer, IsInputFault, Refuses}
 use Rattle.link_base.specs.declared.fault.Fault.{Fault}
 use Rattle.link_base.specs.declared.fault.Fault.TheVariants as fault
 use Rattle.link_base.specs.declared.fault.FileRole.{FileRole}
@@ -11,7 +11,7 @@ use Rattle.settings.specs.Ranges.{IsSettingsFault}
 use Rattle.link_shell.specs.Causes.{Cause, cause_of, the_input, the_memory, the_output, the_store, the_words}
 use Rattle.link_shell.specs.Loads.{HasLoadCause, IsLoadFault, load_of, loaded, LoadGives}
 use Rattle.link_shell.specs.Seen.{StoreSeen}
-use Rattle.link_shell.specs.Steps.{◌>>=◌, ComesTo, file_within, gives, IsLoadIn, load, Might, MightLoad, outcome, Reaches, Steps, StopsBy, Takes}
+use Rattle.link_shell.specs.Steps.{◌>>=◌, ComesTo, file_within, gives, IsLoadIn, load, Might, MightLoad, outcome, Reaches, seen_by, Steps, StopsBy, Takes}
 
 abbrev ok : {T : Type 0} → T → Result T Fault
 ok x = Ok x
@@ -229,3 +229,15 @@ takes_load r limit name {store = store} {result = Ok bytes} kind content held ca
   held = held;
 }
 takes_load r limit name {store = store} {result = Err f} kind content held cause = record { goes = load_stops r limit name store f kind content cause; held = held }
+
+-- a computed step whose value is seen by a view
+pub takes_seen : {X T : Type 0} (view : X → T) (result : Result X Fault) {expected : Result T Fault} {tells : Type 0} {held : Held} {faults : List StoreCall} → IfErr result IsInputFault
+    → Gives view expected result
+    → Takes (gives expected) (record { tells = tells; held_before = held; held_after = held; faults_before = faults; faults_after = faults }) (seen_by view result)
+takes_seen view (Ok x) kind answer = takes_ok (view x) answer
+takes_seen view (Err f) {expected = expected} {tells = tells} {held = held} {faults = faults} kind answer =
+    record { goes = computes_stop expected tells held faults f kind answer; held = refl }
+
+pub seen_err : {X T : Type 0} (view : X → T) (result : Result X Fault) (f : Fault) → IsErrAnd result (λ e. e ≡ f) → IsErrAnd (seen_by view result) (λ e. e ≡ f)
+seen_err view (Ok x) f h = absurd h
+seen_err view (Err e) f h = h

@@ -4,6 +4,9 @@ use Rattle.std.specs.List.{list_all}
 use Rattle.link_shell.specs.Does.{Script}
 use Rattle.link_shell.specs.FrontierSettings.{are_frontier_words, Asked, asked_in, asked_of_request, frontier_script, is_level_word}
 use Rattle.link_shell.specs.Keys.{are_keys_words, keys_script}
+use Rattle.link_shell.specs.MigrateSettings.{are_migrate_words, migrate_script}
+use Rattle.link_shell.specs.OpenSettings.{are_open_words, open_script}
+use Rattle.link_shell.specs.ReviewSettings.{are_review_words, IsReviewRequest, NewReview, review_in, review_of_request, review_script}
 use Rattle.link_shell.specs.PairsColumns.{are_column_words, Columns, columns_in, columns_of_request, columns_script}
 use Rattle.link_shell.specs.PairsSettings.{are_settings_words, settings_script}
 use Rattle.link_shell.specs.RuleSettings.{are_rule_words, rule_script}
@@ -18,6 +21,9 @@ pub data Command : Type 0 where
   keys : List (List ℕ) → Command
   rule_of_settings : List ℕ → Command
   frontier_of_settings : Asked → Command
+  open_of_settings : List ℕ → Command
+  review_of_settings : NewReview → Command
+  migration_of_settings : List ℕ → Command
 
 -- the command that the words are a form of
 abbrev pub command_of : List (List ℕ) → Option Command
@@ -27,7 +33,10 @@ command_of words =
     else if are_settings_words words then Some (pairs_of_settings (word words 1))
     else if are_keys_words words then Some (keys (drop 1 words))
     else if are_rule_words words then Some (rule_of_settings (word words 1))
-    else if are_frontier_words words then Some (frontier_of_settings (asked_in words)) else None
+    else if are_frontier_words words then Some (frontier_of_settings (asked_in words))
+    else if are_open_words words then Some (open_of_settings (word words 1))
+    else if are_review_words words then Some (review_of_settings (review_in words))
+    else if are_migrate_words words then Some (migration_of_settings (word words 1)) else None
 
 -- the script of a command
 abbrev pub script_of : Command → Script
@@ -36,6 +45,9 @@ script_of (pairs_of_settings name) = settings_script name
 script_of (keys words) = keys_script words
 script_of (rule_of_settings name) = rule_script name
 script_of (frontier_of_settings asked) = frontier_script asked
+script_of (open_of_settings name) = open_script name
+script_of (review_of_settings review) = review_script review
+script_of (migration_of_settings name) = migrate_script name
 
 -- a command, as its words are held
 abbrev pub command_in : CommandWords → Command
@@ -44,8 +56,12 @@ command_in (words.PairsOfSettings name) = pairs_of_settings name.now
 command_in (words.Keys rest) = keys (map string_bytes rest.now)
 command_in (words.RuleOfSettings name) = rule_of_settings name.now
 command_in (words.FrontierOfSettings request) = frontier_of_settings (asked_of_request request)
+command_in (words.OpenOfSettings name) = open_of_settings name.now
+command_in (words.ReviewOfSettings request) = review_of_settings (review_of_request request)
+command_in (words.MigrationOfSettings name) = migration_of_settings name.now
 
--- the words of the levels of a frontier are levels
-abbrev pub HasLevels : CommandWords → Type 0
-HasLevels (words.FrontierOfSettings request) = list_all is_level_word (map string_bytes request.levels.now) ≡ true
-HasLevels command = ⊤
+-- words that were read keep their ranges: the levels of a frontier are levels, a review has a day and a reviewer
+abbrev pub KeepsWords : CommandWords → Type 0
+KeepsWords (words.FrontierOfSettings request) = list_all is_level_word (map string_bytes request.levels.now) ≡ true
+KeepsWords (words.ReviewOfSettings request) = IsReviewRequest request
+KeepsWords command = ⊤

@@ -4,7 +4,7 @@ use Rattle.link_base.specs.declared.fault.FileRole.TheVariants as role
 use Rattle.settings.specs.Settings.{settings}
 use Rattle.settings.specs.declared.plan.Plan.{Plan}
 use Rattle.link_limits.specs.declared.TheConstants.{MOST_POOLED_BYTES}
-use Rattle.link_core.specs.Prepared.{prepared}
+use Rattle.link_core.specs.Prepared.{prepared, PreparedView}
 use Rattle.link_core.specs.Rules.{counted_by}
 use Rattle.plan_rule.specs.PlanShares.{given_in}
 use Rattle.settings.specs.Plan.{PlainShares}
@@ -33,15 +33,26 @@ described_files name = do
   inputs ← both_files plan.file_a plan.file_b
   gives (Ok (record { plan = plan; inputs = inputs }))
 
--- the shares of a plan's fields: those of its settings, or where a sample is named those of the sample of both files; then
--- the faults of A, those of B, unreadable dates of a strict plan and the pool come before those of the sample
+-- the two files of a plan, ready to be compared: the faults of A come first, then those of B, unreadable dates of a strict plan,
+-- and the pool
+abbrev pub prepared_files : Plan → Steps PreparedView
+prepared_files plan = do
+  inputs ← both_files plan.file_a plan.file_b
+  gives (prepared plan MOST_POOLED_BYTES inputs.a inputs.b)
+
+-- the shares of a plan's fields over its prepared files: those of its settings, or where a sample is named those of the sample
+abbrev pub shares_over : Plan → PreparedView → Option (List ℕ) → Steps (List PlainShares)
+shares_over plan files None = gives (Ok (given_in plan.fields))
+shares_over plan files (Some name) = do
+  sample ← file role.Sample name
+  gives (counted_by plan files sample)
+
+-- the shares of a plan's fields; the two files are loaded only for a sample
 abbrev pub shares_of : Plan → Option (List ℕ) → Steps (List PlainShares)
 shares_of plan None = gives (Ok (given_in plan.fields))
 shares_of plan (Some name) = do
-  inputs ← both_files plan.file_a plan.file_b
-  files ← gives (prepared plan MOST_POOLED_BYTES inputs.a inputs.b)
-  sample ← file role.Sample name
-  gives (counted_by plan files sample)
+  files ← prepared_files plan
+  shares_over plan files (Some name)
 
 -- the plan of a settings file with the shares of its fields
 abbrev pub shared_plan : List ℕ → Steps Shared

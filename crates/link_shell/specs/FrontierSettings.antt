@@ -7,8 +7,7 @@ use Rattle.link_core.specs.Rules.{IsFrontierText}
 use Rattle.link_shell.specs.Does.{Script}
 use Rattle.link_shell.specs.Due.{Due, prints}
 use Rattle.link_shell.specs.Front.{shared_plan}
-use Rattle.link_shell.specs.PairsSettings.{is_settings_word}
-use Rattle.link_shell.specs.Words.{word}
+use Rattle.link_shell.specs.Words.{is_settings_word, word}
 use Rattle.link_shell.specs.declared.ends.Ended.TheVariants.{Done}
 use Rattle.link_shell.specs.declared.front.Shared.{Shared}
 use Rattle.link_shell.specs.declared.frontier_settings.FrontierRequest.{FrontierRequest}

@@ -14,3 +14,7 @@ pub mod FrontierSettings
 pub mod Commands
 pub mod Linked
 pub mod RuleSettings
+pub mod Reviewed
+pub mod OpenSettings
+pub mod MigrateSettings
+pub mod ReviewSettings

@@ -1,5 +1,5 @@
 -- The command `rule SETTINGS`: its words, its steps and what is due; the law `printed_rule_is_least` says that it is least.
-use Rattle.std.specs.Prelude.{◌≡◌, ℕ, List, length, Bool, ◌==◌, ◌&&◌, bytes_eq, codes}
+use Rattle.std.specs.Prelude.{◌≡◌, ℕ, List, Bool, codes}
 use Rattle.link_base.specs.declared.rule.RuleCell.{RuleCell}
 use Rattle.decision_rule.specs.Least.{IsLeast}
 use Rattle.link_report.specs.RuleText.{text_of_rule}
@@ -9,13 +9,12 @@ use Rattle.link_core.specs.Rules.{IsRuleText}
 use Rattle.link_shell.specs.Does.{Script}
 use Rattle.link_shell.specs.Due.{Due, prints}
 use Rattle.link_shell.specs.Front.{shared_plan}
-use Rattle.link_shell.specs.PairsSettings.{is_settings_word}
-use Rattle.link_shell.specs.Words.{word}
+use Rattle.link_shell.specs.Words.{are_verb_and_settings}
 use Rattle.link_shell.specs.declared.ends.Ended.TheVariants.{Done}
 use Rattle.link_shell.specs.declared.front.Shared.{Shared}
 
 abbrev pub are_rule_words : List (List ℕ) → Bool
-are_rule_words words = (length words == 2) && bytes_eq (word words 0) (codes "rule") && is_settings_word (word words 1)
+are_rule_words = are_verb_and_settings (codes "rule")
 
 -- the text of the plan's rule, of which there is one, is printed
 abbrev pub rule_is_printed : Shared → Due → Type 0

@@ -92,6 +92,11 @@ abbrev pub Goes : {T : Type 0} → Steps T → StoreSeen → Result T Fault → 
 Goes steps store (Ok x) = Came steps store (Ok x)
 Goes steps store (Err f) = StopsBy (cause_of f) steps store f
 
+-- a result, its value seen by a view
+abbrev pub seen_by : {X T : Type 0} → (X → T) → Result X Fault → Result T Fault
+seen_by view (Ok x) = Ok (view x)
+seen_by view (Err f) = Err f
+
 -- a call goes through these steps, and gives what they come to; no name holds anything else than it did
 pub record Takes {T : Type 0} (steps : Steps T) (store : StoreSeen) (result : Result T Fault) : Type 0 where
   pub goes : Goes steps store result

@@ -1,11 +1,20 @@
 -- The words of a command.
-use Rattle.std.specs.Prelude.{ℕ, List, length, Bool, ◌&&◌, nat_le, slice_index_or, []}
+use Rattle.std.specs.Prelude.{ℕ, List, length, Bool, ◌==◌, ◌&&◌, not, nat_le, bytes_eq, slice_index_or, []}
 use Rattle.link_limits.specs.declared.TheConstants.{MOST_NAME_BYTES}
+use Rattle.settings.specs.Values.{is_output}
 
--- a file, a column: 1 to 255 bytes
+-- a file, a column, a reviewer: 1 to 255 bytes
 abbrev pub is_short_word : List ℕ → Bool
 is_short_word word = nat_le 1 (length word) && nat_le (length word) MOST_NAME_BYTES
+
+-- a settings file: 1 to 255 bytes, and none of the files that a run writes
+abbrev pub is_settings_word : List ℕ → Bool
+is_settings_word word = is_short_word word && not (is_output word)
 
 -- the word at a place
 abbrev pub word : List (List ℕ) → ℕ → List ℕ
 word words at = slice_index_or words at []
+
+-- a verb, and the settings file that is all it takes
+abbrev pub are_verb_and_settings : List ℕ → List (List ℕ) → Bool
+are_verb_and_settings verb words = (length words == 2) && bytes_eq (word words 0) verb && is_settings_word (word words 1)

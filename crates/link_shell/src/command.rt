@@ -1,7 +1,7 @@
 // The top calls.
 ghost use Rattle.std.specs.Prelude.{◌≡◌, IfSome, map, option_map, Result, string_bytes};
 ghost use Rattle.link_base.specs.declared.fault.Fault.{Fault as AnyFault};
-ghost use Rattle.link_shell.specs.Commands.{command_in, command_of, HasLevels};
+ghost use Rattle.link_shell.specs.Commands.{command_in, command_of, KeepsWords};
 ghost use Rattle.link_shell.specs.Linked.{Follows, Performed, Reported};
 ghost use Rattle.link_shell.specs.Seen.{sink_seen, store_seen};
 ghost use Rattle.link_shell.specs.declared.ends.Ended.{Ended as AnyEnded};
@@ -9,7 +9,11 @@ ghost use Rattle.link_shell.specs.declared.ends.Ended.{Ended as AnyEnded};
 use crate::ends::Ended;
 use crate::frontier_settings::FrontierRequest;
 use crate::pairs_columns::ColumnRequest;
-use crate::{frontier_settings, keys, pairs_columns, pairs_settings, rule_settings};
+use crate::review_settings::ReviewRequest;
+use crate::{
+    frontier_settings, keys, migrate_settings, open_settings, pairs_columns, pairs_settings,
+    review_settings, rule_settings,
+};
 use link_base::{Fault, status_of};
 use link_outside::{Sink, SinkError, Store, write_fault};
 use std::alloc::Global;
@@ -25,12 +29,17 @@ pub(crate) enum Command<'w> {
     // The name of the settings file.
     RuleOfSettings(&'w str),
     FrontierOfSettings(FrontierRequest<'w>),
+    // The name of the settings file.
+    OpenOfSettings(&'w str),
+    ReviewOfSettings(ReviewRequest<'w>),
+    // The name of the settings file.
+    MigrationOfSettings(&'w str),
 }
 
 // The command that the words are a form of.
 fn read_command(words: &[String]) -> Option<Command<'_>>
     ensures command { option_map command_in result ≡ command_of (map string_bytes words.now) }
-    ensures levels { IfSome result HasLevels }
+    ensures ranges { IfSome result KeepsWords }
 {
     match pairs_columns::read(words) {
         Some(request) => return Some(Command::PairsOfColumns(request)),
@@ -50,6 +59,18 @@ fn read_command(words: &[String]) -> Option<Command<'_>>
     }
     match frontier_settings::read(words) {
         Some(request) => return Some(Command::FrontierOfSettings(request)),
+        None => {}
+    }
+    match open_settings::read(words) {
+        Some(name) => return Some(Command::OpenOfSettings(name)),
+        None => {}
+    }
+    match review_settings::read(words) {
+        Some(request) => return Some(Command::ReviewOfSettings(request)),
+        None => {}
+    }
+    match migrate_settings::read(words) {
+        Some(name) => return Some(Command::MigrationOfSettings(name)),
         None => return None,
     }
 }
@@ -72,6 +93,13 @@ fn follow<S: Store, O: Sink>(
         Some(Command::RuleOfSettings(name)) => rule_settings::perform(alloc, name, store, out),
         Some(Command::FrontierOfSettings(request)) => frontier_settings::perform(
             alloc, &request, store, out,
+        ),
+        Some(Command::OpenOfSettings(name)) => open_settings::perform(alloc, name, store, out),
+        Some(Command::ReviewOfSettings(request)) => review_settings::perform(
+            alloc, &request, store, out,
+        ),
+        Some(Command::MigrationOfSettings(name)) => migrate_settings::perform(
+            alloc, name, store, out,
         ),
         None => Err(Fault::Usage),
     }

@@ -1,15 +1,17 @@
 // What several commands load at their front.
-ghost use Rattle.std.specs.Prelude.{◌≡◌, IfOk, IsUtf8, Some};
-ghost use Rattle.link_core.specs.Rules.{shared_rares};
-ghost use Rattle.link_shell.specs.Front.{both_files, described_files, plan_file, shared_plan, shares_of};
+ghost use Rattle.std.specs.Prelude.{◌≡◌, IfErr, IfOk, IsUtf8, None, Ok, Some};
+ghost use Rattle.link_base.specs.Fault.{IsAnswer, IsInputFault};
+ghost use Rattle.link_core.specs.Rules.{IsPreparedFor, shared_rares};
+ghost use Rattle.link_shell.specs.Front.{both_files, described_files, plan_file, prepared_files, shared_plan, shares_of, shares_over};
 ghost use Rattle.plan_rule.specs.Comparators.{rares_of};
+ghost use Rattle.plan_rule.specs.PlanShares.{given_in};
 ghost use Rattle.link_shell.specs.Seen.{store_seen};
 ghost use Rattle.link_shell.specs.Steps.{Takes};
 ghost use Rattle.settings.specs.Ranges.{KeepsRanges, NamesFiles};
 
 use crate::load::load_file;
 use link_base::{Fault, FileRole, NoMemory, Text};
-use link_core::{PlanShares, counted, prepare};
+use link_core::{PlanShares, Prepared, counted, prepare};
 use link_limits::MOST_POOLED_BYTES;
 use link_outside::Store;
 use settings::{Plan, read_settings};
@@ -44,7 +46,7 @@ pub(crate) fn load_both<S: Store>(
 }
 
 // Loads a settings file and reads its plan.
-fn load_plan<S: Store>(alloc: Global, store: &mut S, name: &str) -> Result<Plan, Fault>
+pub(crate) fn load_plan<S: Store>(alloc: Global, store: &mut S, name: &str) -> Result<Plan, Fault>
     ensures takes { Takes (plan_file name.now) (store_seen S.tells S.held S.faults store.old store.new) result }
     ensures ranges { IfOk result KeepsRanges }
     ensures files { IfOk result NamesFiles }
@@ -54,7 +56,7 @@ fn load_plan<S: Store>(alloc: Global, store: &mut S, name: &str) -> Result<Plan,
 }
 
 // The name of a file, which is UTF-8.
-fn file_name(name: &Text) -> &str
+pub(crate) fn file_name(name: &Text) -> &str
     requires { IsUtf8 name.now }
     ensures { result.now ≡ name.now }
 {
@@ -91,15 +93,46 @@ pub(crate) fn load_described<S: Store>(
     Ok(Described { plan, inputs })
 }
 
-/// The plan of a settings file, with the shares of its fields.
-#[derive(Drop)]
-pub(crate) struct Shared {
-    pub(crate) plan: Plan,
-    pub(crate) shares: PlanShares,
+// Loads the two files of a plan, and makes them ready to be compared.
+pub(crate) fn load_prepared<S: Store>(
+    alloc: Global,
+    store: &mut S,
+    plan: &Plan,
+) -> Result<Prepared, Fault>
+    requires ranges { KeepsRanges plan.now }
+    requires files { NamesFiles plan.now }
+    ensures takes { Takes (prepared_files plan.now) (store_seen S.tells S.held S.faults store.old store.new) result }
+    ensures ready { IfOk result (IsPreparedFor plan.now) }
+{
+    let inputs = load_files(alloc, store, plan)?;
+    prepare(
+        alloc,
+        plan,
+        inputs.a.bytes(),
+        inputs.b.bytes(),
+        MOST_POOLED_BYTES,
+    )
+}
+
+// Counts the sample of a plan, which has this name, over the prepared files of the plan.
+fn count_named<S: Store>(
+    alloc: Global,
+    store: &mut S,
+    plan: &Plan,
+    files: &Prepared,
+    name: &str,
+) -> Result<PlanShares, Fault>
+    requires ranges { KeepsRanges plan.now }
+    requires ready { IsPreparedFor plan.now files.now }
+    ensures takes { Takes (shares_over plan.now files.now (Some name.now)) (store_seen S.tells S.held S.faults store.old store.new) result }
+    ensures rares { IfOk result (λ shares. shared_rares shares ≡ rares_of plan.now.fields) }
+{
+    let sample = load_file(alloc, store, name, FileRole::Sample)?;
+    counted(alloc, plan, files, sample.bytes())
 }
 
 // Counts the sample of a plan, which has this name, over the two files of the plan.
-fn count_named<S: Store>(
+fn count_loaded<S: Store>(
     alloc: Global,
     store: &mut S,
     plan: &Plan,
@@ -110,19 +143,25 @@ fn count_named<S: Store>(
     ensures takes { Takes (shares_of plan.now (Some name.now)) (store_seen S.tells S.held S.faults store.old store.new) result }
     ensures rares { IfOk result (λ shares. shared_rares shares ≡ rares_of plan.now.fields) }
 {
-    let inputs = load_files(alloc, store, plan)?;
-    let files = prepare(
-        alloc,
-        plan,
-        inputs.a.bytes(),
-        inputs.b.bytes(),
-        MOST_POOLED_BYTES,
-    )?;
-    let sample = load_file(alloc, store, name, FileRole::Sample)?;
-    counted(alloc, plan, &files, sample.bytes())
+    let files = load_prepared(alloc, store, plan)?;
+    count_named(alloc, store, plan, &files, name)
 }
 
-// The shares of a plan's fields.
+// Loads no file: the shares are those of the settings.
+fn shares_given(alloc: Global, plan: &Plan) -> Result<PlanShares, Fault>
+    requires ranges { KeepsRanges plan.now }
+    requires no_sample { plan.now.sample ≡ None }
+    ensures kind { IfErr result IsInputFault }
+    ensures answer { IsAnswer (Ok (given_in plan.now.fields)) result }
+    ensures rares { IfOk result (λ shares. shared_rares shares ≡ rares_of plan.now.fields) }
+{
+    match PlanShares::given(alloc, plan) {
+        Ok(shares) => Ok(shares),
+        Err(NoMemory) => Err(Fault::NoMemory),
+    }
+}
+
+// The shares of a plan's fields; only for a sample are its files loaded.
 fn load_shares<S: Store>(alloc: Global, store: &mut S, plan: &Plan) -> Result<PlanShares, Fault>
     requires ranges { KeepsRanges plan.now }
     requires files { NamesFiles plan.now }
@@ -130,12 +169,35 @@ fn load_shares<S: Store>(alloc: Global, store: &mut S, plan: &Plan) -> Result<Pl
     ensures rares { IfOk result (λ shares. shared_rares shares ≡ rares_of plan.now.fields) }
 {
     match &plan.sample {
-        Some(name) => count_named(alloc, store, plan, file_name(name)),
-        None => match PlanShares::given(alloc, plan) {
-            Ok(shares) => Ok(shares),
-            Err(NoMemory) => Err(Fault::NoMemory),
-        },
+        Some(name) => count_loaded(alloc, store, plan, file_name(name)),
+        None => shares_given(alloc, plan),
     }
+}
+
+// The shares of a plan's fields over its prepared files.
+pub(crate) fn load_shares_over<S: Store>(
+    alloc: Global,
+    store: &mut S,
+    plan: &Plan,
+    files: &Prepared,
+) -> Result<PlanShares, Fault>
+    requires ranges { KeepsRanges plan.now }
+    requires names { NamesFiles plan.now }
+    requires ready { IsPreparedFor plan.now files.now }
+    ensures takes { Takes (shares_over plan.now files.now plan.now.sample) (store_seen S.tells S.held S.faults store.old store.new) result }
+    ensures rares { IfOk result (λ shares. shared_rares shares ≡ rares_of plan.now.fields) }
+{
+    match &plan.sample {
+        Some(name) => count_named(alloc, store, plan, files, file_name(name)),
+        None => shares_given(alloc, plan),
+    }
+}
+
+/// The plan of a settings file, with the shares of its fields.
+#[derive(Drop)]
+pub(crate) struct Shared {
+    pub(crate) plan: Plan,
+    pub(crate) shares: PlanShares,
 }
 
 // Loads a settings file, and finds the shares of its fields.

@@ -8,8 +8,12 @@ mod front;
 mod frontier_settings;
 mod keys;
 mod load;
+mod migrate_settings;
+mod open_settings;
 mod pairs_columns;
 mod pairs_settings;
+mod review_settings;
+mod reviewed;
 mod rule_settings;
 mod words;
 

@@ -6,7 +6,7 @@ ghost use Rattle.link_shell.specs.Seen.{sink_seen, store_seen};
 
 use crate::ends::{Ended, print};
 use crate::front::load_described;
-use crate::words::{is_settings, word_at};
+use crate::words::settings_after;
 use link_base::Fault;
 use link_core::pair_ids;
 use link_limits::MOST_POOLED_BYTES;
@@ -18,11 +18,7 @@ pub(crate) fn read(words: &[String]) -> Option<&str>
     ensures some { is_some result ≡ are_settings_words (map string_bytes words.now) }
     ensures name { IfSome result (λ name. name.now ≡ slice_index_or (map string_bytes words.now) 1 []) }
 {
-    if words.len() != 2 || word_at(words, 0) != "pairs" {
-        return None;
-    }
-    let name = word_at(words, 1);
-    if is_settings(name) { Some(name) } else { None }
+    settings_after(words, "pairs")
 }
 
 // Follows the script.

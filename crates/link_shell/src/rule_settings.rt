@@ -8,7 +8,7 @@ ghost use Rattle.link_shell.specs.declared.front.Shared.{Shared as AnyShared};
 
 use crate::ends::{Ended, print};
 use crate::front::load_shared;
-use crate::words::{is_settings, word_at};
+use crate::words::settings_after;
 use link_base::Fault;
 use link_core::rule_lines;
 use link_outside::{Sink, Store};
@@ -25,11 +25,7 @@ pub(crate) fn read(words: &[String]) -> Option<&str>
     ensures some { is_some result ≡ are_rule_words (map string_bytes words.now) }
     ensures name { IfSome result (λ name. name.now ≡ slice_index_or (map string_bytes words.now) 1 []) }
 {
-    if words.len() != 2 || word_at(words, 0) != "rule" {
-        return None;
-    }
-    let name = word_at(words, 1);
-    if is_settings(name) { Some(name) } else { None }
+    settings_after(words, "rule")
 }
 
 // Follows the script.

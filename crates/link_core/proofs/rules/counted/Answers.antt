@@ -1,4 +1,4 @@
-use Rattle.std.proofs.Common.{◌∙◌, ap, List, ℕ, subst, sym, length}
+use Rattle.std.proofs.Common.{◌∙◌, ap, List, subst, sym, length}
 use Rattle.comparators.specs.declared.ids.IdValue.{IdValue}
 use Rattle.pooled_values.specs.Ready.{AreFileSides}
 use Rattle.link_core.proofs.RuleLemmas.{rares_seen, sides_of_plan}

@@ -1,0 +1,53 @@
+-- The decisions of a plan's rule on the compared pairs of its prepared files (Fellegi and Sunter 1969, section 2). `decide_all`
+-- carries them (clause `answer`, by `decided`), and says what later steps need (`IsDecidedIn`).
+use Rattle.std.specs.Prelude.{◌≡◌, ℕ, List, All, AllPairs, length, Result, Ok}
+use Rattle.link_base.specs.Answers.{and_then}
+use Rattle.link_base.specs.declared.fault.Fault.{Fault}
+use Rattle.link_base.specs.declared.rule.Decision.TheVariants.{Link, Possible}
+use Rattle.link_base.specs.declared.rule.PairAt.{PairAt}
+use Rattle.pair_decisions.specs.Decisions.{DecidedView, pairs_with}
+use Rattle.pair_decisions.specs.PairRule.{AreSidesFor, side_rule, side_rule_of, SideRule}
+use Rattle.pair_decisions.specs.Pairs.{IsInside, IsPairBefore}
+use Rattle.plan_rule.specs.TheRule.{the_rule}
+use Rattle.settings.specs.Plan.{PlainShares}
+use Rattle.settings.specs.declared.plan.Plan.{Plan}
+use Rattle.link_core.specs.Pairs.{plan_pairs}
+use Rattle.link_core.specs.Prepared.{PreparedView}
+
+-- the rule of a plan for these shares, over what the rows of its files are compared by
+abbrev pub rule_over : Plan → PreparedView → List PlainShares → SideRule
+rule_over plan p shares =
+    side_rule_of plan (length p.values.texts) p.values.a.rows p.values.b.rows (the_rule plan.mu_ppm plan.lambda_ppm shares)
+
+-- decisions: the rule, how many pairs were compared, the links and the possible links
+pub record Decisions : Type 0 where
+  pub rule : SideRule
+  pub compared : ℕ
+  pub links : List PairAt
+  pub possible : List PairAt
+
+abbrev pub decisions_of : DecidedView → Decisions
+decisions_of d = record { rule = side_rule d.rule; compared = d.compared; links = d.links; possible = d.possible }
+
+-- the decisions of a rule on these pairs
+abbrev pub decided_by : SideRule → PreparedView → List PairAt → Decisions
+decided_by rule p pairs = record {
+  rule = rule;
+  compared = length pairs;
+  links = pairs_with Link rule p.values.a.rows p.values.b.rows pairs;
+  possible = pairs_with Possible rule p.values.a.rows p.values.b.rows pairs;
+}
+
+-- the decisions of a plan's rule on the compared pairs, where these are not too many
+abbrev pub decided : Plan → PreparedView → List PlainShares → Result Decisions Fault
+decided plan p shares = and_then (plan_pairs plan p.files) (λ pairs. Ok (decided_by (rule_over plan p shares) p pairs))
+
+-- decisions are of these files: the rule reads what their rows are compared by, and the pairs stand in them, rising
+pub record IsDecidedIn (p : PreparedView) (d : DecidedView) : Type 0 where
+  pub rows_a : length p.values.a.rows ≡ length p.files.a.records
+  pub rows_b : length p.values.b.rows ≡ length p.files.b.records
+  pub sides_a : All (AreSidesFor d.rule) p.values.a.rows
+  pub sides_b : All (AreSidesFor d.rule) p.values.b.rows
+  pub links : All (IsInside (length p.files.a.records) (length p.files.b.records)) d.links
+  pub possible : All (IsInside (length p.files.a.records) (length p.files.b.records)) d.possible
+  pub rising : AllPairs IsPairBefore d.possible

@@ -1,0 +1,77 @@
+-- What clerical review makes of a journal over prepared files: its entries (`journal_in_files`), its text (`journal_lines`),
+-- its text with new verdicts (`add_verdicts`), each by its clause `answer`, and what is open (`open_lines`).
+use Rattle.std.specs.Prelude.{ℕ, ℤ, List, Bool, true, false, filter, length, map, nat_le, if◌then◌else◌, Option, Some, None, Result, Ok, Err, All}
+use Rattle.link_limits.specs.declared.TheConstants.{MOST_FILE_BYTES}
+use Rattle.link_base.specs.Answers.{and_then}
+use Rattle.link_base.specs.declared.fault.Fault.{Fault}
+use Rattle.link_base.specs.declared.fault.Fault.TheVariants as fault
+use Rattle.link_base.specs.declared.fault.FileRole.TheVariants as role
+use Rattle.link_base.specs.declared.rule.Decision.TheVariants.{Possible}
+use Rattle.link_base.specs.declared.rule.PairAt.{PairAt}
+use Rattle.link_base.specs.declared.rule.Verdict.{Verdict}
+use Rattle.link_base.specs.declared.rule.Verdict.TheVariants.{Undecided}
+use Rattle.review_journal.specs.Adding.{added}
+use Rattle.review_journal.specs.Journal.{IsWithinFiles}
+use Rattle.review_journal.specs.Verdict.{verdict_on}
+use Rattle.review_journal.specs.declared.entry.Entry.{Entry}
+use Rattle.journal_files.specs.Batch.{verdicts_of}
+use Rattle.journal_files.specs.Reading.{journal_in}
+use Rattle.journal_files.specs.Text.{text_of_journal}
+use Rattle.link_report.specs.OpenText.{text_of_open}
+use Rattle.link_report.specs.declared.open.PairRow.{PairRow}
+use Rattle.pair_decisions.specs.Decisions.{pattern_at}
+use Rattle.pair_decisions.specs.PairRule.{cell_of}
+use Rattle.link_core.specs.Decisions.{Decisions}
+use Rattle.link_core.specs.Prepared.{PreparedView}
+
+-- the journal in these bytes, over prepared files
+abbrev pub journal_of : PreparedView → List ℕ → Result (List Entry) Fault
+journal_of p bytes = journal_in p.files.a.records p.files.b.records bytes
+
+-- the entries are on pairs of these files
+abbrev pub IsJournalOf : PreparedView → List Entry → Type 0
+IsJournalOf p entries = All (IsWithinFiles (length p.files.a.records) (length p.files.b.records)) entries
+
+-- a text of a journal that can be loaded again
+abbrev pub text_within : List ℕ → Result (List ℕ) Fault
+text_within text = if nat_le (length text) MOST_FILE_BYTES then Ok text else Err (fault.FileTooLong role.Journal MOST_FILE_BYTES)
+
+-- the text of a journal over prepared files
+abbrev pub journal_lines_of : PreparedView → List Entry → Result (List ℕ) Fault
+journal_lines_of p entries = text_within (text_of_journal p.files.a.records p.files.b.records entries)
+
+-- the text of a journal with the new verdicts in these bytes
+abbrev pub reviewed_lines_of : Bool → ℤ → List ℕ → PreparedView → List PairAt → List Entry → List ℕ → Result (List ℕ) Fault
+reviewed_lines_of double date reviewer p possible entries bytes =
+    and_then (verdicts_of p.files.a.records p.files.b.records bytes) (λ batch.
+    and_then (added double date reviewer possible entries batch) (λ all.
+    journal_lines_of p all))
+
+-- a pair is open: no entry names it, or its verdict is none yet
+abbrev pub is_open : Option Verdict → Bool
+is_open None = true
+is_open (Some Undecided) = true
+is_open (Some v) = false
+
+-- the possible links that are open
+abbrev pub open_pairs : List Entry → List PairAt → List PairAt
+open_pairs entries possible = filter (λ (at : PairAt). is_open (verdict_on entries at.a at.b)) possible
+
+-- a possible link with its pattern, the weight of the pattern's cell, and its verdict
+abbrev pub open_row_of : PreparedView → Decisions → List Entry → PairAt → PairRow
+open_row_of p d entries at =
+    let pattern = pattern_at d.rule p.values.a.rows p.values.b.rows at in
+    record {
+      at = at;
+      pattern = pattern;
+      weight = (cell_of d.rule.cells pattern).weight;
+      decision = Possible;
+      verdict = verdict_on entries at.a at.b;
+    }
+
+-- the rows of what is open, rising, and their text
+abbrev pub open_rows_of : PreparedView → Decisions → List Entry → List PairRow
+open_rows_of p d entries = map (open_row_of p d entries) (open_pairs entries d.possible)
+
+abbrev pub open_text_of : PreparedView → Decisions → List Entry → List ℕ
+open_text_of p d entries = text_of_open p.files.a.records p.files.b.records (open_rows_of p d entries)

@@ -1,0 +1,72 @@
+// The decisions on the compared pairs of a plan.
+ghost use Rattle.std.specs.Prelude.{◌≡◌, All, IfErr, IfOk};
+ghost use Rattle.link_base.specs.Fault.{Gives, IsInputFault};
+ghost use Rattle.link_core.specs.Decisions.{decided, decisions_of, IsDecidedIn, rule_over};
+ghost use Rattle.link_core.specs.Rules.{IsPreparedFor, shared_rares};
+ghost use Rattle.pair_decisions.specs.PairRule.{AreSidesFor, side_rule};
+ghost use Rattle.plan_rule.specs.Comparators.{rares_of};
+ghost use Rattle.settings.specs.Ranges.{KeepsRanges};
+
+use crate::preparing::Prepared;
+use crate::rules::PlanShares;
+use link_base::{Fault, FileRole, NoMemory};
+use pair_decisions::{Decided, PairRule, decide_pairs, rule_has_patterns};
+use plan_rule::{is_the_rule, rule_of_shares};
+use settings::Plan;
+use std::alloc::Global;
+
+// The rule of a plan for these shares, over its prepared files.
+fn rule_for(
+    alloc: Global,
+    plan: &Plan,
+    prepared: &Prepared,
+    shares: &PlanShares,
+) -> Result<PairRule, NoMemory>
+    requires ranges { KeepsRanges plan.now }
+    requires ready { IsPreparedFor plan.now prepared.now }
+    requires rares { shared_rares shares.now ≡ rares_of plan.now.fields }
+    ensures rule { IfOk result (λ rule. side_rule rule ≡ rule_over plan.now prepared.now shares.now) }
+    ensures sides_a { IfOk result (λ rule. All (AreSidesFor rule) prepared.now.values.a.rows) }
+    ensures sides_b { IfOk result (λ rule. All (AreSidesFor rule) prepared.now.values.b.rows) }
+{
+    let table = rule_of_shares(alloc, plan, shares.fields())?;
+    rule_has_patterns();
+    is_the_rule();
+    PairRule::new(
+        alloc,
+        plan,
+        table,
+        prepared.pool().len(),
+        prepared.sides(FileRole::A),
+        prepared.sides(FileRole::B),
+    )
+}
+
+/// The decisions of a plan's rule for these shares on the compared pairs of its prepared files: the rule is the filled table at
+/// the levels that the plan asks for, and each pair is a link, a possible link or a non-link by the cell of its comparison
+/// pattern and its border word. Refused as too many pairs exactly where there are more than `MOST_PAIRS`.
+pub fn decide_all(
+    alloc: Global,
+    plan: &Plan,
+    prepared: &Prepared,
+    shares: &PlanShares,
+) -> Result<Decided, Fault>
+    requires ranges { KeepsRanges plan.now }
+    requires ready { IsPreparedFor plan.now prepared.now }
+    requires rares { shared_rares shares.now ≡ rares_of plan.now.fields }
+    ensures kind { IfErr result IsInputFault }
+    ensures answer { Gives decisions_of (decided plan.now prepared.now shares.now) result }
+    ensures of_files { IfOk result (IsDecidedIn prepared.now) }
+{
+    let rule = rule_for(alloc, plan, prepared, shares)?;
+    decide_pairs(
+        alloc,
+        plan,
+        rule,
+        prepared.a(),
+        prepared.b(),
+        prepared.pool(),
+        prepared.sides(FileRole::A),
+        prepared.sides(FileRole::B),
+    )
+}

@@ -1,0 +1,23 @@
+-- The command `open SETTINGS`: the possible links that wait for a verdict.
+use Rattle.std.specs.Prelude.{ℕ, List, Bool, codes, Ok}
+use Rattle.link_core.specs.Review.{open_text_of}
+use Rattle.link_shell.specs.Does.{Script}
+use Rattle.link_shell.specs.Due.{is_printed}
+use Rattle.link_shell.specs.Front.{plan_file}
+use Rattle.link_shell.specs.Reviewed.{reviewed_plan}
+use Rattle.link_shell.specs.Steps.{◌>>=◌, gives}
+use Rattle.link_shell.specs.Words.{are_verb_and_settings}
+
+abbrev pub are_open_words : List (List ℕ) → Bool
+are_open_words = are_verb_and_settings (codes "open")
+
+-- the plan, the decisions of its rule on the compared pairs, the journal, and then the text of what is open
+abbrev pub open_script : List ℕ → Script
+open_script name = record {
+  Found = List ℕ;
+  steps = do
+    plan ← plan_file name
+    reviewed ← reviewed_plan plan
+    gives (Ok (open_text_of reviewed.files reviewed.decided reviewed.journal));
+  due = is_printed;
+}

@@ -1,0 +1,58 @@
+-- The command `review SETTINGS VERDICTS DATE REVIEWER`: new verdicts on possible links, added to the journal.
+use Rattle.std.specs.Prelude.{◌≡◌, ◌∷◌, [], ℕ, ℤ, pos, List, length, Bool, ◌==◌, ◌&&◌, bytes_eq, codes, is_some, unwrap_or, Ok}
+use Rattle.link_base.specs.Standard.{IsDay}
+use Rattle.review_journal.specs.Journal.{IsReviewer}
+use Rattle.value_forms.specs.Days.{iso_day}
+use Rattle.link_core.specs.Review.{reviewed_lines_of}
+use Rattle.link_shell.specs.Does.{Script}
+use Rattle.link_shell.specs.Due.{Due, Put, puts}
+use Rattle.link_shell.specs.Reviewed.{journal_plan, named_journal, reviewed_plan}
+use Rattle.link_base.specs.declared.fault.FileRole.TheVariants as role
+use Rattle.link_shell.specs.MigrateSettings.{is_put}
+use Rattle.link_shell.specs.Steps.{◌>>=◌, file, gives}
+use Rattle.link_shell.specs.Words.{is_settings_word, is_short_word, word}
+use Rattle.link_shell.specs.declared.review_settings.ReviewRequest.{ReviewRequest}
+
+-- a settings file, a file of verdicts, a civil date as YYYY-MM-DD, and a reviewer
+abbrev pub are_review_words : List (List ℕ) → Bool
+are_review_words words =
+    (length words == 5) && bytes_eq (word words 0) (codes "review") && is_settings_word (word words 1) && is_short_word (word words 2)
+    && is_some (iso_day (word words 3)) && is_short_word (word words 4)
+
+-- the files, the day, and the reviewer
+pub record NewReview : Type 0 where
+  pub name : List ℕ
+  pub verdicts : List ℕ
+  pub date : ℤ
+  pub reviewer : List ℕ
+
+abbrev pub review_in : List (List ℕ) → NewReview
+review_in words = record {
+  name = word words 1;
+  verdicts = word words 2;
+  date = unwrap_or (iso_day (word words 3)) (pos 0);
+  reviewer = word words 4;
+}
+
+-- the words as they are held
+abbrev pub review_of_request : ReviewRequest → NewReview
+review_of_request r = record { name = r.name.now; verdicts = r.verdicts.now; date = r.date; reviewer = r.reviewer.now }
+
+-- the day is one of the years 0001 to 9999, and the reviewer has a name
+pub record IsReviewRequest (r : ReviewRequest) : Type 0 where
+  pub day : IsDay r.date
+  pub reviewer : IsReviewer r.reviewer.now
+
+-- the plan, which names a journal, the decisions of its rule on the compared pairs, the journal, the new verdicts, and the text of
+-- both within the limit of a file
+abbrev pub review_script : NewReview → Script
+review_script w = record {
+  Found = Put;
+  steps = do
+    plan ← journal_plan w.name
+    reviewed ← reviewed_plan plan
+    verdicts ← file role.Verdicts w.verdicts
+    text ← gives (reviewed_lines_of plan.double w.date w.reviewer reviewed.files reviewed.decided.possible reviewed.journal verdicts)
+    gives (Ok (record { name = named_journal plan; bytes = text }));
+  due = is_put;
+}

@@ -1,0 +1,56 @@
+-- What several commands find of a plan that clerical review goes on with: the decisions of its rule, and its journal.
+use Rattle.std.specs.Prelude.{ℕ, List, [], codes, is_some, unwrap_or, Option, Some, None, Result, Ok, Err, if◌then◌else◌}
+use Rattle.link_base.specs.declared.fault.Fault.{Fault}
+use Rattle.link_base.specs.declared.fault.Fault.TheVariants as fault
+use Rattle.link_base.specs.declared.fault.FileRole.TheVariants as role
+use Rattle.settings.specs.declared.plan.Plan.{Plan}
+use Rattle.review_journal.specs.declared.entry.Entry.{Entry}
+use Rattle.link_core.specs.Decisions.{decided, Decisions, decisions_of}
+use Rattle.link_core.specs.Prepared.{PreparedView}
+use Rattle.link_core.specs.Review.{journal_of}
+use Rattle.link_shell.specs.Front.{plan_file, prepared_files, shares_over}
+use Rattle.link_shell.specs.Steps.{◌>>=◌, file, gives, Steps}
+use Rattle.link_shell.specs.declared.reviewed.Reviewed.{Reviewed}
+
+-- the prepared files of a plan, the decisions on their compared pairs, and the entries of the journal
+pub record Review : Type 0 where
+  pub files : PreparedView
+  pub decided : Decisions
+  pub journal : List Entry
+
+abbrev pub review_of : Reviewed → Review
+review_of r = record { files = r.files; decided = decisions_of r.decided; journal = r.journal }
+
+-- the decisions of a plan's rule on the compared pairs of its prepared files: the faults of the sample come before too many pairs
+abbrev pub decided_over : Plan → PreparedView → Steps Decisions
+decided_over plan files = do
+  shares ← shares_over plan files plan.sample
+  gives (decided plan files shares)
+
+-- the entries of the journal that a plan names, over its prepared files
+abbrev pub journal_file : PreparedView → Option (List ℕ) → Steps (List Entry)
+journal_file files None = gives (Ok [])
+journal_file files (Some name) = do
+  bytes ← file role.Journal name
+  gives (journal_of files bytes)
+
+-- the files of a plan with the decisions of its rule on the compared pairs, and the entries of its journal
+abbrev pub reviewed_plan : Plan → Steps Review
+reviewed_plan plan = do
+  files ← prepared_files plan
+  decided ← decided_over plan files
+  journal ← journal_file files plan.journal
+  gives (Ok (record { files = files; decided = decided; journal = journal }))
+
+-- a plan that names a journal
+abbrev pub with_journal : Plan → Result Plan Fault
+with_journal plan = if is_some plan.journal then Ok plan else Err (fault.MissingKey (codes "journal"))
+
+-- the plan of a settings file that must name a journal; that it does is tested after all other keys
+abbrev pub journal_plan : List ℕ → Steps Plan
+journal_plan name = do
+  plan ← plan_file name
+  gives (with_journal plan)
+
+abbrev pub named_journal : Plan → List ℕ
+named_journal plan = unwrap_or plan.journal []

@@ -1,0 +1,81 @@
+// The command `review SETTINGS VERDICTS DATE REVIEWER`.
+ghost use Rattle.std.specs.Prelude.{◌≡◌, IfSome, is_some, map, option_map, string_bytes, Some};
+ghost use Rattle.link_base.specs.Standard.{IsDay};
+ghost use Rattle.link_shell.specs.Does.{Does};
+ghost use Rattle.link_shell.specs.ReviewSettings.{are_review_words, IsReviewRequest, review_in, review_of_request, review_script};
+ghost use Rattle.link_shell.specs.Seen.{sink_seen, store_seen};
+
+use crate::ends::{Ended, Output, put_each};
+use crate::load::load_file;
+use crate::reviewed::{journal_name, load_journal_plan, load_reviewed};
+use crate::words::{is_settings, is_short, word_at};
+use link_base::{Fault, FileRole};
+use link_core::add_verdicts;
+use link_outside::{Sink, Store};
+use std::alloc::Global;
+use value_forms::read_iso;
+
+/// A settings file, a file of verdicts, their day, counted from 1970-01-01, and their reviewer.
+#[derive(Clone, Copy, Debug)]
+pub(crate) struct ReviewRequest<'w> {
+    pub(crate) name: &'w str,
+    pub(crate) verdicts: &'w str,
+    pub(crate) date: i32,
+    pub(crate) reviewer: &'w str,
+}
+
+// Reads the words.
+pub(crate) fn read(words: &[String]) -> Option<ReviewRequest<'_>>
+    ensures some { is_some result ≡ are_review_words (map string_bytes words.now) }
+    ensures review { IfSome result (λ r. review_of_request r ≡ review_in (map string_bytes words.now)) }
+    ensures valid { IfSome result IsReviewRequest }
+{
+    if words.len() != 5 || word_at(words, 0) != "review" {
+        return None;
+    }
+    let name = word_at(words, 1);
+    let verdicts = word_at(words, 2);
+    let reviewer = word_at(words, 4);
+    if !is_settings(name) || !is_short(verdicts) || !is_short(reviewer) {
+        return None;
+    }
+    match read_iso(word_at(words, 3).as_bytes()) {
+        Some(date) => Some(ReviewRequest {
+            name,
+            verdicts,
+            date,
+            reviewer,
+        }),
+        None => None,
+    }
+}
+
+// Follows the script.
+pub(crate) fn perform<S: Store, O: Sink>(
+    alloc: Global,
+    request: &ReviewRequest<'_>,
+    store: &mut S,
+    out: &mut O,
+) -> Result<Ended, Fault>
+    requires { IsReviewRequest request.now }
+    ensures { Does (review_script (review_of_request request.now)) (store_seen S.tells S.held S.faults store.old store.new) (sink_seen O.tells O.taken O.faults out.old out.new) result }
+{
+    let plan = load_journal_plan(alloc, store, request.name)?;
+    let mut reviewed = load_reviewed(alloc, store, &plan)?;
+    let verdicts = load_file(alloc, store, request.verdicts, FileRole::Verdicts)?;
+    let text = add_verdicts(
+        alloc,
+        &reviewed.files,
+        &reviewed.decided,
+        &mut reviewed.journal,
+        verdicts.bytes(),
+        request.date,
+        request.reviewer,
+        plan.double,
+    )?;
+    let output = Output {
+        name: journal_name(&plan),
+        bytes: text.bytes(),
+    };
+    put_each(alloc, &[output], store)
+}

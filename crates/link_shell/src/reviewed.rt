@@ -1,0 +1,139 @@
+// What the decisions and the journal of a plan come to.
+ghost use Rattle.std.specs.Prelude.{◌≡◌, IfErr, IfOk, IsSome, IsUtf8, Some};
+ghost use Rattle.link_base.specs.Fault.{IsAnswer, IsInputFault};
+ghost use Rattle.link_core.specs.Decisions.{decisions_of, IsDecidedIn};
+ghost use Rattle.link_core.specs.Review.{IsJournalOf};
+ghost use Rattle.link_core.specs.Rules.{IsPreparedFor};
+ghost use Rattle.link_shell.specs.Reviewed.{decided_over, journal_file, journal_plan, review_of, reviewed_plan, with_journal};
+ghost use Rattle.link_shell.specs.Seen.{store_seen};
+ghost use Rattle.link_shell.specs.Steps.{seen_by, Takes};
+ghost use Rattle.settings.specs.Ranges.{KeepsRanges, NamesFiles};
+
+use crate::front::{file_name, load_plan, load_prepared, load_shares_over};
+use crate::load::load_file;
+use link_base::{Fault, FileRole, Text};
+use link_core::{Decided, Prepared, decide_all, journal_in_files};
+use link_outside::Store;
+use review_journal::Journal;
+use settings::Plan;
+use std::alloc::Global;
+
+/// The prepared files of a plan, the decisions of its rule on the compared pairs, and its journal.
+#[derive(Drop)]
+pub(crate) struct Reviewed {
+    pub(crate) files: Prepared,
+    pub(crate) decided: Decided,
+    pub(crate) journal: Journal,
+}
+
+// Finds the shares of a plan over its prepared files, and decides on the compared pairs.
+fn load_decided<S: Store>(
+    alloc: Global,
+    store: &mut S,
+    plan: &Plan,
+    files: &Prepared,
+) -> Result<Decided, Fault>
+    requires ranges { KeepsRanges plan.now }
+    requires names { NamesFiles plan.now }
+    requires ready { IsPreparedFor plan.now files.now }
+    ensures takes { Takes (decided_over plan.now files.now) (store_seen S.tells S.held S.faults store.old store.new) (seen_by decisions_of result) }
+    ensures of_files { IfOk result (IsDecidedIn files.now) }
+{
+    let shares = load_shares_over(alloc, store, plan, files)?;
+    decide_all(alloc, plan, files, &shares)
+}
+
+// Loads a journal, over prepared files.
+fn load_named<S: Store>(
+    alloc: Global,
+    store: &mut S,
+    files: &Prepared,
+    name: &str,
+) -> Result<Journal, Fault>
+    ensures takes { Takes (journal_file files.now (Some name.now)) (store_seen S.tells S.held S.faults store.old store.new) result }
+    ensures of_files { IfOk result (IsJournalOf files.now) }
+{
+    let bytes = load_file(alloc, store, name, FileRole::Journal)?;
+    journal_in_files(alloc, files, bytes.bytes())
+}
+
+// Loads the journal that a plan names, over its prepared files.
+pub(crate) fn load_journal<S: Store>(
+    alloc: Global,
+    store: &mut S,
+    plan: &Plan,
+    files: &Prepared,
+) -> Result<Journal, Fault>
+    requires names { NamesFiles plan.now }
+    ensures takes { Takes (journal_file files.now plan.now.journal) (store_seen S.tells S.held S.faults store.old store.new) result }
+    ensures of_files { IfOk result (IsJournalOf files.now) }
+{
+    match &plan.journal {
+        Some(name) => load_named(alloc, store, files, file_name(name)),
+        None => Ok(Journal::new(alloc)),
+    }
+}
+
+// Loads the files that a plan names, and decides on their compared pairs.
+pub(crate) fn load_reviewed<S: Store>(
+    alloc: Global,
+    store: &mut S,
+    plan: &Plan,
+) -> Result<Reviewed, Fault>
+    requires ranges { KeepsRanges plan.now }
+    requires names { NamesFiles plan.now }
+    ensures takes { Takes (reviewed_plan plan.now) (store_seen S.tells S.held S.faults store.old store.new) (seen_by review_of result) }
+    ensures ready { IfOk result (λ r. IsPreparedFor plan.now r.files) }
+    ensures decided { IfOk result (λ r. IsDecidedIn r.files r.decided) }
+    ensures journal { IfOk result (λ r. IsJournalOf r.files r.journal) }
+{
+    let files = load_prepared(alloc, store, plan)?;
+    let decided = load_decided(alloc, store, plan, &files)?;
+    let journal = load_journal(alloc, store, plan, &files)?;
+    Ok(Reviewed {
+        files,
+        decided,
+        journal,
+    })
+}
+
+// A plan that names a journal, or that the key is missing.
+fn needs_journal(alloc: Global, plan: Plan) -> Result<Plan, Fault>
+    ensures kind { IfErr result IsInputFault }
+    ensures answer { IsAnswer (with_journal plan) result }
+    ensures same { IfOk result (λ kept. kept ≡ plan) }
+    ensures named { IfOk result (λ kept. IsSome kept.journal) }
+{
+    if plan.journal.is_some() {
+        return Ok(plan);
+    }
+    let key = Text::new(alloc, b"journal")?;
+    Err(Fault::MissingKey { key })
+}
+
+// Loads a settings file and reads its plan, which must name a journal.
+pub(crate) fn load_journal_plan<S: Store>(
+    alloc: Global,
+    store: &mut S,
+    name: &str,
+) -> Result<Plan, Fault>
+    ensures takes { Takes (journal_plan name.now) (store_seen S.tells S.held S.faults store.old store.new) result }
+    ensures ranges { IfOk result KeepsRanges }
+    ensures files { IfOk result NamesFiles }
+    ensures named { IfOk result (λ plan. IsSome plan.journal) }
+{
+    let plan = load_plan(alloc, store, name)?;
+    needs_journal(alloc, plan)
+}
+
+// The name of the journal of a plan that has one.
+pub(crate) fn journal_name(plan: &Plan) -> &str
+    requires named { IsSome plan.now.journal }
+    requires names { NamesFiles plan.now }
+    ensures { Some result.now ≡ plan.now.journal }
+{
+    match &plan.journal {
+        Some(name) => file_name(name),
+        None => unreachable!(),
+    }
+}
