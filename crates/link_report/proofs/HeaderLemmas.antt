@@ -2,7 +2,10 @@
 use Rattle.std.proofs.Common.{◌≡◌, refl, codes}
 use Rattle.csv.specs.Writing.{default_writer, fields_text, is_blank, row_text}
 use Rattle.link_report.specs.FrontierText.{frontier_header}
+use Rattle.link_report.specs.LinksText.{links_header}
 use Rattle.link_report.specs.OpenText.{open_header}
+use Rattle.link_report.specs.PricesText.{prices_header}
+use Rattle.link_report.specs.PairsText.{pairs_header}
 use Rattle.link_report.specs.RuleText.{rule_header}
 
 pub rule_header_text : row_text default_writer rule_header ≡ codes "pattern,outcomes,m,u,weight,link,possible,nonlink\n"
@@ -16,3 +19,15 @@ frontier_header_text = refl
 pub open_header_text : row_text default_writer open_header ≡ codes "id_a,id_b,pattern,weight\n"
 unfolding fields_text is_blank
 open_header_text = refl
+
+pub links_header_text : row_text default_writer links_header ≡ codes "id_a,id_b,weight,value,by\n"
+unfolding fields_text is_blank
+links_header_text = refl
+
+pub prices_header_text : row_text default_writer prices_header ≡ codes "side,id,price\n"
+unfolding fields_text is_blank
+prices_header_text = refl
+
+pub pairs_header_text : row_text default_writer pairs_header ≡ codes "id_a,id_b,pattern,outcomes,weight,decision,verdict\n"
+unfolding fields_text is_blank
+pairs_header_text = refl

@@ -1,4 +1,9 @@
+pub mod FirstLines
 pub mod FrontierText
 pub mod Lines
+pub mod LinksText
 pub mod OpenText
+pub mod PricesText
+pub mod ReportText
+pub mod PairsText
 pub mod RuleText

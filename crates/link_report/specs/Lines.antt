@@ -1,13 +1,9 @@
 -- The texts of ids that are printed: lines of fields, as RFC 4180 has them (`ids_text_of`, its lone clause).
-use Rattle.std.specs.Prelude.{ℕ, List, [], ◌∷◌, ◌++◌, codes, slice_index_or}
+use Rattle.std.specs.Prelude.{ℕ, List, [], ◌∷◌, ◌++◌, codes}
 use Rattle.std.specs.List.{flat_map}
 use Rattle.csv.specs.Writing.{default_writer, row_text}
-use Rattle.link_base.specs.Standard.{no_record, Record}
+use Rattle.link_base.specs.Standard.{id_at, Record}
 use Rattle.link_base.specs.declared.rule.PairAt.{PairAt}
-
--- the id of the record at a position
-abbrev pub id_at : List Record → ℕ → List ℕ
-id_at file at = (slice_index_or file at no_record).id
 
 -- a line for the ids of a pair
 abbrev pub ids_line : List Record → List Record → PairAt → List ℕ

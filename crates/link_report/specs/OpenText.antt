@@ -3,8 +3,7 @@ use Rattle.std.specs.Prelude.{ℕ, List, [], ◌∷◌, ◌++◌, codes, decimal
 use Rattle.std.specs.Fmt.{signed_decimal}
 use Rattle.std.specs.List.{flat_map}
 use Rattle.csv.specs.Writing.{default_writer, row_text}
-use Rattle.link_base.specs.Standard.{Record}
-use Rattle.link_report.specs.Lines.{id_at}
+use Rattle.link_base.specs.Standard.{id_at, Record}
 use Rattle.link_report.specs.declared.open.PairRow.{PairRow}
 
 abbrev pub open_header : List (List ℕ)

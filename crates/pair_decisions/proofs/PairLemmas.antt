@@ -12,10 +12,11 @@ use Rattle.link_base.specs.declared.rule.Decision.{Decision}
 use Rattle.link_base.specs.declared.rule.Decision.TheVariants.{Link, NonLink, Possible}
 use Rattle.link_base.specs.declared.rule.PairAt.{PairAt}
 use Rattle.link_limits.specs.declared.TheConstants.{MOST_PAIRS}
+use Rattle.link_base.specs.Rule.{IsPairBefore}
 use Rattle.pair_walk.specs.Pairs.{compared_pairs, is_compared, pairs_of_row, product_from}
-use Rattle.pair_decisions.specs.Decisions.{DecidedView, count_in, decision_at, is_same, pairs_with}
+use Rattle.pair_decisions.specs.Decisions.{DecidedView, count_with, decision_at, is_same, pairs_with}
 use Rattle.pair_decisions.specs.PairRule.{SideRule}
-use Rattle.pair_decisions.specs.Pairs.{IsInside, IsPairBefore, pairs_within}
+use Rattle.pair_decisions.specs.Pairs.{IsInside, pairs_within}
 
 -- a pair of the row `a`, from the column `b` on, below `width`
 abbrev IsOfRow : ℕ → ℕ → ℕ → PairAt → Type 0
@@ -100,7 +101,7 @@ three_kinds decided (at ∷ pairs) = one_more (decided at) (three_kinds decided 
 -- what is counted of decided pairs
 module _ (rule : SideRule) (rows_a rows_b : List (List IdValue)) (pairs : List PairAt) (d : DecidedView) (all : d.compared ≡ length pairs)
     (links : d.links ≡ pairs_with Link rule rows_a rows_b pairs) (possible : d.possible ≡ pairs_with Possible rule rows_a rows_b pairs) where
-  pub counted : (kind : Decision) → count_in d kind ≡ length (pairs_with kind rule rows_a rows_b pairs)
+  pub counted : (kind : Decision) → count_with d kind ≡ length (pairs_with kind rule rows_a rows_b pairs)
   counted Link = ap length links
   counted Possible = ap length possible
   counted NonLink = omega (arith, three_kinds (decision_at rule rows_a rows_b) pairs, ap length links, ap length possible)

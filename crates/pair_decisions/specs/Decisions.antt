@@ -1,13 +1,16 @@
 -- The decisions of a rule on pairs of two files (Fellegi and Sunter 1969, section 2). `decide_pairs` carries them (clauses
--- `compared`, `links`, `possible` and `counts`).
-use Rattle.std.specs.Prelude.{◌+◌, ◌-◌, ℕ, Bool, true, false, List, [], filter, length, slice_index_or}
+-- `compared`, `links`, `possible` and `counts`, and all at once `decisions`); the decision on one pair is by `decide_in_cell`.
+use Rattle.std.specs.Prelude.{◌≡◌, ◌+◌, ◌-◌, ◌≤◌, ℕ, Bool, true, false, List, [], All, AllPairs, filter, length, slice_index_or}
+use Rattle.link_limits.specs.declared.TheConstants.{MOST_PAIRS}
 use Rattle.comparators.specs.declared.ids.IdValue.{IdValue}
 use Rattle.decision_rule.specs.Border.{border_word}
 use Rattle.decision_rule.specs.Decide.{decision_of}
 use Rattle.link_base.specs.declared.rule.Decision.{Decision}
 use Rattle.link_base.specs.declared.rule.Decision.TheVariants.{Link, NonLink, Possible}
 use Rattle.link_base.specs.declared.rule.PairAt.{PairAt}
-use Rattle.pair_decisions.specs.PairRule.{cell_of, PairRuleView, pattern_by, SideRule}
+use Rattle.link_base.specs.Rule.{IsPairBefore}
+use Rattle.pair_decisions.specs.PairRule.{cell_of, PairRuleView, pattern_by, side_rule, SideRule}
+use Rattle.pair_decisions.specs.Pairs.{IsInside}
 
 -- the comparison pattern of the rows at a pair of positions
 abbrev pub pattern_at : SideRule → List (List IdValue) → List (List IdValue) → PairAt → ℕ
@@ -35,7 +38,16 @@ pub record DecidedView : Type 0 where
   pub possible : List PairAt
 
 -- how many pairs have a decision
-abbrev pub count_in : DecidedView → Decision → ℕ
-count_in d Link = length d.links
-count_in d Possible = length d.possible
-count_in d NonLink = d.compared - (length d.links + length d.possible)
+abbrev pub count_with : DecidedView → Decision → ℕ
+count_with d Link = length d.links
+count_with d Possible = length d.possible
+count_with d NonLink = d.compared - (length d.links + length d.possible)
+
+-- decided pairs are the decisions of their rule on these pairs, which rise, over these rows of sides
+pub record AreDecisionsOn (rows_a rows_b : List (List IdValue)) (pairs : List PairAt) (d : DecidedView) : Type 0 where
+  pub few : length pairs ≤ MOST_PAIRS
+  pub rising : AllPairs IsPairBefore pairs
+  pub inside : All (IsInside (length rows_a) (length rows_b)) pairs
+  pub compared : d.compared ≡ length pairs
+  pub links : d.links ≡ pairs_with Link (side_rule d.rule) rows_a rows_b pairs
+  pub possible : d.possible ≡ pairs_with Possible (side_rule d.rule) rows_a rows_b pairs

@@ -1,6 +1,6 @@
 -- Lists of pairs: the compared pairs where they are not too many (`decide_pairs`, clauses `refused` and `within`), and what
 -- holds of the lists of decided pairs (clauses `links_inside` to `possible_rise`).
-use Rattle.std.specs.Prelude.{◌≡◌, ◌<◌, ◌⊎◌, ℕ, List, length, nat_le, if◌then◌else◌, Result, Ok, Err}
+use Rattle.std.specs.Prelude.{◌<◌, ℕ, List, length, nat_le, if◌then◌else◌, Result, Ok, Err}
 use Rattle.link_limits.specs.declared.TheConstants.{MOST_PAIRS}
 use Rattle.link_base.specs.declared.fault.Fault.{Fault}
 use Rattle.link_base.specs.declared.fault.Fault.TheVariants as fault
@@ -13,7 +13,3 @@ pairs_within pairs = if nat_le (length pairs) MOST_PAIRS then Ok pairs else Err 
 -- a pair of positions in files of so many records
 abbrev pub IsInside : ℕ → ℕ → PairAt → Type 0
 IsInside rows_a rows_b at = (at.a < rows_a) × (at.b < rows_b)
-
--- one pair stands before another by its positions
-abbrev pub IsPairBefore : PairAt → PairAt → Type 0
-IsPairBefore x y = (x.a < y.a) ⊎ ((x.a ≡ y.a) × (x.b < y.b))

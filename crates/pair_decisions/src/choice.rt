@@ -25,9 +25,10 @@ fn settled(cell: &RuleCell) -> Option<Decision>
     None
 }
 
-/// The decision on the pair at positions whose pattern has this cell. The border word is drawn only where the cell leaves a
-/// choice.
-pub(crate) fn choose(cell: &RuleCell, words: &mut BorderWords, at: PairAt) -> Decision
+/// The decision on the pair at positions whose comparison pattern has this cell: a link, a possible link or a non-link with the
+/// chances of the cell, by the border word of the pair (Fellegi and Sunter 1969, section 2). The word is drawn only where the
+/// cell leaves a choice.
+pub fn decide_in_cell(cell: &RuleCell, words: &mut BorderWords, at: PairAt) -> Decision
     requires cell { IsWithinRanges cell.now }
     requires a { at.a < MOST_ROWS }
     requires b { at.b < MOST_ROWS }

@@ -3,9 +3,10 @@ ghost use Rattle.std.specs.Prelude.{◌≡◌, ◌≤◌, All, AllPairs, IfErr, 
 ghost use Rattle.link_base.specs.Fault.{IsInputFault, Refuses};
 ghost use Rattle.link_base.specs.declared.rule.Decision.{Decision};
 ghost use Rattle.link_base.specs.declared.rule.Decision.TheVariants.{Link, Possible};
-ghost use Rattle.pair_decisions.specs.Decisions.{count_in, pairs_with};
+ghost use Rattle.link_base.specs.Rule.{IsPairBefore};
+ghost use Rattle.pair_decisions.specs.Decisions.{AreDecisionsOn, count_with, pairs_with};
 ghost use Rattle.pair_decisions.specs.PairRule.{AreSidesFor, side_rule};
-ghost use Rattle.pair_decisions.specs.Pairs.{IsInside, IsPairBefore, pairs_within};
+ghost use Rattle.pair_decisions.specs.Pairs.{IsInside, pairs_within};
 ghost use Rattle.pair_walk.specs.Pairs.{compared_pairs};
 ghost use Rattle.pair_walk.specs.Rows.{AreAllReady, AreKeysHeld};
 
@@ -72,7 +73,7 @@ impl Decided {
 
     /// How many of the compared pairs have a decision.
     pub fn count(&self, kind: Decision) -> u32
-        ensures { result ≡ count_in self.now kind }
+        ensures { result ≡ count_with self.now kind }
     {
         let compared = self.compared;
         let links = self.links.len() as u32;
@@ -115,11 +116,12 @@ pub fn decide_pairs(
     ensures compared { IfOk result (λ d. d.compared ≡ length (compared_pairs a.now b.now plan.now.passes)) }
     ensures links { IfOk result (λ d. d.links ≡ pairs_with Link (side_rule rule) sides_a.now.rows sides_b.now.rows (compared_pairs a.now b.now plan.now.passes)) }
     ensures possible { IfOk result (λ d. d.possible ≡ pairs_with Possible (side_rule rule) sides_a.now.rows sides_b.now.rows (compared_pairs a.now b.now plan.now.passes)) }
-    ensures counts { IfOk result (λ d. (kind : Decision) → count_in d kind ≡ length (pairs_with kind (side_rule rule) sides_a.now.rows sides_b.now.rows (compared_pairs a.now b.now plan.now.passes))) }
+    ensures counts { IfOk result (λ d. (kind : Decision) → count_with d kind ≡ length (pairs_with kind (side_rule rule) sides_a.now.rows sides_b.now.rows (compared_pairs a.now b.now plan.now.passes))) }
     ensures links_inside { IfOk result (λ d. All (IsInside (length a.now) (length b.now)) d.links) }
     ensures possible_inside { IfOk result (λ d. All (IsInside (length a.now) (length b.now)) d.possible) }
     ensures links_rise { IfOk result (λ d. AllPairs IsPairBefore d.links) }
     ensures possible_rise { IfOk result (λ d. AllPairs IsPairBefore d.possible) }
+    ensures decisions { IfOk result (AreDecisionsOn sides_a.now.rows sides_b.now.rows (compared_pairs a.now b.now plan.now.passes)) }
 {
     let walker = match Walker::new_in(alloc, a, b, &plan.passes, pool) {
         Ok(walker) => walker,

@@ -8,9 +8,7 @@ mod pair_rule;
 mod places;
 mod walking;
 
+pub use choice::decide_in_cell;
 pub use deciding::{Decided, decide_pairs};
 pub use laws::rule_has_patterns;
 pub use pair_rule::PairRule;
-
-#[cfg(test)]
-mod tests;

@@ -57,6 +57,7 @@ impl PairRule {
         requires sides_b { All (AreSidesOf texts plan.now.fields) sides_b.now.rows }
         requires cells { AreCellsOf (pattern_count_by (rares_of plan.now.fields)) table.cells.items }
         ensures rule { IfOk result (λ rule. side_rule rule ≡ side_rule_of plan.now texts sides_a.now.rows sides_b.now.rows table.cells.items) }
+        ensures cells { IfOk result (λ rule. length rule.cells ≡ pattern_count_by (rares_of plan.now.fields)) }
         ensures sides_a { IfOk result (λ rule. All (AreSidesFor rule) sides_a.now.rows) }
         ensures sides_b { IfOk result (λ rule. All (AreSidesFor rule) sides_b.now.rows) }
     {
@@ -78,7 +79,7 @@ impl PairRule {
     }
 
     /// The seed of the border words.
-    pub(crate) fn seed(&self) -> u64
+    pub fn seed(&self) -> u64
         ensures { result ≡ self.now.seed }
     {
         self.seed

@@ -1,5 +1,5 @@
 // The decisions on the pairs of a walk.
-ghost use Rattle.std.specs.Prelude.{◌≡◌, ◌<◌, ◌≤◌, ◌++◌, ◌∷◌, [], All, IfErr, IfOk, OnOk, if◌then◌else◌, length, map};
+ghost use Rattle.std.specs.Prelude.{◌≡◌, ◌<◌, ◌≤◌, ◌+◌, ◌++◌, ◌∷◌, [], All, IfErr, IfOk, OnOk, if◌then◌else◌, length, map};
 ghost use Rattle.link_base.specs.declared.rule.Decision.TheVariants.{Link, Possible};
 ghost use Rattle.pair_decisions.specs.Decisions.{decision_at, is_same, pairs_with};
 ghost use Rattle.pair_decisions.specs.PairRule.{AreSidesFor, side_rule};
@@ -7,7 +7,7 @@ ghost use Rattle.pair_decisions.specs.Pairs.{IsInside};
 ghost use Rattle.pair_walk.specs.Pairs.{pair, pairs_of_rows};
 ghost use Rattle.pair_walk.specs.Walk.{RefusesPairs};
 
-use crate::choice::choose;
+use crate::choice::decide_in_cell;
 use crate::pair_rule::PairRule;
 use comparators::IdTable;
 use decision_rule::BorderWords;
@@ -42,7 +42,7 @@ fn decide_at(
     ensures decision { result ≡ decision_at (side_rule rule.now) sides_a.now.rows sides_b.now.rows at }
 {
     let pattern = rule.pattern(sides_a.sides(at.a), sides_b.sides(at.b));
-    choose(rule.cell(pattern), words, at)
+    decide_in_cell(rule.cell(pattern), words, at)
 }
 
 // Keeps a pair that is a link or a possible link.
@@ -59,7 +59,7 @@ fn keep(found: &mut Found, at: PairAt, decision: Decision) -> Result<(), NoMemor
     Ok(())
 }
 
-// Decides on the pairs of a row of A.
+// Counts the pairs of a row of A, and decides on each.
 fn decide_row(
     rule: &PairRule,
     words: &mut BorderWords,
@@ -74,11 +74,13 @@ fn decide_row(
     requires sides_a { All (AreSidesFor rule.now) sides_a.now.rows }
     requires sides_b { All (AreSidesFor rule.now) sides_b.now.rows }
     requires inside { All (IsInside (length sides_a.now.rows) (length sides_b.now.rows)) (map (pair row.now.a) row.now.bs.items) }
+    requires few { found.old.compared + length row.now.bs.items ≤ MOST_PAIRS }
     ensures same { words.new ≡ words.old }
     ensures links { OnOk result (found.new.links.items ≡ found.old.links.items ++ pairs_with Link (side_rule rule.now) sides_a.now.rows sides_b.now.rows (map (pair row.now.a) row.now.bs.items)) }
     ensures possible { OnOk result (found.new.possible.items ≡ found.old.possible.items ++ pairs_with Possible (side_rule rule.now) sides_a.now.rows sides_b.now.rows (map (pair row.now.a) row.now.bs.items)) }
-    ensures compared { found.new.compared ≡ found.old.compared }
+    ensures compared { found.new.compared ≡ found.old.compared + length row.now.bs.items }
 {
+    found.compared += row.bs.len() as u32;
     for b in &row.bs {
         let at = PairAt { a: row.a, b: *b };
         let decision = decide_at(rule, words, sides_a, sides_b, at);
@@ -117,13 +119,12 @@ pub(crate) fn decide_rows(
         match walker.next_row(alloc) {
             Err(fault) => return Err(fault),
             Ok(None) => return Ok(found),
-            Ok(Some(row)) => {
-                found.compared += row.bs.len() as u32;
-                match decide_row(rule, &mut words, sides_a, sides_b, &row, &mut found) {
-                    Ok(()) => {}
-                    Err(NoMemory) => return Err(WalkFault::NoMemory),
-                }
-            }
+            Ok(Some(row)) => match decide_row(
+                rule, &mut words, sides_a, sides_b, &row, &mut found,
+            ) {
+                Ok(()) => {}
+                Err(NoMemory) => return Err(WalkFault::NoMemory),
+            },
         }
     }
 }

@@ -6,7 +6,7 @@ use Rattle.std.proofs.lemmas.Option.{slice_get-get_or}
 use Rattle.std.proofs.Math.Seq.{get_or-append_seam}
 use Rattle.std.specs.Map.{lookup}
 use Rattle.indexmap.specs.IndexMap.{Updates}
-use Rattle.review_journal.specs.Places.{IsIndexed, place_of, Places, same_pair}
+use Rattle.review_journal.specs.Places.{IsIndexed, place_of_pair, Places, same_pair}
 use Rattle.review_journal.specs.Verdict.{is_on, last_on}
 use Rattle.review_journal.specs.declared.entry.Entry.{Entry}
 
@@ -30,21 +30,21 @@ still_found es e None within = refl
 still_found es e (Some q) within = get-push es e q (within q refl)
 
 module _ (old new : Places) (es : List Entry) (e : Entry) (place : ℕ) (indexed : IsIndexed old es) (at_end : place ≡ length es) (updates : Updates same_pair old new (e.a, e.b) (Some place)) where
-  found : (a b : ℕ) (test : Bool) → is_on a b e ≡ test → option_and_then (slice_get (es ++ e ∷ [])) (place_of new a b) ≡ (if test then Some e else last_on es a b)
+  found : (a b : ℕ) (test : Bool) → is_on a b e ≡ test → option_and_then (slice_get (es ++ e ∷ [])) (place_of_pair new a b) ≡ (if test then Some e else last_on es a b)
   found a b true is =
-      let here : place_of new a b ≡ Some place = updates.0 (a, b) ∙ ap (λ t. if t then Some place else place_of old a b) is in
+      let here : place_of_pair new a b ≡ Some place = updates.0 (a, b) ∙ ap (λ t. if t then Some place else place_of_pair old a b) is in
       ap (option_and_then (slice_get (es ++ e ∷ []))) here ∙ ap (slice_get (es ++ e ∷ [])) at_end ∙ get-last es e
   found a b false is =
-      let here : place_of new a b ≡ place_of old a b = updates.0 (a, b) ∙ ap (λ t. if t then Some place else place_of old a b) is in
-      ap (option_and_then (slice_get (es ++ e ∷ []))) here ∙ still_found es e (place_of old a b) (indexed.within a b) ∙ indexed.found a b
+      let here : place_of_pair new a b ≡ place_of_pair old a b = updates.0 (a, b) ∙ ap (λ t. if t then Some place else place_of_pair old a b) is in
+      ap (option_and_then (slice_get (es ++ e ∷ []))) here ∙ still_found es e (place_of_pair old a b) (indexed.within a b) ∙ indexed.found a b
 
-  within : (a b q : ℕ) (test : Bool) → is_on a b e ≡ test → place_of new a b ≡ Some q → q < length es + 1
+  within : (a b q : ℕ) (test : Bool) → is_on a b e ≡ test → place_of_pair new a b ≡ Some q → q < length es + 1
   within a b q true is there =
-      let here : place_of new a b ≡ Some place = updates.0 (a, b) ∙ ap (λ t. if t then Some place else place_of old a b) is in
+      let here : place_of_pair new a b ≡ Some place = updates.0 (a, b) ∙ ap (λ t. if t then Some place else place_of_pair old a b) is in
       let same : place ≡ q = cc in
       omega arith
   within a b q false is there =
-      let here : place_of new a b ≡ place_of old a b = updates.0 (a, b) ∙ ap (λ t. if t then Some place else place_of old a b) is in
+      let here : place_of_pair new a b ≡ place_of_pair old a b = updates.0 (a, b) ∙ ap (λ t. if t then Some place else place_of_pair old a b) is in
       omega (arith, indexed.within a b q (sym here ∙ there))
 
   pub indexed_push : IsIndexed new (es ++ e ∷ [])
@@ -54,14 +54,14 @@ module _ (old new : Places) (es : List Entry) (e : Entry) (place : ℕ) (indexed
   }
 
 -- the entry at the place of a pair
-pub at_place : (places : Places) (es : List Entry) (a b place : ℕ) (e : Entry) → IsIndexed places es → Some place ≡ place_of places a b → e ≡ get_or es place e → Some e ≡ last_on es a b
+pub at_place : (places : Places) (es : List Entry) (a b place : ℕ) (e : Entry) → IsIndexed places es → Some place ≡ place_of_pair places a b → e ≡ get_or es place e → Some e ≡ last_on es a b
 at_place places es a b place e indexed there is =
     ap Some is ∙ sym (slice_get-get_or es place e (indexed.within a b place (sym there))) ∙ ap (option_and_then (slice_get es)) there ∙ indexed.found a b
 
 -- an index with the same entries is as good
 pub indexed-same : (old new : Places) (es : List Entry) → new.entries ≡ old.entries → IsIndexed old es → IsIndexed new es
 indexed-same old new es is indexed =
-    let same : (a b : ℕ) → place_of new a b ≡ place_of old a b = λ a b. ap (lookup (same_pair (a, b))) is in
+    let same : (a b : ℕ) → place_of_pair new a b ≡ place_of_pair old a b = λ a b. ap (lookup (same_pair (a, b))) is in
     record {
       found = λ a b. ap (option_and_then (slice_get es)) (same a b) ∙ indexed.found a b;
       within = λ a b place there. indexed.within a b place (sym (same a b) ∙ there);

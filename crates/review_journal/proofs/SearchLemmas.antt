@@ -9,8 +9,9 @@ use Rattle.std.proofs.lemmas.Bool.Decides.{nat_tests}
 use Rattle.std.proofs.lemmas.List.Folds.{list_any_at, list_any_none}
 use Rattle.std.proofs.lemmas.List.Sums.{position_or_len_is}
 use Rattle.link_base.specs.declared.rule.PairAt.{PairAt}
+use Rattle.link_base.specs.Rule.{IsPairBefore}
 use Rattle.review_journal.specs.declared.batch.NewVerdict.{NewVerdict}
-use Rattle.review_journal.specs.Adding.{is_among, IsPairBefore}
+use Rattle.review_journal.specs.Adding.{is_among}
 use Rattle.review_journal.specs.Search.{order_of}
 
 abbrev is_pair_of : NewVerdict → PairAt → Bool

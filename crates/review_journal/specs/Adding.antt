@@ -1,5 +1,5 @@
 -- A batch of new verdicts added to a journal, or why it is not (`Journal::add`, clause `answer`).
-use Rattle.std.specs.Prelude.{◌≡◌, ◌<◌, ◌⊎◌, ◌+◌, ◌-◌, ◌++◌, ◌∷◌, ◌==◌, ◌&&◌, ℕ, ℤ, int_le, List, [], Bool, not, length, nat_lt, option_map, position, slice_get, Option, Some, None, Result, Ok, Err, if◌then◌else◌}
+use Rattle.std.specs.Prelude.{◌≡◌, ◌+◌, ◌-◌, ◌++◌, ◌∷◌, ◌==◌, ◌&&◌, ℕ, ℤ, int_le, List, [], Bool, not, length, nat_lt, option_map, position, slice_get, Option, Some, None, Result, Ok, Err, if◌then◌else◌}
 use Rattle.std.specs.List.{list_all, list_any}
 use Rattle.link_limits.specs.declared.TheConstants.{MOST_ENTRIES}
 use Rattle.link_base.specs.Fault.{or_else, Refuses}
@@ -43,16 +43,16 @@ is_among possible v = list_any (λ (at : PairAt). (at.a == v.a) && (at.b == v.b)
 abbrev pub entries_fault : List Entry → List NewVerdict → Option Fault
 entries_fault entries batch = if nat_lt MOST_ENTRIES (length entries + length batch) then Some (fault.TooManyEntries MOST_ENTRIES) else None
 
-abbrev pub date_fault : List Entry → List NewVerdict → ℤ → Option Fault
-date_fault entries [] date = None
-date_fault entries (v ∷ vs) date = if is_not_before entries date then None else Some (fault.DateBack role.Verdicts 1)
+abbrev pub date_back_fault : List Entry → List NewVerdict → ℤ → Option Fault
+date_back_fault entries [] date = None
+date_back_fault entries (v ∷ vs) date = if is_not_before entries date then None else Some (fault.DateBack role.Verdicts 1)
 
-abbrev pub row_fault : Option ℕ → Option Fault
-row_fault None = None
-row_fault (Some place) = Some (fault.NotPossible (place + 1))
+abbrev pub not_possible_fault : Option ℕ → Option Fault
+not_possible_fault None = None
+not_possible_fault (Some place) = Some (fault.NotPossible (place + 1))
 
 abbrev pub pair_fault : List NewVerdict → List PairAt → Option Fault
-pair_fault batch possible = row_fault (position (λ v. not (is_among possible v)) batch)
+pair_fault batch possible = not_possible_fault (position (λ v. not (is_among possible v)) batch)
 
 -- a value, where there is no fault
 abbrev pub ok_unless : {A : Type 0} → Option Fault → A → Result A Fault
@@ -62,7 +62,7 @@ ok_unless (Some f) x = Err f
 -- the first fault of a batch
 abbrev pub batch_fault : List Entry → List NewVerdict → ℤ → List PairAt → Option Fault
 batch_fault entries batch date possible =
-    or_else (entries_fault entries batch) (or_else (date_fault entries batch date) (pair_fault batch possible))
+    or_else (entries_fault entries batch) (or_else (date_back_fault entries batch date) (pair_fault batch possible))
 
 -- the entries of a journal after a batch, or the first fault of the batch
 abbrev pub added : Bool → ℤ → List ℕ → List PairAt → List Entry → List NewVerdict → Result (List Entry) Fault
@@ -73,7 +73,3 @@ added double date reviewer possible entries batch =
 abbrev pub IsAdded : {T : Type 0} → Result (List Entry) Fault → List Entry → List Entry → Result T Fault → Type 0
 IsAdded expected old new (Ok done) = expected ≡ Ok new
 IsAdded expected old new (Err f) = Refuses expected f × (new ≡ old)
-
--- one pair stands before another by its positions
-abbrev pub IsPairBefore : PairAt → PairAt → Type 0
-IsPairBefore x y = (x.a < y.a) ⊎ ((x.a ≡ y.a) × (x.b < y.b))

@@ -4,3 +4,4 @@ pub mod Journal
 pub mod Places
 pub mod Adding
 pub mod Search
+pub mod Idle

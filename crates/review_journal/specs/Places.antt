@@ -15,10 +15,10 @@ abbrev pub same_pair : ℕ × ℕ → ℕ × ℕ → Bool
 same_pair x y = (x.0 == y.0) && (x.1 == y.1)
 
 -- the place of a pair
-abbrev pub place_of : Places → ℕ → ℕ → Option ℕ
-place_of places a b = get same_pair places (a, b)
+abbrev pub place_of_pair : Places → ℕ → ℕ → Option ℕ
+place_of_pair places a b = get same_pair places (a, b)
 
 -- each pair has the place of the last entry on it, and a pair that no entry names has none
 pub record IsIndexed (places : Places) (entries : List Entry) : Type 0 where
-  pub found : (a b : ℕ) → option_and_then (slice_get entries) (place_of places a b) ≡ last_on entries a b
-  pub within : (a b place : ℕ) → place_of places a b ≡ Some place → place < length entries
+  pub found : (a b : ℕ) → option_and_then (slice_get entries) (place_of_pair places a b) ≡ last_on entries a b
+  pub within : (a b place : ℕ) → place_of_pair places a b ≡ Some place → place < length entries

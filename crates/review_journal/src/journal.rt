@@ -4,10 +4,11 @@ ghost use Rattle.std.specs.Option.{option_map_or};
 ghost use Rattle.link_base.specs.Fault.{IsInputFault};
 ghost use Rattle.link_base.specs.Standard.{IsDay};
 ghost use Rattle.link_limits.specs.declared.TheConstants.{MOST_ENTRIES};
+ghost use Rattle.link_base.specs.Rule.{IsPairBefore};
 ghost use Rattle.review_journal.specs.Verdict.{last_on, verdict_on};
 ghost use Rattle.review_journal.specs.Steps.{confirms_in, fits_after};
 ghost use Rattle.review_journal.specs.Journal.{IsJournal, IsReviewer};
-ghost use Rattle.review_journal.specs.Adding.{added, batch_fault, entry_after, IsAdded, IsPairBefore, is_not_before, last_date, with_verdicts};
+ghost use Rattle.review_journal.specs.Adding.{added, batch_fault, entry_after, IsAdded, is_not_before, last_date, with_verdicts};
 
 use crate::batch::{NewVerdict, Verdicts};
 use crate::entry::Entry;

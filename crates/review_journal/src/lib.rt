@@ -3,6 +3,7 @@
 
 mod batch;
 mod entry;
+mod idle;
 mod journal;
 mod laws;
 mod possible;
@@ -10,8 +11,6 @@ mod steps;
 
 pub use batch::{NewVerdict, Verdicts};
 pub use entry::Entry;
+pub use idle::idle_entries;
 pub use journal::Journal;
 pub use laws::single_verdicts_stand;
-
-#[cfg(test)]
-mod tests;

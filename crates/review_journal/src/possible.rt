@@ -1,7 +1,8 @@
 // New verdicts whose pairs are possible links.
 ghost use Rattle.std.specs.Prelude.{◌≡◌, AllPairs, length, not, position};
 ghost use Rattle.std.specs.List.Sorted.{IsBinarySearchResult, IsSearchInRange};
-ghost use Rattle.review_journal.specs.Adding.{is_among, IsPairBefore};
+ghost use Rattle.link_base.specs.Rule.{IsPairBefore};
+ghost use Rattle.review_journal.specs.Adding.{is_among};
 ghost use Rattle.review_journal.specs.Search.{order_of};
 
 use crate::batch::NewVerdict;
@@ -22,8 +23,8 @@ fn place_in(possible: &[PairAt], row: NewVerdict) -> Result<usize, usize>
     possible.binary_search_by(|at| order(at, row))
 }
 
-// Whether the pair of a new verdict stands in a rising list.
-fn is_among(possible: &[PairAt], row: NewVerdict) -> bool
+/// Whether the pair of a new verdict stands in a rising list.
+pub(crate) fn is_among(possible: &[PairAt], row: NewVerdict) -> bool
     requires { AllPairs IsPairBefore possible.now }
     ensures { result ≡ is_among possible.now row }
 {

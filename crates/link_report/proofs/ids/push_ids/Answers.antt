@@ -1,6 +1,6 @@
+use Rattle.link_base.specs.Standard.{id_at}
 use Rattle.std.proofs.Common.{◌≡◌, ◌++◌, ◌∷◌, [], ap, ◌∙◌}
 use Rattle.csv.specs.Writing.{default_writer, field_text}
-use Rattle.link_report.specs.Lines.{id_at}
 use Rattle.link_report.proofs.LineLemmas.{appended_line}
 use Rattle.link_report.proofs.ids.push_ids.Goals as goal
 

@@ -85,6 +85,23 @@ returns-in-Ok-decide_rows-clause-links_rise c = found_rise (has c Link) (all_of 
 pub returns-in-Ok-decide_rows-clause-possible_rise : goal.returns-in-Ok-decide_rows-clause-possible_rise
 returns-in-Ok-decide_rows-clause-possible_rise c = found_rise (has c Possible) (all_of c) _ (possible c) (compared_rise c.args.a.now c.args.b.now c.args.plan.now.passes)
 
+-- the pairs lie in the rows of sides, of which there are as many as records
+within_sides : (c : In-Ok-decide_rows) → All (IsInside (length c.args.sides_a.now.rows) (length c.args.sides_b.now.rows)) (all_of c)
+within_sides c =
+    let P : ℕ → Type 0 = λ n. All (IsInside n (length c.args.b.now)) (all_of c) in
+    let Q : ℕ → Type 0 = λ n. All (IsInside (length c.args.sides_a.now.rows) n) (all_of c) in
+    subst Q (sym c.requires.rows_b) (subst P (sym c.requires.rows_a) (inside c))
+
+pub returns-in-Ok-decide_rows-clause-decisions : goal.returns-in-Ok-decide_rows-clause-decisions
+returns-in-Ok-decide_rows-clause-decisions c = record {
+  few = few c;
+  rising = compared_rise c.args.a.now c.args.b.now c.args.plan.now.passes;
+  inside = within_sides c;
+  compared = compared c;
+  links = links c;
+  possible = possible c;
+}
+
 pub returns-in-Err-TooManyPairs-clause-refused : goal.returns-in-Err-TooManyPairs-clause-refused
 returns-in-Err-TooManyPairs-clause-refused c =
     let a = c.args.a.now in

@@ -15,4 +15,4 @@ returns-clause-decision c =
     let rows : pattern_by rule.comparators c.sides.result.now c.sides-2.result.now ≡ pattern_at rule c.args.sides_a.now.rows c.args.sides_b.now.rows at = λ i. pattern_by rule.comparators (c.sides.ensures i) (c.sides-2.ensures i) in
     let pattern : c.pattern-pattern.result ≡ pattern_at rule c.args.sides_a.now.rows c.args.sides_b.now.rows at = c.pattern-pattern.ensures.number ∙ rows in
     let cell : c.cell.result.now ≡ cell_of rule.cells (pattern_at rule c.args.sides_a.now.rows c.args.sides_b.now.rows at) = sym (ap (λ o. unwrap_or o empty_cell) c.cell.ensures.found) ∙ ap (cell_of rule.cells) pattern in
-    c.choose.ensures.decision ∙ (λ i. decision_of (cell i) (border_word (c.requires.words i) at.a at.b))
+    c.decide_in_cell.ensures.decision ∙ (λ i. decision_of (cell i) (border_word (c.requires.words i) at.a at.b))

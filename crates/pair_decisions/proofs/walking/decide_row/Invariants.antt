@@ -1,4 +1,4 @@
-use Rattle.std.proofs.Common.{◌≡◌, ◌++◌, map, take}
+use Rattle.std.proofs.Common.{◌≡◌, ◌+◌, ◌++◌, length, map, take}
 use Rattle.link_base.specs.declared.rule.Decision.TheVariants.{Link, Possible}
 use Rattle.pair_decisions.specs.Decisions.{pairs_with}
 use Rattle.pair_decisions.specs.PairRule.{side_rule}
@@ -10,5 +10,5 @@ invariant-loop-b l = record {
   same : l.words ≡ l.fn.words;
   links : l.found.links.items ≡ l.fn.found.links.items ++ pairs_with Link (side_rule l.rule) l.sides_a.rows l.sides_b.rows (map (pair l.row.a) (take l.b-index l.b-items));
   possible : l.found.possible.items ≡ l.fn.found.possible.items ++ pairs_with Possible (side_rule l.rule) l.sides_a.rows l.sides_b.rows (map (pair l.row.a) (take l.b-index l.b-items));
-  compared : l.found.compared ≡ l.fn.found.compared;
+  compared : l.found.compared ≡ l.fn.found.compared + length l.row.bs.items;
 }

@@ -15,6 +15,12 @@ decide_row-requires-clause-inside c =
     let next : GivesRow c.rows.walker c.next_row.new.self c.in-Ok-Some.row = subst P c.in-Ok-Some.field-0-is c.in-Ok-Some.ensures in
     row_holds (IsInside (length c.args.sides_a.now.rows) (length c.args.sides_b.now.rows)) c.rows.walker.left c.next_row.new.self.left c.in-Ok-Some.row.a c.in-Ok-Some.row.bs.items next.0 c.rows.invariant.inside
 
+pub decide_row-requires-clause-few : goal.decide_row-requires-clause-few
+decide_row-requires-clause-few c =
+    let P : Option RowPairs → Type 0 = λ row. NextRow c.rows.walker c.next_row.new.self (Ok row) in
+    let next : GivesRow c.rows.walker c.next_row.new.self c.in-Ok-Some.row = subst P c.in-Ok-Some.field-0-is c.in-Ok-Some.ensures in
+    omega (arith, next.1, next.2, c.rows.invariant.given)
+
 pub rows-preserved : goal.rows-preserved
 rows-preserved c =
     let old = c.rows.walker.left in

@@ -1,0 +1,4 @@
+pub mod MergeLemmas
+pub mod CandidateLemmas
+pub mod PassLemmas
+pub mod ValueLemmas

@@ -1,0 +1,70 @@
+-- The candidates for links among decided pairs: the links by rule, and the possible links that clerical review calls links,
+-- each with what it is worth (Fellegi and Sunter 1969, section 2). `candidates_among` carries it (clauses
+-- `candidates` and `most`).
+use Rattle.std.specs.Prelude.{◌≡◌, ◌+◌, ◌≤◌, ◌+ℤ◌, ℕ, ℤ, pos, true, false, List, All, AllPairs, filter_map, length, Option, Some, None}
+use Rattle.link_limits.specs.declared.TheConstants.{MOST_PAIRS}
+use Rattle.assignment.specs.Solution.{HasSmallValue}
+use Rattle.assignment_laws.specs.Assignment.{IsBefore, IsWithin}
+use Rattle.comparators.specs.declared.ids.IdValue.{IdValue}
+use Rattle.link_base.specs.declared.rule.Candidate.{Candidate}
+use Rattle.link_base.specs.declared.rule.Decision.{Decision}
+use Rattle.link_base.specs.declared.rule.Decision.TheVariants as decision
+use Rattle.link_base.specs.declared.rule.PairAt.{PairAt}
+use Rattle.link_base.specs.declared.rule.Verdict.{Verdict}
+use Rattle.link_base.specs.declared.rule.Verdict.TheVariants as verdict
+use Rattle.pair_decisions.specs.Decisions.{decision_at, pattern_at}
+use Rattle.pair_decisions.specs.PairRule.{SideRule, cell_of}
+use Rattle.review_journal.specs.Verdict.{verdict_on}
+use Rattle.review_journal.specs.declared.entry.Entry.{Entry}
+
+-- the weight of the comparison pattern of a pair, in eighths of a bit
+abbrev pub weight_of : SideRule → List (List IdValue) → List (List IdValue) → PairAt → ℤ
+weight_of rule rows_a rows_b at = (cell_of rule.cells (pattern_at rule rows_a rows_b at)).weight
+
+-- a link by rule is worth its weight
+abbrev pub linked : PairAt → ℤ → Candidate
+linked at weight = record { a = at.a; b = at.b; weight = weight; value = weight; reviewed = false }
+
+-- a link by review is worth its weight and the award
+abbrev pub reviewed : PairAt → ℤ → ℕ → Candidate
+reviewed at weight award = record { a = at.a; b = at.b; weight = weight; value = weight +ℤ pos award; reviewed = true }
+
+-- a possible link is a candidate where its verdict is that it is a link
+abbrev pub candidate_by_verdict : Option Verdict → PairAt → ℤ → ℕ → Option Candidate
+candidate_by_verdict (Some verdict.Link) at weight award = Some (reviewed at weight award)
+candidate_by_verdict other at weight award = None
+
+-- a link by rule as a candidate
+abbrev pub of_link : SideRule → List (List IdValue) → List (List IdValue) → PairAt → Option Candidate
+of_link rule rows_a rows_b at = Some (linked at (weight_of rule rows_a rows_b at))
+
+-- a possible link as a candidate, by the entries of a journal and the award
+abbrev pub of_possible : SideRule → List (List IdValue) → List (List IdValue) → List Entry → ℕ → PairAt → Option Candidate
+of_possible rule rows_a rows_b entries award at = candidate_by_verdict (verdict_on entries at.a at.b) at (weight_of rule rows_a rows_b at) award
+
+-- what a pair gives by its decision
+abbrev pub by_decision : Decision → Option Candidate → Option Candidate → Option Candidate
+by_decision decision.Link link possible = link
+by_decision decision.Possible link possible = possible
+by_decision decision.NonLink link possible = None
+
+-- a pair of positions as a candidate, by a rule over rows of sides, the entries of a journal and the award
+abbrev pub candidate_of : SideRule → List (List IdValue) → List (List IdValue) → List Entry → ℕ → PairAt → Option Candidate
+candidate_of rule rows_a rows_b entries award at =
+    by_decision (decision_at rule rows_a rows_b at) (of_link rule rows_a rows_b at) (of_possible rule rows_a rows_b entries award at)
+
+-- the candidates among pairs, in their order
+abbrev pub candidates_of : SideRule → List (List IdValue) → List (List IdValue) → List Entry → ℕ → List PairAt → List Candidate
+candidates_of rule rows_a rows_b entries award pairs = filter_map (candidate_of rule rows_a rows_b entries award) pairs
+
+-- the greatest value that a candidate may have: the greatest weight and the award
+abbrev pub most_value : ℕ → ℤ
+most_value award = pos (474 + award)
+
+-- candidates as they are wanted, of which the links may be chosen: few, rising, between records that are there, with small values
+pub record AreCandidates (rows_a rows_b : ℕ) (wanted cs : List Candidate) : Type 0 where
+  pub same : cs ≡ wanted
+  pub few : length cs ≤ MOST_PAIRS
+  pub rising : AllPairs IsBefore cs
+  pub within : All (IsWithin rows_a rows_b) cs
+  pub small : All HasSmallValue cs

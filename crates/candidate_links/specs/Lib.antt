@@ -1,0 +1,4 @@
+pub mod Candidates
+pub mod Choice
+pub mod Merging
+pub mod Passing

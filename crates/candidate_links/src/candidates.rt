@@ -1,0 +1,176 @@
+// The candidates among decided pairs.
+ghost use Rattle.std.specs.Prelude.{◌≡◌, ◌+◌, ◌≤◌, ◌≤ℤ◌, ◌++◌, pos, negsuc, List, All, IfOk, IfSome, OnOk, Some, length, option_to_list};
+ghost use Rattle.candidate_links.specs.Candidates.{AreCandidates, candidates_of, linked, most_value, of_link, of_possible, reviewed, weight_of};
+ghost use Rattle.candidate_links.specs.Merging.{merged};
+ghost use Rattle.link_base.specs.declared.rule.Candidate.{Candidate as ACandidate};
+ghost use Rattle.link_base.specs.declared.rule.PairAt.{PairAt as Pair};
+ghost use Rattle.pair_decisions.specs.Decisions.{AreDecisionsOn};
+ghost use Rattle.pair_decisions.specs.PairRule.{AreSidesFor, side_rule};
+ghost use Rattle.pair_decisions.specs.Pairs.{IsInside};
+ghost use Rattle.link_limits.specs.declared.TheConstants.{MOST_VALUE};
+
+use crate::merging::{Next, after_first, next_of};
+use comparators::IdTable;
+use link_base::{Candidate, NoMemory, PairAt, Sides, Verdict};
+use pair_decisions::{Decided, PairRule};
+use review_journal::Journal;
+use std::alloc::Global;
+
+// The weight of a pair, in eighths of a bit.
+fn weight_of(rule: &PairRule, sides_a: &IdTable, sides_b: &IdTable, at: PairAt) -> i32
+    requires sides_a { All (AreSidesFor rule.now) sides_a.now.rows }
+    requires sides_b { All (AreSidesFor rule.now) sides_b.now.rows }
+    requires inside { IsInside (length sides_a.now.rows) (length sides_b.now.rows) at }
+    ensures weight { result ≡ weight_of (side_rule rule.now) sides_a.now.rows sides_b.now.rows at }
+    ensures least { negsuc 479 ≤ℤ result }
+    ensures most { result ≤ℤ pos 474 }
+{
+    let pattern = rule.pattern(sides_a.sides(at.a), sides_b.sides(at.b));
+    rule.cell(pattern).weight
+}
+
+// A link by rule, which is worth its weight.
+fn linked(at: PairAt, weight: i32) -> Candidate
+    ensures { result ≡ linked at weight }
+{
+    Candidate {
+        a: at.a,
+        b: at.b,
+        weight,
+        value: weight,
+        reviewed: false,
+    }
+}
+
+// A link by review, which is worth its weight and the award.
+fn reviewed(at: PairAt, weight: i32, award: u32) -> Candidate
+    requires least { negsuc 479 ≤ℤ weight }
+    requires most { weight ≤ℤ pos 474 }
+    requires award { 474 + award ≤ MOST_VALUE }
+    ensures candidate { result ≡ reviewed at weight award }
+    ensures most { result.value ≤ℤ most_value award }
+{
+    Candidate {
+        a: at.a,
+        b: at.b,
+        weight,
+        value: weight + award as i32,
+        reviewed: true,
+    }
+}
+
+// The candidate of a link by rule.
+fn of_link(rule: &PairRule, sides_a: &IdTable, sides_b: &IdTable, at: PairAt) -> Candidate
+    requires sides_a { All (AreSidesFor rule.now) sides_a.now.rows }
+    requires sides_b { All (AreSidesFor rule.now) sides_b.now.rows }
+    requires inside { IsInside (length sides_a.now.rows) (length sides_b.now.rows) at }
+    ensures candidate { Some result ≡ of_link (side_rule rule.now) sides_a.now.rows sides_b.now.rows at }
+    ensures most { result.value ≤ℤ pos 474 }
+{
+    linked(at, weight_of(rule, sides_a, sides_b, at))
+}
+
+// The candidate of a possible link, where its verdict is that it is a link.
+fn of_possible(
+    rule: &PairRule,
+    journal: &Journal,
+    award: u32,
+    sides_a: &IdTable,
+    sides_b: &IdTable,
+    at: PairAt,
+) -> Option<Candidate>
+    requires award { 474 + award ≤ MOST_VALUE }
+    requires sides_a { All (AreSidesFor rule.now) sides_a.now.rows }
+    requires sides_b { All (AreSidesFor rule.now) sides_b.now.rows }
+    requires inside { IsInside (length sides_a.now.rows) (length sides_b.now.rows) at }
+    ensures candidate { result ≡ of_possible (side_rule rule.now) sides_a.now.rows sides_b.now.rows journal.now award at }
+    ensures most { IfSome result (λ c. c.value ≤ℤ most_value award) }
+{
+    match journal.verdict(at.a, at.b) {
+        Some(Verdict::Link) => {
+            let weight = weight_of(rule, sides_a, sides_b, at);
+            Some(reviewed(at, weight, award))
+        }
+        _ => None,
+    }
+}
+
+// Appends a candidate, where there is one.
+fn keep(candidates: &mut Vec<Candidate>, candidate: Option<Candidate>) -> Result<(), NoMemory>
+    ensures { OnOk result (candidates.new.items ≡ candidates.old.items ++ option_to_list candidate) }
+{
+    if let Some(candidate) = candidate {
+        candidates.push(candidate)?;
+    }
+    Ok(())
+}
+
+// The candidates of rising lists of links and possible links, by position.
+fn merged(
+    alloc: Global,
+    rule: &PairRule,
+    journal: &Journal,
+    award: u32,
+    sides_a: &IdTable,
+    sides_b: &IdTable,
+    mut links: &[PairAt],
+    mut possible: &[PairAt],
+) -> Result<Vec<Candidate>, NoMemory>
+    requires award { 474 + award ≤ MOST_VALUE }
+    requires sides_a { All (AreSidesFor rule.now) sides_a.now.rows }
+    requires sides_b { All (AreSidesFor rule.now) sides_b.now.rows }
+    requires links { All (IsInside (length sides_a.now.rows) (length sides_b.now.rows)) links.now }
+    requires possible { All (IsInside (length sides_a.now.rows) (length sides_b.now.rows)) possible.now }
+    ensures merged { IfOk result (λ cs. cs.items ≡ merged (of_link (side_rule rule.now) sides_a.now.rows sides_b.now.rows) (of_possible (side_rule rule.now) sides_a.now.rows sides_b.now.rows journal.now award) links.now possible.now) }
+    ensures most { IfOk result (λ cs. All (λ (c : ACandidate). c.value ≤ℤ most_value award) cs.items) }
+{
+    let mut candidates = Vec::new(alloc);
+    'pairs: loop {
+        match next_of(links, possible) {
+            Next::End => return Ok(candidates),
+            Next::Link(at) => {
+                candidates.push(of_link(rule, sides_a, sides_b, at))?;
+                links = after_first(links);
+                continue 'pairs;
+            }
+            Next::Possible(at) => {
+                let candidate = of_possible(rule, journal, award, sides_a, sides_b, at);
+                keep(&mut candidates, candidate)?;
+                possible = after_first(possible);
+                continue 'pairs;
+            }
+        }
+    }
+}
+
+/// The candidates among decided pairs, rising by position: the links by rule, each worth its weight, and the possible links whose
+/// verdict is that they are links, each worth its weight and the award, all in eighths of a bit.
+pub fn candidates_among(
+    alloc: Global,
+    decided: &Decided,
+    journal: &Journal,
+    award: u32,
+    sides_a: &IdTable,
+    sides_b: &IdTable,
+) -> Result<Vec<Candidate>, NoMemory>
+    requires award { 474 + award ≤ MOST_VALUE }
+    requires sides_a { All (AreSidesFor decided.now.rule) sides_a.now.rows }
+    requires sides_b { All (AreSidesFor decided.now.rule) sides_b.now.rows }
+    requires links { All (IsInside (length sides_a.now.rows) (length sides_b.now.rows)) decided.now.links }
+    requires possible { All (IsInside (length sides_a.now.rows) (length sides_b.now.rows)) decided.now.possible }
+    ensures candidates { IfOk result (λ cs. (pairs : List Pair) → AreDecisionsOn sides_a.now.rows sides_b.now.rows pairs decided.now
+        → AreCandidates (length sides_a.now.rows) (length sides_b.now.rows) (candidates_of (side_rule decided.now.rule) sides_a.now.rows sides_b.now.rows journal.now award pairs) cs.items) }
+    ensures most { IfOk result (λ cs. All (λ (c : ACandidate). c.value ≤ℤ most_value award) cs.items) }
+{
+    let candidates = merged(
+        alloc,
+        decided.rule(),
+        journal,
+        award,
+        sides_a,
+        sides_b,
+        decided.links(),
+        decided.possible(),
+    )?;
+    Ok(candidates)
+}

@@ -1,0 +1,152 @@
+// The links chosen among candidates.
+ghost use Rattle.std.specs.Prelude.{◌≡◌, ◌≤◌, ◌≤ℤ◌, ◌^◌, All, AllPairs, Contains, IfOk, length};
+ghost use Rattle.assignment.specs.Solution.{HasSmallValue};
+ghost use Rattle.assignment_laws.specs.Assignment.{Certifies, greatest_value, IsBefore, IsGreatest, IsWithin, worth};
+ghost use Rattle.candidate_links.specs.Choice.{dropped, dropped_of, is_same_pair};
+ghost use Rattle.candidate_links.specs.Passing.{is_next};
+
+use crate::merging::after_first;
+use assignment::{Assigner, Assignment};
+use assignment_laws::prices_are_bounded;
+use link_base::{Candidate, NoMemory, PairAt};
+use link_limits::MOST_PAIRS;
+use link_report::Dropped;
+use std::alloc::Global;
+
+/// The links chosen among candidates, rising by position, with the dual prices of all records of A and of B that certify them, the
+/// candidates that are not among them, and the sum of the links' values. Values and prices are in eighths of a bit.
+#[derive(Debug, Drop)]
+pub struct ChosenLinks {
+    pub links: Vec<Candidate>,
+    pub prices_a: Vec<i64>,
+    pub prices_b: Vec<i64>,
+    pub dropped: Vec<Dropped>,
+    pub total: i64,
+}
+
+// Whether two candidates are of the same records.
+fn is_same_pair(x: &Candidate, y: &Candidate) -> bool
+    ensures { result ≡ is_same_pair x.now y.now }
+{
+    x.a == y.a && x.b == y.b
+}
+
+// Whether a candidate is the first of the links that are left.
+fn is_next(links: &[Candidate], candidate: &Candidate) -> bool
+    ensures { result ≡ is_next links.now candidate.now }
+{
+    match links.first() {
+        Some(link) => is_same_pair(link, candidate),
+        None => false,
+    }
+}
+
+// A candidate that is no link.
+fn dropped(candidate: &Candidate) -> Dropped
+    ensures { result ≡ dropped candidate.now }
+{
+    Dropped {
+        at: PairAt {
+            a: candidate.a,
+            b: candidate.b,
+        },
+        conflict: candidate.value > 0,
+    }
+}
+
+// The candidates that are not among the links, in one pass over both.
+fn dropped_of(
+    alloc: Global,
+    candidates: &[Candidate],
+    links: &[Candidate],
+) -> Result<Vec<Dropped>, NoMemory>
+    requires rising { AllPairs IsBefore candidates.now }
+    requires links_rise { AllPairs IsBefore links.now }
+    requires among { All (Contains candidates.now) links.now }
+    ensures { IfOk result (λ all. all.items ≡ dropped_of candidates.now links.now) }
+{
+    let mut all = Vec::new(alloc);
+    let mut rest = links;
+    for candidate in candidates {
+        if is_next(rest, candidate) {
+            rest = after_first(rest);
+            continue;
+        }
+        all.push(dropped(candidate))?;
+    }
+    Ok(all)
+}
+
+// What the links are worth.
+fn worth(links: &[Candidate]) -> i64
+    requires { length links.now ≤ MOST_PAIRS }
+    ensures { result ≡ worth links.now }
+{
+    let mut sum = 0;
+    for link in links {
+        sum += i64::from(link.value);
+    }
+    sum
+}
+
+// The prices of the records of A.
+fn prices_of_a(alloc: Global, solved: &Assignment, rows: u32) -> Result<Vec<i64>, NoMemory>
+    requires { length solved.now.prices_a ≡ rows }
+    ensures { IfOk result (λ prices. prices.items ≡ solved.now.prices_a) }
+{
+    let mut prices = Vec::with_capacity(alloc, rows as usize)?;
+    for a in 0..rows {
+        prices.push(solved.price_a(a))?;
+    }
+    Ok(prices)
+}
+
+// The prices of the records of B.
+fn prices_of_b(alloc: Global, solved: &Assignment, rows: u32) -> Result<Vec<i64>, NoMemory>
+    requires { length solved.now.prices_b ≡ rows }
+    ensures { IfOk result (λ prices. prices.items ≡ solved.now.prices_b) }
+{
+    let mut prices = Vec::with_capacity(alloc, rows as usize)?;
+    for b in 0..rows {
+        prices.push(solved.price_b(b))?;
+    }
+    Ok(prices)
+}
+
+/// The greatest one-to-one links among at most [`MOST_PAIRS`] candidates that rise strictly by record of A, then of B, with the
+/// prices that certify them. Each price is at least 0 and at most the greatest of 0 and the candidates' values.
+pub fn choose_links(
+    alloc: Global,
+    rows_a: u32,
+    rows_b: u32,
+    candidates: &[Candidate],
+) -> Result<ChosenLinks, NoMemory>
+    requires count { length candidates.now ≤ MOST_PAIRS }
+    requires rising { AllPairs IsBefore candidates.now }
+    requires within { All (IsWithin rows_a rows_b) candidates.now }
+    requires small { All HasSmallValue candidates.now }
+    ensures greatest { IfOk result (λ c. IsGreatest candidates.now c.links.items) }
+    ensures certified { IfOk result (λ c. Certifies candidates.now c.links.items c.prices_a.items c.prices_b.items) }
+    ensures rows_a { IfOk result (λ c. length c.prices_a.items ≡ rows_a) }
+    ensures rows_b { IfOk result (λ c. length c.prices_b.items ≡ rows_b) }
+    ensures dropped { IfOk result (λ c. c.dropped.items ≡ dropped_of candidates.now c.links.items) }
+    ensures total { IfOk result (λ c. c.total ≡ worth c.links.items) }
+    ensures most_a { IfOk result (λ c. All (λ price. price ≤ℤ greatest_value candidates.now) c.prices_a.items) }
+    ensures most_b { IfOk result (λ c. All (λ price. price ≤ℤ greatest_value candidates.now) c.prices_b.items) }
+{
+    prices_are_bounded();
+    let assigner = Assigner::new(alloc, rows_a, rows_b, candidates)?;
+    let solved = assigner.solve();
+    let links = Vec::from_slice(alloc, solved.links())?;
+    let prices_a = prices_of_a(alloc, &solved, rows_a)?;
+    let prices_b = prices_of_b(alloc, &solved, rows_b)?;
+    let dropped = dropped_of(alloc, candidates, &links)?;
+    let total = worth(&links);
+    Ok(ChosenLinks {
+        links,
+        prices_a,
+        prices_b,
+        dropped,
+        total,
+    })
+}

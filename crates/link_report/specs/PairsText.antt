@@ -1,0 +1,55 @@
+-- The text of the compared pairs: a header, and a row for each pair (`pairs_text`, its lone clause). A `PairsWriter` writes the
+-- same text row by row (`PairsWriter::push`, clause `text`).
+use Rattle.std.specs.Prelude.{ℕ, Bool, List, [], ◌∷◌, ◌++◌, codes, decimal, Option, Some, None, ⊤}
+use Rattle.std.specs.Fmt.{signed_decimal}
+use Rattle.std.specs.List.{flat_map}
+use Rattle.csv.specs.Writing.{default_writer, row_text}
+use Rattle.link_base.specs.Rule.{IsPairBefore}
+use Rattle.link_base.specs.Standard.{id_at, Record}
+use Rattle.link_base.specs.declared.rule.Decision.{Decision}
+use Rattle.link_base.specs.declared.rule.Decision.TheVariants as decision
+use Rattle.link_base.specs.declared.rule.PairAt.{PairAt}
+use Rattle.link_base.specs.declared.rule.Verdict.{Verdict}
+use Rattle.link_base.specs.declared.rule.Verdict.TheVariants as verdict
+use Rattle.link_report.specs.RuleText.{outcome_letters}
+use Rattle.link_report.specs.declared.open.PairRow.{PairRow}
+
+abbrev pub pairs_header : List (List ℕ)
+pairs_header =
+    codes "id_a" ∷ codes "id_b" ∷ codes "pattern" ∷ codes "outcomes" ∷ codes "weight" ∷ codes "decision" ∷ codes "verdict" ∷ []
+
+-- the word of a decision
+abbrev pub decision_word : Decision → List ℕ
+decision_word decision.Link = codes "link"
+decision_word decision.Possible = codes "possible"
+decision_word decision.NonLink = codes "nonlink"
+
+-- the word of a verdict, and nothing where there is none
+abbrev pub verdict_word : Option Verdict → List ℕ
+verdict_word None = []
+verdict_word (Some verdict.Link) = codes "link"
+verdict_word (Some verdict.NonLink) = codes "nonlink"
+verdict_word (Some verdict.Undecided) = codes "open"
+
+-- a pair: the ids of its records, its comparison pattern with the outcomes, its weight, its decision and its verdict
+abbrev pub pair_fields : List Bool → List Record → List Record → PairRow → List (List ℕ)
+pair_fields rares a b row =
+    id_at a row.at.a ∷ id_at b row.at.b ∷ decimal row.pattern ∷ outcome_letters rares row.pattern ∷ signed_decimal row.weight
+    ∷ decision_word row.decision ∷ verdict_word row.verdict ∷ []
+
+abbrev pub pair_row : List Bool → List Record → List Record → PairRow → List ℕ
+pair_row rares a b row = row_text default_writer (pair_fields rares a b row)
+
+abbrev pub text_of_pairs : List Bool → List Record → List Record → List PairRow → List ℕ
+text_of_pairs rares a b rows = row_text default_writer pairs_header ++ flat_map (pair_row rares a b) rows
+
+-- a pair comes after the last one, where there is one
+abbrev pub IsAfter : Option PairAt → PairAt → Type 0
+IsAfter None at = ⊤
+IsAfter (Some last) at = IsPairBefore last at
+
+-- what is seen of a writer: which of its fields may be rare, its text so far, and the pair that was written last
+pub record PairsWritten : Type 0 where
+  pub rares : List Bool
+  pub text : List ℕ
+  pub last : Option PairAt

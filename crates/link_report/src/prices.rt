@@ -1,0 +1,65 @@
+// The dual prices of records.
+ghost use Rattle.std.specs.Prelude.{◌≡◌, ◌<◌, ◌++◌, ◌∷◌, [], IfOk, OnOk, codes, length, slice_index_or};
+ghost use Rattle.link_base.specs.Standard.{no_record};
+ghost use Rattle.link_report.specs.PricesText.{price_rows, text_of_prices};
+
+use csv_rows::push_row;
+use link_base::{NoMemory, StdFile, Text};
+use std::alloc::Global;
+
+// Appends the row of the price of a record, where it is not 0.
+fn push_price(
+    alloc: Global,
+    text: &mut Vec<u8>,
+    side: &[u8],
+    price: i64,
+    file: &StdFile,
+    at: u32,
+) -> Result<(), NoMemory>
+    requires { at < length file.now }
+    ensures { OnOk result (text.new.items ≡ text.old.items ++ price_rows side.now (price ∷ []) (slice_index_or file.now at no_record ∷ [])) }
+{
+    if price == 0 {
+        return Ok(());
+    }
+    let price = format!(in alloc; "{price}")?;
+    push_row(text, &[side, file.id(at), price.as_bytes()])
+}
+
+// Appends the rows of a side.
+fn push_side(
+    alloc: Global,
+    text: &mut Vec<u8>,
+    side: &[u8],
+    prices: &[i64],
+    file: &StdFile,
+) -> Result<(), NoMemory>
+    requires { length prices.now ≡ length file.now }
+    ensures { OnOk result (text.new.items ≡ text.old.items ++ price_rows side.now prices.now file.now) }
+{
+    for at in 0..file.rows() {
+        push_price(alloc, text, side, prices[at as usize], file, at)?;
+    }
+    Ok(())
+}
+
+/// The text of dual prices: the header `side,id,price`, and a row for each record whose price is not 0, those of A in order
+/// as side `A`, and then those of B as side `B`. Prices are eighths of a bit, one for each record.
+#[tactic(auto, using(crate::proofs::HeaderLemmas::prices_header_text))]
+pub fn prices_text(
+    alloc: Global,
+    prices_a: &[i64],
+    prices_b: &[i64],
+    a: &StdFile,
+    b: &StdFile,
+) -> Result<Text, NoMemory>
+    requires each_of_a { length prices_a.now ≡ length a.now }
+    requires each_of_b { length prices_b.now ≡ length b.now }
+    ensures { IfOk result (λ text. text ≡ text_of_prices prices_a.now prices_b.now a.now b.now) }
+{
+    let mut text = Vec::new(alloc);
+    text.extend_from_slice(b"side,id,price\n")?;
+    push_side(alloc, &mut text, b"A", prices_a, a)?;
+    push_side(alloc, &mut text, b"B", prices_b, b)?;
+    Ok(Text::of(text))
+}

@@ -1,0 +1,2 @@
+pub mod LastPair
+pub mod PairRows

@@ -1,0 +1,4 @@
+pub mod HeaderLemmas
+pub mod RowLemmas
+pub mod SettingsLemmas
+pub mod WordLemmas

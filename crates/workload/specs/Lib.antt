@@ -1,0 +1,4 @@
+pub mod Made
+pub mod MadeSettings
+pub mod People
+pub mod Words
