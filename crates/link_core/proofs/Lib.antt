@@ -4,4 +4,5 @@ pub mod PairLemmas
 pub mod ColumnLemmas
 pub mod NumberLemmas
 pub mod RuleLemmas
+pub mod ResultLemmas
 pub mod ReviewLemmas

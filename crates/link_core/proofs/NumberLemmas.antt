@@ -7,23 +7,23 @@ use Rattle.std.proofs.Math.Seq.{drop-cons}
 use Rattle.link_base.specs.Standard.{Record}
 use Rattle.link_base.specs.declared.standard.Value.{Value}
 use Rattle.file_reader.specs.Rows.{no_row, TableRow}
-use Rattle.link_core.specs.ColumnPairs.{cell_of}
-use Rattle.link_core.specs.ColumnRecords.{numbered, value_of}
+use Rattle.link_core.specs.ColumnPairs.{first_field}
+use Rattle.link_core.specs.ColumnRecords.{numbered_records, value_of}
 
 abbrev Cells : Type 0
 Cells = List (List ℕ)
 
-pub length_numbered : (n : ℕ) (cells : Cells) → length (numbered n cells) ≡ length cells
+pub length_numbered : (n : ℕ) (cells : Cells) → length (numbered_records n cells) ≡ length cells
 length_numbered n [] = refl
 length_numbered n (cell ∷ cells) = ap suc (length_numbered (n + 1) cells)
 
-id_at : (n : ℕ) (cells : Cells) (k : ℕ) (d : Record) → k < length cells → (get_or (numbered n cells) k d).id ≡ decimal (n + k + 1)
+id_at : (n : ℕ) (cells : Cells) (k : ℕ) (d : Record) → k < length cells → (get_or (numbered_records n cells) k d).id ≡ decimal (n + k + 1)
 id_at n [] k d h = absurd (omega arith)
 id_at n (cell ∷ cells) zero d h = ap decimal (omega arith)
 id_at n (cell ∷ cells) (suc k) d h = id_at (n + 1) cells k d (omega arith) ∙ ap decimal (omega arith)
 
 -- the next number is new
-pub fresh : (file rest : List Record) (cells : Cells) (at : ℕ) (id : List ℕ) → file ++ rest ≡ numbered 0 cells → length file ≡ at → at < 2 ^ 32 → id ≡ decimal (at + 1)
+pub fresh : (file rest : List Record) (cells : Cells) (at : ℕ) (id : List ℕ) → file ++ rest ≡ numbered_records 0 cells → length file ≡ at → at < 2 ^ 32 → id ≡ decimal (at + 1)
     → All (λ (r : Record). r.id ≢ id) file
 fresh file rest cells at id told count small is k d lt same =
     let whole : length file + length rest ≡ length cells = sym (length-append file rest) ∙ ap length told ∙ length_numbered 0 cells in
@@ -34,16 +34,16 @@ fresh file rest cells at id told count small is k d lt same =
 
 -- one record more
 pub told_push : (file new : List Record) (rows : List TableRow) (at : ℕ) (id cell : List ℕ) (row : List Value)
-    → file ++ numbered at (drop at (map cell_of rows)) ≡ numbered 0 (map cell_of rows) → at < length rows → id ≡ decimal (at + 1) → cell ≡ cell_of (get_or rows at no_row) → row ≡ value_of cell ∷ []
-    → new ≡ file ++ record { id = id; row = row } ∷ [] → new ++ numbered (at + 1) (drop (at + 1) (map cell_of rows)) ≡ numbered 0 (map cell_of rows)
+    → file ++ numbered_records at (drop at (map first_field rows)) ≡ numbered_records 0 (map first_field rows) → at < length rows → id ≡ decimal (at + 1) → cell ≡ first_field (get_or rows at no_row) → row ≡ value_of cell ∷ []
+    → new ≡ file ++ record { id = id; row = row } ∷ [] → new ++ numbered_records (at + 1) (drop (at + 1) (map first_field rows)) ≡ numbered_records 0 (map first_field rows)
 told_push file new rows at id cell row told lt ei ec er en =
-    let cells : Cells = map cell_of rows in
-    let within : at < length cells = rw (length-map rows cell_of) lt in
-    let rest : List Record = numbered (at + 1) (drop (suc at) cells) in
+    let cells : Cells = map first_field rows in
+    let within : at < length cells = rw (length-map rows first_field) lt in
+    let rest : List Record = numbered_records (at + 1) (drop (suc at) cells) in
     let here : drop at cells ≡ cell ∷ drop (suc at) cells =
-    drop-cons cells at [] within ∙ ap (λ (c : List ℕ). c ∷ drop (suc at) cells) (get_or-map cell_of rows at no_row [] lt ∙ sym ec) in
-    let first : numbered at (drop at cells) ≡ record { id = id; row = row } ∷ rest =
-    ap (numbered at) here ∙ ap (λ (i : List ℕ). record { id = i; row = value_of cell ∷ [] } ∷ rest) (sym ei) ∙ ap (λ (r : List Value). record { id = id; row = r } ∷ rest) (sym er) in
+    drop-cons cells at [] within ∙ ap (λ (c : List ℕ). c ∷ drop (suc at) cells) (get_or-map first_field rows at no_row [] lt ∙ sym ec) in
+    let first : numbered_records at (drop at cells) ≡ record { id = id; row = row } ∷ rest =
+    ap (numbered_records at) here ∙ ap (λ (i : List ℕ). record { id = i; row = value_of cell ∷ [] } ∷ rest) (sym ei) ∙ ap (λ (r : List Value). record { id = id; row = r } ∷ rest) (sym er) in
     let one : at + 1 ≡ suc at = omega arith in
-    let next : numbered (at + 1) (drop (at + 1) cells) ≡ rest = ap (λ n. numbered (at + 1) (drop n cells)) one in
+    let next : numbered_records (at + 1) (drop (at + 1) cells) ≡ rest = ap (λ n. numbered_records (at + 1) (drop n cells)) one in
     rw (en, next) (append_assoc file (record { id = id; row = row } ∷ []) rest ∙ ap (λ (rs : List Record). file ++ rs) (sym first) ∙ told)

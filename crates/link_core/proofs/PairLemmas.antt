@@ -3,11 +3,11 @@ use Rattle.std.proofs.Common.{◌≡◌, ◌<◌, ◌+◌, ℕ, zero, suc, List,
 use Rattle.link_base.specs.declared.fault.Fault.{Fault}
 use Rattle.link_base.specs.declared.fault.Fault.TheVariants as fault
 use Rattle.link_limits.specs.declared.TheConstants.{MOST_PAIRS}
-use Rattle.link_core.specs.Pairs.{pairs_within}
 use Rattle.std.proofs.lemmas.List.Elements.{All-append, All-cons, All-filter, All-nil}
 use Rattle.link_base.specs.Standard.{Record}
 use Rattle.link_base.specs.declared.plan.Part.{Part}
 use Rattle.link_base.specs.declared.rule.PairAt.{PairAt}
+use Rattle.pair_decisions.specs.Pairs.{pairs_within}
 use Rattle.pair_walk.specs.Pairs.{compared_pairs, is_compared, pairs_of_row, product_from}
 
 module _ (rows width : ℕ) where

@@ -2,7 +2,7 @@
 use Rattle.std.proofs.Common.{◌≡◌, ◌<◌, ℕ, zero, suc, List, [], ◌∷◌, length, All, get_or, refl, sym, ap, ◌∙◌, arith}
 use Rattle.std.proofs.lemmas.List.{length-map}
 use Rattle.std.proofs.lemmas.List.Elements.{All-get_or, All-weaker}
-use Rattle.link_base.specs.Standard.{absent, IsValid, no_record, Record}
+use Rattle.link_base.specs.Standard.{absent_value, IsValid, no_record, Record}
 use Rattle.link_base.specs.declared.plan.FieldSort.{FieldSort}
 use Rattle.link_base.specs.declared.plan.FieldSort.TheVariants as sort
 use Rattle.link_base.specs.declared.plan.Part.{Part}
@@ -49,7 +49,7 @@ module _ (fields : List FieldKeys) (parts : List Part) (row : List Value) (all :
   fields_in_range k lt = let of : (get_or parts k no_part).field < length fields = (All-get_or (IsPart fields) parts k no_part lt all).field in omega arith
 
   values_readable : AreReadable row parts
-  values_readable k lt = readable_valid (get_or parts k no_part).key (get_or row (get_or parts k no_part).field absent) (valid (get_or parts k no_part).field absent (fields_in_range k lt))
+  values_readable k lt = readable_valid (get_or parts k no_part).key (get_or row (get_or parts k no_part).field absent_value) (valid (get_or parts k no_part).field absent_value (fields_in_range k lt))
 
 width_of_plan : (plan : Plan) (row : List Value) → AreOfSorts (sorts_of plan) row → length row ≡ length plan.fields
 width_of_plan plan row h = as_many (sorts_of plan) row h ∙ length-map plan.fields (λ (f : FieldKeys). f.sort)

@@ -4,7 +4,7 @@ use Rattle.std.specs.Prelude.{MatchBool, ℤ}
 use Rattle.std.specs.List.{All}
 use Rattle.std.proofs.lemmas.List.{get_or_default, length-map}
 use Rattle.std.proofs.lemmas.Option.{slice_get_within}
-use Rattle.link_base.specs.Standard.{absent, Record}
+use Rattle.link_base.specs.Standard.{absent_value, Record}
 use Rattle.link_base.specs.declared.plan.CompareKind.{CompareKind}
 use Rattle.link_base.specs.declared.plan.CompareKind.TheVariants as by
 use Rattle.link_base.specs.declared.standard.Value.{Value}
@@ -59,7 +59,7 @@ of_row texts fields row sides h =
       valid = λ k f within.
           let P : CompareKind → Type 0 = λ kind. IsFieldSide (field_of kind) (get_or sides k id.Absent) in
           subst P (compared_at fields k f within) (h.valid k (omega (arith, many)));
-      of_texts = λ k within. of_texts texts _ (get_or row k absent) (get_or sides k id.Absent) (h.stand k (omega (arith, many)));
+      of_texts = λ k within. of_texts texts _ (get_or row k absent_value) (get_or sides k id.Absent) (h.stand k (omega (arith, many)));
     }
 
 pub sides_of_plan : (texts : List (List ℕ)) (n : ℕ) (fields : List FieldKeys) (file : List Record) (rows : List (List IdValue)) → n ≡ length texts → AreFileSides texts (map (λ (f : FieldKeys). f.compare) fields) file rows → All (AreSidesOf n fields) rows

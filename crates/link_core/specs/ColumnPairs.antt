@@ -8,24 +8,24 @@ use Rattle.link_base.specs.declared.fault.FileRole.{FileRole}
 use Rattle.link_base.specs.declared.fault.FileRole.TheVariants as role
 use Rattle.link_base.specs.declared.rule.PairAt.{PairAt}
 use Rattle.link_limits.specs.declared.TheConstants.{MOST_ROWS}
+use Rattle.pair_decisions.specs.Pairs.{pairs_within}
 use Rattle.file_reader.specs.Layout.{Wanted}
 use Rattle.file_reader.specs.Rows.{TableRow}
 use Rattle.file_reader.specs.Table.{table_of}
 use Rattle.pair_walk.specs.Keys.{same_text}
 use Rattle.pair_walk.specs.Pairs.{product_from}
-use Rattle.link_core.specs.Pairs.{pairs_within}
 
 -- one column of a file of at most 100,000 rows
 abbrev pub wanted_column : List ℕ → Wanted
 wanted_column column = record { id = None; columns = column ∷ []; most = MOST_ROWS }
 
 -- the first field of a row
-abbrev pub cell_of : TableRow → List ℕ
-cell_of row = slice_index_or row.fields 0 []
+abbrev pub first_field : TableRow → List ℕ
+first_field row = slice_index_or row.fields 0 []
 
 -- the fields of the column of a comma file
 abbrev pub column_of : FileRole → List ℕ → List ℕ → Result (List (List ℕ)) Fault
-column_of r column bytes = and_then (table_of r (wanted_column column) (records_in 44 bytes)) (λ rows. Ok (map cell_of rows))
+column_of r column bytes = and_then (table_of r (wanted_column column) (records_in 44 bytes)) (λ rows. Ok (map first_field rows))
 
 -- a field that is not empty
 abbrev pub present : List ℕ → Option (List ℕ)

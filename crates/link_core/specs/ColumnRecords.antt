@@ -12,9 +12,9 @@ value_of [] = value.Absent
 value_of (byte ∷ bytes) = value.Word (byte ∷ bytes)
 
 -- a record for each field, with its row as its id
-abbrev pub numbered : ℕ → List (List ℕ) → List Record
-numbered number [] = []
-numbered number (cell ∷ cells) = record { id = decimal (number + 1); row = value_of cell ∷ [] } ∷ numbered (number + 1) cells
+abbrev pub numbered_records : ℕ → List (List ℕ) → List Record
+numbered_records number [] = []
+numbered_records number (cell ∷ cells) = record { id = decimal (number + 1); row = value_of cell ∷ [] } ∷ numbered_records (number + 1) cells
 
 -- the one key is the whole field
 abbrev pub whole_field : List (List Part)

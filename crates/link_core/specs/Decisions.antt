@@ -5,9 +5,10 @@ use Rattle.link_base.specs.Answers.{and_then}
 use Rattle.link_base.specs.declared.fault.Fault.{Fault}
 use Rattle.link_base.specs.declared.rule.Decision.TheVariants.{Link, Possible}
 use Rattle.link_base.specs.declared.rule.PairAt.{PairAt}
+use Rattle.link_base.specs.Rule.{IsPairBefore}
 use Rattle.pair_decisions.specs.Decisions.{DecidedView, pairs_with}
 use Rattle.pair_decisions.specs.PairRule.{AreSidesFor, side_rule, side_rule_of, SideRule}
-use Rattle.pair_decisions.specs.Pairs.{IsInside, IsPairBefore}
+use Rattle.pair_decisions.specs.Pairs.{IsInside}
 use Rattle.plan_rule.specs.TheRule.{the_rule}
 use Rattle.settings.specs.Plan.{PlainShares}
 use Rattle.settings.specs.declared.plan.Plan.{Plan}

@@ -6,3 +6,4 @@ pub mod NameKeys
 pub mod Rules
 pub mod Decisions
 pub mod Review
+pub mod Results

@@ -1,19 +1,14 @@
 -- The compared pairs of a plan, and the text of their ids. `pair_ids` carries it (clause `answer`, by `ids_of_pairs`).
-use Rattle.std.specs.Prelude.{ℕ, List, length, nat_le, if◌then◌else◌, Result, Ok, Err}
-use Rattle.link_limits.specs.declared.TheConstants.{MOST_PAIRS}
+use Rattle.std.specs.Prelude.{ℕ, List, Result, Ok}
 use Rattle.link_base.specs.Answers.{and_then}
 use Rattle.link_base.specs.declared.fault.Fault.{Fault}
-use Rattle.link_base.specs.declared.fault.Fault.TheVariants as fault
 use Rattle.link_base.specs.declared.rule.PairAt.{PairAt}
+use Rattle.pair_decisions.specs.Pairs.{pairs_within}
 use Rattle.pair_walk.specs.Pairs.{compared_pairs}
 use Rattle.settings.specs.declared.plan.Plan.{Plan}
 use Rattle.standard_files.specs.Files.{StandardPair}
 use Rattle.link_report.specs.Lines.{ids_text}
 use Rattle.link_core.specs.Prepared.{prepared}
-
--- pairs, where they are not too many
-abbrev pub pairs_within : List PairAt → Result (List PairAt) Fault
-pairs_within pairs = if nat_le (length pairs) MOST_PAIRS then Ok pairs else Err (fault.TooManyPairs MOST_PAIRS)
 
 -- the pairs of two standard files that share a key in some blocking pass of the plan
 abbrev pub plan_pairs : Plan → StandardPair → Result (List PairAt) Fault

@@ -57,9 +57,9 @@ abbrev pub sides_in : PreparedView → FileRole → IdRows
 sides_in p role.B = p.values.b
 sides_in p r = p.values.a
 
-abbrev pub unreadable_in : PreparedView → FileRole → ℕ
-unreadable_in p role.B = p.files.b.unreadable
-unreadable_in p r = p.files.a.unreadable
+abbrev pub unreadable_of : PreparedView → FileRole → ℕ
+unreadable_of p role.B = p.files.b.unreadable
+unreadable_of p r = p.files.a.unreadable
 
 -- the pool has this limit, and the tables have a valid side for each value of both files, which stands for it
 pub record ArePooled (most : ℕ) (kinds : List CompareKind) (a b : List Record) (v : PooledView) : Type 0 where

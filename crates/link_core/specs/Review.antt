@@ -25,8 +25,8 @@ use Rattle.link_core.specs.Decisions.{Decisions}
 use Rattle.link_core.specs.Prepared.{PreparedView}
 
 -- the journal in these bytes, over prepared files
-abbrev pub journal_of : PreparedView → List ℕ → Result (List Entry) Fault
-journal_of p bytes = journal_in p.files.a.records p.files.b.records bytes
+abbrev pub journal_in_files : PreparedView → List ℕ → Result (List Entry) Fault
+journal_in_files p bytes = journal_in p.files.a.records p.files.b.records bytes
 
 -- the entries are on pairs of these files
 abbrev pub IsJournalOf : PreparedView → List Entry → Type 0

@@ -5,8 +5,8 @@ ghost use Rattle.file_reader.specs.Layout.{wanted_of};
 ghost use Rattle.file_reader.specs.Rows.{TableRow};
 ghost use Rattle.file_reader.specs.Table.{HasWidth, table_of};
 ghost use Rattle.csv_records.specs.Left.{records_in};
-ghost use Rattle.link_core.specs.ColumnPairs.{cell_of, pairs_of_fields, pairs_of_files, rows_of_pairs, wanted_column};
-ghost use Rattle.link_core.specs.ColumnRecords.{numbered, value_of, whole_field};
+ghost use Rattle.link_core.specs.ColumnPairs.{first_field, pairs_of_fields, pairs_of_files, rows_of_pairs, wanted_column};
+ghost use Rattle.link_core.specs.ColumnRecords.{numbered_records, value_of, whole_field};
 
 use crate::row_text::rows_text;
 use file_reader::{Layout, Table, read_table};
@@ -82,7 +82,7 @@ fn row_id(alloc: Global, row: u64) -> Result<Text, NoMemory>
 fn numbered_file(alloc: Global, table: &Table) -> Result<StdFile, NoMemory>
     requires few { length table.now ≤ MOST_ROWS }
     requires width { All (λ (r : TableRow). length r.fields ≡ 1) table.now }
-    ensures { IfOk result (λ file. file ≡ numbered 0 (map cell_of table.now)) }
+    ensures { IfOk result (λ file. file ≡ numbered_records 0 (map first_field table.now)) }
 {
     let mut file = StdFile::new(alloc)?;
     for at in 0..table.rows() {
@@ -100,7 +100,7 @@ fn compare_columns(alloc: Global, a: &Table, b: &Table) -> Result<Pairs, Fault>
     requires width_a { All (λ (r : TableRow). length r.fields ≡ 1) a.now }
     requires width_b { All (λ (r : TableRow). length r.fields ≡ 1) b.now }
     ensures kind { IfErr result IsInputFault }
-    ensures answer { IsAnswer (pairs_of_fields (map cell_of a.now) (map cell_of b.now)) result }
+    ensures answer { IsAnswer (pairs_of_fields (map first_field a.now) (map first_field b.now)) result }
 {
     let a = numbered_file(alloc, a)?;
     let b = numbered_file(alloc, b)?;

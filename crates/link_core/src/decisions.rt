@@ -2,9 +2,12 @@
 ghost use Rattle.std.specs.Prelude.{◌≡◌, All, IfErr, IfOk};
 ghost use Rattle.link_base.specs.Fault.{Gives, IsInputFault};
 ghost use Rattle.link_core.specs.Decisions.{decided, decisions_of, IsDecidedIn, rule_over};
+ghost use Rattle.link_core.specs.Results.{IsDecidedFor};
 ghost use Rattle.link_core.specs.Rules.{IsPreparedFor, shared_rares};
-ghost use Rattle.pair_decisions.specs.PairRule.{AreSidesFor, side_rule};
+ghost use Rattle.pair_decisions.specs.PairRule.{AreCellsOf, AreSidesFor, side_rule};
+ghost use Rattle.pattern_shapes.specs.Shapes.{pattern_count_by};
 ghost use Rattle.plan_rule.specs.Comparators.{rares_of};
+ghost use Rattle.plan_rule.specs.PlanRule.{IsRuleOf};
 ghost use Rattle.settings.specs.Ranges.{KeepsRanges};
 
 use crate::preparing::Prepared;
@@ -26,6 +29,8 @@ fn rule_for(
     requires ready { IsPreparedFor plan.now prepared.now }
     requires rares { shared_rares shares.now ≡ rares_of plan.now.fields }
     ensures rule { IfOk result (λ rule. side_rule rule ≡ rule_over plan.now prepared.now shares.now) }
+    ensures filled { IfOk result (λ rule. IsRuleOf plan.now shares.now rule.cells) }
+    ensures cells { IfOk result (λ rule. AreCellsOf (pattern_count_by (rares_of plan.now.fields)) rule.cells) }
     ensures sides_a { IfOk result (λ rule. All (AreSidesFor rule) prepared.now.values.a.rows) }
     ensures sides_b { IfOk result (λ rule. All (AreSidesFor rule) prepared.now.values.b.rows) }
 {
@@ -44,7 +49,8 @@ fn rule_for(
 
 /// The decisions of a plan's rule for these shares on the compared pairs of its prepared files: the rule is the filled table at
 /// the levels that the plan asks for, and each pair is a link, a possible link or a non-link by the cell of its comparison
-/// pattern and its border word. Refused as too many pairs exactly where there are more than `MOST_PAIRS`.
+/// pattern and its border word. Refused as too many pairs exactly where there are more than `MOST_PAIRS`; so a second walk over
+/// the same files meets no limit.
 pub fn decide_all(
     alloc: Global,
     plan: &Plan,
@@ -57,6 +63,8 @@ pub fn decide_all(
     ensures kind { IfErr result IsInputFault }
     ensures answer { Gives decisions_of (decided plan.now prepared.now shares.now) result }
     ensures of_files { IfOk result (IsDecidedIn prepared.now) }
+    ensures of_plan { IfOk result (IsDecidedFor plan.now prepared.now) }
+    ensures rule { IfOk result (λ d. IsRuleOf plan.now shares.now d.rule.cells) }
 {
     let rule = rule_for(alloc, plan, prepared, shares)?;
     decide_pairs(

@@ -6,6 +6,7 @@ mod decisions;
 mod name_keys;
 mod pairs;
 mod preparing;
+mod results;
 mod review;
 mod row_text;
 mod rules;
@@ -16,8 +17,6 @@ pub use name_keys::key_lines;
 pub use pair_decisions::Decided;
 pub use pairs::pair_ids;
 pub use preparing::{Prepared, prepare};
+pub use results::{RunResult, candidates, finish};
 pub use review::{add_verdicts, journal_in_files, journal_lines, open_lines, open_rows};
 pub use rules::{PlanShares, counted, frontier_lines, rule_lines};
-
-#[cfg(test)]
-mod tests;

@@ -1,7 +1,8 @@
 // The compared pairs of a plan.
 ghost use Rattle.std.specs.Prelude.{◌≡◌, ◌≤◌, IfErr};
 ghost use Rattle.link_base.specs.Fault.{IsAnswer, IsInputFault};
-ghost use Rattle.link_core.specs.Pairs.{ids_of_pairs, pairs_within};
+ghost use Rattle.pair_decisions.specs.Pairs.{pairs_within};
+ghost use Rattle.link_core.specs.Pairs.{ids_of_pairs};
 ghost use Rattle.pair_walk.specs.Pairs.{compared_pairs};
 ghost use Rattle.pair_walk.specs.Rows.{AreAllReady, AreKeysHeld};
 ghost use Rattle.settings.specs.Ranges.{KeepsRanges};

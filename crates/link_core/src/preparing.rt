@@ -1,7 +1,7 @@
 // Two files ready to be compared.
 ghost use Rattle.std.specs.Prelude.{◌≡◌, ◌≤◌, All, IfErr, IfOk, length};
 ghost use Rattle.link_base.specs.Fault.{IsAnswer, IsInputFault};
-ghost use Rattle.link_core.specs.Prepared.{ArePooled, IsOneOfBoth, kinds_of, prepared, sides_in, unreadable_in, with_fault};
+ghost use Rattle.link_core.specs.Prepared.{ArePooled, IsOneOfBoth, kinds_of, prepared, sides_in, unreadable_of, with_fault};
 ghost use Rattle.pooled_values.specs.Ready.{AreFileSides, AreInRange, HoldsParts, IsRowFor};
 ghost use Rattle.pooled_values.specs.Sides.{pooled_values};
 ghost use Rattle.pair_walk.specs.Rows.{AreAllReady, AreKeysHeld};
@@ -71,7 +71,7 @@ impl Prepared {
     /// How many dates of A or of B could not be read.
     pub fn unreadable(&self, role: FileRole) -> u32
         requires { IsOneOfBoth role }
-        ensures { result ≡ unreadable_in self.now role }
+        ensures { result ≡ unreadable_of self.now role }
     {
         match role {
             FileRole::B => self.files.b.unreadable,

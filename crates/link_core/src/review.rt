@@ -3,7 +3,7 @@ ghost use Rattle.std.specs.Prelude.{◌≡◌, ◌<◌, All, IfErr, IfOk, length
 ghost use Rattle.link_base.specs.Fault.{IsAnswer, IsInputFault};
 ghost use Rattle.link_base.specs.Standard.{IsDay};
 ghost use Rattle.link_core.specs.Decisions.{decisions_of, IsDecidedIn};
-ghost use Rattle.link_core.specs.Review.{IsJournalOf, is_open, journal_lines_of, journal_of, open_row_of, open_rows_of, open_text_of, reviewed_lines_of, text_within};
+ghost use Rattle.link_core.specs.Review.{IsJournalOf, is_open, journal_lines_of, journal_in_files, open_row_of, open_rows_of, open_text_of, reviewed_lines_of, text_within};
 ghost use Rattle.link_report.specs.declared.open.PairRow.{PairRow as Row};
 ghost use Rattle.review_journal.specs.Journal.{IsReviewer};
 
@@ -19,7 +19,7 @@ use std::alloc::Global;
 /// The journal in a file, over prepared files, or the first fault of the file.
 pub fn journal_in_files(alloc: Global, prepared: &Prepared, bytes: &[u8]) -> Result<Journal, Fault>
     ensures kind { IfErr result IsInputFault }
-    ensures answer { IsAnswer (journal_of prepared.now bytes.now) result }
+    ensures answer { IsAnswer (journal_in_files prepared.now bytes.now) result }
     ensures of_files { IfOk result (IsJournalOf prepared.now) }
 {
     read_journal(alloc, bytes, prepared.a(), prepared.b())
@@ -81,7 +81,7 @@ pub fn add_verdicts(
 }
 
 // Whether a pair with this verdict is open.
-fn awaits(verdict: Option<Verdict>) -> bool
+pub(crate) fn awaits(verdict: Option<Verdict>) -> bool
     ensures { result ≡ is_open verdict }
 {
     match verdict {

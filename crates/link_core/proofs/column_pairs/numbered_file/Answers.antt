@@ -1,13 +1,13 @@
 use Rattle.std.proofs.Common.{◌≡◌, ◌<◌, ◌++◌, ◌∷◌, ◌+◌, ◌∙◌, [], ap, arith, decimal, drop, length, length-append, map, rules}
-use Rattle.link_core.specs.ColumnPairs.{cell_of}
-use Rattle.link_core.specs.ColumnRecords.{numbered}
+use Rattle.link_core.specs.ColumnPairs.{first_field}
+use Rattle.link_core.specs.ColumnRecords.{numbered_records}
 use Rattle.link_core.proofs.NumberLemmas.{fresh, told_push}
 use Rattle.link_core.proofs.column_pairs.numbered_file.Goals as goal
 
 pub push-requires-clause-fresh : goal.push-requires-clause-fresh
 push-requires-clause-fresh c =
     let id : c.in_ok-id.id ≡ decimal (c.loop-at.at + 1) = search rules in
-    fresh c.loop-at.file (numbered c.loop-at.at (drop c.loop-at.at (map cell_of c.args.table.now))) (map cell_of c.args.table.now) c.loop-at.at c.in_ok-id.id c.loop-at.invariant.told c.loop-at.invariant.count (omega arith) id
+    fresh c.loop-at.file (numbered_records c.loop-at.at (drop c.loop-at.at (map first_field c.args.table.now))) (map first_field c.args.table.now) c.loop-at.at c.in_ok-id.id c.loop-at.invariant.told c.loop-at.invariant.count (omega arith) id
 
 pub loop-at-preserved : goal.loop-at-preserved
 loop-at-preserved c =

@@ -1,10 +1,14 @@
-use Rattle.std.proofs.Common.{◌∙◌, ap, List, subst, sym, length}
+use Rattle.std.proofs.Common.{◌≡◌, ◌∙◌, ap, List, subst, sym, length}
 use Rattle.comparators.specs.declared.ids.IdValue.{IdValue}
 use Rattle.pooled_values.specs.Ready.{AreFileSides}
 use Rattle.link_core.proofs.RuleLemmas.{rares_seen, sides_of_plan}
 use Rattle.link_core.specs.Prepared.{kinds_of}
 use Rattle.link_core.specs.Rules.{shared_rares}
+use Rattle.pair_decisions.specs.PairRule.{AreCellsOf, PairRuleView, side_rule, side_rule_of, SideRule}
+use Rattle.pattern_shapes.specs.Shapes.{pattern_count_by}
+use Rattle.plan_rule.specs.Comparators.{rares_of}
 use Rattle.plan_rule.specs.PlanShares.{plain_all}
+use Rattle.link_core.proofs.ResultLemmas.{if_ok}
 use Rattle.link_core.proofs.decisions.rule_for.Goals as goal
 
 pub rule_of_shares-requires-clause-rares : goal.rule_of_shares-requires-clause-rares
@@ -28,3 +32,11 @@ pub new-requires-clause-cells : goal.new-requires-clause-cells
 new-requires-clause-cells c =
     c.rule_has_patterns.ensures c.args.plan.now (plain_all c.fields.result.now) c.in_ok-table.table.cells.items c.in_ok-table.ensures.rule
     (ap shared_rares c.fields.ensures.shares ∙ c.requires.rares)
+
+pub returns-clause-cells : goal.returns-clause-cells
+returns-clause-cells c =
+    let n = pattern_count_by (rares_of c.args.plan.now.fields) in
+    let all = c.in_ok-table.table.cells.items in
+    let of_table : AreCellsOf n all = c.rule_has_patterns.ensures c.args.plan.now (plain_all c.fields.result.now) all c.in_ok-table.ensures.rule (ap shared_rares c.fields.ensures.shares ∙ c.requires.rares) in
+    if_ok (λ (rule : PairRuleView). side_rule rule ≡ side_rule_of c.args.plan.now c.len.result c.sides.result.now.rows c.sides-2.result.now.rows all) (λ (rule : PairRuleView). AreCellsOf n rule.cells) c.new.result
+    (λ rule is. subst (λ cs. AreCellsOf n cs) (sym (ap (λ (r : SideRule). r.cells) is)) of_table) c.new.ensures.rule

@@ -1,0 +1,46 @@
+-- What the steps of a run give, over the prepared files of a plan.
+use Rattle.std.proofs.Common.{◌≡◌, List, length, Result, Ok, Err, subst, filter}
+use Rattle.std.specs.Prelude.{All, Contains, IfOk, not}
+use Rattle.std.proofs.lemmas.List.Elements.{All-contains, All-filter, All-map, All-weaker}
+use Rattle.candidate_links.specs.Candidates.{AreCandidates, candidates_of}
+use Rattle.candidate_links.specs.Choice.{dropped, dropped_of, is_linked}
+use Rattle.comparators.specs.declared.ids.IdValue.{IdValue}
+use Rattle.link_base.specs.declared.rule.Candidate.{Candidate}
+use Rattle.link_base.specs.declared.rule.PairAt.{PairAt}
+use Rattle.link_report.specs.declared.report.Dropped.{Dropped}
+use Rattle.pair_decisions.specs.Decisions.{AreDecisionsOn, DecidedView}
+use Rattle.pair_decisions.specs.PairRule.{side_rule}
+use Rattle.review_journal.specs.declared.entry.Entry.{Entry}
+use Rattle.settings.specs.declared.plan.Plan.{Plan}
+use Rattle.link_core.specs.Decisions.{IsDecidedIn}
+use Rattle.link_core.specs.Prepared.{PreparedView}
+use Rattle.link_core.specs.Results.{candidates_in, compared_in, IsDecidedFor}
+
+pub if_ok : {T E : Type 0} (P Q : T → Type 0) (r : Result T E) → ((x : T) → P x → Q x) → IfOk r P → IfOk r Q
+if_ok P Q (Ok x) h p = h x p
+if_ok P Q (Err f) h p = tt
+
+-- the candidates among decided pairs are those of the files
+module _ (plan : Plan) (p : PreparedView) (d : DecidedView) (entries : List Entry) where
+  abbrev Wanted : List Candidate
+  Wanted = candidates_in plan p (side_rule d.rule) entries
+
+  abbrev Over : List (List IdValue) → List (List IdValue) → List Candidate → Type 0
+  Over ra rb cs = (pairs : List PairAt) → AreDecisionsOn ra rb pairs d → AreCandidates (length ra) (length rb) (candidates_of (side_rule d.rule) ra rb entries plan.award pairs) cs
+
+  pub candidates_found : (ra rb : List (List IdValue)) (cs : List Candidate) → ra ≡ p.values.a.rows → rb ≡ p.values.b.rows → IsDecidedIn p d → IsDecidedFor plan p d → Over ra rb cs
+      → AreCandidates (length p.files.a.records) (length p.files.b.records) Wanted cs
+  candidates_found ra rb cs ea eb inside of_plan h =
+      let over_a : Over p.values.a.rows rb cs = subst (λ r. Over r rb cs) ea h in
+      let over : Over p.values.a.rows p.values.b.rows cs = subst (λ r. Over p.values.a.rows r cs) eb over_a in
+      let found = over (compared_in plan p) of_plan.decisions in
+      let found_b = subst (λ n. AreCandidates (length p.values.a.rows) n Wanted cs) inside.rows_b found in
+      subst (λ n. AreCandidates n (length p.files.b.records) Wanted cs) inside.rows_a found_b
+
+-- links and dropped candidates stand in the files, by what holds of each candidate
+pub of_links : (P : Candidate → Type 0) (candidates links : List Candidate) → All P candidates → All (Contains candidates) links → All P links
+of_links P candidates links all among = All-weaker (Contains candidates) P (λ c h. All-contains P candidates c all h) links among
+
+pub of_dropped : (P : Dropped → Type 0) (candidates links : List Candidate) → All (λ c. P (dropped c)) candidates → All P (dropped_of candidates links)
+of_dropped P candidates links all =
+    All-map P dropped (filter (λ c. not (is_linked links c)) candidates) (All-filter (λ c. not (is_linked links c)) (λ c. P (dropped c)) candidates all)

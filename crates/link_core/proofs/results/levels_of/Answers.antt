@@ -1,0 +1,15 @@
+use Rattle.std.proofs.Common.{◌≡◌, ◌∙◌, ap, arith, length}
+use Rattle.pair_decisions.proofs.CellLemmas.{cells_many, few_patterns}
+use Rattle.pair_decisions.specs.PairRule.{PairRuleView}
+use Rattle.pattern_shapes.specs.Shapes.{pattern_count_by}
+use Rattle.plan_rule.specs.Comparators.{rares_of}
+use Rattle.link_core.proofs.results.levels_of.Goals as goal
+
+pub attained-requires-clause-size : goal.attained-requires-clause-size
+attained-requires-clause-size c =
+    let fields = c.args.plan.now.fields in
+    let all = c.args.decided.now.rule.cells in
+    let cells : c.table.result.now.cells.items ≡ all = c.table.ensures ∙ ap (λ (r : PairRuleView). r.cells) c.rule.ensures in
+    let many = cells_many (pattern_count_by (rares_of fields)) all c.requires.decided.cells in
+    let few = few_patterns fields c.requires.ranges.few_fields in
+    omega (arith, ap length cells, many, few)

@@ -1,0 +1,108 @@
+-- What a run comes to: the pairs, the rule, links and prices, and the report, each as its text (`finish`, its lone clause), and the
+-- candidates (`candidates`). Links and prices are a relation: any greatest one-to-one list serves, with any prices that certify it.
+use Rattle.std.specs.Prelude.{◌≡◌, ◌*◌, ◌^◌, ℕ, ℤ, List, length}
+use Rattle.link_limits.specs.declared.TheConstants.{WHOLE_FIELD, WHOLE_RULE}
+use Rattle.assignment_laws.specs.Assignment.{Certifies, IsGreatest, worth}
+use Rattle.candidate_links.specs.Candidates.{candidates_of}
+use Rattle.candidate_links.specs.Choice.{dropped_of}
+use Rattle.decision_rule.specs.Rule.{lambda_of, mu_of, possible_m_of, possible_u_of}
+use Rattle.link_base.specs.declared.rule.Candidate.{Candidate}
+use Rattle.link_base.specs.declared.rule.Decision.{Decision}
+use Rattle.link_base.specs.declared.rule.Decision.TheVariants.{Link, NonLink, Possible}
+use Rattle.link_base.specs.declared.rule.Levels.{Levels}
+use Rattle.link_base.specs.declared.rule.PairAt.{PairAt}
+use Rattle.link_base.specs.declared.rule.RuleCell.{RuleCell}
+use Rattle.link_report.specs.LinksText.{text_of_links}
+use Rattle.link_report.specs.PairsText.{text_of_pairs}
+use Rattle.link_report.specs.PricesText.{text_of_prices}
+use Rattle.link_report.specs.ReportText.{text_of_report}
+use Rattle.link_report.specs.RuleText.{text_of_rule}
+use Rattle.link_report.specs.declared.open.PairRow.{PairRow}
+use Rattle.link_report.specs.declared.report.Report.{Report}
+use Rattle.pair_decisions.specs.Decisions.{AreDecisionsOn, count_with, DecidedView, pairs_with}
+use Rattle.pair_decisions.specs.PairRule.{AreCellsOf, side_rule, SideRule}
+use Rattle.pair_lines.specs.PairRows.{pair_rows_of}
+use Rattle.pair_walk.specs.Pairs.{compared_pairs}
+use Rattle.pattern_shapes.specs.Shapes.{pattern_count_by}
+use Rattle.plan_rule.specs.Comparators.{rares_of}
+use Rattle.review_journal.specs.Idle.{idle_count}
+use Rattle.review_journal.specs.declared.entry.Entry.{Entry}
+use Rattle.settings.specs.declared.plan.Plan.{Plan}
+use Rattle.link_core.specs.Prepared.{PreparedView}
+use Rattle.link_core.specs.Review.{open_pairs}
+use Rattle.link_core.specs.declared.results.RunResult.{RunResult}
+
+-- the pairs that share a key in some blocking pass of a plan
+abbrev pub compared_in : Plan → PreparedView → List PairAt
+compared_in plan p = compared_pairs p.files.a.records p.files.b.records plan.passes
+
+-- those of them with a decision
+abbrev pub decided_in : Decision → Plan → PreparedView → SideRule → List PairAt
+decided_in kind plan p rule = pairs_with kind rule p.values.a.rows p.values.b.rows (compared_in plan p)
+
+-- each of them with its pattern, its weight, its decision and its verdict
+abbrev pub pair_rows_in : Plan → PreparedView → SideRule → List Entry → List PairRow
+pair_rows_in plan p rule entries = pair_rows_of rule p.values.a.rows p.values.b.rows entries (compared_in plan p)
+
+-- the candidates for links: links by the rule, and possible links that review says are links, which have the award of the plan
+abbrev pub candidates_in : Plan → PreparedView → SideRule → List Entry → List Candidate
+candidates_in plan p rule entries = candidates_of rule p.values.a.rows p.values.b.rows entries plan.award (compared_in plan p)
+
+-- decisions are those of a plan's rule on the compared pairs of its files: they are not too many, and each pattern has a cell
+pub record IsDecidedFor (plan : Plan) (p : PreparedView) (d : DecidedView) : Type 0 where
+  pub decisions : AreDecisionsOn p.values.a.rows p.values.b.rows (compared_in plan p) d
+  pub counts : (kind : Decision) → count_with d kind ≡ length (decided_in kind plan p (side_rule d.rule))
+  pub cells : AreCellsOf (pattern_count_by (rares_of plan.fields)) d.rule.cells
+
+-- the attained levels of a rule and its chances of a possible link, as sums over one denominator
+pub record AreLevelsOf (fields : ℕ) (cells : List RuleCell) (levels : Levels) : Type 0 where
+  pub denominator : levels.denominator ≡ WHOLE_FIELD ^ fields * WHOLE_RULE
+  pub mu : levels.mu ≡ mu_of cells
+  pub lambda : levels.lambda ≡ lambda_of cells
+  pub possible_m : levels.possible_m ≡ possible_m_of cells
+  pub possible_u : levels.possible_u ≡ possible_u_of cells
+
+-- the numbers of a report, and the candidates that are not among the links
+pub record IsReportOf (plan : Plan) (p : PreparedView) (rule : SideRule) (entries : List Entry) (links : List Candidate) (r : Report) : Type 0 where
+  pub unreadable_a : r.unreadable_a ≡ p.files.a.unreadable
+  pub unreadable_b : r.unreadable_b ≡ p.files.b.unreadable
+  pub pairs : r.pairs ≡ length (compared_in plan p)
+  pub link : r.link ≡ length (decided_in Link plan p rule)
+  pub possible : r.possible ≡ length (decided_in Possible plan p rule)
+  pub nonlink : r.nonlink ≡ length (decided_in NonLink plan p rule)
+  pub undecided : r.undecided ≡ length (open_pairs entries (decided_in Possible plan p rule))
+  pub entries_ : r.entries ≡ length entries
+  pub idle : r.idle ≡ idle_count (decided_in Possible plan p rule) entries
+  pub levels : AreLevelsOf (length plan.fields) rule.cells r.levels
+  pub links_ : r.links ≡ length links
+  pub total : r.total ≡ worth links
+  pub dropped : r.dropped.items ≡ dropped_of (candidates_in plan p rule entries) links
+
+-- the five texts
+pub record RunTexts : Type 0 where
+  pub pairs : List ℕ
+  pub rule : List ℕ
+  pub links : List ℕ
+  pub prices : List ℕ
+  pub report : List ℕ
+
+abbrev pub texts_of : RunResult → RunTexts
+texts_of r = record { pairs = r.pairs; rule = r.rule; links = r.links; prices = r.prices; report = r.report }
+
+-- texts are those of a run: of the compared pairs, of the rule, of a greatest one-to-one list of the candidates, of prices that
+-- certify it, one for each record, and of their report
+pub record AreRunTexts (plan : Plan) (p : PreparedView) (rule : SideRule) (entries : List Entry) (texts : RunTexts) : Type 0 where
+  pub links : List Candidate
+  pub prices_a : List ℤ
+  pub prices_b : List ℤ
+  pub report : Report
+  pub greatest : IsGreatest (candidates_in plan p rule entries) links
+  pub certified : Certifies (candidates_in plan p rule entries) links prices_a prices_b
+  pub priced_a : length prices_a ≡ length p.files.a.records
+  pub priced_b : length prices_b ≡ length p.files.b.records
+  pub reported : IsReportOf plan p rule entries links report
+  pub pairs_text : texts.pairs ≡ text_of_pairs (rares_of plan.fields) p.files.a.records p.files.b.records (pair_rows_in plan p rule entries)
+  pub rule_text : texts.rule ≡ text_of_rule (rares_of plan.fields) rule.cells
+  pub links_text : texts.links ≡ text_of_links p.files.a.records p.files.b.records links
+  pub prices_text : texts.prices ≡ text_of_prices prices_a prices_b p.files.a.records p.files.b.records
+  pub report_text : texts.report ≡ text_of_report p.files.a.records p.files.b.records report

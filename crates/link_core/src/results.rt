@@ -1,0 +1,224 @@
+// What a run comes to.
+ghost use Rattle.std.specs.Prelude.{◌≡◌, ◌<◌, ◌≤◌, All, IfOk, length};
+ghost use Rattle.assignment_laws.specs.Assignment.{Certifies, IsGreatest, worth};
+ghost use Rattle.candidate_links.specs.Candidates.{AreCandidates};
+ghost use Rattle.candidate_links.specs.Choice.{dropped_of};
+ghost use Rattle.link_core.specs.Decisions.{IsDecidedIn};
+ghost use Rattle.link_base.specs.Rule.{HasBoundedSums};
+ghost use Rattle.link_limits.specs.declared.TheConstants.{MOST_PAIRS};
+ghost use Rattle.link_core.specs.Results.{AreLevelsOf, AreRunTexts, candidates_in, IsDecidedFor, IsReportOf, pair_rows_in, texts_of};
+ghost use Rattle.link_core.specs.Review.{open_pairs};
+ghost use Rattle.link_core.specs.Rules.{IsPreparedFor};
+ghost use Rattle.link_base.specs.declared.rule.Candidate.{Candidate as Link};
+ghost use Rattle.link_report.specs.PairsText.{text_of_pairs};
+ghost use Rattle.link_report.specs.RuleText.{text_of_rule};
+ghost use Rattle.link_report.specs.declared.report.Dropped.{Dropped as Row};
+ghost use Rattle.pair_decisions.specs.PairRule.{side_rule};
+ghost use Rattle.plan_rule.specs.Comparators.{rares_of};
+ghost use Rattle.settings.specs.Ranges.{KeepsRanges};
+
+use crate::preparing::Prepared;
+use crate::review::awaits;
+use candidate_links::{ChosenLinks, candidates_among, choose_links};
+use decision_rule::attained;
+use link_base::{Candidate, Decision, FileRole, Levels, NoMemory, Text};
+use link_report::{Report, links_text, prices_text, report_text, rule_text};
+use pair_decisions::Decided;
+use pair_lines::pair_lines;
+use review_journal::{Journal, idle_entries};
+use settings::Plan;
+use std::alloc::Global;
+
+/// The five texts of a run: the compared pairs, the decision rule, the links, their dual prices, and the report.
+#[derive(Debug, Drop)]
+pub struct RunResult {
+    pub pairs: Text,
+    pub rule: Text,
+    pub links: Text,
+    pub prices: Text,
+    pub report: Text,
+}
+
+/// The candidates for links, rising by position: the pairs that are links by the rule, each worth its weight, and the possible
+/// links that review says are links, each worth its weight and the award of the plan.
+pub fn candidates(
+    alloc: Global,
+    plan: &Plan,
+    prepared: &Prepared,
+    decided: &Decided,
+    journal: &Journal,
+) -> Result<Vec<Candidate>, NoMemory>
+    requires ranges { KeepsRanges plan.now }
+    requires of_files { IsDecidedIn prepared.now decided.now }
+    requires decided { IsDecidedFor plan.now prepared.now decided.now }
+    ensures { IfOk result (λ cs. AreCandidates (length prepared.now.files.a.records) (length prepared.now.files.b.records) (candidates_in plan.now prepared.now (side_rule decided.now.rule) journal.now) cs.items) }
+{
+    candidates_among(
+        alloc,
+        decided,
+        journal,
+        plan.award,
+        prepared.sides(FileRole::A),
+        prepared.sides(FileRole::B),
+    )
+}
+
+// A greatest one-to-one list of the candidates with prices that certify it, and the candidates that are not in it.
+fn links_of(
+    alloc: Global,
+    plan: &Plan,
+    prepared: &Prepared,
+    decided: &Decided,
+    journal: &Journal,
+) -> Result<ChosenLinks, NoMemory>
+    requires ranges { KeepsRanges plan.now }
+    requires of_files { IsDecidedIn prepared.now decided.now }
+    requires decided { IsDecidedFor plan.now prepared.now decided.now }
+    ensures greatest { IfOk result (λ c. IsGreatest (candidates_in plan.now prepared.now (side_rule decided.now.rule) journal.now) c.links.items) }
+    ensures certified { IfOk result (λ c. Certifies (candidates_in plan.now prepared.now (side_rule decided.now.rule) journal.now) c.links.items c.prices_a.items c.prices_b.items) }
+    ensures priced_a { IfOk result (λ c. length c.prices_a.items ≡ length prepared.now.files.a.records) }
+    ensures priced_b { IfOk result (λ c. length c.prices_b.items ≡ length prepared.now.files.b.records) }
+    ensures in_a { IfOk result (λ c. All (λ (l : Link). l.a < length prepared.now.files.a.records) c.links.items) }
+    ensures in_b { IfOk result (λ c. All (λ (l : Link). l.b < length prepared.now.files.b.records) c.links.items) }
+    ensures few { IfOk result (λ c. length c.links.items ≤ MOST_PAIRS) }
+    ensures left_a { IfOk result (λ c. All (λ (d : Row). d.at.a < length prepared.now.files.a.records) c.dropped.items) }
+    ensures left_b { IfOk result (λ c. All (λ (d : Row). d.at.b < length prepared.now.files.b.records) c.dropped.items) }
+    ensures dropped { IfOk result (λ c. c.dropped.items ≡ dropped_of (candidates_in plan.now prepared.now (side_rule decided.now.rule) journal.now) c.links.items) }
+    ensures total { IfOk result (λ c. c.total ≡ worth c.links.items) }
+{
+    let found = candidates(alloc, plan, prepared, decided, journal)?;
+    choose_links(alloc, prepared.a().rows(), prepared.b().rows(), &found)
+}
+
+// The line of each compared pair, in a second walk.
+fn pairs_of(
+    alloc: Global,
+    plan: &Plan,
+    prepared: &Prepared,
+    decided: &Decided,
+    journal: &Journal,
+) -> Result<Text, NoMemory>
+    requires ranges { KeepsRanges plan.now }
+    requires ready { IsPreparedFor plan.now prepared.now }
+    requires of_files { IsDecidedIn prepared.now decided.now }
+    requires decided { IsDecidedFor plan.now prepared.now decided.now }
+    ensures { IfOk result (λ text. text ≡ text_of_pairs (rares_of plan.now.fields) prepared.now.files.a.records prepared.now.files.b.records (pair_rows_in plan.now prepared.now (side_rule decided.now.rule) journal.now)) }
+{
+    pair_lines(
+        alloc,
+        plan,
+        decided.rule(),
+        journal,
+        prepared.a(),
+        prepared.b(),
+        prepared.pool(),
+        prepared.sides(FileRole::A),
+        prepared.sides(FileRole::B),
+    )
+}
+
+// The text of the rule.
+fn rule_of(
+    alloc: Global,
+    plan: &Plan,
+    prepared: &Prepared,
+    decided: &Decided,
+) -> Result<Text, NoMemory>
+    requires ranges { KeepsRanges plan.now }
+    requires decided { IsDecidedFor plan.now prepared.now decided.now }
+    ensures { IfOk result (λ text. text ≡ text_of_rule (rares_of plan.now.fields) decided.now.rule.cells) }
+{
+    rule_text(alloc, decided.rule().table(), &plan.shape())
+}
+
+// The attained levels of the rule.
+fn levels_of(plan: &Plan, prepared: &Prepared, decided: &Decided) -> Levels
+    requires ranges { KeepsRanges plan.now }
+    requires decided { IsDecidedFor plan.now prepared.now decided.now }
+    ensures levels { AreLevelsOf (length plan.now.fields) decided.now.rule.cells result }
+    ensures bounded { HasBoundedSums result }
+{
+    attained(plan.shape().fields, decided.rule().table())
+}
+
+// How many possible links are open.
+fn open_count(decided: &Decided, journal: &Journal) -> u32
+    requires { length decided.now.possible ≤ MOST_PAIRS }
+    ensures { result ≡ length (open_pairs journal.now decided.now.possible) }
+{
+    let mut open = 0;
+    for at in decided.possible() {
+        if awaits(journal.verdict(at.a, at.b)) {
+            open += 1;
+        }
+    }
+    open
+}
+
+// The report of a run with these links.
+fn report_of(
+    plan: &Plan,
+    prepared: &Prepared,
+    decided: &Decided,
+    journal: &Journal,
+    chosen: ChosenLinks,
+) -> Report
+    requires ranges { KeepsRanges plan.now }
+    requires of_files { IsDecidedIn prepared.now decided.now }
+    requires decided { IsDecidedFor plan.now prepared.now decided.now }
+    requires dropped { chosen.dropped.items ≡ dropped_of (candidates_in plan.now prepared.now (side_rule decided.now.rule) journal.now) chosen.links.items }
+    requires total { chosen.total ≡ worth chosen.links.items }
+    requires few { length chosen.links.items ≤ MOST_PAIRS }
+    ensures numbers { IsReportOf plan.now prepared.now (side_rule decided.now.rule) journal.now chosen.links.items result }
+    ensures dropped { result.dropped.items ≡ chosen.dropped.items }
+    ensures bounded { HasBoundedSums result.levels }
+{
+    Report {
+        unreadable_a: prepared.unreadable(FileRole::A),
+        unreadable_b: prepared.unreadable(FileRole::B),
+        pairs: decided.compared(),
+        link: decided.count(Decision::Link),
+        possible: decided.count(Decision::Possible),
+        nonlink: decided.count(Decision::NonLink),
+        undecided: open_count(decided, journal),
+        entries: journal.entries().len() as u32,
+        idle: idle_entries(journal, decided.possible()),
+        levels: levels_of(plan, prepared, decided),
+        links: chosen.links.len() as u32,
+        total: chosen.total,
+        dropped: chosen.dropped,
+    }
+}
+
+/// The five texts of a run over prepared files: the compared pairs in a second walk, each line written as it comes; the rule; a
+/// greatest one-to-one list of the candidates; prices that certify it; and the report.
+pub fn finish(
+    alloc: Global,
+    plan: &Plan,
+    prepared: &Prepared,
+    decided: &Decided,
+    journal: &Journal,
+) -> Result<RunResult, NoMemory>
+    requires ranges { KeepsRanges plan.now }
+    requires ready { IsPreparedFor plan.now prepared.now }
+    requires of_files { IsDecidedIn prepared.now decided.now }
+    requires of_plan { IsDecidedFor plan.now prepared.now decided.now }
+    ensures { IfOk result (λ r. AreRunTexts plan.now prepared.now (side_rule decided.now.rule) journal.now (texts_of r)) }
+{
+    let a = prepared.a();
+    let b = prepared.b();
+    let chosen = links_of(alloc, plan, prepared, decided, journal)?;
+    let pairs = pairs_of(alloc, plan, prepared, decided, journal)?;
+    let rule = rule_of(alloc, plan, prepared, decided)?;
+    let links = links_text(alloc, &chosen.links, a, b)?;
+    let prices = prices_text(alloc, &chosen.prices_a, &chosen.prices_b, a, b)?;
+    let made = report_of(plan, prepared, decided, journal, chosen);
+    let report = report_text(alloc, &made, a, b)?;
+    Ok(RunResult {
+        pairs,
+        rule,
+        links,
+        prices,
+        report,
+    })
+}
