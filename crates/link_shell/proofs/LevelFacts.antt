@@ -3,7 +3,8 @@ use Rattle.std.proofs.Common.{◌≡◌, ◌<◌, ◌≤◌, ◌+◌, ◌*◌, �
 use Rattle.std.proofs.lemmas.Bool.Decides.{nat_tests}
 use Rattle.std.specs.Prelude.{Bool, true, false, ◌&&◌, nat_le}
 use Rattle.std.specs.List.{list_all}
-use Rattle.link_shell.specs.FrontierSettings.{are_levels_from, is_level_word, number_after, number_in}
+use Rattle.link_shell.specs.FrontierSettings.{are_levels_from, is_level_word}
+use Rattle.link_shell.specs.Numbers.{number_after, number_in}
 
 pub number_after_least : (n : ℕ) (digits : List ℕ) → n ≤ number_after n digits
 number_after_least n [] = omega arith

@@ -4,3 +4,5 @@ pub mod DoesFacts
 pub mod PutFacts
 pub mod Laws
 pub mod LevelFacts
+pub mod HeadlineFacts
+pub mod InputFacts

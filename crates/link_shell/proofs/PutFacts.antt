@@ -1,12 +1,14 @@
 -- Puts one after the other.
-use Rattle.std.proofs.Common.{◌≡◌, ◌⊎◌, ◌≤◌, ◌<◌, ◌+◌, inl, inr, ◌++◌, ◌∷◌, ℕ, zero, suc, List, [], Err, get_or, refl, sym, ap, subst, ◌∙◌, arith, take, length, add-one, Option, Some}
+use Rattle.std.proofs.Common.{◌≡◌, ◌⊎◌, ◌≤◌, ◌<◌, ◌+◌, inl, inr, ◌++◌, ◌∷◌, ℕ, zero, suc, List, [], Result, Err, get_or, refl, sym, ap, subst, ◌∙◌, arith, take, length, add-one, Option, Some}
 use Rattle.std.specs.Prelude.{unwrap_or}
 use Rattle.link_base.specs.declared.fault.Fault.{Fault}
 use Rattle.link_outside.specs.Outside.{Held, held_with}
 use Rattle.link_outside.specs.declared.outside.StoreCall.{StoreCall}
 use Rattle.link_shell.specs.Causes.{Cause, cause_of, the_memory, the_store}
 use Rattle.link_shell.specs.Due.{after_puts, no_put, Put, put_of, puts}
-use Rattle.link_shell.specs.Ways.{EachFails, OneFails, PutsEach, PutsOne}
+use Rattle.link_shell.specs.Seen.{StoreSeen}
+use Rattle.link_shell.specs.Ways.{EachFails, OneFails, PutsAll, PutsEach, PutsOne}
+use Rattle.link_shell.specs.declared.ends.Ended.{Ended}
 
 -- one put more
 after_suc : (all : List Put) (n : ℕ) (held : Held) → n < length all
@@ -63,3 +65,7 @@ puts_go all n put h0 h1 h2 lt e before made =
 pub journal_put : (name : List ℕ) (journal : Option (List ℕ)) (b bytes : List ℕ) → Some name ≡ journal → b ≡ bytes
     → puts (record { name = name; bytes = b } ∷ []) ≡ puts (record { name = unwrap_or journal []; bytes = bytes } ∷ [])
 journal_put name journal b bytes of_name of_bytes = λ i. puts (record { name = unwrap_or (of_name i) []; bytes = of_bytes i } ∷ [])
+
+-- puts that were made are these, where both are the same
+pub puts_as : {store : StoreSeen} {answer : Result Ended Fault} (all same : List Put) → all ≡ same → PutsAll all store answer → PutsAll same store answer
+puts_as {store = store} {answer = answer} all same e h = subst (λ (ps : List Put). PutsAll ps store answer) e h

@@ -2,6 +2,7 @@
 use Rattle.std.specs.Prelude.{◌≡◌, ℕ, List, drop, map, string_bytes, if◌then◌else◌, Option, Some, None, true, ⊤}
 use Rattle.std.specs.List.{list_all}
 use Rattle.link_shell.specs.Does.{Script}
+use Rattle.link_shell.specs.Generate.{are_generate_words, generate_script, IsMadeNumber, rows_in}
 use Rattle.link_shell.specs.FrontierSettings.{are_frontier_words, Asked, asked_in, asked_of_request, frontier_script, is_level_word}
 use Rattle.link_shell.specs.Keys.{are_keys_words, keys_script}
 use Rattle.link_shell.specs.MigrateSettings.{are_migrate_words, migrate_script}
@@ -10,6 +11,7 @@ use Rattle.link_shell.specs.ReviewSettings.{are_review_words, IsReviewRequest, N
 use Rattle.link_shell.specs.PairsColumns.{are_column_words, Columns, columns_in, columns_of_request, columns_script}
 use Rattle.link_shell.specs.PairsSettings.{are_settings_words, settings_script}
 use Rattle.link_shell.specs.RuleSettings.{are_rule_words, rule_script}
+use Rattle.link_shell.specs.RunSettings.{are_run_words, run_script}
 use Rattle.link_shell.specs.Words.{word}
 use Rattle.link_shell.specs.declared.command.Command.{Command as CommandWords}
 use Rattle.link_shell.specs.declared.command.Command.TheVariants as words
@@ -24,9 +26,11 @@ pub data Command : Type 0 where
   open_of_settings : List ℕ → Command
   review_of_settings : NewReview → Command
   migration_of_settings : List ℕ → Command
+  run_of_settings : List ℕ → Command
+  generation : ℕ → Command
 
 -- the command that the words are a form of
-abbrev pub command_of : List (List ℕ) → Option Command
+unfoldable pub command_of : List (List ℕ) → Option Command
 command_of words =
     if are_column_words words
     then Some (pairs_of_columns (columns_in words))
@@ -36,7 +40,9 @@ command_of words =
     else if are_frontier_words words then Some (frontier_of_settings (asked_in words))
     else if are_open_words words then Some (open_of_settings (word words 1))
     else if are_review_words words then Some (review_of_settings (review_in words))
-    else if are_migrate_words words then Some (migration_of_settings (word words 1)) else None
+    else if are_migrate_words words then Some (migration_of_settings (word words 1))
+    else if are_run_words words then Some (run_of_settings (word words 1))
+    else if are_generate_words words then Some (generation (rows_in words)) else None
 
 -- the script of a command
 abbrev pub script_of : Command → Script
@@ -48,6 +54,8 @@ script_of (frontier_of_settings asked) = frontier_script asked
 script_of (open_of_settings name) = open_script name
 script_of (review_of_settings review) = review_script review
 script_of (migration_of_settings name) = migrate_script name
+script_of (run_of_settings name) = run_script name
+script_of (generation rows) = generate_script rows
 
 -- a command, as its words are held
 abbrev pub command_in : CommandWords → Command
@@ -59,9 +67,12 @@ command_in (words.FrontierOfSettings request) = frontier_of_settings (asked_of_r
 command_in (words.OpenOfSettings name) = open_of_settings name.now
 command_in (words.ReviewOfSettings request) = review_of_settings (review_of_request request)
 command_in (words.MigrationOfSettings name) = migration_of_settings name.now
+command_in (words.RunOfSettings name) = run_of_settings name.now
+command_in (words.Generation rows) = generation rows
 
 -- words that were read keep their ranges: the levels of a frontier are levels, a review has a day and a reviewer
 abbrev pub KeepsWords : CommandWords → Type 0
 KeepsWords (words.FrontierOfSettings request) = list_all is_level_word (map string_bytes request.levels.now) ≡ true
 KeepsWords (words.ReviewOfSettings request) = IsReviewRequest request
+KeepsWords (words.Generation rows) = IsMadeNumber rows
 KeepsWords command = ⊤

@@ -1,28 +1,15 @@
 -- The command `frontier SETTINGS MU..`: its words, its steps and what is due, by the clause `follows` of `perform`.
-use Rattle.std.specs.Prelude.{◌≡◌, ◌+◌, ◌-◌, ◌*◌, ℕ, List, [], ◌∷◌, length, drop, map, Bool, true, not, ◌==◌, ◌&&◌, ◌||◌, nat_le, bytes_eq, codes, slice_index_or, string_bytes}
-use Rattle.std.specs.Char.{is_ascii_digit}
-use Rattle.std.specs.List.{list_all}
+use Rattle.std.specs.Prelude.{◌≡◌, ◌+◌, ℕ, List, [], ◌∷◌, length, drop, map, Bool, true, ◌&&◌, nat_le, bytes_eq, codes, string_bytes}
 use Rattle.link_limits.specs.declared.TheConstants.{PER_MILLION}
 use Rattle.link_core.specs.Rules.{IsFrontierText}
 use Rattle.link_shell.specs.Does.{Script}
 use Rattle.link_shell.specs.Due.{Due, prints}
 use Rattle.link_shell.specs.Front.{shared_plan}
+use Rattle.link_shell.specs.Numbers.{is_number_word, number_in}
 use Rattle.link_shell.specs.Words.{is_settings_word, word}
 use Rattle.link_shell.specs.declared.ends.Ended.TheVariants.{Done}
 use Rattle.link_shell.specs.declared.front.Shared.{Shared}
 use Rattle.link_shell.specs.declared.frontier_settings.FrontierRequest.{FrontierRequest}
-
--- the number that decimal digits write, after those before
-abbrev pub number_after : ℕ → List ℕ → ℕ
-number_after n [] = n
-number_after n (digit ∷ digits) = number_after (n * 10 + (digit - 48)) digits
-
-abbrev pub number_in : List ℕ → ℕ
-number_in digits = number_after 0 digits
-
--- digits without a leading zero
-abbrev pub is_number_word : List ℕ → Bool
-is_number_word w = nat_le 1 (length w) && list_all is_ascii_digit w && (length w == 1 || not (slice_index_or w 0 48 == 48))
 
 -- a level in parts per million
 abbrev pub is_level_word : List ℕ → Bool

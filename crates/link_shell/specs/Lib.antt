@@ -10,8 +10,12 @@ pub mod Front
 pub mod PairsColumns
 pub mod PairsSettings
 pub mod Keys
+pub mod Numbers
 pub mod FrontierSettings
+pub mod RunSettings
+pub mod Generate
 pub mod Commands
+pub mod Headline
 pub mod Linked
 pub mod RuleSettings
 pub mod Reviewed

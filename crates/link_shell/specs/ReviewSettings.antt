@@ -1,11 +1,11 @@
 -- The command `review SETTINGS VERDICTS DATE REVIEWER`: new verdicts on possible links, added to the journal.
-use Rattle.std.specs.Prelude.{◌≡◌, ◌∷◌, [], ℕ, ℤ, pos, List, length, Bool, ◌==◌, ◌&&◌, bytes_eq, codes, is_some, unwrap_or, Ok}
+use Rattle.std.specs.Prelude.{ℕ, ℤ, pos, List, length, Bool, ◌==◌, ◌&&◌, bytes_eq, codes, is_some, unwrap_or, Ok}
 use Rattle.link_base.specs.Standard.{IsDay}
 use Rattle.review_journal.specs.Journal.{IsReviewer}
 use Rattle.value_forms.specs.Days.{iso_day}
 use Rattle.link_core.specs.Review.{reviewed_lines_of}
 use Rattle.link_shell.specs.Does.{Script}
-use Rattle.link_shell.specs.Due.{Due, Put, puts}
+use Rattle.link_shell.specs.Due.{Put}
 use Rattle.link_shell.specs.Reviewed.{journal_plan, named_journal, reviewed_plan}
 use Rattle.link_base.specs.declared.fault.FileRole.TheVariants as role
 use Rattle.link_shell.specs.MigrateSettings.{is_put}

@@ -3,44 +3,42 @@ use Rattle.std.specs.Prelude.{ℕ, List, [], codes, is_some, unwrap_or, Option, 
 use Rattle.link_base.specs.declared.fault.Fault.{Fault}
 use Rattle.link_base.specs.declared.fault.Fault.TheVariants as fault
 use Rattle.link_base.specs.declared.fault.FileRole.TheVariants as role
+use Rattle.settings.specs.Plan.{PlainShares}
 use Rattle.settings.specs.declared.plan.Plan.{Plan}
 use Rattle.review_journal.specs.declared.entry.Entry.{Entry}
 use Rattle.link_core.specs.Decisions.{decided, Decisions, decisions_of}
 use Rattle.link_core.specs.Prepared.{PreparedView}
-use Rattle.link_core.specs.Review.{journal_of}
+use Rattle.link_core.specs.Review.{journal_in_files}
 use Rattle.link_shell.specs.Front.{plan_file, prepared_files, shares_over}
 use Rattle.link_shell.specs.Steps.{◌>>=◌, file, gives, Steps}
 use Rattle.link_shell.specs.declared.reviewed.Reviewed.{Reviewed}
 
--- the prepared files of a plan, the decisions on their compared pairs, and the entries of the journal
+-- the prepared files of a plan, the shares of its fields, the decisions on the compared pairs, and the entries of the journal
 pub record Review : Type 0 where
   pub files : PreparedView
+  pub shares : List PlainShares
   pub decided : Decisions
   pub journal : List Entry
 
 abbrev pub review_of : Reviewed → Review
-review_of r = record { files = r.files; decided = decisions_of r.decided; journal = r.journal }
-
--- the decisions of a plan's rule on the compared pairs of its prepared files: the faults of the sample come before too many pairs
-abbrev pub decided_over : Plan → PreparedView → Steps Decisions
-decided_over plan files = do
-  shares ← shares_over plan files plan.sample
-  gives (decided plan files shares)
+review_of r = record { files = r.files; shares = r.shares; decided = decisions_of r.decided; journal = r.journal }
 
 -- the entries of the journal that a plan names, over its prepared files
 abbrev pub journal_file : PreparedView → Option (List ℕ) → Steps (List Entry)
 journal_file files None = gives (Ok [])
 journal_file files (Some name) = do
   bytes ← file role.Journal name
-  gives (journal_of files bytes)
+  gives (journal_in_files files bytes)
 
--- the files of a plan with the decisions of its rule on the compared pairs, and the entries of its journal
+-- the files of a plan with the decisions of its rule on the compared pairs, and the entries of its journal: the faults of the sample
+-- come before too many pairs, and these before the faults of the journal
 abbrev pub reviewed_plan : Plan → Steps Review
 reviewed_plan plan = do
   files ← prepared_files plan
-  decided ← decided_over plan files
+  shares ← shares_over plan files plan.sample
+  decided ← gives (decided plan files shares)
   journal ← journal_file files plan.journal
-  gives (Ok (record { files = files; decided = decided; journal = journal }))
+  gives (Ok (record { files = files; shares = shares; decided = decided; journal = journal }))
 
 -- a plan that names a journal
 abbrev pub with_journal : Plan → Result Plan Fault

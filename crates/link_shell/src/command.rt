@@ -2,6 +2,7 @@
 ghost use Rattle.std.specs.Prelude.{◌≡◌, IfSome, map, option_map, Result, string_bytes};
 ghost use Rattle.link_base.specs.declared.fault.Fault.{Fault as AnyFault};
 ghost use Rattle.link_shell.specs.Commands.{command_in, command_of, KeepsWords};
+ghost use Rattle.link_shell.specs.Headline.{Headline};
 ghost use Rattle.link_shell.specs.Linked.{Follows, Performed, Reported};
 ghost use Rattle.link_shell.specs.Seen.{sink_seen, store_seen};
 ghost use Rattle.link_shell.specs.declared.ends.Ended.{Ended as AnyEnded};
@@ -11,8 +12,8 @@ use crate::frontier_settings::FrontierRequest;
 use crate::pairs_columns::ColumnRequest;
 use crate::review_settings::ReviewRequest;
 use crate::{
-    frontier_settings, keys, migrate_settings, open_settings, pairs_columns, pairs_settings,
-    review_settings, rule_settings,
+    frontier_settings, generate, keys, migrate_settings, open_settings, pairs_columns,
+    pairs_settings, review_settings, rule_settings, run_settings,
 };
 use link_base::{Fault, status_of};
 use link_outside::{Sink, SinkError, Store, write_fault};
@@ -34,9 +35,14 @@ pub(crate) enum Command<'w> {
     ReviewOfSettings(ReviewRequest<'w>),
     // The name of the settings file.
     MigrationOfSettings(&'w str),
+    // The name of the settings file.
+    RunOfSettings(&'w str),
+    // How many rows a file has.
+    Generation(u32),
 }
 
 // The command that the words are a form of.
+#[tactic(auto, unfolding(crate::specs::Commands::command_of))]
 fn read_command(words: &[String]) -> Option<Command<'_>>
     ensures command { option_map command_in result ≡ command_of (map string_bytes words.now) }
     ensures ranges { IfSome result KeepsWords }
@@ -71,6 +77,14 @@ fn read_command(words: &[String]) -> Option<Command<'_>>
     }
     match migrate_settings::read(words) {
         Some(name) => return Some(Command::MigrationOfSettings(name)),
+        None => {}
+    }
+    match run_settings::read(words) {
+        Some(name) => return Some(Command::RunOfSettings(name)),
+        None => {}
+    }
+    match generate::read(words) {
+        Some(rows) => return Some(Command::Generation(rows)),
         None => return None,
     }
 }
@@ -101,6 +115,8 @@ fn follow<S: Store, O: Sink>(
         Some(Command::MigrationOfSettings(name)) => migrate_settings::perform(
             alloc, name, store, out,
         ),
+        Some(Command::RunOfSettings(name)) => run_settings::perform(alloc, name, store, out),
+        Some(Command::Generation(rows)) => generate::perform(alloc, rows, store, out),
         None => Err(Fault::Usage),
     }
 }
@@ -135,6 +151,11 @@ fn report<E: Sink>(alloc: Global, answer: &Result<Ended, Fault>, err: &mut E) ->
 
 /// Does the command that the words name over the store, hands what it prints to `out` and the line of a
 /// fault to `err`, and answers its exit status: 0 done, 9 refuted, and else that of the fault.
+///
+/// For every accepted input, `run` writes exactly the pairs that share a key in some pass, each once; a rule that, among all
+/// randomised rules whose error levels are at most its own, has the least chance of 'possible link' for matched and for unmatched
+/// pairs; and one-to-one links, each by rule or review, of greatest total weight, awards of review included, with prices that
+/// certify it (clause `headline`).
 pub fn linkage<S: Store, O: Sink, E: Sink>(
     alloc: Global,
     words: &[String],
@@ -142,9 +163,10 @@ pub fn linkage<S: Store, O: Sink, E: Sink>(
     out: &mut O,
     err: &mut E,
 ) -> u8
-    ensures { (answer : Result AnyEnded AnyFault)
+    ensures performed { (answer : Result AnyEnded AnyFault)
         × Performed (map string_bytes words.now) (store_seen S.tells S.held S.faults store.old store.new) (sink_seen O.tells O.taken O.faults out.old out.new) answer
         × Reported (sink_seen E.tells E.taken E.faults err.old err.new) answer result }
+    ensures headline { Headline (map string_bytes words.now) (store_seen S.tells S.held S.faults store.old store.new) (sink_seen O.tells O.taken O.faults out.old out.new) (sink_seen E.tells E.taken E.faults err.old err.new) result }
 {
     let answer = perform(alloc, words, store, out);
     report(alloc, &answer, err)

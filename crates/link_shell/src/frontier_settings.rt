@@ -1,17 +1,18 @@
 // The command `frontier SETTINGS MU..`.
-ghost use Rattle.std.specs.Prelude.{◌≡◌, ◌≤◌, ◌&&◌, [], All, IfOk, IfSome, drop, is_some, length, map, nat_le, option_map, slice_index_or, string_bytes, true};
-ghost use Rattle.std.specs.Char.{is_ascii_digit};
+ghost use Rattle.std.specs.Prelude.{◌≡◌, ◌≤◌, [], All, IfOk, IfSome, is_some, map, string_bytes, true};
 ghost use Rattle.std.specs.List.{list_all};
 ghost use Rattle.link_shell.specs.Does.{Does};
-ghost use Rattle.link_shell.specs.FrontierSettings.{are_frontier_words, are_levels_from, asked_in, asked_of_request, frontier_script, is_level_word, number_in};
+ghost use Rattle.link_shell.specs.FrontierSettings.{are_frontier_words, are_levels_from, asked_in, asked_of_request, frontier_script, is_level_word};
+ghost use Rattle.link_shell.specs.Numbers.{number_in};
 ghost use Rattle.link_shell.specs.Seen.{sink_seen, store_seen};
+ghost use Rattle.link_limits.specs.declared.TheConstants.{PER_MILLION};
 
 use crate::ends::{Ended, print};
 use crate::front::load_shared;
+use crate::numbers::number_of_word;
 use crate::words::{is_settings, word_at};
 use link_base::{Fault, NoMemory};
 use link_core::frontier_lines;
-use link_limits::PER_MILLION;
 use link_outside::{Sink, Store};
 use std::alloc::Global;
 
@@ -22,43 +23,13 @@ pub(crate) struct FrontierRequest<'w> {
     pub(crate) levels: &'w [String],
 }
 
-// The number of these digits, where it is at most a million.
-fn number_of(digits: &[u8]) -> Option<u32>
-    ensures some { is_some result ≡ (list_all is_ascii_digit digits.now && nat_le (number_in digits.now) PER_MILLION) }
-    ensures value { IfSome result (λ n. n ≡ number_in digits.now) }
-{
-    let mut number = 0;
-    for digit in digits {
-        if !digit.is_ascii_digit() {
-            return None;
-        }
-        number = number * 10 + u32::from(*digit - b'0');
-        if number > PER_MILLION {
-            return None;
-        }
-    }
-    Some(number)
-}
-
-// The level that a word writes, in parts per million.
-fn level_of(word: &str) -> Option<u32>
-    ensures some { is_some result ≡ is_level_word word.now }
-    ensures value { IfSome result (λ n. n ≡ number_in word.now) }
-{
-    let digits = word.as_bytes();
-    if digits.is_empty() || (digits.len() > 1 && digits[0] == b'0') {
-        return None;
-    }
-    number_of(digits)
-}
-
 // Whether words are levels that rise.
 fn are_levels(words: &[String]) -> bool
     ensures { result ≡ are_levels_from 0 (map string_bytes words.now) }
 {
     let mut least = 0;
     for word in words {
-        match level_of(word.as_str()) {
+        match number_of_word(word.as_str()) {
             Some(level) if level >= least => least = level + 1,
             _ => return false,
         }
@@ -93,7 +64,7 @@ fn levels_of(alloc: Global, words: &[String]) -> Result<Vec<u32>, NoMemory>
 {
     let mut levels = Vec::new(alloc);
     for word in words {
-        match level_of(word.as_str()) {
+        match number_of_word(word.as_str()) {
             Some(level) => levels.push(level)?,
             None => unreachable!(),
         }

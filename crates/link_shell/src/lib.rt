@@ -6,21 +6,21 @@ mod command;
 mod ends;
 mod front;
 mod frontier_settings;
+mod generate;
 mod keys;
 mod load;
 mod migrate_settings;
+mod numbers;
 mod open_settings;
 mod pairs_columns;
 mod pairs_settings;
 mod review_settings;
 mod reviewed;
 mod rule_settings;
+mod run_settings;
 mod words;
 
 pub use command::{linkage, perform};
 pub use ends::Ended;
 pub use load::load_whole;
 pub use rule_settings::printed_rule_is_least;
-
-#[cfg(test)]
-mod tests;

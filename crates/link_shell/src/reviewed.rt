@@ -1,46 +1,32 @@
 // What the decisions and the journal of a plan come to.
 ghost use Rattle.std.specs.Prelude.{◌≡◌, IfErr, IfOk, IsSome, IsUtf8, Some};
 ghost use Rattle.link_base.specs.Fault.{IsAnswer, IsInputFault};
-ghost use Rattle.link_core.specs.Decisions.{decisions_of, IsDecidedIn};
+ghost use Rattle.link_core.specs.Decisions.{IsDecidedIn};
+ghost use Rattle.link_core.specs.Results.{IsDecidedFor};
 ghost use Rattle.link_core.specs.Review.{IsJournalOf};
 ghost use Rattle.link_core.specs.Rules.{IsPreparedFor};
-ghost use Rattle.link_shell.specs.Reviewed.{decided_over, journal_file, journal_plan, review_of, reviewed_plan, with_journal};
+ghost use Rattle.link_shell.specs.Reviewed.{journal_file, journal_plan, review_of, reviewed_plan, with_journal};
 ghost use Rattle.link_shell.specs.Seen.{store_seen};
 ghost use Rattle.link_shell.specs.Steps.{seen_by, Takes};
+ghost use Rattle.plan_rule.specs.PlanRule.{IsRuleOf};
 ghost use Rattle.settings.specs.Ranges.{KeepsRanges, NamesFiles};
 
 use crate::front::{file_name, load_plan, load_prepared, load_shares_over};
 use crate::load::load_file;
 use link_base::{Fault, FileRole, Text};
-use link_core::{Decided, Prepared, decide_all, journal_in_files};
+use link_core::{Decided, PlanShares, Prepared, decide_all, journal_in_files};
 use link_outside::Store;
 use review_journal::Journal;
 use settings::Plan;
 use std::alloc::Global;
 
-/// The prepared files of a plan, the decisions of its rule on the compared pairs, and its journal.
+/// The prepared files of a plan, the shares of its fields, the decisions of its rule on the compared pairs, and its journal.
 #[derive(Drop)]
 pub(crate) struct Reviewed {
     pub(crate) files: Prepared,
+    pub(crate) shares: PlanShares,
     pub(crate) decided: Decided,
     pub(crate) journal: Journal,
-}
-
-// Finds the shares of a plan over its prepared files, and decides on the compared pairs.
-fn load_decided<S: Store>(
-    alloc: Global,
-    store: &mut S,
-    plan: &Plan,
-    files: &Prepared,
-) -> Result<Decided, Fault>
-    requires ranges { KeepsRanges plan.now }
-    requires names { NamesFiles plan.now }
-    requires ready { IsPreparedFor plan.now files.now }
-    ensures takes { Takes (decided_over plan.now files.now) (store_seen S.tells S.held S.faults store.old store.new) (seen_by decisions_of result) }
-    ensures of_files { IfOk result (IsDecidedIn files.now) }
-{
-    let shares = load_shares_over(alloc, store, plan, files)?;
-    decide_all(alloc, plan, files, &shares)
 }
 
 // Loads a journal, over prepared files.
@@ -84,14 +70,18 @@ pub(crate) fn load_reviewed<S: Store>(
     requires names { NamesFiles plan.now }
     ensures takes { Takes (reviewed_plan plan.now) (store_seen S.tells S.held S.faults store.old store.new) (seen_by review_of result) }
     ensures ready { IfOk result (λ r. IsPreparedFor plan.now r.files) }
-    ensures decided { IfOk result (λ r. IsDecidedIn r.files r.decided) }
+    ensures of_files { IfOk result (λ r. IsDecidedIn r.files r.decided) }
+    ensures of_plan { IfOk result (λ r. IsDecidedFor plan.now r.files r.decided) }
+    ensures rule { IfOk result (λ r. IsRuleOf plan.now r.shares r.decided.rule.cells) }
     ensures journal { IfOk result (λ r. IsJournalOf r.files r.journal) }
 {
     let files = load_prepared(alloc, store, plan)?;
-    let decided = load_decided(alloc, store, plan, &files)?;
+    let shares = load_shares_over(alloc, store, plan, &files)?;
+    let decided = decide_all(alloc, plan, &files, &shares)?;
     let journal = load_journal(alloc, store, plan, &files)?;
     Ok(Reviewed {
         files,
+        shares,
         decided,
         journal,
     })

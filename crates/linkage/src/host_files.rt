@@ -1,6 +1,6 @@
 // Files of the host.
 ghost use Rattle.std.specs.Prelude.{◌≡◌, ◌+◌, ◌^◌, ◌<◌, [], ℕ, List, None, take, vec_capacity, vec_len, IfOk, IfSome};
-ghost use Rattle.link_outside.specs.Outside.{IsLogged, IsWithin, Shows};
+ghost use Rattle.link_outside.specs.Outside.{IsLogged, IsWithinLimit, Shows};
 
 use link_base::Text;
 use link_outside::{Load, Store, StoreCall, StoreError, entry_of_call};
@@ -54,7 +54,7 @@ impl From<io::Error> for HostError {
 // What a load gives of a text that was read up to one byte past the limit.
 fn load_of(mut text: Vec<u8>, limit: u64) -> Load
     requires { limit + 1 < 2 ^ 64 }
-    ensures within { IsWithin limit result }
+    ensures within { IsWithinLimit limit result }
     ensures content { (bytes : List ℕ) → text.items ≡ take (limit + 1) bytes → Shows bytes limit result }
 {
     if text.len() as u64 <= limit {
@@ -68,7 +68,7 @@ fn load_of(mut text: Vec<u8>, limit: u64) -> Load
 // that were left, or that many of them.
 fn read_up_to<F: Read + Drop>(alloc: Global, file: F, limit: u64) -> Result<Load, HostError>
     requires { limit + 1 < 2 ^ 64 }
-    ensures within { IfOk result (IsWithin limit) }
+    ensures within { IfOk result (IsWithinLimit limit) }
     ensures content { IfSome (F.remaining file) (λ bytes. IfOk result (Shows bytes limit)) }
 {
     let mut text = Vec::new(alloc);
@@ -79,7 +79,7 @@ fn read_up_to<F: Read + Drop>(alloc: Global, file: F, limit: u64) -> Result<Load
 
 fn load_file<R: Files>(alloc: Global, rt: &R, name: &str, limit: u64) -> Result<Load, HostError>
     requires { limit + 1 < 2 ^ 64 }
-    ensures { IfOk result (IsWithin limit) }
+    ensures { IfOk result (IsWithinLimit limit) }
 {
     let file = fs::open(rt, name)?;
     read_up_to(alloc, file, limit)

@@ -1,4 +1,4 @@
-use Rattle.std.proofs.Common.{refl, rules, Ok}
+use Rattle.std.proofs.Common.{refl, Ok}
 use Rattle.link_shell.specs.Due.{Put}
 use Rattle.link_shell.specs.MigrateSettings.{is_put}
 use Rattle.link_shell.specs.Reviewed.{named_journal}

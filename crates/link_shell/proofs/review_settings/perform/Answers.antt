@@ -1,4 +1,4 @@
-use Rattle.std.proofs.Common.{◌≡◌, ap, List, ℕ, ℤ, refl, rules, subst, sym, Result, Ok, Err, w32, to_z, of_z}
+use Rattle.std.proofs.Common.{◌≡◌, List, ℕ, ℤ, refl, rules, subst, Result, Ok, Err, w32}
 use Rattle.std.specs.Prelude.{FitsSigned}
 use Rattle.std.proofs.lemmas.Int.{to_z-of_z}
 use Rattle.link_base.specs.Fault.{IsAnswer}

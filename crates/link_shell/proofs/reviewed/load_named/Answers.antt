@@ -1,6 +1,6 @@
 use Rattle.std.proofs.Common.{ℕ, List, subst}
 use Rattle.link_base.specs.Fault.{IsAnswer}
-use Rattle.link_core.specs.Review.{journal_of}
+use Rattle.link_core.specs.Review.{journal_in_files}
 use Rattle.link_shell.proofs.StepFacts.{takes_go, takes_stop, takes_value}
 use Rattle.link_shell.proofs.reviewed.load_named.Goals as goal
 
@@ -9,5 +9,5 @@ returns-in_err-bytes-clause-takes g c = takes_stop _ _ c.in_err-bytes.ensures c.
 
 pub returns-clause-takes : goal.returns-clause-takes
 returns-clause-takes g c =
-    let P : List ℕ → Type 0 = λ bytes. IsAnswer (journal_of c.args.files.now bytes) c.journal_in_files.result in
+    let P : List ℕ → Type 0 = λ bytes. IsAnswer (journal_in_files c.args.files.now bytes) c.journal_in_files.result in
     takes_go _ _ c.in_ok-bytes.ensures (takes_value c.journal_in_files.ensures.kind (subst P c.bytes-2.ensures c.journal_in_files.ensures.answer))

@@ -2,8 +2,8 @@ use Rattle.std.proofs.Common.{◌≡◌, ◌≤◌, drop}
 use Rattle.std.specs.Char.{is_ascii_digit}
 use Rattle.std.specs.List.{list_all}
 use Rattle.link_limits.specs.declared.TheConstants.{PER_MILLION}
-use Rattle.link_shell.specs.FrontierSettings.{number_after, number_in}
-use Rattle.link_shell.proofs.frontier_settings.number_of.Given as goal
+use Rattle.link_shell.specs.Numbers.{number_after, number_in}
+use Rattle.link_shell.proofs.numbers.number_of.Given as goal
 
 abbrev pub invariant-loop-digit : goal.invariant-loop-digit
 invariant-loop-digit l = record {

@@ -3,9 +3,9 @@ use Rattle.std.proofs.Math.Seq.{drop-cons}
 use Rattle.std.specs.Char.{is_ascii_digit}
 use Rattle.std.specs.List.{list_all}
 use Rattle.link_limits.specs.declared.TheConstants.{PER_MILLION}
-use Rattle.link_shell.specs.FrontierSettings.{number_after, number_in}
+use Rattle.link_shell.specs.Numbers.{number_after, number_in}
 use Rattle.link_shell.proofs.LevelFacts.{beyond, number_after_least}
-use Rattle.link_shell.proofs.frontier_settings.number_of.Goals as goal
+use Rattle.link_shell.proofs.numbers.number_of.Goals as goal
 
 pub returns-then-number-gt-PER_MILLION-clause-some : goal.returns-then-number-gt-PER_MILLION-clause-some
 returns-then-number-gt-PER_MILLION-clause-some c =

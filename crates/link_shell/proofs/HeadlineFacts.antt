@@ -1,0 +1,192 @@
+-- The headline follows of what the words do, and of the status that is told.
+use Rattle.std.proofs.Common.{◌≡◌, ◌⊎◌, ◌∙◌, inl, inr, ◌∷◌, ℕ, ℤ, List, [], Option, Some, None, Result, Ok, Err, refl, sym, ap, subst, arith}
+use Rattle.std.specs.List.{cons_option}
+use Rattle.std.specs.Prelude.{All, Contains}
+use Rattle.std.proofs.lemmas.List.Elements.{All-cons, All-contains, All-weaker}
+use Rattle.candidate_links.specs.Candidates.{by_decision, candidate_by_verdict, candidate_of, candidates_of, linked, weight_of}
+use Rattle.decision_rule.proofs.RuleLemmas.{least}
+use Rattle.link_base.specs.Answers.{and_then}
+use Rattle.link_base.specs.Fault.{fault_status}
+use Rattle.link_base.specs.declared.fault.Fault.{Fault}
+use Rattle.link_base.specs.declared.rule.Candidate.{Candidate}
+use Rattle.link_base.specs.declared.rule.Decision.{Decision}
+use Rattle.link_base.specs.declared.rule.Decision.TheVariants as decision
+use Rattle.link_base.specs.declared.rule.PairAt.{PairAt}
+use Rattle.link_base.specs.declared.rule.Verdict.{Verdict}
+use Rattle.link_base.specs.declared.rule.Verdict.TheVariants as verdict
+use Rattle.link_core.specs.Decisions.{decided, decided_by, Decisions, rule_over}
+use Rattle.link_core.specs.Pairs.{plan_pairs}
+use Rattle.link_core.specs.Prepared.{PreparedView}
+use Rattle.link_core.specs.Results.{candidates_in, compared_in}
+use Rattle.link_outside.specs.Outside.{Held}
+use Rattle.link_outside.specs.declared.outside.SinkError.{SinkError}
+use Rattle.link_outside.specs.declared.outside.SinkError.TheVariants as sink
+use Rattle.pair_decisions.proofs.PairLemmas.{compared_rise}
+use Rattle.pair_decisions.specs.Decisions.{decision_at}
+use Rattle.pair_decisions.specs.PairRule.{SideRule}
+use Rattle.review_journal.specs.Verdict.{verdict_on}
+use Rattle.review_journal.specs.declared.entry.Entry.{Entry}
+use Rattle.settings.specs.declared.plan.Plan.{Plan}
+use Rattle.link_shell.specs.Does.{Ends}
+use Rattle.link_shell.specs.Due.{after_puts, HoldsAll, puts, TakesAll}
+use Rattle.link_shell.specs.Front.{plan_file, prepared_files, shares_over}
+use Rattle.link_shell.specs.Headline.{Headline, IsByRuleOrReview, RunWrites}
+use Rattle.link_shell.specs.Linked.{Follows, Performed, Reported, status_after}
+use Rattle.link_shell.specs.Loads.{loaded}
+use Rattle.link_shell.specs.Reviewed.{journal_file, Review, reviewed_plan}
+use Rattle.link_shell.specs.RunSettings.{reviewed_settings, ReviewedPlan, run_puts, run_script}
+use Rattle.link_shell.specs.Seen.{IsUncalled, SinkSeen, StoreSeen}
+use Rattle.link_shell.specs.Steps.{◌>>=◌, gives, load, outcome, Steps}
+use Rattle.link_shell.specs.declared.ends.Ended.{Ended}
+use Rattle.link_shell.specs.declared.ends.Ended.TheVariants.{Done, Refuted}
+
+abbrev ok : {T : Type 0} → T → Result T Fault
+ok x = Ok x
+
+abbrev err : (T : Type 0) → Fault → Result T Fault
+err T f = Err f
+
+same_value : {T : Type 0} (x y : T) → ok x ≡ ok y → x ≡ y
+same_value x y e = cc
+
+no_value : {T : Type 0} {P : Type 0} (f : Fault) (x : T) → err T f ≡ ok x → P
+no_value f x e = absurd (cc)
+
+-- steps that came to a value were passed, one after the other
+came_read : {A B : Type 0} (read : Result (List ℕ) Fault) (p : List ℕ → Result A Fault) (q : List ℕ → Result B Fault) (Q : A → Type 0) (y : B)
+    → ((bytes : List ℕ) → q bytes ≡ Ok y → (x : A) × (p bytes ≡ Ok x) × Q x) → and_then read q ≡ Ok y → (x : A) × (and_then read p ≡ Ok x) × Q x
+came_read (Ok bytes) p q Q y h e = h bytes e
+came_read (Err f) p q Q y h e = no_value f y e
+
+came : {A B : Type 0} (s : Steps A) (next : A → Steps B) (held : Held) (y : B) → outcome (s >>= next) held ≡ Ok y → (x : A) × (outcome s held ≡ Ok x) × (outcome (next x) held ≡ Ok y)
+unfolding ◌>>=◌
+came (load r limit name step) next held y e =
+    came_read (loaded r limit name (held name)) (λ bytes. outcome (step bytes) held) (λ bytes. outcome (step bytes >>= next) held) (λ x. outcome (next x) held ≡ Ok y) y (λ bytes. came (step bytes) next held y) e
+came (gives (Ok x)) next held y e = (x, refl, e)
+came (gives (Err f)) next held y e = no_value f y e
+
+-- what a review was found by
+pub record FoundBy (plan : Plan) (held : Held) (review : Review) : Type 0 where
+  pub of_files : outcome (prepared_files plan) held ≡ Ok review.files
+  pub of_shares : outcome (shares_over plan review.files plan.sample) held ≡ Ok review.shares
+  pub of_decisions : decided plan review.files review.shares ≡ Ok review.decided
+  pub of_journal : outcome (journal_file review.files plan.journal) held ≡ Ok review.journal
+
+found_by : (plan : Plan) (held : Held) (review : Review) → outcome (reviewed_plan plan) held ≡ Ok review → FoundBy plan held review
+found_by plan held review e =
+    let files = came (prepared_files plan) _ held review e in
+    let shares = came (shares_over plan files.0 plan.sample) _ held review files.2 in
+    let decisions = came (gives (decided plan files.0 shares.0)) _ held review shares.2 in
+    let journal = came (journal_file files.0 plan.journal) _ held review decisions.2 in
+    subst (λ r. FoundBy plan held r) (same_value _ _ journal.2) (record { of_files = files.1; of_shares = shares.1; of_decisions = decisions.1; of_journal = journal.1 })
+
+pub record SettingsFound (name : List ℕ) (held : Held) (found : ReviewedPlan) : Type 0 where
+  pub of_settings : outcome (plan_file name) held ≡ Ok found.plan
+  pub by : FoundBy found.plan held found.review
+
+settings_found : (name : List ℕ) (held : Held) (found : ReviewedPlan) → outcome (reviewed_settings name) held ≡ Ok found → SettingsFound name held found
+settings_found name held found e =
+    let plan = came (plan_file name) _ held found e in
+    let review = came (reviewed_plan plan.0) _ held found plan.2 in
+    subst (λ f. SettingsFound name held f) (same_value _ _ review.2) (record { of_settings = plan.1; by = found_by plan.0 held review.0 review.1 })
+
+-- the rule of decisions is that of the plan and its shares
+rule_is : (r : Result (List PairAt) Fault) (rule : SideRule) (p : PreparedView) (d : Decisions) → and_then r (λ pairs. Ok (decided_by rule p pairs)) ≡ Ok d → d.rule ≡ rule
+rule_is (Ok pairs) rule p d e = ap (λ (x : Decisions). x.rule) (sym (same_value _ _ e))
+rule_is (Err f) rule p d e = no_value f d e
+
+-- a candidate is a link by the rule, or by review
+some_same : (x y : Candidate) → Some x ≡ Some y → x ≡ y
+some_same x y e = cc
+
+abbrev IsBy : Decision → Option Verdict → PairAt → Candidate → Type 0
+IsBy d v at c = ((d ≡ decision.Link) ⊎ ((d ≡ decision.Possible) × (v ≡ Some verdict.Link))) × (at ≡ record { a = c.a; b = c.b })
+
+of_verdict : (v : Option Verdict) (at : PairAt) (w : ℤ) (award : ℕ) (c : Candidate) → candidate_by_verdict v at w award ≡ Some c → (v ≡ Some verdict.Link) × (at ≡ record { a = c.a; b = c.b })
+of_verdict (Some verdict.Link) at w award c e = (refl, ap (λ (x : Candidate). record { a = x.a; b = x.b }) (some_same _ _ e))
+of_verdict (Some verdict.NonLink) at w award c e = absurd (cc)
+of_verdict (Some verdict.Undecided) at w award c e = absurd (cc)
+of_verdict None at w award c e = absurd (cc)
+
+of_decision : (d : Decision) (v : Option Verdict) (at : PairAt) (w : ℤ) (award : ℕ) (c : Candidate) → by_decision d (Some (linked at w)) (candidate_by_verdict v at w award) ≡ Some c → IsBy d v at c
+of_decision decision.Link v at w award c e = (inl refl, ap (λ (x : Candidate). record { a = x.a; b = x.b }) (some_same _ _ e))
+of_decision decision.Possible v at w award c e = let h = of_verdict v at w award c e in (inr (refl, h.0), h.1)
+of_decision decision.NonLink v at w award c e = absurd (cc)
+
+module _ (files : PreparedView) (rule : SideRule) (journal : List Entry) (award : ℕ) where
+  of_pair : (at : PairAt) (c : Candidate) → candidate_of rule files.values.a.rows files.values.b.rows journal award at ≡ Some c → IsByRuleOrReview files rule journal c
+  of_pair at c e =
+      let h = of_decision (decision_at rule files.values.a.rows files.values.b.rows at) (verdict_on journal at.a at.b) at (weight_of rule files.values.a.rows files.values.b.rows at) award c e in
+      let P : PairAt → Type 0 = λ x. (decision_at rule files.values.a.rows files.values.b.rows x ≡ decision.Link)
+      ⊎ ((decision_at rule files.values.a.rows files.values.b.rows x ≡ decision.Possible) × (verdict_on journal x.a x.b ≡ Some verdict.Link)) in
+      subst P h.1 h.0
+
+  of_option : (own : Option Candidate) (rest : List Candidate) → ((c : Candidate) → own ≡ Some c → IsByRuleOrReview files rule journal c) → All (IsByRuleOrReview files rule journal) rest
+      → All (IsByRuleOrReview files rule journal) (cons_option own rest)
+  of_option (Some c) rest h all = All-cons (IsByRuleOrReview files rule journal) c rest (h c refl) all
+  of_option None rest h all = all
+
+  all_by : (pairs : List PairAt) → All (IsByRuleOrReview files rule journal) (candidates_of rule files.values.a.rows files.values.b.rows journal award pairs)
+  all_by [] = λ k d within. absurd (omega arith)
+  all_by (at ∷ pairs) = of_option (candidate_of rule files.values.a.rows files.values.b.rows journal award at) _ (of_pair at) (all_by pairs)
+
+-- a fault has a status above 0
+status_above : (f : Fault) → fault_status f ≡ 0 → ⊥
+status_above f e = grind (arith)
+
+told_above : {T : Type 0} (f : Fault) (written : Result T SinkError) → status_after f written ≡ 0 → ⊥
+told_above f (Ok x) e = status_above f e
+told_above f (Err sink.Failed) e = status_above f e
+told_above f (Err sink.NoMemory) e = absurd (omega arith)
+
+-- what the words `run` with a settings file have done, where they are done
+module _ (name : List ℕ) (store : StoreSeen) (out err : SinkSeen) (told : store.tells) where
+  done : Ends (run_script name) store out Done → IsUncalled err → RunWrites name store out err
+  done e quiet =
+      let found : ReviewedPlan = e.is_due.found in
+      let put = e.is_due.so in
+      let made = put.made in
+      let from = settings_found name store.held_before found (e.is_due.steps.told told) in
+      let candidates = candidates_in found.plan found.review.files found.review.decided.rule found.review.journal in
+      let holds : HoldsAll (puts (run_puts put.texts)) store = subst (λ d. HoldsAll d store) put.so e.held in
+      let silent : TakesAll (puts (run_puts put.texts)) out = subst (λ d. TakesAll d out) put.so e.taken in
+      record {
+        input = record {
+          plan = found.plan;
+          files = found.review.files;
+          shares = found.review.shares;
+          journal = found.review.journal;
+          of_settings = from.of_settings;
+          of_files = from.by.of_files;
+          of_shares = from.by.of_shares;
+          of_journal = from.by.of_journal;
+        };
+        rule = found.review.decided.rule;
+        pairs = compared_in found.plan found.review.files;
+        links = made.links;
+        prices_a = made.prices_a;
+        prices_b = made.prices_b;
+        report = made.report;
+        of_plan = rule_is (plan_pairs found.plan found.review.files.files) (rule_over found.plan found.review.files found.review.shares) found.review.files found.review.decided from.by.of_decisions;
+        exactly_the_pairs = record { exactly = refl; once = compared_rise found.review.files.files.a.records found.review.files.files.b.records found.plan.passes };
+        a_least_rule = record { filled = put.rule; least = least put.rule.by_shares found.plan.mu_ppm found.plan.lambda_ppm found.review.decided.rule.cells put.rule.filled };
+        greatest_links = record {
+          one_to_one = made.greatest.one_to_one;
+          by_rule_or_review = All-weaker (Contains candidates) (IsByRuleOrReview found.review.files found.review.decided.rule found.review.journal)
+              (λ c among. All-contains (IsByRuleOrReview found.review.files found.review.decided.rule found.review.journal) candidates c (all_by found.review.files found.review.decided.rule found.review.journal found.plan.award (compared_in found.plan found.review.files)) among) made.links made.greatest.one_to_one.among;
+          greatest = made.greatest.most;
+          certified = made.certified;
+          priced_a = made.priced_a;
+          priced_b = made.priced_b;
+        };
+        reported = made.reported;
+        writes = holds told ∙ (λ i. after_puts (run_puts (record { pairs = made.pairs_text i; rule = made.rule_text i; links = made.links_text i; prices = made.prices_text i; report = made.report_text i })) store.held_before);
+        nothing_out = silent;
+        nothing_said = quiet;
+      }
+
+pub headline : (words : List (List ℕ)) (store : StoreSeen) (out err : SinkSeen) (answer : Result Ended Fault) (status : ℕ) → Performed words store out answer → Reported err answer status → Headline words store out err status
+headline words store out err (Ok Done) status p r =
+    λ name is zero told. done name store out err told (subst (λ command. Follows command store out (Ok Done)) is p.follows).answers r.1
+headline words store out err (Ok Refuted) status p r = λ name is zero told. absurd (omega (arith, r.0, zero))
+headline words store out err (Err f) status p r = λ name is zero told. absurd (told_above f r.written (sym r.status_is ∙ zero))

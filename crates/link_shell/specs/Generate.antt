@@ -1,0 +1,60 @@
+-- The command `generate NUMBER`: a made input of so many rows in each file, run in memory; the first lines of its report are printed.
+use Rattle.std.specs.Prelude.{◌≡◌, ◌≤◌, ◌==◌, ◌&&◌, ℕ, List, [], Bool, bytes_eq, codes, length, nat_le, Result, Ok}
+use Rattle.link_limits.specs.declared.TheConstants.{MOST_POOLED_BYTES, MOST_ROWS}
+use Rattle.link_base.specs.Answers.{and_then}
+use Rattle.link_base.specs.declared.fault.Fault.{Fault}
+use Rattle.link_core.specs.Decisions.{decided, decisions_of}
+use Rattle.link_core.specs.Prepared.{prepared}
+use Rattle.link_core.specs.Results.{AreRunTexts, RunTexts}
+use Rattle.link_core.specs.Rules.{counted_by}
+use Rattle.link_report.specs.FirstLines.{first_lines_of}
+use Rattle.settings.specs.Settings.{settings}
+use Rattle.workload.specs.Made.{text_of_a, text_of_b, text_of_sample}
+use Rattle.workload.specs.MadeSettings.{text_of_settings}
+use Rattle.link_shell.specs.Does.{Script}
+use Rattle.link_shell.specs.Due.{Due, prints}
+use Rattle.link_shell.specs.Numbers.{is_number_word, number_in}
+use Rattle.link_shell.specs.RunSettings.{ReviewedPlan}
+use Rattle.link_shell.specs.Steps.{gives}
+use Rattle.link_shell.specs.Words.{word}
+use Rattle.link_shell.specs.declared.ends.Ended.TheVariants.{Done}
+use Rattle.link_shell.specs.declared.generate.MadeDecisions.{MadeDecisions}
+
+-- 2 to 100,000, without a leading zero
+abbrev pub is_rows_word : List ℕ → Bool
+is_rows_word w = is_number_word w && nat_le 2 (number_in w) && nat_le (number_in w) MOST_ROWS
+
+abbrev pub are_generate_words : List (List ℕ) → Bool
+are_generate_words words = (length words == 2) && bytes_eq (word words 0) (codes "generate") && is_rows_word (word words 1)
+
+abbrev pub rows_in : List (List ℕ) → ℕ
+rows_in words = number_in (word words 1)
+
+pub record IsMadeNumber (rows : ℕ) : Type 0 where
+  pub some : 2 ≤ rows
+  pub few : rows ≤ MOST_ROWS
+
+-- the plan of these settings with the decisions of its rule on the compared pairs of two files, by this sample, and no journal
+abbrev pub decided_input : List ℕ → List ℕ → List ℕ → List ℕ → Result ReviewedPlan Fault
+decided_input bytes a b sample =
+    and_then (settings bytes) (λ plan.
+    and_then (prepared plan MOST_POOLED_BYTES a b) (λ files.
+    and_then (counted_by plan files sample) (λ shares.
+    and_then (decided plan files shares) (λ decisions.
+    Ok (record { plan = plan; review = record { files = files; shares = shares; decided = decisions; journal = [] } })))))
+
+abbrev pub review_of_made : MadeDecisions → ReviewedPlan
+review_of_made d = record { plan = d.plan; review = record { files = d.files; shares = d.shares; decided = decisions_of d.decided; journal = [] } }
+
+-- the first sixteen lines of the report of a run are printed
+abbrev pub head_is_printed : ReviewedPlan → Due → Type 0
+head_is_printed found due =
+    (texts : RunTexts) × AreRunTexts found.plan found.review.files found.review.decided.rule found.review.journal texts
+    × (due ≡ prints Done (first_lines_of 16 texts.report))
+
+abbrev pub generate_script : ℕ → Script
+generate_script rows = record {
+  Found = ReviewedPlan;
+  steps = gives (decided_input (text_of_settings rows) (text_of_a rows) (text_of_b rows) (text_of_sample rows));
+  due = head_is_printed;
+}

@@ -1,0 +1,44 @@
+-- The command `run SETTINGS`: its words, its steps, and the five files that it writes. `Headline` says what they are.
+use Rattle.std.specs.Prelude.{◌≡◌, ◌∷◌, [], ℕ, List, Bool, codes, Ok}
+use Rattle.plan_rule.specs.PlanRule.{IsRuleOf}
+use Rattle.settings.specs.declared.plan.Plan.{Plan}
+use Rattle.link_core.specs.Results.{AreRunTexts, RunTexts}
+use Rattle.link_shell.specs.Does.{Script}
+use Rattle.link_shell.specs.Due.{Due, Put, puts}
+use Rattle.link_shell.specs.Front.{plan_file}
+use Rattle.link_shell.specs.Reviewed.{Review, reviewed_plan}
+use Rattle.link_shell.specs.Steps.{◌>>=◌, gives, Steps}
+use Rattle.link_shell.specs.Words.{are_verb_and_settings}
+
+abbrev pub are_run_words : List (List ℕ) → Bool
+are_run_words = are_verb_and_settings (codes "run")
+
+-- a plan, with the decisions of its rule on the compared pairs and the entries of its journal
+pub record ReviewedPlan : Type 0 where
+  pub plan : Plan
+  pub review : Review
+
+abbrev pub reviewed_settings : List ℕ → Steps ReviewedPlan
+reviewed_settings name = do
+  plan ← plan_file name
+  review ← reviewed_plan plan
+  gives (Ok (record { plan = plan; review = review }))
+
+abbrev pub a_put : List ℕ → List ℕ → Put
+a_put name bytes = record { name = name; bytes = bytes }
+
+-- the five files with their texts, in the order in which they are put
+abbrev pub run_puts : RunTexts → List Put
+run_puts texts =
+    a_put (codes "pairs.csv") texts.pairs ∷ a_put (codes "rule.csv") texts.rule ∷ a_put (codes "links.csv") texts.links
+    ∷ a_put (codes "prices.csv") texts.prices ∷ a_put (codes "report.txt") texts.report ∷ []
+
+-- the texts of a run of the plan, of which there may be several, are put; the rule is the filled table of the plan and its shares
+pub record ArePut (found : ReviewedPlan) (due : Due) : Type 0 where
+  pub texts : RunTexts
+  pub made : AreRunTexts found.plan found.review.files found.review.decided.rule found.review.journal texts
+  pub rule : IsRuleOf found.plan found.review.shares found.review.decided.rule.cells
+  pub so : due ≡ puts (run_puts texts)
+
+abbrev pub run_script : List ℕ → Script
+run_script name = record { Found = ReviewedPlan; steps = reviewed_settings name; due = ArePut }

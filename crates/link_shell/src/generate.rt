@@ -1,0 +1,124 @@
+// The command `generate NUMBER`.
+ghost use Rattle.std.specs.Prelude.{◌≡◌, IfErr, IfOk, IfSome, is_some, map, string_bytes};
+ghost use Rattle.link_base.specs.Fault.{Gives, IsInputFault};
+ghost use Rattle.link_core.specs.Decisions.{IsDecidedIn};
+ghost use Rattle.link_core.specs.Results.{IsDecidedFor};
+ghost use Rattle.link_core.specs.Rules.{IsPreparedFor};
+ghost use Rattle.link_shell.specs.Does.{Does};
+ghost use Rattle.link_shell.specs.Generate.{are_generate_words, decided_input, generate_script, IsMadeNumber, is_rows_word, review_of_made, rows_in};
+ghost use Rattle.link_shell.specs.Numbers.{number_in};
+ghost use Rattle.link_shell.specs.Seen.{sink_seen, store_seen};
+ghost use Rattle.settings.specs.Ranges.{KeepsRanges};
+ghost use Rattle.workload.specs.Made.{text_of_a, text_of_b, text_of_sample};
+ghost use Rattle.workload.specs.MadeSettings.{text_of_settings};
+
+use crate::ends::{Ended, print};
+use crate::numbers::number_of_word;
+use crate::words::word_at;
+use link_base::Fault;
+use link_core::{Decided, PlanShares, Prepared, counted, decide_all, finish, prepare};
+use link_limits::{MOST_POOLED_BYTES, MOST_ROWS};
+use link_outside::{Sink, Store};
+use link_report::first_lines;
+use review_journal::Journal;
+use settings::{Plan, read_settings};
+use std::alloc::Global;
+use workload::{MadeInput, make_input};
+
+/// How many lines of a report stand before its dropped candidates.
+const HEAD_LINES: u32 = 16;
+
+/// The plan of a made input, its prepared files, the shares of its fields, and the decisions on the compared pairs.
+#[derive(Drop)]
+pub(crate) struct MadeDecisions {
+    pub(crate) plan: Plan,
+    pub(crate) files: Prepared,
+    pub(crate) shares: PlanShares,
+    pub(crate) decided: Decided,
+}
+
+// How many rows a word asks for.
+fn rows_of(word: &str) -> Option<u32>
+    ensures some { is_some result ≡ is_rows_word word.now }
+    ensures value { IfSome result (λ rows. rows ≡ number_in word.now) }
+    ensures range { IfSome result IsMadeNumber }
+{
+    match number_of_word(word) {
+        Some(rows) if 2 <= rows && rows <= MOST_ROWS => Some(rows),
+        _ => None,
+    }
+}
+
+// Reads the words: how many rows a file has.
+pub(crate) fn read(words: &[String]) -> Option<u32>
+    ensures some { is_some result ≡ are_generate_words (map string_bytes words.now) }
+    ensures rows { IfSome result (λ rows. rows ≡ rows_in (map string_bytes words.now)) }
+    ensures range { IfSome result IsMadeNumber }
+{
+    if words.len() != 2 || word_at(words, 0) != "generate" {
+        return None;
+    }
+    rows_of(word_at(words, 1))
+}
+
+// Reads a made input, and decides on its compared pairs.
+fn decide_input(alloc: Global, input: &MadeInput) -> Result<MadeDecisions, Fault>
+    ensures kind { IfErr result IsInputFault }
+    ensures answer { Gives review_of_made (decided_input input.now.settings input.now.a input.now.b input.now.sample) result }
+    ensures ranges { IfOk result (λ d. KeepsRanges d.plan) }
+    ensures ready { IfOk result (λ d. IsPreparedFor d.plan d.files) }
+    ensures of_files { IfOk result (λ d. IsDecidedIn d.files d.decided) }
+    ensures of_plan { IfOk result (λ d. IsDecidedFor d.plan d.files d.decided) }
+{
+    let plan = read_settings(alloc, input.settings.bytes())?;
+    let files = prepare(
+        alloc,
+        &plan,
+        input.a.bytes(),
+        input.b.bytes(),
+        MOST_POOLED_BYTES,
+    )?;
+    let shares = counted(alloc, &plan, &files, input.sample.bytes())?;
+    let decided = decide_all(alloc, &plan, &files, &shares)?;
+    Ok(MadeDecisions {
+        plan,
+        files,
+        shares,
+        decided,
+    })
+}
+
+// Decides on the compared pairs of the made input of so many rows.
+fn decide_made(alloc: Global, rows: u32) -> Result<MadeDecisions, Fault>
+    requires { IsMadeNumber rows }
+    ensures kind { IfErr result IsInputFault }
+    ensures answer { Gives review_of_made (decided_input (text_of_settings rows) (text_of_a rows) (text_of_b rows) (text_of_sample rows)) result }
+    ensures ranges { IfOk result (λ d. KeepsRanges d.plan) }
+    ensures ready { IfOk result (λ d. IsPreparedFor d.plan d.files) }
+    ensures of_files { IfOk result (λ d. IsDecidedIn d.files d.decided) }
+    ensures of_plan { IfOk result (λ d. IsDecidedFor d.plan d.files d.decided) }
+{
+    let input = make_input(alloc, rows)?;
+    decide_input(alloc, &input)
+}
+
+// Follows the script.
+pub(crate) fn perform<S: Store, O: Sink>(
+    alloc: Global,
+    rows: u32,
+    store: &mut S,
+    out: &mut O,
+) -> Result<Ended, Fault>
+    requires { IsMadeNumber rows }
+    ensures { Does (generate_script rows) (store_seen S.tells S.held S.faults store.old store.new) (sink_seen O.tells O.taken O.faults out.old out.new) result }
+{
+    let made = decide_made(alloc, rows)?;
+    let journal = Journal::new(alloc);
+    let results = finish(alloc, &made.plan, &made.files, &made.decided, &journal)?;
+    print(
+        alloc,
+        Ended::Done,
+        first_lines(results.report.bytes(), HEAD_LINES),
+        out,
+    )
+}
