@@ -8,7 +8,7 @@ use Rattle.std.proofs.lemmas.List.{get_or_default}
 use Rattle.std.proofs.lemmas.List.Elements.{All-head, All-tail, All-cons, All-nil, All-contains, Contains-get_or}
 use Rattle.link_base.specs.declared.rule.Candidate.{Candidate}
 use Rattle.assignment_laws.specs.Assignment.{price_sum, price_of, worth, IsBefore, SharesNoRecord, IsCovered, IsOneToOne, Certifies}
-use Rattle.assignment_laws.specs.Parts.{added, prices_together, in_part, AreCertifiedParts}
+use Rattle.assignment_laws.specs.Parts.{added_prices, prices_together, in_part, AreCertifiedParts}
 use Rattle.assignment_laws.proofs.Duality.{IsFloored, price_of-floor}
 use Rattle.assignment_laws.proofs.Members.{Contains-filter, clash}
 
@@ -61,22 +61,22 @@ worth_parts part n (c ∷ cs) h =
 
 -- Prices added record by record.
 
-price_sum-added : (ps qs : List ℤ) → price_sum (added ps qs) ≡ price_sum ps +ℤ price_sum qs
+price_sum-added : (ps qs : List ℤ) → price_sum (added_prices ps qs) ≡ price_sum ps +ℤ price_sum qs
 price_sum-added [] qs = omega (arith, ints)
 price_sum-added (p ∷ ps) [] = omega (arith, ints)
 price_sum-added (p ∷ ps) (q ∷ qs) = omega (arith, ints, price_sum-added ps qs)
 
-price_of-added : (ps qs : List ℤ) (position : ℕ) → price_of (added ps qs) position ≡ price_of ps position +ℤ price_of qs position
+price_of-added : (ps qs : List ℤ) (position : ℕ) → price_of (added_prices ps qs) position ≡ price_of ps position +ℤ price_of qs position
 price_of-added [] qs position = omega (arith, ints)
 price_of-added (p ∷ ps) [] position = omega (arith, ints)
 price_of-added (p ∷ ps) (q ∷ qs) zero = refl
 price_of-added (p ∷ ps) (q ∷ qs) (suc position) = price_of-added ps qs position
 
-floored-added : (ps qs : List ℤ) → IsFloored ps → IsFloored qs → IsFloored (added ps qs)
+floored-added : (ps qs : List ℤ) → IsFloored ps → IsFloored qs → IsFloored (added_prices ps qs)
 floored-added [] qs fp fq = fq
 floored-added (p ∷ ps) [] fp fq = fp
 floored-added (p ∷ ps) (q ∷ qs) fp fq =
-    All-cons (λ p. pos 0 ≤ℤ p) (p +ℤ q) (added ps qs)
+    All-cons (λ p. pos 0 ≤ℤ p) (p +ℤ q) (added_prices ps qs)
     (omega (arith, ints, All-head (λ p. pos 0 ≤ℤ p) p ps fp, All-head (λ p. pos 0 ≤ℤ p) q qs fq))
     (floored-added ps qs (All-tail (λ p. pos 0 ≤ℤ p) p ps fp) (All-tail (λ p. pos 0 ≤ℤ p) q qs fq))
 

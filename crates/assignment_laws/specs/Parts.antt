@@ -4,15 +4,15 @@ use Rattle.link_base.specs.declared.rule.Candidate.{Candidate}
 use Rattle.assignment_laws.specs.Assignment.{IsBefore, SharesNoRecord, IsOneToOne, Certifies}
 
 -- the prices of two lists, added record by record
-abbrev pub added : List ℤ → List ℤ → List ℤ
-added [] qs = qs
-added (p ∷ ps) [] = p ∷ ps
-added (p ∷ ps) (q ∷ qs) = (p +ℤ q) ∷ added ps qs
+abbrev pub added_prices : List ℤ → List ℤ → List ℤ
+added_prices [] qs = qs
+added_prices (p ∷ ps) [] = p ∷ ps
+added_prices (p ∷ ps) (q ∷ qs) = (p +ℤ q) ∷ added_prices ps qs
 
 -- the prices of the parts below n, put together record by record
 abbrev pub prices_together : ℕ → (ℕ → List ℤ) → List ℤ
 prices_together zero prices = []
-prices_together (suc n) prices = added (prices n) (prices_together n prices)
+prices_together (suc n) prices = added_prices (prices n) (prices_together n prices)
 
 -- the members of a part, by the part's number
 abbrev pub in_part : (Candidate → ℕ) → ℕ → List Candidate → List Candidate

@@ -4,8 +4,6 @@
 
 mod laws;
 mod order;
-#[cfg(test)]
-mod tests;
 
 pub use laws::{
     certificate_is_tight, certified_is_greatest, greatest_value_is_least,

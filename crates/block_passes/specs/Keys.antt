@@ -2,7 +2,7 @@
 -- its clause. What a part makes of a value, and which values it can read, is defined with the canons.
 use Rattle.std.specs.Prelude.{◌<◌, ℕ, List, [], ◌∷◌, ◌++◌, length, Bool, false, Option, Some, None, bytes_eq, slice_index_or}
 use Rattle.std.specs.Cmp.Lexicographic.{pointwise}
-use Rattle.link_base.specs.Standard.{absent}
+use Rattle.link_base.specs.Standard.{absent_value}
 use Rattle.link_base.specs.declared.standard.Value.{Value}
 use Rattle.link_base.specs.declared.plan.Part.{Part}
 use Rattle.link_base.specs.declared.plan.KeyKind.TheVariants.{Whole}
@@ -10,7 +10,7 @@ pub use Rattle.value_canons.specs.Canons.{IsReadable, value_part}
 
 -- the part of a key that a row has
 abbrev pub part_key : List Value → Part → Option (List ℕ)
-part_key row part = value_part part.key (slice_index_or row part.field absent)
+part_key row part = value_part part.key (slice_index_or row part.field absent_value)
 
 abbrev pub joined_key : Option (List ℕ) → Option (List (List ℕ)) → Option (List (List ℕ))
 joined_key None keys = None
@@ -44,7 +44,7 @@ InRange row parts = (k : ℕ) → k < length parts → (slice_index_or parts k n
 
 -- the value of a row that a part reads is valid
 abbrev pub IsPartReadable : List Value → Part → Type 0
-IsPartReadable row part = IsReadable part.key (slice_index_or row part.field absent)
+IsPartReadable row part = IsReadable part.key (slice_index_or row part.field absent_value)
 
 abbrev pub AreReadable : List Value → List Part → Type 0
 AreReadable row parts = (k : ℕ) → k < length parts → IsPartReadable row (slice_index_or parts k no_part)

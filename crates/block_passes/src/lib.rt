@@ -17,6 +17,3 @@ pub use ids::{IdKey, id_key, ids_tell_keys};
 pub use index::{Index, PassRows, build_index};
 pub use keys::{PassKey, pass_key};
 pub use parts::part_text;
-
-#[cfg(test)]
-mod tests;

@@ -3,7 +3,5 @@
 
 mod forest;
 mod numbering;
-#[cfg(test)]
-mod tests;
 
 pub use numbering::{PartNumbers, part_numbers};

@@ -16,6 +16,3 @@ pub use ids::{ById, FieldById, IdValue, RareById};
 pub use laws::same_outcomes;
 pub use tables::IdTable;
 pub use words::{ByNysiis, BySoundex, Exact, FirstLetters, Initials};
-
-#[cfg(test)]
-mod tests;

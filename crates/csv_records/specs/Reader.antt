@@ -23,15 +23,15 @@ abbrev pub records_left : Inside → List (List (List ℕ))
 records_left r = if r.done then [] else records_of (reader_config r.reader) (reader_state r.reader) (bytes_left r)
 
 -- a state between two records
-abbrev pub IsBetween : State → Type 0
-IsBetween s = (s ≡ st.StartRecord) ⊎ (s ≡ st.AfterCr)
+abbrev pub IsBetweenRecords : State → Type 0
+IsBetweenRecords s = (s ≡ st.StartRecord) ⊎ (s ≡ st.AfterCr)
 
 -- a reader between two records: it trims nothing, and takes records of any length
 pub record IsGoing (r : Inside) : Type 0 where
   pub flexible : is_flexible r.reader ≡ true
   pub plain : reader_trim r.reader ≡ trim.None
   pub ready : Ready r.reader
-  pub between : IsBetween (reader_state r.reader)
+  pub between : IsBetweenRecords (reader_state r.reader)
   pub known : IsSome (bytes_left r)
 
 abbrev pub IsReading : Inside → Type 0

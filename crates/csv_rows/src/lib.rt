@@ -8,6 +8,3 @@ mod rows;
 pub use fields::push_field;
 pub use laws::rows_read_again;
 pub use rows::{digits_of, push_row};
-
-#[cfg(test)]
-mod tests;

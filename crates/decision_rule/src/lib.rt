@@ -20,6 +20,3 @@ pub use laws::{
 };
 pub use rule::cut_rule;
 pub use sums::attained;
-
-#[cfg(test)]
-mod tests;

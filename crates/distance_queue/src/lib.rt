@@ -2,7 +2,5 @@
 #![tactic(auto)]
 
 mod queue;
-#[cfg(test)]
-mod tests;
 
 pub use queue::{DistanceQueue, FARTHEST, Near};

@@ -17,7 +17,7 @@ use Rattle.csv_records.specs.Left.{records_in}
 use Rattle.csv_rows.specs.ReadAgain.{HasNoMark}
 use Rattle.csv_rows.proofs.ReadAgainFacts.{no_mark}
 use Rattle.link_base.specs.Answers.{and_then}
-use Rattle.link_base.specs.Standard.{IsDay, no_record, Record}
+use Rattle.link_base.specs.Standard.{id_at, IsDay, no_record, Record}
 use Rattle.link_base.specs.declared.fault.Fault.{Fault}
 use Rattle.link_base.specs.declared.fault.FileRole.TheVariants as role
 use Rattle.link_base.specs.declared.rule.Step.{Step}
@@ -35,7 +35,7 @@ use Rattle.review_journal.specs.declared.entry.Entry.{Entry}
 use Rattle.value_forms.specs.Days.{iso_day, text_of_day}
 use Rattle.journal_files.specs.Reading.{entries_read, entry_in, journal_in, journal_under, journal_wanted}
 use Rattle.journal_files.specs.Rows.{journal_columns, step_word, verdict_word, written_in}
-use Rattle.journal_files.specs.Text.{entry_fields, entry_line, HasIds, id_at, IsIdText, text_of_journal}
+use Rattle.journal_files.specs.Text.{entry_fields, entry_line, HasIds, IsIdText, text_of_journal}
 use Rattle.journal_files.proofs.EntryFacts.{entry_again, found_again, not_before}
 use Rattle.journal_files.proofs.TableLemmas.{IsRowOf, rows_whole}
 

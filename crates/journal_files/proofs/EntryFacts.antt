@@ -10,7 +10,7 @@ use Rattle.std.proofs.lemmas.List.{get_or_append_left}
 use Rattle.std.proofs.lemmas.List.Sums.{list_all-from_AllPass, position_or_len_is}
 use Rattle.std.proofs.lemmas.Slice.Eq.{bytes_eq-Decides}
 use Rattle.std.proofs.Math.Seq.{get_or-append_seam}
-use Rattle.link_base.specs.Standard.{HaveDistinctIds, no_record, position_of_id, Record}
+use Rattle.link_base.specs.Standard.{HaveDistinctIds, id_at, no_record, position_of_id, Record}
 use Rattle.link_base.specs.declared.rule.Step.{Step}
 use Rattle.link_base.specs.declared.rule.Step.TheVariants.{Single, First, Confirm}
 use Rattle.link_base.specs.declared.rule.Verdict.{Verdict}
@@ -21,7 +21,7 @@ use Rattle.review_journal.specs.declared.entry.Entry.{Entry}
 use Rattle.value_forms.specs.Days.{iso_day, text_of_day}
 use Rattle.journal_files.specs.Reading.{entry_in, signed}
 use Rattle.journal_files.specs.Rows.{step_named, step_word, verdict_named, verdict_word, written_in}
-use Rattle.journal_files.specs.Text.{entry_fields, id_at}
+use Rattle.journal_files.specs.Text.{entry_fields}
 
 same_bytes : (text : List ℕ) → bytes_eq text text ≡ true
 same_bytes text = (bytes_eq-Decides text text).1 refl

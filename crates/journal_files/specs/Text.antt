@@ -1,17 +1,14 @@
 -- The text of a journal, which is of the second version (`journal_text`, its lone clause). The law `read_again` says that it
 -- reads as the journal.
-use Rattle.std.specs.Prelude.{All, ℕ, List, [], ◌∷◌, ◌++◌, ◌+◌, ◌≤◌, true, length, decimal, slice_index_or}
+use Rattle.std.specs.Prelude.{All, ℕ, List, [], ◌∷◌, ◌++◌, ◌+◌, ◌≤◌, true, length, decimal}
 use Rattle.std.specs.List.{enumerate_from, flat_map}
 use Rattle.std.specs.Str.{IsUtf8}
 use Rattle.csv.specs.Writing.{default_writer, row_text}
 use Rattle.link_limits.specs.declared.TheConstants.{MOST_FIELD_BYTES}
-use Rattle.link_base.specs.Standard.{HaveDistinctIds, no_record, Record}
+use Rattle.link_base.specs.Standard.{HaveDistinctIds, id_at, Record}
 use Rattle.review_journal.specs.declared.entry.Entry.{Entry}
 use Rattle.value_forms.specs.Days.{text_of_day}
 use Rattle.journal_files.specs.Rows.{journal_columns, step_word, verdict_word}
-
-abbrev pub id_at : List Record → ℕ → List ℕ
-id_at file at = (slice_index_or file at no_record).id
 
 -- the fields of an entry, with its number and its date as texts
 abbrev pub fields_with : List ℕ → List ℕ → List Record → List Record → Entry → List (List ℕ)

@@ -13,6 +13,3 @@ pub use batch::read_verdicts;
 pub use laws::{first_version_is_single, read_again};
 pub use reading::read_journal;
 pub use text::journal_text;
-
-#[cfg(test)]
-mod tests;

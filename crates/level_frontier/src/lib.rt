@@ -7,6 +7,3 @@ mod levels;
 
 pub use laws::{near_least, possible_falls};
 pub use levels::{FrontierRow, frontier};
-
-#[cfg(test)]
-mod tests;

@@ -1,8 +1,9 @@
 -- The cells of a rule: `RuleTable` keeps the ranges of each by its ghost field `in_range`, `cells` tells them by its
--- clause `in_range`, and `with_patterns` makes the empty ones.
-use Rattle.std.specs.Prelude.{pos, negsuc, ◌+◌, ◌^◌, ◌≤◌, ◌≤ℤ◌}
+-- clause `in_range`, and `with_patterns` makes the empty ones. Pairs stand in the order of their positions.
+use Rattle.std.specs.Prelude.{◌≡◌, ◌⊎◌, ◌<◌, pos, negsuc, ◌+◌, ◌^◌, ◌≤◌, ◌≤ℤ◌}
 use Rattle.link_limits.specs.declared.TheConstants.{WHOLE_RULE}
 use Rattle.link_base.specs.declared.rule.Levels.{Levels}
+use Rattle.link_base.specs.declared.rule.PairAt.{PairAt}
 use Rattle.link_base.specs.declared.rule.RuleCell.{RuleCell}
 
 -- the weight of six fields is from -480 to 474 eighths of a bit, and link, possible and non-link share a whole (after
@@ -24,3 +25,7 @@ pub record HasBoundedSums (levels : Levels) : Type 0 where
   pub lambda : levels.lambda ≤ 2 ^ 92
   pub possible_m : levels.possible_m ≤ 2 ^ 92
   pub possible_u : levels.possible_u ≤ 2 ^ 92
+
+-- one pair stands before another by its positions
+abbrev pub IsPairBefore : PairAt → PairAt → Type 0
+IsPairBefore x y = (x.a < y.a) ⊎ ((x.a ≡ y.a) × (x.b < y.b))

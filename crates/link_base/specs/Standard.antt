@@ -1,6 +1,6 @@
 -- Standard values, records and files: what `StdFile` and `StdRow` are seen as (`find`, clauses `position` and `fresh`;
 -- `distinct_ids`).
-use Rattle.std.specs.Prelude.{◌≢◌, ℕ, List, [], All, AllPairs, map, position, bytes_eq, Option, ⊤, ℤ, pos, negsuc, ◌≤ℤ◌}
+use Rattle.std.specs.Prelude.{◌≢◌, ℕ, List, [], All, AllPairs, map, position, bytes_eq, slice_index_or, Option, ⊤, ℤ, pos, negsuc, ◌≤ℤ◌}
 use Rattle.std.specs.Str.{IsUtf8}
 use Rattle.std.specs.declared.alloc.Global.{Global}
 use Rattle.std.specs.declared.vec.Vec.{Vec}
@@ -13,15 +13,19 @@ pub record Record : Type 0 where
   pub row : List Value
 
 -- the records of the entries of a map from ids to rows
-abbrev pub records_of : List (Vec ℕ Global × List Value) → List Record
-records_of entries = map (λ (e : Vec ℕ Global × List Value). record { id = e.0.items; row = e.1 }) entries
+abbrev pub records_of_entries : List (Vec ℕ Global × List Value) → List Record
+records_of_entries entries = map (λ (e : Vec ℕ Global × List Value). record { id = e.0.items; row = e.1 }) entries
 
 -- the value and the record past the end of a list
-abbrev pub absent : Value
-absent = value.Absent
+abbrev pub absent_value : Value
+absent_value = value.Absent
 
 abbrev pub no_record : Record
 no_record = record { id = []; row = [] }
+
+-- the id of the record at a position
+abbrev pub id_at : List Record → ℕ → List ℕ
+id_at file at = (slice_index_or file at no_record).id
 
 -- the position of the record with an id
 abbrev pub position_of_id : List ℕ → List Record → Option ℕ

@@ -1,6 +1,6 @@
 // Standard values, rows and files.
 ghost use Rattle.std.specs.Prelude.{◌≡◌, ◌+◌, ◌^◌, ◌<◌, ◌++◌, ◌∷◌, [], IfNone, IfOk, IfSome, OnErr, OnOk, length, slice_index_or};
-ghost use Rattle.link_base.specs.Standard.{absent, HaveDistinctIds, IsFreshId, no_record, position_of_id, Record, rows_of};
+ghost use Rattle.link_base.specs.Standard.{absent_value, HaveDistinctIds, IsFreshId, no_record, position_of_id, Record, rows_of};
 
 use crate::sides::Sides;
 use crate::text::{NoMemory, Text};
@@ -45,7 +45,7 @@ impl StdRow {
     /// The value of a field.
     pub fn value(&self, field: u8) -> &Value
         requires { field < length self.now }
-        ensures { result.now ≡ slice_index_or self.now field absent }
+        ensures { result.now ≡ slice_index_or self.now field absent_value }
     {
         &self.values[field as usize]
     }
@@ -66,13 +66,13 @@ pub struct StdFile {
 
 impl Model for StdFile {
     ghost use Rattle.std.specs.Prelude.{◌^◌, ◌<◌, List, length};
-    ghost use Rattle.link_base.specs.Standard.{HaveDistinctIds, Record, records_of};
+    ghost use Rattle.link_base.specs.Standard.{HaveDistinctIds, Record, records_of_entries};
 
     ghost Value = { List Record };
 
-    ghost view = { λ f. records_of f.rows.entries };
+    ghost view = { λ f. records_of_entries f.rows.entries };
 
-    ghost invariant = { λ f. HaveDistinctIds (records_of f.rows.entries) × (length f.rows.entries < 2 ^ 32) };
+    ghost invariant = { λ f. HaveDistinctIds (records_of_entries f.rows.entries) × (length f.rows.entries < 2 ^ 32) };
 }
 
 impl StdFile {

@@ -17,9 +17,9 @@ abbrev pub held_with : List ℕ → List ℕ → Held → Held
 held_with name bytes held = λ other. if bytes_eq name other then Some bytes else held other
 
 -- a load has no more bytes than it may
-abbrev pub IsWithin : ℕ → Load → Type 0
-IsWithin limit (Whole text) = length text ≤ limit
-IsWithin limit (Over text) = length text ≡ limit + 1
+abbrev pub IsWithinLimit : ℕ → Load → Type 0
+IsWithinLimit limit (Whole text) = length text ≤ limit
+IsWithinLimit limit (Over text) = length text ≡ limit + 1
 
 -- what a load shows of these bytes: all, or one more than the limit where there are more
 abbrev pub Shows : List ℕ → ℕ → Load → Type 0

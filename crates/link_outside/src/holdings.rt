@@ -1,6 +1,6 @@
 // What names hold in memory.
 ghost use Rattle.std.specs.Prelude.{◌≡◌, ◌+◌, ◌^◌, ◌<◌, ◌∷◌, [], IfOk, OnErr, OnOk, option_map};
-ghost use Rattle.link_outside.specs.Outside.{IsWithin, Shows};
+ghost use Rattle.link_outside.specs.Outside.{IsWithinLimit, Shows};
 ghost use Rattle.link_outside.specs.Holdings.{held_in};
 
 use crate::outside::Load;
@@ -53,7 +53,7 @@ impl Holdings {
 // What a load of these bytes gives.
 pub(crate) fn cut_to(alloc: Global, bytes: &[u8], limit: u64) -> Result<Load, NoMemory>
     requires { limit + 1 < 2 ^ 64 }
-    ensures within { IfOk result (IsWithin limit) }
+    ensures within { IfOk result (IsWithinLimit limit) }
     ensures content { IfOk result (Shows bytes.now limit) }
 {
     if bytes.len() as u64 <= limit {

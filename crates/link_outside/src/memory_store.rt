@@ -1,7 +1,7 @@
 // A store in memory that fails at the calls that it is given.
 ghost use Rattle.std.specs.Prelude.{◌≡◌, ◌+◌, ◌^◌, ◌<◌, [], false, true, IfOk, OnErr, OnOk, option_map, ⊤};
 ghost use Rattle.link_outside.specs.Fakes.{memory_held, StoreInMemory};
-ghost use Rattle.link_outside.specs.Outside.{held_with, IsWithin, Loads, LogsFailure, PutsAs};
+ghost use Rattle.link_outside.specs.Outside.{held_with, IsWithinLimit, Loads, LogsFailure, PutsAs};
 ghost use Rattle.link_outside.specs.Planned.{failure_at, LoadsByPlan, next_call, PutsByPlan};
 
 use crate::holdings::{Holdings, cut_to};
@@ -89,7 +89,7 @@ impl Store for MemoryStore {
 
     fn load(&mut self, alloc: Global, name: &str, limit: u64) -> Result<Load, StoreError>
         requires { limit + 1 < 2 ^ 64 }
-        ensures within { IfOk result (IsWithin limit) }
+        ensures within { IfOk result (IsWithinLimit limit) }
         ensures content { ⊤ → Loads (memory_held self.old name.now) limit result }
         ensures unchanged { memory_held self.new ≡ memory_held self.old }
         ensures cause { LogsFailure self.old.faults self.new.faults (record { put = false; name = name.now }) result }

@@ -1,6 +1,6 @@
 // The store and the sink that a run is handed.
 ghost use Rattle.std.specs.Prelude.{◌≡◌, ◌+◌, ◌^◌, ◌<◌, List, ℕ, Option, IfOk, OnOk, true, false, vec_capacity, vec_len};
-ghost use Rattle.link_outside.specs.Outside.{Appends, HasCause, held_with, IsWithin, Loads, LogsFailure, PutsAs};
+ghost use Rattle.link_outside.specs.Outside.{Appends, HasCause, held_with, IsWithinLimit, Loads, LogsFailure, PutsAs};
 ghost use Rattle.link_outside.specs.declared.outside.StoreCall.{StoreCall};
 
 use link_base::{NoMemory, Text};
@@ -83,7 +83,7 @@ pub trait Store {
     /// Loads what the name holds, up to a limit of bytes. A name that is not held fails.
     fn load(&mut self, alloc: Global, name: &str, limit: u64) -> Result<Load, StoreError>
         requires { limit + 1 < 2 ^ 64 }
-        ensures within { IfOk result (IsWithin limit) }
+        ensures within { IfOk result (IsWithinLimit limit) }
         ensures content { tells → Loads (held self.old name.now) limit result }
         ensures unchanged { held self.new ≡ held self.old }
         ensures cause { LogsFailure (faults self.old) (faults self.new) (record { put = false; name = name.now }) result };

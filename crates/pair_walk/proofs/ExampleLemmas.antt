@@ -5,7 +5,7 @@ use Rattle.std.proofs.lemmas.List.Elements.{All-push}
 use Rattle.value_canons.proofs.ReadableLemmas.{readable_valid}
 use Rattle.block_passes.specs.Index.{row_at}
 use Rattle.block_passes.specs.Keys.{AreReadable, InRange}
-use Rattle.link_base.specs.Standard.{IsValid, Record, absent, no_record}
+use Rattle.link_base.specs.Standard.{IsValid, Record, absent_value, no_record}
 use Rattle.link_base.specs.declared.plan.KeyKind.{KeyKind}
 use Rattle.link_base.specs.declared.plan.KeyKind.TheVariants.{Soundex}
 use Rattle.link_base.specs.declared.standard.Value.{Value}
@@ -19,15 +19,15 @@ part-in-range : (field : ℕ) (kind : KeyKind) (row : List Value) → field < le
 part-in-range field kind row lt zero below = lt
 part-in-range field kind row lt (suc k) below = absurd (omega arith)
 
-part-readable : (field : ℕ) (kind : KeyKind) (row : List Value) → IsValid (get_or row field absent) → AreReadable row (record { field = field; key = kind } ∷ [])
-part-readable field kind row h zero below = readable_valid kind (get_or row field absent) h
+part-readable : (field : ℕ) (kind : KeyKind) (row : List Value) → IsValid (get_or row field absent_value) → AreReadable row (record { field = field; key = kind } ∷ [])
+part-readable field kind row h zero below = readable_valid kind (get_or row field absent_value) h
 part-readable field kind row h (suc k) below = absurd (omega arith)
 
 pub one-ready : (file : List Record) → AreOne file → AreAllReady ((record { field = 0; key = Soundex } ∷ []) ∷ []) file
 one-ready file one zero lt at below =
     let row = one at no_record below in
     let long = row.0 in
-    (part-in-range 0 Soundex (row_at file at) (omega arith), part-readable 0 Soundex (row_at file at) (row.1 0 absent (omega arith)))
+    (part-in-range 0 Soundex (row_at file at) (omega arith), part-readable 0 Soundex (row_at file at) (row.1 0 absent_value (omega arith)))
 one-ready file one (suc k) lt at below = absurd (omega arith)
 
 pub one-push : {T E : Type 0} (result : Result T E) (old new : List Record) (r : Record) → OnOk result (new ≡ old ++ r ∷ []) → OnErr result (new ≡ old) → AreOne old → (length r.row ≡ 1) × All IsValid r.row → AreOne new

@@ -8,6 +8,3 @@ mod weight;
 pub use laws::chances;
 pub use shapes::{outcome_count, outcome_of, pattern_count, patterns_of};
 pub use weight::eighth_weight;
-
-#[cfg(test)]
-mod tests;

@@ -6,6 +6,3 @@ mod numbers;
 
 pub use fields::{Fields, pattern};
 pub use numbers::{pattern_over, shape_of};
-
-#[cfg(test)]
-mod tests;

@@ -5,7 +5,7 @@ use Rattle.std.proofs.lemmas.Bool.Decides.{nat_tests}
 use Rattle.phonetic_keys.specs.Alphabet.{A, C, D, E, F, G, H, K, M, N, P, Q, S, V, W, Y, Z, in_vowels}
 use Rattle.phonetic_keys.specs.Letters.{in_alphabet, letters_of}
 use Rattle.phonetic_keys.specs.Keys.{IsKey}
-use Rattle.phonetic_keys.specs.Nysiis.{body, body_over, body_rule, end_rule, ended, front, front_rule, last_of, rewritten_behind, spelled_on, tail_of, three_letters, with_ay_joined, without_last}
+use Rattle.phonetic_keys.specs.Nysiis.{body, body_over, body_rule, end_rule, ended, front, front_rule, last_of, rewritten_behind, spelled_on, tail_of, three_letters, with_ay_joined, without_last_letter}
 use Rattle.phonetic_keys.specs.declared.rewriting.Three.{Three}
 
 record IsLetter (c : ℕ) : Type 0 where
@@ -191,7 +191,7 @@ unfolding body
 whole_are cs are = body_are (length (ended (front cs))) 0 (ended (front cs)) [] (inl refl) (ended_are (front cs) (front_are cs are)) tt
 
 -- the end of a key
-last_are : (c : ℕ) (key : List ℕ) → AreLetters key → AreLetters (without_last c key)
+last_are : (c : ℕ) (key : List ℕ) → AreLetters key → AreLetters (without_last_letter c key)
 last_are c key are = either_are (nat_lt 1 (length key) && last_of key == c) (take (length key - 1) key) key (take_are (length key - 1) key are) are
 
 guarded_some : (b : Bool) (xs ys : List ℕ) → (b ≡ true → 0 < length xs) → 0 < length ys → 0 < length (cond b xs ys)
@@ -204,7 +204,7 @@ room n b h = grind (arith, nat_tests)
 shorter_some : (key : List ℕ) → 1 < length key → 0 < length (take (length key - 1) key)
 shorter_some key h = grind (arith, common_steps)
 
-last_some : (c : ℕ) (key : List ℕ) → 0 < length key → 0 < length (without_last c key)
+last_some : (c : ℕ) (key : List ℕ) → 0 < length key → 0 < length (without_last_letter c key)
 last_some c key some = guarded_some (nat_lt 1 (length key) && last_of key == c) (take (length key - 1) key) key (λ h. shorter_some key (room (length key) (last_of key == c) h)) some
 
 joined_are : (key : List ℕ) → AreLetters key → AreLetters (with_ay_joined key)
@@ -231,9 +231,9 @@ all_letters (c ∷ cs) are (suc k) d lt = all_letters cs are.1 k d (omega arith)
 tail_key : (key : List ℕ) → AreLetters key → 0 < length key → IsKey (tail_of key)
 unfolding tail_of
 tail_key key are some =
-    let a = without_last S key in
+    let a = without_last_letter S key in
     let b = with_ay_joined a in
-    let c = without_last A b in
+    let c = without_last_letter A b in
     record {
       some = cut_some 6 c (omega arith) (last_some A b (joined_some a (last_some S key some)));
       few = cut_few 6 c;

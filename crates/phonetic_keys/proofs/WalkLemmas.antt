@@ -2,8 +2,8 @@
 use Rattle.std.proofs.Common.{◌≡◌, ◌↔◌, ℕ, zero, suc, ◌+◌, ◌<◌, List, [], ◌∷◌, length, min, slice_index, refl, ap, sym, ◌∙◌, arith}
 use Rattle.phonetic_keys.specs.declared.rewriting.Three.{Three}
 use Rattle.phonetic_keys.specs.Nysiis.{body, body_over, ended, rewritten_behind, body_rule, spelled_on}
-use Rattle.phonetic_keys.specs.Window.{KeepsPlaces}
-use Rattle.phonetic_keys.specs.Walks.{IsFilled, Steps, shown, text_of}
+use Rattle.phonetic_keys.specs.Window.{KeepsLetters}
+use Rattle.phonetic_keys.specs.Walks.{HasNoGaps, StepsOverPlace, shown, text_of}
 use Rattle.phonetic_keys.specs.declared.walk.Walk.{Walk}
 
 pub shown_some : (c : ℕ) (cs : List ℕ) → 0 < c → shown c cs ≡ c ∷ cs
@@ -48,7 +48,7 @@ second_seen (suc q) zero zs g h = ap (λ xs. slice_index xs 0) (h refl)
 second_seen zero zero zs g h = ap (λ xs. slice_index xs 1) (h refl)
 second_seen zero (suc r) zs g h = absurd (let e : suc r ≡ 0 = g refl in omega arith)
 
-behind_seen : (p q r : ℕ) (zs : List ℕ) (t : Three) → (q ≡ 0 → r ≡ 0) → (r ≡ 0 → zs ≡ []) → KeepsPlaces p q r t → rewritten_behind (shown q (shown r zs)) t ≡ shown t.next (shown t.later zs)
+behind_seen : (p q r : ℕ) (zs : List ℕ) (t : Three) → (q ≡ 0 → r ≡ 0) → (r ≡ 0 → zs ≡ []) → KeepsLetters p q r t → rewritten_behind (shown q (shown r zs)) t ≡ shown t.next (shown t.later zs)
 behind_seen p (suc q) (suc r) zs t g h k =
     sym (shown_some t.next _ (k.next.0 (omega arith)) ∙ ap (λ xs. t.next ∷ xs) (shown_some t.later zs (k.later.0 (omega arith))))
 behind_seen p (suc q) zero zs t g h k =
@@ -60,7 +60,7 @@ behind_seen p zero zero zs t g h k =
 behind_seen p zero (suc r) zs t g h k = absurd (let e : suc r ≡ 0 = g refl in omega arith)
 
 -- one place, where the text behind the first three letters may be any
-pub place : (before p q r : ℕ) (zs all : List ℕ) (t : Three) → (q ≡ 0 → r ≡ 0) → (r ≡ 0 → zs ≡ []) → KeepsPlaces p q r t → t ≡ body_rule before p q r → body before (p ∷ shown q (shown r zs)) all ≡ body t.here (shown t.next (shown t.later zs)) (spelled_on all t.here)
+pub place : (before p q r : ℕ) (zs all : List ℕ) (t : Three) → (q ≡ 0 → r ≡ 0) → (r ≡ 0 → zs ≡ []) → KeepsLetters p q r t → t ≡ body_rule before p q r → body before (p ∷ shown q (shown r zs)) all ≡ body t.here (shown t.next (shown t.later zs)) (spelled_on all t.here)
 place before p q r zs all t g h k is =
     body_place before p (shown q (shown r zs)) all t (is ∙ sym (ap (λ a. body_rule before p a (slice_index (shown q (shown r zs)) 1)) (first_seen q r zs g h) ∙ ap (λ b. body_rule before p q b) (second_seen q r zs g h)))
     ∙ ap (λ cs. body t.here cs (spelled_on all t.here)) (behind_seen p q r zs t g h k)
@@ -74,7 +74,7 @@ length_shown zero cs = omega arith
 length_shown (suc c) cs = omega arith
 
 -- a step over a place leaves one letter less
-pub one_less : (w v : Walk) → 0 < w.p → Steps w v 0 → length (text_of v []) < length (text_of w [])
+pub one_less : (w v : Walk) → 0 < w.p → StepsOverPlace w v 0 → length (text_of v []) < length (text_of w [])
 one_less w v some steps =
     let a = length_shown w.p (shown w.q (shown w.r (shown w.s []))) in
     let b = length_shown w.q (shown w.r (shown w.s [])) in
@@ -87,12 +87,12 @@ one_less w v some steps =
     let y = one_each w.r v.q steps.q in
     omega arith
 
-pub nothing_left : (w : Walk) → IsFilled w [] → w.p ≡ 0 → text_of w [] ≡ []
+pub nothing_left : (w : Walk) → HasNoGaps w [] → w.p ≡ 0 → text_of w [] ≡ []
 nothing_left w filled none =
     let q = filled.p none in let r = filled.q q in let s = filled.r r in
     shown_none w.p _ none ∙ shown_none w.q _ q ∙ shown_none w.r _ r ∙ shown_none w.s _ s
 
-pub filled_after_step : (w v : Walk) → IsFilled w [] → Steps w v 0 → IsFilled v []
+pub filled_after_step : (w v : Walk) → HasNoGaps w [] → StepsOverPlace w v 0 → HasNoGaps v []
 filled_after_step w v filled steps = record {
   p = λ h. zero_by w.r v.q steps.q (filled.q (zero_back w.q v.p steps.p h));
   q = λ h. steps.r ∙ filled.r (zero_back w.r v.q steps.q h);
@@ -101,7 +101,7 @@ filled_after_step w v filled steps = record {
 }
 
 -- a step, where no letter is still to come
-pub step_to_end : (w v : Walk) (all : List ℕ) → 0 < w.p → IsFilled w [] → Steps w v 0 → body w.before (text_of w []) all ≡ body v.before (text_of v []) (spelled_on all v.before)
+pub step_to_end : (w v : Walk) (all : List ℕ) → 0 < w.p → HasNoGaps w [] → StepsOverPlace w v 0 → body w.before (text_of w []) all ≡ body v.before (text_of v []) (spelled_on all v.before)
 step_to_end w v all some filled steps =
     ap (λ cs. body w.before cs all) (shown_some w.p _ some)
     ∙ steps.text all (shown w.s []) filled.q (λ r. shown_none w.s [] (filled.r r))
@@ -118,7 +118,7 @@ nonzero : (n : ℕ) → (n ≡ 0 → ⊥) → 0 < n
 nonzero zero h = absurd (h refl)
 nonzero (suc n) h = omega arith
 
-pub full : (w : Walk) (c : ℕ) (more : List ℕ) → IsFilled w (c ∷ more) → IsFull w
+pub full : (w : Walk) (c : ℕ) (more : List ℕ) → HasNoGaps w (c ∷ more) → IsFull w
 full w c more filled =
     let s : 0 < w.s = nonzero w.s (λ h. let e : c ∷ more ≡ [] = filled.s h in cc) in
     let r : 0 < w.r = nonzero w.r (λ h. let e = filled.r h in omega arith) in
@@ -126,7 +126,7 @@ full w c more filled =
     let p : 0 < w.p = nonzero w.p (λ h. let e = filled.p h in omega arith) in
     record { p = p; q = q; r = r; s = s }
 
-pub filled_more : (w v : Walk) (c : ℕ) (more : List ℕ) → 0 < c → IsFull w → Steps w v c → IsFilled v more
+pub filled_more : (w v : Walk) (c : ℕ) (more : List ℕ) → 0 < c → IsFull w → StepsOverPlace w v c → HasNoGaps v more
 filled_more w v c more some is steps =
     let x = steps.p.0 is.q in let y = steps.q.0 is.r in
     let sr = steps.r in let ss = steps.s in let ws = is.s in
@@ -141,7 +141,7 @@ ended_near (suc p) (suc q) (suc s) (suc c) more hp hq hs hc = refl
 ended_near p q s c more hp hq hs hc = absurd (omega arith)
 
 -- a step, where the letter that it takes was still to come
-pub step_over : (w v : Walk) (all : List ℕ) (c : ℕ) (more : List ℕ) → 0 < c → IsFull w → Steps w v c → body w.before (ended (text_of w (c ∷ more))) all ≡ body v.before (ended (text_of v more)) (spelled_on all v.before)
+pub step_over : (w v : Walk) (all : List ℕ) (c : ℕ) (more : List ℕ) → 0 < c → IsFull w → StepsOverPlace w v c → body w.before (ended (text_of w (c ∷ more))) all ≡ body v.before (ended (text_of v more)) (spelled_on all v.before)
 step_over w v all c more some is steps =
     let q = is.q in let r = is.r in
     ap (λ cs. body w.before cs all) (ended_far w.p w.q w.r w.s c more is.p is.q is.r is.s)

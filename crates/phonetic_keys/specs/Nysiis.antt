@@ -84,8 +84,8 @@ body before text key = body_over (length text) before text key
 
 -- TAIL, never past the first letter
 
-abbrev pub without_last : ℕ → List ℕ → List ℕ
-without_last c key = if nat_lt 1 (length key) && last_of key == c then take (length key - 1) key else key
+abbrev pub without_last_letter : ℕ → List ℕ → List ℕ
+without_last_letter c key = if nat_lt 1 (length key) && last_of key == c then take (length key - 1) key else key
 
 abbrev pub with_ay_joined : List ℕ → List ℕ
 with_ay_joined key =
@@ -95,7 +95,7 @@ with_ay_joined key =
 
 -- at most that many letters
 abbrev pub tail_to : ℕ → List ℕ → List ℕ
-tail_to most key = take most (without_last A (with_ay_joined (without_last S key)))
+tail_to most key = take most (without_last_letter A (with_ay_joined (without_last_letter S key)))
 
 unfoldable pub tail_of : List ℕ → List ℕ
 tail_of key = tail_to 6 key

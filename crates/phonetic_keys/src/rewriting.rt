@@ -2,7 +2,7 @@
 ghost use Rattle.std.specs.Prelude.{◌≡◌, ◌<◌, ◌↔◌};
 ghost use Rattle.phonetic_keys.specs.Alphabet.{in_vowels};
 ghost use Rattle.phonetic_keys.specs.Nysiis.{body_rule, end_rule, front_rule, three_letters};
-ghost use Rattle.phonetic_keys.specs.Window.{KeepsPlaces};
+ghost use Rattle.phonetic_keys.specs.Window.{KeepsLetters};
 
 /// Three letters in a row.
 #[derive(Clone, Copy)]
@@ -28,7 +28,7 @@ fn is_vowel(letter: u8) -> bool
 #[tactic(auto, unfolding(crate::specs::Nysiis::front_rule))]
 pub(crate) fn front_of(p: u8, q: u8, r: u8) -> Three
     ensures value { result ≡ front_rule p q r }
-    ensures places { 0 < p → KeepsPlaces p q r result }
+    ensures places { 0 < p → KeepsLetters p q r result }
 {
     if p == b'M' && q == b'A' && r == b'C' {
         in_row(b'M', b'C', b'C')
@@ -65,7 +65,7 @@ pub(crate) fn end_of(x: u8, y: u8) -> u8
 #[tactic(auto, unfolding(crate::specs::Nysiis::body_rule))]
 pub(crate) fn rewritten(before: u8, p: u8, q: u8, r: u8) -> Three
     ensures value { result ≡ body_rule before p q r }
-    ensures places { 0 < p → KeepsPlaces p q r result }
+    ensures places { 0 < p → KeepsLetters p q r result }
 {
     if before == 0 {
         in_row(p, q, r)

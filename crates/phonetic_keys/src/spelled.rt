@@ -1,8 +1,8 @@
 // A key as it is spelled letter by letter: its first letters, its length as far as it matters, its last letter.
 ghost use Rattle.std.specs.Prelude.{◌≡◌, ℕ, List, [], ◌++◌, ◌<◌, ◌≤◌, take, length};
 ghost use Rattle.phonetic_keys.specs.Keys.{IsKey};
-ghost use Rattle.phonetic_keys.specs.Nysiis.{spelled_on, tail_of, with_ay_joined, without_last};
-ghost use Rattle.phonetic_keys.specs.Window.{Keeps};
+ghost use Rattle.phonetic_keys.specs.Nysiis.{spelled_on, tail_of, with_ay_joined, without_last_letter};
+ghost use Rattle.phonetic_keys.specs.Window.{KeepsKey};
 
 use std::marker::Model;
 
@@ -62,7 +62,7 @@ impl Ending {
 
     // Drops the last letter, if it is this one and not the first.
     fn drop_last(&mut self, letter: u8)
-        ensures { self.new ≡ without_last letter self.old }
+        ensures { self.new ≡ without_last_letter letter self.old }
     {
         if self.count > 1 && self.letters[self.count - 1] == letter {
             self.count -= 1;
@@ -102,7 +102,7 @@ pub(crate) struct Spelled {
 
 impl Spelled {
     pub(crate) fn new() -> Spelled
-        ensures { Keeps [] result }
+        ensures { KeepsKey [] result }
     {
         Spelled {
             letters: [0; 8],
@@ -113,7 +113,7 @@ impl Spelled {
 
     // Appends a letter, if it differs from the last.
     pub(crate) fn spell(&mut self, letter: u8)
-        ensures { (all : List ℕ) → Keeps all self.old → Keeps (spelled_on all letter) self.new }
+        ensures { (all : List ℕ) → KeepsKey all self.old → KeepsKey (spelled_on all letter) self.new }
     {
         if self.last == letter {
             return;
@@ -129,7 +129,7 @@ impl Spelled {
 
     // The key after the rules for its end.
     pub(crate) fn finish(self) -> Ending
-        ensures { (all : List ℕ) → Keeps all self → result ≡ tail_of all }
+        ensures { (all : List ℕ) → KeepsKey all self → result ≡ tail_of all }
     {
         let letters = self.letters;
         if self.count > 8 {

@@ -2,8 +2,8 @@
 ghost use Rattle.std.specs.Prelude.{◌≡◌, ◌↔◌, IsNone, ◌≢◌, ◌<◌, ◌∷◌, [], ℕ, List, MatchOption, IsTrue};
 ghost use Rattle.phonetic_keys.specs.Letters.{in_alphabet, letters_of};
 ghost use Rattle.phonetic_keys.specs.Nysiis.{body, ended, front, nysiis_of, spelled_on, tail_of};
-ghost use Rattle.phonetic_keys.specs.Window.{Keeps};
-ghost use Rattle.phonetic_keys.specs.Walks.{IsFilled, Steps, Starts, shown, text_of};
+ghost use Rattle.phonetic_keys.specs.Window.{KeepsKey};
+ghost use Rattle.phonetic_keys.specs.Walks.{HasNoGaps, StepsOverPlace, Starts, shown, text_of};
 
 use crate::letters::{is_letter, next_letter};
 use crate::rewriting::{end_of, front_of, rewritten};
@@ -55,7 +55,7 @@ impl Walk {
     // Goes over a place, and takes one more letter, 0 where there is none.
     fn step(&mut self, letter: u8)
         requires { 0 < self.old.p }
-        ensures { Steps self.old self.new letter }
+        ensures { StepsOverPlace self.old self.new letter }
     {
         let place = rewritten(self.before, self.p, self.q, self.r);
         self.key.spell(place.here);
@@ -68,8 +68,8 @@ impl Walk {
 
     // The rule for the end, where no letter is still to come.
     fn close(&mut self)
-        requires { IsFilled self.old [] }
-        ensures filled { IsFilled self.new [] }
+        requires { HasNoGaps self.old [] }
+        ensures filled { HasNoGaps self.new [] }
         ensures before { self.new.before ≡ self.old.before }
         ensures key { self.new.key ≡ self.old.key }
         ensures text { text_of self.new [] ≡ ended (text_of self.old []) }
@@ -97,8 +97,8 @@ impl Walk {
 
     // The key, where no letter is still to come.
     fn finish(mut self) -> Ending
-        requires { IsFilled self [] }
-        ensures { (all : List ℕ) → Keeps all self.key → result ≡ tail_of (body self.before (ended (text_of self [])) all) }
+        requires { HasNoGaps self [] }
+        ensures { (all : List ℕ) → KeepsKey all self.key → result ≡ tail_of (body self.before (ended (text_of self [])) all) }
     {
         self.close();
         while self.p != 0 {

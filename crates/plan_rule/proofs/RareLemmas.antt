@@ -2,7 +2,7 @@
 use Rattle.std.proofs.Common.{◌≡◌, ◌+◌, ◌<◌, ℕ, suc, Bool, true, false, List, [], ◌∷◌, length, get_or, Option, Some, None, ap, arith, refl, subst}
 use Rattle.std.specs.Prelude.{MatchBool, slice_get}
 use Rattle.std.specs.List.{filter}
-use Rattle.link_base.specs.Standard.{Record, absent, no_record}
+use Rattle.link_base.specs.Standard.{Record, absent_value, no_record}
 use Rattle.link_base.specs.declared.plan.CompareKind.{CompareKind}
 use Rattle.comparators.proofs.IdLemmas.{ids_alike}
 use Rattle.comparators.specs.OfPool.{IsDayItself, NamesCanon}
@@ -40,9 +40,9 @@ module _ (texts : List (List ℕ)) (distinct : (a b : ℕ) → a < length texts 
   count_in : (kind : CompareKind) (field n : ℕ) (text : List ℕ) (file : List Record) (rows : List (List IdValue)) → compares_days kind ≡ false → slice_get texts n ≡ Some text
       → StandInField texts kind field file rows → length (filter (has_id field n) rows) ≡ records_with kind field text file
   count_in kind field n text file rows canon at of =
-      same_passes (has_id field n) (λ (r : Record). is_canon text (canon_of kind (get_or r.row field absent))) rows file [] no_record of.as_many
+      same_passes (has_id field n) (λ (r : Record). is_canon text (canon_of kind (get_or r.row field absent_value))) rows file [] no_record of.as_many
       (λ k lt.
-      let value = get_or (get_or file k no_record).row field absent in
+      let value = get_or (get_or file k no_record).row field absent_value in
       let side = get_or (get_or rows k []) field id.Absent in
       let names : NamesCanon texts (canon_of kind value) side = subst (λ b. MatchBool b (IsDayItself (day_in value) side) (NamesCanon texts (canon_of kind value) side)) canon (of.stand k lt) in
       same_test (canon_of kind value) side n text at names)

@@ -4,7 +4,7 @@ use Rattle.std.proofs.Common.{◌≡◌, ◌<◌, ◌-◌, ◌∙◌, ℕ, ℤ, 
 use Rattle.std.specs.Prelude.{MatchBool, is_some, replicate}
 use Rattle.std.proofs.lemmas.List.{get_or-map, length-map, take-append-le, take_all}
 use Rattle.std.proofs.lemmas.Option.{slice_get_within}
-use Rattle.link_base.specs.Standard.{absent}
+use Rattle.link_base.specs.Standard.{absent_value}
 use Rattle.link_base.specs.declared.plan.CompareKind.{CompareKind}
 use Rattle.link_base.specs.declared.plan.CompareKind.TheVariants as by
 use Rattle.link_base.specs.declared.shares.Shape.{Shape}
@@ -37,7 +37,7 @@ kinds_in fields = map (λ (f : FieldKeys). f.compare) fields
 
 -- valid sides that stand for the values of a row
 pub sides_of_fields : (texts : List (List ℕ)) (fields : List FieldKeys) (row : List Value) (sides : List IdValue) → length sides ≡ length (kinds_in fields)
-    → ((k : ℕ) → k < length (kinds_in fields) → StandsFor texts (get_or (kinds_in fields) k by.Exact) (get_or row k absent) (get_or sides k id.Absent))
+    → ((k : ℕ) → k < length (kinds_in fields) → StandsFor texts (get_or (kinds_in fields) k by.Exact) (get_or row k absent_value) (get_or sides k id.Absent))
     → ((k : ℕ) → k < length (kinds_in fields) → IsFieldSide (field_of (get_or (kinds_in fields) k by.Exact)) (get_or sides k id.Absent))
     → AreSidesOf (length texts) fields sides
 sides_of_fields texts fields row sides as_many stand valid =
@@ -47,7 +47,7 @@ sides_of_fields texts fields row sides as_many stand valid =
       valid = λ k f lt.
           let kind : get_or (kinds_in fields) k by.Exact ≡ (get_or fields k f).compare = get_or-map (λ (g : FieldKeys). g.compare) fields k f by.Exact lt in
           subst (λ (x : CompareKind). IsFieldSide (field_of x) (get_or sides k id.Absent)) kind (valid k (omega arith));
-      of_texts = λ k lt. stands_within texts (get_or (kinds_in fields) k by.Exact) (get_or row k absent) (get_or sides k id.Absent) (stand k (omega arith));
+      of_texts = λ k lt. stands_within texts (get_or (kinds_in fields) k by.Exact) (get_or row k absent_value) (get_or sides k id.Absent) (stand k (omega arith));
     }
 
 -- the shape of a plan's patterns has its rare fields

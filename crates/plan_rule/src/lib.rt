@@ -11,6 +11,3 @@ pub use comparisons::comparisons_of;
 pub use laws::{is_the_rule, one_rule, rare_counts, rule_is_least};
 pub use plan_shares::{counted_shares, given_shares, shares_of_counts};
 pub use table::rule_of_shares;
-
-#[cfg(test)]
-mod tests;

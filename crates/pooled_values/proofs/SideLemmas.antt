@@ -9,7 +9,7 @@ use Rattle.comparators.specs.Fields.{field_of, IsDayOrAbsent, IsFieldSide, IsIdO
 use Rattle.comparators.specs.OfPool.{IsDayItself, NamesCanon, StandsFor}
 use Rattle.comparators.specs.declared.ids.IdValue.{IdValue}
 use Rattle.comparators.specs.declared.ids.IdValue.TheVariants as id
-use Rattle.link_base.specs.Standard.{absent, IsValid, no_record, Record}
+use Rattle.link_base.specs.Standard.{absent_value, IsValid, no_record, Record}
 use Rattle.std.specs.Prelude.{Bool, true, false, MatchBool, if◌then◌else◌}
 use Rattle.comparators.proofs.IdLemmas.{side-valid}
 use Rattle.value_pool.proofs.PlaceLemmas.{place-reads}
@@ -54,7 +54,7 @@ valid-side texts kind v h = side-valid kind (side_of texts kind v) (by_test (com
     by_test true = day-valid v h
     by_test false = id-valid texts (canon_of kind v)
 
-side-at : (texts : List (List ℕ)) (kinds : List CompareKind) (row : List Value) (k : ℕ) → k < length kinds → length row ≡ length kinds → get_or (sides_of_row texts kinds row) k id.Absent ≡ side_of texts (get_or kinds k by.Exact) (get_or row k absent)
+side-at : (texts : List (List ℕ)) (kinds : List CompareKind) (row : List Value) (k : ℕ) → k < length kinds → length row ≡ length kinds → get_or (sides_of_row texts kinds row) k id.Absent ≡ side_of texts (get_or kinds k by.Exact) (get_or row k absent_value)
 side-at texts [] row k lt many = absurd (omega arith)
 side-at texts (kind ∷ kinds) [] k lt many = absurd (omega arith)
 side-at texts (kind ∷ kinds) (v ∷ vs) zero lt many = refl
@@ -70,9 +70,9 @@ row-sides texts kinds row many valid all = record {
   as_many = sides-many texts kinds row many;
   stand = λ k lt.
       let kind = get_or kinds k by.Exact in
-      let v = get_or row k absent in
+      let v = get_or row k absent_value in
       rw (side-at texts kinds row k lt many) (stands-for texts kind v (held-by texts (canon_of kind v) (λ text h. all text (stands-canons kinds row k text lt many h))));
-  valid = λ k lt. rw (side-at texts kinds row k lt many) (valid-side texts (get_or kinds k by.Exact) (get_or row k absent) (valid k absent (omega arith)));
+  valid = λ k lt. rw (side-at texts kinds row k lt many) (valid-side texts (get_or kinds k by.Exact) (get_or row k absent_value) (valid k absent_value (omega arith)));
 }
 
 length-sides : (texts : List (List ℕ)) (kinds : List CompareKind) (file : List Record) → length (sides_of_file texts kinds file) ≡ length file

@@ -6,7 +6,7 @@ use Rattle.value_pool.specs.Pool.{FullExactly, is_want_of_pool, with_text}
 use Rattle.value_pool.specs.Texts.{PoolState, stands_among}
 use Rattle.value_pool.specs.declared.pool.PoolFault.{PoolFault}
 use Rattle.value_pool.specs.declared.pool.PoolFault.TheVariants as fault
-use Rattle.pooled_values.specs.Taking.{Takes}
+use Rattle.pooled_values.specs.Taking.{TakesTexts}
 use Rattle.pooled_values.specs.Texts.{text_taken, texts_taken}
 
 then-then : {A B C : Type 0} (r : Result A PoolFault) (f : A → Result B PoolFault) (g : B → Result C PoolFault) → and_then (and_then r f) g ≡ and_then r (λ x. and_then (f x) g)
@@ -62,7 +62,7 @@ full-one held more f true c h = cc
 full-one held more f false true h = refl
 full-one held more f false false h = cc
 
-pub takes-interned : (old new : PoolState) (text : List ℕ) (r : Result ℕ PoolFault) → old.used ≡ sum_by length old.texts → OnOk r (new.texts ≡ with_text old text) → FullExactly old text r → Takes old new (text ∷ []) r
+pub takes-interned : (old new : PoolState) (text : List ℕ) (r : Result ℕ PoolFault) → old.used ≡ sum_by length old.texts → OnOk r (new.texts ≡ with_text old text) → FullExactly old text r → TakesTexts old new (text ∷ []) r
 takes-interned old new text (Ok id) used is h =
     let f : PoolFault = fault.Full (sum_by length old.texts + length text) old.limit in
     ok-one old.texts (old.texts ++ text ∷ []) f (stands_among old.texts text) (nat_lt old.limit (sum_by length old.texts + length text)) (rw used at h) ∙ ap Ok (sym is)
@@ -85,21 +85,21 @@ pub taken-cases : (limit : ℕ) (held texts new : List (List ℕ)) (text : List 
 taken-cases limit held texts new text h =
     taken-split limit held texts new text (fault.Full (sum_by length held + length text) limit) (stands_among held text) (nat_lt limit (sum_by length held + length text)) h
 
-pub takes-refused : {T : Type 0} {start now : PoolState} {rest whole : List (List ℕ)} (xs next : List (List ℕ)) (f : PoolFault) (new : PoolState) (r : Result T PoolFault) → Goes start now rest whole → rest ≡ xs ++ next → RefusesBut is_want_of_pool (texts_taken now.limit now.texts xs) f → r ≡ Err f → Takes start new whole r
+pub takes-refused : {T : Type 0} {start now : PoolState} {rest whole : List (List ℕ)} (xs next : List (List ℕ)) (f : PoolFault) (new : PoolState) (r : Result T PoolFault) → Goes start now rest whole → rest ≡ xs ++ next → RefusesBut is_want_of_pool (texts_taken now.limit now.texts xs) f → r ≡ Err f → TakesTexts start new whole r
 takes-refused {start = start} {whole = whole} xs next f new r g e h is =
-    subst (λ (x : Result _ PoolFault). Takes start new whole x) (sym is) (goes-refused xs next f g e h)
+    subst (λ (x : Result _ PoolFault). TakesTexts start new whole x) (sym is) (goes-refused xs next f g e h)
 
-pub takes-err : {T : Type 0} (old new : PoolState) (xs : List (List ℕ)) (f : PoolFault) (r : Result T PoolFault) → RefusesBut is_want_of_pool (texts_taken old.limit old.texts xs) f → r ≡ Err f → Takes old new xs r
-takes-err old new xs f r h is = subst (λ (x : Result _ PoolFault). Takes old new xs x) (sym is) h
+pub takes-err : {T : Type 0} (old new : PoolState) (xs : List (List ℕ)) (f : PoolFault) (r : Result T PoolFault) → RefusesBut is_want_of_pool (texts_taken old.limit old.texts xs) f → r ≡ Err f → TakesTexts old new xs r
+takes-err old new xs f r h is = subst (λ (x : Result _ PoolFault). TakesTexts old new xs x) (sym is) h
 
 -- texts after texts
-pub takes-then : {T : Type 0} (old mid new : PoolState) (xs ys : List (List ℕ)) (r : Result T PoolFault) → mid.limit ≡ old.limit → texts_taken old.limit old.texts xs ≡ Ok mid.texts → Takes mid new ys r → Takes old new (xs ++ ys) r
+pub takes-then : {T : Type 0} (old mid new : PoolState) (xs ys : List (List ℕ)) (r : Result T PoolFault) → mid.limit ≡ old.limit → texts_taken old.limit old.texts xs ≡ Ok mid.texts → TakesTexts mid new ys r → TakesTexts old new (xs ++ ys) r
 takes-then old mid new xs ys (Ok x) limit taken h =
     sym (goes-on {new = mid} xs ys (goes-start old (xs ++ ys)) refl limit taken).texts ∙ h
 takes-then old mid new xs ys (Err f) limit taken h =
     subst (λ (e : Result (List (List ℕ)) PoolFault). RefusesBut is_want_of_pool e f) (goes-on {new = mid} xs ys (goes-start old (xs ++ ys)) refl limit taken).texts h
 
-pub takes-three : {T : Type 0} (old one two new : PoolState) (xs ys zs : List (List ℕ)) (r : Result T PoolFault) → one.limit ≡ old.limit → texts_taken old.limit old.texts xs ≡ Ok one.texts → two.limit ≡ one.limit → texts_taken one.limit one.texts ys ≡ Ok two.texts → Takes two new zs r → Takes old new (xs ++ ys ++ zs) r
+pub takes-three : {T : Type 0} (old one two new : PoolState) (xs ys zs : List (List ℕ)) (r : Result T PoolFault) → one.limit ≡ old.limit → texts_taken old.limit old.texts xs ≡ Ok one.texts → two.limit ≡ one.limit → texts_taken one.limit one.texts ys ≡ Ok two.texts → TakesTexts two new zs r → TakesTexts old new (xs ++ ys ++ zs) r
 takes-three old one two new xs ys zs r limit_one taken_one limit_two taken_two h =
     let taken : Result ℕ PoolFault = Ok 0 in
     takes-then old two new (xs ++ ys) zs r (limit_two ∙ limit_one) (takes-then old one two xs ys taken limit_one taken_one taken_two) h

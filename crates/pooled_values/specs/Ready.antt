@@ -7,7 +7,7 @@ use Rattle.comparators.specs.Fields.{field_of, IsFieldSide}
 use Rattle.comparators.specs.OfPool.{StandsFor}
 use Rattle.comparators.specs.declared.ids.IdValue.{IdValue}
 use Rattle.comparators.specs.declared.ids.IdValue.TheVariants as id
-use Rattle.link_base.specs.Standard.{absent, IsValid, Record}
+use Rattle.link_base.specs.Standard.{absent_value, IsValid, Record}
 use Rattle.link_base.specs.declared.plan.CompareKind.{CompareKind}
 use Rattle.link_base.specs.declared.plan.CompareKind.TheVariants as by
 use Rattle.link_base.specs.declared.plan.Part.{Part}
@@ -35,7 +35,7 @@ HoldsParts texts passes file = (k : ℕ) → k < length passes → AreAllHeld te
 pub record AreRowSides (texts : List (List ℕ)) (kinds : List CompareKind) (row : List Value) (sides : List IdValue) : Type 0 where
   pub as_many : length sides ≡ length kinds
   pub stand : (k : ℕ) → k < length kinds
-      → StandsFor texts (slice_index_or kinds k by.Exact) (slice_index_or row k absent) (slice_index_or sides k id.Absent)
+      → StandsFor texts (slice_index_or kinds k by.Exact) (slice_index_or row k absent_value) (slice_index_or sides k id.Absent)
   pub valid : (k : ℕ) → k < length kinds → IsFieldSide (field_of (slice_index_or kinds k by.Exact)) (slice_index_or sides k id.Absent)
 
 -- the sides of a file, row by row

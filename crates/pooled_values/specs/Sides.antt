@@ -46,11 +46,11 @@ pub record PooledView : Type 0 where
   pub b : IdRows
 
 -- the table of a file: as many values a row as there are kinds
-abbrev pub table_of : List (List ℕ) → List CompareKind → List Record → IdRows
-table_of texts kinds file = record { fields = length kinds; rows = sides_of_file texts kinds file }
+abbrev pub id_rows_of : List (List ℕ) → List CompareKind → List Record → IdRows
+id_rows_of texts kinds file = record { fields = length kinds; rows = sides_of_file texts kinds file }
 
 -- the pooled values of two files, or the first text that passes the limit
 abbrev pub pooled_values : ℕ → List CompareKind → List (List Part) → List Record → List Record → Result PooledView PoolFault
 pooled_values limit kinds passes a b =
     and_then (pooled_texts limit kinds passes a b)
-    (λ texts. Ok (record { texts = texts; limit = limit; a = table_of texts kinds a; b = table_of texts kinds b }))
+    (λ texts. Ok (record { texts = texts; limit = limit; a = id_rows_of texts kinds a; b = id_rows_of texts kinds b }))

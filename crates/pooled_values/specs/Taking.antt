@@ -7,9 +7,9 @@ use Rattle.value_pool.specs.Pool.{is_want_of_pool}
 use Rattle.pooled_values.specs.Texts.{texts_taken}
 
 -- a pool has taken these texts, or refuses the first that passes its limit
-abbrev pub Takes : {T : Type 0} → PoolState → PoolState → List (List ℕ) → Result T PoolFault → Type 0
-Takes old new texts (Ok x) = texts_taken old.limit old.texts texts ≡ Ok new.texts
-Takes old new texts (Err f) = RefusesBut is_want_of_pool (texts_taken old.limit old.texts texts) f
+abbrev pub TakesTexts : {T : Type 0} → PoolState → PoolState → List (List ℕ) → Result T PoolFault → Type 0
+TakesTexts old new texts (Ok x) = texts_taken old.limit old.texts texts ≡ Ok new.texts
+TakesTexts old new texts (Err f) = RefusesBut is_want_of_pool (texts_taken old.limit old.texts texts) f
 
 -- distinct texts, among which each of some texts keeps its place
 pub record Extends (held final : List (List ℕ)) : Type 0 where

@@ -4,7 +4,7 @@ ghost use Rattle.value_canons.specs.Canons.{IsReadable, canon_of, value_part};
 ghost use Rattle.link_base.specs.Standard.{IsValid};
 ghost use Rattle.pooled_values.specs.Ready.{IsRowFor};
 ghost use Rattle.pooled_values.specs.Sides.{day_side, id_side, side_of, sides_of_file, sides_of_row};
-ghost use Rattle.pooled_values.specs.Taking.{Extends, Takes};
+ghost use Rattle.pooled_values.specs.Taking.{Extends, TakesTexts};
 ghost use Rattle.pooled_values.specs.Texts.{both_texts, canons_of_row, file_texts};
 
 use crate::texts::take_text;
@@ -24,7 +24,7 @@ pub(crate) fn take_part(
 ) -> Result<IdValue, PoolFault>
     requires { IsReadable kind value.now }
     ensures limit { pool.new.limit ≡ pool.old.limit }
-    ensures texts { Takes pool.old pool.new (option_to_list (value_part kind value.now)) result }
+    ensures texts { TakesTexts pool.old pool.new (option_to_list (value_part kind value.now)) result }
     ensures side { IfOk result (λ side. (final : List (List ℕ)) → Extends pool.new.texts final → id_side final (value_part kind value.now) ≡ side) }
 {
     match value_text(kind, value) {
@@ -52,7 +52,7 @@ fn take_canon(
 ) -> Result<IdValue, PoolFault>
     requires { IsValid value.now }
     ensures limit { pool.new.limit ≡ pool.old.limit }
-    ensures texts { Takes pool.old pool.new (option_to_list (canon_of kind value.now)) result }
+    ensures texts { TakesTexts pool.old pool.new (option_to_list (canon_of kind value.now)) result }
     ensures side { IfOk result (λ side. (final : List (List ℕ)) → Extends pool.new.texts final → side_of final kind value.now ≡ side) }
 {
     if compares_days(kind) {
@@ -76,7 +76,7 @@ fn take_row(
     requires as_many { length row.now ≡ length kinds.now }
     requires valid { All IsValid row.now }
     ensures limit { pool.new.limit ≡ pool.old.limit }
-    ensures texts { Takes pool.old pool.new (canons_of_row kinds.now row.now) result }
+    ensures texts { TakesTexts pool.old pool.new (canons_of_row kinds.now row.now) result }
     ensures sides { OnOk result ((final : List (List ℕ)) → Extends pool.new.texts final → sides_of_row final kinds.now row.now ≡ sides.new.items) }
     ensures width { OnOk result (length sides.new.items ≡ length kinds.now) }
 {
@@ -104,7 +104,7 @@ fn take_rows(
     requires empty { table.old.rows ≡ [] }
     ensures fields { table.new.fields ≡ table.old.fields }
     ensures limit { pool.new.limit ≡ pool.old.limit }
-    ensures texts { Takes pool.old pool.new (file_texts (canons_of_row kinds.now) file.now) result }
+    ensures texts { TakesTexts pool.old pool.new (file_texts (canons_of_row kinds.now) file.now) result }
     ensures sides { OnOk result ((final : List (List ℕ)) → Extends pool.new.texts final → sides_of_file final kinds.now file.now ≡ table.new.rows) }
 {
     let mut sides = Vec::new(alloc);
@@ -127,7 +127,7 @@ fn take_file(
     requires few { length kinds.now ≤ MOST_FIELDS }
     requires rows { All (IsRowFor kinds.now) file.now }
     ensures limit { pool.new.limit ≡ pool.old.limit }
-    ensures texts { Takes pool.old pool.new (file_texts (canons_of_row kinds.now) file.now) result }
+    ensures texts { TakesTexts pool.old pool.new (file_texts (canons_of_row kinds.now) file.now) result }
     ensures fields { IfOk result (λ table. table.fields ≡ length kinds.now) }
     ensures sides { IfOk result (λ table. (final : List (List ℕ)) → Extends pool.new.texts final → sides_of_file final kinds.now file.now ≡ table.rows) }
 {
@@ -151,7 +151,7 @@ pub(crate) fn take_canons(
     requires rows_a { All (IsRowFor kinds.now) a.now }
     requires rows_b { All (IsRowFor kinds.now) b.now }
     ensures limit { pool.new.limit ≡ pool.old.limit }
-    ensures texts { Takes pool.old pool.new (both_texts (canons_of_row kinds.now) a.now b.now) result }
+    ensures texts { TakesTexts pool.old pool.new (both_texts (canons_of_row kinds.now) a.now b.now) result }
     ensures fields_a { IfOk result (λ t. t.0.fields ≡ length kinds.now) }
     ensures fields_b { IfOk result (λ t. t.1.fields ≡ length kinds.now) }
     ensures a { IfOk result (λ t. (final : List (List ℕ)) → Extends pool.new.texts final → sides_of_file final kinds.now a.now ≡ t.0.rows) }

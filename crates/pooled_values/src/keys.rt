@@ -3,7 +3,7 @@ ghost use Rattle.std.specs.Prelude.{◌≡◌, All, ◌<◌, length};
 ghost use Rattle.link_base.specs.Standard.{IsValid};
 ghost use Rattle.link_base.specs.declared.plan.Part.{Part};
 ghost use Rattle.pooled_values.specs.Ready.{AreInRange, HasParts};
-ghost use Rattle.pooled_values.specs.Taking.{Takes};
+ghost use Rattle.pooled_values.specs.Taking.{TakesTexts};
 ghost use Rattle.pooled_values.specs.Texts.{both_texts, file_texts, parts_in_pass, parts_of_row};
 
 use crate::canons::take_part;
@@ -16,7 +16,7 @@ fn take_key(alloc: Global, pool: &mut Pool, pass: &Pass, row: &StdRow) -> Result
     requires in_range { All (λ (p : Part). p.field < length row.now) pass.now }
     requires valid { All IsValid row.now }
     ensures limit { pool.new.limit ≡ pool.old.limit }
-    ensures texts { Takes pool.old pool.new (parts_in_pass row.now pass.now) result }
+    ensures texts { TakesTexts pool.old pool.new (parts_in_pass row.now pass.now) result }
 {
     for part in pass.parts() {
         take_part(alloc, pool, part.key, row.value(part.field))?;
@@ -34,7 +34,7 @@ fn take_row(
     requires in_range { AreInRange (length row.now) passes.now }
     requires valid { All IsValid row.now }
     ensures limit { pool.new.limit ≡ pool.old.limit }
-    ensures texts { Takes pool.old pool.new (parts_of_row passes.now row.now) result }
+    ensures texts { TakesTexts pool.old pool.new (parts_of_row passes.now row.now) result }
 {
     for pass in passes.passes() {
         take_key(alloc, pool, pass, row)?;
@@ -51,7 +51,7 @@ fn take_file(
 ) -> Result<(), PoolFault>
     requires { All (HasParts passes.now) file.now }
     ensures limit { pool.new.limit ≡ pool.old.limit }
-    ensures texts { Takes pool.old pool.new (file_texts (parts_of_row passes.now) file.now) result }
+    ensures texts { TakesTexts pool.old pool.new (file_texts (parts_of_row passes.now) file.now) result }
 {
     for at in 0..file.rows() {
         take_row(alloc, pool, passes, file.row(at))?;
@@ -70,7 +70,7 @@ pub(crate) fn take_keys(
     requires rows_a { All (HasParts passes.now) a.now }
     requires rows_b { All (HasParts passes.now) b.now }
     ensures limit { pool.new.limit ≡ pool.old.limit }
-    ensures texts { Takes pool.old pool.new (both_texts (parts_of_row passes.now) a.now b.now) result }
+    ensures texts { TakesTexts pool.old pool.new (both_texts (parts_of_row passes.now) a.now b.now) result }
 {
     take_file(alloc, pool, passes, a)?;
     take_file(alloc, pool, passes, b)

@@ -9,6 +9,3 @@ mod values;
 
 pub use laws::distinct_taken;
 pub use values::{PooledValues, pool_values};
-
-#[cfg(test)]
-mod tests;

@@ -4,7 +4,7 @@ ghost use Rattle.link_base.specs.Answers.{GivesBut};
 ghost use Rattle.value_pool.specs.Pool.{is_want_of_pool};
 ghost use Rattle.pooled_values.specs.Ready.{AreFileSides, AreInRange, HoldsParts, IsRowFor};
 ghost use Rattle.pooled_values.specs.Sides.{pooled_values, sides_of_file};
-ghost use Rattle.pooled_values.specs.Taking.{Extends, Takes};
+ghost use Rattle.pooled_values.specs.Taking.{Extends, TakesTexts};
 ghost use Rattle.pooled_values.specs.Texts.{all_texts};
 
 use crate::canons::take_canons;
@@ -48,7 +48,7 @@ fn take_values(
     requires rows_b { All (IsRowFor kinds.now) b.now }
     requires parts { AreInRange (length kinds.now) passes.now }
     ensures limit { pool.new.limit ≡ pool.old.limit }
-    ensures texts { Takes pool.old pool.new (all_texts kinds.now passes.now a.now b.now) result }
+    ensures texts { TakesTexts pool.old pool.new (all_texts kinds.now passes.now a.now b.now) result }
     ensures fields_a { IfOk result (λ t. t.0.fields ≡ length kinds.now) }
     ensures fields_b { IfOk result (λ t. t.1.fields ≡ length kinds.now) }
     ensures a { IfOk result (λ t. (final : List (List ℕ)) → Extends pool.new.texts final → sides_of_file final kinds.now a.now ≡ t.0.rows) }

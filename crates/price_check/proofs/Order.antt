@@ -9,8 +9,9 @@ use Rattle.assignment_laws.specs.Assignment.{IsBefore, total, worth, IsOneToOne}
 use Rattle.assignment_laws.proofs.Members.{same_member}
 use Rattle.std.specs.Prelude.{AllPairs, Contains, All}
 use Rattle.link_base.specs.declared.rule.PairAt.{PairAt}
-use Rattle.price_check.specs.Search.{IsCandidateBefore, AreMarks}
-use Rattle.price_check.specs.Verdict.{IsCandidate, HasPositions, IsPairBefore, IsFresh, AreLinks, IsCandidateAt}
+use Rattle.link_base.specs.Rule.{IsPairBefore}
+use Rattle.price_check.specs.Search.{IsCandidateBefore, AreTakenMarks}
+use Rattle.price_check.specs.Verdict.{IsCandidate, HasPositions, IsFresh, AreLinks, IsCandidateAt}
 
 -- what stands before a candidate that stands before the link stands before it too
 pub down : (x y : Candidate) (l : PairAt) → IsBefore x y → IsCandidateBefore y l → IsCandidateBefore x l
@@ -57,7 +58,7 @@ pair_le x y (inl p) = omega (arith, p)
 pair_le x y (inr p) = omega (arith, p.0)
 
 -- a link whose record of B is not marked, and whose record of A the one before it has not
-pub fresh_last : (links : List PairAt) (taken : List Bool) (i : ℕ) (e : PairAt) → AllPairs IsPairBefore links → i < length links → AreMarks taken links i → get_or taken (get_or links i e).b false ≡ false → ((get_or links (i - 1) e).a ≡ (get_or links i e).a → ⊥) → (0 < i) → IsFresh links i
+pub fresh_last : (links : List PairAt) (taken : List Bool) (i : ℕ) (e : PairAt) → AllPairs IsPairBefore links → i < length links → AreTakenMarks taken links i → get_or taken (get_or links i e).b false ≡ false → ((get_or links (i - 1) e).a ≡ (get_or links i e).a → ⊥) → (0 < i) → IsFresh links i
 fresh_last links taken i e rising lt m free other some = λ k d lk.
     let di : get_or links i d ≡ get_or links i e = get_or_default links i d e lt in
     let dk : get_or links k d ≡ get_or links k e = get_or_default links k d e (omega arith) in

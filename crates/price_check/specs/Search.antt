@@ -12,6 +12,6 @@ abbrev pub IsCandidateBefore : Candidate → PairAt → Type 0
 IsCandidateBefore c l = (c.a < l.a) ⊎ ((c.a ≡ l.a) × (c.b < l.b))
 
 -- a record of B is marked where a link below i has it
-pub record AreMarks (taken : List Bool) (links : List PairAt) (i : ℕ) : Type 0 where
+pub record AreTakenMarks (taken : List Bool) (links : List PairAt) (i : ℕ) : Type 0 where
   pub marked : (k : ℕ) (d : PairAt) → k < i → slice_index_or taken (slice_index_or links k d).b false ≡ true
   pub marks : (b : ℕ) → slice_index_or taken b false ≡ true → (k : ℕ) × ((k < i) × ((d : PairAt) → (slice_index_or links k d).b ≡ b))

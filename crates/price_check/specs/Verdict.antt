@@ -1,6 +1,6 @@
 -- What a check needs and what it answers: clauses `first_reason`, `certified` and `greatest` of `check`. The reasons
 -- are tried in the order in which `IsFirstReason` lists them.
-use Rattle.std.specs.Prelude.{◌≡◌, ◌≢◌, ◌⊎◌, ℕ, ◌<◌, ℤ, pos, ◌+ℤ◌, ◌≤ℤ◌, neg_ℤ, List, All, Contains, slice_index_or, length, Option, Some, None, MatchOption}
+use Rattle.std.specs.Prelude.{◌≡◌, ◌≢◌, ℕ, ◌<◌, ℤ, pos, ◌+ℤ◌, ◌≤ℤ◌, neg_ℤ, List, All, Contains, slice_index_or, length, Option, Some, None, MatchOption}
 use Rattle.link_limits.specs.declared.TheConstants.{MOST_VALUE}
 use Rattle.link_base.specs.declared.rule.Candidate.{Candidate}
 use Rattle.assignment_laws.specs.Assignment.{IsOneToOne, IsGreatest, Certifies, IsCovered, worth, price_sum}
@@ -35,10 +35,6 @@ IsCandidateAt candidates l k = (k < length candidates) × ((d : Candidate) → H
 -- some candidate has these positions
 abbrev pub IsCandidate : List Candidate → PairAt → Type 0
 IsCandidate candidates l = (k : ℕ) × IsCandidateAt candidates l k
-
--- x stands before y by (a, b)
-abbrev pub IsPairBefore : PairAt → PairAt → Type 0
-IsPairBefore x y = (x.a < y.a) ⊎ ((x.a ≡ y.a) × (x.b < y.b))
 
 -- no earlier link has a position of the one at i
 abbrev pub IsFresh : List PairAt → ℕ → Type 0

@@ -1,9 +1,10 @@
 // The first place at which something is wrong.
 ghost use Rattle.std.specs.Prelude.{◌≡◌, ◌<◌, ◌≤◌, ◌^◌, ℤ, pos, ◌≤ℤ◌, length, AllPairs, All, IsTrue, ◌↔◌, MatchOption, slice_index_or, ℕ, IfOk, MatchBool, false, true};
 ghost use Rattle.assignment_laws.specs.Assignment.{IsBefore, IsCovered, IsWithin};
-ghost use Rattle.price_check.specs.Search.{IsPairWithin, IsCandidateBefore, AreMarks};
-ghost use Rattle.price_check.specs.Verdict.{IsFirstBad, IsCandidate, IsAllowedPrice, IsPairBefore, IsFirstReused, IsCandidateAt, HasPositions, IsFresh};
+ghost use Rattle.price_check.specs.Search.{IsPairWithin, IsCandidateBefore, AreTakenMarks};
+ghost use Rattle.price_check.specs.Verdict.{IsFirstBad, IsCandidate, IsAllowedPrice, IsFirstReused, IsCandidateAt, HasPositions, IsFresh};
 ghost use Rattle.link_base.specs.declared.rule.Candidate.{Candidate as ACandidate};
+ghost use Rattle.link_base.specs.Rule.{IsPairBefore};
 
 use link_base::{Candidate, NoMemory, PairAt};
 use std::alloc::Global;
@@ -114,7 +115,7 @@ fn is_reused(taken: &[bool], links: &[PairAt], i: usize) -> bool
     requires place { i < length links.now }
     requires rising { AllPairs IsPairBefore links.now }
     requires in_range { All (IsPairWithin (length taken.now)) links.now }
-    requires marks { AreMarks taken.now links.now i }
+    requires marks { AreTakenMarks taken.now links.now i }
     ensures { MatchBool result (IsFresh links.now i → ⊥) (IsFresh links.now i) }
 {
     let link = links[i];

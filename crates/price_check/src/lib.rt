@@ -3,8 +3,6 @@
 
 mod certificate;
 mod first;
-#[cfg(test)]
-mod tests;
 mod verdict;
 
 pub use certificate::check;

@@ -12,24 +12,24 @@ use Rattle.link_base.specs.declared.fault.FileRole.TheVariants as role
 use Rattle.file_reader.specs.Known.{known_in, or_fault}
 use Rattle.file_reader.specs.Rows.{TableRow, no_row}
 use Rattle.sample_counts.specs.declared.reviewed.Reviewed.{Reviewed}
-use Rattle.sample_counts.specs.Sample.{field_at, is_matched_by, named_pair, new_after, reviewed_row, reviewed_rows, same_pair, sample_row, unless_repeated}
-use Rattle.sample_counts.specs.Places.{is_at, places_of}
+use Rattle.sample_counts.specs.Sample.{field_at, is_matched_by, named_pair, new_after, reviewed_row, reviewed_rows, same_reviewed_pair, sample_row, unless_repeated}
+use Rattle.sample_counts.specs.Places.{is_at, positions_of}
 
 -- the place of a pair is that of its positions
-or_len_places : (r : Reviewed) (done : List Reviewed) → position_or_len (is_at r.a r.b) (map places_of done) ≡ position_or_len (same_pair r) done
+or_len_places : (r : Reviewed) (done : List Reviewed) → position_or_len (is_at r.a r.b) (map positions_of done) ≡ position_or_len (same_reviewed_pair r) done
 or_len_places r [] = refl
-or_len_places r (s ∷ done) = ap (λ n. cond (not (same_pair r s)) (1 + n) 0) (or_len_places r done)
+or_len_places r (s ∷ done) = ap (λ n. cond (not (same_reviewed_pair r s)) (1 + n) 0) (or_len_places r done)
 
-length_places : (done : List Reviewed) → length (map places_of done) ≡ length done
+length_places : (done : List Reviewed) → length (map positions_of done) ≡ length done
 length_places [] = refl
 length_places (s ∷ done) = ap suc (length_places done)
 
-pub position_places : (r : Reviewed) (done : List Reviewed) → position (is_at r.a r.b) (map places_of done) ≡ position (same_pair r) done
+pub position_places : (r : Reviewed) (done : List Reviewed) → position (is_at r.a r.b) (map positions_of done) ≡ position (same_reviewed_pair r) done
 position_places r done = rw (or_len_places r done, length_places done) refl
 
-pub places_push : (done : List Reviewed) (r : Reviewed) → map places_of (done ++ r ∷ []) ≡ map places_of done ++ places_of r ∷ []
+pub places_push : (done : List Reviewed) (r : Reviewed) → map positions_of (done ++ r ∷ []) ≡ map positions_of done ++ positions_of r ∷ []
 places_push [] r = refl
-places_push (s ∷ done) r = ap (λ (ps : List (ℕ × ℕ)). places_of s ∷ ps) (places_push done r)
+places_push (s ∷ done) r = ap (λ (ps : List (ℕ × ℕ)). positions_of s ∷ ps) (places_push done r)
 
 module _ (a b : List Record) where
   pub taken : (done new : List Reviewed) (table : List TableRow) (at : ℕ) (r : Reviewed) → at < length table → sample_row a b done (get_or table at no_row).fields ≡ Ok r → new ≡ done ++ r ∷ [] → reviewed_rows a b done (drop at table) ≡ reviewed_rows a b new (drop (at + 1) table)
@@ -60,7 +60,7 @@ module _ (a b : List Record) where
       let after : ℕ → Result Reviewed Fault = λ x. and_then (known_in role.Sample number (codes "id_b") (field_at fields 1) b) (λ y. Ok (record { a = x; b = y; matched = matched })) in
       named_refused number fields status matched f es em (subst (λ (r : Result ℕ Fault). Refuses (and_then r after) f) (sym first) (refuses_then (known_in role.Sample number (codes "id_b") (field_at fields 1) b) (λ y. Ok (record { a = of_a; b = y; matched = matched })) f told))
 
-  pub kept_row : (done : List Reviewed) (fields : List (List ℕ)) (at : ℕ) (pair : Reviewed) (found : Option ℕ) (index : List (ℕ × ℕ)) → length done ≡ at → reviewed_row a b (at + 1) fields ≡ Ok pair → index ≡ map places_of done → found ≡ position (is_at pair.a pair.b) index → sample_row a b done fields ≡ unless_repeated (at + 1) pair found
+  pub kept_row : (done : List Reviewed) (fields : List (List ℕ)) (at : ℕ) (pair : Reviewed) (found : Option ℕ) (index : List (ℕ × ℕ)) → length done ≡ at → reviewed_row a b (at + 1) fields ≡ Ok pair → index ≡ map positions_of done → found ≡ position (is_at pair.a pair.b) index → sample_row a b done fields ≡ unless_repeated (at + 1) pair found
   kept_row done fields at pair found index ed er ei ef =
-      let here : position (same_pair pair) done ≡ found = sym (ef ∙ ap (position (is_at pair.a pair.b)) ei ∙ position_places pair done) in
+      let here : position (same_reviewed_pair pair) done ≡ found = sym (ef ∙ ap (position (is_at pair.a pair.b)) ei ∙ position_places pair done) in
       (λ i. and_then (reviewed_row a b (ed i + 1) fields) (new_after done (ed i + 1))) ∙ ap (λ (r : Result Reviewed Fault). and_then r (new_after done (at + 1))) er ∙ ap (unless_repeated (at + 1) pair) here

@@ -40,8 +40,8 @@ abbrev pub reviewed_row : List Record → List Record → ℕ → List (List ℕ
 reviewed_row a b number fields =
     and_then (or_fault (fault.BadStatus number) (is_matched_by (field_at fields 2))) (named_pair a b number fields)
 
-abbrev pub same_pair : Reviewed → Reviewed → Bool
-same_pair r s = r.a == s.a && r.b == s.b
+abbrev pub same_reviewed_pair : Reviewed → Reviewed → Bool
+same_reviewed_pair r s = r.a == s.a && r.b == s.b
 
 -- a pair that none of the earlier rows names
 abbrev pub unless_repeated : ℕ → Reviewed → Option ℕ → Result Reviewed Fault
@@ -49,7 +49,7 @@ unless_repeated number r None = Ok r
 unless_repeated number r (Some place) = Err (fault.RepeatedPair number (place + 1))
 
 abbrev pub new_after : List Reviewed → ℕ → Reviewed → Result Reviewed Fault
-new_after done number r = unless_repeated number r (position (same_pair r) done)
+new_after done number r = unless_repeated number r (position (same_reviewed_pair r) done)
 
 -- the pair of a row after these
 abbrev pub sample_row : List Record → List Record → List Reviewed → List (List ℕ) → Result Reviewed Fault

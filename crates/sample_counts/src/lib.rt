@@ -8,6 +8,3 @@ mod rows;
 
 pub use counts::Counts;
 pub use rows::{count_sample, count_sample_over};
-
-#[cfg(test)]
-mod tests;

@@ -6,7 +6,7 @@ ghost use Rattle.link_base.specs.Fault.{Gives, IsAnswer, IsInputFault};
 ghost use Rattle.file_reader.specs.Layout.{wanted_of};
 ghost use Rattle.file_reader.specs.Rows.{TableRow, no_row};
 ghost use Rattle.sample_counts.specs.Sample.{IsInFiles, is_matched_by, reviewed_row, reviewed_rows, sample_of, sample_row, sample_under, sample_wanted, with_both, IsSample};
-ghost use Rattle.sample_counts.specs.Places.{places_of};
+ghost use Rattle.sample_counts.specs.Places.{positions_of};
 
 use crate::index::PairIndex;
 use file_reader::{Layout, Table, known_record, read_table};
@@ -99,11 +99,11 @@ fn sample_at(
     requires width { length (slice_index_or table.now at no_row).fields ≡ 3 }
     requires few { length table.now ≤ MOST_ROWS }
     requires done { length done.now ≡ at }
-    requires index { index.old ≡ map places_of done.now }
+    requires index { index.old ≡ map positions_of done.now }
     ensures kind { IfErr result IsInputFault }
     ensures answer { IsAnswer (sample_row a.now b.now done.now (slice_index_or table.now at no_row).fields) result }
     ensures in_files { IfOk result (λ r. IsInFiles (length a.now) (length b.now) r) }
-    ensures index { IfOk result (λ r. index.new ≡ map places_of done.now ++ places_of r ∷ []) }
+    ensures index { IfOk result (λ r. index.new ≡ map positions_of done.now ++ positions_of r ∷ []) }
 {
     let pair = match reviewed_at(alloc, table, at, a, b) {
         Ok(pair) => pair,

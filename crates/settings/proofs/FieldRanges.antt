@@ -15,8 +15,8 @@ use Rattle.settings_readers.specs.Values.{choice, whole}
 use Rattle.settings_readers.specs.Lists.{on_table}
 use Rattle.settings_readers.proofs.Kept.{array_keeps, choice_keeps, defaulted_keeps, in_range_ok, IsWithin, needed_keeps, ok_same, on_table_keeps, optional_keeps, Reads, then_ok, whole_keeps}
 use Rattle.settings.specs.Plan.{FieldKeys, PlainShares}
-use Rattle.settings.specs.Words.{compare_named, field_keys, kind_named, one_of}
-use Rattle.settings.specs.Field.{sort_of, compare_by, may_be_rare, rare_of, new_name, shares, given_shares, no_shares, shares_of, field, fields}
+use Rattle.settings.specs.Words.{compare_named, field_keys, kind_named, is_one_of}
+use Rattle.settings.specs.Field.{sort_of, compare_by, may_be_rare, rare_number, new_name, shares, given_shares, no_shares, field_shares, field, fields}
 use Rattle.settings.specs.Ranges.{AreShares, HaveDistinctNames, IsField, IsFieldName, IsLabel, IsRareNumber}
 use Rattle.settings.specs.Values.{text}
 use Rattle.settings.specs.declared.limits.TheConstants.{LEAST_RARE, MOST_RARE}
@@ -38,7 +38,7 @@ as_rare : (c : CompareKind) (x : Option ℕ) → IfSome x (λ n. (IsWithin LEAST
 as_rare c None h = tt
 as_rare c (Some n) h = record { least = h.0.0; most = h.0.1; by_canon = h.1 }
 
-rare_is : (c : CompareKind) (t : Members) (above : List ℕ) (x : Option ℕ) → rare_of c t above ≡ Ok x → IfSome x (IsRareNumber c)
+rare_is : (c : CompareKind) (t : Members) (above : List ℕ) (x : Option ℕ) → rare_number c t above ≡ Ok x → IfSome x (IsRareNumber c)
 rare_is c t above x e = as_rare c x (rare_where (may_be_rare c) t above x e)
 
 -- shares, exactly where there is no sample
@@ -68,7 +68,7 @@ given_shares_are rare t above x e =
       },
     )
 
-shares_are : (sampled rare : Bool) (t : Members) (above : List ℕ) (x : Option PlainShares) → shares_of sampled rare t above ≡ Ok x → SharesAre sampled rare x
+shares_are : (sampled rare : Bool) (t : Members) (above : List ℕ) (x : Option PlainShares) → field_shares sampled rare t above ≡ Ok x → SharesAre sampled rare x
 shares_are true rare t above x e = no_shares_are rare t above x e
 shares_are false rare t above x e = given_shares_are rare t above x e
 
@@ -101,7 +101,7 @@ IsNext sampled before x = (IsField sampled x) × IsNew before x.name
 field_is : (sampled : Bool) (before : List FieldKeys) (t : Members) (above : List ℕ) (x : FieldKeys) → field sampled before t above ≡ Ok x → IsNext sampled before x
 unfolding field
 field_is sampled before t above x e =
-    let listed = then_ok (known (one_of field_keys) t above) _ x e in
+    let listed = then_ok (known (is_one_of field_keys) t above) _ x e in
     let name = then_ok (new_name before t above) _ x listed.2 in
     let column_a = then_ok (defaulted (text rule.Label) name.0 t above (codes "column_a")) _ x name.2 in
     let column_b = then_ok (defaulted (text rule.Label) name.0 t above (codes "column_b")) _ x column_a.2 in
@@ -109,8 +109,8 @@ field_is sampled before t above x e =
     let s = then_ok (sort_of k.0 t above) _ x k.2 in
     let w = then_ok (needed (choice (compare_named k.0)) t above (codes "compare")) _ x s.2 in
     let c = then_ok (compare_by w.0 t above) _ x w.2 in
-    let r = then_ok (rare_of c.0 t above) _ x c.2 in
-    let u = then_ok (shares_of sampled (is_some r.0) t above) _ x r.2 in
+    let r = then_ok (rare_number c.0 t above) _ x c.2 in
+    let u = then_ok (field_shares sampled (is_some r.0) t above) _ x r.2 in
     let same : record { name = name.0; column_a = column_a.0; column_b = column_b.0; sort = s.0; compare = c.0; rare = r.0; shares = u.0 } ≡ x = ok_same _ x u.2 in
     let named = new_name_is before t above name.0 name.1 in
     let label = name_as_label name.0 named.0 in

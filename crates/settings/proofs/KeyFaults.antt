@@ -17,8 +17,8 @@ use Rattle.settings.specs.Plan.{FieldKeys}
 use Rattle.settings.specs.Values.{fits, text}
 use Rattle.settings.specs.WordTables.{texts, word_pair, pairs, small_table, word_table, members_len}
 use Rattle.link_base.specs.Tables.{missing_marks, name_titles, name_suffixes}
-use Rattle.settings.specs.Words.{one_of, top_keys, kind_named, compare_named, key_named, delimiter_named}
-use Rattle.settings.specs.Field.{new_name, date_sort, plain_sort, sort_of, by_letters, by_days, by_years, plain_compare, compare_by, may_be_rare, rare_of, wholes, shares, given_shares, no_shares, shares_of, field, fields}
+use Rattle.settings.specs.Words.{is_one_of, top_keys, kind_named, compare_named, key_named, delimiter_named}
+use Rattle.settings.specs.Field.{new_name, date_sort, plain_sort, sort_of, by_letters, by_days, by_years, plain_compare, compare_by, may_be_rare, rare_number, wholes, shares, given_shares, no_shares, field_shares, field, fields}
 use Rattle.settings.specs.Pass.{field_named, first_key, plain_key, key_by, part, parts, pass, passes}
 use Rattle.settings.specs.Settings.{is_free, journal_of, sources, numbers, tables, plan_of}
 use Rattle.link_limits.specs.declared.TheConstants.{MOST_FIELDS, PER_MILLION}
@@ -101,8 +101,8 @@ rare_where : (may : Bool) (t : Members) (above : List ℕ) → NamesKey (cond ma
 rare_where true t above = optional_key (whole LEAST_RARE MOST_RARE) t above (codes "rare") (whole_key LEAST_RARE MOST_RARE)
 rare_where false t above = then_key _ _ (absent_key t above (codes "rare")) (λ no_rare. value_key _)
 
-rare_of_key : (c : CompareKind) (t : Members) (above : List ℕ) → NamesKey (rare_of c t above)
-rare_of_key c t above = rare_where (may_be_rare c) t above
+rare_number_key : (c : CompareKind) (t : Members) (above : List ℕ) → NamesKey (rare_number c t above)
+rare_number_key c t above = rare_where (may_be_rare c) t above
 
 shares_key : (rare : Bool) → ReadsKey (shares rare)
 shares_key rare at d = then_key _ _ (typed_key at (as_array d)) (λ ds. then_key _ _ (typed_key at (wholes ds)) (λ zs. ranged_key at _))
@@ -115,9 +115,9 @@ no_shares_key : (t : Members) (above : List ℕ) → NamesKey (no_shares t above
 unfolding no_shares
 no_shares_key t above = then_key _ _ (absent_key t above (codes "m")) (λ no_m. then_key _ _ (absent_key t above (codes "u")) (λ no_u. value_key _))
 
-shares_of_key : (sampled rare : Bool) (t : Members) (above : List ℕ) → NamesKey (shares_of sampled rare t above)
-shares_of_key true rare t above = no_shares_key t above
-shares_of_key false rare t above = given_shares_key rare t above
+field_shares_key : (sampled rare : Bool) (t : Members) (above : List ℕ) → NamesKey (field_shares sampled rare t above)
+field_shares_key true rare t above = no_shares_key t above
+field_shares_key false rare t above = given_shares_key rare t above
 
 field_key : (sampled : Bool) (before : List FieldKeys) (t : Members) (above : List ℕ) → NamesKey (field sampled before t above)
 unfolding field
@@ -130,8 +130,8 @@ field_key sampled before t above =
     then_key _ _ (sort_of_key kind t above) (λ sort.
     then_key _ _ (needed_key (choice (compare_named kind)) t above (codes "compare") (choice_key (compare_named kind))) (λ word.
     then_key _ _ (compare_by_key word t above) (λ compare.
-    then_key _ _ (rare_of_key compare t above) (λ rare.
-    then_key _ _ (shares_of_key sampled (is_some rare) t above) (λ shares. value_key _))))))))))
+    then_key _ _ (rare_number_key compare t above) (λ rare.
+    then_key _ _ (field_shares_key sampled (is_some rare) t above) (λ shares. value_key _))))))))))
 
 fields_key : (sampled : Bool) → ReadsKey (fields sampled)
 fields_key sampled at d = array_key 1 MOST_FIELDS (λ before. on_table (field sampled before)) (λ before. on_table_key (field sampled before) (field_key sampled before)) at d
@@ -209,7 +209,7 @@ tables_key t above =
 pub plan_key : (t : Members) (above : List ℕ) → NamesKey (plan_of t above)
 unfolding plan_of
 plan_key t above =
-    then_key _ _ (known_key (one_of top_keys) t above) (λ listed.
+    then_key _ _ (known_key (is_one_of top_keys) t above) (λ listed.
     then_key _ _ (sources_key t above) (λ s.
     then_key _ _ (numbers_key t above) (λ n.
     then_key _ _ (tables_key t above) (λ tables.

@@ -12,7 +12,7 @@ use Rattle.link_limits.specs.declared.TheConstants.{MOST_FIELDS, PER_MILLION}
 use Rattle.settings_readers.specs.Parts.{needed, optional, defaulted, known}
 use Rattle.settings_readers.specs.Values.{choice, whole, truth}
 use Rattle.settings_readers.proofs.Kept.{choice_keeps, defaulted_keeps, in_range_ok, IsWithin, named_keeps, needed_keeps, ok_same, optional_keeps, Reads, then_ok, whole_keeps}
-use Rattle.settings.specs.Words.{delimiters, delimiter_named, one_of, top_keys}
+use Rattle.settings.specs.Words.{delimiters, delimiter_named, is_one_of, top_keys}
 use Rattle.settings.specs.Field.{fields}
 use Rattle.settings.specs.Pass.{passes}
 use Rattle.settings.specs.Ranges.{AreFiles, files_read, is_delimiter, IsFileName, IsLabel, KeepsRanges}
@@ -44,15 +44,15 @@ IsNoneOf names name = All (λ (other : List ℕ). name ≢ other) names
 not_one : (name other : List ℕ) → bytes_eq name other ≡ false → name ≢ other
 not_one name other h same = false≢true (sym h ∙ (bytes_eq-Decides name other).1 same)
 
-none_of : (names : List (List ℕ)) (name : List ℕ) → one_of names name ≡ false → AllByRecursion (λ (other : List ℕ). name ≢ other) names
+none_of : (names : List (List ℕ)) (name : List ℕ) → is_one_of names name ≡ false → AllByRecursion (λ (other : List ℕ). name ≢ other) names
 none_of [] name h = tt
 none_of (other ∷ names) name h =
-    let (here, later) = or_parts (bytes_eq name other) (one_of names name) h in
+    let (here, later) = or_parts (bytes_eq name other) (is_one_of names name) h in
     (not_one name other here, none_of names name later)
 
 free_is : (taken : List (List ℕ)) (o : Option (List ℕ)) → is_free taken o ≡ true → IfSome o (IsNoneOf taken)
 free_is taken None h = tt
-free_is taken (Some name) h = All-from_recursion (λ (other : List ℕ). name ≢ other) taken (none_of taken name (not-true (one_of taken name) h))
+free_is taken (Some name) h = All-from_recursion (λ (other : List ℕ). name ≢ other) taken (none_of taken name (not-true (is_one_of taken name) h))
 
 abbrev IsJournal : List (List ℕ) → Option (List ℕ) → Type 0
 IsJournal taken o = (IfSome o IsFileName) × IfSome o (IsNoneOf taken)
@@ -130,7 +130,7 @@ numbers_are t above x e =
 pub plan_is : (t : Members) (above : List ℕ) (x : Plan) → plan_of t above ≡ Ok x → AreWordPairs x.tables.names → AreWordPairs x.tables.places → KeepsRanges x
 unfolding plan_of
 plan_is t above x e names places =
-    let listed = then_ok (known (one_of top_keys) t above) _ x e in
+    let listed = then_ok (known (is_one_of top_keys) t above) _ x e in
     let s = then_ok (sources t above) _ x listed.2 in
     let n = then_ok (numbers t above) _ x s.2 in
     let w = then_ok (tables t above) _ x n.2 in

@@ -17,7 +17,7 @@ use Rattle.settings_readers.specs.Values.{choice, whole, magnitude}
 use Rattle.settings_readers.specs.Lists.{array_of, on_table}
 use Rattle.settings.specs.Plan.{FieldKeys, PlainShares}
 use Rattle.settings.specs.Values.{text}
-use Rattle.settings.specs.Words.{one_of, field_keys, kind_named, form_named, compare_named}
+use Rattle.settings.specs.Words.{is_one_of, field_keys, kind_named, form_named, compare_named}
 use Rattle.settings.specs.declared.limits.TheConstants.{LEAST_RARE, MOST_DAYS, MOST_LETTERS, MOST_RARE, MOST_YEARS}
 use Rattle.settings.specs.declared.texts.TextRule.TheVariants as rule
 use Rattle.settings.specs.declared.words.Kind.{Kind}
@@ -89,8 +89,8 @@ may_be_rare (by.DaysWithin t) = false
 may_be_rare (by.YearsWithin t) = false
 may_be_rare _ = true
 
-abbrev pub rare_of : CompareKind → Members → List ℕ → Result (Option ℕ) Fault
-rare_of c t above = if may_be_rare c then optional (whole LEAST_RARE MOST_RARE) t above (codes "rare") else (absent t above (codes "rare") >>= λ no_rare. Ok None)
+abbrev pub rare_number : CompareKind → Members → List ℕ → Result (Option ℕ) Fault
+rare_number c t above = if may_be_rare c then optional (whole LEAST_RARE MOST_RARE) t above (codes "rare") else (absent t above (codes "rare") >>= λ no_rare. Ok None)
 
 -- the whole numbers of an array of nothing else
 abbrev pub wholes : Items → Option (List ℤ)
@@ -127,14 +127,14 @@ no_shares t above = do
   no_u ← absent t above (codes "u")
   Ok None
 
-abbrev pub shares_of : Bool → Bool → Members → List ℕ → Result (Option PlainShares) Fault
-shares_of sampled rare t above = if sampled then no_shares t above else given_shares rare t above
+abbrev pub field_shares : Bool → Bool → Members → List ℕ → Result (Option PlainShares) Fault
+field_shares sampled rare t above = if sampled then no_shares t above else given_shares rare t above
 
 -- a field, after those before it; sampled says that the settings name a sample, and a column has the
 -- name of the field where its key is not there
 unfoldable pub field : Bool → List FieldKeys → Members → List ℕ → Result FieldKeys Fault
 field sampled before t above = do
-  listed ← known (one_of field_keys) t above
+  listed ← known (is_one_of field_keys) t above
   name ← new_name before t above
   column_a ← defaulted (text rule.Label) name t above (codes "column_a")
   column_b ← defaulted (text rule.Label) name t above (codes "column_b")
@@ -142,8 +142,8 @@ field sampled before t above = do
   sort ← sort_of kind t above
   word ← needed (choice (compare_named kind)) t above (codes "compare")
   compare ← compare_by word t above
-  rare ← rare_of compare t above
-  shares ← shares_of sampled (is_some rare) t above
+  rare ← rare_number compare t above
+  shares ← field_shares sampled (is_some rare) t above
   Ok (record { name = name; column_a = column_a; column_b = column_b; sort = sort; compare = compare; rare = rare; shares = shares })
 
 -- an array of fields

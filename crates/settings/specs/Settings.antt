@@ -12,7 +12,7 @@ use Rattle.link_base.specs.Tables.{missing_marks, name_titles, name_suffixes}
 use Rattle.settings_readers.specs.Parts.{◌>>=◌, in_range, needed, optional, defaulted, known}
 use Rattle.settings_readers.specs.Values.{choice, whole, truth}
 use Rattle.settings.specs.Values.{text}
-use Rattle.settings.specs.Words.{one_of, top_keys, delimiter_named}
+use Rattle.settings.specs.Words.{is_one_of, top_keys, delimiter_named}
 use Rattle.settings.specs.WordTables.{texts, word_table}
 use Rattle.settings.specs.Field.{fields}
 use Rattle.settings.specs.Pass.{passes}
@@ -25,7 +25,7 @@ use Rattle.settings.specs.declared.top.NumberKeys.{NumberKeys}
 -- the journal is none of the files that are read
 abbrev pub is_free : List (List ℕ) → Option (List ℕ) → Bool
 is_free taken None = true
-is_free taken (Some name) = not (one_of taken name)
+is_free taken (Some name) = not (is_one_of taken name)
 
 unfoldable pub journal_of : List (List ℕ) → Members → List ℕ → Result (Option (List ℕ)) Fault
 journal_of taken t above = do
@@ -66,7 +66,7 @@ tables t above = do
 -- the parts of the top table in their order
 unfoldable pub plan_of : Members → List ℕ → Result Plan Fault
 plan_of t above = do
-  listed ← known (one_of top_keys) t above
+  listed ← known (is_one_of top_keys) t above
   s ← sources t above
   n ← numbers t above
   tables ← tables t above

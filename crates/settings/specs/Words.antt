@@ -15,8 +15,8 @@ use Rattle.settings.specs.declared.words.CompareWord.TheVariants as compare
 use Rattle.settings.specs.declared.words.KeyWord.{KeyWord}
 use Rattle.settings.specs.declared.words.KeyWord.TheVariants as key
 
-abbrev pub one_of : List (List ℕ) → List ℕ → Bool
-one_of words s = list_any (bytes_eq s) words
+abbrev pub is_one_of : List (List ℕ) → List ℕ → Bool
+is_one_of words s = list_any (bytes_eq s) words
 
 abbrev pub top_keys : List (List ℕ)
 top_keys = codes "file_a" ∷ codes "file_b" ∷ codes "id_a" ∷ codes "id_b" ∷ codes "delimiter_a" ∷ codes "delimiter_b" ∷ codes "sample" ∷ codes "journal"

@@ -5,9 +5,9 @@ ghost use Rattle.std.specs.Str.{bytes_eq};
 ghost use Rattle.toml.specs.View.{table_view};
 ghost use Rattle.link_base.specs.Fault.{Gives, IsAnswer};
 ghost use Rattle.settings.specs.Plan.{plain_shares};
-ghost use Rattle.settings.specs.Field.{new_name, given_shares, no_shares, shares_of, field, fields};
+ghost use Rattle.settings.specs.Field.{new_name, given_shares, no_shares, field_shares, field, fields};
 
-use crate::kinds::{compare_by, rare_of, sort_of};
+use crate::kinds::{compare_by, rare_number, sort_of};
 use crate::plan::{FieldList, FieldPlan};
 use crate::shares::Shares;
 use crate::texts::TextRule;
@@ -61,13 +61,13 @@ fn no_shares(alloc: Global, keys: &Keys) -> Result<Option<FieldShares>, Fault>
     Ok(None)
 }
 
-fn shares_of(
+fn field_shares(
     alloc: Global,
     sampled: bool,
     rare: bool,
     keys: &Keys,
 ) -> Result<Option<FieldShares>, Fault>
-    ensures { Gives (λ s. option_map plain_shares s) (shares_of sampled rare (table_view keys.now.table.now) keys.now.above.now) result }
+    ensures { Gives (λ s. option_map plain_shares s) (field_shares sampled rare (table_view keys.now.table.now) keys.now.above.now) result }
 {
     if sampled {
         no_shares(alloc, keys)
@@ -94,8 +94,8 @@ fn field(
     let sort = sort_of(alloc, kind, keys)?;
     let word = keys.needed(alloc, &Choice(kind), "compare")?;
     let compare = compare_by(alloc, word, keys)?;
-    let rare = rare_of(alloc, compare, keys)?;
-    let shares = shares_of(alloc, sampled, rare.is_some(), keys)?;
+    let rare = rare_number(alloc, compare, keys)?;
+    let shares = field_shares(alloc, sampled, rare.is_some(), keys)?;
     Ok(FieldPlan {
         name,
         column_a,

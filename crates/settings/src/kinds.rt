@@ -2,7 +2,7 @@
 ghost use Rattle.std.specs.Prelude.{◌≡◌};
 ghost use Rattle.toml.specs.View.{table_view};
 ghost use Rattle.link_base.specs.Fault.{IsAnswer};
-ghost use Rattle.settings.specs.Field.{date_sort, plain_sort, sort_of, by_letters, by_days, by_years, plain_compare, compare_by, may_be_rare, rare_of};
+ghost use Rattle.settings.specs.Field.{date_sort, plain_sort, sort_of, by_letters, by_days, by_years, plain_compare, compare_by, may_be_rare, rare_number};
 
 use crate::limits::{LEAST_RARE, MOST_DAYS, MOST_RARE, MOST_YEARS};
 use crate::texts::Letters;
@@ -113,12 +113,12 @@ fn may_be_rare(compare: CompareKind) -> bool
 }
 
 /// The rare number of a field that is compared so.
-pub(crate) fn rare_of(
+pub(crate) fn rare_number(
     alloc: Global,
     compare: CompareKind,
     keys: &Keys,
 ) -> Result<Option<u32>, Fault>
-    ensures { IsAnswer (rare_of compare (table_view keys.now.table.now) keys.now.above.now) result }
+    ensures { IsAnswer (rare_number compare (table_view keys.now.table.now) keys.now.above.now) result }
 {
     if may_be_rare(compare) {
         let most = Whole {

@@ -16,6 +16,3 @@ pub use plan::{FieldList, FieldPlan, Plan};
 pub use settings_readers::least_unknown_key;
 pub use texts::is_output;
 pub use top::read_settings;
-
-#[cfg(test)]
-mod tests;

@@ -4,7 +4,7 @@ ghost use Rattle.toml.specs.View.{table_view};
 ghost use Rattle.link_base.specs.declared.fault.Fault.TheVariants as fault;
 ghost use Rattle.link_base.specs.Fault.{IsAnswer};
 ghost use Rattle.link_base.specs.Tables.{AreWordPairs};
-ghost use Rattle.settings.specs.Words.{one_of};
+ghost use Rattle.settings.specs.Words.{is_one_of};
 ghost use Rattle.settings.specs.Settings.{is_free, journal_of, sources, numbers, tables, plan_of, document, settings};
 ghost use Rattle.settings.specs.Ranges.{IsSettingsFault, KeepsRanges, NamesFiles};
 
@@ -69,7 +69,7 @@ pub(crate) struct NumberKeys {
 }
 
 fn differs(name: &FileName, sample: &Option<FileName>) -> bool
-    ensures { result ≡ not (one_of (option_to_list sample.now) name.now) }
+    ensures { result ≡ not (is_one_of (option_to_list sample.now) name.now) }
 {
     match sample {
         None => true,

@@ -4,6 +4,3 @@
 mod remainders;
 
 pub use remainders::{shares, shares4};
-
-#[cfg(test)]
-mod tests;

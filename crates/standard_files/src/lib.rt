@@ -9,6 +9,3 @@ mod values;
 
 pub use files::{StandardFile, StandardPair, read_files};
 pub use sorts::TextSort;
-
-#[cfg(test)]
-mod tests;

@@ -14,6 +14,3 @@ mod words;
 pub use date_read::{DateRead, std_date};
 pub use names::{std_name, std_place};
 pub use tables::{NameTables, PlaceTables};
-
-#[cfg(test)]
-mod tests;

@@ -11,6 +11,3 @@ pub use days::{Civil, civil_of, day_of, day_read_again, day_text, read_iso};
 pub use first::first_chars;
 pub use initials::{initials_text, same_initials};
 pub use written::read_date;
-
-#[cfg(test)]
-mod tests;

@@ -12,7 +12,7 @@ use Rattle.std.proofs.lemmas.Slice.Eq.{bytes_eq-Decides}
 use Rattle.std.proofs.lemmas.Grind.{common_steps}
 use Rattle.value_pool.specs.declared.chains.Slot.{Slot}
 use Rattle.value_pool.specs.Texts.{stands_among}
-use Rattle.value_pool.specs.Region.{IsWithin, most_texts, texts_at}
+use Rattle.value_pool.specs.Region.{IsSlotWithin, most_texts, texts_at}
 
 pub found_at : (bytes : List ℕ) (slots : List Slot) (i : ℕ) (s : Slot) (text : List ℕ) → i < length slots → s ≡ get_or slots i s → slice_range bytes s.start s.end ≡ text → slice_get (texts_at bytes slots) i ≡ Some text
 found_at bytes [] i s text h e r = absurd (omega arith)
@@ -24,7 +24,7 @@ read-append bytes more a b h k =
     let rest : b - a ≤ length (drop a bytes) = simp length-drop (omega arith) in
     ap (take (b - a)) (drop-append-le a bytes more (omega arith)) ∙ take-append-le (b - a) (drop a bytes) more rest
 
-pub texts-append : (bytes more : List ℕ) (slots : List Slot) → All (IsWithin (length bytes)) slots → texts_at (bytes ++ more) slots ≡ texts_at bytes slots
+pub texts-append : (bytes more : List ℕ) (slots : List Slot) → All (IsSlotWithin (length bytes)) slots → texts_at (bytes ++ more) slots ≡ texts_at bytes slots
 texts-append bytes more [] h = refl
 texts-append bytes more (s ∷ ss) h =
     let here = h 0 s (omega arith) in
@@ -38,7 +38,7 @@ map-push bytes (x ∷ xs) s = ap (λ ts. slice_range bytes x.start x.end ∷ ts)
 read-last : (bytes text : List ℕ) (a b : ℕ) → a ≡ length bytes → b ≡ a + length text → slice_range (bytes ++ text) a b ≡ text
 read-last bytes text a b e f = grind (arith, common_steps)
 
-pub texts-push : (bytes text : List ℕ) (slots : List Slot) (s : Slot) → All (IsWithin (length bytes)) slots → s.start ≡ length bytes → s.end ≡ length bytes + length text → texts_at (bytes ++ text) (slots ++ s ∷ []) ≡ texts_at bytes slots ++ text ∷ []
+pub texts-push : (bytes text : List ℕ) (slots : List Slot) (s : Slot) → All (IsSlotWithin (length bytes)) slots → s.start ≡ length bytes → s.end ≡ length bytes + length text → texts_at (bytes ++ text) (slots ++ s ∷ []) ≡ texts_at bytes slots ++ text ∷ []
 texts-push bytes text slots s h e f =
     map-push (bytes ++ text) slots s ∙ (λ i. texts-append bytes text slots h i ++ read-last bytes text s.start s.end e (f ∙ ap (λ n. n + length text) (sym e)) i ∷ [])
 
@@ -73,20 +73,20 @@ most-push n bytes texts (x ∷ xs) h fresh = rw (list_any-append (λ text. bytes
     by_other true k = omega arith
     by_other false k = omega arith
 
-pub within-push : (bytes more : ℕ) (slots : List Slot) (s : Slot) → All (IsWithin bytes) slots → s.start ≡ bytes → s.end ≡ bytes + more → All (IsWithin (bytes + more)) (slots ++ s ∷ [])
+pub within-push : (bytes more : ℕ) (slots : List Slot) (s : Slot) → All (IsSlotWithin bytes) slots → s.start ≡ bytes → s.end ≡ bytes + more → All (IsSlotWithin (bytes + more)) (slots ++ s ∷ [])
 within-push bytes more slots s h e f =
-    let before : All (IsWithin (bytes + more)) slots = λ k d within. let old = h k d within in record { ordered = old.ordered; within = omega arith } in
-    All-push (IsWithin (bytes + more)) slots s before (record { ordered = omega arith; within = omega arith })
+    let before : All (IsSlotWithin (bytes + more)) slots = λ k d within. let old = h k d within in record { ordered = old.ordered; within = omega arith } in
+    All-push (IsSlotWithin (bytes + more)) slots s before (record { ordered = omega arith; within = omega arith })
 
 -- what holds of a region after one text more
 pub record IsAppended (bytes text : List ℕ) (slots : List Slot) (bytes' : List ℕ) (slots' : List Slot) : Type 0 where
   pub texts : texts_at bytes' slots' ≡ texts_at bytes slots ++ text ∷ []
-  pub within : All (IsWithin (length bytes')) slots'
+  pub within : All (IsSlotWithin (length bytes')) slots'
   pub distinct : AllPairs (λ a b. a ≢ b) (texts_at bytes' slots')
   pub most : length slots' ≤ most_texts (length bytes') (texts_at bytes' slots')
   pub texts_sum : sum_by length (texts_at bytes slots) ≡ length bytes → sum_by length (texts_at bytes' slots') ≡ length bytes'
 
-pub appended : (bytes text : List ℕ) (slots : List Slot) (s : Slot) (bytes' : List ℕ) (slots' : List Slot) → All (IsWithin (length bytes)) slots → AllPairs (λ a b. a ≢ b) (texts_at bytes slots) → length slots ≤ most_texts (length bytes) (texts_at bytes slots) → list_any (λ held. bytes_eq held text) (texts_at bytes slots) ≡ false → s.start ≡ length bytes → s.end ≡ length bytes + length text → bytes' ≡ bytes ++ text → slots' ≡ slots ++ s ∷ [] → IsAppended bytes text slots bytes' slots'
+pub appended : (bytes text : List ℕ) (slots : List Slot) (s : Slot) (bytes' : List ℕ) (slots' : List Slot) → All (IsSlotWithin (length bytes)) slots → AllPairs (λ a b. a ≢ b) (texts_at bytes slots) → length slots ≤ most_texts (length bytes) (texts_at bytes slots) → list_any (λ held. bytes_eq held text) (texts_at bytes slots) ≡ false → s.start ≡ length bytes → s.end ≡ length bytes + length text → bytes' ≡ bytes ++ text → slots' ≡ slots ++ s ∷ [] → IsAppended bytes text slots bytes' slots'
 appended bytes text slots s bytes' slots' h distinct most fresh e f is_bytes is_slots =
     let is_texts : texts_at bytes' slots' ≡ texts_at bytes slots ++ text ∷ [] = rw (is_bytes, is_slots) (texts-push bytes text slots s h e f) in
     let long : length bytes' ≡ length bytes + length text = ap length is_bytes ∙ length-append bytes text in

@@ -11,7 +11,8 @@ texts_at bytes slots = map (λ (s : Slot). slice_range bytes s.start s.end) slot
 abbrev pub nexts_of : List Slot → List ℕ
 nexts_of slots = map (λ (s : Slot). s.next) slots
 
-pub record IsWithin (bytes : ℕ) (slot : Slot) : Type 0 where
+-- the text of a slot is a part of so many bytes
+pub record IsSlotWithin (bytes : ℕ) (slot : Slot) : Type 0 where
   pub ordered : slot.start ≤ slot.end
   pub within : slot.end ≤ bytes
 

@@ -1,7 +1,7 @@
 // Chains of the texts of one bucket (Knuth, vol. 3, 6.4: hashing with separate chaining).
 ghost use Rattle.std.specs.Prelude.{◌≡◌, ◌≤◌, ◌<◌, ◌^◌, All, ℕ, IfOk, length, slice_index_or};
 ghost use Rattle.value_pool.specs.Chains.{IsChained, bucket_of, hash_step};
-ghost use Rattle.value_pool.specs.Region.{IsWithin, nexts_of, texts_at};
+ghost use Rattle.value_pool.specs.Region.{IsSlotWithin, nexts_of, texts_at};
 
 use link_base::NoMemory;
 use std::alloc::Global;
@@ -51,12 +51,12 @@ pub(crate) fn empty_heads(alloc: Global, buckets: usize) -> Result<Vec<u32>, NoM
 
 /// Threads each text into the chain of its bucket, whatever the chains were before.
 pub(crate) fn thread(bytes: &[u8], slots: &mut [Slot], heads: &mut [u32])
-    requires within { All (IsWithin (length bytes.now)) slots.old }
+    requires within { All (IsSlotWithin (length bytes.now)) slots.old }
     requires few { length slots.old < 2 ^ 32 }
     requires some { 1 ≤ length heads.old }
     requires empty { (b : ℕ) → b < length heads.old → slice_index_or heads.old b 0 ≡ 0 }
     ensures texts { texts_at bytes.now slots.new ≡ texts_at bytes.now slots.old }
-    ensures within { All (IsWithin (length bytes.now)) slots.new }
+    ensures within { All (IsSlotWithin (length bytes.now)) slots.new }
     ensures chained { IsChained heads.new (texts_at bytes.now slots.new) (nexts_of slots.new) }
 {
     for place in 0..slots.len() {

@@ -9,6 +9,3 @@ mod pool;
 pub use id::Id;
 pub use laws::reserved_room;
 pub use pool::{Pool, PoolFault};
-
-#[cfg(test)]
-mod tests;

@@ -35,7 +35,7 @@ pub struct Pool {
 impl Model for Pool {
     ghost use Rattle.std.specs.Prelude.{◌≡◌, ◌≤◌, ◌-◌, All, AllPairs, ◌≢◌, length, sum_by, vec_capacity, vec_len};
     ghost use Rattle.link_limits.specs.declared.TheConstants.{MOST_POOL_LIMIT};
-    ghost use Rattle.value_pool.specs.Region.{IsWithin, most_texts, nexts_of, texts_at};
+    ghost use Rattle.value_pool.specs.Region.{IsSlotWithin, most_texts, nexts_of, texts_at};
     ghost use Rattle.value_pool.specs.Texts.{PoolState};
     ghost use Rattle.value_pool.specs.Chains.{IsChained};
 
@@ -49,7 +49,7 @@ impl Model for Pool {
       spare_bytes = vec_capacity p.bytes - vec_len p.bytes;
     } };
 
-    ghost invariant = { λ p. All (IsWithin (length p.bytes.items)) p.slots.items
+    ghost invariant = { λ p. All (IsSlotWithin (length p.bytes.items)) p.slots.items
         × AllPairs (λ a b. a ≢ b) (texts_at p.bytes.items p.slots.items)
         × (length p.slots.items ≤ most_texts (length p.bytes.items) (texts_at p.bytes.items p.slots.items))
         × IsChained p.heads.items (texts_at p.bytes.items p.slots.items) (nexts_of p.slots.items)

@@ -4,10 +4,10 @@ use Rattle.std.proofs.lemmas.Bool.Decides.{nat_tests}
 use Rattle.phonetic_keys.specs.Letters.{in_alphabet, letters_of}
 use Rattle.phonetic_keys.specs.Nysiis.{body, ended, front, nysiis_key, spelled_on, tail_of}
 use Rattle.phonetic_keys.specs.Keys.{IsKey}
-use Rattle.phonetic_keys.specs.Window.{Keeps}
+use Rattle.phonetic_keys.specs.Window.{KeepsKey}
 use Rattle.phonetic_keys.specs.declared.walk.Walk.{Walk}
 use Rattle.phonetic_keys.proofs.KeyLemmas.{text_key}
-use Rattle.phonetic_keys.specs.Walks.{IsFilled, Steps, text_of}
+use Rattle.phonetic_keys.specs.Walks.{HasNoGaps, StepsOverPlace, text_of}
 use Rattle.phonetic_keys.proofs.WalkLemmas.{full, filled_more, step_over}
 use Rattle.phonetic_keys.proofs.walk.nysiis.Goals as goal
 use Rattle.phonetic_keys.proofs.walk.nysiis.Goals.{then-is_letter, else-is_letter}
@@ -40,7 +40,7 @@ step-requires c =
     let xs = c.in_ok-walk.rest.now in
     let i = c.loop-byte.byte-index in
     let here = letter_here xs i c.loop-byte-test.true (sym c.is_letter.ensures ∙ c.if-is_letter.true) in
-    (full c.loop-byte.walk (get_or xs i 0) (letters_of (drop (i + 1) xs)) (subst (λ ls. IsFilled c.loop-byte.walk ls) here c.loop-byte.invariant.filled)).p
+    (full c.loop-byte.walk (get_or xs i 0) (letters_of (drop (i + 1) xs)) (subst (λ ls. HasNoGaps c.loop-byte.walk ls) here c.loop-byte.invariant.filled)).p
 
 pub loop-byte-preserved : goal.loop-byte-preserved
 loop-byte-preserved c =
@@ -52,10 +52,10 @@ loop-byte-preserved c =
       | then-is_letter w ↦
           let letter = sym c.is_letter.ensures ∙ w.if-is_letter.true in
           let here = letter_here xs i c.loop-byte-test.true letter in
-          let filled = subst (λ ls. IsFilled c.loop-byte.walk ls) here c.loop-byte.invariant.filled in
+          let filled = subst (λ ls. HasNoGaps c.loop-byte.walk ls) here c.loop-byte.invariant.filled in
           let is = full c.loop-byte.walk (get_or xs i 0) more filled in
           let some = positive (get_or xs i 0) letter in
-          let stepped : Steps c.loop-byte.walk c.if-is_letter.walk (get_or xs i 0) = subst (λ v. Steps c.loop-byte.walk v (get_or xs i 0)) (sym w.walk-is) w.step.ensures in
+          let stepped : StepsOverPlace c.loop-byte.walk c.if-is_letter.walk (get_or xs i 0) = subst (λ v. StepsOverPlace c.loop-byte.walk v (get_or xs i 0)) (sym w.walk-is) w.step.ensures in
           record {
             filled = filled_more c.loop-byte.walk c.if-is_letter.walk (get_or xs i 0) more some is stepped;
             key = (
@@ -69,16 +69,16 @@ loop-byte-preserved c =
       | else-is_letter w ↦
           let none = none_here xs i c.loop-byte-test.true (sym c.is_letter.ensures ∙ w.if-is_letter.false) in
           let kept = c.loop-byte.invariant in
-          subst (λ v. record { filled : IsFilled v more; key : (all : List ℕ) × Keeps all v.key × (body v.before (ended (text_of v more)) all ≡ body 0 (ended (front (letters_of c.args.text.now))) []) }) (sym w.walk-is) (record {
-            filled = subst (λ ls. IsFilled c.loop-byte.walk ls) none kept.filled;
+          subst (λ v. record { filled : HasNoGaps v more; key : (all : List ℕ) × KeepsKey all v.key × (body v.before (ended (text_of v more)) all ≡ body 0 (ended (front (letters_of c.args.text.now))) []) }) (sym w.walk-is) (record {
+            filled = subst (λ ls. HasNoGaps c.loop-byte.walk ls) none kept.filled;
             key = (before.0, before.1, ap (λ ls. body c.loop-byte.walk.before (ended (text_of c.loop-byte.walk ls)) before.0) (sym none) ∙ before.2);
           })
     ]
 
 -- where no letter is left, what the walk gives is the key
 finished : (xs : List ℕ) (i : ℕ) (w : Walk) (letters result : List ℕ) → length xs ≤ i
-    → (all : List ℕ) × Keeps all w.key × (body w.before (ended (text_of w (letters_of (drop i xs)))) all ≡ body 0 (ended (front letters)) [])
-    → ((all : List ℕ) → Keeps all w.key → result ≡ tail_of (body w.before (ended (text_of w [])) all))
+    → (all : List ℕ) × KeepsKey all w.key × (body w.before (ended (text_of w (letters_of (drop i xs)))) all ≡ body 0 (ended (front letters)) [])
+    → ((all : List ℕ) → KeepsKey all w.key → result ≡ tail_of (body w.before (ended (text_of w [])) all))
     → result ≡ tail_of (body 0 (ended (front letters)) [])
 finished xs i w letters result end before gives =
     let over : letters_of (drop i xs) ≡ [] = at_drop_all letters_of xs i end in

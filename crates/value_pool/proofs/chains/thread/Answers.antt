@@ -5,7 +5,7 @@ use Rattle.std.proofs.lemmas.List.{length-map, map-set}
 use Rattle.std.proofs.lemmas.List.Elements.{All-set}
 use Rattle.value_pool.specs.declared.chains.Slot.{Slot}
 use Rattle.value_pool.specs.Chains.{bucket_of}
-use Rattle.value_pool.specs.Region.{IsWithin, nexts_of, texts_at}
+use Rattle.value_pool.specs.Region.{IsSlotWithin, nexts_of, texts_at}
 use Rattle.value_pool.proofs.ChainLemmas.{text_at, threaded_step}
 use Rattle.value_pool.proofs.chains.thread.Goals as goal
 
@@ -24,6 +24,6 @@ loop-place-preserved c =
     let own = c.loop-place.invariant.within place none (omega arith) in
     record {
       texts = map-set_same (λ (s : Slot). slice_range bytes s.start s.end) slots place new none refl ∙ c.loop-place.invariant.texts;
-      within = All-set (IsWithin (length bytes)) slots place new (record { ordered = own.ordered; within = own.within }) c.loop-place.invariant.within;
+      within = All-set (IsSlotWithin (length bytes)) slots place new (record { ordered = own.ordered; within = own.within }) c.loop-place.invariant.within;
       threaded = rw (map-set (λ (s : Slot). s.next) slots place new, length-set heads c.bucket-bucket.result (place + 1)) (threaded_step (length heads) heads (texts_at bytes c.args.slots.now) (nexts_of slots) place c.bucket-bucket.result next (place + 1) (place + 1) c.loop-place.invariant.threaded (omega (arith, long)) (search rules) (c.bucket-bucket.ensures.value ∙ ap (bucket_of (length heads)) here) (search rules) (omega arith) (omega arith));
     }
