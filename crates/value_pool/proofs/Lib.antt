@@ -1,3 +1,6 @@
 pub mod ChainLemmas
+pub mod HashLemmas
 pub mod PlaceLemmas
 pub mod RegionLemmas
+pub mod SearchLemmas
+pub mod TableLemmas

@@ -98,3 +98,8 @@ appended bytes text slots s bytes' slots' h distinct most fresh e f is_bytes is_
       most = rw (many, long, is_texts) (most-push (length slots) (length bytes) (texts_at bytes slots) text most fresh);
       texts_sum = λ before. ap (sum_by length) is_texts ∙ sum_by_push length (texts_at bytes slots) text ∙ ap (λ n. n + length text) before ∙ sym long;
     }
+
+pub text_at : (bytes : List ℕ) (slots : List Slot) (p : ℕ) (d : Slot) → p < length slots → slice_range bytes (get_or slots p d).start (get_or slots p d).end ≡ get_or (texts_at bytes slots) p []
+text_at bytes [] p d h = absurd (omega arith)
+text_at bytes (x ∷ xs) zero d h = refl
+text_at bytes (x ∷ xs) (suc p) d h = text_at bytes xs p d (omega arith)

@@ -11,6 +11,10 @@ texts_at bytes slots = map (λ (s : Slot). slice_range bytes s.start s.end) slot
 abbrev pub nexts_of : List Slot → List ℕ
 nexts_of slots = map (λ (s : Slot). s.next) slots
 
+-- the hashes that the slots have
+abbrev pub hashes_of : List Slot → List ℕ
+hashes_of slots = map (λ (s : Slot). s.hash) slots
+
 -- the text of a slot is a part of so many bytes
 pub record IsSlotWithin (bytes : ℕ) (slot : Slot) : Type 0 where
   pub ordered : slot.start ≤ slot.end

@@ -1,44 +1,31 @@
 // Chains of the texts of one bucket (Knuth, vol. 3, 6.4: hashing with separate chaining).
-ghost use Rattle.std.specs.Prelude.{◌≡◌, ◌≤◌, ◌<◌, ◌^◌, All, ℕ, IfOk, length, slice_index_or};
-ghost use Rattle.value_pool.specs.Chains.{IsChained, bucket_of, hash_step};
-ghost use Rattle.value_pool.specs.Region.{IsSlotWithin, nexts_of, texts_at};
+ghost use Rattle.std.specs.Prelude.{◌≡◌, ◌≤◌, ◌<◌, ◌^◌, All, List, ℕ, IfOk, length, slice_index_or};
+ghost use Rattle.value_pool.specs.Chains.{IsChained, bucket_of};
+ghost use Rattle.value_pool.specs.Region.{IsSlotWithin, hashes_of, nexts_of, texts_at};
+ghost use Rattle.value_pool.specs.Table.{IsHashed};
 
+use crate::hashes::HashKey;
 use link_base::NoMemory;
 use std::alloc::Global;
 
-/// Where a text stands among the bytes, and what its chain goes on with.
+/// Where a text stands among the bytes, its hash, and what its chain goes on with.
 #[derive(Clone, Copy, Debug, PartialEq, Eq)]
 pub(crate) struct Slot {
     pub(crate) start: u32,
     pub(crate) end: u32,
     /// One more than the place before it in its chain, or 0.
     pub(crate) next: u32,
+    pub(crate) hash: u32,
 }
 
-/// The largest prime number below 2^32: each bit of a remainder by it depends on every byte of a text.
-const PRIME: u64 = 4_294_967_291;
-
-/// A prime number near 2^32 over the golden ratio.
-const FACTOR: u64 = 2_654_435_761;
-
-#[tactic(auto, unfolding(crate::specs::Chains::hash_step))]
-fn next_hash(hash: u32, byte: u8) -> u32
-    ensures { result ≡ hash_step hash byte }
-{
-    ((u64::from(hash) * FACTOR + u64::from(byte) + 1) % PRIME) as u32
-}
-
-/// The bucket of a text.
-pub(crate) fn bucket(text: &[u8], buckets: usize) -> usize
+/// The bucket of a hash: its low bits, since the buckets are a power of 2.
+#[tactic(auto, using(std::proofs::lemmas::Nat::and_le_r))]
+pub(crate) fn bucket(hash: u32, buckets: usize) -> usize
     requires { 1 ≤ buckets }
-    ensures value { result ≡ bucket_of buckets text.now }
+    ensures value { result ≡ bucket_of buckets hash }
     ensures within { result < buckets }
 {
-    let mut hash = 7;
-    for byte in text {
-        hash = next_hash(hash, *byte);
-    }
-    hash as usize % buckets
+    hash as usize & (buckets - 1)
 }
 
 /// The heads of so many empty chains.
@@ -49,21 +36,80 @@ pub(crate) fn empty_heads(alloc: Global, buckets: usize) -> Result<Vec<u32>, NoM
     Ok(vec![in alloc; 0; buckets]?)
 }
 
+// Empties each chain.
+fn clear(heads: &mut [u32])
+    ensures len { length heads.new ≡ length heads.old }
+    ensures empty { (b : ℕ) → b < length heads.new → slice_index_or heads.new b 0 ≡ 0 }
+{
+    for bucket in 0..heads.len() {
+        heads[bucket] = 0;
+    }
+}
+
+// Gives each text its hash by another key.
+fn rehash(key: HashKey, bytes: &[u8], slots: &mut [Slot])
+    requires { All (IsSlotWithin (length bytes.now)) slots.old }
+    ensures texts { texts_at bytes.now slots.new ≡ texts_at bytes.now slots.old }
+    ensures within { All (IsSlotWithin (length bytes.now)) slots.new }
+    ensures hashed { IsHashed key (texts_at bytes.now slots.new) (hashes_of slots.new) }
+{
+    for place in 0..slots.len() {
+        let Slot {
+            start,
+            end,
+            next,
+            ..
+        } = slots[place];
+        let hash = key.hash(&bytes[start as usize..end as usize]);
+        slots[place] = Slot {
+            start,
+            end,
+            next,
+            hash,
+        };
+    }
+}
+
 /// Threads each text into the chain of its bucket, whatever the chains were before.
-pub(crate) fn thread(bytes: &[u8], slots: &mut [Slot], heads: &mut [u32])
-    requires within { All (IsSlotWithin (length bytes.now)) slots.old }
+pub(crate) fn thread(slots: &mut [Slot], heads: &mut [u32])
     requires few { length slots.old < 2 ^ 32 }
     requires some { 1 ≤ length heads.old }
     requires empty { (b : ℕ) → b < length heads.old → slice_index_or heads.old b 0 ≡ 0 }
-    ensures texts { texts_at bytes.now slots.new ≡ texts_at bytes.now slots.old }
-    ensures within { All (IsSlotWithin (length bytes.now)) slots.new }
-    ensures chained { IsChained heads.new (texts_at bytes.now slots.new) (nexts_of slots.new) }
+    ensures texts { (bytes : List ℕ) → texts_at bytes slots.new ≡ texts_at bytes slots.old }
+    ensures within { (n : ℕ) → All (IsSlotWithin n) slots.old → All (IsSlotWithin n) slots.new }
+    ensures hashes { hashes_of slots.new ≡ hashes_of slots.old }
+    ensures chained { IsChained heads.new (hashes_of slots.new) (nexts_of slots.new) }
 {
     for place in 0..slots.len() {
-        let Slot { start, end, .. } = slots[place];
-        let bucket = bucket(&bytes[start as usize..end as usize], heads.len());
+        let Slot {
+            start,
+            end,
+            hash,
+            ..
+        } = slots[place];
+        let bucket = bucket(hash, heads.len());
         let next = heads[bucket];
-        slots[place] = Slot { start, end, next };
+        slots[place] = Slot {
+            start,
+            end,
+            next,
+            hash,
+        };
         heads[bucket] = place as u32 + 1;
     }
+}
+
+/// Gives each text its hash by another key, and threads it into the chain of its bucket.
+pub(crate) fn make_anew(key: HashKey, bytes: &[u8], slots: &mut [Slot], heads: &mut [u32])
+    requires within { All (IsSlotWithin (length bytes.now)) slots.old }
+    requires few { length slots.old < 2 ^ 32 }
+    requires some { 1 ≤ length heads.old }
+    ensures texts { texts_at bytes.now slots.new ≡ texts_at bytes.now slots.old }
+    ensures within { All (IsSlotWithin (length bytes.now)) slots.new }
+    ensures hashed { IsHashed key (texts_at bytes.now slots.new) (hashes_of slots.new) }
+    ensures chained { IsChained heads.new (hashes_of slots.new) (nexts_of slots.new) }
+{
+    rehash(key, bytes, slots);
+    clear(heads);
+    thread(slots, heads);
 }

@@ -2,9 +2,11 @@
 #![tactic(auto)]
 
 mod chains;
+mod hashes;
 mod id;
 mod laws;
 mod pool;
+mod table;
 
 pub use id::Id;
 pub use laws::reserved_room;

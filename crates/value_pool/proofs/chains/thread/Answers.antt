@@ -1,29 +1,28 @@
-use Rattle.std.proofs.Common.{◌≡◌, ◌+◌, ℕ, List, [], length, get_or, refl, arith, rules, ap, ◌∙◌, length-set}
+use Rattle.std.proofs.Common.{◌≡◌, ◌+◌, ℕ, List, length, get_or, refl, arith, rules, ap, ◌∙◌, length-set}
 use Rattle.std.specs.Prelude.{slice_range}
 use Rattle.std.proofs.Math.Seq.{map-set_same}
 use Rattle.std.proofs.lemmas.List.{length-map, map-set}
 use Rattle.std.proofs.lemmas.List.Elements.{All-set}
 use Rattle.value_pool.specs.declared.chains.Slot.{Slot}
 use Rattle.value_pool.specs.Chains.{bucket_of}
-use Rattle.value_pool.specs.Region.{IsSlotWithin, nexts_of, texts_at}
-use Rattle.value_pool.proofs.ChainLemmas.{text_at, threaded_step}
+use Rattle.value_pool.specs.Region.{IsSlotWithin, hashes_of, nexts_of}
+use Rattle.value_pool.proofs.ChainLemmas.{hash_at, threaded_step}
 use Rattle.value_pool.proofs.chains.thread.Goals as goal
 
 pub loop-place-preserved : goal.loop-place-preserved
 loop-place-preserved c =
-    let bytes = c.args.bytes.now in
     let slots = c.loop-place.slots in
     let heads = c.loop-place.heads in
     let place = c.loop-place.place in
-    let none : Slot = record { start = 0; end = 0; next = 0 } in
+    let none : Slot = record { start = 0; end = 0; next = 0; hash = 0 } in
     let old = get_or slots place none in
     let next = get_or heads c.bucket-bucket.result 0 in
-    let new : Slot = record { start = old.start; end = old.end; next = next } in
+    let new : Slot = record { start = old.start; end = old.end; next = next; hash = old.hash } in
     let long : length (nexts_of slots) ≡ length slots = length-map slots (λ (s : Slot). s.next) in
-    let here = text_at bytes slots place none (omega arith) ∙ ap (λ (ts : List (List ℕ)). get_or ts place []) c.loop-place.invariant.texts in
-    let own = c.loop-place.invariant.within place none (omega arith) in
+    let here = hash_at slots place none (omega arith) ∙ ap (λ (hs : List ℕ). get_or hs place 0) c.loop-place.invariant.hashes in
     record {
-      texts = map-set_same (λ (s : Slot). slice_range bytes s.start s.end) slots place new none refl ∙ c.loop-place.invariant.texts;
-      within = All-set (IsSlotWithin (length bytes)) slots place new (record { ordered = own.ordered; within = own.within }) c.loop-place.invariant.within;
-      threaded = rw (map-set (λ (s : Slot). s.next) slots place new, length-set heads c.bucket-bucket.result (place + 1)) (threaded_step (length heads) heads (texts_at bytes c.args.slots.now) (nexts_of slots) place c.bucket-bucket.result next (place + 1) (place + 1) c.loop-place.invariant.threaded (omega (arith, long)) (search rules) (c.bucket-bucket.ensures.value ∙ ap (bucket_of (length heads)) here) (search rules) (omega arith) (omega arith));
+      texts = λ bytes. map-set_same (λ (s : Slot). slice_range bytes s.start s.end) slots place new none refl ∙ c.loop-place.invariant.texts bytes;
+      within = λ n before. let all = c.loop-place.invariant.within n before in let own = all place none (omega arith) in All-set (IsSlotWithin n) slots place new (record { ordered = own.ordered; within = own.within }) all;
+      hashes = map-set_same (λ (s : Slot). s.hash) slots place new none refl ∙ c.loop-place.invariant.hashes;
+      threaded = rw (map-set (λ (s : Slot). s.next) slots place new, length-set heads c.bucket-bucket.result (place + 1)) (threaded_step (length heads) heads (hashes_of c.args.slots.now) (nexts_of slots) place c.bucket-bucket.result next (place + 1) (place + 1) c.loop-place.invariant.threaded (omega (arith, long)) (search rules) (c.bucket-bucket.ensures.value ∙ ap (bucket_of (length heads)) here) (search rules) (omega arith) (omega arith));
     }

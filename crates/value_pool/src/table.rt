@@ -1,0 +1,189 @@
+// A table of distinct texts in one region of bytes, with a look-up whose bound does not rest on its hash.
+ghost use Rattle.std.specs.Prelude.{◌≡◌, ◌≤◌, ◌+◌, ◌++◌, ◌∷◌, [], false, is_some, IfOk, IfSome, OnErr, OnOk, length, slice_get};
+ghost use Rattle.link_limits.specs.declared.TheConstants.{MOST_POOL_LIMIT};
+ghost use Rattle.value_pool.specs.Hashes.{hash_of};
+ghost use Rattle.value_pool.specs.Pool.{HasRoom, KeepsRoom};
+ghost use Rattle.value_pool.specs.Region.{IsSlotWithin};
+ghost use Rattle.value_pool.specs.Table.{IsTable, has_text, state_of, texts_of};
+ghost use Rattle.value_pool.specs.Texts.{stands_among};
+
+use crate::chains::{Slot, bucket, empty_heads, make_anew, thread};
+use crate::hashes::HashKey;
+use link_base::NoMemory;
+use std::alloc::Global;
+
+/// The buckets of a new table, a power of 2. They double as texts come.
+const FIRST_BUCKETS: usize = 1024;
+
+/// A search that passes so many texts is a long one. With two buckets a text, and texts that were not chosen for their
+/// hashes, the chance that a chain is so long is below 10^-40.
+const LONG_SEARCH: u32 = 32;
+
+/// Texts one after the other, and the chains of the buckets of their hashes.
+#[derive(Debug, Drop)]
+pub(crate) struct Table {
+    pub(crate) bytes: Vec<u8>,
+    pub(crate) slots: Vec<Slot>,
+    // One more than the last place of each bucket, or 0.
+    heads: Vec<u32>,
+    key: HashKey,
+    // How many texts long searches have passed since the key is this one.
+    passed: u64,
+}
+
+/// What a search for a text gives.
+#[derive(Clone, Copy, Debug, PartialEq, Eq)]
+pub(crate) struct Search {
+    /// The place of the text, where it is held.
+    pub(crate) place: Option<u32>,
+    /// The hash of the text.
+    pub(crate) hash: u32,
+    /// How many other texts were passed.
+    pub(crate) passed: u32,
+}
+
+// Whether a slot has a text. The bytes are read only where the hashes agree.
+fn has_text(bytes: &[u8], slot: Slot, hash: u32, text: &[u8]) -> bool
+    requires { IsSlotWithin (length bytes.now) slot }
+    ensures { result ≡ has_text bytes.now slot hash text.now }
+{
+    slot.hash == hash && &bytes[slot.start as usize..slot.end as usize] == text
+}
+
+impl Table {
+    /// The table of no texts.
+    pub(crate) fn new(alloc: Global) -> Result<Table, NoMemory>
+        ensures table { IfOk result IsTable }
+        ensures texts { IfOk result (λ table. texts_of table ≡ []) }
+        ensures used { IfOk result (λ table. table.bytes.items ≡ []) }
+    {
+        let bytes = Vec::new(alloc);
+        let slots = Vec::new(alloc);
+        let heads = empty_heads(alloc, FIRST_BUCKETS)?;
+        let key = HashKey::first();
+        Ok(Table {
+            bytes,
+            slots,
+            heads,
+            key,
+            passed: 0,
+        })
+    }
+
+    /// Looks for a text.
+    pub(crate) fn search(&self, text: &[u8]) -> Search
+        requires { IsTable self.now }
+        ensures found { IfSome result.place (λ place. slice_get (texts_of self.now) place ≡ Some text.now) }
+        ensures held { is_some result.place ≡ stands_among (texts_of self.now) text.now }
+        ensures hash { result.hash ≡ hash_of self.now.key text.now }
+    {
+        let hash = self.key.hash(text);
+        let bucket = bucket(hash, self.heads.len());
+        let mut at = self.heads[bucket];
+        let mut passed = 0;
+        'chain: while at != 0 {
+            let slot = self.slots[(at - 1) as usize];
+            if has_text(&self.bytes, slot, hash, text) {
+                return Search {
+                    place: Some(at - 1),
+                    hash,
+                    passed,
+                };
+            }
+            passed += 1;
+            at = slot.next;
+        }
+        Search {
+            place: None,
+            hash,
+            passed,
+        }
+    }
+
+    /// Appends a text that is not held, by its hash.
+    pub(crate) fn append(&mut self, hash: u32, text: &[u8]) -> Result<u32, NoMemory>
+        requires table { IsTable self.old }
+        requires hash { hash ≡ hash_of self.old.key text.now }
+        requires fresh { stands_among (texts_of self.old) text.now ≡ false }
+        requires fits { length self.old.bytes.items + length text.now ≤ MOST_POOL_LIMIT }
+        ensures table { IsTable self.new }
+        ensures place { IfOk result (λ place. place ≡ length (texts_of self.old)) }
+        ensures ok { OnOk result (texts_of self.new ≡ texts_of self.old ++ text.now ∷ []) }
+        ensures err { OnErr result (texts_of self.new ≡ texts_of self.old) }
+        ensures used { OnOk result (length self.new.bytes.items ≡ length self.old.bytes.items + length text.now) }
+        ensures used_err { OnErr result (length self.new.bytes.items ≡ length self.old.bytes.items) }
+        ensures cause { OnErr result (HasRoom (state_of 0 self.old) 1 (length text.now) → ⊥) }
+        ensures room { OnOk result (KeepsRoom (state_of 0 self.old) (state_of 0 self.new) 1 (length text.now)) }
+        ensures room_err { OnErr result (KeepsRoom (state_of 0 self.old) (state_of 0 self.new) 0 0) }
+    {
+        self.slots.reserve(1)?;
+        self.bytes.reserve(text.len())?;
+        let start = self.bytes.len() as u32;
+        let end = start + text.len() as u32;
+        let place = self.slots.len() as u32;
+        let bucket = bucket(hash, self.heads.len());
+        let next = self.heads[bucket];
+        let slot = Slot {
+            start,
+            end,
+            next,
+            hash,
+        };
+        if self.bytes.extend_from_slice(text).is_err() {
+            return Err(NoMemory);
+        }
+        if self.slots.push(slot).is_err() {
+            return Err(NoMemory);
+        }
+        self.heads[bucket] = place + 1;
+        Ok(place)
+    }
+
+    /// Doubles the buckets where there are fewer than two of them a text. Without memory for more the chains grow.
+    pub(crate) fn widen(&mut self, alloc: Global)
+        requires { IsTable self.old }
+        ensures table { IsTable self.new }
+        ensures state { state_of 0 self.new ≡ state_of 0 self.old }
+    {
+        let buckets = self.heads.len();
+        if self.slots.len() <= buckets / 2 {
+            return;
+        }
+        match empty_heads(alloc, 2 * buckets) {
+            Ok(mut heads) => {
+                thread(&mut self.slots, &mut heads);
+                self.heads = heads;
+            }
+            Err(NoMemory) => {}
+        }
+    }
+
+    // Makes the chains anew by the next key, which takes no memory.
+    fn change_key(&mut self)
+        requires { IsTable self.old }
+        ensures table { IsTable self.new }
+        ensures state { state_of 0 self.new ≡ state_of 0 self.old }
+    {
+        self.key = self.key.next();
+        self.passed = 0;
+        make_anew(self.key, &self.bytes, &mut self.slots, &mut self.heads);
+    }
+
+    /// Counts what a long search has passed, and changes the key where that comes to as many texts as are held. So texts
+    /// chosen for one key do not help against the next, and chains are made anew only after long searches that have cost
+    /// about as much. The row of keys does not end: texts with long chains under all keys would be searched as in a list,
+    /// with as much work again for the chains.
+    pub(crate) fn count_passed(&mut self, passed: u32)
+        requires { IsTable self.old }
+        ensures table { IsTable self.new }
+        ensures state { state_of 0 self.new ≡ state_of 0 self.old }
+    {
+        if passed < LONG_SEARCH {
+            return;
+        }
+        self.passed = self.passed.saturating_add(u64::from(passed));
+        if self.passed >= self.slots.len() as u64 {
+            self.change_key();
+        }
+    }
+}
