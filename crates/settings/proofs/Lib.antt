@@ -9,4 +9,5 @@ pub mod FieldRanges
 pub mod PassRanges
 pub mod TableRanges
 pub mod Ranges
+pub mod WithinRanges
 pub mod Answered

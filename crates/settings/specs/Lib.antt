@@ -5,5 +5,6 @@ pub mod WordTables
 pub mod Field
 pub mod Pass
 pub mod Settings
+pub mod Within
 pub mod Shape
 pub mod Ranges

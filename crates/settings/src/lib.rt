@@ -9,6 +9,7 @@ mod plan;
 mod shares;
 mod texts;
 mod top;
+mod within;
 mod word_tables;
 mod words;
 

@@ -1,8 +1,10 @@
 // What the settings say.
-ghost use Rattle.std.specs.Prelude.{◌≡◌, ◌≤◌, length, is_some, bytes_eq};
+ghost use Rattle.std.specs.Prelude.{◌≡◌, ◌≤◌, IfOk, length, is_some, bytes_eq};
 
-use link_base::{CompareKind, FieldShares, FieldSort, PassList, Shape, Tables, Text};
+use crate::within::plan_within;
+use link_base::{CompareKind, FieldShares, FieldSort, NoMemory, PassList, Shape, Tables, Text};
 use link_limits::MOST_FIELDS;
+use std::alloc::Global;
 use std::marker::Model;
 
 /// What the settings say of a field. Contracts see the values of its keys, with plain shares. A rare
@@ -102,7 +104,9 @@ pub struct Plan {
 }
 
 impl Plan {
+    ghost use Rattle.settings.specs.Ranges.{KeepsRanges, NamesFiles};
     ghost use Rattle.settings.specs.Shape.{rare_flags};
+    ghost use Rattle.settings.specs.Within.{plan_within};
 
     /// The shape of comparison patterns: a field for each field of the plan, and rare where that field
     /// has a rare number.
@@ -119,5 +123,16 @@ impl Plan {
             fields: fields.len() as u8,
             rare,
         }
+    }
+
+    /// The plan of the file of A with itself: its file, ids, delimiter, columns and forms of dates on both sides, and all else the
+    /// same.
+    pub fn within(&self, alloc: Global) -> Result<Plan, NoMemory>
+        ensures gives { IfOk result (λ plan. plan ≡ plan_within self.now) }
+        ensures ranges { KeepsRanges self.now → IfOk result KeepsRanges }
+        ensures files { NamesFiles self.now → IfOk result NamesFiles }
+    {
+        let plan = plan_within(alloc, self)?;
+        Ok(plan)
     }
 }

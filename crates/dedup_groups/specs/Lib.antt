@@ -1,0 +1,7 @@
+pub mod Groups
+pub mod Forest
+pub mod Law
+pub mod GroupsText
+pub mod Adjacency
+pub mod Search
+pub mod Trees
