@@ -2,8 +2,8 @@
 use Rattle.std.proofs.Common.{◌≡◌, ◌≢◌, ◌⊎◌, ℕ, zero, suc, ◌+◌, ◌<◌, ◌≤◌, Bool, true, false, cond, List, [], ◌∷◌, length, set, refl, inl, inr, arith, get_or-set_other, get_or-set_same}
 use Rattle.std.proofs.lemmas.Bool.{cases_eq}
 use Rattle.std.proofs.lemmas.Bool.Decides.{nat_tests}
-use Rattle.assignment.specs.declared.market.Edge.{Edge}
-use Rattle.assignment.specs.Core.{edge}
+use Rattle.assignment_steps.specs.declared.market.Edge.{Edge}
+use Rattle.assignment_steps.specs.Market.{edge}
 use Rattle.assignment.specs.Growth.{far, distance, count_at, is_left, left}
 
 pub count_same : (t u : Edge → ℕ → Bool) (xs : List Edge) (i : ℕ) → ((k : ℕ) → k < length xs → t (edge xs k) (i + k) ≡ u (edge xs k) (i + k)) → count_at t xs i ≡ count_at u xs i

@@ -13,12 +13,11 @@ use Rattle.assignment_laws.proofs.Duality.{without, IsTight, price_sum-without, 
 use Rattle.assignment_laws.proofs.Bounds.{bounded_by_links}
 use Rattle.assignment_laws.proofs.Members.{Contains-filter, Contains-later, clash, same_member}
 use Rattle.std.proofs.lemmas.List.Kept.{AllPairs-filter}
-use Rattle.assignment.specs.declared.market.Edge.{Edge}
-use Rattle.assignment.specs.Core.{link, edge, number, no_edge, IsInRange}
-use Rattle.assignment.specs.Round.{IsBetween, AreSmall}
+use Rattle.assignment_steps.specs.declared.market.Edge.{Edge}
+use Rattle.assignment_steps.specs.Market.{link, edge, number, no_edge, IsInRange, AreSmall, IsRising}
+use Rattle.assignment_steps.specs.Between.{IsBetween}
 use Rattle.assignment.specs.Final.{positive, with_value, edge_from, edges_of, is_positive, links_to, is_linked, prices_of, ReachAll}
 use Rattle.assignment.specs.Solution.{HasSmallValue}
-use Rattle.assignment.specs.Growth.{IsRising}
 use Rattle.assignment.proofs.Rounds.{link_cases}
 
 -- Tight members, and no price elsewhere: the prices add up to the worth.
@@ -249,17 +248,17 @@ rising_edges (c ∷ cs) h = rising_head c (edges_of cs)
     (λ j lt. (let d = edge_kept cs j lt in rw (← d.1.1.record_a) (before_le c d.0 (All-contains (IsBefore c) cs d.0 (AllPairs-head IsBefore c cs h) d.1.0))))
     (rising_edges cs (AllPairs-tail IsBefore c cs h)) (edge_from c) refl
 
-none_linked : (n r : ℕ) → link (replicate n None) r ≡ None
+pub none_linked : (n r : ℕ) → link (replicate n None) r ≡ None
 none_linked n r = elim (cases_lt r n) [ inl lt ↦ get_or-replicate n r None None lt | inr past ↦ get_or_past (replicate n None) r None (omega (arith, length-replicate {A = Option ℕ} n None)) ]
 
 all_zero : (n r : ℕ) → number (replicate n 0) r ≡ 0
 all_zero n r = elim (cases_lt r n) [ inl lt ↦ get_or-replicate n r 0 0 lt | inr past ↦ get_or_past (replicate n 0) r 0 (omega (arith, length-replicate {A = ℕ} n 0)) ]
 
-pub between_first : (cs : List Candidate) (rows_a rows_b : ℕ) (pa : List ℕ) → All (IsWithin rows_a rows_b) cs → ReachAll (edges_of cs) rows_a pa → IsBetween (edges_of cs) pa (replicate rows_b 0) (replicate rows_a None) (replicate rows_b None) 0
-between_first cs rows_a rows_b pa within r = record {
+pub between_first : (es : List Edge) (rows_a rows_b : ℕ) (pa : List ℕ) → IsInRange es rows_a rows_b → ReachAll es rows_a pa → IsBetween es pa (replicate rows_b 0) (replicate rows_a None) (replicate rows_b None) 0
+between_first es rows_a rows_b pa within r = record {
   rows_a = length-replicate rows_a None ∙ sym r.records;
   rows_b = length-replicate rows_b None ∙ sym (length-replicate rows_b 0);
-  in_range = rw (r.records, length-replicate) (range_edges cs rows_a rows_b within);
+  in_range = rw (r.records, length-replicate) within;
   covered = λ k lt. omega (arith, r.covered k lt);
   small_a = r.small;
   small_b = λ b. rw (all_zero rows_b b) (omega arith);
@@ -267,7 +266,7 @@ between_first cs rows_a rows_b pa within r = record {
     of_a = λ a k h. absurd (let none = none_linked rows_a a in cc);
     of_b = λ b k h. absurd (let none = none_linked rows_b b in cc);
   };
-  tight = λ k h. absurd (let none = none_linked rows_a (edge (edges_of cs) k).a in cc);
+  tight = λ k h. absurd (let none = none_linked rows_a (edge es k).a in cc);
   free_a = λ a lt none. absurd (omega (arith, lt));
   free_b = λ b none. all_zero rows_b b;
 }

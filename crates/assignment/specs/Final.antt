@@ -2,8 +2,8 @@
 use Rattle.std.specs.Prelude.{◌≡◌, ℕ, zero, suc, ◌<◌, ◌≤◌, ℤ, pos, negsuc, List, length, Option, Some, None, Bool, true, false, ◌&&◌, ◌==◌, filter_map, map, slice_index_or}
 use Rattle.link_limits.specs.declared.TheConstants.{MOST_VALUE}
 use Rattle.link_base.specs.declared.rule.Candidate.{Candidate}
-use Rattle.assignment.specs.declared.market.Edge.{Edge}
-use Rattle.assignment.specs.Core.{link, edge}
+use Rattle.assignment_steps.specs.declared.market.Edge.{Edge}
+use Rattle.assignment_steps.specs.Market.{link, edge}
 
 -- the natural number above 0 that a value is, if it is one
 abbrev pub positive : ℤ → Option ℕ

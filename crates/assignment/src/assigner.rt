@@ -3,13 +3,15 @@ ghost use Rattle.std.specs.Prelude.{◌≡◌, ◌+◌, ◌<◌, ◌≤◌, ◌^
 ghost use Rattle.assignment_laws.specs.Assignment.{IsBefore, IsWithin, IsGreatest, Certifies, greatest_value, price_of};
 ghost use Rattle.candidate_parts.specs.Parts.{ArePartNumbers};
 ghost use Rattle.assignment.specs.Solution.{HasSmallValue};
-ghost use Rattle.assignment.specs.Growth.{IsClean, IsRising};
-ghost use Rattle.assignment.specs.Round.{IsBetween, AreSmall};
+ghost use Rattle.assignment_steps.specs.Market.{IsRising, AreSmall, AreStarts, IsBoard};
+ghost use Rattle.assignment_steps.specs.Survey.{HasRoom};
+ghost use Rattle.assignment.specs.Growth.{IsClean};
+ghost use Rattle.assignment_steps.specs.Between.{IsBetween};
 
-use crate::market::{Edge, Tree};
-use crate::round::all_rounds;
-use crate::solve::{clean_tree, edges_of, first_prices, linked, no_links, zeros};
+use crate::side::{Other, Side, first_side, other_if_less, run, run_other};
+use crate::solve::{edges_of, first_prices, linked};
 use assignment_laws::certified_is_greatest;
+use assignment_steps::{Board, Edge, starts_of, starts_or_zeros, turned_edges};
 use candidate_parts::{PartNumbers, part_numbers};
 use link_base::{Candidate, NoMemory};
 use link_limits::MOST_PAIRS;
@@ -24,11 +26,11 @@ pub struct Assigner {
     candidates: Vec<Candidate>,
     part_numbers: PartNumbers,
     edges: Vec<Edge>,
-    price_a: Vec<u64>,
-    price_b: Vec<u64>,
-    link_a: Vec<Option<usize>>,
-    link_b: Vec<Option<usize>>,
-    tree: Tree,
+    starts: Vec<usize>,
+    turned: Vec<Edge>,
+    turned_starts: Vec<usize>,
+    own: Side,
+    other: Option<Other>,
 }
 
 impl Model for Assigner {
@@ -63,27 +65,6 @@ impl Model for Assignment {
     ghost invariant = { λ s. AreBounded s.links.items s.price_a.items × AreBounded s.links.items s.price_b.items };
 }
 
-/// Takes every record of A up in turn.
-fn run(
-    edges: &Vec<Edge>,
-    price_a: &mut Vec<u64>,
-    price_b: &mut Vec<u64>,
-    link_a: &mut Vec<Option<usize>>,
-    link_b: &mut Vec<Option<usize>>,
-    tree: &mut Tree,
-)
-    requires rising { IsRising edges.now.items }
-    requires small { AreSmall edges.now.items }
-    requires between { IsBetween edges.now.items price_a.old.items price_b.old.items link_a.old.items link_b.old.items 0 }
-    requires clean { IsClean (length price_a.old.items) (length price_b.old.items) tree.old }
-    requires queue { length edges.now.items ≤ tree.old.frontier.room }
-    ensures between { IsBetween edges.now.items price_a.new.items price_b.new.items link_a.new.items link_b.new.items (length price_a.new.items) }
-    ensures rows_a { length price_a.new.items ≡ length price_a.old.items }
-    ensures rows_b { length price_b.new.items ≡ length price_b.old.items }
-{
-    all_rounds(edges, price_a, price_b, link_a, link_b, tree);
-}
-
 impl Assigner {
     /// Takes all the memory that a solution needs, for at most [`MOST_PAIRS`] candidates that rise strictly
     /// by record of A, then of B, each of a value of at most `link_limits::MOST_VALUE`. Want of memory is
@@ -103,11 +84,12 @@ impl Assigner {
         ensures candidates { IfOk result (λ s. s.candidates ≡ candidates.now) }
     {
         let edges = edges_of(alloc, candidates)?;
+        let starts = starts_of(alloc, &edges, rows_a as usize)?;
+        let turned = turned_edges(alloc, &edges, rows_b as usize)?;
+        let turned_starts = starts_or_zeros(alloc, &turned, rows_b as usize)?;
         let price_a = first_prices(alloc, &edges, rows_a as usize)?;
-        let price_b = zeros(alloc, rows_b as usize)?;
-        let link_a = no_links(alloc, rows_a as usize)?;
-        let link_b = no_links(alloc, rows_b as usize)?;
-        let tree = clean_tree(alloc, rows_a as usize, rows_b as usize, edges.len())?;
+        let other = other_if_less(alloc, &turned, rows_b as usize, &price_a)?;
+        let own = first_side(alloc, &edges, price_a, rows_b as usize)?;
         let part_numbers = part_numbers(alloc, rows_b, candidates)?;
         let candidates = Vec::from_slice(alloc, candidates)?;
         Ok(Assigner {
@@ -116,11 +98,11 @@ impl Assigner {
             candidates,
             part_numbers,
             edges,
-            price_a,
-            price_b,
-            link_a,
-            link_b,
-            tree,
+            starts,
+            turned,
+            turned_starts,
+            own,
+            other,
         })
     }
 
@@ -156,20 +138,28 @@ impl Assigner {
             candidates,
             part_numbers: _,
             edges,
-            mut price_a,
-            mut price_b,
-            mut link_a,
-            mut link_b,
-            mut tree,
+            starts,
+            turned,
+            turned_starts,
+            mut own,
+            other,
         } = self;
-        run(
-            &edges,
-            &mut price_a,
-            &mut price_b,
-            &mut link_a,
-            &mut link_b,
-            &mut tree,
-        );
+        let board = Board {
+            edges: &edges,
+            starts: &starts,
+            turned: &turned,
+            turned_starts: &turned_starts,
+        };
+        run_other(board, &mut own, other);
+        run(board, &mut own);
+        let Side {
+            price_a,
+            price_b,
+            link_a,
+            link_b: _,
+            tree: _,
+            survey: _,
+        } = own;
         let links = linked(candidates, &edges, &link_a);
         Assignment {
             links,

@@ -1,14 +1,14 @@
 // From candidates to a greatest list with its prices.
 ghost use Rattle.std.specs.Prelude.{◌≡◌, ◌≢◌, ◌+◌, ◌-◌, ◌<◌, ◌≤◌, ◌^◌, ℕ, length, slice_index, slice_index_or, List, [], None, Some, Contains, All, AllPairs, vec_len, vec_capacity, MatchOption, IfOk, filter, filter_map, replicate};
 ghost use Rattle.assignment_laws.specs.Assignment.{IsBefore, IsGreatest, Certifies};
-ghost use Rattle.assignment.specs.Core.{number, edge};
+ghost use Rattle.assignment_steps.specs.Market.{number, edge, AreSmall, IsRising};
 ghost use Rattle.assignment.specs.Final.{edges_of, edge_from, is_linked, prices_of, ReachAll};
-ghost use Rattle.assignment.specs.Round.{AreSmall};
 ghost use Rattle.assignment.specs.Solution.{HasSmallValue};
 ghost use Rattle.link_limits.specs.declared.TheConstants.{MOST_VALUE};
-ghost use Rattle.assignment.specs.Growth.{IsClean, IsRising};
+ghost use Rattle.assignment.specs.Growth.{IsClean};
 
-use crate::market::{Edge, FAR, Tree};
+use crate::market::{FAR, Tree};
+use assignment_steps::Edge;
 use distance_queue::DistanceQueue;
 use link_base::{Candidate, NoMemory};
 use std::alloc::Global;
@@ -22,9 +22,9 @@ fn edge_from(c: Candidate) -> Option<Edge>
         return None;
     }
     Some(Edge {
-        a: c.a as usize,
-        b: c.b as usize,
-        value: c.value as u64,
+        a: c.a,
+        b: c.b,
+        value: c.value as u32,
     })
 }
 
@@ -50,7 +50,7 @@ fn is_linked(edges: &[Edge], link_a: &[Option<usize>], c: &Candidate) -> bool
     }
     match link_a[c.a as usize] {
         None => false,
-        Some(k) => c.value > 0 && edges[k].b == c.b as usize,
+        Some(k) => c.value > 0 && edges[k].b == c.b,
     }
 }
 
@@ -75,7 +75,7 @@ pub fn first_prices(alloc: Global, edges: &[Edge], rows_a: usize) -> Result<Vec<
 {
     let mut prices = vec![in alloc; 0u64; rows_a]?;
     for k in 0..edges.len() {
-        raise_to(&mut prices, edges[k].a, edges[k].value);
+        raise_to(&mut prices, edges[k].a as usize, edges[k].value as u64);
     }
     Ok(prices)
 }
@@ -119,7 +119,9 @@ pub fn clean_tree(
         frontier,
         best: 0,
         best_record: 0,
+        best_free: None,
         current: 0,
+        looks: 0,
     })
 }
 

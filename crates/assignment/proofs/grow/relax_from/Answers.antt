@@ -1,0 +1,100 @@
+use Rattle.std.proofs.Common.{◌≡◌, ℕ, ◌+◌, ◌<◌, ◌≤◌, length, refl, ap, sym, ◌∙◌, inl, inr, arith}
+use Rattle.std.proofs.lemmas.Bool.{cases_lt}
+use Rattle.assignment_steps.specs.Market.{number}
+use Rattle.assignment.specs.declared.market.Ground.{Ground}
+use Rattle.assignment.specs.Growth.{Growth, IsReady, IsRelaxed, IsTree, distance, edge_of, growth, work}
+use Rattle.assignment.proofs.Count.{left_later}
+use Rattle.assignment.proofs.Growing.{tree_ended, tree_passed_to, tree_skip}
+use Rattle.assignment.proofs.grow.relax_from.Goals as goal
+
+-- an edge that does not reach nearer than the nearest end is of no use
+useless : (f : Ground) (g : Growth) (position base j : ℕ) → distance g.da position ≡ g.current → base ≡ g.current + number f.price_a.now position → (edge_of f j).a ≡ position → g.best + (edge_of f j).value ≤ base + number f.price_b.now (edge_of f j).b → IsRelaxed f g j
+useless f g position base j last is same passed =
+    let near : distance g.da (edge_of f j).a ≡ g.current = ap (distance g.da) same ∙ last in
+    let price : number f.price_a.now (edge_of f j).a ≡ number f.price_a.now position = ap (number f.price_a.now) same in
+    omega (arith, near, price, is, passed)
+
+-- the edges between two starts are of the record
+of_record : (f : Ground) (position start k : ℕ) → IsReady f → position < length f.price_a.now → ((j : ℕ) → start ≤ j → j < length f.edges.now → position ≤ (edge_of f j).a) → start ≤ k → k < number f.starts.now (position + 1) → (edge_of f k).a ≡ position
+of_record f position start k ready lt above from below =
+    let next = ready.starts.starts_at (position + 1) (omega arith) in
+    let high = above k from (omega (arith, below, next.within)) in
+    let low = next.below k below in
+    omega (arith, high, low)
+
+pub loop-k-init : goal.loop-k-init
+loop-k-init c =
+    let f = c.args.ground in
+    let t = c.args.tree.now in
+    let n = c.next_of_use-k.ensures in
+    let fewer = left_later f.edges.now t.dist_a.items c.args.position c.args.start c.next_of_use-k.result n.later in
+    record {
+      later = n.later;
+      within = n.within;
+      last = c.requires.last;
+      current = refl;
+      tree = tree_passed_to f c.args.position c.args.start c.next_of_use-k.result (growth t) c.requires.tree (λ j from below lt same. useless f (growth t) c.args.position _ j c.requires.last refl same (n.passed j from below));
+      room = c.requires.room;
+      work = omega (arith, fewer);
+      queue = omega arith;
+    }
+
+pub returns-then-tree-clause-tree : goal.returns-then-tree-clause-tree
+returns-then-tree-clause-tree c = tree_ended c.args.ground c.args.position c.loop-k.k (growth c.loop-k.tree) c.requires.ready c.loop-k.invariant.tree c.loop-k.invariant.last c.if-tree.true
+
+pub returns-then-tree-clause-work : goal.returns-then-tree-clause-work
+returns-then-tree-clause-work c =
+    let es = c.args.ground.edges.now in
+    let next = c.requires.ready.starts.starts_at (c.args.position + 1) (omega arith) in
+    let fewer = left_later es c.loop-k.tree.dist_a.items c.args.position c.loop-k.k (length es) (omega (arith, c.loop-k.invariant.within, next.within)) in
+    omega (arith, fewer, c.loop-k.invariant.work)
+
+pub relax-requires-clause-last : goal.relax-requires-clause-last
+relax-requires-clause-last c =
+    let here = of_record c.args.ground c.args.position c.args.start c.loop-k.k c.requires.ready c.requires.position c.requires.above c.loop-k.invariant.later c.loop-k-test.true in
+    rw here c.loop-k.invariant.last
+
+pub relax-requires-clause-tree : goal.relax-requires-clause-tree
+relax-requires-clause-tree c =
+    let here = of_record c.args.ground c.args.position c.args.start c.loop-k.k c.requires.ready c.requires.position c.requires.above c.loop-k.invariant.later c.loop-k-test.true in
+    rw here c.loop-k.invariant.tree
+
+pub loop-k-preserved : goal.loop-k-preserved
+loop-k-preserved c =
+    let f = c.args.ground in
+    let position = c.args.position in
+    let here = of_record f position c.args.start c.loop-k.k c.requires.ready c.requires.position c.requires.above c.loop-k.invariant.later c.loop-k-test.true in
+    let r = c.relax.ensures in
+    let t = c.relax.new.tree in
+    let n = c.next_of_use-k-in-loop-k.ensures in
+    let last : distance t.dist_a.items position ≡ t.current = rw r.dist_a (c.loop-k.invariant.last ∙ sym r.current) in
+    let tree : IsTree f position (c.loop-k.k + 1) (growth t) = rw here at r.tree in
+    let done : work f.edges.now position (c.loop-k.k + 1) t ≤ work f.edges.now position c.loop-k.k c.loop-k.tree = rw here at r.work in
+    let fewer = left_later f.edges.now t.dist_a.items position (c.loop-k.k + 1) c.next_of_use-k-in-loop-k.result n.later in
+    let is : c.args.tree.now.current + number f.price_a.now position ≡ t.current + number f.price_a.now position = omega (arith, r.current, c.loop-k.invariant.current) in
+    record {
+      later = omega (arith, n.later, c.loop-k.invariant.later);
+      within = n.within;
+      last = last;
+      current = r.current ∙ c.loop-k.invariant.current;
+      tree = tree_passed_to f position (c.loop-k.k + 1) c.next_of_use-k-in-loop-k.result (growth t) tree (λ j from below lt same. useless f (growth t) position _ j last is same (n.passed j from below));
+      room = r.room;
+      work = omega (arith, done, fewer, c.loop-k.invariant.work);
+      queue = omega (arith, r.queue, c.loop-k.invariant.queue);
+    }
+
+pub returns-clause-tree : goal.returns-clause-tree
+returns-clause-tree c =
+    let next = c.requires.ready.starts.starts_at (c.args.position + 1) (omega arith) in
+    tree_skip c.args.ground c.args.position c.loop-k.k _ (growth c.loop-k.tree) c.loop-k.invariant.tree (λ j lt below same.
+    elim (cases_lt j c.loop-k.k) [
+      | inl p ↦ p
+      | inr p ↦ (let high = next.above j (omega (arith, c.loop-k-test.false, p)) lt in absurd (omega (arith, same, high)))
+    ])
+
+pub returns-clause-work : goal.returns-clause-work
+returns-clause-work c =
+    let es = c.args.ground.edges.now in
+    let next = c.requires.ready.starts.starts_at (c.args.position + 1) (omega arith) in
+    let fewer = left_later es c.loop-k.tree.dist_a.items c.args.position c.loop-k.k (length es) (omega (arith, c.loop-k.invariant.within, next.within)) in
+    omega (arith, fewer, c.loop-k.invariant.work)

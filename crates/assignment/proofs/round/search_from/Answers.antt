@@ -1,0 +1,32 @@
+use Rattle.std.proofs.Common.{◌<◌, length, arith}
+use Rattle.assignment.specs.Growth.{growth, with_waiting}
+use Rattle.assignment.proofs.Growing.{ends_as}
+use Rattle.assignment.proofs.Rounds.{tight_after, ways_after, best_within, between_searched}
+use Rattle.assignment.proofs.round.search_from.Goals as goal
+
+pub turn-requires-clause-tight : goal.turn-requires-clause-tight
+turn-requires-clause-tight c =
+    let grown = c.in-Some.ensures.grown in
+    tight_after _ (with_waiting grown.0 (growth c.search.new.tree)) c.in-Some.grown.end c.in-Some.grown.free c.shift-2.new.price_a c.shift-2.new.price_b c.search.ensures.ready grown.1 c.shift-2.ensures.price_a c.shift-2.ensures.price_b c.requires.between.tight
+
+pub turn-requires-clause-last : goal.turn-requires-clause-last
+turn-requires-clause-last c =
+    let grown = c.in-Some.ensures.grown in
+    let t = c.search.new.tree in
+    rw c.shift-2.ensures.best_record
+    (ends_as c.in-Some.grown.free (t.best_record < length t.dist_a.items) (t.best_record < length c.args.link_a.now) (λ _. Unit {0}) (λ _. Unit {0}) (λ (p : t.best_record < length t.dist_a.items). omega (arith, p, c.search.ensures.room.of_a, t.dist_a.ok.0, c.requires.between.rows_a)) (λ b u. u)
+    (best_within _ (with_waiting grown.0 (growth t)) c.in-Some.grown.end c.in-Some.grown.free c.shift-2.new.price_a c.shift-2.new.price_b c.search.ensures.ready grown.1 c.shift-2.ensures.price_a c.shift-2.ensures.price_b))
+
+pub turn-requires-clause-leads : goal.turn-requires-clause-leads
+turn-requires-clause-leads c =
+    let grown = c.in-Some.ensures.grown in
+    rw (c.deref.ensures.value, c.deref-2.ensures.value, c.shift-2.ensures.from, c.shift-2.ensures.rank, c.shift-2.ensures.best_record)
+    (ways_after _ (with_waiting grown.0 (growth c.search.new.tree)) c.in-Some.grown.end c.in-Some.grown.free c.shift-2.new.price_a c.shift-2.new.price_b c.search.ensures.ready grown.1 c.shift-2.ensures.price_a c.shift-2.ensures.price_b)
+
+pub returns-clause-between : goal.returns-clause-between
+returns-clause-between c =
+    let grown = c.in-Some.ensures.grown in
+    let t = c.turn.ensures in
+    between_searched _ (with_waiting grown.0 (growth c.search.new.tree)) c.in-Some.grown.end c.in-Some.grown.free c.shift-2.new.price_a c.shift-2.new.price_b c.search.ensures.ready grown.1 c.shift-2.ensures.price_a c.shift-2.ensures.price_b
+    c.args.bounded c.turn.new.link_a c.turn.new.link_b c.requires.small c.requires.between c.shift-2.auto.price_a c.shift-2.auto.price_b t.rows_a t.rows_b t.matched t.tight
+    (rw c.shift-2.ensures.best_record at t.root) (rw c.shift-2.ensures.best_record at t.still_a) t.still_b

@@ -1,0 +1,26 @@
+-- Machinery of `Assigner`: the side that searches, and the other side over the turned edges.
+use Rattle.std.specs.Prelude.{◌≡◌, ℕ, ◌≤◌, List, length, vec_len, None}
+use Rattle.assignment_steps.specs.declared.market.Edge.{Edge}
+use Rattle.assignment_steps.specs.Market.{link}
+use Rattle.assignment_steps.specs.Between.{IsBetween}
+use Rattle.assignment_steps.specs.Survey.{HasRoom}
+use Rattle.assignment.specs.declared.side.Side.{Side}
+use Rattle.assignment.specs.declared.side.Other.{Other}
+use Rattle.assignment.specs.Growth.{IsClean}
+
+-- prices and links between two steps, with room
+pub record IsSide (es : List Edge) (s : Side) : Type 0 where
+  pub between : IsBetween es s.price_a.items s.price_b.items s.link_a.items s.link_b.items 0
+  pub clean : IsClean (length s.price_a.items) (length s.price_b.items) s.tree
+  pub queue : length es ≤ s.tree.frontier.room
+  pub room : HasRoom (vec_len s.survey.order) (vec_len s.survey.met) s.survey
+
+-- the other side of so many records, and no link yet as a link of the edges
+pub record IsOther (turned : List Edge) (rows_a rows_b : ℕ) (o : Other) : Type 0 where
+  pub side : IsSide turned o.side
+  pub count_a : length o.side.price_b.items ≡ rows_a
+  pub count_b : length o.side.price_a.items ≡ rows_b
+  pub links_a : length o.link_a.items ≡ rows_a
+  pub links_b : length o.link_b.items ≡ rows_b
+  pub none_a : (a : ℕ) → link o.link_a.items a ≡ None
+  pub none_b : (b : ℕ) → link o.link_b.items b ≡ None

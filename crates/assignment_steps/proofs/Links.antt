@@ -1,0 +1,63 @@
+-- What turning one link round does to a matching.
+use Rattle.std.proofs.Common.{◌≡◌, ◌≢◌, ◌⊎◌, ℕ, ◌<◌, List, length, set, Option, Some, None, ap, sym, ◌∙◌, inl, inr, get_or-set_other, get_or-set_same}
+use Rattle.std.proofs.lemmas.Bool.{cases_eq}
+use Rattle.assignment_steps.specs.declared.market.Edge.{Edge}
+use Rattle.assignment_steps.specs.Market.{IsMatched, link, edge}
+
+-- the links after one write
+pub link-set : (l : List (Option ℕ)) (i j : ℕ) (x : Option ℕ) → i < length l → ((j ≡ i) × (link (set l i x) j ≡ x)) ⊎ ((j ≢ i) × (link (set l i x) j ≡ link l j))
+link-set l i j x lt = elim (cases_eq j i) [ inl e ↦ inl (e, rw e (get_or-set_same l i x None lt)) | inr n ↦ inr (n, get_or-set_other l i j x None n) ]
+
+-- the two sides after record of A and record of B of edge k take it
+joined_a : (es : List Edge) (la lb : List (Option ℕ)) (k a j : ℕ) → IsMatched es la lb → k < length es → (edge es k).a < length la → (edge es k).b < length lb → link lb (edge es k).b ≡ None → link (set la (edge es k).a (Some k)) a ≡ Some j → (j < length es) × ((edge es j).a ≡ a) × (link (set lb (edge es k).b (Some k)) (edge es j).b ≡ Some j)
+joined_a es la lb k a j m lt ra rb nb h =
+    elim (link-set la (edge es k).a a (Some k) ra) [
+      | inl p ↦ (let same : k ≡ j = cc in rw (← same) (lt, sym p.0, get_or-set_same lb (edge es k).b (Some k) None rb))
+      | inr p ↦
+          (let old = m.of_a a j (sym p.1 ∙ h) in
+          let other : (edge es j).b ≢ (edge es k).b = λ e. (let clash : link lb (edge es k).b ≡ Some j = rw (← e) old.2 in cc) in
+          (old.0, old.1, get_or-set_other lb (edge es k).b (edge es j).b (Some k) None other ∙ old.2))
+    ]
+
+joined_b : (es : List Edge) (la lb : List (Option ℕ)) (k b j : ℕ) → IsMatched es la lb → k < length es → (edge es k).a < length la → (edge es k).b < length lb → link la (edge es k).a ≡ None → link (set lb (edge es k).b (Some k)) b ≡ Some j → (j < length es) × ((edge es j).b ≡ b) × (link (set la (edge es k).a (Some k)) (edge es j).a ≡ Some j)
+joined_b es la lb k b j m lt ra rb na h =
+    elim (link-set lb (edge es k).b b (Some k) rb) [
+      | inl p ↦ (let same : k ≡ j = cc in rw (← same) (lt, sym p.0, get_or-set_same la (edge es k).a (Some k) None ra))
+      | inr p ↦
+          (let old = m.of_b b j (sym p.1 ∙ h) in
+          let other : (edge es j).a ≢ (edge es k).a = λ e. (let clash : link la (edge es k).a ≡ Some j = rw (← e) old.2 in cc) in
+          (old.0, old.1, get_or-set_other la (edge es k).a (edge es j).a (Some k) None other ∙ old.2))
+    ]
+
+-- two records without a link take edge k
+pub matched_joined : (es : List Edge) (la lb : List (Option ℕ)) (k : ℕ) → IsMatched es la lb → k < length es → (edge es k).a < length la → (edge es k).b < length lb → link la (edge es k).a ≡ None → link lb (edge es k).b ≡ None → IsMatched es (set la (edge es k).a (Some k)) (set lb (edge es k).b (Some k))
+matched_joined es la lb k m lt ra rb na nb = record {
+  of_a = λ a j h. joined_a es la lb k a j m lt ra rb nb h;
+  of_b = λ b j h. joined_b es la lb k b j m lt ra rb na h;
+}
+
+-- the two records of edge j lose their link
+pub matched_parted : (es : List Edge) (la lb : List (Option ℕ)) (j : ℕ) → IsMatched es la lb → (edge es j).a < length la → (edge es j).b < length lb → link la (edge es j).a ≡ Some j → IsMatched es (set la (edge es j).a None) (set lb (edge es j).b None)
+matched_parted es la lb j m ra rb on = record {
+  of_a = λ a i h. elim (link-set la (edge es j).a a None ra) [
+    | inl p ↦ cc
+    | inr p ↦
+        (let old = m.of_a a i (sym p.1 ∙ h) in
+        let other : (edge es i).b ≢ (edge es j).b = λ e. (
+        let onb : link lb (edge es j).b ≡ Some j = (m.of_a _ _ on).2 in
+        let oni : link lb (edge es j).b ≡ Some i = rw (← e) old.2 in
+        let same : i ≡ j = cc in
+        p.0 (sym old.1 ∙ ap (λ n. (edge es n).a) same)) in
+        (old.0, old.1, get_or-set_other lb (edge es j).b (edge es i).b None None other ∙ old.2))
+  ];
+  of_b = λ b i h. elim (link-set lb (edge es j).b b None rb) [
+    | inl p ↦ cc
+    | inr p ↦
+        (let old = m.of_b b i (sym p.1 ∙ h) in
+        let other : (edge es i).a ≢ (edge es j).a = λ e. (
+        let oni : link la (edge es j).a ≡ Some i = rw (← e) old.2 in
+        let same : i ≡ j = cc in
+        p.0 (sym old.1 ∙ ap (λ n. (edge es n).b) same)) in
+        (old.0, old.1, get_or-set_other la (edge es j).a (edge es i).a None None other ∙ old.2))
+  ];
+}

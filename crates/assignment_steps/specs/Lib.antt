@@ -1,0 +1,6 @@
+pub mod Between
+pub mod Lists
+pub mod Market
+pub mod Paths
+pub mod Survey
+pub mod Turned

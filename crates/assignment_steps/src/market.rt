@@ -1,0 +1,27 @@
+// Candidates with prices.
+
+/// A candidate whose value is positive.
+#[derive(Clone, Copy)]
+pub struct Edge {
+    pub a: u32,
+    pub b: u32,
+    pub value: u32,
+}
+
+/// The edges, and a price for each record.
+#[derive(Clone, Copy)]
+pub struct Net<'a> {
+    pub edges: &'a [Edge],
+    pub price_a: &'a [u64],
+    pub price_b: &'a [u64],
+}
+
+/// The edges by their records of A, and turned by their records of B, as the other side sees them: there
+/// `a` is a record of B. With each the places where a record's edges begin.
+#[derive(Clone, Copy)]
+pub struct Board<'a> {
+    pub edges: &'a [Edge],
+    pub starts: &'a [usize],
+    pub turned: &'a [Edge],
+    pub turned_starts: &'a [usize],
+}

@@ -1,0 +1,81 @@
+// Links of turned edges as links of the edges.
+ghost use Rattle.std.specs.Prelude.{◌≡◌, ◌+◌, ◌<◌, ◌≤◌, ℕ, length, MatchOption};
+ghost use Rattle.assignment_steps.specs.Market.{IsBoard, IsMatched, IsInRange};
+
+use crate::market::{Board, Edge};
+
+/// The place of the edge of two records.
+fn place_of(board: Board<'_>, a: u32, b: u32) -> Option<usize>
+    ensures { MatchOption result (Unit {0}) (λ k. k < length board.entry.edges.now) }
+{
+    if a as usize + 1 >= board.starts.len() {
+        return None;
+    }
+    let end = board.starts[a as usize + 1].min(board.edges.len());
+    for k in board.starts[a as usize]..end {
+        if board.edges[k].b == b {
+            return Some(k);
+        }
+    }
+    None
+}
+
+/// Links the records of the edge `k`, if neither has a link.
+fn join(edges: &[Edge], link_a: &mut [Option<usize>], link_b: &mut [Option<usize>], k: usize)
+    requires place { k < length edges.now }
+    requires in_range { IsInRange edges.now (length link_a.old) (length link_b.old) }
+    requires matched { IsMatched edges.now link_a.old link_b.old }
+    ensures matched { IsMatched edges.now link_a.new link_b.new }
+{
+    let edge = edges[k];
+    let a = edge.a as usize;
+    let b = edge.b as usize;
+    if link_a[a].is_some() {
+        return;
+    }
+    if link_b[b].is_some() {
+        return;
+    }
+    link_a[a] = Some(k);
+    link_b[b] = Some(k);
+}
+
+/// Links the records of a turned edge, if it is there.
+fn join_turned(
+    board: Board<'_>,
+    link_a: &mut [Option<usize>],
+    link_b: &mut [Option<usize>],
+    link: Option<usize>,
+)
+    requires in_range { IsInRange board.edges.now (length link_a.old) (length link_b.old) }
+    requires matched { IsMatched board.edges.now link_a.old link_b.old }
+    ensures matched { IsMatched board.entry.edges.now link_a.new link_b.new }
+{
+    let Some(j) = link else {
+        return;
+    };
+    if j >= board.turned.len() {
+        return;
+    }
+    let turned = board.turned[j];
+    let Some(k) = place_of(board, turned.b, turned.a) else {
+        return;
+    };
+    join(board.edges, link_a, link_b, k);
+}
+
+/// Links records as the links of the turned edges do.
+pub fn join_as_turned(
+    board: Board<'_>,
+    link_a: &mut [Option<usize>],
+    link_b: &mut [Option<usize>],
+    links: &[Option<usize>],
+)
+    requires in_range { IsInRange board.edges.now (length link_a.old) (length link_b.old) }
+    requires matched { IsMatched board.edges.now link_a.old link_b.old }
+    ensures matched { IsMatched board.entry.edges.now link_a.new link_b.new }
+{
+    for link in links {
+        join_turned(board, link_a, link_b, *link);
+    }
+}

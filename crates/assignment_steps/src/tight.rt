@@ -1,0 +1,49 @@
+// Links that are taken over tight edges.
+ghost use Rattle.std.specs.Prelude.{◌≡◌, ◌<◌, length};
+ghost use Rattle.assignment_steps.specs.Between.{IsBetween};
+
+use crate::market::Net;
+
+/// Links the records of the edge `k` where its record of A has no link and their prices add up to its value.
+/// The record of B gives up the link that it has, if it has one.
+pub fn take(net: Net<'_>, link_a: &mut [Option<usize>], link_b: &mut [Option<usize>], k: usize)
+    requires place { k < length net.edges.now }
+    requires between { IsBetween net.edges.now net.price_a.now net.price_b.now link_a.old link_b.old 0 }
+    ensures between { IsBetween net.entry.edges.now net.entry.price_a.now net.entry.price_b.now link_a.new link_b.new 0 }
+{
+    let edge = net.edges[k];
+    let a = edge.a as usize;
+    let b = edge.b as usize;
+    if link_a[a].is_some() {
+        return;
+    }
+    if net.price_a[a] + net.price_b[b] != edge.value as u64 {
+        return;
+    }
+    if let Some(j) = link_b[b] {
+        link_a[net.edges[j].a as usize] = None;
+    }
+    link_a[a] = Some(k);
+    link_b[b] = Some(k);
+}
+
+/// Takes the edge `k` where its record of B has no link.
+fn take_free(net: Net<'_>, link_a: &mut [Option<usize>], link_b: &mut [Option<usize>], k: usize)
+    requires place { k < length net.edges.now }
+    requires between { IsBetween net.edges.now net.price_a.now net.price_b.now link_a.old link_b.old 0 }
+    ensures between { IsBetween net.entry.edges.now net.entry.price_a.now net.entry.price_b.now link_a.new link_b.new 0 }
+{
+    if link_b[net.edges[k].b as usize].is_none() {
+        take(net, link_a, link_b, k);
+    }
+}
+
+/// Links records without links over tight edges, in the order of the edges.
+pub fn link_tight(net: Net<'_>, link_a: &mut [Option<usize>], link_b: &mut [Option<usize>])
+    requires { IsBetween net.edges.now net.price_a.now net.price_b.now link_a.old link_b.old 0 }
+    ensures { IsBetween net.entry.edges.now net.entry.price_a.now net.entry.price_b.now link_a.new link_b.new 0 }
+{
+    for k in 0..net.edges.len() {
+        take_free(net, link_a, link_b, k);
+    }
+}
