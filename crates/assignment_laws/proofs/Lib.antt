@@ -3,3 +3,4 @@ pub mod Together
 pub mod Rising
 pub mod Members
 pub mod Bounds
+pub mod Places

@@ -1,3 +1,5 @@
 pub mod Assignment
 pub mod Law
 pub mod Parts
+pub mod Capacities
+pub mod CapacityLaw

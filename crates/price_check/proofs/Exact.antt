@@ -13,10 +13,10 @@ use Rattle.price_check.specs.declared.verdict.Verified.{Verified}
 use Rattle.price_check.specs.declared.verdict.Verified.TheVariants.{Yes, No}
 use Rattle.price_check.specs.Verdict.{IsCandidate, IsFresh, AreLinks, AreCertified, IsFirstNegative, IsFirstReason, IsVerdict}
 
-no_pair : PairAt
+abbrev pub no_pair : PairAt
 no_pair = record { a = 0; b = 0 }
 
-candidate_of : (cs : List Candidate) (ls : List PairAt) (chosen : List Candidate) (i : ℕ) → AreLinks cs ls chosen → i < length ls → IsCandidate cs (get_or ls i no_pair)
+pub candidate_of : (cs : List Candidate) (ls : List PairAt) (chosen : List Candidate) (i : ℕ) → AreLinks cs ls chosen → i < length ls → IsCandidate cs (get_or ls i no_pair)
 candidate_of cs ls chosen i are lt =
     let within : i < length chosen = omega (arith, are.count) in
     let c : Candidate = get_or chosen i no_candidate in
@@ -32,7 +32,7 @@ fresh_of cs ls chosen i are one lt = λ k d low.
     let q = are.positions i d no_candidate lt in
     (λ e. apart.0 (p.0 ∙ (e ∙ sym q.0)), λ e. apart.1 (p.1 ∙ (e ∙ sym q.1)))
 
-no_negative : (ps qs : List ℤ) (side : FileRole) (i : ℕ) → All (λ p. pos 0 ≤ℤ p) ps → All (λ p. pos 0 ≤ℤ p) qs → IsFirstNegative ps qs side i → ⊥
+pub no_negative : (ps qs : List ℤ) (side : FileRole) (i : ℕ) → All (λ p. pos 0 ≤ℤ p) ps → All (λ p. pos 0 ≤ℤ p) qs → IsFirstNegative ps qs side i → ⊥
 no_negative ps qs A i fa fb h = h.2 (pos 0) (fa i (pos 0) h.0)
 no_negative ps qs B i fa fb h = h.1.2 (pos 0) (fb i (pos 0) h.1.0)
 no_negative ps qs Settings i fa fb h = h

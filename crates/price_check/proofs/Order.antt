@@ -53,7 +53,7 @@ no_place xs l at e rising below above absent found =
 pub each_more : {X : Type 0} (P : X → Type 0) (xs : List X) (i : ℕ) (e : X) → ((k : ℕ) (d : X) → k < i → P (get_or xs k d)) → i < length xs → P (get_or xs i e) → (k : ℕ) (d : X) → k < i + 1 → P (get_or xs k d)
 each_more P xs i e below lt here k d le = elim (cases_lt k i) [ inl p ↦ below k d p | inr p ↦ (let q : k ≡ i = omega arith in rw (q, get_or_default xs i d e lt) here) ]
 
-pair_le : (x y : PairAt) → IsPairBefore x y → x.a ≤ y.a
+pub pair_le : (x y : PairAt) → IsPairBefore x y → x.a ≤ y.a
 pair_le x y (inl p) = omega (arith, p)
 pair_le x y (inr p) = omega (arith, p.0)
 
@@ -113,7 +113,7 @@ choose cs (l ∷ ls) e h =
     at_each cs l ls c rest here more zero d e lt = here
     at_each cs l ls c rest here more (suc k) d e lt = more k d e (omega arith)
 
-before_of : (x y : Candidate) (l m : PairAt) → HasPositions l x → HasPositions m y → IsPairBefore l m → IsBefore x y
+pub before_of : (x y : Candidate) (l m : PairAt) → HasPositions l x → HasPositions m y → IsPairBefore l m → IsBefore x y
 before_of x y l m hx hy (inl p) = inl (omega (arith, hx.0, hy.0, p))
 before_of x y l m hx hy (inr p) = inr (omega (arith, hx.0, hy.0, p.0), omega (arith, hx.1, hy.1, p.1))
 

@@ -14,7 +14,7 @@ use link_base::{Candidate, FileRole, NoMemory, PairAt};
 use std::alloc::Global;
 
 /// The sum of prices.
-fn price_total(prices: &[i64]) -> i64
+pub fn price_total(prices: &[i64]) -> i64
     requires count { length prices.now < 2 ^ 32 }
     requires small { All IsAllowedPrice prices.now }
     ensures value { result ≡ price_sum prices.now }
@@ -29,7 +29,7 @@ fn price_total(prices: &[i64]) -> i64
 }
 
 /// What the links are worth.
-fn links_worth(candidates: &[Candidate], links: &[PairAt]) -> i64
+pub fn links_worth(candidates: &[Candidate], links: &[PairAt]) -> i64
     requires count { length links.now < 2 ^ 32 }
     requires rising { AllPairs IsBefore candidates.now }
     requires small { All HasAllowedValue candidates.now }

@@ -1,0 +1,354 @@
+-- From links, seats and tight prices to a greatest list within capacities with a certificate.
+use Rattle.std.proofs.Common.{◌≡◌, ◌≢◌, ◌⊎◌, ◌==◌, ℕ, zero, suc, ◌+◌, ◌-◌, ◌<◌, ◌≤◌, ℤ, pos, negsuc, ◌+ℤ◌, ◌≤ℤ◌, List, [], ◌∷◌, length, get_or, set, Option, Some, None, Bool, true, false, filter, refl, ap, sym, ◌∙◌, inl, inr, arith}
+use Rattle.std.specs.Prelude.{replicate, All, AllPairs, Contains, is_none}
+use Rattle.std.proofs.lemmas.List.Sums.{count_by-le-length}
+use Rattle.std.specs.List.{cons_option}
+use Rattle.std.proofs.lemmas.Bool.{cases_eq, cases_lt, false≢true}
+use Rattle.std.proofs.lemmas.Bool.Decides.{nat_tests}
+use Rattle.std.proofs.lemmas.Int.{ints}
+use Rattle.std.proofs.lemmas.List.{get_or-set_other, get_or-set_same, get_or_past, get_or-replicate, length-replicate}
+use Rattle.std.proofs.lemmas.List.Elements.{All-head, All-tail, All-cons, All-filter, All-contains_itself, All-nil, All-contains, filter_passes}
+use Rattle.link_base.specs.declared.rule.Candidate.{Candidate}
+use Rattle.assignment_laws.specs.Assignment.{price_sum, price_of, worth, IsBefore, IsWithin, IsCovered}
+use Rattle.assignment_laws.specs.Capacities.{CertifiesWithin, IsWithinCapacities, capacity_of, links_at, place_sum}
+use Rattle.assignment_laws.proofs.Duality.{without, IsTight, price_sum-without, price_sum-zero, AllPairs-head, AllPairs-tail}
+use Rattle.assignment_laws.proofs.Members.{Contains-filter, Contains-later, clash, same_member}
+use Rattle.assignment_laws.proofs.Places.{AreApart, fits-tail, links_at-here, links_at-other, one_less, place_sum-one_less, place_there}
+use Rattle.std.proofs.lemmas.List.Kept.{AllPairs-filter}
+use Rattle.capacity_assign.specs.declared.market.Edge.{Edge}
+use Rattle.capacity_assign.specs.Core.{IsInRange, edge, link, linked_at, no_edge, number}
+use Rattle.capacity_assign.specs.Round.{IsBetween, AreSmall}
+use Rattle.capacity_assign.specs.Seating.{Seating, free_rows}
+use Rattle.capacity_assign.specs.Final.{AreClosed, AreEmpty, positive, with_value, edge_from, edges_of, is_positive, links_to, is_linked, prices_of, ReachAll}
+use Rattle.capacity_assign.specs.Solution.{HasSmallValue}
+use Rattle.capacity_assign.specs.Growth.{IsRising}
+use Rattle.capacity_assign.proofs.Links.{counted_link, link_cases, link_there, link-set, linked_at-set, tick}
+
+-- Tight members, no price where no member stands, and none at a record of B with a place left: the prices add up
+-- to the worth.
+
+without-same : (ps : List ℤ) (position : ℕ) → price_of (without ps position) position ≡ pos 0
+without-same [] position = refl
+without-same (p ∷ ps) zero = refl
+without-same (p ∷ ps) (suc position) = without-same ps position
+
+absent-without : (ps : List ℤ) (position r : ℕ) → (r ≢ position → price_of ps r ≡ pos 0) → price_of (without ps position) r ≡ pos 0
+absent-without ps position r h = elim (cases_eq r position) [ inl e ↦ rw e (without-same ps position) | inr n ↦ get_or-set_other ps position r (pos 0) (pos 0) n ∙ h n ]
+
+tight-without_a : (ps qs : List ℤ) (c : Candidate) (cs : List Candidate) → All (λ x. c.a ≢ x.a) cs → All (IsTight ps qs) cs → All (IsTight (without ps c.a) qs) cs
+tight-without_a ps qs c cs apart tight = λ k d l.
+    let x : Candidate = get_or cs k d in
+    let na : x.a ≢ c.a = λ e. apart k d l (sym e) in
+    rw (get_or-set_other ps c.a x.a (pos 0) (pos 0) na) (tight k d l)
+
+place_sum-none : (capacities : List ℕ) (qs : List ℤ) → ((b : ℕ) → (price_of qs b ≡ pos 0) ⊎ (capacity_of capacities b ≡ 0)) → place_sum capacities qs ≡ pos 0
+place_sum-none [] qs h = refl
+place_sum-none (n ∷ ns) [] h = refl
+place_sum-none (n ∷ ns) (q ∷ qs) h =
+    let rest = place_sum-none ns qs (λ b. h (suc b)) in
+    elim (h zero) [
+      | inl e ↦ (let q0 : q ≡ pos 0 = e in rw q0 (omega (arith, ints, rest)))
+      | inr e ↦ (let n0 : n ≡ 0 = e in rw n0 (omega (arith, ints, rest)))
+    ]
+
+filled-tail : (capacities : List ℕ) (qs : List ℤ) (c : Candidate) (cs : List Candidate) → 0 < capacity_of capacities c.b → ((b : ℕ) → (price_of qs b ≡ pos 0) ⊎ (links_at b (c ∷ cs) ≡ capacity_of capacities b)) → (b : ℕ) → (price_of qs b ≡ pos 0) ⊎ (links_at b cs ≡ capacity_of (one_less capacities c.b) b)
+filled-tail capacities qs c cs some h b = elim (h b) [
+  | inl e ↦ inl e
+  | inr e ↦ inr (elim (cases_eq c.b b) [
+    | inl q ↦
+        (let same : capacity_of (one_less capacities c.b) b ≡ capacity_of capacities c.b - 1 = rw (← q) (get_or-set_same capacities c.b (capacity_of capacities c.b - 1) 0 (place_there capacities c.b some)) in
+        let at : capacity_of capacities c.b ≡ capacity_of capacities b = ap (capacity_of capacities) q in
+        omega (arith, same, at, e, links_at-here b c cs q))
+    | inr n ↦
+        (let keeps : capacity_of (one_less capacities c.b) b ≡ capacity_of capacities b = get_or-set_other capacities c.b b (capacity_of capacities c.b - 1) 0 (λ q. n (sym q)) in
+        omega (arith, keeps, e, links_at-other b c cs n))
+  ])
+]
+
+pub sums_from_tight : (links : List Candidate) (capacities : List ℕ) (ps qs : List ℤ) → AreApart links → ((b : ℕ) → links_at b links ≤ capacity_of capacities b) → All (IsTight ps qs) links → ((position : ℕ) → All (λ c. c.a ≢ position) links → price_of ps position ≡ pos 0) → ((b : ℕ) → (price_of qs b ≡ pos 0) ⊎ (links_at b links ≡ capacity_of capacities b)) → (price_sum ps +ℤ place_sum capacities qs) ≡ worth links
+sums_from_tight [] capacities ps qs apart fits tight none filled =
+    omega (arith, ints, price_sum-zero ps (λ position. none position (All-nil (λ c. c.a ≢ position))), place_sum-none capacities qs (λ b. elim (filled b) [ inl e ↦ inl e | inr e ↦ inr (sym e) ]))
+sums_from_tight (c ∷ cs) capacities ps qs apart fits tight none filled =
+    let some : 0 < capacity_of capacities c.b = omega (arith, links_at-here c.b c cs refl, fits c.b) in
+    let head = AllPairs-head (λ (x y : Candidate). x.a ≢ y.a) c cs apart in
+    let rest = sums_from_tight cs (one_less capacities c.b) (without ps c.a) qs (AllPairs-tail (λ (x y : Candidate). x.a ≢ y.a) c cs apart) (fits-tail capacities c cs fits) (tight-without_a ps qs c cs head (All-tail (IsTight ps qs) c cs tight))
+    (λ position absent. absent-without ps c.a position (λ n. none position (All-cons (λ d. d.a ≢ position) c cs (λ e. n (sym e)) absent)))
+    (filled-tail capacities qs c cs some filled) in
+    omega (arith, ints, rest, All-head (IsTight ps qs) c cs tight, price_sum-without ps c.a, place_sum-one_less capacities qs c.b some)
+
+-- Candidates and edges.
+
+pub record Makes (c : Candidate) (e : Edge) : Type 0 where
+  pub record_a : c.a ≡ e.a
+  pub record_b : c.b ≡ e.b
+  pub value : c.value ≡ pos e.value
+  pub is : is_positive c.value ≡ true
+
+makes_at : (c : Candidate) (e : Edge) (v : ℤ) → c.value ≡ v → with_value c (positive v) ≡ Some e → Makes c e
+makes_at c e (pos zero) is h = absurd cc
+makes_at c e (pos (suc n)) is h = (let same : record { a = c.a; b = c.b; value = suc n } ≡ e = cc in rw (← same) (record { record_a = refl; record_b = refl; value = is; is = ap is_positive is }))
+makes_at c e (negsuc n) is h = absurd cc
+
+kept_head : (c : Candidate) (cs : List Candidate) (es : List Edge) → ((k : ℕ) → k < length es → (d : Candidate) × (Contains cs d × Makes d (edge es k))) → (o : Option Edge) → edge_from c ≡ o → (k : ℕ) → k < length (cons_option o es) → (d : Candidate) × (Contains (c ∷ cs) d × Makes d (edge (cons_option o es) k))
+kept_head c cs es rest None e k lt = (let r = rest k lt in (r.0, (Contains-later c cs r.0 r.1.0, r.1.1)))
+kept_head c cs es rest (Some y) e zero lt = (c, ((zero, omega arith, refl), makes_at c y c.value refl e))
+kept_head c cs es rest (Some y) e (suc k) lt = (let r = rest k (omega arith) in (r.0, (Contains-later c cs r.0 r.1.0, r.1.1)))
+
+pub edge_kept : (cs : List Candidate) (k : ℕ) → k < length (edges_of cs) → (c : Candidate) × (Contains cs c × Makes c (edge (edges_of cs) k))
+edge_kept [] k lt = absurd (omega arith)
+edge_kept (c ∷ cs) k lt = kept_head c cs (edges_of cs) (edge_kept cs) (edge_from c) refl k lt
+
+made_shift : (o : Option Edge) (es : List Edge) (e : Edge) → (k : ℕ) × ((k < length es) × (edge es k ≡ e)) → (k : ℕ) × ((k < length (cons_option o es)) × (edge (cons_option o es) k ≡ e))
+made_shift None es e h = h
+made_shift (Some y) es e h = (suc h.0, (omega (arith, h.1.0), h.1.1))
+
+made_head : (y c : Candidate) (ys : List Candidate) (e : Edge) → edge_from c ≡ Some e → (Contains ys c → (k : ℕ) × ((k < length (edges_of ys)) × (edge (edges_of ys) k ≡ e))) → (k : ℕ) → k < length (y ∷ ys) → get_or (y ∷ ys) k c ≡ c → (k : ℕ) × ((k < length (edges_of (y ∷ ys))) × (edge (edges_of (y ∷ ys)) k ≡ e))
+made_head y c ys e is rest zero lt same = (let o : edge_from y ≡ Some e = ap edge_from same ∙ is in rw o (zero, (omega arith, refl)))
+made_head y c ys e is rest (suc k) lt same = made_shift (edge_from y) (edges_of ys) e (rest (k, omega arith, same))
+
+pub edge_made : (cs : List Candidate) (c : Candidate) (n : ℕ) → Contains cs c → c.value ≡ pos (suc n) → (k : ℕ) × ((k < length (edges_of cs)) × (edge (edges_of cs) k ≡ record { a = c.a; b = c.b; value = suc n }))
+edge_made [] c n inside is = absurd (omega (arith, inside.1))
+edge_made (y ∷ ys) c n inside is = made_head y c ys (record { a = c.a; b = c.b; value = suc n }) (ap (λ v. with_value c (positive v)) is) (λ h. edge_made ys c n h is) inside.0 inside.1 inside.2
+
+-- Prices as integers.
+
+pub price_of-prices : (ps : List ℕ) (position : ℕ) → price_of (prices_of ps) position ≡ pos (number ps position)
+price_of-prices [] position = refl
+price_of-prices (p ∷ ps) zero = refl
+price_of-prices (p ∷ ps) (suc position) = price_of-prices ps position
+
+pub floored : (ps : List ℕ) → All (λ p. pos 0 ≤ℤ p) (prices_of ps)
+floored [] = All-nil (λ p. pos 0 ≤ℤ p)
+floored (p ∷ ps) = All-cons (λ p. pos 0 ≤ℤ p) (pos p) (prices_of ps) (omega (arith, ints)) (floored ps)
+
+-- what a linked candidate says
+pub record IsLinkedBy (es : List Edge) (la : List (Option ℕ)) (c : Candidate) (k : ℕ) : Type 0 where
+  pub on : link la c.a ≡ Some k
+  pub record_b : (edge es k).b ≡ c.b
+  pub is : is_positive c.value ≡ true
+
+linked_case : (es : List Edge) (la : List (Option ℕ)) (c : Candidate) (x : Option ℕ) → link la c.a ≡ x → links_to es c x ≡ true → (k : ℕ) × IsLinkedBy es la c k
+linked_case es la c None e h = absurd (false≢true h)
+linked_case es la c (Some k) e h = (k, record { on = e; record_b = grind (arith, nat_tests); is = grind (arith, nat_tests) })
+
+pub linked_by : (es : List Edge) (la : List (Option ℕ)) (c : Candidate) → is_linked es la c ≡ true → (k : ℕ) × IsLinkedBy es la c k
+linked_by es la c h = linked_case es la c (link la c.a) refl h
+
+pub is_linked_from : (es : List Edge) (la : List (Option ℕ)) (c : Candidate) (k : ℕ) → link la c.a ≡ Some k → (edge es k).b ≡ c.b → is_positive c.value ≡ true → is_linked es la c ≡ true
+is_linked_from es la c k on b is = rw (on, is) (grind (arith, nat_tests))
+
+-- The links of a list are those of its records of A.
+
+-- the links that are counted at a record of B are the members that stand there
+pub counted_members : (es : List Edge) (links : List Candidate) (la : List (Option ℕ)) (b : ℕ) → AreApart links → ((c : Candidate) → Contains links c → (k : ℕ) × ((link la c.a ≡ Some k) × ((edge es k).b ≡ c.b))) → ((a k : ℕ) → link la a ≡ Some k → (c : Candidate) × (Contains links c × (c.a ≡ a))) → linked_at es la b ≡ links_at b links
+counted_members es [] la b apart of_member of_link = none_counted la (λ a k on. (let m = of_link a k on in omega (arith, m.1.0.1)))
+  where
+    none_counted : (la : List (Option ℕ)) → ((a k : ℕ) → link la a ≡ Some k → ⊥) → linked_at es la b ≡ 0
+    none_counted la none = elim (cases_lt 0 (linked_at es la b)) [
+      | inl some ↦ (let p = counted_link es la b some in absurd (none p.0 p.1.0 p.1.1.0))
+      | inr zero' ↦ omega arith
+    ]
+counted_members es (c ∷ cs) la b apart of_member of_link =
+    let mine = of_member c (zero, omega arith, refl) in
+    let k = mine.0 in
+    let there = link_there la c.a k mine.1.0 in
+    let head = AllPairs-head (λ (x y : Candidate). x.a ≢ y.a) c cs apart in
+    let other : (d : Candidate) → Contains cs d → d.a ≢ c.a = λ d inside e. All-contains (λ (x : Candidate). c.a ≢ x.a) cs d head inside (sym e) in
+    let rest = counted_members es cs (set la c.a None) b (AllPairs-tail (λ (x y : Candidate). x.a ≢ y.a) c cs apart)
+    (λ d inside. (let m = of_member d (Contains-later c cs d inside) in (m.0, (get_or-set_other la c.a d.a None None (other d inside) ∙ m.1.0, m.1.1))))
+    (λ a j on. elim (link-set la c.a a None there) [
+      | inl p ↦ absurd (let clash : None ≡ Some j = sym p.1 ∙ on in cc)
+      | inr p ↦ (let m = of_link a j (sym p.1 ∙ on) in (m.0, (of_rest c cs m.0 m.1.0 (λ e. p.0 (sym m.1.1 ∙ ap (λ (x : Candidate). x.a) e)), m.1.1)))
+    ]) in
+    let less : linked_at es (set la c.a None) b + tick ((edge es k).b == b) ≡ linked_at es la b + 0 = rw mine.1.0 at (linked_at-set es la c.a None b there) in
+    elim (cases_eq c.b b) [
+      | inl e ↦ (let on : tick ((edge es k).b == b) ≡ 1 = (let yes : ((edge es k).b == b) ≡ true = grind (arith, nat_tests, mine.1.1) in rw yes refl) in omega (arith, rest, less, on, links_at-here b c cs e))
+      | inr n ↦ (let off : tick ((edge es k).b == b) ≡ 0 = (let no : ((edge es k).b == b) ≡ false = grind (arith, nat_tests, mine.1.1) in rw no refl) in omega (arith, rest, less, off, links_at-other b c cs n))
+    ]
+  where
+    of_rest : (c : Candidate) (cs : List Candidate) (d : Candidate) → Contains (c ∷ cs) d → d ≢ c → Contains cs d
+    of_rest c cs d h ne = at h.0 h.1 h.2
+      where
+        at : (k : ℕ) → k < length (c ∷ cs) → get_or (c ∷ cs) k d ≡ d → Contains cs d
+        at zero lt e = absurd (ne (sym e))
+        at (suc k) lt e = (k, omega arith, e)
+
+module _ (cs : List Candidate) (capacities pa pb : List ℕ) (la : List (Option ℕ)) (s : Seating) (rising : AllPairs IsBefore cs) (w : IsBetween (edges_of cs) pa pb la s (length pa)) (places : (b : ℕ) → number s.left b + linked_at (edges_of cs) la b ≡ capacity_of capacities b) where
+  abbrev es : List Edge
+  es = edges_of cs
+
+  abbrev test : Candidate → Bool
+  test c = is_linked es la c
+
+  abbrev links : List Candidate
+  links = filter test cs
+
+  all_linked : All (λ c. test c ≡ true) links
+  all_linked = filter_passes test cs
+
+  all_among : All (Contains cs) links
+  all_among = All-filter test (Contains cs) cs (All-contains_itself cs)
+
+  -- two linked candidates in order are not of one record of A
+  share_at : (x y : Candidate) (k j : ℕ) → IsLinkedBy es la x k → IsLinkedBy es la y j → IsBefore x y → x.a ≢ y.a
+  share_at x y k j hx hy before = λ e.
+      let on : link la x.a ≡ Some j = rw e hy.on in
+      let same : k ≡ j = cc (hx.on, on) in
+      clash x y before e (sym hx.record_b ∙ (ap (λ n. (edge es n).b) same ∙ hy.record_b))
+
+  share_none : (x y : Candidate) → test x ≡ true → test y ≡ true → IsBefore x y → x.a ≢ y.a
+  share_none x y tx ty before = (let hx = linked_by es la x tx in let hy = linked_by es la y ty in share_at x y hx.0 hy.0 hx.1 hy.1 before)
+
+  apart : AreApart links
+  apart = λ i j d lt m. share_none (get_or links i d) (get_or links j d) (all_linked i d (omega arith)) (all_linked j d m) (AllPairs-filter IsBefore test cs rising i j d lt m)
+
+  -- each candidate is covered
+  covered_at : (c : Candidate) (v : ℤ) → Contains cs c → c.value ≡ v → v ≤ℤ (price_of (prices_of pa) c.a +ℤ price_of (prices_of pb) c.b)
+  covered_at c (pos zero) inside is = rw (price_of-prices pa c.a, price_of-prices pb c.b) (omega (arith, ints))
+  covered_at c (negsuc n) inside is = rw (price_of-prices pa c.a, price_of-prices pb c.b) (omega (arith, ints))
+  covered_at c (pos (suc n)) inside is =
+      let m = edge_made cs c n inside is in
+      let here = w.covered m.0 m.1.0 in
+      let here' : suc n ≤ number pa c.a + number pb c.b = rw m.1.1 at here in
+      rw (price_of-prices pa c.a, price_of-prices pb c.b) (omega (arith, ints, here'))
+
+  pub all_covered : All (IsCovered (prices_of pa) (prices_of pb)) cs
+  all_covered = λ k d lt. covered_at (get_or cs k d) (get_or cs k d).value (All-contains_itself cs k d lt) refl
+
+  -- a linked candidate is the one of its edge, and tight
+  tight_at : (c : Candidate) → Contains cs c → test c ≡ true → IsTight (prices_of pa) (prices_of pb) c
+  tight_at c inside t =
+      let h = linked_by es la c t in
+      let p = w.linked c.a h.0 h.1.on in
+      let kept = edge_kept cs h.0 p.0 in
+      let same : kept.0 ≡ c = same_member cs kept.0 c rising kept.1.0 inside (kept.1.1.record_a ∙ p.1) (kept.1.1.record_b ∙ h.1.record_b) in
+      let value : c.value ≡ pos (edge es h.0).value = rw same at kept.1.1.value in
+      let on : link la (edge es h.0).a ≡ Some h.0 = rw p.1 h.1.on in
+      let tight : number pa c.a + number pb c.b ≡ (edge es h.0).value = rw (p.1, h.1.record_b) at (w.tight h.0 on) in
+      rw (price_of-prices pa c.a, price_of-prices pb c.b) (omega (arith, ints, value, tight))
+
+  pub all_tight : All (IsTight (prices_of pa) (prices_of pb)) links
+  all_tight = λ k d lt. tight_at (get_or links k d) (all_among k d lt) (all_linked k d lt)
+
+  -- the candidate of a linked edge is linked
+  link_member : (a k : ℕ) → link la a ≡ Some k → (c : Candidate) × (Contains links c × (c.a ≡ a))
+  link_member a k on =
+      let m = w.linked a k on in
+      let kept = edge_kept cs k m.0 in
+      let at : kept.0.a ≡ a = kept.1.1.record_a ∙ m.1 in
+      let t : test kept.0 ≡ true = is_linked_from es la kept.0 k (rw at on) (sym kept.1.1.record_b) kept.1.1.is in
+      (kept.0, (Contains-filter test cs kept.0 kept.1.0 t, at))
+
+  member_link : (c : Candidate) → Contains links c → (k : ℕ) × ((link la c.a ≡ Some k) × ((edge es k).b ≡ c.b))
+  member_link c inside = (let h = linked_by es la c (All-contains (λ c. test c ≡ true) links c all_linked inside) in (h.0, (h.1.on, h.1.record_b)))
+
+  pub counted : (b : ℕ) → linked_at es la b ≡ links_at b links
+  counted b = counted_members es links la b apart member_link link_member
+
+  absent_a : (position : ℕ) → All (λ c. c.a ≢ position) links → price_of (prices_of pa) position ≡ pos 0
+  absent_a position absent = price_of-prices pa position ∙ ap pos (elim (link_cases la position) [
+    | inl none ↦ elim (cases_lt position (length pa)) [ inl lt ↦ w.free_a position lt none | inr past ↦ get_or_past pa position 0 past ]
+    | inr p ↦ (let c = link_member position p.0 p.1 in absurd (All-contains (λ c. c.a ≢ position) links c.0 absent c.1.0 c.1.1))
+  ])
+
+  filled : (b : ℕ) → (price_of (prices_of pb) b ≡ pos 0) ⊎ (links_at b links ≡ capacity_of capacities b)
+  filled b = elim (cases_lt 0 (number s.left b)) [
+    | inl some ↦ inl (price_of-prices pb b ∙ ap pos (w.free_b b some))
+    | inr full ↦ inr (omega (arith, full, places b, counted b))
+  ]
+
+  pub within : IsWithinCapacities cs capacities links
+  within = record {
+    among = all_among;
+    rising = AllPairs-filter IsBefore test cs rising;
+    apart = apart;
+    fits = λ b. omega (arith, places b, counted b);
+  }
+
+  pub certifies : CertifiesWithin cs capacities links (prices_of pa) (prices_of pb)
+  certifies = record {
+    floor_a = floored pa;
+    floor_b = floored pb;
+    covered = all_covered;
+    balanced = sums_from_tight links capacities (prices_of pa) (prices_of pb) apart (λ b. within.fits b) all_tight absent_a filled;
+  }
+
+-- What holds before the first round.
+
+pub range_edges : (cs : List Candidate) (rows_a rows_b : ℕ) → All (IsWithin rows_a rows_b) cs → IsInRange (edges_of cs) rows_a rows_b
+range_edges cs rows_a rows_b within = record {
+  record_a = λ k lt. (let c = edge_kept cs k lt in rw (← c.1.1.record_a) (All-contains (IsWithin rows_a rows_b) cs c.0 within c.1.0).0);
+  record_b = λ k lt. (let c = edge_kept cs k lt in rw (← c.1.1.record_b) (All-contains (IsWithin rows_a rows_b) cs c.0 within c.1.0).1);
+}
+
+pub small_edges : (cs : List Candidate) → All HasSmallValue cs → AreSmall (edges_of cs)
+small_edges cs small k = elim (cases_lt k (length (edges_of cs))) [
+  | inl lt ↦ (let c = edge_kept cs k lt in omega (arith, ints, c.1.1.value, All-contains HasSmallValue cs c.0 small c.1.0))
+  | inr past ↦ rw (get_or_past (edges_of cs) k no_edge past) (omega arith)
+]
+
+rising_cons : (y : Edge) (es : List Edge) → ((j : ℕ) → j < length es → y.a ≤ (edge es j).a) → IsRising es → IsRising (y ∷ es)
+rising_cons y es head tail zero zero le lt = omega arith
+rising_cons y es head tail zero (suc j) le lt = head j (omega arith)
+rising_cons y es head tail (suc i) zero le lt = absurd (omega arith)
+rising_cons y es head tail (suc i) (suc j) le lt = tail i j (omega arith) (omega arith)
+
+rising_head : (c : Candidate) (es : List Edge) → ((j : ℕ) → j < length es → c.a ≤ (edge es j).a) → IsRising es → (o : Option Edge) → edge_from c ≡ o → IsRising (cons_option o es)
+rising_head c es head tail None e = tail
+rising_head c es head tail (Some y) e = (let m = makes_at c y c.value refl e in rising_cons y es (λ j lt. rw (← m.record_a) (head j lt)) tail)
+
+before_le : (x y : Candidate) → IsBefore x y → x.a ≤ y.a
+before_le x y (inl p) = omega (arith, p)
+before_le x y (inr p) = omega (arith, p.0)
+
+pub rising_edges : (cs : List Candidate) → AllPairs IsBefore cs → IsRising (edges_of cs)
+rising_edges [] h = λ i j le lt. absurd (omega (arith, lt))
+rising_edges (c ∷ cs) h = rising_head c (edges_of cs)
+    (λ j lt. (let d = edge_kept cs j lt in rw (← d.1.1.record_a) (before_le c d.0 (All-contains (IsBefore c) cs d.0 (AllPairs-head IsBefore c cs h) d.1.0))))
+    (rising_edges cs (AllPairs-tail IsBefore c cs h)) (edge_from c) refl
+
+none_linked : (n r : ℕ) → link (replicate n None) r ≡ None
+none_linked n r = elim (cases_lt r n) [ inl lt ↦ get_or-replicate n r None None lt | inr past ↦ get_or_past (replicate n None) r None (omega (arith, length-replicate {A = Option ℕ} n None)) ]
+
+none_at : (es : List Edge) (n b : ℕ) → linked_at es (replicate n None) b ≡ 0
+none_at es n b = elim (cases_lt 0 (linked_at es (replicate n None) b)) [
+  | inl some ↦ (let p = counted_link es (replicate n None) b some in absurd (let none = none_linked n p.0 in let on = p.1.1.0 in cc))
+  | inr none ↦ omega arith
+]
+
+pub between_first : (cs : List Candidate) (rows_a : ℕ) (capacities pa pb : List ℕ) (s : Seating) → All (IsWithin rows_a (length capacities)) cs → AreClosed (edges_of cs) capacities pb → ReachAll (edges_of cs) rows_a pa pb → AreEmpty rows_a capacities s → IsBetween (edges_of cs) pa pb (replicate rows_a None) s 0
+between_first cs rows_a capacities pa pb s within closed r empty = record {
+  rows_a = length-replicate rows_a None ∙ sym r.records;
+  rows_b = rw empty.left (sym closed.records);
+  in_range = rw (r.records, closed.records) (range_edges cs rows_a (length capacities) within);
+  covered = r.covered;
+  small_a = r.small;
+  small_b = closed.small;
+  linked = λ a k h. absurd (let none = none_linked rows_a a in cc);
+  tight = λ k h. absurd (let none = none_linked rows_a (edge (edges_of cs) k).a in cc);
+  seated = record {
+    seats = empty.seats ∙ sym (length-replicate rows_a None);
+    rows = empty.rows ∙ sym (length-replicate rows_a None);
+    owners = empty.owners ∙ sym (length-replicate rows_a None);
+    earliers = empty.earliers ∙ sym (length-replicate rows_a None);
+    lasts = rw (empty.lasts, empty.left) (length-replicate (length capacities) None);
+    room = rw empty.count (omega (arith, few (replicate rows_a None)));
+    seated = λ a k h. absurd (let none = none_linked rows_a a in cc);
+    filled = λ n lt. absurd (omega (arith, lt, empty.count));
+    chains = record {
+      last = λ b. rw (empty.lasts, empty.count, none_linked (length capacities) b) (λ m lt e. omega (arith, lt));
+      earlier = λ n lt. absurd (omega (arith, lt, empty.count));
+    };
+  };
+  free_a = λ a lt none. absurd (omega (arith, lt));
+  free_b = λ b some. closed.vacant b (rw empty.left at some);
+  closed = λ b k full lt ends.
+      let none : capacity_of capacities (edge (edges_of cs) k).b ≡ 0 = rw (ends, ← empty.left) (omega (arith, full)) in
+      rw (← ends) (closed.covered k lt none);
+}
+  where
+    few : (la : List (Option ℕ)) → free_rows la ≤ length la
+    few la = count_by-le-length is_none la
+
+pub places_first : (cs : List Candidate) (rows_a : ℕ) (capacities : List ℕ) (s : Seating) (b : ℕ) → AreEmpty rows_a capacities s → number s.left b + linked_at (edges_of cs) (replicate rows_a None) b ≡ capacity_of capacities b
+places_first cs rows_a capacities s b empty = (let left : number s.left b ≡ capacity_of capacities b = ap (λ n. number n b) empty.left in omega (arith, left, none_at (edges_of cs) rows_a b))

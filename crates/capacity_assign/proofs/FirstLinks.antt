@@ -1,0 +1,51 @@
+-- A link over a tight edge, whose record of A has no link and whose record of B a place left.
+use Rattle.std.proofs.Common.{◌≡◌, ◌==◌, ℕ, ◌+◌, ◌<◌, List, length, set, Option, Some, None, false, refl, sym, ◌∙◌, arith}
+use Rattle.std.specs.Option.{is_some}
+use Rattle.std.proofs.lemmas.Bool.{false≢true}
+use Rattle.std.proofs.lemmas.List.{length-set}
+use Rattle.assignment_laws.proofs.Places.{place_there}
+use Rattle.capacity_assign.specs.declared.market.Edge.{Edge}
+use Rattle.capacity_assign.specs.Core.{IsTight, edge, link, linked_at, number}
+use Rattle.capacity_assign.specs.Round.{IsBetween, KeepsPlaces}
+use Rattle.capacity_assign.specs.Seating.{AddsSeat, Seating, free_rows}
+use Rattle.capacity_assign.proofs.Links.{free_row_counts, free_rows-set, linked_at-set, linked_set, tick}
+use Rattle.capacity_assign.proofs.Seating.{places_after_added, all_taken, seats_after_added, vacant_after_added}
+use Rattle.capacity_assign.proofs.Ways.{tight_turned}
+
+module _ (es : List Edge) (pa pb : List ℕ) (la : List (Option ℕ)) (s t : Seating) (k : ℕ) (w : IsBetween es pa pb la s 0) (lt : k < length es) (none : link la (edge es k).a ≡ None) (some : 0 < number s.left (edge es k).b) (adds : AddsSeat s t (edge es k).b) where
+  abbrev a : ℕ
+  a = (edge es k).a
+
+  ra : a < length la
+  ra = omega (arith, w.in_range.record_a k lt, w.rows_a)
+
+  one_more : (x : ℕ) → linked_at es (set la a (Some k)) x ≡ linked_at es la x + tick ((edge es k).b == x)
+  one_more x = (let e : linked_at es (set la a (Some k)) x + 0 ≡ linked_at es la x + tick ((edge es k).b == x) = rw none at (linked_at-set es la a (Some k) x ra) in omega (arith, e))
+
+  pub places_linked : KeepsPlaces es la s.left (set la a (Some k)) t.left
+  places_linked = rw adds.left (places_after_added es la (set la a (Some k)) s.left (edge es k).b some one_more)
+
+  pub between_linked : IsTight es pa pb k → IsBetween es pa pb (set la a (Some k)) (record t { seat = set t.seat a s.count; row = set t.row s.count a }) 0
+  between_linked tight =
+      let rooms = free_row_counts la a ra none in
+      let fewer : free_rows (set la a (Some k)) + 1 ≡ free_rows la = (let e : free_rows (set la a (Some k)) + 1 ≡ free_rows la + 0 = rw none at (free_rows-set la a (Some k) ra) in omega (arith, e)) in
+      let count : s.count < length s.row = omega (arith, w.seated.room, w.seated.rows, rooms) in
+      record {
+        rows_a = rw length-set w.rows_a;
+        rows_b = rw (adds.left, length-set) w.rows_b;
+        in_range = w.in_range;
+        covered = w.covered;
+        small_a = w.small_a;
+        small_b = w.small_b;
+        linked = linked_set es la k w.linked lt ra;
+        tight = tight_turned es pa pb la k ra w.tight tight;
+        seated = seats_after_added es la (set la a (Some k)) s t (edge es k).b (set t.seat a s.count) (set t.row s.count a) w.seated adds (place_there s.left (edge es k).b some) rooms (length-set la a (Some k)) fewer (length-set t.seat a s.count) (length-set t.row s.count a)
+            (λ h. all_taken es la t.seat t.row t.owner t.count (edge es k).b s.count k h refl ra (rw adds.seat w.seated.seats) (rw adds.row count) none);
+        free_a = λ r low free. absurd (omega arith);
+        free_b = λ b left. w.free_b b (vacant_after_added s.left (edge es k).b some b (rw adds.left at left));
+        closed = λ b j full ltj ends. w.closed b j (sym (places_linked b) ∙ full) ltj ends;
+      }
+
+pub not_linked : (x : Option ℕ) → is_some x ≡ false → x ≡ None
+not_linked None h = refl
+not_linked (Some k) h = absurd (false≢true (sym h))

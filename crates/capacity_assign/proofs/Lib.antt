@@ -1,0 +1,8 @@
+pub mod Links
+pub mod Seating
+pub mod Ways
+pub mod FirstLinks
+pub mod Count
+pub mod Growing
+pub mod Rounds
+pub mod Final

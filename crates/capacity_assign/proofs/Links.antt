@@ -1,0 +1,82 @@
+-- What one write of a link does to the links, and to how many there are.
+use Rattle.std.proofs.Common.{◌≡◌, ◌≢◌, ◌⊎◌, ◌==◌, ℕ, zero, suc, ◌+◌, ◌<◌, List, [], ◌∷◌, length, set, Bool, true, false, cond, Option, Some, None, refl, sym, ◌∙◌, inl, inr, arith, get_or-set_other, get_or-set_same}
+use Rattle.std.specs.Prelude.{is_none}
+use Rattle.std.proofs.lemmas.Bool.{cases_eq, cases_lt}
+use Rattle.std.proofs.lemmas.Bool.Decides.{nat_tests}
+use Rattle.std.proofs.lemmas.List.{get_or_past}
+use Rattle.std.proofs.lemmas.List.Sums.{sum_by-cons, sum_by-set}
+use Rattle.capacity_assign.specs.declared.market.Edge.{Edge}
+use Rattle.capacity_assign.specs.Core.{AreLinked, edge, leads_to, link, linked_at}
+use Rattle.capacity_assign.specs.Seating.{free_rows}
+
+-- a link, or none
+pub link_cases : (l : List (Option ℕ)) (r : ℕ) → (link l r ≡ None) ⊎ ((k : ℕ) × (link l r ≡ Some k))
+link_cases l r = go (link l r) refl
+  where
+    go : (x : Option ℕ) → link l r ≡ x → (link l r ≡ None) ⊎ ((k : ℕ) × (link l r ≡ Some k))
+    go None e = inl e
+    go (Some k) e = inr (k, e)
+
+-- a record with a link is there
+pub link_there : (l : List (Option ℕ)) (r k : ℕ) → link l r ≡ Some k → r < length l
+link_there l r k on = elim (cases_lt r (length l)) [ inl lt ↦ lt | inr past ↦ absurd (let none = get_or_past l r None past in cc) ]
+
+-- the links after one write
+pub link-set : (l : List (Option ℕ)) (i j : ℕ) (x : Option ℕ) → i < length l → ((j ≡ i) × (link (set l i x) j ≡ x)) ⊎ ((j ≢ i) × (link (set l i x) j ≡ link l j))
+link-set l i j x lt = elim (cases_eq j i) [ inl e ↦ inl (e, rw e (get_or-set_same l i x None lt)) | inr n ↦ inr (n, get_or-set_other l i j x None n) ]
+
+-- the record of A of edge k takes it
+pub linked_set : (es : List Edge) (la : List (Option ℕ)) (k : ℕ) → AreLinked es la → k < length es → (edge es k).a < length la → AreLinked es (set la (edge es k).a (Some k))
+linked_set es la k h lt ra a j on = elim (link-set la (edge es k).a a (Some k) ra) [
+  | inl p ↦ (let same : k ≡ j = cc in rw (← same) (lt, sym p.0))
+  | inr p ↦ h a j (sym p.1 ∙ on)
+]
+
+-- a record of A gives its link up
+pub linked_parted : (es : List Edge) (la : List (Option ℕ)) (r : ℕ) → AreLinked es la → r < length la → AreLinked es (set la r None)
+linked_parted es la r h lt a j on = elim (link-set la r a None lt) [
+  | inl p ↦ absurd (let clash : None ≡ Some j = sym p.1 ∙ on in cc)
+  | inr p ↦ h a j (sym p.1 ∙ on)
+]
+
+abbrev pub tick : Bool → ℕ
+tick b = cond b 1 0
+
+pub linked_at-set : (es : List Edge) (la : List (Option ℕ)) (a : ℕ) (x : Option ℕ) (b : ℕ) → a < length la → linked_at es (set la a x) b + tick (leads_to es b (link la a)) ≡ linked_at es la b + tick (leads_to es b x)
+linked_at-set es la a x b lt = sum_by-set (λ (o : Option ℕ). cond (leads_to es b o) 1 0) la a x None lt
+
+pub free_rows-set : (la : List (Option ℕ)) (a : ℕ) (x : Option ℕ) → a < length la → free_rows (set la a x) + tick (is_none (link la a)) ≡ free_rows la + tick (is_none x)
+free_rows-set la a x lt = sum_by-set (λ (o : Option ℕ). cond (is_none o) 1 0) la a x None lt
+
+-- a record of A without a link is counted
+pub free_row_counts : (la : List (Option ℕ)) (a : ℕ) → a < length la → link la a ≡ None → 0 < free_rows la
+free_row_counts la a lt none =
+    let some : Option ℕ = Some 0 in
+    let e = free_rows-set la a some lt in
+    let t : tick (is_none (link la a)) ≡ 1 = rw none refl in
+    let u : tick (is_none some) ≡ 0 = refl in
+    omega (arith, e, t, u)
+
+-- a link is counted at its record of B
+pub link_counts : (es : List Edge) (la : List (Option ℕ)) (a k b : ℕ) → link la a ≡ Some k → (edge es k).b ≡ b → 0 < linked_at es la b
+link_counts es la a k b on ends =
+    let e = linked_at-set es la a None b (link_there la a k on) in
+    let t : tick (leads_to es b (link la a)) ≡ 1 = (let same : ((edge es k).b == b) ≡ true = grind (arith, nat_tests) in rw (on, same) refl) in
+    let u : tick (leads_to es b None) ≡ 0 = refl in
+    omega (arith, e, t, u)
+
+-- where some are counted there is one
+pub counted_link : (es : List Edge) (la : List (Option ℕ)) (b : ℕ) → 0 < linked_at es la b → (a : ℕ) × ((k : ℕ) × ((link la a ≡ Some k) × ((edge es k).b ≡ b)))
+counted_link es [] b some = absurd (omega arith)
+counted_link es (None ∷ la) b some =
+    let e = sum_by-cons (λ (o : Option ℕ). cond (leads_to es b o) 1 0) None la in
+    let r = counted_link es la b (omega (arith, e)) in
+    (suc r.0, r.1)
+counted_link es (Some k ∷ la) b some = elim (cases_eq (edge es k).b b) [
+  | inl same ↦ (zero, (k, (refl, same)))
+  | inr n ↦
+      (let t : tick ((edge es k).b == b) ≡ 0 = (let off : ((edge es k).b == b) ≡ false = grind (arith, nat_tests) in rw off refl) in
+      let e = sum_by-cons (λ (o : Option ℕ). cond (leads_to es b o) 1 0) (Some k) la in
+      let r = counted_link es la b (omega (arith, e, t)) in
+      (suc r.0, r.1))
+]

@@ -1,0 +1,188 @@
+-- Ways to a root, and what turning one link round leaves of them.
+use Rattle.std.proofs.Common.{◌≡◌, ◌≢◌, ◌⊎◌, ℕ, zero, suc, ◌==◌, ◌+◌, ◌<◌, cond, List, length, set, Option, Some, None, MatchOption, refl, ap, sym, ◌∙◌, inl, inr, arith, get_or-set_other, get_or-set_same}
+use Rattle.std.proofs.lemmas.List.{length-set}
+use Rattle.capacity_assign.specs.declared.market.Edge.{Edge}
+use Rattle.capacity_assign.specs.declared.market.Hole.{Hole}
+use Rattle.capacity_assign.specs.Core.{AreLinked, IsHop, AreTight, IsTight, link, edge, above, number, Leads, Reseats, linked_at}
+use Rattle.capacity_assign.specs.Seating.{AreAllSeated, HasHole, free_rows}
+use Rattle.capacity_assign.proofs.Links.{link-set, linked_set, linked_at-set, free_rows-set}
+use Rattle.capacity_assign.proofs.Seating.{all_taken, seat_left}
+
+-- a way that stands below a record is not touched by a change of that record's link
+pub leads_below : (es : List Edge) (pa pb : List ℕ) (la : List (Option ℕ)) (from rank : List ℕ) (root : ℕ) (a : ℕ) (x : Option ℕ) (n b : ℕ) → number rank (above es from b) < number rank a → Leads es pa pb la from rank root n b → Leads es pa pb (set la a x) from rank root n b
+leads_below es pa pb la from rank root a x zero b low h = h
+leads_below es pa pb la from rank root a x (suc n) b low h =
+    let other : above es from b ≢ a = λ e. (let same : number rank (above es from b) ≡ number rank a = ap (number rank) e in omega (arith, same)) in
+    let keeps = get_or-set_other la a (above es from b) x None other in (
+      h.0,
+      elim h.1 [
+        | inl p ↦ inl (p.0, keeps ∙ p.1)
+        | inr p ↦ inr (p.0, (keeps ∙ p.1.0, p.1.1, leads_below es pa pb la from rank root a x n (edge es p.0).b (omega (arith, p.1.1)) p.1.2))
+      ],
+    )
+
+-- what is tight stays so where a record takes a tight edge
+pub tight_turned : (es : List Edge) (pa pb : List ℕ) (la : List (Option ℕ)) (k : ℕ) → (edge es k).a < length la → AreTight es pa pb la → IsTight es pa pb k → AreTight es pa pb (set la (edge es k).a (Some k))
+tight_turned es pa pb la k ra tight here i h =
+    elim (link-set la (edge es k).a (edge es i).a (Some k) ra) [
+      | inl p ↦ (let same : k ≡ i = cc in rw (← same) here)
+      | inr p ↦ tight i (sym p.1 ∙ h)
+    ]
+
+pub reached_by : (es : List Edge) (pa pb : List ℕ) (la : List (Option ℕ)) (from rank : List ℕ) (root n b : ℕ) → Leads es pa pb la from rank root n b → IsHop es pa pb from b
+reached_by es pa pb la from rank root zero b h = absurd h
+reached_by es pa pb la from rank root (suc n) b h = h.0
+
+-- a way whose first record of A is linked goes on from the record of B of that link
+pub goes_on : (es : List Edge) (pa pb : List ℕ) (la : List (Option ℕ)) (from rank : List ℕ) (root n b j : ℕ) → link la (above es from b) ≡ Some j → Leads es pa pb la from rank root n b → (number rank (above es from (edge es j).b) < number rank (above es from b)) × ((m : ℕ) × Leads es pa pb la from rank root m (edge es j).b)
+goes_on es pa pb la from rank root zero b j on h = absurd h
+goes_on es pa pb la from rank root (suc n) b j on h = elim h.1 [
+  | inl p ↦ cc
+  | inr p ↦ (let same : p.0 ≡ j = cc in rw (← same) (p.1.1, (n, p.1.2)))
+]
+
+-- a way whose first record of A is not linked ends there, at the root
+pub ends_at : (es : List Edge) (pa pb : List ℕ) (la : List (Option ℕ)) (from rank : List ℕ) (root n b : ℕ) → link la (above es from b) ≡ None → Leads es pa pb la from rank root n b → above es from b ≡ root
+ends_at es pa pb la from rank root zero b none h = absurd h
+ends_at es pa pb la from rank root (suc n) b none h = elim h.1 [ inl p ↦ p.0 | inr p ↦ cc ]
+
+-- a place that is missing at a record of B
+abbrev pub one_at : ℕ → ℕ → ℕ
+one_at missing b = cond (missing == b) 1 0
+
+-- What the walk keeps, from the links and seats as they were when it began.
+pub record IsWalking (es : List Edge) (pa pb : List ℕ) (from rank : List ℕ) (root : ℕ) (hole : Hole) (la0 : List (Option ℕ)) (seat0 row0 : List ℕ) (la : List (Option ℕ)) (seat row : List ℕ) (free : Hole) : Type 0 where
+  pub rows_a : length la ≡ length la0
+  pub rows : length seat ≡ length la
+  pub seats : length row ≡ length row0
+  pub linked : AreLinked es la
+  pub tight : AreTight es pa pb la
+  pub within : (a k : ℕ) → link la a ≡ Some k → number seat a < length row
+  pub there : free.seat < length row
+  pub leads : (n : ℕ) × Leads es pa pb la from rank root n free.b
+  pub still_a : (a : ℕ) → link la a ≡ None → link la0 a ≡ None
+  pub places : (b : ℕ) → linked_at es la b + one_at free.b b ≡ linked_at es la0 b + one_at hole.b b
+  pub room : free_rows la ≡ free_rows la0
+  pub holes : (owner : List ℕ) (count : ℕ) → HasHole es la0 seat0 row0 owner count hole.b hole.seat → HasHole es la seat row owner count free.b free.seat
+
+module _ (es : List Edge) (pa pb : List ℕ) (from rank : List ℕ) (root : ℕ) (hole : Hole) (la0 : List (Option ℕ)) (seat0 row0 : List ℕ) (la : List (Option ℕ)) (seat row : List ℕ) (free : Hole) (range : (k : ℕ) → k < length es → (edge es k).a < length la0) (w : IsWalking es pa pb from rank root hole la0 seat0 row0 la seat row free) where
+  abbrev k : ℕ
+  k = number from free.b
+
+  pub hop : IsHop es pa pb from free.b
+  hop = reached_by es pa pb la from rank root w.leads.0 free.b w.leads.1
+
+  pub ra : (edge es k).a < length la
+  ra = omega (arith, range k hop.place, w.rows_a)
+
+  within_set : (a j : ℕ) → link (set la (edge es k).a (Some k)) a ≡ Some j → number (set seat (edge es k).a free.seat) a < length (set row free.seat (edge es k).a)
+  within_set a j on = rw length-set (elim (link-set la (edge es k).a a (Some k) ra) [
+    | inl p ↦ rw (p.0, get_or-set_same seat (edge es k).a free.seat 0 (omega (arith, ra, w.rows))) w.there
+    | inr p ↦ rw (get_or-set_other seat (edge es k).a a free.seat 0 p.0) (w.within a j (sym p.1 ∙ on))
+  ])
+
+  still_set : (a : ℕ) → link (set la (edge es k).a (Some k)) a ≡ None → link la0 a ≡ None
+  still_set a none = elim (link-set la (edge es k).a a (Some k) ra) [ inl p ↦ absurd (let clash : Some k ≡ None = sym p.1 ∙ none in cc) | inr p ↦ w.still_a a (sym p.1 ∙ none) ]
+
+  -- the record above leaves its link j
+  pub walking_turned : (j : ℕ) → link la (edge es k).a ≡ Some j → IsWalking es pa pb from rank root hole la0 seat0 row0 (set la (edge es k).a (Some k)) (set seat (edge es k).a free.seat) (set row free.seat (edge es k).a) (record { b = (edge es j).b; seat = number seat (edge es k).a })
+  walking_turned j linked =
+      let on = goes_on es pa pb la from rank root w.leads.0 free.b j linked w.leads.1 in
+      record {
+        rows_a = rw length-set w.rows_a;
+        rows = rw (length-set, length-set) w.rows;
+        seats = rw length-set w.seats;
+        linked = linked_set es la k w.linked hop.place ra;
+        tight = tight_turned es pa pb la k ra w.tight hop.tight;
+        within = within_set;
+        there = rw length-set (w.within (edge es k).a j linked);
+        leads = (on.1.0, leads_below es pa pb la from rank root (edge es k).a (Some k) on.1.0 (edge es j).b on.0 on.1.1);
+        still_a = still_set;
+        places = λ b. (let e : linked_at es (set la (edge es k).a (Some k)) b + one_at (edge es j).b b ≡ linked_at es la b + one_at free.b b = rw (linked, hop.ends) at (linked_at-set es la (edge es k).a (Some k) b ra) in
+            omega (arith, e, w.places b));
+        room = (let e : free_rows (set la (edge es k).a (Some k)) + 0 ≡ free_rows la + 0 = rw linked at (free_rows-set la (edge es k).a (Some k) ra) in omega (arith, e, w.room));
+        holes = λ owner count h. seat_left es la seat row owner count free.b free.seat k j (w.holes owner count h) hop.ends ra w.rows w.there linked;
+      }
+
+  -- the record above has no link
+  pub places_ended : link la (edge es k).a ≡ None → (b : ℕ) → linked_at es (set la (edge es k).a (Some k)) b ≡ linked_at es la0 b + one_at hole.b b
+  places_ended none b =
+      let e : linked_at es (set la (edge es k).a (Some k)) b + 0 ≡ linked_at es la b + one_at free.b b = rw (none, hop.ends) at (linked_at-set es la (edge es k).a (Some k) b ra) in
+      omega (arith, e, w.places b)
+
+  pub room_ended : link la (edge es k).a ≡ None → free_rows (set la (edge es k).a (Some k)) + 1 ≡ free_rows la0
+  room_ended none = (let e : free_rows (set la (edge es k).a (Some k)) + 1 ≡ free_rows la + 0 = rw none at (free_rows-set la (edge es k).a (Some k) ra) in omega (arith, e, w.room))
+
+  pub seated_ended : link la (edge es k).a ≡ None → (owner : List ℕ) (count : ℕ) → HasHole es la0 seat0 row0 owner count hole.b hole.seat → AreAllSeated es (set la (edge es k).a (Some k)) (set seat (edge es k).a free.seat) (set row free.seat (edge es k).a) owner count
+  seated_ended none owner count h = all_taken es la seat row owner count free.b free.seat k (w.holes owner count h) hop.ends ra w.rows w.there none
+
+  pub linked_ended : AreLinked es (set la (edge es k).a (Some k))
+  linked_ended = linked_set es la k w.linked hop.place ra
+
+  pub tight_ended : AreTight es pa pb (set la (edge es k).a (Some k))
+  tight_ended = tight_turned es pa pb la k ra w.tight hop.tight
+
+  pub root_ended : link la (edge es k).a ≡ None → link (set la (edge es k).a (Some k)) root ≡ None → ⊥
+  root_ended none h =
+      let is : (edge es k).a ≡ root = ends_at es pa pb la from rank root w.leads.0 free.b none w.leads.1 in
+      let at : link (set la (edge es k).a (Some k)) root ≡ Some k = rw (← is) (get_or-set_same la (edge es k).a (Some k) None ra) in
+      let clash : Some k ≡ None = sym at ∙ h in
+      cc
+
+  pub still_ended : (a : ℕ) → link (set la (edge es k).a (Some k)) a ≡ None → link la0 a ≡ None
+  still_ended = still_set
+
+-- what `reseat` did, by whether its record of A had a link
+leaves_at : (es : List Edge) (seat : List ℕ) (k : ℕ) (x : Option ℕ) (left : Hole) → MatchOption x (Some left ≡ None) (λ j. Some left ≡ Some (record { b = (edge es j).b; seat = number seat (edge es k).a })) → (j : ℕ) × ((x ≡ Some j) × (left ≡ record { b = (edge es j).b; seat = number seat (edge es k).a }))
+leaves_at es seat k None left h = absurd cc
+leaves_at es seat k (Some j) left h = (j, (refl, cc))
+
+pub walking_more : (es : List Edge) (pa pb : List ℕ) (from rank : List ℕ) (root : ℕ) (hole : Hole) (la0 : List (Option ℕ)) (seat0 row0 : List ℕ) (la la' : List (Option ℕ)) (seat seat' row row' : List ℕ) (free left : Hole) → ((k : ℕ) → k < length es → (edge es k).a < length la0) → IsWalking es pa pb from rank root hole la0 seat0 row0 la seat row free → Reseats es la seat row la' seat' row' (number from free.b) free.seat (Some left) → IsWalking es pa pb from rank root hole la0 seat0 row0 la' seat' row' left
+walking_more es pa pb from rank root hole la0 seat0 row0 la la' seat seat' row row' free left range w h =
+    let p = leaves_at es seat (number from free.b) (link la (edge es (number from free.b)).a) left h.leaves in
+    rw (h.links, h.seats, h.rows, p.1.1) (walking_turned es pa pb from rank root hole la0 seat0 row0 la seat row free range w p.0 p.1.0)
+
+pub walking_smaller : (es : List Edge) (pa pb : List ℕ) (from rank : List ℕ) (root : ℕ) (hole : Hole) (la0 : List (Option ℕ)) (seat0 row0 : List ℕ) (la la' : List (Option ℕ)) (seat seat' row row' : List ℕ) (free left : Hole) → ((k : ℕ) → k < length es → (edge es k).a < length la0) → IsWalking es pa pb from rank root hole la0 seat0 row0 la seat row free → Reseats es la seat row la' seat' row' (number from free.b) free.seat (Some left) → number rank (above es from left.b) < number rank (above es from free.b)
+walking_smaller es pa pb from rank root hole la0 seat0 row0 la la' seat seat' row row' free left range w h =
+    let p = leaves_at es seat (number from free.b) (link la (edge es (number from free.b)).a) left h.leaves in
+    rw p.1.1 (goes_on es pa pb la from rank root w.leads.0 free.b p.0 p.1.0 w.leads.1).0
+
+ends_none : (es : List Edge) (seat : List ℕ) (k : ℕ) (x y : Option ℕ) (hole : Option Hole) → x ≡ y → hole ≡ None → MatchOption x (hole ≡ None) (λ j. hole ≡ Some (record { b = (edge es j).b; seat = number seat (edge es k).a })) → y ≡ None
+ends_none es seat k x None hole e n h = refl
+ends_none es seat k x (Some j) hole e n h = absurd (let g : hole ≡ Some (record { b = (edge es j).b; seat = number seat (edge es k).a }) = rw e at h in let clash = sym n ∙ g in cc)
+
+pub not_left : (es : List Edge) (la : List (Option ℕ)) (seat row : List ℕ) (la' : List (Option ℕ)) (seat' row' : List ℕ) (k free : ℕ) → Reseats es la seat row la' seat' row' k free None → link la (edge es k).a ≡ None
+not_left es la seat row la' seat' row' k free h = ends_none es seat k (link la (edge es k).a) (link la (edge es k).a) None refl refl h.leaves
+
+-- what holds when the walk ends
+pub record HasWalked (es : List Edge) (pa pb : List ℕ) (root : ℕ) (hole : Hole) (la0 : List (Option ℕ)) (seat0 row0 : List ℕ) (la : List (Option ℕ)) (seat row : List ℕ) : Type 0 where
+  pub rows_a : length la ≡ length la0
+  pub linked : AreLinked es la
+  pub tight : AreTight es pa pb la
+  pub root_linked : link la root ≡ None → ⊥
+  pub still_a : (a : ℕ) → link la a ≡ None → link la0 a ≡ None
+  pub places : (b : ℕ) → linked_at es la b ≡ linked_at es la0 b + one_at hole.b b
+  pub room : free_rows la + 1 ≡ free_rows la0
+  pub seated : (owner : List ℕ) (count : ℕ) → HasHole es la0 seat0 row0 owner count hole.b hole.seat → AreAllSeated es la seat row owner count
+
+pub walked : (es : List Edge) (pa pb : List ℕ) (from rank : List ℕ) (root : ℕ) (hole : Hole) (la0 : List (Option ℕ)) (seat0 row0 : List ℕ) (la la' : List (Option ℕ)) (seat seat' row row' : List ℕ) (free : Hole) → ((k : ℕ) → k < length es → (edge es k).a < length la0) → IsWalking es pa pb from rank root hole la0 seat0 row0 la seat row free → Reseats es la seat row la' seat' row' (number from free.b) free.seat None → HasWalked es pa pb root hole la0 seat0 row0 la' seat' row'
+walked es pa pb from rank root hole la0 seat0 row0 la la' seat seat' row row' free range w h =
+    let none = not_left es la seat row la' seat' row' (number from free.b) free.seat h in
+    let made : HasWalked es pa pb root hole la0 seat0 row0 (set la (edge es (number from free.b)).a (Some (number from free.b))) (set seat (edge es (number from free.b)).a free.seat) (set row free.seat (edge es (number from free.b)).a) = record {
+      rows_a = rw length-set w.rows_a;
+      linked = linked_ended es pa pb from rank root hole la0 seat0 row0 la seat row free range w;
+      tight = tight_ended es pa pb from rank root hole la0 seat0 row0 la seat row free range w;
+      root_linked = root_ended es pa pb from rank root hole la0 seat0 row0 la seat row free range w none;
+      still_a = still_ended es pa pb from rank root hole la0 seat0 row0 la seat row free range w;
+      places = places_ended es pa pb from rank root hole la0 seat0 row0 la seat row free range w none;
+      room = room_ended es pa pb from rank root hole la0 seat0 row0 la seat row free range w none;
+      seated = seated_ended es pa pb from rank root hole la0 seat0 row0 la seat row free range w none;
+    } in
+    rw (h.links, h.seats, h.rows) made
+
+-- a linked record of A gives its link up: the way from its record of B stays
+pub leads_parted : (es : List Edge) (pa pb : List ℕ) (la : List (Option ℕ)) (from rank : List ℕ) (root last k : ℕ) → link la last ≡ Some k → ((last ≡ root) × (link la last ≡ None)) ⊎ ((j : ℕ) × ((link la last ≡ Some j) × (number rank (edge es (number from (edge es j).b)).a < number rank last) × ((n : ℕ) × Leads es pa pb la from rank root n (edge es j).b))) → (n : ℕ) × Leads es pa pb (set la last None) from rank root n (edge es k).b
+leads_parted es pa pb la from rank root last k on h = elim h [
+  | inl p ↦ absurd (let clash : None ≡ Some k = sym p.1 ∙ on in cc)
+  | inr p ↦ (let same : p.0 ≡ k = cc in rw (← same) (p.1.2.0, leads_below es pa pb la from rank root last None p.1.2.0 (edge es p.0).b p.1.1 p.1.2.1))
+]

@@ -1,0 +1,44 @@
+use Rattle.std.proofs.Common.{◌≡◌, ℕ, ◌+◌, length, filter, sym, ap, ◌∙◌, arith}
+use Rattle.std.proofs.lemmas.List.{get_or_default}
+use Rattle.assignment_laws.specs.Capacities.{capacity_of}
+use Rattle.capacity_assign.specs.Core.{linked_at, number}
+use Rattle.capacity_assign.specs.Round.{IsBetween}
+use Rattle.capacity_assign.specs.Seating.{seating}
+use Rattle.capacity_assign.specs.Final.{edges_of, is_linked}
+use Rattle.capacity_assign.specs.Solution.{Problem}
+use Rattle.capacity_assign.proofs.Final.{within, certifies}
+use Rattle.capacity_assign.proofs.assigner.CapacityAssigner.solve.Goals as goal
+
+pub linked-links-requires : goal.linked-links-requires
+linked-links-requires c = rw (c.deref.ensures.value, c.deref-2.ensures.value) (record { links = λ a k h. (c.run.ensures.between.linked a k h).0 })
+
+pub invariant_of-result : goal.invariant_of-result
+invariant_of-result c =
+    let r = c.run.new in (
+      λ k d lt. omega (arith, get_or_default r.price_a.items k d 0 lt, c.run.ensures.between.small_a k),
+      λ k d lt. omega (arith, get_or_default r.price_b.items k d 0 lt, c.run.ensures.between.small_b k),
+    )
+
+pub returns-clause-certified : goal.returns-clause-certified
+returns-clause-certified c =
+    let cs = c.self.inside.candidates.items in
+    let ns = c.self.inside.capacity.items in
+    let r = c.run.new in
+    let w : IsBetween (edges_of cs) r.price_a.items r.price_b.items r.link_a.items (seating r.seats) (length r.price_a.items) = rw c.self.invariant.edges at c.run.ensures.between in
+    let places : (b : ℕ) → number r.seats.left.items b + linked_at (edges_of cs) r.link_a.items b ≡ capacity_of ns b = rw c.self.invariant.edges at (λ (b : ℕ). c.run.ensures.places b ∙ c.self.invariant.places b) in
+    let e : c.linked-links.result.items ≡ filter (is_linked (edges_of cs) r.link_a.items) cs = rw (c.deref.ensures.value, c.deref-2.ensures.value, c.self.invariant.edges) at c.linked-links.ensures in
+    let view : c.args.self.candidates ≡ cs = ap (λ (v : Problem). v.candidates) (sym c.self.view_is) in
+    let view_n : c.args.self.capacities ≡ ns = ap (λ (v : Problem). v.capacities) (sym c.self.view_is) in
+    rw (view, view_n, e) (certifies cs ns r.price_a.items r.price_b.items r.link_a.items (seating r.seats) c.self.invariant.order w places)
+
+pub returns-clause-greatest : goal.returns-clause-greatest
+returns-clause-greatest c =
+    let cs = c.self.inside.candidates.items in
+    let ns = c.self.inside.capacity.items in
+    let r = c.run.new in
+    let w : IsBetween (edges_of cs) r.price_a.items r.price_b.items r.link_a.items (seating r.seats) (length r.price_a.items) = rw c.self.invariant.edges at c.run.ensures.between in
+    let places : (b : ℕ) → number r.seats.left.items b + linked_at (edges_of cs) r.link_a.items b ≡ capacity_of ns b = rw c.self.invariant.edges at (λ (b : ℕ). c.run.ensures.places b ∙ c.self.invariant.places b) in
+    let e : c.linked-links.result.items ≡ filter (is_linked (edges_of cs) r.link_a.items) cs = rw (c.deref.ensures.value, c.deref-2.ensures.value, c.self.invariant.edges) at c.linked-links.ensures in
+    let view : c.args.self.candidates ≡ cs = ap (λ (v : Problem). v.candidates) (sym c.self.view_is) in
+    let view_n : c.args.self.capacities ≡ ns = ap (λ (v : Problem). v.capacities) (sym c.self.view_is) in
+    rw (view, view_n, e) (c.certified_within_is_greatest.ensures cs ns _ _ _ (within cs ns r.price_a.items r.price_b.items r.link_a.items (seating r.seats) c.self.invariant.order w places) (certifies cs ns r.price_a.items r.price_b.items r.link_a.items (seating r.seats) c.self.invariant.order w places))

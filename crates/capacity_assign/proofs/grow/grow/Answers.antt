@@ -1,0 +1,135 @@
+use Rattle.std.proofs.Common.{◌≡◌, ◌<◌, length, sym, ◌∙◌, inl, inr, arith}
+use Rattle.std.proofs.lemmas.Bool.{false≢true}
+use Rattle.std.proofs.lemmas.List.{get_or_read}
+use Rattle.capacity_assign.specs.Growth.{growth, distance, far, places_left}
+use Rattle.capacity_assign.proofs.Growing.{grown_best, nearest_taken, tree_dropped, tree_taken, cons_first}
+use Rattle.distance_queue.proofs.Members.{Contains-cons_cases}
+use Rattle.capacity_assign.proofs.grow.grow.Goals as goal
+
+pub returns-then-tree-near-clause-grown : goal.returns-then-tree-near-clause-grown
+returns-then-tree-near-clause-grown c =
+    let e = c.in-Some.ensures in
+    let i = c.loop-near.invariant in
+    let near = nearest_taken (growth c.loop-near.tree) c.in-Some.near c.take.new.self.waiting e.inside e.least e.stays in (
+      c.loop-near.tree.frontier.waiting,
+      rw (c.best_end.ensures.end, c.best_end.ensures.free, c.best_end.ensures.last)
+          (grown_best c.args.ground (growth c.loop-near.tree) i.tree i.held (λ x h. omega (arith, near.least x h, c.if-tree-near.true))),
+    )
+
+pub index-requires : goal.index-requires
+index-requires c =
+    let late = c.loop-near.invariant.tree.late (c.in-Some.near.distance, c.in-Some.near.position) c.in-Some.ensures.inside in
+    omega (arith, late.2, c.loop-near.tree.dist_b.ok.0)
+
+pub index-requires-in-Some : goal.index-requires-in-Some
+index-requires-in-Some c =
+    let late = c.loop-near.invariant.tree.late (c.in-Some.near.distance, c.in-Some.near.position) c.in-Some.ensures.inside in
+    omega (arith, late.2, c.loop-near.tree.dist_b.ok.0, c.loop-near.invariant.room.of_b, c.requires.ready.rows_b)
+
+pub loop-near-preserved-then-index-near : goal.loop-near-preserved-then-index-near
+loop-near-preserved-then-index-near c =
+    let e = c.in-Some.ensures in
+    let n = c.in-Some.near in
+    let i = c.loop-near.invariant in
+    let r = i.room in
+    let late = i.tree.late (n.distance, n.position) e.inside in
+    let read = get_or_read c.loop-near.tree.dist_b.items n.position c.index.result.now late.2 c.index.ensures far in
+    let stale : distance c.loop-near.tree.dist_b.items n.position < n.distance = omega (arith, read, c.if-index-near.true) in
+    let taken = tree_taken c.args.ground 0 (length c.args.ground.edges.now) (growth c.loop-near.tree) (n.distance, n.position) c.take.new.self.waiting i.tree e.inside e.stays e.only in
+    record {
+      rest = i.rest;
+      held = i.held;
+      tree = tree_dropped c.args.ground 0 (length c.args.ground.edges.now) (growth c.loop-near.tree) c.take.new.self.waiting (n.distance, n.position) taken stale;
+      room = record { of_a = r.of_a; of_rank = r.of_rank; of_b = r.of_b; of_from = r.of_from; touched = r.touched; touched_room = r.touched_room; top = r.top; records = r.records; records_room = r.records_room; top_a = r.top_a; records_in = r.records_in; touched_in = r.touched_in };
+      fits = omega (arith, i.fits, e.count, e.room);
+      queue = omega (arith, i.queue, e.room);
+    }
+
+pub returns-then-index-gt0-clause-grown : goal.returns-then-index-gt0-clause-grown
+returns-then-index-gt0-clause-grown c =
+    let e = c.in-Some.ensures in
+    let n = c.in-Some.near in
+    let i = c.loop-near.invariant in
+    let t = c.loop-near.tree in
+    let late = i.tree.late (n.distance, n.position) e.inside in
+    let near = nearest_taken (growth t) n c.take.new.self.waiting e.inside e.least e.stays in
+    let read = get_or_read t.dist_b.items n.position c.index.result.now late.2 c.index.ensures far in
+    let exact : distance t.dist_b.items n.position ≡ n.distance = omega (arith, late.1, read, c.if-index-near.false) in
+    let lt : n.position < length c.args.ground.seats.now.left.items = omega (arith, late.2, t.dist_b.ok.0, i.room.of_b, c.requires.ready.rows_b, c.args.ground.seats.now.left.ok.0) in
+    let some : 0 < places_left c.args.ground n.position = (let read2 = get_or_read c.args.ground.seats.now.left.items n.position c.index-in-Some.result.now lt c.index-in-Some.ensures 0 in omega (arith, read2, c.if-index-gt0.true)) in (
+      t.frontier.waiting,
+      record {
+        tree = i.tree;
+        before_best = omega (arith, c.if-tree-near.false);
+        after = late.0;
+        least = near.least;
+        held = λ b is. absurd (let none = i.held in cc);
+        stop = (some, exact);
+      },
+    )
+
+pub settle-requires-clause-inside : goal.settle-requires-clause-inside
+settle-requires-clause-inside c =
+    let late = c.loop-near.invariant.tree.late (c.in-Some.near.distance, c.in-Some.near.position) c.in-Some.ensures.inside in
+    omega (arith, late.2, c.loop-near.tree.dist_b.ok.0, c.loop-near.invariant.room.of_b, c.requires.ready.rows_b)
+
+pub settle-requires-clause-exact : goal.settle-requires-clause-exact
+settle-requires-clause-exact c =
+    let n = c.in-Some.near in
+    let late = c.loop-near.invariant.tree.late (n.distance, n.position) c.in-Some.ensures.inside in
+    let read = get_or_read c.loop-near.tree.dist_b.items n.position c.index.result.now late.2 c.index.ensures far in
+    omega (arith, late.1, read, c.if-index-near.false)
+
+pub settle-requires-clause-nearest : goal.settle-requires-clause-nearest
+settle-requires-clause-nearest c =
+    let e = c.in-Some.ensures in
+    let n = c.in-Some.near in
+    let near = nearest_taken (growth c.loop-near.tree) n c.take.new.self.waiting e.inside e.least e.stays in
+    record {
+      inside = cons_first (n.distance, n.position) c.take.new.self.waiting;
+      least = λ x h. elim (Contains-cons_cases (n.distance, n.position) c.take.new.self.waiting x h) [ inl p ↦ near.least x (e.only x p) | inr p ↦ rw p (omega arith) ];
+    }
+
+pub settle-requires-clause-tree : goal.settle-requires-clause-tree
+settle-requires-clause-tree c =
+    let e = c.in-Some.ensures in
+    tree_taken c.args.ground 0 (length c.args.ground.edges.now) (growth c.loop-near.tree) (c.in-Some.near.distance, c.in-Some.near.position) c.take.new.self.waiting c.loop-near.invariant.tree e.inside e.stays e.only
+
+pub broken_end-requires-clause-reached : goal.broken_end-requires-clause-reached
+broken_end-requires-clause-reached c =
+    let n = c.in-Some.near in
+    let i = c.loop-near.invariant in
+    let late = i.tree.late (n.distance, n.position) c.in-Some.ensures.inside in
+    let close : distance c.loop-near.tree.dist_b.items n.position < far = omega (arith, late.1, c.if-tree-near.false, i.tree.best_small) in
+    let old = i.tree.reached n.position close in
+    record { within = old.within; place = old.place; ends = old.ends; joined = old.joined; exact = old.exact }
+
+pub returns-then-is_spent-clause-grown : goal.returns-then-is_spent-clause-grown
+returns-then-is_spent-clause-grown c =
+    let e = c.in-Some.ensures in
+    let n = c.in-Some.near in
+    let i = c.loop-near.invariant in
+    let late = i.tree.late (n.distance, n.position) e.inside in
+    let near = nearest_taken (growth c.loop-near.tree) n c.take.new.self.waiting e.inside e.least e.stays in
+    let close : distance c.loop-near.tree.dist_b.items n.position < far = omega (arith, late.1, c.if-tree-near.false, i.tree.best_small) in (
+      c.loop-near.tree.frontier.waiting,
+      rw (c.broken_end.ensures.end, c.broken_end.ensures.free, c.broken_end.ensures.last) (record {
+        tree = i.tree;
+        before_best = omega (arith, c.if-tree-near.false);
+        after = late.0;
+        least = near.least;
+        held = λ b is. absurd (let none = i.held in cc);
+        stop = (i.tree.reached n.position close).joined;
+      }),
+    )
+
+pub returns-then-is_spent-clause-whole : goal.returns-then-is_spent-clause-whole
+returns-then-is_spent-clause-whole c = λ none. absurd (false≢true (sym (c.is_spent.ensures (c.loop-near.invariant.rest none)).0 ∙ c.if-is_spent.true))
+
+pub returns-clause-grown : goal.returns-clause-grown
+returns-clause-grown c =
+    let i = c.loop-near.invariant in (
+      c.loop-near.tree.frontier.waiting,
+      rw (c.best_end-2.ensures.end, c.best_end-2.ensures.free, c.best_end-2.ensures.last)
+          (grown_best c.args.ground (growth c.loop-near.tree) i.tree i.held (λ x h. absurd (c.in_default.ensures.inside x h))),
+    )

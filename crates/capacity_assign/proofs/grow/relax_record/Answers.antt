@@ -1,0 +1,38 @@
+use Rattle.std.proofs.Common.{inl, inr, length, refl, arith}
+use Rattle.std.proofs.lemmas.Bool.{cases_lt}
+use Rattle.capacity_assign.specs.Core.{number}
+use Rattle.capacity_assign.specs.Growth.{growth}
+use Rattle.capacity_assign.proofs.Count.{left_later}
+use Rattle.capacity_assign.proofs.Growing.{tree_skip}
+use Rattle.capacity_assign.proofs.grow.relax_record.Goals as goal
+
+pub returns-else-ground-k-clause-tree : goal.returns-else-ground-k-clause-tree
+returns-else-ground-k-clause-tree c =
+    tree_skip c.args.ground c.args.position c.loop-k.k _ (growth c.loop-k.tree) c.loop-k.invariant.tree (λ j lt below same.
+    elim (cases_lt j c.loop-k.k) [
+      | inl p ↦ p
+      | inr p ↦ absurd (c.if-ground-k.false (omega (arith, same, c.requires.rising c.loop-k.k j p lt, c.loop-k.invariant.above c.loop-k.k (omega arith) (omega arith))))
+    ])
+
+pub loop-k-init : goal.loop-k-init
+loop-k-init c =
+    let firsts = c.requires.ready.firsts in
+    let inside = c.requires.inside in
+    let k = number c.args.ground.first.now c.args.position in
+    record {
+      within = firsts.within c.args.position inside;
+      above = λ j le lt. firsts.above c.args.position j inside le lt;
+      last = c.requires.last;
+      tree = tree_skip c.args.ground c.args.position 0 k (growth c.args.tree.now) c.requires.tree (λ j lt low same. absurd (omega (arith, same, firsts.below c.args.position j inside low)));
+      room = c.requires.room;
+      work = omega (arith, left_later c.args.ground.edges.now c.args.tree.now.dist_a.items c.args.position 0 k (omega arith));
+      held = refl;
+      current = refl;
+      dist_a = refl;
+      queue = omega arith;
+    }
+
+pub returns-else-ground-k-clause-work : goal.returns-else-ground-k-clause-work
+returns-else-ground-k-clause-work c =
+    let fewer = left_later c.args.ground.edges.now c.loop-k.tree.dist_a.items c.args.position c.loop-k.k (length c.args.ground.edges.now) (omega arith) in
+    omega (arith, fewer, c.loop-k.invariant.work)

@@ -1,0 +1,81 @@
+use Rattle.std.proofs.Common.{Some, ◌≡◌, ◌<◌, None, length, ap, sym, ◌∙◌, arith}
+use Rattle.std.proofs.lemmas.List.{get_or_default}
+use Rattle.capacity_assign.specs.Core.{link, number}
+use Rattle.capacity_assign.specs.Growth.{growth}
+use Rattle.capacity_assign.specs.Seating.{IsLastSeat}
+use Rattle.capacity_assign.proofs.Growing.{grown_holding, last_past, last_within, past_more, steps_fewer, tree_let_go}
+use Rattle.capacity_assign.proofs.grow.settle.Goals as goal
+
+pub loop-next-init : goal.loop-next-init
+loop-next-init c =
+    let s = c.args.ground.seats.now in
+    let b = c.args.near.position in
+    let rest = c.hold.ensures.rest in
+    let r = c.requires.room in
+    let there : b < length s.last.items = omega (arith, c.requires.inside, c.requires.ready.lasts, s.last.ok.0) in
+    let is : link s.last.items b ≡ c.index-next.result.now = get_or_default s.last.items b None c.index-next.result.now there ∙ sym c.index-next.ensures in
+    let last : IsLastSeat s.owner.items s.count b c.index-next.result.now = rw is at (c.requires.ready.seated.chains.last b) in
+    record {
+      held = ap (λ t. t.held) rest;
+      current = ap (λ t. t.current) rest;
+      tree = c.hold.ensures.tree;
+      room = rw rest (record { of_a = r.of_a; of_rank = r.of_rank; of_b = r.of_b; of_from = r.of_from; touched = r.touched; touched_room = r.touched_room; top = r.top; records = r.records; records_room = r.records_room; top_a = r.top_a; records_in = r.records_in; touched_in = r.touched_in });
+      fits = rw rest c.requires.queue;
+      work = rw rest (omega arith);
+      queue = rw rest (omega arith);
+      within = λ n e. last_within s.owner.items s.count b c.index-next.result.now n last e;
+      done = λ k on ends past. (let mine = c.requires.ready.seated.seated _ k on in absurd (last_past s.owner.items s.count b c.index-next.result.now _ last mine.there (mine.owned ∙ ends) past));
+    }
+
+pub join_seat-requires-clause-seat : goal.join_seat-requires-clause-seat
+join_seat-requires-clause-seat c = (c.loop-next.invariant.within c.in-Some.n c.in-Some.is).0
+
+pub join_seat-requires-clause-owned : goal.join_seat-requires-clause-owned
+join_seat-requires-clause-owned c = c.loop-next.invariant.held ∙ ap Some (sym (c.loop-next.invariant.within c.in-Some.n c.in-Some.is).1)
+
+pub index-next-requires-in-Some : goal.index-next-requires-in-Some
+index-next-requires-in-Some c =
+    let w = c.loop-next.invariant.within c.in-Some.n c.in-Some.is in
+    omega (arith, w.0, c.requires.ready.seated.room, c.requires.ready.rows_a, c.requires.ready.earliers)
+
+pub loop-next-smaller : goal.loop-next-smaller
+loop-next-smaller c =
+    let s = c.args.ground.seats.now in
+    let n = c.in-Some.n in
+    let w = c.loop-next.invariant.within n c.in-Some.is in
+    let there : n < length s.earlier.items = omega (arith, w.0, c.requires.ready.seated.room, c.requires.ready.seated.earliers) in
+    let is : link s.earlier.items n ≡ c.index-next-in-Some.result.now = get_or_default s.earlier.items n None c.index-next-in-Some.result.now there ∙ sym c.index-next-in-Some.ensures in
+    let last : IsLastSeat s.owner.items n (number s.owner.items n) c.index-next-in-Some.result.now = rw is at (c.requires.ready.seated.chains.earlier n w.0) in
+    rw c.in-Some.is (steps_fewer s.owner.items n (number s.owner.items n) c.index-next-in-Some.result.now last)
+
+pub loop-next-preserved : goal.loop-next-preserved
+loop-next-preserved c =
+    let s = c.args.ground.seats.now in
+    let n = c.in-Some.n in
+    let i = c.loop-next.invariant in
+    let e = c.join_seat.ensures in
+    let w = i.within n c.in-Some.is in
+    let there : n < length s.earlier.items = omega (arith, w.0, c.requires.ready.seated.room, c.requires.ready.seated.earliers) in
+    let is : link s.earlier.items n ≡ c.index-next-in-Some.result.now = get_or_default s.earlier.items n None c.index-next-in-Some.result.now there ∙ sym c.index-next-in-Some.ensures in
+    let last : IsLastSeat s.owner.items n c.args.near.position c.index-next-in-Some.result.now = rw (is, w.1) at (c.requires.ready.seated.chains.earlier n w.0) in
+    record {
+      held = e.held ∙ i.held;
+      current = e.current ∙ i.current;
+      tree = e.tree;
+      room = e.room;
+      fits = omega (arith, e.work, e.queue, i.fits);
+      work = omega (arith, e.work, i.work);
+      queue = omega (arith, e.queue, i.queue);
+      within = λ m q. (let p = last_within s.owner.items n c.args.near.position c.index-next-in-Some.result.now m last q in (omega (arith, p.0, w.0), p.1));
+      done = past_more c.args.ground c.loop-next.tree.dist_a.items c.join_seat.new.tree.dist_a.items c.args.near.position n c.index-next-in-Some.result.now c.requires.ready last (rw c.in-Some.is at i.done) e.stays e.joined;
+    }
+
+pub returns-then-tree-near-clause-tree : goal.returns-then-tree-near-clause-tree
+returns-then-tree-near-clause-tree c =
+    let i = c.loop-next.invariant in
+    grown_holding c.args.ground (growth c.loop-next.tree) c.args.near.position i.tree i.held (omega (arith, i.current, c.if-tree-near.true))
+
+pub returns-clause-tree : goal.returns-clause-tree
+returns-clause-tree c =
+    let i = c.loop-next.invariant in
+    tree_let_go c.args.ground 0 (length c.args.ground.edges.now) (growth c.loop-next.tree) c.args.near.position i.tree i.held (λ k on ends. rw c.in_default.is at i.done k on ends tt)

@@ -1,0 +1,7 @@
+pub mod Solution
+pub mod Core
+pub mod Seating
+pub mod Growth
+pub mod Round
+pub mod Final
+pub mod Prepared

@@ -1,0 +1,30 @@
+-- Machinery of `CapacityAssigner`: what holds of its parts from `new` to `solve`, and of those of
+-- `CapacityAssignment`.
+use Rattle.std.specs.Prelude.{◌≡◌, ℕ, ◌+◌, ◌≤◌, List, length, All, AllPairs}
+use Rattle.link_limits.specs.declared.TheConstants.{MOST_VALUE}
+use Rattle.assignment_laws.specs.Assignment.{IsBefore}
+use Rattle.assignment_laws.specs.Capacities.{capacity_of}
+use Rattle.capacity_assign.specs.declared.assigner.CapacityAssigner.TheInside.{Inside}
+use Rattle.capacity_assign.specs.Core.{linked_at, number}
+use Rattle.capacity_assign.specs.Growth.{AreFirsts, IsClean, IsRising}
+use Rattle.capacity_assign.specs.Round.{IsBetween, AreSmall}
+use Rattle.capacity_assign.specs.Seating.{seating}
+use Rattle.capacity_assign.specs.Final.{edges_of}
+
+-- all is ready for the first round
+pub record IsPrepared (s : Inside) : Type 0 where
+  pub order : AllPairs IsBefore s.candidates.items
+  pub edges : s.edges.items ≡ edges_of s.candidates.items
+  pub rising : IsRising s.edges.items
+  pub firsts : AreFirsts s.edges.items s.first.items (length s.price_a.items)
+  pub small : AreSmall s.edges.items
+  pub between : IsBetween s.edges.items s.price_a.items s.price_b.items s.link_a.items (seating s.seats) 0
+  pub places : (b : ℕ) → number s.seats.left.items b + linked_at s.edges.items s.link_a.items b ≡ capacity_of s.capacity.items b
+  pub rows_a : length s.price_a.items ≡ s.rows_a
+  pub rows_b : length s.price_b.items ≡ length s.capacity.items
+  pub clean : IsClean (length s.price_a.items) (length s.price_b.items) s.tree
+  pub queue : length s.edges.items ≤ s.tree.frontier.room
+
+-- no price is above the greatest size of a value
+abbrev pub AreBounded : List ℕ → Type 0
+AreBounded prices = All (λ p. p ≤ MOST_VALUE) prices

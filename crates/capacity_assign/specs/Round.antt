@@ -1,0 +1,40 @@
+-- Machinery of `round`: what holds of prices and links between two rounds.
+use Rattle.std.specs.Prelude.{◌≡◌, ◌⊎◌, ℕ, ◌+◌, ◌<◌, ◌≤◌, List, length, Option, Some, None}
+use Rattle.link_limits.specs.declared.TheConstants.{MOST_VALUE}
+use Rattle.capacity_assign.specs.declared.market.Edge.{Edge}
+use Rattle.capacity_assign.specs.declared.market.Net.{Net}
+use Rattle.capacity_assign.specs.declared.market.Ways.{Ways}
+use Rattle.capacity_assign.specs.Core.{link, edge, number, Leads, AreLinked, IsInRange, AreTight, linked_at}
+use Rattle.capacity_assign.specs.Seating.{AreSeats, Seating}
+
+-- a way from a record of B to the root
+abbrev pub LeadsBy : Net → Ways → List (Option ℕ) → ℕ → ℕ → Type 0
+LeadsBy net ways la n b = Leads net.edges.now net.price_a.now net.price_b.now la ways.from.now ways.rank.now ways.root n b
+
+-- a record of A is the root without a link, or a way leads from the record of B that it is linked to
+abbrev pub LeadsFromRecord : Net → Ways → List (Option ℕ) → ℕ → Type 0
+LeadsFromRecord net ways la position =
+    ((position ≡ ways.root) × (link la position ≡ None)) ⊎ ((k : ℕ) × ((link la position ≡ Some k) × (number ways.rank.now (edge net.edges.now (number ways.from.now (edge net.edges.now k).b)).a < number ways.rank.now position) × ((n : ℕ) × LeadsBy net ways la n (edge net.edges.now k).b)))
+
+-- prices, links and seats between two rounds: the records of A below `done` were taken up
+pub record IsBetween (es : List Edge) (pa pb : List ℕ) (la : List (Option ℕ)) (s : Seating) (done : ℕ) : Type 0 where
+  pub rows_a : length la ≡ length pa
+  pub rows_b : length s.left ≡ length pb
+  pub in_range : IsInRange es (length pa) (length pb)
+  pub covered : (k : ℕ) → k < length es → (edge es k).value ≤ number pa (edge es k).a + number pb (edge es k).b
+  pub small_a : (a : ℕ) → number pa a ≤ MOST_VALUE
+  pub small_b : (b : ℕ) → number pb b ≤ MOST_VALUE
+  pub linked : AreLinked es la
+  pub tight : AreTight es pa pb la
+  pub seated : AreSeats es la s
+  pub free_a : (a : ℕ) → a < done → link la a ≡ None → number pa a ≡ 0
+  pub free_b : (b : ℕ) → 0 < number s.left b → number pb b ≡ 0
+  pub closed : (b k : ℕ) → number s.left b + linked_at es la b ≡ 0 → k < length es → (edge es k).b ≡ b → (edge es k).value ≤ number pb b
+
+-- each record of B has as many places as before, linked or left
+abbrev pub KeepsPlaces : List Edge → List (Option ℕ) → List ℕ → List (Option ℕ) → List ℕ → Type 0
+KeepsPlaces es la left la' left' = (b : ℕ) → number left' b + linked_at es la' b ≡ number left b + linked_at es la b
+
+-- no value is large
+abbrev pub AreSmall : List Edge → Type 0
+AreSmall es = (k : ℕ) → (edge es k).value ≤ MOST_VALUE

@@ -1,0 +1,203 @@
+// The assigner and its answer.
+ghost use Rattle.std.specs.Prelude.{◌≡◌, ◌+◌, ◌<◌, ◌≤◌, ◌^◌, ℕ, length, List, All, AllPairs, IfOk, ℤ, pos, ◌≤ℤ◌};
+ghost use Rattle.assignment_laws.specs.Assignment.{IsBefore, IsWithin, price_of};
+ghost use Rattle.assignment_laws.specs.Capacities.{CertifiesWithin, IsGreatestWithin};
+ghost use Rattle.capacity_assign.specs.Solution.{HasSmallValue, IsAllowedCapacity};
+ghost use Rattle.capacity_assign.specs.Growth.{AreFirsts, IsClean, IsRising};
+ghost use Rattle.capacity_assign.specs.Round.{IsBetween, AreSmall, KeepsPlaces};
+ghost use Rattle.capacity_assign.specs.Seating.{seating};
+ghost use Rattle.link_limits.specs.declared.TheConstants.{MOST_VALUE};
+
+use crate::market::{Edge, Seats, Tree};
+use crate::phases::all_rounds;
+use crate::solve::{
+    clean_tree, closed_prices, edges_of, first_prices, firsts, linked, no_links, no_seats,
+};
+use assignment_laws::certified_within_is_greatest;
+use link_base::{Candidate, NoMemory};
+use link_limits::MOST_PAIRS;
+use std::alloc::Global;
+use std::marker::Model;
+
+/// All that a solution needs, its memory included.
+#[derive(Drop)]
+pub struct CapacityAssigner {
+    rows_a: u32,
+    capacity: Vec<u32>,
+    candidates: Vec<Candidate>,
+    edges: Vec<Edge>,
+    first: Vec<usize>,
+    price_a: Vec<u64>,
+    price_b: Vec<u64>,
+    link_a: Vec<Option<usize>>,
+    seats: Seats,
+    tree: Tree,
+}
+
+impl Model for CapacityAssigner {
+    ghost use Rattle.capacity_assign.specs.Solution.{Problem};
+
+    ghost Value = { Problem };
+
+    ghost use Rattle.capacity_assign.specs.Prepared.{IsPrepared};
+
+    ghost view = { λ s. record { rows_a = s.rows_a; capacities = s.capacity.items; candidates = s.candidates.items } };
+
+    ghost invariant = { λ s. IsPrepared s };
+}
+
+/// A greatest list within capacities, with prices that show it.
+#[derive(Drop)]
+pub struct CapacityAssignment {
+    links: Vec<Candidate>,
+    price_a: Vec<u64>,
+    price_b: Vec<u64>,
+}
+
+impl Model for CapacityAssignment {
+    ghost use Rattle.capacity_assign.specs.Final.{prices_of};
+    ghost use Rattle.capacity_assign.specs.Prepared.{AreBounded};
+    ghost use Rattle.capacity_assign.specs.Solution.{Solution};
+
+    ghost Value = { Solution };
+
+    ghost view = { λ s. record { links = s.links.items; prices_a = prices_of s.price_a.items; prices_b = prices_of s.price_b.items } };
+
+    ghost invariant = { λ s. AreBounded s.price_a.items × AreBounded s.price_b.items };
+}
+
+/// Takes every record of A up in turn.
+fn run(
+    edges: &Vec<Edge>,
+    first: &Vec<usize>,
+    price_a: &mut Vec<u64>,
+    price_b: &mut Vec<u64>,
+    link_a: &mut Vec<Option<usize>>,
+    seats: &mut Seats,
+    tree: &mut Tree,
+)
+    requires rising { IsRising edges.now.items }
+    requires firsts { AreFirsts edges.now.items first.now.items (length price_a.old.items) }
+    requires small { AreSmall edges.now.items }
+    requires between { IsBetween edges.now.items price_a.old.items price_b.old.items link_a.old.items (seating seats.old) 0 }
+    requires clean { IsClean (length price_a.old.items) (length price_b.old.items) tree.old }
+    requires queue { length edges.now.items ≤ tree.old.frontier.room }
+    ensures between { IsBetween edges.now.items price_a.new.items price_b.new.items link_a.new.items (seating seats.new) (length price_a.new.items) }
+    ensures places { KeepsPlaces edges.now.items link_a.old.items seats.old.left.items link_a.new.items seats.new.left.items }
+    ensures rows_a { length price_a.new.items ≡ length price_a.old.items }
+    ensures rows_b { length price_b.new.items ≡ length price_b.old.items }
+{
+    all_rounds(edges, first, price_a, price_b, link_a, seats, tree);
+}
+
+impl CapacityAssigner {
+    /// Takes all the memory that a solution needs, for a record of B for each capacity, none above
+    /// `link_limits::MOST_CAPACITY`, and at most [`MOST_PAIRS`] candidates that rise strictly by record of A,
+    /// then of B, each of a value of at most `link_limits::MOST_VALUE`. Want of memory is the only error.
+    pub fn new(
+        alloc: Global,
+        rows_a: u32,
+        capacity: &[u32],
+        candidates: &[Candidate],
+    ) -> Result<CapacityAssigner, NoMemory>
+        requires rows_b { length capacity.now < 2 ^ 32 }
+        requires allowed_capacities { All IsAllowedCapacity capacity.now }
+        requires count { length candidates.now ≤ MOST_PAIRS }
+        requires rising { AllPairs IsBefore candidates.now }
+        requires within { All (IsWithin rows_a (length capacity.now)) candidates.now }
+        requires small { All HasSmallValue candidates.now }
+        ensures rows_a { IfOk result (λ s. s.rows_a ≡ rows_a) }
+        ensures capacities { IfOk result (λ s. s.capacities ≡ capacity.now) }
+        ensures candidates { IfOk result (λ s. s.candidates ≡ candidates.now) }
+    {
+        let edges = edges_of(alloc, candidates)?;
+        let first = firsts(alloc, &edges, rows_a as usize)?;
+        let price_b = closed_prices(alloc, &edges, capacity)?;
+        let price_a = first_prices(alloc, &edges, &price_b, rows_a as usize)?;
+        let link_a = no_links(alloc, rows_a as usize)?;
+        let seats = no_seats(alloc, rows_a as usize, capacity)?;
+        let tree = clean_tree(alloc, rows_a as usize, capacity.len(), edges.len())?;
+        let capacity = Vec::from_slice(alloc, capacity)?;
+        let candidates = Vec::from_slice(alloc, candidates)?;
+        Ok(CapacityAssigner {
+            rows_a,
+            capacity,
+            candidates,
+            edges,
+            first,
+            price_a,
+            price_b,
+            link_a,
+            seats,
+            tree,
+        })
+    }
+
+    /// A greatest list of the candidates within the capacities, and prices that certify it.
+    pub fn solve(self) -> CapacityAssignment
+        ensures rows_a { length result.prices_a ≡ self.rows_a }
+        ensures rows_b { length result.prices_b ≡ length self.capacities }
+        ensures greatest { IsGreatestWithin self.candidates self.capacities result.links }
+        ensures certified { CertifiesWithin self.candidates self.capacities result.links result.prices_a result.prices_b }
+    {
+        certified_within_is_greatest();
+        let CapacityAssigner {
+            rows_a: _,
+            capacity: _,
+            candidates,
+            edges,
+            first,
+            mut price_a,
+            mut price_b,
+            mut link_a,
+            mut seats,
+            mut tree,
+        } = self;
+        run(
+            &edges,
+            &first,
+            &mut price_a,
+            &mut price_b,
+            &mut link_a,
+            &mut seats,
+            &mut tree,
+        );
+        let links = linked(candidates, &edges, &link_a);
+        CapacityAssignment {
+            links,
+            price_a,
+            price_b,
+        }
+    }
+}
+
+impl CapacityAssignment {
+    /// The links, rising by their records.
+    pub fn links(&self) -> &[Candidate]
+        ensures { result.now ≡ self.now.links }
+    {
+        self.links.as_slice()
+    }
+
+    /// The dual price of a record of A, in the unit of the values: at least 0, and at most
+    /// `link_limits::MOST_VALUE`.
+    pub fn price_a(&self, a: u32) -> i64
+        requires { a < length self.now.prices_a }
+        ensures price { result ≡ price_of self.now.prices_a a }
+        ensures floor { pos 0 ≤ℤ result }
+        ensures most { result ≤ℤ pos MOST_VALUE }
+    {
+        self.price_a[a as usize] as i64
+    }
+
+    /// The dual price of a place at a record of B, in the unit of the values: at least 0, and at most
+    /// `link_limits::MOST_VALUE`.
+    pub fn price_b(&self, b: u32) -> i64
+        requires { b < length self.now.prices_b }
+        ensures price { result ≡ price_of self.now.prices_b b }
+        ensures floor { pos 0 ≤ℤ result }
+        ensures most { result ≤ℤ pos MOST_VALUE }
+    {
+        self.price_b[b as usize] as i64
+    }
+}

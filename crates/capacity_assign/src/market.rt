@@ -1,0 +1,92 @@
+// Records with prices, links and seats, and the tree that is grown over them.
+
+use distance_queue::{DistanceQueue, FARTHEST};
+
+/// A distance that no record of a tree has.
+pub const FAR: u64 = FARTHEST;
+
+/// A candidate whose value is positive.
+#[derive(Clone, Copy)]
+pub struct Edge {
+    pub a: u32,
+    pub b: u32,
+    pub value: u32,
+}
+
+/// The edges, and a price for each record.
+#[derive(Clone, Copy)]
+pub struct Net<'a> {
+    pub edges: &'a [Edge],
+    pub price_a: &'a [u64],
+    pub price_b: &'a [u64],
+}
+
+/// The seats at the records of B, numbered from 0 as they are taken first. A seat belongs to its `owner`, a
+/// record of B, and `row` is the record of A that sits there; `seat` says for a linked record of A where it
+/// sits. The seats of a record of B hang together: `last` is its last one, and `earlier` the one before a
+/// seat. `left` says how many more a record of B may have.
+#[derive(Drop)]
+pub struct Seats {
+    pub seat: Vec<usize>,
+    pub row: Vec<usize>,
+    pub owner: Vec<usize>,
+    pub earlier: Vec<Option<usize>>,
+    pub last: Vec<Option<usize>>,
+    pub left: Vec<u32>,
+    pub count: usize,
+}
+
+/// A seat that nobody has, with its record of B.
+#[derive(Clone, Copy)]
+pub struct Hole {
+    pub b: usize,
+    pub seat: usize,
+}
+
+/// What a tree is grown over: the edges, the place of the first edge of each record of A, the prices, the
+/// links, the seats and the record of A at the root.
+#[derive(Clone, Copy)]
+pub struct Ground<'a> {
+    pub edges: &'a [Edge],
+    pub first: &'a [usize],
+    pub price_a: &'a [u64],
+    pub price_b: &'a [u64],
+    pub link_a: &'a [Option<usize>],
+    pub seats: &'a Seats,
+    pub root: usize,
+}
+
+/// Ways to a root: the edge by which each record of B was reached, and when each record of A was.
+#[derive(Clone, Copy)]
+pub struct Ways<'a> {
+    pub root: usize,
+    pub from: &'a [usize],
+    pub rank: &'a [usize],
+}
+
+/// An alternating tree as it grows. `dist_a` and `dist_b` are the distances from the root, `rank` says when
+/// a record of A joined and `from` by which edge a record of B was reached. `held` is the record of B whose
+/// records of A are joining.
+#[derive(Drop)]
+pub struct Tree {
+    pub dist_a: Vec<u64>,
+    pub rank: Vec<usize>,
+    pub dist_b: Vec<u64>,
+    pub from: Vec<usize>,
+    pub records: Vec<usize>,
+    pub touched: Vec<usize>,
+    pub frontier: DistanceQueue,
+    pub best: u64,
+    pub best_record: usize,
+    pub current: u64,
+    pub held: Option<usize>,
+}
+
+/// Where a tree ends: the distance, the record of B with a place left that is there, if one is, and else the
+/// record of A that gives its link up.
+#[derive(Clone, Copy)]
+pub struct Grown {
+    pub end: u64,
+    pub free: Option<usize>,
+    pub last: usize,
+}

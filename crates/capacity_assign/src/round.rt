@@ -1,0 +1,164 @@
+// One round: a record of A is taken up, prices change, and links are turned round.
+ghost use Rattle.std.specs.Prelude.{◌≡◌, ◌≢◌, ◌+◌, ◌-◌, ◌<◌, ◌≤◌, ◌^◌, ℕ, length, slice_index, List, [], None, Some, Contains, All, vec_len, vec_capacity, MatchOption, IsNone, ◌⊎◌};
+ghost use Rattle.link_limits.specs.declared.TheConstants.{MOST_VALUE};
+ghost use Rattle.capacity_assign.specs.Core.{AreLinked, IsInRange, link, AreTight, number};
+ghost use Rattle.capacity_assign.specs.Growth.{AreFirsts, HasRoomForRecords, IsClean, distance, far, IsRising};
+ghost use Rattle.capacity_assign.specs.Round.{LeadsBy, LeadsFromRecord, IsBetween, AreSmall, KeepsPlaces};
+ghost use Rattle.capacity_assign.specs.Seating.{AreSeats, seating};
+
+use crate::grow::search;
+use crate::market::{Edge, Ground, Grown, Hole, Net, Seats, Tree, Ways};
+use crate::seats::add_seat;
+use crate::shift::{lower, raise};
+use crate::walk::walk;
+
+/// Changes the prices by the distances of a tree, and leaves it clean.
+fn shift(price_a: &mut [u64], price_b: &mut [u64], tree: &mut Tree, end: u64)
+    requires room { HasRoomForRecords (length price_a.old) (length price_b.old) tree.old }
+    requires end { end ≤ far }
+    requires noted_a { (a : ℕ) → distance tree.old.dist_a.items a < far → Contains tree.old.records.items a }
+    requires noted_b { (b : ℕ) → distance tree.old.dist_b.items b < far → Contains tree.old.touched.items b }
+    requires falls { (a : ℕ) → end - distance tree.old.dist_a.items a ≤ number price_a.old a }
+    requires small { (b : ℕ) → number price_b.old b ≤ MOST_VALUE }
+    ensures price_a { (a : ℕ) → number price_a.new a + (end - distance tree.old.dist_a.items a) ≡ number price_a.old a }
+    ensures price_b { (b : ℕ) → number price_b.new b ≡ number price_b.old b + (end - distance tree.old.dist_b.items b) }
+    ensures clean { IsClean (length price_a.old) (length price_b.old) tree.new }
+    ensures queue { tree.new.frontier.room ≡ tree.old.frontier.room }
+    ensures from { tree.new.from.items ≡ tree.old.from.items }
+    ensures rank { tree.new.rank.items ≡ tree.old.rank.items }
+{
+    lower(price_a, &mut tree.dist_a, &tree.records, end);
+    raise(price_b, &mut tree.dist_b, &tree.touched, end);
+    tree.records.clear();
+    tree.touched.clear();
+    tree.frontier.clear();
+}
+
+/// Turns the links round from where a tree ended: at a record of B with a place left, or at a record of A that
+/// gives its link up.
+fn turn(
+    net: Net<'_>,
+    ways: Ways<'_>,
+    link_a: &mut [Option<usize>],
+    seats: &mut Seats,
+    free: Option<usize>,
+    last: usize,
+)
+    requires in_range { IsInRange net.edges.now (length link_a.old) (length seats.old.left.items) }
+    requires linked { AreLinked net.edges.now link_a.old }
+    requires tight { AreTight net.edges.now net.price_a.now net.price_b.now link_a.old }
+    requires seats { AreSeats net.edges.now link_a.old (seating seats.old) }
+    requires root { (ways.root < length link_a.old) × (link link_a.old ways.root ≡ None) }
+    requires last { MatchOption free (last < length link_a.old) (λ _. Unit {0}) }
+    requires free { MatchOption free (Unit {0}) (λ b. 0 < number seats.old.left.items b) }
+    requires leads { MatchOption free (LeadsFromRecord net ways link_a.old last) (λ b. (n : ℕ) × LeadsBy net ways link_a.old n b) }
+    ensures rows_a { length link_a.new ≡ length link_a.old }
+    ensures rows_b { length seats.new.left.items ≡ length seats.old.left.items }
+    ensures linked { AreLinked net.entry.edges.now link_a.new }
+    ensures tight { AreTight net.entry.edges.now net.entry.price_a.now net.entry.price_b.now link_a.new }
+    ensures seats { AreSeats net.entry.edges.now link_a.new (seating seats.new) }
+    ensures root { MatchOption free (link link_a.new ways.entry.root ≡ None → ways.entry.root ≡ last) (λ _. link link_a.new ways.entry.root ≡ None → ⊥) }
+    ensures still_a { (a : ℕ) → link link_a.new a ≡ None → (link link_a.old a ≡ None) ⊎ (IsNone free × (a ≡ last)) }
+    ensures vacant { (b : ℕ) → 0 < number seats.new.left.items b → 0 < number seats.old.left.items b }
+    ensures places { KeepsPlaces net.entry.edges.now link_a.old seats.old.left.items link_a.new seats.new.left.items }
+{
+    if let Some(b) = free {
+        let seat = add_seat(seats, b);
+        let hole = Hole { b, seat };
+        walk(net, ways, link_a, &mut seats.seat, &mut seats.row, hole);
+        return;
+    }
+    let Some(k) = link_a[last] else {
+        return;
+    };
+    let hole = Hole {
+        b: net.edges[k].b as usize,
+        seat: seats.seat[last],
+    };
+    link_a[last] = None;
+    walk(net, ways, link_a, &mut seats.seat, &mut seats.row, hole);
+}
+
+/// Takes a record of A up that has no link: a tree grows from it, prices change by it, and links are turned
+/// round. Without a limit the record is linked afterwards, or its price is 0.
+pub fn take_up(
+    edges: &[Edge],
+    first: &[usize],
+    price_a: &mut [u64],
+    price_b: &mut [u64],
+    link_a: &mut [Option<usize>],
+    seats: &mut Seats,
+    tree: &mut Tree,
+    root: usize,
+    limit: Option<usize>,
+) -> Grown
+    requires rising { IsRising edges.now }
+    requires firsts { AreFirsts edges.now first.now (length price_a.old) }
+    requires small { AreSmall edges.now }
+    requires root { root < length price_a.old }
+    requires free { link link_a.old root ≡ None }
+    requires between { IsBetween edges.now price_a.old price_b.old link_a.old (seating seats.old) 0 }
+    requires clean { IsClean (length price_a.old) (length price_b.old) tree.old }
+    requires queue { length edges.now ≤ tree.old.frontier.room }
+    ensures between { IsBetween edges.now price_a.new price_b.new link_a.new (seating seats.new) 0 }
+    ensures places { KeepsPlaces edges.now link_a.old seats.old.left.items link_a.new seats.new.left.items }
+    ensures last { MatchOption result.free (result.last < length price_a.new) (λ _. Unit {0}) }
+    ensures settled { limit ≡ None → ((a : ℕ) → a < root → link link_a.old a ≡ None → number price_a.old a ≡ 0) → (a : ℕ) → a < root + 1 → link link_a.new a ≡ None → number price_a.new a ≡ 0 }
+    ensures queue { length edges.now ≤ tree.new.frontier.room }
+    ensures clean { IsClean (length price_a.new) (length price_b.new) tree.new }
+{
+    let ground = Ground {
+        edges,
+        first,
+        price_a,
+        price_b,
+        link_a,
+        seats,
+        root,
+    };
+    let grown = search(ground, tree, limit);
+    shift(price_a, price_b, tree, grown.end);
+    let net = Net {
+        edges,
+        price_a,
+        price_b,
+    };
+    let ways = Ways {
+        root,
+        from: &tree.from,
+        rank: &tree.rank,
+    };
+    turn(net, ways, link_a, seats, grown.free, grown.last);
+    grown
+}
+
+/// Takes a record of A up: afterwards it is linked, or its price is 0.
+pub fn round(
+    edges: &[Edge],
+    first: &[usize],
+    price_a: &mut [u64],
+    price_b: &mut [u64],
+    link_a: &mut [Option<usize>],
+    seats: &mut Seats,
+    tree: &mut Tree,
+    root: usize,
+)
+    requires rising { IsRising edges.now }
+    requires firsts { AreFirsts edges.now first.now (length price_a.old) }
+    requires small { AreSmall edges.now }
+    requires root { root < length price_a.old }
+    requires between { IsBetween edges.now price_a.old price_b.old link_a.old (seating seats.old) root }
+    requires clean { IsClean (length price_a.old) (length price_b.old) tree.old }
+    requires queue { length edges.now ≤ tree.old.frontier.room }
+    ensures between { IsBetween edges.now price_a.new price_b.new link_a.new (seating seats.new) (root + 1) }
+    ensures places { KeepsPlaces edges.now link_a.old seats.old.left.items link_a.new seats.new.left.items }
+    ensures queue { length edges.now ≤ tree.new.frontier.room }
+    ensures clean { IsClean (length price_a.new) (length price_b.new) tree.new }
+{
+    if link_a[root].is_some() {
+        return;
+    }
+    let _ = take_up(
+        edges, first, price_a, price_b, link_a, seats, tree, root, None,
+    );
+}

@@ -1,0 +1,57 @@
+// Seats that are added, and rows that move from one to another.
+ghost use Rattle.std.specs.Prelude.{◌≡◌, ◌≢◌, ◌+◌, ◌<◌, ◌≤◌, ℕ, length, slice_set, List, None, Some, vec_len};
+ghost use Rattle.capacity_assign.specs.Core.{AreLinked, number, edge, Reseats};
+ghost use Rattle.capacity_assign.specs.Seating.{AddsSeat, seating};
+
+use crate::market::{Edge, Hole, Seats};
+
+/// Adds a seat at a record of B that has a place left, and gives its number.
+pub fn add_seat(seats: &mut Seats, b: usize) -> usize
+    requires owner { seats.old.count < vec_len seats.old.owner }
+    requires earlier { seats.old.count < vec_len seats.old.earlier }
+    requires last { b < vec_len seats.old.last }
+    requires left { b < vec_len seats.old.left }
+    requires vacant { 0 < number seats.old.left.items b }
+    ensures next { result ≡ seats.old.count }
+    ensures adds { AddsSeat (seating seats.old) (seating seats.new) b }
+{
+    let seat = seats.count;
+    seats.owner[seat] = b;
+    seats.earlier[seat] = seats.last[b];
+    seats.last[b] = Some(seat);
+    seats.left[b] -= 1;
+    seats.count = seat + 1;
+    seat
+}
+
+/// Links the record of A of the edge `k` by it, at a seat that nobody has, and gives the seat that it leaves.
+pub fn reseat(
+    edges: &[Edge],
+    link_a: &mut [Option<usize>],
+    seat: &mut [usize],
+    row: &mut [usize],
+    k: usize,
+    free: usize,
+) -> Option<Hole>
+    requires place { k < length edges.now }
+    requires in_range { (edge edges.now k).a < length link_a.old }
+    requires linked { AreLinked edges.now link_a.old }
+    requires rows { length seat.old ≡ length link_a.old }
+    requires free { free < length row.old }
+    ensures reseats { Reseats edges.now link_a.old seat.old row.old link_a.new seat.new row.new k free result }
+{
+    let edge = edges[k];
+    let a = edge.a as usize;
+    let old = link_a[a];
+    let left = seat[a];
+    link_a[a] = Some(k);
+    seat[a] = free;
+    row[free] = a;
+    match old {
+        None => None,
+        Some(j) => Some(Hole {
+            b: edges[j].b as usize,
+            seat: left,
+        }),
+    }
+}

@@ -1,0 +1,42 @@
+// Links over tight edges, before any tree is grown.
+ghost use Rattle.std.specs.Prelude.{◌<◌, length};
+ghost use Rattle.capacity_assign.specs.Seating.{seating};
+ghost use Rattle.capacity_assign.specs.Round.{IsBetween, KeepsPlaces};
+
+use crate::market::{Net, Seats};
+use crate::seats::{add_seat, reseat};
+
+/// Links the records of the edge `k` where that of A has no link, that of B has a place left, and their
+/// prices add up to its value.
+fn link_if_tight(net: Net<'_>, link_a: &mut [Option<usize>], seats: &mut Seats, k: usize)
+    requires place { k < length net.edges.now }
+    requires between { IsBetween net.edges.now net.price_a.now net.price_b.now link_a.old (seating seats.old) 0 }
+    ensures between { IsBetween net.entry.edges.now net.entry.price_a.now net.entry.price_b.now link_a.new (seating seats.new) 0 }
+    ensures places { KeepsPlaces net.entry.edges.now link_a.old seats.old.left.items link_a.new seats.new.left.items }
+{
+    let edge = net.edges[k];
+    let a = edge.a as usize;
+    let b = edge.b as usize;
+    if link_a[a].is_some() {
+        return;
+    }
+    if seats.left[b] == 0 {
+        return;
+    }
+    if net.price_a[a] + net.price_b[b] != edge.value as u64 {
+        return;
+    }
+    let free = add_seat(seats, b);
+    let _ = reseat(net.edges, link_a, &mut seats.seat, &mut seats.row, k, free);
+}
+
+/// Links records over tight edges, in the order of the edges.
+pub fn link_tight(net: Net<'_>, link_a: &mut [Option<usize>], seats: &mut Seats)
+    requires { IsBetween net.edges.now net.price_a.now net.price_b.now link_a.old (seating seats.old) 0 }
+    ensures between { IsBetween net.entry.edges.now net.entry.price_a.now net.entry.price_b.now link_a.new (seating seats.new) 0 }
+    ensures places { KeepsPlaces net.entry.edges.now link_a.old seats.old.left.items link_a.new seats.new.left.items }
+{
+    for k in 0..net.edges.len() {
+        link_if_tight(net, link_a, seats, k);
+    }
+}

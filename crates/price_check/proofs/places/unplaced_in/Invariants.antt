@@ -1,0 +1,10 @@
+use Rattle.std.proofs.Common.{ℕ, ◌<◌}
+use Rattle.price_check.specs.Search.{AreUsed}
+use Rattle.price_check.specs.CapacityVerdict.{HasPlace}
+use Rattle.price_check.proofs.places.unplaced_in.Given as goal
+
+abbrev pub invariant-loop-i : goal.invariant-loop-i
+invariant-loop-i l = record {
+  placed : (k : ℕ) → k < l.i → HasPlace l.capacity l.links k;
+  used : AreUsed l.used l.links l.i;
+}

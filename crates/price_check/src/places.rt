@@ -1,0 +1,95 @@
+// The first link that finds no place, and what prices of B add up to where each counts once for a place.
+ghost use Rattle.std.specs.Prelude.{◌≡◌, ◌*◌, ◌<◌, ◌≤◌, ◌^◌, ℕ, ℤ, pos, ◌*ℤ◌, ◌≤ℤ◌, neg_ℤ, length, All, AllPairs, IfOk, MatchBool, slice_index};
+ghost use Rattle.link_limits.specs.declared.TheConstants.{MOST_CAPACITY, MOST_VALUE};
+ghost use Rattle.link_base.specs.Rule.{IsPairBefore};
+ghost use Rattle.assignment_laws.specs.Capacities.{place_sum};
+ghost use Rattle.price_check.specs.Search.{AreUsed, IsPairWithin};
+ghost use Rattle.price_check.specs.Verdict.{IsAllowedPrice};
+ghost use Rattle.price_check.specs.CapacityVerdict.{HasPlace, IsAllowedCapacity, IsFirstUnplaced};
+
+use link_base::{NoMemory, PairAt};
+use std::alloc::Global;
+
+/// Whether an earlier link has the record of A of the one at `i`, or as many as its capacity have its
+/// record of B.
+fn is_unplaced(capacity: &[u32], used: &[u32], links: &[PairAt], i: usize) -> bool
+    requires place { i < length links.now }
+    requires rising { AllPairs IsPairBefore links.now }
+    requires records { length used.now ≡ length capacity.now }
+    requires in_range { All (IsPairWithin (length capacity.now)) links.now }
+    requires used { AreUsed used.now links.now i }
+    ensures { MatchBool result (HasPlace capacity.now links.now i → ⊥) (HasPlace capacity.now links.now i) }
+{
+    let link = links[i];
+    if capacity[link.b as usize] <= used[link.b as usize] {
+        return true;
+    }
+    if i == 0 {
+        return false;
+    }
+    if links[i - 1].a == link.a {
+        return true;
+    }
+    false
+}
+
+/// The first link that finds no place within the capacities.
+pub fn first_unplaced(
+    alloc: Global,
+    capacity: &[u32],
+    links: &[PairAt],
+) -> Result<Option<u32>, NoMemory>
+    requires count { length links.now < 2 ^ 32 }
+    requires rising { AllPairs IsPairBefore links.now }
+    requires in_range { All (IsPairWithin (length capacity.now)) links.now }
+    ensures { IfOk result (λ place. IsFirstUnplaced capacity.now links.now place) }
+{
+    let mut used = vec![in alloc; 0u32; capacity.len()]?;
+    Ok(unplaced_in(capacity, &mut used, links))
+}
+
+/// The same, over a list of counts that begin at 0.
+fn unplaced_in(capacity: &[u32], used: &mut [u32], links: &[PairAt]) -> Option<u32>
+    requires count { length links.now < 2 ^ 32 }
+    requires rising { AllPairs IsPairBefore links.now }
+    requires records { length used.old ≡ length capacity.now }
+    requires in_range { All (IsPairWithin (length capacity.now)) links.now }
+    requires unused { (b : ℕ) → slice_index used.old b ≡ 0 }
+    ensures { IsFirstUnplaced capacity.now links.now result }
+{
+    for i in 0..links.len() {
+        if is_unplaced(capacity, used, links, i) {
+            return Some(i as u32);
+        }
+        used[links[i].b as usize] += 1;
+    }
+    None
+}
+
+/// What a price counts for where it counts once for each place of its record.
+fn price_of_places(capacity: u32, price: i64) -> i64
+    requires few { IsAllowedCapacity capacity }
+    requires small { IsAllowedPrice price }
+    ensures value { result ≡ pos capacity *ℤ price }
+    ensures low { neg_ℤ (pos (MOST_CAPACITY * MOST_VALUE)) ≤ℤ result }
+    ensures high { result ≤ℤ pos (MOST_CAPACITY * MOST_VALUE) }
+{
+    i64::from(capacity) * price
+}
+
+/// The sum of the prices of B, each as often as its record's capacity.
+pub fn place_total(capacity: &[u32], prices: &[i64]) -> i64
+    requires count { length capacity.now < 2 ^ 32 }
+    requires records { length prices.now ≡ length capacity.now }
+    requires few { All IsAllowedCapacity capacity.now }
+    requires small { All IsAllowedPrice prices.now }
+    ensures value { result ≡ place_sum capacity.now prices.now }
+    ensures low { neg_ℤ (pos (2 ^ 32 * (MOST_CAPACITY * MOST_VALUE))) ≤ℤ result }
+    ensures high { result ≤ℤ pos (2 ^ 32 * (MOST_CAPACITY * MOST_VALUE)) }
+{
+    let mut sum = 0;
+    for i in 0..capacity.len() {
+        sum += price_of_places(capacity[i], prices[i]);
+    }
+    sum
+}
