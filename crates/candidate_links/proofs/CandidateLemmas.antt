@@ -33,6 +33,14 @@ IsAt at c = (c.a ≡ at.a) × (c.b ≡ at.b)
 abbrev StandsAt : (PairAt → Option Candidate) → Type 0
 StandsAt h = (at : PairAt) (c : Candidate) → h at ≡ Some c → IsAt at c
 
+pub some_same : (x y : Candidate) → Some x ≡ Some y → x ≡ y
+some_same x y e = cc
+
+-- what holds of a candidate, if there is one, and of those after it
+pub all_if : (Q : Candidate → Type 0) (cs : List Candidate) (o : Option Candidate) → ((c : Candidate) → o ≡ Some c → Q c) → All Q cs → All Q (cons_option o cs)
+all_if Q cs None here rest = rest
+all_if Q cs (Some c) here rest = All-cons Q c cs (here c refl) rest
+
 module _ (h : PairAt → Option Candidate) (stands : StandsAt h) where
   few_if : (o : Option Candidate) (x : PairAt) (xs : List PairAt) → length (filter_map h xs) ≤ length xs → length (cons_option o (filter_map h xs)) ≤ length (x ∷ xs)
   few_if None x xs rest = omega arith
@@ -43,10 +51,6 @@ module _ (h : PairAt → Option Candidate) (stands : StandsAt h) where
   given_few (x ∷ xs) = few_if (h x) x xs (given_few xs)
 
   -- what holds of a candidate at a pair for which something holds
-  all_if : (Q : Candidate → Type 0) (cs : List Candidate) (o : Option Candidate) → ((c : Candidate) → o ≡ Some c → Q c) → All Q cs → All Q (cons_option o cs)
-  all_if Q cs None here rest = rest
-  all_if Q cs (Some c) here rest = All-cons Q c cs (here c refl) rest
-
   given_all : (P : PairAt → Type 0) (Q : Candidate → Type 0) → ((at : PairAt) (c : Candidate) → P at → IsAt at c → Q c) → (pairs : List PairAt) → All P pairs → All Q (filter_map h pairs)
   given_all P Q step [] all = All-nil Q
   given_all P Q step (x ∷ xs) all =

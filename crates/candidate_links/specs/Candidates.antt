@@ -1,7 +1,7 @@
 -- The candidates for links among decided pairs: the links by rule, and the possible links that clerical review calls links,
 -- each with what it is worth (Fellegi and Sunter 1969, section 2). `candidates_among` carries it (clauses
 -- `candidates` and `most`).
-use Rattle.std.specs.Prelude.{◌≡◌, ◌+◌, ◌≤◌, ◌+ℤ◌, ℕ, ℤ, pos, true, false, List, All, AllPairs, filter_map, length, Option, Some, None}
+use Rattle.std.specs.Prelude.{◌≡◌, ◌+◌, ◌≤◌, ◌+ℤ◌, ◌≤ℤ◌, ℕ, ℤ, pos, negsuc, true, false, List, All, AllPairs, filter_map, length, Option, Some, None}
 use Rattle.link_limits.specs.declared.TheConstants.{MOST_PAIRS}
 use Rattle.assignment.specs.Solution.{HasSmallValue}
 use Rattle.assignment_laws.specs.Assignment.{IsBefore, IsWithin}
@@ -60,6 +60,13 @@ candidates_of rule rows_a rows_b entries award pairs = filter_map (candidate_of 
 -- the greatest value that a candidate may have: the greatest weight and the award
 abbrev pub most_value : ℕ → ℤ
 most_value award = pos (474 + award)
+
+-- a candidate's weight is that of six fields at most, and its value at most that and the award: law `candidates_are_bounded`
+pub record HasBounds (award : ℕ) (c : Candidate) : Type 0 where
+  pub weight_low : negsuc 479 ≤ℤ c.weight
+  pub weight_high : c.weight ≤ℤ pos 474
+  pub value_low : negsuc 479 ≤ℤ c.value
+  pub value_high : c.value ≤ℤ most_value award
 
 -- candidates as they are wanted, of which the links may be chosen: few, rising, between records that are there, with small values
 pub record AreCandidates (rows_a rows_b : ℕ) (wanted cs : List Candidate) : Type 0 where

@@ -1,7 +1,7 @@
 // What holds of every certificate of candidates.
 ghost use Rattle.std.specs.Prelude.{◌≤ℤ◌, ℕ, ℤ, All, List};
 ghost use Rattle.assignment_laws.specs.Assignment.{Certifies, IsOneToOne, price_of};
-ghost use Rattle.candidate_links.specs.Candidates.{candidates_of, most_value};
+ghost use Rattle.candidate_links.specs.Candidates.{HasBounds, candidates_of, most_value};
 ghost use Rattle.comparators.specs.declared.ids.IdValue.{IdValue};
 ghost use Rattle.link_base.specs.Rule.{IsWithinRanges};
 ghost use Rattle.link_base.specs.declared.rule.Candidate.{Candidate};
@@ -16,4 +16,10 @@ pub fn candidate_prices_are_bounded()
         → All IsWithinRanges rule.cells → IsOneToOne (candidates_of rule rows_a rows_b entries award pairs) links
         → Certifies (candidates_of rule rows_a rows_b entries award pairs) links prices_a prices_b
         → (position : ℕ) → (price_of prices_a position ≤ℤ most_value award) × (price_of prices_b position ≤ℤ most_value award) }
+{}
+
+/// Law: a plan's candidates have weights from -480 to 474 eighths of a bit, and values from -480 to the greatest weight and the award.
+pub fn candidates_are_bounded()
+    ensures { (rule : SideRule) (rows_a rows_b : List (List IdValue)) (entries : List Entry) (award : ℕ) (pairs : List PairAt)
+        → All IsWithinRanges rule.cells → All (HasBounds award) (candidates_of rule rows_a rows_b entries award pairs) }
 {}

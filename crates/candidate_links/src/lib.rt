@@ -9,4 +9,4 @@ mod merging;
 
 pub use candidates::candidates_among;
 pub use choice::{ChosenLinks, choose_links};
-pub use laws::candidate_prices_are_bounded;
+pub use laws::{candidate_prices_are_bounded, candidates_are_bounded};

@@ -3,8 +3,10 @@
 
 mod fields;
 mod laws;
+mod numbers;
 mod rows;
 
 pub use fields::push_field;
 pub use laws::rows_read_again;
+pub use numbers::{decimals_are_read, number_of};
 pub use rows::{digits_of, push_row};

@@ -7,6 +7,8 @@ mod candidate_order;
 #[cfg(test)]
 mod certificates;
 #[cfg(test)]
+mod certificates_within_capacities;
+#[cfg(test)]
 mod chosen_links;
 #[cfg(test)]
 mod comparison_patterns;
@@ -31,11 +33,13 @@ mod frontiers;
 #[cfg(test)]
 mod greatest_links;
 #[cfg(test)]
+mod grouped_records;
+#[cfg(test)]
 mod journals;
 #[cfg(test)]
 mod keys_of_names;
 #[cfg(test)]
-mod least_settings;
+mod links_within_capacities;
 #[cfg(test)]
 mod made_people;
 #[cfg(test)]
@@ -44,8 +48,6 @@ mod outcome_weights;
 mod parts_of_candidates;
 #[cfg(test)]
 mod pooled_texts;
-#[cfg(test)]
-mod prepared_files;
 #[cfg(test)]
 mod quoted_fields;
 #[cfg(test)]

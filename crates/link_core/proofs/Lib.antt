@@ -6,3 +6,4 @@ pub mod NumberLemmas
 pub mod RuleLemmas
 pub mod ResultLemmas
 pub mod ReviewLemmas
+pub mod DuplicateLemmas

@@ -7,3 +7,5 @@ pub mod Rules
 pub mod Decisions
 pub mod Review
 pub mod Results
+pub mod Verify
+pub mod Duplicates

@@ -3,6 +3,7 @@
 
 mod column_pairs;
 mod decisions;
+mod duplicates;
 mod name_keys;
 mod pairs;
 mod preparing;
@@ -10,9 +11,11 @@ mod results;
 mod review;
 mod row_text;
 mod rules;
+mod verify;
 
 pub use column_pairs::pair_rows;
 pub use decisions::decide_all;
+pub use duplicates::duplicate_lines;
 pub use name_keys::key_lines;
 pub use pair_decisions::Decided;
 pub use pairs::pair_ids;
@@ -20,3 +23,5 @@ pub use preparing::{Prepared, prepare};
 pub use results::{RunResult, candidates, finish};
 pub use review::{add_verdicts, journal_in_files, journal_lines, open_lines, open_rows};
 pub use rules::{PlanShares, counted, frontier_lines, rule_lines};
+pub use verify::{Verification, verify_files};
+pub use written_check::Written;

@@ -5,4 +5,5 @@ pub mod JoinLemmas
 pub mod LineLemmas
 pub mod PriceLemmas
 pub mod ReadLineLemmas
+pub mod ReadingLemmas
 pub mod PairLemmas

@@ -4,6 +4,7 @@ pub mod Lines
 pub mod LinksText
 pub mod OpenText
 pub mod PricesText
+pub mod Reading
 pub mod ReportText
 pub mod PairsText
 pub mod RuleText

@@ -14,8 +14,11 @@ abbrev pub is_priced : ℤ × Record → Bool
 is_priced priced = not (int_eq priced.0 (pos 0))
 
 -- a priced record: its side, its id and its price in eighths of a bit
+abbrev pub price_fields : List ℕ → ℤ × Record → List (List ℕ)
+price_fields side priced = side ∷ priced.1.id ∷ signed_decimal priced.0 ∷ []
+
 abbrev pub price_row : List ℕ → ℤ × Record → List ℕ
-price_row side priced = row_text default_writer (side ∷ priced.1.id ∷ signed_decimal priced.0 ∷ [])
+price_row side priced = row_text default_writer (price_fields side priced)
 
 -- the rows of a side: its records in order, without those whose price is 0
 abbrev pub price_rows : List ℕ → List ℤ → List Record → List ℕ

@@ -9,15 +9,19 @@ mod links;
 mod open;
 mod pairs;
 mod prices;
+mod reading;
 mod report;
 mod rule;
 
 pub use first::{first_lines, head_of_report};
 pub use frontier::frontier_text;
 pub use ids::ids_text_of;
-pub use links::links_text;
+pub use links::{links_text, source_of};
 pub use open::{PairRow, open_text};
 pub use pairs::{PairsWriter, pairs_text};
 pub use prices::prices_text;
+pub use reading::{
+    ReadRows, field_of, has_fields, read_links, read_prices, read_rule, texts_read_again,
+};
 pub use report::{Dropped, Report, report_text};
-pub use rule::rule_text;
+pub use rule::{letters_of, rule_text};

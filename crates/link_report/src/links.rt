@@ -7,8 +7,8 @@ use csv_rows::push_row;
 use link_base::{Candidate, NoMemory, StdFile, Text};
 use std::alloc::Global;
 
-// What a link goes by: clerical review, or the rule.
-fn source_of(link: &Candidate) -> &[u8]
+/// What a link goes by: `review` where clerical review made it a link, and else `rule`.
+pub fn source_of(link: &Candidate) -> &[u8]
     ensures { result.now ≡ source_of_link link.now.reviewed }
 {
     if link.reviewed { b"review" } else { b"rule" }

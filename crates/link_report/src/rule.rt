@@ -22,8 +22,8 @@ fn letter_of(outcome: Outcome) -> u8
     }
 }
 
-// The letters of a comparison pattern, one for each field.
-pub(crate) fn letters_of(alloc: Global, shape: &Shape, pattern: u16) -> Result<Vec<u8>, NoMemory>
+/// The letters of a comparison pattern, one for each field: A agree, D disagree, M missing, R rare.
+pub fn letters_of(alloc: Global, shape: &Shape, pattern: u16) -> Result<Vec<u8>, NoMemory>
     requires { pattern < pattern_count_by (rare_of shape.now) }
     ensures { IfOk result (λ letters. letters.items ≡ outcome_letters (rare_of shape.now) pattern) }
 {

@@ -1,8 +1,8 @@
 -- The headline follows of what the words do, and of the status that is told.
 use Rattle.std.proofs.Common.{◌≡◌, ◌⊎◌, ◌∙◌, inl, inr, ◌∷◌, ℕ, ℤ, List, [], Option, Some, None, Result, Ok, Err, refl, sym, ap, subst, arith}
-use Rattle.std.specs.List.{cons_option}
 use Rattle.std.specs.Prelude.{All, Contains}
-use Rattle.std.proofs.lemmas.List.Elements.{All-cons, All-contains, All-weaker}
+use Rattle.std.proofs.lemmas.List.Elements.{All-contains, All-weaker}
+use Rattle.candidate_links.proofs.CandidateLemmas.{all_if, some_same}
 use Rattle.candidate_links.specs.Candidates.{by_decision, candidate_by_verdict, candidate_of, candidates_of, linked, weight_of}
 use Rattle.decision_rule.proofs.RuleLemmas.{least}
 use Rattle.link_base.specs.Answers.{and_then}
@@ -27,6 +27,7 @@ use Rattle.pair_decisions.specs.PairRule.{SideRule}
 use Rattle.review_journal.specs.Verdict.{verdict_on}
 use Rattle.review_journal.specs.declared.entry.Entry.{Entry}
 use Rattle.settings.specs.declared.plan.Plan.{Plan}
+use Rattle.link_shell.proofs.StepFacts.{no_ok, ok_same}
 use Rattle.link_shell.specs.Does.{Ends}
 use Rattle.link_shell.specs.Due.{after_puts, HoldsAll, puts, TakesAll}
 use Rattle.link_shell.specs.Front.{plan_file, prepared_files, shares_over}
@@ -40,30 +41,18 @@ use Rattle.link_shell.specs.Steps.{◌>>=◌, gives, load, outcome, Steps}
 use Rattle.link_shell.specs.declared.ends.Ended.{Ended}
 use Rattle.link_shell.specs.declared.ends.Ended.TheVariants.{Done, Refuted}
 
-abbrev ok : {T : Type 0} → T → Result T Fault
-ok x = Ok x
-
-abbrev err : (T : Type 0) → Fault → Result T Fault
-err T f = Err f
-
-same_value : {T : Type 0} (x y : T) → ok x ≡ ok y → x ≡ y
-same_value x y e = cc
-
-no_value : {T : Type 0} {P : Type 0} (f : Fault) (x : T) → err T f ≡ ok x → P
-no_value f x e = absurd (cc)
-
 -- steps that came to a value were passed, one after the other
 came_read : {A B : Type 0} (read : Result (List ℕ) Fault) (p : List ℕ → Result A Fault) (q : List ℕ → Result B Fault) (Q : A → Type 0) (y : B)
     → ((bytes : List ℕ) → q bytes ≡ Ok y → (x : A) × (p bytes ≡ Ok x) × Q x) → and_then read q ≡ Ok y → (x : A) × (and_then read p ≡ Ok x) × Q x
 came_read (Ok bytes) p q Q y h e = h bytes e
-came_read (Err f) p q Q y h e = no_value f y e
+came_read (Err f) p q Q y h e = no_ok f y e
 
 came : {A B : Type 0} (s : Steps A) (next : A → Steps B) (held : Held) (y : B) → outcome (s >>= next) held ≡ Ok y → (x : A) × (outcome s held ≡ Ok x) × (outcome (next x) held ≡ Ok y)
 unfolding ◌>>=◌
 came (load r limit name step) next held y e =
     came_read (loaded r limit name (held name)) (λ bytes. outcome (step bytes) held) (λ bytes. outcome (step bytes >>= next) held) (λ x. outcome (next x) held ≡ Ok y) y (λ bytes. came (step bytes) next held y) e
 came (gives (Ok x)) next held y e = (x, refl, e)
-came (gives (Err f)) next held y e = no_value f y e
+came (gives (Err f)) next held y e = no_ok f y e
 
 -- what a review was found by
 pub record FoundBy (plan : Plan) (held : Held) (review : Review) : Type 0 where
@@ -78,7 +67,7 @@ found_by plan held review e =
     let shares = came (shares_over plan files.0 plan.sample) _ held review files.2 in
     let decisions = came (gives (decided plan files.0 shares.0)) _ held review shares.2 in
     let journal = came (journal_file files.0 plan.journal) _ held review decisions.2 in
-    subst (λ r. FoundBy plan held r) (same_value _ _ journal.2) (record { of_files = files.1; of_shares = shares.1; of_decisions = decisions.1; of_journal = journal.1 })
+    subst (λ r. FoundBy plan held r) (ok_same _ _ journal.2) (record { of_files = files.1; of_shares = shares.1; of_decisions = decisions.1; of_journal = journal.1 })
 
 pub record SettingsFound (name : List ℕ) (held : Held) (found : ReviewedPlan) : Type 0 where
   pub of_settings : outcome (plan_file name) held ≡ Ok found.plan
@@ -88,17 +77,14 @@ settings_found : (name : List ℕ) (held : Held) (found : ReviewedPlan) → outc
 settings_found name held found e =
     let plan = came (plan_file name) _ held found e in
     let review = came (reviewed_plan plan.0) _ held found plan.2 in
-    subst (λ f. SettingsFound name held f) (same_value _ _ review.2) (record { of_settings = plan.1; by = found_by plan.0 held review.0 review.1 })
+    subst (λ f. SettingsFound name held f) (ok_same _ _ review.2) (record { of_settings = plan.1; by = found_by plan.0 held review.0 review.1 })
 
 -- the rule of decisions is that of the plan and its shares
 rule_is : (r : Result (List PairAt) Fault) (rule : SideRule) (p : PreparedView) (d : Decisions) → and_then r (λ pairs. Ok (decided_by rule p pairs)) ≡ Ok d → d.rule ≡ rule
-rule_is (Ok pairs) rule p d e = ap (λ (x : Decisions). x.rule) (sym (same_value _ _ e))
-rule_is (Err f) rule p d e = no_value f d e
+rule_is (Ok pairs) rule p d e = ap (λ (x : Decisions). x.rule) (sym (ok_same _ _ e))
+rule_is (Err f) rule p d e = no_ok f d e
 
 -- a candidate is a link by the rule, or by review
-some_same : (x y : Candidate) → Some x ≡ Some y → x ≡ y
-some_same x y e = cc
-
 abbrev IsBy : Decision → Option Verdict → PairAt → Candidate → Type 0
 IsBy d v at c = ((d ≡ decision.Link) ⊎ ((d ≡ decision.Possible) × (v ≡ Some verdict.Link))) × (at ≡ record { a = c.a; b = c.b })
 
@@ -121,14 +107,10 @@ module _ (files : PreparedView) (rule : SideRule) (journal : List Entry) (award 
       ⊎ ((decision_at rule files.values.a.rows files.values.b.rows x ≡ decision.Possible) × (verdict_on journal x.a x.b ≡ Some verdict.Link)) in
       subst P h.1 h.0
 
-  of_option : (own : Option Candidate) (rest : List Candidate) → ((c : Candidate) → own ≡ Some c → IsByRuleOrReview files rule journal c) → All (IsByRuleOrReview files rule journal) rest
-      → All (IsByRuleOrReview files rule journal) (cons_option own rest)
-  of_option (Some c) rest h all = All-cons (IsByRuleOrReview files rule journal) c rest (h c refl) all
-  of_option None rest h all = all
-
   all_by : (pairs : List PairAt) → All (IsByRuleOrReview files rule journal) (candidates_of rule files.values.a.rows files.values.b.rows journal award pairs)
   all_by [] = λ k d within. absurd (omega arith)
-  all_by (at ∷ pairs) = of_option (candidate_of rule files.values.a.rows files.values.b.rows journal award at) _ (of_pair at) (all_by pairs)
+  all_by (at ∷ pairs) =
+      all_if (IsByRuleOrReview files rule journal) (candidates_of rule files.values.a.rows files.values.b.rows journal award pairs) (candidate_of rule files.values.a.rows files.values.b.rows journal award at) (of_pair at) (all_by pairs)
 
 -- a fault has a status above 0
 status_above : (f : Fault) → fault_status f ≡ 0 → ⊥

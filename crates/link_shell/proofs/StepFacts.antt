@@ -13,16 +13,16 @@ use Rattle.link_shell.specs.Loads.{HasLoadCause, IsLoadFault, load_of, loaded, L
 use Rattle.link_shell.specs.Seen.{StoreSeen}
 use Rattle.link_shell.specs.Steps.{◌>>=◌, ComesTo, file_within, gives, IsLoadIn, load, Might, MightLoad, outcome, Reaches, seen_by, Steps, StopsBy, Takes}
 
-abbrev ok : {T : Type 0} → T → Result T Fault
+abbrev pub ok : {T : Type 0} → T → Result T Fault
 ok x = Ok x
 
-abbrev err : (T : Type 0) → Fault → Result T Fault
+abbrev pub err : (T : Type 0) → Fault → Result T Fault
 err T f = Err f
 
-ok_same : {T : Type 0} (x y : T) → ok x ≡ ok y → x ≡ y
+pub ok_same : {T : Type 0} (x y : T) → ok x ≡ ok y → x ≡ y
 ok_same x y e = cc
 
-no_ok : {T : Type 0} {P : Type 0} (f : Fault) (x : T) → err T f ≡ ok x → P
+pub no_ok : {T : Type 0} {P : Type 0} (f : Fault) (x : T) → err T f ≡ ok x → P
 no_ok f x e = absurd (cc)
 
 err_same : (A B : Type 0) (f g : Fault) → err A f ≡ err A g → err B f ≡ err B g

@@ -12,6 +12,7 @@ use Rattle.link_shell.specs.PairsColumns.{are_column_words, Columns, columns_in,
 use Rattle.link_shell.specs.PairsSettings.{are_settings_words, settings_script}
 use Rattle.link_shell.specs.RuleSettings.{are_rule_words, rule_script}
 use Rattle.link_shell.specs.RunSettings.{are_run_words, run_script}
+use Rattle.link_shell.specs.VerifySettings.{are_verify_words, verify_script}
 use Rattle.link_shell.specs.Words.{word}
 use Rattle.link_shell.specs.declared.command.Command.{Command as CommandWords}
 use Rattle.link_shell.specs.declared.command.Command.TheVariants as words
@@ -27,6 +28,7 @@ pub data Command : Type 0 where
   review_of_settings : NewReview → Command
   migration_of_settings : List ℕ → Command
   run_of_settings : List ℕ → Command
+  verification_of_settings : List ℕ → Command
   generation : ℕ → Command
 
 -- the command that the words are a form of
@@ -42,6 +44,7 @@ command_of words =
     else if are_review_words words then Some (review_of_settings (review_in words))
     else if are_migrate_words words then Some (migration_of_settings (word words 1))
     else if are_run_words words then Some (run_of_settings (word words 1))
+    else if are_verify_words words then Some (verification_of_settings (word words 1))
     else if are_generate_words words then Some (generation (rows_in words)) else None
 
 -- the script of a command
@@ -55,6 +58,7 @@ script_of (open_of_settings name) = open_script name
 script_of (review_of_settings review) = review_script review
 script_of (migration_of_settings name) = migrate_script name
 script_of (run_of_settings name) = run_script name
+script_of (verification_of_settings name) = verify_script name
 script_of (generation rows) = generate_script rows
 
 -- a command, as its words are held
@@ -68,6 +72,7 @@ command_in (words.OpenOfSettings name) = open_of_settings name.now
 command_in (words.ReviewOfSettings request) = review_of_settings (review_of_request request)
 command_in (words.MigrationOfSettings name) = migration_of_settings name.now
 command_in (words.RunOfSettings name) = run_of_settings name.now
+command_in (words.VerificationOfSettings name) = verification_of_settings name.now
 command_in (words.Generation rows) = generation rows
 
 -- words that were read keep their ranges: the levels of a frontier are levels, a review has a day and a reviewer

@@ -5,7 +5,7 @@ use Rattle.link_core.specs.Rules.{IsFrontierText}
 use Rattle.link_shell.specs.Does.{Script}
 use Rattle.link_shell.specs.Due.{Due, prints}
 use Rattle.link_shell.specs.Front.{shared_plan}
-use Rattle.link_shell.specs.Numbers.{is_number_word, number_in}
+use Rattle.csv_rows.specs.Numbers.{is_decimal, number_in}
 use Rattle.link_shell.specs.Words.{is_settings_word, word}
 use Rattle.link_shell.specs.declared.ends.Ended.TheVariants.{Done}
 use Rattle.link_shell.specs.declared.front.Shared.{Shared}
@@ -13,7 +13,7 @@ use Rattle.link_shell.specs.declared.frontier_settings.FrontierRequest.{Frontier
 
 -- a level in parts per million
 abbrev pub is_level_word : List ℕ → Bool
-is_level_word w = is_number_word w && nat_le (number_in w) PER_MILLION
+is_level_word w = is_decimal w && nat_le (number_in w) PER_MILLION
 
 -- levels of which the first is at least this, and each above the one before
 abbrev pub are_levels_from : ℕ → List (List ℕ) → Bool

@@ -13,7 +13,7 @@ use Rattle.workload.specs.Made.{text_of_a, text_of_b, text_of_sample}
 use Rattle.workload.specs.MadeSettings.{text_of_settings}
 use Rattle.link_shell.specs.Does.{Script}
 use Rattle.link_shell.specs.Due.{Due, prints}
-use Rattle.link_shell.specs.Numbers.{is_number_word, number_in}
+use Rattle.csv_rows.specs.Numbers.{is_decimal, number_in}
 use Rattle.link_shell.specs.RunSettings.{ReviewedPlan}
 use Rattle.link_shell.specs.Steps.{gives}
 use Rattle.link_shell.specs.Words.{word}
@@ -22,7 +22,7 @@ use Rattle.link_shell.specs.declared.generate.MadeDecisions.{MadeDecisions}
 
 -- 2 to 100,000, without a leading zero
 abbrev pub is_rows_word : List ℕ → Bool
-is_rows_word w = is_number_word w && nat_le 2 (number_in w) && nat_le (number_in w) MOST_ROWS
+is_rows_word w = is_decimal w && nat_le 2 (number_in w) && nat_le (number_in w) MOST_ROWS
 
 abbrev pub are_generate_words : List (List ℕ) → Bool
 are_generate_words words = (length words == 2) && bytes_eq (word words 0) (codes "generate") && is_rows_word (word words 1)

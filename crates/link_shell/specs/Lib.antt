@@ -10,7 +10,6 @@ pub mod Front
 pub mod PairsColumns
 pub mod PairsSettings
 pub mod Keys
-pub mod Numbers
 pub mod FrontierSettings
 pub mod RunSettings
 pub mod Generate
@@ -22,3 +21,4 @@ pub mod Reviewed
 pub mod OpenSettings
 pub mod MigrateSettings
 pub mod ReviewSettings
+pub mod VerifySettings

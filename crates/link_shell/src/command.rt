@@ -13,7 +13,7 @@ use crate::pairs_columns::ColumnRequest;
 use crate::review_settings::ReviewRequest;
 use crate::{
     frontier_settings, generate, keys, migrate_settings, open_settings, pairs_columns,
-    pairs_settings, review_settings, rule_settings, run_settings,
+    pairs_settings, review_settings, rule_settings, run_settings, verify_settings,
 };
 use link_base::{Fault, status_of};
 use link_outside::{Sink, SinkError, Store, write_fault};
@@ -37,6 +37,8 @@ pub(crate) enum Command<'w> {
     MigrationOfSettings(&'w str),
     // The name of the settings file.
     RunOfSettings(&'w str),
+    // The name of the settings file.
+    VerificationOfSettings(&'w str),
     // How many rows a file has.
     Generation(u32),
 }
@@ -83,6 +85,10 @@ fn read_command(words: &[String]) -> Option<Command<'_>>
         Some(name) => return Some(Command::RunOfSettings(name)),
         None => {}
     }
+    match verify_settings::read(words) {
+        Some(name) => return Some(Command::VerificationOfSettings(name)),
+        None => {}
+    }
     match generate::read(words) {
         Some(rows) => return Some(Command::Generation(rows)),
         None => return None,
@@ -116,6 +122,9 @@ fn follow<S: Store, O: Sink>(
             alloc, name, store, out,
         ),
         Some(Command::RunOfSettings(name)) => run_settings::perform(alloc, name, store, out),
+        Some(Command::VerificationOfSettings(name)) => verify_settings::perform(
+            alloc, name, store, out,
+        ),
         Some(Command::Generation(rows)) => generate::perform(alloc, rows, store, out),
         None => Err(Fault::Usage),
     }

@@ -1,7 +1,9 @@
 // What several commands load at their front.
 ghost use Rattle.std.specs.Prelude.{◌≡◌, IfErr, IfOk, IsUtf8, None, Ok, Some};
 ghost use Rattle.link_base.specs.Fault.{IsAnswer, IsInputFault};
+ghost use Rattle.link_core.specs.Prepared.{prepared};
 ghost use Rattle.link_core.specs.Rules.{IsPreparedFor, shared_rares};
+ghost use Rattle.link_limits.specs.declared.TheConstants.{MOST_POOLED_BYTES};
 ghost use Rattle.link_shell.specs.Front.{both_files, described_files, plan_file, prepared_files, shared_plan, shares_of, shares_over};
 ghost use Rattle.plan_rule.specs.Comparators.{rares_of};
 ghost use Rattle.plan_rule.specs.PlanShares.{given_in};
@@ -93,6 +95,21 @@ pub(crate) fn load_described<S: Store>(
     Ok(Described { plan, inputs })
 }
 
+// Makes two files of a plan ready to be compared.
+pub(crate) fn prepare_files(
+    alloc: Global,
+    plan: &Plan,
+    a: &[u8],
+    b: &[u8],
+) -> Result<Prepared, Fault>
+    requires { KeepsRanges plan.now }
+    ensures kind { IfErr result IsInputFault }
+    ensures answer { IsAnswer (prepared plan.now MOST_POOLED_BYTES a.now b.now) result }
+    ensures ready { IfOk result (IsPreparedFor plan.now) }
+{
+    prepare(alloc, plan, a, b, MOST_POOLED_BYTES)
+}
+
 // Loads the two files of a plan, and makes them ready to be compared.
 pub(crate) fn load_prepared<S: Store>(
     alloc: Global,
@@ -105,13 +122,7 @@ pub(crate) fn load_prepared<S: Store>(
     ensures ready { IfOk result (IsPreparedFor plan.now) }
 {
     let inputs = load_files(alloc, store, plan)?;
-    prepare(
-        alloc,
-        plan,
-        inputs.a.bytes(),
-        inputs.b.bytes(),
-        MOST_POOLED_BYTES,
-    )
+    prepare_files(alloc, plan, inputs.a.bytes(), inputs.b.bytes())
 }
 
 // Counts the sample of a plan, which has this name, over the prepared files of the plan.

@@ -3,16 +3,17 @@ ghost use Rattle.std.specs.Prelude.{◌≡◌, ◌≤◌, [], All, IfOk, IfSome,
 ghost use Rattle.std.specs.List.{list_all};
 ghost use Rattle.link_shell.specs.Does.{Does};
 ghost use Rattle.link_shell.specs.FrontierSettings.{are_frontier_words, are_levels_from, asked_in, asked_of_request, frontier_script, is_level_word};
-ghost use Rattle.link_shell.specs.Numbers.{number_in};
+ghost use Rattle.csv_rows.specs.Numbers.{number_in};
 ghost use Rattle.link_shell.specs.Seen.{sink_seen, store_seen};
 ghost use Rattle.link_limits.specs.declared.TheConstants.{PER_MILLION};
 
 use crate::ends::{Ended, print};
 use crate::front::load_shared;
-use crate::numbers::number_of_word;
 use crate::words::{is_settings, word_at};
+use csv_rows::number_of;
 use link_base::{Fault, NoMemory};
 use link_core::frontier_lines;
+use link_limits::PER_MILLION;
 use link_outside::{Sink, Store};
 use std::alloc::Global;
 
@@ -29,7 +30,7 @@ fn are_levels(words: &[String]) -> bool
 {
     let mut least = 0;
     for word in words {
-        match number_of_word(word.as_str()) {
+        match number_of(word.as_bytes(), PER_MILLION) {
             Some(level) if level >= least => least = level + 1,
             _ => return false,
         }
@@ -64,7 +65,7 @@ fn levels_of(alloc: Global, words: &[String]) -> Result<Vec<u32>, NoMemory>
 {
     let mut levels = Vec::new(alloc);
     for word in words {
-        match number_of_word(word.as_str()) {
+        match number_of(word.as_bytes(), PER_MILLION) {
             Some(level) => levels.push(level)?,
             None => unreachable!(),
         }

@@ -6,15 +6,15 @@ ghost use Rattle.link_core.specs.Results.{IsDecidedFor};
 ghost use Rattle.link_core.specs.Rules.{IsPreparedFor};
 ghost use Rattle.link_shell.specs.Does.{Does};
 ghost use Rattle.link_shell.specs.Generate.{are_generate_words, decided_input, generate_script, IsMadeNumber, is_rows_word, review_of_made, rows_in};
-ghost use Rattle.link_shell.specs.Numbers.{number_in};
+ghost use Rattle.csv_rows.specs.Numbers.{number_in};
 ghost use Rattle.link_shell.specs.Seen.{sink_seen, store_seen};
 ghost use Rattle.settings.specs.Ranges.{KeepsRanges};
 ghost use Rattle.workload.specs.Made.{text_of_a, text_of_b, text_of_sample};
 ghost use Rattle.workload.specs.MadeSettings.{text_of_settings};
 
 use crate::ends::{Ended, print};
-use crate::numbers::number_of_word;
 use crate::words::word_at;
+use csv_rows::number_of;
 use link_base::Fault;
 use link_core::{Decided, PlanShares, Prepared, counted, decide_all, finish, prepare};
 use link_limits::{MOST_POOLED_BYTES, MOST_ROWS};
@@ -43,8 +43,8 @@ fn rows_of(word: &str) -> Option<u32>
     ensures value { IfSome result (λ rows. rows ≡ number_in word.now) }
     ensures range { IfSome result IsMadeNumber }
 {
-    match number_of_word(word) {
-        Some(rows) if 2 <= rows && rows <= MOST_ROWS => Some(rows),
+    match number_of(word.as_bytes(), MOST_ROWS) {
+        Some(rows) if 2 <= rows => Some(rows),
         _ => None,
     }
 }

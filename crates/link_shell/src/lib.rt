@@ -10,7 +10,6 @@ mod generate;
 mod keys;
 mod load;
 mod migrate_settings;
-mod numbers;
 mod open_settings;
 mod pairs_columns;
 mod pairs_settings;
@@ -18,6 +17,7 @@ mod review_settings;
 mod reviewed;
 mod rule_settings;
 mod run_settings;
+mod verify_settings;
 mod words;
 
 pub use command::{linkage, perform};

@@ -1,11 +1,12 @@
 // Loads of inputs.
 ghost use Rattle.std.specs.Prelude.{◌≡◌, ◌≤◌, ◌<◌, ◌+◌, ◌^◌, IfErr, IfOk, length, option_map};
+ghost use Rattle.link_limits.specs.declared.TheConstants.{MOST_WRITTEN_BYTES};
 ghost use Rattle.link_shell.specs.Loads.{HasLoadCause, IsLoadFault, loaded, LoadGives};
 ghost use Rattle.link_shell.specs.Seen.{store_seen};
-ghost use Rattle.link_shell.specs.Steps.{file, optional_file, Takes};
+ghost use Rattle.link_shell.specs.Steps.{file, file_within, optional_file, Takes};
 
 use link_base::{Fault, FileRole, Text};
-use link_limits::MOST_FILE_BYTES;
+use link_limits::{MOST_FILE_BYTES, MOST_WRITTEN_BYTES};
 use link_outside::{Load, Store, StoreError};
 use std::alloc::Global;
 
@@ -32,6 +33,19 @@ pub fn load_whole<S: Store>(
         Err(StoreError::Failed) => Err(Fault::StoreFault { name: failed }),
         Err(StoreError::NoMemory) => Err(Fault::NoMemory),
     }
+}
+
+// Loads a file that was written, of at most 128 MiB.
+pub(crate) fn load_written<S: Store>(
+    alloc: Global,
+    store: &mut S,
+    name: &str,
+    role: FileRole,
+) -> Result<Text, Fault>
+    ensures takes { Takes (file_within MOST_WRITTEN_BYTES role name.now) (store_seen S.tells S.held S.faults store.old store.new) result }
+    ensures within { IfOk result (λ text. length text ≤ MOST_WRITTEN_BYTES) }
+{
+    load_whole(alloc, store, name, role, MOST_WRITTEN_BYTES)
 }
 
 // Loads a file of at most 64 MiB.

@@ -19,8 +19,8 @@ pub(crate) struct Case {
     pub(crate) run: Vec<Run>,
 }
 
-/// What a file comes to hold before a command: a text, the bytes of a file beside the case file and pieces, in this order,
-/// or what it holds where none of them is given; then with texts replaced, and cut.
+/// What a file comes to hold before a command: a text, the bytes of a file beside the case file, a file of a made input and
+/// pieces, in this order, or what it holds where none of them is given; then with texts replaced, and cut.
 #[derive(Drop, Deserialize)]
 #[serde(deny_unknown_fields)]
 pub(crate) struct Change {
@@ -30,6 +30,9 @@ pub(crate) struct Change {
     /// The name of a file beside the case file.
     #[serde(default)]
     pub(crate) from: Option<String>,
+    /// How many rows a made input has, whose file of this name is meant: `a.csv`, `b.csv` or `sample.csv`.
+    #[serde(default)]
+    pub(crate) made: Option<u32>,
     /// Texts that are repeated.
     #[serde(default)]
     pub(crate) piece: Vec<Piece>,

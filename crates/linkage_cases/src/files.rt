@@ -1,10 +1,13 @@
 // What the files of a case hold.
 use crate::case::{Change, Piece, Replacement};
 use anyhow::anyhow;
+use link_base::Text;
+use link_limits::MOST_ROWS;
 use link_outside::MemoryStore;
 use std::alloc::{AllocError, Global};
 use std::fs;
 use std::rt::Files as HostFiles;
+use workload::make_input;
 
 /// A name, and what it holds, if anything.
 #[derive(Drop)]
@@ -75,6 +78,20 @@ fn replaced(alloc: Global, bytes: &[u8], replacement: &Replacement) -> anyhow::R
     Ok(new)
 }
 
+// The file of a name in a made input of so many rows.
+fn made_text(alloc: Global, name: &str, rows: u32) -> anyhow::Result<Text> {
+    if rows < 2 || rows > MOST_ROWS {
+        return Err(anyhow!("no made input of so many rows: {rows}"));
+    }
+    let input = make_input(alloc, rows)?;
+    match name {
+        "a.csv" => Ok(input.a),
+        "b.csv" => Ok(input.b),
+        "sample.csv" => Ok(input.sample),
+        _ => Err(anyhow!("no made file: {name}")),
+    }
+}
+
 // What a change has a file hold, from what it holds.
 fn changed<R: HostFiles + AllocGlobal>(
     rt: &R,
@@ -85,7 +102,10 @@ fn changed<R: HostFiles + AllocGlobal>(
     if change.missing {
         return Ok(None);
     }
-    let is_new = change.from.is_some() || change.text.is_some() || !change.piece.is_empty();
+    let is_new = change.from.is_some()
+        || change.text.is_some()
+        || change.made.is_some()
+        || !change.piece.is_empty();
     let mut bytes = if is_new {
         Vec::new(alloc)
     } else {
@@ -96,6 +116,9 @@ fn changed<R: HostFiles + AllocGlobal>(
     }
     if let Some(from) = &change.from {
         bytes.extend_from_slice(&fs::read(rt, from.as_str())?)?;
+    }
+    if let Some(rows) = change.made {
+        bytes.extend_from_slice(made_text(alloc, &change.name, rows)?.bytes())?;
     }
     for piece in &change.piece {
         push_piece(alloc, &mut bytes, piece)?;

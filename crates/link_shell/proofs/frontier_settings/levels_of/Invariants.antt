@@ -3,7 +3,7 @@ use Rattle.std.specs.Prelude.{All, string_bytes, true}
 use Rattle.std.specs.List.{list_all}
 use Rattle.link_limits.specs.declared.TheConstants.{PER_MILLION}
 use Rattle.link_shell.specs.FrontierSettings.{is_level_word}
-use Rattle.link_shell.specs.Numbers.{number_in}
+use Rattle.csv_rows.specs.Numbers.{number_in}
 use Rattle.link_shell.proofs.frontier_settings.levels_of.Given as goal
 
 abbrev pub invariant-loop-word : goal.invariant-loop-word

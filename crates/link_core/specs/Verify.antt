@@ -1,0 +1,44 @@
+-- What an auditor is told of written files: that they prove their links, or the first reason that refutes them (`verify_files`, its lone
+-- clause). The law `run_is_verified` says that what a run writes proves its links.
+use Rattle.std.specs.Prelude.{◌≡◌, ◌++◌, ℕ, Bool, true, false, List, [], codes, decimal, Result, Ok, Err}
+use Rattle.std.specs.Fmt.{signed_decimal}
+use Rattle.link_base.specs.Standard.{id_at, Record}
+use Rattle.link_base.specs.declared.rule.Candidate.{Candidate}
+use Rattle.pair_decisions.specs.PairRule.{SideRule}
+use Rattle.plan_rule.specs.Comparators.{rares_of}
+use Rattle.review_journal.specs.declared.entry.Entry.{Entry}
+use Rattle.settings.specs.declared.plan.Plan.{Plan}
+use Rattle.written_check.specs.Verified.{verified, WrittenTexts}
+use Rattle.written_check.specs.declared.refutation.Refutation.{Refutation}
+use Rattle.written_check.specs.declared.refutation.Refutation.TheVariants as refutation
+use Rattle.link_core.specs.Prepared.{PreparedView}
+use Rattle.link_core.specs.Results.{candidates_in}
+use Rattle.link_core.specs.declared.verify.Verification.{Verification}
+
+-- the links that written files prove for a plan's rule and candidates, or the first reason that refutes them
+abbrev pub verified_in : Plan → PreparedView → SideRule → List Entry → WrittenTexts → Result (List Candidate) Refutation
+verified_in plan p rule entries texts = verified (rares_of plan.fields) rule.cells (candidates_in plan p rule entries) p.files.a.records p.files.b.records texts
+
+-- a reason: the row at fault, the ids of the candidate that is not covered, or the two sums
+abbrev pub reason_text : List Record → List Record → Refutation → List ℕ
+reason_text a b (refutation.Rule row) = codes "rule " ++ decimal row
+reason_text a b (refutation.Link row) = codes "link " ++ decimal row
+reason_text a b (refutation.Reused row) = codes "reused " ++ decimal row
+reason_text a b (refutation.Price row) = codes "price " ++ decimal row
+reason_text a b (refutation.Uncovered at) = codes "uncovered " ++ (id_at a at.a ++ (codes " " ++ id_at b at.b))
+reason_text a b (refutation.Sum links prices) = codes "sum " ++ (signed_decimal links ++ (codes " " ++ signed_decimal prices))
+reason_text a b refutation.NoMemory = []
+
+-- the line that is printed
+abbrev pub line_of : PreparedView → Result (List Candidate) Refutation → List ℕ
+line_of p (Ok links) = codes "yes\n"
+line_of p (Err r) = codes "no: " ++ (reason_text p.files.a.records p.files.b.records r ++ codes "\n")
+
+abbrev pub is_proved : Result (List Candidate) Refutation → Bool
+is_proved (Ok links) = true
+is_proved (Err r) = false
+
+-- whether written files prove their links, and the line that says so
+pub record Verifies (p : PreparedView) (told : Result (List Candidate) Refutation) (v : Verification) : Type 0 where
+  pub proved : v.proved ≡ is_proved told
+  pub line : v.line ≡ line_of p told

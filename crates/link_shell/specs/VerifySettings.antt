@@ -1,0 +1,60 @@
+-- The command `verify SETTINGS`: its words, its steps and what is due, by the clause `follows` of `perform`. What the three files come to
+-- is a function of what the names hold.
+use Rattle.std.specs.Prelude.{◌≡◌, ℕ, List, Bool, true, false, codes, Result, Ok}
+use Rattle.link_base.specs.declared.fault.FileRole.TheVariants as role
+use Rattle.link_base.specs.declared.rule.Candidate.{Candidate}
+use Rattle.link_core.specs.Verify.{is_proved, line_of, verified_in}
+use Rattle.link_limits.specs.declared.TheConstants.{MOST_WRITTEN_BYTES}
+use Rattle.written_check.specs.Verified.{WrittenTexts}
+use Rattle.written_check.specs.declared.refutation.Refutation.{Refutation}
+use Rattle.link_shell.specs.Does.{Script}
+use Rattle.link_shell.specs.Due.{Due, prints}
+use Rattle.link_shell.specs.Front.{plan_file}
+use Rattle.link_shell.specs.Reviewed.{reviewed_plan}
+use Rattle.link_shell.specs.RunSettings.{ReviewedPlan}
+use Rattle.link_shell.specs.Steps.{◌>>=◌, file_within, gives, Steps}
+use Rattle.link_shell.specs.Words.{are_verb_and_settings}
+use Rattle.link_shell.specs.declared.ends.Ended.{Ended}
+use Rattle.link_shell.specs.declared.ends.Ended.TheVariants.{Done, Refuted}
+
+abbrev pub are_verify_words : List (List ℕ) → Bool
+are_verify_words = are_verb_and_settings (codes "verify")
+
+-- the three files that are verified, of at most 128 MiB each
+abbrev pub written_files : Steps WrittenTexts
+written_files = do
+  rule ← file_within MOST_WRITTEN_BYTES role.Rule (codes "rule.csv")
+  links ← file_within MOST_WRITTEN_BYTES role.Links (codes "links.csv")
+  prices ← file_within MOST_WRITTEN_BYTES role.Prices (codes "prices.csv")
+  gives (Ok (record { rule = rule; links = links; prices = prices }))
+
+-- a plan with its decisions and its journal, and the written files
+pub record WrittenPlan : Type 0 where
+  pub found : ReviewedPlan
+  pub texts : WrittenTexts
+
+abbrev pub verified_settings : List ℕ → Steps WrittenPlan
+verified_settings name = do
+  plan ← plan_file name
+  review ← reviewed_plan plan
+  texts ← written_files
+  gives (Ok (record { found = record { plan = plan; review = review }; texts = texts }))
+
+-- the links that the files prove, or the first reason that refutes them
+abbrev pub proved_by : WrittenPlan → Result (List Candidate) Refutation
+proved_by w = verified_in w.found.plan w.found.review.files w.found.review.decided.rule w.found.review.journal w.texts
+
+-- status 0 where there is no reason, and 9 where there is one
+abbrev pub ended_if : Bool → Ended
+ended_if true = Done
+ended_if false = Refuted
+
+abbrev pub ended_by : Result (List Candidate) Refutation → Ended
+ended_by told = ended_if (is_proved told)
+
+-- the line is printed: `yes`, or `no: ` and the first reason
+abbrev pub is_told : WrittenPlan → Due → Type 0
+is_told w due = due ≡ prints (ended_by (proved_by w)) (line_of w.found.review.files (proved_by w))
+
+abbrev pub verify_script : List ℕ → Script
+verify_script name = record { Found = WrittenPlan; steps = verified_settings name; due = is_told }

@@ -1,0 +1,6 @@
+pub mod ApartLemmas
+pub mod LinkLemmas
+pub mod PriceLemmas
+pub mod SumLemmas
+pub mod VerifiedLemmas
+pub mod WrittenLemmas

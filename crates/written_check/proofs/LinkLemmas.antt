@@ -1,0 +1,240 @@
+-- The candidates of the rows of written links.
+use Rattle.std.proofs.Common.{◌≡◌, ◌≢◌, ◌<◌, ◌+◌, ◌-◌, ◌⊎◌, ◌∷◌, ◌++◌, ◌∙◌, ℕ, zero, suc, Bool, true, false, List, [], All, length, get_or, if◌then◌else◌, nat_lt, Option, Some, None, Err, inl, inr, refl, sym, ap, subst, arith}
+use Rattle.std.specs.Prelude.{AllPairs, Contains, find, MatchOption}
+use Rattle.std.specs.List.{list_all, position_or_len, slice_get}
+use Rattle.std.specs.Str.{bytes_eq}
+use Rattle.std.proofs.lemmas.Bool.{cases_Bool, true≢false}
+use Rattle.std.proofs.lemmas.Bool.Decides.{nat_tests}
+use Rattle.std.proofs.lemmas.List.{get_or_default}
+use Rattle.std.proofs.lemmas.List.Elements.{All-cons, All-contains, All-nil, Contains-get_or}
+use Rattle.std.proofs.lemmas.List.Folds.{list_all_at}
+use Rattle.std.proofs.lemmas.List.Quantifiers.{all_pairs_push}
+use Rattle.std.proofs.lemmas.List.Sums.{AllPass-from_list_all, list_all-from_AllPass, position_or_len_is}
+use Rattle.std.proofs.lemmas.Option.{get_or_from_slice_get, slice_get_cases}
+use Rattle.std.proofs.lemmas.Slice.Eq.{bytes_eq-Decides}
+use Rattle.assignment_laws.proofs.Members.{Contains-later, same_member}
+use Rattle.assignment_laws.specs.Assignment.{IsBefore, IsWithin, no_candidate}
+use Rattle.link_base.specs.Standard.{HaveDistinctIds, id_at, IsFreshId, no_record, position_of_id, Record}
+use Rattle.link_base.specs.declared.rule.Candidate.{Candidate}
+use Rattle.link_base.specs.declared.rule.PairAt.{PairAt}
+use Rattle.link_report.proofs.ReadingLemmas.{row_same, same_itself}
+use Rattle.link_report.specs.LinksText.{link_fields}
+use Rattle.link_report.specs.Reading.{same_row}
+use Rattle.price_check.specs.Verdict.{IsCandidate, IsCandidateAt}
+use Rattle.written_check.specs.LinkRows.{after_all, candidate_in, HasIds, is_before, IsPlaceOf, links_in, taken_more}
+use Rattle.written_check.specs.declared.refutation.Refutation.TheVariants as refutation
+
+abbrev Row : Type 0
+Row = List (List ℕ)
+
+pub found_none : {X : Type 0} (p : X → Bool) (xs : List X) → All (λ x. p x ≡ false) xs → find p xs ≡ None
+found_none p [] all = refl
+found_none p (x ∷ xs) all = rw (all 0 x (omega arith)) (found_none p xs (λ k d lt. all (suc k) d (omega arith)))
+
+pub record IsFound {X : Type 0} (p : X → Bool) (xs : List X) (x : X) : Type 0 where
+  pub passes : p x ≡ true
+  pub among : Contains xs x
+
+some_same : {X : Type 0} (x y : X) (P : X → Type 0) → Some x ≡ Some y → P x → P y
+some_same x y P e h = subst P (some_is e) h
+  where
+    some_is : Some x ≡ Some y → x ≡ y
+    some_is e = cc e
+
+no_some : {X : Type 0} {P : Type 0} (x : X) → None ≡ Some x → P
+no_some x e = absurd (cc e)
+
+fails_if : {X : Type 0} (p : X → Bool) (y : X) (ys : List X) → (b : Bool) → p y ≡ b → (find p ys ≡ None → All (λ x. p x ≡ false) ys) → (if b then Some y else find p ys) ≡ None → All (λ x. p x ≡ false) (y ∷ ys)
+fails_if p y ys true e rest is = no_some y (sym is)
+fails_if p y ys false e rest is = All-cons (λ x. p x ≡ false) y ys e (rest is)
+
+pub all_fail : {X : Type 0} (p : X → Bool) (xs : List X) → find p xs ≡ None → All (λ x. p x ≡ false) xs
+all_fail p [] is = All-nil (λ x. p x ≡ false)
+all_fail p (y ∷ ys) is = fails_if p y ys (p y) refl (all_fail p ys) is
+
+found_if : {X : Type 0} (p : X → Bool) (y : X) (ys : List X) (x : X) → (b : Bool) → p y ≡ b → (find p ys ≡ Some x → IsFound p ys x) → (if b then Some y else find p ys) ≡ Some x → IsFound p (y ∷ ys) x
+found_if p y ys x true e rest is = some_same y x (λ z. IsFound p (y ∷ ys) z) is (record { passes = e; among = (0, omega arith, refl) })
+found_if p y ys x false e rest is = let h = rest is in record { passes = h.passes; among = Contains-later y ys x h.among }
+
+pub found_some : {X : Type 0} (p : X → Bool) (xs : List X) (x : X) → find p xs ≡ Some x → IsFound p xs x
+found_some p [] x is = no_some x is
+found_some p (y ∷ ys) x is = found_if p y ys x (p y) refl (found_some p ys x) is
+
+found_is : {X : Type 0} (p : X → Bool) (xs : List X) (x : X) (o : Option X) → find p xs ≡ o → Contains xs x → p x ≡ true → ((y : X) → IsFound p xs y → y ≡ x) → o ≡ Some x
+found_is p xs x None is among passes only = absurd (true≢false (sym passes ∙ none_passes p xs x is among))
+  where
+    none_passes : {X : Type 0} (p : X → Bool) (xs : List X) (x : X) → find p xs ≡ None → Contains xs x → p x ≡ false
+    none_passes p xs x is among = All-contains (λ y. p y ≡ false) xs x (all_fail p xs is) among
+found_is p xs x (Some y) is among passes only = ap Some (only y (found_some p xs y is))
+
+-- a member that passes, and is the only one that does, is found
+pub found_only : {X : Type 0} (p : X → Bool) (xs : List X) (x : X) → Contains xs x → p x ≡ true → ((y : X) → IsFound p xs y → y ≡ x) → find p xs ≡ Some x
+found_only p xs x among passes only = found_is p xs x (find p xs) refl among passes only
+
+same_bytes : (text : List ℕ) → bytes_eq text text ≡ true
+same_bytes text = (bytes_eq-Decides text text).1 refl
+
+other_bytes : (x y : List ℕ) → x ≢ y → bytes_eq x y ≡ false
+other_bytes x y apart =
+    elim (cases_Bool (bytes_eq x y)) [
+      | inl same ↦ absurd (apart ((bytes_eq-Decides x y).0 same))
+      | inr other ↦ other
+    ]
+
+-- the record at a position is the one that its id names
+pub known_again : (file : List Record) (at : ℕ) → HaveDistinctIds file → at < length file → position_of_id (id_at file at) file ≡ Some at
+known_again file at distinct within =
+    let here : position_or_len (λ (r : Record). bytes_eq (id_at file at) r.id) file ≡ at =
+    position_or_len_is (λ (r : Record). bytes_eq (id_at file at) r.id) file at no_record (omega arith)
+    (λ k lt. other_bytes (id_at file at) (get_or file k no_record).id (λ e. distinct k at no_record lt within (sym e)))
+    (λ lt. same_bytes (id_at file at)) in
+    let test : nat_lt at (length file) ≡ true = grind (arith, nat_tests) in
+    rw (here, test) refl
+
+some_number : (x y : ℕ) → Some x ≡ Some y → x ≡ y
+some_number x y e = cc e
+
+-- a record whose id is found stands where it was found
+pub stands_there : (file : List Record) (id : List ℕ) (at found : ℕ) → HaveDistinctIds file → at < length file → id_at file at ≡ id → Some found ≡ position_of_id id file → at ≡ found
+stands_there file id at found distinct within is place =
+    some_number at found (sym (known_again file at distinct within) ∙ ap (λ (t : List ℕ). position_of_id t file) is ∙ sym place)
+
+-- no record has an id that is fresh
+pub no_record_has : (file : List Record) (id : List ℕ) (at : ℕ) → IsFreshId id file → at < length file → id_at file at ≡ id → ⊥
+no_record_has file id at fresh within is = fresh at no_record within is
+
+module _ (cs : List Candidate) (a b : List Record) (row : Row) (within : All (IsWithin (length a) (length b)) cs) where
+  pub none_of_a : IsFreshId (get_or row 0 []) a → All (λ (c : Candidate). HasIds a b row c → ⊥) cs
+  none_of_a fresh k d lt ids = no_record_has a (get_or row 0 []) (get_or cs k d).a fresh (within k d lt).0 ids.0
+
+  pub none_of_b : IsFreshId (get_or row 1 []) b → All (λ (c : Candidate). HasIds a b row c → ⊥) cs
+  none_of_b fresh k d lt ids = no_record_has b (get_or row 1 []) (get_or cs k d).b fresh (within k d lt).1 ids.1
+
+  module _ (distinct_a : HaveDistinctIds a) (distinct_b : HaveDistinctIds b) (of_a of_b : ℕ) (is_a : Some of_a ≡ position_of_id (get_or row 0 []) a) (is_b : Some of_b ≡ position_of_id (get_or row 1 []) b) where
+    abbrev pair : PairAt
+    pair = record { a = of_a; b = of_b }
+
+    places : (c : Candidate) → IsWithin (length a) (length b) c → HasIds a b row c → (c.a ≡ of_a) × (c.b ≡ of_b)
+    places c inside ids = (stands_there a (get_or row 0 []) c.a of_a distinct_a inside.0 ids.0 is_a, stands_there b (get_or row 1 []) c.b of_b distinct_b inside.1 ids.1 is_b)
+
+    pub none_there : (IsCandidate cs pair → ⊥) → All (λ (c : Candidate). HasIds a b row c → ⊥) cs
+    none_there none k d lt ids =
+        let at = places (get_or cs k d) (within k d lt) ids in
+        none (k, (lt, λ e. (ap (λ (c : Candidate). c.a) (get_or_default cs k e d lt) ∙ at.0, ap (λ (c : Candidate). c.b) (get_or_default cs k e d lt) ∙ at.1)))
+
+    pub only_there : (place : ℕ) → AllPairs IsBefore cs → IsCandidateAt cs pair place → All (λ (c : Candidate). HasIds a b row c → c ≡ get_or cs place no_candidate) cs
+    only_there place rising at k d lt ids =
+        let there = places (get_or cs k d) (within k d lt) ids in
+        let here = at.1 no_candidate in
+        same_member cs (get_or cs k d) (get_or cs place no_candidate) rising (Contains-get_or cs k d lt) (Contains-get_or cs place no_candidate at.0)
+        (there.0 ∙ sym here.0) (there.1 ∙ sym here.1)
+
+-- a row that is that of a candidate has its ids
+ids_of_row : (a b : List Record) (c : Candidate) (row : Row) → same_row (link_fields a b c) row ≡ true → HasIds a b row c
+ids_of_row a b c row same =
+    let is = row_same (link_fields a b c) row same in
+    (ap (λ (r : Row). get_or r 0 []) is, ap (λ (r : Row). get_or r 1 []) is)
+
+pub same_turned : (x y : Row) → same_row x y ≡ same_row y x
+same_turned x y = by_test (same_row x y) (same_row y x) refl refl
+  where
+    by_test : (s t : Bool) → same_row x y ≡ s → same_row y x ≡ t → s ≡ t
+    by_test true true e f = refl
+    by_test false false e f = refl
+    by_test true false e f = absurd (true≢false (sym (same_itself x) ∙ ap (λ (r : Row). same_row r x) (row_same x y e) ∙ f))
+    by_test false true e f = absurd (true≢false (sym (same_itself y) ∙ ap (λ (r : Row). same_row r y) (row_same y x f) ∙ e))
+
+module _ (cs : List Candidate) (a b : List Record) (row : Row) where
+  pub no_candidate_in : All (λ (c : Candidate). HasIds a b row c → ⊥) cs → candidate_in cs a b row ≡ None
+  no_candidate_in none = found_none (λ c. same_row (link_fields a b c) row) cs (λ k d lt. fails (get_or cs k d) (none k d lt) (same_row (link_fields a b (get_or cs k d)) row) refl)
+    where
+      fails : (c : Candidate) → (HasIds a b row c → ⊥) → (t : Bool) → same_row (link_fields a b c) row ≡ t → t ≡ false
+      fails c none true e = absurd (none (ids_of_row a b c row e))
+      fails c none false e = refl
+
+  module _ (place : ℕ) (lt : place < length cs) (only : All (λ (c : Candidate). HasIds a b row c → c ≡ get_or cs place no_candidate) cs) where
+    abbrev there : Candidate
+    there = get_or cs place no_candidate
+
+    pub candidate_there : same_row row (link_fields a b there) ≡ true → candidate_in cs a b row ≡ Some there
+    candidate_there same =
+        found_only (λ c. same_row (link_fields a b c) row) cs there (Contains-get_or cs place no_candidate lt) (same_turned (link_fields a b there) row ∙ same)
+        (λ y found. All-contains (λ (c : Candidate). HasIds a b row c → c ≡ there) cs y only found.among (ids_of_row a b y row found.passes))
+
+    pub another_row : same_row row (link_fields a b there) ≡ false → candidate_in cs a b row ≡ None
+    another_row other = found_none (λ c. same_row (link_fields a b c) row) cs (λ k d within. fails (get_or cs k d) (only k d within) (same_row (link_fields a b (get_or cs k d)) row) refl)
+      where
+        fails : (c : Candidate) → (HasIds a b row c → c ≡ there) → (t : Bool) → same_row (link_fields a b c) row ≡ t → t ≡ false
+        fails c is true e = absurd (true≢false (sym (ap (λ (x : Candidate). same_row (link_fields a b x) row) (sym (is (ids_of_row a b c row e))) ∙ e) ∙ same_turned (link_fields a b there) row ∙ other))
+        fails c is false e = refl
+
+-- one stands before another exactly where the test says so
+pub before_so : (x y : Candidate) → IsBefore x y → is_before x y ≡ true
+before_so x y (inl p) = grind (arith, nat_tests)
+before_so x y (inr p) = grind (arith, nat_tests)
+
+pub so_before : (x y : Candidate) → is_before x y ≡ true → IsBefore x y
+so_before x y e = grind (arith, nat_tests)
+
+pub not_so : (x y : Candidate) → (IsBefore x y → ⊥) → is_before x y ≡ false
+not_so x y not = elim (cases_Bool (is_before x y)) [ inl e ↦ absurd (not (so_before x y e)) | inr e ↦ e ]
+
+before_trans : (x y z : Candidate) → IsBefore x y → IsBefore y z → IsBefore x z
+before_trans x y z (inl p) (inl q) = inl (omega arith)
+before_trans x y z (inl p) (inr q) = inl (omega (arith, p, q.0))
+before_trans x y z (inr p) (inl q) = inl (omega (arith, q, p.0))
+before_trans x y z (inr p) (inr q) = inr (omega (arith, p.0, q.0), omega (arith, p.1, q.1))
+
+module _ (taken : List Candidate) (c : Candidate) (last : ℕ) (is_last : length taken ≡ last + 1) where
+  pub after_last : AllPairs IsBefore taken → IsBefore (get_or taken last no_candidate) c → list_all (λ d. is_before d c) taken ≡ true
+  after_last rising before = list_all-from_AllPass (λ d. is_before d c) taken (λ k d lt. before_so (get_or taken k d) c (each k d lt))
+    where
+      at : (k : ℕ) (d : Candidate) → k < length taken → k < last ⊎ (k ≡ last) → IsBefore (get_or taken k d) c
+      at k d lt (inl p) = before_trans (get_or taken k d) (get_or taken last d) c (rising k last d p (omega arith)) (subst (λ (x : Candidate). IsBefore x c) (get_or_default taken last no_candidate d (omega arith)) before)
+      at k d lt (inr p) = subst (λ (x : Candidate). IsBefore x c) (get_or_default taken last no_candidate d (omega arith) ∙ ap (λ n. get_or taken n d) (sym p)) before
+
+      each : (k : ℕ) (d : Candidate) → k < length taken → IsBefore (get_or taken k d) c
+      each k d lt = at k d lt (grind arith)
+
+  pub not_after_last : (IsBefore (get_or taken last no_candidate) c → ⊥) → list_all (λ d. is_before d c) taken ≡ false
+  not_after_last not = list_all_at (λ d. is_before d c) taken last no_candidate (omega arith) (not_so (get_or taken last no_candidate) c not)
+
+-- whether a candidate stands after each of rising ones is whether it stands after the last
+pub last_decides : (taken : List Candidate) (d c : Candidate) → AllPairs IsBefore taken → Some d ≡ slice_get taken (length taken - 1) → is_before d c ≡ list_all (λ x. is_before x c) taken
+last_decides taken d c rising is = by_length (length taken) refl
+  where
+    told : (last : ℕ) → length taken ≡ last + 1 → get_or taken last no_candidate ≡ d
+    told last e = let at : last ≡ length taken - 1 = omega arith in ap (λ n. get_or taken n no_candidate) at ∙ get_or_from_slice_get taken (length taken - 1) d no_candidate (sym is)
+
+    by_test : (last : ℕ) → length taken ≡ last + 1 → (t : Bool) → is_before d c ≡ t → t ≡ list_all (λ x. is_before x c) taken
+    by_test last e true h = sym (after_last taken c last e rising (subst (λ (x : Candidate). IsBefore x c) (sym (told last e)) (so_before d c h)))
+    by_test last e false h = sym (not_after_last taken c last e (λ before. true≢false (sym (before_so d c (subst (λ (x : Candidate). IsBefore x c) (told last e) before)) ∙ h)))
+
+    by_length : (n : ℕ) → length taken ≡ n → is_before d c ≡ list_all (λ x. is_before x c) taken
+    by_length zero e = elim ((slice_get_cases taken (length taken - 1)).1) [
+      | inl h ↦ absurd (omega (arith, h.1))
+      | inr h ↦ no_some d (sym (is ∙ h.1))
+    ]
+    by_length (suc last) e = by_test last (omega arith) (is_before d c) refl
+
+module _ (cs : List Candidate) (a b : List Record) (row : Row) (within : All (IsWithin (length a) (length b)) cs) (rising : AllPairs IsBefore cs) (distinct_a : HaveDistinctIds a) (distinct_b : HaveDistinctIds b) where
+  pub place_is : (of_a of_b : ℕ) (place : Option ℕ) → Some of_a ≡ position_of_id (get_or row 0 []) a → Some of_b ≡ position_of_id (get_or row 1 []) b
+      → MatchOption place (IsCandidate cs (record { a = of_a; b = of_b }) → ⊥) (λ k. IsCandidateAt cs (record { a = of_a; b = of_b }) k) → IsPlaceOf cs a b row place
+  place_is of_a of_b None is_a is_b h = none_there cs a b row within distinct_a distinct_b of_a of_b is_a is_b h
+  place_is of_a of_b (Some k) is_a is_b h = (h.0, only_there cs a b row within distinct_a distinct_b of_a of_b is_a is_b k rising h)
+
+-- a candidate that is taken stands after those that were taken
+module _ (taken : List Candidate) where
+  pub taken_rising : (found : Option Candidate) (c : Candidate) → AllPairs IsBefore taken → Some c ≡ after_all taken found → AllPairs IsBefore (taken ++ c ∷ [])
+  taken_rising None c rising is = no_some c (sym is)
+  taken_rising (Some d) c rising is = by_test (list_all (λ x. is_before x d) taken) refl is
+    where
+      by_test : (t : Bool) → list_all (λ x. is_before x d) taken ≡ t → Some c ≡ (if t then Some d else None) → AllPairs IsBefore (taken ++ c ∷ [])
+      by_test true e is = some_same d c (λ x. AllPairs IsBefore (taken ++ x ∷ [])) (sym is) (all_pairs_push IsBefore taken d rising (λ k y lt. so_before (get_or taken k y) d (AllPass-from_list_all (λ x. is_before x d) taken e k y lt)))
+      by_test false e is = no_some c (sym is)
+
+  pub link_taken : (cs : List Candidate) (a b : List Record) (row : Row) (rows : List Row) (c : Candidate) → Some c ≡ after_all taken (candidate_in cs a b row) → links_in cs a b taken (row ∷ rows) ≡ links_in cs a b (taken ++ c ∷ []) rows
+  link_taken cs a b row rows c is = ap (taken_more (λ more. links_in cs a b more rows) taken) (sym is)
+
+  pub link_refused : (cs : List Candidate) (a b : List Record) (row : Row) (rows : List Row) → None ≡ after_all taken (candidate_in cs a b row) → links_in cs a b taken (row ∷ rows) ≡ Err (refutation.Link (length taken + 1))
+  link_refused cs a b row rows is = ap (taken_more (λ more. links_in cs a b more rows) taken) (sym is)

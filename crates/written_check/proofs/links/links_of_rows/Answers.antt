@@ -1,0 +1,26 @@
+use Rattle.std.proofs.Common.{◌≡◌, ◌∙◌, ◌∷◌, ◌++◌, [], List, Some, ap, arith, length, length-append, rules, subst, sym, ℕ}
+use Rattle.std.specs.Prelude.{AllPairs}
+use Rattle.assignment_laws.specs.Assignment.{IsBefore}
+use Rattle.csv.specs.Records.{fields_of}
+use Rattle.link_base.specs.declared.rule.Candidate.{Candidate}
+use Rattle.written_check.specs.LinkRows.{after_all, candidate_in, links_in}
+use Rattle.written_check.proofs.LinkLemmas.{link_taken, taken_rising}
+use Rattle.written_check.proofs.links.links_of_rows.Goals as goal
+
+pub rows-preserved : goal.rows-preserved
+rows-preserved c =
+    let cs = c.args.candidates.now in
+    let a = c.args.a.now in
+    let b = c.args.b.now in
+    let taken = c.rows.links.items in
+    let row = fields_of c.next.new.row in
+    let took : c.rows.rows ≡ row ∷ c.next.new.self = search rules in
+    let pushed : c.push.new.self.items ≡ taken ++ c.in-Some.c ∷ [] = c.in_ok-push-in-Some.ensures.items in
+    let next : Some c.in-Some.c ≡ after_all taken (candidate_in cs a b row) = sym c.in-Some.is ∙ c.in_ok-c.ensures ∙ ap (λ (l : List Candidate). after_all l (candidate_in cs a b row)) c.deref.ensures.value in
+    record {
+      short = omega (arith, ap (λ (r : List (List (List ℕ))). length r) took, ap (λ (l : List Candidate). length l) pushed, length-append taken (c.in-Some.c ∷ []), c.rows.invariant.short);
+      rising = subst (λ (l : List Candidate). AllPairs IsBefore l) (sym pushed) (taken_rising taken (candidate_in cs a b row) c.in-Some.c c.rows.invariant.rising next);
+      told =
+          c.rows.invariant.told ∙ ap (links_in cs a b taken) took ∙ link_taken taken cs a b row c.next.new.self c.in-Some.c next
+          ∙ ap (λ (l : List Candidate). links_in cs a b l c.next.new.self) (sym pushed);
+    }

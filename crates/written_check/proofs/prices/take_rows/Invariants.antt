@@ -1,0 +1,15 @@
+use Rattle.std.proofs.Common.{◌≡◌, ◌≤◌, ◌+◌, length}
+use Rattle.written_check.specs.PriceRows.{prices_in}
+use Rattle.written_check.specs.PricesSeen.{prices_seen}
+use Rattle.written_check.proofs.prices.take_rows.Given as goal
+
+abbrev pub invariant-rows : goal.invariant-rows
+invariant-rows l = record {
+  short : l.number + length l.rows ≤ length l.fn.rows + 1;
+  of_a : length l.prices.a ≡ length l.a;
+  of_b : length l.prices.b ≡ length l.b;
+  told : prices_in l.a l.b 1 (prices_seen l.fn.prices) l.fn.rows ≡ prices_in l.a l.b l.number (prices_seen l.prices) l.rows;
+}
+
+abbrev pub decreases-rows : goal.decreases-rows
+decreases-rows l = length l.rows

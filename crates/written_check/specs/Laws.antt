@@ -1,0 +1,46 @@
+-- The laws of verified files, each carried by a clause of a function of `laws` that does nothing.
+use Rattle.std.specs.Prelude.{◌≡◌, ℤ, All, AllPairs, Bool, List, length, map, Ok}
+use Rattle.assignment_laws.specs.Assignment.{Certifies, IsBefore, IsGreatest, IsOneToOne, IsWithin}
+use Rattle.csv_records.specs.Left.{records_in}
+use Rattle.link_base.specs.Standard.{HaveDistinctIds, Record}
+use Rattle.link_base.specs.declared.rule.Candidate.{Candidate}
+use Rattle.link_base.specs.declared.rule.RuleCell.{RuleCell}
+use Rattle.link_report.specs.LinksText.{link_fields, links_header, text_of_links}
+use Rattle.link_report.specs.PricesText.{text_of_prices}
+use Rattle.link_report.specs.Reading.{rows_under}
+use Rattle.link_report.specs.RuleText.{text_of_rule}
+use Rattle.price_check.specs.Verdict.{HasAllowedValue}
+use Rattle.written_check.specs.Verified.{verified, WrittenTexts}
+
+-- files that are verified prove links that are written there and are greatest: `verified_is_greatest`
+pub record ProvesLinks (candidates : List Candidate) (a b : List Record) (texts : WrittenTexts) (links : List Candidate) : Type 0 where
+  pub rows : rows_under links_header (records_in 44 texts.links) ≡ Ok (map (link_fields a b) links)
+  pub greatest : IsGreatest candidates links
+
+abbrev pub VerifiedIsGreatest : Type 0
+VerifiedIsGreatest =
+    (rares : List Bool) (cells : List RuleCell) (candidates : List Candidate) (a b : List Record) (texts : WrittenTexts) (links : List Candidate)
+    → verified rares cells candidates a b texts ≡ Ok links → ProvesLinks candidates a b texts links
+
+-- what a run writes is verified: `written_is_verified`
+abbrev pub written_texts : List Bool → List RuleCell → List Candidate → List ℤ → List ℤ → List Record → List Record → WrittenTexts
+written_texts rares cells links prices_a prices_b a b = record {
+  rule = text_of_rule rares cells;
+  links = text_of_links a b links;
+  prices = text_of_prices prices_a prices_b a b;
+}
+
+-- candidates between records of two files with distinct ids, rising, with values that are allowed
+pub record AreCandidatesOf (a b : List Record) (candidates : List Candidate) : Type 0 where
+  pub distinct_a : HaveDistinctIds a
+  pub distinct_b : HaveDistinctIds b
+  pub rising : AllPairs IsBefore candidates
+  pub within : All (IsWithin (length a) (length b)) candidates
+  pub allowed : All HasAllowedValue candidates
+
+abbrev pub WrittenIsVerified : Type 0
+WrittenIsVerified =
+    (rares : List Bool) (cells : List RuleCell) (candidates links : List Candidate) (prices_a prices_b : List ℤ) (a b : List Record)
+    → AreCandidatesOf a b candidates → IsOneToOne candidates links → Certifies candidates links prices_a prices_b
+    → length prices_a ≡ length a → length prices_b ≡ length b
+    → verified rares cells candidates a b (written_texts rares cells links prices_a prices_b a b) ≡ Ok links

@@ -1,0 +1,64 @@
+-- What refutes written links: the first row that is not that of a candidate after those before it (`verify_links`, its lone clause), and
+-- then the first link with a record of an earlier one (`verify_apart`, its lone clause).
+use Rattle.std.specs.Prelude.{◌≡◌, ◌==◌, ◌&&◌, ◌||◌, ◌+◌, ◌<◌, ℕ, All, Bool, List, [], ◌∷◌, ◌++◌, find, if◌then◌else◌, length, MatchOption, nat_lt, Option, Some, None, Result, Ok, Err, slice_index_or}
+use Rattle.std.specs.List.{list_all, list_any}
+use Rattle.assignment_laws.specs.Assignment.{no_candidate}
+use Rattle.link_base.specs.Answers.{and_then}
+use Rattle.link_base.specs.Standard.{id_at, Record}
+use Rattle.link_base.specs.declared.rule.Candidate.{Candidate}
+use Rattle.link_report.specs.LinksText.{link_fields, links_header}
+use Rattle.link_report.specs.Reading.{same_row}
+use Rattle.written_check.specs.Refuted.{rows_of_file, unless_row}
+use Rattle.written_check.specs.declared.refutation.Refutation.{Refutation}
+use Rattle.written_check.specs.declared.refutation.Refutation.TheVariants as refutation
+
+-- the candidate whose row this is, if there is one
+abbrev pub candidate_in : List Candidate → List Record → List Record → List (List ℕ) → Option Candidate
+candidate_in candidates a b row = find (λ c. same_row (link_fields a b c) row) candidates
+
+-- x stands before y by position
+abbrev pub is_before : Candidate → Candidate → Bool
+is_before x y = nat_lt x.a y.a || ((x.a == y.a) && nat_lt x.b y.b)
+
+-- a candidate that stands after each of those before it
+abbrev pub after_all : List Candidate → Option Candidate → Option Candidate
+after_all taken None = None
+after_all taken (Some c) = if list_all (λ d. is_before d c) taken then Some c else None
+
+-- the links after those that were taken, and one more
+abbrev pub taken_more : (List Candidate → Result (List Candidate) Refutation) → List Candidate → Option Candidate → Result (List Candidate) Refutation
+taken_more go taken None = Err (refutation.Link (length taken + 1))
+taken_more go taken (Some c) = go (taken ++ c ∷ [])
+
+-- the candidates of rows, after those that were taken
+abbrev pub links_in : List Candidate → List Record → List Record → List Candidate → List (List (List ℕ)) → Result (List Candidate) Refutation
+links_in candidates a b taken [] = Ok taken
+links_in candidates a b taken (row ∷ rows) =
+    taken_more (λ more. links_in candidates a b more rows) taken (after_all taken (candidate_in candidates a b row))
+
+-- the links of a written file: each row has the fields of a candidate, rising strictly by position
+abbrev pub links_verified : List Candidate → List Record → List Record → List ℕ → Result (List Candidate) Refutation
+links_verified candidates a b text = and_then (rows_of_file refutation.Link links_header text) (λ rows. links_in candidates a b [] rows)
+
+-- two links share a record
+abbrev pub shares_record : Candidate → Candidate → Bool
+shares_record x y = (x.a == y.a) || (x.b == y.b)
+
+-- the number of the first link, after those that stand before, with a record that an earlier one has
+abbrev pub first_reused : List Candidate → List Candidate → Option ℕ
+first_reused before [] = None
+first_reused before (c ∷ links) = if list_any (shares_record c) before then Some (length before + 1) else first_reused (before ++ c ∷ []) links
+
+-- no record stands in two links
+abbrev pub apart_verified : List Candidate → Result (List Candidate) Refutation
+apart_verified links = unless_row refutation.Reused links (first_reused [] links)
+
+-- a candidate has the ids of a row
+abbrev pub HasIds : List Record → List Record → List (List ℕ) → Candidate → Type 0
+HasIds a b row c = (id_at a c.a ≡ slice_index_or row 0 []) × (id_at b c.b ≡ slice_index_or row 1 [])
+
+-- machinery: where the candidate with the ids of a row stands, if there is one, which is the only one
+abbrev pub IsPlaceOf : List Candidate → List Record → List Record → List (List ℕ) → Option ℕ → Type 0
+IsPlaceOf candidates a b row place = MatchOption place
+    (All (λ (c : Candidate). HasIds a b row c → ⊥) candidates)
+    (λ k. (k < length candidates) × All (λ (c : Candidate). HasIds a b row c → c ≡ slice_index_or candidates k no_candidate) candidates)

@@ -1,0 +1,25 @@
+// The laws of verified files.
+ghost use Rattle.written_check.specs.Laws.{VerifiedIsGreatest, WrittenIsVerified};
+
+use assignment_laws::{certified_is_greatest, greatest_value_is_least, prices_are_bounded};
+use csv_rows::decimals_are_read;
+use link_base::distinct_ids;
+use link_report::texts_read_again;
+
+/// Law: where written files are verified, the rows of the links are those of the links that they prove, and no one-to-one list of
+/// candidates is worth more than these (Kuhn 1955).
+pub fn verified_is_greatest()
+    ensures { VerifiedIsGreatest }
+{
+    certified_is_greatest();
+}
+
+/// Law: the texts of a rule, of a one-to-one list of candidates and of prices that certify it are verified, and prove these links.
+pub fn written_is_verified()
+    ensures { WrittenIsVerified }
+{
+    texts_read_again();
+    decimals_are_read();
+    prices_are_bounded();
+    greatest_value_is_least();
+}

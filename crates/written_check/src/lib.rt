@@ -1,0 +1,14 @@
+//! Whether written files are what a run over the same inputs may write: its rule, links and prices, whoever wrote them.
+#![tactic(auto)]
+
+mod laws;
+mod links;
+mod prices;
+mod refutation;
+mod rule;
+mod sums;
+mod written;
+
+pub use laws::{verified_is_greatest, written_is_verified};
+pub use refutation::Refutation;
+pub use written::{Written, verify_written};

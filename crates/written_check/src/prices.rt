@@ -1,0 +1,161 @@
+// Written prices, row by row.
+ghost use Rattle.std.specs.Prelude.{◌≡◌, ◌+◌, ◌<◌, ◌^◌, IfErr, IfOk, MatchBool, None, Some, length, pos, replicate};
+ghost use Rattle.csv.specs.Records.{fields_of};
+ghost use Rattle.written_check.specs.PriceRows.{have_none, price_in, prices_in, prices_verified, row_priced, side_priced};
+ghost use Rattle.written_check.specs.PricesSeen.{prices_seen};
+ghost use Rattle.written_check.specs.Refuted.{IsOfRows, Verifies};
+
+use crate::refutation::Refutation;
+use csv::ByteRecord;
+use csv_records::Records;
+use csv_rows::number_of;
+use link_base::{NoMemory, StdFile};
+use link_limits::MOST_VALUE;
+use link_report::{ReadRows, field_of, read_prices};
+use std::alloc::Global;
+use std::marker::Model;
+
+// The prices of a side as far as they are read, one for each record, and the position of the first record after those that have one.
+#[derive(Drop)]
+pub(crate) struct SidePrices {
+    prices: Vec<i64>,
+    next: usize,
+}
+
+impl Model for SidePrices {
+    ghost use Rattle.std.specs.Prelude.{List, ℤ};
+    ghost use Rattle.written_check.specs.PriceRows.{IsReadTo};
+
+    ghost Value = { List ℤ };
+
+    ghost view = { λ s. s.prices.items };
+
+    ghost invariant = { λ s. IsReadTo s.prices.items s.next };
+}
+
+impl SidePrices {
+    // No prices of so many records.
+    fn new(alloc: Global, rows: u32) -> Result<SidePrices, NoMemory>
+        ensures { IfOk result (λ prices. prices ≡ replicate rows (pos 0)) }
+    {
+        let prices = vec![in alloc; 0; rows as usize]?;
+        Ok(SidePrices { prices, next: 0 })
+    }
+
+    // Whether no record has a price.
+    fn has_none(&self) -> bool
+        ensures { result ≡ have_none self.now }
+    {
+        self.next == 0
+    }
+
+    // Takes the price of a row, and says whether there was one.
+    fn take(&mut self, file: &StdFile, row: &ByteRecord) -> bool
+        requires { length self.old ≡ length file.now }
+        ensures length { length self.new ≡ length self.old }
+        ensures taken { MatchBool result (side_priced file.now (fields_of row.now) self.old ≡ Some self.new) (side_priced file.now (fields_of row.now) self.old ≡ None) }
+    {
+        let Some(at) = file.find(field_of(row, 1)) else {
+            return false;
+        };
+        let Some(price) = price_of(field_of(row, 2)) else {
+            return false;
+        };
+        let at = at as usize;
+        if at < self.next {
+            return false;
+        }
+        self.prices[at] = i64::from(price);
+        self.next = at + 1;
+        true
+    }
+
+    /// The prices, one for each record.
+    pub(crate) fn prices(&self) -> &[i64]
+        ensures { result.now ≡ self.now }
+    {
+        &self.prices
+    }
+}
+
+// The price that a text writes.
+fn price_of(text: &[u8]) -> Option<u32>
+    ensures { result ≡ price_in text.now }
+{
+    match number_of(text, MOST_VALUE) {
+        Some(price) if price > 0 => Some(price),
+        _ => None,
+    }
+}
+
+/// The prices of both sides.
+#[derive(Drop)]
+pub(crate) struct Prices {
+    pub(crate) a: SidePrices,
+    pub(crate) b: SidePrices,
+}
+
+// Takes the price of a row, and says whether there was one.
+fn take_row(prices: &mut Prices, row: &ByteRecord, a: &StdFile, b: &StdFile) -> bool
+    requires of_a { length prices.old.a ≡ length a.now }
+    requires of_b { length prices.old.b ≡ length b.now }
+    ensures length_a { length prices.new.a ≡ length prices.old.a }
+    ensures length_b { length prices.new.b ≡ length prices.old.b }
+    ensures taken { MatchBool result (row_priced a.now b.now (fields_of row.now) (prices_seen prices.old) ≡ Some (prices_seen prices.new)) (row_priced a.now b.now (fields_of row.now) (prices_seen prices.old) ≡ None) }
+{
+    let side = field_of(row, 0);
+    if side == b"A".as_slice() {
+        return prices.b.has_none() && prices.a.take(a, row);
+    }
+    side == b"B".as_slice() && prices.b.take(b, row)
+}
+
+// Takes the prices of the rows that are left.
+fn take_rows(
+    alloc: Global,
+    prices: &mut Prices,
+    rows: &mut Records<'_>,
+    a: &StdFile,
+    b: &StdFile,
+) -> Result<(), Refutation>
+    requires few { length rows.old + 1 < 2 ^ 32 }
+    requires of_a { length prices.old.a ≡ length a.now }
+    requires of_b { length prices.old.b ≡ length b.now }
+    ensures kind { IfErr result IsOfRows }
+    ensures answer { Verifies (λ _. prices_seen prices.new) (prices_in a.now b.now 1 (prices_seen prices.old) rows.old) result }
+{
+    let mut row = ByteRecord::new(alloc);
+    let mut number = 1;
+    'rows: while rows.next(&mut row)? {
+        if !take_row(prices, &row, a, b) {
+            return Err(Refutation::Price { row: number });
+        }
+        number += 1;
+    }
+    Ok(())
+}
+
+// Verifies the text of prices, and gives them.
+pub(crate) fn verify_prices(
+    alloc: Global,
+    text: &[u8],
+    a: &StdFile,
+    b: &StdFile,
+) -> Result<Prices, Refutation>
+    requires few { length text.now + 1 < 2 ^ 32 }
+    ensures kind { IfErr result IsOfRows }
+    ensures answer { Verifies prices_seen (prices_verified a.now b.now text.now) result }
+{
+    let mut rows = match read_prices(alloc, text)? {
+        ReadRows::Rows(rows) => rows,
+        ReadRows::Bad { row } => return Err(Refutation::Price { row }),
+    };
+    let mut prices = Prices {
+        a: SidePrices::new(alloc, a.rows())?,
+        b: SidePrices::new(alloc, b.rows())?,
+    };
+    match take_rows(alloc, &mut prices, &mut rows, a, b) {
+        Ok(()) => Ok(prices),
+        Err(refutation) => Err(refutation),
+    }
+}

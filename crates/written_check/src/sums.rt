@@ -1,0 +1,102 @@
+// Links and prices that are read, as a certificate.
+ghost use Rattle.std.specs.Prelude.{◌≡◌, ◌+◌, ◌<◌, ◌^◌, All, AllPairs, IfErr, IfOk, Ok, length, map};
+ghost use Rattle.assignment_laws.specs.Assignment.{IsBefore, IsWithin};
+ghost use Rattle.link_base.specs.declared.rule.Candidate.{Candidate as Link};
+ghost use Rattle.price_check.specs.Verdict.{HasAllowedValue};
+ghost use Rattle.written_check.specs.Certified.{AreTaken, IsOfSums, pair_of, refutation_by, sums_verified};
+ghost use Rattle.written_check.specs.LinkRows.{apart_verified};
+ghost use Rattle.written_check.specs.PriceRows.{ArePrices};
+ghost use Rattle.written_check.specs.PricesSeen.{prices_seen};
+ghost use Rattle.written_check.specs.Refuted.{IsOfRows, IsRefutationWithin, Verifies};
+
+use crate::prices::Prices;
+use crate::refutation::Refutation;
+use link_base::{Candidate, NoMemory, PairAt};
+use price_check::{Reason, Verified, check, first_reused};
+use std::alloc::Global;
+
+// The records of links.
+pub(crate) fn pairs_of(alloc: Global, links: &[Candidate]) -> Result<Vec<PairAt>, NoMemory>
+    ensures { IfOk result (λ pairs. pairs.items ≡ map pair_of links.now) }
+{
+    let mut pairs = Vec::new(alloc);
+    for link in links {
+        pairs.push(PairAt {
+            a: link.a,
+            b: link.b,
+        })?;
+    }
+    Ok(pairs)
+}
+
+// Verifies that no record stands in two links, whose records are these.
+pub(crate) fn verify_apart(
+    alloc: Global,
+    rows_b: u32,
+    links: &[Candidate],
+    pairs: &[PairAt],
+) -> Result<(), Refutation>
+    requires few { length links.now + 1 < 2 ^ 32 }
+    requires rising { AllPairs IsBefore links.now }
+    requires within { All (λ (l : Link). l.b < rows_b) links.now }
+    requires pairs { pairs.now ≡ map pair_of links.now }
+    ensures kind { IfErr result IsOfRows }
+    ensures answer { Verifies (λ _. links.now) (apart_verified links.now) result }
+{
+    match first_reused(alloc, rows_b, pairs)? {
+        Some(index) => Err(Refutation::Reused { row: index + 1 }),
+        None => Ok(()),
+    }
+}
+
+// What a reason of the sums refutes.
+fn refutation_of(candidates: &[Candidate], reason: Reason) -> Refutation
+    requires { IsOfSums candidates.now reason }
+    ensures { result ≡ refutation_by candidates.now reason }
+{
+    match reason {
+        Reason::Uncovered { index } => {
+            let c = candidates[index as usize];
+            Refutation::Uncovered {
+                at: PairAt { a: c.a, b: c.b },
+            }
+        }
+        Reason::Sum { links, prices } => Refutation::Sum { links, prices },
+        Reason::NotCandidate { .. } => unreachable!(),
+        Reason::Reused { .. } => unreachable!(),
+        Reason::Negative { .. } => unreachable!(),
+    }
+}
+
+// Verifies that prices certify links, whose records are these.
+pub(crate) fn verify_sums(
+    alloc: Global,
+    rows_a: u32,
+    rows_b: u32,
+    candidates: &[Candidate],
+    links: &[Candidate],
+    pairs: &[PairAt],
+    prices: &Prices,
+) -> Result<(), Refutation>
+    requires count { length candidates.now < 2 ^ 32 }
+    requires rising { AllPairs IsBefore candidates.now }
+    requires within { All (IsWithin rows_a rows_b) candidates.now }
+    requires allowed { All HasAllowedValue candidates.now }
+    requires taken { AreTaken candidates.now links.now }
+    requires few { length links.now + 1 < 2 ^ 32 }
+    requires pairs { pairs.now ≡ map pair_of links.now }
+    requires apart { apart_verified links.now ≡ Ok links.now }
+    requires rows_a { length prices.now.a ≡ rows_a }
+    requires rows_b { length prices.now.b ≡ rows_b }
+    requires small_a { ArePrices prices.now.a }
+    requires small_b { ArePrices prices.now.b }
+    ensures within { IfErr result (IsRefutationWithin rows_a rows_b) }
+    ensures answer { Verifies (λ _. links.now) (sums_verified candidates.now links.now (prices_seen prices.now)) result }
+{
+    let a = prices.a.prices();
+    let b = prices.b.prices();
+    match check(alloc, rows_a, rows_b, candidates, pairs, a, b)? {
+        Verified::Yes => Ok(()),
+        Verified::No(reason) => Err(refutation_of(candidates, reason)),
+    }
+}
