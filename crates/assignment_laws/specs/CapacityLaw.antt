@@ -7,7 +7,9 @@ use Rattle.assignment_laws.specs.Capacities.{CertifiesWithin, IsGreatestWithin, 
 -- weak duality: `certified_within_is_greatest`
 abbrev pub CertifiedWithinIsGreatest : Type 0
 CertifiedWithinIsGreatest =
-    (candidates : List Candidate) (capacities : List ℕ) (links : List Candidate) (prices_a prices_b : List ℤ) → IsWithinCapacities candidates capacities links → CertifiesWithin candidates capacities links prices_a prices_b → IsGreatestWithin candidates capacities links
+    (candidates : List Candidate) (capacities : List ℕ) (links : List Candidate) (prices_a prices_b : List ℤ)
+    → IsWithinCapacities candidates capacities links → CertifiesWithin candidates capacities links prices_a prices_b
+    → IsGreatestWithin candidates capacities links
 
 -- each record of B that is there has capacity 1, and the candidates are of records that are there
 pub record AreSingle (candidates : List Candidate) (capacities : List ℕ) : Type 0 where
@@ -27,4 +29,5 @@ SingleIsGreatest =
 -- and the certificates are those of one-to-one lists: clause `certificates` of `single_capacities`
 abbrev pub SingleCertifies : Type 0
 SingleCertifies =
-    (candidates : List Candidate) (capacities : List ℕ) (links : List Candidate) (prices_a prices_b : List ℤ) → AreSingle candidates capacities → length prices_b ≡ length capacities → CertifiesWithin candidates capacities links prices_a prices_b ↔ Certifies candidates links prices_a prices_b
+    (candidates : List Candidate) (capacities : List ℕ) (links : List Candidate) (prices_a prices_b : List ℤ) → AreSingle candidates capacities
+    → length prices_b ≡ length capacities → CertifiesWithin candidates capacities links prices_a prices_b ↔ Certifies candidates links prices_a prices_b

@@ -11,22 +11,27 @@ CertifiedIsGreatest =
 -- complementary slackness at a record without a link: clause `unlinked` of `certificate_is_tight`
 abbrev pub UnlinkedHasNoPrice : Type 0
 UnlinkedHasNoPrice =
-    (candidates links : List Candidate) (prices_a prices_b : List ℤ) → IsOneToOne candidates links → Certifies candidates links prices_a prices_b → (position : ℕ) → (All (λ c. c.a ≢ position) links → price_of prices_a position ≡ pos 0) × (All (λ c. c.b ≢ position) links → price_of prices_b position ≡ pos 0)
+    (candidates links : List Candidate) (prices_a prices_b : List ℤ) → IsOneToOne candidates links → Certifies candidates links prices_a prices_b
+    → (position : ℕ) → (All (λ c. c.a ≢ position) links → price_of prices_a position ≡ pos 0)
+    × (All (λ c. c.b ≢ position) links → price_of prices_b position ≡ pos 0)
 
 -- complementary slackness at a link: clause `linked` of `certificate_is_tight`
 abbrev pub LinkedIsTight : Type 0
 LinkedIsTight =
-    (candidates links : List Candidate) (prices_a prices_b : List ℤ) → IsOneToOne candidates links → Certifies candidates links prices_a prices_b → All (λ c. (price_of prices_a c.a +ℤ price_of prices_b c.b) ≡ c.value) links
+    (candidates links : List Candidate) (prices_a prices_b : List ℤ) → IsOneToOne candidates links → Certifies candidates links prices_a prices_b
+    → All (λ c. (price_of prices_a c.a +ℤ price_of prices_b c.b) ≡ c.value) links
 
 -- no price of a certificate is above the greatest of 0 and the links' values: clause `by_links` of `prices_are_bounded`
 abbrev pub PricesAreBoundedByLinks : Type 0
 PricesAreBoundedByLinks =
-    (candidates links : List Candidate) (prices_a prices_b : List ℤ) → IsOneToOne candidates links → Certifies candidates links prices_a prices_b → (position : ℕ) → (price_of prices_a position ≤ℤ greatest_value links) × (price_of prices_b position ≤ℤ greatest_value links)
+    (candidates links : List Candidate) (prices_a prices_b : List ℤ) → IsOneToOne candidates links → Certifies candidates links prices_a prices_b
+    → (position : ℕ) → (price_of prices_a position ≤ℤ greatest_value links) × (price_of prices_b position ≤ℤ greatest_value links)
 
 -- nor above the greatest of 0 and the candidates' values: clause `by_candidates` of `prices_are_bounded`
 abbrev pub PricesAreBoundedByCandidates : Type 0
 PricesAreBoundedByCandidates =
-    (candidates links : List Candidate) (prices_a prices_b : List ℤ) → IsOneToOne candidates links → Certifies candidates links prices_a prices_b → (position : ℕ) → (price_of prices_a position ≤ℤ greatest_value candidates) × (price_of prices_b position ≤ℤ greatest_value candidates)
+    (candidates links : List Candidate) (prices_a prices_b : List ℤ) → IsOneToOne candidates links → Certifies candidates links prices_a prices_b
+    → (position : ℕ) → (price_of prices_a position ≤ℤ greatest_value candidates) × (price_of prices_b position ≤ℤ greatest_value candidates)
 
 -- what bounds 0 and the value of each candidate bounds the greatest value of some of them: `greatest_value_is_least`
 abbrev pub GreatestValueIsLeast : Type 0

@@ -32,4 +32,6 @@ pub record AreCertifiedParts (candidates links : List Candidate) (part : Candida
 -- a rising list of candidates that is certified in each part is certified by the parts' prices together
 abbrev pub PartsTogether : Type 0
 PartsTogether =
-    (candidates links : List Candidate) (part : Candidate → ℕ) (n : ℕ) (prices_a prices_b : ℕ → List ℤ) → All (Contains candidates) links → AllPairs IsBefore links → AreCertifiedParts candidates links part n prices_a prices_b → IsOneToOne candidates links × Certifies candidates links (prices_together n prices_a) (prices_together n prices_b)
+    (candidates links : List Candidate) (part : Candidate → ℕ) (n : ℕ) (prices_a prices_b : ℕ → List ℤ) → All (Contains candidates) links
+    → AllPairs IsBefore links → AreCertifiedParts candidates links part n prices_a prices_b → IsOneToOne candidates links
+    × Certifies candidates links (prices_together n prices_a) (prices_together n prices_b)

@@ -58,7 +58,9 @@ above es from b = (edge es (number from b)).a
 abbrev pub Leads : List Edge → List ℕ → List ℕ → List (Option ℕ) → List ℕ → List ℕ → ℕ → ℕ → ℕ → Type 0
 Leads es pa pb la from rank root zero b = ⊥
 Leads es pa pb la from rank root (suc n) b =
-    IsHop es pa pb from b × (((above es from b ≡ root) × (link la (above es from b) ≡ None)) ⊎ ((k : ℕ) × ((link la (above es from b) ≡ Some k) × (number rank (above es from (edge es k).b) < number rank (above es from b)) × Leads es pa pb la from rank root n (edge es k).b)))
+    IsHop es pa pb from b × (((above es from b ≡ root) × (link la (above es from b) ≡ None))
+    ⊎ ((k : ℕ) × ((link la (above es from b) ≡ Some k) × (number rank (above es from (edge es k).b) < number rank (above es from b))
+    × Leads es pa pb la from rank root n (edge es k).b)))
 
 -- the record of A of edge k takes the seat `free`, and leaves its own where it was linked
 pub record Reseats (es : List Edge) (la : List (Option ℕ)) (seat row : List ℕ) (la' : List (Option ℕ)) (seat' row' : List ℕ) (k free : ℕ) (hole : Option Hole) : Type 0 where

@@ -33,7 +33,19 @@ pub record Growth : Type 0 where
   pub held : Option ℕ
 
 abbrev pub growth : Tree → Growth
-growth t = record { da = t.dist_a.items; rank = t.rank.items; db = t.dist_b.items; from = t.from.items; records = t.records.items; touched = t.touched.items; frontier = t.frontier.waiting; best = t.best; best_record = t.best_record; current = t.current; held = t.held }
+growth t = record {
+  da = t.dist_a.items;
+  rank = t.rank.items;
+  db = t.dist_b.items;
+  from = t.from.items;
+  records = t.records.items;
+  touched = t.touched.items;
+  frontier = t.frontier.waiting;
+  best = t.best;
+  best_record = t.best_record;
+  current = t.current;
+  held = t.held;
+}
 
 -- the edge at a place, and what its two prices add up to
 abbrev pub edge_of : Ground → ℕ → Edge

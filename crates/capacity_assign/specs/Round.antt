@@ -14,7 +14,10 @@ LeadsBy net ways la n b = Leads net.edges.now net.price_a.now net.price_b.now la
 -- a record of A is the root without a link, or a way leads from the record of B that it is linked to
 abbrev pub LeadsFromRecord : Net → Ways → List (Option ℕ) → ℕ → Type 0
 LeadsFromRecord net ways la position =
-    ((position ≡ ways.root) × (link la position ≡ None)) ⊎ ((k : ℕ) × ((link la position ≡ Some k) × (number ways.rank.now (edge net.edges.now (number ways.from.now (edge net.edges.now k).b)).a < number ways.rank.now position) × ((n : ℕ) × LeadsBy net ways la n (edge net.edges.now k).b)))
+    ((position ≡ ways.root) × (link la position ≡ None))
+    ⊎ ((k : ℕ) × ((link la position ≡ Some k)
+    × (number ways.rank.now (edge net.edges.now (number ways.from.now (edge net.edges.now k).b)).a < number ways.rank.now position)
+    × ((n : ℕ) × LeadsBy net ways la n (edge net.edges.now k).b)))
 
 -- prices, links and seats between two rounds: the records of A below `done` were taken up
 pub record IsBetween (es : List Edge) (pa pb : List ℕ) (la : List (Option ℕ)) (s : Seating) (done : ℕ) : Type 0 where

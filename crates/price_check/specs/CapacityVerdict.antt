@@ -23,11 +23,14 @@ pairs_at b links = count_by (λ l. l.b == b) links
 -- no earlier link has the record of A of the link at i, and fewer than its capacity have its record of B
 abbrev pub HasPlace : List ℕ → List PairAt → ℕ → Type 0
 HasPlace capacities links i =
-    ((k : ℕ) (d : PairAt) → k < i → (slice_index_or links k d).a ≢ (slice_index_or links i d).a) × ((d : PairAt) → pairs_at (slice_index_or links i d).b (take i links) < capacity_of capacities (slice_index_or links i d).b)
+    ((k : ℕ) (d : PairAt) → k < i → (slice_index_or links k d).a ≢ (slice_index_or links i d).a)
+    × ((d : PairAt) → pairs_at (slice_index_or links i d).b (take i links) < capacity_of capacities (slice_index_or links i d).b)
 
 -- the first link that has no place, if there is one
 abbrev pub IsFirstUnplaced : List ℕ → List PairAt → Option ℕ → Type 0
-IsFirstUnplaced capacities links place = MatchOption place ((i : ℕ) → i < length links → HasPlace capacities links i) (λ i. (i < length links) × ((k : ℕ) → k < i → HasPlace capacities links k) × (HasPlace capacities links i → ⊥))
+IsFirstUnplaced capacities links place =
+    MatchOption place ((i : ℕ) → i < length links → HasPlace capacities links i)
+    (λ i. (i < length links) × ((k : ℕ) → k < i → HasPlace capacities links k) × (HasPlace capacities links i → ⊥))
 
 -- the links are a list of candidates within the capacities that the prices certify
 abbrev pub AreCertifiedWithin : List Candidate → List ℕ → List PairAt → List ℤ → List ℤ → Type 0
@@ -43,7 +46,9 @@ IsFirstReasonWithin cs ns ls ps qs (NotCandidate i) = IsFirstBad (IsCandidate cs
 IsFirstReasonWithin cs ns ls ps qs (Reused i) = All (IsCandidate cs) ls × IsFirstUnplaced ns ls (Some i)
 IsFirstReasonWithin cs ns ls ps qs (Negative side i) = All (IsCandidate cs) ls × IsFirstUnplaced ns ls None × IsFirstNegative ps qs side i
 IsFirstReasonWithin cs ns ls ps qs (Uncovered i) = All (IsCandidate cs) ls × IsFirstUnplaced ns ls None × All (λ p. pos 0 ≤ℤ p) ps × All (λ p. pos 0 ≤ℤ p) qs × IsFirstBad (IsCovered ps qs) cs (Some i)
-IsFirstReasonWithin cs ns ls ps qs (Sum l p) = All (IsCandidate cs) ls × IsFirstUnplaced ns ls None × All (λ p. pos 0 ≤ℤ p) ps × All (λ p. pos 0 ≤ℤ p) qs × All (IsCovered ps qs) cs × (p ≡ price_sum ps +ℤ place_sum ns qs) × ((chosen : List Candidate) → AreLinks cs ls chosen → l ≡ worth chosen) × (l ≢ p)
+IsFirstReasonWithin cs ns ls ps qs (Sum l p) = All (IsCandidate cs) ls × IsFirstUnplaced ns ls None × All (λ p. pos 0 ≤ℤ p) ps
+    × All (λ p. pos 0 ≤ℤ p) qs × All (IsCovered ps qs) cs × (p ≡ price_sum ps +ℤ place_sum ns qs)
+    × ((chosen : List Candidate) → AreLinks cs ls chosen → l ≡ worth chosen) × (l ≢ p)
 
 -- the answer of a check with capacities
 abbrev pub IsVerdictWithin : List Candidate → List ℕ → List PairAt → List ℤ → List ℤ → Verified → Type 0

@@ -70,7 +70,8 @@ IsFirstReason cs ls ps qs (NotCandidate i) = IsFirstBad (IsCandidate cs) ls (Som
 IsFirstReason cs ls ps qs (Reused i) = All (IsCandidate cs) ls × IsFirstReused ls (Some i)
 IsFirstReason cs ls ps qs (Negative side i) = All (IsCandidate cs) ls × IsFirstReused ls None × IsFirstNegative ps qs side i
 IsFirstReason cs ls ps qs (Uncovered i) = All (IsCandidate cs) ls × IsFirstReused ls None × All (λ p. pos 0 ≤ℤ p) ps × All (λ p. pos 0 ≤ℤ p) qs × IsFirstBad (IsCovered ps qs) cs (Some i)
-IsFirstReason cs ls ps qs (Sum l p) = All (IsCandidate cs) ls × IsFirstReused ls None × All (λ p. pos 0 ≤ℤ p) ps × All (λ p. pos 0 ≤ℤ p) qs × All (IsCovered ps qs) cs × (p ≡ price_sum ps +ℤ price_sum qs) × ((chosen : List Candidate) → AreLinks cs ls chosen → l ≡ worth chosen) × (l ≢ p)
+IsFirstReason cs ls ps qs (Sum l p) = All (IsCandidate cs) ls × IsFirstReused ls None × All (λ p. pos 0 ≤ℤ p) ps × All (λ p. pos 0 ≤ℤ p) qs
+    × All (IsCovered ps qs) cs × (p ≡ price_sum ps +ℤ price_sum qs) × ((chosen : List Candidate) → AreLinks cs ls chosen → l ≡ worth chosen) × (l ≢ p)
 
 -- the answer of a check
 abbrev pub IsVerdict : List Candidate → List PairAt → List ℤ → List ℤ → Verified → Type 0

@@ -14,7 +14,9 @@ abbrev pub four_at : List ℕ → ℕ → ℕ
 four_at text at = from_le_bytes w32 (slice_index_or text at 0 ∷ slice_index_or text (at + 1) 0 ∷ slice_index_or text (at + 2) 0 ∷ slice_index_or text (at + 3) 0 ∷ [])
 
 abbrev pub eight_at : List ℕ → ℕ → ℕ
-eight_at text at = from_le_bytes w64 (slice_index_or text at 0 ∷ slice_index_or text (at + 1) 0 ∷ slice_index_or text (at + 2) 0 ∷ slice_index_or text (at + 3) 0 ∷ slice_index_or text (at + 4) 0 ∷ slice_index_or text (at + 5) 0 ∷ slice_index_or text (at + 6) 0 ∷ slice_index_or text (at + 7) 0 ∷ [])
+eight_at text at = from_le_bytes w64 (slice_index_or text at 0 ∷ slice_index_or text (at + 1) 0 ∷ slice_index_or text (at + 2) 0
+    ∷ slice_index_or text (at + 3) 0 ∷ slice_index_or text (at + 4) 0 ∷ slice_index_or text (at + 5) 0 ∷ slice_index_or text (at + 6) 0
+    ∷ slice_index_or text (at + 7) 0 ∷ [])
 
 -- all bytes of a text of at most three
 abbrev pub few_bytes : List ℕ → ℕ
