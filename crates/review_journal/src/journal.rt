@@ -65,6 +65,9 @@ impl Journal {
     fn last_on(&self, a: u32, b: u32) -> Option<&Entry>
         ensures { option_copied result ≡ last_on self.now a b }
     {
+        if self.entries.is_empty() {
+            return None;
+        }
         match self.places.get(&(a, b)) {
             Some(place) => Some(&self.entries[*place as usize]),
             None => None,
