@@ -2,5 +2,6 @@ pub mod ChainLemmas
 pub mod CodeLemmas
 pub mod IdLemmas
 pub mod NumberLemmas
+pub mod PartLemmas
 pub mod RowLemmas
 pub mod TestLemmas

@@ -7,3 +7,4 @@ pub mod CodedRows
 pub mod IndexRows
 pub mod Ids
 pub mod IdCodes
+pub mod OnePart

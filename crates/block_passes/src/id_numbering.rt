@@ -9,7 +9,8 @@ use link_base::NoMemory;
 use std::alloc::Global;
 use std::marker::Model;
 
-const NO_NUMBER: u32 = u32::MAX;
+/// The number where there is no key.
+pub(crate) const NO_NUMBER: u32 = u32::MAX;
 
 /// Distinct lists of four ids, each with its place as its number. Contracts see the list of them.
 #[derive(Drop)]

@@ -13,6 +13,7 @@ use crate::id_codes::MOST_IDS;
 use crate::id_index::{find_ids, index_ids};
 use crate::keys::PassKey;
 use crate::numbering::Numbering;
+use crate::part_numbers::part_numbers;
 use link_base::{NoMemory, Pass, StdFile};
 use std::alloc::Global;
 use std::marker::Model;
@@ -153,12 +154,37 @@ impl PassRows {
         ensures len { IfOk result (λ rows. length rows ≡ length a.now) }
         ensures rows { IfOk result (λ rows. (at : ℕ) → at < length a.now → slice_index_or rows at [] ≡ rows_with_key pass.now b.now (key_in_pass (row_at a.now at) pass.now)) }
     {
+        if pass.parts().len() == 1 {
+            return PassRows::by_part(alloc, a, b, pass, pool);
+        }
         if pass.parts().len() > MOST_IDS {
             return PassRows::new(alloc, a, b, pass);
         }
         let index = index_ids(alloc, b, pass, pool)?;
         let numbers = find_ids(alloc, a, pass, pool, &index.numbering)?;
         Ok(PassRows::of(numbers, index.groups))
+    }
+
+    // The same rows in a pass of one part: the place of its text in the pool is the number of a key, so that no key is numbered.
+    fn by_part(
+        alloc: Global,
+        a: &StdFile,
+        b: &StdFile,
+        pass: &Pass,
+        pool: &Pool,
+    ) -> Result<PassRows, NoMemory>
+        requires one { length pass.now ≡ 1 }
+        requires ready_a { AreReady pass.now a.now }
+        requires ready_b { AreReady pass.now b.now }
+        requires held_a { AreAllHeld pool.now.texts pass.now a.now }
+        requires held_b { AreAllHeld pool.now.texts pass.now b.now }
+        ensures len { IfOk result (λ rows. length rows ≡ length a.now) }
+        ensures rows { IfOk result (λ rows. (at : ℕ) → at < length a.now → slice_index_or rows at [] ≡ rows_with_key pass.now b.now (key_in_pass (row_at a.now at) pass.now)) }
+    {
+        let of_b = part_numbers(alloc, b, pass, pool)?;
+        let groups = Groups::new(alloc, &of_b, pool.len())?;
+        let numbers = part_numbers(alloc, a, pass, pool)?;
+        Ok(PassRows::of(numbers, groups))
     }
 
     /// The rows of the second file for a row of the first, rising.

@@ -10,6 +10,7 @@ mod ids;
 mod index;
 mod keys;
 mod numbering;
+mod part_numbers;
 mod parts;
 
 pub use id_index::{IdIndex, build_index_in};

@@ -10,7 +10,7 @@ returns-clause-rows c = λ at lt.
     let numbers = c.in_ok-numbers.ensures in
     let texts = c.args.pool.now.texts in
     let parts = c.args.pass.now in
-    let few = rw c.parts.ensures at c.if-parts-gt-MOST_IDS.false in
+    let few = rw c.parts-2.ensures at c.if-parts-gt-MOST_IDS.false in
     rw c.of.ensures (
     mapped-at _ c.in_ok-numbers.numbers.items at (rw numbers.0 lt)
     ∙ ap (λ n. get_or c.in_ok-index.index.groups n []) (numbers.1 at lt)
