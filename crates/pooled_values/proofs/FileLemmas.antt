@@ -8,7 +8,8 @@ use Rattle.link_base.specs.declared.plan.CompareKind.{CompareKind}
 use Rattle.link_base.specs.declared.plan.CompareKind.TheVariants as by
 use Rattle.link_base.specs.declared.plan.Part.{Part}
 use Rattle.link_base.specs.declared.standard.Value.{Value}
-use Rattle.pooled_values.specs.Ready.{AreInRange, HasParts}
+use Rattle.block_passes.specs.Keys.{no_part, part_key}
+use Rattle.pooled_values.specs.Ready.{AreInRange, HasParts, IsRowFor}
 use Rattle.pooled_values.specs.Sides.{side_of, sides_of_file, sides_of_row}
 use Rattle.pooled_values.specs.Texts.{canons_of_row, file_texts, parts_in_pass, parts_of_row}
 
@@ -19,6 +20,9 @@ file-row texts file at row lt e =
 pub pass-parts : (row : List Value) (passes : List (List Part)) (at : ℕ) (pass : List Part) → at < length passes → pass ≡ get_or passes at pass → parts_of_row (drop at passes) row ≡ parts_in_pass row pass ++ parts_of_row (drop (at + 1) passes) row
 pass-parts row passes at pass lt e =
     at_drop_more (λ ps. parts_of_row ps row) passes at pass lt ∙ ap (λ p. parts_in_pass row p ++ parts_of_row (drop (at + 1) passes) row) (sym e)
+
+pub part-texts : (row : List Value) (parts : List Part) (at : ℕ) → at < length parts → parts_in_pass row (drop at parts) ≡ option_to_list (part_key row (get_or parts at no_part)) ++ parts_in_pass row (drop (at + 1) parts)
+part-texts row parts at lt = at_drop_more (parts_in_pass row) parts at no_part lt
 
 -- a row and the kinds of its fields, field by field
 kinds-at : (kinds : List CompareKind) (at : ℕ) → at < length kinds → drop at kinds ≡ get_or kinds at by.Exact ∷ drop (at + 1) kinds
@@ -56,3 +60,6 @@ pub row-at : (passes : List (List Part)) (file : List Record) (at : ℕ) (row : 
 row-at passes file at row lt e h =
     let here = h at no_record lt in
     rw e (record { in_range = here.in_range; valid = here.valid })
+
+pub row-many : (kinds : List CompareKind) (file : List Record) (at : ℕ) (row : List Value) → at < length file → row ≡ (get_or file at no_record).row → All (IsRowFor kinds) file → length row ≡ length kinds
+row-many kinds file at row lt e h = rw e (h at no_record lt).as_many

@@ -21,7 +21,7 @@ use Rattle.pooled_values.proofs.TakingLemmas.{taken-cases}
 pub itself : (text : List ℕ) → bytes_eq text text ≡ true
 itself text = (bytes_eq-Decides text text).1 refl
 
-or-left : (a b : Bool) → a ≡ true → (a || b) ≡ true
+pub or-left : (a b : Bool) → a ≡ true → (a || b) ≡ true
 or-left true b h = refl
 or-left false b h = cc
 
@@ -50,7 +50,7 @@ stands-canons (kind ∷ kinds) (v ∷ vs) (suc k) text lt many h =
     stands-right (option_to_list (canon_of kind v)) (canons_of_row kinds vs) text (stands-canons kinds vs k text (omega arith) (omega arith) h)
 
 -- what is taken stands in the pool
-taken-more : (limit : ℕ) (texts held new : List (List ℕ)) (text : List ℕ) → texts_taken limit held texts ≡ Ok new → stands_among held text ≡ true → stands_among new text ≡ true
+pub taken-more : (limit : ℕ) (texts held new : List (List ℕ)) (text : List ℕ) → texts_taken limit held texts ≡ Ok new → stands_among held text ≡ true → stands_among new text ≡ true
 taken-more limit [] held new text h e = let same : held ≡ new = cc in rw (← same) e
 taken-more limit (t ∷ ts) held new text h e =
     elim (taken-cases limit held ts new t h) [

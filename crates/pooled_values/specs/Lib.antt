@@ -3,3 +3,4 @@ pub mod Sides
 pub mod Ready
 pub mod Taking
 pub mod Distinct
+pub mod Held

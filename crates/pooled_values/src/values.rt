@@ -56,7 +56,7 @@ fn take_values(
 {
     take_texts(alloc, pool, a, b)?;
     let tables = take_canons(alloc, pool, kinds, a, b)?;
-    take_keys(alloc, pool, passes, a, b)?;
+    take_keys(alloc, pool, kinds, passes, a, b)?;
     Ok(tables)
 }
 

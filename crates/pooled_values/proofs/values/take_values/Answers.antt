@@ -1,6 +1,7 @@
 use Rattle.std.proofs.Common.{◌++◌, ℕ, Result, Err, Ok, rules}
 use Rattle.value_pool.specs.declared.pool.PoolFault.{PoolFault}
 use Rattle.pooled_values.specs.Texts.{both_texts, canons_of_row, parts_of_row, texts_of_row}
+use Rattle.pooled_values.proofs.HeldLemmas.{held-more, held-taken}
 use Rattle.pooled_values.proofs.PlaceLemmas.{extends-before}
 use Rattle.pooled_values.proofs.TakingLemmas.{refused-append, takes-err, takes-then, takes-three}
 use Rattle.pooled_values.proofs.values.take_values.Goals as goal
@@ -54,3 +55,17 @@ returns-clause-a c final e =
 pub returns-clause-b : goal.returns-clause-b
 returns-clause-b c final e =
     c.in_ok-tables.ensures.b final (extends-before c.take_canons.new.pool.limit (both_texts (parts_of_row c.args.passes.now) c.args.a.now c.args.b.now) c.take_canons.new.pool.texts c.take_keys.new.pool.texts final c.in_ok-take_keys.ensures.texts e)
+
+pub take_keys-requires-clause-texts : goal.take_keys-requires-clause-texts
+take_keys-requires-clause-texts c =
+    let a = c.args.a.now in
+    let b = c.args.b.now in
+    let old = c.args.pool.now in
+    let pool = c.take_texts.new.pool in
+    held-more pool.limit (both_texts (canons_of_row c.args.kinds.now) a b) pool.texts c.take_canons.new.pool.texts (both_texts texts_of_row a b) c.in_ok-tables.ensures.texts
+    (held-taken old.limit (both_texts texts_of_row a b) old.texts pool.texts c.in_ok-take_texts.ensures.texts)
+
+pub take_keys-requires-clause-canons : goal.take_keys-requires-clause-canons
+take_keys-requires-clause-canons c =
+    let pool = c.take_texts.new.pool in
+    held-taken pool.limit (both_texts (canons_of_row c.args.kinds.now) c.args.a.now c.args.b.now) pool.texts c.take_canons.new.pool.texts c.in_ok-tables.ensures.texts
