@@ -1,7 +1,7 @@
 // The fields of a record.
-ghost use Rattle.std.specs.Prelude.{◌≡◌, [], slice_index_or, count_by, bytes_eq};
+ghost use Rattle.std.specs.Prelude.{◌≡◌, [], IsTrue, slice_index_or, count_by, bytes_eq};
 ghost use Rattle.std.specs.List.{position_or_len};
-ghost use Rattle.std.specs.Str.{is_utf8};
+ghost use Rattle.std.specs.Str.{IsAscii, is_utf8};
 ghost use Rattle.csv.specs.Records.{fields_of};
 
 use csv::ByteRecord;
@@ -41,9 +41,24 @@ pub(crate) fn count_of(row: &ByteRecord, column: &[u8]) -> usize
     count
 }
 
+// Whether a field is ASCII. Fields are short, so that byte by byte is fastest.
+fn is_plain(field: &[u8]) -> bool
+    ensures { IsTrue result → IsAscii field.now }
+{
+    for byte in field {
+        if *byte >= 128 {
+            return false;
+        }
+    }
+    true
+}
+
 pub(crate) fn is_text(field: &[u8]) -> bool
     ensures { result ≡ is_utf8 field.now }
 {
+    if is_plain(field) {
+        return true;
+    }
     match str::from_utf8(field) {
         Ok(_) => true,
         Err(_) => false,
