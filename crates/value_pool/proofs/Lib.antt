@@ -1,4 +1,5 @@
 pub mod ChainLemmas
+pub mod EqualLemmas
 pub mod HashLemmas
 pub mod PlaceLemmas
 pub mod RegionLemmas

@@ -1,5 +1,5 @@
 // A table of distinct texts in one region of bytes, with a look-up whose bound does not rest on its hash.
-ghost use Rattle.std.specs.Prelude.{◌≡◌, ◌≤◌, ◌+◌, ◌++◌, ◌∷◌, [], false, is_some, IfOk, IfSome, OnErr, OnOk, length, slice_get};
+ghost use Rattle.std.specs.Prelude.{◌≡◌, ◌≤◌, ◌+◌, ◌++◌, ◌∷◌, [], bytes_eq, false, is_some, IfOk, IfSome, OnErr, OnOk, length, slice_get};
 ghost use Rattle.link_limits.specs.declared.TheConstants.{MOST_POOL_LIMIT};
 ghost use Rattle.value_pool.specs.Hashes.{hash_of};
 ghost use Rattle.value_pool.specs.Pool.{HasRoom, KeepsRoom};
@@ -42,12 +42,27 @@ pub(crate) struct Search {
     pub(crate) passed: u32,
 }
 
+// Whether two texts are equal. Most are short, so that byte by byte is fastest.
+fn same_bytes(a: &[u8], b: &[u8]) -> bool
+    ensures { result ≡ bytes_eq a.now b.now }
+{
+    if a.len() != b.len() {
+        return false;
+    }
+    for at in 0..a.len() {
+        if a[at] != b[at] {
+            return false;
+        }
+    }
+    true
+}
+
 // Whether a slot has a text. The bytes are read only where the hashes agree.
 fn has_text(bytes: &[u8], slot: Slot, hash: u32, text: &[u8]) -> bool
     requires { IsSlotWithin (length bytes.now) slot }
     ensures { result ≡ has_text bytes.now slot hash text.now }
 {
-    slot.hash == hash && &bytes[slot.start as usize..slot.end as usize] == text
+    slot.hash == hash && same_bytes(&bytes[slot.start as usize..slot.end as usize], text)
 }
 
 impl Table {
