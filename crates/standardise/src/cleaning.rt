@@ -1,5 +1,5 @@
 // The characters of a name, cleaned.
-ghost use Rattle.std.specs.Prelude.{◌≡◌, ◌<◌, ◌++◌, ◌∷◌, [], OnOk, IfOk, chars, encode_utf8_all};
+ghost use Rattle.std.specs.Prelude.{◌≡◌, ◌<◌, ◌++◌, ◌∷◌, [], IsTrue, OnOk, IfOk, chars, encode_utf8_all};
 ghost use Rattle.std.specs.List.{flat_map};
 ghost use Rattle.std.specs.Option.{option_to_list};
 ghost use Rattle.std.specs.Str.{IsAscii, IsUtf8};
@@ -142,14 +142,27 @@ fn clean_ascii(alloc: Global, text: &[u8]) -> Result<Vec<u8>, NoMemory>
     Ok(out)
 }
 
+// Whether a text is ASCII. Names are short, so that byte by byte is fastest.
+fn is_plain(text: &[u8]) -> bool
+    ensures { IsTrue result → IsAscii text.now }
+{
+    for byte in text {
+        if *byte >= 128 {
+            return false;
+        }
+    }
+    true
+}
+
 /// The text after the canonical decomposition and the five steps behind it. An ASCII text has none of
 /// what the decomposition and the general categories decide.
 pub(crate) fn clean(alloc: Global, text: &str) -> Result<Vec<u8>, NoMemory>
     ensures text { IfOk result (λ v. v.items ≡ encode_utf8_all (characters_of text.now)) }
     ensures utf8 { IfOk result (λ v. IsUtf8 v.items) }
 {
-    if text.is_ascii() {
-        let cleaned = clean_ascii(alloc, text.as_bytes())?;
+    let bytes = text.as_bytes();
+    if is_plain(bytes) {
+        let cleaned = clean_ascii(alloc, bytes)?;
         return Ok(cleaned);
     }
     let cleaned = clean_chars(alloc, text)?;
