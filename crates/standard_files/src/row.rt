@@ -42,7 +42,7 @@ fn text_of(bytes: &[u8]) -> &str
     requires { IsUtf8 bytes.now }
     ensures { result.now ≡ bytes.now }
 {
-    str::from_utf8(bytes).unwrap()
+    unsafe { str::from_utf8_unchecked(bytes) }
 }
 
 // The row of a table in standard values.
