@@ -129,14 +129,14 @@ fn cleaned_ascii(byte: u8) -> Option<u8>
     }
 }
 
-// The same of an ASCII text, byte by byte.
+// The same of an ASCII text, byte by byte. There is room for as many bytes as it has.
 fn clean_ascii(alloc: Global, text: &[u8]) -> Result<Vec<u8>, NoMemory>
     ensures { IfOk result (λ v. v.items ≡ flat_map (λ c. option_to_list (ascii_cleaned c)) text.now) }
 {
     let mut out = Vec::with_capacity(alloc, text.len())?;
     for byte in text {
         if let Some(cleaned) = cleaned_ascii(*byte) {
-            out.push(cleaned)?;
+            out.push_reserved(cleaned);
         }
     }
     Ok(out)
