@@ -6,3 +6,4 @@ pub mod PricesSeen
 pub mod Certified
 pub mod Verified
 pub mod Laws
+pub mod Short

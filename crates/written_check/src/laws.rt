@@ -1,5 +1,6 @@
 // The laws of verified files.
 ghost use Rattle.written_check.specs.Laws.{VerifiedIsGreatest, WrittenIsVerified};
+ghost use Rattle.written_check.specs.Short.{WrittenIsShort};
 
 use assignment_laws::{certified_is_greatest, greatest_value_is_least, prices_are_bounded};
 use csv_rows::decimals_are_read;
@@ -20,6 +21,15 @@ pub fn written_is_verified()
 {
     texts_read_again();
     decimals_are_read();
+    prices_are_bounded();
+    greatest_value_is_least();
+}
+
+/// Law: the texts of a rule of six fields at most, of a one-to-one list of candidates and of prices that certify it, over the records of
+/// two files, are no longer than a file that is verified may be.
+pub fn written_is_short()
+    ensures { WrittenIsShort }
+{
     prices_are_bounded();
     greatest_value_is_least();
 }

@@ -20,22 +20,10 @@ use Rattle.written_check.specs.Refuted.{refuted_by, unless_row}
 use Rattle.written_check.specs.RuleRows.{first_difference, rule_verified}
 use Rattle.written_check.specs.declared.refutation.Refutation.TheVariants as refutation
 use Rattle.written_check.proofs.ApartLemmas.{apart_none}
+use Rattle.written_check.proofs.SmallPrices.{small_a, small_b}
 use Rattle.written_check.proofs.SumLemmas.{all_covered}
 use Rattle.written_check.proofs.WrittenLemmas.{DecimalsRead, links_read, no_difference, prices_read}
 use Rattle.written_check.proofs.laws.written_is_verified.Goals as goal
-
--- prices of a certificate are small
-module _ (bounded : PricesAreBoundedByCandidates) (least : GreatestValueIsLeast) (cs links : List Candidate) (allowed : All HasAllowedValue cs) (one : IsOneToOne cs links) (ps qs : List ℤ) (certified : Certifies cs links ps qs) where
-  most : greatest_value cs ≤ℤ pos MOST_VALUE
-  most = least cs cs (pos MOST_VALUE) (All-contains_itself cs) (omega (arith, ints)) (λ k d lt. (allowed k d lt).1)
-
-  small_a : ArePrices ps
-  small_a k d lt =
-      (certified.floor_a k d lt, subst (λ p. p ≤ℤ pos MOST_VALUE) (get_or_default ps k (pos 0) d lt) (omega (arith, ints, most, (bounded cs links ps qs one certified k).0)))
-
-  small_b : ArePrices qs
-  small_b k d lt =
-      (certified.floor_b k d lt, subst (λ p. p ≤ℤ pos MOST_VALUE) (get_or_default qs k (pos 0) d lt) (omega (arith, ints, most, (bounded cs links ps qs one certified k).1)))
 
 sums_ok : (cs links : List Candidate) (prices : PricePair) → Certifies cs links prices.a prices.b → sums_verified cs links prices ≡ Ok links
 sums_ok cs links prices certified =
