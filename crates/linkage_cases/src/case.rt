@@ -14,6 +14,9 @@ pub(crate) struct CaseFile {
 pub(crate) struct Case {
     /// What the case shows.
     pub(crate) name: String,
+    /// Files beside the case file, each held under its own name before any change.
+    #[serde(default)]
+    pub(crate) hold: Vec<String>,
     #[serde(default)]
     pub(crate) file: Vec<Change>,
     pub(crate) run: Vec<Run>,
@@ -84,6 +87,12 @@ pub(crate) struct Run {
     /// The calls of standard error that fail.
     #[serde(default)]
     pub(crate) err_fails: Vec<u32>,
+    /// Whether the command is run once for each call that it makes, with that call failing.
+    #[serde(default)]
+    pub(crate) each_failure: bool,
+    /// The files of which the command is run over each cut, from no bytes to all of them.
+    #[serde(default)]
+    pub(crate) each_cut: Vec<String>,
 }
 
 /// A call of the store, from 1, loads and puts counted together; `applied` where a failing put has written its bytes.

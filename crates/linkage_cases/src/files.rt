@@ -132,8 +132,8 @@ fn changed<R: HostFiles + AllocGlobal>(
     Ok(Some(bytes))
 }
 
-// A text of its own.
-fn copied(alloc: Global, text: &str) -> Result<String, AllocError> {
+/// A text of its own.
+pub(crate) fn copied(alloc: Global, text: &str) -> Result<String, AllocError> {
     let mut copy = String::new(alloc);
     copy.push_str(text)?;
     Ok(copy)
@@ -170,6 +170,48 @@ impl Files {
         let name = copied(alloc, &change.name)?;
         self.all.push(Named { name, bytes })?;
         Ok(())
+    }
+
+    /// A copy of what a name holds, if anything.
+    pub(crate) fn copy_of(&self, alloc: Global, name: &str) -> anyhow::Result<Option<Vec<u8>>> {
+        match self.all.iter().find(|named| named.name.as_str() == name) {
+            Some(named) => match &named.bytes {
+                Some(bytes) => Ok(Some(Vec::from_slice(alloc, bytes)?)),
+                None => Ok(None),
+            },
+            None => Ok(None),
+        }
+    }
+
+    /// Has a name hold these bytes, where it is one of a case.
+    pub(crate) fn set(&mut self, alloc: Global, name: &str, bytes: &[u8]) -> anyhow::Result<()> {
+        for named in &mut self.all {
+            if named.name.as_str() == name {
+                named.bytes = Some(Vec::from_slice(alloc, bytes)?);
+            }
+        }
+        Ok(())
+    }
+
+    /// Has each name hold what the file of that name beside the case file holds.
+    pub(crate) fn hold_beside<R: HostFiles + AllocGlobal>(
+        &mut self,
+        rt: &R,
+        alloc: Global,
+        names: &[String],
+    ) -> anyhow::Result<()> {
+        for name in names {
+            let bytes = Some(fs::read(rt, name.as_str())?);
+            self.take_out(name);
+            let name = copied(alloc, name)?;
+            self.all.push(Named { name, bytes })?;
+        }
+        Ok(())
+    }
+
+    // Drops a name.
+    fn take_out(&mut self, name: &str) {
+        self.all.retain(|named| named.name.as_str() != name);
     }
 
     /// Makes changes in turn.

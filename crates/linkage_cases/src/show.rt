@@ -1,6 +1,7 @@
 // What a command wrote, as it is shown.
 use crate::files::{Files, Named};
 use link_outside::MemoryStore;
+use std::alloc::Global;
 use std::io;
 use std::io::Write;
 
@@ -26,6 +27,26 @@ pub(crate) fn show_text<R: Print>(rt: &R, bytes: &[u8]) -> anyhow::Result<()> {
             .get(bytes.len().saturating_sub(SHOWN)..)
             .unwrap_or_default(),
     )?;
+    Ok(())
+}
+
+/// Words with a space between two.
+pub(crate) fn joined(alloc: Global, words: &[String]) -> anyhow::Result<String> {
+    let mut text = String::new(alloc);
+    for word in words {
+        if !text.is_empty() {
+            text.push(' ')?;
+        }
+        text.push_str(word)?;
+    }
+    Ok(text)
+}
+
+/// Shows a line, and ends it.
+pub(crate) fn show_line<R: Print>(rt: &R, line: &[u8]) -> anyhow::Result<()> {
+    let mut out = io::writer(rt);
+    out.write_all(line)?;
+    out.write_all(b"\n")?;
     Ok(())
 }
 
