@@ -9,3 +9,4 @@ pub mod Review
 pub mod Results
 pub mod Verify
 pub mod Duplicates
+pub mod Many

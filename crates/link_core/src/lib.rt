@@ -4,6 +4,7 @@
 mod column_pairs;
 mod decisions;
 mod duplicates;
+mod many;
 mod name_keys;
 mod pairs;
 mod preparing;
@@ -13,9 +14,11 @@ mod row_text;
 mod rules;
 mod verify;
 
+pub use capacity_files::Capacities;
 pub use column_pairs::pair_rows;
 pub use decisions::decide_all;
 pub use duplicates::duplicate_lines;
+pub use many::{capacities_in_file, many_lines};
 pub use name_keys::key_lines;
 pub use pair_decisions::Decided;
 pub use pairs::pair_ids;

@@ -1,0 +1,59 @@
+// Links within capacities.
+ghost use Rattle.std.specs.Prelude.{IfErr, IfOk};
+ghost use Rattle.link_base.specs.Fault.{IsAnswer, IsInputFault};
+ghost use Rattle.link_core.specs.Decisions.{IsDecidedIn};
+ghost use Rattle.link_core.specs.Many.{AreCapacitiesOf, capacities_in_file, IsManyText};
+ghost use Rattle.link_core.specs.Results.{IsDecidedFor};
+ghost use Rattle.pair_decisions.specs.PairRule.{side_rule};
+ghost use Rattle.settings.specs.Ranges.{KeepsRanges};
+
+use crate::preparing::Prepared;
+use crate::results::candidates;
+use capacity_files::{Capacities, read_capacities};
+use capacity_links::choose_within;
+use link_base::{Fault, NoMemory, Text};
+use link_report::{links_text, prices_text};
+use pair_decisions::Decided;
+use review_journal::Journal;
+use settings::Plan;
+use std::alloc::Global;
+
+/// The capacities in a file, one for each record of the prepared B, or the first fault of the file.
+pub fn capacities_in_file(
+    alloc: Global,
+    prepared: &Prepared,
+    bytes: &[u8],
+) -> Result<Capacities, Fault>
+    ensures kind { IfErr result IsInputFault }
+    ensures answer { IsAnswer (capacities_in_file prepared.now bytes.now) result }
+    ensures of_files { IfOk result (AreCapacitiesOf prepared.now) }
+{
+    read_capacities(alloc, bytes, prepared.b())
+}
+
+/// The text of a greatest list of the candidates in which a record of B stands at most as often as its capacity, and after it that of
+/// prices that certify it, each with its header.
+pub fn many_lines(
+    alloc: Global,
+    plan: &Plan,
+    prepared: &Prepared,
+    decided: &Decided,
+    journal: &Journal,
+    capacities: &Capacities,
+) -> Result<Text, NoMemory>
+    requires ranges { KeepsRanges plan.now }
+    requires of_files { IsDecidedIn prepared.now decided.now }
+    requires decided { IsDecidedFor plan.now prepared.now decided.now }
+    requires capacities { AreCapacitiesOf prepared.now capacities.now }
+    ensures { IfOk result (λ text. IsManyText plan.now prepared.now (side_rule decided.now.rule) journal.now capacities.now text) }
+{
+    let a = prepared.a();
+    let b = prepared.b();
+    let found = candidates(alloc, plan, prepared, decided, journal)?;
+    let chosen = choose_within(alloc, a.rows(), b.rows(), capacities.each(), &found)?;
+    let links = links_text(alloc, &chosen.links, a, b)?;
+    let prices = prices_text(alloc, &chosen.prices_a, &chosen.prices_b, a, b)?;
+    let mut text = links.into_bytes();
+    text.extend_from_slice(prices.bytes())?;
+    Ok(Text::of(text))
+}
