@@ -1,32 +1,31 @@
 -- A file that is read as both files of a plan has as many records as itself.
-use Rattle.std.proofs.Common.{◌≡◌, ◌∷◌, ◌∙◌, ℕ, List, [], length, Bool, true, false, Option, Some, None, Result, Ok, Err, ap, sym, refl}
+use Rattle.std.proofs.Common.{◌≡◌, ◌∷◌, ◌∙◌, ℕ, List, [], length, Option, Some, None, Result, Ok, Err, ap, sym, refl}
 use Rattle.std.proofs.lemmas.List.{length-map}
 use Rattle.csv_records.specs.Left.{records_in}
 use Rattle.file_reader.proofs.LeastFaulty.{table_is_whole}
 use Rattle.file_reader.specs.Faults.{IsWholeTable}
 use Rattle.file_reader.specs.Layout.{heading_under, Wanted}
 use Rattle.file_reader.specs.Rows.{TableRow}
-use Rattle.file_reader.specs.Table.{table_of, taken, unless_fault}
+use Rattle.file_reader.specs.Table.{taken, unless_fault}
 use Rattle.link_base.specs.Answers.{and_then}
-use Rattle.link_base.specs.Standard.{Record}
 use Rattle.link_base.specs.declared.fault.Fault.{Fault}
 use Rattle.link_base.specs.declared.fault.FileRole.{FileRole}
 use Rattle.link_base.specs.declared.fault.FileRole.TheVariants as role
 use Rattle.settings.specs.Within.{plan_within}
 use Rattle.settings.specs.declared.plan.Plan.{Plan}
 use Rattle.standard_files.specs.Files.{sorts_a, sorts_b, standard_file, standard_files, standard_pair, StandardFile, StandardPair, table_a, table_b, wanted_a, wanted_b}
-use Rattle.standard_files.specs.Values.{standard_record, standard_records}
+use Rattle.standard_files.specs.Values.{standard_record}
 use Rattle.standard_files.specs.declared.sorts.TextSort.{TextSort}
 use Rattle.link_core.specs.Prepared.{pooled, prepared, PreparedView}
 
-abbrev okay : (T : Type 0) → T → Result T Fault
+abbrev pub okay : (T : Type 0) → T → Result T Fault
 okay T x = Ok x
 
-ok_is : (T : Type 0) (x y : T) → okay T x ≡ okay T y → x ≡ y
+pub ok_is : (T : Type 0) (x y : T) → okay T x ≡ okay T y → x ≡ y
 ok_is T x y e = cc e
 
 -- a chain that came to a value came to one at its first step
-came : (A B : Type 0) (r : Result A Fault) (f : A → Result B Fault) (y : B) → and_then r f ≡ Ok y → (x : A) × (r ≡ Ok x) × (f x ≡ Ok y)
+pub came : (A B : Type 0) (r : Result A Fault) (f : A → Result B Fault) (y : B) → and_then r f ≡ Ok y → (x : A) × (r ≡ Ok x) × (f x ≡ Ok y)
 came A B (Ok x) f y e = (x, refl, e)
 came A B (Err g) f y e = absurd (cc e)
 
@@ -38,7 +37,7 @@ whole_rows r s v w (header ∷ rows) t u h g =
     ∙ sym (length-map rows (taken (heading_under s w header))) ∙ sym (ap (λ (x : List TableRow). length x) g.1.all)
 
 -- a file in standard values has the rows of its table
-unless_is : (o : Option Fault) (x y : StandardFile) → unless_fault o (Ok x) ≡ Ok y → x ≡ y
+pub unless_is : (o : Option Fault) (x y : StandardFile) → unless_fault o (Ok x) ≡ Ok y → x ≡ y
 unless_is None x y e = ok_is StandardFile x y e
 unless_is (Some f) x y e = absurd (cc e)
 

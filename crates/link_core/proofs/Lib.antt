@@ -7,3 +7,6 @@ pub mod RuleLemmas
 pub mod ResultLemmas
 pub mod ReviewLemmas
 pub mod DuplicateLemmas
+pub mod PlanLemmas
+pub mod FileLemmas
+pub mod RunLemmas

@@ -1,17 +1,24 @@
 -- What an auditor is told of written files: that they prove their links, or the first reason that refutes them (`verify_files`, its lone
 -- clause). The law `run_is_verified` says that what a run writes proves its links.
-use Rattle.std.specs.Prelude.{◌≡◌, ◌++◌, ℕ, Bool, true, false, List, [], codes, decimal, Result, Ok, Err}
+use Rattle.std.specs.Prelude.{◌≡◌, ◌≤◌, ◌++◌, ℕ, ℤ, Bool, true, false, List, [], codes, decimal, length, Result, Ok, Err}
 use Rattle.std.specs.Fmt.{signed_decimal}
+use Rattle.assignment_laws.specs.Assignment.{Certifies, IsOneToOne}
 use Rattle.link_base.specs.Standard.{id_at, Record}
 use Rattle.link_base.specs.declared.rule.Candidate.{Candidate}
+use Rattle.link_limits.specs.declared.TheConstants.{MOST_FIELDS}
 use Rattle.pair_decisions.specs.PairRule.{SideRule}
 use Rattle.plan_rule.specs.Comparators.{rares_of}
+use Rattle.plan_rule.specs.PlanRule.{IsRuleOf}
 use Rattle.review_journal.specs.declared.entry.Entry.{Entry}
+use Rattle.settings.specs.Plan.{PlainShares}
+use Rattle.settings.specs.Settings.{settings}
 use Rattle.settings.specs.declared.plan.Plan.{Plan}
+use Rattle.written_check.specs.Laws.{written_texts}
+use Rattle.written_check.specs.Short.{AreShort}
 use Rattle.written_check.specs.Verified.{verified, WrittenTexts}
 use Rattle.written_check.specs.declared.refutation.Refutation.{Refutation}
 use Rattle.written_check.specs.declared.refutation.Refutation.TheVariants as refutation
-use Rattle.link_core.specs.Prepared.{PreparedView}
+use Rattle.link_core.specs.Prepared.{prepared, PreparedView}
 use Rattle.link_core.specs.Results.{candidates_in}
 use Rattle.link_core.specs.declared.verify.Verification.{Verification}
 
@@ -42,3 +49,33 @@ is_proved (Err r) = false
 pub record Verifies (p : PreparedView) (told : Result (List Candidate) Refutation) (v : Verification) : Type 0 where
   pub proved : v.proved ≡ is_proved told
   pub line : v.line ≡ line_of p told
+
+-- what a run goes by: the plan of a settings file, its two files as they are prepared, and the rule of its fields' shares
+pub record IsRunOf (plan : Plan) (p : PreparedView) (shares : List PlainShares) (rule : SideRule) : Type 0 where
+  pub bytes : List ℕ
+  pub bytes_a : List ℕ
+  pub bytes_b : List ℕ
+  pub limit : ℕ
+  pub of_settings : settings bytes ≡ Ok plan
+  pub of_files : prepared plan limit bytes_a bytes_b ≡ Ok p
+  pub few_shares : length shares ≤ MOST_FIELDS
+  pub of_shares : IsRuleOf plan shares rule.cells
+
+-- texts prove these links, and each may be verified
+pub record AreProof (told : Result (List Candidate) Refutation) (links : List Candidate) (texts : WrittenTexts) : Type 0 where
+  pub proved : told ≡ Ok links
+  pub short : AreShort texts
+
+-- the texts of a rule, of links and of prices, over prepared files
+abbrev pub run_texts : Plan → PreparedView → SideRule → List Candidate → List ℤ → List ℤ → WrittenTexts
+run_texts plan p rule links prices_a prices_b =
+    written_texts (rares_of plan.fields) rule.cells links prices_a prices_b p.files.a.records p.files.b.records
+
+-- what a run writes proves its links: `run_is_verified`
+abbrev pub RunIsVerified : Type 0
+RunIsVerified =
+    (plan : Plan) (p : PreparedView) (shares : List PlainShares) (rule : SideRule) (entries : List Entry) (links : List Candidate) (prices_a prices_b : List ℤ)
+    → IsRunOf plan p shares rule → IsOneToOne (candidates_in plan p rule entries) links
+    → Certifies (candidates_in plan p rule entries) links prices_a prices_b
+    → length prices_a ≡ length p.files.a.records → length prices_b ≡ length p.files.b.records
+    → AreProof (verified_in plan p rule entries (run_texts plan p rule links prices_a prices_b)) links (run_texts plan p rule links prices_a prices_b)

@@ -26,5 +26,5 @@ pub use preparing::{Prepared, prepare};
 pub use results::{RunResult, candidates, finish};
 pub use review::{add_verdicts, journal_in_files, journal_lines, open_lines, open_rows};
 pub use rules::{PlanShares, counted, frontier_lines, rule_lines};
-pub use verify::{Verification, verify_files};
+pub use verify::{Verification, run_is_verified, verify_files};
 pub use written_check::Written;

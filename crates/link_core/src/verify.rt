@@ -2,7 +2,7 @@
 ghost use Rattle.std.specs.Prelude.{◌≡◌, ◌++◌, ◌≤◌, [], Err, IfOk, OnOk, decimal, length};
 ghost use Rattle.link_core.specs.Decisions.{IsDecidedIn};
 ghost use Rattle.link_core.specs.Results.{candidates_in, IsDecidedFor};
-ghost use Rattle.link_core.specs.Verify.{Verifies, line_of, reason_text, verified_in};
+ghost use Rattle.link_core.specs.Verify.{RunIsVerified, Verifies, line_of, reason_text, verified_in};
 ghost use Rattle.link_limits.specs.declared.TheConstants.{MOST_WRITTEN_BYTES};
 ghost use Rattle.pair_decisions.specs.PairRule.{side_rule};
 ghost use Rattle.settings.specs.Ranges.{KeepsRanges};
@@ -18,7 +18,7 @@ use pair_decisions::Decided;
 use review_journal::Journal;
 use settings::Plan;
 use std::alloc::Global;
-use written_check::{Refutation, Written, verify_written};
+use written_check::{Refutation, Written, verify_written, written_is_short, written_is_verified};
 
 /// Whether written files prove their links, and the line that says so: `yes`, or `no: ` and the first reason.
 #[derive(Debug, Drop)]
@@ -138,4 +138,14 @@ pub fn verify_files(
             line: refuted_line(alloc, refutation, prepared)?,
         }),
     }
+}
+
+/// Law: the texts that a run writes of its rule, of its links and of their prices prove these links, and are no longer than a file that
+/// is verified may be.
+pub fn run_is_verified()
+    ensures { RunIsVerified }
+{
+    candidates_are_bounded();
+    written_is_verified();
+    written_is_short();
 }

@@ -1,8 +1,8 @@
 -- How long written texts are at most.
-use Rattle.std.proofs.Common.{◌≡◌, ◌<◌, ◌≤◌, ◌+◌, ◌*◌, ◌^◌, ◌∷◌, ◌++◌, ◌∙◌, ℕ, ℤ, pos, negsuc, zero, suc, Bool, true, false, List, [], All, length, get_or, if◌then◌else◌, map, sym, ap, subst, arith, inl, inr, length-append}
-use Rattle.std.specs.Prelude.{◌==◌, ◌≤ℤ◌, ◌-◌, AllPairs, Contains, codes, decimal, filter, neg_ℤ, zip}
+use Rattle.std.proofs.Common.{◌≡◌, ◌<◌, ◌≤◌, ◌+◌, ◌*◌, ◌^◌, ◌∷◌, ◌++◌, ℕ, ℤ, pos, negsuc, zero, suc, Bool, true, false, List, [], All, length, get_or, if◌then◌else◌, arith, inl, inr, length-append}
+use Rattle.std.specs.Prelude.{◌==◌, ◌≤ℤ◌, ◌-◌, AllPairs, codes, decimal, filter, neg_ℤ, zip}
 use Rattle.std.specs.Fmt.{signed_decimal}
-use Rattle.std.specs.List.{flat_map, range_with_len}
+use Rattle.std.specs.List.{flat_map}
 use Rattle.std.proofs.lemmas.Fmt.{length-decimal-le, length_signed_le}
 use Rattle.std.proofs.lemmas.Int.{ints}
 use Rattle.std.proofs.lemmas.List.FromFn.{length-map-range_with_len}
@@ -13,7 +13,7 @@ use Rattle.assignment_laws.specs.Assignment.{IsBefore, IsOneToOne, IsWithin, Sha
 use Rattle.link_base.specs.Standard.{id_at, no_record, Record}
 use Rattle.link_base.specs.declared.rule.Candidate.{Candidate}
 use Rattle.link_base.specs.declared.rule.RuleCell.{RuleCell}
-use Rattle.link_limits.specs.declared.TheConstants.{MOST_FIELD_BYTES, MOST_ROWS, MOST_VALUE, MOST_WRITTEN_BYTES, WHOLE_RULE}
+use Rattle.link_limits.specs.declared.TheConstants.{MOST_VALUE, MOST_WRITTEN_BYTES, WHOLE_RULE}
 use Rattle.link_report.specs.LinksText.{link_fields, link_row, links_header, source_of_link, text_of_links}
 use Rattle.link_report.specs.PricesText.{is_priced, price_fields, price_row, price_rows, prices_header, text_of_prices}
 use Rattle.link_report.specs.RuleText.{cell_fields, cell_row, outcome_letter, outcome_letters, rule_header, text_of_rule}

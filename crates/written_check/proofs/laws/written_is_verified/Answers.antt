@@ -1,21 +1,14 @@
-use Rattle.std.proofs.Common.{◌≡◌, ◌≤ℤ◌, ◌+ℤ◌, ◌∙◌, ℤ, pos, Bool, List, [], Ok, Err, ap, arith, if◌then◌else◌, map, subst, sym}
-use Rattle.std.specs.Prelude.{All}
+use Rattle.std.proofs.Common.{◌≡◌, ◌+ℤ◌, ◌∙◌, ℤ, Bool, List, [], Ok, Err, ap, if◌then◌else◌, map, sym}
 use Rattle.std.proofs.lemmas.Bool.Decides.{Decides-int_eq}
-use Rattle.std.proofs.lemmas.Int.{ints}
-use Rattle.std.proofs.lemmas.List.{get_or_default}
-use Rattle.std.proofs.lemmas.List.Elements.{All-contains_itself}
-use Rattle.assignment_laws.specs.Assignment.{Certifies, greatest_value, IsOneToOne, price_sum, worth}
-use Rattle.assignment_laws.specs.Law.{GreatestValueIsLeast, PricesAreBoundedByCandidates}
+use Rattle.assignment_laws.specs.Assignment.{Certifies, price_sum, worth}
 use Rattle.link_base.specs.Answers.{and_then}
 use Rattle.link_base.specs.declared.rule.Candidate.{Candidate}
-use Rattle.link_limits.specs.declared.TheConstants.{MOST_VALUE}
 use Rattle.link_report.specs.LinksText.{text_of_links}
 use Rattle.link_report.specs.PricesText.{text_of_prices}
 use Rattle.link_report.specs.RuleText.{cell_fields, text_of_rule}
-use Rattle.price_check.specs.Verdict.{HasAllowedValue}
 use Rattle.written_check.specs.Certified.{balanced, covered_then, sums_verified}
 use Rattle.written_check.specs.LinkRows.{apart_verified, links_in, links_verified}
-use Rattle.written_check.specs.PriceRows.{ArePrices, no_prices, PricePair, prices_in, prices_verified}
+use Rattle.written_check.specs.PriceRows.{no_prices, PricePair, prices_in, prices_verified}
 use Rattle.written_check.specs.Refuted.{refuted_by, unless_row}
 use Rattle.written_check.specs.RuleRows.{first_difference, rule_verified}
 use Rattle.written_check.specs.declared.refutation.Refutation.TheVariants as refutation

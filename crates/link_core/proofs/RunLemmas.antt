@@ -1,0 +1,130 @@
+-- What a run writes is small enough to be verified, and its candidates stand in its files.
+use Rattle.std.proofs.Common.{◌≡◌, ◌<◌, ◌≤◌, ◌+◌, ◌∷◌, ◌^◌, ◌∙◌, ℕ, pos, negsuc, List, [], All, length, map, get_or, Ok, Option, Some, None, sym, ap, subst, arith}
+use Rattle.std.specs.Prelude.{◌≤ℤ◌, is_some}
+use Rattle.std.specs.List.{cons_option, enumerate_from, range_with_len}
+use Rattle.std.proofs.Math.Nat.{pow-le-pow_right}
+use Rattle.std.proofs.lemmas.Int.{ints}
+use Rattle.std.proofs.lemmas.List.{get_or-map, length-map}
+use Rattle.std.proofs.lemmas.List.Elements.{All-from_get_or, All-weaker}
+use Rattle.std.proofs.lemmas.List.FromFn.{get_or-map-range_with_len, length-enumerate_from, length-map-range_with_len}
+use Rattle.std.proofs.lemmas.List.Sorted.{All-permutation}
+use Rattle.candidate_links.proofs.CandidateLemmas.{candidate_stands, given_rise, given_within}
+use Rattle.candidate_links.specs.Candidates.{candidate_of, HasBounds}
+use Rattle.decision_rule.proofs.FilledLemmas.{length_filled}
+use Rattle.decision_rule.specs.Filled.{Chances, chances_at, chances_of, IsFilled}
+use Rattle.link_base.specs.Rule.{empty_cell}
+use Rattle.link_base.specs.declared.rule.RuleCell.{RuleCell}
+use Rattle.link_base.specs.declared.shares.FieldShares.{FieldShares}
+use Rattle.link_limits.specs.declared.TheConstants.{MOST_FIELDS, MOST_PATTERNS}
+use Rattle.pair_decisions.proofs.PairLemmas.{compared_inside, compared_rise}
+use Rattle.pair_decisions.specs.PairRule.{SideRule}
+use Rattle.pattern_shapes.proofs.PatternLemmas.{m_of_small, pattern_count_small, u_of_small, weight_range}
+use Rattle.pattern_shapes.specs.Patterns.{pattern_count_of}
+use Rattle.plan_rule.specs.Comparators.{comparator_at, rares_of, SideComparator}
+use Rattle.plan_rule.specs.PlanRule.{IsRuleOf}
+use Rattle.plan_rule.specs.PlanShares.{counts_of, given_in, shares_at}
+use Rattle.price_check.specs.Verdict.{HasAllowedValue}
+use Rattle.review_journal.specs.declared.entry.Entry.{Entry}
+use Rattle.sample_counts.specs.Sample.{sample_of}
+use Rattle.csv_records.specs.Left.{records_in}
+use Rattle.settings.specs.Plan.{FieldKeys, plain_shares, PlainShares}
+use Rattle.settings.specs.declared.plan.Plan.{Plan}
+use Rattle.written_check.specs.Laws.{AreCandidatesOf}
+use Rattle.written_check.specs.Short.{AreSmallCells, HasAllowedWeight, IsSmallCell}
+use Rattle.link_core.proofs.DuplicateLemmas.{came, ok_is}
+use Rattle.link_core.proofs.FileLemmas.{AreReadFiles}
+use Rattle.link_core.specs.Prepared.{PreparedView}
+use Rattle.link_core.specs.Results.{candidates_in, compared_in}
+use Rattle.link_core.specs.Rules.{counted_by}
+
+-- chances of a pattern of six fields at most
+record AreSmall (ch : Chances) : Type 0 where
+  pattern : ch.pattern < MOST_PATTERNS
+  m : ch.m < 2 ^ 64
+  u : ch.u < 2 ^ 64
+  weight_low : negsuc 479 ≤ℤ ch.weight
+  weight_high : ch.weight ≤ℤ pos 474
+
+module _ (shares : List FieldShares) (few : length shares ≤ 6) where
+  chances_small : (pattern : ℕ) → pattern < pattern_count_of shares → AreSmall (chances_at shares pattern)
+  chances_small pattern lt =
+      let most : 1024 ^ length shares ≤ 1024 ^ 6 = pow-le-pow_right {n = 1024} (omega arith) few in
+      let range = weight_range shares pattern lt in
+      record {
+        pattern = omega (arith, lt, pattern_count_small shares few);
+        m = omega (arith, m_of_small shares pattern lt, most);
+        u = omega (arith, u_of_small shares pattern lt, most);
+        weight_low = omega (arith, ints, range.0, few);
+        weight_high = omega (arith, ints, range.1, few);
+      }
+
+  all_small : All AreSmall (map (chances_at shares) (range_with_len 0 (pattern_count_of shares)))
+  all_small =
+      All-from_get_or AreSmall (map (chances_at shares) (range_with_len 0 (pattern_count_of shares))) (chances_of empty_cell)
+      (λ k lt. let n = pattern_count_of shares in
+      let in_range : k < n = omega (arith, lt, length-map-range_with_len (chances_at shares) 0 n) in
+      rw (get_or-map-range_with_len (chances_at shares) 0 n k k (chances_of empty_cell) in_range (omega arith)) (chances_small k in_range))
+
+  cells_small : (mu_ppm lambda_ppm : ℕ) (cells : List RuleCell) → IsFilled shares mu_ppm lambda_ppm cells → All IsSmallCell cells
+  cells_small mu_ppm lambda_ppm cells filled k d lt =
+      let all = All-permutation AreSmall _ _ filled.patterns all_small in
+      let there : k < length (map chances_of cells) = omega (arith, lt, length-map cells chances_of) in
+      let here : AreSmall (chances_of (get_or cells k d)) = subst AreSmall (get_or-map chances_of cells k d (chances_of d) lt) (all k (chances_of d) there) in
+      record {
+        pattern = here.pattern;
+        m = here.m;
+        u = here.u;
+        ranges = record { weight_low = here.weight_low; weight_high = here.weight_high; shares = filled.rule k d lt };
+      }
+
+-- the cells of a plan's rule
+pub small_cells : (plan : Plan) (shares : List PlainShares) (cells : List RuleCell) → length shares ≤ MOST_FIELDS → length plan.fields ≤ MOST_FIELDS → IsRuleOf plan shares cells → AreSmallCells (rares_of plan.fields) cells
+small_cells plan shares cells few fields rule =
+    let by = rule.by_shares in
+    let same : length by ≡ length shares = sym (length-map by plain_shares) ∙ ap (λ (s : List PlainShares). length s) rule.same in
+    let by_few : length by ≤ 6 = omega (arith, same, few) in
+    record {
+      fields = omega (arith, length-map plan.fields (λ (f : FieldKeys). is_some f.rare), fields);
+      few = omega (arith, length_filled by cells rule.filled.patterns, pattern_count_small by by_few);
+      each = cells_small by by_few plan.mu_ppm plan.lambda_ppm cells rule.filled;
+    }
+
+-- candidates stand in the files, and are worth no more than they may
+module _ (plan : Plan) (p : PreparedView) (rule : SideRule) (entries : List Entry) where
+  pub candidates_are : AreReadFiles p.files → plan.award ≤ 1000 → All (HasBounds plan.award) (candidates_in plan p rule entries) → AreCandidatesOf p.files.a.records p.files.b.records (candidates_in plan p rule entries)
+  candidates_are files award bounds =
+      let stands = candidate_stands rule p.values.a.rows p.values.b.rows entries plan.award in
+      record {
+        distinct_a = files.of_a.distinct;
+        distinct_b = files.of_b.distinct;
+        rising = given_rise (candidate_of rule p.values.a.rows p.values.b.rows entries plan.award) stands (compared_in plan p) (compared_rise p.files.a.records p.files.b.records plan.passes);
+        within = given_within (candidate_of rule p.values.a.rows p.values.b.rows entries plan.award) stands (length p.files.a.records) (length p.files.b.records) (compared_in plan p)
+            (compared_inside p.files.a.records p.files.b.records plan.passes);
+        allowed = All-weaker (HasBounds plan.award) HasAllowedValue (λ c b. (omega (arith, ints, b.value_low), omega (arith, ints, b.value_high, award))) (candidates_in plan p rule entries) bounds;
+      }
+
+  pub weights_are : All (HasBounds plan.award) (candidates_in plan p rule entries) → All HasAllowedWeight (candidates_in plan p rule entries)
+  weights_are bounds =
+      All-weaker (HasBounds plan.award) HasAllowedWeight (λ c b. (omega (arith, ints, b.weight_low), omega (arith, ints, b.weight_high))) (candidates_in plan p rule entries) bounds
+
+-- a plan has no more shares than fields
+given_or : {Y : Type 0} (o : Option Y) (ys : List Y) (n : ℕ) → length ys ≤ n → length (cons_option o ys) ≤ n + 1
+given_or None ys n h = omega (arith, h)
+given_or (Some y) ys n h = omega (arith, h)
+
+pub given_few : (fields : List FieldKeys) → length (given_in fields) ≤ length fields
+given_few [] = omega arith
+given_few (f ∷ fields) = omega (arith, given_or f.shares (given_in fields) (length fields) (given_few fields))
+
+pub counted_few : (plan : Plan) (p : PreparedView) (bytes : List ℕ) (shares : List PlainShares) → counted_by plan p bytes ≡ Ok shares → length shares ≤ length plan.fields
+counted_few plan p bytes shares e =
+    let sample = came _ (List PlainShares) (sample_of p.files.a.records p.files.b.records (records_in 44 bytes)) _ shares e in
+    let is = ok_is (List PlainShares) _ shares sample.2 in
+    let rows_a = p.values.a.rows in
+    let rows_b = p.values.b.rows in
+    let all = enumerate_from 0 plan.fields in
+    let comparators = map (comparator_at (length p.values.texts) rows_a rows_b) all in
+    let rares = map (λ (c : SideComparator). c.rare) comparators in
+    let counts = counts_of comparators rows_a rows_b sample.0 in
+    let many : length shares ≡ length (enumerate_from 0 rares) = ap (λ (s : List PlainShares). length s) (sym is) ∙ length-map (enumerate_from 0 rares) (shares_at counts) in
+    omega (arith, many, length-enumerate_from 0 rares, length-map comparators (λ (c : SideComparator). c.rare), length-map all (comparator_at (length p.values.texts) rows_a rows_b), length-enumerate_from 0 plan.fields)

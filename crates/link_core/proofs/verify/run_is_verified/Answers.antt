@@ -1,0 +1,27 @@
+use Rattle.std.specs.Prelude.{All}
+use Rattle.std.proofs.lemmas.List.Elements.{All-weaker}
+use Rattle.candidate_links.specs.Candidates.{HasBounds}
+use Rattle.link_base.specs.Rule.{IsWithinRanges}
+use Rattle.plan_rule.specs.Comparators.{rares_of}
+use Rattle.written_check.specs.Short.{IsSmallCell}
+use Rattle.link_core.proofs.FileLemmas.{read_files}
+use Rattle.link_core.proofs.PlanLemmas.{read_plan}
+use Rattle.link_core.proofs.RunLemmas.{candidates_are, small_cells, weights_are}
+use Rattle.link_core.specs.Results.{candidates_in, compared_in}
+use Rattle.link_core.proofs.verify.run_is_verified.Goals as goal
+
+pub returns : goal.returns
+returns c = λ plan p shares rule entries links ps qs of one certified long_a long_b.
+    let read = read_plan of.bytes plan of.of_settings in
+    let files = read_files plan of.limit of.bytes_a of.bytes_b p of.of_files in
+    let cells = small_cells plan shares rule.cells of.few_shares read.few_fields of.of_shares in
+    let candidates = candidates_in plan p rule entries in
+    let ranges : All IsWithinRanges rule.cells = All-weaker IsSmallCell IsWithinRanges (λ x h. h.ranges) rule.cells cells.each in
+    let bounds : All (HasBounds plan.award) candidates =
+    c.candidates_are_bounded.ensures rule p.values.a.rows p.values.b.rows entries plan.award (compared_in plan p) ranges in
+    let are = candidates_are plan p rule entries files read.award bounds in
+    record {
+      proved = c.written_is_verified.ensures (rares_of plan.fields) rule.cells candidates links ps qs p.files.a.records p.files.b.records are one certified long_a long_b;
+      short = c.written_is_short.ensures (rares_of plan.fields) rule.cells candidates links ps qs p.files.a.records p.files.b.records cells are
+          (weights_are plan p rule entries bounds) files.of_a.small files.of_b.small one certified;
+    }
