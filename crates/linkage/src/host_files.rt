@@ -5,12 +5,14 @@ ghost use Rattle.link_outside.specs.Outside.{IsLogged, IsWithinLimit, Shows};
 use link_base::Text;
 use link_outside::{Load, Store, StoreCall, StoreError, entry_of_call};
 use std::alloc::{AllocError, Global};
+use std::fs::OpenFile;
 use std::io::{Read, Write};
 use std::rt::Files;
 use std::{fs, io};
 
 /// The files of the host, named by their paths. They tell nothing of what they hold. A put writes the file
-/// `NAME.new` and renames it, so a crash leaves the old file or the new one, and a file of that name is lost.
+/// `NAME.new`, has the host keep it on its disk, and renames it, so a crash leaves the old file or the new one, and a
+/// file of that name is lost. Where it ends well the host keeps the new name too.
 #[derive(Drop)]
 pub(crate) struct HostFiles<'r, R> {
     rt: &'r R,
@@ -85,11 +87,46 @@ fn load_file<R: Files>(alloc: Global, rt: &R, name: &str, limit: u64) -> Result<
     read_up_to(alloc, file, limit)
 }
 
-// Writes a file beside the name, and puts it in its place.
+// The folder of a name.
+fn folder_of(name: &str) -> &str {
+    match name.rsplit_once('/') {
+        None => ".",
+        Some((folder, _)) => { if folder.is_empty() { "/" } else { folder } }
+    }
+}
+
+// Writes a file, and has the host keep it on its disk.
+fn write_kept<R: Files>(rt: &R, name: &str, bytes: &[u8]) -> io::Result<()> {
+    let mut file = fs::create(rt, name)?;
+    file.write_all(bytes)?;
+    file.sync_all()
+}
+
+// Has the host keep the names of a folder. A file system that keeps no folder by itself refuses that as invalid.
+fn keep_names<F: OpenFile>(folder: &F) -> io::Result<()> {
+    match folder.sync_all() {
+        Err(error) if error.kind() != io::ErrorKind::InvalidInput => Err(error),
+        _ => Ok(()),
+    }
+}
+
+// Writes a file and puts it in the place of a name. The folder is opened first, so that nothing has changed where it
+// cannot be.
+fn put_as<R: Files>(rt: &R, beside: &str, name: &str, bytes: &[u8]) -> io::Result<()> {
+    let folder = fs::open(rt, folder_of(name))?;
+    write_kept(rt, beside, bytes)?;
+    fs::rename(rt, beside, name)?;
+    keep_names(&folder)
+}
+
+// Writes a file beside the name, and puts it in its place. Of one that could not be put nothing stays.
 fn put_file<R: Files>(alloc: Global, rt: &R, name: &str, bytes: &[u8]) -> Result<(), HostError> {
     let beside = format!(in alloc; "{name}.new")?;
-    fs::write(rt, beside.as_str(), bytes)?;
-    fs::rename(rt, beside.as_str(), name)?;
+    let put = put_as(rt, beside.as_str(), name, bytes);
+    if put.is_err() {
+        let _removed = fs::remove_file(rt, beside.as_str());
+    }
+    put?;
     Ok(())
 }
 
