@@ -492,12 +492,32 @@ def columns_compared(words, held):
     return []
 
 
+def within(plan):
+    """The plan of A's file with itself."""
+    plan = {key: value for key, value in plan.items() if not key.endswith("_b")}
+    plan |= {key[:-1] + "b": value for key, value in plan.items() if key.endswith("_a")}
+    fields = [{key: value for key, value in field.items() if not key.endswith("_b")} for field in plan["field"]]
+    plan["field"] = [field | {key[:-1] + "b": it for key, it in field.items() if key.endswith("_a")} for field in fields]
+    return plan
+
+
+def capacities(data, b):
+    known = [key for key, _ in b]
+    for number, (key, text) in enumerate(table(data, "capacities", [b"capacity"], b"id_b"), 1):
+        if key not in known:
+            raise Refused(4, f"capacities: row {number}: unknown id_b")
+        if not text.isdigit() or text != str(int(text)).encode() or int(text) > 1000:
+            raise Refused(4, f"capacities: row {number}: capacity")
+
+
 def commanded(words, held):
     """The names that a command puts; refused with the status and the text of its fault."""
     kind = words[0]
     if kind == "pairs" and len(words) == 4:
         return columns_compared(words, held)
     plan = settings(held[words[1]])
+    if kind == "duplicates":
+        plan = within(plan)
     if kind in ("review", "migrate") and "journal" not in plan:
         raise Refused(3, "settings: missing key journal")
     if kind in ("rule", "frontier") and "sample" not in plan:
@@ -509,7 +529,7 @@ def commanded(words, held):
     by_field = [(field.get("m"), field.get("u")) for field in plan["field"]]
     if "sample" in plan and kind not in ("pairs", "migrate"):
         by_field = shares(plan, held[plan["sample"]], a, b)
-    if kind in ("pairs", "rule", "frontier"):
+    if kind in ("pairs", "rule", "frontier", "duplicates"):
         return []
     entries = journal(held[plan["journal"]], a, b) if "journal" in plan else []
     if kind == "migrate":
@@ -525,6 +545,8 @@ def commanded(words, held):
             if pair not in possible:
                 raise Refused(4, f"verdicts: row {number}: not a possible pair")
         return [plan["journal"]]
+    if kind == "many":
+        capacities(held[words[2]], b)
     if kind == "verify":
         candidates = [(i, j, w, w, b"rule") for i, j, w, decision in decided if decision == "link"]
         candidates += [(i, j, w, w + plan.get("award", 500), b"review") for i, j, w, decision in decided
@@ -560,7 +582,8 @@ def cuts(words, held, name):
 
 # ---- calls
 
-FORMS = {"keys": lambda words: 2 <= len(words) <= 101, "generate": lambda words: words[1:] != ["1"]}
+COMMANDS = "keys generate pairs rule frontier open review migrate run verify duplicates many".split()
+FORMS = {"keys": lambda words: 2 <= len(words) <= 101, "generate": lambda words: words[1:] != ["1"], "many": lambda words: len(words) == 3}
 
 
 def calls_of(words, held):
@@ -572,22 +595,22 @@ def calls_of(words, held):
         return words[1:3], [], True
     plan = settings(held[words[1]])
     loads = [words[1]]
-    if kind not in ("rule", "frontier") or "sample" in plan:
+    if kind == "duplicates":
+        loads.append(plan["file_a"])
+    elif kind not in ("rule", "frontier") or "sample" in plan:
         loads += [plan["file_a"], plan["file_b"]]
     if "sample" in plan and kind not in ("pairs", "migrate"):
         loads.append(plan["sample"])
-    if "journal" in plan and kind in ("open", "review", "migrate", "run", "verify"):
+    if "journal" in plan and kind in ("open", "review", "migrate", "run", "verify", "many"):
         loads.append(plan["journal"])
-    loads += {"review": [words[2]] if kind == "review" else [], "verify": OUTPUTS[1:4]}.get(kind, [])
+    loads += words[2:3] if kind in ("review", "many") else OUTPUTS[1:4] if kind == "verify" else []
     puts = {"run": OUTPUTS, "review": [plan.get("journal")], "migrate": [plan.get("journal")]}.get(kind, [])
-    return loads, puts, kind in ("pairs", "rule", "frontier", "open", "verify")
+    return loads, puts, kind not in ("review", "migrate", "run")
 
 
 def failing(words, held):
     """A line for each call that fails, and how many endings that are."""
-    if words[0] not in ("keys", "generate", "pairs", "rule", "frontier", "open", "review", "migrate", "run", "verify"):
-        whole, reached, puts, prints = line(2, "usage"), [], [], False
-    elif not FORMS.get(words[0], lambda _: True)(words):
+    if words[0] not in COMMANDS or not FORMS.get(words[0], lambda _: True)(words):
         whole, reached, puts, prints = line(2, "usage"), [], [], False
     else:
         loads, puts, prints = [], [], False

@@ -48,10 +48,16 @@ fn push_numbered(
     }
 }
 
+// Appends a piece so many times. Only a text with `{n}` is looked through each time.
 fn push_piece(alloc: Global, bytes: &mut Vec<u8>, piece: &Piece) -> Result<(), AllocError> {
+    let is_numbered = piece.text.contains("{n}");
     for time in 0..piece.times.unwrap_or(1) {
         bytes.extend_from_slice(&piece.bytes)?;
-        push_numbered(alloc, bytes, &piece.text, time.saturating_add(1))?;
+        if is_numbered {
+            push_numbered(alloc, bytes, &piece.text, time.saturating_add(1))?;
+        } else {
+            bytes.extend_from_slice(piece.text.as_bytes())?;
+        }
     }
     Ok(())
 }
