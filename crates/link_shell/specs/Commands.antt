@@ -2,6 +2,7 @@
 use Rattle.std.specs.Prelude.{◌≡◌, ℕ, List, drop, map, string_bytes, if◌then◌else◌, Option, Some, None, true, ⊤}
 use Rattle.std.specs.List.{list_all}
 use Rattle.link_shell.specs.Does.{Script}
+use Rattle.link_shell.specs.DuplicatesSettings.{are_duplicates_words, duplicates_script}
 use Rattle.link_shell.specs.Generate.{are_generate_words, generate_script, IsMadeNumber, rows_in}
 use Rattle.link_shell.specs.FrontierSettings.{are_frontier_words, Asked, asked_in, asked_of_request, frontier_script, is_level_word}
 use Rattle.link_shell.specs.Keys.{are_keys_words, keys_script}
@@ -29,23 +30,36 @@ pub data Command : Type 0 where
   migration_of_settings : List ℕ → Command
   run_of_settings : List ℕ → Command
   verification_of_settings : List ℕ → Command
+  duplicates_of_settings : List ℕ → Command
   generation : ℕ → Command
+
+-- the command of a settings file alone that the words are a form of
+unfoldable pub settings_command_of : List (List ℕ) → Option Command
+settings_command_of words =
+    if are_settings_words words
+    then Some (pairs_of_settings (word words 1))
+    else if are_rule_words words then Some (rule_of_settings (word words 1))
+    else if are_open_words words then Some (open_of_settings (word words 1))
+    else if are_migrate_words words then Some (migration_of_settings (word words 1))
+    else if are_run_words words then Some (run_of_settings (word words 1))
+    else if are_verify_words words then Some (verification_of_settings (word words 1))
+    else if are_duplicates_words words then Some (duplicates_of_settings (word words 1)) else None
+
+-- the first of two commands, where there is one
+abbrev pub or_command : Option Command → Option Command → Option Command
+or_command None next = next
+or_command (Some command) next = Some command
 
 -- the command that the words are a form of
 unfoldable pub command_of : List (List ℕ) → Option Command
 command_of words =
-    if are_column_words words
+    or_command (settings_command_of words)
+    (if are_column_words words
     then Some (pairs_of_columns (columns_in words))
-    else if are_settings_words words then Some (pairs_of_settings (word words 1))
     else if are_keys_words words then Some (keys (drop 1 words))
-    else if are_rule_words words then Some (rule_of_settings (word words 1))
     else if are_frontier_words words then Some (frontier_of_settings (asked_in words))
-    else if are_open_words words then Some (open_of_settings (word words 1))
     else if are_review_words words then Some (review_of_settings (review_in words))
-    else if are_migrate_words words then Some (migration_of_settings (word words 1))
-    else if are_run_words words then Some (run_of_settings (word words 1))
-    else if are_verify_words words then Some (verification_of_settings (word words 1))
-    else if are_generate_words words then Some (generation (rows_in words)) else None
+    else if are_generate_words words then Some (generation (rows_in words)) else None)
 
 -- the script of a command
 abbrev pub script_of : Command → Script
@@ -59,6 +73,7 @@ script_of (review_of_settings review) = review_script review
 script_of (migration_of_settings name) = migrate_script name
 script_of (run_of_settings name) = run_script name
 script_of (verification_of_settings name) = verify_script name
+script_of (duplicates_of_settings name) = duplicates_script name
 script_of (generation rows) = generate_script rows
 
 -- a command, as its words are held
@@ -73,6 +88,7 @@ command_in (words.ReviewOfSettings request) = review_of_settings (review_of_requ
 command_in (words.MigrationOfSettings name) = migration_of_settings name.now
 command_in (words.RunOfSettings name) = run_of_settings name.now
 command_in (words.VerificationOfSettings name) = verification_of_settings name.now
+command_in (words.DuplicatesOfSettings name) = duplicates_of_settings name.now
 command_in (words.Generation rows) = generation rows
 
 -- words that were read keep their ranges: the levels of a frontier are levels, a review has a day and a reviewer

@@ -22,3 +22,4 @@ pub mod OpenSettings
 pub mod MigrateSettings
 pub mod ReviewSettings
 pub mod VerifySettings
+pub mod DuplicatesSettings

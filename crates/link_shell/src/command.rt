@@ -1,7 +1,7 @@
 // The top calls.
 ghost use Rattle.std.specs.Prelude.{◌≡◌, IfSome, map, option_map, Result, string_bytes};
 ghost use Rattle.link_base.specs.declared.fault.Fault.{Fault as AnyFault};
-ghost use Rattle.link_shell.specs.Commands.{command_in, command_of, KeepsWords};
+ghost use Rattle.link_shell.specs.Commands.{command_in, command_of, KeepsWords, settings_command_of};
 ghost use Rattle.link_shell.specs.Headline.{Headline};
 ghost use Rattle.link_shell.specs.Linked.{Follows, Performed, Reported};
 ghost use Rattle.link_shell.specs.Seen.{sink_seen, store_seen};
@@ -12,8 +12,8 @@ use crate::frontier_settings::FrontierRequest;
 use crate::pairs_columns::ColumnRequest;
 use crate::review_settings::ReviewRequest;
 use crate::{
-    frontier_settings, generate, keys, migrate_settings, open_settings, pairs_columns,
-    pairs_settings, review_settings, rule_settings, run_settings, verify_settings,
+    duplicates_settings, frontier_settings, generate, keys, migrate_settings, open_settings,
+    pairs_columns, pairs_settings, review_settings, rule_settings, run_settings, verify_settings,
 };
 use link_base::{Fault, status_of};
 use link_outside::{Sink, SinkError, Store, write_fault};
@@ -39,42 +39,28 @@ pub(crate) enum Command<'w> {
     RunOfSettings(&'w str),
     // The name of the settings file.
     VerificationOfSettings(&'w str),
+    // The name of the settings file.
+    DuplicatesOfSettings(&'w str),
     // How many rows a file has.
     Generation(u32),
 }
 
-// The command that the words are a form of.
-#[tactic(auto, unfolding(crate::specs::Commands::command_of))]
-fn read_command(words: &[String]) -> Option<Command<'_>>
-    ensures command { option_map command_in result ≡ command_of (map string_bytes words.now) }
+// The command of a settings file alone that the words are a form of.
+#[tactic(auto, unfolding(crate::specs::Commands::settings_command_of))]
+fn read_settings_command(words: &[String]) -> Option<Command<'_>>
+    ensures command { option_map command_in result ≡ settings_command_of (map string_bytes words.now) }
     ensures ranges { IfSome result KeepsWords }
 {
-    match pairs_columns::read(words) {
-        Some(request) => return Some(Command::PairsOfColumns(request)),
-        None => {}
-    }
     match pairs_settings::read(words) {
         Some(name) => return Some(Command::PairsOfSettings(name)),
-        None => {}
-    }
-    match keys::read(words) {
-        Some(rest) => return Some(Command::Keys(rest)),
         None => {}
     }
     match rule_settings::read(words) {
         Some(name) => return Some(Command::RuleOfSettings(name)),
         None => {}
     }
-    match frontier_settings::read(words) {
-        Some(request) => return Some(Command::FrontierOfSettings(request)),
-        None => {}
-    }
     match open_settings::read(words) {
         Some(name) => return Some(Command::OpenOfSettings(name)),
-        None => {}
-    }
-    match review_settings::read(words) {
-        Some(request) => return Some(Command::ReviewOfSettings(request)),
         None => {}
     }
     match migrate_settings::read(words) {
@@ -87,6 +73,38 @@ fn read_command(words: &[String]) -> Option<Command<'_>>
     }
     match verify_settings::read(words) {
         Some(name) => return Some(Command::VerificationOfSettings(name)),
+        None => {}
+    }
+    match duplicates_settings::read(words) {
+        Some(name) => return Some(Command::DuplicatesOfSettings(name)),
+        None => return None,
+    }
+}
+
+// The command that the words are a form of.
+#[tactic(auto, unfolding(crate::specs::Commands::command_of))]
+fn read_command(words: &[String]) -> Option<Command<'_>>
+    ensures command { option_map command_in result ≡ command_of (map string_bytes words.now) }
+    ensures ranges { IfSome result KeepsWords }
+{
+    match read_settings_command(words) {
+        Some(command) => return Some(command),
+        None => {}
+    }
+    match pairs_columns::read(words) {
+        Some(request) => return Some(Command::PairsOfColumns(request)),
+        None => {}
+    }
+    match keys::read(words) {
+        Some(rest) => return Some(Command::Keys(rest)),
+        None => {}
+    }
+    match frontier_settings::read(words) {
+        Some(request) => return Some(Command::FrontierOfSettings(request)),
+        None => {}
+    }
+    match review_settings::read(words) {
+        Some(request) => return Some(Command::ReviewOfSettings(request)),
         None => {}
     }
     match generate::read(words) {
@@ -123,6 +141,9 @@ fn follow<S: Store, O: Sink>(
         ),
         Some(Command::RunOfSettings(name)) => run_settings::perform(alloc, name, store, out),
         Some(Command::VerificationOfSettings(name)) => verify_settings::perform(
+            alloc, name, store, out,
+        ),
+        Some(Command::DuplicatesOfSettings(name)) => duplicates_settings::perform(
             alloc, name, store, out,
         ),
         Some(Command::Generation(rows)) => generate::perform(alloc, rows, store, out),

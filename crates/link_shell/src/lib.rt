@@ -3,6 +3,7 @@
 #![tactic(auto)]
 
 mod command;
+mod duplicates_settings;
 mod ends;
 mod front;
 mod frontier_settings;

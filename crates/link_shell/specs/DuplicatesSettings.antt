@@ -1,0 +1,65 @@
+-- The command `duplicates SETTINGS`: its words, its steps and what is due, by the clause `follows` of `perform`. A is read as both files of
+-- the plan of A with itself; neither B nor the journal is loaded.
+use Rattle.std.specs.Prelude.{◌≡◌, ℕ, List, length, Bool, codes, Ok}
+use Rattle.dedup_groups.specs.Groups.{AreLeaders}
+use Rattle.link_base.specs.declared.fault.FileRole.TheVariants as role
+use Rattle.link_core.specs.Decisions.{decided, Decisions, decisions_of}
+use Rattle.link_core.specs.Duplicates.{IsGroupsText, links_within}
+use Rattle.link_core.specs.Prepared.{prepared, PreparedView}
+use Rattle.link_limits.specs.declared.TheConstants.{MOST_POOLED_BYTES}
+use Rattle.settings.specs.Within.{plan_within}
+use Rattle.settings.specs.declared.plan.Plan.{Plan}
+use Rattle.link_shell.specs.Does.{Script}
+use Rattle.link_shell.specs.Due.{Due, prints}
+use Rattle.link_shell.specs.Front.{plan_file, shares_over}
+use Rattle.link_shell.specs.Steps.{◌>>=◌, file, gives, Steps}
+use Rattle.link_shell.specs.Words.{are_verb_and_settings}
+use Rattle.link_shell.specs.declared.duplicates_settings.DecidedWithin.{DecidedWithin}
+use Rattle.link_shell.specs.declared.ends.Ended.TheVariants.{Done}
+
+abbrev pub are_duplicates_words : List (List ℕ) → Bool
+are_duplicates_words = are_verb_and_settings (codes "duplicates")
+
+-- a plan is that of a file with itself
+abbrev pub IsWithin : Plan → Type 0
+IsWithin plan = (whole : Plan) × (plan ≡ plan_within whole)
+
+-- a file that is ready to be compared with itself, and the decisions on its compared pairs
+pub record Within : Type 0 where
+  pub files : PreparedView
+  pub decided : Decisions
+
+abbrev pub within_of : DecidedWithin → Within
+within_of d = record { files = d.files; decided = decisions_of d.decided }
+
+-- A is loaded once, and its bytes stand as both files: the faults of A come first, then unreadable dates of a strict plan, and the pool
+abbrev pub prepared_within : Plan → Steps PreparedView
+prepared_within plan = do
+  bytes ← file role.A plan.file_a
+  gives (prepared plan MOST_POOLED_BYTES bytes bytes)
+
+-- the decisions of a plan's rule on the compared pairs of A with itself: the faults of the sample come before too many pairs
+abbrev pub decided_within : Plan → Steps Within
+decided_within plan = do
+  files ← prepared_within plan
+  shares ← shares_over plan files plan.sample
+  decided ← gives (decided plan files shares)
+  gives (Ok (record { files = files; decided = decided }))
+
+-- the groups that the links within A join are printed: each under its leader, the least of the records that chains of links join, and each
+-- record with the one through which a forest reaches it
+pub record AreGroupsPrinted (found : Within) (due : Due) : Type 0 where
+  pub text : List ℕ
+  pub groups : IsGroupsText found.files.files.a.records found.decided.links text
+  pub leaders : AreLeaders (length found.files.files.a.records) (links_within found.decided.links) groups.lists.leaders
+  pub so : due ≡ prints Done text
+
+-- the settings, and then A by the plan of A with itself
+abbrev pub duplicates_script : List ℕ → Script
+duplicates_script name = record {
+  Found = Within;
+  steps = do
+    plan ← plan_file name
+    decided_within (plan_within plan);
+  due = AreGroupsPrinted;
+}

@@ -1,0 +1,83 @@
+// The command `duplicates SETTINGS`.
+ghost use Rattle.std.specs.Prelude.{◌≡◌, ◌≤◌, [], IfOk, IfSome, is_some, length, map, slice_index_or, string_bytes};
+ghost use Rattle.link_core.specs.Decisions.{IsDecidedIn};
+ghost use Rattle.link_core.specs.Rules.{IsPreparedFor};
+ghost use Rattle.link_limits.specs.declared.TheConstants.{MOST_PAIRS, MOST_ROWS};
+ghost use Rattle.link_shell.specs.Does.{Does};
+ghost use Rattle.link_shell.specs.DuplicatesSettings.{are_duplicates_words, decided_within, duplicates_script, prepared_within, IsWithin, within_of};
+ghost use Rattle.link_shell.specs.Seen.{sink_seen, store_seen};
+ghost use Rattle.link_shell.specs.Steps.{seen_by, Takes};
+ghost use Rattle.settings.specs.Ranges.{KeepsRanges, NamesFiles};
+
+use crate::ends::{Ended, print};
+use crate::front::{file_name, load_plan, load_shares_over, prepare_files};
+use crate::load::load_file;
+use crate::words::settings_after;
+use dedup_groups::forest_leaders;
+use link_base::{Fault, FileRole};
+use link_core::{Decided, Prepared, decide_all, duplicate_lines};
+use link_outside::{Sink, Store};
+use settings::Plan;
+use std::alloc::Global;
+
+/// A file that is ready to be compared with itself, and the decisions on its compared pairs.
+#[derive(Drop)]
+pub(crate) struct DecidedWithin {
+    pub(crate) files: Prepared,
+    pub(crate) decided: Decided,
+}
+
+// Reads the words: the name of the settings file.
+pub(crate) fn read(words: &[String]) -> Option<&str>
+    ensures some { is_some result ≡ are_duplicates_words (map string_bytes words.now) }
+    ensures name { IfSome result (λ name. name.now ≡ slice_index_or (map string_bytes words.now) 1 []) }
+{
+    settings_after(words, "duplicates")
+}
+
+// Loads the file of a plan of a file with itself, and makes it ready to be compared.
+fn load_within<S: Store>(alloc: Global, store: &mut S, plan: &Plan) -> Result<Prepared, Fault>
+    requires within { IsWithin plan.now }
+    requires ranges { KeepsRanges plan.now }
+    requires names { NamesFiles plan.now }
+    ensures takes { Takes (prepared_within plan.now) (store_seen S.tells S.held S.faults store.old store.new) result }
+    ensures ready { IfOk result (IsPreparedFor plan.now) }
+    ensures same { IfOk result (λ p. length p.files.b.records ≡ length p.files.a.records) }
+{
+    let a = load_file(alloc, store, file_name(&plan.file_a), FileRole::A)?;
+    prepare_files(alloc, plan, a.bytes(), a.bytes())
+}
+
+// Loads the file of a plan of a file with itself, and its sample, and decides on the compared pairs.
+fn load_decided<S: Store>(alloc: Global, store: &mut S, plan: &Plan) -> Result<DecidedWithin, Fault>
+    requires within { IsWithin plan.now }
+    requires ranges { KeepsRanges plan.now }
+    requires names { NamesFiles plan.now }
+    ensures takes { Takes (decided_within plan.now) (store_seen S.tells S.held S.faults store.old store.new) (seen_by within_of result) }
+    ensures same { IfOk result (λ d. length d.files.files.b.records ≡ length d.files.files.a.records) }
+    ensures few { IfOk result (λ d. length d.files.files.a.records ≤ MOST_ROWS) }
+    ensures few_links { IfOk result (λ d. length d.decided.links ≤ MOST_PAIRS) }
+    ensures of_file { IfOk result (λ d. IsDecidedIn d.files d.decided) }
+{
+    let files = load_within(alloc, store, plan)?;
+    let shares = load_shares_over(alloc, store, plan, &files)?;
+    let decided = decide_all(alloc, plan, &files, &shares)?;
+    Ok(DecidedWithin { files, decided })
+}
+
+// Follows the script.
+pub(crate) fn perform<S: Store, O: Sink>(
+    alloc: Global,
+    name: &str,
+    store: &mut S,
+    out: &mut O,
+) -> Result<Ended, Fault>
+    ensures { Does (duplicates_script name.now) (store_seen S.tells S.held S.faults store.old store.new) (sink_seen O.tells O.taken O.faults out.old out.new) result }
+{
+    let plan = load_plan(alloc, store, name)?;
+    let within = plan.within(alloc)?;
+    let found = load_decided(alloc, store, &within)?;
+    let text = duplicate_lines(alloc, &found.files, &found.decided)?;
+    forest_leaders();
+    print(alloc, Ended::Done, text.bytes(), out)
+}
