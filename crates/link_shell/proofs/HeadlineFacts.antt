@@ -47,7 +47,7 @@ came_read : {A B : Type 0} (read : Result (List ℕ) Fault) (p : List ℕ → Re
 came_read (Ok bytes) p q Q y h e = h bytes e
 came_read (Err f) p q Q y h e = no_ok f y e
 
-came : {A B : Type 0} (s : Steps A) (next : A → Steps B) (held : Held) (y : B) → outcome (s >>= next) held ≡ Ok y → (x : A) × (outcome s held ≡ Ok x) × (outcome (next x) held ≡ Ok y)
+pub came : {A B : Type 0} (s : Steps A) (next : A → Steps B) (held : Held) (y : B) → outcome (s >>= next) held ≡ Ok y → (x : A) × (outcome s held ≡ Ok x) × (outcome (next x) held ≡ Ok y)
 unfolding ◌>>=◌
 came (load r limit name step) next held y e =
     came_read (loaded r limit name (held name)) (λ bytes. outcome (step bytes) held) (λ bytes. outcome (step bytes >>= next) held) (λ x. outcome (next x) held ≡ Ok y) y (λ bytes. came (step bytes) next held y) e
@@ -73,7 +73,7 @@ pub record SettingsFound (name : List ℕ) (held : Held) (found : ReviewedPlan) 
   pub of_settings : outcome (plan_file name) held ≡ Ok found.plan
   pub by : FoundBy found.plan held found.review
 
-settings_found : (name : List ℕ) (held : Held) (found : ReviewedPlan) → outcome (reviewed_settings name) held ≡ Ok found → SettingsFound name held found
+pub settings_found : (name : List ℕ) (held : Held) (found : ReviewedPlan) → outcome (reviewed_settings name) held ≡ Ok found → SettingsFound name held found
 settings_found name held found e =
     let plan = came (plan_file name) _ held found e in
     let review = came (reviewed_plan plan.0) _ held found plan.2 in
@@ -116,7 +116,7 @@ module _ (files : PreparedView) (rule : SideRule) (journal : List Entry) (award 
 status_above : (f : Fault) → fault_status f ≡ 0 → ⊥
 status_above f e = grind (arith)
 
-told_above : {T : Type 0} (f : Fault) (written : Result T SinkError) → status_after f written ≡ 0 → ⊥
+pub told_above : {T : Type 0} (f : Fault) (written : Result T SinkError) → status_after f written ≡ 0 → ⊥
 told_above f (Ok x) e = status_above f e
 told_above f (Err sink.Failed) e = status_above f e
 told_above f (Err sink.NoMemory) e = absurd (omega arith)

@@ -6,3 +6,4 @@ pub mod Laws
 pub mod LevelFacts
 pub mod HeadlineFacts
 pub mod InputFacts
+pub mod AfterRunFacts

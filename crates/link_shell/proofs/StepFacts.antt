@@ -28,7 +28,7 @@ no_ok f x e = absurd (cc)
 err_same : (A B : Type 0) (f g : Fault) → err A f ≡ err A g → err B f ≡ err B g
 err_same A B f g e = cc
 
-no_err : {T : Type 0} {P : Type 0} (x : T) (f : Fault) → ok x ≡ err T f → P
+pub no_err : {T : Type 0} {P : Type 0} (x : T) (f : Fault) → ok x ≡ err T f → P
 no_err x f e = absurd (cc)
 
 ok_and : {T : Type 0} (r : Result T Fault) (P Q : T → Type 0) → ((x : T) → P x → Q x) → IsOkAnd r P → IsOkAnd r Q
@@ -45,7 +45,7 @@ along_ok : {A : Type 0} (read : Result (List ℕ) Fault) (p : List ℕ → Resul
 along_ok (Ok bytes) p x Q h e = h bytes e
 along_ok (Err f) p x Q h e = no_ok f x e
 
-outcome_go : {A B : Type 0} (s : Steps A) (next : A → Steps B) (held : Held) (x : A) → outcome s held ≡ Ok x → outcome (s >>= next) held ≡ outcome (next x) held
+pub outcome_go : {A B : Type 0} (s : Steps A) (next : A → Steps B) (held : Held) (x : A) → outcome s held ≡ Ok x → outcome (s >>= next) held ≡ outcome (next x) held
 unfolding ◌>>=◌
 outcome_go (load r limit name step) next held x e =
     along (loaded r limit name (held name)) (λ bytes. outcome (step bytes) held) (λ bytes. outcome (step bytes >>= next) held) (Ok x) (outcome (next x) held) (λ bytes. outcome_go (step bytes) next held x) (λ f h. no_ok f x h) e

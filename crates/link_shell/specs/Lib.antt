@@ -22,4 +22,5 @@ pub mod OpenSettings
 pub mod MigrateSettings
 pub mod ReviewSettings
 pub mod VerifySettings
+pub mod AfterRun
 pub mod DuplicatesSettings

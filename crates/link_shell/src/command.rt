@@ -1,6 +1,7 @@
 // The top calls.
 ghost use Rattle.std.specs.Prelude.{◌≡◌, IfSome, map, option_map, Result, string_bytes};
 ghost use Rattle.link_base.specs.declared.fault.Fault.{Fault as AnyFault};
+ghost use Rattle.link_shell.specs.AfterRun.{ProvedByRun, YesWhereProved};
 ghost use Rattle.link_shell.specs.Commands.{command_in, command_of, KeepsWords, settings_command_of};
 ghost use Rattle.link_shell.specs.Headline.{Headline};
 ghost use Rattle.link_shell.specs.Linked.{Follows, Performed, Reported};
@@ -16,6 +17,7 @@ use crate::{
     pairs_columns, pairs_settings, review_settings, rule_settings, run_settings, verify_settings,
 };
 use link_base::{Fault, status_of};
+use link_core::run_is_verified;
 use link_outside::{Sink, SinkError, Store, write_fault};
 use std::alloc::Global;
 
@@ -185,7 +187,8 @@ fn report<E: Sink>(alloc: Global, answer: &Result<Ended, Fault>, err: &mut E) ->
 /// For every accepted input, `run` writes exactly the pairs that share a key in some pass, each once; a rule that, among all
 /// randomised rules whose error levels are at most its own, has the least chance of 'possible link' for matched and for unmatched
 /// pairs; and one-to-one links, each by rule or review, of greatest total weight, awards of review included, with prices that
-/// certify it (clause `headline`).
+/// certify it (clause `headline`). What it writes is verified: after it `verify` with the same settings file says yes where nothing
+/// outside fails and memory is there (clauses `proved_by_run` and `yes_where_proved`).
 pub fn linkage<S: Store, O: Sink, E: Sink>(
     alloc: Global,
     words: &[String],
@@ -197,7 +200,10 @@ pub fn linkage<S: Store, O: Sink, E: Sink>(
         × Performed (map string_bytes words.now) (store_seen S.tells S.held S.faults store.old store.new) (sink_seen O.tells O.taken O.faults out.old out.new) answer
         × Reported (sink_seen E.tells E.taken E.faults err.old err.new) answer result }
     ensures headline { Headline (map string_bytes words.now) (store_seen S.tells S.held S.faults store.old store.new) (sink_seen O.tells O.taken O.faults out.old out.new) (sink_seen E.tells E.taken E.faults err.old err.new) result }
+    ensures proved_by_run { ProvedByRun (map string_bytes words.now) (store_seen S.tells S.held S.faults store.old store.new) result }
+    ensures yes_where_proved { YesWhereProved (map string_bytes words.now) (store_seen S.tells S.held S.faults store.old store.new) (sink_seen O.tells O.taken O.faults out.old out.new) result }
 {
+    run_is_verified();
     let answer = perform(alloc, words, store, out);
     report(alloc, &answer, err)
 }

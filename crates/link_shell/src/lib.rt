@@ -2,6 +2,7 @@
 //! why it is refused.
 #![tactic(auto)]
 
+mod after_run;
 mod command;
 mod duplicates_settings;
 mod ends;
@@ -21,6 +22,7 @@ mod run_settings;
 mod verify_settings;
 mod words;
 
+pub use after_run::run_then_verify;
 pub use command::{linkage, perform};
 pub use ends::Ended;
 pub use load::load_whole;

@@ -1,5 +1,12 @@
+use Rattle.link_shell.proofs.AfterRunFacts.{proved_by_run, yes_where_proved}
 use Rattle.link_shell.proofs.HeadlineFacts.{headline}
 use Rattle.link_shell.proofs.command.linkage.Goals as goal
 
 pub returns-clause-headline : goal.returns-clause-headline
 returns-clause-headline g c = headline _ _ _ _ c.perform-answer.result _ c.perform-answer.ensures c.report.ensures
+
+pub returns-clause-proved_by_run : goal.returns-clause-proved_by_run
+returns-clause-proved_by_run g c = proved_by_run c.run_is_verified.ensures _ _ _ _ c.perform-answer.result _ c.perform-answer.ensures c.report.ensures
+
+pub returns-clause-yes_where_proved : goal.returns-clause-yes_where_proved
+returns-clause-yes_where_proved g c = yes_where_proved _ _ _ _ c.perform-answer.result _ c.perform-answer.ensures c.report.ensures
