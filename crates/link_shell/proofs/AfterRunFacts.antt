@@ -30,11 +30,12 @@ use Rattle.written_check.specs.declared.refutation.Refutation.{Refutation}
 use Rattle.link_shell.proofs.HeadlineFacts.{came, FoundBy, settings_found, told_above}
 use Rattle.link_shell.proofs.StepFacts.{no_err, ok_same, outcome_go}
 use Rattle.link_shell.specs.AfterRun.{HoldsProof, ProvedByRun, SaysYes, YesAfterRun, YesWhereProved}
-use Rattle.link_shell.specs.Commands.{Command, command_of, duplicates_of_settings, frontier_of_settings, generation, keys, migration_of_settings, open_of_settings, or_command, pairs_of_columns, pairs_of_settings, review_of_settings, rule_of_settings, run_of_settings, settings_command_of, verification_of_settings}
+use Rattle.link_shell.specs.Commands.{Command, command_of, duplicates_of_settings, frontier_of_settings, generation, keys, many_of_settings, migration_of_settings, open_of_settings, or_command, pairs_of_columns, pairs_of_settings, review_of_settings, rule_of_settings, run_of_settings, settings_command_of, verification_of_settings}
 use Rattle.link_shell.specs.DuplicatesSettings.{are_duplicates_words}
 use Rattle.link_shell.specs.FrontierSettings.{are_frontier_words, asked_in}
 use Rattle.link_shell.specs.Generate.{are_generate_words, rows_in}
 use Rattle.link_shell.specs.Keys.{are_keys_words}
+use Rattle.link_shell.specs.ManySettings.{are_many_words, many_in}
 use Rattle.link_shell.specs.MigrateSettings.{are_migrate_words}
 use Rattle.link_shell.specs.OpenSettings.{are_open_words}
 use Rattle.link_shell.specs.PairsColumns.{are_column_words, columns_in}
@@ -46,8 +47,8 @@ use Rattle.link_shell.specs.Due.{after_puts, ended_of, HoldsAll, prints, puts, T
 use Rattle.link_shell.specs.Front.{both_files, plan_file, prepared_files, shares_over}
 use Rattle.link_shell.specs.Linked.{Follows, IsComplete, Performed, Reported, status_after}
 use Rattle.link_shell.specs.Loads.{loaded}
-use Rattle.link_shell.specs.Reviewed.{journal_file, Review, reviewed_plan}
-use Rattle.link_shell.specs.RunSettings.{are_run_words, ReviewedPlan, run_puts, run_script}
+use Rattle.link_shell.specs.Reviewed.{journal_file, Review, reviewed_plan, reviewed_settings, ReviewedPlan}
+use Rattle.link_shell.specs.RunSettings.{are_run_words, run_puts, run_script}
 use Rattle.link_shell.specs.Seen.{IsUncalled, SinkSeen, StoreSeen}
 use Rattle.link_shell.specs.Steps.{◌>>=◌, ComesTo, file, file_within, gives, load, outcome, Steps}
 use Rattle.link_shell.specs.VerifySettings.{are_verify_words, ended_by, proved_by, verified_settings, verify_script, written_files, WrittenPlan}
@@ -195,9 +196,9 @@ module _ (law : RunIsVerified) (name : List ℕ) (kept : IsKept name) (store : S
       let of_plan : outcome (plan_file name) after ≡ Ok plan = same_outcome IsKept held after (puts_keep put.texts held) (plan_file name) (loads_plan name kept) ∙ from.of_settings in
       let of_review : outcome (reviewed_plan plan) after ≡ Ok review =
       same_outcome IsKept held after (puts_keep put.texts held) (reviewed_plan plan) (loads_review plan kept_plan.names) ∙ reviewed plan review held from.by in
+      let of_found : outcome (reviewed_settings name) after ≡ Ok found = outcome_go (plan_file name) _ after plan of_plan ∙ outcome_go (reviewed_plan plan) _ after review of_review in
       let whole : outcome (verified_settings name) after ≡ Ok w =
-      outcome_go (plan_file name) _ after plan of_plan ∙ outcome_go (reviewed_plan plan) _ after review of_review
-      ∙ outcome_go written_files _ after (written_of put.texts) (written_held put.texts held short) in
+      outcome_go (reviewed_settings name) _ after found of_found ∙ outcome_go written_files _ after (written_of put.texts) (written_held put.texts held short) in
       let holds : HoldsAll (puts (run_puts put.texts)) store = subst (λ d. HoldsAll d store) put.so e.held in
       subst (HoldsProof name) (sym (holds told)) (record { found = w; loaded = whole; links = made.links; proved = proved })
     where
@@ -263,7 +264,8 @@ keeps_settings words =
     (if_command (are_keys_words words) (keys (drop 1 words)) _ (λ e. no_run _ refl)
     (if_command (are_frontier_words words) (frontier_of_settings (asked_in words)) _ (λ e. no_run _ refl)
     (if_command (are_review_words words) (review_of_settings (review_in words)) _ (λ e. no_run _ refl)
-    (if_command (are_generate_words words) (generation (rows_in words)) _ (λ e. no_run _ refl) no_form)))))
+    (if_command (are_many_words words) (many_of_settings (many_in words)) _ (λ e. no_run _ refl)
+    (if_command (are_generate_words words) (generation (rows_in words)) _ (λ e. no_run _ refl) no_form))))))
 
 pub proved_by_run : RunIsVerified → (words : List (List ℕ)) (store : StoreSeen) (out err : SinkSeen) (answer : Result Ended Fault) (status : ℕ) → Performed words store out answer → Reported err answer status → ProvedByRun words store status
 proved_by_run law words store out err (Ok Done) status p r =

@@ -34,8 +34,8 @@ use Rattle.link_shell.specs.Front.{plan_file, prepared_files, shares_over}
 use Rattle.link_shell.specs.Headline.{Headline, IsByRuleOrReview, RunWrites}
 use Rattle.link_shell.specs.Linked.{Follows, Performed, Reported, status_after}
 use Rattle.link_shell.specs.Loads.{loaded}
-use Rattle.link_shell.specs.Reviewed.{journal_file, Review, reviewed_plan}
-use Rattle.link_shell.specs.RunSettings.{reviewed_settings, ReviewedPlan, run_puts, run_script}
+use Rattle.link_shell.specs.Reviewed.{journal_file, Review, reviewed_plan, reviewed_settings, ReviewedPlan}
+use Rattle.link_shell.specs.RunSettings.{run_puts, run_script}
 use Rattle.link_shell.specs.Seen.{IsUncalled, SinkSeen, StoreSeen}
 use Rattle.link_shell.specs.Steps.{◌>>=◌, gives, load, outcome, Steps}
 use Rattle.link_shell.specs.declared.ends.Ended.{Ended}

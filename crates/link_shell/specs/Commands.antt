@@ -6,6 +6,7 @@ use Rattle.link_shell.specs.DuplicatesSettings.{are_duplicates_words, duplicates
 use Rattle.link_shell.specs.Generate.{are_generate_words, generate_script, IsMadeNumber, rows_in}
 use Rattle.link_shell.specs.FrontierSettings.{are_frontier_words, Asked, asked_in, asked_of_request, frontier_script, is_level_word}
 use Rattle.link_shell.specs.Keys.{are_keys_words, keys_script}
+use Rattle.link_shell.specs.ManySettings.{are_many_words, many_in, many_of_request, many_script, ManyFiles}
 use Rattle.link_shell.specs.MigrateSettings.{are_migrate_words, migrate_script}
 use Rattle.link_shell.specs.OpenSettings.{are_open_words, open_script}
 use Rattle.link_shell.specs.ReviewSettings.{are_review_words, IsReviewRequest, NewReview, review_in, review_of_request, review_script}
@@ -31,6 +32,7 @@ pub data Command : Type 0 where
   run_of_settings : List ℕ → Command
   verification_of_settings : List ℕ → Command
   duplicates_of_settings : List ℕ → Command
+  many_of_settings : ManyFiles → Command
   generation : ℕ → Command
 
 -- the command of a settings file alone that the words are a form of
@@ -59,6 +61,7 @@ command_of words =
     else if are_keys_words words then Some (keys (drop 1 words))
     else if are_frontier_words words then Some (frontier_of_settings (asked_in words))
     else if are_review_words words then Some (review_of_settings (review_in words))
+    else if are_many_words words then Some (many_of_settings (many_in words))
     else if are_generate_words words then Some (generation (rows_in words)) else None)
 
 -- the script of a command
@@ -74,6 +77,7 @@ script_of (migration_of_settings name) = migrate_script name
 script_of (run_of_settings name) = run_script name
 script_of (verification_of_settings name) = verify_script name
 script_of (duplicates_of_settings name) = duplicates_script name
+script_of (many_of_settings w) = many_script w
 script_of (generation rows) = generate_script rows
 
 -- a command, as its words are held
@@ -89,6 +93,7 @@ command_in (words.MigrationOfSettings name) = migration_of_settings name.now
 command_in (words.RunOfSettings name) = run_of_settings name.now
 command_in (words.VerificationOfSettings name) = verification_of_settings name.now
 command_in (words.DuplicatesOfSettings name) = duplicates_of_settings name.now
+command_in (words.ManyOfSettings request) = many_of_settings (many_of_request request)
 command_in (words.Generation rows) = generation rows
 
 -- words that were read keep their ranges: the levels of a frontier are levels, a review has a day and a reviewer

@@ -24,3 +24,4 @@ pub mod ReviewSettings
 pub mod VerifySettings
 pub mod AfterRun
 pub mod DuplicatesSettings
+pub mod ManySettings

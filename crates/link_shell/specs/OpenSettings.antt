@@ -3,8 +3,7 @@ use Rattle.std.specs.Prelude.{ℕ, List, Bool, codes, Ok}
 use Rattle.link_core.specs.Review.{open_text_of}
 use Rattle.link_shell.specs.Does.{Script}
 use Rattle.link_shell.specs.Due.{is_printed}
-use Rattle.link_shell.specs.Front.{plan_file}
-use Rattle.link_shell.specs.Reviewed.{reviewed_plan}
+use Rattle.link_shell.specs.Reviewed.{reviewed_settings}
 use Rattle.link_shell.specs.Steps.{◌>>=◌, gives}
 use Rattle.link_shell.specs.Words.{are_verb_and_settings}
 
@@ -16,8 +15,7 @@ abbrev pub open_script : List ℕ → Script
 open_script name = record {
   Found = List ℕ;
   steps = do
-    plan ← plan_file name
-    reviewed ← reviewed_plan plan
-    gives (Ok (open_text_of reviewed.files reviewed.decided reviewed.journal));
+    found ← reviewed_settings name
+    gives (Ok (open_text_of found.review.files found.review.decided found.review.journal));
   due = is_printed;
 }

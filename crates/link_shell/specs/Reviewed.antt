@@ -12,6 +12,7 @@ use Rattle.link_core.specs.Review.{journal_in_files}
 use Rattle.link_shell.specs.Front.{plan_file, prepared_files, shares_over}
 use Rattle.link_shell.specs.Steps.{◌>>=◌, file, gives, Steps}
 use Rattle.link_shell.specs.declared.reviewed.Reviewed.{Reviewed}
+use Rattle.link_shell.specs.declared.reviewed.ReviewedSettings.{ReviewedSettings}
 
 -- the prepared files of a plan, the shares of its fields, the decisions on the compared pairs, and the entries of the journal
 pub record Review : Type 0 where
@@ -39,6 +40,21 @@ reviewed_plan plan = do
   decided ← gives (decided plan files shares)
   journal ← journal_file files plan.journal
   gives (Ok (record { files = files; shares = shares; decided = decided; journal = journal }))
+
+-- a plan, with the decisions of its rule on the compared pairs and the entries of its journal
+pub record ReviewedPlan : Type 0 where
+  pub plan : Plan
+  pub review : Review
+
+abbrev pub found_of : ReviewedSettings → ReviewedPlan
+found_of s = record { plan = s.plan; review = review_of s.reviewed }
+
+-- the plan of a settings file, and then the files that it names
+abbrev pub reviewed_settings : List ℕ → Steps ReviewedPlan
+reviewed_settings name = do
+  plan ← plan_file name
+  review ← reviewed_plan plan
+  gives (Ok (record { plan = plan; review = review }))
 
 -- a plan that names a journal
 abbrev pub with_journal : Plan → Result Plan Fault

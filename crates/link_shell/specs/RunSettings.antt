@@ -1,28 +1,14 @@
 -- The command `run SETTINGS`: its words, its steps, and the five files that it writes. `Headline` says what they are.
-use Rattle.std.specs.Prelude.{◌≡◌, ◌∷◌, [], ℕ, List, Bool, codes, Ok}
+use Rattle.std.specs.Prelude.{◌≡◌, ◌∷◌, [], ℕ, List, Bool, codes}
 use Rattle.plan_rule.specs.PlanRule.{IsRuleOf}
-use Rattle.settings.specs.declared.plan.Plan.{Plan}
 use Rattle.link_core.specs.Results.{AreRunTexts, RunTexts}
 use Rattle.link_shell.specs.Does.{Script}
 use Rattle.link_shell.specs.Due.{Due, Put, puts}
-use Rattle.link_shell.specs.Front.{plan_file}
-use Rattle.link_shell.specs.Reviewed.{Review, reviewed_plan}
-use Rattle.link_shell.specs.Steps.{◌>>=◌, gives, Steps}
+use Rattle.link_shell.specs.Reviewed.{reviewed_settings, ReviewedPlan}
 use Rattle.link_shell.specs.Words.{are_verb_and_settings}
 
 abbrev pub are_run_words : List (List ℕ) → Bool
 are_run_words = are_verb_and_settings (codes "run")
-
--- a plan, with the decisions of its rule on the compared pairs and the entries of its journal
-pub record ReviewedPlan : Type 0 where
-  pub plan : Plan
-  pub review : Review
-
-abbrev pub reviewed_settings : List ℕ → Steps ReviewedPlan
-reviewed_settings name = do
-  plan ← plan_file name
-  review ← reviewed_plan plan
-  gives (Ok (record { plan = plan; review = review }))
 
 abbrev pub a_put : List ℕ → List ℕ → Put
 a_put name bytes = record { name = name; bytes = bytes }

@@ -9,9 +9,7 @@ use Rattle.written_check.specs.Verified.{WrittenTexts}
 use Rattle.written_check.specs.declared.refutation.Refutation.{Refutation}
 use Rattle.link_shell.specs.Does.{Script}
 use Rattle.link_shell.specs.Due.{Due, prints}
-use Rattle.link_shell.specs.Front.{plan_file}
-use Rattle.link_shell.specs.Reviewed.{reviewed_plan}
-use Rattle.link_shell.specs.RunSettings.{ReviewedPlan}
+use Rattle.link_shell.specs.Reviewed.{reviewed_settings, ReviewedPlan}
 use Rattle.link_shell.specs.Steps.{◌>>=◌, file_within, gives, Steps}
 use Rattle.link_shell.specs.Words.{are_verb_and_settings}
 use Rattle.link_shell.specs.declared.ends.Ended.{Ended}
@@ -35,10 +33,9 @@ pub record WrittenPlan : Type 0 where
 
 abbrev pub verified_settings : List ℕ → Steps WrittenPlan
 verified_settings name = do
-  plan ← plan_file name
-  review ← reviewed_plan plan
+  found ← reviewed_settings name
   texts ← written_files
-  gives (Ok (record { found = record { plan = plan; review = review }; texts = texts }))
+  gives (Ok (record { found = found; texts = texts }))
 
 -- the links that the files prove, or the first reason that refutes them
 abbrev pub proved_by : WrittenPlan → Result (List Candidate) Refutation

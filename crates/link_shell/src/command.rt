@@ -10,11 +10,13 @@ ghost use Rattle.link_shell.specs.declared.ends.Ended.{Ended as AnyEnded};
 
 use crate::ends::Ended;
 use crate::frontier_settings::FrontierRequest;
+use crate::many_settings::ManyRequest;
 use crate::pairs_columns::ColumnRequest;
 use crate::review_settings::ReviewRequest;
 use crate::{
-    duplicates_settings, frontier_settings, generate, keys, migrate_settings, open_settings,
-    pairs_columns, pairs_settings, review_settings, rule_settings, run_settings, verify_settings,
+    duplicates_settings, frontier_settings, generate, keys, many_settings, migrate_settings,
+    open_settings, pairs_columns, pairs_settings, review_settings, rule_settings, run_settings,
+    verify_settings,
 };
 use link_base::{Fault, status_of};
 use link_core::run_is_verified;
@@ -43,6 +45,7 @@ pub(crate) enum Command<'w> {
     VerificationOfSettings(&'w str),
     // The name of the settings file.
     DuplicatesOfSettings(&'w str),
+    ManyOfSettings(ManyRequest<'w>),
     // How many rows a file has.
     Generation(u32),
 }
@@ -109,6 +112,10 @@ fn read_command(words: &[String]) -> Option<Command<'_>>
         Some(request) => return Some(Command::ReviewOfSettings(request)),
         None => {}
     }
+    match many_settings::read(words) {
+        Some(request) => return Some(Command::ManyOfSettings(request)),
+        None => {}
+    }
     match generate::read(words) {
         Some(rows) => return Some(Command::Generation(rows)),
         None => return None,
@@ -147,6 +154,9 @@ fn follow<S: Store, O: Sink>(
         ),
         Some(Command::DuplicatesOfSettings(name)) => duplicates_settings::perform(
             alloc, name, store, out,
+        ),
+        Some(Command::ManyOfSettings(request)) => many_settings::perform(
+            alloc, &request, store, out,
         ),
         Some(Command::Generation(rows)) => generate::perform(alloc, rows, store, out),
         None => Err(Fault::Usage),

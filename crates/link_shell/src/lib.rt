@@ -11,6 +11,7 @@ mod frontier_settings;
 mod generate;
 mod keys;
 mod load;
+mod many_settings;
 mod migrate_settings;
 mod open_settings;
 mod pairs_columns;

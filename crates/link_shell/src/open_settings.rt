@@ -5,8 +5,7 @@ ghost use Rattle.link_shell.specs.OpenSettings.{are_open_words, open_script};
 ghost use Rattle.link_shell.specs.Seen.{sink_seen, store_seen};
 
 use crate::ends::{Ended, print};
-use crate::front::load_plan;
-use crate::reviewed::load_reviewed;
+use crate::reviewed::load_reviewed_settings;
 use crate::words::settings_after;
 use link_base::Fault;
 use link_core::open_lines;
@@ -30,8 +29,8 @@ pub(crate) fn perform<S: Store, O: Sink>(
 ) -> Result<Ended, Fault>
     ensures { Does (open_script name.now) (store_seen S.tells S.held S.faults store.old store.new) (sink_seen O.tells O.taken O.faults out.old out.new) result }
 {
-    let plan = load_plan(alloc, store, name)?;
-    let reviewed = load_reviewed(alloc, store, &plan)?;
+    let found = load_reviewed_settings(alloc, store, name)?;
+    let reviewed = &found.reviewed;
     let text = open_lines(alloc, &reviewed.files, &reviewed.decided, &reviewed.journal)?;
     print(alloc, Ended::Done, text.bytes(), out)
 }

@@ -5,7 +5,7 @@ ghost use Rattle.link_core.specs.Decisions.{IsDecidedIn};
 ghost use Rattle.link_core.specs.Results.{IsDecidedFor};
 ghost use Rattle.link_core.specs.Review.{IsJournalOf};
 ghost use Rattle.link_core.specs.Rules.{IsPreparedFor};
-ghost use Rattle.link_shell.specs.Reviewed.{journal_file, journal_plan, review_of, reviewed_plan, with_journal};
+ghost use Rattle.link_shell.specs.Reviewed.{found_of, journal_file, journal_plan, review_of, reviewed_plan, reviewed_settings, with_journal};
 ghost use Rattle.link_shell.specs.Seen.{store_seen};
 ghost use Rattle.link_shell.specs.Steps.{seen_by, Takes};
 ghost use Rattle.plan_rule.specs.PlanRule.{IsRuleOf};
@@ -27,6 +27,13 @@ pub(crate) struct Reviewed {
     pub(crate) shares: PlanShares,
     pub(crate) decided: Decided,
     pub(crate) journal: Journal,
+}
+
+/// The plan of a settings file, and what the files that it names come to.
+#[derive(Drop)]
+pub(crate) struct ReviewedSettings {
+    pub(crate) plan: Plan,
+    pub(crate) reviewed: Reviewed,
 }
 
 // Loads a journal, over prepared files.
@@ -85,6 +92,24 @@ pub(crate) fn load_reviewed<S: Store>(
         decided,
         journal,
     })
+}
+
+// Loads a settings file and the files that its plan names, and decides on their compared pairs.
+pub(crate) fn load_reviewed_settings<S: Store>(
+    alloc: Global,
+    store: &mut S,
+    name: &str,
+) -> Result<ReviewedSettings, Fault>
+    ensures takes { Takes (reviewed_settings name.now) (store_seen S.tells S.held S.faults store.old store.new) (seen_by found_of result) }
+    ensures ranges { IfOk result (λ s. KeepsRanges s.plan) }
+    ensures ready { IfOk result (λ s. IsPreparedFor s.plan s.reviewed.files) }
+    ensures of_files { IfOk result (λ s. IsDecidedIn s.reviewed.files s.reviewed.decided) }
+    ensures of_plan { IfOk result (λ s. IsDecidedFor s.plan s.reviewed.files s.reviewed.decided) }
+    ensures rule { IfOk result (λ s. IsRuleOf s.plan s.reviewed.shares s.reviewed.decided.rule.cells) }
+{
+    let plan = load_plan(alloc, store, name)?;
+    let reviewed = load_reviewed(alloc, store, &plan)?;
+    Ok(ReviewedSettings { plan, reviewed })
 }
 
 // A plan that names a journal, or that the key is missing.

@@ -7,8 +7,7 @@ ghost use Rattle.link_shell.specs.Seen.{sink_seen, store_seen};
 ghost use Rattle.link_shell.specs.Ways.{PutsAll};
 
 use crate::ends::{Ended, Output, put_each};
-use crate::front::load_plan;
-use crate::reviewed::load_reviewed;
+use crate::reviewed::load_reviewed_settings;
 use crate::words::settings_after;
 use link_base::Fault;
 use link_core::{RunResult, finish};
@@ -61,14 +60,13 @@ pub(crate) fn perform<S: Store, O: Sink>(
 ) -> Result<Ended, Fault>
     ensures { Does (run_script name.now) (store_seen S.tells S.held S.faults store.old store.new) (sink_seen O.tells O.taken O.faults out.old out.new) result }
 {
-    let plan = load_plan(alloc, store, name)?;
-    let reviewed = load_reviewed(alloc, store, &plan)?;
+    let found = load_reviewed_settings(alloc, store, name)?;
     let made = finish(
         alloc,
-        &plan,
-        &reviewed.files,
-        &reviewed.decided,
-        &reviewed.journal,
+        &found.plan,
+        &found.reviewed.files,
+        &found.reviewed.decided,
+        &found.reviewed.journal,
     )?;
     put_results(alloc, &made, store)
 }

@@ -8,9 +8,8 @@ ghost use Rattle.link_shell.specs.VerifySettings.{are_verify_words, ended_if, ve
 ghost use Rattle.written_check.specs.Verified.{texts_in};
 
 use crate::ends::{Ended, print};
-use crate::front::load_plan;
 use crate::load::load_written;
-use crate::reviewed::load_reviewed;
+use crate::reviewed::load_reviewed_settings;
 use crate::words::settings_after;
 use link_base::{Fault, FileRole};
 use link_core::{Written, verify_files};
@@ -58,15 +57,14 @@ pub(crate) fn perform<S: Store, O: Sink>(
 ) -> Result<Ended, Fault>
     ensures { Does (verify_script name.now) (store_seen S.tells S.held S.faults store.old store.new) (sink_seen O.tells O.taken O.faults out.old out.new) result }
 {
-    let plan = load_plan(alloc, store, name)?;
-    let reviewed = load_reviewed(alloc, store, &plan)?;
+    let found = load_reviewed_settings(alloc, store, name)?;
     let written = load_files(alloc, store)?;
     let told = verify_files(
         alloc,
-        &plan,
-        &reviewed.files,
-        &reviewed.decided,
-        &reviewed.journal,
+        &found.plan,
+        &found.reviewed.files,
+        &found.reviewed.decided,
+        &found.reviewed.journal,
         &written,
     )?;
     print(alloc, ended_of(told.proved), told.line.bytes(), out)

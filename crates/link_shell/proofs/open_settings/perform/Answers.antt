@@ -5,17 +5,13 @@ use Rattle.link_shell.proofs.DoesFacts.{does_go, does_print, does_stop, does_wan
 use Rattle.link_shell.proofs.StepFacts.{takes_ok}
 use Rattle.link_shell.proofs.open_settings.perform.Goals as goal
 
-pub returns-in_err-plan : goal.returns-in_err-plan
-returns-in_err-plan g c = does_stop _ _ _ c.in_err-plan.ensures.takes c.from_residual.ensures.1
-
-pub returns-in_err-reviewed : goal.returns-in_err-reviewed
-returns-in_err-reviewed g c =
-    does_go _ _ _ c.in_ok-plan.ensures.takes (does_stop _ _ _ c.in_err-reviewed.ensures.takes c.from_residual-in_err-reviewed.ensures.1)
+pub returns-in_err-found : goal.returns-in_err-found
+returns-in_err-found g c = does_stop _ _ _ c.in_err-found.ensures.takes c.from_residual.ensures.1
 
 pub returns-in_err-text : goal.returns-in_err-text
-returns-in_err-text g c =
-    does_go _ _ _ c.in_ok-plan.ensures.takes (does_go _ _ _ c.in_ok-reviewed.ensures.takes (does_want _ c.from_residual-in_err-text.ensures.1))
+returns-in_err-text g c = does_go _ _ _ c.in_ok-found.ensures.takes (does_want _ c.from_residual-in_err-text.ensures.1)
 
 pub returns : goal.returns
 returns g c =
-    does_go _ _ _ c.in_ok-plan.ensures.takes (does_go _ _ _ c.in_ok-reviewed.ensures.takes (does_print _ _ (takes_ok c.in_ok-text.text (ap (λ t. Ok t) (sym c.in_ok-text.ensures))) c.print.ensures (ap (λ t. prints Done t) c.bytes.ensures)))
+    does_go _ _ _ c.in_ok-found.ensures.takes
+    (does_print _ _ (takes_ok c.in_ok-text.text (ap (λ t. Ok t) (sym c.in_ok-text.ensures))) c.print.ensures (ap (λ t. prints Done t) c.bytes.ensures))

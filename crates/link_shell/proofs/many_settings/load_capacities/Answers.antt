@@ -1,0 +1,13 @@
+use Rattle.std.proofs.Common.{ℕ, List, subst}
+use Rattle.link_base.specs.Fault.{IsAnswer}
+use Rattle.link_core.specs.Many.{capacities_in_file}
+use Rattle.link_shell.proofs.StepFacts.{takes_go, takes_stop, takes_value}
+use Rattle.link_shell.proofs.many_settings.load_capacities.Goals as goal
+
+pub returns-in_err-bytes-clause-takes : goal.returns-in_err-bytes-clause-takes
+returns-in_err-bytes-clause-takes g c = takes_stop _ _ c.in_err-bytes.ensures c.from_residual.ensures.1
+
+pub returns-clause-takes : goal.returns-clause-takes
+returns-clause-takes g c =
+    let P : List ℕ → Type 0 = λ bytes. IsAnswer (capacities_in_file c.args.files.now bytes) c.capacities_in_file.result in
+    takes_go _ _ c.in_ok-bytes.ensures (takes_value c.capacities_in_file.ensures.kind (subst P c.bytes-2.ensures c.capacities_in_file.ensures.answer))

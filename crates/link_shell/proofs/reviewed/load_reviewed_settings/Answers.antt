@@ -1,0 +1,14 @@
+use Rattle.std.proofs.Common.{refl}
+use Rattle.link_shell.specs.Reviewed.{found_of}
+use Rattle.link_shell.proofs.StepFacts.{seen_err, takes_go, takes_stop, takes_value}
+use Rattle.link_shell.proofs.reviewed.load_reviewed_settings.Goals as goal
+
+pub returns-in_err-plan-clause-takes : goal.returns-in_err-plan-clause-takes
+returns-in_err-plan-clause-takes g c = takes_stop _ _ c.in_err-plan.ensures.takes (seen_err found_of c.from_residual.result _ c.from_residual.ensures.1)
+
+pub returns-in_err-reviewed-clause-takes : goal.returns-in_err-reviewed-clause-takes
+returns-in_err-reviewed-clause-takes g c =
+    takes_go _ _ c.in_ok-plan.ensures.takes (takes_stop _ _ c.in_err-reviewed.ensures.takes (seen_err found_of c.from_residual-in_err-reviewed.result _ c.from_residual-in_err-reviewed.ensures.1))
+
+pub returns-clause-takes : goal.returns-clause-takes
+returns-clause-takes g c = takes_go _ _ c.in_ok-plan.ensures.takes (takes_go _ _ c.in_ok-reviewed.ensures.takes (takes_value tt refl))

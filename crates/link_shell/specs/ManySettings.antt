@@ -1,0 +1,57 @@
+-- The command `many SETTINGS CAPACITIES`: its words, its steps and what is due, by the clause `follows` of `perform`. Links are of greatest total
+-- within the capacities of the records of B; which list of that total is printed is not said.
+use Rattle.std.specs.Prelude.{◌≡◌, ℕ, List, length, Bool, ◌==◌, ◌&&◌, bytes_eq, codes, Ok}
+use Rattle.link_base.specs.declared.fault.FileRole.TheVariants as role
+use Rattle.link_core.specs.Many.{capacities_in_file, IsManyText}
+use Rattle.link_core.specs.Prepared.{PreparedView}
+use Rattle.link_shell.specs.Does.{Script}
+use Rattle.link_shell.specs.Due.{Due, prints}
+use Rattle.link_shell.specs.Reviewed.{reviewed_settings, ReviewedPlan}
+use Rattle.link_shell.specs.Steps.{◌>>=◌, file, gives, Steps}
+use Rattle.link_shell.specs.Words.{is_settings_word, is_short_word, word}
+use Rattle.link_shell.specs.declared.ends.Ended.TheVariants.{Done}
+use Rattle.link_shell.specs.declared.many_settings.ManyRequest.{ManyRequest}
+
+-- a settings file, and a file of capacities
+abbrev pub are_many_words : List (List ℕ) → Bool
+are_many_words words =
+    (length words == 3) && bytes_eq (word words 0) (codes "many") && is_settings_word (word words 1) && is_short_word (word words 2)
+
+-- the files
+pub record ManyFiles : Type 0 where
+  pub name : List ℕ
+  pub capacities : List ℕ
+
+abbrev pub many_in : List (List ℕ) → ManyFiles
+many_in words = record { name = word words 1; capacities = word words 2 }
+
+-- the words as they are held
+abbrev pub many_of_request : ManyRequest → ManyFiles
+many_of_request r = record { name = r.name.now; capacities = r.capacities.now }
+
+-- a plan with its decisions and its journal, and the capacity of each record of B
+pub record CapacityPlan : Type 0 where
+  pub found : ReviewedPlan
+  pub capacities : List ℕ
+
+-- the capacities in a file, over prepared files
+abbrev pub capacity_file : PreparedView → List ℕ → Steps (List ℕ)
+capacity_file files name = do
+  bytes ← file role.Capacities name
+  gives (capacities_in_file files bytes)
+
+-- the plan, its decisions, its journal, and then the capacities, whose faults come last
+abbrev pub capacity_settings : ManyFiles → Steps CapacityPlan
+capacity_settings w = do
+  found ← reviewed_settings w.name
+  capacities ← capacity_file found.review.files w.capacities
+  gives (Ok (record { found = found; capacities = capacities }))
+
+-- the text of links of greatest total within the capacities, and of prices that certify it, is printed
+pub record AreLinksPrinted (seated : CapacityPlan) (due : Due) : Type 0 where
+  pub text : List ℕ
+  pub lines : IsManyText seated.found.plan seated.found.review.files seated.found.review.decided.rule seated.found.review.journal seated.capacities text
+  pub so : due ≡ prints Done text
+
+abbrev pub many_script : ManyFiles → Script
+many_script w = record { Found = CapacityPlan; steps = capacity_settings w; due = AreLinksPrinted }
