@@ -4,14 +4,17 @@
     docs/hostile/expected.py crates/linkage_cases
 
 It is no part of the program and shares nothing with it: it follows docs/DEFINITIONS.md and the README in the plainest
-way, for the settings that the worked example uses, and knows no failure of memory. It prints what differs from the
-stored output of the two files, and ends with 1 where something does.
+way, for the settings that these cases use, and knows no failure of memory. Of a command that is done it says that
+alone: which links, prices or groups are printed is left open there. What is worked out once of a text is kept, since
+a file is read anew for each cut of another. It prints what differs from the stored output of the two files, and ends
+with 1 where something does.
 """
 import struct
 import sys
 import tomllib
 import unicodedata
 from fractions import Fraction
+from functools import cache
 from itertools import product
 
 OUTPUTS = ["pairs.csv", "rule.csv", "links.csv", "prices.csv", "report.txt"]
@@ -28,6 +31,7 @@ class Refused(Exception):
 # ---- CSV and tables
 
 
+@cache
 def records(data, delimiter=b","):
     """The records of a text. A quote counts at the start of a field alone, and an open one ends with the text."""
     if data.startswith(b"\xef\xbb\xbf"):
@@ -144,6 +148,7 @@ LETTERS |= {"Đ": "D", "đ": "D", "Ð": "D", "ð": "D", "Þ": "TH", "þ": "TH"}
 APOSTROPHES = "\u0027\u0060\u00b4\u02bc\u2018\u2019"
 
 
+@cache
 def name_value(text):
     text = text.strip()
     if text in MARKS:
@@ -166,6 +171,7 @@ def days_of(year, month):
     return [31, 29 if leap else 28, 31, 30, 31, 30, 31, 31, 30, 31, 30, 31][month - 1]
 
 
+@cache
 def date_value(text, form):
     """A date as (year, month, day); none where it is absent or cannot be read. And whether it cannot be read."""
     text = text.strip()
@@ -236,6 +242,17 @@ def people(plan, data, side):
     return found
 
 
+def dates_are_read(plan, data, side):
+    """Refuses the first date of a file that cannot be read, row by row."""
+    fields = [field for field in plan["field"] if field["kind"] == "date"]
+    columns = [field.get(f"column_{side}", field["name"]).encode() for field in fields]
+    delimiter = DELIMITERS[plan.get(f"delimiter_{side}", "comma")]
+    for number, cells in enumerate(table(data, side, columns, delimiter=delimiter), 1):
+        for field, cell in zip(fields, cells):
+            if date_value(cell.decode(), field[f"form_{side}"])[1]:
+                raise Refused(4, f"{side}: row {number}: {field['name']} is no date")
+
+
 def compared(plan, a, b):
     names = [field["name"] for field in plan["field"]]
 
@@ -294,11 +311,17 @@ def rounded(counts):
     return given
 
 
+@cache
 def weight(m, u):
     return max(w for w in range(-80, 80) if Fraction(2) ** w * u**8 <= m**8)
 
 
 def filled(plan, by_field):
+    return filled_at(plan["mu_ppm"], plan["lambda_ppm"], tuple((tuple(m), tuple(u)) for m, u in by_field))
+
+
+@cache
+def filled_at(mu_ppm, lambda_ppm, by_field):
     """The cells of the rule in their order: outcomes, m, u, weight, link, nonlink."""
     cells = []
     for digits in product(range(3), repeat=len(by_field)):
@@ -317,8 +340,8 @@ def filled(plan, by_field):
             if cell[place] < bound(cell):
                 return
 
-    cut(cells, plan["mu_ppm"], 2, 4, lambda cell: 65536)
-    cut(cells[::-1], plan["lambda_ppm"], 1, 5, lambda cell: 65536 - cell[4])
+    cut(cells, mu_ppm, 2, 4, lambda cell: 65536)
+    cut(cells[::-1], lambda_ppm, 1, 5, lambda cell: 65536 - cell[4])
     return cells
 
 
@@ -332,6 +355,7 @@ def rule_rows(cells):
             for digits, m, u, w, link, non in cells]
 
 
+@cache
 def chacha_word(seed, number):
     """A word of ChaCha20's stream of 64-bit block numbers, under a key that begins with the seed."""
     rotate = lambda x, n: (x << n | x >> 32 - n) & 0xFFFFFFFF
@@ -510,34 +534,41 @@ def capacities(data, b):
             raise Refused(4, f"capacities: row {number}: capacity")
 
 
+def load(held, name):
+    if held.get(name) is None:
+        raise Refused(6, f"store: {name}")
+    return held[name]
+
+
 def commanded(words, held):
     """The names that a command puts; refused with the status and the text of its fault."""
     kind = words[0]
     if kind == "pairs" and len(words) == 4:
         return columns_compared(words, held)
-    plan = settings(held[words[1]])
+    plan = settings(load(held, words[1]))
     if kind == "duplicates":
         plan = within(plan)
     if kind in ("review", "migrate") and "journal" not in plan:
         raise Refused(3, "settings: missing key journal")
     if kind in ("rule", "frontier") and "sample" not in plan:
         return []
-    for side in ("a", "b"):
-        if held.get(plan[f"file_{side}"]) is None:
-            raise Refused(6, f"store: {plan[f'file_{side}']}")
-    a, b = people(plan, held[plan["file_a"]], "a"), people(plan, held[plan["file_b"]], "b")
+    of_a, of_b = load(held, plan["file_a"]), load(held, plan["file_b"])
+    a, b = people(plan, of_a, "a"), people(plan, of_b, "b")
+    if plan.get("strict"):
+        dates_are_read(plan, of_a, "a")
+        dates_are_read(plan, of_b, "b")
     by_field = [(field.get("m"), field.get("u")) for field in plan["field"]]
     if "sample" in plan and kind not in ("pairs", "migrate"):
-        by_field = shares(plan, held[plan["sample"]], a, b)
+        by_field = shares(plan, load(held, plan["sample"]), a, b)
     if kind in ("pairs", "rule", "frontier", "duplicates"):
         return []
-    entries = journal(held[plan["journal"]], a, b) if "journal" in plan else []
+    entries = journal(load(held, plan["journal"]), a, b) if "journal" in plan else []
     if kind == "migrate":
         return [plan["journal"]]
     cells = filled(plan, by_field)
     decided = decisions(plan, a, b, cells)
     if kind == "review":
-        batch, day = new_verdicts(held[words[2]], a, b), date_value(words[3], "ymd")[0]
+        batch, day = new_verdicts(load(held, words[2]), a, b), date_value(words[3], "ymd")[0]
         if batch and entries and day < entries[-1][4]:
             raise Refused(4, "verdicts: row 1: date goes back")
         possible = [(i, j) for i, j, _, decision in decided if decision == "possible"]
@@ -546,7 +577,7 @@ def commanded(words, held):
                 raise Refused(4, f"verdicts: row {number}: not a possible pair")
         return [plan["journal"]]
     if kind == "many":
-        capacities(held[words[2]], b)
+        capacities(load(held, words[2]), b)
     if kind == "verify":
         candidates = [(i, j, w, w, b"rule") for i, j, w, decision in decided if decision == "link"]
         candidates += [(i, j, w, w + plan.get("award", 500), b"review") for i, j, w, decision in decided
@@ -583,29 +614,51 @@ def cuts(words, held, name):
 # ---- calls
 
 COMMANDS = "keys generate pairs rule frontier open review migrate run verify duplicates many".split()
-FORMS = {"keys": lambda words: 2 <= len(words) <= 101, "generate": lambda words: words[1:] != ["1"], "many": lambda words: len(words) == 3}
+FORMS = {
+    "keys": lambda words: 2 <= len(words) <= 101,
+    "generate": lambda words: words[1:] != ["1"],
+    "duplicates": lambda words: len(words) == 2,
+    "many": lambda words: len(words) == 3,
+}
 
 
 def calls_of(words, held):
-    """The loads and the puts of a command over files without a fault, and whether it prints."""
+    """The loads, each a role and a name, and the puts of a command over files without a fault, and whether it prints."""
     kind = words[0]
     if kind in ("keys", "generate"):
         return [], [], True
     if kind == "pairs" and len(words) == 4:
-        return words[1:3], [], True
-    plan = settings(held[words[1]])
-    loads = [words[1]]
+        return list(zip("ab", words[1:3])), [], True
+    plan = settings(load(held, words[1]))
+    loads = [("settings", words[1])]
     if kind == "duplicates":
-        loads.append(plan["file_a"])
+        loads.append(("a", plan["file_a"]))
     elif kind not in ("rule", "frontier") or "sample" in plan:
-        loads += [plan["file_a"], plan["file_b"]]
+        loads += [("a", plan["file_a"]), ("b", plan["file_b"])]
     if "sample" in plan and kind not in ("pairs", "migrate"):
-        loads.append(plan["sample"])
+        loads.append(("sample", plan["sample"]))
     if "journal" in plan and kind in ("open", "review", "migrate", "run", "verify", "many"):
-        loads.append(plan["journal"])
-    loads += words[2:3] if kind in ("review", "many") else OUTPUTS[1:4] if kind == "verify" else []
+        loads.append(("journal", plan["journal"]))
+    if kind == "review":
+        loads.append(("verdicts", words[2]))
+    if kind == "many":
+        loads.append(("capacities", words[2]))
+    if kind == "verify":
+        loads += [("rule", "rule.csv"), ("links", "links.csv"), ("prices", "prices.csv")]
     puts = {"run": OUTPUTS, "review": [plan.get("journal")], "migrate": [plan.get("journal")]}.get(kind, [])
     return loads, puts, kind not in ("review", "migrate", "run")
+
+
+def reached_by(whole, loads, held):
+    """The loads that hold something in a command that ends so: up to one of a name that holds nothing, or, where an input
+    has a fault, up to that input's, and both of A and B before a fault of either."""
+    if whole[0] in "09":
+        return loads
+    if whole[0] == "6":
+        return loads[: [held.get(name) is None for _, name in loads].index(True)]
+    at_fault = whole.split()[1].rstrip(":")
+    roles = "ab" if at_fault in ("a", "b") else [at_fault]
+    return loads[: 1 + max(at for at, (role, _) in enumerate(loads) if role in roles)]
 
 
 def failing(words, held):
@@ -617,18 +670,11 @@ def failing(words, held):
         try:
             loads, puts, prints = calls_of(words, held)
         except Refused:
-            loads = [words[1]]
+            loads = [("settings", words[1])]
         whole = ending(words, held) if words[0] not in ("keys", "generate") else line(0, "")
-        reached = loads
+        reached = [name for _, name in reached_by(whole, loads, held)]
         if whole[0] not in "09":
             puts, prints = [], False
-            if whole.startswith("6"):
-                reached = loads[: [held.get(name) is None for name in loads].index(True)]
-            elif whole.startswith("3"):
-                reached = loads[:1]
-            else:
-                assert whole.startswith("4 a:"), whole
-                reached = loads[:3]
     lines, tried = [f"none: {whole}"], 0
     for number, name in enumerate(reached, 1):
         lines.append(f"store {number}: {line(6, 'store: ' + name)}")
