@@ -1,6 +1,7 @@
 #!/usr/bin/env bash
-# Refuses the built program one request for memory at a time, each in turn, on the worked example: every command then ends with 8, or
-# with what it ends with anyway; each file holds its old text or its whole new one; and no file that is read is changed.
+# Refuses the built program one request for memory at a time, each in turn, on the worked example, and on a small file with duplicates:
+# every command then ends with 8, or with what it ends with anyway; each file holds its old text or its whole new one; and no file that
+# is read is changed.
 #
 #     docs/hostile/memory.sh [PROGRAM [EXAMPLE]]
 #
@@ -49,7 +50,7 @@ __attribute__((destructor)) static void end(void) {
 }
 C
 cc -shared -fPIC -O1 -o "$work/refuse.so" "$work/refuse.c" -ldl || exit 2
-reads="s.toml a.csv b.csv sample.csv v.csv c.csv"
+reads="s.toml a.csv b.csv sample.csv v.csv c.csv d.toml d.csv d_sample.csv"
 writes="pairs.csv rule.csv links.csv prices.csv report.txt journal.csv"
 wrong=0
 
@@ -61,6 +62,9 @@ mkdir "$work/old"
 cp "$example"/{s.toml,a.csv,b.csv,sample.csv,journal.csv} "$work/old"
 printf 'id_a,id_b,verdict\nA4,B3,nonlink\n' >"$work/old/v.csv"
 printf 'id_b,capacity\nB4,2\n' >"$work/old/c.csv"
+sed 's/"a.csv"/"d.csv"/; s/"sample.csv"/"d_sample.csv"/' "$example/s.toml" >"$work/old/d.toml"
+printf 'id,surname,given,birth\nD1,Müller,Anna,03/02/1980\nD2,Lee,Wei,12/12/1968\nD3,Mueller,Anna,3/2/1980\n' >"$work/old/d.csv"
+printf 'id_a,id_b,status\nD1,D3,matched\nD1,D2,unmatched\n' >"$work/old/d_sample.csv"
 (cd "$work/old" && "$program" run s.toml) || exit 2
 sed -i 's/^A1,B1,0/old/' "$work/old/pairs.csv"
 sed -i 's/^open 1/open old/' "$work/old/report.txt"
@@ -91,7 +95,8 @@ try_each() {
     cp -r . "$work/new"
     fresh
     if [ "$whole" == 2 ]; then
-        echo "no such command yet: $*"
+        wrong=$((wrong + 1))
+        echo "WRONG  no form of a command: $*"
         return
     fi
     for number in $(seq "$requests"); do
@@ -122,6 +127,7 @@ try_each migrate s.toml
 try_each run s.toml
 try_each verify s.toml
 try_each duplicates s.toml
+try_each duplicates d.toml
 try_each many s.toml c.csv
 try_each generate 2
 [ "$wrong" == 0 ]
