@@ -47,7 +47,7 @@ use Rattle.link_shell.specs.Due.{after_puts, ended_of, HoldsAll, prints, puts, T
 use Rattle.link_shell.specs.Front.{both_files, plan_file, prepared_files, shares_over}
 use Rattle.link_shell.specs.Linked.{Follows, IsComplete, Performed, Reported, status_after}
 use Rattle.link_shell.specs.Loads.{loaded}
-use Rattle.link_shell.specs.Reviewed.{journal_file, Review, reviewed_plan, reviewed_settings, ReviewedPlan}
+use Rattle.link_shell.specs.Reviewed.{decided_plan, journal_file, Review, reviewed_plan, reviewed_settings, ReviewedPlan}
 use Rattle.link_shell.specs.RunSettings.{are_run_words, run_puts, run_script}
 use Rattle.link_shell.specs.Seen.{IsUncalled, SinkSeen, StoreSeen}
 use Rattle.link_shell.specs.Steps.{◌>>=◌, ComesTo, file, file_within, gives, load, outcome, Steps}
@@ -121,12 +121,16 @@ module _ (plan : Plan) (names : AreNames plan.file_a plan.file_b plan.sample pla
   loads_journal files None h = tt
   loads_journal files (Some name) h = (h.no_output, λ bytes. tt)
 
+  loads_decisions : (files : PreparedView) → AllLoads IsKept (decided_plan plan files)
+  loads_decisions files =
+      loads_then IsKept (shares_over plan files plan.sample) _ (loads_sample files plan.sample names.of_sample) (λ shares.
+      loads_then IsKept (gives (decided plan files shares)) _ tt (λ d. tt))
+
   loads_review : AllLoads IsKept (reviewed_plan plan)
   loads_review =
       loads_then IsKept (prepared_files plan) _ loads_files (λ files.
-      loads_then IsKept (shares_over plan files plan.sample) _ (loads_sample files plan.sample names.of_sample) (λ shares.
-      loads_then IsKept (gives (decided plan files shares)) _ tt (λ d.
-      loads_then IsKept (journal_file files plan.journal) _ (loads_journal files plan.journal names.of_journal) (λ journal. tt))))
+      loads_then IsKept (decided_plan plan files) _ (loads_decisions files) (λ found.
+      loads_then IsKept (journal_file files plan.journal) _ (loads_journal files plan.journal names.of_journal) (λ journal. tt)))
 
 loads_plan : (name : List ℕ) → IsKept name → AllLoads IsKept (plan_file name)
 unfolding ◌>>=◌
@@ -204,8 +208,11 @@ module _ (law : RunIsVerified) (name : List ℕ) (kept : IsKept name) (store : S
     where
       reviewed : (plan : Plan) (review : Review) (held : Held) → FoundBy plan held review → outcome (reviewed_plan plan) held ≡ Ok review
       reviewed plan review held by =
-          outcome_go (prepared_files plan) _ held review.files by.of_files ∙ outcome_go (shares_over plan review.files plan.sample) _ held review.shares by.of_shares
-          ∙ outcome_go (gives (decided plan review.files review.shares)) _ held review.decided by.of_decisions
+          let decisions : outcome (decided_plan plan review.files) held ≡ Ok (record { shares = review.shares; decided = review.decided }) =
+          outcome_go (shares_over plan review.files plan.sample) _ held review.shares by.of_shares
+          ∙ outcome_go (gives (decided plan review.files review.shares)) _ held review.decided by.of_decisions in
+          outcome_go (prepared_files plan) _ held review.files by.of_files
+          ∙ outcome_go (decided_plan plan review.files) _ held (record { shares = review.shares; decided = review.decided }) decisions
           ∙ outcome_go (journal_file review.files plan.journal) _ held review.journal by.of_journal
 
 -- the settings file of a run is none of the outputs

@@ -34,7 +34,7 @@ use Rattle.link_shell.specs.Front.{plan_file, prepared_files, shares_over}
 use Rattle.link_shell.specs.Headline.{Headline, IsByRuleOrReview, RunWrites}
 use Rattle.link_shell.specs.Linked.{Follows, Performed, Reported, status_after}
 use Rattle.link_shell.specs.Loads.{loaded}
-use Rattle.link_shell.specs.Reviewed.{journal_file, Review, reviewed_plan, reviewed_settings, ReviewedPlan}
+use Rattle.link_shell.specs.Reviewed.{decided_plan, journal_file, Review, reviewed_plan, reviewed_settings, ReviewedPlan, SharedDecisions}
 use Rattle.link_shell.specs.RunSettings.{run_puts, run_script}
 use Rattle.link_shell.specs.Seen.{IsUncalled, SinkSeen, StoreSeen}
 use Rattle.link_shell.specs.Steps.{◌>>=◌, gives, load, outcome, Steps}
@@ -64,10 +64,14 @@ pub record FoundBy (plan : Plan) (held : Held) (review : Review) : Type 0 where
 found_by : (plan : Plan) (held : Held) (review : Review) → outcome (reviewed_plan plan) held ≡ Ok review → FoundBy plan held review
 found_by plan held review e =
     let files = came (prepared_files plan) _ held review e in
-    let shares = came (shares_over plan files.0 plan.sample) _ held review files.2 in
-    let decisions = came (gives (decided plan files.0 shares.0)) _ held review shares.2 in
-    let journal = came (journal_file files.0 plan.journal) _ held review decisions.2 in
-    subst (λ r. FoundBy plan held r) (ok_same _ _ journal.2) (record { of_files = files.1; of_shares = shares.1; of_decisions = decisions.1; of_journal = journal.1 })
+    let found = came (decided_plan plan files.0) _ held review files.2 in
+    let journal = came (journal_file files.0 plan.journal) _ held review found.2 in
+    let shares = came (shares_over plan files.0 plan.sample) _ held found.0 found.1 in
+    let decisions = came (gives (decided plan files.0 shares.0)) _ held found.0 shares.2 in
+    let with_decisions : SharedDecisions → Review = λ d. record { files = files.0; shares = d.shares; decided = d.decided; journal = journal.0 } in
+    let by : FoundBy plan held (with_decisions (record { shares = shares.0; decided = decisions.0 })) =
+    record { of_files = files.1; of_shares = shares.1; of_decisions = decisions.1; of_journal = journal.1 } in
+    subst (λ r. FoundBy plan held r) (ok_same _ _ journal.2) (subst (λ d. FoundBy plan held (with_decisions d)) (ok_same _ _ decisions.2) by)
 
 pub record SettingsFound (name : List ℕ) (held : Held) (found : ReviewedPlan) : Type 0 where
   pub of_settings : outcome (plan_file name) held ≡ Ok found.plan

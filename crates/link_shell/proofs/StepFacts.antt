@@ -1,5 +1,5 @@
 -- Steps, and then those that their value leads to.
-use Rattle.std.proofs.Common.{◌≡◌, inl, inr, ◌++◌, ◌∷◌, [], ℕ, List, Result, Ok, Err, IsErrAnd, IsOkAnd, IfErr, refl, sym, ap, subst, ◌∙◌}
+use Rattle.std.proofs.Common.{◌≡◌, inl, inr, ◌++◌, ◌∷◌, [], ℕ, List, Result, Ok, Err, IsErrAnd, IsOkAnd, IfErr, IfOk, refl, sym, ap, subst, ◌∙◌}
 use Rattle.link_base.specs.Answers.{and_then}
 use Rattle.link_base.specs.Fault.{Gives, IsAnswer, IsInputFault, Refuses}
 use Rattle.link_base.specs.declared.fault.Fault.{Fault}
@@ -11,7 +11,7 @@ use Rattle.settings.specs.Ranges.{IsSettingsFault}
 use Rattle.link_shell.specs.Causes.{Cause, cause_of, the_input, the_memory, the_output, the_store, the_words}
 use Rattle.link_shell.specs.Loads.{HasLoadCause, IsLoadFault, load_of, loaded, LoadGives}
 use Rattle.link_shell.specs.Seen.{StoreSeen}
-use Rattle.link_shell.specs.Steps.{◌>>=◌, ComesTo, file_within, gives, IsLoadIn, load, Might, MightLoad, outcome, Reaches, seen_by, Steps, StopsBy, Takes}
+use Rattle.link_shell.specs.Steps.{◌>>=◌, ComesTo, file_within, gives, IsLoadIn, load, Makes, Might, MightLoad, outcome, Reaches, seen_by, Steps, StopsBy, Takes}
 
 abbrev pub ok : {T : Type 0} → T → Result T Fault
 ok x = Ok x
@@ -241,3 +241,25 @@ takes_seen view (Err f) {expected = expected} {tells = tells} {held = held} {fau
 pub seen_err : {X T : Type 0} (view : X → T) (result : Result X Fault) (f : Fault) → IsErrAnd result (λ e. e ≡ f) → IsErrAnd (seen_by view result) (λ e. e ≡ f)
 seen_err view (Ok x) f h = absurd h
 seen_err view (Err e) f h = h
+
+-- what is made after steps
+pub makes_stop : {T X : Type 0} (s : Steps T) (P : T → X → Type 0) (result : Result X Fault) {store : StoreSeen} {f : Fault} → Takes s store (Err f) → IsErrAnd result (λ e. e ≡ f) → Makes s P store result
+makes_stop {X = X} s P result {store = store} {f = f} t e = let Q : Result X Fault → Type 0 = λ r. Makes s P store r in at_err Q result f e t
+
+pub makes_of : {T X : Type 0} (s : Steps T) (P : T → X → Type 0) (result : Result X Fault) {store : StoreSeen} {x : T} → Takes s store (Ok x) → IfOk result (P x) → IfErr result (λ f. f ≡ fault.NoMemory)
+    → Makes s P store result
+makes_of s P (Ok made) {x = x} t holds wants = (x, t, holds)
+makes_of s P (Err f) {store = store} t holds wants =
+    let Q : Fault → Type 0 = λ g. Takes s store (Err g) in subst Q (sym wants) (record { goes = t.goes.faults; held = t.held })
+
+pub makes_go : {A B X : Type 0} (s : Steps A) (next : A → Steps B) (P : B → X → Type 0) (result : Result X Fault) {x : A} {tells : Type 0} {h0 h1 : Held} (h2 : Held) {f0 f1 : List StoreCall} (f2 : List StoreCall)
+    → Takes s (record { tells = tells; held_before = h0; held_after = h1; faults_before = f0; faults_after = f1 }) (Ok x)
+    → Makes (next x) P (record { tells = tells; held_before = h1; held_after = h2; faults_before = f1; faults_after = f2 }) result
+    → Makes (s >>= next) P (record { tells = tells; held_before = h0; held_after = h2; faults_before = f0; faults_after = f2 }) result
+makes_go s next P (Ok made) h2 f2 t m = (m.0, takes_go s next t m.1, m.2)
+makes_go s next P (Err f) h2 f2 t m = takes_go s next t m
+
+pub makes_end : {A B X : Type 0} (s : Steps A) (next : A → Steps B) (P : B → X → Type 0) (result : Result X Fault) {store : StoreSeen} {f : Fault} → Takes s store (Err f) → IsErrAnd result (λ e. e ≡ f)
+    → Makes (s >>= next) P store result
+makes_end {X = X} s next P result {store = store} {f = f} t e =
+    let Q : Result X Fault → Type 0 = λ r. Makes (s >>= next) P store r in at_err Q result f e (takes_stop s next {result = Err f} t refl)

@@ -3,7 +3,7 @@
 use Rattle.std.specs.Prelude.{◌≡◌, ℕ, List, length, Bool, codes, Ok}
 use Rattle.dedup_groups.specs.Groups.{AreLeaders}
 use Rattle.link_base.specs.declared.fault.FileRole.TheVariants as role
-use Rattle.link_core.specs.Decisions.{decided, Decisions, decisions_of}
+use Rattle.link_core.specs.Decisions.{Decisions, decisions_of}
 use Rattle.link_core.specs.Duplicates.{IsGroupsText, links_within}
 use Rattle.link_core.specs.Prepared.{prepared, PreparedView}
 use Rattle.link_limits.specs.declared.TheConstants.{MOST_POOLED_BYTES}
@@ -11,7 +11,8 @@ use Rattle.settings.specs.Within.{plan_within}
 use Rattle.settings.specs.declared.plan.Plan.{Plan}
 use Rattle.link_shell.specs.Does.{Script}
 use Rattle.link_shell.specs.Due.{Due, prints}
-use Rattle.link_shell.specs.Front.{plan_file, shares_over}
+use Rattle.link_shell.specs.Front.{plan_file}
+use Rattle.link_shell.specs.Reviewed.{decided_plan}
 use Rattle.link_shell.specs.Steps.{◌>>=◌, file, gives, Steps}
 use Rattle.link_shell.specs.Words.{are_verb_and_settings}
 use Rattle.link_shell.specs.declared.duplicates_settings.DecidedWithin.{DecidedWithin}
@@ -42,9 +43,8 @@ prepared_within plan = do
 abbrev pub decided_within : Plan → Steps Within
 decided_within plan = do
   files ← prepared_within plan
-  shares ← shares_over plan files plan.sample
-  decided ← gives (decided plan files shares)
-  gives (Ok (record { files = files; decided = decided }))
+  found ← decided_plan plan files
+  gives (Ok (record { files = files; decided = found.decided }))
 
 -- the groups that the links within A join are printed: each under its leader, the least of the records that chains of links join, and each
 -- record with the one through which a forest reaches it

@@ -14,7 +14,7 @@ use Rattle.workload.specs.MadeSettings.{text_of_settings}
 use Rattle.link_shell.specs.Does.{Script}
 use Rattle.link_shell.specs.Due.{Due, prints}
 use Rattle.csv_rows.specs.Numbers.{is_decimal, number_in}
-use Rattle.link_shell.specs.RunSettings.{ReviewedPlan}
+use Rattle.link_shell.specs.Reviewed.{ReviewedPlan}
 use Rattle.link_shell.specs.Steps.{gives}
 use Rattle.link_shell.specs.Words.{word}
 use Rattle.link_shell.specs.declared.ends.Ended.TheVariants.{Done}

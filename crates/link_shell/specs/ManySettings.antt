@@ -40,17 +40,29 @@ capacity_file files name = do
   bytes ← file role.Capacities name
   gives (capacities_in_file files bytes)
 
+abbrev pub within_capacities : ReviewedPlan → List ℕ → CapacityPlan
+within_capacities found capacities = record { found = found; capacities = capacities }
+
+-- the capacities, after a plan with its decisions and its journal
+abbrev pub capacity_plan : ReviewedPlan → List ℕ → Steps CapacityPlan
+capacity_plan found name = do
+  capacities ← capacity_file found.review.files name
+  gives (Ok (within_capacities found capacities))
+
 -- the plan, its decisions, its journal, and then the capacities, whose faults come last
 abbrev pub capacity_settings : ManyFiles → Steps CapacityPlan
 capacity_settings w = do
   found ← reviewed_settings w.name
-  capacities ← capacity_file found.review.files w.capacities
-  gives (Ok (record { found = found; capacities = capacities }))
+  capacity_plan found w.capacities
 
--- the text of links of greatest total within the capacities, and of prices that certify it, is printed
-pub record AreLinksPrinted (seated : CapacityPlan) (due : Due) : Type 0 where
+-- the text of links of greatest total within the capacities, and of prices that certify it
+abbrev pub IsLinksText : CapacityPlan → List ℕ → Type 0
+IsLinksText within text = IsManyText within.found.plan within.found.review.files within.found.review.decided.rule within.found.review.journal within.capacities text
+
+-- such a text is printed
+pub record AreLinksPrinted (within : CapacityPlan) (due : Due) : Type 0 where
   pub text : List ℕ
-  pub lines : IsManyText seated.found.plan seated.found.review.files seated.found.review.decided.rule seated.found.review.journal seated.capacities text
+  pub lines : IsLinksText within text
   pub so : due ≡ prints Done text
 
 abbrev pub many_script : ManyFiles → Script

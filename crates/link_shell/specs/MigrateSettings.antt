@@ -1,11 +1,13 @@
 -- The command `migrate SETTINGS`: the journal as it is read, written in the newest version.
 use Rattle.std.specs.Prelude.{◌≡◌, ◌∷◌, [], ℕ, List, Bool, codes, Ok}
+use Rattle.link_core.specs.Prepared.{PreparedView}
 use Rattle.link_core.specs.Review.{journal_lines_of}
+use Rattle.settings.specs.declared.plan.Plan.{Plan}
 use Rattle.link_shell.specs.Does.{Script}
 use Rattle.link_shell.specs.Due.{Due, Put, puts}
 use Rattle.link_shell.specs.Front.{prepared_files}
 use Rattle.link_shell.specs.Reviewed.{journal_file, journal_plan, named_journal}
-use Rattle.link_shell.specs.Steps.{◌>>=◌, gives}
+use Rattle.link_shell.specs.Steps.{◌>>=◌, gives, Steps}
 use Rattle.link_shell.specs.Words.{are_verb_and_settings}
 
 abbrev pub are_migrate_words : List (List ℕ) → Bool
@@ -15,15 +17,24 @@ are_migrate_words = are_verb_and_settings (codes "migrate")
 abbrev pub is_put : Put → Due → Type 0
 is_put put due = due ≡ puts (put ∷ [])
 
--- the plan, which names a journal, its two files, the journal, and its text within the limit of a file
+-- the text of the journal of a plan, over its prepared files, within the limit of a file
+abbrev pub journal_text : Plan → PreparedView → Steps (List ℕ)
+journal_text plan files = do
+  journal ← journal_file files plan.journal
+  gives (journal_lines_of files journal)
+
+abbrev pub written_journal : Plan → Steps (List ℕ)
+written_journal plan = do
+  files ← prepared_files plan
+  journal_text plan files
+
+-- the plan, which names a journal, its two files, the journal, and its text
 abbrev pub migrate_script : List ℕ → Script
 migrate_script name = record {
   Found = Put;
   steps = do
     plan ← journal_plan name
-    files ← prepared_files plan
-    journal ← journal_file files plan.journal
-    text ← gives (journal_lines_of files journal)
+    text ← written_journal plan
     gives (Ok (record { name = named_journal plan; bytes = text }));
   due = is_put;
 }

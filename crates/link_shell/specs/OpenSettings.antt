@@ -1,21 +1,22 @@
 -- The command `open SETTINGS`: the possible links that wait for a verdict.
-use Rattle.std.specs.Prelude.{ℕ, List, Bool, codes, Ok}
+use Rattle.std.specs.Prelude.{◌≡◌, ℕ, List, Bool, codes}
 use Rattle.link_core.specs.Review.{open_text_of}
 use Rattle.link_shell.specs.Does.{Script}
 use Rattle.link_shell.specs.Due.{is_printed}
-use Rattle.link_shell.specs.Reviewed.{reviewed_settings}
-use Rattle.link_shell.specs.Steps.{◌>>=◌, gives}
+use Rattle.link_shell.specs.Reviewed.{reviewed_settings, ReviewedPlan}
 use Rattle.link_shell.specs.Words.{are_verb_and_settings}
 
 abbrev pub are_open_words : List (List ℕ) → Bool
 are_open_words = are_verb_and_settings (codes "open")
 
+-- the text of what is open
+abbrev pub is_open_text : ReviewedPlan → List ℕ → Type 0
+is_open_text found text = text ≡ open_text_of found.review.files found.review.decided found.review.journal
+
 -- the plan, the decisions of its rule on the compared pairs, the journal, and then the text of what is open
 abbrev pub open_script : List ℕ → Script
 open_script name = record {
-  Found = List ℕ;
-  steps = do
-    found ← reviewed_settings name
-    gives (Ok (open_text_of found.review.files found.review.decided found.review.journal));
-  due = is_printed;
+  Found = ReviewedPlan;
+  steps = reviewed_settings name;
+  due = λ found. is_printed (open_text_of found.review.files found.review.decided found.review.journal);
 }

@@ -6,10 +6,10 @@ use Rattle.value_forms.specs.Days.{iso_day}
 use Rattle.link_core.specs.Review.{reviewed_lines_of}
 use Rattle.link_shell.specs.Does.{Script}
 use Rattle.link_shell.specs.Due.{Put}
-use Rattle.link_shell.specs.Reviewed.{journal_plan, named_journal, reviewed_plan}
+use Rattle.link_shell.specs.Reviewed.{journal_plan, named_journal, Review, reviewed_plan}
 use Rattle.link_base.specs.declared.fault.FileRole.TheVariants as role
 use Rattle.link_shell.specs.MigrateSettings.{is_put}
-use Rattle.link_shell.specs.Steps.{◌>>=◌, file, gives}
+use Rattle.link_shell.specs.Steps.{◌>>=◌, file, gives, Steps}
 use Rattle.link_shell.specs.Words.{is_settings_word, is_short_word, word}
 use Rattle.link_shell.specs.declared.review_settings.ReviewRequest.{ReviewRequest}
 
@@ -43,6 +43,12 @@ pub record IsReviewRequest (r : ReviewRequest) : Type 0 where
   pub day : IsDay r.date
   pub reviewer : IsReviewer r.reviewer.now
 
+-- new verdicts, and the text of the journal with them, within the limit of a file
+abbrev pub added_verdicts : NewReview → Bool → Review → Steps (List ℕ)
+added_verdicts w double review = do
+  verdicts ← file role.Verdicts w.verdicts
+  gives (reviewed_lines_of double w.date w.reviewer review.files review.decided.possible review.journal verdicts)
+
 -- the plan, which names a journal, the decisions of its rule on the compared pairs, the journal, the new verdicts, and the text of
 -- both within the limit of a file
 abbrev pub review_script : NewReview → Script
@@ -51,8 +57,7 @@ review_script w = record {
   steps = do
     plan ← journal_plan w.name
     reviewed ← reviewed_plan plan
-    verdicts ← file role.Verdicts w.verdicts
-    text ← gives (reviewed_lines_of plan.double w.date w.reviewer reviewed.files reviewed.decided.possible reviewed.journal verdicts)
+    text ← added_verdicts w plan.double reviewed
     gives (Ok (record { name = named_journal plan; bytes = text }));
   due = is_put;
 }

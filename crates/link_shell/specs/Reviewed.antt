@@ -3,14 +3,19 @@ use Rattle.std.specs.Prelude.{ℕ, List, [], codes, is_some, unwrap_or, Option, 
 use Rattle.link_base.specs.declared.fault.Fault.{Fault}
 use Rattle.link_base.specs.declared.fault.Fault.TheVariants as fault
 use Rattle.link_base.specs.declared.fault.FileRole.TheVariants as role
+use Rattle.plan_rule.specs.PlanRule.{IsRuleOf}
 use Rattle.settings.specs.Plan.{PlainShares}
+use Rattle.settings.specs.Ranges.{KeepsRanges}
 use Rattle.settings.specs.declared.plan.Plan.{Plan}
 use Rattle.review_journal.specs.declared.entry.Entry.{Entry}
-use Rattle.link_core.specs.Decisions.{decided, Decisions, decisions_of}
+use Rattle.link_core.specs.Decisions.{decided, Decisions, decisions_of, IsDecidedIn}
 use Rattle.link_core.specs.Prepared.{PreparedView}
+use Rattle.link_core.specs.Results.{IsDecidedFor}
 use Rattle.link_core.specs.Review.{journal_in_files}
+use Rattle.link_core.specs.Rules.{IsPreparedFor}
 use Rattle.link_shell.specs.Front.{plan_file, prepared_files, shares_over}
 use Rattle.link_shell.specs.Steps.{◌>>=◌, file, gives, Steps}
+use Rattle.link_shell.specs.declared.reviewed.DecidedPlan.{DecidedPlan}
 use Rattle.link_shell.specs.declared.reviewed.Reviewed.{Reviewed}
 use Rattle.link_shell.specs.declared.reviewed.ReviewedSettings.{ReviewedSettings}
 
@@ -31,15 +36,28 @@ journal_file files (Some name) = do
   bytes ← file role.Journal name
   gives (journal_in_files files bytes)
 
--- the files of a plan with the decisions of its rule on the compared pairs, and the entries of its journal: the faults of the sample
--- come before too many pairs, and these before the faults of the journal
+-- the shares of a plan's fields, and the decisions of its rule on the compared pairs
+pub record SharedDecisions : Type 0 where
+  pub shares : List PlainShares
+  pub decided : Decisions
+
+abbrev pub shared_decisions_of : DecidedPlan → SharedDecisions
+shared_decisions_of d = record { shares = d.shares; decided = decisions_of d.decided }
+
+-- the decisions of the rule of a plan over its prepared files: the faults of the sample come before too many pairs
+abbrev pub decided_plan : Plan → PreparedView → Steps SharedDecisions
+decided_plan plan files = do
+  shares ← shares_over plan files plan.sample
+  decided ← gives (decided plan files shares)
+  gives (Ok (record { shares = shares; decided = decided }))
+
+-- the files of a plan with the decisions of its rule on the compared pairs, and the entries of its journal, whose faults come last
 abbrev pub reviewed_plan : Plan → Steps Review
 reviewed_plan plan = do
   files ← prepared_files plan
-  shares ← shares_over plan files plan.sample
-  decided ← gives (decided plan files shares)
+  found ← decided_plan plan files
   journal ← journal_file files plan.journal
-  gives (Ok (record { files = files; shares = shares; decided = decided; journal = journal }))
+  gives (Ok (record { files = files; shares = found.shares; decided = found.decided; journal = journal }))
 
 -- a plan, with the decisions of its rule on the compared pairs and the entries of its journal
 pub record ReviewedPlan : Type 0 where
@@ -48,6 +66,14 @@ pub record ReviewedPlan : Type 0 where
 
 abbrev pub found_of : ReviewedSettings → ReviewedPlan
 found_of s = record { plan = s.plan; review = review_of s.reviewed }
+
+-- the files are those of the plan, and so are the decisions, by the rule of the plan and of the shares
+pub record IsReviewed (s : ReviewedSettings) : Type 0 where
+  pub ranges : KeepsRanges s.plan
+  pub ready : IsPreparedFor s.plan s.reviewed.files
+  pub of_files : IsDecidedIn s.reviewed.files s.reviewed.decided
+  pub of_plan : IsDecidedFor s.plan s.reviewed.files s.reviewed.decided
+  pub rule : IsRuleOf s.plan s.reviewed.shares s.reviewed.decided.rule.cells
 
 -- the plan of a settings file, and then the files that it names
 abbrev pub reviewed_settings : List ℕ → Steps ReviewedPlan

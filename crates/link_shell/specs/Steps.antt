@@ -101,3 +101,8 @@ seen_by view (Err f) = Err f
 pub record Takes {T : Type 0} (steps : Steps T) (store : StoreSeen) (result : Result T Fault) : Type 0 where
   pub goes : Goes steps store result
   pub held : store.held_after ≡ store.held_before
+
+-- a call goes through these steps and makes something of which this holds; or memory was wanted, or it ends at a fault of the steps
+abbrev pub Makes : {T X : Type 0} → Steps T → (T → X → Type 0) → StoreSeen → Result X Fault → Type 0
+Makes {T = T} steps P store (Ok made) = (x : T) × Takes steps store (Ok x) × P x made
+Makes steps P store (Err f) = Takes steps store (Err f)

@@ -3,10 +3,12 @@
 use Rattle.std.specs.Prelude.{◌≡◌, ℕ, List, Bool, true, false, codes, Result, Ok}
 use Rattle.link_base.specs.declared.fault.FileRole.TheVariants as role
 use Rattle.link_base.specs.declared.rule.Candidate.{Candidate}
-use Rattle.link_core.specs.Verify.{is_proved, line_of, verified_in}
+use Rattle.link_core.specs.Verify.{is_proved, line_of, verified_in, Verifies}
+use Rattle.link_core.specs.declared.verify.Verification.{Verification}
 use Rattle.link_limits.specs.declared.TheConstants.{MOST_WRITTEN_BYTES}
-use Rattle.written_check.specs.Verified.{WrittenTexts}
+use Rattle.written_check.specs.Verified.{texts_in, WrittenTexts}
 use Rattle.written_check.specs.declared.refutation.Refutation.{Refutation}
+use Rattle.written_check.specs.declared.written.Written.{Written}
 use Rattle.link_shell.specs.Does.{Script}
 use Rattle.link_shell.specs.Due.{Due, prints}
 use Rattle.link_shell.specs.Reviewed.{reviewed_settings, ReviewedPlan}
@@ -31,15 +33,27 @@ pub record WrittenPlan : Type 0 where
   pub found : ReviewedPlan
   pub texts : WrittenTexts
 
+abbrev pub written_of : ReviewedPlan → Written → WrittenPlan
+written_of found written = record { found = found; texts = texts_in written }
+
+-- the written files, after a plan with its decisions and its journal
+abbrev pub written_plan : ReviewedPlan → Steps WrittenPlan
+written_plan found = do
+  texts ← written_files
+  gives (Ok (record { found = found; texts = texts }))
+
 abbrev pub verified_settings : List ℕ → Steps WrittenPlan
 verified_settings name = do
   found ← reviewed_settings name
-  texts ← written_files
-  gives (Ok (record { found = found; texts = texts }))
+  written_plan found
 
 -- the links that the files prove, or the first reason that refutes them
 abbrev pub proved_by : WrittenPlan → Result (List Candidate) Refutation
 proved_by w = verified_in w.found.plan w.found.review.files w.found.review.decided.rule w.found.review.journal w.texts
+
+-- it is told whether the files prove their links, with the line that says so
+abbrev pub tells_of : WrittenPlan → Verification → Type 0
+tells_of w told = Verifies w.found.review.files (proved_by w) told
 
 -- status 0 where there is no reason, and 9 where there is one
 abbrev pub ended_if : Bool → Ended

@@ -10,12 +10,13 @@ ghost use Rattle.link_shell.specs.Steps.{seen_by, Takes};
 ghost use Rattle.settings.specs.Ranges.{KeepsRanges, NamesFiles};
 
 use crate::ends::{Ended, print};
-use crate::front::{file_name, load_plan, load_shares_over, prepare_files};
+use crate::front::{file_name, load_plan, prepare_files};
 use crate::load::load_file;
+use crate::reviewed::load_decisions;
 use crate::words::settings_after;
 use dedup_groups::forest_leaders;
 use link_base::{Fault, FileRole};
-use link_core::{Decided, Prepared, decide_all, duplicate_lines};
+use link_core::{Decided, Prepared, duplicate_lines};
 use link_outside::{Sink, Store};
 use settings::Plan;
 use std::alloc::Global;
@@ -60,9 +61,11 @@ fn load_decided<S: Store>(alloc: Global, store: &mut S, plan: &Plan) -> Result<D
     ensures of_file { IfOk result (λ d. IsDecidedIn d.files d.decided) }
 {
     let files = load_within(alloc, store, plan)?;
-    let shares = load_shares_over(alloc, store, plan, &files)?;
-    let decided = decide_all(alloc, plan, &files, &shares)?;
-    Ok(DecidedWithin { files, decided })
+    let found = load_decisions(alloc, store, plan, &files)?;
+    Ok(DecidedWithin {
+        files,
+        decided: found.decided,
+    })
 }
 
 // Follows the script.
@@ -75,9 +78,15 @@ pub(crate) fn perform<S: Store, O: Sink>(
     ensures { Does (duplicates_script name.now) (store_seen S.tells S.held S.faults store.old store.new) (sink_seen O.tells O.taken O.faults out.old out.new) result }
 {
     let plan = load_plan(alloc, store, name)?;
-    let within = plan.within(alloc)?;
-    let found = load_decided(alloc, store, &within)?;
-    let text = duplicate_lines(alloc, &found.files, &found.decided)?;
+    let copy = plan.within(alloc);
+    drop(plan);
+    let within = copy?;
+    let decided = load_decided(alloc, store, &within);
+    drop(within);
+    let found = decided?;
+    let lines = duplicate_lines(alloc, &found.files, &found.decided);
+    drop(found);
+    let text = lines?;
     forest_leaders();
     print(alloc, Ended::Done, text.bytes(), out)
 }

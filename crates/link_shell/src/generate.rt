@@ -114,7 +114,9 @@ pub(crate) fn perform<S: Store, O: Sink>(
 {
     let made = decide_made(alloc, rows)?;
     let journal = Journal::new(alloc);
-    let results = finish(alloc, &made.plan, &made.files, &made.decided, &journal)?;
+    let finished = finish(alloc, &made.plan, &made.files, &made.decided, &journal);
+    drop(made);
+    let results = finished?;
     print(
         alloc,
         Ended::Done,

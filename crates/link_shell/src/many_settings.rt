@@ -1,17 +1,19 @@
 // The command `many SETTINGS CAPACITIES`.
-ghost use Rattle.std.specs.Prelude.{◌≡◌, IfOk, IfSome, is_some, map, string_bytes};
+ghost use Rattle.std.specs.Prelude.{◌≡◌, IfErr, IfOk, IfSome, is_some, map, string_bytes};
+ghost use Rattle.link_base.specs.declared.fault.Fault.TheVariants as fault;
 ghost use Rattle.link_core.specs.Many.{AreCapacitiesOf};
 ghost use Rattle.link_shell.specs.Does.{Does};
-ghost use Rattle.link_shell.specs.ManySettings.{are_many_words, capacity_file, many_in, many_of_request, many_script};
+ghost use Rattle.link_shell.specs.ManySettings.{are_many_words, capacity_file, capacity_plan, capacity_settings, IsLinksText, many_in, many_of_request, many_script, within_capacities};
+ghost use Rattle.link_shell.specs.Reviewed.{found_of, IsReviewed};
 ghost use Rattle.link_shell.specs.Seen.{sink_seen, store_seen};
-ghost use Rattle.link_shell.specs.Steps.{Takes};
+ghost use Rattle.link_shell.specs.Steps.{Makes, Takes};
 
 use crate::ends::{Ended, print};
 use crate::load::load_file;
-use crate::reviewed::load_reviewed_settings;
+use crate::reviewed::{ReviewedSettings, load_reviewed_settings};
 use crate::words::{is_settings, is_short, word_at};
-use link_base::{Fault, FileRole};
-use link_core::{Capacities, Prepared, capacities_in_file, many_lines};
+use link_base::{Fault, FileRole, Text};
+use link_core::{Capacities, capacities_in_file, many_lines};
 use link_outside::{Sink, Store};
 use std::alloc::Global;
 
@@ -39,18 +41,65 @@ pub(crate) fn read(words: &[String]) -> Option<ManyRequest<'_>>
     }
 }
 
-// Loads the capacities of the records of B, over prepared files.
+// Loads the capacities of the records of B.
 fn load_capacities<S: Store>(
     alloc: Global,
     store: &mut S,
-    files: &Prepared,
+    found: &ReviewedSettings,
     name: &str,
 ) -> Result<Capacities, Fault>
-    ensures takes { Takes (capacity_file files.now name.now) (store_seen S.tells S.held S.faults store.old store.new) result }
-    ensures of_files { IfOk result (AreCapacitiesOf files.now) }
+    ensures takes { Takes (capacity_file found.now.reviewed.files name.now) (store_seen S.tells S.held S.faults store.old store.new) result }
+    ensures of_files { IfOk result (AreCapacitiesOf found.now.reviewed.files) }
 {
     let bytes = load_file(alloc, store, name, FileRole::Capacities)?;
-    capacities_in_file(alloc, files, bytes.bytes())
+    capacities_in_file(alloc, &found.reviewed.files, bytes.bytes())
+}
+
+// The text of links within capacities, and of their prices.
+fn text_of(alloc: Global, found: &ReviewedSettings, capacities: &Capacities) -> Result<Text, Fault>
+    requires found { IsReviewed found.now }
+    requires capacities { AreCapacitiesOf found.now.reviewed.files capacities.now }
+    ensures wants { IfErr result (λ f. f ≡ fault.NoMemory) }
+    ensures text { IfOk result (IsLinksText (within_capacities (found_of found.now) capacities.now)) }
+{
+    let reviewed = &found.reviewed;
+    let text = many_lines(
+        alloc,
+        &found.plan,
+        &reviewed.files,
+        &reviewed.decided,
+        &reviewed.journal,
+        capacities,
+    )?;
+    Ok(text)
+}
+
+// Loads the capacities, and makes the text.
+fn text_of_found<S: Store>(
+    alloc: Global,
+    store: &mut S,
+    found: &ReviewedSettings,
+    name: &str,
+) -> Result<Text, Fault>
+    requires { IsReviewed found.now }
+    ensures { Makes (capacity_plan (found_of found.now) name.now) IsLinksText (store_seen S.tells S.held S.faults store.old store.new) result }
+{
+    let capacities = load_capacities(alloc, store, found, name)?;
+    text_of(alloc, found, &capacities)
+}
+
+// Loads what a settings file names and the capacities, and makes the text.
+fn load_text<S: Store>(
+    alloc: Global,
+    store: &mut S,
+    request: &ManyRequest<'_>,
+) -> Result<Text, Fault>
+    ensures { Makes (capacity_settings (many_of_request request.now)) IsLinksText (store_seen S.tells S.held S.faults store.old store.new) result }
+{
+    let found = load_reviewed_settings(alloc, store, request.name)?;
+    let text = text_of_found(alloc, store, &found, request.capacities);
+    drop(found);
+    text
 }
 
 // Follows the script.
@@ -62,15 +111,6 @@ pub(crate) fn perform<S: Store, O: Sink>(
 ) -> Result<Ended, Fault>
     ensures { Does (many_script (many_of_request request.now)) (store_seen S.tells S.held S.faults store.old store.new) (sink_seen O.tells O.taken O.faults out.old out.new) result }
 {
-    let found = load_reviewed_settings(alloc, store, request.name)?;
-    let capacities = load_capacities(alloc, store, &found.reviewed.files, request.capacities)?;
-    let text = many_lines(
-        alloc,
-        &found.plan,
-        &found.reviewed.files,
-        &found.reviewed.decided,
-        &found.reviewed.journal,
-        &capacities,
-    )?;
+    let text = load_text(alloc, store, request)?;
     print(alloc, Ended::Done, text.bytes(), out)
 }

@@ -1,16 +1,19 @@
 // The command `migrate SETTINGS`.
 ghost use Rattle.std.specs.Prelude.{◌≡◌, [], IfSome, is_some, map, slice_index_or, string_bytes};
 ghost use Rattle.link_shell.specs.Does.{Does};
-ghost use Rattle.link_shell.specs.MigrateSettings.{are_migrate_words, migrate_script};
+ghost use Rattle.link_shell.specs.MigrateSettings.{are_migrate_words, journal_text, migrate_script, written_journal};
 ghost use Rattle.link_shell.specs.Seen.{sink_seen, store_seen};
+ghost use Rattle.link_shell.specs.Steps.{Takes};
+ghost use Rattle.settings.specs.Ranges.{KeepsRanges, NamesFiles};
 
 use crate::ends::{Ended, Output, put_each};
 use crate::front::load_prepared;
 use crate::reviewed::{journal_name, load_journal, load_journal_plan};
 use crate::words::settings_after;
-use link_base::Fault;
-use link_core::journal_lines;
+use link_base::{Fault, Text};
+use link_core::{Prepared, journal_lines};
 use link_outside::{Sink, Store};
+use settings::Plan;
 use std::alloc::Global;
 
 // Reads the words: the name of the settings file.
@@ -19,6 +22,32 @@ pub(crate) fn read(words: &[String]) -> Option<&str>
     ensures name { IfSome result (λ name. name.now ≡ slice_index_or (map string_bytes words.now) 1 []) }
 {
     settings_after(words, "migrate")
+}
+
+// Loads the journal of a plan, over its prepared files, and makes its text.
+fn text_over<S: Store>(
+    alloc: Global,
+    store: &mut S,
+    plan: &Plan,
+    files: &Prepared,
+) -> Result<Text, Fault>
+    requires { NamesFiles plan.now }
+    ensures { Takes (journal_text plan.now files.now) (store_seen S.tells S.held S.faults store.old store.new) result }
+{
+    let journal = load_journal(alloc, store, plan, files)?;
+    journal_lines(alloc, files, &journal)
+}
+
+// Loads the files of a plan and its journal, and makes its text.
+fn load_text<S: Store>(alloc: Global, store: &mut S, plan: &Plan) -> Result<Text, Fault>
+    requires ranges { KeepsRanges plan.now }
+    requires names { NamesFiles plan.now }
+    ensures { Takes (written_journal plan.now) (store_seen S.tells S.held S.faults store.old store.new) result }
+{
+    let files = load_prepared(alloc, store, plan)?;
+    let text = text_over(alloc, store, plan, &files);
+    drop(files);
+    text
 }
 
 // Follows the script.
@@ -31,9 +60,7 @@ pub(crate) fn perform<S: Store, O: Sink>(
     ensures { Does (migrate_script name.now) (store_seen S.tells S.held S.faults store.old store.new) (sink_seen O.tells O.taken O.faults out.old out.new) result }
 {
     let plan = load_journal_plan(alloc, store, name)?;
-    let files = load_prepared(alloc, store, &plan)?;
-    let journal = load_journal(alloc, store, &plan, &files)?;
-    let text = journal_lines(alloc, &files, &journal)?;
+    let text = load_text(alloc, store, &plan)?;
     let output = Output {
         name: journal_name(&plan),
         bytes: text.bytes(),

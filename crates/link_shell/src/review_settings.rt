@@ -1,15 +1,19 @@
 // The command `review SETTINGS VERDICTS DATE REVIEWER`.
 ghost use Rattle.std.specs.Prelude.{◌≡◌, IfSome, is_some, map, option_map, string_bytes, Some};
 ghost use Rattle.link_base.specs.Standard.{IsDay};
+ghost use Rattle.link_core.specs.Decisions.{IsDecidedIn};
+ghost use Rattle.link_core.specs.Review.{IsJournalOf};
 ghost use Rattle.link_shell.specs.Does.{Does};
-ghost use Rattle.link_shell.specs.ReviewSettings.{are_review_words, IsReviewRequest, review_in, review_of_request, review_script};
+ghost use Rattle.link_shell.specs.ReviewSettings.{added_verdicts, are_review_words, IsReviewRequest, review_in, review_of_request, review_script};
+ghost use Rattle.link_shell.specs.Reviewed.{review_of};
 ghost use Rattle.link_shell.specs.Seen.{sink_seen, store_seen};
+ghost use Rattle.link_shell.specs.Steps.{Takes};
 
 use crate::ends::{Ended, Output, put_each};
 use crate::load::load_file;
-use crate::reviewed::{journal_name, load_journal_plan, load_reviewed};
+use crate::reviewed::{Reviewed, journal_name, load_journal_plan, load_reviewed};
 use crate::words::{is_settings, is_short, word_at};
-use link_base::{Fault, FileRole};
+use link_base::{Fault, FileRole, Text};
 use link_core::add_verdicts;
 use link_outside::{Sink, Store};
 use std::alloc::Global;
@@ -50,6 +54,32 @@ pub(crate) fn read(words: &[String]) -> Option<ReviewRequest<'_>>
     }
 }
 
+// Loads new verdicts, adds them to the journal, and makes its text.
+fn add_loaded<S: Store>(
+    alloc: Global,
+    store: &mut S,
+    request: &ReviewRequest<'_>,
+    double: bool,
+    reviewed: &mut Reviewed,
+) -> Result<Text, Fault>
+    requires request { IsReviewRequest request.now }
+    requires of_files { IsDecidedIn reviewed.old.files reviewed.old.decided }
+    requires journal { IsJournalOf reviewed.old.files reviewed.old.journal }
+    ensures { Takes (added_verdicts (review_of_request request.now) double (review_of reviewed.old)) (store_seen S.tells S.held S.faults store.old store.new) result }
+{
+    let verdicts = load_file(alloc, store, request.verdicts, FileRole::Verdicts)?;
+    add_verdicts(
+        alloc,
+        &reviewed.files,
+        &reviewed.decided,
+        &mut reviewed.journal,
+        verdicts.bytes(),
+        request.date,
+        request.reviewer,
+        double,
+    )
+}
+
 // Follows the script.
 pub(crate) fn perform<S: Store, O: Sink>(
     alloc: Global,
@@ -62,17 +92,9 @@ pub(crate) fn perform<S: Store, O: Sink>(
 {
     let plan = load_journal_plan(alloc, store, request.name)?;
     let mut reviewed = load_reviewed(alloc, store, &plan)?;
-    let verdicts = load_file(alloc, store, request.verdicts, FileRole::Verdicts)?;
-    let text = add_verdicts(
-        alloc,
-        &reviewed.files,
-        &reviewed.decided,
-        &mut reviewed.journal,
-        verdicts.bytes(),
-        request.date,
-        request.reviewer,
-        plan.double,
-    )?;
+    let added = add_loaded(alloc, store, request, plan.double, &mut reviewed);
+    drop(reviewed);
+    let text = added?;
     let output = Output {
         name: journal_name(&plan),
         bytes: text.bytes(),

@@ -5,7 +5,7 @@ ghost use Rattle.link_core.specs.Decisions.{IsDecidedIn};
 ghost use Rattle.link_core.specs.Results.{IsDecidedFor};
 ghost use Rattle.link_core.specs.Review.{IsJournalOf};
 ghost use Rattle.link_core.specs.Rules.{IsPreparedFor};
-ghost use Rattle.link_shell.specs.Reviewed.{found_of, journal_file, journal_plan, review_of, reviewed_plan, reviewed_settings, with_journal};
+ghost use Rattle.link_shell.specs.Reviewed.{decided_plan, found_of, IsReviewed, journal_file, journal_plan, review_of, reviewed_plan, reviewed_settings, shared_decisions_of, with_journal};
 ghost use Rattle.link_shell.specs.Seen.{store_seen};
 ghost use Rattle.link_shell.specs.Steps.{seen_by, Takes};
 ghost use Rattle.plan_rule.specs.PlanRule.{IsRuleOf};
@@ -19,6 +19,13 @@ use link_outside::Store;
 use review_journal::Journal;
 use settings::Plan;
 use std::alloc::Global;
+
+/// The shares of a plan's fields, and the decisions of its rule on the compared pairs.
+#[derive(Drop)]
+pub(crate) struct DecidedPlan {
+    pub(crate) shares: PlanShares,
+    pub(crate) decided: Decided,
+}
 
 /// The prepared files of a plan, the shares of its fields, the decisions of its rule on the compared pairs, and its journal.
 #[derive(Drop)]
@@ -67,6 +74,26 @@ pub(crate) fn load_journal<S: Store>(
     }
 }
 
+// Decides on the compared pairs of the prepared files of a plan, by the sample that it names, which is loaded, or by its own shares.
+pub(crate) fn load_decisions<S: Store>(
+    alloc: Global,
+    store: &mut S,
+    plan: &Plan,
+    files: &Prepared,
+) -> Result<DecidedPlan, Fault>
+    requires ranges { KeepsRanges plan.now }
+    requires names { NamesFiles plan.now }
+    requires ready { IsPreparedFor plan.now files.now }
+    ensures takes { Takes (decided_plan plan.now files.now) (store_seen S.tells S.held S.faults store.old store.new) (seen_by shared_decisions_of result) }
+    ensures of_files { IfOk result (λ d. IsDecidedIn files.now d.decided) }
+    ensures of_plan { IfOk result (λ d. IsDecidedFor plan.now files.now d.decided) }
+    ensures rule { IfOk result (λ d. IsRuleOf plan.now d.shares d.decided.rule.cells) }
+{
+    let shares = load_shares_over(alloc, store, plan, files)?;
+    let decided = decide_all(alloc, plan, files, &shares)?;
+    Ok(DecidedPlan { shares, decided })
+}
+
 // Loads the files that a plan names, and decides on their compared pairs.
 pub(crate) fn load_reviewed<S: Store>(
     alloc: Global,
@@ -83,13 +110,12 @@ pub(crate) fn load_reviewed<S: Store>(
     ensures journal { IfOk result (λ r. IsJournalOf r.files r.journal) }
 {
     let files = load_prepared(alloc, store, plan)?;
-    let shares = load_shares_over(alloc, store, plan, &files)?;
-    let decided = decide_all(alloc, plan, &files, &shares)?;
+    let found = load_decisions(alloc, store, plan, &files)?;
     let journal = load_journal(alloc, store, plan, &files)?;
     Ok(Reviewed {
         files,
-        shares,
-        decided,
+        shares: found.shares,
+        decided: found.decided,
         journal,
     })
 }
@@ -101,11 +127,7 @@ pub(crate) fn load_reviewed_settings<S: Store>(
     name: &str,
 ) -> Result<ReviewedSettings, Fault>
     ensures takes { Takes (reviewed_settings name.now) (store_seen S.tells S.held S.faults store.old store.new) (seen_by found_of result) }
-    ensures ranges { IfOk result (λ s. KeepsRanges s.plan) }
-    ensures ready { IfOk result (λ s. IsPreparedFor s.plan s.reviewed.files) }
-    ensures of_files { IfOk result (λ s. IsDecidedIn s.reviewed.files s.reviewed.decided) }
-    ensures of_plan { IfOk result (λ s. IsDecidedFor s.plan s.reviewed.files s.reviewed.decided) }
-    ensures rule { IfOk result (λ s. IsRuleOf s.plan s.reviewed.shares s.reviewed.decided.rule.cells) }
+    ensures found { IfOk result IsReviewed }
 {
     let plan = load_plan(alloc, store, name)?;
     let reviewed = load_reviewed(alloc, store, &plan)?;

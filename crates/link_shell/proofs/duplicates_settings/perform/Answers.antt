@@ -38,14 +38,14 @@ returns-in_err-plan g c = does_stop _ _ _ c.in_err-plan.ensures.takes c.from_res
 pub returns-in_err-within : goal.returns-in_err-within
 returns-in_err-within g c = does_go _ _ _ c.in_ok-plan.ensures.takes (does_want _ c.from_residual-in_err-within.ensures.1)
 
-pub load_decided-requires-clause-within : goal.load_decided-requires-clause-within
-load_decided-requires-clause-within g c = (c.in_ok-plan.plan, c.in_ok-within.ensures.gives)
+pub load_decided-decided-requires-clause-within : goal.load_decided-decided-requires-clause-within
+load_decided-decided-requires-clause-within g c = (c.in_ok-plan.plan, c.in_ok-within.ensures.gives)
 
-pub load_decided-requires-clause-ranges : goal.load_decided-requires-clause-ranges
-load_decided-requires-clause-ranges g c = c.in_ok-within.ensures.ranges c.in_ok-plan.ensures.ranges
+pub load_decided-decided-requires-clause-ranges : goal.load_decided-decided-requires-clause-ranges
+load_decided-decided-requires-clause-ranges g c = c.in_ok-within.ensures.ranges c.in_ok-plan.ensures.ranges
 
-pub load_decided-requires-clause-names : goal.load_decided-requires-clause-names
-load_decided-requires-clause-names g c = c.in_ok-within.ensures.files c.in_ok-plan.ensures.files
+pub load_decided-decided-requires-clause-names : goal.load_decided-decided-requires-clause-names
+load_decided-decided-requires-clause-names g c = c.in_ok-within.ensures.files c.in_ok-plan.ensures.files
 
 pub returns-in_err-found : goal.returns-in_err-found
 returns-in_err-found g c =

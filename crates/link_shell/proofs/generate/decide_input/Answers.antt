@@ -7,7 +7,7 @@ use Rattle.link_core.specs.Prepared.{prepared}
 use Rattle.link_core.specs.Rules.{counted_by}
 use Rattle.settings.specs.Settings.{settings}
 use Rattle.link_shell.specs.Generate.{review_of_made}
-use Rattle.link_shell.specs.RunSettings.{ReviewedPlan}
+use Rattle.link_shell.specs.Reviewed.{ReviewedPlan}
 use Rattle.link_shell.proofs.InputFacts.{answer_as, fault_as, goes_on, refuses_here}
 use Rattle.link_shell.proofs.generate.decide_input.Goals as goal
 
