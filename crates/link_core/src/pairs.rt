@@ -2,7 +2,7 @@
 ghost use Rattle.std.specs.Prelude.{◌≡◌, ◌≤◌, IfErr};
 ghost use Rattle.link_base.specs.Fault.{IsAnswer, IsInputFault};
 ghost use Rattle.pair_decisions.specs.Pairs.{pairs_within};
-ghost use Rattle.link_core.specs.Pairs.{ids_of_pairs};
+ghost use Rattle.link_core.specs.Pairs.{ids_of_pairs, ids_of_prepared};
 ghost use Rattle.pair_walk.specs.Pairs.{compared_pairs};
 ghost use Rattle.pair_walk.specs.Rows.{AreAllReady, AreKeysHeld};
 ghost use Rattle.settings.specs.Ranges.{KeepsRanges};
@@ -31,6 +31,21 @@ fn compare(alloc: Global, passes: &PassList, prepared: &Prepared) -> Result<Pair
     }
 }
 
+// The ids of the compared pairs of prepared files.
+fn ids_of(alloc: Global, passes: &PassList, prepared: &Prepared) -> Result<Text, Fault>
+    requires ready_a { AreAllReady passes.now prepared.now.files.a.records }
+    requires ready_b { AreAllReady passes.now prepared.now.files.b.records }
+    requires held_a { AreKeysHeld prepared.now.values.texts passes.now prepared.now.files.a.records }
+    requires held_b { AreKeysHeld prepared.now.values.texts passes.now prepared.now.files.b.records }
+    ensures kind { IfErr result IsInputFault }
+    ensures answer { IsAnswer (ids_of_prepared passes.now prepared.now) result }
+{
+    match compare(alloc, passes, prepared) {
+        Ok(pairs) => Ok(ids_text_of(alloc, pairs.get(), prepared.a(), prepared.b())?),
+        Err(fault) => Err(fault),
+    }
+}
+
 /// The ids of the compared pairs of the two files of a plan: the header `id_a,id_b`, and a line for each pair of records that
 /// share a key in some blocking pass, rising by position. The first fault is one of the files, then that of the pool, and
 /// then `TooManyPairs` exactly where there are more than `MOST_PAIRS` pairs.
@@ -50,8 +65,7 @@ pub fn pair_ids(
         Ok(prepared) => prepared,
         Err(fault) => return Err(fault),
     };
-    match compare(alloc, &plan.passes, &prepared) {
-        Ok(pairs) => Ok(ids_text_of(alloc, pairs.get(), prepared.a(), prepared.b())?),
-        Err(fault) => Err(fault),
-    }
+    let text = ids_of(alloc, &plan.passes, &prepared);
+    drop(prepared);
+    text
 }

@@ -32,9 +32,12 @@ fn show_pool<R: Print>(
     requires limit { limit ≤ MOST_POOL_LIMIT }
 {
     match prepare(alloc, plan, a, b, limit) {
-        Ok(_) => println!(rt; "{limit} bytes: enough")?,
+        Ok(files) => {
+            drop(files);
+            println!(rt; "{limit} bytes: enough")?
+        }
         Err(Fault::PoolFull { used, limit }) => println!(rt; "{limit} bytes: {used} are wanted")?,
-        Err(_) => println!(rt; "{limit} bytes: refused")?,
+        Err(_fault) => println!(rt; "{limit} bytes: refused")?,
     }
     Ok(())
 }
@@ -49,16 +52,8 @@ fn show_row<R: Print>(rt: &R, row: &RowPairs) -> anyhow::Result<()> {
     Ok(())
 }
 
-// Shows the partners of each record, and that there are no more.
-fn show_partners<R: Print>(
-    rt: &R,
-    alloc: Global,
-    plan: &Plan,
-    files: &Prepared,
-) -> anyhow::Result<()>
-    requires ready { IsPreparedFor plan.now files.now }
-{
-    let mut walker = Walker::new_in(alloc, files.a(), files.b(), &plan.passes, files.pool())?;
+// Shows the partners of each record that is left, and that there are no more.
+fn show_rows<R: Print>(rt: &R, alloc: Global, walker: &mut Walker) -> anyhow::Result<()> {
     for _ in 0..8 {
         match walker.next_row(alloc) {
             Ok(Some(row)) => show_row(rt, &row)?,
@@ -69,9 +64,23 @@ fn show_partners<R: Print>(
     Ok(())
 }
 
-// Shows the second file, and the columns in it, of the plan of the first file with itself.
-fn show_within<R: Print>(rt: &R, alloc: Global, plan: &Plan) -> anyhow::Result<()> {
-    let within = plan.within(alloc)?;
+// Shows the partners of each record.
+fn show_partners<R: Print>(
+    rt: &R,
+    alloc: Global,
+    plan: &Plan,
+    files: &Prepared,
+) -> anyhow::Result<()>
+    requires ready { IsPreparedFor plan.now files.now }
+{
+    let mut walker = Walker::new_in(alloc, files.a(), files.b(), &plan.passes, files.pool())?;
+    let shown = show_rows(rt, alloc, &mut walker);
+    drop(walker);
+    shown
+}
+
+// Shows the second file of a plan, and the columns in it.
+fn show_second<R: Print>(rt: &R, within: &Plan) -> anyhow::Result<()> {
     let mut out = io::writer(rt);
     out.write_all(within.file_b.bytes())?;
     for field in within.fields.fields() {
@@ -80,6 +89,14 @@ fn show_within<R: Print>(rt: &R, alloc: Global, plan: &Plan) -> anyhow::Result<(
     }
     out.write_all(b"\n")?;
     Ok(())
+}
+
+// Shows the second file, and the columns in it, of the plan of the first file with itself.
+fn show_within<R: Print>(rt: &R, alloc: Global, plan: &Plan) -> anyhow::Result<()> {
+    let within = plan.within(alloc)?;
+    let shown = show_second(rt, &within);
+    drop(within);
+    shown
 }
 
 // Reads the plan of the worked example.
@@ -92,17 +109,30 @@ fn plan_of(alloc: Global, settings: &[u8]) -> anyhow::Result<Plan>
     }
 }
 
-fn main(rt: HostRuntime) -> anyhow::Result<()> {
-    let alloc = rt.alloc();
-    let plan = plan_of(alloc, &fs::read(&rt, "s.toml")?)?;
-    let a = fs::read(&rt, "a.csv")?;
-    let b = fs::read(&rt, "b.csv")?;
-    show_within(&rt, alloc, &plan)?;
+// Shows all that is known of the worked example.
+fn show<R: Print>(rt: &R, alloc: Global, plan: &Plan, a: &[u8], b: &[u8]) -> anyhow::Result<()>
+    requires { KeepsRanges plan.now }
+{
+    show_within(rt, alloc, plan)?;
     for limit in LIMITS {
-        show_pool(&rt, alloc, &plan, &a, &b, limit)?;
+        show_pool(rt, alloc, plan, a, b, limit)?;
     }
-    match prepare(alloc, &plan, &a, &b, LIMITS[0]) {
-        Ok(files) => show_partners(&rt, alloc, &plan, &files),
+    match prepare(alloc, plan, a, b, LIMITS[0]) {
+        Ok(files) => {
+            let shown = show_partners(rt, alloc, plan, &files);
+            drop(files);
+            shown
+        }
         Err(_) => Err(anyhow!("the files are refused")),
     }
+}
+
+fn main(rt: HostRuntime) -> anyhow::Result<()> {
+    let alloc = rt.alloc();
+    let a = fs::read(&rt, "a.csv")?;
+    let b = fs::read(&rt, "b.csv")?;
+    let plan = plan_of(alloc, &fs::read(&rt, "s.toml")?)?;
+    let shown = show(&rt, alloc, &plan, &a, &b);
+    drop(plan);
+    shown
 }
