@@ -12,7 +12,7 @@ use Rattle.settings.proofs.TextRanges.{file_keeps}
 use Rattle.settings.specs.Field.{fields}
 use Rattle.settings.specs.Pass.{passes}
 use Rattle.settings.specs.Ranges.{files_read, IsFileName}
-use Rattle.settings.specs.Settings.{document, is_free, journal_of, numbers, plan_of, plan_or_not_toml, settings, sources, tables}
+use Rattle.settings.specs.Settings.{document, file_keys, is_free, journal_of, numbers, plan_of, plan_or_not_toml, settings, sources, tables}
 use Rattle.settings.specs.Values.{has_len, is_output}
 use Rattle.settings.specs.Words.{delimiter_named, is_one_of, top_keys}
 use Rattle.settings.specs.declared.plan.Plan.{Plan}
@@ -54,20 +54,28 @@ journal_name taken t above x e =
     let same = (in_range_ok _ (is_free taken journal.0) journal.0 x journal.2).1 in
     subst (λ (o : Option (List ℕ)). IfSome o IsFileName) same (optional_keeps IsFileName file_text file_keeps t above (codes "journal") journal.0 journal.1)
 
-source_names : (t : Members) (above : List ℕ) → IfOk (sources t above) (λ s. AreNames s.file_a s.file_b s.sample s.journal)
-unfolding sources
-source_names t above = where_ok (sources t above) (λ s. AreNames s.file_a s.file_b s.sample s.journal) (λ x e.
+file_names : (t : Members) (above : List ℕ) → IfOk (file_keys t above) (λ f. IsFileName f.file_a × IsFileName f.file_b)
+unfolding file_keys
+file_names t above = where_ok (file_keys t above) (λ f. IsFileName f.file_a × IsFileName f.file_b) (λ x e.
     let file_a = then_ok (needed file_text t above (codes "file_a")) _ x e in
     let file_b = then_ok (needed file_text t above (codes "file_b")) _ x file_a.2 in
     let id_a = then_ok (defaulted label_text (codes "id") t above (codes "id_a")) _ x file_b.2 in
     let id_b = then_ok (defaulted label_text (codes "id") t above (codes "id_b")) _ x id_a.2 in
-    let delimiter_a = then_ok (defaulted (choice delimiter_named) 44 t above (codes "delimiter_a")) _ x id_b.2 in
+    subst (λ f. IsFileName f.file_a × IsFileName f.file_b) (ok_same _ x id_b.2)
+    (needed_keeps IsFileName file_text file_keeps t above (codes "file_a") file_a.0 file_a.1, needed_keeps IsFileName file_text file_keeps t above (codes "file_b") file_b.0 file_b.1))
+
+source_names : (t : Members) (above : List ℕ) → IfOk (sources t above) (λ s. AreNames s.files.file_a s.files.file_b s.sample s.journal)
+unfolding sources
+source_names t above = where_ok (sources t above) (λ s. AreNames s.files.file_a s.files.file_b s.sample s.journal) (λ x e.
+    let files = then_ok (file_keys t above) _ x e in
+    let named = at_ok (file_keys t above) (λ f. IsFileName f.file_a × IsFileName f.file_b) files.0 (file_names t above) files.1 in
+    let delimiter_a = then_ok (defaulted (choice delimiter_named) 44 t above (codes "delimiter_a")) _ x files.2 in
     let delimiter_b = then_ok (defaulted (choice delimiter_named) 44 t above (codes "delimiter_b")) _ x delimiter_a.2 in
     let sample = then_ok (optional file_text t above (codes "sample")) _ x delimiter_b.2 in
-    let journal = then_ok (journal_of (files_read file_a.0 file_b.0 sample.0) t above) _ x sample.2 in
-    subst (λ s. AreNames s.file_a s.file_b s.sample s.journal) (ok_same _ x journal.2) (record {
-      of_a = needed_keeps IsFileName file_text file_keeps t above (codes "file_a") file_a.0 file_a.1;
-      of_b = needed_keeps IsFileName file_text file_keeps t above (codes "file_b") file_b.0 file_b.1;
+    let journal = then_ok (journal_of (files_read files.0.file_a files.0.file_b sample.0) t above) _ x sample.2 in
+    subst (λ s. AreNames s.files.file_a s.files.file_b s.sample s.journal) (ok_same _ x journal.2) (record {
+      of_a = named.0;
+      of_b = named.1;
       of_sample = optional_keeps IsFileName file_text file_keeps t above (codes "sample") sample.0 sample.1;
       of_journal = journal_name _ t above journal.0 journal.1;
     }))
@@ -95,7 +103,7 @@ plan_is_read t x e =
     let ps = then_ok (needed (passes fs.0) t [] (codes "pass")) _ x fs.2 in
     let kept = needed_keeps (λ xs. (AreFields (is_some s.0.sample) xs) × (1 ≤ length xs) × (length xs ≤ MOST_FIELDS)) (fields (is_some s.0.sample)) (fields_are (is_some s.0.sample)) t [] (codes "field") fs.0 fs.1 in
     subst IsReadPlan (ok_same _ x ps.2) (record {
-      names = at_ok (sources t []) (λ s. AreNames s.file_a s.file_b s.sample s.journal) s.0 (source_names t []) s.1;
+      names = at_ok (sources t []) (λ s. AreNames s.files.file_a s.files.file_b s.sample s.journal) s.0 (source_names t []) s.1;
       award = at_ok (numbers t []) (λ n. n.award ≤ 1000) n.0 (small_award t []) n.1;
       few_fields = kept.2;
     })

@@ -20,7 +20,7 @@ use Rattle.link_base.specs.Tables.{missing_marks, name_titles, name_suffixes}
 use Rattle.settings.specs.Words.{is_one_of, top_keys, kind_named, compare_named, key_named, delimiter_named}
 use Rattle.settings.specs.Field.{new_name, date_sort, plain_sort, sort_of, by_letters, by_days, by_years, plain_compare, compare_by, may_be_rare, rare_number, wholes, shares, given_shares, no_shares, field_shares, field, fields}
 use Rattle.settings.specs.Pass.{field_named, first_key, plain_key, key_by, part, parts, pass, passes}
-use Rattle.settings.specs.Settings.{is_free, journal_of, sources, numbers, tables, plan_of}
+use Rattle.settings.specs.Settings.{file_keys, is_free, journal_of, sources, numbers, tables, plan_of}
 use Rattle.link_limits.specs.declared.TheConstants.{MOST_FIELDS, PER_MILLION}
 use Rattle.settings.specs.declared.limits.TheConstants.{LEAST_RARE, MOST_AWARD, MOST_DAYS, MOST_LETTERS, MOST_LISTED_WORDS, MOST_MARKS, MOST_PARTS, MOST_PASSES, MOST_RARE, MOST_SEED, MOST_WORD_PAIRS, MOST_YEARS}
 use Rattle.settings.specs.declared.texts.TextRule.{TextRule}
@@ -175,17 +175,22 @@ journal_key taken t above =
     then_key (optional (text rule.File) t above (codes "journal")) (λ journal. in_range (above ++ codes "journal") (is_free taken journal) journal)
     (optional_key (text rule.File) t above (codes "journal") (text_key rule.File)) (λ journal. in_range_key (above ++ codes "journal") (is_free taken journal) journal)
 
-sources_key : (t : Members) (above : List ℕ) → NamesKey (sources t above)
-unfolding sources
-sources_key t above =
+file_keys_key : (t : Members) (above : List ℕ) → NamesKey (file_keys t above)
+unfolding file_keys
+file_keys_key t above =
     then_key _ _ (needed_key (text rule.File) t above (codes "file_a") (text_key rule.File)) (λ file_a.
     then_key _ _ (needed_key (text rule.File) t above (codes "file_b") (text_key rule.File)) (λ file_b.
     then_key _ _ (defaulted_key (text rule.Label) (codes "id") t above (codes "id_a") (text_key rule.Label)) (λ id_a.
-    then_key _ _ (defaulted_key (text rule.Label) (codes "id") t above (codes "id_b") (text_key rule.Label)) (λ id_b.
+    then_key _ _ (defaulted_key (text rule.Label) (codes "id") t above (codes "id_b") (text_key rule.Label)) (λ id_b. value_key _))))
+
+sources_key : (t : Members) (above : List ℕ) → NamesKey (sources t above)
+unfolding sources
+sources_key t above =
+    then_key _ _ (file_keys_key t above) (λ files.
     then_key _ _ (defaulted_key (choice delimiter_named) 44 t above (codes "delimiter_a") (choice_key delimiter_named)) (λ delimiter_a.
     then_key _ _ (defaulted_key (choice delimiter_named) 44 t above (codes "delimiter_b") (choice_key delimiter_named)) (λ delimiter_b.
     then_key _ _ (optional_key (text rule.File) t above (codes "sample") (text_key rule.File)) (λ sample.
-    then_key _ _ (journal_key (file_a ∷ file_b ∷ option_to_list sample) t above) (λ journal. value_key _))))))))
+    then_key _ _ (journal_key (files.file_a ∷ files.file_b ∷ option_to_list sample) t above) (λ journal. value_key _)))))
 
 numbers_key : (t : Members) (above : List ℕ) → NamesKey (numbers t above)
 unfolding numbers

@@ -16,11 +16,12 @@ use Rattle.settings.specs.Words.{delimiters, delimiter_named, is_one_of, top_key
 use Rattle.settings.specs.Field.{fields}
 use Rattle.settings.specs.Pass.{passes}
 use Rattle.settings.specs.Ranges.{AreFiles, files_read, is_delimiter, IsFileName, IsLabel, KeepsRanges}
-use Rattle.settings.specs.Settings.{is_free, journal_of, sources, numbers, tables, plan_of}
+use Rattle.settings.specs.Settings.{file_keys, is_free, journal_of, sources, numbers, tables, plan_of}
 use Rattle.settings.specs.Values.{text}
 use Rattle.settings.specs.declared.limits.TheConstants.{MOST_AWARD, MOST_SEED}
 use Rattle.settings.specs.declared.plan.Plan.{Plan}
 use Rattle.settings.specs.declared.texts.TextRule.TheVariants as rule
+use Rattle.settings.specs.declared.top.FileKeys.{FileKeys}
 use Rattle.settings.specs.declared.top.SourceKeys.{SourceKeys}
 use Rattle.settings.specs.declared.top.NumberKeys.{NumberKeys}
 use Rattle.settings.proofs.FieldRanges.{AreFields, fields_are}
@@ -65,40 +66,61 @@ journal_is taken t above x e =
     let kept = optional_keeps IsFileName (text rule.File) file_keeps t above (codes "journal") a.0 a.1 in
     subst (IsJournal taken) b.1 (kept, free_is taken a.0 b.0)
 
-record AreSources (x : SourceKeys) : Type 0 where
-  files : AreFiles x.file_a x.file_b x.sample x.journal
+record AreFileKeys (x : FileKeys) : Type 0 where
+  file_a : IsFileName x.file_a
+  file_b : IsFileName x.file_b
   id_a : IsLabel x.id_a
   id_b : IsLabel x.id_b
+
+record AreSources (x : SourceKeys) : Type 0 where
+  files : AreFiles x.files.file_a x.files.file_b x.sample x.journal
+  id_a : IsLabel x.files.id_a
+  id_b : IsLabel x.files.id_b
   delimiter_a : IsDelimiter x.delimiter_a
   delimiter_b : IsDelimiter x.delimiter_b
 
 id_label : IsLabel (codes "id")
 id_label = record { some = omega arith; short = omega arith }
 
-sources_are : (t : Members) (above : List ℕ) (x : SourceKeys) → sources t above ≡ Ok x → AreSources x
-unfolding sources
-sources_are t above x e =
+file_keys_are : (t : Members) (above : List ℕ) (x : FileKeys) → file_keys t above ≡ Ok x → AreFileKeys x
+unfolding file_keys
+file_keys_are t above x e =
     let file_a = then_ok (needed (text rule.File) t above (codes "file_a")) _ x e in
     let file_b = then_ok (needed (text rule.File) t above (codes "file_b")) _ x file_a.2 in
     let id_a = then_ok (defaulted (text rule.Label) (codes "id") t above (codes "id_a")) _ x file_b.2 in
     let id_b = then_ok (defaulted (text rule.Label) (codes "id") t above (codes "id_b")) _ x id_a.2 in
-    let from = then_ok (defaulted (choice delimiter_named) 44 t above (codes "delimiter_a")) _ x id_b.2 in
+    let made : FileKeys = record { file_a = file_a.0; file_b = file_b.0; id_a = id_a.0; id_b = id_b.0 } in
+    let same : made ≡ x = ok_same made x id_b.2 in
+    let kept : AreFileKeys made = record {
+      file_a = needed_keeps IsFileName (text rule.File) file_keeps t above (codes "file_a") file_a.0 file_a.1;
+      file_b = needed_keeps IsFileName (text rule.File) file_keeps t above (codes "file_b") file_b.0 file_b.1;
+      id_a = defaulted_keeps IsLabel (text rule.Label) label_keeps (codes "id") id_label t above (codes "id_a") id_a.0 id_a.1;
+      id_b = defaulted_keeps IsLabel (text rule.Label) label_keeps (codes "id") id_label t above (codes "id_b") id_b.0 id_b.1;
+    } in
+    subst AreFileKeys {x = made} {y = x} same kept
+
+sources_are : (t : Members) (above : List ℕ) (x : SourceKeys) → sources t above ≡ Ok x → AreSources x
+unfolding sources
+sources_are t above x e =
+    let files = then_ok (file_keys t above) _ x e in
+    let from = then_ok (defaulted (choice delimiter_named) 44 t above (codes "delimiter_a")) _ x files.2 in
     let to = then_ok (defaulted (choice delimiter_named) 44 t above (codes "delimiter_b")) _ x from.2 in
     let sample = then_ok (optional (text rule.File) t above (codes "sample")) _ x to.2 in
-    let journal = then_ok (journal_of (files_read file_a.0 file_b.0 sample.0) t above) _ x sample.2 in
-    let made : SourceKeys = record { file_a = file_a.0; file_b = file_b.0; id_a = id_a.0; id_b = id_b.0; delimiter_a = from.0; delimiter_b = to.0; sample = sample.0; journal = journal.0 } in
+    let journal = then_ok (journal_of (files_read files.0.file_a files.0.file_b sample.0) t above) _ x sample.2 in
+    let made : SourceKeys = record { files = files.0; delimiter_a = from.0; delimiter_b = to.0; sample = sample.0; journal = journal.0 } in
     let same : made ≡ x = ok_same made x journal.2 in
-    let journal_kept = journal_is (files_read file_a.0 file_b.0 sample.0) t above journal.0 journal.1 in
+    let named = file_keys_are t above files.0 files.1 in
+    let journal_kept = journal_is (files_read files.0.file_a files.0.file_b sample.0) t above journal.0 journal.1 in
     let kept : AreSources made = record {
       files = record {
-        file_a = needed_keeps IsFileName (text rule.File) file_keeps t above (codes "file_a") file_a.0 file_a.1;
-        file_b = needed_keeps IsFileName (text rule.File) file_keeps t above (codes "file_b") file_b.0 file_b.1;
+        file_a = named.file_a;
+        file_b = named.file_b;
         sample = optional_keeps IsFileName (text rule.File) file_keeps t above (codes "sample") sample.0 sample.1;
         journal = journal_kept.0;
         apart = journal_kept.1;
       };
-      id_a = defaulted_keeps IsLabel (text rule.Label) label_keeps (codes "id") id_label t above (codes "id_a") id_a.0 id_a.1;
-      id_b = defaulted_keeps IsLabel (text rule.Label) label_keeps (codes "id") id_label t above (codes "id_b") id_b.0 id_b.1;
+      id_a = named.id_a;
+      id_b = named.id_b;
       delimiter_a = defaulted_keeps IsDelimiter (choice delimiter_named) delimiter_is 44 refl t above (codes "delimiter_a") from.0 from.1;
       delimiter_b = defaulted_keeps IsDelimiter (choice delimiter_named) delimiter_is 44 refl t above (codes "delimiter_b") to.0 to.1;
     } in
@@ -141,10 +163,10 @@ plan_is t above x e names places =
     let fields_kept = needed_keeps (λ xs. (AreFields (is_some s.0.sample) xs) × (1 ≤ length xs) × (length xs ≤ MOST_FIELDS)) (fields (is_some s.0.sample)) (fields_are (is_some s.0.sample)) t above (codes "field") fs.0 fs.1 in
     let passes_kept = needed_keeps (IsPasses fs.0) (passes fs.0) (passes_are fs.0) t above (codes "pass") ps.0 ps.1 in
     let made : Plan = record {
-      file_a = s.0.file_a;
-      file_b = s.0.file_b;
-      id_a = s.0.id_a;
-      id_b = s.0.id_b;
+      file_a = s.0.files.file_a;
+      file_b = s.0.files.file_b;
+      id_a = s.0.files.id_a;
+      id_b = s.0.files.id_b;
       delimiter_a = s.0.delimiter_a;
       delimiter_b = s.0.delimiter_b;
       sample = s.0.sample;

@@ -7,6 +7,7 @@ use Rattle.toml.specs.Parse.{parse_document}
 use Rattle.link_limits.specs.declared.TheConstants.{PER_MILLION}
 use Rattle.link_base.specs.declared.fault.Fault.{Fault}
 use Rattle.link_base.specs.declared.fault.Fault.TheVariants.{NotToml}
+use Rattle.link_base.specs.declared.plan.Part.{Part}
 use Rattle.link_base.specs.declared.tables.Tables.{Tables}
 use Rattle.link_base.specs.Tables.{missing_marks, name_titles, name_suffixes}
 use Rattle.settings_readers.specs.Parts.{◌>>=◌, in_range, needed, optional, defaulted, known}
@@ -15,10 +16,12 @@ use Rattle.settings.specs.Values.{text}
 use Rattle.settings.specs.Words.{is_one_of, top_keys, delimiter_named}
 use Rattle.settings.specs.WordTables.{texts, word_table}
 use Rattle.settings.specs.Field.{fields}
+use Rattle.settings.specs.Plan.{FieldKeys}
 use Rattle.settings.specs.Pass.{passes}
 use Rattle.settings.specs.declared.limits.TheConstants.{MOST_AWARD, MOST_LISTED_WORDS, MOST_MARKS, MOST_SEED}
 use Rattle.settings.specs.declared.plan.Plan.{Plan}
 use Rattle.settings.specs.declared.texts.TextRule.TheVariants as rule
+use Rattle.settings.specs.declared.top.FileKeys.{FileKeys}
 use Rattle.settings.specs.declared.top.SourceKeys.{SourceKeys}
 use Rattle.settings.specs.declared.top.NumberKeys.{NumberKeys}
 
@@ -32,17 +35,23 @@ journal_of taken t above = do
   journal ← optional (text rule.File) t above (codes "journal")
   in_range (above ++ codes "journal") (is_free taken journal) journal
 
-unfoldable pub sources : Members → List ℕ → Result SourceKeys Fault
-sources t above = do
+-- the two files, and the columns of their ids
+unfoldable pub file_keys : Members → List ℕ → Result FileKeys Fault
+file_keys t above = do
   file_a ← needed (text rule.File) t above (codes "file_a")
   file_b ← needed (text rule.File) t above (codes "file_b")
   id_a ← defaulted (text rule.Label) (codes "id") t above (codes "id_a")
   id_b ← defaulted (text rule.Label) (codes "id") t above (codes "id_b")
+  Ok (record { file_a = file_a; file_b = file_b; id_a = id_a; id_b = id_b })
+
+unfoldable pub sources : Members → List ℕ → Result SourceKeys Fault
+sources t above = do
+  files ← file_keys t above
   delimiter_a ← defaulted (choice delimiter_named) 44 t above (codes "delimiter_a")
   delimiter_b ← defaulted (choice delimiter_named) 44 t above (codes "delimiter_b")
   sample ← optional (text rule.File) t above (codes "sample")
-  journal ← journal_of (file_a ∷ file_b ∷ option_to_list sample) t above
-  Ok (record { file_a = file_a; file_b = file_b; id_a = id_a; id_b = id_b; delimiter_a = delimiter_a; delimiter_b = delimiter_b; sample = sample; journal = journal })
+  journal ← journal_of (files.file_a ∷ files.file_b ∷ option_to_list sample) t above
+  Ok (record { files = files; delimiter_a = delimiter_a; delimiter_b = delimiter_b; sample = sample; journal = journal })
 
 unfoldable pub numbers : Members → List ℕ → Result NumberKeys Fault
 numbers t above = do
@@ -63,6 +72,28 @@ tables t above = do
   places ← defaulted word_table [] t above (codes "places")
   Ok (record { missing = missing; titles = titles; suffixes = suffixes; names = names; places = places })
 
+-- the plan of the parts of the top table
+abbrev pub plan_from : SourceKeys → NumberKeys → Tables → List FieldKeys → List (List Part) → Plan
+plan_from s n tables fields passes = record {
+  file_a = s.files.file_a;
+  file_b = s.files.file_b;
+  id_a = s.files.id_a;
+  id_b = s.files.id_b;
+  delimiter_a = s.delimiter_a;
+  delimiter_b = s.delimiter_b;
+  sample = s.sample;
+  journal = s.journal;
+  mu_ppm = n.mu_ppm;
+  lambda_ppm = n.lambda_ppm;
+  seed = n.seed;
+  award = n.award;
+  strict = n.strict;
+  double = n.double;
+  tables = tables;
+  fields = fields;
+  passes = passes;
+}
+
 -- the parts of the top table in their order
 unfoldable pub plan_of : Members → List ℕ → Result Plan Fault
 plan_of t above = do
@@ -72,25 +103,7 @@ plan_of t above = do
   tables ← tables t above
   fields ← needed (fields (is_some s.sample)) t above (codes "field")
   passes ← needed (passes fields) t above (codes "pass")
-  Ok (record {
-    file_a = s.file_a;
-    file_b = s.file_b;
-    id_a = s.id_a;
-    id_b = s.id_b;
-    delimiter_a = s.delimiter_a;
-    delimiter_b = s.delimiter_b;
-    sample = s.sample;
-    journal = s.journal;
-    mu_ppm = n.mu_ppm;
-    lambda_ppm = n.lambda_ppm;
-    seed = n.seed;
-    award = n.award;
-    strict = n.strict;
-    double = n.double;
-    tables = tables;
-    fields = fields;
-    passes = passes;
-  })
+  Ok (plan_from s n tables fields passes)
 
 -- the table of a file
 abbrev pub document : List ℕ → Option Members

@@ -5,17 +5,17 @@ ghost use Rattle.link_base.specs.declared.fault.Fault.TheVariants as fault;
 ghost use Rattle.link_base.specs.Fault.{IsAnswer};
 ghost use Rattle.link_base.specs.Tables.{AreWordPairs};
 ghost use Rattle.settings.specs.Words.{is_one_of};
-ghost use Rattle.settings.specs.Settings.{is_free, journal_of, sources, numbers, tables, plan_of, document, settings};
+ghost use Rattle.settings.specs.Settings.{file_keys, is_free, journal_of, sources, numbers, tables, plan_from, plan_of, document, settings};
 ghost use Rattle.settings.specs.Ranges.{IsSettingsFault, KeepsRanges, NamesFiles};
 
 use crate::fields::Fields;
 use crate::limits::{MOST_AWARD, MOST_LISTED_WORDS, MOST_MARKS};
 use crate::passes::Passes;
-use crate::plan::Plan;
+use crate::plan::{FieldList, Plan};
 use crate::texts::{File, FileName, Seed, TextRule};
 use crate::word_tables::{Texts, WordTable};
 use crate::words::Delimiters;
-use link_base::{Fault, Tables, Text};
+use link_base::{Fault, PassList, Tables, Text};
 use link_limits::PER_MILLION;
 use settings_readers::{Choice, Keys, Place, Truth, Whole};
 use std::alloc::Global;
@@ -44,13 +44,19 @@ const TOP_KEYS: [&str; 21] = [
     "pass",
 ];
 
-/// The keys on the files.
+/// The keys on the two files and their ids.
 #[derive(Drop)]
-pub(crate) struct SourceKeys {
+pub(crate) struct FileKeys {
     file_a: FileName,
     file_b: FileName,
     id_a: Text,
     id_b: Text,
+}
+
+/// The keys on all files.
+#[derive(Drop)]
+pub(crate) struct SourceKeys {
+    files: FileKeys,
     delimiter_a: u8,
     delimiter_b: u8,
     sample: Option<FileName>,
@@ -78,19 +84,14 @@ fn differs(name: &FileName, sample: &Option<FileName>) -> bool
 }
 
 /// Whether the journal is none of the files that are read.
-fn is_free(
-    file_a: &FileName,
-    file_b: &FileName,
-    sample: &Option<FileName>,
-    journal: &Option<FileName>,
-) -> bool
-    ensures { result ≡ is_free (file_a.now ∷ file_b.now ∷ option_to_list sample.now) journal.now }
+fn is_free(files: &FileKeys, sample: &Option<FileName>, journal: &Option<FileName>) -> bool
+    ensures { result ≡ is_free (files.now.file_a ∷ files.now.file_b ∷ option_to_list sample.now) journal.now }
 {
     match journal {
         None => true,
         Some(name) => {
-            name.bytes() != file_a.bytes()
-                && name.bytes() != file_b.bytes()
+            name.bytes() != files.file_a.bytes()
+                && name.bytes() != files.file_b.bytes()
                 && differs(name, sample)
         }
     }
@@ -99,15 +100,14 @@ fn is_free(
 #[tactic(auto, unfolding(crate::specs::Settings::journal_of))]
 fn journal_of(
     alloc: Global,
-    file_a: &FileName,
-    file_b: &FileName,
+    files: &FileKeys,
     sample: &Option<FileName>,
     keys: &Keys,
 ) -> Result<Option<FileName>, Fault>
-    ensures { IsAnswer (journal_of (file_a.now ∷ file_b.now ∷ option_to_list sample.now) (table_view keys.now.table.now) keys.now.above.now) result }
+    ensures { IsAnswer (journal_of (files.now.file_a ∷ files.now.file_b ∷ option_to_list sample.now) (table_view keys.now.table.now) keys.now.above.now) result }
 {
     let journal = keys.optional(alloc, &File, "journal")?;
-    if !is_free(file_a, file_b, sample, &journal) {
+    if !is_free(files, sample, &journal) {
         return Err(Fault::OutOfRange {
             key: Place::new(keys.above, b"journal").text(alloc)?,
         });
@@ -115,25 +115,35 @@ fn journal_of(
     Ok(journal)
 }
 
-#[tactic(auto, unfolding(crate::specs::Settings::sources))]
-fn sources(alloc: Global, keys: &Keys) -> Result<SourceKeys, Fault>
-    ensures { IsAnswer (sources (table_view keys.now.table.now) keys.now.above.now) result }
+#[tactic(auto, unfolding(crate::specs::Settings::file_keys))]
+fn file_keys(alloc: Global, keys: &Keys) -> Result<FileKeys, Fault>
+    ensures { IsAnswer (file_keys (table_view keys.now.table.now) keys.now.above.now) result }
 {
     let label = TextRule::Label;
-    let delimiter = Choice(Delimiters);
     let file_a = keys.needed(alloc, &File, "file_a")?;
     let file_b = keys.needed(alloc, &File, "file_b")?;
     let id_a = keys.defaulted(alloc, &label, Text::new(alloc, b"id")?, "id_a")?;
     let id_b = keys.defaulted(alloc, &label, Text::new(alloc, b"id")?, "id_b")?;
-    let delimiter_a = keys.defaulted(alloc, &delimiter, b',', "delimiter_a")?;
-    let delimiter_b = keys.defaulted(alloc, &delimiter, b',', "delimiter_b")?;
-    let sample = keys.optional(alloc, &File, "sample")?;
-    let journal = journal_of(alloc, &file_a, &file_b, &sample, keys)?;
-    Ok(SourceKeys {
+    Ok(FileKeys {
         file_a,
         file_b,
         id_a,
         id_b,
+    })
+}
+
+#[tactic(auto, unfolding(crate::specs::Settings::sources))]
+fn sources(alloc: Global, keys: &Keys) -> Result<SourceKeys, Fault>
+    ensures { IsAnswer (sources (table_view keys.now.table.now) keys.now.above.now) result }
+{
+    let delimiter = Choice(Delimiters);
+    let files = file_keys(alloc, keys)?;
+    let delimiter_a = keys.defaulted(alloc, &delimiter, b',', "delimiter_a")?;
+    let delimiter_b = keys.defaulted(alloc, &delimiter, b',', "delimiter_b")?;
+    let sample = keys.optional(alloc, &File, "sample")?;
+    let journal = journal_of(alloc, &files, &sample, keys)?;
+    Ok(SourceKeys {
+        files,
         delimiter_a,
         delimiter_b,
         sample,
@@ -211,6 +221,42 @@ fn optional_text(name: Option<FileName>) -> Option<Text>
     }
 }
 
+// The plan of the parts of the top table.
+fn plan_from(
+    sources: SourceKeys,
+    numbers: NumberKeys,
+    tables: Tables,
+    fields: FieldList,
+    passes: PassList,
+) -> Plan
+    requires names { AreWordPairs tables.names }
+    requires places { AreWordPairs tables.places }
+    ensures gives { result ≡ plan_from sources numbers tables fields passes }
+    ensures files { NamesFiles result }
+    ensures names { AreWordPairs result.tables.names }
+    ensures places { AreWordPairs result.tables.places }
+{
+    Plan {
+        file_a: sources.files.file_a.into_text(),
+        file_b: sources.files.file_b.into_text(),
+        id_a: sources.files.id_a,
+        id_b: sources.files.id_b,
+        delimiter_a: sources.delimiter_a,
+        delimiter_b: sources.delimiter_b,
+        sample: optional_text(sources.sample),
+        journal: optional_text(sources.journal),
+        mu_ppm: numbers.mu_ppm,
+        lambda_ppm: numbers.lambda_ppm,
+        seed: numbers.seed,
+        award: numbers.award,
+        strict: numbers.strict,
+        double: numbers.double,
+        tables,
+        fields,
+        passes,
+    }
+}
+
 #[tactic(auto, unfolding(crate::specs::Settings::plan_of))]
 fn plan_of(alloc: Global, keys: &Keys) -> Result<Plan, Fault>
     ensures gives { IsAnswer (plan_of (table_view keys.now.table.now) keys.now.above.now) result }
@@ -225,25 +271,7 @@ fn plan_of(alloc: Global, keys: &Keys) -> Result<Plan, Fault>
     let sampled = sources.sample.is_some();
     let fields = keys.needed(alloc, &Fields { sampled }, "field")?;
     let passes = keys.needed(alloc, &Passes { fields: &fields }, "pass")?;
-    Ok(Plan {
-        file_a: sources.file_a.into_text(),
-        file_b: sources.file_b.into_text(),
-        id_a: sources.id_a,
-        id_b: sources.id_b,
-        delimiter_a: sources.delimiter_a,
-        delimiter_b: sources.delimiter_b,
-        sample: optional_text(sources.sample),
-        journal: optional_text(sources.journal),
-        mu_ppm: numbers.mu_ppm,
-        lambda_ppm: numbers.lambda_ppm,
-        seed: numbers.seed,
-        award: numbers.award,
-        strict: numbers.strict,
-        double: numbers.double,
-        tables,
-        fields,
-        passes,
-    })
+    Ok(plan_from(sources, numbers, tables, fields, passes))
 }
 
 /// The plan of a settings file, or its first key at fault. Bytes that are not UTF-8 are not TOML.

@@ -1,6 +1,6 @@
 // The parts of the plan of a file with itself.
 ghost use Rattle.std.specs.Prelude.{◌≡◌, IfOk, map};
-ghost use Rattle.settings.specs.Within.{field_within, plan_within, sort_within};
+ghost use Rattle.settings.specs.Within.{field_within, names_of_a, plan_of_parts, plan_within, sort_within};
 
 use crate::plan::{FieldList, FieldPlan, Plan};
 use link_base::{FieldSort, NoMemory, Pass, PassList, Tables, Text, TextList, WordPair, WordPairs};
@@ -116,27 +116,69 @@ fn copied_passes(alloc: Global, passes: &PassList) -> Result<PassList, NoMemory>
     Ok(PassList::new(copy))
 }
 
-// The plan of the file of A with itself.
-pub(crate) fn plan_within(alloc: Global, plan: &Plan) -> Result<Plan, NoMemory>
-    ensures { IfOk result (λ within. within ≡ plan_within plan.now) }
+/// The names in the plan of a file with itself.
+#[derive(Drop)]
+struct NamesWithin {
+    file_a: Text,
+    file_b: Text,
+    id_a: Text,
+    id_b: Text,
+    sample: Option<Text>,
+    journal: Option<Text>,
+}
+
+// The file and its ids on both sides.
+fn names_of_a(alloc: Global, plan: &Plan) -> Result<NamesWithin, NoMemory>
+    ensures { IfOk result (λ names. names ≡ names_of_a plan.now) }
 {
-    Ok(Plan {
+    Ok(NamesWithin {
         file_a: plan.file_a.copy(alloc)?,
         file_b: plan.file_a.copy(alloc)?,
         id_a: plan.id_a.copy(alloc)?,
         id_b: plan.id_a.copy(alloc)?,
-        delimiter_a: plan.delimiter_a,
-        delimiter_b: plan.delimiter_a,
         sample: copied_name(alloc, &plan.sample)?,
         journal: copied_name(alloc, &plan.journal)?,
+    })
+}
+
+// A plan with other names, tables, fields and passes, and the delimiter of A on both sides.
+fn plan_of_parts(
+    plan: &Plan,
+    names: NamesWithin,
+    tables: Tables,
+    fields: FieldList,
+    passes: PassList,
+) -> Plan
+    ensures { result ≡ plan_of_parts plan.now names tables fields passes }
+{
+    Plan {
+        file_a: names.file_a,
+        file_b: names.file_b,
+        id_a: names.id_a,
+        id_b: names.id_b,
+        delimiter_a: plan.delimiter_a,
+        delimiter_b: plan.delimiter_a,
+        sample: names.sample,
+        journal: names.journal,
         mu_ppm: plan.mu_ppm,
         lambda_ppm: plan.lambda_ppm,
         seed: plan.seed,
         award: plan.award,
         strict: plan.strict,
         double: plan.double,
-        tables: copied_tables(alloc, &plan.tables)?,
-        fields: fields_within(alloc, &plan.fields)?,
-        passes: copied_passes(alloc, &plan.passes)?,
-    })
+        tables,
+        fields,
+        passes,
+    }
+}
+
+// The plan of the file of A with itself.
+pub(crate) fn plan_within(alloc: Global, plan: &Plan) -> Result<Plan, NoMemory>
+    ensures { IfOk result (λ within. within ≡ plan_within plan.now) }
+{
+    let names = names_of_a(alloc, plan)?;
+    let tables = copied_tables(alloc, &plan.tables)?;
+    let fields = fields_within(alloc, &plan.fields)?;
+    let passes = copied_passes(alloc, &plan.passes)?;
+    Ok(plan_of_parts(plan, names, tables, fields, passes))
 }
