@@ -83,8 +83,10 @@ pub(crate) fn perform<S: Store, O: Sink>(
     requires { list_all is_level_word (map string_bytes request.now.levels.now) ≡ true }
     ensures { Does (frontier_script (asked_of_request request.now)) (store_seen S.tells S.held S.faults store.old store.new) (sink_seen O.tells O.taken O.faults out.old out.new) result }
 {
-    let shared = load_shared(alloc, store, request.name)?;
     let levels = levels_of(alloc, request.levels)?;
-    let text = frontier_lines(alloc, &shared.plan, &shared.shares, &levels)?;
+    let shared = load_shared(alloc, store, request.name)?;
+    let lines = frontier_lines(alloc, &shared.plan, &shared.shares, &levels);
+    drop(shared);
+    let text = lines?;
     print(alloc, Ended::Done, text.bytes(), out)
 }

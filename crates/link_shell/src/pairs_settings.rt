@@ -31,12 +31,14 @@ pub(crate) fn perform<S: Store, O: Sink>(
     ensures { Does (settings_script name.now) (store_seen S.tells S.held S.faults store.old store.new) (sink_seen O.tells O.taken O.faults out.old out.new) result }
 {
     let described = load_described(alloc, store, name)?;
-    let text = pair_ids(
+    let ids = pair_ids(
         alloc,
         &described.plan,
         described.inputs.a.bytes(),
         described.inputs.b.bytes(),
         MOST_POOLED_BYTES,
-    )?;
+    );
+    drop(described);
+    let text = ids?;
     print(alloc, Ended::Done, text.bytes(), out)
 }

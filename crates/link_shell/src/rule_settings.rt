@@ -38,6 +38,8 @@ pub(crate) fn perform<S: Store, O: Sink>(
     ensures { Does (rule_script name.now) (store_seen S.tells S.held S.faults store.old store.new) (sink_seen O.tells O.taken O.faults out.old out.new) result }
 {
     let shared = load_shared(alloc, store, name)?;
-    let text = rule_lines(alloc, &shared.plan, &shared.shares)?;
+    let lines = rule_lines(alloc, &shared.plan, &shared.shares);
+    drop(shared);
+    let text = lines?;
     print(alloc, Ended::Done, text.bytes(), out)
 }
