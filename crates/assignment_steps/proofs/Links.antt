@@ -61,3 +61,7 @@ matched_parted es la lb j m ra rb on = record {
         (old.0, old.1, get_or-set_other la (edge es j).a (edge es i).a None None other ∙ old.2))
   ];
 }
+
+-- no link agrees with no link
+pub none_matched : (es : List Edge) (la lb : List (Option ℕ)) → ((a : ℕ) → link la a ≡ None) → ((b : ℕ) → link lb b ≡ None) → IsMatched es la lb
+none_matched es la lb none_a none_b = record { of_a = λ a k h. absurd (let clash : None ≡ Some k = sym (none_a a) ∙ h in cc); of_b = λ b k h. absurd (let clash : None ≡ Some k = sym (none_b b) ∙ h in cc) }

@@ -1,10 +1,11 @@
-// Prices that are aimed at, and taken over where they serve.
+// Prices that are aimed at, and prices and links that are proposed: taken over where they serve.
 ghost use Rattle.std.specs.Prelude.{◌≡◌, ◌+◌, ◌<◌, ◌≤◌, ℕ, length, slice_index, None, Some, IsTrue};
 ghost use Rattle.link_limits.specs.declared.TheConstants.{MOST_VALUE};
 ghost use Rattle.assignment_steps.specs.Market.{edge, link, number, AreTight, IsInRange, IsMatched};
 ghost use Rattle.assignment_steps.specs.Between.{IsBetween};
 
-use crate::market::{Edge, Net};
+use crate::market::{Board, Edge, Net, Proposal};
+use crate::other_links::join_mates;
 use link_limits::MOST_VALUE;
 
 /// Whether no price is too great.
@@ -147,4 +148,46 @@ pub fn adopt_all(
         link_a.copy_from_slice(new_link_a);
         link_b.copy_from_slice(new_link_b);
     }
+}
+
+/// Takes each link away.
+fn clear_links(links: &mut [Option<usize>])
+    ensures none { (r : ℕ) → link links.new r ≡ None }
+    ensures count { length links.new ≡ length links.old }
+{
+    for r in 0..links.len() {
+        links[r] = None;
+    }
+}
+
+/// Takes proposed prices and links over where they serve; else all stays. `spare_a` and `spare_b` are room for
+/// the links.
+pub fn adopt_proposal(
+    board: Board<'_>,
+    proposal: Proposal<'_>,
+    spare_a: &mut [Option<usize>],
+    spare_b: &mut [Option<usize>],
+    price_a: &mut [u64],
+    price_b: &mut [u64],
+    link_a: &mut [Option<usize>],
+    link_b: &mut [Option<usize>],
+)
+    requires between { IsBetween board.edges.now price_a.old price_b.old link_a.old link_b.old 0 }
+    ensures between { IsBetween board.entry.edges.now price_a.new price_b.new link_a.new link_b.new 0 }
+{
+    if proposal.price_a.len() != price_a.len() || proposal.price_b.len() != price_b.len() {
+        return;
+    }
+    if spare_a.len() != link_a.len() || spare_b.len() != link_b.len() {
+        return;
+    }
+    clear_links(spare_a);
+    clear_links(spare_b);
+    join_mates(board, spare_a, spare_b, proposal.mates);
+    let net = Net {
+        edges: board.edges,
+        price_a: proposal.price_a,
+        price_b: proposal.price_b,
+    };
+    adopt_all(net, spare_a, spare_b, price_a, price_b, link_a, link_b);
 }

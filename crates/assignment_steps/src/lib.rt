@@ -17,9 +17,9 @@ mod starts;
 mod tight;
 mod turned;
 
-pub use adopt::adopt_all;
+pub use adopt::{adopt_all, adopt_proposal};
 pub use backward::{look_back, waiting};
-pub use market::{Board, Edge, Net};
+pub use market::{Board, Edge, Net, Proposal};
 pub use other_links::join_as_turned;
 pub use paths::follow_paths;
 pub use room::Survey;

@@ -25,3 +25,12 @@ pub struct Board<'a> {
     pub turned: &'a [Edge],
     pub turned_starts: &'a [usize],
 }
+
+/// Prices and links that are proposed: beside each record of A the number of the record of B that it is to be
+/// linked to.
+#[derive(Clone, Copy)]
+pub struct Proposal<'a> {
+    pub price_a: &'a [u64],
+    pub price_b: &'a [u64],
+    pub mates: &'a [u32],
+}

@@ -1,18 +1,18 @@
-// Links of turned edges as links of the edges.
+// Links as links of the edges: of turned edges, and of records side by side.
 ghost use Rattle.std.specs.Prelude.{◌≡◌, ◌+◌, ◌<◌, ◌≤◌, ℕ, length, MatchOption};
 ghost use Rattle.assignment_steps.specs.Market.{IsBoard, IsMatched, IsInRange};
 
 use crate::market::{Board, Edge};
 
 /// The place of the edge of two records.
-fn place_of(board: Board<'_>, a: u32, b: u32) -> Option<usize>
+fn place_of(board: Board<'_>, a: usize, b: u32) -> Option<usize>
     ensures { MatchOption result (Unit {0}) (λ k. k < length board.entry.edges.now) }
 {
-    if a as usize + 1 >= board.starts.len() {
+    if a >= board.starts.len() || a + 1 >= board.starts.len() {
         return None;
     }
-    let end = board.starts[a as usize + 1].min(board.edges.len());
-    for k in board.starts[a as usize]..end {
+    let end = board.starts[a + 1].min(board.edges.len());
+    for k in board.starts[a]..end {
         if board.edges[k].b == b {
             return Some(k);
         }
@@ -58,7 +58,7 @@ fn join_turned(
         return;
     }
     let turned = board.turned[j];
-    let Some(k) = place_of(board, turned.b, turned.a) else {
+    let Some(k) = place_of(board, turned.b as usize, turned.a) else {
         return;
     };
     join(board.edges, link_a, link_b, k);
@@ -77,5 +77,39 @@ pub fn join_as_turned(
 {
     for link in links {
         join_turned(board, link_a, link_b, *link);
+    }
+}
+
+/// Links a record of A with a record of B, if they have an edge.
+fn join_mate(
+    board: Board<'_>,
+    link_a: &mut [Option<usize>],
+    link_b: &mut [Option<usize>],
+    a: usize,
+    mate: u32,
+)
+    requires in_range { IsInRange board.edges.now (length link_a.old) (length link_b.old) }
+    requires matched { IsMatched board.edges.now link_a.old link_b.old }
+    ensures matched { IsMatched board.entry.edges.now link_a.new link_b.new }
+{
+    let Some(k) = place_of(board, a, mate) else {
+        return;
+    };
+    join(board.edges, link_a, link_b, k);
+}
+
+/// Links each record of A with the record of B beside it, where they have an edge.
+pub fn join_mates(
+    board: Board<'_>,
+    link_a: &mut [Option<usize>],
+    link_b: &mut [Option<usize>],
+    mates: &[u32],
+)
+    requires in_range { IsInRange board.edges.now (length link_a.old) (length link_b.old) }
+    requires matched { IsMatched board.edges.now link_a.old link_b.old }
+    ensures matched { IsMatched board.entry.edges.now link_a.new link_b.new }
+{
+    for a in 0..mates.len() {
+        join_mate(board, link_a, link_b, a, mates[a]);
     }
 }
