@@ -1,0 +1,91 @@
+// The edges at a level: with so many last bits of their values left out.
+
+use crate::rows::{NONE, at, put};
+use crate::side::{Side, link};
+use assignment_steps::{Board, Edge};
+
+/// The edges by both sides, and how many last bits of their values are left out.
+#[derive(Clone, Copy)]
+pub struct Level<'a> {
+    pub board: Board<'a>,
+    pub shift: u32,
+}
+
+/// The value of an edge at a level.
+#[inline(always)]
+pub fn value_at(edge: Edge, shift: u32) -> u32 {
+    edge.value.wrapping_shr(shift)
+}
+
+/// A level as the other side sees it.
+pub fn turned(level: Level<'_>) -> Level<'_> {
+    let board = level.board;
+    Level {
+        board: Board {
+            edges: board.turned,
+            starts: board.turned_starts,
+            turned: board.edges,
+            turned_starts: board.starts,
+        },
+        shift: level.shift,
+    }
+}
+
+/// The edges of a row, which stand together.
+#[inline(always)]
+pub fn edges_of<'a>(edges: &'a [Edge], starts: &[usize], row: u32) -> &'a [Edge] {
+    let place = row as usize;
+    if place + 1 >= starts.len() {
+        return &edges[..0];
+    }
+    let start = starts[place];
+    let end = starts[place + 1];
+    if start > end || end > edges.len() {
+        return &edges[..0];
+    }
+    &edges[start..end]
+}
+
+/// The least price of a row that covers its edges.
+fn covering_price(level: Level<'_>, other: &Side, row: u32) -> u32 {
+    let mut price = 0u32;
+    for edge in edges_of(level.board.edges, level.board.starts, row) {
+        let paid = at(&other.price, edge.b);
+        price = price.max(value_at(*edge, level.shift).saturating_sub(paid));
+    }
+    price
+}
+
+/// Gives each row the least price that covers its edges.
+pub fn cover(level: Level<'_>, own: &mut Side, other: &Side) {
+    for row in 0..own.rows {
+        put(&mut own.price, row, covering_price(level, other, row));
+    }
+}
+
+/// Whether the prices of an edge's rows add up to its value.
+#[inline(always)]
+pub fn is_tight(level: Level<'_>, own: &Side, other: &Side, edge: Edge) -> bool {
+    let paid = at(&own.price, edge.a).wrapping_add(at(&other.price, edge.b));
+    paid == value_at(edge, level.shift)
+}
+
+/// Takes the links away that are not tight.
+pub fn part_loose(level: Level<'_>, own: &mut Side, other: &mut Side) {
+    for edge in level.board.edges {
+        if at(&own.mate, edge.a) == edge.b && !is_tight(level, own, other, *edge) {
+            put(&mut own.mate, edge.a, NONE);
+            put(&mut other.mate, edge.b, NONE);
+        }
+    }
+}
+
+/// Links rows without links over tight edges, in the order of the edges.
+pub fn link_tight(level: Level<'_>, own: &mut Side, other: &mut Side) {
+    for edge in level.board.edges {
+        let is_free = at(&own.mate, edge.a) == NONE && at(&other.mate, edge.b) == NONE;
+        if is_free && is_tight(level, own, other, *edge) {
+            link(own, other, edge.a, edge.b);
+        }
+    }
+}

@@ -1,0 +1,202 @@
+// The levels, from few bits of the values to all.
+
+use crate::level::{Level, cover, part_loose, turned};
+use crate::rounds::{Room, begin, run_rounds};
+use crate::rows::{at, count_of, put};
+use crate::side::{Side, link};
+use assignment_steps::{Board, Edge, Proposal};
+use link_base::NoMemory;
+use std::alloc::Global;
+
+/// How many bits of the greatest value the first level has.
+const FIRST_BITS: u32 = 3;
+
+/// With more bits than these in the greatest value, a level adds two.
+const FEW_BITS: u32 = 12;
+
+/// Room for a proposal of prices and links.
+#[derive(Drop)]
+pub struct Levels {
+    own: Side,
+    other: Side,
+    room: Room,
+    price_a: Vec<u64>,
+    price_b: Vec<u64>,
+}
+
+/// Copies prices, the least of each and the greatest number.
+fn copy_prices(to: &mut [u32], prices: &[u64]) {
+    let mut row = 0u32;
+    for price in prices {
+        put(to, row, (*price).min(u64::from(u32::MAX)) as u32);
+        row = row.saturating_add(1);
+    }
+}
+
+/// Writes prices as wider numbers, within the room that was taken.
+fn write_wide(to: &mut Vec<u64>, prices: &[u32]) {
+    to.clear();
+    for price in prices {
+        if to.len() >= to.capacity() {
+            return;
+        }
+        let Ok(()) = to.push(u64::from(*price)) else {
+            return;
+        };
+    }
+}
+
+/// Doubles prices so many times.
+fn double(prices: &mut [u32], times: u32) {
+    for row in 0..count_of(prices.len()) {
+        let price = at(prices, row);
+        put(prices, row, price.wrapping_shl(times));
+    }
+}
+
+/// How many bits the greatest value has.
+fn bits_of(edges: &[Edge]) -> u32 {
+    let mut greatest = 0u32;
+    for edge in edges {
+        greatest = greatest.max(edge.value);
+    }
+    32u32.saturating_sub(greatest.leading_zeros())
+}
+
+/// How many of so many rows may still wait at a level: none at the last.
+fn most_left(rows: u32, shift: u32) -> u32 {
+    if shift == 0 { 0 } else { rows / 32 }
+}
+
+impl Levels {
+    /// Room for so many rows.
+    pub fn new(alloc: Global, rows_a: usize, rows_b: usize) -> Result<Levels, NoMemory> {
+        let own = Side::new(alloc, count_of(rows_a))?;
+        let other = Side::new(alloc, count_of(rows_b))?;
+        let room = Room::new(alloc, own.rows.max(other.rows))?;
+        let price_a = Vec::with_capacity(alloc, rows_a)?;
+        let price_b = Vec::with_capacity(alloc, rows_b)?;
+        Ok(Levels {
+            own,
+            other,
+            room,
+            price_a,
+            price_b,
+        })
+    }
+
+    /// Puts the rows there, without prices and links.
+    fn clear(&mut self) {
+        self.own.clear();
+        self.other.clear();
+        self.room.fill(self.own.rows.max(self.other.rows));
+    }
+
+    /// Takes prices and links as a start.
+    fn start(&mut self, edges: &[Edge], price_a: &[u64], price_b: &[u64], links: &[Option<usize>]) {
+        self.clear();
+        copy_prices(&mut self.own.price, price_a);
+        copy_prices(&mut self.other.price, price_b);
+        for place in links {
+            let k = place.unwrap_or(edges.len());
+            if k < edges.len() {
+                let edge = edges[k];
+                link(&mut self.own, &mut self.other, edge.a, edge.b);
+            }
+        }
+    }
+
+    /// Settles the rows of one side and then those of the other, where at a level with bits left out a few of
+    /// each may still wait.
+    fn settle(&mut self, level: Level<'_>) {
+        cover(level, &mut self.own, &self.other);
+        cover(turned(level), &mut self.other, &self.own);
+        part_loose(level, &mut self.own, &mut self.other);
+        let most = most_left(self.own.rows, level.shift);
+        begin(level, &mut self.own, &mut self.other, &mut self.room);
+        run_rounds(
+            level,
+            &mut self.own,
+            &mut self.other,
+            &mut self.room,
+            most,
+            true,
+        );
+        let most = most_left(self.other.rows, level.shift);
+        let level = turned(level);
+        begin(level, &mut self.other, &mut self.own, &mut self.room);
+        run_rounds(
+            level,
+            &mut self.other,
+            &mut self.own,
+            &mut self.room,
+            most,
+            true,
+        );
+    }
+
+    /// All levels, from the first.
+    fn run_levels(&mut self, board: Board<'_>) {
+        self.clear();
+        let bits = bits_of(board.edges);
+        let step = if bits > FEW_BITS { 2 } else { 1 };
+        let mut shift = bits.saturating_sub(FIRST_BITS);
+        for _ in 0..32 {
+            self.settle(Level { board, shift });
+            if shift == 0 {
+                return;
+            }
+            let next = shift.saturating_sub(step);
+            double(&mut self.other.price, shift.saturating_sub(next));
+            shift = next;
+        }
+    }
+
+    /// Writes the prices as the caller's are.
+    fn widen(&mut self) {
+        write_wide(&mut self.price_a, &self.own.price);
+        write_wide(&mut self.price_b, &self.other.price);
+    }
+
+    /// Proposes prices and links bit by bit of the values, from nothing.
+    pub fn propose_by_levels(&mut self, board: Board<'_>) {
+        self.run_levels(board);
+        self.widen();
+    }
+
+    /// Proposes prices and links, from those that are given on: first by rounds at the whole values, and where
+    /// three of these are slow, bit by bit. What it gives is a proposal: nothing is proved of how good it is.
+    pub fn propose(
+        &mut self,
+        board: Board<'_>,
+        price_a: &[u64],
+        price_b: &[u64],
+        links: &[Option<usize>],
+    ) {
+        if self.own.rows as usize != price_a.len() || self.other.rows as usize != price_b.len() {
+            return;
+        }
+        self.start(board.edges, price_a, price_b, links);
+        let level = Level { board, shift: 0 };
+        if !run_rounds(
+            level,
+            &mut self.own,
+            &mut self.other,
+            &mut self.room,
+            0,
+            false,
+        ) {
+            self.run_levels(board);
+        }
+        self.widen();
+    }
+
+    /// The proposal: prices, and beside each record of A the number of the record of B that it is linked to.
+    pub fn proposal(&self) -> Proposal<'_> {
+        Proposal {
+            price_a: &self.price_a,
+            price_b: &self.price_b,
+            mates: &self.own.mate,
+        }
+    }
+}

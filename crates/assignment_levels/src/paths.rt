@@ -1,0 +1,168 @@
+// Disjoint paths over tight edges, each along rows that were reached earlier and earlier.
+
+use crate::back::Reached;
+use crate::level::{Level, edges_of, value_at};
+use crate::rows::{NONE, at, fill_up, put, room_for};
+use crate::side::{Side, link};
+use assignment_steps::Edge;
+use link_base::NoMemory;
+use std::alloc::Global;
+
+/// How many edges each row has tried, the row of the other side that it tried last, the rows of the other
+/// side that were met, each by the number of the round, and a path.
+#[derive(Drop)]
+pub struct Paths {
+    tried: Vec<u32>,
+    chosen: Vec<u32>,
+    met: Vec<u32>,
+    round: u32,
+    path: Vec<u32>,
+}
+
+impl Paths {
+    /// Room for so many rows.
+    pub fn new(alloc: Global, rows: u32) -> Result<Paths, NoMemory> {
+        let tried = room_for(alloc, rows)?;
+        let chosen = room_for(alloc, rows)?;
+        let met = room_for(alloc, rows)?;
+        let path = room_for(alloc, rows)?;
+        Ok(Paths {
+            tried,
+            chosen,
+            met,
+            round: 0,
+            path,
+        })
+    }
+
+    /// Puts so many rows there.
+    pub fn fill(&mut self, rows: u32) {
+        fill_up(&mut self.tried, rows);
+        fill_up(&mut self.chosen, rows);
+        fill_up(&mut self.met, rows);
+        fill_up(&mut self.path, rows);
+    }
+}
+
+/// Where a path goes from a row: to its end, to another row, or nowhere.
+#[derive(Clone, Copy)]
+enum Way {
+    Ends,
+    Goes(u32),
+    Nowhere,
+}
+
+/// Where a path goes over an edge: to its end where the row of the other side has no link, or one that is
+/// given up by a row of price 0; else to the row of the link, if that one was reached earlier.
+fn way_over(
+    level: Level<'_>,
+    own: &Side,
+    other: &Side,
+    reached: &Reached,
+    paths: &mut Paths,
+    edge: Edge,
+) -> Way {
+    let paid = at(&own.price, edge.a).wrapping_add(at(&other.price, edge.b));
+    if paid != value_at(edge, level.shift) || at(&paths.met, edge.b) == paths.round {
+        return Way::Nowhere;
+    }
+    let mate = at(&other.mate, edge.b);
+    if mate == NONE || at(&own.price, mate) == 0 {
+        put(&mut paths.met, edge.b, paths.round);
+        return Way::Ends;
+    }
+    if reached.place_of(mate) >= reached.place_of(edge.a) {
+        return Way::Nowhere;
+    }
+    put(&mut paths.met, edge.b, paths.round);
+    Way::Goes(mate)
+}
+
+/// Where a path goes from a row, over the edges that it has not tried.
+fn way_from(
+    level: Level<'_>,
+    own: &Side,
+    other: &Side,
+    reached: &Reached,
+    paths: &mut Paths,
+    row: u32,
+) -> Way {
+    let edges = edges_of(level.board.edges, level.board.starts, row);
+    let mut tried = at(&paths.tried, row);
+    if tried as usize > edges.len() {
+        return Way::Nowhere;
+    }
+    for edge in &edges[tried as usize..] {
+        tried = tried.saturating_add(1);
+        let way = way_over(level, own, other, reached, paths, *edge);
+        if !matches!(way, Way::Nowhere) {
+            put(&mut paths.tried, row, tried);
+            put(&mut paths.chosen, row, edge.b);
+            return way;
+        }
+    }
+    put(&mut paths.tried, row, tried);
+    Way::Nowhere
+}
+
+/// Seeks a path from a row, depth first, and gives how many rows it has: none where there is no path.
+fn seek(
+    level: Level<'_>,
+    own: &Side,
+    other: &Side,
+    reached: &Reached,
+    paths: &mut Paths,
+    root: u32,
+) -> u32 {
+    let mut row = root;
+    let mut above = 0u32;
+    for _ in 0..level.board.edges.len() {
+        match way_from(level, own, other, reached, paths, row) {
+            Way::Ends => {
+                put(&mut paths.path, above, row);
+                return above.saturating_add(1);
+            }
+            Way::Goes(mate) => {
+                put(&mut paths.path, above, row);
+                above = above.saturating_add(1);
+                row = mate;
+            }
+            Way::Nowhere => {
+                if above == 0 {
+                    return 0;
+                }
+                above = above.saturating_sub(1);
+                row = at(&paths.path, above);
+            }
+        }
+    }
+    0
+}
+
+/// Links the rows of a path as it goes.
+fn turn(own: &mut Side, other: &mut Side, paths: &Paths, count: u32) {
+    for place in 0..count {
+        let row = at(&paths.path, place);
+        link(own, other, row, at(&paths.chosen, row));
+    }
+}
+
+/// Follows paths from each row that waits, in the order in which they were reached. Each row of the other
+/// side is met once.
+pub fn follow_paths(
+    level: Level<'_>,
+    own: &mut Side,
+    other: &mut Side,
+    reached: &Reached,
+    paths: &mut Paths,
+) {
+    paths.tried.fill(0);
+    paths.round = paths.round.wrapping_add(1);
+    for place in 0..reached.count() {
+        let root = reached.row_at(place);
+        if own.waits(root) {
+            let count = seek(level, own, other, reached, paths, root);
+            turn(own, other, paths, count);
+        }
+    }
+}

@@ -1,0 +1,121 @@
+// Rounds: a look back, paths, and searches from the rows that still wait.
+
+use crate::back::{Reached, look_back};
+use crate::level::{Level, link_tight};
+use crate::lists::Lists;
+use crate::paths::{Paths, follow_paths};
+use crate::search::{Tree, search};
+use crate::side::Side;
+use link_base::NoMemory;
+use std::alloc::Global;
+
+/// What searches that settled few are allowed the next time: a part of the edges.
+const SMALL_PART: usize = 16;
+
+/// So few rows that wait are no reason to give up.
+const FEW: u32 = 16;
+
+/// Room for a look back, paths and searches.
+#[derive(Drop)]
+pub struct Room {
+    lists: Lists,
+    reached: Reached,
+    paths: Paths,
+    tree: Tree,
+}
+
+impl Room {
+    /// Room for so many rows.
+    pub fn new(alloc: Global, rows: u32) -> Result<Room, NoMemory> {
+        let lists = Lists::new(alloc, rows)?;
+        let reached = Reached::new(alloc, rows)?;
+        let paths = Paths::new(alloc, rows)?;
+        let tree = Tree::new(alloc, rows)?;
+        Ok(Room {
+            lists,
+            reached,
+            paths,
+            tree,
+        })
+    }
+
+    /// Puts so many rows there.
+    pub fn fill(&mut self, rows: u32) {
+        self.lists.fill();
+        self.reached.fill(rows);
+        self.paths.fill(rows);
+        self.tree.fill(rows);
+    }
+}
+
+/// Searches from those rows that wait, in the order in which they were reached, as long as looks are left.
+fn search_in_order(level: Level<'_>, own: &mut Side, other: &mut Side, room: &mut Room) {
+    for place in 0..room.reached.count() {
+        if room.tree.is_spent() {
+            return;
+        }
+        let root = room.reached.row_at(place);
+        if own.waits(root) {
+            search(level, own, other, &mut room.lists, &mut room.tree, root);
+        }
+    }
+}
+
+/// Links over tight edges, and searches from the rows in their order.
+pub fn begin(level: Level<'_>, own: &mut Side, other: &mut Side, room: &mut Room) {
+    link_tight(level, own, other);
+    room.reached.reach_each(own.rows);
+    room.tree.allow(level.board.edges.len() / 2);
+    search_in_order(level, own, other, room);
+}
+
+/// One round, with so many rows that wait and so many looks. Says whether its searches settled few rows
+/// beside its paths.
+fn run_round(
+    level: Level<'_>,
+    own: &mut Side,
+    other: &mut Side,
+    room: &mut Room,
+    count: u32,
+    looks: usize,
+) -> bool {
+    look_back(level, own, other, &mut room.lists, &mut room.reached, count);
+    follow_paths(level, own, other, &room.reached, &mut room.paths);
+    let left = own.waiting();
+    room.tree.allow(looks);
+    search_in_order(level, own, other, room);
+    let searched = left.saturating_sub(own.waiting());
+    searched.saturating_mul(32) < count.saturating_sub(left)
+}
+
+/// Rounds until at most so many rows wait, or until three were slow, if it is not patient: a round is slow
+/// that settles less than an eighth of the rows that waited. Says whether the rounds came to their end.
+pub fn run_rounds(
+    level: Level<'_>,
+    own: &mut Side,
+    other: &mut Side,
+    room: &mut Room,
+    most: u32,
+    is_patient: bool,
+) -> bool {
+    let whole = level.board.edges.len();
+    let mut looks = whole;
+    let mut count = own.waiting();
+    let mut slow = 0u32;
+    for _ in 0..own.rows {
+        if count <= most {
+            return true;
+        }
+        let is_small = run_round(level, own, other, room, count, looks);
+        looks = if is_small { whole / SMALL_PART } else { whole };
+        let left = own.waiting();
+        if left > FEW && left > count - count / 8 {
+            slow = slow.saturating_add(1);
+        }
+        if slow == 3 && !is_patient {
+            return false;
+        }
+        count = left;
+    }
+    true
+}

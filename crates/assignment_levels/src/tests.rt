@@ -1,0 +1,90 @@
+// Proposals for small lists, which come to no level by themselves.
+use crate::levels::Levels;
+use assignment_steps::{Board, Edge, Proposal, starts_or_zeros, turned_edges};
+use std::alloc::Global;
+use std::test::Fail;
+
+/// How many records a side has.
+const ROWS: u32 = 7;
+
+// A next number (linear congruence: Knuth vol. 2, section 3.2.1).
+fn draw(seed: u32) -> u32 {
+    seed.wrapping_mul(1_664_525).wrapping_add(1_013_904_223)
+}
+
+// Edges of most records, with values to `most`.
+fn drawn(alloc: Global, first: u32, most: u32) -> Result<Vec<Edge>, Fail> {
+    let mut edges = Vec::new(alloc);
+    let mut seed = first;
+    for place in 0..ROWS * ROWS {
+        seed = draw(seed);
+        if seed / 65_536 % 3 > 0 {
+            edges.push(Edge {
+                a: place / ROWS,
+                b: place % ROWS,
+                value: (seed / 256 % most.max(1)).wrapping_add(1),
+            })?;
+        }
+    }
+    Ok(edges)
+}
+
+// What the linked edges are worth, where the prices cover each edge.
+fn worth_of(edges: &[Edge], proposal: Proposal<'_>) -> Option<u64> {
+    let mut worth = 0u64;
+    for edge in edges {
+        let value = u64::from(edge.value);
+        let price_a = proposal.price_a.get(edge.a as usize)?;
+        let price_b = proposal.price_b.get(edge.b as usize)?;
+        if price_a.saturating_add(*price_b) < value {
+            return None;
+        }
+        let mate = proposal.mates.get(edge.a as usize)?;
+        if *mate == edge.b {
+            worth = worth.saturating_add(value);
+        }
+    }
+    Some(worth)
+}
+
+// The sum of the prices.
+fn sum_of(proposal: Proposal<'_>) -> u64 {
+    let mut sum = 0u64;
+    for price in proposal.price_a {
+        sum = sum.saturating_add(*price);
+    }
+    for price in proposal.price_b {
+        sum = sum.saturating_add(*price);
+    }
+    sum
+}
+
+// Whether a proposal from nothing, bit by bit, certifies itself.
+fn certifies(alloc: Global, first: u32, most: u32) -> Result<bool, Fail> {
+    let edges = drawn(alloc, first, most)?;
+    let starts = starts_or_zeros(alloc, &edges, ROWS as usize)?;
+    let turned = turned_edges(alloc, &edges, ROWS as usize)?;
+    let turned_starts = starts_or_zeros(alloc, &turned, ROWS as usize)?;
+    let board = Board {
+        edges: &edges,
+        starts: &starts,
+        turned: &turned,
+        turned_starts: &turned_starts,
+    };
+    let mut levels = Levels::new(alloc, ROWS as usize, ROWS as usize)?;
+    levels.propose_by_levels(board);
+    let proposal = levels.proposal();
+    Ok(worth_of(&edges, proposal) == Some(sum_of(proposal)))
+}
+
+#[test]
+fn proposals_bit_by_bit_certify_themselves(rt: HostRuntime) -> Result<(), Fail> {
+    let alloc = rt.alloc();
+    for most in [4u32, 40, 1_474, 1_000_000] {
+        for first in 1u32..6 {
+            let is_certified = certifies(alloc, first, most)?;
+            assert!(rt; is_certified);
+        }
+    }
+    Ok(())
+}
