@@ -159,6 +159,7 @@ impl Assigner {
             link_b: _,
             tree: _,
             survey: _,
+            spare: _,
         } = own;
         let links = linked(candidates, &edges, &link_a);
         Assignment {

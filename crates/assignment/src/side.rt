@@ -9,6 +9,7 @@ use crate::market::Tree;
 use crate::phases::settle;
 use crate::round::all_rounds;
 use crate::solve::{clean_tree, first_prices, no_links, zeros};
+use crate::spare::Spare;
 use assignment_steps::{Board, Edge, Net, Survey, adopt_all, are_rising, join_as_turned};
 use link_base::NoMemory;
 use std::alloc::Global;
@@ -22,6 +23,7 @@ pub struct Side {
     pub link_b: Vec<Option<usize>>,
     pub tree: Tree,
     pub survey: Survey,
+    pub spare: Spare,
 }
 
 /// The other side, over the turned edges, and room for its links as links of the edges.
@@ -75,6 +77,11 @@ pub fn first_side(
         rows_if(is_needed, rows_a),
         rows_if(is_needed, rows_b),
     )?;
+    let spare = Spare::new(
+        alloc,
+        rows_if(is_needed, rows_a),
+        rows_if(is_needed, rows_b),
+    )?;
     Ok(Side {
         price_a,
         price_b,
@@ -82,6 +89,7 @@ pub fn first_side(
         link_b,
         tree,
         survey,
+        spare,
     })
 }
 
@@ -155,6 +163,7 @@ pub fn run(board: Board<'_>, side: &mut Side)
         &mut side.link_b,
         &mut side.tree,
         &mut side.survey,
+        &mut side.spare,
     );
     all_rounds(
         board.edges,

@@ -2,7 +2,7 @@ use Rattle.std.proofs.Common.{◌≤◌, length}
 use Rattle.assignment_steps.specs.Between.{IsBetween}
 use Rattle.assignment_steps.specs.Survey.{HasRoom}
 use Rattle.assignment.specs.Growth.{IsClean}
-use Rattle.assignment.proofs.phases.settle.Given as goal
+use Rattle.assignment.proofs.phases.run_rounds.Given as goal
 
 abbrev pub invariant-loop : goal.invariant-loop
 invariant-loop l = record {

@@ -1,0 +1,68 @@
+// Prices and links that are proposed, and room for them.
+ghost use Rattle.assignment_steps.specs.Between.{IsBetween};
+
+use assignment_levels::Levels;
+use assignment_steps::{Board, adopt_proposal};
+use link_base::NoMemory;
+use std::alloc::Global;
+
+/// Room for a proposal, and for its links as links of the edges. It is not touched before one is asked for.
+#[derive(Drop)]
+pub struct Spare {
+    levels: Levels,
+    link_a: Vec<Option<usize>>,
+    link_b: Vec<Option<usize>>,
+}
+
+impl Spare {
+    /// Room for so many records.
+    pub fn new(alloc: Global, rows_a: usize, rows_b: usize) -> Result<Spare, NoMemory> {
+        let levels = Levels::new(alloc, rows_a, rows_b)?;
+        let link_a = Vec::with_capacity(alloc, rows_a)?;
+        let link_b = Vec::with_capacity(alloc, rows_b)?;
+        Ok(Spare {
+            levels,
+            link_a,
+            link_b,
+        })
+    }
+}
+
+/// Puts so many records without a link there, within the room that was taken.
+fn put_free(links: &mut Vec<Option<usize>>, rows: usize) {
+    for _ in links.len()..rows {
+        if links.len() >= links.capacity() {
+            return;
+        }
+        let Ok(()) = links.push(None) else {
+            return;
+        };
+    }
+}
+
+/// Lets prices and links be proposed, and takes them over where they serve.
+pub fn take_proposal(
+    board: Board<'_>,
+    price_a: &mut [u64],
+    price_b: &mut [u64],
+    link_a: &mut [Option<usize>],
+    link_b: &mut [Option<usize>],
+    spare: &mut Spare,
+)
+    requires between { IsBetween board.edges.now price_a.old price_b.old link_a.old link_b.old 0 }
+    ensures between { IsBetween board.entry.edges.now price_a.new price_b.new link_a.new link_b.new 0 }
+{
+    put_free(&mut spare.link_a, price_a.len());
+    put_free(&mut spare.link_b, price_b.len());
+    spare.levels.propose(board, price_a, price_b, link_a);
+    adopt_proposal(
+        board,
+        spare.levels.proposal(),
+        &mut spare.link_a,
+        &mut spare.link_b,
+        price_a,
+        price_b,
+        link_a,
+        link_b,
+    );
+}
