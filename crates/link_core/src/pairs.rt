@@ -1,5 +1,5 @@
 // The compared pairs of a plan.
-ghost use Rattle.std.specs.Prelude.{◌≡◌, ◌≤◌, IfErr};
+ghost use Rattle.std.specs.Prelude.{◌≤◌, IfErr};
 ghost use Rattle.link_base.specs.Fault.{IsAnswer, IsInputFault};
 ghost use Rattle.pair_decisions.specs.Pairs.{pairs_within};
 ghost use Rattle.link_core.specs.Pairs.{ids_of_pairs, ids_of_prepared};

@@ -1,5 +1,5 @@
 // The command `frontier SETTINGS MU..`.
-ghost use Rattle.std.specs.Prelude.{◌≡◌, ◌≤◌, [], All, IfOk, IfSome, is_some, map, string_bytes, true};
+ghost use Rattle.std.specs.Prelude.{◌≡◌, ◌≤◌, All, IfOk, IfSome, is_some, map, string_bytes, true};
 ghost use Rattle.std.specs.List.{list_all};
 ghost use Rattle.link_shell.specs.Does.{Does};
 ghost use Rattle.link_shell.specs.FrontierSettings.{are_frontier_words, are_levels_from, asked_in, asked_of_request, frontier_script, is_level_word};

@@ -1,6 +1,5 @@
 // The command `review SETTINGS VERDICTS DATE REVIEWER`.
-ghost use Rattle.std.specs.Prelude.{◌≡◌, IfSome, is_some, map, option_map, string_bytes, Some};
-ghost use Rattle.link_base.specs.Standard.{IsDay};
+ghost use Rattle.std.specs.Prelude.{◌≡◌, IfSome, is_some, map, string_bytes, Some};
 ghost use Rattle.link_core.specs.Decisions.{IsDecidedIn};
 ghost use Rattle.link_core.specs.Review.{IsJournalOf};
 ghost use Rattle.link_shell.specs.Does.{Does};
