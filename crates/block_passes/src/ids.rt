@@ -16,7 +16,7 @@ use value_canons::bytes_of;
 use value_pool::{Id, Pool};
 
 /// The key of a row in a pass as ids, which contracts see as the list of them, one a part.
-#[derive(Debug, Drop)]
+#[derive(Drop)]
 pub struct IdKey {
     ids: Vec<Id>,
     code: Vec<u8>,

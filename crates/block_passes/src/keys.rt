@@ -11,7 +11,7 @@ use std::marker::Model;
 use value_canons::bytes_of;
 
 /// The key of a row in a pass, which contracts see as the list of its texts, one a part.
-#[derive(Debug, Drop)]
+#[derive(Drop)]
 pub struct PassKey {
     texts: Vec<Text>,
     code: Vec<u8>,

@@ -15,7 +15,7 @@ use std::alloc::Global;
 
 /// The links chosen among candidates, rising by position, with the dual prices of all records of A and of B that certify them, the
 /// candidates that are not among them, and the sum of the links' values. Values and prices are in eighths of a bit.
-#[derive(Debug, Drop)]
+#[derive(Drop)]
 pub struct ChosenLinks {
     pub links: Vec<Candidate>,
     pub prices_a: Vec<i64>,

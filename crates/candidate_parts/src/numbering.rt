@@ -9,7 +9,7 @@ use link_base::{Candidate, NoMemory};
 use std::alloc::Global;
 
 /// The number of the part of each candidate, and how many parts there are.
-#[derive(Debug, Drop)]
+#[derive(Drop)]
 pub struct PartNumbers {
     pub numbers: Vec<u32>,
     pub parts: u32,

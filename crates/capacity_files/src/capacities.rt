@@ -4,7 +4,7 @@ ghost use Rattle.std.specs.Prelude.{◌≡◌};
 use std::marker::Model;
 
 /// How many links each record of a file may stand in, which contracts see as the list of these numbers, one for each record.
-#[derive(Debug, Drop)]
+#[derive(Drop)]
 pub struct Capacities {
     each: Vec<u32>,
 }

@@ -39,7 +39,7 @@ fn capacity_of(text: &[u8]) -> Option<u32>
 }
 
 // The position of the record of B that a row names, and the capacity that it gives.
-#[derive(Debug, Drop)]
+#[derive(Drop)]
 struct Listed {
     at: u32,
     capacity: u32,

@@ -12,7 +12,7 @@ use std::alloc::Global;
 
 /// The links chosen among candidates within capacities, rising by position, with the dual prices of all records of A and of B that
 /// certify them. Values and prices are in eighths of a bit.
-#[derive(Debug, Drop)]
+#[derive(Drop)]
 pub struct LinksWithin {
     pub links: Vec<Candidate>,
     pub prices_a: Vec<i64>,

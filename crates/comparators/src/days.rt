@@ -28,7 +28,7 @@ pub(crate) fn compare_years(most: u32, a: i32, b: i32) -> Outcome
 }
 
 /// Agrees on days that differ by at most `t`.
-#[derive(Clone, Copy, Debug, PartialEq, Eq)]
+#[derive(Clone, Copy, PartialEq, Eq)]
 pub struct DaysWithin {
     pub t: u32,
 }
@@ -63,7 +63,7 @@ impl Comparator for DaysWithin {
 }
 
 /// Agrees on years that differ by at most `t`.
-#[derive(Clone, Copy, Debug, PartialEq, Eq)]
+#[derive(Clone, Copy, PartialEq, Eq)]
 pub struct YearsWithin {
     pub t: u32,
 }

@@ -9,7 +9,7 @@ use crate::words::{ByNysiis, BySoundex, Exact, FirstLetters, Initials};
 use link_base::{CompareKind, Outcome, Value};
 
 /// A kind of comparison of values.
-#[derive(Clone, Copy, Debug, PartialEq, Eq)]
+#[derive(Clone, Copy, PartialEq, Eq)]
 pub enum FieldKind {
     Exact(Exact),
     BySoundex(BySoundex),

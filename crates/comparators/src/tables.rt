@@ -7,7 +7,7 @@ use std::alloc::Global;
 use std::marker::Model;
 
 /// A table of ids, row by row. Contracts see it as the number of values of a row and the list of its rows.
-#[derive(Debug, Drop)]
+#[derive(Drop)]
 pub struct IdTable {
     // The rows, one behind the other.
     values: Vec<IdValue>,

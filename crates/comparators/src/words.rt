@@ -42,7 +42,7 @@ fn copy(alloc: Global, canon: Option<CanonText>) -> Result<Option<Text>, NoMemor
 }
 
 /// Agrees on the same text, or the same day.
-#[derive(Clone, Copy, Debug, PartialEq, Eq)]
+#[derive(Clone, Copy, PartialEq, Eq)]
 pub struct Exact;
 
 impl Comparator for Exact {
@@ -85,7 +85,7 @@ impl KeyComparator for Exact {
 }
 
 /// Agrees on the same Soundex key.
-#[derive(Clone, Copy, Debug, PartialEq, Eq)]
+#[derive(Clone, Copy, PartialEq, Eq)]
 pub struct BySoundex;
 
 impl Comparator for BySoundex {
@@ -125,7 +125,7 @@ impl KeyComparator for BySoundex {
 }
 
 /// Agrees on the same NYSIIS key.
-#[derive(Clone, Copy, Debug, PartialEq, Eq)]
+#[derive(Clone, Copy, PartialEq, Eq)]
 pub struct ByNysiis;
 
 impl Comparator for ByNysiis {
@@ -165,7 +165,7 @@ impl KeyComparator for ByNysiis {
 }
 
 /// Agrees on the same first characters.
-#[derive(Clone, Copy, Debug, PartialEq, Eq)]
+#[derive(Clone, Copy, PartialEq, Eq)]
 pub struct FirstLetters {
     pub n: u8,
 }
@@ -210,7 +210,7 @@ impl KeyComparator for FirstLetters {
 }
 
 /// Agrees on the same initials.
-#[derive(Clone, Copy, Debug, PartialEq, Eq)]
+#[derive(Clone, Copy, PartialEq, Eq)]
 pub struct Initials;
 
 impl Comparator for Initials {

@@ -7,7 +7,7 @@ use std::marker::Model;
 
 /// The groups of the records of a file, as a forest, which contracts see as three lists of one length: the leader of each position,
 /// the position that it was reached from, and how many links that is from the leader.
-#[derive(Debug, Drop)]
+#[derive(Drop)]
 pub struct Groups {
     leaders: Vec<u32>,
     vias: Vec<Option<u32>>,

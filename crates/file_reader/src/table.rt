@@ -7,7 +7,7 @@ use text_region::TextRegion;
 
 /// The needed columns of a file, which contracts see as the list of its rows, each with its id and its
 /// other fields. A row's position is its number from 0.
-#[derive(Debug, Drop)]
+#[derive(Drop)]
 pub struct Table {
     has_id: bool,
     // The number of needed columns, and of rows.

@@ -9,7 +9,7 @@ use link_limits::{MOST_FIELDS, PER_MILLION};
 
 /// The attained levels of one asked level of links, and what one 65,536th of each border pattern is worth: how much
 /// lower a chance of a possible link any rule at the asked levels can have, in the unit of the levels.
-#[derive(Clone, Copy, Debug, PartialEq, Eq)]
+#[derive(Clone, Copy, PartialEq, Eq)]
 pub struct FrontierRow {
     pub levels: Levels,
     pub slack_m: u64,

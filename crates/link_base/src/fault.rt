@@ -6,7 +6,7 @@ use crate::text::{NoMemory, Text};
 use std::alloc::{AllocError, AllocFailed};
 
 /// Which file a fault is of.
-#[derive(Clone, Copy, Debug, PartialEq, Eq)]
+#[derive(Clone, Copy, PartialEq, Eq)]
 pub enum FileRole {
     Settings,
     A,
@@ -28,7 +28,7 @@ pub enum FileRole {
 }
 
 /// Why a command was refused. Rows are numbered from 1 after the header; `first` is the earlier row.
-#[derive(Debug, Drop)]
+#[derive(Drop)]
 pub enum Fault {
     /// The words are no form of a command.
     Usage,

@@ -4,7 +4,7 @@ ghost use Rattle.std.specs.Prelude.{◌≡◌};
 use std::marker::Model;
 
 /// In which order a date is written.
-#[derive(Clone, Copy, Debug, PartialEq, Eq)]
+#[derive(Clone, Copy, PartialEq, Eq)]
 pub enum DateForm {
     /// Year, month, day.
     Ymd,
@@ -15,7 +15,7 @@ pub enum DateForm {
 }
 
 /// What a field holds.
-#[derive(Clone, Copy, Debug, PartialEq, Eq)]
+#[derive(Clone, Copy, PartialEq, Eq)]
 pub enum FieldSort {
     /// A person's name.
     Name,
@@ -26,7 +26,7 @@ pub enum FieldSort {
 }
 
 /// How the two values of a field are compared.
-#[derive(Clone, Copy, Debug, PartialEq, Eq)]
+#[derive(Clone, Copy, PartialEq, Eq)]
 pub enum CompareKind {
     /// Equal values agree.
     Exact,
@@ -45,7 +45,7 @@ pub enum CompareKind {
 }
 
 /// How a field makes a part of a key of a blocking pass.
-#[derive(Clone, Copy, Debug, PartialEq, Eq)]
+#[derive(Clone, Copy, PartialEq, Eq)]
 pub enum KeyKind {
     /// The whole value.
     Whole,
@@ -60,14 +60,14 @@ pub enum KeyKind {
 }
 
 /// A part of a key: a field by its place, and how it makes the part.
-#[derive(Clone, Copy, Debug, PartialEq, Eq)]
+#[derive(Clone, Copy, PartialEq, Eq)]
 pub struct Part {
     pub field: u8,
     pub key: KeyKind,
 }
 
 /// A blocking pass, which contracts see as the list of the parts of its key.
-#[derive(Debug, Drop)]
+#[derive(Drop)]
 pub struct Pass {
     parts: Vec<Part>,
 }
@@ -98,7 +98,7 @@ impl Pass {
 }
 
 /// Blocking passes, which contracts see as the list of them.
-#[derive(Debug, Drop)]
+#[derive(Drop)]
 pub struct PassList {
     passes: Vec<Pass>,
 }

@@ -28,7 +28,7 @@ pub enum Decision {
 }
 
 /// What clerical review says of a pair.
-#[derive(Clone, Copy, Debug, PartialEq, Eq)]
+#[derive(Clone, Copy, PartialEq, Eq)]
 pub enum Verdict {
     Link,
     NonLink,
@@ -37,7 +37,7 @@ pub enum Verdict {
 }
 
 /// Whether a verdict stands alone, waits for a second reviewer, or confirms a first one.
-#[derive(Clone, Copy, Debug, PartialEq, Eq)]
+#[derive(Clone, Copy, PartialEq, Eq)]
 pub enum Step {
     Single,
     First,
@@ -55,7 +55,7 @@ pub struct PairAt {
 /// over 1,024 to the number of fields, its weight in eighths of a bit, from -480 to 474, and how often
 /// it is a link and a non-link, in 65,536ths that add up to at most 65,536. A table keeps the ranges of
 /// its cells; a call that takes a cell alone asks for them.
-#[derive(Clone, Copy, Debug, PartialEq, Eq)]
+#[derive(Clone, Copy, PartialEq, Eq)]
 pub struct RuleCell {
     pub pattern: u16,
     pub m: u64,
@@ -66,7 +66,7 @@ pub struct RuleCell {
 }
 
 /// The cells of a decision rule, each within its ranges.
-#[derive(Debug, Drop)]
+#[derive(Drop)]
 pub struct RuleTable {
     pub cells: Vec<RuleCell>,
     pub ghost in_range: { All IsWithinRanges cells.items },
@@ -113,7 +113,7 @@ pub struct Levels {
 
 /// A pair of records, by position, that may be linked, with its weight in eighths of a bit, its value,
 /// and whether it is a candidate by review.
-#[derive(Clone, Copy, Debug, PartialEq, Eq)]
+#[derive(Clone, Copy, PartialEq, Eq)]
 pub struct Candidate {
     pub a: u32,
     pub b: u32,

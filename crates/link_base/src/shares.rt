@@ -7,7 +7,7 @@ ghost use Rattle.link_limits.specs.declared.TheConstants.{MOST_FIELDS};
 /// in the order agree, disagree, missing, rare (Fellegi and Sunter 1969, section 2). Each of the four
 /// adds up to 1,024. The first three are at least 1; the last is at least 1 where agreement on a rare
 /// value is an outcome of its own, and else 0.
-#[derive(Clone, Copy, Debug)]
+#[derive(Clone, Copy)]
 pub struct FieldShares {
     pub rare: bool,
     pub m: [u16; 4],
@@ -18,7 +18,7 @@ pub struct FieldShares {
 
 /// How many fields a comparison pattern has, 1 to 6, and in which of them agreement on a rare value is
 /// an outcome of its own.
-#[derive(Clone, Copy, Debug, PartialEq, Eq)]
+#[derive(Clone, Copy, PartialEq, Eq)]
 pub struct Shape {
     pub fields: u8,
     pub rare: [bool; 6],

@@ -9,7 +9,7 @@ use std::alloc::Global;
 use std::marker::Model;
 
 /// A standard value of a field.
-#[derive(Debug, Drop)]
+#[derive(Drop)]
 pub enum Value {
     /// The value is missing.
     Absent,
@@ -20,7 +20,7 @@ pub enum Value {
 }
 
 /// A row of standard values, which contracts see as the list of them.
-#[derive(Debug, Drop)]
+#[derive(Drop)]
 pub struct StdRow {
     values: Vec<Value>,
 }

@@ -7,14 +7,14 @@ use std::alloc::Global;
 use std::marker::Model;
 
 /// A word, and the word that stands in its place. A word has 1 to 32 bytes of A to Z and 0 to 9.
-#[derive(Debug, Drop)]
+#[derive(Drop)]
 pub struct WordPair {
     pub from: Text,
     pub to: Text,
 }
 
 /// Pairs of words, which contracts see as the list of them. They rise strictly by the bytes of `from`.
-#[derive(Debug, Drop)]
+#[derive(Drop)]
 pub struct WordPairs {
     pairs: Vec<WordPair>,
 }
@@ -51,7 +51,7 @@ impl WordPairs {
 
 /// What standard values go by: marks of a missing value, titles and suffixes of names, and the words
 /// that are replaced in names and in places.
-#[derive(Debug, Drop)]
+#[derive(Drop)]
 pub struct Tables {
     pub missing: TextList,
     pub titles: TextList,

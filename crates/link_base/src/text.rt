@@ -23,7 +23,7 @@ impl<T: Drop> From<AllocFailed<T>> for NoMemory {
 }
 
 /// A text, which contracts see as the list of its bytes. It need not be UTF-8.
-#[derive(Debug, Drop)]
+#[derive(Drop)]
 pub struct Text {
     bytes: Vec<u8>,
 }
@@ -73,7 +73,7 @@ impl Text {
 }
 
 /// Texts, which contracts see as the list of them.
-#[derive(Debug, Drop)]
+#[derive(Drop)]
 pub struct TextList {
     texts: Vec<Text>,
 }

@@ -30,7 +30,7 @@ use settings::Plan;
 use std::alloc::Global;
 
 /// The five texts of a run: the compared pairs, the decision rule, the links, their dual prices, and the report.
-#[derive(Debug, Drop)]
+#[derive(Drop)]
 pub struct RunResult {
     pub pairs: Text,
     pub rule: Text,

@@ -21,7 +21,7 @@ use std::alloc::Global;
 use written_check::{Refutation, Written, verify_written, written_is_short, written_is_verified};
 
 /// Whether written files prove their links, and the line that says so: `yes`, or `no: ` and the first reason.
-#[derive(Debug, Drop)]
+#[derive(Drop)]
 pub struct Verification {
     pub proved: bool,
     pub line: Text,

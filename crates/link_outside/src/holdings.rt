@@ -7,14 +7,14 @@ use crate::outside::Load;
 use link_base::{NoMemory, Text};
 use std::alloc::Global;
 
-#[derive(Debug, Drop)]
+#[derive(Drop)]
 pub(crate) struct Entry {
     pub(crate) name: Text,
     pub(crate) bytes: Text,
 }
 
 // Entries, of which the first with a name counts.
-#[derive(Debug, Drop)]
+#[derive(Drop)]
 pub(crate) struct Holdings {
     pub(crate) entries: Vec<Entry>,
 }

@@ -12,7 +12,7 @@ use link_base::{Fault, FileRole, NoMemory};
 use std::alloc::Global;
 
 // The place that a fault names.
-#[derive(Clone, Copy, Debug)]
+#[derive(Clone, Copy)]
 pub(crate) enum Place {
     Nowhere,
     File(FileRole),

@@ -12,14 +12,14 @@ use std::marker::Model;
 
 /// A planned failure: the number of a call, from 1, loads and puts counted together. A failing put
 /// that is applied has written its bytes.
-#[derive(Clone, Copy, Debug, PartialEq, Eq)]
+#[derive(Clone, Copy, PartialEq, Eq)]
 pub struct Failure {
     pub call: u32,
     pub applied: bool,
 }
 
 /// A store in memory with planned failures. A load of a name that is not held fails too.
-#[derive(Debug, Drop)]
+#[derive(Drop)]
 pub struct MemoryStore {
     holdings: Holdings,
     plan: Vec<Failure>,

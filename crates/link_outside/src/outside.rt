@@ -37,7 +37,7 @@ pub enum SinkError {
 }
 
 /// A call of a store, a load or a put, with its name.
-#[derive(Debug, Drop)]
+#[derive(Drop)]
 pub struct StoreCall {
     pub put: bool,
     pub name: Text,
@@ -61,7 +61,7 @@ pub fn entry_of_call(
 }
 
 /// What a load gives.
-#[derive(Debug, Drop)]
+#[derive(Drop)]
 pub enum Load {
     /// All that the name holds.
     Whole(Text),

@@ -7,7 +7,7 @@ use link_base::{NoMemory, push_number};
 use std::alloc::Global;
 
 // A piece of a text: bytes, or a number in decimal.
-#[derive(Clone, Copy, Debug)]
+#[derive(Clone, Copy)]
 pub(crate) enum Piece<'a> {
     Nothing,
     Bytes(&'a [u8]),
@@ -15,7 +15,7 @@ pub(crate) enum Piece<'a> {
 }
 
 // Up to four pieces in a row.
-#[derive(Clone, Copy, Debug)]
+#[derive(Clone, Copy)]
 pub(crate) struct Phrase<'a> {
     pub(crate) pieces: [Piece<'a>; 4],
 }

@@ -10,7 +10,7 @@ use std::alloc::Global;
 use std::marker::Model;
 
 /// A store in memory that holds every name. One that was never put holds no bytes.
-#[derive(Debug, Drop)]
+#[derive(Drop)]
 pub struct SureStore {
     holdings: Holdings,
 }
@@ -77,7 +77,7 @@ impl Store for SureStore {
 }
 
 /// A sink in memory that takes all.
-#[derive(Debug, Drop)]
+#[derive(Drop)]
 pub struct SureSink {
     bytes: Vec<u8>,
 }

@@ -9,7 +9,7 @@ use std::alloc::Global;
 
 /// A compared pair: the positions of its records, its comparison pattern, its weight in eighths of a bit, the decision of the
 /// rule, and the verdict of clerical review, where there is one.
-#[derive(Clone, Copy, Debug)]
+#[derive(Clone, Copy)]
 pub struct PairRow {
     pub at: PairAt,
     pub pattern: u16,

@@ -104,7 +104,7 @@ fn push_pair(
 
 /// A writer of the text of the compared pairs, row by row. Contracts see which of its fields may be rare, its text so far, and
 /// the pair that was written last.
-#[derive(Debug, Drop)]
+#[derive(Drop)]
 pub struct PairsWriter {
     shape: Shape,
     // The letters of each comparison pattern.

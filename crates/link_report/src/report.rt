@@ -10,7 +10,7 @@ use link_base::{Levels, NoMemory, PairAt, StdFile, Text};
 use std::alloc::Global;
 
 /// A candidate that is not among the links: for a conflict with links, or for its weight where its value is at most 0.
-#[derive(Clone, Copy, Debug)]
+#[derive(Clone, Copy)]
 pub struct Dropped {
     pub at: PairAt,
     pub conflict: bool,
@@ -20,7 +20,7 @@ pub struct Dropped {
 /// decision, the possible links that are open, the entries of the journal and how many of them are on no possible link, the
 /// attained levels, the links with the sum of their values in eighths of a bit, and the candidates that are not among them,
 /// rising by position.
-#[derive(Debug, Drop)]
+#[derive(Drop)]
 pub struct Report {
     pub unreadable_a: u32,
     pub unreadable_b: u32,

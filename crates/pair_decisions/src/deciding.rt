@@ -23,7 +23,7 @@ use value_pool::Pool;
 
 /// The decisions of a rule on all compared pairs of two files. Contracts see the rule, how many pairs were compared, and the
 /// rising lists of the pairs that are links and possible links.
-#[derive(Debug, Drop)]
+#[derive(Drop)]
 pub struct Decided {
     rule: PairRule,
     compared: u32,

@@ -19,7 +19,7 @@ use std::marker::Model;
 
 /// The decision rule of a plan over the sides of two files. Contracts see its comparators, the cells
 /// of its filled table, and the seed of its border words.
-#[derive(Debug, Drop)]
+#[derive(Drop)]
 pub struct PairRule {
     comparators: Vec<FieldById>,
     table: RuleTable,

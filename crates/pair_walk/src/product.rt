@@ -14,7 +14,7 @@ use std::marker::Model;
 use value_pool::Pool;
 
 /// The compared pairs, rising, which contracts see as the list of them.
-#[derive(Debug, Drop)]
+#[derive(Drop)]
 pub struct Pairs {
     pairs: Vec<PairAt>,
 }

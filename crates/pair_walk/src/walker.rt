@@ -13,7 +13,7 @@ use std::marker::Model;
 use value_pool::Pool;
 
 /// The pairs of a row of A: its position, and the rising list of the positions of B, which may be empty.
-#[derive(Debug, Drop)]
+#[derive(Drop)]
 pub struct RowPairs {
     pub a: u32,
     pub bs: Vec<u32>,

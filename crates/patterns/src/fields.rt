@@ -15,7 +15,7 @@ use std::alloc::Global;
 use std::marker::Model;
 
 /// From 1 to `MOST_FIELDS` fields, which contracts see as the list of their kinds.
-#[derive(Debug, Drop)]
+#[derive(Drop)]
 pub struct Fields {
     kinds: Vec<FieldKind>,
 }

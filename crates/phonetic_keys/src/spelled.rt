@@ -7,7 +7,7 @@ ghost use Rattle.phonetic_keys.specs.Window.{KeepsKey};
 use std::marker::Model;
 
 /// A NYSIIS key, which contracts see as the list of its one to six letters A to Z.
-#[derive(Debug, Drop)]
+#[derive(Drop)]
 pub struct Nysiis {
     letters: [u8; 8],
     count: usize,

@@ -5,7 +5,7 @@ use link_base::Verdict;
 use std::marker::Model;
 
 /// A new verdict on the pair at two positions.
-#[derive(Clone, Copy, Debug, PartialEq, Eq)]
+#[derive(Clone, Copy, PartialEq, Eq)]
 pub struct NewVerdict {
     pub a: u32,
     pub b: u32,
@@ -13,7 +13,7 @@ pub struct NewVerdict {
 }
 
 /// New verdicts in order, which contracts see as the list of them.
-#[derive(Debug, Drop)]
+#[derive(Drop)]
 pub struct Verdicts {
     rows: Vec<NewVerdict>,
 }

@@ -21,7 +21,7 @@ use std::alloc::Global;
 use std::marker::Model;
 
 /// A journal of clerical review, which contracts see as the list of its entries.
-#[derive(Debug, Drop)]
+#[derive(Drop)]
 pub struct Journal {
     entries: Vec<Entry>,
     // Where the last entry on each pair stands.

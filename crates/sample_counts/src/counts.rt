@@ -10,7 +10,7 @@ use pattern_shapes::outcome_of;
 use std::marker::Model;
 
 /// A reviewed pair: whether it is matched, and its comparison pattern.
-#[derive(Clone, Copy, Debug)]
+#[derive(Clone, Copy)]
 pub struct Judged {
     pub(crate) matched: bool,
     pub(crate) pattern: u16,
@@ -18,7 +18,7 @@ pub struct Judged {
 
 /// The counts of the outcomes of each field among the matched and the unmatched pairs of a sample. Contracts see it as
 /// which fields may be rare, and the pairs with their statuses and comparison patterns.
-#[derive(Debug, Drop)]
+#[derive(Drop)]
 pub struct Counts {
     shape: Shape,
     rows: Vec<Judged>,
@@ -60,7 +60,7 @@ fn digit_at(shape: &Shape, row: &Judged, field: u8, matched: bool) -> Option<usi
 }
 
 /// How many pairs have each outcome.
-#[derive(Clone, Copy, Debug)]
+#[derive(Clone, Copy)]
 pub(crate) struct Tally {
     pub(crate) agree: u64,
     pub(crate) disagree: u64,

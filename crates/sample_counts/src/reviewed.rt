@@ -15,7 +15,7 @@ use link_limits::MOST_ROWS;
 use std::alloc::Global;
 
 /// A reviewed pair: the positions of its records in A and in B, and whether it is matched.
-#[derive(Clone, Copy, Debug)]
+#[derive(Clone, Copy)]
 pub struct Reviewed {
     pub(crate) a: u32,
     pub(crate) b: u32,

@@ -9,7 +9,7 @@ use std::marker::Model;
 
 /// What the settings say of a field. Contracts see the values of its keys, with plain shares. A rare
 /// number is from 2 to 200,000; shares are given where the settings name no sample.
-#[derive(Debug, Drop)]
+#[derive(Drop)]
 pub struct FieldPlan {
     pub name: Text,
     pub column_a: Text,
@@ -44,7 +44,7 @@ impl FieldPlan {
 }
 
 /// One to six fields, which contracts see as the list of them.
-#[derive(Debug, Drop)]
+#[derive(Drop)]
 pub struct FieldList {
     fields: Vec<FieldPlan>,
 }
@@ -82,7 +82,7 @@ impl FieldList {
 }
 
 /// What the settings say of a run. Levels are in millionths.
-#[derive(Debug, Drop)]
+#[derive(Drop)]
 pub struct Plan {
     pub file_a: Text,
     pub file_b: Text,

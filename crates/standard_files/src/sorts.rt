@@ -5,7 +5,7 @@ ghost use Rattle.standard_files.specs.Values.{sort_in_a, sort_in_b};
 use link_base::{DateForm, FieldSort};
 
 /// What a field of one file holds: a name, a place, or a date in one form.
-#[derive(Clone, Copy, Debug, PartialEq, Eq)]
+#[derive(Clone, Copy, PartialEq, Eq)]
 pub enum TextSort {
     Name,
     Place,

@@ -7,7 +7,7 @@ use link_base::DateForm;
 use value_forms::read_date;
 
 /// What a text is as a date.
-#[derive(Clone, Copy, Debug, PartialEq, Eq)]
+#[derive(Clone, Copy, PartialEq, Eq)]
 pub enum DateRead {
     /// A mark of a missing value.
     Absent,

@@ -12,7 +12,7 @@ use std::alloc::Global;
 use std::marker::Model;
 
 /// The marks of a missing value and the words of places.
-#[derive(Debug, Drop)]
+#[derive(Drop)]
 pub struct PlaceTables {
     marks: WordSet,
     words: WordPairs,
@@ -53,7 +53,7 @@ impl PlaceTables {
 }
 
 /// The marks of a missing value, the titles, the suffixes and the words of names.
-#[derive(Debug, Drop)]
+#[derive(Drop)]
 pub struct NameTables {
     marks: WordSet,
     titles: WordSet,

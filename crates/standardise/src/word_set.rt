@@ -11,7 +11,7 @@ use std::marker::Model;
 
 /// Texts, which contracts see as the list of them. They are held a second time in the order of their
 /// bytes, for the search, and none is longer than `longest` bytes.
-#[derive(Debug, Drop)]
+#[derive(Drop)]
 pub(crate) struct WordSet {
     texts: Vec<Text>,
     ordered: Vec<Text>,

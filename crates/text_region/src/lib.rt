@@ -12,7 +12,7 @@ use std::marker::Model;
 mod tests;
 
 /// Texts in one region of bytes, which contracts see as the list of them. No text has memory of its own.
-#[derive(Debug, Drop)]
+#[derive(Drop)]
 pub struct TextRegion {
     bytes: Vec<u8>,
     // Where each text ends among the bytes; it begins where the one before it ends.

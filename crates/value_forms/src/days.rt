@@ -7,7 +7,7 @@ ghost use Rattle.value_forms.specs.Days.{civil_day, four_of, IsDayText, iso_day,
 use jiff_core::civil::Date;
 
 /// A date of the years 0001 to 9999, in the calendar of ISO 8601.
-#[derive(Clone, Copy, Debug, PartialEq, Eq)]
+#[derive(Clone, Copy, PartialEq, Eq)]
 pub struct Civil {
     /// 1 to 9999.
     pub year: u16,

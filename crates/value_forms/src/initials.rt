@@ -21,7 +21,7 @@ fn is_first(starts: bool, follows: bool, byte: u8) -> bool
 }
 
 // The initials of a text that are left, which contracts see as the list of their bytes.
-#[derive(Debug, Drop)]
+#[derive(Drop)]
 struct Initials<'a> {
     text: &'a [u8],
     at: usize,

@@ -20,7 +20,7 @@ pub enum PoolFault {
 
 /// Distinct texts, a limit of the sum of their lengths in bytes, and spare room for texts and for bytes. Contracts see it
 /// as the list of the texts with these numbers.
-#[derive(Debug, Drop)]
+#[derive(Drop)]
 pub struct Pool {
     table: Table,
     limit: u64,

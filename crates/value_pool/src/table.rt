@@ -20,7 +20,7 @@ const FIRST_BUCKETS: usize = 1024;
 const LONG_SEARCH: u32 = 32;
 
 /// Texts one after the other, and the chains of the buckets of their hashes.
-#[derive(Debug, Drop)]
+#[derive(Drop)]
 pub(crate) struct Table {
     pub(crate) bytes: Vec<u8>,
     pub(crate) slots: Vec<Slot>,
@@ -32,7 +32,7 @@ pub(crate) struct Table {
 }
 
 /// What a search for a text gives.
-#[derive(Clone, Copy, Debug, PartialEq, Eq)]
+#[derive(Clone, Copy, PartialEq, Eq)]
 pub(crate) struct Search {
     /// The place of the text, where it is held.
     pub(crate) place: Option<u32>,

@@ -11,7 +11,7 @@ use link_base::{NoMemory, Text};
 use std::alloc::Global;
 
 /// A made input: the texts of its settings, of its two files and of its sample.
-#[derive(Debug, Drop)]
+#[derive(Drop)]
 pub struct MadeInput {
     pub settings: Text,
     pub a: Text,

@@ -5,7 +5,7 @@ ghost use Rattle.link_limits.specs.declared.TheConstants.{MOST_ROWS};
 ghost use Rattle.workload.specs.People.{changed, person};
 
 /// A made person: the numbers of the surname and of the given name, and the day of birth, where it is given.
-#[derive(Clone, Copy, Debug)]
+#[derive(Clone, Copy)]
 pub struct Person {
     pub surname: u16,
     pub given: u8,

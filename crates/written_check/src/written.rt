@@ -18,7 +18,7 @@ use link_base::{Candidate, RuleTable, Shape, StdFile, Text};
 use std::alloc::Global;
 
 /// The texts of `rule.csv`, `links.csv` and `prices.csv` as they are held.
-#[derive(Debug, Drop)]
+#[derive(Drop)]
 pub struct Written {
     pub rule: Text,
     pub links: Text,
