@@ -6,7 +6,7 @@ use Rattle.assignment_laws.specs.Assignment.{IsBefore, greatest_value}
 use Rattle.assignment.specs.declared.assigner.Assigner.TheInside.{Inside}
 use Rattle.assignment_steps.specs.Market.{IsRising, IsInRange, AreSmall, AreStarts}
 use Rattle.assignment.specs.Sides.{IsOther, IsSide}
-use Rattle.candidate_parts.specs.Parts.{ArePartNumbers}
+use Rattle.assignment_laws.specs.PartNumbers.{ArePartNumbers}
 use Rattle.assignment.specs.Final.{edges_of}
 
 -- all is ready for the first step

@@ -1,7 +1,7 @@
 // The assigner and its answer.
 ghost use Rattle.std.specs.Prelude.{◌≡◌, ◌+◌, ◌<◌, ◌≤◌, ◌^◌, ℕ, length, List, All, AllPairs, IfOk, slice_index, ℤ, pos, ◌≤ℤ◌};
 ghost use Rattle.assignment_laws.specs.Assignment.{IsBefore, IsWithin, IsGreatest, Certifies, greatest_value, price_of};
-ghost use Rattle.candidate_parts.specs.Parts.{ArePartNumbers};
+ghost use Rattle.assignment_laws.specs.PartNumbers.{ArePartNumbers};
 ghost use Rattle.assignment.specs.Solution.{HasSmallValue};
 ghost use Rattle.assignment_steps.specs.Market.{IsRising, AreSmall, AreStarts, IsBoard};
 ghost use Rattle.assignment_steps.specs.Survey.{HasRoom};
@@ -10,9 +10,8 @@ ghost use Rattle.assignment_steps.specs.Between.{IsBetween};
 
 use crate::side::{Other, Side, first_side, other_if_less, run, run_other};
 use crate::solve::{edges_of, first_prices, linked};
-use assignment_laws::certified_is_greatest;
+use assignment_laws::{PartNumbers, certified_is_greatest, part_numbers};
 use assignment_steps::{Board, Edge, starts_of, starts_or_zeros, turned_edges};
-use candidate_parts::{PartNumbers, part_numbers};
 use link_base::{Candidate, NoMemory};
 use link_limits::MOST_PAIRS;
 use std::alloc::Global;

@@ -4,3 +4,6 @@ pub mod Rising
 pub mod Members
 pub mod Bounds
 pub mod Places
+pub mod Tops
+pub mod Chains
+pub mod Numbers

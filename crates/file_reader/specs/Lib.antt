@@ -6,3 +6,4 @@ pub mod Header
 pub mod Faults
 pub mod Ids
 pub mod Steps
+pub mod Region

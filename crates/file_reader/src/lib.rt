@@ -7,6 +7,7 @@ mod ids;
 mod known;
 mod laws;
 mod layout;
+mod region;
 mod rows;
 mod table;
 

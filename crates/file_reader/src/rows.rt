@@ -13,13 +13,13 @@ use crate::fields::{field_of, is_text};
 use crate::header::{find_columns, needed_names, test_header};
 use crate::ids::Ids;
 use crate::layout::{Column, Head, Layout};
+use crate::region::TextRegion;
 use crate::table::Table;
 use csv::ByteRecord;
 use csv_records::Records;
 use link_base::{Fault, FileRole, NoMemory};
 use link_limits::MOST_FIELD_BYTES;
 use std::alloc::Global;
-use text_region::TextRegion;
 
 fn first_not_text<'c>(columns: &'c [Column], row: &ByteRecord) -> Option<&'c Column>
     ensures { option_copied result ≡ find (λ c. not (is_utf8 (cell (fields_of row.now) c))) columns.now }

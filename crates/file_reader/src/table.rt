@@ -2,8 +2,8 @@
 ghost use Rattle.std.specs.Prelude.{◌≡◌, ◌<◌, ◌≤◌, ◌*◌, [], IsTrue, length, slice_index_or};
 ghost use Rattle.file_reader.specs.Rows.{no_row, rows_in, skipped, table_rows};
 
+use crate::region::TextRegion;
 use std::marker::Model;
-use text_region::TextRegion;
 
 /// The needed columns of a file, which contracts see as the list of its rows, each with its id and its
 /// other fields. A row's position is its number from 0.

@@ -1,4 +1,4 @@
-use share_counts::{shares, shares4};
+use sample_counts::{shares, shares4};
 
 #[test]
 fn shares_by_largest_remainders(rt: HostRuntime) {

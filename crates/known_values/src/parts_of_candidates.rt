@@ -2,7 +2,7 @@
 ghost use Rattle.std.specs.Prelude.{All, IsTrue, ◌<◌};
 
 use assignment_laws::are_rising;
-use candidate_parts::part_numbers;
+use assignment_laws::part_numbers;
 use link_base::{Candidate, NoMemory};
 use std::alloc::Global;
 

@@ -9,8 +9,7 @@ ghost use Rattle.settings.specs.Ranges.{KeepsRanges};
 
 use crate::preparing::Prepared;
 use crate::results::candidates;
-use capacity_files::{Capacities, read_capacities};
-use capacity_links::choose_within;
+use capacity_links::{Capacities, choose_within, read_capacities};
 use link_base::{Fault, NoMemory, Text};
 use link_report::{links_text, prices_text};
 use pair_decisions::Decided;

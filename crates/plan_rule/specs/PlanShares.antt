@@ -12,7 +12,7 @@ use Rattle.sample_counts.specs.Counts.{CountsState, count_of, counts_by}
 use Rattle.sample_counts.specs.Sample.{sample_of}
 use Rattle.sample_counts.specs.declared.reviewed.Reviewed.{Reviewed}
 use Rattle.settings.specs.Plan.{FieldKeys, PlainShares, plain_shares}
-use Rattle.share_counts.specs.Remainders.{share_of}
+use Rattle.sample_counts.specs.Remainders.{share_of}
 use Rattle.plan_rule.specs.Comparators.{SideComparator, comparators_of}
 
 abbrev pub plain_all : List FieldShares → List PlainShares

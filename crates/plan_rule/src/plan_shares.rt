@@ -13,9 +13,8 @@ use crate::comparisons::comparisons_of;
 use comparators::IdTable;
 use link_base::{Fault, FieldShares, NoMemory, StdFile};
 use link_limits::{MOST_FIELDS, MOST_ROWS};
-use sample_counts::{Counts, count_sample_over};
+use sample_counts::{Counts, count_sample_over, shares, shares4};
 use settings::Plan;
-use share_counts::{shares, shares4};
 use std::alloc::Global;
 
 /// The shares that the settings of a plan without a sample give, one for each field.

@@ -1,3 +1,5 @@
 pub mod CountLemmas
 pub mod OutcomeLemmas
 pub mod SampleLemmas
+pub mod RankFour
+pub mod RemainderLemmas

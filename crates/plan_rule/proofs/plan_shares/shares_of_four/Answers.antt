@@ -1,6 +1,6 @@
 use Rattle.std.proofs.Common.{ap, ◌∙◌, map, rules}
 use Rattle.std.specs.List.{range_with_len}
-use Rattle.share_counts.specs.Remainders.{share_of}
+use Rattle.sample_counts.specs.Remainders.{share_of}
 use Rattle.sample_counts.specs.Counts.{count_of}
 use Rattle.plan_rule.proofs.ListSteps.{known_by}
 use Rattle.plan_rule.proofs.plan_shares.shares_of_four.Goals as goal

@@ -1,2 +1,0 @@
-pub mod RankFour
-pub mod RemainderLemmas

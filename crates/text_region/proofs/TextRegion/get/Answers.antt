@@ -1,8 +1,0 @@
-use Rattle.std.proofs.Common.{arith}
-use Rattle.text_region.proofs.RegionFacts.{length_texts}
-use Rattle.text_region.proofs.TextRegion.get.Goals as goal
-
-pub text_in-requires-clause-within : goal.text_in-requires-clause-within
-text_in-requires-clause-within c =
-    let within = rw (← c.self.view_is, length_texts c.self.inside.bytes.items 0 c.self.inside.ends.items) at c.requires in
-    rw c.deref-2.ensures.value within
