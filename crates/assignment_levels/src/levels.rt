@@ -63,9 +63,26 @@ fn bits_of(edges: &[Edge]) -> u32 {
     32u32.saturating_sub(greatest.leading_zeros())
 }
 
-/// How many of so many rows may still wait at a level: none at the last.
-fn most_left(rows: u32, shift: u32) -> u32 {
-    if shift == 0 { 0 } else { rows / 32 }
+/// How many rows have edges, which begin at these places.
+fn rows_with_edges(starts: &[usize]) -> u32 {
+    let mut count = 0u32;
+    let mut start = 0usize;
+    for end in starts {
+        if *end > start {
+            count = count.saturating_add(1);
+        }
+        start = *end;
+    }
+    count
+}
+
+/// How many of the rows with edges may still wait at a level: none at the last.
+fn most_left(starts: &[usize], shift: u32) -> u32 {
+    if shift == 0 {
+        0
+    } else {
+        rows_with_edges(starts) / 32
+    }
 }
 
 impl Levels {
@@ -112,7 +129,7 @@ impl Levels {
         cover(level, &mut self.own, &self.other);
         cover(turned(level), &mut self.other, &self.own);
         part_loose(level, &mut self.own, &mut self.other);
-        let most = most_left(self.own.rows, level.shift);
+        let most = most_left(level.board.starts, level.shift);
         begin(level, &mut self.own, &mut self.other, &mut self.room);
         run_rounds(
             level,
@@ -122,7 +139,7 @@ impl Levels {
             most,
             true,
         );
-        let most = most_left(self.other.rows, level.shift);
+        let most = most_left(level.board.turned_starts, level.shift);
         let level = turned(level);
         begin(level, &mut self.other, &mut self.own, &mut self.room);
         run_rounds(
