@@ -14,7 +14,5 @@ mod rounds;
 mod rows;
 mod search;
 mod side;
-#[cfg(test)]
-mod tests;
 
 pub use levels::Levels;

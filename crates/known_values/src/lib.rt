@@ -49,6 +49,8 @@ mod parts_of_candidates;
 #[cfg(test)]
 mod pooled_texts;
 #[cfg(test)]
+mod proposed_links;
+#[cfg(test)]
 mod quoted_fields;
 #[cfg(test)]
 mod reviewed_pairs;

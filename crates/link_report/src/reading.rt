@@ -1,5 +1,5 @@
 // The rows of written files, read again.
-ghost use Rattle.std.specs.Prelude.{◌≡◌, ◌<◌, ◌+◌, ◌^◌, [], Bool, IfOk, List, Ok, length, map, slice_index_or, ℤ};
+ghost use Rattle.std.specs.Prelude.{◌≡◌, ◌<◌, ◌≤◌, ◌+◌, ◌^◌, [], Bool, IfOk, List, Ok, length, map, slice_index_or, ℤ};
 ghost use Rattle.csv.specs.Records.{fields_of};
 ghost use Rattle.csv_records.specs.Left.{records_in};
 ghost use Rattle.link_base.specs.Standard.{Record};
@@ -7,7 +7,7 @@ ghost use Rattle.link_base.specs.declared.rule.Candidate.{Candidate as Link};
 ghost use Rattle.link_base.specs.declared.rule.RuleCell.{RuleCell as Cell};
 ghost use Rattle.link_report.specs.LinksText.{link_fields, links_header, text_of_links};
 ghost use Rattle.link_report.specs.PricesText.{prices_header, text_of_prices};
-ghost use Rattle.link_report.specs.Reading.{HasFewRows, first_misfit, rows_of_prices, rows_under, same_row, shown_rows};
+ghost use Rattle.link_report.specs.Reading.{HasFewRows, first_misfit, misfit_under, past_first, rows_of_prices, rows_under, same_row, shown_rows};
 ghost use Rattle.link_report.specs.RuleText.{cell_fields, rule_header, text_of_rule};
 
 use csv::ByteRecord;
@@ -66,27 +66,51 @@ fn misfit_in(alloc: Global, rows: &mut Records<'_>, width: usize) -> Result<Opti
     Ok(None)
 }
 
+// The first record that is not of the form under a header, by its number.
+fn misfit_under(
+    alloc: Global,
+    records: &mut Records<'_>,
+    header: &[&[u8]],
+) -> Result<Option<u32>, NoMemory>
+    requires few { length records.old < 2 ^ 32 }
+    ensures { IfOk result (λ misfit. misfit ≡ misfit_under (map (λ name. name.now) header.now) records.old) }
+{
+    let mut row = ByteRecord::new(alloc);
+    if !records.next(&mut row)? {
+        return Ok(Some(0));
+    }
+    if !has_fields(&row, header) {
+        return Ok(Some(0));
+    }
+    misfit_in(alloc, records, header.len())
+}
+
+// The rows after the first record.
+fn rows_past_first(alloc: Global, bytes: &[u8]) -> Result<Records<'_>, NoMemory>
+    requires { 1 ≤ length (records_in 44 bytes.now) }
+    ensures { IfOk result (λ rows. rows ≡ past_first (records_in 44 bytes.now)) }
+{
+    let mut row = ByteRecord::new(alloc);
+    let mut rows = Records::new(alloc, bytes, b',');
+    if !rows.next(&mut row)? {
+        unreachable!();
+    }
+    Ok(rows)
+}
+
 // The rows under a header. They are read twice, once for their form and then one by one, so that none is held.
 fn read_rows<'a>(alloc: Global, bytes: &'a [u8], header: &[&[u8]]) -> Result<ReadRows<'a>, NoMemory>
     requires { length bytes.now + 1 < 2 ^ 32 }
     ensures rows { IfOk result (λ read. shown_rows read ≡ rows_under (map (λ name. name.now) header.now) (records_in 44 bytes.now)) }
     ensures few { IfOk result HasFewRows }
 {
-    let mut row = ByteRecord::new(alloc);
     let mut tested = Records::new(alloc, bytes, b',');
-    let mut rows = Records::new(alloc, bytes, b',');
-    if !tested.next(&mut row)? {
-        return Ok(ReadRows::Bad { row: 0 });
-    }
-    if !has_fields(&row, header) {
-        return Ok(ReadRows::Bad { row: 0 });
-    }
-    if let Some(row) = misfit_in(alloc, &mut tested, header.len())? {
+    let misfit = misfit_under(alloc, &mut tested, header);
+    drop(tested);
+    if let Some(row) = misfit? {
         return Ok(ReadRows::Bad { row });
     }
-    if !rows.next(&mut row)? {
-        unreachable!();
-    }
+    let rows = rows_past_first(alloc, bytes)?;
     Ok(ReadRows::Rows(rows))
 }
 

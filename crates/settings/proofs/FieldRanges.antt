@@ -16,9 +16,11 @@ use Rattle.settings_readers.specs.Lists.{on_table}
 use Rattle.settings_readers.proofs.Kept.{array_keeps, choice_keeps, defaulted_keeps, in_range_ok, IsWithin, needed_keeps, ok_same, on_table_keeps, optional_keeps, Reads, then_ok, whole_keeps}
 use Rattle.settings.specs.Plan.{FieldKeys, PlainShares}
 use Rattle.settings.specs.Words.{compare_named, field_keys, kind_named, is_one_of}
-use Rattle.settings.specs.Field.{sort_of, compare_by, may_be_rare, rare_number, new_name, shares, given_shares, no_shares, field_shares, field, fields}
-use Rattle.settings.specs.Ranges.{AreShares, HaveDistinctNames, IsField, IsFieldName, IsLabel, IsRareNumber}
+use Rattle.settings.specs.Field.{name_keys, compare_keys, sort_of, compare_by, may_be_rare, rare_number, new_name, shares, given_shares, no_shares, field_shares, field, fields}
+use Rattle.settings.specs.Ranges.{AreShares, has_comparison, HaveDistinctNames, IsField, IsFieldName, IsLabel, IsRareNumber}
 use Rattle.settings.specs.Values.{text}
+use Rattle.settings.specs.declared.fields.CompareKeys.{CompareKeys}
+use Rattle.settings.specs.declared.fields.NameKeys.{NameKeys}
 use Rattle.settings.specs.declared.limits.TheConstants.{LEAST_RARE, MOST_RARE}
 use Rattle.settings.specs.declared.texts.TextRule.TheVariants as rule
 use Rattle.settings.proofs.GivenShares.{given_are}
@@ -98,37 +100,68 @@ new_name_is before t above x e =
 abbrev IsNext : Bool → List FieldKeys → FieldKeys → Type 0
 IsNext sampled before x = (IsField sampled x) × IsNew before x.name
 
-field_is : (sampled : Bool) (before : List FieldKeys) (t : Members) (above : List ℕ) (x : FieldKeys) → field sampled before t above ≡ Ok x → IsNext sampled before x
-unfolding field
-field_is sampled before t above x e =
-    let listed = then_ok (known (is_one_of field_keys) t above) _ x e in
-    let name = then_ok (new_name before t above) _ x listed.2 in
+record AreNameKeys (before : List FieldKeys) (x : NameKeys) : Type 0 where
+  name : IsFieldName x.name
+  column_a : IsLabel x.column_a
+  column_b : IsLabel x.column_b
+  is_new : IsNew before x.name
+
+name_keys_are : (before : List FieldKeys) (t : Members) (above : List ℕ) (x : NameKeys) → name_keys before t above ≡ Ok x → AreNameKeys before x
+unfolding name_keys
+name_keys_are before t above x e =
+    let name = then_ok (new_name before t above) _ x e in
     let column_a = then_ok (defaulted (text rule.Label) name.0 t above (codes "column_a")) _ x name.2 in
     let column_b = then_ok (defaulted (text rule.Label) name.0 t above (codes "column_b")) _ x column_a.2 in
-    let k = then_ok (needed (choice kind_named) t above (codes "kind")) _ x column_b.2 in
+    let same : record { name = name.0; column_a = column_a.0; column_b = column_b.0 } ≡ x = ok_same _ x column_b.2 in
+    let named = new_name_is before t above name.0 name.1 in
+    let label = name_as_label name.0 named.0 in
+    rw (← same) (record {
+      name = named.0;
+      column_a = defaulted_keeps IsLabel (text rule.Label) label_keeps name.0 label t above (codes "column_a") column_a.0 column_a.1;
+      column_b = defaulted_keeps IsLabel (text rule.Label) label_keeps name.0 label t above (codes "column_b") column_b.0 column_b.1;
+      is_new = named.1;
+    })
+
+record AreCompareKeys (x : CompareKeys) : Type 0 where
+  compare : has_comparison x.sort x.compare ≡ true
+  rare : IfSome x.rare (IsRareNumber x.compare)
+
+compare_keys_are : (t : Members) (above : List ℕ) (x : CompareKeys) → compare_keys t above ≡ Ok x → AreCompareKeys x
+unfolding compare_keys
+compare_keys_are t above x e =
+    let k = then_ok (needed (choice kind_named) t above (codes "kind")) _ x e in
     let s = then_ok (sort_of k.0 t above) _ x k.2 in
     let w = then_ok (needed (choice (compare_named k.0)) t above (codes "compare")) _ x s.2 in
     let c = then_ok (compare_by w.0 t above) _ x w.2 in
     let r = then_ok (rare_number c.0 t above) _ x c.2 in
-    let u = then_ok (field_shares sampled (is_some r.0) t above) _ x r.2 in
-    let same : record { name = name.0; column_a = column_a.0; column_b = column_b.0; sort = s.0; compare = c.0; rare = r.0; shares = u.0 } ≡ x = ok_same _ x u.2 in
-    let named = new_name_is before t above name.0 name.1 in
-    let label = name_as_label name.0 named.0 in
+    let same : record { sort = s.0; compare = c.0; rare = r.0 } ≡ x = ok_same _ x r.2 in
     let word_suits = needed_keeps (Suits (is_date_kind k.0)) (choice (compare_named k.0)) (choice_keeps (Suits (is_date_kind k.0)) (compare_named k.0) (compare_suits k.0)) t above (codes "compare") w.0 w.1 in
     let date = sort_is k.0 t above s.0 s.1 in
     let suited : suits (is_date s.0) w.0 ≡ true = rw date word_suits in
-    let shared = shares_are sampled (is_some r.0) t above u.0 u.1 in
+    rw (← same) (record { compare = compared s.0 w.0 suited t above c.0 c.1; rare = rare_is c.0 t above r.0 r.1 })
+
+field_is : (sampled : Bool) (before : List FieldKeys) (t : Members) (above : List ℕ) (x : FieldKeys) → field sampled before t above ≡ Ok x → IsNext sampled before x
+unfolding field
+field_is sampled before t above x e =
+    let listed = then_ok (known (is_one_of field_keys) t above) _ x e in
+    let n = then_ok (name_keys before t above) _ x listed.2 in
+    let c = then_ok (compare_keys t above) _ x n.2 in
+    let u = then_ok (field_shares sampled (is_some c.0.rare) t above) _ x c.2 in
+    let same : record { name = n.0.name; column_a = n.0.column_a; column_b = n.0.column_b; sort = c.0.sort; compare = c.0.compare; rare = c.0.rare; shares = u.0 } ≡ x = ok_same _ x u.2 in
+    let named = name_keys_are before t above n.0 n.1 in
+    let compares = compare_keys_are t above c.0 c.1 in
+    let shared = shares_are sampled (is_some c.0.rare) t above u.0 u.1 in
     rw (← same) (
       record {
-        name = named.0;
-        column_a = defaulted_keeps IsLabel (text rule.Label) label_keeps name.0 label t above (codes "column_a") column_a.0 column_a.1;
-        column_b = defaulted_keeps IsLabel (text rule.Label) label_keeps name.0 label t above (codes "column_b") column_b.0 column_b.1;
-        compare = compared s.0 w.0 suited t above c.0 c.1;
-        rare = rare_is c.0 t above r.0 r.1;
+        name = named.name;
+        column_a = named.column_a;
+        column_b = named.column_b;
+        compare = compares.compare;
+        rare = compares.rare;
         given = shared.0;
         shares = shared.1;
       },
-      named.1,
+      named.is_new,
     )
 
 -- fields of distinct names

@@ -18,7 +18,7 @@ use Rattle.settings.specs.Values.{fits, text}
 use Rattle.settings.specs.WordTables.{texts, word_pair, pairs, small_table, word_table, members_len}
 use Rattle.link_base.specs.Tables.{missing_marks, name_titles, name_suffixes}
 use Rattle.settings.specs.Words.{is_one_of, top_keys, kind_named, compare_named, key_named, delimiter_named}
-use Rattle.settings.specs.Field.{new_name, date_sort, plain_sort, sort_of, by_letters, by_days, by_years, plain_compare, compare_by, may_be_rare, rare_number, wholes, shares, given_shares, no_shares, field_shares, field, fields}
+use Rattle.settings.specs.Field.{new_name, name_keys, compare_keys, date_sort, plain_sort, sort_of, by_letters, by_days, by_years, plain_compare, compare_by, may_be_rare, rare_number, wholes, shares, given_shares, no_shares, field_shares, field, fields}
 use Rattle.settings.specs.Pass.{field_named, first_key, plain_key, key_by, part, parts, pass, passes}
 use Rattle.settings.specs.Settings.{file_keys, is_free, journal_of, sources, numbers, tables, plan_of}
 use Rattle.link_limits.specs.declared.TheConstants.{MOST_FIELDS, PER_MILLION}
@@ -119,19 +119,29 @@ field_shares_key : (sampled rare : Bool) (t : Members) (above : List ℕ) → Na
 field_shares_key true rare t above = no_shares_key t above
 field_shares_key false rare t above = given_shares_key rare t above
 
-field_key : (sampled : Bool) (before : List FieldKeys) (t : Members) (above : List ℕ) → NamesKey (field sampled before t above)
-unfolding field
-field_key sampled before t above =
-    then_key _ _ (known_key _ t above) (λ listed.
+name_keys_key : (before : List FieldKeys) (t : Members) (above : List ℕ) → NamesKey (name_keys before t above)
+unfolding name_keys
+name_keys_key before t above =
     then_key _ _ (new_name_key before t above) (λ name.
     then_key _ _ (defaulted_key (text rule.Label) name t above (codes "column_a") (text_key rule.Label)) (λ column_a.
-    then_key _ _ (defaulted_key (text rule.Label) name t above (codes "column_b") (text_key rule.Label)) (λ column_b.
+    then_key _ _ (defaulted_key (text rule.Label) name t above (codes "column_b") (text_key rule.Label)) (λ column_b. value_key _)))
+
+compare_keys_key : (t : Members) (above : List ℕ) → NamesKey (compare_keys t above)
+unfolding compare_keys
+compare_keys_key t above =
     then_key _ _ (needed_key (choice kind_named) t above (codes "kind") (choice_key kind_named)) (λ kind.
     then_key _ _ (sort_of_key kind t above) (λ sort.
     then_key _ _ (needed_key (choice (compare_named kind)) t above (codes "compare") (choice_key (compare_named kind))) (λ word.
     then_key _ _ (compare_by_key word t above) (λ compare.
-    then_key _ _ (rare_number_key compare t above) (λ rare.
-    then_key _ _ (field_shares_key sampled (is_some rare) t above) (λ shares. value_key _))))))))))
+    then_key _ _ (rare_number_key compare t above) (λ rare. value_key _)))))
+
+field_key : (sampled : Bool) (before : List FieldKeys) (t : Members) (above : List ℕ) → NamesKey (field sampled before t above)
+unfolding field
+field_key sampled before t above =
+    then_key _ _ (known_key _ t above) (λ listed.
+    then_key _ _ (name_keys_key before t above) (λ named.
+    then_key _ _ (compare_keys_key t above) (λ compared.
+    then_key _ _ (field_shares_key sampled (is_some compared.rare) t above) (λ shares. value_key _))))
 
 fields_key : (sampled : Bool) → ReadsKey (fields sampled)
 fields_key sampled at d = array_key 1 MOST_FIELDS (λ before. on_table (field sampled before)) (λ before. on_table_key (field sampled before) (field_key sampled before)) at d

@@ -1,4 +1,5 @@
 pub mod Documents
+pub mod InParts
 pub mod Sharing
 pub mod GivenShares
 pub mod TextRanges

@@ -18,6 +18,8 @@ use Rattle.settings_readers.specs.Lists.{array_of, on_table}
 use Rattle.settings.specs.Plan.{FieldKeys, PlainShares}
 use Rattle.settings.specs.Values.{text}
 use Rattle.settings.specs.Words.{is_one_of, field_keys, kind_named, form_named, compare_named}
+use Rattle.settings.specs.declared.fields.CompareKeys.{CompareKeys}
+use Rattle.settings.specs.declared.fields.NameKeys.{NameKeys}
 use Rattle.settings.specs.declared.limits.TheConstants.{LEAST_RARE, MOST_DAYS, MOST_LETTERS, MOST_RARE, MOST_YEARS}
 use Rattle.settings.specs.declared.texts.TextRule.TheVariants as rule
 use Rattle.settings.specs.declared.words.Kind.{Kind}
@@ -130,21 +132,32 @@ no_shares t above = do
 abbrev pub field_shares : Bool → Bool → Members → List ℕ → Result (Option PlainShares) Fault
 field_shares sampled rare t above = if sampled then no_shares t above else given_shares rare t above
 
--- a field, after those before it; sampled says that the settings name a sample, and a column has the
--- name of the field where its key is not there
-unfoldable pub field : Bool → List FieldKeys → Members → List ℕ → Result FieldKeys Fault
-field sampled before t above = do
-  listed ← known (is_one_of field_keys) t above
+-- the name of a field, after those before it, and its columns, which have that name where their keys are not there
+unfoldable pub name_keys : List FieldKeys → Members → List ℕ → Result NameKeys Fault
+name_keys before t above = do
   name ← new_name before t above
   column_a ← defaulted (text rule.Label) name t above (codes "column_a")
   column_b ← defaulted (text rule.Label) name t above (codes "column_b")
+  Ok (record { name = name; column_a = column_a; column_b = column_b })
+
+-- what a field holds, how it is compared, and its rare number
+unfoldable pub compare_keys : Members → List ℕ → Result CompareKeys Fault
+compare_keys t above = do
   kind ← needed (choice kind_named) t above (codes "kind")
   sort ← sort_of kind t above
   word ← needed (choice (compare_named kind)) t above (codes "compare")
   compare ← compare_by word t above
   rare ← rare_number compare t above
-  shares ← field_shares sampled (is_some rare) t above
-  Ok (record { name = name; column_a = column_a; column_b = column_b; sort = sort; compare = compare; rare = rare; shares = shares })
+  Ok (record { sort = sort; compare = compare; rare = rare })
+
+-- a field, after those before it; sampled says that the settings name a sample
+unfoldable pub field : Bool → List FieldKeys → Members → List ℕ → Result FieldKeys Fault
+field sampled before t above = do
+  listed ← known (is_one_of field_keys) t above
+  named ← name_keys before t above
+  compared ← compare_keys t above
+  shares ← field_shares sampled (is_some compared.rare) t above
+  Ok (record { name = named.name; column_a = named.column_a; column_b = named.column_b; sort = compared.sort; compare = compared.compare; rare = compared.rare; shares = shares })
 
 -- an array of fields
 abbrev pub fields : Bool → List ℕ → Data → Result (List FieldKeys) Fault

@@ -5,6 +5,7 @@ pub mod WordTables
 pub mod Field
 pub mod Pass
 pub mod Settings
+pub mod PlanParts
 pub mod Within
 pub mod Shape
 pub mod Ranges

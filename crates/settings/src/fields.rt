@@ -5,14 +5,17 @@ ghost use Rattle.std.specs.Str.{bytes_eq};
 ghost use Rattle.toml.specs.View.{table_view};
 ghost use Rattle.link_base.specs.Fault.{Gives, IsAnswer};
 ghost use Rattle.settings.specs.Plan.{plain_shares};
-ghost use Rattle.settings.specs.Field.{new_name, given_shares, no_shares, field_shares, field, fields};
+ghost use Rattle.settings_readers.specs.Parts.{defaulted};
+ghost use Rattle.settings.specs.Field.{new_name, name_keys, compare_keys, given_shares, no_shares, field_shares, field, fields};
+ghost use Rattle.settings.specs.Values.{text};
+ghost use Rattle.settings.specs.declared.texts.TextRule.TheVariants as rule;
 
 use crate::kinds::{compare_by, rare_number, sort_of};
 use crate::plan::{FieldList, FieldPlan};
 use crate::shares::Shares;
 use crate::texts::TextRule;
 use crate::words::Kinds;
-use link_base::{Fault, FieldShares, Text};
+use link_base::{CompareKind, Fault, FieldShares, FieldSort, Text};
 use link_limits::MOST_FIELDS;
 use settings_readers::{Choice, Items, Keys, Place, Reader, Row, Rows};
 use std::alloc::Global;
@@ -22,6 +25,22 @@ const FIELD_KEYS: [&str; 12] = [
     "name", "column_a", "column_b", "kind", "form_a", "form_b", "compare", "n", "t", "rare", "m",
     "u",
 ];
+
+/// The keys on the name of a field and its columns.
+#[derive(Drop)]
+pub(crate) struct NameKeys {
+    name: Text,
+    column_a: Text,
+    column_b: Text,
+}
+
+/// The keys on what a field holds and how it is compared.
+#[derive(Drop)]
+pub(crate) struct CompareKeys {
+    sort: FieldSort,
+    compare: CompareKind,
+    rare: Option<u32>,
+}
 
 fn is_taken(before: &[FieldPlan], name: &Text) -> bool
     ensures { result ≡ list_any (λ f. bytes_eq name.now f.name) before.now }
@@ -41,6 +60,43 @@ fn new_name(alloc: Global, before: &[FieldPlan], keys: &Keys) -> Result<Text, Fa
         });
     }
     Ok(name)
+}
+
+// The column at a key; it has the name of the field where the key is not there.
+fn column(alloc: Global, name: &Text, keys: &Keys, key: &str) -> Result<Text, Fault>
+    ensures { IsAnswer (defaulted (text rule.Label) name.now (table_view keys.now.table.now) keys.now.above.now key.now) result }
+{
+    keys.defaulted(alloc, &TextRule::Label, name.copy(alloc)?, key)
+}
+
+#[tactic(auto, unfolding(crate::specs::Field::name_keys))]
+fn name_keys(alloc: Global, before: &[FieldPlan], keys: &Keys) -> Result<NameKeys, Fault>
+    ensures { IsAnswer (name_keys before.now (table_view keys.now.table.now) keys.now.above.now) result }
+{
+    let name = new_name(alloc, before, keys)?;
+    let column_a = column(alloc, &name, keys, "column_a")?;
+    let column_b = column(alloc, &name, keys, "column_b")?;
+    Ok(NameKeys {
+        name,
+        column_a,
+        column_b,
+    })
+}
+
+#[tactic(auto, unfolding(crate::specs::Field::compare_keys))]
+fn compare_keys(alloc: Global, keys: &Keys) -> Result<CompareKeys, Fault>
+    ensures { IsAnswer (compare_keys (table_view keys.now.table.now) keys.now.above.now) result }
+{
+    let kind = keys.needed(alloc, &Choice(Kinds), "kind")?;
+    let sort = sort_of(alloc, kind, keys)?;
+    let word = keys.needed(alloc, &Choice(kind), "compare")?;
+    let compare = compare_by(alloc, word, keys)?;
+    let rare = rare_number(alloc, compare, keys)?;
+    Ok(CompareKeys {
+        sort,
+        compare,
+        rare,
+    })
 }
 
 #[tactic(auto, unfolding(crate::specs::Field::given_shares))]
@@ -86,23 +142,16 @@ fn field(
     ensures { IsAnswer (field sampled before.now (table_view keys.now.table.now) keys.now.above.now) result }
 {
     keys.known(alloc, &FIELD_KEYS)?;
-    let name = new_name(alloc, before, keys)?;
-    let label = TextRule::Label;
-    let column_a = keys.defaulted(alloc, &label, name.copy(alloc)?, "column_a")?;
-    let column_b = keys.defaulted(alloc, &label, name.copy(alloc)?, "column_b")?;
-    let kind = keys.needed(alloc, &Choice(Kinds), "kind")?;
-    let sort = sort_of(alloc, kind, keys)?;
-    let word = keys.needed(alloc, &Choice(kind), "compare")?;
-    let compare = compare_by(alloc, word, keys)?;
-    let rare = rare_number(alloc, compare, keys)?;
-    let shares = field_shares(alloc, sampled, rare.is_some(), keys)?;
+    let named = name_keys(alloc, before, keys)?;
+    let compared = compare_keys(alloc, keys)?;
+    let shares = field_shares(alloc, sampled, compared.rare.is_some(), keys)?;
     Ok(FieldPlan {
-        name,
-        column_a,
-        column_b,
-        sort,
-        compare,
-        rare,
+        name: named.name,
+        column_a: named.column_a,
+        column_b: named.column_b,
+        sort: compared.sort,
+        compare: compared.compare,
+        rare: compared.rare,
         shares,
     })
 }

@@ -5,7 +5,8 @@ ghost use Rattle.link_base.specs.declared.fault.Fault.TheVariants as fault;
 ghost use Rattle.link_base.specs.Fault.{IsAnswer};
 ghost use Rattle.link_base.specs.Tables.{AreWordPairs};
 ghost use Rattle.settings.specs.Words.{is_one_of};
-ghost use Rattle.settings.specs.Settings.{file_keys, is_free, journal_of, sources, numbers, tables, plan_from, plan_of, document, settings};
+ghost use Rattle.settings.specs.Settings.{file_keys, is_free, journal_of, sources, numbers, tables, plan_from, document, settings};
+ghost use Rattle.settings.specs.PlanParts.{link_keys, plan_in_parts};
 ghost use Rattle.settings.specs.Ranges.{IsSettingsFault, KeepsRanges, NamesFiles};
 
 use crate::fields::Fields;
@@ -72,6 +73,15 @@ pub(crate) struct NumberKeys {
     award: u32,
     strict: bool,
     double: bool,
+}
+
+/// The keys after the sources: on how the records are linked.
+#[derive(Drop)]
+pub(crate) struct LinkKeys {
+    numbers: NumberKeys,
+    tables: Tables,
+    fields: FieldList,
+    passes: PassList,
 }
 
 fn differs(name: &FileName, sample: &Option<FileName>) -> bool
@@ -257,21 +267,41 @@ fn plan_from(
     }
 }
 
-#[tactic(auto, unfolding(crate::specs::Settings::plan_of))]
+#[tactic(auto, unfolding(crate::specs::PlanParts::link_keys))]
+fn link_keys(alloc: Global, sampled: bool, keys: &Keys) -> Result<LinkKeys, Fault>
+    ensures gives { IsAnswer (link_keys sampled (table_view keys.now.table.now) keys.now.above.now) result }
+    ensures names { IfOk result (λ links. AreWordPairs links.tables.names) }
+    ensures places { IfOk result (λ links. AreWordPairs links.tables.places) }
+{
+    let numbers = numbers(alloc, keys)?;
+    let tables = tables(alloc, keys)?;
+    let fields = keys.needed(alloc, &Fields { sampled }, "field")?;
+    let passes = keys.needed(alloc, &Passes { fields: &fields }, "pass")?;
+    Ok(LinkKeys {
+        numbers,
+        tables,
+        fields,
+        passes,
+    })
+}
+
+#[tactic(auto, unfolding(crate::specs::PlanParts::plan_in_parts))]
 fn plan_of(alloc: Global, keys: &Keys) -> Result<Plan, Fault>
-    ensures gives { IsAnswer (plan_of (table_view keys.now.table.now) keys.now.above.now) result }
+    ensures gives { IsAnswer (plan_in_parts (table_view keys.now.table.now) keys.now.above.now) result }
     ensures files { IfOk result NamesFiles }
     ensures names { IfOk result (λ plan. AreWordPairs plan.tables.names) }
     ensures places { IfOk result (λ plan. AreWordPairs plan.tables.places) }
 {
     keys.known(alloc, &TOP_KEYS)?;
     let sources = sources(alloc, keys)?;
-    let numbers = numbers(alloc, keys)?;
-    let tables = tables(alloc, keys)?;
-    let sampled = sources.sample.is_some();
-    let fields = keys.needed(alloc, &Fields { sampled }, "field")?;
-    let passes = keys.needed(alloc, &Passes { fields: &fields }, "pass")?;
-    Ok(plan_from(sources, numbers, tables, fields, passes))
+    let links = link_keys(alloc, sources.sample.is_some(), keys)?;
+    Ok(plan_from(
+        sources,
+        links.numbers,
+        links.tables,
+        links.fields,
+        links.passes,
+    ))
 }
 
 /// The plan of a settings file, or its first key at fault. Bytes that are not UTF-8 are not TOML.

@@ -14,6 +14,3 @@ pub use lists::{Items, Rows, is_sized};
 pub use place::Place;
 pub use readers::{Choices, Element, Reader, Row};
 pub use values::{Choice, Truth, Whole, named_in, whole_number};
-
-#[cfg(test)]
-mod tests;

@@ -1,17 +1,15 @@
-use Rattle.std.proofs.Common.{◌≡◌, ◌∷◌, List, ap, arith, length, rules, ℕ}
-use Rattle.csv.specs.Records.{fields_of}
+use Rattle.std.proofs.Common.{◌≡◌, ◌<◌, ◌^◌, List, ap, arith, length, ℕ}
 use Rattle.csv_records.specs.Left.{records_in}
-use Rattle.link_report.proofs.ReadingLemmas.{records_few}
+use Rattle.link_report.proofs.ReadingLemmas.{few_past, records_few}
 use Rattle.link_report.proofs.reading.read_rows.Goals as goal
 
-pub misfit_in-requires : goal.misfit_in-requires
-misfit_in-requires c =
-    let took : records_in 44 c.args.bytes.now ≡ fields_of c.next.new.row ∷ c.next.new.self = search rules in
-    let all = ap (λ (rows : List (List (List ℕ))). length rows) took in
-    omega (arith, all, records_few c.args.bytes.now, c.requires)
+pub misfit_under-misfit-requires : goal.misfit_under-misfit-requires
+misfit_under-misfit-requires c =
+    let all = ap (λ (rows : List (List (List ℕ))). length rows) c.new-tested.ensures in
+    record { few = omega (arith, all, records_few c.args.bytes.now, c.requires) }
 
 pub returns-clause-few : goal.returns-clause-few
 returns-clause-few c =
-    let took : records_in 44 c.args.bytes.now ≡ fields_of c.next-2.new.row ∷ c.next-2.new.self = search rules in
-    let all = ap (λ (rows : List (List (List ℕ))). length rows) took in
-    omega (arith, all, records_few c.args.bytes.now, c.requires)
+    let few : length (records_in 44 c.args.bytes.now) < 2 ^ 32 = omega (arith, records_few c.args.bytes.now, c.requires) in
+    let all = ap (λ (rows : List (List (List ℕ))). length rows) c.in_ok-rows.ensures in
+    omega (arith, all, few_past (records_in 44 c.args.bytes.now) few)

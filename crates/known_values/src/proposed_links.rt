@@ -1,5 +1,5 @@
 // Proposals for small lists, which come to no level by themselves.
-use crate::levels::Levels;
+use assignment_levels::Levels;
 use assignment_steps::{Board, Edge, Proposal, starts_or_zeros, turned_edges};
 use std::alloc::Global;
 use std::test::Fail;
