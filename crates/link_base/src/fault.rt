@@ -4,8 +4,6 @@ ghost use Rattle.link_base.specs.Fault.{fault_status};
 
 use crate::text::{NoMemory, Text};
 use std::alloc::{AllocError, AllocFailed};
-use std::fmt;
-use std::fmt::{Debug, Formatter, Write};
 
 /// Which file a fault is of.
 #[derive(Clone, Copy, PartialEq, Eq)]
@@ -161,56 +159,6 @@ pub enum Fault {
     /// The output did not take what it was handed.
     SinkFault,
     NoMemory,
-}
-
-// The name of a fault.
-fn name_of(fault: &Fault) -> &'static str {
-    match fault {
-        Fault::Usage => "Usage",
-        Fault::NotToml => "NotToml",
-        Fault::UnknownKey { .. } => "UnknownKey",
-        Fault::MissingKey { .. } => "MissingKey",
-        Fault::WrongType { .. } => "WrongType",
-        Fault::OutOfRange { .. } => "OutOfRange",
-        Fault::NoHeader { .. } => "NoHeader",
-        Fault::RepeatedColumn { .. } => "RepeatedColumn",
-        Fault::NoColumn { .. } => "NoColumn",
-        Fault::TooManyColumns { .. } => "TooManyColumns",
-        Fault::TooManyRows { .. } => "TooManyRows",
-        Fault::Ragged { .. } => "Ragged",
-        Fault::NotUtf8 { .. } => "NotUtf8",
-        Fault::FieldTooLong { .. } => "FieldTooLong",
-        Fault::EmptyId { .. } => "EmptyId",
-        Fault::RepeatedId { .. } => "RepeatedId",
-        Fault::BadValue { .. } => "BadValue",
-        Fault::PoolFull { .. } => "PoolFull",
-        Fault::BadStatus { .. } => "BadStatus",
-        Fault::UnknownId { .. } => "UnknownId",
-        Fault::RepeatedPair { .. } => "RepeatedPair",
-        Fault::NoMatched => "NoMatched",
-        Fault::NoUnmatched => "NoUnmatched",
-        Fault::TooManyPairs { .. } => "TooManyPairs",
-        Fault::BadNumber { .. } => "BadNumber",
-        Fault::BadDate { .. } => "BadDate",
-        Fault::DateBack { .. } => "DateBack",
-        Fault::EmptyReviewer { .. } => "EmptyReviewer",
-        Fault::BadVerdict { .. } => "BadVerdict",
-        Fault::BadStep { .. } => "BadStep",
-        Fault::BadCapacity { .. } => "BadCapacity",
-        Fault::TooManyEntries { .. } => "TooManyEntries",
-        Fault::NotPossible { .. } => "NotPossible",
-        Fault::FileTooLong { .. } => "FileTooLong",
-        Fault::StoreFault { .. } => "StoreFault",
-        Fault::SinkFault => "SinkFault",
-        Fault::NoMemory => "NoMemory",
-    }
-}
-
-// The name alone, since a derived form takes a fifth of the proof of this crate; `link_outside` writes the whole line.
-impl Debug for Fault {
-    fn fmt<W: Write>(&self, f: &mut Formatter<W>) -> fmt::Result {
-        f.write_str(name_of(self))
-    }
 }
 
 impl From<NoMemory> for Fault {

@@ -7,7 +7,7 @@ use link_limits::MOST_PATTERNS;
 use std::alloc::Global;
 
 /// What the comparison of a field comes to. The order is that of the digits of a comparison pattern.
-#[derive(Clone, Copy, Debug, PartialEq, Eq)]
+#[derive(Clone, Copy, PartialEq, Eq)]
 pub enum Outcome {
     /// Both values are present and alike.
     Agree,
@@ -20,7 +20,7 @@ pub enum Outcome {
 }
 
 /// The decision on a pair (Fellegi and Sunter 1969, section 2).
-#[derive(Clone, Copy, Debug, PartialEq, Eq)]
+#[derive(Clone, Copy, PartialEq, Eq)]
 pub enum Decision {
     Link,
     Possible,
@@ -45,7 +45,7 @@ pub enum Step {
 }
 
 /// The positions of a pair, from 0, in A and in B.
-#[derive(Clone, Copy, Debug, PartialEq, Eq)]
+#[derive(Clone, Copy, PartialEq, Eq)]
 pub struct PairAt {
     pub a: u32,
     pub b: u32,
@@ -102,7 +102,7 @@ impl RuleTable {
 
 /// The attained error levels of a rule and its chances of a possible link among matched and unmatched
 /// pairs, as four sums over one denominator (Fellegi and Sunter 1969, section 2).
-#[derive(Clone, Copy, Debug, PartialEq, Eq)]
+#[derive(Clone, Copy, PartialEq, Eq)]
 pub struct Levels {
     pub denominator: u128,
     pub mu: u128,
