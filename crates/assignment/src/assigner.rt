@@ -8,10 +8,11 @@ ghost use Rattle.assignment_steps.specs.Survey.{HasRoom};
 ghost use Rattle.assignment.specs.Growth.{IsClean};
 ghost use Rattle.assignment_steps.specs.Between.{IsBetween};
 
-use crate::side::{Other, Side, first_side, other_if_less, run, run_other};
-use crate::solve::{edges_of, first_prices, linked};
+use crate::graph::{first_sides, graph_of};
+use crate::side::{Other, Side, run, run_other};
+use crate::solve::linked;
 use assignment_laws::{PartNumbers, certified_is_greatest, part_numbers};
-use assignment_steps::{Board, Edge, starts_of, starts_or_zeros, turned_edges};
+use assignment_steps::{Board, Edge};
 use link_base::{Candidate, NoMemory};
 use link_limits::MOST_PAIRS;
 use std::alloc::Global;
@@ -82,26 +83,21 @@ impl Assigner {
         ensures rows_b { IfOk result (λ s. s.rows_b ≡ rows_b) }
         ensures candidates { IfOk result (λ s. s.candidates ≡ candidates.now) }
     {
-        let edges = edges_of(alloc, candidates)?;
-        let starts = starts_of(alloc, &edges, rows_a as usize)?;
-        let turned = turned_edges(alloc, &edges, rows_b as usize)?;
-        let turned_starts = starts_or_zeros(alloc, &turned, rows_b as usize)?;
-        let price_a = first_prices(alloc, &edges, rows_a as usize)?;
-        let other = other_if_less(alloc, &turned, rows_b as usize, &price_a)?;
-        let own = first_side(alloc, &edges, price_a, rows_b as usize)?;
         let part_numbers = part_numbers(alloc, rows_b, candidates)?;
+        let graph = graph_of(alloc, rows_a, rows_b, candidates)?;
         let candidates = Vec::from_slice(alloc, candidates)?;
+        let sides = first_sides(alloc, rows_a, rows_b, &graph)?;
         Ok(Assigner {
             rows_a,
             rows_b,
             candidates,
             part_numbers,
-            edges,
-            starts,
-            turned,
-            turned_starts,
-            own,
-            other,
+            edges: graph.edges,
+            starts: graph.starts,
+            turned: graph.turned,
+            turned_starts: graph.turned_starts,
+            own: sides.own,
+            other: sides.other,
         })
     }
 

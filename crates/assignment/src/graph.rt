@@ -1,0 +1,73 @@
+// The edges from both sides, and the sides that search over them.
+ghost use Rattle.std.specs.Prelude.{◌≡◌, ℕ, All, AllPairs, IfOk, MatchOption, length};
+ghost use Rattle.assignment_laws.specs.Assignment.{IsBefore, IsWithin};
+ghost use Rattle.assignment.specs.Final.{edges_of};
+ghost use Rattle.assignment.specs.Graph.{IsGraph};
+ghost use Rattle.assignment.specs.Sides.{IsOther, IsSide};
+ghost use Rattle.assignment.specs.Solution.{HasSmallValue};
+
+use crate::side::{Other, Side, first_side, other_if_less};
+use crate::solve::{edges_of, first_prices};
+use assignment_steps::{Edge, starts_of, starts_or_zeros, turned_edges};
+use link_base::{Candidate, NoMemory};
+use std::alloc::Global;
+
+/// The edges of candidates, by their records of A and turned, with the starts of the records.
+#[derive(Drop)]
+pub struct Graph {
+    pub edges: Vec<Edge>,
+    pub starts: Vec<usize>,
+    pub turned: Vec<Edge>,
+    pub turned_starts: Vec<usize>,
+}
+
+/// The side that searches, and the other side where it may search first.
+#[derive(Drop)]
+pub struct Sides {
+    pub own: Side,
+    pub other: Option<Other>,
+}
+
+/// The edges of candidates.
+pub fn graph_of(
+    alloc: Global,
+    rows_a: u32,
+    rows_b: u32,
+    candidates: &[Candidate],
+) -> Result<Graph, NoMemory>
+    requires rising { AllPairs IsBefore candidates.now }
+    requires within { All (IsWithin rows_a rows_b) candidates.now }
+    requires small { All HasSmallValue candidates.now }
+    ensures edges { IfOk result (λ g. g.edges.items ≡ edges_of candidates.now) }
+    ensures graph { IfOk result (IsGraph rows_a rows_b) }
+{
+    let edges = edges_of(alloc, candidates)?;
+    let starts = starts_of(alloc, &edges, rows_a as usize)?;
+    let turned = turned_edges(alloc, &edges, rows_b as usize)?;
+    let turned_starts = starts_or_zeros(alloc, &turned, rows_b as usize)?;
+    Ok(Graph {
+        edges,
+        starts,
+        turned,
+        turned_starts,
+    })
+}
+
+/// The sides at first.
+pub fn first_sides(
+    alloc: Global,
+    rows_a: u32,
+    rows_b: u32,
+    graph: &Graph,
+) -> Result<Sides, NoMemory>
+    requires { IsGraph rows_a rows_b graph.now }
+    ensures own { IfOk result (λ s. IsSide graph.now.edges.items s.own) }
+    ensures rows_a { IfOk result (λ s. length s.own.price_a.items ≡ rows_a) }
+    ensures rows_b { IfOk result (λ s. length s.own.price_b.items ≡ rows_b) }
+    ensures other { IfOk result (λ s. MatchOption s.other (Unit {0}) (IsOther graph.now.turned.items rows_a rows_b)) }
+{
+    let price_a = first_prices(alloc, &graph.edges, rows_a as usize)?;
+    let other = other_if_less(alloc, &graph.turned, rows_b as usize, &price_a)?;
+    let own = first_side(alloc, &graph.edges, price_a, rows_b as usize)?;
+    Ok(Sides { own, other })
+}
