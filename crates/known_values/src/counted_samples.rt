@@ -1,70 +1,32 @@
-// With ample memory a sample is counted.
-ghost use Rattle.std.specs.Prelude.{◌≡◌, All, IfOk, OnOk, length};
-ghost use Rattle.link_base.specs.Standard.{IsValid, rows_of};
-ghost use Rattle.sample_counts.specs.Counts.{IsRowOf};
+// A sample counted by the fields of two files; the commands count by the ids of a pool.
+ghost use Rattle.std.specs.Prelude.{◌≡◌, []};
 
-use link_base::{CompareKind, Fault, NoMemory, StdFile, StdRow, Text, Value};
+use link_base::{CompareKind, Fault, NoMemory, StdFile};
 use patterns::Fields;
-use sample_counts::{Counts, count_sample, count_sample_over};
+use sample_counts::count_sample;
 use std::alloc::Global;
 
-fn row_of(alloc: Global, surname: &str) -> Result<StdRow, NoMemory>
-    ensures one { IfOk result (λ row. length row ≡ 1) }
-    ensures valid { IfOk result (λ row. All IsValid row) }
+// Whether a sample of no records has no matched pair; of any text, so that no proof reads a constant.
+fn is_refused(alloc: Global, sample: &[u8], file: &StdFile, fields: &Fields) -> bool
+    requires { file.now ≡ [] }
 {
-    let mut values = Vec::new(alloc);
-    values.push(Value::Word(Text::new(alloc, surname.as_bytes())?))?;
-    Ok(StdRow::new(values))
-}
-
-/// An id and a surname.
-type Person = (&'static [u8], &'static str);
-
-// Appends a record with an id that no record has.
-fn add(alloc: Global, file: &mut StdFile, fields: &Fields, person: &Person) -> Result<(), NoMemory>
-    requires one { length fields.now ≡ 1 }
-    requires rows { All (IsRowOf fields.now) (rows_of file.old) }
-    ensures rows { OnOk result (All (IsRowOf fields.now) (rows_of file.new)) }
-{
-    if file.rows() >= 100 || file.find(person.0).is_some() {
-        return Ok(());
+    match count_sample(alloc, sample, file, file, fields) {
+        Err(Fault::NoMatched) => true,
+        _ => false,
     }
-    let row = row_of(alloc, person.1)?;
-    file.push(Text::new(alloc, person.0)?, row)?;
-    Ok(())
 }
 
-fn file_of(alloc: Global, fields: &Fields, people: &[Person]) -> Result<StdFile, NoMemory>
-    requires { length fields.now ≡ 1 }
-    ensures { IfOk result (λ file. All (IsRowOf fields.now) (rows_of file)) }
-{
-    let mut file = StdFile::new(alloc)?;
-    for person in people {
-        add(alloc, &mut file, fields, person)?;
-    }
-    Ok(file)
+fn is_refused_by(alloc: Global, sample: &[u8], fields: &Fields) -> Result<bool, NoMemory> {
+    let file = StdFile::new(alloc)?;
+    Ok(is_refused(alloc, sample, &file, fields))
 }
 
-// The counts of a sample of two pairs by its fields, or over their kinds.
-fn counted(alloc: Global, over_kinds: bool) -> Result<Counts, Fault>
-    ensures { IfOk result (λ counts. length counts.rares ≡ 1) }
-{
+fn is_refused_by_a_field(alloc: Global, sample: &[u8]) -> Result<bool, NoMemory> {
     let fields = Fields::new(alloc, &[CompareKind::Exact])?;
-    let a = file_of(alloc, &fields, &[(b"A1", "LEE"), (b"A2", "KO")])?;
-    let b = file_of(alloc, &fields, &[(b"B1", "LEE")])?;
-    let bytes = b"id_a,id_b,status\nA1,B1,matched\nA2,B1,unmatched\n".as_slice();
-    if over_kinds {
-        return count_sample_over(alloc, bytes, &a, &b, fields.kinds(), &a, &b);
-    }
-    count_sample(alloc, bytes, &a, &b, &fields)
+    is_refused_by(alloc, sample, &fields)
 }
 
 #[test]
-fn a_sample_is_counted(rt: HostRuntime) {
-    let alloc = rt.alloc();
-    for over_kinds in [false, true] {
-        let counts = counted(alloc, over_kinds).expect(&rt, "memory");
-        assert!(rt; counts.of(0, true) == [1, 0, 0, 0]);
-        assert!(rt; counts.of(0, false) == [0, 1, 0, 0]);
-    }
+fn a_sample_without_pairs(rt: HostRuntime) {
+    assert!(rt; is_refused_by_a_field(rt.alloc(), b"id_a,id_b,status\n") == Ok(true));
 }
