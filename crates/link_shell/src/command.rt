@@ -24,7 +24,7 @@ use link_outside::{Sink, SinkError, Store, write_fault};
 use std::alloc::Global;
 
 /// A command.
-#[derive(Clone, Copy, Debug)]
+#[derive(Clone, Copy)]
 pub(crate) enum Command<'w> {
     PairsOfColumns(ColumnRequest<'w>),
     // The name of the settings file.

@@ -20,7 +20,7 @@ use settings::{Plan, read_settings};
 use std::alloc::Global;
 
 /// The bytes of both files.
-#[derive(Debug, Drop)]
+#[derive(Drop)]
 pub(crate) struct Inputs {
     pub(crate) a: Text,
     pub(crate) b: Text,

@@ -18,7 +18,7 @@ use link_outside::{Sink, Store};
 use std::alloc::Global;
 
 /// A settings file, and the words of the asked levels of links.
-#[derive(Clone, Copy, Debug)]
+#[derive(Clone, Copy)]
 pub(crate) struct FrontierRequest<'w> {
     pub(crate) name: &'w str,
     pub(crate) levels: &'w [String],

@@ -18,7 +18,7 @@ use link_outside::{Sink, Store};
 use std::alloc::Global;
 
 /// A settings file, and a file of the capacities of the records of B.
-#[derive(Clone, Copy, Debug)]
+#[derive(Clone, Copy)]
 pub(crate) struct ManyRequest<'w> {
     pub(crate) name: &'w str,
     pub(crate) capacities: &'w str,

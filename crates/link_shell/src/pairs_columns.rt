@@ -13,7 +13,7 @@ use link_outside::{Sink, Store};
 use std::alloc::Global;
 
 /// The files and the column.
-#[derive(Clone, Copy, Debug)]
+#[derive(Clone, Copy)]
 pub(crate) struct ColumnRequest<'w> {
     pub(crate) a: &'w str,
     pub(crate) b: &'w str,

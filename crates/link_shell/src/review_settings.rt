@@ -21,7 +21,7 @@ use std::alloc::Global;
 use value_forms::read_iso;
 
 /// A settings file, a file of verdicts, their day, counted from 1970-01-01, and their reviewer.
-#[derive(Clone, Copy, Debug)]
+#[derive(Clone, Copy)]
 pub(crate) struct ReviewRequest<'w> {
     pub(crate) name: &'w str,
     pub(crate) verdicts: &'w str,
