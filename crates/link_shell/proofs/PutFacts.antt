@@ -5,7 +5,8 @@ use Rattle.link_base.specs.declared.fault.Fault.{Fault}
 use Rattle.link_outside.specs.Outside.{Held, held_with}
 use Rattle.link_outside.specs.declared.outside.StoreCall.{StoreCall}
 use Rattle.link_shell.specs.Causes.{Cause, cause_of, the_memory, the_store}
-use Rattle.link_shell.specs.Due.{after_puts, no_put, Put, put_of, puts}
+use Rattle.link_shell.specs.Due.{after_puts, no_put, Put, put_of}
+use Rattle.link_shell.specs.RunSettings.{a_put}
 use Rattle.link_shell.specs.Seen.{StoreSeen}
 use Rattle.link_shell.specs.Ways.{EachFails, OneFails, PutsAll, PutsEach, PutsOne}
 use Rattle.link_shell.specs.declared.ends.Ended.{Ended}
@@ -63,8 +64,8 @@ puts_go all n put h0 h1 h2 lt e before made =
 
 -- what is put under the name of a plan's journal
 pub journal_put : (name : List ℕ) (journal : Option (List ℕ)) (b bytes : List ℕ) → Some name ≡ journal → b ≡ bytes
-    → puts (record { name = name; bytes = b } ∷ []) ≡ puts (record { name = unwrap_or journal []; bytes = bytes } ∷ [])
-journal_put name journal b bytes of_name of_bytes = λ i. puts (record { name = unwrap_or (of_name i) []; bytes = of_bytes i } ∷ [])
+    → a_put name b ∷ [] ≡ a_put (unwrap_or journal []) bytes ∷ []
+journal_put name journal b bytes of_name of_bytes = λ i. a_put (unwrap_or (of_name i) []) (of_bytes i) ∷ []
 
 -- puts that were made are these, where both are the same
 pub puts_as : {store : StoreSeen} {answer : Result Ended Fault} (all same : List Put) → all ≡ same → PutsAll all store answer → PutsAll same store answer

@@ -4,17 +4,18 @@ use Rattle.link_limits.specs.declared.TheConstants.{MOST_POOLED_BYTES, MOST_ROWS
 use Rattle.link_base.specs.Answers.{and_then}
 use Rattle.link_base.specs.declared.fault.Fault.{Fault}
 use Rattle.link_core.specs.Decisions.{decided, decisions_of}
-use Rattle.link_core.specs.Prepared.{prepared}
+use Rattle.link_core.specs.Prepared.{prepared, PreparedView}
 use Rattle.link_core.specs.Results.{AreRunTexts, RunTexts}
 use Rattle.link_core.specs.Rules.{counted_by}
 use Rattle.link_report.specs.FirstLines.{first_lines_of}
 use Rattle.settings.specs.Settings.{settings}
+use Rattle.settings.specs.declared.plan.Plan.{Plan}
 use Rattle.workload.specs.Made.{text_of_a, text_of_b, text_of_sample}
 use Rattle.workload.specs.MadeSettings.{text_of_settings}
 use Rattle.link_shell.specs.Does.{Script}
 use Rattle.link_shell.specs.Due.{Due, prints}
 use Rattle.csv_rows.specs.Numbers.{is_decimal, number_in}
-use Rattle.link_shell.specs.Reviewed.{ReviewedPlan}
+use Rattle.link_shell.specs.Reviewed.{ReviewedPlan, SharedDecisions}
 use Rattle.link_shell.specs.Steps.{gives}
 use Rattle.link_shell.specs.Words.{word}
 use Rattle.link_shell.specs.declared.ends.Ended.TheVariants.{Done}
@@ -34,14 +35,20 @@ pub record IsMadeNumber (rows : ℕ) : Type 0 where
   pub some : 2 ≤ rows
   pub few : rows ≤ MOST_ROWS
 
+-- the shares of a plan's fields by a sample, and the decisions of its rule on the compared pairs
+abbrev pub decided_sample : Plan → PreparedView → List ℕ → Result SharedDecisions Fault
+decided_sample plan files sample =
+    and_then (counted_by plan files sample) (λ shares.
+    and_then (decided plan files shares) (λ decisions.
+    Ok (record { shares = shares; decided = decisions })))
+
 -- the plan of these settings with the decisions of its rule on the compared pairs of two files, by this sample, and no journal
 abbrev pub decided_input : List ℕ → List ℕ → List ℕ → List ℕ → Result ReviewedPlan Fault
 decided_input bytes a b sample =
     and_then (settings bytes) (λ plan.
     and_then (prepared plan MOST_POOLED_BYTES a b) (λ files.
-    and_then (counted_by plan files sample) (λ shares.
-    and_then (decided plan files shares) (λ decisions.
-    Ok (record { plan = plan; review = record { files = files; shares = shares; decided = decisions; journal = [] } })))))
+    and_then (decided_sample plan files sample) (λ found.
+    Ok (record { plan = plan; review = record { files = files; shares = found.shares; decided = found.decided; journal = [] } }))))
 
 abbrev pub review_of_made : MadeDecisions → ReviewedPlan
 review_of_made d = record { plan = d.plan; review = record { files = d.files; shares = d.shares; decided = decisions_of d.decided; journal = [] } }

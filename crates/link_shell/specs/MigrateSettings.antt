@@ -6,7 +6,7 @@ use Rattle.settings.specs.declared.plan.Plan.{Plan}
 use Rattle.link_shell.specs.Does.{Script}
 use Rattle.link_shell.specs.Due.{Due, Put, puts}
 use Rattle.link_shell.specs.Front.{prepared_files}
-use Rattle.link_shell.specs.Reviewed.{journal_file, journal_plan, named_journal}
+use Rattle.link_shell.specs.Reviewed.{journal_file, journal_plan, put_of_journal}
 use Rattle.link_shell.specs.Steps.{◌>>=◌, gives, Steps}
 use Rattle.link_shell.specs.Words.{are_verb_and_settings}
 
@@ -35,6 +35,6 @@ migrate_script name = record {
   steps = do
     plan ← journal_plan name
     text ← written_journal plan
-    gives (Ok (record { name = named_journal plan; bytes = text }));
+    gives (Ok (put_of_journal plan text));
   due = is_put;
 }

@@ -2,11 +2,12 @@
 use Rattle.std.specs.Prelude.{ℕ, ℤ, pos, List, length, Bool, ◌==◌, ◌&&◌, bytes_eq, codes, is_some, unwrap_or, Ok}
 use Rattle.link_base.specs.Standard.{IsDay}
 use Rattle.review_journal.specs.Journal.{IsReviewer}
+use Rattle.settings.specs.declared.plan.Plan.{Plan}
 use Rattle.value_forms.specs.Days.{iso_day}
 use Rattle.link_core.specs.Review.{reviewed_lines_of}
 use Rattle.link_shell.specs.Does.{Script}
 use Rattle.link_shell.specs.Due.{Put}
-use Rattle.link_shell.specs.Reviewed.{journal_plan, named_journal, Review, reviewed_plan}
+use Rattle.link_shell.specs.Reviewed.{journal_plan, put_of_journal, Review, reviewed_plan}
 use Rattle.link_base.specs.declared.fault.FileRole.TheVariants as role
 use Rattle.link_shell.specs.MigrateSettings.{is_put}
 use Rattle.link_shell.specs.Steps.{◌>>=◌, file, gives, Steps}
@@ -49,6 +50,12 @@ added_verdicts w double review = do
   verdicts ← file role.Verdicts w.verdicts
   gives (reviewed_lines_of double w.date w.reviewer review.files review.decided.possible review.journal verdicts)
 
+-- the decisions of a plan's rule, its journal, and the text of this with the new verdicts
+abbrev pub reviewed_journal : NewReview → Plan → Steps (List ℕ)
+reviewed_journal w plan = do
+  reviewed ← reviewed_plan plan
+  added_verdicts w plan.double reviewed
+
 -- the plan, which names a journal, the decisions of its rule on the compared pairs, the journal, the new verdicts, and the text of
 -- both within the limit of a file
 abbrev pub review_script : NewReview → Script
@@ -56,8 +63,7 @@ review_script w = record {
   Found = Put;
   steps = do
     plan ← journal_plan w.name
-    reviewed ← reviewed_plan plan
-    text ← added_verdicts w plan.double reviewed
-    gives (Ok (record { name = named_journal plan; bytes = text }));
+    text ← reviewed_journal w plan
+    gives (Ok (put_of_journal plan text));
   due = is_put;
 }

@@ -13,6 +13,7 @@ use Rattle.link_core.specs.Prepared.{PreparedView}
 use Rattle.link_core.specs.Results.{IsDecidedFor}
 use Rattle.link_core.specs.Review.{journal_in_files}
 use Rattle.link_core.specs.Rules.{IsPreparedFor}
+use Rattle.link_shell.specs.Due.{Put}
 use Rattle.link_shell.specs.Front.{plan_file, prepared_files, shares_over}
 use Rattle.link_shell.specs.Steps.{◌>>=◌, file, gives, Steps}
 use Rattle.link_shell.specs.declared.reviewed.DecidedPlan.{DecidedPlan}
@@ -94,3 +95,7 @@ journal_plan name = do
 
 abbrev pub named_journal : Plan → List ℕ
 named_journal plan = unwrap_or plan.journal []
+
+-- the text of a journal under the name that its plan gives it
+abbrev pub put_of_journal : Plan → List ℕ → Put
+put_of_journal plan text = record { name = named_journal plan; bytes = text }

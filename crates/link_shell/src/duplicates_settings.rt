@@ -61,11 +61,19 @@ fn load_decided<S: Store>(alloc: Global, store: &mut S, plan: &Plan) -> Result<D
     ensures of_file { IfOk result (λ d. IsDecidedIn d.files d.decided) }
 {
     let files = load_within(alloc, store, plan)?;
-    let found = load_decisions(alloc, store, plan, &files)?;
-    Ok(DecidedWithin {
-        files,
-        decided: found.decided,
-    })
+    match load_decisions(alloc, store, plan, &files) {
+        Ok(found) => {
+            drop(found.shares);
+            Ok(DecidedWithin {
+                files,
+                decided: found.decided,
+            })
+        }
+        Err(fault) => {
+            drop(files);
+            Err(fault)
+        }
+    }
 }
 
 // Follows the script.

@@ -91,8 +91,13 @@ pub(crate) fn load_described<S: Store>(
     ensures ranges { IfOk result (λ d. KeepsRanges d.plan) }
 {
     let plan = load_plan(alloc, store, name)?;
-    let inputs = load_files(alloc, store, &plan)?;
-    Ok(Described { plan, inputs })
+    match load_files(alloc, store, &plan) {
+        Ok(inputs) => Ok(Described { plan, inputs }),
+        Err(fault) => {
+            drop(plan);
+            Err(fault)
+        }
+    }
 }
 
 // Makes two files of a plan ready to be compared.
@@ -122,7 +127,9 @@ pub(crate) fn load_prepared<S: Store>(
     ensures ready { IfOk result (IsPreparedFor plan.now) }
 {
     let inputs = load_files(alloc, store, plan)?;
-    prepare_files(alloc, plan, inputs.a.bytes(), inputs.b.bytes())
+    let files = prepare_files(alloc, plan, inputs.a.bytes(), inputs.b.bytes());
+    drop(inputs);
+    files
 }
 
 // Counts the sample of a plan, which has this name, over the prepared files of the plan.
@@ -155,7 +162,9 @@ fn count_loaded<S: Store>(
     ensures rares { IfOk result (λ shares. shared_rares shares ≡ rares_of plan.now.fields) }
 {
     let files = load_prepared(alloc, store, plan)?;
-    count_named(alloc, store, plan, &files, name)
+    let shares = count_named(alloc, store, plan, &files, name);
+    drop(files);
+    shares
 }
 
 // Loads no file: the shares are those of the settings.
@@ -222,6 +231,11 @@ pub(crate) fn load_shared<S: Store>(
     ensures rares { IfOk result (λ s. shared_rares s.shares ≡ rares_of s.plan.fields) }
 {
     let plan = load_plan(alloc, store, name)?;
-    let shares = load_shares(alloc, store, &plan)?;
-    Ok(Shared { plan, shares })
+    match load_shares(alloc, store, &plan) {
+        Ok(shares) => Ok(Shared { plan, shares }),
+        Err(fault) => {
+            drop(plan);
+            Err(fault)
+        }
+    }
 }

@@ -5,19 +5,22 @@ ghost use Rattle.link_core.specs.Decisions.{IsDecidedIn};
 ghost use Rattle.link_core.specs.Results.{IsDecidedFor};
 ghost use Rattle.link_core.specs.Rules.{IsPreparedFor};
 ghost use Rattle.link_shell.specs.Does.{Does};
-ghost use Rattle.link_shell.specs.Generate.{are_generate_words, decided_input, generate_script, IsMadeNumber, is_rows_word, review_of_made, rows_in};
+ghost use Rattle.link_shell.specs.Generate.{are_generate_words, decided_input, decided_sample, generate_script, IsMadeNumber, is_rows_word, review_of_made, rows_in};
 ghost use Rattle.csv_rows.specs.Numbers.{number_in};
+ghost use Rattle.link_shell.specs.Reviewed.{shared_decisions_of};
 ghost use Rattle.link_shell.specs.Seen.{sink_seen, store_seen};
 ghost use Rattle.settings.specs.Ranges.{KeepsRanges};
 ghost use Rattle.workload.specs.Made.{text_of_a, text_of_b, text_of_sample};
 ghost use Rattle.workload.specs.MadeSettings.{text_of_settings};
 
 use crate::ends::{Ended, print};
+use crate::front::prepare_files;
+use crate::reviewed::DecidedPlan;
 use crate::words::word_at;
 use csv_rows::number_of;
 use link_base::Fault;
-use link_core::{Decided, PlanShares, Prepared, counted, decide_all, finish, prepare};
-use link_limits::{MOST_POOLED_BYTES, MOST_ROWS};
+use link_core::{Decided, PlanShares, Prepared, counted, decide_all, finish};
+use link_limits::MOST_ROWS;
 use link_outside::{Sink, Store};
 use link_report::first_lines;
 use review_journal::Journal;
@@ -61,6 +64,30 @@ pub(crate) fn read(words: &[String]) -> Option<u32>
     rows_of(word_at(words, 1))
 }
 
+// Counts a sample over the prepared files of a plan, and decides on their compared pairs.
+fn decide_sample(
+    alloc: Global,
+    plan: &Plan,
+    files: &Prepared,
+    sample: &[u8],
+) -> Result<DecidedPlan, Fault>
+    requires ranges { KeepsRanges plan.now }
+    requires ready { IsPreparedFor plan.now files.now }
+    ensures kind { IfErr result IsInputFault }
+    ensures answer { Gives shared_decisions_of (decided_sample plan.now files.now sample.now) result }
+    ensures of_files { IfOk result (λ d. IsDecidedIn files.now d.decided) }
+    ensures of_plan { IfOk result (λ d. IsDecidedFor plan.now files.now d.decided) }
+{
+    let shares = counted(alloc, plan, files, sample)?;
+    match decide_all(alloc, plan, files, &shares) {
+        Ok(decided) => Ok(DecidedPlan { shares, decided }),
+        Err(fault) => {
+            drop(shares);
+            Err(fault)
+        }
+    }
+}
+
 // Reads a made input, and decides on its compared pairs.
 fn decide_input(alloc: Global, input: &MadeInput) -> Result<MadeDecisions, Fault>
     ensures kind { IfErr result IsInputFault }
@@ -71,21 +98,26 @@ fn decide_input(alloc: Global, input: &MadeInput) -> Result<MadeDecisions, Fault
     ensures of_plan { IfOk result (λ d. IsDecidedFor d.plan d.files d.decided) }
 {
     let plan = read_settings(alloc, input.settings.bytes())?;
-    let files = prepare(
-        alloc,
-        &plan,
-        input.a.bytes(),
-        input.b.bytes(),
-        MOST_POOLED_BYTES,
-    )?;
-    let shares = counted(alloc, &plan, &files, input.sample.bytes())?;
-    let decided = decide_all(alloc, &plan, &files, &shares)?;
-    Ok(MadeDecisions {
-        plan,
-        files,
-        shares,
-        decided,
-    })
+    let files = match prepare_files(alloc, &plan, input.a.bytes(), input.b.bytes()) {
+        Ok(files) => files,
+        Err(fault) => {
+            drop(plan);
+            return Err(fault);
+        }
+    };
+    match decide_sample(alloc, &plan, &files, input.sample.bytes()) {
+        Ok(found) => Ok(MadeDecisions {
+            plan,
+            files,
+            shares: found.shares,
+            decided: found.decided,
+        }),
+        Err(fault) => {
+            drop(files);
+            drop(plan);
+            Err(fault)
+        }
+    }
 }
 
 // Decides on the compared pairs of the made input of so many rows.
@@ -99,7 +131,9 @@ fn decide_made(alloc: Global, rows: u32) -> Result<MadeDecisions, Fault>
     ensures of_plan { IfOk result (λ d. IsDecidedFor d.plan d.files d.decided) }
 {
     let input = make_input(alloc, rows)?;
-    decide_input(alloc, &input)
+    let made = decide_input(alloc, &input);
+    drop(input);
+    made
 }
 
 // Follows the script.
@@ -116,11 +150,10 @@ pub(crate) fn perform<S: Store, O: Sink>(
     let journal = Journal::new(alloc);
     let finished = finish(alloc, &made.plan, &made.files, &made.decided, &journal);
     drop(made);
+    drop(journal);
     let results = finished?;
-    print(
-        alloc,
-        Ended::Done,
-        first_lines(results.report.bytes(), HEAD_LINES),
-        out,
-    )
+    let head = first_lines(results.report.bytes(), HEAD_LINES);
+    let ended = print(alloc, Ended::Done, head, out);
+    drop(results);
+    ended
 }

@@ -85,7 +85,9 @@ fn text_of_found<S: Store>(
     ensures { Makes (capacity_plan (found_of found.now) name.now) IsLinksText (store_seen S.tells S.held S.faults store.old store.new) result }
 {
     let capacities = load_capacities(alloc, store, found, name)?;
-    text_of(alloc, found, &capacities)
+    let text = text_of(alloc, found, &capacities);
+    drop(capacities);
+    text
 }
 
 // Loads what a settings file names and the capacities, and makes the text.

@@ -6,9 +6,9 @@ ghost use Rattle.link_shell.specs.Seen.{sink_seen, store_seen};
 ghost use Rattle.link_shell.specs.Steps.{Takes};
 ghost use Rattle.settings.specs.Ranges.{KeepsRanges, NamesFiles};
 
-use crate::ends::{Ended, Output, put_each};
+use crate::ends::Ended;
 use crate::front::load_prepared;
-use crate::reviewed::{journal_name, load_journal, load_journal_plan};
+use crate::reviewed::{load_journal, load_journal_plan, put_journal};
 use crate::words::settings_after;
 use link_base::{Fault, Text};
 use link_core::{Prepared, journal_lines};
@@ -35,7 +35,9 @@ fn text_over<S: Store>(
     ensures { Takes (journal_text plan.now files.now) (store_seen S.tells S.held S.faults store.old store.new) result }
 {
     let journal = load_journal(alloc, store, plan, files)?;
-    journal_lines(alloc, files, &journal)
+    let lines = journal_lines(alloc, files, &journal);
+    drop(journal);
+    lines
 }
 
 // Loads the files of a plan and its journal, and makes its text.
@@ -60,10 +62,15 @@ pub(crate) fn perform<S: Store, O: Sink>(
     ensures { Does (migrate_script name.now) (store_seen S.tells S.held S.faults store.old store.new) (sink_seen O.tells O.taken O.faults out.old out.new) result }
 {
     let plan = load_journal_plan(alloc, store, name)?;
-    let text = load_text(alloc, store, &plan)?;
-    let output = Output {
-        name: journal_name(&plan),
-        bytes: text.bytes(),
-    };
-    put_each(alloc, &[output], store)
+    match load_text(alloc, store, &plan) {
+        Ok(text) => {
+            let ended = put_journal(alloc, &plan, &text, store);
+            drop(plan);
+            ended
+        }
+        Err(fault) => {
+            drop(plan);
+            Err(fault)
+        }
+    }
 }

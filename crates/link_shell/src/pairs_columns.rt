@@ -48,6 +48,8 @@ pub(crate) fn perform<S: Store, O: Sink>(
     ensures { Does (columns_script (columns_of_request request.now)) (store_seen S.tells S.held S.faults store.old store.new) (sink_seen O.tells O.taken O.faults out.old out.new) result }
 {
     let inputs = load_both(alloc, store, request.a, request.b)?;
-    let text = pair_rows(alloc, request.column, inputs.a.bytes(), inputs.b.bytes())?;
+    let rows = pair_rows(alloc, request.column, inputs.a.bytes(), inputs.b.bytes());
+    drop(inputs);
+    let text = rows?;
     print(alloc, Ended::Done, text.bytes(), out)
 }

@@ -3,18 +3,20 @@ ghost use Rattle.std.specs.Prelude.{◌≡◌, IfSome, is_some, map, string_byte
 ghost use Rattle.link_core.specs.Decisions.{IsDecidedIn};
 ghost use Rattle.link_core.specs.Review.{IsJournalOf};
 ghost use Rattle.link_shell.specs.Does.{Does};
-ghost use Rattle.link_shell.specs.ReviewSettings.{added_verdicts, are_review_words, IsReviewRequest, review_in, review_of_request, review_script};
+ghost use Rattle.link_shell.specs.ReviewSettings.{added_verdicts, are_review_words, IsReviewRequest, review_in, review_of_request, review_script, reviewed_journal};
 ghost use Rattle.link_shell.specs.Reviewed.{review_of};
 ghost use Rattle.link_shell.specs.Seen.{sink_seen, store_seen};
 ghost use Rattle.link_shell.specs.Steps.{Takes};
+ghost use Rattle.settings.specs.Ranges.{KeepsRanges, NamesFiles};
 
-use crate::ends::{Ended, Output, put_each};
+use crate::ends::Ended;
 use crate::load::load_file;
-use crate::reviewed::{Reviewed, journal_name, load_journal_plan, load_reviewed};
+use crate::reviewed::{Reviewed, load_journal_plan, load_reviewed, put_journal};
 use crate::words::{is_settings, is_short, word_at};
 use link_base::{Fault, FileRole, Text};
 use link_core::add_verdicts;
 use link_outside::{Sink, Store};
+use settings::Plan;
 use std::alloc::Global;
 use value_forms::read_iso;
 
@@ -79,6 +81,24 @@ fn add_loaded<S: Store>(
     )
 }
 
+// Loads the files of a plan and new verdicts, adds these to the journal, and makes its text.
+fn load_text<S: Store>(
+    alloc: Global,
+    store: &mut S,
+    request: &ReviewRequest<'_>,
+    plan: &Plan,
+) -> Result<Text, Fault>
+    requires request { IsReviewRequest request.now }
+    requires ranges { KeepsRanges plan.now }
+    requires names { NamesFiles plan.now }
+    ensures { Takes (reviewed_journal (review_of_request request.now) plan.now) (store_seen S.tells S.held S.faults store.old store.new) result }
+{
+    let mut reviewed = load_reviewed(alloc, store, plan)?;
+    let added = add_loaded(alloc, store, request, plan.double, &mut reviewed);
+    drop(reviewed);
+    added
+}
+
 // Follows the script.
 pub(crate) fn perform<S: Store, O: Sink>(
     alloc: Global,
@@ -90,13 +110,15 @@ pub(crate) fn perform<S: Store, O: Sink>(
     ensures { Does (review_script (review_of_request request.now)) (store_seen S.tells S.held S.faults store.old store.new) (sink_seen O.tells O.taken O.faults out.old out.new) result }
 {
     let plan = load_journal_plan(alloc, store, request.name)?;
-    let mut reviewed = load_reviewed(alloc, store, &plan)?;
-    let added = add_loaded(alloc, store, request, plan.double, &mut reviewed);
-    drop(reviewed);
-    let text = added?;
-    let output = Output {
-        name: journal_name(&plan),
-        bytes: text.bytes(),
-    };
-    put_each(alloc, &[output], store)
+    match load_text(alloc, store, request, &plan) {
+        Ok(text) => {
+            let ended = put_journal(alloc, &plan, &text, store);
+            drop(plan);
+            ended
+        }
+        Err(fault) => {
+            drop(plan);
+            Err(fault)
+        }
+    }
 }

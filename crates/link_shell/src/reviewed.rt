@@ -1,16 +1,18 @@
 // What the decisions and the journal of a plan come to.
-ghost use Rattle.std.specs.Prelude.{◌≡◌, IfErr, IfOk, IsSome, Some};
+ghost use Rattle.std.specs.Prelude.{◌≡◌, ◌∷◌, [], IfErr, IfOk, IsSome, Some};
 ghost use Rattle.link_base.specs.Fault.{IsAnswer, IsInputFault};
 ghost use Rattle.link_core.specs.Decisions.{IsDecidedIn};
 ghost use Rattle.link_core.specs.Results.{IsDecidedFor};
 ghost use Rattle.link_core.specs.Review.{IsJournalOf};
 ghost use Rattle.link_core.specs.Rules.{IsPreparedFor};
-ghost use Rattle.link_shell.specs.Reviewed.{decided_plan, found_of, IsReviewed, journal_file, journal_plan, review_of, reviewed_plan, reviewed_settings, shared_decisions_of, with_journal};
+ghost use Rattle.link_shell.specs.Reviewed.{decided_plan, found_of, IsReviewed, journal_file, journal_plan, put_of_journal, review_of, reviewed_plan, reviewed_settings, shared_decisions_of, with_journal};
 ghost use Rattle.link_shell.specs.Seen.{store_seen};
 ghost use Rattle.link_shell.specs.Steps.{seen_by, Takes};
+ghost use Rattle.link_shell.specs.Ways.{PutsAll};
 ghost use Rattle.plan_rule.specs.PlanRule.{IsRuleOf};
 ghost use Rattle.settings.specs.Ranges.{KeepsRanges, NamesFiles};
 
+use crate::ends::{Ended, Output, put_each};
 use crate::front::{file_name, load_plan, load_prepared, load_shares_over};
 use crate::load::load_file;
 use link_base::{Fault, FileRole, Text};
@@ -90,8 +92,13 @@ pub(crate) fn load_decisions<S: Store>(
     ensures rule { IfOk result (λ d. IsRuleOf plan.now d.shares d.decided.rule.cells) }
 {
     let shares = load_shares_over(alloc, store, plan, files)?;
-    let decided = decide_all(alloc, plan, files, &shares)?;
-    Ok(DecidedPlan { shares, decided })
+    match decide_all(alloc, plan, files, &shares) {
+        Ok(decided) => Ok(DecidedPlan { shares, decided }),
+        Err(fault) => {
+            drop(shares);
+            Err(fault)
+        }
+    }
 }
 
 // Loads the files that a plan names, and decides on their compared pairs.
@@ -110,14 +117,26 @@ pub(crate) fn load_reviewed<S: Store>(
     ensures journal { IfOk result (λ r. IsJournalOf r.files r.journal) }
 {
     let files = load_prepared(alloc, store, plan)?;
-    let found = load_decisions(alloc, store, plan, &files)?;
-    let journal = load_journal(alloc, store, plan, &files)?;
-    Ok(Reviewed {
-        files,
-        shares: found.shares,
-        decided: found.decided,
-        journal,
-    })
+    let found = match load_decisions(alloc, store, plan, &files) {
+        Ok(found) => found,
+        Err(fault) => {
+            drop(files);
+            return Err(fault);
+        }
+    };
+    match load_journal(alloc, store, plan, &files) {
+        Ok(journal) => Ok(Reviewed {
+            files,
+            shares: found.shares,
+            decided: found.decided,
+            journal,
+        }),
+        Err(fault) => {
+            drop(found);
+            drop(files);
+            Err(fault)
+        }
+    }
 }
 
 // Loads a settings file and the files that its plan names, and decides on their compared pairs.
@@ -130,8 +149,13 @@ pub(crate) fn load_reviewed_settings<S: Store>(
     ensures found { IfOk result IsReviewed }
 {
     let plan = load_plan(alloc, store, name)?;
-    let reviewed = load_reviewed(alloc, store, &plan)?;
-    Ok(ReviewedSettings { plan, reviewed })
+    match load_reviewed(alloc, store, &plan) {
+        Ok(reviewed) => Ok(ReviewedSettings { plan, reviewed }),
+        Err(fault) => {
+            drop(plan);
+            Err(fault)
+        }
+    }
 }
 
 // A plan that names a journal, or that the key is missing.
@@ -144,6 +168,7 @@ fn needs_journal(alloc: Global, plan: Plan) -> Result<Plan, Fault>
     if plan.journal.is_some() {
         return Ok(plan);
     }
+    drop(plan);
     let key = Text::new(alloc, b"journal")?;
     Err(Fault::MissingKey { key })
 }
@@ -164,7 +189,7 @@ pub(crate) fn load_journal_plan<S: Store>(
 }
 
 // The name of the journal of a plan that has one.
-pub(crate) fn journal_name(plan: &Plan) -> &str
+fn journal_name(plan: &Plan) -> &str
     requires named { IsSome plan.now.journal }
     requires names { NamesFiles plan.now }
     ensures { Some result.now ≡ plan.now.journal }
@@ -173,4 +198,22 @@ pub(crate) fn journal_name(plan: &Plan) -> &str
         Some(name) => file_name(name),
         None => unreachable!(),
     }
+}
+
+// Puts the text of a journal under the name that a plan gives it.
+pub(crate) fn put_journal<S: Store>(
+    alloc: Global,
+    plan: &Plan,
+    text: &Text,
+    store: &mut S,
+) -> Result<Ended, Fault>
+    requires named { IsSome plan.now.journal }
+    requires names { NamesFiles plan.now }
+    ensures { PutsAll (put_of_journal plan.now text.now ∷ []) (store_seen S.tells S.held S.faults store.old store.new) result }
+{
+    let output = Output {
+        name: journal_name(plan),
+        bytes: text.bytes(),
+    };
+    put_each(alloc, &[output], store)
 }

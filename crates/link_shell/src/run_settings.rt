@@ -91,5 +91,7 @@ pub(crate) fn perform<S: Store, O: Sink>(
     ensures { Does (run_script name.now) (store_seen S.tells S.held S.faults store.old store.new) (sink_seen O.tells O.taken O.faults out.old out.new) result }
 {
     let made = load_results(alloc, store, name)?;
-    put_results(alloc, &made, store)
+    let ended = put_results(alloc, &made, store);
+    drop(made);
+    ended
 }

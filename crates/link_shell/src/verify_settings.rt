@@ -78,7 +78,9 @@ fn verify_found<S: Store>(
     ensures { Makes (written_plan (found_of found.now)) tells_of (store_seen S.tells S.held S.faults store.old store.new) result }
 {
     let written = load_files(alloc, store)?;
-    verification_of(alloc, found, &written)
+    let told = verification_of(alloc, found, &written);
+    drop(written);
+    told
 }
 
 // Loads what a settings file names and the three files, and verifies them.

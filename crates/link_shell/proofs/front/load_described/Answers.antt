@@ -5,9 +5,8 @@ use Rattle.link_shell.proofs.front.load_described.Goals as goal
 pub returns-in_err-plan-clause-takes : goal.returns-in_err-plan-clause-takes
 returns-in_err-plan-clause-takes g c = takes_stop _ _ c.in_err-plan.ensures.takes c.from_residual.ensures.1
 
-pub returns-in_err-inputs-clause-takes : goal.returns-in_err-inputs-clause-takes
-returns-in_err-inputs-clause-takes g c =
-    takes_go _ _ c.in_ok-plan.ensures.takes (takes_stop _ _ c.in_err-inputs.ensures c.from_residual-in_err-inputs.ensures.1)
+pub returns-in-Err-clause-takes : goal.returns-in-Err-clause-takes
+returns-in-Err-clause-takes g c = takes_go _ _ c.in_ok-plan.ensures.takes (takes_stop _ _ c.in-Err.ensures refl)
 
-pub returns-clause-takes : goal.returns-clause-takes
-returns-clause-takes g c = takes_go _ _ c.in_ok-plan.ensures.takes (takes_go _ _ c.in_ok-inputs.ensures (takes_value tt refl))
+pub returns-in-Ok-clause-takes : goal.returns-in-Ok-clause-takes
+returns-in-Ok-clause-takes g c = takes_go _ _ c.in_ok-plan.ensures.takes (takes_go _ _ c.in-Ok.ensures (takes_value tt refl))

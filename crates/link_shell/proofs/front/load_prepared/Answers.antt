@@ -10,6 +10,6 @@ returns-in_err-inputs-clause-takes g c = takes_stop _ _ c.in_err-inputs.ensures 
 
 pub returns-clause-takes : goal.returns-clause-takes
 returns-clause-takes g c =
-    let P : List ℕ → List ℕ → Type 0 = λ a b. IsAnswer (prepared c.args.plan.now MOST_POOLED_BYTES a b) c.prepare_files.result in
-    let of_a : P c.in_ok-inputs.inputs.a c.bytes-2.result.now = subst (λ a. P a c.bytes-2.result.now) c.bytes.ensures c.prepare_files.ensures.answer in
-    takes_go _ _ c.in_ok-inputs.ensures (takes_value c.prepare_files.ensures.kind (subst (λ b. P c.in_ok-inputs.inputs.a b) c.bytes-2.ensures of_a))
+    let P : List ℕ → List ℕ → Type 0 = λ a b. IsAnswer (prepared c.args.plan.now MOST_POOLED_BYTES a b) c.prepare_files-files.result in
+    let of_a : P c.in_ok-inputs.inputs.a c.bytes-2.result.now = subst (λ a. P a c.bytes-2.result.now) c.bytes.ensures c.prepare_files-files.ensures.answer in
+    takes_go _ _ c.in_ok-inputs.ensures (takes_value c.prepare_files-files.ensures.kind (subst (λ b. P c.in_ok-inputs.inputs.a b) c.bytes-2.ensures of_a))

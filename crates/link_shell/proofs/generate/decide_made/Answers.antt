@@ -8,4 +8,4 @@ use Rattle.link_shell.proofs.generate.decide_made.Goals as goal
 pub returns-clause-answer : goal.returns-clause-answer
 returns-clause-answer c =
     let is = c.in_ok-input.ensures in
-    subst (λ (r : Result ReviewedPlan Fault). Gives review_of_made r c.decide_input.result) (λ i. decided_input (is.settings i) (is.a i) (is.b i) (is.sample i)) c.decide_input.ensures.answer
+    subst (λ (r : Result ReviewedPlan Fault). Gives review_of_made r c.decide_input-made.result) (λ i. decided_input (is.settings i) (is.a i) (is.b i) (is.sample i)) c.decide_input-made.ensures.answer

@@ -23,5 +23,5 @@ returns g c =
     let made = c.in_ok-made.made in
     let results = texts_of c.in_ok-results.results in
     let P : List Entry → Type 0 = λ entries. AreRunTexts made.plan made.files (side_rule made.decided.rule) entries results in
-    does_print _ _ (takes_ok (review_of_made made) c.in_ok-made.ensures.answer) c.print.ensures
-    (results, subst P c.new-journal.ensures c.in_ok-results.ensures, ap (λ t. prints Done t) (c.first_lines.ensures ∙ ap (λ b. first_lines_of 16 b) c.bytes.ensures))
+    does_print _ _ (takes_ok (review_of_made made) c.in_ok-made.ensures.answer) c.print-ended.ensures
+    (results, subst P c.new-journal.ensures c.in_ok-results.ensures, ap (λ t. prints Done t) (c.first_lines-head.ensures ∙ ap (λ b. first_lines_of 16 b) c.bytes.ensures))

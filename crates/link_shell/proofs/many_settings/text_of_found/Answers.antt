@@ -12,4 +12,4 @@ pub returns : goal.returns
 returns g c =
     let within = within_capacities (found_of c.args.found.now) c.in_ok-capacities.capacities in
     makes_go _ _ IsLinksText _ _ _ c.in_ok-capacities.ensures.takes
-    (makes_of (gives (Ok within)) IsLinksText _ {x = within} (takes_value tt refl) c.text_of.ensures.text c.text_of.ensures.wants)
+    (makes_of (gives (Ok within)) IsLinksText _ {x = within} (takes_value tt refl) c.text_of-text.ensures.text c.text_of-text.ensures.wants)

@@ -5,4 +5,4 @@ pub returns-in_err-journal : goal.returns-in_err-journal
 returns-in_err-journal g c = takes_stop _ _ c.in_err-journal.ensures.takes c.from_residual.ensures.1
 
 pub returns : goal.returns
-returns g c = takes_go _ _ c.in_ok-journal.ensures.takes (takes_value c.journal_lines.ensures.kind c.journal_lines.ensures.answer)
+returns g c = takes_go _ _ c.in_ok-journal.ensures.takes (takes_value c.journal_lines-lines.ensures.kind c.journal_lines-lines.ensures.answer)

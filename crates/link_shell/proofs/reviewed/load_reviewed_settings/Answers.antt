@@ -6,9 +6,8 @@ use Rattle.link_shell.proofs.reviewed.load_reviewed_settings.Goals as goal
 pub returns-in_err-plan-clause-takes : goal.returns-in_err-plan-clause-takes
 returns-in_err-plan-clause-takes g c = takes_stop _ _ c.in_err-plan.ensures.takes (seen_err found_of c.from_residual.result _ c.from_residual.ensures.1)
 
-pub returns-in_err-reviewed-clause-takes : goal.returns-in_err-reviewed-clause-takes
-returns-in_err-reviewed-clause-takes g c =
-    takes_go _ _ c.in_ok-plan.ensures.takes (takes_stop _ _ c.in_err-reviewed.ensures.takes (seen_err found_of c.from_residual-in_err-reviewed.result _ c.from_residual-in_err-reviewed.ensures.1))
+pub returns-in-Err-clause-takes : goal.returns-in-Err-clause-takes
+returns-in-Err-clause-takes g c = takes_go _ _ c.in_ok-plan.ensures.takes (takes_stop _ _ c.in-Err.ensures.takes refl)
 
-pub returns-clause-takes : goal.returns-clause-takes
-returns-clause-takes g c = takes_go _ _ c.in_ok-plan.ensures.takes (takes_go _ _ c.in_ok-reviewed.ensures.takes (takes_value tt refl))
+pub returns-in-Ok-clause-takes : goal.returns-in-Ok-clause-takes
+returns-in-Ok-clause-takes g c = takes_go _ _ c.in_ok-plan.ensures.takes (takes_go _ _ c.in-Ok.ensures.takes (takes_value tt refl))

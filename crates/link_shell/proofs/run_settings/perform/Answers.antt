@@ -11,4 +11,4 @@ pub returns : goal.returns
 returns g c =
     let made = c.in_ok-made.ensures in
     let put : ArePut made.0 _ = record { texts = texts_of c.in_ok-made.made; made = made.2.texts; rule = made.2.rule; so = refl } in
-    does_puts _ ArePut {x = made.0} made.1 c.put_results.ensures put
+    does_puts _ ArePut {x = made.0} made.1 c.put_results-ended.ensures put

@@ -12,4 +12,4 @@ pub returns : goal.returns
 returns g c =
     let w = written_of (found_of c.args.found.now) c.in_ok-written.written in
     makes_go _ _ tells_of _ _ _ c.in_ok-written.ensures.takes
-    (makes_of (gives (Ok w)) tells_of _ {x = w} (takes_value tt refl) c.verification_of.ensures.told c.verification_of.ensures.wants)
+    (makes_of (gives (Ok w)) tells_of _ {x = w} (takes_value tt refl) c.verification_of-told.ensures.told c.verification_of-told.ensures.wants)

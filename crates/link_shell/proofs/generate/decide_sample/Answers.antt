@@ -1,0 +1,26 @@
+use Rattle.std.proofs.Common.{Result, Err}
+use Rattle.link_base.specs.Fault.{Gives}
+use Rattle.link_base.specs.declared.fault.Fault.{Fault}
+use Rattle.link_core.specs.Decisions.{decided}
+use Rattle.link_core.specs.Rules.{counted_by}
+use Rattle.link_shell.specs.Reviewed.{shared_decisions_of, SharedDecisions}
+use Rattle.link_shell.proofs.InputFacts.{answer_as, fault_as, goes_on, refuses_here}
+use Rattle.link_shell.proofs.generate.decide_sample.Goals as goal
+
+pub returns-in_err-shares-clause-kind : goal.returns-in_err-shares-clause-kind
+returns-in_err-shares-clause-kind c = fault_as c.from_residual.result _ c.from_residual.ensures.1 c.in_err-shares.ensures.kind
+
+pub returns-in_err-shares-clause-answer : goal.returns-in_err-shares-clause-answer
+returns-in_err-shares-clause-answer c =
+    let f : Fault = c.in_err-shares.field-0.0 in
+    answer_as shared_decisions_of _ c.from_residual.result f c.from_residual.ensures.1
+    (refuses_here shared_decisions_of (counted_by c.args.plan.now c.args.files.now c.args.sample.now) _ f c.in_err-shares.ensures.answer)
+
+pub returns-in-Err-clause-answer : goal.returns-in-Err-clause-answer
+returns-in-Err-clause-answer c =
+    let plan = c.args.plan.now in
+    let files = c.args.files.now in
+    let shares = c.in_ok-shares.shares in
+    let f : Fault = c.in-Err.fault in
+    let Refused : Result SharedDecisions Fault → Type 0 = λ r. Gives shared_decisions_of r (Err f) in
+    goes_on Refused (counted_by plan files c.args.sample.now) _ shares c.in_ok-shares.ensures.answer (refuses_here shared_decisions_of (decided plan files shares) _ f c.in-Err.ensures.answer)
