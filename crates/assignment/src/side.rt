@@ -134,9 +134,9 @@ pub fn other_if_less(
         return Ok(None);
     }
     let price_b = first_prices(alloc, turned, rows_b)?;
+    let side = first_side(alloc, turned, price_b, rows_a)?;
     let link_a = no_links(alloc, rows_a)?;
     let link_b = no_links(alloc, rows_b)?;
-    let side = first_side(alloc, turned, price_b, rows_a)?;
     Ok(Some(Other {
         side,
         link_a,
