@@ -81,3 +81,7 @@ module _ (es : List Edge) (pa pb : List ℕ) (la lb : List (Option ℕ)) (k j : 
 pub not_linked : (x : Option ℕ) → is_some x ≡ false → x ≡ None
 not_linked None h = refl
 not_linked (Some k) h = absurd (false≢true (sym h))
+
+-- a record without a link after one write of a link had none before
+pub none_before : (l : List (Option ℕ)) (i r k : ℕ) → i < length l → link (set l i (Some k)) r ≡ None → link l r ≡ None
+none_before l i r k lt none = elim (link-set l i r (Some k) lt) [ inl p ↦ absurd (let clash : Some k ≡ None = sym p.1 ∙ none in cc) | inr p ↦ sym p.1 ∙ none ]

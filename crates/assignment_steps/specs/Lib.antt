@@ -1,4 +1,5 @@
 pub mod Between
+pub mod Free
 pub mod Lists
 pub mod Market
 pub mod Paths

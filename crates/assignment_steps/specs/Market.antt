@@ -28,6 +28,10 @@ pub record IsInRange (es : List Edge) (rows_a rows_b : ℕ) : Type 0 where
   pub record_a : (k : ℕ) → k < length es → (edge es k).a < rows_a
   pub record_b : (k : ℕ) → k < length es → (edge es k).b < rows_b
 
+-- the two prices of each edge reach its value
+abbrev pub AreCovered : List Edge → List ℕ → List ℕ → Type 0
+AreCovered es pa pb = (k : ℕ) → k < length es → (edge es k).value ≤ number pa (edge es k).a + number pb (edge es k).b
+
 -- the two prices of an edge are its value
 abbrev pub IsTight : List Edge → List ℕ → List ℕ → ℕ → Type 0
 IsTight es pa pb k = number pa (edge es k).a + number pb (edge es k).b ≡ (edge es k).value

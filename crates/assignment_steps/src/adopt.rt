@@ -1,7 +1,7 @@
 // Prices that are aimed at, and prices and links that are proposed: taken over where they serve.
-ghost use Rattle.std.specs.Prelude.{◌≡◌, ◌+◌, ◌<◌, ◌≤◌, ℕ, length, slice_index, None, Some, IsTrue};
+ghost use Rattle.std.specs.Prelude.{◌≡◌, ◌<◌, ◌≤◌, ◌↔◌, ℕ, length, slice_index, None, Some, IsTrue};
 ghost use Rattle.link_limits.specs.declared.TheConstants.{MOST_VALUE};
-ghost use Rattle.assignment_steps.specs.Market.{edge, link, number, AreTight, IsInRange, IsMatched};
+ghost use Rattle.assignment_steps.specs.Market.{link, number, AreCovered, AreTight, IsInRange, IsMatched, IsTight};
 ghost use Rattle.assignment_steps.specs.Between.{IsBetween};
 
 use crate::market::{Board, Edge, Net, Proposal};
@@ -10,7 +10,7 @@ use link_limits::MOST_VALUE;
 
 /// Whether no price is too great.
 fn are_small(prices: &[u64]) -> bool
-    ensures { IsTrue result → (r : ℕ) → number prices.now r ≤ MOST_VALUE }
+    ensures { IsTrue result ↔ ((r : ℕ) → number prices.now r ≤ MOST_VALUE) }
 {
     for price in prices {
         if *price > u64::from(MOST_VALUE) {
@@ -25,7 +25,7 @@ fn cover(net: Net<'_>) -> bool
     requires in_range { IsInRange net.edges.now (length net.price_a.now) (length net.price_b.now) }
     requires small_a { (r : ℕ) → number net.price_a.now r ≤ MOST_VALUE }
     requires small_b { (r : ℕ) → number net.price_b.now r ≤ MOST_VALUE }
-    ensures { IsTrue result → (k : ℕ) → k < length net.entry.edges.now → (edge net.entry.edges.now k).value ≤ number net.entry.price_a.now (edge net.entry.edges.now k).a + number net.entry.price_b.now (edge net.entry.edges.now k).b }
+    ensures { IsTrue result ↔ AreCovered net.entry.edges.now net.entry.price_a.now net.entry.price_b.now }
 {
     for k in 0..net.edges.len() {
         let edge = net.edges[k];
@@ -43,7 +43,7 @@ fn is_tight(net: Net<'_>, link_a: &[Option<usize>], a: usize) -> bool
     requires small_a { (r : ℕ) → number net.price_a.now r ≤ MOST_VALUE }
     requires small_b { (r : ℕ) → number net.price_b.now r ≤ MOST_VALUE }
     requires places { (r k : ℕ) → link link_a.now r ≡ Some k → k < length net.edges.now }
-    ensures { IsTrue result → (k : ℕ) → link link_a.now a ≡ Some k → number net.entry.price_a.now (edge net.entry.edges.now k).a + number net.entry.price_b.now (edge net.entry.edges.now k).b ≡ (edge net.entry.edges.now k).value }
+    ensures { IsTrue result ↔ ((k : ℕ) → link link_a.now a ≡ Some k → IsTight net.entry.edges.now net.entry.price_a.now net.entry.price_b.now k) }
 {
     let Some(k) = link_a[a] else {
         return true;
@@ -53,12 +53,12 @@ fn is_tight(net: Net<'_>, link_a: &[Option<usize>], a: usize) -> bool
 }
 
 /// Whether the prices of each link add up to its value.
-fn are_tight(net: Net<'_>, link_a: &[Option<usize>]) -> bool
+fn are_tight(net: Net<'_>, link_a: &[Option<usize>], link_b: &[Option<usize>]) -> bool
     requires in_range { IsInRange net.edges.now (length net.price_a.now) (length net.price_b.now) }
     requires small_a { (r : ℕ) → number net.price_a.now r ≤ MOST_VALUE }
     requires small_b { (r : ℕ) → number net.price_b.now r ≤ MOST_VALUE }
-    requires places { (r k : ℕ) → link link_a.now r ≡ Some k → k < length net.edges.now }
-    ensures { IsTrue result → AreTight net.entry.edges.now net.entry.price_a.now net.entry.price_b.now link_a.now }
+    requires matched { IsMatched net.edges.now link_a.now link_b.now }
+    ensures { IsTrue result ↔ AreTight net.entry.edges.now net.entry.price_a.now net.entry.price_b.now link_a.now }
 {
     for a in 0..link_a.len() {
         if !is_tight(net, link_a, a) {
@@ -71,7 +71,7 @@ fn are_tight(net: Net<'_>, link_a: &[Option<usize>]) -> bool
 /// Whether no record without a link has a price.
 fn are_free_without_price(prices: &[u64], links: &[Option<usize>]) -> bool
     requires { length prices.now ≡ length links.now }
-    ensures { IsTrue result → (r : ℕ) → link links.now r ≡ None → number prices.now r ≡ 0 }
+    ensures { IsTrue result ↔ ((r : ℕ) → link links.now r ≡ None → number prices.now r ≡ 0) }
 {
     for r in 0..prices.len() {
         if links[r].is_none() && prices[r] != 0 {
@@ -87,19 +87,19 @@ fn serve(net: Net<'_>, link_a: &[Option<usize>], link_b: &[Option<usize>]) -> bo
     requires matched { IsMatched net.edges.now link_a.now link_b.now }
     requires rows_a { length link_a.now ≡ length net.price_a.now }
     requires rows_b { length link_b.now ≡ length net.price_b.now }
-    ensures { IsTrue result → IsBetween net.entry.edges.now net.entry.price_a.now net.entry.price_b.now link_a.now link_b.now 0 }
+    ensures { IsTrue result ↔ IsBetween net.entry.edges.now net.entry.price_a.now net.entry.price_b.now link_a.now link_b.now 0 }
 {
     if !are_small(net.price_a) || !are_small(net.price_b) {
         return false;
     }
-    if !cover(net) || !are_tight(net, link_a) {
+    if !cover(net) || !are_tight(net, link_a, link_b) {
         return false;
     }
     are_free_without_price(net.price_b, link_b)
 }
 
 /// Takes new prices over where they serve with the links; else the old prices stay.
-pub fn adopt(
+pub(crate) fn adopt(
     edges: &[Edge],
     price_a: &mut [u64],
     price_b: &mut [u64],
@@ -112,6 +112,7 @@ pub fn adopt(
     requires rows_a { length new_a.now ≡ length price_a.old }
     requires rows_b { length new_b.now ≡ length price_b.old }
     ensures between { IsBetween edges.now price_a.new price_b.new link_a.now link_b.now 0 }
+    ensures adopted { IsBetween edges.now new_a.now new_b.now link_a.now link_b.now 0 → (price_a.new ≡ new_a.now) × (price_b.new ≡ new_b.now) }
 {
     let net = Net {
         edges,
@@ -141,6 +142,7 @@ pub fn adopt_all(
     requires link_a { length new_link_a.now ≡ length link_a.old }
     requires link_b { length new_link_b.now ≡ length link_b.old }
     ensures between { IsBetween net.entry.edges.now price_a.new price_b.new link_a.new link_b.new 0 }
+    ensures adopted { IsBetween net.entry.edges.now net.entry.price_a.now net.entry.price_b.now new_link_a.now new_link_b.now 0 → (price_a.new ≡ net.entry.price_a.now) × (price_b.new ≡ net.entry.price_b.now) × (link_a.new ≡ new_link_a.now) × (link_b.new ≡ new_link_b.now) }
 {
     if serve(net, new_link_a, new_link_b) {
         price_a.copy_from_slice(net.price_a);

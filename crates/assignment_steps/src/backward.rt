@@ -1,5 +1,5 @@
 // A look back from all ends of paths at once, and the fall of each price by its record's own distance.
-ghost use Rattle.std.specs.Prelude.{◌≡◌, ◌+◌, ◌<◌, ◌≤◌, ℕ, length, vec_len, Some};
+ghost use Rattle.std.specs.Prelude.{◌≡◌, ◌+◌, ◌<◌, ◌≤◌, ◌↔◌, ℕ, length, vec_len, None, Some};
 ghost use Rattle.link_limits.specs.declared.TheConstants.{MOST_VALUE};
 ghost use Rattle.assignment_steps.specs.Market.{IsInRange, IsBoard, link, number};
 ghost use Rattle.assignment_steps.specs.Between.{IsBetween};
@@ -191,6 +191,7 @@ fn aim(
 /// How many records of A have a price and no link.
 pub fn waiting(price_a: &[u64], link_a: &[Option<usize>]) -> usize
     requires { length link_a.now ≡ length price_a.now }
+    ensures { (result ≡ 0) ↔ ((a : ℕ) → a < length price_a.now → link link_a.now a ≡ None → number price_a.now a ≡ 0) }
 {
     let mut count = 0usize;
     for a in 0..price_a.len() {

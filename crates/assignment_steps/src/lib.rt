@@ -24,5 +24,5 @@ pub use other_links::join_as_turned;
 pub use paths::follow_paths;
 pub use room::Survey;
 pub use starts::starts_of;
-pub use tight::{link_tight, take};
+pub use tight::link_tight;
 pub use turned::{are_rising, starts_or_zeros, turned_edges};

@@ -66,7 +66,7 @@ fn list_of(distance: u32, last: u32) -> usize
 
 impl Lists {
     /// Lists of so many rows, with room.
-    pub fn new(alloc: Global, rows: usize) -> Result<Lists, NoMemory>
+    pub(crate) fn new(alloc: Global, rows: usize) -> Result<Lists, NoMemory>
         requires small { rows < 2 ^ 32 }
         ensures lists { IfOk result AreLists }
         ensures rows { IfOk result (λ l. vec_len l.dist ≡ rows) }
@@ -85,7 +85,7 @@ impl Lists {
     }
 
     /// Empties the lists.
-    pub fn clear(&mut self)
+    pub(crate) fn clear(&mut self)
         requires lists { AreLists self.old }
         ensures lists { AreLists self.new }
         ensures rows { vec_len self.new.dist ≡ vec_len self.old.dist }
@@ -95,7 +95,7 @@ impl Lists {
     }
 
     /// Puts a row at a distance: last of those at the distance taken last, and first of others.
-    pub fn put(&mut self, row: usize, distance: u32)
+    pub(crate) fn put(&mut self, row: usize, distance: u32)
         requires lists { AreLists self.old }
         requires within { row < vec_len self.old.dist }
         ensures lists { AreLists self.new }
@@ -112,7 +112,7 @@ impl Lists {
     }
 
     /// Puts a row that stands in a list at a shorter distance.
-    pub fn shorten(&mut self, row: usize, distance: u32)
+    pub(crate) fn shorten(&mut self, row: usize, distance: u32)
         requires lists { AreLists self.old }
         requires within { row < vec_len self.old.dist }
         ensures lists { AreLists self.new }
@@ -173,7 +173,7 @@ impl Lists {
     }
 
     /// Takes a row at the least distance.
-    pub fn take_nearest(&mut self) -> Option<usize>
+    pub(crate) fn take_nearest(&mut self) -> Option<usize>
         requires lists { AreLists self.old }
         ensures lists { AreLists self.new }
         ensures rows { vec_len self.new.dist ≡ vec_len self.old.dist }

@@ -99,7 +99,7 @@ fn join_mate(
 }
 
 /// Links each record of A with the record of B beside it, where they have an edge.
-pub fn join_mates(
+pub(crate) fn join_mates(
     board: Board<'_>,
     link_a: &mut [Option<usize>],
     link_b: &mut [Option<usize>],

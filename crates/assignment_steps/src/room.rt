@@ -1,5 +1,5 @@
 // Room for a look back and the paths after it.
-ghost use Rattle.std.specs.Prelude.{◌≡◌, ◌<◌, ◌^◌, IfOk, IsTrue, vec_len};
+ghost use Rattle.std.specs.Prelude.{◌≡◌, ◌≤◌, ◌<◌, ◌^◌, ◌↔◌, IfOk, IsTrue, slice_range, vec_len};
 ghost use Rattle.assignment_steps.specs.Survey.{HasRoom};
 
 use crate::lists::Lists;
@@ -58,14 +58,17 @@ impl Survey {
     }
 
     /// The records of A in the order in which they were reached; at first each, in its order.
-    pub fn reached(&self) -> &[usize] {
+    pub fn reached(&self) -> &[usize]
+        ensures front { self.now.reached ≤ vec_len self.now.order → result.now ≡ slice_range self.now.order.items 0 self.now.reached }
+        ensures whole { vec_len self.now.order ≤ self.now.reached → result.now ≡ self.now.order.items }
+    {
         &self.order[..self.reached.min(self.order.len())]
     }
 
     /// Whether there is room for just so many records.
     pub fn is_for(&self, rows_a: usize, rows_b: usize) -> bool
         requires room { HasRoom (vec_len self.now.order) (vec_len self.now.met) self.now }
-        ensures { IsTrue result → HasRoom rows_a rows_b self.now }
+        ensures { IsTrue result ↔ HasRoom rows_a rows_b self.now }
     {
         self.order.len() == rows_a && self.met.len() == rows_b
     }

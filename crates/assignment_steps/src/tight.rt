@@ -1,15 +1,25 @@
 // Links that are taken over tight edges.
-ghost use Rattle.std.specs.Prelude.{◌≡◌, ◌<◌, length};
+ghost use Rattle.std.specs.Prelude.{◌≡◌, ◌<◌, ℕ, None, Some, length};
 ghost use Rattle.assignment_steps.specs.Between.{IsBetween};
+ghost use Rattle.assignment_steps.specs.Market.{edge, link, IsTight};
+ghost use Rattle.assignment_steps.specs.Free.{AreSettled, IsSettled};
 
 use crate::market::Net;
 
 /// Links the records of the edge `k` where its record of A has no link and their prices add up to its value.
 /// The record of B gives up the link that it has, if it has one.
-pub fn take(net: Net<'_>, link_a: &mut [Option<usize>], link_b: &mut [Option<usize>], k: usize)
+pub(crate) fn take(
+    net: Net<'_>,
+    link_a: &mut [Option<usize>],
+    link_b: &mut [Option<usize>],
+    k: usize,
+)
     requires place { k < length net.edges.now }
     requires between { IsBetween net.edges.now net.price_a.now net.price_b.now link_a.old link_b.old 0 }
     ensures between { IsBetween net.entry.edges.now net.entry.price_a.now net.entry.price_b.now link_a.new link_b.new 0 }
+    ensures taken { link link_a.old (edge net.entry.edges.now k).a ≡ None → IsTight net.entry.edges.now net.entry.price_a.now net.entry.price_b.now k → link link_a.new (edge net.entry.edges.now k).a ≡ Some k }
+    ensures kept_a { link link_b.old (edge net.entry.edges.now k).b ≡ None → (a : ℕ) → link link_a.new a ≡ None → link link_a.old a ≡ None }
+    ensures kept_b { (b : ℕ) → link link_b.new b ≡ None → link link_b.old b ≡ None }
 {
     let edge = net.edges[k];
     let a = edge.a as usize;
@@ -32,16 +42,20 @@ fn take_free(net: Net<'_>, link_a: &mut [Option<usize>], link_b: &mut [Option<us
     requires place { k < length net.edges.now }
     requires between { IsBetween net.edges.now net.price_a.now net.price_b.now link_a.old link_b.old 0 }
     ensures between { IsBetween net.entry.edges.now net.entry.price_a.now net.entry.price_b.now link_a.new link_b.new 0 }
+    ensures settled { IsSettled net.entry.edges.now net.entry.price_a.now net.entry.price_b.now link_a.new link_b.new k }
+    ensures kept_a { (a : ℕ) → link link_a.new a ≡ None → link link_a.old a ≡ None }
+    ensures kept_b { (b : ℕ) → link link_b.new b ≡ None → link link_b.old b ≡ None }
 {
     if link_b[net.edges[k].b as usize].is_none() {
         take(net, link_a, link_b, k);
     }
 }
 
-/// Links records without links over tight edges, in the order of the edges.
+/// Links records without links over tight edges, in the order of the edges, until no tight edge joins two such records.
 pub fn link_tight(net: Net<'_>, link_a: &mut [Option<usize>], link_b: &mut [Option<usize>])
     requires { IsBetween net.edges.now net.price_a.now net.price_b.now link_a.old link_b.old 0 }
-    ensures { IsBetween net.entry.edges.now net.entry.price_a.now net.entry.price_b.now link_a.new link_b.new 0 }
+    ensures between { IsBetween net.entry.edges.now net.entry.price_a.now net.entry.price_b.now link_a.new link_b.new 0 }
+    ensures settled { AreSettled net.entry.edges.now net.entry.price_a.now net.entry.price_b.now link_a.new link_b.new (length net.entry.edges.now) }
 {
     for k in 0..net.edges.len() {
         take_free(net, link_a, link_b, k);
