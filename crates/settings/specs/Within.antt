@@ -7,6 +7,7 @@ use Rattle.link_base.specs.declared.tables.Tables.{Tables}
 use Rattle.settings.specs.Plan.{FieldKeys}
 use Rattle.settings.specs.declared.plan.Plan.{Plan}
 use Rattle.settings.specs.declared.within.NamesWithin.{NamesWithin}
+use Rattle.settings.specs.declared.within.SidesWithin.{SidesWithin}
 
 -- dates have the form of A on both sides
 abbrev pub sort_within : FieldSort → FieldSort
@@ -18,16 +19,19 @@ abbrev pub field_within : FieldKeys → FieldKeys
 field_within f = record f { column_b = f.column_a; sort = sort_within f.sort }
 
 -- the file and its ids on both sides
+abbrev pub sides_of_a : Plan → SidesWithin
+sides_of_a plan = record { file_a = plan.file_a; file_b = plan.file_a; id_a = plan.id_a; id_b = plan.id_a }
+
 abbrev pub names_of_a : Plan → NamesWithin
-names_of_a plan = record { file_a = plan.file_a; file_b = plan.file_a; id_a = plan.id_a; id_b = plan.id_a; sample = plan.sample; journal = plan.journal }
+names_of_a plan = record { sides = sides_of_a plan; sample = plan.sample; journal = plan.journal }
 
 -- other names, tables, fields and passes, and the delimiter of A on both sides
 abbrev pub plan_of_parts : Plan → NamesWithin → Tables → List FieldKeys → List (List Part) → Plan
 plan_of_parts plan names tables fields passes = record plan {
-  file_a = names.file_a;
-  file_b = names.file_b;
-  id_a = names.id_a;
-  id_b = names.id_b;
+  file_a = names.sides.file_a;
+  file_b = names.sides.file_b;
+  id_a = names.sides.id_a;
+  id_b = names.sides.id_b;
   delimiter_b = plan.delimiter_a;
   sample = names.sample;
   journal = names.journal;

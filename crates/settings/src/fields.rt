@@ -55,6 +55,7 @@ fn new_name(alloc: Global, before: &[FieldPlan], keys: &Keys) -> Result<Text, Fa
 {
     let name = keys.needed(alloc, &TextRule::FieldName, "name")?;
     if is_taken(before, &name) {
+        drop(name);
         return Err(Fault::OutOfRange {
             key: Place::new(keys.above, b"name").text(alloc)?,
         });
@@ -74,13 +75,24 @@ fn name_keys(alloc: Global, before: &[FieldPlan], keys: &Keys) -> Result<NameKey
     ensures { IsAnswer (name_keys before.now (table_view keys.now.table.now) keys.now.above.now) result }
 {
     let name = new_name(alloc, before, keys)?;
-    let column_a = column(alloc, &name, keys, "column_a")?;
-    let column_b = column(alloc, &name, keys, "column_b")?;
-    Ok(NameKeys {
-        name,
-        column_a,
-        column_b,
-    })
+    match column(alloc, &name, keys, "column_a") {
+        Ok(column_a) => match column(alloc, &name, keys, "column_b") {
+            Ok(column_b) => Ok(NameKeys {
+                name,
+                column_a,
+                column_b,
+            }),
+            Err(fault) => {
+                drop(column_a);
+                drop(name);
+                Err(fault)
+            }
+        },
+        Err(fault) => {
+            drop(name);
+            Err(fault)
+        }
+    }
 }
 
 #[tactic(auto, unfolding(crate::specs::Field::compare_keys))]

@@ -1,12 +1,15 @@
 // The keys of the top table.
-ghost use Rattle.std.specs.Prelude.{◌≡◌, ◌∷◌, IfErr, IfOk, IfSome, IsUtf8, option_to_list, not};
+ghost use Rattle.std.specs.Prelude.{◌≡◌, ◌∷◌, IfErr, IfOk, IfSome, IsUtf8, codes, option_to_list, not};
 ghost use Rattle.toml.specs.View.{table_view};
 ghost use Rattle.link_base.specs.declared.fault.Fault.TheVariants as fault;
-ghost use Rattle.link_base.specs.Fault.{IsAnswer};
+ghost use Rattle.link_base.specs.Fault.{Gives, IsAnswer};
 ghost use Rattle.link_base.specs.Tables.{AreWordPairs};
+ghost use Rattle.settings_readers.specs.Parts.{defaulted};
+ghost use Rattle.settings.specs.Values.{text};
 ghost use Rattle.settings.specs.Words.{is_one_of};
-ghost use Rattle.settings.specs.Settings.{file_keys, is_free, journal_of, sources, numbers, tables, plan_from, document, settings};
-ghost use Rattle.settings.specs.PlanParts.{link_keys, plan_in_parts};
+ghost use Rattle.settings.specs.declared.texts.TextRule.TheVariants as rule;
+ghost use Rattle.settings.specs.Settings.{is_free, journal_of, numbers, tables, plan_from, document, settings};
+ghost use Rattle.settings.specs.PlanParts.{files_in_parts, id_columns, link_keys, matching_keys, other_sources, plan_in_parts, sources_in_parts, tables_over, two_files};
 ghost use Rattle.settings.specs.Ranges.{IsSettingsFault, KeepsRanges, NamesFiles};
 
 use crate::fields::Fields;
@@ -18,7 +21,7 @@ use crate::word_tables::{Texts, WordTable};
 use crate::words::Delimiters;
 use link_base::{Fault, PassList, Tables, Text};
 use link_limits::PER_MILLION;
-use settings_readers::{Choice, Keys, Place, Truth, Whole};
+use settings_readers::{Choice, Keys, Place, Reader, Truth, Whole};
 use std::alloc::Global;
 
 const TOP_KEYS: [&str; 21] = [
@@ -52,6 +55,15 @@ pub(crate) struct FileKeys {
     file_b: FileName,
     id_a: Text,
     id_b: Text,
+}
+
+/// The keys on all files but the two and their ids.
+#[derive(Drop)]
+pub(crate) struct OtherSources {
+    delimiter_a: u8,
+    delimiter_b: u8,
+    sample: Option<FileName>,
+    journal: Option<FileName>,
 }
 
 /// The keys on all files.
@@ -118,6 +130,7 @@ fn journal_of(
 {
     let journal = keys.optional(alloc, &File, "journal")?;
     if !is_free(files, sample, &journal) {
+        drop(journal);
         return Err(Fault::OutOfRange {
             key: Place::new(keys.above, b"journal").text(alloc)?,
         });
@@ -125,40 +138,101 @@ fn journal_of(
     Ok(journal)
 }
 
-#[tactic(auto, unfolding(crate::specs::Settings::file_keys))]
-fn file_keys(alloc: Global, keys: &Keys) -> Result<FileKeys, Fault>
-    ensures { IsAnswer (file_keys (table_view keys.now.table.now) keys.now.above.now) result }
+#[tactic(auto, unfolding(crate::specs::PlanParts::two_files))]
+fn two_files(alloc: Global, keys: &Keys) -> Result<(FileName, FileName), Fault>
+    ensures { IsAnswer (two_files (table_view keys.now.table.now) keys.now.above.now) result }
 {
-    let label = TextRule::Label;
     let file_a = keys.needed(alloc, &File, "file_a")?;
-    let file_b = keys.needed(alloc, &File, "file_b")?;
-    let id_a = keys.defaulted(alloc, &label, Text::new(alloc, b"id")?, "id_a")?;
-    let id_b = keys.defaulted(alloc, &label, Text::new(alloc, b"id")?, "id_b")?;
-    Ok(FileKeys {
-        file_a,
-        file_b,
-        id_a,
-        id_b,
-    })
+    match keys.needed(alloc, &File, "file_b") {
+        Ok(file_b) => Ok((file_a, file_b)),
+        Err(fault) => {
+            drop(file_a);
+            Err(fault)
+        }
+    }
 }
 
-#[tactic(auto, unfolding(crate::specs::Settings::sources))]
-fn sources(alloc: Global, keys: &Keys) -> Result<SourceKeys, Fault>
-    ensures { IsAnswer (sources (table_view keys.now.table.now) keys.now.above.now) result }
+// The column of ids at a key; it is `id` where the key is not there.
+fn id_column(alloc: Global, keys: &Keys, key: &str) -> Result<Text, Fault>
+    ensures { IsAnswer (defaulted (text rule.Label) (codes "id") (table_view keys.now.table.now) keys.now.above.now key.now) result }
+{
+    keys.defaulted(alloc, &TextRule::Label, Text::new(alloc, b"id")?, key)
+}
+
+#[tactic(auto, unfolding(crate::specs::PlanParts::id_columns))]
+fn id_columns(alloc: Global, keys: &Keys) -> Result<(Text, Text), Fault>
+    ensures { IsAnswer (id_columns (table_view keys.now.table.now) keys.now.above.now) result }
+{
+    let id_a = id_column(alloc, keys, "id_a")?;
+    match id_column(alloc, keys, "id_b") {
+        Ok(id_b) => Ok((id_a, id_b)),
+        Err(fault) => {
+            drop(id_a);
+            Err(fault)
+        }
+    }
+}
+
+#[tactic(auto, unfolding(crate::specs::PlanParts::files_in_parts))]
+fn file_keys(alloc: Global, keys: &Keys) -> Result<FileKeys, Fault>
+    ensures { IsAnswer (files_in_parts (table_view keys.now.table.now) keys.now.above.now) result }
+{
+    let (file_a, file_b) = two_files(alloc, keys)?;
+    match id_columns(alloc, keys) {
+        Ok((id_a, id_b)) => Ok(FileKeys {
+            file_a,
+            file_b,
+            id_a,
+            id_b,
+        }),
+        Err(fault) => {
+            drop(file_a);
+            drop(file_b);
+            Err(fault)
+        }
+    }
+}
+
+#[tactic(auto, unfolding(crate::specs::PlanParts::other_sources))]
+fn other_sources(alloc: Global, files: &FileKeys, keys: &Keys) -> Result<OtherSources, Fault>
+    ensures { IsAnswer (other_sources files.now (table_view keys.now.table.now) keys.now.above.now) result }
 {
     let delimiter = Choice(Delimiters);
-    let files = file_keys(alloc, keys)?;
     let delimiter_a = keys.defaulted(alloc, &delimiter, b',', "delimiter_a")?;
     let delimiter_b = keys.defaulted(alloc, &delimiter, b',', "delimiter_b")?;
     let sample = keys.optional(alloc, &File, "sample")?;
-    let journal = journal_of(alloc, &files, &sample, keys)?;
-    Ok(SourceKeys {
-        files,
-        delimiter_a,
-        delimiter_b,
-        sample,
-        journal,
-    })
+    match journal_of(alloc, files, &sample, keys) {
+        Ok(journal) => Ok(OtherSources {
+            delimiter_a,
+            delimiter_b,
+            sample,
+            journal,
+        }),
+        Err(fault) => {
+            drop(sample);
+            Err(fault)
+        }
+    }
+}
+
+#[tactic(auto, unfolding(crate::specs::PlanParts::sources_in_parts))]
+fn sources(alloc: Global, keys: &Keys) -> Result<SourceKeys, Fault>
+    ensures { IsAnswer (sources_in_parts (table_view keys.now.table.now) keys.now.above.now) result }
+{
+    let files = file_keys(alloc, keys)?;
+    match other_sources(alloc, &files, keys) {
+        Ok(others) => Ok(SourceKeys {
+            files,
+            delimiter_a: others.delimiter_a,
+            delimiter_b: others.delimiter_b,
+            sample: others.sample,
+            journal: others.journal,
+        }),
+        Err(fault) => {
+            drop(files);
+            Err(fault)
+        }
+    }
 }
 
 #[tactic(auto, unfolding(crate::specs::Settings::numbers))]
@@ -189,11 +263,26 @@ fn numbers(alloc: Global, keys: &Keys) -> Result<NumberKeys, Fault>
     })
 }
 
-#[tactic(auto, unfolding(crate::specs::Settings::tables))]
-fn tables(alloc: Global, keys: &Keys) -> Result<Tables, Fault>
-    ensures gives { IsAnswer (tables (table_view keys.now.table.now) keys.now.above.now) result }
-    ensures names { IfOk result (λ tables. AreWordPairs tables.names) }
-    ensures places { IfOk result (λ tables. AreWordPairs tables.places) }
+// What stands at a key takes the place of the default, which stays where the key is not there.
+fn replace<R: Reader>(
+    alloc: Global,
+    item: &mut R::Item,
+    reader: &R,
+    keys: &Keys,
+    key: &str,
+) -> Result<(), Fault>
+    ensures { Gives (λ _. item.new) (defaulted (R.gives reader.now) item.old (table_view keys.now.table.now) keys.now.above.now key.now) result }
+{
+    match keys.optional(alloc, reader, key)? {
+        None => {}
+        Some(given) => *item = given,
+    }
+    Ok(())
+}
+
+#[tactic(auto, unfolding(crate::specs::PlanParts::tables_over))]
+fn replace_tables(alloc: Global, tables: &mut Tables, keys: &Keys) -> Result<(), Fault>
+    ensures { Gives (λ _. tables.new) (tables_over tables.old (table_view keys.now.table.now) keys.now.above.now) result }
 {
     let marks = Texts {
         most: MOST_MARKS,
@@ -203,22 +292,32 @@ fn tables(alloc: Global, keys: &Keys) -> Result<Tables, Fault>
         most: MOST_LISTED_WORDS,
         rule: TextRule::Word,
     };
-    let standard = Tables::standard(alloc)?;
-    let missing = keys.defaulted(alloc, &marks, standard.missing, "missing")?;
-    let titles = keys.defaulted(alloc, &words, standard.titles, "titles")?;
-    let suffixes = keys.defaulted(alloc, &words, standard.suffixes, "suffixes")?;
-    let names = keys.defaulted(alloc, &WordTable, standard.names, "names")?;
-    let places = keys.defaulted(alloc, &WordTable, standard.places, "places")?;
-    // That pairs are words and rise is a fact of their type, which the clauses repeat.
-    let _ = names.pairs();
-    let _ = places.pairs();
-    Ok(Tables {
-        missing,
-        titles,
-        suffixes,
-        names,
-        places,
-    })
+    replace(alloc, &mut tables.missing, &marks, keys, "missing")?;
+    replace(alloc, &mut tables.titles, &words, keys, "titles")?;
+    replace(alloc, &mut tables.suffixes, &words, keys, "suffixes")?;
+    replace(alloc, &mut tables.names, &WordTable, keys, "names")?;
+    replace(alloc, &mut tables.places, &WordTable, keys, "places")
+}
+
+#[tactic(auto, unfolding(crate::specs::Settings::tables, crate::specs::PlanParts::tables_over))]
+fn tables(alloc: Global, keys: &Keys) -> Result<Tables, Fault>
+    ensures gives { IsAnswer (tables (table_view keys.now.table.now) keys.now.above.now) result }
+    ensures names { IfOk result (λ tables. AreWordPairs tables.names) }
+    ensures places { IfOk result (λ tables. AreWordPairs tables.places) }
+{
+    let mut tables = Tables::standard(alloc)?;
+    match replace_tables(alloc, &mut tables, keys) {
+        Ok(()) => {
+            // That pairs are words and rise is a fact of their type, which the clauses repeat.
+            let _ = tables.names.pairs();
+            let _ = tables.places.pairs();
+            Ok(tables)
+        }
+        Err(fault) => {
+            drop(tables);
+            Err(fault)
+        }
+    }
 }
 
 fn optional_text(name: Option<FileName>) -> Option<Text>
@@ -267,6 +366,20 @@ fn plan_from(
     }
 }
 
+#[tactic(auto, unfolding(crate::specs::PlanParts::matching_keys))]
+fn matching_keys(alloc: Global, sampled: bool, keys: &Keys) -> Result<(FieldList, PassList), Fault>
+    ensures { IsAnswer (matching_keys sampled (table_view keys.now.table.now) keys.now.above.now) result }
+{
+    let fields = keys.needed(alloc, &Fields { sampled }, "field")?;
+    match keys.needed(alloc, &Passes { fields: &fields }, "pass") {
+        Ok(passes) => Ok((fields, passes)),
+        Err(fault) => {
+            drop(fields);
+            Err(fault)
+        }
+    }
+}
+
 #[tactic(auto, unfolding(crate::specs::PlanParts::link_keys))]
 fn link_keys(alloc: Global, sampled: bool, keys: &Keys) -> Result<LinkKeys, Fault>
     ensures gives { IsAnswer (link_keys sampled (table_view keys.now.table.now) keys.now.above.now) result }
@@ -275,14 +388,18 @@ fn link_keys(alloc: Global, sampled: bool, keys: &Keys) -> Result<LinkKeys, Faul
 {
     let numbers = numbers(alloc, keys)?;
     let tables = tables(alloc, keys)?;
-    let fields = keys.needed(alloc, &Fields { sampled }, "field")?;
-    let passes = keys.needed(alloc, &Passes { fields: &fields }, "pass")?;
-    Ok(LinkKeys {
-        numbers,
-        tables,
-        fields,
-        passes,
-    })
+    match matching_keys(alloc, sampled, keys) {
+        Ok((fields, passes)) => Ok(LinkKeys {
+            numbers,
+            tables,
+            fields,
+            passes,
+        }),
+        Err(fault) => {
+            drop(tables);
+            Err(fault)
+        }
+    }
 }
 
 #[tactic(auto, unfolding(crate::specs::PlanParts::plan_in_parts))]
@@ -294,14 +411,19 @@ fn plan_of(alloc: Global, keys: &Keys) -> Result<Plan, Fault>
 {
     keys.known(alloc, &TOP_KEYS)?;
     let sources = sources(alloc, keys)?;
-    let links = link_keys(alloc, sources.sample.is_some(), keys)?;
-    Ok(plan_from(
-        sources,
-        links.numbers,
-        links.tables,
-        links.fields,
-        links.passes,
-    ))
+    match link_keys(alloc, sources.sample.is_some(), keys) {
+        Ok(links) => Ok(plan_from(
+            sources,
+            links.numbers,
+            links.tables,
+            links.fields,
+            links.passes,
+        )),
+        Err(fault) => {
+            drop(sources);
+            Err(fault)
+        }
+    }
 }
 
 /// The plan of a settings file, or its first key at fault. Bytes that are not UTF-8 are not TOML.

@@ -8,7 +8,7 @@ ghost use Rattle.settings.specs.WordTables.{texts, word_pair, pairs, small_table
 
 use crate::limits::MOST_WORD_PAIRS;
 use crate::texts::{TextRule, fits};
-use link_base::{Fault, Text, TextList, WordPair, WordPairs};
+use link_base::{Fault, NoMemory, Text, TextList, WordPair, WordPairs};
 use settings_readers::{Element, Items, Place, Reader};
 use std::alloc::Global;
 use toml::{Table, Value};
@@ -60,8 +60,13 @@ fn word_pair(alloc: Global, place: &Place, key: &str, value: &Value) -> Result<W
         });
     }
     let to = Reader::read(&TextRule::Word, alloc, place, value)?;
-    let from = Text::new(alloc, key.as_bytes())?;
-    Ok(WordPair { from, to })
+    match Text::new(alloc, key.as_bytes()) {
+        Ok(from) => Ok(WordPair { from, to }),
+        Err(NoMemory) => {
+            drop(to);
+            Err(Fault::NoMemory)
+        }
+    }
 }
 
 /// The entries of a word table, in the order of their keys.
@@ -71,8 +76,13 @@ fn pairs(alloc: Global, table: &Table, above: &[u8]) -> Result<Vec<WordPair>, Fa
     let mut before = Vec::new(alloc);
     for (key, value) in table {
         let place = Place::new(above, key.as_str().as_bytes());
-        let pair = word_pair(alloc, &place, key.as_str(), value)?;
-        before.push(pair)?;
+        match word_pair(alloc, &place, key.as_str(), value) {
+            Ok(pair) => before.push(pair)?,
+            Err(fault) => {
+                drop(before);
+                return Err(fault);
+            }
+        }
     }
     Ok(before)
 }
@@ -108,6 +118,8 @@ impl Reader for WordTable {
     fn read(&self, alloc: Global, place: &Place, value: &Value) -> Result<WordPairs, Fault> {
         let table = small_table(alloc, place, value)?;
         let above = place.below(alloc)?;
-        Ok(WordPairs::of(pairs(alloc, table, &above)?))
+        let pairs = pairs(alloc, table, &above);
+        drop(above);
+        Ok(WordPairs::of(pairs?))
     }
 }

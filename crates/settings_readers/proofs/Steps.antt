@@ -1,11 +1,15 @@
--- The length of an array.
-use Rattle.std.proofs.Common.{◌≡◌, ℕ, List, [], ◌∷◌, length, Some, refl, arith}
-use Rattle.std.specs.Prelude.{nat_le, ◌&&◌}
+-- The length of an array, and its items one by one.
+use Rattle.std.proofs.Common.{◌≡◌, ◌<◌, ◌+◌, ◌++◌, ◌∙◌, ℕ, List, [], ◌∷◌, Bool, true, false, Result, Ok, Err, length, length-append, drop, get_or, Some, ap, refl, subst, sym, arith}
+use Rattle.std.specs.Prelude.{MatchBool, ⊤, decimal, nat_le, ◌&&◌}
+use Rattle.std.proofs.lemmas.List.{drop_more}
 use Rattle.toml.specs.Data.{Data, as_array}
-use Rattle.toml.specs.View.{items_view}
+use Rattle.toml.specs.View.{items_view, view}
 use Rattle.toml.specs.declared.value.Value.{Value}
-use Rattle.settings_readers.specs.Parts.{in_range}
-use Rattle.settings_readers.specs.Lists.{items_len, sized}
+use Rattle.link_base.specs.Answers.{RefusesBut}
+use Rattle.link_base.specs.Fault.{is_want}
+use Rattle.link_base.specs.declared.fault.Fault.{Fault}
+use Rattle.settings_readers.specs.Parts.{◌>>=◌, in_range}
+use Rattle.settings_readers.specs.Lists.{each, items_len, sized}
 
 pub items_len-view : (vs : List Value) → items_len (items_view vs) ≡ length vs
 items_len-view [] = refl
@@ -14,3 +18,36 @@ items_len-view (v ∷ vs) = omega (arith, items_len-view vs)
 pub sized_is : (low high n : ℕ) (at : List ℕ) (d : Data) (vs : List Value) → Some (items_view vs) ≡ as_array d → n ≡ length vs
     → sized low high at d ≡ in_range at (nat_le low n && nat_le n high) (items_view vs)
 sized_is low high n at d vs is len = rw (← is, items_len-view, ← len)
+
+-- the items from one on, by that item
+each_from : {A : Type 0} (read : List A → List ℕ → Data → Result A Fault) (above : List ℕ) (vs : List Value) (i : ℕ) (v : Value) (before : List A) → i < length vs → v ≡ get_or vs i v
+    → each read above (items_view (drop i vs)) before (i + 1) ≡ (read before (above ++ decimal (i + 1)) (view v) >>= λ x. each read above (items_view (drop (i + 1) vs)) (before ++ x ∷ []) (i + 1 + 1))
+each_from read above vs i v before lt is =
+    let left : drop i vs ≡ v ∷ drop (i + 1) vs = drop_more vs i v lt ∙ ap (λ w. w ∷ drop (i + 1) vs) (sym is) in
+    ap (λ ws. each read above (items_view ws) before (i + 1)) left
+
+-- an item that is read
+pub each_more : {A : Type 0} (read : List A → List ℕ → Data → Result A Fault) (above : List ℕ) (vs : List Value) (i : ℕ) (v : Value) (before seen more : List A) (x : A) (total : Result (List A) Fault) → i < length vs → v ≡ get_or vs i v
+    → seen ≡ before → read seen (above ++ decimal (i + 1)) (view v) ≡ Ok x → more ≡ before ++ x ∷ [] → each read above (items_view (drop i vs)) before (i + 1) ≡ total
+    → each read above (items_view (drop (i + 1) vs)) more (i + 1 + 1) ≡ total
+each_more {A = A} read above vs i v before seen more x total lt is same reads grown so_far =
+    let here : read before (above ++ decimal (i + 1)) (view v) ≡ Ok x = ap (λ b. read b (above ++ decimal (i + 1)) (view v)) (sym same) ∙ reads in
+    let next : Result (List A) Fault = each read above (items_view (drop (i + 1) vs)) (before ++ x ∷ []) (i + 1 + 1) in
+    let taken : each read above (items_view (drop i vs)) before (i + 1) ≡ next = each_from read above vs i v before lt is ∙ ap (λ r. r >>= λ y. each read above (items_view (drop (i + 1) vs)) (before ++ y ∷ []) (i + 1 + 1)) here in
+    ap (λ b. each read above (items_view (drop (i + 1) vs)) b (i + 1 + 1)) grown ∙ sym taken ∙ so_far
+
+pub one_longer : {A : Type 0} (before more : List A) (x : A) (i : ℕ) → more ≡ before ++ x ∷ [] → length before ≡ i → length more ≡ i + 1
+one_longer before more x i grown len = omega (arith, ap length grown, length-append before (x ∷ []), len)
+
+refused_then : {A B : Type 0} (b : Bool) (r : Result A Fault) (next : A → Result B Fault) (f : Fault) → MatchBool b ⊤ (r ≡ Err f) → MatchBool b ⊤ ((r >>= next) ≡ Err f)
+refused_then true r next f h = tt
+refused_then false r next f h = ap (λ q. q >>= next) h
+
+-- an item that is refused
+pub each_refused : {A : Type 0} (read : List A → List ℕ → Data → Result A Fault) (above : List ℕ) (vs : List Value) (i : ℕ) (v : Value) (before seen : List A) (f : Fault) (total : Result (List A) Fault) → i < length vs → v ≡ get_or vs i v
+    → seen ≡ before → RefusesBut is_want (read seen (above ++ decimal (i + 1)) (view v)) f → each read above (items_view (drop i vs)) before (i + 1) ≡ total
+    → RefusesBut is_want total f
+each_refused read above vs i v before seen f total lt is same refused so_far =
+    let here : RefusesBut is_want (read before (above ++ decimal (i + 1)) (view v)) f = subst (λ b. RefusesBut is_want (read b (above ++ decimal (i + 1)) (view v)) f) same refused in
+    let all = refused_then (is_want f) (read before (above ++ decimal (i + 1)) (view v)) (λ y. each read above (items_view (drop (i + 1) vs)) (before ++ y ∷ []) (i + 1 + 1)) f here in
+    subst (λ r. RefusesBut is_want r f) (sym (each_from read above vs i v before lt is) ∙ so_far) all

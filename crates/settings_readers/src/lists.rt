@@ -1,7 +1,7 @@
 // Arrays.
-ghost use Rattle.std.specs.Prelude.{◌≡◌, ◌≤◌, [], IfOk, length, ◌&&◌, nat_le};
+ghost use Rattle.std.specs.Prelude.{◌≡◌, ◌≤◌, ◌++◌, [], IfOk, decimal, length, ◌&&◌, nat_le};
 ghost use Rattle.toml.specs.View.{view, items_view};
-ghost use Rattle.link_base.specs.Fault.{Gives};
+ghost use Rattle.link_base.specs.Fault.{Gives, IsAnswer};
 ghost use Rattle.settings_readers.specs.Lists.{array_of, each, on_table, sized};
 
 use crate::keys::Keys;
@@ -10,6 +10,24 @@ use crate::readers::{Element, Row};
 use link_base::Fault;
 use std::alloc::Global;
 use toml::Value;
+
+/// The item of a number, at the path that its number ends.
+fn numbered<E: Element>(
+    alloc: Global,
+    element: &E,
+    before: &[E::Item],
+    value: &Value,
+    above: &[u8],
+    number: usize,
+) -> Result<E::Item, Fault>
+    ensures { IsAnswer (E.gives element.now before.now (above.now ++ decimal number) (view value.now)) result }
+{
+    let number = format!(in alloc; "{}", number)?;
+    let place = Place::new(above, number.as_bytes());
+    let item = element.read(alloc, before, &place, value);
+    drop(number);
+    item
+}
 
 /// The items of an array, each read in turn.
 fn each<E: Element>(
@@ -23,10 +41,13 @@ fn each<E: Element>(
 {
     let mut before = Vec::new(alloc);
     for (i, value) in array.iter().enumerate() {
-        let number = format!(in alloc; "{}", i + 1)?;
-        let place = Place::new(above, number.as_bytes());
-        let item = element.read(alloc, &before, &place, value)?;
-        before.push(item)?;
+        match numbered(alloc, element, &before, value, above, i + 1) {
+            Ok(item) => before.push(item)?,
+            Err(fault) => {
+                drop(before);
+                return Err(fault);
+            }
+        }
     }
     Ok(before)
 }
@@ -81,7 +102,9 @@ impl<E: Element> Items<E> {
     {
         let array = sized(alloc, self.low, self.high, place, value)?;
         let above = place.below(alloc)?;
-        each(alloc, &self.element, array, &above)
+        let items = each(alloc, &self.element, array, &above);
+        drop(above);
+        items
     }
 }
 
@@ -111,7 +134,9 @@ impl<R: Row> Element for Rows<R> {
                     table,
                     above: &above,
                 };
-                self.0.read(alloc, before, &keys)
+                let item = self.0.read(alloc, before, &keys);
+                drop(above);
+                item
             }
         }
     }
