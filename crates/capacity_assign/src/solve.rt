@@ -7,7 +7,7 @@ ghost use Rattle.capacity_assign.specs.Seating.{seating};
 ghost use Rattle.capacity_assign.specs.Round.{AreSmall};
 ghost use Rattle.capacity_assign.specs.Solution.{HasSmallValue};
 ghost use Rattle.link_limits.specs.declared.TheConstants.{MOST_VALUE};
-ghost use Rattle.capacity_assign.specs.Growth.{AreFirsts, IsClean, IsRising};
+ghost use Rattle.capacity_assign.specs.Growth.{AreFar, AreFirsts, IsClean, IsRising};
 
 use crate::market::{Edge, FAR, Seats, Tree};
 use distance_queue::DistanceQueue;
@@ -129,25 +129,50 @@ fn raise_to(prices: &mut [u64], position: usize, value: u64)
     }
 }
 
-/// Seats before any is taken.
-pub fn no_seats(alloc: Global, rows_a: usize, capacity: &[u32]) -> Result<Seats, NoMemory>
-    ensures { IfOk result (λ s. AreEmpty rows_a capacity.now (seating s)) }
+/// Where each record of A sits, who sits at each seat, and whose each seat is.
+#[derive(Drop)]
+struct Places {
+    seat: Vec<usize>,
+    row: Vec<usize>,
+    owner: Vec<usize>,
+}
+
+/// Room for the places of so many records of A.
+fn room_for_places(alloc: Global, rows_a: usize) -> Result<Places, NoMemory>
+    ensures seats { IfOk result (λ p. length p.seat.items ≡ rows_a) }
+    ensures rows { IfOk result (λ p. length p.row.items ≡ rows_a) }
+    ensures owners { IfOk result (λ p. length p.owner.items ≡ rows_a) }
 {
     let seat = vec![in alloc; 0usize; rows_a]?;
     let row = vec![in alloc; 0usize; rows_a]?;
     let owner = vec![in alloc; 0usize; rows_a]?;
+    Ok(Places { seat, row, owner })
+}
+
+/// Seats before any is taken.
+pub fn no_seats(alloc: Global, rows_a: usize, capacity: &[u32]) -> Result<Seats, NoMemory>
+    ensures { IfOk result (λ s. AreEmpty rows_a capacity.now (seating s)) }
+{
     let earlier = vec![in alloc; None; rows_a]?;
     let last = vec![in alloc; None; capacity.len()]?;
     let left = Vec::from_slice(alloc, capacity)?;
-    Ok(Seats {
-        seat,
-        row,
-        owner,
-        earlier,
-        last,
-        left,
-        count: 0,
-    })
+    match room_for_places(alloc, rows_a) {
+        Ok(places) => Ok(Seats {
+            seat: places.seat,
+            row: places.row,
+            owner: places.owner,
+            earlier,
+            last,
+            left,
+            count: 0,
+        }),
+        Err(error) => {
+            drop(earlier);
+            drop(last);
+            drop(left);
+            Err(error)
+        }
+    }
 }
 
 /// How many edges are of records of A below this one.
@@ -182,6 +207,28 @@ pub fn firsts(alloc: Global, edges: &[Edge], rows_a: usize) -> Result<Vec<usize>
     Ok(first)
 }
 
+/// Distances of the records of one side, a number for each, and those that were reached.
+#[derive(Drop)]
+struct Distances {
+    dist: Vec<u64>,
+    number: Vec<usize>,
+    reached: Vec<usize>,
+}
+
+/// Distances of a side of which no record was reached.
+fn no_distances(alloc: Global, rows: usize) -> Result<Distances, NoMemory>
+    ensures { IfOk result (AreFar rows) }
+{
+    let dist = vec![in alloc; FAR; rows]?;
+    let number = vec![in alloc; 0usize; rows]?;
+    let reached = Vec::with_capacity(alloc, rows)?;
+    Ok(Distances {
+        dist,
+        number,
+        reached,
+    })
+}
+
 /// A tree with nothing in it.
 pub fn clean_tree(
     alloc: Global,
@@ -192,26 +239,28 @@ pub fn clean_tree(
     ensures clean { IfOk result (λ t. IsClean rows_a rows_b t) }
     ensures queue { IfOk result (λ t. edges ≤ t.frontier.room) }
 {
-    let dist_a = vec![in alloc; FAR; rows_a]?;
-    let rank = vec![in alloc; 0usize; rows_a]?;
-    let dist_b = vec![in alloc; FAR; rows_b]?;
-    let from = vec![in alloc; 0usize; rows_b]?;
-    let records = Vec::with_capacity(alloc, rows_a)?;
-    let touched = Vec::with_capacity(alloc, rows_b)?;
-    let frontier = DistanceQueue::new(alloc, edges)?;
-    Ok(Tree {
-        dist_a,
-        rank,
-        dist_b,
-        from,
-        records,
-        touched,
-        frontier,
-        best: 0,
-        best_record: 0,
-        current: 0,
-        held: None,
-    })
+    let of_a = no_distances(alloc, rows_a)?;
+    let of_b = no_distances(alloc, rows_b)?;
+    match DistanceQueue::new(alloc, edges) {
+        Ok(frontier) => Ok(Tree {
+            dist_a: of_a.dist,
+            rank: of_a.number,
+            dist_b: of_b.dist,
+            from: of_b.number,
+            records: of_a.reached,
+            touched: of_b.reached,
+            frontier,
+            best: 0,
+            best_record: 0,
+            current: 0,
+            held: None,
+        }),
+        Err(error) => {
+            drop(of_a);
+            drop(of_b);
+            Err(error)
+        }
+    }
 }
 
 /// As many records without a link.
