@@ -112,26 +112,19 @@ impl CapacityAssigner {
         let graph = graph_of(alloc, rows_a as usize, candidates)?;
         let capacities = Vec::from_slice(alloc, capacity)?;
         let kept = Vec::from_slice(alloc, candidates)?;
-        match start_of(alloc, &graph.edges, rows_a as usize, capacity) {
-            Ok(start) => Ok(CapacityAssigner {
-                rows_a,
-                capacity: capacities,
-                candidates: kept,
-                edges: graph.edges,
-                first: graph.first,
-                price_a: start.prices.a,
-                price_b: start.prices.b,
-                link_a: start.link_a,
-                seats: start.seats,
-                tree: start.tree,
-            }),
-            Err(error) => {
-                drop(graph);
-                drop(capacities);
-                drop(kept);
-                Err(error)
-            }
-        }
+        let start = start_of(alloc, &graph.edges, rows_a as usize, capacity)?;
+        Ok(CapacityAssigner {
+            rows_a,
+            capacity: capacities,
+            candidates: kept,
+            edges: graph.edges,
+            first: graph.first,
+            price_a: start.prices.a,
+            price_b: start.prices.b,
+            link_a: start.link_a,
+            seats: start.seats,
+            tree: start.tree,
+        })
     }
 
     /// A greatest list of the candidates within the capacities, and prices that certify it.

@@ -129,50 +129,25 @@ fn raise_to(prices: &mut [u64], position: usize, value: u64)
     }
 }
 
-/// Where each record of A sits, who sits at each seat, and whose each seat is.
-#[derive(Drop)]
-struct Places {
-    seat: Vec<usize>,
-    row: Vec<usize>,
-    owner: Vec<usize>,
-}
-
-/// Room for the places of so many records of A.
-fn room_for_places(alloc: Global, rows_a: usize) -> Result<Places, NoMemory>
-    ensures seats { IfOk result (λ p. length p.seat.items ≡ rows_a) }
-    ensures rows { IfOk result (λ p. length p.row.items ≡ rows_a) }
-    ensures owners { IfOk result (λ p. length p.owner.items ≡ rows_a) }
-{
-    let seat = vec![in alloc; 0usize; rows_a]?;
-    let row = vec![in alloc; 0usize; rows_a]?;
-    let owner = vec![in alloc; 0usize; rows_a]?;
-    Ok(Places { seat, row, owner })
-}
-
 /// Seats before any is taken.
 pub fn no_seats(alloc: Global, rows_a: usize, capacity: &[u32]) -> Result<Seats, NoMemory>
     ensures { IfOk result (λ s. AreEmpty rows_a capacity.now (seating s)) }
 {
+    let seat = vec![in alloc; 0usize; rows_a]?;
+    let row = vec![in alloc; 0usize; rows_a]?;
+    let owner = vec![in alloc; 0usize; rows_a]?;
     let earlier = vec![in alloc; None; rows_a]?;
     let last = vec![in alloc; None; capacity.len()]?;
     let left = Vec::from_slice(alloc, capacity)?;
-    match room_for_places(alloc, rows_a) {
-        Ok(places) => Ok(Seats {
-            seat: places.seat,
-            row: places.row,
-            owner: places.owner,
-            earlier,
-            last,
-            left,
-            count: 0,
-        }),
-        Err(error) => {
-            drop(earlier);
-            drop(last);
-            drop(left);
-            Err(error)
-        }
-    }
+    Ok(Seats {
+        seat,
+        row,
+        owner,
+        earlier,
+        last,
+        left,
+        count: 0,
+    })
 }
 
 /// How many edges are of records of A below this one.

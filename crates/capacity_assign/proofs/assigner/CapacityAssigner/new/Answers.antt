@@ -18,8 +18,8 @@ invariant_of-result c =
     let kept = c.in_ok-kept.ensures.items in
     let places = c.in_ok-capacities.ensures.items in
     let made = c.in_ok-graph.ensures.edges in
-    let s = c.in-Ok.start in
-    let start : IsStart (edges_of cs) c.args.rows_a ns s = rw (c.deref.ensures.value, made) at c.in-Ok.ensures in
+    let s = c.in_ok-start.start in
+    let start : IsStart (edges_of cs) c.args.rows_a ns s = rw (c.deref.ensures.value, made) at c.in_ok-start.ensures in
     let closed = start.prices.closed in
     let reach = start.prices.reach in
     record {
