@@ -82,26 +82,19 @@ impl Assigner {
         let part_numbers = part_numbers(alloc, rows_b, candidates)?;
         let graph = graph_of(alloc, rows_a, rows_b, candidates)?;
         let candidates = Vec::from_slice(alloc, candidates)?;
-        match first_sides(alloc, rows_a, rows_b, &graph) {
-            Ok(sides) => Ok(Assigner {
-                rows_a,
-                rows_b,
-                candidates,
-                part_numbers,
-                edges: graph.edges,
-                starts: graph.starts,
-                turned: graph.turned,
-                turned_starts: graph.turned_starts,
-                own: sides.own,
-                other: sides.other,
-            }),
-            Err(error) => {
-                drop(part_numbers);
-                drop(graph);
-                drop(candidates);
-                Err(error)
-            }
-        }
+        let sides = first_sides(alloc, rows_a, rows_b, &graph)?;
+        Ok(Assigner {
+            rows_a,
+            rows_b,
+            candidates,
+            part_numbers,
+            edges: graph.edges,
+            starts: graph.starts,
+            turned: graph.turned,
+            turned_starts: graph.turned_starts,
+            own: sides.own,
+            other: sides.other,
+        })
     }
 
     /// How many parts the candidates have. Two candidates are of one part exactly where a chain of
