@@ -1,12 +1,8 @@
 // The assigner and its answer.
-ghost use Rattle.std.specs.Prelude.{◌≡◌, ◌+◌, ◌<◌, ◌≤◌, ◌^◌, ℕ, length, List, All, AllPairs, IfOk, slice_index, ℤ, pos, ◌≤ℤ◌};
+ghost use Rattle.std.specs.Prelude.{◌≡◌, ◌<◌, ◌≤◌, length, All, AllPairs, IfOk, slice_index, pos, ◌≤ℤ◌};
 ghost use Rattle.assignment_laws.specs.Assignment.{IsBefore, IsWithin, IsGreatest, Certifies, greatest_value, price_of};
 ghost use Rattle.assignment_laws.specs.PartNumbers.{ArePartNumbers};
 ghost use Rattle.assignment.specs.Solution.{HasSmallValue};
-ghost use Rattle.assignment_steps.specs.Market.{IsRising, AreSmall, AreStarts, IsBoard};
-ghost use Rattle.assignment_steps.specs.Survey.{HasRoom};
-ghost use Rattle.assignment.specs.Growth.{IsClean};
-ghost use Rattle.assignment_steps.specs.Between.{IsBetween};
 
 use crate::graph::{first_sides, graph_of};
 use crate::side::{Other, Side, run, run_other};
@@ -152,10 +148,13 @@ impl Assigner {
             price_b,
             link_a,
             link_b: _,
-            tree: _,
-            survey: _,
-            spare: _,
+            tree,
+            survey,
+            spare,
         } = own;
+        drop(tree);
+        drop(survey);
+        drop(spare);
         let links = linked(candidates, &edges, &link_a);
         Assignment {
             links,

@@ -68,6 +68,11 @@ pub fn first_sides(
 {
     let price_a = first_prices(alloc, &graph.edges, rows_a as usize)?;
     let other = other_if_less(alloc, &graph.turned, rows_b as usize, &price_a)?;
-    let own = first_side(alloc, &graph.edges, price_a, rows_b as usize)?;
-    Ok(Sides { own, other })
+    match first_side(alloc, &graph.edges, price_a, rows_b as usize) {
+        Ok(own) => Ok(Sides { own, other }),
+        Err(error) => {
+            drop(other);
+            Err(error)
+        }
+    }
 }

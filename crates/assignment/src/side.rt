@@ -1,5 +1,5 @@
 // Prices, links and room of the side that searches.
-ghost use Rattle.std.specs.Prelude.{◌≡◌, ◌<◌, ◌≤◌, ◌^◌, ℕ, IfOk, MatchOption, None, length, vec_len};
+ghost use Rattle.std.specs.Prelude.{◌≡◌, ◌<◌, ◌≤◌, ◌^◌, ℕ, IfOk, MatchOption, None, length};
 ghost use Rattle.assignment_steps.specs.Market.{link, AreSmall, AreStarts, IsBoard, IsInRange, IsRising};
 ghost use Rattle.assignment_steps.specs.Between.{IsBetween};
 ghost use Rattle.assignment.specs.Final.{ReachAll};
@@ -7,8 +7,9 @@ ghost use Rattle.assignment.specs.Sides.{IsOther, IsSide};
 
 use crate::market::Tree;
 use crate::phases::settle;
+use crate::room::room_for_side;
 use crate::round::all_rounds;
-use crate::solve::{clean_tree, first_prices, no_links, zeros};
+use crate::solve::{first_prices, free_links, zeros};
 use crate::spare::Spare;
 use assignment_steps::{Board, Edge, Net, Survey, adopt_all, are_rising, join_as_turned};
 use link_base::NoMemory;
@@ -34,23 +35,6 @@ pub struct Other {
     pub link_b: Vec<Option<usize>>,
 }
 
-/// Whether no record of A has two edges: a search from each is short then.
-fn have_one_each(edges: &[Edge]) -> bool {
-    for k in 1..edges.len() {
-        if edges[k - 1].a == edges[k].a {
-            return false;
-        }
-    }
-    true
-}
-
-/// So many rows where room for them is needed.
-fn rows_if(is_needed: bool, rows: usize) -> usize
-    ensures { result ≤ rows }
-{
-    if is_needed { rows } else { 0 }
-}
-
 /// A side at first: each record of A has a price that reaches the values of its edges, no record of B has
 /// a price, and no record a link.
 pub fn first_side(
@@ -68,29 +52,24 @@ pub fn first_side(
 {
     let rows_a = price_a.len();
     let price_b = zeros(alloc, rows_b)?;
-    let link_a = no_links(alloc, rows_a)?;
-    let link_b = no_links(alloc, rows_b)?;
-    let tree = clean_tree(alloc, rows_a, rows_b, edges.len())?;
-    let is_needed = !have_one_each(edges);
-    let survey = Survey::new(
-        alloc,
-        rows_if(is_needed, rows_a),
-        rows_if(is_needed, rows_b),
-    )?;
-    let spare = Spare::new(
-        alloc,
-        rows_if(is_needed, rows_a),
-        rows_if(is_needed, rows_b),
-    )?;
-    Ok(Side {
-        price_a,
-        price_b,
-        link_a,
-        link_b,
-        tree,
-        survey,
-        spare,
-    })
+    let links = free_links(alloc, rows_a, rows_b)?;
+    match room_for_side(alloc, edges, rows_a, rows_b) {
+        Ok(room) => Ok(Side {
+            price_a,
+            price_b,
+            link_a: links.a,
+            link_b: links.b,
+            tree: room.tree,
+            survey: room.survey,
+            spare: room.spare,
+        }),
+        Err(error) => {
+            drop(price_a);
+            drop(price_b);
+            drop(links);
+            Err(error)
+        }
+    }
 }
 
 /// The sum of prices.
@@ -135,13 +114,17 @@ pub fn other_if_less(
     }
     let price_b = first_prices(alloc, turned, rows_b)?;
     let side = first_side(alloc, turned, price_b, rows_a)?;
-    let link_a = no_links(alloc, rows_a)?;
-    let link_b = no_links(alloc, rows_b)?;
-    Ok(Some(Other {
-        side,
-        link_a,
-        link_b,
-    }))
+    match free_links(alloc, rows_a, rows_b) {
+        Ok(links) => Ok(Some(Other {
+            side,
+            link_a: links.a,
+            link_b: links.b,
+        })),
+        Err(error) => {
+            drop(side);
+            Err(error)
+        }
+    }
 }
 
 /// Settles most records by steps that look at all at once, then takes every record of A up in turn.
@@ -220,6 +203,7 @@ pub fn run_other(board: Board<'_>, side: &mut Side, other: Option<Other>)
         return;
     };
     if !are_rising(board.turned) {
+        drop(other);
         return;
     }
     let turned = Board {
@@ -239,4 +223,5 @@ pub fn run_other(board: Board<'_>, side: &mut Side, other: Option<Other>)
         &mut other.link_a,
         &mut other.link_b,
     );
+    drop(other);
 }

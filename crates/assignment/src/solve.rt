@@ -5,7 +5,7 @@ ghost use Rattle.assignment_steps.specs.Market.{number, edge, AreSmall, IsRising
 ghost use Rattle.assignment.specs.Final.{edges_of, edge_from, is_linked, prices_of, ReachAll};
 ghost use Rattle.assignment.specs.Solution.{HasSmallValue};
 ghost use Rattle.link_limits.specs.declared.TheConstants.{MOST_VALUE};
-ghost use Rattle.assignment.specs.Growth.{IsClean};
+ghost use Rattle.assignment.specs.Growth.{AreFar, IsClean};
 
 use crate::market::{FAR, Tree};
 use assignment_steps::Edge;
@@ -92,6 +92,28 @@ fn raise_to(prices: &mut [u64], position: usize, value: u64)
     }
 }
 
+/// Distances of the records of one side, a number for each, and those that were reached.
+#[derive(Drop)]
+struct Distances {
+    dist: Vec<u64>,
+    number: Vec<usize>,
+    reached: Vec<usize>,
+}
+
+/// Distances of a side of which no record was reached.
+fn no_distances(alloc: Global, rows: usize) -> Result<Distances, NoMemory>
+    ensures { IfOk result (AreFar rows) }
+{
+    let dist = vec![in alloc; FAR; rows]?;
+    let number = vec![in alloc; 0usize; rows]?;
+    let reached = Vec::with_capacity(alloc, rows)?;
+    Ok(Distances {
+        dist,
+        number,
+        reached,
+    })
+}
+
 /// A tree with nothing in it.
 pub fn clean_tree(
     alloc: Global,
@@ -102,27 +124,29 @@ pub fn clean_tree(
     ensures clean { IfOk result (λ t. IsClean rows_a rows_b t) }
     ensures queue { IfOk result (λ t. edges ≤ t.frontier.room) }
 {
-    let dist_a = vec![in alloc; FAR; rows_a]?;
-    let rank = vec![in alloc; 0usize; rows_a]?;
-    let dist_b = vec![in alloc; FAR; rows_b]?;
-    let from = vec![in alloc; 0usize; rows_b]?;
-    let records = Vec::with_capacity(alloc, rows_a)?;
-    let touched = Vec::with_capacity(alloc, rows_b)?;
-    let frontier = DistanceQueue::new(alloc, edges)?;
-    Ok(Tree {
-        dist_a,
-        rank,
-        dist_b,
-        from,
-        records,
-        touched,
-        frontier,
-        best: 0,
-        best_record: 0,
-        best_free: None,
-        current: 0,
-        looks: 0,
-    })
+    let of_a = no_distances(alloc, rows_a)?;
+    let of_b = no_distances(alloc, rows_b)?;
+    match DistanceQueue::new(alloc, edges) {
+        Ok(frontier) => Ok(Tree {
+            dist_a: of_a.dist,
+            rank: of_a.number,
+            dist_b: of_b.dist,
+            from: of_b.number,
+            records: of_a.reached,
+            touched: of_b.reached,
+            frontier,
+            best: 0,
+            best_record: 0,
+            best_free: None,
+            current: 0,
+            looks: 0,
+        }),
+        Err(error) => {
+            drop(of_a);
+            drop(of_b);
+            Err(error)
+        }
+    }
 }
 
 /// As many zeros.
@@ -134,9 +158,26 @@ pub fn zeros(alloc: Global, n: usize) -> Result<Vec<u64>, NoMemory>
 }
 
 /// As many records without a link.
-pub fn no_links(alloc: Global, n: usize) -> Result<Vec<Option<usize>>, NoMemory>
+fn no_links(alloc: Global, n: usize) -> Result<Vec<Option<usize>>, NoMemory>
     ensures { IfOk result (λ v. v.items ≡ replicate n None) }
 {
     let links = vec![in alloc; None; n]?;
     Ok(links)
+}
+
+/// Links of the records of both sides.
+#[derive(Drop)]
+pub(crate) struct Links {
+    pub(crate) a: Vec<Option<usize>>,
+    pub(crate) b: Vec<Option<usize>>,
+}
+
+/// So many records of both sides without a link.
+pub(crate) fn free_links(alloc: Global, rows_a: usize, rows_b: usize) -> Result<Links, NoMemory>
+    ensures a { IfOk result (λ l. l.a.items ≡ replicate rows_a None) }
+    ensures b { IfOk result (λ l. l.b.items ≡ replicate rows_b None) }
+{
+    let a = no_links(alloc, rows_a)?;
+    let b = no_links(alloc, rows_b)?;
+    Ok(Links { a, b })
 }

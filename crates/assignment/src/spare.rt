@@ -16,15 +16,21 @@ pub struct Spare {
 
 impl Spare {
     /// Room for so many records.
-    pub fn new(alloc: Global, rows_a: usize, rows_b: usize) -> Result<Spare, NoMemory> {
-        let levels = Levels::new(alloc, rows_a, rows_b)?;
+    pub(crate) fn new(alloc: Global, rows_a: usize, rows_b: usize) -> Result<Spare, NoMemory> {
         let link_a = Vec::with_capacity(alloc, rows_a)?;
         let link_b = Vec::with_capacity(alloc, rows_b)?;
-        Ok(Spare {
-            levels,
-            link_a,
-            link_b,
-        })
+        match Levels::new(alloc, rows_a, rows_b) {
+            Ok(levels) => Ok(Spare {
+                levels,
+                link_a,
+                link_b,
+            }),
+            Err(error) => {
+                drop(link_a);
+                drop(link_b);
+                Err(error)
+            }
+        }
     }
 }
 

@@ -19,7 +19,7 @@ pub struct Reached {
 
 impl Reached {
     /// Room for so many rows.
-    pub fn new(alloc: Global, rows: u32) -> Result<Reached, NoMemory> {
+    pub(crate) fn new(alloc: Global, rows: u32) -> Result<Reached, NoMemory> {
         let nearer = room_for(alloc, rows)?;
         let order = room_for(alloc, rows)?;
         let place = room_for(alloc, rows)?;
@@ -32,24 +32,24 @@ impl Reached {
     }
 
     /// Puts so many rows there.
-    pub fn fill(&mut self, rows: u32) {
+    pub(crate) fn fill(&mut self, rows: u32) {
         fill_up(&mut self.nearer, rows);
         fill_up(&mut self.order, rows);
         fill_up(&mut self.place, rows);
     }
 
     /// How many rows were reached.
-    pub fn count(&self) -> u32 {
+    pub(crate) fn count(&self) -> u32 {
         self.count
     }
 
     /// The row that was reached at a place of the order.
-    pub fn row_at(&self, place: u32) -> u32 {
+    pub(crate) fn row_at(&self, place: u32) -> u32 {
         at(&self.order, place)
     }
 
     /// The place of a row in the order.
-    pub fn place_of(&self, row: u32) -> u32 {
+    pub(crate) fn place_of(&self, row: u32) -> u32 {
         at(&self.place, row)
     }
 
@@ -68,7 +68,7 @@ impl Reached {
     }
 
     /// Reaches so many rows, in the order of their numbers.
-    pub fn reach_each(&mut self, rows: u32) {
+    pub(crate) fn reach_each(&mut self, rows: u32) {
         self.clear();
         for row in 0..rows {
             self.note(row);
@@ -146,7 +146,7 @@ fn reach_waiting(
 /// the distance of their price, until each row that waits is reached. Each price falls by its row's own
 /// distance, and at most by that of the row reached last: so each row that waited has a path of tight edges,
 /// or no price.
-pub fn look_back(
+pub(crate) fn look_back(
     level: Level<'_>,
     own: &mut Side,
     other: &mut Side,

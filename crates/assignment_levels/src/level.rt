@@ -13,12 +13,12 @@ pub struct Level<'a> {
 
 /// The value of an edge at a level.
 #[inline(always)]
-pub fn value_at(edge: Edge, shift: u32) -> u32 {
+pub(crate) fn value_at(edge: Edge, shift: u32) -> u32 {
     edge.value.wrapping_shr(shift)
 }
 
 /// A level as the other side sees it.
-pub fn turned(level: Level<'_>) -> Level<'_> {
+pub(crate) fn turned(level: Level<'_>) -> Level<'_> {
     let board = level.board;
     Level {
         board: Board {
@@ -33,7 +33,7 @@ pub fn turned(level: Level<'_>) -> Level<'_> {
 
 /// The edges of a row, which stand together.
 #[inline(always)]
-pub fn edges_of<'a>(edges: &'a [Edge], starts: &[usize], row: u32) -> &'a [Edge] {
+pub(crate) fn edges_of<'a>(edges: &'a [Edge], starts: &[usize], row: u32) -> &'a [Edge] {
     let place = row as usize;
     if place + 1 >= starts.len() {
         return &edges[..0];
@@ -57,7 +57,7 @@ fn covering_price(level: Level<'_>, other: &Side, row: u32) -> u32 {
 }
 
 /// Gives each row the least price that covers its edges.
-pub fn cover(level: Level<'_>, own: &mut Side, other: &Side) {
+pub(crate) fn cover(level: Level<'_>, own: &mut Side, other: &Side) {
     for row in 0..own.rows {
         put(&mut own.price, row, covering_price(level, other, row));
     }
@@ -65,13 +65,13 @@ pub fn cover(level: Level<'_>, own: &mut Side, other: &Side) {
 
 /// Whether the prices of an edge's rows add up to its value.
 #[inline(always)]
-pub fn is_tight(level: Level<'_>, own: &Side, other: &Side, edge: Edge) -> bool {
+fn is_tight(level: Level<'_>, own: &Side, other: &Side, edge: Edge) -> bool {
     let paid = at(&own.price, edge.a).wrapping_add(at(&other.price, edge.b));
     paid == value_at(edge, level.shift)
 }
 
 /// Takes the links away that are not tight.
-pub fn part_loose(level: Level<'_>, own: &mut Side, other: &mut Side) {
+pub(crate) fn part_loose(level: Level<'_>, own: &mut Side, other: &mut Side) {
     for edge in level.board.edges {
         if at(&own.mate, edge.a) == edge.b && !is_tight(level, own, other, *edge) {
             put(&mut own.mate, edge.a, NONE);
@@ -81,7 +81,7 @@ pub fn part_loose(level: Level<'_>, own: &mut Side, other: &mut Side) {
 }
 
 /// Links rows without links over tight edges, in the order of the edges.
-pub fn link_tight(level: Level<'_>, own: &mut Side, other: &mut Side) {
+pub(crate) fn link_tight(level: Level<'_>, own: &mut Side, other: &mut Side) {
     for edge in level.board.edges {
         let is_free = at(&own.mate, edge.a) == NONE && at(&other.mate, edge.b) == NONE;
         if is_free && is_tight(level, own, other, *edge) {

@@ -88,18 +88,24 @@ fn most_left(starts: &[usize], shift: u32) -> u32 {
 impl Levels {
     /// Room for so many rows.
     pub fn new(alloc: Global, rows_a: usize, rows_b: usize) -> Result<Levels, NoMemory> {
-        let own = Side::new(alloc, count_of(rows_a))?;
-        let other = Side::new(alloc, count_of(rows_b))?;
-        let room = Room::new(alloc, own.rows.max(other.rows))?;
         let price_a = Vec::with_capacity(alloc, rows_a)?;
         let price_b = Vec::with_capacity(alloc, rows_b)?;
-        Ok(Levels {
-            own,
-            other,
-            room,
-            price_a,
-            price_b,
-        })
+        let own = Side::new(alloc, count_of(rows_a))?;
+        let other = Side::new(alloc, count_of(rows_b))?;
+        match Room::new(alloc, own.rows.max(other.rows)) {
+            Ok(room) => Ok(Levels {
+                own,
+                other,
+                room,
+                price_a,
+                price_b,
+            }),
+            Err(error) => {
+                drop(own);
+                drop(other);
+                Err(error)
+            }
+        }
     }
 
     /// Puts the rows there, without prices and links.

@@ -21,7 +21,7 @@ pub struct Paths {
 
 impl Paths {
     /// Room for so many rows.
-    pub fn new(alloc: Global, rows: u32) -> Result<Paths, NoMemory> {
+    pub(crate) fn new(alloc: Global, rows: u32) -> Result<Paths, NoMemory> {
         let tried = room_for(alloc, rows)?;
         let chosen = room_for(alloc, rows)?;
         let met = room_for(alloc, rows)?;
@@ -36,7 +36,7 @@ impl Paths {
     }
 
     /// Puts so many rows there.
-    pub fn fill(&mut self, rows: u32) {
+    pub(crate) fn fill(&mut self, rows: u32) {
         fill_up(&mut self.tried, rows);
         fill_up(&mut self.chosen, rows);
         fill_up(&mut self.met, rows);
@@ -149,7 +149,7 @@ fn turn(own: &mut Side, other: &mut Side, paths: &Paths, count: u32) {
 
 /// Follows paths from each row that waits, in the order in which they were reached. Each row of the other
 /// side is met once.
-pub fn follow_paths(
+pub(crate) fn follow_paths(
     level: Level<'_>,
     own: &mut Side,
     other: &mut Side,

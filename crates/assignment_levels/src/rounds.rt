@@ -26,11 +26,11 @@ pub struct Room {
 
 impl Room {
     /// Room for so many rows.
-    pub fn new(alloc: Global, rows: u32) -> Result<Room, NoMemory> {
+    pub(crate) fn new(alloc: Global, rows: u32) -> Result<Room, NoMemory> {
         let lists = Lists::new(alloc, rows)?;
         let reached = Reached::new(alloc, rows)?;
-        let paths = Paths::new(alloc, rows)?;
         let tree = Tree::new(alloc, rows)?;
+        let paths = Paths::new(alloc, rows)?;
         Ok(Room {
             lists,
             reached,
@@ -40,7 +40,7 @@ impl Room {
     }
 
     /// Puts so many rows there.
-    pub fn fill(&mut self, rows: u32) {
+    pub(crate) fn fill(&mut self, rows: u32) {
         self.lists.fill();
         self.reached.fill(rows);
         self.paths.fill(rows);
@@ -62,7 +62,7 @@ fn search_in_order(level: Level<'_>, own: &mut Side, other: &mut Side, room: &mu
 }
 
 /// Links over tight edges, and searches from the rows in their order.
-pub fn begin(level: Level<'_>, own: &mut Side, other: &mut Side, room: &mut Room) {
+pub(crate) fn begin(level: Level<'_>, own: &mut Side, other: &mut Side, room: &mut Room) {
     link_tight(level, own, other);
     room.reached.reach_each(own.rows);
     room.tree.allow(level.board.edges.len() / 2);
@@ -90,7 +90,7 @@ fn run_round(
 
 /// Rounds until at most so many rows wait, or until three were slow, if it is not patient: a round is slow
 /// that settles less than an eighth of the rows that waited. Says whether the rounds came to their end.
-pub fn run_rounds(
+pub(crate) fn run_rounds(
     level: Level<'_>,
     own: &mut Side,
     other: &mut Side,

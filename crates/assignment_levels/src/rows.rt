@@ -8,7 +8,7 @@ pub const NONE: u32 = u32::MAX;
 
 /// The number of a row, or 0 where there is no such row.
 #[inline(always)]
-pub fn at(numbers: &[u32], row: u32) -> u32 {
+pub(crate) fn at(numbers: &[u32], row: u32) -> u32 {
     if row as usize >= numbers.len() {
         return 0;
     }
@@ -17,20 +17,20 @@ pub fn at(numbers: &[u32], row: u32) -> u32 {
 
 /// Puts the number of a row, if there is such a row.
 #[inline(always)]
-pub fn put(numbers: &mut [u32], row: u32, number: u32) {
+pub(crate) fn put(numbers: &mut [u32], row: u32, number: u32) {
     if (row as usize) < numbers.len() {
         numbers[row as usize] = number;
     }
 }
 
 /// Room for so many numbers, none of them there yet: where no proposal is asked for, the memory is not touched.
-pub fn room_for(alloc: Global, count: u32) -> Result<Vec<u32>, NoMemory> {
+pub(crate) fn room_for(alloc: Global, count: u32) -> Result<Vec<u32>, NoMemory> {
     let numbers = Vec::with_capacity(alloc, count as usize)?;
     Ok(numbers)
 }
 
 /// Puts zeros at the end until there are so many numbers, within the room that was taken.
-pub fn fill_up(numbers: &mut Vec<u32>, count: u32) {
+pub(crate) fn fill_up(numbers: &mut Vec<u32>, count: u32) {
     for _ in numbers.len()..count as usize {
         if numbers.len() >= numbers.capacity() {
             return;
@@ -42,6 +42,6 @@ pub fn fill_up(numbers: &mut Vec<u32>, count: u32) {
 }
 
 /// So many rows as a number, or as many as a number can say.
-pub fn count_of(rows: usize) -> u32 {
+pub(crate) fn count_of(rows: usize) -> u32 {
     rows.min(u32::MAX as usize) as u32
 }

@@ -27,7 +27,7 @@ pub struct Tree {
 
 impl Tree {
     /// Room for so many rows.
-    pub fn new(alloc: Global, rows: u32) -> Result<Tree, NoMemory> {
+    pub(crate) fn new(alloc: Global, rows: u32) -> Result<Tree, NoMemory> {
         let mark = room_for(alloc, rows)?;
         let from = room_for(alloc, rows)?;
         let joined = room_for(alloc, rows)?;
@@ -46,19 +46,19 @@ impl Tree {
     }
 
     /// Puts so many rows there.
-    pub fn fill(&mut self, rows: u32) {
+    pub(crate) fn fill(&mut self, rows: u32) {
         fill_up(&mut self.mark, rows);
         fill_up(&mut self.from, rows);
         fill_up(&mut self.joined, rows);
     }
 
     /// Allows so many looks at edges.
-    pub fn allow(&mut self, looks: usize) {
+    pub(crate) fn allow(&mut self, looks: usize) {
         self.looks = looks;
     }
 
     /// Whether no looks are left.
-    pub fn is_spent(&self) -> bool {
+    pub(crate) fn is_spent(&self) -> bool {
         self.looks == 0
     }
 
@@ -206,7 +206,7 @@ fn turn(own: &mut Side, other: &mut Side, tree: &Tree, root: u32) {
 
 /// Searches from a row for the nearest end of a path, lets prices fall and turns links round. Where no looks
 /// are left before an end is found, prices and links stay.
-pub fn search(
+pub(crate) fn search(
     level: Level<'_>,
     own: &mut Side,
     other: &mut Side,

@@ -14,19 +14,19 @@ pub struct Side {
 
 impl Side {
     /// Room for so many rows.
-    pub fn new(alloc: Global, rows: u32) -> Result<Side, NoMemory> {
+    pub(crate) fn new(alloc: Global, rows: u32) -> Result<Side, NoMemory> {
         let price = room_for(alloc, rows)?;
         let mate = room_for(alloc, rows)?;
         Ok(Side { rows, price, mate })
     }
 
     /// Whether a row has a price and no link.
-    pub fn waits(&self, row: u32) -> bool {
+    pub(crate) fn waits(&self, row: u32) -> bool {
         at(&self.mate, row) == NONE && at(&self.price, row) > 0
     }
 
     /// How many rows wait.
-    pub fn waiting(&self) -> u32 {
+    pub(crate) fn waiting(&self) -> u32 {
         let mut count = 0u32;
         for row in 0..self.rows {
             if self.waits(row) {
@@ -37,7 +37,7 @@ impl Side {
     }
 
     /// Puts the rows there, without price or link.
-    pub fn clear(&mut self) {
+    pub(crate) fn clear(&mut self) {
         fill_up(&mut self.price, self.rows);
         fill_up(&mut self.mate, self.rows);
         self.price.fill(0);
@@ -46,7 +46,7 @@ impl Side {
 }
 
 /// Links two rows. The row that the second was linked to is without a link then.
-pub fn link(own: &mut Side, other: &mut Side, row: u32, mate: u32) {
+pub(crate) fn link(own: &mut Side, other: &mut Side, row: u32, mate: u32) {
     let before = at(&other.mate, mate);
     if before != NONE {
         put(&mut own.mate, before, NONE);
@@ -56,7 +56,7 @@ pub fn link(own: &mut Side, other: &mut Side, row: u32, mate: u32) {
 }
 
 /// The price of a row falls, and that of the row that it is linked to rises by as much.
-pub fn let_fall(own: &mut Side, other: &mut Side, row: u32, fall: u32) {
+pub(crate) fn let_fall(own: &mut Side, other: &mut Side, row: u32, fall: u32) {
     let price = at(&own.price, row);
     put(&mut own.price, row, price.saturating_sub(fall));
     let mate = at(&own.mate, row);

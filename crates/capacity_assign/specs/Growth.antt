@@ -5,6 +5,7 @@ use Rattle.std.proofs.Common.{min}
 use Rattle.link_limits.specs.declared.TheConstants.{MOST_VALUE}
 use Rattle.capacity_assign.specs.declared.market.TheConstants.{FAR}
 use Rattle.capacity_assign.specs.declared.market.Edge.{Edge}
+use Rattle.capacity_assign.specs.declared.solve.Distances.{Distances}
 use Rattle.capacity_assign.specs.declared.market.Tree.{Tree}
 use Rattle.capacity_assign.specs.declared.market.Ground.{Ground}
 use Rattle.distance_queue.specs.declared.queue.Near.{Near}
@@ -251,6 +252,15 @@ HasGrown f g end free last = (waiting : List (ℕ × ℕ)) × IsGrown f (with_wa
 -- it was not broken off: the record of A is that of the least end
 abbrev pub IsWhole : Growth → ℕ → Option ℕ → ℕ → Type 0
 IsWhole g end free last = MatchOption free ((end ≡ g.best) × (last ≡ g.best_record)) (λ _. Unit {0})
+
+-- distances at which no record of a side was reached, with room to note each
+pub record AreFar (rows : ℕ) (d : Distances) : Type 0 where
+  pub dist : (r : ℕ) → distance d.dist.items r ≡ far
+  pub count : vec_len d.dist ≡ rows
+  pub numbers : vec_len d.number ≡ rows
+  pub all : unreached d.dist.items ≤ rows
+  pub none : d.reached.items ≡ []
+  pub room : rows ≤ vec_capacity d.reached
 
 -- a tree with nothing in it, and room
 pub record IsClean (rows_a rows_b : ℕ) (t : Tree) : Type 0 where

@@ -4,4 +4,5 @@ pub mod Seating
 pub mod Growth
 pub mod Round
 pub mod Final
+pub mod Start
 pub mod Prepared

@@ -1,5 +1,5 @@
 // The assigner and its answer.
-ghost use Rattle.std.specs.Prelude.{◌≡◌, ◌+◌, ◌<◌, ◌≤◌, ◌^◌, ℕ, length, List, All, AllPairs, IfOk, ℤ, pos, ◌≤ℤ◌};
+ghost use Rattle.std.specs.Prelude.{◌≡◌, ◌<◌, ◌≤◌, ◌^◌, length, All, AllPairs, IfOk, pos, ◌≤ℤ◌};
 ghost use Rattle.assignment_laws.specs.Assignment.{IsBefore, IsWithin, price_of};
 ghost use Rattle.assignment_laws.specs.Capacities.{CertifiesWithin, IsGreatestWithin};
 ghost use Rattle.capacity_assign.specs.Solution.{HasSmallValue, IsAllowedCapacity};
@@ -10,9 +10,8 @@ ghost use Rattle.link_limits.specs.declared.TheConstants.{MOST_VALUE};
 
 use crate::market::{Edge, Seats, Tree};
 use crate::phases::all_rounds;
-use crate::solve::{
-    clean_tree, closed_prices, edges_of, first_prices, firsts, linked, no_links, no_seats,
-};
+use crate::solve::linked;
+use crate::start::{graph_of, start_of};
 use assignment_laws::certified_within_is_greatest;
 use link_base::{Candidate, NoMemory};
 use link_limits::MOST_PAIRS;
@@ -110,26 +109,21 @@ impl CapacityAssigner {
         ensures capacities { IfOk result (λ s. s.capacities ≡ capacity.now) }
         ensures candidates { IfOk result (λ s. s.candidates ≡ candidates.now) }
     {
-        let edges = edges_of(alloc, candidates)?;
-        let first = firsts(alloc, &edges, rows_a as usize)?;
-        let price_b = closed_prices(alloc, &edges, capacity)?;
-        let price_a = first_prices(alloc, &edges, &price_b, rows_a as usize)?;
-        let link_a = no_links(alloc, rows_a as usize)?;
-        let seats = no_seats(alloc, rows_a as usize, capacity)?;
-        let tree = clean_tree(alloc, rows_a as usize, capacity.len(), edges.len())?;
-        let capacity = Vec::from_slice(alloc, capacity)?;
-        let candidates = Vec::from_slice(alloc, candidates)?;
+        let graph = graph_of(alloc, rows_a as usize, candidates)?;
+        let capacities = Vec::from_slice(alloc, capacity)?;
+        let kept = Vec::from_slice(alloc, candidates)?;
+        let start = start_of(alloc, &graph.edges, rows_a as usize, capacity)?;
         Ok(CapacityAssigner {
             rows_a,
-            capacity,
-            candidates,
-            edges,
-            first,
-            price_a,
-            price_b,
-            link_a,
-            seats,
-            tree,
+            capacity: capacities,
+            candidates: kept,
+            edges: graph.edges,
+            first: graph.first,
+            price_a: start.prices.a,
+            price_b: start.prices.b,
+            link_a: start.link_a,
+            seats: start.seats,
+            tree: start.tree,
         })
     }
 
@@ -162,6 +156,8 @@ impl CapacityAssigner {
             &mut seats,
             &mut tree,
         );
+        drop(seats);
+        drop(tree);
         let links = linked(candidates, &edges, &link_a);
         CapacityAssignment {
             links,

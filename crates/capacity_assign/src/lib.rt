@@ -12,6 +12,7 @@ mod round;
 mod seats;
 mod shift;
 mod solve;
+mod start;
 mod tight;
 mod walk;
 

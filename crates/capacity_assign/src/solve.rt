@@ -7,7 +7,7 @@ ghost use Rattle.capacity_assign.specs.Seating.{seating};
 ghost use Rattle.capacity_assign.specs.Round.{AreSmall};
 ghost use Rattle.capacity_assign.specs.Solution.{HasSmallValue};
 ghost use Rattle.link_limits.specs.declared.TheConstants.{MOST_VALUE};
-ghost use Rattle.capacity_assign.specs.Growth.{AreFirsts, IsClean, IsRising};
+ghost use Rattle.capacity_assign.specs.Growth.{AreFar, AreFirsts, IsClean, IsRising};
 
 use crate::market::{Edge, FAR, Seats, Tree};
 use distance_queue::DistanceQueue;
@@ -182,6 +182,28 @@ pub fn firsts(alloc: Global, edges: &[Edge], rows_a: usize) -> Result<Vec<usize>
     Ok(first)
 }
 
+/// Distances of the records of one side, a number for each, and those that were reached.
+#[derive(Drop)]
+struct Distances {
+    dist: Vec<u64>,
+    number: Vec<usize>,
+    reached: Vec<usize>,
+}
+
+/// Distances of a side of which no record was reached.
+fn no_distances(alloc: Global, rows: usize) -> Result<Distances, NoMemory>
+    ensures { IfOk result (AreFar rows) }
+{
+    let dist = vec![in alloc; FAR; rows]?;
+    let number = vec![in alloc; 0usize; rows]?;
+    let reached = Vec::with_capacity(alloc, rows)?;
+    Ok(Distances {
+        dist,
+        number,
+        reached,
+    })
+}
+
 /// A tree with nothing in it.
 pub fn clean_tree(
     alloc: Global,
@@ -192,26 +214,28 @@ pub fn clean_tree(
     ensures clean { IfOk result (λ t. IsClean rows_a rows_b t) }
     ensures queue { IfOk result (λ t. edges ≤ t.frontier.room) }
 {
-    let dist_a = vec![in alloc; FAR; rows_a]?;
-    let rank = vec![in alloc; 0usize; rows_a]?;
-    let dist_b = vec![in alloc; FAR; rows_b]?;
-    let from = vec![in alloc; 0usize; rows_b]?;
-    let records = Vec::with_capacity(alloc, rows_a)?;
-    let touched = Vec::with_capacity(alloc, rows_b)?;
-    let frontier = DistanceQueue::new(alloc, edges)?;
-    Ok(Tree {
-        dist_a,
-        rank,
-        dist_b,
-        from,
-        records,
-        touched,
-        frontier,
-        best: 0,
-        best_record: 0,
-        current: 0,
-        held: None,
-    })
+    let of_a = no_distances(alloc, rows_a)?;
+    let of_b = no_distances(alloc, rows_b)?;
+    match DistanceQueue::new(alloc, edges) {
+        Ok(frontier) => Ok(Tree {
+            dist_a: of_a.dist,
+            rank: of_a.number,
+            dist_b: of_b.dist,
+            from: of_b.number,
+            records: of_a.reached,
+            touched: of_b.reached,
+            frontier,
+            best: 0,
+            best_record: 0,
+            current: 0,
+            held: None,
+        }),
+        Err(error) => {
+            drop(of_a);
+            drop(of_b);
+            Err(error)
+        }
+    }
 }
 
 /// As many records without a link.

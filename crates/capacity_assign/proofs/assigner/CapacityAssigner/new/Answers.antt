@@ -1,46 +1,37 @@
-use Rattle.std.proofs.Common.{length, sym, ap, ◌∙◌, arith}
-use Rattle.capacity_assign.specs.Final.{AreClosed, AreEmpty, edges_of, ReachAll}
+use Rattle.std.proofs.Common.{length, sym, ap, ◌∙◌}
+use Rattle.capacity_assign.specs.Final.{edges_of}
 use Rattle.capacity_assign.specs.Seating.{seating}
+use Rattle.capacity_assign.specs.Start.{IsStart}
 use Rattle.capacity_assign.proofs.Final.{range_edges, small_edges, rising_edges, between_first, places_first}
 use Rattle.capacity_assign.proofs.assigner.CapacityAssigner.new.Goals as goal
 
-pub firsts-requires : goal.firsts-requires
-firsts-requires c = rw (c.deref.ensures.value, c.in_ok-edges.ensures) (rising_edges c.args.candidates.now c.requires.rising)
+pub start_of-requires-clause-small : goal.start_of-requires-clause-small
+start_of-requires-clause-small c = rw (c.deref.ensures.value, c.in_ok-graph.ensures.edges) (small_edges c.args.candidates.now c.requires.small)
 
-pub closed_prices-requires-clause-small : goal.closed_prices-requires-clause-small
-closed_prices-requires-clause-small c = rw (c.deref-2.ensures.value, c.in_ok-edges.ensures) (small_edges c.args.candidates.now c.requires.small)
-
-pub closed_prices-requires-clause-within : goal.closed_prices-requires-clause-within
-closed_prices-requires-clause-within c = rw (c.deref-2.ensures.value, c.in_ok-edges.ensures) (range_edges c.args.candidates.now c.args.rows_a (length c.args.capacity.now) c.requires.within).record_b
-
-pub first_prices-requires-clause-small : goal.first_prices-requires-clause-small
-first_prices-requires-clause-small c = rw (c.deref-3.ensures.value, c.in_ok-edges.ensures) (small_edges c.args.candidates.now c.requires.small)
-
-pub first_prices-requires-clause-in_range : goal.first_prices-requires-clause-in_range
-first_prices-requires-clause-in_range c = rw (c.deref-3.ensures.value, c.in_ok-edges.ensures, c.deref-4.ensures.value, c.in_ok-price_b.ensures.records) (range_edges c.args.candidates.now c.args.rows_a (length c.args.capacity.now) c.requires.within)
+pub start_of-requires-clause-in_range : goal.start_of-requires-clause-in_range
+start_of-requires-clause-in_range c = rw (c.deref.ensures.value, c.in_ok-graph.ensures.edges) (range_edges c.args.candidates.now c.args.rows_a (length c.args.capacity.now) c.requires.within)
 
 pub invariant_of-result : goal.invariant_of-result
 invariant_of-result c =
     let cs = c.args.candidates.now in
     let ns = c.args.capacity.now in
-    let kept = c.in_ok-candidates.ensures.items in
-    let places = c.in_ok-capacity.ensures.items in
-    let made = c.in_ok-edges.ensures in
-    let pb = c.in_ok-price_b.price_b.items in
-    let pa = c.in_ok-price_a.price_a.items in
-    let closed : AreClosed (edges_of cs) ns pb = rw (c.deref-2.ensures.value, made) at c.in_ok-price_b.ensures in
-    let reach : ReachAll (edges_of cs) c.args.rows_a pa pb = rw (c.deref-3.ensures.value, made, c.deref-4.ensures.value) at c.in_ok-price_a.ensures in
-    let empty : AreEmpty c.args.rows_a ns (seating c.in_ok-seats.seats) = c.in_ok-seats.ensures in
+    let kept = c.in_ok-kept.ensures.items in
+    let places = c.in_ok-capacities.ensures.items in
+    let made = c.in_ok-graph.ensures.edges in
+    let s = c.in_ok-start.start in
+    let start : IsStart (edges_of cs) c.args.rows_a ns s = rw (c.deref.ensures.value, made) at c.in_ok-start.ensures in
+    let closed = start.prices.closed in
+    let reach = start.prices.reach in
     record {
       order = rw kept c.requires.rising;
       edges = made ∙ ap edges_of (sym kept);
       rising = rw made (rising_edges cs c.requires.rising);
-      firsts = rw reach.records (rw c.deref.ensures.value at c.in_ok-first.ensures);
+      firsts = rw reach.records c.in_ok-graph.ensures.firsts;
       small = rw made (small_edges cs c.requires.small);
-      between = rw (made, c.in_ok-link_a.ensures) (between_first cs c.args.rows_a ns pa pb (seating c.in_ok-seats.seats) c.requires.within closed reach empty);
-      places = λ b. rw (made, c.in_ok-link_a.ensures, places) (places_first cs c.args.rows_a ns (seating c.in_ok-seats.seats) b empty);
+      between = rw (made, start.links) (between_first cs c.args.rows_a ns s.prices.a.items s.prices.b.items (seating s.seats) c.requires.within closed reach start.seats);
+      places = λ b. rw (made, start.links, places) (places_first cs c.args.rows_a ns (seating s.seats) b start.seats);
       rows_a = reach.records;
       rows_b = rw places closed.records;
-      clean = rw (reach.records, closed.records) c.in_ok-tree.ensures.clean;
-      queue = omega (arith, c.in_ok-tree.ensures.queue, c.in_ok-edges.edges.ok.0, c.len.ensures);
+      clean = rw (reach.records, closed.records) start.clean;
+      queue = rw made start.queue;
     }

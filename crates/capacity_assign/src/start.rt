@@ -1,0 +1,93 @@
+// Prices, links, seats and the tree before any record of A is taken up.
+ghost use Rattle.std.specs.Prelude.{◌≡◌, ◌<◌, All, AllPairs, IfOk, length};
+ghost use Rattle.assignment_laws.specs.Assignment.{IsBefore, IsWithin};
+ghost use Rattle.capacity_assign.specs.Core.{IsInRange};
+ghost use Rattle.capacity_assign.specs.Final.{edges_of};
+ghost use Rattle.capacity_assign.specs.Growth.{AreFirsts, IsRising};
+ghost use Rattle.capacity_assign.specs.Round.{AreSmall};
+ghost use Rattle.capacity_assign.specs.Solution.{HasSmallValue};
+ghost use Rattle.capacity_assign.specs.Start.{AreFirstPrices, IsStart};
+
+use crate::market::{Edge, Seats, Tree};
+use crate::solve::{clean_tree, closed_prices, edges_of, first_prices, firsts, no_links, no_seats};
+use link_base::{Candidate, NoMemory};
+use std::alloc::Global;
+
+/// The edges of candidates, with the place of the first one of each record of A.
+#[derive(Drop)]
+pub struct Graph {
+    pub edges: Vec<Edge>,
+    pub first: Vec<usize>,
+}
+
+/// The prices of both sides.
+#[derive(Drop)]
+pub struct Prices {
+    pub a: Vec<u64>,
+    pub b: Vec<u64>,
+}
+
+/// Prices, links, seats and the tree.
+#[derive(Drop)]
+pub struct Start {
+    pub prices: Prices,
+    pub link_a: Vec<Option<usize>>,
+    pub seats: Seats,
+    pub tree: Tree,
+}
+
+/// The edges of candidates.
+pub fn graph_of(alloc: Global, rows_a: usize, candidates: &[Candidate]) -> Result<Graph, NoMemory>
+    requires rising { AllPairs IsBefore candidates.now }
+    requires small { All HasSmallValue candidates.now }
+    ensures edges { IfOk result (λ g. g.edges.items ≡ edges_of candidates.now) }
+    ensures firsts { IfOk result (λ g. AreFirsts g.edges.items g.first.items rows_a) }
+{
+    let edges = edges_of(alloc, candidates)?;
+    let first = firsts(alloc, &edges, rows_a)?;
+    Ok(Graph { edges, first })
+}
+
+/// Prices that cover the edges: those of the records of B that have no place, and those of A.
+fn covering_prices(
+    alloc: Global,
+    edges: &[Edge],
+    rows_a: usize,
+    capacity: &[u32],
+) -> Result<Prices, NoMemory>
+    requires small { AreSmall edges.now }
+    requires in_range { IsInRange edges.now rows_a (length capacity.now) }
+    ensures { IfOk result (AreFirstPrices edges.now rows_a capacity.now) }
+{
+    let b = closed_prices(alloc, edges, capacity)?;
+    let a = first_prices(alloc, edges, &b, rows_a)?;
+    Ok(Prices { a, b })
+}
+
+/// Prices that cover the edges, no links, no seats, and a tree with nothing in it.
+pub fn start_of(
+    alloc: Global,
+    edges: &[Edge],
+    rows_a: usize,
+    capacity: &[u32],
+) -> Result<Start, NoMemory>
+    requires small { AreSmall edges.now }
+    requires in_range { IsInRange edges.now rows_a (length capacity.now) }
+    ensures { IfOk result (IsStart edges.now rows_a capacity.now) }
+{
+    let prices = covering_prices(alloc, edges, rows_a, capacity)?;
+    let link_a = no_links(alloc, rows_a)?;
+    let seats = no_seats(alloc, rows_a, capacity)?;
+    match clean_tree(alloc, rows_a, capacity.len(), edges.len()) {
+        Ok(tree) => Ok(Start {
+            prices,
+            link_a,
+            seats,
+            tree,
+        }),
+        Err(error) => {
+            drop(seats);
+            Err(error)
+        }
+    }
+}
