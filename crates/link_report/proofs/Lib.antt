@@ -6,4 +6,5 @@ pub mod LineLemmas
 pub mod PriceLemmas
 pub mod ReadLineLemmas
 pub mod ReadingLemmas
+pub mod RowLemmas
 pub mod PairLemmas

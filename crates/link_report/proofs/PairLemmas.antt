@@ -1,9 +1,8 @@
 -- A line written field by field.
-use Rattle.std.proofs.Common.{◌≡◌, ◌++◌, ◌∷◌, ◌∙◌, ◌<◌, ℕ, zero, suc, pos, List, [], Option, None, Some, ◌+◌, Bool, length, map, get_or, take, refl, ap, sym, arith, zero-add}
+use Rattle.std.proofs.Common.{◌≡◌, ◌++◌, ◌∷◌, ◌∙◌, ◌<◌, ℕ, zero, suc, pos, List, [], Option, None, Some, Bool, length, map, get_or, refl, ap, sym, arith, zero-add}
 use Rattle.std.specs.Prelude.{AllPairs}
-use Rattle.std.specs.List.{flat_map, range_with_len}
-use Rattle.std.proofs.lemmas.Grind.{flat_map-append}
-use Rattle.std.proofs.lemmas.List.{append_assoc, append-nil, get_or-map, length-map, take_more}
+use Rattle.std.specs.List.{range_with_len}
+use Rattle.std.proofs.lemmas.List.{append_assoc, append-nil, get_or-map, length-map}
 use Rattle.std.proofs.lemmas.List.FromFn.{get_or-range_with_len, length-range_with_len}
 use Rattle.csv.specs.Writing.{default_writer, field_text, fields_text, is_blank, row_text}
 use Rattle.link_base.specs.declared.rule.Decision.TheVariants.{Link}
@@ -78,11 +77,3 @@ module _ (rares : List Bool) (letters : List (List ℕ)) (pattern : ℕ) (all : 
       let within : pattern < length range = omega (arith, length-range_with_len 0 (pattern_count_by rares)) in
       ap (λ xs. get_or xs pattern d) all ∙ get_or-map (outcome_letters rares) range pattern 0 d within
       ∙ ap (outcome_letters rares) (get_or-range_with_len 0 (pattern_count_by rares) pattern 0 below ∙ zero-add pattern)
-
--- the rows of a text, one more
-pub rows_more : (f : PairRow → List ℕ) (header text new : List ℕ) (rows : List PairRow) (i : ℕ) → i < length rows
-    → text ≡ header ++ flat_map f (take i rows) → new ≡ text ++ f (get_or rows i no_row) → new ≡ header ++ flat_map f (take (i + 1) rows)
-rows_more f header text new rows i lt told more =
-    let x = f (get_or rows i no_row) in
-    let all : flat_map f (take (i + 1) rows) ≡ flat_map f (take i rows) ++ x = ap (flat_map f) (take_more rows i no_row lt) ∙ flat_map-append f (take i rows) (get_or rows i no_row ∷ []) ∙ ap (λ t. flat_map f (take i rows) ++ t) (append-nil x) in
-    more ∙ ap (λ t. t ++ x) told ∙ append_assoc header (flat_map f (take i rows)) x ∙ ap (λ t. header ++ t) (sym all)

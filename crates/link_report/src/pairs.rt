@@ -1,6 +1,5 @@
 // The text of the compared pairs.
 ghost use Rattle.std.specs.Prelude.{◌≡◌, ◌<◌, ◌++◌, ◌∷◌, [], All, AllPairs, Bool, IfOk, List, None, OnOk, Some, decimal, length, map};
-ghost use Rattle.std.specs.Fmt.{signed_decimal};
 ghost use Rattle.std.specs.List.{range_with_len};
 ghost use Rattle.csv.specs.Writing.{default_writer, fields_text, row_text};
 ghost use Rattle.link_base.specs.Rule.{IsPairBefore};
@@ -9,6 +8,7 @@ ghost use Rattle.link_report.specs.RuleText.{outcome_letters};
 ghost use Rattle.link_report.specs.declared.open.PairRow.{PairRow as Row};
 ghost use Rattle.pattern_shapes.specs.Shapes.{pattern_count_by, rare_of};
 
+use crate::fields::{push_next, push_weight};
 use crate::open::PairRow;
 use crate::rule::letters_of;
 use csv_rows::push_field;
@@ -53,29 +53,12 @@ fn letters_by_pattern(alloc: Global, shape: &Shape) -> Result<TextList, NoMemory
     Ok(all)
 }
 
-// Appends a field after the first of a line.
-fn push_next(text: &mut Vec<u8>, field: &[u8]) -> Result<(), NoMemory>
-    ensures { OnOk result (text.new.items ≡ text.old.items ++ fields_text default_writer (field.now ∷ [])) }
-{
-    text.push(b',')?;
-    push_field(text, field)?;
-    Ok(())
-}
-
 // Appends the number of a comparison pattern after the first field of a line.
 fn push_pattern(text: &mut Vec<u8>, pattern: u16) -> Result<(), NoMemory>
     ensures { OnOk result (text.new.items ≡ text.old.items ++ fields_text default_writer (decimal pattern ∷ [])) }
 {
     let mut digits = Buffer::new();
     push_next(text, digits.format(pattern).as_bytes())
-}
-
-// Appends the digits of a weight after the first field of a line, with `-` before them where it is negative.
-fn push_weight(text: &mut Vec<u8>, weight: &i32) -> Result<(), NoMemory>
-    ensures { OnOk result (text.new.items ≡ text.old.items ++ fields_text default_writer (signed_decimal weight.now ∷ [])) }
-{
-    let mut digits = Buffer::new();
-    push_next(text, digits.format(*weight).as_bytes())
 }
 
 // Appends the line of a pair whose pattern has these letters.

@@ -1,11 +1,14 @@
 // The text of a decision rule.
-ghost use Rattle.std.specs.Prelude.{◌≡◌, ◌<◌, ◌++◌, All, IfOk, OnOk, slice_index_or};
+ghost use Rattle.std.specs.Prelude.{◌≡◌, ◌<◌, ◌++◌, All, Bool, IfOk, List, OnOk, decimal};
+ghost use Rattle.csv.specs.Writing.{default_writer, field_text};
 ghost use Rattle.link_base.specs.Rule.{IsWithinRanges};
 ghost use Rattle.link_base.specs.declared.rule.RuleCell.{RuleCell as Cell};
 ghost use Rattle.link_report.specs.RuleText.{cell_row, outcome_letter, outcome_letters, text_of_rule};
 ghost use Rattle.pattern_shapes.specs.Shapes.{pattern_count_by, rare_of};
 
-use csv_rows::{digits_of, push_row};
+use crate::fields::{push_chance, push_next, push_share, push_weight};
+use csv_rows::push_field;
+use itoa::Buffer;
 use link_base::{NoMemory, Outcome, RuleCell, RuleTable, Shape, Text};
 use link_limits::WHOLE_RULE;
 use pattern_shapes::outcome_of;
@@ -34,6 +37,32 @@ pub fn letters_of(alloc: Global, shape: &Shape, pattern: u16) -> Result<Vec<u8>,
     Ok(letters)
 }
 
+// Appends the number of a comparison pattern as the first field of a line.
+fn push_first(text: &mut Vec<u8>, pattern: u16) -> Result<(), NoMemory>
+    ensures { OnOk result (text.new.items ≡ text.old.items ++ field_text default_writer (decimal pattern)) }
+{
+    let mut digits = Buffer::new();
+    push_field(text, digits.format(pattern).as_bytes())
+}
+
+// Appends the row of a cell whose pattern has these letters.
+fn push_fields(text: &mut Vec<u8>, letters: &[u8], cell: &RuleCell) -> Result<(), NoMemory>
+    requires { IsWithinRanges cell.now }
+    ensures { (rares : List Bool) → letters.now ≡ outcome_letters rares cell.now.pattern
+        → OnOk result (text.new.items ≡ text.old.items ++ cell_row rares cell.now) }
+{
+    push_first(text, cell.pattern)?;
+    push_next(text, letters)?;
+    push_chance(text, cell.m)?;
+    push_chance(text, cell.u)?;
+    push_weight(text, &cell.weight)?;
+    push_share(text, cell.link)?;
+    push_share(text, WHOLE_RULE - cell.link - cell.nonlink)?;
+    push_share(text, cell.nonlink)?;
+    text.push(b'\n')?;
+    Ok(())
+}
+
 // Appends the row of a cell.
 fn push_cell(
     alloc: Global,
@@ -45,27 +74,10 @@ fn push_cell(
     requires ranges { IsWithinRanges cell.now }
     ensures { OnOk result (text.new.items ≡ text.old.items ++ cell_row (rare_of shape.now) cell.now) }
 {
-    let pattern = digits_of(alloc, u128::from(cell.pattern))?;
-    let outcomes = letters_of(alloc, shape, cell.pattern)?;
-    let m = digits_of(alloc, u128::from(cell.m))?;
-    let u = digits_of(alloc, u128::from(cell.u))?;
-    let weight = format!(in alloc; "{}", cell.weight)?;
-    let link = digits_of(alloc, u128::from(cell.link))?;
-    let possible = digits_of(alloc, u128::from(WHOLE_RULE - cell.link - cell.nonlink))?;
-    let nonlink = digits_of(alloc, u128::from(cell.nonlink))?;
-    push_row(
-        text,
-        &[
-            pattern.as_bytes(),
-            &outcomes,
-            m.as_bytes(),
-            u.as_bytes(),
-            weight.as_bytes(),
-            link.as_bytes(),
-            possible.as_bytes(),
-            nonlink.as_bytes(),
-        ],
-    )
+    let letters = letters_of(alloc, shape, cell.pattern)?;
+    let pushed = push_fields(text, &letters, cell);
+    drop(letters);
+    pushed
 }
 
 /// The text of a decision rule: the header `pattern,outcomes,m,u,weight,link,possible,nonlink`, and a row for each cell

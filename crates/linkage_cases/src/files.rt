@@ -1,13 +1,14 @@
 // What the files of a case hold.
 use crate::case::{Change, Piece, Replacement};
+use crate::keys::{number_of, text_of};
 use anyhow::anyhow;
-use link_base::Text;
 use link_limits::MOST_ROWS;
 use link_outside::MemoryStore;
 use std::alloc::{AllocError, Global};
 use std::fs;
 use std::rt::Files as HostFiles;
-use workload::make_input;
+use toml::Value;
+use workload::{MadeInput, make_input};
 
 /// A name, and what it holds, if anything.
 #[derive(Drop)]
@@ -48,13 +49,25 @@ fn push_numbered(
     }
 }
 
+// Appends the bytes that numbers are.
+fn push_bytes(bytes: &mut Vec<u8>, numbers: &[Value]) -> anyhow::Result<()> {
+    for number in numbers {
+        let number = number_of(number)?;
+        if number > u32::from(u8::MAX) {
+            return Err(anyhow!("not a byte: {number}"));
+        }
+        bytes.push(number as u8)?;
+    }
+    Ok(())
+}
+
 // Appends a piece so many times. Only a text with `{n}` is looked through each time.
-fn push_piece(alloc: Global, bytes: &mut Vec<u8>, piece: &Piece) -> Result<(), AllocError> {
+fn push_piece(alloc: Global, bytes: &mut Vec<u8>, piece: &Piece<'_>) -> anyhow::Result<()> {
     let is_numbered = piece.text.contains("{n}");
-    for time in 0..piece.times.unwrap_or(1) {
-        bytes.extend_from_slice(&piece.bytes)?;
+    for time in 0..piece.times {
+        push_bytes(bytes, piece.bytes)?;
         if is_numbered {
-            push_numbered(alloc, bytes, &piece.text, time.saturating_add(1))?;
+            push_numbered(alloc, bytes, piece.text, time.saturating_add(1))?;
         } else {
             bytes.extend_from_slice(piece.text.as_bytes())?;
         }
@@ -67,75 +80,103 @@ fn place_of(bytes: &[u8], text: &[u8]) -> Option<usize> {
     (0..bytes.len()).find(|&at| bytes.get(at..).is_some_and(|rest| rest.starts_with(text)))
 }
 
-// The bytes with a text replaced where it first stands; an error where it does not stand.
-fn replaced(alloc: Global, bytes: &[u8], replacement: &Replacement) -> anyhow::Result<Vec<u8>> {
+// Replaces a text where it first stands; an error where it does not stand.
+fn replace(
+    alloc: Global,
+    bytes: &mut Vec<u8>,
+    replacement: &Replacement<'_>,
+) -> anyhow::Result<()> {
     let old = replacement.old.as_bytes();
     let Some(at) = place_of(bytes, old) else {
         return Err(anyhow!("no text to replace: {}", replacement.old));
     };
-    let mut new = Vec::new(alloc);
-    new.extend_from_slice(bytes.get(..at).unwrap_or_default())?;
-    new.extend_from_slice(replacement.new.as_bytes())?;
-    new.extend_from_slice(
-        bytes
-            .get(at.saturating_add(old.len())..)
-            .unwrap_or_default(),
-    )?;
-    Ok(new)
+    let after = bytes
+        .get(at.saturating_add(old.len())..)
+        .unwrap_or_default();
+    let after = Vec::from_slice(alloc, after)?;
+    bytes.truncate(at);
+    bytes.extend_from_slice(replacement.new.as_bytes())?;
+    bytes.extend_from_slice(&after)?;
+    Ok(())
 }
 
-// The file of a name in a made input of so many rows.
-fn made_text(alloc: Global, name: &str, rows: u32) -> anyhow::Result<Text> {
-    if rows < 2 || rows > MOST_ROWS {
-        return Err(anyhow!("no made input of so many rows: {rows}"));
-    }
-    let input = make_input(alloc, rows)?;
+// The file of a name in a made input.
+fn made_text<'a>(input: &'a MadeInput, name: &str) -> anyhow::Result<&'a [u8]> {
     match name {
-        "a.csv" => Ok(input.a),
-        "b.csv" => Ok(input.b),
-        "sample.csv" => Ok(input.sample),
+        "a.csv" => Ok(input.a.bytes()),
+        "b.csv" => Ok(input.b.bytes()),
+        "sample.csv" => Ok(input.sample.bytes()),
         _ => Err(anyhow!("no made file: {name}")),
     }
 }
 
-// What a change has a file hold, from what it holds.
-fn changed<R: HostFiles + AllocGlobal>(
+// Appends the file of a name in a made input.
+fn push_text_of(bytes: &mut Vec<u8>, input: &MadeInput, name: &str) -> anyhow::Result<()> {
+    bytes.extend_from_slice(made_text(input, name)?)?;
+    Ok(())
+}
+
+// Appends the file of a name in a made input of so many rows.
+fn push_made(alloc: Global, bytes: &mut Vec<u8>, name: &str, rows: u32) -> anyhow::Result<()> {
+    if rows < 2 || rows > MOST_ROWS {
+        return Err(anyhow!("no made input of so many rows: {rows}"));
+    }
+    let input = make_input(alloc, rows)?;
+    let pushed = push_text_of(bytes, &input, name);
+    drop(input);
+    pushed
+}
+
+// Appends the bytes of a file beside the case file.
+fn push_file<R: HostFiles + AllocGlobal>(
+    rt: &R,
+    bytes: &mut Vec<u8>,
+    name: &str,
+) -> anyhow::Result<()> {
+    bytes.extend_from_slice(&fs::read(rt, name)?)?;
+    Ok(())
+}
+
+// Appends what a change gives: its text, a file, one of a made input, and its pieces.
+fn push_given<R: HostFiles + AllocGlobal>(
     rt: &R,
     alloc: Global,
-    held: Option<Vec<u8>>,
-    change: &Change,
-) -> anyhow::Result<Option<Vec<u8>>> {
-    if change.missing {
-        return Ok(None);
-    }
-    let is_new = change.from.is_some()
-        || change.text.is_some()
-        || change.made.is_some()
-        || !change.piece.is_empty();
-    let mut bytes = if is_new {
-        Vec::new(alloc)
-    } else {
-        held.unwrap_or(Vec::new(alloc))
-    };
-    if let Some(text) = &change.text {
+    bytes: &mut Vec<u8>,
+    change: &Change<'_>,
+) -> anyhow::Result<()> {
+    if let Some(text) = change.text {
         bytes.extend_from_slice(text.as_bytes())?;
     }
-    if let Some(from) = &change.from {
-        bytes.extend_from_slice(&fs::read(rt, from.as_str())?)?;
+    if let Some(from) = change.from {
+        push_file(rt, bytes, from)?;
     }
     if let Some(rows) = change.made {
-        bytes.extend_from_slice(made_text(alloc, &change.name, rows)?.bytes())?;
+        push_made(alloc, bytes, change.name, rows)?;
     }
-    for piece in &change.piece {
-        push_piece(alloc, &mut bytes, piece)?;
+    for piece in change.piece {
+        push_piece(alloc, bytes, &Piece::of(piece)?)?;
     }
-    for replacement in &change.replace {
-        bytes = replaced(alloc, &bytes, replacement)?;
+    Ok(())
+}
+
+// Makes of bytes what a change says.
+fn change_bytes<R: HostFiles + AllocGlobal>(
+    rt: &R,
+    alloc: Global,
+    bytes: &mut Vec<u8>,
+    change: &Change<'_>,
+) -> anyhow::Result<()> {
+    if change.is_new() {
+        bytes.clear();
+    }
+    push_given(rt, alloc, bytes, change)?;
+    for replacement in change.replace {
+        replace(alloc, bytes, &Replacement::of(replacement)?)?;
     }
     if let Some(cut) = change.cut {
         bytes.truncate(cut as usize);
     }
-    Ok(Some(bytes))
+    Ok(())
 }
 
 /// A text of its own.
@@ -145,17 +186,60 @@ pub(crate) fn copied(alloc: Global, text: &str) -> Result<String, AllocError> {
     Ok(copy)
 }
 
+impl Named {
+    // Has a name hold what a change says.
+    fn change<R: HostFiles + AllocGlobal>(
+        &mut self,
+        rt: &R,
+        alloc: Global,
+        change: &Change<'_>,
+    ) -> anyhow::Result<()> {
+        if change.missing {
+            self.bytes = None;
+            return Ok(());
+        }
+        if self.bytes.is_none() {
+            self.bytes = Some(Vec::new(alloc));
+        }
+        match &mut self.bytes {
+            Some(bytes) => change_bytes(rt, alloc, bytes, change),
+            None => Ok(()),
+        }
+    }
+}
+
 impl Files {
     /// The five files that a run writes, none of which is held.
     pub(crate) fn new(alloc: Global) -> anyhow::Result<Files> {
-        let mut all = Vec::new(alloc);
+        let mut files = Files {
+            all: Vec::new(alloc),
+        };
         for name in OUTPUTS {
-            all.push(Named {
-                name: copied(alloc, name)?,
-                bytes: None,
-            })?;
+            files.add(alloc, name, None)?;
         }
-        Ok(Files { all })
+        Ok(files)
+    }
+
+    // Adds a name.
+    fn add(&mut self, alloc: Global, name: &str, bytes: Option<Vec<u8>>) -> anyhow::Result<()> {
+        let name = copied(alloc, name)?;
+        self.all.push(Named { name, bytes })?;
+        Ok(())
+    }
+
+    // The place of a name, which is added where it is none of the case.
+    fn place_of(&mut self, alloc: Global, name: &str) -> anyhow::Result<usize> {
+        let place = self
+            .all
+            .iter()
+            .position(|named| named.name.as_str() == name);
+        match place {
+            Some(place) => Ok(place),
+            None => {
+                self.add(alloc, name, None)?;
+                Ok(self.all.len().saturating_sub(1))
+            }
+        }
     }
 
     // Has a name hold what a change says.
@@ -163,19 +247,13 @@ impl Files {
         &mut self,
         rt: &R,
         alloc: Global,
-        change: &Change,
+        change: &Change<'_>,
     ) -> anyhow::Result<()> {
-        for named in &mut self.all {
-            if named.name == change.name {
-                let held = named.bytes.take();
-                named.bytes = changed(rt, alloc, held, change)?;
-                return Ok(());
-            }
+        let place = self.place_of(alloc, change.name)?;
+        match self.all.get_mut(place) {
+            Some(named) => named.change(rt, alloc, change),
+            None => Ok(()),
         }
-        let bytes = changed(rt, alloc, None, change)?;
-        let name = copied(alloc, &change.name)?;
-        self.all.push(Named { name, bytes })?;
-        Ok(())
     }
 
     /// A copy of what a name holds, if anything.
@@ -204,13 +282,13 @@ impl Files {
         &mut self,
         rt: &R,
         alloc: Global,
-        names: &[String],
+        names: &[Value],
     ) -> anyhow::Result<()> {
         for name in names {
-            let bytes = Some(fs::read(rt, name.as_str())?);
+            let name = text_of(name)?;
+            let bytes = fs::read(rt, name)?;
             self.take_out(name);
-            let name = copied(alloc, name)?;
-            self.all.push(Named { name, bytes })?;
+            self.add(alloc, name, Some(bytes))?;
         }
         Ok(())
     }
@@ -225,10 +303,10 @@ impl Files {
         &mut self,
         rt: &R,
         alloc: Global,
-        changes: &[Change],
+        changes: &[Value],
     ) -> anyhow::Result<()> {
         for change in changes {
-            self.change_one(rt, alloc, change)?;
+            self.change_one(rt, alloc, &Change::of(change)?)?;
         }
         Ok(())
     }

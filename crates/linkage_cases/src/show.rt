@@ -11,23 +11,28 @@ const LONGEST: usize = 4_096;
 /// How many bytes of a longer text are shown at its front and at its end.
 const SHOWN: usize = 64;
 
+/// Writes bytes as they are.
+pub(crate) fn show_bytes<R: Print>(rt: &R, bytes: &[u8]) -> anyhow::Result<()> {
+    io::writer(rt).write_all(bytes)?;
+    Ok(())
+}
+
+// Shows that a text is left out, its size, and that its end follows.
+fn show_size<R: Print>(rt: &R, bytes: &[u8]) -> anyhow::Result<()> {
+    let lines = bytes.iter().filter(|byte| **byte == b'\n').count();
+    println!(rt; "..\n.. {} bytes in {lines} lines, which end:", bytes.len())?;
+    Ok(())
+}
+
 /// Shows a text: whole, or its front, its end and its size.
 pub(crate) fn show_text<R: Print>(rt: &R, bytes: &[u8]) -> anyhow::Result<()> {
-    let mut out = io::writer(rt);
     if bytes.len() <= LONGEST {
-        out.write_all(bytes)?;
-        return Ok(());
+        return show_bytes(rt, bytes);
     }
-    out.write_all(bytes.get(..SHOWN).unwrap_or_default())?;
-    let lines = bytes.iter().filter(|byte| **byte == b'\n').count();
-    println!(rt; "..")?;
-    println!(rt; ".. {} bytes in {lines} lines, which end:", bytes.len())?;
-    out.write_all(
-        bytes
-            .get(bytes.len().saturating_sub(SHOWN)..)
-            .unwrap_or_default(),
-    )?;
-    Ok(())
+    show_bytes(rt, bytes.get(..SHOWN).unwrap_or_default())?;
+    show_size(rt, bytes)?;
+    let last = bytes.len().saturating_sub(SHOWN);
+    show_bytes(rt, bytes.get(last..).unwrap_or_default())
 }
 
 /// Words with a space between two.
@@ -44,10 +49,8 @@ pub(crate) fn joined(alloc: Global, words: &[String]) -> anyhow::Result<String> 
 
 /// Shows a line, and ends it.
 pub(crate) fn show_line<R: Print>(rt: &R, line: &[u8]) -> anyhow::Result<()> {
-    let mut out = io::writer(rt);
-    out.write_all(line)?;
-    out.write_all(b"\n")?;
-    Ok(())
+    show_bytes(rt, line)?;
+    show_bytes(rt, b"\n")
 }
 
 // Shows what a name holds, where it is not what it held.

@@ -12,6 +12,13 @@ pub(crate) struct Failures<'a> {
     pub(crate) err: &'a [u32],
 }
 
+/// No call fails.
+pub(crate) const NONE: Failures<'static> = Failures {
+    store: &[],
+    out: &[],
+    err: &[],
+};
+
 /// Where a command has ended.
 #[derive(Drop)]
 pub(crate) struct Ending {
@@ -21,6 +28,37 @@ pub(crate) struct Ending {
     pub(crate) err: MemorySink,
 }
 
+/// Standard output and standard error.
+#[derive(Drop)]
+struct Streams {
+    out: MemorySink,
+    err: MemorySink,
+}
+
+// The two streams, of which some calls fail.
+fn streams_of(alloc: Global, fails: Failures<'_>) -> anyhow::Result<Streams> {
+    let out = MemorySink::new(alloc, fails.out)?;
+    match MemorySink::new(alloc, fails.err) {
+        Ok(err) => Ok(Streams { out, err }),
+        Err(error) => {
+            drop(out);
+            Err(error.into())
+        }
+    }
+}
+
+// A store that holds what the files hold, and of which some calls fail.
+fn store_over(alloc: Global, files: &Files, plan: &[Failure]) -> anyhow::Result<MemoryStore> {
+    let mut store = MemoryStore::new(alloc, plan)?;
+    match files.hold_in(alloc, &mut store) {
+        Ok(()) => Ok(store),
+        Err(error) => {
+            drop(store);
+            Err(error)
+        }
+    }
+}
+
 /// Runs a command over a store that holds what the files hold.
 pub(crate) fn run_over(
     alloc: Global,
@@ -28,17 +66,22 @@ pub(crate) fn run_over(
     files: &Files,
     fails: Failures<'_>,
 ) -> anyhow::Result<Ending> {
-    let mut store = MemoryStore::new(alloc, fails.store)?;
-    let mut out = MemorySink::new(alloc, fails.out)?;
-    let mut err = MemorySink::new(alloc, fails.err)?;
-    files.hold_in(alloc, &mut store)?;
-    let status = linkage(alloc, words, &mut store, &mut out, &mut err);
-    Ok(Ending {
-        status,
-        store,
-        out,
-        err,
-    })
+    let mut streams = streams_of(alloc, fails)?;
+    match store_over(alloc, files, fails.store) {
+        Ok(mut store) => {
+            let status = linkage(alloc, words, &mut store, &mut streams.out, &mut streams.err);
+            Ok(Ending {
+                status,
+                store,
+                out: streams.out,
+                err: streams.err,
+            })
+        }
+        Err(error) => {
+            drop(streams);
+            Err(error)
+        }
+    }
 }
 
 // The text of a fault's line; all of what was told, where that is no such line.
@@ -85,6 +128,19 @@ fn push_changes(
     Ok(())
 }
 
+// Appends an ending: the status, what was told, and what changed.
+fn push_ending(
+    alloc: Global,
+    text: &mut Vec<u8>,
+    ending: &Ending,
+    files: &Files,
+    whole: &Ending,
+) -> Result<(), AllocError> {
+    text.extend_from_slice(format!(in alloc; "{}", ending.status)?.as_bytes())?;
+    push_said(alloc, text, ending)?;
+    push_changes(text, ending, files, whole)
+}
+
 /// An ending in one line: the status, what was told, and what changed beside what the command leaves where nothing fails.
 pub(crate) fn in_one_line(
     alloc: Global,
@@ -93,9 +149,7 @@ pub(crate) fn in_one_line(
     whole: &Ending,
 ) -> anyhow::Result<Vec<u8>> {
     let mut text = Vec::new(alloc);
-    text.extend_from_slice(format!(in alloc; "{}", ending.status)?.as_bytes())?;
-    push_said(alloc, &mut text, ending)?;
-    push_changes(&mut text, ending, files, whole)?;
+    push_ending(alloc, &mut text, ending, files, whole)?;
     Ok(text)
 }
 

@@ -1,7 +1,8 @@
 use Rattle.std.proofs.Common.{◌≡◌, ◌++◌, ◌∙◌, Bool, List, ap, add-one, arith, get_or, subst, sym}
 use Rattle.csv.specs.Writing.{default_writer, row_text}
 use Rattle.link_report.specs.PairsText.{pair_row, pairs_header}
-use Rattle.link_report.proofs.PairLemmas.{last_of, no_row, rows_more}
+use Rattle.link_report.proofs.PairLemmas.{last_of, no_row}
+use Rattle.link_report.proofs.RowLemmas.{rows_more}
 use Rattle.pattern_shapes.specs.Shapes.{rare_of}
 use Rattle.link_report.proofs.pairs.pairs_text.Goals as goal
 
@@ -16,6 +17,6 @@ loop-row-preserved c =
     let more : P (rare_of c.args.shape.now) = subst P c.loop-row.invariant.rares c.in_ok-push.ensures.text in
     record {
       rares = c.push.ensures.rares ∙ c.loop-row.invariant.rares;
-      text = rows_more (pair_row (rare_of c.args.shape.now) a b) (row_text default_writer pairs_header) c.loop-row.writer.text c.push.new.self.text rows at (omega arith) c.loop-row.invariant.text more;
+      text = rows_more (pair_row (rare_of c.args.shape.now) a b) (row_text default_writer pairs_header) c.loop-row.writer.text c.push.new.self.text rows at no_row (omega arith) c.loop-row.invariant.text more;
       last = c.in_ok-push.ensures.last ∙ ap (last_of rows) (sym (add-one at));
     }

@@ -1,0 +1,9 @@
+use Rattle.std.proofs.Common.{arith}
+use Rattle.csv.specs.Writing.{default_writer, row_text}
+use Rattle.link_report.specs.OpenText.{open_header, open_row}
+use Rattle.link_report.proofs.RowLemmas.{rows_more}
+use Rattle.link_report.proofs.open.open_text.Goals as goal
+
+pub loop-row-preserved : goal.loop-row-preserved
+loop-row-preserved c =
+    rows_more (open_row c.args.a.now c.args.b.now) (row_text default_writer open_header) c.loop-row.text.items c.push_open.new.text.items c.args.rows.now c.loop-row.row-index _ (omega arith) c.loop-row.invariant c.in_ok-push_open.ensures
