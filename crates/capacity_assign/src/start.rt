@@ -1,9 +1,9 @@
 // Prices, links, seats and the tree before any record of A is taken up.
-ghost use Rattle.std.specs.Prelude.{◌≡◌, ◌<◌, All, AllPairs, IfOk, length};
-ghost use Rattle.assignment_laws.specs.Assignment.{IsBefore, IsWithin};
+ghost use Rattle.std.specs.Prelude.{◌≡◌, All, AllPairs, IfOk, length};
+ghost use Rattle.assignment_laws.specs.Assignment.{IsBefore};
 ghost use Rattle.capacity_assign.specs.Core.{IsInRange};
 ghost use Rattle.capacity_assign.specs.Final.{edges_of};
-ghost use Rattle.capacity_assign.specs.Growth.{AreFirsts, IsRising};
+ghost use Rattle.capacity_assign.specs.Growth.{AreFirsts};
 ghost use Rattle.capacity_assign.specs.Round.{AreSmall};
 ghost use Rattle.capacity_assign.specs.Solution.{HasSmallValue};
 ghost use Rattle.capacity_assign.specs.Start.{AreFirstPrices, IsStart};
