@@ -7,9 +7,13 @@ ghost use Rattle.file_reader.specs.Table.{HasWidth, table_of};
 ghost use Rattle.csv_records.specs.Left.{records_in};
 ghost use Rattle.link_core.specs.ColumnPairs.{first_field, pairs_of_fields, pairs_of_files, rows_of_pairs, wanted_column};
 ghost use Rattle.link_core.specs.ColumnRecords.{numbered_records, value_of, whole_field};
+ghost use Rattle.pair_decisions.specs.Pairs.{pairs_within};
+ghost use Rattle.pair_walk.specs.Pairs.{compared_pairs};
+ghost use Rattle.pair_walk.specs.Rows.{AreAllReady};
 
 use crate::row_text::rows_text;
 use file_reader::{Layout, Table, read_table};
+use itoa::Buffer;
 use link_base::{
     Fault, FileRole, KeyKind, NoMemory, Part, Pass, PassList, StdFile, StdRow, Text, Value,
 };
@@ -74,8 +78,8 @@ fn whole_pass(alloc: Global) -> Result<PassList, NoMemory>
 fn row_id(alloc: Global, row: u64) -> Result<Text, NoMemory>
     ensures { IfOk result (λ id. id ≡ decimal row) }
 {
-    let digits = format!(in alloc; "{row}")?;
-    Text::new(alloc, digits.as_bytes())
+    let mut digits = Buffer::new();
+    Text::new(alloc, digits.format(row).as_bytes())
 }
 
 // The rows of a column as standard records, each with its number as its id.
@@ -92,6 +96,23 @@ fn numbered_file(alloc: Global, table: &Table) -> Result<StdFile, NoMemory>
     Ok(file)
 }
 
+// The pairs of records of one field with the same text.
+fn walk_columns(alloc: Global, a: &StdFile, b: &StdFile) -> Result<Pairs, Fault>
+    requires ready_a { AreAllReady whole_field a.now }
+    requires ready_b { AreAllReady whole_field b.now }
+    ensures kind { IfErr result IsInputFault }
+    ensures answer { IsAnswer (pairs_within (compared_pairs a.now b.now whole_field)) result }
+{
+    let passes = whole_pass(alloc)?;
+    let walked = walk(alloc, a, b, &passes);
+    drop(passes);
+    match walked {
+        Ok(pairs) => Ok(pairs),
+        Err(WalkFault::TooManyPairs { limit }) => Err(Fault::TooManyPairs { limit }),
+        Err(WalkFault::NoMemory) => Err(Fault::NoMemory),
+    }
+}
+
 // The pairs of rows of two columns with the same field.
 #[tactic(auto, using(crate::proofs::ColumnLemmas::columns_compared))]
 fn compare_columns(alloc: Global, a: &Table, b: &Table) -> Result<Pairs, Fault>
@@ -102,13 +123,18 @@ fn compare_columns(alloc: Global, a: &Table, b: &Table) -> Result<Pairs, Fault>
     ensures kind { IfErr result IsInputFault }
     ensures answer { IsAnswer (pairs_of_fields (map first_field a.now) (map first_field b.now)) result }
 {
-    let a = numbered_file(alloc, a)?;
-    let b = numbered_file(alloc, b)?;
-    let passes = whole_pass(alloc)?;
-    match walk(alloc, &a, &b, &passes) {
-        Ok(pairs) => Ok(pairs),
-        Err(WalkFault::TooManyPairs { limit }) => Err(Fault::TooManyPairs { limit }),
-        Err(WalkFault::NoMemory) => Err(Fault::NoMemory),
+    let of_a = numbered_file(alloc, a)?;
+    match numbered_file(alloc, b) {
+        Ok(of_b) => {
+            let pairs = walk_columns(alloc, &of_a, &of_b);
+            drop(of_a);
+            drop(of_b);
+            pairs
+        }
+        Err(NoMemory) => {
+            drop(of_a);
+            Err(Fault::NoMemory)
+        }
     }
 }
 

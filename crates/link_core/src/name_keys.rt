@@ -72,15 +72,25 @@ fn push_word(
     push_line(lines, text_of(&value))
 }
 
+// A line for each word.
+fn lines_of(alloc: Global, words: &[String], tables: &NameTables) -> Result<Vec<u8>, NoMemory>
+    requires { tables.now ≡ standard_names }
+    ensures { IfOk result (λ lines. lines.items ≡ keys_text (map string_bytes words.now)) }
+{
+    let mut lines = Vec::new(alloc);
+    for word in words {
+        push_word(alloc, &mut lines, word.as_str(), tables)?;
+    }
+    Ok(lines)
+}
+
 /// A line for each word: its standard text as a name by the default tables, its Soundex key and its NYSIIS key, each empty
 /// where there is none.
 pub fn key_lines(alloc: Global, words: &[String]) -> Result<Text, NoMemory>
     ensures { IfOk result (λ text. text ≡ keys_text (map string_bytes words.now)) }
 {
     let tables = standard_tables(alloc)?;
-    let mut lines = Vec::new(alloc);
-    for word in words {
-        push_word(alloc, &mut lines, word.as_str(), &tables)?;
-    }
-    Ok(Text::of(lines))
+    let lines = lines_of(alloc, words, &tables);
+    drop(tables);
+    Ok(Text::of(lines?))
 }

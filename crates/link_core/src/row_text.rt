@@ -1,16 +1,26 @@
 // The text of pairs of rows.
-ghost use Rattle.std.specs.Prelude.{◌≡◌, ◌++◌, IfOk, OnOk};
+ghost use Rattle.std.specs.Prelude.{◌≡◌, ◌++◌, IfOk, OnOk, decimal};
 ghost use Rattle.link_core.specs.ColumnPairs.{pair_line, pairs_text};
 
-use link_base::{NoMemory, PairAt, push_number};
+use itoa::Buffer;
+use link_base::{NoMemory, PairAt};
 use std::alloc::Global;
 
-fn push_pair(alloc: Global, text: &mut Vec<u8>, pair: PairAt) -> Result<(), NoMemory>
+// Appends the number of a row in decimal digits.
+fn push_row(text: &mut Vec<u8>, row: u64) -> Result<(), NoMemory>
+    ensures { OnOk result (text.new.items ≡ text.old.items ++ decimal row) }
+{
+    let mut digits = Buffer::new();
+    text.extend_from_slice(digits.format(row).as_bytes())?;
+    Ok(())
+}
+
+fn push_pair(text: &mut Vec<u8>, pair: PairAt) -> Result<(), NoMemory>
     ensures { OnOk result (text.new.items ≡ text.old.items ++ pair_line pair) }
 {
-    push_number(alloc, text, u64::from(pair.a) + 1)?;
+    push_row(text, u64::from(pair.a) + 1)?;
     text.extend_from_slice(b",")?;
-    push_number(alloc, text, u64::from(pair.b) + 1)?;
+    push_row(text, u64::from(pair.b) + 1)?;
     text.extend_from_slice(b"\n")?;
     Ok(())
 }
@@ -22,7 +32,7 @@ pub(crate) fn rows_text(alloc: Global, pairs: &[PairAt]) -> Result<Vec<u8>, NoMe
     let mut text = Vec::new(alloc);
     text.extend_from_slice(b"row_a,row_b\n")?;
     for pair in pairs {
-        push_pair(alloc, &mut text, *pair)?;
+        push_pair(&mut text, *pair)?;
     }
     Ok(text)
 }

@@ -1,7 +1,7 @@
 use Rattle.std.proofs.Common.{◌≡◌, ◌++◌, drop, map}
 use Rattle.std.specs.Prelude.{string_bytes}
 use Rattle.link_core.specs.NameKeys.{keys_text}
-use Rattle.link_core.proofs.name_keys.key_lines.Given as goal
+use Rattle.link_core.proofs.name_keys.lines_of.Given as goal
 
 abbrev pub invariant-loop-word : goal.invariant-loop-word
 invariant-loop-word l = l.lines.items ++ keys_text (map string_bytes (drop l.word-index l.words)) ≡ keys_text (map string_bytes l.words)
