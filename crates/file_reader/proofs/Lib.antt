@@ -1,6 +1,8 @@
 pub mod FieldFacts
+pub mod FindFacts
 pub mod IdFacts
 pub mod LeastFaulty
+pub mod MoreFacts
 pub mod ReadFacts
 pub mod RegionFacts
 pub mod RowFacts

@@ -27,9 +27,12 @@ count_in header name = count_by (λ field. bytes_eq field name) header
 abbrev pub place_in : List (List ℕ) → List ℕ → ℕ
 place_in header name = position_or_len (λ field. bytes_eq field name) header
 
--- the needed columns with their places
+-- a needed column, and all of them, with their places
+abbrev pub column_in : List (List ℕ) → List ℕ → Column
+column_in header name = record { name = name; place = place_in header name }
+
 abbrev pub columns_of : List (List ℕ) → List (List ℕ) → List Column
-columns_of names header = map (λ name. record { name = name; place = place_in header name }) names
+columns_of names header = map (column_in header) names
 
 -- a file under its header: which file it is, the most rows that it may have, the number of its fields, whether the
 -- first needed column is an id, and the needed columns

@@ -16,18 +16,30 @@ abbrev pub fault_by : {A : Type 0} → (A → Fault) → Option A → Option Fau
 fault_by make None = None
 fault_by make (Some a) = Some (make a)
 
+-- a needed column that stands twice in a header, and one that is missing
+abbrev pub repeated_fault : FileRole → List (List ℕ) → List (List ℕ) → Option Fault
+repeated_fault role names header = fault_by (fault.RepeatedColumn role) (find (λ name. nat_lt 1 (count_in header name)) names)
+
+abbrev pub missing_fault : FileRole → List (List ℕ) → List (List ℕ) → Option Fault
+missing_fault role names header = fault_by (fault.NoColumn role) (find (λ name. count_in header name == 0) names)
+
 -- the first fault of a header: a needed column that stands twice, one that is missing, too many columns
 abbrev pub header_fault : FileRole → List (List ℕ) → List (List ℕ) → Option Fault
 header_fault role names header =
-    or_else (fault_by (fault.RepeatedColumn role) (find (λ name. nat_lt 1 (count_in header name)) names))
-    (or_else (fault_by (fault.NoColumn role) (find (λ name. count_in header name == 0) names))
+    or_else (repeated_fault role names header)
+    (or_else (missing_fault role names header)
     (if nat_lt MOST_COLUMNS (length header) then Some (fault.TooManyColumns role (min (length header) 4294967295) MOST_COLUMNS) else None))
+
+-- the first needed field that is no text, and the first one that is too long
+abbrev pub utf8_fault : Heading → ℕ → List (List ℕ) → Option Fault
+utf8_fault heading number row = fault_by (λ (c : Column). fault.NotUtf8 heading.role number c.name) (find (λ c. not (is_utf8 (cell row c))) heading.columns)
+
+abbrev pub length_fault : Heading → ℕ → List (List ℕ) → Option Fault
+length_fault heading number row = fault_by (λ (c : Column). fault.FieldTooLong heading.role number c.name) (find (λ c. nat_lt MOST_FIELD_BYTES (length (cell row c))) heading.columns)
 
 -- the first needed field at fault: one that is no text, one that is too long
 abbrev pub text_fault : Heading → ℕ → List (List ℕ) → Option Fault
-text_fault heading number row =
-    or_else (fault_by (λ (c : Column). fault.NotUtf8 heading.role number c.name) (find (λ c. not (is_utf8 (cell row c))) heading.columns))
-    (fault_by (λ (c : Column). fault.FieldTooLong heading.role number c.name) (find (λ c. nat_lt MOST_FIELD_BYTES (length (cell row c))) heading.columns))
+text_fault heading number row = or_else (utf8_fault heading number row) (length_fault heading number row)
 
 -- the fault of an id after these ids: it is empty, or an earlier row has it
 abbrev pub id_fault : FileRole → ℕ → List ℕ → List (List ℕ) → Option Fault

@@ -1,12 +1,11 @@
 // The header of a table.
-ghost use Rattle.std.specs.Prelude.{◌≡◌, ◌==◌, find, nat_lt, IfErr, IfOk};
-ghost use Rattle.std.specs.Option.{option_copied};
+ghost use Rattle.std.specs.Prelude.{◌≡◌, ◌++◌, ◌∷◌, [], IfErr, IfOk, OnOk};
 ghost use Rattle.csv.specs.Records.{fields_of};
 ghost use Rattle.link_base.specs.Fault.{IsInputFault};
 ghost use Rattle.csv_records.specs.Left.{records_in};
 ghost use Rattle.file_reader.specs.Header.{header_has};
-ghost use Rattle.file_reader.specs.Layout.{columns_of, count_in, needed_of, place_in, wanted_of};
-ghost use Rattle.file_reader.specs.Table.{header_fault, Tests};
+ghost use Rattle.file_reader.specs.Layout.{column_in, columns_of, needed_of, wanted_of};
+ghost use Rattle.file_reader.specs.Table.{header_fault, missing_fault, repeated_fault, Tests};
 
 use crate::fields::{count_of, place_of};
 use crate::layout::{Column, Layout};
@@ -16,30 +15,73 @@ use link_base::{Fault, FileRole, NoMemory, Text};
 use link_limits::MOST_COLUMNS;
 use std::alloc::Global;
 
+// Appends a copy of a name.
+fn push_name(alloc: Global, names: &mut Vec<Text>, name: &Text) -> Result<(), NoMemory>
+    ensures { OnOk result (names.new.items ≡ names.old.items ++ name.now ∷ []) }
+{
+    let name = name.copy(alloc)?;
+    names.push(name)?;
+    Ok(())
+}
+
+// Appends copies of names.
+fn push_names(alloc: Global, names: &mut Vec<Text>, more: &[Text]) -> Result<(), NoMemory>
+    ensures { OnOk result (names.new.items ≡ names.old.items ++ more.now) }
+{
+    for name in more {
+        push_name(alloc, names, name)?;
+    }
+    Ok(())
+}
+
 // The names of the needed columns, the id first.
 pub(crate) fn needed_names(alloc: Global, layout: &Layout) -> Result<Vec<Text>, NoMemory>
     ensures { IfOk result (λ names. names.items ≡ needed_of (wanted_of layout.now)) }
 {
     let mut names = Vec::new(alloc);
     if let Some(id) = &layout.id {
-        names.push(id.copy(alloc)?)?;
+        push_name(alloc, &mut names, id)?;
     }
-    for column in &layout.columns {
-        names.push(column.copy(alloc)?)?;
-    }
+    push_names(alloc, &mut names, &layout.columns)?;
     Ok(names)
 }
 
-fn first_repeated<'n>(names: &'n [Text], row: &ByteRecord) -> Option<&'n Text>
-    ensures { option_copied result ≡ find (λ name. nat_lt 1 (count_in (fields_of row.now) name)) names.now }
+// Tests that no name stands twice in a header.
+fn test_repeated(
+    alloc: Global,
+    role: FileRole,
+    names: &[Text],
+    row: &ByteRecord,
+) -> Result<(), Fault>
+    ensures kind { IfErr result IsInputFault }
+    ensures fault { Tests (repeated_fault role names.now (fields_of row.now)) result }
 {
-    names.iter().find(|name| count_of(row, name.bytes()) > 1)
+    for name in names {
+        if count_of(row, name.bytes()) > 1 {
+            let column = name.copy(alloc)?;
+            return Err(Fault::RepeatedColumn { role, column });
+        }
+    }
+    Ok(())
 }
 
-fn first_missing<'n>(names: &'n [Text], row: &ByteRecord) -> Option<&'n Text>
-    ensures { option_copied result ≡ find (λ name. count_in (fields_of row.now) name == 0) names.now }
+// Tests that each name stands in a header.
+fn test_missing(
+    alloc: Global,
+    role: FileRole,
+    names: &[Text],
+    row: &ByteRecord,
+) -> Result<(), Fault>
+    ensures kind { IfErr result IsInputFault }
+    ensures fault { Tests (missing_fault role names.now (fields_of row.now)) result }
 {
-    names.iter().find(|name| count_of(row, name.bytes()) == 0)
+    for name in names {
+        if count_of(row, name.bytes()) == 0 {
+            let column = name.copy(alloc)?;
+            return Err(Fault::NoColumn { role, column });
+        }
+    }
+    Ok(())
 }
 
 // Tests a header.
@@ -52,13 +94,13 @@ pub(crate) fn test_header(
     ensures kind { IfErr result IsInputFault }
     ensures fault { Tests (header_fault role names.now (fields_of row.now)) result }
 {
-    if let Some(name) = first_repeated(names, row) {
-        let column = name.copy(alloc)?;
-        return Err(Fault::RepeatedColumn { role, column });
+    match test_repeated(alloc, role, names, row) {
+        Ok(()) => {}
+        Err(fault) => return Err(fault),
     }
-    if let Some(name) = first_missing(names, row) {
-        let column = name.copy(alloc)?;
-        return Err(Fault::NoColumn { role, column });
+    match test_missing(alloc, role, names, row) {
+        Ok(()) => {}
+        Err(fault) => return Err(fault),
     }
     if row.len() > MOST_COLUMNS as usize {
         let count = row.len().min(u32::MAX as usize) as u32;
@@ -71,12 +113,19 @@ pub(crate) fn test_header(
     Ok(())
 }
 
-fn column_of(alloc: Global, name: &Text, row: &ByteRecord) -> Result<Column, NoMemory>
-    ensures { IfOk result (λ column. column ≡ record { name = name.now; place = place_in (fields_of row.now) name.now }) }
+// Appends a needed column with its place.
+fn push_column(
+    alloc: Global,
+    columns: &mut Vec<Column>,
+    name: &Text,
+    row: &ByteRecord,
+) -> Result<(), NoMemory>
+    ensures { OnOk result (columns.new.items ≡ columns.old.items ++ column_in (fields_of row.now) name.now ∷ []) }
 {
     let place = place_of(row, name.bytes());
     let name = name.copy(alloc)?;
-    Ok(Column { name, place })
+    columns.push(Column { name, place })?;
+    Ok(())
 }
 
 // The needed columns with their places.
@@ -89,9 +138,19 @@ pub(crate) fn find_columns(
 {
     let mut columns = Vec::new(alloc);
     for name in names {
-        columns.push(column_of(alloc, name, row)?)?;
+        push_column(alloc, &mut columns, name, row)?;
     }
     Ok(columns)
+}
+
+// Whether the first record that is left has a column of this name.
+fn first_has(left: &mut Records<'_>, row: &mut ByteRecord, column: &[u8]) -> Result<bool, NoMemory>
+    ensures { IfOk result (λ has. has ≡ header_has column.now left.old) }
+{
+    if left.next(row)? {
+        return Ok(count_of(row, column) > 0);
+    }
+    Ok(false)
 }
 
 /// Whether a text has a header, its first record (RFC 4180), with a column of this name. One byte order mark at the start
@@ -106,8 +165,5 @@ pub fn has_column(
 {
     let mut left = Records::new(alloc, bytes, delimiter);
     let mut row = ByteRecord::new(alloc);
-    if left.next(&mut row)? {
-        return Ok(count_of(&row, column) > 0);
-    }
-    Ok(false)
+    first_has(&mut left, &mut row, column)
 }

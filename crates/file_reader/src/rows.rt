@@ -1,13 +1,12 @@
 // The rows of a table.
-ghost use Rattle.std.specs.Prelude.{◌≡◌, ◌≤◌, ◌<◌, ◌++◌, ◌∷◌, [], not, find, nat_lt, IfOk, IsTrue, OnOk, IfErr, length};
-ghost use Rattle.std.specs.Option.{option_copied};
-ghost use Rattle.std.specs.Str.{is_utf8};
+ghost use Rattle.std.specs.Prelude.{◌≡◌, ◌≤◌, ◌<◌, ◌*◌, ◌++◌, ◌∷◌, [], IfOk, IsTrue, OnOk, IfErr, length};
 ghost use Rattle.csv.specs.Records.{fields_of};
 ghost use Rattle.csv_records.specs.Left.{records_in};
-ghost use Rattle.link_base.specs.Fault.{IsAnswer, IsInputFault};
-ghost use Rattle.file_reader.specs.Layout.{cell, cells_of, heading_of, wanted_of};
+ghost use Rattle.link_base.specs.Fault.{Gives, IsAnswer, IsInputFault};
+ghost use Rattle.file_reader.specs.Layout.{cells_of, heading_of, heading_under, needed_of, wanted_of};
+ghost use Rattle.file_reader.specs.Rows.{table_rows};
 ghost use Rattle.file_reader.specs.Steps.{KeepsId, TakesRow};
-ghost use Rattle.file_reader.specs.Table.{HasDistinctIds, HasTexts, HasWidth, id_fault, row_fault, rows_read, table_of, taken, Tests, text_fault, under_header};
+ghost use Rattle.file_reader.specs.Table.{HasDistinctIds, HasTexts, HasWidth, header_fault, id_fault, length_fault, row_fault, rows_read, table_of, taken, Tests, text_fault, under_header, utf8_fault};
 
 use crate::fields::{field_of, is_text};
 use crate::header::{find_columns, needed_names, test_header};
@@ -17,22 +16,44 @@ use crate::region::TextRegion;
 use crate::table::Table;
 use csv::ByteRecord;
 use csv_records::Records;
-use link_base::{Fault, FileRole, NoMemory};
+use link_base::{Fault, FileRole, NoMemory, Text};
 use link_limits::MOST_FIELD_BYTES;
 use std::alloc::Global;
 
-fn first_not_text<'c>(columns: &'c [Column], row: &ByteRecord) -> Option<&'c Column>
-    ensures { option_copied result ≡ find (λ c. not (is_utf8 (cell (fields_of row.now) c))) columns.now }
+// Tests that the needed fields of a row are texts.
+fn test_utf8(alloc: Global, head: &Head, number: u32, row: &ByteRecord) -> Result<(), Fault>
+    ensures kind { IfErr result IsInputFault }
+    ensures fault { Tests (utf8_fault (heading_of head.now) number (fields_of row.now)) result }
 {
-    columns
-        .iter()
-        .find(|column| !is_text(field_of(row, column.place)))
+    for needed in &head.columns {
+        if !is_text(field_of(row, needed.place)) {
+            let column = needed.name.copy(alloc)?;
+            return Err(Fault::NotUtf8 {
+                role: head.role,
+                row: number,
+                column,
+            });
+        }
+    }
+    Ok(())
 }
 
-fn first_long<'c>(columns: &'c [Column], row: &ByteRecord) -> Option<&'c Column>
-    ensures { option_copied result ≡ find (λ c. nat_lt MOST_FIELD_BYTES (length (cell (fields_of row.now) c))) columns.now }
+// Tests that the needed fields of a row are not too long.
+fn test_lengths(alloc: Global, head: &Head, number: u32, row: &ByteRecord) -> Result<(), Fault>
+    ensures kind { IfErr result IsInputFault }
+    ensures fault { Tests (length_fault (heading_of head.now) number (fields_of row.now)) result }
 {
-    columns.iter().find(|column| field_of(row, column.place).len() > MOST_FIELD_BYTES)
+    for needed in &head.columns {
+        if field_of(row, needed.place).len() > MOST_FIELD_BYTES {
+            let column = needed.name.copy(alloc)?;
+            return Err(Fault::FieldTooLong {
+                role: head.role,
+                row: number,
+                column,
+            });
+        }
+    }
+    Ok(())
 }
 
 // Tests the needed fields of a row.
@@ -40,23 +61,11 @@ fn test_texts(alloc: Global, head: &Head, number: u32, row: &ByteRecord) -> Resu
     ensures kind { IfErr result IsInputFault }
     ensures fault { Tests (text_fault (heading_of head.now) number (fields_of row.now)) result }
 {
-    if let Some(found) = first_not_text(&head.columns, row) {
-        let column = found.name.copy(alloc)?;
-        return Err(Fault::NotUtf8 {
-            role: head.role,
-            row: number,
-            column,
-        });
+    match test_utf8(alloc, head, number, row) {
+        Ok(()) => {}
+        Err(fault) => return Err(fault),
     }
-    if let Some(found) = first_long(&head.columns, row) {
-        let column = found.name.copy(alloc)?;
-        return Err(Fault::FieldTooLong {
-            role: head.role,
-            row: number,
-            column,
-        });
-    }
-    Ok(())
+    test_lengths(alloc, head, number, row)
 }
 
 // Tests an id, and keeps it.
@@ -134,6 +143,39 @@ fn push_cells(cells: &mut TextRegion, columns: &[Column], row: &ByteRecord) -> R
     Ok(())
 }
 
+// Reads the rows that are left, and tells how many they are.
+fn fill_rows(
+    alloc: Global,
+    left: &mut Records<'_>,
+    row: &mut ByteRecord,
+    head: &Head,
+    ids: &mut Ids,
+    cells: &mut TextRegion,
+) -> Result<u32, Fault>
+    requires no_ids { ids.old ≡ [] }
+    requires no_cells { cells.old ≡ [] }
+    ensures kind { IfErr result IsInputFault }
+    ensures few { IfOk result (λ rows. rows ≤ head.now.most_rows) }
+    ensures whole { IfOk result (λ rows. length cells.new ≡ rows * length head.now.columns.items) }
+    ensures answer { Gives (λ rows. table_rows head.now.has_id rows (length head.now.columns.items) cells.new) (rows_read (heading_of head.now) [] left.old) result }
+{
+    let mut rows: u32 = 0;
+    'rows: while left.next(row)? {
+        if rows >= head.most_rows {
+            return Err(Fault::TooManyRows {
+                role: head.role,
+                limit: u64::from(head.most_rows),
+            });
+        }
+        rows += 1;
+        match take_row(alloc, head, rows, ids, row) {
+            Ok(()) => push_cells(cells, &head.columns, row)?,
+            Err(fault) => return Err(fault),
+        }
+    }
+    Ok(rows)
+}
+
 // The table of the rows that are left.
 fn read_rows(
     alloc: Global,
@@ -148,21 +190,37 @@ fn read_rows(
 {
     let mut cells = TextRegion::new(alloc);
     let mut ids = Ids::new(alloc);
-    let mut rows: u32 = 0;
-    'rows: while left.next(row)? {
-        if rows >= head.most_rows {
-            return Err(Fault::TooManyRows {
-                role: head.role,
-                limit: u64::from(head.most_rows),
-            });
-        }
-        rows += 1;
-        match take_row(alloc, head, rows, &mut ids, row) {
-            Ok(()) => push_cells(&mut cells, &head.columns, row)?,
-            Err(fault) => return Err(fault),
-        }
+    match fill_rows(alloc, left, row, head, &mut ids, &mut cells) {
+        Ok(rows) => Ok(Table::new(head.has_id, head.columns.len(), rows, cells)),
+        Err(fault) => Err(fault),
     }
-    Ok(Table::new(head.has_id, head.columns.len(), rows, cells))
+}
+
+// The file under a header, or the fault of the header.
+fn head_of(
+    alloc: Global,
+    role: FileRole,
+    layout: &Layout,
+    names: &[Text],
+    row: &ByteRecord,
+) -> Result<Head, Fault>
+    requires { names.now ≡ needed_of (wanted_of layout.now) }
+    ensures kind { IfErr result IsInputFault }
+    ensures fault { Tests (header_fault role (needed_of (wanted_of layout.now)) (fields_of row.now)) result }
+    ensures heading { IfOk result (λ head. heading_of head ≡ heading_under role (wanted_of layout.now) (fields_of row.now)) }
+{
+    match test_header(alloc, role, names, row) {
+        Ok(()) => {}
+        Err(fault) => return Err(fault),
+    }
+    let columns = find_columns(alloc, names, row)?;
+    Ok(Head {
+        role,
+        most_rows: layout.most_rows,
+        width: row.len(),
+        has_id: layout.id.is_some(),
+        columns,
+    })
 }
 
 // The table under a header.
@@ -178,18 +236,29 @@ fn read_under(
     ensures answer { IsAnswer (under_header role (wanted_of layout.now) (fields_of row.old) left.old) result }
 {
     let names = needed_names(alloc, layout)?;
-    match test_header(alloc, role, &names, row) {
-        Ok(()) => {}
-        Err(fault) => return Err(fault),
+    match head_of(alloc, role, layout, &names, row) {
+        Ok(head) => read_rows(alloc, left, row, &head),
+        Err(fault) => Err(fault),
     }
-    let head = Head {
-        role,
-        most_rows: layout.most_rows,
-        width: row.len(),
-        has_id: layout.id.is_some(),
-        columns: find_columns(alloc, &names, row)?,
-    };
-    read_rows(alloc, left, row, &head)
+}
+
+// The table of the records that are left, of which the first is the header.
+fn read_records(
+    alloc: Global,
+    left: &mut Records<'_>,
+    row: &mut ByteRecord,
+    role: FileRole,
+    layout: &Layout,
+) -> Result<Table, Fault>
+    ensures kind { IfErr result IsInputFault }
+    ensures few { IfOk result (λ table. length table ≤ layout.now.most_rows) }
+    ensures answer { IsAnswer (table_of role (wanted_of layout.now) left.old) result }
+{
+    match left.next(row) {
+        Ok(true) => read_under(alloc, left, row, role, layout),
+        Ok(false) => Err(Fault::NoHeader { role }),
+        Err(NoMemory) => Err(Fault::NoMemory),
+    }
 }
 
 /// The table of a CSV file (RFC 4180), or its first fault: of the header, and else of the first row at
@@ -209,9 +278,5 @@ pub fn read_table(
 {
     let mut left = Records::new(alloc, bytes, layout.delimiter);
     let mut row = ByteRecord::new(alloc);
-    match left.next(&mut row) {
-        Ok(true) => read_under(alloc, &mut left, &mut row, role, layout),
-        Ok(false) => Err(Fault::NoHeader { role }),
-        Err(NoMemory) => Err(Fault::NoMemory),
-    }
+    read_records(alloc, &mut left, &mut row, role, layout)
 }

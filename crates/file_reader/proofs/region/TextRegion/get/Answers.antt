@@ -1,4 +1,3 @@
-use Rattle.std.proofs.Common.{arith}
 use Rattle.file_reader.proofs.RegionFacts.{length_texts}
 use Rattle.file_reader.proofs.region.TextRegion.get.Goals as goal
 

@@ -2,7 +2,7 @@ use Rattle.std.proofs.Common.{◌≡◌, ◌≤◌, ◌*◌, length, []}
 use Rattle.file_reader.specs.Layout.{heading_of}
 use Rattle.file_reader.specs.Rows.{known_ids, table_rows}
 use Rattle.file_reader.specs.Table.{rows_read}
-use Rattle.file_reader.proofs.rows.read_rows.Given as goal
+use Rattle.file_reader.proofs.rows.fill_rows.Given as goal
 
 abbrev pub invariant-rows : goal.invariant-rows
 invariant-rows l = record {

@@ -1,0 +1,36 @@
+-- The first item that passes a test, sought from the front.
+use Rattle.std.proofs.Common.{◌≡◌, ◌≢◌, ◌<◌, ◌≤◌, ◌+◌, ◌==◌, ◌∷◌, ◌∙◌, ℕ, nat_lt, Bool, true, false, List, length, get_or, drop, Some, ap, refl, sym, arith}
+use Rattle.std.specs.Prelude.{find}
+use Rattle.std.proofs.lemmas.List.{drop_more}
+use Rattle.std.proofs.lemmas.Bool.Decides.{nat_tests}
+use Rattle.file_reader.specs.Table.{fault_by}
+use Rattle.link_base.specs.declared.fault.Fault.{Fault}
+
+from_here : {A : Type 0} (p : A → Bool) (xs : List A) (i : ℕ) (x : A) → i < length xs → x ≡ get_or xs i x → find p (drop i xs) ≡ find p (x ∷ drop (i + 1) xs)
+from_here {A = A} p xs i x lt is = ap (find p) (drop_more xs i x lt ∙ ap (λ (w : A). w ∷ drop (i + 1) xs) (sym is))
+
+-- an item that passes
+pub fault_here : {A : Type 0} (make : A → Fault) (p : A → Bool) (xs : List A) (i : ℕ) (x : A) → i < length xs → x ≡ get_or xs i x → find p (drop i xs) ≡ find p xs → p x ≡ true
+    → fault_by make (find p xs) ≡ Some (make x)
+fault_here make p xs i x lt is told passes =
+    let here : find p (x ∷ drop (i + 1) xs) ≡ Some x = rw passes refl in
+    ap (fault_by make) (sym told ∙ from_here p xs i x lt is ∙ here)
+
+-- one that does not
+pub find_next : {A : Type 0} (p : A → Bool) (xs : List A) (i : ℕ) (x : A) → i < length xs → x ≡ get_or xs i x → find p (drop i xs) ≡ find p xs → p x ≡ false
+    → find p (drop (i + 1) xs) ≡ find p xs
+find_next p xs i x lt is told fails =
+    let next : find p (x ∷ drop (i + 1) xs) ≡ find p (drop (i + 1) xs) = rw fails refl in
+    sym next ∙ sym (from_here p xs i x lt is) ∙ told
+
+pub more_than : (n m : ℕ) → n < m → nat_lt n m ≡ true
+more_than n m lt = grind (arith, nat_tests)
+
+pub no_more : (n m : ℕ) → m ≤ n → nat_lt n m ≡ false
+no_more n m le = grind (arith, nat_tests)
+
+pub is_none : (n : ℕ) → n ≡ 0 → (n == 0) ≡ true
+is_none n e = rw e refl
+
+pub is_some : (n : ℕ) → n ≢ 0 → (n == 0) ≡ false
+is_some n le = grind (arith, nat_tests)

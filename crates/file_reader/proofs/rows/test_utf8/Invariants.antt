@@ -1,0 +1,9 @@
+use Rattle.std.proofs.Common.{◌≡◌, drop}
+use Rattle.std.specs.Prelude.{find, not}
+use Rattle.std.specs.Str.{is_utf8}
+use Rattle.csv.specs.Records.{fields_of}
+use Rattle.file_reader.specs.Layout.{cell}
+use Rattle.file_reader.proofs.rows.test_utf8.Given as goal
+
+abbrev pub invariant-loop-needed : goal.invariant-loop-needed
+invariant-loop-needed l = find (λ c. not (is_utf8 (cell (fields_of l.row) c))) (drop l.needed-index l.head.columns.items) ≡ find (λ c. not (is_utf8 (cell (fields_of l.row) c))) l.head.columns.items
