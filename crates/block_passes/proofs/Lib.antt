@@ -4,4 +4,5 @@ pub mod IdLemmas
 pub mod NumberLemmas
 pub mod PartLemmas
 pub mod RowLemmas
+pub mod StepLemmas
 pub mod TestLemmas
