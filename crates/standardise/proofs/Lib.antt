@@ -1,3 +1,5 @@
 pub mod CleaningLemmas
+pub mod NameLemmas
 pub mod OrderLemmas
+pub mod StepLemmas
 pub mod WordLemmas

@@ -5,7 +5,7 @@ use Rattle.std.specs.List.{list_all, list_any}
 use Rattle.std.specs.Str.{IsAscii, IsUtf8}
 use Rattle.std.proofs.lemmas.Grind.{common_steps}
 use Rattle.std.proofs.lemmas.Bool.Decides.{nat_tests}
-use Rattle.std.proofs.lemmas.List.{append-nil}
+use Rattle.std.proofs.lemmas.List.{append-nil, drop_more, take_more}
 use Rattle.std.proofs.lemmas.Str.{encode_ascii, encodes-append, length-le-encodes, IsCharBoundary-after_ascii, IsCharBoundary-before_ascii, IsUtf8-drop, IsUtf8-from_ascii, IsUtf8-take}
 use Rattle.std.proofs.lemmas.Str.Ascii.{IsAscii-cons, IsAscii-nil}
 use Rattle.link_base.specs.Tables.{is_word, is_word_byte}
@@ -50,10 +50,10 @@ here : (text : List ℕ) (i d : ℕ) → i < length text → text ≡ take i tex
 here text i d lt = grind (arith, common_steps)
 
 drop_here : (text : List ℕ) (i d : ℕ) → i < length text → drop i text ≡ get_or text i d ∷ drop (i + 1) text
-drop_here text i d lt = grind (arith, common_steps)
+drop_here text i d lt = drop_more text i d lt
 
 take_here : (text : List ℕ) (i d : ℕ) → i < length text → take (i + 1) text ≡ take i text ++ get_or text i d ∷ []
-take_here text i d lt = grind (arith, common_steps)
+take_here text i d lt = take_more text i d lt
 
 pub past_letter : (text : List ℕ) (i c : ℕ) → i < length text → c ≡ get_or text i c → (c == 32) ≡ false → words_after (take (i + 1) text) (drop (i + 1) text) ≡ words_after (take i text) (drop i text)
 past_letter text i c lt is other =
