@@ -4,4 +4,5 @@ pub mod ContainsLemmas
 pub mod ForestLemmas
 pub mod NearLemmas
 pub mod SearchLemmas
+pub mod StepLemmas
 pub mod TextLemmas
