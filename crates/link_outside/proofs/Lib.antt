@@ -1,1 +1,2 @@
 pub mod HeldFacts
+pub mod PartLemmas

@@ -2,5 +2,5 @@ pub mod Outside
 pub mod Holdings
 pub mod Planned
 pub mod Fakes
-pub mod Pieces
+pub mod Parts
 pub mod Place

@@ -22,6 +22,16 @@ failure_at plan call = find (λ (f : Failure). f.call == call) plan
 abbrev pub is_planned : List ℕ → ℕ → Bool
 is_planned plan call = list_any (λ n. n == call) plan
 
+-- what a call gives, but nothing where it is planned to fail
+abbrev pub unless_planned : Option Failure → Option (List ℕ) → Option (List ℕ)
+unless_planned None content = content
+unless_planned (Some f) content = None
+
+-- a put writes
+abbrev pub is_put : Option Failure → Bool
+is_put None = true
+is_put (Some f) = f.applied
+
 -- a load fails exactly where that is planned or the name is not held, and else shows what is held; want of memory is free
 abbrev pub LoadsByPlan : Option Failure → Option (List ℕ) → ℕ → Result Load StoreError → Type 0
 LoadsByPlan None (Some bytes) limit (Ok load) = Shows bytes limit load

@@ -1,14 +1,14 @@
 // The line of a fault.
-ghost use Rattle.std.specs.Prelude.{◌≡◌, [], IfOk, OnOk};
+ghost use Rattle.std.specs.Prelude.{◌≡◌, ◌++◌, IfOk, OnOk};
 ghost use Rattle.link_base.specs.Fault.{fault_line, fault_text, role_name};
 ghost use Rattle.link_outside.specs.Outside.{Appends, HasCause};
-ghost use Rattle.link_outside.specs.Pieces.{phrase_after};
+ghost use Rattle.link_outside.specs.Parts.{bound, closing, opening, piece_text, subject};
 ghost use Rattle.link_outside.specs.Place.{fault_place, place_text};
 
 use crate::outside::{Sink, SinkError};
 use crate::piece::Piece::{Bytes, Number};
-use crate::piece::{Phrase, after, before, limited, push_phrase, round, words};
-use link_base::{Fault, FileRole, NoMemory};
+use crate::piece::{Piece, push_piece};
+use link_base::{Fault, FileRole, NoMemory, push_number};
 use std::alloc::Global;
 
 // The place that a fault names.
@@ -68,67 +68,106 @@ fn place_of(fault: &Fault) -> Place
     }
 }
 
-// What is said of a fault after its place.
-fn phrase_of(fault: &Fault) -> Phrase<'_>
-    ensures { phrase_after (place_text (fault_place fault.now)) result ≡ fault_text fault.now }
+// The words after the place of a fault.
+fn opening_of(fault: &Fault) -> &'static [u8]
+    ensures { result.now ≡ opening fault.now }
 {
     match fault {
-        Fault::Usage => words(b"usage"),
-        Fault::NotToml => words(b"settings: not TOML"),
-        Fault::UnknownKey { key } => before(b"settings: unknown key ", Bytes(key.bytes())),
-        Fault::MissingKey { key } => before(b"settings: missing key ", Bytes(key.bytes())),
-        Fault::WrongType { key } => before(b"settings: wrong type at ", Bytes(key.bytes())),
-        Fault::OutOfRange { key } => before(b"settings: out of range at ", Bytes(key.bytes())),
-        Fault::NoHeader { .. } => words(b": no header"),
-        Fault::RepeatedColumn { column, .. } => round(
-            b": column ",
-            Bytes(column.bytes()),
-            b" stands twice",
-        ),
-        Fault::NoColumn { column, .. } => before(b": no column ", Bytes(column.bytes())),
-        Fault::TooManyColumns { count, limit, .. } => limited(
-            b": ",
-            u64::from(*count),
-            b" columns, limit ",
-            *limit,
-        ),
-        Fault::TooManyRows { limit, .. } => round(b": more than ", Number(*limit), b" rows"),
-        Fault::Ragged { .. } => words(b"number of fields"),
-        Fault::NotUtf8 { column, .. } => after(Bytes(column.bytes()), b" is not UTF-8"),
-        Fault::FieldTooLong { column, .. } => after(Bytes(column.bytes()), b" is over 255 bytes"),
-        Fault::EmptyId { .. } => words(b"empty id"),
-        Fault::RepeatedId { first, .. } => before(b"id of row ", Number(u64::from(*first))),
-        Fault::BadValue { field, .. } => after(Bytes(field.bytes()), b" is no date"),
-        Fault::PoolFull { used, limit } => limited(b"values: ", *used, b" bytes, limit ", *limit),
-        Fault::BadStatus { .. } => words(b"status"),
-        Fault::UnknownId { column, .. } => before(b"unknown ", Bytes(column.bytes())),
-        Fault::RepeatedPair { first, .. } => before(b"pair of row ", Number(u64::from(*first))),
-        Fault::NoMatched => words(b"sample: no matched pair"),
-        Fault::NoUnmatched => words(b"sample: no unmatched pair"),
-        Fault::TooManyPairs { limit } => before(b"pairs: more than ", Number(*limit)),
-        Fault::BadNumber { .. } => words(b"number"),
-        Fault::BadDate { .. } => words(b"date"),
-        Fault::DateBack { .. } => words(b"date goes back"),
-        Fault::EmptyReviewer { .. } => words(b"no reviewer"),
-        Fault::BadVerdict { .. } => words(b"verdict"),
-        Fault::BadStep { .. } => words(b"step"),
-        Fault::BadCapacity { .. } => words(b"capacity"),
-        Fault::TooManyEntries { limit } => round(
-            b"journal: more than ",
-            Number(*limit),
-            b" entries",
-        ),
-        Fault::NotPossible { .. } => words(b"not a possible pair"),
-        Fault::FileTooLong { limit, .. } => round(b": more than ", Number(*limit), b" bytes"),
-        Fault::StoreFault { name } => before(b"store: ", Bytes(name.bytes())),
-        Fault::SinkFault => words(b"output"),
-        Fault::NoMemory => words(b"want of memory"),
+        Fault::Usage => b"usage",
+        Fault::NotToml => b"settings: not TOML",
+        Fault::UnknownKey { .. } => b"settings: unknown key ",
+        Fault::MissingKey { .. } => b"settings: missing key ",
+        Fault::WrongType { .. } => b"settings: wrong type at ",
+        Fault::OutOfRange { .. } => b"settings: out of range at ",
+        Fault::NoHeader { .. } => b": no header",
+        Fault::RepeatedColumn { .. } => b": column ",
+        Fault::NoColumn { .. } => b": no column ",
+        Fault::TooManyColumns { .. } => b": ",
+        Fault::TooManyRows { .. } | Fault::FileTooLong { .. } => b": more than ",
+        Fault::Ragged { .. } => b"number of fields",
+        Fault::EmptyId { .. } => b"empty id",
+        Fault::RepeatedId { .. } => b"id of row ",
+        Fault::PoolFull { .. } => b"values: ",
+        Fault::BadStatus { .. } => b"status",
+        Fault::UnknownId { .. } => b"unknown ",
+        Fault::RepeatedPair { .. } => b"pair of row ",
+        Fault::NoMatched => b"sample: no matched pair",
+        Fault::NoUnmatched => b"sample: no unmatched pair",
+        Fault::TooManyPairs { .. } => b"pairs: more than ",
+        Fault::BadNumber { .. } => b"number",
+        Fault::BadDate { .. } => b"date",
+        Fault::DateBack { .. } => b"date goes back",
+        Fault::EmptyReviewer { .. } => b"no reviewer",
+        Fault::BadVerdict { .. } => b"verdict",
+        Fault::BadStep { .. } => b"step",
+        Fault::BadCapacity { .. } => b"capacity",
+        Fault::TooManyEntries { .. } => b"journal: more than ",
+        Fault::NotPossible { .. } => b"not a possible pair",
+        Fault::StoreFault { .. } => b"store: ",
+        Fault::SinkFault => b"output",
+        Fault::NoMemory => b"want of memory",
+        Fault::NotUtf8 { .. } | Fault::FieldTooLong { .. } | Fault::BadValue { .. } => b"",
+    }
+}
+
+// What these words name.
+fn subject_of(fault: &Fault) -> Piece<'_>
+    ensures { piece_text result ≡ subject fault.now }
+{
+    match fault {
+        Fault::UnknownKey { key: name }
+        | Fault::MissingKey { key: name }
+        | Fault::WrongType { key: name }
+        | Fault::OutOfRange { key: name }
+        | Fault::RepeatedColumn { column: name, .. }
+        | Fault::NoColumn { column: name, .. }
+        | Fault::NotUtf8 { column: name, .. }
+        | Fault::FieldTooLong { column: name, .. }
+        | Fault::BadValue { field: name, .. }
+        | Fault::UnknownId { column: name, .. }
+        | Fault::StoreFault { name } => Bytes(name.bytes()),
+        Fault::TooManyColumns { count: number, .. }
+        | Fault::RepeatedId { first: number, .. }
+        | Fault::RepeatedPair { first: number, .. } => Number(u64::from(*number)),
+        Fault::TooManyRows { limit: number, .. }
+        | Fault::FileTooLong { limit: number, .. }
+        | Fault::TooManyPairs { limit: number }
+        | Fault::TooManyEntries { limit: number }
+        | Fault::PoolFull { used: number, .. } => Number(*number),
+        _ => Bytes(b""),
+    }
+}
+
+// The words after that.
+fn closing_of(fault: &Fault) -> &'static [u8]
+    ensures { result.now ≡ closing fault.now }
+{
+    match fault {
+        Fault::RepeatedColumn { .. } => b" stands twice",
+        Fault::TooManyColumns { .. } => b" columns, limit ",
+        Fault::TooManyRows { .. } => b" rows",
+        Fault::FileTooLong { .. } => b" bytes",
+        Fault::NotUtf8 { .. } => b" is not UTF-8",
+        Fault::FieldTooLong { .. } => b" is over 255 bytes",
+        Fault::BadValue { .. } => b" is no date",
+        Fault::PoolFull { .. } => b" bytes, limit ",
+        Fault::TooManyEntries { .. } => b" entries",
+        _ => b"",
+    }
+}
+
+// The limit that is told after what exceeds it.
+fn bound_of(fault: &Fault) -> Piece<'_>
+    ensures { piece_text result ≡ bound fault.now }
+{
+    match fault {
+        Fault::TooManyColumns { limit, .. } | Fault::PoolFull { limit, .. } => Number(*limit),
+        _ => Bytes(b""),
     }
 }
 
 fn push_place(alloc: Global, text: &mut Vec<u8>, place: Place) -> Result<(), NoMemory>
-    requires { text.old.items ≡ [] }
-    ensures { OnOk result (text.new.items ≡ place_text place) }
+    ensures { OnOk result (text.new.items ≡ text.old.items ++ place_text place) }
 {
     match place {
         Place::Nowhere => Ok(()),
@@ -138,18 +177,24 @@ fn push_place(alloc: Global, text: &mut Vec<u8>, place: Place) -> Result<(), NoM
         }
         Place::Row(role, row) => {
             text.extend_from_slice(role_bytes(role))?;
-            let row = round(b": row ", Number(u64::from(row)), b": ");
-            push_phrase(alloc, text, &row)
+            text.extend_from_slice(b": row ")?;
+            push_number(alloc, text, u64::from(row))?;
+            text.extend_from_slice(b": ")?;
+            Ok(())
         }
     }
 }
 
+// The text of a fault: its place and what is said of it.
 fn text_of(alloc: Global, fault: &Fault) -> Result<Vec<u8>, NoMemory>
     ensures { IfOk result (λ text. text.items ≡ fault_text fault.now) }
 {
     let mut text = Vec::new(alloc);
     push_place(alloc, &mut text, place_of(fault))?;
-    push_phrase(alloc, &mut text, &phrase_of(fault))?;
+    text.extend_from_slice(opening_of(fault))?;
+    push_piece(alloc, &mut text, subject_of(fault))?;
+    text.extend_from_slice(closing_of(fault))?;
+    push_piece(alloc, &mut text, bound_of(fault))?;
     Ok(text)
 }
 

@@ -1,8 +1,9 @@
 // A store in memory that fails at the calls that it is given.
 ghost use Rattle.std.specs.Prelude.{◌≡◌, ◌+◌, ◌^◌, ◌<◌, [], false, true, IfOk, OnErr, OnOk, option_map, ⊤};
 ghost use Rattle.link_outside.specs.Fakes.{memory_held, StoreInMemory};
+ghost use Rattle.link_outside.specs.Holdings.{held_in};
 ghost use Rattle.link_outside.specs.Outside.{held_with, IsWithinLimit, Loads, LogsFailure, PutsAs};
-ghost use Rattle.link_outside.specs.Planned.{failure_at, LoadsByPlan, next_call, PutsByPlan};
+ghost use Rattle.link_outside.specs.Planned.{failure_at, is_put, LoadsByPlan, next_call, PutsByPlan, unless_planned};
 
 use crate::holdings::{Holdings, cut_to};
 use crate::outside::{Load, Store, StoreCall, StoreError, entry_of_call};
@@ -80,6 +81,26 @@ fn failure_of(plan: &[Failure], call: u32) -> Option<Failure>
     plan.iter().copied().find(|fail| fail.call == call)
 }
 
+// Whether a put writes: one that is not planned to fail, or fails once it is applied.
+fn is_written(planned: Option<Failure>) -> bool
+    ensures { result ≡ is_put planned }
+{
+    match planned {
+        None => true,
+        Some(failure) => failure.applied,
+    }
+}
+
+// What a load of a name reads: what it holds, but nothing where the call is planned to fail.
+fn loaded<'a>(holdings: &'a Holdings, name: &str, planned: Option<Failure>) -> Option<&'a [u8]>
+    ensures { option_map (λ s. s.now) result ≡ unless_planned planned (held_in holdings.now.entries.items name.now) }
+{
+    match planned {
+        None => holdings.find(name.as_bytes()),
+        Some(_) => None,
+    }
+}
+
 impl Store for MemoryStore {
     ghost tells = { ⊤ };
 
@@ -99,12 +120,10 @@ impl Store for MemoryStore {
     {
         self.calls = self.calls.saturating_add(1);
         let entry = entry_of_call(alloc, &mut self.faults, false, name)?;
-        match (
-            failure_of(&self.plan, self.calls),
-            self.holdings.find(name.as_bytes()),
-        ) {
-            (None, Some(bytes)) => Ok(cut_to(alloc, bytes, limit)?),
-            _ => {
+        let failure = failure_of(&self.plan, self.calls);
+        match loaded(&self.holdings, name, failure) {
+            Some(bytes) => Ok(cut_to(alloc, bytes, limit)?),
+            None => {
                 self.faults.push_reserved(entry);
                 Err(StoreError::Failed)
             }
@@ -121,13 +140,15 @@ impl Store for MemoryStore {
         self.calls = self.calls.saturating_add(1);
         let entry = entry_of_call(alloc, &mut self.faults, true, name)?;
         let failure = failure_of(&self.plan, self.calls);
-        if failure.is_none_or(|fail| fail.applied) {
+        if is_written(failure) {
             self.holdings.hold(alloc, name.as_bytes(), bytes)?;
         }
-        if failure.is_none() {
-            return Ok(());
+        match failure {
+            None => Ok(()),
+            Some(_) => {
+                self.faults.push_reserved(entry);
+                Err(StoreError::Failed)
+            }
         }
-        self.faults.push_reserved(entry);
-        Err(StoreError::Failed)
     }
 }
