@@ -1,7 +1,8 @@
 -- Rows of a sample one by one.
-use Rattle.std.proofs.Common.{◌≡◌, ◌<◌, ◌+◌, ◌∷◌, ◌++◌, ◌∙◌, ℕ, suc, Bool, not, cond, List, [], length, map, drop, get_or, Option, Some, Result, Ok, refl, sym, ap, arith, drop-cons, subst}
+use Rattle.std.proofs.Common.{◌≡◌, ◌<◌, ◌+◌, ◌∷◌, ◌++◌, ◌∙◌, ℕ, suc, Bool, not, cond, List, [], length, map, drop, get_or, take, Option, Some, Result, Ok, refl, sym, ap, arith, drop-cons, subst}
 use Rattle.std.specs.Prelude.{codes}
 use Rattle.std.specs.List.{position, position_or_len}
+use Rattle.std.proofs.lemmas.List.{map-append, take_more}
 use Rattle.link_base.specs.Answers.{and_then}
 use Rattle.link_base.specs.Fault.{Refuses}
 use Rattle.link_base.specs.Standard.{Record}
@@ -64,3 +65,9 @@ module _ (a b : List Record) where
   kept_row done fields at pair found index ed er ei ef =
       let here : position (same_reviewed_pair pair) done ≡ found = sym (ef ∙ ap (position (is_at pair.a pair.b)) ei ∙ position_places pair done) in
       (λ i. and_then (reviewed_row a b (ed i + 1) fields) (new_after done (ed i + 1))) ∙ ap (λ (r : Result Reviewed Fault). and_then r (new_after done (at + 1))) er ∙ ap (unless_repeated (at + 1) pair) here
+
+-- what is made of each of some values, one more
+pub map_more : {A B : Type 0} (f : A → B) (xs : List A) (i : ℕ) (none : A) (old new : List B) → i < length xs
+    → old ≡ map f (take i xs) → new ≡ old ++ f (get_or xs i none) ∷ [] → new ≡ map f (take (i + 1) xs)
+map_more f xs i none old new within told more =
+    more ∙ ap (λ ys. ys ++ f (get_or xs i none) ∷ []) told ∙ sym (map-append f (take i xs) (get_or xs i none ∷ [])) ∙ ap (map f) (sym (take_more xs i none within))

@@ -22,14 +22,22 @@ pub struct Reviewed {
     pub(crate) matched: bool,
 }
 
+// Columns of these names.
+fn columns_of(alloc: Global, names: &[&[u8]]) -> Result<Vec<Text>, NoMemory>
+    ensures { IfOk result (λ columns. columns.items ≡ map (λ name. name.now) names.now) }
+{
+    let mut columns = Vec::new(alloc);
+    for name in names {
+        columns.push(Text::new(alloc, name)?)?;
+    }
+    Ok(columns)
+}
+
 fn layout(alloc: Global) -> Result<Layout, NoMemory>
     ensures wanted { IfOk result (λ layout. wanted_of layout ≡ sample_wanted) }
     ensures delimiter { IfOk result (λ layout. layout.delimiter ≡ 44) }
 {
-    let mut columns = Vec::new(alloc);
-    columns.push(Text::new(alloc, b"id_a")?)?;
-    columns.push(Text::new(alloc, b"id_b")?)?;
-    columns.push(Text::new(alloc, b"status")?)?;
+    let columns = columns_of(alloc, &[b"id_a", b"id_b", b"status"])?;
     Ok(Layout {
         delimiter: b',',
         id: None,
@@ -119,6 +127,32 @@ fn sample_at(
     }
 }
 
+// The reviewed pairs of the rows of a table, which an index of no pairs comes to hold.
+fn reviewed_by(
+    alloc: Global,
+    table: &Table,
+    a: &StdFile,
+    b: &StdFile,
+    index: &mut PairIndex,
+) -> Result<Vec<Reviewed>, Fault>
+    requires empty { index.old ≡ [] }
+    requires width { All (λ (r : TableRow). length r.fields ≡ 3) table.now }
+    requires few { length table.now ≤ MOST_ROWS }
+    ensures kind { IfErr result IsInputFault }
+    ensures answer { Gives (λ sample. sample.items) (reviewed_rows a.now b.now [] table.now) result }
+    ensures in_files { IfOk result (λ sample. All (IsInFiles (length a.now) (length b.now)) sample.items) }
+    ensures rows { IfOk result (λ sample. length sample.items ≡ length table.now) }
+{
+    let mut done = Vec::new(alloc);
+    for at in 0..table.rows() {
+        match sample_at(alloc, table, at, a, b, &done, index) {
+            Ok(pair) => done.push(pair)?,
+            Err(fault) => return Err(fault),
+        }
+    }
+    Ok(done)
+}
+
 // The reviewed pairs of the rows of a table.
 fn reviewed_in(
     alloc: Global,
@@ -134,14 +168,7 @@ fn reviewed_in(
     ensures rows { IfOk result (λ sample. length sample.items ≡ length table.now) }
 {
     let mut index = PairIndex::new(alloc);
-    let mut done = Vec::new(alloc);
-    for at in 0..table.rows() {
-        match sample_at(alloc, table, at, a, b, &done, &mut index) {
-            Ok(pair) => done.push(pair)?,
-            Err(fault) => return Err(fault),
-        }
-    }
-    Ok(done)
+    reviewed_by(alloc, table, a, b, &mut index)
 }
 
 fn has_matched(sample: &[Reviewed]) -> bool

@@ -7,7 +7,7 @@ use Rattle.sample_counts.specs.Places.{positions_of}
 use Rattle.sample_counts.specs.Sample.{IsInFiles}
 use Rattle.sample_counts.specs.declared.reviewed.Reviewed.{Reviewed}
 use Rattle.sample_counts.proofs.SampleLemmas.{places_push, refused, taken}
-use Rattle.sample_counts.proofs.reviewed.reviewed_in.Goals as goal
+use Rattle.sample_counts.proofs.reviewed.reviewed_by.Goals as goal
 
 pub returns-in-Err-clause-answer : goal.returns-in-Err-clause-answer
 returns-in-Err-clause-answer c =

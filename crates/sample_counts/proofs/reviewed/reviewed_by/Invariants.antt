@@ -1,7 +1,7 @@
 use Rattle.std.proofs.Common.{◌≡◌, All, [], length, map, drop}
 use Rattle.sample_counts.specs.Sample.{IsInFiles, reviewed_rows}
 use Rattle.sample_counts.specs.Places.{positions_of}
-use Rattle.sample_counts.proofs.reviewed.reviewed_in.Given as goal
+use Rattle.sample_counts.proofs.reviewed.reviewed_by.Given as goal
 
 abbrev pub invariant-loop-at : goal.invariant-loop-at
 invariant-loop-at l = record {
