@@ -2,36 +2,25 @@
 ghost use Rattle.std.specs.Prelude.{◌≡◌, ◌++◌, IfOk, OnOk, length};
 ghost use Rattle.link_report.specs.FrontierText.{level_row, text_of_frontier};
 
-use csv_rows::{digits_of, push_row};
+use crate::fields::{push_chance, push_first, push_sum};
 use level_frontier::FrontierRow;
 use link_base::{NoMemory, Text};
 use std::alloc::Global;
 
 // Appends the row of an asked level.
-fn push_level(alloc: Global, text: &mut Vec<u8>, mu: u32, row: &FrontierRow) -> Result<(), NoMemory>
-    ensures { OnOk result (text.new.items ≡ text.old.items ++ level_row (mu, row.now)) }
+fn push_level(text: &mut Vec<u8>, asked: u32, row: &FrontierRow) -> Result<(), NoMemory>
+    ensures { OnOk result (text.new.items ≡ text.old.items ++ level_row (asked, row.now)) }
 {
-    let asked = digits_of(alloc, u128::from(mu))?;
-    let mu = digits_of(alloc, row.levels.mu)?;
-    let lambda = digits_of(alloc, row.levels.lambda)?;
-    let possible_m = digits_of(alloc, row.levels.possible_m)?;
-    let possible_u = digits_of(alloc, row.levels.possible_u)?;
-    let denominator = digits_of(alloc, row.levels.denominator)?;
-    let slack_m = digits_of(alloc, u128::from(row.slack_m))?;
-    let slack_u = digits_of(alloc, u128::from(row.slack_u))?;
-    push_row(
-        text,
-        &[
-            asked.as_bytes(),
-            mu.as_bytes(),
-            lambda.as_bytes(),
-            possible_m.as_bytes(),
-            possible_u.as_bytes(),
-            denominator.as_bytes(),
-            slack_m.as_bytes(),
-            slack_u.as_bytes(),
-        ],
-    )
+    push_first(text, asked)?;
+    push_sum(text, row.levels.mu)?;
+    push_sum(text, row.levels.lambda)?;
+    push_sum(text, row.levels.possible_m)?;
+    push_sum(text, row.levels.possible_u)?;
+    push_sum(text, row.levels.denominator)?;
+    push_chance(text, row.slack_m)?;
+    push_chance(text, row.slack_u)?;
+    text.push(b'\n')?;
+    Ok(())
 }
 
 /// The text of the frontier of levels: the header
@@ -46,7 +35,7 @@ pub fn frontier_text(alloc: Global, mus: &[u32], rows: &[FrontierRow]) -> Result
         b"mu_ppm,mu,lambda,possible_m,possible_u,denominator,slack_m,slack_u\n",
     )?;
     for at in 0..mus.len() {
-        push_level(alloc, &mut text, mus[at], &rows[at])?;
+        push_level(&mut text, mus[at], &rows[at])?;
     }
     Ok(Text::of(text))
 }

@@ -6,88 +6,65 @@ ghost use Rattle.link_base.specs.Rule.{HasBoundedSums};
 ghost use Rattle.link_report.specs.ReportText.{file_lines, level_line, level_lines, line, link_lines, pair_lines, report_head};
 
 use crate::report::Report;
-use csv_rows::digits_of;
+use itoa::Buffer;
 use link_base::{Levels, NoMemory, StdFile};
 use link_limits::PER_MILLION;
-use std::alloc::Global;
 
 // Appends a line of numbers.
-fn push_line(
-    alloc: Global,
-    text: &mut Vec<u8>,
-    name: &[u8],
-    numbers: &[u128],
-) -> Result<(), NoMemory>
+fn push_line(text: &mut Vec<u8>, name: &[u8], numbers: &[u128]) -> Result<(), NoMemory>
     ensures { OnOk result (text.new.items ≡ text.old.items ++ line name.now (map decimal numbers.now)) }
 {
+    let mut digits = Buffer::new();
     text.extend_from_slice(name)?;
     for number in numbers {
         text.push(b' ')?;
-        text.extend_from_slice(digits_of(alloc, *number)?.as_bytes())?;
+        text.extend_from_slice(digits.format(*number).as_bytes())?;
     }
     text.push(b'\n')?;
     Ok(())
 }
 
 // Appends a line of one count.
-fn push_count(alloc: Global, text: &mut Vec<u8>, name: &[u8], count: u32) -> Result<(), NoMemory>
+fn push_count(text: &mut Vec<u8>, name: &[u8], count: u32) -> Result<(), NoMemory>
     ensures { OnOk result (text.new.items ≡ text.old.items ++ line name.now (decimal count ∷ [])) }
 {
-    push_line(alloc, text, name, &[u128::from(count)])
+    push_line(text, name, &[u128::from(count)])
 }
 
 // Appends a line of a count in each file.
-fn push_counts(
-    alloc: Global,
-    text: &mut Vec<u8>,
-    name: &[u8],
-    in_a: u32,
-    in_b: u32,
-) -> Result<(), NoMemory>
+fn push_counts(text: &mut Vec<u8>, name: &[u8], in_a: u32, in_b: u32) -> Result<(), NoMemory>
     ensures { OnOk result (text.new.items ≡ text.old.items ++ line name.now (decimal in_a ∷ decimal in_b ∷ [])) }
 {
-    push_line(alloc, text, name, &[u128::from(in_a), u128::from(in_b)])
+    push_line(text, name, &[u128::from(in_a), u128::from(in_b)])
 }
 
 // Appends the line of an attained level.
-fn push_level(
-    alloc: Global,
-    text: &mut Vec<u8>,
-    name: &[u8],
-    sum: u128,
-    denominator: u128,
-) -> Result<(), NoMemory>
+fn push_level(text: &mut Vec<u8>, name: &[u8], sum: u128, denominator: u128) -> Result<(), NoMemory>
     requires some { 1 ≤ denominator }
     requires bounded { sum ≤ 2 ^ 92 }
     ensures { OnOk result (text.new.items ≡ text.old.items ++ level_line name.now sum denominator) }
 {
     let per_million = sum * u128::from(PER_MILLION) / denominator;
-    push_line(alloc, text, name, &[sum, denominator, per_million])
+    push_line(text, name, &[sum, denominator, per_million])
 }
 
 // Appends the line of the sum of values.
-fn push_total(alloc: Global, text: &mut Vec<u8>, total: i64) -> Result<(), NoMemory>
+fn push_total(text: &mut Vec<u8>, total: i64) -> Result<(), NoMemory>
     ensures { OnOk result (text.new.items ≡ text.old.items ++ line (codes "total") (signed_decimal total ∷ [])) }
 {
     text.extend_from_slice(b"total ")?;
-    text.extend_from_slice(format!(in alloc; "{total}")?.as_bytes())?;
+    let mut digits = Buffer::new();
+    text.extend_from_slice(digits.format(total).as_bytes())?;
     text.push(b'\n')?;
     Ok(())
 }
 
 // Appends the lines of the files.
-fn push_files(
-    alloc: Global,
-    text: &mut Vec<u8>,
-    report: &Report,
-    a: &StdFile,
-    b: &StdFile,
-) -> Result<(), NoMemory>
+fn push_files(text: &mut Vec<u8>, report: &Report, a: &StdFile, b: &StdFile) -> Result<(), NoMemory>
     ensures { OnOk result (text.new.items ≡ text.old.items ++ concat (file_lines a.now b.now report.now)) }
 {
-    push_counts(alloc, text, b"rows", a.rows(), b.rows())?;
+    push_counts(text, b"rows", a.rows(), b.rows())?;
     push_counts(
-        alloc,
         text,
         b"unreadable",
         report.unreadable_a,
@@ -97,45 +74,44 @@ fn push_files(
 }
 
 // Appends the lines of the compared pairs.
-fn push_pairs(alloc: Global, text: &mut Vec<u8>, report: &Report) -> Result<(), NoMemory>
+fn push_pairs(text: &mut Vec<u8>, report: &Report) -> Result<(), NoMemory>
     ensures { OnOk result (text.new.items ≡ text.old.items ++ concat (pair_lines report.now)) }
 {
-    push_count(alloc, text, b"pairs", report.pairs)?;
-    push_count(alloc, text, b"link", report.link)?;
-    push_count(alloc, text, b"possible", report.possible)?;
-    push_count(alloc, text, b"nonlink", report.nonlink)?;
-    push_count(alloc, text, b"open", report.undecided)?;
-    push_count(alloc, text, b"entries", report.entries)?;
-    push_count(alloc, text, b"idle", report.idle)?;
+    push_count(text, b"pairs", report.pairs)?;
+    push_count(text, b"link", report.link)?;
+    push_count(text, b"possible", report.possible)?;
+    push_count(text, b"nonlink", report.nonlink)?;
+    push_count(text, b"open", report.undecided)?;
+    push_count(text, b"entries", report.entries)?;
+    push_count(text, b"idle", report.idle)?;
     Ok(())
 }
 
 // Appends the lines of the attained levels.
-fn push_levels(alloc: Global, text: &mut Vec<u8>, levels: &Levels) -> Result<(), NoMemory>
+fn push_levels(text: &mut Vec<u8>, levels: &Levels) -> Result<(), NoMemory>
     requires { HasBoundedSums levels.now }
     ensures { OnOk result (text.new.items ≡ text.old.items ++ concat (level_lines levels.now)) }
 {
     let denominator = levels.denominator;
-    push_level(alloc, text, b"mu", levels.mu, denominator)?;
-    push_level(alloc, text, b"lambda", levels.lambda, denominator)?;
-    push_level(alloc, text, b"possible_m", levels.possible_m, denominator)?;
-    push_level(alloc, text, b"possible_u", levels.possible_u, denominator)?;
+    push_level(text, b"mu", levels.mu, denominator)?;
+    push_level(text, b"lambda", levels.lambda, denominator)?;
+    push_level(text, b"possible_m", levels.possible_m, denominator)?;
+    push_level(text, b"possible_u", levels.possible_u, denominator)?;
     Ok(())
 }
 
 // Appends the lines of the links.
-fn push_links(alloc: Global, text: &mut Vec<u8>, report: &Report) -> Result<(), NoMemory>
+fn push_links(text: &mut Vec<u8>, report: &Report) -> Result<(), NoMemory>
     ensures { OnOk result (text.new.items ≡ text.old.items ++ concat (link_lines report.now)) }
 {
-    push_count(alloc, text, b"links", report.links)?;
-    push_total(alloc, text, report.total)?;
-    push_line(alloc, text, b"dropped", &[report.dropped.len() as u128])?;
+    push_count(text, b"links", report.links)?;
+    push_total(text, report.total)?;
+    push_line(text, b"dropped", &[report.dropped.len() as u128])?;
     Ok(())
 }
 
 // Appends the first sixteen lines of a report.
 pub(crate) fn push_head(
-    alloc: Global,
     text: &mut Vec<u8>,
     report: &Report,
     a: &StdFile,
@@ -144,9 +120,9 @@ pub(crate) fn push_head(
     requires { HasBoundedSums report.now.levels }
     ensures { OnOk result (text.new.items ≡ text.old.items ++ report_head a.now b.now report.now) }
 {
-    push_files(alloc, text, report, a, b)?;
-    push_pairs(alloc, text, report)?;
-    push_levels(alloc, text, &report.levels)?;
-    push_links(alloc, text, report)?;
+    push_files(text, report, a, b)?;
+    push_pairs(text, report)?;
+    push_levels(text, &report.levels)?;
+    push_links(text, report)?;
     Ok(())
 }

@@ -82,7 +82,7 @@ pub fn report_text(
     ensures { IfOk result (λ text. text ≡ text_of_report a.now b.now report.now) }
 {
     let mut text = Vec::new(alloc);
-    push_head(alloc, &mut text, report, a, b)?;
+    push_head(&mut text, report, a, b)?;
     for dropped in &report.dropped {
         push_dropped(&mut text, *dropped, a, b)?;
     }

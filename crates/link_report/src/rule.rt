@@ -1,14 +1,11 @@
 // The text of a decision rule.
-ghost use Rattle.std.specs.Prelude.{◌≡◌, ◌<◌, ◌++◌, All, Bool, IfOk, List, OnOk, decimal};
-ghost use Rattle.csv.specs.Writing.{default_writer, field_text};
+ghost use Rattle.std.specs.Prelude.{◌≡◌, ◌<◌, ◌++◌, All, Bool, IfOk, List, OnOk};
 ghost use Rattle.link_base.specs.Rule.{IsWithinRanges};
 ghost use Rattle.link_base.specs.declared.rule.RuleCell.{RuleCell as Cell};
 ghost use Rattle.link_report.specs.RuleText.{cell_row, outcome_letter, outcome_letters, text_of_rule};
 ghost use Rattle.pattern_shapes.specs.Shapes.{pattern_count_by, rare_of};
 
-use crate::fields::{push_chance, push_next, push_share, push_weight};
-use csv_rows::push_field;
-use itoa::Buffer;
+use crate::fields::{push_chance, push_first, push_next, push_share, push_weight};
 use link_base::{NoMemory, Outcome, RuleCell, RuleTable, Shape, Text};
 use link_limits::WHOLE_RULE;
 use pattern_shapes::outcome_of;
@@ -37,21 +34,13 @@ pub fn letters_of(alloc: Global, shape: &Shape, pattern: u16) -> Result<Vec<u8>,
     Ok(letters)
 }
 
-// Appends the number of a comparison pattern as the first field of a line.
-fn push_first(text: &mut Vec<u8>, pattern: u16) -> Result<(), NoMemory>
-    ensures { OnOk result (text.new.items ≡ text.old.items ++ field_text default_writer (decimal pattern)) }
-{
-    let mut digits = Buffer::new();
-    push_field(text, digits.format(pattern).as_bytes())
-}
-
 // Appends the row of a cell whose pattern has these letters.
 fn push_fields(text: &mut Vec<u8>, letters: &[u8], cell: &RuleCell) -> Result<(), NoMemory>
     requires { IsWithinRanges cell.now }
     ensures { (rares : List Bool) → letters.now ≡ outcome_letters rares cell.now.pattern
         → OnOk result (text.new.items ≡ text.old.items ++ cell_row rares cell.now) }
 {
-    push_first(text, cell.pattern)?;
+    push_first(text, u32::from(cell.pattern))?;
     push_next(text, letters)?;
     push_chance(text, cell.m)?;
     push_chance(text, cell.u)?;

@@ -1,6 +1,7 @@
-use Rattle.std.proofs.Common.{arith}
+use Rattle.std.proofs.Common.{◌≡◌, ◌∙◌, ap, arith, take}
+use Rattle.std.proofs.lemmas.List.{take_all}
 use Rattle.csv.specs.Writing.{default_writer, row_text}
-use Rattle.link_report.specs.RuleText.{cell_row, rule_header}
+use Rattle.link_report.specs.RuleText.{cell_row, rule_header, text_of_rule}
 use Rattle.link_report.proofs.RowLemmas.{rows_more}
 use Rattle.pattern_shapes.specs.Shapes.{rare_of}
 use Rattle.link_report.proofs.rule.rule_text.Goals as goal
@@ -8,3 +9,9 @@ use Rattle.link_report.proofs.rule.rule_text.Goals as goal
 pub loop-cell-preserved : goal.loop-cell-preserved
 loop-cell-preserved c =
     rows_more (cell_row (rare_of c.args.shape.now)) (row_text default_writer rule_header) c.loop-cell.text.items c.push_cell.new.text.items c.cells-cell-items.result.now c.loop-cell.cell-index _ (omega arith) c.loop-cell.invariant c.in_ok-push_cell.ensures
+
+pub returns : goal.returns
+returns c =
+    let cells = c.cells-cell-items.result.now in
+    let all : take c.loop-cell.cell-index cells ≡ cells = take_all c.loop-cell.cell-index cells c.loop-cell-test.false in
+    c.of.ensures ∙ c.loop-cell.invariant ∙ ap (text_of_rule (rare_of c.args.shape.now)) (all ∙ c.cells-cell-items.ensures.all)
