@@ -1,5 +1,5 @@
 -- The headers of texts, byte by byte.
-use Rattle.std.proofs.Common.{◌≡◌, refl, codes}
+use Rattle.std.proofs.Common.{◌≡◌, ◌∷◌, [], refl, codes}
 use Rattle.csv.specs.Writing.{default_writer, fields_text, is_blank, row_text}
 use Rattle.link_report.specs.FrontierText.{frontier_header}
 use Rattle.link_report.specs.LinksText.{links_header}
@@ -31,3 +31,7 @@ prices_header_text = refl
 pub pairs_header_text : row_text default_writer pairs_header ≡ codes "id_a,id_b,pattern,outcomes,weight,decision,verdict\n"
 unfolding fields_text is_blank
 pairs_header_text = refl
+
+pub ids_header_text : row_text default_writer (codes "id_a" ∷ codes "id_b" ∷ []) ≡ codes "id_a,id_b\n"
+unfolding fields_text is_blank
+ids_header_text = refl

@@ -2,7 +2,6 @@ pub mod FirstLineLemmas
 pub mod FrontierLemmas
 pub mod HeaderLemmas
 pub mod JoinLemmas
-pub mod LineLemmas
 pub mod PriceLemmas
 pub mod ReadLineLemmas
 pub mod ReadingLemmas

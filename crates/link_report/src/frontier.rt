@@ -2,7 +2,8 @@
 ghost use Rattle.std.specs.Prelude.{◌≡◌, ◌++◌, IfOk, OnOk, length};
 ghost use Rattle.link_report.specs.FrontierText.{level_row, text_of_frontier};
 
-use crate::fields::{push_chance, push_first, push_sum};
+use csv_rows::push_row;
+use itoa::Buffer;
 use level_frontier::FrontierRow;
 use link_base::{NoMemory, Text};
 use std::alloc::Global;
@@ -11,16 +12,27 @@ use std::alloc::Global;
 fn push_level(text: &mut Vec<u8>, asked: u32, row: &FrontierRow) -> Result<(), NoMemory>
     ensures { OnOk result (text.new.items ≡ text.old.items ++ level_row (asked, row.now)) }
 {
-    push_first(text, asked)?;
-    push_sum(text, row.levels.mu)?;
-    push_sum(text, row.levels.lambda)?;
-    push_sum(text, row.levels.possible_m)?;
-    push_sum(text, row.levels.possible_u)?;
-    push_sum(text, row.levels.denominator)?;
-    push_chance(text, row.slack_m)?;
-    push_chance(text, row.slack_u)?;
-    text.push(b'\n')?;
-    Ok(())
+    let mut of_asked = Buffer::new();
+    let mut mu = Buffer::new();
+    let mut lambda = Buffer::new();
+    let mut possible_m = Buffer::new();
+    let mut possible_u = Buffer::new();
+    let mut denominator = Buffer::new();
+    let mut slack_m = Buffer::new();
+    let mut slack_u = Buffer::new();
+    push_row(
+        text,
+        &[
+            of_asked.format(asked).as_bytes(),
+            mu.format(row.levels.mu).as_bytes(),
+            lambda.format(row.levels.lambda).as_bytes(),
+            possible_m.format(row.levels.possible_m).as_bytes(),
+            possible_u.format(row.levels.possible_u).as_bytes(),
+            denominator.format(row.levels.denominator).as_bytes(),
+            slack_m.format(row.slack_m).as_bytes(),
+            slack_u.format(row.slack_u).as_bytes(),
+        ],
+    )
 }
 
 /// The text of the frontier of levels: the header

@@ -3,7 +3,7 @@ ghost use Rattle.std.specs.Prelude.{◌≡◌, ◌<◌, ◌++◌, All, IfOk, OnO
 ghost use Rattle.link_base.specs.declared.rule.PairAt.{PairAt as Pair};
 ghost use Rattle.link_report.specs.Lines.{ids_line, ids_text};
 
-use csv_rows::push_field;
+use csv_rows::push_row;
 use link_base::{NoMemory, PairAt, StdFile, Text};
 use std::alloc::Global;
 
@@ -12,15 +12,11 @@ fn push_ids(line: &mut Vec<u8>, pair: PairAt, a: &StdFile, b: &StdFile) -> Resul
     requires in_b { pair.b < length b.now }
     ensures { OnOk result (line.new.items ≡ line.old.items ++ ids_line a.now b.now pair) }
 {
-    push_field(line, a.id(pair.a))?;
-    line.push(b',')?;
-    push_field(line, b.id(pair.b))?;
-    line.push(b'\n')?;
-    Ok(())
+    push_row(line, &[a.id(pair.a), b.id(pair.b)])
 }
 
 /// The text of pairs of records: the header `id_a,id_b`, and a line for each pair with its two ids.
-#[tactic(auto, using(crate::proofs::LineLemmas::header_text))]
+#[tactic(auto, using(crate::proofs::HeaderLemmas::ids_header_text))]
 pub fn ids_text_of(
     alloc: Global,
     pairs: &[PairAt],

@@ -1,7 +1,6 @@
 //! The texts that the program prints and writes: lines of comma-separated fields (RFC 4180).
 #![tactic(auto)]
 
-mod fields;
 mod first;
 mod frontier;
 mod head;

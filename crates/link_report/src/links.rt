@@ -4,6 +4,7 @@ ghost use Rattle.link_base.specs.declared.rule.Candidate.{Candidate as Link};
 ghost use Rattle.link_report.specs.LinksText.{link_row, source_of_link, text_of_links};
 
 use csv_rows::push_row;
+use itoa::Buffer;
 use link_base::{Candidate, NoMemory, StdFile, Text};
 use std::alloc::Global;
 
@@ -15,26 +16,20 @@ pub fn source_of(link: &Candidate) -> &[u8]
 }
 
 // Appends the row of a link.
-fn push_link(
-    alloc: Global,
-    text: &mut Vec<u8>,
-    link: Candidate,
-    a: &StdFile,
-    b: &StdFile,
-) -> Result<(), NoMemory>
+fn push_link(text: &mut Vec<u8>, link: Candidate, a: &StdFile, b: &StdFile) -> Result<(), NoMemory>
     requires in_a { link.a < length a.now }
     requires in_b { link.b < length b.now }
     ensures { OnOk result (text.new.items ≡ text.old.items ++ link_row a.now b.now link) }
 {
-    let weight = format!(in alloc; "{}", link.weight)?;
-    let value = format!(in alloc; "{}", link.value)?;
+    let mut weight = Buffer::new();
+    let mut value = Buffer::new();
     push_row(
         text,
         &[
             a.id(link.a),
             b.id(link.b),
-            weight.as_bytes(),
-            value.as_bytes(),
+            weight.format(link.weight).as_bytes(),
+            value.format(link.value).as_bytes(),
             source_of(&link),
         ],
     )
@@ -56,7 +51,7 @@ pub fn links_text(
     let mut text = Vec::new(alloc);
     text.extend_from_slice(b"id_a,id_b,weight,value,by\n")?;
     for link in links {
-        push_link(alloc, &mut text, *link, a, b)?;
+        push_link(&mut text, *link, a, b)?;
     }
     Ok(Text::of(text))
 }

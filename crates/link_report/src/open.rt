@@ -3,7 +3,8 @@ ghost use Rattle.std.specs.Prelude.{◌≡◌, ◌<◌, ◌++◌, All, IfOk, OnO
 ghost use Rattle.link_report.specs.OpenText.{open_row, text_of_open};
 ghost use Rattle.link_report.specs.declared.open.PairRow.{PairRow as Row};
 
-use csv_rows::{digits_of, push_row};
+use csv_rows::push_row;
+use itoa::Buffer;
 use link_base::{Decision, NoMemory, PairAt, StdFile, Text, Verdict};
 use std::alloc::Global;
 
@@ -19,26 +20,20 @@ pub struct PairRow {
 }
 
 // Appends the line of a pair.
-fn push_open(
-    alloc: Global,
-    text: &mut Vec<u8>,
-    row: &PairRow,
-    a: &StdFile,
-    b: &StdFile,
-) -> Result<(), NoMemory>
+fn push_open(text: &mut Vec<u8>, row: &PairRow, a: &StdFile, b: &StdFile) -> Result<(), NoMemory>
     requires in_a { row.now.at.a < length a.now }
     requires in_b { row.now.at.b < length b.now }
     ensures { OnOk result (text.new.items ≡ text.old.items ++ open_row a.now b.now row.now) }
 {
-    let pattern = digits_of(alloc, u128::from(row.pattern))?;
-    let weight = format!(in alloc; "{}", row.weight)?;
+    let mut pattern = Buffer::new();
+    let mut weight = Buffer::new();
     push_row(
         text,
         &[
             a.id(row.at.a),
             b.id(row.at.b),
-            pattern.as_bytes(),
-            weight.as_bytes(),
+            pattern.format(row.pattern).as_bytes(),
+            weight.format(row.weight).as_bytes(),
         ],
     )
 }
@@ -58,7 +53,7 @@ pub fn open_text(
     let mut text = Vec::new(alloc);
     text.extend_from_slice(b"id_a,id_b,pattern,weight\n")?;
     for row in rows {
-        push_open(alloc, &mut text, row, a, b)?;
+        push_open(&mut text, row, a, b)?;
     }
     Ok(Text::of(text))
 }

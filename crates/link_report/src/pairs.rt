@@ -1,17 +1,16 @@
 // The text of the compared pairs.
-ghost use Rattle.std.specs.Prelude.{◌≡◌, ◌<◌, ◌++◌, ◌∷◌, [], All, AllPairs, Bool, IfOk, List, None, OnOk, Some, decimal, length, map};
+ghost use Rattle.std.specs.Prelude.{◌≡◌, ◌<◌, ◌++◌, All, AllPairs, Bool, IfOk, List, None, OnOk, Some, length, map};
 ghost use Rattle.std.specs.List.{range_with_len};
-ghost use Rattle.csv.specs.Writing.{default_writer, fields_text, row_text};
+ghost use Rattle.csv.specs.Writing.{default_writer, row_text};
 ghost use Rattle.link_base.specs.Rule.{IsPairBefore};
 ghost use Rattle.link_report.specs.PairsText.{decision_word, IsAfter, pair_row, pairs_header, text_of_pairs, verdict_word};
 ghost use Rattle.link_report.specs.RuleText.{outcome_letters};
 ghost use Rattle.link_report.specs.declared.open.PairRow.{PairRow as Row};
 ghost use Rattle.pattern_shapes.specs.Shapes.{pattern_count_by, rare_of};
 
-use crate::fields::{push_next, push_weight};
 use crate::open::PairRow;
 use crate::rule::letters_of;
-use csv_rows::push_field;
+use csv_rows::push_row;
 use itoa::Buffer;
 use link_base::{Decision, NoMemory, PairAt, Shape, StdFile, Text, TextList, Verdict};
 use pattern_shapes::pattern_count;
@@ -19,8 +18,8 @@ use std::alloc::Global;
 use std::marker::Model;
 
 // The word of a decision.
-fn word_of(decision: Decision) -> &'static [u8]
-    ensures { result.now ≡ decision_word decision }
+fn word_of(decision: &Decision) -> &[u8]
+    ensures { result.now ≡ decision_word decision.now }
 {
     match decision {
         Decision::Link => b"link",
@@ -30,8 +29,8 @@ fn word_of(decision: Decision) -> &'static [u8]
 }
 
 // The word of a verdict, and nothing where there is none.
-fn verdict_of(verdict: Option<Verdict>) -> &'static [u8]
-    ensures { result.now ≡ verdict_word verdict }
+fn verdict_of(verdict: &Option<Verdict>) -> &[u8]
+    ensures { result.now ≡ verdict_word verdict.now }
 {
     match verdict {
         None => b"",
@@ -53,36 +52,33 @@ fn letters_by_pattern(alloc: Global, shape: &Shape) -> Result<TextList, NoMemory
     Ok(all)
 }
 
-// Appends the number of a comparison pattern after the first field of a line.
-fn push_pattern(text: &mut Vec<u8>, pattern: u16) -> Result<(), NoMemory>
-    ensures { OnOk result (text.new.items ≡ text.old.items ++ fields_text default_writer (decimal pattern ∷ [])) }
-{
-    let mut digits = Buffer::new();
-    push_next(text, digits.format(pattern).as_bytes())
-}
-
 // Appends the line of a pair whose pattern has these letters.
-fn push_pair(
+fn push_pair<'t>(
     text: &mut Vec<u8>,
-    letters: &Text,
-    row: &PairRow,
-    a: &StdFile,
-    b: &StdFile,
+    letters: &'t Text,
+    row: &'t PairRow,
+    a: &'t StdFile,
+    b: &'t StdFile,
 ) -> Result<(), NoMemory>
     requires in_a { row.now.at.a < length a.now }
     requires in_b { row.now.at.b < length b.now }
     ensures { (rares : List Bool) → letters.now ≡ outcome_letters rares row.now.pattern
         → OnOk result (text.new.items ≡ text.old.items ++ pair_row rares a.now b.now row.now) }
 {
-    push_field(text, a.id(row.at.a))?;
-    push_next(text, b.id(row.at.b))?;
-    push_pattern(text, row.pattern)?;
-    push_next(text, letters.bytes())?;
-    push_weight(text, &row.weight)?;
-    push_next(text, word_of(row.decision))?;
-    push_next(text, verdict_of(row.verdict))?;
-    text.push(b'\n')?;
-    Ok(())
+    let mut pattern = Buffer::new();
+    let mut weight = Buffer::new();
+    push_row(
+        text,
+        &[
+            a.id(row.at.a),
+            b.id(row.at.b),
+            pattern.format(row.pattern).as_bytes(),
+            letters.bytes(),
+            weight.format(row.weight).as_bytes(),
+            word_of(&row.decision),
+            verdict_of(&row.verdict),
+        ],
+    )
 }
 
 /// A writer of the text of the compared pairs, row by row. Contracts see which of its fields may be rare, its text so far, and

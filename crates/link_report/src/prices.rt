@@ -4,12 +4,12 @@ ghost use Rattle.link_base.specs.Standard.{no_record};
 ghost use Rattle.link_report.specs.PricesText.{price_rows, text_of_prices};
 
 use csv_rows::push_row;
+use itoa::Buffer;
 use link_base::{NoMemory, StdFile, Text};
 use std::alloc::Global;
 
 // Appends the row of the price of a record, where it is not 0.
 fn push_price(
-    alloc: Global,
     text: &mut Vec<u8>,
     side: &[u8],
     price: i64,
@@ -22,13 +22,12 @@ fn push_price(
     if price == 0 {
         return Ok(());
     }
-    let price = format!(in alloc; "{price}")?;
-    push_row(text, &[side, file.id(at), price.as_bytes()])
+    let mut digits = Buffer::new();
+    push_row(text, &[side, file.id(at), digits.format(price).as_bytes()])
 }
 
 // Appends the rows of a side.
 fn push_side(
-    alloc: Global,
     text: &mut Vec<u8>,
     side: &[u8],
     prices: &[i64],
@@ -38,7 +37,7 @@ fn push_side(
     ensures { OnOk result (text.new.items ≡ text.old.items ++ price_rows side.now prices.now file.now) }
 {
     for at in 0..file.rows() {
-        push_price(alloc, text, side, prices[at as usize], file, at)?;
+        push_price(text, side, prices[at as usize], file, at)?;
     }
     Ok(())
 }
@@ -59,7 +58,7 @@ pub fn prices_text(
 {
     let mut text = Vec::new(alloc);
     text.extend_from_slice(b"side,id,price\n")?;
-    push_side(alloc, &mut text, b"A", prices_a, a)?;
-    push_side(alloc, &mut text, b"B", prices_b, b)?;
+    push_side(&mut text, b"A", prices_a, a)?;
+    push_side(&mut text, b"B", prices_b, b)?;
     Ok(Text::of(text))
 }

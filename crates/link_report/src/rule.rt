@@ -5,7 +5,8 @@ ghost use Rattle.link_base.specs.declared.rule.RuleCell.{RuleCell as Cell};
 ghost use Rattle.link_report.specs.RuleText.{cell_row, outcome_letter, outcome_letters, text_of_rule};
 ghost use Rattle.pattern_shapes.specs.Shapes.{pattern_count_by, rare_of};
 
-use crate::fields::{push_chance, push_first, push_next, push_share, push_weight};
+use csv_rows::push_row;
+use itoa::Buffer;
 use link_base::{NoMemory, Outcome, RuleCell, RuleTable, Shape, Text};
 use link_limits::WHOLE_RULE;
 use pattern_shapes::outcome_of;
@@ -40,16 +41,28 @@ fn push_fields(text: &mut Vec<u8>, letters: &[u8], cell: &RuleCell) -> Result<()
     ensures { (rares : List Bool) → letters.now ≡ outcome_letters rares cell.now.pattern
         → OnOk result (text.new.items ≡ text.old.items ++ cell_row rares cell.now) }
 {
-    push_first(text, u32::from(cell.pattern))?;
-    push_next(text, letters)?;
-    push_chance(text, cell.m)?;
-    push_chance(text, cell.u)?;
-    push_weight(text, &cell.weight)?;
-    push_share(text, cell.link)?;
-    push_share(text, WHOLE_RULE - cell.link - cell.nonlink)?;
-    push_share(text, cell.nonlink)?;
-    text.push(b'\n')?;
-    Ok(())
+    let mut pattern = Buffer::new();
+    let mut m = Buffer::new();
+    let mut u = Buffer::new();
+    let mut weight = Buffer::new();
+    let mut link = Buffer::new();
+    let mut possible = Buffer::new();
+    let mut nonlink = Buffer::new();
+    push_row(
+        text,
+        &[
+            pattern.format(cell.pattern).as_bytes(),
+            letters,
+            m.format(cell.m).as_bytes(),
+            u.format(cell.u).as_bytes(),
+            weight.format(cell.weight).as_bytes(),
+            link.format(cell.link).as_bytes(),
+            possible
+                .format(WHOLE_RULE - cell.link - cell.nonlink)
+                .as_bytes(),
+            nonlink.format(cell.nonlink).as_bytes(),
+        ],
+    )
 }
 
 // Appends the row of a cell.
