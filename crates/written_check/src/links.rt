@@ -1,5 +1,5 @@
 // Written links, row by row.
-ghost use Rattle.std.specs.Prelude.{◌≡◌, ◌+◌, ◌<◌, ◌^◌, [], All, AllPairs, IfErr, IfOk, length, map};
+ghost use Rattle.std.specs.Prelude.{◌≡◌, ◌+◌, ◌<◌, ◌^◌, [], All, AllPairs, IfErr, length, map};
 ghost use Rattle.std.specs.List.{list_all};
 ghost use Rattle.assignment_laws.specs.Assignment.{IsBefore, IsWithin};
 ghost use Rattle.csv.specs.Records.{fields_of};
@@ -11,32 +11,27 @@ ghost use Rattle.written_check.specs.Refuted.{IsOfRows, Verifies};
 use crate::refutation::Refutation;
 use csv::ByteRecord;
 use csv_records::Records;
+use itoa::Buffer;
 use link_base::{Candidate, NoMemory, PairAt, StdFile, distinct_ids};
 use link_report::{ReadRows, field_of, has_fields, read_links, source_of};
 use price_check::candidate_at;
 use std::alloc::Global;
 
 // Whether a row is that of a candidate.
-fn is_row_of(
-    alloc: Global,
-    row: &ByteRecord,
-    c: Candidate,
-    a: &StdFile,
-    b: &StdFile,
-) -> Result<bool, NoMemory>
+fn is_row_of(row: &ByteRecord, c: Candidate, a: &StdFile, b: &StdFile) -> bool
     requires { IsWithin (length a.now) (length b.now) c }
-    ensures { IfOk result (λ is. is ≡ same_row (fields_of row.now) (link_fields a.now b.now c)) }
+    ensures { result ≡ same_row (fields_of row.now) (link_fields a.now b.now c) }
 {
-    let weight = format!(in alloc; "{}", c.weight)?;
-    let value = format!(in alloc; "{}", c.value)?;
+    let mut weight = Buffer::new();
+    let mut value = Buffer::new();
     let fields = [
         a.id(c.a),
         b.id(c.b),
-        weight.as_bytes(),
-        value.as_bytes(),
+        weight.format(c.weight).as_bytes(),
+        value.format(c.value).as_bytes(),
         source_of(&c),
     ];
-    Ok(has_fields(row, &fields))
+    has_fields(row, &fields)
 }
 
 // The place of the candidate with the ids of a row.
@@ -54,24 +49,23 @@ fn place_of(row: &ByteRecord, candidates: &[Candidate], a: &StdFile, b: &StdFile
 
 // The candidate whose row this is.
 fn candidate_of_row(
-    alloc: Global,
     row: &ByteRecord,
     candidates: &[Candidate],
     a: &StdFile,
     b: &StdFile,
-) -> Result<Option<Candidate>, NoMemory>
+) -> Option<Candidate>
     requires rising { AllPairs IsBefore candidates.now }
     requires within { All (IsWithin (length a.now) (length b.now)) candidates.now }
-    ensures { IfOk result (λ found. found ≡ candidate_in candidates.now a.now b.now (fields_of row.now)) }
+    ensures { result ≡ candidate_in candidates.now a.now b.now (fields_of row.now) }
 {
     let Some(place) = place_of(row, candidates, a, b) else {
-        return Ok(None);
+        return None;
     };
     let c = candidates[place];
-    if is_row_of(alloc, row, c, a, b)? {
-        Ok(Some(c))
+    if is_row_of(row, c, a, b) {
+        Some(c)
     } else {
-        Ok(None)
+        None
     }
 }
 
@@ -95,21 +89,20 @@ fn stands_after(taken: &[Candidate], c: Candidate) -> bool
 
 // The candidate of a row that stands after those that were taken.
 fn next_link(
-    alloc: Global,
     row: &ByteRecord,
     taken: &[Candidate],
     candidates: &[Candidate],
     a: &StdFile,
     b: &StdFile,
-) -> Result<Option<Candidate>, NoMemory>
+) -> Option<Candidate>
     requires taken { AllPairs IsBefore taken.now }
     requires rising { AllPairs IsBefore candidates.now }
     requires within { All (IsWithin (length a.now) (length b.now)) candidates.now }
-    ensures { IfOk result (λ found. found ≡ after_all taken.now (candidate_in candidates.now a.now b.now (fields_of row.now))) }
+    ensures { result ≡ after_all taken.now (candidate_in candidates.now a.now b.now (fields_of row.now)) }
 {
-    match candidate_of_row(alloc, row, candidates, a, b)? {
-        Some(c) if stands_after(taken, c) => Ok(Some(c)),
-        _ => Ok(None),
+    match candidate_of_row(row, candidates, a, b) {
+        Some(c) if stands_after(taken, c) => Some(c),
+        _ => None,
     }
 }
 
@@ -130,7 +123,7 @@ fn links_of_rows(
     let mut links = Vec::new(alloc);
     let mut row = ByteRecord::new(alloc);
     'rows: while rows.next(&mut row)? {
-        match next_link(alloc, &row, &links, candidates, a, b)? {
+        match next_link(&row, &links, candidates, a, b) {
             Some(c) => links.push(c)?,
             None => {
                 return Err(Refutation::Link {
@@ -156,9 +149,8 @@ pub(crate) fn verify_links(
     ensures kind { IfErr result IsOfRows }
     ensures answer { Verifies (λ links. links.items) (links_verified candidates.now a.now b.now text.now) result }
 {
-    let mut rows = match read_links(alloc, text)? {
-        ReadRows::Rows(rows) => rows,
-        ReadRows::Bad { row } => return Err(Refutation::Link { row }),
-    };
-    links_of_rows(alloc, &mut rows, candidates, a, b)
+    match read_links(alloc, text)? {
+        ReadRows::Rows(mut rows) => links_of_rows(alloc, &mut rows, candidates, a, b),
+        ReadRows::Bad { row } => Err(Refutation::Link { row }),
+    }
 }

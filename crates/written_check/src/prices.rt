@@ -1,7 +1,7 @@
 // Written prices, row by row.
 ghost use Rattle.std.specs.Prelude.{◌≡◌, ◌+◌, ◌<◌, ◌^◌, IfErr, IfOk, MatchBool, None, Some, length, pos, replicate};
 ghost use Rattle.csv.specs.Records.{fields_of};
-ghost use Rattle.written_check.specs.PriceRows.{have_none, price_in, prices_in, prices_verified, row_priced, side_priced};
+ghost use Rattle.written_check.specs.PriceRows.{have_none, no_prices, price_in, prices_in, prices_verified, row_priced, side_priced};
 ghost use Rattle.written_check.specs.PricesSeen.{prices_seen};
 ghost use Rattle.written_check.specs.Refuted.{IsOfRows, Verifies};
 
@@ -135,6 +135,33 @@ fn take_rows(
     Ok(())
 }
 
+// No prices of the records of both files.
+fn no_prices_of(alloc: Global, a: &StdFile, b: &StdFile) -> Result<Prices, NoMemory>
+    ensures { IfOk result (λ prices. prices_seen prices ≡ no_prices a.now b.now) }
+{
+    let of_a = SidePrices::new(alloc, a.rows())?;
+    let of_b = SidePrices::new(alloc, b.rows())?;
+    Ok(Prices { a: of_a, b: of_b })
+}
+
+// The prices of the rows that are left, of which the first has the number 1.
+fn prices_of_rows(
+    alloc: Global,
+    rows: &mut Records<'_>,
+    a: &StdFile,
+    b: &StdFile,
+) -> Result<Prices, Refutation>
+    requires few { length rows.old + 1 < 2 ^ 32 }
+    ensures kind { IfErr result IsOfRows }
+    ensures answer { Verifies prices_seen (prices_in a.now b.now 1 (no_prices a.now b.now) rows.old) result }
+{
+    let mut prices = no_prices_of(alloc, a, b)?;
+    match take_rows(alloc, &mut prices, rows, a, b) {
+        Ok(()) => Ok(prices),
+        Err(refutation) => Err(refutation),
+    }
+}
+
 // Verifies the text of prices, and gives them.
 pub(crate) fn verify_prices(
     alloc: Global,
@@ -146,16 +173,8 @@ pub(crate) fn verify_prices(
     ensures kind { IfErr result IsOfRows }
     ensures answer { Verifies prices_seen (prices_verified a.now b.now text.now) result }
 {
-    let mut rows = match read_prices(alloc, text)? {
-        ReadRows::Rows(rows) => rows,
-        ReadRows::Bad { row } => return Err(Refutation::Price { row }),
-    };
-    let mut prices = Prices {
-        a: SidePrices::new(alloc, a.rows())?,
-        b: SidePrices::new(alloc, b.rows())?,
-    };
-    match take_rows(alloc, &mut prices, &mut rows, a, b) {
-        Ok(()) => Ok(prices),
-        Err(refutation) => Err(refutation),
+    match read_prices(alloc, text)? {
+        ReadRows::Rows(mut rows) => prices_of_rows(alloc, &mut rows, a, b),
+        ReadRows::Bad { row } => Err(Refutation::Price { row }),
     }
 }

@@ -1,10 +1,10 @@
 // A written rule, row by row.
-ghost use Rattle.std.specs.Prelude.{◌≡◌, ◌+◌, ◌<◌, ◌^◌, All, IfErr, IfOk, length, map};
+ghost use Rattle.std.specs.Prelude.{◌≡◌, ◌+◌, ◌<◌, ◌^◌, All, Bool, IfErr, IfOk, List, length, map};
 ghost use Rattle.csv.specs.Records.{fields_of};
 ghost use Rattle.link_base.specs.Rule.{IsWithinRanges};
 ghost use Rattle.link_base.specs.declared.rule.RuleCell.{RuleCell as Cell};
 ghost use Rattle.link_report.specs.Reading.{same_row};
-ghost use Rattle.link_report.specs.RuleText.{cell_fields};
+ghost use Rattle.link_report.specs.RuleText.{cell_fields, outcome_letters};
 ghost use Rattle.pattern_shapes.specs.Shapes.{pattern_count_by, rare_of};
 ghost use Rattle.written_check.specs.Refuted.{IsOfRows, Verifies};
 ghost use Rattle.written_check.specs.RuleRows.{TakesRow, first_difference, rule_verified};
@@ -12,11 +12,39 @@ ghost use Rattle.written_check.specs.RuleRows.{TakesRow, first_difference, rule_
 use crate::refutation::Refutation;
 use csv::ByteRecord;
 use csv_records::Records;
-use csv_rows::digits_of;
+use itoa::Buffer;
 use link_base::{NoMemory, RuleCell, RuleTable, Shape};
 use link_limits::WHOLE_RULE;
 use link_report::{ReadRows, has_fields, letters_of, read_rule};
 use std::alloc::Global;
+
+// Whether a row is that of a cell whose pattern has these letters.
+fn has_fields_of(row: &ByteRecord, letters: &[u8], cell: &RuleCell) -> bool
+    requires { IsWithinRanges cell.now }
+    ensures { (rares : List Bool) → letters.now ≡ outcome_letters rares cell.now.pattern
+        → result ≡ same_row (fields_of row.now) (cell_fields rares cell.now) }
+{
+    let mut pattern = Buffer::new();
+    let mut m = Buffer::new();
+    let mut u = Buffer::new();
+    let mut weight = Buffer::new();
+    let mut link = Buffer::new();
+    let mut possible = Buffer::new();
+    let mut nonlink = Buffer::new();
+    let fields = [
+        pattern.format(cell.pattern).as_bytes(),
+        letters,
+        m.format(cell.m).as_bytes(),
+        u.format(cell.u).as_bytes(),
+        weight.format(cell.weight).as_bytes(),
+        link.format(cell.link).as_bytes(),
+        possible
+            .format(WHOLE_RULE - cell.link - cell.nonlink)
+            .as_bytes(),
+        nonlink.format(cell.nonlink).as_bytes(),
+    ];
+    has_fields(row, &fields)
+}
 
 // Whether a row is that of a cell.
 fn is_row_of(
@@ -29,25 +57,10 @@ fn is_row_of(
     requires ranges { IsWithinRanges cell.now }
     ensures { IfOk result (λ is. is ≡ same_row (fields_of row.now) (cell_fields (rare_of shape.now) cell.now)) }
 {
-    let pattern = digits_of(alloc, u128::from(cell.pattern))?;
     let outcomes = letters_of(alloc, shape, cell.pattern)?;
-    let m = digits_of(alloc, u128::from(cell.m))?;
-    let u = digits_of(alloc, u128::from(cell.u))?;
-    let weight = format!(in alloc; "{}", cell.weight)?;
-    let link = digits_of(alloc, u128::from(cell.link))?;
-    let possible = digits_of(alloc, u128::from(WHOLE_RULE - cell.link - cell.nonlink))?;
-    let nonlink = digits_of(alloc, u128::from(cell.nonlink))?;
-    let fields = [
-        pattern.as_bytes(),
-        &outcomes,
-        m.as_bytes(),
-        u.as_bytes(),
-        weight.as_bytes(),
-        link.as_bytes(),
-        possible.as_bytes(),
-        nonlink.as_bytes(),
-    ];
-    Ok(has_fields(row, &fields))
+    let is = has_fields_of(row, &outcomes, cell);
+    drop(outcomes);
+    Ok(is)
 }
 
 // Whether the next of the rows that are left is that of a cell.
@@ -105,11 +118,11 @@ pub(crate) fn verify_rule(
     ensures kind { IfErr result IsOfRows }
     ensures answer { Verifies (λ _. text.now) (rule_verified (rare_of shape.now) table.now.cells.items text.now) result }
 {
-    let mut rows = match read_rule(alloc, text)? {
-        ReadRows::Rows(rows) => rows,
-        ReadRows::Bad { row } => return Err(Refutation::Rule { row }),
+    let difference = match read_rule(alloc, text)? {
+        ReadRows::Rows(mut rows) => difference_in(alloc, &mut rows, table, shape)?,
+        ReadRows::Bad { row } => Some(row),
     };
-    match difference_in(alloc, &mut rows, table, shape)? {
+    match difference {
         Some(row) => Err(Refutation::Rule { row }),
         None => Ok(()),
     }

@@ -16,7 +16,7 @@ rows-preserved c =
     let row = fields_of c.next.new.row in
     let took : c.rows.rows ≡ row ∷ c.next.new.self = search rules in
     let pushed : c.push.new.self.items ≡ taken ++ c.in-Some.c ∷ [] = c.in_ok-push-in-Some.ensures.items in
-    let next : Some c.in-Some.c ≡ after_all taken (candidate_in cs a b row) = sym c.in-Some.is ∙ c.in_ok-c.ensures ∙ ap (λ (l : List Candidate). after_all l (candidate_in cs a b row)) c.deref.ensures.value in
+    let next : Some c.in-Some.c ≡ after_all taken (candidate_in cs a b row) = sym c.in-Some.is ∙ c.next_link.ensures ∙ ap (λ (l : List Candidate). after_all l (candidate_in cs a b row)) c.deref.ensures.value in
     record {
       short = omega (arith, ap (λ (r : List (List (List ℕ))). length r) took, ap (λ (l : List Candidate). length l) pushed, length-append taken (c.in-Some.c ∷ []), c.rows.invariant.short);
       rising = subst (λ (l : List Candidate). AllPairs IsBefore l) (sym pushed) (taken_rising taken (candidate_in cs a b row) c.in-Some.c c.rows.invariant.rising next);
