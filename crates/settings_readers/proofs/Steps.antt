@@ -1,15 +1,17 @@
--- The length of an array, and its items one by one.
-use Rattle.std.proofs.Common.{◌≡◌, ◌<◌, ◌+◌, ◌++◌, ◌∙◌, ℕ, List, [], ◌∷◌, Bool, true, false, Result, Ok, Err, length, length-append, drop, get_or, Some, ap, refl, subst, sym, arith}
+-- The length of an array, its items and choices one by one, and refusals.
+use Rattle.std.proofs.Common.{◌≡◌, ◌<◌, ◌+◌, ◌++◌, ◌∙◌, ℕ, List, [], ◌∷◌, Bool, true, false, Result, Ok, Err, length, length-append, drop, map, get_or, Option, Some, ap, refl, subst, sym, arith}
 use Rattle.std.specs.Prelude.{MatchBool, ⊤, decimal, nat_le, ◌&&◌}
+use Rattle.std.specs.Str.{bytes_eq}
 use Rattle.std.proofs.lemmas.List.{drop_more}
 use Rattle.toml.specs.Data.{Data, as_array}
 use Rattle.toml.specs.View.{items_view, view}
 use Rattle.toml.specs.declared.value.Value.{Value}
 use Rattle.link_base.specs.Answers.{RefusesBut}
-use Rattle.link_base.specs.Fault.{is_want}
+use Rattle.link_base.specs.Fault.{Gives, IsAnswer, is_want}
 use Rattle.link_base.specs.declared.fault.Fault.{Fault}
 use Rattle.settings_readers.specs.Parts.{◌>>=◌, in_range}
 use Rattle.settings_readers.specs.Lists.{each, items_len, sized}
+use Rattle.settings_readers.specs.Values.{named_in}
 
 pub items_len-view : (vs : List Value) → items_len (items_view vs) ≡ length vs
 items_len-view [] = refl
@@ -51,3 +53,20 @@ each_refused read above vs i v before seen f total lt is same refused so_far =
     let here : RefusesBut is_want (read before (above ++ decimal (i + 1)) (view v)) f = subst (λ b. RefusesBut is_want (read b (above ++ decimal (i + 1)) (view v)) f) same refused in
     let all = refused_then (is_want f) (read before (above ++ decimal (i + 1)) (view v)) (λ y. each read above (items_view (drop (i + 1) vs)) (before ++ y ∷ []) (i + 1 + 1)) f here in
     subst (λ r. RefusesBut is_want r f) (sym (each_from read above vs i v before lt is) ∙ so_far) all
+
+refused_same : {X T : Type 0} (b : Bool) (f g : Fault) (given : Result X Fault) (expected : Result T Fault) → given ≡ Err f → expected ≡ Err f → MatchBool b ⊤ (given ≡ Err g) → MatchBool b ⊤ (expected ≡ Err g)
+refused_same true f g given expected is same h = tt
+refused_same false f g given expected is same h = cc
+
+-- a refusal by the fault that is defined
+pub refused_as : {X T : Type 0} (view : X → T) (f : Fault) (expected : Result T Fault) (r : Result X Fault) → expected ≡ Err f → IsAnswer (Err f) r → Gives view expected r
+refused_as view f expected (Ok x) is h = absurd cc
+refused_as view f expected (Err g) is h = refused_same (is_want g) f g _ expected refl is h
+
+-- a choice that is passed by
+pub named_more : {E X : Type 0} (f : E → List ℕ × X) (all : List E) (i : ℕ) (e : E) (text : List ℕ) (total : Option X) → i < length all → e ≡ get_or all i e
+    → bytes_eq text (f e).0 ≡ false → named_in (map f (drop i all)) text ≡ total → named_in (map f (drop (i + 1) all)) text ≡ total
+named_more {X = X} f all i e text total lt is off so_far =
+    let left : drop i all ≡ e ∷ drop (i + 1) all = drop_more all i e lt ∙ ap (λ w. w ∷ drop (i + 1) all) (sym is) in
+    let here : named_in (map f (drop i all)) text ≡ named_in (map f (drop (i + 1) all)) text = rw (left, off) refl in
+    sym here ∙ so_far

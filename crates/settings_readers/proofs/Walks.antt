@@ -15,9 +15,9 @@ known_more is_known all rest e path key total parts same listed so_far =
     sym one ∙ so_far
 
 -- an unknown key at the front
-pub known_stops : (is_known : List ℕ → Bool) (all rest : List Entry) (e : Entry) (path key text : List ℕ) (total : Result (Unit {0}) Fault) → all ≡ e ∷ rest → key ≡ string_bytes e.0 → is_known key ≡ false
-    → text ≡ path ++ string_bytes e.0 → known is_known (members_view all) path ≡ total → total ≡ Err (UnknownKey text)
-known_stops is_known all rest e path key text total parts same unlisted joined so_far =
+pub known_stops : (is_known : List ℕ → Bool) (all rest : List Entry) (e : Entry) (path key at : List ℕ) (total : Result (Unit {0}) Fault) → all ≡ e ∷ rest → key ≡ string_bytes e.0 → is_known key ≡ false
+    → at ≡ path ++ string_bytes e.0 → known is_known (members_view all) path ≡ total → total ≡ Err (UnknownKey at)
+known_stops is_known all rest e path key at total parts same unlisted joined so_far =
     let here : is_known (string_bytes e.0) ≡ false = rw (← same) unlisted in
-    let one : known is_known (members_view all) path ≡ Err (UnknownKey text) = rw (parts, here, joined) refl in
+    let one : known is_known (members_view all) path ≡ Err (UnknownKey at) = rw (parts, here, joined) refl in
     sym so_far ∙ one

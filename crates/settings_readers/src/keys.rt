@@ -43,9 +43,7 @@ impl Keys<'_> {
         let table = self.table;
         for (key, _value) in table {
             if !is_listed(listed, key.as_str()) {
-                return Err(Fault::UnknownKey {
-                    key: Place::new(above, key.as_str().as_bytes()).text(alloc)?,
-                });
+                return Place::new(above, key.as_str().as_bytes()).unknown_key(alloc);
             }
         }
         Ok(())
@@ -57,9 +55,7 @@ impl Keys<'_> {
     {
         match find(self.table, key) {
             None => Ok(()),
-            Some(_) => Err(Fault::UnknownKey {
-                key: Place::new(self.above, key.as_bytes()).text(alloc)?,
-            }),
+            Some(_) => Place::new(self.above, key.as_bytes()).unknown_key(alloc),
         }
     }
 
@@ -69,9 +65,7 @@ impl Keys<'_> {
     {
         let place = Place::new(self.above, key.as_bytes());
         match find(self.table, key) {
-            None => Err(Fault::MissingKey {
-                key: place.text(alloc)?,
-            }),
+            None => place.missing_key(alloc),
             Some(value) => reader.read(alloc, &place, value),
         }
     }

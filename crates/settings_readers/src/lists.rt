@@ -71,14 +71,10 @@ fn sized<'a>(
     ensures most { IfOk result (λ a. length a.now ≤ high) }
 {
     match value.as_array() {
-        None => Err(Fault::WrongType {
-            key: place.text(alloc)?,
-        }),
+        None => place.wrong_type(alloc),
         Some(array) => {
             if !is_sized(low, high, array.len()) {
-                return Err(Fault::OutOfRange {
-                    key: place.text(alloc)?,
-                });
+                return place.out_of_range(alloc);
             }
             Ok(array)
         }
@@ -125,9 +121,7 @@ impl<R: Row> Element for Rows<R> {
         value: &Value,
     ) -> Result<R::Item, Fault> {
         match value.as_table() {
-            None => Err(Fault::WrongType {
-                key: place.text(alloc)?,
-            }),
+            None => place.wrong_type(alloc),
             Some(table) => {
                 let above = place.below(alloc)?;
                 let keys = Keys {

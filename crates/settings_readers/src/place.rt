@@ -1,7 +1,9 @@
 // Where a value stands.
-ghost use Rattle.std.specs.Prelude.{◌≡◌, ◌++◌, IfOk, codes};
+ghost use Rattle.std.specs.Prelude.{◌≡◌, ◌++◌, Err, IfOk, codes};
+ghost use Rattle.link_base.specs.Fault.{IsAnswer};
+ghost use Rattle.link_base.specs.declared.fault.Fault.TheVariants as fault;
 
-use link_base::{NoMemory, Text};
+use link_base::{Fault, NoMemory, Text};
 use std::alloc::Global;
 use std::marker::Model;
 
@@ -36,6 +38,42 @@ impl<'a> Place<'a> {
         let mut bytes = Vec::from_slice(alloc, self.above)?;
         bytes.extend_from_slice(self.key)?;
         Ok(Text::of(bytes))
+    }
+
+    /// Refuses a key that is not known, or does not belong.
+    pub fn unknown_key<T>(&self, alloc: Global) -> Result<T, Fault>
+        ensures { IsAnswer (Err (fault.UnknownKey self.now)) result }
+    {
+        Err(Fault::UnknownKey {
+            key: self.text(alloc)?,
+        })
+    }
+
+    /// Refuses a table without a key that has to be there.
+    pub fn missing_key<T>(&self, alloc: Global) -> Result<T, Fault>
+        ensures { IsAnswer (Err (fault.MissingKey self.now)) result }
+    {
+        Err(Fault::MissingKey {
+            key: self.text(alloc)?,
+        })
+    }
+
+    /// Refuses a value that has another type.
+    pub fn wrong_type<T>(&self, alloc: Global) -> Result<T, Fault>
+        ensures { IsAnswer (Err (fault.WrongType self.now)) result }
+    {
+        Err(Fault::WrongType {
+            key: self.text(alloc)?,
+        })
+    }
+
+    /// Refuses a value that is out of its range.
+    pub fn out_of_range<T>(&self, alloc: Global) -> Result<T, Fault>
+        ensures { IsAnswer (Err (fault.OutOfRange self.now)) result }
+    {
+        Err(Fault::OutOfRange {
+            key: self.text(alloc)?,
+        })
     }
 
     /// What stands before the keys and the items of the value here: the path and a point.

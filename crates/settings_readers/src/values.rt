@@ -21,13 +21,9 @@ impl<C: Choices> Reader for Choice<C> {
 
     fn read(&self, alloc: Global, place: &Place, value: &Value) -> Result<C::Item, Fault> {
         match value.as_str() {
-            None => Err(Fault::WrongType {
-                key: place.text(alloc)?,
-            }),
+            None => place.wrong_type(alloc),
             Some(text) => match self.0.named(text) {
-                None => Err(Fault::OutOfRange {
-                    key: place.text(alloc)?,
-                }),
+                None => place.out_of_range(alloc),
                 Some(item) => Ok(item),
             },
         }
@@ -64,14 +60,10 @@ pub fn whole_number(
     ensures most { IfOk result (λ number. number ≤ high) }
 {
     match value.as_integer() {
-        None => Err(Fault::WrongType {
-            key: place.text(alloc)?,
-        }),
+        None => place.wrong_type(alloc),
         Some(number) => {
             if !is_within(low, high, number) {
-                return Err(Fault::OutOfRange {
-                    key: place.text(alloc)?,
-                });
+                return place.out_of_range(alloc);
             }
             Ok(number as u64)
         }
@@ -108,9 +100,7 @@ impl Reader for Truth {
 
     fn read(&self, alloc: Global, place: &Place, value: &Value) -> Result<bool, Fault> {
         match value.as_bool() {
-            None => Err(Fault::WrongType {
-                key: place.text(alloc)?,
-            }),
+            None => place.wrong_type(alloc),
             Some(holds) => Ok(holds),
         }
     }

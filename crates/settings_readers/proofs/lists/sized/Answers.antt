@@ -1,12 +1,13 @@
 use Rattle.std.proofs.Common.{◌≡◌, true, false, sym, ◌∙◌, arith}
 use Rattle.std.specs.Prelude.{nat_le, ◌&&◌}
-use Rattle.settings_readers.proofs.Steps.{sized_is}
+use Rattle.settings_readers.proofs.Steps.{refused_as, sized_is}
 use Rattle.settings_readers.proofs.lists.sized.Goals as goal
 
 pub returns-then-not-is_sized-clause-gives : goal.returns-then-not-is_sized-clause-gives
 returns-then-not-is_sized-clause-gives c =
     let test : (nat_le c.args.low c.len.result && nat_le c.len.result c.args.high) ≡ false = sym c.is_sized.ensures ∙ c.if-not-is_sized.true in
-    sized_is _ _ c.len.result c.args.place.now _ c.in-Some.array.now.items c.in-Some.ensures (omega (arith, c.len.ensures, c.in-Some.array.now.ok.0)) ∙ rw (test, c.in_ok-text-in-Some.ensures)
+    let is = sized_is _ _ c.len.result c.args.place.now _ c.in-Some.array.now.items c.in-Some.ensures (omega (arith, c.len.ensures, c.in-Some.array.now.ok.0)) in
+    refused_as _ _ _ c.out_of_range.result (is ∙ rw test) c.out_of_range.ensures
 
 pub returns-else-not-is_sized-clause-gives : goal.returns-else-not-is_sized-clause-gives
 returns-else-not-is_sized-clause-gives c =
