@@ -15,7 +15,7 @@ pub enum DateForm {
 }
 
 /// What a field holds.
-#[derive(Clone, Copy, PartialEq, Eq)]
+#[derive(Clone, Copy)]
 pub enum FieldSort {
     /// A person's name.
     Name,
@@ -26,7 +26,7 @@ pub enum FieldSort {
 }
 
 /// How the two values of a field are compared.
-#[derive(Clone, Copy, PartialEq, Eq)]
+#[derive(Clone, Copy)]
 pub enum CompareKind {
     /// Equal values agree.
     Exact,

@@ -7,7 +7,7 @@ use link_limits::MOST_PATTERNS;
 use std::alloc::Global;
 
 /// What the comparison of a field comes to. The order is that of the digits of a comparison pattern.
-#[derive(Clone, Copy, PartialEq, Eq)]
+#[derive(Clone, Copy)]
 pub enum Outcome {
     /// Both values are present and alike.
     Agree,
@@ -20,7 +20,7 @@ pub enum Outcome {
 }
 
 /// The decision on a pair (Fellegi and Sunter 1969, section 2).
-#[derive(Clone, Copy, PartialEq, Eq)]
+#[derive(Clone, Copy)]
 pub enum Decision {
     Link,
     Possible,
@@ -45,7 +45,7 @@ pub enum Step {
 }
 
 /// The positions of a pair, from 0, in A and in B.
-#[derive(Clone, Copy, PartialEq, Eq)]
+#[derive(Clone, Copy)]
 pub struct PairAt {
     pub a: u32,
     pub b: u32,
@@ -55,7 +55,7 @@ pub struct PairAt {
 /// over 1,024 to the number of fields, its weight in eighths of a bit, from -480 to 474, and how often
 /// it is a link and a non-link, in 65,536ths that add up to at most 65,536. A table keeps the ranges of
 /// its cells; a call that takes a cell alone asks for them.
-#[derive(Clone, Copy, PartialEq, Eq)]
+#[derive(Clone, Copy)]
 pub struct RuleCell {
     pub pattern: u16,
     pub m: u64,
@@ -113,7 +113,7 @@ pub struct Levels {
 
 /// A pair of records, by position, that may be linked, with its weight in eighths of a bit, its value,
 /// and whether it is a candidate by review.
-#[derive(Clone, Copy, PartialEq, Eq)]
+#[derive(Clone, Copy)]
 pub struct Candidate {
     pub a: u32,
     pub b: u32,

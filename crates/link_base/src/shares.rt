@@ -18,7 +18,7 @@ pub struct FieldShares {
 
 /// How many fields a comparison pattern has, 1 to 6, and in which of them agreement on a rare value is
 /// an outcome of its own.
-#[derive(Clone, Copy, PartialEq, Eq)]
+#[derive(Clone, Copy)]
 pub struct Shape {
     pub fields: u8,
     pub rare: [bool; 6],
