@@ -12,3 +12,5 @@ pub mod TableRanges
 pub mod Ranges
 pub mod WithinRanges
 pub mod Answered
+pub mod Chains
+pub mod Loops

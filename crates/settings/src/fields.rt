@@ -56,9 +56,7 @@ fn new_name(alloc: Global, before: &[FieldPlan], keys: &Keys) -> Result<Text, Fa
     let name = keys.needed(alloc, &TextRule::FieldName, "name")?;
     if is_taken(before, &name) {
         drop(name);
-        return Err(Fault::OutOfRange {
-            key: Place::new(keys.above, b"name").text(alloc)?,
-        });
+        return Place::new(keys.above, b"name").out_of_range(alloc);
     }
     Ok(name)
 }
@@ -198,7 +196,7 @@ impl Reader for Fields {
     fn read(&self, alloc: Global, place: &Place, value: &Value) -> Result<FieldList, Fault> {
         let rows = Items {
             low: 1,
-            high: usize::from(MOST_FIELDS),
+            high: MOST_FIELDS as usize,
             element: Rows(FieldTable {
                 sampled: self.sampled,
             }),

@@ -23,19 +23,13 @@ impl Reader for Shares {
 
     fn read(&self, alloc: Global, place: &Place, value: &Value) -> Result<[u16; 4], Fault> {
         match value.as_array() {
-            None => Err(Fault::WrongType {
-                key: place.text(alloc)?,
-            }),
+            None => place.wrong_type(alloc),
             Some(items) => {
                 if !are_whole(items) {
-                    return Err(Fault::WrongType {
-                        key: place.text(alloc)?,
-                    });
+                    return place.wrong_type(alloc);
                 }
                 match shares_in(self.rare, items) {
-                    None => Err(Fault::OutOfRange {
-                        key: place.text(alloc)?,
-                    }),
+                    None => place.out_of_range(alloc),
                     Some(shares) => Ok(shares),
                 }
             }

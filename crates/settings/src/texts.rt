@@ -94,14 +94,10 @@ fn text_in<'a>(
     ensures { Gives (λ text. text.now) (text rule place.now (view value.now)) result }
 {
     match value.as_str() {
-        None => Err(Fault::WrongType {
-            key: place.text(alloc)?,
-        }),
+        None => place.wrong_type(alloc),
         Some(text) => {
             if !fits(rule, text) {
-                return Err(Fault::OutOfRange {
-                    key: place.text(alloc)?,
-                });
+                return place.out_of_range(alloc);
             }
             Ok(text)
         }

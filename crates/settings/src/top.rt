@@ -131,9 +131,7 @@ fn journal_of(
     let journal = keys.optional(alloc, &File, "journal")?;
     if !is_free(files, sample, &journal) {
         drop(journal);
-        return Err(Fault::OutOfRange {
-            key: Place::new(keys.above, b"journal").text(alloc)?,
-        });
+        return Place::new(keys.above, b"journal").out_of_range(alloc);
     }
     Ok(journal)
 }

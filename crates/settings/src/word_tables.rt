@@ -55,9 +55,7 @@ fn word_pair(alloc: Global, place: &Place, key: &str, value: &Value) -> Result<W
     ensures { IsAnswer (word_pair place.now key.now (view value.now)) result }
 {
     if !fits(TextRule::Word, key) {
-        return Err(Fault::OutOfRange {
-            key: place.text(alloc)?,
-        });
+        return place.out_of_range(alloc);
     }
     let to = Reader::read(&TextRule::Word, alloc, place, value)?;
     match Text::new(alloc, key.as_bytes()) {
@@ -92,14 +90,10 @@ fn small_table<'a>(alloc: Global, place: &Place, value: &'a Value) -> Result<&'a
     ensures ascending { IfOk result (λ t. keys_ascend (table_view t.now) ≡ true) }
 {
     match value.as_table() {
-        None => Err(Fault::WrongType {
-            key: place.text(alloc)?,
-        }),
+        None => place.wrong_type(alloc),
         Some(table) => {
             if MOST_WORD_PAIRS < table.len() {
-                return Err(Fault::OutOfRange {
-                    key: place.text(alloc)?,
-                });
+                return place.out_of_range(alloc);
             }
             Ok(table)
         }

@@ -41,7 +41,8 @@ each_more {A = A} read above vs i v before seen more x total lt is same reads gr
 pub one_longer : {A : Type 0} (before more : List A) (x : A) (i : ℕ) → more ≡ before ++ x ∷ [] → length before ≡ i → length more ≡ i + 1
 one_longer before more x i grown len = omega (arith, ap length grown, length-append before (x ∷ []), len)
 
-refused_then : {A B : Type 0} (b : Bool) (r : Result A Fault) (next : A → Result B Fault) (f : Fault) → MatchBool b ⊤ (r ≡ Err f) → MatchBool b ⊤ ((r >>= next) ≡ Err f)
+-- a refusal goes through the parts that come after
+pub refused_then : {A B : Type 0} (b : Bool) (r : Result A Fault) (next : A → Result B Fault) (f : Fault) → MatchBool b ⊤ (r ≡ Err f) → MatchBool b ⊤ ((r >>= next) ≡ Err f)
 refused_then true r next f h = tt
 refused_then false r next f h = ap (λ q. q >>= next) h
 
