@@ -1,14 +1,14 @@
 -- A link over a tight edge, whose record of A has no link and whose record of B a place left.
-use Rattle.std.proofs.Common.{◌≡◌, ◌==◌, ℕ, ◌+◌, ◌<◌, List, length, set, Option, Some, None, false, refl, sym, ◌∙◌, arith}
+use Rattle.std.proofs.Common.{◌≡◌, ◌==◌, ℕ, ◌+◌, ◌<◌, List, length, set, Option, Some, None, false, refl, sym, ◌∙◌, arith, inl, inr, get_or-set_other}
 use Rattle.std.specs.Option.{is_some}
-use Rattle.std.proofs.lemmas.Bool.{false≢true}
+use Rattle.std.proofs.lemmas.Bool.{cases_eq, false≢true}
 use Rattle.std.proofs.lemmas.List.{length-set}
 use Rattle.assignment_laws.proofs.Places.{place_there}
 use Rattle.capacity_assign.specs.declared.market.Edge.{Edge}
 use Rattle.capacity_assign.specs.Core.{IsTight, edge, link, linked_at, number}
-use Rattle.capacity_assign.specs.Round.{IsBetween, KeepsPlaces}
+use Rattle.capacity_assign.specs.Round.{AreSettled, IsBetween, IsSettled, KeepsPlaces}
 use Rattle.capacity_assign.specs.Seating.{AddsSeat, Seating, free_rows}
-use Rattle.capacity_assign.proofs.Links.{free_row_counts, free_rows-set, linked_at-set, linked_set, tick}
+use Rattle.capacity_assign.proofs.Links.{free_row_counts, free_rows-set, link-set, linked_at-set, linked_set, tick}
 use Rattle.capacity_assign.proofs.Seating.{places_after_added, all_taken, seats_after_added, vacant_after_added}
 use Rattle.capacity_assign.proofs.Ways.{tight_turned}
 
@@ -49,3 +49,23 @@ module _ (es : List Edge) (pa pb : List ℕ) (la : List (Option ℕ)) (s t : Sea
 pub not_linked : (x : Option ℕ) → is_some x ≡ false → x ≡ None
 not_linked None h = refl
 not_linked (Some k) h = absurd (false≢true (sym h))
+
+-- a record without a link after one write of a link had none before
+pub none_before : (l : List (Option ℕ)) (i r k : ℕ) → i < length l → link (set l i (Some k)) r ≡ None → link l r ≡ None
+none_before l i r k lt none = elim (link-set l i r (Some k) lt) [ inl p ↦ absurd (let clash : Some k ≡ None = sym p.1 ∙ none in cc) | inr p ↦ sym p.1 ∙ none ]
+
+-- where no place is left, none is after a place was taken elsewhere
+pub still_none : (left : List ℕ) (b x v : ℕ) → 0 < number left b → number left x ≡ 0 → number (set left b v) x ≡ 0
+still_none left b x v some none =
+    elim (cases_eq x b) [
+      | inl same ↦ absurd (let here : number left b ≡ 0 = rw (← same) none in omega (arith, here, some))
+      | inr other ↦ get_or-set_other left b x v 0 other ∙ none
+    ]
+
+-- one more edge is settled
+pub one_more_settled : (es : List Edge) (pa pb : List ℕ) (la la' : List (Option ℕ)) (left left' : List ℕ) (k : ℕ) → ((a : ℕ) → link la' a ≡ None → link la a ≡ None) → ((b : ℕ) → number left b ≡ 0 → number left' b ≡ 0) → AreSettled es pa pb la left k → IsSettled es pa pb la' left' k → AreSettled es pa pb la' left' (k + 1)
+one_more_settled es pa pb la la' left left' k kept fewer before here j low tight none =
+    elim (cases_eq j k) [
+      | inl same ↦ (let at : IsSettled es pa pb la' left' j = rw same here in at tight none)
+      | inr other ↦ fewer _ (before j (omega (arith, low, other)) tight (kept _ none))
+    ]

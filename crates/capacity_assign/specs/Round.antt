@@ -4,7 +4,7 @@ use Rattle.link_limits.specs.declared.TheConstants.{MOST_VALUE}
 use Rattle.capacity_assign.specs.declared.market.Edge.{Edge}
 use Rattle.capacity_assign.specs.declared.market.Net.{Net}
 use Rattle.capacity_assign.specs.declared.market.Ways.{Ways}
-use Rattle.capacity_assign.specs.Core.{link, edge, number, Leads, AreLinked, IsInRange, AreTight, linked_at}
+use Rattle.capacity_assign.specs.Core.{link, edge, number, Leads, AreLinked, IsInRange, AreTight, IsTight, linked_at}
 use Rattle.capacity_assign.specs.Seating.{AreSeats, Seating}
 
 -- a way from a record of B to the root
@@ -37,6 +37,14 @@ pub record IsBetween (es : List Edge) (pa pb : List ℕ) (la : List (Option ℕ)
 -- each record of B has as many places as before, linked or left
 abbrev pub KeepsPlaces : List Edge → List (Option ℕ) → List ℕ → List (Option ℕ) → List ℕ → Type 0
 KeepsPlaces es la left la' left' = (b : ℕ) → number left' b + linked_at es la' b ≡ number left b + linked_at es la b
+
+-- an edge is not tight, or its record of A has a link, or its record of B has no place left
+abbrev pub IsSettled : List Edge → List ℕ → List ℕ → List (Option ℕ) → List ℕ → ℕ → Type 0
+IsSettled es pa pb la left k = IsTight es pa pb k → link la (edge es k).a ≡ None → number left (edge es k).b ≡ 0
+
+-- so are the first `count` edges
+abbrev pub AreSettled : List Edge → List ℕ → List ℕ → List (Option ℕ) → List ℕ → ℕ → Type 0
+AreSettled es pa pb la left count = (k : ℕ) → k < count → IsSettled es pa pb la left k
 
 -- no value is large
 abbrev pub AreSmall : List Edge → Type 0

@@ -1,7 +1,8 @@
 // Links over tight edges, before any tree is grown.
-ghost use Rattle.std.specs.Prelude.{◌<◌, length};
+ghost use Rattle.std.specs.Prelude.{◌≡◌, ◌<◌, ℕ, None, length};
+ghost use Rattle.capacity_assign.specs.Core.{link, number};
 ghost use Rattle.capacity_assign.specs.Seating.{seating};
-ghost use Rattle.capacity_assign.specs.Round.{IsBetween, KeepsPlaces};
+ghost use Rattle.capacity_assign.specs.Round.{AreSettled, IsBetween, IsSettled, KeepsPlaces};
 
 use crate::market::{Net, Seats};
 use crate::seats::{add_seat, reseat};
@@ -13,6 +14,9 @@ fn link_if_tight(net: Net<'_>, link_a: &mut [Option<usize>], seats: &mut Seats, 
     requires between { IsBetween net.edges.now net.price_a.now net.price_b.now link_a.old (seating seats.old) 0 }
     ensures between { IsBetween net.entry.edges.now net.entry.price_a.now net.entry.price_b.now link_a.new (seating seats.new) 0 }
     ensures places { KeepsPlaces net.entry.edges.now link_a.old seats.old.left.items link_a.new seats.new.left.items }
+    ensures settled { IsSettled net.entry.edges.now net.entry.price_a.now net.entry.price_b.now link_a.new seats.new.left.items k }
+    ensures kept { (a : ℕ) → link link_a.new a ≡ None → link link_a.old a ≡ None }
+    ensures fewer { (b : ℕ) → number seats.old.left.items b ≡ 0 → number seats.new.left.items b ≡ 0 }
 {
     let edge = net.edges[k];
     let a = edge.a as usize;
@@ -30,11 +34,13 @@ fn link_if_tight(net: Net<'_>, link_a: &mut [Option<usize>], seats: &mut Seats, 
     let _ = reseat(net.edges, link_a, &mut seats.seat, &mut seats.row, k, free);
 }
 
-/// Links records over tight edges, in the order of the edges.
+/// Links records over tight edges, in the order of the edges, until no tight edge joins a record of A without a
+/// link to a record of B with a place left.
 pub fn link_tight(net: Net<'_>, link_a: &mut [Option<usize>], seats: &mut Seats)
     requires { IsBetween net.edges.now net.price_a.now net.price_b.now link_a.old (seating seats.old) 0 }
     ensures between { IsBetween net.entry.edges.now net.entry.price_a.now net.entry.price_b.now link_a.new (seating seats.new) 0 }
     ensures places { KeepsPlaces net.entry.edges.now link_a.old seats.old.left.items link_a.new seats.new.left.items }
+    ensures settled { AreSettled net.entry.edges.now net.entry.price_a.now net.entry.price_b.now link_a.new seats.new.left.items (length net.entry.edges.now) }
 {
     for k in 0..net.edges.len() {
         link_if_tight(net, link_a, seats, k);

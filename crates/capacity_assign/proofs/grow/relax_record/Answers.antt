@@ -1,4 +1,4 @@
-use Rattle.std.proofs.Common.{inl, inr, length, refl, arith}
+use Rattle.std.proofs.Common.{inl, inr, length, refl, ◌∙◌, arith}
 use Rattle.std.proofs.lemmas.Bool.{cases_lt}
 use Rattle.capacity_assign.specs.Core.{number}
 use Rattle.capacity_assign.specs.Growth.{growth}
@@ -36,3 +36,20 @@ pub returns-else-ground-k-clause-work : goal.returns-else-ground-k-clause-work
 returns-else-ground-k-clause-work c =
     let fewer = left_later c.args.ground.edges.now c.loop-k.tree.dist_a.items c.args.position c.loop-k.k (length c.args.ground.edges.now) (omega arith) in
     omega (arith, fewer, c.loop-k.invariant.work)
+
+pub loop-k-preserved : goal.loop-k-preserved
+loop-k-preserved c =
+    let after = c.relax.ensures in
+    let before = c.loop-k.invariant in
+    record {
+      within = omega arith;
+      above = λ j low within. before.above j (omega (arith, low)) within;
+      last = rw (after.dist_a, after.current) before.last;
+      tree = rw c.if-ground-k.true at after.tree;
+      room = after.room;
+      work = (let more = rw c.if-ground-k.true at after.work in omega (arith, more, before.work));
+      held = after.held ∙ before.held;
+      current = after.current ∙ before.current;
+      dist_a = after.dist_a ∙ before.dist_a;
+      queue = omega (arith, after.queue, before.queue);
+    }
