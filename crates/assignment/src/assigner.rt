@@ -149,11 +149,9 @@ impl Assigner {
             link_a,
             link_b: _,
             tree,
-            survey,
             spare,
         } = own;
         drop(tree);
-        drop(survey);
         drop(spare);
         let links = linked(candidates, &edges, &link_a);
         Assignment {

@@ -67,7 +67,8 @@ pub fn first_sides(
     ensures other { IfOk result (λ s. MatchOption s.other (Unit {0}) (IsOther graph.now.turned.items rows_a rows_b)) }
 {
     let price_a = first_prices(alloc, &graph.edges, rows_a as usize)?;
-    let other = other_if_less(alloc, &graph.turned, rows_b as usize, &price_a)?;
+    let price_b = first_prices(alloc, &graph.turned, rows_b as usize)?;
+    let other = other_if_less(alloc, &graph.turned, price_b, &price_a)?;
     match first_side(alloc, &graph.edges, price_a, rows_b as usize) {
         Ok(own) => Ok(Sides { own, other }),
         Err(error) => {

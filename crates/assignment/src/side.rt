@@ -1,19 +1,26 @@
 // Prices, links and room of the side that searches.
-ghost use Rattle.std.specs.Prelude.{◌≡◌, ◌<◌, ◌≤◌, ◌^◌, ℕ, IfOk, MatchOption, None, length};
-ghost use Rattle.assignment_steps.specs.Market.{link, AreSmall, AreStarts, IsBoard, IsInRange, IsRising};
+ghost use Rattle.std.specs.Prelude.{◌≡◌, ◌*◌, ◌/◌, ◌<◌, ◌≤◌, ◌^◌, ℕ, IfOk, MatchOption, None, is_some, length, nat_lt};
+ghost use Rattle.std.specs.List.{sum};
+ghost use Rattle.assignment_steps.specs.Market.{link, AreSmall, AreStarts, IsInRange, IsRising};
 ghost use Rattle.assignment_steps.specs.Between.{IsBetween};
+ghost use Rattle.assignment_steps.specs.Joined.{AreJoinedAs};
 ghost use Rattle.assignment.specs.Final.{ReachAll};
-ghost use Rattle.assignment.specs.Sides.{IsOther, IsSide};
+ghost use Rattle.assignment.specs.Growth.{IsClean};
+ghost use Rattle.assignment.specs.Sides.{IsOther, IsSide, IsTakenOver};
 
 use crate::market::Tree;
-use crate::phases::settle;
 use crate::room::room_for_side;
-use crate::round::all_rounds;
-use crate::solve::{first_prices, free_links, zeros};
-use crate::spare::Spare;
-use assignment_steps::{Board, Edge, Net, Survey, adopt_all, are_rising, join_as_turned};
+use crate::round::{all_rounds, search_each};
+use crate::solve::{free_links, zeros};
+use crate::spare::{Spare, take_proposal};
+use assignment_steps::{
+    Board, Edge, Net, adopt_all, are_rising, join_as_turned, link_tight, waiting,
+};
 use link_base::NoMemory;
 use std::alloc::Global;
+
+/// How many times each edge may be looked at by the first searches.
+const LOOKS: usize = 4;
 
 /// Prices, links and room of the side that searches, whose records are called those of A.
 #[derive(Drop)]
@@ -23,7 +30,6 @@ pub struct Side {
     pub link_a: Vec<Option<usize>>,
     pub link_b: Vec<Option<usize>>,
     pub tree: Tree,
-    pub survey: Survey,
     pub spare: Spare,
 }
 
@@ -45,7 +51,6 @@ pub fn first_side(
 ) -> Result<Side, NoMemory>
     requires reach { ReachAll edges.now (length price_a.items) price_a.items }
     requires in_range { IsInRange edges.now (length price_a.items) rows_b }
-    requires rows_a { length price_a.items < 2 ^ 32 }
     ensures side { IfOk result (IsSide edges.now) }
     ensures rows_a { IfOk result (λ s. length s.price_a.items ≡ length price_a.items) }
     ensures rows_b { IfOk result (λ s. length s.price_b.items ≡ rows_b) }
@@ -60,7 +65,6 @@ pub fn first_side(
             link_a: links.a,
             link_b: links.b,
             tree: room.tree,
-            survey: room.survey,
             spare: room.spare,
         }),
         Err(error) => {
@@ -73,26 +77,14 @@ pub fn first_side(
 }
 
 /// The sum of prices.
-fn sum_of(prices: &[u64]) -> u64 {
-    let mut sum = 0u64;
-    for price in prices {
-        sum = sum.saturating_add(*price);
+fn sum_of(prices: &[u64]) -> u128
+    ensures { result ≡ sum prices.now }
+{
+    let mut total = 0u128;
+    for i in 0..prices.len() {
+        total += u128::from(prices[i]);
     }
-    sum
-}
-
-/// The sum of the greatest values of the records of A, whose edges stand together.
-fn sum_of_greatest(edges: &[Edge]) -> u64 {
-    let mut sum = 0u64;
-    let mut greatest = 0u32;
-    for k in 0..edges.len() {
-        if k > 0 && edges[k].a != edges[k - 1].a {
-            sum = sum.saturating_add(u64::from(greatest));
-            greatest = 0;
-        }
-        greatest = greatest.max(edges[k].value);
-    }
-    sum.saturating_add(u64::from(greatest))
+    total
 }
 
 /// The other side where its first prices add up to clearly less than those of this side: less is left to
@@ -100,19 +92,20 @@ fn sum_of_greatest(edges: &[Edge]) -> u64 {
 pub fn other_if_less(
     alloc: Global,
     turned: &[Edge],
-    rows_b: usize,
+    price_b: Vec<u64>,
     price_a: &[u64],
 ) -> Result<Option<Other>, NoMemory>
-    requires small { AreSmall turned.now }
-    requires in_range { IsInRange turned.now rows_b (length price_a.now) }
-    requires rows_b { rows_b < 2 ^ 32 }
-    ensures { IfOk result (λ o. MatchOption o (Unit {0}) (IsOther turned.now (length price_a.now) rows_b)) }
+    requires reach { ReachAll turned.now (length price_b.items) price_b.items }
+    requires in_range { IsInRange turned.now (length price_b.items) (length price_a.now) }
+    ensures chosen { IfOk result (λ o. is_some o ≡ nat_lt (sum price_b.items) (sum price_a.now / 32 * 31)) }
+    ensures other { IfOk result (λ o. MatchOption o (Unit {0}) (IsOther turned.now (length price_a.now) (length price_b.items))) }
 {
-    let rows_a = price_a.len();
-    if sum_of_greatest(turned) >= sum_of(price_a) / 32 * 31 {
+    if sum_of(&price_b) >= sum_of(price_a) / 32 * 31 {
+        drop(price_b);
         return Ok(None);
     }
-    let price_b = first_prices(alloc, turned, rows_b)?;
+    let rows_a = price_a.len();
+    let rows_b = price_b.len();
     let side = first_side(alloc, turned, price_b, rows_a)?;
     match free_links(alloc, rows_a, rows_b) {
         Ok(links) => Ok(Some(Other {
@@ -127,9 +120,58 @@ pub fn other_if_less(
     }
 }
 
-/// Settles most records by steps that look at all at once, then takes every record of A up in turn.
+/// Links over tight edges and searches, which is all that most lists need. Where records of A wait still, takes
+/// a proposal over if it serves, and takes every record of A up in turn.
+fn settle(
+    board: Board<'_>,
+    price_a: &mut [u64],
+    price_b: &mut [u64],
+    link_a: &mut [Option<usize>],
+    link_b: &mut [Option<usize>],
+    tree: &mut Tree,
+    spare: &mut Spare,
+)
+    requires rising { IsRising board.edges.now }
+    requires small { AreSmall board.edges.now }
+    requires starts { AreStarts board.edges.now (length price_a.old) board.starts.now }
+    requires between { IsBetween board.edges.now price_a.old price_b.old link_a.old link_b.old 0 }
+    requires clean { IsClean (length price_a.old) (length price_b.old) tree.old }
+    requires queue { length board.edges.now ≤ tree.old.frontier.room }
+    ensures { IsBetween board.entry.edges.now price_a.new price_b.new link_a.new link_b.new (length price_a.new) }
+{
+    let net = Net {
+        edges: board.edges,
+        price_a,
+        price_b,
+    };
+    link_tight(net, link_a, link_b);
+    tree.looks = board.edges.len().saturating_mul(LOOKS);
+    search_each(
+        board.edges,
+        board.starts,
+        price_a,
+        price_b,
+        link_a,
+        link_b,
+        tree,
+    );
+    if waiting(price_a, link_a) == 0 {
+        return;
+    }
+    take_proposal(board, price_a, price_b, link_a, link_b, spare);
+    all_rounds(
+        board.edges,
+        board.starts,
+        price_a,
+        price_b,
+        link_a,
+        link_b,
+        tree,
+    );
+}
+
+/// Settles each record of a side.
 pub fn run(board: Board<'_>, side: &mut Side)
-    requires board { IsBoard (length side.old.price_a.items) (length side.old.price_b.items) board }
     requires rising { IsRising board.edges.now }
     requires small { AreSmall board.edges.now }
     requires starts { AreStarts board.edges.now (length side.old.price_a.items) board.starts.now }
@@ -145,17 +187,7 @@ pub fn run(board: Board<'_>, side: &mut Side)
         &mut side.link_a,
         &mut side.link_b,
         &mut side.tree,
-        &mut side.survey,
         &mut side.spare,
-    );
-    all_rounds(
-        board.edges,
-        board.starts,
-        &mut side.price_a,
-        &mut side.price_b,
-        &mut side.link_a,
-        &mut side.link_b,
-        &mut side.tree,
     );
 }
 
@@ -178,6 +210,8 @@ fn take_over(
     requires none_a { (a : ℕ) → link new_a.old a ≡ None }
     requires none_b { (b : ℕ) → link new_b.old b ≡ None }
     ensures between { IsBetween board.entry.edges.now price_a.new price_b.new link_a.new link_b.new 0 }
+    ensures joined { AreJoinedAs board.entry new_a.new new_b.new side.now.link_a.items (length side.now.link_a.items) }
+    ensures adopted { IsBetween board.entry.edges.now side.now.price_b.items side.now.price_a.items new_a.new new_b.new 0 → (price_a.new ≡ side.now.price_b.items) × (price_b.new ≡ side.now.price_a.items) × (link_a.new ≡ new_a.new) × (link_b.new ≡ new_b.new) }
 {
     join_as_turned(board, new_a, new_b, &side.link_a);
     let net = Net {
@@ -190,7 +224,6 @@ fn take_over(
 
 /// Lets the other side search first, if it is there, and takes its prices and links over.
 pub fn run_other(board: Board<'_>, side: &mut Side, other: Option<Other>)
-    requires board { IsBoard (length side.old.price_a.items) (length side.old.price_b.items) board }
     requires small { AreSmall board.turned.now }
     requires starts { IsRising board.turned.now → AreStarts board.turned.now (length side.old.price_b.items) board.turned_starts.now }
     requires side { IsSide board.edges.now side.old }
@@ -198,6 +231,7 @@ pub fn run_other(board: Board<'_>, side: &mut Side, other: Option<Other>)
     ensures side { IsSide board.entry.edges.now side.new }
     ensures rows_a { length side.new.price_a.items ≡ length side.old.price_a.items }
     ensures rows_b { length side.new.price_b.items ≡ length side.old.price_b.items }
+    ensures taken { MatchOption other (Unit {0}) (λ _. IsRising board.entry.turned.now → IsTakenOver board.entry side.new) }
 {
     let Some(mut other) = other else {
         return;

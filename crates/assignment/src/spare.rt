@@ -1,5 +1,7 @@
 // Prices and links that are proposed, and room for them.
+ghost use Rattle.std.specs.Prelude.{◌≡◌, length};
 ghost use Rattle.assignment_steps.specs.Between.{IsBetween};
+ghost use Rattle.assignment_steps.specs.Joined.{IsFor};
 
 use assignment_levels::Levels;
 use assignment_steps::{Board, adopt_proposal};
@@ -57,6 +59,7 @@ pub fn take_proposal(
 )
     requires between { IsBetween board.edges.now price_a.old price_b.old link_a.old link_b.old 0 }
     ensures between { IsBetween board.entry.edges.now price_a.new price_b.new link_a.new link_b.new 0 }
+    ensures adopted { IsFor (length price_a.old) (length price_b.old) spare.new.levels.price_a spare.new.levels.price_b spare.new.link_a.items spare.new.link_b.items → IsBetween board.entry.edges.now spare.new.levels.price_a spare.new.levels.price_b spare.new.link_a.items spare.new.link_b.items 0 → (price_a.new ≡ spare.new.levels.price_a) × (price_b.new ≡ spare.new.levels.price_b) × (link_a.new ≡ spare.new.link_a.items) × (link_b.new ≡ spare.new.link_b.items) }
 {
     put_free(&mut spare.link_a, price_a.len());
     put_free(&mut spare.link_b, price_b.len());

@@ -1,4 +1,5 @@
 // The levels, from few bits of the values to all.
+ghost use Rattle.std.specs.Prelude.{◌≡◌};
 
 use crate::level::{Level, cover, part_loose, turned};
 use crate::rounds::{Room, begin, run_rounds};
@@ -7,6 +8,7 @@ use crate::side::{Side, link};
 use assignment_steps::{Board, Edge, Proposal};
 use link_base::NoMemory;
 use std::alloc::Global;
+use std::marker::Model;
 
 /// How many bits of the greatest value the first level has.
 const FIRST_BITS: u32 = 3;
@@ -22,6 +24,14 @@ pub struct Levels {
     room: Room,
     price_a: Vec<u64>,
     price_b: Vec<u64>,
+}
+
+impl Model for Levels {
+    ghost use Rattle.assignment_levels.specs.Proposed.{Proposed};
+
+    ghost Value = { Proposed };
+
+    ghost view = { λ s. record { price_a = s.price_a.items; price_b = s.price_b.items; mates = s.own.mate.items } };
 }
 
 /// Copies prices, the least of each and the greatest number.
@@ -215,7 +225,11 @@ impl Levels {
     }
 
     /// The proposal: prices, and beside each record of A the number of the record of B that it is linked to.
-    pub fn proposal(&self) -> Proposal<'_> {
+    pub fn proposal(&self) -> Proposal<'_>
+        ensures price_a { result.price_a.now ≡ self.now.price_a }
+        ensures price_b { result.price_b.now ≡ self.now.price_b }
+        ensures mates { result.mates.now ≡ self.now.mates }
+    {
         Proposal {
             price_a: &self.price_a,
             price_b: &self.price_b,

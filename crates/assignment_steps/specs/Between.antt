@@ -1,5 +1,5 @@
--- What holds between two steps of an assignment: kept by `take`, `link_tight`, `look_back`, `follow_paths` and
--- `adopt_proposal` (clause `between` of each).
+-- What holds between two steps of an assignment: kept by `link_tight`, `adopt_all` and `adopt_proposal` (clause
+-- `between` of each).
 use Rattle.std.specs.Prelude.{◌≡◌, ℕ, ◌+◌, ◌<◌, ◌≤◌, List, length, Option, None}
 use Rattle.link_limits.specs.declared.TheConstants.{MOST_VALUE}
 use Rattle.assignment_steps.specs.declared.market.Edge.{Edge}

@@ -1,7 +1,5 @@
 pub mod Between
 pub mod Free
-pub mod Lists
+pub mod Joined
 pub mod Market
-pub mod Paths
-pub mod Survey
 pub mod Turned

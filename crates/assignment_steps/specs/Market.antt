@@ -2,7 +2,6 @@
 use Rattle.std.specs.Prelude.{◌≡◌, ℕ, ◌+◌, ◌<◌, ◌≤◌, List, length, slice_index_or, Option, Some, None}
 use Rattle.link_limits.specs.declared.TheConstants.{MOST_VALUE}
 use Rattle.assignment_steps.specs.declared.market.Edge.{Edge}
-use Rattle.assignment_steps.specs.declared.market.Board.{Board}
 
 abbrev pub no_edge : Edge
 no_edge = record { a = 0; b = 0; value = 0 }
@@ -58,10 +57,3 @@ pub record IsStart (es : List Edge) (a start : ℕ) : Type 0 where
 pub record AreStarts (es : List Edge) (rows : ℕ) (starts : List ℕ) : Type 0 where
   pub count : length starts ≡ rows + 1
   pub starts_at : (a : ℕ) → a ≤ rows → IsStart es a (number starts a)
-
--- edges by both sides, within the records
-pub record IsBoard (rows_a rows_b : ℕ) (board : Board) : Type 0 where
-  pub edges_in : IsInRange board.edges.now rows_a rows_b
-  pub turned_in : IsInRange board.turned.now rows_b rows_a
-  pub starts_count : length board.starts.now ≡ rows_a + 1
-  pub turned_count : length board.turned_starts.now ≡ rows_b + 1

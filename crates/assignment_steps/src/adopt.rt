@@ -1,8 +1,9 @@
-// Prices that are aimed at, and prices and links that are proposed: taken over where they serve.
+// Prices and links that are proposed: taken over where they serve.
 ghost use Rattle.std.specs.Prelude.{◌≡◌, ◌<◌, ◌≤◌, ◌↔◌, ℕ, length, slice_index, None, Some, IsTrue};
 ghost use Rattle.link_limits.specs.declared.TheConstants.{MOST_VALUE};
 ghost use Rattle.assignment_steps.specs.Market.{link, number, AreCovered, AreTight, IsInRange, IsMatched, IsTight};
 ghost use Rattle.assignment_steps.specs.Between.{IsBetween};
+ghost use Rattle.assignment_steps.specs.Joined.{AreJoinedWith, IsFor};
 
 use crate::market::{Board, Edge, Net, Proposal};
 use crate::other_links::join_mates;
@@ -98,33 +99,6 @@ fn serve(net: Net<'_>, link_a: &[Option<usize>], link_b: &[Option<usize>]) -> bo
     are_free_without_price(net.price_b, link_b)
 }
 
-/// Takes new prices over where they serve with the links; else the old prices stay.
-pub(crate) fn adopt(
-    edges: &[Edge],
-    price_a: &mut [u64],
-    price_b: &mut [u64],
-    link_a: &[Option<usize>],
-    link_b: &[Option<usize>],
-    new_a: &[u64],
-    new_b: &[u64],
-)
-    requires between { IsBetween edges.now price_a.old price_b.old link_a.now link_b.now 0 }
-    requires rows_a { length new_a.now ≡ length price_a.old }
-    requires rows_b { length new_b.now ≡ length price_b.old }
-    ensures between { IsBetween edges.now price_a.new price_b.new link_a.now link_b.now 0 }
-    ensures adopted { IsBetween edges.now new_a.now new_b.now link_a.now link_b.now 0 → (price_a.new ≡ new_a.now) × (price_b.new ≡ new_b.now) }
-{
-    let net = Net {
-        edges,
-        price_a: new_a,
-        price_b: new_b,
-    };
-    if serve(net, link_a, link_b) {
-        price_a.copy_from_slice(new_a);
-        price_b.copy_from_slice(new_b);
-    }
-}
-
 /// Takes new prices and links over where they serve; else all stays.
 pub fn adopt_all(
     net: Net<'_>,
@@ -176,6 +150,8 @@ pub fn adopt_proposal(
 )
     requires between { IsBetween board.edges.now price_a.old price_b.old link_a.old link_b.old 0 }
     ensures between { IsBetween board.entry.edges.now price_a.new price_b.new link_a.new link_b.new 0 }
+    ensures joined { IsFor (length price_a.old) (length price_b.old) proposal.entry.price_a.now proposal.entry.price_b.now spare_a.old spare_b.old → AreJoinedWith board.entry spare_a.new spare_b.new proposal.entry.mates.now (length proposal.entry.mates.now) }
+    ensures adopted { IsFor (length price_a.old) (length price_b.old) proposal.entry.price_a.now proposal.entry.price_b.now spare_a.old spare_b.old → IsBetween board.entry.edges.now proposal.entry.price_a.now proposal.entry.price_b.now spare_a.new spare_b.new 0 → (price_a.new ≡ proposal.entry.price_a.now) × (price_b.new ≡ proposal.entry.price_b.now) × (link_a.new ≡ spare_a.new) × (link_b.new ≡ spare_b.new) }
 {
     if proposal.price_a.len() != price_a.len() || proposal.price_b.len() != price_b.len() {
         return;

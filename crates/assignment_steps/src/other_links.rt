@@ -1,12 +1,13 @@
 // Links as links of the edges: of turned edges, and of records side by side.
-ghost use Rattle.std.specs.Prelude.{◌≡◌, ◌+◌, ◌<◌, ◌≤◌, ℕ, length, MatchOption};
-ghost use Rattle.assignment_steps.specs.Market.{IsBoard, IsMatched, IsInRange};
+ghost use Rattle.std.specs.Prelude.{◌≡◌, ◌≢◌, ◌<◌, ℕ, length, MatchOption, None, Some};
+ghost use Rattle.assignment_steps.specs.Market.{edge, link, IsMatched, IsInRange};
+ghost use Rattle.assignment_steps.specs.Joined.{AreJoined, AreJoinedAs, AreJoinedWith, IsJoined, IsOf};
 
 use crate::market::{Board, Edge};
 
 /// The place of the edge of two records.
 fn place_of(board: Board<'_>, a: usize, b: u32) -> Option<usize>
-    ensures { MatchOption result (Unit {0}) (λ k. k < length board.entry.edges.now) }
+    ensures { MatchOption result ((k : ℕ) → IsOf board.entry a k → (edge board.entry.edges.now k).b ≢ b) (λ k. IsOf board.entry a k × ((edge board.entry.edges.now k).b ≡ b)) }
 {
     if a >= board.starts.len() || a + 1 >= board.starts.len() {
         return None;
@@ -26,6 +27,9 @@ fn join(edges: &[Edge], link_a: &mut [Option<usize>], link_b: &mut [Option<usize
     requires in_range { IsInRange edges.now (length link_a.old) (length link_b.old) }
     requires matched { IsMatched edges.now link_a.old link_b.old }
     ensures matched { IsMatched edges.now link_a.new link_b.new }
+    ensures joined { IsJoined edges.now link_a.new link_b.new k }
+    ensures kept_a { (a : ℕ) → link link_a.new a ≡ None → link link_a.old a ≡ None }
+    ensures kept_b { (b : ℕ) → link link_b.new b ≡ None → link link_b.old b ≡ None }
 {
     let edge = edges[k];
     let a = edge.a as usize;
@@ -40,18 +44,21 @@ fn join(edges: &[Edge], link_a: &mut [Option<usize>], link_b: &mut [Option<usize
     link_b[b] = Some(k);
 }
 
-/// Links the records of a turned edge, if it is there.
+/// Links the records of the turned edge at a place, if there is one.
 fn join_turned(
     board: Board<'_>,
     link_a: &mut [Option<usize>],
     link_b: &mut [Option<usize>],
-    link: Option<usize>,
+    place: Option<usize>,
 )
     requires in_range { IsInRange board.edges.now (length link_a.old) (length link_b.old) }
     requires matched { IsMatched board.edges.now link_a.old link_b.old }
     ensures matched { IsMatched board.entry.edges.now link_a.new link_b.new }
+    ensures joined { (j : ℕ) → place ≡ Some j → j < length board.entry.turned.now → AreJoined board.entry link_a.new link_b.new (edge board.entry.turned.now j).b (edge board.entry.turned.now j).a }
+    ensures kept_a { (a : ℕ) → link link_a.new a ≡ None → link link_a.old a ≡ None }
+    ensures kept_b { (b : ℕ) → link link_b.new b ≡ None → link link_b.old b ≡ None }
 {
-    let Some(j) = link else {
+    let Some(j) = place else {
         return;
     };
     if j >= board.turned.len() {
@@ -74,9 +81,10 @@ pub fn join_as_turned(
     requires in_range { IsInRange board.edges.now (length link_a.old) (length link_b.old) }
     requires matched { IsMatched board.edges.now link_a.old link_b.old }
     ensures matched { IsMatched board.entry.edges.now link_a.new link_b.new }
+    ensures joined { AreJoinedAs board.entry link_a.new link_b.new links.now (length links.now) }
 {
-    for link in links {
-        join_turned(board, link_a, link_b, *link);
+    for i in 0..links.len() {
+        join_turned(board, link_a, link_b, links[i]);
     }
 }
 
@@ -91,6 +99,9 @@ fn join_mate(
     requires in_range { IsInRange board.edges.now (length link_a.old) (length link_b.old) }
     requires matched { IsMatched board.edges.now link_a.old link_b.old }
     ensures matched { IsMatched board.entry.edges.now link_a.new link_b.new }
+    ensures joined { AreJoined board.entry link_a.new link_b.new a mate }
+    ensures kept_a { (a : ℕ) → link link_a.new a ≡ None → link link_a.old a ≡ None }
+    ensures kept_b { (b : ℕ) → link link_b.new b ≡ None → link link_b.old b ≡ None }
 {
     let Some(k) = place_of(board, a, mate) else {
         return;
@@ -108,6 +119,7 @@ pub(crate) fn join_mates(
     requires in_range { IsInRange board.edges.now (length link_a.old) (length link_b.old) }
     requires matched { IsMatched board.edges.now link_a.old link_b.old }
     ensures matched { IsMatched board.entry.edges.now link_a.new link_b.new }
+    ensures joined { AreJoinedWith board.entry link_a.new link_b.new mates.now (length mates.now) }
 {
     for a in 0..mates.len() {
         join_mate(board, link_a, link_b, a, mates[a]);

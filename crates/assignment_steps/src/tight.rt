@@ -1,24 +1,18 @@
 // Links that are taken over tight edges.
-ghost use Rattle.std.specs.Prelude.{◌≡◌, ◌<◌, ℕ, None, Some, length};
+ghost use Rattle.std.specs.Prelude.{◌≡◌, ◌<◌, ℕ, None, length};
 ghost use Rattle.assignment_steps.specs.Between.{IsBetween};
-ghost use Rattle.assignment_steps.specs.Market.{edge, link, IsTight};
+ghost use Rattle.assignment_steps.specs.Market.{link};
 ghost use Rattle.assignment_steps.specs.Free.{AreSettled, IsSettled};
 
 use crate::market::Net;
 
-/// Links the records of the edge `k` where its record of A has no link and their prices add up to its value.
-/// The record of B gives up the link that it has, if it has one.
-pub(crate) fn take(
-    net: Net<'_>,
-    link_a: &mut [Option<usize>],
-    link_b: &mut [Option<usize>],
-    k: usize,
-)
+/// Links the records of the edge `k` where neither has a link and their prices add up to its value.
+fn take(net: Net<'_>, link_a: &mut [Option<usize>], link_b: &mut [Option<usize>], k: usize)
     requires place { k < length net.edges.now }
     requires between { IsBetween net.edges.now net.price_a.now net.price_b.now link_a.old link_b.old 0 }
     ensures between { IsBetween net.entry.edges.now net.entry.price_a.now net.entry.price_b.now link_a.new link_b.new 0 }
-    ensures taken { link link_a.old (edge net.entry.edges.now k).a ≡ None → IsTight net.entry.edges.now net.entry.price_a.now net.entry.price_b.now k → link link_a.new (edge net.entry.edges.now k).a ≡ Some k }
-    ensures kept_a { link link_b.old (edge net.entry.edges.now k).b ≡ None → (a : ℕ) → link link_a.new a ≡ None → link link_a.old a ≡ None }
+    ensures settled { IsSettled net.entry.edges.now net.entry.price_a.now net.entry.price_b.now link_a.new link_b.new k }
+    ensures kept_a { (a : ℕ) → link link_a.new a ≡ None → link link_a.old a ≡ None }
     ensures kept_b { (b : ℕ) → link link_b.new b ≡ None → link link_b.old b ≡ None }
 {
     let edge = net.edges[k];
@@ -27,28 +21,14 @@ pub(crate) fn take(
     if link_a[a].is_some() {
         return;
     }
+    if link_b[b].is_some() {
+        return;
+    }
     if net.price_a[a] + net.price_b[b] != edge.value as u64 {
         return;
     }
-    if let Some(j) = link_b[b] {
-        link_a[net.edges[j].a as usize] = None;
-    }
     link_a[a] = Some(k);
     link_b[b] = Some(k);
-}
-
-/// Takes the edge `k` where its record of B has no link.
-fn take_free(net: Net<'_>, link_a: &mut [Option<usize>], link_b: &mut [Option<usize>], k: usize)
-    requires place { k < length net.edges.now }
-    requires between { IsBetween net.edges.now net.price_a.now net.price_b.now link_a.old link_b.old 0 }
-    ensures between { IsBetween net.entry.edges.now net.entry.price_a.now net.entry.price_b.now link_a.new link_b.new 0 }
-    ensures settled { IsSettled net.entry.edges.now net.entry.price_a.now net.entry.price_b.now link_a.new link_b.new k }
-    ensures kept_a { (a : ℕ) → link link_a.new a ≡ None → link link_a.old a ≡ None }
-    ensures kept_b { (b : ℕ) → link link_b.new b ≡ None → link link_b.old b ≡ None }
-{
-    if link_b[net.edges[k].b as usize].is_none() {
-        take(net, link_a, link_b, k);
-    }
 }
 
 /// Links records without links over tight edges, in the order of the edges, until no tight edge joins two such records.
@@ -58,6 +38,6 @@ pub fn link_tight(net: Net<'_>, link_a: &mut [Option<usize>], link_b: &mut [Opti
     ensures settled { AreSettled net.entry.edges.now net.entry.price_a.now net.entry.price_b.now link_a.new link_b.new (length net.entry.edges.now) }
 {
     for k in 0..net.edges.len() {
-        take_free(net, link_a, link_b, k);
+        take(net, link_a, link_b, k);
     }
 }

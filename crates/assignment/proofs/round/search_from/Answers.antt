@@ -1,7 +1,7 @@
 use Rattle.std.proofs.Common.{◌<◌, length, arith}
 use Rattle.assignment.specs.Growth.{growth, with_waiting}
 use Rattle.assignment.proofs.Growing.{ends_as}
-use Rattle.assignment.proofs.Rounds.{tight_after, ways_after, best_within, between_searched}
+use Rattle.assignment.proofs.Rounds.{tight_after, ways_after, best_within, between_after, done_kept, root_done}
 use Rattle.assignment.proofs.round.search_from.Goals as goal
 
 pub turn-requires-clause-tight : goal.turn-requires-clause-tight
@@ -27,6 +27,23 @@ pub returns-clause-between : goal.returns-clause-between
 returns-clause-between c =
     let grown = c.in-Some.ensures.grown in
     let t = c.turn.ensures in
-    between_searched _ (with_waiting grown.0 (growth c.search.new.tree)) c.in-Some.grown.end c.in-Some.grown.free c.shift-2.new.price_a c.shift-2.new.price_b c.search.ensures.ready grown.1 c.shift-2.ensures.price_a c.shift-2.ensures.price_b
-    c.args.bounded c.turn.new.link_a c.turn.new.link_b c.requires.small c.requires.between c.shift-2.auto.price_a c.shift-2.auto.price_b t.rows_a t.rows_b t.matched t.tight
-    (rw c.shift-2.ensures.best_record at t.root) (rw c.shift-2.ensures.best_record at t.still_a) t.still_b
+    between_after _ (with_waiting grown.0 (growth c.search.new.tree)) c.in-Some.grown.end c.in-Some.grown.free c.shift-2.new.price_a c.shift-2.new.price_b c.search.ensures.ready grown.1 c.shift-2.ensures.price_a c.shift-2.ensures.price_b
+    c.turn.new.link_a c.turn.new.link_b c.requires.small c.requires.between c.shift-2.auto.price_a c.shift-2.auto.price_b t.rows_a t.rows_b t.matched t.tight t.still_b
+
+pub returns-clause-kept : goal.returns-clause-kept
+returns-clause-kept c =
+    let grown = c.in-Some.ensures.grown in
+    done_kept _ (with_waiting grown.0 (growth c.search.new.tree)) c.in-Some.grown.end c.in-Some.grown.free c.shift-2.new.price_a c.shift-2.new.price_b c.search.ensures.ready grown.1 c.shift-2.ensures.price_a c.shift-2.ensures.price_b
+    c.turn.new.link_a (rw c.shift-2.ensures.best_record at c.turn.ensures.still_a)
+
+pub returns-clause-done : goal.returns-clause-done
+returns-clause-done c _ =
+    let grown = c.in-Some.ensures.grown in
+    root_done _ (with_waiting grown.0 (growth c.search.new.tree)) c.in-Some.grown.end c.in-Some.grown.free c.shift-2.new.price_a c.shift-2.new.price_b c.search.ensures.ready grown.1 c.shift-2.ensures.price_a c.shift-2.ensures.price_b
+    c.turn.new.link_a (rw c.shift-2.ensures.best_record at c.turn.ensures.root)
+
+pub returns-clause-whole : goal.returns-clause-whole
+returns-clause-whole c _ =
+    let grown = c.in-Some.ensures.grown in
+    root_done _ (with_waiting grown.0 (growth c.search.new.tree)) c.in-Some.grown.end c.in-Some.grown.free c.shift-2.new.price_a c.shift-2.new.price_b c.search.ensures.ready grown.1 c.shift-2.ensures.price_a c.shift-2.ensures.price_b
+    c.turn.new.link_a (rw c.shift-2.ensures.best_record at c.turn.ensures.root)

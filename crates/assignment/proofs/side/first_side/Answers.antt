@@ -16,5 +16,4 @@ returns-in-Ok-clause-side c =
       between = rw (zero, free_a, c.in_ok-links.ensures.b) (between_first c.args.edges.now (length ps) rows_b ps c.requires.in_range c.requires.reach);
       clean = rw len_b (rw rows at room.clean);
       queue = room.queue;
-      room = room.survey;
     }

@@ -1,4 +1,4 @@
-use Rattle.std.proofs.Common.{◌≡◌, length, refl, arith}
+use Rattle.std.proofs.Common.{◌≡◌, ◌∙◌, length, refl, arith}
 use Rattle.std.proofs.lemmas.List.{with_items_is}
 use Rattle.assignment.proofs.side.run_other.Goals as goal
 
@@ -24,5 +24,25 @@ returns-clause-side c =
       between = rw (a, b, la, lb) t.ensures.between;
       clean = rw (a, b, rows_a, rows_b) c.requires.side.clean;
       queue = c.requires.side.queue;
-      room = c.requires.side.room;
     }
+
+pub returns-clause-taken : goal.returns-clause-taken
+returns-clause-taken c =
+    let s = c.args.side.now in
+    let o = c.run.new.side in
+    let t = c.take_over in
+    let a = with_items_is s.price_a t.new.price_a (omega (arith, t.auto.price_a, c.deref_mut.ensures.len)) in
+    let b = with_items_is s.price_b t.new.price_b (omega (arith, t.auto.price_b, c.deref_mut-2.ensures.len)) in
+    let la = with_items_is s.link_a t.new.link_a (omega (arith, t.auto.link_a, c.deref_mut-3.ensures.len)) in
+    let lb = with_items_is s.link_b t.new.link_b (omega (arith, t.auto.link_b, c.deref_mut-4.ensures.len)) in
+    rw c.in-Some.is (λ rising. record {
+      price_a = o.price_b.items;
+      price_b = o.price_a.items;
+      link_a = o.link_b.items;
+      link_b = o.link_a.items;
+      new_a = t.new.new_a;
+      new_b = t.new.new_b;
+      solved = c.run.ensures.between;
+      joined = t.ensures.joined;
+      adopted = λ serves. (let all = t.ensures.adopted serves in (a ∙ all.0, b ∙ all.1, la ∙ all.2, lb ∙ all.3));
+    })

@@ -1,13 +1,22 @@
-use Rattle.std.proofs.Common.{◌≡◌, None, sym, ◌∙◌}
+use Rattle.std.proofs.Common.{◌≡◌, None, Some, sym, ◌∙◌, get_or-set_same}
 use Rattle.assignment_steps.specs.Market.{link, edge}
 use Rattle.assignment_steps.proofs.Links.{matched_joined}
-use Rattle.assignment_steps.proofs.Taken.{not_linked}
+use Rattle.assignment_steps.proofs.Taken.{none_before, not_linked}
 use Rattle.assignment_steps.proofs.other_links.join.Goals as goal
 
 pub returns : goal.returns
 returns c =
     let es = c.args.edges.now in
     let k = c.args.k in
-    let free_a : link c.args.link_a.now (edge es k).a ≡ None = not_linked (link c.args.link_a.now (edge es k).a) (sym c.is_some.ensures ∙ c.if-is_some.false) in
-    let free_b : link c.args.link_b.now (edge es k).b ≡ None = not_linked (link c.args.link_b.now (edge es k).b) (sym c.is_some-2.ensures ∙ c.if-is_some-2.false) in
-    record { matched = matched_joined es _ _ k c.requires.matched c.requires.place (c.requires.in_range.record_a k c.requires.place) (c.requires.in_range.record_b k c.requires.place) free_a free_b }
+    let la = c.args.link_a.now in
+    let lb = c.args.link_b.now in
+    let ra = c.requires.in_range.record_a k c.requires.place in
+    let rb = c.requires.in_range.record_b k c.requires.place in
+    let free_a : link la (edge es k).a ≡ None = not_linked (link la (edge es k).a) (sym c.is_some.ensures ∙ c.if-is_some.false) in
+    let free_b : link lb (edge es k).b ≡ None = not_linked (link lb (edge es k).b) (sym c.is_some-2.ensures ∙ c.if-is_some-2.false) in
+    record {
+      matched = matched_joined es _ _ k c.requires.matched c.requires.place ra rb free_a free_b;
+      joined = λ none _. (let clash : Some k ≡ None = sym (get_or-set_same la (edge es k).a (Some k) None ra) ∙ none in cc);
+      kept_a = λ a none. none_before la (edge es k).a a k ra none;
+      kept_b = λ b none. none_before lb (edge es k).b b k rb none;
+    }

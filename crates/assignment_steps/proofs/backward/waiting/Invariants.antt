@@ -1,6 +1,0 @@
-use Rattle.std.proofs.Common.{◌≡◌, ◌<◌, ◌↔◌, ℕ, None}
-use Rattle.assignment_steps.specs.Market.{link, number}
-use Rattle.assignment_steps.proofs.backward.waiting.Given as goal
-
-abbrev pub invariant-loop-a : goal.invariant-loop-a
-invariant-loop-a l = (l.count ≡ 0) ↔ ((r : ℕ) → r < l.a → link l.link_a r ≡ None → number l.price_a r ≡ 0)
