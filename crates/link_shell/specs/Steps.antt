@@ -1,6 +1,6 @@
 -- The steps of a command up to its end: loads one after the other, and what is computed of the loaded bytes. Every call
 -- that goes through steps has the clause `Takes`.
-use Rattle.std.specs.Prelude.{◌≡◌, ◌⊎◌, ◌++◌, ◌∷◌, [], ℕ, List, Option, Some, None, Result, Ok, Err, IsOkAnd}
+use Rattle.std.specs.Prelude.{◌≡◌, ◌⊎◌, ◌++◌, ◌∷◌, [], ℕ, List, Result, Ok, Err, IsOkAnd}
 use Rattle.link_base.specs.Answers.{and_then}
 use Rattle.link_base.specs.declared.fault.Fault.{Fault}
 use Rattle.link_base.specs.declared.fault.Fault.TheVariants as fault
@@ -31,13 +31,6 @@ file_within limit r name = load r limit name (λ bytes. gives (Ok bytes))
 -- the load of a file of at most 64 MiB
 abbrev pub file : FileRole → List ℕ → Steps (List ℕ)
 file r name = file_within MOST_FILE_BYTES r name
-
--- the load of a file that has a name only where the settings give it one
-abbrev pub optional_file : FileRole → Option (List ℕ) → Steps (Option (List ℕ))
-optional_file r None = gives (Ok None)
-optional_file r (Some name) = do
-  bytes ← file r name
-  gives (Ok (Some bytes))
 
 -- what the steps come to over what names hold: their value, or the first refusal
 abbrev pub outcome : {T : Type 0} → Steps T → Held → Result T Fault

@@ -1,9 +1,9 @@
 // Loads of inputs.
-ghost use Rattle.std.specs.Prelude.{◌≡◌, ◌≤◌, ◌<◌, ◌+◌, ◌^◌, IfErr, IfOk, length, option_map};
+ghost use Rattle.std.specs.Prelude.{◌≡◌, ◌≤◌, ◌<◌, ◌+◌, ◌^◌, IfErr, IfOk, length};
 ghost use Rattle.link_limits.specs.declared.TheConstants.{MOST_WRITTEN_BYTES};
 ghost use Rattle.link_shell.specs.Loads.{HasLoadCause, IsLoadFault, loaded, LoadGives};
 ghost use Rattle.link_shell.specs.Seen.{store_seen};
-ghost use Rattle.link_shell.specs.Steps.{file, file_within, optional_file, Takes};
+ghost use Rattle.link_shell.specs.Steps.{file, file_within, Takes};
 
 use link_base::{Fault, FileRole, Text};
 use link_limits::{MOST_FILE_BYTES, MOST_WRITTEN_BYTES};
@@ -58,22 +58,4 @@ pub(crate) fn load_file<S: Store>(
     ensures { Takes (file role name.now) (store_seen S.tells S.held S.faults store.old store.new) result }
 {
     load_whole(alloc, store, name, role, MOST_FILE_BYTES)
-}
-
-// Loads a file of at most 64 MiB, where there is a name.
-pub(crate) fn load_optional<S: Store>(
-    alloc: Global,
-    store: &mut S,
-    name: Option<&str>,
-    role: FileRole,
-) -> Result<Option<Text>, Fault>
-    ensures { Takes (optional_file role (option_map (λ n. n.now) name.entry)) (store_seen S.tells S.held S.faults store.old store.new) result }
-{
-    match name {
-        Some(name) => {
-            let text = load_file(alloc, store, name, role)?;
-            Ok(Some(text))
-        }
-        None => Ok(None),
-    }
 }
