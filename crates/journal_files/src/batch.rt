@@ -7,9 +7,10 @@ ghost use Rattle.file_reader.specs.Layout.{wanted_of};
 ghost use Rattle.file_reader.specs.Rows.{TableRow, no_row};
 ghost use Rattle.journal_files.specs.Batch.{IsPlaced, verdict_in, verdicts_of, verdicts_read, verdicts_wanted};
 
+use crate::columns::layout_of;
 use crate::words::verdict_of;
 use file_reader::{Layout, Table, known_record, read_table};
-use link_base::{Fault, FileRole, NoMemory, StdFile, Text};
+use link_base::{Fault, FileRole, NoMemory, StdFile};
 use link_limits::MOST_ROWS;
 use review_journal::{NewVerdict, Verdicts};
 use std::alloc::Global;
@@ -18,16 +19,7 @@ fn layout(alloc: Global) -> Result<Layout, NoMemory>
     ensures wanted { IfOk result (λ layout. wanted_of layout ≡ verdicts_wanted) }
     ensures delimiter { IfOk result (λ layout. layout.delimiter ≡ 44) }
 {
-    let mut columns = Vec::new(alloc);
-    columns.push(Text::new(alloc, b"id_a")?)?;
-    columns.push(Text::new(alloc, b"id_b")?)?;
-    columns.push(Text::new(alloc, b"verdict")?)?;
-    Ok(Layout {
-        delimiter: b',',
-        id: None,
-        columns,
-        most_rows: MOST_ROWS,
-    })
+    layout_of(alloc, &[b"id_a", b"id_b", b"verdict"], MOST_ROWS)
 }
 
 // The new verdict of the row at a position.

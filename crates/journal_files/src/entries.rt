@@ -1,5 +1,5 @@
 // The entry of a row of a journal.
-ghost use Rattle.std.specs.Prelude.{◌≡◌, ◌<◌, IfErr, IfOk, length, true};
+ghost use Rattle.std.specs.Prelude.{◌≡◌, ◌<◌, IfErr, IfOk, OnOk, length, true};
 ghost use Rattle.link_base.specs.Fault.{Gives, IsAnswer, IsInputFault};
 ghost use Rattle.link_base.specs.Standard.{IsDay};
 ghost use Rattle.file_reader.specs.Table.{IsFieldText};
@@ -11,20 +11,20 @@ ghost use Rattle.journal_files.specs.Row.{written_of};
 
 use crate::row::Row;
 use crate::words::{step_of, verdict_of};
-use csv_rows::digits_of;
 use file_reader::known_record;
+use itoa::Buffer;
 use link_base::{Fault, FileRole, PairAt, StdFile, Text};
 use review_journal::{Entry, Journal};
 use std::alloc::Global;
 use value_forms::read_iso;
 
 // Tests that the number of a row is its own.
-fn test_number(alloc: Global, row: u32, text: &[u8]) -> Result<(), Fault>
+fn test_number(row: u32, text: &[u8]) -> Result<(), Fault>
     ensures kind { IfErr result IsInputFault }
     ensures answer { Gives (λ _. text.now) (numbered row text.now) result }
 {
-    let number = digits_of(alloc, u128::from(row))?;
-    if text != number.as_bytes() {
+    let mut digits = Buffer::new();
+    if text != digits.format(row).as_bytes() {
         return Err(Fault::BadNumber { row });
     }
     Ok(())
@@ -57,16 +57,17 @@ fn date_of(journal: &Journal, row: u32, text: &[u8]) -> Result<i32, Fault>
     Ok(date)
 }
 
-fn reviewer_of(alloc: Global, row: u32, text: &[u8]) -> Result<Text, Fault>
+// Tests that a row names a reviewer.
+fn test_reviewer(row: u32, text: &[u8]) -> Result<(), Fault>
     requires { IsFieldText text.now }
     ensures kind { IfErr result IsInputFault }
-    ensures answer { IsAnswer (signed row text.now) result }
-    ensures named { IfOk result IsReviewer }
+    ensures answer { Gives (λ _. text.now) (signed row text.now) result }
+    ensures named { OnOk result (IsReviewer text.now) }
 {
     if text.is_empty() {
         return Err(Fault::EmptyReviewer { row });
     }
-    Ok(Text::new(alloc, text)?)
+    Ok(())
 }
 
 // The pair of records that the ids of a row name.
@@ -115,7 +116,7 @@ pub(crate) fn entry_of(
     ensures follows { IfOk result (CanFollow journal.now) }
     ensures within { IfOk result (IsWithinFiles (length a.now) (length b.now)) }
 {
-    match test_number(alloc, number, row.number) {
+    match test_number(number, row.number) {
         Ok(()) => {}
         Err(fault) => return Err(fault),
     }
@@ -123,10 +124,10 @@ pub(crate) fn entry_of(
         Ok(date) => date,
         Err(fault) => return Err(fault),
     };
-    let reviewer = match reviewer_of(alloc, number, row.reviewer) {
-        Ok(reviewer) => reviewer,
+    match test_reviewer(number, row.reviewer) {
+        Ok(()) => {}
         Err(fault) => return Err(fault),
-    };
+    }
     let pair = match pair_of(alloc, number, row, a, b) {
         Ok(pair) => pair,
         Err(fault) => return Err(fault),
@@ -141,7 +142,7 @@ pub(crate) fn entry_of(
     };
     let entry = Entry {
         date,
-        reviewer,
+        reviewer: Text::new(alloc, row.reviewer)?,
         step,
         a: pair.a,
         b: pair.b,

@@ -2,6 +2,7 @@
 #![tactic(auto)]
 
 mod batch;
+mod columns;
 mod entries;
 mod laws;
 mod reading;

@@ -10,10 +10,11 @@ ghost use Rattle.review_journal.specs.Journal.{IsWithinFiles};
 ghost use Rattle.journal_files.specs.Reading.{entries_read, journal_in, journal_under, journal_wanted};
 ghost use Rattle.journal_files.specs.Rows.{journal_columns};
 
+use crate::columns::layout_of;
 use crate::entries::entry_of;
 use crate::row::row_at;
 use file_reader::{Layout, Table, has_column, read_table};
-use link_base::{Fault, FileRole, NoMemory, StdFile, Text};
+use link_base::{Fault, FileRole, NoMemory, StdFile};
 use link_limits::MOST_ENTRIES;
 use review_journal::Journal;
 use std::alloc::Global;
@@ -23,22 +24,33 @@ fn layout(alloc: Global, second: bool) -> Result<Layout, NoMemory>
     ensures wanted { IfOk result (λ layout. wanted_of layout ≡ journal_wanted second) }
     ensures delimiter { IfOk result (λ layout. layout.delimiter ≡ 44) }
 {
-    let mut columns = Vec::new(alloc);
-    columns.push(Text::new(alloc, b"number")?)?;
-    columns.push(Text::new(alloc, b"date")?)?;
-    columns.push(Text::new(alloc, b"reviewer")?)?;
     if second {
-        columns.push(Text::new(alloc, b"step")?)?;
+        return layout_of(
+            alloc,
+            &[
+                b"number",
+                b"date",
+                b"reviewer",
+                b"step",
+                b"id_a",
+                b"id_b",
+                b"verdict",
+            ],
+            MOST_ENTRIES,
+        );
     }
-    columns.push(Text::new(alloc, b"id_a")?)?;
-    columns.push(Text::new(alloc, b"id_b")?)?;
-    columns.push(Text::new(alloc, b"verdict")?)?;
-    Ok(Layout {
-        delimiter: b',',
-        id: None,
-        columns,
-        most_rows: MOST_ENTRIES,
-    })
+    layout_of(
+        alloc,
+        &[
+            b"number",
+            b"date",
+            b"reviewer",
+            b"id_a",
+            b"id_b",
+            b"verdict",
+        ],
+        MOST_ENTRIES,
+    )
 }
 
 // The journal in the rows of a table.

@@ -7,7 +7,8 @@ ghost use Rattle.journal_files.specs.Rows.{journal_columns};
 ghost use Rattle.journal_files.specs.Text.{entry_line, fields_with, text_of_journal};
 
 use crate::words::{word_of_step, word_of_verdict};
-use csv_rows::{digits_of, push_row};
+use csv_rows::push_row;
+use itoa::Buffer;
 use link_base::{NoMemory, StdFile, Text};
 use review_journal::{Entry, Journal};
 use std::alloc::Global;
@@ -58,7 +59,6 @@ fn push_line<'t>(
 
 // Appends the line of the entry at a place.
 fn push_entry(
-    alloc: Global,
     text: &mut Vec<u8>,
     at: u32,
     entry: &Entry,
@@ -70,9 +70,9 @@ fn push_entry(
     requires within { IsWithinFiles (length a.now) (length b.now) entry.now }
     ensures { OnOk result (text.new.items ≡ text.old.items ++ entry_line a.now b.now (at, entry.now)) }
 {
-    let number = digits_of(alloc, u128::from(at + 1))?;
+    let mut number = Buffer::new();
     let date = day_text(entry.date);
-    push_line(text, number.as_bytes(), &date, entry, a, b)
+    push_line(text, number.format(at + 1).as_bytes(), &date, entry, a, b)
 }
 
 /// The text of a journal, which is of the second version: the header `number,date,reviewer,step,id_a,id_b,verdict`, and a
@@ -90,7 +90,7 @@ pub fn journal_text(
     let mut text = Vec::new(alloc);
     push_header(&mut text)?;
     for at in 0..entries.len() {
-        push_entry(alloc, &mut text, at as u32, &entries[at], a, b)?;
+        push_entry(&mut text, at as u32, &entries[at], a, b)?;
     }
     Ok(Text::of(text))
 }
