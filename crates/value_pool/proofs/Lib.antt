@@ -5,3 +5,4 @@ pub mod PlaceLemmas
 pub mod RegionLemmas
 pub mod SearchLemmas
 pub mod TableLemmas
+pub mod TakenLemmas

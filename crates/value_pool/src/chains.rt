@@ -9,7 +9,7 @@ use link_base::NoMemory;
 use std::alloc::Global;
 
 /// Where a text stands among the bytes, its hash, and what its chain goes on with.
-#[derive(Clone, Copy, PartialEq, Eq)]
+#[derive(Clone, Copy)]
 pub(crate) struct Slot {
     pub(crate) start: u32,
     pub(crate) end: u32,

@@ -4,7 +4,7 @@ ghost use Rattle.std.specs.Prelude.{◌≡◌, ◌+◌, ◌≤◌, length};
 ghost use Rattle.value_pool.specs.Hashes.{eight_at, folded, four_at, hash_of, last_word};
 
 /// What a hash begins with, and what its words are multiplied by.
-#[derive(Clone, Copy, PartialEq, Eq)]
+#[derive(Clone, Copy)]
 pub(crate) struct HashKey {
     start: u64,
     factor: u64,

@@ -11,7 +11,7 @@ use std::alloc::Global;
 use std::marker::Model;
 
 /// Why a text was not taken.
-#[derive(Clone, Copy, PartialEq, Eq)]
+#[derive(Clone, Copy)]
 pub enum PoolFault {
     /// The text is new, and with it the texts would have `used` bytes, past the limit.
     Full { used: u64, limit: u64 },

@@ -32,7 +32,7 @@ pub(crate) struct Table {
 }
 
 /// What a search for a text gives.
-#[derive(Clone, Copy, PartialEq, Eq)]
+#[derive(Clone, Copy)]
 pub(crate) struct Search {
     /// The place of the text, where it is held.
     pub(crate) place: Option<u32>,

@@ -1,4 +1,4 @@
-use Rattle.std.proofs.Common.{◌≡◌, ◌+◌, ◌++◌, ◌∷◌, [], length, arith, rules, sym, ◌∙◌, ap, length-append}
+use Rattle.std.proofs.Common.{◌≡◌, ◌≤◌, ◌+◌, ◌-◌, ◌++◌, ◌∷◌, [], ℕ, length, vec_capacity, vec_len, arith, rules, sym, ◌∙◌, ap, length-append}
 use Rattle.value_pool.specs.declared.chains.Slot.{Slot}
 use Rattle.value_pool.specs.Region.{hashes_of, nexts_of, texts_at}
 use Rattle.value_pool.specs.Table.{texts_of}
@@ -8,6 +8,10 @@ use Rattle.value_pool.proofs.ChainLemmas.{chained-push, hashes-push, nexts-push}
 use Rattle.value_pool.proofs.HashLemmas.{hashed-push}
 use Rattle.value_pool.proofs.SearchLemmas.{as_many}
 use Rattle.value_pool.proofs.table.Table.append.Goals as goal
+
+-- room that is used up by what is appended, where the capacity has grown twice
+spare_left : (capacity len grown last longer more n m : ℕ) → capacity ≤ grown → grown ≤ last → len ≡ n → longer ≡ m → m ≡ n + more → capacity - len ≤ last - longer + more
+spare_left capacity len grown last longer more n m first second is_n is_m is = omega arith
 
 pub returns-clause-table : goal.returns-clause-table
 returns-clause-table c =
@@ -39,3 +43,26 @@ returns-clause-ok c =
     let grown : c.push.new.self.items ≡ table.slots.items ++ slot ∷ [] = search rules in
     let longer : c.extend_from_slice.new.self.items ≡ table.bytes.items ++ c.args.text.now = search rules in
     (λ i. texts_at (longer i) (grown i)) ∙ texts-push table.bytes.items c.args.text.now table.slots.items slot c.requires.table.within start (ap (λ n. n + length c.args.text.now) start)
+
+pub returns-clause-place : goal.returns-clause-place
+returns-clause-place c =
+    let table = c.args.self.now in
+    let place : c.len-place.result ≡ length table.slots.items = search rules in
+    place ∙ sym (length-map table.slots.items (λ (s : Slot). s.hash)) ∙ sym (as_many table.bytes.items table.slots.items)
+
+pub returns-clause-used : goal.returns-clause-used
+returns-clause-used c =
+    let table = c.args.self.now in
+    let longer : c.extend_from_slice.new.self.items ≡ table.bytes.items ++ c.args.text.now = search rules in
+    ap length longer ∙ length-append table.bytes.items c.args.text.now
+
+pub returns-clause-room : goal.returns-clause-room
+returns-clause-room c =
+    let table = c.args.self.now in
+    let slot : Slot = record { start = c.len-start.result; end = c.len-start.result + length c.args.text.now; next = c.index-next.result.now; hash = c.args.hash } in
+    let grown : c.push.new.self.items ≡ table.slots.items ++ slot ∷ [] = search rules in
+    let longer : c.extend_from_slice.new.self.items ≡ table.bytes.items ++ c.args.text.now = search rules in
+    record {
+      of_texts = spare_left (vec_capacity table.slots) (vec_len table.slots) _ _ _ 1 _ _ c.in_ok-reserve.ensures.capacity c.push.ensures.capacity table.slots.ok.0 c.push.new.self.ok.0 (ap length grown ∙ length-append table.slots.items (slot ∷ []));
+      of_bytes = spare_left (vec_capacity table.bytes) (vec_len table.bytes) _ _ _ (length c.args.text.now) _ _ c.in_ok-reserve-2.ensures.capacity c.extend_from_slice.ensures.capacity table.bytes.ok.0 c.extend_from_slice.new.self.ok.0 (ap length longer ∙ length-append table.bytes.items c.args.text.now);
+    }
