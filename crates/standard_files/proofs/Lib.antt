@@ -1,2 +1,3 @@
 pub mod FileSteps
+pub mod RowSteps
 pub mod SortFacts

@@ -1,6 +1,6 @@
 // The standard files of a plan.
 ghost use Rattle.std.specs.Prelude.{◌≡◌, ◌+◌, ◌*◌, ◌<◌, ◌≤◌, ◌∷◌, ◌++◌, [], All, length, IfErr, IfOk, IfSome, OnOk, None, if◌then◌else◌};
-ghost use Rattle.link_base.specs.Fault.{IsAnswer, IsInputFault};
+ghost use Rattle.link_base.specs.Fault.{Gives, IsAnswer, IsInputFault};
 ghost use Rattle.link_base.specs.Standard.{HaveDistinctIds, IsValid, Record};
 ghost use Rattle.file_reader.specs.Table.{Tests};
 ghost use Rattle.standard_files.specs.Files.{AreOfPlan, date_fault, IsReadTable, sorts_a, sorts_b, standard_file, standard_files, standard_pair};
@@ -71,6 +71,38 @@ fn test_dates(
     }
 }
 
+// Appends the records of a table in standard values, and counts the dates that cannot be read.
+fn push_records(
+    alloc: Global,
+    role: FileRole,
+    plan: &Plan,
+    tables: &ValueTables,
+    source: &Source,
+    file: &mut StdFile,
+) -> Result<u32, Fault>
+    requires tables { tables.now ≡ plan.now.tables }
+    requires table { IsReadTable plan.now source.now.table }
+    requires sorts { length source.now.sorts.items ≡ length plan.now.fields }
+    requires few { length source.now.sorts.items ≤ MOST_FIELDS }
+    requires empty { file.old ≡ [] }
+    ensures kind { IfErr result IsInputFault }
+    ensures answer { Gives (λ unreadable. record { records = file.new; unreadable = unreadable }) (standard_file role plan.now source.now.sorts.items source.now.table) result }
+    ensures valid { OnOk result (All (λ (r : Record). All IsValid r.row) file.new) }
+{
+    let table = &source.table;
+    let mut unreadable: u32 = 0;
+    for at in 0..table.rows() {
+        let row = standard_row(alloc, tables, &source.sorts, table, at)?;
+        match test_dates(alloc, role, plan, at + 1, row.first) {
+            Ok(()) => {}
+            Err(fault) => return Err(fault),
+        }
+        unreadable += row.unreadable;
+        file.push(Text::new(alloc, table.id(at))?, StdRow::new(row.values))?;
+    }
+    Ok(unreadable)
+}
+
 // The table of a file in standard values.
 fn standard_file(
     alloc: Global,
@@ -88,20 +120,44 @@ fn standard_file(
     ensures valid { IfOk result (λ file. All (λ (r : Record). All IsValid r.row) file.records) }
     ensures distinct { IfOk result (λ file. HaveDistinctIds file.records) }
 {
-    let table = &source.table;
     let mut file = StdFile::new(alloc)?;
-    let mut unreadable: u32 = 0;
-    for at in 0..table.rows() {
-        let row = standard_row(alloc, tables, &source.sorts, table, at)?;
-        match test_dates(alloc, role, plan, at + 1, row.first) {
-            Ok(()) => {}
-            Err(fault) => return Err(fault),
+    match push_records(alloc, role, plan, tables, source, &mut file) {
+        Ok(unreadable) => {
+            distinct_ids(&file);
+            Ok(StandardFile { file, unreadable })
         }
-        unreadable += row.unreadable;
-        file.push(Text::new(alloc, table.id(at))?, StdRow::new(row.values))?;
+        Err(fault) => Err(fault),
     }
-    distinct_ids(&file);
-    Ok(StandardFile { file, unreadable })
+}
+
+// Both tables in standard values, by the words of the plan.
+fn pair_by(
+    alloc: Global,
+    plan: &Plan,
+    tables: &ValueTables,
+    a: &Source,
+    b: &Source,
+) -> Result<StandardPair, Fault>
+    requires tables { tables.now ≡ plan.now.tables }
+    requires read_a { IsReadTable plan.now a.now.table }
+    requires read_b { IsReadTable plan.now b.now.table }
+    requires sorts_a { a.now.sorts.items ≡ sorts_a plan.now }
+    requires sorts_b { b.now.sorts.items ≡ sorts_b plan.now }
+    requires few_a { length a.now.sorts.items ≤ MOST_FIELDS }
+    requires few_b { length b.now.sorts.items ≤ MOST_FIELDS }
+    ensures kind { IfErr result IsInputFault }
+    ensures answer { IsAnswer (standard_pair plan.now a.now.table b.now.table) result }
+    ensures of_a { IfOk result (λ pair. AreOfPlan plan.now pair.a.records) }
+    ensures of_b { IfOk result (λ pair. AreOfPlan plan.now pair.b.records) }
+{
+    let of_a = match standard_file(alloc, FileRole::A, plan, tables, a) {
+        Ok(file) => file,
+        Err(fault) => return Err(fault),
+    };
+    match standard_file(alloc, FileRole::B, plan, tables, b) {
+        Ok(of_b) => Ok(StandardPair { a: of_a, b: of_b }),
+        Err(fault) => Err(fault),
+    }
 }
 
 // Both tables in standard values, A before B.
@@ -118,14 +174,7 @@ fn standard_pair(alloc: Global, plan: &Plan, a: &Source, b: &Source) -> Result<S
     ensures of_b { IfOk result (λ pair. AreOfPlan plan.now pair.b.records) }
 {
     let tables = ValueTables::new(alloc, &plan.tables)?;
-    let of_a = match standard_file(alloc, FileRole::A, plan, &tables, a) {
-        Ok(file) => file,
-        Err(fault) => return Err(fault),
-    };
-    match standard_file(alloc, FileRole::B, plan, &tables, b) {
-        Ok(of_b) => Ok(StandardPair { a: of_a, b: of_b }),
-        Err(fault) => Err(fault),
-    }
+    pair_by(alloc, plan, &tables, a, b)
 }
 
 /// Reads the two files of a plan and gives their standard values: the table of A, the table of B, and

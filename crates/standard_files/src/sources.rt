@@ -1,6 +1,9 @@
 // The tables of a plan's files, and what their fields hold.
-ghost use Rattle.std.specs.Prelude.{◌≡◌, ◌≤◌, length, map, IfErr, IfOk};
+ghost use Rattle.std.specs.Prelude.{◌≡◌, ◌≤◌, ◌++◌, ◌∷◌, [], length, map, IfErr, IfOk, OnOk};
 ghost use Rattle.link_base.specs.Fault.{Gives, IsInputFault};
+ghost use Rattle.csv_records.specs.Left.{records_in};
+ghost use Rattle.file_reader.specs.Layout.{wanted_of};
+ghost use Rattle.file_reader.specs.Table.{HasDistinctIds, HasTexts, HasWidth, table_of};
 ghost use Rattle.settings.specs.Plan.{FieldKeys};
 ghost use Rattle.standard_files.specs.Files.{IsReadTable, sorts_a, sorts_b, table_a, table_b};
 ghost use Rattle.standard_files.specs.Values.{sort_in_a, sort_in_b};
@@ -20,30 +23,58 @@ struct Columns {
     sorts: Vec<TextSort>,
 }
 
+// Appends the column of a field, and what it holds.
+fn push_column(
+    alloc: Global,
+    columns: &mut Columns,
+    name: &Text,
+    sort: TextSort,
+) -> Result<(), NoMemory>
+    ensures names { OnOk result (columns.new.names.items ≡ columns.old.names.items ++ name.now ∷ []) }
+    ensures sorts { OnOk result (columns.new.sorts.items ≡ columns.old.sorts.items ++ sort ∷ []) }
+{
+    let name = name.copy(alloc)?;
+    columns.names.push(name)?;
+    columns.sorts.push(sort)?;
+    Ok(())
+}
+
 fn columns_a(alloc: Global, fields: &[FieldPlan]) -> Result<Columns, NoMemory>
     ensures names { IfOk result (λ columns. columns.names.items ≡ map (λ (f : FieldKeys). f.column_a) fields.now) }
     ensures sorts { IfOk result (λ columns. columns.sorts.items ≡ map (λ (f : FieldKeys). sort_in_a f.sort) fields.now) }
 {
-    let mut names = Vec::new(alloc);
-    let mut sorts = Vec::new(alloc);
+    let mut columns = Columns {
+        names: Vec::new(alloc),
+        sorts: Vec::new(alloc),
+    };
     for field in fields {
-        names.push(field.column_a.copy(alloc)?)?;
-        sorts.push(TextSort::in_a(field.sort))?;
+        push_column(
+            alloc,
+            &mut columns,
+            &field.column_a,
+            TextSort::in_a(field.sort),
+        )?;
     }
-    Ok(Columns { names, sorts })
+    Ok(columns)
 }
 
 fn columns_b(alloc: Global, fields: &[FieldPlan]) -> Result<Columns, NoMemory>
     ensures names { IfOk result (λ columns. columns.names.items ≡ map (λ (f : FieldKeys). f.column_b) fields.now) }
     ensures sorts { IfOk result (λ columns. columns.sorts.items ≡ map (λ (f : FieldKeys). sort_in_b f.sort) fields.now) }
 {
-    let mut names = Vec::new(alloc);
-    let mut sorts = Vec::new(alloc);
+    let mut columns = Columns {
+        names: Vec::new(alloc),
+        sorts: Vec::new(alloc),
+    };
     for field in fields {
-        names.push(field.column_b.copy(alloc)?)?;
-        sorts.push(TextSort::in_b(field.sort))?;
+        push_column(
+            alloc,
+            &mut columns,
+            &field.column_b,
+            TextSort::in_b(field.sort),
+        )?;
     }
-    Ok(Columns { names, sorts })
+    Ok(columns)
 }
 
 // The table of a file, and what its fields hold.
@@ -51,6 +82,28 @@ fn columns_b(alloc: Global, fields: &[FieldPlan]) -> Result<Columns, NoMemory>
 pub(crate) struct Source {
     pub(crate) table: Table,
     pub(crate) sorts: Vec<TextSort>,
+}
+
+// The table of a file whose fields hold these sorts of texts.
+fn read_source(
+    alloc: Global,
+    bytes: &[u8],
+    role: FileRole,
+    layout: Layout,
+    sorts: Vec<TextSort>,
+) -> Result<Source, Fault>
+    ensures kind { IfErr result IsInputFault }
+    ensures few { IfOk result (λ source. length source.table ≤ layout.most_rows) }
+    ensures width { IfOk result (λ source. HasWidth (wanted_of layout) source.table) }
+    ensures texts { IfOk result (λ source. HasTexts source.table) }
+    ensures distinct { IfOk result (λ source. HasDistinctIds (wanted_of layout) source.table) }
+    ensures answer { Gives (λ (source : Source). source.table) (table_of role (wanted_of layout) (records_in layout.delimiter bytes.now)) result }
+    ensures sorts { IfOk result (λ source. source.sorts.items ≡ sorts.items) }
+{
+    match read_table(alloc, bytes, role, &layout) {
+        Ok(table) => Ok(Source { table, sorts }),
+        Err(fault) => Err(fault),
+    }
 }
 
 pub(crate) fn read_a(alloc: Global, plan: &Plan, bytes: &[u8]) -> Result<Source, Fault>
@@ -67,11 +120,8 @@ pub(crate) fn read_a(alloc: Global, plan: &Plan, bytes: &[u8]) -> Result<Source,
         columns: columns.names,
         most_rows: MOST_ROWS,
     };
-    match read_table(alloc, bytes, FileRole::A, &layout) {
-        Ok(table) => Ok(Source {
-            table,
-            sorts: columns.sorts,
-        }),
+    match read_source(alloc, bytes, FileRole::A, layout, columns.sorts) {
+        Ok(source) => Ok(source),
         Err(fault) => Err(fault),
     }
 }
@@ -90,11 +140,8 @@ pub(crate) fn read_b(alloc: Global, plan: &Plan, bytes: &[u8]) -> Result<Source,
         columns: columns.names,
         most_rows: MOST_ROWS,
     };
-    match read_table(alloc, bytes, FileRole::B, &layout) {
-        Ok(table) => Ok(Source {
-            table,
-            sorts: columns.sorts,
-        }),
+    match read_source(alloc, bytes, FileRole::B, layout, columns.sorts) {
+        Ok(source) => Ok(source),
         Err(fault) => Err(fault),
     }
 }

@@ -1,7 +1,7 @@
 use Rattle.link_base.specs.declared.fault.FileRole.TheVariants as role
 use Rattle.standard_files.specs.Values.{sort_in_a, sort_in_b}
 use Rattle.standard_files.proofs.SortFacts.{a_keeps, b_keeps, file_of_plan}
-use Rattle.standard_files.proofs.files.standard_pair.Goals as goal
+use Rattle.standard_files.proofs.files.pair_by.Goals as goal
 
 pub returns-in-Ok-standard_file-clause-of_a : goal.returns-in-Ok-standard_file-clause-of_a
 returns-in-Ok-standard_file-clause-of_a c =

@@ -4,7 +4,7 @@ use Rattle.std.specs.Prelude.{if◌then◌else◌}
 use Rattle.link_base.specs.Standard.{IsValid, Record}
 use Rattle.standard_files.specs.Files.{dates_fault}
 use Rattle.standard_files.specs.Values.{standard_records, unreadable_in}
-use Rattle.standard_files.proofs.files.standard_file.Given as goal
+use Rattle.standard_files.proofs.files.push_records.Given as goal
 
 abbrev pub invariant-loop-at : goal.invariant-loop-at
 invariant-loop-at l = record {

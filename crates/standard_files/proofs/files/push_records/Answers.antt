@@ -6,7 +6,7 @@ use Rattle.link_base.specs.Standard.{IsValid, Record}
 use Rattle.file_reader.specs.Rows.{no_row, TableRow}
 use Rattle.standard_files.specs.Values.{unreadable_in_row}
 use Rattle.standard_files.proofs.FileSteps.{fresh, one_record, row_passed, row_refused}
-use Rattle.standard_files.proofs.files.standard_file.Goals as goal
+use Rattle.standard_files.proofs.files.push_records.Goals as goal
 
 pub returns-in-Err-clause-answer : goal.returns-in-Err-clause-answer
 returns-in-Err-clause-answer c =
@@ -25,7 +25,7 @@ loop-at-preserved c =
     let first = rw (c.deref.ensures.value, c.requires.tables) at c.in_ok-row.ensures.first in
     let values = rw c.deref.ensures.value at c.in_ok-row.ensures.values in
     let unreadable = rw c.deref.ensures.value at c.in_ok-row.ensures.unreadable in
-    let new = rw c.new-in-loop-at-2.ensures at c.in_ok-push.ensures.ok in
+    let new = rw c.new-in-loop-at.ensures at c.in_ok-push.ensures.ok in
     record {
       records = one_record c.args.tables.now c.args.source.now.sorts.items c.args.source.now.table c.loop-at.at c.loop-at.file c.push.new.self c.in_ok-new.field-0 c.in_ok-row.row.values.items within c.loop-at.invariant.records (c.in_ok-new.ensures ∙ c.id.ensures) values new;
       unreadable = rw (sum_by_more (λ (row : TableRow). unreadable_in_row c.args.tables.now c.args.source.now.sorts.items row.fields) c.args.source.now.table c.loop-at.at no_row within) (λ i. c.loop-at.invariant.unreadable i + unreadable i);
