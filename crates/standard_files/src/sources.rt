@@ -1,6 +1,6 @@
 // The tables of a plan's files, and what their fields hold.
 ghost use Rattle.std.specs.Prelude.{◌≡◌, ◌≤◌, ◌++◌, ◌∷◌, [], length, map, IfErr, IfOk, OnOk};
-ghost use Rattle.link_base.specs.Fault.{Gives, IsInputFault};
+ghost use Rattle.link_base.specs.Fault.{Gives, IsAnswer, IsInputFault};
 ghost use Rattle.csv_records.specs.Left.{records_in};
 ghost use Rattle.file_reader.specs.Layout.{wanted_of};
 ghost use Rattle.file_reader.specs.Table.{HasDistinctIds, HasTexts, HasWidth, table_of};
@@ -84,26 +84,16 @@ pub(crate) struct Source {
     pub(crate) sorts: Vec<TextSort>,
 }
 
-// The table of a file whose fields hold these sorts of texts.
-fn read_source(
-    alloc: Global,
-    bytes: &[u8],
-    role: FileRole,
-    layout: Layout,
-    sorts: Vec<TextSort>,
-) -> Result<Source, Fault>
+// The table of a file by a layout of its own.
+fn read_by(alloc: Global, bytes: &[u8], role: FileRole, layout: Layout) -> Result<Table, Fault>
     ensures kind { IfErr result IsInputFault }
-    ensures few { IfOk result (λ source. length source.table ≤ layout.most_rows) }
-    ensures width { IfOk result (λ source. HasWidth (wanted_of layout) source.table) }
-    ensures texts { IfOk result (λ source. HasTexts source.table) }
-    ensures distinct { IfOk result (λ source. HasDistinctIds (wanted_of layout) source.table) }
-    ensures answer { Gives (λ (source : Source). source.table) (table_of role (wanted_of layout) (records_in layout.delimiter bytes.now)) result }
-    ensures sorts { IfOk result (λ source. source.sorts.items ≡ sorts.items) }
+    ensures few { IfOk result (λ table. length table ≤ layout.most_rows) }
+    ensures width { IfOk result (HasWidth (wanted_of layout)) }
+    ensures texts { IfOk result HasTexts }
+    ensures distinct { IfOk result (HasDistinctIds (wanted_of layout)) }
+    ensures answer { IsAnswer (table_of role (wanted_of layout) (records_in layout.delimiter bytes.now)) result }
 {
-    match read_table(alloc, bytes, role, &layout) {
-        Ok(table) => Ok(Source { table, sorts }),
-        Err(fault) => Err(fault),
-    }
+    read_table(alloc, bytes, role, &layout)
 }
 
 pub(crate) fn read_a(alloc: Global, plan: &Plan, bytes: &[u8]) -> Result<Source, Fault>
@@ -120,8 +110,11 @@ pub(crate) fn read_a(alloc: Global, plan: &Plan, bytes: &[u8]) -> Result<Source,
         columns: columns.names,
         most_rows: MOST_ROWS,
     };
-    match read_source(alloc, bytes, FileRole::A, layout, columns.sorts) {
-        Ok(source) => Ok(source),
+    match read_by(alloc, bytes, FileRole::A, layout) {
+        Ok(table) => Ok(Source {
+            table,
+            sorts: columns.sorts,
+        }),
         Err(fault) => Err(fault),
     }
 }
@@ -140,8 +133,11 @@ pub(crate) fn read_b(alloc: Global, plan: &Plan, bytes: &[u8]) -> Result<Source,
         columns: columns.names,
         most_rows: MOST_ROWS,
     };
-    match read_source(alloc, bytes, FileRole::B, layout, columns.sorts) {
-        Ok(source) => Ok(source),
+    match read_by(alloc, bytes, FileRole::B, layout) {
+        Ok(table) => Ok(Source {
+            table,
+            sorts: columns.sorts,
+        }),
         Err(fault) => Err(fault),
     }
 }
