@@ -2,22 +2,13 @@
 //! the host, and prints or writes what a command's words ask for.
 #![tactic(auto)]
 
-mod host_files;
-mod host_stream;
-mod words;
-
-use host_files::HostFiles;
-use host_stream::HostStream;
+use host_outside::{HostFiles, HostStream, words_after_name};
 use link_shell::linkage;
 use std::env;
 use std::process::ExitCode;
-use words::words_after_name;
 
 /// The exit status for want of memory.
 const NO_MEMORY: u8 = 8;
-
-#[cfg(test)]
-mod tests;
 
 fn main(rt: HostRuntime) -> ExitCode {
     let alloc = rt.alloc();

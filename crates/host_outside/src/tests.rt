@@ -1,6 +1,5 @@
 // The adapters on the host.
-use crate::host_files::HostFiles;
-use crate::host_stream::HostStream;
+use crate::{HostFiles, HostStream};
 use link_outside::{Load, Sink, SinkError, Store, StoreError};
 use std::io::Write;
 use std::test::Fail;

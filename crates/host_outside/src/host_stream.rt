@@ -8,14 +8,14 @@ use std::io::Write;
 /// A stream of the host, which tells nothing of what it has taken, and counts its faults. A stream that takes
 /// nothing of bytes that it is handed has failed.
 #[derive(Drop)]
-pub(crate) struct HostStream<W> {
+pub struct HostStream<W> {
     inner: W,
     faults: u64,
 }
 
 impl<W> HostStream<W> {
     /// A stream that has not failed yet.
-    pub(crate) fn new(inner: W) -> HostStream<W>
+    pub fn new(inner: W) -> HostStream<W>
         ensures { result.faults ≡ 0 }
     {
         HostStream { inner, faults: 0 }

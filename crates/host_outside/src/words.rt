@@ -15,7 +15,7 @@ fn after_name(mut all: Vec<String>) -> Vec<String>
 }
 
 /// The words after the program's name; none where the system does not give them as text.
-pub(crate) fn words_after_name(
+pub fn words_after_name(
     alloc: Global,
     args: io::Result<env::Args>,
 ) -> Result<Vec<String>, AllocError> {

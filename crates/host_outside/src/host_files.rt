@@ -14,14 +14,14 @@ use std::{fs, io};
 /// `NAME.new`, has the host keep it on its disk, and renames it, so a crash leaves the old file or the new one, and a
 /// file of that name is lost. Where it ends well the host keeps the new name too.
 #[derive(Drop)]
-pub(crate) struct HostFiles<'r, R> {
+pub struct HostFiles<'r, R> {
     rt: &'r R,
     faults: Vec<StoreCall>,
 }
 
 impl<'r, R> HostFiles<'r, R> {
     /// The files of the host, none of whose calls has failed yet.
-    pub(crate) fn new(alloc: Global, rt: &'r R) -> HostFiles<'r, R>
+    pub fn new(alloc: Global, rt: &'r R) -> HostFiles<'r, R>
         ensures { result.faults.items ≡ [] }
     {
         HostFiles {

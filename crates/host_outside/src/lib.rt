@@ -1,0 +1,12 @@
+//! The outside of a run on the host: its files as a store, its streams as sinks, and the words that it was called with.
+#![tactic(auto)]
+
+mod host_files;
+mod host_stream;
+#[cfg(test)]
+mod tests;
+mod words;
+
+pub use host_files::HostFiles;
+pub use host_stream::HostStream;
+pub use words::words_after_name;
