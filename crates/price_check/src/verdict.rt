@@ -2,7 +2,7 @@
 use link_base::FileRole;
 
 /// Why prices do not certify links: the first reason in this order.
-#[derive(Clone, Copy, PartialEq, Eq)]
+#[derive(Clone, Copy)]
 pub enum Reason {
     /// The link at this index is no candidate.
     NotCandidate { index: u32 },
@@ -17,7 +17,7 @@ pub enum Reason {
 }
 
 /// Whether prices certify links as a greatest one-to-one list.
-#[derive(Clone, Copy, PartialEq, Eq)]
+#[derive(Clone, Copy)]
 pub enum Verified {
     Yes,
     No(Reason),
