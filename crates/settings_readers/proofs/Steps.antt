@@ -6,6 +6,7 @@ use Rattle.std.proofs.lemmas.List.{drop_more}
 use Rattle.toml.specs.Data.{Data, as_array}
 use Rattle.toml.specs.View.{items_view, view}
 use Rattle.toml.specs.declared.value.Value.{Value}
+use Rattle.link_base.proofs.AnswerFacts.{refuses_then}
 use Rattle.link_base.specs.Answers.{RefusesBut}
 use Rattle.link_base.specs.Fault.{Gives, IsAnswer, is_want}
 use Rattle.link_base.specs.declared.fault.Fault.{Fault}
@@ -41,18 +42,13 @@ each_more {A = A} read above vs i v before seen more x total lt is same reads gr
 pub one_longer : {A : Type 0} (before more : List A) (x : A) (i : ℕ) → more ≡ before ++ x ∷ [] → length before ≡ i → length more ≡ i + 1
 one_longer before more x i grown len = omega (arith, ap length grown, length-append before (x ∷ []), len)
 
--- a refusal goes through the parts that come after
-pub refused_then : {A B : Type 0} (b : Bool) (r : Result A Fault) (next : A → Result B Fault) (f : Fault) → MatchBool b ⊤ (r ≡ Err f) → MatchBool b ⊤ ((r >>= next) ≡ Err f)
-refused_then true r next f h = tt
-refused_then false r next f h = ap (λ q. q >>= next) h
-
 -- an item that is refused
 pub each_refused : {A : Type 0} (read : List A → List ℕ → Data → Result A Fault) (above : List ℕ) (vs : List Value) (i : ℕ) (v : Value) (before seen : List A) (f : Fault) (total : Result (List A) Fault) → i < length vs → v ≡ get_or vs i v
     → seen ≡ before → RefusesBut is_want (read seen (above ++ decimal (i + 1)) (view v)) f → each read above (items_view (drop i vs)) before (i + 1) ≡ total
     → RefusesBut is_want total f
 each_refused read above vs i v before seen f total lt is same refused so_far =
     let here : RefusesBut is_want (read before (above ++ decimal (i + 1)) (view v)) f = subst (λ b. RefusesBut is_want (read b (above ++ decimal (i + 1)) (view v)) f) same refused in
-    let all = refused_then (is_want f) (read before (above ++ decimal (i + 1)) (view v)) (λ y. each read above (items_view (drop (i + 1) vs)) (before ++ y ∷ []) (i + 1 + 1)) f here in
+    let all = refuses_then (read before (above ++ decimal (i + 1)) (view v)) (λ y. each read above (items_view (drop (i + 1) vs)) (before ++ y ∷ []) (i + 1 + 1)) f here in
     subst (λ r. RefusesBut is_want r f) (sym (each_from read above vs i v before lt is) ∙ so_far) all
 
 refused_same : {X T : Type 0} (b : Bool) (f g : Fault) (given : Result X Fault) (expected : Result T Fault) → given ≡ Err f → expected ≡ Err f → MatchBool b ⊤ (given ≡ Err g) → MatchBool b ⊤ (expected ≡ Err g)
