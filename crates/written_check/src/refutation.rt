@@ -4,7 +4,7 @@ use std::alloc::AllocFailed;
 
 /// Why written files are not what a run may write: the first reason in this order. Rows are numbered from 1 after the header, and 0 is
 /// the header.
-#[derive(Clone, Copy, PartialEq, Eq)]
+#[derive(Clone, Copy)]
 pub enum Refutation {
     /// The row of the rule that is not that of its cell, is missing, or is one too many.
     Rule { row: u32 },
