@@ -1,3 +1,4 @@
+pub mod StepLemmas
 pub mod ReadyLemmas
 pub mod PreparedLemmas
 pub mod PairLemmas

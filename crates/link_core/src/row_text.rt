@@ -7,7 +7,7 @@ use link_base::{NoMemory, PairAt};
 use std::alloc::Global;
 
 // Appends the number of a row in decimal digits.
-fn push_row(text: &mut Vec<u8>, row: u64) -> Result<(), NoMemory>
+pub(crate) fn push_row(text: &mut Vec<u8>, row: u64) -> Result<(), NoMemory>
     ensures { OnOk result (text.new.items ≡ text.old.items ++ decimal row) }
 {
     let mut digits = Buffer::new();

@@ -1,5 +1,6 @@
 // What an auditor is told of written files.
 ghost use Rattle.std.specs.Prelude.{◌≡◌, ◌++◌, ◌≤◌, [], Err, IfOk, OnOk, decimal, length};
+ghost use Rattle.std.specs.Fmt.{signed_decimal};
 ghost use Rattle.link_core.specs.Decisions.{IsDecidedIn};
 ghost use Rattle.link_core.specs.Results.{candidates_in, IsDecidedFor};
 ghost use Rattle.link_core.specs.Verify.{RunIsVerified, Verifies, line_of, reason_text, verified_in};
@@ -12,7 +13,9 @@ ghost use Rattle.written_check.specs.declared.refutation.Refutation.TheVariants 
 
 use crate::preparing::Prepared;
 use crate::results::candidates;
+use crate::row_text::push_row;
 use candidate_links::candidates_are_bounded;
+use itoa::Buffer;
 use link_base::{NoMemory, PairAt, StdFile, Text};
 use pair_decisions::Decided;
 use review_journal::Journal;
@@ -28,12 +31,11 @@ pub struct Verification {
 }
 
 // Appends the reason of a row.
-fn push_row(alloc: Global, text: &mut Vec<u8>, name: &[u8], row: u32) -> Result<(), NoMemory>
+fn push_place(text: &mut Vec<u8>, name: &[u8], row: u32) -> Result<(), NoMemory>
     ensures { OnOk result (text.new.items ≡ text.old.items ++ (name.now ++ decimal row)) }
 {
     text.extend_from_slice(name)?;
-    text.extend_from_slice(format!(in alloc; "{row}")?.as_bytes())?;
-    Ok(())
+    push_row(text, u64::from(row))
 }
 
 // Appends the reason of a candidate that is not covered.
@@ -48,20 +50,27 @@ fn push_uncovered(text: &mut Vec<u8>, at: PairAt, a: &StdFile, b: &StdFile) -> R
     Ok(())
 }
 
+// Appends a sum in decimal digits.
+fn push_sum(text: &mut Vec<u8>, sum: i64) -> Result<(), NoMemory>
+    ensures { OnOk result (text.new.items ≡ text.old.items ++ signed_decimal sum) }
+{
+    let mut digits = Buffer::new();
+    text.extend_from_slice(digits.format(sum).as_bytes())?;
+    Ok(())
+}
+
 // Appends the reason of two sums.
-fn push_sums(alloc: Global, text: &mut Vec<u8>, links: i64, prices: i64) -> Result<(), NoMemory>
+fn push_sums(text: &mut Vec<u8>, links: i64, prices: i64) -> Result<(), NoMemory>
     ensures { OnOk result (text.new.items ≡ text.old.items ++ reason_text [] [] (refutation.Sum links prices)) }
 {
     text.extend_from_slice(b"sum ")?;
-    text.extend_from_slice(format!(in alloc; "{links}")?.as_bytes())?;
+    push_sum(text, links)?;
     text.extend_from_slice(b" ")?;
-    text.extend_from_slice(format!(in alloc; "{prices}")?.as_bytes())?;
-    Ok(())
+    push_sum(text, prices)
 }
 
 // Appends a reason.
 fn push_reason(
-    alloc: Global,
     text: &mut Vec<u8>,
     refutation: Refutation,
     a: &StdFile,
@@ -71,12 +80,12 @@ fn push_reason(
     ensures { OnOk result (text.new.items ≡ text.old.items ++ reason_text a.now b.now refutation) }
 {
     match refutation {
-        Refutation::Rule { row } => push_row(alloc, text, b"rule ", row),
-        Refutation::Link { row } => push_row(alloc, text, b"link ", row),
-        Refutation::Reused { row } => push_row(alloc, text, b"reused ", row),
-        Refutation::Price { row } => push_row(alloc, text, b"price ", row),
+        Refutation::Rule { row } => push_place(text, b"rule ", row),
+        Refutation::Link { row } => push_place(text, b"link ", row),
+        Refutation::Reused { row } => push_place(text, b"reused ", row),
+        Refutation::Price { row } => push_place(text, b"price ", row),
         Refutation::Uncovered { at } => push_uncovered(text, at, a, b),
-        Refutation::Sum { links, prices } => push_sums(alloc, text, links, prices),
+        Refutation::Sum { links, prices } => push_sums(text, links, prices),
         Refutation::NoMemory => Err(NoMemory),
     }
 }
@@ -92,7 +101,7 @@ fn refuted_line(
 {
     let mut text = Vec::new(alloc);
     text.extend_from_slice(b"no: ")?;
-    push_reason(alloc, &mut text, refutation, prepared.a(), prepared.b())?;
+    push_reason(&mut text, refutation, prepared.a(), prepared.b())?;
     text.push(b'\n')?;
     Ok(Text::of(text))
 }

@@ -1,7 +1,7 @@
 use Rattle.std.proofs.Common.{◌≡◌, ◌<◌, ◌∙◌, Bool, List, ap, arith, subst, sym}
 use Rattle.std.specs.Prelude.{All}
 use Rattle.std.proofs.lemmas.Int.{ints}
-use Rattle.candidate_links.specs.Candidates.{candidates_of, HasBounds}
+use Rattle.candidate_links.specs.Candidates.{HasBounds}
 use Rattle.link_base.specs.Rule.{IsWithinRanges}
 use Rattle.link_base.specs.declared.rule.Candidate.{Candidate}
 use Rattle.link_base.specs.declared.rule.RuleCell.{RuleCell}
