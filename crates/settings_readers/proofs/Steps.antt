@@ -1,6 +1,7 @@
 -- The length of an array, its items and choices one by one, and refusals.
 use Rattle.std.proofs.Common.{◌≡◌, ◌<◌, ◌+◌, ◌++◌, ◌∙◌, ℕ, List, [], ◌∷◌, Bool, true, false, Result, Ok, Err, length, length-append, drop, map, get_or, Option, Some, ap, refl, subst, sym, arith}
 use Rattle.std.specs.Prelude.{MatchBool, ⊤, decimal, nat_le, ◌&&◌}
+use Rattle.std.specs.List.{list_any}
 use Rattle.std.specs.Str.{bytes_eq}
 use Rattle.std.proofs.lemmas.List.{drop_more}
 use Rattle.toml.specs.Data.{Data, as_array}
@@ -66,4 +67,17 @@ pub named_more : {E X : Type 0} (f : E → List ℕ × X) (all : List E) (i : �
 named_more {X = X} f all i e text total lt is off so_far =
     let left : drop i all ≡ e ∷ drop (i + 1) all = drop_more all i e lt ∙ ap (λ w. w ∷ drop (i + 1) all) (sym is) in
     let here : named_in (map f (drop i all)) text ≡ named_in (map f (drop (i + 1) all)) text = rw (left, off) refl in
+    sym here ∙ so_far
+
+-- an item that does not pass a test which one of all may pass, and one that does
+pub any_more : {E : Type 0} (test : E → Bool) (all : List E) (i : ℕ) (none : E) (total : Bool) → i < length all → test (get_or all i none) ≡ false
+    → list_any test (drop i all) ≡ total → list_any test (drop (i + 1) all) ≡ total
+any_more test all i none total lt off so_far =
+    let here : list_any test (drop i all) ≡ list_any test (drop (i + 1) all) = rw (drop_more all i none lt, off) refl in
+    sym here ∙ so_far
+
+pub any_found : {E : Type 0} (test : E → Bool) (all : List E) (i : ℕ) (none : E) (total : Bool) → i < length all → test (get_or all i none) ≡ true
+    → list_any test (drop i all) ≡ total → true ≡ total
+any_found test all i none total lt on so_far =
+    let here : list_any test (drop i all) ≡ true = rw (drop_more all i none lt, on) refl in
     sym here ∙ so_far

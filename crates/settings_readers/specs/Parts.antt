@@ -1,5 +1,6 @@
 -- Parts of a settings file, one after the other: each gives a value or its first fault (`Keys::known`, `Keys::absent`,
--- `Keys::needed`, `Keys::optional` and `Keys::defaulted`, each by its one clause).
+-- `Keys::without`, `Keys::without_both`, `Keys::needed`, `Keys::needed_both`, `Keys::optional`,
+-- `Keys::defaulted` and `Keys::defaulted_both`, each by its one clause).
 use Rattle.std.specs.Prelude.{List, ℕ, Bool, ◌++◌, Option, Some, None, unwrap_or, Result, Ok, Err, if◌then◌else◌}
 use Rattle.toml.specs.Data.{Data, Members, no_members, member, get_member}
 use Rattle.link_base.specs.Answers.{and_then}
@@ -49,9 +50,24 @@ optional read t above key = read_optional read (above ++ key) (get_member key t)
 abbrev pub absent : Members → List ℕ → List ℕ → Result (Unit {0}) Fault
 absent t above key = read_absent (above ++ key) (get_member key t)
 
+-- a value beside which a key does not belong, or neither of two
+abbrev pub without : {A : Type 0} → A → Members → List ℕ → List ℕ → Result A Fault
+without x t above key = absent t above key >>= λ no_key. Ok x
+
+abbrev pub without_both : {A : Type 0} → A → Members → List ℕ → List ℕ → List ℕ → Result A Fault
+without_both x t above key other = absent t above key >>= λ no_key. without x t above other
+
+-- two keys that have to be there, read alike
+abbrev pub needed_both : {A : Type 0} → (List ℕ → Data → Result A Fault) → Members → List ℕ → List ℕ → List ℕ → Result (A × A) Fault
+needed_both read t above key other = needed read t above key >>= λ x. needed read t above other >>= λ y. Ok (x, y)
+
 -- a key that may be there, with its default
 abbrev pub defaulted : {A : Type 0} → (List ℕ → Data → Result A Fault) → A → Members → List ℕ → List ℕ → Result A Fault
 defaulted read default t above key = optional read t above key >>= λ o. Ok (unwrap_or o default)
+
+-- two keys that may be there, with one default
+abbrev pub defaulted_both : {A : Type 0} → (List ℕ → Data → Result A Fault) → A → Members → List ℕ → List ℕ → List ℕ → Result (A × A) Fault
+defaulted_both read default t above key other = defaulted read default t above key >>= λ x. defaulted read default t above other >>= λ y. Ok (x, y)
 
 -- every key of a table is known; else the fault names the first that is not, and keys ascend
 abbrev pub known : (List ℕ → Bool) → Members → List ℕ → Result (Unit {0}) Fault

@@ -5,7 +5,7 @@ ghost use Rattle.std.specs.Str.{bytes_eq};
 ghost use Rattle.toml.specs.Data.{get_member};
 ghost use Rattle.toml.specs.View.{view, table_view};
 ghost use Rattle.link_base.specs.Fault.{IsAnswer};
-ghost use Rattle.settings_readers.specs.Parts.{absent, defaulted, known, needed, optional};
+ghost use Rattle.settings_readers.specs.Parts.{absent, defaulted, defaulted_both, known, needed, needed_both, optional, without, without_both};
 
 use crate::place::Place;
 use crate::readers::Reader;
@@ -28,10 +28,15 @@ fn find<'a>(table: &'a Table, key: &str) -> Option<&'a Value>
 }
 
 /// Whether a key is one of those listed.
-fn is_listed(listed: &[&str], key: &str) -> bool
+pub fn is_listed(listed: &[&str], key: &str) -> bool
     ensures { result ≡ list_any (λ k. bytes_eq key.now k.now) listed.now }
 {
-    listed.iter().any(|other| key == *other)
+    for other in listed {
+        if key == *other {
+            return true;
+        }
+    }
+    false
 }
 
 impl Keys<'_> {
@@ -59,6 +64,32 @@ impl Keys<'_> {
         }
     }
 
+    /// An item, where a key does not belong beside it.
+    pub fn without<X: Copy>(&self, alloc: Global, key: &str, item: X) -> Result<X, Fault>
+        ensures { IsAnswer (without item (table_view self.now.table.now) self.now.above.now key.now) result }
+    {
+        match self.absent(alloc, key) {
+            Ok(()) => Ok(item),
+            Err(fault) => Err(fault),
+        }
+    }
+
+    /// An item, where neither of two keys belongs beside it.
+    pub fn without_both<X: Copy>(
+        &self,
+        alloc: Global,
+        key: &str,
+        other: &str,
+        item: X,
+    ) -> Result<X, Fault>
+        ensures { IsAnswer (without_both item (table_view self.now.table.now) self.now.above.now key.now other.now) result }
+    {
+        match self.absent(alloc, key) {
+            Ok(()) => self.without(alloc, other, item),
+            Err(fault) => Err(fault),
+        }
+    }
+
     /// What a reader gives at a key that has to be there.
     pub fn needed<R: Reader>(&self, alloc: Global, reader: &R, key: &str) -> Result<R::Item, Fault>
         ensures { IsAnswer (needed (R.gives reader.now) (table_view self.now.table.now) self.now.above.now key.now) result }
@@ -67,6 +98,28 @@ impl Keys<'_> {
         match find(self.table, key) {
             None => place.missing_key(alloc),
             Some(value) => reader.read(alloc, &place, value),
+        }
+    }
+
+    /// What a reader gives at two keys that have to be there.
+    pub fn needed_both<R: Reader>(
+        &self,
+        alloc: Global,
+        reader: &R,
+        key: &str,
+        other: &str,
+    ) -> Result<(R::Item, R::Item), Fault>
+        ensures { IsAnswer (needed_both (R.gives reader.now) (table_view self.now.table.now) self.now.above.now key.now other.now) result }
+    {
+        match self.needed(alloc, reader, key) {
+            Ok(first) => match self.needed(alloc, reader, other) {
+                Ok(second) => Ok((first, second)),
+                Err(fault) => {
+                    drop(first);
+                    Err(fault)
+                }
+            },
+            Err(fault) => Err(fault),
         }
     }
 
@@ -82,7 +135,10 @@ impl Keys<'_> {
         let place = Place::new(self.above, key.as_bytes());
         match find(self.table, key) {
             None => Ok(None),
-            Some(value) => Ok(Some(reader.read(alloc, &place, value)?)),
+            Some(value) => match reader.read(alloc, &place, value) {
+                Ok(item) => Ok(Some(item)),
+                Err(fault) => Err(fault),
+            },
         }
     }
 
@@ -96,6 +152,32 @@ impl Keys<'_> {
     ) -> Result<R::Item, Fault>
         ensures { IsAnswer (defaulted (R.gives reader.now) default (table_view self.now.table.now) self.now.above.now key.now) result }
     {
-        Ok(self.optional(alloc, reader, key)?.unwrap_or(default))
+        match self.optional(alloc, reader, key) {
+            Ok(given) => Ok(given.unwrap_or(default)),
+            Err(fault) => {
+                drop(default);
+                Err(fault)
+            }
+        }
+    }
+
+    /// The same at two keys.
+    pub fn defaulted_both<X: Copy, R: Reader<Item = X>>(
+        &self,
+        alloc: Global,
+        reader: &R,
+        default: X,
+        key: &str,
+        other: &str,
+    ) -> Result<(X, X), Fault>
+        ensures { IsAnswer (defaulted_both (R.gives reader.now) default (table_view self.now.table.now) self.now.above.now key.now other.now) result }
+    {
+        match self.defaulted(alloc, reader, default, key) {
+            Ok(first) => match self.defaulted(alloc, reader, default, other) {
+                Ok(second) => Ok((first, second)),
+                Err(fault) => Err(fault),
+            },
+            Err(fault) => Err(fault),
+        }
     }
 }

@@ -8,7 +8,7 @@ mod place;
 mod readers;
 mod values;
 
-pub use keys::Keys;
+pub use keys::{Keys, is_listed};
 pub use laws::{keys_ascend, least_unknown_key};
 pub use lists::{Items, Rows, is_sized};
 pub use place::Place;

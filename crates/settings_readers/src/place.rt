@@ -44,36 +44,40 @@ impl<'a> Place<'a> {
     pub fn unknown_key<T>(&self, alloc: Global) -> Result<T, Fault>
         ensures { IsAnswer (Err (fault.UnknownKey self.now)) result }
     {
-        Err(Fault::UnknownKey {
-            key: self.text(alloc)?,
-        })
+        match self.text(alloc) {
+            Ok(key) => Err(Fault::UnknownKey { key }),
+            Err(NoMemory) => Err(Fault::NoMemory),
+        }
     }
 
     /// Refuses a table without a key that has to be there.
     pub fn missing_key<T>(&self, alloc: Global) -> Result<T, Fault>
         ensures { IsAnswer (Err (fault.MissingKey self.now)) result }
     {
-        Err(Fault::MissingKey {
-            key: self.text(alloc)?,
-        })
+        match self.text(alloc) {
+            Ok(key) => Err(Fault::MissingKey { key }),
+            Err(NoMemory) => Err(Fault::NoMemory),
+        }
     }
 
     /// Refuses a value that has another type.
     pub fn wrong_type<T>(&self, alloc: Global) -> Result<T, Fault>
         ensures { IsAnswer (Err (fault.WrongType self.now)) result }
     {
-        Err(Fault::WrongType {
-            key: self.text(alloc)?,
-        })
+        match self.text(alloc) {
+            Ok(key) => Err(Fault::WrongType { key }),
+            Err(NoMemory) => Err(Fault::NoMemory),
+        }
     }
 
     /// Refuses a value that is out of its range.
     pub fn out_of_range<T>(&self, alloc: Global) -> Result<T, Fault>
         ensures { IsAnswer (Err (fault.OutOfRange self.now)) result }
     {
-        Err(Fault::OutOfRange {
-            key: self.text(alloc)?,
-        })
+        match self.text(alloc) {
+            Ok(key) => Err(Fault::OutOfRange { key }),
+            Err(NoMemory) => Err(Fault::NoMemory),
+        }
     }
 
     /// What stands before the keys and the items of the value here: the path and a point.

@@ -85,7 +85,10 @@ impl Reader for Whole {
     fn read(&self, alloc: Global, place: &Place, value: &Value) -> Result<u32, Fault> {
         let low = u64::from(self.low);
         let high = u64::from(self.high);
-        Ok(whole_number(alloc, low, high, place, value)? as u32)
+        match whole_number(alloc, low, high, place, value) {
+            Ok(number) => Ok(number as u32),
+            Err(fault) => Err(fault),
+        }
     }
 }
 
