@@ -1,5 +1,5 @@
 -- The plan of the top table in its parts is the plan.
-use Rattle.std.proofs.Common.{◌≡◌, ◌∷◌, [], ℕ, List, codes, Result, Ok, Err, ap, refl, sym, ◌∙◌}
+use Rattle.std.proofs.Common.{◌≡◌, ◌∷◌, [], ℕ, List, codes, Result, Ok, ap, sym, ◌∙◌}
 use Rattle.std.specs.Prelude.{is_some, option_to_list}
 use Rattle.toml.specs.Data.{Members}
 use Rattle.link_base.specs.declared.fault.Fault.{Fault}
@@ -12,33 +12,17 @@ use Rattle.settings.specs.Words.{delimiter_named, is_one_of, top_keys}
 use Rattle.settings.specs.Field.{fields}
 use Rattle.settings.specs.Pass.{passes}
 use Rattle.settings.specs.Settings.{file_keys, journal_of, sources, numbers, tables, plan_from, plan_of}
-use Rattle.settings.specs.PlanParts.{files_in_parts, id_columns, link_keys, matching_keys, other_sources, plan_in_parts, sources_in_parts, tables_over, two_files}
+use Rattle.settings.specs.PlanParts.{link_keys, matching_keys, other_sources, plan_in_parts, sources_in_parts, tables_over}
 use Rattle.settings.specs.declared.texts.TextRule.TheVariants as rule
 use Rattle.settings.specs.declared.top.SourceKeys.{SourceKeys}
-
-then_same : {A B : Type 0} (r : Result A Fault) (f g : A → Result B Fault) → ((x : A) → f x ≡ g x) → (r >>= f) ≡ (r >>= g)
-then_same (Ok x) f g h = h x
-then_same (Err e) f g h = refl
+use Rattle.settings.proofs.Chains.{then_assoc, then_same}
 
 then_both : {A B : Type 0} (r q : Result A Fault) (f g : A → Result B Fault) → r ≡ q → ((x : A) → f x ≡ g x) → (r >>= f) ≡ (q >>= g)
 then_both r q f g same each = ap (λ p. p >>= f) same ∙ then_same q f g each
 
-then_assoc : {A B C : Type 0} (r : Result A Fault) (f : A → Result B Fault) (g : B → Result C Fault) → ((r >>= f) >>= g) ≡ (r >>= λ x. f x >>= g)
-then_assoc (Ok x) f g = refl
-then_assoc (Err e) f g = refl
-
--- the files and their ids
-files_same : (t : Members) (above : List ℕ) → file_keys t above ≡ files_in_parts t above
-unfolding file_keys files_in_parts two_files id_columns
-files_same t above = sym (
-    then_assoc (needed (text rule.File) t above (codes "file_a")) _ _ ∙ then_same (needed (text rule.File) t above (codes "file_a")) _ _ (λ file_a.
-    then_assoc (needed (text rule.File) t above (codes "file_b")) _ _ ∙ then_same (needed (text rule.File) t above (codes "file_b")) _ _ (λ file_b.
-    then_assoc (defaulted (text rule.Label) (codes "id") t above (codes "id_a")) _ _ ∙ then_same (defaulted (text rule.Label) (codes "id") t above (codes "id_a")) _ _ (λ id_a.
-    then_assoc (defaulted (text rule.Label) (codes "id") t above (codes "id_b")) _ _))))
-
 sources_same : (t : Members) (above : List ℕ) → sources t above ≡ sources_in_parts t above
 unfolding sources sources_in_parts other_sources
-sources_same t above = then_both (file_keys t above) (files_in_parts t above) _ _ (files_same t above) (λ files. sym (
+sources_same t above = then_same (file_keys t above) _ _ (λ files. sym (
     then_assoc (defaulted (choice delimiter_named) 44 t above (codes "delimiter_a")) _ _ ∙ then_same (defaulted (choice delimiter_named) 44 t above (codes "delimiter_a")) _ _ (λ a.
     then_assoc (defaulted (choice delimiter_named) 44 t above (codes "delimiter_b")) _ _ ∙ then_same (defaulted (choice delimiter_named) 44 t above (codes "delimiter_b")) _ _ (λ b.
     then_assoc (optional (text rule.File) t above (codes "sample")) _ _ ∙ then_same (optional (text rule.File) t above (codes "sample")) _ _ (λ s.

@@ -13,4 +13,5 @@ pub mod Ranges
 pub mod WithinRanges
 pub mod Answered
 pub mod Chains
+pub mod Spans
 pub mod Loops

@@ -1,5 +1,6 @@
 -- Lists that are walked: one more item.
 use Rattle.std.proofs.Common.{◌≡◌, ◌<◌, ◌+◌, ◌++◌, ◌∷◌, ◌∙◌, ℕ, ℤ, List, [], Bool, true, false, Option, Some, None, Result, Ok, length, get_or, take, drop, map, is_some, ap, sym, refl, string_bytes}
+use Rattle.std.specs.List.{list_all}
 use Rattle.std.specs.Option.{option_and_then, option_map}
 use Rattle.std.specs.Str.{bytes_eq}
 use Rattle.std.proofs.lemmas.List.{drop_more, map_push, take_more}
@@ -26,6 +27,19 @@ pub copied_more : {E : Type 0} (all : List E) (i : ℕ) (e made : E) (copy more 
     → copy ≡ take i all → more ≡ copy ++ made ∷ [] → more ≡ take (i + 1) all
 copied_more all i e made copy more lt is same so_far pushed =
     pushed ∙ ap (λ c. c ++ made ∷ []) so_far ∙ ap (λ x. take i all ++ x ∷ []) (same ∙ is) ∙ sym (take_more all i e lt)
+
+-- an item that passes a test which all may pass, and one that does not
+pub all_more : {E : Type 0} (test : E → Bool) (all : List E) (i : ℕ) (none : E) (total : Bool) → i < length all → test (get_or all i none) ≡ true
+    → list_all test (drop i all) ≡ total → list_all test (drop (i + 1) all) ≡ total
+all_more test all i none total lt on so_far =
+    let here : list_all test (drop i all) ≡ list_all test (drop (i + 1) all) = rw (drop_more all i none lt, on) refl in
+    sym here ∙ so_far
+
+pub all_stops : {E : Type 0} (test : E → Bool) (all : List E) (i : ℕ) (none : E) (total : Bool) → i < length all → test (get_or all i none) ≡ false
+    → list_all test (drop i all) ≡ total → false ≡ total
+all_stops test all i none total lt off so_far =
+    let here : list_all test (drop i all) ≡ false = rw (drop_more all i none lt, off) refl in
+    sym here ∙ so_far
 
 left_from : {E : Type 0} (all : List E) (i : ℕ) (e : E) → i < length all → e ≡ get_or all i e → drop i all ≡ e ∷ drop (i + 1) all
 left_from all i e lt is = drop_more all i e lt ∙ ap (λ x. x ∷ drop (i + 1) all) (sym is)

@@ -58,6 +58,10 @@ by_letters t above = do
   no_t ← absent t above (codes "t")
   Ok (by.FirstLetters n)
 
+-- how far apart two values that agree may be; letters are not counted beside it
+abbrev pub span : ℕ → Members → List ℕ → Result ℕ Fault
+span most t above = absent t above (codes "n") >>= λ no_n. needed (whole 0 most) t above (codes "t")
+
 unfoldable pub by_days : Members → List ℕ → Result CompareKind Fault
 by_days t above = do
   no_n ← absent t above (codes "n")
@@ -149,6 +153,13 @@ compare_keys t above = do
   compare ← compare_by word t above
   rare ← rare_number compare t above
   Ok (record { sort = sort; compare = compare; rare = rare })
+
+-- how a field is compared, and its shares
+unfoldable pub measure_keys : Bool → Members → List ℕ → Result (CompareKeys × Option PlainShares) Fault
+measure_keys sampled t above = do
+  compared ← compare_keys t above
+  shares ← field_shares sampled (is_some compared.rare) t above
+  Ok (compared, shares)
 
 -- a field, after those before it; sampled says that the settings name a sample
 unfoldable pub field : Bool → List FieldKeys → Members → List ℕ → Result FieldKeys Fault

@@ -12,7 +12,7 @@ use Rattle.settings.specs.WordTables.{texts, word_table}
 use Rattle.settings.specs.Field.{fields}
 use Rattle.settings.specs.Plan.{FieldKeys}
 use Rattle.settings.specs.Pass.{passes}
-use Rattle.settings.specs.Settings.{journal_of, numbers, tables, plan_from}
+use Rattle.settings.specs.Settings.{file_keys, journal_of, numbers, tables, plan_from}
 use Rattle.settings.specs.declared.limits.TheConstants.{MOST_LISTED_WORDS, MOST_MARKS}
 use Rattle.settings.specs.declared.plan.Plan.{Plan}
 use Rattle.settings.specs.declared.texts.TextRule.TheVariants as rule
@@ -20,26 +20,6 @@ use Rattle.settings.specs.declared.top.FileKeys.{FileKeys}
 use Rattle.settings.specs.declared.top.LinkKeys.{LinkKeys}
 use Rattle.settings.specs.declared.top.OtherSources.{OtherSources}
 use Rattle.settings.specs.declared.top.SourceKeys.{SourceKeys}
-
--- the two files
-unfoldable pub two_files : Members → List ℕ → Result (List ℕ × List ℕ) Fault
-two_files t above = do
-  file_a ← needed (text rule.File) t above (codes "file_a")
-  file_b ← needed (text rule.File) t above (codes "file_b")
-  Ok (file_a, file_b)
-
--- the columns of their ids
-unfoldable pub id_columns : Members → List ℕ → Result (List ℕ × List ℕ) Fault
-id_columns t above = do
-  id_a ← defaulted (text rule.Label) (codes "id") t above (codes "id_a")
-  id_b ← defaulted (text rule.Label) (codes "id") t above (codes "id_b")
-  Ok (id_a, id_b)
-
-unfoldable pub files_in_parts : Members → List ℕ → Result FileKeys Fault
-files_in_parts t above = do
-  files ← two_files t above
-  ids ← id_columns t above
-  Ok (record { file_a = files.0; file_b = files.1; id_a = ids.0; id_b = ids.1 })
 
 -- the keys on files after the two and their ids
 unfoldable pub other_sources : FileKeys → Members → List ℕ → Result OtherSources Fault
@@ -52,7 +32,7 @@ other_sources files t above = do
 
 unfoldable pub sources_in_parts : Members → List ℕ → Result SourceKeys Fault
 sources_in_parts t above = do
-  files ← files_in_parts t above
+  files ← file_keys t above
   others ← other_sources files t above
   Ok (record { files = files; delimiter_a = others.delimiter_a; delimiter_b = others.delimiter_b; sample = others.sample; journal = others.journal })
 

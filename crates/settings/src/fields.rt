@@ -5,15 +5,12 @@ ghost use Rattle.std.specs.Str.{bytes_eq};
 ghost use Rattle.toml.specs.View.{table_view};
 ghost use Rattle.link_base.specs.Fault.{Gives, IsAnswer};
 ghost use Rattle.settings.specs.Plan.{plain_shares};
-ghost use Rattle.settings_readers.specs.Parts.{defaulted};
-ghost use Rattle.settings.specs.Field.{new_name, name_keys, compare_keys, given_shares, no_shares, field_shares, field, fields};
-ghost use Rattle.settings.specs.Values.{text};
-ghost use Rattle.settings.specs.declared.texts.TextRule.TheVariants as rule;
+ghost use Rattle.settings.specs.Field.{new_name, name_keys, compare_keys, given_shares, no_shares, field_shares, measure_keys, field, fields};
 
 use crate::kinds::{compare_by, rare_number, sort_of};
 use crate::plan::{FieldList, FieldPlan};
 use crate::shares::Shares;
-use crate::texts::TextRule;
+use crate::texts::{TextRule, labels};
 use crate::words::Kinds;
 use link_base::{CompareKind, Fault, FieldShares, FieldSort, Text};
 use link_limits::MOST_FIELDS;
@@ -35,7 +32,7 @@ pub(crate) struct NameKeys {
 }
 
 /// The keys on what a field holds and how it is compared.
-#[derive(Drop)]
+#[derive(Clone, Copy)]
 pub(crate) struct CompareKeys {
     sort: FieldSort,
     compare: CompareKind,
@@ -45,51 +42,47 @@ pub(crate) struct CompareKeys {
 fn is_taken(before: &[FieldPlan], name: &Text) -> bool
     ensures { result ≡ list_any (λ f. bytes_eq name.now f.name) before.now }
 {
-    let name = name.bytes();
-    before.iter().any(|field| field.is_named(name))
+    for field in before {
+        if field.is_named(name.bytes()) {
+            return true;
+        }
+    }
+    false
 }
 
 #[tactic(auto, unfolding(crate::specs::Field::new_name))]
 fn new_name(alloc: Global, before: &[FieldPlan], keys: &Keys) -> Result<Text, Fault>
     ensures { IsAnswer (new_name before.now (table_view keys.now.table.now) keys.now.above.now) result }
 {
-    let name = keys.needed(alloc, &TextRule::FieldName, "name")?;
-    if is_taken(before, &name) {
-        drop(name);
-        return Place::new(keys.above, b"name").out_of_range(alloc);
+    match keys.needed(alloc, &TextRule::FieldName, "name") {
+        Ok(name) => {
+            if is_taken(before, &name) {
+                drop(name);
+                return Place::new(keys.above, b"name").out_of_range(alloc);
+            }
+            Ok(name)
+        }
+        Err(fault) => Err(fault),
     }
-    Ok(name)
-}
-
-// The column at a key; it has the name of the field where the key is not there.
-fn column(alloc: Global, name: &Text, keys: &Keys, key: &str) -> Result<Text, Fault>
-    ensures { IsAnswer (defaulted (text rule.Label) name.now (table_view keys.now.table.now) keys.now.above.now key.now) result }
-{
-    keys.defaulted(alloc, &TextRule::Label, name.copy(alloc)?, key)
 }
 
 #[tactic(auto, unfolding(crate::specs::Field::name_keys))]
 fn name_keys(alloc: Global, before: &[FieldPlan], keys: &Keys) -> Result<NameKeys, Fault>
     ensures { IsAnswer (name_keys before.now (table_view keys.now.table.now) keys.now.above.now) result }
 {
-    let name = new_name(alloc, before, keys)?;
-    match column(alloc, &name, keys, "column_a") {
-        Ok(column_a) => match column(alloc, &name, keys, "column_b") {
-            Ok(column_b) => Ok(NameKeys {
+    match new_name(alloc, before, keys) {
+        Ok(name) => match labels(alloc, name.bytes(), keys, "column_a", "column_b") {
+            Ok((column_a, column_b)) => Ok(NameKeys {
                 name,
                 column_a,
                 column_b,
             }),
             Err(fault) => {
-                drop(column_a);
                 drop(name);
                 Err(fault)
             }
         },
-        Err(fault) => {
-            drop(name);
-            Err(fault)
-        }
+        Err(fault) => Err(fault),
     }
 }
 
@@ -122,9 +115,7 @@ fn given_shares(alloc: Global, rare: bool, keys: &Keys) -> Result<Option<FieldSh
 fn no_shares(alloc: Global, keys: &Keys) -> Result<Option<FieldShares>, Fault>
     ensures { Gives (λ s. option_map plain_shares s) (no_shares (table_view keys.now.table.now) keys.now.above.now) result }
 {
-    keys.absent(alloc, "m")?;
-    keys.absent(alloc, "u")?;
-    Ok(None)
+    keys.without_both(alloc, "m", "u", None)
 }
 
 fn field_shares(
@@ -142,6 +133,25 @@ fn field_shares(
     }
 }
 
+// How a field is compared, and its shares.
+fn measure_keys(
+    alloc: Global,
+    sampled: bool,
+    keys: &Keys,
+) -> Result<(CompareKeys, Option<FieldShares>), Fault>
+    ensures { Gives (λ m. (m.0, option_map plain_shares m.1)) (measure_keys sampled (table_view keys.now.table.now) keys.now.above.now) result }
+{
+    match compare_keys(alloc, keys) {
+        Ok(compared) => {
+            match field_shares(alloc, sampled, compared.rare.is_some(), keys) {
+                Ok(shares) => Ok((compared, shares)),
+                Err(fault) => Err(fault),
+            }
+        }
+        Err(fault) => Err(fault),
+    }
+}
+
 #[tactic(auto, unfolding(crate::specs::Field::field))]
 fn field(
     alloc: Global,
@@ -153,17 +163,21 @@ fn field(
 {
     keys.known(alloc, &FIELD_KEYS)?;
     let named = name_keys(alloc, before, keys)?;
-    let compared = compare_keys(alloc, keys)?;
-    let shares = field_shares(alloc, sampled, compared.rare.is_some(), keys)?;
-    Ok(FieldPlan {
-        name: named.name,
-        column_a: named.column_a,
-        column_b: named.column_b,
-        sort: compared.sort,
-        compare: compared.compare,
-        rare: compared.rare,
-        shares,
-    })
+    match measure_keys(alloc, sampled, keys) {
+        Ok((compared, shares)) => Ok(FieldPlan {
+            name: named.name,
+            column_a: named.column_a,
+            column_b: named.column_b,
+            sort: compared.sort,
+            compare: compared.compare,
+            rare: compared.rare,
+            shares,
+        }),
+        Err(fault) => {
+            drop(named);
+            Err(fault)
+        }
+    }
 }
 
 /// A field's table; `sampled` says that the settings name a sample.
@@ -201,6 +215,9 @@ impl Reader for Fields {
                 sampled: self.sampled,
             }),
         };
-        Ok(FieldList::new(rows.read(alloc, place, value)?))
+        match rows.read(alloc, place, value) {
+            Ok(fields) => Ok(FieldList::new(fields)),
+            Err(fault) => Err(fault),
+        }
     }
 }

@@ -2,7 +2,7 @@
 ghost use Rattle.std.specs.Prelude.{◌≡◌};
 ghost use Rattle.toml.specs.View.{table_view};
 ghost use Rattle.link_base.specs.Fault.{IsAnswer};
-ghost use Rattle.settings.specs.Field.{date_sort, plain_sort, sort_of, by_letters, by_days, by_years, plain_compare, compare_by, may_be_rare, rare_number};
+ghost use Rattle.settings.specs.Field.{date_sort, plain_sort, sort_of, by_letters, span, by_days, by_years, plain_compare, compare_by, may_be_rare, rare_number};
 
 use crate::limits::{LEAST_RARE, MOST_DAYS, MOST_RARE, MOST_YEARS};
 use crate::texts::Letters;
@@ -15,18 +15,17 @@ use std::alloc::Global;
 fn date_sort(alloc: Global, keys: &Keys) -> Result<FieldSort, Fault>
     ensures { IsAnswer (date_sort (table_view keys.now.table.now) keys.now.above.now) result }
 {
-    let a = keys.needed(alloc, &Choice(Forms), "form_a")?;
-    let b = keys.needed(alloc, &Choice(Forms), "form_b")?;
-    Ok(FieldSort::Date(a, b))
+    match keys.needed_both(alloc, &Choice(Forms), "form_a", "form_b") {
+        Ok((a, b)) => Ok(FieldSort::Date(a, b)),
+        Err(fault) => Err(fault),
+    }
 }
 
 #[tactic(auto, unfolding(crate::specs::Field::plain_sort))]
 fn plain_sort(alloc: Global, sort: FieldSort, keys: &Keys) -> Result<FieldSort, Fault>
     ensures { IsAnswer (plain_sort sort (table_view keys.now.table.now) keys.now.above.now) result }
 {
-    keys.absent(alloc, "form_a")?;
-    keys.absent(alloc, "form_b")?;
-    Ok(sort)
+    keys.without_both(alloc, "form_a", "form_b", sort)
 }
 
 /// The sort of a field of a kind. A date has two forms, and nothing else has one.
@@ -44,44 +43,50 @@ pub(crate) fn sort_of(alloc: Global, kind: Kind, keys: &Keys) -> Result<FieldSor
 fn by_letters(alloc: Global, keys: &Keys) -> Result<CompareKind, Fault>
     ensures { IsAnswer (by_letters (table_view keys.now.table.now) keys.now.above.now) result }
 {
-    let letters = keys.needed(alloc, &Letters, "n")?;
-    keys.absent(alloc, "t")?;
-    Ok(CompareKind::FirstLetters(letters))
+    match keys.needed(alloc, &Letters, "n") {
+        Ok(letters) => keys.without(alloc, "t", CompareKind::FirstLetters(letters)),
+        Err(fault) => Err(fault),
+    }
+}
+
+// How far apart two values that agree may be; letters are not counted beside it.
+fn span(alloc: Global, most: u32, keys: &Keys) -> Result<u32, Fault>
+    ensures { IsAnswer (span most (table_view keys.now.table.now) keys.now.above.now) result }
+{
+    match keys.absent(alloc, "n") {
+        Ok(()) => {
+            let most = Whole { low: 0, high: most };
+            keys.needed(alloc, &most, "t")
+        }
+        Err(fault) => Err(fault),
+    }
 }
 
 #[tactic(auto, unfolding(crate::specs::Field::by_days))]
 fn by_days(alloc: Global, keys: &Keys) -> Result<CompareKind, Fault>
     ensures { IsAnswer (by_days (table_view keys.now.table.now) keys.now.above.now) result }
 {
-    let most = Whole {
-        low: 0,
-        high: MOST_DAYS,
-    };
-    keys.absent(alloc, "n")?;
-    let days = keys.needed(alloc, &most, "t")?;
-    Ok(CompareKind::DaysWithin(days))
+    match span(alloc, MOST_DAYS, keys) {
+        Ok(days) => Ok(CompareKind::DaysWithin(days)),
+        Err(fault) => Err(fault),
+    }
 }
 
 #[tactic(auto, unfolding(crate::specs::Field::by_years))]
 fn by_years(alloc: Global, keys: &Keys) -> Result<CompareKind, Fault>
     ensures { IsAnswer (by_years (table_view keys.now.table.now) keys.now.above.now) result }
 {
-    let most = Whole {
-        low: 0,
-        high: MOST_YEARS,
-    };
-    keys.absent(alloc, "n")?;
-    let years = keys.needed(alloc, &most, "t")?;
-    Ok(CompareKind::YearsWithin(years))
+    match span(alloc, MOST_YEARS, keys) {
+        Ok(years) => Ok(CompareKind::YearsWithin(years)),
+        Err(fault) => Err(fault),
+    }
 }
 
 #[tactic(auto, unfolding(crate::specs::Field::plain_compare))]
 fn plain_compare(alloc: Global, compare: CompareKind, keys: &Keys) -> Result<CompareKind, Fault>
     ensures { IsAnswer (plain_compare compare (table_view keys.now.table.now) keys.now.above.now) result }
 {
-    keys.absent(alloc, "n")?;
-    keys.absent(alloc, "t")?;
-    Ok(compare)
+    keys.without_both(alloc, "n", "t", compare)
 }
 
 /// The comparison that a word names, with its number where it has one.
@@ -127,6 +132,5 @@ pub(crate) fn rare_number(
         };
         return keys.optional(alloc, &most, "rare");
     }
-    keys.absent(alloc, "rare")?;
-    Ok(None)
+    keys.without(alloc, "rare", None)
 }

@@ -50,16 +50,17 @@ impl Choices for FieldNames<'_> {
 fn first_key(alloc: Global, keys: &Keys) -> Result<KeyKind, Fault>
     ensures { IsAnswer (first_key (table_view keys.now.table.now) keys.now.above.now) result }
 {
-    let letters = keys.needed(alloc, &Letters, "n")?;
-    Ok(KeyKind::First(letters))
+    match keys.needed(alloc, &Letters, "n") {
+        Ok(letters) => Ok(KeyKind::First(letters)),
+        Err(fault) => Err(fault),
+    }
 }
 
 #[tactic(auto, unfolding(crate::specs::Pass::plain_key))]
 fn plain_key(alloc: Global, key: KeyKind, keys: &Keys) -> Result<KeyKind, Fault>
     ensures { IsAnswer (plain_key key (table_view keys.now.table.now) keys.now.above.now) result }
 {
-    keys.absent(alloc, "n")?;
-    Ok(key)
+    keys.without(alloc, "n", key)
 }
 
 fn key_by(alloc: Global, word: KeyWord, keys: &Keys) -> Result<KeyKind, Fault>
@@ -120,7 +121,10 @@ impl Reader for Parts<'_> {
                 fields: self.fields,
             }),
         };
-        Ok(Pass::new(rows.read(alloc, place, value)?))
+        match rows.read(alloc, place, value) {
+            Ok(parts) => Ok(Pass::new(parts)),
+            Err(fault) => Err(fault),
+        }
     }
 }
 
@@ -167,6 +171,9 @@ impl Reader for Passes<'_> {
                 fields: self.fields,
             }),
         };
-        Ok(PassList::new(rows.read(alloc, place, value)?))
+        match rows.read(alloc, place, value) {
+            Ok(passes) => Ok(PassList::new(passes)),
+            Err(fault) => Err(fault),
+        }
     }
 }

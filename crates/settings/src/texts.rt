@@ -1,9 +1,10 @@
 // Texts and numbers in their ranges.
-ghost use Rattle.std.specs.Prelude.{◌≡◌, IfOk, IsUtf8};
+ghost use Rattle.std.specs.Prelude.{◌≡◌, IsUtf8, Ok};
 ghost use Rattle.std.specs.List.{list_all};
-ghost use Rattle.toml.specs.View.{view};
-ghost use Rattle.link_base.specs.Fault.{Gives};
+ghost use Rattle.toml.specs.View.{table_view, view};
+ghost use Rattle.link_base.specs.Fault.{Gives, IsAnswer};
 ghost use Rattle.link_base.specs.Tables.{is_word_byte};
+ghost use Rattle.settings_readers.specs.Parts.{defaulted, defaulted_both};
 ghost use Rattle.settings_readers.specs.Values.{whole};
 ghost use Rattle.settings.specs.declared.texts.TextRule.TheVariants as rule;
 ghost use Rattle.settings.specs.Values.{is_output, is_name_byte, fits, text};
@@ -13,7 +14,7 @@ use crate::limits::{
 };
 use link_base::{Fault, NoMemory, Text};
 use link_limits::MOST_NAME_BYTES;
-use settings_readers::{Place, Reader, whole_number};
+use settings_readers::{Keys, Place, Reader, is_listed, whole_number};
 use std::alloc::Global;
 use std::marker::Model;
 use toml::Value;
@@ -33,15 +34,19 @@ pub(crate) enum TextRule {
     FieldName,
 }
 
+const OUTPUTS: [&str; 5] = [
+    "pairs.csv",
+    "rule.csv",
+    "links.csv",
+    "prices.csv",
+    "report.txt",
+];
+
 /// Whether a name is that of a file that a run writes.
 pub fn is_output(text: &str) -> bool
     ensures { result ≡ is_output text.now }
 {
-    text == "pairs.csv"
-        || text == "rule.csv"
-        || text == "links.csv"
-        || text == "prices.csv"
-        || text == "report.txt"
+    is_listed(&OUTPUTS, text)
 }
 
 fn is_word_byte(byte: u8) -> bool
@@ -59,13 +64,23 @@ fn is_name_byte(byte: u8) -> bool
 fn has_word_bytes(text: &[u8]) -> bool
     ensures { result ≡ list_all is_word_byte text.now }
 {
-    text.iter().all(|byte| is_word_byte(*byte))
+    for byte in text {
+        if !is_word_byte(*byte) {
+            return false;
+        }
+    }
+    true
 }
 
 fn has_name_bytes(text: &[u8]) -> bool
     ensures { result ≡ list_all is_name_byte text.now }
 {
-    text.iter().all(|byte| is_name_byte(*byte))
+    for byte in text {
+        if !is_name_byte(*byte) {
+            return false;
+        }
+    }
+    true
 }
 
 /// Whether a text is in range.
@@ -104,14 +119,58 @@ fn text_in<'a>(
     }
 }
 
+// The text of these bytes, where there is memory.
+fn text_of(alloc: Global, bytes: &[u8]) -> Result<Text, Fault>
+    ensures { IsAnswer (Ok bytes.now) result }
+{
+    match Text::new(alloc, bytes) {
+        Ok(text) => Ok(text),
+        Err(NoMemory) => Err(Fault::NoMemory),
+    }
+}
+
+// The label at a key; it is this one where the key is not there.
+fn label(alloc: Global, default: &[u8], keys: &Keys, key: &str) -> Result<Text, Fault>
+    ensures { IsAnswer (defaulted (text rule.Label) default.now (table_view keys.now.table.now) keys.now.above.now key.now) result }
+{
+    match text_of(alloc, default) {
+        Ok(text) => keys.defaulted(alloc, &TextRule::Label, text, key),
+        Err(fault) => Err(fault),
+    }
+}
+
+/// The labels at two keys; each is this one where its key is not there.
+pub(crate) fn labels(
+    alloc: Global,
+    default: &[u8],
+    keys: &Keys,
+    key: &str,
+    other: &str,
+) -> Result<(Text, Text), Fault>
+    ensures { IsAnswer (defaulted_both (text rule.Label) default.now (table_view keys.now.table.now) keys.now.above.now key.now other.now) result }
+{
+    match label(alloc, default, keys, key) {
+        Ok(first) => match label(alloc, default, keys, other) {
+            Ok(second) => Ok((first, second)),
+            Err(fault) => {
+                drop(first);
+                Err(fault)
+            }
+        },
+        Err(fault) => Err(fault),
+    }
+}
+
 impl Reader for TextRule {
     type Item = Text;
 
     ghost gives = { text };
 
     fn read(&self, alloc: Global, place: &Place, value: &Value) -> Result<Text, Fault> {
-        let text = text_in(alloc, *self, place, value)?;
-        Ok(Text::new(alloc, text.as_bytes())?)
+        match text_in(alloc, *self, place, value) {
+            Ok(text) => text_of(alloc, text.as_bytes()),
+            Err(fault) => Err(fault),
+        }
     }
 }
 
@@ -132,11 +191,13 @@ impl Model for FileName {
 }
 
 impl FileName {
-    fn new(alloc: Global, name: &str) -> Result<FileName, NoMemory>
-        ensures { IfOk result (λ f. f ≡ name.now) }
+    fn new(alloc: Global, name: &str) -> Result<FileName, Fault>
+        ensures { IsAnswer (Ok name.now) result }
     {
-        let name = Text::new(alloc, name.as_bytes())?;
-        Ok(FileName { name })
+        match Text::new(alloc, name.as_bytes()) {
+            Ok(name) => Ok(FileName { name }),
+            Err(NoMemory) => Err(Fault::NoMemory),
+        }
     }
 
     /// The bytes.
@@ -165,8 +226,10 @@ impl Reader for File {
     ghost gives = { λ _. text rule.File };
 
     fn read(&self, alloc: Global, place: &Place, value: &Value) -> Result<FileName, Fault> {
-        let name = text_in(alloc, TextRule::File, place, value)?;
-        Ok(FileName::new(alloc, name)?)
+        match text_in(alloc, TextRule::File, place, value) {
+            Ok(name) => FileName::new(alloc, name),
+            Err(fault) => Err(fault),
+        }
     }
 }
 
@@ -182,7 +245,10 @@ impl Reader for Letters {
     ghost gives = { λ _. whole 1 MOST_LETTERS };
 
     fn read(&self, alloc: Global, place: &Place, value: &Value) -> Result<u8, Fault> {
-        Ok(whole_number(alloc, 1, u64::from(MOST_LETTERS), place, value)? as u8)
+        match whole_number(alloc, 1, u64::from(MOST_LETTERS), place, value) {
+            Ok(letters) => Ok(letters as u8),
+            Err(fault) => Err(fault),
+        }
     }
 }
 

@@ -1,22 +1,20 @@
 // The keys of the top table.
-ghost use Rattle.std.specs.Prelude.{◌≡◌, ◌∷◌, IfErr, IfOk, IfSome, IsUtf8, codes, option_to_list, not};
+ghost use Rattle.std.specs.Prelude.{◌≡◌, ◌∷◌, IfErr, IfOk, IfSome, IsUtf8, option_to_list, not};
 ghost use Rattle.toml.specs.View.{table_view};
 ghost use Rattle.link_base.specs.declared.fault.Fault.TheVariants as fault;
 ghost use Rattle.link_base.specs.Fault.{Gives, IsAnswer};
 ghost use Rattle.link_base.specs.Tables.{AreWordPairs};
 ghost use Rattle.settings_readers.specs.Parts.{defaulted};
-ghost use Rattle.settings.specs.Values.{text};
 ghost use Rattle.settings.specs.Words.{is_one_of};
-ghost use Rattle.settings.specs.declared.texts.TextRule.TheVariants as rule;
-ghost use Rattle.settings.specs.Settings.{is_free, journal_of, numbers, tables, plan_from, document, settings};
-ghost use Rattle.settings.specs.PlanParts.{files_in_parts, id_columns, link_keys, matching_keys, other_sources, plan_in_parts, sources_in_parts, tables_over, two_files};
+ghost use Rattle.settings.specs.Settings.{file_keys, is_free, journal_of, numbers, tables, plan_from, document, settings};
+ghost use Rattle.settings.specs.PlanParts.{link_keys, matching_keys, other_sources, plan_in_parts, sources_in_parts, tables_over};
 ghost use Rattle.settings.specs.Ranges.{IsSettingsFault, KeepsRanges, NamesFiles};
 
 use crate::fields::Fields;
 use crate::limits::{MOST_AWARD, MOST_LISTED_WORDS, MOST_MARKS};
 use crate::passes::Passes;
 use crate::plan::{FieldList, Plan};
-use crate::texts::{File, FileName, Seed, TextRule};
+use crate::texts::{File, FileName, Seed, TextRule, labels};
 use crate::word_tables::{Texts, WordTable};
 use crate::words::Delimiters;
 use link_base::{Fault, PassList, Tables, Text};
@@ -77,7 +75,7 @@ pub(crate) struct SourceKeys {
 }
 
 /// The keys that are numbers and truth values.
-#[derive(Drop)]
+#[derive(Clone, Copy)]
 pub(crate) struct NumberKeys {
     mu_ppm: u32,
     lambda_ppm: u32,
@@ -136,58 +134,25 @@ fn journal_of(
     Ok(journal)
 }
 
-#[tactic(auto, unfolding(crate::specs::PlanParts::two_files))]
-fn two_files(alloc: Global, keys: &Keys) -> Result<(FileName, FileName), Fault>
-    ensures { IsAnswer (two_files (table_view keys.now.table.now) keys.now.above.now) result }
-{
-    let file_a = keys.needed(alloc, &File, "file_a")?;
-    match keys.needed(alloc, &File, "file_b") {
-        Ok(file_b) => Ok((file_a, file_b)),
-        Err(fault) => {
-            drop(file_a);
-            Err(fault)
-        }
-    }
-}
-
-// The column of ids at a key; it is `id` where the key is not there.
-fn id_column(alloc: Global, keys: &Keys, key: &str) -> Result<Text, Fault>
-    ensures { IsAnswer (defaulted (text rule.Label) (codes "id") (table_view keys.now.table.now) keys.now.above.now key.now) result }
-{
-    keys.defaulted(alloc, &TextRule::Label, Text::new(alloc, b"id")?, key)
-}
-
-#[tactic(auto, unfolding(crate::specs::PlanParts::id_columns))]
-fn id_columns(alloc: Global, keys: &Keys) -> Result<(Text, Text), Fault>
-    ensures { IsAnswer (id_columns (table_view keys.now.table.now) keys.now.above.now) result }
-{
-    let id_a = id_column(alloc, keys, "id_a")?;
-    match id_column(alloc, keys, "id_b") {
-        Ok(id_b) => Ok((id_a, id_b)),
-        Err(fault) => {
-            drop(id_a);
-            Err(fault)
-        }
-    }
-}
-
-#[tactic(auto, unfolding(crate::specs::PlanParts::files_in_parts))]
+#[tactic(auto, unfolding(crate::specs::Settings::file_keys))]
 fn file_keys(alloc: Global, keys: &Keys) -> Result<FileKeys, Fault>
-    ensures { IsAnswer (files_in_parts (table_view keys.now.table.now) keys.now.above.now) result }
+    ensures { IsAnswer (file_keys (table_view keys.now.table.now) keys.now.above.now) result }
 {
-    let (file_a, file_b) = two_files(alloc, keys)?;
-    match id_columns(alloc, keys) {
-        Ok((id_a, id_b)) => Ok(FileKeys {
-            file_a,
-            file_b,
-            id_a,
-            id_b,
-        }),
-        Err(fault) => {
-            drop(file_a);
-            drop(file_b);
-            Err(fault)
-        }
+    match keys.needed_both(alloc, &File, "file_a", "file_b") {
+        Ok((file_a, file_b)) => match labels(alloc, b"id", keys, "id_a", "id_b") {
+            Ok((id_a, id_b)) => Ok(FileKeys {
+                file_a,
+                file_b,
+                id_a,
+                id_b,
+            }),
+            Err(fault) => {
+                drop(file_a);
+                drop(file_b);
+                Err(fault)
+            }
+        },
+        Err(fault) => Err(fault),
     }
 }
 
@@ -196,20 +161,27 @@ fn other_sources(alloc: Global, files: &FileKeys, keys: &Keys) -> Result<OtherSo
     ensures { IsAnswer (other_sources files.now (table_view keys.now.table.now) keys.now.above.now) result }
 {
     let delimiter = Choice(Delimiters);
-    let delimiter_a = keys.defaulted(alloc, &delimiter, b',', "delimiter_a")?;
-    let delimiter_b = keys.defaulted(alloc, &delimiter, b',', "delimiter_b")?;
-    let sample = keys.optional(alloc, &File, "sample")?;
-    match journal_of(alloc, files, &sample, keys) {
-        Ok(journal) => Ok(OtherSources {
-            delimiter_a,
-            delimiter_b,
-            sample,
-            journal,
-        }),
-        Err(fault) => {
-            drop(sample);
-            Err(fault)
-        }
+    let (delimiter_a, delimiter_b) = keys.defaulted_both(
+        alloc,
+        &delimiter,
+        b',',
+        "delimiter_a",
+        "delimiter_b",
+    )?;
+    match keys.optional(alloc, &File, "sample") {
+        Ok(sample) => match journal_of(alloc, files, &sample, keys) {
+            Ok(journal) => Ok(OtherSources {
+                delimiter_a,
+                delimiter_b,
+                sample,
+                journal,
+            }),
+            Err(fault) => {
+                drop(sample);
+                Err(fault)
+            }
+        },
+        Err(fault) => Err(fault),
     }
 }
 
@@ -217,19 +189,21 @@ fn other_sources(alloc: Global, files: &FileKeys, keys: &Keys) -> Result<OtherSo
 fn sources(alloc: Global, keys: &Keys) -> Result<SourceKeys, Fault>
     ensures { IsAnswer (sources_in_parts (table_view keys.now.table.now) keys.now.above.now) result }
 {
-    let files = file_keys(alloc, keys)?;
-    match other_sources(alloc, &files, keys) {
-        Ok(others) => Ok(SourceKeys {
-            files,
-            delimiter_a: others.delimiter_a,
-            delimiter_b: others.delimiter_b,
-            sample: others.sample,
-            journal: others.journal,
-        }),
-        Err(fault) => {
-            drop(files);
-            Err(fault)
-        }
+    match file_keys(alloc, keys) {
+        Ok(files) => match other_sources(alloc, &files, keys) {
+            Ok(others) => Ok(SourceKeys {
+                files,
+                delimiter_a: others.delimiter_a,
+                delimiter_b: others.delimiter_b,
+                sample: others.sample,
+                journal: others.journal,
+            }),
+            Err(fault) => {
+                drop(files);
+                Err(fault)
+            }
+        },
+        Err(fault) => Err(fault),
     }
 }
 
@@ -245,12 +219,10 @@ fn numbers(alloc: Global, keys: &Keys) -> Result<NumberKeys, Fault>
         low: 0,
         high: MOST_AWARD,
     };
-    let mu_ppm = keys.needed(alloc, &level, "mu_ppm")?;
-    let lambda_ppm = keys.needed(alloc, &level, "lambda_ppm")?;
+    let (mu_ppm, lambda_ppm) = keys.needed_both(alloc, &level, "mu_ppm", "lambda_ppm")?;
     let seed = keys.defaulted(alloc, &Seed, 0, "seed")?;
     let award = keys.defaulted(alloc, &points, 500, "award")?;
-    let strict = keys.defaulted(alloc, &Truth, false, "strict")?;
-    let double = keys.defaulted(alloc, &Truth, false, "double")?;
+    let (strict, double) = keys.defaulted_both(alloc, &Truth, false, "strict", "double")?;
     Ok(NumberKeys {
         mu_ppm,
         lambda_ppm,
@@ -271,11 +243,14 @@ fn replace<R: Reader>(
 ) -> Result<(), Fault>
     ensures { Gives (λ _. item.new) (defaulted (R.gives reader.now) item.old (table_view keys.now.table.now) keys.now.above.now key.now) result }
 {
-    match keys.optional(alloc, reader, key)? {
-        None => {}
-        Some(given) => *item = given,
+    match keys.optional(alloc, reader, key) {
+        Ok(None) => Ok(()),
+        Ok(Some(given)) => {
+            *item = given;
+            Ok(())
+        }
+        Err(fault) => Err(fault),
     }
-    Ok(())
 }
 
 #[tactic(auto, unfolding(crate::specs::PlanParts::tables_over))]
@@ -368,13 +343,15 @@ fn plan_from(
 fn matching_keys(alloc: Global, sampled: bool, keys: &Keys) -> Result<(FieldList, PassList), Fault>
     ensures { IsAnswer (matching_keys sampled (table_view keys.now.table.now) keys.now.above.now) result }
 {
-    let fields = keys.needed(alloc, &Fields { sampled }, "field")?;
-    match keys.needed(alloc, &Passes { fields: &fields }, "pass") {
-        Ok(passes) => Ok((fields, passes)),
-        Err(fault) => {
-            drop(fields);
-            Err(fault)
-        }
+    match keys.needed(alloc, &Fields { sampled }, "field") {
+        Ok(fields) => match keys.needed(alloc, &Passes { fields: &fields }, "pass") {
+            Ok(passes) => Ok((fields, passes)),
+            Err(fault) => {
+                drop(fields);
+                Err(fault)
+            }
+        },
+        Err(fault) => Err(fault),
     }
 }
 
@@ -385,18 +362,20 @@ fn link_keys(alloc: Global, sampled: bool, keys: &Keys) -> Result<LinkKeys, Faul
     ensures places { IfOk result (λ links. AreWordPairs links.tables.places) }
 {
     let numbers = numbers(alloc, keys)?;
-    let tables = tables(alloc, keys)?;
-    match matching_keys(alloc, sampled, keys) {
-        Ok((fields, passes)) => Ok(LinkKeys {
-            numbers,
-            tables,
-            fields,
-            passes,
-        }),
-        Err(fault) => {
-            drop(tables);
-            Err(fault)
-        }
+    match tables(alloc, keys) {
+        Ok(tables) => match matching_keys(alloc, sampled, keys) {
+            Ok((fields, passes)) => Ok(LinkKeys {
+                numbers,
+                tables,
+                fields,
+                passes,
+            }),
+            Err(fault) => {
+                drop(tables);
+                Err(fault)
+            }
+        },
+        Err(fault) => Err(fault),
     }
 }
 

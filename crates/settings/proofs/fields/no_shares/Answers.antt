@@ -1,19 +1,15 @@
-use Rattle.std.proofs.Common.{refl}
-use Rattle.link_base.proofs.AnswerFacts.{refuses_then}
+use Rattle.std.proofs.Common.{None, codes}
+use Rattle.std.specs.Prelude.{option_map}
+use Rattle.toml.specs.View.{table_view}
+use Rattle.settings_readers.specs.Parts.{absent}
 use Rattle.settings.specs.Field.{no_shares}
-use Rattle.settings.proofs.Chains.{handed_on, then_given, then_refused}
+use Rattle.settings.specs.Plan.{plain_shares}
+use Rattle.settings.proofs.Chains.{as_seen}
 use Rattle.settings.proofs.fields.no_shares.Goals as goal
-
-pub returns-in_err-absent : goal.returns-in_err-absent
-unfolding no_shares
-returns-in_err-absent c =
-    handed_on _ _ _ _ c.from_residual.ensures.0 c.from_residual.ensures.1 (refuses_then _ _ _ c.in_err-absent.ensures)
-
-pub returns-in_err-absent-2 : goal.returns-in_err-absent-2
-unfolding no_shares
-returns-in_err-absent-2 c =
-    handed_on _ _ _ _ c.from_residual-in_err-absent-2.ensures.0 c.from_residual-in_err-absent-2.ensures.1 (then_refused _ _ _ _ c.in_ok-absent.ensures (refuses_then _ _ _ c.in_err-absent-2.ensures))
 
 pub returns : goal.returns
 unfolding no_shares
-returns c = then_given _ _ _ _ c.in_ok-absent.ensures (then_given _ _ _ _ c.in_ok-absent-2.ensures refl)
+returns c =
+    let t = table_view c.args.keys.now.table.now in
+    let above = c.args.keys.now.above.now in
+    as_seen (λ s. option_map plain_shares s) (absent t above (codes "m")) (λ no_m. absent t above (codes "u")) None _ c.without_both.ensures

@@ -1,19 +1,14 @@
-use Rattle.std.proofs.Common.{refl}
-use Rattle.link_base.proofs.AnswerFacts.{refuses_then}
+use Rattle.toml.specs.View.{table_view}
+use Rattle.link_base.specs.declared.plan.CompareKind.TheVariants.{YearsWithin}
 use Rattle.settings.specs.Field.{by_years}
-use Rattle.settings.proofs.Chains.{handed_on, then_given, then_refused}
+use Rattle.settings.specs.declared.limits.TheConstants.{MOST_YEARS}
+use Rattle.settings.proofs.Spans.{by_span, no_span}
 use Rattle.settings.proofs.kinds.by_years.Goals as goal
 
-pub returns-in_err-absent : goal.returns-in_err-absent
+pub returns-in-Err : goal.returns-in-Err
 unfolding by_years
-returns-in_err-absent c =
-    handed_on _ _ _ _ c.from_residual.ensures.0 c.from_residual.ensures.1 (refuses_then _ _ _ c.in_err-absent.ensures)
+returns-in-Err c = no_span MOST_YEARS YearsWithin (table_view c.args.keys.now.table.now) c.args.keys.now.above.now _ c.in-Err.ensures
 
-pub returns-in_err-years : goal.returns-in_err-years
+pub returns-in-Ok : goal.returns-in-Ok
 unfolding by_years
-returns-in_err-years c =
-    handed_on _ _ _ _ c.from_residual-in_err-years.ensures.0 c.from_residual-in_err-years.ensures.1 (then_refused _ _ _ _ c.in_ok-absent.ensures (refuses_then _ _ _ c.in_err-years.ensures))
-
-pub returns : goal.returns
-unfolding by_years
-returns c = then_given _ _ _ _ c.in_ok-absent.ensures (then_given _ _ _ _ c.in_ok-years.ensures refl)
+returns-in-Ok c = by_span MOST_YEARS YearsWithin (table_view c.args.keys.now.table.now) c.args.keys.now.above.now _ c.in-Ok.ensures

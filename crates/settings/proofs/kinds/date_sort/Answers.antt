@@ -1,19 +1,15 @@
-use Rattle.std.proofs.Common.{refl}
-use Rattle.link_base.proofs.AnswerFacts.{refuses_then}
+use Rattle.std.proofs.Common.{codes, refl}
+use Rattle.toml.specs.View.{table_view}
+use Rattle.settings_readers.specs.Values.{choice}
 use Rattle.settings.specs.Field.{date_sort}
-use Rattle.settings.proofs.Chains.{handed_on, then_given, then_refused}
+use Rattle.settings.specs.Words.{form_named}
+use Rattle.settings.proofs.Chains.{needed_given, needed_refused}
 use Rattle.settings.proofs.kinds.date_sort.Goals as goal
 
-pub returns-in_err-a : goal.returns-in_err-a
+pub returns-in-Err : goal.returns-in-Err
 unfolding date_sort
-returns-in_err-a c =
-    handed_on _ _ _ _ c.from_residual.ensures.0 c.from_residual.ensures.1 (refuses_then _ _ _ c.in_err-a.ensures)
+returns-in-Err c = needed_refused (choice form_named) (table_view c.args.keys.now.table.now) c.args.keys.now.above.now (codes "form_a") (codes "form_b") _ _ c.in-Err.ensures
 
-pub returns-in_err-b : goal.returns-in_err-b
+pub returns-in-Ok : goal.returns-in-Ok
 unfolding date_sort
-returns-in_err-b c =
-    handed_on _ _ _ _ c.from_residual-in_err-b.ensures.0 c.from_residual-in_err-b.ensures.1 (then_refused _ _ _ _ c.in_ok-a.ensures (refuses_then _ _ _ c.in_err-b.ensures))
-
-pub returns : goal.returns
-unfolding date_sort
-returns c = then_given _ _ _ _ c.in_ok-a.ensures (then_given _ _ _ _ c.in_ok-b.ensures refl)
+returns-in-Ok c = needed_given (choice form_named) (table_view c.args.keys.now.table.now) c.args.keys.now.above.now (codes "form_a") (codes "form_b") _ _ _ _ c.in-Ok.ensures refl

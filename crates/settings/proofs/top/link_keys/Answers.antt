@@ -9,15 +9,14 @@ unfolding link_keys
 returns-in_err-numbers-clause-gives c =
     handed_on _ _ _ _ c.from_residual.ensures.0 c.from_residual.ensures.1 (refuses_then _ _ _ c.in_err-numbers.ensures)
 
-pub returns-in_err-tables-clause-gives : goal.returns-in_err-tables-clause-gives
-unfolding link_keys
-returns-in_err-tables-clause-gives c =
-    handed_on _ _ _ _ c.from_residual-in_err-tables.ensures.0 c.from_residual-in_err-tables.ensures.1 (then_refused _ _ _ _ c.in_ok-numbers.ensures (refuses_then _ _ _ c.in_err-tables.ensures.gives))
-
 pub returns-in-Err-clause-gives : goal.returns-in-Err-clause-gives
 unfolding link_keys
-returns-in-Err-clause-gives c = then_refused _ _ _ _ c.in_ok-numbers.ensures (then_refused _ _ _ _ c.in_ok-tables.ensures.gives (refuses_then _ _ _ c.in-Err.ensures))
+returns-in-Err-clause-gives c = then_refused _ _ _ _ c.in_ok-numbers.ensures (refuses_then _ _ _ c.in-Err.ensures.gives)
 
-pub returns-in-Ok-clause-gives : goal.returns-in-Ok-clause-gives
+pub returns-in-Err-matching_keys-clause-gives : goal.returns-in-Err-matching_keys-clause-gives
 unfolding link_keys
-returns-in-Ok-clause-gives c = then_given _ _ _ _ c.in_ok-numbers.ensures (then_given _ _ _ _ c.in_ok-tables.ensures.gives (then_given _ _ _ _ c.in-Ok.ensures refl))
+returns-in-Err-matching_keys-clause-gives c = then_refused _ _ _ _ c.in_ok-numbers.ensures (then_refused _ _ _ _ c.in-Ok.ensures.gives (refuses_then _ _ _ c.in-Err-matching_keys.ensures))
+
+pub returns-in-Ok-matching_keys-clause-gives : goal.returns-in-Ok-matching_keys-clause-gives
+unfolding link_keys
+returns-in-Ok-matching_keys-clause-gives c = then_given _ _ _ _ c.in_ok-numbers.ensures (then_given _ _ _ _ c.in-Ok.ensures.gives (then_given _ _ _ _ c.in-Ok-matching_keys.ensures refl))
