@@ -1,10 +1,9 @@
 -- The whole numbers of an array, and their shares.
-use Rattle.std.proofs.Common.{◌≡◌, ℕ, ℤ, ◌+◌, ◌<◌, ◌≤◌, List, [], ◌∷◌, length, get_or, drop, map, Bool, true, false, cond, eqb, ◌≢◌, Option, Some, None, option_map, refl, sym, ap, ◌∙◌, arith}
-use Rattle.std.specs.Prelude.{is_some, option_and_then}
+use Rattle.std.proofs.Common.{◌≡◌, ℕ, ℤ, ◌<◌, ◌≤◌, List, [], ◌∷◌, length, get_or, map, Bool, true, false, cond, eqb, ◌≢◌, Option, Some, None, option_map, refl, sym, ap, ◌∙◌, arith}
+use Rattle.std.specs.Prelude.{option_and_then}
 use Rattle.toml.specs.Data.{as_integer}
 use Rattle.toml.specs.View.{view, items_view}
 use Rattle.toml.specs.declared.value.Value.{Value}
-use Rattle.toml.proofs.Views.{items_view-drop}
 use Rattle.std.proofs.lemmas.Bool.{ne_eqb}
 use Rattle.std.proofs.lemmas.List.{length-map}
 use Rattle.std.specs.Option.{option_map_or}
@@ -13,29 +12,6 @@ use Rattle.settings.specs.Field.{wholes, share_at, shares_or_none}
 
 abbrev joined : Option ℤ → Option (List ℤ) → Option (List ℤ)
 joined z zs = option_and_then (λ x. option_map (λ xs. x ∷ xs) zs) z
-
-is_some-joined : (z : Option ℤ) (zs : Option (List ℤ)) → is_some z ≡ true → is_some (joined z zs) ≡ is_some zs
-is_some-joined None zs h = absurd cc
-is_some-joined (Some z) None h = refl
-is_some-joined (Some z) (Some zs) h = refl
-
-is_some-stopped : (z : Option ℤ) (zs : Option (List ℤ)) → is_some z ≡ false → is_some (joined z zs) ≡ false
-is_some-stopped None zs h = refl
-is_some-stopped (Some z) zs h = absurd cc
-
-pub whole_more : (vs : List Value) (i : ℕ) (v : Value) (total : Bool) → i < length vs → v ≡ get_or vs i v → is_some (as_integer (view v)) ≡ true
-    → is_some (wholes (items_view (drop i vs))) ≡ total → is_some (wholes (items_view (drop (i + 1) vs))) ≡ total
-whole_more vs i v total lt is h so_far =
-    let one : is_some (wholes (items_view (drop i vs))) ≡ is_some (wholes (items_view (drop (i + 1) vs))) =
-    rw (items_view-drop vs i v lt, ← is) (is_some-joined (as_integer (view v)) (wholes (items_view (drop (i + 1) vs))) h) in
-    sym one ∙ so_far
-
-pub whole_stops : (vs : List Value) (i : ℕ) (v : Value) (total : Bool) → i < length vs → v ≡ get_or vs i v → is_some (as_integer (view v)) ≡ false
-    → is_some (wholes (items_view (drop i vs))) ≡ total → total ≡ false
-whole_stops vs i v total lt is h so_far =
-    let one : is_some (wholes (items_view (drop i vs))) ≡ false =
-    rw (items_view-drop vs i v lt, ← is) (is_some-stopped (as_integer (view v)) (wholes (items_view (drop (i + 1) vs))) h) in
-    sym so_far ∙ one
 
 joined_is : (z : Option ℤ) (rest : Option (List ℤ)) (zs : List ℤ) → joined z rest ≡ Some zs → (x : ℤ) × (xs : List ℤ) × (z ≡ Some x) × (rest ≡ Some xs) × (x ∷ xs ≡ zs)
 joined_is None rest zs h = absurd cc

@@ -17,16 +17,100 @@ fn sort_within(sort: FieldSort) -> FieldSort
     }
 }
 
-// The same text twice.
-fn copied_twice(alloc: Global, text: &Text) -> Result<(Text, Text), NoMemory>
-    ensures { IfOk result (λ copies. copies ≡ (text.now, text.now)) }
+/// What can be copied where there is memory.
+trait Copied {
+    fn copied(&self, alloc: Global) -> Result<Self, NoMemory>
+        ensures { IfOk result (λ copy. copy ≡ self.now) };
+}
+
+// The same items.
+fn copied_each<T: Copied + Drop>(alloc: Global, items: &[T]) -> Result<Vec<T>, NoMemory>
+    ensures { IfOk result (λ copy. copy.items ≡ items.now) }
 {
-    let first = text.copy(alloc)?;
-    match text.copy(alloc) {
-        Ok(second) => Ok((first, second)),
-        Err(want) => {
-            drop(first);
-            Err(want)
+    let mut copy = Vec::new(alloc);
+    for item in items {
+        copy.push(item.copied(alloc)?)?;
+    }
+    Ok(copy)
+}
+
+// The same two values.
+fn copied_both<A: Copied + Drop, B: Copied + Drop>(
+    alloc: Global,
+    a: &A,
+    b: &B,
+) -> Result<(A, B), NoMemory>
+    ensures { IfOk result (λ copies. copies ≡ (a.now, b.now)) }
+{
+    match a.copied(alloc) {
+        Ok(first) => match b.copied(alloc) {
+            Ok(second) => Ok((first, second)),
+            Err(want) => {
+                drop(first);
+                Err(want)
+            }
+        },
+        Err(want) => Err(want),
+    }
+}
+
+impl Copied for Text {
+    fn copied(&self, alloc: Global) -> Result<Text, NoMemory> {
+        self.copy(alloc)
+    }
+}
+
+impl<T: Copied + Drop> Copied for Option<T> {
+    fn copied(&self, alloc: Global) -> Result<Option<T>, NoMemory> {
+        match self {
+            None => Ok(None),
+            Some(item) => match item.copied(alloc) {
+                Ok(copy) => Ok(Some(copy)),
+                Err(want) => Err(want),
+            },
+        }
+    }
+}
+
+impl Copied for TextList {
+    fn copied(&self, alloc: Global) -> Result<TextList, NoMemory> {
+        match copied_each(alloc, self.texts()) {
+            Ok(texts) => Ok(TextList::of(texts)),
+            Err(want) => Err(want),
+        }
+    }
+}
+
+impl Copied for WordPair {
+    fn copied(&self, alloc: Global) -> Result<WordPair, NoMemory> {
+        match copied_both(alloc, &self.from, &self.to) {
+            Ok((from, to)) => Ok(WordPair { from, to }),
+            Err(want) => Err(want),
+        }
+    }
+}
+
+impl Copied for WordPairs {
+    fn copied(&self, alloc: Global) -> Result<WordPairs, NoMemory> {
+        match copied_each(alloc, self.pairs()) {
+            Ok(pairs) => Ok(WordPairs::of(pairs)),
+            Err(want) => Err(want),
+        }
+    }
+}
+
+impl Copied for Pass {
+    fn copied(&self, alloc: Global) -> Result<Pass, NoMemory> {
+        let parts = Vec::from_slice(alloc, self.parts())?;
+        Ok(Pass::new(parts))
+    }
+}
+
+impl Copied for PassList {
+    fn copied(&self, alloc: Global) -> Result<PassList, NoMemory> {
+        match copied_each(alloc, self.passes()) {
+            Ok(passes) => Ok(PassList::new(passes)),
+            Err(want) => Err(want),
         }
     }
 }
@@ -35,21 +119,23 @@ fn copied_twice(alloc: Global, text: &Text) -> Result<(Text, Text), NoMemory>
 fn field_within(alloc: Global, field: &FieldPlan) -> Result<FieldPlan, NoMemory>
     ensures { IfOk result (λ within. within ≡ field_within field.now) }
 {
-    let name = field.name.copy(alloc)?;
-    match copied_twice(alloc, &field.column_a) {
-        Ok((column_a, column_b)) => Ok(FieldPlan {
-            name,
-            column_a,
-            column_b,
-            sort: sort_within(field.sort),
-            compare: field.compare,
-            rare: field.rare,
-            shares: field.shares,
-        }),
-        Err(want) => {
-            drop(name);
-            Err(want)
-        }
+    match field.name.copy(alloc) {
+        Ok(name) => match copied_both(alloc, &field.column_a, &field.column_a) {
+            Ok((column_a, column_b)) => Ok(FieldPlan {
+                name,
+                column_a,
+                column_b,
+                sort: sort_within(field.sort),
+                compare: field.compare,
+                rare: field.rare,
+                shares: field.shares,
+            }),
+            Err(want) => {
+                drop(name);
+                Err(want)
+            }
+        },
+        Err(want) => Err(want),
     }
 }
 
@@ -64,60 +150,6 @@ fn fields_within(alloc: Global, fields: &FieldList) -> Result<FieldList, NoMemor
     Ok(FieldList::new(within))
 }
 
-// The same name, where there is one.
-fn copied_name(alloc: Global, name: &Option<Text>) -> Result<Option<Text>, NoMemory>
-    ensures { IfOk result (λ copy. copy ≡ name.now) }
-{
-    match name {
-        None => Ok(None),
-        Some(name) => Ok(Some(name.copy(alloc)?)),
-    }
-}
-
-// The same texts.
-fn copied_texts(alloc: Global, texts: &TextList) -> Result<TextList, NoMemory>
-    ensures { IfOk result (λ copy. copy ≡ texts.now) }
-{
-    let mut copy = TextList::new(alloc);
-    for text in texts.texts() {
-        copy.push(text.copy(alloc)?)?;
-    }
-    Ok(copy)
-}
-
-// The same pair of words.
-fn copied_pair(alloc: Global, pair: &WordPair) -> Result<WordPair, NoMemory>
-    ensures { IfOk result (λ copy. copy ≡ pair.now) }
-{
-    let from = pair.from.copy(alloc)?;
-    match pair.to.copy(alloc) {
-        Ok(to) => Ok(WordPair { from, to }),
-        Err(want) => {
-            drop(from);
-            Err(want)
-        }
-    }
-}
-
-// The same pairs of words, one by one.
-fn copied_each(alloc: Global, pairs: &[WordPair]) -> Result<Vec<WordPair>, NoMemory>
-    ensures { IfOk result (λ copy. copy.items ≡ pairs.now) }
-{
-    let mut copy = Vec::new(alloc);
-    for pair in pairs {
-        copy.push(copied_pair(alloc, pair)?)?;
-    }
-    Ok(copy)
-}
-
-// The same pairs of words.
-fn copied_pairs(alloc: Global, pairs: &WordPairs) -> Result<WordPairs, NoMemory>
-    ensures { IfOk result (λ copy. copy ≡ pairs.now) }
-{
-    let copy = copied_each(alloc, pairs.pairs())?;
-    Ok(WordPairs::of(copy))
-}
-
 /// The marks of a missing value, titles and suffixes.
 #[derive(Drop)]
 struct Lists {
@@ -126,51 +158,25 @@ struct Lists {
     suffixes: TextList,
 }
 
-// The same titles and suffixes.
-fn copied_affixes(alloc: Global, tables: &Tables) -> Result<(TextList, TextList), NoMemory>
-    ensures { IfOk result (λ copies. copies ≡ (tables.now.titles, tables.now.suffixes)) }
-{
-    let titles = copied_texts(alloc, &tables.titles)?;
-    match copied_texts(alloc, &tables.suffixes) {
-        Ok(suffixes) => Ok((titles, suffixes)),
-        Err(want) => {
-            drop(titles);
-            Err(want)
-        }
-    }
-}
-
 // The same marks, titles and suffixes.
 fn copied_lists(alloc: Global, tables: &Tables) -> Result<Lists, NoMemory>
     ensures missing { IfOk result (λ lists. lists.missing ≡ tables.now.missing) }
     ensures titles { IfOk result (λ lists. lists.titles ≡ tables.now.titles) }
     ensures suffixes { IfOk result (λ lists. lists.suffixes ≡ tables.now.suffixes) }
 {
-    let missing = copied_texts(alloc, &tables.missing)?;
-    match copied_affixes(alloc, tables) {
-        Ok((titles, suffixes)) => Ok(Lists {
-            missing,
-            titles,
-            suffixes,
-        }),
-        Err(want) => {
-            drop(missing);
-            Err(want)
-        }
-    }
-}
-
-// The same words that are replaced in names and in places.
-fn copied_word_tables(alloc: Global, tables: &Tables) -> Result<(WordPairs, WordPairs), NoMemory>
-    ensures { IfOk result (λ copies. copies ≡ (tables.now.names, tables.now.places)) }
-{
-    let names = copied_pairs(alloc, &tables.names)?;
-    match copied_pairs(alloc, &tables.places) {
-        Ok(places) => Ok((names, places)),
-        Err(want) => {
-            drop(names);
-            Err(want)
-        }
+    match tables.missing.copied(alloc) {
+        Ok(missing) => match copied_both(alloc, &tables.titles, &tables.suffixes) {
+            Ok((titles, suffixes)) => Ok(Lists {
+                missing,
+                titles,
+                suffixes,
+            }),
+            Err(want) => {
+                drop(missing);
+                Err(want)
+            }
+        },
+        Err(want) => Err(want),
     }
 }
 
@@ -178,38 +184,22 @@ fn copied_word_tables(alloc: Global, tables: &Tables) -> Result<(WordPairs, Word
 fn copied_tables(alloc: Global, tables: &Tables) -> Result<Tables, NoMemory>
     ensures { IfOk result (λ copy. copy ≡ tables.now) }
 {
-    let lists = copied_lists(alloc, tables)?;
-    match copied_word_tables(alloc, tables) {
-        Ok((names, places)) => Ok(Tables {
-            missing: lists.missing,
-            titles: lists.titles,
-            suffixes: lists.suffixes,
-            names,
-            places,
-        }),
-        Err(want) => {
-            drop(lists);
-            Err(want)
-        }
+    match copied_lists(alloc, tables) {
+        Ok(lists) => match copied_both(alloc, &tables.names, &tables.places) {
+            Ok((names, places)) => Ok(Tables {
+                missing: lists.missing,
+                titles: lists.titles,
+                suffixes: lists.suffixes,
+                names,
+                places,
+            }),
+            Err(want) => {
+                drop(lists);
+                Err(want)
+            }
+        },
+        Err(want) => Err(want),
     }
-}
-
-// The same pass.
-fn copied_pass(alloc: Global, pass: &Pass) -> Result<Pass, NoMemory>
-    ensures { IfOk result (λ copy. copy ≡ pass.now) }
-{
-    Ok(Pass::new(Vec::from_slice(alloc, pass.parts())?))
-}
-
-// The same passes.
-fn copied_passes(alloc: Global, passes: &PassList) -> Result<PassList, NoMemory>
-    ensures { IfOk result (λ copy. copy ≡ passes.now) }
-{
-    let mut copy = Vec::new(alloc);
-    for pass in passes.passes() {
-        copy.push(copied_pass(alloc, pass)?)?;
-    }
-    Ok(PassList::new(copy))
 }
 
 /// The file of A and its ids on both sides.
@@ -233,33 +223,21 @@ struct NamesWithin {
 fn sides_of_a(alloc: Global, plan: &Plan) -> Result<SidesWithin, NoMemory>
     ensures { IfOk result (λ sides. sides ≡ sides_of_a plan.now) }
 {
-    let (file_a, file_b) = copied_twice(alloc, &plan.file_a)?;
-    match copied_twice(alloc, &plan.id_a) {
-        Ok((id_a, id_b)) => Ok(SidesWithin {
-            file_a,
-            file_b,
-            id_a,
-            id_b,
-        }),
-        Err(want) => {
-            drop(file_a);
-            drop(file_b);
-            Err(want)
-        }
-    }
-}
-
-// The same names of the sample and the journal.
-fn copied_names(alloc: Global, plan: &Plan) -> Result<(Option<Text>, Option<Text>), NoMemory>
-    ensures { IfOk result (λ copies. copies ≡ (plan.now.sample, plan.now.journal)) }
-{
-    let sample = copied_name(alloc, &plan.sample)?;
-    match copied_name(alloc, &plan.journal) {
-        Ok(journal) => Ok((sample, journal)),
-        Err(want) => {
-            drop(sample);
-            Err(want)
-        }
+    match copied_both(alloc, &plan.file_a, &plan.file_a) {
+        Ok((file_a, file_b)) => match copied_both(alloc, &plan.id_a, &plan.id_a) {
+            Ok((id_a, id_b)) => Ok(SidesWithin {
+                file_a,
+                file_b,
+                id_a,
+                id_b,
+            }),
+            Err(want) => {
+                drop(file_a);
+                drop(file_b);
+                Err(want)
+            }
+        },
+        Err(want) => Err(want),
     }
 }
 
@@ -267,17 +245,19 @@ fn copied_names(alloc: Global, plan: &Plan) -> Result<(Option<Text>, Option<Text
 fn names_of_a(alloc: Global, plan: &Plan) -> Result<NamesWithin, NoMemory>
     ensures { IfOk result (λ names. names ≡ names_of_a plan.now) }
 {
-    let sides = sides_of_a(alloc, plan)?;
-    match copied_names(alloc, plan) {
-        Ok((sample, journal)) => Ok(NamesWithin {
-            sides,
-            sample,
-            journal,
-        }),
-        Err(want) => {
-            drop(sides);
-            Err(want)
-        }
+    match sides_of_a(alloc, plan) {
+        Ok(sides) => match copied_both(alloc, &plan.sample, &plan.journal) {
+            Ok((sample, journal)) => Ok(NamesWithin {
+                sides,
+                sample,
+                journal,
+            }),
+            Err(want) => {
+                drop(sides);
+                Err(want)
+            }
+        },
+        Err(want) => Err(want),
     }
 }
 
@@ -317,13 +297,15 @@ fn matching_within(alloc: Global, plan: &Plan) -> Result<(FieldList, PassList), 
     ensures fields { IfOk result (λ within. within.0 ≡ map field_within plan.now.fields) }
     ensures passes { IfOk result (λ within. within.1 ≡ plan.now.passes) }
 {
-    let fields = fields_within(alloc, &plan.fields)?;
-    match copied_passes(alloc, &plan.passes) {
-        Ok(passes) => Ok((fields, passes)),
-        Err(want) => {
-            drop(fields);
-            Err(want)
-        }
+    match fields_within(alloc, &plan.fields) {
+        Ok(fields) => match plan.passes.copied(alloc) {
+            Ok(passes) => Ok((fields, passes)),
+            Err(want) => {
+                drop(fields);
+                Err(want)
+            }
+        },
+        Err(want) => Err(want),
     }
 }
 
@@ -341,17 +323,19 @@ fn links_within(alloc: Global, plan: &Plan) -> Result<LinksWithin, NoMemory>
     ensures fields { IfOk result (λ links. links.fields ≡ map field_within plan.now.fields) }
     ensures passes { IfOk result (λ links. links.passes ≡ plan.now.passes) }
 {
-    let tables = copied_tables(alloc, &plan.tables)?;
-    match matching_within(alloc, plan) {
-        Ok((fields, passes)) => Ok(LinksWithin {
-            tables,
-            fields,
-            passes,
-        }),
-        Err(want) => {
-            drop(tables);
-            Err(want)
-        }
+    match copied_tables(alloc, &plan.tables) {
+        Ok(tables) => match matching_within(alloc, plan) {
+            Ok((fields, passes)) => Ok(LinksWithin {
+                tables,
+                fields,
+                passes,
+            }),
+            Err(want) => {
+                drop(tables);
+                Err(want)
+            }
+        },
+        Err(want) => Err(want),
     }
 }
 
@@ -359,12 +343,14 @@ fn links_within(alloc: Global, plan: &Plan) -> Result<LinksWithin, NoMemory>
 pub(crate) fn plan_within(alloc: Global, plan: &Plan) -> Result<Plan, NoMemory>
     ensures { IfOk result (λ within. within ≡ plan_within plan.now) }
 {
-    let names = names_of_a(alloc, plan)?;
-    match links_within(alloc, plan) {
-        Ok(links) => Ok(plan_of_parts(plan, names, links.tables, links.fields, links.passes)),
-        Err(want) => {
-            drop(names);
-            Err(want)
-        }
+    match names_of_a(alloc, plan) {
+        Ok(names) => match links_within(alloc, plan) {
+            Ok(links) => Ok(plan_of_parts(plan, names, links.tables, links.fields, links.passes)),
+            Err(want) => {
+                drop(names);
+                Err(want)
+            }
+        },
+        Err(want) => Err(want),
     }
 }

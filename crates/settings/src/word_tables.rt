@@ -47,7 +47,10 @@ impl Reader for Texts {
             high: self.most,
             element: self.rule,
         };
-        Ok(TextList::of(items.read(alloc, place, value)?))
+        match items.read(alloc, place, value) {
+            Ok(texts) => Ok(TextList::of(texts)),
+            Err(fault) => Err(fault),
+        }
     }
 }
 
@@ -57,13 +60,15 @@ fn word_pair(alloc: Global, place: &Place, key: &str, value: &Value) -> Result<W
     if !fits(TextRule::Word, key) {
         return place.out_of_range(alloc);
     }
-    let to = Reader::read(&TextRule::Word, alloc, place, value)?;
-    match Text::new(alloc, key.as_bytes()) {
-        Ok(from) => Ok(WordPair { from, to }),
-        Err(NoMemory) => {
-            drop(to);
-            Err(Fault::NoMemory)
-        }
+    match Reader::read(&TextRule::Word, alloc, place, value) {
+        Ok(to) => match Text::new(alloc, key.as_bytes()) {
+            Ok(from) => Ok(WordPair { from, to }),
+            Err(NoMemory) => {
+                drop(to);
+                Err(Fault::NoMemory)
+            }
+        },
+        Err(fault) => Err(fault),
     }
 }
 

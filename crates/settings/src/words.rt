@@ -1,6 +1,5 @@
 // The words that name choices.
-ghost use Rattle.std.specs.Prelude.{◌≡◌};
-ghost use Rattle.settings.specs.Words.{delimiter_named, kind_named, form_named, name_compare, date_compare, compare_named, name_key, date_key, key_named};
+ghost use Rattle.settings.specs.Words.{delimiter_named, kind_named, form_named, compare_named, key_named};
 
 use link_base::{DateForm, FieldSort};
 use settings_readers::{Choices, named_in};
@@ -114,18 +113,6 @@ impl Choices for Forms {
     }
 }
 
-fn name_compare(text: &str) -> Option<CompareWord>
-    ensures { result ≡ name_compare text.now }
-{
-    named_in(&NAME_COMPARES, text)
-}
-
-fn date_compare(text: &str) -> Option<CompareWord>
-    ensures { result ≡ date_compare text.now }
-{
-    named_in(&DATE_COMPARES, text)
-}
-
 /// The comparisons of a kind.
 impl Choices for Kind {
     type Item = CompareWord;
@@ -134,22 +121,10 @@ impl Choices for Kind {
 
     fn named(&self, text: &str) -> Option<CompareWord> {
         match self {
-            Kind::Name | Kind::Place => name_compare(text),
-            Kind::Date => date_compare(text),
+            Kind::Name | Kind::Place => named_in(&NAME_COMPARES, text),
+            Kind::Date => named_in(&DATE_COMPARES, text),
         }
     }
-}
-
-fn name_key(text: &str) -> Option<KeyWord>
-    ensures { result ≡ name_key text.now }
-{
-    named_in(&NAME_KEYS, text)
-}
-
-fn date_key(text: &str) -> Option<KeyWord>
-    ensures { result ≡ date_key text.now }
-{
-    named_in(&DATE_KEYS, text)
 }
 
 /// The keys of a sort of field.
@@ -163,8 +138,8 @@ impl Choices for KeysOf {
 
     fn named(&self, text: &str) -> Option<KeyWord> {
         match self.0 {
-            FieldSort::Name | FieldSort::Place => name_key(text),
-            FieldSort::Date(_, _) => date_key(text),
+            FieldSort::Name | FieldSort::Place => named_in(&NAME_KEYS, text),
+            FieldSort::Date(_, _) => named_in(&DATE_KEYS, text),
         }
     }
 }
