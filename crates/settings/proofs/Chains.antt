@@ -73,6 +73,22 @@ both_refused p q next f h = refused_same (both p q >>= λ ab. next ab.0 ab.1) (p
 both_then_refused : {A B C : Type 0} (p : Result A Fault) (q : A → Result B Fault) (next : A → B → Result C Fault) (x : A) (y : B) (f : Fault) → both p q ≡ Ok (x, y) → Refuses (next x y) f → Refuses (p >>= λ a. q a >>= λ b. next a b) f
 both_then_refused p q next x y f is h = refused_same (next x y) (p >>= λ a. q a >>= λ b. next a b) f (sym (both_given p q next x y (next x y) is refl)) h
 
+-- the same of two steps after another, whose value goes no further
+later_then : {A B C D : Type 0} (p : Result A Fault) (q : A → Result B Fault) (r : B → Result C Fault) (next : B → C → Result D Fault)
+    → ((p >>= λ a. both (q a) r) >>= λ bc. next bc.0 bc.1) ≡ (p >>= λ a. q a >>= λ b. r b >>= λ c. next b c)
+later_then p q r next =
+    then_assoc p (λ a. both (q a) r) (λ bc. next bc.0 bc.1)
+    ∙ then_same p (λ a. both (q a) r >>= λ bc. next bc.0 bc.1) (λ a. q a >>= λ b. r b >>= λ c. next b c) (λ a. both_then (q a) r next)
+
+pub later_given : {A B C D : Type 0} (p : Result A Fault) (q : A → Result B Fault) (r : B → Result C Fault) (next : B → C → Result D Fault) (x : B) (y : C) (all : Result D Fault)
+    → (p >>= λ a. both (q a) r) ≡ Ok (x, y) → next x y ≡ all → (p >>= λ a. q a >>= λ b. r b >>= λ c. next b c) ≡ all
+later_given p q r next x y all is h = sym (later_then p q r next) ∙ ap (λ z. z >>= λ bc. next bc.0 bc.1) is ∙ h
+
+pub later_refused : {A B C D : Type 0} (p : Result A Fault) (q : A → Result B Fault) (r : B → Result C Fault) (next : B → C → Result D Fault) (f : Fault)
+    → Refuses (p >>= λ a. both (q a) r) f → Refuses (p >>= λ a. q a >>= λ b. r b >>= λ c. next b c) f
+later_refused p q r next f h =
+    refused_same ((p >>= λ a. both (q a) r) >>= λ bc. next bc.0 bc.1) (p >>= λ a. q a >>= λ b. r b >>= λ c. next b c) f (later_then p q r next) (refuses_then (p >>= λ a. both (q a) r) (λ bc. next bc.0 bc.1) f h)
+
 -- the same of two keys that have to be there, and of two that may be there
 pub needed_given : {A C : Type 0} (read : List ℕ → Data → Result A Fault) (t : Members) (above key other : List ℕ) (next : A → A → Result C Fault) (x y : A) (all : Result C Fault)
     → needed_both read t above key other ≡ Ok (x, y) → next x y ≡ all → (needed read t above key >>= λ a. needed read t above other >>= λ b. next a b) ≡ all

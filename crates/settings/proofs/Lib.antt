@@ -13,5 +13,5 @@ pub mod Ranges
 pub mod WithinRanges
 pub mod Answered
 pub mod Chains
-pub mod Spans
+pub mod NamedSteps
 pub mod Loops

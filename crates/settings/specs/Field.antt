@@ -144,6 +144,14 @@ name_keys before t above = do
   column_b ← defaulted (text rule.Label) name t above (codes "column_b")
   Ok (record { name = name; column_a = column_a; column_b = column_b })
 
+-- the comparison of a field of a kind, and its rare number
+unfoldable pub comparison : Kind → Members → List ℕ → Result (CompareKind × Option ℕ) Fault
+comparison kind t above = do
+  word ← needed (choice (compare_named kind)) t above (codes "compare")
+  compare ← compare_by word t above
+  rare ← rare_number compare t above
+  Ok (compare, rare)
+
 -- what a field holds, how it is compared, and its rare number
 unfoldable pub compare_keys : Members → List ℕ → Result CompareKeys Fault
 compare_keys t above = do

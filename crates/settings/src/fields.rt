@@ -7,7 +7,7 @@ ghost use Rattle.link_base.specs.Fault.{Gives, IsAnswer};
 ghost use Rattle.settings.specs.Plan.{plain_shares};
 ghost use Rattle.settings.specs.Field.{new_name, name_keys, compare_keys, given_shares, no_shares, field_shares, measure_keys, field, fields};
 
-use crate::kinds::{compare_by, rare_number, sort_of};
+use crate::kinds::{comparison, sort_of};
 use crate::plan::{FieldList, FieldPlan};
 use crate::shares::Shares;
 use crate::texts::{TextRule, labels};
@@ -90,16 +90,20 @@ fn name_keys(alloc: Global, before: &[FieldPlan], keys: &Keys) -> Result<NameKey
 fn compare_keys(alloc: Global, keys: &Keys) -> Result<CompareKeys, Fault>
     ensures { IsAnswer (compare_keys (table_view keys.now.table.now) keys.now.above.now) result }
 {
-    let kind = keys.needed(alloc, &Choice(Kinds), "kind")?;
-    let sort = sort_of(alloc, kind, keys)?;
-    let word = keys.needed(alloc, &Choice(kind), "compare")?;
-    let compare = compare_by(alloc, word, keys)?;
-    let rare = rare_number(alloc, compare, keys)?;
-    Ok(CompareKeys {
-        sort,
-        compare,
-        rare,
-    })
+    match keys.needed(alloc, &Choice(Kinds), "kind") {
+        Ok(kind) => match sort_of(alloc, kind, keys) {
+            Ok(sort) => match comparison(alloc, kind, keys) {
+                Ok((compare, rare)) => Ok(CompareKeys {
+                    sort,
+                    compare,
+                    rare,
+                }),
+                Err(fault) => Err(fault),
+            },
+            Err(fault) => Err(fault),
+        },
+        Err(fault) => Err(fault),
+    }
 }
 
 #[tactic(auto, unfolding(crate::specs::Field::given_shares))]
@@ -162,21 +166,23 @@ fn field(
     ensures { IsAnswer (field sampled before.now (table_view keys.now.table.now) keys.now.above.now) result }
 {
     keys.known(alloc, &FIELD_KEYS)?;
-    let named = name_keys(alloc, before, keys)?;
-    match measure_keys(alloc, sampled, keys) {
-        Ok((compared, shares)) => Ok(FieldPlan {
-            name: named.name,
-            column_a: named.column_a,
-            column_b: named.column_b,
-            sort: compared.sort,
-            compare: compared.compare,
-            rare: compared.rare,
-            shares,
-        }),
-        Err(fault) => {
-            drop(named);
-            Err(fault)
-        }
+    match name_keys(alloc, before, keys) {
+        Ok(named) => match measure_keys(alloc, sampled, keys) {
+            Ok((compared, shares)) => Ok(FieldPlan {
+                name: named.name,
+                column_a: named.column_a,
+                column_b: named.column_b,
+                sort: compared.sort,
+                compare: compared.compare,
+                rare: compared.rare,
+                shares,
+            }),
+            Err(fault) => {
+                drop(named);
+                Err(fault)
+            }
+        },
+        Err(fault) => Err(fault),
     }
 }
 

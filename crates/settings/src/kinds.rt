@@ -2,7 +2,7 @@
 ghost use Rattle.std.specs.Prelude.{◌≡◌};
 ghost use Rattle.toml.specs.View.{table_view};
 ghost use Rattle.link_base.specs.Fault.{IsAnswer};
-ghost use Rattle.settings.specs.Field.{date_sort, plain_sort, sort_of, by_letters, span, by_days, by_years, plain_compare, compare_by, may_be_rare, rare_number};
+ghost use Rattle.settings.specs.Field.{date_sort, plain_sort, sort_of, by_letters, span, by_days, by_years, plain_compare, compare_by, may_be_rare, rare_number, comparison};
 
 use crate::limits::{LEAST_RARE, MOST_DAYS, MOST_RARE, MOST_YEARS};
 use crate::texts::Letters;
@@ -89,12 +89,8 @@ fn plain_compare(alloc: Global, compare: CompareKind, keys: &Keys) -> Result<Com
     keys.without_both(alloc, "n", "t", compare)
 }
 
-/// The comparison that a word names, with its number where it has one.
-pub(crate) fn compare_by(
-    alloc: Global,
-    word: CompareWord,
-    keys: &Keys,
-) -> Result<CompareKind, Fault>
+// The comparison that a word names, with its number where it has one.
+fn compare_by(alloc: Global, word: CompareWord, keys: &Keys) -> Result<CompareKind, Fault>
     ensures { IsAnswer (compare_by word (table_view keys.now.table.now) keys.now.above.now) result }
 {
     match word {
@@ -117,12 +113,8 @@ fn may_be_rare(compare: CompareKind) -> bool
     )
 }
 
-/// The rare number of a field that is compared so.
-pub(crate) fn rare_number(
-    alloc: Global,
-    compare: CompareKind,
-    keys: &Keys,
-) -> Result<Option<u32>, Fault>
+// The rare number of a field that is compared so.
+fn rare_number(alloc: Global, compare: CompareKind, keys: &Keys) -> Result<Option<u32>, Fault>
     ensures { IsAnswer (rare_number compare (table_view keys.now.table.now) keys.now.above.now) result }
 {
     if may_be_rare(compare) {
@@ -133,4 +125,25 @@ pub(crate) fn rare_number(
         return keys.optional(alloc, &most, "rare");
     }
     keys.without(alloc, "rare", None)
+}
+
+/// The comparison of a field of a kind, and its rare number.
+#[tactic(auto, unfolding(crate::specs::Field::comparison))]
+pub(crate) fn comparison(
+    alloc: Global,
+    kind: Kind,
+    keys: &Keys,
+) -> Result<(CompareKind, Option<u32>), Fault>
+    ensures { IsAnswer (comparison kind (table_view keys.now.table.now) keys.now.above.now) result }
+{
+    match keys.needed(alloc, &Choice(kind), "compare") {
+        Ok(word) => match compare_by(alloc, word, keys) {
+            Ok(compare) => match rare_number(alloc, compare, keys) {
+                Ok(rare) => Ok((compare, rare)),
+                Err(fault) => Err(fault),
+            },
+            Err(fault) => Err(fault),
+        },
+        Err(fault) => Err(fault),
+    }
 }

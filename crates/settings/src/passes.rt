@@ -2,7 +2,7 @@
 ghost use Rattle.std.specs.Prelude.{◌≡◌};
 ghost use Rattle.toml.specs.View.{table_view};
 ghost use Rattle.link_base.specs.Fault.{IsAnswer};
-ghost use Rattle.settings.specs.Pass.{field_named, first_key, plain_key, key_by, part, parts, pass, passes};
+ghost use Rattle.settings.specs.Pass.{field_named, first_key, plain_key, key_by, key_of, part, parts, pass, passes};
 
 use crate::limits::{MOST_PARTS, MOST_PASSES};
 use crate::plan::FieldList;
@@ -75,15 +75,27 @@ fn key_by(alloc: Global, word: KeyWord, keys: &Keys) -> Result<KeyKind, Fault>
     }
 }
 
+// The key of a field of a sort.
+#[tactic(auto, unfolding(crate::specs::Pass::key_of))]
+fn key_of(alloc: Global, sort: FieldSort, keys: &Keys) -> Result<KeyKind, Fault>
+    ensures { IsAnswer (key_of sort (table_view keys.now.table.now) keys.now.above.now) result }
+{
+    match keys.needed(alloc, &Choice(KeysOf(sort)), "key") {
+        Ok(word) => key_by(alloc, word, keys),
+        Err(fault) => Err(fault),
+    }
+}
+
 #[tactic(auto, unfolding(crate::specs::Pass::part))]
 fn part(alloc: Global, fields: &FieldList, keys: &Keys) -> Result<Part, Fault>
     ensures { IsAnswer (part fields.now (table_view keys.now.table.now) keys.now.above.now) result }
 {
     keys.known(alloc, &PART_KEYS)?;
     let (field, sort) = keys.needed(alloc, &Choice(FieldNames { fields }), "field")?;
-    let word = keys.needed(alloc, &Choice(KeysOf(sort)), "key")?;
-    let key = key_by(alloc, word, keys)?;
-    Ok(Part { field, key })
+    match key_of(alloc, sort, keys) {
+        Ok(key) => Ok(Part { field, key }),
+        Err(fault) => Err(fault),
+    }
 }
 
 /// A part's table, over these fields.

@@ -387,19 +387,21 @@ fn plan_of(alloc: Global, keys: &Keys) -> Result<Plan, Fault>
     ensures places { IfOk result (λ plan. AreWordPairs plan.tables.places) }
 {
     keys.known(alloc, &TOP_KEYS)?;
-    let sources = sources(alloc, keys)?;
-    match link_keys(alloc, sources.sample.is_some(), keys) {
-        Ok(links) => Ok(plan_from(
-            sources,
-            links.numbers,
-            links.tables,
-            links.fields,
-            links.passes,
-        )),
-        Err(fault) => {
-            drop(sources);
-            Err(fault)
-        }
+    match sources(alloc, keys) {
+        Ok(sources) => match link_keys(alloc, sources.sample.is_some(), keys) {
+            Ok(links) => Ok(plan_from(
+                sources,
+                links.numbers,
+                links.tables,
+                links.fields,
+                links.passes,
+            )),
+            Err(fault) => {
+                drop(sources);
+                Err(fault)
+            }
+        },
+        Err(fault) => Err(fault),
     }
 }
 

@@ -1,7 +1,7 @@
-use Rattle.std.proofs.Common.{refl}
 use Rattle.link_base.proofs.AnswerFacts.{refuses_then}
 use Rattle.settings.specs.Pass.{part}
 use Rattle.settings.proofs.Chains.{handed_on, then_given, then_refused}
+use Rattle.settings.proofs.NamedSteps.{by_key, no_key}
 use Rattle.settings.proofs.passes.part.Goals as goal
 
 pub returns-in_err-known : goal.returns-in_err-known
@@ -14,16 +14,10 @@ unfolding part
 returns-in_err-field c =
     handed_on _ _ _ _ c.from_residual-in_err-field.ensures.0 c.from_residual-in_err-field.ensures.1 (then_refused _ _ _ _ c.in_ok-known.ensures (refuses_then _ _ _ c.in_err-field.ensures))
 
-pub returns-in_err-word : goal.returns-in_err-word
+pub returns-in-Err : goal.returns-in-Err
 unfolding part
-returns-in_err-word c =
-    handed_on _ _ _ _ c.from_residual-in_err-word.ensures.0 c.from_residual-in_err-word.ensures.1 (then_refused _ _ _ _ c.in_ok-known.ensures (then_refused _ _ _ _ c.in_ok-field.ensures (refuses_then _ _ _ c.in_err-word.ensures)))
+returns-in-Err c = then_refused _ _ _ _ c.in_ok-known.ensures (then_refused _ _ _ _ c.in_ok-field.ensures (no_key _ _ _ _ _ c.in-Err.ensures))
 
-pub returns-in_err-key : goal.returns-in_err-key
+pub returns-in-Ok : goal.returns-in-Ok
 unfolding part
-returns-in_err-key c =
-    handed_on _ _ _ _ c.from_residual-in_err-key.ensures.0 c.from_residual-in_err-key.ensures.1 (then_refused _ _ _ _ c.in_ok-known.ensures (then_refused _ _ _ _ c.in_ok-field.ensures (then_refused _ _ _ _ c.in_ok-word.ensures (refuses_then _ _ _ c.in_err-key.ensures))))
-
-pub returns : goal.returns
-unfolding part
-returns c = then_given _ _ _ _ c.in_ok-known.ensures (then_given _ _ _ _ c.in_ok-field.ensures (then_given _ _ _ _ c.in_ok-word.ensures (then_given _ _ _ _ c.in_ok-key.ensures refl)))
+returns-in-Ok c = then_given _ _ _ _ c.in_ok-known.ensures (then_given _ _ _ _ c.in_ok-field.ensures (by_key _ _ _ _ _ c.in-Ok.ensures))

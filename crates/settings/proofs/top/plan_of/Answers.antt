@@ -10,19 +10,18 @@ unfolding plan_in_parts
 returns-in_err-known-clause-gives c =
     handed_on _ _ _ _ c.from_residual.ensures.0 c.from_residual.ensures.1 (refuses_then _ _ _ c.in_err-known.ensures)
 
-pub returns-in_err-sources-clause-gives : goal.returns-in_err-sources-clause-gives
-unfolding plan_in_parts
-returns-in_err-sources-clause-gives c =
-    handed_on _ _ _ _ c.from_residual-in_err-sources.ensures.0 c.from_residual-in_err-sources.ensures.1 (then_refused _ _ _ _ c.in_ok-known.ensures (refuses_then _ _ _ c.in_err-sources.ensures))
-
 pub returns-in-Err-clause-gives : goal.returns-in-Err-clause-gives
 unfolding plan_in_parts
-returns-in-Err-clause-gives c =
-    let same = ap (λ (sampled : Bool). link_keys sampled (table_view c.args.keys.now.table.now) c.args.keys.now.above.now) c.is_some.ensures in
-    then_refused _ _ _ _ c.in_ok-known.ensures (then_refused _ _ _ _ c.in_ok-sources.ensures (refuses_then _ _ _ (refused_same _ _ _ same c.in-Err.ensures.gives)))
+returns-in-Err-clause-gives c = then_refused _ _ _ _ c.in_ok-known.ensures (refuses_then _ _ _ c.in-Err.ensures)
 
-pub returns-in-Ok-clause-gives : goal.returns-in-Ok-clause-gives
+pub returns-in-Err-link_keys-clause-gives : goal.returns-in-Err-link_keys-clause-gives
 unfolding plan_in_parts
-returns-in-Ok-clause-gives c =
+returns-in-Err-link_keys-clause-gives c =
     let same = ap (λ (sampled : Bool). link_keys sampled (table_view c.args.keys.now.table.now) c.args.keys.now.above.now) c.is_some.ensures in
-    then_given _ _ _ _ c.in_ok-known.ensures (then_given _ _ _ _ c.in_ok-sources.ensures (then_given _ _ _ _ (sym same ∙ c.in-Ok.ensures.gives) (ap Ok (sym c.plan_from.ensures.gives))))
+    then_refused _ _ _ _ c.in_ok-known.ensures (then_refused _ _ _ _ c.in-Ok.ensures (refuses_then _ _ _ (refused_same _ _ _ same c.in-Err-link_keys.ensures.gives)))
+
+pub returns-in-Ok-link_keys-clause-gives : goal.returns-in-Ok-link_keys-clause-gives
+unfolding plan_in_parts
+returns-in-Ok-link_keys-clause-gives c =
+    let same = ap (λ (sampled : Bool). link_keys sampled (table_view c.args.keys.now.table.now) c.args.keys.now.above.now) c.is_some.ensures in
+    then_given _ _ _ _ c.in_ok-known.ensures (then_given _ _ _ _ c.in-Ok.ensures (then_given _ _ _ _ (sym same ∙ c.in-Ok-link_keys.ensures.gives) (ap Ok (sym c.plan_from.ensures.gives))))
