@@ -1,10 +1,12 @@
 -- How many edges are not relaxed yet.
 use Rattle.std.proofs.Common.{◌≡◌, ◌≢◌, ◌⊎◌, ℕ, zero, suc, ◌+◌, ◌<◌, ◌≤◌, Bool, true, false, cond, List, [], ◌∷◌, length, set, refl, inl, inr, arith, get_or-set_other, get_or-set_same}
+use Rattle.std.specs.Prelude.{◌==◌}
 use Rattle.std.proofs.lemmas.Bool.{cases_eq}
+use Rattle.std.proofs.lemmas.List.Sums.{sum_by-set}
 use Rattle.std.proofs.lemmas.Bool.Decides.{nat_tests}
 use Rattle.assignment_steps.specs.declared.market.Edge.{Edge}
 use Rattle.assignment_steps.specs.Market.{edge}
-use Rattle.assignment.specs.Growth.{far, distance, count_at, is_left, left}
+use Rattle.assignment.specs.Growth.{far, distance, count_at, is_left, left, unreached}
 
 pub count_same : (t u : Edge → ℕ → Bool) (xs : List Edge) (i : ℕ) → ((k : ℕ) → k < length xs → t (edge xs k) (i + k) ≡ u (edge xs k) (i + k)) → count_at t xs i ≡ count_at u xs i
 count_same t u [] i h = refl
@@ -74,3 +76,11 @@ left_joined es da position last dist lt new near =
       | inl e ↦ rw (e, get_or-set_same da position dist far lt) (grind (arith, nat_tests))
       | inr ne ↦ rw (get_or-set_other da position (edge es k).a dist far ne) (grind (arith, nat_tests))
     ])
+
+-- one record fewer is not reached where a far one gets a distance
+pub unreached_set : (xs : List ℕ) (i x : ℕ) → i < length xs → distance xs i ≡ far → x < far → unreached (set xs i x) + 1 ≡ unreached xs
+unreached_set xs i x lt away near =
+    let written = sum_by-set (λ d. cond (d == far) 1 0) xs i x far lt in
+    let on : (distance xs i == far) ≡ true = grind (arith, nat_tests) in
+    let off : (x == far) ≡ false = grind (arith, nat_tests) in
+    omega (arith, simp (on, off) at written)

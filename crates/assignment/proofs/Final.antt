@@ -251,7 +251,7 @@ rising_edges (c ∷ cs) h = rising_head c (edges_of cs)
 pub none_linked : (n r : ℕ) → link (replicate n None) r ≡ None
 none_linked n r = elim (cases_lt r n) [ inl lt ↦ get_or-replicate n r None None lt | inr past ↦ get_or_past (replicate n None) r None (omega (arith, length-replicate {A = Option ℕ} n None)) ]
 
-all_zero : (n r : ℕ) → number (replicate n 0) r ≡ 0
+pub all_zero : (n r : ℕ) → number (replicate n 0) r ≡ 0
 all_zero n r = elim (cases_lt r n) [ inl lt ↦ get_or-replicate n r 0 0 lt | inr past ↦ get_or_past (replicate n 0) r 0 (omega (arith, length-replicate {A = ℕ} n 0)) ]
 
 pub between_first : (es : List Edge) (rows_a rows_b : ℕ) (pa : List ℕ) → IsInRange es rows_a rows_b → ReachAll es rows_a pa → IsBetween es pa (replicate rows_b 0) (replicate rows_a None) (replicate rows_b None) 0

@@ -1,7 +1,9 @@
--- Machinery of `Assigner`: the edges of candidates from both sides.
-use Rattle.std.specs.Prelude.{◌≡◌, ℕ, ◌+◌, vec_len}
+-- Machinery of `Assigner`: the edges of candidates from both sides, and the sides that search over them.
+use Rattle.std.specs.Prelude.{◌≡◌, ℕ, ◌+◌, length, vec_len, MatchOption}
 use Rattle.assignment_steps.specs.Market.{IsRising, IsInRange, AreSmall, AreStarts}
 use Rattle.assignment.specs.declared.graph.Graph.{Graph}
+use Rattle.assignment.specs.declared.graph.Sides.{Sides}
+use Rattle.assignment.specs.Sides.{IsOther, IsSide}
 
 -- the edges and the turned edges are in range, and their starts are told
 pub record IsGraph (rows_a rows_b : ℕ) (g : Graph) : Type 0 where
@@ -13,3 +15,10 @@ pub record IsGraph (rows_a rows_b : ℕ) (g : Graph) : Type 0 where
   pub turned_small : AreSmall g.turned.items
   pub turned_count : vec_len g.turned_starts ≡ rows_b + 1
   pub turned_starts : IsRising g.turned.items → AreStarts g.turned.items rows_b g.turned_starts.items
+
+-- the sides stand over the edges and the turned edges, for so many records
+pub record AreSides (rows_a rows_b : ℕ) (g : Graph) (s : Sides) : Type 0 where
+  pub own : IsSide g.edges.items s.own
+  pub count_a : length s.own.price_a.items ≡ rows_a
+  pub count_b : length s.own.price_b.items ≡ rows_b
+  pub other : MatchOption s.other (Unit {0}) (IsOther g.turned.items rows_a rows_b)

@@ -4,11 +4,10 @@ ghost use Rattle.assignment_laws.specs.Assignment.{IsBefore, IsWithin, IsGreates
 ghost use Rattle.assignment_laws.specs.PartNumbers.{ArePartNumbers};
 ghost use Rattle.assignment.specs.Solution.{HasSmallValue};
 
-use crate::graph::{first_sides, graph_of};
-use crate::side::{Other, Side, run, run_other};
+use crate::graph::{Graph, Sides, first_sides, graph_of, run_sides};
+use crate::side::Side;
 use crate::solve::linked;
 use assignment_laws::{PartNumbers, certified_is_greatest, part_numbers};
-use assignment_steps::{Board, Edge};
 use link_base::{Candidate, NoMemory};
 use link_limits::MOST_PAIRS;
 use std::alloc::Global;
@@ -21,12 +20,8 @@ pub struct Assigner {
     rows_b: u32,
     candidates: Vec<Candidate>,
     part_numbers: PartNumbers,
-    edges: Vec<Edge>,
-    starts: Vec<usize>,
-    turned: Vec<Edge>,
-    turned_starts: Vec<usize>,
-    own: Side,
-    other: Option<Other>,
+    graph: Graph,
+    sides: Sides,
 }
 
 impl Model for Assigner {
@@ -88,12 +83,8 @@ impl Assigner {
             rows_b,
             candidates,
             part_numbers,
-            edges: graph.edges,
-            starts: graph.starts,
-            turned: graph.turned,
-            turned_starts: graph.turned_starts,
-            own: sides.own,
-            other: sides.other,
+            graph,
+            sides,
         })
     }
 
@@ -127,33 +118,25 @@ impl Assigner {
             rows_a: _,
             rows_b: _,
             candidates,
-            part_numbers: _,
-            edges,
-            starts,
-            turned,
-            turned_starts,
-            mut own,
-            other,
+            part_numbers,
+            graph,
+            sides,
         } = self;
-        let board = Board {
-            edges: &edges,
-            starts: &starts,
-            turned: &turned,
-            turned_starts: &turned_starts,
-        };
-        run_other(board, &mut own, other);
-        run(board, &mut own);
+        drop(part_numbers);
         let Side {
             price_a,
             price_b,
             link_a,
-            link_b: _,
+            link_b,
             tree,
             spare,
-        } = own;
+        } = run_sides(&graph, sides);
+        drop(link_b);
         drop(tree);
         drop(spare);
-        let links = linked(candidates, &edges, &link_a);
+        let links = linked(candidates, &graph.edges, &link_a);
+        drop(link_a);
+        drop(graph);
         Assignment {
             links,
             price_a,

@@ -1,14 +1,14 @@
 // The edges from both sides, and the sides that search over them.
-ghost use Rattle.std.specs.Prelude.{◌≡◌, ℕ, All, AllPairs, IfOk, MatchOption, length};
+ghost use Rattle.std.specs.Prelude.{◌≡◌, All, AllPairs, IfOk, length};
 ghost use Rattle.assignment_laws.specs.Assignment.{IsBefore, IsWithin};
+ghost use Rattle.assignment_steps.specs.Between.{IsBetween};
 ghost use Rattle.assignment.specs.Final.{edges_of};
-ghost use Rattle.assignment.specs.Graph.{IsGraph};
-ghost use Rattle.assignment.specs.Sides.{IsOther, IsSide};
+ghost use Rattle.assignment.specs.Graph.{AreSides, IsGraph};
 ghost use Rattle.assignment.specs.Solution.{HasSmallValue};
 
-use crate::side::{Other, Side, first_side, other_if_less};
+use crate::side::{Other, Side, first_side, other_if_less, run, run_other};
 use crate::solve::{edges_of, first_prices};
-use assignment_steps::{Edge, starts_of, starts_or_zeros, turned_edges};
+use assignment_steps::{Board, Edge, starts_of, starts_or_zeros, turned_edges};
 use link_base::{Candidate, NoMemory};
 use std::alloc::Global;
 
@@ -61,10 +61,7 @@ pub fn first_sides(
     graph: &Graph,
 ) -> Result<Sides, NoMemory>
     requires { IsGraph rows_a rows_b graph.now }
-    ensures own { IfOk result (λ s. IsSide graph.now.edges.items s.own) }
-    ensures rows_a { IfOk result (λ s. length s.own.price_a.items ≡ rows_a) }
-    ensures rows_b { IfOk result (λ s. length s.own.price_b.items ≡ rows_b) }
-    ensures other { IfOk result (λ s. MatchOption s.other (Unit {0}) (IsOther graph.now.turned.items rows_a rows_b)) }
+    ensures { IfOk result (AreSides rows_a rows_b graph.now) }
 {
     let price_a = first_prices(alloc, &graph.edges, rows_a as usize)?;
     let price_b = first_prices(alloc, &graph.turned, rows_b as usize)?;
@@ -76,4 +73,24 @@ pub fn first_sides(
             Err(error)
         }
     }
+}
+
+/// Lets the other side search, if it is there, and then the side that searches, which is given back.
+pub fn run_sides(graph: &Graph, sides: Sides) -> Side
+    requires graph { IsGraph (length sides.own.price_a.items) (length sides.own.price_b.items) graph.now }
+    requires sides { AreSides (length sides.own.price_a.items) (length sides.own.price_b.items) graph.now sides }
+    ensures between { IsBetween graph.now.edges.items result.price_a.items result.price_b.items result.link_a.items result.link_b.items (length result.price_a.items) }
+    ensures rows_a { length result.price_a.items ≡ length sides.own.price_a.items }
+    ensures rows_b { length result.price_b.items ≡ length sides.own.price_b.items }
+{
+    let Sides { mut own, other } = sides;
+    let board = Board {
+        edges: &graph.edges,
+        starts: &graph.starts,
+        turned: &graph.turned,
+        turned_starts: &graph.turned_starts,
+    };
+    run_other(board, &mut own, other);
+    run(board, &mut own);
+    own
 }

@@ -10,7 +10,7 @@ ghost use Rattle.assignment.specs.Sides.{IsOther, IsSide, IsTakenOver};
 
 use crate::market::Tree;
 use crate::room::room_for_side;
-use crate::round::{all_rounds, search_each};
+use crate::round::search_each;
 use crate::solve::{free_links, zeros};
 use crate::spare::{Spare, take_proposal};
 use assignment_steps::{
@@ -154,12 +154,13 @@ fn settle(
         link_a,
         link_b,
         tree,
+        true,
     );
     if waiting(price_a, link_a) == 0 {
         return;
     }
     take_proposal(board, price_a, price_b, link_a, link_b, spare);
-    all_rounds(
+    search_each(
         board.edges,
         board.starts,
         price_a,
@@ -167,6 +168,7 @@ fn settle(
         link_a,
         link_b,
         tree,
+        false,
     );
 }
 

@@ -73,7 +73,7 @@ pub fn first_prices(alloc: Global, edges: &[Edge], rows_a: usize) -> Result<Vec<
     requires within { (k : ℕ) → k < length edges.now → (edge edges.now k).a < rows_a }
     ensures { IfOk result (λ v. ReachAll edges.now rows_a v.items) }
 {
-    let mut prices = vec![in alloc; 0u64; rows_a]?;
+    let mut prices = zeros(alloc, rows_a)?;
     for k in 0..edges.len() {
         raise_to(&mut prices, edges[k].a as usize, edges[k].value as u64);
     }

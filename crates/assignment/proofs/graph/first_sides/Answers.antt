@@ -1,4 +1,39 @@
+use Rattle.std.proofs.Common.{◌∙◌}
+use Rattle.assignment.specs.Final.{ReachAll}
 use Rattle.assignment.proofs.graph.first_sides.Goals as goal
+
+pub first_prices-requires-clause-small : goal.first_prices-requires-clause-small
+first_prices-requires-clause-small c = rw c.deref.ensures.value c.requires.small
 
 pub first_prices-requires-clause-within : goal.first_prices-requires-clause-within
 first_prices-requires-clause-within c = rw c.deref.ensures.value c.requires.in_range.record_a
+
+pub first_prices-requires-2-clause-small : goal.first_prices-requires-2-clause-small
+first_prices-requires-2-clause-small c = rw c.deref-2.ensures.value c.requires.turned_small
+
+pub first_prices-requires-2-clause-within : goal.first_prices-requires-2-clause-within
+first_prices-requires-2-clause-within c = rw c.deref-2.ensures.value c.requires.turned.record_a
+
+pub other_if_less-requires-clause-reach : goal.other_if_less-requires-clause-reach
+other_if_less-requires-clause-reach c =
+    let b : ReachAll c.args.graph.now.turned.items c.args.rows_b c.in_ok-price_b.price_b.items = rw c.deref-2.ensures.value at c.in_ok-price_b.ensures in
+    rw (c.deref-3.ensures.value, b.records) b
+
+pub other_if_less-requires-clause-in_range : goal.other_if_less-requires-clause-in_range
+other_if_less-requires-clause-in_range c = rw (c.deref-3.ensures.value, c.deref-4.ensures.value, c.in_ok-price_b.ensures.records, c.in_ok-price_a.ensures.records) c.requires.turned
+
+pub first_side-requires-clause-reach : goal.first_side-requires-clause-reach
+first_side-requires-clause-reach c =
+    let a : ReachAll c.args.graph.now.edges.items c.args.rows_a c.in_ok-price_a.price_a.items = rw c.deref.ensures.value at c.in_ok-price_a.ensures in
+    rw (c.deref-5.ensures.value, a.records) a
+
+pub first_side-requires-clause-in_range : goal.first_side-requires-clause-in_range
+first_side-requires-clause-in_range c = rw (c.deref-5.ensures.value, c.in_ok-price_a.ensures.records) c.requires.in_range
+
+pub returns-in-Ok : goal.returns-in-Ok
+returns-in-Ok c = record {
+  own = rw c.deref-5.ensures.value at c.in-Ok.ensures.side;
+  count_a = c.in-Ok.ensures.rows_a ∙ c.in_ok-price_a.ensures.records;
+  count_b = c.in-Ok.ensures.rows_b;
+  other = rw (c.deref-3.ensures.value, c.deref-4.ensures.value, c.in_ok-price_a.ensures.records, c.in_ok-price_b.ensures.records) at c.in_ok-other.ensures.other;
+}

@@ -98,3 +98,50 @@ returns-clause-work c =
     let next = c.requires.ready.starts.starts_at (c.args.position + 1) (omega arith) in
     let fewer = left_later es c.loop-k.tree.dist_a.items c.args.position c.loop-k.k (length es) (omega (arith, c.loop-k.invariant.within, next.within)) in
     omega (arith, fewer, c.loop-k.invariant.work)
+
+pub overflow_add-base : goal.overflow_add-base
+overflow_add-base c = omega (arith, c.requires.tree.now, c.requires.tree.best_small, c.requires.ready.small_a c.args.position)
+
+pub next_of_use-k-requires-clause-within : goal.next_of_use-k-requires-clause-within
+next_of_use-k-requires-clause-within c = (c.requires.ready.starts.starts_at (c.args.position + 1) (omega arith)).within
+
+pub next_of_use-k-requires-clause-base : goal.next_of_use-k-requires-clause-base
+next_of_use-k-requires-clause-base c = omega (arith, c.requires.tree.now, c.requires.tree.best_small, c.requires.ready.small_a c.args.position)
+
+pub next_of_use-k-requires-clause-best : goal.next_of_use-k-requires-clause-best
+next_of_use-k-requires-clause-best c = c.requires.tree.best_small
+
+pub next_of_use-k-requires-clause-first : goal.next_of_use-k-requires-clause-first
+next_of_use-k-requires-clause-first c = c.requires.within
+
+pub returns-then-tree-clause-room : goal.returns-then-tree-clause-room
+returns-then-tree-clause-room c = c.loop-k.invariant.room
+
+pub relax-requires-clause-place : goal.relax-requires-clause-place
+relax-requires-clause-place c = omega (arith, c.loop-k-test.true, (c.requires.ready.starts.starts_at (c.args.position + 1) (omega arith)).within)
+
+pub relax-requires-clause-room : goal.relax-requires-clause-room
+relax-requires-clause-room c = c.loop-k.invariant.room
+
+pub relax-requires-clause-queue : goal.relax-requires-clause-queue
+relax-requires-clause-queue c =
+    let here = of_record c.args.ground c.args.position c.args.start c.loop-k.k c.requires.ready c.requires.position c.requires.above c.loop-k.invariant.later c.loop-k-test.true in
+    rw here (omega (arith, c.loop-k.invariant.work, c.loop-k.invariant.queue, c.requires.queue))
+
+pub next_of_use-k-requires-in-loop-k-clause-within : goal.next_of_use-k-requires-in-loop-k-clause-within
+next_of_use-k-requires-in-loop-k-clause-within c = (c.requires.ready.starts.starts_at (c.args.position + 1) (omega arith)).within
+
+pub next_of_use-k-requires-in-loop-k-clause-base : goal.next_of_use-k-requires-in-loop-k-clause-base
+next_of_use-k-requires-in-loop-k-clause-base c = omega (arith, c.requires.tree.now, c.requires.tree.best_small, c.requires.ready.small_a c.args.position)
+
+pub next_of_use-k-requires-in-loop-k-clause-best : goal.next_of_use-k-requires-in-loop-k-clause-best
+next_of_use-k-requires-in-loop-k-clause-best c = c.relax.ensures.tree.best_small
+
+pub next_of_use-k-requires-in-loop-k-clause-first : goal.next_of_use-k-requires-in-loop-k-clause-first
+next_of_use-k-requires-in-loop-k-clause-first c = omega (arith, c.loop-k-test.true)
+
+pub loop-k-smaller : goal.loop-k-smaller
+loop-k-smaller c = omega (arith, c.loop-k-test.true, c.next_of_use-k-in-loop-k.ensures.later)
+
+pub returns-clause-room : goal.returns-clause-room
+returns-clause-room c = c.loop-k.invariant.room

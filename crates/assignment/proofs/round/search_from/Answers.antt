@@ -1,7 +1,8 @@
-use Rattle.std.proofs.Common.{◌<◌, length, arith}
-use Rattle.assignment.specs.Growth.{growth, with_waiting}
+use Rattle.std.proofs.Common.{◌<◌, ◌∙◌, length, inl, inr, arith}
+use Rattle.std.proofs.lemmas.Bool.{cases_lt}
+use Rattle.assignment.specs.Growth.{distance, far, growth, with_waiting}
 use Rattle.assignment.proofs.Growing.{ends_as}
-use Rattle.assignment.proofs.Rounds.{tight_after, ways_after, best_within, between_after, done_kept, root_done}
+use Rattle.assignment.proofs.Rounds.{tight_after, ways_after, best_within, between_after, between_kept, done_kept, root_done}
 use Rattle.assignment.proofs.round.search_from.Goals as goal
 
 pub turn-requires-clause-tight : goal.turn-requires-clause-tight
@@ -36,14 +37,48 @@ returns-clause-kept c =
     done_kept _ (with_waiting grown.0 (growth c.search.new.tree)) c.in-Some.grown.end c.in-Some.grown.free c.shift-2.new.price_a c.shift-2.new.price_b c.search.ensures.ready grown.1 c.shift-2.ensures.price_a c.shift-2.ensures.price_b
     c.turn.new.link_a (rw c.shift-2.ensures.best_record at c.turn.ensures.still_a)
 
+pub returns-in_default-clause-done : goal.returns-in_default-clause-done
+returns-in_default-clause-done c left =
+    let some = c.in_default.ensures.whole (λ on none. left on (c.shift.ensures.looks ∙ none)) in
+    absurd (let none = c.in_default.is in cc)
+
 pub returns-clause-done : goal.returns-clause-done
 returns-clause-done c _ =
     let grown = c.in-Some.ensures.grown in
     root_done _ (with_waiting grown.0 (growth c.search.new.tree)) c.in-Some.grown.end c.in-Some.grown.free c.shift-2.new.price_a c.shift-2.new.price_b c.search.ensures.ready grown.1 c.shift-2.ensures.price_a c.shift-2.ensures.price_b
     c.turn.new.link_a (rw c.shift-2.ensures.best_record at c.turn.ensures.root)
 
-pub returns-clause-whole : goal.returns-clause-whole
-returns-clause-whole c _ =
+pub search-requires-clause-ready : goal.search-requires-clause-ready
+search-requires-clause-ready c =
+    let w = c.requires.between in
+    record {
+      rows_a = w.rows_a;
+      rows_b = w.rows_b;
+      starts = c.requires.starts;
+      root_in = c.requires.root;
+      root_free = c.requires.free;
+      in_range = w.in_range;
+      covered = w.covered;
+      small_a = w.small_a;
+      small_b = w.small_b;
+      matched = w.matched;
+    }
+
+pub returns-in_default-clause-between : goal.returns-in_default-clause-between
+returns-in_default-clause-between c = between_kept c.args.edges.now _ _ _ _ c.args.link_a.now c.args.link_b.now c.shift.auto.price_a c.shift.auto.price_b (λ a. omega (arith, c.shift.ensures.price_a a)) (λ b. omega (arith, c.shift.ensures.price_b b)) c.requires.between
+
+pub returns-in_default-clause-kept : goal.returns-in_default-clause-kept
+returns-in_default-clause-kept c a old none = omega (arith, old none, c.shift.ensures.price_a a)
+
+pub shift-requires-2-clause-end : goal.shift-requires-2-clause-end
+shift-requires-2-clause-end c =
     let grown = c.in-Some.ensures.grown in
-    root_done _ (with_waiting grown.0 (growth c.search.new.tree)) c.in-Some.grown.end c.in-Some.grown.free c.shift-2.new.price_a c.shift-2.new.price_b c.search.ensures.ready grown.1 c.shift-2.ensures.price_a c.shift-2.ensures.price_b
-    c.turn.new.link_a (rw c.shift-2.ensures.best_record at c.turn.ensures.root)
+    omega (arith, grown.1.before_best, grown.1.tree.best_small)
+
+pub shift-requires-2-clause-falls : goal.shift-requires-2-clause-falls
+shift-requires-2-clause-falls c a =
+    let grown = c.in-Some.ensures.grown in
+    elim (cases_lt (distance c.search.new.tree.dist_a.items a) far) [
+      | inl near ↦ omega (arith, grown.1.before_best, grown.1.tree.best_of a near)
+      | inr away ↦ omega (arith, away, grown.1.before_best, grown.1.tree.best_small)
+    ]

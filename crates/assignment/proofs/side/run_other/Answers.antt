@@ -1,6 +1,13 @@
-use Rattle.std.proofs.Common.{◌≡◌, ◌∙◌, length, refl, arith}
+use Rattle.std.proofs.Common.{◌∙◌, length, refl, ap, sym}
+use Rattle.std.proofs.lemmas.Bool.{false≢true}
 use Rattle.std.proofs.lemmas.List.{with_items_is}
 use Rattle.assignment.proofs.side.run_other.Goals as goal
+
+pub returns-in_default-clause-taken : goal.returns-in_default-clause-taken
+returns-in_default-clause-taken c = rw c.in_default.is tt
+
+pub returns-then-not-are_rising-clause-taken : goal.returns-then-not-are_rising-clause-taken
+returns-then-not-are_rising-clause-taken c = rw c.in-Some.is (λ rising. absurd (false≢true (c.if-not-are_rising.ensures.1 rising)))
 
 pub run-requires-clause-rising : goal.run-requires-clause-rising
 run-requires-clause-rising c = c.if-not-are_rising.ensures.0 refl
@@ -10,31 +17,59 @@ run-requires-clause-starts c =
     let o = rw c.in-Some.is at c.requires.other in
     rw o.count_b (c.requires.starts (c.if-not-are_rising.ensures.0 refl))
 
+pub run-requires-clause-side : goal.run-requires-clause-side
+run-requires-clause-side c = (rw c.in-Some.is at c.requires.other).side
+
+pub take_over-requires-clause-between : goal.take_over-requires-clause-between
+take_over-requires-clause-between c = rw (c.deref_mut.ensures.value, c.deref_mut-2.ensures.value, c.deref_mut-3.ensures.value, c.deref_mut-4.ensures.value) c.requires.side.between
+
+pub take_over-requires-clause-rows_a : goal.take_over-requires-clause-rows_a
+take_over-requires-clause-rows_a c = c.run.ensures.rows_b ∙ ((rw c.in-Some.is at c.requires.other).count_a ∙ ap length (sym c.deref_mut.ensures.value))
+
+pub take_over-requires-clause-rows_b : goal.take_over-requires-clause-rows_b
+take_over-requires-clause-rows_b c = c.run.ensures.rows_a ∙ ((rw c.in-Some.is at c.requires.other).count_b ∙ ap length (sym c.deref_mut-2.ensures.value))
+
+pub take_over-requires-clause-new_a : goal.take_over-requires-clause-new_a
+take_over-requires-clause-new_a c = ap length c.deref_mut-5.ensures.value ∙ ((rw c.in-Some.is at c.requires.other).links_a ∙ ap length (sym c.deref_mut.ensures.value))
+
+pub take_over-requires-clause-new_b : goal.take_over-requires-clause-new_b
+take_over-requires-clause-new_b c = ap length c.deref_mut-6.ensures.value ∙ ((rw c.in-Some.is at c.requires.other).links_b ∙ ap length (sym c.deref_mut-2.ensures.value))
+
+pub take_over-requires-clause-none_a : goal.take_over-requires-clause-none_a
+take_over-requires-clause-none_a c = rw c.deref_mut-5.ensures.value (rw c.in-Some.is at c.requires.other).none_a
+
+pub take_over-requires-clause-none_b : goal.take_over-requires-clause-none_b
+take_over-requires-clause-none_b c = rw c.deref_mut-6.ensures.value (rw c.in-Some.is at c.requires.other).none_b
+
 pub returns-clause-side : goal.returns-clause-side
 returns-clause-side c =
     let s = c.args.side.now in
     let t = c.take_over in
-    let rows_a : length t.new.price_a ≡ length s.price_a.items = omega (arith, t.auto.price_a, c.deref_mut.ensures.len, s.price_a.ok.0) in
-    let rows_b : length t.new.price_b ≡ length s.price_b.items = omega (arith, t.auto.price_b, c.deref_mut-2.ensures.len, s.price_b.ok.0) in
-    let a = with_items_is s.price_a t.new.price_a (omega (arith, t.auto.price_a, c.deref_mut.ensures.len)) in
-    let b = with_items_is s.price_b t.new.price_b (omega (arith, t.auto.price_b, c.deref_mut-2.ensures.len)) in
-    let la = with_items_is s.link_a t.new.link_a (omega (arith, t.auto.link_a, c.deref_mut-3.ensures.len)) in
-    let lb = with_items_is s.link_b t.new.link_b (omega (arith, t.auto.link_b, c.deref_mut-4.ensures.len)) in
+    let a = with_items_is s.price_a t.new.price_a (t.auto.price_a ∙ c.deref_mut.ensures.len) in
+    let b = with_items_is s.price_b t.new.price_b (t.auto.price_b ∙ c.deref_mut-2.ensures.len) in
+    let la = with_items_is s.link_a t.new.link_a (t.auto.link_a ∙ c.deref_mut-3.ensures.len) in
+    let lb = with_items_is s.link_b t.new.link_b (t.auto.link_b ∙ c.deref_mut-4.ensures.len) in
     record {
       between = rw (a, b, la, lb) t.ensures.between;
-      clean = rw (a, b, rows_a, rows_b) c.requires.side.clean;
+      clean = rw (a, b, t.auto.price_a, t.auto.price_b, c.deref_mut.ensures.value, c.deref_mut-2.ensures.value) c.requires.side.clean;
       queue = c.requires.side.queue;
     }
+
+pub returns-clause-rows_a : goal.returns-clause-rows_a
+returns-clause-rows_a c = rw (with_items_is c.args.side.now.price_a c.take_over.new.price_a (c.take_over.auto.price_a ∙ c.deref_mut.ensures.len)) (c.take_over.auto.price_a ∙ ap length c.deref_mut.ensures.value)
+
+pub returns-clause-rows_b : goal.returns-clause-rows_b
+returns-clause-rows_b c = rw (with_items_is c.args.side.now.price_b c.take_over.new.price_b (c.take_over.auto.price_b ∙ c.deref_mut-2.ensures.len)) (c.take_over.auto.price_b ∙ ap length c.deref_mut-2.ensures.value)
 
 pub returns-clause-taken : goal.returns-clause-taken
 returns-clause-taken c =
     let s = c.args.side.now in
     let o = c.run.new.side in
     let t = c.take_over in
-    let a = with_items_is s.price_a t.new.price_a (omega (arith, t.auto.price_a, c.deref_mut.ensures.len)) in
-    let b = with_items_is s.price_b t.new.price_b (omega (arith, t.auto.price_b, c.deref_mut-2.ensures.len)) in
-    let la = with_items_is s.link_a t.new.link_a (omega (arith, t.auto.link_a, c.deref_mut-3.ensures.len)) in
-    let lb = with_items_is s.link_b t.new.link_b (omega (arith, t.auto.link_b, c.deref_mut-4.ensures.len)) in
+    let a = with_items_is s.price_a t.new.price_a (t.auto.price_a ∙ c.deref_mut.ensures.len) in
+    let b = with_items_is s.price_b t.new.price_b (t.auto.price_b ∙ c.deref_mut-2.ensures.len) in
+    let la = with_items_is s.link_a t.new.link_a (t.auto.link_a ∙ c.deref_mut-3.ensures.len) in
+    let lb = with_items_is s.link_b t.new.link_b (t.auto.link_b ∙ c.deref_mut-4.ensures.len) in
     rw c.in-Some.is (λ rising. record {
       price_a = o.price_b.items;
       price_b = o.price_a.items;

@@ -1,0 +1,24 @@
+use Rattle.std.proofs.Common.{ap, sym, ◌∙◌}
+use Rattle.std.specs.Option.{is_some}
+use Rattle.std.proofs.lemmas.Bool.{false≢true}
+use Rattle.assignment_steps.proofs.Taken.{not_linked}
+use Rattle.assignment.proofs.round.take_up.Goals.{else-bounded-via-then-bounded+else-tree-eq0, else-bounded-via-else-bounded, then-is_some-via-then-is_some, then-is_some-via-else-is_some+then-price_a-root-eq0}
+use Rattle.assignment.proofs.round.take_up.Goals as goal
+
+pub returns-then-tree-eq0-clause-done : goal.returns-then-tree-eq0-clause-done
+returns-then-tree-eq0-clause-done c left = absurd (left c.if-bounded.true c.if-tree-eq0.true)
+
+pub returns-then-is_some-clause-done : goal.returns-then-is_some-clause-done
+returns-then-is_some-clause-done c _ none = elim c.then-is_some.branch [
+  | then-is_some-via-then-is_some w ↦ absurd (false≢true (sym (ap is_some none) ∙ (sym c.is_some.ensures ∙ w.if-is_some.true)))
+  | then-is_some-via-else-is_some+then-price_a-root-eq0 w ↦ w.if-price_a-root-eq0.true
+]
+
+pub returns-clause-before : goal.returns-clause-before
+returns-clause-before c _ on spent = elim c.else-bounded.branch [
+  | else-bounded-via-then-bounded+else-tree-eq0 w ↦ absurd (w.if-tree-eq0.false spent)
+  | else-bounded-via-else-bounded w ↦ absurd (let off = w.if-bounded.false in cc)
+]
+
+pub search_from-requires-clause-free : goal.search_from-requires-clause-free
+search_from-requires-clause-free c = not_linked _ (sym c.is_some.ensures ∙ c.if-is_some.false)
