@@ -2,7 +2,7 @@
 
 use crate::level::{Level, edges_of, value_at};
 use crate::lists::Lists;
-use crate::rows::{NONE, at, fill_up, put, room_for};
+use crate::rows::{NONE, at, fill_up, put, rooms_for};
 use crate::side::{Side, let_fall};
 use link_base::NoMemory;
 use std::alloc::Global;
@@ -20,9 +20,7 @@ pub struct Reached {
 impl Reached {
     /// Room for so many rows.
     pub(crate) fn new(alloc: Global, rows: u32) -> Result<Reached, NoMemory> {
-        let nearer = room_for(alloc, rows)?;
-        let order = room_for(alloc, rows)?;
-        let place = room_for(alloc, rows)?;
+        let (nearer, order, place) = rooms_for(alloc, rows, rows, rows)?;
         Ok(Reached {
             nearer,
             order,
@@ -92,7 +90,7 @@ fn look_from(
             let gain = value.wrapping_sub(paid);
             put(nearer, edge.b, gain);
             lists.take_out(edge.b);
-            lists.put_at(edge.b, at(&own.price, edge.b).saturating_sub(gain));
+            lists.put_at(edge.b, own.price_of(edge.b).saturating_sub(gain));
         }
     }
 }
@@ -106,8 +104,8 @@ fn look_from_free(
     nearer: &mut [u32],
 ) {
     for row in 0..other.rows {
-        if at(&other.mate, row) == NONE {
-            look_from(level, own, lists, nearer, row, at(&other.price, row));
+        if other.mate_of(row) == NONE {
+            look_from(level, own, lists, nearer, row, other.price_of(row));
         }
     }
 }
@@ -131,15 +129,23 @@ fn reach_waiting(
         }
         reached.note(row);
         last = lists.distance(row);
-        let mate = at(&own.mate, row);
+        let mate = own.mate_of(row);
         if mate != NONE {
-            let paid = at(&other.price, mate).wrapping_add(last);
+            let paid = other.price_of(mate).wrapping_add(last);
             look_from(level, own, lists, &mut reached.nearer, mate, paid);
-        } else if at(&own.price, row) > 0 {
+        } else if own.price_of(row) > 0 {
             left = left.saturating_sub(1);
         }
     }
     last
+}
+
+/// Puts each row at the distance of its price.
+fn put_at_prices(own: &Side, lists: &mut Lists) {
+    lists.clear();
+    for row in 0..own.rows {
+        lists.put_at(row, own.price_of(row));
+    }
 }
 
 /// Looks back from all ends of paths at once, rows of the other side without a link and rows of this side at
@@ -154,11 +160,8 @@ pub(crate) fn look_back(
     reached: &mut Reached,
     waiting: u32,
 ) {
-    lists.clear();
     reached.clear();
-    for row in 0..own.rows {
-        lists.put_at(row, at(&own.price, row));
-    }
+    put_at_prices(own, lists);
     look_from_free(level, own, other, lists, &mut reached.nearer);
     let last = reach_waiting(level, own, other, lists, reached, waiting);
     for row in 0..own.rows {

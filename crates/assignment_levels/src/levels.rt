@@ -22,8 +22,6 @@ pub struct Levels {
     own: Side,
     other: Side,
     room: Room,
-    price_a: Vec<u64>,
-    price_b: Vec<u64>,
 }
 
 impl Model for Levels {
@@ -31,7 +29,7 @@ impl Model for Levels {
 
     ghost Value = { Proposed };
 
-    ghost view = { λ s. record { price_a = s.price_a.items; price_b = s.price_b.items; mates = s.own.mate.items } };
+    ghost view = { λ s. record { price_a = s.own.wide.items; price_b = s.other.wide.items; mates = s.own.mate.items } };
 }
 
 /// Copies prices, the least of each and the greatest number.
@@ -40,19 +38,6 @@ fn copy_prices(to: &mut [u32], prices: &[u64]) {
     for price in prices {
         put(to, row, (*price).min(u64::from(u32::MAX)) as u32);
         row = row.saturating_add(1);
-    }
-}
-
-/// Writes prices as wider numbers, within the room that was taken.
-fn write_wide(to: &mut Vec<u64>, prices: &[u32]) {
-    to.clear();
-    for price in prices {
-        if to.len() >= to.capacity() {
-            return;
-        }
-        let Ok(()) = to.push(u64::from(*price)) else {
-            return;
-        };
     }
 }
 
@@ -95,21 +80,20 @@ fn most_left(starts: &[usize], shift: u32) -> u32 {
     }
 }
 
+/// Settles the rows of a side, where at a level with bits left out a few may still wait.
+fn settle_rows(level: Level<'_>, own: &mut Side, other: &mut Side, room: &mut Room) {
+    begin(level, own, other, room);
+    let most = most_left(level.board.starts, level.shift);
+    run_rounds(level, own, other, room, most, true);
+}
+
 impl Levels {
     /// Room for so many rows.
     pub fn new(alloc: Global, rows_a: usize, rows_b: usize) -> Result<Levels, NoMemory> {
-        let price_a = Vec::with_capacity(alloc, rows_a)?;
-        let price_b = Vec::with_capacity(alloc, rows_b)?;
-        let own = Side::new(alloc, count_of(rows_a))?;
-        let other = Side::new(alloc, count_of(rows_b))?;
+        let own = Side::new(alloc, rows_a)?;
+        let other = Side::new(alloc, rows_b)?;
         match Room::new(alloc, own.rows.max(other.rows)) {
-            Ok(room) => Ok(Levels {
-                own,
-                other,
-                room,
-                price_a,
-                price_b,
-            }),
+            Ok(room) => Ok(Levels { own, other, room }),
             Err(error) => {
                 drop(own);
                 drop(other);
@@ -145,26 +129,12 @@ impl Levels {
         cover(level, &mut self.own, &self.other);
         cover(turned(level), &mut self.other, &self.own);
         part_loose(level, &mut self.own, &mut self.other);
-        let most = most_left(level.board.starts, level.shift);
-        begin(level, &mut self.own, &mut self.other, &mut self.room);
-        run_rounds(
-            level,
-            &mut self.own,
-            &mut self.other,
-            &mut self.room,
-            most,
-            true,
-        );
-        let most = most_left(level.board.turned_starts, level.shift);
-        let level = turned(level);
-        begin(level, &mut self.other, &mut self.own, &mut self.room);
-        run_rounds(
-            level,
+        settle_rows(level, &mut self.own, &mut self.other, &mut self.room);
+        settle_rows(
+            turned(level),
             &mut self.other,
             &mut self.own,
             &mut self.room,
-            most,
-            true,
         );
     }
 
@@ -187,8 +157,8 @@ impl Levels {
 
     /// Writes the prices as the caller's are.
     fn widen(&mut self) {
-        write_wide(&mut self.price_a, &self.own.price);
-        write_wide(&mut self.price_b, &self.other.price);
+        self.own.widen();
+        self.other.widen();
     }
 
     /// Proposes prices and links bit by bit of the values, from nothing.
@@ -231,8 +201,8 @@ impl Levels {
         ensures mates { result.mates.now ≡ self.now.mates }
     {
         Proposal {
-            price_a: &self.price_a,
-            price_b: &self.price_b,
+            price_a: &self.own.wide,
+            price_b: &self.other.wide,
             mates: &self.own.mate,
         }
     }

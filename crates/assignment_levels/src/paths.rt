@@ -1,8 +1,8 @@
 // Disjoint paths over tight edges, each along rows that were reached earlier and earlier.
 
 use crate::back::Reached;
-use crate::level::{Level, edges_of, value_at};
-use crate::rows::{NONE, at, fill_up, put, room_for};
+use crate::level::{Level, edges_of, is_tight};
+use crate::rows::{NONE, at, fill_up, put, room_for, rooms_for};
 use crate::side::{Side, link};
 use assignment_steps::Edge;
 use link_base::NoMemory;
@@ -22,10 +22,8 @@ pub struct Paths {
 impl Paths {
     /// Room for so many rows.
     pub(crate) fn new(alloc: Global, rows: u32) -> Result<Paths, NoMemory> {
-        let tried = room_for(alloc, rows)?;
-        let chosen = room_for(alloc, rows)?;
-        let met = room_for(alloc, rows)?;
         let path = room_for(alloc, rows)?;
+        let (tried, chosen, met) = rooms_for(alloc, rows, rows, rows)?;
         Ok(Paths {
             tried,
             chosen,
@@ -41,6 +39,18 @@ impl Paths {
         fill_up(&mut self.chosen, rows);
         fill_up(&mut self.met, rows);
         fill_up(&mut self.path, rows);
+    }
+
+    /// Whether a row of the other side was met in this round.
+    #[inline(always)]
+    fn has_met(&self, mate: u32) -> bool {
+        at(&self.met, mate) == self.round
+    }
+
+    /// Meets a row of the other side.
+    #[inline(always)]
+    fn meet(&mut self, mate: u32) {
+        put(&mut self.met, mate, self.round);
     }
 }
 
@@ -62,19 +72,18 @@ fn way_over(
     paths: &mut Paths,
     edge: Edge,
 ) -> Way {
-    let paid = at(&own.price, edge.a).wrapping_add(at(&other.price, edge.b));
-    if paid != value_at(edge, level.shift) || at(&paths.met, edge.b) == paths.round {
+    if !is_tight(level, own, other, edge) || paths.has_met(edge.b) {
         return Way::Nowhere;
     }
-    let mate = at(&other.mate, edge.b);
-    if mate == NONE || at(&own.price, mate) == 0 {
-        put(&mut paths.met, edge.b, paths.round);
+    let mate = other.mate_of(edge.b);
+    if mate == NONE || own.price_of(mate) == 0 {
+        paths.meet(edge.b);
         return Way::Ends;
     }
     if reached.place_of(mate) >= reached.place_of(edge.a) {
         return Way::Nowhere;
     }
-    put(&mut paths.met, edge.b, paths.round);
+    paths.meet(edge.b);
     Way::Goes(mate)
 }
 

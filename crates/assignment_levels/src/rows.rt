@@ -29,6 +29,19 @@ pub(crate) fn room_for(alloc: Global, count: u32) -> Result<Vec<u32>, NoMemory> 
     Ok(numbers)
 }
 
+/// Three rooms, each for so many numbers.
+pub(crate) fn rooms_for(
+    alloc: Global,
+    first: u32,
+    second: u32,
+    third: u32,
+) -> Result<(Vec<u32>, Vec<u32>, Vec<u32>), NoMemory> {
+    let first = room_for(alloc, first)?;
+    let second = room_for(alloc, second)?;
+    let third = room_for(alloc, third)?;
+    Ok((first, second, third))
+}
+
 /// Puts zeros at the end until there are so many numbers, within the room that was taken.
 pub(crate) fn fill_up(numbers: &mut Vec<u32>, count: u32) {
     for _ in numbers.len()..count as usize {

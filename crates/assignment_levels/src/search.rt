@@ -2,7 +2,7 @@
 
 use crate::level::{Level, edges_of, value_at};
 use crate::lists::Lists;
-use crate::rows::{NONE, at, fill_up, put, room_for};
+use crate::rows::{NONE, at, fill_up, put, rooms_for};
 use crate::side::{Side, let_fall};
 use link_base::NoMemory;
 use std::alloc::Global;
@@ -28,9 +28,7 @@ pub struct Tree {
 impl Tree {
     /// Room for so many rows.
     pub(crate) fn new(alloc: Global, rows: u32) -> Result<Tree, NoMemory> {
-        let mark = room_for(alloc, rows)?;
-        let from = room_for(alloc, rows)?;
-        let joined = room_for(alloc, rows)?;
+        let (mark, from, joined) = rooms_for(alloc, rows, rows, rows)?;
         Ok(Tree {
             number: 0,
             mark,
@@ -124,13 +122,13 @@ impl Tree {
 /// Looks at the edges of a row that joined, until the nearest end is no farther than the row.
 fn scan(level: Level<'_>, own: &Side, other: &Side, lists: &mut Lists, tree: &mut Tree, row: u32) {
     let edges = edges_of(level.board.edges, level.board.starts, row);
-    let base = tree.current.wrapping_add(at(&own.price, row));
+    let base = tree.current.wrapping_add(own.price_of(row));
     tree.looks = tree.looks.saturating_sub(edges.len());
     for edge in edges {
-        let paid = base.wrapping_add(at(&other.price, edge.b));
+        let paid = base.wrapping_add(other.price_of(edge.b));
         let distance = paid.wrapping_sub(value_at(*edge, level.shift));
         if distance < tree.bound {
-            let mate = at(&other.mate, edge.b);
+            let mate = other.mate_of(edge.b);
             if mate == NONE {
                 tree.offer(row, distance);
                 tree.free = edge.b;
@@ -153,7 +151,7 @@ fn grow(
     tree: &mut Tree,
     root: u32,
 ) -> bool {
-    tree.plant(lists, root, at(&own.price, root));
+    tree.plant(lists, root, own.price_of(root));
     for place in 0..own.rows {
         if place == tree.count && !tree.join_nearest(lists) {
             return true;
@@ -162,8 +160,7 @@ fn grow(
             return false;
         }
         let row = at(&tree.joined, place);
-        let end = tree.current.wrapping_add(at(&own.price, row));
-        tree.offer(row, end);
+        tree.offer(row, tree.current.wrapping_add(own.price_of(row)));
         scan(level, own, other, lists, tree, row);
         if tree.bound <= tree.current {
             return true;
@@ -177,8 +174,8 @@ fn end_of(own: &mut Side, tree: &Tree) -> u32 {
     if tree.free != NONE {
         return tree.free;
     }
-    let given_up = at(&own.mate, tree.end);
-    put(&mut own.mate, tree.end, NONE);
+    let given_up = own.mate_of(tree.end);
+    own.set_mate(tree.end, NONE);
     given_up
 }
 
@@ -193,9 +190,9 @@ fn turn(own: &mut Side, other: &mut Side, tree: &Tree, root: u32) {
         row = at(&tree.from, row);
     }
     for _ in 0..tree.count {
-        let before = at(&own.mate, row);
-        put(&mut own.mate, row, mate);
-        put(&mut other.mate, mate, row);
+        let before = own.mate_of(row);
+        own.set_mate(row, mate);
+        other.set_mate(mate, row);
         if row == root {
             return;
         }
