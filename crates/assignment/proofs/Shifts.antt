@@ -1,5 +1,5 @@
 -- A record's price changes by what its distance lacks to the end, and its distance is put back.
-use Rattle.std.proofs.Common.{◌≡◌, ℕ, ◌+◌, ◌-◌, ◌<◌, ◌≤◌, List, ◌∷◌, length, get_or, set, drop, ◌∙◌, inl, inr, arith, add-one, drop-cons, get_or-set_same}
+use Rattle.std.proofs.Common.{◌≡◌, ℕ, ◌+◌, ◌-◌, ◌<◌, ◌≤◌, List, ◌∷◌, length, set, drop, ◌∙◌, inl, inr, arith, add-one, drop-cons, get_or-set_same}
 use Rattle.std.specs.Prelude.{Contains}
 use Rattle.assignment_steps.specs.Market.{number}
 use Rattle.assignment.specs.Growth.{distance, far}

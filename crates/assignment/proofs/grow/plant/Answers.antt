@@ -11,3 +11,11 @@ pub returns-clause-fits : goal.returns-clause-fits
 returns-clause-fits c =
     let few = left_few c.args.ground.edges.now c.join.new.tree.dist_a.items c.args.ground.root 0 in
     omega (arith, few, c.relax_record.ensures.work, c.relax_record.ensures.queue, c.requires.queue, c.requires.clean.empty, ap (λ q. q.count) c.join.ensures.queue, ap (λ q. q.room) c.join.ensures.queue)
+
+pub join-requires-clause-room : goal.join-requires-clause-room
+join-requires-clause-room c =
+    let r = c.requires.clean.room in
+    record { of_a = r.of_a; of_rank = r.of_rank; of_b = r.of_b; of_from = r.of_from; touched = r.touched; touched_room = r.touched_room; top = r.top; records = r.records; records_room = r.records_room; top_a = r.top_a; records_in = r.records_in; touched_in = r.touched_in }
+
+pub returns-clause-tree : goal.returns-clause-tree
+returns-clause-tree c = c.relax_record.ensures.tree

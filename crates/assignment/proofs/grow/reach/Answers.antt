@@ -1,4 +1,4 @@
-use Rattle.std.proofs.Common.{◌≡◌, inl, inr, refl, ap, set}
+use Rattle.std.proofs.Common.{◌≡◌, inl, inr, refl, ap, set, arith}
 use Rattle.assignment.proofs.grow.reach.Goals as goal
 
 pub returns-then-first-clause-reaches : goal.returns-then-first-clause-reaches
@@ -34,3 +34,9 @@ returns-else-first-clause-reaches c =
       notes = record { touched = c.note_first.ensures.notes.touched; first_touched = c.note_first.ensures.notes.first_touched };
       waits = record { stays = rw (← same) c.put.ensures.stays; added = c.put.ensures.added; only = rw (← same) c.put.ensures.only };
     }
+
+pub note_first-requires-clause-room : goal.note_first-requires-clause-room
+note_first-requires-clause-room c = c.requires.room
+
+pub put-requires-clause-near : goal.put-requires-clause-near
+put-requires-clause-near c = omega (arith, c.requires.near, c.requires.room.top c.args.b)

@@ -2,7 +2,7 @@ use Rattle.std.proofs.Common.{◌<◌, ◌∙◌, length, inl, inr, arith}
 use Rattle.std.proofs.lemmas.Bool.{cases_lt}
 use Rattle.assignment.specs.Growth.{distance, far, growth, with_waiting}
 use Rattle.assignment.proofs.Growing.{ends_as}
-use Rattle.assignment.proofs.Rounds.{tight_after, ways_after, best_within, between_after, between_kept, done_kept, root_done}
+use Rattle.assignment.proofs.Rounds.{tight_after, ways_after, best_within, between_after, between_kept, done_kept, free_after, root_done}
 use Rattle.assignment.proofs.round.search_from.Goals as goal
 
 pub turn-requires-clause-tight : goal.turn-requires-clause-tight
@@ -82,3 +82,23 @@ shift-requires-2-clause-falls c a =
       | inl near ↦ omega (arith, grown.1.before_best, grown.1.tree.best_of a near)
       | inr away ↦ omega (arith, away, grown.1.before_best, grown.1.tree.best_small)
     ]
+
+pub turn-requires-clause-free : goal.turn-requires-clause-free
+turn-requires-clause-free c =
+    let grown = c.in-Some.ensures.grown in
+    free_after _ (with_waiting grown.0 (growth c.search.new.tree)) c.in-Some.grown.end c.in-Some.grown.free c.shift-2.new.price_a c.shift-2.new.price_b c.search.ensures.ready grown.1 c.shift-2.ensures.price_a c.shift-2.ensures.price_b
+
+pub turn-requires-clause-matched : goal.turn-requires-clause-matched
+turn-requires-clause-matched c = c.requires.between.matched
+
+pub shift-requires-clause-falls : goal.shift-requires-clause-falls
+shift-requires-clause-falls c a = omega arith
+
+pub shift-requires-clause-small : goal.shift-requires-clause-small
+shift-requires-clause-small c = c.requires.between.small_b
+
+pub returns-clause-clean : goal.returns-clause-clean
+returns-clause-clean c = rw (c.shift-2.auto.price_a, c.shift-2.auto.price_b) c.shift-2.ensures.clean
+
+pub shift-requires-2-clause-room : goal.shift-requires-2-clause-room
+shift-requires-2-clause-room c = c.search.ensures.room

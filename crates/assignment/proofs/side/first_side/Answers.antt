@@ -17,3 +17,6 @@ returns-in-Ok-clause-side c =
       clean = rw len_b (rw rows at room.clean);
       queue = room.queue;
     }
+
+pub returns-in-Ok-clause-rows_b : goal.returns-in-Ok-clause-rows_b
+returns-in-Ok-clause-rows_b c = ap length c.in_ok-price_b.ensures ∙ length-replicate c.args.rows_b 0
