@@ -1,4 +1,6 @@
-use Rattle.std.proofs.Common.{◌≡◌, None, Some, sym, ◌∙◌, get_or-set_same}
+use Rattle.std.proofs.Common.{◌≡◌, None, Some, ap, sym, ◌∙◌, get_or-set_same}
+use Rattle.std.specs.Option.{is_some}
+use Rattle.std.proofs.lemmas.Bool.{false≢true}
 use Rattle.assignment_steps.specs.Market.{link, edge}
 use Rattle.assignment_steps.proofs.Links.{matched_joined}
 use Rattle.assignment_steps.proofs.Taken.{none_before, not_linked}
@@ -20,3 +22,9 @@ returns c =
       kept_a = λ a none. none_before la (edge es k).a a k ra none;
       kept_b = λ b none. none_before lb (edge es k).b b k rb none;
     }
+
+pub returns-then-is_some-clause-joined : goal.returns-then-is_some-clause-joined
+returns-then-is_some-clause-joined c none = absurd (false≢true (sym (ap is_some none) ∙ (sym c.is_some.ensures ∙ c.if-is_some.true)))
+
+pub returns-then-is_some-2-clause-joined : goal.returns-then-is_some-2-clause-joined
+returns-then-is_some-2-clause-joined c _ none = false≢true (sym (ap is_some none) ∙ (sym c.is_some-2.ensures ∙ c.if-is_some-2.true))

@@ -1,4 +1,6 @@
-use Rattle.std.proofs.Common.{◌≡◌, None, Some, sym, ◌∙◌, length, ◌<◌, arith, get_or-set_same}
+use Rattle.std.proofs.Common.{◌≡◌, None, Some, ap, sym, ◌∙◌, length, ◌<◌, arith, get_or-set_same}
+use Rattle.std.specs.Option.{is_some}
+use Rattle.std.proofs.lemmas.Bool.{false≢true}
 use Rattle.assignment_steps.specs.Market.{link, edge, IsTight}
 use Rattle.assignment_steps.proofs.Taken.{between_joined, none_before, not_linked}
 use Rattle.assignment_steps.proofs.tight.take.Goals as goal
@@ -21,3 +23,12 @@ returns c =
       kept_a = λ a none. none_before la (edge es k).a a k ra none;
       kept_b = λ b none. none_before lb (edge es k).b b k rb none;
     }
+
+pub returns-then-is_some-clause-settled : goal.returns-then-is_some-clause-settled
+returns-then-is_some-clause-settled c _ none = absurd (false≢true (sym (ap is_some none) ∙ (sym c.is_some.ensures ∙ c.if-is_some.true)))
+
+pub returns-then-is_some-2-clause-settled : goal.returns-then-is_some-2-clause-settled
+returns-then-is_some-2-clause-settled c _ _ none = false≢true (sym (ap is_some none) ∙ (sym c.is_some-2.ensures ∙ c.if-is_some-2.true))
+
+pub returns-then-net-a-clause-settled : goal.returns-then-net-a-clause-settled
+returns-then-net-a-clause-settled c tight = absurd (c.if-net-a.true tight)
