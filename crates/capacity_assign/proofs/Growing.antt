@@ -4,14 +4,16 @@ use Rattle.std.specs.Prelude.{All, Contains}
 use Rattle.std.proofs.lemmas.Bool.{cases_eq, cases_lt}
 use Rattle.std.proofs.lemmas.List.{get_or_default, length-set, length_push}
 use Rattle.std.proofs.lemmas.List.Elements.{All-contains, Contains-push, Contains-append_left}
+use Rattle.distance_queue.specs.Queue.{Queue}
 use Rattle.distance_queue.specs.declared.queue.Near.{Near}
 use Rattle.distance_queue.proofs.Members.{Contains-cons_cases}
 use Rattle.assignment_laws.proofs.Members.{Contains-later}
 use Rattle.capacity_assign.proofs.Links.{link_there}
 use Rattle.capacity_assign.specs.declared.market.Ground.{Ground}
+use Rattle.capacity_assign.specs.declared.market.Tree.{Tree}
 use Rattle.capacity_assign.specs.Core.{link, number}
 use Rattle.capacity_assign.specs.Seating.{IsLastSeat}
-use Rattle.capacity_assign.specs.Growth.{Growth, IsGrown, IsTree, IsReady, IsRelaxed, IsReached, IsSettled, ShortensDistance, Joins, Notes, Waits, IsNearest, with_waiting, distance, far, edge_of, paid, places_left, rank_above}
+use Rattle.capacity_assign.specs.Growth.{Growth, HasRoomForRecords, IsGrown, IsTree, IsReady, IsRelaxed, IsReached, IsSettled, ShortensDistance, Joins, Notes, Waits, IsNearest, with_waiting, distance, far, edge_of, paid, places_left, rank_above}
 
 -- an edge that is of no use is relaxed as it is
 pub tree_passed : (f : Ground) (k : ℕ) (g : Growth) → IsTree f (edge_of f k).a k g → IsRelaxed f g k → IsTree f (edge_of f k).a (k + 1) g
@@ -212,6 +214,27 @@ tree_any f position position' g t = record {
   noted_a = t.noted_a;
   noted_b = t.noted_b;
 }
+
+-- the room for records is not that of the queue
+pub room_queued : (rows_a rows_b : ℕ) (t : Tree) (q : Queue) → HasRoomForRecords rows_a rows_b t → HasRoomForRecords rows_a rows_b (record t { frontier = q })
+room_queued rows_a rows_b t q r = record {
+  of_a = r.of_a;
+  of_rank = r.of_rank;
+  of_b = r.of_b;
+  of_from = r.of_from;
+  touched = r.touched;
+  touched_room = r.touched_room;
+  top = r.top;
+  records = r.records;
+  records_room = r.records_room;
+  top_a = r.top_a;
+  records_in = r.records_in;
+  touched_in = r.touched_in;
+}
+
+-- it may be told of other numbers that are the same
+pub room_at : (rows_a rows_b a b : ℕ) (t : Tree) → a ≡ rows_a → b ≡ rows_b → HasRoomForRecords rows_a rows_b t → HasRoomForRecords a b t
+room_at rows_a rows_b a b t same_a same_b r = rw (same_a, same_b) r
 
 pub cons_first : (y : ℕ × ℕ) (ys : List (ℕ × ℕ)) → Contains (y ∷ ys) y
 cons_first y ys = (zero, omega arith, refl)
@@ -432,9 +455,6 @@ module _ (f : Ground) (last : ℕ) (g : Growth) (position k dist best best_recor
   -- the records of the tree after the step: the new one, and the old ones
   cases_a : (a : ℕ) → distance j.da a < far → ((a ≡ position) × (distance j.da a ≡ dist)) ⊎ ((distance g.da a < far) × (distance j.da a ≡ distance g.da a) × (a ≢ position))
   cases_a a joined = elim (distance-set g.da position a dist rows_a) [ inl p ↦ inl p | inr p ↦ inr (rw (← p.1) joined, p.1, p.0) ]
-
-  edge_record : (edge_of f k).a ≡ position
-  edge_record = (ready.linked position k on).1
 
   link_k : (i : ℕ) → link f.link_a.now (edge_of f i).a ≡ Some i → (edge_of f i).a ≡ position → i ≡ k
   link_k i here e = (let h : link f.link_a.now position ≡ Some i = rw (← e) here in cc)

@@ -1,5 +1,5 @@
 -- What one write of a link does to the links, and to how many there are.
-use Rattle.std.proofs.Common.{◌≡◌, ◌≢◌, ◌⊎◌, ◌==◌, ℕ, zero, suc, ◌+◌, ◌<◌, List, [], ◌∷◌, length, set, Bool, true, false, cond, Option, Some, None, refl, sym, ◌∙◌, inl, inr, arith, get_or-set_other, get_or-set_same}
+use Rattle.std.proofs.Common.{◌≡◌, ◌≢◌, ◌⊎◌, ◌==◌, ℕ, zero, suc, ◌+◌, ◌<◌, List, [], ◌∷◌, length, set, Bool, false, cond, Option, Some, None, refl, sym, ◌∙◌, inl, inr, arith, get_or-set_other, get_or-set_same}
 use Rattle.std.specs.Prelude.{is_none}
 use Rattle.std.proofs.lemmas.Bool.{cases_eq, cases_lt}
 use Rattle.std.proofs.lemmas.Bool.Decides.{nat_tests}
@@ -55,14 +55,6 @@ free_row_counts la a lt none =
     let e = free_rows-set la a some lt in
     let t : tick (is_none (link la a)) ≡ 1 = rw none refl in
     let u : tick (is_none some) ≡ 0 = refl in
-    omega (arith, e, t, u)
-
--- a link is counted at its record of B
-pub link_counts : (es : List Edge) (la : List (Option ℕ)) (a k b : ℕ) → link la a ≡ Some k → (edge es k).b ≡ b → 0 < linked_at es la b
-link_counts es la a k b on ends =
-    let e = linked_at-set es la a None b (link_there la a k on) in
-    let t : tick (leads_to es b (link la a)) ≡ 1 = (let same : ((edge es k).b == b) ≡ true = grind (arith, nat_tests) in rw (on, same) refl) in
-    let u : tick (leads_to es b None) ≡ 0 = refl in
     omega (arith, e, t, u)
 
 -- where some are counted there is one

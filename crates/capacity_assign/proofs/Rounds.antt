@@ -12,6 +12,13 @@ use Rattle.capacity_assign.specs.Round.{AreSmall, IsBetween, KeepsPlaces}
 use Rattle.capacity_assign.specs.Seating.{AreSeats, Seating, seating}
 use Rattle.capacity_assign.proofs.Links.{counted_link}
 
+-- no price of a record of A is less than what its distance lacks to the end
+pub falls_within : (f : Ground) (g : Growth) (end : ℕ) (free : Option ℕ) (last : ℕ) → IsGrown f g end free last → (a : ℕ) → end - distance g.da a ≤ number f.price_a.now a
+falls_within f g end free last grown a = elim (cases_lt (distance g.da a) far) [
+  | inl close ↦ omega (arith, grown.tree.best_of a close, grown.before_best)
+  | inr away ↦ omega (arith, away, grown.before_best, grown.tree.best_small)
+]
+
 module _ (f : Ground) (g : Growth) (end : ℕ) (free : Option ℕ) (last : ℕ) (pa pb : List ℕ) (ready : IsReady f) (grown : IsGrown f g end free last) (falls : (a : ℕ) → number pa a + (end - distance g.da a) ≡ number f.price_a.now a) (rises : (b : ℕ) → number pb b ≡ number f.price_b.now b + (end - distance g.db b)) where
   end_small : end ≤ MOST_VALUE
   end_small = omega (arith, grown.before_best, grown.tree.best_small)
@@ -137,6 +144,14 @@ module _ (f : Ground) (g : Growth) (end : ℕ) (free : Option ℕ) (last : ℕ) 
   -- the record of A that gives its link up is there
   pub last_inside : (rows : ℕ) → length g.da ≡ rows → MatchOption free (last < rows) (λ _. Unit {0})
   last_inside rows len = last_at rows len free grown.stop
+
+  free_at : (x : Option ℕ) → MatchOption x (distance g.da last < far) (λ b. (0 < places_left f b) × (distance g.db b ≡ end)) → MatchOption x (Unit {0}) (λ b. 0 < places_left f b)
+  free_at None s = tt
+  free_at (Some b) s = s.0
+
+  -- the record of B has a place left
+  pub free_after : MatchOption free (Unit {0}) (λ b. 0 < places_left f b)
+  free_after = free_at free grown.stop
 
   pub ways_after : MatchOption free (FromRecord last) (λ b. (n : ℕ) × Leads f.edges.now pa pb f.link_a.now g.from g.rank f.root n b)
   ways_after = ways_at free grown.stop

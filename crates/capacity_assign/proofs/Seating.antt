@@ -1,5 +1,5 @@
 -- Seats: one more, and a record of A that takes one.
-use Rattle.std.proofs.Common.{◌≡◌, ◌≢◌, ◌⊎◌, ◌==◌, ℕ, ◌+◌, ◌-◌, ◌<◌, ◌≤◌, true, false, List, length, set, Option, Some, None, refl, ap, sym, ◌∙◌, inl, inr, arith, get_or-set_other, get_or-set_same}
+use Rattle.std.proofs.Common.{◌≡◌, ◌≢◌, ◌==◌, ℕ, ◌+◌, ◌-◌, ◌<◌, ◌≤◌, true, false, List, length, set, Option, Some, None, refl, ap, sym, ◌∙◌, inl, inr, arith, get_or-set_other, get_or-set_same}
 use Rattle.std.proofs.lemmas.Bool.{cases_eq, cases_lt}
 use Rattle.std.proofs.lemmas.Bool.Decides.{nat_tests}
 use Rattle.std.proofs.lemmas.List.{length-set}
@@ -9,10 +9,6 @@ use Rattle.capacity_assign.specs.Core.{edge, link, linked_at, number}
 use Rattle.capacity_assign.specs.Round.{KeepsPlaces}
 use Rattle.capacity_assign.specs.Seating.{AddsSeat, AreAllSeated, AreSeated, AreSeats, IsFilled, HangTogether, HasHole, IsLastSeat, Seating, free_rows}
 use Rattle.capacity_assign.proofs.Links.{free_rows-set, link-set, link_there, linked_at-set, tick}
-
--- the number at a place after one write
-pub number-set : (xs : List ℕ) (i j x : ℕ) → i < length xs → ((j ≡ i) × (number (set xs i x) j ≡ x)) ⊎ ((j ≢ i) × (number (set xs i x) j ≡ number xs j))
-number-set xs i j x lt = elim (cases_eq j i) [ inl e ↦ inl (e, rw e (get_or-set_same xs i x 0 lt)) | inr n ↦ inr (n, get_or-set_other xs i j x 0 n) ]
 
 -- the record of A of edge k takes the seat that is nobody's
 pub seat_taken : (es : List Edge) (la : List (Option ℕ)) (seat row owner : List ℕ) (count b free k : ℕ) → HasHole es la seat row owner count b free → (edge es k).b ≡ b → (edge es k).a < length la → length seat ≡ length la → free < length row → AreSeated es (set la (edge es k).a (Some k)) (set seat (edge es k).a free) (set row free (edge es k).a) owner count

@@ -2,7 +2,7 @@ use Rattle.std.proofs.Common.{◌≡◌, ◌<◌, length, sym, ◌∙◌, inl, i
 use Rattle.std.proofs.lemmas.Bool.{false≢true}
 use Rattle.std.proofs.lemmas.List.{get_or_read}
 use Rattle.capacity_assign.specs.Growth.{growth, distance, far, places_left}
-use Rattle.capacity_assign.proofs.Growing.{grown_best, nearest_taken, tree_dropped, tree_taken, cons_first}
+use Rattle.capacity_assign.proofs.Growing.{grown_best, nearest_taken, room_queued, tree_dropped, tree_taken, cons_first}
 use Rattle.distance_queue.proofs.Members.{Contains-cons_cases}
 use Rattle.capacity_assign.proofs.grow.grow.Goals as goal
 
@@ -31,7 +31,6 @@ loop-near-preserved-then-index-near c =
     let e = c.in-Some.ensures in
     let n = c.in-Some.near in
     let i = c.loop-near.invariant in
-    let r = i.room in
     let late = i.tree.late (n.distance, n.position) e.inside in
     let read = get_or_read c.loop-near.tree.dist_b.items n.position c.index.result.now late.2 c.index.ensures far in
     let stale : distance c.loop-near.tree.dist_b.items n.position < n.distance = omega (arith, read, c.if-index-near.true) in
@@ -40,7 +39,7 @@ loop-near-preserved-then-index-near c =
       rest = i.rest;
       held = i.held;
       tree = tree_dropped c.args.ground 0 (length c.args.ground.edges.now) (growth c.loop-near.tree) c.take.new.self.waiting (n.distance, n.position) taken stale;
-      room = record { of_a = r.of_a; of_rank = r.of_rank; of_b = r.of_b; of_from = r.of_from; touched = r.touched; touched_room = r.touched_room; top = r.top; records = r.records; records_room = r.records_room; top_a = r.top_a; records_in = r.records_in; touched_in = r.touched_in };
+      room = room_queued _ _ c.loop-near.tree c.take.new.self i.room;
       fits = omega (arith, i.fits, e.count, e.room);
       queue = omega (arith, i.queue, e.room);
     }
@@ -133,3 +132,104 @@ returns-clause-grown c =
       rw (c.best_end-2.ensures.end, c.best_end-2.ensures.free, c.best_end-2.ensures.last)
           (grown_best c.args.ground (growth c.loop-near.tree) i.tree i.held (λ x h. absurd (c.in_default.ensures.inside x h))),
     )
+
+pub loop-near-init : goal.loop-near-init
+loop-near-init c = record { rest = λ none. none; held = c.requires.held; tree = c.requires.tree; room = c.requires.room; fits = c.requires.queue; queue = omega arith }
+
+pub returns-then-tree-near-clause-whole : goal.returns-then-tree-near-clause-whole
+returns-then-tree-near-clause-whole c = λ none. rw c.best_end.ensures.free (c.best_end.ensures.end, c.best_end.ensures.last)
+
+pub returns-then-tree-near-clause-room : goal.returns-then-tree-near-clause-room
+returns-then-tree-near-clause-room c = room_queued _ _ c.loop-near.tree c.take.new.self c.loop-near.invariant.room
+
+pub returns-then-tree-near-clause-queue : goal.returns-then-tree-near-clause-queue
+returns-then-tree-near-clause-queue c = rw c.in-Some.ensures.room c.loop-near.invariant.queue
+
+pub loop-near-smaller-then-index-near : goal.loop-near-smaller-then-index-near
+loop-near-smaller-then-index-near c = omega (arith, c.in-Some.ensures.count)
+
+pub returns-then-index-gt0-clause-whole : goal.returns-then-index-gt0-clause-whole
+returns-then-index-gt0-clause-whole c = λ none. tt
+
+pub returns-then-index-gt0-clause-room : goal.returns-then-index-gt0-clause-room
+returns-then-index-gt0-clause-room c = room_queued _ _ c.loop-near.tree c.take.new.self c.loop-near.invariant.room
+
+pub returns-then-index-gt0-clause-queue : goal.returns-then-index-gt0-clause-queue
+returns-then-index-gt0-clause-queue c = rw c.in-Some.ensures.room c.loop-near.invariant.queue
+
+pub broken_end-requires-clause-from : goal.broken_end-requires-clause-from
+broken_end-requires-clause-from c = c.loop-near.invariant.room.of_from
+
+pub returns-then-is_spent-clause-room : goal.returns-then-is_spent-clause-room
+returns-then-is_spent-clause-room c = room_queued _ _ c.loop-near.tree c.take.new.self c.loop-near.invariant.room
+
+pub returns-then-is_spent-clause-queue : goal.returns-then-is_spent-clause-queue
+returns-then-is_spent-clause-queue c = rw c.in-Some.ensures.room c.loop-near.invariant.queue
+
+pub settle-requires-clause-ready : goal.settle-requires-clause-ready
+settle-requires-clause-ready c = c.requires.ready
+
+pub settle-requires-clause-rising : goal.settle-requires-clause-rising
+settle-requires-clause-rising c = c.requires.rising
+
+pub settle-requires-clause-full : goal.settle-requires-clause-full
+settle-requires-clause-full c =
+    let n = c.in-Some.near in
+    let i = c.loop-near.invariant in
+    let late = i.tree.late (n.distance, n.position) c.in-Some.ensures.inside in
+    let left = c.args.ground.seats.now.left in
+    let lt : n.position < length left.items = omega (arith, late.2, c.loop-near.tree.dist_b.ok.0, i.room.of_b, c.requires.ready.rows_b, left.ok.0) in
+    let read = get_or_read left.items n.position c.index-in-Some.result.now lt c.index-in-Some.ensures 0 in
+    omega (arith, read, c.if-index-gt0.false)
+
+pub settle-requires-clause-useful : goal.settle-requires-clause-useful
+settle-requires-clause-useful c = c.if-tree-near.false
+
+pub settle-requires-clause-held : goal.settle-requires-clause-held
+settle-requires-clause-held c = c.loop-near.invariant.held
+
+pub settle-requires-clause-room : goal.settle-requires-clause-room
+settle-requires-clause-room c = room_queued _ _ c.loop-near.tree c.take.new.self c.loop-near.invariant.room
+
+pub settle-requires-clause-queue : goal.settle-requires-clause-queue
+settle-requires-clause-queue c = omega (arith, c.loop-near.invariant.fits, c.in-Some.ensures.count, c.in-Some.ensures.room)
+
+pub returns-then-not-settle-clause-grown : goal.returns-then-not-settle-clause-grown
+returns-then-not-settle-clause-grown c =
+    let end = c.best_end-then-not-settle.ensures in
+    (c.settle.new.tree.frontier.waiting, rw (end.end, end.free, end.last) (rw c.if-not-settle.true at c.settle.ensures.tree))
+
+pub returns-then-not-settle-clause-whole : goal.returns-then-not-settle-clause-whole
+returns-then-not-settle-clause-whole c = λ none. rw c.best_end-then-not-settle.ensures.free (c.best_end-then-not-settle.ensures.end, c.best_end-then-not-settle.ensures.last)
+
+pub returns-then-not-settle-clause-room : goal.returns-then-not-settle-clause-room
+returns-then-not-settle-clause-room c = c.settle.ensures.room
+
+pub returns-then-not-settle-clause-queue : goal.returns-then-not-settle-clause-queue
+returns-then-not-settle-clause-queue c = omega (arith, c.settle.ensures.queue, c.in-Some.ensures.room, c.loop-near.invariant.queue)
+
+pub loop-near-smaller : goal.loop-near-smaller
+loop-near-smaller c = omega (arith, c.settle.ensures.work, c.in-Some.ensures.count)
+
+pub loop-near-preserved : goal.loop-near-preserved
+loop-near-preserved c =
+    let i = c.loop-near.invariant in
+    let s = c.settle.ensures in
+    let e = c.in-Some.ensures in
+    record {
+      rest = λ none. (c.is_spent.ensures (i.rest none)).1;
+      held = rw c.if-not-settle.false at s.held;
+      tree = rw c.if-not-settle.false at s.tree;
+      room = s.room;
+      fits = omega (arith, s.work, s.queue, e.count, e.room, i.fits);
+      queue = omega (arith, s.queue, e.room, i.queue);
+    }
+
+pub returns-clause-whole : goal.returns-clause-whole
+returns-clause-whole c = λ none. rw c.best_end-2.ensures.free (c.best_end-2.ensures.end, c.best_end-2.ensures.last)
+
+pub returns-clause-room : goal.returns-clause-room
+returns-clause-room c = room_queued _ _ c.loop-near.tree c.take.new.self c.loop-near.invariant.room
+
+pub returns-clause-queue : goal.returns-clause-queue
+returns-clause-queue c = rw c.in_default.ensures.room c.loop-near.invariant.queue

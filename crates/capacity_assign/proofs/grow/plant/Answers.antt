@@ -1,13 +1,40 @@
-use Rattle.std.proofs.Common.{ap, arith}
+use Rattle.std.proofs.Common.{◌<◌, ◌∙◌, length, ap, arith, get_or-set_same}
+use Rattle.capacity_assign.specs.Growth.{far}
 use Rattle.capacity_assign.proofs.Count.{left_few}
 use Rattle.capacity_assign.proofs.grow.plant.Goals as goal
+
+pub join-requires : goal.join-requires
+join-requires c =
+    let r = c.requires.clean.room in
+    record {
+      ready = c.requires.ready;
+      in_range = c.requires.ready.root_in;
+      small = omega arith;
+      room = record { of_a = r.of_a; of_rank = r.of_rank; of_b = r.of_b; of_from = r.of_from; touched = r.touched; touched_room = r.touched_room; top = r.top; records = r.records; records_room = r.records_room; top_a = r.top_a; records_in = r.records_in; touched_in = r.touched_in };
+      new = c.requires.clean.da c.args.ground.root;
+    }
+
+pub relax_record-requires-clause-last : goal.relax_record-requires-clause-last
+relax_record-requires-clause-last c =
+    let da = c.args.tree.now.dist_a.items in
+    let root = c.args.ground.root in
+    let there : root < length da = omega (arith, c.requires.ready.root_in, c.requires.clean.room.of_a, c.args.tree.now.dist_a.ok.0) in
+    rw (c.join.ensures.joins.da, c.join.ensures.joins.current) (get_or-set_same da root 0 far there)
 
 pub relax_record-requires-clause-queue : goal.relax_record-requires-clause-queue
 relax_record-requires-clause-queue c =
     let few = left_few c.args.ground.edges.now c.join.new.tree.dist_a.items c.args.ground.root 0 in
     omega (arith, few, c.requires.queue, c.requires.clean.empty, ap (λ q. q.count) c.join.ensures.queue, ap (λ q. q.room) c.join.ensures.queue)
 
-pub returns-clause-fits : goal.returns-clause-fits
-returns-clause-fits c =
+pub returns : goal.returns
+returns c =
+    let r = c.relax_record.ensures in
     let few = left_few c.args.ground.edges.now c.join.new.tree.dist_a.items c.args.ground.root 0 in
-    omega (arith, few, c.relax_record.ensures.work, c.relax_record.ensures.queue, c.requires.queue, c.requires.clean.empty, ap (λ q. q.count) c.join.ensures.queue, ap (λ q. q.room) c.join.ensures.queue)
+    let room = ap (λ q. q.room) c.join.ensures.queue in
+    record {
+      tree = r.tree;
+      room = r.room;
+      fits = omega (arith, few, r.work, r.queue, c.requires.queue, c.requires.clean.empty, ap (λ q. q.count) c.join.ensures.queue, room);
+      queue = omega (arith, r.queue, room);
+      held = r.held ∙ c.join.ensures.joins.held;
+    }

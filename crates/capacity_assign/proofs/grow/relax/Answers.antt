@@ -1,54 +1,104 @@
-use Rattle.std.proofs.Common.{length, ◌≡◌, ◌+◌, ◌<◌, arith}
+use Rattle.std.proofs.Common.{length, ◌≡◌, ◌+◌, ◌<◌, refl, sym, arith}
 use Rattle.std.proofs.lemmas.List.{get_or_read}
 use Rattle.capacity_assign.specs.Growth.{growth, IsRelaxed, distance, edge_of, paid, far}
 use Rattle.capacity_assign.proofs.Count.{left_later, left_relaxed}
-use Rattle.capacity_assign.proofs.Growing.{tree_passed, tree_reached}
+use Rattle.capacity_assign.proofs.Growing.{room_at, tree_passed, tree_reached}
 use Rattle.capacity_assign.proofs.grow.relax.Goals as goal
 
-pub returns-then-index-far-clause-tree : goal.returns-then-index-far-clause-tree
-returns-then-index-far-clause-tree c =
+pub reach_over-far-requires : goal.reach_over-far-requires
+reach_over-far-requires c =
     let t = c.args.tree.now in
-    let b = (edge_of c.args.ground c.args.k).b in
-    let records : b < length t.dist_b.items = omega (arith, c.requires.ready.in_range.record_b c.args.k c.requires.place, c.requires.room.of_b, t.dist_b.ok.0) in
-    let exact : c.reach_over-far.result + (edge_of c.args.ground c.args.k).value ≡ distance t.dist_a.items (edge_of c.args.ground c.args.k).a + paid c.args.ground c.args.k = rw c.deref.ensures.value at c.reach_over-far.ensures in
+    record {
+      place = c.requires.place;
+      ready = c.requires.ready;
+      records = rw c.deref.ensures.value (omega (arith, c.requires.room.of_a, t.dist_a.ok.0));
+      near = rw c.deref.ensures.value (omega (arith, c.requires.last, c.requires.tree.now, c.requires.tree.best_small));
+    }
+
+pub returns-then-tree-far : goal.returns-then-tree-far
+returns-then-tree-far c =
+    let t = c.args.tree.now in
+    let f = c.args.ground in
+    let k = c.args.k in
+    let exact : c.reach_over-far.result + (edge_of f k).value ≡ distance t.dist_a.items (edge_of f k).a + paid f k = rw c.deref.ensures.value at c.reach_over-far.ensures in
+    let here : IsRelaxed f (growth t) k = omega (arith, exact) in
+    let fewer = left_later f.edges.now t.dist_a.items (edge_of f k).a k (k + 1) (omega arith) in
+    record {
+      tree = tree_passed f k (growth t) c.requires.tree here;
+      room = c.requires.room;
+      work = omega (arith, fewer);
+      queue = omega arith;
+      current = refl;
+      held = refl;
+      dist_a = refl;
+    }
+
+pub index-requires : goal.index-requires
+index-requires c = omega (arith, c.requires.ready.in_range.record_b c.args.k c.requires.place, c.requires.room.of_b)
+
+pub returns-then-index-far : goal.returns-then-index-far
+returns-then-index-far c =
+    let t = c.args.tree.now in
+    let f = c.args.ground in
+    let k = c.args.k in
+    let b = (edge_of f k).b in
+    let records : b < length t.dist_b.items = omega (arith, c.requires.ready.in_range.record_b k c.requires.place, c.requires.room.of_b, t.dist_b.ok.0) in
+    let exact : c.reach_over-far.result + (edge_of f k).value ≡ distance t.dist_a.items (edge_of f k).a + paid f k = rw c.deref.ensures.value at c.reach_over-far.ensures in
     let read = get_or_read t.dist_b.items b c.index.result.now records c.index.ensures far in
-    let here : IsRelaxed c.args.ground (growth c.args.tree.now) c.args.k = omega (arith, exact, read) in
-    tree_passed c.args.ground c.args.k (growth c.args.tree.now) c.requires.tree here
+    let here : IsRelaxed f (growth t) k = omega (arith, exact, read) in
+    let fewer = left_later f.edges.now t.dist_a.items (edge_of f k).a k (k + 1) (omega arith) in
+    record {
+      tree = tree_passed f k (growth t) c.requires.tree here;
+      room = c.requires.room;
+      work = omega (arith, fewer);
+      queue = omega arith;
+      current = refl;
+      held = refl;
+      dist_a = refl;
+    }
 
-pub returns-clause-tree : goal.returns-clause-tree
-returns-clause-tree c =
+pub index-requires-2 : goal.index-requires-2
+index-requires-2 c = omega (arith, c.requires.ready.in_range.record_b c.args.k c.requires.place, c.requires.ready.rows_b)
+
+pub reach-requires : goal.reach-requires
+reach-requires c =
     let t = c.args.tree.now in
-    let b = (edge_of c.args.ground c.args.k).b in
-    let records : b < length t.dist_b.items = omega (arith, c.requires.ready.in_range.record_b c.args.k c.requires.place, c.requires.room.of_b, t.dist_b.ok.0) in
-    let exact : c.reach_over-far.result + (edge_of c.args.ground c.args.k).value ≡ distance t.dist_a.items (edge_of c.args.ground c.args.k).a + paid c.args.ground c.args.k = rw c.deref.ensures.value at c.reach_over-far.ensures in
+    let f = c.args.ground in
+    let k = c.args.k in
+    let b = (edge_of f k).b in
+    let r = c.requires.room in
+    let inside = c.requires.ready.in_range.record_b k c.requires.place in
+    let records : b < length t.dist_b.items = omega (arith, inside, r.of_b, t.dist_b.ok.0) in
     let read = get_or_read t.dist_b.items b c.index.result.now records c.index.ensures far in
-    tree_reached c.args.ground c.args.k (growth t) _ c.reach_over-far.result c.requires.place c.requires.ready c.requires.tree c.requires.last exact (omega (arith, read)) (omega arith) records (omega (arith, c.requires.room.of_b, c.requires.room.of_from, t.dist_b.ok.0, t.from.ok.0)) (c.requires.room.top b) c.reach.ensures.reaches
+    let near : distance t.dist_a.items (edge_of f k).a < far = omega (arith, c.requires.last, c.requires.tree.now, c.requires.tree.best_small) in
+    let one = left_relaxed f.edges.now t.dist_a.items k c.requires.place near in
+    record {
+      within = omega (arith, inside, r.of_b);
+      records = omega (arith, r.of_b, r.of_from);
+      room = room_at _ _ _ _ t r.of_a r.of_b r;
+      near = omega (arith, read, c.if-index-far.false);
+      queue = omega (arith, one, c.requires.queue);
+    }
 
-pub returns-then-tree-far-clause-tree : goal.returns-then-tree-far-clause-tree
-returns-then-tree-far-clause-tree c =
+pub returns : goal.returns
+returns c =
     let t = c.args.tree.now in
-    let exact : c.reach_over-far.result + (edge_of c.args.ground c.args.k).value ≡ distance t.dist_a.items (edge_of c.args.ground c.args.k).a + paid c.args.ground c.args.k = rw c.deref.ensures.value at c.reach_over-far.ensures in
-    let here : IsRelaxed c.args.ground (growth c.args.tree.now) c.args.k = omega (arith, exact) in
-    tree_passed c.args.ground c.args.k (growth c.args.tree.now) c.requires.tree here
-
-pub returns-then-tree-far-clause-work : goal.returns-then-tree-far-clause-work
-returns-then-tree-far-clause-work c =
-    let fewer = left_later c.args.ground.edges.now c.args.tree.now.dist_a.items (edge_of c.args.ground c.args.k).a c.args.k (c.args.k + 1) (omega arith) in
-    omega (arith, fewer)
-
-pub returns-then-index-far-clause-work : goal.returns-then-index-far-clause-work
-returns-then-index-far-clause-work c =
-    let fewer = left_later c.args.ground.edges.now c.args.tree.now.dist_a.items (edge_of c.args.ground c.args.k).a c.args.k (c.args.k + 1) (omega arith) in
-    omega (arith, fewer)
-
-pub reach-requires-clause-queue : goal.reach-requires-clause-queue
-reach-requires-clause-queue c =
-    let near : distance c.args.tree.now.dist_a.items (edge_of c.args.ground c.args.k).a < far = omega (arith, c.requires.last, c.requires.tree.now, c.requires.tree.best_small) in
-    let one = left_relaxed c.args.ground.edges.now c.args.tree.now.dist_a.items c.args.k c.requires.place near in
-    omega (arith, one, c.requires.queue)
-
-pub returns-clause-work : goal.returns-clause-work
-returns-clause-work c =
-    let near : distance c.args.tree.now.dist_a.items (edge_of c.args.ground c.args.k).a < far = omega (arith, c.requires.last, c.requires.tree.now, c.requires.tree.best_small) in
-    let one = left_relaxed c.args.ground.edges.now c.args.tree.now.dist_a.items c.args.k c.requires.place near in
-    rw c.reach.ensures.reaches.da (omega (arith, one, c.reach.ensures.count))
+    let f = c.args.ground in
+    let k = c.args.k in
+    let b = (edge_of f k).b in
+    let r = c.requires.room in
+    let e = c.reach.ensures in
+    let records : b < length t.dist_b.items = omega (arith, c.requires.ready.in_range.record_b k c.requires.place, r.of_b, t.dist_b.ok.0) in
+    let exact : c.reach_over-far.result + (edge_of f k).value ≡ distance t.dist_a.items (edge_of f k).a + paid f k = rw c.deref.ensures.value at c.reach_over-far.ensures in
+    let read = get_or_read t.dist_b.items b c.index.result.now records c.index.ensures far in
+    let near : distance t.dist_a.items (edge_of f k).a < far = omega (arith, c.requires.last, c.requires.tree.now, c.requires.tree.best_small) in
+    let one = left_relaxed f.edges.now t.dist_a.items k c.requires.place near in
+    record {
+      tree = tree_reached f k (growth t) _ c.reach_over-far.result c.requires.place c.requires.ready c.requires.tree c.requires.last exact (omega (arith, read, c.if-index-far.false)) c.if-tree-far.false records (omega (arith, r.of_b, r.of_from, t.dist_b.ok.0, t.from.ok.0)) (r.top b) e.reaches;
+      room = room_at _ _ _ _ c.reach.new.tree (sym r.of_a) (sym r.of_b) e.room;
+      work = rw e.reaches.da (omega (arith, one, e.count));
+      queue = e.queue;
+      current = e.reaches.current;
+      held = e.reaches.held;
+      dist_a = e.reaches.da;
+    }

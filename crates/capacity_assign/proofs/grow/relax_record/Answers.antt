@@ -1,7 +1,7 @@
-use Rattle.std.proofs.Common.{inl, inr, length, refl, ◌∙◌, arith}
+use Rattle.std.proofs.Common.{◌≡◌, ◌≤◌, inl, inr, length, refl, ◌∙◌, arith}
 use Rattle.std.proofs.lemmas.Bool.{cases_lt}
 use Rattle.capacity_assign.specs.Core.{number}
-use Rattle.capacity_assign.specs.Growth.{growth}
+use Rattle.capacity_assign.specs.Growth.{growth, work}
 use Rattle.capacity_assign.proofs.Count.{left_later}
 use Rattle.capacity_assign.proofs.Growing.{tree_skip}
 use Rattle.capacity_assign.proofs.grow.relax_record.Goals as goal
@@ -52,4 +52,52 @@ loop-k-preserved c =
       current = after.current ∙ before.current;
       dist_a = after.dist_a ∙ before.dist_a;
       queue = omega (arith, after.queue, before.queue);
+    }
+
+pub bounds-ground-position : goal.bounds-ground-position
+bounds-ground-position c = omega (arith, c.requires.inside, c.requires.ready.firsts.count)
+
+pub relax-requires : goal.relax-requires
+relax-requires c =
+    let i = c.loop-k.invariant in
+    let fits : work c.args.ground.edges.now c.args.position c.loop-k.k c.loop-k.tree ≤ c.loop-k.tree.frontier.room = omega (arith, i.work, i.queue, c.requires.queue) in
+    record {
+      place = c.loop-k-test.true;
+      ready = c.requires.ready;
+      last = rw c.if-ground-k.true i.last;
+      tree = rw c.if-ground-k.true i.tree;
+      room = i.room;
+      queue = rw c.if-ground-k.true fits;
+    }
+
+pub loop-k-smaller : goal.loop-k-smaller
+loop-k-smaller c = omega (arith, c.loop-k-test.true)
+
+pub returns-else-ground-k-clause-room : goal.returns-else-ground-k-clause-room
+returns-else-ground-k-clause-room c = c.loop-k.invariant.room
+
+pub returns-else-ground-k-clause-queue : goal.returns-else-ground-k-clause-queue
+returns-else-ground-k-clause-queue c = c.loop-k.invariant.queue
+
+pub returns-else-ground-k-clause-held : goal.returns-else-ground-k-clause-held
+returns-else-ground-k-clause-held c = c.loop-k.invariant.held
+
+pub returns-else-ground-k-clause-current : goal.returns-else-ground-k-clause-current
+returns-else-ground-k-clause-current c = c.loop-k.invariant.current
+
+pub returns-else-ground-k-clause-dist_a : goal.returns-else-ground-k-clause-dist_a
+returns-else-ground-k-clause-dist_a c = c.loop-k.invariant.dist_a
+
+pub returns-after-loop-k : goal.returns-after-loop-k
+returns-after-loop-k c =
+    let i = c.loop-k.invariant in
+    let all : c.loop-k.k ≡ length c.args.ground.edges.now = omega (arith, i.within, c.loop-k-test.false) in
+    record {
+      tree = rw all at i.tree;
+      room = i.room;
+      work = rw all at i.work;
+      queue = i.queue;
+      held = i.held;
+      current = i.current;
+      dist_a = i.dist_a;
     }

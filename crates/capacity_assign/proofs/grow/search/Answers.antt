@@ -1,8 +1,25 @@
 use Rattle.std.proofs.Common.{arith}
 use Rattle.capacity_assign.proofs.Count.{left_any}
+use Rattle.capacity_assign.proofs.Growing.{tree_any}
 use Rattle.capacity_assign.proofs.grow.search.Goals as goal
 
-pub grow-requires-clause-queue : goal.grow-requires-clause-queue
-grow-requires-clause-queue c =
+pub plant-requires : goal.plant-requires
+plant-requires c = record { ready = c.requires.ready; rising = c.requires.rising; clean = c.requires.clean; queue = c.requires.queue }
+
+pub grow-requires : goal.grow-requires
+grow-requires c =
+    let p = c.plant.ensures in
     let any = left_any c.args.ground.edges.now c.plant.new.tree.dist_a.items c.args.ground.root 0 in
-    omega (arith, any, c.plant.ensures.fits)
+    record {
+      ready = c.requires.ready;
+      rising = c.requires.rising;
+      held = p.held;
+      tree = tree_any c.args.ground c.args.ground.root 0 _ p.tree;
+      room = p.room;
+      queue = omega (arith, any, p.fits);
+    }
+
+pub returns : goal.returns
+returns c =
+    let g = c.grow.ensures in
+    record { ready = c.requires.ready; grown = g.grown; whole = g.whole; room = g.room; queue = omega (arith, g.queue, c.plant.ensures.queue) }

@@ -1,4 +1,4 @@
-use Rattle.std.proofs.Common.{Some, ◌≡◌, ◌<◌, None, length, ap, sym, ◌∙◌, arith}
+use Rattle.std.proofs.Common.{Some, ◌≡◌, ◌<◌, None, length, refl, ap, sym, ◌∙◌, arith}
 use Rattle.std.proofs.lemmas.List.{get_or_default}
 use Rattle.capacity_assign.specs.Core.{link, number}
 use Rattle.capacity_assign.specs.Growth.{growth}
@@ -27,11 +27,32 @@ loop-next-init c =
       done = λ k on ends past. (let mine = c.requires.ready.seated.seated _ k on in absurd (last_past s.owner.items s.count b c.index-next.result.now _ last mine.there (mine.owned ∙ ends) past));
     }
 
-pub join_seat-requires-clause-seat : goal.join_seat-requires-clause-seat
-join_seat-requires-clause-seat c = (c.loop-next.invariant.within c.in-Some.n c.in-Some.is).0
+pub hold-requires : goal.hold-requires
+hold-requires c = record {
+  full = c.requires.full;
+  useful = c.requires.useful;
+  exact = c.requires.exact;
+  nearest = c.requires.nearest;
+  held = c.requires.held;
+  tree = c.requires.tree;
+}
 
-pub join_seat-requires-clause-owned : goal.join_seat-requires-clause-owned
-join_seat-requires-clause-owned c = c.loop-next.invariant.held ∙ ap Some (sym (c.loop-next.invariant.within c.in-Some.n c.in-Some.is).1)
+pub index-next-requires : goal.index-next-requires
+index-next-requires c = omega (arith, c.requires.inside, c.requires.ready.lasts)
+
+pub join_seat-requires : goal.join_seat-requires
+join_seat-requires c =
+    let i = c.loop-next.invariant in
+    let w = i.within c.in-Some.n c.in-Some.is in
+    record {
+      ready = c.requires.ready;
+      rising = c.requires.rising;
+      seat = w.0;
+      owned = i.held ∙ ap Some (sym w.1);
+      tree = i.tree;
+      room = i.room;
+      queue = i.fits;
+    }
 
 pub index-next-requires-in-Some : goal.index-next-requires-in-Some
 index-next-requires-in-Some c =
@@ -70,12 +91,25 @@ loop-next-preserved c =
       done = past_more c.args.ground c.loop-next.tree.dist_a.items c.join_seat.new.tree.dist_a.items c.args.near.position n c.index-next-in-Some.result.now c.requires.ready last (rw c.in-Some.is at i.done) e.stays e.joined;
     }
 
-pub returns-then-tree-near-clause-tree : goal.returns-then-tree-near-clause-tree
-returns-then-tree-near-clause-tree c =
+pub returns-then-tree-near : goal.returns-then-tree-near
+returns-then-tree-near c =
     let i = c.loop-next.invariant in
-    grown_holding c.args.ground (growth c.loop-next.tree) c.args.near.position i.tree i.held (omega (arith, i.current, c.if-tree-near.true))
+    record {
+      tree = grown_holding c.args.ground (growth c.loop-next.tree) c.args.near.position i.tree i.held (omega (arith, i.current, c.if-tree-near.true));
+      held = tt;
+      room = i.room;
+      work = i.work;
+      queue = i.queue;
+    }
 
-pub returns-clause-tree : goal.returns-clause-tree
-returns-clause-tree c =
+pub returns : goal.returns
+returns c =
     let i = c.loop-next.invariant in
-    tree_let_go c.args.ground 0 (length c.args.ground.edges.now) (growth c.loop-next.tree) c.args.near.position i.tree i.held (λ k on ends. rw c.in_default.is at i.done k on ends tt)
+    let r = i.room in
+    record {
+      tree = tree_let_go c.args.ground 0 (length c.args.ground.edges.now) (growth c.loop-next.tree) c.args.near.position i.tree i.held (λ k on ends. rw c.in_default.is at i.done k on ends tt);
+      held = refl;
+      room = record { of_a = r.of_a; of_rank = r.of_rank; of_b = r.of_b; of_from = r.of_from; touched = r.touched; touched_room = r.touched_room; top = r.top; records = r.records; records_room = r.records_room; top_a = r.top_a; records_in = r.records_in; touched_in = r.touched_in };
+      work = i.work;
+      queue = i.queue;
+    }

@@ -1,5 +1,29 @@
-use Rattle.std.proofs.Common.{◌∙◌}
+use Rattle.std.proofs.Common.{◌≡◌, length, ◌∙◌, arith}
 use Rattle.capacity_assign.proofs.phases.all_rounds.Goals as goal
+
+pub loop-root-init : goal.loop-root-init
+loop-root-init c =
+    let tight = c.link_tight.ensures in
+    let bids = c.all_bids.ensures in
+    record {
+      between = bids.between;
+      places = λ b. bids.places b ∙ tight.places b;
+      clean = bids.clean;
+      queue = bids.queue;
+    }
+
+pub round-requires : goal.round-requires
+round-requires c =
+    let i = c.loop-root.invariant in
+    record {
+      rising = c.requires.rising;
+      firsts = rw (c.loop-root.auto.price_a, c.all_bids.auto.price_a) c.requires.firsts;
+      small = c.requires.small;
+      root = rw c.loop-root.auto.price_a c.loop-root-test.true;
+      between = i.between;
+      clean = i.clean;
+      queue = i.queue;
+    }
 
 pub loop-root-preserved : goal.loop-root-preserved
 loop-root-preserved c =
@@ -10,3 +34,8 @@ loop-root-preserved c =
       clean = after.clean;
       queue = after.queue;
     }
+
+pub returns : goal.returns
+returns c =
+    let all : c.loop-root.root ≡ length c.loop-root.price_a = omega (arith, c.loop-root-test.false, c.loop-root.auto.root-end, c.loop-root.auto.price_a) in
+    record { between = rw all at c.loop-root.invariant.between; places = c.loop-root.invariant.places }

@@ -1,6 +1,46 @@
-use Rattle.std.proofs.Common.{refl}
+use Rattle.std.proofs.Common.{◌≡◌, ◌<◌, ◌+◌, ℕ, None, refl, ap, sym, ◌∙◌, inl, inr, arith}
+use Rattle.std.proofs.lemmas.Bool.{cases_lt, false≢true}
+use Rattle.std.specs.Option.{is_some}
+use Rattle.capacity_assign.specs.Core.{link}
+use Rattle.capacity_assign.proofs.FirstLinks.{not_linked}
 use Rattle.capacity_assign.proofs.Rounds.{between_any}
 use Rattle.capacity_assign.proofs.round.round.Goals as goal
 
-pub returns-clause-between : goal.returns-clause-between
-returns-clause-between c = between_any _ _ _ _ _ 0 _ c.take_up.ensures.between (c.take_up.ensures.settled refl c.requires.between.free_a)
+pub returns-then-is_some : goal.returns-then-is_some
+returns-then-is_some c =
+    let w = c.requires.between in
+    let root = c.args.root in
+    record {
+      between = between_any _ _ _ _ _ root (root + 1) w (λ (a : ℕ) (low : a < root + 1) (none : link c.args.link_a.now a ≡ None). elim (cases_lt a root) [
+        | inl before ↦ w.free_a a before none
+        | inr upto ↦
+            (let same : a ≡ root = omega (arith, low, upto) in
+            let here : link c.args.link_a.now root ≡ None = rw same at none in
+            absurd (false≢true (sym (ap is_some here) ∙ sym c.if-is_some.ensures)))
+      ]);
+      places = λ b. refl;
+      queue = c.requires.queue;
+      clean = c.requires.clean;
+    }
+
+pub take_up-requires : goal.take_up-requires
+take_up-requires c = record {
+  rising = c.requires.rising;
+  firsts = c.requires.firsts;
+  small = c.requires.small;
+  root = c.requires.root;
+  free = not_linked (link c.args.link_a.now c.args.root) (sym c.if-is_some.ensures);
+  between = between_any _ _ _ _ _ c.args.root 0 c.requires.between (λ a low none. absurd (omega (arith, low)));
+  clean = c.requires.clean;
+  queue = c.requires.queue;
+}
+
+pub returns : goal.returns
+returns c =
+    let t = c.take_up.ensures in
+    record {
+      between = between_any _ _ _ _ _ 0 _ t.between (t.settled refl c.requires.between.free_a);
+      places = t.places;
+      queue = t.queue;
+      clean = t.clean;
+    }

@@ -25,3 +25,9 @@ raise-requires-clause-whole c = rw (c.deref-2.ensures.value, c.deref_mut-2.ensur
 
 pub raise-requires-clause-top : goal.raise-requires-clause-top
 raise-requires-clause-top c = rw c.deref_mut-2.ensures.value c.requires.room.top
+
+pub lower-requires-clause-fits : goal.lower-requires-clause-fits
+lower-requires-clause-fits c = rw c.deref_mut.ensures.value c.requires.falls
+
+pub raise-requires-clause-fits : goal.raise-requires-clause-fits
+raise-requires-clause-fits c = rw c.deref_mut-2.ensures.value (λ b. omega (arith, c.requires.small b, c.requires.end))

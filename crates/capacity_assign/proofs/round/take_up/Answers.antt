@@ -1,42 +1,82 @@
 use Rattle.std.proofs.Common.{length, arith}
 use Rattle.capacity_assign.specs.Growth.{growth, with_waiting}
 use Rattle.capacity_assign.specs.Seating.{seating}
-use Rattle.capacity_assign.proofs.Rounds.{between_after, last_inside, settled_after, tight_after, ways_after}
+use Rattle.capacity_assign.proofs.Rounds.{between_after, falls_within, free_after, last_inside, settled_after, tight_after, ways_after}
 use Rattle.capacity_assign.proofs.round.take_up.Goals as goal
 
-pub turn-requires-clause-last : goal.turn-requires-clause-last
-turn-requires-clause-last c =
-    let s = c.search-grown in
-    last_inside _ (with_waiting s.ensures.grown.0 (growth s.new.tree)) s.result.end s.result.free s.result.last c.shift.new.price_a c.shift.new.price_b s.ensures.ready s.ensures.grown.1 c.shift.ensures.price_a c.shift.ensures.price_b
-    (length c.args.link_a.now) (omega (arith, s.ensures.room.of_a, s.new.tree.dist_a.ok.0, c.requires.between.rows_a))
+pub search-grown-requires : goal.search-grown-requires
+search-grown-requires c =
+    let w = c.requires.between in
+    let s = c.args.seats.now in
+    record {
+      ready = record {
+        rows_a = w.rows_a;
+        rows_b = omega (arith, w.rows_b, s.left.ok.0);
+        lasts = omega (arith, w.seated.lasts, w.rows_b, s.last.ok.0);
+        seats = omega (arith, w.seated.rows, w.rows_a, s.row.ok.0);
+        earliers = omega (arith, w.seated.earliers, w.rows_a, s.earlier.ok.0);
+        firsts = c.requires.firsts;
+        root_in = c.requires.root;
+        root_free = c.requires.free;
+        in_range = w.in_range;
+        covered = w.covered;
+        small_a = w.small_a;
+        small_b = w.small_b;
+        linked = w.linked;
+        seated = w.seated;
+      };
+      rising = c.requires.rising;
+      clean = c.requires.clean;
+      queue = c.requires.queue;
+    }
 
-pub returns-clause-last : goal.returns-clause-last
-returns-clause-last c =
-    let s = c.search-grown in
-    last_inside _ (with_waiting s.ensures.grown.0 (growth s.new.tree)) s.result.end s.result.free s.result.last c.shift.new.price_a c.shift.new.price_b s.ensures.ready s.ensures.grown.1 c.shift.ensures.price_a c.shift.ensures.price_b
-    (length c.shift.new.price_a) (omega (arith, s.ensures.room.of_a, s.new.tree.dist_a.ok.0, c.shift.auto.price_a))
+pub shift-requires : goal.shift-requires
+shift-requires c =
+    let grown = c.search-grown.ensures.grown.1 in
+    record {
+      room = c.search-grown.ensures.room;
+      end = omega (arith, grown.before_best, grown.tree.best_small);
+      noted_a = grown.tree.noted_a;
+      noted_b = grown.tree.noted_b;
+      falls = falls_within _ _ _ _ _ grown;
+      small = c.requires.between.small_b;
+    }
 
-pub turn-requires-clause-tight : goal.turn-requires-clause-tight
-turn-requires-clause-tight c =
+pub turn-requires : goal.turn-requires
+turn-requires c =
     let s = c.search-grown in
-    tight_after _ (with_waiting s.ensures.grown.0 (growth s.new.tree)) s.result.end s.result.free s.result.last c.shift.new.price_a c.shift.new.price_b s.ensures.ready s.ensures.grown.1 c.shift.ensures.price_a c.shift.ensures.price_b c.requires.between.tight
+    let w = c.requires.between in
+    let g = with_waiting s.ensures.grown.0 (growth s.new.tree) in
+    let falls = c.shift.ensures.price_a in
+    let rises = c.shift.ensures.price_b in
+    record {
+      in_range = rw (w.rows_a, w.rows_b) w.in_range;
+      linked = w.linked;
+      tight = tight_after _ g s.result.end s.result.free s.result.last c.shift.new.price_a c.shift.new.price_b s.ensures.ready s.ensures.grown.1 falls rises w.tight;
+      seats = w.seated;
+      root = (omega (arith, c.requires.root, w.rows_a), c.requires.free);
+      last = last_inside _ g s.result.end s.result.free s.result.last c.shift.new.price_a c.shift.new.price_b s.ensures.ready s.ensures.grown.1 falls rises
+          (length c.args.link_a.now) (omega (arith, s.ensures.room.of_a, s.new.tree.dist_a.ok.0, w.rows_a));
+      free = free_after _ g s.result.end s.result.free s.result.last c.shift.new.price_a c.shift.new.price_b s.ensures.ready s.ensures.grown.1 falls rises;
+      leads = rw (c.deref.ensures.value, c.deref-2.ensures.value, c.shift.ensures.from, c.shift.ensures.rank)
+          (ways_after _ g s.result.end s.result.free s.result.last c.shift.new.price_a c.shift.new.price_b s.ensures.ready s.ensures.grown.1 falls rises);
+    }
 
-pub turn-requires-clause-leads : goal.turn-requires-clause-leads
-turn-requires-clause-leads c =
-    let s = c.search-grown in
-    rw (c.deref.ensures.value, c.deref-2.ensures.value, c.shift.ensures.from, c.shift.ensures.rank)
-    (ways_after _ (with_waiting s.ensures.grown.0 (growth s.new.tree)) s.result.end s.result.free s.result.last c.shift.new.price_a c.shift.new.price_b s.ensures.ready s.ensures.grown.1 c.shift.ensures.price_a c.shift.ensures.price_b)
-
-pub returns-clause-between : goal.returns-clause-between
-returns-clause-between c =
+pub returns : goal.returns
+returns c =
     let s = c.search-grown in
     let t = c.turn.ensures in
-    between_after _ (with_waiting s.ensures.grown.0 (growth s.new.tree)) s.result.end s.result.free s.result.last c.shift.new.price_a c.shift.new.price_b s.ensures.ready s.ensures.grown.1 c.shift.ensures.price_a c.shift.ensures.price_b
-    c.turn.new.link_a (seating c.turn.new.seats) c.requires.small c.requires.between c.shift.auto.price_a c.shift.auto.price_b t.rows_a t.rows_b t.linked t.tight t.seats t.vacant t.places
-
-pub returns-clause-settled : goal.returns-clause-settled
-returns-clause-settled c = λ no_limit old.
-    let s = c.search-grown in
-    let t = c.turn.ensures in
-    settled_after _ (with_waiting s.ensures.grown.0 (growth s.new.tree)) s.result.end s.result.free s.result.last c.shift.new.price_a c.shift.new.price_b s.ensures.ready s.ensures.grown.1 c.shift.ensures.price_a c.shift.ensures.price_b
-    (s.ensures.whole no_limit) c.turn.new.link_a t.root t.still_a old
+    let g = with_waiting s.ensures.grown.0 (growth s.new.tree) in
+    let falls = c.shift.ensures.price_a in
+    let rises = c.shift.ensures.price_b in
+    record {
+      between = between_after _ g s.result.end s.result.free s.result.last c.shift.new.price_a c.shift.new.price_b s.ensures.ready s.ensures.grown.1 falls rises
+          c.turn.new.link_a (seating c.turn.new.seats) c.requires.small c.requires.between c.shift.auto.price_a c.shift.auto.price_b t.rows_a t.rows_b t.linked t.tight t.seats t.vacant t.places;
+      places = t.places;
+      last = last_inside _ g s.result.end s.result.free s.result.last c.shift.new.price_a c.shift.new.price_b s.ensures.ready s.ensures.grown.1 falls rises
+          (length c.shift.new.price_a) (omega (arith, s.ensures.room.of_a, s.new.tree.dist_a.ok.0, c.shift.auto.price_a));
+      settled = λ no_limit old. settled_after _ g s.result.end s.result.free s.result.last c.shift.new.price_a c.shift.new.price_b s.ensures.ready s.ensures.grown.1 falls rises
+          (s.ensures.whole no_limit) c.turn.new.link_a t.root t.still_a old;
+      queue = omega (arith, c.requires.queue, s.ensures.queue, c.shift.ensures.queue);
+      clean = rw (c.shift.auto.price_a, c.shift.auto.price_b) c.shift.ensures.clean;
+    }

@@ -1,59 +1,146 @@
-use Rattle.std.proofs.Common.{◌≡◌, ◌<◌, length, set, None, sym, ◌∙◌, arith}
+use Rattle.std.proofs.Common.{◌≡◌, ◌<◌, length, set, None, Some, refl, ap, sym, ◌∙◌, inl, inr, arith}
+use Rattle.std.specs.Option.{is_some}
 use Rattle.std.proofs.lemmas.List.{get_or_default, length-set, with_items_is}
 use Rattle.assignment_laws.proofs.Places.{place_there}
 use Rattle.capacity_assign.specs.Core.{edge, number}
 use Rattle.capacity_assign.specs.Seating.{HasHole, seating}
-use Rattle.capacity_assign.proofs.Links.{free_row_counts, linked_parted}
-use Rattle.capacity_assign.proofs.Seating.{hole_parted, places_after_added, places_after_parted, rows_after_parted, seats_after_added, seats_after_parted}
+use Rattle.capacity_assign.proofs.Links.{free_row_counts, link-set, linked_parted}
+use Rattle.capacity_assign.proofs.Seating.{hole_parted, places_after_added, places_after_parted, rows_after_parted, seats_after_added, seats_after_parted, vacant_after_added}
 use Rattle.capacity_assign.proofs.Ways.{leads_parted}
 use Rattle.capacity_assign.proofs.round.turn.Goals as goal
 
-pub walk-requires-clause-seats : goal.walk-requires-clause-seats
-walk-requires-clause-seats c =
+pub add_seat-seat-requires : goal.add_seat-seat-requires
+add_seat-seat-requires c =
+    let s = c.requires.seats in
+    let old = c.args.seats.now in
+    let some : 0 < number old.left.items c.in-Some.b = rw c.in-Some.is at c.requires.free in
+    let there = place_there old.left.items c.in-Some.b some in
+    let one = free_row_counts c.args.link_a.now c.args.ways.root c.requires.root.0 c.requires.root.1 in
+    record {
+      owner = omega (arith, s.room, s.owners, one, old.owner.ok.0);
+      earlier = omega (arith, s.room, s.earliers, one, old.earlier.ok.0);
+      last = omega (arith, s.lasts, there, old.last.ok.0);
+      left = omega (arith, there, old.left.ok.0);
+      vacant = some;
+    }
+
+pub walk-requires : goal.walk-requires
+walk-requires c =
     let s = c.requires.seats in
     let adds = c.add_seat-seat.ensures.adds in
-    rw (c.deref_mut.ensures.value, c.deref_mut-in-Some.ensures.value, adds.seat, adds.row) (λ a k on. omega (arith, (s.seated a k on).there, s.room, s.rows))
+    let one = free_row_counts c.args.link_a.now c.args.ways.root c.requires.root.0 c.requires.root.1 in
+    record {
+      in_range = c.requires.in_range.record_a;
+      linked = c.requires.linked;
+      tight = c.requires.tight;
+      rows = rw (c.deref_mut.ensures.value, adds.seat) s.seats;
+      seats = rw (c.deref_mut.ensures.value, c.deref_mut-in-Some.ensures.value, adds.seat, adds.row) (λ a k on. omega (arith, (s.seated a k on).there, s.room, s.rows));
+      there = rw (c.deref_mut-in-Some.ensures.value, adds.row) (omega (arith, c.add_seat-seat.ensures.next, s.room, s.rows, one));
+      leads = rw c.in-Some.is at c.requires.leads;
+    }
 
-pub returns-in-Some-clause-seats : goal.returns-in-Some-clause-seats
-returns-in-Some-clause-seats c =
+pub returns-in-Some : goal.returns-in-Some
+returns-in-Some c =
     let es = c.args.net.edges.now in
     let la = c.args.link_a.now in
+    let left = c.args.seats.now.left.items in
+    let b = c.in-Some.b in
     let t = c.add_seat-seat.new.seats in
-    let some : 0 < number c.args.seats.now.left.items c.in-Some.b = rw c.in-Some.is at c.requires.free in
-    rw (with_items_is t.seat c.walk.new.seat (omega (arith, c.walk.auto.seat, c.deref_mut.ensures.len)), with_items_is t.row c.walk.new.row (omega (arith, c.walk.auto.row, c.deref_mut-in-Some.ensures.len))) (seats_after_added es la c.walk.new.link_a (seating c.args.seats.now) (seating t) c.in-Some.b c.walk.new.seat c.walk.new.row c.requires.seats c.add_seat-seat.ensures.adds (place_there c.args.seats.now.left.items c.in-Some.b some) (free_row_counts la c.args.ways.root c.requires.root.0 c.requires.root.1) c.walk.ensures.rows_a c.walk.ensures.room
-    (rw c.deref_mut.ensures.value at c.walk.auto.seat) (rw c.deref_mut-in-Some.ensures.value at c.walk.auto.row)
-    (λ h. c.walk.ensures.seated t.owner.items t.count (rw (c.deref_mut.ensures.value, c.deref_mut-in-Some.ensures.value, c.add_seat-seat.ensures.next) h)))
+    let adds = c.add_seat-seat.ensures.adds in
+    let w = c.walk.ensures in
+    let some : 0 < number left b = rw c.in-Some.is at c.requires.free in
+    record {
+      rows_a = w.rows_a;
+      rows_b = ap length adds.left ∙ length-set left b _;
+      linked = w.linked;
+      tight = w.tight;
+      seats = rw (with_items_is t.seat c.walk.new.seat (omega (arith, c.walk.auto.seat, c.deref_mut.ensures.len)), with_items_is t.row c.walk.new.row (omega (arith, c.walk.auto.row, c.deref_mut-in-Some.ensures.len))) (seats_after_added es la c.walk.new.link_a (seating c.args.seats.now) (seating t) b c.walk.new.seat c.walk.new.row c.requires.seats adds (place_there left b some) (free_row_counts la c.args.ways.root c.requires.root.0 c.requires.root.1) w.rows_a w.room
+          (rw c.deref_mut.ensures.value at c.walk.auto.seat) (rw c.deref_mut-in-Some.ensures.value at c.walk.auto.row)
+          (λ h. w.seated t.owner.items t.count (rw (c.deref_mut.ensures.value, c.deref_mut-in-Some.ensures.value, c.add_seat-seat.ensures.next) h)));
+      root = rw c.in-Some.is w.root;
+      still_a = λ a none. inl (w.still_a a none);
+      vacant = λ x more. vacant_after_added left b some x (rw adds.left at more);
+      places = rw adds.left (places_after_added es la c.walk.new.link_a left b some w.places);
+    }
 
-pub returns-in-Some-clause-places : goal.returns-in-Some-clause-places
-returns-in-Some-clause-places c =
-    let some : 0 < number c.args.seats.now.left.items c.in-Some.b = rw c.in-Some.is at c.requires.free in
-    rw c.add_seat-seat.ensures.adds.left (places_after_added c.args.net.edges.now c.args.link_a.now c.walk.new.link_a c.args.seats.now.left.items c.in-Some.b some c.walk.ensures.places)
+pub bounds : goal.bounds
+bounds c = rw c.in_default.is at c.requires.last
 
-pub walk-requires-2-clause-linked : goal.walk-requires-2-clause-linked
-walk-requires-2-clause-linked c = linked_parted c.args.net.edges.now c.args.link_a.now c.args.last c.requires.linked (rw c.in_default.is at c.requires.last)
+pub returns-in_default-link_a : goal.returns-in_default-link_a
+returns-in_default-link_a c =
+    let leads = rw c.in_default.is at c.requires.leads in
+    record {
+      rows_a = refl;
+      rows_b = refl;
+      linked = c.requires.linked;
+      tight = c.requires.tight;
+      seats = c.requires.seats;
+      root = rw c.in_default.is (λ none. elim leads [ inl p ↦ sym p.0 | inr p ↦ absurd (let clash : None ≡ Some p.0 = sym c.in_default-link_a.is ∙ p.1.0 in cc) ]);
+      still_a = λ a none. inl none;
+      vacant = λ b left. left;
+      places = λ b. refl;
+    }
 
-pub walk-requires-2-clause-seats : goal.walk-requires-2-clause-seats
-walk-requires-2-clause-seats c =
+pub bounds-net-k : goal.bounds-net-k
+bounds-net-k c = (c.requires.linked c.args.last c.in-Some-link_a.k c.in-Some-link_a.is).0
+
+pub index-requires : goal.index-requires
+index-requires c =
+    let inside = rw c.in_default.is at c.requires.last in
+    omega (arith, inside, c.requires.seats.seats, c.args.seats.now.seat.ok.0)
+
+pub walk-requires-2 : goal.walk-requires-2
+walk-requires-2 c =
+    let es = c.args.net.edges.now in
+    let la = c.args.link_a.now in
     let s = c.requires.seats in
-    let h = hole_parted c.args.net.edges.now c.args.link_a.now _ _ _ _ c.args.last c.in-Some-link_a.k (rw c.in_default.is at c.requires.last) c.in-Some-link_a.is s.seated s.filled in
-    rw (c.deref_mut-2.ensures.value, c.deref_mut-3.ensures.value) (λ a k on. omega (arith, (h.seated a k on).there, s.room, s.rows))
+    let last = c.args.last in
+    let k = c.in-Some-link_a.k in
+    let on = c.in-Some-link_a.is in
+    let inside = rw c.in_default.is at c.requires.last in
+    let seat = c.args.seats.now.seat.items in
+    let there : last < length seat = omega (arith, inside, s.seats) in
+    let is : number seat last ≡ c.index.result.now = get_or_default seat last 0 c.index.result.now there ∙ sym c.index.ensures in
+    let h = hole_parted es la _ _ _ _ last k inside on s.seated s.filled in
+    record {
+      in_range = rw length-set c.requires.in_range.record_a;
+      linked = linked_parted es la last c.requires.linked inside;
+      tight = λ j here. elim (link-set la last (edge es j).a None inside) [
+        | inl p ↦ absurd (let clash : None ≡ Some j = sym p.1 ∙ here in cc)
+        | inr p ↦ c.requires.tight j (sym p.1 ∙ here)
+      ];
+      rows = rw (c.deref_mut-2.ensures.value, length-set) s.seats;
+      seats = rw (c.deref_mut-2.ensures.value, c.deref_mut-3.ensures.value) (λ a j here. omega (arith, (h.seated a j here).there, s.room, s.rows));
+      there = rw c.deref_mut-3.ensures.value (omega (arith, is, h.there, s.room, s.rows));
+      leads = leads_parted _ _ _ la _ _ _ last k on (rw c.in_default.is at c.requires.leads);
+    }
 
-pub walk-requires-2-clause-leads : goal.walk-requires-2-clause-leads
-walk-requires-2-clause-leads c = leads_parted _ _ _ c.args.link_a.now _ _ _ c.args.last c.in-Some-link_a.k c.in-Some-link_a.is (rw c.in_default.is at c.requires.leads)
-
-pub returns-clause-seats : goal.returns-clause-seats
-returns-clause-seats c =
+pub returns : goal.returns
+returns c =
     let es = c.args.net.edges.now in
     let la = c.args.link_a.now in
     let s = c.args.seats.now in
     let k = c.in-Some-link_a.k in
+    let on = c.in-Some-link_a.is in
     let last = c.args.last in
-    let there : last < length s.seat.items = omega (arith, (rw c.in_default.is at c.requires.last), c.requires.seats.seats) in
+    let w = c.walk-2.ensures in
+    let inside = rw c.in_default.is at c.requires.last in
+    let there : last < length s.seat.items = omega (arith, inside, c.requires.seats.seats) in
     let is : number s.seat.items last ≡ c.index.result.now = get_or_default s.seat.items last 0 c.index.result.now there ∙ sym c.index.ensures in
-    let h : HasHole es (set la last None) s.seat.items s.row.items s.owner.items s.count (edge es k).b c.index.result.now = rw is at (hole_parted es la s.seat.items s.row.items s.owner.items s.count last k (rw c.in_default.is at c.requires.last) c.in-Some-link_a.is c.requires.seats.seated c.requires.seats.filled) in
-    rw (with_items_is s.seat c.walk-2.new.seat (omega (arith, c.walk-2.auto.seat, c.deref_mut-2.ensures.len)), with_items_is s.row c.walk-2.new.row (omega (arith, c.walk-2.auto.row, c.deref_mut-3.ensures.len))) (seats_after_parted es la c.walk-2.new.link_a (seating s) c.walk-2.new.seat c.walk-2.new.row c.requires.seats (rw length-set at c.walk-2.ensures.rows_a) (rows_after_parted la c.walk-2.new.link_a last k c.in-Some-link_a.is c.walk-2.ensures.room)
-    (rw c.deref_mut-2.ensures.value at c.walk-2.auto.seat) (rw c.deref_mut-3.ensures.value at c.walk-2.auto.row)
-    (c.walk-2.ensures.seated s.owner.items s.count (rw (c.deref_mut-2.ensures.value, c.deref_mut-3.ensures.value) h)))
-
-pub returns-clause-places : goal.returns-clause-places
-returns-clause-places c = places_after_parted c.args.net.edges.now c.args.link_a.now c.walk-2.new.link_a c.args.seats.now.left.items c.args.last c.in-Some-link_a.k c.in-Some-link_a.is c.walk-2.ensures.places
+    let h : HasHole es (set la last None) s.seat.items s.row.items s.owner.items s.count (edge es k).b c.index.result.now = rw is at (hole_parted es la s.seat.items s.row.items s.owner.items s.count last k inside on c.requires.seats.seated c.requires.seats.filled) in
+    record {
+      rows_a = w.rows_a ∙ length-set la last None;
+      rows_b = refl;
+      linked = w.linked;
+      tight = w.tight;
+      seats = rw (with_items_is s.seat c.walk-2.new.seat (omega (arith, c.walk-2.auto.seat, c.deref_mut-2.ensures.len)), with_items_is s.row c.walk-2.new.row (omega (arith, c.walk-2.auto.row, c.deref_mut-3.ensures.len))) (seats_after_parted es la c.walk-2.new.link_a (seating s) c.walk-2.new.seat c.walk-2.new.row c.requires.seats (rw length-set at w.rows_a) (rows_after_parted la c.walk-2.new.link_a last k on w.room)
+          (rw c.deref_mut-2.ensures.value at c.walk-2.auto.seat) (rw c.deref_mut-3.ensures.value at c.walk-2.auto.row)
+          (w.seated s.owner.items s.count (rw (c.deref_mut-2.ensures.value, c.deref_mut-3.ensures.value) h)));
+      root = rw c.in_default.is (λ none. absurd (w.root none));
+      still_a = λ a none. elim (link-set la last a None inside) [
+        | inl p ↦ inr (ap is_some c.in_default.is, p.0)
+        | inr p ↦ inl (sym p.1 ∙ w.still_a a none)
+      ];
+      vacant = λ b left. left;
+      places = places_after_parted es la c.walk-2.new.link_a s.left.items last k on w.places;
+    }

@@ -1,58 +1,111 @@
-use Rattle.std.proofs.Common.{◌≡◌, ◌<◌, ◌∙◌, None, Some, length, arith, sym, get_or-set_same}
+use Rattle.std.proofs.Common.{◌≡◌, ◌<◌, ◌∙◌, None, Some, length, refl, ap, arith, sym, get_or-set_same}
+use Rattle.std.proofs.lemmas.Bool.{false≢true}
 use Rattle.std.proofs.lemmas.List.{get_or_read, with_items_is}
+use Rattle.std.specs.Option.{is_some}
 use Rattle.capacity_assign.specs.Core.{edge, link, number}
 use Rattle.capacity_assign.specs.Seating.{seating}
 use Rattle.capacity_assign.proofs.FirstLinks.{between_linked, none_before, not_linked, places_linked, still_none}
+use Rattle.capacity_assign.proofs.Links.{free_row_counts}
 use Rattle.capacity_assign.proofs.tight.link_if_tight.Goals as goal
 
-pub returns-clause-between : goal.returns-clause-between
-returns-clause-between c =
+pub index-requires : goal.index-requires
+index-requires c =
+    let w = c.requires.between in
+    omega (arith, w.in_range.record_b c.args.k c.requires.place, w.rows_b, c.args.seats.now.left.ok.0)
+
+pub returns-then-is_some : goal.returns-then-is_some
+returns-then-is_some c = record {
+  between = c.requires.between;
+  places = λ b. refl;
+  settled = λ tight none. absurd (false≢true (sym (ap is_some none) ∙ sym c.if-is_some.ensures));
+  kept = λ a none. none;
+  fewer = λ b none. none;
+}
+
+pub returns-then-index-eq0 : goal.returns-then-index-eq0
+returns-then-index-eq0 c =
+    let w = c.requires.between in
+    let b = (edge c.args.net.edges.now c.args.k).b in
+    let left = c.args.seats.now.left.items in
+    let there : b < length left = omega (arith, w.in_range.record_b c.args.k c.requires.place, w.rows_b) in
+    let read = get_or_read left b c.index.result.now there c.index.ensures 0 in
+    record {
+      between = w;
+      places = λ x. refl;
+      settled = λ tight none. sym read ∙ c.if-index-eq0.true;
+      kept = λ a none. none;
+      fewer = λ x none. none;
+    }
+
+pub returns-then-net-a : goal.returns-then-net-a
+returns-then-net-a c = record {
+  between = c.requires.between;
+  places = λ b. refl;
+  settled = λ tight none. absurd (c.if-net-a.true tight);
+  kept = λ a none. none;
+  fewer = λ b none. none;
+}
+
+pub add_seat-free-requires : goal.add_seat-free-requires
+add_seat-free-requires c =
+    let w = c.requires.between in
+    let s = w.seated in
+    let seats = c.args.seats.now in
+    let la = c.args.link_a.now in
+    let e = edge c.args.net.edges.now c.args.k in
+    let none : link la e.a ≡ None = not_linked (link la e.a) (sym c.if-is_some.ensures) in
+    let ra : e.a < length la = omega (arith, w.in_range.record_a c.args.k c.requires.place, w.rows_a) in
+    let there : e.b < length seats.left.items = omega (arith, w.in_range.record_b c.args.k c.requires.place, w.rows_b) in
+    let read = get_or_read seats.left.items e.b c.index.result.now there c.index.ensures 0 in
+    let one = free_row_counts la e.a ra none in
+    record {
+      owner = omega (arith, s.room, s.owners, one, seats.owner.ok.0);
+      earlier = omega (arith, s.room, s.earliers, one, seats.earlier.ok.0);
+      last = omega (arith, s.lasts, there, seats.last.ok.0);
+      left = omega (arith, there, seats.left.ok.0);
+      vacant = omega (arith, read, c.if-index-eq0.false);
+    }
+
+pub reseat-requires : goal.reseat-requires
+reseat-requires c =
+    let w = c.requires.between in
+    let s = w.seated in
+    let la = c.args.link_a.now in
+    let adds = c.add_seat-free.ensures.adds in
+    let a = (edge c.args.net.edges.now c.args.k).a in
+    let ra : a < length la = omega (arith, w.in_range.record_a c.args.k c.requires.place, w.rows_a) in
+    let one = free_row_counts la a ra (not_linked (link la a) (sym c.if-is_some.ensures)) in
+    record {
+      place = c.requires.place;
+      in_range = ra;
+      linked = w.linked;
+      rows = rw (c.deref_mut.ensures.value, adds.seat) s.seats;
+      free = rw (c.deref_mut-2.ensures.value, adds.row) (omega (arith, c.add_seat-free.ensures.next, s.room, s.rows, one));
+    }
+
+pub returns : goal.returns
+returns c =
     let es = c.args.net.edges.now in
     let k = c.args.k in
+    let e = edge es k in
     let la = c.args.link_a.now in
     let w = c.requires.between in
+    let old = c.args.seats.now in
     let t = c.add_seat-free.new.seats in
+    let adds = c.add_seat-free.ensures.adds in
     let r = c.reseat.ensures.reseats in
-    let none : link la (edge es k).a ≡ None = not_linked (link la (edge es k).a) (sym c.if-is_some.ensures) in
-    let there : (edge es k).b < length c.args.seats.now.left.items = omega (arith, w.in_range.record_b k c.requires.place, w.rows_b) in
-    let read = get_or_read c.args.seats.now.left.items (edge es k).b c.index.result.now there c.index.ensures 0 in
-    let some : 0 < number c.args.seats.now.left.items (edge es k).b = omega (arith, read, c.if-index-eq0.false) in
+    let none : link la e.a ≡ None = not_linked (link la e.a) (sym c.if-is_some.ensures) in
+    let ra : e.a < length la = omega (arith, w.in_range.record_a k c.requires.place, w.rows_a) in
+    let there : e.b < length old.left.items = omega (arith, w.in_range.record_b k c.requires.place, w.rows_b) in
+    let read = get_or_read old.left.items e.b c.index.result.now there c.index.ensures 0 in
+    let some : 0 < number old.left.items e.b = omega (arith, read, c.if-index-eq0.false) in
     let seat_is = rw (c.deref_mut.ensures.value, c.add_seat-free.ensures.next) at r.seats in
     let row_is = rw (c.deref_mut-2.ensures.value, c.add_seat-free.ensures.next) at r.rows in
-    rw (with_items_is t.seat c.reseat.new.seat (omega (arith, c.reseat.auto.seat, c.deref_mut.ensures.len)), with_items_is t.row c.reseat.new.row (omega (arith, c.reseat.auto.row, c.deref_mut-2.ensures.len)), r.links, seat_is, row_is)
-    (between_linked es c.args.net.price_a.now c.args.net.price_b.now la (seating c.args.seats.now) (seating t) k w c.requires.place none some c.add_seat-free.ensures.adds (omega (arith, c.if-net-a.false)))
-
-pub returns-clause-places : goal.returns-clause-places
-returns-clause-places c =
-    let es = c.args.net.edges.now in
-    let k = c.args.k in
-    let la = c.args.link_a.now in
-    let w = c.requires.between in
-    let none : link la (edge es k).a ≡ None = not_linked (link la (edge es k).a) (sym c.if-is_some.ensures) in
-    let there : (edge es k).b < length c.args.seats.now.left.items = omega (arith, w.in_range.record_b k c.requires.place, w.rows_b) in
-    let read = get_or_read c.args.seats.now.left.items (edge es k).b c.index.result.now there c.index.ensures 0 in
-    let some : 0 < number c.args.seats.now.left.items (edge es k).b = omega (arith, read, c.if-index-eq0.false) in
-    rw c.reseat.ensures.reseats.links (places_linked es c.args.net.price_a.now c.args.net.price_b.now la (seating c.args.seats.now) (seating c.add_seat-free.new.seats) k w c.requires.place none some c.add_seat-free.ensures.adds)
-
-pub returns-clause-settled : goal.returns-clause-settled
-returns-clause-settled c _ none =
-    let es = c.args.net.edges.now in
-    let k = c.args.k in
-    let ra : (edge es k).a < length c.args.link_a.now = omega (arith, c.requires.between.in_range.record_a k c.requires.place, c.requires.between.rows_a) in
-    absurd (let clash : Some k ≡ None = sym (get_or-set_same c.args.link_a.now (edge es k).a (Some k) None ra) ∙ (rw c.reseat.ensures.reseats.links at none) in cc)
-
-pub returns-clause-kept : goal.returns-clause-kept
-returns-clause-kept c a none =
-    let es = c.args.net.edges.now in
-    let k = c.args.k in
-    let ra : (edge es k).a < length c.args.link_a.now = omega (arith, c.requires.between.in_range.record_a k c.requires.place, c.requires.between.rows_a) in
-    none_before c.args.link_a.now (edge es k).a a k ra (rw c.reseat.ensures.reseats.links at none)
-
-pub returns-clause-fewer : goal.returns-clause-fewer
-returns-clause-fewer c b none =
-    let es = c.args.net.edges.now in
-    let k = c.args.k in
-    let there : (edge es k).b < length c.args.seats.now.left.items = omega (arith, c.requires.between.in_range.record_b k c.requires.place, c.requires.between.rows_b) in
-    let read = get_or_read c.args.seats.now.left.items (edge es k).b c.index.result.now there c.index.ensures 0 in
-    let some : 0 < number c.args.seats.now.left.items (edge es k).b = omega (arith, read, c.if-index-eq0.false) in
-    rw c.add_seat-free.ensures.adds.left (still_none c.args.seats.now.left.items (edge es k).b b _ some none)
+    record {
+      between = rw (with_items_is t.seat c.reseat.new.seat (omega (arith, c.reseat.auto.seat, c.deref_mut.ensures.len)), with_items_is t.row c.reseat.new.row (omega (arith, c.reseat.auto.row, c.deref_mut-2.ensures.len)), r.links, seat_is, row_is)
+          (between_linked es c.args.net.price_a.now c.args.net.price_b.now la (seating old) (seating t) k w c.requires.place none some adds (omega (arith, c.if-net-a.false)));
+      places = rw r.links (places_linked es c.args.net.price_a.now c.args.net.price_b.now la (seating old) (seating t) k w c.requires.place none some adds);
+      settled = λ tight free. absurd (let clash : Some k ≡ None = sym (get_or-set_same la e.a (Some k) None ra) ∙ (rw r.links at free) in cc);
+      kept = λ a free. none_before la e.a a k ra (rw r.links at free);
+      fewer = λ b full. rw adds.left (still_none old.left.items e.b b _ some full);
+    }

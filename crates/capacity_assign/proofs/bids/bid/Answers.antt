@@ -1,0 +1,34 @@
+use Rattle.std.proofs.Common.{refl, sym}
+use Rattle.capacity_assign.specs.Core.{link}
+use Rattle.capacity_assign.proofs.FirstLinks.{not_linked}
+use Rattle.capacity_assign.proofs.bids.bid.Goals as goal
+
+pub returns-then-is_some : goal.returns-then-is_some
+returns-then-is_some c = record { between = c.requires.between; places = λ b. refl; next = tt; queue = c.requires.queue; clean = c.requires.clean }
+
+pub returns-then-price_a-row-eq0 : goal.returns-then-price_a-row-eq0
+returns-then-price_a-row-eq0 c = record { between = c.requires.between; places = λ b. refl; next = tt; queue = c.requires.queue; clean = c.requires.clean }
+
+pub take_up-grown-requires : goal.take_up-grown-requires
+take_up-grown-requires c = record {
+  rising = c.requires.rising;
+  firsts = c.requires.firsts;
+  small = c.requires.small;
+  root = c.requires.inside;
+  free = not_linked (link c.args.link_a.now c.args.row) (sym c.if-is_some.ensures);
+  between = c.requires.between;
+  clean = c.requires.clean;
+  queue = c.requires.queue;
+}
+
+pub returns-then-is_some-2 : goal.returns-then-is_some-2
+returns-then-is_some-2 c = (let t = c.take_up-grown.ensures in record { between = t.between; places = t.places; next = tt; queue = t.queue; clean = t.clean })
+
+pub returns-then-grown-eq0 : goal.returns-then-grown-eq0
+returns-then-grown-eq0 c = (let t = c.take_up-grown.ensures in record { between = t.between; places = t.places; next = tt; queue = t.queue; clean = t.clean })
+
+pub returns : goal.returns
+returns c =
+    let t = c.take_up-grown.ensures in
+    let last = rw (not_linked c.take_up-grown.result.free (sym c.if-is_some-2.ensures)) at t.last in
+    record { between = t.between; places = t.places; next = last; queue = t.queue; clean = t.clean }
