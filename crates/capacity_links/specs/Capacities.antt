@@ -47,6 +47,10 @@ capacity_of rows r = capacity_by (find (λ (row : TableRow). bytes_eq row.id r.i
 abbrev pub capacities_by : List Record → List TableRow → Result (List ℕ) Fault
 capacities_by b rows = after_rows b (map (capacity_of rows) b) 1 rows
 
+-- the rows of a file of capacities
+abbrev pub capacities_table : List ℕ → Result (List TableRow) Fault
+capacities_table bytes = table_of role.Capacities capacities_wanted (records_in 44 bytes)
+
 -- the capacities of the records of B by a file
 abbrev pub capacities_in : List Record → List ℕ → Result (List ℕ) Fault
 capacities_in b bytes = and_then (table_of role.Capacities capacities_wanted (records_in 44 bytes)) (capacities_by b)

@@ -43,6 +43,29 @@ fn prices_of_b(alloc: Global, solved: &CapacityAssignment, rows: u32) -> Result<
     Ok(prices)
 }
 
+// The links and the prices of an answer.
+fn copied(
+    alloc: Global,
+    solved: &CapacityAssignment,
+    rows_a: u32,
+    rows_b: u32,
+) -> Result<LinksWithin, NoMemory>
+    requires rows_a { length solved.now.prices_a ≡ rows_a }
+    requires rows_b { length solved.now.prices_b ≡ rows_b }
+    ensures links { IfOk result (λ c. c.links.items ≡ solved.now.links) }
+    ensures prices_a { IfOk result (λ c. c.prices_a.items ≡ solved.now.prices_a) }
+    ensures prices_b { IfOk result (λ c. c.prices_b.items ≡ solved.now.prices_b) }
+{
+    let links = Vec::from_slice(alloc, solved.links())?;
+    let prices_a = prices_of_a(alloc, solved, rows_a)?;
+    let prices_b = prices_of_b(alloc, solved, rows_b)?;
+    Ok(LinksWithin {
+        links,
+        prices_a,
+        prices_b,
+    })
+}
+
 /// The greatest links within capacities, among at most [`MOST_PAIRS`] candidates that rise strictly by record of A, then of B, with
 /// the prices that certify them. There is a capacity of at most `link_limits::MOST_CAPACITY` for each record of B.
 pub fn choose_within(
@@ -67,12 +90,7 @@ pub fn choose_within(
 {
     let assigner = CapacityAssigner::new(alloc, rows_a, capacities, candidates)?;
     let solved = assigner.solve();
-    let links = Vec::from_slice(alloc, solved.links())?;
-    let prices_a = prices_of_a(alloc, &solved, rows_a)?;
-    let prices_b = prices_of_b(alloc, &solved, rows_b)?;
-    Ok(LinksWithin {
-        links,
-        prices_a,
-        prices_b,
-    })
+    let chosen = copied(alloc, &solved, rows_a, rows_b);
+    drop(solved);
+    chosen
 }

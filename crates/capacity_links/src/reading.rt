@@ -6,7 +6,7 @@ ghost use Rattle.link_limits.specs.declared.TheConstants.{MOST_CAPACITY, MOST_RO
 ghost use Rattle.file_reader.specs.Layout.{wanted_of};
 ghost use Rattle.file_reader.specs.Rows.{no_row};
 ghost use Rattle.file_reader.specs.Table.{HasDistinctIds, HasWidth};
-ghost use Rattle.capacity_links.specs.Capacities.{capacities_by, capacities_in, capacities_wanted, capacity_in, capacity_named};
+ghost use Rattle.capacity_links.specs.Capacities.{capacities_by, capacities_in, capacities_table, capacities_wanted, capacity_in, capacity_named};
 
 use crate::capacities::Capacities;
 use csv_rows::number_of;
@@ -96,6 +96,20 @@ fn capacities_of(alloc: Global, table: &Table, b: &StdFile) -> Result<Vec<u32>, 
     Ok(each)
 }
 
+// The table of a file of capacities.
+fn table_in(alloc: Global, bytes: &[u8]) -> Result<Table, Fault>
+    ensures kind { IfErr result IsInputFault }
+    ensures few { IfOk result (λ table. length table ≤ MOST_ROWS) }
+    ensures width { IfOk result (HasWidth capacities_wanted) }
+    ensures distinct { IfOk result (HasDistinctIds capacities_wanted) }
+    ensures answer { IsAnswer (capacities_table bytes.now) result }
+{
+    let layout = layout(alloc)?;
+    let table = read_table(alloc, bytes, FileRole::Capacities, &layout);
+    drop(layout);
+    table
+}
+
 /// The capacities of the records of B, as a file lists them: `id_b,capacity` in a row for a record, 1 for a record that is not
 /// listed. A capacity is at most [`MOST_CAPACITY`], in decimal digits without a leading zero. Or the first fault of the file:
 /// that of its table, and else that of its first row that names no record of B, or has no capacity.
@@ -105,12 +119,13 @@ pub fn read_capacities(alloc: Global, bytes: &[u8], b: &StdFile) -> Result<Capac
     ensures for_each { IfOk result (λ capacities. length capacities ≡ length b.now) }
     ensures allowed { IfOk result (λ capacities. All (λ capacity. capacity ≤ MOST_CAPACITY) capacities) }
 {
-    let layout = layout(alloc)?;
-    let table = match read_table(alloc, bytes, FileRole::Capacities, &layout) {
+    let table = match table_in(alloc, bytes) {
         Ok(table) => table,
         Err(fault) => return Err(fault),
     };
-    match capacities_of(alloc, &table, b) {
+    let each = capacities_of(alloc, &table, b);
+    drop(table);
+    match each {
         Ok(each) => Ok(Capacities::new(each)),
         Err(fault) => Err(fault),
     }
