@@ -15,9 +15,12 @@ fn have_one_leader(links: &[PairAt], leader: &[u32]) -> bool
     requires { All (λ (link : Pair). (link.a < length leader.now) × (link.b < length leader.now)) links.now }
     ensures { IsTrue result ↔ All (HasOneLeader leader.now) links.now }
 {
-    links
-        .iter()
-        .all(|link| leader[link.a as usize] == leader[link.b as usize])
+    for link in links {
+        if leader[link.a as usize] != leader[link.b as usize] {
+            return false;
+        }
+    }
+    true
 }
 
 // Whether a position is rooted, where these are the records that it is linked with.

@@ -1,5 +1,6 @@
 // The search in breadth for the groups.
 ghost use Rattle.std.specs.Prelude.{◌≡◌, ◌+◌, ◌<◌, ◌≤◌, ◌^◌, ◌++◌, ◌∷◌, [], ℕ, All, IfOk, OnOk, length, slice_index};
+ghost use Rattle.dedup_groups.specs.Forest.{KeepsRows};
 ghost use Rattle.dedup_groups.specs.Groups.{AreLeaders, depth_of, HaveRows, IsForest, IsLinkWithin, leader_of};
 ghost use Rattle.dedup_groups.specs.Search.{AreFound, AreNeighbours, AreSingle, IsNear, IsSearch, reached_lists, waiting_room};
 ghost use Rattle.dedup_groups.specs.Trees.{lists_of};
@@ -151,6 +152,38 @@ fn search_all(trees: &mut Trees, near: &Adjacency, rows: u32) -> Result<(), NoMe
     Ok(())
 }
 
+// What the searches from all leaders reach.
+fn trees_of(alloc: Global, near: &Adjacency, rows: u32) -> Result<Trees, NoMemory>
+    requires neighbours { AreNeighbours near.now }
+    requires rows { length near.now ≡ rows }
+    requires few { rows ≤ MOST_ROWS }
+    ensures { IfOk result (λ trees. AreFound near.now (lists_of trees) rows) }
+{
+    let mut trees = single_trees(alloc, rows)?;
+    match search_all(&mut trees, near, rows) {
+        Ok(()) => Ok(trees),
+        Err(error) => {
+            drop(trees);
+            Err(error)
+        }
+    }
+}
+
+// The groups that a search has reached.
+fn groups_in(trees: Trees) -> Groups
+    requires { KeepsRows (lists_of trees) }
+    ensures { result ≡ lists_of trees }
+{
+    let Trees {
+        leaders,
+        vias,
+        depths,
+        queue,
+    } = trees;
+    drop(queue);
+    Groups::of(leaders, vias, depths)
+}
+
 /// The groups of so many records that chains of links join, as a forest: a search in breadth from the least position of each group
 /// (Moore 1959). Takes time in proportion to the records and the links.
 pub fn groups(alloc: Global, rows: u32, links: &[PairAt]) -> Result<Groups, NoMemory>
@@ -161,7 +194,10 @@ pub fn groups(alloc: Global, rows: u32, links: &[PairAt]) -> Result<Groups, NoMe
     ensures leaders { IfOk result (λ groups. AreLeaders rows links.now groups.leaders) }
 {
     let near = neighbours(alloc, rows, links)?;
-    let mut trees = single_trees(alloc, rows)?;
-    search_all(&mut trees, &near, rows)?;
-    Ok(Groups::of(trees.leaders, trees.vias, trees.depths))
+    let trees = trees_of(alloc, &near, rows);
+    drop(near);
+    match trees {
+        Ok(trees) => Ok(groups_in(trees)),
+        Err(error) => Err(error),
+    }
 }

@@ -99,18 +99,43 @@ fn push_groups(
     Ok(())
 }
 
+// Where the arcs from each leader lead.
+fn members_by_leader(alloc: Global, groups: &Groups) -> Result<Adjacency, NoMemory>
+    ensures { IfOk result (λ near. near ≡ adjacency_of (length groups.now.leaders) (arcs_of_leaders (length groups.now.leaders) groups.now.leaders)) }
+{
+    let arcs = arcs_of_leaders(alloc, groups)?;
+    let by_leader = Adjacency::new(alloc, groups.rows(), &arcs);
+    drop(arcs);
+    by_leader
+}
+
+// The text of groups, by the members of each.
+#[tactic(auto, using(crate::proofs::TextLemmas::header_text))]
+fn text_by(
+    alloc: Global,
+    groups: &Groups,
+    file: &StdFile,
+    by_leader: &Adjacency,
+) -> Result<Text, NoMemory>
+    requires rows { length groups.now.leaders ≡ length file.now }
+    requires by_leader { by_leader.now ≡ adjacency_of (length groups.now.leaders) (arcs_of_leaders (length groups.now.leaders) groups.now.leaders) }
+    ensures { IfOk result (λ text. text ≡ text_of_groups groups.now.leaders groups.now.vias file.now) }
+{
+    let mut text = Vec::new(alloc);
+    text.extend_from_slice(b"group,id,via\n")?;
+    push_groups(alloc, &mut text, groups, file, by_leader)?;
+    Ok(Text::of(text))
+}
+
 /// The text of the groups of a file's records: the header `group,id,via`, and a row for each record of a group of at least two,
 /// group by group as they rise by their leaders, from 1, and in each group by position. `via` is the id of the record that the
 /// record was reached from, and empty for a leader.
-#[tactic(auto, using(crate::proofs::TextLemmas::header_text))]
 pub fn groups_text(alloc: Global, groups: &Groups, file: &StdFile) -> Result<Text, NoMemory>
     requires { length groups.now.leaders ≡ length file.now }
     ensures { IfOk result (λ text. text ≡ text_of_groups groups.now.leaders groups.now.vias file.now) }
 {
-    let arcs = arcs_of_leaders(alloc, groups)?;
-    let by_leader = Adjacency::new(alloc, groups.rows(), &arcs)?;
-    let mut text = Vec::new(alloc);
-    text.extend_from_slice(b"group,id,via\n")?;
-    push_groups(alloc, &mut text, groups, file, &by_leader)?;
-    Ok(Text::of(text))
+    let by_leader = members_by_leader(alloc, groups)?;
+    let text = text_by(alloc, groups, file, &by_leader);
+    drop(by_leader);
+    text
 }

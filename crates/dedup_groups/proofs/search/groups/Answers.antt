@@ -6,21 +6,22 @@ use Rattle.dedup_groups.proofs.NearLemmas.{are_neighbours, length_near}
 use Rattle.dedup_groups.proofs.SearchLemmas.{forest_found}
 use Rattle.dedup_groups.proofs.search.groups.Goals as goal
 
-pub search_all-requires-clause-neighbours : goal.search_all-requires-clause-neighbours
-search_all-requires-clause-neighbours c = rw c.in_ok-near.ensures (are_neighbours c.args.rows c.args.links.now c.requires.within)
+pub trees_of-trees-requires : goal.trees_of-trees-requires
+trees_of-trees-requires c = record {
+  neighbours = rw c.in_ok-near.ensures (are_neighbours c.args.rows c.args.links.now c.requires.within);
+  rows = ap length c.in_ok-near.ensures ∙ length_near c.args.rows (both_ways c.args.links.now);
+  few = c.requires.few_rows;
+}
 
-pub search_all-requires-clause-rows : goal.search_all-requires-clause-rows
-search_all-requires-clause-rows c = ap length c.in_ok-near.ensures ∙ length_near c.args.rows (both_ways c.args.links.now)
+pub groups_in-requires : goal.groups_in-requires
+groups_in-requires c =
+    let forest = forest_found c.args.rows c.args.links.now (lists_of c.in-Ok.trees) c.requires.within (rw c.in_ok-near.ensures at c.in-Ok.ensures) in
+    rows_kept c.args.rows c.args.links.now (lists_of c.in-Ok.trees) c.requires.within forest (omega arith)
 
-pub of-requires : goal.of-requires
-of-requires c =
-    let forest = forest_found c.args.rows c.args.links.now (lists_of c.search_all.new.trees) c.requires.within (rw c.in_ok-near.ensures at c.in_ok-search_all.ensures) in
-    rows_kept c.args.rows c.args.links.now (lists_of c.search_all.new.trees) c.requires.within forest (omega arith)
-
-pub returns-clause-forest : goal.returns-clause-forest
-returns-clause-forest c = rw c.of.ensures (forest_found c.args.rows c.args.links.now (lists_of c.search_all.new.trees) c.requires.within (rw c.in_ok-near.ensures at c.in_ok-search_all.ensures))
-
-pub returns-clause-leaders : goal.returns-clause-leaders
-returns-clause-leaders c =
-    let forest = forest_found c.args.rows c.args.links.now (lists_of c.search_all.new.trees) c.requires.within (rw c.in_ok-near.ensures at c.in_ok-search_all.ensures) in
-    rw c.of.ensures (leaders_of_forest c.args.rows c.args.links.now (lists_of c.search_all.new.trees) c.requires.within forest)
+pub returns-in-Ok : goal.returns-in-Ok
+returns-in-Ok c =
+    let forest = forest_found c.args.rows c.args.links.now (lists_of c.in-Ok.trees) c.requires.within (rw c.in_ok-near.ensures at c.in-Ok.ensures) in
+    record {
+      forest = rw c.groups_in.ensures forest;
+      leaders = rw c.groups_in.ensures (leaders_of_forest c.args.rows c.args.links.now (lists_of c.in-Ok.trees) c.requires.within forest);
+    }
