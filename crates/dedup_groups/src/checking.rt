@@ -36,10 +36,16 @@ fn is_rooted(near: &[u32], leader: &[u32], via: &[Option<u32>], depth: &[u32], a
     let Some(from) = via[at] else {
         return depth[at] == 0 && leader[at] as usize == at;
     };
-    depth[at] > 0
-        && depth[from as usize] == depth[at] - 1
-        && leader[from as usize] == leader[at]
-        && near.contains(&from)
+    if depth[at] == 0 {
+        return false;
+    }
+    if depth[from as usize] != depth[at] - 1 {
+        return false;
+    }
+    if leader[from as usize] != leader[at] {
+        return false;
+    }
+    near.contains(&from)
 }
 
 // Whether each of so many positions is rooted.
