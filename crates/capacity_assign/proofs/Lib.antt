@@ -4,5 +4,6 @@ pub mod Ways
 pub mod FirstLinks
 pub mod Count
 pub mod Growing
+pub mod Shifts
 pub mod Rounds
 pub mod Final

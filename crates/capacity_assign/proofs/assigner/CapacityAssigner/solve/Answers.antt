@@ -1,5 +1,5 @@
-use Rattle.std.proofs.Common.{◌≡◌, ℕ, ◌+◌, length, filter, sym, ap, ◌∙◌, arith}
-use Rattle.std.proofs.lemmas.List.{get_or_default}
+use Rattle.std.proofs.Common.{◌≡◌, ℕ, ◌+◌, pos, length, filter, sym, ap, ◌∙◌, arith}
+use Rattle.std.proofs.lemmas.List.{get_or_default, length-map}
 use Rattle.assignment_laws.specs.Capacities.{capacity_of}
 use Rattle.capacity_assign.specs.Core.{linked_at, number}
 use Rattle.capacity_assign.specs.Round.{IsBetween}
@@ -45,3 +45,9 @@ returns-clause-greatest c =
     let view : c.args.self.candidates ≡ cs = ap (λ (v : Problem). v.candidates) (sym c.self.view_is) in
     let view_n : c.args.self.capacities ≡ ns = ap (λ (v : Problem). v.capacities) (sym c.self.view_is) in
     rw (view, view_n, e) (c.certified_within_is_greatest.ensures cs ns _ _ _ (within cs ns r.price_a.items r.price_b.items r.link_a.items (seating r.seats) c.self.invariant.order w places) (certifies cs ns r.price_a.items r.price_b.items r.link_a.items (seating r.seats) c.self.invariant.order w places))
+
+pub returns-clause-rows_a : goal.returns-clause-rows_a
+returns-clause-rows_a c = length-map c.run.new.price_a.items pos ∙ (c.run.ensures.rows_a ∙ (c.self.invariant.rows_a ∙ ap (λ (v : Problem). v.rows_a) c.self.view_is))
+
+pub returns-clause-rows_b : goal.returns-clause-rows_b
+returns-clause-rows_b c = length-map c.run.new.price_b.items pos ∙ (c.run.ensures.rows_b ∙ (c.self.invariant.rows_b ∙ ap (λ (v : Problem). length v.capacities) c.self.view_is))
