@@ -17,16 +17,6 @@ of_copied P links ps qs (Err e) l a b h = tt
 of_links : (P : Candidate → Type 0) (candidates links : List Candidate) → All P candidates → All (Contains candidates) links → All P links
 of_links P candidates links all among = All-weaker (Contains candidates) P (λ c h. All-contains P candidates c all h) links among
 
-pub new-requires : goal.new-requires
-new-requires c = record {
-  rows_b = rw c.requires.for_each c.ranges.rows_b.fits;
-  allowed_capacities = c.requires.allowed;
-  count = c.requires.count;
-  rising = c.requires.rising;
-  within = rw c.requires.for_each c.requires.within;
-  small = c.requires.small;
-}
-
 pub copied-chosen-requires : goal.copied-chosen-requires
 copied-chosen-requires c =
     let made = c.in_ok-assigner.ensures in
