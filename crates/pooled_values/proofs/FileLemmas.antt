@@ -1,6 +1,7 @@
 -- The records of a file one by one, the fields of a row, and the passes.
-use Rattle.std.proofs.Common.{◌≡◌, ◌<◌, ◌+◌, ℕ, List, [], ◌∷◌, ◌++◌, length, get_or, drop, option_to_list, sym, ap, ◌∙◌, append_assoc, arith}
-use Rattle.std.proofs.lemmas.List.{at_drop_more, drop_more}
+use Rattle.std.proofs.Common.{◌≡◌, ◌<◌, ◌+◌, ℕ, List, [], ◌∷◌, ◌++◌, length, get_or, drop, take, option_to_list, sym, ap, ◌∙◌, append_assoc, append-nil, arith}
+use Rattle.std.proofs.lemmas.List.{at_drop_more, drop_more, take_more}
+use Rattle.std.proofs.lemmas.Grind.{flat_map-append}
 use Rattle.std.specs.List.{All}
 use Rattle.value_canons.specs.Canons.{canon_of}
 use Rattle.link_base.specs.Standard.{IsValid, no_record, Record}
@@ -9,9 +10,10 @@ use Rattle.link_base.specs.declared.plan.CompareKind.TheVariants as by
 use Rattle.link_base.specs.declared.plan.Part.{Part}
 use Rattle.link_base.specs.declared.standard.Value.{Value}
 use Rattle.block_passes.specs.Keys.{no_part, part_key}
+use Rattle.pooled_values.specs.Known.{file_values}
 use Rattle.pooled_values.specs.Ready.{AreInRange, HasParts, IsRowFor}
 use Rattle.pooled_values.specs.Sides.{side_of, sides_of_file, sides_of_row}
-use Rattle.pooled_values.specs.Texts.{canons_of_row, file_texts, parts_in_pass, parts_of_row}
+use Rattle.pooled_values.specs.Texts.{canons_of_row, file_texts, parts_in_pass, parts_of_row, standard_text, texts_of_row}
 
 pub file-row : (texts : List Value → List (List ℕ)) (file : List Record) (at : ℕ) (row : List Value) → at < length file → row ≡ (get_or file at no_record).row → file_texts texts (drop at file) ≡ texts row ++ file_texts texts (drop (at + 1) file)
 file-row texts file at row lt e =
@@ -23,6 +25,25 @@ pass-parts row passes at pass lt e =
 
 pub part-texts : (row : List Value) (parts : List Part) (at : ℕ) → at < length parts → parts_in_pass row (drop at parts) ≡ option_to_list (part_key row (get_or parts at no_part)) ++ parts_in_pass row (drop (at + 1) parts)
 part-texts row parts at lt = at_drop_more (parts_in_pass row) parts at no_part lt
+
+-- the values of a row one by one
+pub row-texts : (row : List Value) (at : ℕ) (v : Value) → at < length row → v ≡ get_or row at v → texts_of_row (drop at row) ≡ option_to_list (standard_text v) ++ texts_of_row (drop (at + 1) row)
+row-texts row at v lt e =
+    at_drop_more texts_of_row row at v lt ∙ ap (λ x. option_to_list (standard_text x) ++ texts_of_row (drop (at + 1) row)) (sym e)
+
+pub values-push : (before row : List Value) (at : ℕ) (v : Value) → at < length row → v ≡ get_or row at v → before ++ take (at + 1) row ≡ (before ++ take at row) ++ v ∷ []
+values-push before row at v lt e =
+    ap (λ vs. before ++ vs) (take_more row at v lt ∙ ap (λ x. take at row ++ x ∷ []) (sym e)) ∙ sym (append_assoc before (take at row) (v ∷ []))
+
+-- the values of one more row
+pub values-more : (file : List Record) (at : ℕ) (row : List Value) → at < length file → row ≡ (get_or file at no_record).row → file_values (take (at + 1) file) ≡ file_values (take at file) ++ row
+values-more file at row lt e =
+    ap file_values (take_more file at no_record lt) ∙ flat_map-append (λ (r : Record). r.row) (take at file) (get_or file at no_record ∷ [])
+    ∙ ap (λ r. file_values (take at file) ++ r) (append-nil (get_or file at no_record).row ∙ sym e)
+
+pub values-row : (file : List Record) (at : ℕ) (row : List Value) → at < length file → row ≡ (get_or file at no_record).row → file_values (drop at file) ≡ row ++ file_values (drop (at + 1) file)
+values-row file at row lt e =
+    at_drop_more file_values file at no_record lt ∙ ap (λ r. r ++ file_values (drop (at + 1) file)) (sym e)
 
 -- a row and the kinds of its fields, field by field
 kinds-at : (kinds : List CompareKind) (at : ℕ) → at < length kinds → drop at kinds ≡ get_or kinds at by.Exact ∷ drop (at + 1) kinds

@@ -6,3 +6,4 @@ pub mod HeldLemmas
 pub mod SideLemmas
 pub mod DistinctLemmas
 pub mod ExampleLemmas
+pub mod KnownLemmas

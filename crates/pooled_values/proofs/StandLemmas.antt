@@ -25,7 +25,7 @@ pub or-left : (a b : Bool) → a ≡ true → (a || b) ≡ true
 or-left true b h = refl
 or-left false b h = cc
 
-or-right : (a b : Bool) → b ≡ true → (a || b) ≡ true
+pub or-right : (a b : Bool) → b ≡ true → (a || b) ≡ true
 or-right true b h = refl
 or-right false b h = h
 

@@ -4,3 +4,4 @@ pub mod Ready
 pub mod Taking
 pub mod Distinct
 pub mod Held
+pub mod Known

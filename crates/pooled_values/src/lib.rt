@@ -3,6 +3,7 @@
 
 mod canons;
 mod keys;
+mod known;
 mod laws;
 mod texts;
 mod values;

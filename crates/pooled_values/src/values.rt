@@ -54,8 +54,8 @@ fn take_values(
     ensures a { IfOk result (λ t. (final : List (List ℕ)) → Extends pool.new.texts final → sides_of_file final kinds.now a.now ≡ t.0.rows) }
     ensures b { IfOk result (λ t. (final : List (List ℕ)) → Extends pool.new.texts final → sides_of_file final kinds.now b.now ≡ t.1.rows) }
 {
-    take_texts(alloc, pool, a, b)?;
-    let tables = take_canons(alloc, pool, kinds, a, b)?;
+    let ids = take_texts(alloc, pool, a, b)?;
+    let tables = take_canons(alloc, pool, kinds, a, b, &ids)?;
     take_keys(alloc, pool, kinds, passes, a, b)?;
     Ok(tables)
 }

@@ -1,6 +1,8 @@
-use Rattle.std.proofs.Common.{ℕ, Ok, rules}
+use Rattle.std.proofs.Common.{ℕ, Ok, subst, sym, rules}
+use Rattle.pooled_values.specs.Known.{AreTextIds, file_values}
 use Rattle.pooled_values.specs.Texts.{both_texts, canons_of_row, file_texts}
-use Rattle.pooled_values.proofs.PlaceLemmas.{extends-before}
+use Rattle.pooled_values.proofs.KnownLemmas.{ids-kept}
+use Rattle.pooled_values.proofs.PlaceLemmas.{extends-before, kept-taken}
 use Rattle.pooled_values.proofs.TakingLemmas.{refused-append, takes-err, takes-then}
 use Rattle.pooled_values.proofs.canons.take_canons.Goals as goal
 
@@ -27,3 +29,11 @@ pub returns-clause-a : goal.returns-clause-a
 returns-clause-a c final e =
     let texts = canons_of_row c.args.kinds.now in
     c.in_ok-a.ensures.sides final (extends-before c.take_file.new.pool.limit (file_texts texts c.args.b.now) c.take_file.new.pool.texts c.take_file-2.new.pool.texts final c.in_ok-b.ensures.texts e)
+
+pub take_file-requires-2-clause-ids : goal.take_file-requires-2-clause-ids
+take_file-requires-2-clause-ids c =
+    let pool = c.args.pool.now in
+    let new = c.take_file.new.pool in
+    let values = file_values c.args.b.now in
+    subst (AreTextIds new.texts values) (sym c.deref-2.ensures.value)
+    (ids-kept pool.texts new.texts (kept-taken pool.limit (file_texts (canons_of_row c.args.kinds.now) c.args.a.now) pool.texts new.texts c.in_ok-a.ensures.texts) values c.args.ids.now.b.items c.requires.ids_b)

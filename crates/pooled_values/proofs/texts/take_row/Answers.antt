@@ -1,0 +1,25 @@
+use Rattle.std.proofs.Common.{◌≡◌, ◌+◌, ◌++◌, ◌∷◌, [], drop, take, option_to_list, arith, rules}
+use Rattle.pooled_values.specs.Texts.{standard_text, texts_of_row}
+use Rattle.pooled_values.proofs.FileLemmas.{row-texts, values-push}
+use Rattle.pooled_values.proofs.KnownLemmas.{ids-push}
+use Rattle.pooled_values.proofs.PlaceLemmas.{kept-taken}
+use Rattle.pooled_values.proofs.TakingLemmas.{goes-on}
+use Rattle.pooled_values.proofs.texts.take_row.Goals as goal
+
+pub loop-value-preserved : goal.loop-value-preserved
+loop-value-preserved c =
+    let row = c.values-value-items.result.now in
+    let at = c.loop-value.value-index in
+    let v = c.value-item.result in
+    let ids = c.loop-value.ids.items in
+    let taken = option_to_list (standard_text v) in
+    let pool = c.loop-value.pool in
+    let new = c.take_value.new.pool in
+    let pushed : c.push.new.self.items ≡ ids ++ c.in_ok-id.id ∷ [] = search rules in
+    record {
+      goes = goes-on taken (texts_of_row (drop (at + 1) row)) c.loop-value.invariant.goes
+          (row-texts row at v (omega arith) c.value-item.is) c.take_value.ensures.limit c.in_ok-id.ensures.texts;
+      ids = λ before h.
+          rw (pushed, values-push before row at v (omega arith) c.value-item.is)
+          (ids-push pool.texts new.texts (before ++ take at row) v ids c.in_ok-id.id (kept-taken pool.limit taken pool.texts new.texts c.in_ok-id.ensures.texts) (c.loop-value.invariant.ids before h) c.in_ok-id.ensures.id);
+    }

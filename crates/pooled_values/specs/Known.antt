@@ -1,0 +1,50 @@
+-- Machinery of `pool_values`: texts by their ids in a pool, and canons that are known by them. No public clause names it.
+use Rattle.std.specs.Prelude.{◌≡◌, ℕ, List, [], ◌∷◌, Option, Some, None, slice_get, slice_index_or, ⊤}
+use Rattle.std.specs.List.{flat_map}
+use Rattle.comparators.specs.declared.ids.IdValue.{IdValue}
+use Rattle.comparators.specs.declared.ids.IdValue.TheVariants as id
+use Rattle.link_base.specs.Standard.{Record}
+use Rattle.link_base.specs.declared.plan.CompareKind.{CompareKind}
+use Rattle.link_base.specs.declared.plan.CompareKind.TheVariants as by
+use Rattle.link_base.specs.declared.standard.Value.{Value}
+use Rattle.link_base.specs.declared.standard.Value.TheVariants as value
+use Rattle.value_canons.specs.Canons.{canon_of}
+use Rattle.pooled_values.specs.Texts.{standard_text}
+use Rattle.pooled_values.specs.declared.known.KnownCanon.{KnownCanon}
+
+-- the id of a text that is held, if there is a text
+abbrev pub IsIdOf : List (List ℕ) → Option (List ℕ) → Option ℕ → Type 0
+IsIdOf held None None = ⊤
+IsIdOf held None (Some id) = ⊥
+IsIdOf held (Some text) None = ⊥
+IsIdOf held (Some text) (Some id) = slice_get held id ≡ Some text
+
+-- the ids of the standard texts of values, one for each value
+abbrev pub AreTextIds : List (List ℕ) → List Value → List (Option ℕ) → Type 0
+AreTextIds held [] [] = ⊤
+AreTextIds held [] (id ∷ ids) = ⊥
+AreTextIds held (v ∷ vs) [] = ⊥
+AreTextIds held (v ∷ vs) (id ∷ ids) = IsIdOf held (standard_text v) id × AreTextIds held vs ids
+
+-- the values of a file, row by row
+abbrev pub file_values : List Record → List Value
+file_values file = flat_map (λ (r : Record). r.row) file
+
+-- what a value is compared by, whose canon has this id
+abbrev pub side_by_id : Option ℕ → IdValue
+side_by_id None = id.Absent
+side_by_id (Some canon) = id.Id canon
+
+-- the canon of the text at a place of a pool, by the kind of a field
+pub record IsCanonAt (held : List (List ℕ)) (kinds : List CompareKind) (place : ℕ) (known : KnownCanon) : Type 0 where
+  pub text : List ℕ
+  pub stands : slice_get held place ≡ Some text
+  pub canon : IsIdOf held (canon_of (slice_index_or kinds known.field by.Exact) (value.Word text)) (Some known.canon)
+
+abbrev pub IsKnownAt : List (List ℕ) → List CompareKind → ℕ → Option KnownCanon → Type 0
+IsKnownAt held kinds place None = ⊤
+IsKnownAt held kinds place (Some known) = IsCanonAt held kinds place known
+
+-- what is known of the texts of a pool: at the place of each a canon of it, or none
+abbrev pub AreKnown : List (List ℕ) → List CompareKind → List (Option KnownCanon) → Type 0
+AreKnown held kinds known = (place : ℕ) → IsKnownAt held kinds place (slice_index_or known place None)
