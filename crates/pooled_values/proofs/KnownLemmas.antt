@@ -7,14 +7,18 @@ use Rattle.link_base.specs.declared.plan.CompareKind.{CompareKind}
 use Rattle.link_base.specs.declared.plan.CompareKind.TheVariants as by
 use Rattle.link_base.specs.declared.standard.Value.{Value}
 use Rattle.link_base.specs.declared.standard.Value.TheVariants as value
-use Rattle.value_canons.specs.Canons.{canon_of}
+use Rattle.value_canons.specs.Canons.{canon_of, exact_canon}
 use Rattle.value_pool.specs.Texts.{PoolState, stands_among}
 use Rattle.value_pool.specs.declared.pool.PoolFault.{PoolFault}
-use Rattle.pooled_values.specs.Known.{AreKnown, AreTextIds, IsCanonAt, IsIdOf, IsKnownAt, file_values, side_by_id}
+use Rattle.pooled_values.specs.Known.{AreKnown, AreKnownCanons, AreKnownDays, AreTextIds, IsCanonAt, IsIdOf, IsKnownAt, IsKnownDay, file_values, side_by_id}
 use Rattle.pooled_values.specs.Sides.{id_side}
 use Rattle.pooled_values.specs.Taking.{Extends, TakesTexts}
 use Rattle.pooled_values.specs.Texts.{standard_text, texts_taken}
+use Rattle.pooled_values.specs.declared.known.Known.{Known}
 use Rattle.pooled_values.specs.declared.known.KnownCanon.{KnownCanon}
+use Rattle.pooled_values.specs.declared.known.KnownCanons.{KnownCanons}
+use Rattle.pooled_values.specs.declared.known.KnownDay.{KnownDay}
+use Rattle.pooled_values.specs.declared.known.KnownDays.{KnownDays}
 use Rattle.pooled_values.proofs.FileLemmas.{values-row}
 use Rattle.pooled_values.proofs.HeldLemmas.{takes-held}
 use Rattle.pooled_values.proofs.PlaceLemmas.{kept-taken, side-in}
@@ -61,8 +65,18 @@ module _ (held new : List (List ℕ)) (keeps : Keeps held new) where
   known-at-kept kinds place (Some known) h =
       record { text = h.text; stands = keeps place h.text h.stands; canon = id-kept (canon_of (get_or kinds known.field by.Exact) (value.Word h.text)) (Some known.canon) h.canon }
 
-  pub known-kept : (kinds : List CompareKind) (known : List (Option KnownCanon)) → AreKnown held kinds known → AreKnown new kinds known
-  known-kept kinds known h place = known-at-kept kinds place (get_or known place None) (h place)
+  pub canons-kept : (kinds : List CompareKind) (known : List (Option KnownCanon)) → AreKnownCanons held kinds known → AreKnownCanons new kinds known
+  canons-kept kinds known h place = known-at-kept kinds place (get_or known place None) (h place)
+
+  known-day-kept : (known : Option KnownDay) → IsKnownDay held known → IsKnownDay new known
+  known-day-kept None h = tt
+  known-day-kept (Some known) h = id-kept (exact_canon (value.Day known.day)) (Some known.text) h
+
+  pub days-kept : (days : List (Option KnownDay)) → AreKnownDays held days → AreKnownDays new days
+  days-kept days h slot = known-day-kept (get_or days slot None) (h slot)
+
+  pub known-kept : (kinds : List CompareKind) (known : Known) → AreKnown held kinds known → AreKnown new kinds known
+  known-kept kinds known h = record { canons = canons-kept kinds known.canons.at.items h.canons; days = days-kept known.days.at.items h.days }
 
 -- lists of ids
 module _ (held : List (List ℕ)) where
@@ -122,7 +136,7 @@ module _ (held : List (List ℕ)) (kinds : List CompareKind) where
   pub itself-id : (kind : CompareKind) (v : Value) (i : ℕ) → kind ≡ by.Exact → IsIdOf held (standard_text v) (Some i) → IsIdOf held (canon_of kind v) (Some i)
   itself-id kind v i e h = rw e (exact-id v i h)
 
-  pub known-at : (place : ℕ) (known : List (Option KnownCanon)) (canon : KnownCanon) → get_or known place None ≡ Some canon → AreKnown held kinds known → IsCanonAt held kinds place canon
+  pub known-at : (place : ℕ) (known : List (Option KnownCanon)) (canon : KnownCanon) → get_or known place None ≡ Some canon → AreKnownCanons held kinds known → IsCanonAt held kinds place canon
   known-at place known canon e h = subst (IsKnownAt held kinds place) e (h place)
 
   pub known-id : (v : Value) (i : ℕ) (known : KnownCanon) → IsIdOf held (standard_text v) (Some i) → IsCanonAt held kinds i known → IsIdOf held (canon_of (get_or kinds known.field by.Exact) v) (Some known.canon)
@@ -135,8 +149,9 @@ module _ (held : List (List ℕ)) (kinds : List CompareKind) where
   new-known (value.Word text) i known h k = record { text = text; stands = h; canon = k }
   new-known (value.Day day) i known h k = absurd h
 
--- what is known stays so while more is taken
-pub known-after : {T : Type 0} (old new : PoolState) (texts : List (List ℕ)) (r : Result T PoolFault) (kinds : List CompareKind) (known : List (Option KnownCanon))
-    → TakesTexts old new texts r → AreKnown old.texts kinds known → OnOk r (AreKnown new.texts kinds known)
-known-after old new texts (Ok x) kinds known taken h = known-kept old.texts new.texts (kept-taken old.limit texts old.texts new.texts taken) kinds known h
-known-after old new texts (Err f) kinds known taken h = tt
+-- the canons that are known stay so while the text of a day is taken
+pub known-after : {T : Type 0} (old new : PoolState) (texts : List (List ℕ)) (kinds : List CompareKind) (canons : KnownCanons) (r : Result T PoolFault) (days : KnownDays)
+    → TakesTexts old new texts r → AreKnownCanons old.texts kinds canons.at.items → OnOk r (AreKnownDays new.texts days.at.items) → OnOk r (AreKnown new.texts kinds (record { canons = canons; days = days }))
+known-after old new texts kinds canons (Ok x) days taken h k =
+    record { canons = canons-kept old.texts new.texts (kept-taken old.limit texts old.texts new.texts taken) kinds canons.at.items h; days = k }
+known-after old new texts kinds canons (Err f) days taken h k = tt

@@ -8,9 +8,11 @@ use Rattle.link_base.specs.declared.plan.CompareKind.{CompareKind}
 use Rattle.link_base.specs.declared.plan.CompareKind.TheVariants as by
 use Rattle.link_base.specs.declared.standard.Value.{Value}
 use Rattle.link_base.specs.declared.standard.Value.TheVariants as value
-use Rattle.value_canons.specs.Canons.{canon_of}
+use Rattle.value_canons.specs.Canons.{canon_of, exact_canon}
 use Rattle.pooled_values.specs.Texts.{standard_text}
+use Rattle.pooled_values.specs.declared.known.Known.{Known}
 use Rattle.pooled_values.specs.declared.known.KnownCanon.{KnownCanon}
+use Rattle.pooled_values.specs.declared.known.KnownDay.{KnownDay}
 
 -- the id of a text that is held, if there is a text
 abbrev pub IsIdOf : List (List ℕ) → Option (List ℕ) → Option ℕ → Type 0
@@ -45,6 +47,19 @@ abbrev pub IsKnownAt : List (List ℕ) → List CompareKind → ℕ → Option K
 IsKnownAt held kinds place None = ⊤
 IsKnownAt held kinds place (Some known) = IsCanonAt held kinds place known
 
--- what is known of the texts of a pool: at the place of each a canon of it, or none
-abbrev pub AreKnown : List (List ℕ) → List CompareKind → List (Option KnownCanon) → Type 0
-AreKnown held kinds known = (place : ℕ) → IsKnownAt held kinds place (slice_index_or known place None)
+-- at the place of each text of a pool a canon of it, or none
+abbrev pub AreKnownCanons : List (List ℕ) → List CompareKind → List (Option KnownCanon) → Type 0
+AreKnownCanons held kinds canons = (place : ℕ) → IsKnownAt held kinds place (slice_index_or canons place None)
+
+-- days with the ids of their texts
+abbrev pub IsKnownDay : List (List ℕ) → Option KnownDay → Type 0
+IsKnownDay held None = ⊤
+IsKnownDay held (Some known) = IsIdOf held (exact_canon (value.Day known.day)) (Some known.text)
+
+abbrev pub AreKnownDays : List (List ℕ) → List (Option KnownDay) → Type 0
+AreKnownDays held days = (slot : ℕ) → IsKnownDay held (slice_index_or days slot None)
+
+-- what is known of the texts of a pool
+pub record AreKnown (held : List (List ℕ)) (kinds : List CompareKind) (known : Known) : Type 0 where
+  pub canons : AreKnownCanons held kinds known.canons.at.items
+  pub days : AreKnownDays held known.days.at.items

@@ -3,13 +3,13 @@ ghost use Rattle.std.specs.Prelude.{◌≡◌, ◌<◌, ◌≤◌, All, IfOk, Is
 ghost use Rattle.value_canons.specs.Canons.{IsReadable, canon_of, value_part};
 ghost use Rattle.link_base.specs.Standard.{IsValid};
 ghost use Rattle.link_base.specs.declared.plan.CompareKind.TheVariants as by;
-ghost use Rattle.pooled_values.specs.Known.{AreKnown, AreTextIds, IsIdOf, file_values, side_by_id};
+ghost use Rattle.pooled_values.specs.Known.{AreKnown, AreKnownDays, AreTextIds, IsIdOf, file_values, side_by_id};
 ghost use Rattle.pooled_values.specs.Ready.{IsRowFor};
 ghost use Rattle.pooled_values.specs.Sides.{day_side, id_side, side_of, sides_of_file, sides_of_row};
 ghost use Rattle.pooled_values.specs.Taking.{Extends, TakesTexts};
 ghost use Rattle.pooled_values.specs.Texts.{both_texts, canons_of_row, file_texts, standard_text};
 
-use crate::known::KnownCanons;
+use crate::known::{Known, KnownDays};
 use crate::texts::{TextIds, take_text};
 use comparators::{IdTable, IdValue};
 use link_base::{CompareKind, KeyKind, NoMemory, StdFile, StdRow, Value};
@@ -82,13 +82,42 @@ fn take_canon(
     }
 }
 
+// Takes the canon of a value without a standard text, and gives its id. The text of a day that is known is not looked for
+// again.
+fn take_day(
+    alloc: Global,
+    pool: &mut Pool,
+    kind: CompareKind,
+    days: &mut KnownDays,
+    value: &Value,
+) -> Result<Option<Id>, PoolFault>
+    requires valid { IsValid value.now }
+    requires days { AreKnownDays pool.old.texts days.old.at.items }
+    ensures limit { pool.new.limit ≡ pool.old.limit }
+    ensures texts { TakesTexts pool.old pool.new (option_to_list (canon_of kind value.now)) result }
+    ensures id { IfOk result (IsIdOf pool.new.texts (canon_of kind value.now)) }
+    ensures days { OnOk result (AreKnownDays pool.new.texts days.new.at.items) }
+{
+    if !is_text_itself(kind) {
+        return take_canon(alloc, pool, kind, value);
+    }
+    if let Some(text) = days.find(value) {
+        return Ok(Some(text));
+    }
+    let Some(text) = take_canon(alloc, pool, kind, value)? else {
+        return Ok(None);
+    };
+    days.keep(value, text);
+    Ok(Some(text))
+}
+
 // Takes the canon of a value in a field, and gives its id. One that is known by the id of the standard text is not looked
 // for again.
 fn take_known(
     alloc: Global,
     pool: &mut Pool,
     kinds: &[CompareKind],
-    known: &mut KnownCanons,
+    known: &mut Known,
     field: u8,
     text: Option<Id>,
     value: &Value,
@@ -96,26 +125,26 @@ fn take_known(
     requires field { field < length kinds.now }
     requires valid { IsValid value.now }
     requires text { IsIdOf pool.old.texts (standard_text value.now) text }
-    requires known { AreKnown pool.old.texts kinds.now known.old.at.items }
+    requires known { AreKnown pool.old.texts kinds.now known.old }
     ensures limit { pool.new.limit ≡ pool.old.limit }
     ensures texts { TakesTexts pool.old pool.new (option_to_list (canon_of (slice_index_or kinds.now field by.Exact) value.now)) result }
     ensures id { IfOk result (IsIdOf pool.new.texts (canon_of (slice_index_or kinds.now field by.Exact) value.now)) }
-    ensures known { OnOk result (AreKnown pool.new.texts kinds.now known.new.at.items) }
+    ensures known { OnOk result (AreKnown pool.new.texts kinds.now known.new) }
 {
     let kind = kinds[field as usize];
     let Some(text) = text else {
-        return take_canon(alloc, pool, kind, value);
+        return take_day(alloc, pool, kind, &mut known.days, value);
     };
     if is_text_itself(kind) {
         return Ok(Some(text));
     }
-    if let Some(canon) = known.find(field, text) {
+    if let Some(canon) = known.canons.find(field, text) {
         return Ok(Some(canon));
     }
     let Some(canon) = take_canon(alloc, pool, kind, value)? else {
         return Ok(None);
     };
-    known.keep(field, text, canon);
+    known.canons.keep(field, text, canon);
     Ok(Some(canon))
 }
 
@@ -124,7 +153,7 @@ fn take_side(
     alloc: Global,
     pool: &mut Pool,
     kinds: &[CompareKind],
-    known: &mut KnownCanons,
+    known: &mut Known,
     field: u8,
     text: Option<Id>,
     value: &Value,
@@ -132,11 +161,11 @@ fn take_side(
     requires field { field < length kinds.now }
     requires valid { IsValid value.now }
     requires text { IsIdOf pool.old.texts (standard_text value.now) text }
-    requires known { AreKnown pool.old.texts kinds.now known.old.at.items }
+    requires known { AreKnown pool.old.texts kinds.now known.old }
     ensures limit { pool.new.limit ≡ pool.old.limit }
     ensures texts { TakesTexts pool.old pool.new (option_to_list (canon_of (slice_index_or kinds.now field by.Exact) value.now)) result }
     ensures side { IfOk result (λ side. (final : List (List ℕ)) → Extends pool.new.texts final → side_of final (slice_index_or kinds.now field by.Exact) value.now ≡ side) }
-    ensures known { OnOk result (AreKnown pool.new.texts kinds.now known.new.at.items) }
+    ensures known { OnOk result (AreKnown pool.new.texts kinds.now known.new) }
 {
     let kind = kinds[field as usize];
     if compares_days(kind) {
@@ -151,7 +180,7 @@ fn take_row(
     alloc: Global,
     pool: &mut Pool,
     kinds: &[CompareKind],
-    known: &mut KnownCanons,
+    known: &mut Known,
     row: &StdRow,
     ids: &[Option<Id>],
     sides: &mut Vec<IdValue>,
@@ -160,12 +189,12 @@ fn take_row(
     requires as_many { length row.now ≡ length kinds.now }
     requires valid { All IsValid row.now }
     requires ids { AreTextIds pool.old.texts row.now ids.now }
-    requires known { AreKnown pool.old.texts kinds.now known.old.at.items }
+    requires known { AreKnown pool.old.texts kinds.now known.old }
     ensures limit { pool.new.limit ≡ pool.old.limit }
     ensures texts { TakesTexts pool.old pool.new (canons_of_row kinds.now row.now) result }
     ensures sides { OnOk result ((final : List (List ℕ)) → Extends pool.new.texts final → sides_of_row final kinds.now row.now ≡ sides.new.items) }
     ensures width { OnOk result (length sides.new.items ≡ length kinds.now) }
-    ensures known { OnOk result (AreKnown pool.new.texts kinds.now known.new.at.items) }
+    ensures known { OnOk result (AreKnown pool.new.texts kinds.now known.new) }
 {
     sides.clear();
     let values = row.values();
@@ -191,7 +220,7 @@ fn take_rows(
     alloc: Global,
     pool: &mut Pool,
     kinds: &[CompareKind],
-    known: &mut KnownCanons,
+    known: &mut Known,
     file: &StdFile,
     ids: &[Option<Id>],
     table: &mut IdTable,
@@ -199,14 +228,14 @@ fn take_rows(
     requires few { length kinds.now ≤ MOST_FIELDS }
     requires rows { All (IsRowFor kinds.now) file.now }
     requires ids { AreTextIds pool.old.texts (file_values file.now) ids.now }
-    requires known { AreKnown pool.old.texts kinds.now known.old.at.items }
+    requires known { AreKnown pool.old.texts kinds.now known.old }
     requires fields { table.old.fields ≡ length kinds.now }
     requires empty { table.old.rows ≡ [] }
     ensures fields { table.new.fields ≡ table.old.fields }
     ensures limit { pool.new.limit ≡ pool.old.limit }
     ensures texts { TakesTexts pool.old pool.new (file_texts (canons_of_row kinds.now) file.now) result }
     ensures sides { OnOk result ((final : List (List ℕ)) → Extends pool.new.texts final → sides_of_file final kinds.now file.now ≡ table.new.rows) }
-    ensures known { OnOk result (AreKnown pool.new.texts kinds.now known.new.at.items) }
+    ensures known { OnOk result (AreKnown pool.new.texts kinds.now known.new) }
 {
     let mut sides = Vec::new(alloc);
     let mut left = ids;
@@ -226,19 +255,19 @@ fn take_file(
     alloc: Global,
     pool: &mut Pool,
     kinds: &[CompareKind],
-    known: &mut KnownCanons,
+    known: &mut Known,
     file: &StdFile,
     ids: &[Option<Id>],
 ) -> Result<IdTable, PoolFault>
     requires few { length kinds.now ≤ MOST_FIELDS }
     requires rows { All (IsRowFor kinds.now) file.now }
     requires ids { AreTextIds pool.old.texts (file_values file.now) ids.now }
-    requires known { AreKnown pool.old.texts kinds.now known.old.at.items }
+    requires known { AreKnown pool.old.texts kinds.now known.old }
     ensures limit { pool.new.limit ≡ pool.old.limit }
     ensures texts { TakesTexts pool.old pool.new (file_texts (canons_of_row kinds.now) file.now) result }
     ensures fields { IfOk result (λ table. table.fields ≡ length kinds.now) }
     ensures sides { IfOk result (λ table. (final : List (List ℕ)) → Extends pool.new.texts final → sides_of_file final kinds.now file.now ≡ table.rows) }
-    ensures known { OnOk result (AreKnown pool.new.texts kinds.now known.new.at.items) }
+    ensures known { OnOk result (AreKnown pool.new.texts kinds.now known.new) }
 {
     let mut table = match IdTable::new(alloc, kinds.len() as u8) {
         Ok(table) => table,
@@ -269,7 +298,7 @@ pub(crate) fn take_canons(
     ensures a { IfOk result (λ t. (final : List (List ℕ)) → Extends pool.new.texts final → sides_of_file final kinds.now a.now ≡ t.0.rows) }
     ensures b { IfOk result (λ t. (final : List (List ℕ)) → Extends pool.new.texts final → sides_of_file final kinds.now b.now ≡ t.1.rows) }
 {
-    let mut known = match KnownCanons::new(alloc, pool.len()) {
+    let mut known = match Known::new(alloc, pool.len()) {
         Ok(known) => known,
         Err(NoMemory) => return Err(PoolFault::NoMemory),
     };

@@ -1,10 +1,10 @@
-// Canons that were taken, by the texts that have them.
-ghost use Rattle.std.specs.Prelude.{◌≡◌, List, [], ℕ, IfOk, IfSome, Some, None, slice_index_or};
+// Canons that were taken, by the texts and the days that have them.
+ghost use Rattle.std.specs.Prelude.{◌≡◌, List, ℕ, IfOk, IfSome, Some, None, slice_index_or};
 ghost use Rattle.link_base.specs.declared.plan.CompareKind.{CompareKind as Kind};
-ghost use Rattle.pooled_values.specs.Known.{AreKnown, IsCanonAt};
-ghost use Rattle.pooled_values.specs.declared.known.KnownCanon.{KnownCanon as Known};
+ghost use Rattle.pooled_values.specs.Known.{AreKnown, AreKnownCanons, AreKnownDays, IsCanonAt, IsIdOf};
+ghost use Rattle.value_canons.specs.Canons.{exact_canon};
 
-use link_base::NoMemory;
+use link_base::{NoMemory, Value};
 use std::alloc::Global;
 use value_pool::Id;
 
@@ -23,9 +23,9 @@ pub(crate) struct KnownCanons {
 }
 
 impl KnownCanons {
-    /// No canon, with room for one of each of so many texts.
-    pub(crate) fn new(alloc: Global, texts: u32) -> Result<KnownCanons, NoMemory>
-        ensures { IfOk result (λ known. (held : List (List ℕ)) (kinds : List Kind) → AreKnown held kinds known.at.items) }
+    // No canon, with room for one of each of so many texts.
+    fn new(alloc: Global, texts: u32) -> Result<KnownCanons, NoMemory>
+        ensures { IfOk result (λ canons. (held : List (List ℕ)) (kinds : List Kind) → AreKnownCanons held kinds canons.at.items) }
     {
         let at = vec![in alloc; None; texts as usize]?;
         Ok(KnownCanons { at })
@@ -43,11 +43,89 @@ impl KnownCanons {
 
     /// Keeps the canon of a text by the kind of a field, where there is room for one of this text.
     pub(crate) fn keep(&mut self, field: u8, text: Id, canon: Id)
-        ensures { (held : List (List ℕ)) (kinds : List Kind) → IsCanonAt held kinds text (record { field = field; canon = canon }) → AreKnown held kinds self.old.at.items → AreKnown held kinds self.new.at.items }
+        ensures { (held : List (List ℕ)) (kinds : List Kind) → IsCanonAt held kinds text (record { field = field; canon = canon }) → AreKnownCanons held kinds self.old.at.items → AreKnownCanons held kinds self.new.at.items }
     {
         let place = text.place() as usize;
         if place < self.at.len() {
             self.at[place] = Some(KnownCanon { field, canon });
         }
+    }
+}
+
+/// A day, and the id of its text.
+#[derive(Clone, Copy)]
+pub(crate) struct KnownDay {
+    pub(crate) day: i32,
+    pub(crate) text: Id,
+}
+
+/// Days whose texts were taken, each in one of so many slots, so that a day that comes again is not written again.
+#[derive(Drop)]
+pub(crate) struct KnownDays {
+    pub(crate) at: Vec<Option<KnownDay>>,
+}
+
+/// What is added to a day so that none is below 0.
+const DAYS_BEFORE_1970: u32 = 719_162;
+
+impl KnownDays {
+    // No day, with so many slots.
+    fn new(alloc: Global, slots: u32) -> Result<KnownDays, NoMemory>
+        ensures { IfOk result (λ days. (held : List (List ℕ)) → AreKnownDays held days.at.items) }
+    {
+        let at = vec![in alloc; None; slots as usize]?;
+        Ok(KnownDays { at })
+    }
+
+    // The slot of a day: days that follow each other have different ones.
+    fn slot(&self, day: i32) -> usize {
+        if self.at.is_empty() {
+            return 0;
+        }
+        day.cast_unsigned().wrapping_add(DAYS_BEFORE_1970) as usize % self.at.len()
+    }
+
+    /// The id of the text of a day, `None` for another value.
+    pub(crate) fn find(&self, value: &Value) -> Option<Id>
+        ensures { IfSome result (λ text. (held : List (List ℕ)) → AreKnownDays held self.now.at.items → IsIdOf held (exact_canon value.now) (Some text)) }
+    {
+        let Value::Day(day) = value else {
+            return None;
+        };
+        match self.at.get(self.slot(*day)) {
+            Some(Some(known)) if known.day == *day => Some(known.text),
+            _ => None,
+        }
+    }
+
+    /// Keeps the id of the text of a day.
+    pub(crate) fn keep(&mut self, value: &Value, text: Id)
+        ensures { (held : List (List ℕ)) → IsIdOf held (exact_canon value.now) (Some text) → AreKnownDays held self.old.at.items → AreKnownDays held self.new.at.items }
+    {
+        let Value::Day(day) = value else {
+            return;
+        };
+        let slot = self.slot(*day);
+        if slot < self.at.len() {
+            self.at[slot] = Some(KnownDay { day: *day, text });
+        }
+    }
+}
+
+/// What is known of the texts of a pool.
+#[derive(Drop)]
+pub(crate) struct Known {
+    pub(crate) canons: KnownCanons,
+    pub(crate) days: KnownDays,
+}
+
+impl Known {
+    /// Nothing, with room for a canon of each of so many texts, and for as many days.
+    pub(crate) fn new(alloc: Global, texts: u32) -> Result<Known, NoMemory>
+        ensures { IfOk result (λ known. (held : List (List ℕ)) (kinds : List Kind) → AreKnown held kinds known) }
+    {
+        let canons = KnownCanons::new(alloc, texts)?;
+        let days = KnownDays::new(alloc, texts)?;
+        Ok(Known { canons, days })
     }
 }

@@ -4,15 +4,15 @@ use Rattle.value_canons.specs.Canons.{canon_of}
 use Rattle.pooled_values.specs.Known.{IsIdOf}
 use Rattle.pooled_values.specs.declared.known.KnownCanon.{KnownCanon}
 use Rattle.pooled_values.specs.Texts.{standard_text}
-use Rattle.pooled_values.proofs.KnownLemmas.{id-kept, id-taken, itself-id, known-after, known-at, known-id, known-kept, new-known}
+use Rattle.pooled_values.proofs.KnownLemmas.{canons-kept, days-kept, id-kept, id-taken, itself-id, known-after, known-at, known-id, new-known}
 use Rattle.pooled_values.proofs.PlaceLemmas.{kept-taken}
 use Rattle.pooled_values.proofs.canons.take_known.Goals as goal
 
 pub returns-in_default-clause-known : goal.returns-in_default-clause-known
 returns-in_default-clause-known c =
     let kinds = c.args.kinds.now in
-    let taken = option_to_list (canon_of (get_or kinds c.args.field by.Exact) c.args.value.now) in
-    known-after c.args.pool.now c.take_canon.new.pool taken c.take_canon.result kinds c.args.known.now.at.items c.take_canon.ensures.texts c.requires.known
+    known-after c.args.pool.now c.take_day.new.pool (option_to_list (canon_of (get_or kinds c.args.field by.Exact) c.args.value.now)) kinds c.args.known.now.canons c.take_day.result c.take_day.new.days
+    c.take_day.ensures.texts c.requires.known.canons c.take_day.ensures.days
 
 pub returns-then-is_text_itself-clause-texts : goal.returns-then-is_text_itself-clause-texts
 returns-then-is_text_itself-clause-texts c =
@@ -33,12 +33,12 @@ returns-in-Some-find-clause-texts c =
     let of_text : IsIdOf pool.texts (standard_text v) (Some text) = rw c.in-Some.is at c.requires.text in
     let known : KnownCanon = record { field = c.args.field; canon = canon } in
     id-taken pool.limit pool.texts (canon_of (get_or kinds c.args.field by.Exact) v) (Some canon)
-    (known-id pool.texts kinds v text known of_text (known-at pool.texts kinds text c.args.known.now.at.items known c.in-Some-find.ensures c.requires.known))
+    (known-id pool.texts kinds v text known of_text (known-at pool.texts kinds text c.args.known.now.canons.at.items known c.in-Some-find.ensures c.requires.known.canons))
 
 pub returns-clause-known : goal.returns-clause-known
 returns-clause-known c =
     let pool = c.args.pool.now in
-    let new = c.take_canon-2.new.pool in
+    let new = c.take_canon.new.pool in
     let kinds = c.args.kinds.now in
     let v = c.args.value.now in
     let text = c.in-Some.text in
@@ -46,6 +46,9 @@ returns-clause-known c =
     let kept = kept-taken pool.limit (option_to_list (canon_of (get_or kinds c.args.field by.Exact) v)) pool.texts new.texts c.in_ok-canon.ensures.texts in
     let of_text : IsIdOf pool.texts (standard_text v) (Some text) = rw c.in-Some.is at c.requires.text in
     let of_canon : IsIdOf new.texts (canon_of (get_or kinds c.args.field by.Exact) v) (Some canon) = rw c.in-Some-2.is at c.in_ok-canon.ensures.id in
-    c.keep.ensures new.texts kinds
-    (new-known new.texts kinds v text (record { field = c.args.field; canon = canon }) (id-kept pool.texts new.texts kept (standard_text v) (Some text) of_text) of_canon)
-    (known-kept pool.texts new.texts kept kinds c.args.known.now.at.items c.requires.known)
+    record {
+      canons = c.keep.ensures new.texts kinds
+          (new-known new.texts kinds v text (record { field = c.args.field; canon = canon }) (id-kept pool.texts new.texts kept (standard_text v) (Some text) of_text) of_canon)
+          (canons-kept pool.texts new.texts kept kinds c.args.known.now.canons.at.items c.requires.known.canons);
+      days = days-kept pool.texts new.texts kept c.args.known.now.days.at.items c.requires.known.days;
+    }

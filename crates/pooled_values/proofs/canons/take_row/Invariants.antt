@@ -10,7 +10,7 @@ abbrev pub invariant-loop-field : goal.invariant-loop-field
 invariant-loop-field l = record {
   goes : Goes l.fn.pool l.pool (canons_of_row (drop l.field l.kinds) (drop l.field l.row)) (canons_of_row l.kinds l.row);
   ids : AreTextIds l.pool.texts l.row l.ids;
-  known : AreKnown l.pool.texts l.kinds l.known.at.items;
+  known : AreKnown l.pool.texts l.kinds l.known;
   width : length l.sides.items ≡ l.field;
   sides : (final : List (List ℕ)) → Extends l.pool.texts final → l.sides.items ++ sides_of_row final (drop l.field l.kinds) (drop l.field l.row) ≡ sides_of_row final l.kinds l.row;
 }
