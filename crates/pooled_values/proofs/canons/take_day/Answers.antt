@@ -12,6 +12,11 @@ returns-in-Some-clause-texts c =
     let exact : c.args.kind ≡ by.Exact = c.is_text_itself.ensures (search rules) in
     rw exact (id-taken pool.limit pool.texts (exact_canon c.args.value.now) (Some c.in-Some.text) (c.in-Some.ensures pool.texts c.requires.days))
 
+pub returns-in-Some-clause-id : goal.returns-in-Some-clause-id
+returns-in-Some-clause-id c =
+    let exact : c.args.kind ≡ by.Exact = c.is_text_itself.ensures (search rules) in
+    rw exact (c.in-Some.ensures c.args.pool.now.texts c.requires.days)
+
 pub returns-clause-days : goal.returns-clause-days
 returns-clause-days c =
     let pool = c.args.pool.now in

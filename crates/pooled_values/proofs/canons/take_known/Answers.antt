@@ -23,6 +23,15 @@ returns-then-is_text_itself-clause-texts c =
     let of_text : IsIdOf pool.texts (standard_text v) (Some text) = rw c.in-Some.is at c.requires.text in
     id-taken pool.limit pool.texts (canon_of kind v) (Some text) (itself-id pool.texts c.args.kinds.now kind v text (c.is_text_itself.ensures c.if-is_text_itself.true) of_text)
 
+pub returns-then-is_text_itself-clause-id : goal.returns-then-is_text_itself-clause-id
+returns-then-is_text_itself-clause-id c =
+    let pool = c.args.pool.now in
+    let kinds = c.args.kinds.now in
+    let v = c.args.value.now in
+    let text = c.in-Some.text in
+    let of_text : IsIdOf pool.texts (standard_text v) (Some text) = rw c.in-Some.is at c.requires.text in
+    itself-id pool.texts kinds (get_or kinds c.args.field by.Exact) v text (c.is_text_itself.ensures c.if-is_text_itself.true) of_text
+
 pub returns-in-Some-find-clause-texts : goal.returns-in-Some-find-clause-texts
 returns-in-Some-find-clause-texts c =
     let pool = c.args.pool.now in
@@ -34,6 +43,16 @@ returns-in-Some-find-clause-texts c =
     let known : KnownCanon = record { field = c.args.field; canon = canon } in
     id-taken pool.limit pool.texts (canon_of (get_or kinds c.args.field by.Exact) v) (Some canon)
     (known-id pool.texts kinds v text known of_text (known-at pool.texts kinds text c.args.known.now.canons.at.items known c.in-Some-find.ensures c.requires.known.canons))
+
+pub returns-in-Some-find-clause-id : goal.returns-in-Some-find-clause-id
+returns-in-Some-find-clause-id c =
+    let pool = c.args.pool.now in
+    let kinds = c.args.kinds.now in
+    let v = c.args.value.now in
+    let text = c.in-Some.text in
+    let of_text : IsIdOf pool.texts (standard_text v) (Some text) = rw c.in-Some.is at c.requires.text in
+    let known : KnownCanon = record { field = c.args.field; canon = c.in-Some-find.canon } in
+    known-id pool.texts kinds v text known of_text (known-at pool.texts kinds text c.args.known.now.canons.at.items known c.in-Some-find.ensures c.requires.known.canons)
 
 pub returns-clause-known : goal.returns-clause-known
 returns-clause-known c =

@@ -6,7 +6,7 @@ use Rattle.pooled_values.specs.Texts.{canons_of_row}
 use Rattle.pooled_values.proofs.FileLemmas.{canons-at, push-sides, sides-at}
 use Rattle.pooled_values.proofs.KnownLemmas.{ids-kept, ids-many, ids-read}
 use Rattle.pooled_values.proofs.PlaceLemmas.{extends-before, kept-taken}
-use Rattle.pooled_values.proofs.TakingLemmas.{goes-on}
+use Rattle.pooled_values.proofs.TakingLemmas.{goes-on, takes-refused}
 use Rattle.pooled_values.proofs.canons.take_row.Goals as goal
 
 pub loop-field-preserved : goal.loop-field-preserved
@@ -40,3 +40,13 @@ take_side-requires-clause-text c =
     let v = c.index-values-field.result in
     let is_value : v ≡ get_or row c.loop-field.field v = rw c.values-values.ensures at c.index-values-field.is in
     ids-read c.loop-field.pool.texts row c.args.ids.now c.loop-field.field v c.index-ids-field.result (omega (arith, c.requires.as_many)) is_value c.index-ids-field.is c.loop-field.invariant.ids
+
+pub returns-in_err-side-clause-texts : goal.returns-in_err-side-clause-texts
+returns-in_err-side-clause-texts c =
+    let kinds = c.args.kinds.now in
+    let row = c.args.row.now in
+    let at = c.loop-field.field in
+    let v = c.index-values-field.result in
+    let is_value : v ≡ get_or row at v = rw c.values-values.ensures at c.index-values-field.is in
+    takes-refused (option_to_list (canon_of (get_or kinds at by.Exact) v)) (canons_of_row (drop (at + 1) kinds) (drop (at + 1) row)) c.in_err-side.field-0.0 c.take_side.new.pool c.from_residual.result
+    c.loop-field.invariant.goes (canons-at kinds row at v (omega arith) c.requires.as_many is_value) c.in_err-side.ensures.texts (search rules)
