@@ -6,4 +6,5 @@ pub mod PriceLemmas
 pub mod ReadLineLemmas
 pub mod ReadingLemmas
 pub mod RowLemmas
+pub mod PairEndLemmas
 pub mod PairLemmas

@@ -6,5 +6,6 @@ pub mod OpenText
 pub mod PricesText
 pub mod Reading
 pub mod ReportText
+pub mod PairEnds
 pub mod PairsText
 pub mod RuleText

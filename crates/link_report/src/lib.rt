@@ -1,6 +1,7 @@
 //! The texts that the program prints and writes: lines of comma-separated fields (RFC 4180).
 #![tactic(auto)]
 
+mod ends;
 mod first;
 mod frontier;
 mod head;

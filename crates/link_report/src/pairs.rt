@@ -1,109 +1,44 @@
 // The text of the compared pairs.
-ghost use Rattle.std.specs.Prelude.{◌≡◌, ◌<◌, ◌++◌, All, AllPairs, Bool, IfOk, List, None, OnOk, Some, length, map};
-ghost use Rattle.std.specs.List.{range_with_len};
+ghost use Rattle.std.specs.Prelude.{◌≡◌, ◌<◌, ◌++◌, All, AllPairs, IfOk, None, OnOk, Some, length};
 ghost use Rattle.csv.specs.Writing.{default_writer, row_text};
 ghost use Rattle.link_base.specs.Rule.{IsPairBefore};
-ghost use Rattle.link_report.specs.PairsText.{decision_word, IsAfter, pair_row, pairs_header, text_of_pairs, verdict_word};
-ghost use Rattle.link_report.specs.RuleText.{outcome_letters};
+ghost use Rattle.link_report.specs.PairEnds.{front_of};
+ghost use Rattle.link_report.specs.PairsText.{IsAfter, pair_row, pairs_header, text_of_pairs};
 ghost use Rattle.link_report.specs.declared.open.PairRow.{PairRow as Row};
 ghost use Rattle.pattern_shapes.specs.Shapes.{pattern_count_by, rare_of};
 
+use crate::ends::LineEnds;
 use crate::open::PairRow;
-use crate::rule::letters_of;
-use csv_rows::push_row;
-use itoa::Buffer;
-use link_base::{Decision, NoMemory, PairAt, Shape, StdFile, Text, TextList, Verdict};
-use pattern_shapes::pattern_count;
+use csv_rows::push_field;
+use link_base::{NoMemory, PairAt, Shape, StdFile, Text};
 use std::alloc::Global;
 use std::marker::Model;
 
-// The word of a decision.
-fn word_of(decision: &Decision) -> &[u8]
-    ensures { result.now ≡ decision_word decision.now }
+// Appends the ids of a pair with a comma between them.
+fn push_ids(text: &mut Vec<u8>, id_a: &[u8], id_b: &[u8]) -> Result<(), NoMemory>
+    ensures { OnOk result (text.new.items ≡ text.old.items ++ front_of id_a.now id_b.now) }
 {
-    match decision {
-        Decision::Link => b"link",
-        Decision::Possible => b"possible",
-        Decision::NonLink => b"nonlink",
-    }
-}
-
-// The word of a verdict, and nothing where there is none.
-fn verdict_of(verdict: &Option<Verdict>) -> &[u8]
-    ensures { result.now ≡ verdict_word verdict.now }
-{
-    match verdict {
-        None => b"",
-        Some(Verdict::Link) => b"link",
-        Some(Verdict::NonLink) => b"nonlink",
-        Some(Verdict::Undecided) => b"open",
-    }
-}
-
-// The letters of each comparison pattern.
-fn letters_by_pattern(alloc: Global, shape: &Shape) -> Result<TextList, NoMemory>
-    ensures { IfOk result (λ all. all ≡ map (outcome_letters (rare_of shape.now)) (range_with_len 0 (pattern_count_by (rare_of shape.now)))) }
-{
-    let mut all = TextList::new(alloc);
-    for pattern in 0..pattern_count(shape) {
-        let letters = letters_of(alloc, shape, pattern)?;
-        all.push(Text::of(letters))?;
-    }
-    Ok(all)
-}
-
-// Appends the line of a pair whose pattern has these letters.
-fn push_pair<'t>(
-    text: &mut Vec<u8>,
-    letters: &'t Text,
-    row: &'t PairRow,
-    a: &'t StdFile,
-    b: &'t StdFile,
-) -> Result<(), NoMemory>
-    requires in_a { row.now.at.a < length a.now }
-    requires in_b { row.now.at.b < length b.now }
-    ensures { (rares : List Bool) → letters.now ≡ outcome_letters rares row.now.pattern
-        → OnOk result (text.new.items ≡ text.old.items ++ pair_row rares a.now b.now row.now) }
-{
-    let mut pattern = Buffer::new();
-    let mut weight = Buffer::new();
-    push_row(
-        text,
-        &[
-            a.id(row.at.a),
-            b.id(row.at.b),
-            pattern.format(row.pattern).as_bytes(),
-            letters.bytes(),
-            weight.format(row.weight).as_bytes(),
-            word_of(&row.decision),
-            verdict_of(&row.verdict),
-        ],
-    )
+    push_field(text, id_a)?;
+    text.push(b',')?;
+    push_field(text, id_b)?;
+    Ok(())
 }
 
 /// A writer of the text of the compared pairs, row by row. Contracts see which of its fields may be rare, its text so far, and
 /// the pair that was written last.
 #[derive(Drop)]
 pub struct PairsWriter {
-    shape: Shape,
-    // The letters of each comparison pattern.
-    letters: TextList,
+    ends: LineEnds,
     text: Vec<u8>,
     last: Option<PairAt>,
 }
 
 impl Model for PairsWriter {
-    ghost use Rattle.std.specs.Prelude.{◌≡◌, map};
-    ghost use Rattle.std.specs.List.{range_with_len};
     ghost use Rattle.link_report.specs.PairsText.{PairsWritten};
-    ghost use Rattle.link_report.specs.RuleText.{outcome_letters};
-    ghost use Rattle.pattern_shapes.specs.Shapes.{pattern_count_by, rare_of};
 
     ghost Value = { PairsWritten };
 
-    ghost view = { λ w. record { rares = rare_of w.shape; text = w.text.items; last = w.last } };
-
-    ghost invariant = { λ w. w.letters ≡ map (outcome_letters (rare_of w.shape)) (range_with_len 0 (pattern_count_by (rare_of w.shape))) };
+    ghost view = { λ w. record { rares = w.ends; text = w.text.items; last = w.last } };
 }
 
 impl PairsWriter {
@@ -115,14 +50,13 @@ impl PairsWriter {
         ensures text { IfOk result (λ writer. writer.text ≡ row_text default_writer pairs_header) }
         ensures last { IfOk result (λ writer. writer.last ≡ None) }
     {
-        let letters = letters_by_pattern(alloc, shape)?;
+        let ends = LineEnds::new(alloc, shape)?;
         let text = Vec::from_slice(
             alloc,
             b"id_a,id_b,pattern,outcomes,weight,decision,verdict\n",
         )?;
         Ok(PairsWriter {
-            shape: *shape,
-            letters,
+            ends,
             text,
             last: None,
         })
@@ -140,8 +74,8 @@ impl PairsWriter {
         ensures text { OnOk result (self.new.text ≡ self.old.text ++ pair_row self.old.rares a.now b.now row.now) }
         ensures last { OnOk result (self.new.last ≡ Some row.now.at) }
     {
-        let letters = &self.letters.texts()[usize::from(row.pattern)];
-        push_pair(&mut self.text, letters, row, a, b)?;
+        push_ids(&mut self.text, a.id(row.at.a), b.id(row.at.b))?;
+        self.ends.push_end(&mut self.text, row)?;
         self.last = Some(row.at);
         Ok(())
     }

@@ -1,0 +1,22 @@
+-- Machinery of the text of the compared pairs: the end of a line. No public clause names it.
+use Rattle.std.specs.Prelude.{◌≡◌, Bool, List, ℕ, [], ◌∷◌, ◌++◌, decimal}
+use Rattle.std.specs.Fmt.{signed_decimal}
+use Rattle.csv.specs.Writing.{default_writer, field_text, row_text}
+use Rattle.link_report.specs.PairsText.{decision_word, verdict_word}
+use Rattle.link_report.specs.RuleText.{outcome_letters}
+use Rattle.link_report.specs.declared.ends.LineEnd.{LineEnd}
+use Rattle.link_report.specs.declared.open.PairRow.{PairRow}
+
+-- the front of a line: two ids with a comma between them
+abbrev pub front_of : List ℕ → List ℕ → List ℕ
+front_of id_a id_b = field_text default_writer id_a ++ 44 ∷ field_text default_writer id_b
+
+-- the end of the line of a pair, from the comma behind its ids on: the row of an empty field and of those that follow the ids
+abbrev pub pair_end : List Bool → PairRow → List ℕ
+pair_end rares row =
+    row_text default_writer ([] ∷ decimal row.pattern ∷ outcome_letters rares row.pattern ∷ signed_decimal row.weight
+    ∷ decision_word row.decision ∷ verdict_word row.verdict ∷ [])
+
+-- an end that is kept is that of the pair that it was written for
+abbrev pub IsEnd : List Bool → LineEnd → Type 0
+IsEnd rares end = end.text.items ≡ pair_end rares end.of
