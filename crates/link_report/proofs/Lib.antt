@@ -6,5 +6,5 @@ pub mod PriceLemmas
 pub mod ReadLineLemmas
 pub mod ReadingLemmas
 pub mod RowLemmas
-pub mod PairEndLemmas
+pub mod LineLemmas
 pub mod PairLemmas

@@ -1,11 +1,11 @@
 pub mod FirstLines
 pub mod FrontierText
+pub mod LineParts
 pub mod Lines
 pub mod LinksText
 pub mod OpenText
 pub mod PricesText
 pub mod Reading
 pub mod ReportText
-pub mod PairEnds
 pub mod PairsText
 pub mod RuleText

@@ -1,7 +1,8 @@
--- The texts of ids that are printed: lines of fields, as RFC 4180 has them (`ids_text_of`, its lone clause).
+-- The texts of ids that are printed: lines of fields, as RFC 4180 has them (`ids_text_of`, its lone clause), and the front that the
+-- lines of a record share (`LineFront::set`, `PairsWriter::push_behind`).
 use Rattle.std.specs.Prelude.{ℕ, List, [], ◌∷◌, ◌++◌, codes}
 use Rattle.std.specs.List.{flat_map}
-use Rattle.csv.specs.Writing.{default_writer, row_text}
+use Rattle.csv.specs.Writing.{default_writer, field_text, row_text}
 use Rattle.link_base.specs.Standard.{id_at, Record}
 use Rattle.link_base.specs.declared.rule.PairAt.{PairAt}
 
@@ -12,3 +13,7 @@ ids_line a b at = row_text default_writer (id_at a at.a ∷ id_at b at.b ∷ [])
 -- a header, and a line for each pair
 abbrev pub ids_text : List Record → List Record → List PairAt → List ℕ
 ids_text a b pairs = row_text default_writer (codes "id_a" ∷ codes "id_b" ∷ []) ++ flat_map (ids_line a b) pairs
+
+-- the front of a line: an id, and the comma behind it
+abbrev pub front_of : List ℕ → List ℕ
+front_of id = field_text default_writer id ++ 44 ∷ []

@@ -1,6 +1,6 @@
 // The ends of the lines of pairs, each made once.
 ghost use Rattle.std.specs.Prelude.{◌≡◌, ◌<◌, ◌++◌, All, Bool, IfOk, IsTrue, List, OnOk, length, slice_index_or};
-ghost use Rattle.link_report.specs.PairEnds.{IsEnd, pair_end};
+ghost use Rattle.link_report.specs.LineParts.{IsEnd, pair_end};
 ghost use Rattle.link_report.specs.PairsText.{decision_word, verdict_word};
 ghost use Rattle.link_report.specs.RuleText.{outcome_letters};
 ghost use Rattle.link_report.specs.declared.ends.LineEnd.{LineEnd as End};
@@ -151,7 +151,7 @@ pub(crate) struct LineEnds {
 
 impl Model for LineEnds {
     ghost use Rattle.std.specs.Prelude.{◌≡◌, All, Bool, List, length};
-    ghost use Rattle.link_report.specs.PairEnds.{IsEnd};
+    ghost use Rattle.link_report.specs.LineParts.{IsEnd};
     ghost use Rattle.pattern_shapes.specs.Shapes.{pattern_count_by, rare_of};
 
     ghost Value = { List Bool };

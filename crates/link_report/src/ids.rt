@@ -1,18 +1,22 @@
 // The ids of pairs.
-ghost use Rattle.std.specs.Prelude.{◌≡◌, ◌<◌, ◌++◌, All, IfOk, OnOk, length};
+ghost use Rattle.std.specs.Prelude.{◌≡◌, ◌<◌, ◌++◌, ◌∷◌, [], All, IfOk, OnOk, length};
 ghost use Rattle.link_base.specs.declared.rule.PairAt.{PairAt as Pair};
-ghost use Rattle.link_report.specs.Lines.{ids_line, ids_text};
+ghost use Rattle.csv.specs.Writing.{default_writer, field_text};
+ghost use Rattle.link_report.specs.Lines.{ids_text};
 
-use csv_rows::push_row;
+use crate::front::{LineFront, turn_to};
+use csv_rows::push_field;
 use link_base::{NoMemory, PairAt, StdFile, Text};
 use std::alloc::Global;
 
-fn push_ids(line: &mut Vec<u8>, pair: PairAt, a: &StdFile, b: &StdFile) -> Result<(), NoMemory>
-    requires in_a { pair.a < length a.now }
-    requires in_b { pair.b < length b.now }
-    ensures { OnOk result (line.new.items ≡ line.old.items ++ ids_line a.now b.now pair) }
+// Appends a line: its front, an id and the line feed.
+fn push_line(text: &mut Vec<u8>, front: &LineFront, id: &[u8]) -> Result<(), NoMemory>
+    ensures { OnOk result (text.new.items ≡ ((text.old.items ++ front.now) ++ field_text default_writer id.now) ++ 10 ∷ []) }
 {
-    push_row(line, &[a.id(pair.a), b.id(pair.b)])
+    text.extend_from_slice(front.bytes())?;
+    push_field(text, id)?;
+    text.push(b'\n')?;
+    Ok(())
 }
 
 /// The text of pairs of records: the header `id_a,id_b`, and a line for each pair with its two ids.
@@ -29,8 +33,12 @@ pub fn ids_text_of(
 {
     let mut text = Vec::new(alloc);
     text.extend_from_slice(b"id_a,id_b\n")?;
+    let mut front = LineFront::new(alloc);
+    let mut of = None;
     for pair in pairs {
-        push_ids(&mut text, *pair, a, b)?;
+        turn_to(&mut front, of, pair.a, a)?;
+        of = Some(pair.a);
+        push_line(&mut text, &front, b.id(pair.b))?;
     }
     Ok(Text::of(text))
 }

@@ -3,6 +3,7 @@
 
 mod ends;
 mod first;
+mod front;
 mod frontier;
 mod head;
 mod ids;
@@ -15,6 +16,7 @@ mod report;
 mod rule;
 
 pub use first::{first_lines, head_of_report};
+pub use front::LineFront;
 pub use frontier::frontier_text;
 pub use ids::ids_text_of;
 pub use links::{links_text, source_of};

@@ -1,28 +1,21 @@
 // The text of the compared pairs.
-ghost use Rattle.std.specs.Prelude.{◌≡◌, ◌<◌, ◌++◌, All, AllPairs, IfOk, None, OnOk, Some, length};
-ghost use Rattle.csv.specs.Writing.{default_writer, row_text};
+ghost use Rattle.std.specs.Prelude.{◌≡◌, ◌<◌, ◌++◌, All, AllPairs, IfOk, List, None, OnOk, Some, length};
+ghost use Rattle.csv.specs.Writing.{default_writer, field_text, row_text};
 ghost use Rattle.link_base.specs.Rule.{IsPairBefore};
-ghost use Rattle.link_report.specs.PairEnds.{front_of};
+ghost use Rattle.link_base.specs.Standard.{id_at, Record};
+ghost use Rattle.link_report.specs.LineParts.{pair_end};
+ghost use Rattle.link_report.specs.Lines.{front_of};
 ghost use Rattle.link_report.specs.PairsText.{IsAfter, pair_row, pairs_header, text_of_pairs};
 ghost use Rattle.link_report.specs.declared.open.PairRow.{PairRow as Row};
 ghost use Rattle.pattern_shapes.specs.Shapes.{pattern_count_by, rare_of};
 
 use crate::ends::LineEnds;
+use crate::front::{LineFront, push_front};
 use crate::open::PairRow;
 use csv_rows::push_field;
 use link_base::{NoMemory, PairAt, Shape, StdFile, Text};
 use std::alloc::Global;
 use std::marker::Model;
-
-// Appends the ids of a pair with a comma between them.
-fn push_ids(text: &mut Vec<u8>, id_a: &[u8], id_b: &[u8]) -> Result<(), NoMemory>
-    ensures { OnOk result (text.new.items ≡ text.old.items ++ front_of id_a.now id_b.now) }
-{
-    push_field(text, id_a)?;
-    text.push(b',')?;
-    push_field(text, id_b)?;
-    Ok(())
-}
 
 /// A writer of the text of the compared pairs, row by row. Contracts see which of its fields may be rare, its text so far, and
 /// the pair that was written last.
@@ -74,7 +67,38 @@ impl PairsWriter {
         ensures text { OnOk result (self.new.text ≡ self.old.text ++ pair_row self.old.rares a.now b.now row.now) }
         ensures last { OnOk result (self.new.last ≡ Some row.now.at) }
     {
-        push_ids(&mut self.text, a.id(row.at.a), b.id(row.at.b))?;
+        push_front(&mut self.text, a.id(row.at.a))?;
+        self.push_tail(row, b)
+    }
+
+    /// Appends the line of a pair as `push` does, where the front of the lines of its record of A is at hand.
+    pub fn push_behind(
+        &mut self,
+        front: &LineFront,
+        row: &PairRow,
+        b: &StdFile,
+    ) -> Result<(), NoMemory>
+        requires in_b { row.now.at.b < length b.now }
+        requires pattern { row.now.pattern < pattern_count_by self.old.rares }
+        requires after { IsAfter self.old.last row.now.at }
+        ensures rares { self.new.rares ≡ self.old.rares }
+        ensures text { (a : List Record) → front.now ≡ front_of (id_at a row.now.at.a)
+            → OnOk result (self.new.text ≡ self.old.text ++ pair_row self.old.rares a b.now row.now) }
+        ensures last { OnOk result (self.new.last ≡ Some row.now.at) }
+    {
+        self.text.extend_from_slice(front.bytes())?;
+        self.push_tail(row, b)
+    }
+
+    // Appends the line of a pair from its id in B on.
+    fn push_tail(&mut self, row: &PairRow, b: &StdFile) -> Result<(), NoMemory>
+        requires in_b { row.now.at.b < length b.now }
+        requires pattern { row.now.pattern < pattern_count_by self.old.rares }
+        ensures rares { self.new.rares ≡ self.old.rares }
+        ensures text { OnOk result (self.new.text ≡ (self.old.text ++ field_text default_writer (id_at b.now row.now.at.b)) ++ pair_end self.old.rares row.now) }
+        ensures last { OnOk result (self.new.last ≡ Some row.now.at) }
+    {
+        push_field(&mut self.text, b.id(row.at.b))?;
         self.ends.push_end(&mut self.text, row)?;
         self.last = Some(row.at);
         Ok(())
