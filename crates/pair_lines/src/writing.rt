@@ -15,7 +15,7 @@ use comparators::IdTable;
 use decision_rule::BorderWords;
 use link_base::{NoMemory, PairAt, Sides, StdFile};
 use link_limits::{MOST_PAIRS, MOST_ROWS};
-use link_report::PairsWriter;
+use link_report::{LineFront, PairsWriter};
 use pair_decisions::PairRule;
 use pair_walk::{RowPairs, WalkFault, Walker};
 use review_journal::Journal;
@@ -24,6 +24,7 @@ use std::alloc::Global;
 // Writes the pairs of a row of A.
 fn write_row(
     writer: &mut PairsWriter,
+    front: &mut LineFront,
     words: &mut BorderWords,
     rule: &PairRule,
     journal: &Journal,
@@ -49,10 +50,14 @@ fn write_row(
     ensures text { OnOk result (writer.new.text ≡ writer.old.text ++ flat_map (pair_row writer.old.rares a.now b.now) (pair_rows_of (side_rule rule.now) sides_a.now.rows sides_b.now.rows journal.now (map (pair row.now.a) row.now.bs.items))) }
     ensures last { OnOk result (writer.new.last ≡ last_after writer.old.last (map (pair row.now.a) row.now.bs.items)) }
 {
+    if row.bs.is_empty() {
+        return Ok(());
+    }
+    front.set(a.id(row.a))?;
     for at_b in &row.bs {
         let at = PairAt { a: row.a, b: *at_b };
         let line = row_at(rule, words, journal, sides_a, sides_b, at);
-        writer.push(&line, a, b)?;
+        writer.push_behind(front, &line, b)?;
     }
     Ok(())
 }
@@ -84,6 +89,7 @@ pub(crate) fn write_rows(
     ensures { IfOk result (λ written. written.text ≡ writer.text ++ flat_map (pair_row writer.rares a.now b.now) (pair_rows_of (side_rule rule.now) sides_a.now.rows sides_b.now.rows journal.now (pairs_of_rows walker.left))) }
 {
     let mut words = BorderWords::new(rule.seed());
+    let mut front = LineFront::new(alloc);
     'rows: loop {
         match walker.next_row(alloc) {
             Err(WalkFault::NoMemory) => return Err(NoMemory),
@@ -91,6 +97,7 @@ pub(crate) fn write_rows(
             Ok(None) => return Ok(writer),
             Ok(Some(row)) => match write_row(
                 &mut writer,
+                &mut front,
                 &mut words,
                 rule,
                 journal,
