@@ -3,8 +3,11 @@ use Rattle.std.proofs.Common.{◌≡◌, ◌∙◌, ◌++◌, ◌∷◌, ℕ, Bo
 use Rattle.std.specs.Fmt.{signed_decimal}
 use Rattle.csv.specs.Writing.{default_writer, field_text, fields_text, is_blank}
 use Rattle.link_base.specs.Standard.{id_at, Record}
+use Rattle.link_base.specs.declared.rule.Candidate.{Candidate}
 use Rattle.link_base.specs.declared.rule.PairAt.{PairAt}
 use Rattle.link_report.specs.LineParts.{pair_end}
+use Rattle.link_report.specs.LinkEnds.{end_of_link}
+use Rattle.link_report.specs.LinksText.{link_row, source_of_link}
 use Rattle.link_report.specs.Lines.{front_of, ids_line}
 use Rattle.link_report.specs.PairsText.{decision_word, pair_row, verdict_word}
 use Rattle.link_report.specs.RuleText.{outcome_letters}
@@ -35,3 +38,13 @@ unfolding fields_text is_blank
 ids_written a b at front id start new of_a of_b line =
     line ∙ (λ i. ((start ++ of_a i) ++ field_text default_writer (of_b i)) ++ 10 ∷ [])
     ∙ parts start (field_text default_writer (id_at a at.a)) (field_text default_writer (id_at b at.b)) []
+
+-- a front, the id in B and the end are the line of a link
+pub link_written : (a b : List Record) (link : Candidate) (id_a id_b start mid after new : List ℕ) → id_a ≡ id_at a link.a → id_b ≡ id_at b link.b
+    → mid ≡ start ++ front_of id_a → after ≡ mid ++ field_text default_writer id_b → new ≡ after ++ end_of_link link
+    → new ≡ start ++ link_row a b link
+unfolding fields_text is_blank
+link_written a b link id_a id_b start mid after new of_a of_b front id end =
+    let rest = fields_text default_writer (signed_decimal link.weight ∷ signed_decimal link.value ∷ source_of_link link.reviewed ∷ []) in
+    end ∙ ap (λ t. t ++ end_of_link link) (id ∙ (λ i. front i ++ field_text default_writer (of_b i)) ∙ (λ i. (start ++ front_of (of_a i)) ++ field_text default_writer (id_at b link.b)))
+    ∙ parts start (field_text default_writer (id_at a link.a)) (field_text default_writer (id_at b link.b)) rest

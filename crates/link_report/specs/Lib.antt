@@ -2,6 +2,7 @@ pub mod FirstLines
 pub mod FrontierText
 pub mod LineParts
 pub mod Lines
+pub mod LinkEnds
 pub mod LinksText
 pub mod OpenText
 pub mod PricesText

@@ -1,12 +1,18 @@
 // The final links.
-ghost use Rattle.std.specs.Prelude.{◌≡◌, ◌<◌, ◌++◌, All, IfOk, OnOk, length};
+ghost use Rattle.std.specs.Prelude.{◌≡◌, ◌<◌, ◌++◌, All, IfOk, IsTrue, OnOk, length, slice_index_or};
 ghost use Rattle.link_base.specs.declared.rule.Candidate.{Candidate as Link};
+ghost use Rattle.link_report.specs.LinkEnds.{IsLinkEnd, end_of_link};
+ghost use Rattle.link_report.specs.declared.links.LinkEnd.{LinkEnd as End};
 ghost use Rattle.link_report.specs.LinksText.{link_row, source_of_link, text_of_links};
 
-use csv_rows::push_row;
+use crate::front::push_front;
+use csv_rows::{push_field, push_row};
 use itoa::Buffer;
 use link_base::{Candidate, NoMemory, StdFile, Text};
 use std::alloc::Global;
+
+// How many ends of lines are kept.
+const KEPT_ENDS: usize = 64;
 
 /// What a link goes by: `review` where clerical review made it a link, and else `rule`.
 pub fn source_of(link: &Candidate) -> &[u8]
@@ -15,24 +21,99 @@ pub fn source_of(link: &Candidate) -> &[u8]
     if link.reviewed { b"review" } else { b"rule" }
 }
 
-// Appends the row of a link.
-fn push_link(text: &mut Vec<u8>, link: Candidate, a: &StdFile, b: &StdFile) -> Result<(), NoMemory>
-    requires in_a { link.a < length a.now }
-    requires in_b { link.b < length b.now }
-    ensures { OnOk result (text.new.items ≡ text.old.items ++ link_row a.now b.now link) }
+// The end of the line of a link, as it was written for that link.
+#[derive(Drop)]
+pub(crate) struct LinkEnd {
+    of: Candidate,
+    text: Vec<u8>,
+}
+
+// The end of the line of a link.
+fn link_end(alloc: Global, link: Candidate) -> Result<LinkEnd, NoMemory>
+    ensures of { IfOk result (λ end. end.of ≡ link) }
+    ensures text { IfOk result (λ end. end.text.items ≡ end_of_link link) }
 {
     let mut weight = Buffer::new();
     let mut value = Buffer::new();
+    let mut text = Vec::new(alloc);
     push_row(
-        text,
+        &mut text,
         &[
-            a.id(link.a),
-            b.id(link.b),
+            b"",
             weight.format(link.weight).as_bytes(),
             value.format(link.value).as_bytes(),
             source_of(&link),
         ],
-    )
+    )?;
+    Ok(LinkEnd { of: link, text })
+}
+
+// Ends to be renewed.
+fn some_ends(alloc: Global) -> Result<Vec<LinkEnd>, NoMemory>
+    ensures count { IfOk result (λ ends. length ends.items ≡ KEPT_ENDS) }
+    ensures right { IfOk result (λ ends. All IsLinkEnd ends.items) }
+{
+    let link = Candidate {
+        a: 0,
+        b: 0,
+        weight: 0,
+        value: 0,
+        reviewed: false,
+    };
+    let mut ends = Vec::new(alloc);
+    for _place in 0..KEPT_ENDS {
+        let end = link_end(alloc, link)?;
+        ends.push(end)?;
+    }
+    Ok(ends)
+}
+
+// Whether the lines of two links have the same end.
+fn same_end(x: Candidate, y: Candidate) -> bool
+    ensures { IsTrue result → end_of_link x ≡ end_of_link y }
+{
+    x.weight == y.weight && x.value == y.value && x.reviewed == y.reviewed
+}
+
+// Makes the end at a place that of a link.
+fn renew(ends: &mut Vec<LinkEnd>, alloc: Global, at: usize, link: Candidate) -> Result<(), NoMemory>
+    requires within { at < length ends.old.items }
+    requires right { All IsLinkEnd ends.old.items }
+    ensures count { length ends.new.items ≡ length ends.old.items }
+    ensures right { All IsLinkEnd ends.new.items }
+    ensures end { OnOk result ((d : End) → (slice_index_or ends.new.items at d).text.items ≡ end_of_link link) }
+{
+    if same_end(ends[at].of, link) {
+        return Ok(());
+    }
+    let end = link_end(alloc, link)?;
+    ends[at] = end;
+    Ok(())
+}
+
+// Appends the row of a link. Its end is kept at a place that its weight chooses.
+fn push_link(
+    text: &mut Vec<u8>,
+    ends: &mut Vec<LinkEnd>,
+    alloc: Global,
+    link: Candidate,
+    a: &StdFile,
+    b: &StdFile,
+) -> Result<(), NoMemory>
+    requires in_a { link.a < length a.now }
+    requires in_b { link.b < length b.now }
+    requires count { length ends.old.items ≡ KEPT_ENDS }
+    requires right { All IsLinkEnd ends.old.items }
+    ensures count { length ends.new.items ≡ KEPT_ENDS }
+    ensures right { All IsLinkEnd ends.new.items }
+    ensures text { OnOk result (text.new.items ≡ text.old.items ++ link_row a.now b.now link) }
+{
+    let at = link.weight.unsigned_abs() as usize % KEPT_ENDS;
+    renew(ends, alloc, at, link)?;
+    push_front(text, a.id(link.a))?;
+    push_field(text, b.id(link.b))?;
+    text.extend_from_slice(&ends[at].text)?;
+    Ok(())
 }
 
 /// The text of the final links: the header `id_a,id_b,weight,value,by`, and a row for each link in order, by `review` where
@@ -50,8 +131,9 @@ pub fn links_text(
 {
     let mut text = Vec::new(alloc);
     text.extend_from_slice(b"id_a,id_b,weight,value,by\n")?;
+    let mut ends = some_ends(alloc)?;
     for link in links {
-        push_link(&mut text, *link, a, b)?;
+        push_link(&mut text, &mut ends, alloc, *link, a, b)?;
     }
     Ok(Text::of(text))
 }

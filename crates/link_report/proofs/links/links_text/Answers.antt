@@ -6,10 +6,13 @@ use Rattle.link_report.proofs.RowLemmas.{rows_more}
 use Rattle.link_report.proofs.links.links_text.Goals as goal
 
 pub loop-link-preserved : goal.loop-link-preserved
-loop-link-preserved c =
-    rows_more (link_row c.args.a.now c.args.b.now) (row_text default_writer links_header) c.loop-link.text.items c.push_link.new.text.items c.args.links.now c.loop-link.link-index _ (omega arith) c.loop-link.invariant c.in_ok-push_link.ensures
+loop-link-preserved c = record {
+  text = rows_more (link_row c.args.a.now c.args.b.now) (row_text default_writer links_header) c.loop-link.text.items c.push_link.new.text.items c.args.links.now c.loop-link.link-index _ (omega arith) c.loop-link.invariant.text c.in_ok-push_link.ensures.text;
+  count = c.push_link.ensures.count;
+  right = c.push_link.ensures.right;
+}
 
 pub returns : goal.returns
 returns c =
     let all : take c.loop-link.link-index c.args.links.now ≡ c.args.links.now = take_all c.loop-link.link-index c.args.links.now c.loop-link-test.false in
-    c.of.ensures ∙ c.loop-link.invariant ∙ ap (text_of_links c.args.a.now c.args.b.now) all
+    c.of.ensures ∙ c.loop-link.invariant.text ∙ ap (text_of_links c.args.a.now c.args.b.now) all
