@@ -19,9 +19,9 @@ fn push_pair(text: &mut Vec<u8>, pair: PairAt) -> Result<(), NoMemory>
     ensures { OnOk result (text.new.items ≡ text.old.items ++ pair_line pair) }
 {
     push_row(text, u64::from(pair.a) + 1)?;
-    text.extend_from_slice(b",")?;
+    text.push(b',')?;
     push_row(text, u64::from(pair.b) + 1)?;
-    text.extend_from_slice(b"\n")?;
+    text.push(b'\n')?;
     Ok(())
 }
 
