@@ -5,6 +5,7 @@ pub mod PairLemmas
 pub mod ColumnLemmas
 pub mod NumberLemmas
 pub mod RuleLemmas
+pub mod DecisionLemmas
 pub mod ResultLemmas
 pub mod ReviewLemmas
 pub mod DuplicateLemmas

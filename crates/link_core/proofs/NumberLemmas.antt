@@ -2,10 +2,8 @@
 use Rattle.std.proofs.Common.{◌≡◌, ◌≢◌, ◌<◌, ◌+◌, ◌^◌, ◌∷◌, ◌++◌, ◌∙◌, ℕ, zero, suc, List, [], length, map, get_or, drop, decimal, refl, sym, ap, arith, append_assoc, length-append}
 use Rattle.std.specs.List.{All}
 use Rattle.std.proofs.lemmas.Fmt.{decimal_injective}
-use Rattle.std.proofs.lemmas.List.{get_or-map, get_or_append_left, length-map}
-use Rattle.std.proofs.Math.Seq.{drop-cons}
+use Rattle.std.proofs.lemmas.List.{drop_more, get_or-map, get_or_append_left, length-map}
 use Rattle.link_base.specs.Standard.{Record}
-use Rattle.link_base.specs.declared.standard.Value.{Value}
 use Rattle.file_reader.specs.Rows.{no_row, TableRow}
 use Rattle.link_core.specs.ColumnPairs.{first_field}
 use Rattle.link_core.specs.ColumnRecords.{numbered_records, value_of}
@@ -33,17 +31,16 @@ fresh file rest cells at id told count small is k d lt same =
     omega (arith, equal, count)
 
 -- one record more
-pub told_push : (file new : List Record) (rows : List TableRow) (at : ℕ) (id cell : List ℕ) (row : List Value)
-    → file ++ numbered_records at (drop at (map first_field rows)) ≡ numbered_records 0 (map first_field rows) → at < length rows → id ≡ decimal (at + 1) → cell ≡ first_field (get_or rows at no_row) → row ≡ value_of cell ∷ []
-    → new ≡ file ++ record { id = id; row = row } ∷ [] → new ++ numbered_records (at + 1) (drop (at + 1) (map first_field rows)) ≡ numbered_records 0 (map first_field rows)
-told_push file new rows at id cell row told lt ei ec er en =
+pub told_push : (file new : List Record) (rows : List TableRow) (at : ℕ) → at < length rows
+    → file ++ numbered_records at (drop at (map first_field rows)) ≡ numbered_records 0 (map first_field rows)
+    → new ≡ file ++ record { id = decimal (at + 1); row = value_of (first_field (get_or rows at no_row)) ∷ [] } ∷ []
+    → new ++ numbered_records (at + 1) (drop (at + 1) (map first_field rows)) ≡ numbered_records 0 (map first_field rows)
+told_push file new rows at lt told is =
     let cells : Cells = map first_field rows in
     let within : at < length cells = rw (length-map rows first_field) lt in
-    let rest : List Record = numbered_records (at + 1) (drop (suc at) cells) in
-    let here : drop at cells ≡ cell ∷ drop (suc at) cells =
-    drop-cons cells at [] within ∙ ap (λ (c : List ℕ). c ∷ drop (suc at) cells) (get_or-map first_field rows at no_row [] lt ∙ sym ec) in
-    let first : numbered_records at (drop at cells) ≡ record { id = id; row = row } ∷ rest =
-    ap (numbered_records at) here ∙ ap (λ (i : List ℕ). record { id = i; row = value_of cell ∷ [] } ∷ rest) (sym ei) ∙ ap (λ (r : List Value). record { id = id; row = r } ∷ rest) (sym er) in
-    let one : at + 1 ≡ suc at = omega arith in
-    let next : numbered_records (at + 1) (drop (at + 1) cells) ≡ rest = ap (λ n. numbered_records (at + 1) (drop n cells)) one in
-    rw (en, next) (append_assoc file (record { id = id; row = row } ∷ []) rest ∙ ap (λ (rs : List Record). file ++ rs) (sym first) ∙ told)
+    let cell = first_field (get_or rows at no_row) in
+    let rest : List Record = numbered_records (at + 1) (drop (at + 1) cells) in
+    let here : drop at cells ≡ cell ∷ drop (at + 1) cells =
+    drop_more cells at [] within ∙ ap (λ (c : List ℕ). c ∷ drop (at + 1) cells) (get_or-map first_field rows at no_row [] lt) in
+    let first : numbered_records at (drop at cells) ≡ record { id = decimal (at + 1); row = value_of cell ∷ [] } ∷ rest = ap (numbered_records at) here in
+    rw is (append_assoc file (record { id = decimal (at + 1); row = value_of cell ∷ [] } ∷ []) rest ∙ ap (λ (rs : List Record). file ++ rs) (sym first) ∙ told)

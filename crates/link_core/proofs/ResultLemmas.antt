@@ -1,5 +1,5 @@
 -- What the steps of a run give, over the prepared files of a plan.
-use Rattle.std.proofs.Common.{◌≡◌, List, length, Result, Ok, Err, subst, filter}
+use Rattle.std.proofs.Common.{◌≡◌, ℕ, List, length, Result, Ok, Err, subst, sym, filter}
 use Rattle.std.specs.Prelude.{All, Contains, IfOk, not}
 use Rattle.std.proofs.lemmas.List.Elements.{All-contains, All-filter, All-map, All-weaker}
 use Rattle.candidate_links.specs.Candidates.{AreCandidates, candidates_of}
@@ -36,6 +36,11 @@ module _ (plan : Plan) (p : PreparedView) (d : DecidedView) (entries : List Entr
       let found = over (compared_in plan p) of_plan.decisions in
       let found_b = subst (λ n. AreCandidates (length p.values.a.rows) n Wanted cs) inside.rows_b found in
       subst (λ n. AreCandidates n (length p.files.b.records) Wanted cs) inside.rows_a found_b
+
+-- candidates as they are handed over, with the numbers of rows that are asked for
+pub handed : (rows_a rows_b n m : ℕ) (wanted cs given : List Candidate) → n ≡ rows_a → m ≡ rows_b → given ≡ cs → AreCandidates rows_a rows_b wanted cs → AreCandidates n m wanted given
+handed rows_a rows_b n m wanted cs given of_a of_b is found =
+    subst (λ x. AreCandidates x m wanted given) (sym of_a) (subst (λ x. AreCandidates rows_a x wanted given) (sym of_b) (subst (λ (xs : List Candidate). AreCandidates rows_a rows_b wanted xs) (sym is) found))
 
 -- links and dropped candidates stand in the files, by what holds of each candidate
 pub of_links : (P : Candidate → Type 0) (candidates links : List Candidate) → All P candidates → All (Contains candidates) links → All P links

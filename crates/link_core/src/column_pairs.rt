@@ -1,8 +1,9 @@
 // The pairs of rows with the same field in one column.
-ghost use Rattle.std.specs.Prelude.{◌≡◌, ◌≤◌, ◌∷◌, [], All, decimal, IfErr, IfOk, length, map};
+ghost use Rattle.std.specs.Prelude.{◌≡◌, ◌<◌, ◌≤◌, ◌+◌, ◌++◌, ◌∷◌, [], All, decimal, IfErr, IfOk, length, map, OnOk, slice_index_or};
 ghost use Rattle.link_base.specs.Fault.{IsAnswer, IsInputFault};
+ghost use Rattle.link_base.specs.Standard.{IsFreshId};
 ghost use Rattle.file_reader.specs.Layout.{wanted_of};
-ghost use Rattle.file_reader.specs.Rows.{TableRow};
+ghost use Rattle.file_reader.specs.Rows.{no_row, TableRow};
 ghost use Rattle.file_reader.specs.Table.{HasWidth, table_of};
 ghost use Rattle.csv_records.specs.Left.{records_in};
 ghost use Rattle.link_core.specs.ColumnPairs.{first_field, pairs_of_fields, pairs_of_files, rows_of_pairs, wanted_column};
@@ -82,6 +83,19 @@ fn row_id(alloc: Global, row: u64) -> Result<Text, NoMemory>
     Text::new(alloc, digits.format(row).as_bytes())
 }
 
+// Appends a row of a column as a standard record, with its number as its id.
+fn push_numbered(alloc: Global, file: &mut StdFile, table: &Table, at: u32) -> Result<(), NoMemory>
+    requires few { length table.now ≤ MOST_ROWS }
+    requires width { All (λ (r : TableRow). length r.fields ≡ 1) table.now }
+    requires row { at < length table.now }
+    requires count { length file.old ≡ at }
+    requires fresh { IsFreshId (decimal (at + 1)) file.old }
+    ensures { OnOk result (file.new ≡ file.old ++ record { id = decimal (at + 1); row = value_of (first_field (slice_index_or table.now at no_row)) ∷ [] } ∷ []) }
+{
+    let id = row_id(alloc, u64::from(at) + 1)?;
+    file.push(id, row_of(alloc, table.field(at, 0))?)
+}
+
 // The rows of a column as standard records, each with its number as its id.
 fn numbered_file(alloc: Global, table: &Table) -> Result<StdFile, NoMemory>
     requires few { length table.now ≤ MOST_ROWS }
@@ -90,8 +104,7 @@ fn numbered_file(alloc: Global, table: &Table) -> Result<StdFile, NoMemory>
 {
     let mut file = StdFile::new(alloc)?;
     for at in 0..table.rows() {
-        let id = row_id(alloc, u64::from(at) + 1)?;
-        file.push(id, row_of(alloc, table.field(at, 0))?)?;
+        push_numbered(alloc, &mut file, table, at)?;
     }
     Ok(file)
 }

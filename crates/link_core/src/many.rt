@@ -1,17 +1,19 @@
 // Links within capacities.
-ghost use Rattle.std.specs.Prelude.{IfErr, IfOk};
+ghost use Rattle.std.specs.Prelude.{◌≡◌, ◌<◌, ◌++◌, All, IfErr, IfOk, length};
 ghost use Rattle.link_base.specs.Fault.{IsAnswer, IsInputFault};
+ghost use Rattle.link_base.specs.declared.rule.Candidate.{Candidate as Link};
 ghost use Rattle.link_core.specs.Decisions.{IsDecidedIn};
 ghost use Rattle.link_core.specs.Many.{AreCapacitiesOf, capacities_in_file, IsManyText};
 ghost use Rattle.link_core.specs.Results.{IsDecidedFor};
+ghost use Rattle.link_report.specs.LinksText.{text_of_links};
+ghost use Rattle.link_report.specs.PricesText.{text_of_prices};
 ghost use Rattle.pair_decisions.specs.PairRule.{side_rule};
 ghost use Rattle.settings.specs.Ranges.{KeepsRanges};
 
 use crate::preparing::Prepared;
-use crate::results::candidates;
-use capacity_links::{Capacities, choose_within, read_capacities};
+use crate::results::{candidates, link_texts};
+use capacity_links::{Capacities, LinksWithin, choose_within, read_capacities};
 use link_base::{Fault, NoMemory, Text};
-use link_report::{links_text, prices_text};
 use pair_decisions::Decided;
 use review_journal::Journal;
 use settings::Plan;
@@ -30,6 +32,26 @@ pub fn capacities_in_file(
     read_capacities(alloc, bytes, prepared.b())
 }
 
+// The text of links, and after it that of their prices.
+fn many_text(alloc: Global, prepared: &Prepared, chosen: &LinksWithin) -> Result<Text, NoMemory>
+    requires in_a { All (λ (l : Link). l.a < length prepared.now.files.a.records) chosen.now.links.items }
+    requires in_b { All (λ (l : Link). l.b < length prepared.now.files.b.records) chosen.now.links.items }
+    requires priced_a { length chosen.now.prices_a.items ≡ length prepared.now.files.a.records }
+    requires priced_b { length chosen.now.prices_b.items ≡ length prepared.now.files.b.records }
+    ensures { IfOk result (λ text. text ≡ text_of_links prepared.now.files.a.records prepared.now.files.b.records chosen.now.links.items ++ text_of_prices chosen.now.prices_a.items chosen.now.prices_b.items prepared.now.files.a.records prepared.now.files.b.records) }
+{
+    let (links, prices) = link_texts(
+        alloc,
+        prepared,
+        &chosen.links,
+        &chosen.prices_a,
+        &chosen.prices_b,
+    )?;
+    let mut text = links.into_bytes();
+    text.extend_from_slice(prices.bytes())?;
+    Ok(Text::of(text))
+}
+
 /// The text of a greatest list of the candidates in which a record of B stands at most as often as its capacity, and after it that of
 /// prices that certify it, each with its header.
 pub fn many_lines(
@@ -46,13 +68,15 @@ pub fn many_lines(
     requires capacities { AreCapacitiesOf prepared.now capacities.now }
     ensures { IfOk result (λ text. IsManyText plan.now prepared.now (side_rule decided.now.rule) journal.now capacities.now text) }
 {
-    let a = prepared.a();
-    let b = prepared.b();
     let found = candidates(alloc, plan, prepared, decided, journal)?;
-    let chosen = choose_within(alloc, a.rows(), b.rows(), capacities.each(), &found)?;
-    let links = links_text(alloc, &chosen.links, a, b)?;
-    let prices = prices_text(alloc, &chosen.prices_a, &chosen.prices_b, a, b)?;
-    let mut text = links.into_bytes();
-    text.extend_from_slice(prices.bytes())?;
-    Ok(Text::of(text))
+    let chosen = choose_within(
+        alloc,
+        prepared.a().rows(),
+        prepared.b().rows(),
+        capacities.each(),
+        &found,
+    );
+    drop(found);
+    let chosen = chosen?;
+    many_text(alloc, prepared, &chosen)
 }

@@ -186,6 +186,9 @@ pub fn prepare(
         pool_limit,
     ) {
         Ok(values) => Ok(Prepared { files, values }),
-        Err(fault) => Err(fault),
+        Err(fault) => {
+            drop(files);
+            Err(fault)
+        }
     }
 }

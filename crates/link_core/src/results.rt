@@ -10,7 +10,9 @@ ghost use Rattle.link_core.specs.Results.{AreLevelsOf, AreRunTexts, candidates_i
 ghost use Rattle.link_core.specs.Review.{open_pairs};
 ghost use Rattle.link_core.specs.Rules.{IsPreparedFor};
 ghost use Rattle.link_base.specs.declared.rule.Candidate.{Candidate as Link};
+ghost use Rattle.link_report.specs.LinksText.{text_of_links};
 ghost use Rattle.link_report.specs.PairsText.{text_of_pairs};
+ghost use Rattle.link_report.specs.PricesText.{text_of_prices};
 ghost use Rattle.link_report.specs.RuleText.{text_of_rule};
 ghost use Rattle.link_report.specs.declared.report.Dropped.{Dropped as Row};
 ghost use Rattle.pair_decisions.specs.PairRule.{side_rule};
@@ -190,8 +192,30 @@ fn report_of(
     }
 }
 
-/// The five texts of a run over prepared files: the compared pairs in a second walk, each line written as it comes; the rule; a
-/// greatest one-to-one list of the candidates; prices that certify it; and the report.
+// The text of links and that of their prices.
+pub(crate) fn link_texts(
+    alloc: Global,
+    prepared: &Prepared,
+    links: &[Candidate],
+    prices_a: &[i64],
+    prices_b: &[i64],
+) -> Result<(Text, Text), NoMemory>
+    requires in_a { All (λ (l : Link). l.a < length prepared.now.files.a.records) links.now }
+    requires in_b { All (λ (l : Link). l.b < length prepared.now.files.b.records) links.now }
+    requires priced_a { length prices_a.now ≡ length prepared.now.files.a.records }
+    requires priced_b { length prices_b.now ≡ length prepared.now.files.b.records }
+    ensures links { IfOk result (λ texts. texts.0 ≡ text_of_links prepared.now.files.a.records prepared.now.files.b.records links.now) }
+    ensures prices { IfOk result (λ texts. texts.1 ≡ text_of_prices prices_a.now prices_b.now prepared.now.files.a.records prepared.now.files.b.records) }
+{
+    let a = prepared.a();
+    let b = prepared.b();
+    let of_links = links_text(alloc, links, a, b)?;
+    let of_prices = prices_text(alloc, prices_a, prices_b, a, b)?;
+    Ok((of_links, of_prices))
+}
+
+/// The five texts of a run over prepared files: a greatest one-to-one list of the candidates; prices that certify it; the report; the
+/// compared pairs in a second walk, each line written as it comes; and the rule.
 pub fn finish(
     alloc: Global,
     plan: &Plan,
@@ -205,15 +229,20 @@ pub fn finish(
     requires of_plan { IsDecidedFor plan.now prepared.now decided.now }
     ensures { IfOk result (λ r. AreRunTexts plan.now prepared.now (side_rule decided.now.rule) journal.now (texts_of r)) }
 {
-    let a = prepared.a();
-    let b = prepared.b();
     let chosen = links_of(alloc, plan, prepared, decided, journal)?;
+    let (links, prices) = link_texts(
+        alloc,
+        prepared,
+        &chosen.links,
+        &chosen.prices_a,
+        &chosen.prices_b,
+    )?;
+    let made = report_of(plan, prepared, decided, journal, chosen);
+    let report = report_text(alloc, &made, prepared.a(), prepared.b());
+    drop(made);
+    let report = report?;
     let pairs = pairs_of(alloc, plan, prepared, decided, journal)?;
     let rule = rule_of(alloc, plan, prepared, decided)?;
-    let links = links_text(alloc, &chosen.links, a, b)?;
-    let prices = prices_text(alloc, &chosen.prices_a, &chosen.prices_b, a, b)?;
-    let made = report_of(plan, prepared, decided, journal, chosen);
-    let report = report_text(alloc, &made, a, b)?;
     Ok(RunResult {
         pairs,
         rule,

@@ -128,7 +128,7 @@ pub fn verify_files(
     let found = candidates(alloc, plan, prepared, decided, journal)?;
     let shape = plan.shape();
     let table = decided.rule().table();
-    match verify_written(
+    let verified = verify_written(
         alloc,
         written,
         table,
@@ -136,11 +136,14 @@ pub fn verify_files(
         &found,
         prepared.a(),
         prepared.b(),
-    ) {
-        Ok(_) => Ok(Verification {
-            proved: true,
-            line: Text::new(alloc, b"yes\n")?,
-        }),
+    );
+    drop(found);
+    match verified {
+        Ok(links) => {
+            drop(links);
+            let line = Text::new(alloc, b"yes\n")?;
+            Ok(Verification { proved: true, line })
+        }
         Err(Refutation::NoMemory) => Err(NoMemory),
         Err(refutation) => Ok(Verification {
             proved: false,

@@ -1,20 +1,23 @@
-use Rattle.std.proofs.Common.{◌≡◌, ◌<◌, ◌++◌, ◌∷◌, ◌+◌, ◌∙◌, [], ap, arith, decimal, drop, length, length-append, map, rules}
+use Rattle.std.proofs.Common.{◌∷◌, ◌+◌, ◌∙◌, [], ap, arith, decimal, drop, get_or, length, length-append, map, refl}
+use Rattle.file_reader.specs.Rows.{no_row}
+use Rattle.link_base.specs.Standard.{Record}
 use Rattle.link_core.specs.ColumnPairs.{first_field}
-use Rattle.link_core.specs.ColumnRecords.{numbered_records}
+use Rattle.link_core.specs.ColumnRecords.{numbered_records, value_of}
 use Rattle.link_core.proofs.NumberLemmas.{fresh, told_push}
 use Rattle.link_core.proofs.column_pairs.numbered_file.Goals as goal
 
-pub push-requires-clause-fresh : goal.push-requires-clause-fresh
-push-requires-clause-fresh c =
-    let id : c.in_ok-id.id ≡ decimal (c.loop-at.at + 1) = search rules in
-    fresh c.loop-at.file (numbered_records c.loop-at.at (drop c.loop-at.at (map first_field c.args.table.now))) (map first_field c.args.table.now) c.loop-at.at c.in_ok-id.id c.loop-at.invariant.told c.loop-at.invariant.count (omega arith) id
+pub push_numbered-requires-clause-fresh : goal.push_numbered-requires-clause-fresh
+push_numbered-requires-clause-fresh c =
+    let cells = map first_field c.args.table.now in
+    fresh c.loop-at.file (numbered_records c.loop-at.at (drop c.loop-at.at cells)) cells c.loop-at.at (decimal (c.loop-at.at + 1)) c.loop-at.invariant.told c.loop-at.invariant.count (omega arith) refl
 
 pub loop-at-preserved : goal.loop-at-preserved
 loop-at-preserved c =
-    let id : c.in_ok-id.id ≡ decimal (c.loop-at.at + 1) = search rules in
-    let new : c.push.new.self ≡ c.loop-at.file ++ record { id = c.in_ok-id.id; row = c.in_ok-row_of.field-0 } ∷ [] = search rules in
-    let lt : c.loop-at.at < length c.args.table.now = omega arith in
+    let rows = c.args.table.now in
+    let at = c.loop-at.at in
+    let record_at : Record = record { id = decimal (at + 1); row = value_of (first_field (get_or rows at no_row)) ∷ [] } in
+    let new = c.in_ok-push_numbered.ensures in
     record {
-      count = ap length new ∙ length-append c.loop-at.file (record { id = c.in_ok-id.id; row = c.in_ok-row_of.field-0 } ∷ []) ∙ omega (arith, c.loop-at.invariant.count);
-      told = told_push c.loop-at.file c.push.new.self c.args.table.now c.loop-at.at c.in_ok-id.id c.field.result.now c.in_ok-row_of.field-0 c.loop-at.invariant.told lt id c.field.ensures c.in_ok-row_of.ensures new;
+      count = ap length new ∙ length-append c.loop-at.file (record_at ∷ []) ∙ ap (λ n. n + 1) c.loop-at.invariant.count;
+      told = told_push c.loop-at.file c.push_numbered.new.file rows at (omega arith) c.loop-at.invariant.told new;
     }

@@ -1,42 +1,76 @@
-use Rattle.std.proofs.Common.{◌≡◌, ◌∙◌, ap, List, subst, sym, length}
+use Rattle.std.proofs.Common.{◌≡◌, ◌≤◌, ◌∙◌, ℕ, ap, List, subst, sym, length}
+use Rattle.std.specs.Prelude.{All}
 use Rattle.comparators.specs.declared.ids.IdValue.{IdValue}
+use Rattle.link_limits.specs.declared.TheConstants.{MOST_ROWS}
 use Rattle.pooled_values.specs.Ready.{AreFileSides}
 use Rattle.link_core.proofs.RuleLemmas.{rares_seen, sides_of_plan}
+use Rattle.link_core.specs.Decisions.{rule_over}
 use Rattle.link_core.specs.Prepared.{kinds_of}
 use Rattle.link_core.specs.Rules.{shared_rares}
-use Rattle.pair_decisions.specs.PairRule.{AreCellsOf, PairRuleView, side_rule, side_rule_of, SideRule}
+use Rattle.pair_decisions.specs.PairRule.{AreCellsOf, AreSidesFor, PairRuleView, side_rule, side_rule_of, SideRule}
 use Rattle.pattern_shapes.specs.Shapes.{pattern_count_by}
 use Rattle.plan_rule.specs.Comparators.{rares_of}
+use Rattle.plan_rule.specs.PlanRule.{IsRuleOf}
 use Rattle.plan_rule.specs.PlanShares.{plain_all}
+use Rattle.plan_rule.specs.TheRule.{the_rule}
+use Rattle.settings.specs.Plan.{PlainShares}
 use Rattle.link_core.proofs.ResultLemmas.{if_ok}
 use Rattle.link_core.proofs.decisions.rule_for.Goals as goal
 
-pub rule_of_shares-requires-clause-rares : goal.rule_of_shares-requires-clause-rares
-rule_of_shares-requires-clause-rares c = sym (rares_seen c.fields.result.now) ∙ ap shared_rares c.fields.ensures.shares ∙ c.requires.rares
+pub rule_of_shares-requires : goal.rule_of_shares-requires
+rule_of_shares-requires c = record {
+  ranges = c.requires.ranges;
+  some = c.fields.ensures.some;
+  few = c.fields.ensures.few;
+  rares = sym (rares_seen c.fields.result.now) ∙ ap shared_rares c.fields.ensures.shares ∙ c.requires.rares;
+}
 
-pub new-requires-clause-sides_a : goal.new-requires-clause-sides_a
-new-requires-clause-sides_a c =
+pub new-requires : goal.new-requires
+new-requires c =
     let p = c.args.prepared.now in
-    let Q : List (List IdValue) → Type 0 = λ rows. AreFileSides p.values.texts (kinds_of c.args.plan.now) p.files.a.records rows in
-    let sides : Q c.sides.result.now.rows = subst Q (sym (ap (λ t. t.rows) c.sides.ensures)) c.requires.ready.sides_a in
-    sides_of_plan p.values.texts c.len.result c.args.plan.now.fields p.files.a.records c.sides.result.now.rows (c.len.ensures ∙ ap length c.pool.ensures.texts) sides
+    let ready = c.requires.ready in
+    let rows_a : c.sides.result.now.rows ≡ p.values.a.rows = ap (λ t. t.rows) c.sides.ensures in
+    let rows_b : c.sides-2.result.now.rows ≡ p.values.b.rows = ap (λ t. t.rows) c.sides-2.ensures in
+    let texts = c.len.ensures ∙ ap length c.pool.ensures.texts in
+    let Few : ℕ → Type 0 = λ n. n ≤ MOST_ROWS in
+    let many_a = ap (λ (rows : List (List IdValue)). length rows) rows_a ∙ ready.sides_a.as_many in
+    let many_b = ap (λ (rows : List (List IdValue)). length rows) rows_b ∙ ready.sides_b.as_many in
+    let A : List (List IdValue) → Type 0 = λ rows. AreFileSides p.values.texts (kinds_of c.args.plan.now) p.files.a.records rows in
+    let B : List (List IdValue) → Type 0 = λ rows. AreFileSides p.values.texts (kinds_of c.args.plan.now) p.files.b.records rows in
+    record {
+      ranges = c.requires.ranges;
+      few_a = subst Few (sym many_a) ready.of_a.few;
+      few_b = subst Few (sym many_b) ready.of_b.few;
+      sides_a = sides_of_plan p.values.texts c.len.result c.args.plan.now.fields p.files.a.records c.sides.result.now.rows texts (subst A (sym rows_a) ready.sides_a);
+      sides_b = sides_of_plan p.values.texts c.len.result c.args.plan.now.fields p.files.b.records c.sides-2.result.now.rows texts (subst B (sym rows_b) ready.sides_b);
+      cells =
+          c.rule_has_patterns.ensures c.args.plan.now (plain_all c.fields.result.now) c.in_ok-table.table.cells.items c.in_ok-table.ensures.rule
+          (ap shared_rares c.fields.ensures.shares ∙ c.requires.rares);
+    }
 
-pub new-requires-clause-sides_b : goal.new-requires-clause-sides_b
-new-requires-clause-sides_b c =
+pub returns : goal.returns
+returns c =
+    let plan = c.args.plan.now in
     let p = c.args.prepared.now in
-    let Q : List (List IdValue) → Type 0 = λ rows. AreFileSides p.values.texts (kinds_of c.args.plan.now) p.files.b.records rows in
-    let sides : Q c.sides-2.result.now.rows = subst Q (sym (ap (λ t. t.rows) c.sides-2.ensures)) c.requires.ready.sides_b in
-    sides_of_plan p.values.texts c.len.result c.args.plan.now.fields p.files.b.records c.sides-2.result.now.rows (c.len.ensures ∙ ap length c.pool.ensures.texts) sides
-
-pub new-requires-clause-cells : goal.new-requires-clause-cells
-new-requires-clause-cells c =
-    c.rule_has_patterns.ensures c.args.plan.now (plain_all c.fields.result.now) c.in_ok-table.table.cells.items c.in_ok-table.ensures.rule
-    (ap shared_rares c.fields.ensures.shares ∙ c.requires.rares)
-
-pub returns-clause-cells : goal.returns-clause-cells
-returns-clause-cells c =
-    let n = pattern_count_by (rares_of c.args.plan.now.fields) in
     let all = c.in_ok-table.table.cells.items in
-    let of_table : AreCellsOf n all = c.rule_has_patterns.ensures c.args.plan.now (plain_all c.fields.result.now) all c.in_ok-table.ensures.rule (ap shared_rares c.fields.ensures.shares ∙ c.requires.rares) in
-    if_ok (λ (rule : PairRuleView). side_rule rule ≡ side_rule_of c.args.plan.now c.len.result c.sides.result.now.rows c.sides-2.result.now.rows all) (λ (rule : PairRuleView). AreCellsOf n rule.cells) c.new.result
-    (λ rule is. subst (λ cs. AreCellsOf n cs) (sym (ap (λ (r : SideRule). r.cells) is)) of_table) c.new.ensures.rule
+    let n = pattern_count_by (rares_of plan.fields) in
+    let made = side_rule_of plan c.len.result c.sides.result.now.rows c.sides-2.result.now.rows all in
+    let rows_a : c.sides.result.now.rows ≡ p.values.a.rows = ap (λ t. t.rows) c.sides.ensures in
+    let rows_b : c.sides-2.result.now.rows ≡ p.values.b.rows = ap (λ t. t.rows) c.sides-2.ensures in
+    let texts : c.len.result ≡ length p.values.texts = c.len.ensures ∙ ap length c.pool.ensures.texts in
+    let Filled : List PlainShares → Type 0 = λ shares. IsRuleOf plan shares all in
+    let filled : IsRuleOf plan c.args.shares.now all = subst Filled c.fields.ensures.shares c.in_ok-table.ensures.rule in
+    let the : all ≡ the_rule plan.mu_ppm plan.lambda_ppm c.args.shares.now = c.is_the_rule.ensures plan c.args.shares.now all filled in
+    let whole : made ≡ rule_over plan p c.args.shares.now = λ i. side_rule_of plan (texts i) (rows_a i) (rows_b i) (the i) in
+    let of_table : AreCellsOf n all = c.rule_has_patterns.ensures plan (plain_all c.fields.result.now) all c.in_ok-table.ensures.rule (ap shared_rares c.fields.ensures.shares ∙ c.requires.rares) in
+    let Made : PairRuleView → Type 0 = λ rule. side_rule rule ≡ made in
+    record {
+      rule = if_ok Made (λ (rule : PairRuleView). side_rule rule ≡ rule_over plan p c.args.shares.now) c.new.result (λ rule is. is ∙ whole) c.new.ensures.rule;
+      filled = if_ok Made (λ (rule : PairRuleView). IsRuleOf plan c.args.shares.now rule.cells) c.new.result
+          (λ rule is. subst (λ (r : SideRule). IsRuleOf plan c.args.shares.now r.cells) (sym is) filled) c.new.ensures.rule;
+      cells = if_ok Made (λ (rule : PairRuleView). AreCellsOf n rule.cells) c.new.result (λ rule is. subst (λ (r : SideRule). AreCellsOf n r.cells) (sym is) of_table) c.new.ensures.rule;
+      sides_a = if_ok (λ (rule : PairRuleView). All (AreSidesFor rule) c.sides.result.now.rows) (λ (rule : PairRuleView). All (AreSidesFor rule) p.values.a.rows) c.new.result
+          (λ rule. subst (λ (rows : List (List IdValue)). All (AreSidesFor rule) rows) rows_a) c.new.ensures.sides_a;
+      sides_b = if_ok (λ (rule : PairRuleView). All (AreSidesFor rule) c.sides-2.result.now.rows) (λ (rule : PairRuleView). All (AreSidesFor rule) p.values.b.rows) c.new.result
+          (λ rule. subst (λ (rows : List (List IdValue)). All (AreSidesFor rule) rows) rows_b) c.new.ensures.sides_b;
+    }

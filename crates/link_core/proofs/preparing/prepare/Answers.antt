@@ -1,10 +1,11 @@
-use Rattle.std.proofs.Common.{◌≡◌, ◌∙◌, List, rules, subst}
+use Rattle.std.proofs.Common.{◌≡◌, ◌∙◌, List, ap, rules, subst}
 use Rattle.std.proofs.lemmas.List.{length-map}
 use Rattle.link_base.specs.Standard.{Record}
-use Rattle.pooled_values.specs.Ready.{AreFileSides}
+use Rattle.pooled_values.specs.Ready.{AreFileSides, HoldsParts}
 use Rattle.settings.specs.Plan.{FieldKeys}
+use Rattle.standard_files.specs.Files.{StandardPair}
 use Rattle.link_core.specs.Prepared.{kinds_of}
-use Rattle.link_core.proofs.PreparedLemmas.{refused_values}
+use Rattle.link_core.proofs.PreparedLemmas.{made_values, refused_values}
 use Rattle.link_core.proofs.ReadyLemmas.{plan_ready}
 use Rattle.link_core.proofs.preparing.prepare.Goals as goal
 
@@ -40,3 +41,16 @@ returns-in-Ok-pool_files-clause-sides_b c =
     let v = c.in-Ok-pool_files.values in
     let sides : List Record → Type 0 = λ file. AreFileSides v.texts (kinds_of c.args.plan.now) file v.b.rows in
     subst sides of_b c.in-Ok-pool_files.ensures.pooled.sides_b
+
+pub returns-in-Ok-pool_files-clause-answer : goal.returns-in-Ok-pool_files-clause-answer
+returns-in-Ok-pool_files-clause-answer c =
+    made_values c.args.plan.now c.args.pool_limit c.args.a.now c.args.b.now c.in-Ok.files c.records.result.now c.records-2.result.now c.in-Ok-pool_files.values
+    c.in-Ok.ensures.answer (c.records.ensures ∙ ap (λ (f : StandardPair). f.a.records) c.files.view_is) (c.records-2.ensures ∙ ap (λ (f : StandardPair). f.b.records) c.files.view_is) c.in-Ok-pool_files.ensures.answer
+
+pub returns-in-Ok-pool_files-clause-held_a : goal.returns-in-Ok-pool_files-clause-held_a
+returns-in-Ok-pool_files-clause-held_a c =
+    subst (λ (file : List Record). HoldsParts c.in-Ok-pool_files.values.texts c.args.plan.now.passes file) (c.records.ensures ∙ ap (λ (f : StandardPair). f.a.records) c.files.view_is) c.in-Ok-pool_files.ensures.parts_a
+
+pub returns-in-Ok-pool_files-clause-held_b : goal.returns-in-Ok-pool_files-clause-held_b
+returns-in-Ok-pool_files-clause-held_b c =
+    subst (λ (file : List Record). HoldsParts c.in-Ok-pool_files.values.texts c.args.plan.now.passes file) (c.records-2.ensures ∙ ap (λ (f : StandardPair). f.b.records) c.files.view_is) c.in-Ok-pool_files.ensures.parts_b

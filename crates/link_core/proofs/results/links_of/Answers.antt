@@ -1,14 +1,17 @@
-use Rattle.std.proofs.Common.{◌≡◌, ◌<◌, ◌≤◌, ℕ, List, arith, length, subst, sym}
-use Rattle.std.specs.Prelude.{All, AllPairs}
+use Rattle.std.proofs.Common.{◌≡◌, ◌<◌, ◌≤◌, ◌∙◌, ℕ, List, ap, arith, length, subst, sym}
+use Rattle.std.specs.Prelude.{All, AllPairs, IfOk}
 use Rattle.std.proofs.lemmas.List.Elements.{All-weaker}
-use Rattle.assignment_laws.specs.Assignment.{IsBefore, IsGreatest, IsWithin}
+use Rattle.assignment_laws.specs.Assignment.{Certifies, IsBefore, IsGreatest, IsWithin}
 use Rattle.candidate_links.proofs.PassLemmas.{not_more}
 use Rattle.candidate_links.specs.Choice.{dropped, dropped_of}
 use Rattle.candidate_links.specs.declared.choice.ChosenLinks.{ChosenLinks}
+use Rattle.link_base.specs.Standard.{Record}
 use Rattle.link_base.specs.declared.rule.Candidate.{Candidate}
 use Rattle.link_limits.specs.declared.TheConstants.{MOST_PAIRS}
 use Rattle.link_report.specs.declared.report.Dropped.{Dropped}
-use Rattle.link_core.proofs.ResultLemmas.{if_ok, of_dropped, of_links}
+use Rattle.pair_decisions.specs.PairRule.{side_rule}
+use Rattle.link_core.proofs.ResultLemmas.{handed, if_ok, of_dropped, of_links}
+use Rattle.link_core.specs.Results.{candidates_in}
 use Rattle.link_core.proofs.results.links_of.Goals as goal
 
 -- each candidate stands in the files
@@ -61,3 +64,35 @@ returns-clause-left_b c =
     let all : All (λ (x : Candidate). P (dropped x)) cs = within_b (length c.args.prepared.now.files.a.records) rows cs c.in_ok-found.found.items c.deref.ensures.value c.in_ok-found.ensures.within in
     if_ok (λ (k : ChosenLinks). k.dropped.items ≡ dropped_of cs k.links.items) (λ (k : ChosenLinks). All P k.dropped.items) c.choose_links.result
     (λ k e. subst (λ (ds : List Dropped). All P ds) (sym e) (of_dropped P cs k.links.items all)) c.choose_links.ensures.dropped
+
+pub choose_links-requires : goal.choose_links-requires
+choose_links-requires c =
+    let p = c.args.prepared.now in
+    let found =
+    handed (length p.files.a.records) (length p.files.b.records) c.rows.result c.rows-2.result (candidates_in c.args.plan.now p (side_rule c.args.decided.now.rule) c.args.journal.now)
+    c.in_ok-found.found.items c.deref.result.now (c.rows.ensures ∙ ap (λ (file : List Record). length file) c.a.ensures) (c.rows-2.ensures ∙ ap (λ (file : List Record). length file) c.b.ensures)
+    c.deref.ensures.value c.in_ok-found.ensures in
+    record { count = found.few; rising = found.rising; within = found.within; small = found.small }
+
+pub returns-clause-greatest : goal.returns-clause-greatest
+returns-clause-greatest c =
+    subst (λ (cs : List Candidate). IfOk c.choose_links.result (λ k. IsGreatest cs k.links.items)) (c.deref.ensures.value ∙ c.in_ok-found.ensures.same) c.choose_links.ensures.greatest
+
+pub returns-clause-certified : goal.returns-clause-certified
+returns-clause-certified c =
+    subst (λ (cs : List Candidate). IfOk c.choose_links.result (λ k. Certifies cs k.links.items k.prices_a.items k.prices_b.items)) (c.deref.ensures.value ∙ c.in_ok-found.ensures.same) c.choose_links.ensures.certified
+
+pub returns-clause-priced_a : goal.returns-clause-priced_a
+returns-clause-priced_a c =
+    subst (λ n. IfOk c.choose_links.result (λ k. length k.prices_a.items ≡ n)) (c.rows.ensures ∙ ap (λ (file : List Record). length file) c.a.ensures) c.choose_links.ensures.rows_a
+
+pub returns-clause-priced_b : goal.returns-clause-priced_b
+returns-clause-priced_b c =
+    subst (λ n. IfOk c.choose_links.result (λ k. length k.prices_b.items ≡ n)) (c.rows-2.ensures ∙ ap (λ (file : List Record). length file) c.b.ensures) c.choose_links.ensures.rows_b
+
+pub returns-clause-dropped : goal.returns-clause-dropped
+returns-clause-dropped c =
+    subst (λ (cs : List Candidate). IfOk c.choose_links.result (λ k. k.dropped.items ≡ dropped_of cs k.links.items)) (c.deref.ensures.value ∙ c.in_ok-found.ensures.same) c.choose_links.ensures.dropped
+
+pub returns-clause-total : goal.returns-clause-total
+returns-clause-total c = c.choose_links.ensures.total

@@ -1,11 +1,12 @@
 use Rattle.std.proofs.Common.{◌≡◌, ◌∙◌, All, List, Result, Ok, ap, sym, subst, length, w32, ℤ, to_z, of_z}
-use Rattle.std.specs.Prelude.{FitsSigned}
+use Rattle.std.specs.Prelude.{AllPairs, FitsSigned}
 use Rattle.std.proofs.Common.{rules}
 use Rattle.std.proofs.lemmas.Int.{to_z-of_z}
 use Rattle.link_base.proofs.AnswerFacts.{refuses_then}
 use Rattle.link_base.specs.Fault.{Refuses}
 use Rattle.link_base.specs.declared.fault.Fault.{Fault}
 use Rattle.review_journal.specs.declared.entry.Entry.{Entry}
+use Rattle.link_base.specs.Rule.{IsPairBefore}
 use Rattle.link_base.specs.Standard.{Record}
 use Rattle.link_base.specs.declared.rule.PairAt.{PairAt}
 use Rattle.review_journal.specs.Adding.{added}
@@ -55,3 +56,12 @@ returns-clause-answer c =
     let refused = as_handed all (λ r. Refuses r f) c.args.date _ c.args.decided.now.possible c.possible.result.now (to_z-of_z w32 c.args.date fits) c.possible.ensures c.in-Err-add.ensures.answer.0 in
     refuses_next (verdicts_of p.files.a.records p.files.b.records c.args.verdicts.now) _ c.in-Ok.batch f read
     (refuses_then (all c.args.date c.args.decided.now.possible) (λ es. journal_lines_of p es) f refused)
+
+pub add-requires-clause-rising : goal.add-requires-clause-rising
+add-requires-clause-rising c = subst (λ (ps : List PairAt). AllPairs IsPairBefore ps) (sym c.possible.ensures) c.requires.decided.rising
+
+pub returns-in-Ok-add-clause-kind : goal.returns-in-Ok-add-clause-kind
+returns-in-Ok-add-clause-kind c = c.journal_lines.ensures.kind
+
+pub returns-clause-kind : goal.returns-clause-kind
+returns-clause-kind c = c.in-Err-add.ensures.kind

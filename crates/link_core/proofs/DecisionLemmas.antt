@@ -1,0 +1,85 @@
+-- The decisions on prepared files, by what is told of those on the records and sides that were handed over.
+use Rattle.std.proofs.Common.{◌≡◌, ◌∙◌, List, length, Result, Ok, Err, ap, subst, sym}
+use Rattle.std.specs.Prelude.{All, AllPairs, IfErr, IfOk}
+use Rattle.comparators.specs.declared.ids.IdValue.{IdValue}
+use Rattle.link_base.proofs.AnswerFacts.{refuses_then}
+use Rattle.link_base.specs.Answers.{and_then}
+use Rattle.link_base.specs.Fault.{Gives, Refuses}
+use Rattle.link_base.specs.Rule.{IsPairBefore}
+use Rattle.link_base.specs.Standard.{Record}
+use Rattle.link_base.specs.declared.fault.Fault.{Fault}
+use Rattle.link_base.specs.declared.rule.Decision.{Decision}
+use Rattle.link_base.specs.declared.rule.PairAt.{PairAt}
+use Rattle.pair_decisions.specs.Decisions.{AreDecisionsOn, count_with, DecidedView, pairs_with}
+use Rattle.pair_decisions.specs.PairRule.{AreCellsOf, AreSidesFor, PairRuleView, side_rule, SideRule}
+use Rattle.pair_decisions.specs.Pairs.{IsInside, pairs_within}
+use Rattle.pair_walk.specs.Pairs.{compared_pairs}
+use Rattle.pattern_shapes.specs.Shapes.{pattern_count_by}
+use Rattle.plan_rule.specs.Comparators.{rares_of}
+use Rattle.plan_rule.specs.PlanRule.{IsRuleOf}
+use Rattle.settings.specs.Plan.{PlainShares}
+use Rattle.settings.specs.declared.plan.Plan.{Plan}
+use Rattle.link_core.specs.Decisions.{decided, decided_by, Decisions, decisions_of, IsDecidedIn, rule_over}
+use Rattle.link_core.specs.Prepared.{PreparedView}
+use Rattle.link_core.specs.Results.{compared_in, IsDecidedFor}
+use Rattle.link_core.specs.Rules.{IsPreparedFor}
+
+-- a result is that of a rule on the compared pairs of these records, which have these sides
+pub record IsTold (plan : Plan) (rule : PairRuleView) (result : Result DecidedView Fault) (a b : List Record) (rows_a rows_b : List (List IdValue)) : Type 0 where
+  pub refused : IfErr result (Refuses (pairs_within (compared_pairs a b plan.passes)))
+  pub within : IfOk result (λ _. pairs_within (compared_pairs a b plan.passes) ≡ Ok (compared_pairs a b plan.passes))
+  pub rule_is : IfOk result (λ d. d.rule ≡ rule)
+  pub counts : IfOk result (λ d. (kind : Decision) → count_with d kind ≡ length (pairs_with kind (side_rule rule) rows_a rows_b (compared_pairs a b plan.passes)))
+  pub links_inside : IfOk result (λ d. All (IsInside (length a) (length b)) d.links)
+  pub possible_inside : IfOk result (λ d. All (IsInside (length a) (length b)) d.possible)
+  pub possible_rise : IfOk result (λ d. AllPairs IsPairBefore d.possible)
+  pub decisions : IfOk result (AreDecisionsOn rows_a rows_b (compared_pairs a b plan.passes))
+
+-- the same of the files that they are those of
+pub told_of : (plan : Plan) (rule : PairRuleView) (result : Result DecidedView Fault) (p : PreparedView) (a b : List Record) (rows_a rows_b : List (List IdValue))
+    → a ≡ p.files.a.records → b ≡ p.files.b.records → rows_a ≡ p.values.a.rows → rows_b ≡ p.values.b.rows
+    → IsTold plan rule result a b rows_a rows_b → IsTold plan rule result p.files.a.records p.files.b.records p.values.a.rows p.values.b.rows
+told_of plan rule result p a b rows_a rows_b of_a of_b of_sides_a of_sides_b told =
+    subst (λ x. IsTold plan rule result p.files.a.records p.files.b.records p.values.a.rows x) of_sides_b
+    (subst (λ x. IsTold plan rule result p.files.a.records p.files.b.records x rows_b) of_sides_a
+    (subst (λ x. IsTold plan rule result p.files.a.records x rows_a rows_b) of_b
+    (subst (λ x. IsTold plan rule result x b rows_a rows_b) of_a told)))
+
+module _ (plan : Plan) (p : PreparedView) (shares : List PlainShares) (rule : PairRuleView) where
+  abbrev Told : Result DecidedView Fault → Type 0
+  Told result = IsTold plan rule result p.files.a.records p.files.b.records p.values.a.rows p.values.b.rows
+
+  pub answered : (result : Result DecidedView Fault) → side_rule rule ≡ rule_over plan p shares → Told result → Gives decisions_of (decided plan p shares) result
+  answered (Err f) of told = refuses_then (pairs_within (compared_in plan p)) (λ pairs. Ok (decided_by (rule_over plan p shares) p pairs)) f told.refused
+  answered (Ok d) of told =
+      let same : side_rule d.rule ≡ rule_over plan p shares = ap side_rule told.rule_is ∙ of in
+      let made : decisions_of d ≡ decided_by (side_rule d.rule) p (compared_in plan p) =
+      λ i. record { rule = side_rule d.rule; compared = told.decisions.compared i; links = told.decisions.links i; possible = told.decisions.possible i } in
+      let whole : decisions_of d ≡ decided_by (rule_over plan p shares) p (compared_in plan p) = made ∙ ap (λ (r : SideRule). decided_by r p (compared_in plan p)) same in
+      let ok : Decisions → Result Decisions Fault = λ x. Ok x in
+      let next : List PairAt → Result Decisions Fault = λ pairs. Ok (decided_by (rule_over plan p shares) p pairs) in
+      ap (λ (r : Result (List PairAt) Fault). and_then r next) told.within ∙ ap ok (sym whole)
+
+  pub decided_in_files : (result : Result DecidedView Fault) → IsPreparedFor plan p → All (AreSidesFor rule) p.values.a.rows → All (AreSidesFor rule) p.values.b.rows → Told result → IfOk result (IsDecidedIn p)
+  decided_in_files (Err f) ready sides_a sides_b told = tt
+  decided_in_files (Ok d) ready sides_a sides_b told = record {
+    rows_a = ready.sides_a.as_many;
+    rows_b = ready.sides_b.as_many;
+    sides_a = subst (λ (r : PairRuleView). All (AreSidesFor r) p.values.a.rows) (sym told.rule_is) sides_a;
+    sides_b = subst (λ (r : PairRuleView). All (AreSidesFor r) p.values.b.rows) (sym told.rule_is) sides_b;
+    links = told.links_inside;
+    possible = told.possible_inside;
+    rising = told.possible_rise;
+  }
+
+  pub decided_for_plan : (result : Result DecidedView Fault) → AreCellsOf (pattern_count_by (rares_of plan.fields)) rule.cells → Told result → IfOk result (IsDecidedFor plan p)
+  decided_for_plan (Err f) cells told = tt
+  decided_for_plan (Ok d) cells told = record {
+    decisions = told.decisions;
+    counts = λ kind. told.counts kind ∙ ap (λ (r : PairRuleView). length (pairs_with kind (side_rule r) p.values.a.rows p.values.b.rows (compared_in plan p))) (sym told.rule_is);
+    cells = subst (λ (r : PairRuleView). AreCellsOf (pattern_count_by (rares_of plan.fields)) r.cells) (sym told.rule_is) cells;
+  }
+
+  pub rule_of_plan : (result : Result DecidedView Fault) → IsRuleOf plan shares rule.cells → Told result → IfOk result (λ d. IsRuleOf plan shares d.rule.cells)
+  rule_of_plan (Err f) filled told = tt
+  rule_of_plan (Ok d) filled told = subst (λ (r : PairRuleView). IsRuleOf plan shares r.cells) (sym told.rule_is) filled
