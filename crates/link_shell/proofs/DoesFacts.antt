@@ -1,5 +1,5 @@
 -- A command that goes on with what its first steps gave, and the two ends of a command.
-use Rattle.std.proofs.Common.{◌≡◌, ◌⊎◌, inl, inr, ℕ, List, Result, Ok, Err, IsErrAnd, refl, sym, subst, arith}
+use Rattle.std.proofs.Common.{◌≡◌, ◌⊎◌, inl, inr, ℕ, List, Result, Ok, Err, IsErrAnd, IfErr, IfOk, refl, sym, subst, arith}
 use Rattle.link_base.specs.declared.fault.Fault.{Fault}
 use Rattle.link_base.specs.declared.fault.Fault.TheVariants as fault
 use Rattle.link_outside.specs.Outside.{Held}
@@ -10,8 +10,9 @@ use Rattle.link_shell.specs.Seen.{IsUncalled, SinkSeen, StoreSeen}
 use Rattle.link_shell.specs.Steps.{◌>>=◌, ComesTo, gives, Reaches, Steps, StopsBy, Takes}
 use Rattle.link_shell.specs.Due.{Due, Put, prints, puts}
 use Rattle.link_shell.specs.Does.{Answers, Does, DoesPart, FailsAt, FailsBy, IsDue, Script}
-use Rattle.link_shell.specs.Ways.{EachFails, HandFails, Hands, HandsOver, PutsAll, PutsEach}
+use Rattle.link_shell.specs.Ways.{EachFails, HandFails, Hands, HandsOver, IsWanted, PutsAll, PutsEach}
 use Rattle.link_shell.specs.declared.ends.Ended.{Ended}
+use Rattle.link_shell.specs.declared.ends.Ended.TheVariants.{Done}
 use Rattle.link_shell.proofs.StepFacts.{at_err, comes_go, comes_stop, from_to, reaches_first, reaches_later, whole}
 
 -- a sink between two times
@@ -162,6 +163,23 @@ does_print {T = T} s d {x = x} {ended = ended} {text = text} {answer = answer} {
     let here : Does (record { Found = T; steps = gives (Ok x); due = d }) (from_to tells h2 h2 f2 f2) out answer =
     record { answers = prints_so x d ended text answer tells h2 f2 out is w.ways; later = w.later } in
     subst P (whole s) (does_go s (λ y. gives (Ok y)) d t here)
+
+-- memory was wanted for a text after the steps
+does_wanted : {T : Type 0} (s : Steps T) (d : T → Due → Type 0) {x : T} {store : StoreSeen} {out : SinkSeen} {answer : Result Ended Fault}
+    → Takes s store (Ok x) → IsWanted out answer → Does (record { Found = T; steps = s; due = d }) store out answer
+does_wanted {T = T} s d {store = store} {out = out} {answer = answer} t w =
+    let to : Script = record { Found = T; steps = s; due = d } in
+    let P : Result Ended Fault → Type 0 = λ r. Does to store out r in
+    let same = w.quiet.faults in
+    subst P (sym w.wants) (record { answers = record { faults = t.goes.faults; counted = same; part = inl (t.held, w.quiet) }; later = omega arith })
+
+-- a command ends with a text for `out`, where there was the memory to make it
+pub does_lines : {T E : Type 0} (s : Steps T) (d : T → Due → Type 0) (P : List ℕ → Type 0) (lines : Result (List ℕ) E) {x : T} {answer : Result Ended Fault} {tells : Type 0} {h0 h2 : Held} {f0 f2 : List StoreCall} {out : SinkSeen}
+    → Takes s (record { tells = tells; held_before = h0; held_after = h2; faults_before = f0; faults_after = f2 }) (Ok x) → ((text : List ℕ) → P text → d x (prints Done text)) → IfOk lines P
+    → IfOk lines (λ text. HandsOver Done text out answer) → IfErr lines (λ e. IsWanted out answer)
+    → Does (record { Found = T; steps = s; due = d }) (record { tells = tells; held_before = h0; held_after = h2; faults_before = f0; faults_after = f2 }) out answer
+does_lines s d P (Ok text) t is made printed wanted = does_print s d t printed (is text made)
+does_lines s d P (Err e) t is made printed wanted = does_wanted s d t wanted
 
 each_fails : {T : Type 0} (cause : Cause) (x : T) (d : T → Due → Type 0) (all : List Put) (f : Fault) (store : StoreSeen) (told_out : Type 0) (taken : List ℕ) (count : ℕ)
     → d x (puts all) → EachFails cause all store → FailsBy cause (record { Found = T; steps = gives (Ok x); due = d }) store (taken_from_to told_out taken taken count count) f

@@ -1,12 +1,13 @@
 -- What follows of each command.
-use Rattle.std.proofs.Common.{◌≡◌, ◌≢◌, ◌≤◌, ◌⊎◌, inl, inr, ◌+◌, ◌++◌, ◌∷◌, ℕ, List, [], length, length-append, Option, Some, None, Result, Ok, Err, ap, ◌∙◌, arith, subst}
+use Rattle.std.proofs.Common.{◌≡◌, ◌≢◌, ◌≤◌, ◌⊎◌, inl, inr, ◌+◌, ◌++◌, ◌∷◌, ℕ, List, [], length, length-append, Bool, true, false, if◌then◌else◌, Option, Some, None, Result, Ok, Err, ap, ◌∙◌, arith, subst, sym}
+use Rattle.std.proofs.lemmas.Bool.{true≢false}
 use Rattle.link_base.specs.declared.fault.Fault.{Fault}
 use Rattle.link_base.specs.declared.fault.Fault.TheVariants as fault
 use Rattle.link_outside.specs.Outside.{Rose}
 use Rattle.link_outside.specs.declared.outside.StoreCall.{StoreCall}
 use Rattle.link_shell.specs.Causes.{Cause, cause_of, the_input, the_memory, the_output, the_store, the_words}
-use Rattle.link_shell.specs.Commands.{Command, command_of, script_of}
-use Rattle.link_shell.specs.Does.{Answers, DoesPart, FailsAt, FailsBy, IsDue, Script}
+use Rattle.link_shell.specs.Commands.{Command, command_of, or_command, script_of}
+use Rattle.link_shell.specs.Does.{Answers, Does, DoesPart, FailsAt, FailsBy, IsDue, Script}
 use Rattle.link_shell.specs.Due.{Due, HoldsAll, HoldsSome, prints, Prints, PutFails, puts, puts_of, TakesAll, TakesSome}
 use Rattle.link_shell.specs.Linked.{Follows, IsComplete, IsExactUsage, IsSilent, IsStill, NeverPrints, NeverPuts, Performed, RefusesBy}
 use Rattle.link_shell.specs.Seen.{IsUncalled, SinkSeen, StoreSeen}
@@ -136,3 +137,32 @@ performs words store out answer d = record {
   later = later_for (command_of words) store out answer d;
   complete = completes (command_of words) store out answer d;
 }
+
+-- the words are a form of the command of a test that holds, or of one of those after it
+module _ (store : StoreSeen) (out : SinkSeen) (answer : Result Ended Fault) where
+  pub follows_here : {X : Type 0} (make : X → Command) (test : Bool) (rest : Option Command) {x y : X} → true ≡ test → x ≡ y → Does (script_of (make x)) store out answer
+      → Follows (if test then Some (make y) else rest) store out answer
+  follows_here make true rest e same d = subst (λ z. Does (script_of (make z)) store out answer) same d
+  follows_here make false rest e same d = absurd (true≢false e)
+
+  pub follows_later : (test : Bool) (here : Command) (rest : Option Command) → false ≡ test → Follows rest store out answer → Follows (if test then Some here else rest) store out answer
+  follows_later true here rest e d = absurd (true≢false (sym e))
+  follows_later false here rest e d = d
+
+  -- the same of the first of two commands
+  pub first_here : {X : Type 0} (make : X → Command) (test : Bool) (rest next : Option Command) {x y : X} → true ≡ test → x ≡ y → Does (script_of (make x)) store out answer
+      → Follows (or_command (if test then Some (make y) else rest) next) store out answer
+  first_here make true rest next e same d = subst (λ z. Does (script_of (make z)) store out answer) same d
+  first_here make false rest next e same d = absurd (true≢false e)
+
+  pub first_later : (test : Bool) (here : Command) (rest next : Option Command) → false ≡ test → Follows (or_command rest next) store out answer
+      → Follows (or_command (if test then Some here else rest) next) store out answer
+  first_later true here rest next e d = absurd (true≢false (sym e))
+  first_later false here rest next e d = d
+
+  pub second : (first next : Option Command) → first ≡ None → Follows next store out answer → Follows (or_command first next) store out answer
+  second first next e d = subst (λ (z : Option Command). Follows (or_command z next) store out answer) (sym e) d
+
+pub none_if : (test : Bool) (here : Command) (rest : Option Command) → false ≡ test → rest ≡ None → (if test then Some here else rest) ≡ None
+none_if true here rest e same = absurd (true≢false (sym e))
+none_if false here rest e same = same

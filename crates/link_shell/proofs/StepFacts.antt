@@ -1,5 +1,5 @@
 -- Steps, and then those that their value leads to.
-use Rattle.std.proofs.Common.{◌≡◌, inl, inr, ◌++◌, ◌∷◌, [], ℕ, List, Result, Ok, Err, IsErrAnd, IsOkAnd, IfErr, IfOk, refl, sym, ap, subst, ◌∙◌}
+use Rattle.std.proofs.Common.{◌≡◌, inl, inr, ◌++◌, ◌∷◌, [], ℕ, List, Result, Ok, Err, IsErrAnd, IsOkAnd, IfErr, refl, sym, ap, subst, ◌∙◌}
 use Rattle.link_base.specs.Answers.{and_then}
 use Rattle.link_base.specs.Fault.{Gives, IsAnswer, IsInputFault, Refuses}
 use Rattle.link_base.specs.declared.fault.Fault.{Fault}
@@ -189,6 +189,10 @@ pub takes_ok : {T : Type 0} {expected : Result T Fault} (x : T) {tells : Type 0}
     → Takes (gives expected) (record { tells = tells; held_before = held; held_after = held; faults_before = faults; faults_after = faults }) (Ok x)
 takes_ok x e = takes_value {result = Ok x} tt e
 
+-- what is said of the bytes that two calls give is said of the bytes that they are
+pub of_bytes : (P : List ℕ → List ℕ → Type 0) {a b a2 b2 : List ℕ} → a2 ≡ a → b2 ≡ b → P a2 b2 → P a b
+of_bytes P {a = a} {b2 = b2} of_a of_b h = subst (λ y. P a y) of_b (subst (λ x. P x b2) of_a h)
+
 input_of_settings : {T : Type 0} (result : Result T Fault) → IfErr result IsSettingsFault → IfErr result IsInputFault
 input_of_settings (Ok x) h = tt
 input_of_settings (Err fault.Usage) h = absurd h
@@ -242,15 +246,10 @@ pub seen_err : {X T : Type 0} (view : X → T) (result : Result X Fault) (f : Fa
 seen_err view (Ok x) f h = absurd h
 seen_err view (Err e) f h = h
 
--- what is made after steps
-pub makes_stop : {T X : Type 0} (s : Steps T) (P : T → X → Type 0) (result : Result X Fault) {store : StoreSeen} {f : Fault} → Takes s store (Err f) → IsErrAnd result (λ e. e ≡ f) → Makes s P store result
-makes_stop {X = X} s P result {store = store} {f = f} t e = let Q : Result X Fault → Type 0 = λ r. Makes s P store r in at_err Q result f e t
-
-pub makes_of : {T X : Type 0} (s : Steps T) (P : T → X → Type 0) (result : Result X Fault) {store : StoreSeen} {x : T} → Takes s store (Ok x) → IfOk result (P x) → IfErr result (λ f. f ≡ fault.NoMemory)
-    → Makes s P store result
-makes_of s P (Ok made) {x = x} t holds wants = (x, t, holds)
-makes_of s P (Err f) {store = store} t holds wants =
-    let Q : Fault → Type 0 = λ g. Takes s store (Err g) in subst Q (sym wants) (record { goes = t.goes.faults; held = t.held })
+-- what is made after steps; memory was wanted for it
+pub makes_want : {T X : Type 0} (s : Steps T) (P : T → X → Type 0) (result : Result X Fault) {store : StoreSeen} {x : T} → Takes s store (Ok x) → IsErrAnd result (λ e. e ≡ fault.NoMemory) → Makes s P store result
+makes_want {X = X} s P result {store = store} t e =
+    let Q : Result X Fault → Type 0 = λ r. Makes s P store r in at_err Q result fault.NoMemory e (record { goes = t.goes.faults; held = t.held })
 
 pub makes_go : {A B X : Type 0} (s : Steps A) (next : A → Steps B) (P : B → X → Type 0) (result : Result X Fault) {x : A} {tells : Type 0} {h0 h1 : Held} (h2 : Held) {f0 f1 : List StoreCall} (f2 : List StoreCall)
     → Takes s (record { tells = tells; held_before = h0; held_after = h1; faults_before = f0; faults_after = f1 }) (Ok x)

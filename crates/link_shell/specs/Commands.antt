@@ -1,23 +1,20 @@
 -- The commands: which one the words are a form of, and its script.
-use Rattle.std.specs.Prelude.{◌≡◌, ℕ, List, drop, map, string_bytes, if◌then◌else◌, Option, Some, None, true, ⊤}
-use Rattle.std.specs.List.{list_all}
+use Rattle.std.specs.Prelude.{ℕ, List, drop, if◌then◌else◌, Option, Some, None}
 use Rattle.link_shell.specs.Does.{Script}
 use Rattle.link_shell.specs.DuplicatesSettings.{are_duplicates_words, duplicates_script}
-use Rattle.link_shell.specs.Generate.{are_generate_words, generate_script, IsMadeNumber, rows_in}
-use Rattle.link_shell.specs.FrontierSettings.{are_frontier_words, Asked, asked_in, asked_of_request, frontier_script, is_level_word}
+use Rattle.link_shell.specs.Generate.{are_generate_words, generate_script, rows_in}
+use Rattle.link_shell.specs.FrontierSettings.{are_frontier_words, Asked, asked_in, frontier_script}
 use Rattle.link_shell.specs.Keys.{are_keys_words, keys_script}
-use Rattle.link_shell.specs.ManySettings.{are_many_words, many_in, many_of_request, many_script, ManyFiles}
+use Rattle.link_shell.specs.ManySettings.{are_many_words, many_in, many_script, ManyFiles}
 use Rattle.link_shell.specs.MigrateSettings.{are_migrate_words, migrate_script}
 use Rattle.link_shell.specs.OpenSettings.{are_open_words, open_script}
-use Rattle.link_shell.specs.ReviewSettings.{are_review_words, IsReviewRequest, NewReview, review_in, review_of_request, review_script}
-use Rattle.link_shell.specs.PairsColumns.{are_column_words, Columns, columns_in, columns_of_request, columns_script}
+use Rattle.link_shell.specs.ReviewSettings.{are_review_words, NewReview, review_in, review_script}
+use Rattle.link_shell.specs.PairsColumns.{are_column_words, Columns, columns_in, columns_script}
 use Rattle.link_shell.specs.PairsSettings.{are_settings_words, settings_script}
 use Rattle.link_shell.specs.RuleSettings.{are_rule_words, rule_script}
 use Rattle.link_shell.specs.RunSettings.{are_run_words, run_script}
 use Rattle.link_shell.specs.VerifySettings.{are_verify_words, verify_script}
 use Rattle.link_shell.specs.Words.{word}
-use Rattle.link_shell.specs.declared.command.Command.{Command as CommandWords}
-use Rattle.link_shell.specs.declared.command.Command.TheVariants as words
 
 -- a command that is built
 pub data Command : Type 0 where
@@ -79,26 +76,3 @@ script_of (verification_of_settings name) = verify_script name
 script_of (duplicates_of_settings name) = duplicates_script name
 script_of (many_of_settings w) = many_script w
 script_of (generation rows) = generate_script rows
-
--- a command, as its words are held
-abbrev pub command_in : CommandWords → Command
-command_in (words.PairsOfColumns request) = pairs_of_columns (columns_of_request request)
-command_in (words.PairsOfSettings name) = pairs_of_settings name.now
-command_in (words.Keys rest) = keys (map string_bytes rest.now)
-command_in (words.RuleOfSettings name) = rule_of_settings name.now
-command_in (words.FrontierOfSettings request) = frontier_of_settings (asked_of_request request)
-command_in (words.OpenOfSettings name) = open_of_settings name.now
-command_in (words.ReviewOfSettings request) = review_of_settings (review_of_request request)
-command_in (words.MigrationOfSettings name) = migration_of_settings name.now
-command_in (words.RunOfSettings name) = run_of_settings name.now
-command_in (words.VerificationOfSettings name) = verification_of_settings name.now
-command_in (words.DuplicatesOfSettings name) = duplicates_of_settings name.now
-command_in (words.ManyOfSettings request) = many_of_settings (many_of_request request)
-command_in (words.Generation rows) = generation rows
-
--- words that were read keep their ranges: the levels of a frontier are levels, a review has a day and a reviewer
-abbrev pub KeepsWords : CommandWords → Type 0
-KeepsWords (words.FrontierOfSettings request) = list_all is_level_word (map string_bytes request.levels.now) ≡ true
-KeepsWords (words.ReviewOfSettings request) = IsReviewRequest request
-KeepsWords (words.Generation rows) = IsMadeNumber rows
-KeepsWords command = ⊤

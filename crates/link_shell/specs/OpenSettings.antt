@@ -1,5 +1,5 @@
 -- The command `open SETTINGS`: the possible links that wait for a verdict.
-use Rattle.std.specs.Prelude.{◌≡◌, ℕ, List, Bool, codes}
+use Rattle.std.specs.Prelude.{ℕ, List, Bool, codes}
 use Rattle.link_core.specs.Review.{open_text_of}
 use Rattle.link_shell.specs.Does.{Script}
 use Rattle.link_shell.specs.Due.{is_printed}
@@ -8,10 +8,6 @@ use Rattle.link_shell.specs.Words.{are_verb_and_settings}
 
 abbrev pub are_open_words : List (List ℕ) → Bool
 are_open_words = are_verb_and_settings (codes "open")
-
--- the text of what is open
-abbrev pub is_open_text : ReviewedPlan → List ℕ → Type 0
-is_open_text found text = text ≡ open_text_of found.review.files found.review.decided found.review.journal
 
 -- the plan, the decisions of its rule on the compared pairs, the journal, and then the text of what is open
 abbrev pub open_script : List ℕ → Script

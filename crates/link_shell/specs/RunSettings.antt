@@ -1,8 +1,7 @@
 -- The command `run SETTINGS`: its words, its steps, and the five files that it writes. `Headline` says what they are.
 use Rattle.std.specs.Prelude.{◌≡◌, ◌∷◌, [], ℕ, List, Bool, codes}
 use Rattle.plan_rule.specs.PlanRule.{IsRuleOf}
-use Rattle.link_core.specs.Results.{AreRunTexts, RunTexts, texts_of}
-use Rattle.link_core.specs.declared.results.RunResult.{RunResult}
+use Rattle.link_core.specs.Results.{AreRunTexts, RunTexts}
 use Rattle.link_shell.specs.Does.{Script}
 use Rattle.link_shell.specs.Due.{Due, Put, puts}
 use Rattle.link_shell.specs.Reviewed.{reviewed_settings, ReviewedPlan}
@@ -19,11 +18,6 @@ abbrev pub run_puts : RunTexts → List Put
 run_puts texts =
     a_put (codes "pairs.csv") texts.pairs ∷ a_put (codes "rule.csv") texts.rule ∷ a_put (codes "links.csv") texts.links
     ∷ a_put (codes "prices.csv") texts.prices ∷ a_put (codes "report.txt") texts.report ∷ []
-
--- texts are those of a run of the plan, and the rule is the filled table of the plan and its shares
-pub record AreMade (found : ReviewedPlan) (made : RunResult) : Type 0 where
-  pub texts : AreRunTexts found.plan found.review.files found.review.decided.rule found.review.journal (texts_of made)
-  pub rule : IsRuleOf found.plan found.review.shares found.review.decided.rule.cells
 
 -- the texts of a run of the plan, of which there may be several, are put; the rule is the filled table of the plan and its shares
 pub record ArePut (found : ReviewedPlan) (due : Due) : Type 0 where

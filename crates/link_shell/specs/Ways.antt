@@ -1,10 +1,11 @@
 -- The two ends of a command: a text for `out` (`print`), or puts one after the other (`put_each`).
 use Rattle.std.specs.Prelude.{◌≡◌, ◌⊎◌, ◌≤◌, ◌++◌, ◌∷◌, [], ℕ, List, Result, Ok, Err}
 use Rattle.link_base.specs.declared.fault.Fault.{Fault}
+use Rattle.link_base.specs.declared.fault.Fault.TheVariants as fault
 use Rattle.link_outside.specs.Outside.{held_with, Rose, TakesFront}
 use Rattle.link_outside.specs.declared.outside.StoreCall.{StoreCall}
 use Rattle.link_shell.specs.Causes.{Cause, cause_of, the_memory, the_output, the_store}
-use Rattle.link_shell.specs.Seen.{SinkSeen, StoreSeen}
+use Rattle.link_shell.specs.Seen.{IsUncalled, SinkSeen, StoreSeen}
 use Rattle.link_shell.specs.Due.{after_puts, Put, put_of, PutFails, PutsSome}
 use Rattle.link_shell.specs.declared.ends.Ended.{Ended}
 use Rattle.link_shell.specs.declared.ends.Ended.TheVariants.{Done}
@@ -23,6 +24,11 @@ Hands ended text out (Err f) = HandFails (cause_of f) text out
 pub record HandsOver (ended : Ended) (text : List ℕ) (out : SinkSeen) (answer : Result Ended Fault) : Type 0 where
   pub ways : Hands ended text out answer
   pub later : out.faults_before ≤ out.faults_after
+
+-- memory was wanted for the text that `out` was to take, which was not called
+pub record IsWanted (out : SinkSeen) (answer : Result Ended Fault) : Type 0 where
+  pub wants : answer ≡ Err fault.NoMemory
+  pub quiet : IsUncalled out
 
 -- after a put that failed its name holds the new bytes or what it held
 abbrev pub PutsOrNot : Put → StoreSeen → Type 0

@@ -1,19 +1,18 @@
 // The command `duplicates SETTINGS`.
-ghost use Rattle.std.specs.Prelude.{◌≡◌, ◌≤◌, [], IfOk, IfSome, is_some, length, map, slice_index_or, string_bytes};
+ghost use Rattle.std.specs.Prelude.{◌≡◌, ◌≤◌, IfOk, length};
 ghost use Rattle.link_core.specs.Decisions.{IsDecidedIn};
 ghost use Rattle.link_core.specs.Rules.{IsPreparedFor};
 ghost use Rattle.link_limits.specs.declared.TheConstants.{MOST_PAIRS, MOST_ROWS};
 ghost use Rattle.link_shell.specs.Does.{Does};
-ghost use Rattle.link_shell.specs.DuplicatesSettings.{are_duplicates_words, decided_within, duplicates_script, prepared_within, IsWithin, within_of};
+ghost use Rattle.link_shell.specs.DuplicatesSettings.{decided_within, duplicates_script, prepared_within, IsWithin, within_of};
 ghost use Rattle.link_shell.specs.Seen.{sink_seen, store_seen};
 ghost use Rattle.link_shell.specs.Steps.{seen_by, Takes};
 ghost use Rattle.settings.specs.Ranges.{KeepsRanges, NamesFiles};
 
-use crate::ends::{Ended, print};
+use crate::ends::{Ended, print_lines};
 use crate::front::{file_name, load_plan, prepare_files};
 use crate::load::load_file;
 use crate::reviewed::load_decisions;
-use crate::words::settings_after;
 use dedup_groups::forest_leaders;
 use link_base::{Fault, FileRole};
 use link_core::{Decided, Prepared, duplicate_lines};
@@ -28,14 +27,6 @@ pub(crate) struct DecidedWithin {
     pub(crate) decided: Decided,
 }
 
-// Reads the words: the name of the settings file.
-pub(crate) fn read(words: &[String]) -> Option<&str>
-    ensures some { is_some result ≡ are_duplicates_words (map string_bytes words.now) }
-    ensures name { IfSome result (λ name. name.now ≡ slice_index_or (map string_bytes words.now) 1 []) }
-{
-    settings_after(words, "duplicates")
-}
-
 // Loads the file of a plan of a file with itself, and makes it ready to be compared.
 fn load_within<S: Store>(alloc: Global, store: &mut S, plan: &Plan) -> Result<Prepared, Fault>
     requires within { IsWithin plan.now }
@@ -46,7 +37,9 @@ fn load_within<S: Store>(alloc: Global, store: &mut S, plan: &Plan) -> Result<Pr
     ensures same { IfOk result (λ p. length p.files.b.records ≡ length p.files.a.records) }
 {
     let a = load_file(alloc, store, file_name(&plan.file_a), FileRole::A)?;
-    prepare_files(alloc, plan, a.bytes(), a.bytes())
+    let files = prepare_files(alloc, plan, a.bytes(), a.bytes());
+    drop(a);
+    files
 }
 
 // Loads the file of a plan of a file with itself, and its sample, and decides on the compared pairs.
@@ -94,7 +87,6 @@ pub(crate) fn perform<S: Store, O: Sink>(
     let found = decided?;
     let lines = duplicate_lines(alloc, &found.files, &found.decided);
     drop(found);
-    let text = lines?;
     forest_leaders();
-    print(alloc, Ended::Done, text.bytes(), out)
+    print_lines(alloc, lines, out)
 }

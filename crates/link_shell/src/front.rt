@@ -43,8 +43,13 @@ pub(crate) fn load_both<S: Store>(
     ensures { Takes (both_files name_a.now name_b.now) (store_seen S.tells S.held S.faults store.old store.new) result }
 {
     let a = load_file(alloc, store, name_a, FileRole::A)?;
-    let b = load_file(alloc, store, name_b, FileRole::B)?;
-    Ok(Inputs { a, b })
+    match load_file(alloc, store, name_b, FileRole::B) {
+        Ok(b) => Ok(Inputs { a, b }),
+        Err(fault) => {
+            drop(a);
+            Err(fault)
+        }
+    }
 }
 
 // Loads a settings file and reads its plan.
@@ -54,7 +59,9 @@ pub(crate) fn load_plan<S: Store>(alloc: Global, store: &mut S, name: &str) -> R
     ensures files { IfOk result NamesFiles }
 {
     let bytes = load_file(alloc, store, name, FileRole::Settings)?;
-    read_settings(alloc, bytes.bytes())
+    let plan = read_settings(alloc, bytes.bytes());
+    drop(bytes);
+    plan
 }
 
 // The name of a file, which is UTF-8.
@@ -146,7 +153,9 @@ fn count_named<S: Store>(
     ensures rares { IfOk result (λ shares. shared_rares shares ≡ rares_of plan.now.fields) }
 {
     let sample = load_file(alloc, store, name, FileRole::Sample)?;
-    counted(alloc, plan, files, sample.bytes())
+    let shares = counted(alloc, plan, files, sample.bytes());
+    drop(sample);
+    shares
 }
 
 // Counts the sample of a plan, which has this name, over the two files of the plan.

@@ -1,17 +1,19 @@
 // The command `frontier SETTINGS MU..`.
 ghost use Rattle.std.specs.Prelude.{◌≡◌, ◌≤◌, All, IfOk, IfSome, is_some, map, string_bytes, true};
 ghost use Rattle.std.specs.List.{list_all};
+ghost use Rattle.link_core.specs.Rules.{IsFrontierText};
 ghost use Rattle.link_shell.specs.Does.{Does};
 ghost use Rattle.link_shell.specs.FrontierSettings.{are_frontier_words, are_levels_from, asked_in, asked_of_request, frontier_script, is_level_word};
 ghost use Rattle.csv_rows.specs.Numbers.{number_in};
 ghost use Rattle.link_shell.specs.Seen.{sink_seen, store_seen};
+ghost use Rattle.settings.specs.Ranges.{KeepsRanges};
 ghost use Rattle.link_limits.specs.declared.TheConstants.{PER_MILLION};
 
-use crate::ends::{Ended, print};
-use crate::front::load_shared;
+use crate::ends::{Ended, print_lines};
+use crate::front::{Shared, load_shared};
 use crate::words::{is_settings, word_at};
 use csv_rows::number_of;
-use link_base::{Fault, NoMemory};
+use link_base::{Fault, NoMemory, Text};
 use link_core::frontier_lines;
 use link_limits::PER_MILLION;
 use link_outside::{Sink, Store};
@@ -73,6 +75,18 @@ fn levels_of(alloc: Global, words: &[String]) -> Result<Vec<u32>, NoMemory>
     Ok(levels)
 }
 
+// The text of the frontier at the levels that words write.
+fn text_at(alloc: Global, shared: &Shared, words: &[String]) -> Result<Text, NoMemory>
+    requires levels { list_all is_level_word (map string_bytes words.now) ≡ true }
+    requires ranges { KeepsRanges shared.now.plan }
+    ensures { IfOk result (IsFrontierText shared.now.plan shared.now.shares (map number_in (map string_bytes words.now))) }
+{
+    let levels = levels_of(alloc, words)?;
+    let lines = frontier_lines(alloc, &shared.plan, &shared.shares, &levels);
+    drop(levels);
+    lines
+}
+
 // Follows the script.
 pub(crate) fn perform<S: Store, O: Sink>(
     alloc: Global,
@@ -83,10 +97,8 @@ pub(crate) fn perform<S: Store, O: Sink>(
     requires { list_all is_level_word (map string_bytes request.now.levels.now) ≡ true }
     ensures { Does (frontier_script (asked_of_request request.now)) (store_seen S.tells S.held S.faults store.old store.new) (sink_seen O.tells O.taken O.faults out.old out.new) result }
 {
-    let levels = levels_of(alloc, request.levels)?;
     let shared = load_shared(alloc, store, request.name)?;
-    let lines = frontier_lines(alloc, &shared.plan, &shared.shares, &levels);
+    let lines = text_at(alloc, &shared, request.levels);
     drop(shared);
-    let text = lines?;
-    print(alloc, Ended::Done, text.bytes(), out)
+    print_lines(alloc, lines, out)
 }

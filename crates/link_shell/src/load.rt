@@ -28,10 +28,19 @@ pub fn load_whole<S: Store>(
 {
     let failed = Text::new(alloc, name.as_bytes())?;
     match store.load(alloc, name, limit) {
-        Ok(Load::Whole(text)) => Ok(text),
-        Ok(Load::Over(_)) => Err(Fault::FileTooLong { role, limit }),
+        Ok(Load::Whole(text)) => {
+            drop(failed);
+            Ok(text)
+        }
+        Ok(Load::Over(_)) => {
+            drop(failed);
+            Err(Fault::FileTooLong { role, limit })
+        }
         Err(StoreError::Failed) => Err(Fault::StoreFault { name: failed }),
-        Err(StoreError::NoMemory) => Err(Fault::NoMemory),
+        Err(StoreError::NoMemory) => {
+            drop(failed);
+            Err(Fault::NoMemory)
+        }
     }
 }
 

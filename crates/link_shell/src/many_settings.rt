@@ -1,14 +1,13 @@
 // The command `many SETTINGS CAPACITIES`.
-ghost use Rattle.std.specs.Prelude.{◌≡◌, IfErr, IfOk, IfSome, is_some, map, string_bytes};
-ghost use Rattle.link_base.specs.declared.fault.Fault.TheVariants as fault;
+ghost use Rattle.std.specs.Prelude.{◌≡◌, IfOk, IfSome, is_some, map, string_bytes};
 ghost use Rattle.link_core.specs.Many.{AreCapacitiesOf};
 ghost use Rattle.link_shell.specs.Does.{Does};
-ghost use Rattle.link_shell.specs.ManySettings.{are_many_words, capacity_file, capacity_plan, capacity_settings, IsLinksText, many_in, many_of_request, many_script, within_capacities};
+ghost use Rattle.link_shell.specs.ManySettings.{are_many_words, capacity_file, capacity_plan, IsLinksText, many_in, many_of_request, many_script};
 ghost use Rattle.link_shell.specs.Reviewed.{found_of, IsReviewed};
 ghost use Rattle.link_shell.specs.Seen.{sink_seen, store_seen};
 ghost use Rattle.link_shell.specs.Steps.{Makes, Takes};
 
-use crate::ends::{Ended, print};
+use crate::ends::{Ended, print_text};
 use crate::load::load_file;
 use crate::reviewed::{ReviewedSettings, load_reviewed_settings};
 use crate::words::{is_settings, is_short, word_at};
@@ -52,29 +51,12 @@ fn load_capacities<S: Store>(
     ensures of_files { IfOk result (AreCapacitiesOf found.now.reviewed.files) }
 {
     let bytes = load_file(alloc, store, name, FileRole::Capacities)?;
-    capacities_in_file(alloc, &found.reviewed.files, bytes.bytes())
+    let capacities = capacities_in_file(alloc, &found.reviewed.files, bytes.bytes());
+    drop(bytes);
+    capacities
 }
 
-// The text of links within capacities, and of their prices.
-fn text_of(alloc: Global, found: &ReviewedSettings, capacities: &Capacities) -> Result<Text, Fault>
-    requires found { IsReviewed found.now }
-    requires capacities { AreCapacitiesOf found.now.reviewed.files capacities.now }
-    ensures wants { IfErr result (λ f. f ≡ fault.NoMemory) }
-    ensures text { IfOk result (IsLinksText (within_capacities (found_of found.now) capacities.now)) }
-{
-    let reviewed = &found.reviewed;
-    let text = many_lines(
-        alloc,
-        &found.plan,
-        &reviewed.files,
-        &reviewed.decided,
-        &reviewed.journal,
-        capacities,
-    )?;
-    Ok(text)
-}
-
-// Loads the capacities, and makes the text.
+// Loads the capacities, and makes the text of links within them, and of their prices.
 fn text_of_found<S: Store>(
     alloc: Global,
     store: &mut S,
@@ -85,23 +67,18 @@ fn text_of_found<S: Store>(
     ensures { Makes (capacity_plan (found_of found.now) name.now) IsLinksText (store_seen S.tells S.held S.faults store.old store.new) result }
 {
     let capacities = load_capacities(alloc, store, found, name)?;
-    let text = text_of(alloc, found, &capacities);
+    let reviewed = &found.reviewed;
+    let lines = many_lines(
+        alloc,
+        &found.plan,
+        &reviewed.files,
+        &reviewed.decided,
+        &reviewed.journal,
+        &capacities,
+    );
     drop(capacities);
-    text
-}
-
-// Loads what a settings file names and the capacities, and makes the text.
-fn load_text<S: Store>(
-    alloc: Global,
-    store: &mut S,
-    request: &ManyRequest<'_>,
-) -> Result<Text, Fault>
-    ensures { Makes (capacity_settings (many_of_request request.now)) IsLinksText (store_seen S.tells S.held S.faults store.old store.new) result }
-{
-    let found = load_reviewed_settings(alloc, store, request.name)?;
-    let text = text_of_found(alloc, store, &found, request.capacities);
-    drop(found);
-    text
+    let text = lines?;
+    Ok(text)
 }
 
 // Follows the script.
@@ -113,6 +90,9 @@ pub(crate) fn perform<S: Store, O: Sink>(
 ) -> Result<Ended, Fault>
     ensures { Does (many_script (many_of_request request.now)) (store_seen S.tells S.held S.faults store.old store.new) (sink_seen O.tells O.taken O.faults out.old out.new) result }
 {
-    let text = load_text(alloc, store, request)?;
-    print(alloc, Ended::Done, text.bytes(), out)
+    let found = load_reviewed_settings(alloc, store, request.name)?;
+    let made = text_of_found(alloc, store, &found, request.capacities);
+    drop(found);
+    let text = made?;
+    print_text(alloc, Ended::Done, text, out)
 }

@@ -1,7 +1,6 @@
 // The command `migrate SETTINGS`.
-ghost use Rattle.std.specs.Prelude.{◌≡◌, [], IfSome, is_some, map, slice_index_or, string_bytes};
 ghost use Rattle.link_shell.specs.Does.{Does};
-ghost use Rattle.link_shell.specs.MigrateSettings.{are_migrate_words, journal_text, migrate_script, written_journal};
+ghost use Rattle.link_shell.specs.MigrateSettings.{journal_text, migrate_script, written_journal};
 ghost use Rattle.link_shell.specs.Seen.{sink_seen, store_seen};
 ghost use Rattle.link_shell.specs.Steps.{Takes};
 ghost use Rattle.settings.specs.Ranges.{KeepsRanges, NamesFiles};
@@ -9,20 +8,11 @@ ghost use Rattle.settings.specs.Ranges.{KeepsRanges, NamesFiles};
 use crate::ends::Ended;
 use crate::front::load_prepared;
 use crate::reviewed::{load_journal, load_journal_plan, put_journal};
-use crate::words::settings_after;
 use link_base::{Fault, Text};
 use link_core::{Prepared, journal_lines};
 use link_outside::{Sink, Store};
 use settings::Plan;
 use std::alloc::Global;
-
-// Reads the words: the name of the settings file.
-pub(crate) fn read(words: &[String]) -> Option<&str>
-    ensures some { is_some result ≡ are_migrate_words (map string_bytes words.now) }
-    ensures name { IfSome result (λ name. name.now ≡ slice_index_or (map string_bytes words.now) 1 []) }
-{
-    settings_after(words, "migrate")
-}
 
 // Loads the journal of a plan, over its prepared files, and makes its text.
 fn text_over<S: Store>(

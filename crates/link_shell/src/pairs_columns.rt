@@ -4,7 +4,7 @@ ghost use Rattle.link_shell.specs.Does.{Does};
 ghost use Rattle.link_shell.specs.PairsColumns.{are_column_words, columns_in, columns_of_request, columns_script};
 ghost use Rattle.link_shell.specs.Seen.{sink_seen, store_seen};
 
-use crate::ends::{Ended, print};
+use crate::ends::{Ended, print_text};
 use crate::front::load_both;
 use crate::words::{is_short, word_at};
 use link_base::Fault;
@@ -51,5 +51,5 @@ pub(crate) fn perform<S: Store, O: Sink>(
     let rows = pair_rows(alloc, request.column, inputs.a.bytes(), inputs.b.bytes());
     drop(inputs);
     let text = rows?;
-    print(alloc, Ended::Done, text.bytes(), out)
+    print_text(alloc, Ended::Done, text, out)
 }

@@ -1,25 +1,15 @@
 // The command `pairs SETTINGS`.
-ghost use Rattle.std.specs.Prelude.{◌≡◌, [], IfSome, is_some, map, slice_index_or, string_bytes};
 ghost use Rattle.link_shell.specs.Does.{Does};
-ghost use Rattle.link_shell.specs.PairsSettings.{are_settings_words, settings_script};
+ghost use Rattle.link_shell.specs.PairsSettings.{settings_script};
 ghost use Rattle.link_shell.specs.Seen.{sink_seen, store_seen};
 
-use crate::ends::{Ended, print};
+use crate::ends::{Ended, print_text};
 use crate::front::load_described;
-use crate::words::settings_after;
 use link_base::Fault;
 use link_core::pair_ids;
 use link_limits::MOST_POOLED_BYTES;
 use link_outside::{Sink, Store};
 use std::alloc::Global;
-
-// Reads the words: the name of the settings file.
-pub(crate) fn read(words: &[String]) -> Option<&str>
-    ensures some { is_some result ≡ are_settings_words (map string_bytes words.now) }
-    ensures name { IfSome result (λ name. name.now ≡ slice_index_or (map string_bytes words.now) 1 []) }
-{
-    settings_after(words, "pairs")
-}
 
 // Follows the script.
 pub(crate) fn perform<S: Store, O: Sink>(
@@ -40,5 +30,5 @@ pub(crate) fn perform<S: Store, O: Sink>(
     );
     drop(described);
     let text = ids?;
-    print(alloc, Ended::Done, text.bytes(), out)
+    print_text(alloc, Ended::Done, text, out)
 }

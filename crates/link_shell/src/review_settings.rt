@@ -69,7 +69,7 @@ fn add_loaded<S: Store>(
     ensures { Takes (added_verdicts (review_of_request request.now) double (review_of reviewed.old)) (store_seen S.tells S.held S.faults store.old store.new) result }
 {
     let verdicts = load_file(alloc, store, request.verdicts, FileRole::Verdicts)?;
-    add_verdicts(
+    let added = add_verdicts(
         alloc,
         &reviewed.files,
         &reviewed.decided,
@@ -78,7 +78,9 @@ fn add_loaded<S: Store>(
         request.date,
         request.reviewer,
         double,
-    )
+    );
+    drop(verdicts);
+    added
 }
 
 // Loads the files of a plan and new verdicts, adds these to the journal, and makes its text.

@@ -1,21 +1,23 @@
 // What the decisions and the journal of a plan come to.
-ghost use Rattle.std.specs.Prelude.{◌≡◌, ◌∷◌, [], IfErr, IfOk, IsSome, Some};
-ghost use Rattle.link_base.specs.Fault.{IsAnswer, IsInputFault};
+ghost use Rattle.std.specs.Prelude.{◌≡◌, ◌∷◌, [], codes, Err, IfOk, IsSome, Some};
+ghost use Rattle.link_base.specs.Fault.{IsInputFault, Refuses};
+ghost use Rattle.link_base.specs.declared.fault.Fault.TheVariants as fault;
 ghost use Rattle.link_core.specs.Decisions.{IsDecidedIn};
 ghost use Rattle.link_core.specs.Results.{IsDecidedFor};
 ghost use Rattle.link_core.specs.Review.{IsJournalOf};
 ghost use Rattle.link_core.specs.Rules.{IsPreparedFor};
-ghost use Rattle.link_shell.specs.Reviewed.{decided_plan, found_of, IsReviewed, journal_file, journal_plan, put_of_journal, review_of, reviewed_plan, reviewed_settings, shared_decisions_of, with_journal};
+ghost use Rattle.link_shell.specs.Reviewed.{decided_plan, found_of, IsReviewed, journal_file, journal_plan, put_of_journal, review_of, reviewed_plan, reviewed_settings, shared_decisions_of};
 ghost use Rattle.link_shell.specs.Seen.{store_seen};
 ghost use Rattle.link_shell.specs.Steps.{seen_by, Takes};
 ghost use Rattle.link_shell.specs.Ways.{PutsAll};
 ghost use Rattle.plan_rule.specs.PlanRule.{IsRuleOf};
 ghost use Rattle.settings.specs.Ranges.{KeepsRanges, NamesFiles};
+ghost use Rattle.settings.specs.declared.plan.Plan.{Plan as AnyPlan};
 
 use crate::ends::{Ended, Output, put_each};
 use crate::front::{file_name, load_plan, load_prepared, load_shares_over};
 use crate::load::load_file;
-use link_base::{Fault, FileRole, Text};
+use link_base::{Fault, FileRole, NoMemory, Text};
 use link_core::{Decided, PlanShares, Prepared, decide_all, journal_in_files};
 use link_outside::Store;
 use review_journal::Journal;
@@ -56,7 +58,9 @@ fn load_named<S: Store>(
     ensures of_files { IfOk result (IsJournalOf files.now) }
 {
     let bytes = load_file(alloc, store, name, FileRole::Journal)?;
-    journal_in_files(alloc, files, bytes.bytes())
+    let journal = journal_in_files(alloc, files, bytes.bytes());
+    drop(bytes);
+    journal
 }
 
 // Loads the journal that a plan names, over its prepared files.
@@ -158,19 +162,15 @@ pub(crate) fn load_reviewed_settings<S: Store>(
     }
 }
 
-// A plan that names a journal, or that the key is missing.
-fn needs_journal(alloc: Global, plan: Plan) -> Result<Plan, Fault>
-    ensures kind { IfErr result IsInputFault }
-    ensures answer { IsAnswer (with_journal plan) result }
-    ensures same { IfOk result (λ kept. kept ≡ plan) }
-    ensures named { IfOk result (λ kept. IsSome kept.journal) }
+// The fault of a plan that must name a journal, and names none.
+fn missing_journal(alloc: Global) -> Fault
+    ensures kind { IsInputFault result }
+    ensures answer { Refuses {T = AnyPlan} (Err (fault.MissingKey (codes "journal"))) result }
 {
-    if plan.journal.is_some() {
-        return Ok(plan);
+    match Text::new(alloc, b"journal") {
+        Ok(key) => Fault::MissingKey { key },
+        Err(NoMemory) => Fault::NoMemory,
     }
-    drop(plan);
-    let key = Text::new(alloc, b"journal")?;
-    Err(Fault::MissingKey { key })
 }
 
 // Loads a settings file and reads its plan, which must name a journal.
@@ -185,7 +185,11 @@ pub(crate) fn load_journal_plan<S: Store>(
     ensures named { IfOk result (λ plan. IsSome plan.journal) }
 {
     let plan = load_plan(alloc, store, name)?;
-    needs_journal(alloc, plan)
+    if plan.journal.is_some() {
+        return Ok(plan);
+    }
+    drop(plan);
+    Err(missing_journal(alloc))
 }
 
 // The name of the journal of a plan that has one.

@@ -1,14 +1,12 @@
 // The command `rule SETTINGS`.
-ghost use Rattle.std.specs.Prelude.{◌≡◌, [], IfSome, is_some, map, slice_index_or, string_bytes};
 ghost use Rattle.link_shell.specs.Does.{Does};
 ghost use Rattle.link_shell.specs.Due.{Due};
-ghost use Rattle.link_shell.specs.RuleSettings.{are_rule_words, PrintsLeastRule, rule_is_printed, rule_script};
+ghost use Rattle.link_shell.specs.RuleSettings.{PrintsLeastRule, rule_is_printed, rule_script};
 ghost use Rattle.link_shell.specs.Seen.{sink_seen, store_seen};
 ghost use Rattle.link_shell.specs.declared.front.Shared.{Shared as AnyShared};
 
-use crate::ends::{Ended, print};
+use crate::ends::{Ended, print_lines};
 use crate::front::load_shared;
-use crate::words::settings_after;
 use link_base::Fault;
 use link_core::rule_lines;
 use link_outside::{Sink, Store};
@@ -19,14 +17,6 @@ use std::alloc::Global;
 pub fn printed_rule_is_least()
     ensures { (shared : AnyShared) (due : Due) → rule_is_printed shared due → PrintsLeastRule shared due }
 {}
-
-// Reads the words: the name of the settings file.
-pub(crate) fn read(words: &[String]) -> Option<&str>
-    ensures some { is_some result ≡ are_rule_words (map string_bytes words.now) }
-    ensures name { IfSome result (λ name. name.now ≡ slice_index_or (map string_bytes words.now) 1 []) }
-{
-    settings_after(words, "rule")
-}
 
 // Follows the script.
 pub(crate) fn perform<S: Store, O: Sink>(
@@ -40,6 +30,5 @@ pub(crate) fn perform<S: Store, O: Sink>(
     let shared = load_shared(alloc, store, name)?;
     let lines = rule_lines(alloc, &shared.plan, &shared.shares);
     drop(shared);
-    let text = lines?;
-    print(alloc, Ended::Done, text.bytes(), out)
+    print_lines(alloc, lines, out)
 }

@@ -3,10 +3,10 @@ use Rattle.link_shell.proofs.HeadlineFacts.{headline}
 use Rattle.link_shell.proofs.command.linkage.Goals as goal
 
 pub returns-clause-headline : goal.returns-clause-headline
-returns-clause-headline g c = headline _ _ _ _ c.perform-answer.result _ c.perform-answer.ensures c.report.ensures
+returns-clause-headline g c = headline _ _ _ _ c.perform-answer.result _ c.perform-answer.ensures c.report-status.ensures
 
 pub returns-clause-proved_by_run : goal.returns-clause-proved_by_run
-returns-clause-proved_by_run g c = proved_by_run c.run_is_verified.ensures _ _ _ _ c.perform-answer.result _ c.perform-answer.ensures c.report.ensures
+returns-clause-proved_by_run g c = proved_by_run c.run_is_verified.ensures _ _ _ _ c.perform-answer.result _ c.perform-answer.ensures c.report-status.ensures
 
 pub returns-clause-yes_where_proved : goal.returns-clause-yes_where_proved
-returns-clause-yes_where_proved g c = yes_where_proved _ _ _ _ c.perform-answer.result _ c.perform-answer.ensures c.report.ensures
+returns-clause-yes_where_proved g c = yes_where_proved _ _ _ _ c.perform-answer.result _ c.perform-answer.ensures c.report-status.ensures

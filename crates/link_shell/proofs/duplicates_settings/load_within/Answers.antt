@@ -9,7 +9,7 @@ use Rattle.settings.specs.Within.{plan_within}
 use Rattle.settings.specs.declared.plan.Plan.{Plan}
 use Rattle.link_shell.specs.Seen.{StoreSeen}
 use Rattle.link_shell.specs.Steps.{file, Takes}
-use Rattle.link_shell.proofs.StepFacts.{takes_go, takes_stop, takes_value}
+use Rattle.link_shell.proofs.StepFacts.{of_bytes, takes_go, takes_stop, takes_value}
 use Rattle.link_shell.proofs.duplicates_settings.load_within.Goals as goal
 
 -- the load of a file by its name
@@ -29,14 +29,12 @@ returns-in_err-a-clause-takes g c =
 pub returns-clause-takes : goal.returns-clause-takes
 returns-clause-takes g c =
     let a = c.in_ok-a.a in
-    let P : List ℕ → List ℕ → Type 0 = λ x y. IsAnswer (prepared c.args.plan.now MOST_POOLED_BYTES x y) c.prepare_files.result in
-    let once : P a c.bytes-2.result.now = subst (λ x. P x c.bytes-2.result.now) c.bytes.ensures c.prepare_files.ensures.answer in
+    let answer = of_bytes (λ x y. IsAnswer (prepared c.args.plan.now MOST_POOLED_BYTES x y) c.prepare_files-files.result) {a = a} {b = a} c.bytes.ensures c.bytes-2.ensures c.prepare_files-files.ensures.answer in
     takes_go _ _ (by_name c.file_name.result.now c.args.plan.now.file_a c.file_name.ensures c.in_ok-a.ensures)
-    (takes_value c.prepare_files.ensures.kind (subst (λ y. P a y) c.bytes-2.ensures once))
+    (takes_value c.prepare_files-files.ensures.kind answer)
 
 pub returns-clause-same : goal.returns-clause-same
 returns-clause-same g c =
     let a = c.in_ok-a.a in
-    let P : List ℕ → List ℕ → Type 0 = λ x y. IsAnswer (prepared c.args.plan.now MOST_POOLED_BYTES x y) c.prepare_files.result in
-    let once : P a c.bytes-2.result.now = subst (λ x. P x c.bytes-2.result.now) c.bytes.ensures c.prepare_files.ensures.answer in
-    same_if c.args.plan.now c.requires.within.0 MOST_POOLED_BYTES a c.prepare_files.result c.requires.within.1 (subst (λ y. P a y) c.bytes-2.ensures once)
+    let answer = of_bytes (λ x y. IsAnswer (prepared c.args.plan.now MOST_POOLED_BYTES x y) c.prepare_files-files.result) {a = a} {b = a} c.bytes.ensures c.bytes-2.ensures c.prepare_files-files.ensures.answer in
+    same_if c.args.plan.now c.requires.within.0 MOST_POOLED_BYTES a c.prepare_files-files.result c.requires.within.1 answer

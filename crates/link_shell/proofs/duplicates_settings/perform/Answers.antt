@@ -1,11 +1,11 @@
-use Rattle.std.proofs.Common.{◌≡◌, ◌<◌, ℕ, List, Bool, true, Result, ap, arith, length, subst}
+use Rattle.std.proofs.Common.{◌≡◌, ◌<◌, ℕ, List, Bool, true, Result, arith, length, refl, subst}
 use Rattle.std.specs.Prelude.{All, nat_lt}
 use Rattle.std.proofs.lemmas.Bool.Decides.{nat_tests}
 use Rattle.std.proofs.lemmas.List.Elements.{All-filter, filter_passes}
 use Rattle.dedup_groups.specs.Groups.{IsLinkWithin}
 use Rattle.link_base.specs.declared.fault.Fault.{Fault}
 use Rattle.link_base.specs.declared.rule.PairAt.{PairAt}
-use Rattle.link_core.specs.Duplicates.{links_within}
+use Rattle.link_core.specs.Duplicates.{IsGroupsText, links_within}
 use Rattle.pair_decisions.specs.Pairs.{IsInside}
 use Rattle.settings.specs.Within.{plan_within}
 use Rattle.settings.specs.declared.plan.Plan.{Plan}
@@ -14,7 +14,7 @@ use Rattle.link_shell.specs.DuplicatesSettings.{AreGroupsPrinted, decided_within
 use Rattle.link_shell.specs.Seen.{StoreSeen}
 use Rattle.link_shell.specs.Steps.{Takes}
 use Rattle.link_shell.specs.declared.ends.Ended.TheVariants.{Done}
-use Rattle.link_shell.proofs.DoesFacts.{does_fail, does_go, does_print, does_stop, does_want, does_want_after}
+use Rattle.link_shell.proofs.DoesFacts.{does_fail, does_go, does_lines, does_stop, does_want}
 use Rattle.link_shell.proofs.duplicates_settings.perform.Goals as goal
 
 -- the decisions of the same plan
@@ -53,25 +53,14 @@ returns-in_err-found g c =
     does_go _ _ _ c.in_ok-plan.ensures.takes
     (does_fail _ _ (by_plan c.in_ok-within.within (plan_within c.in_ok-plan.plan) gives c.in_err-found.ensures.takes) c.from_residual-in_err-found.ensures.1)
 
-pub returns-in_err-text : goal.returns-in_err-text
-returns-in_err-text g c =
-    let gives = c.in_ok-within.ensures.gives in
-    does_go _ _ _ c.in_ok-plan.ensures.takes
-    (does_want_after _ _ (by_plan c.in_ok-within.within (plan_within c.in_ok-plan.plan) gives c.in_ok-found.ensures.takes) c.from_residual-in_err-text.ensures.1)
-
 pub returns : goal.returns
 returns g c =
     let gives = c.in_ok-within.ensures.gives in
     let found = within_of c.in_ok-found.found in
     let records = found.files.files.a.records in
     let links = two_records (length records) (length found.files.files.b.records) found.decided.links c.in_ok-found.ensures.same c.in_ok-found.ensures.of_file.links in
-    let groups = c.in_ok-text.ensures in
-    let printed : AreGroupsPrinted found (prints Done c.bytes.result.now) = record {
-      text = c.in_ok-text.text;
-      groups = groups;
-      leaders = c.forest_leaders.ensures (length records) (links_within found.decided.links) groups.lists links groups.forest;
-      so = ap (λ t. prints Done t) c.bytes.ensures;
-    } in
+    let printed : (text : List ℕ) → IsGroupsText records found.decided.links text → AreGroupsPrinted found (prints Done text) =
+    λ text groups. record { text = text; groups = groups; leaders = c.forest_leaders.ensures (length records) (links_within found.decided.links) groups.lists links groups.forest; so = refl } in
     does_go _ _ _ c.in_ok-plan.ensures.takes
-    (does_print (decided_within (plan_within c.in_ok-plan.plan)) AreGroupsPrinted {x = found}
-    (by_plan c.in_ok-within.within (plan_within c.in_ok-plan.plan) gives c.in_ok-found.ensures.takes) c.print.ensures printed)
+    (does_lines (decided_within (plan_within c.in_ok-plan.plan)) AreGroupsPrinted (IsGroupsText records found.decided.links) c.duplicate_lines-lines.result {x = found}
+    (by_plan c.in_ok-within.within (plan_within c.in_ok-plan.plan) gives c.in_ok-found.ensures.takes) printed c.duplicate_lines-lines.ensures c.print_lines.ensures.printed c.print_lines.ensures.wanted)

@@ -5,9 +5,8 @@ use Rattle.link_shell.proofs.front.load_both.Goals as goal
 pub returns-in_err-a : goal.returns-in_err-a
 returns-in_err-a g c = takes_stop _ _ c.in_err-a.ensures c.from_residual.ensures.1
 
-pub returns-in_err-b : goal.returns-in_err-b
-returns-in_err-b g c =
-    takes_go _ _ c.in_ok-a.ensures (takes_stop _ _ c.in_err-b.ensures c.from_residual-in_err-b.ensures.1)
+pub returns-in-Err : goal.returns-in-Err
+returns-in-Err g c = takes_go _ _ c.in_ok-a.ensures (takes_stop _ _ c.in-Err.ensures refl)
 
-pub returns : goal.returns
-returns g c = takes_go _ _ c.in_ok-a.ensures (takes_go _ _ c.in_ok-b.ensures (takes_value tt refl))
+pub returns-in-Ok : goal.returns-in-Ok
+returns-in-Ok g c = takes_go _ _ c.in_ok-a.ensures (takes_go _ _ c.in-Ok.ensures (takes_value tt refl))

@@ -1,8 +1,7 @@
-use Rattle.std.proofs.Common.{ℕ, List, subst}
 use Rattle.link_base.specs.Fault.{IsAnswer}
 use Rattle.link_limits.specs.declared.TheConstants.{MOST_POOLED_BYTES}
 use Rattle.link_core.specs.Prepared.{prepared}
-use Rattle.link_shell.proofs.StepFacts.{takes_go, takes_stop, takes_value}
+use Rattle.link_shell.proofs.StepFacts.{of_bytes, takes_go, takes_stop, takes_value}
 use Rattle.link_shell.proofs.front.load_prepared.Goals as goal
 
 pub returns-in_err-inputs-clause-takes : goal.returns-in_err-inputs-clause-takes
@@ -10,6 +9,5 @@ returns-in_err-inputs-clause-takes g c = takes_stop _ _ c.in_err-inputs.ensures 
 
 pub returns-clause-takes : goal.returns-clause-takes
 returns-clause-takes g c =
-    let P : List ℕ → List ℕ → Type 0 = λ a b. IsAnswer (prepared c.args.plan.now MOST_POOLED_BYTES a b) c.prepare_files-files.result in
-    let of_a : P c.in_ok-inputs.inputs.a c.bytes-2.result.now = subst (λ a. P a c.bytes-2.result.now) c.bytes.ensures c.prepare_files-files.ensures.answer in
-    takes_go _ _ c.in_ok-inputs.ensures (takes_value c.prepare_files-files.ensures.kind (subst (λ b. P c.in_ok-inputs.inputs.a b) c.bytes-2.ensures of_a))
+    let answer = of_bytes (λ a b. IsAnswer (prepared c.args.plan.now MOST_POOLED_BYTES a b) c.prepare_files-files.result) c.bytes.ensures c.bytes-2.ensures c.prepare_files-files.ensures.answer in
+    takes_go _ _ c.in_ok-inputs.ensures (takes_value c.prepare_files-files.ensures.kind answer)

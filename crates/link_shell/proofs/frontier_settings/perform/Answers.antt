@@ -1,22 +1,16 @@
-use Rattle.std.proofs.Common.{ap, ◌∙◌, subst, List, ℕ}
+use Rattle.std.proofs.Common.{map, refl}
+use Rattle.std.specs.Prelude.{string_bytes}
+use Rattle.csv_rows.specs.Numbers.{number_in}
 use Rattle.link_core.specs.Rules.{IsFrontierText}
-use Rattle.link_shell.specs.Due.{prints}
-use Rattle.link_shell.specs.declared.ends.Ended.TheVariants.{Done}
-use Rattle.link_shell.proofs.DoesFacts.{does_fail, does_print, does_want, does_want_after}
+use Rattle.link_shell.specs.FrontierSettings.{frontier_is_printed}
+use Rattle.link_shell.proofs.DoesFacts.{does_fail, does_lines}
 use Rattle.link_shell.proofs.frontier_settings.perform.Goals as goal
 
 pub returns-in_err-shared : goal.returns-in_err-shared
-returns-in_err-shared g c = does_fail _ _ c.in_err-shared.ensures.takes c.from_residual-in_err-shared.ensures.1
-
-pub returns-in_err-levels : goal.returns-in_err-levels
-returns-in_err-levels g c = does_want _ c.from_residual.ensures.1
-
-pub returns-in_err-text : goal.returns-in_err-text
-returns-in_err-text g c = does_want_after _ _ c.in_ok-shared.ensures.takes c.from_residual-in_err-text.ensures.1
+returns-in_err-shared g c = does_fail _ _ c.in_err-shared.ensures.takes c.from_residual.ensures.1
 
 pub returns : goal.returns
 returns g c =
     let shared = c.in_ok-shared.shared in
-    let IsText : List ℕ → Type 0 = λ levels. IsFrontierText shared.plan shared.shares levels c.in_ok-text.text in
-    let is_text = subst IsText (c.deref.ensures.value ∙ c.in_ok-levels.ensures.levels) c.in_ok-text.ensures in
-    does_print _ _ c.in_ok-shared.ensures.takes c.print.ensures (c.in_ok-text.text, is_text, ap (λ t. prints Done t) c.bytes.ensures)
+    let levels = map number_in (map string_bytes c.args.request.now.levels.now) in
+    does_lines _ (frontier_is_printed levels) (IsFrontierText shared.plan shared.shares levels) c.text_at-lines.result {x = shared} c.in_ok-shared.ensures.takes (λ text is. (text, is, refl)) c.text_at-lines.ensures c.print_lines.ensures.printed c.print_lines.ensures.wanted

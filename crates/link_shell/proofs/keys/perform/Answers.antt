@@ -1,10 +1,13 @@
-use Rattle.std.proofs.Common.{refl, rules}
-use Rattle.link_shell.proofs.DoesFacts.{does_print, does_want}
+use Rattle.std.proofs.Common.{◌≡◌, ap, refl}
+use Rattle.std.specs.Prelude.{map, string_bytes}
+use Rattle.link_core.specs.NameKeys.{keys_text}
+use Rattle.link_shell.specs.Due.{is_printed, prints}
+use Rattle.link_shell.specs.declared.ends.Ended.TheVariants.{Done}
+use Rattle.link_shell.proofs.DoesFacts.{does_lines}
 use Rattle.link_shell.proofs.StepFacts.{takes_value}
 use Rattle.link_shell.proofs.keys.perform.Goals as goal
 
-pub returns-in_err-text : goal.returns-in_err-text
-returns-in_err-text g c = does_want _ c.from_residual.ensures.1
-
 pub returns : goal.returns
-returns g c = does_print _ _ (takes_value tt refl) c.print.ensures (search rules)
+returns g c =
+    let keys = keys_text (map string_bytes c.args.words.now) in
+    does_lines _ is_printed (λ text. text ≡ keys) c.key_lines-lines.result {x = keys} (takes_value tt refl) (λ text is. ap (λ t. prints Done t) is) c.key_lines-lines.ensures c.print_lines.ensures.printed c.print_lines.ensures.wanted

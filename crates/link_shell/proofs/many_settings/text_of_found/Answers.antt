@@ -2,14 +2,18 @@ use Rattle.std.proofs.Common.{Ok, refl}
 use Rattle.link_shell.specs.ManySettings.{IsLinksText, within_capacities}
 use Rattle.link_shell.specs.Reviewed.{found_of}
 use Rattle.link_shell.specs.Steps.{gives}
-use Rattle.link_shell.proofs.StepFacts.{makes_end, makes_go, makes_of, takes_value}
+use Rattle.link_shell.proofs.StepFacts.{makes_end, makes_go, makes_want, takes_go, takes_value}
 use Rattle.link_shell.proofs.many_settings.text_of_found.Goals as goal
 
 pub returns-in_err-capacities : goal.returns-in_err-capacities
 returns-in_err-capacities g c = makes_end _ _ IsLinksText _ c.in_err-capacities.ensures.takes c.from_residual.ensures.1
 
+pub returns-in_err-text : goal.returns-in_err-text
+returns-in_err-text g c =
+    let within = within_capacities (found_of c.args.found.now) c.in_ok-capacities.capacities in
+    makes_go _ _ IsLinksText _ _ _ c.in_ok-capacities.ensures.takes (makes_want (gives (Ok within)) IsLinksText _ {x = within} (takes_value tt refl) c.from_residual-in_err-text.ensures.1)
+
 pub returns : goal.returns
 returns g c =
     let within = within_capacities (found_of c.args.found.now) c.in_ok-capacities.capacities in
-    makes_go _ _ IsLinksText _ _ _ c.in_ok-capacities.ensures.takes
-    (makes_of (gives (Ok within)) IsLinksText _ {x = within} (takes_value tt refl) c.text_of-text.ensures.text c.text_of-text.ensures.wants)
+    (within, takes_go _ _ c.in_ok-capacities.ensures.takes (takes_value {expected = Ok within} {result = Ok within} tt refl), c.in_ok-text.ensures)

@@ -1,15 +1,13 @@
-use Rattle.std.proofs.Common.{ap}
-use Rattle.link_shell.specs.Due.{prints}
-use Rattle.link_shell.specs.declared.ends.Ended.TheVariants.{Done}
-use Rattle.link_shell.proofs.DoesFacts.{does_fail, does_print, does_want_after}
+use Rattle.std.proofs.Common.{refl}
+use Rattle.link_core.specs.Rules.{IsRuleText}
+use Rattle.link_shell.specs.RuleSettings.{rule_is_printed}
+use Rattle.link_shell.proofs.DoesFacts.{does_fail, does_lines}
 use Rattle.link_shell.proofs.rule_settings.perform.Goals as goal
 
 pub returns-in_err-shared : goal.returns-in_err-shared
 returns-in_err-shared g c = does_fail _ _ c.in_err-shared.ensures.takes c.from_residual.ensures.1
 
-pub returns-in_err-text : goal.returns-in_err-text
-returns-in_err-text g c = does_want_after _ _ c.in_ok-shared.ensures.takes c.from_residual-in_err-text.ensures.1
-
 pub returns : goal.returns
 returns g c =
-    does_print _ _ c.in_ok-shared.ensures.takes c.print.ensures (c.in_ok-text.text, c.in_ok-text.ensures, ap (λ t. prints Done t) c.bytes.ensures)
+    let shared = c.in_ok-shared.shared in
+    does_lines _ rule_is_printed (IsRuleText shared.plan shared.shares) c.rule_lines-lines.result {x = shared} c.in_ok-shared.ensures.takes (λ text is. (text, is, refl)) c.rule_lines-lines.ensures c.print_lines.ensures.printed c.print_lines.ensures.wanted
