@@ -1,7 +1,6 @@
-use Rattle.std.proofs.Common.{◌≡◌, ◌≤◌, ◌++◌, drop, map}
-use Rattle.std.specs.Prelude.{All, string_bytes, true}
+use Rattle.std.proofs.Common.{◌≡◌, ◌++◌, drop, map}
+use Rattle.std.specs.Prelude.{string_bytes, true}
 use Rattle.std.specs.List.{list_all}
-use Rattle.link_limits.specs.declared.TheConstants.{PER_MILLION}
 use Rattle.link_shell.specs.FrontierSettings.{is_level_word}
 use Rattle.csv_rows.specs.Numbers.{number_in}
 use Rattle.link_shell.proofs.frontier_settings.levels_of.Given as goal
@@ -9,6 +8,5 @@ use Rattle.link_shell.proofs.frontier_settings.levels_of.Given as goal
 abbrev pub invariant-loop-word : goal.invariant-loop-word
 invariant-loop-word l = record {
   levels : map number_in (map string_bytes l.words) ≡ l.levels.items ++ map number_in (map string_bytes (drop l.word-index l.words));
-  most : All (λ mu. mu ≤ PER_MILLION) l.levels.items;
   left : list_all is_level_word (map string_bytes (drop l.word-index l.words)) ≡ true;
 }
