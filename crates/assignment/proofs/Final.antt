@@ -8,10 +8,10 @@ use Rattle.std.proofs.lemmas.Int.{ints}
 use Rattle.std.proofs.lemmas.List.{get_or-set_other, get_or_past, get_or-replicate, length-replicate}
 use Rattle.std.proofs.lemmas.List.Elements.{All-head, All-tail, All-cons, All-filter, All-contains_itself, All-nil, All-contains, filter_passes}
 use Rattle.link_base.specs.declared.rule.Candidate.{Candidate}
-use Rattle.assignment_laws.specs.Assignment.{price_sum, price_of, worth, greatest_value, IsBefore, IsWithin, SharesNoRecord, IsCovered, IsOneToOne, Certifies}
-use Rattle.assignment_laws.proofs.Duality.{without, IsTight, price_sum-without, price_sum-zero, AllPairs-head, AllPairs-tail}
-use Rattle.assignment_laws.proofs.Bounds.{bounded_by_links}
-use Rattle.assignment_laws.proofs.Members.{Contains-filter, Contains-later, clash, same_member}
+use Rattle.price_check.specs.Assignment.{price_sum, price_of, worth, greatest_value, IsBefore, IsWithin, SharesNoRecord, IsCovered, IsOneToOne, Certifies}
+use Rattle.price_check.proofs.Duality.{without, IsTight, price_sum-without, price_sum-zero, AllPairs-head, AllPairs-tail}
+use Rattle.price_check.proofs.Bounds.{bounded_by_links}
+use Rattle.price_check.proofs.Members.{Contains-filter, Contains-later, clash, same_member}
 use Rattle.std.proofs.lemmas.List.Kept.{AllPairs-filter}
 use Rattle.assignment_steps.specs.declared.market.Edge.{Edge}
 use Rattle.assignment_steps.specs.Market.{link, edge, number, no_edge, IsInRange, AreSmall, IsRising}

@@ -2,8 +2,8 @@
 use Rattle.std.specs.Prelude.{◌≡◌, ℕ, ◌≤◌, pos, ◌≤ℤ◌, List, All, AllPairs}
 use Rattle.link_limits.specs.declared.TheConstants.{MOST_VALUE}
 use Rattle.link_base.specs.declared.rule.Candidate.{Candidate}
-use Rattle.assignment_laws.specs.Assignment.{IsBefore, greatest_value}
-use Rattle.assignment_laws.specs.PartNumbers.{ArePartNumbers}
+use Rattle.price_check.specs.Assignment.{IsBefore, greatest_value}
+use Rattle.price_check.specs.PartNumbers.{ArePartNumbers}
 use Rattle.assignment.specs.declared.assigner.Assigner.TheInside.{Inside}
 use Rattle.assignment.specs.Final.{edges_of}
 use Rattle.assignment.specs.Graph.{AreSides, IsGraph}

@@ -1,15 +1,15 @@
 // The assigner and its answer.
 ghost use Rattle.std.specs.Prelude.{◌≡◌, ◌<◌, ◌≤◌, length, All, AllPairs, IfOk, slice_index, pos, ◌≤ℤ◌};
-ghost use Rattle.assignment_laws.specs.Assignment.{IsBefore, IsWithin, IsGreatest, Certifies, greatest_value, price_of};
-ghost use Rattle.assignment_laws.specs.PartNumbers.{ArePartNumbers};
+ghost use Rattle.price_check.specs.Assignment.{IsBefore, IsWithin, IsGreatest, Certifies, greatest_value, price_of};
+ghost use Rattle.price_check.specs.PartNumbers.{ArePartNumbers};
 ghost use Rattle.assignment.specs.Solution.{HasSmallValue};
 
 use crate::graph::{Graph, Sides, first_sides, graph_of, run_sides};
 use crate::side::Side;
 use crate::solve::linked;
-use assignment_laws::{PartNumbers, certified_is_greatest, part_numbers};
 use link_base::{Candidate, NoMemory};
 use link_limits::MOST_PAIRS;
+use price_check::{PartNumbers, certified_is_greatest, part_numbers};
 use std::alloc::Global;
 use std::marker::Model;
 

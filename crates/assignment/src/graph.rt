@@ -1,6 +1,6 @@
 // The edges from both sides, and the sides that search over them.
 ghost use Rattle.std.specs.Prelude.{◌≡◌, All, AllPairs, IfOk, length};
-ghost use Rattle.assignment_laws.specs.Assignment.{IsBefore, IsWithin};
+ghost use Rattle.price_check.specs.Assignment.{IsBefore, IsWithin};
 ghost use Rattle.assignment_steps.specs.Between.{IsBetween};
 ghost use Rattle.assignment.specs.Final.{edges_of};
 ghost use Rattle.assignment.specs.Graph.{AreSides, IsGraph};

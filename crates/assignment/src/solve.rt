@@ -1,6 +1,6 @@
 // From candidates to a greatest list with its prices.
 ghost use Rattle.std.specs.Prelude.{◌≡◌, ◌≢◌, ◌+◌, ◌-◌, ◌<◌, ◌≤◌, ◌^◌, ℕ, length, slice_index, slice_index_or, List, [], None, Some, Contains, All, AllPairs, vec_len, vec_capacity, MatchOption, IfOk, filter, filter_map, replicate};
-ghost use Rattle.assignment_laws.specs.Assignment.{IsBefore, IsGreatest, Certifies};
+ghost use Rattle.price_check.specs.Assignment.{IsBefore, IsGreatest, Certifies};
 ghost use Rattle.assignment_steps.specs.Market.{number, edge, AreSmall, IsRising};
 ghost use Rattle.assignment.specs.Final.{edges_of, edge_from, is_linked, prices_of, ReachAll};
 ghost use Rattle.assignment.specs.Solution.{HasSmallValue};
@@ -8,8 +8,7 @@ ghost use Rattle.link_limits.specs.declared.TheConstants.{MOST_VALUE};
 ghost use Rattle.assignment.specs.Growth.{AreFar, IsClean};
 
 use crate::market::{FAR, Tree};
-use assignment_steps::Edge;
-use distance_queue::DistanceQueue;
+use assignment_steps::{DistanceQueue, Edge};
 use link_base::{Candidate, NoMemory};
 use std::alloc::Global;
 

@@ -3,3 +3,4 @@ pub mod Writes
 pub mod Taken
 pub mod Joined
 pub mod StartFacts
+pub mod Members

@@ -3,3 +3,5 @@ pub mod Free
 pub mod Joined
 pub mod Market
 pub mod Turned
+pub mod Entries
+pub mod Queue

@@ -1,3 +1,5 @@
+//! Records by distance, the nearest first, in memory that is taken beforehand.
+//!
 //! Steps between prices and links of an assignment: between any two of them prices cover every candidate,
 //! links are tight, and a record of B without a link has no price (primal-dual method: Kuhn 1955).
 //!
@@ -9,6 +11,7 @@ mod adopt;
 mod left;
 mod market;
 mod other_links;
+mod queue;
 mod starts;
 mod tight;
 mod turned;
@@ -17,6 +20,7 @@ pub use adopt::{adopt_all, adopt_proposal};
 pub use left::waiting;
 pub use market::{Board, Edge, Net, Proposal};
 pub use other_links::join_as_turned;
+pub use queue::{DistanceQueue, FARTHEST, Near};
 pub use starts::starts_of;
 pub use tight::link_tight;
 pub use turned::{are_rising, starts_or_zeros, turned_edges};

@@ -6,7 +6,7 @@ use Rattle.link_base.specs.Standard.{absent_value}
 use Rattle.link_base.specs.declared.standard.Value.{Value}
 use Rattle.link_base.specs.declared.plan.Part.{Part}
 use Rattle.link_base.specs.declared.plan.KeyKind.TheVariants.{Whole}
-pub use Rattle.value_canons.specs.Canons.{IsReadable, value_part}
+pub use Rattle.value_forms.specs.Canons.{IsReadable, value_part}
 
 -- the part of a key that a row has
 abbrev pub part_key : List Value → Part → Option (List ℕ)

@@ -6,7 +6,7 @@ ghost use Rattle.block_passes.specs.Keys.{AreReadable, InRange, key_in_pass};
 use crate::parts::part_text;
 use link_base::{NoMemory, Pass, StdRow};
 use std::alloc::Global;
-use value_canons::bytes_of;
+use value_forms::bytes_of;
 
 fn push_byte(code: &mut Vec<u8>, byte: u8) -> Result<(), NoMemory>
     ensures { OnOk result (code.new.items ≡ code.old.items ++ marked byte) }

@@ -12,7 +12,7 @@ use crate::parts::part_text;
 use link_base::{NoMemory, Part, Pass, StdRow};
 use std::alloc::Global;
 use std::marker::Model;
-use value_canons::bytes_of;
+use value_forms::bytes_of;
 use value_pool::{Id, Pool};
 
 /// The key of a row in a pass as ids, which contracts see as the list of them, one a part.

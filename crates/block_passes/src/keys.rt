@@ -8,7 +8,7 @@ use crate::parts::part_text;
 use link_base::{NoMemory, Pass, StdRow, Text};
 use std::alloc::Global;
 use std::marker::Model;
-use value_canons::bytes_of;
+use value_forms::bytes_of;
 
 /// The key of a row in a pass, which contracts see as the list of its texts, one a part.
 #[derive(Drop)]

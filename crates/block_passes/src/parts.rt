@@ -1,10 +1,10 @@
 // The part of a key that a row has.
 ghost use Rattle.std.specs.Prelude.{◌≡◌, ◌<◌, length, option_map};
 ghost use Rattle.block_passes.specs.Keys.{IsPartReadable, part_key};
-ghost use Rattle.value_canons.specs.CanonTexts.{canon_bytes};
+ghost use Rattle.value_forms.specs.CanonTexts.{canon_bytes};
 
 use link_base::{Part, StdRow};
-use value_canons::{CanonText, value_text};
+use value_forms::{CanonText, value_text};
 
 /// The part of a key that a row has, `None` exactly where its value makes none.
 pub fn part_text<'r>(row: &'r StdRow, part: Part) -> Option<CanonText<'r>>

@@ -6,8 +6,8 @@ use Rattle.std.proofs.lemmas.Bool.{or_from}
 use Rattle.std.proofs.lemmas.Int.{ints}
 use Rattle.std.proofs.lemmas.List.{drop_more, drop_all}
 use Rattle.std.proofs.lemmas.List.Elements.{All-tail, All-head, All-contains}
-use Rattle.assignment_laws.proofs.Members.{clash}
-use Rattle.assignment_laws.specs.Assignment.{IsBefore, total}
+use Rattle.price_check.proofs.Members.{clash}
+use Rattle.price_check.specs.Assignment.{IsBefore, total}
 use Rattle.link_base.specs.declared.rule.Candidate.{Candidate}
 use Rattle.candidate_links.specs.Choice.{dropped, dropped_of, is_linked, is_same_pair}
 use Rattle.link_report.specs.declared.report.Dropped.{Dropped}

@@ -3,8 +3,8 @@ use Rattle.std.proofs.Common.{◌≡◌, ◌∷◌, ℕ, ℤ, pos, negsuc, List,
 use Rattle.std.specs.Prelude.{◌≤ℤ◌, All, find, if◌then◌else◌, unwrap_or}
 use Rattle.std.proofs.lemmas.Int.{ints}
 use Rattle.std.proofs.lemmas.List.Elements.{All-contains_itself, All-head, All-nil, All-tail}
-use Rattle.assignment_laws.proofs.Bounds.{bounded_by_candidates, greatest_value-least}
-use Rattle.assignment_laws.specs.Assignment.{Certifies, IsOneToOne, price_of}
+use Rattle.price_check.proofs.Bounds.{bounded_by_candidates, greatest_value-least}
+use Rattle.price_check.specs.Assignment.{Certifies, IsOneToOne, price_of}
 use Rattle.comparators.specs.declared.ids.IdValue.{IdValue}
 use Rattle.link_base.specs.Rule.{empty_cell, IsWithinRanges}
 use Rattle.link_base.specs.declared.rule.Candidate.{Candidate}

@@ -4,7 +4,7 @@
 use Rattle.std.specs.Prelude.{◌≡◌, ◌+◌, ◌≤◌, ◌+ℤ◌, ◌≤ℤ◌, ℕ, ℤ, pos, negsuc, true, false, List, All, AllPairs, filter_map, length, Option, Some, None}
 use Rattle.link_limits.specs.declared.TheConstants.{MOST_PAIRS}
 use Rattle.assignment.specs.Solution.{HasSmallValue}
-use Rattle.assignment_laws.specs.Assignment.{IsBefore, IsWithin}
+use Rattle.price_check.specs.Assignment.{IsBefore, IsWithin}
 use Rattle.comparators.specs.declared.ids.IdValue.{IdValue}
 use Rattle.link_base.specs.declared.rule.Candidate.{Candidate}
 use Rattle.link_base.specs.declared.rule.Decision.{Decision}

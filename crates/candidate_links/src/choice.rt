@@ -1,16 +1,16 @@
 // The links chosen among candidates.
 ghost use Rattle.std.specs.Prelude.{◌≡◌, ◌≤◌, ◌≤ℤ◌, ◌^◌, All, AllPairs, Contains, IfOk, length};
 ghost use Rattle.assignment.specs.Solution.{HasSmallValue};
-ghost use Rattle.assignment_laws.specs.Assignment.{Certifies, greatest_value, IsBefore, IsGreatest, IsWithin, worth};
+ghost use Rattle.price_check.specs.Assignment.{Certifies, greatest_value, IsBefore, IsGreatest, IsWithin, worth};
 ghost use Rattle.candidate_links.specs.Choice.{dropped, dropped_of, is_same_pair};
 ghost use Rattle.candidate_links.specs.Passing.{is_next};
 
 use crate::merging::after_first;
 use assignment::{Assigner, Assignment};
-use assignment_laws::prices_are_bounded;
 use link_base::{Candidate, NoMemory, PairAt};
 use link_limits::MOST_PAIRS;
 use link_report::Dropped;
+use price_check::prices_are_bounded;
 use std::alloc::Global;
 
 /// The links chosen among candidates, rising by position, with the dual prices of all records of A and of B that certify them, the

@@ -1,6 +1,6 @@
 // What holds of every certificate of candidates.
 ghost use Rattle.std.specs.Prelude.{◌≤ℤ◌, ℕ, ℤ, All, List};
-ghost use Rattle.assignment_laws.specs.Assignment.{Certifies, IsOneToOne, price_of};
+ghost use Rattle.price_check.specs.Assignment.{Certifies, IsOneToOne, price_of};
 ghost use Rattle.candidate_links.specs.Candidates.{HasBounds, candidates_of, most_value};
 ghost use Rattle.comparators.specs.declared.ids.IdValue.{IdValue};
 ghost use Rattle.link_base.specs.Rule.{IsWithinRanges};

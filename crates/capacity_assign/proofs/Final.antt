@@ -9,11 +9,11 @@ use Rattle.std.proofs.lemmas.Int.{ints}
 use Rattle.std.proofs.lemmas.List.{get_or-set_other, get_or-set_same, get_or_past, get_or-replicate, length-replicate}
 use Rattle.std.proofs.lemmas.List.Elements.{All-head, All-tail, All-cons, All-filter, All-contains_itself, All-nil, All-contains, filter_passes}
 use Rattle.link_base.specs.declared.rule.Candidate.{Candidate}
-use Rattle.assignment_laws.specs.Assignment.{price_sum, price_of, worth, IsBefore, IsWithin, IsCovered}
-use Rattle.assignment_laws.specs.Capacities.{CertifiesWithin, IsWithinCapacities, capacity_of, links_at, place_sum}
-use Rattle.assignment_laws.proofs.Duality.{without, IsTight, price_sum-without, price_sum-zero, AllPairs-head, AllPairs-tail}
-use Rattle.assignment_laws.proofs.Members.{Contains-filter, Contains-later, clash, same_member}
-use Rattle.assignment_laws.proofs.Places.{AreApart, fits-tail, links_at-here, links_at-other, one_less, place_sum-one_less, place_there}
+use Rattle.price_check.specs.Assignment.{price_sum, price_of, worth, IsBefore, IsWithin, IsCovered}
+use Rattle.price_check.specs.Capacities.{CertifiesWithin, IsWithinCapacities, capacity_of, links_at, place_sum}
+use Rattle.price_check.proofs.Duality.{without, IsTight, price_sum-without, price_sum-zero, AllPairs-head, AllPairs-tail}
+use Rattle.price_check.proofs.Members.{Contains-filter, Contains-later, clash, same_member}
+use Rattle.price_check.proofs.PlaceFacts.{AreApart, fits-tail, links_at-here, links_at-other, one_less, place_sum-one_less, place_there}
 use Rattle.std.proofs.lemmas.List.Kept.{AllPairs-filter}
 use Rattle.capacity_assign.specs.declared.market.Edge.{Edge}
 use Rattle.capacity_assign.specs.Core.{IsInRange, edge, link, linked_at, no_edge, number}

@@ -3,7 +3,7 @@ use Rattle.std.proofs.Common.{◌≡◌, ◌==◌, ℕ, ◌+◌, ◌<◌, List, 
 use Rattle.std.specs.Option.{is_some}
 use Rattle.std.proofs.lemmas.Bool.{cases_eq, false≢true}
 use Rattle.std.proofs.lemmas.List.{length-set}
-use Rattle.assignment_laws.proofs.Places.{place_there}
+use Rattle.price_check.proofs.PlaceFacts.{place_there}
 use Rattle.capacity_assign.specs.declared.market.Edge.{Edge}
 use Rattle.capacity_assign.specs.Core.{IsTight, edge, link, linked_at, number}
 use Rattle.capacity_assign.specs.Round.{AreSettled, IsBetween, IsSettled, KeepsPlaces}

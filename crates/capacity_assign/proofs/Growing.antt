@@ -4,10 +4,10 @@ use Rattle.std.specs.Prelude.{All, Contains}
 use Rattle.std.proofs.lemmas.Bool.{cases_eq, cases_lt}
 use Rattle.std.proofs.lemmas.List.{get_or_default, length-set, length_push}
 use Rattle.std.proofs.lemmas.List.Elements.{All-contains, Contains-push, Contains-append_left}
-use Rattle.distance_queue.specs.Queue.{Queue}
-use Rattle.distance_queue.specs.declared.queue.Near.{Near}
-use Rattle.distance_queue.proofs.Members.{Contains-cons_cases}
-use Rattle.assignment_laws.proofs.Members.{Contains-later}
+use Rattle.assignment_steps.specs.Queue.{Queue}
+use Rattle.assignment_steps.specs.declared.queue.Near.{Near}
+use Rattle.assignment_steps.proofs.Members.{Contains-cons_cases}
+use Rattle.price_check.proofs.Members.{Contains-later}
 use Rattle.capacity_assign.proofs.Links.{link_there}
 use Rattle.capacity_assign.specs.declared.market.Ground.{Ground}
 use Rattle.capacity_assign.specs.declared.market.Tree.{Tree}

@@ -4,7 +4,7 @@ use Rattle.std.proofs.lemmas.Bool.{cases_eq, cases_lt}
 use Rattle.std.proofs.lemmas.Bool.Decides.{nat_tests}
 use Rattle.std.proofs.lemmas.List.{length-set}
 use Rattle.capacity_assign.specs.declared.market.Edge.{Edge}
-use Rattle.assignment_laws.proofs.Places.{place_there}
+use Rattle.price_check.proofs.PlaceFacts.{place_there}
 use Rattle.capacity_assign.specs.Core.{edge, link, linked_at, number}
 use Rattle.capacity_assign.specs.Round.{KeepsPlaces}
 use Rattle.capacity_assign.specs.Seating.{AddsSeat, AreAllSeated, AreSeated, AreSeats, IsFilled, HangTogether, HasHole, IsLastSeat, Seating, free_rows}

@@ -3,7 +3,7 @@ use Rattle.std.proofs.Common.{◌≡◌, ℕ, ◌+◌, ◌-◌, ◌<◌, ◌≤�
 use Rattle.std.specs.Prelude.{Contains}
 use Rattle.std.proofs.lemmas.Bool.{cases_eq}
 use Rattle.std.proofs.lemmas.List.{drop_more}
-use Rattle.distance_queue.proofs.Members.{Contains-cons_cases}
+use Rattle.assignment_steps.proofs.Members.{Contains-cons_cases}
 use Rattle.capacity_assign.specs.Core.{number}
 use Rattle.capacity_assign.specs.Growth.{distance, far}
 use Rattle.capacity_assign.proofs.Growing.{distance-set}

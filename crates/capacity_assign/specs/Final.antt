@@ -3,7 +3,7 @@ use Rattle.std.specs.Prelude.{◌≡◌, ℕ, zero, suc, ◌+◌, ◌<◌, ◌�
 use Rattle.link_limits.specs.declared.TheConstants.{MOST_VALUE}
 use Rattle.link_base.specs.declared.rule.Candidate.{Candidate}
 use Rattle.capacity_assign.specs.declared.market.Edge.{Edge}
-use Rattle.assignment_laws.specs.Capacities.{capacity_of}
+use Rattle.price_check.specs.Capacities.{capacity_of}
 use Rattle.capacity_assign.specs.Core.{link, edge, number}
 use Rattle.capacity_assign.specs.Seating.{Seating}
 

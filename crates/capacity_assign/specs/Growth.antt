@@ -8,7 +8,7 @@ use Rattle.capacity_assign.specs.declared.market.Edge.{Edge}
 use Rattle.capacity_assign.specs.declared.solve.Distances.{Distances}
 use Rattle.capacity_assign.specs.declared.market.Tree.{Tree}
 use Rattle.capacity_assign.specs.declared.market.Ground.{Ground}
-use Rattle.distance_queue.specs.declared.queue.Near.{Near}
+use Rattle.assignment_steps.specs.declared.queue.Near.{Near}
 use Rattle.capacity_assign.specs.Core.{link, edge, number, AreLinked, IsInRange}
 use Rattle.capacity_assign.specs.Seating.{AreSeats, seating}
 

@@ -2,8 +2,8 @@
 -- `CapacityAssignment`.
 use Rattle.std.specs.Prelude.{◌≡◌, ℕ, ◌+◌, ◌≤◌, List, length, All, AllPairs}
 use Rattle.link_limits.specs.declared.TheConstants.{MOST_VALUE}
-use Rattle.assignment_laws.specs.Assignment.{IsBefore}
-use Rattle.assignment_laws.specs.Capacities.{capacity_of}
+use Rattle.price_check.specs.Assignment.{IsBefore}
+use Rattle.price_check.specs.Capacities.{capacity_of}
 use Rattle.capacity_assign.specs.declared.assigner.CapacityAssigner.TheInside.{Inside}
 use Rattle.capacity_assign.specs.Core.{linked_at, number}
 use Rattle.capacity_assign.specs.Growth.{AreFirsts, IsClean, IsRising}

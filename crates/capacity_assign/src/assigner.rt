@@ -1,7 +1,7 @@
 // The assigner and its answer.
 ghost use Rattle.std.specs.Prelude.{◌≡◌, ◌<◌, ◌≤◌, ◌^◌, length, All, AllPairs, IfOk, pos, ◌≤ℤ◌};
-ghost use Rattle.assignment_laws.specs.Assignment.{IsBefore, IsWithin, price_of};
-ghost use Rattle.assignment_laws.specs.Capacities.{CertifiesWithin, IsGreatestWithin};
+ghost use Rattle.price_check.specs.Assignment.{IsBefore, IsWithin, price_of};
+ghost use Rattle.price_check.specs.Capacities.{CertifiesWithin, IsGreatestWithin};
 ghost use Rattle.capacity_assign.specs.Solution.{HasSmallValue, IsAllowedCapacity};
 ghost use Rattle.capacity_assign.specs.Growth.{AreFirsts, IsClean, IsRising};
 ghost use Rattle.capacity_assign.specs.Round.{IsBetween, AreSmall, KeepsPlaces};
@@ -12,9 +12,9 @@ use crate::market::{Edge, Seats, Tree};
 use crate::phases::all_rounds;
 use crate::solve::linked;
 use crate::start::{graph_of, start_of};
-use assignment_laws::certified_within_is_greatest;
 use link_base::{Candidate, NoMemory};
 use link_limits::MOST_PAIRS;
+use price_check::certified_within_is_greatest;
 use std::alloc::Global;
 use std::marker::Model;
 

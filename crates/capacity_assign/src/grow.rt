@@ -5,7 +5,7 @@ ghost use Rattle.capacity_assign.specs.Core.{IsInRange, edge, number, link};
 ghost use Rattle.capacity_assign.specs.Growth.{IsTree, growth, HasRoomForRecords, IsReady, ShortensDistance, distance, far, edge_of, paid, unreached, Notes, IsRest, IsNearest, Joins, Improves, IsRising, work, FitsQueue, HasGrown, IsClean, with_waiting, places_left, IsGrown, IsReached, IsWhole};
 
 use crate::market::{FAR, Ground, Grown, Tree};
-use distance_queue::Near;
+use assignment_steps::Near;
 
 /// Puts a record at the end of a list that has room.
 fn note(list: &mut Vec<usize>, position: usize)

@@ -1,6 +1,6 @@
 // Records with prices, links and seats, and the tree that is grown over them.
 
-use distance_queue::{DistanceQueue, FARTHEST};
+use assignment_steps::{DistanceQueue, FARTHEST};
 
 /// A distance that no record of a tree has.
 pub const FAR: u64 = FARTHEST;

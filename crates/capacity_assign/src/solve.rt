@@ -1,6 +1,6 @@
 // From candidates to a greatest list with its prices.
 ghost use Rattle.std.specs.Prelude.{◌≡◌, ◌≢◌, ◌+◌, ◌-◌, ◌<◌, ◌≤◌, ◌^◌, ℕ, length, slice_index, slice_index_or, List, [], None, Some, Contains, All, AllPairs, vec_len, vec_capacity, MatchOption, IfOk, filter, filter_map, replicate};
-ghost use Rattle.assignment_laws.specs.Capacities.{capacity_of};
+ghost use Rattle.price_check.specs.Capacities.{capacity_of};
 ghost use Rattle.capacity_assign.specs.Core.{number, edge, IsInRange};
 ghost use Rattle.capacity_assign.specs.Final.{edges_of, edge_from, is_linked, AreClosed, AreEmpty, ReachAll};
 ghost use Rattle.capacity_assign.specs.Seating.{seating};
@@ -10,7 +10,7 @@ ghost use Rattle.link_limits.specs.declared.TheConstants.{MOST_VALUE};
 ghost use Rattle.capacity_assign.specs.Growth.{AreFar, AreFirsts, IsClean, IsRising};
 
 use crate::market::{Edge, FAR, Seats, Tree};
-use distance_queue::DistanceQueue;
+use assignment_steps::DistanceQueue;
 use link_base::{Candidate, NoMemory};
 use std::alloc::Global;
 

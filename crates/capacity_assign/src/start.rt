@@ -1,6 +1,6 @@
 // Prices, links, seats and the tree before any record of A is taken up.
 ghost use Rattle.std.specs.Prelude.{◌≡◌, All, AllPairs, IfOk, length};
-ghost use Rattle.assignment_laws.specs.Assignment.{IsBefore};
+ghost use Rattle.price_check.specs.Assignment.{IsBefore};
 ghost use Rattle.capacity_assign.specs.Core.{IsInRange};
 ghost use Rattle.capacity_assign.specs.Final.{edges_of};
 ghost use Rattle.capacity_assign.specs.Growth.{AreFirsts};

@@ -11,7 +11,7 @@ use Rattle.link_base.specs.declared.standard.Value.TheVariants as value
 use Rattle.value_forms.specs.Days.{year_of_day}
 use Rattle.comparators.specs.declared.ids.IdValue.{IdValue}
 use Rattle.comparators.specs.declared.ids.IdValue.TheVariants as id
-use Rattle.value_canons.specs.Canons.{compares_days, exact_canon, soundex_canon, nysiis_canon, first_letters_canon, initials_canon, day_in, year_in}
+use Rattle.value_forms.specs.Canons.{compares_days, exact_canon, soundex_canon, nysiis_canon, first_letters_canon, initials_canon, day_in, year_in}
 use Rattle.comparators.specs.Fields.{day_of_id, field_of, field_outcome, id_in, IsDayOrAbsent, IsFieldSide, IsIdOrAbsent, kind_of, kind_outcome, year_of_id}
 use Rattle.comparators.specs.Laws.{agree_where, near, outcome_by, outcome_of_ids, outcome_of_counted, outcome_of_texts}
 use Rattle.comparators.specs.OfPool.{IsDayItself, NamesCanon, StandsFor, rare_where}

@@ -13,7 +13,7 @@ use Rattle.comparators.specs.declared.ids.IdValue.{IdValue}
 use Rattle.comparators.specs.declared.ids.IdValue.TheVariants as id
 use Rattle.comparators.specs.declared.ids.FieldById.{FieldById}
 use Rattle.comparators.specs.declared.ids.FieldById.TheVariants as field
-use Rattle.value_canons.specs.Canons.{exact_canon, soundex_canon, nysiis_canon, first_letters_canon, initials_canon, day_in, year_in}
+use Rattle.value_forms.specs.Canons.{exact_canon, soundex_canon, nysiis_canon, first_letters_canon, initials_canon, day_in, year_in}
 use Rattle.comparators.specs.Laws.{ComparatorLaws, outcome_by, outcome_of_texts, outcome_of_ids, outcome_of_counted, near}
 use Rattle.comparators.specs.LawsBy.{laws_by, text_laws, id_laws, rare_id_laws, near_laws}
 

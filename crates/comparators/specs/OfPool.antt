@@ -6,7 +6,7 @@ use Rattle.link_base.specs.declared.plan.CompareKind.{CompareKind}
 use Rattle.link_base.specs.declared.standard.Value.{Value}
 use Rattle.comparators.specs.declared.ids.IdValue.{IdValue}
 use Rattle.comparators.specs.declared.ids.IdValue.TheVariants as id
-use Rattle.value_canons.specs.Canons.{canon_of, compares_days, day_in}
+use Rattle.value_forms.specs.Canons.{canon_of, compares_days, day_in}
 
 -- the id of a canon among these texts, and none where there is no canon
 abbrev pub NamesCanon : List (List ℕ) → Option (List ℕ) → IdValue → Type 0

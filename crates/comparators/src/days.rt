@@ -3,7 +3,7 @@ ghost use Rattle.std.specs.Prelude.{◌≡◌, false, is_some, pos};
 ghost use Rattle.link_base.specs.Standard.{IsDay, IsValid};
 ghost use Rattle.value_forms.specs.Days.{year_of_day};
 ghost use Rattle.comparators.specs.Laws.{near, outcome_by};
-ghost use Rattle.value_canons.specs.Canons.{day_in, year_in};
+ghost use Rattle.value_forms.specs.Canons.{day_in, year_in};
 ghost use Rattle.comparators.specs.LawsBy.{laws_by, near_laws};
 
 use crate::comparator::Comparator;

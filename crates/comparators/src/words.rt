@@ -3,14 +3,16 @@ ghost use Rattle.std.specs.Prelude.{◌≡◌, false, is_some, IfOk, option_map}
 ghost use Rattle.link_base.specs.Standard.{IsValid};
 ghost use Rattle.comparators.specs.Laws.{agree_where, outcome_by, outcome_of_texts};
 ghost use Rattle.comparators.specs.LawsBy.{canon_laws_by, laws_by, text_laws};
-ghost use Rattle.value_canons.specs.CanonTexts.{canon_bytes};
-ghost use Rattle.value_canons.specs.Canons.{exact_canon, first_letters_canon, initials_canon, nysiis_canon, soundex_canon};
+ghost use Rattle.value_forms.specs.CanonTexts.{canon_bytes};
+ghost use Rattle.value_forms.specs.Canons.{exact_canon, first_letters_canon, initials_canon, nysiis_canon, soundex_canon};
 
 use crate::comparator::{Comparator, KeyComparator};
 use link_base::{NoMemory, Outcome, Text, Value};
 use std::alloc::Global;
-use value_canons::{CanonText, bytes_of, exact, first_letters, nysiis_key, soundex_key};
-use value_forms::{initials_text, same_initials};
+use value_forms::{
+    CanonText, bytes_of, exact, first_letters, initials_text, nysiis_key, same_initials,
+    soundex_key,
+};
 
 /// The outcome of two present sides.
 pub(crate) fn agree_if(alike: bool) -> Outcome
@@ -62,12 +64,12 @@ impl Comparator for Exact {
         false
     }
 
-    #[tactic(auto, using(value_canons::proofs::ReadableLemmas::readable_valid))]
+    #[tactic(auto, using(value_forms::proofs::ReadableLemmas::readable_valid))]
     fn present(&self, side: &Value) -> bool {
         exact(side).is_some()
     }
 
-    #[tactic(auto, using(value_canons::proofs::ReadableLemmas::readable_valid))]
+    #[tactic(auto, using(value_forms::proofs::ReadableLemmas::readable_valid))]
     fn outcome(&self, a: &Value, b: &Value) -> Outcome {
         compare(exact(a), exact(b))
     }
@@ -78,7 +80,7 @@ impl KeyComparator for Exact {
 
     ghost canon_laws = { λ _. canon_laws_by exact_canon };
 
-    #[tactic(auto, using(value_canons::proofs::ReadableLemmas::readable_valid))]
+    #[tactic(auto, using(value_forms::proofs::ReadableLemmas::readable_valid))]
     fn canon(&self, alloc: Global, side: &Value) -> Result<Option<Text>, NoMemory> {
         copy(alloc, exact(side))
     }
@@ -187,12 +189,12 @@ impl Comparator for FirstLetters {
         false
     }
 
-    #[tactic(auto, using(value_canons::proofs::ReadableLemmas::readable_valid))]
+    #[tactic(auto, using(value_forms::proofs::ReadableLemmas::readable_valid))]
     fn present(&self, side: &Value) -> bool {
         first_letters(self.n, side).is_some()
     }
 
-    #[tactic(auto, using(value_canons::proofs::ReadableLemmas::readable_valid))]
+    #[tactic(auto, using(value_forms::proofs::ReadableLemmas::readable_valid))]
     fn outcome(&self, a: &Value, b: &Value) -> Outcome {
         compare(first_letters(self.n, a), first_letters(self.n, b))
     }
@@ -203,7 +205,7 @@ impl KeyComparator for FirstLetters {
 
     ghost canon_laws = { λ c. canon_laws_by (first_letters_canon c.n) };
 
-    #[tactic(auto, using(value_canons::proofs::ReadableLemmas::readable_valid))]
+    #[tactic(auto, using(value_forms::proofs::ReadableLemmas::readable_valid))]
     fn canon(&self, alloc: Global, side: &Value) -> Result<Option<Text>, NoMemory> {
         copy(alloc, first_letters(self.n, side))
     }

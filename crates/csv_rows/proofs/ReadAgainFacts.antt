@@ -6,7 +6,7 @@ use Rattle.csv.specs.Machine.{next_record}
 use Rattle.csv.specs.Reading.{default_config, records_from, strip_bom}
 use Rattle.csv.specs.Writing.{default_writer, read_back, row_text}
 use Rattle.csv.specs.declared.parser.State.TheVariants as st
-use Rattle.csv_records.specs.Left.{records_in}
+use Rattle.file_reader.specs.Left.{records_in}
 use Rattle.csv_rows.specs.ReadAgain.{HasNoMark}
 
 abbrev text_of : List (List (List ℕ)) → List ℕ

@@ -3,8 +3,8 @@ use Rattle.std.specs.Prelude.{◌+ℤ◌}
 use Rattle.std.proofs.Math.Nat.{mul-div_cancel_left, pow-le-pow_right}
 use Rattle.std.proofs.lemmas.Int.{ints}
 use Rattle.std.proofs.lemmas.Nat.{div_below}
-use Rattle.pattern_shapes.specs.Weight.{eighth_weight_of}
-use Rattle.pattern_shapes.specs.Patterns.{base_of, pattern_count_of, m_of, u_of, weight_of}
+use Rattle.patterns.specs.Weight.{eighth_weight_of}
+use Rattle.patterns.specs.Chances.{base_of, pattern_count_of, m_of, u_of, weight_of}
 use Rattle.link_base.specs.declared.shares.FieldShares.{FieldShares}
 use Rattle.std.specs.List.{range_with_len}
 use Rattle.std.proofs.lemmas.List.{get_or-map, length-map}
@@ -12,7 +12,7 @@ use Rattle.std.proofs.lemmas.List.FromFn.{fill_by_all}
 use Rattle.decision_rule.specs.Filled.{chances_of, chances_at}
 use Rattle.link_base.specs.declared.rule.RuleCell.{RuleCell}
 use Rattle.link_base.specs.Rule.{empty_cell}
-use Rattle.pattern_shapes.proofs.PatternLemmas.{pattern_count_pos, base_some, drop_step, product_small, share_bounds}
+use Rattle.patterns.proofs.PatternLemmas.{pattern_count_pos, base_some, drop_step, product_small, share_bounds}
 
 -- a loop's step: the first field that is left
 pub record Step (shares : List FieldShares) (i below rest base : ℕ) (field : FieldShares) : Type 0 where

@@ -7,12 +7,12 @@ use Rattle.std.proofs.lemmas.List.FromFn.{get_or-map-range_with_len, length-map-
 use Rattle.std.proofs.lemmas.List.Elements.{All-from_get_or}
 use Rattle.std.proofs.lemmas.List.Sorted.{All-permutation, length_permutation}
 use Rattle.decision_rule.specs.Exchange.{IsCutForm}
-use Rattle.pattern_shapes.specs.Patterns.{pattern_count_of}
+use Rattle.patterns.specs.Chances.{pattern_count_of}
 use Rattle.decision_rule.specs.Filled.{Chances, chances_of, chances_at, IsFilled, LinksAreCut, NonlinksAreCut, asked_of}
 use Rattle.link_base.specs.declared.rule.RuleCell.{RuleCell}
 use Rattle.link_base.specs.declared.shares.FieldShares.{FieldShares}
 use Rattle.link_base.specs.Rule.{empty_cell}
-use Rattle.pattern_shapes.proofs.PatternLemmas.{pattern_count_pos, m_of_pos, u_of_pos}
+use Rattle.patterns.proofs.PatternLemmas.{pattern_count_pos, m_of_pos, u_of_pos}
 
 abbrev pub ArePositive : Chances → Type 0
 ArePositive ch = (0 < ch.m) × (0 < ch.u)

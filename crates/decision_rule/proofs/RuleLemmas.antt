@@ -16,12 +16,12 @@ use Rattle.decision_rule.specs.Rule.{Rule, IsRule, IsRuleOver}
 use Rattle.decision_rule.specs.Order.{RanksBefore}
 use Rattle.decision_rule.specs.Sorting.{ranks_before}
 use Rattle.decision_rule.specs.Least.{IsLeast}
-use Rattle.pattern_shapes.specs.Patterns.{pattern_count_of}
+use Rattle.patterns.specs.Chances.{pattern_count_of}
 use Rattle.decision_rule.specs.Filled.{Chances, chances_of, chances_at, IsFilled}
 use Rattle.link_base.specs.declared.rule.RuleCell.{RuleCell}
 use Rattle.link_base.specs.declared.shares.FieldShares.{FieldShares}
 use Rattle.link_base.specs.Rule.{IsWithinRanges, empty_cell}
-use Rattle.pattern_shapes.proofs.PatternLemmas.{weight_range}
+use Rattle.patterns.proofs.PatternLemmas.{weight_range}
 use Rattle.decision_rule.proofs.CutForm.{possible_bound_m, possible_bound_u, LinksEndAt-from_cut_form, NonlinksStartAt-from_cut_form}
 use Rattle.decision_rule.proofs.FilledLemmas.{all_chances, positive_cells, cut_form_from_filled}
 use Rattle.decision_rule.proofs.OrderLemmas.{ranks_from_test}

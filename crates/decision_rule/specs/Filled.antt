@@ -5,7 +5,7 @@ use Rattle.std.specs.List.{range_with_len}
 use Rattle.link_limits.specs.declared.TheConstants.{WHOLE_FIELD, WHOLE_RULE}
 use Rattle.link_base.specs.declared.rule.RuleCell.{RuleCell}
 use Rattle.link_base.specs.declared.shares.FieldShares.{FieldShares}
-use Rattle.pattern_shapes.specs.Patterns.{pattern_count_of, m_of, u_of, weight_of}
+use Rattle.patterns.specs.Chances.{pattern_count_of, m_of, u_of, weight_of}
 use Rattle.decision_rule.specs.Order.{RanksBefore}
 use Rattle.decision_rule.specs.Cut.{IsCut}
 

@@ -5,7 +5,7 @@ use Rattle.std.specs.List.{range_with_len}
 use Rattle.link_limits.specs.declared.TheConstants.{WHOLE_RULE}
 use Rattle.link_base.specs.declared.rule.RuleCell.{RuleCell}
 use Rattle.link_base.specs.declared.shares.FieldShares.{FieldShares}
-use Rattle.pattern_shapes.specs.Patterns.{pattern_count_of, m_of, u_of}
+use Rattle.patterns.specs.Chances.{pattern_count_of, m_of, u_of}
 use Rattle.decision_rule.specs.Rule.{Rule, IsRule, mu_of, lambda_of, possible_m_of, possible_u_of}
 
 -- the sum over all patterns of a chance times a share

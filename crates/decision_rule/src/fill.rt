@@ -1,12 +1,12 @@
 // The cells of all patterns, in the order of their numbers.
 ghost use Rattle.std.specs.Prelude.{◌≡◌, ℕ, ◌+◌, ◌≤◌, ◌<◌, map, length};
 ghost use Rattle.std.specs.List.{range_with_len};
-ghost use Rattle.pattern_shapes.specs.Patterns.{pattern_count_of};
+ghost use Rattle.patterns.specs.Chances.{pattern_count_of};
 ghost use Rattle.decision_rule.specs.Filled.{chances_of, chances_at};
 
 use link_base::{FieldShares, RuleCell};
 use link_limits::MOST_FIELDS;
-use pattern_shapes::{eighth_weight, outcome_count, patterns_of};
+use patterns::{eighth_weight, outcome_count, patterns_of};
 
 /// The cell of a pattern, with nothing given yet.
 fn cell_of(shares: &[FieldShares], pattern: u16) -> RuleCell

@@ -1,6 +1,6 @@
 // The rule of given shares and asked levels.
 ghost use Rattle.std.specs.Prelude.{◌≡◌, ◌≤◌, length, vec_len, All};
-ghost use Rattle.pattern_shapes.specs.Patterns.{pattern_count_of};
+ghost use Rattle.patterns.specs.Chances.{pattern_count_of};
 ghost use Rattle.link_base.specs.Rule.{IsWithinRanges};
 ghost use Rattle.decision_rule.specs.Filled.{IsFilled, asked_of};
 ghost use Rattle.decision_rule.specs.Least.{IsLeast};

@@ -7,3 +7,5 @@ pub mod Faults
 pub mod Ids
 pub mod Steps
 pub mod Region
+pub mod Left
+pub mod Reader

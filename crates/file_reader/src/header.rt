@@ -2,15 +2,15 @@
 ghost use Rattle.std.specs.Prelude.{◌≡◌, ◌++◌, ◌∷◌, [], IfErr, IfOk, OnOk};
 ghost use Rattle.csv.specs.Records.{fields_of};
 ghost use Rattle.link_base.specs.Fault.{IsInputFault};
-ghost use Rattle.csv_records.specs.Left.{records_in};
+ghost use Rattle.file_reader.specs.Left.{records_in};
 ghost use Rattle.file_reader.specs.Header.{header_has};
 ghost use Rattle.file_reader.specs.Layout.{column_in, columns_of, needed_of, wanted_of};
 ghost use Rattle.file_reader.specs.Table.{header_fault, missing_fault, repeated_fault, Tests};
 
 use crate::fields::{count_of, place_of};
 use crate::layout::{Column, Layout};
+use crate::records::Records;
 use csv::ByteRecord;
-use csv_records::Records;
 use link_base::{Fault, FileRole, NoMemory, Text};
 use link_limits::MOST_COLUMNS;
 use std::alloc::Global;

@@ -1,4 +1,4 @@
-//! Tables of CSV files: the needed columns of the rows under a header, or the first fault.
+//! Tables of CSV files (RFC 4180): the records of a text, and the needed columns of those under a header, or the first fault.
 #![tactic(auto)]
 
 mod fields;
@@ -7,16 +7,19 @@ mod ids;
 mod known;
 mod laws;
 mod layout;
+#[cfg(test)]
+mod record_tests;
+mod records;
 mod region;
 mod rows;
 mod table;
+#[cfg(test)]
+mod tests;
 
 pub use header::has_column;
 pub use known::known_record;
 pub use laws::{first_fault, whole_table};
 pub use layout::Layout;
+pub use records::Records;
 pub use rows::read_table;
 pub use table::Table;
-
-#[cfg(test)]
-mod tests;

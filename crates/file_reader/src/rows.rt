@@ -1,7 +1,7 @@
 // The rows of a table.
 ghost use Rattle.std.specs.Prelude.{◌≡◌, ◌≤◌, ◌<◌, ◌*◌, ◌++◌, ◌∷◌, [], IfOk, IsTrue, OnOk, IfErr, length};
 ghost use Rattle.csv.specs.Records.{fields_of};
-ghost use Rattle.csv_records.specs.Left.{records_in};
+ghost use Rattle.file_reader.specs.Left.{records_in};
 ghost use Rattle.link_base.specs.Fault.{Gives, IsAnswer, IsInputFault};
 ghost use Rattle.file_reader.specs.Layout.{cells_of, heading_of, heading_under, needed_of, wanted_of};
 ghost use Rattle.file_reader.specs.Rows.{table_rows};
@@ -12,10 +12,10 @@ use crate::fields::{field_of, is_text};
 use crate::header::{find_columns, needed_names, test_header};
 use crate::ids::Ids;
 use crate::layout::{Column, Head, Layout};
+use crate::records::Records;
 use crate::region::TextRegion;
 use crate::table::Table;
 use csv::ByteRecord;
-use csv_records::Records;
 use link_base::{Fault, FileRole, NoMemory, Text};
 use link_limits::MOST_FIELD_BYTES;
 use std::alloc::Global;

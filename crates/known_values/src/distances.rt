@@ -1,5 +1,5 @@
 // The order in which records leave a queue.
-use distance_queue::{DistanceQueue, Near};
+use assignment_steps::{DistanceQueue, Near};
 use link_base::NoMemory;
 
 #[test]

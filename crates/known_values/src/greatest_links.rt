@@ -1,12 +1,12 @@
 // Links against a plain search over all one-to-one lists.
 ghost use Rattle.std.specs.Prelude.{All, IsTrue};
 ghost use Rattle.assignment.specs.Solution.{HasSmallValue};
-ghost use Rattle.assignment_laws.specs.Assignment.{IsWithin};
+ghost use Rattle.price_check.specs.Assignment.{IsWithin};
 
 use assignment::Assigner;
-use assignment_laws::are_rising;
 use link_base::{Candidate, NoMemory};
 use link_limits::MOST_VALUE;
+use price_check::are_rising;
 use std::alloc::Global;
 
 fn are_within(candidates: &[Candidate]) -> bool

@@ -13,7 +13,7 @@ use Rattle.decision_rule.specs.Cut.{IsBorder, level_of}
 use Rattle.decision_rule.specs.Filled.{IsFilled, asked_of}
 use Rattle.decision_rule.specs.Least.{sum_over}
 use Rattle.level_frontier.specs.Asked.{IsWithinAsked}
-use Rattle.pattern_shapes.specs.Patterns.{m_of, u_of}
+use Rattle.patterns.specs.Chances.{m_of, u_of}
 use Rattle.level_frontier.specs.Borders.{border_m, border_u, link_border_of, nonlink_border_of, slack_m_of, slack_u_of}
 use Rattle.link_base.specs.declared.rule.RuleCell.{RuleCell}
 use Rattle.link_base.specs.declared.shares.FieldShares.{FieldShares}

@@ -10,8 +10,8 @@ use Rattle.std.proofs.lemmas.Bool.{cases_Bool, cases_eq}
 use Rattle.link_base.specs.Rule.{empty_cell}
 use Rattle.link_base.specs.declared.rule.RuleCell.{RuleCell}
 use Rattle.link_base.specs.declared.shares.FieldShares.{FieldShares}
-use Rattle.pattern_shapes.specs.Patterns.{pattern_count_of}
-use Rattle.pattern_shapes.proofs.PatternLemmas.{m_of_small, u_of_small}
+use Rattle.patterns.specs.Chances.{pattern_count_of}
+use Rattle.patterns.proofs.PatternLemmas.{m_of_small, u_of_small}
 use Rattle.decision_rule.specs.Filled.{Chances, chances_of, chances_at, IsFilled}
 use Rattle.decision_rule.proofs.FilledLemmas.{all_chances}
 use Rattle.level_frontier.specs.Borders.{border_m, border_u, slack_m_of, slack_u_of}

@@ -3,7 +3,7 @@
 use Rattle.std.specs.Prelude.{ℕ, ◌*◌, ◌^◌, ◌≤◌, List, length}
 use Rattle.link_limits.specs.declared.TheConstants.{PER_MILLION, WHOLE_FIELD}
 use Rattle.link_base.specs.declared.shares.FieldShares.{FieldShares}
-use Rattle.pattern_shapes.specs.Patterns.{pattern_count_of, m_of, u_of}
+use Rattle.patterns.specs.Chances.{pattern_count_of, m_of, u_of}
 use Rattle.decision_rule.specs.Rule.{Rule, IsRule}
 use Rattle.decision_rule.specs.Least.{sum_over}
 

@@ -3,7 +3,7 @@ use Rattle.std.specs.Prelude.{◌≡◌, ℕ, ◌+◌, ◌*◌, ◌^◌, ◌≤�
 use Rattle.link_limits.specs.declared.TheConstants.{WHOLE_FIELD, WHOLE_RULE}
 use Rattle.link_base.specs.declared.rule.RuleCell.{RuleCell}
 use Rattle.link_base.specs.declared.shares.FieldShares.{FieldShares}
-use Rattle.pattern_shapes.specs.Patterns.{m_of, u_of}
+use Rattle.patterns.specs.Chances.{m_of, u_of}
 use Rattle.decision_rule.specs.Least.{sum_over}
 use Rattle.decision_rule.specs.Rule.{Rule, mu_of, lambda_of, possible_m_of, possible_u_of}
 use Rattle.decision_rule.specs.Filled.{IsFilled}

@@ -3,7 +3,7 @@ ghost use Rattle.std.specs.Prelude.{◌≡◌, ℕ, ◌+◌, ◌*◌, ◌<◌, �
 ghost use Rattle.link_limits.specs.declared.TheConstants.{WHOLE_RULE};
 ghost use Rattle.link_base.specs.declared.rule.RuleCell.{RuleCell};
 ghost use Rattle.link_base.specs.declared.shares.FieldShares.{FieldShares};
-ghost use Rattle.pattern_shapes.specs.Patterns.{m_of, u_of};
+ghost use Rattle.patterns.specs.Chances.{m_of, u_of};
 ghost use Rattle.decision_rule.specs.Rule.{Rule, possible_of, possible_m_of, possible_u_of};
 ghost use Rattle.decision_rule.specs.Filled.{IsFilled};
 ghost use Rattle.decision_rule.specs.Least.{sum_over};

@@ -1,6 +1,6 @@
 // The rows of the frontier.
 ghost use Rattle.std.specs.Prelude.{◌≡◌, ℕ, ◌<◌, ◌≤◌, length, slice_index, slice_index_or, vec_len, All};
-ghost use Rattle.pattern_shapes.specs.Patterns.{pattern_count_of};
+ghost use Rattle.patterns.specs.Chances.{pattern_count_of};
 
 use crate::borders::{link_border, matched_chance, nonlink_border, unmatched_chance};
 use decision_rule::{attained, cut_rule};

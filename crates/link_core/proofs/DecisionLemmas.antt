@@ -14,9 +14,9 @@ use Rattle.pair_decisions.specs.Decisions.{AreDecisionsOn, count_with, DecidedVi
 use Rattle.pair_decisions.specs.PairRule.{AreCellsOf, AreSidesFor, PairRuleView, side_rule, SideRule}
 use Rattle.pair_decisions.specs.Pairs.{IsInside, pairs_within}
 use Rattle.pair_walk.specs.Pairs.{compared_pairs}
-use Rattle.pattern_shapes.specs.Shapes.{pattern_count_by}
-use Rattle.plan_rule.specs.Comparators.{rares_of}
-use Rattle.plan_rule.specs.PlanRule.{IsRuleOf}
+use Rattle.patterns.specs.Shapes.{pattern_count_by}
+use Rattle.pair_decisions.specs.Comparators.{rares_of}
+use Rattle.pair_decisions.specs.PlanRule.{IsRuleOf}
 use Rattle.settings.specs.Plan.{PlainShares}
 use Rattle.settings.specs.declared.plan.Plan.{Plan}
 use Rattle.link_core.specs.Decisions.{decided, decided_by, Decisions, decisions_of, IsDecidedIn, rule_over}

@@ -1,7 +1,7 @@
 -- A file that is read as both files of a plan has as many records as itself.
 use Rattle.std.proofs.Common.{◌≡◌, ◌∷◌, ◌∙◌, ℕ, List, [], length, Option, Some, None, Result, Ok, Err, ap, sym, refl}
 use Rattle.std.proofs.lemmas.List.{length-map}
-use Rattle.csv_records.specs.Left.{records_in}
+use Rattle.file_reader.specs.Left.{records_in}
 use Rattle.file_reader.proofs.LeastFaulty.{table_is_whole}
 use Rattle.file_reader.specs.Faults.{IsWholeTable}
 use Rattle.file_reader.specs.Layout.{heading_under, Wanted}

@@ -4,7 +4,7 @@ use Rattle.std.specs.Prelude.{AllPairs, ◌≢◌, IsTrue, is_some}
 use Rattle.std.proofs.lemmas.Bool.Decides.{nat_tests}
 use Rattle.std.proofs.lemmas.List.{get_or-map, length-map}
 use Rattle.std.proofs.lemmas.List.Elements.{All-map, All-weaker}
-use Rattle.csv_records.specs.Left.{records_in}
+use Rattle.file_reader.specs.Left.{records_in}
 use Rattle.file_reader.proofs.LeastFaulty.{table_is_whole}
 use Rattle.file_reader.proofs.TextFacts.{answers_distinct, answers_texts}
 use Rattle.file_reader.specs.Faults.{IsWholeTable, row_fault_at}

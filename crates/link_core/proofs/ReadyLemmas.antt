@@ -10,9 +10,9 @@ use Rattle.link_base.specs.declared.standard.Value.{Value}
 use Rattle.link_base.specs.declared.standard.Value.TheVariants as value
 use Rattle.block_passes.specs.Index.{row_at}
 use Rattle.block_passes.specs.Keys.{AreReadable, InRange, no_part}
-use Rattle.value_canons.proofs.ReadableLemmas.{readable_valid}
+use Rattle.value_forms.proofs.ReadableLemmas.{readable_valid}
 use Rattle.pair_walk.specs.Rows.{AreAllReady}
-use Rattle.pooled_values.specs.Ready.{AreInRange, IsRowFor}
+use Rattle.standard_files.specs.Ready.{AreInRange, IsRowFor}
 use Rattle.settings.specs.Plan.{FieldKeys}
 use Rattle.settings.specs.Ranges.{IsPart, IsPass, KeepsRanges}
 use Rattle.settings.specs.declared.plan.Plan.{Plan}

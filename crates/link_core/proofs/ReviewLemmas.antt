@@ -10,7 +10,7 @@ use Rattle.review_journal.specs.Adding.{added, batch_fault, entry_after, ok_unle
 use Rattle.review_journal.specs.Journal.{IsWithinFiles}
 use Rattle.review_journal.specs.declared.batch.NewVerdict.{NewVerdict}
 use Rattle.review_journal.specs.declared.entry.Entry.{Entry}
-use Rattle.journal_files.specs.Batch.{IsPlaced}
+use Rattle.review_journal.specs.Batch.{IsPlaced}
 
 ok_is : {A : Type 0} (f : Option Fault) (x y : A) → ok_unless f x ≡ Ok y → x ≡ y
 ok_is None x y e = cc

@@ -12,9 +12,9 @@ use Rattle.comparators.specs.Fields.{field_of, IsFieldSide}
 use Rattle.comparators.specs.OfPool.{IsDayItself, NamesCanon, StandsFor}
 use Rattle.comparators.specs.declared.ids.IdValue.{IdValue}
 use Rattle.comparators.specs.declared.ids.IdValue.TheVariants as id
-use Rattle.value_canons.specs.Canons.{canon_of, compares_days, day_in}
-use Rattle.plan_rule.specs.Sides.{AreSidesOf, IsOfTexts}
-use Rattle.pooled_values.specs.Ready.{AreFileSides, AreRowSides}
+use Rattle.value_forms.specs.Canons.{canon_of, compares_days, day_in}
+use Rattle.pair_decisions.specs.Sides.{AreSidesOf, IsOfTexts}
+use Rattle.standard_files.specs.Ready.{AreFileSides, AreRowSides}
 use Rattle.settings.specs.Plan.{FieldKeys, plain_shares, PlainShares}
 use Rattle.settings.specs.declared.plan.Plan.{Plan}
 use Rattle.std.proofs.Common.{Result, Ok, Err, ◌++◌, take}
@@ -24,10 +24,10 @@ use Rattle.link_base.specs.declared.shares.FieldShares.{FieldShares}
 use Rattle.decision_rule.specs.Filled.{IsFilled}
 use Rattle.decision_rule.specs.Least.{IsLeast}
 use Rattle.link_report.specs.RuleText.{text_of_rule}
-use Rattle.pattern_shapes.specs.Patterns.{rare_in}
-use Rattle.plan_rule.proofs.ComparatorLemmas.{map_via}
-use Rattle.plan_rule.specs.Comparators.{rares_of}
-use Rattle.plan_rule.specs.PlanShares.{plain_all}
+use Rattle.patterns.specs.Chances.{rare_in}
+use Rattle.pair_decisions.proofs.ComparatorLemmas.{map_via}
+use Rattle.pair_decisions.specs.Comparators.{rares_of}
+use Rattle.pair_decisions.specs.PlanShares.{plain_all}
 use Rattle.link_core.specs.Rules.{IsFrontierText, IsRuleText, shared_rares}
 use Rattle.level_frontier.specs.Frontier.{FallsTo, IsFrontierRow, IsNearLeast}
 use Rattle.level_frontier.specs.declared.levels.FrontierRow.{FrontierRow}

@@ -18,15 +18,15 @@ use Rattle.link_base.specs.declared.shares.FieldShares.{FieldShares}
 use Rattle.link_limits.specs.declared.TheConstants.{MOST_FIELDS, MOST_PATTERNS}
 use Rattle.pair_decisions.proofs.PairLemmas.{compared_inside, compared_rise}
 use Rattle.pair_decisions.specs.PairRule.{SideRule}
-use Rattle.pattern_shapes.proofs.PatternLemmas.{m_of_small, pattern_count_small, u_of_small, weight_range}
-use Rattle.pattern_shapes.specs.Patterns.{pattern_count_of}
-use Rattle.plan_rule.specs.Comparators.{comparator_at, rares_of, SideComparator}
-use Rattle.plan_rule.specs.PlanRule.{IsRuleOf}
-use Rattle.plan_rule.specs.PlanShares.{counts_of, given_in, shares_at}
+use Rattle.patterns.proofs.PatternLemmas.{m_of_small, pattern_count_small, u_of_small, weight_range}
+use Rattle.patterns.specs.Chances.{pattern_count_of}
+use Rattle.pair_decisions.specs.Comparators.{comparator_at, rares_of, SideComparator}
+use Rattle.pair_decisions.specs.PlanRule.{IsRuleOf}
+use Rattle.pair_decisions.specs.PlanShares.{counts_of, given_in, shares_at}
 use Rattle.price_check.specs.Verdict.{HasAllowedValue}
 use Rattle.review_journal.specs.declared.entry.Entry.{Entry}
 use Rattle.sample_counts.specs.Sample.{sample_of}
-use Rattle.csv_records.specs.Left.{records_in}
+use Rattle.file_reader.specs.Left.{records_in}
 use Rattle.settings.specs.Plan.{FieldKeys, plain_shares, PlainShares}
 use Rattle.settings.specs.declared.plan.Plan.{Plan}
 use Rattle.written_check.specs.Laws.{AreCandidatesOf}

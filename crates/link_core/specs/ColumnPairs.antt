@@ -1,7 +1,7 @@
 -- The pairs of rows with the same field in one column, and their text: the clause `answer` of `pair_rows`.
 use Rattle.std.specs.Prelude.{◌+◌, ◌++◌, ◌∷◌, [], ℕ, List, length, map, codes, decimal, filter, slice_index_or, Bool, Option, Some, None, Result, Ok}
 use Rattle.std.specs.List.{flat_map}
-use Rattle.csv_records.specs.Left.{records_in}
+use Rattle.file_reader.specs.Left.{records_in}
 use Rattle.link_base.specs.Answers.{and_then}
 use Rattle.link_base.specs.declared.fault.Fault.{Fault}
 use Rattle.link_base.specs.declared.fault.FileRole.{FileRole}

@@ -9,7 +9,7 @@ use Rattle.link_base.specs.Rule.{IsPairBefore}
 use Rattle.pair_decisions.specs.Decisions.{DecidedView, pairs_with}
 use Rattle.pair_decisions.specs.PairRule.{AreSidesFor, side_rule, side_rule_of, SideRule}
 use Rattle.pair_decisions.specs.Pairs.{IsInside}
-use Rattle.plan_rule.specs.TheRule.{the_rule}
+use Rattle.pair_decisions.specs.TheRule.{the_rule}
 use Rattle.settings.specs.Plan.{PlainShares}
 use Rattle.settings.specs.declared.plan.Plan.{Plan}
 use Rattle.link_core.specs.Pairs.{plan_pairs}

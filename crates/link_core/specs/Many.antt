@@ -2,9 +2,9 @@
 -- of links of greatest worth within them and of prices that certify it (`many_lines`, its lone clause). Which greatest list is printed
 -- is not said.
 use Rattle.std.specs.Prelude.{◌≡◌, ◌++◌, ℕ, ℤ, List, All, length, Result}
-use Rattle.assignment_laws.specs.Capacities.{CertifiesWithin, IsGreatestWithin}
+use Rattle.price_check.specs.Capacities.{CertifiesWithin, IsGreatestWithin}
 use Rattle.capacity_assign.specs.Solution.{IsAllowedCapacity}
-use Rattle.capacity_links.specs.Capacities.{capacities_in}
+use Rattle.candidate_links.specs.Capacities.{capacities_in}
 use Rattle.link_base.specs.declared.fault.Fault.{Fault}
 use Rattle.link_base.specs.declared.rule.Candidate.{Candidate}
 use Rattle.link_report.specs.LinksText.{text_of_links}

@@ -14,8 +14,8 @@ use Rattle.value_pool.specs.declared.pool.PoolFault.TheVariants as pool
 use Rattle.settings.specs.Plan.{FieldKeys}
 use Rattle.settings.specs.declared.plan.Plan.{Plan}
 use Rattle.standard_files.specs.Files.{standard_files, StandardPair}
-use Rattle.pooled_values.specs.Ready.{AreFileSides}
-use Rattle.pooled_values.specs.Sides.{pooled_values, PooledView}
+use Rattle.standard_files.specs.Ready.{AreFileSides}
+use Rattle.standard_files.specs.Sides.{pooled_values, PooledView}
 
 -- the comparisons of a plan's fields
 abbrev pub kinds_of : Plan → List CompareKind

@@ -2,7 +2,7 @@
 -- candidates (`candidates`). Links and prices are a relation: any greatest one-to-one list serves, with any prices that certify it.
 use Rattle.std.specs.Prelude.{◌≡◌, ◌*◌, ◌^◌, ℕ, ℤ, List, length}
 use Rattle.link_limits.specs.declared.TheConstants.{WHOLE_FIELD, WHOLE_RULE}
-use Rattle.assignment_laws.specs.Assignment.{Certifies, IsGreatest, worth}
+use Rattle.price_check.specs.Assignment.{Certifies, IsGreatest, worth}
 use Rattle.candidate_links.specs.Candidates.{candidates_of}
 use Rattle.candidate_links.specs.Choice.{dropped_of}
 use Rattle.decision_rule.specs.Rule.{lambda_of, mu_of, possible_m_of, possible_u_of}
@@ -21,10 +21,10 @@ use Rattle.link_report.specs.declared.open.PairRow.{PairRow}
 use Rattle.link_report.specs.declared.report.Report.{Report}
 use Rattle.pair_decisions.specs.Decisions.{AreDecisionsOn, count_with, DecidedView, pairs_with}
 use Rattle.pair_decisions.specs.PairRule.{AreCellsOf, side_rule, SideRule}
-use Rattle.pair_lines.specs.PairRows.{pair_rows_of}
+use Rattle.pair_decisions.specs.PairRows.{pair_rows_of}
 use Rattle.pair_walk.specs.Pairs.{compared_pairs}
-use Rattle.pattern_shapes.specs.Shapes.{pattern_count_by}
-use Rattle.plan_rule.specs.Comparators.{rares_of}
+use Rattle.patterns.specs.Shapes.{pattern_count_by}
+use Rattle.pair_decisions.specs.Comparators.{rares_of}
 use Rattle.review_journal.specs.Idle.{idle_count}
 use Rattle.review_journal.specs.declared.entry.Entry.{Entry}
 use Rattle.settings.specs.declared.plan.Plan.{Plan}

@@ -14,9 +14,9 @@ use Rattle.review_journal.specs.Adding.{added}
 use Rattle.review_journal.specs.Journal.{IsWithinFiles}
 use Rattle.review_journal.specs.Verdict.{verdict_on}
 use Rattle.review_journal.specs.declared.entry.Entry.{Entry}
-use Rattle.journal_files.specs.Batch.{verdicts_of}
-use Rattle.journal_files.specs.Reading.{journal_in}
-use Rattle.journal_files.specs.Text.{text_of_journal}
+use Rattle.review_journal.specs.Batch.{verdicts_of}
+use Rattle.review_journal.specs.Reading.{journal_in}
+use Rattle.review_journal.specs.Text.{text_of_journal}
 use Rattle.link_report.specs.OpenText.{text_of_open}
 use Rattle.link_report.specs.declared.open.PairRow.{PairRow}
 use Rattle.pair_decisions.specs.Decisions.{pattern_at}

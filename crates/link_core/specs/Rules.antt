@@ -9,14 +9,14 @@ use Rattle.level_frontier.specs.Frontier.{FallsTo, IsFrontierRow, IsNearLeast}
 use Rattle.level_frontier.specs.declared.levels.FrontierRow.{FrontierRow}
 use Rattle.link_report.specs.FrontierText.{text_of_frontier}
 use Rattle.link_report.specs.RuleText.{text_of_rule}
-use Rattle.plan_rule.specs.Comparators.{rares_of}
-use Rattle.plan_rule.specs.PlanRule.{IsRuleOf}
-use Rattle.plan_rule.specs.PlanShares.{counted_in, plain_all}
+use Rattle.pair_decisions.specs.Comparators.{rares_of}
+use Rattle.pair_decisions.specs.PlanRule.{IsRuleOf}
+use Rattle.pair_decisions.specs.PlanShares.{counted_in, plain_all}
 use Rattle.settings.specs.Plan.{PlainShares}
 use Rattle.settings.specs.declared.plan.Plan.{Plan}
 use Rattle.standard_files.specs.Files.{AreOfPlan}
 use Rattle.pair_walk.specs.Rows.{AreAllReady, AreKeysHeld}
-use Rattle.pooled_values.specs.Ready.{AreFileSides}
+use Rattle.standard_files.specs.Ready.{AreFileSides}
 use Rattle.link_core.specs.Prepared.{kinds_of, PreparedView}
 
 -- prepared files are those of a plan: at most so many records each, with keys in its passes whose parts stand in the pool, and a

@@ -2,13 +2,13 @@
 -- clause). The law `run_is_verified` says that what a run writes proves its links.
 use Rattle.std.specs.Prelude.{◌≡◌, ◌≤◌, ◌++◌, ℕ, ℤ, Bool, true, false, List, [], codes, decimal, length, Result, Ok, Err}
 use Rattle.std.specs.Fmt.{signed_decimal}
-use Rattle.assignment_laws.specs.Assignment.{Certifies, IsOneToOne}
+use Rattle.price_check.specs.Assignment.{Certifies, IsOneToOne}
 use Rattle.link_base.specs.Standard.{id_at, Record}
 use Rattle.link_base.specs.declared.rule.Candidate.{Candidate}
 use Rattle.link_limits.specs.declared.TheConstants.{MOST_FIELDS}
 use Rattle.pair_decisions.specs.PairRule.{SideRule}
-use Rattle.plan_rule.specs.Comparators.{rares_of}
-use Rattle.plan_rule.specs.PlanRule.{IsRuleOf}
+use Rattle.pair_decisions.specs.Comparators.{rares_of}
+use Rattle.pair_decisions.specs.PlanRule.{IsRuleOf}
 use Rattle.review_journal.specs.declared.entry.Entry.{Entry}
 use Rattle.settings.specs.Plan.{PlainShares}
 use Rattle.settings.specs.Settings.{settings}

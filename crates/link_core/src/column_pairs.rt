@@ -5,7 +5,7 @@ ghost use Rattle.link_base.specs.Standard.{IsFreshId};
 ghost use Rattle.file_reader.specs.Layout.{wanted_of};
 ghost use Rattle.file_reader.specs.Rows.{no_row, TableRow};
 ghost use Rattle.file_reader.specs.Table.{HasWidth, table_of};
-ghost use Rattle.csv_records.specs.Left.{records_in};
+ghost use Rattle.file_reader.specs.Left.{records_in};
 ghost use Rattle.link_core.specs.ColumnPairs.{first_field, pairs_of_fields, pairs_of_files, rows_of_pairs, wanted_column};
 ghost use Rattle.link_core.specs.ColumnRecords.{numbered_records, value_of, whole_field};
 ghost use Rattle.pair_decisions.specs.Pairs.{pairs_within};

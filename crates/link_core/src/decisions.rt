@@ -5,16 +5,17 @@ ghost use Rattle.link_core.specs.Decisions.{decided, decisions_of, IsDecidedIn, 
 ghost use Rattle.link_core.specs.Results.{IsDecidedFor};
 ghost use Rattle.link_core.specs.Rules.{IsPreparedFor, shared_rares};
 ghost use Rattle.pair_decisions.specs.PairRule.{AreCellsOf, AreSidesFor, side_rule};
-ghost use Rattle.pattern_shapes.specs.Shapes.{pattern_count_by};
-ghost use Rattle.plan_rule.specs.Comparators.{rares_of};
-ghost use Rattle.plan_rule.specs.PlanRule.{IsRuleOf};
+ghost use Rattle.patterns.specs.Shapes.{pattern_count_by};
+ghost use Rattle.pair_decisions.specs.Comparators.{rares_of};
+ghost use Rattle.pair_decisions.specs.PlanRule.{IsRuleOf};
 ghost use Rattle.settings.specs.Ranges.{KeepsRanges};
 
 use crate::preparing::Prepared;
 use crate::rules::PlanShares;
 use link_base::{Fault, FileRole, NoMemory};
-use pair_decisions::{Decided, PairRule, decide_pairs, rule_has_patterns};
-use plan_rule::{is_the_rule, rule_of_shares};
+use pair_decisions::{
+    Decided, PairRule, decide_pairs, is_the_rule, rule_has_patterns, rule_of_shares,
+};
 use settings::Plan;
 use std::alloc::Global;
 

@@ -14,7 +14,7 @@ mod row_text;
 mod rules;
 mod verify;
 
-pub use capacity_links::Capacities;
+pub use candidate_links::Capacities;
 pub use column_pairs::pair_rows;
 pub use decisions::decide_all;
 pub use duplicates::duplicate_lines;

@@ -12,7 +12,7 @@ ghost use Rattle.settings.specs.Ranges.{KeepsRanges};
 
 use crate::preparing::Prepared;
 use crate::results::{candidates, link_texts};
-use capacity_links::{Capacities, LinksWithin, choose_within, read_capacities};
+use candidate_links::{Capacities, LinksWithin, choose_within, read_capacities};
 use link_base::{Fault, NoMemory, Text};
 use pair_decisions::Decided;
 use review_journal::Journal;

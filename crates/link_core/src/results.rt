@@ -1,6 +1,6 @@
 // What a run comes to.
 ghost use Rattle.std.specs.Prelude.{◌≡◌, ◌<◌, ◌≤◌, All, IfOk, length};
-ghost use Rattle.assignment_laws.specs.Assignment.{Certifies, IsGreatest, worth};
+ghost use Rattle.price_check.specs.Assignment.{Certifies, IsGreatest, worth};
 ghost use Rattle.candidate_links.specs.Candidates.{AreCandidates};
 ghost use Rattle.candidate_links.specs.Choice.{dropped_of};
 ghost use Rattle.link_core.specs.Decisions.{IsDecidedIn};
@@ -16,7 +16,7 @@ ghost use Rattle.link_report.specs.PricesText.{text_of_prices};
 ghost use Rattle.link_report.specs.RuleText.{text_of_rule};
 ghost use Rattle.link_report.specs.declared.report.Dropped.{Dropped as Row};
 ghost use Rattle.pair_decisions.specs.PairRule.{side_rule};
-ghost use Rattle.plan_rule.specs.Comparators.{rares_of};
+ghost use Rattle.pair_decisions.specs.Comparators.{rares_of};
 ghost use Rattle.settings.specs.Ranges.{KeepsRanges};
 
 use crate::preparing::Prepared;
@@ -25,8 +25,7 @@ use candidate_links::{ChosenLinks, candidates_among, choose_links};
 use decision_rule::attained;
 use link_base::{Candidate, Decision, FileRole, Levels, NoMemory, Text};
 use link_report::{Report, links_text, prices_text, report_text, rule_text};
-use pair_decisions::Decided;
-use pair_lines::pair_lines;
+use pair_decisions::{Decided, pair_lines};
 use review_journal::{Journal, idle_entries};
 use settings::Plan;
 use std::alloc::Global;

@@ -8,12 +8,11 @@ ghost use Rattle.link_report.specs.declared.open.PairRow.{PairRow as Row};
 ghost use Rattle.review_journal.specs.Journal.{IsReviewer};
 
 use crate::preparing::Prepared;
-use journal_files::{journal_text, read_journal, read_verdicts};
 use link_base::{Decision, Fault, FileRole, NoMemory, PairAt, Sides, Text, Verdict};
 use link_limits::MOST_FILE_BYTES;
 use link_report::{PairRow, open_text};
 use pair_decisions::Decided;
-use review_journal::Journal;
+use review_journal::{Journal, journal_text, read_journal, read_verdicts};
 use std::alloc::Global;
 
 /// The journal in a file, over prepared files, or the first fault of the file.

@@ -2,9 +2,9 @@
 ghost use Rattle.std.specs.Prelude.{◌≡◌, ◌≤◌, All, IfErr, IfOk, None, length};
 ghost use Rattle.link_base.specs.Fault.{IsAnswer, IsInputFault};
 ghost use Rattle.link_core.specs.Rules.{counted_by, IsFrontierText, IsPreparedFor, IsRuleText, shared_rares};
-ghost use Rattle.plan_rule.specs.Comparators.{rares_of};
+ghost use Rattle.pair_decisions.specs.Comparators.{rares_of};
 ghost use Rattle.link_limits.specs.declared.TheConstants.{MOST_FIELDS};
-ghost use Rattle.plan_rule.specs.PlanShares.{given_in, plain_all};
+ghost use Rattle.pair_decisions.specs.PlanShares.{given_in, plain_all};
 ghost use Rattle.settings.specs.Ranges.{KeepsRanges};
 
 use crate::preparing::Prepared;
@@ -12,8 +12,8 @@ use level_frontier::{FrontierRow, frontier};
 use link_base::{Fault, FieldShares, FileRole, Levels, NoMemory, RuleTable, Text};
 use link_limits::PER_MILLION;
 use link_report::{frontier_text, rule_text};
-use pattern_shapes::patterns_of;
-use plan_rule::{counted_shares, given_shares, rule_of_shares};
+use pair_decisions::{counted_shares, given_shares, rule_of_shares};
+use patterns::patterns_of;
 use settings::Plan;
 use std::alloc::Global;
 use std::marker::Model;
@@ -27,7 +27,7 @@ pub struct PlanShares {
 impl Model for PlanShares {
     ghost use Rattle.std.specs.Prelude.{List, length, ◌≤◌};
     ghost use Rattle.link_limits.specs.declared.TheConstants.{MOST_FIELDS};
-    ghost use Rattle.plan_rule.specs.PlanShares.{plain_all};
+    ghost use Rattle.pair_decisions.specs.PlanShares.{plain_all};
     ghost use Rattle.settings.specs.Plan.{PlainShares};
 
     ghost Value = { List PlainShares };

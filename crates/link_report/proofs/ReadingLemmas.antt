@@ -15,7 +15,7 @@ use Rattle.csv.specs.Writing.{default_writer, row_text}
 use Rattle.csv.specs.declared.parser.Config.{Config}
 use Rattle.csv.specs.declared.parser.State.{State}
 use Rattle.csv.specs.declared.parser.State.TheVariants as st
-use Rattle.csv_records.specs.Left.{config_of, records_in}
+use Rattle.file_reader.specs.Left.{config_of, records_in}
 use Rattle.csv_rows.specs.ReadAgain.{HasNoMark}
 use Rattle.csv_rows.proofs.ReadAgainFacts.{no_mark}
 use Rattle.link_base.specs.Standard.{Record}

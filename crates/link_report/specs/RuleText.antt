@@ -7,7 +7,7 @@ use Rattle.link_limits.specs.declared.TheConstants.{WHOLE_RULE}
 use Rattle.link_base.specs.declared.rule.Outcome.{Outcome}
 use Rattle.link_base.specs.declared.rule.Outcome.TheVariants.{Agree, Disagree, Missing, Rare}
 use Rattle.link_base.specs.declared.rule.RuleCell.{RuleCell}
-use Rattle.pattern_shapes.specs.Shapes.{outcome_at}
+use Rattle.patterns.specs.Shapes.{outcome_at}
 
 -- the letter of an outcome: A, D, M or R
 abbrev pub outcome_letter : Outcome → ℕ

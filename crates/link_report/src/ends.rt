@@ -4,14 +4,14 @@ ghost use Rattle.link_report.specs.LineParts.{IsEnd, pair_end};
 ghost use Rattle.link_report.specs.PairsText.{decision_word, verdict_word};
 ghost use Rattle.link_report.specs.RuleText.{outcome_letters};
 ghost use Rattle.link_report.specs.declared.ends.LineEnd.{LineEnd as End};
-ghost use Rattle.pattern_shapes.specs.Shapes.{pattern_count_by, rare_of};
+ghost use Rattle.patterns.specs.Shapes.{pattern_count_by, rare_of};
 
 use crate::open::PairRow;
 use crate::rule::letters_of;
 use csv_rows::push_row;
 use itoa::Buffer;
 use link_base::{Decision, NoMemory, PairAt, Shape, Verdict};
-use pattern_shapes::pattern_count;
+use patterns::pattern_count;
 use std::alloc::Global;
 use std::marker::Model;
 
@@ -152,7 +152,7 @@ pub(crate) struct LineEnds {
 impl Model for LineEnds {
     ghost use Rattle.std.specs.Prelude.{◌≡◌, All, Bool, List, length};
     ghost use Rattle.link_report.specs.LineParts.{IsEnd};
-    ghost use Rattle.pattern_shapes.specs.Shapes.{pattern_count_by, rare_of};
+    ghost use Rattle.patterns.specs.Shapes.{pattern_count_by, rare_of};
 
     ghost Value = { List Bool };
 

@@ -7,7 +7,7 @@ ghost use Rattle.link_report.specs.LineParts.{pair_end};
 ghost use Rattle.link_report.specs.Lines.{front_of};
 ghost use Rattle.link_report.specs.PairsText.{IsAfter, pair_row, pairs_header, text_of_pairs};
 ghost use Rattle.link_report.specs.declared.open.PairRow.{PairRow as Row};
-ghost use Rattle.pattern_shapes.specs.Shapes.{pattern_count_by, rare_of};
+ghost use Rattle.patterns.specs.Shapes.{pattern_count_by, rare_of};
 
 use crate::ends::LineEnds;
 use crate::front::{LineFront, push_front};

@@ -1,7 +1,7 @@
 // The rows of written files, read again.
 ghost use Rattle.std.specs.Prelude.{◌≡◌, ◌<◌, ◌≤◌, ◌+◌, ◌^◌, [], Bool, IfOk, List, Ok, length, map, slice_index_or, ℤ};
 ghost use Rattle.csv.specs.Records.{fields_of};
-ghost use Rattle.csv_records.specs.Left.{records_in};
+ghost use Rattle.file_reader.specs.Left.{records_in};
 ghost use Rattle.link_base.specs.Standard.{Record};
 ghost use Rattle.link_base.specs.declared.rule.Candidate.{Candidate as Link};
 ghost use Rattle.link_base.specs.declared.rule.RuleCell.{RuleCell as Cell};
@@ -11,8 +11,8 @@ ghost use Rattle.link_report.specs.Reading.{HasFewRows, first_misfit, misfit_und
 ghost use Rattle.link_report.specs.RuleText.{cell_fields, rule_header, text_of_rule};
 
 use csv::ByteRecord;
-use csv_records::Records;
 use csv_rows::rows_read_again;
+use file_reader::Records;
 use link_base::NoMemory;
 use std::alloc::Global;
 

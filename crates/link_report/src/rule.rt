@@ -3,13 +3,13 @@ ghost use Rattle.std.specs.Prelude.{◌≡◌, ◌<◌, ◌++◌, All, Bool, IfO
 ghost use Rattle.link_base.specs.Rule.{IsWithinRanges};
 ghost use Rattle.link_base.specs.declared.rule.RuleCell.{RuleCell as Cell};
 ghost use Rattle.link_report.specs.RuleText.{cell_row, outcome_letter, outcome_letters, text_of_rule};
-ghost use Rattle.pattern_shapes.specs.Shapes.{pattern_count_by, rare_of};
+ghost use Rattle.patterns.specs.Shapes.{pattern_count_by, rare_of};
 
 use csv_rows::push_row;
 use itoa::Buffer;
 use link_base::{NoMemory, Outcome, RuleCell, RuleTable, Shape, Text};
 use link_limits::WHOLE_RULE;
-use pattern_shapes::outcome_of;
+use patterns::outcome_of;
 use std::alloc::Global;
 
 fn letter_of(outcome: Outcome) -> u8

@@ -6,7 +6,7 @@ use Rattle.settings.specs.declared.plan.Plan.{Plan}
 use Rattle.link_limits.specs.declared.TheConstants.{MOST_POOLED_BYTES}
 use Rattle.link_core.specs.Prepared.{prepared, PreparedView}
 use Rattle.link_core.specs.Rules.{counted_by}
-use Rattle.plan_rule.specs.PlanShares.{given_in}
+use Rattle.pair_decisions.specs.PlanShares.{given_in}
 use Rattle.settings.specs.Plan.{PlainShares}
 use Rattle.link_shell.specs.Steps.{◌>>=◌, file, gives, Steps}
 use Rattle.link_shell.specs.declared.front.Described.{Described}

@@ -5,7 +5,7 @@
 --
 -- Chances are those of the plan's shares, under independence of the fields (Fellegi and Sunter 1969, section 2), not those of a population.
 use Rattle.std.specs.Prelude.{◌≡◌, ◌⊎◌, ◌≤ℤ◌, ℕ, ℤ, List, length, filter, All, AllPairs, Some, Ok}
-use Rattle.assignment_laws.specs.Assignment.{Certifies, IsOneToOne, worth}
+use Rattle.price_check.specs.Assignment.{Certifies, IsOneToOne, worth}
 use Rattle.decision_rule.specs.Least.{IsLeast}
 use Rattle.link_base.specs.declared.rule.Candidate.{Candidate}
 use Rattle.link_base.specs.declared.rule.Decision.TheVariants.{Link, Possible}
@@ -23,10 +23,10 @@ use Rattle.link_report.specs.declared.report.Report.{Report}
 use Rattle.pair_decisions.specs.Decisions.{decision_at}
 use Rattle.pair_decisions.specs.PairRule.{SideRule}
 use Rattle.link_base.specs.Rule.{IsPairBefore}
-use Rattle.pair_lines.specs.PairRows.{pair_rows_of}
+use Rattle.pair_decisions.specs.PairRows.{pair_rows_of}
 use Rattle.pair_walk.specs.Pairs.{is_compared, product_from}
-use Rattle.plan_rule.specs.Comparators.{rares_of}
-use Rattle.plan_rule.specs.PlanRule.{IsRuleOf}
+use Rattle.pair_decisions.specs.Comparators.{rares_of}
+use Rattle.pair_decisions.specs.PlanRule.{IsRuleOf}
 use Rattle.review_journal.specs.Verdict.{verdict_on}
 use Rattle.review_journal.specs.declared.entry.Entry.{Entry}
 use Rattle.settings.specs.Plan.{PlainShares}

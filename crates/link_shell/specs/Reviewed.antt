@@ -3,7 +3,7 @@ use Rattle.std.specs.Prelude.{ℕ, List, [], codes, is_some, unwrap_or, Option, 
 use Rattle.link_base.specs.declared.fault.Fault.{Fault}
 use Rattle.link_base.specs.declared.fault.Fault.TheVariants as fault
 use Rattle.link_base.specs.declared.fault.FileRole.TheVariants as role
-use Rattle.plan_rule.specs.PlanRule.{IsRuleOf}
+use Rattle.pair_decisions.specs.PlanRule.{IsRuleOf}
 use Rattle.settings.specs.Plan.{PlainShares}
 use Rattle.settings.specs.Ranges.{KeepsRanges}
 use Rattle.settings.specs.declared.plan.Plan.{Plan}

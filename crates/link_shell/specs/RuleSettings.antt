@@ -3,8 +3,8 @@ use Rattle.std.specs.Prelude.{◌≡◌, ℕ, List, Bool, codes}
 use Rattle.link_base.specs.declared.rule.RuleCell.{RuleCell}
 use Rattle.decision_rule.specs.Least.{IsLeast}
 use Rattle.link_report.specs.RuleText.{text_of_rule}
-use Rattle.plan_rule.specs.Comparators.{rares_of}
-use Rattle.plan_rule.specs.PlanRule.{IsRuleOf}
+use Rattle.pair_decisions.specs.Comparators.{rares_of}
+use Rattle.pair_decisions.specs.PlanRule.{IsRuleOf}
 use Rattle.link_core.specs.Rules.{IsRuleText}
 use Rattle.link_shell.specs.Does.{Script}
 use Rattle.link_shell.specs.Due.{Due, prints}

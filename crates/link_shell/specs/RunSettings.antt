@@ -1,6 +1,6 @@
 -- The command `run SETTINGS`: its words, its steps, and the five files that it writes. `Headline` says what they are.
 use Rattle.std.specs.Prelude.{◌≡◌, ◌∷◌, [], ℕ, List, Bool, codes}
-use Rattle.plan_rule.specs.PlanRule.{IsRuleOf}
+use Rattle.pair_decisions.specs.PlanRule.{IsRuleOf}
 use Rattle.link_core.specs.Results.{AreRunTexts, RunTexts}
 use Rattle.link_shell.specs.Does.{Script}
 use Rattle.link_shell.specs.Due.{Due, Put, puts}

@@ -10,7 +10,7 @@ ghost use Rattle.link_shell.specs.Reviewed.{decided_plan, found_of, IsReviewed, 
 ghost use Rattle.link_shell.specs.Seen.{store_seen};
 ghost use Rattle.link_shell.specs.Steps.{seen_by, Takes};
 ghost use Rattle.link_shell.specs.Ways.{PutsAll};
-ghost use Rattle.plan_rule.specs.PlanRule.{IsRuleOf};
+ghost use Rattle.pair_decisions.specs.PlanRule.{IsRuleOf};
 ghost use Rattle.settings.specs.Ranges.{KeepsRanges, NamesFiles};
 ghost use Rattle.settings.specs.declared.plan.Plan.{Plan as AnyPlan};
 

@@ -13,12 +13,12 @@ use Rattle.decision_rule.specs.Filled.{Chances, chances_at, chances_of}
 use Rattle.link_base.specs.Rule.{empty_cell}
 use Rattle.link_base.specs.declared.rule.RuleCell.{RuleCell}
 use Rattle.link_limits.specs.declared.TheConstants.{MOST_FIELDS, MOST_PATTERNS}
-use Rattle.pattern_shapes.proofs.Digits.{count-le}
-use Rattle.pattern_shapes.specs.Patterns.{pattern_count_of, rare_in}
-use Rattle.pattern_shapes.specs.Shapes.{pattern_count_by}
-use Rattle.plan_rule.proofs.ComparatorLemmas.{map_via}
-use Rattle.plan_rule.specs.Comparators.{rares_of}
-use Rattle.plan_rule.specs.PlanRule.{IsRuleOf}
+use Rattle.patterns.proofs.Digits.{count-le}
+use Rattle.patterns.specs.Chances.{pattern_count_of, rare_in}
+use Rattle.patterns.specs.Shapes.{pattern_count_by}
+use Rattle.pair_decisions.proofs.ComparatorLemmas.{map_via}
+use Rattle.pair_decisions.specs.Comparators.{rares_of}
+use Rattle.pair_decisions.specs.PlanRule.{IsRuleOf}
 use Rattle.settings.specs.Plan.{FieldKeys, PlainShares, plain_shares}
 use Rattle.settings.specs.declared.plan.Plan.{Plan}
 use Rattle.pair_decisions.specs.PairRule.{AreCellsOf, has_pattern}

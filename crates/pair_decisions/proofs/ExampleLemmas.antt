@@ -13,7 +13,7 @@ use Rattle.link_base.specs.declared.plan.CompareKind.TheVariants as by
 use Rattle.link_base.specs.declared.plan.Part.{Part}
 use Rattle.link_base.specs.declared.standard.Value.{Value}
 use Rattle.pair_walk.specs.Rows.{AreAllReady, AreKeysHeld}
-use Rattle.plan_rule.specs.Sides.{AreSidesOf, IsOfTexts}
+use Rattle.pair_decisions.specs.Sides.{AreSidesOf, IsOfTexts}
 use Rattle.settings.specs.Plan.{FieldKeys}
 
 absent_side : (kind : CompareKind) → IsFieldSide (field_of kind) id.Absent

@@ -4,3 +4,17 @@ pub mod PairLemmas
 pub mod PlaceLemmas
 pub mod SideLemmas
 pub mod WalkLemmas
+pub mod AnswerLemmas
+pub mod ComparatorLemmas
+pub mod CountLemmas
+pub mod ListSteps
+pub mod OneRule
+pub mod PatternLemmas
+pub mod PlainPatterns
+pub mod RankedCells
+pub mod RareLemmas
+pub mod ShareLemmas
+pub mod RuleSideLemmas
+pub mod TheRule
+pub mod LineLemmas
+pub mod OrderLemmas

@@ -5,8 +5,8 @@ use Rattle.comparators.specs.declared.ids.FieldById.{FieldById}
 use Rattle.comparators.specs.declared.ids.IdValue.{IdValue}
 use Rattle.link_base.specs.declared.rule.Outcome.{Outcome}
 use Rattle.patterns.specs.Patterns.{number_of, outcomes}
-use Rattle.plan_rule.proofs.ComparatorLemmas.{map_via}
-use Rattle.plan_rule.specs.Comparators.{SideComparator, answers_of}
+use Rattle.pair_decisions.proofs.ComparatorLemmas.{map_via}
+use Rattle.pair_decisions.specs.Comparators.{SideComparator, answers_of}
 use Rattle.pair_decisions.specs.PairRule.{pattern_by, rares_in}
 
 rares_seen : (all : List FieldById) → map field_rare all ≡ rares_in (map answers_of all)

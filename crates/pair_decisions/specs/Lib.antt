@@ -2,3 +2,11 @@ pub mod PairRule
 pub mod Places
 pub mod Pairs
 pub mod Decisions
+pub mod Comparators
+pub mod Sides
+pub mod PlanShares
+pub mod PlanRule
+pub mod TheRule
+pub mod RareValues
+pub mod LastPair
+pub mod PairRows

@@ -9,7 +9,7 @@ use Rattle.comparators.specs.declared.ids.IdValue.{IdValue}
 use Rattle.link_base.specs.Rule.{empty_cell}
 use Rattle.link_base.specs.declared.rule.RuleCell.{RuleCell}
 use Rattle.patterns.specs.Patterns.{AreSides, number_of, outcomes}
-use Rattle.plan_rule.specs.Comparators.{answers_of, comparators_of, SideComparator}
+use Rattle.pair_decisions.specs.Comparators.{answers_of, comparators_of, SideComparator}
 use Rattle.settings.specs.declared.plan.Plan.{Plan}
 
 -- the comparators, the cells of the filled table, and the seed of the border words

@@ -2,9 +2,9 @@
 ghost use Rattle.std.specs.Prelude.{◌≡◌, List, map};
 ghost use Rattle.link_base.specs.declared.rule.RuleCell.{RuleCell};
 ghost use Rattle.pair_decisions.specs.PairRule.{AreCellsOf};
-ghost use Rattle.pattern_shapes.specs.Shapes.{pattern_count_by};
-ghost use Rattle.plan_rule.specs.Comparators.{rares_of};
-ghost use Rattle.plan_rule.specs.PlanRule.{IsRuleOf};
+ghost use Rattle.patterns.specs.Shapes.{pattern_count_by};
+ghost use Rattle.pair_decisions.specs.Comparators.{rares_of};
+ghost use Rattle.pair_decisions.specs.PlanRule.{IsRuleOf};
 ghost use Rattle.settings.specs.Plan.{PlainShares};
 ghost use Rattle.settings.specs.declared.plan.Plan.{Plan};
 

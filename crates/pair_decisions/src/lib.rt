@@ -1,14 +1,28 @@
-//! The decisions of the decision rule of Fellegi and Sunter (1969) on all compared pairs of two files.
+//! The decision rule of a plan, its decisions on all compared pairs of two files (Fellegi and Sunter 1969), and the lines
+//! of these pairs, written in a walk of their own: no list of the pairs is kept.
 #![tactic(auto)]
 
 mod choice;
+mod comparisons;
 mod deciding;
+mod id_counts;
 mod laws;
+mod lines;
 mod pair_rule;
 mod places;
+mod plan_shares;
+mod rows;
+mod rule_laws;
+mod table;
 mod walking;
+mod writing;
 
 pub use choice::decide_in_cell;
+pub use comparisons::comparisons_of;
 pub use deciding::{Decided, decide_pairs};
 pub use laws::rule_has_patterns;
+pub use lines::pair_lines;
 pub use pair_rule::PairRule;
+pub use plan_shares::{counted_shares, given_shares, shares_of_counts};
+pub use rule_laws::{is_the_rule, one_rule, rare_counts, rule_is_least};
+pub use table::rule_of_shares;

@@ -2,17 +2,17 @@
 ghost use Rattle.std.specs.Prelude.{◌≡◌, ◌<◌, ◌≤◌, All, IfOk, Some, find, length};
 ghost use Rattle.link_base.specs.Rule.{IsWithinRanges};
 ghost use Rattle.pair_decisions.specs.PairRule.{AreCellsOf, AreSidesFor, has_pattern, pattern_by, side_rule, side_rule_of};
-ghost use Rattle.pattern_shapes.specs.Shapes.{pattern_count_by};
-ghost use Rattle.plan_rule.specs.Comparators.{rares_of};
-ghost use Rattle.plan_rule.specs.Sides.{AreSidesOf};
+ghost use Rattle.patterns.specs.Shapes.{pattern_count_by};
+ghost use Rattle.pair_decisions.specs.Comparators.{rares_of};
+ghost use Rattle.pair_decisions.specs.Sides.{AreSidesOf};
 ghost use Rattle.settings.specs.Ranges.{KeepsRanges};
 
+use crate::comparisons::comparisons_of;
 use crate::places::places_of;
 use comparators::{FieldById, IdTable, IdValue};
 use link_base::{NoMemory, RuleCell, RuleTable};
 use link_limits::MOST_ROWS;
 use patterns::pattern_over;
-use plan_rule::comparisons_of;
 use settings::Plan;
 use std::alloc::Global;
 use std::marker::Model;

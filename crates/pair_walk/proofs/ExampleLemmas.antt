@@ -2,7 +2,7 @@
 use Rattle.std.proofs.Common.{◌≡◌, ◌<◌, ◌∷◌, ◌++◌, List, [], ℕ, zero, suc, Result, Ok, Err, OnErr, length, get_or, arith}
 use Rattle.std.specs.Prelude.{All, OnOk}
 use Rattle.std.proofs.lemmas.List.Elements.{All-push}
-use Rattle.value_canons.proofs.ReadableLemmas.{readable_valid}
+use Rattle.value_forms.proofs.ReadableLemmas.{readable_valid}
 use Rattle.block_passes.specs.Index.{row_at}
 use Rattle.block_passes.specs.Keys.{AreReadable, InRange}
 use Rattle.link_base.specs.Standard.{IsValid, Record, absent_value, no_record}

@@ -9,8 +9,8 @@ use Rattle.link_limits.specs.declared.TheConstants.{MOST_FIELDS, MOST_PATTERNS}
 use Rattle.link_base.specs.declared.rule.Outcome.{Outcome}
 use Rattle.link_base.specs.declared.rule.Outcome.TheVariants.{Agree, Disagree, Missing, Rare}
 use Rattle.link_base.specs.Shares.{outcomes_of}
-use Rattle.pattern_shapes.specs.Shapes.{digit_of, outcome_at, outcome_with, pattern_count_by}
-use Rattle.pattern_shapes.proofs.Digits.{count-le, count-pos, outcomes_bounds}
+use Rattle.patterns.specs.Shapes.{digit_of, outcome_at, outcome_with, pattern_count_by}
+use Rattle.patterns.proofs.Digits.{count-le, count-pos, outcomes_bounds}
 use Rattle.patterns.specs.Patterns.{number_of, outcomes}
 
 -- one outcome for each field, rare only where the field may be

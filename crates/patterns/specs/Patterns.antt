@@ -3,7 +3,7 @@
 use Rattle.std.specs.Prelude.{◌≡◌, ◌<◌, ◌+◌, ◌*◌, ℕ, Bool, false, List, [], ◌∷◌, length, map, slice_index_or}
 use Rattle.link_base.specs.declared.rule.Outcome.{Outcome}
 use Rattle.link_base.specs.declared.standard.Value.{Value}
-use Rattle.pattern_shapes.specs.Shapes.{digit_of, pattern_count_by}
+use Rattle.patterns.specs.Shapes.{digit_of, pattern_count_by}
 use Rattle.comparators.specs.declared.fields.FieldKind.{FieldKind}
 use Rattle.comparators.specs.Fields.{kind_outcome}
 

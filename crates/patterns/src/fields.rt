@@ -2,7 +2,7 @@
 ghost use Rattle.std.specs.Prelude.{◌≡◌, ◌≤◌, ◌<◌, ℕ, All, false, IfOk, length, map, slice_index_or};
 ghost use Rattle.link_base.specs.declared.rule.Outcome.{Outcome};
 ghost use Rattle.comparators.specs.declared.fields.FieldKind.{FieldKind};
-ghost use Rattle.pattern_shapes.specs.Shapes.{outcome_at, pattern_count_by};
+ghost use Rattle.patterns.specs.Shapes.{outcome_at, pattern_count_by};
 ghost use Rattle.link_base.specs.Standard.{IsValid};
 ghost use Rattle.comparators.specs.Fields.{kind_of, kind_outcome};
 ghost use Rattle.patterns.specs.Patterns.{outcomes, pattern_of};

@@ -2,7 +2,7 @@
 ghost use Rattle.std.specs.Prelude.{◌≡◌, ◌<◌, ◌≤◌, ℕ, false, length, map, slice_index_or, take};
 ghost use Rattle.link_base.specs.Shares.{outcomes_of};
 ghost use Rattle.link_base.specs.declared.rule.Outcome.{Outcome};
-ghost use Rattle.pattern_shapes.specs.Shapes.{digit_of, outcome_at, pattern_count_by, rare_of};
+ghost use Rattle.patterns.specs.Shapes.{digit_of, outcome_at, pattern_count_by, rare_of};
 ghost use Rattle.patterns.specs.Patterns.{AreSides, number_of, outcomes};
 
 use comparators::Comparator;
@@ -59,7 +59,7 @@ pub fn pattern_over<C: Comparator>(kinds: &[C], a: &[C::Side], b: &[C::Side]) ->
     number_over(kinds, a, b)
 }
 
-/// The shape of the patterns of 1 to `MOST_FIELDS` comparators, with which `pattern_shapes` reads the outcomes of a pattern.
+/// The shape of the patterns of 1 to `MOST_FIELDS` comparators, with which `outcome_of` reads the outcomes of a pattern.
 pub fn shape_of<C: Comparator>(kinds: &[C]) -> Shape
     requires some { 1 ≤ length kinds.now }
     requires few { length kinds.now ≤ MOST_FIELDS }

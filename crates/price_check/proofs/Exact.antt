@@ -6,7 +6,7 @@ use Rattle.link_base.specs.declared.rule.Candidate.{Candidate}
 use Rattle.link_base.specs.declared.rule.PairAt.{PairAt}
 use Rattle.link_base.specs.declared.fault.FileRole.{FileRole}
 use Rattle.link_base.specs.declared.fault.FileRole.TheVariants.{Settings, A, B, Sample, Journal, Verdicts, Rule, Links, Prices, Capacities}
-use Rattle.assignment_laws.specs.Assignment.{IsOneToOne, no_candidate}
+use Rattle.price_check.specs.Assignment.{IsOneToOne, no_candidate}
 use Rattle.price_check.specs.declared.verdict.Reason.{Reason}
 use Rattle.price_check.specs.declared.verdict.Reason.TheVariants.{NotCandidate, Reused, Negative, Uncovered, Sum}
 use Rattle.price_check.specs.declared.verdict.Verified.{Verified}

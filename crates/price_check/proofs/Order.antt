@@ -5,8 +5,8 @@ use Rattle.std.proofs.lemmas.List.{get_or_default}
 use Rattle.std.proofs.lemmas.List.Elements.{Contains-get_or, All-cons}
 use Rattle.std.proofs.lemmas.Int.{ints}
 use Rattle.link_base.specs.declared.rule.Candidate.{Candidate}
-use Rattle.assignment_laws.specs.Assignment.{IsBefore, total, worth, IsOneToOne}
-use Rattle.assignment_laws.proofs.Members.{same_member}
+use Rattle.price_check.specs.Assignment.{IsBefore, total, worth, IsOneToOne}
+use Rattle.price_check.proofs.Members.{same_member}
 use Rattle.std.specs.Prelude.{AllPairs, Contains, All}
 use Rattle.link_base.specs.declared.rule.PairAt.{PairAt}
 use Rattle.link_base.specs.Rule.{IsPairBefore}

@@ -11,9 +11,9 @@ use Rattle.std.proofs.Math.Nat.{mul-le-mul}
 use Rattle.link_base.specs.declared.rule.Candidate.{Candidate}
 use Rattle.link_base.specs.declared.rule.PairAt.{PairAt}
 use Rattle.link_base.specs.Rule.{IsPairBefore}
-use Rattle.assignment_laws.specs.Assignment.{no_candidate}
-use Rattle.assignment_laws.specs.Capacities.{IsWithinCapacities, capacity_of, links_at, place_sum}
-use Rattle.assignment_laws.proofs.Places.{links_at-here, links_at-other}
+use Rattle.price_check.specs.Assignment.{no_candidate}
+use Rattle.price_check.specs.Capacities.{IsWithinCapacities, capacity_of, links_at, place_sum}
+use Rattle.price_check.proofs.PlaceFacts.{links_at-here, links_at-other}
 use Rattle.price_check.specs.declared.verdict.Reason.{Reason}
 use Rattle.price_check.specs.declared.verdict.Reason.TheVariants.{NotCandidate, Reused, Negative, Uncovered, Sum}
 use Rattle.price_check.specs.declared.verdict.Verified.{Verified}

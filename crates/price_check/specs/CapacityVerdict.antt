@@ -4,8 +4,8 @@ use Rattle.std.specs.Prelude.{◌≡◌, ◌≢◌, ◌==◌, ℕ, ◌<◌, ◌�
 use Rattle.link_limits.specs.declared.TheConstants.{MOST_CAPACITY}
 use Rattle.link_base.specs.declared.rule.Candidate.{Candidate}
 use Rattle.link_base.specs.declared.rule.PairAt.{PairAt}
-use Rattle.assignment_laws.specs.Assignment.{IsCovered, worth, price_sum}
-use Rattle.assignment_laws.specs.Capacities.{CertifiesWithin, IsGreatestWithin, IsWithinCapacities, capacity_of, place_sum}
+use Rattle.price_check.specs.Assignment.{IsCovered, worth, price_sum}
+use Rattle.price_check.specs.Capacities.{CertifiesWithin, IsGreatestWithin, IsWithinCapacities, capacity_of, place_sum}
 use Rattle.price_check.specs.declared.verdict.Reason.{Reason}
 use Rattle.price_check.specs.declared.verdict.Reason.TheVariants.{NotCandidate, Reused, Negative, Uncovered, Sum}
 use Rattle.price_check.specs.declared.verdict.Verified.{Verified}

@@ -3,7 +3,7 @@
 use Rattle.std.specs.Prelude.{◌≡◌, ◌≢◌, ℕ, ◌<◌, ℤ, pos, ◌+ℤ◌, ◌≤ℤ◌, neg_ℤ, List, All, Contains, slice_index_or, length, Option, Some, None, MatchOption}
 use Rattle.link_limits.specs.declared.TheConstants.{MOST_VALUE}
 use Rattle.link_base.specs.declared.rule.Candidate.{Candidate}
-use Rattle.assignment_laws.specs.Assignment.{IsOneToOne, IsGreatest, Certifies, IsCovered, worth, price_sum}
+use Rattle.price_check.specs.Assignment.{IsOneToOne, IsGreatest, Certifies, IsCovered, worth, price_sum}
 use Rattle.link_base.specs.declared.rule.PairAt.{PairAt}
 use Rattle.link_base.specs.declared.fault.FileRole.{FileRole}
 use Rattle.link_base.specs.declared.fault.FileRole.TheVariants.{A, B}

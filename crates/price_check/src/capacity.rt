@@ -1,15 +1,15 @@
 // The check of a certificate with capacities.
 ghost use Rattle.std.specs.Prelude.{◌≡◌, ◌<◌, ◌^◌, length, AllPairs, All, IfOk, ◌↔◌};
 ghost use Rattle.link_base.specs.Rule.{IsPairBefore};
-ghost use Rattle.assignment_laws.specs.Assignment.{IsBefore, IsWithin};
+ghost use Rattle.price_check.specs.Assignment.{IsBefore, IsWithin};
 ghost use Rattle.price_check.specs.Verdict.{IsAllowedPrice, HasAllowedValue};
 ghost use Rattle.price_check.specs.CapacityVerdict.{AreCertifiedWithin, AreGreatestWithin, IsAllowedCapacity, IsVerdictWithin};
 
+use crate::capacity_laws::certified_within_is_greatest;
 use crate::certificate::{links_worth, price_total};
 use crate::first::{first_negative, first_stranger, first_uncovered};
 use crate::places::{first_unplaced, place_total};
 use crate::verdict::{Reason, Verified};
-use assignment_laws::certified_within_is_greatest;
 use link_base::{Candidate, FileRole, NoMemory, PairAt};
 use std::alloc::Global;
 

@@ -3,13 +3,13 @@ ghost use Rattle.std.specs.Prelude.{◌≡◌, ◌+◌, ◌*◌, ◌<◌, ◌≤
 ghost use Rattle.link_base.specs.declared.rule.Candidate.{Candidate as ACandidate};
 ghost use Rattle.link_limits.specs.declared.TheConstants.{MOST_VALUE};
 ghost use Rattle.link_base.specs.Rule.{IsPairBefore};
-ghost use Rattle.assignment_laws.specs.Assignment.{IsBefore, worth, price_sum, IsWithin};
+ghost use Rattle.price_check.specs.Assignment.{IsBefore, worth, price_sum, IsWithin};
 ghost use Rattle.price_check.specs.Search.{IsPairWithin};
 ghost use Rattle.price_check.specs.Verdict.{IsCandidate, IsAllowedPrice, HasAllowedValue, AreCertified, AreGreatest, AreLinks, IsVerdict};
 
 use crate::first::{candidate_at, first_negative, first_reused, first_stranger, first_uncovered};
+use crate::laws::certified_is_greatest;
 use crate::verdict::{Reason, Verified};
-use assignment_laws::certified_is_greatest;
 use link_base::{Candidate, FileRole, NoMemory, PairAt};
 use std::alloc::Global;
 

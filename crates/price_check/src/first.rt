@@ -1,6 +1,6 @@
 // The first place at which something is wrong.
 ghost use Rattle.std.specs.Prelude.{◌≡◌, ◌<◌, ◌≤◌, ◌^◌, ℤ, pos, ◌≤ℤ◌, length, AllPairs, All, IsTrue, ◌↔◌, MatchOption, slice_index_or, ℕ, IfOk, MatchBool, false, true};
-ghost use Rattle.assignment_laws.specs.Assignment.{IsBefore, IsCovered, IsWithin};
+ghost use Rattle.price_check.specs.Assignment.{IsBefore, IsCovered, IsWithin};
 ghost use Rattle.price_check.specs.Search.{IsPairWithin, IsCandidateBefore, AreTakenMarks};
 ghost use Rattle.price_check.specs.Verdict.{IsFirstBad, IsCandidate, IsAllowedPrice, IsFirstReused, IsCandidateAt, HasPositions, IsFresh};
 ghost use Rattle.link_base.specs.declared.rule.Candidate.{Candidate as ACandidate};

@@ -2,7 +2,7 @@
 ghost use Rattle.std.specs.Prelude.{◌≡◌, ◌*◌, ◌<◌, ◌≤◌, ◌^◌, ℕ, ℤ, pos, ◌*ℤ◌, ◌≤ℤ◌, neg_ℤ, length, All, AllPairs, IfOk, MatchBool, slice_index};
 ghost use Rattle.link_limits.specs.declared.TheConstants.{MOST_CAPACITY, MOST_VALUE};
 ghost use Rattle.link_base.specs.Rule.{IsPairBefore};
-ghost use Rattle.assignment_laws.specs.Capacities.{place_sum};
+ghost use Rattle.price_check.specs.Capacities.{place_sum};
 ghost use Rattle.price_check.specs.Search.{AreUsed, IsPairWithin};
 ghost use Rattle.price_check.specs.Verdict.{IsAllowedPrice};
 ghost use Rattle.price_check.specs.CapacityVerdict.{HasPlace, IsAllowedCapacity, IsFirstUnplaced};

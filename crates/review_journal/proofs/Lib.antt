@@ -2,3 +2,9 @@ pub mod EntryLemmas
 pub mod PlaceLemmas
 pub mod SearchLemmas
 pub mod VerdictLemmas
+pub mod AgainLemmas
+pub mod EntryFacts
+pub mod ListLemmas
+pub mod RowLemmas
+pub mod TableLemmas
+pub mod VersionLemmas

@@ -5,3 +5,8 @@ pub mod Places
 pub mod Adding
 pub mod Search
 pub mod Idle
+pub mod Rows
+pub mod Row
+pub mod Reading
+pub mod Batch
+pub mod Text

@@ -4,7 +4,7 @@ use Rattle.std.specs.List.{All, filter}
 use Rattle.link_base.specs.declared.fault.Fault.{Fault}
 use Rattle.link_base.specs.declared.rule.Outcome.{Outcome}
 use Rattle.link_base.specs.declared.rule.Outcome.TheVariants.{Missing, Rare}
-use Rattle.pattern_shapes.specs.Shapes.{digit_of}
+use Rattle.patterns.specs.Shapes.{digit_of}
 use Rattle.patterns.specs.Patterns.{AreSides}
 use Rattle.patterns.proofs.PatternNumbers.{outcome-pattern}
 use Rattle.sample_counts.specs.declared.counts.Judged.{Judged}

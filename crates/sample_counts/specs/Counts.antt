@@ -5,7 +5,7 @@ use Rattle.std.specs.Prelude.{◌≡◌, ◌<◌, ◌≤◌, ◌==◌, ◌&&◌,
 use Rattle.link_limits.specs.declared.TheConstants.{MOST_ROWS}
 use Rattle.link_base.specs.declared.rule.Outcome.{Outcome}
 use Rattle.link_base.specs.declared.rule.Outcome.TheVariants.{Missing}
-use Rattle.pattern_shapes.specs.Shapes.{digit_of, outcome_at, pattern_count_by}
+use Rattle.patterns.specs.Shapes.{digit_of, outcome_at, pattern_count_by}
 use Rattle.patterns.specs.Patterns.{number_of, outcomes}
 use Rattle.link_base.specs.Standard.{IsValid}
 use Rattle.link_base.specs.declared.standard.Value.{Value}

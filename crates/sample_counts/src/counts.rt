@@ -1,12 +1,12 @@
 // Reviewed pairs with their patterns, and their counts.
 ghost use Rattle.std.specs.Prelude.{◌≡◌, ◌≤◌, ◌<◌, ◌+◌, ◌^◌, ℕ, All, false, length, filter, sum, slice_index, slice_index_or, if◌then◌else◌};
-ghost use Rattle.pattern_shapes.specs.Shapes.{digit_of, pattern_count_by, rare_of};
+ghost use Rattle.patterns.specs.Shapes.{digit_of, pattern_count_by, rare_of};
 ghost use Rattle.sample_counts.specs.Counts.{AreJudged, count_of, digit_in, is_digit};
 ghost use Rattle.sample_counts.specs.Tallies.{counted_at};
 
 use link_base::{Outcome, Shape};
 use link_limits::MOST_ROWS;
-use pattern_shapes::outcome_of;
+use patterns::outcome_of;
 use std::marker::Model;
 
 /// A reviewed pair: whether it is matched, and its comparison pattern.
@@ -25,7 +25,7 @@ pub struct Counts {
 }
 
 impl Model for Counts {
-    ghost use Rattle.pattern_shapes.specs.Shapes.{rare_of};
+    ghost use Rattle.patterns.specs.Shapes.{rare_of};
     ghost use Rattle.sample_counts.specs.Counts.{AreJudged, CountsState};
 
     ghost Value = { CountsState };

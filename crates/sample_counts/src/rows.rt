@@ -1,13 +1,13 @@
 // The counts of a sample.
 ghost use Rattle.std.specs.Prelude.{◌≡◌, ◌≤◌, ◌<◌, All, false, IfErr, IfOk, List, Ok, length, map};
-ghost use Rattle.csv_records.specs.Left.{records_in};
+ghost use Rattle.file_reader.specs.Left.{records_in};
 ghost use Rattle.link_base.specs.Answers.{and_then};
 ghost use Rattle.link_base.specs.Fault.{IsAnswer, IsInputFault};
 ghost use Rattle.link_base.specs.Standard.{rows_of};
 ghost use Rattle.link_base.specs.declared.standard.Value.{Value};
 ghost use Rattle.comparators.specs.Fields.{kind_outcome};
 ghost use Rattle.comparators.specs.declared.fields.FieldKind.{FieldKind};
-ghost use Rattle.pattern_shapes.specs.Shapes.{pattern_count_by};
+ghost use Rattle.patterns.specs.Shapes.{pattern_count_by};
 ghost use Rattle.patterns.specs.Patterns.{AreSides};
 ghost use Rattle.sample_counts.specs.Counts.{AreOutcomeCounts, IsRowOf, counts_by, judged_by};
 ghost use Rattle.sample_counts.specs.declared.reviewed.Reviewed.{Reviewed as ReviewedPair};

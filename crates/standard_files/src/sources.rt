@@ -1,7 +1,7 @@
 // The tables of a plan's files, and what their fields hold.
 ghost use Rattle.std.specs.Prelude.{◌≡◌, ◌≤◌, ◌++◌, ◌∷◌, [], length, map, IfErr, IfOk, OnOk};
 ghost use Rattle.link_base.specs.Fault.{Gives, IsAnswer, IsInputFault};
-ghost use Rattle.csv_records.specs.Left.{records_in};
+ghost use Rattle.file_reader.specs.Left.{records_in};
 ghost use Rattle.file_reader.specs.Layout.{wanted_of};
 ghost use Rattle.file_reader.specs.Table.{HasDistinctIds, HasTexts, HasWidth, table_of};
 ghost use Rattle.settings.specs.Plan.{FieldKeys};

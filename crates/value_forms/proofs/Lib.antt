@@ -4,3 +4,5 @@ pub mod DayLemmas
 pub mod FirstLemmas
 pub mod InitialLemmas
 pub mod TextLemmas
+pub mod KindLemmas
+pub mod ReadableLemmas

@@ -4,3 +4,5 @@ pub mod Firsts
 pub mod InitialBytes
 pub mod Initials
 pub mod Words
+pub mod Canons
+pub mod CanonTexts

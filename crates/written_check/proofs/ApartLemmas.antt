@@ -9,7 +9,7 @@ use Rattle.std.proofs.lemmas.List.{append_assoc, append-nil, get_or_append_left,
 use Rattle.std.proofs.lemmas.List.Elements.{All-map}
 use Rattle.std.proofs.lemmas.List.Folds.{list_any_none}
 use Rattle.std.proofs.lemmas.List.Quantifiers.{all_pairs_push}
-use Rattle.assignment_laws.specs.Assignment.{IsBefore, no_candidate, SharesNoRecord}
+use Rattle.price_check.specs.Assignment.{IsBefore, no_candidate, SharesNoRecord}
 use Rattle.link_base.specs.Rule.{IsPairBefore}
 use Rattle.link_base.specs.declared.rule.Candidate.{Candidate}
 use Rattle.link_base.specs.declared.rule.PairAt.{PairAt}

@@ -12,8 +12,8 @@ use Rattle.std.proofs.lemmas.List.Quantifiers.{all_pairs_push}
 use Rattle.std.proofs.lemmas.List.Sums.{AllPass-from_list_all, list_all-from_AllPass, position_or_len_is}
 use Rattle.std.proofs.lemmas.Option.{get_or_from_slice_get, slice_get_cases}
 use Rattle.std.proofs.lemmas.Slice.Eq.{bytes_eq-Decides}
-use Rattle.assignment_laws.proofs.Members.{Contains-later, same_member}
-use Rattle.assignment_laws.specs.Assignment.{IsBefore, IsWithin, no_candidate}
+use Rattle.price_check.proofs.Members.{Contains-later, same_member}
+use Rattle.price_check.specs.Assignment.{IsBefore, IsWithin, no_candidate}
 use Rattle.link_base.specs.Standard.{HaveDistinctIds, id_at, IsFreshId, no_record, position_of_id, Record}
 use Rattle.link_base.specs.declared.rule.Candidate.{Candidate}
 use Rattle.link_base.specs.declared.rule.PairAt.{PairAt}

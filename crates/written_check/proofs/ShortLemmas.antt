@@ -9,7 +9,7 @@ use Rattle.std.proofs.lemmas.List.FromFn.{length-map-range_with_len}
 use Rattle.std.proofs.lemmas.List.Elements.{All-contains, All-head, All-tail}
 use Rattle.csv.specs.Writing.{default_writer, escaped, field_text, fields_text, is_blank, needs_quotes, quoted, row_body, row_text}
 use Rattle.csv.specs.declared.writer.WriterBuilder.{WriterBuilder}
-use Rattle.assignment_laws.specs.Assignment.{IsBefore, IsOneToOne, IsWithin, SharesNoRecord}
+use Rattle.price_check.specs.Assignment.{IsBefore, IsOneToOne, IsWithin, SharesNoRecord}
 use Rattle.link_base.specs.Standard.{id_at, no_record, Record}
 use Rattle.link_base.specs.declared.rule.Candidate.{Candidate}
 use Rattle.link_base.specs.declared.rule.RuleCell.{RuleCell}
@@ -17,7 +17,7 @@ use Rattle.link_limits.specs.declared.TheConstants.{MOST_VALUE, MOST_WRITTEN_BYT
 use Rattle.link_report.specs.LinksText.{link_fields, link_row, links_header, source_of_link, text_of_links}
 use Rattle.link_report.specs.PricesText.{is_priced, price_fields, price_row, price_rows, prices_header, text_of_prices}
 use Rattle.link_report.specs.RuleText.{cell_fields, cell_row, outcome_letter, outcome_letters, rule_header, text_of_rule}
-use Rattle.pattern_shapes.specs.Shapes.{outcome_at}
+use Rattle.patterns.specs.Shapes.{outcome_at}
 use Rattle.price_check.specs.Verdict.{HasAllowedValue}
 use Rattle.written_check.specs.PriceRows.{ArePrices}
 use Rattle.written_check.specs.Short.{AreSmallCells, HasAllowedWeight, HasShortId, IsSmallCell, IsSmallFile}

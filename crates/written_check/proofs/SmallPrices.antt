@@ -4,8 +4,8 @@ use Rattle.std.specs.Prelude.{All}
 use Rattle.std.proofs.lemmas.Int.{ints}
 use Rattle.std.proofs.lemmas.List.{get_or_default}
 use Rattle.std.proofs.lemmas.List.Elements.{All-contains_itself}
-use Rattle.assignment_laws.specs.Assignment.{Certifies, greatest_value, IsOneToOne}
-use Rattle.assignment_laws.specs.Law.{GreatestValueIsLeast, PricesAreBoundedByCandidates}
+use Rattle.price_check.specs.Assignment.{Certifies, greatest_value, IsOneToOne}
+use Rattle.price_check.specs.Law.{GreatestValueIsLeast, PricesAreBoundedByCandidates}
 use Rattle.link_base.specs.declared.rule.Candidate.{Candidate}
 use Rattle.link_limits.specs.declared.TheConstants.{MOST_VALUE}
 use Rattle.price_check.specs.Verdict.{HasAllowedValue}

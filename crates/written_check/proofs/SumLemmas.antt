@@ -5,8 +5,8 @@ use Rattle.std.specs.Ordering.{int_eq}
 use Rattle.std.proofs.lemmas.Bool.Decides.{Decides-int_eq}
 use Rattle.std.proofs.lemmas.Int.{ints}
 use Rattle.std.proofs.lemmas.List.{ext_get_or, get_or_default, get_or-map, length-map}
-use Rattle.assignment_laws.proofs.Members.{same_member}
-use Rattle.assignment_laws.specs.Assignment.{IsBefore, IsCovered, no_candidate, price_sum, SharesNoRecord, worth}
+use Rattle.price_check.proofs.Members.{same_member}
+use Rattle.price_check.specs.Assignment.{IsBefore, IsCovered, no_candidate, price_sum, SharesNoRecord, worth}
 use Rattle.link_base.specs.declared.fault.FileRole.{FileRole}
 use Rattle.link_base.specs.declared.rule.Candidate.{Candidate}
 use Rattle.link_base.specs.declared.rule.PairAt.{PairAt}

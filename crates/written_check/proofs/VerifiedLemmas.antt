@@ -6,8 +6,8 @@ use Rattle.std.proofs.lemmas.Bool.Decides.{Decides-int_eq}
 use Rattle.std.proofs.lemmas.Int.{ints}
 use Rattle.std.proofs.lemmas.List.{append_assoc, append-nil, length-map, length-replicate, length-set, map-append}
 use Rattle.std.proofs.lemmas.List.Elements.{All-nil, All-push, All-replicate, All-set}
-use Rattle.assignment_laws.specs.Assignment.{Certifies, IsBefore, IsCovered, IsOneToOne, price_sum, worth}
-use Rattle.csv_records.specs.Left.{records_in}
+use Rattle.price_check.specs.Assignment.{Certifies, IsBefore, IsCovered, IsOneToOne, price_sum, worth}
+use Rattle.file_reader.specs.Left.{records_in}
 use Rattle.link_base.specs.Answers.{and_then}
 use Rattle.link_base.specs.Standard.{position_of_id, Record}
 use Rattle.link_base.specs.declared.rule.Candidate.{Candidate}

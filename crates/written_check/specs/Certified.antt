@@ -2,7 +2,7 @@
 -- (`verify_sums`, its lone clause).
 use Rattle.std.specs.Prelude.{◌<◌, ◌+ℤ◌, ℤ, All, AllPairs, Bool, Contains, List, find, if◌then◌else◌, int_le, length, not, Option, Some, None, Result, Ok, Err, slice_index_or, ⊤}
 use Rattle.std.specs.Ordering.{int_eq}
-use Rattle.assignment_laws.specs.Assignment.{IsBefore, no_candidate, price_of, price_sum, worth}
+use Rattle.price_check.specs.Assignment.{IsBefore, no_candidate, price_of, price_sum, worth}
 use Rattle.link_base.specs.declared.rule.Candidate.{Candidate}
 use Rattle.link_base.specs.declared.rule.PairAt.{PairAt}
 use Rattle.price_check.specs.declared.verdict.Reason.{Reason}

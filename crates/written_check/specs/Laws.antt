@@ -1,7 +1,7 @@
 -- The laws of verified files, each carried by a clause of a function of `laws` that does nothing.
 use Rattle.std.specs.Prelude.{◌≡◌, ℤ, All, AllPairs, Bool, List, length, map, Ok}
-use Rattle.assignment_laws.specs.Assignment.{Certifies, IsBefore, IsGreatest, IsOneToOne, IsWithin}
-use Rattle.csv_records.specs.Left.{records_in}
+use Rattle.price_check.specs.Assignment.{Certifies, IsBefore, IsGreatest, IsOneToOne, IsWithin}
+use Rattle.file_reader.specs.Left.{records_in}
 use Rattle.link_base.specs.Standard.{HaveDistinctIds, Record}
 use Rattle.link_base.specs.declared.rule.Candidate.{Candidate}
 use Rattle.link_base.specs.declared.rule.RuleCell.{RuleCell}

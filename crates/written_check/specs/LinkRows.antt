@@ -2,7 +2,7 @@
 -- then the first link with a record of an earlier one (`verify_apart`, its lone clause).
 use Rattle.std.specs.Prelude.{◌≡◌, ◌==◌, ◌&&◌, ◌||◌, ◌+◌, ◌<◌, ℕ, All, Bool, List, [], ◌∷◌, ◌++◌, find, if◌then◌else◌, length, MatchOption, nat_lt, Option, Some, None, Result, Ok, Err, slice_index_or}
 use Rattle.std.specs.List.{list_all, list_any}
-use Rattle.assignment_laws.specs.Assignment.{no_candidate}
+use Rattle.price_check.specs.Assignment.{no_candidate}
 use Rattle.link_base.specs.Answers.{and_then}
 use Rattle.link_base.specs.Standard.{id_at, Record}
 use Rattle.link_base.specs.declared.rule.Candidate.{Candidate}

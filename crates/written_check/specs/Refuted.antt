@@ -1,6 +1,6 @@
 -- Answers that are as defined, but for want of memory, and what refutes the form of a file.
 use Rattle.std.specs.Prelude.{◌<◌, ℕ, Bool, true, false, List, Option, Some, None, Result, Ok, Err, ⊤}
-use Rattle.csv_records.specs.Left.{records_in}
+use Rattle.file_reader.specs.Left.{records_in}
 use Rattle.link_base.specs.Answers.{GivesBut}
 use Rattle.link_report.specs.Reading.{rows_under}
 use Rattle.written_check.specs.declared.refutation.Refutation.{Refutation}

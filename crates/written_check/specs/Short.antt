@@ -1,7 +1,7 @@
 -- How long written files may be, and what keeps them so: the law `written_is_short` says that what a run writes is no longer than a file
 -- that is verified may be.
 use Rattle.std.specs.Prelude.{◌<◌, ◌≤◌, ◌≤ℤ◌, ◌^◌, ℤ, pos, All, Bool, List, length, neg_ℤ}
-use Rattle.assignment_laws.specs.Assignment.{Certifies, IsOneToOne}
+use Rattle.price_check.specs.Assignment.{Certifies, IsOneToOne}
 use Rattle.link_base.specs.Rule.{IsWithinRanges}
 use Rattle.link_base.specs.Standard.{Record}
 use Rattle.link_base.specs.declared.rule.Candidate.{Candidate}

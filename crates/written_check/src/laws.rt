@@ -2,10 +2,10 @@
 ghost use Rattle.written_check.specs.Laws.{VerifiedIsGreatest, WrittenIsVerified};
 ghost use Rattle.written_check.specs.Short.{WrittenIsShort};
 
-use assignment_laws::{certified_is_greatest, greatest_value_is_least, prices_are_bounded};
 use csv_rows::decimals_are_read;
 use link_base::distinct_ids;
 use link_report::texts_read_again;
+use price_check::{certified_is_greatest, greatest_value_is_least, prices_are_bounded};
 
 /// Law: where written files are verified, the rows of the links are those of the links that they prove, and no one-to-one list of
 /// candidates is worth more than these (Kuhn 1955).

@@ -1,7 +1,7 @@
 // Written links, row by row.
 ghost use Rattle.std.specs.Prelude.{◌≡◌, ◌+◌, ◌<◌, ◌^◌, [], All, AllPairs, IfErr, length, map};
 ghost use Rattle.std.specs.List.{list_all};
-ghost use Rattle.assignment_laws.specs.Assignment.{IsBefore, IsWithin};
+ghost use Rattle.price_check.specs.Assignment.{IsBefore, IsWithin};
 ghost use Rattle.csv.specs.Records.{fields_of};
 ghost use Rattle.link_report.specs.LinksText.{link_fields};
 ghost use Rattle.link_report.specs.Reading.{same_row};
@@ -10,7 +10,7 @@ ghost use Rattle.written_check.specs.Refuted.{IsOfRows, Verifies};
 
 use crate::refutation::Refutation;
 use csv::ByteRecord;
-use csv_records::Records;
+use file_reader::Records;
 use itoa::Buffer;
 use link_base::{Candidate, NoMemory, PairAt, StdFile, distinct_ids};
 use link_report::{ReadRows, field_of, has_fields, read_links, source_of};

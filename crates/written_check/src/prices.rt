@@ -7,8 +7,8 @@ ghost use Rattle.written_check.specs.Refuted.{IsOfRows, Verifies};
 
 use crate::refutation::Refutation;
 use csv::ByteRecord;
-use csv_records::Records;
 use csv_rows::number_of;
+use file_reader::Records;
 use link_base::{NoMemory, StdFile};
 use link_limits::MOST_VALUE;
 use link_report::{ReadRows, field_of, read_prices};

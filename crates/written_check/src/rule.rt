@@ -5,13 +5,13 @@ ghost use Rattle.link_base.specs.Rule.{IsWithinRanges};
 ghost use Rattle.link_base.specs.declared.rule.RuleCell.{RuleCell as Cell};
 ghost use Rattle.link_report.specs.Reading.{same_row};
 ghost use Rattle.link_report.specs.RuleText.{cell_fields, outcome_letters};
-ghost use Rattle.pattern_shapes.specs.Shapes.{pattern_count_by, rare_of};
+ghost use Rattle.patterns.specs.Shapes.{pattern_count_by, rare_of};
 ghost use Rattle.written_check.specs.Refuted.{IsOfRows, Verifies};
 ghost use Rattle.written_check.specs.RuleRows.{TakesRow, first_difference, rule_verified};
 
 use crate::refutation::Refutation;
 use csv::ByteRecord;
-use csv_records::Records;
+use file_reader::Records;
 use itoa::Buffer;
 use link_base::{NoMemory, RuleCell, RuleTable, Shape};
 use link_limits::WHOLE_RULE;

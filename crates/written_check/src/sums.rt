@@ -1,6 +1,6 @@
 // Links and prices that are read, as a certificate.
 ghost use Rattle.std.specs.Prelude.{◌≡◌, ◌+◌, ◌<◌, ◌^◌, All, AllPairs, IfErr, IfOk, Ok, length, map};
-ghost use Rattle.assignment_laws.specs.Assignment.{IsBefore, IsWithin};
+ghost use Rattle.price_check.specs.Assignment.{IsBefore, IsWithin};
 ghost use Rattle.link_base.specs.declared.rule.Candidate.{Candidate as Link};
 ghost use Rattle.price_check.specs.Verdict.{HasAllowedValue};
 ghost use Rattle.written_check.specs.Certified.{AreTaken, IsOfSums, pair_of, refutation_by, sums_verified};

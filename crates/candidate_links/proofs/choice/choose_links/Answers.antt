@@ -1,7 +1,7 @@
 use Rattle.std.proofs.Common.{◌≡◌, ◌∙◌, ℕ, List, ℤ, subst, sym, ap, arith, length, pos}
 use Rattle.std.specs.Prelude.{All, AllPairs, Contains, ◌≤ℤ◌}
 use Rattle.std.proofs.lemmas.List.{get_or_default}
-use Rattle.assignment_laws.specs.Assignment.{IsBefore, greatest_value, price_of}
+use Rattle.price_check.specs.Assignment.{IsBefore, greatest_value, price_of}
 use Rattle.link_base.specs.declared.rule.Candidate.{Candidate}
 use Rattle.candidate_links.proofs.PassLemmas.{not_more}
 use Rattle.candidate_links.proofs.choice.choose_links.Goals as goal

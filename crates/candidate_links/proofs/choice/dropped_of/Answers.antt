@@ -1,5 +1,5 @@
 use Rattle.std.proofs.Common.{◌≡◌, ◌∙◌, ◌++◌, ◌∷◌, [], ◌+◌, List, true, false, sym, ap, arith, drop, map, get_or}
-use Rattle.assignment_laws.specs.Assignment.{no_candidate}
+use Rattle.price_check.specs.Assignment.{no_candidate}
 use Rattle.link_base.specs.declared.rule.Candidate.{Candidate}
 use Rattle.candidate_links.proofs.PassLemmas.{all_passed, link_passed, one_dropped}
 use Rattle.candidate_links.specs.Choice.{dropped}

@@ -1,6 +1,6 @@
 use Rattle.std.proofs.Common.{arith}
 use Rattle.std.proofs.lemmas.Int.{ints}
-use Rattle.assignment_laws.specs.Assignment.{no_candidate}
+use Rattle.price_check.specs.Assignment.{no_candidate}
 use Rattle.link_base.specs.declared.rule.Candidate.{Candidate}
 use Rattle.candidate_links.proofs.PassLemmas.{total_more}
 use Rattle.candidate_links.proofs.choice.worth.Goals as goal

@@ -1,5 +1,5 @@
 use Rattle.std.proofs.Common.{◌≡◌, ◌*◌, take, pos, neg_ℤ, ◌≤ℤ◌}
-use Rattle.assignment_laws.specs.Assignment.{worth}
+use Rattle.price_check.specs.Assignment.{worth}
 use Rattle.candidate_links.proofs.choice.worth.Given as goal
 
 abbrev pub invariant-loop-link : goal.invariant-loop-link

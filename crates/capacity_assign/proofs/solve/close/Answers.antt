@@ -1,5 +1,5 @@
 use Rattle.std.proofs.Common.{◌≡◌, ap, arith}
-use Rattle.assignment_laws.specs.Capacities.{capacity_of}
+use Rattle.price_check.specs.Capacities.{capacity_of}
 use Rattle.capacity_assign.proofs.solve.close.Goals as goal
 
 pub returns : goal.returns

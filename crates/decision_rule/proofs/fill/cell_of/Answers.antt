@@ -1,8 +1,8 @@
 use Rattle.std.proofs.Common.{◌≡◌, ◌/◌, get_or, arith, rules, ap, ◌∙◌}
 use Rattle.std.proofs.lemmas.Int.{ints}
 use Rattle.std.proofs.lemmas.Nat.{mod_below}
-use Rattle.pattern_shapes.specs.Weight.{eighth_weight_of}
-use Rattle.pattern_shapes.proofs.PatternLemmas.{product_small}
+use Rattle.patterns.specs.Weight.{eighth_weight_of}
+use Rattle.patterns.proofs.PatternLemmas.{product_small}
 use Rattle.decision_rule.proofs.FillLemmas.{step, product_step, product_fits}
 use Rattle.decision_rule.proofs.fill.cell_of.Goals as goal
 

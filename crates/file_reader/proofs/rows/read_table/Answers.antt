@@ -1,4 +1,4 @@
-use Rattle.csv_records.specs.Left.{records_in}
+use Rattle.file_reader.specs.Left.{records_in}
 use Rattle.file_reader.specs.Layout.{wanted_of}
 use Rattle.file_reader.proofs.TextFacts.{answers_distinct, answers_texts}
 use Rattle.file_reader.proofs.WidthFacts.{answers_width}

@@ -2,17 +2,17 @@ use Rattle.std.proofs.Common.{◌≡◌, ◌≤◌, ◌∙◌, ℕ, ap, List, su
 use Rattle.std.specs.Prelude.{All}
 use Rattle.comparators.specs.declared.ids.IdValue.{IdValue}
 use Rattle.link_limits.specs.declared.TheConstants.{MOST_ROWS}
-use Rattle.pooled_values.specs.Ready.{AreFileSides}
+use Rattle.standard_files.specs.Ready.{AreFileSides}
 use Rattle.link_core.proofs.RuleLemmas.{rares_seen, sides_of_plan}
 use Rattle.link_core.specs.Decisions.{rule_over}
 use Rattle.link_core.specs.Prepared.{kinds_of}
 use Rattle.link_core.specs.Rules.{shared_rares}
 use Rattle.pair_decisions.specs.PairRule.{AreCellsOf, AreSidesFor, PairRuleView, side_rule, side_rule_of, SideRule}
-use Rattle.pattern_shapes.specs.Shapes.{pattern_count_by}
-use Rattle.plan_rule.specs.Comparators.{rares_of}
-use Rattle.plan_rule.specs.PlanRule.{IsRuleOf}
-use Rattle.plan_rule.specs.PlanShares.{plain_all}
-use Rattle.plan_rule.specs.TheRule.{the_rule}
+use Rattle.patterns.specs.Shapes.{pattern_count_by}
+use Rattle.pair_decisions.specs.Comparators.{rares_of}
+use Rattle.pair_decisions.specs.PlanRule.{IsRuleOf}
+use Rattle.pair_decisions.specs.PlanShares.{plain_all}
+use Rattle.pair_decisions.specs.TheRule.{the_rule}
 use Rattle.settings.specs.Plan.{PlainShares}
 use Rattle.link_core.proofs.ResultLemmas.{if_ok}
 use Rattle.link_core.proofs.decisions.rule_for.Goals as goal

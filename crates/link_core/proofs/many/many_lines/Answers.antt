@@ -1,6 +1,6 @@
 use Rattle.std.proofs.Common.{◌<◌, ◌≡◌, ◌++◌, ◌∙◌, ℕ, List, ap, length, subst, sym}
 use Rattle.std.specs.Prelude.{All}
-use Rattle.assignment_laws.specs.Capacities.{CertifiesWithin, IsGreatestWithin}
+use Rattle.price_check.specs.Capacities.{CertifiesWithin, IsGreatestWithin}
 use Rattle.capacity_assign.specs.Solution.{IsAllowedCapacity}
 use Rattle.link_base.specs.Standard.{Record}
 use Rattle.link_base.specs.declared.rule.Candidate.{Candidate}

@@ -2,8 +2,8 @@ use Rattle.std.proofs.Common.{◌≡◌, All, List, rules, subst, sym}
 use Rattle.std.specs.Prelude.{IfOk}
 use Rattle.link_base.specs.Fault.{IsAnswer}
 use Rattle.link_base.specs.declared.plan.CompareKind.{CompareKind}
-use Rattle.pooled_values.specs.Ready.{IsRowFor}
-use Rattle.pooled_values.specs.Sides.{pooled_values}
+use Rattle.standard_files.specs.Ready.{IsRowFor}
+use Rattle.standard_files.specs.Sides.{pooled_values}
 use Rattle.link_core.specs.Prepared.{ArePooled, kinds_of, with_fault}
 use Rattle.link_core.proofs.ReadyLemmas.{plan_rows}
 use Rattle.link_core.proofs.preparing.pool_files.Goals as goal

@@ -1,7 +1,7 @@
 use Rattle.std.proofs.Common.{◌≡◌, ◌∙◌, List, ap, rules, subst}
 use Rattle.std.proofs.lemmas.List.{length-map}
 use Rattle.link_base.specs.Standard.{Record}
-use Rattle.pooled_values.specs.Ready.{AreFileSides, HoldsParts}
+use Rattle.standard_files.specs.Ready.{AreFileSides, HoldsParts}
 use Rattle.settings.specs.Plan.{FieldKeys}
 use Rattle.standard_files.specs.Files.{StandardPair}
 use Rattle.link_core.specs.Prepared.{kinds_of}

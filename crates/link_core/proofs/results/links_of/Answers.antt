@@ -1,7 +1,7 @@
 use Rattle.std.proofs.Common.{◌≡◌, ◌<◌, ◌≤◌, ◌∙◌, ℕ, List, ap, arith, length, subst, sym}
 use Rattle.std.specs.Prelude.{All, AllPairs, IfOk}
 use Rattle.std.proofs.lemmas.List.Elements.{All-weaker}
-use Rattle.assignment_laws.specs.Assignment.{Certifies, IsBefore, IsGreatest, IsWithin}
+use Rattle.price_check.specs.Assignment.{Certifies, IsBefore, IsGreatest, IsWithin}
 use Rattle.candidate_links.proofs.PassLemmas.{not_more}
 use Rattle.candidate_links.specs.Choice.{dropped, dropped_of}
 use Rattle.candidate_links.specs.declared.choice.ChosenLinks.{ChosenLinks}

@@ -3,8 +3,8 @@ use Rattle.link_base.specs.Standard.{Record}
 use Rattle.pair_decisions.proofs.CellLemmas.{cells_many}
 use Rattle.pair_decisions.specs.PairRule.{PairRuleView}
 use Rattle.pair_walk.specs.Rows.{AreAllReady}
-use Rattle.pattern_shapes.specs.Shapes.{pattern_count_by}
-use Rattle.plan_rule.specs.Comparators.{rares_of}
+use Rattle.patterns.specs.Shapes.{pattern_count_by}
+use Rattle.pair_decisions.specs.Comparators.{rares_of}
 use Rattle.link_core.proofs.results.pairs_of.Goals as goal
 
 pub pair_lines-requires-clause-ready_a : goal.pair_lines-requires-clause-ready_a

@@ -2,7 +2,7 @@ use Rattle.std.proofs.Common.{ap, arith, length}
 use Rattle.link_base.specs.declared.rule.Decision.TheVariants.{Possible}
 use Rattle.pair_decisions.specs.Decisions.{decision_at, is_same}
 use Rattle.pair_decisions.specs.PairRule.{side_rule}
-use Rattle.plan_rule.proofs.CountLemmas.{filter_all}
+use Rattle.pair_decisions.proofs.CountLemmas.{filter_all}
 use Rattle.link_core.specs.Results.{compared_in}
 use Rattle.link_core.proofs.results.report_of.Goals as goal
 

@@ -4,9 +4,9 @@ use Rattle.link_base.specs.declared.rule.RuleCell.{RuleCell}
 use Rattle.link_report.specs.RuleText.{text_of_rule}
 use Rattle.pair_decisions.proofs.CellLemmas.{cells_below}
 use Rattle.pair_decisions.specs.PairRule.{PairRuleView}
-use Rattle.pattern_shapes.specs.Shapes.{pattern_count_by, rare_of}
-use Rattle.plan_rule.proofs.SideLemmas.{shape_rares}
-use Rattle.plan_rule.specs.Comparators.{rares_of}
+use Rattle.patterns.specs.Shapes.{pattern_count_by, rare_of}
+use Rattle.pair_decisions.proofs.RuleSideLemmas.{shape_rares}
+use Rattle.pair_decisions.specs.Comparators.{rares_of}
 use Rattle.link_core.proofs.ResultLemmas.{if_ok}
 use Rattle.link_core.proofs.results.rule_of.Goals as goal
 

@@ -10,7 +10,7 @@ use Rattle.link_base.specs.Rule.{IsPairBefore}
 use Rattle.link_base.specs.Standard.{Record}
 use Rattle.link_base.specs.declared.rule.PairAt.{PairAt}
 use Rattle.review_journal.specs.Adding.{added}
-use Rattle.journal_files.specs.Batch.{IsPlaced, verdicts_of}
+use Rattle.review_journal.specs.Batch.{IsPlaced, verdicts_of}
 use Rattle.link_core.specs.Review.{journal_lines_of}
 use Rattle.link_core.proofs.ReviewLemmas.{added_within, answer_next, refuses_next}
 use Rattle.link_core.proofs.review.add_verdicts.Goals as goal

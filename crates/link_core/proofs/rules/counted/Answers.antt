@@ -1,6 +1,6 @@
 use Rattle.std.proofs.Common.{◌∙◌, ap, List, subst, sym, length}
 use Rattle.comparators.specs.declared.ids.IdValue.{IdValue}
-use Rattle.pooled_values.specs.Ready.{AreFileSides}
+use Rattle.standard_files.specs.Ready.{AreFileSides}
 use Rattle.link_core.proofs.RuleLemmas.{rares_seen, sides_of_plan}
 use Rattle.link_core.specs.Prepared.{kinds_of}
 use Rattle.link_core.proofs.rules.counted.Goals as goal

@@ -1,9 +1,9 @@
 use Rattle.std.proofs.Common.{◌∙◌, ap, sym}
 use Rattle.link_core.proofs.RuleLemmas.{rares_seen, rule_text_is}
 use Rattle.link_core.specs.Rules.{shared_rares}
-use Rattle.pattern_shapes.specs.Patterns.{rare_in}
-use Rattle.plan_rule.proofs.SideLemmas.{shape_rares}
-use Rattle.plan_rule.specs.PlanShares.{plain_all}
+use Rattle.patterns.specs.Chances.{rare_in}
+use Rattle.pair_decisions.proofs.RuleSideLemmas.{shape_rares}
+use Rattle.pair_decisions.specs.PlanShares.{plain_all}
 use Rattle.link_core.proofs.rules.rule_lines.Goals as goal
 
 pub rule_of_shares-requires-clause-rares : goal.rule_of_shares-requires-clause-rares

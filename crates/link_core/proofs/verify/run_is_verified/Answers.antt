@@ -2,7 +2,7 @@ use Rattle.std.specs.Prelude.{All}
 use Rattle.std.proofs.lemmas.List.Elements.{All-weaker}
 use Rattle.candidate_links.specs.Candidates.{HasBounds}
 use Rattle.link_base.specs.Rule.{IsWithinRanges}
-use Rattle.plan_rule.specs.Comparators.{rares_of}
+use Rattle.pair_decisions.specs.Comparators.{rares_of}
 use Rattle.written_check.specs.Short.{IsSmallCell}
 use Rattle.link_core.proofs.FileLemmas.{read_files}
 use Rattle.link_core.proofs.PlanLemmas.{read_plan}

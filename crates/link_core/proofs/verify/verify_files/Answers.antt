@@ -12,9 +12,9 @@ use Rattle.link_core.specs.Verify.{line_of, is_proved, verified_in}
 use Rattle.link_limits.specs.declared.TheConstants.{MOST_PAIRS}
 use Rattle.pair_decisions.proofs.CellLemmas.{cells_below}
 use Rattle.pair_decisions.specs.PairRule.{PairRuleView, side_rule}
-use Rattle.pattern_shapes.specs.Shapes.{pattern_count_by, rare_of}
-use Rattle.plan_rule.proofs.SideLemmas.{shape_rares}
-use Rattle.plan_rule.specs.Comparators.{rares_of}
+use Rattle.patterns.specs.Shapes.{pattern_count_by, rare_of}
+use Rattle.pair_decisions.proofs.RuleSideLemmas.{shape_rares}
+use Rattle.pair_decisions.specs.Comparators.{rares_of}
 use Rattle.price_check.specs.Verdict.{HasAllowedValue}
 use Rattle.written_check.specs.Verified.{texts_in, verified, WrittenTexts}
 use Rattle.written_check.specs.declared.refutation.Refutation.{Refutation}

@@ -1,7 +1,7 @@
 use Rattle.std.proofs.Common.{◌≡◌, length}
 use Rattle.std.specs.Prelude.{All}
 use Rattle.link_report.specs.LineParts.{IsEnd}
-use Rattle.pattern_shapes.specs.Shapes.{rare_of}
+use Rattle.patterns.specs.Shapes.{rare_of}
 use Rattle.link_report.proofs.ends.ends_by_pattern.Given as goal
 
 abbrev pub invariant-loop-pattern : goal.invariant-loop-pattern

@@ -4,7 +4,7 @@ use Rattle.csv.specs.Writing.{default_writer, row_text}
 use Rattle.link_report.specs.PairsText.{pair_row, pairs_header, text_of_pairs}
 use Rattle.link_report.proofs.PairLemmas.{last_of, no_row}
 use Rattle.link_report.proofs.RowLemmas.{rows_more}
-use Rattle.pattern_shapes.specs.Shapes.{rare_of}
+use Rattle.patterns.specs.Shapes.{rare_of}
 use Rattle.link_report.proofs.pairs.pairs_text.Goals as goal
 
 pub loop-row-preserved : goal.loop-row-preserved

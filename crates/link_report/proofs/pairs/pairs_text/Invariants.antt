@@ -1,6 +1,6 @@
 use Rattle.std.proofs.Common.{◌≡◌, take}
 use Rattle.link_report.specs.PairsText.{text_of_pairs}
-use Rattle.pattern_shapes.specs.Shapes.{rare_of}
+use Rattle.patterns.specs.Shapes.{rare_of}
 use Rattle.link_report.proofs.PairLemmas.{last_of}
 use Rattle.link_report.proofs.pairs.pairs_text.Given as goal
 

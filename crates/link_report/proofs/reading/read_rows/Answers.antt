@@ -1,5 +1,5 @@
 use Rattle.std.proofs.Common.{◌<◌, ◌^◌, List, ap, arith, length, ℕ}
-use Rattle.csv_records.specs.Left.{records_in}
+use Rattle.file_reader.specs.Left.{records_in}
 use Rattle.link_report.proofs.ReadingLemmas.{few_past, records_few}
 use Rattle.link_report.proofs.reading.read_rows.Goals as goal
 

@@ -1,5 +1,5 @@
 use Rattle.std.proofs.Common.{◌≡◌, ◌+◌, ◌*◌, map, drop}
-use Rattle.pattern_shapes.specs.Shapes.{pattern_count_by}
+use Rattle.patterns.specs.Shapes.{pattern_count_by}
 use Rattle.patterns.specs.Patterns.{number_of, outcomes}
 use Rattle.patterns.proofs.numbers.number_over.Given as goal
 

@@ -1,6 +1,6 @@
 use Rattle.std.proofs.Common.{arith}
 use Rattle.std.proofs.lemmas.Int.{ints}
-use Rattle.assignment_laws.specs.Assignment.{no_candidate}
+use Rattle.price_check.specs.Assignment.{no_candidate}
 use Rattle.price_check.proofs.Order.{choose}
 use Rattle.price_check.proofs.Within.{within_links}
 use Rattle.price_check.proofs.capacity.capacity_verdict.Goals as goal

@@ -1,6 +1,6 @@
 use Rattle.std.proofs.Common.{get_or, arith}
 use Rattle.std.proofs.lemmas.Int.{ints}
-use Rattle.assignment_laws.specs.Assignment.{no_candidate}
+use Rattle.price_check.specs.Assignment.{no_candidate}
 use Rattle.price_check.specs.Verdict.{HasAllowedValue}
 use Rattle.price_check.proofs.Order.{worth_more}
 use Rattle.price_check.proofs.certificate.links_worth.Goals as goal

@@ -1,7 +1,7 @@
 use Rattle.std.proofs.Common.{◌≡◌, ◌*◌, take, pos, neg_ℤ, ◌≤ℤ◌, List}
 use Rattle.link_limits.specs.declared.TheConstants.{MOST_VALUE}
 use Rattle.link_base.specs.declared.rule.Candidate.{Candidate}
-use Rattle.assignment_laws.specs.Assignment.{worth}
+use Rattle.price_check.specs.Assignment.{worth}
 use Rattle.price_check.specs.Verdict.{AreLinks}
 use Rattle.price_check.proofs.certificate.links_worth.Given as goal
 

@@ -1,6 +1,6 @@
 use Rattle.std.proofs.Common.{◌≡◌, ◌*◌, take, pos, neg_ℤ, ◌≤ℤ◌}
 use Rattle.link_limits.specs.declared.TheConstants.{MOST_VALUE}
-use Rattle.assignment_laws.specs.Assignment.{price_sum}
+use Rattle.price_check.specs.Assignment.{price_sum}
 use Rattle.price_check.proofs.certificate.price_total.Given as goal
 
 abbrev pub invariant-loop-p : goal.invariant-loop-p

@@ -1,6 +1,6 @@
 use Rattle.std.proofs.Common.{arith}
 use Rattle.std.proofs.lemmas.Int.{ints}
-use Rattle.assignment_laws.specs.Assignment.{no_candidate}
+use Rattle.price_check.specs.Assignment.{no_candidate}
 use Rattle.price_check.proofs.Order.{choose, one_to_one_links}
 use Rattle.price_check.proofs.certificate.verdict.Goals as goal
 

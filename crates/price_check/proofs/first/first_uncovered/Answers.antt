@@ -1,5 +1,5 @@
 use Rattle.std.proofs.Common.{arith, refl}
-use Rattle.assignment_laws.specs.Assignment.{IsCovered}
+use Rattle.price_check.specs.Assignment.{IsCovered}
 use Rattle.price_check.proofs.Order.{each_more}
 use Rattle.price_check.proofs.first.first_uncovered.Goals as goal
 

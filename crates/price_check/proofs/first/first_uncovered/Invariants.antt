@@ -1,6 +1,6 @@
 use Rattle.std.proofs.Common.{ℕ, ◌<◌, get_or}
 use Rattle.link_base.specs.declared.rule.Candidate.{Candidate}
-use Rattle.assignment_laws.specs.Assignment.{IsCovered}
+use Rattle.price_check.specs.Assignment.{IsCovered}
 use Rattle.price_check.proofs.first.first_uncovered.Given as goal
 
 abbrev pub invariant-loop-i : goal.invariant-loop-i

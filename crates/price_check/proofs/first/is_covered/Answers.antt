@@ -1,6 +1,6 @@
 use Rattle.std.proofs.Common.{pos, arith}
 use Rattle.std.proofs.lemmas.Int.{ints}
-use Rattle.assignment_laws.specs.Assignment.{price_of}
+use Rattle.price_check.specs.Assignment.{price_of}
 use Rattle.price_check.specs.Verdict.{IsAllowedPrice}
 use Rattle.price_check.proofs.first.is_covered.Goals as goal
 

@@ -1,6 +1,6 @@
 use Rattle.std.proofs.Common.{◌++◌, ◌∷◌, ◌∙◌, ◌<◌, [], ℕ, ap, arith, get_or, map}
 use Rattle.std.proofs.lemmas.List.Elements.{All-push}
-use Rattle.pattern_shapes.specs.Shapes.{pattern_count_by}
+use Rattle.patterns.specs.Shapes.{pattern_count_by}
 use Rattle.sample_counts.specs.Counts.{judged_by}
 use Rattle.sample_counts.specs.declared.counts.Judged.{Judged}
 use Rattle.sample_counts.specs.declared.reviewed.Reviewed.{Reviewed}

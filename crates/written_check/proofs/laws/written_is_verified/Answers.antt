@@ -1,6 +1,6 @@
 use Rattle.std.proofs.Common.{◌≡◌, ◌+ℤ◌, ◌∙◌, ℤ, Bool, List, [], Ok, Err, ap, if◌then◌else◌, map, sym}
 use Rattle.std.proofs.lemmas.Bool.Decides.{Decides-int_eq}
-use Rattle.assignment_laws.specs.Assignment.{Certifies, price_sum, worth}
+use Rattle.price_check.specs.Assignment.{Certifies, price_sum, worth}
 use Rattle.link_base.specs.Answers.{and_then}
 use Rattle.link_base.specs.declared.rule.Candidate.{Candidate}
 use Rattle.link_report.specs.LinksText.{text_of_links}

@@ -1,6 +1,6 @@
 use Rattle.std.proofs.Common.{◌≡◌, ◌∙◌, ◌∷◌, ◌++◌, [], List, Some, ap, arith, length, length-append, rules, subst, sym, ℕ}
 use Rattle.std.specs.Prelude.{AllPairs}
-use Rattle.assignment_laws.specs.Assignment.{IsBefore}
+use Rattle.price_check.specs.Assignment.{IsBefore}
 use Rattle.csv.specs.Records.{fields_of}
 use Rattle.link_base.specs.declared.rule.Candidate.{Candidate}
 use Rattle.written_check.specs.LinkRows.{after_all, candidate_in, links_in}

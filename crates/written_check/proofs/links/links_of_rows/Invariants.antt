@@ -1,6 +1,6 @@
 use Rattle.std.proofs.Common.{◌≡◌, ◌≤◌, ◌+◌, [], length}
 use Rattle.std.specs.Prelude.{AllPairs}
-use Rattle.assignment_laws.specs.Assignment.{IsBefore}
+use Rattle.price_check.specs.Assignment.{IsBefore}
 use Rattle.written_check.specs.LinkRows.{links_in}
 use Rattle.written_check.proofs.links.links_of_rows.Given as goal
 

@@ -1,6 +1,6 @@
 use Rattle.std.proofs.Common.{◌≡◌, ◌≤◌, ◌+◌, drop, length, map}
 use Rattle.link_report.specs.RuleText.{cell_fields}
-use Rattle.pattern_shapes.specs.Shapes.{rare_of}
+use Rattle.patterns.specs.Shapes.{rare_of}
 use Rattle.written_check.specs.RuleRows.{first_difference}
 use Rattle.written_check.proofs.rule.difference_in.Given as goal
 

@@ -1,6 +1,6 @@
 use Rattle.std.proofs.Common.{◌≡◌, ◌∙◌, List, Result, Err, ap, subst, sym, ℕ, ℤ}
 use Rattle.std.specs.Prelude.{All, AllPairs, Bool, true, false, map, MatchBool, ⊤}
-use Rattle.assignment_laws.specs.Assignment.{IsWithin, no_candidate}
+use Rattle.price_check.specs.Assignment.{IsWithin, no_candidate}
 use Rattle.link_base.specs.Rule.{IsPairBefore}
 use Rattle.link_base.specs.declared.rule.Candidate.{Candidate}
 use Rattle.link_base.specs.declared.rule.PairAt.{PairAt}

@@ -1,9 +1,9 @@
 use Rattle.std.proofs.Common.{Global, Vec, ◌∙◌, ◌<◌, List, ap, arith, length, subst, sym, ℕ}
 use Rattle.std.specs.Prelude.{All, AllPairs}
 use Rattle.std.proofs.lemmas.List.Elements.{All-contains}
-use Rattle.assignment_laws.specs.Assignment.{IsBefore, IsWithin}
+use Rattle.price_check.specs.Assignment.{IsBefore, IsWithin}
 use Rattle.link_base.specs.declared.rule.Candidate.{Candidate}
-use Rattle.pattern_shapes.specs.Shapes.{rare_of}
+use Rattle.patterns.specs.Shapes.{rare_of}
 use Rattle.written_check.specs.Certified.{AreTaken}
 use Rattle.link_base.proofs.AnswerFacts.{refuses-then}
 use Rattle.written_check.specs.Refuted.{is_want}

@@ -1,6 +1,6 @@
 use Rattle.std.proofs.Common.{◌≡◌, ℕ, ◌+◌, pos, length, filter, sym, ap, ◌∙◌, arith}
 use Rattle.std.proofs.lemmas.List.{get_or_default, length-map}
-use Rattle.assignment_laws.specs.Capacities.{capacity_of}
+use Rattle.price_check.specs.Capacities.{capacity_of}
 use Rattle.capacity_assign.specs.Core.{linked_at, number}
 use Rattle.capacity_assign.specs.Round.{IsBetween}
 use Rattle.capacity_assign.specs.Seating.{seating}

@@ -1,7 +1,7 @@
 use Rattle.std.proofs.Common.{◌≡◌, ◌∙◌, ◌∷◌, [], arith, length, sum}
 use Rattle.std.specs.List.{filter}
 use Rattle.link_limits.specs.declared.TheConstants.{MOST_ROWS}
-use Rattle.pattern_shapes.specs.Shapes.{rare_of}
+use Rattle.patterns.specs.Shapes.{rare_of}
 use Rattle.sample_counts.specs.Counts.{has_status}
 use Rattle.sample_counts.proofs.CountLemmas.{filter-le, none-rare, some-of, total-of}
 use Rattle.sample_counts.proofs.counts.Counts.of.Goals as goal

@@ -1,9 +1,0 @@
-pub mod Duality
-pub mod Together
-pub mod Rising
-pub mod Members
-pub mod Bounds
-pub mod Places
-pub mod Tops
-pub mod Chains
-pub mod Numbers

@@ -1,9 +1,0 @@
-use Rattle.std.proofs.Common.{◌≡◌, ◌<◌, ℕ, length}
-use Rattle.std.specs.Prelude.{slice_index}
-use Rattle.assignment_laws.proofs.numbering.single_places.Given as goal
-
-abbrev pub invariant-loop-i : goal.invariant-loop-i
-invariant-loop-i l = record {
-  count : length l.up.items ≡ l.count;
-  single : (x : ℕ) → x < l.i → slice_index l.up.items x ≡ x;
-}

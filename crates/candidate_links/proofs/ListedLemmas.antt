@@ -1,0 +1,104 @@
+-- The capacities after one more row: the record that it names has the row's capacity, and every other record what it had.
+use Rattle.std.proofs.Common.{◌≡◌, ◌≢◌, ◌<◌, AllPairs, ◌+◌, ◌∷◌, ◌∙◌, ℕ, List, [], length, map, replicate, set, take, get_or, Bool, true, false, Some, cond, ◌⊎◌, inl, inr, refl, sym, ap, arith, subst}
+use Rattle.std.specs.Prelude.{bytes_eq}
+use Rattle.std.specs.List.{find}
+use Rattle.std.proofs.lemmas.Bool.{cases_eq, cases_order, false_from_ne_true}
+use Rattle.std.proofs.lemmas.List.{ext_get_or, get_or-map, get_or-set_other, get_or-set_same, get_or-take, length-map, length-set, length-take-le, take_more}
+use Rattle.std.proofs.lemmas.List.Quantifiers.{position-Some}
+use Rattle.std.proofs.lemmas.List.Recursion.{found_at, found_push_other}
+use Rattle.std.proofs.lemmas.Slice.Eq.{bytes_eq-Decides}
+use Rattle.csv_rows.specs.Numbers.{number_in}
+use Rattle.link_base.specs.Standard.{HaveDistinctIds, Record, no_record, position_of_id}
+use Rattle.file_reader.specs.Rows.{TableRow, no_row}
+use Rattle.candidate_links.specs.Capacities.{capacity_by, capacity_of, capacity_text}
+
+-- no row names a record, and each has one place
+pub unlisted : (b : List Record) → replicate (length b) 1 ≡ map (capacity_of []) b
+unlisted [] = refl
+unlisted (r ∷ rs) = ap (λ ns. 1 ∷ ns) (unlisted rs)
+
+-- what two ids are where they are not the same
+other : (x y : List ℕ) → x ≢ y → bytes_eq x y ≡ false
+other x y differ = false_from_ne_true (bytes_eq x y) (λ yes. differ ((bytes_eq-Decides x y).0 yes))
+
+-- a record is looked up row by row
+looked_up : (r : Record) (row : TableRow) (rows : List TableRow)
+    → capacity_of (row ∷ rows) r ≡ cond (bytes_eq row.id r.id) (number_in (capacity_text row)) (capacity_of rows r)
+looked_up r row rows = by_test (bytes_eq row.id r.id)
+  where
+    by_test : (t : Bool) → capacity_by (cond t (Some row) (find (λ (x : TableRow). bytes_eq x.id r.id) rows)) ≡ cond t (number_in (capacity_text row)) (capacity_of rows r)
+    by_test true = refl
+    by_test false = refl
+
+module _ (b : List Record) (rows : List TableRow) (at p : ℕ) (within : at < length rows) (distinct : HaveDistinctIds b)
+    (apart : AllPairs (λ (x y : TableRow). x.id ≢ y.id) rows) (named : position_of_id (get_or rows at no_row).id b ≡ Some p) where
+  -- the row, and the record that it names
+  abbrev row : TableRow
+  row = get_or rows at no_row
+
+  abbrev there : Record
+  there = get_or b p no_record
+
+  -- what the rows so far say of a record, and what they say with one more
+  abbrev before : Record → ℕ
+  before r = capacity_of (take at rows) r
+
+  abbrev after : Record → ℕ
+  after r = capacity_of (take (at + 1) rows) r
+
+  found : (p < length b) × (bytes_eq row.id there.id ≡ true) × ((k : ℕ) → k < p → bytes_eq row.id (get_or b k no_record).id ≡ false)
+  found = position-Some (λ (r : Record). bytes_eq row.id r.id) b p no_record named
+
+  same : row.id ≡ there.id
+  same = (bytes_eq-Decides row.id there.id).0 found.1
+
+  earlier : (k : ℕ) → k < at → bytes_eq (get_or (take (at + 1) rows) k no_row).id there.id ≡ false
+  earlier k lt =
+      rw (get_or-take (at + 1) rows k no_row (omega arith)) (other (get_or rows k no_row).id there.id (λ e. apart k at no_row lt within (e ∙ sym same)))
+
+  passes : bytes_eq (get_or (take (at + 1) rows) at no_row).id there.id ≡ true
+  passes = rw (get_or-take (at + 1) rows at no_row (omega arith)) found.1
+
+  here : after there ≡ number_in (capacity_text row)
+  here =
+      found_at (λ rs. capacity_of rs there) (λ (x : TableRow). bytes_eq x.id there.id) (λ x. number_in (capacity_text x)) 1 refl (looked_up there)
+      (take (at + 1) rows) at no_row (omega (arith, length-take-le (at + 1) rows (omega arith))) earlier passes
+      ∙ ap (λ x. number_in (capacity_text x)) (get_or-take (at + 1) rows at no_row (omega arith))
+
+  -- another record has another id
+  apart_from : (k : ℕ) → k < length b → k ≢ p → (get_or b k no_record).id ≢ there.id
+  apart_from k lt differ = by_order (cases_order k p)
+    where
+      by_order : (k ≡ p) ⊎ ((k < p) ⊎ (p < k)) → (get_or b k no_record).id ≢ there.id
+      by_order (inl e) = absurd (differ e)
+      by_order (inr (inl less)) = distinct k p no_record less found.0
+      by_order (inr (inr more)) = λ e. distinct p k no_record more lt (sym e)
+
+  elsewhere : (k : ℕ) → k < length b → k ≢ p → before (get_or b k no_record) ≡ after (get_or b k no_record)
+  elsewhere k lt differ =
+      let r = get_or b k no_record in
+      let is_other = other row.id r.id (λ e. apart_from k lt differ (sym e ∙ same)) in
+      let as_before =
+      ap (λ rs. capacity_of rs r) (take_more rows at no_row within)
+      ∙ found_push_other (λ rs. capacity_of rs r) (λ (x : TableRow). bytes_eq x.id r.id) (λ x. number_in (capacity_text x)) 1 refl (looked_up r) (take at rows) row is_other in
+      sym as_before
+
+  pub listed_more : set (map before b) p (number_in (capacity_text row)) ≡ map after b
+  listed_more = ext_get_or 0 (set (map before b) p (number_in (capacity_text row))) (map after b) as_long at_each
+    where
+      as_long : length (set (map before b) p (number_in (capacity_text row))) ≡ length (map after b)
+      as_long = length-set (map before b) p (number_in (capacity_text row)) ∙ length-map b before ∙ sym (length-map b after)
+
+      at_place : (k : ℕ) → k < length b → (k ≡ p) ⊎ (k ≡ p → ⊥) → get_or (set (map before b) p (number_in (capacity_text row))) k 0 ≡ after (get_or b k no_record)
+      at_place k lt (inl e) =
+          subst (λ j. get_or (set (map before b) p (number_in (capacity_text row))) j 0 ≡ after (get_or b j no_record)) (sym e)
+          (get_or-set_same (map before b) p (number_in (capacity_text row)) 0 (omega (arith, found.0, length-map b before)) ∙ sym here)
+      at_place k lt (inr differ) =
+          get_or-set_other (map before b) p k (number_in (capacity_text row)) 0 differ
+          ∙ get_or-map before b k no_record 0 lt
+          ∙ elsewhere k lt differ
+
+      at_each : (k : ℕ) → k < length (set (map before b) p (number_in (capacity_text row))) → get_or (set (map before b) p (number_in (capacity_text row))) k 0 ≡ get_or (map after b) k 0
+      at_each k lt =
+          let within_b : k < length b = omega (arith, lt, length-set (map before b) p (number_in (capacity_text row)), length-map b before) in
+          at_place k within_b (cases_eq k p) ∙ sym (get_or-map after b k no_record 0 within_b)

@@ -1,0 +1,49 @@
+use Rattle.std.proofs.Common.{◌≡◌, ◌<◌, ◌∙◌, ℤ, List, Result, Ok, Err, ap, length}
+use Rattle.std.specs.Prelude.{All, Contains, IfOk}
+use Rattle.std.proofs.lemmas.List.Elements.{All-contains, All-weaker}
+use Rattle.price_check.specs.Assignment.{IsWithin}
+use Rattle.price_check.specs.Capacities.{CertifiesWithin, IsGreatestWithin}
+use Rattle.link_base.specs.declared.rule.Candidate.{Candidate}
+use Rattle.candidate_links.specs.declared.choice_within.LinksWithin.{LinksWithin}
+use Rattle.candidate_links.proofs.choice_within.choose_within.Goals as goal
+
+-- what holds of links and prices holds of their copies
+of_copied : {E : Type 0} (P : List Candidate → List ℤ → List ℤ → Type 0) (links : List Candidate) (ps qs : List ℤ) (r : Result LinksWithin E) → IfOk r (λ c. c.links.items ≡ links)
+    → IfOk r (λ c. c.prices_a.items ≡ ps) → IfOk r (λ c. c.prices_b.items ≡ qs) → P links ps qs → IfOk r (λ c. P c.links.items c.prices_a.items c.prices_b.items)
+of_copied P links ps qs (Ok c) l a b h = rw (l, a, b) h
+of_copied P links ps qs (Err e) l a b h = tt
+
+-- what holds of each candidate holds of each of the links
+of_links : (P : Candidate → Type 0) (candidates links : List Candidate) → All P candidates → All (Contains candidates) links → All P links
+of_links P candidates links all among = All-weaker (Contains candidates) P (λ c h. All-contains P candidates c all h) links among
+
+pub copied-chosen-requires : goal.copied-chosen-requires
+copied-chosen-requires c =
+    let made = c.in_ok-assigner.ensures in
+    let s = c.solve-solved.ensures in
+    record {
+      rows_a = s.rows_a ∙ made.rows_a;
+      rows_b = s.rows_b ∙ (ap length made.capacities ∙ c.requires.for_each);
+    }
+
+pub returns : goal.returns
+returns c =
+    let cs = c.args.candidates.now in
+    let ns = c.args.capacities.now in
+    let made = c.in_ok-assigner.ensures in
+    let s = c.solve-solved.ensures in
+    let solved = c.solve-solved.result in
+    let r = c.copied-chosen.result in
+    let e = c.copied-chosen.ensures in
+    let greatest : IsGreatestWithin cs ns solved.links = rw (made.candidates, made.capacities) at s.greatest in
+    let certified : CertifiesWithin cs ns solved.links solved.prices_a solved.prices_b = rw (made.candidates, made.capacities) at s.certified in
+    let a_within : All (λ (l : Candidate). l.a < c.args.rows_a) cs = All-weaker (IsWithin c.args.rows_a c.args.rows_b) (λ l. l.a < c.args.rows_a) (λ l h. h.0) cs c.requires.within in
+    let b_within : All (λ (l : Candidate). l.b < c.args.rows_b) cs = All-weaker (IsWithin c.args.rows_a c.args.rows_b) (λ l. l.b < c.args.rows_b) (λ l h. h.1) cs c.requires.within in
+    record {
+      greatest = of_copied (λ links ps qs. IsGreatestWithin cs ns links) _ _ _ r e.links e.prices_a e.prices_b greatest;
+      certified = of_copied (λ links ps qs. CertifiesWithin cs ns links ps qs) _ _ _ r e.links e.prices_a e.prices_b certified;
+      priced_a = of_copied (λ links ps qs. length ps ≡ c.args.rows_a) _ _ _ r e.links e.prices_a e.prices_b (s.rows_a ∙ made.rows_a);
+      priced_b = of_copied (λ links ps qs. length qs ≡ c.args.rows_b) _ _ _ r e.links e.prices_a e.prices_b (s.rows_b ∙ (ap length made.capacities ∙ c.requires.for_each));
+      in_a = of_copied (λ links ps qs. All (λ (l : Candidate). l.a < c.args.rows_a) links) _ _ _ r e.links e.prices_a e.prices_b (of_links (λ l. l.a < c.args.rows_a) cs solved.links a_within greatest.within.among);
+      in_b = of_copied (λ links ps qs. All (λ (l : Candidate). l.b < c.args.rows_b) links) _ _ _ r e.links e.prices_a e.prices_b (of_links (λ l. l.b < c.args.rows_b) cs solved.links b_within greatest.within.among);
+    }

@@ -1,0 +1,96 @@
+// The links chosen among candidates within capacities.
+ghost use Rattle.std.specs.Prelude.{◌≡◌, ◌≤◌, ◌<◌, All, AllPairs, IfOk, length};
+ghost use Rattle.price_check.specs.Assignment.{IsBefore, IsWithin};
+ghost use Rattle.price_check.specs.Capacities.{CertifiesWithin, IsGreatestWithin};
+ghost use Rattle.capacity_assign.specs.Solution.{HasSmallValue, IsAllowedCapacity};
+ghost use Rattle.link_base.specs.declared.rule.Candidate.{Candidate as Link};
+
+use capacity_assign::{CapacityAssigner, CapacityAssignment};
+use link_base::{Candidate, NoMemory};
+use link_limits::MOST_PAIRS;
+use std::alloc::Global;
+
+/// The links chosen among candidates within capacities, rising by position, with the dual prices of all records of A and of B that
+/// certify them. Values and prices are in eighths of a bit.
+#[derive(Drop)]
+pub struct LinksWithin {
+    pub links: Vec<Candidate>,
+    pub prices_a: Vec<i64>,
+    pub prices_b: Vec<i64>,
+}
+
+// The prices of the records of A.
+fn prices_of_a(alloc: Global, solved: &CapacityAssignment, rows: u32) -> Result<Vec<i64>, NoMemory>
+    requires { length solved.now.prices_a ≡ rows }
+    ensures { IfOk result (λ prices. prices.items ≡ solved.now.prices_a) }
+{
+    let mut prices = Vec::with_capacity(alloc, rows as usize)?;
+    for a in 0..rows {
+        prices.push(solved.price_a(a))?;
+    }
+    Ok(prices)
+}
+
+// The prices of a place at each record of B.
+fn prices_of_b(alloc: Global, solved: &CapacityAssignment, rows: u32) -> Result<Vec<i64>, NoMemory>
+    requires { length solved.now.prices_b ≡ rows }
+    ensures { IfOk result (λ prices. prices.items ≡ solved.now.prices_b) }
+{
+    let mut prices = Vec::with_capacity(alloc, rows as usize)?;
+    for b in 0..rows {
+        prices.push(solved.price_b(b))?;
+    }
+    Ok(prices)
+}
+
+// The links and the prices of an answer.
+fn copied(
+    alloc: Global,
+    solved: &CapacityAssignment,
+    rows_a: u32,
+    rows_b: u32,
+) -> Result<LinksWithin, NoMemory>
+    requires rows_a { length solved.now.prices_a ≡ rows_a }
+    requires rows_b { length solved.now.prices_b ≡ rows_b }
+    ensures links { IfOk result (λ c. c.links.items ≡ solved.now.links) }
+    ensures prices_a { IfOk result (λ c. c.prices_a.items ≡ solved.now.prices_a) }
+    ensures prices_b { IfOk result (λ c. c.prices_b.items ≡ solved.now.prices_b) }
+{
+    let links = Vec::from_slice(alloc, solved.links())?;
+    let prices_a = prices_of_a(alloc, solved, rows_a)?;
+    let prices_b = prices_of_b(alloc, solved, rows_b)?;
+    Ok(LinksWithin {
+        links,
+        prices_a,
+        prices_b,
+    })
+}
+
+/// The greatest links within capacities, among at most [`MOST_PAIRS`] candidates that rise strictly by record of A, then of B, with
+/// the prices that certify them. There is a capacity of at most `link_limits::MOST_CAPACITY` for each record of B.
+pub fn choose_within(
+    alloc: Global,
+    rows_a: u32,
+    rows_b: u32,
+    capacities: &[u32],
+    candidates: &[Candidate],
+) -> Result<LinksWithin, NoMemory>
+    requires for_each { length capacities.now ≡ rows_b }
+    requires allowed { All IsAllowedCapacity capacities.now }
+    requires count { length candidates.now ≤ MOST_PAIRS }
+    requires rising { AllPairs IsBefore candidates.now }
+    requires within { All (IsWithin rows_a rows_b) candidates.now }
+    requires small { All HasSmallValue candidates.now }
+    ensures greatest { IfOk result (λ c. IsGreatestWithin candidates.now capacities.now c.links.items) }
+    ensures certified { IfOk result (λ c. CertifiesWithin candidates.now capacities.now c.links.items c.prices_a.items c.prices_b.items) }
+    ensures priced_a { IfOk result (λ c. length c.prices_a.items ≡ rows_a) }
+    ensures priced_b { IfOk result (λ c. length c.prices_b.items ≡ rows_b) }
+    ensures in_a { IfOk result (λ c. All (λ (l : Link). l.a < rows_a) c.links.items) }
+    ensures in_b { IfOk result (λ c. All (λ (l : Link). l.b < rows_b) c.links.items) }
+{
+    let assigner = CapacityAssigner::new(alloc, rows_a, capacities, candidates)?;
+    let solved = assigner.solve();
+    let chosen = copied(alloc, &solved, rows_a, rows_b);
+    drop(solved);
+    chosen
+}

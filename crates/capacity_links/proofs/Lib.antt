@@ -1,3 +1,0 @@
-pub mod ListedLemmas
-pub mod PriceLemmas
-pub mod RowLemmas

@@ -1,0 +1,61 @@
+-- The counts of a sample by comparators are those by their answers, and so are its faults.
+use Rattle.std.proofs.Common.{◌≡◌, Bool, true, false, List, [], ◌∷◌, map, get_or, refl, ap, sym, ◌∙◌}
+use Rattle.std.specs.Prelude.{MatchBool, Result, Ok, Err, ⊤}
+use Rattle.link_base.specs.Answers.{and_then, RefusesBut}
+use Rattle.link_base.specs.Fault.{is_want}
+use Rattle.link_base.specs.declared.fault.Fault.{Fault}
+use Rattle.link_base.specs.declared.rule.Outcome.{Outcome}
+use Rattle.comparators.specs.Fields.{field_outcome, field_rare}
+use Rattle.comparators.specs.declared.ids.FieldById.{FieldById}
+use Rattle.comparators.specs.declared.ids.IdValue.{IdValue}
+use Rattle.patterns.specs.Patterns.{number_of, outcomes}
+use Rattle.sample_counts.specs.Counts.{counts_by, judged_by}
+use Rattle.sample_counts.specs.declared.reviewed.Reviewed.{Reviewed}
+use Rattle.pair_decisions.specs.Comparators.{SideComparator, answers_of}
+use Rattle.pair_decisions.specs.PlanShares.{counts_of}
+use Rattle.pair_decisions.proofs.ComparatorLemmas.{map_via}
+
+abbrev rare_in_answers : SideComparator → Bool
+rare_in_answers c = c.rare
+
+abbrev outcome_in_answers : SideComparator → IdValue → IdValue → Outcome
+outcome_in_answers c = c.outcome
+
+same_outcomes : (kinds : List FieldById) (xs ys : List IdValue) → outcomes field_outcome kinds xs ys ≡ outcomes outcome_in_answers (map answers_of kinds) xs ys
+same_outcomes [] xs ys = refl
+same_outcomes (c ∷ cs) [] ys = refl
+same_outcomes (c ∷ cs) (x ∷ xs) [] = refl
+same_outcomes (c ∷ cs) (x ∷ xs) (y ∷ ys) = ap (λ os. field_outcome c x y ∷ os) (same_outcomes cs xs ys)
+
+module _ (kinds : List FieldById) (rows_a rows_b : List (List IdValue)) where
+  same_rares : map field_rare kinds ≡ map rare_in_answers (map answers_of kinds)
+  same_rares = sym (map_via answers_of rare_in_answers kinds)
+
+  same_judged : (r : Reviewed) → judged_by field_rare field_outcome kinds rows_a rows_b r ≡ judged_by rare_in_answers outcome_in_answers (map answers_of kinds) rows_a rows_b r
+  same_judged r = λ i. record {
+    matched = r.matched;
+    pattern = number_of (same_rares i) (same_outcomes kinds (get_or rows_a r.a []) (get_or rows_b r.b []) i);
+  }
+
+  counts_answered : (sample : List Reviewed) → counts_by field_rare field_outcome kinds rows_a rows_b sample ≡ counts_of (map answers_of kinds) rows_a rows_b sample
+  counts_answered sample = λ i. record { rares = same_rares i; rows = map (λ r. same_judged r i) sample }
+
+  pub counts_by_answers : (cs : List SideComparator) → map answers_of kinds ≡ cs → (sample : List Reviewed) → counts_by field_rare field_outcome kinds rows_a rows_b sample ≡ counts_of cs rows_a rows_b sample
+  counts_by_answers cs e sample = counts_answered sample ∙ ap (λ all. counts_of all rows_a rows_b sample) e
+
+-- what is given of what is given
+pub given_then : {A B C : Type 0} (step : Result A Fault) (f g : A → B) (h : B → C) (v : B) → ((x : A) → f x ≡ g x) → and_then step (λ x. Ok (f x)) ≡ Ok v → and_then step (λ x. Ok (h (g x))) ≡ Ok (h v)
+given_then (Ok x) f g h v same e = let found : f x ≡ v = cc in ap (λ y. Ok (h y)) (sym (same x) ∙ found)
+given_then (Err fault) f g h v same e = absurd (cc)
+
+refused_then : {A B C : Type 0} (step : Result A Fault) (f : A → B) (g : A → C) (e : Fault) → and_then step (λ x. Ok (f x)) ≡ Err e → and_then step (λ x. Ok (g x)) ≡ Err e
+refused_then (Ok x) f g e h = absurd (cc)
+refused_then (Err fault) f g e h = let same : fault ≡ e = cc in ap Err same
+
+match_weaker : (b : Bool) (P Q : Type 0) → (P → Q) → MatchBool b ⊤ P → MatchBool b ⊤ Q
+match_weaker true P Q f h = h
+match_weaker false P Q f h = f h
+
+-- a fault of the first step is one of the whole
+pub refuses_as : {A B C : Type 0} (step : Result A Fault) (f : A → B) (g : A → C) (e : Fault) → RefusesBut is_want (and_then step (λ x. Ok (f x))) e → RefusesBut is_want (and_then step (λ x. Ok (g x))) e
+refuses_as step f g e h = match_weaker (is_want e) _ _ (refused_then step f g e) h

@@ -1,0 +1,41 @@
+use Rattle.std.proofs.Common.{◌≡◌, ◌<◌, ◌∙◌, ap, arith, length, length-append, map, subst, take, get_or}
+use Rattle.std.specs.List.{enumerate_from}
+use Rattle.std.proofs.lemmas.List.{take_all}
+use Rattle.pair_decisions.specs.Comparators.{answers_of, comparator_at}
+use Rattle.pair_decisions.proofs.ComparatorLemmas.{AskedOf, asked_more, rares_answered, sides_valid}
+use Rattle.pair_decisions.proofs.ListSteps.{placed_more}
+use Rattle.pair_decisions.proofs.comparisons.comparisons_of.Goals as goal
+
+pub loop-at-preserved : goal.loop-at-preserved
+loop-at-preserved c =
+    let fields = c.args.plan.now.fields in
+    let field = c.index-fields-at.result in
+    let within : c.loop-at.at < length fields = omega (arith, ap length c.fields-fields.ensures.all) in
+    let is : field ≡ get_or fields c.loop-at.at field = c.index-fields-at.is ∙ ap (λ xs. get_or xs c.loop-at.at field) c.fields-fields.ensures.all in
+    rw c.in_ok-push.ensures.items (record {
+      answers = placed_more answers_of (comparator_at c.args.texts c.args.sides_a.now.rows c.args.sides_b.now.rows) fields c.loop-at.at field c.loop-at.all.items c.in_ok-comparison_at.field-0 within is c.in_ok-comparison_at.ensures.answers c.loop-at.invariant.answers;
+      as_many = simp length-append (omega arith);
+      valid = asked_more c.args.texts fields c.loop-at.all.items c.loop-at.at field c.in_ok-comparison_at.field-0 c.loop-at.invariant.as_many within is c.in_ok-comparison_at.ensures.valid c.loop-at.invariant.valid;
+    })
+
+pub returns-clause-rares : goal.returns-clause-rares
+returns-clause-rares c =
+    let fields = c.args.plan.now.fields in
+    let comparator = comparator_at c.args.texts c.args.sides_a.now.rows c.args.sides_b.now.rows in
+    let all : take c.loop-at.at fields ≡ fields = take_all c.loop-at.at fields (omega (arith, ap length c.fields-fields.ensures.all)) in
+    rares_answered c.args.texts c.args.sides_a.now.rows c.args.sides_b.now.rows fields c.loop-at.all.items
+    (c.loop-at.invariant.answers ∙ ap (λ xs. map comparator (enumerate_from 0 xs)) all)
+
+pub returns-clause-valid_a : goal.returns-clause-valid_a
+returns-clause-valid_a c = λ k d lt.
+    let fields = c.args.plan.now.fields in
+    let all : c.loop-at.at ≡ length fields = omega (arith, ap length c.fields-fields.ensures.all) in
+    sides_valid c.args.texts fields c.loop-at.all.items (get_or c.args.sides_a.now.rows k d) (c.requires.sides_a k d lt) (c.loop-at.invariant.as_many ∙ all)
+    (subst (AskedOf c.args.texts fields c.loop-at.all.items) all c.loop-at.invariant.valid)
+
+pub returns-clause-valid_b : goal.returns-clause-valid_b
+returns-clause-valid_b c = λ k d lt.
+    let fields = c.args.plan.now.fields in
+    let all : c.loop-at.at ≡ length fields = omega (arith, ap length c.fields-fields.ensures.all) in
+    sides_valid c.args.texts fields c.loop-at.all.items (get_or c.args.sides_b.now.rows k d) (c.requires.sides_b k d lt) (c.loop-at.invariant.as_many ∙ all)
+    (subst (AskedOf c.args.texts fields c.loop-at.all.items) all c.loop-at.invariant.valid)

@@ -1,0 +1,27 @@
+use Rattle.std.proofs.Common.{◌≡◌, ◌<◌, ◌∙◌, ap, arith, get_or, length, rules}
+use Rattle.std.specs.Prelude.{replicate}
+use Rattle.pair_decisions.specs.Comparators.{count_of_id, has_id}
+use Rattle.pair_decisions.proofs.CountLemmas.{filter_all, front_is, zeros}
+use Rattle.pair_decisions.proofs.ListSteps.{known_by}
+use Rattle.pair_decisions.proofs.id_counts.counts_in.Goals as goal
+
+pub count_rows-requires-2-clause-room : goal.count_rows-requires-2-clause-room
+count_rows-requires-2-clause-room c = λ k lt.
+    let few = filter_all (has_id c.args.field k) c.args.a.now.rows in
+    let made : c.in_ok-counts.counts.items ≡ replicate c.args.texts 0 = search rules in
+    let here : k < length c.as_mut_slice-slots.result.now = omega (arith, c.count_rows.ensures.as_many) in
+    let start : get_or c.as_mut_slice-slots.result.now k 0 ≡ 0 = ap (λ xs. get_or xs k 0) (c.as_mut_slice-slots.ensures.value ∙ made) ∙ zeros c.args.texts k in
+    omega (arith, c.count_rows.ensures.counts k here, c.requires.few_a, c.requires.few_b)
+
+pub returns : goal.returns
+returns c =
+    let made : c.in_ok-counts.counts.items ≡ replicate c.args.texts 0 = search rules in
+    let size : length c.count_rows-2.new.counts ≡ c.args.texts = search rules in
+    let full : c.in_ok-counts.counts.len ≡ length c.count_rows-2.new.counts = search rules in
+    front_is c.count_rows-2.new.counts _ c.in_ok-counts.counts.len full
+    ∙ known_by (count_of_id c.args.a.now.rows c.args.b.now.rows c.args.field) c.args.texts c.count_rows-2.new.counts size
+    (λ k lt.
+    let later : k < length c.count_rows.new.counts = omega (arith, c.count_rows-2.ensures.as_many) in
+    let here : k < length c.as_mut_slice-slots.result.now = omega (arith, c.count_rows.ensures.as_many) in
+    let start : get_or c.as_mut_slice-slots.result.now k 0 ≡ 0 = ap (λ xs. get_or xs k 0) (c.as_mut_slice-slots.ensures.value ∙ made) ∙ zeros c.args.texts k in
+    omega (arith, c.count_rows.ensures.counts k here, c.count_rows-2.ensures.counts k later))

@@ -1,0 +1,23 @@
+use Rattle.std.proofs.Common.{◌≡◌, ◌<◌, ◌∙◌, ap, arith, get_or, length}
+use Rattle.std.specs.Prelude.{is_some}
+use Rattle.std.proofs.lemmas.List.{length-map}
+use Rattle.link_base.specs.declared.shares.FieldShares.{FieldShares}
+use Rattle.settings.specs.Plan.{FieldKeys, PlainShares, plain_shares}
+use Rattle.pair_decisions.specs.PlanShares.{shares_at}
+use Rattle.pair_decisions.proofs.ListSteps.{made_more, placed_more}
+use Rattle.pair_decisions.proofs.ShareLemmas.{rare_at}
+use Rattle.pair_decisions.proofs.plan_shares.shares_by.Goals as goal
+
+pub loop-at-preserved : goal.loop-at-preserved
+loop-at-preserved c =
+    let fields = c.args.plan.now.fields in
+    let field = c.index-fields-at.result in
+    let rares = c.args.counts.now.rares in
+    let within : c.loop-at.at < length fields = omega (arith, ap length c.fields-fields.ensures.all) in
+    let counted : c.loop-at.at < length rares = omega (arith, ap length c.requires.rares, length-map fields (λ (f : FieldKeys). is_some f.rare)) in
+    let is : field ≡ get_or fields c.loop-at.at field = c.index-fields-at.is ∙ ap (λ xs. get_or xs c.loop-at.at field) c.fields-fields.ensures.all in
+    let rare : c.is_some.result ≡ is_some field.rare = c.is_some.ensures ∙ ap (λ (f : FieldKeys). is_some f.rare) c.field.view_is in
+    rw c.in_ok-push.ensures.items (record {
+      shares = placed_more plain_shares (shares_at c.args.counts.now) rares c.loop-at.at c.is_some.result c.loop-at.all.items c.shares_of_counts.result counted (rare_at rares fields c.loop-at.at field c.is_some.result c.requires.rares within is rare) c.shares_of_counts.ensures c.loop-at.invariant.shares;
+      rares = made_more (λ (s : FieldShares). s.rare) (λ (f : FieldKeys). is_some f.rare) fields c.loop-at.at field c.loop-at.all.items c.shares_of_counts.result within is (ap (λ (s : PlainShares). s.rare) c.shares_of_counts.ensures ∙ rare) c.loop-at.invariant.rares;
+    })

@@ -1,0 +1,5 @@
+use Rattle.pair_decisions.proofs.OneRule.{one_rule}
+use Rattle.pair_decisions.proofs.rule_laws.one_rule.Goals as goal
+
+pub returns : goal.returns
+returns c = one_rule

@@ -1,0 +1,5 @@
+use Rattle.decision_rule.proofs.RuleLemmas.{least}
+use Rattle.pair_decisions.proofs.rule_laws.rule_is_least.Goals as goal
+
+pub returns : goal.returns
+returns c = λ plan shares cells rule. least rule.by_shares plan.mu_ppm plan.lambda_ppm cells rule.filled

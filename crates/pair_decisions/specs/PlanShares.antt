@@ -1,0 +1,59 @@
+-- The shares of a plan's fields: those of its settings (`given_shares`, clause `shares`), or those of the counts of its
+-- sample by the comparators of the plan (`counted_shares`, clause `answer`).
+use Rattle.std.specs.Prelude.{ℕ, Bool, true, false, List, [], ◌∷◌, ◌++◌, map, Result, Ok, if◌then◌else◌}
+use Rattle.std.specs.List.{enumerate_from, filter_map, range_with_len}
+use Rattle.file_reader.specs.Left.{records_in}
+use Rattle.link_base.specs.Answers.{and_then}
+use Rattle.link_base.specs.Standard.{Record}
+use Rattle.link_base.specs.declared.fault.Fault.{Fault}
+use Rattle.link_base.specs.declared.shares.FieldShares.{FieldShares}
+use Rattle.comparators.specs.declared.ids.IdValue.{IdValue}
+use Rattle.sample_counts.specs.Counts.{CountsState, count_of, counts_by}
+use Rattle.sample_counts.specs.Sample.{sample_of}
+use Rattle.sample_counts.specs.declared.reviewed.Reviewed.{Reviewed}
+use Rattle.settings.specs.Plan.{FieldKeys, PlainShares, plain_shares}
+use Rattle.sample_counts.specs.Remainders.{share_of}
+use Rattle.pair_decisions.specs.Comparators.{SideComparator, comparators_of}
+
+abbrev pub plain_all : List FieldShares → List PlainShares
+plain_all shares = map plain_shares shares
+
+-- the shares that the settings give, field by field
+abbrev pub given_in : List FieldKeys → List PlainShares
+given_in fields = filter_map (λ (f : FieldKeys). f.shares) fields
+
+-- the counts of so many outcomes of a field among the pairs of a status
+abbrev pub outcome_counts : CountsState → ℕ → Bool → ℕ → List ℕ
+outcome_counts counts field matched outcomes = map (count_of counts field matched) (range_with_len 0 outcomes)
+
+-- the shares of these counts by largest remainders
+abbrev pub remainder_shares : List ℕ → ℕ → List ℕ
+remainder_shares counted outcomes = map (share_of counted) (range_with_len 0 outcomes)
+
+-- the shares of a status: of four outcomes where agreement on a rare value is one, else of three
+abbrev pub status_shares : CountsState → ℕ → Bool → Bool → List ℕ
+status_shares counts field rare matched =
+    if rare then remainder_shares (outcome_counts counts field matched 4) 4
+    else remainder_shares (outcome_counts counts field matched 3) 3 ++ 0 ∷ []
+
+-- the shares of a field, and those of all fields
+abbrev pub shares_at : CountsState → ℕ × Bool → PlainShares
+shares_at counts at = record {
+  rare = at.1;
+  m = status_shares counts at.0 at.1 true;
+  u = status_shares counts at.0 at.1 false;
+}
+
+abbrev pub shares_in : CountsState → List PlainShares
+shares_in counts = map (shares_at counts) (enumerate_from 0 counts.rares)
+
+-- the counts of a sample by comparators
+abbrev pub counts_of : List SideComparator → List (List IdValue) → List (List IdValue) → List Reviewed → CountsState
+counts_of comparators rows_a rows_b sample =
+    counts_by (λ (c : SideComparator). c.rare) (λ (c : SideComparator). c.outcome) comparators rows_a rows_b sample
+
+-- the shares of a sample of two files, or its first fault
+abbrev pub counted_in : ℕ → List FieldKeys → List Record → List Record → List (List IdValue) → List (List IdValue) → List ℕ → Result (List PlainShares) Fault
+counted_in texts fields a b rows_a rows_b bytes =
+    and_then (sample_of a b (records_in 44 bytes)) (λ sample.
+    Ok (shares_in (counts_of (comparators_of texts fields rows_a rows_b) rows_a rows_b sample)))

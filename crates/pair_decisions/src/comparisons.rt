@@ -1,0 +1,71 @@
+// The comparators of a plan's fields.
+ghost use Rattle.std.specs.Prelude.{◌≡◌, ◌<◌, ◌≤◌, ℕ, List, All, IfOk, IfSome, length, map, slice_index_or};
+ghost use Rattle.comparators.specs.Fields.{IsFieldSide, field_of, field_rare};
+ghost use Rattle.comparators.specs.declared.ids.IdValue.{IdValue as SideValue};
+ghost use Rattle.comparators.specs.declared.ids.IdValue.TheVariants as id;
+ghost use Rattle.patterns.specs.Patterns.{AreSides};
+ghost use Rattle.pair_decisions.specs.Comparators.{answers_of, comparator_by, comparators_of, id_counts, rares_of};
+ghost use Rattle.pair_decisions.specs.Sides.{AreSidesOf, IsOfTexts};
+ghost use Rattle.settings.specs.Ranges.{IsRareNumber, KeepsRanges};
+
+use crate::id_counts::counts_in;
+use comparators::{FieldById, IdTable};
+use link_base::NoMemory;
+use link_limits::{MOST_FIELDS, MOST_ROWS};
+use settings::{FieldPlan, Plan};
+use std::alloc::Global;
+
+// The comparator of the field at a place.
+fn comparison_at(
+    alloc: Global,
+    field: &FieldPlan,
+    at: usize,
+    texts: u32,
+    a: &IdTable,
+    b: &IdTable,
+) -> Result<FieldById, NoMemory>
+    requires rare { IfSome field.now.rare (IsRareNumber field.now.compare) }
+    requires few_a { length a.now.rows ≤ MOST_ROWS }
+    requires few_b { length b.now.rows ≤ MOST_ROWS }
+    requires width_a { All (λ (row : List SideValue). at < length row) a.now.rows }
+    requires width_b { All (λ (row : List SideValue). at < length row) b.now.rows }
+    requires of_texts_a { All (λ (row : List SideValue). IsOfTexts texts (slice_index_or row at id.Absent)) a.now.rows }
+    requires of_texts_b { All (λ (row : List SideValue). IsOfTexts texts (slice_index_or row at id.Absent)) b.now.rows }
+    ensures answers { IfOk result (λ c. answers_of c ≡ comparator_by field.now.compare (id_counts texts a.now.rows b.now.rows at) field.now.rare) }
+    ensures valid { IfOk result (λ c. (side : SideValue) → IsFieldSide (field_of field.now.compare) side → IsOfTexts texts side → IsFieldSide c side) }
+{
+    match field.rare {
+        Some(most) => Ok(FieldById::rare(most, counts_in(alloc, texts, at, a, b)?)),
+        None => Ok(FieldById::of(field.compare)),
+    }
+}
+
+/// The comparators of a plan's fields over the sides of two files, whose ids name `texts` texts: that of the field's
+/// kind, or where the field has a rare number the one that answers `Rare` where at most so many rows of both files
+/// together have the value (Newcombe et al. 1959).
+pub fn comparisons_of(
+    alloc: Global,
+    plan: &Plan,
+    texts: u32,
+    sides_a: &IdTable,
+    sides_b: &IdTable,
+) -> Result<Vec<FieldById>, NoMemory>
+    requires ranges { KeepsRanges plan.now }
+    requires few_a { length sides_a.now.rows ≤ MOST_ROWS }
+    requires few_b { length sides_b.now.rows ≤ MOST_ROWS }
+    requires sides_a { All (AreSidesOf texts plan.now.fields) sides_a.now.rows }
+    requires sides_b { All (AreSidesOf texts plan.now.fields) sides_b.now.rows }
+    ensures comparators { IfOk result (λ all. map answers_of all.items ≡ comparators_of texts plan.now.fields sides_a.now.rows sides_b.now.rows) }
+    ensures rares { IfOk result (λ all. map field_rare all.items ≡ rares_of plan.now.fields) }
+    ensures some { IfOk result (λ all. 1 ≤ length all.items) }
+    ensures few { IfOk result (λ all. length all.items ≤ MOST_FIELDS) }
+    ensures valid_a { IfOk result (λ all. All (AreSides IsFieldSide all.items) sides_a.now.rows) }
+    ensures valid_b { IfOk result (λ all. All (AreSides IsFieldSide all.items) sides_b.now.rows) }
+{
+    let fields = plan.fields.fields();
+    let mut all = Vec::new(alloc);
+    for at in 0..fields.len() {
+        all.push(comparison_at(alloc, &fields[at], at, texts, sides_a, sides_b)?)?;
+    }
+    Ok(all)
+}

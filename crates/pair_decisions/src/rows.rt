@@ -1,0 +1,56 @@
+// The row of a compared pair.
+ghost use Rattle.std.specs.Prelude.{◌≡◌, ◌<◌, ◌≤◌, All, length};
+ghost use Rattle.pair_decisions.specs.PairRule.{AreSidesFor, side_rule};
+ghost use Rattle.pair_decisions.specs.Pairs.{IsInside};
+ghost use Rattle.pair_decisions.specs.PairRows.{pair_row_of, shown_verdict};
+
+use crate::choice::decide_in_cell;
+use crate::pair_rule::PairRule;
+use comparators::IdTable;
+use decision_rule::BorderWords;
+use link_base::{Decision, PairAt, Sides, Verdict};
+use link_limits::MOST_ROWS;
+use link_report::PairRow;
+use review_journal::Journal;
+
+// The verdict that is shown at a pair with this decision.
+fn verdict_at(journal: &Journal, at: PairAt, decision: Decision) -> Option<Verdict>
+    ensures { result ≡ shown_verdict journal.now at decision }
+{
+    match decision {
+        Decision::Possible => journal.verdict(at.a, at.b),
+        Decision::Link | Decision::NonLink => None,
+    }
+}
+
+/// The row of the pair at positions: its comparison pattern, the weight and the decision of the pattern's cell, and the verdict
+/// of the journal on a possible link.
+pub(crate) fn row_at(
+    rule: &PairRule,
+    words: &mut BorderWords,
+    journal: &Journal,
+    sides_a: &IdTable,
+    sides_b: &IdTable,
+    at: PairAt,
+) -> PairRow
+    requires words { words.old ≡ rule.now.seed }
+    requires few_a { length sides_a.now.rows ≤ MOST_ROWS }
+    requires few_b { length sides_b.now.rows ≤ MOST_ROWS }
+    requires sides_a { All (AreSidesFor rule.now) sides_a.now.rows }
+    requires sides_b { All (AreSidesFor rule.now) sides_b.now.rows }
+    requires inside { IsInside (length sides_a.now.rows) (length sides_b.now.rows) at }
+    ensures same { words.new ≡ words.old }
+    ensures row { result ≡ pair_row_of (side_rule rule.now) sides_a.now.rows sides_b.now.rows journal.now at }
+    ensures pattern { result.pattern < length rule.now.cells }
+{
+    let pattern = rule.pattern(sides_a.sides(at.a), sides_b.sides(at.b));
+    let cell = rule.cell(pattern);
+    let decision = decide_in_cell(cell, words, at);
+    PairRow {
+        at,
+        pattern,
+        weight: cell.weight,
+        decision,
+        verdict: verdict_at(journal, at, decision),
+    }
+}

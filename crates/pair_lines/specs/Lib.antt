@@ -1,2 +1,0 @@
-pub mod LastPair
-pub mod PairRows

@@ -1,5 +1,0 @@
-pub mod PowerLemmas
-pub mod WeightLemmas
-pub mod PatternLemmas
-pub mod Digits
-pub mod WholeLemmas

@@ -1,6 +1,0 @@
-use Rattle.std.proofs.Common.{◌≡◌, ◌*◌, drop}
-use Rattle.pattern_shapes.specs.Shapes.{pattern_count_by}
-use Rattle.pattern_shapes.proofs.shapes.count.Given as goal
-
-abbrev pub invariant-loop-rare : goal.invariant-loop-rare
-invariant-loop-rare l = l.count * pattern_count_by (drop l.rare-index l.fields) ≡ pattern_count_by l.fields

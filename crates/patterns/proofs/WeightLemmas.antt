@@ -1,0 +1,99 @@
+use Rattle.std.proofs.Common.{◌≡◌, ℕ, ℤ, zero, suc, Bool, true, false, cond, leb, sym, ap, ◌∙◌, ◌+◌, ◌-◌, ◌*◌, ◌^◌, ◌<◌, ◌≤◌, arith, inl, inr}
+use Rattle.std.specs.Prelude.{pos, negsuc, ◌≤ℤ◌, ◌-ℤ◌}
+use Rattle.std.specs.List.{count_by, range_with_len}
+use Rattle.std.proofs.lemmas.List.Sums.{sum_by-cons}
+use Rattle.std.proofs.Math.Nat.{pow-le-pow_right, mul-le-mul_left, mul-le-mul_right}
+use Rattle.std.proofs.lemmas.Nat.{pow_pos, pow-add}
+use Rattle.std.proofs.lemmas.Int.{ints}
+use Rattle.std.proofs.lemmas.Bool.{cases_lt, le-leb, lt-leb}
+use Rattle.patterns.specs.Weight.{FitsWeight, IsEighthWeight, eighth_weight_of}
+
+-- a test that passes on the first t numbers alone counts t
+count_prefix : (p : ℕ → Bool) (n a t : ℕ) → t ≤ n → ((j : ℕ) → a ≤ j → j < a + t → p j ≡ true) → ((j : ℕ) → a + t ≤ j → p j ≡ false) → count_by p (range_with_len a n) ≡ t
+count_prefix p zero a t le passes fails = omega arith
+count_prefix p (suc n) a zero le passes fails =
+    let here : p a ≡ false = fails a (omega arith) in
+    let rest = count_prefix p n (a + 1) zero (omega arith) (λ j ge lt. absurd (omega arith)) (λ j ge. fails j (omega arith)) in
+    rw (sum_by-cons (λ x. cond (p x) 1 0) a (range_with_len (a + 1) n), here) (omega (arith, rest))
+count_prefix p (suc n) a (suc t) le passes fails =
+    let here : p a ≡ true = passes a (omega arith) (omega arith) in
+    let rest = count_prefix p n (a + 1) t (omega arith) (λ j ge lt. passes j (omega arith) (omega arith)) (λ j ge. fails j (omega arith)) in
+    rw (sum_by-cons (λ x. cond (p x) 1 0) a (range_with_len (a + 1) n), here) (omega (arith, rest))
+
+powers_up : (low i j : ℕ) → i ≤ j → low * 2 ^ i ≤ low * 2 ^ j
+powers_up low i j h = let up : 2 ^ i ≤ 2 ^ j = pow-le-pow_right (omega arith) h in mul-le-mul_left low up
+
+powers_down : (low i j : ℕ) → low * 2 ^ i < low * 2 ^ j → i < j
+powers_down low i j lt =
+    elim (cases_lt i j) [
+      | inl w ↦ w
+      | inr w ↦ absurd (omega (arith, powers_up low j i w))
+    ]
+
+up_greatest : (m u n : ℕ) → m ^ 8 < u ^ 8 * 2 ^ (n + 1) → (v : ℤ) → FitsWeight m u v → v ≤ℤ pos n
+up_greatest m u n over (pos k) fits = let lt : k < n + 1 = powers_down (u ^ 8) k (n + 1) (omega (arith, fits)) in omega (arith, ints)
+up_greatest m u n over (negsuc k) fits = omega (arith, ints)
+
+pub weight_up : (m u n : ℕ) → u ^ 8 * 2 ^ n ≤ m ^ 8 → m ^ 8 < u ^ 8 * 2 ^ (n + 1) → IsEighthWeight m u (pos n)
+weight_up m u n fits over = record { fits = fits; greatest = up_greatest m u n over }
+
+down_greatest : (m u n : ℕ) → m ^ 8 * 2 ^ n < u ^ 8 → m ^ 8 < u ^ 8 → (v : ℤ) → FitsWeight m u v → v ≤ℤ negsuc n
+down_greatest m u n under less (pos k) fits = absurd (omega (arith, fits, powers_up (u ^ 8) 0 k (omega arith)))
+down_greatest m u n under less (negsuc k) fits = let lt : n < k + 1 = powers_down (m ^ 8) n (k + 1) (omega (arith, fits)) in omega (arith, ints)
+
+pub weight_down : (m u n : ℕ) → u ^ 8 ≤ m ^ 8 * 2 ^ (n + 1) → m ^ 8 * 2 ^ n < u ^ 8 → m ^ 8 < u ^ 8 → IsEighthWeight m u (negsuc n)
+weight_down m u n fits under less = record { fits = fits; greatest = down_greatest m u n under less }
+
+-- the count of those that fit, where the threshold is t
+value_by : (m u t : ℕ) → t ≤ 160 → ((j : ℕ) → j < t → u ^ 8 * 2 ^ j ≤ m ^ 8 * 2 ^ 80) → ((j : ℕ) → t ≤ j → m ^ 8 * 2 ^ 80 < u ^ 8 * 2 ^ j) → eighth_weight_of m u ≡ pos t -ℤ pos 81
+unfolding eighth_weight_of
+value_by m u t le passes fails =
+    ap (λ n. pos n -ℤ pos 81) (count_prefix (λ n. leb (u ^ 8 * 2 ^ n) (m ^ 8 * 2 ^ 80)) 160 0 t le (λ j ge lt. le-leb _ _ (passes j (omega arith))) (λ j ge. lt-leb _ _ (fails j (omega arith))))
+
+pub value_up : (m u n : ℕ) → n < 80 → u ^ 8 * 2 ^ n ≤ m ^ 8 → m ^ 8 < u ^ 8 * 2 ^ (n + 1) → eighth_weight_of m u ≡ pos n
+value_up m u n small fits over =
+    value_by m u (n + 81) (omega arith)
+    (λ j lt. let split : 2 ^ (n + 80) ≡ 2 ^ n * 2 ^ 80 = pow-add 2 n 80 in
+    let scaled : u ^ 8 * 2 ^ n * 2 ^ 80 ≤ m ^ 8 * 2 ^ 80 = mul-le-mul_right (2 ^ 80) fits in
+    let up : u ^ 8 * 2 ^ j ≤ u ^ 8 * 2 ^ (n + 80) = powers_up (u ^ 8) j (n + 80) (omega arith) in
+    omega (arith, rw split at up, scaled))
+    (λ j ge. let split : 2 ^ (n + 1 + 80) ≡ 2 ^ (n + 1) * 2 ^ 80 = pow-add 2 (n + 1) 80 in
+    let up : u ^ 8 * 2 ^ (n + 1 + 80) ≤ u ^ 8 * 2 ^ j = powers_up (u ^ 8) (n + 1 + 80) j (omega arith) in
+    let scaled : (m ^ 8 + 1) * 2 ^ 80 ≤ u ^ 8 * 2 ^ (n + 1) * 2 ^ 80 = mul-le-mul_right (2 ^ 80) (omega arith) in
+    omega (arith, rw split at up, scaled))
+    ∙ omega (arith, ints)
+
+negative : (n : ℕ) → n < 80 → pos (80 - n) -ℤ pos 81 ≡ negsuc n
+negative n small = omega (arith, ints)
+
+pub value_down : (m u n : ℕ) → n < 80 → u ^ 8 ≤ m ^ 8 * 2 ^ (n + 1) → m ^ 8 * 2 ^ n < u ^ 8 → eighth_weight_of m u ≡ negsuc n
+value_down m u n small fits under =
+    value_by m u (80 - n) (omega arith)
+    (λ j lt. let split : 2 ^ (n + 1 + j) ≡ 2 ^ (n + 1) * 2 ^ j = pow-add 2 (n + 1) j in
+    let scaled : u ^ 8 * 2 ^ j ≤ m ^ 8 * 2 ^ (n + 1) * 2 ^ j = mul-le-mul_right (2 ^ j) fits in
+    let up : m ^ 8 * 2 ^ (n + 1 + j) ≤ m ^ 8 * 2 ^ 80 = powers_up (m ^ 8) (n + 1 + j) 80 (omega arith) in
+    omega (arith, rw split at up, scaled))
+    (λ j ge. let split : 2 ^ (n + j) ≡ 2 ^ n * 2 ^ j = pow-add 2 n j in
+    let some : 0 < 2 ^ j = pow_pos j in
+    let scaled : (m ^ 8 * 2 ^ n + 1) * 2 ^ j ≤ u ^ 8 * 2 ^ j = mul-le-mul_right (2 ^ j) (omega arith) in
+    let up : m ^ 8 * 2 ^ 80 ≤ m ^ 8 * 2 ^ (n + j) = powers_up (m ^ 8) 80 (n + j) (omega arith) in
+    omega (arith, rw split at up, scaled, some))
+    ∙ negative n small
+
+-- the two results of the search, where low and high are the eighth powers
+pub result_up : (m u n low high : ℕ) (w : ℤ) → w ≡ pos n → high ≡ m ^ 8 → low ≡ u ^ 8 → n < 80 → low * 2 ^ n ≤ high → high < low * 2 ^ (n + 1) → IsEighthWeight m u w × (w ≡ eighth_weight_of m u)
+result_up m u n low high w e eh el small fits over =
+    let fits' : u ^ 8 * 2 ^ n ≤ m ^ 8 = rw (eh, el) at fits in
+    let over' : m ^ 8 < u ^ 8 * 2 ^ (n + 1) = rw (eh, el) at over in
+    (rw e (weight_up m u n fits' over'), e ∙ sym (value_up m u n small fits' over'))
+
+pub result_down : (m u n low high : ℕ) (w : ℤ) → w ≡ pos 0 -ℤ pos n → high ≡ m ^ 8 → low ≡ u ^ 8 → 1 ≤ n → n ≤ 80 → high < low → low ≤ high * 2 ^ n → high * 2 ^ (n - 1) < low → IsEighthWeight m u w × (w ≡ eighth_weight_of m u)
+result_down m u zero low high w e eh el some small less fits under = absurd (omega arith)
+result_down m u (suc n) low high w e eh el some small less fits under =
+    let is : w ≡ negsuc n = omega (arith, ints, e) in
+    let one : suc n ≡ n + 1 = omega arith in
+    let back : suc n - 1 ≡ n = omega arith in
+    let fits' : u ^ 8 ≤ m ^ 8 * 2 ^ (n + 1) = rw (eh, el, one) at fits in
+    let under' : m ^ 8 * 2 ^ n < u ^ 8 = rw (eh, el, back) at under in
+    let less' : m ^ 8 < u ^ 8 = rw (eh, el) at less in
+    (rw is (weight_down m u n fits' under' less'), is ∙ sym (value_down m u n (omega arith) fits' under'))

@@ -1,0 +1,69 @@
+ghost use Rattle.std.specs.Prelude.{◌≡◌, ℕ, ℤ, pos, ◌-ℤ◌, ◌≤ℤ◌, ◌+◌, ◌-◌, ◌*◌, ◌^◌, ◌<◌, ◌≤◌};
+ghost use Rattle.patterns.specs.Weight.{IsEighthWeight, eighth_weight_of};
+
+/// The base-2 logarithm of `m` over `u`, in whole eighths, rounded down.
+pub fn eighth_weight(m: u16, u: u16) -> i16
+    requires m_in { (1 ≤ m) × (m ≤ 1022) }
+    requires u_in { (1 ≤ u) × (u ≤ 1022) }
+    ensures greatest { IsEighthWeight m u result }
+    ensures value { result ≡ eighth_weight_of m u }
+    ensures low { (pos 0 -ℤ pos 80) ≤ℤ result }
+    ensures high { result ≤ℤ pos 79 }
+{
+    let high = eighth_power(m);
+    let low = eighth_power(u);
+    if low <= high {
+        i16::from(doublings_within(low, high))
+    } else {
+        -i16::from(doublings_needed(high, low))
+    }
+}
+
+/// The eighth power of a share.
+fn eighth_power(n: u16) -> u128
+    requires { (1 ≤ n) × (n ≤ 1022) }
+    ensures value { result ≡ n ^ 8 }
+    ensures some { 1 ≤ result }
+    ensures small { result < 2 ^ 80 }
+{
+    let one = u128::from(n);
+    let two = one * one;
+    let four = two * two;
+    four * four
+}
+
+/// How often `low` can be doubled within `high`.
+fn doublings_within(low: u128, high: u128) -> u8
+    requires some { 1 ≤ low }
+    requires ordered { low ≤ high }
+    requires small { high < 2 ^ 80 }
+    ensures fits { low * 2 ^ result ≤ high }
+    ensures over { high < low * 2 ^ (result + 1) }
+    ensures bound { result < 80 }
+{
+    let mut raised = low;
+    let mut count: u8 = 0;
+    while raised <= high - raised {
+        raised += raised;
+        count += 1;
+    }
+    count
+}
+
+/// How often `low` must be doubled to reach `high`.
+fn doublings_needed(low: u128, high: u128) -> u8
+    requires some { 1 ≤ low }
+    requires ordered { low < high }
+    requires small { high < 2 ^ 80 }
+    ensures reaches { high ≤ low * 2 ^ result }
+    ensures under { low * 2 ^ (result - 1) < high }
+    ensures bound { (1 ≤ result) × (result ≤ 80) }
+{
+    let mut raised = low;
+    let mut count: u8 = 0;
+    while raised < high {
+        raised += raised;
+        count += 1;
+    }
+    count
+}

@@ -1,6 +1,0 @@
-pub mod Comparators
-pub mod Sides
-pub mod PlanShares
-pub mod PlanRule
-pub mod TheRule
-pub mod RareValues

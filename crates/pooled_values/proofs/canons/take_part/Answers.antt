@@ -1,9 +1,0 @@
-use Rattle.std.proofs.Common.{◌≡◌, Some, rules}
-use Rattle.value_canons.specs.Canons.{value_part}
-use Rattle.pooled_values.proofs.PlaceLemmas.{side-in}
-use Rattle.pooled_values.proofs.canons.take_part.Goals as goal
-
-pub returns-in_ok-take_text-in-Some-clause-side : goal.returns-in_ok-take_text-in-Some-clause-side
-returns-in_ok-take_text-in-Some-clause-side c final e =
-    let is : value_part c.args.kind c.args.value.now ≡ Some c.bytes_of.result.now = search rules in
-    rw is (side-in c.in_ok-take_text-in-Some.field-0 c.bytes_of.result.now e c.in_ok-take_text-in-Some.ensures.id)

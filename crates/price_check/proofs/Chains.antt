@@ -1,0 +1,126 @@
+-- Chains of candidates, and what uniting two places keeps.
+use Rattle.std.proofs.Common.{◌≡◌, ◌⊎◌, ℕ, zero, suc, ◌<◌, ◌≤◌, ◌+◌, ◌-◌, List, length, refl, ap, sym, ◌∙◌, inl, inr, arith}
+use Rattle.std.specs.Prelude.{AllPairs, slice_index}
+use Rattle.std.proofs.lemmas.Bool.{cases_eq, cases_lt}
+use Rattle.std.proofs.lemmas.Bool.Decides.{nat_tests}
+use Rattle.link_base.specs.declared.rule.Candidate.{Candidate}
+use Rattle.price_check.specs.Assignment.{IsBefore, no_candidate}
+use Rattle.price_check.specs.PartNumbers.{ShareRecord, Chain, IsJoined, candidate}
+use Rattle.price_check.specs.Forest.{PointsUp, top, merged, AreUnited}
+use Rattle.price_check.proofs.Tops.{top_low, top_itself}
+use Rattle.std.proofs.lemmas.List.{get_or_past}
+
+pub share_turned : (cs : List Candidate) (j k : ℕ) → ShareRecord cs j k → ShareRecord cs k j
+share_turned cs j k (inl e) = inl (sym e)
+share_turned cs j k (inr e) = inr (sym e)
+
+pub joined_self : (cs : List Candidate) (j : ℕ) → IsJoined cs j j
+joined_self cs j = (zero, refl)
+
+chain_on : (cs : List Candidate) (n i j k : ℕ) → Chain cs n i j → IsJoined cs j k → IsJoined cs i k
+chain_on cs zero i j k e h = rw e h
+chain_on cs (suc n) i j k c h = (let rest = chain_on cs n c.0 j k c.1.2 h in (suc rest.0, (c.0, (c.1.0, c.1.1, rest.1))))
+
+pub joined_on : (cs : List Candidate) (i j k : ℕ) → IsJoined cs i j → IsJoined cs j k → IsJoined cs i k
+joined_on cs i j k h g = chain_on cs h.0 i j k h.1 g
+
+pub joined_by : (cs : List Candidate) (j k : ℕ) → k < length cs → ShareRecord cs j k → IsJoined cs j k
+joined_by cs j k lt s = (suc zero, (k, (lt, s, refl)))
+
+chain_turned : (cs : List Candidate) (n i k : ℕ) → i < length cs → Chain cs n i k → IsJoined cs k i
+chain_turned cs zero i k lt e = (zero, sym e)
+chain_turned cs (suc n) i k lt c = joined_on cs k c.0 i (chain_turned cs n c.0 k c.1.0 c.1.2) (joined_by cs c.0 i lt (share_turned cs i c.0 c.1.1))
+
+pub joined_turned : (cs : List Candidate) (i k : ℕ) → i < length cs → IsJoined cs i k → IsJoined cs k i
+joined_turned cs i k lt h = chain_turned cs h.0 i k lt h.1
+
+-- The top after two tops are one.
+
+merged_cases : (s t r : ℕ) → (merged s t r ≡ r) ⊎ (((r ≡ s) ⊎ (r ≡ t)) × ((merged s t r ≡ s) ⊎ (merged s t r ≡ t)))
+merged_cases s t r = elim (cases_eq r s) [
+  | inl e ↦ inr (inl e, either s t r (inl e))
+  | inr ne ↦ elim (cases_eq r t) [ inl e ↦ inr (inr e, either s t r (inr e)) | inr ne' ↦ inl (grind (arith, nat_tests)) ]
+]
+  where
+    either : (s t r : ℕ) → (r ≡ s) ⊎ (r ≡ t) → (merged s t r ≡ s) ⊎ (merged s t r ≡ t)
+    either s t r (inl e) = elim (cases_lt s t) [ inl lt ↦ inl (grind (arith, nat_tests)) | inr le ↦ inr (grind (arith, nat_tests)) ]
+    either s t r (inr e) = elim (cases_lt s t) [ inl lt ↦ inl (grind (arith, nat_tests)) | inr le ↦ inr (grind (arith, nat_tests)) ]
+
+merged_both : (s t : ℕ) → merged s t s ≡ merged s t t
+merged_both s t = grind (arith, nat_tests)
+
+module _ (cs : List Candidate) (up up' : List ℕ) (k x y : ℕ) (u : AreUnited cs up k) (lx : x < length cs) (ly : y < length cs) (xy : IsJoined cs x y) (count : length up' ≡ length up) (earlier : PointsUp up') (tops : (z : ℕ) → top up' z ≡ merged (top up x) (top up y) (top up z)) where
+  low : (z : ℕ) → z < length cs → top up z < length cs
+  low z lt = omega (arith, top_low up u.earlier z)
+
+  -- z, whose top is one of the two, is joined to both
+  to_x : (z : ℕ) → z < length cs → (top up z ≡ top up x) ⊎ (top up z ≡ top up y) → IsJoined cs z x
+  to_x z lt (inl e) = joined_on cs z (top up z) x (u.joined z lt) (rw e (joined_turned cs x (top up x) lx (u.joined x lx)))
+  to_x z lt (inr e) = joined_on cs z (top up z) x (u.joined z lt) (rw e (joined_on cs (top up y) y x (joined_turned cs y (top up y) ly (u.joined y ly)) (joined_turned cs x y lx xy)))
+
+  to_top : (z r : ℕ) → z < length cs → IsJoined cs z x → (r ≡ top up x) ⊎ (r ≡ top up y) → IsJoined cs z r
+  to_top z r lt h (inl e) = rw e (joined_on cs z x (top up x) h (u.joined x lx))
+  to_top z r lt h (inr e) = rw e (joined_on cs z x (top up y) h (joined_on cs x y (top up y) xy (u.joined y ly)))
+
+  joined_after : (z : ℕ) → z < length cs → IsJoined cs z (top up' z)
+  joined_after z lt = elim (merged_cases (top up x) (top up y) (top up z)) [
+    | inl e ↦ rw (tops z, e) (u.joined z lt)
+    | inr p ↦ rw (tops z) (to_top z (merged (top up x) (top up y) (top up z)) lt (to_x z lt p.0) p.1)
+  ]
+
+  pub kept_after : (i j : ℕ) → top up i ≡ top up j → top up' i ≡ top up' j
+  kept_after i j e = tops i ∙ (ap (merged (top up x) (top up y)) e ∙ sym (tops j))
+
+  pub one_after : top up' x ≡ top up' y
+  one_after = tops x ∙ (merged_both (top up x) (top up y) ∙ sym (tops y))
+
+  pub united_after : AreUnited cs up' k
+  united_after = record {
+    count = count ∙ u.count;
+    earlier = earlier;
+    joined = joined_after;
+    shared = λ i j lt ltk s. kept_after i j (u.shared i j lt ltk s);
+  }
+
+-- records of A rise
+pub record_a_le : (cs : List Candidate) → AllPairs IsBefore cs → (i j : ℕ) → i ≤ j → j < length cs → (candidate cs i).a ≤ (candidate cs j).a
+record_a_le cs rising i j le lt = elim (cases_lt i j) [
+  | inl below ↦ of_before (candidate cs i) (candidate cs j) (rising i j no_candidate below lt)
+  | inr past ↦ (let e : i ≡ j = omega arith in rw e (omega arith))
+]
+  where
+    of_before : (x y : Candidate) → IsBefore x y → x.a ≤ y.a
+    of_before x y (inl p) = omega (arith, p)
+    of_before x y (inr p) = omega (arith, p.0)
+
+-- the candidate at k has the top of the earlier ones that share its record of A, and of the last that has its record of B
+pub united_more : (cs : List Candidate) (up : List ℕ) (k : ℕ) → AreUnited cs up k → ((i : ℕ) → i < k → (candidate cs i).a ≡ (candidate cs k).a → top up i ≡ top up k) → ((i : ℕ) → i < k → (candidate cs i).b ≡ (candidate cs k).b → top up i ≡ top up k) → AreUnited cs up (k + 1)
+united_more cs up k u here_a here_b = record {
+  count = u.count;
+  earlier = u.earlier;
+  joined = u.joined;
+  shared = λ i j lt ltk s. elim (cases_eq j k) [
+    | inl e ↦ rw e (at_k i (omega arith) (rw e at s))
+    | inr ne ↦ u.shared i j lt (omega arith) s
+  ];
+}
+  where
+    at_k : (i : ℕ) → i < k → ShareRecord cs i k → top up i ≡ top up k
+    at_k i lt (inl e) = here_a i lt e
+    at_k i lt (inr e) = here_b i lt e
+
+-- each place points to itself at first
+pub united_first : (cs : List Candidate) (up : List ℕ) → length up ≡ length cs → ((x : ℕ) → x < length up → slice_index up x ≡ x) → AreUnited cs up 0
+united_first cs up count self = record {
+  count = count;
+  earlier = λ x. elim (cases_lt x (length up)) [ inl lt ↦ omega (arith, self x lt) | inr past ↦ rw (get_or_past up x 0 past) (omega arith) ];
+  joined = λ x lt. (let here : slice_index up x ≡ x = self x (omega (arith, count)) in rw (top_itself up x here) (joined_self cs x));
+  shared = λ i j low high s. absurd (omega arith);
+}
+
+-- the place before has the same record of A, or none before has it
+pub same_a_before : (cs : List Candidate) → AllPairs IsBefore cs → (i k : ℕ) → i < k → k < length cs → (candidate cs i).a ≡ (candidate cs k).a → (candidate cs i).a ≡ (candidate cs (k - 1)).a
+same_a_before cs rising i k lt within e =
+    let low = record_a_le cs rising i (k - 1) (omega arith) (omega arith) in
+    let high = record_a_le cs rising (k - 1) k (omega arith) within in
+    omega (arith, low, high, e)

@@ -1,0 +1,20 @@
+use Rattle.std.proofs.Common.{◌<◌, ◌+◌, ◌∙◌, ap, sym, length, arith}
+use Rattle.std.proofs.lemmas.Grind.{common_steps}
+use Rattle.file_reader.specs.Rows.{no_row, TableRow}
+use Rattle.review_journal.specs.Journal.{IsWithinFiles}
+use Rattle.review_journal.specs.Reading.{entry_in}
+use Rattle.review_journal.specs.Rows.{written_in}
+use Rattle.review_journal.proofs.RowLemmas.{all_more, taken}
+use Rattle.review_journal.proofs.reading.entries_in.Goals as goal
+
+pub loop-at-preserved : goal.loop-at-preserved
+loop-at-preserved c =
+    let within : c.loop-at.at < length c.args.table.now = omega arith in
+    record {
+      told =
+          c.loop-at.invariant.told
+          ∙ taken (λ done number (row : TableRow). entry_in c.args.a.now c.args.b.now done number (written_in c.args.second row.fields)) c.args.table.now no_row c.loop-at.journal c.push.new.self c.loop-at.at c.in-Ok.entry within c.loop-at.invariant.count
+          (ap (entry_in c.args.a.now c.args.b.now c.loop-at.journal (c.loop-at.at + 1)) (sym c.row_at-row.ensures) ∙ c.in-Ok.ensures.answer) c.in_ok-push-in-Ok.ensures.added;
+      count = grind (arith, common_steps);
+      within = all_more (IsWithinFiles (length c.args.a.now) (length c.args.b.now)) c.loop-at.journal c.push.new.self c.in-Ok.entry c.loop-at.invariant.within c.in-Ok.ensures.within c.in_ok-push-in-Ok.ensures.added;
+    }

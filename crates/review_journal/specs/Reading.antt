@@ -1,0 +1,87 @@
+-- The journal in a file, or its first fault: of the table, then row by row (`read_journal`, clause `answer`).
+use Rattle.std.specs.Prelude.{◌≡◌, ℕ, ℤ, List, [], ◌∷◌, Bool, true, false, bytes_eq, decimal, codes, None, Result, Ok, Err}
+use Rattle.file_reader.specs.Left.{records_in}
+use Rattle.link_limits.specs.declared.TheConstants.{MOST_ENTRIES}
+use Rattle.link_base.specs.Answers.{and_then}
+use Rattle.link_base.specs.Standard.{IsDay, Record}
+use Rattle.link_base.specs.declared.fault.Fault.{Fault}
+use Rattle.link_base.specs.declared.fault.Fault.TheVariants as fault
+use Rattle.link_base.specs.declared.fault.FileRole.TheVariants as role
+use Rattle.link_base.specs.declared.rule.PairAt.{PairAt}
+use Rattle.file_reader.specs.Known.{known_in, or_fault}
+use Rattle.file_reader.specs.Header.{header_has}
+use Rattle.file_reader.specs.Layout.{Wanted}
+use Rattle.file_reader.specs.Rows.{TableRow}
+use Rattle.file_reader.specs.Table.{table_of}
+use Rattle.value_forms.specs.Days.{iso_day}
+use Rattle.review_journal.specs.Adding.{is_not_before}
+use Rattle.review_journal.specs.Journal.{IsReviewer}
+use Rattle.review_journal.specs.Steps.{fits_after}
+use Rattle.review_journal.specs.declared.entry.Entry.{Entry}
+use Rattle.review_journal.specs.Rows.{each_read, journal_columns, step_named, verdict_named, Written, written_in}
+
+abbrev pub journal_wanted : Bool → Wanted
+journal_wanted second = record { id = None; columns = journal_columns second; most = MOST_ENTRIES }
+
+-- what passed a test, or the fault of the row
+abbrev pub unless : {T : Type 0} → Bool → Fault → T → Result T Fault
+unless true f x = Ok x
+unless false f x = Err f
+
+-- the number of a row is its own
+abbrev pub numbered : ℕ → List ℕ → Result (List ℕ) Fault
+numbered number text = unless (bytes_eq text (decimal number)) (fault.BadNumber number) text
+
+-- its day is a civil date, and not before that of an earlier entry
+abbrev pub dated : List Entry → ℕ → List ℕ → Result ℤ Fault
+dated done number text =
+    and_then (or_fault (fault.BadDate number) (iso_day text)) (λ date.
+    unless (is_not_before done date) (fault.DateBack role.Journal number) date)
+
+-- it has a reviewer
+abbrev pub signed : ℕ → List ℕ → Result (List ℕ) Fault
+signed number [] = Err (fault.EmptyReviewer number)
+signed number (byte ∷ bytes) = Ok (byte ∷ bytes)
+
+-- its step may stand after the earlier entries
+abbrev pub fitting : List Entry → ℕ → Entry → Result Entry Fault
+fitting done number e = unless (fits_after done e) (fault.BadStep number) e
+
+-- its ids name a record of A and one of B, and the first is tested first
+abbrev pub placed : List Record → List Record → ℕ → Written → Result PairAt Fault
+placed a b number w =
+    and_then (known_in role.Journal number (codes "id_a") w.id_a a) (λ at_a.
+    and_then (known_in role.Journal number (codes "id_b") w.id_b b) (λ at_b.
+    Ok (record { a = at_a; b = at_b })))
+
+-- the entry of a row: its number, date, reviewer, ids, verdict and step are tested in this order
+abbrev pub entry_in : List Record → List Record → List Entry → ℕ → Written → Result Entry Fault
+entry_in a b done number w =
+    and_then (numbered number w.number) (λ text.
+    and_then (dated done number w.date) (λ date.
+    and_then (signed number w.reviewer) (λ reviewer.
+    and_then (placed a b number w) (λ at.
+    and_then (or_fault (fault.BadVerdict role.Journal number) (verdict_named w.verdict)) (λ verdict.
+    and_then (or_fault (fault.BadStep number) (step_named w.step)) (λ step.
+    fitting done number (record { date = date; reviewer = reviewer; step = step; a = at.a; b = at.b; verdict = verdict })))))))
+
+-- the entries with those of the rows that are left; the first row with a fault decides
+abbrev pub entries_read : Bool → List Record → List Record → List Entry → List TableRow → Result (List Entry) Fault
+entries_read second a b = each_read (λ done number (row : TableRow). entry_in a b done number (written_in second row.fields))
+
+-- the journal in the records of a file of a version
+abbrev pub journal_under : Bool → List Record → List Record → List (List (List ℕ)) → Result (List Entry) Fault
+journal_under second a b records = and_then (table_of role.Journal (journal_wanted second) records) (entries_read second a b [])
+
+-- the journal in a file: one of no bytes has no entries, and one whose header has the column `step` is of the second version
+abbrev pub journal_in : List Record → List Record → List ℕ → Result (List Entry) Fault
+journal_in a b [] = Ok []
+journal_in a b (byte ∷ bytes) =
+    journal_under (header_has (codes "step") (records_in 44 (byte ∷ bytes))) a b (records_in 44 (byte ∷ bytes))
+
+-- an entry that a journal of these entries may have next
+pub record CanFollow (done : List Entry) (e : Entry) : Type 0 where
+  pub day : IsDay e.date
+  pub not_back : is_not_before done e.date ≡ true
+  pub reviewer : IsReviewer e.reviewer
+  pub fits : fits_after done e ≡ true

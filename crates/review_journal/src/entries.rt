@@ -1,0 +1,153 @@
+// The entry of a row of a journal.
+ghost use Rattle.std.specs.Prelude.{◌≡◌, ◌<◌, IfErr, IfOk, OnOk, length, true};
+ghost use Rattle.link_base.specs.Fault.{Gives, IsAnswer, IsInputFault};
+ghost use Rattle.link_base.specs.Standard.{IsDay};
+ghost use Rattle.file_reader.specs.Table.{IsFieldText};
+ghost use Rattle.review_journal.specs.Adding.{is_not_before};
+ghost use Rattle.review_journal.specs.Journal.{IsReviewer, IsWithinFiles};
+ghost use Rattle.review_journal.specs.Steps.{fits_after};
+ghost use Rattle.review_journal.specs.Reading.{dated, entry_in, fitting, numbered, placed, signed, CanFollow};
+ghost use Rattle.review_journal.specs.Row.{written_of};
+
+use crate::entry::Entry;
+use crate::journal::Journal;
+use crate::row::Row;
+use crate::words::{step_of, verdict_of};
+use file_reader::known_record;
+use itoa::Buffer;
+use link_base::{Fault, FileRole, PairAt, StdFile, Text};
+use std::alloc::Global;
+use value_forms::read_iso;
+
+// Tests that the number of a row is its own.
+fn test_number(row: u32, text: &[u8]) -> Result<(), Fault>
+    ensures kind { IfErr result IsInputFault }
+    ensures answer { Gives (λ _. text.now) (numbered row text.now) result }
+{
+    let mut digits = Buffer::new();
+    if text != digits.format(row).as_bytes() {
+        return Err(Fault::BadNumber { row });
+    }
+    Ok(())
+}
+
+fn is_in_order(journal: &Journal, date: i32) -> bool
+    ensures { result ≡ is_not_before journal.now date }
+{
+    match journal.last_date() {
+        Some(last) => last <= date,
+        None => true,
+    }
+}
+
+// The day of a row, which is not before that of the entry before.
+fn date_of(journal: &Journal, row: u32, text: &[u8]) -> Result<i32, Fault>
+    ensures kind { IfErr result IsInputFault }
+    ensures answer { IsAnswer (dated journal.now row text.now) result }
+    ensures day { IfOk result IsDay }
+    ensures not_back { IfOk result (λ date. is_not_before journal.now date ≡ true) }
+{
+    let date = match read_iso(text) {
+        Some(date) => date,
+        None => return Err(Fault::BadDate { row }),
+    };
+    if !is_in_order(journal, date) {
+        let role = FileRole::Journal;
+        return Err(Fault::DateBack { role, row });
+    }
+    Ok(date)
+}
+
+// Tests that a row names a reviewer.
+fn test_reviewer(row: u32, text: &[u8]) -> Result<(), Fault>
+    requires { IsFieldText text.now }
+    ensures kind { IfErr result IsInputFault }
+    ensures answer { Gives (λ _. text.now) (signed row text.now) result }
+    ensures named { OnOk result (IsReviewer text.now) }
+{
+    if text.is_empty() {
+        return Err(Fault::EmptyReviewer { row });
+    }
+    Ok(())
+}
+
+// The pair of records that the ids of a row name.
+fn pair_of(alloc: Global, number: u32, row: &Row, a: &StdFile, b: &StdFile) -> Result<PairAt, Fault>
+    ensures kind { IfErr result IsInputFault }
+    ensures answer { IsAnswer (placed a.now b.now number (written_of row.now)) result }
+    ensures in_a { IfOk result (λ at. at.a < length a.now) }
+    ensures in_b { IfOk result (λ at. at.b < length b.now) }
+{
+    let role = FileRole::Journal;
+    let of_a = match known_record(alloc, role, number, b"id_a", row.id_a, a) {
+        Ok(of_a) => of_a,
+        Err(fault) => return Err(fault),
+    };
+    match known_record(alloc, role, number, b"id_b", row.id_b, b) {
+        Ok(of_b) => Ok(PairAt { a: of_a, b: of_b }),
+        Err(fault) => Err(fault),
+    }
+}
+
+// An entry whose step may stand after the entries before.
+fn fitting_entry(journal: &Journal, row: u32, entry: Entry) -> Result<Entry, Fault>
+    ensures kind { IfErr result IsInputFault }
+    ensures answer { IsAnswer (fitting journal.now row entry) result }
+    ensures same { IfOk result (λ e. e ≡ entry) }
+    ensures fits { IfOk result (λ e. fits_after journal.now e ≡ true) }
+{
+    if !journal.fits(&entry) {
+        return Err(Fault::BadStep { row });
+    }
+    Ok(entry)
+}
+
+// The entry of a row after the entries before.
+pub(crate) fn entry_of(
+    alloc: Global,
+    journal: &Journal,
+    number: u32,
+    row: &Row,
+    a: &StdFile,
+    b: &StdFile,
+) -> Result<Entry, Fault>
+    requires { IsFieldText row.now.reviewer.now }
+    ensures kind { IfErr result IsInputFault }
+    ensures answer { IsAnswer (entry_in a.now b.now journal.now number (written_of row.now)) result }
+    ensures follows { IfOk result (CanFollow journal.now) }
+    ensures within { IfOk result (IsWithinFiles (length a.now) (length b.now)) }
+{
+    match test_number(number, row.number) {
+        Ok(()) => {}
+        Err(fault) => return Err(fault),
+    }
+    let date = match date_of(journal, number, row.date) {
+        Ok(date) => date,
+        Err(fault) => return Err(fault),
+    };
+    match test_reviewer(number, row.reviewer) {
+        Ok(()) => {}
+        Err(fault) => return Err(fault),
+    }
+    let pair = match pair_of(alloc, number, row, a, b) {
+        Ok(pair) => pair,
+        Err(fault) => return Err(fault),
+    };
+    let verdict = match verdict_of(FileRole::Journal, number, row.verdict) {
+        Ok(verdict) => verdict,
+        Err(fault) => return Err(fault),
+    };
+    let step = match step_of(number, row.step) {
+        Ok(step) => step,
+        Err(fault) => return Err(fault),
+    };
+    let entry = Entry {
+        date,
+        reviewer: Text::new(alloc, row.reviewer)?,
+        step,
+        a: pair.a,
+        b: pair.b,
+        verdict,
+    };
+    fitting_entry(journal, number, entry)
+}

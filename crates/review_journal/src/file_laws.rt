@@ -1,0 +1,38 @@
+// The laws of journal files.
+ghost use Rattle.std.specs.Prelude.{◌≡◌, All, List, Ok, codes, false, length, option_map, ℕ};
+ghost use Rattle.file_reader.specs.Left.{records_in};
+ghost use Rattle.link_base.specs.Standard.{Record};
+ghost use Rattle.link_base.specs.declared.rule.Step.TheVariants.{Single};
+ghost use Rattle.file_reader.specs.Header.{header_has};
+ghost use Rattle.review_journal.specs.Journal.{IsJournal, IsWithinFiles};
+ghost use Rattle.review_journal.specs.Verdict.{last_on, verdict_on};
+ghost use Rattle.review_journal.specs.declared.entry.Entry.{Entry as JournalEntry};
+ghost use Rattle.review_journal.specs.Reading.{journal_in};
+ghost use Rattle.review_journal.specs.Text.{HasIds, text_of_journal};
+
+use crate::laws::single_verdicts_stand;
+use csv_rows::rows_read_again;
+use value_forms::day_read_again;
+
+/// Law: the text of a journal reads as this journal, for files whose ids are such as tables have.
+pub fn read_again()
+    ensures { (a b : List Record) (entries : List JournalEntry) → HasIds a → HasIds b → IsJournal entries
+        → All (IsWithinFiles (length a) (length b)) entries
+        → journal_in a b (text_of_journal a b entries) ≡ Ok entries }
+{
+    rows_read_again();
+    day_read_again();
+}
+
+/// Law: in a journal of the first version, which has no column `step`, each verdict stands alone, so a pair has the verdict of
+/// the last entry that names it.
+pub fn first_version_is_single()
+    ensures single { (a b : List Record) (bytes : List ℕ) (entries : List JournalEntry)
+        → header_has (codes "step") (records_in 44 bytes) ≡ false → journal_in a b bytes ≡ Ok entries
+        → All (λ (e : JournalEntry). e.step ≡ Single) entries }
+    ensures last { (a b : List Record) (bytes : List ℕ) (entries : List JournalEntry)
+        → header_has (codes "step") (records_in 44 bytes) ≡ false → journal_in a b bytes ≡ Ok entries
+        → (x y : ℕ) → verdict_on entries x y ≡ option_map (λ (e : JournalEntry). e.verdict) (last_on entries x y) }
+{
+    single_verdicts_stand();
+}

@@ -1,0 +1,103 @@
+// The new verdicts in a file.
+ghost use Rattle.std.specs.Prelude.{◌≡◌, ◌≤◌, ◌<◌, ◌+◌, All, [], IfErr, IfOk, length, slice_index_or};
+ghost use Rattle.file_reader.specs.Left.{records_in};
+ghost use Rattle.link_base.specs.Fault.{Gives, IsAnswer, IsInputFault};
+ghost use Rattle.link_limits.specs.declared.TheConstants.{MOST_ROWS};
+ghost use Rattle.file_reader.specs.Layout.{wanted_of};
+ghost use Rattle.file_reader.specs.Rows.{TableRow, no_row};
+ghost use Rattle.review_journal.specs.Batch.{IsPlaced, verdict_in, verdicts_of, verdicts_read, verdicts_wanted};
+
+use crate::batch::{NewVerdict, Verdicts};
+use crate::columns::layout_of;
+use crate::words::verdict_of;
+use file_reader::{Layout, Table, known_record, read_table};
+use link_base::{Fault, FileRole, NoMemory, StdFile};
+use link_limits::MOST_ROWS;
+use std::alloc::Global;
+
+fn layout(alloc: Global) -> Result<Layout, NoMemory>
+    ensures wanted { IfOk result (λ layout. wanted_of layout ≡ verdicts_wanted) }
+    ensures delimiter { IfOk result (λ layout. layout.delimiter ≡ 44) }
+{
+    layout_of(alloc, &[b"id_a", b"id_b", b"verdict"], MOST_ROWS)
+}
+
+// The new verdict of the row at a position.
+fn verdict_at(
+    alloc: Global,
+    table: &Table,
+    at: u32,
+    a: &StdFile,
+    b: &StdFile,
+) -> Result<NewVerdict, Fault>
+    requires within { at < length table.now }
+    requires width { length (slice_index_or table.now at no_row).fields ≡ 3 }
+    requires few { length table.now ≤ MOST_ROWS }
+    ensures kind { IfErr result IsInputFault }
+    ensures answer { IsAnswer (verdict_in a.now b.now (at + 1) (slice_index_or table.now at no_row).fields) result }
+    ensures placed { IfOk result (IsPlaced (length a.now) (length b.now)) }
+{
+    let row = at + 1;
+    let role = FileRole::Verdicts;
+    let of_a = match known_record(alloc, role, row, b"id_a", table.field(at, 0), a) {
+        Ok(of_a) => of_a,
+        Err(fault) => return Err(fault),
+    };
+    let of_b = match known_record(alloc, role, row, b"id_b", table.field(at, 1), b) {
+        Ok(of_b) => of_b,
+        Err(fault) => return Err(fault),
+    };
+    match verdict_of(role, row, table.field(at, 2)) {
+        Ok(verdict) => Ok(NewVerdict {
+            a: of_a,
+            b: of_b,
+            verdict,
+        }),
+        Err(fault) => Err(fault),
+    }
+}
+
+// The new verdicts of the rows of a table.
+fn verdicts_in(
+    alloc: Global,
+    table: &Table,
+    a: &StdFile,
+    b: &StdFile,
+) -> Result<Vec<NewVerdict>, Fault>
+    requires width { All (λ (r : TableRow). length r.fields ≡ 3) table.now }
+    requires few { length table.now ≤ MOST_ROWS }
+    ensures kind { IfErr result IsInputFault }
+    ensures answer { Gives (λ rows. rows.items) (verdicts_read a.now b.now [] table.now) result }
+    ensures placed { IfOk result (λ rows. All (IsPlaced (length a.now) (length b.now)) rows.items) }
+{
+    let mut rows = Vec::new(alloc);
+    for at in 0..table.rows() {
+        match verdict_at(alloc, table, at, a, b) {
+            Ok(verdict) => rows.push(verdict)?,
+            Err(fault) => return Err(fault),
+        }
+    }
+    Ok(rows)
+}
+
+/// The new verdicts in a file, or its first fault.
+pub fn read_verdicts(
+    alloc: Global,
+    bytes: &[u8],
+    a: &StdFile,
+    b: &StdFile,
+) -> Result<Verdicts, Fault>
+    ensures kind { IfErr result IsInputFault }
+    ensures answer { IsAnswer (verdicts_of a.now b.now bytes.now) result }
+    ensures placed { IfOk result (λ batch. All (IsPlaced (length a.now) (length b.now)) batch) }
+{
+    let layout = layout(alloc)?;
+    let table = match read_table(alloc, bytes, FileRole::Verdicts, &layout) {
+        Ok(table) => table,
+        Err(fault) => return Err(fault),
+    };
+    match verdicts_in(alloc, &table, a, b) {
+        Ok(rows) => Ok(Verdicts::new(rows)),
+        Err(fault) => Err(fault),
+    }
+}

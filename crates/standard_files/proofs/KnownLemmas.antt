@@ -1,0 +1,157 @@
+-- Texts by their ids, and canons that are known.
+use Rattle.std.proofs.Common.{◌≡◌, ◌<◌, ◌≤◌, ◌+◌, ℕ, zero, suc, true, List, [], ◌∷◌, ◌++◌, length, get_or, take, drop, Option, Some, None, Result, Ok, Err, OnOk, option_to_list, refl, ap, sym, subst, arith, length-append}
+use Rattle.std.specs.List.{slice_get}
+use Rattle.std.specs.Str.{bytes_eq}
+use Rattle.link_base.specs.Standard.{no_record, Record}
+use Rattle.link_base.specs.declared.plan.CompareKind.{CompareKind}
+use Rattle.link_base.specs.declared.plan.CompareKind.TheVariants as by
+use Rattle.link_base.specs.declared.standard.Value.{Value}
+use Rattle.link_base.specs.declared.standard.Value.TheVariants as value
+use Rattle.value_forms.specs.Canons.{canon_of, exact_canon}
+use Rattle.value_pool.specs.Texts.{PoolState, stands_among}
+use Rattle.value_pool.specs.declared.pool.PoolFault.{PoolFault}
+use Rattle.standard_files.specs.Known.{AreKnown, AreKnownCanons, AreKnownDays, AreTextIds, IsCanonAt, IsIdOf, IsKnownAt, IsKnownDay, file_values, side_by_id}
+use Rattle.standard_files.specs.Sides.{id_side}
+use Rattle.standard_files.specs.Taking.{Extends, TakesTexts}
+use Rattle.standard_files.specs.Texts.{standard_text, texts_taken}
+use Rattle.standard_files.specs.declared.known.Known.{Known}
+use Rattle.standard_files.specs.declared.known.KnownCanon.{KnownCanon}
+use Rattle.standard_files.specs.declared.known.KnownCanons.{KnownCanons}
+use Rattle.standard_files.specs.declared.known.KnownDay.{KnownDay}
+use Rattle.standard_files.specs.declared.known.KnownDays.{KnownDays}
+use Rattle.standard_files.proofs.FileLemmas.{values-row}
+use Rattle.standard_files.proofs.HeldLemmas.{takes-held}
+use Rattle.standard_files.proofs.PlaceLemmas.{kept-taken, side-in}
+use Rattle.standard_files.proofs.StandLemmas.{itself, or-left, or-right}
+
+-- a text at a place stands among the texts
+pub stands-at : (texts : List (List ℕ)) (i : ℕ) (text : List ℕ) → slice_get texts i ≡ Some text → stands_among texts text ≡ true
+stands-at [] i text h = cc
+stands-at (t ∷ ts) zero text h = let same : t ≡ text = cc in or-left (bytes_eq t text) (stands_among ts text) (rw same (itself text))
+stands-at (t ∷ ts) (suc i) text h = or-right (bytes_eq t text) (stands_among ts text) (stands-at ts i text h)
+
+-- a text whose id is known is not taken again, and is compared by this id
+pub id-taken : (limit : ℕ) (held : List (List ℕ)) (o : Option (List ℕ)) (i : Option ℕ) → IsIdOf held o i → texts_taken limit held (option_to_list o) ≡ Ok held
+id-taken limit held None None h = refl
+id-taken limit held None (Some i) h = absurd h
+id-taken limit held (Some text) None h = absurd h
+id-taken limit held (Some text) (Some i) h = takes-held limit held (Some text) (stands-at held i text h)
+
+pub id-sides : (held final : List (List ℕ)) (o : Option (List ℕ)) (i : Option ℕ) → Extends held final → IsIdOf held o i → id_side final o ≡ side_by_id i
+id-sides held final None None e h = refl
+id-sides held final None (Some i) e h = absurd h
+id-sides held final (Some text) None e h = absurd h
+id-sides held final (Some text) (Some i) e h = side-in i text e h
+
+-- texts keep their places
+abbrev pub Keeps : List (List ℕ) → List (List ℕ) → Type 0
+Keeps held new = (i : ℕ) (text : List ℕ) → slice_get held i ≡ Some text → slice_get new i ≡ Some text
+
+module _ (held new : List (List ℕ)) (keeps : Keeps held new) where
+  pub id-kept : (o : Option (List ℕ)) (i : Option ℕ) → IsIdOf held o i → IsIdOf new o i
+  id-kept None None h = tt
+  id-kept None (Some i) h = absurd h
+  id-kept (Some text) None h = absurd h
+  id-kept (Some text) (Some i) h = keeps i text h
+
+  pub ids-kept : (vs : List Value) (is : List (Option ℕ)) → AreTextIds held vs is → AreTextIds new vs is
+  ids-kept [] [] h = tt
+  ids-kept [] (i ∷ is) h = absurd h
+  ids-kept (v ∷ vs) [] h = absurd h
+  ids-kept (v ∷ vs) (i ∷ is) h = (id-kept (standard_text v) i h.0, ids-kept vs is h.1)
+
+  known-at-kept : (kinds : List CompareKind) (place : ℕ) (known : Option KnownCanon) → IsKnownAt held kinds place known → IsKnownAt new kinds place known
+  known-at-kept kinds place None h = tt
+  known-at-kept kinds place (Some known) h =
+      record { text = h.text; stands = keeps place h.text h.stands; canon = id-kept (canon_of (get_or kinds known.field by.Exact) (value.Word h.text)) (Some known.canon) h.canon }
+
+  pub canons-kept : (kinds : List CompareKind) (known : List (Option KnownCanon)) → AreKnownCanons held kinds known → AreKnownCanons new kinds known
+  canons-kept kinds known h place = known-at-kept kinds place (get_or known place None) (h place)
+
+  known-day-kept : (known : Option KnownDay) → IsKnownDay held known → IsKnownDay new known
+  known-day-kept None h = tt
+  known-day-kept (Some known) h = id-kept (exact_canon (value.Day known.day)) (Some known.text) h
+
+  pub days-kept : (days : List (Option KnownDay)) → AreKnownDays held days → AreKnownDays new days
+  days-kept days h slot = known-day-kept (get_or days slot None) (h slot)
+
+  pub known-kept : (kinds : List CompareKind) (known : Known) → AreKnown held kinds known → AreKnown new kinds known
+  known-kept kinds known h = record { canons = canons-kept kinds known.canons.at.items h.canons; days = days-kept known.days.at.items h.days }
+
+-- lists of ids
+module _ (held : List (List ℕ)) where
+  ids-append : (vs ws : List Value) (is js : List (Option ℕ)) → AreTextIds held vs is → AreTextIds held ws js → AreTextIds held (vs ++ ws) (is ++ js)
+  ids-append [] ws [] js h k = k
+  ids-append [] ws (i ∷ is) js h k = absurd h
+  ids-append (v ∷ vs) ws [] js h k = absurd h
+  ids-append (v ∷ vs) ws (i ∷ is) js h k = (h.0, ids-append vs ws is js h.1 k)
+
+  pub ids-many : (vs : List Value) (is : List (Option ℕ)) → AreTextIds held vs is → length is ≡ length vs
+  ids-many [] [] h = refl
+  ids-many [] (i ∷ is) h = absurd h
+  ids-many (v ∷ vs) [] h = absurd h
+  ids-many (v ∷ vs) (i ∷ is) h = ap suc (ids-many vs is h.1)
+
+  pub ids-split : (vs ws : List Value) (is : List (Option ℕ)) → AreTextIds held (vs ++ ws) is → AreTextIds held vs (take (length vs) is) × AreTextIds held ws (drop (length vs) is)
+  ids-split [] ws is h = (tt, h)
+  ids-split (v ∷ vs) ws [] h = absurd h
+  ids-split (v ∷ vs) ws (i ∷ is) h = let rest = ids-split vs ws is h.1 in ((h.0, rest.0), rest.1)
+
+  ids-at : (vs : List Value) (is : List (Option ℕ)) (k : ℕ) (d : Value) (e : Option ℕ) → k < length vs → AreTextIds held vs is → IsIdOf held (standard_text (get_or vs k d)) (get_or is k e)
+  ids-at [] is k d e lt h = absurd (omega arith)
+  ids-at (v ∷ vs) [] k d e lt h = absurd h
+  ids-at (v ∷ vs) (i ∷ is) zero d e lt h = h.0
+  ids-at (v ∷ vs) (i ∷ is) (suc k) d e lt h = ids-at vs is k d e (omega arith) h.1
+
+  pub ids-read : (vs : List Value) (is : List (Option ℕ)) (k : ℕ) (v : Value) (i : Option ℕ) → k < length vs → v ≡ get_or vs k v → i ≡ get_or is k i → AreTextIds held vs is → IsIdOf held (standard_text v) i
+  ids-read vs is k v i lt of_value of_id h = subst (λ x. IsIdOf held (standard_text x) i) (sym of_value) (subst (λ x. IsIdOf held (standard_text (get_or vs k v)) x) (sym of_id) (ids-at vs is k v i lt h))
+
+-- the ids of the rows of a file that are left
+module _ (held : List (List ℕ)) (file : List Record) (at : ℕ) (row : List Value) (left : List (Option ℕ)) (width : ℕ) where
+  pub ids-room : at < length file → row ≡ (get_or file at no_record).row → length row ≡ width → AreTextIds held (file_values (drop at file)) left → width ≤ length left
+  ids-room lt e many h =
+      let rest = file_values (drop (at + 1) file) in
+      omega (arith, ids-many held (file_values (drop at file)) left h, ap length (values-row file at row lt e), length-append row rest)
+
+  pub ids-next : at < length file → row ≡ (get_or file at no_record).row → length row ≡ width → AreTextIds held (file_values (drop at file)) left
+      → AreTextIds held row (take width left) × AreTextIds held (file_values (drop (at + 1) file)) (drop width left)
+  ids-next lt e many h =
+      let rest = file_values (drop (at + 1) file) in
+      subst (λ n. AreTextIds held row (take n left) × AreTextIds held rest (drop n left)) many
+      (ids-split held row rest left (subst (λ vs. AreTextIds held vs left) (values-row file at row lt e) h))
+
+pub ids-push : (held new : List (List ℕ)) (vs : List Value) (v : Value) (is : List (Option ℕ)) (i : Option ℕ) → Keeps held new → AreTextIds held vs is → IsIdOf new (standard_text v) i → AreTextIds new (vs ++ v ∷ []) (is ++ i ∷ [])
+ids-push held new vs v is i keeps h k = ids-append new vs (v ∷ []) is (i ∷ []) (ids-kept held new keeps vs is h) (k, tt)
+
+-- a word by the id of its standard text
+same-text : (a b : List ℕ) (o : Option (List ℕ)) → o ≡ Some a → o ≡ Some b → a ≡ b
+same-text a b o h k = cc
+
+module _ (held : List (List ℕ)) (kinds : List CompareKind) where
+  exact-id : (v : Value) (i : ℕ) → IsIdOf held (standard_text v) (Some i) → IsIdOf held (canon_of by.Exact v) (Some i)
+  exact-id value.Absent i h = absurd h
+  exact-id (value.Word text) i h = h
+  exact-id (value.Day day) i h = absurd h
+
+  pub itself-id : (kind : CompareKind) (v : Value) (i : ℕ) → kind ≡ by.Exact → IsIdOf held (standard_text v) (Some i) → IsIdOf held (canon_of kind v) (Some i)
+  itself-id kind v i e h = rw e (exact-id v i h)
+
+  pub known-at : (place : ℕ) (known : List (Option KnownCanon)) (canon : KnownCanon) → get_or known place None ≡ Some canon → AreKnownCanons held kinds known → IsCanonAt held kinds place canon
+  known-at place known canon e h = subst (IsKnownAt held kinds place) e (h place)
+
+  pub known-id : (v : Value) (i : ℕ) (known : KnownCanon) → IsIdOf held (standard_text v) (Some i) → IsCanonAt held kinds i known → IsIdOf held (canon_of (get_or kinds known.field by.Exact) v) (Some known.canon)
+  known-id value.Absent i known h k = absurd h
+  known-id (value.Word text) i known h k = rw (same-text text k.text (slice_get held i) h k.stands) k.canon
+  known-id (value.Day day) i known h k = absurd h
+
+  pub new-known : (v : Value) (i : ℕ) (known : KnownCanon) → IsIdOf held (standard_text v) (Some i) → IsIdOf held (canon_of (get_or kinds known.field by.Exact) v) (Some known.canon) → IsCanonAt held kinds i known
+  new-known value.Absent i known h k = absurd h
+  new-known (value.Word text) i known h k = record { text = text; stands = h; canon = k }
+  new-known (value.Day day) i known h k = absurd h
+
+-- the canons that are known stay so while the text of a day is taken
+pub known-after : {T : Type 0} (old new : PoolState) (texts : List (List ℕ)) (kinds : List CompareKind) (canons : KnownCanons) (r : Result T PoolFault) (days : KnownDays)
+    → TakesTexts old new texts r → AreKnownCanons old.texts kinds canons.at.items → OnOk r (AreKnownDays new.texts days.at.items) → OnOk r (AreKnown new.texts kinds (record { canons = canons; days = days }))
+known-after old new texts kinds canons (Ok x) days taken h k =
+    record { canons = canons-kept old.texts new.texts (kept-taken old.limit texts old.texts new.texts taken) kinds canons.at.items h; days = k }
+known-after old new texts kinds canons (Err f) days taken h k = tt

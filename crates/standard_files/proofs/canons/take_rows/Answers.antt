@@ -1,0 +1,64 @@
+use Rattle.std.proofs.Common.{◌≡◌, ◌+◌, ◌++◌, ◌∷◌, [], drop, get_or, length, refl, sym, subst, arith, rules, length-append, ◌∙◌}
+use Rattle.link_base.specs.Standard.{no_record}
+use Rattle.standard_files.specs.Known.{AreTextIds, file_values}
+use Rattle.standard_files.specs.Sides.{sides_of_file, sides_of_row}
+use Rattle.standard_files.specs.Texts.{canons_of_row, file_texts}
+use Rattle.standard_files.proofs.FileLemmas.{file-row, file-sides-at, push-sides, row-many}
+use Rattle.standard_files.proofs.KnownLemmas.{ids-kept, ids-next, ids-room}
+use Rattle.standard_files.proofs.PlaceLemmas.{extends-before, kept-taken}
+use Rattle.standard_files.proofs.TakingLemmas.{goes-on, takes-refused}
+use Rattle.standard_files.proofs.canons.take_rows.Goals as goal
+
+pub returns-in_err-take_row-clause-texts : goal.returns-in_err-take_row-clause-texts
+returns-in_err-take_row-clause-texts c =
+    let texts = canons_of_row c.args.kinds.now in
+    takes-refused (texts c.row.result.now) (file_texts texts (drop (c.loop-at.at + 1) c.args.file.now)) c.in_err-take_row.field-0.0 c.take_row.new.pool c.from_residual.result c.loop-at.invariant.goes
+    (file-row texts c.args.file.now c.loop-at.at c.row.result.now (omega arith) c.row.ensures) c.in_err-take_row.ensures.texts (search rules)
+
+pub loop-at-preserved : goal.loop-at-preserved
+loop-at-preserved c =
+    let kinds = c.args.kinds.now in
+    let texts = canons_of_row kinds in
+    let file = c.args.file.now in
+    let row = c.row.result.now in
+    let at = c.loop-at.at in
+    let pool = c.loop-at.pool in
+    let new = c.take_row.new.pool in
+    let left = c.loop-at.left.now in
+    let kept = kept-taken pool.limit (texts row) pool.texts new.texts c.in_ok-take_row.ensures.texts in
+    let sides = c.take_row.new.sides.items in
+    let pushed : c.push.new.self.rows ≡ c.loop-at.table.rows ++ sides ∷ [] = search rules in
+    record {
+      goes = goes-on (texts row) (file_texts texts (drop (at + 1) file)) c.loop-at.invariant.goes
+          (file-row texts file at row (omega arith) c.row.ensures) c.take_row.ensures.limit c.in_ok-take_row.ensures.texts;
+      left = subst (AreTextIds new.texts (file_values (drop (at + 1) file))) (sym c.split_at.ensures.back)
+          (ids-kept pool.texts new.texts kept (file_values (drop (at + 1) file)) (drop (length kinds) left)
+          (ids-next pool.texts file at row left (length kinds) (omega arith) c.row.ensures (row-many kinds file at row (omega arith) c.row.ensures c.requires.rows) c.loop-at.invariant.left).1);
+      known = c.in_ok-take_row.ensures.known;
+      fields = c.push.ensures.fields ∙ c.loop-at.invariant.fields;
+      count = rw pushed (omega (arith, length-append c.loop-at.table.rows (sides ∷ []), c.loop-at.invariant.count));
+      sides = λ final e.
+          let before = extends-before pool.limit (texts row) pool.texts new.texts final c.in_ok-take_row.ensures.texts e in
+          rw pushed (push-sides c.loop-at.table.rows (sides_of_file final kinds (drop (at + 1) file)) (sides_of_file final kinds file) (sides_of_file final kinds (drop at file))
+          (sides_of_row final kinds row) sides (c.loop-at.invariant.sides final before)
+          (file-sides-at final kinds file at row (omega arith) c.row.ensures) (c.in_ok-take_row.ensures.sides final e));
+    }
+
+pub split_at-requires : goal.split_at-requires
+split_at-requires c =
+    let kinds = c.args.kinds.now in
+    let file = c.args.file.now in
+    let at = c.loop-at.at in
+    let row = (get_or file at no_record).row in
+    ids-room c.loop-at.pool.texts file at row c.loop-at.left.now (length kinds) (omega arith) refl (row-many kinds file at row (omega arith) refl c.requires.rows) c.loop-at.invariant.left
+
+pub take_row-requires-clause-ids : goal.take_row-requires-clause-ids
+take_row-requires-clause-ids c =
+    let kinds = c.args.kinds.now in
+    let file = c.args.file.now in
+    let at = c.loop-at.at in
+    let row = c.row.result.now in
+    let pool = c.loop-at.pool in
+    let left = c.loop-at.left.now in
+    subst (AreTextIds pool.texts row) (sym c.split_at.ensures.front)
+    (ids-next pool.texts file at row left (length kinds) (omega arith) c.row.ensures (row-many kinds file at row (omega arith) c.row.ensures c.requires.rows) c.loop-at.invariant.left).0

@@ -1,0 +1,13 @@
+use Rattle.std.proofs.Common.{get_or, arith}
+use Rattle.link_base.specs.Standard.{absent_value}
+use Rattle.standard_files.proofs.HeldLemmas.{canon-held, standard-held}
+use Rattle.standard_files.proofs.keys.is_taken.Goals as goal
+
+pub returns-then-is_standard_text : goal.returns-then-is_standard_text
+returns-then-is_standard_text c = λ _ held texts canons.
+    standard-held c.args.row.now c.args.part.field c.args.part.key held c.requires.within (rw (← c.value.ensures) (c.is_standard_text.ensures c.if-is_standard_text.true)) texts
+
+pub returns : goal.returns
+returns c = λ is held texts canons.
+    canon-held c.args.kinds.now c.args.row.now c.args.part.field c.args.part.key held (omega (arith, c.requires.within, c.requires.as_many)) c.requires.as_many
+    (c.is_canon.ensures is (get_or c.args.row.now c.args.part.field absent_value)) canons

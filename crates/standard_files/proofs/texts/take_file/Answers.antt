@@ -1,0 +1,23 @@
+use Rattle.std.proofs.Common.{◌+◌, ◌++◌, drop, take, arith, rules}
+use Rattle.standard_files.specs.Known.{AreTextIds, file_values}
+use Rattle.standard_files.specs.Texts.{file_texts, texts_of_row}
+use Rattle.standard_files.proofs.FileLemmas.{file-row, values-more}
+use Rattle.standard_files.proofs.TakingLemmas.{goes-on, takes-refused}
+use Rattle.standard_files.proofs.texts.take_file.Goals as goal
+
+pub loop-at-preserved : goal.loop-at-preserved
+loop-at-preserved c =
+    let file = c.args.file.now in
+    let at = c.loop-at.at in
+    let row = c.row.result.now in
+    let ids : AreTextIds c.take_row.new.pool.texts (file_values (take at file) ++ row) c.take_row.new.ids.items = c.in_ok-take_row.ensures.ids (file_values (take at file)) c.loop-at.invariant.ids in
+    record {
+      goes = goes-on (texts_of_row row) (file_texts texts_of_row (drop (at + 1) file)) c.loop-at.invariant.goes
+          (file-row texts_of_row file at row (omega arith) c.row.ensures) c.take_row.ensures.limit c.in_ok-take_row.ensures.texts;
+      ids = rw (values-more file at row (omega arith) c.row.ensures) ids;
+    }
+
+pub returns-in_err-take_row-clause-texts : goal.returns-in_err-take_row-clause-texts
+returns-in_err-take_row-clause-texts c =
+    takes-refused (texts_of_row c.row.result.now) (file_texts texts_of_row (drop (c.loop-at.at + 1) c.args.file.now)) c.in_err-take_row.field-0.0 c.take_row.new.pool c.from_residual.result c.loop-at.invariant.goes
+    (file-row texts_of_row c.args.file.now c.loop-at.at c.row.result.now (omega arith) c.row.ensures) c.in_err-take_row.ensures.texts (search rules)

@@ -1,0 +1,34 @@
+use Rattle.std.proofs.Common.{◌≡◌, ◌+◌, ◌++◌, ◌∷◌, [], drop, take, option_to_list, ap, arith, rules}
+use Rattle.standard_files.specs.Texts.{standard_text, texts_of_row}
+use Rattle.standard_files.proofs.FileLemmas.{row-texts, values-push}
+use Rattle.standard_files.proofs.KnownLemmas.{ids-push}
+use Rattle.standard_files.proofs.PlaceLemmas.{kept-taken}
+use Rattle.standard_files.proofs.TakingLemmas.{goes-on, takes-refused, whole-is}
+use Rattle.standard_files.proofs.texts.take_row.Goals as goal
+
+pub loop-value-preserved : goal.loop-value-preserved
+loop-value-preserved c =
+    let row = c.values-value-items.result.now in
+    let at = c.loop-value.value-index in
+    let v = c.value-item.result in
+    let ids = c.loop-value.ids.items in
+    let taken = option_to_list (standard_text v) in
+    let pool = c.loop-value.pool in
+    let new = c.take_value.new.pool in
+    let pushed : c.push.new.self.items ≡ ids ++ c.in_ok-id.id ∷ [] = search rules in
+    record {
+      goes = goes-on taken (texts_of_row (drop (at + 1) row)) c.loop-value.invariant.goes
+          (row-texts row at v (omega arith) c.value-item.is) c.take_value.ensures.limit c.in_ok-id.ensures.texts;
+      ids = λ before h.
+          rw (pushed, values-push before row at v (omega arith) c.value-item.is)
+          (ids-push pool.texts new.texts (before ++ take at row) v ids c.in_ok-id.id (kept-taken pool.limit taken pool.texts new.texts c.in_ok-id.ensures.texts) (c.loop-value.invariant.ids before h) c.in_ok-id.ensures.id);
+    }
+
+pub returns-in_err-id-clause-texts : goal.returns-in_err-id-clause-texts
+returns-in_err-id-clause-texts c =
+    let row = c.values-value-items.result.now in
+    let at = c.loop-value.value-index in
+    let v = c.value-item.result in
+    takes-refused (option_to_list (standard_text v)) (texts_of_row (drop (at + 1) row)) c.in_err-id.field-0.0 c.take_value.new.pool c.from_residual.result
+    (whole-is (ap texts_of_row c.values-value-items.ensures) c.loop-value.invariant.goes)
+    (row-texts row at v (omega arith) c.value-item.is) c.in_err-id.ensures.texts (search rules)

@@ -1,0 +1,12 @@
+use Rattle.std.proofs.Common.{◌++◌, List, drop, take}
+use Rattle.link_base.specs.declared.standard.Value.{Value}
+use Rattle.standard_files.specs.Known.{AreTextIds}
+use Rattle.standard_files.specs.Texts.{texts_of_row}
+use Rattle.standard_files.proofs.TakingLemmas.{Goes}
+use Rattle.standard_files.proofs.texts.take_row.Given as goal
+
+abbrev pub invariant-loop-value : goal.invariant-loop-value
+invariant-loop-value l = record {
+  goes : Goes l.fn.pool l.pool (texts_of_row (drop l.value-index l.value-items)) (texts_of_row l.value-items);
+  ids : (before : List Value) → AreTextIds l.fn.pool.texts before l.fn.ids.items → AreTextIds l.pool.texts (before ++ take l.value-index l.value-items) l.ids.items;
+}

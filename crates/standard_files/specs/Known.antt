@@ -1,0 +1,65 @@
+-- Machinery of `pool_values`: texts by their ids in a pool, and canons that are known by them. No public clause names it.
+use Rattle.std.specs.Prelude.{◌≡◌, ℕ, List, [], ◌∷◌, Option, Some, None, slice_get, slice_index_or, ⊤}
+use Rattle.std.specs.List.{flat_map}
+use Rattle.comparators.specs.declared.ids.IdValue.{IdValue}
+use Rattle.comparators.specs.declared.ids.IdValue.TheVariants as id
+use Rattle.link_base.specs.Standard.{Record}
+use Rattle.link_base.specs.declared.plan.CompareKind.{CompareKind}
+use Rattle.link_base.specs.declared.plan.CompareKind.TheVariants as by
+use Rattle.link_base.specs.declared.standard.Value.{Value}
+use Rattle.link_base.specs.declared.standard.Value.TheVariants as value
+use Rattle.value_forms.specs.Canons.{canon_of, exact_canon}
+use Rattle.standard_files.specs.Texts.{standard_text}
+use Rattle.standard_files.specs.declared.known.Known.{Known}
+use Rattle.standard_files.specs.declared.known.KnownCanon.{KnownCanon}
+use Rattle.standard_files.specs.declared.known.KnownDay.{KnownDay}
+
+-- the id of a text that is held, if there is a text
+abbrev pub IsIdOf : List (List ℕ) → Option (List ℕ) → Option ℕ → Type 0
+IsIdOf held None None = ⊤
+IsIdOf held None (Some id) = ⊥
+IsIdOf held (Some text) None = ⊥
+IsIdOf held (Some text) (Some id) = slice_get held id ≡ Some text
+
+-- the ids of the standard texts of values, one for each value
+abbrev pub AreTextIds : List (List ℕ) → List Value → List (Option ℕ) → Type 0
+AreTextIds held [] [] = ⊤
+AreTextIds held [] (id ∷ ids) = ⊥
+AreTextIds held (v ∷ vs) [] = ⊥
+AreTextIds held (v ∷ vs) (id ∷ ids) = IsIdOf held (standard_text v) id × AreTextIds held vs ids
+
+-- the values of a file, row by row
+abbrev pub file_values : List Record → List Value
+file_values file = flat_map (λ (r : Record). r.row) file
+
+-- what a value is compared by, whose canon has this id
+abbrev pub side_by_id : Option ℕ → IdValue
+side_by_id None = id.Absent
+side_by_id (Some canon) = id.Id canon
+
+-- the canon of the text at a place of a pool, by the kind of a field
+pub record IsCanonAt (held : List (List ℕ)) (kinds : List CompareKind) (place : ℕ) (known : KnownCanon) : Type 0 where
+  pub text : List ℕ
+  pub stands : slice_get held place ≡ Some text
+  pub canon : IsIdOf held (canon_of (slice_index_or kinds known.field by.Exact) (value.Word text)) (Some known.canon)
+
+abbrev pub IsKnownAt : List (List ℕ) → List CompareKind → ℕ → Option KnownCanon → Type 0
+IsKnownAt held kinds place None = ⊤
+IsKnownAt held kinds place (Some known) = IsCanonAt held kinds place known
+
+-- at the place of each text of a pool a canon of it, or none
+abbrev pub AreKnownCanons : List (List ℕ) → List CompareKind → List (Option KnownCanon) → Type 0
+AreKnownCanons held kinds canons = (place : ℕ) → IsKnownAt held kinds place (slice_index_or canons place None)
+
+-- days with the ids of their texts
+abbrev pub IsKnownDay : List (List ℕ) → Option KnownDay → Type 0
+IsKnownDay held None = ⊤
+IsKnownDay held (Some known) = IsIdOf held (exact_canon (value.Day known.day)) (Some known.text)
+
+abbrev pub AreKnownDays : List (List ℕ) → List (Option KnownDay) → Type 0
+AreKnownDays held days = (slot : ℕ) → IsKnownDay held (slice_index_or days slot None)
+
+-- what is known of the texts of a pool
+pub record AreKnown (held : List (List ℕ)) (kinds : List CompareKind) (known : Known) : Type 0 where
+  pub canons : AreKnownCanons held kinds known.canons.at.items
+  pub days : AreKnownDays held known.days.at.items

@@ -1,0 +1,308 @@
+// What values are compared by, and their canons taken into a pool.
+ghost use Rattle.std.specs.Prelude.{◌≡◌, ◌<◌, ◌≤◌, All, IfOk, IsTrue, List, [], OnOk, Some, ℕ, length, option_to_list, slice_index_or};
+ghost use Rattle.value_forms.specs.Canons.{IsReadable, canon_of, value_part};
+ghost use Rattle.link_base.specs.Standard.{IsValid};
+ghost use Rattle.link_base.specs.declared.plan.CompareKind.TheVariants as by;
+ghost use Rattle.standard_files.specs.Known.{AreKnown, AreKnownDays, AreTextIds, IsIdOf, file_values, side_by_id};
+ghost use Rattle.standard_files.specs.Ready.{IsRowFor};
+ghost use Rattle.standard_files.specs.Sides.{day_side, id_side, side_of, sides_of_file, sides_of_row};
+ghost use Rattle.standard_files.specs.Taking.{Extends, TakesTexts};
+ghost use Rattle.standard_files.specs.Texts.{both_texts, canons_of_row, file_texts, standard_text};
+
+use crate::known::{Known, KnownDays};
+use crate::texts::{TextIds, take_text};
+use comparators::{IdTable, IdValue};
+use link_base::{CompareKind, KeyKind, NoMemory, StdFile, StdRow, Value};
+use link_limits::MOST_FIELDS;
+use std::alloc::Global;
+use value_forms::{bytes_of, canon_text, compares_days, value_text};
+use value_pool::{Id, Pool, PoolFault};
+
+/// Takes the part of a key that a value makes, and gives its id.
+pub(crate) fn take_part(
+    alloc: Global,
+    pool: &mut Pool,
+    kind: KeyKind,
+    value: &Value,
+) -> Result<IdValue, PoolFault>
+    requires { IsReadable kind value.now }
+    ensures limit { pool.new.limit ≡ pool.old.limit }
+    ensures texts { TakesTexts pool.old pool.new (option_to_list (value_part kind value.now)) result }
+    ensures side { IfOk result (λ side. (final : List (List ℕ)) → Extends pool.new.texts final → id_side final (value_part kind value.now) ≡ side) }
+{
+    match value_text(kind, value) {
+        None => Ok(IdValue::Absent),
+        Some(text) => Ok(IdValue::Id(take_text(alloc, pool, bytes_of(&text))?)),
+    }
+}
+
+// A day as it is.
+fn day_of(value: &Value) -> IdValue
+    ensures { result ≡ day_side value.now }
+{
+    match value {
+        Value::Day(day) => IdValue::Day(*day),
+        _ => IdValue::Absent,
+    }
+}
+
+// What a value is compared by, whose canon has this id.
+fn side_by_id(canon: Option<Id>) -> IdValue
+    ensures { result ≡ side_by_id canon }
+{
+    match canon {
+        None => IdValue::Absent,
+        Some(id) => IdValue::Id(id),
+    }
+}
+
+// Whether the canon of a word is its standard text.
+fn is_text_itself(kind: CompareKind) -> bool
+    ensures { IsTrue result → kind ≡ by.Exact }
+{
+    matches!(kind, CompareKind::Exact)
+}
+
+// Takes the canon of a value, and gives its id.
+fn take_canon(
+    alloc: Global,
+    pool: &mut Pool,
+    kind: CompareKind,
+    value: &Value,
+) -> Result<Option<Id>, PoolFault>
+    requires { IsValid value.now }
+    ensures limit { pool.new.limit ≡ pool.old.limit }
+    ensures texts { TakesTexts pool.old pool.new (option_to_list (canon_of kind value.now)) result }
+    ensures id { IfOk result (IsIdOf pool.new.texts (canon_of kind value.now)) }
+{
+    match canon_text(alloc, kind, value) {
+        Err(NoMemory) => Err(PoolFault::NoMemory),
+        Ok(None) => Ok(None),
+        Ok(Some(text)) => Ok(Some(take_text(alloc, pool, bytes_of(&text))?)),
+    }
+}
+
+// Takes the canon of a value without a standard text, and gives its id. The text of a day that is known is not looked for
+// again.
+fn take_day(
+    alloc: Global,
+    pool: &mut Pool,
+    kind: CompareKind,
+    days: &mut KnownDays,
+    value: &Value,
+) -> Result<Option<Id>, PoolFault>
+    requires valid { IsValid value.now }
+    requires days { AreKnownDays pool.old.texts days.old.at.items }
+    ensures limit { pool.new.limit ≡ pool.old.limit }
+    ensures texts { TakesTexts pool.old pool.new (option_to_list (canon_of kind value.now)) result }
+    ensures id { IfOk result (IsIdOf pool.new.texts (canon_of kind value.now)) }
+    ensures days { OnOk result (AreKnownDays pool.new.texts days.new.at.items) }
+{
+    if !is_text_itself(kind) {
+        return take_canon(alloc, pool, kind, value);
+    }
+    if let Some(text) = days.find(value) {
+        return Ok(Some(text));
+    }
+    let Some(text) = take_canon(alloc, pool, kind, value)? else {
+        return Ok(None);
+    };
+    days.keep(value, text);
+    Ok(Some(text))
+}
+
+// Takes the canon of a value in a field, and gives its id. One that is known by the id of the standard text is not looked
+// for again.
+fn take_known(
+    alloc: Global,
+    pool: &mut Pool,
+    kinds: &[CompareKind],
+    known: &mut Known,
+    field: u8,
+    text: Option<Id>,
+    value: &Value,
+) -> Result<Option<Id>, PoolFault>
+    requires field { field < length kinds.now }
+    requires valid { IsValid value.now }
+    requires text { IsIdOf pool.old.texts (standard_text value.now) text }
+    requires known { AreKnown pool.old.texts kinds.now known.old }
+    ensures limit { pool.new.limit ≡ pool.old.limit }
+    ensures texts { TakesTexts pool.old pool.new (option_to_list (canon_of (slice_index_or kinds.now field by.Exact) value.now)) result }
+    ensures id { IfOk result (IsIdOf pool.new.texts (canon_of (slice_index_or kinds.now field by.Exact) value.now)) }
+    ensures known { OnOk result (AreKnown pool.new.texts kinds.now known.new) }
+{
+    let kind = kinds[field as usize];
+    let Some(text) = text else {
+        return take_day(alloc, pool, kind, &mut known.days, value);
+    };
+    if is_text_itself(kind) {
+        return Ok(Some(text));
+    }
+    if let Some(canon) = known.canons.find(field, text) {
+        return Ok(Some(canon));
+    }
+    let Some(canon) = take_canon(alloc, pool, kind, value)? else {
+        return Ok(None);
+    };
+    known.canons.keep(field, text, canon);
+    Ok(Some(canon))
+}
+
+// Takes the canon of a value in a field, and gives what the value is compared by.
+fn take_side(
+    alloc: Global,
+    pool: &mut Pool,
+    kinds: &[CompareKind],
+    known: &mut Known,
+    field: u8,
+    text: Option<Id>,
+    value: &Value,
+) -> Result<IdValue, PoolFault>
+    requires field { field < length kinds.now }
+    requires valid { IsValid value.now }
+    requires text { IsIdOf pool.old.texts (standard_text value.now) text }
+    requires known { AreKnown pool.old.texts kinds.now known.old }
+    ensures limit { pool.new.limit ≡ pool.old.limit }
+    ensures texts { TakesTexts pool.old pool.new (option_to_list (canon_of (slice_index_or kinds.now field by.Exact) value.now)) result }
+    ensures side { IfOk result (λ side. (final : List (List ℕ)) → Extends pool.new.texts final → side_of final (slice_index_or kinds.now field by.Exact) value.now ≡ side) }
+    ensures known { OnOk result (AreKnown pool.new.texts kinds.now known.new) }
+{
+    let kind = kinds[field as usize];
+    if compares_days(kind) {
+        return Ok(day_of(value));
+    }
+    let canon = take_known(alloc, pool, kinds, known, field, text, value)?;
+    Ok(side_by_id(canon))
+}
+
+// Takes the canons of a row, and appends what its values are compared by.
+fn take_row(
+    alloc: Global,
+    pool: &mut Pool,
+    kinds: &[CompareKind],
+    known: &mut Known,
+    row: &StdRow,
+    ids: &[Option<Id>],
+    sides: &mut Vec<IdValue>,
+) -> Result<(), PoolFault>
+    requires few { length kinds.now ≤ MOST_FIELDS }
+    requires as_many { length row.now ≡ length kinds.now }
+    requires valid { All IsValid row.now }
+    requires ids { AreTextIds pool.old.texts row.now ids.now }
+    requires known { AreKnown pool.old.texts kinds.now known.old }
+    ensures limit { pool.new.limit ≡ pool.old.limit }
+    ensures texts { TakesTexts pool.old pool.new (canons_of_row kinds.now row.now) result }
+    ensures sides { OnOk result ((final : List (List ℕ)) → Extends pool.new.texts final → sides_of_row final kinds.now row.now ≡ sides.new.items) }
+    ensures width { OnOk result (length sides.new.items ≡ length kinds.now) }
+    ensures known { OnOk result (AreKnown pool.new.texts kinds.now known.new) }
+{
+    sides.clear();
+    let values = row.values();
+    for field in 0..kinds.len() {
+        let side = take_side(
+            alloc,
+            pool,
+            kinds,
+            known,
+            field as u8,
+            ids[field],
+            &values[field],
+        )?;
+        if sides.push(side).is_err() {
+            return Err(PoolFault::NoMemory);
+        }
+    }
+    Ok(())
+}
+
+// Takes the canons of the rows of a file, and appends what they are compared by.
+fn take_rows(
+    alloc: Global,
+    pool: &mut Pool,
+    kinds: &[CompareKind],
+    known: &mut Known,
+    file: &StdFile,
+    ids: &[Option<Id>],
+    table: &mut IdTable,
+) -> Result<(), PoolFault>
+    requires few { length kinds.now ≤ MOST_FIELDS }
+    requires rows { All (IsRowFor kinds.now) file.now }
+    requires ids { AreTextIds pool.old.texts (file_values file.now) ids.now }
+    requires known { AreKnown pool.old.texts kinds.now known.old }
+    requires fields { table.old.fields ≡ length kinds.now }
+    requires empty { table.old.rows ≡ [] }
+    ensures fields { table.new.fields ≡ table.old.fields }
+    ensures limit { pool.new.limit ≡ pool.old.limit }
+    ensures texts { TakesTexts pool.old pool.new (file_texts (canons_of_row kinds.now) file.now) result }
+    ensures sides { OnOk result ((final : List (List ℕ)) → Extends pool.new.texts final → sides_of_file final kinds.now file.now ≡ table.new.rows) }
+    ensures known { OnOk result (AreKnown pool.new.texts kinds.now known.new) }
+{
+    let mut sides = Vec::new(alloc);
+    let mut left = ids;
+    for at in 0..file.rows() {
+        let (here, later) = left.split_at(kinds.len());
+        take_row(alloc, pool, kinds, known, file.row(at), here, &mut sides)?;
+        if table.push(&sides).is_err() {
+            return Err(PoolFault::NoMemory);
+        }
+        left = later;
+    }
+    Ok(())
+}
+
+// Takes the canons of a file, and gives what its rows are compared by.
+fn take_file(
+    alloc: Global,
+    pool: &mut Pool,
+    kinds: &[CompareKind],
+    known: &mut Known,
+    file: &StdFile,
+    ids: &[Option<Id>],
+) -> Result<IdTable, PoolFault>
+    requires few { length kinds.now ≤ MOST_FIELDS }
+    requires rows { All (IsRowFor kinds.now) file.now }
+    requires ids { AreTextIds pool.old.texts (file_values file.now) ids.now }
+    requires known { AreKnown pool.old.texts kinds.now known.old }
+    ensures limit { pool.new.limit ≡ pool.old.limit }
+    ensures texts { TakesTexts pool.old pool.new (file_texts (canons_of_row kinds.now) file.now) result }
+    ensures fields { IfOk result (λ table. table.fields ≡ length kinds.now) }
+    ensures sides { IfOk result (λ table. (final : List (List ℕ)) → Extends pool.new.texts final → sides_of_file final kinds.now file.now ≡ table.rows) }
+    ensures known { OnOk result (AreKnown pool.new.texts kinds.now known.new) }
+{
+    let mut table = match IdTable::new(alloc, kinds.len() as u8) {
+        Ok(table) => table,
+        Err(NoMemory) => return Err(PoolFault::NoMemory),
+    };
+    take_rows(alloc, pool, kinds, known, file, ids, &mut table)?;
+    Ok(table)
+}
+
+/// Takes the canons of two files whose standard texts are taken, and gives what the rows of each are compared by.
+pub(crate) fn take_canons(
+    alloc: Global,
+    pool: &mut Pool,
+    kinds: &[CompareKind],
+    a: &StdFile,
+    b: &StdFile,
+    ids: &TextIds,
+) -> Result<(IdTable, IdTable), PoolFault>
+    requires few { length kinds.now ≤ MOST_FIELDS }
+    requires rows_a { All (IsRowFor kinds.now) a.now }
+    requires rows_b { All (IsRowFor kinds.now) b.now }
+    requires ids_a { AreTextIds pool.old.texts (file_values a.now) ids.now.a.items }
+    requires ids_b { AreTextIds pool.old.texts (file_values b.now) ids.now.b.items }
+    ensures limit { pool.new.limit ≡ pool.old.limit }
+    ensures texts { TakesTexts pool.old pool.new (both_texts (canons_of_row kinds.now) a.now b.now) result }
+    ensures fields_a { IfOk result (λ t. t.0.fields ≡ length kinds.now) }
+    ensures fields_b { IfOk result (λ t. t.1.fields ≡ length kinds.now) }
+    ensures a { IfOk result (λ t. (final : List (List ℕ)) → Extends pool.new.texts final → sides_of_file final kinds.now a.now ≡ t.0.rows) }
+    ensures b { IfOk result (λ t. (final : List (List ℕ)) → Extends pool.new.texts final → sides_of_file final kinds.now b.now ≡ t.1.rows) }
+{
+    let mut known = match Known::new(alloc, pool.len()) {
+        Ok(known) => known,
+        Err(NoMemory) => return Err(PoolFault::NoMemory),
+    };
+    let a = take_file(alloc, pool, kinds, &mut known, a, &ids.a)?;
+    let b = take_file(alloc, pool, kinds, &mut known, b, &ids.b)?;
+    Ok((a, b))
+}

@@ -1,0 +1,131 @@
+// Canons that were taken, by the texts and the days that have them.
+ghost use Rattle.std.specs.Prelude.{◌≡◌, List, ℕ, IfOk, IfSome, Some, None, slice_index_or};
+ghost use Rattle.link_base.specs.declared.plan.CompareKind.{CompareKind as Kind};
+ghost use Rattle.standard_files.specs.Known.{AreKnown, AreKnownCanons, AreKnownDays, IsCanonAt, IsIdOf};
+ghost use Rattle.value_forms.specs.Canons.{exact_canon};
+
+use link_base::{NoMemory, Value};
+use std::alloc::Global;
+use value_pool::Id;
+
+/// A canon of a text: the field by whose kind it is one, and its id.
+#[derive(Clone, Copy)]
+pub(crate) struct KnownCanon {
+    pub(crate) field: u8,
+    pub(crate) canon: Id,
+}
+
+/// For each place of a pool the canon that was last taken of the text there, so that a text that comes again in its field
+/// is not read again.
+#[derive(Drop)]
+pub(crate) struct KnownCanons {
+    pub(crate) at: Vec<Option<KnownCanon>>,
+}
+
+impl KnownCanons {
+    // No canon, with room for one of each of so many texts.
+    fn new(alloc: Global, texts: u32) -> Result<KnownCanons, NoMemory>
+        ensures { IfOk result (λ canons. (held : List (List ℕ)) (kinds : List Kind) → AreKnownCanons held kinds canons.at.items) }
+    {
+        let at = vec![in alloc; None; texts as usize]?;
+        Ok(KnownCanons { at })
+    }
+
+    /// The canon of a text by the kind of a field.
+    pub(crate) fn find(&self, field: u8, text: Id) -> Option<Id>
+        ensures { IfSome result (λ canon. slice_index_or self.now.at.items text None ≡ Some (record { field = field; canon = canon })) }
+    {
+        match self.at.get(text.place() as usize) {
+            Some(Some(known)) if known.field == field => Some(known.canon),
+            _ => None,
+        }
+    }
+
+    /// Keeps the canon of a text by the kind of a field, where there is room for one of this text.
+    pub(crate) fn keep(&mut self, field: u8, text: Id, canon: Id)
+        ensures { (held : List (List ℕ)) (kinds : List Kind) → IsCanonAt held kinds text (record { field = field; canon = canon }) → AreKnownCanons held kinds self.old.at.items → AreKnownCanons held kinds self.new.at.items }
+    {
+        let place = text.place() as usize;
+        if place < self.at.len() {
+            self.at[place] = Some(KnownCanon { field, canon });
+        }
+    }
+}
+
+/// A day, and the id of its text.
+#[derive(Clone, Copy)]
+pub(crate) struct KnownDay {
+    pub(crate) day: i32,
+    pub(crate) text: Id,
+}
+
+/// Days whose texts were taken, each in one of so many slots, so that a day that comes again is not written again.
+#[derive(Drop)]
+pub(crate) struct KnownDays {
+    pub(crate) at: Vec<Option<KnownDay>>,
+}
+
+/// What is added to a day so that none is below 0.
+const DAYS_BEFORE_1970: u32 = 719_162;
+
+impl KnownDays {
+    // No day, with so many slots.
+    fn new(alloc: Global, slots: u32) -> Result<KnownDays, NoMemory>
+        ensures { IfOk result (λ days. (held : List (List ℕ)) → AreKnownDays held days.at.items) }
+    {
+        let at = vec![in alloc; None; slots as usize]?;
+        Ok(KnownDays { at })
+    }
+
+    // The slot of a day: days that follow each other have different ones.
+    fn slot(&self, day: i32) -> usize {
+        if self.at.is_empty() {
+            return 0;
+        }
+        day.cast_unsigned().wrapping_add(DAYS_BEFORE_1970) as usize % self.at.len()
+    }
+
+    /// The id of the text of a day, `None` for another value.
+    pub(crate) fn find(&self, value: &Value) -> Option<Id>
+        ensures { IfSome result (λ text. (held : List (List ℕ)) → AreKnownDays held self.now.at.items → IsIdOf held (exact_canon value.now) (Some text)) }
+    {
+        let Value::Day(day) = value else {
+            return None;
+        };
+        match self.at.get(self.slot(*day)) {
+            Some(Some(known)) if known.day == *day => Some(known.text),
+            _ => None,
+        }
+    }
+
+    /// Keeps the id of the text of a day.
+    pub(crate) fn keep(&mut self, value: &Value, text: Id)
+        ensures { (held : List (List ℕ)) → IsIdOf held (exact_canon value.now) (Some text) → AreKnownDays held self.old.at.items → AreKnownDays held self.new.at.items }
+    {
+        let Value::Day(day) = value else {
+            return;
+        };
+        let slot = self.slot(*day);
+        if slot < self.at.len() {
+            self.at[slot] = Some(KnownDay { day: *day, text });
+        }
+    }
+}
+
+/// What is known of the texts of a pool.
+#[derive(Drop)]
+pub(crate) struct Known {
+    pub(crate) canons: KnownCanons,
+    pub(crate) days: KnownDays,
+}
+
+impl Known {
+    /// Nothing, with room for a canon of each of so many texts, and for as many days.
+    pub(crate) fn new(alloc: Global, texts: u32) -> Result<Known, NoMemory>
+        ensures { IfOk result (λ known. (held : List (List ℕ)) (kinds : List Kind) → AreKnown held kinds known) }
+    {
+        let canons = KnownCanons::new(alloc, texts)?;
+        let days = KnownDays::new(alloc, texts)?;
+        Ok(Known { canons, days })
+    }
+}

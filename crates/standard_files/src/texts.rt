@@ -1,0 +1,89 @@
+// Texts taken into a pool.
+ghost use Rattle.std.specs.Prelude.{◌≡◌, ◌++◌, ◌∷◌, [], IfOk, List, OnOk, Some, option_to_list, slice_get};
+ghost use Rattle.link_base.specs.declared.standard.Value.{Value as FieldValue};
+ghost use Rattle.standard_files.specs.Known.{AreTextIds, IsIdOf, file_values};
+ghost use Rattle.standard_files.specs.Taking.{TakesTexts};
+ghost use Rattle.standard_files.specs.Texts.{both_texts, file_texts, standard_text, texts_of_row};
+
+use link_base::{StdFile, StdRow, Value};
+use std::alloc::Global;
+use value_pool::{Id, Pool, PoolFault};
+
+/// The ids of the standard texts of two files, row by row, `None` where a value has no text.
+#[derive(Drop)]
+pub(crate) struct TextIds {
+    pub(crate) a: Vec<Option<Id>>,
+    pub(crate) b: Vec<Option<Id>>,
+}
+
+/// Takes a text.
+pub(crate) fn take_text(alloc: Global, pool: &mut Pool, text: &[u8]) -> Result<Id, PoolFault>
+    ensures limit { pool.new.limit ≡ pool.old.limit }
+    ensures texts { TakesTexts pool.old pool.new (text.now ∷ []) result }
+    ensures id { IfOk result (λ id. slice_get pool.new.texts id ≡ Some text.now) }
+{
+    pool.are_distinct();
+    pool.intern(alloc, text)
+}
+
+// Takes the standard text of a value.
+fn take_value(alloc: Global, pool: &mut Pool, value: &Value) -> Result<Option<Id>, PoolFault>
+    ensures limit { pool.new.limit ≡ pool.old.limit }
+    ensures texts { TakesTexts pool.old pool.new (option_to_list (standard_text value.now)) result }
+    ensures id { IfOk result (IsIdOf pool.new.texts (standard_text value.now)) }
+{
+    match value {
+        Value::Word(text) => Ok(Some(take_text(alloc, pool, text.bytes())?)),
+        _ => Ok(None),
+    }
+}
+
+// Takes the standard texts of a row, and appends their ids.
+fn take_row(
+    alloc: Global,
+    pool: &mut Pool,
+    row: &StdRow,
+    ids: &mut Vec<Option<Id>>,
+) -> Result<(), PoolFault>
+    ensures limit { pool.new.limit ≡ pool.old.limit }
+    ensures texts { TakesTexts pool.old pool.new (texts_of_row row.now) result }
+    ensures ids { OnOk result ((before : List FieldValue) → AreTextIds pool.old.texts before ids.old.items → AreTextIds pool.new.texts (before ++ row.now) ids.new.items) }
+{
+    for value in row.values() {
+        let id = take_value(alloc, pool, value)?;
+        if ids.push(id).is_err() {
+            return Err(PoolFault::NoMemory);
+        }
+    }
+    Ok(())
+}
+
+// Takes the standard texts of a file, and gives their ids.
+fn take_file(alloc: Global, pool: &mut Pool, file: &StdFile) -> Result<Vec<Option<Id>>, PoolFault>
+    ensures limit { pool.new.limit ≡ pool.old.limit }
+    ensures texts { TakesTexts pool.old pool.new (file_texts texts_of_row file.now) result }
+    ensures ids { IfOk result (λ ids. AreTextIds pool.new.texts (file_values file.now) ids.items) }
+{
+    let mut ids = Vec::new(alloc);
+    for at in 0..file.rows() {
+        take_row(alloc, pool, file.row(at), &mut ids)?;
+    }
+    Ok(ids)
+}
+
+/// Takes the standard texts of two files, and gives their ids.
+pub(crate) fn take_texts(
+    alloc: Global,
+    pool: &mut Pool,
+    a: &StdFile,
+    b: &StdFile,
+) -> Result<TextIds, PoolFault>
+    ensures limit { pool.new.limit ≡ pool.old.limit }
+    ensures texts { TakesTexts pool.old pool.new (both_texts texts_of_row a.now b.now) result }
+    ensures a { IfOk result (λ ids. AreTextIds pool.new.texts (file_values a.now) ids.a.items) }
+    ensures b { IfOk result (λ ids. AreTextIds pool.new.texts (file_values b.now) ids.b.items) }
+{
+    let ids_a = take_file(alloc, pool, a)?;
+    let ids_b = take_file(alloc, pool, b)?;
+    Ok(TextIds { a: ids_a, b: ids_b })
+}

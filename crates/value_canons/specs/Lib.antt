@@ -1,2 +1,0 @@
-pub mod Canons
-pub mod CanonTexts

@@ -1,0 +1,172 @@
+// The canon of a value by each kind.
+ghost use Rattle.std.specs.Prelude.{◌≡◌, IfOk, option_map};
+ghost use Rattle.link_base.specs.Standard.{IsDay, IsValid};
+ghost use Rattle.value_forms.specs.CanonTexts.{canon_bytes};
+ghost use Rattle.value_forms.specs.Canons.{IsReadable, canon_of, exact_canon, first_letters_canon, initials_canon, nysiis_canon, soundex_canon, value_part};
+ghost use Rattle.value_forms.specs.Canons.{compares_days as is_of_days, year_digits as year_canon};
+ghost use Rattle.value_forms.specs.Days.{four_digits, year_of_day};
+
+use crate::days::{civil_of, day_text};
+use crate::first::first_chars;
+use crate::initials::initials_text;
+use link_base::{CompareKind, KeyKind, NoMemory, Text, Value};
+use phonetic_keys::{Nysiis, nysiis, soundex};
+use std::alloc::Global;
+
+/// The bytes of a canon. All but `Built` take no memory.
+#[derive(Drop)]
+pub enum CanonText<'v> {
+    /// A word, or its first characters.
+    Slice(&'v [u8]),
+    /// A Soundex key, or the digits of a year.
+    Short([u8; 4]),
+    /// A day as `YYYY-MM-DD`.
+    Date([u8; 10]),
+    /// A NYSIIS key.
+    Letters(Nysiis),
+    /// Initials.
+    Built(Text),
+}
+
+/// The bytes, without a copy.
+pub fn bytes_of<'t>(canon: &'t CanonText) -> &'t [u8]
+    ensures { result.now ≡ canon_bytes canon.now }
+{
+    match canon {
+        CanonText::Slice(text) => *text,
+        CanonText::Short(bytes) => bytes,
+        CanonText::Date(bytes) => bytes,
+        CanonText::Letters(key) => key.bytes(),
+        CanonText::Built(text) => text.bytes(),
+    }
+}
+
+/// The text of a word, and `YYYY-MM-DD` of a day.
+pub fn exact<'v>(value: &'v Value) -> Option<CanonText<'v>>
+    requires { IsReadable KeyKind.Whole value.now }
+    ensures { option_map canon_bytes result ≡ exact_canon value.now }
+{
+    match value {
+        Value::Absent => None,
+        Value::Word(text) => Some(CanonText::Slice(text.bytes())),
+        Value::Day(day) => Some(CanonText::Date(day_text(*day))),
+    }
+}
+
+/// The Soundex key of a word, `None` where it has no letter.
+pub fn soundex_key<'v>(value: &'v Value) -> Option<CanonText<'v>>
+    ensures { option_map canon_bytes result ≡ soundex_canon value.now }
+{
+    let Value::Word(text) = value else {
+        return None;
+    };
+    match soundex(text.bytes()) {
+        Some(key) => Some(CanonText::Short(key)),
+        None => None,
+    }
+}
+
+/// The NYSIIS key of a word, `None` where it has no letter.
+pub fn nysiis_key<'v>(value: &'v Value) -> Option<CanonText<'v>>
+    ensures { option_map canon_bytes result ≡ nysiis_canon value.now }
+{
+    let Value::Word(text) = value else {
+        return None;
+    };
+    match nysiis(text.bytes()) {
+        Some(key) => Some(CanonText::Letters(key)),
+        None => None,
+    }
+}
+
+/// The first `n` characters of a word, or all where there are fewer.
+pub fn first_letters<'v>(n: u8, value: &'v Value) -> Option<CanonText<'v>>
+    requires { IsReadable (KeyKind.First n) value.now }
+    ensures { option_map canon_bytes result ≡ first_letters_canon n value.now }
+{
+    match value {
+        Value::Word(text) => Some(CanonText::Slice(first_chars(text.bytes(), n))),
+        _ => None,
+    }
+}
+
+fn digits_of_year(day: i32) -> [u8; 4]
+    requires { IsDay day }
+    ensures { result ≡ four_digits (year_of_day day) }
+{
+    let year = civil_of(day).year;
+    let high = (year / 100) as u8;
+    let low = (year % 100) as u8;
+    [
+        b'0' + high / 10,
+        b'0' + high % 10,
+        b'0' + low / 10,
+        b'0' + low % 10,
+    ]
+}
+
+/// The four digits of the year of a day.
+pub fn year_digits<'v>(value: &'v Value) -> Option<CanonText<'v>>
+    requires { IsReadable KeyKind.Year value.now }
+    ensures { option_map canon_bytes result ≡ year_canon value.now }
+{
+    match value {
+        Value::Day(day) => Some(CanonText::Short(digits_of_year(*day))),
+        _ => None,
+    }
+}
+
+// The initials of a word.
+fn initials<'v>(alloc: Global, value: &'v Value) -> Result<Option<CanonText<'v>>, NoMemory>
+    requires { IsValid value.now }
+    ensures { IfOk result (λ canon. option_map canon_bytes canon ≡ initials_canon value.now) }
+{
+    match value {
+        Value::Word(text) => Ok(Some(CanonText::Built(initials_text(alloc, text.bytes())?))),
+        _ => Ok(None),
+    }
+}
+
+/// Whether a kind compares days as they are: no value has a canon for it.
+pub fn compares_days(kind: CompareKind) -> bool
+    ensures { result ≡ is_of_days kind }
+{
+    matches!(
+        kind,
+        CompareKind::DaysWithin(_) | CompareKind::YearsWithin(_)
+    )
+}
+
+/// The canon by which a kind compares a value, `None` exactly where it has none.
+#[tactic(auto, using(crate::proofs::ReadableLemmas::readable_valid))]
+pub fn canon_text<'v>(
+    alloc: Global,
+    kind: CompareKind,
+    value: &'v Value,
+) -> Result<Option<CanonText<'v>>, NoMemory>
+    requires { IsValid value.now }
+    ensures { IfOk result (λ canon. option_map canon_bytes canon ≡ canon_of kind value.now) }
+{
+    match kind {
+        CompareKind::Exact => Ok(exact(value)),
+        CompareKind::BySoundex => Ok(soundex_key(value)),
+        CompareKind::ByNysiis => Ok(nysiis_key(value)),
+        CompareKind::FirstLetters(n) => Ok(first_letters(n, value)),
+        CompareKind::Initials => initials(alloc, value),
+        CompareKind::DaysWithin(_) | CompareKind::YearsWithin(_) => Ok(None),
+    }
+}
+
+/// The part of a key of a blocking pass that a value makes, `None` exactly where it makes none.
+pub fn value_text<'v>(kind: KeyKind, value: &'v Value) -> Option<CanonText<'v>>
+    requires { IsReadable kind value.now }
+    ensures { option_map canon_bytes result ≡ value_part kind value.now }
+{
+    match kind {
+        KeyKind::Whole => exact(value),
+        KeyKind::Soundex => soundex_key(value),
+        KeyKind::Nysiis => nysiis_key(value),
+        KeyKind::First(n) => first_letters(n, value),
+        KeyKind::Year => year_digits(value),
+    }
+}
