@@ -1,6 +1,9 @@
 // Files of the host.
 ghost use Rattle.std.specs.Prelude.{◌≡◌, ◌+◌, ◌^◌, ◌<◌, [], ℕ, List, None, take, vec_capacity, vec_len, IfOk, IfSome};
+ghost use Rattle.std.specs.IoError.{error_kind};
+ghost use Rattle.std.specs.declared.io.ErrorKind.TheVariants as kind;
 ghost use Rattle.link_outside.specs.Outside.{IsLogged, IsWithinLimit, Shows};
+ghost use Rattle.host_outside.specs.declared.host_files.HostError.TheVariants as host;
 
 use link_base::Text;
 use link_outside::{Load, Store, StoreCall, StoreError, entry_of_call};
@@ -38,12 +41,16 @@ enum HostError {
 }
 
 impl From<AllocError> for HostError {
+    ghost from_gives = { λ _ e. e ≡ host.NoMemory };
+
     fn from(_: AllocError) -> HostError {
         HostError::NoMemory
     }
 }
 
 impl From<io::Error> for HostError {
+    ghost from_gives = { λ error e. (error_kind error ≡ kind.OutOfMemory → e ≡ host.NoMemory) × (e ≡ host.NoMemory → error_kind error ≡ kind.OutOfMemory) };
+
     fn from(error: io::Error) -> HostError {
         if error.kind() == io::ErrorKind::OutOfMemory {
             HostError::NoMemory

@@ -1,5 +1,6 @@
 // The words of a command.
-ghost use Rattle.std.specs.Prelude.{◌≡◌, drop};
+ghost use Rattle.std.specs.Prelude.{◌≡◌, [], drop, IfErr, IfOk};
+ghost use Rattle.std.specs.Vec.Iter.{into_iter_items};
 
 use std::alloc::{AllocError, Global};
 use std::{env, io};
@@ -18,7 +19,10 @@ fn after_name(mut all: Vec<String>) -> Vec<String>
 pub fn words_after_name(
     alloc: Global,
     args: io::Result<env::Args>,
-) -> Result<Vec<String>, AllocError> {
+) -> Result<Vec<String>, AllocError>
+    ensures words { IfOk args (λ words. IfOk result (λ after. after.items ≡ drop 1 (into_iter_items words))) }
+    ensures no_words { IfErr args (λ _. IfOk result (λ after. after.items ≡ [])) }
+{
     let mut all = Vec::new(alloc);
     match args {
         Ok(words) => {
