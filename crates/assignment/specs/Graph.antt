@@ -1,5 +1,5 @@
 -- Machinery of `Assigner`: the edges of candidates from both sides, and the sides that search over them.
-use Rattle.std.specs.Prelude.{◌≡◌, ℕ, ◌+◌, length, vec_len, MatchOption}
+use Rattle.std.specs.Prelude.{◌≡◌, ℕ, length, MatchOption}
 use Rattle.assignment_steps.specs.Market.{IsRising, IsInRange, AreSmall, AreStarts}
 use Rattle.assignment.specs.declared.graph.Graph.{Graph}
 use Rattle.assignment.specs.declared.graph.Sides.{Sides}
@@ -12,9 +12,9 @@ pub record IsGraph (rows_a rows_b : ℕ) (g : Graph) : Type 0 where
   pub in_range : IsInRange g.edges.items rows_a rows_b
   pub starts : AreStarts g.edges.items rows_a g.starts.items
   pub turned : IsInRange g.turned.items rows_b rows_a
+  pub turned_rising : IsRising g.turned.items
   pub turned_small : AreSmall g.turned.items
-  pub turned_count : vec_len g.turned_starts ≡ rows_b + 1
-  pub turned_starts : IsRising g.turned.items → AreStarts g.turned.items rows_b g.turned_starts.items
+  pub turned_starts : AreStarts g.turned.items rows_b g.turned_starts.items
 
 -- the sides stand over the edges and the turned edges, for so many records
 pub record AreSides (rows_a rows_b : ℕ) (g : Graph) (s : Sides) : Type 0 where

@@ -8,7 +8,7 @@ ghost use Rattle.assignment.specs.Solution.{HasSmallValue};
 
 use crate::side::{Other, Side, first_side, other_if_less, run, run_other};
 use crate::solve::{edges_of, first_prices};
-use assignment_steps::{Board, Edge, starts_of, starts_or_zeros, turned_edges};
+use assignment_steps::{Board, Edge, starts_of, turned_edges};
 use link_base::{Candidate, NoMemory};
 use std::alloc::Global;
 
@@ -43,8 +43,8 @@ pub fn graph_of(
 {
     let edges = edges_of(alloc, candidates)?;
     let starts = starts_of(alloc, &edges, rows_a as usize)?;
-    let turned = turned_edges(alloc, &edges, rows_b as usize)?;
-    let turned_starts = starts_or_zeros(alloc, &turned, rows_b as usize)?;
+    let turned = turned_edges(alloc, &edges)?;
+    let turned_starts = starts_of(alloc, &turned, rows_b as usize)?;
     Ok(Graph {
         edges,
         starts,

@@ -13,9 +13,7 @@ use crate::room::room_for_side;
 use crate::round::search_each;
 use crate::solve::{free_links, zeros};
 use crate::spare::{Spare, take_proposal};
-use assignment_steps::{
-    Board, Edge, Net, adopt_all, are_rising, join_as_turned, link_tight, waiting,
-};
+use assignment_steps::{Board, Edge, Net, adopt_all, join_as_turned, link_tight, waiting};
 use link_base::NoMemory;
 use std::alloc::Global;
 
@@ -226,22 +224,19 @@ fn take_over(
 
 /// Lets the other side search first, if it is there, and takes its prices and links over.
 pub fn run_other(board: Board<'_>, side: &mut Side, other: Option<Other>)
+    requires rising { IsRising board.turned.now }
     requires small { AreSmall board.turned.now }
-    requires starts { IsRising board.turned.now → AreStarts board.turned.now (length side.old.price_b.items) board.turned_starts.now }
+    requires starts { AreStarts board.turned.now (length side.old.price_b.items) board.turned_starts.now }
     requires side { IsSide board.edges.now side.old }
     requires other { MatchOption other (Unit {0}) (IsOther board.turned.now (length side.old.price_a.items) (length side.old.price_b.items)) }
     ensures side { IsSide board.entry.edges.now side.new }
     ensures rows_a { length side.new.price_a.items ≡ length side.old.price_a.items }
     ensures rows_b { length side.new.price_b.items ≡ length side.old.price_b.items }
-    ensures taken { MatchOption other (Unit {0}) (λ _. IsRising board.entry.turned.now → IsTakenOver board.entry side.new) }
+    ensures taken { MatchOption other (Unit {0}) (λ _. IsTakenOver board.entry side.new) }
 {
     let Some(mut other) = other else {
         return;
     };
-    if !are_rising(board.turned) {
-        drop(other);
-        return;
-    }
     let turned = Board {
         edges: board.turned,
         starts: board.turned_starts,

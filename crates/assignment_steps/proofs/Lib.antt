@@ -1,5 +1,5 @@
 pub mod Links
-pub mod Writes
+pub mod OtherSide
 pub mod Taken
 pub mod Joined
 pub mod StartFacts

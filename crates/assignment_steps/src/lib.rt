@@ -23,4 +23,4 @@ pub use other_links::join_as_turned;
 pub use queue::{DistanceQueue, FARTHEST, Near};
 pub use starts::starts_of;
 pub use tight::link_tight;
-pub use turned::{are_rising, starts_or_zeros, turned_edges};
+pub use turned::turned_edges;

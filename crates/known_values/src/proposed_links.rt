@@ -1,6 +1,6 @@
 // Proposals for small lists, which come to no level by themselves.
 use assignment_levels::Levels;
-use assignment_steps::{Board, Edge, Proposal, starts_or_zeros, turned_edges};
+use assignment_steps::{Board, Edge, Proposal, starts_of, turned_edges};
 use std::alloc::Global;
 use std::test::Fail;
 
@@ -61,10 +61,11 @@ fn sum_of(proposal: Proposal<'_>) -> u64 {
 
 // Whether a proposal from nothing, bit by bit, certifies itself.
 fn certifies(alloc: Global, first: u32, most: u32) -> Result<bool, Fail> {
-    let edges = drawn(alloc, first, most)?;
-    let starts = starts_or_zeros(alloc, &edges, ROWS as usize)?;
-    let turned = turned_edges(alloc, &edges, ROWS as usize)?;
-    let turned_starts = starts_or_zeros(alloc, &turned, ROWS as usize)?;
+    let drawn = drawn(alloc, first, most)?;
+    let turned = turned_edges(alloc, &drawn)?;
+    let turned_starts = starts_of(alloc, &turned, ROWS as usize)?;
+    let edges = turned_edges(alloc, &turned)?;
+    let starts = starts_of(alloc, &edges, ROWS as usize)?;
     let board = Board {
         edges: &edges,
         starts: &starts,

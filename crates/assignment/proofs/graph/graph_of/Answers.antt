@@ -1,6 +1,6 @@
 use Rattle.assignment_steps.specs.Market.{AreStarts}
 use Rattle.assignment_steps.specs.Turned.{AreTurned}
-use Rattle.assignment_steps.proofs.Writes.{turned_in_range, turned_small}
+use Rattle.assignment_steps.proofs.OtherSide.{turned_in_range, turned_small}
 use Rattle.assignment.specs.Final.{edges_of}
 use Rattle.assignment.proofs.Final.{range_edges, small_edges, rising_edges}
 use Rattle.assignment.proofs.graph.graph_of.Goals as goal
@@ -8,12 +8,15 @@ use Rattle.assignment.proofs.graph.graph_of.Goals as goal
 pub starts_of-requires-clause-rising : goal.starts_of-requires-clause-rising
 starts_of-requires-clause-rising c = rw (c.deref.ensures.value, c.in_ok-edges.ensures) (rising_edges c.args.candidates.now c.requires.rising)
 
+pub starts_of-requires-2-clause-rising : goal.starts_of-requires-2-clause-rising
+starts_of-requires-2-clause-rising c = rw c.deref-3.ensures.value c.in_ok-turned.ensures.rising
+
 pub returns-clause-graph : goal.returns-clause-graph
 returns-clause-graph c =
     let cs = c.args.candidates.now in
     let made = c.in_ok-edges.ensures in
     let starts : AreStarts (edges_of cs) c.args.rows_a c.in_ok-starts.starts.items = rw (c.deref.ensures.value, made) at c.in_ok-starts.ensures in
-    let turned : AreTurned (edges_of cs) c.in_ok-turned.turned.items = rw (c.deref-2.ensures.value, made) at c.in_ok-turned.ensures in
+    let turned : AreTurned (edges_of cs) c.in_ok-turned.turned.items = rw (c.deref-2.ensures.value, made) at c.in_ok-turned.ensures.turned in
     let range = range_edges cs c.args.rows_a c.args.rows_b c.requires.within in
     record {
       rising = rw made (rising_edges cs c.requires.rising);
@@ -22,6 +25,6 @@ returns-clause-graph c =
       starts = rw made starts;
       turned = turned_in_range (edges_of cs) c.in_ok-turned.turned.items c.args.rows_a c.args.rows_b range turned;
       turned_small = turned_small (edges_of cs) c.in_ok-turned.turned.items (small_edges cs c.requires.small) turned;
-      turned_count = c.in_ok-turned_starts.ensures.count;
-      turned_starts = rw c.deref-3.ensures.value at c.in_ok-turned_starts.ensures.starts;
+      turned_rising = c.in_ok-turned.ensures.rising;
+      turned_starts = rw c.deref-3.ensures.value at c.in_ok-turned_starts.ensures;
     }

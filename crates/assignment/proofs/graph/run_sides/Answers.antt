@@ -1,6 +1,9 @@
 use Rattle.std.proofs.Common.{◌∙◌}
 use Rattle.assignment.proofs.graph.run_sides.Goals as goal
 
+pub run_other-requires-clause-rising : goal.run_other-requires-clause-rising
+run_other-requires-clause-rising c = rw c.deref-3.ensures.value c.requires.graph.turned_rising
+
 pub run_other-requires-clause-small : goal.run_other-requires-clause-small
 run_other-requires-clause-small c = rw c.deref-3.ensures.value c.requires.graph.turned_small
 

@@ -1,21 +1,14 @@
-use Rattle.std.proofs.Common.{◌∙◌, length, refl, ap, sym}
-use Rattle.std.proofs.lemmas.Bool.{false≢true}
+use Rattle.std.proofs.Common.{◌∙◌, length, ap, sym}
 use Rattle.std.proofs.lemmas.List.{with_items_is}
 use Rattle.assignment.proofs.side.run_other.Goals as goal
 
 pub returns-in_default-clause-taken : goal.returns-in_default-clause-taken
 returns-in_default-clause-taken c = rw c.in_default.is tt
 
-pub returns-then-not-are_rising-clause-taken : goal.returns-then-not-are_rising-clause-taken
-returns-then-not-are_rising-clause-taken c = rw c.in-Some.is (λ rising. absurd (false≢true (c.if-not-are_rising.ensures.1 rising)))
-
-pub run-requires-clause-rising : goal.run-requires-clause-rising
-run-requires-clause-rising c = c.if-not-are_rising.ensures.0 refl
-
 pub run-requires-clause-starts : goal.run-requires-clause-starts
 run-requires-clause-starts c =
     let o = rw c.in-Some.is at c.requires.other in
-    rw o.count_b (c.requires.starts (c.if-not-are_rising.ensures.0 refl))
+    rw o.count_b c.requires.starts
 
 pub run-requires-clause-side : goal.run-requires-clause-side
 run-requires-clause-side c = (rw c.in-Some.is at c.requires.other).side
@@ -70,7 +63,7 @@ returns-clause-taken c =
     let b = with_items_is s.price_b t.new.price_b (t.auto.price_b ∙ c.deref_mut-2.ensures.len) in
     let la = with_items_is s.link_a t.new.link_a (t.auto.link_a ∙ c.deref_mut-3.ensures.len) in
     let lb = with_items_is s.link_b t.new.link_b (t.auto.link_b ∙ c.deref_mut-4.ensures.len) in
-    rw c.in-Some.is (λ rising. record {
+    rw c.in-Some.is (record {
       price_a = o.price_b.items;
       price_b = o.price_a.items;
       link_a = o.link_b.items;
