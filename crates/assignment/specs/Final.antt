@@ -1,45 +1,8 @@
 -- Machinery of `new` and `solve`: candidates as edges, and links and prices as they are handed out.
-use Rattle.std.specs.Prelude.{◌≡◌, ℕ, zero, suc, ◌<◌, ◌≤◌, ℤ, pos, negsuc, List, length, Option, Some, None, Bool, true, false, ◌&&◌, ◌==◌, filter_map, map, slice_index_or}
+use Rattle.std.specs.Prelude.{◌≡◌, ℕ, ◌<◌, ◌≤◌, List, length, slice_index_or}
 use Rattle.link_limits.specs.declared.TheConstants.{MOST_VALUE}
-use Rattle.link_base.specs.declared.rule.Candidate.{Candidate}
 use Rattle.assignment_steps.specs.declared.market.Edge.{Edge}
-use Rattle.assignment_steps.specs.Market.{link, edge}
-
--- the natural number above 0 that a value is, if it is one
-abbrev pub positive : ℤ → Option ℕ
-positive (pos zero) = None
-positive (pos (suc n)) = Some (suc n)
-positive (negsuc n) = None
-
--- a candidate as an edge, where its value is positive
-abbrev pub with_value : Candidate → Option ℕ → Option Edge
-with_value c None = None
-with_value c (Some v) = Some (record { a = c.a; b = c.b; value = v })
-
-abbrev pub edge_from : Candidate → Option Edge
-edge_from c = with_value c (positive c.value)
-
--- the candidates with positive values
-abbrev pub edges_of : List Candidate → List Edge
-edges_of cs = filter_map edge_from cs
-
--- the value is positive
-abbrev pub is_positive : ℤ → Bool
-is_positive (pos zero) = false
-is_positive (pos (suc n)) = true
-is_positive (negsuc n) = false
-
--- the candidate is the one that its record of A is linked by
-abbrev pub links_to : List Edge → Candidate → Option ℕ → Bool
-links_to es c None = false
-links_to es c (Some k) = is_positive c.value && ((edge es k).b == c.b)
-
-abbrev pub is_linked : List Edge → List (Option ℕ) → Candidate → Bool
-is_linked es la c = links_to es c (link la c.a)
-
--- prices as integers
-abbrev pub prices_of : List ℕ → List ℤ
-prices_of ps = map pos ps
+use Rattle.assignment_steps.specs.Market.{edge}
 
 -- prices that reach each edge's value at its record of A alone
 pub record ReachAll (es : List Edge) (rows_a : ℕ) (pa : List ℕ) : Type 0 where

@@ -5,7 +5,7 @@ use Rattle.link_base.specs.declared.rule.Candidate.{Candidate}
 use Rattle.price_check.specs.Assignment.{IsBefore, greatest_value}
 use Rattle.price_check.specs.PartNumbers.{ArePartNumbers}
 use Rattle.assignment.specs.declared.assigner.Assigner.TheInside.{Inside}
-use Rattle.assignment.specs.Final.{edges_of}
+use Rattle.assignment_steps.specs.Candidates.{edges_of}
 use Rattle.assignment.specs.Graph.{AreSides, IsGraph}
 
 -- all is ready for the first step

@@ -6,7 +6,7 @@ ghost use Rattle.assignment.specs.Solution.{HasSmallValue};
 
 use crate::graph::{Graph, Sides, first_sides, graph_of, run_sides};
 use crate::side::Side;
-use crate::solve::linked;
+use assignment_steps::linked;
 use link_base::{Candidate, NoMemory};
 use link_limits::MOST_PAIRS;
 use price_check::{PartNumbers, certified_is_greatest, part_numbers};
@@ -45,7 +45,7 @@ pub struct Assignment {
 }
 
 impl Model for Assignment {
-    ghost use Rattle.assignment.specs.Final.{prices_of};
+    ghost use Rattle.assignment_steps.specs.Candidates.{prices_of};
     ghost use Rattle.assignment.specs.Prepared.{AreBounded};
     ghost use Rattle.assignment.specs.Solution.{Solution};
 

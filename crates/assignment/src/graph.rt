@@ -2,13 +2,13 @@
 ghost use Rattle.std.specs.Prelude.{◌≡◌, All, AllPairs, IfOk, length};
 ghost use Rattle.price_check.specs.Assignment.{IsBefore, IsWithin};
 ghost use Rattle.assignment_steps.specs.Between.{IsBetween};
-ghost use Rattle.assignment.specs.Final.{edges_of};
+ghost use Rattle.assignment_steps.specs.Candidates.{edges_of};
 ghost use Rattle.assignment.specs.Graph.{AreSides, IsGraph};
 ghost use Rattle.assignment.specs.Solution.{HasSmallValue};
 
 use crate::side::{Other, Side, first_side, other_if_less, run, run_other};
-use crate::solve::{edges_of, first_prices};
-use assignment_steps::{Board, Edge, starts_of, turned_edges};
+use crate::solve::first_prices;
+use assignment_steps::{Board, Edge, edges_of, starts_of, turned_edges};
 use link_base::{Candidate, NoMemory};
 use std::alloc::Global;
 

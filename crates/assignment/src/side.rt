@@ -1,5 +1,5 @@
 // Prices, links and room of the side that searches.
-ghost use Rattle.std.specs.Prelude.{◌≡◌, ◌*◌, ◌/◌, ◌<◌, ◌≤◌, ◌^◌, ℕ, IfOk, MatchOption, None, is_some, length, nat_lt};
+ghost use Rattle.std.specs.Prelude.{◌≡◌, ◌*◌, ◌/◌, ◌<◌, ◌≤◌, ℕ, IfOk, MatchOption, None, is_some, length, nat_lt};
 ghost use Rattle.std.specs.List.{sum};
 ghost use Rattle.assignment_steps.specs.Market.{link, AreSmall, AreStarts, IsInRange, IsRising};
 ghost use Rattle.assignment_steps.specs.Between.{IsBetween};
@@ -11,9 +11,9 @@ ghost use Rattle.assignment.specs.Sides.{IsOther, IsSide, IsTakenOver};
 use crate::market::Tree;
 use crate::room::room_for_side;
 use crate::round::search_each;
-use crate::solve::{free_links, zeros};
+use crate::solve::free_links;
 use crate::spare::{Spare, take_proposal};
-use assignment_steps::{Board, Edge, Net, adopt_all, join_as_turned, link_tight, waiting};
+use assignment_steps::{Board, Edge, Net, adopt_all, join_as_turned, link_tight, waiting, zeros};
 use link_base::NoMemory;
 use std::alloc::Global;
 

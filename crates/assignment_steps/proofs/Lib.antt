@@ -4,3 +4,8 @@ pub mod Taken
 pub mod Joined
 pub mod StartFacts
 pub mod Members
+pub mod OneWrite
+pub mod Shifts
+pub mod Count
+pub mod Leading
+pub mod EdgesOf

@@ -1,8 +1,21 @@
 -- What turning one link round does to a matching.
-use Rattle.std.proofs.Common.{◌≡◌, ◌≢◌, ◌⊎◌, ℕ, ◌<◌, List, length, set, Option, Some, None, ap, sym, ◌∙◌, inl, inr, get_or-set_other, get_or-set_same}
-use Rattle.std.proofs.lemmas.Bool.{cases_eq}
+use Rattle.std.proofs.Common.{◌≡◌, ◌≢◌, ◌⊎◌, ℕ, ◌<◌, List, length, set, Option, Some, None, refl, ap, sym, ◌∙◌, inl, inr, get_or-set_other, get_or-set_same}
+use Rattle.std.proofs.lemmas.Bool.{cases_eq, cases_lt}
+use Rattle.std.proofs.lemmas.List.{get_or_past}
 use Rattle.assignment_steps.specs.declared.market.Edge.{Edge}
 use Rattle.assignment_steps.specs.Market.{IsMatched, link, edge}
+
+-- a link, or none
+pub link_cases : (l : List (Option ℕ)) (r : ℕ) → (link l r ≡ None) ⊎ ((k : ℕ) × (link l r ≡ Some k))
+link_cases l r = go (link l r) refl
+  where
+    go : (x : Option ℕ) → link l r ≡ x → (link l r ≡ None) ⊎ ((k : ℕ) × (link l r ≡ Some k))
+    go None e = inl e
+    go (Some k) e = inr (k, e)
+
+-- a record with a link is there
+pub link_there : (l : List (Option ℕ)) (r k : ℕ) → link l r ≡ Some k → r < length l
+link_there l r k on = elim (cases_lt r (length l)) [ inl lt ↦ lt | inr past ↦ absurd (let none = get_or_past l r None past in cc) ]
 
 -- the links after one write
 pub link-set : (l : List (Option ℕ)) (i j : ℕ) (x : Option ℕ) → i < length l → ((j ≡ i) × (link (set l i x) j ≡ x)) ⊎ ((j ≢ i) × (link (set l i x) j ≡ link l j))

@@ -5,3 +5,7 @@ pub mod Market
 pub mod Turned
 pub mod Entries
 pub mod Queue
+pub mod Candidates
+pub mod Distances
+pub mod Relaxed
+pub mod Ways

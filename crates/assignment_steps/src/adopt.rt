@@ -1,5 +1,5 @@
 // Prices and links that are proposed: taken over where they serve.
-ghost use Rattle.std.specs.Prelude.{◌≡◌, ◌<◌, ◌≤◌, ◌↔◌, ℕ, length, slice_index, None, Some, IsTrue};
+ghost use Rattle.std.specs.Prelude.{◌≡◌, ◌<◌, ◌≤◌, ◌↔◌, ℕ, length, None, Some, IsTrue};
 ghost use Rattle.link_limits.specs.declared.TheConstants.{MOST_VALUE};
 ghost use Rattle.assignment_steps.specs.Market.{link, number, AreCovered, AreTight, IsInRange, IsMatched, IsTight};
 ghost use Rattle.assignment_steps.specs.Between.{IsBetween};

@@ -1,5 +1,7 @@
 //! Records by distance, the nearest first, in memory that is taken beforehand.
 //!
+//! Candidates as edges, from both sides, and prices that are changed by distances.
+//!
 //! Steps between prices and links of an assignment: between any two of them prices cover every candidate,
 //! links are tight, and a record of B without a link has no price (primal-dual method: Kuhn 1955).
 //!
@@ -8,19 +10,25 @@
 #![tactic(auto)]
 
 mod adopt;
+mod candidates;
 mod left;
 mod market;
 mod other_links;
 mod queue;
+mod room;
+mod shift;
 mod starts;
 mod tight;
 mod turned;
 
 pub use adopt::{adopt_all, adopt_proposal};
+pub use candidates::{edges_of, linked};
 pub use left::waiting;
-pub use market::{Board, Edge, Net, Proposal};
+pub use market::{Board, Edge, Net, Proposal, Ways};
 pub use other_links::join_as_turned;
 pub use queue::{DistanceQueue, FARTHEST, Near};
+pub use room::{Distances, no_distances, no_links, zeros};
+pub use shift::{lower, raise, raise_to};
 pub use starts::starts_of;
 pub use tight::link_tight;
 pub use turned::turned_edges;

@@ -16,6 +16,14 @@ pub struct Net<'a> {
     pub price_b: &'a [u64],
 }
 
+/// Ways to a root: the edge by which each record of B was reached, and when each record of A was.
+#[derive(Clone, Copy)]
+pub struct Ways<'a> {
+    pub root: usize,
+    pub from: &'a [usize],
+    pub rank: &'a [usize],
+}
+
 /// The edges by their records of A, and turned by their records of B, as the other side sees them: there
 /// `a` is a record of B. With each the places where a record's edges begin.
 #[derive(Clone, Copy)]

@@ -1,5 +1,5 @@
 // Where the edges of a record begin.
-ghost use Rattle.std.specs.Prelude.{◌^◌, ◌≡◌, ◌+◌, ◌<◌, ◌≤◌, ℕ, length, slice_index, vec_len, IfOk};
+ghost use Rattle.std.specs.Prelude.{◌^◌, ◌+◌, ◌<◌, ◌≤◌, ℕ, length, IfOk};
 ghost use Rattle.assignment_steps.specs.Market.{edge, IsRising, AreStarts, IsStart};
 
 use crate::market::Edge;

@@ -1,16 +1,16 @@
 -- A link over a tight edge, whose record of A has no link and whose record of B a place left.
-use Rattle.std.proofs.Common.{◌≡◌, ◌==◌, ℕ, ◌+◌, ◌<◌, List, length, set, Option, Some, None, false, refl, sym, ◌∙◌, arith, inl, inr, get_or-set_other}
-use Rattle.std.specs.Option.{is_some}
-use Rattle.std.proofs.lemmas.Bool.{cases_eq, false≢true}
+use Rattle.std.proofs.Common.{◌≡◌, ◌==◌, ℕ, ◌+◌, ◌<◌, List, length, set, Option, Some, None, refl, sym, ◌∙◌, arith, inl, inr, get_or-set_other}
+use Rattle.std.proofs.lemmas.Bool.{cases_eq}
 use Rattle.std.proofs.lemmas.List.{length-set}
 use Rattle.price_check.proofs.PlaceFacts.{place_there}
-use Rattle.capacity_assign.specs.declared.market.Edge.{Edge}
-use Rattle.capacity_assign.specs.Core.{IsTight, edge, link, linked_at, number}
+use Rattle.assignment_steps.specs.declared.market.Edge.{Edge}
+use Rattle.assignment_steps.specs.Market.{IsTight, edge, link, number}
+use Rattle.capacity_assign.specs.Core.{linked_at}
 use Rattle.capacity_assign.specs.Round.{AreSettled, IsBetween, IsSettled, KeepsPlaces}
 use Rattle.capacity_assign.specs.Seating.{AddsSeat, Seating, free_rows}
-use Rattle.capacity_assign.proofs.Links.{free_row_counts, free_rows-set, link-set, linked_at-set, linked_set, tick}
+use Rattle.capacity_assign.proofs.Links.{free_row_counts, free_rows-set, linked_at-set, linked_set, tick}
 use Rattle.capacity_assign.proofs.Seating.{places_after_added, all_taken, seats_after_added, vacant_after_added}
-use Rattle.capacity_assign.proofs.Ways.{tight_turned}
+use Rattle.assignment_steps.proofs.Taken.{tight_joined}
 
 module _ (es : List Edge) (pa pb : List ℕ) (la : List (Option ℕ)) (s t : Seating) (k : ℕ) (w : IsBetween es pa pb la s 0) (lt : k < length es) (none : link la (edge es k).a ≡ None) (some : 0 < number s.left (edge es k).b) (adds : AddsSeat s t (edge es k).b) where
   abbrev a : ℕ
@@ -38,21 +38,13 @@ module _ (es : List Edge) (pa pb : List ℕ) (la : List (Option ℕ)) (s t : Sea
         small_a = w.small_a;
         small_b = w.small_b;
         linked = linked_set es la k w.linked lt ra;
-        tight = tight_turned es pa pb la k ra w.tight tight;
+        tight = tight_joined es pa pb la k ra w.tight tight;
         seated = seats_after_added es la (set la a (Some k)) s t (edge es k).b (set t.seat a s.count) (set t.row s.count a) w.seated adds (place_there s.left (edge es k).b some) rooms (length-set la a (Some k)) fewer (length-set t.seat a s.count) (length-set t.row s.count a)
             (λ h. all_taken es la t.seat t.row t.owner t.count (edge es k).b s.count k h refl ra (rw adds.seat w.seated.seats) (rw adds.row count) none);
         free_a = λ r low free. absurd (omega arith);
         free_b = λ b left. w.free_b b (vacant_after_added s.left (edge es k).b some b (rw adds.left at left));
         closed = λ b j full ltj ends. w.closed b j (sym (places_linked b) ∙ full) ltj ends;
       }
-
-pub not_linked : (x : Option ℕ) → is_some x ≡ false → x ≡ None
-not_linked None h = refl
-not_linked (Some k) h = absurd (false≢true (sym h))
-
--- a record without a link after one write of a link had none before
-pub none_before : (l : List (Option ℕ)) (i r k : ℕ) → i < length l → link (set l i (Some k)) r ≡ None → link l r ≡ None
-none_before l i r k lt none = elim (link-set l i r (Some k) lt) [ inl p ↦ absurd (let clash : Some k ≡ None = sym p.1 ∙ none in cc) | inr p ↦ sym p.1 ∙ none ]
 
 -- where no place is left, none is after a place was taken elsewhere
 pub still_none : (left : List ℕ) (b x v : ℕ) → 0 < number left b → number left x ≡ 0 → number (set left b v) x ≡ 0

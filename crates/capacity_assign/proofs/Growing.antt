@@ -8,12 +8,14 @@ use Rattle.assignment_steps.specs.Queue.{Queue}
 use Rattle.assignment_steps.specs.declared.queue.Near.{Near}
 use Rattle.assignment_steps.proofs.Members.{Contains-cons_cases}
 use Rattle.price_check.proofs.Members.{Contains-later}
-use Rattle.capacity_assign.proofs.Links.{link_there}
+use Rattle.assignment_steps.proofs.Links.{link_there}
 use Rattle.capacity_assign.specs.declared.market.Ground.{Ground}
 use Rattle.capacity_assign.specs.declared.market.Tree.{Tree}
-use Rattle.capacity_assign.specs.Core.{link, number}
+use Rattle.assignment_steps.specs.Market.{link, number}
 use Rattle.capacity_assign.specs.Seating.{IsLastSeat}
-use Rattle.capacity_assign.specs.Growth.{Growth, HasRoomForRecords, IsGrown, IsTree, IsReady, IsRelaxed, IsReached, IsSettled, ShortensDistance, Joins, Notes, Waits, IsNearest, with_waiting, distance, far, edge_of, paid, places_left, rank_above}
+use Rattle.capacity_assign.specs.Growth.{Growth, HasRoomForRecords, IsGrown, IsTree, IsReady, IsRelaxed, IsReached, IsSettled, ShortensDistance, Joins, Notes, Waits, IsNearest, with_waiting, edge_of, paid, places_left, rank_above}
+use Rattle.assignment_steps.specs.Distances.{distance, far}
+use Rattle.assignment_steps.proofs.OneWrite.{distance-set}
 
 -- an edge that is of no use is relaxed as it is
 pub tree_passed : (f : Ground) (k : ℕ) (g : Growth) → IsTree f (edge_of f k).a k g → IsRelaxed f g k → IsTree f (edge_of f k).a (k + 1) g
@@ -37,10 +39,6 @@ tree_passed f k g t here = record {
   noted_a = t.noted_a;
   noted_b = t.noted_b;
 }
-
--- a distance after one write
-pub distance-set : (xs : List ℕ) (i j x : ℕ) → i < length xs → ((j ≡ i) × (distance (set xs i x) j ≡ x)) ⊎ ((j ≢ i) × (distance (set xs i x) j ≡ distance xs j))
-distance-set xs i j x lt = elim (cases_eq j i) [ inl e ↦ inl (e, rw e (get_or-set_same xs i x far lt)) | inr n ↦ inr (n, get_or-set_other xs i j x far n) ]
 
 -- A record of B that the tree reaches over an edge of its newest record is not settled where it was farther than that.
 unsettled : (f : Ground) (k j : ℕ) (g : Growth) (reach position next : ℕ) → IsTree f position next g → reach < distance g.db (edge_of f k).b → g.current ≤ reach → reach < far → link f.link_a.now (edge_of f j).a ≡ Some j → distance g.da (edge_of f j).a < far → (edge_of f j).b ≢ (edge_of f k).b

@@ -2,8 +2,6 @@ pub mod Links
 pub mod Seating
 pub mod Ways
 pub mod FirstLinks
-pub mod Count
 pub mod Growing
-pub mod Shifts
 pub mod Rounds
 pub mod Final

@@ -1,29 +1,14 @@
 -- What one write of a link does to the links, and to how many there are.
-use Rattle.std.proofs.Common.{◌≡◌, ◌≢◌, ◌⊎◌, ◌==◌, ℕ, zero, suc, ◌+◌, ◌<◌, List, [], ◌∷◌, length, set, Bool, false, cond, Option, Some, None, refl, sym, ◌∙◌, inl, inr, arith, get_or-set_other, get_or-set_same}
+use Rattle.std.proofs.Common.{◌≡◌, ◌==◌, ℕ, zero, suc, ◌+◌, ◌<◌, List, [], ◌∷◌, length, set, Bool, false, cond, Option, Some, None, refl, sym, ◌∙◌, inl, inr, arith}
 use Rattle.std.specs.Prelude.{is_none}
-use Rattle.std.proofs.lemmas.Bool.{cases_eq, cases_lt}
+use Rattle.std.proofs.lemmas.Bool.{cases_eq}
 use Rattle.std.proofs.lemmas.Bool.Decides.{nat_tests}
-use Rattle.std.proofs.lemmas.List.{get_or_past}
 use Rattle.std.proofs.lemmas.List.Sums.{sum_by-cons, sum_by-set}
-use Rattle.capacity_assign.specs.declared.market.Edge.{Edge}
-use Rattle.capacity_assign.specs.Core.{AreLinked, edge, leads_to, link, linked_at}
+use Rattle.assignment_steps.specs.declared.market.Edge.{Edge}
+use Rattle.capacity_assign.specs.Core.{AreLinked, leads_to, linked_at}
+use Rattle.assignment_steps.specs.Market.{edge, link}
 use Rattle.capacity_assign.specs.Seating.{free_rows}
-
--- a link, or none
-pub link_cases : (l : List (Option ℕ)) (r : ℕ) → (link l r ≡ None) ⊎ ((k : ℕ) × (link l r ≡ Some k))
-link_cases l r = go (link l r) refl
-  where
-    go : (x : Option ℕ) → link l r ≡ x → (link l r ≡ None) ⊎ ((k : ℕ) × (link l r ≡ Some k))
-    go None e = inl e
-    go (Some k) e = inr (k, e)
-
--- a record with a link is there
-pub link_there : (l : List (Option ℕ)) (r k : ℕ) → link l r ≡ Some k → r < length l
-link_there l r k on = elim (cases_lt r (length l)) [ inl lt ↦ lt | inr past ↦ absurd (let none = get_or_past l r None past in cc) ]
-
--- the links after one write
-pub link-set : (l : List (Option ℕ)) (i j : ℕ) (x : Option ℕ) → i < length l → ((j ≡ i) × (link (set l i x) j ≡ x)) ⊎ ((j ≢ i) × (link (set l i x) j ≡ link l j))
-link-set l i j x lt = elim (cases_eq j i) [ inl e ↦ inl (e, rw e (get_or-set_same l i x None lt)) | inr n ↦ inr (n, get_or-set_other l i j x None n) ]
+use Rattle.assignment_steps.proofs.Links.{link-set}
 
 -- the record of A of edge k takes it
 pub linked_set : (es : List Edge) (la : List (Option ℕ)) (k : ℕ) → AreLinked es la → k < length es → (edge es k).a < length la → AreLinked es (set la (edge es k).a (Some k))

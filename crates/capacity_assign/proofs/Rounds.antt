@@ -4,11 +4,14 @@ use Rattle.std.specs.Prelude.{IsNone}
 use Rattle.std.proofs.lemmas.Bool.{cases_lt}
 use Rattle.std.proofs.lemmas.List.{get_or_past}
 use Rattle.link_limits.specs.declared.TheConstants.{MOST_VALUE}
-use Rattle.capacity_assign.specs.declared.market.Edge.{Edge}
+use Rattle.assignment_steps.specs.declared.market.Edge.{Edge}
 use Rattle.capacity_assign.specs.declared.market.Ground.{Ground}
-use Rattle.capacity_assign.specs.Core.{AreLinked, AreTight, IsHop, Leads, link, linked_at, number}
-use Rattle.capacity_assign.specs.Growth.{Growth, IsGrown, IsReady, IsWhole, IsSettled, distance, edge_of, far, places_left, rank_above}
-use Rattle.capacity_assign.specs.Round.{AreSmall, IsBetween, KeepsPlaces}
+use Rattle.capacity_assign.specs.Core.{AreLinked, linked_at}
+use Rattle.assignment_steps.specs.Market.{AreTight, link, number, AreSmall}
+use Rattle.assignment_steps.specs.Ways.{IsHop, Leads}
+use Rattle.capacity_assign.specs.Growth.{Growth, IsGrown, IsReady, IsWhole, IsSettled, edge_of, places_left, rank_above}
+use Rattle.assignment_steps.specs.Distances.{distance, far}
+use Rattle.capacity_assign.specs.Round.{IsBetween, KeepsPlaces}
 use Rattle.capacity_assign.specs.Seating.{AreSeats, Seating, seating}
 use Rattle.capacity_assign.proofs.Links.{counted_link}
 

@@ -3,12 +3,14 @@ use Rattle.std.proofs.Common.{◌≡◌, ◌≢◌, ◌==◌, ℕ, ◌+◌, ◌-
 use Rattle.std.proofs.lemmas.Bool.{cases_eq, cases_lt}
 use Rattle.std.proofs.lemmas.Bool.Decides.{nat_tests}
 use Rattle.std.proofs.lemmas.List.{length-set}
-use Rattle.capacity_assign.specs.declared.market.Edge.{Edge}
+use Rattle.assignment_steps.specs.declared.market.Edge.{Edge}
 use Rattle.price_check.proofs.PlaceFacts.{place_there}
-use Rattle.capacity_assign.specs.Core.{edge, link, linked_at, number}
+use Rattle.assignment_steps.specs.Market.{edge, link, number}
+use Rattle.capacity_assign.specs.Core.{linked_at}
 use Rattle.capacity_assign.specs.Round.{KeepsPlaces}
 use Rattle.capacity_assign.specs.Seating.{AddsSeat, AreAllSeated, AreSeated, AreSeats, IsFilled, HangTogether, HasHole, IsLastSeat, Seating, free_rows}
-use Rattle.capacity_assign.proofs.Links.{free_rows-set, link-set, link_there, linked_at-set, tick}
+use Rattle.capacity_assign.proofs.Links.{free_rows-set, linked_at-set, tick}
+use Rattle.assignment_steps.proofs.Links.{link-set, link_there}
 
 -- the record of A of edge k takes the seat that is nobody's
 pub seat_taken : (es : List Edge) (la : List (Option ℕ)) (seat row owner : List ℕ) (count b free k : ℕ) → HasHole es la seat row owner count b free → (edge es k).b ≡ b → (edge es k).a < length la → length seat ≡ length la → free < length row → AreSeated es (set la (edge es k).a (Some k)) (set seat (edge es k).a free) (set row free (edge es k).a) owner count

@@ -1,50 +1,17 @@
 -- Ways to a root, and what turning one link round leaves of them.
-use Rattle.std.proofs.Common.{◌≡◌, ◌≢◌, ◌⊎◌, ℕ, zero, suc, ◌==◌, ◌+◌, ◌<◌, cond, List, length, set, Option, Some, None, MatchOption, refl, ap, sym, ◌∙◌, inl, inr, arith, get_or-set_other, get_or-set_same}
+use Rattle.std.proofs.Common.{◌≡◌, ◌⊎◌, ℕ, ◌==◌, ◌+◌, ◌<◌, cond, List, length, set, Option, Some, None, MatchOption, refl, sym, ◌∙◌, inl, inr, arith, get_or-set_other, get_or-set_same}
 use Rattle.std.proofs.lemmas.List.{length-set}
-use Rattle.capacity_assign.specs.declared.market.Edge.{Edge}
+use Rattle.assignment_steps.specs.declared.market.Edge.{Edge}
 use Rattle.capacity_assign.specs.declared.market.Hole.{Hole}
-use Rattle.capacity_assign.specs.Core.{AreLinked, IsHop, AreTight, IsTight, link, edge, above, number, Leads, Reseats, linked_at}
+use Rattle.capacity_assign.specs.Core.{AreLinked, Reseats, linked_at}
+use Rattle.assignment_steps.specs.Ways.{IsHop, above, Leads}
+use Rattle.assignment_steps.specs.Market.{AreTight, link, edge, number}
 use Rattle.capacity_assign.specs.Seating.{AreAllSeated, HasHole, free_rows}
-use Rattle.capacity_assign.proofs.Links.{link-set, linked_set, linked_at-set, free_rows-set}
+use Rattle.assignment_steps.proofs.Links.{link-set}
+use Rattle.capacity_assign.proofs.Links.{linked_set, linked_at-set, free_rows-set}
 use Rattle.capacity_assign.proofs.Seating.{all_taken, seat_left}
-
--- a way that stands below a record is not touched by a change of that record's link
-pub leads_below : (es : List Edge) (pa pb : List ℕ) (la : List (Option ℕ)) (from rank : List ℕ) (root : ℕ) (a : ℕ) (x : Option ℕ) (n b : ℕ) → number rank (above es from b) < number rank a → Leads es pa pb la from rank root n b → Leads es pa pb (set la a x) from rank root n b
-leads_below es pa pb la from rank root a x zero b low h = h
-leads_below es pa pb la from rank root a x (suc n) b low h =
-    let other : above es from b ≢ a = λ e. (let same : number rank (above es from b) ≡ number rank a = ap (number rank) e in omega (arith, same)) in
-    let keeps = get_or-set_other la a (above es from b) x None other in (
-      h.0,
-      elim h.1 [
-        | inl p ↦ inl (p.0, keeps ∙ p.1)
-        | inr p ↦ inr (p.0, (keeps ∙ p.1.0, p.1.1, leads_below es pa pb la from rank root a x n (edge es p.0).b (omega (arith, p.1.1)) p.1.2))
-      ],
-    )
-
--- what is tight stays so where a record takes a tight edge
-pub tight_turned : (es : List Edge) (pa pb : List ℕ) (la : List (Option ℕ)) (k : ℕ) → (edge es k).a < length la → AreTight es pa pb la → IsTight es pa pb k → AreTight es pa pb (set la (edge es k).a (Some k))
-tight_turned es pa pb la k ra tight here i h =
-    elim (link-set la (edge es k).a (edge es i).a (Some k) ra) [
-      | inl p ↦ (let same : k ≡ i = cc in rw (← same) here)
-      | inr p ↦ tight i (sym p.1 ∙ h)
-    ]
-
-pub reached_by : (es : List Edge) (pa pb : List ℕ) (la : List (Option ℕ)) (from rank : List ℕ) (root n b : ℕ) → Leads es pa pb la from rank root n b → IsHop es pa pb from b
-reached_by es pa pb la from rank root zero b h = absurd h
-reached_by es pa pb la from rank root (suc n) b h = h.0
-
--- a way whose first record of A is linked goes on from the record of B of that link
-pub goes_on : (es : List Edge) (pa pb : List ℕ) (la : List (Option ℕ)) (from rank : List ℕ) (root n b j : ℕ) → link la (above es from b) ≡ Some j → Leads es pa pb la from rank root n b → (number rank (above es from (edge es j).b) < number rank (above es from b)) × ((m : ℕ) × Leads es pa pb la from rank root m (edge es j).b)
-goes_on es pa pb la from rank root zero b j on h = absurd h
-goes_on es pa pb la from rank root (suc n) b j on h = elim h.1 [
-  | inl p ↦ cc
-  | inr p ↦ (let same : p.0 ≡ j = cc in rw (← same) (p.1.1, (n, p.1.2)))
-]
-
--- a way whose first record of A is not linked ends there, at the root
-pub ends_at : (es : List Edge) (pa pb : List ℕ) (la : List (Option ℕ)) (from rank : List ℕ) (root n b : ℕ) → link la (above es from b) ≡ None → Leads es pa pb la from rank root n b → above es from b ≡ root
-ends_at es pa pb la from rank root zero b none h = absurd h
-ends_at es pa pb la from rank root (suc n) b none h = elim h.1 [ inl p ↦ p.0 | inr p ↦ cc ]
+use Rattle.assignment_steps.proofs.Leading.{leads_below, reached_by, goes_on, ends_at}
+use Rattle.assignment_steps.proofs.Taken.{tight_joined}
 
 -- a place that is missing at a record of B
 abbrev pub one_at : ℕ → ℕ → ℕ
@@ -93,7 +60,7 @@ module _ (es : List Edge) (pa pb : List ℕ) (from rank : List ℕ) (root : ℕ)
         rows = rw (length-set, length-set) w.rows;
         seats = rw length-set w.seats;
         linked = linked_set es la k w.linked hop.place ra;
-        tight = tight_turned es pa pb la k ra w.tight hop.tight;
+        tight = tight_joined es pa pb la k ra w.tight hop.tight;
         within = within_set;
         there = rw length-set (w.within (edge es k).a j linked);
         leads = (on.1.0, leads_below es pa pb la from rank root (edge es k).a (Some k) on.1.0 (edge es j).b on.0 on.1.1);
@@ -120,7 +87,7 @@ module _ (es : List Edge) (pa pb : List ℕ) (from rank : List ℕ) (root : ℕ)
   linked_ended = linked_set es la k w.linked hop.place ra
 
   pub tight_ended : AreTight es pa pb (set la (edge es k).a (Some k))
-  tight_ended = tight_turned es pa pb la k ra w.tight hop.tight
+  tight_ended = tight_joined es pa pb la k ra w.tight hop.tight
 
   pub root_ended : link la (edge es k).a ≡ None → link (set la (edge es k).a (Some k)) root ≡ None → ⊥
   root_ended none h =

@@ -1,23 +1,17 @@
 -- Machinery of `search` in `grow`: an alternating tree as it grows from a record of A without a link, over
 -- candidates with positive values as edges (Edmonds and Karp 1972).
-use Rattle.std.specs.Prelude.{◌≡◌, ◌⊎◌, ℕ, suc, ◌+◌, ◌<◌, ◌≤◌, Bool, ◌||◌, ◌&&◌, nat_le, if◌then◌else◌, List, [], ◌∷◌, ◌++◌, length, slice_index_or, slice_set, Option, Some, None, MatchOption, Contains, All, count_by, vec_len, vec_capacity, ◌==◌}
+use Rattle.std.specs.Prelude.{◌≡◌, ◌⊎◌, ℕ, ◌+◌, ◌<◌, ◌≤◌, List, [], ◌∷◌, ◌++◌, length, slice_set, Option, Some, None, MatchOption, Contains, All, vec_len, vec_capacity}
 use Rattle.std.proofs.Common.{min}
 use Rattle.link_limits.specs.declared.TheConstants.{MOST_VALUE}
-use Rattle.capacity_assign.specs.declared.market.TheConstants.{FAR}
-use Rattle.capacity_assign.specs.declared.market.Edge.{Edge}
-use Rattle.capacity_assign.specs.declared.solve.Distances.{Distances}
+use Rattle.assignment_steps.specs.declared.market.Edge.{Edge}
 use Rattle.capacity_assign.specs.declared.market.Tree.{Tree}
 use Rattle.capacity_assign.specs.declared.market.Ground.{Ground}
 use Rattle.assignment_steps.specs.declared.queue.Near.{Near}
-use Rattle.capacity_assign.specs.Core.{link, edge, number, AreLinked, IsInRange}
+use Rattle.assignment_steps.specs.Market.{link, edge, number, IsInRange, AreStarts}
+use Rattle.capacity_assign.specs.Core.{AreLinked}
 use Rattle.capacity_assign.specs.Seating.{AreSeats, seating}
-
--- a distance, far where there is none
-abbrev pub far : ℕ
-far = FAR
-
-abbrev pub distance : List ℕ → ℕ → ℕ
-distance xs position = slice_index_or xs position far
+use Rattle.assignment_steps.specs.Distances.{distance, far, unreached}
+use Rattle.assignment_steps.specs.Relaxed.{left}
 
 -- the lists and numbers of a tree
 pub record Growth : Type 0 where
@@ -55,13 +49,6 @@ edge_of f k = edge f.edges.now k
 abbrev pub paid : Ground → ℕ → ℕ
 paid f k = number f.price_a.now (edge_of f k).a + number f.price_b.now (edge_of f k).b
 
--- for each record of A the place from which on its edges stand
-pub record AreFirsts (es : List Edge) (first : List ℕ) (rows_a : ℕ) : Type 0 where
-  pub count : length first ≡ rows_a
-  pub within : (a : ℕ) → a < rows_a → number first a ≤ length es
-  pub below : (a k : ℕ) → a < rows_a → k < number first a → (edge es k).a < a
-  pub above : (a k : ℕ) → a < rows_a → number first a ≤ k → k < length es → a ≤ (edge es k).a
-
 -- what a tree may be grown over: prices that cover each edge, none of them large, and links that agree
 pub record IsReady (f : Ground) : Type 0 where
   pub rows_a : length f.link_a.now ≡ length f.price_a.now
@@ -69,7 +56,7 @@ pub record IsReady (f : Ground) : Type 0 where
   pub lasts : vec_len f.seats.now.last ≡ length f.price_b.now
   pub seats : vec_len f.seats.now.row ≡ length f.price_a.now
   pub earliers : vec_len f.seats.now.earlier ≡ length f.price_a.now
-  pub firsts : AreFirsts f.edges.now f.first.now (length f.price_a.now)
+  pub starts : AreStarts f.edges.now (length f.price_a.now) f.starts.now
   pub root_in : f.root < length f.price_a.now
   pub root_free : link f.link_a.now f.root ≡ None
   pub in_range : IsInRange f.edges.now (length f.price_a.now) (length f.price_b.now)
@@ -173,10 +160,6 @@ pub record Joins (f : Ground) (old new : Growth) (position dist : ℕ) : Type 0 
   pub best : new.best ≡ min old.best (dist + number f.price_a.now position)
   pub best_record : ((new.best ≡ old.best) × (new.best_record ≡ old.best_record)) ⊎ ((new.best ≡ dist + number f.price_a.now position) × (new.best_record ≡ position))
 
--- how many records of B are not reached yet
-abbrev pub unreached : List ℕ → ℕ
-unreached db = count_by (λ d. d == far) db
-
 -- room for each record that may still come
 pub record HasRoomForRecords (rows_a rows_b : ℕ) (t : Tree) : Type 0 where
   pub of_a : vec_len t.dist_a ≡ rows_a
@@ -211,23 +194,6 @@ pub record Improves (old new : Tree) (position end : ℕ) : Type 0 where
   pub best : new.best ≡ min old.best end
   pub best_record : ((new.best ≡ old.best) × (new.best_record ≡ old.best_record)) ⊎ ((new.best ≡ end) × (new.best_record ≡ position))
 
--- the edges stand by their records of A
-abbrev pub IsRising : List Edge → Type 0
-IsRising es = (i j : ℕ) → i ≤ j → j < length es → (edge es i).a ≤ (edge es j).a
-
--- how many edges pass a test of the edge and its place
-abbrev pub count_at : (Edge → ℕ → Bool) → List Edge → ℕ → ℕ
-count_at t [] i = 0
-count_at t (e ∷ es) i = (if t e i then 1 else 0) + count_at t es (suc i)
-
--- an edge at place i is not relaxed yet
-abbrev pub is_left : List ℕ → ℕ → ℕ → Edge → ℕ → Bool
-is_left da position next e i = (distance da e.a == far) || ((e.a == position) && nat_le next i)
-
--- how many edges are not relaxed yet, those of `position` from place `next` on among them
-abbrev pub left : List Edge → List ℕ → ℕ → ℕ → ℕ
-left es da position next = count_at (is_left da position next) es 0
-
 -- the work that is left: entries that wait, and edges that are not relaxed
 abbrev pub work : List Edge → ℕ → ℕ → Tree → ℕ
 work es position next t = t.frontier.count + left es t.dist_a.items position next
@@ -252,15 +218,6 @@ HasGrown f g end free last = (waiting : List (ℕ × ℕ)) × IsGrown f (with_wa
 -- it was not broken off: the record of A is that of the least end
 abbrev pub IsWhole : Growth → ℕ → Option ℕ → ℕ → Type 0
 IsWhole g end free last = MatchOption free ((end ≡ g.best) × (last ≡ g.best_record)) (λ _. Unit {0})
-
--- distances at which no record of a side was reached, with room to note each
-pub record AreFar (rows : ℕ) (d : Distances) : Type 0 where
-  pub dist : (r : ℕ) → distance d.dist.items r ≡ far
-  pub count : vec_len d.dist ≡ rows
-  pub numbers : vec_len d.number ≡ rows
-  pub all : unreached d.dist.items ≤ rows
-  pub none : d.reached.items ≡ []
-  pub room : rows ≤ vec_capacity d.reached
 
 -- a tree with nothing in it, and room
 pub record IsClean (rows_a rows_b : ℕ) (t : Tree) : Type 0 where

@@ -5,18 +5,19 @@ use Rattle.link_limits.specs.declared.TheConstants.{MOST_VALUE}
 use Rattle.price_check.specs.Assignment.{IsBefore}
 use Rattle.price_check.specs.Capacities.{capacity_of}
 use Rattle.capacity_assign.specs.declared.assigner.CapacityAssigner.TheInside.{Inside}
-use Rattle.capacity_assign.specs.Core.{linked_at, number}
-use Rattle.capacity_assign.specs.Growth.{AreFirsts, IsClean, IsRising}
-use Rattle.capacity_assign.specs.Round.{IsBetween, AreSmall}
+use Rattle.capacity_assign.specs.Core.{linked_at}
+use Rattle.assignment_steps.specs.Market.{number, AreStarts, IsRising, AreSmall}
+use Rattle.capacity_assign.specs.Growth.{IsClean}
+use Rattle.capacity_assign.specs.Round.{IsBetween}
 use Rattle.capacity_assign.specs.Seating.{seating}
-use Rattle.capacity_assign.specs.Final.{edges_of}
+use Rattle.assignment_steps.specs.Candidates.{edges_of}
 
 -- all is ready for the first round
 pub record IsPrepared (s : Inside) : Type 0 where
   pub order : AllPairs IsBefore s.candidates.items
   pub edges : s.edges.items ≡ edges_of s.candidates.items
   pub rising : IsRising s.edges.items
-  pub firsts : AreFirsts s.edges.items s.first.items (length s.price_a.items)
+  pub starts : AreStarts s.edges.items (length s.price_a.items) s.starts.items
   pub small : AreSmall s.edges.items
   pub between : IsBetween s.edges.items s.price_a.items s.price_b.items s.link_a.items (seating s.seats) 0
   pub places : (b : ℕ) → number s.seats.left.items b + linked_at s.edges.items s.link_a.items b ≡ capacity_of s.capacity.items b

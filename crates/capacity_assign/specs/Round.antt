@@ -1,23 +1,10 @@
 -- Machinery of `round`: what holds of prices and links between two rounds.
-use Rattle.std.specs.Prelude.{◌≡◌, ◌⊎◌, ℕ, ◌+◌, ◌<◌, ◌≤◌, List, length, Option, Some, None}
+use Rattle.std.specs.Prelude.{◌≡◌, ℕ, ◌+◌, ◌<◌, ◌≤◌, List, length, Option, None}
 use Rattle.link_limits.specs.declared.TheConstants.{MOST_VALUE}
-use Rattle.capacity_assign.specs.declared.market.Edge.{Edge}
-use Rattle.capacity_assign.specs.declared.market.Net.{Net}
-use Rattle.capacity_assign.specs.declared.market.Ways.{Ways}
-use Rattle.capacity_assign.specs.Core.{link, edge, number, Leads, AreLinked, IsInRange, AreTight, IsTight, linked_at}
+use Rattle.assignment_steps.specs.declared.market.Edge.{Edge}
+use Rattle.assignment_steps.specs.Market.{link, edge, number, IsInRange, AreTight, IsTight}
+use Rattle.capacity_assign.specs.Core.{AreLinked, linked_at}
 use Rattle.capacity_assign.specs.Seating.{AreSeats, Seating}
-
--- a way from a record of B to the root
-abbrev pub LeadsBy : Net → Ways → List (Option ℕ) → ℕ → ℕ → Type 0
-LeadsBy net ways la n b = Leads net.edges.now net.price_a.now net.price_b.now la ways.from.now ways.rank.now ways.root n b
-
--- a record of A is the root without a link, or a way leads from the record of B that it is linked to
-abbrev pub LeadsFromRecord : Net → Ways → List (Option ℕ) → ℕ → Type 0
-LeadsFromRecord net ways la position =
-    ((position ≡ ways.root) × (link la position ≡ None))
-    ⊎ ((k : ℕ) × ((link la position ≡ Some k)
-    × (number ways.rank.now (edge net.edges.now (number ways.from.now (edge net.edges.now k).b)).a < number ways.rank.now position)
-    × ((n : ℕ) × LeadsBy net ways la n (edge net.edges.now k).b)))
 
 -- prices, links and seats between two rounds: the records of A below `done` were taken up
 pub record IsBetween (es : List Edge) (pa pb : List ℕ) (la : List (Option ℕ)) (s : Seating) (done : ℕ) : Type 0 where
@@ -45,7 +32,3 @@ IsSettled es pa pb la left k = IsTight es pa pb k → link la (edge es k).a ≡ 
 -- so are the first `count` edges
 abbrev pub AreSettled : List Edge → List ℕ → List ℕ → List (Option ℕ) → List ℕ → ℕ → Type 0
 AreSettled es pa pb la left count = (k : ℕ) → k < count → IsSettled es pa pb la left k
-
--- no value is large
-abbrev pub AreSmall : List Edge → Type 0
-AreSmall es = (k : ℕ) → (edge es k).value ≤ MOST_VALUE

@@ -1,8 +1,8 @@
 -- Machinery of `add_seat`, `reseat` and `settle`: the seats at records of B, at which linked records of A sit.
 use Rattle.std.specs.Prelude.{◌≡◌, ◌≢◌, ℕ, ◌+◌, ◌-◌, ◌<◌, ◌≤◌, List, length, count_by, slice_set, Option, Some, MatchOption, is_none}
-use Rattle.capacity_assign.specs.declared.market.Edge.{Edge}
+use Rattle.assignment_steps.specs.declared.market.Edge.{Edge}
 use Rattle.capacity_assign.specs.declared.market.Seats.{Seats}
-use Rattle.capacity_assign.specs.Core.{edge, link, number}
+use Rattle.assignment_steps.specs.Market.{edge, link, number}
 
 -- the lists of seats
 pub record Seating : Type 0 where

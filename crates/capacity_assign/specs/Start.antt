@@ -1,6 +1,6 @@
 -- Machinery of `CapacityAssigner::new`: what is there before any record of A is taken up.
 use Rattle.std.specs.Prelude.{◌≡◌, ◌≤◌, ℕ, List, length, None, replicate}
-use Rattle.capacity_assign.specs.declared.market.Edge.{Edge}
+use Rattle.assignment_steps.specs.declared.market.Edge.{Edge}
 use Rattle.capacity_assign.specs.declared.start.Prices.{Prices}
 use Rattle.capacity_assign.specs.declared.start.Start.{Start}
 use Rattle.capacity_assign.specs.Final.{AreClosed, AreEmpty, ReachAll}

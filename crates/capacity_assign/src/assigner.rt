@@ -3,15 +3,16 @@ ghost use Rattle.std.specs.Prelude.{◌≡◌, ◌<◌, ◌≤◌, ◌^◌, leng
 ghost use Rattle.price_check.specs.Assignment.{IsBefore, IsWithin, price_of};
 ghost use Rattle.price_check.specs.Capacities.{CertifiesWithin, IsGreatestWithin};
 ghost use Rattle.capacity_assign.specs.Solution.{HasSmallValue, IsAllowedCapacity};
-ghost use Rattle.capacity_assign.specs.Growth.{AreFirsts, IsClean, IsRising};
-ghost use Rattle.capacity_assign.specs.Round.{IsBetween, AreSmall, KeepsPlaces};
+ghost use Rattle.assignment_steps.specs.Market.{AreStarts, IsRising, AreSmall};
+ghost use Rattle.capacity_assign.specs.Growth.{IsClean};
+ghost use Rattle.capacity_assign.specs.Round.{IsBetween, KeepsPlaces};
 ghost use Rattle.capacity_assign.specs.Seating.{seating};
 ghost use Rattle.link_limits.specs.declared.TheConstants.{MOST_VALUE};
 
-use crate::market::{Edge, Seats, Tree};
+use crate::market::{Seats, Tree};
 use crate::phases::all_rounds;
-use crate::solve::linked;
 use crate::start::{graph_of, start_of};
+use assignment_steps::{Edge, linked};
 use link_base::{Candidate, NoMemory};
 use link_limits::MOST_PAIRS;
 use price_check::certified_within_is_greatest;
@@ -25,7 +26,7 @@ pub struct CapacityAssigner {
     capacity: Vec<u32>,
     candidates: Vec<Candidate>,
     edges: Vec<Edge>,
-    first: Vec<usize>,
+    starts: Vec<usize>,
     price_a: Vec<u64>,
     price_b: Vec<u64>,
     link_a: Vec<Option<usize>>,
@@ -54,7 +55,7 @@ pub struct CapacityAssignment {
 }
 
 impl Model for CapacityAssignment {
-    ghost use Rattle.capacity_assign.specs.Final.{prices_of};
+    ghost use Rattle.assignment_steps.specs.Candidates.{prices_of};
     ghost use Rattle.capacity_assign.specs.Prepared.{AreBounded};
     ghost use Rattle.capacity_assign.specs.Solution.{Solution};
 
@@ -68,7 +69,7 @@ impl Model for CapacityAssignment {
 /// Takes every record of A up in turn.
 fn run(
     edges: &Vec<Edge>,
-    first: &Vec<usize>,
+    starts: &Vec<usize>,
     price_a: &mut Vec<u64>,
     price_b: &mut Vec<u64>,
     link_a: &mut Vec<Option<usize>>,
@@ -76,7 +77,7 @@ fn run(
     tree: &mut Tree,
 )
     requires rising { IsRising edges.now.items }
-    requires firsts { AreFirsts edges.now.items first.now.items (length price_a.old.items) }
+    requires starts { AreStarts edges.now.items (length price_a.old.items) starts.now.items }
     requires small { AreSmall edges.now.items }
     requires between { IsBetween edges.now.items price_a.old.items price_b.old.items link_a.old.items (seating seats.old) 0 }
     requires clean { IsClean (length price_a.old.items) (length price_b.old.items) tree.old }
@@ -86,7 +87,7 @@ fn run(
     ensures rows_a { length price_a.new.items ≡ length price_a.old.items }
     ensures rows_b { length price_b.new.items ≡ length price_b.old.items }
 {
-    all_rounds(edges, first, price_a, price_b, link_a, seats, tree);
+    all_rounds(edges, starts, price_a, price_b, link_a, seats, tree);
 }
 
 impl CapacityAssigner {
@@ -118,7 +119,7 @@ impl CapacityAssigner {
             capacity: capacities,
             candidates: kept,
             edges: graph.edges,
-            first: graph.first,
+            starts: graph.starts,
             price_a: start.prices.a,
             price_b: start.prices.b,
             link_a: start.link_a,
@@ -140,7 +141,7 @@ impl CapacityAssigner {
             capacity: _,
             candidates,
             edges,
-            first,
+            starts,
             mut price_a,
             mut price_b,
             mut link_a,
@@ -149,7 +150,7 @@ impl CapacityAssigner {
         } = self;
         run(
             &edges,
-            &first,
+            &starts,
             &mut price_a,
             &mut price_b,
             &mut link_a,

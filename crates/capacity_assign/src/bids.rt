@@ -1,12 +1,14 @@
 // Bids, before any record of A is taken up without a limit: each costs what the records of A at one record of B
 // cost, while a whole search may reach far.
-ghost use Rattle.std.specs.Prelude.{◌≡◌, ◌<◌, ◌≤◌, length, MatchOption};
-ghost use Rattle.capacity_assign.specs.Growth.{AreFirsts, IsClean, IsRising};
-ghost use Rattle.capacity_assign.specs.Round.{AreSmall, IsBetween, KeepsPlaces};
+ghost use Rattle.std.specs.Prelude.{◌<◌, ◌≤◌, length, MatchOption};
+ghost use Rattle.assignment_steps.specs.Market.{AreStarts, IsRising, AreSmall};
+ghost use Rattle.capacity_assign.specs.Growth.{IsClean};
+ghost use Rattle.capacity_assign.specs.Round.{IsBetween, KeepsPlaces};
 ghost use Rattle.capacity_assign.specs.Seating.{seating};
 
-use crate::market::{Edge, Seats, Tree};
+use crate::market::{Seats, Tree};
 use crate::round::take_up;
+use assignment_steps::Edge;
 
 /// How many records of B a bid settles.
 const SETTLED: usize = 1;
@@ -18,7 +20,7 @@ const BIDS: u32 = 8;
 /// does as well elsewhere, and that one is left without a seat. It gives the record of A that bids next.
 fn bid(
     edges: &[Edge],
-    first: &[usize],
+    starts: &[usize],
     price_a: &mut [u64],
     price_b: &mut [u64],
     link_a: &mut [Option<usize>],
@@ -27,7 +29,7 @@ fn bid(
     row: usize,
 ) -> Option<usize>
     requires rising { IsRising edges.now }
-    requires firsts { AreFirsts edges.now first.now (length price_a.old) }
+    requires starts { AreStarts edges.now (length price_a.old) starts.now }
     requires small { AreSmall edges.now }
     requires inside { row < length price_a.old }
     requires between { IsBetween edges.now price_a.old price_b.old link_a.old (seating seats.old) 0 }
@@ -47,7 +49,7 @@ fn bid(
     }
     let limit = Some(SETTLED);
     let grown = take_up(
-        edges, first, price_a, price_b, link_a, seats, tree, row, limit,
+        edges, starts, price_a, price_b, link_a, seats, tree, row, limit,
     );
     if grown.free.is_some() {
         return None;
@@ -61,7 +63,7 @@ fn bid(
 /// Bids of a record of A and of those that are left without a seat by it.
 fn bids_from(
     edges: &[Edge],
-    first: &[usize],
+    starts: &[usize],
     price_a: &mut [u64],
     price_b: &mut [u64],
     link_a: &mut [Option<usize>],
@@ -70,7 +72,7 @@ fn bids_from(
     root: usize,
 )
     requires rising { IsRising edges.now }
-    requires firsts { AreFirsts edges.now first.now (length price_a.old) }
+    requires starts { AreStarts edges.now (length price_a.old) starts.now }
     requires small { AreSmall edges.now }
     requires root { root < length price_a.old }
     requires between { IsBetween edges.now price_a.old price_b.old link_a.old (seating seats.old) 0 }
@@ -83,7 +85,7 @@ fn bids_from(
 {
     let mut row = root;
     for _ in 0..BIDS {
-        let Some(next) = bid(edges, first, price_a, price_b, link_a, seats, tree, row) else {
+        let Some(next) = bid(edges, starts, price_a, price_b, link_a, seats, tree, row) else {
             return;
         };
         row = next;
@@ -93,7 +95,7 @@ fn bids_from(
 /// Bids of every record of A in turn.
 pub fn all_bids(
     edges: &[Edge],
-    first: &[usize],
+    starts: &[usize],
     price_a: &mut [u64],
     price_b: &mut [u64],
     link_a: &mut [Option<usize>],
@@ -101,7 +103,7 @@ pub fn all_bids(
     tree: &mut Tree,
 )
     requires rising { IsRising edges.now }
-    requires firsts { AreFirsts edges.now first.now (length price_a.old) }
+    requires starts { AreStarts edges.now (length price_a.old) starts.now }
     requires small { AreSmall edges.now }
     requires between { IsBetween edges.now price_a.old price_b.old link_a.old (seating seats.old) 0 }
     requires clean { IsClean (length price_a.old) (length price_b.old) tree.old }
@@ -112,6 +114,6 @@ pub fn all_bids(
     ensures clean { IsClean (length price_a.new) (length price_b.new) tree.new }
 {
     for root in 0..price_a.len() {
-        bids_from(edges, first, price_a, price_b, link_a, seats, tree, root);
+        bids_from(edges, starts, price_a, price_b, link_a, seats, tree, root);
     }
 }

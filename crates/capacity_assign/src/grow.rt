@@ -1,11 +1,12 @@
 // The growth of a tree.
-ghost use Rattle.std.specs.Prelude.{◌≡◌, ◌≢◌, ◌+◌, ◌-◌, ◌<◌, ◌≤◌, ◌^◌, ℕ, length, slice_index, slice_set, List, [], ◌∷◌, ◌++◌, None, Some, vec_len, vec_capacity, Contains, All, MatchOption, MatchBool, false, ◌⊎◌};
+ghost use Rattle.std.specs.Prelude.{◌≡◌, ◌+◌, ◌-◌, ◌<◌, ◌≤◌, ℕ, length, slice_set, [], ◌∷◌, ◌++◌, None, Some, vec_len, vec_capacity, All, MatchBool, false};
 ghost use Rattle.link_limits.specs.declared.TheConstants.{MOST_VALUE};
-ghost use Rattle.capacity_assign.specs.Core.{IsInRange, edge, number, link};
-ghost use Rattle.capacity_assign.specs.Growth.{IsTree, growth, HasRoomForRecords, IsReady, ShortensDistance, distance, far, edge_of, paid, unreached, Notes, IsRest, IsNearest, Joins, Improves, IsRising, work, FitsQueue, HasGrown, IsClean, with_waiting, places_left, IsGrown, IsReached, IsWhole};
+ghost use Rattle.assignment_steps.specs.Market.{number, IsRising};
+ghost use Rattle.capacity_assign.specs.Growth.{IsTree, growth, HasRoomForRecords, IsReady, ShortensDistance, edge_of, paid, Notes, IsRest, IsNearest, Joins, Improves, work, FitsQueue, HasGrown, IsClean, with_waiting, places_left, IsGrown, IsReached, IsWhole};
+ghost use Rattle.assignment_steps.specs.Distances.{distance, far, unreached};
 
-use crate::market::{FAR, Ground, Grown, Tree};
-use assignment_steps::Near;
+use crate::market::{Ground, Grown, Tree};
+use assignment_steps::{FARTHEST, Near};
 
 /// Puts a record at the end of a list that has room.
 fn note(list: &mut Vec<usize>, position: usize)
@@ -41,7 +42,7 @@ fn note_first(tree: &mut Tree, b: usize)
     ensures touched_in { All (λ x. x < vec_len tree.old.dist_b) tree.new.touched.items }
     ensures touched_room { vec_capacity tree.old.touched ≤ vec_capacity tree.new.touched }
 {
-    if tree.dist_b[b] != FAR {
+    if tree.dist_b[b] != FARTHEST {
         return;
     }
     note(&mut tree.touched, b);
@@ -138,7 +139,7 @@ fn relax_record(ground: Ground<'_>, tree: &mut Tree, position: usize)
     ensures current { tree.new.current ≡ tree.old.current }
     ensures dist_a { tree.new.dist_a.items ≡ tree.old.dist_a.items }
 {
-    let mut k = ground.first[position];
+    let mut k = ground.starts[position];
     while k < ground.edges.len() && ground.edges[k].a as usize == position {
         relax(ground, tree, k);
         k += 1;
@@ -165,7 +166,7 @@ fn join_seat(ground: Ground<'_>, tree: &mut Tree, n: usize)
     ensures joined { distance tree.new.dist_a.items (number ground.entry.seats.now.row.items n) < far }
 {
     let position = ground.seats.row[n];
-    if tree.dist_a[position] != FAR {
+    if tree.dist_a[position] != FARTHEST {
         return;
     }
     let dist = tree.current;
@@ -316,7 +317,7 @@ fn plant(ground: Ground<'_>, tree: &mut Tree)
     ensures queue { tree.old.frontier.room ≤ tree.new.frontier.room }
     ensures held { tree.new.held ≡ None }
 {
-    tree.best = FAR;
+    tree.best = FARTHEST;
     tree.held = None;
     join(ground, tree, ground.root, 0);
     relax_record(ground, tree, ground.root);

@@ -10,7 +10,6 @@ mod market;
 mod phases;
 mod round;
 mod seats;
-mod shift;
 mod solve;
 mod start;
 mod tight;

@@ -1,25 +1,6 @@
-// Records with prices, links and seats, and the tree that is grown over them.
+// Seats, what trees are grown over, and the tree.
 
-use assignment_steps::{DistanceQueue, FARTHEST};
-
-/// A distance that no record of a tree has.
-pub const FAR: u64 = FARTHEST;
-
-/// A candidate whose value is positive.
-#[derive(Clone, Copy)]
-pub struct Edge {
-    pub a: u32,
-    pub b: u32,
-    pub value: u32,
-}
-
-/// The edges, and a price for each record.
-#[derive(Clone, Copy)]
-pub struct Net<'a> {
-    pub edges: &'a [Edge],
-    pub price_a: &'a [u64],
-    pub price_b: &'a [u64],
-}
+use assignment_steps::{DistanceQueue, Edge};
 
 /// The seats at the records of B, numbered from 0 as they are taken first. A seat belongs to its `owner`, a
 /// record of B, and `row` is the record of A that sits there; `seat` says for a linked record of A where it
@@ -43,25 +24,17 @@ pub struct Hole {
     pub seat: usize,
 }
 
-/// What a tree is grown over: the edges, the place of the first edge of each record of A, the prices, the
-/// links, the seats and the record of A at the root.
+/// What a tree is grown over: the edges, the places where those of each record of A begin, the prices,
+/// the links, the seats and the record of A at the root.
 #[derive(Clone, Copy)]
 pub struct Ground<'a> {
     pub edges: &'a [Edge],
-    pub first: &'a [usize],
+    pub starts: &'a [usize],
     pub price_a: &'a [u64],
     pub price_b: &'a [u64],
     pub link_a: &'a [Option<usize>],
     pub seats: &'a Seats,
     pub root: usize,
-}
-
-/// Ways to a root: the edge by which each record of B was reached, and when each record of A was.
-#[derive(Clone, Copy)]
-pub struct Ways<'a> {
-    pub root: usize,
-    pub from: &'a [usize],
-    pub rank: &'a [usize],
 }
 
 /// An alternating tree as it grows. `dist_a` and `dist_b` are the distances from the root, `rank` says when

@@ -1,18 +1,20 @@
 // All of a solution: links over tight edges, bids, and every record of A taken up in turn.
-ghost use Rattle.std.specs.Prelude.{◌≡◌, ◌≤◌, length};
-ghost use Rattle.capacity_assign.specs.Growth.{AreFirsts, IsClean, IsRising};
-ghost use Rattle.capacity_assign.specs.Round.{AreSmall, IsBetween, KeepsPlaces};
+ghost use Rattle.std.specs.Prelude.{◌≤◌, length};
+ghost use Rattle.assignment_steps.specs.Market.{AreStarts, IsRising, AreSmall};
+ghost use Rattle.capacity_assign.specs.Growth.{IsClean};
+ghost use Rattle.capacity_assign.specs.Round.{IsBetween, KeepsPlaces};
 ghost use Rattle.capacity_assign.specs.Seating.{seating};
 
 use crate::bids::all_bids;
-use crate::market::{Edge, Net, Seats, Tree};
+use crate::market::{Seats, Tree};
 use crate::round::round;
 use crate::tight::link_tight;
+use assignment_steps::{Edge, Net};
 
 /// Links what is tight at first, lets the records of A bid, and takes every one up in turn.
 pub fn all_rounds(
     edges: &[Edge],
-    first: &[usize],
+    starts: &[usize],
     price_a: &mut [u64],
     price_b: &mut [u64],
     link_a: &mut [Option<usize>],
@@ -20,7 +22,7 @@ pub fn all_rounds(
     tree: &mut Tree,
 )
     requires rising { IsRising edges.now }
-    requires firsts { AreFirsts edges.now first.now (length price_a.old) }
+    requires starts { AreStarts edges.now (length price_a.old) starts.now }
     requires small { AreSmall edges.now }
     requires between { IsBetween edges.now price_a.old price_b.old link_a.old (seating seats.old) 0 }
     requires clean { IsClean (length price_a.old) (length price_b.old) tree.old }
@@ -34,8 +36,8 @@ pub fn all_rounds(
         price_b,
     };
     link_tight(net, link_a, seats);
-    all_bids(edges, first, price_a, price_b, link_a, seats, tree);
+    all_bids(edges, starts, price_a, price_b, link_a, seats, tree);
     for root in 0..price_a.len() {
-        round(edges, first, price_a, price_b, link_a, seats, tree, root);
+        round(edges, starts, price_a, price_b, link_a, seats, tree, root);
     }
 }

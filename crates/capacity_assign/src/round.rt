@@ -1,16 +1,19 @@
 // One round: a record of A is taken up, prices change, and links are turned round.
-ghost use Rattle.std.specs.Prelude.{◌≡◌, ◌≢◌, ◌+◌, ◌-◌, ◌<◌, ◌≤◌, ◌^◌, ℕ, length, slice_index, List, [], None, Some, Contains, All, vec_len, vec_capacity, MatchOption, IsNone, ◌⊎◌};
+ghost use Rattle.std.specs.Prelude.{◌≡◌, ◌+◌, ◌-◌, ◌<◌, ◌≤◌, ℕ, length, None, Contains, MatchOption, IsNone, ◌⊎◌};
 ghost use Rattle.link_limits.specs.declared.TheConstants.{MOST_VALUE};
-ghost use Rattle.capacity_assign.specs.Core.{AreLinked, IsInRange, link, AreTight, number};
-ghost use Rattle.capacity_assign.specs.Growth.{AreFirsts, HasRoomForRecords, IsClean, distance, far, IsRising};
-ghost use Rattle.capacity_assign.specs.Round.{LeadsBy, LeadsFromRecord, IsBetween, AreSmall, KeepsPlaces};
+ghost use Rattle.capacity_assign.specs.Core.{AreLinked};
+ghost use Rattle.assignment_steps.specs.Market.{IsInRange, link, AreTight, number, AreStarts, IsRising, AreSmall};
+ghost use Rattle.capacity_assign.specs.Growth.{HasRoomForRecords, IsClean};
+ghost use Rattle.assignment_steps.specs.Distances.{distance, far};
+ghost use Rattle.assignment_steps.specs.Ways.{LeadsBy, LeadsFromRecord};
+ghost use Rattle.capacity_assign.specs.Round.{IsBetween, KeepsPlaces};
 ghost use Rattle.capacity_assign.specs.Seating.{AreSeats, seating};
 
 use crate::grow::search;
-use crate::market::{Edge, Ground, Grown, Hole, Net, Seats, Tree, Ways};
+use crate::market::{Ground, Grown, Hole, Seats, Tree};
 use crate::seats::add_seat;
-use crate::shift::{lower, raise};
 use crate::walk::walk;
+use assignment_steps::{Edge, Net, Ways, lower, raise};
 
 /// Changes the prices by the distances of a tree, and leaves it clean.
 fn shift(price_a: &mut [u64], price_b: &mut [u64], tree: &mut Tree, end: u64)
@@ -83,7 +86,7 @@ fn turn(
 /// round. Without a limit the record is linked afterwards, or its price is 0.
 pub fn take_up(
     edges: &[Edge],
-    first: &[usize],
+    starts: &[usize],
     price_a: &mut [u64],
     price_b: &mut [u64],
     link_a: &mut [Option<usize>],
@@ -93,7 +96,7 @@ pub fn take_up(
     limit: Option<usize>,
 ) -> Grown
     requires rising { IsRising edges.now }
-    requires firsts { AreFirsts edges.now first.now (length price_a.old) }
+    requires starts { AreStarts edges.now (length price_a.old) starts.now }
     requires small { AreSmall edges.now }
     requires root { root < length price_a.old }
     requires free { link link_a.old root ≡ None }
@@ -109,7 +112,7 @@ pub fn take_up(
 {
     let ground = Ground {
         edges,
-        first,
+        starts,
         price_a,
         price_b,
         link_a,
@@ -135,7 +138,7 @@ pub fn take_up(
 /// Takes a record of A up: afterwards it is linked, or its price is 0.
 pub fn round(
     edges: &[Edge],
-    first: &[usize],
+    starts: &[usize],
     price_a: &mut [u64],
     price_b: &mut [u64],
     link_a: &mut [Option<usize>],
@@ -144,7 +147,7 @@ pub fn round(
     root: usize,
 )
     requires rising { IsRising edges.now }
-    requires firsts { AreFirsts edges.now first.now (length price_a.old) }
+    requires starts { AreStarts edges.now (length price_a.old) starts.now }
     requires small { AreSmall edges.now }
     requires root { root < length price_a.old }
     requires between { IsBetween edges.now price_a.old price_b.old link_a.old (seating seats.old) root }
@@ -159,6 +162,6 @@ pub fn round(
         return;
     }
     let _ = take_up(
-        edges, first, price_a, price_b, link_a, seats, tree, root, None,
+        edges, starts, price_a, price_b, link_a, seats, tree, root, None,
     );
 }

@@ -1,9 +1,11 @@
 // Seats that are added, and rows that move from one to another.
-ghost use Rattle.std.specs.Prelude.{◌≡◌, ◌≢◌, ◌+◌, ◌<◌, ◌≤◌, ℕ, length, slice_set, List, None, Some, vec_len};
-ghost use Rattle.capacity_assign.specs.Core.{AreLinked, number, edge, Reseats};
+ghost use Rattle.std.specs.Prelude.{◌≡◌, ◌<◌, length, vec_len};
+ghost use Rattle.capacity_assign.specs.Core.{AreLinked, Reseats};
+ghost use Rattle.assignment_steps.specs.Market.{number, edge};
 ghost use Rattle.capacity_assign.specs.Seating.{AddsSeat, seating};
 
-use crate::market::{Edge, Hole, Seats};
+use crate::market::{Hole, Seats};
+use assignment_steps::Edge;
 
 /// Adds a seat at a record of B that has a place left, and gives its number.
 pub fn add_seat(seats: &mut Seats, b: usize) -> usize

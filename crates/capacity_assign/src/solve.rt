@@ -1,72 +1,16 @@
 // From candidates to a greatest list with its prices.
-ghost use Rattle.std.specs.Prelude.{◌≡◌, ◌≢◌, ◌+◌, ◌-◌, ◌<◌, ◌≤◌, ◌^◌, ℕ, length, slice_index, slice_index_or, List, [], None, Some, Contains, All, AllPairs, vec_len, vec_capacity, MatchOption, IfOk, filter, filter_map, replicate};
+ghost use Rattle.std.specs.Prelude.{◌≡◌, ◌-◌, ◌<◌, ◌≤◌, ℕ, length, IfOk};
 ghost use Rattle.price_check.specs.Capacities.{capacity_of};
-ghost use Rattle.capacity_assign.specs.Core.{number, edge, IsInRange};
-ghost use Rattle.capacity_assign.specs.Final.{edges_of, edge_from, is_linked, AreClosed, AreEmpty, ReachAll};
+ghost use Rattle.assignment_steps.specs.Market.{number, edge, IsInRange, AreSmall};
+ghost use Rattle.capacity_assign.specs.Final.{AreClosed, AreEmpty, ReachAll};
 ghost use Rattle.capacity_assign.specs.Seating.{seating};
-ghost use Rattle.capacity_assign.specs.Round.{AreSmall};
-ghost use Rattle.capacity_assign.specs.Solution.{HasSmallValue};
 ghost use Rattle.link_limits.specs.declared.TheConstants.{MOST_VALUE};
-ghost use Rattle.capacity_assign.specs.Growth.{AreFar, AreFirsts, IsClean, IsRising};
+ghost use Rattle.capacity_assign.specs.Growth.{IsClean};
 
-use crate::market::{Edge, FAR, Seats, Tree};
-use assignment_steps::DistanceQueue;
-use link_base::{Candidate, NoMemory};
+use crate::market::{Seats, Tree};
+use assignment_steps::{DistanceQueue, Edge, no_distances, raise_to};
+use link_base::NoMemory;
 use std::alloc::Global;
-
-/// A candidate as an edge, where its value is positive.
-fn edge_from(c: Candidate) -> Option<Edge>
-    requires { HasSmallValue c }
-    ensures { result ≡ edge_from c }
-{
-    if c.value <= 0 {
-        return None;
-    }
-    Some(Edge {
-        a: c.a,
-        b: c.b,
-        value: c.value as u32,
-    })
-}
-
-/// The candidates with positive values as edges.
-pub fn edges_of(alloc: Global, candidates: &[Candidate]) -> Result<Vec<Edge>, NoMemory>
-    requires { All HasSmallValue candidates.now }
-    ensures { IfOk result (λ v. v.items ≡ edges_of candidates.now) }
-{
-    let edges = candidates
-        .iter()
-        .filter_map(|c| edge_from(*c))
-        .collect(alloc)?;
-    Ok(edges)
-}
-
-/// Whether a candidate is linked.
-fn is_linked(edges: &[Edge], link_a: &[Option<usize>], c: &Candidate) -> bool
-    requires links { (a k : ℕ) → slice_index_or link_a.now a None ≡ Some k → k < length edges.now }
-    ensures { result ≡ is_linked edges.now link_a.now c.now }
-{
-    if c.a as usize >= link_a.len() {
-        return false;
-    }
-    match link_a[c.a as usize] {
-        None => false,
-        Some(k) => c.value > 0 && edges[k].b == c.b,
-    }
-}
-
-/// The linked candidates, in their order.
-pub fn linked(
-    mut candidates: Vec<Candidate>,
-    edges: &[Edge],
-    link_a: &[Option<usize>],
-) -> Vec<Candidate>
-    requires links { (a k : ℕ) → slice_index_or link_a.now a None ≡ Some k → k < length edges.now }
-    ensures { result.items ≡ filter (is_linked edges.now link_a.now) candidates.items }
-{
-    candidates.retain(|c| is_linked(edges, link_a, c));
-    candidates
-}
 
 /// For each record of B without a place the greatest value of its edges, and 0 for the others.
 pub fn closed_prices(alloc: Global, edges: &[Edge], capacity: &[u32]) -> Result<Vec<u64>, NoMemory>
@@ -116,19 +60,6 @@ pub fn first_prices(
     Ok(prices)
 }
 
-/// A price that is at least this value.
-fn raise_to(prices: &mut [u64], position: usize, value: u64)
-    requires { position < length prices.old }
-    ensures here { value ≤ number prices.new position }
-    ensures kept { (r : ℕ) → number prices.old r ≤ number prices.new r }
-    ensures others { (r : ℕ) → r ≢ position → number prices.new r ≡ number prices.old r }
-    ensures small { value ≤ MOST_VALUE → ((r : ℕ) → number prices.old r ≤ MOST_VALUE) → (r : ℕ) → number prices.new r ≤ MOST_VALUE }
-{
-    if prices[position] < value {
-        prices[position] = value;
-    }
-}
-
 /// Seats before any is taken.
 pub fn no_seats(alloc: Global, rows_a: usize, capacity: &[u32]) -> Result<Seats, NoMemory>
     ensures { IfOk result (λ s. AreEmpty rows_a capacity.now (seating s)) }
@@ -147,60 +78,6 @@ pub fn no_seats(alloc: Global, rows_a: usize, capacity: &[u32]) -> Result<Seats,
         last,
         left,
         count: 0,
-    })
-}
-
-/// How many edges are of records of A below this one.
-fn count_below(edges: &[Edge], position: usize) -> usize
-    requires { IsRising edges.now }
-    ensures within { result ≤ length edges.now }
-    ensures below { (k : ℕ) → k < result → (edge edges.now k).a < position }
-    ensures above { (k : ℕ) → result ≤ k → k < length edges.now → position ≤ (edge edges.now k).a }
-{
-    let mut low = 0;
-    let mut high = edges.len();
-    while low < high {
-        let middle = low + (high - low) / 2;
-        if (edges[middle].a as usize) < position {
-            low = middle + 1;
-        } else {
-            high = middle;
-        }
-    }
-    low
-}
-
-/// For each record of A the place from which on its edges stand.
-pub fn firsts(alloc: Global, edges: &[Edge], rows_a: usize) -> Result<Vec<usize>, NoMemory>
-    requires { IsRising edges.now }
-    ensures { IfOk result (λ v. AreFirsts edges.now v.items rows_a) }
-{
-    let mut first = vec![in alloc; 0usize; rows_a]?;
-    for position in 0..rows_a {
-        first[position] = count_below(edges, position);
-    }
-    Ok(first)
-}
-
-/// Distances of the records of one side, a number for each, and those that were reached.
-#[derive(Drop)]
-struct Distances {
-    dist: Vec<u64>,
-    number: Vec<usize>,
-    reached: Vec<usize>,
-}
-
-/// Distances of a side of which no record was reached.
-fn no_distances(alloc: Global, rows: usize) -> Result<Distances, NoMemory>
-    ensures { IfOk result (AreFar rows) }
-{
-    let dist = vec![in alloc; FAR; rows]?;
-    let number = vec![in alloc; 0usize; rows]?;
-    let reached = Vec::with_capacity(alloc, rows)?;
-    Ok(Distances {
-        dist,
-        number,
-        reached,
     })
 }
 
@@ -236,12 +113,4 @@ pub fn clean_tree(
             Err(error)
         }
     }
-}
-
-/// As many records without a link.
-pub fn no_links(alloc: Global, n: usize) -> Result<Vec<Option<usize>>, NoMemory>
-    ensures { IfOk result (λ v. v.items ≡ replicate n None) }
-{
-    let links = vec![in alloc; None; n]?;
-    Ok(links)
 }

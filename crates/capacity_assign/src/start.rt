@@ -1,23 +1,22 @@
 // Prices, links, seats and the tree before any record of A is taken up.
-ghost use Rattle.std.specs.Prelude.{◌≡◌, All, AllPairs, IfOk, length};
+ghost use Rattle.std.specs.Prelude.{◌≡◌, ◌+◌, ◌<◌, ◌^◌, All, AllPairs, IfOk, length};
 ghost use Rattle.price_check.specs.Assignment.{IsBefore};
-ghost use Rattle.capacity_assign.specs.Core.{IsInRange};
-ghost use Rattle.capacity_assign.specs.Final.{edges_of};
-ghost use Rattle.capacity_assign.specs.Growth.{AreFirsts};
-ghost use Rattle.capacity_assign.specs.Round.{AreSmall};
+ghost use Rattle.assignment_steps.specs.Market.{IsInRange, AreStarts, AreSmall};
+ghost use Rattle.assignment_steps.specs.Candidates.{edges_of};
 ghost use Rattle.capacity_assign.specs.Solution.{HasSmallValue};
 ghost use Rattle.capacity_assign.specs.Start.{AreFirstPrices, IsStart};
 
-use crate::market::{Edge, Seats, Tree};
-use crate::solve::{clean_tree, closed_prices, edges_of, first_prices, firsts, no_links, no_seats};
+use crate::market::{Seats, Tree};
+use crate::solve::{clean_tree, closed_prices, first_prices, no_seats};
+use assignment_steps::{Edge, edges_of, no_links, starts_of};
 use link_base::{Candidate, NoMemory};
 use std::alloc::Global;
 
-/// The edges of candidates, with the place of the first one of each record of A.
+/// The edges of candidates, with the places where those of each record of A begin.
 #[derive(Drop)]
 pub struct Graph {
     pub edges: Vec<Edge>,
-    pub first: Vec<usize>,
+    pub starts: Vec<usize>,
 }
 
 /// The prices of both sides.
@@ -40,12 +39,13 @@ pub struct Start {
 pub fn graph_of(alloc: Global, rows_a: usize, candidates: &[Candidate]) -> Result<Graph, NoMemory>
     requires rising { AllPairs IsBefore candidates.now }
     requires small { All HasSmallValue candidates.now }
+    requires rows { rows_a + 1 < 2 ^ 64 }
     ensures edges { IfOk result (λ g. g.edges.items ≡ edges_of candidates.now) }
-    ensures firsts { IfOk result (λ g. AreFirsts g.edges.items g.first.items rows_a) }
+    ensures starts { IfOk result (λ g. AreStarts g.edges.items rows_a g.starts.items) }
 {
     let edges = edges_of(alloc, candidates)?;
-    let first = firsts(alloc, &edges, rows_a)?;
-    Ok(Graph { edges, first })
+    let starts = starts_of(alloc, &edges, rows_a)?;
+    Ok(Graph { edges, starts })
 }
 
 /// Prices that cover the edges: those of the records of B that have no place, and those of A.

@@ -1,11 +1,12 @@
 // Links over tight edges, before any tree is grown.
 ghost use Rattle.std.specs.Prelude.{◌≡◌, ◌<◌, ℕ, None, length};
-ghost use Rattle.capacity_assign.specs.Core.{link, number};
+ghost use Rattle.assignment_steps.specs.Market.{link, number};
 ghost use Rattle.capacity_assign.specs.Seating.{seating};
 ghost use Rattle.capacity_assign.specs.Round.{AreSettled, IsBetween, IsSettled, KeepsPlaces};
 
-use crate::market::{Net, Seats};
+use crate::market::Seats;
 use crate::seats::{add_seat, reseat};
+use assignment_steps::Net;
 
 /// Links the records of the edge `k` where that of A has no link, that of B has a place left, and their
 /// prices add up to its value.

@@ -1,10 +1,13 @@
 // Links turned round along the way to the root.
 ghost use Rattle.std.specs.Prelude.{◌≡◌, ◌+◌, ◌<◌, ◌==◌, ℕ, length, List, None, Some, if◌then◌else◌};
-ghost use Rattle.capacity_assign.specs.Core.{AreLinked, IsInRange, link, edge, Leads, AreTight, linked_at, number};
+ghost use Rattle.capacity_assign.specs.Core.{AreLinked, linked_at};
+ghost use Rattle.assignment_steps.specs.Market.{link, edge, AreTight, number};
+ghost use Rattle.assignment_steps.specs.Ways.{Leads};
 ghost use Rattle.capacity_assign.specs.Seating.{AreAllSeated, HasHole, free_rows};
 
-use crate::market::{Hole, Net, Ways};
+use crate::market::Hole;
 use crate::seats::reseat;
+use assignment_steps::{Net, Ways};
 
 /// Turns the links round along the way from a record of B, at which a seat is nobody's, to the root.
 pub fn walk(

@@ -1,15 +1,15 @@
 use Rattle.std.proofs.Common.{◌<◌, length, set, refl, ap, inl, inr, arith}
 use Rattle.std.proofs.lemmas.List.Elements.{All-push}
-use Rattle.assignment.specs.Growth.{far}
-use Rattle.assignment.proofs.Count.{unreached_set}
-use Rattle.assignment.proofs.Growing.{distance-set}
+use Rattle.assignment_steps.specs.Distances.{far}
+use Rattle.assignment_steps.proofs.Count.{unreached-set}
+use Rattle.assignment_steps.proofs.OneWrite.{distance-set}
 use Rattle.assignment.proofs.grow.join.Goals as goal
 
 pub note-requires : goal.note-requires
 note-requires c =
     let t = c.args.tree.now in
     let lt : c.args.position < length t.dist_a.items = omega (arith, c.requires.in_range, c.requires.room.of_a, t.dist_a.ok.0) in
-    let one = unreached_set t.dist_a.items c.args.position c.args.dist lt c.requires.new (omega (arith, c.requires.small)) in
+    let one = unreached-set t.dist_a.items c.args.position c.args.dist lt (omega (arith, c.requires.small)) c.requires.new in
     omega (arith, one, c.requires.room.records, c.requires.room.records_room)
 
 pub returns-clause-joins : goal.returns-clause-joins
@@ -34,7 +34,7 @@ returns-clause-room c =
     let room = c.requires.room in
     let lt : c.args.position < length t.dist_a.items = omega (arith, c.requires.in_range, room.of_a, t.dist_a.ok.0) in
     let near : c.args.dist < far = omega (arith, c.requires.small) in
-    let one = unreached_set t.dist_a.items c.args.position c.args.dist lt c.requires.new near in
+    let one = unreached-set t.dist_a.items c.args.position c.args.dist lt near c.requires.new in
     rw c.improve.ensures.rest (record {
       of_a = room.of_a;
       of_rank = room.of_rank;

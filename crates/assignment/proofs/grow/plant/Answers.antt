@@ -1,5 +1,5 @@
 use Rattle.std.proofs.Common.{ap, arith}
-use Rattle.assignment.proofs.Count.{left_few}
+use Rattle.assignment_steps.proofs.Count.{left_few}
 use Rattle.assignment.proofs.grow.plant.Goals as goal
 
 pub relax_record-requires-clause-queue : goal.relax_record-requires-clause-queue

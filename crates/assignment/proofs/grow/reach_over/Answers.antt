@@ -1,6 +1,7 @@
 use Rattle.std.proofs.Common.{◌<◌, length, arith}
 use Rattle.std.proofs.lemmas.List.{get_or_default}
-use Rattle.assignment.specs.Growth.{edge_of, far}
+use Rattle.assignment.specs.Growth.{edge_of}
+use Rattle.assignment_steps.specs.Distances.{far}
 use Rattle.assignment.proofs.grow.reach_over.Goals as goal
 
 pub returns : goal.returns

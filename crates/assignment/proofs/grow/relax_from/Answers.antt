@@ -2,8 +2,9 @@ use Rattle.std.proofs.Common.{◌≡◌, ℕ, ◌+◌, ◌<◌, ◌≤◌, lengt
 use Rattle.std.proofs.lemmas.Bool.{cases_lt}
 use Rattle.assignment_steps.specs.Market.{number}
 use Rattle.assignment.specs.declared.market.Ground.{Ground}
-use Rattle.assignment.specs.Growth.{Growth, IsReady, IsRelaxed, IsTree, distance, edge_of, growth, work}
-use Rattle.assignment.proofs.Count.{left_later}
+use Rattle.assignment.specs.Growth.{Growth, IsReady, IsRelaxed, IsTree, edge_of, growth, work}
+use Rattle.assignment_steps.specs.Distances.{distance}
+use Rattle.assignment_steps.proofs.Count.{left_later}
 use Rattle.assignment.proofs.Growing.{tree_ended, tree_passed_to, tree_skip}
 use Rattle.assignment.proofs.grow.relax_from.Goals as goal
 

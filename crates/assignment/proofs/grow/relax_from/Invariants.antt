@@ -1,5 +1,6 @@
 use Rattle.std.proofs.Common.{◌≡◌, ◌≤◌, ◌-◌, length}
-use Rattle.assignment.specs.Growth.{IsTree, HasRoomForRecords, growth, distance, work}
+use Rattle.assignment.specs.Growth.{IsTree, HasRoomForRecords, growth, work}
+use Rattle.assignment_steps.specs.Distances.{distance}
 use Rattle.assignment.proofs.grow.relax_from.Given as goal
 
 abbrev pub invariant-loop-k : goal.invariant-loop-k

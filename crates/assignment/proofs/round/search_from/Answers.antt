@@ -1,6 +1,7 @@
 use Rattle.std.proofs.Common.{◌<◌, ◌∙◌, length, inl, inr, arith}
 use Rattle.std.proofs.lemmas.Bool.{cases_lt}
-use Rattle.assignment.specs.Growth.{distance, far, growth, with_waiting}
+use Rattle.assignment_steps.specs.Distances.{distance, far}
+use Rattle.assignment.specs.Growth.{growth, with_waiting}
 use Rattle.assignment.proofs.Growing.{ends_as}
 use Rattle.assignment.proofs.Rounds.{tight_after, ways_after, best_within, between_after, between_kept, done_kept, free_after, root_done}
 use Rattle.assignment.proofs.round.search_from.Goals as goal

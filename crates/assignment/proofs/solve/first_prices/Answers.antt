@@ -2,7 +2,7 @@ use Rattle.std.proofs.Common.{length, ap, ◌∙◌, inl, inr, arith}
 use Rattle.std.proofs.lemmas.Bool.{cases_eq}
 use Rattle.std.proofs.lemmas.List.{length-replicate, with_items_is}
 use Rattle.assignment_steps.specs.Market.{edge}
-use Rattle.assignment.proofs.Final.{all_zero}
+use Rattle.assignment_steps.proofs.EdgesOf.{all_zero}
 use Rattle.assignment.proofs.solve.first_prices.Goals as goal
 
 pub loop-k-init : goal.loop-k-init

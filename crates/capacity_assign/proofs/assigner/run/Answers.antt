@@ -9,7 +9,7 @@ all_rounds-requires c =
     let pb = c.deref_mut-2.ensures.value in
     record {
       rising = rw edges c.requires.rising;
-      firsts = rw (edges, c.deref-2.ensures.value, pa) c.requires.firsts;
+      starts = rw (edges, c.deref-2.ensures.value, pa) c.requires.starts;
       small = rw edges c.requires.small;
       between = rw (edges, pa, pb, c.deref_mut-3.ensures.value) c.requires.between;
       clean = rw (pa, pb) c.requires.clean;

@@ -1,6 +1,6 @@
 use Rattle.std.proofs.Common.{refl, sym}
-use Rattle.capacity_assign.specs.Core.{link}
-use Rattle.capacity_assign.proofs.FirstLinks.{not_linked}
+use Rattle.assignment_steps.specs.Market.{link}
+use Rattle.assignment_steps.proofs.Taken.{not_linked}
 use Rattle.capacity_assign.proofs.bids.bid.Goals as goal
 
 pub returns-then-is_some : goal.returns-then-is_some
@@ -12,7 +12,7 @@ returns-then-price_a-row-eq0 c = record { between = c.requires.between; places =
 pub take_up-grown-requires : goal.take_up-grown-requires
 take_up-grown-requires c = record {
   rising = c.requires.rising;
-  firsts = c.requires.firsts;
+  starts = c.requires.starts;
   small = c.requires.small;
   root = c.requires.inside;
   free = not_linked (link c.args.link_a.now c.args.row) (sym c.if-is_some.ensures);

@@ -9,7 +9,7 @@ bid-requires c =
     let i = c.loop.invariant in
     record {
       rising = c.requires.rising;
-      firsts = rw c.loop.auto.price_a c.requires.firsts;
+      starts = rw c.loop.auto.price_a c.requires.starts;
       small = c.requires.small;
       inside = i.inside;
       between = i.between;

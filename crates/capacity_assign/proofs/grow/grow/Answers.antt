@@ -1,7 +1,8 @@
 use Rattle.std.proofs.Common.{◌≡◌, ◌<◌, length, sym, ◌∙◌, inl, inr, arith}
 use Rattle.std.proofs.lemmas.Bool.{false≢true}
 use Rattle.std.proofs.lemmas.List.{get_or_read}
-use Rattle.capacity_assign.specs.Growth.{growth, distance, far, places_left}
+use Rattle.capacity_assign.specs.Growth.{growth, places_left}
+use Rattle.assignment_steps.specs.Distances.{distance, far}
 use Rattle.capacity_assign.proofs.Growing.{grown_best, nearest_taken, room_queued, tree_dropped, tree_taken, cons_first}
 use Rattle.assignment_steps.proofs.Members.{Contains-cons_cases}
 use Rattle.capacity_assign.proofs.grow.grow.Goals as goal

@@ -1,8 +1,8 @@
 use Rattle.std.proofs.Common.{◌≡◌, ◌<◌, ◌∙◌, length, set, inl, inr, ap, arith}
 use Rattle.std.proofs.lemmas.List.Elements.{All-push}
-use Rattle.capacity_assign.specs.Growth.{far}
-use Rattle.capacity_assign.proofs.Count.{unreached-set}
-use Rattle.capacity_assign.proofs.Growing.{distance-set}
+use Rattle.assignment_steps.specs.Distances.{far}
+use Rattle.assignment_steps.proofs.Count.{unreached-set}
+use Rattle.assignment_steps.proofs.OneWrite.{distance-set}
 use Rattle.capacity_assign.proofs.grow.join.Goals as goal
 
 pub index_mut-requires : goal.index_mut-requires

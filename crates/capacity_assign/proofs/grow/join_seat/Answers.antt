@@ -1,8 +1,10 @@
 use Rattle.std.proofs.Common.{◌≡◌, ◌<◌, length, sym, ap, ◌∙◌, refl, arith}
 use Rattle.std.proofs.lemmas.List.{get_or_read, get_or-set_same}
-use Rattle.capacity_assign.specs.Growth.{IsTree, Joins, growth, edge_of, distance, far, left}
+use Rattle.capacity_assign.specs.Growth.{IsTree, Joins, growth, edge_of}
+use Rattle.assignment_steps.specs.Distances.{distance, far}
+use Rattle.assignment_steps.specs.Relaxed.{left}
 use Rattle.capacity_assign.proofs.Growing.{at_seat, joins_stays, tree_joining, tree_any}
-use Rattle.capacity_assign.proofs.Count.{left_joined, left_any}
+use Rattle.assignment_steps.proofs.Count.{left_joined, left_any}
 use Rattle.capacity_assign.proofs.grow.join_seat.Goals as goal
 
 pub index-position-requires : goal.index-position-requires
@@ -13,14 +15,14 @@ index-requires c =
     let at = at_seat c.args.ground c.args.n c.index-position.result.now c.requires.ready c.requires.seat c.index-position.ensures in
     omega (arith, at.inside, c.requires.room.of_a)
 
-pub returns-then-index-ne-FAR-clause-joined : goal.returns-then-index-ne-FAR-clause-joined
-returns-then-index-ne-FAR-clause-joined c =
+pub returns-then-index-ne-FARTHEST-clause-joined : goal.returns-then-index-ne-FARTHEST-clause-joined
+returns-then-index-ne-FARTHEST-clause-joined c =
     let t = c.args.tree.now in
     let position = c.index-position.result.now in
     let at = at_seat c.args.ground c.args.n position c.requires.ready c.requires.seat c.index-position.ensures in
     let records : position < length t.dist_a.items = omega (arith, at.inside, c.requires.room.of_a, t.dist_a.ok.0) in
     let read = get_or_read t.dist_a.items position c.index.result.now records c.index.ensures far in
-    rw at.is (omega (arith, read, c.requires.room.top_a position, c.if-index-ne-FAR.true))
+    rw at.is (omega (arith, read, c.requires.room.top_a position, c.if-index-ne-FARTHEST.true))
 
 pub join-requires-clause-in_range : goal.join-requires-clause-in_range
 join-requires-clause-in_range c = (at_seat c.args.ground c.args.n c.index-position.result.now c.requires.ready c.requires.seat c.index-position.ensures).inside
@@ -46,7 +48,7 @@ relax_record-requires-clause-tree c =
     let records : position < length t.dist_a.items = omega (arith, at.inside, c.requires.room.of_a, t.dist_a.ok.0) in
     let ranks : position < length t.rank.items = omega (arith, at.inside, c.requires.room.of_rank, t.rank.ok.0) in
     let read = get_or_read t.dist_a.items position c.index.result.now records c.index.ensures far in
-    let new : distance t.dist_a.items position ≡ far = sym read ∙ c.if-index-ne-FAR.false in
+    let new : distance t.dist_a.items position ≡ far = sym read ∙ c.if-index-ne-FARTHEST.false in
     let joins : Joins f (growth t) (growth c.join.new.tree) position t.current = c.join.ensures.joins in
     let made : IsTree f (edge_of f k).a 0 (growth c.join.new.tree) = tree_joining f 0 (growth t) (growth c.join.new.tree) k t.current c.requires.ready c.requires.tree (rw at.record_a new) (rw at.record_a records) (rw at.record_a ranks) at.on (rw at.owned c.requires.owned) refl (rw at.record_a joins) in
     rw at.record_a at made
@@ -59,7 +61,7 @@ relax_record-requires-clause-queue c =
     let at = at_seat c.args.ground c.args.n position c.requires.ready c.requires.seat c.index-position.ensures in
     let records : position < length t.dist_a.items = omega (arith, at.inside, c.requires.room.of_a, t.dist_a.ok.0) in
     let read = get_or_read t.dist_a.items position c.index.result.now records c.index.ensures far in
-    let new : distance t.dist_a.items position ≡ far = sym read ∙ c.if-index-ne-FAR.false in
+    let new : distance t.dist_a.items position ≡ far = sym read ∙ c.if-index-ne-FARTHEST.false in
     let near : t.current < far = omega (arith, c.requires.tree.now, c.requires.tree.best_small) in
     let same : left es c.join.new.tree.dist_a.items position 0 ≡ left es t.dist_a.items 0 (length es) = rw c.join.ensures.joins.da (left_joined es t.dist_a.items position 0 t.current records new near) in
     omega (arith, same, c.requires.queue, ap (λ q. q.count) c.join.ensures.queue, ap (λ q. q.room) c.join.ensures.queue)
@@ -75,7 +77,7 @@ returns-clause-work c =
     let at = at_seat c.args.ground c.args.n position c.requires.ready c.requires.seat c.index-position.ensures in
     let records : position < length t.dist_a.items = omega (arith, at.inside, c.requires.room.of_a, t.dist_a.ok.0) in
     let read = get_or_read t.dist_a.items position c.index.result.now records c.index.ensures far in
-    let new : distance t.dist_a.items position ≡ far = sym read ∙ c.if-index-ne-FAR.false in
+    let new : distance t.dist_a.items position ≡ far = sym read ∙ c.if-index-ne-FARTHEST.false in
     let near : t.current < far = omega (arith, c.requires.tree.now, c.requires.tree.best_small) in
     let same : left es c.join.new.tree.dist_a.items position 0 ≡ left es t.dist_a.items 0 (length es) = rw c.join.ensures.joins.da (left_joined es t.dist_a.items position 0 t.current records new near) in
     let any = left_any es c.relax_record.new.tree.dist_a.items position 0 in

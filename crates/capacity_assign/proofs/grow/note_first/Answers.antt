@@ -2,19 +2,19 @@ use Rattle.std.proofs.Common.{◌≡◌, ◌<◌, ◌∙◌, length, refl, sym, 
 use Rattle.std.proofs.lemmas.List.{get_or_read}
 use Rattle.std.proofs.lemmas.List.Elements.{All-push, Contains-append_left, Contains-push}
 use Rattle.std.specs.Prelude.{vec_len}
-use Rattle.capacity_assign.specs.Growth.{distance, far}
-use Rattle.capacity_assign.proofs.Count.{unreached-again, unreached-set}
+use Rattle.assignment_steps.specs.Distances.{distance, far}
+use Rattle.assignment_steps.proofs.Count.{unreached-again, unreached-set}
 use Rattle.capacity_assign.proofs.grow.note_first.Goals as goal
 
-pub returns-then-index-ne-FAR : goal.returns-then-index-ne-FAR
-returns-then-index-ne-FAR c =
+pub returns-then-index-ne-FARTHEST : goal.returns-then-index-ne-FARTHEST
+returns-then-index-ne-FARTHEST c =
     let t = c.args.tree.now in
     let there : c.args.b < length t.dist_b.items = omega (arith, c.requires.within, t.dist_b.ok.0) in
     let read = get_or_read t.dist_b.items c.args.b c.index.result.now there c.index.ensures far in
     record {
-      notes = record { touched = λ x h. h; first_touched = λ new. absurd (c.if-index-ne-FAR.true (read ∙ new)) };
+      notes = record { touched = λ x h. h; first_touched = λ new. absurd (c.if-index-ne-FARTHEST.true (read ∙ new)) };
       rest = record { dist_a = refl; rank = refl; dist_b = refl; from = refl; records = refl; frontier = refl; best = refl; best_record = refl; current = refl; held = refl };
-      touched = omega (arith, unreached-again t.dist_b.items c.args.b 0 there (omega arith) (λ new. c.if-index-ne-FAR.true (read ∙ new)));
+      touched = omega (arith, unreached-again t.dist_b.items c.args.b 0 there (omega arith) (λ new. c.if-index-ne-FARTHEST.true (read ∙ new)));
       touched_in = c.requires.room.touched_in;
       touched_room = omega arith;
     }
@@ -24,7 +24,7 @@ note-requires c =
     let t = c.args.tree.now in
     let r = c.requires.room in
     let there : c.args.b < length t.dist_b.items = omega (arith, c.requires.within, t.dist_b.ok.0) in
-    let new : distance t.dist_b.items c.args.b ≡ far = sym (get_or_read t.dist_b.items c.args.b c.index.result.now there c.index.ensures far) ∙ c.if-index-ne-FAR.false in
+    let new : distance t.dist_b.items c.args.b ≡ far = sym (get_or_read t.dist_b.items c.args.b c.index.result.now there c.index.ensures far) ∙ c.if-index-ne-FARTHEST.false in
     omega (arith, unreached-set t.dist_b.items c.args.b 0 there (omega arith) new, r.touched, r.touched_room)
 
 pub returns : goal.returns
@@ -32,7 +32,7 @@ returns c =
     let t = c.args.tree.now in
     let r = c.requires.room in
     let there : c.args.b < length t.dist_b.items = omega (arith, c.requires.within, t.dist_b.ok.0) in
-    let new : distance t.dist_b.items c.args.b ≡ far = sym (get_or_read t.dist_b.items c.args.b c.index.result.now there c.index.ensures far) ∙ c.if-index-ne-FAR.false in
+    let new : distance t.dist_b.items c.args.b ≡ far = sym (get_or_read t.dist_b.items c.args.b c.index.result.now there c.index.ensures far) ∙ c.if-index-ne-FARTHEST.false in
     record {
       notes = record {
         touched = λ x h. rw c.note.ensures.items (Contains-append_left t.touched.items _ x h);

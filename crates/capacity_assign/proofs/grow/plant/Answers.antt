@@ -1,6 +1,6 @@
 use Rattle.std.proofs.Common.{◌<◌, ◌∙◌, length, ap, arith, get_or-set_same}
-use Rattle.capacity_assign.specs.Growth.{far}
-use Rattle.capacity_assign.proofs.Count.{left_few}
+use Rattle.assignment_steps.specs.Distances.{far}
+use Rattle.assignment_steps.proofs.Count.{left_few}
 use Rattle.capacity_assign.proofs.grow.plant.Goals as goal
 
 pub join-requires : goal.join-requires

@@ -1,7 +1,8 @@
 use Rattle.std.proofs.Common.{length, ◌≡◌, ◌+◌, ◌<◌, refl, sym, arith}
 use Rattle.std.proofs.lemmas.List.{get_or_read}
-use Rattle.capacity_assign.specs.Growth.{growth, IsRelaxed, distance, edge_of, paid, far}
-use Rattle.capacity_assign.proofs.Count.{left_later, left_relaxed}
+use Rattle.capacity_assign.specs.Growth.{growth, IsRelaxed, edge_of, paid}
+use Rattle.assignment_steps.specs.Distances.{distance, far}
+use Rattle.assignment_steps.proofs.Count.{left_later, left_relaxed}
 use Rattle.capacity_assign.proofs.Growing.{room_at, tree_passed, tree_reached}
 use Rattle.capacity_assign.proofs.grow.relax.Goals as goal
 

@@ -1,8 +1,8 @@
 use Rattle.std.proofs.Common.{◌≡◌, ◌≤◌, inl, inr, length, refl, ◌∙◌, arith}
 use Rattle.std.proofs.lemmas.Bool.{cases_lt}
-use Rattle.capacity_assign.specs.Core.{number}
+use Rattle.assignment_steps.specs.Market.{number}
 use Rattle.capacity_assign.specs.Growth.{growth, work}
-use Rattle.capacity_assign.proofs.Count.{left_later}
+use Rattle.assignment_steps.proofs.Count.{left_later}
 use Rattle.capacity_assign.proofs.Growing.{tree_skip}
 use Rattle.capacity_assign.proofs.grow.relax_record.Goals as goal
 
@@ -16,14 +16,13 @@ returns-else-ground-k-clause-tree c =
 
 pub loop-k-init : goal.loop-k-init
 loop-k-init c =
-    let firsts = c.requires.ready.firsts in
-    let inside = c.requires.inside in
-    let k = number c.args.ground.first.now c.args.position in
+    let start = c.requires.ready.starts.starts_at c.args.position (omega (arith, c.requires.inside)) in
+    let k = number c.args.ground.starts.now c.args.position in
     record {
-      within = firsts.within c.args.position inside;
-      above = λ j le lt. firsts.above c.args.position j inside le lt;
+      within = start.within;
+      above = start.above;
       last = c.requires.last;
-      tree = tree_skip c.args.ground c.args.position 0 k (growth c.args.tree.now) c.requires.tree (λ j lt low same. absurd (omega (arith, same, firsts.below c.args.position j inside low)));
+      tree = tree_skip c.args.ground c.args.position 0 k (growth c.args.tree.now) c.requires.tree (λ j lt low same. absurd (omega (arith, same, start.below j low)));
       room = c.requires.room;
       work = omega (arith, left_later c.args.ground.edges.now c.args.tree.now.dist_a.items c.args.position 0 k (omega arith));
       held = refl;
@@ -55,7 +54,7 @@ loop-k-preserved c =
     }
 
 pub bounds-ground-position : goal.bounds-ground-position
-bounds-ground-position c = omega (arith, c.requires.inside, c.requires.ready.firsts.count)
+bounds-ground-position c = omega (arith, c.requires.inside, c.requires.ready.starts.count)
 
 pub relax-requires : goal.relax-requires
 relax-requires c =

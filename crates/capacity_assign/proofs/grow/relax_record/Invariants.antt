@@ -1,5 +1,6 @@
 use Rattle.std.proofs.Common.{◌≡◌, ℕ, ◌<◌, ◌≤◌, ◌-◌, length}
-use Rattle.capacity_assign.specs.Growth.{IsTree, HasRoomForRecords, growth, distance, work, edge_of}
+use Rattle.capacity_assign.specs.Growth.{IsTree, HasRoomForRecords, growth, work, edge_of}
+use Rattle.assignment_steps.specs.Distances.{distance}
 use Rattle.capacity_assign.proofs.grow.relax_record.Given as goal
 
 abbrev pub invariant-loop-k : goal.invariant-loop-k

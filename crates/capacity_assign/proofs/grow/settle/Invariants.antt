@@ -1,6 +1,7 @@
 use Rattle.std.proofs.Common.{◌≡◌, ℕ, ◌<◌, ◌≤◌, Some, length}
-use Rattle.capacity_assign.specs.Core.{link, number}
-use Rattle.capacity_assign.specs.Growth.{FitsQueue, HasRoomForRecords, IsTree, distance, edge_of, far, growth, work}
+use Rattle.assignment_steps.specs.Market.{link, number}
+use Rattle.capacity_assign.specs.Growth.{FitsQueue, HasRoomForRecords, IsTree, edge_of, growth, work}
+use Rattle.assignment_steps.specs.Distances.{distance, far}
 use Rattle.capacity_assign.proofs.Growing.{IsPast, steps_left}
 use Rattle.capacity_assign.proofs.grow.settle.Given as goal
 

@@ -17,7 +17,7 @@ round-requires c =
     let i = c.loop-root.invariant in
     record {
       rising = c.requires.rising;
-      firsts = rw (c.loop-root.auto.price_a, c.all_bids.auto.price_a) c.requires.firsts;
+      starts = rw (c.loop-root.auto.price_a, c.all_bids.auto.price_a) c.requires.starts;
       small = c.requires.small;
       root = rw c.loop-root.auto.price_a c.loop-root-test.true;
       between = i.between;

@@ -1,8 +1,8 @@
 use Rattle.std.proofs.Common.{◌≡◌, ◌<◌, ◌+◌, ℕ, None, refl, ap, sym, ◌∙◌, inl, inr, arith}
 use Rattle.std.proofs.lemmas.Bool.{cases_lt, false≢true}
 use Rattle.std.specs.Option.{is_some}
-use Rattle.capacity_assign.specs.Core.{link}
-use Rattle.capacity_assign.proofs.FirstLinks.{not_linked}
+use Rattle.assignment_steps.specs.Market.{link}
+use Rattle.assignment_steps.proofs.Taken.{not_linked}
 use Rattle.capacity_assign.proofs.Rounds.{between_any}
 use Rattle.capacity_assign.proofs.round.round.Goals as goal
 
@@ -26,7 +26,7 @@ returns-then-is_some c =
 pub take_up-requires : goal.take_up-requires
 take_up-requires c = record {
   rising = c.requires.rising;
-  firsts = c.requires.firsts;
+  starts = c.requires.starts;
   small = c.requires.small;
   root = c.requires.root;
   free = not_linked (link c.args.link_a.now c.args.root) (sym c.if-is_some.ensures);

@@ -2,9 +2,10 @@ use Rattle.std.proofs.Common.{◌≡◌, ◌<◌, length, set, None, Some, refl,
 use Rattle.std.specs.Option.{is_some}
 use Rattle.std.proofs.lemmas.List.{get_or_default, length-set, with_items_is}
 use Rattle.price_check.proofs.PlaceFacts.{place_there}
-use Rattle.capacity_assign.specs.Core.{edge, number}
+use Rattle.assignment_steps.specs.Market.{edge, number}
 use Rattle.capacity_assign.specs.Seating.{HasHole, seating}
-use Rattle.capacity_assign.proofs.Links.{free_row_counts, link-set, linked_parted}
+use Rattle.capacity_assign.proofs.Links.{free_row_counts, linked_parted}
+use Rattle.assignment_steps.proofs.Links.{link-set}
 use Rattle.capacity_assign.proofs.Seating.{hole_parted, places_after_added, places_after_parted, rows_after_parted, seats_after_added, seats_after_parted, vacant_after_added}
 use Rattle.capacity_assign.proofs.Ways.{leads_parted}
 use Rattle.capacity_assign.proofs.round.turn.Goals as goal

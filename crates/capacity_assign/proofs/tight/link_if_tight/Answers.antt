@@ -2,9 +2,10 @@ use Rattle.std.proofs.Common.{◌≡◌, ◌<◌, ◌∙◌, None, Some, length,
 use Rattle.std.proofs.lemmas.Bool.{false≢true}
 use Rattle.std.proofs.lemmas.List.{get_or_read, with_items_is}
 use Rattle.std.specs.Option.{is_some}
-use Rattle.capacity_assign.specs.Core.{edge, link, number}
+use Rattle.assignment_steps.specs.Market.{edge, link, number}
 use Rattle.capacity_assign.specs.Seating.{seating}
-use Rattle.capacity_assign.proofs.FirstLinks.{between_linked, none_before, not_linked, places_linked, still_none}
+use Rattle.capacity_assign.proofs.FirstLinks.{between_linked, places_linked, still_none}
+use Rattle.assignment_steps.proofs.Taken.{none_before, not_linked}
 use Rattle.capacity_assign.proofs.Links.{free_row_counts}
 use Rattle.capacity_assign.proofs.tight.link_if_tight.Goals as goal
 

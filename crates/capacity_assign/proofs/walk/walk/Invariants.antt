@@ -1,4 +1,5 @@
-use Rattle.capacity_assign.specs.Core.{above, number}
+use Rattle.assignment_steps.specs.Ways.{above}
+use Rattle.assignment_steps.specs.Market.{number}
 use Rattle.capacity_assign.proofs.Ways.{IsWalking}
 use Rattle.capacity_assign.proofs.walk.walk.Given as goal
 

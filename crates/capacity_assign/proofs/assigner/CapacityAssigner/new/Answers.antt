@@ -1,8 +1,9 @@
 use Rattle.std.proofs.Common.{length, sym, ap, ◌∙◌}
-use Rattle.capacity_assign.specs.Final.{edges_of}
+use Rattle.assignment_steps.specs.Candidates.{edges_of}
 use Rattle.capacity_assign.specs.Seating.{seating}
 use Rattle.capacity_assign.specs.Start.{IsStart}
-use Rattle.capacity_assign.proofs.Final.{range_edges, small_edges, rising_edges, between_first, places_first}
+use Rattle.assignment_steps.proofs.EdgesOf.{range_edges, small_edges, rising_edges}
+use Rattle.capacity_assign.proofs.Final.{between_first, places_first}
 use Rattle.capacity_assign.proofs.assigner.CapacityAssigner.new.Goals as goal
 
 pub start_of-requires-clause-small : goal.start_of-requires-clause-small
@@ -26,7 +27,7 @@ invariant_of-result c =
       order = rw kept c.requires.rising;
       edges = made ∙ ap edges_of (sym kept);
       rising = rw made (rising_edges cs c.requires.rising);
-      firsts = rw reach.records c.in_ok-graph.ensures.firsts;
+      starts = rw reach.records c.in_ok-graph.ensures.starts;
       small = rw made (small_edges cs c.requires.small);
       between = rw (made, start.links) (between_first cs c.args.rows_a ns s.prices.a.items s.prices.b.items (seating s.seats) c.requires.within closed reach start.seats);
       places = λ b. rw (made, start.links, places) (places_first cs c.args.rows_a ns (seating s.seats) b start.seats);

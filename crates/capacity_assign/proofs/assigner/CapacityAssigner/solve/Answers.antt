@@ -1,16 +1,17 @@
 use Rattle.std.proofs.Common.{◌≡◌, ℕ, ◌+◌, pos, length, filter, sym, ap, ◌∙◌, arith}
 use Rattle.std.proofs.lemmas.List.{get_or_default, length-map}
 use Rattle.price_check.specs.Capacities.{capacity_of}
-use Rattle.capacity_assign.specs.Core.{linked_at, number}
+use Rattle.capacity_assign.specs.Core.{linked_at}
+use Rattle.assignment_steps.specs.Market.{number}
 use Rattle.capacity_assign.specs.Round.{IsBetween}
 use Rattle.capacity_assign.specs.Seating.{seating}
-use Rattle.capacity_assign.specs.Final.{edges_of, is_linked}
+use Rattle.assignment_steps.specs.Candidates.{edges_of, is_linked}
 use Rattle.capacity_assign.specs.Solution.{Problem}
 use Rattle.capacity_assign.proofs.Final.{within, certifies}
 use Rattle.capacity_assign.proofs.assigner.CapacityAssigner.solve.Goals as goal
 
 pub run-requires : goal.run-requires
-run-requires c = (let i = c.self.invariant in record { rising = i.rising; firsts = i.firsts; small = i.small; between = i.between; clean = i.clean; queue = i.queue })
+run-requires c = (let i = c.self.invariant in record { rising = i.rising; starts = i.starts; small = i.small; between = i.between; clean = i.clean; queue = i.queue })
 
 pub linked-links-requires : goal.linked-links-requires
 linked-links-requires c = rw (c.deref.ensures.value, c.deref-2.ensures.value) (record { links = λ a k h. (c.run.ensures.between.linked a k h).0 })

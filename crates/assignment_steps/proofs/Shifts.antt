@@ -2,8 +2,8 @@
 use Rattle.std.proofs.Common.{◌≡◌, ℕ, ◌+◌, ◌-◌, ◌<◌, ◌≤◌, List, ◌∷◌, length, set, drop, ◌∙◌, inl, inr, arith, add-one, drop-cons, get_or-set_same}
 use Rattle.std.specs.Prelude.{Contains}
 use Rattle.assignment_steps.specs.Market.{number}
-use Rattle.assignment.specs.Growth.{distance, far}
-use Rattle.assignment.proofs.Growing.{distance-set, number-set}
+use Rattle.assignment_steps.specs.Distances.{distance, far}
+use Rattle.assignment_steps.proofs.OneWrite.{distance-set, number-set}
 use Rattle.assignment_steps.proofs.Members.{Contains-cons_cases}
 
 module _ (prices dist : List ℕ) (end t change : ℕ) (in_prices : t < length prices) (in_dist : t < length dist) (low : end ≤ far) where

@@ -1,9 +1,9 @@
-use Rattle.std.proofs.Common.{◌≡◌, ◌+◌, ◌-◌, ◌<◌, length, refl, arith}
+use Rattle.std.proofs.Common.{◌≡◌, ◌+◌, ◌-◌, ◌<◌, ◌∙◌, length, refl, arith}
 use Rattle.std.proofs.lemmas.List.{get_or_default}
 use Rattle.assignment_steps.specs.Market.{number}
-use Rattle.assignment.specs.Growth.{distance, far}
-use Rattle.assignment.proofs.Shifts.{left_put_back, price_lowered, top_put_back}
-use Rattle.assignment.proofs.shift.lower.Goals as goal
+use Rattle.assignment_steps.specs.Distances.{distance, far}
+use Rattle.assignment_steps.proofs.Shifts.{left_put_back, price_raised, top_put_back}
+use Rattle.assignment_steps.proofs.shift.raise.Goals as goal
 
 pub loop-position-preserved : goal.loop-position-preserved
 loop-position-preserved c =
@@ -12,9 +12,9 @@ loop-position-preserved c =
     let in_dist : t < length l.dist = omega (arith, c.requires.in_range l.position-index 0 c.loop-position-test.true, l.auto.dist) in
     let in_prices : t < length l.prices = omega (arith, in_dist, c.requires.same, l.auto.dist, l.auto.prices) in
     let read = get_or_default l.dist t far 0 in_dist in
-    let is : (number l.prices t - c.saturating_sub-lacks.result) + (c.args.end - distance l.dist t) ≡ number l.prices t = omega (arith, c.saturating_sub-lacks.ensures, read, l.invariant.kept t, c.requires.fits t) in
+    let is : number l.prices t + c.saturating_sub-lacks.result ≡ number l.prices t + (c.args.end - distance l.dist t) = omega (arith, c.saturating_sub-lacks.ensures, read) in
     record {
-      kept = price_lowered l.prices l.dist c.args.end t (number l.prices t - c.saturating_sub-lacks.result) in_prices in_dist c.requires.end c.args.prices.now c.args.dist.now l.invariant.kept is;
+      kept = λ r. price_raised l.prices l.dist c.args.end t (number l.prices t + c.saturating_sub-lacks.result) in_prices in_dist c.requires.end is r ∙ l.invariant.kept r;
       top = top_put_back l.dist t in_dist l.invariant.top;
       whole = left_put_back l.dist c.args.touched.now l.position-index t in_dist c.loop-position-test.true refl l.invariant.whole;
     }

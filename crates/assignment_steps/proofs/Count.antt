@@ -1,12 +1,16 @@
 -- How many edges are not relaxed yet.
-use Rattle.std.proofs.Common.{◌≡◌, ◌≢◌, ◌⊎◌, ◌==◌, ℕ, zero, suc, ◌+◌, ◌<◌, ◌≤◌, Bool, true, false, cond, List, [], ◌∷◌, length, set, refl, inl, inr, arith, get_or-set_other, get_or-set_same}
+use Rattle.std.proofs.Common.{◌≡◌, ◌≢◌, ◌⊎◌, ℕ, zero, suc, ◌+◌, ◌<◌, ◌≤◌, Bool, true, false, cond, List, [], ◌∷◌, length, set, refl, inl, inr, arith, get_or-set_other, get_or-set_same}
+use Rattle.std.specs.Prelude.{◌==◌}
 use Rattle.std.proofs.lemmas.Bool.{cases_eq, eq-eqb, ne_eqb}
-use Rattle.std.proofs.lemmas.Bool.Decides.{nat_tests}
 use Rattle.std.proofs.lemmas.List.Sums.{sum_by-set}
-use Rattle.capacity_assign.specs.declared.market.Edge.{Edge}
-use Rattle.capacity_assign.specs.Core.{edge}
-use Rattle.capacity_assign.specs.Growth.{far, distance, count_at, is_left, left, unreached}
-use Rattle.capacity_assign.proofs.Links.{tick}
+use Rattle.std.proofs.lemmas.Bool.Decides.{nat_tests}
+use Rattle.assignment_steps.specs.declared.market.Edge.{Edge}
+use Rattle.assignment_steps.specs.Market.{edge}
+use Rattle.assignment_steps.specs.Distances.{far, distance, unreached}
+use Rattle.assignment_steps.specs.Relaxed.{count_at, is_left, left}
+
+abbrev tick : Bool → ℕ
+tick b = cond b 1 0
 
 pub count_same : (t u : Edge → ℕ → Bool) (xs : List Edge) (i : ℕ) → ((k : ℕ) → k < length xs → t (edge xs k) (i + k) ≡ u (edge xs k) (i + k)) → count_at t xs i ≡ count_at u xs i
 count_same t u [] i h = refl

@@ -1,0 +1,37 @@
+-- The ways along which links are turned round.
+use Rattle.std.specs.Prelude.{◌≡◌, ◌⊎◌, ℕ, zero, suc, ◌<◌, List, length, Option, Some, None}
+use Rattle.assignment_steps.specs.declared.market.Edge.{Edge}
+use Rattle.assignment_steps.specs.declared.market.Net.{Net}
+use Rattle.assignment_steps.specs.declared.market.Ways.{Ways}
+use Rattle.assignment_steps.specs.Market.{edge, link, number, IsTight}
+
+-- the edge by which a record of B was reached is tight
+pub record IsHop (es : List Edge) (pa pb from : List ℕ) (b : ℕ) : Type 0 where
+  pub reached : b < length from
+  pub place : number from b < length es
+  pub ends : (edge es (number from b)).b ≡ b
+  pub tight : IsTight es pa pb (number from b)
+
+-- the record of A from which a record of B was reached
+abbrev pub above : List Edge → List ℕ → ℕ → ℕ
+above es from b = (edge es (number from b)).a
+
+-- a way of at most n hops from a record of B to the root, along links and the edges by which records were reached
+abbrev pub Leads : List Edge → List ℕ → List ℕ → List (Option ℕ) → List ℕ → List ℕ → ℕ → ℕ → ℕ → Type 0
+Leads es pa pb la from rank root zero b = ⊥
+Leads es pa pb la from rank root (suc n) b =
+    IsHop es pa pb from b × (((above es from b ≡ root) × (link la (above es from b) ≡ None))
+    ⊎ ((k : ℕ) × ((link la (above es from b) ≡ Some k) × (number rank (above es from (edge es k).b) < number rank (above es from b))
+    × Leads es pa pb la from rank root n (edge es k).b)))
+
+-- a way from a record of B to the root
+abbrev pub LeadsBy : Net → Ways → List (Option ℕ) → ℕ → ℕ → Type 0
+LeadsBy net ways la n b = Leads net.edges.now net.price_a.now net.price_b.now la ways.from.now ways.rank.now ways.root n b
+
+-- a record of A is the root without a link, or a way leads from the record of B that it is linked to
+abbrev pub LeadsFromRecord : Net → Ways → List (Option ℕ) → ℕ → Type 0
+LeadsFromRecord net ways la position =
+    ((position ≡ ways.root) × (link la position ≡ None))
+    ⊎ ((k : ℕ) × ((link la position ≡ Some k)
+    × (number ways.rank.now (edge net.edges.now (number ways.from.now (edge net.edges.now k).b)).a < number ways.rank.now position)
+    × ((n : ℕ) × LeadsBy net ways la n (edge net.edges.now k).b)))

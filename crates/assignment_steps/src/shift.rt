@@ -1,0 +1,57 @@
+// Prices that are changed: up to a value, or by distances.
+ghost use Rattle.std.specs.Prelude.{◌≡◌, ◌≢◌, ◌+◌, ◌-◌, ◌<◌, ◌≤◌, ◌^◌, ◌⊎◌, ℕ, All, Contains, length};
+ghost use Rattle.link_limits.specs.declared.TheConstants.{MOST_VALUE};
+ghost use Rattle.assignment_steps.specs.Market.{number};
+ghost use Rattle.assignment_steps.specs.Distances.{distance};
+
+use crate::queue::FARTHEST;
+
+/// A price that is at least this value.
+pub fn raise_to(prices: &mut [u64], position: usize, value: u64)
+    requires { position < length prices.old }
+    ensures here { value ≤ number prices.new position }
+    ensures kept { (r : ℕ) → number prices.old r ≤ number prices.new r }
+    ensures only { (number prices.new position ≡ value) ⊎ (prices.new ≡ prices.old) }
+    ensures others { (r : ℕ) → r ≢ position → number prices.new r ≡ number prices.old r }
+    ensures small { value ≤ MOST_VALUE → ((r : ℕ) → number prices.old r ≤ MOST_VALUE) → (r : ℕ) → number prices.new r ≤ MOST_VALUE }
+{
+    if prices[position] < value {
+        prices[position] = value;
+    }
+}
+
+/// Each touched record's price rises by what its distance lacks to `end`, and the distances are put back.
+pub fn raise(prices: &mut [u64], dist: &mut [u64], touched: &[usize], end: u64)
+    requires same { length prices.old ≡ length dist.old }
+    requires end { end ≤ FARTHEST }
+    requires in_range { All (λ r. r < length dist.old) touched.now }
+    requires whole { (r : ℕ) → distance dist.old r < FARTHEST → Contains touched.now r }
+    requires top { (r : ℕ) → distance dist.old r ≤ FARTHEST }
+    requires fits { (r : ℕ) → number prices.old r + (end - distance dist.old r) < 2 ^ 64 }
+    ensures prices { (r : ℕ) → number prices.new r ≡ number prices.old r + (end - distance dist.old r) }
+    ensures dist { (r : ℕ) → distance dist.new r ≡ FARTHEST }
+{
+    for position in touched {
+        let lacks = end.saturating_sub(dist[*position]);
+        prices[*position] += lacks;
+        dist[*position] = FARTHEST;
+    }
+}
+
+/// The same, with prices that fall.
+pub fn lower(prices: &mut [u64], dist: &mut [u64], touched: &[usize], end: u64)
+    requires same { length prices.old ≡ length dist.old }
+    requires end { end ≤ FARTHEST }
+    requires in_range { All (λ r. r < length dist.old) touched.now }
+    requires whole { (r : ℕ) → distance dist.old r < FARTHEST → Contains touched.now r }
+    requires top { (r : ℕ) → distance dist.old r ≤ FARTHEST }
+    requires fits { (r : ℕ) → end - distance dist.old r ≤ number prices.old r }
+    ensures prices { (r : ℕ) → number prices.new r + (end - distance dist.old r) ≡ number prices.old r }
+    ensures dist { (r : ℕ) → distance dist.new r ≡ FARTHEST }
+{
+    for position in touched {
+        let lacks = end.saturating_sub(dist[*position]);
+        prices[*position] -= lacks;
+        dist[*position] = FARTHEST;
+    }
+}
