@@ -17,9 +17,9 @@ use Rattle.capacity_assign.specs.Growth.{Growth, HasRoomForRecords, IsGrown, IsT
 use Rattle.assignment_steps.specs.Distances.{distance, far}
 use Rattle.assignment_steps.proofs.OneWrite.{distance-set}
 
--- an edge that is of no use is relaxed as it is
-pub tree_passed : (f : Ground) (k : ℕ) (g : Growth) → IsTree f (edge_of f k).a k g → IsRelaxed f g k → IsTree f (edge_of f k).a (k + 1) g
-tree_passed f k g t here = record {
+-- only what is relaxed speaks of the record whose edges are not relaxed yet, and of the place
+pub tree_marked : (f : Ground) (position next position' next' : ℕ) (g : Growth) → IsTree f position next g → ((k : ℕ) → k < length f.edges.now → distance g.da (edge_of f k).a < far → ((edge_of f k).a ≡ position' → k < next') → IsRelaxed f g k) → IsTree f position' next' g
+tree_marked f position next position' next' g t relaxed = record {
   root_here = t.root_here;
   now = t.now;
   best_small = t.best_small;
@@ -27,7 +27,7 @@ tree_passed f k g t here = record {
   best_of = t.best_of;
   best_in = t.best_in;
   best_at = t.best_at;
-  relaxed = λ j lt near last. elim (cases_eq j k) [ inl e ↦ rw e here | inr n ↦ t.relaxed j lt near (λ same. (let below : j < k + 1 = last same in omega arith)) ];
+  relaxed = relaxed;
   same = t.same;
   pending = t.pending;
   held_at = t.held_at;
@@ -39,6 +39,12 @@ tree_passed f k g t here = record {
   noted_a = t.noted_a;
   noted_b = t.noted_b;
 }
+
+-- an edge that is of no use is relaxed as it is
+pub tree_passed : (f : Ground) (k : ℕ) (g : Growth) → IsTree f (edge_of f k).a k g → IsRelaxed f g k → IsTree f (edge_of f k).a (k + 1) g
+tree_passed f k g t here =
+    tree_marked f (edge_of f k).a k (edge_of f k).a (k + 1) g t
+    (λ j lt near last. elim (cases_eq j k) [ inl e ↦ rw e here | inr n ↦ t.relaxed j lt near (λ same. (let below : j < k + 1 = last same in omega arith)) ])
 
 -- A record of B that the tree reaches over an edge of its newest record is not settled where it was farther than that.
 unsettled : (f : Ground) (k j : ℕ) (g : Growth) (reach position next : ℕ) → IsTree f position next g → reach < distance g.db (edge_of f k).b → g.current ≤ reach → reach < far → link f.link_a.now (edge_of f j).a ≡ Some j → distance g.da (edge_of f j).a < far → (edge_of f j).b ≢ (edge_of f k).b
@@ -169,49 +175,11 @@ tree_reached f k g g' reach lt ready t last exact near useful records froms top 
 
 -- the mark of what is relaxed may be moved where no edge of the record stands between
 pub tree_skip : (f : Ground) (position n m : ℕ) (g : Growth) → IsTree f position n g → ((j : ℕ) → j < length f.edges.now → j < m → (edge_of f j).a ≡ position → j < n) → IsTree f position m g
-tree_skip f position n m g t none = record {
-  root_here = t.root_here;
-  now = t.now;
-  best_small = t.best_small;
-  low = t.low;
-  best_of = t.best_of;
-  best_in = t.best_in;
-  best_at = t.best_at;
-  relaxed = λ j lt joined last. t.relaxed j lt joined (λ same. none j lt (last same) same);
-  same = t.same;
-  pending = t.pending;
-  held_at = t.held_at;
-  late = t.late;
-  reached = t.reached;
-  climbs = t.climbs;
-  in_tree = t.in_tree;
-  ranks = t.ranks;
-  noted_a = t.noted_a;
-  noted_b = t.noted_b;
-}
+tree_skip f position n m g t none = tree_marked f position n position m g t (λ j lt joined last. t.relaxed j lt joined (λ same. none j lt (last same) same))
 
 -- with all edges relaxed it does not matter which record was the last
 pub tree_any : (f : Ground) (position position' : ℕ) (g : Growth) → IsTree f position (length f.edges.now) g → IsTree f position' (length f.edges.now) g
-tree_any f position position' g t = record {
-  root_here = t.root_here;
-  now = t.now;
-  best_small = t.best_small;
-  low = t.low;
-  best_of = t.best_of;
-  best_in = t.best_in;
-  best_at = t.best_at;
-  relaxed = λ j lt joined last. t.relaxed j lt joined (λ same. lt);
-  same = t.same;
-  pending = t.pending;
-  held_at = t.held_at;
-  late = t.late;
-  reached = t.reached;
-  climbs = t.climbs;
-  in_tree = t.in_tree;
-  ranks = t.ranks;
-  noted_a = t.noted_a;
-  noted_b = t.noted_b;
-}
+tree_any f position position' g t = tree_marked f position (length f.edges.now) position' (length f.edges.now) g t (λ j lt joined last. t.relaxed j lt joined (λ same. lt))
 
 -- the room for records is not that of the queue
 pub room_queued : (rows_a rows_b : ℕ) (t : Tree) (q : Queue) → HasRoomForRecords rows_a rows_b t → HasRoomForRecords rows_a rows_b (record t { frontier = q })
@@ -244,21 +212,21 @@ nearest_taken g n waiting inside least stays = record {
   least = λ x h. elim (stays x h) [ inl p ↦ All-contains (λ (x : ℕ × ℕ). n.distance ≤ x.0) waiting x least p | inr p ↦ rw p (omega arith) ];
 }
 
--- the entries that wait may be listed otherwise
-pub tree_relisted : (f : Ground) (position next : ℕ) (g : Growth) (waiting : List (ℕ × ℕ)) → IsTree f position next g → ((x : ℕ × ℕ) → Contains g.frontier x → Contains waiting x) → ((x : ℕ × ℕ) → Contains waiting x → Contains g.frontier x) → IsTree f position next (with_waiting waiting g)
-tree_relisted f position next g waiting t stays only = record {
+-- other entries wait, at another distance now, and another record of B is held
+tree_waiting : (f : Ground) (position next : ℕ) (g : Growth) (waiting : List (ℕ × ℕ)) (current : ℕ) (held : Option ℕ) → IsTree f position next g → current ≤ g.best → ((a : ℕ) → distance g.da a < far → distance g.da a ≤ current) → ((b : ℕ) → distance g.db b < far → Contains waiting (distance g.db b, b) ⊎ (IsSettled f g.da b ⊎ (held ≡ Some b))) → ((b : ℕ) → held ≡ Some b → (places_left f b ≡ 0) × (distance g.db b ≡ current)) → ((e : ℕ × ℕ) → Contains waiting e → (current ≤ e.0) × (distance g.db e.1 ≤ e.0) × (e.1 < length g.db)) → IsTree f position next (record g { frontier = waiting; current = current; held = held })
+tree_waiting f position next g waiting current held t now low pending held_at late = record {
   root_here = t.root_here;
-  now = t.now;
+  now = now;
   best_small = t.best_small;
-  low = t.low;
+  low = low;
   best_of = t.best_of;
   best_in = t.best_in;
   best_at = t.best_at;
   relaxed = t.relaxed;
   same = t.same;
-  pending = λ x close. elim (t.pending x close) [ inl p ↦ inl (stays (distance g.db x, x) p) | inr p ↦ inr p ];
-  held_at = t.held_at;
-  late = λ e inside. t.late e (only e inside);
+  pending = pending;
+  held_at = held_at;
+  late = late;
   reached = λ x close. (let old = t.reached x close in record { within = old.within; place = old.place; ends = old.ends; joined = old.joined; exact = old.exact });
   climbs = t.climbs;
   in_tree = t.in_tree;
@@ -266,6 +234,13 @@ tree_relisted f position next g waiting t stays only = record {
   noted_a = t.noted_a;
   noted_b = t.noted_b;
 }
+
+-- the entries that wait may be listed otherwise
+pub tree_relisted : (f : Ground) (position next : ℕ) (g : Growth) (waiting : List (ℕ × ℕ)) → IsTree f position next g → ((x : ℕ × ℕ) → Contains g.frontier x → Contains waiting x) → ((x : ℕ × ℕ) → Contains waiting x → Contains g.frontier x) → IsTree f position next (with_waiting waiting g)
+tree_relisted f position next g waiting t stays only =
+    tree_waiting f position next g waiting g.current g.held t t.now t.low
+    (λ x close. elim (t.pending x close) [ inl p ↦ inl (stays (distance g.db x, x) p) | inr p ↦ inr p ])
+    t.held_at (λ e inside. t.late e (only e inside))
 
 -- an entry that was taken waits still
 pub tree_taken : (f : Ground) (position next : ℕ) (g : Growth) (e : ℕ × ℕ) (left : List (ℕ × ℕ)) → IsTree f position next g → Contains g.frontier e → ((x : ℕ × ℕ) → Contains g.frontier x → Contains left x ⊎ (x ≡ e)) → ((x : ℕ × ℕ) → Contains left x → Contains g.frontier x) → IsTree f position next (with_waiting (e ∷ left) g)
@@ -276,35 +251,19 @@ tree_taken f position next g e left t inside stays only =
 
 -- an entry that is farther than its record is dropped
 pub tree_dropped : (f : Ground) (position next : ℕ) (g : Growth) (waiting : List (ℕ × ℕ)) (e : ℕ × ℕ) → IsTree f position next (with_waiting (e ∷ waiting) g) → distance g.db e.1 < e.0 → IsTree f position next (with_waiting waiting g)
-tree_dropped f position next g waiting e t stale = record {
-  root_here = t.root_here;
-  now = t.now;
-  best_small = t.best_small;
-  low = t.low;
-  best_of = t.best_of;
-  best_in = t.best_in;
-  best_at = t.best_at;
-  relaxed = t.relaxed;
-  same = t.same;
-  pending = λ x close. elim (t.pending x close) [
-    | inl p ↦ elim (Contains-cons_cases e waiting (distance g.db x, x) p) [
-      | inl q ↦ inl q
-      | inr q ↦ (let at : x ≡ e.1 = ap (λ (y : ℕ × ℕ). y.1) q in
-          let far_as : distance g.db x ≡ e.0 = ap (λ (y : ℕ × ℕ). y.0) q in
-          let same : distance g.db x ≡ distance g.db e.1 = ap (distance g.db) at in
-          absurd (omega (arith, same, far_as, stale)))
-    ]
-    | inr p ↦ inr p
-  ];
-  held_at = t.held_at;
-  late = λ x inside. t.late x (Contains-later e waiting x inside);
-  reached = λ x close. (let old = t.reached x close in record { within = old.within; place = old.place; ends = old.ends; joined = old.joined; exact = old.exact });
-  climbs = t.climbs;
-  in_tree = t.in_tree;
-  ranks = t.ranks;
-  noted_a = t.noted_a;
-  noted_b = t.noted_b;
-}
+tree_dropped f position next g waiting e t stale =
+    tree_waiting f position next (with_waiting (e ∷ waiting) g) waiting g.current g.held t t.now t.low
+    (λ x close. elim (t.pending x close) [
+      | inl p ↦ elim (Contains-cons_cases e waiting (distance g.db x, x) p) [
+        | inl q ↦ inl q
+        | inr q ↦ (let at : x ≡ e.1 = ap (λ (y : ℕ × ℕ). y.1) q in
+            let far_as : distance g.db x ≡ e.0 = ap (λ (y : ℕ × ℕ). y.0) q in
+            let same : distance g.db x ≡ distance g.db e.1 = ap (distance g.db) at in
+            absurd (omega (arith, same, far_as, stale)))
+      ]
+      | inr p ↦ inr p
+    ])
+    t.held_at (λ x inside. t.late x (Contains-later e waiting x inside))
 
 -- the growth while a record of B is held, and when it is let go
 abbrev pub holding : Growth → Near → Growth
@@ -315,61 +274,31 @@ letting_go g = record g { held = None }
 
 -- the record of B of the nearest entry is held
 pub tree_held : (f : Ground) (position next : ℕ) (g : Growth) (n : Near) → IsTree f position next (with_waiting ((n.distance, n.position) ∷ g.frontier) g) → g.held ≡ None → IsNearest (with_waiting ((n.distance, n.position) ∷ g.frontier) g) n → n.distance < g.best → distance g.db n.position ≡ n.distance → places_left f n.position ≡ 0 → IsTree f position next (holding g n)
-tree_held f position next g n t none near useful exact full = record {
-  root_here = t.root_here;
-  now = omega (arith, useful);
-  best_small = t.best_small;
-  low = λ a joined. omega (arith, t.low a joined, (t.late (n.distance, n.position) near.inside).0);
-  best_of = t.best_of;
-  best_in = t.best_in;
-  best_at = t.best_at;
-  relaxed = t.relaxed;
-  same = t.same;
-  pending = λ x close. elim (t.pending x close) [
-    | inl p ↦ elim (Contains-cons_cases (n.distance, n.position) g.frontier (distance g.db x, x) p) [
-      | inl q ↦ inl q
-      | inr q ↦ inr (inr (ap (λ (y : ℕ × ℕ). Some y.1) (sym q)))
-    ]
-    | inr p ↦ elim p [ inl q ↦ inr (inl (record { full = q.full; joined = q.joined })) | inr q ↦ absurd (let clash : None ≡ Some x = sym none ∙ q in cc) ]
-  ];
-  held_at = λ x is. (let at : x ≡ n.position = cc in rw at (full, exact));
-  late = λ x inside. (near.least x (Contains-later (n.distance, n.position) g.frontier x inside), (t.late x (Contains-later (n.distance, n.position) g.frontier x inside)).1, (t.late x (Contains-later (n.distance, n.position) g.frontier x inside)).2);
-  reached = λ x close. (let old = t.reached x close in record { within = old.within; place = old.place; ends = old.ends; joined = old.joined; exact = old.exact });
-  climbs = t.climbs;
-  in_tree = t.in_tree;
-  ranks = t.ranks;
-  noted_a = t.noted_a;
-  noted_b = t.noted_b;
-}
+tree_held f position next g n t none near useful exact full =
+    tree_waiting f position next (with_waiting ((n.distance, n.position) ∷ g.frontier) g) g.frontier n.distance (Some n.position) t (omega (arith, useful))
+    (λ a joined. omega (arith, t.low a joined, (t.late (n.distance, n.position) near.inside).0))
+    (λ x close. elim (t.pending x close) [
+      | inl p ↦ elim (Contains-cons_cases (n.distance, n.position) g.frontier (distance g.db x, x) p) [
+        | inl q ↦ inl q
+        | inr q ↦ inr (inr (ap (λ (y : ℕ × ℕ). Some y.1) (sym q)))
+      ]
+      | inr p ↦ elim p [ inl q ↦ inr (inl (record { full = q.full; joined = q.joined })) | inr q ↦ absurd (let clash : None ≡ Some x = sym none ∙ q in cc) ]
+    ])
+    (λ x is. (let at : x ≡ n.position = cc in rw at (full, exact)))
+    (λ x inside. (near.least x (Contains-later (n.distance, n.position) g.frontier x inside), (t.late x (Contains-later (n.distance, n.position) g.frontier x inside)).1, (t.late x (Contains-later (n.distance, n.position) g.frontier x inside)).2))
 
 -- it is let go when all its records of A have joined
 pub tree_let_go : (f : Ground) (position next : ℕ) (g : Growth) (b : ℕ) → IsTree f position next g → g.held ≡ Some b → ((k : ℕ) → link f.link_a.now (edge_of f k).a ≡ Some k → (edge_of f k).b ≡ b → distance g.da (edge_of f k).a < far) → IsTree f position next (letting_go g)
-tree_let_go f position next g b t is joined = record {
-  root_here = t.root_here;
-  now = t.now;
-  best_small = t.best_small;
-  low = t.low;
-  best_of = t.best_of;
-  best_in = t.best_in;
-  best_at = t.best_at;
-  relaxed = t.relaxed;
-  same = t.same;
-  pending = λ x close. elim (t.pending x close) [
-    | inl p ↦ inl p
-    | inr p ↦ elim p [
-      | inl q ↦ inr (inl (record { full = q.full; joined = q.joined }))
-      | inr q ↦ (let at : x ≡ b = cc in inr (inl (record { full = (t.held_at x q).0; joined = λ k on ends. joined k on (ends ∙ at) })))
-    ]
-  ];
-  held_at = λ x none. absurd (let clash : None ≡ Some x = none in cc);
-  late = t.late;
-  reached = λ x close. (let old = t.reached x close in record { within = old.within; place = old.place; ends = old.ends; joined = old.joined; exact = old.exact });
-  climbs = t.climbs;
-  in_tree = t.in_tree;
-  ranks = t.ranks;
-  noted_a = t.noted_a;
-  noted_b = t.noted_b;
-}
+tree_let_go f position next g b t is joined =
+    tree_waiting f position next g g.frontier g.current None t t.now t.low
+    (λ x close. elim (t.pending x close) [
+      | inl p ↦ inl p
+      | inr p ↦ elim p [
+        | inl q ↦ inr (inl (record { full = q.full; joined = q.joined }))
+        | inr q ↦ (let at : x ≡ b = cc in inr (inl (record { full = (t.held_at x q).0; joined = λ k on ends. joined k on (ends ∙ at) })))
+      ]
+    ])
+    (λ x none. absurd (let clash : None ≡ Some x = none in cc)) t.late
 
 -- an end that is as near as the record that is held
 pub grown_holding : (f : Ground) (g : Growth) (b : ℕ) → IsTree f 0 (length f.edges.now) g → g.held ≡ Some b → g.best ≤ g.current → IsGrown f g g.best None g.best_record
