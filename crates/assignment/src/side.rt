@@ -1,7 +1,7 @@
 // Prices, links and room of the side that searches.
 ghost use Rattle.std.specs.Prelude.{◌≡◌, ◌*◌, ◌/◌, ◌<◌, ◌≤◌, ℕ, IfOk, MatchOption, None, is_some, length, nat_lt};
 ghost use Rattle.std.specs.List.{sum};
-ghost use Rattle.assignment_steps.specs.Market.{link, AreSmall, AreStarts, IsInRange, IsRising};
+ghost use Rattle.assignment_steps.specs.Market.{link, AreListed, IsInRange};
 ghost use Rattle.assignment_steps.specs.Between.{IsBetween};
 ghost use Rattle.assignment_steps.specs.Joined.{AreJoinedAs};
 ghost use Rattle.assignment.specs.Final.{ReachAll};
@@ -129,9 +129,7 @@ fn settle(
     tree: &mut Tree,
     spare: &mut Spare,
 )
-    requires rising { IsRising board.edges.now }
-    requires small { AreSmall board.edges.now }
-    requires starts { AreStarts board.edges.now (length price_a.old) board.starts.now }
+    requires listed { AreListed board.edges.now (length price_a.old) board.starts.now }
     requires between { IsBetween board.edges.now price_a.old price_b.old link_a.old link_b.old 0 }
     requires clean { IsClean (length price_a.old) (length price_b.old) tree.old }
     requires queue { length board.edges.now ≤ tree.old.frontier.room }
@@ -172,9 +170,7 @@ fn settle(
 
 /// Settles each record of a side.
 pub fn run(board: Board<'_>, side: &mut Side)
-    requires rising { IsRising board.edges.now }
-    requires small { AreSmall board.edges.now }
-    requires starts { AreStarts board.edges.now (length side.old.price_a.items) board.starts.now }
+    requires listed { AreListed board.edges.now (length side.old.price_a.items) board.starts.now }
     requires side { IsSide board.edges.now side.old }
     ensures between { IsBetween board.entry.edges.now side.new.price_a.items side.new.price_b.items side.new.link_a.items side.new.link_b.items (length side.new.price_a.items) }
     ensures rows_a { length side.new.price_a.items ≡ length side.old.price_a.items }
@@ -224,9 +220,7 @@ fn take_over(
 
 /// Lets the other side search first, if it is there, and takes its prices and links over.
 pub fn run_other(board: Board<'_>, side: &mut Side, other: Option<Other>)
-    requires rising { IsRising board.turned.now }
-    requires small { AreSmall board.turned.now }
-    requires starts { AreStarts board.turned.now (length side.old.price_b.items) board.turned_starts.now }
+    requires listed { AreListed board.turned.now (length side.old.price_b.items) board.turned_starts.now }
     requires side { IsSide board.edges.now side.old }
     requires other { MatchOption other (Unit {0}) (IsOther board.turned.now (length side.old.price_a.items) (length side.old.price_b.items)) }
     ensures side { IsSide board.entry.edges.now side.new }

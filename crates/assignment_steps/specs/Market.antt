@@ -57,3 +57,9 @@ pub record IsStart (es : List Edge) (a start : ℕ) : Type 0 where
 pub record AreStarts (es : List Edge) (rows : ℕ) (starts : List ℕ) : Type 0 where
   pub count : length starts ≡ rows + 1
   pub starts_at : (a : ℕ) → a ≤ rows → IsStart es a (number starts a)
+
+-- edges that stand by their records of A, none with a large value, and the first places of all records
+pub record AreListed (es : List Edge) (rows : ℕ) (starts : List ℕ) : Type 0 where
+  pub rising : IsRising es
+  pub small : AreSmall es
+  pub begins : AreStarts es rows starts

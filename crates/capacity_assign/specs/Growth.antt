@@ -228,3 +228,8 @@ pub record IsClean (rows_a rows_b : ℕ) (t : Tree) : Type 0 where
   pub empty : t.frontier.count ≡ 0
   pub records : t.records.items ≡ []
   pub touched : t.touched.items ≡ []
+
+-- and room for an entry of each edge
+pub record IsAtRest (es : List Edge) (rows_a rows_b : ℕ) (t : Tree) : Type 0 where
+  pub clean : IsClean rows_a rows_b t
+  pub queue : length es ≤ t.frontier.room

@@ -6,8 +6,8 @@ use Rattle.price_check.specs.Assignment.{IsBefore}
 use Rattle.price_check.specs.Capacities.{capacity_of}
 use Rattle.capacity_assign.specs.declared.assigner.CapacityAssigner.TheInside.{Inside}
 use Rattle.capacity_assign.specs.Core.{linked_at}
-use Rattle.assignment_steps.specs.Market.{number, AreStarts, IsRising, AreSmall}
-use Rattle.capacity_assign.specs.Growth.{IsClean}
+use Rattle.assignment_steps.specs.Market.{number, AreListed}
+use Rattle.capacity_assign.specs.Growth.{IsAtRest}
 use Rattle.capacity_assign.specs.Round.{IsBetween}
 use Rattle.capacity_assign.specs.Seating.{seating}
 use Rattle.assignment_steps.specs.Candidates.{edges_of}
@@ -16,15 +16,12 @@ use Rattle.assignment_steps.specs.Candidates.{edges_of}
 pub record IsPrepared (s : Inside) : Type 0 where
   pub order : AllPairs IsBefore s.candidates.items
   pub edges : s.edges.items ≡ edges_of s.candidates.items
-  pub rising : IsRising s.edges.items
-  pub starts : AreStarts s.edges.items (length s.price_a.items) s.starts.items
-  pub small : AreSmall s.edges.items
+  pub listed : AreListed s.edges.items (length s.price_a.items) s.starts.items
   pub between : IsBetween s.edges.items s.price_a.items s.price_b.items s.link_a.items (seating s.seats) 0
   pub places : (b : ℕ) → number s.seats.left.items b + linked_at s.edges.items s.link_a.items b ≡ capacity_of s.capacity.items b
   pub rows_a : length s.price_a.items ≡ s.rows_a
   pub rows_b : length s.price_b.items ≡ length s.capacity.items
-  pub clean : IsClean (length s.price_a.items) (length s.price_b.items) s.tree
-  pub queue : length s.edges.items ≤ s.tree.frontier.room
+  pub tree : IsAtRest s.edges.items (length s.price_a.items) (length s.price_b.items) s.tree
 
 -- no price is above the greatest size of a value
 abbrev pub AreBounded : List ℕ → Type 0

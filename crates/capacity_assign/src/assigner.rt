@@ -3,8 +3,8 @@ ghost use Rattle.std.specs.Prelude.{◌≡◌, ◌<◌, ◌≤◌, ◌^◌, leng
 ghost use Rattle.price_check.specs.Assignment.{IsBefore, IsWithin, price_of};
 ghost use Rattle.price_check.specs.Capacities.{CertifiesWithin, IsGreatestWithin};
 ghost use Rattle.capacity_assign.specs.Solution.{HasSmallValue, IsAllowedCapacity};
-ghost use Rattle.assignment_steps.specs.Market.{AreStarts, IsRising, AreSmall};
-ghost use Rattle.capacity_assign.specs.Growth.{IsClean};
+ghost use Rattle.assignment_steps.specs.Market.{AreListed};
+ghost use Rattle.capacity_assign.specs.Growth.{IsAtRest};
 ghost use Rattle.capacity_assign.specs.Round.{IsBetween, KeepsPlaces};
 ghost use Rattle.capacity_assign.specs.Seating.{seating};
 ghost use Rattle.link_limits.specs.declared.TheConstants.{MOST_VALUE};
@@ -76,12 +76,9 @@ fn run(
     seats: &mut Seats,
     tree: &mut Tree,
 )
-    requires rising { IsRising edges.now.items }
-    requires starts { AreStarts edges.now.items (length price_a.old.items) starts.now.items }
-    requires small { AreSmall edges.now.items }
+    requires listed { AreListed edges.now.items (length price_a.old.items) starts.now.items }
     requires between { IsBetween edges.now.items price_a.old.items price_b.old.items link_a.old.items (seating seats.old) 0 }
-    requires clean { IsClean (length price_a.old.items) (length price_b.old.items) tree.old }
-    requires queue { length edges.now.items ≤ tree.old.frontier.room }
+    requires tree { IsAtRest edges.now.items (length price_a.old.items) (length price_b.old.items) tree.old }
     ensures between { IsBetween edges.now.items price_a.new.items price_b.new.items link_a.new.items (seating seats.new) (length price_a.new.items) }
     ensures places { KeepsPlaces edges.now.items link_a.old.items seats.old.left.items link_a.new.items seats.new.left.items }
     ensures rows_a { length price_a.new.items ≡ length price_a.old.items }

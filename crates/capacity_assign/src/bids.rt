@@ -1,8 +1,8 @@
 // Bids, before any record of A is taken up without a limit: each costs what the records of A at one record of B
 // cost, while a whole search may reach far.
-ghost use Rattle.std.specs.Prelude.{◌<◌, ◌≤◌, length, MatchOption};
-ghost use Rattle.assignment_steps.specs.Market.{AreStarts, IsRising, AreSmall};
-ghost use Rattle.capacity_assign.specs.Growth.{IsClean};
+ghost use Rattle.std.specs.Prelude.{◌<◌, length, MatchOption};
+ghost use Rattle.assignment_steps.specs.Market.{AreListed};
+ghost use Rattle.capacity_assign.specs.Growth.{IsAtRest};
 ghost use Rattle.capacity_assign.specs.Round.{IsBetween, KeepsPlaces};
 ghost use Rattle.capacity_assign.specs.Seating.{seating};
 
@@ -28,18 +28,14 @@ fn bid(
     tree: &mut Tree,
     row: usize,
 ) -> Option<usize>
-    requires rising { IsRising edges.now }
-    requires starts { AreStarts edges.now (length price_a.old) starts.now }
-    requires small { AreSmall edges.now }
+    requires listed { AreListed edges.now (length price_a.old) starts.now }
     requires inside { row < length price_a.old }
     requires between { IsBetween edges.now price_a.old price_b.old link_a.old (seating seats.old) 0 }
-    requires clean { IsClean (length price_a.old) (length price_b.old) tree.old }
-    requires queue { length edges.now ≤ tree.old.frontier.room }
+    requires tree { IsAtRest edges.now (length price_a.old) (length price_b.old) tree.old }
     ensures between { IsBetween edges.now price_a.new price_b.new link_a.new (seating seats.new) 0 }
     ensures places { KeepsPlaces edges.now link_a.old seats.old.left.items link_a.new seats.new.left.items }
     ensures next { MatchOption result (Unit {0}) (λ r. r < length price_a.new) }
-    ensures queue { length edges.now ≤ tree.new.frontier.room }
-    ensures clean { IsClean (length price_a.new) (length price_b.new) tree.new }
+    ensures tree { IsAtRest edges.now (length price_a.new) (length price_b.new) tree.new }
 {
     if link_a[row].is_some() {
         return None;
@@ -71,17 +67,13 @@ fn bids_from(
     tree: &mut Tree,
     root: usize,
 )
-    requires rising { IsRising edges.now }
-    requires starts { AreStarts edges.now (length price_a.old) starts.now }
-    requires small { AreSmall edges.now }
+    requires listed { AreListed edges.now (length price_a.old) starts.now }
     requires root { root < length price_a.old }
     requires between { IsBetween edges.now price_a.old price_b.old link_a.old (seating seats.old) 0 }
-    requires clean { IsClean (length price_a.old) (length price_b.old) tree.old }
-    requires queue { length edges.now ≤ tree.old.frontier.room }
+    requires tree { IsAtRest edges.now (length price_a.old) (length price_b.old) tree.old }
     ensures between { IsBetween edges.now price_a.new price_b.new link_a.new (seating seats.new) 0 }
     ensures places { KeepsPlaces edges.now link_a.old seats.old.left.items link_a.new seats.new.left.items }
-    ensures queue { length edges.now ≤ tree.new.frontier.room }
-    ensures clean { IsClean (length price_a.new) (length price_b.new) tree.new }
+    ensures tree { IsAtRest edges.now (length price_a.new) (length price_b.new) tree.new }
 {
     let mut row = root;
     for _ in 0..BIDS {
@@ -102,16 +94,12 @@ pub fn all_bids(
     seats: &mut Seats,
     tree: &mut Tree,
 )
-    requires rising { IsRising edges.now }
-    requires starts { AreStarts edges.now (length price_a.old) starts.now }
-    requires small { AreSmall edges.now }
+    requires listed { AreListed edges.now (length price_a.old) starts.now }
     requires between { IsBetween edges.now price_a.old price_b.old link_a.old (seating seats.old) 0 }
-    requires clean { IsClean (length price_a.old) (length price_b.old) tree.old }
-    requires queue { length edges.now ≤ tree.old.frontier.room }
+    requires tree { IsAtRest edges.now (length price_a.old) (length price_b.old) tree.old }
     ensures between { IsBetween edges.now price_a.new price_b.new link_a.new (seating seats.new) 0 }
     ensures places { KeepsPlaces edges.now link_a.old seats.old.left.items link_a.new seats.new.left.items }
-    ensures queue { length edges.now ≤ tree.new.frontier.room }
-    ensures clean { IsClean (length price_a.new) (length price_b.new) tree.new }
+    ensures tree { IsAtRest edges.now (length price_a.new) (length price_b.new) tree.new }
 {
     for root in 0..price_a.len() {
         bids_from(edges, starts, price_a, price_b, link_a, seats, tree, root);

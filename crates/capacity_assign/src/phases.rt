@@ -1,7 +1,7 @@
 // All of a solution: links over tight edges, bids, and every record of A taken up in turn.
-ghost use Rattle.std.specs.Prelude.{◌≤◌, length};
-ghost use Rattle.assignment_steps.specs.Market.{AreStarts, IsRising, AreSmall};
-ghost use Rattle.capacity_assign.specs.Growth.{IsClean};
+ghost use Rattle.std.specs.Prelude.{length};
+ghost use Rattle.assignment_steps.specs.Market.{AreListed};
+ghost use Rattle.capacity_assign.specs.Growth.{IsAtRest};
 ghost use Rattle.capacity_assign.specs.Round.{IsBetween, KeepsPlaces};
 ghost use Rattle.capacity_assign.specs.Seating.{seating};
 
@@ -21,12 +21,9 @@ pub fn all_rounds(
     seats: &mut Seats,
     tree: &mut Tree,
 )
-    requires rising { IsRising edges.now }
-    requires starts { AreStarts edges.now (length price_a.old) starts.now }
-    requires small { AreSmall edges.now }
+    requires listed { AreListed edges.now (length price_a.old) starts.now }
     requires between { IsBetween edges.now price_a.old price_b.old link_a.old (seating seats.old) 0 }
-    requires clean { IsClean (length price_a.old) (length price_b.old) tree.old }
-    requires queue { length edges.now ≤ tree.old.frontier.room }
+    requires tree { IsAtRest edges.now (length price_a.old) (length price_b.old) tree.old }
     ensures between { IsBetween edges.now price_a.new price_b.new link_a.new (seating seats.new) (length price_a.new) }
     ensures places { KeepsPlaces edges.now link_a.old seats.old.left.items link_a.new seats.new.left.items }
 {

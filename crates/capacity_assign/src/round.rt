@@ -2,8 +2,8 @@
 ghost use Rattle.std.specs.Prelude.{◌≡◌, ◌+◌, ◌-◌, ◌<◌, ◌≤◌, ℕ, length, None, Contains, MatchOption, IsNone, ◌⊎◌};
 ghost use Rattle.link_limits.specs.declared.TheConstants.{MOST_VALUE};
 ghost use Rattle.capacity_assign.specs.Core.{AreLinked};
-ghost use Rattle.assignment_steps.specs.Market.{IsInRange, link, AreTight, number, AreStarts, IsRising, AreSmall};
-ghost use Rattle.capacity_assign.specs.Growth.{HasRoomForRecords, IsClean};
+ghost use Rattle.assignment_steps.specs.Market.{IsInRange, link, AreTight, number, AreListed};
+ghost use Rattle.capacity_assign.specs.Growth.{HasRoomForRecords, IsAtRest, IsClean};
 ghost use Rattle.assignment_steps.specs.Distances.{distance, far};
 ghost use Rattle.assignment_steps.specs.Ways.{LeadsBy, LeadsFromRecord};
 ghost use Rattle.capacity_assign.specs.Round.{IsBetween, KeepsPlaces};
@@ -95,20 +95,16 @@ pub fn take_up(
     root: usize,
     limit: Option<usize>,
 ) -> Grown
-    requires rising { IsRising edges.now }
-    requires starts { AreStarts edges.now (length price_a.old) starts.now }
-    requires small { AreSmall edges.now }
+    requires listed { AreListed edges.now (length price_a.old) starts.now }
     requires root { root < length price_a.old }
     requires free { link link_a.old root ≡ None }
     requires between { IsBetween edges.now price_a.old price_b.old link_a.old (seating seats.old) 0 }
-    requires clean { IsClean (length price_a.old) (length price_b.old) tree.old }
-    requires queue { length edges.now ≤ tree.old.frontier.room }
+    requires tree { IsAtRest edges.now (length price_a.old) (length price_b.old) tree.old }
     ensures between { IsBetween edges.now price_a.new price_b.new link_a.new (seating seats.new) 0 }
     ensures places { KeepsPlaces edges.now link_a.old seats.old.left.items link_a.new seats.new.left.items }
     ensures last { MatchOption result.free (result.last < length price_a.new) (λ _. Unit {0}) }
     ensures settled { limit ≡ None → ((a : ℕ) → a < root → link link_a.old a ≡ None → number price_a.old a ≡ 0) → (a : ℕ) → a < root + 1 → link link_a.new a ≡ None → number price_a.new a ≡ 0 }
-    ensures queue { length edges.now ≤ tree.new.frontier.room }
-    ensures clean { IsClean (length price_a.new) (length price_b.new) tree.new }
+    ensures tree { IsAtRest edges.now (length price_a.new) (length price_b.new) tree.new }
 {
     let ground = Ground {
         edges,
@@ -146,17 +142,13 @@ pub fn round(
     tree: &mut Tree,
     root: usize,
 )
-    requires rising { IsRising edges.now }
-    requires starts { AreStarts edges.now (length price_a.old) starts.now }
-    requires small { AreSmall edges.now }
+    requires listed { AreListed edges.now (length price_a.old) starts.now }
     requires root { root < length price_a.old }
     requires between { IsBetween edges.now price_a.old price_b.old link_a.old (seating seats.old) root }
-    requires clean { IsClean (length price_a.old) (length price_b.old) tree.old }
-    requires queue { length edges.now ≤ tree.old.frontier.room }
+    requires tree { IsAtRest edges.now (length price_a.old) (length price_b.old) tree.old }
     ensures between { IsBetween edges.now price_a.new price_b.new link_a.new (seating seats.new) (root + 1) }
     ensures places { KeepsPlaces edges.now link_a.old seats.old.left.items link_a.new seats.new.left.items }
-    ensures queue { length edges.now ≤ tree.new.frontier.room }
-    ensures clean { IsClean (length price_a.new) (length price_b.new) tree.new }
+    ensures tree { IsAtRest edges.now (length price_a.new) (length price_b.new) tree.new }
 {
     if link_a[root].is_some() {
         return;

@@ -3,13 +3,13 @@ use Rattle.assignment.specs.Final.{ReachAll}
 use Rattle.assignment.proofs.graph.first_sides.Goals as goal
 
 pub first_prices-requires-clause-small : goal.first_prices-requires-clause-small
-first_prices-requires-clause-small c = rw c.deref.ensures.value c.requires.small
+first_prices-requires-clause-small c = rw c.deref.ensures.value c.requires.listed.small
 
 pub first_prices-requires-clause-within : goal.first_prices-requires-clause-within
 first_prices-requires-clause-within c = rw c.deref.ensures.value c.requires.in_range.record_a
 
 pub first_prices-requires-2-clause-small : goal.first_prices-requires-2-clause-small
-first_prices-requires-2-clause-small c = rw c.deref-2.ensures.value c.requires.turned_small
+first_prices-requires-2-clause-small c = rw c.deref-2.ensures.value c.requires.turned_listed.small
 
 pub first_prices-requires-2-clause-within : goal.first_prices-requires-2-clause-within
 first_prices-requires-2-clause-within c = rw c.deref-2.ensures.value c.requires.turned.record_a

@@ -19,12 +19,16 @@ returns-clause-graph c =
     let turned : AreTurned (edges_of cs) c.in_ok-turned.turned.items = rw (c.deref-2.ensures.value, made) at c.in_ok-turned.ensures.turned in
     let range = range_edges cs c.args.rows_a c.args.rows_b c.requires.within in
     record {
-      rising = rw made (rising_edges cs c.requires.rising);
-      small = rw made (small_edges cs c.requires.small);
       in_range = rw made range;
-      starts = rw made starts;
+      listed = record {
+        rising = rw made (rising_edges cs c.requires.rising);
+        small = rw made (small_edges cs c.requires.small);
+        begins = rw made starts;
+      };
       turned = turned_in_range (edges_of cs) c.in_ok-turned.turned.items c.args.rows_a c.args.rows_b range turned;
-      turned_small = turned_small (edges_of cs) c.in_ok-turned.turned.items (small_edges cs c.requires.small) turned;
-      turned_rising = c.in_ok-turned.ensures.rising;
-      turned_starts = rw c.deref-3.ensures.value at c.in_ok-turned_starts.ensures;
+      turned_listed = record {
+        rising = c.in_ok-turned.ensures.rising;
+        small = turned_small (edges_of cs) c.in_ok-turned.turned.items (small_edges cs c.requires.small) turned;
+        begins = rw c.deref-3.ensures.value at c.in_ok-turned_starts.ensures;
+      };
     }

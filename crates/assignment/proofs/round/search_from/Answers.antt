@@ -30,7 +30,7 @@ returns-clause-between c =
     let grown = c.in-Some.ensures.grown in
     let t = c.turn.ensures in
     between_after _ (with_waiting grown.0 (growth c.search.new.tree)) c.in-Some.grown.end c.in-Some.grown.free c.shift-2.new.price_a c.shift-2.new.price_b c.search.ensures.ready grown.1 c.shift-2.ensures.price_a c.shift-2.ensures.price_b
-    c.turn.new.link_a c.turn.new.link_b c.requires.small c.requires.between c.shift-2.auto.price_a c.shift-2.auto.price_b t.rows_a t.rows_b t.matched t.tight t.still_b
+    c.turn.new.link_a c.turn.new.link_b c.requires.listed.small c.requires.between c.shift-2.auto.price_a c.shift-2.auto.price_b t.rows_a t.rows_b t.matched t.tight t.still_b
 
 pub returns-clause-kept : goal.returns-clause-kept
 returns-clause-kept c =
@@ -55,7 +55,7 @@ search-requires-clause-ready c =
     record {
       rows_a = w.rows_a;
       rows_b = w.rows_b;
-      starts = c.requires.starts;
+      starts = c.requires.listed.begins;
       root_in = c.requires.root;
       root_free = c.requires.free;
       in_range = w.in_range;
@@ -103,3 +103,6 @@ returns-clause-clean c = rw (c.shift-2.auto.price_a, c.shift-2.auto.price_b) c.s
 
 pub shift-requires-2-clause-room : goal.shift-requires-2-clause-room
 shift-requires-2-clause-room c = c.search.ensures.room
+
+pub search-requires-clause-rising : goal.search-requires-clause-rising
+search-requires-clause-rising c = c.requires.listed.rising

@@ -2,8 +2,8 @@ use Rattle.std.proofs.Common.{◌∙◌, ap, length}
 use Rattle.std.proofs.lemmas.List.{with_items_is}
 use Rattle.assignment.proofs.side.run.Goals as goal
 
-pub settle-requires-clause-starts : goal.settle-requires-clause-starts
-settle-requires-clause-starts c = rw c.deref_mut.ensures.value c.requires.starts
+pub settle-requires-clause-listed : goal.settle-requires-clause-listed
+settle-requires-clause-listed c = rw c.deref_mut.ensures.value c.requires.listed
 
 pub settle-requires-clause-between : goal.settle-requires-clause-between
 settle-requires-clause-between c = rw (c.deref_mut.ensures.value, c.deref_mut-2.ensures.value, c.deref_mut-3.ensures.value, c.deref_mut-4.ensures.value) c.requires.side.between

@@ -5,10 +5,10 @@ use Rattle.assignment.proofs.side.run_other.Goals as goal
 pub returns-in_default-clause-taken : goal.returns-in_default-clause-taken
 returns-in_default-clause-taken c = rw c.in_default.is tt
 
-pub run-requires-clause-starts : goal.run-requires-clause-starts
-run-requires-clause-starts c =
+pub run-requires-clause-listed : goal.run-requires-clause-listed
+run-requires-clause-listed c =
     let o = rw c.in-Some.is at c.requires.other in
-    rw o.count_b c.requires.starts
+    rw o.count_b c.requires.listed
 
 pub run-requires-clause-side : goal.run-requires-clause-side
 run-requires-clause-side c = (rw c.in-Some.is at c.requires.other).side

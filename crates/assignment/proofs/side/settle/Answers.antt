@@ -14,8 +14,8 @@ returns-then-waiting-eq0 c = between_done _ _ _ _ _ _ c.search_each.ensures.betw
 pub take_proposal-requires : goal.take_proposal-requires
 take_proposal-requires c = record { between = c.search_each.ensures.between }
 
-pub search_each-requires-2-clause-starts : goal.search_each-requires-2-clause-starts
-search_each-requires-2-clause-starts c = rw (c.take_proposal.auto.price_a, c.search_each.auto.price_a) c.requires.starts
+pub search_each-requires-2-clause-listed : goal.search_each-requires-2-clause-listed
+search_each-requires-2-clause-listed c = rw (c.take_proposal.auto.price_a, c.search_each.auto.price_a) c.requires.listed
 
 pub search_each-requires-2-clause-clean : goal.search_each-requires-2-clause-clean
 search_each-requires-2-clause-clean c = rw (c.take_proposal.auto.price_a, c.take_proposal.auto.price_b) c.search_each.ensures.clean

@@ -8,12 +8,9 @@ all_rounds-requires c =
     let pa = c.deref_mut.ensures.value in
     let pb = c.deref_mut-2.ensures.value in
     record {
-      rising = rw edges c.requires.rising;
-      starts = rw (edges, c.deref-2.ensures.value, pa) c.requires.starts;
-      small = rw edges c.requires.small;
+      listed = rw (edges, c.deref-2.ensures.value, pa) c.requires.listed;
       between = rw (edges, pa, pb, c.deref_mut-3.ensures.value) c.requires.between;
-      clean = rw (pa, pb) c.requires.clean;
-      queue = rw edges c.requires.queue;
+      tree = rw (edges, pa, pb) c.requires.tree;
     }
 
 pub returns : goal.returns

@@ -7,6 +7,5 @@ loop-root-preserved c =
     record {
       between = after.between;
       places = λ b. after.places b ∙ c.loop-root.invariant.places b;
-      clean = after.clean;
-      queue = after.queue;
+      tree = after.tree;
     }

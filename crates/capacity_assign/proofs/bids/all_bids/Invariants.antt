@@ -1,5 +1,5 @@
-use Rattle.std.proofs.Common.{◌≤◌, length}
-use Rattle.capacity_assign.specs.Growth.{IsClean}
+use Rattle.std.proofs.Common.{length}
+use Rattle.capacity_assign.specs.Growth.{IsAtRest}
 use Rattle.capacity_assign.specs.Round.{IsBetween, KeepsPlaces}
 use Rattle.capacity_assign.specs.Seating.{seating}
 use Rattle.capacity_assign.proofs.bids.all_bids.Given as goal
@@ -8,6 +8,5 @@ abbrev pub invariant-loop-root : goal.invariant-loop-root
 invariant-loop-root l = record {
   between : IsBetween l.edges l.price_a l.price_b l.link_a (seating l.seats) 0;
   places : KeepsPlaces l.edges l.fn.link_a l.fn.seats.left.items l.link_a l.seats.left.items;
-  clean : IsClean (length l.price_a) (length l.price_b) l.tree;
-  queue : length l.edges ≤ l.tree.frontier.room;
+  tree : IsAtRest l.edges (length l.price_a) (length l.price_b) l.tree;
 }

@@ -8,21 +8,17 @@ loop-root-init c =
     record {
       between = bids.between;
       places = λ b. bids.places b ∙ tight.places b;
-      clean = bids.clean;
-      queue = bids.queue;
+      tree = bids.tree;
     }
 
 pub round-requires : goal.round-requires
 round-requires c =
     let i = c.loop-root.invariant in
     record {
-      rising = c.requires.rising;
-      starts = rw (c.loop-root.auto.price_a, c.all_bids.auto.price_a) c.requires.starts;
-      small = c.requires.small;
+      listed = rw (c.loop-root.auto.price_a, c.all_bids.auto.price_a) c.requires.listed;
       root = rw c.loop-root.auto.price_a c.loop-root-test.true;
       between = i.between;
-      clean = i.clean;
-      queue = i.queue;
+      tree = i.tree;
     }
 
 pub loop-root-preserved : goal.loop-root-preserved
@@ -31,8 +27,7 @@ loop-root-preserved c =
     record {
       between = after.between;
       places = λ b. after.places b ∙ c.loop-root.invariant.places b;
-      clean = after.clean;
-      queue = after.queue;
+      tree = after.tree;
     }
 
 pub returns : goal.returns

@@ -19,20 +19,16 @@ returns-then-is_some c =
             absurd (false≢true (sym (ap is_some here) ∙ sym c.if-is_some.ensures)))
       ]);
       places = λ b. refl;
-      queue = c.requires.queue;
-      clean = c.requires.clean;
+      tree = c.requires.tree;
     }
 
 pub take_up-requires : goal.take_up-requires
 take_up-requires c = record {
-  rising = c.requires.rising;
-  starts = c.requires.starts;
-  small = c.requires.small;
+  listed = c.requires.listed;
   root = c.requires.root;
   free = not_linked (link c.args.link_a.now c.args.root) (sym c.if-is_some.ensures);
   between = between_any _ _ _ _ _ c.args.root 0 c.requires.between (λ a low none. absurd (omega (arith, low)));
-  clean = c.requires.clean;
-  queue = c.requires.queue;
+  tree = c.requires.tree;
 }
 
 pub returns : goal.returns
@@ -41,6 +37,5 @@ returns c =
     record {
       between = between_any _ _ _ _ _ 0 _ t.between (t.settled refl c.requires.between.free_a);
       places = t.places;
-      queue = t.queue;
-      clean = t.clean;
+      tree = t.tree;
     }

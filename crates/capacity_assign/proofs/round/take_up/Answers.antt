@@ -15,7 +15,7 @@ search-grown-requires c =
         lasts = omega (arith, w.seated.lasts, w.rows_b, s.last.ok.0);
         seats = omega (arith, w.seated.rows, w.rows_a, s.row.ok.0);
         earliers = omega (arith, w.seated.earliers, w.rows_a, s.earlier.ok.0);
-        starts = c.requires.starts;
+        starts = c.requires.listed.begins;
         root_in = c.requires.root;
         root_free = c.requires.free;
         in_range = w.in_range;
@@ -25,9 +25,9 @@ search-grown-requires c =
         linked = w.linked;
         seated = w.seated;
       };
-      rising = c.requires.rising;
-      clean = c.requires.clean;
-      queue = c.requires.queue;
+      rising = c.requires.listed.rising;
+      clean = c.requires.tree.clean;
+      queue = c.requires.tree.queue;
     }
 
 pub shift-requires : goal.shift-requires
@@ -71,12 +71,14 @@ returns c =
     let rises = c.shift.ensures.price_b in
     record {
       between = between_after _ g s.result.end s.result.free s.result.last c.shift.new.price_a c.shift.new.price_b s.ensures.ready s.ensures.grown.1 falls rises
-          c.turn.new.link_a (seating c.turn.new.seats) c.requires.small c.requires.between c.shift.auto.price_a c.shift.auto.price_b t.rows_a t.rows_b t.linked t.tight t.seats t.vacant t.places;
+          c.turn.new.link_a (seating c.turn.new.seats) c.requires.listed.small c.requires.between c.shift.auto.price_a c.shift.auto.price_b t.rows_a t.rows_b t.linked t.tight t.seats t.vacant t.places;
       places = t.places;
       last = last_inside _ g s.result.end s.result.free s.result.last c.shift.new.price_a c.shift.new.price_b s.ensures.ready s.ensures.grown.1 falls rises
           (length c.shift.new.price_a) (omega (arith, s.ensures.room.of_a, s.new.tree.dist_a.ok.0, c.shift.auto.price_a));
       settled = λ no_limit old. settled_after _ g s.result.end s.result.free s.result.last c.shift.new.price_a c.shift.new.price_b s.ensures.ready s.ensures.grown.1 falls rises
           (s.ensures.whole no_limit) c.turn.new.link_a t.root t.still_a old;
-      queue = omega (arith, c.requires.queue, s.ensures.queue, c.shift.ensures.queue);
-      clean = rw (c.shift.auto.price_a, c.shift.auto.price_b) c.shift.ensures.clean;
+      tree = record {
+        clean = rw (c.shift.auto.price_a, c.shift.auto.price_b) c.shift.ensures.clean;
+        queue = omega (arith, c.requires.tree.queue, s.ensures.queue, c.shift.ensures.queue);
+      };
     }

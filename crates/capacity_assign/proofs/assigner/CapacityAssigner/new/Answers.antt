@@ -26,13 +26,17 @@ invariant_of-result c =
     record {
       order = rw kept c.requires.rising;
       edges = made ∙ ap edges_of (sym kept);
-      rising = rw made (rising_edges cs c.requires.rising);
-      starts = rw reach.records c.in_ok-graph.ensures.starts;
-      small = rw made (small_edges cs c.requires.small);
+      listed = record {
+        rising = rw made (rising_edges cs c.requires.rising);
+        small = rw made (small_edges cs c.requires.small);
+        begins = rw reach.records c.in_ok-graph.ensures.starts;
+      };
       between = rw (made, start.links) (between_first cs c.args.rows_a ns s.prices.a.items s.prices.b.items (seating s.seats) c.requires.within closed reach start.seats);
       places = λ b. rw (made, start.links, places) (places_first cs c.args.rows_a ns (seating s.seats) b start.seats);
       rows_a = reach.records;
       rows_b = rw places closed.records;
-      clean = rw (reach.records, closed.records) start.clean;
-      queue = rw made start.queue;
+      tree = record {
+        clean = rw (reach.records, closed.records) start.clean;
+        queue = rw made start.queue;
+      };
     }
