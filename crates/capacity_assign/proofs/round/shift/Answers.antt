@@ -30,4 +30,10 @@ pub lower-requires-clause-fits : goal.lower-requires-clause-fits
 lower-requires-clause-fits c = rw c.deref_mut.ensures.value c.requires.falls
 
 pub raise-requires-clause-fits : goal.raise-requires-clause-fits
-raise-requires-clause-fits c = rw c.deref_mut-2.ensures.value (λ b. omega (arith, c.requires.small b, c.requires.end))
+raise-requires-clause-fits c = λ b. omega (arith, c.requires.small b, c.requires.end)
+
+pub returns-clause-price_a : goal.returns-clause-price_a
+returns-clause-price_a c = rw c.deref_mut.ensures.value at c.lower.ensures.prices
+
+pub returns-clause-price_b : goal.returns-clause-price_b
+returns-clause-price_b c = rw c.deref_mut-2.ensures.value at c.raise.ensures.prices
