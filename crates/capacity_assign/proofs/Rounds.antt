@@ -165,7 +165,7 @@ module _ (f : Ground) (g : Growth) (end : ℕ) (free : Option ℕ) (last : ℕ) 
   last_after : (end ≡ g.best) × (last ≡ g.best_record) → number pa last ≡ 0
   last_after whole = rw whole.1 (best_record_after whole.0)
 
-  -- the price of a record of A that has no link after the round, where the tree was not broken off
+  -- the price of a record of A that has no link after the round
   free_a_at : (x : Option ℕ) → MatchOption x ((end ≡ g.best) × (last ≡ g.best_record)) (λ _. Unit {0}) → (la : List (Option ℕ)) → MatchOption x (link la f.root ≡ None → f.root ≡ last) (λ _. link la f.root ≡ None → ⊥) → (a : ℕ) → ((link f.link_a.now a ≡ None) ⊎ (IsNone x × (a ≡ last))) → ((b : ℕ) → b < f.root → link f.link_a.now b ≡ None → number f.price_a.now b ≡ 0) → a < f.root + 1 → link la a ≡ None → number pa a ≡ 0
   free_a_at None whole la root a (inl p) old lt none = elim (cases_lt a f.root) [
     | inl q ↦ omega (arith, old a q p, falls a)

@@ -215,7 +215,7 @@ pub record IsGrown (f : Ground) (g : Growth) (end : ℕ) (free : Option ℕ) (la
 abbrev pub HasGrown : Ground → Growth → ℕ → Option ℕ → ℕ → Type 0
 HasGrown f g end free last = (waiting : List (ℕ × ℕ)) × IsGrown f (with_waiting waiting g) end free last
 
--- it was not broken off: the record of A is that of the least end
+-- where it ends at a record of A, that is the one of the least end
 abbrev pub IsWhole : Growth → ℕ → Option ℕ → ℕ → Type 0
 IsWhole g end free last = MatchOption free ((end ≡ g.best) × (last ≡ g.best_record)) (λ _. Unit {0})
 

@@ -235,40 +235,9 @@ fn best_end(tree: &Tree) -> Grown
     }
 }
 
-/// Whether no more records of B may be settled; else one fewer may from now on. Without a limit all may.
-fn is_spent(limit: &mut Option<usize>) -> bool
-    ensures { limit.old ≡ None → (result ≡ false) × (limit.new ≡ None) }
-{
-    let Some(n) = *limit else {
-        return false;
-    };
-    if n == 0 {
-        return true;
-    }
-    *limit = Some(n - 1);
-    false
-}
-
-/// The end of a tree that is broken off before a record of B: the record of A by which that was reached gives
-/// its link up.
-fn broken_end(ground: Ground<'_>, tree: &Tree, near: Near) -> Grown
-    requires reached { IsReached ground (growth tree.now) near.position }
-    requires from { vec_len tree.now.from ≡ length ground.price_b.now }
-    ensures end { result.end ≡ near.distance }
-    ensures free { result.free ≡ None }
-    ensures last { result.last ≡ (edge_of ground.entry (number tree.now.from.items near.position)).a }
-{
-    let k = tree.from[near.position];
-    Grown {
-        end: near.distance,
-        free: None,
-        last: ground.edges[k].a as usize,
-    }
-}
-
 /// Grows the tree until a record of B with a place left is the nearest, or no record of B is nearer than an end
-/// at a record of A, or as many records of B are settled as the limit allows.
-pub fn grow(ground: Ground<'_>, tree: &mut Tree, limit: Option<usize>) -> Grown
+/// at a record of A.
+pub fn grow(ground: Ground<'_>, tree: &mut Tree) -> Grown
     requires ready { IsReady ground }
     requires rising { IsRising ground.edges.now }
     requires held { tree.old.held ≡ None }
@@ -276,11 +245,10 @@ pub fn grow(ground: Ground<'_>, tree: &mut Tree, limit: Option<usize>) -> Grown
     requires room { HasRoomForRecords (length ground.price_a.now) (length ground.price_b.now) tree.old }
     requires queue { FitsQueue ground.edges.now 0 (length ground.edges.now) tree.old }
     ensures grown { HasGrown ground.entry (growth tree.new) result.end result.free result.last }
-    ensures whole { limit ≡ None → IsWhole (growth tree.new) result.end result.free result.last }
+    ensures whole { IsWhole (growth tree.new) result.end result.free result.last }
     ensures room { HasRoomForRecords (length ground.entry.price_a.now) (length ground.entry.price_b.now) tree.new }
     ensures queue { tree.old.frontier.room ≤ tree.new.frontier.room }
 {
-    let mut rest = limit;
     while let Some(near) = tree.frontier.take() {
         if tree.best <= near.distance {
             return best_end(tree);
@@ -294,9 +262,6 @@ pub fn grow(ground: Ground<'_>, tree: &mut Tree, limit: Option<usize>) -> Grown
                 free: Some(near.position),
                 last: ground.root,
             };
-        }
-        if is_spent(&mut rest) {
-            return broken_end(ground, tree, near);
         }
         if !settle(ground, tree, near) {
             return best_end(tree);
@@ -323,18 +288,18 @@ fn plant(ground: Ground<'_>, tree: &mut Tree)
     relax_record(ground, tree, ground.root);
 }
 
-/// The whole growth of a tree, or as much of it as the limit allows.
-pub fn search(ground: Ground<'_>, tree: &mut Tree, limit: Option<usize>) -> Grown
+/// The whole growth of a tree.
+pub fn search(ground: Ground<'_>, tree: &mut Tree) -> Grown
     requires ready { IsReady ground }
     requires rising { IsRising ground.edges.now }
     requires clean { IsClean (length ground.price_a.now) (length ground.price_b.now) tree.old }
     requires queue { length ground.edges.now ≤ tree.old.frontier.room }
     ensures ready { IsReady ground.entry }
     ensures grown { HasGrown ground.entry (growth tree.new) result.end result.free result.last }
-    ensures whole { limit ≡ None → IsWhole (growth tree.new) result.end result.free result.last }
+    ensures whole { IsWhole (growth tree.new) result.end result.free result.last }
     ensures room { HasRoomForRecords (length ground.entry.price_a.now) (length ground.entry.price_b.now) tree.new }
     ensures queue { tree.old.frontier.room ≤ tree.new.frontier.room }
 {
     plant(ground, tree);
-    grow(ground, tree, limit)
+    grow(ground, tree)
 }

@@ -4,7 +4,6 @@
 #![tactic(auto)]
 
 mod assigner;
-mod bids;
 mod grow;
 mod market;
 mod phases;

@@ -1,17 +1,16 @@
-// All of a solution: links over tight edges, bids, and every record of A taken up in turn.
+// All of a solution: links over tight edges, and every record of A taken up in turn.
 ghost use Rattle.std.specs.Prelude.{length};
 ghost use Rattle.assignment_steps.specs.Market.{AreListed};
 ghost use Rattle.capacity_assign.specs.Growth.{IsAtRest};
 ghost use Rattle.capacity_assign.specs.Round.{IsBetween, KeepsPlaces};
 ghost use Rattle.capacity_assign.specs.Seating.{seating};
 
-use crate::bids::all_bids;
 use crate::market::{Seats, Tree};
 use crate::round::round;
 use crate::tight::link_tight;
 use assignment_steps::{Edge, Net};
 
-/// Links what is tight at first, lets the records of A bid, and takes every one up in turn.
+/// Links what is tight at first, and takes every record of A up in turn.
 pub fn all_rounds(
     edges: &[Edge],
     starts: &[usize],
@@ -33,7 +32,6 @@ pub fn all_rounds(
         price_b,
     };
     link_tight(net, link_a, seats);
-    all_bids(edges, starts, price_a, price_b, link_a, seats, tree);
     for root in 0..price_a.len() {
         round(edges, starts, price_a, price_b, link_a, seats, tree, root);
     }

@@ -83,7 +83,7 @@ fn turn(
 }
 
 /// Takes a record of A up that has no link: a tree grows from it, prices change by it, and links are turned
-/// round. Without a limit the record is linked afterwards, or its price is 0.
+/// round. The record is linked afterwards, or its price is 0.
 pub fn take_up(
     edges: &[Edge],
     starts: &[usize],
@@ -93,8 +93,7 @@ pub fn take_up(
     seats: &mut Seats,
     tree: &mut Tree,
     root: usize,
-    limit: Option<usize>,
-) -> Grown
+)
     requires listed { AreListed edges.now (length price_a.old) starts.now }
     requires root { root < length price_a.old }
     requires free { link link_a.old root ≡ None }
@@ -102,8 +101,7 @@ pub fn take_up(
     requires tree { IsAtRest edges.now (length price_a.old) (length price_b.old) tree.old }
     ensures between { IsBetween edges.now price_a.new price_b.new link_a.new (seating seats.new) 0 }
     ensures places { KeepsPlaces edges.now link_a.old seats.old.left.items link_a.new seats.new.left.items }
-    ensures last { MatchOption result.free (result.last < length price_a.new) (λ _. Unit {0}) }
-    ensures settled { limit ≡ None → ((a : ℕ) → a < root → link link_a.old a ≡ None → number price_a.old a ≡ 0) → (a : ℕ) → a < root + 1 → link link_a.new a ≡ None → number price_a.new a ≡ 0 }
+    ensures settled { ((a : ℕ) → a < root → link link_a.old a ≡ None → number price_a.old a ≡ 0) → (a : ℕ) → a < root + 1 → link link_a.new a ≡ None → number price_a.new a ≡ 0 }
     ensures tree { IsAtRest edges.now (length price_a.new) (length price_b.new) tree.new }
 {
     let ground = Ground {
@@ -115,7 +113,7 @@ pub fn take_up(
         seats,
         root,
     };
-    let grown = search(ground, tree, limit);
+    let grown = search(ground, tree);
     shift(price_a, price_b, tree, grown.end);
     let net = Net {
         edges,
@@ -128,7 +126,6 @@ pub fn take_up(
         rank: &tree.rank,
     };
     turn(net, ways, link_a, seats, grown.free, grown.last);
-    grown
 }
 
 /// Takes a record of A up: afterwards it is linked, or its price is 0.
@@ -153,7 +150,5 @@ pub fn round(
     if link_a[root].is_some() {
         return;
     }
-    let _ = take_up(
-        edges, starts, price_a, price_b, link_a, seats, tree, root, None,
-    );
+    take_up(edges, starts, price_a, price_b, link_a, seats, tree, root);
 }

@@ -1,5 +1,4 @@
-use Rattle.std.proofs.Common.{◌≡◌, ◌<◌, length, sym, ◌∙◌, inl, inr, arith}
-use Rattle.std.proofs.lemmas.Bool.{false≢true}
+use Rattle.std.proofs.Common.{◌≡◌, ◌<◌, length, inl, inr, arith}
 use Rattle.std.proofs.lemmas.List.{get_or_read}
 use Rattle.capacity_assign.specs.Growth.{growth, places_left}
 use Rattle.assignment_steps.specs.Distances.{distance, far}
@@ -37,7 +36,6 @@ loop-near-preserved-then-index-near c =
     let stale : distance c.loop-near.tree.dist_b.items n.position < n.distance = omega (arith, read, c.if-index-near.true) in
     let taken = tree_taken c.args.ground 0 (length c.args.ground.edges.now) (growth c.loop-near.tree) (n.distance, n.position) c.take.new.self.waiting i.tree e.inside e.stays e.only in
     record {
-      rest = i.rest;
       held = i.held;
       tree = tree_dropped c.args.ground 0 (length c.args.ground.edges.now) (growth c.loop-near.tree) c.take.new.self.waiting (n.distance, n.position) taken stale;
       room = room_queued _ _ c.loop-near.tree c.take.new.self i.room;
@@ -95,37 +93,6 @@ settle-requires-clause-tree c =
     let e = c.in-Some.ensures in
     tree_taken c.args.ground 0 (length c.args.ground.edges.now) (growth c.loop-near.tree) (c.in-Some.near.distance, c.in-Some.near.position) c.take.new.self.waiting c.loop-near.invariant.tree e.inside e.stays e.only
 
-pub broken_end-requires-clause-reached : goal.broken_end-requires-clause-reached
-broken_end-requires-clause-reached c =
-    let n = c.in-Some.near in
-    let i = c.loop-near.invariant in
-    let late = i.tree.late (n.distance, n.position) c.in-Some.ensures.inside in
-    let close : distance c.loop-near.tree.dist_b.items n.position < far = omega (arith, late.1, c.if-tree-near.false, i.tree.best_small) in
-    let old = i.tree.reached n.position close in
-    record { within = old.within; place = old.place; ends = old.ends; joined = old.joined; exact = old.exact }
-
-pub returns-then-is_spent-clause-grown : goal.returns-then-is_spent-clause-grown
-returns-then-is_spent-clause-grown c =
-    let e = c.in-Some.ensures in
-    let n = c.in-Some.near in
-    let i = c.loop-near.invariant in
-    let late = i.tree.late (n.distance, n.position) e.inside in
-    let near = nearest_taken (growth c.loop-near.tree) n c.take.new.self.waiting e.inside e.least e.stays in
-    let close : distance c.loop-near.tree.dist_b.items n.position < far = omega (arith, late.1, c.if-tree-near.false, i.tree.best_small) in (
-      c.loop-near.tree.frontier.waiting,
-      rw (c.broken_end.ensures.end, c.broken_end.ensures.free, c.broken_end.ensures.last) (record {
-        tree = i.tree;
-        before_best = omega (arith, c.if-tree-near.false);
-        after = late.0;
-        least = near.least;
-        held = λ b is. absurd (let none = i.held in cc);
-        stop = (i.tree.reached n.position close).joined;
-      }),
-    )
-
-pub returns-then-is_spent-clause-whole : goal.returns-then-is_spent-clause-whole
-returns-then-is_spent-clause-whole c = λ none. absurd (false≢true (sym (c.is_spent.ensures (c.loop-near.invariant.rest none)).0 ∙ c.if-is_spent.true))
-
 pub returns-clause-grown : goal.returns-clause-grown
 returns-clause-grown c =
     let i = c.loop-near.invariant in (
@@ -135,10 +102,10 @@ returns-clause-grown c =
     )
 
 pub loop-near-init : goal.loop-near-init
-loop-near-init c = record { rest = λ none. none; held = c.requires.held; tree = c.requires.tree; room = c.requires.room; fits = c.requires.queue; queue = omega arith }
+loop-near-init c = record { held = c.requires.held; tree = c.requires.tree; room = c.requires.room; fits = c.requires.queue; queue = omega arith }
 
 pub returns-then-tree-near-clause-whole : goal.returns-then-tree-near-clause-whole
-returns-then-tree-near-clause-whole c = λ none. rw c.best_end.ensures.free (c.best_end.ensures.end, c.best_end.ensures.last)
+returns-then-tree-near-clause-whole c = rw c.best_end.ensures.free (c.best_end.ensures.end, c.best_end.ensures.last)
 
 pub returns-then-tree-near-clause-room : goal.returns-then-tree-near-clause-room
 returns-then-tree-near-clause-room c = room_queued _ _ c.loop-near.tree c.take.new.self c.loop-near.invariant.room
@@ -150,22 +117,13 @@ pub loop-near-smaller-then-index-near : goal.loop-near-smaller-then-index-near
 loop-near-smaller-then-index-near c = omega (arith, c.in-Some.ensures.count)
 
 pub returns-then-index-gt0-clause-whole : goal.returns-then-index-gt0-clause-whole
-returns-then-index-gt0-clause-whole c = λ none. tt
+returns-then-index-gt0-clause-whole c = tt
 
 pub returns-then-index-gt0-clause-room : goal.returns-then-index-gt0-clause-room
 returns-then-index-gt0-clause-room c = room_queued _ _ c.loop-near.tree c.take.new.self c.loop-near.invariant.room
 
 pub returns-then-index-gt0-clause-queue : goal.returns-then-index-gt0-clause-queue
 returns-then-index-gt0-clause-queue c = rw c.in-Some.ensures.room c.loop-near.invariant.queue
-
-pub broken_end-requires-clause-from : goal.broken_end-requires-clause-from
-broken_end-requires-clause-from c = c.loop-near.invariant.room.of_from
-
-pub returns-then-is_spent-clause-room : goal.returns-then-is_spent-clause-room
-returns-then-is_spent-clause-room c = room_queued _ _ c.loop-near.tree c.take.new.self c.loop-near.invariant.room
-
-pub returns-then-is_spent-clause-queue : goal.returns-then-is_spent-clause-queue
-returns-then-is_spent-clause-queue c = rw c.in-Some.ensures.room c.loop-near.invariant.queue
 
 pub settle-requires-clause-ready : goal.settle-requires-clause-ready
 settle-requires-clause-ready c = c.requires.ready
@@ -201,7 +159,7 @@ returns-then-not-settle-clause-grown c =
     (c.settle.new.tree.frontier.waiting, rw (end.end, end.free, end.last) (rw c.if-not-settle.true at c.settle.ensures.tree))
 
 pub returns-then-not-settle-clause-whole : goal.returns-then-not-settle-clause-whole
-returns-then-not-settle-clause-whole c = λ none. rw c.best_end-then-not-settle.ensures.free (c.best_end-then-not-settle.ensures.end, c.best_end-then-not-settle.ensures.last)
+returns-then-not-settle-clause-whole c = rw c.best_end-then-not-settle.ensures.free (c.best_end-then-not-settle.ensures.end, c.best_end-then-not-settle.ensures.last)
 
 pub returns-then-not-settle-clause-room : goal.returns-then-not-settle-clause-room
 returns-then-not-settle-clause-room c = c.settle.ensures.room
@@ -218,7 +176,6 @@ loop-near-preserved c =
     let s = c.settle.ensures in
     let e = c.in-Some.ensures in
     record {
-      rest = λ none. (c.is_spent.ensures (i.rest none)).1;
       held = rw c.if-not-settle.false at s.held;
       tree = rw c.if-not-settle.false at s.tree;
       room = s.room;
@@ -227,7 +184,7 @@ loop-near-preserved c =
     }
 
 pub returns-clause-whole : goal.returns-clause-whole
-returns-clause-whole c = λ none. rw c.best_end-2.ensures.free (c.best_end-2.ensures.end, c.best_end-2.ensures.last)
+returns-clause-whole c = rw c.best_end-2.ensures.free (c.best_end-2.ensures.end, c.best_end-2.ensures.last)
 
 pub returns-clause-room : goal.returns-clause-room
 returns-clause-room c = room_queued _ _ c.loop-near.tree c.take.new.self c.loop-near.invariant.room

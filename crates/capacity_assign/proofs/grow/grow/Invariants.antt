@@ -4,7 +4,6 @@ use Rattle.capacity_assign.proofs.grow.grow.Given as goal
 
 abbrev pub invariant-loop-near : goal.invariant-loop-near
 invariant-loop-near l = record {
-  rest : l.fn.limit ≡ None → l.rest ≡ None;
   held : l.tree.held ≡ None;
   tree : IsTree l.ground 0 (length l.ground.edges.now) (growth l.tree);
   room : HasRoomForRecords (length l.ground.price_a.now) (length l.ground.price_b.now) l.tree;

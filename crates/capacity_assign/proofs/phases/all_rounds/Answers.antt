@@ -4,18 +4,13 @@ use Rattle.capacity_assign.proofs.phases.all_rounds.Goals as goal
 pub loop-root-init : goal.loop-root-init
 loop-root-init c =
     let tight = c.link_tight.ensures in
-    let bids = c.all_bids.ensures in
-    record {
-      between = bids.between;
-      places = λ b. bids.places b ∙ tight.places b;
-      tree = bids.tree;
-    }
+    record { between = tight.between; places = tight.places; tree = c.requires.tree }
 
 pub round-requires : goal.round-requires
 round-requires c =
     let i = c.loop-root.invariant in
     record {
-      listed = rw (c.loop-root.auto.price_a, c.all_bids.auto.price_a) c.requires.listed;
+      listed = rw c.loop-root.auto.price_a c.requires.listed;
       root = rw c.loop-root.auto.price_a c.loop-root-test.true;
       between = i.between;
       tree = i.tree;

@@ -35,7 +35,7 @@ pub returns : goal.returns
 returns c =
     let t = c.take_up.ensures in
     record {
-      between = between_any _ _ _ _ _ 0 _ t.between (t.settled refl c.requires.between.free_a);
+      between = between_any _ _ _ _ _ 0 _ t.between (t.settled c.requires.between.free_a);
       places = t.places;
       tree = t.tree;
     }

@@ -73,10 +73,8 @@ returns c =
       between = between_after _ g s.result.end s.result.free s.result.last c.shift.new.price_a c.shift.new.price_b s.ensures.ready s.ensures.grown.1 falls rises
           c.turn.new.link_a (seating c.turn.new.seats) c.requires.listed.small c.requires.between c.shift.auto.price_a c.shift.auto.price_b t.rows_a t.rows_b t.linked t.tight t.seats t.vacant t.places;
       places = t.places;
-      last = last_inside _ g s.result.end s.result.free s.result.last c.shift.new.price_a c.shift.new.price_b s.ensures.ready s.ensures.grown.1 falls rises
-          (length c.shift.new.price_a) (omega (arith, s.ensures.room.of_a, s.new.tree.dist_a.ok.0, c.shift.auto.price_a));
-      settled = λ no_limit old. settled_after _ g s.result.end s.result.free s.result.last c.shift.new.price_a c.shift.new.price_b s.ensures.ready s.ensures.grown.1 falls rises
-          (s.ensures.whole no_limit) c.turn.new.link_a t.root t.still_a old;
+      settled = λ old. settled_after _ g s.result.end s.result.free s.result.last c.shift.new.price_a c.shift.new.price_b s.ensures.ready s.ensures.grown.1 falls rises
+          s.ensures.whole c.turn.new.link_a t.root t.still_a old;
       tree = record {
         clean = rw (c.shift.auto.price_a, c.shift.auto.price_b) c.shift.ensures.clean;
         queue = omega (arith, c.requires.tree.queue, s.ensures.queue, c.shift.ensures.queue);
