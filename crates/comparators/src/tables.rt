@@ -39,6 +39,19 @@ impl IdTable {
         })
     }
 
+    /// The table of no rows, for rows of so many values and with room for so many of them.
+    pub fn with_capacity(alloc: Global, fields: u8, rows: u32) -> Result<IdTable, NoMemory>
+        ensures fields { IfOk result (λ table. table.fields ≡ fields) }
+        ensures rows { IfOk result (λ table. table.rows ≡ []) }
+    {
+        let values = Vec::with_capacity(alloc, rows as usize * usize::from(fields))?;
+        Ok(IdTable {
+            values,
+            rows: 0,
+            fields,
+        })
+    }
+
     /// Appends a row. A table has at most 4,294,967,295 rows.
     pub fn push(&mut self, row: &[IdValue]) -> Result<(), NoMemory>
         requires width { length row.now ≡ self.old.fields }

@@ -4,3 +4,4 @@ pub mod Rule
 pub mod Shares
 pub mod Standard
 pub mod Tables
+pub mod Texts

@@ -85,6 +85,15 @@ impl StdFile {
         })
     }
 
+    /// The file of no records, with room for so many.
+    pub fn with_capacity(alloc: Global, rows: u32) -> Result<StdFile, NoMemory>
+        ensures { IfOk result (λ file. file ≡ []) }
+    {
+        Ok(StdFile {
+            rows: IndexMap::with_capacity(alloc, rows as usize)?,
+        })
+    }
+
     /// Appends a record, whose id no earlier one has.
     pub fn push(&mut self, id: Text, row: StdRow) -> Result<(), NoMemory>
         requires room { length self.old + 1 < 2 ^ 32 }
@@ -92,7 +101,8 @@ impl StdFile {
         ensures ok { OnOk result (self.new ≡ self.old ++ record { id = id; row = row } ∷ []) }
         ensures err { OnErr result (self.new ≡ self.old) }
     {
-        match self.rows.insert(id.into_bytes(), row) {
+        let key = id.into_bytes(*self.rows.allocator())?;
+        match self.rows.insert(key, row) {
             Ok(_) => return Ok(()),
             Err(_) => return Err(NoMemory),
         }

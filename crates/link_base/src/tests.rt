@@ -30,7 +30,7 @@ fn a_record_is_found_by_its_id(rt: HostRuntime) -> Result<(), Fail> {
 fn texts_tables_and_cells_are_made(rt: HostRuntime) -> Result<(), Fail> {
     let alloc = rt.alloc();
     let text = Text::new(alloc, b"row ")?;
-    let mut line = text.copy(alloc)?.into_bytes();
+    let mut line = text.copy(alloc)?.into_bytes(alloc)?;
     push_number(alloc, &mut line, 4_294_967_295)?;
     assert!(rt; line.as_slice() == b"row 4294967295".as_slice());
     let mut texts = TextList::new(alloc);

@@ -1,5 +1,6 @@
 // Texts of bytes, and want of memory.
-ghost use Rattle.std.specs.Prelude.{◌≡◌, ◌++◌, ◌∷◌, [], List, ℕ, IfOk, OnErr, OnOk, decimal};
+ghost use Rattle.std.specs.Prelude.{◌≡◌, ◌≤◌, ◌++◌, ◌∷◌, [], List, ℕ, IfOk, OnErr, OnOk, decimal, length};
+ghost use Rattle.link_base.specs.declared.text.TheConstants.{SHORT};
 
 use std::alloc::{AllocError, AllocFailed, Global};
 use std::marker::Model;
@@ -22,24 +23,89 @@ impl<T: Drop> From<AllocFailed<T>> for NoMemory {
     }
 }
 
-/// A text, which contracts see as the list of its bytes. It need not be UTF-8.
+/// The most bytes of a text that takes no memory of its own.
+const SHORT: usize = 22;
+
+// The bytes of a short text, behind each other.
+#[derive(Drop)]
+struct Short {
+    bytes: [u8; SHORT],
+    count: u8,
+}
+
+impl Model for Short {
+    ghost use Rattle.std.specs.Prelude.{◌≤◌, List, ℕ, take};
+    ghost use Rattle.link_base.specs.declared.text.TheConstants.{SHORT};
+
+    ghost Value = { List ℕ };
+
+    ghost view = { λ s. take s.count s.bytes };
+
+    ghost invariant = { λ s. s.count ≤ SHORT };
+}
+
+impl Short {
+    // A copy of these bytes.
+    fn new(text: &[u8]) -> Short
+        requires { length text.now ≤ SHORT }
+        ensures { result ≡ text.now }
+    {
+        let mut bytes = [0; SHORT];
+        bytes[..text.len()].copy_from_slice(text);
+        Short {
+            bytes,
+            count: text.len() as u8,
+        }
+    }
+
+    fn bytes(&self) -> &[u8]
+        ensures { result.now ≡ self.now }
+    {
+        &self.bytes[..self.count as usize]
+    }
+}
+
+// Where the bytes of a text stand.
+#[derive(Drop)]
+enum Bytes {
+    Short(Short),
+    Long(Vec<u8>),
+}
+
+/// A text, which contracts see as the list of its bytes. It need not be UTF-8. A short one takes no memory of its own.
 #[derive(Drop)]
 pub struct Text {
-    bytes: Vec<u8>,
+    bytes: Bytes,
 }
 
 impl Model for Text {
+    ghost use Rattle.std.specs.Prelude.{List, ℕ};
+    ghost use Rattle.link_base.specs.Texts.{bytes_in};
+
     ghost Value = { List ℕ };
 
-    ghost view = { λ t. t.bytes.items };
+    ghost view = { λ t. bytes_in t.bytes };
 }
 
 impl Text {
+    // A copy of a few bytes.
+    fn short(bytes: &[u8]) -> Text
+        requires { length bytes.now ≤ SHORT }
+        ensures { result ≡ bytes.now }
+    {
+        Text {
+            bytes: Bytes::Short(Short::new(bytes)),
+        }
+    }
+
     /// A copy of these bytes.
     pub fn new(alloc: Global, bytes: &[u8]) -> Result<Text, NoMemory>
         ensures { IfOk result (λ text. text ≡ bytes.now) }
     {
-        let bytes = Vec::from_slice(alloc, bytes)?;
+        if bytes.len() <= SHORT {
+            return Ok(Text::short(bytes));
+        }
+        let bytes = Bytes::Long(Vec::from_slice(alloc, bytes)?);
         Ok(Text { bytes })
     }
 
@@ -47,21 +113,32 @@ impl Text {
     pub fn of(bytes: Vec<u8>) -> Text
         ensures { result ≡ bytes.items }
     {
-        Text { bytes }
+        if bytes.len() <= SHORT {
+            return Text::short(&bytes);
+        }
+        Text {
+            bytes: Bytes::Long(bytes),
+        }
     }
 
     /// The bytes.
     pub fn bytes(&self) -> &[u8]
         ensures { result.now ≡ self.now }
     {
-        &self.bytes
+        match &self.bytes {
+            Bytes::Short(short) => short.bytes(),
+            Bytes::Long(bytes) => bytes.as_slice(),
+        }
     }
 
-    /// The bytes themselves, which takes no memory.
-    pub fn into_bytes(self) -> Vec<u8>
-        ensures { result.items ≡ self }
+    /// The bytes themselves. Only those of a short text take memory.
+    pub fn into_bytes(self, alloc: Global) -> Result<Vec<u8>, NoMemory>
+        ensures { IfOk result (λ bytes. bytes.items ≡ self) }
     {
-        self.bytes
+        match self.bytes {
+            Bytes::Short(short) => Ok(Vec::from_slice(alloc, short.bytes())?),
+            Bytes::Long(bytes) => Ok(bytes),
+        }
     }
 
     /// An equal text.

@@ -269,7 +269,7 @@ fn take_file(
     ensures sides { IfOk result (λ table. (final : List (List ℕ)) → Extends pool.new.texts final → sides_of_file final kinds.now file.now ≡ table.rows) }
     ensures known { OnOk result (AreKnown pool.new.texts kinds.now known.new) }
 {
-    let mut table = match IdTable::new(alloc, kinds.len() as u8) {
+    let mut table = match IdTable::with_capacity(alloc, kinds.len() as u8, file.rows()) {
         Ok(table) => table,
         Err(NoMemory) => return Err(PoolFault::NoMemory),
     };

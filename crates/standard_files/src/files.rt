@@ -120,7 +120,7 @@ fn standard_file(
     ensures valid { IfOk result (λ file. All (λ (r : Record). All IsValid r.row) file.records) }
     ensures distinct { IfOk result (λ file. HaveDistinctIds file.records) }
 {
-    let mut file = StdFile::new(alloc)?;
+    let mut file = StdFile::with_capacity(alloc, source.table.rows())?;
     match push_records(alloc, role, plan, tables, source, &mut file) {
         Ok(unreadable) => {
             distinct_ids(&file);
