@@ -1,4 +1,4 @@
--- The compared pairs of a plan, and the text of their ids. `pair_ids` carries it (clause `answer`, by `ids_of_pairs`).
+-- The compared pairs of a plan, and the text of their ids. `pair_ids` carries it (clause `answer`).
 use Rattle.std.specs.Prelude.{ℕ, List, Result, Ok}
 use Rattle.link_base.specs.Answers.{and_then}
 use Rattle.link_base.specs.declared.fault.Fault.{Fault}
@@ -9,7 +9,7 @@ use Rattle.pair_walk.specs.Pairs.{compared_pairs}
 use Rattle.settings.specs.declared.plan.Plan.{Plan}
 use Rattle.standard_files.specs.Files.{StandardPair}
 use Rattle.link_report.specs.Lines.{ids_text}
-use Rattle.link_core.specs.Prepared.{prepared, PreparedView}
+use Rattle.link_core.specs.Prepared.{PreparedView}
 
 -- the pairs of two standard files that share a key in some blocking pass of the plan
 abbrev pub plan_pairs : Plan → StandardPair → Result (List PairAt) Fault
@@ -20,8 +20,3 @@ abbrev pub ids_of_prepared : List (List Part) → PreparedView → Result (List 
 ids_of_prepared passes p =
     and_then (pairs_within (compared_pairs p.files.a.records p.files.b.records passes)) (λ pairs.
     Ok (ids_text p.files.a.records p.files.b.records pairs))
-
--- the ids of the compared pairs of two files, or the first fault: of the files, of the pool, too many pairs
-abbrev pub ids_of_pairs : Plan → ℕ → List ℕ → List ℕ → Result (List ℕ) Fault
-ids_of_pairs plan limit bytes_a bytes_b =
-    and_then (prepared plan limit bytes_a bytes_b) (λ p. ids_of_prepared plan.passes p)

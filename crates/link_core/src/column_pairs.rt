@@ -1,12 +1,13 @@
 // The pairs of rows with the same field in one column.
 ghost use Rattle.std.specs.Prelude.{◌≡◌, ◌<◌, ◌≤◌, ◌+◌, ◌++◌, ◌∷◌, [], All, decimal, IfErr, IfOk, length, map, OnOk, slice_index_or};
-ghost use Rattle.link_base.specs.Fault.{IsAnswer, IsInputFault};
+ghost use Rattle.link_base.specs.Fault.{Gives, IsAnswer, IsInputFault};
 ghost use Rattle.link_base.specs.Standard.{IsFreshId};
 ghost use Rattle.file_reader.specs.Layout.{wanted_of};
 ghost use Rattle.file_reader.specs.Rows.{no_row, TableRow};
 ghost use Rattle.file_reader.specs.Table.{HasWidth, table_of};
 ghost use Rattle.file_reader.specs.Left.{records_in};
-ghost use Rattle.link_core.specs.ColumnPairs.{first_field, pairs_of_fields, pairs_of_files, rows_of_pairs, wanted_column};
+ghost use Rattle.link_core.specs.ColumnPairs.{columns_of, first_field, pairs_of_fields, pairs_of_files, rows_of_pairs, wanted_column};
+ghost use Rattle.link_core.specs.declared.column_pairs.Columns.{Columns};
 ghost use Rattle.link_core.specs.ColumnRecords.{numbered_records, value_of, whole_field};
 ghost use Rattle.pair_decisions.specs.Pairs.{pairs_within};
 ghost use Rattle.pair_walk.specs.Pairs.{compared_pairs};
@@ -58,7 +59,7 @@ fn cell_value(alloc: Global, cell: &[u8]) -> Result<Value, NoMemory>
 fn row_of(alloc: Global, cell: &[u8]) -> Result<StdRow, NoMemory>
     ensures { IfOk result (λ row. row ≡ value_of cell.now ∷ []) }
 {
-    let mut values = Vec::new(alloc);
+    let mut values = Vec::with_capacity(alloc, 1)?;
     values.push(cell_value(alloc, cell)?)?;
     Ok(StdRow::new(values))
 }
@@ -102,7 +103,7 @@ fn numbered_file(alloc: Global, table: &Table) -> Result<StdFile, NoMemory>
     requires width { All (λ (r : TableRow). length r.fields ≡ 1) table.now }
     ensures { IfOk result (λ file. file ≡ numbered_records 0 (map first_field table.now)) }
 {
-    let mut file = StdFile::new(alloc)?;
+    let mut file = StdFile::with_capacity(alloc, table.rows())?;
     for at in 0..table.rows() {
         push_numbered(alloc, &mut file, table, at)?;
     }
@@ -128,16 +129,19 @@ fn walk_columns(alloc: Global, a: &StdFile, b: &StdFile) -> Result<Pairs, Fault>
 
 // The pairs of rows of two columns with the same field.
 #[tactic(auto, using(crate::proofs::ColumnLemmas::columns_compared))]
-fn compare_columns(alloc: Global, a: &Table, b: &Table) -> Result<Pairs, Fault>
-    requires few_a { length a.now ≤ MOST_ROWS }
-    requires few_b { length b.now ≤ MOST_ROWS }
-    requires width_a { All (λ (r : TableRow). length r.fields ≡ 1) a.now }
-    requires width_b { All (λ (r : TableRow). length r.fields ≡ 1) b.now }
+fn compare_columns(alloc: Global, a: Table, b: Table) -> Result<Pairs, Fault>
+    requires few_a { length a ≤ MOST_ROWS }
+    requires few_b { length b ≤ MOST_ROWS }
+    requires width_a { All (λ (r : TableRow). length r.fields ≡ 1) a }
+    requires width_b { All (λ (r : TableRow). length r.fields ≡ 1) b }
     ensures kind { IfErr result IsInputFault }
-    ensures answer { IsAnswer (pairs_of_fields (map first_field a.now) (map first_field b.now)) result }
+    ensures answer { IsAnswer (pairs_of_fields (map first_field a) (map first_field b)) result }
 {
-    let of_a = numbered_file(alloc, a)?;
-    match numbered_file(alloc, b) {
+    let of_a = numbered_file(alloc, &a)?;
+    drop(a);
+    let of_b = numbered_file(alloc, &b);
+    drop(b);
+    match of_b {
         Ok(of_b) => {
             let pairs = walk_columns(alloc, &of_a, &of_b);
             drop(of_a);
@@ -151,16 +155,43 @@ fn compare_columns(alloc: Global, a: &Table, b: &Table) -> Result<Pairs, Fault>
     }
 }
 
-// The pairs of a column of two files.
-fn compare_files(alloc: Global, column: &str, a: &[u8], b: &[u8]) -> Result<Pairs, Fault>
+// A column of two files.
+#[derive(Drop)]
+struct Columns {
+    a: Table,
+    b: Table,
+}
+
+// A column of two files: the faults of A come before those of B.
+fn read_columns(alloc: Global, column: &str, a: &[u8], b: &[u8]) -> Result<Columns, Fault>
     ensures kind { IfErr result IsInputFault }
-    ensures answer { IsAnswer (pairs_of_files column.now a.now b.now) result }
+    ensures few_a { IfOk result (λ c. length c.a ≤ MOST_ROWS) }
+    ensures few_b { IfOk result (λ c. length c.b ≤ MOST_ROWS) }
+    ensures width_a { IfOk result (λ c. HasWidth (wanted_column column.now) c.a) }
+    ensures width_b { IfOk result (λ c. HasWidth (wanted_column column.now) c.b) }
+    ensures answer { Gives (λ (c : Columns). (map first_field c.a, map first_field c.b)) (columns_of column.now a.now b.now) result }
 {
-    match read_column(alloc, FileRole::A, column, a) {
-        Ok(of_a) => match read_column(alloc, FileRole::B, column, b) {
-            Ok(of_b) => compare_columns(alloc, &of_a, &of_b),
-            Err(fault) => Err(fault),
-        },
+    let of_a = match read_column(alloc, FileRole::A, column, a) {
+        Ok(table) => table,
+        Err(fault) => return Err(fault),
+    };
+    match read_column(alloc, FileRole::B, column, b) {
+        Ok(of_b) => Ok(Columns { a: of_a, b: of_b }),
+        Err(fault) => Err(fault),
+    }
+}
+
+// The pairs of a column of two files. What is read is given back before the next step, so that no file stands in memory
+// twice.
+fn compare_files(alloc: Global, column: &str, a: Text, b: Text) -> Result<Pairs, Fault>
+    ensures kind { IfErr result IsInputFault }
+    ensures answer { IsAnswer (pairs_of_files column.now a b) result }
+{
+    let columns = read_columns(alloc, column, a.bytes(), b.bytes());
+    drop(a);
+    drop(b);
+    match columns {
+        Ok(columns) => compare_columns(alloc, columns.a, columns.b),
         Err(fault) => Err(fault),
     }
 }
@@ -168,9 +199,9 @@ fn compare_files(alloc: Global, column: &str, a: &[u8], b: &[u8]) -> Result<Pair
 /// The rows of the pairs of a column of two comma files: the header `row_a,row_b`, and a line for each pair of rows whose
 /// fields in the column are equal byte for byte and not empty, rising, with the numbers of both rows from 1 on. The first
 /// fault is that of A, then that of B, and then `TooManyPairs` exactly where there are more than 2,000,000 pairs.
-pub fn pair_rows(alloc: Global, column: &str, a: &[u8], b: &[u8]) -> Result<Text, Fault>
+pub fn pair_rows(alloc: Global, column: &str, a: Text, b: Text) -> Result<Text, Fault>
     ensures kind { IfErr result IsInputFault }
-    ensures answer { IsAnswer (rows_of_pairs column.now a.now b.now) result }
+    ensures answer { IsAnswer (rows_of_pairs column.now a b) result }
 {
     match compare_files(alloc, column, a, b) {
         Ok(pairs) => Ok(Text::of(rows_text(alloc, pairs.get())?)),

@@ -47,7 +47,7 @@ fn many_text(alloc: Global, prepared: &Prepared, chosen: &LinksWithin) -> Result
         &chosen.prices_a,
         &chosen.prices_b,
     )?;
-    let mut text = links.into_bytes();
+    let mut text = links.into_bytes(alloc)?;
     text.extend_from_slice(prices.bytes())?;
     Ok(Text::of(text))
 }

@@ -26,19 +26,19 @@ plan_file name = do
   bytes ← file role.Settings name
   gives (settings bytes)
 
--- the plan of a settings file, and then the two files that it names
-abbrev pub described_files : List ℕ → Steps Described
-described_files name = do
-  plan ← plan_file name
-  inputs ← both_files plan.file_a plan.file_b
-  gives (Ok (record { plan = plan; inputs = inputs }))
-
 -- the two files of a plan, ready to be compared: the faults of A come first, then those of B, unreadable dates of a strict plan,
 -- and the pool
 abbrev pub prepared_files : Plan → Steps PreparedView
 prepared_files plan = do
   inputs ← both_files plan.file_a plan.file_b
   gives (prepared plan MOST_POOLED_BYTES inputs.a inputs.b)
+
+-- the plan of a settings file, and then the two files that it names, ready to be compared
+abbrev pub described_files : List ℕ → Steps Described
+described_files name = do
+  plan ← plan_file name
+  files ← prepared_files plan
+  gives (Ok (record { plan = plan; files = files }))
 
 -- the shares of a plan's fields over its prepared files: those of its settings, or where a sample is named those of the sample
 abbrev pub shares_over : Plan → PreparedView → Option (List ℕ) → Steps (List PlainShares)

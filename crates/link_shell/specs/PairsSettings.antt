@@ -1,7 +1,6 @@
 -- The command `pairs SETTINGS`.
 use Rattle.std.specs.Prelude.{ℕ, List, Bool, codes}
-use Rattle.link_limits.specs.declared.TheConstants.{MOST_POOLED_BYTES}
-use Rattle.link_core.specs.Pairs.{ids_of_pairs}
+use Rattle.link_core.specs.Pairs.{ids_of_prepared}
 use Rattle.link_shell.specs.Does.{Script}
 use Rattle.link_shell.specs.Due.{is_printed}
 use Rattle.link_shell.specs.Front.{described_files}
@@ -18,6 +17,6 @@ settings_script name = record {
   Found = List ℕ;
   steps = do
     described ← described_files name
-    gives (ids_of_pairs described.plan MOST_POOLED_BYTES described.inputs.a described.inputs.b);
+    gives (ids_of_prepared described.plan.passes described.files);
   due = is_printed;
 }

@@ -26,13 +26,6 @@ pub(crate) struct Inputs {
     pub(crate) b: Text,
 }
 
-/// The plan of a settings file, and the bytes of the two files that it names.
-#[derive(Drop)]
-pub(crate) struct Described {
-    pub(crate) plan: Plan,
-    pub(crate) inputs: Inputs,
-}
-
 // Loads A and then B.
 pub(crate) fn load_both<S: Store>(
     alloc: Global,
@@ -88,25 +81,6 @@ fn load_files<S: Store>(alloc: Global, store: &mut S, plan: &Plan) -> Result<Inp
     )
 }
 
-// Loads a settings file, and the two files that it names.
-pub(crate) fn load_described<S: Store>(
-    alloc: Global,
-    store: &mut S,
-    name: &str,
-) -> Result<Described, Fault>
-    ensures takes { Takes (described_files name.now) (store_seen S.tells S.held S.faults store.old store.new) result }
-    ensures ranges { IfOk result (λ d. KeepsRanges d.plan) }
-{
-    let plan = load_plan(alloc, store, name)?;
-    match load_files(alloc, store, &plan) {
-        Ok(inputs) => Ok(Described { plan, inputs }),
-        Err(fault) => {
-            drop(plan);
-            Err(fault)
-        }
-    }
-}
-
 // Makes two files of a plan ready to be compared.
 pub(crate) fn prepare_files(
     alloc: Global,
@@ -137,6 +111,32 @@ pub(crate) fn load_prepared<S: Store>(
     let files = prepare_files(alloc, plan, inputs.a.bytes(), inputs.b.bytes());
     drop(inputs);
     files
+}
+
+/// The plan of a settings file, and the two files that it names, ready to be compared.
+#[derive(Drop)]
+pub(crate) struct Described {
+    pub(crate) plan: Plan,
+    pub(crate) files: Prepared,
+}
+
+// Loads a settings file, and makes the two files that it names ready to be compared.
+pub(crate) fn load_described<S: Store>(
+    alloc: Global,
+    store: &mut S,
+    name: &str,
+) -> Result<Described, Fault>
+    ensures takes { Takes (described_files name.now) (store_seen S.tells S.held S.faults store.old store.new) result }
+    ensures ready { IfOk result (λ d. IsPreparedFor d.plan d.files) }
+{
+    let plan = load_plan(alloc, store, name)?;
+    match load_prepared(alloc, store, &plan) {
+        Ok(files) => Ok(Described { plan, files }),
+        Err(fault) => {
+            drop(plan);
+            Err(fault)
+        }
+    }
 }
 
 // Counts the sample of a plan, which has this name, over the prepared files of the plan.

@@ -48,8 +48,6 @@ pub(crate) fn perform<S: Store, O: Sink>(
     ensures { Does (columns_script (columns_of_request request.now)) (store_seen S.tells S.held S.faults store.old store.new) (sink_seen O.tells O.taken O.faults out.old out.new) result }
 {
     let inputs = load_both(alloc, store, request.a, request.b)?;
-    let rows = pair_rows(alloc, request.column, inputs.a.bytes(), inputs.b.bytes());
-    drop(inputs);
-    let text = rows?;
+    let text = pair_rows(alloc, request.column, inputs.a, inputs.b)?;
     print_text(alloc, Ended::Done, text, out)
 }

@@ -7,7 +7,6 @@ use crate::ends::{Ended, print_text};
 use crate::front::load_described;
 use link_base::Fault;
 use link_core::pair_ids;
-use link_limits::MOST_POOLED_BYTES;
 use link_outside::{Sink, Store};
 use std::alloc::Global;
 
@@ -21,13 +20,7 @@ pub(crate) fn perform<S: Store, O: Sink>(
     ensures { Does (settings_script name.now) (store_seen S.tells S.held S.faults store.old store.new) (sink_seen O.tells O.taken O.faults out.old out.new) result }
 {
     let described = load_described(alloc, store, name)?;
-    let ids = pair_ids(
-        alloc,
-        &described.plan,
-        described.inputs.a.bytes(),
-        described.inputs.b.bytes(),
-        MOST_POOLED_BYTES,
-    );
+    let ids = pair_ids(alloc, &described.plan, &described.files);
     drop(described);
     let text = ids?;
     print_text(alloc, Ended::Done, text, out)

@@ -6,7 +6,7 @@ pub returns-in_err-plan-clause-takes : goal.returns-in_err-plan-clause-takes
 returns-in_err-plan-clause-takes g c = takes_stop _ _ c.in_err-plan.ensures.takes c.from_residual.ensures.1
 
 pub returns-in-Err-clause-takes : goal.returns-in-Err-clause-takes
-returns-in-Err-clause-takes g c = takes_go _ _ c.in_ok-plan.ensures.takes (takes_stop _ _ c.in-Err.ensures refl)
+returns-in-Err-clause-takes g c = takes_go _ _ c.in_ok-plan.ensures.takes (takes_stop _ _ c.in-Err.ensures.takes refl)
 
 pub returns-in-Ok-clause-takes : goal.returns-in-Ok-clause-takes
-returns-in-Ok-clause-takes g c = takes_go _ _ c.in_ok-plan.ensures.takes (takes_go _ _ c.in-Ok.ensures (takes_value tt refl))
+returns-in-Ok-clause-takes g c = takes_go _ _ c.in_ok-plan.ensures.takes (takes_go _ _ c.in-Ok.ensures.takes (takes_value tt refl))
