@@ -82,7 +82,7 @@ fn read_up_to<F: Read + Drop>(alloc: Global, file: F, limit: u64) -> Result<Load
 {
     let mut text = Vec::new(alloc);
     let mut front = file.take(limit + 1);
-    front.read_to_end(&mut text)?;
+    io::copy(&mut front, &mut text)?;
     Ok(load_of(text, limit))
 }
 
