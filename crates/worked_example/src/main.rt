@@ -2,7 +2,9 @@
 //! many bytes, and with which records of B each record of A is compared. What is printed is compared with what is stored.
 #![tactic(auto)]
 
-ghost use Rattle.std.specs.Prelude.{◌≤◌, IfOk};
+mod page;
+
+ghost use Rattle.std.specs.Prelude.{◌≤◌};
 ghost use Rattle.link_core.specs.Rules.{IsPreparedFor};
 ghost use Rattle.link_limits.specs.declared.TheConstants.{MOST_POOL_LIMIT};
 ghost use Rattle.settings.specs.Ranges.{KeepsRanges};
@@ -10,129 +12,148 @@ ghost use Rattle.settings.specs.Ranges.{KeepsRanges};
 use anyhow::anyhow;
 use link_base::Fault;
 use link_core::{Prepared, prepare};
+use page::Page;
 use pair_walk::{RowPairs, Walker};
 use settings::{Plan, read_settings};
 use std::alloc::Global;
 use std::io::Write;
+use std::rt::Files as HostFiles;
 use std::{fs, io};
 
 /// The bytes of the distinct texts of the worked example, and one byte less.
 const LIMITS: [u64; 2] = [168, 167];
 
 // Shows whether two files fit into a pool of so many bytes.
-fn show_pool<R: Print>(
-    rt: &R,
-    alloc: Global,
-    plan: &Plan,
-    a: &[u8],
-    b: &[u8],
-    limit: u64,
-) -> anyhow::Result<()>
+fn show_pool(alloc: Global, page: &mut Page, plan: &Plan, a: &[u8], b: &[u8], limit: u64)
     requires ranges { KeepsRanges plan.now }
     requires limit { limit ≤ MOST_POOL_LIMIT }
 {
+    page.push_number(alloc, limit);
     match prepare(alloc, plan, a, b, limit) {
         Ok(files) => {
             drop(files);
-            println!(rt; "{limit} bytes: enough")?
+            page.push(b" bytes: enough\n");
         }
-        Err(Fault::PoolFull { used, limit }) => println!(rt; "{limit} bytes: {used} are wanted")?,
-        Err(_fault) => println!(rt; "{limit} bytes: refused")?,
+        Err(Fault::PoolFull { used, .. }) => {
+            page.push(b" bytes: ");
+            page.push_number(alloc, used);
+            page.push(b" are wanted\n");
+        }
+        Err(_fault) => page.push(b" bytes: refused\n"),
     }
-    Ok(())
 }
 
 // Shows a record of A and its partners, by their positions.
-fn show_row<R: Print>(rt: &R, row: &RowPairs) -> anyhow::Result<()> {
-    print!(rt; "{}:", row.a)?;
+fn show_row(alloc: Global, page: &mut Page, row: &RowPairs) {
+    page.push_number(alloc, u64::from(row.a));
+    page.push(b":");
     for b in &row.bs {
-        print!(rt; " {b}")?;
+        page.push(b" ");
+        page.push_number(alloc, u64::from(*b));
     }
-    println!(rt; "")?;
-    Ok(())
+    page.push(b"\n");
 }
 
 // Shows the partners of each record that is left, and that there are no more.
-fn show_rows<R: Print>(rt: &R, alloc: Global, walker: &mut Walker) -> anyhow::Result<()> {
+fn show_rows(alloc: Global, page: &mut Page, walker: &mut Walker) {
     for _ in 0..8 {
         match walker.next_row(alloc) {
-            Ok(Some(row)) => show_row(rt, &row)?,
-            Ok(None) => println!(rt; "no more")?,
-            Err(fault) => return Err(anyhow!("{fault}")),
+            Ok(Some(row)) => show_row(alloc, page, &row),
+            Ok(None) => page.push(b"no more\n"),
+            Err(_) => page.fail(),
         }
     }
-    Ok(())
 }
 
 // Shows the partners of each record.
-fn show_partners<R: Print>(
-    rt: &R,
-    alloc: Global,
-    plan: &Plan,
-    files: &Prepared,
-) -> anyhow::Result<()>
+fn show_partners(alloc: Global, page: &mut Page, plan: &Plan, files: &Prepared)
     requires ready { IsPreparedFor plan.now files.now }
 {
-    let mut walker = Walker::new_in(alloc, files.a(), files.b(), &plan.passes, files.pool())?;
-    let shown = show_rows(rt, alloc, &mut walker);
-    drop(walker);
-    shown
+    match Walker::new_in(alloc, files.a(), files.b(), &plan.passes, files.pool()) {
+        Err(_) => page.fail(),
+        Ok(mut walker) => {
+            show_rows(alloc, page, &mut walker);
+            drop(walker);
+        }
+    }
 }
 
 // Shows the second file of a plan, and the columns in it.
-fn show_second<R: Print>(rt: &R, within: &Plan) -> anyhow::Result<()> {
-    let mut out = io::writer(rt);
-    out.write_all(within.file_b.bytes())?;
+fn show_second(page: &mut Page, within: &Plan) {
+    page.push(within.file_b.bytes());
     for field in within.fields.fields() {
-        out.write_all(b" ")?;
-        out.write_all(field.column_b.bytes())?;
+        page.push(b" ");
+        page.push(field.column_b.bytes());
     }
-    out.write_all(b"\n")?;
-    Ok(())
+    page.push(b"\n");
 }
 
 // Shows the second file, and the columns in it, of the plan of the first file with itself.
-fn show_within<R: Print>(rt: &R, alloc: Global, plan: &Plan) -> anyhow::Result<()> {
-    let within = plan.within(alloc)?;
-    let shown = show_second(rt, &within);
-    drop(within);
-    shown
+fn show_within(alloc: Global, page: &mut Page, plan: &Plan) {
+    match plan.within(alloc) {
+        Err(_) => page.fail(),
+        Ok(within) => {
+            show_second(page, &within);
+            drop(within);
+        }
+    }
 }
 
-// Reads the plan of the worked example.
-fn plan_of(alloc: Global, settings: &[u8]) -> anyhow::Result<Plan>
-    ensures ranges { IfOk result KeepsRanges }
+// Shows with which records of B each record of A is compared.
+fn show_compared(alloc: Global, page: &mut Page, plan: &Plan, a: &[u8], b: &[u8])
+    requires { KeepsRanges plan.now }
 {
-    match read_settings(alloc, settings) {
-        Ok(plan) => Ok(plan),
-        Err(_) => Err(anyhow!("the settings are refused")),
+    match prepare(alloc, plan, a, b, LIMITS[0]) {
+        Err(_) => page.fail(),
+        Ok(files) => {
+            show_partners(alloc, page, plan, &files);
+            drop(files);
+        }
     }
 }
 
 // Shows all that is known of the worked example.
-fn show<R: Print>(rt: &R, alloc: Global, plan: &Plan, a: &[u8], b: &[u8]) -> anyhow::Result<()>
+fn show(alloc: Global, page: &mut Page, plan: &Plan, a: &[u8], b: &[u8])
     requires { KeepsRanges plan.now }
 {
-    show_within(rt, alloc, plan)?;
-    for limit in LIMITS {
-        show_pool(rt, alloc, plan, a, b, limit)?;
-    }
-    match prepare(alloc, plan, a, b, LIMITS[0]) {
-        Ok(files) => {
-            let shown = show_partners(rt, alloc, plan, &files);
-            drop(files);
-            shown
+    show_within(alloc, page, plan);
+    show_pool(alloc, page, plan, a, b, LIMITS[0]);
+    show_pool(alloc, page, plan, a, b, LIMITS[1]);
+    show_compared(alloc, page, plan, a, b);
+}
+
+// Shows all that is known of an example of these settings.
+fn show_by(alloc: Global, page: &mut Page, settings: &[u8], a: &[u8], b: &[u8]) {
+    match read_settings(alloc, settings) {
+        Err(_) => page.fail(),
+        Ok(plan) => {
+            show(alloc, page, &plan, a, b);
+            drop(plan);
         }
-        Err(_) => Err(anyhow!("the files are refused")),
+    }
+}
+
+// The bytes of a file.
+fn bytes_of<R: HostFiles + AllocGlobal>(rt: &R, page: &mut Page, name: &str) -> Vec<u8> {
+    match fs::read(rt, name) {
+        Ok(bytes) => bytes,
+        Err(_) => {
+            page.fail();
+            Vec::new(rt.alloc())
+        }
     }
 }
 
 fn main(rt: HostRuntime) -> anyhow::Result<()> {
-    let alloc = rt.alloc();
-    let a = fs::read(&rt, "a.csv")?;
-    let b = fs::read(&rt, "b.csv")?;
-    let plan = plan_of(alloc, &fs::read(&rt, "s.toml")?)?;
-    let shown = show(&rt, alloc, &plan, &a, &b);
-    drop(plan);
-    shown
+    let mut page = Page::new(rt.alloc());
+    let a = bytes_of(&rt, &mut page, "a.csv");
+    let b = bytes_of(&rt, &mut page, "b.csv");
+    let settings = bytes_of(&rt, &mut page, "s.toml");
+    show_by(rt.alloc(), &mut page, &settings, &a, &b);
+    io::writer(&rt).write_all(&page.text)?;
+    if page.is_whole {
+        Ok(())
+    } else {
+        Err(anyhow!("not all is shown"))
+    }
 }

@@ -4,7 +4,7 @@ use Rattle.pair_walk.specs.Rows.{AreAllReady}
 use Rattle.worked_example.proofs.show_partners.Goals as goal
 
 pub new_in-requires-clause-ready_a : goal.new_in-requires-clause-ready_a
-new_in-requires-clause-ready_a g c = subst (λ (rows : List Record). AreAllReady c.args.plan.now.passes rows) (sym c.a.ensures) c.requires.ready.ready_a
+new_in-requires-clause-ready_a c = subst (λ (rows : List Record). AreAllReady c.args.plan.now.passes rows) (sym c.a.ensures) c.requires.ready.ready_a
 
 pub new_in-requires-clause-ready_b : goal.new_in-requires-clause-ready_b
-new_in-requires-clause-ready_b g c = subst (λ (rows : List Record). AreAllReady c.args.plan.now.passes rows) (sym c.b.ensures) c.requires.ready.ready_b
+new_in-requires-clause-ready_b c = subst (λ (rows : List Record). AreAllReady c.args.plan.now.passes rows) (sym c.b.ensures) c.requires.ready.ready_b
