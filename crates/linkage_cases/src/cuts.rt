@@ -1,182 +1,158 @@
 // A command over each cut of a file.
-use crate::files::{Files, copied};
-use crate::show::{joined, show_bytes};
-use crate::trial::{Ending, NONE, in_one_line, run_over};
-use anyhow::anyhow;
+use crate::buffer::{Buffer, Fault, copied};
+use crate::files::Files;
+use crate::trial::{Ending, NONE, push_ending, run_over};
 use std::alloc::Global;
 
 // The line of an ending. Of one that is done nothing more is said.
-fn line_of(alloc: Global, ending: &Ending, files: &Files) -> anyhow::Result<Vec<u8>> {
+fn line_of(alloc: Global, ending: &Ending, files: &Files) -> Buffer {
+    let mut line = Buffer::new(alloc);
     if ending.status == 0 {
-        return Ok(Vec::from_slice(alloc, b"0")?);
+        line.push(b"0");
+    } else {
+        push_ending(alloc, &mut line, ending, files, ending);
     }
-    in_one_line(alloc, ending, files, ending)
-}
-
-// How a command ends where a name holds these bytes.
-fn ending_over(
-    alloc: Global,
-    words: &[String],
-    files: &mut Files,
-    name: &str,
-    bytes: &[u8],
-) -> anyhow::Result<Vec<u8>> {
-    files.set(alloc, name, bytes)?;
-    let ending = run_over(alloc, words, files, NONE)?;
-    let line = line_of(alloc, &ending, files);
-    drop(ending);
     line
 }
 
-// The lines of rising cuts, in which those that end alike share a line, and of the last line the least number of bytes and
-// the ending.
-#[derive(Drop)]
-struct Lines {
-    text: Vec<u8>,
-    least: usize,
-    ending: Vec<u8>,
-}
-
-impl Lines {
-    // Appends the last line, whose cuts are of so many bytes at most.
-    fn close(&mut self, alloc: Global, most: usize) -> anyhow::Result<()> {
-        let cuts = if self.least == most {
-            format!(in alloc; "{most}: ")?
-        } else {
-            format!(in alloc; "{}-{most}: ", self.least)?
-        };
-        self.text.extend_from_slice(cuts.as_bytes())?;
-        self.text.extend_from_slice(&self.ending)?;
-        self.text.push(b'\n')?;
-        Ok(())
-    }
-
-    // Takes the ending over the next cut.
-    fn take(&mut self, alloc: Global, length: usize, ending: Vec<u8>) -> anyhow::Result<()> {
-        if ending != self.ending {
-            self.close(alloc, length.saturating_sub(1))?;
-            self.least = length;
-            self.ending = ending;
+// How a command ends over what the files hold.
+fn line_over(alloc: Global, words: &[String], files: &Files) -> Buffer {
+    match run_over(alloc, words, files, NONE) {
+        Ok(ending) => {
+            let line = line_of(alloc, &ending, files);
+            drop(ending);
+            line
         }
-        Ok(())
-    }
-
-    // Takes how a command ends over each cut of a file but that of no bytes.
-    fn take_all(
-        &mut self,
-        alloc: Global,
-        words: &[String],
-        files: &mut Files,
-        name: &str,
-        all: &[u8],
-    ) -> anyhow::Result<()> {
-        for length in 1..=all.len() {
-            let front = all.get(..length).unwrap_or_default();
-            let ending = ending_over(alloc, words, files, name, front)?;
-            self.take(alloc, length, ending)?;
+        Err(_) => {
+            let mut line = Buffer::new(alloc);
+            line.fail(Fault::NoMemory);
+            line
         }
-        self.close(alloc, all.len())
     }
 }
 
-// How a command ends over each cut of a file, from no bytes to all of them; cuts that end alike in one line.
-fn lines_of(
+// How a command ends over a cut of a file.
+fn line_at(
     alloc: Global,
     words: &[String],
     files: &mut Files,
     name: &str,
     all: &[u8],
-) -> anyhow::Result<Vec<u8>> {
-    let mut lines = Lines {
-        text: Vec::new(alloc),
-        least: 0,
-        ending: ending_over(alloc, words, files, name, b"")?,
-    };
-    lines.take_all(alloc, words, files, name, all)?;
-    Ok(lines.text)
+    length: usize,
+) -> Buffer {
+    let mut page = Buffer::new(alloc);
+    let front = copied(alloc, &mut page, all.get(..length));
+    files.set(alloc, &mut page, name, front);
+    page.push_all(&line_over(alloc, words, files));
+    page
 }
 
-// The same, after which the file holds all of its bytes again.
-fn lines_and_back(
+// Appends the line of cuts that end alike, from one length to another.
+fn close(alloc: Global, lines: &mut Buffer, least: usize, most: usize, ending: &Buffer) {
+    lines.push_number(alloc, least as u64);
+    if least < most {
+        lines.push(b"-");
+        lines.push_number(alloc, most as u64);
+    }
+    lines.push(b": ");
+    lines.push_all(ending);
+    lines.push(b"\n");
+}
+
+// Appends how a command ends over each cut of a file, from no bytes to all of them; cuts that end alike in one line.
+fn push_lines(
     alloc: Global,
+    lines: &mut Buffer,
     words: &[String],
     files: &mut Files,
     name: &str,
     all: &[u8],
-) -> anyhow::Result<Vec<u8>> {
-    let lines = lines_of(alloc, words, files, name, all)?;
-    files.set(alloc, name, all)?;
-    Ok(lines)
+) {
+    let mut least = 0usize;
+    let mut last = line_at(alloc, words, files, name, all, 0);
+    for length in 1..=all.len() {
+        let line = line_at(alloc, words, files, name, all, length);
+        if line.bytes != last.bytes {
+            close(alloc, lines, least, length.saturating_sub(1), &last);
+            least = length;
+            last = line;
+        }
+    }
+    close(alloc, lines, least, all.len(), &last);
 }
 
-// How a command ends over each cut of a file.
+// What is shown of the cuts of a file.
+fn cuts_of(alloc: Global, words: &[String], files: &mut Files, name: &str, all: &[u8]) -> Buffer {
+    let mut lines = Buffer::new(alloc);
+    lines.push(b"-- ");
+    lines.push(name.as_bytes());
+    lines.push(b" cut\n");
+    push_lines(alloc, &mut lines, words, files, name, all);
+    lines
+}
+
+/// What was shown of the cuts of a file, and by which command.
 #[derive(Drop)]
-struct Cuts {
-    command: String,
-    name: String,
-    lines: Vec<u8>,
+pub(crate) struct Cuts {
+    lines: Buffer,
+    command: Buffer,
 }
 
-/// What was shown of cuts in a case.
-#[derive(Drop)]
-pub(crate) struct ShownCuts {
-    all: Vec<Cuts>,
+// The command by which these lines were shown before, if any.
+fn earlier<'a>(shown: &'a [Cuts], lines: &Buffer) -> Option<&'a Buffer> {
+    for cuts in shown {
+        if cuts.lines.bytes == lines.bytes {
+            return Some(&cuts.command);
+        }
+    }
+    None
 }
 
-impl ShownCuts {
-    pub(crate) fn new(alloc: Global) -> ShownCuts {
-        ShownCuts {
-            all: Vec::new(alloc),
+// Shows the lines of a command's cuts, and keeps them; or the command that ended so before.
+fn show_lines(page: &mut Buffer, shown: &mut Vec<Cuts>, name: &str, cuts: Cuts) {
+    match earlier(shown, &cuts.lines) {
+        Some(earlier) => {
+            page.push(b"-- ");
+            page.push(name.as_bytes());
+            page.push(b" cut: as");
+            page.push_all(earlier);
+            page.push(b"\n");
+        }
+        None => {
+            page.push_all(&cuts.lines);
+            if shown.push(cuts).is_err() {
+                page.fail(Fault::NoMemory);
+            }
         }
     }
+}
 
-    // Shows the lines of cuts, or the command that ended so before. False for such a one.
-    fn show_lines<R: Print>(&self, rt: &R, name: &str, lines: &[u8]) -> anyhow::Result<bool> {
-        let is_same = |cuts: &&Cuts| cuts.name.as_str() == name && cuts.lines.as_slice() == lines;
-        if let Some(earlier) = self.all.iter().find(is_same) {
-            println!(rt; "-- {name} cut: as {}", earlier.command)?;
-            return Ok(false);
+/// Runs a command over each cut of a file, and shows how it ends; or the command of this case that ended so before.
+pub(crate) fn show_cuts(
+    alloc: Global,
+    page: &mut Buffer,
+    shown: &mut Vec<Cuts>,
+    words: &[String],
+    files: &mut Files,
+    name: &str,
+) {
+    match copied(alloc, page, files.held(name)) {
+        None => page.fail(Fault::NotCut),
+        Some(all) => {
+            let lines = cuts_of(alloc, words, files, name, &all);
+            files.set(alloc, page, name, Some(all));
+            let command = words_text(alloc, words);
+            show_lines(page, shown, name, Cuts { lines, command });
         }
-        println!(rt; "-- {name} cut")?;
-        show_bytes(rt, lines)?;
-        Ok(true)
     }
+}
 
-    // Keeps the lines of cuts.
-    fn keep(
-        &mut self,
-        alloc: Global,
-        words: &[String],
-        name: &str,
-        lines: Vec<u8>,
-    ) -> anyhow::Result<()> {
-        let cuts = Cuts {
-            command: joined(alloc, words)?,
-            name: copied(alloc, name)?,
-            lines,
-        };
-        self.all.push(cuts)?;
-        Ok(())
+/// Words with a space before each.
+pub(crate) fn words_text(alloc: Global, words: &[String]) -> Buffer {
+    let mut text = Buffer::new(alloc);
+    for word in words {
+        text.push(b" ");
+        text.push(word.as_bytes());
     }
-
-    /// Runs a command over each cut of a file, and shows how it ends; or the command of this case that ended so before.
-    pub(crate) fn show<R: Print>(
-        &mut self,
-        rt: &R,
-        alloc: Global,
-        words: &[String],
-        files: &mut Files,
-        name: &str,
-    ) -> anyhow::Result<()> {
-        let Some(all) = files.copy_of(alloc, name)? else {
-            return Err(anyhow!("no file to cut: {name}"));
-        };
-        let lines = lines_and_back(alloc, words, files, name, &all);
-        drop(all);
-        let lines = lines?;
-        if self.show_lines(rt, name, &lines)? {
-            self.keep(alloc, words, name, lines)?;
-        }
-        Ok(())
-    }
+    text
 }

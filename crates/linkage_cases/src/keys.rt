@@ -1,120 +1,187 @@
-// The keys of a table of a case file, borrowed from it.
-use anyhow::anyhow;
-use std::alloc::Global;
+// Tables of a case file: which keys they may have, and what stands at a key.
+use crate::buffer::{Buffer, Fault};
+use link_outside::Failure;
+use std::alloc::{AllocError, Global};
 use toml::{Table, Value};
 
-/// The keys of a table.
-#[derive(Clone, Copy)]
-pub(crate) struct Keys<'a>(&'a Table);
+/// A key of a table, the type of what stands there, and whether it has to be there.
+type Key = (&'static str, &'static str, bool);
 
-/// The text that a value is.
-pub(crate) fn text_of(value: &Value) -> anyhow::Result<&str> {
-    match value.as_str() {
-        Some(text) => Ok(text),
-        None => Err(anyhow!("not a text")),
+/// A case file.
+pub(crate) const CASES: [Key; 1] = [("case", "array", true)];
+
+/// A case: what it shows; files beside the case file, each held under its own name before any change; changes; runs.
+pub(crate) const CASE: [Key; 4] = [
+    ("name", "string", true),
+    ("hold", "array", false),
+    ("file", "array", false),
+    ("run", "array", true),
+];
+
+/// What a file comes to hold before a command: a text, the bytes of a file beside the case file, the file of this name in a
+/// made input of so many rows, and pieces, in this order, or what it holds where none of them is given; then with texts
+/// replaced, each where it first stands, and cut to so many bytes. A missing one is no longer held.
+pub(crate) const CHANGE: [Key; 8] = [
+    ("name", "string", true),
+    ("text", "string", false),
+    ("from", "string", false),
+    ("made", "integer", false),
+    ("piece", "array", false),
+    ("replace", "array", false),
+    ("cut", "integer", false),
+    ("missing", "boolean", false),
+];
+
+/// Bytes and a text so many times, once where nothing is said. `{n}` in the text stands for the number of the time, from 1.
+pub(crate) const PIECE: [Key; 3] = [
+    ("text", "string", false),
+    ("bytes", "array", false),
+    ("times", "integer", false),
+];
+
+/// A text, and what stands in its place.
+pub(crate) const REPLACEMENT: [Key; 2] = [("old", "string", true), ("new", "string", true)];
+
+/// A command: its words; changes before it; the calls that fail, of the store, of standard output and of standard error; whether
+/// it is run once for each call that it makes, with that call failing; and the files of which it is run over each cut.
+pub(crate) const RUN: [Key; 7] = [
+    ("words", "array", true),
+    ("file", "array", false),
+    ("fails", "array", false),
+    ("out_fails", "array", false),
+    ("err_fails", "array", false),
+    ("each_failure", "boolean", false),
+    ("each_cut", "array", false),
+];
+
+/// A call of the store, from 1, loads and puts counted together; applied where a failing put has written its bytes.
+const FAIL: [Key; 2] = [("call", "integer", true), ("applied", "boolean", false)];
+
+// Whether a table has no keys but those listed, and at each what is listed.
+fn has_listed(table: &Table, listed: &[Key]) -> bool {
+    let mut known = 0usize;
+    for (key, kind, is_needed) in listed {
+        match table.get(*key) {
+            Some(value) if value.type_str() == *kind => known = known.saturating_add(1),
+            None if !*is_needed => {}
+            _ => return false,
+        }
     }
+    known == table.len()
+}
+
+/// Notes a fault where a value is no table that has the keys listed.
+pub(crate) fn check(page: &mut Buffer, value: &Value, listed: &[Key]) {
+    match value {
+        Value::Table(table) if has_listed(table, listed) => {}
+        _ => page.fail(Fault::NotListed),
+    }
+}
+
+// What stands at a key, if anything.
+fn at<'a>(value: &'a Value, key: &str) -> Option<&'a Value> {
+    match value {
+        Value::Table(table) => table.get(key),
+        _ => None,
+    }
+}
+
+/// Whether anything stands at a key.
+pub(crate) fn has(value: &Value, key: &str) -> bool {
+    at(value, key).is_some()
+}
+
+/// The text at a key; the empty one where there is none.
+pub(crate) fn text<'a>(value: &'a Value, key: &str) -> &'a str {
+    match at(value, key) {
+        Some(Value::String(text)) => text,
+        _ => "",
+    }
+}
+
+/// The values of the array at a key; none where there is no array.
+pub(crate) fn values<'a>(value: &'a Value, key: &str) -> &'a [Value] {
+    match at(value, key) {
+        Some(Value::Array(values)) => values,
+        _ => &[],
+    }
+}
+
+/// Whether a key says so. Not where it is not there.
+pub(crate) fn truth(value: &Value, key: &str) -> bool {
+    matches!(at(value, key), Some(Value::Boolean(true)))
 }
 
 /// The number that a value is, of at most 32 bits.
-pub(crate) fn number_of(value: &Value) -> anyhow::Result<u32> {
-    match value.as_integer() {
-        Some(number) if 0 <= number && number <= i64::from(u32::MAX) => Ok(number as u32),
-        _ => Err(anyhow!("not a number")),
+pub(crate) fn number_of(value: &Value) -> Option<u32> {
+    match value {
+        Value::Integer(number) if 0 <= *number && *number <= i64::from(u32::MAX) => {
+            Some(*number as u32)
+        }
+        _ => None,
     }
 }
 
-/// The texts that values are.
-pub(crate) fn texts_of(alloc: Global, values: &[Value]) -> anyhow::Result<Vec<String>> {
-    let mut texts = Vec::new(alloc);
-    for value in values {
-        texts.push(String::from_str(alloc, text_of(value)?)?)?;
+/// The number at a key; another where there is none.
+pub(crate) fn number(value: &Value, key: &str, other: u32) -> u32 {
+    match at(value, key) {
+        Some(value) => number_of(value).unwrap_or(other),
+        None => other,
     }
-    Ok(texts)
+}
+
+/// The text that a value is.
+pub(crate) fn text_of<'a>(page: &mut Buffer, value: &'a Value) -> &'a str {
+    match value {
+        Value::String(text) => text,
+        _ => {
+            page.fail(Fault::NotText);
+            ""
+        }
+    }
+}
+
+// Appends a word.
+fn push_word(alloc: Global, words: &mut Vec<String>, word: &str) -> Result<(), AllocError> {
+    words.push(String::from_str(alloc, word)?)?;
+    Ok(())
+}
+
+/// The words that values are.
+pub(crate) fn words_of(alloc: Global, page: &mut Buffer, values: &[Value]) -> Vec<String> {
+    let mut words = Vec::new(alloc);
+    for value in values {
+        if push_word(alloc, &mut words, text_of(page, value)).is_err() {
+            page.fail(Fault::NoMemory);
+        }
+    }
+    words
 }
 
 /// The numbers that values are.
-pub(crate) fn numbers_of(alloc: Global, values: &[Value]) -> anyhow::Result<Vec<u32>> {
+pub(crate) fn numbers_of(alloc: Global, page: &mut Buffer, values: &[Value]) -> Vec<u32> {
     let mut numbers = Vec::new(alloc);
     for value in values {
-        numbers.push(number_of(value)?)?;
+        match number_of(value) {
+            Some(number) if numbers.push(number).is_ok() => {}
+            _ => page.fail(Fault::NotNumber),
+        }
     }
-    Ok(numbers)
+    numbers
 }
 
-impl<'a> Keys<'a> {
-    /// The keys of a table that has no keys but those listed.
-    pub(crate) fn new(table: &'a Table, listed: &[&str]) -> anyhow::Result<Keys<'a>> {
-        for (key, _value) in table {
-            if !listed.iter().any(|other| key.as_str() == *other) {
-                return Err(anyhow!("unknown key: {key}"));
-            }
-        }
-        Ok(Keys(table))
-    }
-
-    /// The same of a value that is a table.
-    pub(crate) fn of(value: &'a Value, listed: &[&str]) -> anyhow::Result<Keys<'a>> {
-        match value.as_table() {
-            Some(table) => Keys::new(table, listed),
-            None => Err(anyhow!("not a table")),
+/// The planned failures of a store.
+pub(crate) fn failures_of(alloc: Global, page: &mut Buffer, fails: &[Value]) -> Vec<Failure> {
+    let mut failures = Vec::new(alloc);
+    for fail in fails {
+        check(page, fail, &FAIL);
+        let failure = Failure {
+            call: number(fail, "call", 0),
+            applied: truth(fail, "applied"),
+        };
+        if failures.push(failure).is_err() {
+            page.fail(Fault::NoMemory);
         }
     }
-
-    /// The text at a key that has to be there.
-    pub(crate) fn text(self, key: &str) -> anyhow::Result<&'a str> {
-        match self.0.get(key) {
-            Some(value) => text_of(value),
-            None => Err(anyhow!("missing key: {key}")),
-        }
-    }
-
-    /// The text at a key that may be there.
-    pub(crate) fn optional_text(self, key: &str) -> anyhow::Result<Option<&'a str>> {
-        match self.0.get(key) {
-            Some(value) => Ok(Some(text_of(value)?)),
-            None => Ok(None),
-        }
-    }
-
-    /// The number at a key that may be there.
-    pub(crate) fn optional_number(self, key: &str) -> anyhow::Result<Option<u32>> {
-        match self.0.get(key) {
-            Some(value) => Ok(Some(number_of(value)?)),
-            None => Ok(None),
-        }
-    }
-
-    /// The number at a key that has to be there.
-    pub(crate) fn number(self, key: &str) -> anyhow::Result<u32> {
-        match self.0.get(key) {
-            Some(value) => number_of(value),
-            None => Err(anyhow!("missing key: {key}")),
-        }
-    }
-
-    /// Whether a key says so. Not where it is not there.
-    pub(crate) fn truth(self, key: &str) -> anyhow::Result<bool> {
-        match self.0.get(key) {
-            None => Ok(false),
-            Some(Value::Boolean(truth)) => Ok(*truth),
-            Some(_) => Err(anyhow!("not a truth value: {key}")),
-        }
-    }
-
-    /// The values of the array at a key that has to be there.
-    pub(crate) fn needed_values(self, key: &str) -> anyhow::Result<&'a [Value]> {
-        match self.0.get(key) {
-            None => Err(anyhow!("missing key: {key}")),
-            Some(_) => self.values(key),
-        }
-    }
-
-    /// The values of the array at a key. None where it is not there.
-    pub(crate) fn values(self, key: &str) -> anyhow::Result<&'a [Value]> {
-        match self.0.get(key) {
-            None => Ok(&[]),
-            Some(Value::Array(values)) => Ok(values),
-            Some(_) => Err(anyhow!("not an array: {key}")),
-        }
-    }
+    failures
 }
