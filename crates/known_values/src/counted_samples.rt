@@ -10,10 +10,10 @@ use std::alloc::Global;
 fn is_refused(alloc: Global, sample: &[u8], file: &StdFile, fields: &Fields) -> bool
     requires { file.now ≡ [] }
 {
-    match count_sample(alloc, sample, file, file, fields) {
-        Err(Fault::NoMatched) => true,
-        _ => false,
-    }
+    let counted = count_sample(alloc, sample, file, file, fields);
+    let is_refused = matches!(&counted, Err(Fault::NoMatched));
+    drop(counted);
+    is_refused
 }
 
 fn is_refused_by(alloc: Global, sample: &[u8], fields: &Fields) -> Result<bool, NoMemory> {

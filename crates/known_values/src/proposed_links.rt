@@ -1,8 +1,10 @@
 // Proposals for small lists, which come to no level by themselves.
+ghost use Rattle.assignment_steps.specs.Market.{IsRising};
+
 use assignment_levels::Levels;
 use assignment_steps::{Board, Edge, Proposal, starts_of, turned_edges};
+use link_base::NoMemory;
 use std::alloc::Global;
-use std::test::Fail;
 
 /// How many records a side has.
 const ROWS: u32 = 7;
@@ -13,7 +15,7 @@ fn draw(seed: u32) -> u32 {
 }
 
 // Edges of most records, with values to `most`.
-fn drawn(alloc: Global, first: u32, most: u32) -> Result<Vec<Edge>, Fail> {
+fn drawn(alloc: Global, first: u32, most: u32) -> Result<Vec<Edge>, NoMemory> {
     let mut edges = Vec::new(alloc);
     let mut seed = first;
     for place in 0..ROWS * ROWS {
@@ -59,27 +61,40 @@ fn sum_of(proposal: Proposal<'_>) -> u64 {
     sum
 }
 
-// Whether a proposal from nothing, bit by bit, certifies itself.
-fn certifies(alloc: Global, first: u32, most: u32) -> Result<bool, Fail> {
-    let drawn = drawn(alloc, first, most)?;
-    let turned = turned_edges(alloc, &drawn)?;
-    let turned_starts = starts_of(alloc, &turned, ROWS as usize)?;
-    let edges = turned_edges(alloc, &turned)?;
-    let starts = starts_of(alloc, &edges, ROWS as usize)?;
-    let board = Board {
-        edges: &edges,
-        starts: &starts,
-        turned: &turned,
-        turned_starts: &turned_starts,
-    };
+// Whether a proposal on a board from nothing, bit by bit, certifies itself.
+fn certifies_on(alloc: Global, board: Board<'_>) -> Result<bool, NoMemory> {
     let mut levels = Levels::new(alloc, ROWS as usize, ROWS as usize)?;
     levels.propose_by_levels(board);
     let proposal = levels.proposal();
-    Ok(worth_of(&edges, proposal) == Some(sum_of(proposal)))
+    Ok(worth_of(board.edges, proposal) == Some(sum_of(proposal)))
+}
+
+// The same over edges by the records of A and by those of B.
+fn certifies_by(alloc: Global, edges: &[Edge], turned: &[Edge]) -> Result<bool, NoMemory>
+    requires edges { IsRising edges.now }
+    requires turned { IsRising turned.now }
+{
+    let starts = starts_of(alloc, edges, ROWS as usize)?;
+    let turned_starts = starts_of(alloc, turned, ROWS as usize)?;
+    let board = Board {
+        edges,
+        starts: &starts,
+        turned,
+        turned_starts: &turned_starts,
+    };
+    certifies_on(alloc, board)
+}
+
+// The same over drawn edges.
+fn certifies(alloc: Global, first: u32, most: u32) -> Result<bool, NoMemory> {
+    let drawn = drawn(alloc, first, most)?;
+    let turned = turned_edges(alloc, &drawn)?;
+    let edges = turned_edges(alloc, &turned)?;
+    certifies_by(alloc, &edges, &turned)
 }
 
 #[test]
-fn proposals_bit_by_bit_certify_themselves(rt: HostRuntime) -> Result<(), Fail> {
+fn proposals_bit_by_bit_certify_themselves(rt: HostRuntime) -> Result<(), NoMemory> {
     let alloc = rt.alloc();
     for most in [4u32, 40, 1_474, 1_000_000] {
         for first in 1u32..6 {
