@@ -1,6 +1,6 @@
-use Rattle.std.proofs.Common.{◌≡◌, ◌⊎◌, ℕ, zero, suc, ◌+◌, ◌-◌, ◌*◌, ◌/◌, ◌<◌, ◌≤◌, List, [], ◌∷◌, length, get_or, map, refl, sym, ap, ◌∙◌, inl, inr, arith}
+use Rattle.std.proofs.Common.{◌≡◌, ◌⊎◌, ℕ, zero, suc, ◌-◌, ◌*◌, ◌/◌, ◌<◌, ◌≤◌, List, [], ◌∷◌, length, get_or, map, refl, sym, ap, ◌∙◌, inl, inr, arith}
 use Rattle.std.specs.Prelude.{Contains, IsPermutation}
-use Rattle.assignment_steps.specs.declared.queue.TheConstants.{FARTHEST, FIRST, STEP}
+use Rattle.assignment_steps.specs.declared.queue.TheConstants.{LAST, TURNS}
 use Rattle.std.proofs.lemmas.List.Sorted.{Contains-permutation, IsPermutation-sym}
 
 at_cons : {X : Type 0} (y : X) (ys : List X) (x : X) (k : ℕ) → k < length (y ∷ ys) → get_or (y ∷ ys) k x ≡ x → Contains ys x ⊎ (x ≡ y)
@@ -19,6 +19,9 @@ popped_stays xs ys e p x h = Contains-cons_cases e ys x (Contains-permutation xs
 
 pub popped_only : {X : Type 0} (xs ys : List X) (e : X) → IsPermutation xs (e ∷ ys) → (x : X) → Contains ys x → Contains xs x
 popped_only xs ys e p x h = Contains-permutation (e ∷ ys) xs x (IsPermutation-sym xs (e ∷ ys) p) (Contains-later e ys x h)
+
+pub popped_inside : {X : Type 0} (xs ys : List X) (e : X) → IsPermutation xs (e ∷ ys) → Contains xs e
+popped_inside xs ys e p = Contains-permutation (e ∷ ys) xs e (IsPermutation-sym xs (e ∷ ys) p) (zero, omega arith, refl)
 
 -- after a push
 pub pushed_stays : {X : Type 0} (xs ys : List X) (e : X) → IsPermutation (e ∷ xs) ys → (x : X) → Contains xs x → Contains ys x
@@ -71,9 +74,15 @@ left_stays f xs ys e v is p y h = (let r = Contains-unmap f xs y h in elim (popp
 pub left_only : {X Y : Type 0} (f : X → Y) (xs ys : List X) (e : X) → IsPermutation xs (e ∷ ys) → (y : Y) → Contains (map f ys) y → Contains (map f xs) y
 left_only f xs ys e p y h = (let r = Contains-unmap f ys y h in rw (← r.1.1) (Contains-map f xs r.0 (popped_only xs ys e p r.0 r.1.0)))
 
--- the distance that an entry was made from
-pub distance_of_place : (distance before order : ℕ) → distance ≤ FARTHEST → before ≤ FIRST → order < FIRST → FARTHEST - ((FARTHEST - distance) * STEP + before + order) / STEP ≡ distance
-distance_of_place distance before order small first late = omega arith
+pub left_inside : {X Y : Type 0} (f : X → Y) (xs ys : List X) (e : X) (v : Y) → f e ≡ v → IsPermutation xs (e ∷ ys) → Contains (map f xs) v
+left_inside f xs ys e v is p = rw (← is) (Contains-map f xs e (popped_inside xs ys e p))
 
-pub falls_with_place : (x y : ℕ) → y ≤ x → FARTHEST - x / STEP ≤ FARTHEST - y / STEP
-falls_with_place x y le = omega arith
+-- the rank that an entry was made from
+pub rank_of_entry : (rank : ℕ) → rank ≤ LAST → LAST - (LAST - rank) ≡ rank
+rank_of_entry rank within = omega arith
+
+pub falls_with_entry : (x y : ℕ) → y ≤ x → LAST - x ≤ LAST - y
+falls_with_entry x y le = omega arith
+
+pub distances_rise : (x y : ℕ) → x ≤ y → x / (2 * TURNS) ≤ y / (2 * TURNS)
+distances_rise x y le = omega arith

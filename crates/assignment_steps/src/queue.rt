@@ -1,5 +1,6 @@
 // A queue of records by distance, over a heap (Knuth vol. 3, section 5.2.3) of fixed room.
-ghost use Rattle.std.specs.Prelude.{◌≡◌, ◌+◌, ◌<◌, ◌≤◌, ◌⊎◌, ℕ, [], Contains, All, MatchOption, IfOk};
+ghost use Rattle.std.specs.Prelude.{◌≡◌, ◌+◌, ◌*◌, ◌/◌, ◌<◌, ◌≤◌, ◌⊎◌, ℕ, [], Contains, All, MatchOption, IfOk};
+ghost use Rattle.assignment_steps.specs.Queue.{Enters, Leaves, rank_of, turn_after};
 
 use link_base::NoMemory;
 use std::alloc::Global;
@@ -9,12 +10,11 @@ use std::marker::Model;
 /// No distance in a queue is greater.
 pub const FARTHEST: u64 = 1_000_000_000;
 
-/// One step of distance in an entry's first number.
-const STEP: u64 = 8_589_934_592;
+/// How many puts after a clear keep their order among equals.
+pub const TURNS: u64 = 4_294_967_296;
 
-/// How far a record that goes first comes before the others at its distance, and how many puts after a
-/// clear keep their order at a distance.
-const FIRST: u64 = 4_294_967_296;
+/// No rank in a queue is greater.
+const LAST: u64 = 8_589_934_600_589_934_591;
 
 /// A record at a distance.
 #[derive(Clone, Copy, Debug, PartialEq, Eq)]
@@ -24,42 +24,63 @@ pub struct Near {
 }
 
 /// A queue of records by distance, which contracts see as the pairs of a distance and a record that wait
-/// in it, how many they are and how many may be. A record may wait at several distances.
-///
-/// Of equal distances those that go first come first, then those that came earlier, for the first
-/// 4,294,967,296 records after a clear. No contract says so: the order among equal distances is tested
-/// only, and no caller may rely on it for more than speed.
+/// in it, the pairs of a rank and a record, the turn of the next put, how many they are and how many may be. A record
+/// may wait at several distances. Of equal distances those that go first have the lesser rank, and then those that came
+/// earlier, for the first [`TURNS`] puts after a clear.
 #[derive(Drop)]
 pub struct DistanceQueue {
+    // What is left to the last rank, so that the greatest entry is the one of the least rank.
     heap: BinaryHeap<(u64, usize)>,
-    order: u64,
+    turn: u64,
 }
 
 impl Model for DistanceQueue {
     ghost use Rattle.std.specs.Prelude.{◌<◌, map};
     ghost use Rattle.std.specs.Ordering.{nat_cmp, ordering_then};
     ghost use Rattle.std.specs.BinaryHeap.{IsHeap, heap_items, heap_len, heap_capacity};
-    ghost use Rattle.assignment_steps.specs.declared.queue.TheConstants.{FIRST};
-    ghost use Rattle.assignment_steps.specs.Entries.{waiting_of};
+    ghost use Rattle.assignment_steps.specs.declared.queue.TheConstants.{TURNS};
+    ghost use Rattle.assignment_steps.specs.Entries.{ranked_of, waiting_of};
     ghost use Rattle.assignment_steps.specs.Queue.{Queue};
 
     ghost Value = { Queue };
 
-    ghost view = { λ q. record { waiting = map waiting_of (heap_items q.heap); count = heap_len q.heap; room = heap_capacity q.heap } };
+    ghost view = { λ q. record { waiting = map waiting_of (heap_items q.heap); ranked = map ranked_of (heap_items q.heap); turn = q.turn; count = heap_len q.heap; room = heap_capacity q.heap } };
 
-    ghost invariant = { λ q. (q.order < FIRST) × IsHeap (λ x y. ordering_then (nat_cmp x.0 y.0) (nat_cmp x.1 y.1)) (heap_items q.heap) };
+    ghost invariant = { λ q. (q.turn < TURNS) × IsHeap (λ x y. ordering_then (nat_cmp x.0 y.0) (nat_cmp x.1 y.1)) (heap_items q.heap) };
+}
+
+// The rank of a record at a distance that is put in a turn.
+fn rank_of(distance: u64, first: bool, turn: u64) -> u64
+    requires near { distance ≤ FARTHEST }
+    requires turn { turn < TURNS }
+    ensures rank { result ≡ rank_of distance first turn }
+    ensures within { result ≤ LAST }
+    ensures distance { result / (2 * TURNS) ≡ distance }
+{
+    let others = if first { 0 } else { 1 };
+    (2 * distance + others) * TURNS + turn
+}
+
+// The turn after another.
+fn turn_after(turn: u64) -> u64
+    requires { turn < TURNS }
+    ensures next { result ≡ turn_after turn }
+    ensures within { result < TURNS }
+{
+    if turn + 1 < TURNS { turn + 1 } else { turn }
 }
 
 impl DistanceQueue {
     /// An empty queue with room for so many.
     pub fn new(alloc: Global, room: usize) -> Result<DistanceQueue, NoMemory>
         ensures waiting { IfOk result (λ q. q.waiting ≡ []) }
+        ensures ranked { IfOk result (λ q. q.ranked ≡ []) }
+        ensures turn { IfOk result (λ q. q.turn ≡ 0) }
         ensures count { IfOk result (λ q. q.count ≡ 0) }
         ensures room { IfOk result (λ q. room ≤ q.room) }
     {
         let heap = BinaryHeap::with_capacity(alloc, room)?;
-        let order = FIRST - 1;
-        Ok(DistanceQueue { heap, order })
+        Ok(DistanceQueue { heap, turn: 0 })
     }
 
     /// Puts a record at a distance; `first` asks that it come before others at that distance.
@@ -71,16 +92,17 @@ impl DistanceQueue {
         ensures stays { (x : ℕ × ℕ) → Contains self.old.waiting x → Contains self.new.waiting x }
         ensures added { Contains self.new.waiting (distance, position) }
         ensures only { (x : ℕ × ℕ) → Contains self.new.waiting x → Contains self.old.waiting x ⊎ (x ≡ (distance, position)) }
+        ensures ranked { Enters self.old.ranked self.new.ranked (rank_of distance first self.old.turn) position }
+        ensures turn { self.new.turn ≡ turn_after self.old.turn }
     {
-        let before = if first { FIRST } else { 0 };
-        let entry = ((FARTHEST - distance) * STEP + before + self.order, position);
-        self.order = self.order.saturating_sub(1);
-        let Ok(()) = self.heap.push(entry) else {
+        let rank = rank_of(distance, first, self.turn);
+        self.turn = turn_after(self.turn);
+        let Ok(()) = self.heap.push((LAST - rank, position)) else {
             unreachable!();
         };
     }
 
-    /// Takes a record with the least distance, and none where the queue is empty.
+    /// Takes a record with the least rank, and so with the least distance, and none where the queue is empty.
     pub fn take(&mut self) -> Option<Near>
         ensures room { self.new.room ≡ self.old.room }
         ensures count { MatchOption result (self.old.count ≡ 0) (λ n. self.new.count + 1 ≡ self.old.count) }
@@ -88,19 +110,24 @@ impl DistanceQueue {
         ensures least { MatchOption result (self.old.count ≡ 0) (λ n. All (λ x. n.distance ≤ x.0) self.new.waiting) }
         ensures stays { MatchOption result (self.old.count ≡ 0) (λ n. (x : ℕ × ℕ) → Contains self.old.waiting x → Contains self.new.waiting x ⊎ (x ≡ (n.distance, n.position))) }
         ensures only { (x : ℕ × ℕ) → Contains self.new.waiting x → Contains self.old.waiting x }
+        ensures ranked { MatchOption result (self.old.count ≡ 0) (λ n. Leaves self.old.ranked self.new.ranked n.distance n.position) }
+        ensures turn { self.new.turn ≡ self.old.turn }
     {
-        let (place, position) = self.heap.pop()?;
-        let distance = FARTHEST.saturating_sub(place / STEP);
+        let (left, position) = self.heap.pop()?;
+        let rank = LAST.saturating_sub(left);
+        let distance = rank / (2 * TURNS);
         Some(Near { position, distance })
     }
 
     /// Takes all out.
     pub fn clear(&mut self)
         ensures waiting { self.new.waiting ≡ [] }
+        ensures ranked { self.new.ranked ≡ [] }
+        ensures turn { self.new.turn ≡ 0 }
         ensures count { self.new.count ≡ 0 }
         ensures room { self.new.room ≡ self.old.room }
     {
         self.heap.clear();
-        self.order = FIRST - 1;
+        self.turn = 0;
     }
 }

@@ -1,4 +1,4 @@
-//! What no clause says and no command shows: links against a plain search, the order among equal distances, and that the calls
+//! What no clause says and no command shows: links against a plain search, proposals that certify themselves, and that the calls
 //! which no command makes succeed in ample memory. The tests stand in a crate of their own: a crate with tests is proved a second
 //! time, and so none of the others is for these.
 #![tactic(auto)]
@@ -9,8 +9,6 @@ mod canons;
 mod certificates_within_capacities;
 #[cfg(test)]
 mod counted_samples;
-#[cfg(test)]
-mod distances;
 #[cfg(test)]
 mod forests;
 #[cfg(test)]
