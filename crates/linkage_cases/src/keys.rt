@@ -57,12 +57,20 @@ pub(crate) const RUN: [Key; 7] = [
 /// A call of the store, from 1, loads and puts counted together; applied where a failing put has written its bytes.
 const FAIL: [Key; 2] = [("call", "integer", true), ("applied", "boolean", false)];
 
+// Whether a value is of a type; a number is one of at most 32 bits.
+fn is_of(value: &Value, kind: &str) -> bool {
+    match value {
+        Value::Integer(_) => kind == "integer" && number_of(value).is_some(),
+        _ => value.type_str() == kind,
+    }
+}
+
 // Whether a table has no keys but those listed, and at each what is listed.
 fn has_listed(table: &Table, listed: &[Key]) -> bool {
     let mut known = 0usize;
     for (key, kind, is_needed) in listed {
         match table.get(*key) {
-            Some(value) if value.type_str() == *kind => known = known.saturating_add(1),
+            Some(value) if is_of(value, *kind) => known = known.saturating_add(1),
             None if !*is_needed => {}
             _ => return false,
         }
