@@ -6,7 +6,7 @@ ghost use Rattle.block_passes.specs.Keys.{AreReadable, InRange};
 
 use crate::codes::push_text;
 use crate::ids::part_id;
-use link_base::{NoMemory, Pass, StdRow};
+use link_base::{NoMemory, Pass, Value};
 use std::alloc::Global;
 use value_pool::{Id, Pool};
 
@@ -14,7 +14,7 @@ use value_pool::{Id, Pool};
 pub(crate) const MOST_IDS: usize = 4;
 
 /// The ids of the key of a row in a pass of at most four parts.
-pub(crate) fn row_ids(row: &StdRow, pass: &Pass, pool: &Pool) -> Option<[u32; MOST_IDS]>
+pub(crate) fn row_ids(row: &[Value], pass: &Pass, pool: &Pool) -> Option<[u32; MOST_IDS]>
     requires few { length pass.now ≤ 4 }
     requires in_range { InRange row.now pass.now }
     requires readable { AreReadable row.now pass.now }

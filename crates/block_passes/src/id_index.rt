@@ -14,7 +14,7 @@ use crate::id_numbering::IdNumbering;
 use crate::ids::{IdKey, id_key};
 use crate::index::RowsByCode;
 use crate::numbering::Numbering;
-use link_base::{NoMemory, Pass, StdFile, StdRow};
+use link_base::{NoMemory, Pass, StdFile, Value};
 use std::alloc::Global;
 use value_pool::Pool;
 
@@ -159,7 +159,7 @@ pub(crate) fn index_ids(
 // The ids of the key of a row as bytes.
 fn long_code(
     alloc: Global,
-    row: &StdRow,
+    row: &[Value],
     pass: &Pass,
     pool: &Pool,
 ) -> Result<Option<Vec<u8>>, NoMemory>

@@ -9,12 +9,12 @@ ghost use Rattle.value_pool.specs.Texts.{IsHeld};
 
 use crate::id_numbering::NO_NUMBER;
 use crate::ids::part_id;
-use link_base::{NoMemory, Part, Pass, StdFile, StdRow};
+use link_base::{NoMemory, Part, Pass, StdFile, Value};
 use std::alloc::Global;
 use value_pool::Pool;
 
 // The place of the part of a key that a row has in a pool that holds it.
-fn part_number(row: &StdRow, part: Part, pool: &Pool) -> u32
+fn part_number(row: &[Value], part: Part, pool: &Pool) -> u32
     requires within { part.field < length row.now }
     requires readable { IsPartReadable row.now part }
     requires held { IsHeld pool.now.texts (part_key row.now part) }

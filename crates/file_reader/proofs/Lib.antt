@@ -1,6 +1,5 @@
 pub mod FieldFacts
 pub mod FindFacts
-pub mod IdFacts
 pub mod LeastFaulty
 pub mod MoreFacts
 pub mod ReadFacts

@@ -4,7 +4,6 @@ pub mod Table
 pub mod Known
 pub mod Header
 pub mod Faults
-pub mod Ids
 pub mod Steps
 pub mod Region
 pub mod Left

@@ -3,23 +3,22 @@ ghost use Rattle.std.specs.Prelude.{◌≡◌, ◌<◌, [], length, IfOk, IfSome
 ghost use Rattle.file_reader.specs.Steps.{Keeps};
 
 use indexmap::IndexSet;
-use link_base::NoMemory;
+use link_base::{NoMemory, Text};
 use std::alloc::Global;
 use std::marker::Model;
 
 // Distinct ids in order, which contracts see as the list of them.
 #[derive(Drop)]
 pub(crate) struct Ids {
-    ids: IndexSet<Vec<u8>>,
+    ids: IndexSet<Text>,
 }
 
 impl Model for Ids {
     ghost use Rattle.std.specs.Prelude.{ℕ, List};
-    ghost use Rattle.file_reader.specs.Ids.{texts_of};
 
     ghost Value = { List (List ℕ) };
 
-    ghost view = { λ x. texts_of x.ids.keys };
+    ghost view = { λ x. x.ids.keys };
 }
 
 impl Ids {
@@ -40,7 +39,7 @@ impl Ids {
             Some(place) => return Ok(Some(place)),
             None => {}
         }
-        let key = Vec::from_slice(alloc, id)?;
+        let key = Text::new(alloc, id)?;
         match self.ids.insert(key) {
             Ok(_) => return Ok(None),
             Err(failed) => return Err(NoMemory::from(failed)),

@@ -2,12 +2,12 @@
 ghost use Rattle.std.specs.Prelude.{◌≡◌, []};
 
 use block_passes::{build_index, build_index_in, id_key, pass_key};
-use link_base::{NoMemory, Pass, StdFile, StdRow};
+use link_base::{NoMemory, Pass, StdFile, Value};
 use std::alloc::Global;
 use value_pool::Pool;
 
 // By texts, of a file without records and a pass without parts.
-fn are_made(alloc: Global, file: &StdFile, row: &StdRow, pass: &Pass) -> bool
+fn are_made(alloc: Global, file: &StdFile, row: &[Value], pass: &Pass) -> bool
     requires file { file.now ≡ [] }
     requires pass { pass.now ≡ [] }
 {
@@ -15,7 +15,7 @@ fn are_made(alloc: Global, file: &StdFile, row: &StdRow, pass: &Pass) -> bool
 }
 
 // The same by ids.
-fn are_made_in(alloc: Global, file: &StdFile, row: &StdRow, pass: &Pass, pool: &Pool) -> bool
+fn are_made_in(alloc: Global, file: &StdFile, row: &[Value], pass: &Pass, pool: &Pool) -> bool
     requires file { file.now ≡ [] }
     requires pass { pass.now ≡ [] }
 {
@@ -25,7 +25,7 @@ fn are_made_in(alloc: Global, file: &StdFile, row: &StdRow, pass: &Pass, pool: &
 fn are_made_over(alloc: Global, file: &StdFile, pool: &Pool) -> bool
     requires file { file.now ≡ [] }
 {
-    let row = StdRow::new(Vec::new(alloc));
+    let row = Vec::new(alloc);
     let pass = Pass::new(Vec::new(alloc));
     are_made(alloc, file, &row, &pass) && are_made_in(alloc, file, &row, &pass, pool)
 }

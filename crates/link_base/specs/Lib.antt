@@ -1,5 +1,6 @@
 pub mod Answers
 pub mod Fault
+pub mod Places
 pub mod Rule
 pub mod Shares
 pub mod Standard

@@ -1,9 +1,7 @@
--- Standard values, records and files: what `StdFile` and `StdRow` are seen as (`find`, clauses `position` and `fresh`;
+-- Standard values, records and files: what `StdFile` is seen as (`find`, clauses `position` and `fresh`;
 -- `distinct_ids`).
 use Rattle.std.specs.Prelude.{◌≢◌, ℕ, List, [], All, AllPairs, map, position, bytes_eq, slice_index_or, Option, ⊤, ℤ, pos, negsuc, ◌≤ℤ◌}
 use Rattle.std.specs.Str.{IsUtf8}
-use Rattle.std.specs.declared.alloc.Global.{Global}
-use Rattle.std.specs.declared.vec.Vec.{Vec}
 use Rattle.link_base.specs.declared.standard.Value.{Value}
 use Rattle.link_base.specs.declared.standard.Value.TheVariants as value
 
@@ -11,10 +9,6 @@ use Rattle.link_base.specs.declared.standard.Value.TheVariants as value
 pub record Record : Type 0 where
   pub id : List ℕ
   pub row : List Value
-
--- the records of the entries of a map from ids to rows
-abbrev pub records_of_entries : List (Vec ℕ Global × List Value) → List Record
-records_of_entries entries = map (λ (e : Vec ℕ Global × List Value). record { id = e.0.items; row = e.1 }) entries
 
 -- the value and the record past the end of a list
 abbrev pub absent_value : Value

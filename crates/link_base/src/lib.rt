@@ -18,6 +18,6 @@ pub use plan::{CompareKind, DateForm, FieldSort, KeyKind, Part, Pass, PassList};
 pub use rule::{Candidate, Decision, Levels, Outcome, PairAt, RuleCell, RuleTable, Step, Verdict};
 pub use shares::{FieldShares, Shape};
 pub use sides::Sides;
-pub use standard::{StdFile, StdRow, Value, distinct_ids};
+pub use standard::{StdFile, Value, distinct_ids};
 pub use tables::{Tables, WordPair, WordPairs};
 pub use text::{NoMemory, Text, TextList, push_number};

@@ -19,60 +19,31 @@ pub enum Value {
     Day(i32),
 }
 
-/// A row of standard values, which contracts see as the list of them.
-#[derive(Drop)]
-pub struct StdRow {
-    values: Vec<Value>,
+// Where the values of a record stand among those of its file: from one place to before another.
+#[derive(Clone, Copy)]
+struct Places {
+    start: usize,
+    end: usize,
 }
 
-impl Model for StdRow {
-    ghost use Rattle.std.specs.Prelude.{List};
-    ghost use Rattle.link_base.specs.declared.standard.Value.{Value as FieldValue};
-
-    ghost Value = { List FieldValue };
-
-    ghost view = { λ r. r.values.items };
-}
-
-impl StdRow {
-    /// The row of these values, which takes no memory.
-    pub fn new(values: Vec<Value>) -> StdRow
-        ensures { result ≡ values.items }
-    {
-        StdRow { values }
-    }
-
-    /// The value of a field.
-    pub fn value(&self, field: u8) -> &Value
-        requires { field < length self.now }
-        ensures { result.now ≡ slice_index_or self.now field absent_value }
-    {
-        &self.values[field as usize]
-    }
-
-    /// The values.
-    pub fn values(&self) -> &[Value]
-        ensures { result.now ≡ self.now }
-    {
-        &self.values
-    }
-}
-
-/// A file in standard values, which contracts see as the list of its records. No id stands twice.
+/// A file in standard values, which contracts see as the list of its records. No id stands twice. The values of all records stand
+/// in one piece of memory.
 #[derive(Drop)]
 pub struct StdFile {
-    rows: IndexMap<Vec<u8>, StdRow>,
+    rows: IndexMap<Text, Places>,
+    values: Vec<Value>,
 }
 
 impl Model for StdFile {
     ghost use Rattle.std.specs.Prelude.{◌^◌, ◌<◌, List, length};
-    ghost use Rattle.link_base.specs.Standard.{HaveDistinctIds, Record, records_of_entries};
+    ghost use Rattle.link_base.specs.Places.{AreInside, records_among};
+    ghost use Rattle.link_base.specs.Standard.{HaveDistinctIds, Record};
 
     ghost Value = { List Record };
 
-    ghost view = { λ f. records_of_entries f.rows.entries };
+    ghost view = { λ f. records_among f.values.items f.rows.entries };
 
-    ghost invariant = { λ f. HaveDistinctIds (records_of_entries f.rows.entries) × (length f.rows.entries < 2 ^ 32) };
+    ghost invariant = { λ f. HaveDistinctIds (records_among f.values.items f.rows.entries) × (length f.rows.entries < 2 ^ 32) × AreInside f.values.items f.rows.entries };
 }
 
 impl StdFile {
@@ -82,27 +53,35 @@ impl StdFile {
     {
         Ok(StdFile {
             rows: IndexMap::new(alloc),
+            values: Vec::new(alloc),
         })
     }
 
-    /// The file of no records, with room for so many.
-    pub fn with_capacity(alloc: Global, rows: u32) -> Result<StdFile, NoMemory>
+    /// The file of no records, with room for so many of so many fields.
+    pub fn with_capacity(alloc: Global, rows: u32, fields: u8) -> Result<StdFile, NoMemory>
         ensures { IfOk result (λ file. file ≡ []) }
     {
         Ok(StdFile {
             rows: IndexMap::with_capacity(alloc, rows as usize)?,
+            values: Vec::with_capacity(alloc, rows as usize * fields as usize)?,
         })
     }
 
-    /// Appends a record, whose id no earlier one has.
-    pub fn push(&mut self, id: Text, row: StdRow) -> Result<(), NoMemory>
+    /// Appends a record, whose id no earlier one has. Its values move into the file.
+    pub fn push(&mut self, id: Text, row: &mut Vec<Value>) -> Result<(), NoMemory>
         requires room { length self.old + 1 < 2 ^ 32 }
         requires fresh { IsFreshId id self.old }
-        ensures ok { OnOk result (self.new ≡ self.old ++ record { id = id; row = row } ∷ []) }
+        ensures ok { OnOk result (self.new ≡ self.old ++ record { id = id; row = row.old.items } ∷ []) }
+        ensures moved { OnOk result (row.new.items ≡ []) }
         ensures err { OnErr result (self.new ≡ self.old) }
     {
-        let key = id.into_bytes(*self.rows.allocator())?;
-        match self.rows.insert(key, row) {
+        let start = self.values.len();
+        self.values.append(row)?;
+        let places = Places {
+            start,
+            end: self.values.len(),
+        };
+        match self.rows.insert(id, places) {
             Ok(_) => return Ok(()),
             Err(_) => return Err(NoMemory),
         }
@@ -121,18 +100,18 @@ impl StdFile {
         ensures { result.now ≡ (slice_index_or self.now at no_record).id }
     {
         match self.rows.get_index(at as usize) {
-            Some((id, _)) => id.as_slice(),
+            Some((id, _)) => id.bytes(),
             None => b"",
         }
     }
 
     /// The values of the record at a position.
-    pub fn row(&self, at: u32) -> &StdRow
+    pub fn row(&self, at: u32) -> &[Value]
         requires { at < length self.now }
         ensures { result.now ≡ (slice_index_or self.now at no_record).row }
     {
-        let (_, row) = self.rows.get_index(at as usize).unwrap();
-        row
+        let (_, places) = self.rows.get_index(at as usize).unwrap();
+        &self.values[places.start..places.end]
     }
 
     /// The position of the record with an id, found by an index. `None` exactly where no record has it.
@@ -163,6 +142,6 @@ impl Sides<Value> for StdFile {
     }
 
     fn sides(&self, at: u32) -> &[Value] {
-        self.row(at).values()
+        self.row(at)
     }
 }

@@ -1,5 +1,5 @@
 // The plain types with ample memory.
-use crate::{RuleTable, StdFile, StdRow, Tables, Text, TextList, Value, push_number};
+use crate::{RuleTable, StdFile, Tables, Text, TextList, Value, push_number};
 use std::alloc::Global;
 use std::test::Fail;
 
@@ -8,7 +8,7 @@ fn add(alloc: Global, file: &mut StdFile, id: &[u8]) -> Result<(), Fail> {
     let mut values = Vec::new(alloc);
     values.push(Value::Absent)?;
     if file.find(id).is_none() && file.rows() < 9 {
-        file.push(Text::new(alloc, id)?, StdRow::new(values))?;
+        file.push(Text::new(alloc, id)?, &mut values)?;
     }
     Ok(())
 }

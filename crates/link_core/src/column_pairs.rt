@@ -16,9 +16,7 @@ ghost use Rattle.pair_walk.specs.Rows.{AreAllReady};
 use crate::row_text::rows_text;
 use file_reader::{Layout, Table, read_table};
 use itoa::Buffer;
-use link_base::{
-    Fault, FileRole, KeyKind, NoMemory, Part, Pass, PassList, StdFile, StdRow, Text, Value,
-};
+use link_base::{Fault, FileRole, KeyKind, NoMemory, Part, Pass, PassList, StdFile, Text, Value};
 use link_limits::MOST_ROWS;
 use pair_walk::{Pairs, WalkFault, walk};
 use std::alloc::Global;
@@ -56,14 +54,6 @@ fn cell_value(alloc: Global, cell: &[u8]) -> Result<Value, NoMemory>
     Ok(Value::Word(Text::new(alloc, cell)?))
 }
 
-fn row_of(alloc: Global, cell: &[u8]) -> Result<StdRow, NoMemory>
-    ensures { IfOk result (λ row. row ≡ value_of cell.now ∷ []) }
-{
-    let mut values = Vec::with_capacity(alloc, 1)?;
-    values.push(cell_value(alloc, cell)?)?;
-    Ok(StdRow::new(values))
-}
-
 fn whole_pass(alloc: Global) -> Result<PassList, NoMemory>
     ensures { IfOk result (λ passes. passes ≡ whole_field) }
 {
@@ -84,17 +74,26 @@ fn row_id(alloc: Global, row: u64) -> Result<Text, NoMemory>
     Text::new(alloc, digits.format(row).as_bytes())
 }
 
-// Appends a row of a column as a standard record, with its number as its id.
-fn push_numbered(alloc: Global, file: &mut StdFile, table: &Table, at: u32) -> Result<(), NoMemory>
+// Appends a row of a column as a standard record, with its number as its id, by way of an empty row.
+fn push_numbered(
+    alloc: Global,
+    file: &mut StdFile,
+    row: &mut Vec<Value>,
+    table: &Table,
+    at: u32,
+) -> Result<(), NoMemory>
     requires few { length table.now ≤ MOST_ROWS }
     requires width { All (λ (r : TableRow). length r.fields ≡ 1) table.now }
     requires row { at < length table.now }
     requires count { length file.old ≡ at }
     requires fresh { IsFreshId (decimal (at + 1)) file.old }
-    ensures { OnOk result (file.new ≡ file.old ++ record { id = decimal (at + 1); row = value_of (first_field (slice_index_or table.now at no_row)) ∷ [] } ∷ []) }
+    requires empty { row.old.items ≡ [] }
+    ensures record { OnOk result (file.new ≡ file.old ++ record { id = decimal (at + 1); row = value_of (first_field (slice_index_or table.now at no_row)) ∷ [] } ∷ []) }
+    ensures empty { OnOk result (row.new.items ≡ []) }
 {
     let id = row_id(alloc, u64::from(at) + 1)?;
-    file.push(id, row_of(alloc, table.field(at, 0))?)
+    row.push(cell_value(alloc, table.field(at, 0))?)?;
+    file.push(id, row)
 }
 
 // The rows of a column as standard records, each with its number as its id.
@@ -103,9 +102,10 @@ fn numbered_file(alloc: Global, table: &Table) -> Result<StdFile, NoMemory>
     requires width { All (λ (r : TableRow). length r.fields ≡ 1) table.now }
     ensures { IfOk result (λ file. file ≡ numbered_records 0 (map first_field table.now)) }
 {
-    let mut file = StdFile::with_capacity(alloc, table.rows())?;
+    let mut file = StdFile::with_capacity(alloc, table.rows(), 1)?;
+    let mut row = Vec::with_capacity(alloc, 1)?;
     for at in 0..table.rows() {
-        push_numbered(alloc, &mut file, table, at)?;
+        push_numbered(alloc, &mut file, &mut row, table, at)?;
     }
     Ok(file)
 }

@@ -1,10 +1,9 @@
 -- On the number of a pattern.
-use Rattle.std.proofs.Common.{◌≡◌, ◌<◌, ◌≤◌, ◌+◌, ◌-◌, ◌*◌, ◌/◌, ◌%◌, ℕ, zero, suc, ◌^◌, Bool, true, false, List, [], ◌∷◌, length, map, drop, get_or, refl, ap, sym, ◌∙◌, subst, arith, rules, drop-cons, add-one, mul_comm}
+use Rattle.std.proofs.Common.{◌≡◌, ◌<◌, ◌≤◌, ◌+◌, ◌*◌, ℕ, zero, suc, Bool, true, false, List, [], ◌∷◌, length, map, get_or, refl, arith, mul_comm}
 use Rattle.std.specs.Prelude.{⊤}
 use Rattle.std.proofs.lemmas.List.{length-map}
-use Rattle.std.proofs.Math.Nat.{one-le-pow, mul-one, pow-succ'}
+use Rattle.std.proofs.Math.Nat.{mul-one}
 use Rattle.std.proofs.lemmas.Nat.{div-mul-add, mod-mul-add, mul-add-lt, mul-le}
-use Rattle.std.proofs.lemmas.Grind.{common_steps}
 use Rattle.link_limits.specs.declared.TheConstants.{MOST_FIELDS, MOST_PATTERNS}
 use Rattle.link_base.specs.declared.rule.Outcome.{Outcome}
 use Rattle.link_base.specs.declared.rule.Outcome.TheVariants.{Agree, Disagree, Missing, Rare}

@@ -9,7 +9,7 @@ ghost use Rattle.patterns.specs.Patterns.{outcomes, pattern_of};
 
 use crate::numbers::pattern_over;
 use comparators::FieldKind;
-use link_base::{CompareKind, NoMemory, StdRow};
+use link_base::{CompareKind, NoMemory, Value};
 use link_limits::MOST_FIELDS;
 use std::alloc::Global;
 use std::marker::Model;
@@ -58,7 +58,7 @@ impl Fields {
 
 /// The pattern of two rows of standard values: the number in base 3 whose digits are the outcomes, agree 0, disagree 1,
 /// missing 2, the first field most significant. It does not change when the two rows change places.
-pub fn pattern(fields: &Fields, a: &StdRow, b: &StdRow) -> u16
+pub fn pattern(fields: &Fields, a: &[Value], b: &[Value]) -> u16
     requires as_many_a { length a.now ≡ length fields.now }
     requires as_many_b { length b.now ≡ length fields.now }
     requires standard_a { All IsValid a.now }
@@ -69,5 +69,5 @@ pub fn pattern(fields: &Fields, a: &StdRow, b: &StdRow) -> u16
     ensures digits { (k : ℕ) (d : Outcome) → k < length fields.now
         → outcome_at (map (λ (_ : FieldKind). false) fields.now) result k ≡ slice_index_or (outcomes kind_outcome fields.now a.now b.now) k d }
 {
-    pattern_over(fields.kinds(), a.values(), b.values())
+    pattern_over(fields.kinds(), a, b)
 }

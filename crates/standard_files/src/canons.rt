@@ -12,7 +12,7 @@ ghost use Rattle.standard_files.specs.Texts.{both_texts, canons_of_row, file_tex
 use crate::known::{Known, KnownDays};
 use crate::texts::{TextIds, take_text};
 use comparators::{IdTable, IdValue};
-use link_base::{CompareKind, KeyKind, NoMemory, StdFile, StdRow, Value};
+use link_base::{CompareKind, KeyKind, NoMemory, StdFile, Value};
 use link_limits::MOST_FIELDS;
 use std::alloc::Global;
 use value_forms::{bytes_of, canon_text, compares_days, value_text};
@@ -181,7 +181,7 @@ fn take_row(
     pool: &mut Pool,
     kinds: &[CompareKind],
     known: &mut Known,
-    row: &StdRow,
+    row: &[Value],
     ids: &[Option<Id>],
     sides: &mut Vec<IdValue>,
 ) -> Result<(), PoolFault>
@@ -197,7 +197,6 @@ fn take_row(
     ensures known { OnOk result (AreKnown pool.new.texts kinds.now known.new) }
 {
     sides.clear();
-    let values = row.values();
     for field in 0..kinds.len() {
         let side = take_side(
             alloc,
@@ -206,7 +205,7 @@ fn take_row(
             known,
             field as u8,
             ids[field],
-            &values[field],
+            &row[field],
         )?;
         if sides.push(side).is_err() {
             return Err(PoolFault::NoMemory);

@@ -5,10 +5,10 @@ ghost use Rattle.link_base.specs.Standard.{HaveDistinctIds, IsValid, Record};
 ghost use Rattle.file_reader.specs.Table.{Tests};
 ghost use Rattle.standard_files.specs.Files.{AreOfPlan, date_fault, IsReadTable, sorts_a, sorts_b, standard_file, standard_files, standard_pair};
 
-use crate::row::standard_row;
+use crate::row::StandardRow;
 use crate::sources::{Source, read_a, read_b};
 use crate::values::ValueTables;
-use link_base::{Fault, FileRole, StdFile, StdRow, Text, distinct_ids};
+use link_base::{Fault, FileRole, StdFile, Text, distinct_ids};
 use link_limits::MOST_FIELDS;
 use settings::Plan;
 use std::alloc::Global;
@@ -91,14 +91,15 @@ fn push_records(
 {
     let table = &source.table;
     let mut unreadable: u32 = 0;
+    let mut row = StandardRow::new(alloc, source.sorts.len())?;
     for at in 0..table.rows() {
-        let row = standard_row(alloc, tables, &source.sorts, table, at)?;
+        row.take_in(alloc, tables, &source.sorts, table, at)?;
         match test_dates(alloc, role, plan, at + 1, row.first) {
             Ok(()) => {}
             Err(fault) => return Err(fault),
         }
         unreadable += row.unreadable;
-        file.push(Text::new(alloc, table.id(at))?, StdRow::new(row.values))?;
+        file.push(Text::new(alloc, table.id(at))?, &mut row.values)?;
     }
     Ok(unreadable)
 }
@@ -120,7 +121,7 @@ fn standard_file(
     ensures valid { IfOk result (λ file. All (λ (r : Record). All IsValid r.row) file.records) }
     ensures distinct { IfOk result (λ file. HaveDistinctIds file.records) }
 {
-    let mut file = StdFile::with_capacity(alloc, source.table.rows())?;
+    let mut file = StdFile::with_capacity(alloc, source.table.rows(), source.sorts.len() as u8)?;
     match push_records(alloc, role, plan, tables, source, &mut file) {
         Ok(unreadable) => {
             distinct_ids(&file);

@@ -12,7 +12,7 @@ ghost use Rattle.value_forms.specs.Canons.{canon_of, value_part};
 ghost use Rattle.value_pool.specs.Texts.{IsHeld};
 
 use crate::canons::take_part;
-use link_base::{CompareKind, KeyKind, Part, Pass, PassList, StdFile, StdRow, Value};
+use link_base::{CompareKind, KeyKind, Part, Pass, PassList, StdFile, Value};
 use std::alloc::Global;
 use value_pool::{Pool, PoolFault};
 
@@ -36,12 +36,12 @@ fn is_canon(key: KeyKind, kind: CompareKind) -> bool
 }
 
 // Whether the part of a row is one of its standard texts, or of its canons.
-fn is_taken(kinds: &[CompareKind], part: Part, row: &StdRow) -> bool
+fn is_taken(kinds: &[CompareKind], part: Part, row: &[Value]) -> bool
     requires within { part.field < length row.now }
     requires as_many { length row.now ≡ length kinds.now }
     ensures { IsTrue result → (held : List (List ℕ)) → HoldsTexts held (texts_of_row row.now) → HoldsTexts held (canons_of_row kinds.now row.now) → IsHeld held (part_key row.now part) }
 {
-    if is_standard_text(part.key, row.value(part.field)) {
+    if is_standard_text(part.key, &row[part.field as usize]) {
         return true;
     }
     is_canon(part.key, kinds[part.field as usize])
@@ -53,7 +53,7 @@ fn take_row_part(
     pool: &mut Pool,
     kinds: &[CompareKind],
     part: Part,
-    row: &StdRow,
+    row: &[Value],
 ) -> Result<(), PoolFault>
     requires within { part.field < length row.now }
     requires as_many { length row.now ≡ length kinds.now }
@@ -66,7 +66,7 @@ fn take_row_part(
     if is_taken(kinds, part, row) {
         return Ok(());
     }
-    match take_part(alloc, pool, part.key, row.value(part.field)) {
+    match take_part(alloc, pool, part.key, &row[part.field as usize]) {
         Ok(_) => Ok(()),
         Err(fault) => Err(fault),
     }
@@ -78,7 +78,7 @@ fn take_key(
     pool: &mut Pool,
     kinds: &[CompareKind],
     pass: &Pass,
-    row: &StdRow,
+    row: &[Value],
 ) -> Result<(), PoolFault>
     requires in_range { All (λ (p : KeyPart). p.field < length row.now) pass.now }
     requires as_many { length row.now ≡ length kinds.now }
@@ -100,7 +100,7 @@ fn take_row(
     pool: &mut Pool,
     kinds: &[CompareKind],
     passes: &PassList,
-    row: &StdRow,
+    row: &[Value],
 ) -> Result<(), PoolFault>
     requires in_range { AreInRange (length row.now) passes.now }
     requires as_many { length row.now ≡ length kinds.now }

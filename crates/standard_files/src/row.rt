@@ -1,5 +1,5 @@
 // A row in standard values.
-ghost use Rattle.std.specs.Prelude.{◌≡◌, ◌+◌, ◌<◌, ◌≤◌, ◌∷◌, ◌++◌, [], All, length, slice_index_or, IfOk, IfSome, IsUtf8, OnOk, Some, None, if◌then◌else◌};
+ghost use Rattle.std.specs.Prelude.{◌≡◌, ◌+◌, ◌<◌, ◌≤◌, ◌∷◌, ◌++◌, [], All, length, slice_index_or, IfSome, IsUtf8, OnOk, Some, None, if◌then◌else◌};
 ghost use Rattle.std.specs.Option.{option_or};
 ghost use Rattle.link_base.specs.Standard.{IsValid};
 ghost use Rattle.file_reader.specs.Rows.{no_row};
@@ -21,6 +21,15 @@ pub(crate) struct StandardRow {
 }
 
 impl StandardRow {
+    // The row of no values, with room for so many.
+    pub(crate) fn new(alloc: Global, fields: usize) -> Result<StandardRow, NoMemory> {
+        Ok(StandardRow {
+            values: Vec::with_capacity(alloc, fields)?,
+            unreadable: 0,
+            first: None,
+        })
+    }
+
     // One value more.
     fn push(&mut self, text: StandardText) -> Result<(), NoMemory>
         requires few { self.old.unreadable ≤ length self.old.values.items }
@@ -36,6 +45,36 @@ impl StandardRow {
         self.values.push(text.value)?;
         Ok(())
     }
+
+    // Takes in the row of a table in standard values, in place of what was there.
+    pub(crate) fn take_in(
+        &mut self,
+        alloc: Global,
+        tables: &ValueTables,
+        sorts: &[TextSort],
+        table: &Table,
+        at: u32,
+    ) -> Result<(), NoMemory>
+        requires within { at < length table.now }
+        requires width { length (slice_index_or table.now at no_row).fields ≡ length sorts.now }
+        requires few { length sorts.now ≤ 6 }
+        requires texts { IsTextRow (slice_index_or table.now at no_row) }
+        ensures values { OnOk result (self.new.values.items ≡ standard_values tables.now sorts.now (slice_index_or table.now at no_row).fields) }
+        ensures unreadable { OnOk result (self.new.unreadable ≡ unreadable_in_row tables.now sorts.now (slice_index_or table.now at no_row).fields) }
+        ensures first { OnOk result (self.new.first ≡ unreadable_from tables.now 0 sorts.now (slice_index_or table.now at no_row).fields) }
+        ensures few { OnOk result (self.new.unreadable ≤ 6) }
+        ensures within { OnOk result (IfSome self.new.first (λ place. place < length sorts.now)) }
+        ensures valid { OnOk result (All IsValid self.new.values.items) }
+    {
+        self.values.clear();
+        self.unreadable = 0;
+        self.first = None;
+        for (column, sort) in sorts.iter().enumerate() {
+            let text = text_of(table.field(at, column as u32));
+            self.push(tables.value_of(alloc, *sort, text)?)?;
+        }
+        Ok(())
+    }
 }
 
 fn text_of(bytes: &[u8]) -> &str
@@ -43,35 +82,4 @@ fn text_of(bytes: &[u8]) -> &str
     ensures { result.now ≡ bytes.now }
 {
     unsafe { str::from_utf8_unchecked(bytes) }
-}
-
-// The row of a table in standard values.
-pub(crate) fn standard_row(
-    alloc: Global,
-    tables: &ValueTables,
-    sorts: &[TextSort],
-    table: &Table,
-    at: u32,
-) -> Result<StandardRow, NoMemory>
-    requires within { at < length table.now }
-    requires width { length (slice_index_or table.now at no_row).fields ≡ length sorts.now }
-    requires few { length sorts.now ≤ 6 }
-    requires texts { IsTextRow (slice_index_or table.now at no_row) }
-    ensures values { IfOk result (λ row. row.values.items ≡ standard_values tables.now sorts.now (slice_index_or table.now at no_row).fields) }
-    ensures unreadable { IfOk result (λ row. row.unreadable ≡ unreadable_in_row tables.now sorts.now (slice_index_or table.now at no_row).fields) }
-    ensures first { IfOk result (λ row. row.first ≡ unreadable_from tables.now 0 sorts.now (slice_index_or table.now at no_row).fields) }
-    ensures few { IfOk result (λ row. row.unreadable ≤ 6) }
-    ensures within { IfOk result (λ row. IfSome row.first (λ place. place < length sorts.now)) }
-    ensures valid { IfOk result (λ row. All IsValid row.values.items) }
-{
-    let mut row = StandardRow {
-        values: Vec::with_capacity(alloc, sorts.len())?,
-        unreadable: 0,
-        first: None,
-    };
-    for (column, sort) in sorts.iter().enumerate() {
-        let text = text_of(table.field(at, column as u32));
-        row.push(tables.value_of(alloc, *sort, text)?)?;
-    }
-    Ok(row)
 }

@@ -5,7 +5,7 @@ ghost use Rattle.standard_files.specs.Known.{AreTextIds, IsIdOf, file_values};
 ghost use Rattle.standard_files.specs.Taking.{TakesTexts};
 ghost use Rattle.standard_files.specs.Texts.{both_texts, file_texts, standard_text, texts_of_row};
 
-use link_base::{StdFile, StdRow, Value};
+use link_base::{StdFile, Value};
 use std::alloc::Global;
 use value_pool::{Id, Pool, PoolFault};
 
@@ -42,14 +42,14 @@ fn take_value(alloc: Global, pool: &mut Pool, value: &Value) -> Result<Option<Id
 fn take_row(
     alloc: Global,
     pool: &mut Pool,
-    row: &StdRow,
+    row: &[Value],
     ids: &mut Vec<Option<Id>>,
 ) -> Result<(), PoolFault>
     ensures limit { pool.new.limit ≡ pool.old.limit }
     ensures texts { TakesTexts pool.old pool.new (texts_of_row row.now) result }
     ensures ids { OnOk result ((before : List FieldValue) → AreTextIds pool.old.texts before ids.old.items → AreTextIds pool.new.texts (before ++ row.now) ids.new.items) }
 {
-    for value in row.values() {
+    for value in row {
         let id = take_value(alloc, pool, value)?;
         if ids.push(id).is_err() {
             return Err(PoolFault::NoMemory);

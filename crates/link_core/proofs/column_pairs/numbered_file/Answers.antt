@@ -16,8 +16,9 @@ loop-at-preserved c =
     let rows = c.args.table.now in
     let at = c.loop-at.at in
     let record_at : Record = record { id = decimal (at + 1); row = value_of (first_field (get_or rows at no_row)) ∷ [] } in
-    let new = c.in_ok-push_numbered.ensures in
+    let new = c.in_ok-push_numbered.ensures.record in
     record {
+      empty = c.in_ok-push_numbered.ensures.empty;
       count = ap length new ∙ length-append c.loop-at.file (record_at ∷ []) ∙ ap (λ n. n + 1) c.loop-at.invariant.count;
       told = told_push c.loop-at.file c.push_numbered.new.file rows at (omega arith) c.loop-at.invariant.told new;
     }

@@ -1,5 +1,4 @@
-use Rattle.std.proofs.Common.{◌≡◌, ◌<◌, ◌*◌, arith, map, drop, sym, ap, ◌∙◌, rules}
-use Rattle.patterns.specs.Patterns.{number_of, outcomes}
+use Rattle.std.proofs.Common.{◌*◌, arith, ap}
 use Rattle.patterns.proofs.PatternNumbers.{digit-le, front-lt, next-le}
 use Rattle.patterns.proofs.numbers.number_over.Goals as goal
 

@@ -1,4 +1,4 @@
-use Rattle.std.proofs.Common.{◌≡◌, ap, map, ◌∙◌, rules}
+use Rattle.std.proofs.Common.{ap, map, ◌∙◌}
 use Rattle.patterns.specs.Patterns.{number_of}
 use Rattle.patterns.proofs.PatternNumbers.{outcome-pattern, outcomes-swap, pattern-lt}
 use Rattle.patterns.proofs.numbers.pattern_over.Goals as goal

@@ -1,14 +1,14 @@
-use Rattle.std.proofs.Common.{◌≡◌, ◌+◌, ◌++◌, ◌∷◌, [], drop, take, option_to_list, ap, arith, rules}
+use Rattle.std.proofs.Common.{◌≡◌, ◌+◌, ◌++◌, ◌∷◌, [], drop, take, option_to_list, arith, rules}
 use Rattle.standard_files.specs.Texts.{standard_text, texts_of_row}
 use Rattle.standard_files.proofs.FileLemmas.{row-texts, values-push}
 use Rattle.standard_files.proofs.KnownLemmas.{ids-push}
 use Rattle.standard_files.proofs.PlaceLemmas.{kept-taken}
-use Rattle.standard_files.proofs.TakingLemmas.{goes-on, takes-refused, whole-is}
+use Rattle.standard_files.proofs.TakingLemmas.{goes-on, takes-refused}
 use Rattle.standard_files.proofs.texts.take_row.Goals as goal
 
 pub loop-value-preserved : goal.loop-value-preserved
 loop-value-preserved c =
-    let row = c.values-value-items.result.now in
+    let row = c.args.row.now in
     let at = c.loop-value.value-index in
     let v = c.value-item.result in
     let ids = c.loop-value.ids.items in
@@ -26,9 +26,9 @@ loop-value-preserved c =
 
 pub returns-in_err-id-clause-texts : goal.returns-in_err-id-clause-texts
 returns-in_err-id-clause-texts c =
-    let row = c.values-value-items.result.now in
+    let row = c.args.row.now in
     let at = c.loop-value.value-index in
     let v = c.value-item.result in
     takes-refused (option_to_list (standard_text v)) (texts_of_row (drop (at + 1) row)) c.in_err-id.field-0.0 c.take_value.new.pool c.from_residual.result
-    (whole-is (ap texts_of_row c.values-value-items.ensures) c.loop-value.invariant.goes)
+    c.loop-value.invariant.goes
     (row-texts row at v (omega arith) c.value-item.is) c.in_err-id.ensures.texts (search rules)

@@ -7,6 +7,6 @@ use Rattle.standard_files.proofs.texts.take_row.Given as goal
 
 abbrev pub invariant-loop-value : goal.invariant-loop-value
 invariant-loop-value l = record {
-  goes : Goes l.fn.pool l.pool (texts_of_row (drop l.value-index l.value-items)) (texts_of_row l.value-items);
-  ids : (before : List Value) → AreTextIds l.fn.pool.texts before l.fn.ids.items → AreTextIds l.pool.texts (before ++ take l.value-index l.value-items) l.ids.items;
+  goes : Goes l.fn.pool l.pool (texts_of_row (drop l.value-index l.row)) (texts_of_row l.row);
+  ids : (before : List Value) → AreTextIds l.fn.pool.texts before l.fn.ids.items → AreTextIds l.pool.texts (before ++ take l.value-index l.row) l.ids.items;
 }

@@ -4,7 +4,7 @@ use Rattle.link_base.specs.Standard.{IsValid}
 use Rattle.file_reader.specs.Rows.{no_row}
 use Rattle.standard_files.specs.Values.{standard_values, unreadable_from, unreadable_in_row}
 use Rattle.standard_files.proofs.RowSteps.{first_more, few_more, unreadable_more, values_more, within_more}
-use Rattle.standard_files.proofs.row.standard_row.Goals as goal
+use Rattle.standard_files.proofs.row.StandardRow.take_in.Goals as goal
 
 pub loop-column-preserved : goal.loop-column-preserved
 loop-column-preserved c =
@@ -12,7 +12,7 @@ loop-column-preserved c =
     let sorts = c.args.sorts.now in
     let texts = (get_or c.args.table.now c.args.at no_row).fields in
     let at = c.loop-column.column in
-    let old = c.loop-column.row in
+    let old = c.loop-column.self in
     let new = c.push.new.self in
     let inv = c.loop-column.invariant in
     let made = c.in_ok-value_of.ensures in
