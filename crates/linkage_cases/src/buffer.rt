@@ -17,6 +17,7 @@ pub(crate) enum Fault {
     NotMade,
     NotReplaced,
     NotCut,
+    NotShown,
 }
 
 impl Fault {
@@ -36,6 +37,7 @@ impl Fault {
             Fault::NotMade => "no such made file",
             Fault::NotReplaced => "no text to replace",
             Fault::NotCut => "no file to cut",
+            Fault::NotShown => "an example that is refused",
         }
     }
 }

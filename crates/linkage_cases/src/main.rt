@@ -5,6 +5,7 @@
 mod buffer;
 mod changes;
 mod cuts;
+mod example;
 mod failures;
 mod files;
 mod keys;
@@ -13,6 +14,7 @@ mod trial;
 
 use anyhow::anyhow;
 use buffer::{Buffer, Fault};
+use example::show_example;
 use files::Files;
 use keys::{CASES, check, values};
 use runs::run_case;
@@ -92,7 +94,7 @@ fn run_file<R: Print + HostFiles + AllocGlobal>(
     }
 }
 
-// Runs the cases of the files that the arguments name.
+// Runs the cases of the files that the arguments name, and shows what no command prints of the example beside them.
 fn run_files<R: Print + HostFiles + Env + AllocGlobal>(rt: &R, page: &mut Buffer) {
     let beside = beside_of(rt, page);
     match env::args(rt) {
@@ -102,6 +104,10 @@ fn run_files<R: Print + HostFiles + Env + AllocGlobal>(rt: &R, page: &mut Buffer
             }
         }
         Err(_) => page.fail(Fault::NoInput),
+    }
+    if page.fault.is_none() {
+        show_example(rt.alloc(), page, &beside);
+        print(rt, page);
     }
 }
 

@@ -1,7 +1,7 @@
 use Rattle.std.proofs.Common.{List, subst, sym}
 use Rattle.link_base.specs.Standard.{Record}
 use Rattle.pair_walk.specs.Rows.{AreAllReady}
-use Rattle.worked_example.proofs.show_partners.Goals as goal
+use Rattle.linkage_cases.proofs.example.show_partners.Goals as goal
 
 pub new_in-requires-clause-ready_a : goal.new_in-requires-clause-ready_a
 new_in-requires-clause-ready_a c = subst (λ (rows : List Record). AreAllReady c.args.plan.now.passes rows) (sym c.a.ensures) c.requires.ready.ready_a

@@ -1,30 +1,22 @@
-//! Shows on the worked example what no command prints: the plan of its first file with itself, whether its texts fit into a pool of so
-//! many bytes, and with which records of B each record of A is compared. What is printed is compared with what is stored.
-#![tactic(auto)]
-
-mod page;
-
+// What no command prints of an example: the plan of its first file with itself, whether its texts fit into a pool of so many bytes, and
+// with which records of B each record of A is compared.
 ghost use Rattle.std.specs.Prelude.{◌≤◌};
 ghost use Rattle.link_core.specs.Rules.{IsPreparedFor};
 ghost use Rattle.link_limits.specs.declared.TheConstants.{MOST_POOL_LIMIT};
 ghost use Rattle.settings.specs.Ranges.{KeepsRanges};
 
-use anyhow::anyhow;
-use link_base::Fault;
+use crate::buffer::{Buffer, Fault};
+use crate::files::Files;
 use link_core::{Prepared, prepare};
-use page::Page;
 use pair_walk::{RowPairs, Walker};
 use settings::{Plan, read_settings};
 use std::alloc::Global;
-use std::io::Write;
-use std::rt::Files as HostFiles;
-use std::{fs, io};
 
 /// The bytes of the distinct texts of the worked example, and one byte less.
 const LIMITS: [u64; 2] = [168, 167];
 
 // Shows whether two files fit into a pool of so many bytes.
-fn show_pool(alloc: Global, page: &mut Page, plan: &Plan, a: &[u8], b: &[u8], limit: u64)
+fn show_pool(alloc: Global, page: &mut Buffer, plan: &Plan, a: &[u8], b: &[u8], limit: u64)
     requires ranges { KeepsRanges plan.now }
     requires limit { limit ≤ MOST_POOL_LIMIT }
 {
@@ -34,7 +26,7 @@ fn show_pool(alloc: Global, page: &mut Page, plan: &Plan, a: &[u8], b: &[u8], li
             drop(files);
             page.push(b" bytes: enough\n");
         }
-        Err(Fault::PoolFull { used, .. }) => {
+        Err(link_base::Fault::PoolFull { used, .. }) => {
             page.push(b" bytes: ");
             page.push_number(alloc, used);
             page.push(b" are wanted\n");
@@ -44,7 +36,7 @@ fn show_pool(alloc: Global, page: &mut Page, plan: &Plan, a: &[u8], b: &[u8], li
 }
 
 // Shows a record of A and its partners, by their positions.
-fn show_row(alloc: Global, page: &mut Page, row: &RowPairs) {
+fn show_row(alloc: Global, page: &mut Buffer, row: &RowPairs) {
     page.push_number(alloc, u64::from(row.a));
     page.push(b":");
     for b in &row.bs {
@@ -55,22 +47,22 @@ fn show_row(alloc: Global, page: &mut Page, row: &RowPairs) {
 }
 
 // Shows the partners of each record that is left, and that there are no more.
-fn show_rows(alloc: Global, page: &mut Page, walker: &mut Walker) {
+fn show_rows(alloc: Global, page: &mut Buffer, walker: &mut Walker) {
     for _ in 0..8 {
         match walker.next_row(alloc) {
             Ok(Some(row)) => show_row(alloc, page, &row),
             Ok(None) => page.push(b"no more\n"),
-            Err(_) => page.fail(),
+            Err(_) => page.fail(Fault::NotShown),
         }
     }
 }
 
 // Shows the partners of each record.
-fn show_partners(alloc: Global, page: &mut Page, plan: &Plan, files: &Prepared)
+fn show_partners(alloc: Global, page: &mut Buffer, plan: &Plan, files: &Prepared)
     requires ready { IsPreparedFor plan.now files.now }
 {
     match Walker::new_in(alloc, files.a(), files.b(), &plan.passes, files.pool()) {
-        Err(_) => page.fail(),
+        Err(_) => page.fail(Fault::NotShown),
         Ok(mut walker) => {
             show_rows(alloc, page, &mut walker);
             drop(walker);
@@ -79,7 +71,7 @@ fn show_partners(alloc: Global, page: &mut Page, plan: &Plan, files: &Prepared)
 }
 
 // Shows the second file of a plan, and the columns in it.
-fn show_second(page: &mut Page, within: &Plan) {
+fn show_second(page: &mut Buffer, within: &Plan) {
     page.push(within.file_b.bytes());
     for field in within.fields.fields() {
         page.push(b" ");
@@ -89,9 +81,9 @@ fn show_second(page: &mut Page, within: &Plan) {
 }
 
 // Shows the second file, and the columns in it, of the plan of the first file with itself.
-fn show_within(alloc: Global, page: &mut Page, plan: &Plan) {
+fn show_within(alloc: Global, page: &mut Buffer, plan: &Plan) {
     match plan.within(alloc) {
-        Err(_) => page.fail(),
+        Err(_) => page.fail(Fault::NotShown),
         Ok(within) => {
             show_second(page, &within);
             drop(within);
@@ -100,11 +92,11 @@ fn show_within(alloc: Global, page: &mut Page, plan: &Plan) {
 }
 
 // Shows with which records of B each record of A is compared.
-fn show_compared(alloc: Global, page: &mut Page, plan: &Plan, a: &[u8], b: &[u8])
+fn show_compared(alloc: Global, page: &mut Buffer, plan: &Plan, a: &[u8], b: &[u8])
     requires { KeepsRanges plan.now }
 {
     match prepare(alloc, plan, a, b, LIMITS[0]) {
-        Err(_) => page.fail(),
+        Err(_) => page.fail(Fault::NotShown),
         Ok(files) => {
             show_partners(alloc, page, plan, &files);
             drop(files);
@@ -112,8 +104,8 @@ fn show_compared(alloc: Global, page: &mut Page, plan: &Plan, a: &[u8], b: &[u8]
     }
 }
 
-// Shows all that is known of the worked example.
-fn show(alloc: Global, page: &mut Page, plan: &Plan, a: &[u8], b: &[u8])
+// Shows what no command prints of two files and their settings.
+fn show(alloc: Global, page: &mut Buffer, plan: &Plan, a: &[u8], b: &[u8])
     requires { KeepsRanges plan.now }
 {
     show_within(alloc, page, plan);
@@ -122,38 +114,18 @@ fn show(alloc: Global, page: &mut Page, plan: &Plan, a: &[u8], b: &[u8])
     show_compared(alloc, page, plan, a, b);
 }
 
-// Shows all that is known of an example of these settings.
-fn show_by(alloc: Global, page: &mut Page, settings: &[u8], a: &[u8], b: &[u8]) {
-    match read_settings(alloc, settings) {
-        Err(_) => page.fail(),
+/// Shows what no command prints of the worked example, whose files stand beside the case files.
+pub(crate) fn show_example(alloc: Global, page: &mut Buffer, beside: &Files) {
+    page.push(
+        b"== beside the commands: a file with itself, its texts in a pool, the records that are compared\n",
+    );
+    let a = beside.held("a.csv").unwrap_or_default();
+    let b = beside.held("b.csv").unwrap_or_default();
+    match read_settings(alloc, beside.held("s.toml").unwrap_or_default()) {
+        Err(_) => page.fail(Fault::NotShown),
         Ok(plan) => {
             show(alloc, page, &plan, a, b);
             drop(plan);
         }
-    }
-}
-
-// The bytes of a file.
-fn bytes_of<R: HostFiles + AllocGlobal>(rt: &R, page: &mut Page, name: &str) -> Vec<u8> {
-    match fs::read(rt, name) {
-        Ok(bytes) => bytes,
-        Err(_) => {
-            page.fail();
-            Vec::new(rt.alloc())
-        }
-    }
-}
-
-fn main(rt: HostRuntime) -> anyhow::Result<()> {
-    let mut page = Page::new(rt.alloc());
-    let a = bytes_of(&rt, &mut page, "a.csv");
-    let b = bytes_of(&rt, &mut page, "b.csv");
-    let settings = bytes_of(&rt, &mut page, "s.toml");
-    show_by(rt.alloc(), &mut page, &settings, &a, &b);
-    io::writer(&rt).write_all(&page.text)?;
-    if page.is_whole {
-        Ok(())
-    } else {
-        Err(anyhow!("not all is shown"))
     }
 }
