@@ -7,13 +7,13 @@ use Rattle.assignment_steps.specs.Between.{IsBetween}
 use Rattle.assignment_steps.specs.Joined.{AreJoinedAs}
 use Rattle.assignment.specs.declared.side.Side.{Side}
 use Rattle.assignment.specs.declared.side.Other.{Other}
-use Rattle.assignment.specs.Growth.{IsClean}
+use Rattle.assignment_steps.specs.Reached.{IsClean}
 
 -- prices and links between two steps, with room
 pub record IsSide (es : List Edge) (s : Side) : Type 0 where
   pub between : IsBetween es s.price_a.items s.price_b.items s.link_a.items s.link_b.items 0
-  pub clean : IsClean (length s.price_a.items) (length s.price_b.items) s.tree
-  pub queue : length es ≤ s.tree.frontier.room
+  pub clean : IsClean (length s.price_a.items) (length s.price_b.items) s.tree.reached
+  pub queue : length es ≤ s.tree.reached.frontier.room
 
 -- the other side of so many records, and no link yet as a link of the edges
 pub record IsOther (turned : List Edge) (rows_a rows_b : ℕ) (o : Other) : Type 0 where

@@ -1,6 +1,6 @@
 // Room for all that a side does.
 ghost use Rattle.std.specs.Prelude.{◌≤◌, IfOk, length};
-ghost use Rattle.assignment.specs.Growth.{IsClean};
+ghost use Rattle.assignment_steps.specs.Reached.{IsClean};
 
 use crate::market::Tree;
 use crate::solve::clean_tree;
@@ -38,8 +38,8 @@ pub(crate) fn room_for_side(
     rows_a: usize,
     rows_b: usize,
 ) -> Result<SideRoom, NoMemory>
-    ensures clean { IfOk result (λ r. IsClean rows_a rows_b r.tree) }
-    ensures queue { IfOk result (λ r. length edges.now ≤ r.tree.frontier.room) }
+    ensures clean { IfOk result (λ r. IsClean rows_a rows_b r.tree.reached) }
+    ensures queue { IfOk result (λ r. length edges.now ≤ r.tree.reached.frontier.room) }
 {
     let is_needed = !have_one_each(edges);
     let tree = clean_tree(alloc, rows_a, rows_b, edges.len())?;

@@ -1,11 +1,11 @@
 // Prices, links and room of the side that searches.
-ghost use Rattle.std.specs.Prelude.{◌≡◌, ◌*◌, ◌/◌, ◌<◌, ◌≤◌, ℕ, IfOk, MatchOption, None, is_some, length, nat_lt};
+ghost use Rattle.std.specs.Prelude.{◌≡◌, ◌*◌, ◌/◌, ◌≤◌, ℕ, IfOk, MatchOption, None, is_some, length, nat_lt};
 ghost use Rattle.std.specs.List.{sum};
 ghost use Rattle.assignment_steps.specs.Market.{link, AreListed, IsInRange};
 ghost use Rattle.assignment_steps.specs.Between.{IsBetween};
 ghost use Rattle.assignment_steps.specs.Joined.{AreJoinedAs};
 ghost use Rattle.assignment.specs.Final.{ReachAll};
-ghost use Rattle.assignment.specs.Growth.{IsClean};
+ghost use Rattle.assignment_steps.specs.Reached.{IsClean};
 ghost use Rattle.assignment.specs.Sides.{IsOther, IsSide, IsTakenOver};
 
 use crate::market::Tree;
@@ -131,8 +131,8 @@ fn settle(
 )
     requires listed { AreListed board.edges.now (length price_a.old) board.starts.now }
     requires between { IsBetween board.edges.now price_a.old price_b.old link_a.old link_b.old 0 }
-    requires clean { IsClean (length price_a.old) (length price_b.old) tree.old }
-    requires queue { length board.edges.now ≤ tree.old.frontier.room }
+    requires clean { IsClean (length price_a.old) (length price_b.old) tree.old.reached }
+    requires queue { length board.edges.now ≤ tree.old.reached.frontier.room }
     ensures { IsBetween board.entry.edges.now price_a.new price_b.new link_a.new link_b.new (length price_a.new) }
 {
     let net = Net {

@@ -2,10 +2,10 @@
 ghost use Rattle.std.specs.Prelude.{◌≡◌, ◌-◌, ◌<◌, ◌≤◌, ℕ, length, None, IfOk, replicate};
 ghost use Rattle.assignment_steps.specs.Market.{edge, AreSmall};
 ghost use Rattle.assignment.specs.Final.{ReachAll};
-ghost use Rattle.assignment.specs.Growth.{IsClean};
+ghost use Rattle.assignment_steps.specs.Reached.{IsClean};
 
 use crate::market::Tree;
-use assignment_steps::{DistanceQueue, Edge, no_distances, no_links, raise_to, zeros};
+use assignment_steps::{Edge, Reached, no_links, raise_to, zeros};
 use link_base::NoMemory;
 use std::alloc::Global;
 
@@ -29,32 +29,17 @@ pub fn clean_tree(
     rows_b: usize,
     edges: usize,
 ) -> Result<Tree, NoMemory>
-    ensures clean { IfOk result (λ t. IsClean rows_a rows_b t) }
-    ensures queue { IfOk result (λ t. edges ≤ t.frontier.room) }
+    ensures clean { IfOk result (λ t. IsClean rows_a rows_b t.reached) }
+    ensures queue { IfOk result (λ t. edges ≤ t.reached.frontier.room) }
 {
-    let of_a = no_distances(alloc, rows_a)?;
-    let of_b = no_distances(alloc, rows_b)?;
-    match DistanceQueue::new(alloc, edges) {
-        Ok(frontier) => Ok(Tree {
-            dist_a: of_a.dist,
-            rank: of_a.number,
-            dist_b: of_b.dist,
-            from: of_b.number,
-            records: of_a.reached,
-            touched: of_b.reached,
-            frontier,
-            best: 0,
-            best_record: 0,
-            best_free: None,
-            current: 0,
-            looks: 0,
-        }),
-        Err(error) => {
-            drop(of_a);
-            drop(of_b);
-            Err(error)
-        }
-    }
+    let reached = Reached::new(alloc, rows_a, rows_b, edges)?;
+    Ok(Tree {
+        reached,
+        best: 0,
+        best_record: 0,
+        best_free: None,
+        looks: 0,
+    })
 }
 
 /// Links of the records of both sides.

@@ -7,5 +7,6 @@ pub mod Members
 pub mod OneWrite
 pub mod Shifts
 pub mod Count
+pub mod Noted
 pub mod Leading
 pub mod EdgesOf

@@ -8,4 +8,5 @@ pub mod Queue
 pub mod Candidates
 pub mod Distances
 pub mod Relaxed
+pub mod Reached
 pub mod Ways

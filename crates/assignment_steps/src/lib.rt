@@ -1,6 +1,7 @@
 //! Records by distance, the nearest first, in memory that is taken beforehand.
 //!
-//! Candidates as edges, from both sides, and prices that are changed by distances.
+//! Candidates as edges, from both sides, what a search over them has reached from its root, and prices that are changed
+//! by distances.
 //!
 //! Steps between prices and links of an assignment: between any two of them prices cover every candidate,
 //! links are tight, and a record of B without a link has no price (primal-dual method: Kuhn 1955).
@@ -15,6 +16,7 @@ mod left;
 mod market;
 mod other_links;
 mod queue;
+mod reaching;
 mod room;
 mod shift;
 mod starts;
@@ -27,6 +29,7 @@ pub use left::waiting;
 pub use market::{Board, Edge, Net, Proposal, Ways};
 pub use other_links::join_as_turned;
 pub use queue::{DistanceQueue, FARTHEST, Near};
+pub use reaching::{Reached, reach_over};
 pub use room::{Distances, no_distances, no_links, zeros};
 pub use shift::{lower, raise, raise_to};
 pub use starts::starts_of;

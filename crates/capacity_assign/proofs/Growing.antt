@@ -4,16 +4,15 @@ use Rattle.std.specs.Prelude.{All, Contains}
 use Rattle.std.proofs.lemmas.Bool.{cases_eq, cases_lt}
 use Rattle.std.proofs.lemmas.List.{get_or_default, length-set, length_push}
 use Rattle.std.proofs.lemmas.List.Elements.{All-contains, Contains-push, Contains-append_left}
-use Rattle.assignment_steps.specs.Queue.{Queue}
 use Rattle.assignment_steps.specs.declared.queue.Near.{Near}
 use Rattle.assignment_steps.proofs.Members.{Contains-cons_cases}
 use Rattle.price_check.proofs.Members.{Contains-later}
 use Rattle.assignment_steps.proofs.Links.{link_there}
 use Rattle.capacity_assign.specs.declared.market.Ground.{Ground}
-use Rattle.capacity_assign.specs.declared.market.Tree.{Tree}
 use Rattle.assignment_steps.specs.Market.{link, number}
 use Rattle.capacity_assign.specs.Seating.{IsLastSeat}
-use Rattle.capacity_assign.specs.Growth.{Growth, HasRoomForRecords, IsGrown, IsTree, IsReady, IsRelaxed, IsReached, IsSettled, ShortensDistance, Joins, Notes, Waits, IsNearest, with_waiting, edge_of, paid, places_left, rank_above}
+use Rattle.capacity_assign.specs.Growth.{Growth, IsGrown, IsTree, IsReady, IsRelaxed, IsReached, IsSettled, ShortensDistance, Joins, Notes, IsNearest, with_waiting, edge_of, paid, places_left, rank_above}
+use Rattle.assignment_steps.specs.Reached.{Waits}
 use Rattle.assignment_steps.specs.Distances.{distance, far}
 use Rattle.assignment_steps.proofs.OneWrite.{distance-set}
 
@@ -180,27 +179,6 @@ tree_skip f position n m g t none = tree_marked f position n position m g t (λ 
 -- with all edges relaxed it does not matter which record was the last
 pub tree_any : (f : Ground) (position position' : ℕ) (g : Growth) → IsTree f position (length f.edges.now) g → IsTree f position' (length f.edges.now) g
 tree_any f position position' g t = tree_marked f position (length f.edges.now) position' (length f.edges.now) g t (λ j lt joined last. t.relaxed j lt joined (λ same. lt))
-
--- the room for records is not that of the queue
-pub room_queued : (rows_a rows_b : ℕ) (t : Tree) (q : Queue) → HasRoomForRecords rows_a rows_b t → HasRoomForRecords rows_a rows_b (record t { frontier = q })
-room_queued rows_a rows_b t q r = record {
-  of_a = r.of_a;
-  of_rank = r.of_rank;
-  of_b = r.of_b;
-  of_from = r.of_from;
-  touched = r.touched;
-  touched_room = r.touched_room;
-  top = r.top;
-  records = r.records;
-  records_room = r.records_room;
-  top_a = r.top_a;
-  records_in = r.records_in;
-  touched_in = r.touched_in;
-}
-
--- it may be told of other numbers that are the same
-pub room_at : (rows_a rows_b a b : ℕ) (t : Tree) → a ≡ rows_a → b ≡ rows_b → HasRoomForRecords rows_a rows_b t → HasRoomForRecords a b t
-room_at rows_a rows_b a b t same_a same_b r = rw (same_a, same_b) r
 
 pub cons_first : (y : ℕ × ℕ) (ys : List (ℕ × ℕ)) → Contains (y ∷ ys) y
 cons_first y ys = (zero, omega arith, refl)

@@ -1,6 +1,6 @@
 -- Machinery of `search` in `grow`: an alternating tree as it grows from a record of A without a link, over
 -- candidates with positive values as edges (Edmonds and Karp 1972).
-use Rattle.std.specs.Prelude.{◌≡◌, ◌⊎◌, ℕ, ◌+◌, ◌<◌, ◌≤◌, List, [], ◌∷◌, ◌++◌, length, slice_set, Option, Some, None, MatchOption, Contains, All, vec_len, vec_capacity}
+use Rattle.std.specs.Prelude.{◌≡◌, ◌⊎◌, ℕ, ◌+◌, ◌<◌, ◌≤◌, List, [], ◌∷◌, ◌++◌, length, slice_set, Option, Some, None, MatchOption, Contains, vec_len}
 use Rattle.std.proofs.Common.{min}
 use Rattle.link_limits.specs.declared.TheConstants.{MOST_VALUE}
 use Rattle.assignment_steps.specs.declared.market.Edge.{Edge}
@@ -10,8 +10,8 @@ use Rattle.assignment_steps.specs.declared.queue.Near.{Near}
 use Rattle.assignment_steps.specs.Market.{link, edge, number, IsInRange, AreStarts}
 use Rattle.capacity_assign.specs.Core.{AreLinked}
 use Rattle.capacity_assign.specs.Seating.{AreSeats, seating}
-use Rattle.assignment_steps.specs.Distances.{distance, far, unreached}
-use Rattle.assignment_steps.specs.Relaxed.{left}
+use Rattle.assignment_steps.specs.Distances.{distance, far}
+use Rattle.assignment_steps.specs.Reached.{IsClean, Waits}
 
 -- the lists and numbers of a tree
 pub record Growth : Type 0 where
@@ -29,16 +29,16 @@ pub record Growth : Type 0 where
 
 abbrev pub growth : Tree → Growth
 growth t = record {
-  da = t.dist_a.items;
-  rank = t.rank.items;
-  db = t.dist_b.items;
-  from = t.from.items;
-  records = t.records.items;
-  touched = t.touched.items;
-  frontier = t.frontier.waiting;
+  da = t.reached.dist_a.items;
+  rank = t.reached.rank.items;
+  db = t.reached.dist_b.items;
+  from = t.reached.from.items;
+  records = t.reached.records.items;
+  touched = t.reached.touched.items;
+  frontier = t.reached.frontier.waiting;
   best = t.best;
   best_record = t.best_record;
-  current = t.current;
+  current = t.reached.current;
   held = t.held;
 }
 
@@ -117,12 +117,6 @@ pub record Notes (old new : Growth) (b : ℕ) : Type 0 where
   pub touched : (x : ℕ) → Contains old.touched x → Contains new.touched x
   pub first_touched : distance old.db b ≡ far → Contains new.touched b
 
--- an entry joins those that wait
-pub record Waits (old new : List (ℕ × ℕ)) (e : ℕ × ℕ) : Type 0 where
-  pub stays : (x : ℕ × ℕ) → Contains old x → Contains new x
-  pub added : Contains new e
-  pub only : (x : ℕ × ℕ) → Contains new x → Contains old x ⊎ (x ≡ e)
-
 -- a record of B is put at a shorter distance, by edge k
 pub record ShortensDistance (old new : Growth) (b k reach : ℕ) : Type 0 where
   pub da : new.da ≡ old.da
@@ -160,47 +154,11 @@ pub record Joins (f : Ground) (old new : Growth) (position dist : ℕ) : Type 0 
   pub best : new.best ≡ min old.best (dist + number f.price_a.now position)
   pub best_record : ((new.best ≡ old.best) × (new.best_record ≡ old.best_record)) ⊎ ((new.best ≡ dist + number f.price_a.now position) × (new.best_record ≡ position))
 
--- room for each record that may still come
-pub record HasRoomForRecords (rows_a rows_b : ℕ) (t : Tree) : Type 0 where
-  pub of_a : vec_len t.dist_a ≡ rows_a
-  pub of_rank : vec_len t.rank ≡ rows_a
-  pub of_b : vec_len t.dist_b ≡ rows_b
-  pub of_from : vec_len t.from ≡ rows_b
-  pub touched : vec_len t.touched + unreached t.dist_b.items ≤ rows_b
-  pub touched_room : rows_b ≤ vec_capacity t.touched
-  pub top : (b : ℕ) → distance t.dist_b.items b ≤ far
-  pub records : vec_len t.records + unreached t.dist_a.items ≤ rows_a
-  pub records_room : rows_a ≤ vec_capacity t.records
-  pub top_a : (a : ℕ) → distance t.dist_a.items a ≤ far
-  pub records_in : All (λ x. x < rows_a) t.records.items
-  pub touched_in : All (λ x. x < rows_b) t.touched.items
-
--- all but the list of touched records is as it was
-pub record IsRest (old new : Tree) : Type 0 where
-  pub dist_a : new.dist_a ≡ old.dist_a
-  pub rank : new.rank ≡ old.rank
-  pub dist_b : new.dist_b ≡ old.dist_b
-  pub from : new.from ≡ old.from
-  pub records : new.records ≡ old.records
-  pub frontier : new.frontier ≡ old.frontier
-  pub best : new.best ≡ old.best
-  pub best_record : new.best_record ≡ old.best_record
-  pub current : new.current ≡ old.current
-  pub held : new.held ≡ old.held
-
 -- the least end of two, with its record
 pub record Improves (old new : Tree) (position end : ℕ) : Type 0 where
   pub rest : new ≡ record old { best = new.best; best_record = new.best_record }
   pub best : new.best ≡ min old.best end
   pub best_record : ((new.best ≡ old.best) × (new.best_record ≡ old.best_record)) ⊎ ((new.best ≡ end) × (new.best_record ≡ position))
-
--- the work that is left: entries that wait, and edges that are not relaxed
-abbrev pub work : List Edge → ℕ → ℕ → Tree → ℕ
-work es position next t = t.frontier.count + left es t.dist_a.items position next
-
--- room for an entry of each edge that is not relaxed
-abbrev pub FitsQueue : List Edge → ℕ → ℕ → Tree → Type 0
-FitsQueue es position next t = work es position next t ≤ t.frontier.room
 
 -- a tree that is grown to an end: at a record of B with a place left, or at a record of A that stands in it
 pub record IsGrown (f : Ground) (g : Growth) (end : ℕ) (free : Option ℕ) (last : ℕ) : Type 0 where
@@ -219,17 +177,7 @@ HasGrown f g end free last = (waiting : List (ℕ × ℕ)) × IsGrown f (with_wa
 abbrev pub IsWhole : Growth → ℕ → Option ℕ → ℕ → Type 0
 IsWhole g end free last = MatchOption free ((end ≡ g.best) × (last ≡ g.best_record)) (λ _. Unit {0})
 
--- a tree with nothing in it, and room
-pub record IsClean (rows_a rows_b : ℕ) (t : Tree) : Type 0 where
-  pub room : HasRoomForRecords rows_a rows_b t
-  pub da : (a : ℕ) → distance t.dist_a.items a ≡ far
-  pub db : (b : ℕ) → distance t.dist_b.items b ≡ far
-  pub frontier : t.frontier.waiting ≡ []
-  pub empty : t.frontier.count ≡ 0
-  pub records : t.records.items ≡ []
-  pub touched : t.touched.items ≡ []
-
 -- and room for an entry of each edge
 pub record IsAtRest (es : List Edge) (rows_a rows_b : ℕ) (t : Tree) : Type 0 where
-  pub clean : IsClean rows_a rows_b t
-  pub queue : length es ≤ t.frontier.room
+  pub clean : IsClean rows_a rows_b t.reached
+  pub queue : length es ≤ t.reached.frontier.room

@@ -4,7 +4,7 @@ use Rattle.assignment_steps.specs.declared.market.Edge.{Edge}
 use Rattle.capacity_assign.specs.declared.start.Prices.{Prices}
 use Rattle.capacity_assign.specs.declared.start.Start.{Start}
 use Rattle.capacity_assign.specs.Final.{AreClosed, AreEmpty, ReachAll}
-use Rattle.capacity_assign.specs.Growth.{IsClean}
+use Rattle.assignment_steps.specs.Reached.{IsClean}
 use Rattle.capacity_assign.specs.Seating.{seating}
 
 -- prices of both sides that cover the edges
@@ -17,5 +17,5 @@ pub record IsStart (es : List Edge) (rows_a : ℕ) (capacities : List ℕ) (s : 
   pub prices : AreFirstPrices es rows_a capacities s.prices
   pub links : s.link_a.items ≡ replicate rows_a None
   pub seats : AreEmpty rows_a capacities (seating s.seats)
-  pub clean : IsClean rows_a (length capacities) s.tree
-  pub queue : length es ≤ s.tree.frontier.room
+  pub clean : IsClean rows_a (length capacities) s.tree.reached
+  pub queue : length es ≤ s.tree.reached.frontier.room

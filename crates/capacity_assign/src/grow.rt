@@ -1,97 +1,45 @@
 // The growth of a tree.
-ghost use Rattle.std.specs.Prelude.{◌≡◌, ◌+◌, ◌-◌, ◌<◌, ◌≤◌, ℕ, length, slice_set, [], ◌∷◌, ◌++◌, None, Some, vec_len, vec_capacity, All, MatchBool, false};
+ghost use Rattle.std.specs.Prelude.{◌≡◌, ◌+◌, ◌-◌, ◌<◌, ◌≤◌, ℕ, length, ◌∷◌, None, Some, MatchBool, false};
 ghost use Rattle.link_limits.specs.declared.TheConstants.{MOST_VALUE};
 ghost use Rattle.assignment_steps.specs.Market.{number, IsRising};
-ghost use Rattle.capacity_assign.specs.Growth.{IsTree, growth, HasRoomForRecords, IsReady, ShortensDistance, edge_of, paid, Notes, IsRest, IsNearest, Joins, Improves, work, FitsQueue, HasGrown, IsClean, with_waiting, places_left, IsGrown, IsReached, IsWhole};
-ghost use Rattle.assignment_steps.specs.Distances.{distance, far, unreached};
+ghost use Rattle.capacity_assign.specs.Growth.{IsTree, growth, IsReady, edge_of, Notes, IsNearest, Joins, Improves, HasGrown, with_waiting, places_left, IsGrown, IsWhole};
+ghost use Rattle.assignment_steps.specs.Reached.{HasRoomForRecords, work, FitsQueue, IsClean};
+ghost use Rattle.assignment_steps.specs.Distances.{distance, far};
 
 use crate::market::{Ground, Grown, Tree};
-use assignment_steps::{FARTHEST, Near};
-
-/// Puts a record at the end of a list that has room.
-fn note(list: &mut Vec<usize>, position: usize)
-    requires { vec_len list.old < vec_capacity list.old }
-    ensures items { list.new.items ≡ list.old.items ++ position ∷ [] }
-    ensures len { vec_len list.new ≡ vec_len list.old + 1 }
-    ensures capacity { vec_capacity list.old ≤ vec_capacity list.new }
-{
-    let _ = list.push(position);
-}
-
-/// How far a record of B is over the edge `k`.
-fn reach_over(ground: Ground<'_>, dist_a: &[u64], k: usize) -> u64
-    requires place { k < length ground.edges.now }
-    requires ready { IsReady ground }
-    requires records { length dist_a.now ≡ length ground.price_a.now }
-    requires near { distance dist_a.now (edge_of ground k).a ≤ MOST_VALUE }
-    ensures { result + (edge_of ground.entry k).value ≡ distance dist_a.now (edge_of ground.entry k).a + paid ground.entry k }
-{
-    let edge = ground.edges[k];
-    let a = edge.a as usize;
-    let b = edge.b as usize;
-    dist_a[a] + (ground.price_a[a] + ground.price_b[b] - edge.value as u64)
-}
-
-/// Notes a record of B that is reached for the first time.
-fn note_first(tree: &mut Tree, b: usize)
-    requires within { b < vec_len tree.old.dist_b }
-    requires room { HasRoomForRecords (vec_len tree.old.dist_a) (vec_len tree.old.dist_b) tree.old }
-    ensures notes { Notes (growth tree.old) (growth tree.new) b }
-    ensures rest { IsRest tree.old tree.new }
-    ensures touched { vec_len tree.new.touched + unreached (slice_set tree.old.dist_b.items b 0) ≡ vec_len tree.old.touched + unreached tree.old.dist_b.items }
-    ensures touched_in { All (λ x. x < vec_len tree.old.dist_b) tree.new.touched.items }
-    ensures touched_room { vec_capacity tree.old.touched ≤ vec_capacity tree.new.touched }
-{
-    if tree.dist_b[b] != FARTHEST {
-        return;
-    }
-    note(&mut tree.touched, b);
-}
-
-/// Puts a record of B at a shorter distance, by the edge `k`; `first` says whether it comes before others.
-fn reach(tree: &mut Tree, b: usize, k: usize, reach: u64, first: bool)
-    requires within { b < vec_len tree.old.dist_b }
-    requires records { vec_len tree.old.from ≡ vec_len tree.old.dist_b }
-    requires room { HasRoomForRecords (vec_len tree.old.dist_a) (vec_len tree.old.dist_b) tree.old }
-    requires near { reach < distance tree.old.dist_b.items b }
-    requires queue { tree.old.frontier.count < tree.old.frontier.room }
-    ensures reaches { ShortensDistance (growth tree.old) (growth tree.new) b k reach }
-    ensures room { HasRoomForRecords (vec_len tree.old.dist_a) (vec_len tree.old.dist_b) tree.new }
-    ensures count { tree.new.frontier.count ≡ tree.old.frontier.count + 1 }
-    ensures queue { tree.old.frontier.room ≤ tree.new.frontier.room }
-{
-    note_first(tree, b);
-    tree.dist_b[b] = reach;
-    tree.from[b] = k;
-    tree.frontier.put(reach, first, b);
-}
+use assignment_steps::{FARTHEST, Near, Net, reach_over};
 
 /// Notes a shorter way over the edge `k` from its record of A, which joined the tree last.
 fn relax(ground: Ground<'_>, tree: &mut Tree, k: usize)
     requires place { k < length ground.edges.now }
     requires ready { IsReady ground }
-    requires last { distance tree.old.dist_a.items (edge_of ground k).a ≡ tree.old.current }
+    requires last { distance tree.old.reached.dist_a.items (edge_of ground k).a ≡ tree.old.reached.current }
     requires tree { IsTree ground (edge_of ground k).a k (growth tree.old) }
-    requires room { HasRoomForRecords (length ground.price_a.now) (length ground.price_b.now) tree.old }
-    requires queue { FitsQueue ground.edges.now (edge_of ground k).a k tree.old }
+    requires room { HasRoomForRecords (length ground.price_a.now) (length ground.price_b.now) tree.old.reached }
+    requires queue { FitsQueue ground.edges.now (edge_of ground k).a k tree.old.reached }
     ensures tree { IsTree ground.entry (edge_of ground.entry k).a (k + 1) (growth tree.new) }
-    ensures room { HasRoomForRecords (length ground.entry.price_a.now) (length ground.entry.price_b.now) tree.new }
-    ensures work { work ground.entry.edges.now (edge_of ground.entry k).a (k + 1) tree.new ≤ work ground.entry.edges.now (edge_of ground.entry k).a k tree.old }
-    ensures queue { tree.old.frontier.room ≤ tree.new.frontier.room }
-    ensures current { tree.new.current ≡ tree.old.current }
+    ensures room { HasRoomForRecords (length ground.entry.price_a.now) (length ground.entry.price_b.now) tree.new.reached }
+    ensures work { work ground.entry.edges.now (edge_of ground.entry k).a (k + 1) tree.new.reached ≤ work ground.entry.edges.now (edge_of ground.entry k).a k tree.old.reached }
+    ensures queue { tree.old.reached.frontier.room ≤ tree.new.reached.frontier.room }
+    ensures current { tree.new.reached.current ≡ tree.old.reached.current }
     ensures held { tree.new.held ≡ tree.old.held }
-    ensures dist_a { tree.new.dist_a.items ≡ tree.old.dist_a.items }
+    ensures dist_a { tree.new.reached.dist_a.items ≡ tree.old.reached.dist_a.items }
 {
     let b = ground.edges[k].b as usize;
-    let far = reach_over(ground, &tree.dist_a, k);
+    let net = Net {
+        edges: ground.edges,
+        price_a: ground.price_a,
+        price_b: ground.price_b,
+    };
+    let far = reach_over(net, &tree.reached.dist_a, k);
     if tree.best <= far {
         return;
     }
-    if tree.dist_b[b] <= far {
+    if tree.reached.dist_b[b] <= far {
         return;
     }
     let first = ground.seats.left[b] > 0;
-    reach(tree, b, k, far, first);
+    tree.reached.reach(b, k, far, first);
 }
 
 /// A record of A joins the tree at a distance, which is the newest.
@@ -99,16 +47,13 @@ fn join(ground: Ground<'_>, tree: &mut Tree, position: usize, dist: u64)
     requires ready { IsReady ground }
     requires in_range { position < length ground.price_a.now }
     requires small { dist ≤ MOST_VALUE }
-    requires room { HasRoomForRecords (length ground.price_a.now) (length ground.price_b.now) tree.old }
-    requires new { distance tree.old.dist_a.items position ≡ far }
+    requires room { HasRoomForRecords (length ground.price_a.now) (length ground.price_b.now) tree.old.reached }
+    requires new { distance tree.old.reached.dist_a.items position ≡ far }
     ensures joins { Joins ground.entry (growth tree.old) (growth tree.new) position dist }
-    ensures room { HasRoomForRecords (length ground.entry.price_a.now) (length ground.entry.price_b.now) tree.new }
-    ensures queue { tree.new.frontier ≡ tree.old.frontier }
+    ensures room { HasRoomForRecords (length ground.entry.price_a.now) (length ground.entry.price_b.now) tree.new.reached }
+    ensures queue { tree.new.reached.frontier ≡ tree.old.reached.frontier }
 {
-    tree.dist_a[position] = dist;
-    tree.rank[position] = tree.records.len();
-    note(&mut tree.records, position);
-    tree.current = dist;
+    tree.reached.join(position, dist);
     improve(tree, position, dist + ground.price_a[position]);
 }
 
@@ -127,17 +72,17 @@ fn relax_record(ground: Ground<'_>, tree: &mut Tree, position: usize)
     requires inside { position < length ground.price_a.now }
     requires ready { IsReady ground }
     requires rising { IsRising ground.edges.now }
-    requires last { distance tree.old.dist_a.items position ≡ tree.old.current }
+    requires last { distance tree.old.reached.dist_a.items position ≡ tree.old.reached.current }
     requires tree { IsTree ground position 0 (growth tree.old) }
-    requires room { HasRoomForRecords (length ground.price_a.now) (length ground.price_b.now) tree.old }
-    requires queue { FitsQueue ground.edges.now position 0 tree.old }
+    requires room { HasRoomForRecords (length ground.price_a.now) (length ground.price_b.now) tree.old.reached }
+    requires queue { FitsQueue ground.edges.now position 0 tree.old.reached }
     ensures tree { IsTree ground.entry position (length ground.entry.edges.now) (growth tree.new) }
-    ensures room { HasRoomForRecords (length ground.entry.price_a.now) (length ground.entry.price_b.now) tree.new }
-    ensures work { work ground.entry.edges.now position (length ground.entry.edges.now) tree.new ≤ work ground.entry.edges.now position 0 tree.old }
-    ensures queue { tree.old.frontier.room ≤ tree.new.frontier.room }
+    ensures room { HasRoomForRecords (length ground.entry.price_a.now) (length ground.entry.price_b.now) tree.new.reached }
+    ensures work { work ground.entry.edges.now position (length ground.entry.edges.now) tree.new.reached ≤ work ground.entry.edges.now position 0 tree.old.reached }
+    ensures queue { tree.old.reached.frontier.room ≤ tree.new.reached.frontier.room }
     ensures held { tree.new.held ≡ tree.old.held }
-    ensures current { tree.new.current ≡ tree.old.current }
-    ensures dist_a { tree.new.dist_a.items ≡ tree.old.dist_a.items }
+    ensures current { tree.new.reached.current ≡ tree.old.reached.current }
+    ensures dist_a { tree.new.reached.dist_a.items ≡ tree.old.reached.dist_a.items }
 {
     let mut k = ground.starts[position];
     while k < ground.edges.len() && ground.edges[k].a as usize == position {
@@ -154,22 +99,22 @@ fn join_seat(ground: Ground<'_>, tree: &mut Tree, n: usize)
     requires seat { n < ground.seats.now.count }
     requires owned { tree.old.held ≡ Some (number ground.seats.now.owner.items n) }
     requires tree { IsTree ground 0 (length ground.edges.now) (growth tree.old) }
-    requires room { HasRoomForRecords (length ground.price_a.now) (length ground.price_b.now) tree.old }
-    requires queue { FitsQueue ground.edges.now 0 (length ground.edges.now) tree.old }
+    requires room { HasRoomForRecords (length ground.price_a.now) (length ground.price_b.now) tree.old.reached }
+    requires queue { FitsQueue ground.edges.now 0 (length ground.edges.now) tree.old.reached }
     ensures held { tree.new.held ≡ tree.old.held }
-    ensures current { tree.new.current ≡ tree.old.current }
+    ensures current { tree.new.reached.current ≡ tree.old.reached.current }
     ensures tree { IsTree ground.entry 0 (length ground.entry.edges.now) (growth tree.new) }
-    ensures room { HasRoomForRecords (length ground.entry.price_a.now) (length ground.entry.price_b.now) tree.new }
-    ensures work { work ground.entry.edges.now 0 (length ground.entry.edges.now) tree.new ≤ work ground.entry.edges.now 0 (length ground.entry.edges.now) tree.old }
-    ensures queue { tree.old.frontier.room ≤ tree.new.frontier.room }
-    ensures stays { (a : ℕ) → distance tree.old.dist_a.items a < far → distance tree.new.dist_a.items a < far }
-    ensures joined { distance tree.new.dist_a.items (number ground.entry.seats.now.row.items n) < far }
+    ensures room { HasRoomForRecords (length ground.entry.price_a.now) (length ground.entry.price_b.now) tree.new.reached }
+    ensures work { work ground.entry.edges.now 0 (length ground.entry.edges.now) tree.new.reached ≤ work ground.entry.edges.now 0 (length ground.entry.edges.now) tree.old.reached }
+    ensures queue { tree.old.reached.frontier.room ≤ tree.new.reached.frontier.room }
+    ensures stays { (a : ℕ) → distance tree.old.reached.dist_a.items a < far → distance tree.new.reached.dist_a.items a < far }
+    ensures joined { distance tree.new.reached.dist_a.items (number ground.entry.seats.now.row.items n) < far }
 {
     let position = ground.seats.row[n];
-    if tree.dist_a[position] != FARTHEST {
+    if tree.reached.dist_a[position] != FARTHEST {
         return;
     }
-    let dist = tree.current;
+    let dist = tree.reached.current;
     join(ground, tree, position, dist);
     relax_record(ground, tree, position);
 }
@@ -178,14 +123,14 @@ fn join_seat(ground: Ground<'_>, tree: &mut Tree, n: usize)
 fn hold(ground: Ground<'_>, tree: &mut Tree, near: Near)
     requires full { places_left ground near.position ≡ 0 }
     requires useful { near.distance < tree.old.best }
-    requires exact { distance tree.old.dist_b.items near.position ≡ near.distance }
-    requires nearest { IsNearest (with_waiting ((near.distance, near.position) ∷ tree.old.frontier.waiting) (growth tree.old)) near }
+    requires exact { distance tree.old.reached.dist_b.items near.position ≡ near.distance }
+    requires nearest { IsNearest (with_waiting ((near.distance, near.position) ∷ tree.old.reached.frontier.waiting) (growth tree.old)) near }
     requires held { tree.old.held ≡ None }
-    requires tree { IsTree ground 0 (length ground.edges.now) (with_waiting ((near.distance, near.position) ∷ tree.old.frontier.waiting) (growth tree.old)) }
+    requires tree { IsTree ground 0 (length ground.edges.now) (with_waiting ((near.distance, near.position) ∷ tree.old.reached.frontier.waiting) (growth tree.old)) }
     ensures tree { IsTree ground.entry 0 (length ground.entry.edges.now) (growth tree.new) }
-    ensures rest { tree.new ≡ record tree.old { current = near.distance; held = Some near.position } }
+    ensures rest { tree.new ≡ record tree.old { reached = record tree.old.reached { current = near.distance }; held = Some near.position } }
 {
-    tree.current = near.distance;
+    tree.reached.current = near.distance;
     tree.held = Some(near.position);
 }
 
@@ -197,17 +142,17 @@ fn settle(ground: Ground<'_>, tree: &mut Tree, near: Near) -> bool
     requires inside { near.position < length ground.price_b.now }
     requires full { places_left ground near.position ≡ 0 }
     requires useful { near.distance < tree.old.best }
-    requires exact { distance tree.old.dist_b.items near.position ≡ near.distance }
-    requires nearest { IsNearest (with_waiting ((near.distance, near.position) ∷ tree.old.frontier.waiting) (growth tree.old)) near }
+    requires exact { distance tree.old.reached.dist_b.items near.position ≡ near.distance }
+    requires nearest { IsNearest (with_waiting ((near.distance, near.position) ∷ tree.old.reached.frontier.waiting) (growth tree.old)) near }
     requires held { tree.old.held ≡ None }
-    requires tree { IsTree ground 0 (length ground.edges.now) (with_waiting ((near.distance, near.position) ∷ tree.old.frontier.waiting) (growth tree.old)) }
-    requires room { HasRoomForRecords (length ground.price_a.now) (length ground.price_b.now) tree.old }
-    requires queue { FitsQueue ground.edges.now 0 (length ground.edges.now) tree.old }
+    requires tree { IsTree ground 0 (length ground.edges.now) (with_waiting ((near.distance, near.position) ∷ tree.old.reached.frontier.waiting) (growth tree.old)) }
+    requires room { HasRoomForRecords (length ground.price_a.now) (length ground.price_b.now) tree.old.reached }
+    requires queue { FitsQueue ground.edges.now 0 (length ground.edges.now) tree.old.reached }
     ensures tree { MatchBool result (IsTree ground.entry 0 (length ground.entry.edges.now) (growth tree.new)) (IsGrown ground.entry (growth tree.new) tree.new.best None tree.new.best_record) }
     ensures held { MatchBool result (tree.new.held ≡ None) (Unit {0}) }
-    ensures room { HasRoomForRecords (length ground.entry.price_a.now) (length ground.entry.price_b.now) tree.new }
-    ensures work { work ground.entry.edges.now 0 (length ground.entry.edges.now) tree.new ≤ work ground.entry.edges.now 0 (length ground.entry.edges.now) tree.old }
-    ensures queue { tree.old.frontier.room ≤ tree.new.frontier.room }
+    ensures room { HasRoomForRecords (length ground.entry.price_a.now) (length ground.entry.price_b.now) tree.new.reached }
+    ensures work { work ground.entry.edges.now 0 (length ground.entry.edges.now) tree.new.reached ≤ work ground.entry.edges.now 0 (length ground.entry.edges.now) tree.old.reached }
+    ensures queue { tree.old.reached.frontier.room ≤ tree.new.reached.frontier.room }
 {
     hold(ground, tree, near);
     let mut next = ground.seats.last[near.position];
@@ -242,18 +187,18 @@ pub fn grow(ground: Ground<'_>, tree: &mut Tree) -> Grown
     requires rising { IsRising ground.edges.now }
     requires held { tree.old.held ≡ None }
     requires tree { IsTree ground 0 (length ground.edges.now) (growth tree.old) }
-    requires room { HasRoomForRecords (length ground.price_a.now) (length ground.price_b.now) tree.old }
-    requires queue { FitsQueue ground.edges.now 0 (length ground.edges.now) tree.old }
+    requires room { HasRoomForRecords (length ground.price_a.now) (length ground.price_b.now) tree.old.reached }
+    requires queue { FitsQueue ground.edges.now 0 (length ground.edges.now) tree.old.reached }
     ensures grown { HasGrown ground.entry (growth tree.new) result.end result.free result.last }
     ensures whole { IsWhole (growth tree.new) result.end result.free result.last }
-    ensures room { HasRoomForRecords (length ground.entry.price_a.now) (length ground.entry.price_b.now) tree.new }
-    ensures queue { tree.old.frontier.room ≤ tree.new.frontier.room }
+    ensures room { HasRoomForRecords (length ground.entry.price_a.now) (length ground.entry.price_b.now) tree.new.reached }
+    ensures queue { tree.old.reached.frontier.room ≤ tree.new.reached.frontier.room }
 {
-    while let Some(near) = tree.frontier.take() {
+    while let Some(near) = tree.reached.frontier.take() {
         if tree.best <= near.distance {
             return best_end(tree);
         }
-        if tree.dist_b[near.position] < near.distance {
+        if tree.reached.dist_b[near.position] < near.distance {
             continue;
         }
         if ground.seats.left[near.position] > 0 {
@@ -274,12 +219,12 @@ pub fn grow(ground: Ground<'_>, tree: &mut Tree) -> Grown
 fn plant(ground: Ground<'_>, tree: &mut Tree)
     requires ready { IsReady ground }
     requires rising { IsRising ground.edges.now }
-    requires clean { IsClean (length ground.price_a.now) (length ground.price_b.now) tree.old }
-    requires queue { length ground.edges.now ≤ tree.old.frontier.room }
+    requires clean { IsClean (length ground.price_a.now) (length ground.price_b.now) tree.old.reached }
+    requires queue { length ground.edges.now ≤ tree.old.reached.frontier.room }
     ensures tree { IsTree ground.entry ground.entry.root (length ground.entry.edges.now) (growth tree.new) }
-    ensures room { HasRoomForRecords (length ground.entry.price_a.now) (length ground.entry.price_b.now) tree.new }
-    ensures fits { FitsQueue ground.entry.edges.now ground.entry.root (length ground.entry.edges.now) tree.new }
-    ensures queue { tree.old.frontier.room ≤ tree.new.frontier.room }
+    ensures room { HasRoomForRecords (length ground.entry.price_a.now) (length ground.entry.price_b.now) tree.new.reached }
+    ensures fits { FitsQueue ground.entry.edges.now ground.entry.root (length ground.entry.edges.now) tree.new.reached }
+    ensures queue { tree.old.reached.frontier.room ≤ tree.new.reached.frontier.room }
     ensures held { tree.new.held ≡ None }
 {
     tree.best = FARTHEST;
@@ -292,13 +237,13 @@ fn plant(ground: Ground<'_>, tree: &mut Tree)
 pub fn search(ground: Ground<'_>, tree: &mut Tree) -> Grown
     requires ready { IsReady ground }
     requires rising { IsRising ground.edges.now }
-    requires clean { IsClean (length ground.price_a.now) (length ground.price_b.now) tree.old }
-    requires queue { length ground.edges.now ≤ tree.old.frontier.room }
+    requires clean { IsClean (length ground.price_a.now) (length ground.price_b.now) tree.old.reached }
+    requires queue { length ground.edges.now ≤ tree.old.reached.frontier.room }
     ensures ready { IsReady ground.entry }
     ensures grown { HasGrown ground.entry (growth tree.new) result.end result.free result.last }
     ensures whole { IsWhole (growth tree.new) result.end result.free result.last }
-    ensures room { HasRoomForRecords (length ground.entry.price_a.now) (length ground.entry.price_b.now) tree.new }
-    ensures queue { tree.old.frontier.room ≤ tree.new.frontier.room }
+    ensures room { HasRoomForRecords (length ground.entry.price_a.now) (length ground.entry.price_b.now) tree.new.reached }
+    ensures queue { tree.old.reached.frontier.room ≤ tree.new.reached.frontier.room }
 {
     plant(ground, tree);
     grow(ground, tree)

@@ -1,6 +1,6 @@
 // Seats, what trees are grown over, and the tree.
 
-use assignment_steps::{DistanceQueue, Edge};
+use assignment_steps::{Edge, Reached};
 
 /// The seats at the records of B, numbered from 0 as they are taken first. A seat belongs to its `owner`, a
 /// record of B, and `row` is the record of A that sits there; `seat` says for a linked record of A where it
@@ -37,21 +37,13 @@ pub struct Ground<'a> {
     pub root: usize,
 }
 
-/// An alternating tree as it grows. `dist_a` and `dist_b` are the distances from the root, `rank` says when
-/// a record of A joined and `from` by which edge a record of B was reached. `held` is the record of B whose
-/// records of A are joining.
+/// An alternating tree as it grows, with what it has reached. The nearest end at a record of A so far is at the distance
+/// `best`, where `best_record` would give its link up. `held` is the record of B whose records of A are joining.
 #[derive(Drop)]
 pub struct Tree {
-    pub dist_a: Vec<u64>,
-    pub rank: Vec<usize>,
-    pub dist_b: Vec<u64>,
-    pub from: Vec<usize>,
-    pub records: Vec<usize>,
-    pub touched: Vec<usize>,
-    pub frontier: DistanceQueue,
+    pub reached: Reached,
     pub best: u64,
     pub best_record: usize,
-    pub current: u64,
     pub held: Option<usize>,
 }
 

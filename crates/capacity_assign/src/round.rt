@@ -1,10 +1,8 @@
 // One round: a record of A is taken up, prices change, and links are turned round.
-ghost use Rattle.std.specs.Prelude.{◌≡◌, ◌+◌, ◌-◌, ◌<◌, ◌≤◌, ℕ, length, None, Contains, MatchOption, IsNone, ◌⊎◌};
-ghost use Rattle.link_limits.specs.declared.TheConstants.{MOST_VALUE};
+ghost use Rattle.std.specs.Prelude.{◌≡◌, ◌+◌, ◌<◌, ℕ, length, None, MatchOption, IsNone, ◌⊎◌};
 ghost use Rattle.capacity_assign.specs.Core.{AreLinked};
 ghost use Rattle.assignment_steps.specs.Market.{IsInRange, link, AreTight, number, AreListed};
-ghost use Rattle.capacity_assign.specs.Growth.{HasRoomForRecords, IsAtRest, IsClean};
-ghost use Rattle.assignment_steps.specs.Distances.{distance, far};
+ghost use Rattle.capacity_assign.specs.Growth.{IsAtRest};
 ghost use Rattle.assignment_steps.specs.Ways.{LeadsBy, LeadsFromRecord};
 ghost use Rattle.capacity_assign.specs.Round.{IsBetween, KeepsPlaces};
 ghost use Rattle.capacity_assign.specs.Seating.{AreSeats, seating};
@@ -13,29 +11,7 @@ use crate::grow::search;
 use crate::market::{Ground, Grown, Hole, Seats, Tree};
 use crate::seats::add_seat;
 use crate::walk::walk;
-use assignment_steps::{Edge, Net, Ways, lower, raise};
-
-/// Changes the prices by the distances of a tree, and leaves it clean.
-fn shift(price_a: &mut [u64], price_b: &mut [u64], tree: &mut Tree, end: u64)
-    requires room { HasRoomForRecords (length price_a.old) (length price_b.old) tree.old }
-    requires end { end ≤ far }
-    requires noted_a { (a : ℕ) → distance tree.old.dist_a.items a < far → Contains tree.old.records.items a }
-    requires noted_b { (b : ℕ) → distance tree.old.dist_b.items b < far → Contains tree.old.touched.items b }
-    requires falls { (a : ℕ) → end - distance tree.old.dist_a.items a ≤ number price_a.old a }
-    requires small { (b : ℕ) → number price_b.old b ≤ MOST_VALUE }
-    ensures price_a { (a : ℕ) → number price_a.new a + (end - distance tree.old.dist_a.items a) ≡ number price_a.old a }
-    ensures price_b { (b : ℕ) → number price_b.new b ≡ number price_b.old b + (end - distance tree.old.dist_b.items b) }
-    ensures clean { IsClean (length price_a.old) (length price_b.old) tree.new }
-    ensures queue { tree.new.frontier.room ≡ tree.old.frontier.room }
-    ensures from { tree.new.from.items ≡ tree.old.from.items }
-    ensures rank { tree.new.rank.items ≡ tree.old.rank.items }
-{
-    lower(price_a, &mut tree.dist_a, &tree.records, end);
-    raise(price_b, &mut tree.dist_b, &tree.touched, end);
-    tree.records.clear();
-    tree.touched.clear();
-    tree.frontier.clear();
-}
+use assignment_steps::{Edge, Net, Ways};
 
 /// Turns the links round from where a tree ended: at a record of B with a place left, or at a record of A that
 /// gives its link up.
@@ -114,7 +90,7 @@ pub fn take_up(
         root,
     };
     let grown = search(ground, tree);
-    shift(price_a, price_b, tree, grown.end);
+    tree.reached.shift(price_a, price_b, grown.end);
     let net = Net {
         edges,
         price_a,
@@ -122,8 +98,8 @@ pub fn take_up(
     };
     let ways = Ways {
         root,
-        from: &tree.from,
-        rank: &tree.rank,
+        from: &tree.reached.from,
+        rank: &tree.reached.rank,
     };
     turn(net, ways, link_a, seats, grown.free, grown.last);
 }

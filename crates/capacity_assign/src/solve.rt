@@ -5,10 +5,10 @@ ghost use Rattle.assignment_steps.specs.Market.{number, edge, IsInRange, AreSmal
 ghost use Rattle.capacity_assign.specs.Final.{AreClosed, AreEmpty, ReachAll};
 ghost use Rattle.capacity_assign.specs.Seating.{seating};
 ghost use Rattle.link_limits.specs.declared.TheConstants.{MOST_VALUE};
-ghost use Rattle.capacity_assign.specs.Growth.{IsClean};
+ghost use Rattle.assignment_steps.specs.Reached.{IsClean};
 
 use crate::market::{Seats, Tree};
-use assignment_steps::{DistanceQueue, Edge, no_distances, raise_to};
+use assignment_steps::{Edge, Reached, raise_to};
 use link_base::NoMemory;
 use std::alloc::Global;
 
@@ -88,29 +88,14 @@ pub fn clean_tree(
     rows_b: usize,
     edges: usize,
 ) -> Result<Tree, NoMemory>
-    ensures clean { IfOk result (λ t. IsClean rows_a rows_b t) }
-    ensures queue { IfOk result (λ t. edges ≤ t.frontier.room) }
+    ensures clean { IfOk result (λ t. IsClean rows_a rows_b t.reached) }
+    ensures queue { IfOk result (λ t. edges ≤ t.reached.frontier.room) }
 {
-    let of_a = no_distances(alloc, rows_a)?;
-    let of_b = no_distances(alloc, rows_b)?;
-    match DistanceQueue::new(alloc, edges) {
-        Ok(frontier) => Ok(Tree {
-            dist_a: of_a.dist,
-            rank: of_a.number,
-            dist_b: of_b.dist,
-            from: of_b.number,
-            records: of_a.reached,
-            touched: of_b.reached,
-            frontier,
-            best: 0,
-            best_record: 0,
-            current: 0,
-            held: None,
-        }),
-        Err(error) => {
-            drop(of_a);
-            drop(of_b);
-            Err(error)
-        }
-    }
+    let reached = Reached::new(alloc, rows_a, rows_b, edges)?;
+    Ok(Tree {
+        reached,
+        best: 0,
+        best_record: 0,
+        held: None,
+    })
 }

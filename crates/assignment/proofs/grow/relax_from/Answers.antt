@@ -2,7 +2,8 @@ use Rattle.std.proofs.Common.{◌≡◌, ℕ, ◌+◌, ◌<◌, ◌≤◌, lengt
 use Rattle.std.proofs.lemmas.Bool.{cases_lt}
 use Rattle.assignment_steps.specs.Market.{number}
 use Rattle.assignment.specs.declared.market.Ground.{Ground}
-use Rattle.assignment.specs.Growth.{Growth, IsReady, IsRelaxed, IsTree, edge_of, growth, work}
+use Rattle.assignment.specs.Growth.{Growth, IsReady, IsRelaxed, IsTree, edge_of, growth}
+use Rattle.assignment_steps.specs.Reached.{work}
 use Rattle.assignment_steps.specs.Distances.{distance}
 use Rattle.assignment_steps.proofs.Count.{left_later}
 use Rattle.assignment.proofs.Growing.{tree_ended, tree_passed_to, tree_skip}
@@ -28,7 +29,7 @@ loop-k-init c =
     let f = c.args.ground in
     let t = c.args.tree.now in
     let n = c.next_of_use-k.ensures in
-    let fewer = left_later f.edges.now t.dist_a.items c.args.position c.args.start c.next_of_use-k.result n.later in
+    let fewer = left_later f.edges.now t.reached.dist_a.items c.args.position c.args.start c.next_of_use-k.result n.later in
     record {
       later = n.later;
       within = n.within;
@@ -47,7 +48,7 @@ pub returns-then-tree-clause-work : goal.returns-then-tree-clause-work
 returns-then-tree-clause-work c =
     let es = c.args.ground.edges.now in
     let next = c.requires.ready.starts.starts_at (c.args.position + 1) (omega arith) in
-    let fewer = left_later es c.loop-k.tree.dist_a.items c.args.position c.loop-k.k (length es) (omega (arith, c.loop-k.invariant.within, next.within)) in
+    let fewer = left_later es c.loop-k.tree.reached.dist_a.items c.args.position c.loop-k.k (length es) (omega (arith, c.loop-k.invariant.within, next.within)) in
     omega (arith, fewer, c.loop-k.invariant.work)
 
 pub relax-requires-clause-last : goal.relax-requires-clause-last
@@ -68,11 +69,11 @@ loop-k-preserved c =
     let r = c.relax.ensures in
     let t = c.relax.new.tree in
     let n = c.next_of_use-k-in-loop-k.ensures in
-    let last : distance t.dist_a.items position ≡ t.current = rw r.dist_a (c.loop-k.invariant.last ∙ sym r.current) in
+    let last : distance t.reached.dist_a.items position ≡ t.reached.current = rw r.dist_a (c.loop-k.invariant.last ∙ sym r.current) in
     let tree : IsTree f position (c.loop-k.k + 1) (growth t) = rw here at r.tree in
-    let done : work f.edges.now position (c.loop-k.k + 1) t ≤ work f.edges.now position c.loop-k.k c.loop-k.tree = rw here at r.work in
-    let fewer = left_later f.edges.now t.dist_a.items position (c.loop-k.k + 1) c.next_of_use-k-in-loop-k.result n.later in
-    let is : c.args.tree.now.current + number f.price_a.now position ≡ t.current + number f.price_a.now position = omega (arith, r.current, c.loop-k.invariant.current) in
+    let done : work f.edges.now position (c.loop-k.k + 1) t.reached ≤ work f.edges.now position c.loop-k.k c.loop-k.tree.reached = rw here at r.work in
+    let fewer = left_later f.edges.now t.reached.dist_a.items position (c.loop-k.k + 1) c.next_of_use-k-in-loop-k.result n.later in
+    let is : c.args.tree.now.reached.current + number f.price_a.now position ≡ t.reached.current + number f.price_a.now position = omega (arith, r.current, c.loop-k.invariant.current) in
     record {
       later = omega (arith, n.later, c.loop-k.invariant.later);
       within = n.within;
@@ -97,7 +98,7 @@ pub returns-clause-work : goal.returns-clause-work
 returns-clause-work c =
     let es = c.args.ground.edges.now in
     let next = c.requires.ready.starts.starts_at (c.args.position + 1) (omega arith) in
-    let fewer = left_later es c.loop-k.tree.dist_a.items c.args.position c.loop-k.k (length es) (omega (arith, c.loop-k.invariant.within, next.within)) in
+    let fewer = left_later es c.loop-k.tree.reached.dist_a.items c.args.position c.loop-k.k (length es) (omega (arith, c.loop-k.invariant.within, next.within)) in
     omega (arith, fewer, c.loop-k.invariant.work)
 
 pub overflow_add-base : goal.overflow_add-base

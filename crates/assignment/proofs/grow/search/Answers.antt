@@ -5,7 +5,7 @@ use Rattle.assignment.proofs.grow.search.Goals as goal
 
 pub grow-requires-clause-queue : goal.grow-requires-clause-queue
 grow-requires-clause-queue c =
-    let any = left_any c.args.ground.edges.now c.plant.new.tree.dist_a.items c.args.ground.root 0 in
+    let any = left_any c.args.ground.edges.now c.plant.new.tree.reached.dist_a.items c.args.ground.root 0 in
     omega (arith, any, c.plant.ensures.fits)
 
 pub plant-requires : goal.plant-requires

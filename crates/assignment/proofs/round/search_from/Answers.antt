@@ -1,4 +1,4 @@
-use Rattle.std.proofs.Common.{◌<◌, ◌∙◌, length, inl, inr, arith}
+use Rattle.std.proofs.Common.{◌<◌, length, inl, inr, arith}
 use Rattle.std.proofs.lemmas.Bool.{cases_lt}
 use Rattle.assignment_steps.specs.Distances.{distance, far}
 use Rattle.assignment.specs.Growth.{growth, with_waiting}
@@ -15,14 +15,13 @@ pub turn-requires-clause-last : goal.turn-requires-clause-last
 turn-requires-clause-last c =
     let grown = c.in-Some.ensures.grown in
     let t = c.search.new.tree in
-    rw c.shift-2.ensures.best_record
-    (ends_as c.in-Some.grown.free (t.best_record < length t.dist_a.items) (t.best_record < length c.args.link_a.now) (λ _. Unit {0}) (λ _. Unit {0}) (λ (p : t.best_record < length t.dist_a.items). omega (arith, p, c.search.ensures.room.of_a, t.dist_a.ok.0, c.requires.between.rows_a)) (λ b u. u)
-    (best_within _ (with_waiting grown.0 (growth t)) c.in-Some.grown.end c.in-Some.grown.free c.shift-2.new.price_a c.shift-2.new.price_b c.search.ensures.ready grown.1 c.shift-2.ensures.price_a c.shift-2.ensures.price_b))
+    ends_as c.in-Some.grown.free (t.best_record < length t.reached.dist_a.items) (t.best_record < length c.args.link_a.now) (λ _. Unit {0}) (λ _. Unit {0}) (λ (p : t.best_record < length t.reached.dist_a.items). omega (arith, p, c.search.ensures.room.of_a, t.reached.dist_a.ok.0, c.requires.between.rows_a)) (λ b u. u)
+    (best_within _ (with_waiting grown.0 (growth t)) c.in-Some.grown.end c.in-Some.grown.free c.shift-2.new.price_a c.shift-2.new.price_b c.search.ensures.ready grown.1 c.shift-2.ensures.price_a c.shift-2.ensures.price_b)
 
 pub turn-requires-clause-leads : goal.turn-requires-clause-leads
 turn-requires-clause-leads c =
     let grown = c.in-Some.ensures.grown in
-    rw (c.deref.ensures.value, c.deref-2.ensures.value, c.shift-2.ensures.from, c.shift-2.ensures.rank, c.shift-2.ensures.best_record)
+    rw (c.deref.ensures.value, c.deref-2.ensures.value, c.shift-2.ensures.from, c.shift-2.ensures.rank)
     (ways_after _ (with_waiting grown.0 (growth c.search.new.tree)) c.in-Some.grown.end c.in-Some.grown.free c.shift-2.new.price_a c.shift-2.new.price_b c.search.ensures.ready grown.1 c.shift-2.ensures.price_a c.shift-2.ensures.price_b)
 
 pub returns-clause-between : goal.returns-clause-between
@@ -36,18 +35,18 @@ pub returns-clause-kept : goal.returns-clause-kept
 returns-clause-kept c =
     let grown = c.in-Some.ensures.grown in
     done_kept _ (with_waiting grown.0 (growth c.search.new.tree)) c.in-Some.grown.end c.in-Some.grown.free c.shift-2.new.price_a c.shift-2.new.price_b c.search.ensures.ready grown.1 c.shift-2.ensures.price_a c.shift-2.ensures.price_b
-    c.turn.new.link_a (rw c.shift-2.ensures.best_record at c.turn.ensures.still_a)
+    c.turn.new.link_a c.turn.ensures.still_a
 
 pub returns-in_default-clause-done : goal.returns-in_default-clause-done
 returns-in_default-clause-done c left =
-    let some = c.in_default.ensures.whole (λ on none. left on (c.shift.ensures.looks ∙ none)) in
+    let some = c.in_default.ensures.whole left in
     absurd (let none = c.in_default.is in cc)
 
 pub returns-clause-done : goal.returns-clause-done
 returns-clause-done c _ =
     let grown = c.in-Some.ensures.grown in
     root_done _ (with_waiting grown.0 (growth c.search.new.tree)) c.in-Some.grown.end c.in-Some.grown.free c.shift-2.new.price_a c.shift-2.new.price_b c.search.ensures.ready grown.1 c.shift-2.ensures.price_a c.shift-2.ensures.price_b
-    c.turn.new.link_a (rw c.shift-2.ensures.best_record at c.turn.ensures.root)
+    c.turn.new.link_a c.turn.ensures.root
 
 pub search-requires-clause-ready : goal.search-requires-clause-ready
 search-requires-clause-ready c =
@@ -79,7 +78,7 @@ shift-requires-2-clause-end c =
 pub shift-requires-2-clause-falls : goal.shift-requires-2-clause-falls
 shift-requires-2-clause-falls c a =
     let grown = c.in-Some.ensures.grown in
-    elim (cases_lt (distance c.search.new.tree.dist_a.items a) far) [
+    elim (cases_lt (distance c.search.new.tree.reached.dist_a.items a) far) [
       | inl near ↦ omega (arith, grown.1.before_best, grown.1.tree.best_of a near)
       | inr away ↦ omega (arith, away, grown.1.before_best, grown.1.tree.best_small)
     ]

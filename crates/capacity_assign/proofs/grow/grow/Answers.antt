@@ -2,7 +2,8 @@ use Rattle.std.proofs.Common.{◌≡◌, ◌<◌, length, inl, inr, arith}
 use Rattle.std.proofs.lemmas.List.{get_or_read}
 use Rattle.capacity_assign.specs.Growth.{growth, places_left}
 use Rattle.assignment_steps.specs.Distances.{distance, far}
-use Rattle.capacity_assign.proofs.Growing.{grown_best, nearest_taken, room_queued, tree_dropped, tree_taken, cons_first}
+use Rattle.capacity_assign.proofs.Growing.{grown_best, nearest_taken, tree_dropped, tree_taken, cons_first}
+use Rattle.assignment_steps.proofs.Noted.{room_queued}
 use Rattle.assignment_steps.proofs.Members.{Contains-cons_cases}
 use Rattle.capacity_assign.proofs.grow.grow.Goals as goal
 
@@ -11,7 +12,7 @@ returns-then-tree-near-clause-grown c =
     let e = c.in-Some.ensures in
     let i = c.loop-near.invariant in
     let near = nearest_taken (growth c.loop-near.tree) c.in-Some.near c.take.new.self.waiting e.inside e.least e.stays in (
-      c.loop-near.tree.frontier.waiting,
+      c.loop-near.tree.reached.frontier.waiting,
       rw (c.best_end.ensures.end, c.best_end.ensures.free, c.best_end.ensures.last)
           (grown_best c.args.ground (growth c.loop-near.tree) i.tree i.held (λ x h. omega (arith, near.least x h, c.if-tree-near.true))),
     )
@@ -19,12 +20,12 @@ returns-then-tree-near-clause-grown c =
 pub index-requires : goal.index-requires
 index-requires c =
     let late = c.loop-near.invariant.tree.late (c.in-Some.near.distance, c.in-Some.near.position) c.in-Some.ensures.inside in
-    omega (arith, late.2, c.loop-near.tree.dist_b.ok.0)
+    omega (arith, late.2, c.loop-near.tree.reached.dist_b.ok.0)
 
 pub index-requires-in-Some : goal.index-requires-in-Some
 index-requires-in-Some c =
     let late = c.loop-near.invariant.tree.late (c.in-Some.near.distance, c.in-Some.near.position) c.in-Some.ensures.inside in
-    omega (arith, late.2, c.loop-near.tree.dist_b.ok.0, c.loop-near.invariant.room.of_b, c.requires.ready.rows_b)
+    omega (arith, late.2, c.loop-near.tree.reached.dist_b.ok.0, c.loop-near.invariant.room.of_b, c.requires.ready.rows_b)
 
 pub loop-near-preserved-then-index-near : goal.loop-near-preserved-then-index-near
 loop-near-preserved-then-index-near c =
@@ -32,13 +33,13 @@ loop-near-preserved-then-index-near c =
     let n = c.in-Some.near in
     let i = c.loop-near.invariant in
     let late = i.tree.late (n.distance, n.position) e.inside in
-    let read = get_or_read c.loop-near.tree.dist_b.items n.position c.index.result.now late.2 c.index.ensures far in
-    let stale : distance c.loop-near.tree.dist_b.items n.position < n.distance = omega (arith, read, c.if-index-near.true) in
+    let read = get_or_read c.loop-near.tree.reached.dist_b.items n.position c.index.result.now late.2 c.index.ensures far in
+    let stale : distance c.loop-near.tree.reached.dist_b.items n.position < n.distance = omega (arith, read, c.if-index-near.true) in
     let taken = tree_taken c.args.ground 0 (length c.args.ground.edges.now) (growth c.loop-near.tree) (n.distance, n.position) c.take.new.self.waiting i.tree e.inside e.stays e.only in
     record {
       held = i.held;
       tree = tree_dropped c.args.ground 0 (length c.args.ground.edges.now) (growth c.loop-near.tree) c.take.new.self.waiting (n.distance, n.position) taken stale;
-      room = room_queued _ _ c.loop-near.tree c.take.new.self i.room;
+      room = room_queued _ _ c.loop-near.tree.reached c.take.new.self i.room;
       fits = omega (arith, i.fits, e.count, e.room);
       queue = omega (arith, i.queue, e.room);
     }
@@ -51,11 +52,11 @@ returns-then-index-gt0-clause-grown c =
     let t = c.loop-near.tree in
     let late = i.tree.late (n.distance, n.position) e.inside in
     let near = nearest_taken (growth t) n c.take.new.self.waiting e.inside e.least e.stays in
-    let read = get_or_read t.dist_b.items n.position c.index.result.now late.2 c.index.ensures far in
-    let exact : distance t.dist_b.items n.position ≡ n.distance = omega (arith, late.1, read, c.if-index-near.false) in
-    let lt : n.position < length c.args.ground.seats.now.left.items = omega (arith, late.2, t.dist_b.ok.0, i.room.of_b, c.requires.ready.rows_b, c.args.ground.seats.now.left.ok.0) in
+    let read = get_or_read t.reached.dist_b.items n.position c.index.result.now late.2 c.index.ensures far in
+    let exact : distance t.reached.dist_b.items n.position ≡ n.distance = omega (arith, late.1, read, c.if-index-near.false) in
+    let lt : n.position < length c.args.ground.seats.now.left.items = omega (arith, late.2, t.reached.dist_b.ok.0, i.room.of_b, c.requires.ready.rows_b, c.args.ground.seats.now.left.ok.0) in
     let some : 0 < places_left c.args.ground n.position = (let read2 = get_or_read c.args.ground.seats.now.left.items n.position c.index-in-Some.result.now lt c.index-in-Some.ensures 0 in omega (arith, read2, c.if-index-gt0.true)) in (
-      t.frontier.waiting,
+      t.reached.frontier.waiting,
       record {
         tree = i.tree;
         before_best = omega (arith, c.if-tree-near.false);
@@ -69,13 +70,13 @@ returns-then-index-gt0-clause-grown c =
 pub settle-requires-clause-inside : goal.settle-requires-clause-inside
 settle-requires-clause-inside c =
     let late = c.loop-near.invariant.tree.late (c.in-Some.near.distance, c.in-Some.near.position) c.in-Some.ensures.inside in
-    omega (arith, late.2, c.loop-near.tree.dist_b.ok.0, c.loop-near.invariant.room.of_b, c.requires.ready.rows_b)
+    omega (arith, late.2, c.loop-near.tree.reached.dist_b.ok.0, c.loop-near.invariant.room.of_b, c.requires.ready.rows_b)
 
 pub settle-requires-clause-exact : goal.settle-requires-clause-exact
 settle-requires-clause-exact c =
     let n = c.in-Some.near in
     let late = c.loop-near.invariant.tree.late (n.distance, n.position) c.in-Some.ensures.inside in
-    let read = get_or_read c.loop-near.tree.dist_b.items n.position c.index.result.now late.2 c.index.ensures far in
+    let read = get_or_read c.loop-near.tree.reached.dist_b.items n.position c.index.result.now late.2 c.index.ensures far in
     omega (arith, late.1, read, c.if-index-near.false)
 
 pub settle-requires-clause-nearest : goal.settle-requires-clause-nearest
@@ -96,7 +97,7 @@ settle-requires-clause-tree c =
 pub returns-clause-grown : goal.returns-clause-grown
 returns-clause-grown c =
     let i = c.loop-near.invariant in (
-      c.loop-near.tree.frontier.waiting,
+      c.loop-near.tree.reached.frontier.waiting,
       rw (c.best_end-2.ensures.end, c.best_end-2.ensures.free, c.best_end-2.ensures.last)
           (grown_best c.args.ground (growth c.loop-near.tree) i.tree i.held (λ x h. absurd (c.in_default.ensures.inside x h))),
     )
@@ -108,7 +109,7 @@ pub returns-then-tree-near-clause-whole : goal.returns-then-tree-near-clause-who
 returns-then-tree-near-clause-whole c = rw c.best_end.ensures.free (c.best_end.ensures.end, c.best_end.ensures.last)
 
 pub returns-then-tree-near-clause-room : goal.returns-then-tree-near-clause-room
-returns-then-tree-near-clause-room c = room_queued _ _ c.loop-near.tree c.take.new.self c.loop-near.invariant.room
+returns-then-tree-near-clause-room c = room_queued _ _ c.loop-near.tree.reached c.take.new.self c.loop-near.invariant.room
 
 pub returns-then-tree-near-clause-queue : goal.returns-then-tree-near-clause-queue
 returns-then-tree-near-clause-queue c = rw c.in-Some.ensures.room c.loop-near.invariant.queue
@@ -120,7 +121,7 @@ pub returns-then-index-gt0-clause-whole : goal.returns-then-index-gt0-clause-who
 returns-then-index-gt0-clause-whole c = tt
 
 pub returns-then-index-gt0-clause-room : goal.returns-then-index-gt0-clause-room
-returns-then-index-gt0-clause-room c = room_queued _ _ c.loop-near.tree c.take.new.self c.loop-near.invariant.room
+returns-then-index-gt0-clause-room c = room_queued _ _ c.loop-near.tree.reached c.take.new.self c.loop-near.invariant.room
 
 pub returns-then-index-gt0-clause-queue : goal.returns-then-index-gt0-clause-queue
 returns-then-index-gt0-clause-queue c = rw c.in-Some.ensures.room c.loop-near.invariant.queue
@@ -137,7 +138,7 @@ settle-requires-clause-full c =
     let i = c.loop-near.invariant in
     let late = i.tree.late (n.distance, n.position) c.in-Some.ensures.inside in
     let left = c.args.ground.seats.now.left in
-    let lt : n.position < length left.items = omega (arith, late.2, c.loop-near.tree.dist_b.ok.0, i.room.of_b, c.requires.ready.rows_b, left.ok.0) in
+    let lt : n.position < length left.items = omega (arith, late.2, c.loop-near.tree.reached.dist_b.ok.0, i.room.of_b, c.requires.ready.rows_b, left.ok.0) in
     let read = get_or_read left.items n.position c.index-in-Some.result.now lt c.index-in-Some.ensures 0 in
     omega (arith, read, c.if-index-gt0.false)
 
@@ -148,7 +149,7 @@ pub settle-requires-clause-held : goal.settle-requires-clause-held
 settle-requires-clause-held c = c.loop-near.invariant.held
 
 pub settle-requires-clause-room : goal.settle-requires-clause-room
-settle-requires-clause-room c = room_queued _ _ c.loop-near.tree c.take.new.self c.loop-near.invariant.room
+settle-requires-clause-room c = room_queued _ _ c.loop-near.tree.reached c.take.new.self c.loop-near.invariant.room
 
 pub settle-requires-clause-queue : goal.settle-requires-clause-queue
 settle-requires-clause-queue c = omega (arith, c.loop-near.invariant.fits, c.in-Some.ensures.count, c.in-Some.ensures.room)
@@ -156,7 +157,7 @@ settle-requires-clause-queue c = omega (arith, c.loop-near.invariant.fits, c.in-
 pub returns-then-not-settle-clause-grown : goal.returns-then-not-settle-clause-grown
 returns-then-not-settle-clause-grown c =
     let end = c.best_end-then-not-settle.ensures in
-    (c.settle.new.tree.frontier.waiting, rw (end.end, end.free, end.last) (rw c.if-not-settle.true at c.settle.ensures.tree))
+    (c.settle.new.tree.reached.frontier.waiting, rw (end.end, end.free, end.last) (rw c.if-not-settle.true at c.settle.ensures.tree))
 
 pub returns-then-not-settle-clause-whole : goal.returns-then-not-settle-clause-whole
 returns-then-not-settle-clause-whole c = rw c.best_end-then-not-settle.ensures.free (c.best_end-then-not-settle.ensures.end, c.best_end-then-not-settle.ensures.last)
@@ -187,7 +188,7 @@ pub returns-clause-whole : goal.returns-clause-whole
 returns-clause-whole c = rw c.best_end-2.ensures.free (c.best_end-2.ensures.end, c.best_end-2.ensures.last)
 
 pub returns-clause-room : goal.returns-clause-room
-returns-clause-room c = room_queued _ _ c.loop-near.tree c.take.new.self c.loop-near.invariant.room
+returns-clause-room c = room_queued _ _ c.loop-near.tree.reached c.take.new.self c.loop-near.invariant.room
 
 pub returns-clause-queue : goal.returns-clause-queue
 returns-clause-queue c = rw c.in_default.ensures.room c.loop-near.invariant.queue

@@ -1,15 +1,16 @@
 use Rattle.std.proofs.Common.{◌≡◌, ◌≤◌, None, length}
-use Rattle.capacity_assign.specs.Growth.{IsTree, HasRoomForRecords, growth, work, FitsQueue}
+use Rattle.capacity_assign.specs.Growth.{IsTree, growth}
+use Rattle.assignment_steps.specs.Reached.{HasRoomForRecords, work, FitsQueue}
 use Rattle.capacity_assign.proofs.grow.grow.Given as goal
 
 abbrev pub invariant-loop-near : goal.invariant-loop-near
 invariant-loop-near l = record {
   held : l.tree.held ≡ None;
   tree : IsTree l.ground 0 (length l.ground.edges.now) (growth l.tree);
-  room : HasRoomForRecords (length l.ground.price_a.now) (length l.ground.price_b.now) l.tree;
-  fits : FitsQueue l.ground.edges.now 0 (length l.ground.edges.now) l.tree;
-  queue : l.fn.tree.frontier.room ≤ l.tree.frontier.room;
+  room : HasRoomForRecords (length l.ground.price_a.now) (length l.ground.price_b.now) l.tree.reached;
+  fits : FitsQueue l.ground.edges.now 0 (length l.ground.edges.now) l.tree.reached;
+  queue : l.fn.tree.reached.frontier.room ≤ l.tree.reached.frontier.room;
 }
 
 abbrev pub decreases-loop-near : goal.decreases-loop-near
-decreases-loop-near l = work l.ground.edges.now 0 (length l.ground.edges.now) l.tree
+decreases-loop-near l = work l.ground.edges.now 0 (length l.ground.edges.now) l.tree.reached

@@ -20,8 +20,8 @@ returns-then-index-ne-FARTHEST-clause-joined c =
     let t = c.args.tree.now in
     let position = c.index-position.result.now in
     let at = at_seat c.args.ground c.args.n position c.requires.ready c.requires.seat c.index-position.ensures in
-    let records : position < length t.dist_a.items = omega (arith, at.inside, c.requires.room.of_a, t.dist_a.ok.0) in
-    let read = get_or_read t.dist_a.items position c.index.result.now records c.index.ensures far in
+    let records : position < length t.reached.dist_a.items = omega (arith, at.inside, c.requires.room.of_a, t.reached.dist_a.ok.0) in
+    let read = get_or_read t.reached.dist_a.items position c.index.result.now records c.index.ensures far in
     rw at.is (omega (arith, read, c.requires.room.top_a position, c.if-index-ne-FARTHEST.true))
 
 pub join-requires-clause-in_range : goal.join-requires-clause-in_range
@@ -35,8 +35,8 @@ relax_record-requires-clause-last c =
     let t = c.args.tree.now in
     let position = c.index-position.result.now in
     let at = at_seat c.args.ground c.args.n position c.requires.ready c.requires.seat c.index-position.ensures in
-    let records : position < length t.dist_a.items = omega (arith, at.inside, c.requires.room.of_a, t.dist_a.ok.0) in
-    rw (c.join.ensures.joins.da, c.join.ensures.joins.current) (get_or-set_same t.dist_a.items position t.current far records)
+    let records : position < length t.reached.dist_a.items = omega (arith, at.inside, c.requires.room.of_a, t.reached.dist_a.ok.0) in
+    rw (c.join.ensures.joins.da, c.join.ensures.joins.current) (get_or-set_same t.reached.dist_a.items position t.reached.current far records)
 
 pub relax_record-requires-clause-tree : goal.relax_record-requires-clause-tree
 relax_record-requires-clause-tree c =
@@ -45,12 +45,12 @@ relax_record-requires-clause-tree c =
     let position = c.index-position.result.now in
     let at = at_seat f c.args.n position c.requires.ready c.requires.seat c.index-position.ensures in
     let k = at.edge_there in
-    let records : position < length t.dist_a.items = omega (arith, at.inside, c.requires.room.of_a, t.dist_a.ok.0) in
-    let ranks : position < length t.rank.items = omega (arith, at.inside, c.requires.room.of_rank, t.rank.ok.0) in
-    let read = get_or_read t.dist_a.items position c.index.result.now records c.index.ensures far in
-    let new : distance t.dist_a.items position ≡ far = sym read ∙ c.if-index-ne-FARTHEST.false in
-    let joins : Joins f (growth t) (growth c.join.new.tree) position t.current = c.join.ensures.joins in
-    let made : IsTree f (edge_of f k).a 0 (growth c.join.new.tree) = tree_joining f 0 (growth t) (growth c.join.new.tree) k t.current c.requires.ready c.requires.tree (rw at.record_a new) (rw at.record_a records) (rw at.record_a ranks) at.on (rw at.owned c.requires.owned) refl (rw at.record_a joins) in
+    let records : position < length t.reached.dist_a.items = omega (arith, at.inside, c.requires.room.of_a, t.reached.dist_a.ok.0) in
+    let ranks : position < length t.reached.rank.items = omega (arith, at.inside, c.requires.room.of_rank, t.reached.rank.ok.0) in
+    let read = get_or_read t.reached.dist_a.items position c.index.result.now records c.index.ensures far in
+    let new : distance t.reached.dist_a.items position ≡ far = sym read ∙ c.if-index-ne-FARTHEST.false in
+    let joins : Joins f (growth t) (growth c.join.new.tree) position t.reached.current = c.join.ensures.joins in
+    let made : IsTree f (edge_of f k).a 0 (growth c.join.new.tree) = tree_joining f 0 (growth t) (growth c.join.new.tree) k t.reached.current c.requires.ready c.requires.tree (rw at.record_a new) (rw at.record_a records) (rw at.record_a ranks) at.on (rw at.owned c.requires.owned) refl (rw at.record_a joins) in
     rw at.record_a at made
 
 pub relax_record-requires-clause-queue : goal.relax_record-requires-clause-queue
@@ -59,11 +59,11 @@ relax_record-requires-clause-queue c =
     let es = c.args.ground.edges.now in
     let position = c.index-position.result.now in
     let at = at_seat c.args.ground c.args.n position c.requires.ready c.requires.seat c.index-position.ensures in
-    let records : position < length t.dist_a.items = omega (arith, at.inside, c.requires.room.of_a, t.dist_a.ok.0) in
-    let read = get_or_read t.dist_a.items position c.index.result.now records c.index.ensures far in
-    let new : distance t.dist_a.items position ≡ far = sym read ∙ c.if-index-ne-FARTHEST.false in
-    let near : t.current < far = omega (arith, c.requires.tree.now, c.requires.tree.best_small) in
-    let same : left es c.join.new.tree.dist_a.items position 0 ≡ left es t.dist_a.items 0 (length es) = rw c.join.ensures.joins.da (left_joined es t.dist_a.items position 0 t.current records new near) in
+    let records : position < length t.reached.dist_a.items = omega (arith, at.inside, c.requires.room.of_a, t.reached.dist_a.ok.0) in
+    let read = get_or_read t.reached.dist_a.items position c.index.result.now records c.index.ensures far in
+    let new : distance t.reached.dist_a.items position ≡ far = sym read ∙ c.if-index-ne-FARTHEST.false in
+    let near : t.reached.current < far = omega (arith, c.requires.tree.now, c.requires.tree.best_small) in
+    let same : left es c.join.new.tree.reached.dist_a.items position 0 ≡ left es t.reached.dist_a.items 0 (length es) = rw c.join.ensures.joins.da (left_joined es t.reached.dist_a.items position 0 t.reached.current records new near) in
     omega (arith, same, c.requires.queue, ap (λ q. q.count) c.join.ensures.queue, ap (λ q. q.room) c.join.ensures.queue)
 
 pub returns-clause-tree : goal.returns-clause-tree
@@ -75,27 +75,27 @@ returns-clause-work c =
     let es = c.args.ground.edges.now in
     let position = c.index-position.result.now in
     let at = at_seat c.args.ground c.args.n position c.requires.ready c.requires.seat c.index-position.ensures in
-    let records : position < length t.dist_a.items = omega (arith, at.inside, c.requires.room.of_a, t.dist_a.ok.0) in
-    let read = get_or_read t.dist_a.items position c.index.result.now records c.index.ensures far in
-    let new : distance t.dist_a.items position ≡ far = sym read ∙ c.if-index-ne-FARTHEST.false in
-    let near : t.current < far = omega (arith, c.requires.tree.now, c.requires.tree.best_small) in
-    let same : left es c.join.new.tree.dist_a.items position 0 ≡ left es t.dist_a.items 0 (length es) = rw c.join.ensures.joins.da (left_joined es t.dist_a.items position 0 t.current records new near) in
-    let any = left_any es c.relax_record.new.tree.dist_a.items position 0 in
+    let records : position < length t.reached.dist_a.items = omega (arith, at.inside, c.requires.room.of_a, t.reached.dist_a.ok.0) in
+    let read = get_or_read t.reached.dist_a.items position c.index.result.now records c.index.ensures far in
+    let new : distance t.reached.dist_a.items position ≡ far = sym read ∙ c.if-index-ne-FARTHEST.false in
+    let near : t.reached.current < far = omega (arith, c.requires.tree.now, c.requires.tree.best_small) in
+    let same : left es c.join.new.tree.reached.dist_a.items position 0 ≡ left es t.reached.dist_a.items 0 (length es) = rw c.join.ensures.joins.da (left_joined es t.reached.dist_a.items position 0 t.reached.current records new near) in
+    let any = left_any es c.relax_record.new.tree.reached.dist_a.items position 0 in
     omega (arith, same, any, c.relax_record.ensures.work, ap (λ q. q.count) c.join.ensures.queue)
 
 pub returns-clause-stays : goal.returns-clause-stays
 returns-clause-stays c =
     let t = c.args.tree.now in
     let at = at_seat c.args.ground c.args.n c.index-position.result.now c.requires.ready c.requires.seat c.index-position.ensures in
-    let records : c.index-position.result.now < length t.dist_a.items = omega (arith, at.inside, c.requires.room.of_a, t.dist_a.ok.0) in
-    let near : t.current < far = omega (arith, c.requires.tree.now, c.requires.tree.best_small) in
-    rw c.relax_record.ensures.dist_a (joins_stays c.args.ground (growth t) (growth c.join.new.tree) c.index-position.result.now t.current c.join.ensures.joins records near)
+    let records : c.index-position.result.now < length t.reached.dist_a.items = omega (arith, at.inside, c.requires.room.of_a, t.reached.dist_a.ok.0) in
+    let near : t.reached.current < far = omega (arith, c.requires.tree.now, c.requires.tree.best_small) in
+    rw c.relax_record.ensures.dist_a (joins_stays c.args.ground (growth t) (growth c.join.new.tree) c.index-position.result.now t.reached.current c.join.ensures.joins records near)
 
 pub returns-clause-joined : goal.returns-clause-joined
 returns-clause-joined c =
     let t = c.args.tree.now in
     let position = c.index-position.result.now in
     let at = at_seat c.args.ground c.args.n position c.requires.ready c.requires.seat c.index-position.ensures in
-    let records : position < length t.dist_a.items = omega (arith, at.inside, c.requires.room.of_a, t.dist_a.ok.0) in
-    let near : t.current < far = omega (arith, c.requires.tree.now, c.requires.tree.best_small) in
-    rw (at.is, c.relax_record.ensures.dist_a, c.join.ensures.joins.da, get_or-set_same t.dist_a.items position t.current far records) near
+    let records : position < length t.reached.dist_a.items = omega (arith, at.inside, c.requires.room.of_a, t.reached.dist_a.ok.0) in
+    let near : t.reached.current < far = omega (arith, c.requires.tree.now, c.requires.tree.best_small) in
+    rw (at.is, c.relax_record.ensures.dist_a, c.join.ensures.joins.da, get_or-set_same t.reached.dist_a.items position t.reached.current far records) near

@@ -16,20 +16,20 @@ join-requires c =
 
 pub relax_record-requires-clause-last : goal.relax_record-requires-clause-last
 relax_record-requires-clause-last c =
-    let da = c.args.tree.now.dist_a.items in
+    let da = c.args.tree.now.reached.dist_a.items in
     let root = c.args.ground.root in
-    let there : root < length da = omega (arith, c.requires.ready.root_in, c.requires.clean.room.of_a, c.args.tree.now.dist_a.ok.0) in
+    let there : root < length da = omega (arith, c.requires.ready.root_in, c.requires.clean.room.of_a, c.args.tree.now.reached.dist_a.ok.0) in
     rw (c.join.ensures.joins.da, c.join.ensures.joins.current) (get_or-set_same da root 0 far there)
 
 pub relax_record-requires-clause-queue : goal.relax_record-requires-clause-queue
 relax_record-requires-clause-queue c =
-    let few = left_few c.args.ground.edges.now c.join.new.tree.dist_a.items c.args.ground.root 0 in
+    let few = left_few c.args.ground.edges.now c.join.new.tree.reached.dist_a.items c.args.ground.root 0 in
     omega (arith, few, c.requires.queue, c.requires.clean.empty, ap (λ q. q.count) c.join.ensures.queue, ap (λ q. q.room) c.join.ensures.queue)
 
 pub returns : goal.returns
 returns c =
     let r = c.relax_record.ensures in
-    let few = left_few c.args.ground.edges.now c.join.new.tree.dist_a.items c.args.ground.root 0 in
+    let few = left_few c.args.ground.edges.now c.join.new.tree.reached.dist_a.items c.args.ground.root 0 in
     let room = ap (λ q. q.room) c.join.ensures.queue in
     record {
       tree = r.tree;

@@ -1,7 +1,8 @@
 use Rattle.std.proofs.Common.{◌≡◌, ◌≤◌, inl, inr, length, refl, ◌∙◌, arith}
 use Rattle.std.proofs.lemmas.Bool.{cases_lt}
 use Rattle.assignment_steps.specs.Market.{number}
-use Rattle.capacity_assign.specs.Growth.{growth, work}
+use Rattle.capacity_assign.specs.Growth.{growth}
+use Rattle.assignment_steps.specs.Reached.{work}
 use Rattle.assignment_steps.proofs.Count.{left_later}
 use Rattle.capacity_assign.proofs.Growing.{tree_skip}
 use Rattle.capacity_assign.proofs.grow.relax_record.Goals as goal
@@ -24,7 +25,7 @@ loop-k-init c =
       last = c.requires.last;
       tree = tree_skip c.args.ground c.args.position 0 k (growth c.args.tree.now) c.requires.tree (λ j lt low same. absurd (omega (arith, same, start.below j low)));
       room = c.requires.room;
-      work = omega (arith, left_later c.args.ground.edges.now c.args.tree.now.dist_a.items c.args.position 0 k (omega arith));
+      work = omega (arith, left_later c.args.ground.edges.now c.args.tree.now.reached.dist_a.items c.args.position 0 k (omega arith));
       held = refl;
       current = refl;
       dist_a = refl;
@@ -33,7 +34,7 @@ loop-k-init c =
 
 pub returns-else-ground-k-clause-work : goal.returns-else-ground-k-clause-work
 returns-else-ground-k-clause-work c =
-    let fewer = left_later c.args.ground.edges.now c.loop-k.tree.dist_a.items c.args.position c.loop-k.k (length c.args.ground.edges.now) (omega arith) in
+    let fewer = left_later c.args.ground.edges.now c.loop-k.tree.reached.dist_a.items c.args.position c.loop-k.k (length c.args.ground.edges.now) (omega arith) in
     omega (arith, fewer, c.loop-k.invariant.work)
 
 pub loop-k-preserved : goal.loop-k-preserved
@@ -59,7 +60,7 @@ bounds-ground-position c = omega (arith, c.requires.inside, c.requires.ready.sta
 pub relax-requires : goal.relax-requires
 relax-requires c =
     let i = c.loop-k.invariant in
-    let fits : work c.args.ground.edges.now c.args.position c.loop-k.k c.loop-k.tree ≤ c.loop-k.tree.frontier.room = omega (arith, i.work, i.queue, c.requires.queue) in
+    let fits : work c.args.ground.edges.now c.args.position c.loop-k.k c.loop-k.tree.reached ≤ c.loop-k.tree.reached.frontier.room = omega (arith, i.work, i.queue, c.requires.queue) in
     record {
       place = c.loop-k-test.true;
       ready = c.requires.ready;

@@ -9,7 +9,7 @@ plant-requires c = record { ready = c.requires.ready; rising = c.requires.rising
 pub grow-requires : goal.grow-requires
 grow-requires c =
     let p = c.plant.ensures in
-    let any = left_any c.args.ground.edges.now c.plant.new.tree.dist_a.items c.args.ground.root 0 in
+    let any = left_any c.args.ground.edges.now c.plant.new.tree.reached.dist_a.items c.args.ground.root 0 in
     record {
       ready = c.requires.ready;
       rising = c.requires.rising;

@@ -17,7 +17,7 @@ loop-next-init c =
     let last : IsLastSeat s.owner.items s.count b c.index-next.result.now = rw is at (c.requires.ready.seated.chains.last b) in
     record {
       held = ap (λ t. t.held) rest;
-      current = ap (λ t. t.current) rest;
+      current = ap (λ t. t.reached.current) rest;
       tree = c.hold.ensures.tree;
       room = rw rest (record { of_a = r.of_a; of_rank = r.of_rank; of_b = r.of_b; of_from = r.of_from; touched = r.touched; touched_room = r.touched_room; top = r.top; records = r.records; records_room = r.records_room; top_a = r.top_a; records_in = r.records_in; touched_in = r.touched_in });
       fits = rw rest c.requires.queue;
@@ -88,7 +88,7 @@ loop-next-preserved c =
       work = omega (arith, e.work, i.work);
       queue = omega (arith, e.queue, i.queue);
       within = λ m q. (let p = last_within s.owner.items n c.args.near.position c.index-next-in-Some.result.now m last q in (omega (arith, p.0, w.0), p.1));
-      done = past_more c.args.ground c.loop-next.tree.dist_a.items c.join_seat.new.tree.dist_a.items c.args.near.position n c.index-next-in-Some.result.now c.requires.ready last (rw c.in-Some.is at i.done) e.stays e.joined;
+      done = past_more c.args.ground c.loop-next.tree.reached.dist_a.items c.join_seat.new.tree.reached.dist_a.items c.args.near.position n c.index-next-in-Some.result.now c.requires.ready last (rw c.in-Some.is at i.done) e.stays e.joined;
     }
 
 pub returns-then-tree-near : goal.returns-then-tree-near

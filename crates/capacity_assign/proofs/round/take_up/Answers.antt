@@ -56,7 +56,7 @@ turn-requires c =
       seats = w.seated;
       root = (omega (arith, c.requires.root, w.rows_a), c.requires.free);
       last = last_inside _ g s.result.end s.result.free s.result.last c.shift.new.price_a c.shift.new.price_b s.ensures.ready s.ensures.grown.1 falls rises
-          (length c.args.link_a.now) (omega (arith, s.ensures.room.of_a, s.new.tree.dist_a.ok.0, w.rows_a));
+          (length c.args.link_a.now) (omega (arith, s.ensures.room.of_a, s.new.tree.reached.dist_a.ok.0, w.rows_a));
       free = free_after _ g s.result.end s.result.free s.result.last c.shift.new.price_a c.shift.new.price_b s.ensures.ready s.ensures.grown.1 falls rises;
       leads = rw (c.deref.ensures.value, c.deref-2.ensures.value, c.shift.ensures.from, c.shift.ensures.rank)
           (ways_after _ g s.result.end s.result.free s.result.last c.shift.new.price_a c.shift.new.price_b s.ensures.ready s.ensures.grown.1 falls rises);

@@ -1,10 +1,10 @@
 use Rattle.std.proofs.Common.{◌<◌, length, arith}
 use Rattle.std.specs.Prelude.{All}
-use Rattle.capacity_assign.proofs.round.shift.Goals as goal
+use Rattle.assignment_steps.proofs.reaching.Reached.shift.Goals as goal
 
 pub lower-requires-clause-in_range : goal.lower-requires-clause-in_range
 lower-requires-clause-in_range c =
-    let t = c.args.tree.now in
+    let t = c.args.self.now in
     let all : All (λ r. r < length t.dist_a.items) t.records.items = λ k d lt. omega (arith, c.requires.room.records_in k d lt, c.requires.room.of_a, t.dist_a.ok.0) in
     rw (c.deref.ensures.value, c.deref_mut.ensures.value) all
 
@@ -16,7 +16,7 @@ lower-requires-clause-top c = rw c.deref_mut.ensures.value c.requires.room.top_a
 
 pub raise-requires-clause-in_range : goal.raise-requires-clause-in_range
 raise-requires-clause-in_range c =
-    let t = c.args.tree.now in
+    let t = c.args.self.now in
     let all : All (λ r. r < length t.dist_b.items) t.touched.items = λ k d lt. omega (arith, c.requires.room.touched_in k d lt, c.requires.room.of_b, t.dist_b.ok.0) in
     rw (c.deref-2.ensures.value, c.deref_mut-2.ensures.value) all
 

@@ -1,0 +1,171 @@
+// What a search has reached from its root.
+ghost use Rattle.std.specs.Prelude.{◌≡◌, ◌+◌, ◌-◌, ◌<◌, ◌≤◌, ℕ, length, slice_set, [], ◌∷◌, ◌++◌, vec_len, vec_capacity, Contains, IfOk};
+ghost use Rattle.link_limits.specs.declared.TheConstants.{MOST_VALUE};
+ghost use Rattle.assignment_steps.specs.Market.{edge, number, AreCovered, IsInRange};
+ghost use Rattle.assignment_steps.specs.Distances.{distance, far};
+ghost use Rattle.assignment_steps.specs.Queue.{Enters, rank_of, turn_after};
+ghost use Rattle.assignment_steps.specs.Reached.{HasRoomForRecords, IsClean, Waits, noted};
+
+use crate::market::Net;
+use crate::queue::{DistanceQueue, FARTHEST};
+use crate::room::no_distances;
+use crate::shift::{lower, raise};
+use link_base::NoMemory;
+use std::alloc::Global;
+
+/// What a search has reached from its root. `dist_a` and `dist_b` are the distances of the records, `rank` says when a
+/// record of A joined and `from` by which edge a record of B was reached. `records` and `touched` are the records of A
+/// and of B that have a distance, in the order of their coming, `frontier` the records of B whose turn is still to come,
+/// and `current` is the distance of the newest.
+#[derive(Drop)]
+pub struct Reached {
+    pub dist_a: Vec<u64>,
+    pub rank: Vec<usize>,
+    pub dist_b: Vec<u64>,
+    pub from: Vec<usize>,
+    pub records: Vec<usize>,
+    pub touched: Vec<usize>,
+    pub frontier: DistanceQueue,
+    pub current: u64,
+}
+
+/// How far a record of B is over the edge `k`, by the distance of its record of A and what the prices leave.
+pub fn reach_over(net: Net<'_>, dist_a: &[u64], k: usize) -> u64
+    requires place { k < length net.edges.now }
+    requires in_range { IsInRange net.edges.now (length net.price_a.now) (length net.price_b.now) }
+    requires covered { AreCovered net.edges.now net.price_a.now net.price_b.now }
+    requires small_a { (a : ℕ) → number net.price_a.now a ≤ MOST_VALUE }
+    requires small_b { (b : ℕ) → number net.price_b.now b ≤ MOST_VALUE }
+    requires records { length dist_a.now ≡ length net.price_a.now }
+    requires near { distance dist_a.now (edge net.edges.now k).a ≤ MOST_VALUE }
+    ensures { result + (edge net.entry.edges.now k).value ≡ distance dist_a.now (edge net.entry.edges.now k).a + (number net.entry.price_a.now (edge net.entry.edges.now k).a + number net.entry.price_b.now (edge net.entry.edges.now k).b) }
+{
+    let edge = net.edges[k];
+    let a = edge.a as usize;
+    dist_a[a] + (net.price_a[a] + net.price_b[edge.b as usize] - edge.value as u64)
+}
+
+// Puts a record at the end of a list that has room.
+fn note(list: &mut Vec<usize>, position: usize)
+    requires { vec_len list.old < vec_capacity list.old }
+    ensures items { list.new.items ≡ list.old.items ++ position ∷ [] }
+    ensures len { vec_len list.new ≡ vec_len list.old + 1 }
+    ensures capacity { vec_capacity list.old ≤ vec_capacity list.new }
+{
+    let _ = list.push(position);
+}
+
+impl Reached {
+    /// Nothing is reached; there is room for all records, and for so many entries in the queue.
+    pub fn new(
+        alloc: Global,
+        rows_a: usize,
+        rows_b: usize,
+        entries: usize,
+    ) -> Result<Reached, NoMemory>
+        ensures clean { IfOk result (λ r. IsClean rows_a rows_b r) }
+        ensures queue { IfOk result (λ r. entries ≤ r.frontier.room) }
+        ensures current { IfOk result (λ r. r.current ≡ 0) }
+    {
+        let of_a = no_distances(alloc, rows_a)?;
+        let of_b = no_distances(alloc, rows_b)?;
+        match DistanceQueue::new(alloc, entries) {
+            Ok(frontier) => Ok(Reached {
+                dist_a: of_a.dist,
+                rank: of_a.number,
+                dist_b: of_b.dist,
+                from: of_b.number,
+                records: of_a.reached,
+                touched: of_b.reached,
+                frontier,
+                current: 0,
+            }),
+            Err(error) => {
+                drop(of_a);
+                drop(of_b);
+                Err(error)
+            }
+        }
+    }
+
+    /// A record of A that was not reached joins at a distance, which is the newest.
+    pub fn join(&mut self, position: usize, dist: u64)
+        requires within { position < vec_len self.old.dist_a }
+        requires near { dist < far }
+        requires new { distance self.old.dist_a.items position ≡ far }
+        requires room { HasRoomForRecords (vec_len self.old.dist_a) (vec_len self.old.dist_b) self.old }
+        ensures dist_a { self.new.dist_a.items ≡ slice_set self.old.dist_a.items position dist }
+        ensures rank { self.new.rank.items ≡ slice_set self.old.rank.items position (length self.old.records.items) }
+        ensures records { self.new.records.items ≡ self.old.records.items ++ position ∷ [] }
+        ensures current { self.new.current ≡ dist }
+        ensures rest { self.new ≡ record self.old { dist_a = self.new.dist_a; rank = self.new.rank; records = self.new.records; current = self.new.current } }
+        ensures room { HasRoomForRecords (vec_len self.old.dist_a) (vec_len self.old.dist_b) self.new }
+    {
+        self.dist_a[position] = dist;
+        self.rank[position] = self.records.len();
+        note(&mut self.records, position);
+        self.current = dist;
+    }
+
+    // Notes a record of B, where it is reached for the first time.
+    fn note_first(&mut self, b: usize)
+        requires within { b < vec_len self.old.dist_b }
+        requires room { HasRoomForRecords (vec_len self.old.dist_a) (vec_len self.old.dist_b) self.old }
+        ensures touched { self.new.touched.items ≡ noted self.old.dist_b.items self.old.touched.items b }
+        ensures rest { self.new ≡ record self.old { touched = self.new.touched } }
+        ensures room { vec_capacity self.old.touched ≤ vec_capacity self.new.touched }
+    {
+        if self.dist_b[b] != FARTHEST {
+            return;
+        }
+        note(&mut self.touched, b);
+    }
+
+    /// Puts a record of B at a shorter distance by the edge `k`, and into the queue; `first` asks that its turn come before
+    /// others at that distance.
+    pub fn reach(&mut self, b: usize, k: usize, dist: u64, first: bool)
+        requires within { b < vec_len self.old.dist_b }
+        requires near { dist < distance self.old.dist_b.items b }
+        requires queue { self.old.frontier.count < self.old.frontier.room }
+        requires room { HasRoomForRecords (vec_len self.old.dist_a) (vec_len self.old.dist_b) self.old }
+        ensures dist_b { self.new.dist_b.items ≡ slice_set self.old.dist_b.items b dist }
+        ensures from { self.new.from.items ≡ slice_set self.old.from.items b k }
+        ensures touched { self.new.touched.items ≡ noted self.old.dist_b.items self.old.touched.items b }
+        ensures waits { Waits self.old.frontier.waiting self.new.frontier.waiting (dist, b) }
+        ensures ranked { Enters self.old.frontier.ranked self.new.frontier.ranked (rank_of dist first self.old.frontier.turn) b }
+        ensures turn { self.new.frontier.turn ≡ turn_after self.old.frontier.turn }
+        ensures count { self.new.frontier.count ≡ self.old.frontier.count + 1 }
+        ensures queue { self.old.frontier.room ≤ self.new.frontier.room }
+        ensures rest { self.new ≡ record self.old { dist_b = self.new.dist_b; from = self.new.from; touched = self.new.touched; frontier = self.new.frontier } }
+        ensures room { HasRoomForRecords (vec_len self.old.dist_a) (vec_len self.old.dist_b) self.new }
+    {
+        self.note_first(b);
+        self.dist_b[b] = dist;
+        self.from[b] = k;
+        self.frontier.put(dist, first, b);
+    }
+
+    /// Changes the prices by what the distances lack to `end`, and leaves nothing reached. The edges by which records of B
+    /// were reached and when records of A joined can still be read.
+    pub fn shift(&mut self, price_a: &mut [u64], price_b: &mut [u64], end: u64)
+        requires room { HasRoomForRecords (length price_a.old) (length price_b.old) self.old }
+        requires end { end ≤ far }
+        requires noted_a { (a : ℕ) → distance self.old.dist_a.items a < far → Contains self.old.records.items a }
+        requires noted_b { (b : ℕ) → distance self.old.dist_b.items b < far → Contains self.old.touched.items b }
+        requires falls { (a : ℕ) → end - distance self.old.dist_a.items a ≤ number price_a.old a }
+        requires small { (b : ℕ) → number price_b.old b ≤ MOST_VALUE }
+        ensures price_a { (a : ℕ) → number price_a.new a + (end - distance self.old.dist_a.items a) ≡ number price_a.old a }
+        ensures price_b { (b : ℕ) → number price_b.new b ≡ number price_b.old b + (end - distance self.old.dist_b.items b) }
+        ensures clean { IsClean (length price_a.old) (length price_b.old) self.new }
+        ensures queue { self.new.frontier.room ≡ self.old.frontier.room }
+        ensures from { self.new.from.items ≡ self.old.from.items }
+        ensures rank { self.new.rank.items ≡ self.old.rank.items }
+        ensures current { self.new.current ≡ self.old.current }
+    {
+        lower(price_a, &mut self.dist_a, &self.records, end);
+        raise(price_b, &mut self.dist_b, &self.touched, end);
+        self.records.clear();
+        self.touched.clear();
+        self.frontier.clear();
+    }
+}
