@@ -8,5 +8,7 @@ pub mod OneWrite
 pub mod Shifts
 pub mod Count
 pub mod Noted
+pub mod Spreading
+pub mod Arrived
 pub mod Leading
 pub mod EdgesOf

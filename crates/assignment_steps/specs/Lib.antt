@@ -9,4 +9,5 @@ pub mod Candidates
 pub mod Distances
 pub mod Relaxed
 pub mod Reached
+pub mod Spread
 pub mod Ways

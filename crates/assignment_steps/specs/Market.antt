@@ -22,6 +22,10 @@ pub record IsMatched (es : List Edge) (la lb : List (Option ℕ)) : Type 0 where
   pub of_a : (a k : ℕ) → link la a ≡ Some k → (k < length es) × ((edge es k).a ≡ a) × (link lb (edge es k).b ≡ Some k)
   pub of_b : (b k : ℕ) → link lb b ≡ Some k → (k < length es) × ((edge es k).b ≡ b) × (link la (edge es k).a ≡ Some k)
 
+-- each link of a record of A is by an edge of it
+abbrev pub AreLinked : List Edge → List (Option ℕ) → Type 0
+AreLinked es la = (a k : ℕ) → link la a ≡ Some k → (k < length es) × ((edge es k).a ≡ a)
+
 -- each edge stands within the records
 pub record IsInRange (es : List Edge) (rows_a rows_b : ℕ) : Type 0 where
   pub record_a : (k : ℕ) → k < length es → (edge es k).a < rows_a

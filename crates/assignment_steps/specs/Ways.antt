@@ -29,9 +29,10 @@ abbrev pub LeadsBy : Net → Ways → List (Option ℕ) → ℕ → ℕ → Type
 LeadsBy net ways la n b = Leads net.edges.now net.price_a.now net.price_b.now la ways.from.now ways.rank.now ways.root n b
 
 -- a record of A is the root without a link, or a way leads from the record of B that it is linked to
+abbrev pub LeadsFrom : List Edge → List ℕ → List ℕ → List (Option ℕ) → List ℕ → List ℕ → ℕ → ℕ → Type 0
+LeadsFrom es pa pb la from rank root a =
+    ((a ≡ root) × (link la a ≡ None))
+    ⊎ ((k : ℕ) × ((link la a ≡ Some k) × (number rank (above es from (edge es k).b) < number rank a) × ((n : ℕ) × Leads es pa pb la from rank root n (edge es k).b)))
+
 abbrev pub LeadsFromRecord : Net → Ways → List (Option ℕ) → ℕ → Type 0
-LeadsFromRecord net ways la position =
-    ((position ≡ ways.root) × (link la position ≡ None))
-    ⊎ ((k : ℕ) × ((link la position ≡ Some k)
-    × (number ways.rank.now (edge net.edges.now (number ways.from.now (edge net.edges.now k).b)).a < number ways.rank.now position)
-    × ((n : ℕ) × LeadsBy net ways la n (edge net.edges.now k).b)))
+LeadsFromRecord net ways la a = LeadsFrom net.edges.now net.price_a.now net.price_b.now la ways.from.now ways.rank.now ways.root a

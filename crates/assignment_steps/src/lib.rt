@@ -26,7 +26,7 @@ mod turned;
 pub use adopt::{adopt_all, adopt_proposal};
 pub use candidates::{edges_of, linked};
 pub use left::waiting;
-pub use market::{Board, Edge, Net, Proposal, Ways};
+pub use market::{Board, Edge, Field, Net, Proposal, Ways};
 pub use other_links::join_as_turned;
 pub use queue::{DistanceQueue, FARTHEST, Near};
 pub use reaching::{Reached, reach_over};

@@ -16,6 +16,18 @@ pub struct Net<'a> {
     pub price_b: &'a [u64],
 }
 
+/// What a search goes over: the edges, the places where those of each record of A begin, the prices, the links of the
+/// records of A and the one at the root.
+#[derive(Clone, Copy)]
+pub struct Field<'a> {
+    pub edges: &'a [Edge],
+    pub starts: &'a [usize],
+    pub price_a: &'a [u64],
+    pub price_b: &'a [u64],
+    pub link_a: &'a [Option<usize>],
+    pub root: usize,
+}
+
 /// Ways to a root: the edge by which each record of B was reached, and when each record of A was.
 #[derive(Clone, Copy)]
 pub struct Ways<'a> {

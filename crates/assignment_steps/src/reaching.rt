@@ -1,12 +1,13 @@
 // What a search has reached from its root.
-ghost use Rattle.std.specs.Prelude.{◌≡◌, ◌+◌, ◌-◌, ◌<◌, ◌≤◌, ℕ, length, slice_set, [], ◌∷◌, ◌++◌, vec_len, vec_capacity, Contains, IfOk};
+ghost use Rattle.std.specs.Prelude.{◌≡◌, ◌+◌, ◌-◌, ◌<◌, ◌≤◌, ℕ, length, [], ◌∷◌, ◌++◌, vec_len, vec_capacity, Contains, IfOk};
 ghost use Rattle.link_limits.specs.declared.TheConstants.{MOST_VALUE};
-ghost use Rattle.assignment_steps.specs.Market.{edge, number, AreCovered, IsInRange};
+ghost use Rattle.assignment_steps.specs.Market.{edge, number};
 ghost use Rattle.assignment_steps.specs.Distances.{distance, far};
 ghost use Rattle.assignment_steps.specs.Queue.{Enters, rank_of, turn_after};
-ghost use Rattle.assignment_steps.specs.Reached.{HasRoomForRecords, IsClean, Waits, noted};
+ghost use Rattle.assignment_steps.specs.Reached.{HasRoomForRecords, IsClean, noted};
+ghost use Rattle.assignment_steps.specs.Spread.{IsSearchable, Joins, Shortens, edge_of, paid, spread};
 
-use crate::market::Net;
+use crate::market::Field;
 use crate::queue::{DistanceQueue, FARTHEST};
 use crate::room::no_distances;
 use crate::shift::{lower, raise};
@@ -30,19 +31,16 @@ pub struct Reached {
 }
 
 /// How far a record of B is over the edge `k`, by the distance of its record of A and what the prices leave.
-pub fn reach_over(net: Net<'_>, dist_a: &[u64], k: usize) -> u64
-    requires place { k < length net.edges.now }
-    requires in_range { IsInRange net.edges.now (length net.price_a.now) (length net.price_b.now) }
-    requires covered { AreCovered net.edges.now net.price_a.now net.price_b.now }
-    requires small_a { (a : ℕ) → number net.price_a.now a ≤ MOST_VALUE }
-    requires small_b { (b : ℕ) → number net.price_b.now b ≤ MOST_VALUE }
-    requires records { length dist_a.now ≡ length net.price_a.now }
-    requires near { distance dist_a.now (edge net.edges.now k).a ≤ MOST_VALUE }
-    ensures { result + (edge net.entry.edges.now k).value ≡ distance dist_a.now (edge net.entry.edges.now k).a + (number net.entry.price_a.now (edge net.entry.edges.now k).a + number net.entry.price_b.now (edge net.entry.edges.now k).b) }
+pub fn reach_over(field: Field<'_>, dist_a: &[u64], k: usize) -> u64
+    requires place { k < length field.edges.now }
+    requires ready { IsSearchable field }
+    requires records { length dist_a.now ≡ length field.price_a.now }
+    requires near { distance dist_a.now (edge_of field k).a ≤ MOST_VALUE }
+    ensures { result + (edge_of field.entry k).value ≡ distance dist_a.now (edge_of field.entry k).a + paid field.entry k }
 {
-    let edge = net.edges[k];
+    let edge = field.edges[k];
     let a = edge.a as usize;
-    dist_a[a] + (net.price_a[a] + net.price_b[edge.b as usize] - edge.value as u64)
+    dist_a[a] + (field.price_a[a] + field.price_b[edge.b as usize] - edge.value as u64)
 }
 
 // Puts a record at the end of a list that has room.
@@ -94,10 +92,7 @@ impl Reached {
         requires near { dist < far }
         requires new { distance self.old.dist_a.items position ≡ far }
         requires room { HasRoomForRecords (vec_len self.old.dist_a) (vec_len self.old.dist_b) self.old }
-        ensures dist_a { self.new.dist_a.items ≡ slice_set self.old.dist_a.items position dist }
-        ensures rank { self.new.rank.items ≡ slice_set self.old.rank.items position (length self.old.records.items) }
-        ensures records { self.new.records.items ≡ self.old.records.items ++ position ∷ [] }
-        ensures current { self.new.current ≡ dist }
+        ensures joins { Joins (spread self.old) (spread self.new) position dist }
         ensures rest { self.new ≡ record self.old { dist_a = self.new.dist_a; rank = self.new.rank; records = self.new.records; current = self.new.current } }
         ensures room { HasRoomForRecords (vec_len self.old.dist_a) (vec_len self.old.dist_b) self.new }
     {
@@ -128,10 +123,7 @@ impl Reached {
         requires near { dist < distance self.old.dist_b.items b }
         requires queue { self.old.frontier.count < self.old.frontier.room }
         requires room { HasRoomForRecords (vec_len self.old.dist_a) (vec_len self.old.dist_b) self.old }
-        ensures dist_b { self.new.dist_b.items ≡ slice_set self.old.dist_b.items b dist }
-        ensures from { self.new.from.items ≡ slice_set self.old.from.items b k }
-        ensures touched { self.new.touched.items ≡ noted self.old.dist_b.items self.old.touched.items b }
-        ensures waits { Waits self.old.frontier.waiting self.new.frontier.waiting (dist, b) }
+        ensures shortens { Shortens (spread self.old) (spread self.new) b k dist }
         ensures ranked { Enters self.old.frontier.ranked self.new.frontier.ranked (rank_of dist first self.old.frontier.turn) b }
         ensures turn { self.new.frontier.turn ≡ turn_after self.old.frontier.turn }
         ensures count { self.new.frontier.count ≡ self.old.frontier.count + 1 }

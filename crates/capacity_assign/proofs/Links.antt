@@ -5,8 +5,8 @@ use Rattle.std.proofs.lemmas.Bool.{cases_eq}
 use Rattle.std.proofs.lemmas.Bool.Decides.{nat_tests}
 use Rattle.std.proofs.lemmas.List.Sums.{sum_by-cons, sum_by-set}
 use Rattle.assignment_steps.specs.declared.market.Edge.{Edge}
-use Rattle.capacity_assign.specs.Core.{AreLinked, leads_to, linked_at}
-use Rattle.assignment_steps.specs.Market.{edge, link}
+use Rattle.capacity_assign.specs.Core.{leads_to, linked_at}
+use Rattle.assignment_steps.specs.Market.{AreLinked, edge, link}
 use Rattle.capacity_assign.specs.Seating.{free_rows}
 use Rattle.assignment_steps.proofs.Links.{link-set}
 

@@ -3,9 +3,9 @@ use Rattle.std.proofs.Common.{◌≡◌, ◌⊎◌, ℕ, ◌==◌, ◌+◌, ◌<
 use Rattle.std.proofs.lemmas.List.{length-set}
 use Rattle.assignment_steps.specs.declared.market.Edge.{Edge}
 use Rattle.capacity_assign.specs.declared.market.Hole.{Hole}
-use Rattle.capacity_assign.specs.Core.{AreLinked, Reseats, linked_at}
+use Rattle.capacity_assign.specs.Core.{Reseats, linked_at}
 use Rattle.assignment_steps.specs.Ways.{IsHop, above, Leads}
-use Rattle.assignment_steps.specs.Market.{AreTight, link, edge, number}
+use Rattle.assignment_steps.specs.Market.{AreLinked, AreTight, link, edge, number}
 use Rattle.capacity_assign.specs.Seating.{AreAllSeated, HasHole, free_rows}
 use Rattle.assignment_steps.proofs.Links.{link-set}
 use Rattle.capacity_assign.proofs.Links.{linked_set, linked_at-set, free_rows-set}

@@ -1,12 +1,8 @@
 -- Machinery of `walk`: links of records of A, counted at the records of B, and a link that is left for another.
-use Rattle.std.specs.Prelude.{◌≡◌, ◌==◌, ℕ, ◌<◌, Bool, false, List, length, count_by, slice_set, Option, Some, None, MatchOption}
+use Rattle.std.specs.Prelude.{◌≡◌, ◌==◌, ℕ, Bool, false, List, count_by, slice_set, Option, Some, None, MatchOption}
 use Rattle.assignment_steps.specs.declared.market.Edge.{Edge}
 use Rattle.capacity_assign.specs.declared.market.Hole.{Hole}
 use Rattle.assignment_steps.specs.Market.{edge, link, number}
-
--- each link of a record of A is by an edge of it
-abbrev pub AreLinked : List Edge → List (Option ℕ) → Type 0
-AreLinked es la = (a k : ℕ) → link la a ≡ Some k → (k < length es) × ((edge es k).a ≡ a)
 
 -- whether a link leads to a record of B
 abbrev pub leads_to : List Edge → ℕ → Option ℕ → Bool

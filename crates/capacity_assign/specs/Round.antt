@@ -2,8 +2,8 @@
 use Rattle.std.specs.Prelude.{◌≡◌, ℕ, ◌+◌, ◌<◌, ◌≤◌, List, length, Option, None}
 use Rattle.link_limits.specs.declared.TheConstants.{MOST_VALUE}
 use Rattle.assignment_steps.specs.declared.market.Edge.{Edge}
-use Rattle.assignment_steps.specs.Market.{link, edge, number, IsInRange, AreTight, IsTight}
-use Rattle.capacity_assign.specs.Core.{AreLinked, linked_at}
+use Rattle.assignment_steps.specs.Market.{AreLinked, link, edge, number, IsInRange, AreTight, IsTight}
+use Rattle.capacity_assign.specs.Core.{linked_at}
 use Rattle.capacity_assign.specs.Seating.{AreSeats, Seating}
 
 -- prices, links and seats between two rounds: the records of A below `done` were taken up

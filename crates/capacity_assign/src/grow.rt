@@ -2,36 +2,32 @@
 ghost use Rattle.std.specs.Prelude.{◌≡◌, ◌+◌, ◌-◌, ◌<◌, ◌≤◌, ℕ, length, ◌∷◌, None, Some, MatchBool, false};
 ghost use Rattle.link_limits.specs.declared.TheConstants.{MOST_VALUE};
 ghost use Rattle.assignment_steps.specs.Market.{number, IsRising};
-ghost use Rattle.capacity_assign.specs.Growth.{IsTree, growth, IsReady, edge_of, Notes, IsNearest, Joins, Improves, HasGrown, with_waiting, places_left, IsGrown, IsWhole};
+ghost use Rattle.capacity_assign.specs.Growth.{IsTree, growth, IsReady, Joins, Improves, HasGrown, with_waiting, places_left, IsGrown, IsWhole};
+ghost use Rattle.assignment_steps.specs.Spread.{IsNearest, edge_of};
 ghost use Rattle.assignment_steps.specs.Reached.{HasRoomForRecords, work, FitsQueue, IsClean};
 ghost use Rattle.assignment_steps.specs.Distances.{distance, far};
 
 use crate::market::{Ground, Grown, Tree};
-use assignment_steps::{FARTHEST, Near, Net, reach_over};
+use assignment_steps::{FARTHEST, Near, reach_over};
 
 /// Notes a shorter way over the edge `k` from its record of A, which joined the tree last.
 fn relax(ground: Ground<'_>, tree: &mut Tree, k: usize)
-    requires place { k < length ground.edges.now }
+    requires place { k < length ground.field.edges.now }
     requires ready { IsReady ground }
-    requires last { distance tree.old.reached.dist_a.items (edge_of ground k).a ≡ tree.old.reached.current }
-    requires tree { IsTree ground (edge_of ground k).a k (growth tree.old) }
-    requires room { HasRoomForRecords (length ground.price_a.now) (length ground.price_b.now) tree.old.reached }
-    requires queue { FitsQueue ground.edges.now (edge_of ground k).a k tree.old.reached }
-    ensures tree { IsTree ground.entry (edge_of ground.entry k).a (k + 1) (growth tree.new) }
-    ensures room { HasRoomForRecords (length ground.entry.price_a.now) (length ground.entry.price_b.now) tree.new.reached }
-    ensures work { work ground.entry.edges.now (edge_of ground.entry k).a (k + 1) tree.new.reached ≤ work ground.entry.edges.now (edge_of ground.entry k).a k tree.old.reached }
+    requires last { distance tree.old.reached.dist_a.items (edge_of ground.field k).a ≡ tree.old.reached.current }
+    requires tree { IsTree ground (edge_of ground.field k).a k (growth tree.old) }
+    requires room { HasRoomForRecords (length ground.field.price_a.now) (length ground.field.price_b.now) tree.old.reached }
+    requires queue { FitsQueue ground.field.edges.now (edge_of ground.field k).a k tree.old.reached }
+    ensures tree { IsTree ground.entry (edge_of ground.entry.field k).a (k + 1) (growth tree.new) }
+    ensures room { HasRoomForRecords (length ground.entry.field.price_a.now) (length ground.entry.field.price_b.now) tree.new.reached }
+    ensures work { work ground.entry.field.edges.now (edge_of ground.entry.field k).a (k + 1) tree.new.reached ≤ work ground.entry.field.edges.now (edge_of ground.entry.field k).a k tree.old.reached }
     ensures queue { tree.old.reached.frontier.room ≤ tree.new.reached.frontier.room }
     ensures current { tree.new.reached.current ≡ tree.old.reached.current }
     ensures held { tree.new.held ≡ tree.old.held }
     ensures dist_a { tree.new.reached.dist_a.items ≡ tree.old.reached.dist_a.items }
 {
-    let b = ground.edges[k].b as usize;
-    let net = Net {
-        edges: ground.edges,
-        price_a: ground.price_a,
-        price_b: ground.price_b,
-    };
-    let far = reach_over(net, &tree.reached.dist_a, k);
+    let b = ground.field.edges[k].b as usize;
+    let far = reach_over(ground.field, &tree.reached.dist_a, k);
     if tree.best <= far {
         return;
     }
@@ -45,16 +41,16 @@ fn relax(ground: Ground<'_>, tree: &mut Tree, k: usize)
 /// A record of A joins the tree at a distance, which is the newest.
 fn join(ground: Ground<'_>, tree: &mut Tree, position: usize, dist: u64)
     requires ready { IsReady ground }
-    requires in_range { position < length ground.price_a.now }
+    requires in_range { position < length ground.field.price_a.now }
     requires small { dist ≤ MOST_VALUE }
-    requires room { HasRoomForRecords (length ground.price_a.now) (length ground.price_b.now) tree.old.reached }
+    requires room { HasRoomForRecords (length ground.field.price_a.now) (length ground.field.price_b.now) tree.old.reached }
     requires new { distance tree.old.reached.dist_a.items position ≡ far }
     ensures joins { Joins ground.entry (growth tree.old) (growth tree.new) position dist }
-    ensures room { HasRoomForRecords (length ground.entry.price_a.now) (length ground.entry.price_b.now) tree.new.reached }
+    ensures room { HasRoomForRecords (length ground.entry.field.price_a.now) (length ground.entry.field.price_b.now) tree.new.reached }
     ensures queue { tree.new.reached.frontier ≡ tree.old.reached.frontier }
 {
     tree.reached.join(position, dist);
-    improve(tree, position, dist + ground.price_a[position]);
+    improve(tree, position, dist + ground.field.price_a[position]);
 }
 
 /// Keeps the least end that a record of A gives.
@@ -69,23 +65,23 @@ fn improve(tree: &mut Tree, position: usize, end: u64)
 
 /// Relaxes the edges of the record of A that joined last.
 fn relax_record(ground: Ground<'_>, tree: &mut Tree, position: usize)
-    requires inside { position < length ground.price_a.now }
+    requires inside { position < length ground.field.price_a.now }
     requires ready { IsReady ground }
-    requires rising { IsRising ground.edges.now }
+    requires rising { IsRising ground.field.edges.now }
     requires last { distance tree.old.reached.dist_a.items position ≡ tree.old.reached.current }
     requires tree { IsTree ground position 0 (growth tree.old) }
-    requires room { HasRoomForRecords (length ground.price_a.now) (length ground.price_b.now) tree.old.reached }
-    requires queue { FitsQueue ground.edges.now position 0 tree.old.reached }
-    ensures tree { IsTree ground.entry position (length ground.entry.edges.now) (growth tree.new) }
-    ensures room { HasRoomForRecords (length ground.entry.price_a.now) (length ground.entry.price_b.now) tree.new.reached }
-    ensures work { work ground.entry.edges.now position (length ground.entry.edges.now) tree.new.reached ≤ work ground.entry.edges.now position 0 tree.old.reached }
+    requires room { HasRoomForRecords (length ground.field.price_a.now) (length ground.field.price_b.now) tree.old.reached }
+    requires queue { FitsQueue ground.field.edges.now position 0 tree.old.reached }
+    ensures tree { IsTree ground.entry position (length ground.entry.field.edges.now) (growth tree.new) }
+    ensures room { HasRoomForRecords (length ground.entry.field.price_a.now) (length ground.entry.field.price_b.now) tree.new.reached }
+    ensures work { work ground.entry.field.edges.now position (length ground.entry.field.edges.now) tree.new.reached ≤ work ground.entry.field.edges.now position 0 tree.old.reached }
     ensures queue { tree.old.reached.frontier.room ≤ tree.new.reached.frontier.room }
     ensures held { tree.new.held ≡ tree.old.held }
     ensures current { tree.new.reached.current ≡ tree.old.reached.current }
     ensures dist_a { tree.new.reached.dist_a.items ≡ tree.old.reached.dist_a.items }
 {
-    let mut k = ground.starts[position];
-    while k < ground.edges.len() && ground.edges[k].a as usize == position {
+    let mut k = ground.field.starts[position];
+    while k < ground.field.edges.len() && ground.field.edges[k].a as usize == position {
         relax(ground, tree, k);
         k += 1;
     }
@@ -95,17 +91,17 @@ fn relax_record(ground: Ground<'_>, tree: &mut Tree, position: usize)
 /// record, where it has not joined yet, and its edges are relaxed.
 fn join_seat(ground: Ground<'_>, tree: &mut Tree, n: usize)
     requires ready { IsReady ground }
-    requires rising { IsRising ground.edges.now }
+    requires rising { IsRising ground.field.edges.now }
     requires seat { n < ground.seats.now.count }
     requires owned { tree.old.held ≡ Some (number ground.seats.now.owner.items n) }
-    requires tree { IsTree ground 0 (length ground.edges.now) (growth tree.old) }
-    requires room { HasRoomForRecords (length ground.price_a.now) (length ground.price_b.now) tree.old.reached }
-    requires queue { FitsQueue ground.edges.now 0 (length ground.edges.now) tree.old.reached }
+    requires tree { IsTree ground 0 (length ground.field.edges.now) (growth tree.old) }
+    requires room { HasRoomForRecords (length ground.field.price_a.now) (length ground.field.price_b.now) tree.old.reached }
+    requires queue { FitsQueue ground.field.edges.now 0 (length ground.field.edges.now) tree.old.reached }
     ensures held { tree.new.held ≡ tree.old.held }
     ensures current { tree.new.reached.current ≡ tree.old.reached.current }
-    ensures tree { IsTree ground.entry 0 (length ground.entry.edges.now) (growth tree.new) }
-    ensures room { HasRoomForRecords (length ground.entry.price_a.now) (length ground.entry.price_b.now) tree.new.reached }
-    ensures work { work ground.entry.edges.now 0 (length ground.entry.edges.now) tree.new.reached ≤ work ground.entry.edges.now 0 (length ground.entry.edges.now) tree.old.reached }
+    ensures tree { IsTree ground.entry 0 (length ground.entry.field.edges.now) (growth tree.new) }
+    ensures room { HasRoomForRecords (length ground.entry.field.price_a.now) (length ground.entry.field.price_b.now) tree.new.reached }
+    ensures work { work ground.entry.field.edges.now 0 (length ground.entry.field.edges.now) tree.new.reached ≤ work ground.entry.field.edges.now 0 (length ground.entry.field.edges.now) tree.old.reached }
     ensures queue { tree.old.reached.frontier.room ≤ tree.new.reached.frontier.room }
     ensures stays { (a : ℕ) → distance tree.old.reached.dist_a.items a < far → distance tree.new.reached.dist_a.items a < far }
     ensures joined { distance tree.new.reached.dist_a.items (number ground.entry.seats.now.row.items n) < far }
@@ -124,10 +120,10 @@ fn hold(ground: Ground<'_>, tree: &mut Tree, near: Near)
     requires full { places_left ground near.position ≡ 0 }
     requires useful { near.distance < tree.old.best }
     requires exact { distance tree.old.reached.dist_b.items near.position ≡ near.distance }
-    requires nearest { IsNearest (with_waiting ((near.distance, near.position) ∷ tree.old.reached.frontier.waiting) (growth tree.old)) near }
+    requires nearest { IsNearest ((near.distance, near.position) ∷ tree.old.reached.frontier.waiting) near }
     requires held { tree.old.held ≡ None }
-    requires tree { IsTree ground 0 (length ground.edges.now) (with_waiting ((near.distance, near.position) ∷ tree.old.reached.frontier.waiting) (growth tree.old)) }
-    ensures tree { IsTree ground.entry 0 (length ground.entry.edges.now) (growth tree.new) }
+    requires tree { IsTree ground 0 (length ground.field.edges.now) (with_waiting ((near.distance, near.position) ∷ tree.old.reached.frontier.waiting) (growth tree.old)) }
+    ensures tree { IsTree ground.entry 0 (length ground.entry.field.edges.now) (growth tree.new) }
     ensures rest { tree.new ≡ record tree.old { reached = record tree.old.reached { current = near.distance }; held = Some near.position } }
 {
     tree.reached.current = near.distance;
@@ -138,20 +134,20 @@ fn hold(ground: Ground<'_>, tree: &mut Tree, near: Near)
 /// tree one after the other; false where an end that is as near comes first.
 fn settle(ground: Ground<'_>, tree: &mut Tree, near: Near) -> bool
     requires ready { IsReady ground }
-    requires rising { IsRising ground.edges.now }
-    requires inside { near.position < length ground.price_b.now }
+    requires rising { IsRising ground.field.edges.now }
+    requires inside { near.position < length ground.field.price_b.now }
     requires full { places_left ground near.position ≡ 0 }
     requires useful { near.distance < tree.old.best }
     requires exact { distance tree.old.reached.dist_b.items near.position ≡ near.distance }
-    requires nearest { IsNearest (with_waiting ((near.distance, near.position) ∷ tree.old.reached.frontier.waiting) (growth tree.old)) near }
+    requires nearest { IsNearest ((near.distance, near.position) ∷ tree.old.reached.frontier.waiting) near }
     requires held { tree.old.held ≡ None }
-    requires tree { IsTree ground 0 (length ground.edges.now) (with_waiting ((near.distance, near.position) ∷ tree.old.reached.frontier.waiting) (growth tree.old)) }
-    requires room { HasRoomForRecords (length ground.price_a.now) (length ground.price_b.now) tree.old.reached }
-    requires queue { FitsQueue ground.edges.now 0 (length ground.edges.now) tree.old.reached }
-    ensures tree { MatchBool result (IsTree ground.entry 0 (length ground.entry.edges.now) (growth tree.new)) (IsGrown ground.entry (growth tree.new) tree.new.best None tree.new.best_record) }
+    requires tree { IsTree ground 0 (length ground.field.edges.now) (with_waiting ((near.distance, near.position) ∷ tree.old.reached.frontier.waiting) (growth tree.old)) }
+    requires room { HasRoomForRecords (length ground.field.price_a.now) (length ground.field.price_b.now) tree.old.reached }
+    requires queue { FitsQueue ground.field.edges.now 0 (length ground.field.edges.now) tree.old.reached }
+    ensures tree { MatchBool result (IsTree ground.entry 0 (length ground.entry.field.edges.now) (growth tree.new)) (IsGrown ground.entry (growth tree.new) tree.new.best None tree.new.best_record) }
     ensures held { MatchBool result (tree.new.held ≡ None) (Unit {0}) }
-    ensures room { HasRoomForRecords (length ground.entry.price_a.now) (length ground.entry.price_b.now) tree.new.reached }
-    ensures work { work ground.entry.edges.now 0 (length ground.entry.edges.now) tree.new.reached ≤ work ground.entry.edges.now 0 (length ground.entry.edges.now) tree.old.reached }
+    ensures room { HasRoomForRecords (length ground.entry.field.price_a.now) (length ground.entry.field.price_b.now) tree.new.reached }
+    ensures work { work ground.entry.field.edges.now 0 (length ground.entry.field.edges.now) tree.new.reached ≤ work ground.entry.field.edges.now 0 (length ground.entry.field.edges.now) tree.old.reached }
     ensures queue { tree.old.reached.frontier.room ≤ tree.new.reached.frontier.room }
 {
     hold(ground, tree, near);
@@ -184,14 +180,14 @@ fn best_end(tree: &Tree) -> Grown
 /// at a record of A.
 pub fn grow(ground: Ground<'_>, tree: &mut Tree) -> Grown
     requires ready { IsReady ground }
-    requires rising { IsRising ground.edges.now }
+    requires rising { IsRising ground.field.edges.now }
     requires held { tree.old.held ≡ None }
-    requires tree { IsTree ground 0 (length ground.edges.now) (growth tree.old) }
-    requires room { HasRoomForRecords (length ground.price_a.now) (length ground.price_b.now) tree.old.reached }
-    requires queue { FitsQueue ground.edges.now 0 (length ground.edges.now) tree.old.reached }
+    requires tree { IsTree ground 0 (length ground.field.edges.now) (growth tree.old) }
+    requires room { HasRoomForRecords (length ground.field.price_a.now) (length ground.field.price_b.now) tree.old.reached }
+    requires queue { FitsQueue ground.field.edges.now 0 (length ground.field.edges.now) tree.old.reached }
     ensures grown { HasGrown ground.entry (growth tree.new) result.end result.free result.last }
     ensures whole { IsWhole (growth tree.new) result.end result.free result.last }
-    ensures room { HasRoomForRecords (length ground.entry.price_a.now) (length ground.entry.price_b.now) tree.new.reached }
+    ensures room { HasRoomForRecords (length ground.entry.field.price_a.now) (length ground.entry.field.price_b.now) tree.new.reached }
     ensures queue { tree.old.reached.frontier.room ≤ tree.new.reached.frontier.room }
 {
     while let Some(near) = tree.reached.frontier.take() {
@@ -205,7 +201,7 @@ pub fn grow(ground: Ground<'_>, tree: &mut Tree) -> Grown
             return Grown {
                 end: near.distance,
                 free: Some(near.position),
-                last: ground.root,
+                last: ground.field.root,
             };
         }
         if !settle(ground, tree, near) {
@@ -218,31 +214,31 @@ pub fn grow(ground: Ground<'_>, tree: &mut Tree) -> Grown
 /// Begins a tree with its root.
 fn plant(ground: Ground<'_>, tree: &mut Tree)
     requires ready { IsReady ground }
-    requires rising { IsRising ground.edges.now }
-    requires clean { IsClean (length ground.price_a.now) (length ground.price_b.now) tree.old.reached }
-    requires queue { length ground.edges.now ≤ tree.old.reached.frontier.room }
-    ensures tree { IsTree ground.entry ground.entry.root (length ground.entry.edges.now) (growth tree.new) }
-    ensures room { HasRoomForRecords (length ground.entry.price_a.now) (length ground.entry.price_b.now) tree.new.reached }
-    ensures fits { FitsQueue ground.entry.edges.now ground.entry.root (length ground.entry.edges.now) tree.new.reached }
+    requires rising { IsRising ground.field.edges.now }
+    requires clean { IsClean (length ground.field.price_a.now) (length ground.field.price_b.now) tree.old.reached }
+    requires queue { length ground.field.edges.now ≤ tree.old.reached.frontier.room }
+    ensures tree { IsTree ground.entry ground.entry.field.root (length ground.entry.field.edges.now) (growth tree.new) }
+    ensures room { HasRoomForRecords (length ground.entry.field.price_a.now) (length ground.entry.field.price_b.now) tree.new.reached }
+    ensures fits { FitsQueue ground.entry.field.edges.now ground.entry.field.root (length ground.entry.field.edges.now) tree.new.reached }
     ensures queue { tree.old.reached.frontier.room ≤ tree.new.reached.frontier.room }
     ensures held { tree.new.held ≡ None }
 {
     tree.best = FARTHEST;
     tree.held = None;
-    join(ground, tree, ground.root, 0);
-    relax_record(ground, tree, ground.root);
+    join(ground, tree, ground.field.root, 0);
+    relax_record(ground, tree, ground.field.root);
 }
 
 /// The whole growth of a tree.
 pub fn search(ground: Ground<'_>, tree: &mut Tree) -> Grown
     requires ready { IsReady ground }
-    requires rising { IsRising ground.edges.now }
-    requires clean { IsClean (length ground.price_a.now) (length ground.price_b.now) tree.old.reached }
-    requires queue { length ground.edges.now ≤ tree.old.reached.frontier.room }
+    requires rising { IsRising ground.field.edges.now }
+    requires clean { IsClean (length ground.field.price_a.now) (length ground.field.price_b.now) tree.old.reached }
+    requires queue { length ground.field.edges.now ≤ tree.old.reached.frontier.room }
     ensures ready { IsReady ground.entry }
     ensures grown { HasGrown ground.entry (growth tree.new) result.end result.free result.last }
     ensures whole { IsWhole (growth tree.new) result.end result.free result.last }
-    ensures room { HasRoomForRecords (length ground.entry.price_a.now) (length ground.entry.price_b.now) tree.new.reached }
+    ensures room { HasRoomForRecords (length ground.entry.field.price_a.now) (length ground.entry.field.price_b.now) tree.new.reached }
     ensures queue { tree.old.reached.frontier.room ≤ tree.new.reached.frontier.room }
 {
     plant(ground, tree);

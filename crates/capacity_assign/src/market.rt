@@ -1,6 +1,6 @@
 // Seats, what trees are grown over, and the tree.
 
-use assignment_steps::{Edge, Reached};
+use assignment_steps::{Field, Reached};
 
 /// The seats at the records of B, numbered from 0 as they are taken first. A seat belongs to its `owner`, a
 /// record of B, and `row` is the record of A that sits there; `seat` says for a linked record of A where it
@@ -24,17 +24,11 @@ pub struct Hole {
     pub seat: usize,
 }
 
-/// What a tree is grown over: the edges, the places where those of each record of A begin, the prices,
-/// the links, the seats and the record of A at the root.
+/// What a tree is grown over, with the seats at the records of B.
 #[derive(Clone, Copy)]
 pub struct Ground<'a> {
-    pub edges: &'a [Edge],
-    pub starts: &'a [usize],
-    pub price_a: &'a [u64],
-    pub price_b: &'a [u64],
-    pub link_a: &'a [Option<usize>],
+    pub field: Field<'a>,
     pub seats: &'a Seats,
-    pub root: usize,
 }
 
 /// An alternating tree as it grows, with what it has reached. The nearest end at a record of A so far is at the distance

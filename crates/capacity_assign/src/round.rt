@@ -1,7 +1,6 @@
 // One round: a record of A is taken up, prices change, and links are turned round.
 ghost use Rattle.std.specs.Prelude.{◌≡◌, ◌+◌, ◌<◌, ℕ, length, None, MatchOption, IsNone, ◌⊎◌};
-ghost use Rattle.capacity_assign.specs.Core.{AreLinked};
-ghost use Rattle.assignment_steps.specs.Market.{IsInRange, link, AreTight, number, AreListed};
+ghost use Rattle.assignment_steps.specs.Market.{AreLinked, IsInRange, link, AreTight, number, AreListed};
 ghost use Rattle.capacity_assign.specs.Growth.{IsAtRest};
 ghost use Rattle.assignment_steps.specs.Ways.{LeadsBy, LeadsFromRecord};
 ghost use Rattle.capacity_assign.specs.Round.{IsBetween, KeepsPlaces};
@@ -11,7 +10,7 @@ use crate::grow::search;
 use crate::market::{Ground, Grown, Hole, Seats, Tree};
 use crate::seats::add_seat;
 use crate::walk::walk;
-use assignment_steps::{Edge, Net, Ways};
+use assignment_steps::{Edge, Field, Net, Ways};
 
 /// Turns the links round from where a tree ended: at a record of B with a place left, or at a record of A that
 /// gives its link up.
@@ -80,15 +79,15 @@ pub fn take_up(
     ensures settled { ((a : ℕ) → a < root → link link_a.old a ≡ None → number price_a.old a ≡ 0) → (a : ℕ) → a < root + 1 → link link_a.new a ≡ None → number price_a.new a ≡ 0 }
     ensures tree { IsAtRest edges.now (length price_a.new) (length price_b.new) tree.new }
 {
-    let ground = Ground {
+    let field = Field {
         edges,
         starts,
         price_a,
         price_b,
         link_a,
-        seats,
         root,
     };
+    let ground = Ground { field, seats };
     let grown = search(ground, tree);
     tree.reached.shift(price_a, price_b, grown.end);
     let net = Net {

@@ -1,7 +1,7 @@
 // Seats that are added, and rows that move from one to another.
 ghost use Rattle.std.specs.Prelude.{◌≡◌, ◌<◌, length, vec_len};
-ghost use Rattle.capacity_assign.specs.Core.{AreLinked, Reseats};
-ghost use Rattle.assignment_steps.specs.Market.{number, edge};
+ghost use Rattle.capacity_assign.specs.Core.{Reseats};
+ghost use Rattle.assignment_steps.specs.Market.{AreLinked, number, edge};
 ghost use Rattle.capacity_assign.specs.Seating.{AddsSeat, seating};
 
 use crate::market::{Hole, Seats};

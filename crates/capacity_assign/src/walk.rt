@@ -1,7 +1,7 @@
 // Links turned round along the way to the root.
 ghost use Rattle.std.specs.Prelude.{◌≡◌, ◌+◌, ◌<◌, ◌==◌, ℕ, length, List, None, Some, if◌then◌else◌};
-ghost use Rattle.capacity_assign.specs.Core.{AreLinked, linked_at};
-ghost use Rattle.assignment_steps.specs.Market.{link, edge, AreTight, number};
+ghost use Rattle.capacity_assign.specs.Core.{linked_at};
+ghost use Rattle.assignment_steps.specs.Market.{AreLinked, link, edge, AreTight, number};
 ghost use Rattle.assignment_steps.specs.Ways.{Leads};
 ghost use Rattle.capacity_assign.specs.Seating.{AreAllSeated, HasHole, free_rows};
 

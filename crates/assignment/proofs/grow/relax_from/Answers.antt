@@ -2,7 +2,8 @@ use Rattle.std.proofs.Common.{◌≡◌, ℕ, ◌+◌, ◌<◌, ◌≤◌, lengt
 use Rattle.std.proofs.lemmas.Bool.{cases_lt}
 use Rattle.assignment_steps.specs.Market.{number}
 use Rattle.assignment.specs.declared.market.Ground.{Ground}
-use Rattle.assignment.specs.Growth.{Growth, IsReady, IsRelaxed, IsTree, edge_of, growth}
+use Rattle.assignment.specs.Growth.{Growth, IsReady, IsTree, growth}
+use Rattle.assignment_steps.specs.Spread.{IsRelaxed, edge_of}
 use Rattle.assignment_steps.specs.Reached.{work}
 use Rattle.assignment_steps.specs.Distances.{distance}
 use Rattle.assignment_steps.proofs.Count.{left_later}
@@ -10,16 +11,16 @@ use Rattle.assignment.proofs.Growing.{tree_ended, tree_passed_to, tree_skip}
 use Rattle.assignment.proofs.grow.relax_from.Goals as goal
 
 -- an edge that does not reach nearer than the nearest end is of no use
-useless : (f : Ground) (g : Growth) (position base j : ℕ) → distance g.da position ≡ g.current → base ≡ g.current + number f.price_a.now position → (edge_of f j).a ≡ position → g.best + (edge_of f j).value ≤ base + number f.price_b.now (edge_of f j).b → IsRelaxed f g j
+useless : (f : Ground) (g : Growth) (position base j : ℕ) → distance g.spread.da position ≡ g.spread.current → base ≡ g.spread.current + number f.field.price_a.now position → (edge_of f.field j).a ≡ position → g.best + (edge_of f.field j).value ≤ base + number f.field.price_b.now (edge_of f.field j).b → IsRelaxed f.field g.spread g.best j
 useless f g position base j last is same passed =
-    let near : distance g.da (edge_of f j).a ≡ g.current = ap (distance g.da) same ∙ last in
-    let price : number f.price_a.now (edge_of f j).a ≡ number f.price_a.now position = ap (number f.price_a.now) same in
+    let near : distance g.spread.da (edge_of f.field j).a ≡ g.spread.current = ap (distance g.spread.da) same ∙ last in
+    let price : number f.field.price_a.now (edge_of f.field j).a ≡ number f.field.price_a.now position = ap (number f.field.price_a.now) same in
     omega (arith, near, price, is, passed)
 
 -- the edges between two starts are of the record
-of_record : (f : Ground) (position start k : ℕ) → IsReady f → position < length f.price_a.now → ((j : ℕ) → start ≤ j → j < length f.edges.now → position ≤ (edge_of f j).a) → start ≤ k → k < number f.starts.now (position + 1) → (edge_of f k).a ≡ position
+of_record : (f : Ground) (position start k : ℕ) → IsReady f → position < length f.field.price_a.now → ((j : ℕ) → start ≤ j → j < length f.field.edges.now → position ≤ (edge_of f.field j).a) → start ≤ k → k < number f.field.starts.now (position + 1) → (edge_of f.field k).a ≡ position
 of_record f position start k ready lt above from below =
-    let next = ready.starts.starts_at (position + 1) (omega arith) in
+    let next = ready.field.starts.starts_at (position + 1) (omega arith) in
     let high = above k from (omega (arith, below, next.within)) in
     let low = next.below k below in
     omega (arith, high, low)
@@ -29,7 +30,7 @@ loop-k-init c =
     let f = c.args.ground in
     let t = c.args.tree.now in
     let n = c.next_of_use-k.ensures in
-    let fewer = left_later f.edges.now t.reached.dist_a.items c.args.position c.args.start c.next_of_use-k.result n.later in
+    let fewer = left_later f.field.edges.now t.reached.dist_a.items c.args.position c.args.start c.next_of_use-k.result n.later in
     record {
       later = n.later;
       within = n.within;
@@ -46,8 +47,8 @@ returns-then-tree-clause-tree c = tree_ended c.args.ground c.args.position c.loo
 
 pub returns-then-tree-clause-work : goal.returns-then-tree-clause-work
 returns-then-tree-clause-work c =
-    let es = c.args.ground.edges.now in
-    let next = c.requires.ready.starts.starts_at (c.args.position + 1) (omega arith) in
+    let es = c.args.ground.field.edges.now in
+    let next = c.requires.ready.field.starts.starts_at (c.args.position + 1) (omega arith) in
     let fewer = left_later es c.loop-k.tree.reached.dist_a.items c.args.position c.loop-k.k (length es) (omega (arith, c.loop-k.invariant.within, next.within)) in
     omega (arith, fewer, c.loop-k.invariant.work)
 
@@ -71,9 +72,9 @@ loop-k-preserved c =
     let n = c.next_of_use-k-in-loop-k.ensures in
     let last : distance t.reached.dist_a.items position ≡ t.reached.current = rw r.dist_a (c.loop-k.invariant.last ∙ sym r.current) in
     let tree : IsTree f position (c.loop-k.k + 1) (growth t) = rw here at r.tree in
-    let done : work f.edges.now position (c.loop-k.k + 1) t.reached ≤ work f.edges.now position c.loop-k.k c.loop-k.tree.reached = rw here at r.work in
-    let fewer = left_later f.edges.now t.reached.dist_a.items position (c.loop-k.k + 1) c.next_of_use-k-in-loop-k.result n.later in
-    let is : c.args.tree.now.reached.current + number f.price_a.now position ≡ t.reached.current + number f.price_a.now position = omega (arith, r.current, c.loop-k.invariant.current) in
+    let done : work f.field.edges.now position (c.loop-k.k + 1) t.reached ≤ work f.field.edges.now position c.loop-k.k c.loop-k.tree.reached = rw here at r.work in
+    let fewer = left_later f.field.edges.now t.reached.dist_a.items position (c.loop-k.k + 1) c.next_of_use-k-in-loop-k.result n.later in
+    let is : c.args.tree.now.reached.current + number f.field.price_a.now position ≡ t.reached.current + number f.field.price_a.now position = omega (arith, r.current, c.loop-k.invariant.current) in
     record {
       later = omega (arith, n.later, c.loop-k.invariant.later);
       within = n.within;
@@ -87,7 +88,7 @@ loop-k-preserved c =
 
 pub returns-clause-tree : goal.returns-clause-tree
 returns-clause-tree c =
-    let next = c.requires.ready.starts.starts_at (c.args.position + 1) (omega arith) in
+    let next = c.requires.ready.field.starts.starts_at (c.args.position + 1) (omega arith) in
     tree_skip c.args.ground c.args.position c.loop-k.k _ (growth c.loop-k.tree) c.loop-k.invariant.tree (λ j lt below same.
     elim (cases_lt j c.loop-k.k) [
       | inl p ↦ p
@@ -96,22 +97,22 @@ returns-clause-tree c =
 
 pub returns-clause-work : goal.returns-clause-work
 returns-clause-work c =
-    let es = c.args.ground.edges.now in
-    let next = c.requires.ready.starts.starts_at (c.args.position + 1) (omega arith) in
+    let es = c.args.ground.field.edges.now in
+    let next = c.requires.ready.field.starts.starts_at (c.args.position + 1) (omega arith) in
     let fewer = left_later es c.loop-k.tree.reached.dist_a.items c.args.position c.loop-k.k (length es) (omega (arith, c.loop-k.invariant.within, next.within)) in
     omega (arith, fewer, c.loop-k.invariant.work)
 
 pub overflow_add-base : goal.overflow_add-base
-overflow_add-base c = omega (arith, c.requires.tree.now, c.requires.tree.best_small, c.requires.ready.small_a c.args.position)
+overflow_add-base c = omega (arith, c.requires.tree.spread.now, c.requires.tree.spread.best_small, c.requires.ready.field.small_a c.args.position)
 
 pub next_of_use-k-requires-clause-within : goal.next_of_use-k-requires-clause-within
-next_of_use-k-requires-clause-within c = (c.requires.ready.starts.starts_at (c.args.position + 1) (omega arith)).within
+next_of_use-k-requires-clause-within c = (c.requires.ready.field.starts.starts_at (c.args.position + 1) (omega arith)).within
 
 pub next_of_use-k-requires-clause-base : goal.next_of_use-k-requires-clause-base
-next_of_use-k-requires-clause-base c = omega (arith, c.requires.tree.now, c.requires.tree.best_small, c.requires.ready.small_a c.args.position)
+next_of_use-k-requires-clause-base c = omega (arith, c.requires.tree.spread.now, c.requires.tree.spread.best_small, c.requires.ready.field.small_a c.args.position)
 
 pub next_of_use-k-requires-clause-best : goal.next_of_use-k-requires-clause-best
-next_of_use-k-requires-clause-best c = c.requires.tree.best_small
+next_of_use-k-requires-clause-best c = c.requires.tree.spread.best_small
 
 pub next_of_use-k-requires-clause-first : goal.next_of_use-k-requires-clause-first
 next_of_use-k-requires-clause-first c = c.requires.within
@@ -120,7 +121,7 @@ pub returns-then-tree-clause-room : goal.returns-then-tree-clause-room
 returns-then-tree-clause-room c = c.loop-k.invariant.room
 
 pub relax-requires-clause-place : goal.relax-requires-clause-place
-relax-requires-clause-place c = omega (arith, c.loop-k-test.true, (c.requires.ready.starts.starts_at (c.args.position + 1) (omega arith)).within)
+relax-requires-clause-place c = omega (arith, c.loop-k-test.true, (c.requires.ready.field.starts.starts_at (c.args.position + 1) (omega arith)).within)
 
 pub relax-requires-clause-room : goal.relax-requires-clause-room
 relax-requires-clause-room c = c.loop-k.invariant.room
@@ -131,13 +132,13 @@ relax-requires-clause-queue c =
     rw here (omega (arith, c.loop-k.invariant.work, c.loop-k.invariant.queue, c.requires.queue))
 
 pub next_of_use-k-requires-in-loop-k-clause-within : goal.next_of_use-k-requires-in-loop-k-clause-within
-next_of_use-k-requires-in-loop-k-clause-within c = (c.requires.ready.starts.starts_at (c.args.position + 1) (omega arith)).within
+next_of_use-k-requires-in-loop-k-clause-within c = (c.requires.ready.field.starts.starts_at (c.args.position + 1) (omega arith)).within
 
 pub next_of_use-k-requires-in-loop-k-clause-base : goal.next_of_use-k-requires-in-loop-k-clause-base
-next_of_use-k-requires-in-loop-k-clause-base c = omega (arith, c.requires.tree.now, c.requires.tree.best_small, c.requires.ready.small_a c.args.position)
+next_of_use-k-requires-in-loop-k-clause-base c = omega (arith, c.requires.tree.spread.now, c.requires.tree.spread.best_small, c.requires.ready.field.small_a c.args.position)
 
 pub next_of_use-k-requires-in-loop-k-clause-best : goal.next_of_use-k-requires-in-loop-k-clause-best
-next_of_use-k-requires-in-loop-k-clause-best c = c.relax.ensures.tree.best_small
+next_of_use-k-requires-in-loop-k-clause-best c = c.relax.ensures.tree.spread.best_small
 
 pub next_of_use-k-requires-in-loop-k-clause-first : goal.next_of_use-k-requires-in-loop-k-clause-first
 next_of_use-k-requires-in-loop-k-clause-first c = omega (arith, c.loop-k-test.true)

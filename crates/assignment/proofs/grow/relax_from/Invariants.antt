@@ -11,8 +11,8 @@ invariant-loop-k l = record {
   last : distance l.tree.reached.dist_a.items l.position ≡ l.tree.reached.current;
   current : l.tree.reached.current ≡ l.fn.tree.reached.current;
   tree : IsTree l.ground l.position l.k (growth l.tree);
-  room : HasRoomForRecords (length l.ground.price_a.now) (length l.ground.price_b.now) l.tree.reached;
-  work : work l.ground.edges.now l.position l.k l.tree.reached ≤ work l.ground.edges.now l.position l.start l.fn.tree.reached;
+  room : HasRoomForRecords (length l.ground.field.price_a.now) (length l.ground.field.price_b.now) l.tree.reached;
+  work : work l.ground.field.edges.now l.position l.k l.tree.reached ≤ work l.ground.field.edges.now l.position l.start l.fn.tree.reached;
   queue : l.fn.tree.reached.frontier.room ≤ l.tree.reached.frontier.room;
 }
 

@@ -1,8 +1,7 @@
-use Rattle.std.proofs.Common.{◌<◌, length, inl, inr, arith}
-use Rattle.std.proofs.lemmas.Bool.{cases_lt}
-use Rattle.assignment_steps.specs.Distances.{distance, far}
+use Rattle.std.proofs.Common.{◌<◌, length, arith}
 use Rattle.assignment.specs.Growth.{growth, with_waiting}
 use Rattle.assignment.proofs.Growing.{ends_as}
+use Rattle.assignment_steps.proofs.Arrived.{falls_within}
 use Rattle.assignment.proofs.Rounds.{tight_after, ways_after, best_within, between_after, between_kept, done_kept, free_after, root_done}
 use Rattle.assignment.proofs.round.search_from.Goals as goal
 
@@ -52,15 +51,18 @@ pub search-requires-clause-ready : goal.search-requires-clause-ready
 search-requires-clause-ready c =
     let w = c.requires.between in
     record {
-      rows_a = w.rows_a;
+      field = record {
+        rows_a = w.rows_a;
+        starts = c.requires.listed.begins;
+        root_in = c.requires.root;
+        root_free = c.requires.free;
+        in_range = w.in_range;
+        covered = w.covered;
+        small_a = w.small_a;
+        small_b = w.small_b;
+        linked = λ a k on. (let both = w.matched.of_a a k on in (both.0, both.1));
+      };
       rows_b = w.rows_b;
-      starts = c.requires.listed.begins;
-      root_in = c.requires.root;
-      root_free = c.requires.free;
-      in_range = w.in_range;
-      covered = w.covered;
-      small_a = w.small_a;
-      small_b = w.small_b;
       matched = w.matched;
     }
 
@@ -73,15 +75,12 @@ returns-in_default-clause-kept c a old none = omega (arith, old none, c.shift.en
 pub shift-requires-2-clause-end : goal.shift-requires-2-clause-end
 shift-requires-2-clause-end c =
     let grown = c.in-Some.ensures.grown in
-    omega (arith, grown.1.before_best, grown.1.tree.best_small)
+    omega (arith, grown.1.before_best, grown.1.tree.spread.best_small)
 
 pub shift-requires-2-clause-falls : goal.shift-requires-2-clause-falls
-shift-requires-2-clause-falls c a =
+shift-requires-2-clause-falls c =
     let grown = c.in-Some.ensures.grown in
-    elim (cases_lt (distance c.search.new.tree.reached.dist_a.items a) far) [
-      | inl near ↦ omega (arith, grown.1.before_best, grown.1.tree.best_of a near)
-      | inr away ↦ omega (arith, away, grown.1.before_best, grown.1.tree.best_small)
-    ]
+    falls_within _ _ _ _ _ _ grown.1.tree.spread grown.1.before_best
 
 pub turn-requires-clause-free : goal.turn-requires-clause-free
 turn-requires-clause-free c =

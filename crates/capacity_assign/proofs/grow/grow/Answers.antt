@@ -2,7 +2,8 @@ use Rattle.std.proofs.Common.{◌≡◌, ◌<◌, length, inl, inr, arith}
 use Rattle.std.proofs.lemmas.List.{get_or_read}
 use Rattle.capacity_assign.specs.Growth.{growth, places_left}
 use Rattle.assignment_steps.specs.Distances.{distance, far}
-use Rattle.capacity_assign.proofs.Growing.{grown_best, nearest_taken, tree_dropped, tree_taken, cons_first}
+use Rattle.capacity_assign.proofs.Growing.{grown_best, tree_dropped, tree_taken}
+use Rattle.assignment_steps.proofs.Spreading.{cons_first, nearest_taken}
 use Rattle.assignment_steps.proofs.Noted.{room_queued}
 use Rattle.assignment_steps.proofs.Members.{Contains-cons_cases}
 use Rattle.capacity_assign.proofs.grow.grow.Goals as goal
@@ -11,7 +12,7 @@ pub returns-then-tree-near-clause-grown : goal.returns-then-tree-near-clause-gro
 returns-then-tree-near-clause-grown c =
     let e = c.in-Some.ensures in
     let i = c.loop-near.invariant in
-    let near = nearest_taken (growth c.loop-near.tree) c.in-Some.near c.take.new.self.waiting e.inside e.least e.stays in (
+    let near = nearest_taken c.loop-near.tree.reached.frontier.waiting c.in-Some.near c.take.new.self.waiting e.inside e.least e.stays in (
       c.loop-near.tree.reached.frontier.waiting,
       rw (c.best_end.ensures.end, c.best_end.ensures.free, c.best_end.ensures.last)
           (grown_best c.args.ground (growth c.loop-near.tree) i.tree i.held (λ x h. omega (arith, near.least x h, c.if-tree-near.true))),
@@ -19,12 +20,12 @@ returns-then-tree-near-clause-grown c =
 
 pub index-requires : goal.index-requires
 index-requires c =
-    let late = c.loop-near.invariant.tree.late (c.in-Some.near.distance, c.in-Some.near.position) c.in-Some.ensures.inside in
+    let late = c.loop-near.invariant.tree.spread.late (c.in-Some.near.distance, c.in-Some.near.position) c.in-Some.ensures.inside in
     omega (arith, late.2, c.loop-near.tree.reached.dist_b.ok.0)
 
 pub index-requires-in-Some : goal.index-requires-in-Some
 index-requires-in-Some c =
-    let late = c.loop-near.invariant.tree.late (c.in-Some.near.distance, c.in-Some.near.position) c.in-Some.ensures.inside in
+    let late = c.loop-near.invariant.tree.spread.late (c.in-Some.near.distance, c.in-Some.near.position) c.in-Some.ensures.inside in
     omega (arith, late.2, c.loop-near.tree.reached.dist_b.ok.0, c.loop-near.invariant.room.of_b, c.requires.ready.rows_b)
 
 pub loop-near-preserved-then-index-near : goal.loop-near-preserved-then-index-near
@@ -32,13 +33,13 @@ loop-near-preserved-then-index-near c =
     let e = c.in-Some.ensures in
     let n = c.in-Some.near in
     let i = c.loop-near.invariant in
-    let late = i.tree.late (n.distance, n.position) e.inside in
+    let late = i.tree.spread.late (n.distance, n.position) e.inside in
     let read = get_or_read c.loop-near.tree.reached.dist_b.items n.position c.index.result.now late.2 c.index.ensures far in
     let stale : distance c.loop-near.tree.reached.dist_b.items n.position < n.distance = omega (arith, read, c.if-index-near.true) in
-    let taken = tree_taken c.args.ground 0 (length c.args.ground.edges.now) (growth c.loop-near.tree) (n.distance, n.position) c.take.new.self.waiting i.tree e.inside e.stays e.only in
+    let taken = tree_taken c.args.ground 0 (length c.args.ground.field.edges.now) (growth c.loop-near.tree) (n.distance, n.position) c.take.new.self.waiting i.tree e.inside e.stays e.only in
     record {
       held = i.held;
-      tree = tree_dropped c.args.ground 0 (length c.args.ground.edges.now) (growth c.loop-near.tree) c.take.new.self.waiting (n.distance, n.position) taken stale;
+      tree = tree_dropped c.args.ground 0 (length c.args.ground.field.edges.now) (growth c.loop-near.tree) c.take.new.self.waiting (n.distance, n.position) taken stale;
       room = room_queued _ _ c.loop-near.tree.reached c.take.new.self i.room;
       fits = omega (arith, i.fits, e.count, e.room);
       queue = omega (arith, i.queue, e.room);
@@ -50,8 +51,8 @@ returns-then-index-gt0-clause-grown c =
     let n = c.in-Some.near in
     let i = c.loop-near.invariant in
     let t = c.loop-near.tree in
-    let late = i.tree.late (n.distance, n.position) e.inside in
-    let near = nearest_taken (growth t) n c.take.new.self.waiting e.inside e.least e.stays in
+    let late = i.tree.spread.late (n.distance, n.position) e.inside in
+    let near = nearest_taken t.reached.frontier.waiting n c.take.new.self.waiting e.inside e.least e.stays in
     let read = get_or_read t.reached.dist_b.items n.position c.index.result.now late.2 c.index.ensures far in
     let exact : distance t.reached.dist_b.items n.position ≡ n.distance = omega (arith, late.1, read, c.if-index-near.false) in
     let lt : n.position < length c.args.ground.seats.now.left.items = omega (arith, late.2, t.reached.dist_b.ok.0, i.room.of_b, c.requires.ready.rows_b, c.args.ground.seats.now.left.ok.0) in
@@ -69,13 +70,13 @@ returns-then-index-gt0-clause-grown c =
 
 pub settle-requires-clause-inside : goal.settle-requires-clause-inside
 settle-requires-clause-inside c =
-    let late = c.loop-near.invariant.tree.late (c.in-Some.near.distance, c.in-Some.near.position) c.in-Some.ensures.inside in
+    let late = c.loop-near.invariant.tree.spread.late (c.in-Some.near.distance, c.in-Some.near.position) c.in-Some.ensures.inside in
     omega (arith, late.2, c.loop-near.tree.reached.dist_b.ok.0, c.loop-near.invariant.room.of_b, c.requires.ready.rows_b)
 
 pub settle-requires-clause-exact : goal.settle-requires-clause-exact
 settle-requires-clause-exact c =
     let n = c.in-Some.near in
-    let late = c.loop-near.invariant.tree.late (n.distance, n.position) c.in-Some.ensures.inside in
+    let late = c.loop-near.invariant.tree.spread.late (n.distance, n.position) c.in-Some.ensures.inside in
     let read = get_or_read c.loop-near.tree.reached.dist_b.items n.position c.index.result.now late.2 c.index.ensures far in
     omega (arith, late.1, read, c.if-index-near.false)
 
@@ -83,7 +84,7 @@ pub settle-requires-clause-nearest : goal.settle-requires-clause-nearest
 settle-requires-clause-nearest c =
     let e = c.in-Some.ensures in
     let n = c.in-Some.near in
-    let near = nearest_taken (growth c.loop-near.tree) n c.take.new.self.waiting e.inside e.least e.stays in
+    let near = nearest_taken c.loop-near.tree.reached.frontier.waiting n c.take.new.self.waiting e.inside e.least e.stays in
     record {
       inside = cons_first (n.distance, n.position) c.take.new.self.waiting;
       least = λ x h. elim (Contains-cons_cases (n.distance, n.position) c.take.new.self.waiting x h) [ inl p ↦ near.least x (e.only x p) | inr p ↦ rw p (omega arith) ];
@@ -92,7 +93,7 @@ settle-requires-clause-nearest c =
 pub settle-requires-clause-tree : goal.settle-requires-clause-tree
 settle-requires-clause-tree c =
     let e = c.in-Some.ensures in
-    tree_taken c.args.ground 0 (length c.args.ground.edges.now) (growth c.loop-near.tree) (c.in-Some.near.distance, c.in-Some.near.position) c.take.new.self.waiting c.loop-near.invariant.tree e.inside e.stays e.only
+    tree_taken c.args.ground 0 (length c.args.ground.field.edges.now) (growth c.loop-near.tree) (c.in-Some.near.distance, c.in-Some.near.position) c.take.new.self.waiting c.loop-near.invariant.tree e.inside e.stays e.only
 
 pub returns-clause-grown : goal.returns-clause-grown
 returns-clause-grown c =
@@ -136,7 +137,7 @@ pub settle-requires-clause-full : goal.settle-requires-clause-full
 settle-requires-clause-full c =
     let n = c.in-Some.near in
     let i = c.loop-near.invariant in
-    let late = i.tree.late (n.distance, n.position) c.in-Some.ensures.inside in
+    let late = i.tree.spread.late (n.distance, n.position) c.in-Some.ensures.inside in
     let left = c.args.ground.seats.now.left in
     let lt : n.position < length left.items = omega (arith, late.2, c.loop-near.tree.reached.dist_b.ok.0, i.room.of_b, c.requires.ready.rows_b, left.ok.0) in
     let read = get_or_read left.items n.position c.index-in-Some.result.now lt c.index-in-Some.ensures 0 in

@@ -17,15 +17,15 @@ returns-else-ground-k-clause-tree c =
 
 pub loop-k-init : goal.loop-k-init
 loop-k-init c =
-    let start = c.requires.ready.starts.starts_at c.args.position (omega (arith, c.requires.inside)) in
-    let k = number c.args.ground.starts.now c.args.position in
+    let start = c.requires.ready.field.starts.starts_at c.args.position (omega (arith, c.requires.inside)) in
+    let k = number c.args.ground.field.starts.now c.args.position in
     record {
       within = start.within;
       above = start.above;
       last = c.requires.last;
       tree = tree_skip c.args.ground c.args.position 0 k (growth c.args.tree.now) c.requires.tree (λ j lt low same. absurd (omega (arith, same, start.below j low)));
       room = c.requires.room;
-      work = omega (arith, left_later c.args.ground.edges.now c.args.tree.now.reached.dist_a.items c.args.position 0 k (omega arith));
+      work = omega (arith, left_later c.args.ground.field.edges.now c.args.tree.now.reached.dist_a.items c.args.position 0 k (omega arith));
       held = refl;
       current = refl;
       dist_a = refl;
@@ -34,7 +34,7 @@ loop-k-init c =
 
 pub returns-else-ground-k-clause-work : goal.returns-else-ground-k-clause-work
 returns-else-ground-k-clause-work c =
-    let fewer = left_later c.args.ground.edges.now c.loop-k.tree.reached.dist_a.items c.args.position c.loop-k.k (length c.args.ground.edges.now) (omega arith) in
+    let fewer = left_later c.args.ground.field.edges.now c.loop-k.tree.reached.dist_a.items c.args.position c.loop-k.k (length c.args.ground.field.edges.now) (omega arith) in
     omega (arith, fewer, c.loop-k.invariant.work)
 
 pub loop-k-preserved : goal.loop-k-preserved
@@ -55,12 +55,12 @@ loop-k-preserved c =
     }
 
 pub bounds-ground-position : goal.bounds-ground-position
-bounds-ground-position c = omega (arith, c.requires.inside, c.requires.ready.starts.count)
+bounds-ground-position c = omega (arith, c.requires.inside, c.requires.ready.field.starts.count)
 
 pub relax-requires : goal.relax-requires
 relax-requires c =
     let i = c.loop-k.invariant in
-    let fits : work c.args.ground.edges.now c.args.position c.loop-k.k c.loop-k.tree.reached ≤ c.loop-k.tree.reached.frontier.room = omega (arith, i.work, i.queue, c.requires.queue) in
+    let fits : work c.args.ground.field.edges.now c.args.position c.loop-k.k c.loop-k.tree.reached ≤ c.loop-k.tree.reached.frontier.room = omega (arith, i.work, i.queue, c.requires.queue) in
     record {
       place = c.loop-k-test.true;
       ready = c.requires.ready;
@@ -91,7 +91,7 @@ returns-else-ground-k-clause-dist_a c = c.loop-k.invariant.dist_a
 pub returns-after-loop-k : goal.returns-after-loop-k
 returns-after-loop-k c =
     let i = c.loop-k.invariant in
-    let all : c.loop-k.k ≡ length c.args.ground.edges.now = omega (arith, i.within, c.loop-k-test.false) in
+    let all : c.loop-k.k ≡ length c.args.ground.field.edges.now = omega (arith, i.within, c.loop-k-test.false) in
     record {
       tree = rw all at i.tree;
       room = i.room;

@@ -9,12 +9,12 @@ plant-requires c = record { ready = c.requires.ready; rising = c.requires.rising
 pub grow-requires : goal.grow-requires
 grow-requires c =
     let p = c.plant.ensures in
-    let any = left_any c.args.ground.edges.now c.plant.new.tree.reached.dist_a.items c.args.ground.root 0 in
+    let any = left_any c.args.ground.field.edges.now c.plant.new.tree.reached.dist_a.items c.args.ground.field.root 0 in
     record {
       ready = c.requires.ready;
       rising = c.requires.rising;
       held = p.held;
-      tree = tree_any c.args.ground c.args.ground.root 0 _ p.tree;
+      tree = tree_any c.args.ground c.args.ground.field.root 0 _ p.tree;
       room = p.room;
       queue = omega (arith, any, p.fits);
     }

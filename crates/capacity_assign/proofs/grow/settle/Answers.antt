@@ -57,7 +57,7 @@ join_seat-requires c =
 pub index-next-requires-in-Some : goal.index-next-requires-in-Some
 index-next-requires-in-Some c =
     let w = c.loop-next.invariant.within c.in-Some.n c.in-Some.is in
-    omega (arith, w.0, c.requires.ready.seated.room, c.requires.ready.rows_a, c.requires.ready.earliers)
+    omega (arith, w.0, c.requires.ready.seated.room, c.requires.ready.field.rows_a, c.requires.ready.earliers)
 
 pub loop-next-smaller : goal.loop-next-smaller
 loop-next-smaller c =
@@ -107,7 +107,7 @@ returns c =
     let i = c.loop-next.invariant in
     let r = i.room in
     record {
-      tree = tree_let_go c.args.ground 0 (length c.args.ground.edges.now) (growth c.loop-next.tree) c.args.near.position i.tree i.held (λ k on ends. rw c.in_default.is at i.done k on ends tt);
+      tree = tree_let_go c.args.ground 0 (length c.args.ground.field.edges.now) (growth c.loop-next.tree) c.args.near.position i.tree i.held (λ k on ends. rw c.in_default.is at i.done k on ends tt);
       held = refl;
       room = record { of_a = r.of_a; of_rank = r.of_rank; of_b = r.of_b; of_from = r.of_from; touched = r.touched; touched_room = r.touched_room; top = r.top; records = r.records; records_room = r.records_room; top_a = r.top_a; records_in = r.records_in; touched_in = r.touched_in };
       work = i.work;

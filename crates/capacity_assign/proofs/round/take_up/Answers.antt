@@ -1,7 +1,8 @@
 use Rattle.std.proofs.Common.{length, arith}
 use Rattle.capacity_assign.specs.Growth.{growth, with_waiting}
 use Rattle.capacity_assign.specs.Seating.{seating}
-use Rattle.capacity_assign.proofs.Rounds.{between_after, falls_within, free_after, last_inside, settled_after, tight_after, ways_after}
+use Rattle.assignment_steps.proofs.Arrived.{falls_within}
+use Rattle.capacity_assign.proofs.Rounds.{between_after, free_after, last_inside, settled_after, tight_after, ways_after}
 use Rattle.capacity_assign.proofs.round.take_up.Goals as goal
 
 pub search-grown-requires : goal.search-grown-requires
@@ -10,19 +11,21 @@ search-grown-requires c =
     let s = c.args.seats.now in
     record {
       ready = record {
-        rows_a = w.rows_a;
+        field = record {
+          rows_a = w.rows_a;
+          starts = c.requires.listed.begins;
+          root_in = c.requires.root;
+          root_free = c.requires.free;
+          in_range = w.in_range;
+          covered = w.covered;
+          small_a = w.small_a;
+          small_b = w.small_b;
+          linked = w.linked;
+        };
         rows_b = omega (arith, w.rows_b, s.left.ok.0);
         lasts = omega (arith, w.seated.lasts, w.rows_b, s.last.ok.0);
         seats = omega (arith, w.seated.rows, w.rows_a, s.row.ok.0);
         earliers = omega (arith, w.seated.earliers, w.rows_a, s.earlier.ok.0);
-        starts = c.requires.listed.begins;
-        root_in = c.requires.root;
-        root_free = c.requires.free;
-        in_range = w.in_range;
-        covered = w.covered;
-        small_a = w.small_a;
-        small_b = w.small_b;
-        linked = w.linked;
         seated = w.seated;
       };
       rising = c.requires.listed.rising;
@@ -35,10 +38,10 @@ shift-requires c =
     let grown = c.search-grown.ensures.grown.1 in
     record {
       room = c.search-grown.ensures.room;
-      end = omega (arith, grown.before_best, grown.tree.best_small);
-      noted_a = grown.tree.noted_a;
-      noted_b = grown.tree.noted_b;
-      falls = falls_within _ _ _ _ _ grown;
+      end = omega (arith, grown.before_best, grown.tree.spread.best_small);
+      noted_a = grown.tree.spread.noted_a;
+      noted_b = grown.tree.spread.noted_b;
+      falls = falls_within _ _ _ _ _ _ grown.tree.spread grown.before_best;
       small = c.requires.between.small_b;
     }
 

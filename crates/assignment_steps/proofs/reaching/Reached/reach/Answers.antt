@@ -1,14 +1,24 @@
-use Rattle.std.proofs.Common.{◌≡◌, ◌<◌, length, ap, inl, inr, arith}
+use Rattle.std.proofs.Common.{◌≡◌, ◌<◌, length, set, ap, inl, inr, arith}
 use Rattle.std.specs.Prelude.{vec_len}
 use Rattle.assignment_steps.specs.Distances.{far}
 use Rattle.assignment_steps.proofs.Noted.{noted_count, noted_in}
 use Rattle.assignment_steps.proofs.OneWrite.{distance-set}
 use Rattle.assignment_steps.proofs.reaching.Reached.reach.Goals as goal
 
-pub returns-clause-waits : goal.returns-clause-waits
-returns-clause-waits c =
-    let same : c.note_first.new.self.frontier.waiting ≡ c.args.self.now.frontier.waiting = ap (λ r. r.frontier.waiting) c.note_first.ensures.rest in
-    record { stays = rw (← same) c.put.ensures.stays; added = c.put.ensures.added; only = rw (← same) c.put.ensures.only }
+pub returns-clause-shortens : goal.returns-clause-shortens
+returns-clause-shortens c =
+    let rest = c.note_first.ensures.rest in
+    let same : c.note_first.new.self.frontier.waiting ≡ c.args.self.now.frontier.waiting = ap (λ r. r.frontier.waiting) rest in
+    record {
+      da = ap (λ r. r.dist_a.items) rest;
+      rank = ap (λ r. r.rank.items) rest;
+      db = ap (λ r. set r.dist_b.items c.args.b c.args.dist) rest;
+      from = ap (λ r. set r.from.items c.args.b c.args.k) rest;
+      records = ap (λ r. r.records.items) rest;
+      touched = c.note_first.ensures.touched;
+      waits = record { stays = rw (← same) c.put.ensures.stays; added = c.put.ensures.added; only = rw (← same) c.put.ensures.only };
+      current = ap (λ r. r.current) rest;
+    }
 
 pub returns-clause-room : goal.returns-clause-room
 returns-clause-room c =

@@ -1,0 +1,82 @@
+-- What the change of prices at the end of a search does, whatever it ended at.
+use Rattle.std.proofs.Common.{◌≡◌, ℕ, zero, suc, ◌+◌, ◌-◌, ◌<◌, ◌≤◌, List, length, Some, ap, inl, inr, arith}
+use Rattle.std.proofs.lemmas.Bool.{cases_lt}
+use Rattle.std.proofs.lemmas.List.{get_or_past}
+use Rattle.link_limits.specs.declared.TheConstants.{MOST_VALUE}
+use Rattle.assignment_steps.specs.declared.market.Field.{Field}
+use Rattle.assignment_steps.specs.Market.{link, number, AreTight}
+use Rattle.assignment_steps.specs.Ways.{IsHop, Leads, LeadsFrom}
+use Rattle.assignment_steps.specs.Distances.{distance, far}
+use Rattle.assignment_steps.specs.Spread.{Spread, IsSearchable, IsSpread, edge_of, rank_above}
+
+-- what has a distance is within the list
+pub distance_within : (xs : List ℕ) (i : ℕ) → distance xs i < far → i < length xs
+distance_within xs i near = elim (cases_lt i (length xs)) [ inl p ↦ p | inr p ↦ absurd (let past : distance xs i ≡ far = get_or_past xs i far p in omega (arith, past, near)) ]
+
+-- no price of a record of A is less than what its distance lacks to the end
+pub falls_within : (f : Field) (s : Spread) (best end position next : ℕ) → IsSpread f position next s best → end ≤ best → (a : ℕ) → end - distance s.da a ≤ number f.price_a.now a
+falls_within f s best end position next t before_best a = elim (cases_lt (distance s.da a) far) [
+  | inl close ↦ omega (arith, t.best_of a close, before_best)
+  | inr away ↦ omega (arith, away, before_best, t.best_small)
+]
+
+module _ (f : Field) (s : Spread) (best end : ℕ) (pa pb : List ℕ) (ready : IsSearchable f) (t : IsSpread f 0 (length f.edges.now) s best) (before_best : end ≤ best) (after : s.current ≤ end) (falls : (a : ℕ) → number pa a + (end - distance s.da a) ≡ number f.price_a.now a) (rises : (b : ℕ) → number pb b ≡ number f.price_b.now b + (end - distance s.db b)) where
+  end_small : end ≤ MOST_VALUE
+  end_small = omega (arith, before_best, t.best_small)
+
+  -- the two records of a link change alike, where that of B is no nearer than the end if that of A was not reached
+  pub tight_kept : ((k : ℕ) → link f.link_a.now (edge_of f k).a ≡ Some k → far ≤ distance s.da (edge_of f k).a → end ≤ distance s.db (edge_of f k).b) → AreTight f.edges.now f.price_a.now f.price_b.now f.link_a.now → AreTight f.edges.now pa pb f.link_a.now
+  tight_kept late tight k on = omega (arith, tight k on, falls (edge_of f k).a, rises (edge_of f k).b, alike)
+    where
+      alike : end - distance s.da (edge_of f k).a ≡ end - distance s.db (edge_of f k).b
+      alike = elim (cases_lt (distance s.da (edge_of f k).a) far) [ inl close ↦ ap (λ n. end - n) (t.same k on close) | inr away ↦ omega (arith, late k on away, away, end_small) ]
+
+  pub covered_kept : (k : ℕ) → k < length f.edges.now → (edge_of f k).value ≤ number pa (edge_of f k).a + number pb (edge_of f k).b
+  covered_kept k lt = elim (cases_lt (distance s.da (edge_of f k).a) far) [
+    | inl close ↦ omega (arith, t.relaxed k lt close (λ _. lt), ready.covered k lt, falls (edge_of f k).a, rises (edge_of f k).b, before_best)
+    | inr away ↦ omega (arith, away, ready.covered k lt, falls (edge_of f k).a, rises (edge_of f k).b, end_small)
+  ]
+
+  -- a record of B that is no farther than the end was reached by a hop that is tight afterwards
+  hop_after : (b : ℕ) → distance s.db b ≤ end → IsHop f.edges.now pa pb s.from b
+  hop_after b near =
+      let r = t.reached b (omega (arith, near, end_small)) in
+      let k = number s.from b in
+      let same : number pb (edge_of f k).b ≡ number pb b = ap (number pb) r.ends in
+      let dist : distance s.db (edge_of f k).b ≡ distance s.db b = ap (distance s.db) r.ends in
+      record {
+        reached = r.within;
+        place = r.place;
+        ends = r.ends;
+        tight = omega (arith, r.exact, ready.covered k r.place, falls (edge_of f k).a, rises (edge_of f k).b, dist, near);
+      }
+
+  pub leads_after : (n b : ℕ) → rank_above f s b < n → distance s.db b ≤ end → Leads f.edges.now pa pb f.link_a.now s.from s.rank f.root n b
+  leads_after zero b low near = absurd (omega (arith, low))
+  leads_after (suc n) b low near =
+      let r = t.reached b (omega (arith, near, end_small)) in
+      let a = (edge_of f (number s.from b)).a in (
+        hop_after b near,
+        elim (t.in_tree a r.joined) [
+          | inl e ↦ inl (e, rw e ready.root_free)
+          | inr p ↦ (let is = (ready.linked a p.0 p.1).1 in
+              let on : link f.link_a.now (edge_of f p.0).a ≡ Some p.0 = rw is p.1 in
+              let joined : distance s.da (edge_of f p.0).a < far = rw is r.joined in
+              let climbs : rank_above f s (edge_of f p.0).b < number s.rank a = rw is at (t.climbs p.0 on joined) in
+              let same : distance s.da a ≡ distance s.db (edge_of f p.0).b = rw is at (t.same p.0 on joined) in
+              let below : distance s.da a ≤ end = omega (arith, r.exact, near, ready.covered (number s.from b) r.place) in
+              inr (p.0, (p.1, climbs, leads_after n (edge_of f p.0).b (omega (arith, climbs, low)) (omega (arith, same, below)))))
+        ],
+      )
+
+  -- a record of A that stands in the tree is the root, or a way leads from the record of B that it is linked to
+  pub leads_from : (r : ℕ) → distance s.da r < far → LeadsFrom f.edges.now pa pb f.link_a.now s.from s.rank f.root r
+  leads_from r here = elim (t.in_tree r here) [
+    | inl e ↦ inl (e, rw e ready.root_free)
+    | inr p ↦ (let is = (ready.linked r p.0 p.1).1 in
+        let on : link f.link_a.now (edge_of f p.0).a ≡ Some p.0 = rw is p.1 in
+        let joined : distance s.da (edge_of f p.0).a < far = rw is here in
+        let climbs : rank_above f s (edge_of f p.0).b < number s.rank r = rw is at (t.climbs p.0 on joined) in
+        let same : distance s.da r ≡ distance s.db (edge_of f p.0).b = rw is at (t.same p.0 on joined) in
+        inr (p.0, (p.1, climbs, (suc (rank_above f s (edge_of f p.0).b), leads_after (suc (rank_above f s (edge_of f p.0).b)) (edge_of f p.0).b (omega arith) (omega (arith, same, t.low r here, after))))))
+  ]

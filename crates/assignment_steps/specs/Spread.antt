@@ -1,0 +1,115 @@
+-- An alternating tree as it grows from a record of A without a link, over candidates with positive values as edges
+-- (Edmonds and Karp 1972): what holds of all that the search has reached, whatever it may end at.
+use Rattle.std.specs.Prelude.{◌≡◌, ◌⊎◌, ℕ, ◌+◌, ◌<◌, ◌≤◌, List, [], ◌∷◌, ◌++◌, length, slice_set, Some, None, Contains}
+use Rattle.std.proofs.Common.{min}
+use Rattle.link_limits.specs.declared.TheConstants.{MOST_VALUE}
+use Rattle.assignment_steps.specs.declared.market.Edge.{Edge}
+use Rattle.assignment_steps.specs.declared.market.Field.{Field}
+use Rattle.assignment_steps.specs.declared.queue.Near.{Near}
+use Rattle.assignment_steps.specs.declared.reaching.Reached.{Reached}
+use Rattle.assignment_steps.specs.Market.{link, edge, number, AreLinked, AreStarts, IsInRange}
+use Rattle.assignment_steps.specs.Distances.{distance, far}
+use Rattle.assignment_steps.specs.Reached.{Waits, noted}
+
+-- the lists of what a search has reached
+pub record Spread : Type 0 where
+  pub da : List ℕ
+  pub rank : List ℕ
+  pub db : List ℕ
+  pub from : List ℕ
+  pub records : List ℕ
+  pub touched : List ℕ
+  pub frontier : List (ℕ × ℕ)
+  pub current : ℕ
+
+abbrev pub spread : Reached → Spread
+spread r = record {
+  da = r.dist_a.items;
+  rank = r.rank.items;
+  db = r.dist_b.items;
+  from = r.from.items;
+  records = r.records.items;
+  touched = r.touched.items;
+  frontier = r.frontier.waiting;
+  current = r.current;
+}
+
+-- the edge at a place, and what its two prices add up to
+abbrev pub edge_of : Field → ℕ → Edge
+edge_of f k = edge f.edges.now k
+
+abbrev pub paid : Field → ℕ → ℕ
+paid f k = number f.price_a.now (edge_of f k).a + number f.price_b.now (edge_of f k).b
+
+-- what a search may go over: prices that cover each edge, none of them large, links by edges, and a root without a link
+pub record IsSearchable (f : Field) : Type 0 where
+  pub rows_a : length f.link_a.now ≡ length f.price_a.now
+  pub starts : AreStarts f.edges.now (length f.price_a.now) f.starts.now
+  pub root_in : f.root < length f.price_a.now
+  pub root_free : link f.link_a.now f.root ≡ None
+  pub in_range : IsInRange f.edges.now (length f.price_a.now) (length f.price_b.now)
+  pub covered : (k : ℕ) → k < length f.edges.now → (edge_of f k).value ≤ paid f k
+  pub small_a : (a : ℕ) → number f.price_a.now a ≤ MOST_VALUE
+  pub small_b : (b : ℕ) → number f.price_b.now b ≤ MOST_VALUE
+  pub linked : AreLinked f.edges.now f.link_a.now
+
+-- the record of B of edge k is known to be as near as over this edge, or that is of no use
+abbrev pub IsRelaxed : Field → Spread → ℕ → ℕ → Type 0
+IsRelaxed f s best k = min (distance s.db (edge_of f k).b) best + (edge_of f k).value ≤ distance s.da (edge_of f k).a + paid f k
+
+-- how a record of B was reached
+pub record IsReached (f : Field) (s : Spread) (b : ℕ) : Type 0 where
+  pub within : b < length s.from
+  pub place : number s.from b < length f.edges.now
+  pub ends : (edge_of f (number s.from b)).b ≡ b
+  pub joined : distance s.da (edge_of f (number s.from b)).a < far
+  pub exact : distance s.db b + (edge_of f (number s.from b)).value ≡ distance s.da (edge_of f (number s.from b)).a + paid f (number s.from b)
+
+-- when the record joined from which a record of B was reached
+abbrev pub rank_above : Field → Spread → ℕ → ℕ
+rank_above f s b = number s.rank (edge_of f (number s.from b)).a
+
+-- all that a search has reached, where the nearest end so far is at the distance `best` and the edges of `position` from
+-- place `next` on are not relaxed yet
+pub record IsSpread (f : Field) (position next : ℕ) (s : Spread) (best : ℕ) : Type 0 where
+  pub root_here : distance s.da f.root ≡ 0
+  pub now : s.current ≤ best
+  pub best_small : best ≤ MOST_VALUE
+  pub low : (a : ℕ) → distance s.da a < far → distance s.da a ≤ s.current
+  pub best_of : (a : ℕ) → distance s.da a < far → best ≤ distance s.da a + number f.price_a.now a
+  pub relaxed : (k : ℕ) → k < length f.edges.now → distance s.da (edge_of f k).a < far → ((edge_of f k).a ≡ position → k < next) → IsRelaxed f s best k
+  pub same : (k : ℕ) → link f.link_a.now (edge_of f k).a ≡ Some k → distance s.da (edge_of f k).a < far → distance s.da (edge_of f k).a ≡ distance s.db (edge_of f k).b
+  pub late : (e : ℕ × ℕ) → Contains s.frontier e → (s.current ≤ e.0) × (distance s.db e.1 ≤ e.0) × (e.1 < length s.db)
+  pub reached : (b : ℕ) → distance s.db b < far → IsReached f s b
+  pub climbs : (k : ℕ) → link f.link_a.now (edge_of f k).a ≡ Some k → distance s.da (edge_of f k).a < far → rank_above f s (edge_of f k).b < number s.rank (edge_of f k).a
+  pub in_tree : (a : ℕ) → distance s.da a < far → (a ≡ f.root) ⊎ ((k : ℕ) × (link f.link_a.now a ≡ Some k))
+  pub ranks : (a : ℕ) → distance s.da a < far → number s.rank a < length s.records
+  pub noted_a : (a : ℕ) → distance s.da a < far → Contains s.records a
+  pub noted_b : (b : ℕ) → distance s.db b < far → Contains s.touched b
+
+-- a record of B is put at a shorter distance, by edge k
+pub record Shortens (old new : Spread) (b k dist : ℕ) : Type 0 where
+  pub da : new.da ≡ old.da
+  pub rank : new.rank ≡ old.rank
+  pub db : new.db ≡ slice_set old.db b dist
+  pub from : new.from ≡ slice_set old.from b k
+  pub records : new.records ≡ old.records
+  pub touched : new.touched ≡ noted old.db old.touched b
+  pub waits : Waits old.frontier new.frontier (dist, b)
+  pub current : new.current ≡ old.current
+
+-- a record of A joins, and is the newest
+pub record Joins (old new : Spread) (position dist : ℕ) : Type 0 where
+  pub da : new.da ≡ slice_set old.da position dist
+  pub rank : new.rank ≡ slice_set old.rank position (length old.records)
+  pub db : new.db ≡ old.db
+  pub from : new.from ≡ old.from
+  pub records : new.records ≡ old.records ++ position ∷ []
+  pub touched : new.touched ≡ old.touched
+  pub frontier : new.frontier ≡ old.frontier
+  pub current : new.current ≡ dist
+
+-- an entry that waits, before which none comes
+pub record IsNearest (waiting : List (ℕ × ℕ)) (n : Near) : Type 0 where
+  pub inside : Contains waiting (n.distance, n.position)
+  pub least : (x : ℕ × ℕ) → Contains waiting x → n.distance ≤ x.0
