@@ -1,45 +1,48 @@
 // The compared pairs of a plan.
-ghost use Rattle.std.specs.Prelude.{IfErr};
+ghost use Rattle.std.specs.Prelude.{◌≡◌, All, IfErr, Ok, length};
+ghost use Rattle.link_base.specs.Answers.{and_then};
 ghost use Rattle.link_base.specs.Fault.{IsAnswer, IsInputFault};
-ghost use Rattle.pair_decisions.specs.Pairs.{pairs_within};
+ghost use Rattle.link_report.specs.Lines.{ids_text};
+ghost use Rattle.pair_decisions.specs.Pairs.{IsInside, pairs_within};
 ghost use Rattle.link_core.specs.Pairs.{ids_of_prepared};
 ghost use Rattle.link_core.specs.Rules.{IsPreparedFor};
-ghost use Rattle.pair_walk.specs.Pairs.{compared_pairs};
-ghost use Rattle.pair_walk.specs.Rows.{AreAllReady, AreKeysHeld};
+ghost use Rattle.pair_walk.specs.Pairs.{pairs_of_rows};
 
 use crate::preparing::Prepared;
-use link_base::{Fault, PassList, Text};
-use link_report::ids_text_of;
-use pair_walk::{Pairs, WalkFault, walk_in};
+use link_base::{Fault, StdFile, Text};
+use link_report::IdsWriter;
+use pair_walk::{WalkFault, Walker};
 use settings::Plan;
 use std::alloc::Global;
 
-// The compared pairs of prepared files.
-fn compare(alloc: Global, passes: &PassList, prepared: &Prepared) -> Result<Pairs, Fault>
-    requires ready_a { AreAllReady passes.now prepared.now.files.a.records }
-    requires ready_b { AreAllReady passes.now prepared.now.files.b.records }
-    requires held_a { AreKeysHeld prepared.now.values.texts passes.now prepared.now.files.a.records }
-    requires held_b { AreKeysHeld prepared.now.values.texts passes.now prepared.now.files.b.records }
+// The ids of the pairs of the rows that a new walker gives.
+fn ids_of_rows(alloc: Global, mut walker: Walker, a: &StdFile, b: &StdFile) -> Result<Text, Fault>
+    requires given { walker.given ≡ 0 }
+    requires inside { All (IsInside (length a.now) (length b.now)) (pairs_of_rows walker.left) }
     ensures kind { IfErr result IsInputFault }
-    ensures answer { IsAnswer (pairs_within (compared_pairs prepared.now.files.a.records prepared.now.files.b.records passes.now)) result }
+    ensures answer { IsAnswer (and_then (pairs_within (pairs_of_rows walker.left)) (λ pairs. Ok (ids_text a.now b.now pairs))) result }
 {
-    match walk_in(alloc, prepared.a(), prepared.b(), passes, prepared.pool()) {
-        Ok(pairs) => Ok(pairs),
-        Err(WalkFault::TooManyPairs { limit }) => Err(Fault::TooManyPairs { limit }),
-        Err(WalkFault::NoMemory) => Err(Fault::NoMemory),
+    let mut writer = IdsWriter::new(alloc)?;
+    'rows: loop {
+        match walker.next_row(alloc) {
+            Err(WalkFault::TooManyPairs { limit }) => return Err(Fault::TooManyPairs { limit }),
+            Err(WalkFault::NoMemory) => return Err(Fault::NoMemory),
+            Ok(None) => return Ok(writer.finish()),
+            Ok(Some(row)) => writer.push_row(row.a, &row.bs, a, b)?,
+        }
     }
 }
 
 /// The ids of the compared pairs of the two prepared files of a plan: the header `id_a,id_b`, and a line for each pair of
 /// records that share a key in some blocking pass, rising by position. `TooManyPairs` comes exactly where there are more than
-/// `MOST_PAIRS` pairs.
+/// `MOST_PAIRS` pairs. The lines are written as the pairs come, and no list of the pairs is kept.
 pub fn pair_ids(alloc: Global, plan: &Plan, prepared: &Prepared) -> Result<Text, Fault>
     requires { IsPreparedFor plan.now prepared.now }
     ensures kind { IfErr result IsInputFault }
     ensures answer { IsAnswer (ids_of_prepared plan.now.passes prepared.now) result }
 {
-    match compare(alloc, &plan.passes, prepared) {
-        Ok(pairs) => Ok(ids_text_of(alloc, pairs.get(), prepared.a(), prepared.b())?),
-        Err(fault) => Err(fault),
-    }
+    let a = prepared.a();
+    let b = prepared.b();
+    let walker = Walker::new_in(alloc, a, b, &plan.passes, prepared.pool())?;
+    ids_of_rows(alloc, walker, a, b)
 }

@@ -1,17 +1,11 @@
--- Machinery of the lines of pairs: the front and the end of a line, which many lines share. No public clause names it.
-use Rattle.std.specs.Prelude.{◌≡◌, Bool, List, ℕ, [], ◌∷◌, decimal, IfSome, Option}
+-- Machinery of the lines of pairs: the end of a line, which many lines share. No public clause names it.
+use Rattle.std.specs.Prelude.{◌≡◌, Bool, List, ℕ, [], ◌∷◌, decimal}
 use Rattle.std.specs.Fmt.{signed_decimal}
 use Rattle.csv.specs.Writing.{default_writer, row_text}
-use Rattle.link_base.specs.Standard.{id_at, Record}
-use Rattle.link_report.specs.Lines.{front_of}
 use Rattle.link_report.specs.PairsText.{decision_word, verdict_word}
 use Rattle.link_report.specs.RuleText.{outcome_letters}
 use Rattle.link_report.specs.declared.ends.LineEnd.{LineEnd}
 use Rattle.link_report.specs.declared.open.PairRow.{PairRow}
-
--- a front that is kept is that of the record that it was made for
-abbrev pub IsFrontOf : List Record → Option ℕ → List ℕ → Type 0
-IsFrontOf file of front = IfSome of (λ at. front ≡ front_of (id_at file at))
 
 -- the end of the line of a pair, from the comma behind its ids on: the row of an empty field and of those that follow the ids
 abbrev pub pair_end : List Bool → PairRow → List ℕ

@@ -1,4 +1,4 @@
--- The texts of ids that are printed: lines of fields, as RFC 4180 has them (`ids_text_of`, its lone clause), and the front that the
+-- The texts of ids that are printed: lines of fields, as RFC 4180 has them (`IdsWriter`), and the front that the
 -- lines of a record share (`LineFront::set`, `PairsWriter::push_behind`).
 use Rattle.std.specs.Prelude.{ℕ, List, [], ◌∷◌, ◌++◌, codes}
 use Rattle.std.specs.List.{flat_map}
@@ -10,9 +10,17 @@ use Rattle.link_base.specs.declared.rule.PairAt.{PairAt}
 abbrev pub ids_line : List Record → List Record → PairAt → List ℕ
 ids_line a b at = row_text default_writer (id_at a at.a ∷ id_at b at.b ∷ [])
 
+-- the header of a text of ids
+abbrev pub ids_header : List ℕ
+ids_header = row_text default_writer (codes "id_a" ∷ codes "id_b" ∷ [])
+
 -- a header, and a line for each pair
 abbrev pub ids_text : List Record → List Record → List PairAt → List ℕ
-ids_text a b pairs = row_text default_writer (codes "id_a" ∷ codes "id_b" ∷ []) ++ flat_map (ids_line a b) pairs
+ids_text a b pairs = ids_header ++ flat_map (ids_line a b) pairs
+
+-- a record of A with one of B
+abbrev pub pair_with : ℕ → ℕ → PairAt
+pair_with at j = record { a = at; b = j }
 
 -- the front of a line: an id, and the comma behind it
 abbrev pub front_of : List ℕ → List ℕ

@@ -1,11 +1,9 @@
 // The front of a line, made once for all lines of a record.
-ghost use Rattle.std.specs.Prelude.{◌≡◌, ◌<◌, ◌++◌, [], OnOk, length};
-ghost use Rattle.link_base.specs.Standard.{id_at};
-ghost use Rattle.link_report.specs.LineParts.{IsFrontOf};
+ghost use Rattle.std.specs.Prelude.{◌≡◌, ◌++◌, [], OnOk};
 ghost use Rattle.link_report.specs.Lines.{front_of};
 
 use csv_rows::push_field;
-use link_base::{NoMemory, StdFile};
+use link_base::NoMemory;
 use std::alloc::Global;
 use std::marker::Model;
 
@@ -56,21 +54,4 @@ impl LineFront {
     {
         &self.text
     }
-}
-
-/// Makes a front that was made for the record `of`, where there is one, that of the record `at`.
-pub(crate) fn turn_to(
-    front: &mut LineFront,
-    of: Option<u32>,
-    at: u32,
-    file: &StdFile,
-) -> Result<(), NoMemory>
-    requires within { at < length file.now }
-    requires kept { IsFrontOf file.now of front.old }
-    ensures { OnOk result (front.new ≡ front_of (id_at file.now at)) }
-{
-    if of == Some(at) {
-        return Ok(());
-    }
-    front.set(file.id(at))
 }

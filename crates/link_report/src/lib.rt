@@ -18,7 +18,7 @@ mod rule;
 pub use first::{first_lines, head_of_report};
 pub use front::LineFront;
 pub use frontier::frontier_text;
-pub use ids::ids_text_of;
+pub use ids::IdsWriter;
 pub use links::{links_text, source_of};
 pub use open::{PairRow, open_text};
 pub use pairs::{PairsWriter, pairs_text};

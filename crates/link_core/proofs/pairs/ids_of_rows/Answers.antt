@@ -1,0 +1,42 @@
+use Rattle.std.proofs.Common.{◌<◌, ℕ, List, Ok, Option, arith, length, subst, sym}
+use Rattle.std.specs.Prelude.{All}
+use Rattle.link_report.specs.Lines.{ids_line}
+use Rattle.link_core.proofs.PairLemmas.{lines_more, row_in_a, row_in_b}
+use Rattle.pair_decisions.proofs.WalkLemmas.{count_more, rest_holds, row_holds}
+use Rattle.pair_decisions.specs.Pairs.{IsInside}
+use Rattle.pair_walk.specs.Next.{GivesRow, NextRow}
+use Rattle.pair_walk.specs.declared.walker.RowPairs.{RowPairs}
+use Rattle.link_core.proofs.pairs.ids_of_rows.Goals as goal
+
+pub push_row-requires : goal.push_row-requires
+push_row-requires c =
+    let P : Option RowPairs → Type 0 = λ row. NextRow c.rows.walker c.next_row.new.self (Ok row) in
+    let next : GivesRow c.rows.walker c.next_row.new.self c.in-Ok-Some.row = subst P c.in-Ok-Some.field-0-is c.in-Ok-Some.ensures in
+    let a = c.in-Ok-Some.row.a in
+    let bs = c.in-Ok-Some.row.bs.items in
+    let rows_a = length c.args.a.now in
+    let rows_b = length c.args.b.now in
+    let inside = row_holds (IsInside rows_a rows_b) c.rows.walker.left c.next_row.new.self.left a bs next.0 c.rows.invariant.inside in
+    let in_a : List ℕ → Type 0 = λ js. 0 < length js → a < rows_a in
+    let in_b : List ℕ → Type 0 = λ js. All (λ j. j < rows_b) js in
+    record {
+      in_a = subst in_a (sym c.deref.ensures.value) (row_in_a rows_a rows_b a bs inside);
+      in_b = subst in_b (sym c.deref.ensures.value) (row_in_b rows_a rows_b a bs inside);
+    }
+
+pub rows-preserved : goal.rows-preserved
+rows-preserved c =
+    let P : Option RowPairs → Type 0 = λ row. NextRow c.rows.walker c.next_row.new.self (Ok row) in
+    let next : GivesRow c.rows.walker c.next_row.new.self c.in-Ok-Some.row = subst P c.in-Ok-Some.field-0-is c.in-Ok-Some.ensures in
+    let old = c.rows.walker.left in
+    let rest = c.next_row.new.self.left in
+    let a = c.in-Ok-Some.row.a in
+    let bs = c.in-Ok-Some.row.bs.items in
+    let more = count_more old rest a bs next.0 in
+    let written = rw c.deref.ensures.value at c.in_ok-push_row-in-Ok-Some.ensures in
+    record {
+      given = omega (arith, next.1, more, c.rows.invariant.given);
+      few = next.2;
+      text = lines_more (ids_line c.args.a.now c.args.b.now) old rest a bs c.rows.writer c.push_row.new.self _ next.0 written c.rows.invariant.text;
+      inside = rest_holds (IsInside (length c.args.a.now) (length c.args.b.now)) old rest a bs next.0 c.rows.invariant.inside;
+    }
