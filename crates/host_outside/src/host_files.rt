@@ -1,8 +1,9 @@
 // Files of the host.
-ghost use Rattle.std.specs.Prelude.{◌≡◌, ◌+◌, ◌^◌, ◌<◌, [], ℕ, List, None, take, vec_capacity, vec_len, IfOk, IfSome};
+ghost use Rattle.std.specs.Prelude.{◌≡◌, ◌+◌, ◌^◌, ◌<◌, [], ℕ, List, None, false, true, take, vec_capacity, vec_len, IfOk, IfSome, OnOk};
 ghost use Rattle.std.specs.IoError.{error_kind};
 ghost use Rattle.std.specs.declared.io.ErrorKind.TheVariants as kind;
-ghost use Rattle.link_outside.specs.Outside.{IsLogged, IsWithinLimit, Shows};
+ghost use Rattle.link_outside.specs.Outside.{IsLogged, IsWithinLimit, LogsFailure, Shows};
+ghost use Rattle.host_outside.specs.HostFile.{IsRead, IsWritten};
 ghost use Rattle.host_outside.specs.declared.host_files.HostError.TheVariants as host;
 
 use link_base::Text;
@@ -13,9 +14,10 @@ use std::io::{Read, Write};
 use std::rt::Files;
 use std::{fs, io};
 
-/// The files of the host, named by their paths. They tell nothing of what they hold. A put writes the file
-/// `NAME.new`, has the host keep it on its disk, and renames it, so a crash leaves the old file or the new one, and a
-/// file of that name is lost. Where it ends well the host keeps the new name too.
+/// The files of the host, named by their paths. They tell nothing of what they hold: that a load has read an opened
+/// file to its end or past the limit, and that a put has written all its bytes to a file, is all that contracts see. A
+/// put writes the file `NAME.new`, has the host keep it on its disk, and renames it, so a crash leaves the old file or
+/// the new one, and a file of that name is lost. Where it ends well the host keeps the new name too.
 #[derive(Drop)]
 pub struct HostFiles<'r, R> {
     rt: &'r R,
@@ -88,7 +90,8 @@ fn read_up_to<F: Read + Drop>(alloc: Global, file: F, limit: u64) -> Result<Load
 
 fn load_file<R: Files>(alloc: Global, rt: &R, name: &str, limit: u64) -> Result<Load, HostError>
     requires { limit + 1 < 2 ^ 64 }
-    ensures { IfOk result (IsWithinLimit limit) }
+    ensures within { IfOk result (IsWithinLimit limit) }
+    ensures read { IfOk result (IsRead R.File.remaining limit) }
 {
     let file = fs::open(rt, name)?;
     read_up_to(alloc, file, limit)
@@ -103,7 +106,9 @@ fn folder_of(name: &str) -> &str {
 }
 
 // Writes a file, and has the host keep it on its disk.
-fn write_kept<R: Files>(rt: &R, name: &str, bytes: &[u8]) -> io::Result<()> {
+fn write_kept<R: Files>(rt: &R, name: &str, bytes: &[u8]) -> io::Result<()>
+    ensures { OnOk result (IsWritten R.File.contents bytes.now) }
+{
     let mut file = fs::create(rt, name)?;
     file.write_all(bytes)?;
     file.sync_all()
@@ -119,7 +124,9 @@ fn keep_names<F: OpenFile>(folder: &F) -> io::Result<()> {
 
 // Writes a file and puts it in the place of a name. The folder is opened first, so that nothing has changed where it
 // cannot be.
-fn put_as<R: Files>(rt: &R, beside: &str, name: &str, bytes: &[u8]) -> io::Result<()> {
+fn put_as<R: Files>(rt: &R, beside: &str, name: &str, bytes: &[u8]) -> io::Result<()>
+    ensures { OnOk result (IsWritten R.File.contents bytes.now) }
+{
     let folder = fs::open(rt, folder_of(name))?;
     write_kept(rt, beside, bytes)?;
     fs::rename(rt, beside, name)?;
@@ -127,7 +134,9 @@ fn put_as<R: Files>(rt: &R, beside: &str, name: &str, bytes: &[u8]) -> io::Resul
 }
 
 // Writes a file beside the name, and puts it in its place. Of one that could not be put nothing stays.
-fn put_file<R: Files>(alloc: Global, rt: &R, name: &str, bytes: &[u8]) -> Result<(), HostError> {
+fn put_file<R: Files>(alloc: Global, rt: &R, name: &str, bytes: &[u8]) -> Result<(), HostError>
+    ensures { OnOk result (IsWritten R.File.contents bytes.now) }
+{
     let beside = format!(in alloc; "{name}.new")?;
     let put = put_as(rt, beside.as_str(), name, bytes);
     if put.is_err() {
@@ -158,7 +167,12 @@ impl<'r, R: Files> Store for HostFiles<'r, R> {
 
     ghost faults = { λ s. s.faults.items };
 
-    fn load(&mut self, alloc: Global, name: &str, limit: u64) -> Result<Load, StoreError> {
+    fn load(&mut self, alloc: Global, name: &str, limit: u64) -> Result<Load, StoreError>
+        requires { limit + 1 < 2 ^ 64 }
+        ensures within { IfOk result (IsWithinLimit limit) }
+        ensures cause { LogsFailure self.old.faults.items self.new.faults.items (record { put = false; name = name.now }) result }
+        ensures read { IfOk result (IsRead R.File.remaining limit) }
+    {
         let entry = entry_of_call(alloc, &mut self.faults, false, name)?;
         match load_file(alloc, self.rt, name, limit) {
             Ok(load) => Ok(load),
@@ -166,7 +180,10 @@ impl<'r, R: Files> Store for HostFiles<'r, R> {
         }
     }
 
-    fn put(&mut self, alloc: Global, name: &str, bytes: &[u8]) -> Result<(), StoreError> {
+    fn put(&mut self, alloc: Global, name: &str, bytes: &[u8]) -> Result<(), StoreError>
+        ensures cause { LogsFailure self.old.faults.items self.new.faults.items (record { put = true; name = name.now }) result }
+        ensures written { OnOk result (IsWritten R.File.contents bytes.now) }
+    {
         let entry = entry_of_call(alloc, &mut self.faults, true, name)?;
         match put_file(alloc, self.rt, name, bytes) {
             Ok(()) => Ok(()),

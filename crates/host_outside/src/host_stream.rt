@@ -1,24 +1,27 @@
 // A stream of the host.
-ghost use Rattle.std.specs.Prelude.{◌≡◌, []};
+ghost use Rattle.std.specs.Prelude.{◌≡◌, [], OnOk};
+ghost use Rattle.std.specs.Io.KnownBytes.{Appends};
+ghost use Rattle.link_outside.specs.Outside.{HasCause};
 
 use link_outside::{Sink, SinkError};
 use std::alloc::Global;
 use std::io::Write;
 
-/// A stream of the host, which tells nothing of what it has taken, and counts its faults. A stream that takes
-/// nothing of bytes that it is handed has failed.
+/// A stream of the host, which counts its faults. What it has taken it tells where the host does: bytes that are put
+/// without a fault stand behind those before them. A stream that takes nothing of bytes that it is handed has failed.
 #[derive(Drop)]
 pub struct HostStream<W> {
-    inner: W,
+    pub stream: W,
     faults: u64,
 }
 
 impl<W> HostStream<W> {
     /// A stream that has not failed yet.
-    pub fn new(inner: W) -> HostStream<W>
-        ensures { result.faults ≡ 0 }
+    pub fn new(stream: W) -> HostStream<W>
+        ensures stream { result.stream ≡ stream }
+        ensures faults { result.faults ≡ 0 }
     {
-        HostStream { inner, faults: 0 }
+        HostStream { stream, faults: 0 }
     }
 }
 
@@ -29,8 +32,11 @@ impl<W: Write> Sink for HostStream<W> {
 
     ghost faults = { λ s. s.faults };
 
-    fn put_all(&mut self, _alloc: Global, bytes: &[u8]) -> Result<(), SinkError> {
-        if self.inner.write_all(bytes).is_ok() && self.inner.flush().is_ok() {
+    fn put_all(&mut self, _alloc: Global, bytes: &[u8]) -> Result<(), SinkError>
+        ensures cause { HasCause self.old.faults self.new.faults result }
+        ensures bytes { OnOk result (Appends (W.contents self.old.stream) (W.contents self.new.stream) bytes.now) }
+    {
+        if self.stream.write_all(bytes).is_ok() && self.stream.flush().is_ok() {
             return Ok(());
         }
         self.faults = self.faults.saturating_add(1);
