@@ -1,6 +1,6 @@
 // The code of a key: its texts as one list of bytes.
 ghost use Rattle.std.specs.Prelude.{◌≡◌, ◌++◌, IfOk, OnOk, option_map};
-ghost use Rattle.block_passes.specs.Codes.{coded_text, key_code, marked};
+ghost use Rattle.block_passes.specs.Codes.{coded_text, has_marked, is_marked, key_code, marked};
 ghost use Rattle.block_passes.specs.Keys.{AreReadable, InRange, key_in_pass};
 
 use crate::parts::part_text;
@@ -8,10 +8,24 @@ use link_base::{NoMemory, Pass, Value};
 use std::alloc::Global;
 use value_forms::bytes_of;
 
+// Whether a byte is marked.
+fn is_marked(byte: u8) -> bool
+    ensures { result ≡ is_marked byte }
+{
+    byte <= 1
+}
+
+// Whether a text has a byte that is marked.
+fn has_marked(text: &[u8]) -> bool
+    ensures { result ≡ has_marked text.now }
+{
+    text.iter().any(|byte| is_marked(*byte))
+}
+
 fn push_byte(code: &mut Vec<u8>, byte: u8) -> Result<(), NoMemory>
     ensures { OnOk result (code.new.items ≡ code.old.items ++ marked byte) }
 {
-    if byte <= 1 {
+    if is_marked(byte) {
         code.push(1)?;
         code.push(byte)?;
         return Ok(());
@@ -20,13 +34,26 @@ fn push_byte(code: &mut Vec<u8>, byte: u8) -> Result<(), NoMemory>
     Ok(())
 }
 
-/// Appends the code of a text.
-pub(crate) fn push_text(code: &mut Vec<u8>, text: &[u8]) -> Result<(), NoMemory>
+// Appends the code of a text byte by byte.
+fn push_marked(code: &mut Vec<u8>, text: &[u8]) -> Result<(), NoMemory>
     ensures { OnOk result (code.new.items ≡ code.old.items ++ coded_text text.now) }
 {
     for byte in text {
         push_byte(code, *byte)?;
     }
+    code.push(0)?;
+    Ok(())
+}
+
+/// Appends the code of a text. One without a byte that is marked is copied whole.
+pub(crate) fn push_text(code: &mut Vec<u8>, text: &[u8]) -> Result<(), NoMemory>
+    ensures { OnOk result (code.new.items ≡ code.old.items ++ coded_text text.now) }
+{
+    if has_marked(text) {
+        return push_marked(code, text);
+    }
+    code.reserve(text.len().saturating_add(1))?;
+    code.extend_from_slice(text)?;
     code.push(0)?;
     Ok(())
 }

@@ -1,5 +1,5 @@
 // The characters of a name, cleaned.
-ghost use Rattle.std.specs.Prelude.{◌≡◌, ◌<◌, ◌++◌, ◌∷◌, [], IsTrue, OnOk, IfOk, chars, encode_utf8_all};
+ghost use Rattle.std.specs.Prelude.{◌≡◌, ◌<◌, ◌≤◌, ◌++◌, ◌∷◌, [], IsTrue, OnOk, IfOk, chars, encode_utf8_all, length};
 ghost use Rattle.std.specs.List.{flat_map};
 ghost use Rattle.std.specs.Option.{option_to_list};
 ghost use Rattle.std.specs.Str.{IsAscii, IsUtf8};
@@ -7,11 +7,15 @@ ghost use Rattle.std.specs.String.{string_bytes};
 ghost use Rattle.unicode_normalization.specs.Forms.{nfd};
 ghost use Rattle.standardise.specs.Cleaning.{ascii_cleaned, cleaned_char, in_apostrophes, in_capitals, is_combining, letter_of, spaced, stays_in_words, with_spaces, without_apostrophes};
 ghost use Rattle.standardise.specs.Names.{characters_of};
+ghost use Rattle.standardise.specs.declared.cleaning.TheConstants.{MOST_SHORT};
 
-use link_base::NoMemory;
+use link_base::{NoMemory, Text};
 use std::alloc::Global;
 use ucd_category::{GeneralCategory, GeneralCategoryGroup};
 use unicode_normalization::slice::extend_nfd;
+
+// The most bytes of a text that is cleaned in no memory of its own.
+const MOST_SHORT: usize = 22;
 
 fn is_mark(c: char) -> bool
     ensures { result ≡ is_combining c }
@@ -142,6 +146,33 @@ fn clean_ascii(alloc: Global, text: &[u8]) -> Result<Vec<u8>, NoMemory>
     Ok(out)
 }
 
+// The same of a short ASCII text.
+fn clean_short(alloc: Global, text: &[u8]) -> Result<Text, NoMemory>
+    requires { length text.now ≤ MOST_SHORT }
+    ensures { IfOk result (λ v. v ≡ flat_map (λ c. option_to_list (ascii_cleaned c)) text.now) }
+{
+    let mut room = [0; MOST_SHORT];
+    let mut count = 0;
+    for byte in text {
+        if let Some(cleaned) = cleaned_ascii(*byte) {
+            room[count] = cleaned;
+            count += 1;
+        }
+    }
+    Text::new(alloc, &room[..count])
+}
+
+// The same of an ASCII text. A short one is cleaned in no memory of its own.
+fn clean_plain(alloc: Global, text: &[u8]) -> Result<Text, NoMemory>
+    ensures { IfOk result (λ v. v ≡ flat_map (λ c. option_to_list (ascii_cleaned c)) text.now) }
+{
+    if text.len() <= MOST_SHORT {
+        return clean_short(alloc, text);
+    }
+    let cleaned = clean_ascii(alloc, text)?;
+    Ok(Text::of(cleaned))
+}
+
 // Whether a text is ASCII. Names are short, so that byte by byte is fastest.
 fn is_plain(text: &[u8]) -> bool
     ensures { IsTrue result → IsAscii text.now }
@@ -156,15 +187,15 @@ fn is_plain(text: &[u8]) -> bool
 
 /// The text after the canonical decomposition and the five steps behind it. An ASCII text has none of
 /// what the decomposition and the general categories decide.
-pub(crate) fn clean(alloc: Global, text: &str) -> Result<Vec<u8>, NoMemory>
-    ensures text { IfOk result (λ v. v.items ≡ encode_utf8_all (characters_of text.now)) }
-    ensures utf8 { IfOk result (λ v. IsUtf8 v.items) }
+pub(crate) fn clean(alloc: Global, text: &str) -> Result<Text, NoMemory>
+    ensures text { IfOk result (λ v. v ≡ encode_utf8_all (characters_of text.now)) }
+    ensures utf8 { IfOk result (λ v. IsUtf8 v) }
 {
     let bytes = text.as_bytes();
     if is_plain(bytes) {
-        let cleaned = clean_ascii(alloc, bytes)?;
+        let cleaned = clean_plain(alloc, bytes)?;
         return Ok(cleaned);
     }
     let cleaned = clean_chars(alloc, text)?;
-    Ok(cleaned.into_bytes())
+    Ok(Text::of(cleaned.into_bytes()))
 }

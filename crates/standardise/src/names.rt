@@ -29,10 +29,10 @@ pub fn std_name(alloc: Global, text: &str, tables: &NameTables) -> Result<Value,
         return Ok(Value::Absent);
     }
     let cleaned = clean(alloc, name)?;
-    if is_one_word(&cleaned) {
+    if is_one_word(cleaned.bytes()) {
         return standard_word(alloc, cleaned, tables.pairs());
     }
-    let kept = tables.untitled(&cleaned);
+    let kept = tables.untitled(cleaned.bytes());
     standard_words(alloc, kept, tables.pairs())
 }
 
@@ -48,23 +48,23 @@ pub fn std_place(alloc: Global, text: &str, tables: &PlaceTables) -> Result<Valu
         return Ok(Value::Absent);
     }
     let cleaned = clean(alloc, place)?;
-    if is_one_word(&cleaned) {
+    if is_one_word(cleaned.bytes()) {
         return standard_word(alloc, cleaned, tables.pairs());
     }
-    standard_words(alloc, &cleaned, tables.pairs())
+    standard_words(alloc, cleaned.bytes(), tables.pairs())
 }
 
 // A text that is one word, replaced. A word that stays is not copied.
-fn standard_word(alloc: Global, word: Vec<u8>, pairs: &[WordPair]) -> Result<Value, NoMemory>
-    requires one { words word.items ≡ word.items ∷ [] }
-    requires utf8 { IsUtf8 word.items }
+fn standard_word(alloc: Global, word: Text, pairs: &[WordPair]) -> Result<Value, NoMemory>
+    requires one { words word ≡ word ∷ [] }
+    requires utf8 { IsUtf8 word }
     requires pairs { AreWordPairs pairs.now }
-    ensures value { IfOk result (λ v. v ≡ word_or_absent pairs.now (words word.items)) }
+    ensures value { IfOk result (λ v. v ≡ word_or_absent pairs.now (words word)) }
     ensures valid { IfOk result (λ v. IsValid v) }
 {
-    match found(pairs, word.as_slice()) {
+    match found(pairs, word.bytes()) {
         Some(to) => Ok(Value::Word(Text::new(alloc, to)?)),
-        None => Ok(Value::Word(Text::of(word))),
+        None => Ok(Value::Word(word)),
     }
 }
 

@@ -1,9 +1,12 @@
-use Rattle.std.proofs.Common.{◌++◌, refl}
-use Rattle.block_passes.specs.Codes.{coded_text, marked}
-use Rattle.block_passes.proofs.StepLemmas.{joined_more}
+use Rattle.std.proofs.Common.{◌++◌, ◌∙◌, [], ◌∷◌, ap, append_assoc, sym}
+use Rattle.block_passes.proofs.CodeLemmas.{unmarked}
 use Rattle.block_passes.proofs.codes.push_text.Goals as goal
 
-pub loop-byte-preserved : goal.loop-byte-preserved
-loop-byte-preserved c =
+pub returns : goal.returns
+returns c =
+    let code = c.args.code.now.items in
     let text = c.args.text.now in
-    joined_more marked coded_text (λ b bs. refl) text c.loop-byte.byte-index _ c.loop-byte.code.items c.push_byte.new.code.items (c.args.code.now.items ++ coded_text text) c.loop-byte-test.true c.loop-byte.invariant c.in_ok-push_byte.ensures
+    c.in_ok-push.ensures.items
+    ∙ ap (λ t. t ++ 0 ∷ []) (c.in_ok-extend_from_slice.ensures.items ∙ ap (λ t. t ++ text) c.in_ok-reserve.ensures.items)
+    ∙ append_assoc code text (0 ∷ [])
+    ∙ ap (λ t. code ++ t) (sym (unmarked text (sym c.has_marked.ensures ∙ c.if-has_marked.false)))

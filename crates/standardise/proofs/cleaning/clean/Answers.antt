@@ -1,4 +1,4 @@
-use Rattle.std.proofs.Common.{◌≡◌, subst, ap, sym, ◌∙◌}
+use Rattle.std.proofs.Common.{◌≡◌, List, ℕ, subst, ap, sym, ◌∙◌}
 use Rattle.std.specs.List.{flat_map}
 use Rattle.std.specs.Option.{option_to_list}
 use Rattle.std.specs.Str.{IsAscii, IsUtf8}
@@ -16,8 +16,10 @@ pub returns-then-is_plain-clause-utf8 : goal.returns-then-is_plain-clause-utf8
 returns-then-is_plain-clause-utf8 c =
     let text = c.args.text.now in
     let plain : IsAscii text = subst IsAscii c.as_bytes-bytes.ensures.value (c.is_plain.ensures c.if-is_plain.true) in
-    let is : c.in_ok-cleaned.cleaned.items ≡ flat_map (λ b. option_to_list (ascii_cleaned b)) text = c.in_ok-cleaned.ensures ∙ ap (flat_map (λ b. option_to_list (ascii_cleaned b))) c.as_bytes-bytes.ensures.value in
-    subst IsUtf8 (sym is) (IsUtf8-from_ascii (flat_map (λ b. option_to_list (ascii_cleaned b)) text) (ascii_stays text plain))
+    let is : c.in_ok-cleaned.cleaned ≡ flat_map (λ b. option_to_list (ascii_cleaned b)) text = c.in_ok-cleaned.ensures ∙ ap (flat_map (λ b. option_to_list (ascii_cleaned b))) c.as_bytes-bytes.ensures.value in
+    subst (λ (v : List ℕ). IsUtf8 v) (sym is) (IsUtf8-from_ascii (flat_map (λ b. option_to_list (ascii_cleaned b)) text) (ascii_stays text plain))
 
 pub returns-clause-utf8 : goal.returns-clause-utf8
-returns-clause-utf8 c = subst (λ v. IsUtf8 v.items) (sym c.into_bytes.ensures.value) (IsUtf8-string_bytes c.in_ok-cleaned-2.cleaned)
+returns-clause-utf8 c =
+    let bytes = c.of.ensures ∙ ap (λ v. v.items) c.into_bytes.ensures.value in
+    subst (λ (v : List ℕ). IsUtf8 v) (sym bytes) (IsUtf8-string_bytes c.in_ok-cleaned-2.cleaned)

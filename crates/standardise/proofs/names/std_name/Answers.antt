@@ -14,21 +14,21 @@ returns-then-is_missing-clause-value c =
 pub returns-then-is_one_word-clause-value : goal.returns-then-is_one_word-clause-value
 returns-then-is_one_word-clause-value c =
     let t = c.args.tables.now in
-    let cleaned = c.in_ok-cleaned.cleaned.items in
+    let cleaned = c.in_ok-cleaned.cleaned in
     let trimmed : c.trim-name.result.now ≡ trim c.args.text.now = search (rules, c.trim-name.ensures) in
     let mark : c.is_missing.result ≡ contains_text c.args.tables.now.marks (trim c.args.text.now) = c.is_missing.ensures ∙ ap (contains_text c.args.tables.now.marks) (c.as_bytes.ensures.value ∙ trimmed) in
     let all = cleaned_words c.args.text.now cleaned (rw trimmed at c.in_ok-cleaned.ensures.text) in
-    let one = rw c.deref.ensures.value at (c.is_one_word.ensures c.if-is_one_word.true) in
+    let one = rw c.bytes.ensures at (c.is_one_word.ensures c.if-is_one_word.true) in
     let told = rw c.pairs.ensures.all at c.standard_word.ensures.value in
     name_of_words t c.args.text.now (words cleaned) c.is_missing.result c.standard_word.result mark c.if-is_missing.false (one_word_kept t.titles t.suffixes cleaned _ one all) told
 
 pub returns-clause-value : goal.returns-clause-value
 returns-clause-value c =
     let t = c.args.tables.now in
-    let cleaned = c.in_ok-cleaned.cleaned.items in
+    let cleaned = c.in_ok-cleaned.cleaned in
     let trimmed : c.trim-name.result.now ≡ trim c.args.text.now = search (rules, c.trim-name.ensures) in
     let mark : c.is_missing.result ≡ contains_text c.args.tables.now.marks (trim c.args.text.now) = c.is_missing.ensures ∙ ap (contains_text c.args.tables.now.marks) (c.as_bytes.ensures.value ∙ trimmed) in
     let all = cleaned_words c.args.text.now cleaned (rw trimmed at c.in_ok-cleaned.ensures.text) in
-    let kept = rw (c.deref-2.ensures.value, all) at c.untitled-kept.ensures.words in
+    let kept = rw (c.bytes-2.ensures, all) at c.untitled-kept.ensures.words in
     let told = rw c.pairs-2.ensures.all at c.standard_words.ensures.value in
     name_of_words t c.args.text.now (words c.untitled-kept.result.now) c.is_missing.result c.standard_words.result mark c.if-is_missing.false kept told

@@ -13,7 +13,7 @@ returns-then-is_missing-clause-value c =
 
 pub returns-then-is_one_word-clause-value : goal.returns-then-is_one_word-clause-value
 returns-then-is_one_word-clause-value c =
-    let cleaned = c.in_ok-cleaned.cleaned.items in
+    let cleaned = c.in_ok-cleaned.cleaned in
     let trimmed : c.trim-place.result.now ≡ trim c.args.text.now = search (rules, c.trim-place.ensures) in
     let mark : c.is_missing.result ≡ contains_text c.args.tables.now.marks (trim c.args.text.now) = c.is_missing.ensures ∙ ap (contains_text c.args.tables.now.marks) (c.as_bytes.ensures.value ∙ trimmed) in
     let all = cleaned_words c.args.text.now cleaned (rw trimmed at c.in_ok-cleaned.ensures.text) in
@@ -22,9 +22,9 @@ returns-then-is_one_word-clause-value c =
 
 pub returns-clause-value : goal.returns-clause-value
 returns-clause-value c =
-    let cleaned = c.in_ok-cleaned.cleaned.items in
+    let cleaned = c.in_ok-cleaned.cleaned in
     let trimmed : c.trim-place.result.now ≡ trim c.args.text.now = search (rules, c.trim-place.ensures) in
     let mark : c.is_missing.result ≡ contains_text c.args.tables.now.marks (trim c.args.text.now) = c.is_missing.ensures ∙ ap (contains_text c.args.tables.now.marks) (c.as_bytes.ensures.value ∙ trimmed) in
     let all = cleaned_words c.args.text.now cleaned (rw trimmed at c.in_ok-cleaned.ensures.text) in
-    let told = rw (c.pairs-2.ensures.all, c.deref-2.ensures.value) at c.standard_words.ensures.value in
+    let told = rw (c.pairs-2.ensures.all, c.bytes-2.ensures) at c.standard_words.ensures.value in
     place_of_words c.args.tables.now c.args.text.now (words cleaned) c.is_missing.result c.standard_words.result mark c.if-is_missing.false all told
