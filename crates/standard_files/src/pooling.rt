@@ -55,7 +55,7 @@ fn take_values(
     ensures b { IfOk result (λ t. (final : List (List ℕ)) → Extends pool.new.texts final → sides_of_file final kinds.now b.now ≡ t.1.rows) }
 {
     let ids = take_texts(alloc, pool, a, b)?;
-    let tables = take_canons(alloc, pool, kinds, a, b, &ids)?;
+    let tables = take_canons(alloc, pool, kinds, a, b, ids)?;
     take_keys(alloc, pool, kinds, passes, a, b)?;
     Ok(tables)
 }

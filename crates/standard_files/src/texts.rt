@@ -5,7 +5,7 @@ ghost use Rattle.standard_files.specs.Known.{AreTextIds, IsIdOf, file_values};
 ghost use Rattle.standard_files.specs.Taking.{TakesTexts};
 ghost use Rattle.standard_files.specs.Texts.{both_texts, file_texts, standard_text, texts_of_row};
 
-use link_base::{StdFile, Value};
+use link_base::{NoMemory, StdFile, Value};
 use std::alloc::Global;
 use value_pool::{Id, Pool, PoolFault};
 
@@ -58,13 +58,25 @@ fn take_row(
     Ok(())
 }
 
+// Room for an id of each value of a file, where each record has as many values as the first.
+fn room_for_ids(alloc: Global, file: &StdFile) -> Result<Vec<Option<Id>>, NoMemory>
+    ensures { IfOk result (λ ids. ids.items ≡ []) }
+{
+    let rows = file.rows() as usize;
+    let width = if rows == 0 { 0 } else { file.row(0).len() };
+    Ok(Vec::with_capacity(alloc, rows.saturating_mul(width))?)
+}
+
 // Takes the standard texts of a file, and gives their ids.
 fn take_file(alloc: Global, pool: &mut Pool, file: &StdFile) -> Result<Vec<Option<Id>>, PoolFault>
     ensures limit { pool.new.limit ≡ pool.old.limit }
     ensures texts { TakesTexts pool.old pool.new (file_texts texts_of_row file.now) result }
     ensures ids { IfOk result (λ ids. AreTextIds pool.new.texts (file_values file.now) ids.items) }
 {
-    let mut ids = Vec::new(alloc);
+    let mut ids = match room_for_ids(alloc, file) {
+        Ok(ids) => ids,
+        Err(NoMemory) => return Err(PoolFault::NoMemory),
+    };
     for at in 0..file.rows() {
         take_row(alloc, pool, file.row(at), &mut ids)?;
     }
