@@ -14,6 +14,7 @@ use Rattle.pair_decisions.specs.Decisions.{AreDecisionsOn, count_with, DecidedVi
 use Rattle.pair_decisions.specs.PairRule.{AreCellsOf, AreSidesFor, PairRuleView, side_rule, SideRule}
 use Rattle.pair_decisions.specs.Pairs.{IsInside, pairs_within}
 use Rattle.pair_walk.specs.Pairs.{compared_pairs}
+use Rattle.pair_walk.specs.Rows.{all_rows}
 use Rattle.patterns.specs.Shapes.{pattern_count_by}
 use Rattle.pair_decisions.specs.Comparators.{rares_of}
 use Rattle.pair_decisions.specs.PlanRule.{IsRuleOf}
@@ -29,6 +30,7 @@ pub record IsTold (plan : Plan) (rule : PairRuleView) (result : Result DecidedVi
   pub refused : IfErr result (Refuses (pairs_within (compared_pairs a b plan.passes)))
   pub within : IfOk result (λ _. pairs_within (compared_pairs a b plan.passes) ≡ Ok (compared_pairs a b plan.passes))
   pub rule_is : IfOk result (λ d. d.rule ≡ rule)
+  pub rows : IfOk result (λ d. d.rows ≡ all_rows a b plan.passes)
   pub counts : IfOk result (λ d. (kind : Decision) → count_with d kind ≡ length (pairs_with kind (side_rule rule) rows_a rows_b (compared_pairs a b plan.passes)))
   pub links_inside : IfOk result (λ d. All (IsInside (length a) (length b)) d.links)
   pub possible_inside : IfOk result (λ d. All (IsInside (length a) (length b)) d.possible)
@@ -75,6 +77,7 @@ module _ (plan : Plan) (p : PreparedView) (shares : List PlainShares) (rule : Pa
   pub decided_for_plan : (result : Result DecidedView Fault) → AreCellsOf (pattern_count_by (rares_of plan.fields)) rule.cells → Told result → IfOk result (IsDecidedFor plan p)
   decided_for_plan (Err f) cells told = tt
   decided_for_plan (Ok d) cells told = record {
+    rows = told.rows;
     decisions = told.decisions;
     counts = λ kind. told.counts kind ∙ ap (λ (r : PairRuleView). length (pairs_with kind (side_rule r) p.values.a.rows p.values.b.rows (compared_in plan p))) (sym told.rule_is);
     cells = subst (λ (r : PairRuleView). AreCellsOf (pattern_count_by (rares_of plan.fields)) r.cells) (sym told.rule_is) cells;

@@ -11,16 +11,21 @@ ghost use Rattle.pair_walk.specs.Pairs.{pairs_of_rows};
 use crate::preparing::Prepared;
 use link_base::{Fault, StdFile, Text};
 use link_report::IdsWriter;
-use pair_walk::{WalkFault, Walker};
+use pair_walk::{Blocks, WalkFault, Walker};
 use settings::Plan;
 use std::alloc::Global;
 
 // The ids of the pairs of the rows that a new walker gives.
-fn ids_of_rows(alloc: Global, mut walker: Walker, a: &StdFile, b: &StdFile) -> Result<Text, Fault>
+fn ids_of_rows(
+    alloc: Global,
+    mut walker: Walker<'_>,
+    a: &StdFile,
+    b: &StdFile,
+) -> Result<Text, Fault>
     requires given { walker.given ≡ 0 }
     requires inside { All (IsInside (length a.now) (length b.now)) (pairs_of_rows walker.left) }
     ensures kind { IfErr result IsInputFault }
-    ensures answer { IsAnswer (and_then (pairs_within (pairs_of_rows walker.left)) (λ pairs. Ok (ids_text a.now b.now pairs))) result }
+    ensures answer { IsAnswer (and_then (pairs_within (pairs_of_rows walker.entry.left)) (λ pairs. Ok (ids_text a.now b.now pairs))) result }
 {
     let mut writer = IdsWriter::new(alloc)?;
     'rows: loop {
@@ -43,6 +48,6 @@ pub fn pair_ids(alloc: Global, plan: &Plan, prepared: &Prepared) -> Result<Text,
 {
     let a = prepared.a();
     let b = prepared.b();
-    let walker = Walker::new_in(alloc, a, b, &plan.passes, prepared.pool())?;
-    ids_of_rows(alloc, walker, a, b)
+    let blocks = Blocks::new_in(alloc, a, b, &plan.passes, prepared.pool())?;
+    ids_of_rows(alloc, blocks.walk(), a, b)
 }

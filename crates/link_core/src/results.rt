@@ -108,11 +108,10 @@ fn pairs_of(
     pair_lines(
         alloc,
         plan,
-        decided.rule(),
+        decided,
         journal,
         prepared.a(),
         prepared.b(),
-        prepared.pool(),
         prepared.sides(FileRole::A),
         prepared.sides(FileRole::B),
     )

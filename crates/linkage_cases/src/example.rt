@@ -8,7 +8,7 @@ ghost use Rattle.settings.specs.Ranges.{KeepsRanges};
 use crate::buffer::{Buffer, Fault};
 use crate::files::Files;
 use link_core::{Prepared, prepare};
-use pair_walk::{RowPairs, Walker};
+use pair_walk::{Blocks, RowPairs, Walker};
 use settings::{Plan, read_settings};
 use std::alloc::Global;
 
@@ -47,7 +47,7 @@ fn show_row(alloc: Global, page: &mut Buffer, row: &RowPairs) {
 }
 
 // Shows the partners of each record that is left, and that there are no more.
-fn show_rows(alloc: Global, page: &mut Buffer, walker: &mut Walker) {
+fn show_rows(alloc: Global, page: &mut Buffer, walker: &mut Walker<'_>) {
     for _ in 0..8 {
         match walker.next_row(alloc) {
             Ok(Some(row)) => show_row(alloc, page, &row),
@@ -61,11 +61,11 @@ fn show_rows(alloc: Global, page: &mut Buffer, walker: &mut Walker) {
 fn show_partners(alloc: Global, page: &mut Buffer, plan: &Plan, files: &Prepared)
     requires ready { IsPreparedFor plan.now files.now }
 {
-    match Walker::new_in(alloc, files.a(), files.b(), &plan.passes, files.pool()) {
+    match Blocks::new_in(alloc, files.a(), files.b(), &plan.passes, files.pool()) {
         Err(_) => page.fail(Fault::NotShown),
-        Ok(mut walker) => {
-            show_rows(alloc, page, &mut walker);
-            drop(walker);
+        Ok(blocks) => {
+            show_rows(alloc, page, &mut blocks.walk());
+            drop(blocks);
         }
     }
 }

@@ -8,24 +8,25 @@ ghost use Rattle.pair_decisions.specs.Decisions.{AreDecisionsOn, count_with, pai
 ghost use Rattle.pair_decisions.specs.PairRule.{AreSidesFor, side_rule};
 ghost use Rattle.pair_decisions.specs.Pairs.{IsInside, pairs_within};
 ghost use Rattle.pair_walk.specs.Pairs.{compared_pairs};
-ghost use Rattle.pair_walk.specs.Rows.{AreAllReady, AreKeysHeld};
+ghost use Rattle.pair_walk.specs.Rows.{AreAllReady, AreKeysHeld, all_rows};
 
 use crate::pair_rule::PairRule;
 use crate::walking::decide_rows;
 use comparators::IdTable;
 use link_base::{Decision, Fault, NoMemory, PairAt, StdFile};
 use link_limits::MOST_ROWS;
-use pair_walk::{WalkFault, Walker};
+use pair_walk::{Blocks, WalkFault, Walker};
 use settings::Plan;
 use std::alloc::Global;
 use std::marker::Model;
 use value_pool::Pool;
 
-/// The decisions of a rule on all compared pairs of two files. Contracts see the rule, how many pairs were compared, and the
-/// rising lists of the pairs that are links and possible links.
+/// The decisions of a rule on all compared pairs of two files. Contracts see the rule, the rows of the blocks, how many pairs
+/// were compared, and the rising lists of the pairs that are links and possible links.
 #[derive(Drop)]
 pub struct Decided {
     rule: PairRule,
+    blocks: Blocks,
     compared: u32,
     links: Vec<PairAt>,
     possible: Vec<PairAt>,
@@ -37,7 +38,7 @@ impl Model for Decided {
 
     ghost Value = { DecidedView };
 
-    ghost view = { λ d. record { rule = d.rule; compared = d.compared; links = d.links.items; possible = d.possible.items } };
+    ghost view = { λ d. record { rule = d.rule; rows = d.blocks; compared = d.compared; links = d.links.items; possible = d.possible.items } };
 
     ghost invariant = { λ d. length d.links.items + length d.possible.items ≤ d.compared };
 }
@@ -48,6 +49,14 @@ impl Decided {
         ensures { result.now ≡ self.now.rule }
     {
         &self.rule
+    }
+
+    /// A walk over the blocks from the first row on.
+    pub(crate) fn walk(&self) -> Walker<'_>
+        ensures left { result.left ≡ self.now.rows }
+        ensures given { result.given ≡ 0 }
+    {
+        self.blocks.walk()
     }
 
     /// The links, rising by the positions in A and then in B.
@@ -113,6 +122,7 @@ pub fn decide_pairs(
     ensures refused { IfErr result (Refuses (pairs_within (compared_pairs a.now b.now plan.now.passes))) }
     ensures within { IfOk result (λ _. pairs_within (compared_pairs a.now b.now plan.now.passes) ≡ Ok (compared_pairs a.now b.now plan.now.passes)) }
     ensures rule { IfOk result (λ d. d.rule ≡ rule) }
+    ensures rows { IfOk result (λ d. d.rows ≡ all_rows a.now b.now plan.now.passes) }
     ensures compared { IfOk result (λ d. d.compared ≡ length (compared_pairs a.now b.now plan.now.passes)) }
     ensures links { IfOk result (λ d. d.links ≡ pairs_with Link (side_rule rule) sides_a.now.rows sides_b.now.rows (compared_pairs a.now b.now plan.now.passes)) }
     ensures possible { IfOk result (λ d. d.possible ≡ pairs_with Possible (side_rule rule) sides_a.now.rows sides_b.now.rows (compared_pairs a.now b.now plan.now.passes)) }
@@ -123,13 +133,14 @@ pub fn decide_pairs(
     ensures possible_rise { IfOk result (λ d. AllPairs IsPairBefore d.possible) }
     ensures decisions { IfOk result (AreDecisionsOn sides_a.now.rows sides_b.now.rows (compared_pairs a.now b.now plan.now.passes)) }
 {
-    let walker = match Walker::new_in(alloc, a, b, &plan.passes, pool) {
-        Ok(walker) => walker,
+    let blocks = match Blocks::new_in(alloc, a, b, &plan.passes, pool) {
+        Ok(blocks) => blocks,
         Err(NoMemory) => return Err(Fault::NoMemory),
     };
-    match decide_rows(alloc, walker, &rule, sides_a, sides_b) {
+    match decide_rows(alloc, blocks.walk(), &rule, sides_a, sides_b) {
         Ok(found) => Ok(Decided {
             rule,
+            blocks,
             compared: found.compared,
             links: found.links,
             possible: found.possible,

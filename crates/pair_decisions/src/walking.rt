@@ -92,7 +92,7 @@ fn decide_row(
 /// The decisions on the pairs of the rows that a new walker gives.
 pub(crate) fn decide_rows(
     alloc: Global,
-    mut walker: Walker,
+    mut walker: Walker<'_>,
     rule: &PairRule,
     sides_a: &IdTable,
     sides_b: &IdTable,
@@ -103,11 +103,11 @@ pub(crate) fn decide_rows(
     requires sides_a { All (AreSidesFor rule.now) sides_a.now.rows }
     requires sides_b { All (AreSidesFor rule.now) sides_b.now.rows }
     requires inside { All (IsInside (length sides_a.now.rows) (length sides_b.now.rows)) (pairs_of_rows walker.left) }
-    ensures refused { IfErr result (RefusesPairs (pairs_of_rows walker.left)) }
-    ensures few { IfOk result (λ _. length (pairs_of_rows walker.left) ≤ MOST_PAIRS) }
-    ensures compared { IfOk result (λ found. found.compared ≡ length (pairs_of_rows walker.left)) }
-    ensures links { IfOk result (λ found. found.links.items ≡ pairs_with Link (side_rule rule.now) sides_a.now.rows sides_b.now.rows (pairs_of_rows walker.left)) }
-    ensures possible { IfOk result (λ found. found.possible.items ≡ pairs_with Possible (side_rule rule.now) sides_a.now.rows sides_b.now.rows (pairs_of_rows walker.left)) }
+    ensures refused { IfErr result (RefusesPairs (pairs_of_rows walker.entry.left)) }
+    ensures few { IfOk result (λ _. length (pairs_of_rows walker.entry.left) ≤ MOST_PAIRS) }
+    ensures compared { IfOk result (λ found. found.compared ≡ length (pairs_of_rows walker.entry.left)) }
+    ensures links { IfOk result (λ found. found.links.items ≡ pairs_with Link (side_rule rule.now) sides_a.now.rows sides_b.now.rows (pairs_of_rows walker.entry.left)) }
+    ensures possible { IfOk result (λ found. found.possible.items ≡ pairs_with Possible (side_rule rule.now) sides_a.now.rows sides_b.now.rows (pairs_of_rows walker.entry.left)) }
 {
     let mut words = BorderWords::new(rule.seed());
     let mut found = Found {

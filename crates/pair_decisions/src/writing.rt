@@ -65,7 +65,7 @@ fn write_row(
 /// Writes the pairs of the rows that a new walker gives, which are not too many.
 pub(crate) fn write_rows(
     alloc: Global,
-    mut walker: Walker,
+    mut walker: Walker<'_>,
     mut writer: PairsWriter,
     rule: &PairRule,
     journal: &Journal,
@@ -86,7 +86,7 @@ pub(crate) fn write_rows(
     requires sides_b { All (AreSidesFor rule.now) sides_b.now.rows }
     requires inside { All (IsInside (length a.now) (length b.now)) (pairs_of_rows walker.left) }
     requires rising { AllPairs IsPairBefore (pairs_of_rows walker.left) }
-    ensures { IfOk result (λ written. written.text ≡ writer.text ++ flat_map (pair_row writer.rares a.now b.now) (pair_rows_of (side_rule rule.now) sides_a.now.rows sides_b.now.rows journal.now (pairs_of_rows walker.left))) }
+    ensures { IfOk result (λ written. written.text ≡ writer.text ++ flat_map (pair_row writer.rares a.now b.now) (pair_rows_of (side_rule rule.now) sides_a.now.rows sides_b.now.rows journal.now (pairs_of_rows walker.entry.left))) }
 {
     let mut words = BorderWords::new(rule.seed());
     let mut front = LineFront::new(alloc);

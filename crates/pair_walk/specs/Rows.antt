@@ -1,4 +1,4 @@
--- The rows of B for each row of A. `Walker::new` and `Walker::new_in` carry it (clause `left`); `rows_joined` says that
+-- The rows of B for each row of A. `Blocks::new` and `Blocks::new_in` carry it (their lone clauses); `rows_joined` says that
 -- joined they are the compared pairs.
 use Rattle.std.specs.Prelude.{◌<◌, ℕ, zero, suc, ◌+◌, List, [], ◌∷◌, filter, length, slice_index_or}
 use Rattle.std.specs.List.{range_with_len}
@@ -16,6 +16,10 @@ partners a b passes at = filter (λ j. share_key passes (row_at a at) (row_at b 
 pub record RowAt : Type 0 where
   pub a : ℕ
   pub bs : List ℕ
+
+-- what stands past the last row
+abbrev pub no_partners : RowAt
+no_partners = record { a = 0; bs = [] }
 
 -- the pairs of `count` rows of A from `at` on
 abbrev pub rows_from : List Record → List Record → List (List Part) → ℕ → ℕ → List RowAt

@@ -6,6 +6,7 @@ ghost use Rattle.pair_walk.specs.Pairs.{compared_pairs, pair, pairs_of_rows};
 ghost use Rattle.pair_walk.specs.Rows.{AreAllReady, AreKeysHeld, all_rows};
 ghost use Rattle.pair_walk.specs.Walk.{GivesPairs};
 
+use crate::blocks::Blocks;
 use crate::fault::WalkFault;
 use crate::walker::{RowPairs, Walker};
 use link_base::{NoMemory, PairAt, PassList, StdFile};
@@ -55,9 +56,9 @@ fn push_row(pairs: &mut Vec<PairAt>, row: &RowPairs) -> Result<(), NoMemory>
 }
 
 // The pairs of the rows that a new walker gives.
-fn collect(alloc: Global, mut walker: Walker) -> Result<Pairs, WalkFault>
+fn collect(alloc: Global, mut walker: Walker<'_>) -> Result<Pairs, WalkFault>
     requires { walker.given ≡ 0 }
-    ensures { GivesPairs (pairs_of_rows walker.left) result }
+    ensures { GivesPairs (pairs_of_rows walker.entry.left) result }
 {
     let mut pairs = Vec::new(alloc);
     'rows: loop {
@@ -79,8 +80,8 @@ pub fn walk(alloc: Global, a: &StdFile, b: &StdFile, passes: &PassList) -> Resul
     requires ready_b { AreAllReady passes.now b.now }
     ensures { GivesPairs (compared_pairs a.now b.now passes.now) result }
 {
-    match Walker::new(alloc, a, b, passes) {
-        Ok(walker) => collect(alloc, walker),
+    match Blocks::new(alloc, a, b, passes) {
+        Ok(blocks) => collect(alloc, blocks.walk()),
         Err(NoMemory) => Err(WalkFault::NoMemory),
     }
 }
@@ -99,8 +100,8 @@ pub fn walk_in(
     requires held_b { AreKeysHeld pool.now.texts passes.now b.now }
     ensures { GivesPairs (compared_pairs a.now b.now passes.now) result }
 {
-    match Walker::new_in(alloc, a, b, passes, pool) {
-        Ok(walker) => collect(alloc, walker),
+    match Blocks::new_in(alloc, a, b, passes, pool) {
+        Ok(blocks) => collect(alloc, blocks.walk()),
         Err(NoMemory) => Err(WalkFault::NoMemory),
     }
 }

@@ -1,16 +1,12 @@
 // The pairs row by row.
-ghost use Rattle.std.specs.Prelude.{◌≡◌, ◌≤◌, IfOk, IfSome};
-ghost use Rattle.pair_walk.specs.Rows.{AreAllReady, AreKeysHeld, all_rows};
+ghost use Rattle.std.specs.Prelude.{◌≡◌};
 
+use crate::blocks::Blocks;
 use crate::fault::WalkFault;
-use crate::merging::join_row;
-use crate::passes::find_passes;
-use block_passes::PassRows;
-use link_base::{NoMemory, PassList, StdFile};
+use link_base::NoMemory;
 use link_limits::MOST_PAIRS;
 use std::alloc::Global;
 use std::marker::Model;
-use value_pool::Pool;
 
 /// The pairs of a row of A: its position, and the rising list of the positions of B, which may be empty.
 #[derive(Drop)]
@@ -22,87 +18,37 @@ pub struct RowPairs {
 /// The compared pairs of two files, row by row. Contracts see the list of the rows not yet given and
 /// the number of pairs given so far.
 #[derive(Drop)]
-pub struct Walker {
-    passes: Vec<PassRows>,
-    width: u32,
-    rows: u32,
+pub struct Walker<'b> {
+    blocks: &'b Blocks,
     at: u32,
     given: u64,
 }
 
-impl Model for Walker {
-    ghost use Rattle.std.specs.Prelude.{◌≤◌, ◌-◌};
+impl<'b> Model for Walker<'b> {
+    ghost use Rattle.std.specs.Prelude.{◌≤◌, drop, length};
     ghost use Rattle.link_limits.specs.declared.TheConstants.{MOST_PAIRS};
-    ghost use Rattle.pair_walk.specs.Joining.{AreRising, HaveRows, joined_from};
     ghost use Rattle.pair_walk.specs.Walker.{Walked};
 
     ghost Value = { Walked };
 
-    ghost view = { λ w. record { left = joined_from w.passes.items w.width w.at (w.rows - w.at); given = w.given } };
+    ghost view = { λ w. record { left = drop w.at w.blocks.now; given = w.given } };
 
-    ghost invariant = { λ w. (w.at ≤ w.rows) × (w.given ≤ MOST_PAIRS) × HaveRows w.passes.items w.rows × AreRising w.passes.items w.width w.rows };
+    ghost invariant = { λ w. (w.at ≤ length w.blocks.now) × (w.given ≤ MOST_PAIRS) };
 }
 
-impl Walker {
+impl<'b> Walker<'b> {
     ghost use Rattle.pair_walk.specs.Next.{NextRow};
 
-    /// The pairs of two files by their blocking passes: for each row of `a` the rows of `b` that
-    /// have its key in some pass.
-    pub fn new(
-        alloc: Global,
-        a: &StdFile,
-        b: &StdFile,
-        passes: &PassList,
-    ) -> Result<Walker, NoMemory>
-        requires ready_a { AreAllReady passes.now a.now }
-        requires ready_b { AreAllReady passes.now b.now }
-        ensures left { IfOk result (λ w. w.left ≡ all_rows a.now b.now passes.now) }
-        ensures given { IfOk result (λ w. w.given ≡ 0) }
+    // A walk that has given no row.
+    pub(crate) fn over(blocks: &'b Blocks) -> Walker<'b>
+        ensures left { result.left ≡ blocks.now }
+        ensures given { result.given ≡ 0 }
     {
-        Walker::by(alloc, a, b, passes, None)
-    }
-
-    /// The same pairs, found by the ids of the texts of the keys, which stand in a pool.
-    pub fn new_in(
-        alloc: Global,
-        a: &StdFile,
-        b: &StdFile,
-        passes: &PassList,
-        pool: &Pool,
-    ) -> Result<Walker, NoMemory>
-        requires ready_a { AreAllReady passes.now a.now }
-        requires ready_b { AreAllReady passes.now b.now }
-        requires held_a { AreKeysHeld pool.now.texts passes.now a.now }
-        requires held_b { AreKeysHeld pool.now.texts passes.now b.now }
-        ensures left { IfOk result (λ w. w.left ≡ all_rows a.now b.now passes.now) }
-        ensures given { IfOk result (λ w. w.given ≡ 0) }
-    {
-        Walker::by(alloc, a, b, passes, Some(pool))
-    }
-
-    // The pairs, by ids where there is a pool.
-    fn by(
-        alloc: Global,
-        a: &StdFile,
-        b: &StdFile,
-        passes: &PassList,
-        pool: Option<&Pool>,
-    ) -> Result<Walker, NoMemory>
-        requires ready_a { AreAllReady passes.now a.now }
-        requires ready_b { AreAllReady passes.now b.now }
-        requires held_a { IfSome pool (λ pool. AreKeysHeld pool.now.texts passes.now a.now) }
-        requires held_b { IfSome pool (λ pool. AreKeysHeld pool.now.texts passes.now b.now) }
-        ensures left { IfOk result (λ w. w.left ≡ all_rows a.now b.now passes.now) }
-        ensures given { IfOk result (λ w. w.given ≡ 0) }
-    {
-        let found = find_passes(alloc, a, b, passes, pool)?;
-        Ok(Walker {
-            passes: found,
-            width: b.rows(),
-            rows: a.rows(),
+        Walker {
+            blocks,
             at: 0,
             given: 0,
-        })
+        }
     }
 
     /// The pairs of the next row of A, and `None` exactly where every row was given. There are too
@@ -111,11 +57,11 @@ impl Walker {
     pub fn next_row(&mut self, alloc: Global) -> Result<Option<RowPairs>, WalkFault>
         ensures { NextRow self.old self.new result }
     {
-        if self.at >= self.rows {
+        if self.at >= self.blocks.rows() {
             return Ok(None);
         }
         let a = self.at;
-        let bs = match join_row(alloc, &self.passes, a) {
+        let bs = match self.blocks.partners(alloc, a) {
             Ok(bs) => bs,
             Err(NoMemory) => return Err(WalkFault::NoMemory),
         };

@@ -49,6 +49,7 @@ returns c =
       refused = facts.refused;
       within = facts.within;
       rule_is = facts.rule;
+      rows = facts.rows;
       counts = facts.counts;
       links_inside = facts.links_inside;
       possible_inside = facts.possible_inside;

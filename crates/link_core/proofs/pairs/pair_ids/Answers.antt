@@ -36,7 +36,7 @@ ids_of_rows-requires-clause-inside c =
     let a = c.a-a.result.now in
     let b = c.b-b.result.now in
     let passes = c.args.plan.now.passes in
-    let walked : pairs_of_rows c.in_ok-walker.walker.left ≡ compared_pairs a b passes = ap pairs_of_rows c.in_ok-walker.ensures.left ∙ all-pairs a b passes in
+    let walked : pairs_of_rows c.walk.result.left ≡ compared_pairs a b passes = ap pairs_of_rows (c.walk.ensures.left ∙ c.in_ok-blocks.ensures) ∙ all-pairs a b passes in
     subst (λ (pairs : List PairAt). All (IsInside (length a) (length b)) pairs) (sym walked) (compared_inside a b passes)
 
 pub returns-clause-answer : goal.returns-clause-answer
@@ -44,5 +44,5 @@ returns-clause-answer c =
     let a = c.a-a.result.now in
     let b = c.b-b.result.now in
     let passes = c.args.plan.now.passes in
-    let walked : pairs_of_rows c.in_ok-walker.walker.left ≡ compared_pairs a b passes = ap pairs_of_rows c.in_ok-walker.ensures.left ∙ all-pairs a b passes in
+    let walked : pairs_of_rows c.walk.result.left ≡ compared_pairs a b passes = ap pairs_of_rows (c.walk.ensures.left ∙ c.in_ok-blocks.ensures) ∙ all-pairs a b passes in
     rw (← c.a-a.ensures, ← c.b-b.ensures, ← walked) c.ids_of_rows.ensures.answer

@@ -22,7 +22,7 @@ decide_rows-requires-clause-inside c =
     let a = c.args.a.now in
     let b = c.args.b.now in
     let passes = c.args.plan.now.passes in
-    let walked : pairs_of_rows c.in-Ok.walker.left ≡ compared_pairs a b passes = ap pairs_of_rows c.in-Ok.ensures.left ∙ all-pairs a b passes in
+    let walked : pairs_of_rows c.walk.result.left ≡ compared_pairs a b passes = ap pairs_of_rows (c.walk.ensures.left ∙ c.in-Ok.ensures) ∙ all-pairs a b passes in
     let P : ℕ → Type 0 = λ n. All (IsInside n (length b)) (compared_pairs a b passes) in
     let Q : ℕ → Type 0 = λ n. All (IsInside (length c.args.sides_a.now.rows) n) (compared_pairs a b passes) in
     let R : List PairAt → Type 0 = λ ps. All (IsInside (length c.args.sides_a.now.rows) (length c.args.sides_b.now.rows)) ps in
@@ -31,8 +31,8 @@ decide_rows-requires-clause-inside c =
 abbrev all_of : In-Ok-decide_rows → List PairAt
 all_of c = compared_pairs c.args.a.now c.args.b.now c.args.plan.now.passes
 
-walked : (c : In-Ok-decide_rows) → pairs_of_rows c.in-Ok.walker.left ≡ all_of c
-walked c = ap pairs_of_rows c.in-Ok.ensures.left ∙ all-pairs c.args.a.now c.args.b.now c.args.plan.now.passes
+walked : (c : In-Ok-decide_rows) → pairs_of_rows c.walk.result.left ≡ all_of c
+walked c = ap pairs_of_rows (c.walk.ensures.left ∙ c.in-Ok.ensures) ∙ all-pairs c.args.a.now c.args.b.now c.args.plan.now.passes
 
 few : (c : In-Ok-decide_rows) → length (all_of c) ≤ MOST_PAIRS
 few c = subst (λ (ps : List PairAt). length ps ≤ MOST_PAIRS) (walked c) c.in-Ok-decide_rows.ensures.few
@@ -47,7 +47,7 @@ possible : (c : In-Ok-decide_rows) → c.in-Ok-decide_rows.found.possible.items 
 possible c = c.in-Ok-decide_rows.ensures.possible ∙ ap (pairs_with Possible (side_rule c.args.rule) c.args.sides_a.now.rows c.args.sides_b.now.rows) (walked c)
 
 abbrev view_of : In-Ok-decide_rows → DecidedView
-view_of c = record { rule = c.args.rule; compared = c.in-Ok-decide_rows.found.compared; links = c.in-Ok-decide_rows.found.links.items; possible = c.in-Ok-decide_rows.found.possible.items }
+view_of c = record { rule = c.args.rule; rows = c.in-Ok.blocks; compared = c.in-Ok-decide_rows.found.compared; links = c.in-Ok-decide_rows.found.links.items; possible = c.in-Ok-decide_rows.found.possible.items }
 
 pub invariant_of-result : goal.invariant_of-result
 invariant_of-result c = not_more (side_rule c.args.rule) c.args.sides_a.now.rows c.args.sides_b.now.rows (all_of c) (view_of c) (compared c) (links c) (possible c)
@@ -107,8 +107,8 @@ returns-in-Err-TooManyPairs-clause-refused c =
     let a = c.args.a.now in
     let b = c.args.b.now in
     let passes = c.args.plan.now.passes in
-    let walked : pairs_of_rows c.in-Ok.walker.left ≡ compared_pairs a b passes = ap pairs_of_rows c.in-Ok.ensures.left ∙ all-pairs a b passes in
-    let P : WalkFault → Type 0 = λ f. RefusesPairs (pairs_of_rows c.in-Ok.walker.left) f in
+    let walked : pairs_of_rows c.walk.result.left ≡ compared_pairs a b passes = ap pairs_of_rows (c.walk.ensures.left ∙ c.in-Ok.ensures) ∙ all-pairs a b passes in
+    let P : WalkFault → Type 0 = λ f. RefusesPairs (pairs_of_rows c.walk.result.left) f in
     let refused : P (walk_fault.TooManyPairs c.in-Err-TooManyPairs.limit) = subst P c.in-Err-TooManyPairs.field-0-is c.in-Err-TooManyPairs.ensures.refused in
     let many : MOST_PAIRS < length (compared_pairs a b passes) = subst (λ (ps : List PairAt). MOST_PAIRS < length ps) walked refused.1 in
     past_limit (compared_pairs a b passes) many ∙ ap (λ n. Err (fault.TooManyPairs n)) (sym refused.0)

@@ -25,21 +25,21 @@ walked a b passes left is = ap pairs_of_rows is ∙ all-pairs a b passes
 pub write_rows-requires-clause-few : goal.write_rows-requires-clause-few
 write_rows-requires-clause-few c =
     let P : List PairAt → Type 0 = λ pairs. length pairs ≤ MOST_PAIRS in
-    subst P (sym (walked c.args.a.now c.args.b.now c.args.plan.now.passes c.in_ok-walker.walker.left c.in_ok-walker.ensures.left)) c.requires.few
+    subst P (sym (walked c.args.a.now c.args.b.now c.args.plan.now.passes c.walk-walker.result.left (c.walk-walker.ensures.left ∙ c.requires.rows))) c.requires.few
 
 pub write_rows-requires-clause-inside : goal.write_rows-requires-clause-inside
 write_rows-requires-clause-inside c =
     let a = c.args.a.now in
     let b = c.args.b.now in
     let passes = c.args.plan.now.passes in
-    subst (λ (pairs : List PairAt). All (IsInside (length a) (length b)) pairs) (sym (walked a b passes c.in_ok-walker.walker.left c.in_ok-walker.ensures.left)) (compared_inside a b passes)
+    subst (λ (pairs : List PairAt). All (IsInside (length a) (length b)) pairs) (sym (walked a b passes c.walk-walker.result.left (c.walk-walker.ensures.left ∙ c.requires.rows))) (compared_inside a b passes)
 
 pub write_rows-requires-clause-rising : goal.write_rows-requires-clause-rising
 write_rows-requires-clause-rising c =
     let a = c.args.a.now in
     let b = c.args.b.now in
     let passes = c.args.plan.now.passes in
-    subst (λ (pairs : List PairAt). AllPairs IsPairBefore pairs) (sym (walked a b passes c.in_ok-walker.walker.left c.in_ok-walker.ensures.left)) (compared_rise a b passes)
+    subst (λ (pairs : List PairAt). AllPairs IsPairBefore pairs) (sym (walked a b passes c.walk-walker.result.left (c.walk-walker.ensures.left ∙ c.requires.rows))) (compared_rise a b passes)
 
 pub returns : goal.returns
 returns c =
@@ -47,7 +47,6 @@ returns c =
     let b = c.args.b.now in
     let passes = c.args.plan.now.passes in
     let fields = c.args.plan.now.fields in
-    let rows_of = pair_rows_of (side_rule c.args.rule.now) c.args.sides_a.now.rows c.args.sides_b.now.rows c.args.journal.now in
-    let pairs = walked a b passes c.in_ok-walker.walker.left c.in_ok-walker.ensures.left in
+    let pairs = walked a b passes c.walk-walker.result.left (c.walk-walker.ensures.left ∙ c.requires.rows) in
     let rares : c.in_ok-writer.writer.rares ≡ rares_of fields = c.in_ok-writer.ensures.rares ∙ shape_rares fields c.shape.result c.shape.ensures.fields c.shape.ensures.rare in
-    c.finish.ensures ∙ c.in_ok-written.ensures ∙ (λ i. c.in_ok-writer.ensures.text i ++ flat_map (pair_row (rares i) a b) (rows_of (pairs i)))
+    c.finish.ensures ∙ c.in_ok-written.ensures ∙ (λ i. c.in_ok-writer.ensures.text i ++ flat_map (pair_row (rares i) a b) (pair_rows_of (side_rule (c.rule-rule.ensures i)) c.args.sides_a.now.rows c.args.sides_b.now.rows c.args.journal.now (pairs i)))

@@ -1,6 +1,7 @@
+use Rattle.std.proofs.Common.{◌∙◌}
 use Rattle.pair_walk.proofs.PairLemmas.{all-pairs}
 use Rattle.pair_walk.proofs.product.walk_in.Goals as goal
 
 pub returns-in-Ok : goal.returns-in-Ok
 returns-in-Ok c =
-    rw (← all-pairs c.args.a.now c.args.b.now c.args.passes.now, ← c.in-Ok.ensures.left) c.collect.ensures
+    rw (← all-pairs c.args.a.now c.args.b.now c.args.passes.now, ← (c.walk.ensures.left ∙ c.in-Ok.ensures)) c.collect.ensures

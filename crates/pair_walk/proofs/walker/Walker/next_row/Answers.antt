@@ -1,15 +1,16 @@
-use Rattle.std.proofs.Common.{rules, ◌+◌, ◌-◌, sym, ap, ◌∙◌}
-use Rattle.pair_walk.specs.Joining.{joined_from}
-use Rattle.pair_walk.proofs.JoinLemmas.{joined-step, row-cons}
+use Rattle.std.proofs.Common.{rules, ◌<◌, ◌+◌, ◌∷◌, drop, length, arith, sym, ap, ◌∙◌}
+use Rattle.std.proofs.lemmas.List.{drop_more}
+use Rattle.pair_walk.specs.Rows.{RowAt, no_partners}
 use Rattle.pair_walk.proofs.walker.Walker.next_row.Goals as goal
 
 pub returns : goal.returns
 returns c =
-    let self = c.self.inside in
-    let bs = rw c.deref.ensures.value at c.in-Ok.ensures in (
+    let walker = c.self.inside in
+    let rows = walker.blocks.now in
+    let lt : walker.at < length rows = omega (arith, c.if-self-rows.false, c.rows.ensures) in (
       sym (ap (λ w. w.left) c.self.view_is)
-          ∙ joined-step self.passes.items self.width self.at self.rows c.if-self.false
-          ∙ row-cons self.at _ _ (joined_from self.passes.items self.width (self.at + 1) (self.rows - (self.at + 1))) (sym (bs self.width (c.self.invariant.3 self.at c.if-self.false))),
+          ∙ drop_more rows walker.at no_partners lt
+          ∙ ap (λ (row : RowAt). row ∷ drop (walker.at + 1) rows) c.in-Ok.ensures,
       search rules,
       c.if-given-gt-MOST_PAIRS.false,
     )

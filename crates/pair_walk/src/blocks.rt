@@ -1,0 +1,112 @@
+// The rows of B that share a key with each row of A.
+ghost use Rattle.std.specs.Prelude.{◌≡◌, ◌<◌, length, slice_index_or, IfOk, IfSome};
+ghost use Rattle.pair_walk.specs.Rows.{AreAllReady, AreKeysHeld, all_rows, no_partners};
+
+use crate::merging::join_row;
+use crate::passes::find_passes;
+use crate::walker::Walker;
+use block_passes::PassRows;
+use link_base::{NoMemory, PassList, StdFile};
+use std::alloc::Global;
+use std::marker::Model;
+use value_pool::Pool;
+
+/// The blocks of two files: for each record of A those of B that share a key with it in some blocking pass (Newcombe et al.
+/// 1959). Contracts see the list of these rows. They are walked as often as they are needed.
+#[derive(Drop)]
+pub struct Blocks {
+    passes: Vec<PassRows>,
+    width: u32,
+    rows: u32,
+}
+
+impl Model for Blocks {
+    ghost use Rattle.std.specs.Prelude.{List};
+    ghost use Rattle.pair_walk.specs.Joining.{AreRising, HaveRows, joined_from};
+    ghost use Rattle.pair_walk.specs.Rows.{RowAt};
+
+    ghost Value = { List RowAt };
+
+    ghost view = { λ b. joined_from b.passes.items b.width 0 b.rows };
+
+    ghost invariant = { λ b. HaveRows b.passes.items b.rows × AreRising b.passes.items b.width b.rows };
+}
+
+impl Blocks {
+    /// The blocks of two files by their blocking passes: for each row of `a` the rows of `b` that have its key in some pass.
+    pub fn new(
+        alloc: Global,
+        a: &StdFile,
+        b: &StdFile,
+        passes: &PassList,
+    ) -> Result<Blocks, NoMemory>
+        requires ready_a { AreAllReady passes.now a.now }
+        requires ready_b { AreAllReady passes.now b.now }
+        ensures { IfOk result (λ blocks. blocks ≡ all_rows a.now b.now passes.now) }
+    {
+        Blocks::by(alloc, a, b, passes, None)
+    }
+
+    /// The same blocks, found by the ids of the texts of the keys, which stand in a pool.
+    pub fn new_in(
+        alloc: Global,
+        a: &StdFile,
+        b: &StdFile,
+        passes: &PassList,
+        pool: &Pool,
+    ) -> Result<Blocks, NoMemory>
+        requires ready_a { AreAllReady passes.now a.now }
+        requires ready_b { AreAllReady passes.now b.now }
+        requires held_a { AreKeysHeld pool.now.texts passes.now a.now }
+        requires held_b { AreKeysHeld pool.now.texts passes.now b.now }
+        ensures { IfOk result (λ blocks. blocks ≡ all_rows a.now b.now passes.now) }
+    {
+        Blocks::by(alloc, a, b, passes, Some(pool))
+    }
+
+    // The blocks, by ids where there is a pool.
+    fn by(
+        alloc: Global,
+        a: &StdFile,
+        b: &StdFile,
+        passes: &PassList,
+        pool: Option<&Pool>,
+    ) -> Result<Blocks, NoMemory>
+        requires ready_a { AreAllReady passes.now a.now }
+        requires ready_b { AreAllReady passes.now b.now }
+        requires held_a { IfSome pool (λ pool. AreKeysHeld pool.now.texts passes.now a.now) }
+        requires held_b { IfSome pool (λ pool. AreKeysHeld pool.now.texts passes.now b.now) }
+        ensures { IfOk result (λ blocks. blocks ≡ all_rows a.now b.now passes.now) }
+    {
+        let found = find_passes(alloc, a, b, passes, pool)?;
+        Ok(Blocks {
+            passes: found,
+            width: b.rows(),
+            rows: a.rows(),
+        })
+    }
+
+    /// How many rows A has.
+    pub fn rows(&self) -> u32
+        ensures { result ≡ length self.now }
+    {
+        self.rows
+    }
+
+    // The rows of B for a row of A, rising.
+    pub(crate) fn partners(&self, alloc: Global, at: u32) -> Result<Vec<u32>, NoMemory>
+        requires { at < length self.now }
+        ensures { IfOk result (λ bs. slice_index_or self.now at no_partners ≡ record { a = at; bs = bs.items }) }
+    {
+        let bs = join_row(alloc, &self.passes, at)?;
+        Ok(bs)
+    }
+
+    /// A walk over the rows from the first on.
+    pub fn walk(&self) -> Walker<'_>
+        ensures left { result.left ≡ self.now }
+        ensures given { result.given ≡ 0 }
+    {
+        Walker::over(self)
+    }
+}
