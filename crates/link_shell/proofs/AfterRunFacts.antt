@@ -33,7 +33,7 @@ use Rattle.link_shell.specs.AfterRun.{HoldsProof, ProvedByRun, SaysYes, YesAfter
 use Rattle.link_shell.specs.Commands.{Command, command_of, duplicates_of_settings, frontier_of_settings, generation, keys, many_of_settings, migration_of_settings, open_of_settings, or_command, pairs_of_columns, pairs_of_settings, review_of_settings, rule_of_settings, run_of_settings, settings_command_of, verification_of_settings}
 use Rattle.link_shell.specs.DuplicatesSettings.{are_duplicates_words}
 use Rattle.link_shell.specs.FrontierSettings.{are_frontier_words, asked_in}
-use Rattle.link_shell.specs.Generate.{are_generate_words, rows_in}
+use Rattle.link_shell.specs.Generate.{are_generate_words, rows_asked}
 use Rattle.link_shell.specs.Keys.{are_keys_words}
 use Rattle.link_shell.specs.ManySettings.{are_many_words, many_in}
 use Rattle.link_shell.specs.MigrateSettings.{are_migrate_words}
@@ -272,7 +272,7 @@ keeps_settings words =
     (if_command (are_frontier_words words) (frontier_of_settings (asked_in words)) _ (λ e. no_run _ refl)
     (if_command (are_review_words words) (review_of_settings (review_in words)) _ (λ e. no_run _ refl)
     (if_command (are_many_words words) (many_of_settings (many_in words)) _ (λ e. no_run _ refl)
-    (if_command (are_generate_words words) (generation (rows_in words)) _ (λ e. no_run _ refl) no_form))))))
+    (if_command (are_generate_words words) (generation (rows_asked words)) _ (λ e. no_run _ refl) no_form))))))
 
 pub proved_by_run : RunIsVerified → (words : List (List ℕ)) (store : StoreSeen) (out err : SinkSeen) (answer : Result Ended Fault) (status : ℕ) → Performed words store out answer → Reported err answer status → ProvedByRun words store status
 proved_by_run law words store out err (Ok Done) status p r =

@@ -2,7 +2,7 @@
 use Rattle.std.specs.Prelude.{ℕ, List, drop, if◌then◌else◌, Option, Some, None}
 use Rattle.link_shell.specs.Does.{Script}
 use Rattle.link_shell.specs.DuplicatesSettings.{are_duplicates_words, duplicates_script}
-use Rattle.link_shell.specs.Generate.{are_generate_words, generate_script, rows_in}
+use Rattle.link_shell.specs.Generate.{are_generate_words, generate_script, rows_asked}
 use Rattle.link_shell.specs.FrontierSettings.{are_frontier_words, Asked, asked_in, frontier_script}
 use Rattle.link_shell.specs.Keys.{are_keys_words, keys_script}
 use Rattle.link_shell.specs.ManySettings.{are_many_words, many_in, many_script, ManyFiles}
@@ -59,7 +59,7 @@ command_of words =
     else if are_frontier_words words then Some (frontier_of_settings (asked_in words))
     else if are_review_words words then Some (review_of_settings (review_in words))
     else if are_many_words words then Some (many_of_settings (many_in words))
-    else if are_generate_words words then Some (generation (rows_in words)) else None)
+    else if are_generate_words words then Some (generation (rows_asked words)) else None)
 
 -- the script of a command
 abbrev pub script_of : Command → Script

@@ -28,8 +28,8 @@ is_rows_word w = is_decimal w && nat_le 2 (number_in w) && nat_le (number_in w) 
 abbrev pub are_generate_words : List (List ℕ) → Bool
 are_generate_words words = (length words == 2) && bytes_eq (word words 0) (codes "generate") && is_rows_word (word words 1)
 
-abbrev pub rows_in : List (List ℕ) → ℕ
-rows_in words = number_in (word words 1)
+abbrev pub rows_asked : List (List ℕ) → ℕ
+rows_asked words = number_in (word words 1)
 
 pub record IsMadeNumber (rows : ℕ) : Type 0 where
   pub some : 2 ≤ rows

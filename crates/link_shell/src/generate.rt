@@ -5,7 +5,7 @@ ghost use Rattle.link_core.specs.Decisions.{IsDecidedIn};
 ghost use Rattle.link_core.specs.Results.{IsDecidedFor};
 ghost use Rattle.link_core.specs.Rules.{IsPreparedFor};
 ghost use Rattle.link_shell.specs.Does.{Does};
-ghost use Rattle.link_shell.specs.Generate.{are_generate_words, decided_input, decided_sample, generate_script, IsMadeNumber, is_rows_word, review_of_made, rows_in};
+ghost use Rattle.link_shell.specs.Generate.{are_generate_words, decided_input, decided_sample, generate_script, IsMadeNumber, is_rows_word, review_of_made, rows_asked};
 ghost use Rattle.csv_rows.specs.Numbers.{number_in};
 ghost use Rattle.link_shell.specs.Reviewed.{shared_decisions_of};
 ghost use Rattle.link_shell.specs.Seen.{sink_seen, store_seen};
@@ -55,7 +55,7 @@ fn rows_of(word: &str) -> Option<u32>
 // Reads the words: how many rows a file has.
 pub(crate) fn read(words: &[String]) -> Option<u32>
     ensures some { is_some result ≡ are_generate_words (map string_bytes words.now) }
-    ensures rows { IfSome result (λ rows. rows ≡ rows_in (map string_bytes words.now)) }
+    ensures rows { IfSome result (λ rows. rows ≡ rows_asked (map string_bytes words.now)) }
     ensures range { IfSome result IsMadeNumber }
 {
     if words.len() != 2 || word_at(words, 0) != "generate" {
