@@ -8,3 +8,4 @@ pub mod RowFacts
 pub mod TextFacts
 pub mod WidthFacts
 pub mod Steps
+pub mod IdFacts

@@ -42,7 +42,7 @@ pub(crate) fn count_of(row: &ByteRecord, column: &[u8]) -> usize
 }
 
 // Whether a field is ASCII. Fields are short, so that byte by byte is fastest.
-fn is_plain(field: &[u8]) -> bool
+pub(crate) fn is_plain(field: &[u8]) -> bool
     ensures { IsTrue result → IsAscii field.now }
 {
     for byte in field {

@@ -35,14 +35,15 @@ impl Ids {
         ensures keeps { IfOk result (λ found. Keeps id.now self.old self.new found) }
         ensures within { IfOk result (λ found. IfSome found (λ place. place < length self.old)) }
     {
-        match self.ids.get_index_of(id) {
-            Some(place) => return Ok(Some(place)),
-            None => {}
-        }
         let key = Text::new(alloc, id)?;
-        match self.ids.insert(key) {
-            Ok(_) => return Ok(None),
+        let held = self.ids.len();
+        let place = match self.ids.insert_full(key) {
+            Ok((place, _)) => place,
             Err(failed) => return Err(NoMemory::from(failed)),
+        };
+        if place < held {
+            return Ok(Some(place));
         }
+        Ok(None)
     }
 }

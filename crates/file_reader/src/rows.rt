@@ -1,5 +1,5 @@
 // The rows of a table.
-ghost use Rattle.std.specs.Prelude.{◌≡◌, ◌≤◌, ◌<◌, ◌*◌, ◌++◌, ◌∷◌, [], IfOk, IsTrue, OnOk, IfErr, length};
+ghost use Rattle.std.specs.Prelude.{◌≡◌, ◌≤◌, ◌<◌, ◌*◌, ◌++◌, ◌∷◌, [], IfOk, IsTrue, None, OnOk, IfErr, length, ℕ};
 ghost use Rattle.csv.specs.Records.{fields_of};
 ghost use Rattle.file_reader.specs.Left.{records_in};
 ghost use Rattle.link_base.specs.Fault.{Gives, IsAnswer, IsInputFault};
@@ -8,7 +8,7 @@ ghost use Rattle.file_reader.specs.Rows.{table_rows};
 ghost use Rattle.file_reader.specs.Steps.{KeepsId, TakesRow};
 ghost use Rattle.file_reader.specs.Table.{HasDistinctIds, HasTexts, HasWidth, header_fault, id_fault, length_fault, row_fault, rows_read, table_of, taken, Tests, text_fault, under_header, utf8_fault};
 
-use crate::fields::{field_of, is_text};
+use crate::fields::{field_of, is_plain, is_text};
 use crate::header::{find_columns, needed_names, test_header};
 use crate::ids::Ids;
 use crate::layout::{Column, Head, Layout};
@@ -56,11 +56,27 @@ fn test_lengths(alloc: Global, head: &Head, number: u32, row: &ByteRecord) -> Re
     Ok(())
 }
 
+// Whether the needed fields of a row are ASCII and not too long, as most are.
+fn are_plain(head: &Head, row: &ByteRecord) -> bool
+    ensures { IsTrue result → (number : ℕ) → text_fault (heading_of head.now) number (fields_of row.now) ≡ None }
+{
+    for needed in &head.columns {
+        let field = field_of(row, needed.place);
+        if field.len() > MOST_FIELD_BYTES || !is_plain(field) {
+            return false;
+        }
+    }
+    true
+}
+
 // Tests the needed fields of a row.
 fn test_texts(alloc: Global, head: &Head, number: u32, row: &ByteRecord) -> Result<(), Fault>
     ensures kind { IfErr result IsInputFault }
     ensures fault { Tests (text_fault (heading_of head.now) number (fields_of row.now)) result }
 {
+    if are_plain(head, row) {
+        return Ok(());
+    }
     match test_utf8(alloc, head, number, row) {
         Ok(()) => {}
         Err(fault) => return Err(fault),

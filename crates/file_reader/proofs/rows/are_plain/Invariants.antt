@@ -1,0 +1,13 @@
+use Rattle.std.proofs.Common.{◌≡◌, drop, length}
+use Rattle.std.specs.Prelude.{find, nat_lt, not}
+use Rattle.std.specs.Str.{is_utf8}
+use Rattle.csv.specs.Records.{fields_of}
+use Rattle.link_limits.specs.declared.TheConstants.{MOST_FIELD_BYTES}
+use Rattle.file_reader.specs.Layout.{cell}
+use Rattle.file_reader.proofs.rows.are_plain.Given as goal
+
+abbrev pub invariant-loop-needed : goal.invariant-loop-needed
+invariant-loop-needed l = record {
+  texts : find (λ c. not (is_utf8 (cell (fields_of l.row) c))) (drop l.needed-index l.head.columns.items) ≡ find (λ c. not (is_utf8 (cell (fields_of l.row) c))) l.head.columns.items;
+  lengths : find (λ c. nat_lt MOST_FIELD_BYTES (length (cell (fields_of l.row) c))) (drop l.needed-index l.head.columns.items) ≡ find (λ c. nat_lt MOST_FIELD_BYTES (length (cell (fields_of l.row) c))) l.head.columns.items;
+}
