@@ -16,31 +16,55 @@ use Rattle.file_reader.specs.Rows.{TableRow}
 use Rattle.file_reader.specs.Table.{HasTexts, table_of, unless_fault}
 use Rattle.settings.specs.Plan.{FieldKeys}
 use Rattle.settings.specs.declared.plan.Plan.{Plan}
-use Rattle.standard_files.specs.Values.{AreOfSorts, sort_in_a, sort_in_b, standard_records, unreadable_from, unreadable_in}
+use Rattle.standard_files.specs.Values.{AreOfSorts, sort_in, standard_records, unreadable_from, unreadable_in}
 use Rattle.standard_files.specs.declared.sorts.TextSort.{TextSort}
 
--- what a plan wants of A, and of B
+-- what a plan says of B, and else of A: the column of a field, the column of the ids, and the delimiter
+abbrev pub column_in : FileRole → FieldKeys → List ℕ
+column_in role.B f = f.column_b
+column_in other f = f.column_a
+
+abbrev pub id_in : FileRole → Plan → List ℕ
+id_in role.B plan = plan.id_b
+id_in other plan = plan.id_a
+
+abbrev pub delimiter_in : FileRole → Plan → ℕ
+delimiter_in role.B plan = plan.delimiter_b
+delimiter_in other plan = plan.delimiter_a
+
+-- what it wants of the file, and the file's table
+abbrev pub wanted_in : FileRole → Plan → Wanted
+wanted_in r plan = record { id = Some (id_in r plan); columns = map (column_in r) plan.fields; most = MOST_ROWS }
+
+abbrev pub table_in : FileRole → Plan → List ℕ → Result (List TableRow) Fault
+table_in r plan bytes = table_of r (wanted_in r plan) (records_in (delimiter_in r plan) bytes)
+
+-- what its fields hold
+abbrev pub sorts_in : FileRole → Plan → List TextSort
+sorts_in r plan = map (λ (f : FieldKeys). sort_in r f.sort) plan.fields
+
+-- the same of A, and of B
 abbrev pub wanted_a : Plan → Wanted
-wanted_a plan = record { id = Some plan.id_a; columns = map (λ (f : FieldKeys). f.column_a) plan.fields; most = MOST_ROWS }
+wanted_a plan = wanted_in role.A plan
 
 abbrev pub wanted_b : Plan → Wanted
-wanted_b plan = record { id = Some plan.id_b; columns = map (λ (f : FieldKeys). f.column_b) plan.fields; most = MOST_ROWS }
+wanted_b plan = wanted_in role.B plan
 
 abbrev pub table_a : Plan → List ℕ → Result (List TableRow) Fault
-table_a plan bytes = table_of role.A (wanted_a plan) (records_in plan.delimiter_a bytes)
+table_a plan bytes = table_in role.A plan bytes
 
 abbrev pub table_b : Plan → List ℕ → Result (List TableRow) Fault
-table_b plan bytes = table_of role.B (wanted_b plan) (records_in plan.delimiter_b bytes)
-
--- what the fields of a plan hold, in each file
-abbrev pub sorts_of : Plan → List FieldSort
-sorts_of plan = map (λ (f : FieldKeys). f.sort) plan.fields
+table_b plan bytes = table_in role.B plan bytes
 
 abbrev pub sorts_a : Plan → List TextSort
-sorts_a plan = map (λ (f : FieldKeys). sort_in_a f.sort) plan.fields
+sorts_a plan = sorts_in role.A plan
 
 abbrev pub sorts_b : Plan → List TextSort
-sorts_b plan = map (λ (f : FieldKeys). sort_in_b f.sort) plan.fields
+sorts_b plan = sorts_in role.B plan
+
+-- what the fields of a plan hold, in either file
+abbrev pub sorts_of : Plan → List FieldSort
+sorts_of plan = map (λ (f : FieldKeys). f.sort) plan.fields
 
 -- the name of a field, by its place
 abbrev pub field_name : Plan → ℕ → List ℕ

@@ -1,6 +1,8 @@
 -- The standard values of the texts of a file, of which `standard_files` makes its records (`read_files`, clause `answer`).
 use Rattle.std.specs.Prelude.{◌+◌, ℕ, List, [], ◌∷◌, map, Bool, true, false, Option, Some, None, IsUtf8, if◌then◌else◌, sum_by, ⊤}
 use Rattle.link_base.specs.Standard.{IsDay, Record}
+use Rattle.link_base.specs.declared.fault.FileRole.{FileRole}
+use Rattle.link_base.specs.declared.fault.FileRole.TheVariants as role
 use Rattle.link_base.specs.declared.plan.FieldSort.{FieldSort}
 use Rattle.link_base.specs.declared.plan.FieldSort.TheVariants as sort
 use Rattle.link_base.specs.declared.standard.Value.{Value}
@@ -25,6 +27,11 @@ abbrev pub sort_in_b : FieldSort → TextSort
 sort_in_b sort.Name = text.Name
 sort_in_b sort.Place = text.Place
 sort_in_b (sort.Date of_a of_b) = text.Date of_b
+
+-- what a field holds as B writes it, and else as A does
+abbrev pub sort_in : FileRole → FieldSort → TextSort
+sort_in role.B sort = sort_in_b sort
+sort_in other sort = sort_in_a sort
 
 -- the tables that names and places go by
 abbrev pub names_of : Tables → NameView

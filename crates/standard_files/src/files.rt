@@ -6,7 +6,7 @@ ghost use Rattle.file_reader.specs.Table.{Tests};
 ghost use Rattle.standard_files.specs.Files.{AreOfPlan, date_fault, IsReadTable, sorts_a, sorts_b, standard_file, standard_files, standard_pair};
 
 use crate::row::StandardRow;
-use crate::sources::{Source, read_a, read_b};
+use crate::sources::{Source, read_source};
 use crate::values::ValueTables;
 use link_base::{Fault, FileRole, StdFile, Text, distinct_ids};
 use link_limits::MOST_FIELDS;
@@ -187,11 +187,11 @@ pub fn read_files(alloc: Global, plan: &Plan, a: &[u8], b: &[u8]) -> Result<Stan
     ensures of_a { IfOk result (λ pair. AreOfPlan plan.now pair.a.records) }
     ensures of_b { IfOk result (λ pair. AreOfPlan plan.now pair.b.records) }
 {
-    let of_a = match read_a(alloc, plan, a) {
+    let of_a = match read_source(alloc, plan, FileRole::A, a) {
         Ok(source) => source,
         Err(fault) => return Err(fault),
     };
-    match read_b(alloc, plan, b) {
+    match read_source(alloc, plan, FileRole::B, b) {
         Ok(of_b) => standard_pair(alloc, plan, &of_a, &of_b),
         Err(fault) => Err(fault),
     }

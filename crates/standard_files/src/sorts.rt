@@ -1,8 +1,8 @@
 // What a field of one file holds.
 ghost use Rattle.std.specs.Prelude.{◌≡◌};
-ghost use Rattle.standard_files.specs.Values.{sort_in_a, sort_in_b};
+ghost use Rattle.standard_files.specs.Values.{sort_in, sort_in_a, sort_in_b};
 
-use link_base::{DateForm, FieldSort};
+use link_base::{DateForm, FieldSort, FileRole};
 
 /// What a field of one file holds: a name, a place, or a date in one form.
 #[derive(Clone, Copy, PartialEq, Eq)]
@@ -13,8 +13,18 @@ pub enum TextSort {
 }
 
 impl TextSort {
+    // What a field holds as A or as B writes it.
+    pub(crate) fn of(sort: FieldSort, role: FileRole) -> TextSort
+        ensures { result ≡ sort_in role sort }
+    {
+        match role {
+            FileRole::B => TextSort::in_b(sort),
+            _ => TextSort::in_a(sort),
+        }
+    }
+
     // What a field holds as the first file writes it.
-    pub(crate) fn in_a(sort: FieldSort) -> TextSort
+    fn in_a(sort: FieldSort) -> TextSort
         ensures { result ≡ sort_in_a sort }
     {
         match sort {
@@ -25,7 +35,7 @@ impl TextSort {
     }
 
     // What it holds as the second file writes it.
-    pub(crate) fn in_b(sort: FieldSort) -> TextSort
+    fn in_b(sort: FieldSort) -> TextSort
         ensures { result ≡ sort_in_b sort }
     {
         match sort {

@@ -5,8 +5,8 @@ ghost use Rattle.file_reader.specs.Left.{records_in};
 ghost use Rattle.file_reader.specs.Layout.{wanted_of};
 ghost use Rattle.file_reader.specs.Table.{HasDistinctIds, HasTexts, HasWidth, table_of};
 ghost use Rattle.settings.specs.Plan.{FieldKeys};
-ghost use Rattle.standard_files.specs.Files.{IsReadTable, sorts_a, sorts_b, table_a, table_b};
-ghost use Rattle.standard_files.specs.Values.{sort_in_a, sort_in_b};
+ghost use Rattle.standard_files.specs.Files.{column_in, delimiter_in, IsReadTable, sorts_in, table_in, wanted_in};
+ghost use Rattle.standard_files.specs.Values.{sort_in};
 ghost use Rattle.standard_files.specs.declared.sources.Source.{Source};
 
 use crate::sorts::TextSort;
@@ -39,40 +39,28 @@ fn push_column(
     Ok(())
 }
 
-fn columns_a(alloc: Global, fields: &[FieldPlan]) -> Result<Columns, NoMemory>
-    ensures names { IfOk result (λ columns. columns.names.items ≡ map (λ (f : FieldKeys). f.column_a) fields.now) }
-    ensures sorts { IfOk result (λ columns. columns.sorts.items ≡ map (λ (f : FieldKeys). sort_in_a f.sort) fields.now) }
+// The column of a field in A or in B.
+fn column_of(field: &FieldPlan, role: FileRole) -> &Text
+    ensures { result.now ≡ column_in role field.now }
 {
-    let mut columns = Columns {
-        names: Vec::new(alloc),
-        sorts: Vec::new(alloc),
-    };
-    for field in fields {
-        push_column(
-            alloc,
-            &mut columns,
-            &field.column_a,
-            TextSort::in_a(field.sort),
-        )?;
+    match role {
+        FileRole::B => &field.column_b,
+        _ => &field.column_a,
     }
-    Ok(columns)
 }
 
-fn columns_b(alloc: Global, fields: &[FieldPlan]) -> Result<Columns, NoMemory>
-    ensures names { IfOk result (λ columns. columns.names.items ≡ map (λ (f : FieldKeys). f.column_b) fields.now) }
-    ensures sorts { IfOk result (λ columns. columns.sorts.items ≡ map (λ (f : FieldKeys). sort_in_b f.sort) fields.now) }
+// The columns of the fields of A or of B, and what they hold.
+fn columns_of(alloc: Global, fields: &[FieldPlan], role: FileRole) -> Result<Columns, NoMemory>
+    ensures names { IfOk result (λ columns. columns.names.items ≡ map (column_in role) fields.now) }
+    ensures sorts { IfOk result (λ columns. columns.sorts.items ≡ map (λ (f : FieldKeys). sort_in role f.sort) fields.now) }
 {
     let mut columns = Columns {
         names: Vec::new(alloc),
         sorts: Vec::new(alloc),
     };
     for field in fields {
-        push_column(
-            alloc,
-            &mut columns,
-            &field.column_b,
-            TextSort::in_b(field.sort),
-        )?;
+        let sort = TextSort::of(field.sort, role);
+        push_column(alloc, &mut columns, column_of(field, role), sort)?;
     }
     Ok(columns)
 }
@@ -96,44 +84,46 @@ fn read_by(alloc: Global, bytes: &[u8], role: FileRole, layout: Layout) -> Resul
     read_table(alloc, bytes, role, &layout)
 }
 
-pub(crate) fn read_a(alloc: Global, plan: &Plan, bytes: &[u8]) -> Result<Source, Fault>
-    ensures kind { IfErr result IsInputFault }
-    ensures answer { Gives (λ (source : Source). source.table) (table_a plan.now bytes.now) result }
-    ensures read { IfOk result (λ source. IsReadTable plan.now source.table) }
-    ensures sorts { IfOk result (λ source. source.sorts.items ≡ sorts_a plan.now) }
-    ensures few { IfOk result (λ source. length source.sorts.items ≤ MOST_FIELDS) }
+// What a plan wants of A or of B.
+fn layout_of(
+    alloc: Global,
+    plan: &Plan,
+    role: FileRole,
+    columns: Vec<Text>,
+) -> Result<Layout, NoMemory>
+    requires { columns.items ≡ map (column_in role) plan.now.fields }
+    ensures wanted { IfOk result (λ layout. wanted_of layout ≡ wanted_in role plan.now) }
+    ensures delimiter { IfOk result (λ layout. layout.delimiter ≡ delimiter_in role plan.now) }
+    ensures most { IfOk result (λ layout. layout.most_rows ≡ MOST_ROWS) }
 {
-    let columns = columns_a(alloc, plan.fields.fields())?;
-    let layout = Layout {
-        delimiter: plan.delimiter_a,
-        id: Some(plan.id_a.copy(alloc)?),
-        columns: columns.names,
-        most_rows: MOST_ROWS,
+    let (id, delimiter) = match role {
+        FileRole::B => (&plan.id_b, plan.delimiter_b),
+        _ => (&plan.id_a, plan.delimiter_a),
     };
-    match read_by(alloc, bytes, FileRole::A, layout) {
-        Ok(table) => Ok(Source {
-            table,
-            sorts: columns.sorts,
-        }),
-        Err(fault) => Err(fault),
-    }
+    Ok(Layout {
+        delimiter,
+        id: Some(id.copy(alloc)?),
+        columns,
+        most_rows: MOST_ROWS,
+    })
 }
 
-pub(crate) fn read_b(alloc: Global, plan: &Plan, bytes: &[u8]) -> Result<Source, Fault>
+/// The table of A or of B, and what its fields hold.
+pub(crate) fn read_source(
+    alloc: Global,
+    plan: &Plan,
+    role: FileRole,
+    bytes: &[u8],
+) -> Result<Source, Fault>
     ensures kind { IfErr result IsInputFault }
-    ensures answer { Gives (λ (source : Source). source.table) (table_b plan.now bytes.now) result }
+    ensures answer { Gives (λ (source : Source). source.table) (table_in role plan.now bytes.now) result }
     ensures read { IfOk result (λ source. IsReadTable plan.now source.table) }
-    ensures sorts { IfOk result (λ source. source.sorts.items ≡ sorts_b plan.now) }
+    ensures sorts { IfOk result (λ source. source.sorts.items ≡ sorts_in role plan.now) }
     ensures few { IfOk result (λ source. length source.sorts.items ≤ MOST_FIELDS) }
 {
-    let columns = columns_b(alloc, plan.fields.fields())?;
-    let layout = Layout {
-        delimiter: plan.delimiter_b,
-        id: Some(plan.id_b.copy(alloc)?),
-        columns: columns.names,
-        most_rows: MOST_ROWS,
-    };
-    match read_by(alloc, bytes, FileRole::B, layout) {
+    let columns = columns_of(alloc, plan.fields.fields(), role)?;
+    let layout = layout_of(alloc, plan, role, columns.names)?;
+    match read_by(alloc, bytes, role, layout) {
         Ok(table) => Ok(Source {
             table,
             sorts: columns.sorts,

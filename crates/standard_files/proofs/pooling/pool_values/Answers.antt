@@ -1,43 +1,33 @@
+use Rattle.std.proofs.Common.{◌≡◌, List, true, ℕ}
+use Rattle.value_pool.specs.Texts.{stands_among}
 use Rattle.standard_files.specs.Texts.{all_texts}
 use Rattle.standard_files.proofs.PlaceLemmas.{extends-self}
 use Rattle.standard_files.proofs.SideLemmas.{file-sides}
 use Rattle.standard_files.proofs.StandLemmas.{holds-parts, in-canons-a, in-canons-b, in-parts-a, in-parts-b, taken-stands}
+use Rattle.standard_files.proofs.pooling.pool_values.Goals.{After-are_distinct}
 use Rattle.standard_files.proofs.pooling.pool_values.Goals as goal
 
+abbrev all_of : After-are_distinct → List (List ℕ)
+all_of c = all_texts c.args.kinds.now c.args.passes.now c.args.a.now c.args.b.now
+
+-- each of the texts stands in the pool
+held : (c : After-are_distinct) (text : List ℕ) → stands_among (all_of c) text ≡ true → stands_among c.take_values.new.pool.texts text ≡ true
+held c text h = taken-stands _ (all_of c) _ c.take_values.new.pool.texts text c.in_ok-a.ensures.texts h
+
 pub returns-clause-parts_a : goal.returns-clause-parts_a
-returns-clause-parts_a c =
-    let kinds = c.args.kinds.now in
-    let passes = c.args.passes.now in
-    let a = c.args.a.now in
-    let b = c.args.b.now in
-    let texts = c.take_values.new.pool.texts in
-    holds-parts texts passes a (λ text h. taken-stands _ (all_texts kinds passes a b) _ texts text c.in_ok-a.ensures.texts (in-parts-a kinds passes a b text h))
+returns-clause-parts_a c = holds-parts _ _ c.args.a.now (λ text h. held c text (in-parts-a c.args.kinds.now c.args.passes.now c.args.a.now c.args.b.now text h))
 
 pub returns-clause-parts_b : goal.returns-clause-parts_b
-returns-clause-parts_b c =
-    let kinds = c.args.kinds.now in
-    let passes = c.args.passes.now in
-    let a = c.args.a.now in
-    let b = c.args.b.now in
-    let texts = c.take_values.new.pool.texts in
-    holds-parts texts passes b (λ text h. taken-stands _ (all_texts kinds passes a b) _ texts text c.in_ok-a.ensures.texts (in-parts-b kinds passes a b text h))
+returns-clause-parts_b c = holds-parts _ _ c.args.b.now (λ text h. held c text (in-parts-b c.args.kinds.now c.args.passes.now c.args.a.now c.args.b.now text h))
 
 pub returns-clause-sides_a : goal.returns-clause-sides_a
 returns-clause-sides_a c =
-    let kinds = c.args.kinds.now in
-    let passes = c.args.passes.now in
-    let a = c.args.a.now in
-    let b = c.args.b.now in
     let texts = c.take_values.new.pool.texts in
-    file-sides texts kinds a c.in_ok-a.a.rows c.requires.rows_a (c.in_ok-a.ensures.a texts (extends-self texts c.are_distinct.ensures.distinct))
-    (λ text h. taken-stands _ (all_texts kinds passes a b) _ texts text c.in_ok-a.ensures.texts (in-canons-a kinds passes a b text h))
+    file-sides texts c.args.kinds.now c.args.a.now c.in_ok-a.a.rows c.requires.rows_a (c.in_ok-a.ensures.a texts (extends-self texts c.are_distinct.ensures.distinct))
+    (λ text h. held c text (in-canons-a c.args.kinds.now c.args.passes.now c.args.a.now c.args.b.now text h))
 
 pub returns-clause-sides_b : goal.returns-clause-sides_b
 returns-clause-sides_b c =
-    let kinds = c.args.kinds.now in
-    let passes = c.args.passes.now in
-    let a = c.args.a.now in
-    let b = c.args.b.now in
     let texts = c.take_values.new.pool.texts in
-    file-sides texts kinds b c.in_ok-a.b.rows c.requires.rows_b (c.in_ok-a.ensures.b texts (extends-self texts c.are_distinct.ensures.distinct))
-    (λ text h. taken-stands _ (all_texts kinds passes a b) _ texts text c.in_ok-a.ensures.texts (in-canons-b kinds passes a b text h))
+    file-sides texts c.args.kinds.now c.args.b.now c.in_ok-a.b.rows c.requires.rows_b (c.in_ok-a.ensures.b texts (extends-self texts c.are_distinct.ensures.distinct))
+    (λ text h. held c text (in-canons-b c.args.kinds.now c.args.passes.now c.args.a.now c.args.b.now text h))

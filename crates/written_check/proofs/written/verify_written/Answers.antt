@@ -64,86 +64,50 @@ returns-in-Err-clause-answer c = refuses-then is_want _ _ c.in-Err.refutation (r
 
 pub returns-in-Err-verify_links-clause-answer : goal.returns-in-Err-verify_links-clause-answer
 returns-in-Err-verify_links-clause-answer c =
-    let rares = rare_of c.args.shape.now in
-    let cells = c.args.table.now.cells.items in
-    let cs = c.args.candidates.now in
-    let a = c.args.a.now in
-    let b = c.args.b.now in
-    let texts = texts_in c.args.written.now in
     let rule = rw c.bytes.ensures at c.in-Ok.ensures.answer in
-    refuses_whole (verified rares cells cs a b texts) _ c.in-Err-verify_links.refutation (after_rule rares cells cs a b texts _ rule)
+    refuses_whole _ _ c.in-Err-verify_links.refutation (after_rule _ _ _ _ _ _ _ rule)
     (refuses-then is_want _ _ c.in-Err-verify_links.refutation (rw c.bytes-2.ensures at c.in-Err-verify_links.ensures.answer))
 
 pub returns-in-Err-verify_apart-clause-answer : goal.returns-in-Err-verify_apart-clause-answer
 returns-in-Err-verify_apart-clause-answer c =
-    let rares = rare_of c.args.shape.now in
-    let cells = c.args.table.now.cells.items in
-    let cs = c.args.candidates.now in
-    let a = c.args.a.now in
-    let b = c.args.b.now in
-    let texts = texts_in c.args.written.now in
     let rule = rw c.bytes.ensures at c.in-Ok.ensures.answer in
     let links = rw c.bytes-2.ensures at c.in-Ok-verify_links.ensures.answer in
-    refuses_whole (verified rares cells cs a b texts) _ c.in-Err-verify_apart.refutation (after_links rares cells cs a b texts _ _ rule links)
+    refuses_whole _ _ c.in-Err-verify_apart.refutation (after_links _ _ _ _ _ _ _ _ rule links)
     (refuses-then is_want _ _ c.in-Err-verify_apart.refutation (rw c.deref-2.ensures.value at c.in-Err-verify_apart.ensures.answer))
 
 pub returns-in-Err-verify_prices-clause-answer : goal.returns-in-Err-verify_prices-clause-answer
 returns-in-Err-verify_prices-clause-answer c =
-    let rares = rare_of c.args.shape.now in
-    let cells = c.args.table.now.cells.items in
-    let cs = c.args.candidates.now in
-    let a = c.args.a.now in
-    let b = c.args.b.now in
-    let texts = texts_in c.args.written.now in
     let rule = rw c.bytes.ensures at c.in-Ok.ensures.answer in
     let links = rw c.bytes-2.ensures at c.in-Ok-verify_links.ensures.answer in
     let apart = rw c.deref-2.ensures.value at c.in-Ok-verify_apart.ensures.answer in
-    refuses_whole (verified rares cells cs a b texts) _ c.in-Err-verify_prices.refutation (after_apart rares cells cs a b texts _ _ _ rule links apart)
+    refuses_whole _ _ c.in-Err-verify_prices.refutation (after_apart _ _ _ _ _ _ _ _ _ rule links apart)
     (refuses-then is_want _ _ c.in-Err-verify_prices.refutation (rw c.bytes-3.ensures at c.in-Err-verify_prices.ensures.answer))
 
 pub returns-in-Err-verify_sums-clause-answer : goal.returns-in-Err-verify_sums-clause-answer
 returns-in-Err-verify_sums-clause-answer c =
-    let rares = rare_of c.args.shape.now in
-    let cells = c.args.table.now.cells.items in
-    let cs = c.args.candidates.now in
-    let a = c.args.a.now in
-    let b = c.args.b.now in
-    let texts = texts_in c.args.written.now in
     let rule = rw c.bytes.ensures at c.in-Ok.ensures.answer in
     let links = rw c.bytes-2.ensures at c.in-Ok-verify_links.ensures.answer in
     let apart = rw c.deref-2.ensures.value at c.in-Ok-verify_apart.ensures.answer in
     let prices = rw c.bytes-3.ensures at c.in-Ok-verify_prices.ensures.answer in
-    refuses_whole (verified rares cells cs a b texts) _ c.in-Err-verify_sums.refutation (after_prices rares cells cs a b texts _ _ _ _ rule links apart prices)
+    refuses_whole _ _ c.in-Err-verify_sums.refutation (after_prices _ _ _ _ _ _ _ _ _ _ rule links apart prices)
     (rw c.deref-4.ensures.value at c.in-Err-verify_sums.ensures.answer)
 
 pub returns-in-Ok-verify_sums-clause-answer : goal.returns-in-Ok-verify_sums-clause-answer
 returns-in-Ok-verify_sums-clause-answer c =
-    let rares = rare_of c.args.shape.now in
-    let cells = c.args.table.now.cells.items in
-    let cs = c.args.candidates.now in
-    let a = c.args.a.now in
-    let b = c.args.b.now in
-    let texts = texts_in c.args.written.now in
     let rule = rw c.bytes.ensures at c.in-Ok.ensures.answer in
     let links = rw c.bytes-2.ensures at c.in-Ok-verify_links.ensures.answer in
     let apart = rw c.deref-2.ensures.value at c.in-Ok-verify_apart.ensures.answer in
     let prices = rw c.bytes-3.ensures at c.in-Ok-verify_prices.ensures.answer in
-    after_prices rares cells cs a b texts _ _ _ _ rule links apart prices ∙ (rw c.deref-4.ensures.value at c.in-Ok-verify_sums.ensures.answer)
+    after_prices _ _ _ _ _ _ _ _ _ _ rule links apart prices ∙ (rw c.deref-4.ensures.value at c.in-Ok-verify_sums.ensures.answer)
 
 pub returns-in-Ok-verify_sums-clause-greatest : goal.returns-in-Ok-verify_sums-clause-greatest
 returns-in-Ok-verify_sums-clause-greatest c =
-    let rares = rare_of c.args.shape.now in
-    let cells = c.args.table.now.cells.items in
-    let cs = c.args.candidates.now in
-    let a = c.args.a.now in
-    let b = c.args.b.now in
-    let texts = texts_in c.args.written.now in
     let rule = rw c.bytes.ensures at c.in-Ok.ensures.answer in
     let links = rw c.bytes-2.ensures at c.in-Ok-verify_links.ensures.answer in
     let apart = rw c.deref-2.ensures.value at c.in-Ok-verify_apart.ensures.answer in
     let prices = rw c.bytes-3.ensures at c.in-Ok-verify_prices.ensures.answer in
-    let verified_so = after_prices rares cells cs a b texts _ _ _ _ rule links apart prices ∙ (rw c.deref-4.ensures.value at c.in-Ok-verify_sums.ensures.answer) in
-    (c.verified_is_greatest.ensures rares cells cs a b texts c.in-Ok-verify_links.links.items verified_so).greatest
+    let verified_so = after_prices _ _ _ _ _ _ _ _ _ _ rule links apart prices ∙ (rw c.deref-4.ensures.value at c.in-Ok-verify_sums.ensures.answer) in
+    (c.verified_is_greatest.ensures _ _ _ _ _ _ c.in-Ok-verify_links.links.items verified_so).greatest
 
 pub returns-in_err-pairs-clause-answer : goal.returns-in_err-pairs-clause-answer
 returns-in_err-pairs-clause-answer c = free (λ (links : Vec Candidate Global). links.items) _ c.from_residual.result c.from_residual.ensures.1
