@@ -8,3 +8,4 @@ pub mod Steps
 pub mod Region
 pub mod Left
 pub mod Reader
+pub mod Plain

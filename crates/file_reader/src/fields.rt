@@ -1,5 +1,5 @@
 // The fields of a record.
-ghost use Rattle.std.specs.Prelude.{◌≡◌, [], IsTrue, slice_index_or, count_by, bytes_eq};
+ghost use Rattle.std.specs.Prelude.{◌≡◌, ◌↔◌, [], IsTrue, slice_index_or, count_by, bytes_eq};
 ghost use Rattle.std.specs.List.{position_or_len};
 ghost use Rattle.std.specs.Str.{IsAscii, is_utf8};
 ghost use Rattle.csv.specs.Records.{fields_of};
@@ -43,7 +43,7 @@ pub(crate) fn count_of(row: &ByteRecord, column: &[u8]) -> usize
 
 // Whether a field is ASCII. Fields are short, so that byte by byte is fastest.
 pub(crate) fn is_plain(field: &[u8]) -> bool
-    ensures { IsTrue result → IsAscii field.now }
+    ensures { IsTrue result ↔ IsAscii field.now }
 {
     for byte in field {
         if *byte >= 128 {

@@ -1,10 +1,12 @@
 // The rows of a table.
-ghost use Rattle.std.specs.Prelude.{◌≡◌, ◌≤◌, ◌<◌, ◌*◌, ◌++◌, ◌∷◌, [], IfOk, IsTrue, None, OnOk, IfErr, length, ℕ};
+ghost use Rattle.std.specs.Prelude.{◌≡◌, ◌≤◌, ◌<◌, ◌*◌, ◌++◌, ◌∷◌, [], All, IfOk, IsTrue, None, OnOk, IfErr, length, ℕ};
 ghost use Rattle.csv.specs.Records.{fields_of};
 ghost use Rattle.file_reader.specs.Left.{records_in};
 ghost use Rattle.link_base.specs.Fault.{Gives, IsAnswer, IsInputFault};
-ghost use Rattle.file_reader.specs.Layout.{cells_of, heading_of, heading_under, needed_of, wanted_of};
+ghost use Rattle.file_reader.specs.Layout.{cell, cells_of, heading_of, heading_under, needed_of, wanted_of};
+ghost use Rattle.file_reader.specs.Plain.{IsPlain};
 ghost use Rattle.file_reader.specs.Rows.{table_rows};
+ghost use Rattle.file_reader.specs.declared.layout.Column.{Column as Needed};
 ghost use Rattle.file_reader.specs.Steps.{KeepsId, TakesRow};
 ghost use Rattle.file_reader.specs.Table.{HasDistinctIds, HasTexts, HasWidth, header_fault, id_fault, length_fault, row_fault, rows_read, table_of, taken, Tests, text_fault, under_header, utf8_fault};
 
@@ -58,7 +60,8 @@ fn test_lengths(alloc: Global, head: &Head, number: u32, row: &ByteRecord) -> Re
 
 // Whether the needed fields of a row are ASCII and not too long, as most are.
 fn are_plain(head: &Head, row: &ByteRecord) -> bool
-    ensures { IsTrue result → (number : ℕ) → text_fault (heading_of head.now) number (fields_of row.now) ≡ None }
+    ensures faultless { IsTrue result → (number : ℕ) → text_fault (heading_of head.now) number (fields_of row.now) ≡ None }
+    ensures all { All (λ (c : Needed). IsPlain (cell (fields_of row.now) c)) head.now.columns.items → IsTrue result }
 {
     for needed in &head.columns {
         let field = field_of(row, needed.place);

@@ -1,5 +1,6 @@
 // Texts taken into a pool.
-ghost use Rattle.std.specs.Prelude.{◌≡◌, ◌++◌, ◌∷◌, [], IfOk, List, OnOk, Some, option_to_list, slice_get};
+ghost use Rattle.std.specs.Prelude.{◌≡◌, ◌≤◌, ◌++◌, ◌∷◌, ◌*◌, ◌-◌, ◌^◌, [], IfOk, List, OnOk, Some, length, min, option_to_list, slice_get, vec_capacity};
+ghost use Rattle.block_passes.specs.Index.{row_at};
 ghost use Rattle.link_base.specs.declared.standard.Value.{Value as FieldValue};
 ghost use Rattle.standard_files.specs.Known.{AreTextIds, IsIdOf, file_values};
 ghost use Rattle.standard_files.specs.Taking.{TakesTexts};
@@ -60,7 +61,8 @@ fn take_row(
 
 // Room for an id of each value of a file, where each record has as many values as the first.
 fn room_for_ids(alloc: Global, file: &StdFile) -> Result<Vec<Option<Id>>, NoMemory>
-    ensures { IfOk result (λ ids. ids.items ≡ []) }
+    ensures none { IfOk result (λ ids. ids.items ≡ []) }
+    ensures room { IfOk result (λ ids. min (length file.now * length (row_at file.now 0)) (2 ^ 64 - 1) ≤ vec_capacity ids) }
 {
     let rows = file.rows() as usize;
     let width = if rows == 0 { 0 } else { file.row(0).len() };

@@ -1,5 +1,5 @@
 // The characters of a name, cleaned.
-ghost use Rattle.std.specs.Prelude.{◌≡◌, ◌<◌, ◌≤◌, ◌++◌, ◌∷◌, [], IsTrue, OnOk, IfOk, chars, encode_utf8_all, length};
+ghost use Rattle.std.specs.Prelude.{◌≡◌, ◌↔◌, ◌<◌, ◌≤◌, ◌++◌, ◌∷◌, [], IsTrue, OnOk, IfOk, chars, encode_utf8_all, length};
 ghost use Rattle.std.specs.List.{flat_map};
 ghost use Rattle.std.specs.Option.{option_to_list};
 ghost use Rattle.std.specs.Str.{IsAscii, IsUtf8};
@@ -175,7 +175,7 @@ fn clean_plain(alloc: Global, text: &[u8]) -> Result<Text, NoMemory>
 
 // Whether a text is ASCII. Names are short, so that byte by byte is fastest.
 fn is_plain(text: &[u8]) -> bool
-    ensures { IsTrue result → IsAscii text.now }
+    ensures { IsTrue result ↔ IsAscii text.now }
 {
     for byte in text {
         if *byte >= 128 {

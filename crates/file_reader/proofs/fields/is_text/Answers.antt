@@ -5,7 +5,7 @@ use Rattle.std.specs.Str.{is_utf8}
 use Rattle.file_reader.proofs.fields.is_text.Goals as goal
 
 pub returns-then-is_plain : goal.returns-then-is_plain
-returns-then-is_plain c = sym (is_utf8-from_IsUtf8 c.args.field.now (IsUtf8-from_ascii c.args.field.now (c.is_plain.ensures c.if-is_plain.true)))
+returns-then-is_plain c = sym (is_utf8-from_IsUtf8 c.args.field.now (IsUtf8-from_ascii c.args.field.now (c.is_plain.ensures.0 c.if-is_plain.true)))
 
 pub returns-in-Ok : goal.returns-in-Ok
 returns-in-Ok c = sym (is_utf8-from_IsUtf8 c.args.field.now c.in-Ok.ensures.cases.1)

@@ -18,7 +18,7 @@ loop-needed-preserved c =
     let told = rw same at c.needed-item.is in
     let within : at < length items = omega (arith, ap length same) in
     let field = c.field_of-field.result.now in
-    let is_text = is_utf8-from_IsUtf8 field (IsUtf8-from_ascii field (c.is_plain.ensures c.if-not-is_plain.false)) in
+    let is_text = is_utf8-from_IsUtf8 field (IsUtf8-from_ascii field (c.is_plain.ensures.0 c.if-not-is_plain.false)) in
     let text = ap not (ap is_utf8 (sym c.field_of-field.ensures) ∙ is_text) in
     let short = ap (λ t. nat_lt MOST_FIELD_BYTES (length t)) (sym c.field_of-field.ensures) ∙ no_more MOST_FIELD_BYTES (length field) c.if-field-gt-MOST_FIELD_BYTES.false in
     record {
@@ -26,8 +26,8 @@ loop-needed-preserved c =
       lengths = find_next (λ (x : Column). nat_lt MOST_FIELD_BYTES (length (cell row x))) items at c.needed-item.result within told c.loop-needed.invariant.lengths short;
     }
 
-pub returns : goal.returns
-returns c told number =
+pub returns-clause-faultless : goal.returns-clause-faultless
+returns-clause-faultless c told number =
     let row = fields_of c.args.row.now in
     let items = c.args.head.now.columns.items in
     let past : length items ≤ c.loop-needed.needed-index = omega (arith, ap length c.deref-needed-items.ensures.value, c.loop-needed-test.false) in

@@ -9,13 +9,13 @@ use Rattle.standardise.proofs.cleaning.clean.Goals as goal
 
 pub returns-then-is_plain-clause-text : goal.returns-then-is_plain-clause-text
 returns-then-is_plain-clause-text c =
-    let plain : IsAscii c.args.text.now = subst IsAscii c.as_bytes-bytes.ensures.value (c.is_plain.ensures c.if-is_plain.true) in
+    let plain : IsAscii c.args.text.now = subst IsAscii c.as_bytes-bytes.ensures.value (c.is_plain.ensures.0 c.if-is_plain.true) in
     c.in_ok-cleaned.ensures ∙ ap (flat_map (λ b. option_to_list (ascii_cleaned b))) c.as_bytes-bytes.ensures.value ∙ ascii_text c.args.text.now plain
 
 pub returns-then-is_plain-clause-utf8 : goal.returns-then-is_plain-clause-utf8
 returns-then-is_plain-clause-utf8 c =
     let text = c.args.text.now in
-    let plain : IsAscii text = subst IsAscii c.as_bytes-bytes.ensures.value (c.is_plain.ensures c.if-is_plain.true) in
+    let plain : IsAscii text = subst IsAscii c.as_bytes-bytes.ensures.value (c.is_plain.ensures.0 c.if-is_plain.true) in
     let is : c.in_ok-cleaned.cleaned ≡ flat_map (λ b. option_to_list (ascii_cleaned b)) text = c.in_ok-cleaned.ensures ∙ ap (flat_map (λ b. option_to_list (ascii_cleaned b))) c.as_bytes-bytes.ensures.value in
     subst (λ (v : List ℕ). IsUtf8 v) (sym is) (IsUtf8-from_ascii (flat_map (λ b. option_to_list (ascii_cleaned b)) text) (ascii_stays text plain))
 
