@@ -8,3 +8,4 @@ pub mod IndexRows
 pub mod Ids
 pub mod IdCodes
 pub mod OnePart
+pub mod KeyIds
