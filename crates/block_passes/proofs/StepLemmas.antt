@@ -10,7 +10,8 @@ use Rattle.block_passes.specs.Codes.{coded_text, coded_texts, extended_code, key
 use Rattle.block_passes.specs.Keys.{extended_key, joined_key, key_in_pass, no_part, part_key}
 use Rattle.block_passes.specs.Numbering.{AreNumbered, AreNumbers, IsNumbered, KeepNumbers, number_among}
 
-told_more : (f : ℕ → ℕ) (at : ℕ) (numbers more : List ℕ) (n : ℕ) → length numbers ≡ at → ((j : ℕ) → j < at → get_or numbers j 0 ≡ f j) → more ≡ numbers ++ n ∷ [] → n ≡ f at
+-- one number more
+pub told_more : (f : ℕ → ℕ) (at : ℕ) (numbers more : List ℕ) (n : ℕ) → length numbers ≡ at → ((j : ℕ) → j < at → get_or numbers j 0 ≡ f j) → more ≡ numbers ++ n ∷ [] → n ≡ f at
     → (length more ≡ at + 1) × ((j : ℕ) → j < at + 1 → get_or more j 0 ≡ f j)
 told_more f at numbers more n len told grown is = (
   ap length grown ∙ length-append numbers (n ∷ []) ∙ omega (arith, len),

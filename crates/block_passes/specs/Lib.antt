@@ -9,3 +9,4 @@ pub mod Ids
 pub mod IdCodes
 pub mod OnePart
 pub mod KeyIds
+pub mod PassIds

@@ -1,34 +1,29 @@
 // Up to four ids side by side, and longer lists of them as bytes.
-ghost use Rattle.std.specs.Prelude.{◌≡◌, ◌≤◌, ℕ, IfOk, length, slice_index_or};
-ghost use Rattle.block_passes.specs.Ids.{AreHeld, id_key_in};
+ghost use Rattle.std.specs.Prelude.{◌≡◌, ◌≤◌, IfOk, length, slice_index_or};
 ghost use Rattle.block_passes.specs.IdCodes.{coded_ids, four_ids, id_bytes, padded};
-ghost use Rattle.block_passes.specs.Keys.{AreReadable, InRange};
+ghost use Rattle.block_passes.specs.PassIds.{all_ids};
 
 use crate::codes::push_text;
-use crate::ids::part_id;
-use link_base::{NoMemory, Pass, Value};
+use link_base::NoMemory;
 use std::alloc::Global;
-use value_pool::{Id, Pool};
+use value_pool::Id;
 
 /// The most parts of a key that has a code of ids.
 pub(crate) const MOST_IDS: usize = 4;
 
-/// The ids of the key of a row in a pass of at most four parts.
-pub(crate) fn row_ids(row: &[Value], pass: &Pass, pool: &Pool) -> Option<[u32; MOST_IDS]>
-    requires few { length pass.now ≤ 4 }
-    requires in_range { InRange row.now pass.now }
-    requires readable { AreReadable row.now pass.now }
-    requires held { AreHeld pool.now.texts row.now pass.now }
-    ensures { result ≡ four_ids (id_key_in pool.now.texts row.now pass.now) }
+/// The places of at most four ids, present where each is.
+pub(crate) fn four_places(ids: &[Option<Id>]) -> Option<[u32; MOST_IDS]>
+    requires { length ids.now ≤ 4 }
+    ensures { result ≡ four_ids (all_ids ids.now) }
 {
-    let mut ids = [0; MOST_IDS];
-    for (at, part) in pass.parts().iter().enumerate() {
-        match part_id(row, *part, pool) {
+    let mut places = [0; MOST_IDS];
+    for (at, id) in ids.iter().enumerate() {
+        match id {
             None => return None,
-            Some(id) => ids[at] = id.place(),
+            Some(id) => places[at] = id.place(),
         }
     }
-    Some(ids)
+    Some(places)
 }
 
 fn place_at(ids: &[Id], at: usize) -> u32

@@ -6,58 +6,54 @@ ghost use Rattle.block_passes.specs.IndexRows.{id_index_rows, rows_by_ids};
 ghost use Rattle.block_passes.specs.Keys.{AreReadable, InRange};
 ghost use Rattle.block_passes.specs.Index.{AreReady};
 ghost use Rattle.block_passes.specs.CodedRows.{rows_of_code};
+ghost use Rattle.block_passes.specs.PassIds.{AreFew, four_at};
 ghost use Rattle.block_passes.specs.Numbering.{AreNumbered, AreNumbers, number_among};
 
 use crate::groups::Groups;
-use crate::id_codes::{MOST_IDS, first_ids, row_ids};
+use crate::id_codes::{MOST_IDS, first_ids, four_places};
 use crate::id_numbering::IdNumbering;
 use crate::ids::{IdKey, id_key};
 use crate::index::RowsByCode;
 use crate::numbering::Numbering;
+use crate::part_ids::ids_in_passes;
+use crate::pass_ids::PassIds;
 use link_base::{NoMemory, Pass, StdFile, Value};
 use std::alloc::Global;
+use std::slice::from_ref;
 use value_pool::Pool;
 
-// Gives each row of a file the number of its ids, or the next number.
+// Gives each row the number of its ids, or the next number.
 fn number_ids(
     alloc: Global,
-    file: &StdFile,
-    pass: &Pass,
-    pool: &Pool,
+    keys: &PassIds<'_>,
     numbering: &mut IdNumbering,
 ) -> Result<Vec<u32>, NoMemory>
-    requires parts { length pass.now ≤ 4 }
-    requires ready { AreReady pass.now file.now }
-    requires held { AreAllHeld pool.now.texts pass.now file.now }
+    requires parts { AreFew keys.now }
     requires empty { numbering.old ≡ [] }
     ensures few { IfOk result (λ numbers. length numbers.items < 2 ^ 32) }
-    ensures numbers { IfOk result (λ numbers. AreNumbers numbering.new (four_ids_at pool.now.texts pass.now file.now) (length file.now) numbers.items) }
-    ensures numbered { IfOk result (λ _. AreNumbered numbering.new (four_ids_at pool.now.texts pass.now file.now) (length file.now)) }
+    ensures numbers { IfOk result (λ numbers. AreNumbers numbering.new (four_at keys.now) (length keys.now) numbers.items) }
+    ensures numbered { IfOk result (λ _. AreNumbered numbering.new (four_at keys.now) (length keys.now)) }
 {
-    let mut numbers = Vec::new(alloc);
-    for at in 0..file.rows() {
-        let number = numbering.number(row_ids(file.row(at), pass, pool))?;
+    let mut numbers = Vec::with_capacity(alloc, keys.rows() as usize)?;
+    for at in 0..keys.rows() {
+        let number = numbering.number(four_places(keys.row(at)))?;
         numbers.push(number)?;
     }
     Ok(numbers)
 }
 
-/// The number of the ids of each row of a file.
+/// The number of the ids of each row.
 pub(crate) fn find_ids(
     alloc: Global,
-    file: &StdFile,
-    pass: &Pass,
-    pool: &Pool,
+    keys: &PassIds<'_>,
     numbering: &IdNumbering,
 ) -> Result<Vec<u32>, NoMemory>
-    requires parts { length pass.now ≤ 4 }
-    requires ready { AreReady pass.now file.now }
-    requires held { AreAllHeld pool.now.texts pass.now file.now }
-    ensures { IfOk result (λ numbers. AreNumbers numbering.now (four_ids_at pool.now.texts pass.now file.now) (length file.now) numbers.items) }
+    requires parts { AreFew keys.now }
+    ensures { IfOk result (λ numbers. AreNumbers numbering.now (four_at keys.now) (length keys.now) numbers.items) }
 {
-    let mut numbers = Vec::new(alloc);
-    for at in 0..file.rows() {
-        let number = numbering.find(row_ids(file.row(at), pass, pool));
+    let mut numbers = Vec::with_capacity(alloc, keys.rows() as usize)?;
+    for at in 0..keys.rows() {
+        let number = numbering.find(four_places(keys.row(at)));
         numbers.push(number)?;
     }
     Ok(numbers)
@@ -131,15 +127,26 @@ pub fn build_index_in(
             rows: RowsByIds::Long(rows),
         });
     }
-    let rows = index_ids(alloc, file, pass, pool)?;
+    let rows = index_four(alloc, file, pass, pool)?;
     Ok(IdIndex {
         parts,
         rows: RowsByIds::Four(rows),
     })
 }
 
-/// The index of a pass of at most four parts, as the numbers of the ids tell it.
-pub(crate) fn index_ids(
+/// The rows by at most four ids, as the numbers of the ids tell them.
+pub(crate) fn index_ids(alloc: Global, keys: &PassIds<'_>) -> Result<RowsByFour, NoMemory>
+    requires parts { AreFew keys.now }
+    ensures { IfOk result (λ rows. (ids : Option (List ℕ)) → slice_index_or rows.groups (number_among rows.numbering ids) [] ≡ rows_of_code (four_at keys.now) (length keys.now) ids) }
+{
+    let mut numbering = IdNumbering::new(alloc);
+    let numbers = number_ids(alloc, keys, &mut numbering)?;
+    let groups = Groups::new(alloc, &numbers, numbering.count())?;
+    Ok(RowsByFour { numbering, groups })
+}
+
+// The index of a pass of at most four parts, as the numbers of the ids tell it.
+fn index_four(
     alloc: Global,
     file: &StdFile,
     pass: &Pass,
@@ -150,10 +157,11 @@ pub(crate) fn index_ids(
     requires held { AreAllHeld pool.now.texts pass.now file.now }
     ensures { IfOk result (λ rows. (ids : Option (List ℕ)) → slice_index_or rows.groups (number_among rows.numbering ids) [] ≡ rows_of_code (four_ids_at pool.now.texts pass.now file.now) (length file.now) ids) }
 {
-    let mut numbering = IdNumbering::new(alloc);
-    let numbers = number_ids(alloc, file, pass, pool, &mut numbering)?;
-    let groups = Groups::new(alloc, &numbers, numbering.count())?;
-    Ok(RowsByFour { numbering, groups })
+    let passes = from_ref(pass);
+    let ids = ids_in_passes(alloc, file, passes, pool)?;
+    let keys = PassIds::of(&ids, passes, 0, file.rows());
+    let rows = index_ids(alloc, &keys)?;
+    Ok(rows)
 }
 
 // The ids of the key of a row as bytes.

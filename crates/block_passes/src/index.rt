@@ -5,7 +5,9 @@ ghost use Rattle.block_passes.specs.IndexRows.{index_rows};
 ghost use Rattle.block_passes.specs.Index.{AreReady, row_at, rows_with_key};
 ghost use Rattle.block_passes.specs.CodedRows.{code_of_row, rows_with_code};
 ghost use Rattle.block_passes.specs.Numbering.{AreNumbered, AreNumbers, number_among};
+ghost use Rattle.block_passes.specs.KeyIds.{key_ids};
 ghost use Rattle.block_passes.specs.Keys.{key_in_pass};
+ghost use Rattle.block_passes.specs.PassIds.{AreByPart};
 
 use crate::codes::row_code;
 use crate::groups::Groups;
@@ -13,11 +15,12 @@ use crate::id_codes::MOST_IDS;
 use crate::id_index::{find_ids, index_ids};
 use crate::keys::PassKey;
 use crate::numbering::Numbering;
+use crate::part_ids::KeyedPool;
 use crate::part_numbers::part_numbers;
-use link_base::{NoMemory, Pass, StdFile};
+use crate::pass_ids::PassIds;
+use link_base::{NoMemory, Pass, PassList, StdFile};
 use std::alloc::Global;
 use std::marker::Model;
-use value_pool::Pool;
 
 // Gives each row of a file the number of its code, or the next number.
 fn number_rows(
@@ -139,51 +142,56 @@ impl PassRows {
         Ok(PassRows::of(numbers, index.groups))
     }
 
-    /// The same rows, found by the ids of the texts of the keys, which stand in a pool.
+    /// The same rows in the pass `at`, by the ids of the parts of the keys in a pool: no text is made or sought, but for a pass
+    /// of more than four parts.
     pub fn new_in(
         alloc: Global,
         a: &StdFile,
         b: &StdFile,
-        pass: &Pass,
-        pool: &Pool,
+        passes: &PassList,
+        at: usize,
+        keyed: &KeyedPool<'_>,
     ) -> Result<PassRows, NoMemory>
-        requires ready_a { AreReady pass.now a.now }
-        requires ready_b { AreReady pass.now b.now }
-        requires held_a { AreAllHeld pool.now.texts pass.now a.now }
-        requires held_b { AreAllHeld pool.now.texts pass.now b.now }
+        requires at { at < length passes.now }
+        requires ready_a { AreReady (slice_index_or passes.now at []) a.now }
+        requires ready_b { AreReady (slice_index_or passes.now at []) b.now }
+        requires held_a { AreAllHeld keyed.now.pool.now.texts (slice_index_or passes.now at []) a.now }
+        requires held_b { AreAllHeld keyed.now.pool.now.texts (slice_index_or passes.now at []) b.now }
+        requires keys_a { keyed.now.a.now ≡ key_ids keyed.now.pool.now.texts passes.now a.now }
+        requires keys_b { keyed.now.b.now ≡ key_ids keyed.now.pool.now.texts passes.now b.now }
         ensures len { IfOk result (λ rows. length rows ≡ length a.now) }
-        ensures rows { IfOk result (λ rows. (at : ℕ) → at < length a.now → slice_index_or rows at [] ≡ rows_with_key pass.now b.now (key_in_pass (row_at a.now at) pass.now)) }
+        ensures rows { IfOk result (λ rows. (j : ℕ) → j < length a.now → slice_index_or rows j [] ≡ rows_with_key (slice_index_or passes.now at []) b.now (key_in_pass (row_at a.now j) (slice_index_or passes.now at []))) }
     {
-        if pass.parts().len() == 1 {
-            return PassRows::by_part(alloc, a, b, pass, pool);
-        }
-        if pass.parts().len() > MOST_IDS {
+        let passes = passes.passes();
+        let pass = &passes[at];
+        let parts = pass.parts().len();
+        if parts > MOST_IDS {
             return PassRows::new(alloc, a, b, pass);
         }
-        let index = index_ids(alloc, b, pass, pool)?;
-        let numbers = find_ids(alloc, a, pass, pool, &index.numbering)?;
+        let of_a = PassIds::of(keyed.a, passes, at, a.rows());
+        let of_b = PassIds::of(keyed.b, passes, at, b.rows());
+        if parts == 1 {
+            let rows = PassRows::by_part(alloc, &of_a, &of_b, keyed.pool.len())?;
+            return Ok(rows);
+        }
+        let index = index_ids(alloc, &of_b)?;
+        let numbers = find_ids(alloc, &of_a, &index.numbering)?;
         Ok(PassRows::of(numbers, index.groups))
     }
 
-    // The same rows in a pass of one part: the place of its text in the pool is the number of a key, so that no key is numbered.
+    // The rows in a pass of one part: the place of its text among those of the pool is the number of a key, so that no key is
+    // numbered.
     fn by_part(
         alloc: Global,
-        a: &StdFile,
-        b: &StdFile,
-        pass: &Pass,
-        pool: &Pool,
+        a: &PassIds<'_>,
+        b: &PassIds<'_>,
+        texts: u32,
     ) -> Result<PassRows, NoMemory>
-        requires one { length pass.now ≡ 1 }
-        requires ready_a { AreReady pass.now a.now }
-        requires ready_b { AreReady pass.now b.now }
-        requires held_a { AreAllHeld pool.now.texts pass.now a.now }
-        requires held_b { AreAllHeld pool.now.texts pass.now b.now }
-        ensures len { IfOk result (λ rows. length rows ≡ length a.now) }
-        ensures rows { IfOk result (λ rows. (at : ℕ) → at < length a.now → slice_index_or rows at [] ≡ rows_with_key pass.now b.now (key_in_pass (row_at a.now at) pass.now)) }
+        ensures { IfOk result (AreByPart a.now b.now texts) }
     {
-        let of_b = part_numbers(alloc, b, pass, pool)?;
-        let groups = Groups::new(alloc, &of_b, pool.len())?;
-        let numbers = part_numbers(alloc, a, pass, pool)?;
+        let of_b = part_numbers(alloc, b)?;
+        let groups = Groups::new(alloc, &of_b, texts)?;
+        let numbers = part_numbers(alloc, a)?;
         Ok(PassRows::of(numbers, groups))
     }
 

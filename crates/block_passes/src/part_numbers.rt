@@ -1,48 +1,31 @@
 // The numbers of keys of one part: the places of their texts in a pool.
 ghost use Rattle.std.specs.Prelude.{◌≡◌, ◌<◌, ◌^◌, IfOk, length};
-ghost use Rattle.block_passes.specs.Ids.{AreAllHeld};
-ghost use Rattle.block_passes.specs.Index.{AreReady};
-ghost use Rattle.block_passes.specs.Keys.{IsPartReadable, part_key};
-ghost use Rattle.block_passes.specs.Numbering.{AreNumbers, number_among};
-ghost use Rattle.block_passes.specs.OnePart.{part_at};
-ghost use Rattle.value_pool.specs.Texts.{IsHeld};
+ghost use Rattle.block_passes.specs.PassIds.{AreFirstIds, first_number};
 
 use crate::id_numbering::NO_NUMBER;
-use crate::ids::part_id;
-use link_base::{NoMemory, Part, Pass, StdFile, Value};
+use crate::pass_ids::PassIds;
+use link_base::NoMemory;
 use std::alloc::Global;
-use value_pool::Pool;
+use value_pool::Id;
 
-// The place of the part of a key that a row has in a pool that holds it.
-fn part_number(row: &[Value], part: Part, pool: &Pool) -> u32
-    requires within { part.field < length row.now }
-    requires readable { IsPartReadable row.now part }
-    requires held { IsHeld pool.now.texts (part_key row.now part) }
-    ensures { result ≡ number_among pool.now.texts (part_key row.now part) }
+// The place of the first of some ids.
+fn first_number(ids: &[Option<Id>]) -> u32
+    ensures { result ≡ first_number ids.now }
 {
-    match part_id(row, part, pool) {
-        None => NO_NUMBER,
-        Some(id) => id.place(),
+    match ids.first() {
+        Some(Some(id)) => id.place(),
+        _ => NO_NUMBER,
     }
 }
 
-/// The places of the parts of the keys of a file in a pool that holds them, row by row, in a pass of one part.
-pub(crate) fn part_numbers(
-    alloc: Global,
-    file: &StdFile,
-    pass: &Pass,
-    pool: &Pool,
-) -> Result<Vec<u32>, NoMemory>
-    requires one { length pass.now ≡ 1 }
-    requires ready { AreReady pass.now file.now }
-    requires held { AreAllHeld pool.now.texts pass.now file.now }
+/// The places of the first ids, row by row.
+pub(crate) fn part_numbers(alloc: Global, keys: &PassIds<'_>) -> Result<Vec<u32>, NoMemory>
     ensures few { IfOk result (λ numbers. length numbers.items < 2 ^ 32) }
-    ensures numbers { IfOk result (λ numbers. AreNumbers pool.now.texts (part_at pass.now file.now) (length file.now) numbers.items) }
+    ensures numbers { IfOk result (λ numbers. AreFirstIds keys.now (length keys.now) numbers.items) }
 {
-    let part = pass.parts()[0];
-    let mut numbers = Vec::with_capacity(alloc, file.rows() as usize)?;
-    for at in 0..file.rows() {
-        numbers.push(part_number(file.row(at), part, pool))?;
+    let mut numbers = Vec::with_capacity(alloc, keys.rows() as usize)?;
+    for at in 0..keys.rows() {
+        numbers.push(first_number(keys.row(at)))?;
     }
     Ok(numbers)
 }

@@ -1,5 +1,5 @@
 use Rattle.std.proofs.Common.{length, arith}
-use Rattle.block_passes.specs.IdCodes.{four_ids_at}
+use Rattle.block_passes.specs.PassIds.{four_at}
 use Rattle.block_passes.proofs.NumberLemmas.{group-is}
 use Rattle.block_passes.proofs.id_index.index_ids.Goals as goal
 
@@ -10,5 +10,4 @@ pub returns : goal.returns
 returns c = λ ids.
     let made = c.in_ok-numbers.ensures in
     let groups = rw (c.deref.ensures.value, c.count.ensures.count) at c.in_ok-groups.ensures in
-    group-is c.number_ids.new.numbering (omega (arith, c.count.ensures.few)) c.in_ok-numbers.numbers.items c.in_ok-groups.groups (four_ids_at c.args.pool.now.texts c.args.pass.now c.args.file.now) (length c.args.file.now)
-    groups made.numbers.0 made.numbers.1 made.numbered ids
+    group-is c.number_ids.new.numbering (omega (arith, c.count.ensures.few)) c.in_ok-numbers.numbers.items c.in_ok-groups.groups (four_at c.args.keys.now) (length c.args.keys.now) groups made.numbers.0 made.numbers.1 made.numbered ids

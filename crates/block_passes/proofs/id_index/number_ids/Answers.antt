@@ -1,26 +1,17 @@
 use Rattle.std.proofs.Common.{◌≡◌, ◌∷◌, ◌++◌, [], arith, rules}
-use Rattle.block_passes.specs.IdCodes.{four_ids_at}
+use Rattle.block_passes.specs.PassIds.{four_at}
 use Rattle.block_passes.proofs.StepLemmas.{given_more, numbered_more}
 use Rattle.block_passes.proofs.id_index.number_ids.Goals as goal
 
-pub row_ids-requires-clause-in_range : goal.row_ids-requires-clause-in_range
-row_ids-requires-clause-in_range c = rw c.row.ensures (c.requires.ready c.loop-at.at (rw c.rows-at-end.ensures at c.loop-at-test.true)).0
-
-pub row_ids-requires-clause-readable : goal.row_ids-requires-clause-readable
-row_ids-requires-clause-readable c = rw c.row.ensures (c.requires.ready c.loop-at.at (rw c.rows-at-end.ensures at c.loop-at-test.true)).1
-
-pub row_ids-requires-clause-held : goal.row_ids-requires-clause-held
-row_ids-requires-clause-held c = rw c.row.ensures (c.requires.held c.loop-at.at (rw c.rows-at-end.ensures at c.loop-at-test.true))
-
 pub loop-at-preserved : goal.loop-at-preserved
 loop-at-preserved c =
-    let code_of = four_ids_at c.args.pool.now.texts c.args.pass.now c.args.file.now in
+    let code_of = four_at c.args.keys.now in
     let at = c.loop-at.at in
     let old = c.loop-at.numbering in
     let new = c.number.new.self in
     let inv = c.loop-at.invariant in
     let made = c.in_ok-number.ensures in
-    let code = rw c.row.ensures at c.row_ids.ensures in
+    let code = rw c.row.ensures at c.four_places.ensures in
     let grown : c.push.new.self.items ≡ c.loop-at.numbers.items ++ c.in_ok-number.number ∷ [] = search (rules, c.in_ok-push.ensures.items) in
     record {
       count = omega (arith, made.count);

@@ -1,0 +1,10 @@
+use Rattle.std.proofs.Common.{◌≡◌, ◌≤◌, ◌+◌, ◌-◌, ◌^◌, drop}
+use Rattle.std.specs.Prelude.{min}
+use Rattle.block_passes.specs.PassIds.{parts_in}
+use Rattle.block_passes.proofs.pass_ids.count_parts.Given as goal
+
+abbrev pub invariant-loop-pass : goal.invariant-loop-pass
+invariant-loop-pass l = record {
+  few : l.parts ≤ 2 ^ 64 - 1;
+  counted : min (l.parts + parts_in (drop l.pass-index l.passes)) (2 ^ 64 - 1) ≡ min (parts_in l.passes) (2 ^ 64 - 1);
+}

@@ -1,0 +1,57 @@
+-- Machinery of the walk by ids: the ids of one pass row by row, where they stand among those of all passes, and what is read
+-- from them. No public clause names it.
+use Rattle.std.specs.Prelude.{◌≡◌, ◌<◌, ◌≤◌, ◌+◌, ◌*◌, ℕ, List, [], ◌∷◌, length, map, take, drop, slice_index_or, Option, Some, None}
+use Rattle.std.specs.List.{range_with_len}
+use Rattle.block_passes.specs.Groups.{AreGroups}
+use Rattle.block_passes.specs.IdCodes.{four_ids}
+use Rattle.block_passes.specs.Index.{row_at}
+use Rattle.block_passes.specs.KeyIds.{ids_in_pass}
+use Rattle.block_passes.specs.Numbering.{no_number}
+use Rattle.link_base.specs.Standard.{Record}
+use Rattle.link_base.specs.declared.plan.Part.{Part}
+
+-- how many parts passes have together
+abbrev pub parts_in : List (List Part) → ℕ
+parts_in [] = 0
+parts_in (pass ∷ passes) = length pass + parts_in passes
+
+-- so many ids of each row, the first of them `start` places after the row's first
+abbrev pub rows_in_pass : List (Option ℕ) → ℕ → ℕ → ℕ → ℕ → List (List (Option ℕ))
+rows_in_pass ids width start parts rows = map (λ at. take parts (drop (at * width + start) ids)) (range_with_len 0 rows)
+
+-- these are the ids of the rows of a file in a pass
+abbrev pub AreIdsInPass : List (List ℕ) → List Part → List Record → List (List (Option ℕ)) → Type 0
+AreIdsInPass texts pass file rows = (length rows ≡ length file) × ((at : ℕ) → at < length file → slice_index_or rows at [] ≡ ids_in_pass texts (row_at file at) pass)
+
+-- no row has more than four ids
+abbrev pub AreFew : List (List (Option ℕ)) → Type 0
+AreFew rows = (at : ℕ) → at < length rows → length (slice_index_or rows at []) ≤ 4
+
+-- the ids, present where each is
+abbrev pub joined_id : Option ℕ → Option (List ℕ) → Option (List ℕ)
+joined_id None ids = None
+joined_id (Some id) None = None
+joined_id (Some id) (Some ids) = Some (id ∷ ids)
+
+abbrev pub all_ids : List (Option ℕ) → Option (List ℕ)
+all_ids [] = Some []
+all_ids (id ∷ ids) = joined_id id (all_ids ids)
+
+-- the four ids of the row at a position
+abbrev pub four_at : List (List (Option ℕ)) → ℕ → Option (List ℕ)
+four_at rows at = four_ids (all_ids (slice_index_or rows at []))
+
+-- the first id as the number of a key
+abbrev pub first_number : List (Option ℕ) → ℕ
+first_number [] = no_number
+first_number (None ∷ ids) = no_number
+first_number (Some id ∷ ids) = id
+
+-- these are the first ids of rows
+abbrev pub AreFirstIds : List (List (Option ℕ)) → ℕ → List ℕ → Type 0
+AreFirstIds rows count numbers = (length numbers ≡ count) × ((at : ℕ) → at < count → slice_index_or numbers at 0 ≡ first_number (slice_index_or rows at []))
+
+-- the rows of each number are made of the first ids of B, those of a row of A are the rows of its number
+abbrev pub AreByPart : List (List (Option ℕ)) → List (List (Option ℕ)) → ℕ → List (List ℕ) → Type 0
+AreByPart a b texts rows =
+    (of_a : List ℕ) × (of_b : List ℕ) × (groups : List (List ℕ)) × AreFirstIds a (length a) of_a × AreFirstIds b (length b) of_b × AreGroups of_b texts groups × (rows ≡ map (λ n. slice_index_or groups n []) of_a)

@@ -1,0 +1,90 @@
+// The ids of the parts of the keys of a file.
+ghost use Rattle.std.specs.Prelude.{◌≡◌, ◌<◌, ◌++◌, [], ℕ, length, slice_index_or, IfOk, OnOk};
+ghost use Rattle.block_passes.specs.Ids.{AreAllHeld, AreHeld};
+ghost use Rattle.block_passes.specs.Index.{AreReady};
+ghost use Rattle.block_passes.specs.KeyIds.{ids_in_pass, ids_of_row, key_ids};
+ghost use Rattle.block_passes.specs.Keys.{AreReadable, InRange};
+
+use crate::ids::part_id;
+use crate::pass_ids::count_parts;
+use link_base::{NoMemory, Pass, PassList, StdFile, Value};
+use std::alloc::Global;
+use value_pool::{Id, Pool};
+
+/// A pool with the ids of the parts of the keys of two files, each list as `key_ids` gives it.
+#[derive(Drop)]
+pub struct KeyedPool<'k> {
+    pub pool: &'k Pool,
+    pub a: &'k [Option<Id>],
+    pub b: &'k [Option<Id>],
+}
+
+// Appends the ids of the parts of a row in a pass.
+fn push_pass(
+    ids: &mut Vec<Option<Id>>,
+    row: &[Value],
+    pass: &Pass,
+    pool: &Pool,
+) -> Result<(), NoMemory>
+    requires in_range { InRange row.now pass.now }
+    requires readable { AreReadable row.now pass.now }
+    requires held { AreHeld pool.now.texts row.now pass.now }
+    ensures { OnOk result (ids.new.items ≡ ids.old.items ++ ids_in_pass pool.now.texts row.now pass.now) }
+{
+    for part in pass.parts() {
+        ids.push(part_id(row, *part, pool))?;
+    }
+    Ok(())
+}
+
+// Appends the ids of the parts of a row in all passes.
+fn push_row(
+    ids: &mut Vec<Option<Id>>,
+    row: &[Value],
+    passes: &[Pass],
+    pool: &Pool,
+) -> Result<(), NoMemory>
+    requires in_range { (k : ℕ) → k < length passes.now → InRange row.now (slice_index_or passes.now k []) }
+    requires readable { (k : ℕ) → k < length passes.now → AreReadable row.now (slice_index_or passes.now k []) }
+    requires held { (k : ℕ) → k < length passes.now → AreHeld pool.now.texts row.now (slice_index_or passes.now k []) }
+    ensures { OnOk result (ids.new.items ≡ ids.old.items ++ ids_of_row pool.now.texts passes.now row.now) }
+{
+    for pass in passes {
+        push_pass(ids, row, pass, pool)?;
+    }
+    Ok(())
+}
+
+/// The ids of the parts of the keys of a file in some passes.
+pub(crate) fn ids_in_passes(
+    alloc: Global,
+    file: &StdFile,
+    passes: &[Pass],
+    pool: &Pool,
+) -> Result<Vec<Option<Id>>, NoMemory>
+    requires ready { (k : ℕ) → k < length passes.now → AreReady (slice_index_or passes.now k []) file.now }
+    requires held { (k : ℕ) → k < length passes.now → AreAllHeld pool.now.texts (slice_index_or passes.now k []) file.now }
+    ensures { IfOk result (λ ids. ids.items ≡ key_ids pool.now.texts passes.now file.now) }
+{
+    let room = (file.rows() as usize).saturating_mul(count_parts(passes));
+    let mut ids = Vec::with_capacity(alloc, room)?;
+    for at in 0..file.rows() {
+        push_row(&mut ids, file.row(at), passes, pool)?;
+    }
+    Ok(ids)
+}
+
+/// The ids of the parts of the keys of a file in a pool that holds them: for each record, for each pass, for each part, and
+/// `None` where the part is missing.
+pub fn key_ids(
+    alloc: Global,
+    file: &StdFile,
+    passes: &PassList,
+    pool: &Pool,
+) -> Result<Vec<Option<Id>>, NoMemory>
+    requires ready { (k : ℕ) → k < length passes.now → AreReady (slice_index_or passes.now k []) file.now }
+    requires held { (k : ℕ) → k < length passes.now → AreAllHeld pool.now.texts (slice_index_or passes.now k []) file.now }
+    ensures { IfOk result (λ ids. ids.items ≡ key_ids pool.now.texts passes.now file.now) }
+{
+    ids_in_passes(alloc, file, passes.passes(), pool)
+}

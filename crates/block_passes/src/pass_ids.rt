@@ -1,0 +1,75 @@
+// The ids of one pass, among those of all passes.
+ghost use Rattle.std.specs.Prelude.{◌≡◌, ◌<◌, ◌*◌, ◌^◌, ◌-◌, [], length, min, slice_index_or, take};
+ghost use Rattle.block_passes.specs.PassIds.{parts_in, rows_in_pass};
+
+use link_base::Pass;
+use std::marker::Model;
+use value_pool::Id;
+
+/// How many parts passes have together, as far as that is counted.
+pub(crate) fn count_parts(passes: &[Pass]) -> usize
+    ensures { result ≡ min (parts_in passes.now) (2 ^ 64 - 1) }
+{
+    let mut parts: usize = 0;
+    for pass in passes {
+        parts = parts.saturating_add(pass.parts().len());
+    }
+    parts
+}
+
+/// The ids of the parts of the keys of a file in one pass, read from those of all passes. Contracts see the list of the ids
+/// of each row.
+#[derive(Drop)]
+pub(crate) struct PassIds<'k> {
+    ids: &'k [Option<Id>],
+    width: usize,
+    start: usize,
+    parts: usize,
+    rows: u32,
+}
+
+impl<'k> Model for PassIds<'k> {
+    ghost use Rattle.std.specs.Prelude.{◌<◌, ◌≤◌, ◌+◌, ◌*◌, ℕ, List, Option, length};
+    ghost use Rattle.block_passes.specs.PassIds.{rows_in_pass};
+
+    ghost Value = { List (List (Option ℕ)) };
+
+    ghost view = { λ p. rows_in_pass p.ids.now p.width p.start p.parts p.rows };
+
+    ghost invariant = { λ p. (at : ℕ) → at < p.rows → at * p.width + p.start + p.parts ≤ length p.ids.now };
+}
+
+impl<'k> PassIds<'k> {
+    /// The ids of the pass `at`.
+    pub(crate) fn of(ids: &'k [Option<Id>], passes: &[Pass], at: usize, rows: u32) -> PassIds<'k>
+        requires at { at < length passes.now }
+        requires ids { length ids.now ≡ rows * parts_in passes.now }
+        ensures { result ≡ rows_in_pass ids.now (parts_in passes.now) (parts_in (take at passes.now)) (length (slice_index_or passes.now at [])) rows }
+    {
+        // As much as a list can hold bounds the ids of a row.
+        let _long = ids.len();
+        PassIds {
+            ids,
+            width: count_parts(passes),
+            start: count_parts(&passes[..at]),
+            parts: passes[at].parts().len(),
+            rows,
+        }
+    }
+
+    /// How many rows there are.
+    pub(crate) fn rows(&self) -> u32
+        ensures { result ≡ length self.now }
+    {
+        self.rows
+    }
+
+    /// The ids of a row.
+    pub(crate) fn row(&self, at: u32) -> &[Option<Id>]
+        requires { at < length self.now }
+        ensures { result.now ≡ slice_index_or self.now at [] }
+    {
+        let start = at as usize * self.width + self.start;
+        &self.ids[start..start + self.parts]
+    }
+}
