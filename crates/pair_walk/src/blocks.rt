@@ -1,15 +1,17 @@
 // The rows of B that share a key with each row of A.
 ghost use Rattle.std.specs.Prelude.{◌≡◌, ◌<◌, length, slice_index_or, IfOk, IfSome};
+ghost use Rattle.block_passes.specs.KeyIds.{key_ids};
+ghost use Rattle.pair_walk.specs.Joining.{AreKeyed};
 ghost use Rattle.pair_walk.specs.Rows.{AreAllReady, AreKeysHeld, all_rows, no_partners};
 
 use crate::merging::join_row;
 use crate::passes::find_passes;
 use crate::walker::Walker;
-use block_passes::PassRows;
+use block_passes::{KeyedPool, PassRows};
 use link_base::{NoMemory, PassList, StdFile};
 use std::alloc::Global;
 use std::marker::Model;
-use value_pool::Pool;
+use value_pool::{Id, Pool};
 
 /// The blocks of two files: for each record of A those of B that share a key with it in some blocking pass (Newcombe et al.
 /// 1959). Contracts see the list of these rows. They are walked as often as they are needed.
@@ -47,38 +49,46 @@ impl Blocks {
         Blocks::by(alloc, a, b, passes, None)
     }
 
-    /// The same blocks, found by the ids of the texts of the keys, which stand in a pool.
+    /// The same blocks, by the ids of the parts of the keys in a pool: no text is made or sought.
     pub fn new_in(
         alloc: Global,
         a: &StdFile,
         b: &StdFile,
         passes: &PassList,
         pool: &Pool,
+        keys_a: &[Option<Id>],
+        keys_b: &[Option<Id>],
     ) -> Result<Blocks, NoMemory>
         requires ready_a { AreAllReady passes.now a.now }
         requires ready_b { AreAllReady passes.now b.now }
         requires held_a { AreKeysHeld pool.now.texts passes.now a.now }
         requires held_b { AreKeysHeld pool.now.texts passes.now b.now }
+        requires keys_a { keys_a.now ≡ key_ids pool.now.texts passes.now a.now }
+        requires keys_b { keys_b.now ≡ key_ids pool.now.texts passes.now b.now }
         ensures { IfOk result (λ blocks. blocks ≡ all_rows a.now b.now passes.now) }
     {
-        Blocks::by(alloc, a, b, passes, Some(pool))
+        let keyed = KeyedPool {
+            pool,
+            a: keys_a,
+            b: keys_b,
+        };
+        Blocks::by(alloc, a, b, passes, Some(&keyed))
     }
 
-    // The blocks, by ids where there is a pool.
+    // The blocks, by ids where they are given.
     fn by(
         alloc: Global,
         a: &StdFile,
         b: &StdFile,
         passes: &PassList,
-        pool: Option<&Pool>,
+        keyed: Option<&KeyedPool<'_>>,
     ) -> Result<Blocks, NoMemory>
         requires ready_a { AreAllReady passes.now a.now }
         requires ready_b { AreAllReady passes.now b.now }
-        requires held_a { IfSome pool (λ pool. AreKeysHeld pool.now.texts passes.now a.now) }
-        requires held_b { IfSome pool (λ pool. AreKeysHeld pool.now.texts passes.now b.now) }
+        requires keyed { IfSome keyed (λ keyed. AreKeyed passes.now a.now b.now keyed.now) }
         ensures { IfOk result (λ blocks. blocks ≡ all_rows a.now b.now passes.now) }
     {
-        let found = find_passes(alloc, a, b, passes, pool)?;
+        let found = find_passes(alloc, a, b, passes, keyed)?;
         Ok(Blocks {
             passes: found,
             width: b.rows(),

@@ -1,14 +1,11 @@
 // The rows of each pass.
 ghost use Rattle.std.specs.Prelude.{◌≡◌, ◌<◌, ℕ, Bool, [], length, slice_index_or, IfOk, IfSome, IsTrue, ◌↔◌};
-ghost use Rattle.block_passes.specs.Ids.{AreAllHeld};
-ghost use Rattle.block_passes.specs.Index.{AreReady};
-ghost use Rattle.pair_walk.specs.Rows.{AreAllReady, AreKeysHeld};
-ghost use Rattle.pair_walk.specs.Joining.{AreFound, ArePassRows};
+ghost use Rattle.pair_walk.specs.Rows.{AreAllReady};
+ghost use Rattle.pair_walk.specs.Joining.{AreFound, AreKeyed, ArePassRows};
 
-use block_passes::PassRows;
+use block_passes::{KeyedPool, PassRows};
 use link_base::{NoMemory, Part, Pass, PassList, StdFile};
 use std::alloc::Global;
-use value_pool::Pool;
 
 fn same_parts(p: &[Part], q: &[Part]) -> bool
     ensures { IsTrue result ↔ (p.now ≡ q.now) }
@@ -29,23 +26,24 @@ fn is_repeated(passes: &[Pass], at: usize) -> bool
     false
 }
 
-// The rows of a pass, by ids where there is a pool.
+// The rows of the pass `at`, by ids where they are given.
 fn pass_rows(
     alloc: Global,
     a: &StdFile,
     b: &StdFile,
-    pass: &Pass,
-    pool: Option<&Pool>,
+    passes: &PassList,
+    at: usize,
+    keyed: Option<&KeyedPool<'_>>,
 ) -> Result<PassRows, NoMemory>
-    requires ready_a { AreReady pass.now a.now }
-    requires ready_b { AreReady pass.now b.now }
-    requires held_a { IfSome pool (λ pool. AreAllHeld pool.now.texts pass.now a.now) }
-    requires held_b { IfSome pool (λ pool. AreAllHeld pool.now.texts pass.now b.now) }
-    ensures { IfOk result (ArePassRows pass.now a.now b.now) }
+    requires at { at < length passes.now }
+    requires ready_a { AreAllReady passes.now a.now }
+    requires ready_b { AreAllReady passes.now b.now }
+    requires keyed { IfSome keyed (λ keyed. AreKeyed passes.now a.now b.now keyed.now) }
+    ensures { IfOk result (ArePassRows (slice_index_or passes.now at []) a.now b.now) }
 {
-    match pool {
-        None => PassRows::new(alloc, a, b, pass),
-        Some(pool) => PassRows::new_in(alloc, a, b, pass, pool),
+    match keyed {
+        None => PassRows::new(alloc, a, b, &passes.passes()[at]),
+        Some(keyed) => PassRows::new_in(alloc, a, b, passes, at, keyed),
     }
 }
 
@@ -55,18 +53,17 @@ pub(crate) fn find_passes(
     a: &StdFile,
     b: &StdFile,
     passes: &PassList,
-    pool: Option<&Pool>,
+    keyed: Option<&KeyedPool<'_>>,
 ) -> Result<Vec<PassRows>, NoMemory>
     requires ready_a { AreAllReady passes.now a.now }
     requires ready_b { AreAllReady passes.now b.now }
-    requires held_a { IfSome pool (λ pool. AreKeysHeld pool.now.texts passes.now a.now) }
-    requires held_b { IfSome pool (λ pool. AreKeysHeld pool.now.texts passes.now b.now) }
+    requires keyed { IfSome keyed (λ keyed. AreKeyed passes.now a.now b.now keyed.now) }
     ensures { IfOk result (λ found. AreFound passes.now (length passes.now) a.now b.now found.items) }
 {
     let mut found = Vec::new(alloc);
     for at in 0..passes.passes().len() {
         if !is_repeated(passes.passes(), at) {
-            found.push(pass_rows(alloc, a, b, &passes.passes()[at], pool)?)?;
+            found.push(pass_rows(alloc, a, b, passes, at, keyed)?)?;
         }
     }
     Ok(found)

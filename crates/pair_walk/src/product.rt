@@ -1,5 +1,5 @@
 // The list of the compared pairs.
-ghost use Rattle.std.specs.Prelude.{◌≡◌, ◌≤◌, ◌++◌, map, length, List, OnOk};
+ghost use Rattle.std.specs.Prelude.{◌≡◌, ◌≤◌, ◌++◌, map, length, List, IfOk, OnOk};
 ghost use Rattle.link_base.specs.Standard.{Record};
 ghost use Rattle.link_base.specs.declared.plan.Part.{Part};
 ghost use Rattle.pair_walk.specs.Pairs.{compared_pairs, pair, pairs_of_rows};
@@ -9,6 +9,7 @@ ghost use Rattle.pair_walk.specs.Walk.{GivesPairs};
 use crate::blocks::Blocks;
 use crate::fault::WalkFault;
 use crate::walker::{RowPairs, Walker};
+use block_passes::key_ids;
 use link_base::{NoMemory, PairAt, PassList, StdFile};
 use std::alloc::Global;
 use std::marker::Model;
@@ -86,6 +87,26 @@ pub fn walk(alloc: Global, a: &StdFile, b: &StdFile, passes: &PassList) -> Resul
     }
 }
 
+// The blocks by the ids of the parts of the keys, which are made here.
+fn blocks_in(
+    alloc: Global,
+    a: &StdFile,
+    b: &StdFile,
+    passes: &PassList,
+    pool: &Pool,
+) -> Result<Blocks, NoMemory>
+    requires ready_a { AreAllReady passes.now a.now }
+    requires ready_b { AreAllReady passes.now b.now }
+    requires held_a { AreKeysHeld pool.now.texts passes.now a.now }
+    requires held_b { AreKeysHeld pool.now.texts passes.now b.now }
+    ensures { IfOk result (λ blocks. blocks ≡ all_rows a.now b.now passes.now) }
+{
+    let keys_a = key_ids(alloc, a, passes, pool)?;
+    let keys_b = key_ids(alloc, b, passes, pool)?;
+    let blocks = Blocks::new_in(alloc, a, b, passes, pool, &keys_a, &keys_b)?;
+    Ok(blocks)
+}
+
 /// The same pairs, found by the ids of the texts of the keys, which stand in a pool.
 pub fn walk_in(
     alloc: Global,
@@ -100,7 +121,7 @@ pub fn walk_in(
     requires held_b { AreKeysHeld pool.now.texts passes.now b.now }
     ensures { GivesPairs (compared_pairs a.now b.now passes.now) result }
 {
-    match Blocks::new_in(alloc, a, b, passes, pool) {
+    match blocks_in(alloc, a, b, passes, pool) {
         Ok(blocks) => collect(alloc, blocks.walk()),
         Err(NoMemory) => Err(WalkFault::NoMemory),
     }
