@@ -1,6 +1,5 @@
 -- What is held stays held, and is not taken again.
-use Rattle.std.proofs.Common.{◌≡◌, ◌<◌, ◌++◌, ℕ, false, List, length, get_or, Option, Some, None, Ok, option_to_list, refl}
-use Rattle.std.specs.Str.{bytes_eq}
+use Rattle.std.proofs.Common.{◌≡◌, ◌<◌, ◌++◌, ℕ, List, length, get_or, Option, Some, None, Ok, option_to_list, refl}
 use Rattle.link_base.specs.Standard.{absent_value, no_record, Record}
 use Rattle.link_base.specs.declared.plan.CompareKind.{CompareKind}
 use Rattle.link_base.specs.declared.plan.CompareKind.TheVariants as by
@@ -9,8 +8,8 @@ use Rattle.link_base.specs.declared.standard.Value.{Value}
 use Rattle.value_forms.specs.Canons.{canon_of, value_part}
 use Rattle.value_pool.specs.Texts.{IsHeld}
 use Rattle.standard_files.specs.Held.{HoldsTexts}
-use Rattle.standard_files.specs.Texts.{canons_of_row, file_texts, standard_text, texts_of_row, texts_taken}
-use Rattle.standard_files.proofs.StandLemmas.{held-by, itself, or-left, stands-canons, stands-flat, stands-left, stands-right, taken-more, taken-stands}
+use Rattle.standard_files.specs.Texts.{canons_of_row, file_texts, texts_taken}
+use Rattle.standard_files.proofs.StandLemmas.{held-by, stands-canons, stands-flat, stands-left, stands-right, taken-more, taken-stands}
 
 -- one text that is held
 pub takes-held : (limit : ℕ) (held : List (List ℕ)) (key : Option (List ℕ)) → IsHeld held key → texts_taken limit held (option_to_list key) ≡ Ok held
@@ -35,12 +34,7 @@ held-left xs ys held h text stands = h text (stands-left xs ys text stands)
 pub held-right : (xs ys held : List (List ℕ)) → HoldsTexts held (xs ++ ys) → HoldsTexts held ys
 held-right xs ys held h text stands = h text (stands-right xs ys text stands)
 
--- a part that is a standard text of its row, or a canon
-pub standard-held : (row : List Value) (k : ℕ) (key : KeyKind) (held : List (List ℕ)) → k < length row → value_part key (get_or row k absent_value) ≡ standard_text (get_or row k absent_value)
-    → HoldsTexts held (texts_of_row row) → IsHeld held (value_part key (get_or row k absent_value))
-standard-held row k key held lt same all =
-    rw same (held-by held (standard_text (get_or row k absent_value)) (λ text h. all text (stands-flat (λ v. option_to_list (standard_text v)) row k absent_value text lt (rw h (or-left (bytes_eq text text) false (itself text))))))
-
+-- a part that is a canon of its row
 pub canon-held : (kinds : List CompareKind) (row : List Value) (k : ℕ) (key : KeyKind) (held : List (List ℕ)) → k < length kinds → length row ≡ length kinds
     → value_part key (get_or row k absent_value) ≡ canon_of (get_or kinds k by.Exact) (get_or row k absent_value) → HoldsTexts held (canons_of_row kinds row) → IsHeld held (value_part key (get_or row k absent_value))
 canon-held kinds row k key held lt many same all =

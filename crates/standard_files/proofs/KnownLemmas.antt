@@ -97,7 +97,7 @@ module _ (held : List (List ℕ)) where
   ids-split (v ∷ vs) ws [] h = absurd h
   ids-split (v ∷ vs) ws (i ∷ is) h = let rest = ids-split vs ws is h.1 in ((h.0, rest.0), rest.1)
 
-  ids-at : (vs : List Value) (is : List (Option ℕ)) (k : ℕ) (d : Value) (e : Option ℕ) → k < length vs → AreTextIds held vs is → IsIdOf held (standard_text (get_or vs k d)) (get_or is k e)
+  pub ids-at : (vs : List Value) (is : List (Option ℕ)) (k : ℕ) (d : Value) (e : Option ℕ) → k < length vs → AreTextIds held vs is → IsIdOf held (standard_text (get_or vs k d)) (get_or is k e)
   ids-at [] is k d e lt h = absurd (omega arith)
   ids-at (v ∷ vs) [] k d e lt h = absurd h
   ids-at (v ∷ vs) (i ∷ is) zero d e lt h = h.0

@@ -10,3 +10,4 @@ pub mod SideLemmas
 pub mod DistinctLemmas
 pub mod ExampleLemmas
 pub mod KnownLemmas
+pub mod KeyLemmas

@@ -54,13 +54,13 @@ valid-side texts kind v h = side-valid kind (side_of texts kind v) (by_test (com
     by_test true = day-valid v h
     by_test false = id-valid texts (canon_of kind v)
 
-side-at : (texts : List (List ℕ)) (kinds : List CompareKind) (row : List Value) (k : ℕ) → k < length kinds → length row ≡ length kinds → get_or (sides_of_row texts kinds row) k id.Absent ≡ side_of texts (get_or kinds k by.Exact) (get_or row k absent_value)
+pub side-at : (texts : List (List ℕ)) (kinds : List CompareKind) (row : List Value) (k : ℕ) → k < length kinds → length row ≡ length kinds → get_or (sides_of_row texts kinds row) k id.Absent ≡ side_of texts (get_or kinds k by.Exact) (get_or row k absent_value)
 side-at texts [] row k lt many = absurd (omega arith)
 side-at texts (kind ∷ kinds) [] k lt many = absurd (omega arith)
 side-at texts (kind ∷ kinds) (v ∷ vs) zero lt many = refl
 side-at texts (kind ∷ kinds) (v ∷ vs) (suc k) lt many = side-at texts kinds vs k (omega arith) (omega arith)
 
-sides-many : (texts : List (List ℕ)) (kinds : List CompareKind) (row : List Value) → length row ≡ length kinds → length (sides_of_row texts kinds row) ≡ length kinds
+pub sides-many : (texts : List (List ℕ)) (kinds : List CompareKind) (row : List Value) → length row ≡ length kinds → length (sides_of_row texts kinds row) ≡ length kinds
 sides-many texts [] row many = refl
 sides-many texts (kind ∷ kinds) [] many = absurd (omega arith)
 sides-many texts (kind ∷ kinds) (v ∷ vs) many = ap suc (sides-many texts kinds vs (omega arith))
@@ -75,7 +75,7 @@ row-sides texts kinds row many valid all = record {
   valid = λ k lt. rw (side-at texts kinds row k lt many) (valid-side texts (get_or kinds k by.Exact) (get_or row k absent_value) (valid k absent_value (omega arith)));
 }
 
-length-sides : (texts : List (List ℕ)) (kinds : List CompareKind) (file : List Record) → length (sides_of_file texts kinds file) ≡ length file
+pub length-sides : (texts : List (List ℕ)) (kinds : List CompareKind) (file : List Record) → length (sides_of_file texts kinds file) ≡ length file
 length-sides texts kinds [] = refl
 length-sides texts kinds (r ∷ rs) = ap suc (length-sides texts kinds rs)
 

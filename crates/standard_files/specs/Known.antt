@@ -1,5 +1,6 @@
--- Machinery of `pool_values`: texts by their ids in a pool, and canons that are known by them. No public clause names it.
-use Rattle.std.specs.Prelude.{◌≡◌, ℕ, List, [], ◌∷◌, Option, Some, None, slice_get, slice_index_or, ⊤}
+-- Machinery of `pool_values`: texts by their ids in a pool, canons that are known by them, and what is known of a row when its
+-- keys are taken. No public clause names it.
+use Rattle.std.specs.Prelude.{◌≡◌, ℕ, List, [], ◌∷◌, length, Option, Some, None, slice_get, slice_index_or, ⊤}
 use Rattle.std.specs.List.{flat_map}
 use Rattle.comparators.specs.declared.ids.IdValue.{IdValue}
 use Rattle.comparators.specs.declared.ids.IdValue.TheVariants as id
@@ -9,7 +10,10 @@ use Rattle.link_base.specs.declared.plan.CompareKind.TheVariants as by
 use Rattle.link_base.specs.declared.standard.Value.{Value}
 use Rattle.link_base.specs.declared.standard.Value.TheVariants as value
 use Rattle.value_forms.specs.Canons.{canon_of, exact_canon}
-use Rattle.standard_files.specs.Texts.{standard_text}
+use Rattle.standard_files.specs.Held.{HoldsTexts}
+use Rattle.standard_files.specs.Sides.{sides_of_file, sides_of_row}
+use Rattle.standard_files.specs.Taking.{Extends}
+use Rattle.standard_files.specs.Texts.{canons_of_row, file_texts, standard_text}
 use Rattle.standard_files.specs.declared.known.Known.{Known}
 use Rattle.standard_files.specs.declared.known.KnownCanon.{KnownCanon}
 use Rattle.standard_files.specs.declared.known.KnownDay.{KnownDay}
@@ -63,3 +67,16 @@ AreKnownDays held days = (slot : ℕ) → IsKnownDay held (slice_index_or days s
 pub record AreKnown (held : List (List ℕ)) (kinds : List CompareKind) (known : Known) : Type 0 where
   pub canons : AreKnownCanons held kinds known.canons.at.items
   pub days : AreKnownDays held known.days.at.items
+
+-- a row whose standard texts and canons are held: the ids of the texts, and what its values are compared by
+pub record IsKnownRow (held : List (List ℕ)) (kinds : List CompareKind) (row : List Value) (ids : List (Option ℕ)) (compared : List IdValue) : Type 0 where
+  pub texts : AreTextIds held row ids
+  pub canons : HoldsTexts held (canons_of_row kinds row)
+  pub width : length compared ≡ length kinds
+  pub sides : (final : List (List ℕ)) → Extends held final → sides_of_row final kinds row ≡ compared
+
+-- the same of the rows of a file
+pub record IsKnownFile (held : List (List ℕ)) (kinds : List CompareKind) (file : List Record) (ids : List (Option ℕ)) (compared : List (List IdValue)) : Type 0 where
+  pub texts : AreTextIds held (file_values file) ids
+  pub canons : HoldsTexts held (file_texts (canons_of_row kinds) file)
+  pub sides : (final : List (List ℕ)) → Extends held final → sides_of_file final kinds file ≡ compared

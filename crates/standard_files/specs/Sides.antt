@@ -1,5 +1,7 @@
--- What the fields of two files are compared by: ids of canons, and days. `pool_values` carries it (clause `gives`).
+-- What is kept of the values of two files: what their fields are compared by, ids of canons and days, and the ids of the
+-- parts of their keys. `pool_values` carries it (clause `gives`).
 use Rattle.std.specs.Prelude.{ℕ, List, [], ◌∷◌, map, length, Option, Some, None, Result, Ok, if◌then◌else◌}
+use Rattle.block_passes.specs.KeyIds.{key_ids}
 use Rattle.link_base.specs.Answers.{and_then}
 use Rattle.link_base.specs.Standard.{Record}
 use Rattle.link_base.specs.declared.plan.CompareKind.{CompareKind}
@@ -38,12 +40,15 @@ sides_of_row texts (kind ∷ kinds) (v ∷ vs) = side_of texts kind v ∷ sides_
 abbrev pub sides_of_file : List (List ℕ) → List CompareKind → List Record → List (List IdValue)
 sides_of_file texts kinds file = map (λ (r : Record). sides_of_row texts kinds r.row) file
 
--- what is seen of pooled values: the texts of the pool and its limit, and the sides of both files as tables
+-- what is seen of pooled values: the texts of the pool and its limit, the sides of both files as tables, and the ids of the
+-- parts of their keys
 pub record PooledView : Type 0 where
   pub texts : List (List ℕ)
   pub limit : ℕ
   pub a : IdRows
   pub b : IdRows
+  pub keys_a : List (Option ℕ)
+  pub keys_b : List (Option ℕ)
 
 -- the table of a file: as many values a row as there are kinds
 abbrev pub id_rows_of : List (List ℕ) → List CompareKind → List Record → IdRows
@@ -53,4 +58,11 @@ id_rows_of texts kinds file = record { fields = length kinds; rows = sides_of_fi
 abbrev pub pooled_values : ℕ → List CompareKind → List (List Part) → List Record → List Record → Result PooledView PoolFault
 pooled_values limit kinds passes a b =
     and_then (pooled_texts limit kinds passes a b)
-    (λ texts. Ok (record { texts = texts; limit = limit; a = id_rows_of texts kinds a; b = id_rows_of texts kinds b }))
+    (λ texts. Ok (record {
+      texts = texts;
+      limit = limit;
+      a = id_rows_of texts kinds a;
+      b = id_rows_of texts kinds b;
+      keys_a = key_ids texts passes a;
+      keys_b = key_ids texts passes b;
+    }))

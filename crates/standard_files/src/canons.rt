@@ -276,21 +276,20 @@ fn take_file(
     Ok(table)
 }
 
-/// Takes the canons of two files whose standard texts are taken, and gives what the rows of each are compared by. The ids of
-/// the texts of a file are given back as soon as its canons are taken.
+/// Takes the canons of two files whose standard texts are taken, and gives what the rows of each are compared by.
 pub(crate) fn take_canons(
     alloc: Global,
     pool: &mut Pool,
     kinds: &[CompareKind],
     a: &StdFile,
     b: &StdFile,
-    ids: TextIds,
+    ids: &TextIds,
 ) -> Result<(IdTable, IdTable), PoolFault>
     requires few { length kinds.now ≤ MOST_FIELDS }
     requires rows_a { All (IsRowFor kinds.now) a.now }
     requires rows_b { All (IsRowFor kinds.now) b.now }
-    requires ids_a { AreTextIds pool.old.texts (file_values a.now) ids.a.items }
-    requires ids_b { AreTextIds pool.old.texts (file_values b.now) ids.b.items }
+    requires ids_a { AreTextIds pool.old.texts (file_values a.now) ids.now.a.items }
+    requires ids_b { AreTextIds pool.old.texts (file_values b.now) ids.now.b.items }
     ensures limit { pool.new.limit ≡ pool.old.limit }
     ensures texts { TakesTexts pool.old pool.new (both_texts (canons_of_row kinds.now) a.now b.now) result }
     ensures fields_a { IfOk result (λ t. t.0.fields ≡ length kinds.now) }
@@ -302,9 +301,7 @@ pub(crate) fn take_canons(
         Ok(known) => known,
         Err(NoMemory) => return Err(PoolFault::NoMemory),
     };
-    let TextIds { a: ids_a, b: ids_b } = ids;
-    let a = take_file(alloc, pool, kinds, &mut known, a, &ids_a)?;
-    drop(ids_a);
-    let b = take_file(alloc, pool, kinds, &mut known, b, &ids_b)?;
+    let a = take_file(alloc, pool, kinds, &mut known, a, &ids.a)?;
+    let b = take_file(alloc, pool, kinds, &mut known, b, &ids.b)?;
     Ok((a, b))
 }

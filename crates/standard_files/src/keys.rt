@@ -1,31 +1,45 @@
-// The parts of the keys of blocking passes taken into a pool.
-ghost use Rattle.std.specs.Prelude.{◌≡◌, All, ◌<◌, IsTrue, List, length, option_to_list, ℕ};
+// The parts of the keys of blocking passes taken into a pool, and their ids.
+ghost use Rattle.std.specs.Prelude.{◌≡◌, ◌≤◌, ◌<◌, ◌++◌, ◌*◌, ◌-◌, ◌^◌, [], All, IfOk, IfSome, IsTrue, List, OnOk, Some, false, length, min, option_to_list, sum_by, vec_capacity, ℕ};
+ghost use Rattle.block_passes.specs.KeyIds.{ids_in_pass, ids_of_row, key_ids, part_id};
 ghost use Rattle.block_passes.specs.Keys.{IsPartReadable, part_key};
+ghost use Rattle.comparators.specs.Fields.{id_in};
 ghost use Rattle.link_base.specs.Standard.{IsValid};
 ghost use Rattle.link_base.specs.declared.plan.Part.{Part as KeyPart};
 ghost use Rattle.link_base.specs.declared.standard.Value.{Value as FieldValue};
-ghost use Rattle.standard_files.specs.Held.{HoldsTexts};
+ghost use Rattle.standard_files.specs.Known.{IsIdOf, IsKnownFile, IsKnownRow};
 ghost use Rattle.standard_files.specs.Ready.{AreInRange, HasParts, IsRowFor};
-ghost use Rattle.standard_files.specs.Taking.{TakesTexts};
-ghost use Rattle.standard_files.specs.Texts.{both_texts, canons_of_row, file_texts, parts_in_pass, parts_of_row, standard_text, texts_of_row};
-ghost use Rattle.value_forms.specs.Canons.{canon_of, value_part};
-ghost use Rattle.value_pool.specs.Texts.{IsHeld};
+ghost use Rattle.standard_files.specs.Taking.{Extends, TakesTexts};
+ghost use Rattle.standard_files.specs.Texts.{both_texts, file_texts, parts_in_pass, parts_of_row, standard_text};
+ghost use Rattle.value_forms.specs.Canons.{canon_of, compares_days, value_part};
 
 use crate::canons::take_part;
-use link_base::{CompareKind, KeyKind, Part, Pass, PassList, StdFile, Value};
+use crate::texts::TextIds;
+use comparators::{IdTable, IdValue};
+use link_base::{CompareKind, KeyKind, NoMemory, Part, Pass, PassList, Sides, StdFile, Value};
 use std::alloc::Global;
-use value_pool::{Pool, PoolFault};
+use value_pool::{Id, Pool, PoolFault};
 
-// Whether the part that a value makes is its standard text.
-fn is_standard_text(key: KeyKind, value: &Value) -> bool
-    ensures { IsTrue result → value_part key value.now ≡ standard_text value.now }
+/// The ids of the parts of the keys of two files, record by record and pass by pass, `None` where a part is missing.
+#[derive(Drop)]
+pub(crate) struct KeyIds {
+    pub(crate) a: Vec<Option<Id>>,
+    pub(crate) b: Vec<Option<Id>>,
+}
+
+// The id of the part that a word makes by its standard text, if the part is this text.
+fn id_of_text(key: KeyKind, text: Option<Id>) -> Option<Id>
+    ensures { IfSome result (λ id. (held : List (List ℕ)) (v : FieldValue) → IsIdOf held (standard_text v) text → IsIdOf held (value_part key v) (Some id)) }
 {
-    matches!((key, value), (KeyKind::Whole, Value::Word(_)))
+    match key {
+        KeyKind::Whole => text,
+        _ => None,
+    }
 }
 
 // Whether the part that a value makes is its canon.
 fn is_canon(key: KeyKind, kind: CompareKind) -> bool
-    ensures { IsTrue result → (v : FieldValue) → value_part key v ≡ canon_of kind v }
+    ensures canon { IsTrue result → (v : FieldValue) → value_part key v ≡ canon_of kind v }
+    ensures by_id { IsTrue result → compares_days kind ≡ false }
 {
     match (key, kind) {
         (KeyKind::Whole, CompareKind::Exact) => true,
@@ -35,109 +49,168 @@ fn is_canon(key: KeyKind, kind: CompareKind) -> bool
     }
 }
 
-// Whether the part of a row is one of its standard texts, or of its canons.
-fn is_taken(kinds: &[CompareKind], part: Part, row: &[Value]) -> bool
-    requires within { part.field < length row.now }
-    requires as_many { length row.now ≡ length kinds.now }
-    ensures { IsTrue result → (held : List (List ℕ)) → HoldsTexts held (texts_of_row row.now) → HoldsTexts held (canons_of_row kinds.now row.now) → IsHeld held (part_key row.now part) }
+// The id by which a value is compared, if it is by one.
+fn id_of_side(side: IdValue) -> Option<Id>
+    ensures { result ≡ id_in side }
 {
-    if is_standard_text(part.key, &row[part.field as usize]) {
-        return true;
+    match side {
+        IdValue::Id(id) => Some(id),
+        _ => None,
     }
-    is_canon(part.key, kinds[part.field as usize])
 }
 
-// Takes the part of a row. One that was taken with the standard texts or the canons is not looked for again.
+// Takes the part of a row, and gives its id. One that was taken with the standard texts or the canons is not looked for again.
 fn take_row_part(
     alloc: Global,
     pool: &mut Pool,
     kinds: &[CompareKind],
     part: Part,
     row: &[Value],
-) -> Result<(), PoolFault>
-    requires within { part.field < length row.now }
+    texts: &[Option<Id>],
+    sides: &[IdValue],
+) -> Result<Option<Id>, PoolFault>
+    requires within { part.field < length kinds.now }
     requires as_many { length row.now ≡ length kinds.now }
     requires readable { IsPartReadable row.now part }
-    requires texts { HoldsTexts pool.old.texts (texts_of_row row.now) }
-    requires canons { HoldsTexts pool.old.texts (canons_of_row kinds.now row.now) }
+    requires known { IsKnownRow pool.old.texts kinds.now row.now texts.now sides.now }
     ensures limit { pool.new.limit ≡ pool.old.limit }
     ensures texts { TakesTexts pool.old pool.new (option_to_list (part_key row.now part)) result }
+    ensures id { IfOk result (λ id. (final : List (List ℕ)) → Extends pool.new.texts final → part_id final row.now part ≡ id) }
 {
-    if is_taken(kinds, part, row) {
-        return Ok(());
+    let field = part.field as usize;
+    if let Some(text) = id_of_text(part.key, texts[field]) {
+        return Ok(Some(text));
     }
-    match take_part(alloc, pool, part.key, &row[part.field as usize]) {
-        Ok(_) => Ok(()),
+    if is_canon(part.key, kinds[field]) {
+        return Ok(id_of_side(sides[field]));
+    }
+    match take_part(alloc, pool, part.key, &row[field]) {
+        Ok(side) => Ok(id_of_side(side)),
         Err(fault) => Err(fault),
     }
 }
 
-// Takes the parts of the key of a row in a pass, also where some other part is missing.
+// Takes the parts of the key of a row in a pass, also where some other part is missing, and appends their ids.
 fn take_key(
     alloc: Global,
     pool: &mut Pool,
     kinds: &[CompareKind],
     pass: &Pass,
     row: &[Value],
+    texts: &[Option<Id>],
+    sides: &[IdValue],
+    ids: &mut Vec<Option<Id>>,
 ) -> Result<(), PoolFault>
     requires in_range { All (λ (p : KeyPart). p.field < length row.now) pass.now }
     requires as_many { length row.now ≡ length kinds.now }
     requires valid { All IsValid row.now }
-    requires texts { HoldsTexts pool.old.texts (texts_of_row row.now) }
-    requires canons { HoldsTexts pool.old.texts (canons_of_row kinds.now row.now) }
+    requires known { IsKnownRow pool.old.texts kinds.now row.now texts.now sides.now }
     ensures limit { pool.new.limit ≡ pool.old.limit }
     ensures texts { TakesTexts pool.old pool.new (parts_in_pass row.now pass.now) result }
+    ensures ids { OnOk result ((final : List (List ℕ)) → Extends pool.new.texts final → ids.old.items ++ ids_in_pass final row.now pass.now ≡ ids.new.items) }
 {
     for part in pass.parts() {
-        take_row_part(alloc, pool, kinds, *part, row)?;
+        let id = take_row_part(alloc, pool, kinds, *part, row, texts, sides)?;
+        if ids.push(id).is_err() {
+            return Err(PoolFault::NoMemory);
+        }
     }
     Ok(())
 }
 
-// Takes the parts of the keys of a row.
+// Takes the parts of the keys of a row, and appends their ids.
 fn take_row(
     alloc: Global,
     pool: &mut Pool,
     kinds: &[CompareKind],
     passes: &PassList,
     row: &[Value],
+    texts: &[Option<Id>],
+    sides: &[IdValue],
+    ids: &mut Vec<Option<Id>>,
 ) -> Result<(), PoolFault>
     requires in_range { AreInRange (length row.now) passes.now }
     requires as_many { length row.now ≡ length kinds.now }
     requires valid { All IsValid row.now }
-    requires texts { HoldsTexts pool.old.texts (texts_of_row row.now) }
-    requires canons { HoldsTexts pool.old.texts (canons_of_row kinds.now row.now) }
+    requires known { IsKnownRow pool.old.texts kinds.now row.now texts.now sides.now }
     ensures limit { pool.new.limit ≡ pool.old.limit }
     ensures texts { TakesTexts pool.old pool.new (parts_of_row passes.now row.now) result }
+    ensures ids { OnOk result ((final : List (List ℕ)) → Extends pool.new.texts final → ids.old.items ++ ids_of_row final passes.now row.now ≡ ids.new.items) }
 {
     for pass in passes.passes() {
-        take_key(alloc, pool, kinds, pass, row)?;
+        take_key(alloc, pool, kinds, pass, row, texts, sides, ids)?;
     }
     Ok(())
 }
 
-// Takes the parts of the keys of a file.
+// The number of parts of all passes together, at most that of a `usize`.
+fn parts_together(passes: &PassList) -> usize
+    ensures { result ≡ min (sum_by length passes.now) (2 ^ 64 - 1) }
+{
+    let mut count: usize = 0;
+    for pass in passes.passes() {
+        count = count.saturating_add(pass.parts().len());
+    }
+    count
+}
+
+// Room for an id of each part of the keys of a file.
+fn room_for_ids(
+    alloc: Global,
+    passes: &PassList,
+    file: &StdFile,
+) -> Result<Vec<Option<Id>>, NoMemory>
+    ensures none { IfOk result (λ ids. ids.items ≡ []) }
+    ensures room { IfOk result (λ ids. min (length file.now * sum_by length passes.now) (2 ^ 64 - 1) ≤ vec_capacity ids) }
+{
+    let rows = file.rows() as usize;
+    let parts = parts_together(passes);
+    Ok(Vec::with_capacity(alloc, rows.saturating_mul(parts))?)
+}
+
+// Takes the parts of the keys of a file, and gives their ids.
 fn take_file(
     alloc: Global,
     pool: &mut Pool,
     kinds: &[CompareKind],
     passes: &PassList,
     file: &StdFile,
-) -> Result<(), PoolFault>
+    texts: &[Option<Id>],
+    table: &IdTable,
+) -> Result<Vec<Option<Id>>, PoolFault>
     requires parts { All (HasParts passes.now) file.now }
     requires rows { All (IsRowFor kinds.now) file.now }
-    requires texts { HoldsTexts pool.old.texts (file_texts texts_of_row file.now) }
-    requires canons { HoldsTexts pool.old.texts (file_texts (canons_of_row kinds.now) file.now) }
+    requires known { IsKnownFile pool.old.texts kinds.now file.now texts.now table.now.rows }
     ensures limit { pool.new.limit ≡ pool.old.limit }
     ensures texts { TakesTexts pool.old pool.new (file_texts (parts_of_row passes.now) file.now) result }
+    ensures ids { IfOk result (λ ids. (final : List (List ℕ)) → Extends pool.new.texts final → key_ids final passes.now file.now ≡ ids.items) }
 {
+    let mut ids = match room_for_ids(alloc, passes, file) {
+        Ok(ids) => ids,
+        Err(NoMemory) => return Err(PoolFault::NoMemory),
+    };
+    let mut left = texts;
     for at in 0..file.rows() {
-        take_row(alloc, pool, kinds, passes, file.row(at))?;
+        pool.are_distinct();
+        let (here, later) = left.split_at(kinds.len());
+        let sides = table.sides(at);
+        take_row(
+            alloc,
+            pool,
+            kinds,
+            passes,
+            file.row(at),
+            here,
+            sides,
+            &mut ids,
+        )?;
+        left = later;
     }
-    Ok(())
+    Ok(ids)
 }
 
-/// Takes the parts of the keys of two files, whose standard texts and canons are taken.
+/// Takes the parts of the keys of two files, whose standard texts and canons are taken, and gives their ids. The ids of the
+/// texts of a file are given back as soon as its keys are taken.
 pub(crate) fn take_keys(
     alloc: Global,
     pool: &mut Pool,
@@ -145,16 +218,26 @@ pub(crate) fn take_keys(
     passes: &PassList,
     a: &StdFile,
     b: &StdFile,
-) -> Result<(), PoolFault>
+    texts: TextIds,
+    tables: &(IdTable, IdTable),
+) -> Result<KeyIds, PoolFault>
     requires parts_a { All (HasParts passes.now) a.now }
     requires parts_b { All (HasParts passes.now) b.now }
     requires rows_a { All (IsRowFor kinds.now) a.now }
     requires rows_b { All (IsRowFor kinds.now) b.now }
-    requires texts { HoldsTexts pool.old.texts (both_texts texts_of_row a.now b.now) }
-    requires canons { HoldsTexts pool.old.texts (both_texts (canons_of_row kinds.now) a.now b.now) }
+    requires known_a { IsKnownFile pool.old.texts kinds.now a.now texts.a.items tables.now.0.rows }
+    requires known_b { IsKnownFile pool.old.texts kinds.now b.now texts.b.items tables.now.1.rows }
     ensures limit { pool.new.limit ≡ pool.old.limit }
     ensures texts { TakesTexts pool.old pool.new (both_texts (parts_of_row passes.now) a.now b.now) result }
+    ensures a { IfOk result (λ ids. (final : List (List ℕ)) → Extends pool.new.texts final → key_ids final passes.now a.now ≡ ids.a.items) }
+    ensures b { IfOk result (λ ids. (final : List (List ℕ)) → Extends pool.new.texts final → key_ids final passes.now b.now ≡ ids.b.items) }
 {
-    take_file(alloc, pool, kinds, passes, a)?;
-    take_file(alloc, pool, kinds, passes, b)
+    let TextIds {
+        a: texts_a,
+        b: texts_b,
+    } = texts;
+    let ids_a = take_file(alloc, pool, kinds, passes, a, &texts_a, &tables.0)?;
+    drop(texts_a);
+    let ids_b = take_file(alloc, pool, kinds, passes, b, &texts_b, &tables.1)?;
+    Ok(KeyIds { a: ids_a, b: ids_b })
 }

@@ -1,5 +1,6 @@
 // The pooled values of two files.
 ghost use Rattle.std.specs.Prelude.{◌≡◌, ◌≤◌, ◌^◌, All, IfOk, List, ℕ, length};
+ghost use Rattle.block_passes.specs.KeyIds.{key_ids};
 ghost use Rattle.link_base.specs.Answers.{GivesBut};
 ghost use Rattle.value_pool.specs.Pool.{is_want_of_pool};
 ghost use Rattle.standard_files.specs.Ready.{AreFileSides, AreInRange, HoldsParts, IsRowFor};
@@ -8,22 +9,26 @@ ghost use Rattle.standard_files.specs.Taking.{Extends, TakesTexts};
 ghost use Rattle.standard_files.specs.Texts.{all_texts};
 
 use crate::canons::take_canons;
-use crate::keys::take_keys;
+use crate::keys::{KeyIds, take_keys};
 use crate::texts::take_texts;
 use comparators::IdTable;
 use link_base::{CompareKind, NoMemory, PassList, StdFile};
 use link_limits::{MOST_FIELDS, MOST_POOL_LIMIT};
 use std::alloc::Global;
 use std::marker::Model;
-use value_pool::{Pool, PoolFault};
+use value_pool::{Id, Pool, PoolFault};
 
-/// The values of two files in a pool. Contracts see the texts of the pool, its limit, and the tables
-/// of what the rows of each file are compared by.
+/// The values of two files in a pool. Contracts see the texts of the pool, its limit, the tables of what the rows of each
+/// file are compared by, and the ids of the parts of their keys.
 #[derive(Drop)]
 pub struct PooledValues {
     pub pool: Pool,
     pub a: IdTable,
     pub b: IdTable,
+    /// The ids of the parts of the keys of A: record by record and pass by pass one for each part, `None` where it is missing.
+    pub keys_a: Vec<Option<Id>>,
+    /// The same of B.
+    pub keys_b: Vec<Option<Id>>,
 }
 
 impl Model for PooledValues {
@@ -31,10 +36,18 @@ impl Model for PooledValues {
 
     ghost Value = { PooledView };
 
-    ghost view = { λ p. record { texts = p.pool.texts; limit = p.pool.limit; a = p.a; b = p.b } };
+    ghost view = { λ p. record { texts = p.pool.texts; limit = p.pool.limit; a = p.a; b = p.b; keys_a = p.keys_a.items; keys_b = p.keys_b.items } };
 }
 
-// Takes the three groups of texts, and gives what the rows of both files are compared by.
+// What is kept of the rows of both files: what they are compared by, and the ids of the parts of their keys.
+#[derive(Drop)]
+struct TakenValues {
+    a: IdTable,
+    b: IdTable,
+    keys: KeyIds,
+}
+
+// Takes the three groups of texts, and gives what is kept of the rows of both files.
 fn take_values(
     alloc: Global,
     pool: &mut Pool,
@@ -42,27 +55,30 @@ fn take_values(
     passes: &PassList,
     a: &StdFile,
     b: &StdFile,
-) -> Result<(IdTable, IdTable), PoolFault>
+) -> Result<TakenValues, PoolFault>
     requires few { length kinds.now ≤ MOST_FIELDS }
     requires rows_a { All (IsRowFor kinds.now) a.now }
     requires rows_b { All (IsRowFor kinds.now) b.now }
     requires parts { AreInRange (length kinds.now) passes.now }
     ensures limit { pool.new.limit ≡ pool.old.limit }
     ensures texts { TakesTexts pool.old pool.new (all_texts kinds.now passes.now a.now b.now) result }
-    ensures fields_a { IfOk result (λ t. t.0.fields ≡ length kinds.now) }
-    ensures fields_b { IfOk result (λ t. t.1.fields ≡ length kinds.now) }
-    ensures a { IfOk result (λ t. (final : List (List ℕ)) → Extends pool.new.texts final → sides_of_file final kinds.now a.now ≡ t.0.rows) }
-    ensures b { IfOk result (λ t. (final : List (List ℕ)) → Extends pool.new.texts final → sides_of_file final kinds.now b.now ≡ t.1.rows) }
+    ensures fields_a { IfOk result (λ t. t.a.fields ≡ length kinds.now) }
+    ensures fields_b { IfOk result (λ t. t.b.fields ≡ length kinds.now) }
+    ensures a { IfOk result (λ t. (final : List (List ℕ)) → Extends pool.new.texts final → sides_of_file final kinds.now a.now ≡ t.a.rows) }
+    ensures b { IfOk result (λ t. (final : List (List ℕ)) → Extends pool.new.texts final → sides_of_file final kinds.now b.now ≡ t.b.rows) }
+    ensures keys_a { IfOk result (λ t. (final : List (List ℕ)) → Extends pool.new.texts final → key_ids final passes.now a.now ≡ t.keys.a.items) }
+    ensures keys_b { IfOk result (λ t. (final : List (List ℕ)) → Extends pool.new.texts final → key_ids final passes.now b.now ≡ t.keys.b.items) }
 {
-    let ids = take_texts(alloc, pool, a, b)?;
-    let tables = take_canons(alloc, pool, kinds, a, b, ids)?;
-    take_keys(alloc, pool, kinds, passes, a, b)?;
-    Ok(tables)
+    let texts = take_texts(alloc, pool, a, b)?;
+    let tables = take_canons(alloc, pool, kinds, a, b, &texts)?;
+    let keys = take_keys(alloc, pool, kinds, passes, a, b, texts, &tables)?;
+    let (a, b) = tables;
+    Ok(TakenValues { a, b, keys })
 }
 
 /// Takes the texts of two files into a pool of at most `limit` bytes, at most `MOST_POOL_LIMIT`: the standard texts, then the canons by which the fields
-/// are compared, and then the parts of the keys of the passes, in each group those of A before those of B, row by row. `Full`
-/// names the first text that passes the limit.
+/// are compared, and then the parts of the keys of the passes, in each group those of A before those of B, row by row. The ids of
+/// the parts are kept. `Full` names the first text that passes the limit.
 pub fn pool_values(
     alloc: Global,
     kinds: &[CompareKind],
@@ -84,12 +100,21 @@ pub fn pool_values(
     ensures parts_b { IfOk result (λ p. HoldsParts p.texts passes.now b.now) }
     ensures sides_a { IfOk result (λ p. AreFileSides p.texts kinds.now a.now p.a.rows) }
     ensures sides_b { IfOk result (λ p. AreFileSides p.texts kinds.now b.now p.b.rows) }
+    ensures keys_a { IfOk result (λ p. p.keys_a ≡ key_ids p.texts passes.now a.now) }
+    ensures keys_b { IfOk result (λ p. p.keys_b ≡ key_ids p.texts passes.now b.now) }
 {
     let mut pool = match Pool::new(alloc, limit) {
         Ok(pool) => pool,
         Err(NoMemory) => return Err(PoolFault::NoMemory),
     };
-    let (a, b) = take_values(alloc, &mut pool, kinds, passes, a, b)?;
+    let taken = take_values(alloc, &mut pool, kinds, passes, a, b)?;
     pool.are_distinct();
-    Ok(PooledValues { pool, a, b })
+    let TakenValues { a, b, keys } = taken;
+    Ok(PooledValues {
+        pool,
+        a,
+        b,
+        keys_a: keys.a,
+        keys_b: keys.b,
+    })
 }

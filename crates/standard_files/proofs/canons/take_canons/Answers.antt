@@ -36,4 +36,4 @@ take_file-requires-2-clause-ids c =
     let new = c.take_file.new.pool in
     let values = file_values c.args.b.now in
     subst (AreTextIds new.texts values) (sym c.deref-2.ensures.value)
-    (ids-kept pool.texts new.texts (kept-taken pool.limit (file_texts (canons_of_row c.args.kinds.now) c.args.a.now) pool.texts new.texts c.in_ok-a.ensures.texts) values c.args.ids.b.items c.requires.ids_b)
+    (ids-kept pool.texts new.texts (kept-taken pool.limit (file_texts (canons_of_row c.args.kinds.now) c.args.a.now) pool.texts new.texts c.in_ok-a.ensures.texts) values c.args.ids.now.b.items c.requires.ids_b)

@@ -1,22 +1,41 @@
-use Rattle.std.proofs.Common.{◌+◌, drop, arith, rules}
-use Rattle.standard_files.specs.Texts.{canons_of_row, file_texts, parts_of_row, texts_of_row}
+use Rattle.std.proofs.Common.{◌+◌, drop, get_or, length, arith, refl, rules, subst, sym}
+use Rattle.block_passes.specs.KeyIds.{ids_of_row, key_ids}
+use Rattle.link_base.specs.Standard.{no_record}
+use Rattle.standard_files.specs.Known.{AreTextIds, file_values}
+use Rattle.standard_files.specs.Texts.{canons_of_row, file_texts, parts_of_row}
 use Rattle.standard_files.proofs.FileLemmas.{file-row, row-at, row-many}
-use Rattle.standard_files.proofs.HeldLemmas.{held-more, held-row}
+use Rattle.standard_files.proofs.HeldLemmas.{held-more}
+use Rattle.standard_files.proofs.KeyLemmas.{ids-row, push-ids, row-known, rows-many}
+use Rattle.standard_files.proofs.KnownLemmas.{ids-kept, ids-next, ids-room}
+use Rattle.standard_files.proofs.PlaceLemmas.{extends-before, kept-taken}
 use Rattle.standard_files.proofs.TakingLemmas.{goes-on, takes-refused}
 use Rattle.standard_files.proofs.keys.take_file.Goals as goal
 
 pub loop-at-preserved : goal.loop-at-preserved
 loop-at-preserved c =
-    let texts = parts_of_row c.args.passes.now in
+    let kinds = c.args.kinds.now in
+    let passes = c.args.passes.now in
+    let texts = parts_of_row passes in
     let file = c.args.file.now in
+    let at = c.loop-at.at in
+    let row = c.row.result.now in
     let pool = c.loop-at.pool in
-    let taken = texts c.row.result.now in
+    let taken = texts row in
     let new = c.take_row.new.pool.texts in
+    let left = c.loop-at.left.now in
+    let later = file_values (drop (at + 1) file) in
     record {
-      goes = goes-on taken (file_texts texts (drop (c.loop-at.at + 1) file)) c.loop-at.invariant.goes
-          (file-row texts file c.loop-at.at c.row.result.now (omega arith) c.row.ensures) c.take_row.ensures.limit c.in_ok-take_row.ensures.texts;
-      texts = held-more pool.limit taken pool.texts new (file_texts texts_of_row file) c.in_ok-take_row.ensures.texts c.loop-at.invariant.texts;
-      canons = held-more pool.limit taken pool.texts new (file_texts (canons_of_row c.args.kinds.now) file) c.in_ok-take_row.ensures.texts c.loop-at.invariant.canons;
+      goes = goes-on taken (file_texts texts (drop (at + 1) file)) c.loop-at.invariant.goes
+          (file-row texts file at row (omega arith) c.row.ensures) c.take_row.ensures.limit c.in_ok-take_row.ensures.texts;
+      left = subst (AreTextIds new later) (sym c.split_at.ensures.back)
+          (ids-kept pool.texts new (kept-taken pool.limit taken pool.texts new c.in_ok-take_row.ensures.texts) later (drop (length kinds) left)
+          (ids-next pool.texts file at row left (length kinds) (omega arith) c.row.ensures (row-many kinds file at row (omega arith) c.row.ensures c.requires.rows) c.loop-at.invariant.left).1);
+      canons = held-more pool.limit taken pool.texts new (file_texts (canons_of_row kinds) file) c.in_ok-take_row.ensures.texts c.loop-at.invariant.canons;
+      sides = λ final e. c.loop-at.invariant.sides final (extends-before pool.limit taken pool.texts new final c.in_ok-take_row.ensures.texts e);
+      ids = λ final e.
+          let before = extends-before pool.limit taken pool.texts new final c.in_ok-take_row.ensures.texts e in
+          push-ids c.loop-at.ids.items (key_ids final passes (drop (at + 1) file)) (key_ids final passes file) (key_ids final passes (drop at file))
+          (ids_of_row final passes row) c.take_row.new.ids.items (c.loop-at.invariant.ids final before) (ids-row final passes file at row (omega arith) c.row.ensures) (c.in_ok-take_row.ensures.ids final e);
     }
 
 pub returns-in_err-take_row-clause-texts : goal.returns-in_err-take_row-clause-texts
@@ -24,6 +43,19 @@ returns-in_err-take_row-clause-texts c =
     let texts = parts_of_row c.args.passes.now in
     takes-refused (texts c.row.result.now) (file_texts texts (drop (c.loop-at.at + 1) c.args.file.now)) c.in_err-take_row.field-0.0 c.take_row.new.pool c.from_residual.result c.loop-at.invariant.goes
     (file-row texts c.args.file.now c.loop-at.at c.row.result.now (omega arith) c.row.ensures) c.in_err-take_row.ensures.texts (search rules)
+
+pub split_at-requires : goal.split_at-requires
+split_at-requires c =
+    let kinds = c.args.kinds.now in
+    let file = c.args.file.now in
+    let at = c.loop-at.at in
+    let row = (get_or file at no_record).row in
+    ids-room c.loop-at.pool.texts file at row c.loop-at.left.now (length kinds) (omega arith) refl (row-many kinds file at row (omega arith) refl c.requires.rows) c.loop-at.invariant.left
+
+pub sides-sides-requires : goal.sides-sides-requires
+sides-sides-requires c =
+    let many = rows-many c.loop-at.pool.texts c.args.kinds.now c.args.file.now c.args.table.now.rows c.are_distinct.ensures.distinct c.loop-at.invariant.sides in
+    omega (arith, many)
 
 pub take_row-requires-clause-in_range : goal.take_row-requires-clause-in_range
 take_row-requires-clause-in_range c = (row-at c.args.passes.now c.args.file.now c.loop-at.at c.row.result.now (omega arith) c.row.ensures c.requires.parts).in_range
@@ -34,9 +66,8 @@ take_row-requires-clause-valid c = (row-at c.args.passes.now c.args.file.now c.l
 pub take_row-requires-clause-as_many : goal.take_row-requires-clause-as_many
 take_row-requires-clause-as_many c = row-many c.args.kinds.now c.args.file.now c.loop-at.at c.row.result.now (omega arith) c.row.ensures c.requires.rows
 
-pub take_row-requires-clause-texts : goal.take_row-requires-clause-texts
-take_row-requires-clause-texts c = held-row texts_of_row c.args.file.now c.loop-at.at c.row.result.now c.loop-at.pool.texts (omega arith) c.row.ensures c.loop-at.invariant.texts
-
-pub take_row-requires-clause-canons : goal.take_row-requires-clause-canons
-take_row-requires-clause-canons c =
-    held-row (canons_of_row c.args.kinds.now) c.args.file.now c.loop-at.at c.row.result.now c.loop-at.pool.texts (omega arith) c.row.ensures c.loop-at.invariant.canons
+pub take_row-requires-clause-known : goal.take_row-requires-clause-known
+take_row-requires-clause-known c =
+    row-known c.loop-at.pool.texts c.args.kinds.now c.args.file.now c.args.table.now.rows c.are_distinct.ensures.distinct c.loop-at.invariant.sides
+    c.loop-at.at c.row.result.now c.loop-at.left.now c.split_at.result.0.now c.sides-sides.result.now (omega arith) c.row.ensures c.requires.rows
+    c.loop-at.invariant.left c.split_at.ensures.front c.loop-at.invariant.canons c.sides-sides.ensures

@@ -1,8 +1,63 @@
+use Rattle.std.proofs.Common.{◌∙◌, ◌<◌, Some, ap, arith, get_or, length, refl, subst, sym}
+use Rattle.std.specs.Prelude.{option_map}
+use Rattle.std.proofs.lemmas.List.{get_or_read_under}
 use Rattle.block_passes.specs.Keys.{part_key}
-use Rattle.standard_files.proofs.HeldLemmas.{takes-held}
+use Rattle.comparators.specs.Fields.{id_in}
+use Rattle.comparators.specs.declared.ids.IdValue.TheVariants as id
+use Rattle.link_base.specs.Standard.{absent_value}
+use Rattle.value_forms.specs.Canons.{value_part}
+use Rattle.value_pool.specs.Texts.{place_among}
+use Rattle.standard_files.specs.Known.{IsIdOf}
+use Rattle.standard_files.specs.Texts.{standard_text}
+use Rattle.standard_files.proofs.HeldLemmas.{canon-held, takes-held}
+use Rattle.standard_files.proofs.KeyLemmas.{id-part, known-part, side-part}
+use Rattle.standard_files.proofs.KnownLemmas.{id-taken, ids-at, ids-many}
+use Rattle.standard_files.proofs.keys.take_row_part.Goals.{In-Some}
 use Rattle.standard_files.proofs.keys.take_row_part.Goals as goal
 
-pub returns-then-is_taken-clause-texts : goal.returns-then-is_taken-clause-texts
-returns-then-is_taken-clause-texts c =
+pub bounds-texts-field : goal.bounds-texts-field
+bounds-texts-field c = omega (arith, c.requires.within, c.requires.as_many, ids-many c.args.pool.now.texts c.args.row.now c.args.texts.now c.requires.known.texts)
+
+-- the part that is a standard text has its id
+text-id : (c : In-Some) → IsIdOf c.args.pool.now.texts (part_key c.args.row.now c.args.part) (Some c.in-Some.text)
+text-id c =
+    let held = c.args.pool.now.texts in
+    let row = c.args.row.now in
+    let v = get_or row c.args.part.field absent_value in
+    let text = c.index-texts-field.result in
+    let within : c.args.part.field < length row = omega (arith, c.requires.within, c.requires.as_many) in
+    c.in-Some.ensures held v (subst (IsIdOf held (standard_text v)) (sym c.index-texts-field.is) (ids-at held row c.args.texts.now c.args.part.field absent_value text within c.requires.known.texts))
+
+pub returns-in-Some-clause-texts : goal.returns-in-Some-clause-texts
+returns-in-Some-clause-texts c =
     let pool = c.args.pool.now in
-    takes-held pool.limit pool.texts (part_key c.args.row.now c.args.part) (c.is_taken.ensures c.if-is_taken.true pool.texts c.requires.texts c.requires.canons)
+    id-taken pool.limit pool.texts (part_key c.args.row.now c.args.part) (Some c.in-Some.text) (text-id c)
+
+pub returns-in-Some-clause-id : goal.returns-in-Some-clause-id
+returns-in-Some-clause-id c final e = id-part c.args.pool.now.texts final (part_key c.args.row.now c.args.part) (Some c.in-Some.text) e (text-id c)
+
+pub returns-then-is_canon-clause-texts : goal.returns-then-is_canon-clause-texts
+returns-then-is_canon-clause-texts c =
+    let pool = c.args.pool.now in
+    let row = c.args.row.now in
+    let part = c.args.part in
+    takes-held pool.limit pool.texts (part_key row part)
+    (canon-held c.args.kinds.now row part.field part.key pool.texts c.requires.within c.requires.as_many (c.is_canon.ensures.canon c.if-is_canon.true (get_or row part.field absent_value)) c.requires.known.canons)
+
+pub returns-then-is_canon-clause-id : goal.returns-then-is_canon-clause-id
+returns-then-is_canon-clause-id c final e =
+    let sides = c.args.sides.now in
+    let part = c.args.part in
+    let side = get_or_read_under sides part.field (length sides) c.index-sides-field.result id.Absent c.index-sides-field.is (omega (arith, c.requires.within, c.requires.known.width)) refl in
+    known-part c.args.pool.now.texts final c.args.kinds.now c.args.row.now c.args.texts.now sides part c.requires.within c.requires.as_many
+    (c.is_canon.ensures.canon c.if-is_canon.true) (c.is_canon.ensures.by_id c.if-is_canon.true) e c.requires.known
+    ∙ ap id_in (sym side) ∙ sym c.id_of_side.ensures
+
+pub returns-in-Ok-clause-id : goal.returns-in-Ok-clause-id
+returns-in-Ok-clause-id c final e =
+    let row = c.args.row.now in
+    let part = c.args.part in
+    let v = c.index-row-field.result in
+    let value = get_or_read_under row part.field (length row) v absent_value c.index-row-field.is (omega (arith, c.requires.within, c.requires.as_many)) refl in
+    ap (λ x. option_map (place_among final) (value_part part.key x)) (sym value) ∙ side-part final (value_part part.key v)
+    ∙ ap id_in (c.in-Ok.ensures.side final e) ∙ sym c.id_of_side-in-Ok.ensures
