@@ -6,15 +6,15 @@ use Rattle.link_base.proofs.AnswerFacts.{refuses_then}
 use Rattle.link_base.specs.Answers.{and_then}
 use Rattle.link_base.specs.Fault.{Gives, Refuses}
 use Rattle.link_base.specs.Rule.{IsPairBefore}
-use Rattle.link_base.specs.Standard.{Record}
 use Rattle.link_base.specs.declared.fault.Fault.{Fault}
 use Rattle.link_base.specs.declared.rule.Decision.{Decision}
 use Rattle.link_base.specs.declared.rule.PairAt.{PairAt}
 use Rattle.pair_decisions.specs.Decisions.{AreDecisionsOn, count_with, DecidedView, pairs_with}
 use Rattle.pair_decisions.specs.PairRule.{AreCellsOf, AreSidesFor, PairRuleView, side_rule, SideRule}
 use Rattle.pair_decisions.specs.Pairs.{IsInside, pairs_within}
-use Rattle.pair_walk.specs.Pairs.{compared_pairs}
-use Rattle.pair_walk.specs.Rows.{all_rows}
+use Rattle.pair_walk.proofs.PairLemmas.{all-pairs}
+use Rattle.pair_walk.specs.Pairs.{pairs_of_rows}
+use Rattle.pair_walk.specs.Rows.{RowAt, all_rows}
 use Rattle.patterns.specs.Shapes.{pattern_count_by}
 use Rattle.pair_decisions.specs.Comparators.{rares_of}
 use Rattle.pair_decisions.specs.PlanRule.{IsRuleOf}
@@ -25,31 +25,39 @@ use Rattle.link_core.specs.Prepared.{PreparedView}
 use Rattle.link_core.specs.Results.{compared_in, IsDecidedFor}
 use Rattle.link_core.specs.Rules.{IsPreparedFor}
 
--- a result is that of a rule on the compared pairs of these records, which have these sides
-pub record IsTold (plan : Plan) (rule : PairRuleView) (result : Result DecidedView Fault) (a b : List Record) (rows_a rows_b : List (List IdValue)) : Type 0 where
-  pub refused : IfErr result (Refuses (pairs_within (compared_pairs a b plan.passes)))
-  pub within : IfOk result (λ _. pairs_within (compared_pairs a b plan.passes) ≡ Ok (compared_pairs a b plan.passes))
+-- a result is that of a rule on the pairs of these rows of blocks, over these sides
+pub record IsTold (rule : PairRuleView) (result : Result DecidedView Fault) (rows : List RowAt) (pairs : List PairAt) (rows_a rows_b : List (List IdValue)) : Type 0 where
+  pub refused : IfErr result (Refuses (pairs_within pairs))
+  pub within : IfOk result (λ _. pairs_within pairs ≡ Ok pairs)
   pub rule_is : IfOk result (λ d. d.rule ≡ rule)
-  pub rows : IfOk result (λ d. d.rows ≡ all_rows a b plan.passes)
-  pub counts : IfOk result (λ d. (kind : Decision) → count_with d kind ≡ length (pairs_with kind (side_rule rule) rows_a rows_b (compared_pairs a b plan.passes)))
-  pub links_inside : IfOk result (λ d. All (IsInside (length a) (length b)) d.links)
-  pub possible_inside : IfOk result (λ d. All (IsInside (length a) (length b)) d.possible)
+  pub rows_are : IfOk result (λ d. d.rows ≡ rows)
+  pub counts : IfOk result (λ d. (kind : Decision) → count_with d kind ≡ length (pairs_with kind (side_rule rule) rows_a rows_b pairs))
+  pub links_inside : IfOk result (λ d. All (IsInside (length rows_a) (length rows_b)) d.links)
+  pub possible_inside : IfOk result (λ d. All (IsInside (length rows_a) (length rows_b)) d.possible)
   pub possible_rise : IfOk result (λ d. AllPairs IsPairBefore d.possible)
-  pub decisions : IfOk result (AreDecisionsOn rows_a rows_b (compared_pairs a b plan.passes))
+  pub decisions : IfOk result (AreDecisionsOn rows_a rows_b pairs)
 
--- the same of the files that they are those of
-pub told_of : (plan : Plan) (rule : PairRuleView) (result : Result DecidedView Fault) (p : PreparedView) (a b : List Record) (rows_a rows_b : List (List IdValue))
-    → a ≡ p.files.a.records → b ≡ p.files.b.records → rows_a ≡ p.values.a.rows → rows_b ≡ p.values.b.rows
-    → IsTold plan rule result a b rows_a rows_b → IsTold plan rule result p.files.a.records p.files.b.records p.values.a.rows p.values.b.rows
-told_of plan rule result p a b rows_a rows_b of_a of_b of_sides_a of_sides_b told =
-    subst (λ x. IsTold plan rule result p.files.a.records p.files.b.records p.values.a.rows x) of_sides_b
-    (subst (λ x. IsTold plan rule result p.files.a.records p.files.b.records x rows_b) of_sides_a
-    (subst (λ x. IsTold plan rule result p.files.a.records x rows_a rows_b) of_b
-    (subst (λ x. IsTold plan rule result x b rows_a rows_b) of_a told)))
+-- the same of the compared pairs of the files that the blocks are those of
+pub told_of : (plan : Plan) (rule : PairRuleView) (result : Result DecidedView Fault) (p : PreparedView) (blocks : List RowAt) (rows_a rows_b : List (List IdValue))
+    → blocks ≡ all_rows p.files.a.records p.files.b.records plan.passes → rows_a ≡ p.values.a.rows → rows_b ≡ p.values.b.rows
+    → IsTold rule result blocks (pairs_of_rows blocks) rows_a rows_b
+    → IsTold rule result (all_rows p.files.a.records p.files.b.records plan.passes) (compared_in plan p) p.values.a.rows p.values.b.rows
+told_of plan rule result p blocks rows_a rows_b of_blocks of_sides_a of_sides_b told =
+    let all = all_rows p.files.a.records p.files.b.records plan.passes in
+    subst (λ x. IsTold rule result all (compared_in plan p) p.values.a.rows x) of_sides_b
+    (subst (λ x. IsTold rule result all (compared_in plan p) x rows_b) of_sides_a
+    (subst (λ ps. IsTold rule result all ps rows_a rows_b) (all-pairs p.files.a.records p.files.b.records plan.passes)
+    (subst (λ bs. IsTold rule result bs (pairs_of_rows bs) rows_a rows_b) of_blocks told)))
+
+-- pairs of as many rows of sides as there are records lie in the files
+inside_files : (plan : Plan) (p : PreparedView) (pairs : List PairAt) → IsPreparedFor plan p → All (IsInside (length p.values.a.rows) (length p.values.b.rows)) pairs
+    → All (IsInside (length p.files.a.records) (length p.files.b.records)) pairs
+inside_files plan p pairs ready h =
+    subst (λ n. All (IsInside (length p.files.a.records) n) pairs) ready.sides_b.as_many (subst (λ n. All (IsInside n (length p.values.b.rows)) pairs) ready.sides_a.as_many h)
 
 module _ (plan : Plan) (p : PreparedView) (shares : List PlainShares) (rule : PairRuleView) where
   abbrev Told : Result DecidedView Fault → Type 0
-  Told result = IsTold plan rule result p.files.a.records p.files.b.records p.values.a.rows p.values.b.rows
+  Told result = IsTold rule result (all_rows p.files.a.records p.files.b.records plan.passes) (compared_in plan p) p.values.a.rows p.values.b.rows
 
   pub answered : (result : Result DecidedView Fault) → side_rule rule ≡ rule_over plan p shares → Told result → Gives decisions_of (decided plan p shares) result
   answered (Err f) of told = refuses_then (pairs_within (compared_in plan p)) (λ pairs. Ok (decided_by (rule_over plan p shares) p pairs)) f told.refused
@@ -69,15 +77,15 @@ module _ (plan : Plan) (p : PreparedView) (shares : List PlainShares) (rule : Pa
     rows_b = ready.sides_b.as_many;
     sides_a = subst (λ (r : PairRuleView). All (AreSidesFor r) p.values.a.rows) (sym told.rule_is) sides_a;
     sides_b = subst (λ (r : PairRuleView). All (AreSidesFor r) p.values.b.rows) (sym told.rule_is) sides_b;
-    links = told.links_inside;
-    possible = told.possible_inside;
+    links = inside_files plan p d.links ready told.links_inside;
+    possible = inside_files plan p d.possible ready told.possible_inside;
     rising = told.possible_rise;
   }
 
   pub decided_for_plan : (result : Result DecidedView Fault) → AreCellsOf (pattern_count_by (rares_of plan.fields)) rule.cells → Told result → IfOk result (IsDecidedFor plan p)
   decided_for_plan (Err f) cells told = tt
   decided_for_plan (Ok d) cells told = record {
-    rows = told.rows;
+    rows = told.rows_are;
     decisions = told.decisions;
     counts = λ kind. told.counts kind ∙ ap (λ (r : PairRuleView). length (pairs_with kind (side_rule r) p.values.a.rows p.values.b.rows (compared_in plan p))) (sym told.rule_is);
     cells = subst (λ (r : PairRuleView). AreCellsOf (pattern_count_by (rares_of plan.fields)) r.cells) (sym told.rule_is) cells;

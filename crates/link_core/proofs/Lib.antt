@@ -1,3 +1,4 @@
+pub mod BlockLemmas
 pub mod StepLemmas
 pub mod ReadyLemmas
 pub mod PreparedLemmas

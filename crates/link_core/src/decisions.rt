@@ -68,13 +68,11 @@ pub fn decide_all(
     ensures rule { IfOk result (λ d. IsRuleOf plan.now shares.now d.rule.cells) }
 {
     let rule = rule_for(alloc, plan, prepared, shares)?;
+    let blocks = prepared.blocks(alloc, plan)?;
     decide_pairs(
         alloc,
-        plan,
         rule,
-        prepared.a(),
-        prepared.b(),
-        prepared.pool(),
+        blocks,
         prepared.sides(FileRole::A),
         prepared.sides(FileRole::B),
     )

@@ -11,7 +11,7 @@ ghost use Rattle.pair_walk.specs.Pairs.{pairs_of_rows};
 use crate::preparing::Prepared;
 use link_base::{Fault, StdFile, Text};
 use link_report::IdsWriter;
-use pair_walk::{Blocks, WalkFault, Walker};
+use pair_walk::{WalkFault, Walker};
 use settings::Plan;
 use std::alloc::Global;
 
@@ -46,8 +46,6 @@ pub fn pair_ids(alloc: Global, plan: &Plan, prepared: &Prepared) -> Result<Text,
     ensures kind { IfErr result IsInputFault }
     ensures answer { IsAnswer (ids_of_prepared plan.now.passes prepared.now) result }
 {
-    let a = prepared.a();
-    let b = prepared.b();
-    let blocks = Blocks::new_in(alloc, a, b, &plan.passes, prepared.pool())?;
-    ids_of_rows(alloc, blocks.walk(), a, b)
+    let blocks = prepared.blocks(alloc, plan)?;
+    ids_of_rows(alloc, blocks.walk(), prepared.a(), prepared.b())
 }

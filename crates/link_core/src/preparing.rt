@@ -4,13 +4,15 @@ ghost use Rattle.link_base.specs.Fault.{IsAnswer, IsInputFault};
 ghost use Rattle.link_core.specs.Prepared.{ArePooled, IsOneOfBoth, kinds_of, prepared, sides_in, unreadable_of, with_fault};
 ghost use Rattle.standard_files.specs.Ready.{AreFileSides, AreInRange, HoldsParts, IsRowFor};
 ghost use Rattle.standard_files.specs.Sides.{pooled_values};
-ghost use Rattle.pair_walk.specs.Rows.{AreAllReady, AreKeysHeld};
+ghost use Rattle.link_core.specs.Rules.{IsPreparedFor};
+ghost use Rattle.pair_walk.specs.Rows.{AreAllReady, AreKeysHeld, all_rows};
 ghost use Rattle.settings.specs.Ranges.{KeepsRanges};
 ghost use Rattle.standard_files.specs.Files.{AreOfPlan};
 
 use comparators::IdTable;
 use link_base::{CompareKind, Fault, FileRole, NoMemory, PassList, StdFile};
 use link_limits::{MOST_FIELDS, MOST_POOL_LIMIT};
+use pair_walk::Blocks;
 use settings::Plan;
 use standard_files::{PooledValues, StandardFile, StandardPair, pool_values, read_files};
 use std::alloc::Global;
@@ -76,6 +78,15 @@ impl Prepared {
             FileRole::B => self.files.b.unreadable,
             _ => self.files.a.unreadable,
         }
+    }
+
+    /// The blocks of the two files: for each record of A those of B that share a key with it in some blocking pass of their plan.
+    pub(crate) fn blocks(&self, alloc: Global, plan: &Plan) -> Result<Blocks, NoMemory>
+        requires { IsPreparedFor plan.now self.now }
+        ensures { IfOk result (λ blocks. blocks ≡ all_rows self.now.files.a.records self.now.files.b.records plan.now.passes) }
+    {
+        let passes = &plan.passes;
+        Blocks::new_in(alloc, self.a(), self.b(), passes, self.pool())
     }
 }
 

@@ -1,4 +1,4 @@
-// The decisions on the compared pairs of two files.
+// The decisions on the pairs of blocks.
 ghost use Rattle.std.specs.Prelude.{◌≡◌, ◌≤◌, All, AllPairs, IfErr, IfOk, Ok, length};
 ghost use Rattle.link_base.specs.Fault.{IsInputFault, Refuses};
 ghost use Rattle.link_base.specs.declared.rule.Decision.{Decision};
@@ -7,19 +7,16 @@ ghost use Rattle.link_base.specs.Rule.{IsPairBefore};
 ghost use Rattle.pair_decisions.specs.Decisions.{AreDecisionsOn, count_with, pairs_with};
 ghost use Rattle.pair_decisions.specs.PairRule.{AreSidesFor, side_rule};
 ghost use Rattle.pair_decisions.specs.Pairs.{IsInside, pairs_within};
-ghost use Rattle.pair_walk.specs.Pairs.{compared_pairs};
-ghost use Rattle.pair_walk.specs.Rows.{AreAllReady, AreKeysHeld, all_rows};
+ghost use Rattle.pair_walk.specs.Pairs.{pairs_of_rows};
 
 use crate::pair_rule::PairRule;
 use crate::walking::decide_rows;
 use comparators::IdTable;
-use link_base::{Decision, Fault, NoMemory, PairAt, StdFile};
+use link_base::{Decision, Fault, PairAt};
 use link_limits::MOST_ROWS;
 use pair_walk::{Blocks, WalkFault, Walker};
-use settings::Plan;
 use std::alloc::Global;
 use std::marker::Model;
-use value_pool::Pool;
 
 /// The decisions of a rule on all compared pairs of two files. Contracts see the rule, the rows of the blocks, how many pairs
 /// were compared, and the rising lists of the pairs that are links and possible links.
@@ -95,48 +92,36 @@ impl Decided {
     }
 }
 
-/// The decisions of a rule on the compared pairs of two files, those that share a key in some blocking pass of the plan, in one
-/// walk. There are too many pairs exactly where they are more than `MOST_PAIRS`. The sides stand for the records of A and B, and
-/// the parts of their keys stand in the pool.
+/// The decisions of a rule on the pairs of the blocks of two files, in one walk. There are too many pairs exactly where they are
+/// more than `MOST_PAIRS`. The sides are what the records of the two files are compared by.
 pub fn decide_pairs(
     alloc: Global,
-    plan: &Plan,
     rule: PairRule,
-    a: &StdFile,
-    b: &StdFile,
-    pool: &Pool,
+    blocks: Blocks,
     sides_a: &IdTable,
     sides_b: &IdTable,
 ) -> Result<Decided, Fault>
-    requires few_a { length a.now ≤ MOST_ROWS }
-    requires few_b { length b.now ≤ MOST_ROWS }
-    requires ready_a { AreAllReady plan.now.passes a.now }
-    requires ready_b { AreAllReady plan.now.passes b.now }
-    requires held_a { AreKeysHeld pool.now.texts plan.now.passes a.now }
-    requires held_b { AreKeysHeld pool.now.texts plan.now.passes b.now }
-    requires rows_a { length sides_a.now.rows ≡ length a.now }
-    requires rows_b { length sides_b.now.rows ≡ length b.now }
+    requires few_a { length sides_a.now.rows ≤ MOST_ROWS }
+    requires few_b { length sides_b.now.rows ≤ MOST_ROWS }
     requires sides_a { All (AreSidesFor rule) sides_a.now.rows }
     requires sides_b { All (AreSidesFor rule) sides_b.now.rows }
+    requires inside { All (IsInside (length sides_a.now.rows) (length sides_b.now.rows)) (pairs_of_rows blocks) }
+    requires rising { AllPairs IsPairBefore (pairs_of_rows blocks) }
     ensures kind { IfErr result IsInputFault }
-    ensures refused { IfErr result (Refuses (pairs_within (compared_pairs a.now b.now plan.now.passes))) }
-    ensures within { IfOk result (λ _. pairs_within (compared_pairs a.now b.now plan.now.passes) ≡ Ok (compared_pairs a.now b.now plan.now.passes)) }
+    ensures refused { IfErr result (Refuses (pairs_within (pairs_of_rows blocks))) }
+    ensures within { IfOk result (λ _. pairs_within (pairs_of_rows blocks) ≡ Ok (pairs_of_rows blocks)) }
     ensures rule { IfOk result (λ d. d.rule ≡ rule) }
-    ensures rows { IfOk result (λ d. d.rows ≡ all_rows a.now b.now plan.now.passes) }
-    ensures compared { IfOk result (λ d. d.compared ≡ length (compared_pairs a.now b.now plan.now.passes)) }
-    ensures links { IfOk result (λ d. d.links ≡ pairs_with Link (side_rule rule) sides_a.now.rows sides_b.now.rows (compared_pairs a.now b.now plan.now.passes)) }
-    ensures possible { IfOk result (λ d. d.possible ≡ pairs_with Possible (side_rule rule) sides_a.now.rows sides_b.now.rows (compared_pairs a.now b.now plan.now.passes)) }
-    ensures counts { IfOk result (λ d. (kind : Decision) → count_with d kind ≡ length (pairs_with kind (side_rule rule) sides_a.now.rows sides_b.now.rows (compared_pairs a.now b.now plan.now.passes))) }
-    ensures links_inside { IfOk result (λ d. All (IsInside (length a.now) (length b.now)) d.links) }
-    ensures possible_inside { IfOk result (λ d. All (IsInside (length a.now) (length b.now)) d.possible) }
+    ensures rows { IfOk result (λ d. d.rows ≡ blocks) }
+    ensures compared { IfOk result (λ d. d.compared ≡ length (pairs_of_rows blocks)) }
+    ensures links { IfOk result (λ d. d.links ≡ pairs_with Link (side_rule rule) sides_a.now.rows sides_b.now.rows (pairs_of_rows blocks)) }
+    ensures possible { IfOk result (λ d. d.possible ≡ pairs_with Possible (side_rule rule) sides_a.now.rows sides_b.now.rows (pairs_of_rows blocks)) }
+    ensures counts { IfOk result (λ d. (kind : Decision) → count_with d kind ≡ length (pairs_with kind (side_rule rule) sides_a.now.rows sides_b.now.rows (pairs_of_rows blocks))) }
+    ensures links_inside { IfOk result (λ d. All (IsInside (length sides_a.now.rows) (length sides_b.now.rows)) d.links) }
+    ensures possible_inside { IfOk result (λ d. All (IsInside (length sides_a.now.rows) (length sides_b.now.rows)) d.possible) }
     ensures links_rise { IfOk result (λ d. AllPairs IsPairBefore d.links) }
     ensures possible_rise { IfOk result (λ d. AllPairs IsPairBefore d.possible) }
-    ensures decisions { IfOk result (AreDecisionsOn sides_a.now.rows sides_b.now.rows (compared_pairs a.now b.now plan.now.passes)) }
+    ensures decisions { IfOk result (AreDecisionsOn sides_a.now.rows sides_b.now.rows (pairs_of_rows blocks)) }
 {
-    let blocks = match Blocks::new_in(alloc, a, b, &plan.passes, pool) {
-        Ok(blocks) => blocks,
-        Err(NoMemory) => return Err(Fault::NoMemory),
-    };
     match decide_rows(alloc, blocks.walk(), &rule, sides_a, sides_b) {
         Ok(found) => Ok(Decided {
             rule,

@@ -1,11 +1,15 @@
 use Rattle.std.proofs.Common.{◌≡◌, ◌∙◌, ◌≤◌, ℕ, List, ap, length, subst, sym}
-use Rattle.std.specs.Prelude.{All}
+use Rattle.std.specs.Prelude.{All, AllPairs}
 use Rattle.comparators.specs.declared.ids.IdValue.{IdValue}
-use Rattle.link_base.specs.Standard.{Record}
+use Rattle.link_base.specs.Rule.{IsPairBefore}
+use Rattle.link_base.specs.declared.rule.PairAt.{PairAt}
 use Rattle.link_limits.specs.declared.TheConstants.{MOST_ROWS}
 use Rattle.pair_decisions.specs.PairRule.{AreSidesFor}
-use Rattle.pair_walk.specs.Rows.{AreAllReady, AreKeysHeld}
+use Rattle.pair_decisions.specs.Pairs.{IsInside}
+use Rattle.pair_walk.specs.Pairs.{pairs_of_rows}
+use Rattle.link_core.specs.Results.{compared_in}
 use Rattle.link_core.proofs.DecisionLemmas.{answered, decided_for_plan, decided_in_files, rule_of_plan, told_of}
+use Rattle.link_core.proofs.BlockLemmas.{pairs_inside, pairs_rise, walked_pairs}
 use Rattle.link_core.proofs.decisions.decide_all.Goals as goal
 
 pub decide_pairs-requires : goal.decide_pairs-requires
@@ -13,28 +17,22 @@ decide_pairs-requires c =
     let plan = c.args.plan.now in
     let p = c.args.prepared.now in
     let ready = c.requires.ready in
-    let a = sym c.a.ensures in
-    let b = sym c.b.ensures in
-    let texts = sym c.pool.ensures.texts in
     let sides_a : p.values.a.rows ≡ c.sides.result.now.rows = sym (ap (λ t. t.rows) c.sides.ensures) in
     let sides_b : p.values.b.rows ≡ c.sides-2.result.now.rows = sym (ap (λ t. t.rows) c.sides-2.ensures) in
-    let Few : List Record → Type 0 = λ file. length file ≤ MOST_ROWS in
-    let Ready : List Record → Type 0 = λ file. AreAllReady plan.passes file in
-    let HeldIn : List (List ℕ) → Type 0 = λ ts. AreKeysHeld ts plan.passes p.files.a.records in
-    let HeldInB : List (List ℕ) → Type 0 = λ ts. AreKeysHeld ts plan.passes p.files.b.records in
-    let Held : List Record → Type 0 = λ file. AreKeysHeld c.pool.result.now.texts plan.passes file in
+    let rows_a = sym ready.sides_a.as_many ∙ ap (λ (rows : List (List IdValue)). length rows) sides_a in
+    let rows_b = sym ready.sides_b.as_many ∙ ap (λ (rows : List (List IdValue)). length rows) sides_b in
+    let pairs : pairs_of_rows c.in_ok-blocks.blocks ≡ compared_in plan p = walked_pairs plan p c.in_ok-blocks.blocks c.in_ok-blocks.ensures in
+    let Few : ℕ → Type 0 = λ n. n ≤ MOST_ROWS in
+    let Inside : List PairAt → Type 0 = λ ps. All (IsInside (length c.sides.result.now.rows) (length c.sides-2.result.now.rows)) ps in
+    let Rising : List PairAt → Type 0 = λ ps. AllPairs IsPairBefore ps in
     let Sides : List (List IdValue) → Type 0 = λ rows. All (AreSidesFor c.in_ok-rule.rule) rows in
     record {
-      few_a = subst Few a ready.of_a.few;
-      few_b = subst Few b ready.of_b.few;
-      ready_a = subst Ready a ready.ready_a;
-      ready_b = subst Ready b ready.ready_b;
-      held_a = subst Held a (subst HeldIn texts ready.held_a);
-      held_b = subst Held b (subst HeldInB texts ready.held_b);
-      rows_a = sym (ap (λ (rows : List (List IdValue)). length rows) sides_a) ∙ ready.sides_a.as_many ∙ ap (λ (file : List Record). length file) a;
-      rows_b = sym (ap (λ (rows : List (List IdValue)). length rows) sides_b) ∙ ready.sides_b.as_many ∙ ap (λ (file : List Record). length file) b;
+      few_a = subst Few rows_a ready.of_a.few;
+      few_b = subst Few rows_b ready.of_b.few;
       sides_a = subst Sides sides_a c.in_ok-rule.ensures.sides_a;
       sides_b = subst Sides sides_b c.in_ok-rule.ensures.sides_b;
+      inside = subst Inside (sym pairs) (pairs_inside plan p (length c.sides.result.now.rows) (length c.sides-2.result.now.rows) rows_a rows_b);
+      rising = subst Rising (sym pairs) (pairs_rise plan p);
     }
 
 pub returns : goal.returns
@@ -45,11 +43,11 @@ returns c =
     let rule = c.in_ok-rule.rule in
     let r = c.decide_pairs.result in
     let facts = c.decide_pairs.ensures in
-    let told = told_of plan rule r p c.a.result.now c.b.result.now c.sides.result.now.rows c.sides-2.result.now.rows c.a.ensures c.b.ensures (ap (λ t. t.rows) c.sides.ensures) (ap (λ t. t.rows) c.sides-2.ensures) (record {
+    let told = told_of plan rule r p c.in_ok-blocks.blocks c.sides.result.now.rows c.sides-2.result.now.rows c.in_ok-blocks.ensures (ap (λ t. t.rows) c.sides.ensures) (ap (λ t. t.rows) c.sides-2.ensures) (record {
       refused = facts.refused;
       within = facts.within;
       rule_is = facts.rule;
-      rows = facts.rows;
+      rows_are = facts.rows;
       counts = facts.counts;
       links_inside = facts.links_inside;
       possible_inside = facts.possible_inside;
