@@ -1,5 +1,6 @@
 // Two files ready to be compared.
 ghost use Rattle.std.specs.Prelude.{◌≡◌, ◌≤◌, All, IfErr, IfOk, length};
+ghost use Rattle.block_passes.specs.KeyIds.{key_ids};
 ghost use Rattle.link_base.specs.Fault.{IsAnswer, IsInputFault};
 ghost use Rattle.link_core.specs.Prepared.{ArePooled, IsOneOfBoth, kinds_of, prepared, sides_in, unreadable_of, with_fault};
 ghost use Rattle.standard_files.specs.Ready.{AreFileSides, AreInRange, HoldsParts, IsRowFor};
@@ -20,7 +21,7 @@ use std::marker::Model;
 use value_pool::{Pool, PoolFault};
 
 /// Two files in standard values, with their texts in a pool. Contracts see the records of both files, how many of their dates
-/// could not be read, the texts of the pool, and what the rows are compared by.
+/// could not be read, the texts of the pool, what the rows are compared by, and the ids of the parts of their keys.
 #[derive(Drop)]
 pub struct Prepared {
     files: StandardPair,
@@ -81,12 +82,20 @@ impl Prepared {
     }
 
     /// The blocks of the two files: for each record of A those of B that share a key with it in some blocking pass of their plan.
-    pub(crate) fn blocks(&self, alloc: Global, plan: &Plan) -> Result<Blocks, NoMemory>
+    pub fn blocks(&self, alloc: Global, plan: &Plan) -> Result<Blocks, NoMemory>
         requires { IsPreparedFor plan.now self.now }
         ensures { IfOk result (λ blocks. blocks ≡ all_rows self.now.files.a.records self.now.files.b.records plan.now.passes) }
     {
-        let passes = &plan.passes;
-        Blocks::new_in(alloc, self.a(), self.b(), passes, self.pool())
+        let values = &self.values;
+        Blocks::new_in(
+            alloc,
+            self.a(),
+            self.b(),
+            &plan.passes,
+            &values.pool,
+            &values.keys_a,
+            &values.keys_b,
+        )
     }
 }
 
@@ -121,6 +130,8 @@ fn pool_by(
     ensures pooled { IfOk result (ArePooled pool_limit kinds.now a.now b.now) }
     ensures parts_a { IfOk result (λ v. HoldsParts v.texts passes.now a.now) }
     ensures parts_b { IfOk result (λ v. HoldsParts v.texts passes.now b.now) }
+    ensures keys_a { IfOk result (λ v. v.keys_a ≡ key_ids v.texts passes.now a.now) }
+    ensures keys_b { IfOk result (λ v. v.keys_b ≡ key_ids v.texts passes.now b.now) }
 {
     match pool_values(alloc, kinds, passes, a, b, pool_limit) {
         Ok(values) => Ok(values),
@@ -146,6 +157,8 @@ fn pool_files(
     ensures pooled { IfOk result (ArePooled pool_limit (kinds_of plan.now) a.now b.now) }
     ensures parts_a { IfOk result (λ v. HoldsParts v.texts plan.now.passes a.now) }
     ensures parts_b { IfOk result (λ v. HoldsParts v.texts plan.now.passes b.now) }
+    ensures keys_a { IfOk result (λ v. v.keys_a ≡ key_ids v.texts plan.now.passes a.now) }
+    ensures keys_b { IfOk result (λ v. v.keys_b ≡ key_ids v.texts plan.now.passes b.now) }
 {
     let kinds = kinds_of_plan(alloc, plan)?;
     pool_by(alloc, &kinds, &plan.passes, a, b, pool_limit)
@@ -183,6 +196,8 @@ pub fn prepare(
     ensures ready_b { IfOk result (λ p. AreAllReady plan.now.passes p.files.b.records) }
     ensures held_a { IfOk result (λ p. AreKeysHeld p.values.texts plan.now.passes p.files.a.records) }
     ensures held_b { IfOk result (λ p. AreKeysHeld p.values.texts plan.now.passes p.files.b.records) }
+    ensures keys_a { IfOk result (λ p. p.values.keys_a ≡ key_ids p.values.texts plan.now.passes p.files.a.records) }
+    ensures keys_b { IfOk result (λ p. p.values.keys_b ≡ key_ids p.values.texts plan.now.passes p.files.b.records) }
 {
     let files = match read_files(alloc, plan, a, b) {
         Ok(files) => files,

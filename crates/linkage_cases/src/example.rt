@@ -8,7 +8,7 @@ ghost use Rattle.settings.specs.Ranges.{KeepsRanges};
 use crate::buffer::{Buffer, Fault};
 use crate::files::Files;
 use link_core::{Prepared, prepare};
-use pair_walk::{Blocks, RowPairs, Walker};
+use pair_walk::{RowPairs, Walker};
 use settings::{Plan, read_settings};
 use std::alloc::Global;
 
@@ -61,7 +61,7 @@ fn show_rows(alloc: Global, page: &mut Buffer, walker: &mut Walker<'_>) {
 fn show_partners(alloc: Global, page: &mut Buffer, plan: &Plan, files: &Prepared)
     requires ready { IsPreparedFor plan.now files.now }
 {
-    match Blocks::new_in(alloc, files.a(), files.b(), &plan.passes, files.pool()) {
+    match files.blocks(alloc, plan) {
         Err(_) => page.fail(Fault::NotShown),
         Ok(blocks) => {
             show_rows(alloc, page, &mut blocks.walk());

@@ -1,5 +1,6 @@
 use Rattle.std.proofs.Common.{◌≡◌, ◌∙◌, List, ap, rules, subst}
 use Rattle.std.proofs.lemmas.List.{length-map}
+use Rattle.block_passes.specs.KeyIds.{key_ids}
 use Rattle.link_base.specs.Standard.{Record}
 use Rattle.standard_files.specs.Ready.{AreFileSides, HoldsParts}
 use Rattle.settings.specs.Plan.{FieldKeys}
@@ -54,3 +55,13 @@ returns-in-Ok-pool_files-clause-held_a c =
 pub returns-in-Ok-pool_files-clause-held_b : goal.returns-in-Ok-pool_files-clause-held_b
 returns-in-Ok-pool_files-clause-held_b c =
     subst (λ (file : List Record). HoldsParts c.in-Ok-pool_files.values.texts c.args.plan.now.passes file) (c.records-2.ensures ∙ ap (λ (f : StandardPair). f.b.records) c.files.view_is) c.in-Ok-pool_files.ensures.parts_b
+
+pub returns-in-Ok-pool_files-clause-keys_a : goal.returns-in-Ok-pool_files-clause-keys_a
+returns-in-Ok-pool_files-clause-keys_a c =
+    let v = c.in-Ok-pool_files.values in
+    subst (λ (file : List Record). v.keys_a ≡ key_ids v.texts c.args.plan.now.passes file) (c.records.ensures ∙ ap (λ (f : StandardPair). f.a.records) c.files.view_is) c.in-Ok-pool_files.ensures.keys_a
+
+pub returns-in-Ok-pool_files-clause-keys_b : goal.returns-in-Ok-pool_files-clause-keys_b
+returns-in-Ok-pool_files-clause-keys_b c =
+    let v = c.in-Ok-pool_files.values in
+    subst (λ (file : List Record). v.keys_b ≡ key_ids v.texts c.args.plan.now.passes file) (c.records-2.ensures ∙ ap (λ (f : StandardPair). f.b.records) c.files.view_is) c.in-Ok-pool_files.ensures.keys_b
