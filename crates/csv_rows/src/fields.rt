@@ -4,11 +4,12 @@ ghost use Rattle.csv.specs.Writing.{default_writer, escaped, field_text, needs_b
 
 use link_base::NoMemory;
 
-// Whether a byte calls for quotes: a comma, a quote, or a byte that ends a line.
+// Whether a byte calls for quotes: a comma, a quote, or a byte that ends a line. Digits and letters are told from these by one
+// comparison.
 fn is_special(byte: u8) -> bool
     ensures { result ≡ needs_byte default_writer byte }
 {
-    matches!(byte, b',' | b'"' | b'\r' | b'\n')
+    byte <= b',' && matches!(byte, b',' | b'"' | b'\r' | b'\n')
 }
 
 // Whether a field calls for quotes.

@@ -131,46 +131,47 @@ fn standard_file(
     }
 }
 
-// Both tables in standard values, by the words of the plan.
+// Both tables in standard values, by the words of the plan. The table of A is given back before B needs as much.
 fn pair_by(
     alloc: Global,
     plan: &Plan,
     tables: &ValueTables,
-    a: &Source,
-    b: &Source,
+    a: Source,
+    b: Source,
 ) -> Result<StandardPair, Fault>
     requires tables { tables.now ≡ plan.now.tables }
-    requires read_a { IsReadTable plan.now a.now.table }
-    requires read_b { IsReadTable plan.now b.now.table }
-    requires sorts_a { a.now.sorts.items ≡ sorts_a plan.now }
-    requires sorts_b { b.now.sorts.items ≡ sorts_b plan.now }
-    requires few_a { length a.now.sorts.items ≤ MOST_FIELDS }
-    requires few_b { length b.now.sorts.items ≤ MOST_FIELDS }
+    requires read_a { IsReadTable plan.now a.table }
+    requires read_b { IsReadTable plan.now b.table }
+    requires sorts_a { a.sorts.items ≡ sorts_a plan.now }
+    requires sorts_b { b.sorts.items ≡ sorts_b plan.now }
+    requires few_a { length a.sorts.items ≤ MOST_FIELDS }
+    requires few_b { length b.sorts.items ≤ MOST_FIELDS }
     ensures kind { IfErr result IsInputFault }
-    ensures answer { IsAnswer (standard_pair plan.now a.now.table b.now.table) result }
+    ensures answer { IsAnswer (standard_pair plan.now a.table b.table) result }
     ensures of_a { IfOk result (λ pair. AreOfPlan plan.now pair.a.records) }
     ensures of_b { IfOk result (λ pair. AreOfPlan plan.now pair.b.records) }
 {
-    let of_a = match standard_file(alloc, FileRole::A, plan, tables, a) {
+    let of_a = match standard_file(alloc, FileRole::A, plan, tables, &a) {
         Ok(file) => file,
         Err(fault) => return Err(fault),
     };
-    match standard_file(alloc, FileRole::B, plan, tables, b) {
+    drop(a);
+    match standard_file(alloc, FileRole::B, plan, tables, &b) {
         Ok(of_b) => Ok(StandardPair { a: of_a, b: of_b }),
         Err(fault) => Err(fault),
     }
 }
 
 // Both tables in standard values, A before B.
-fn standard_pair(alloc: Global, plan: &Plan, a: &Source, b: &Source) -> Result<StandardPair, Fault>
-    requires read_a { IsReadTable plan.now a.now.table }
-    requires read_b { IsReadTable plan.now b.now.table }
-    requires sorts_a { a.now.sorts.items ≡ sorts_a plan.now }
-    requires sorts_b { b.now.sorts.items ≡ sorts_b plan.now }
-    requires few_a { length a.now.sorts.items ≤ MOST_FIELDS }
-    requires few_b { length b.now.sorts.items ≤ MOST_FIELDS }
+fn standard_pair(alloc: Global, plan: &Plan, a: Source, b: Source) -> Result<StandardPair, Fault>
+    requires read_a { IsReadTable plan.now a.table }
+    requires read_b { IsReadTable plan.now b.table }
+    requires sorts_a { a.sorts.items ≡ sorts_a plan.now }
+    requires sorts_b { b.sorts.items ≡ sorts_b plan.now }
+    requires few_a { length a.sorts.items ≤ MOST_FIELDS }
+    requires few_b { length b.sorts.items ≤ MOST_FIELDS }
     ensures kind { IfErr result IsInputFault }
-    ensures answer { IsAnswer (standard_pair plan.now a.now.table b.now.table) result }
+    ensures answer { IsAnswer (standard_pair plan.now a.table b.table) result }
     ensures of_a { IfOk result (λ pair. AreOfPlan plan.now pair.a.records) }
     ensures of_b { IfOk result (λ pair. AreOfPlan plan.now pair.b.records) }
 {
@@ -192,7 +193,7 @@ pub fn read_files(alloc: Global, plan: &Plan, a: &[u8], b: &[u8]) -> Result<Stan
         Err(fault) => return Err(fault),
     };
     match read_source(alloc, plan, FileRole::B, b) {
-        Ok(of_b) => standard_pair(alloc, plan, &of_a, &of_b),
+        Ok(of_b) => standard_pair(alloc, plan, of_a, of_b),
         Err(fault) => Err(fault),
     }
 }
