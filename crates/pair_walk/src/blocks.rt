@@ -49,7 +49,8 @@ impl Blocks {
         Blocks::by(alloc, a, b, passes, None)
     }
 
-    /// The same blocks, by the ids of the parts of the keys in a pool: no text is made or sought.
+    /// The same blocks, by the ids of the parts of the keys in a pool: no text is made or sought, but for a pass of more than four
+    /// parts.
     pub fn new_in(
         alloc: Global,
         a: &StdFile,
