@@ -3,6 +3,7 @@ ghost use Rattle.std.specs.Prelude.{◌≡◌};
 ghost use Rattle.standardise.specs.DateReads.{date_read, IsValidRead};
 
 use crate::tables::PlaceTables;
+use crate::white_space::trimmed;
 use link_base::DateForm;
 use value_forms::read_date;
 
@@ -25,7 +26,7 @@ pub fn std_date(text: &str, form: DateForm, tables: &PlaceTables) -> DateRead
     ensures read { result ≡ date_read form tables.now.marks text.now }
     ensures valid { IsValidRead result }
 {
-    let text = text.trim();
+    let text = trimmed(text);
     if tables.is_missing(text.as_bytes()) {
         return DateRead::Absent;
     }

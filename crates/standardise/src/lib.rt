@@ -8,6 +8,7 @@ mod date_read;
 mod names;
 mod pairs;
 mod tables;
+mod white_space;
 mod word_set;
 mod words;
 

@@ -9,6 +9,7 @@ ghost use Rattle.standardise.specs.Words.{joined, replaced, words};
 use crate::cleaning::clean;
 use crate::pairs::{found, in_place, push_words};
 use crate::tables::{NameTables, PlaceTables};
+use crate::white_space::trimmed;
 use crate::words::{is_one_word, next_word};
 use link_base::{NoMemory, Text, Value, WordPair};
 use std::alloc::Global;
@@ -24,7 +25,7 @@ pub fn std_name(alloc: Global, text: &str, tables: &NameTables) -> Result<Value,
     ensures value { IfOk result (λ v. v ≡ name_value tables.now text.now) }
     ensures valid { IfOk result (λ v. IsValid v) }
 {
-    let name = text.trim();
+    let name = trimmed(text);
     if tables.is_missing(name.as_bytes()) {
         return Ok(Value::Absent);
     }
@@ -43,7 +44,7 @@ pub fn std_place(alloc: Global, text: &str, tables: &PlaceTables) -> Result<Valu
     ensures value { IfOk result (λ v. v ≡ place_value tables.now text.now) }
     ensures valid { IfOk result (λ v. IsValid v) }
 {
-    let place = text.trim();
+    let place = trimmed(text);
     if tables.is_missing(place.as_bytes()) {
         return Ok(Value::Absent);
     }
