@@ -6,11 +6,13 @@ use Rattle.std.specs.List.Sorted.{IsBinarySearchResult, IsNonDecreasingBy, IsSor
 use Rattle.std.proofs.lemmas.Bool.{cases_lt}
 use Rattle.std.proofs.lemmas.Grind.{common_steps}
 use Rattle.std.proofs.lemmas.Cmp.{nat_list_cmp_total}
+use Rattle.std.proofs.lemmas.List.Elements.{All-push}
 use Rattle.std.proofs.lemmas.List.Folds.{list_any_at}
 use Rattle.std.proofs.lemmas.List.Sorted.{IsNonDecreasingBy-from_all_adjacent}
 use Rattle.std.proofs.lemmas.Map.Lookups.{exact_bytes}
 use Rattle.std.proofs.lemmas.Map.Text.{is_eq-slice_cmp}
 use Rattle.std.proofs.lemmas.Slice.Eq.{bytes_eq-Decides}
+use Rattle.standardise.specs.FirstBytes.{AreMarked, begins_marked}
 use Rattle.standardise.specs.WordSets.{AreNoLonger}
 use Rattle.link_base.specs.declared.tables.WordPair.{WordPair}
 use Rattle.link_base.specs.Tables.{AreWordPairs, is_word}
@@ -120,6 +122,23 @@ longer_text (t ∷ ts) w most few long =
     other : (b : Bool) → bytes_eq t w ≡ b → b ≡ false
     other true is = absurd (let same : t ≡ w = (bytes_eq-Decides t w).0 is in let n = ap length same in let short = few 0 t (omega arith) in omega arith)
     other false is = refl
+
+-- nor is a text that begins as none of them
+pub unmarked_text : (ts : List (List ℕ)) (w : List ℕ) (marked : List Bool) → AreMarked marked ts → begins_marked marked w ≡ false → contains_text ts w ≡ false
+unmarked_text [] w marked all not = refl
+unmarked_text (t ∷ ts) w marked all not =
+    ap (λ b. b || contains_text ts w) (other (bytes_eq t w) refl)
+    ∙ unmarked_text ts w marked (λ k d lt. all (suc k) d (omega arith)) not
+  where
+    other : (b : Bool) → bytes_eq t w ≡ b → b ≡ false
+    other true is = absurd (let same : t ≡ w = (bytes_eq-Decides t w).0 is in let here : begins_marked marked t ≡ true = all 0 t (omega arith) in let e : true ≡ false = sym here ∙ ap (begins_marked marked) same ∙ not in cc)
+    other false is = refl
+
+pub marked_more : (ts : List (List ℕ)) (i : ℕ) (t : List ℕ) (old new : List Bool) → i < length ts → t ≡ get_or ts i t → AreMarked old (take i ts)
+    → ((other : List ℕ) → IsTrue (begins_marked old other) → IsTrue (begins_marked new other)) → IsTrue (begins_marked new t) → AreMarked new (take (i + 1) ts)
+marked_more ts i t old new lt is all kept here =
+    let split : take (i + 1) ts ≡ take i ts ++ t ∷ [] = grind (arith, common_steps) in
+    subst (AreMarked new) (sym split) (All-push (λ x. IsTrue (begins_marked new x)) (take i ts) t (λ k d inside. kept (get_or (take i ts) k d) (all k d inside)) here)
 
 push_no_longer : (xs : List (List ℕ)) (t : List ℕ) (old new : ℕ) → AreNoLonger old xs → old ≤ new → length t ≤ new → (k : ℕ) (d : List ℕ) → k < length (xs ++ t ∷ []) → length (get_or (xs ++ t ∷ []) k d) ≤ new
 push_no_longer [] t old new h le few zero d lt = few

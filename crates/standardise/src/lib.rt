@@ -5,6 +5,7 @@
 
 mod cleaning;
 mod date_read;
+mod first_bytes;
 mod names;
 mod pairs;
 mod tables;

@@ -4,29 +4,32 @@ ghost use Rattle.std.specs.List.Sorted.{IsBinarySearchResult, IsSearchInRange};
 ghost use Rattle.standardise.specs.Tables.{contains_text, text_cmp};
 ghost use Rattle.standardise.specs.WordSets.{AreNoLonger, IsOrdered};
 
+use crate::first_bytes::FirstBytes;
 use link_base::{NoMemory, Text, TextList};
 use std::alloc::Global;
 use std::cmp::Ordering;
 use std::marker::Model;
 
 /// Texts, which contracts see as the list of them. They are held a second time in the order of their
-/// bytes, for the search, and none is longer than `longest` bytes.
+/// bytes, for the search; none is longer than `longest` bytes, and `firsts` has what each begins with.
 #[derive(Drop)]
 pub(crate) struct WordSet {
     texts: Vec<Text>,
     ordered: Vec<Text>,
     longest: usize,
+    firsts: FirstBytes,
 }
 
 impl Model for WordSet {
     ghost use Rattle.std.specs.Prelude.{List, ℕ};
+    ghost use Rattle.standardise.specs.FirstBytes.{AreMarked};
     ghost use Rattle.standardise.specs.WordSets.{AreNoLonger, IsOrdered};
 
     ghost Value = { List (List ℕ) };
 
     ghost view = { λ s. s.texts.items };
 
-    ghost invariant = { λ s. IsOrdered s.texts.items s.ordered.items × AreNoLonger s.longest s.texts.items };
+    ghost invariant = { λ s. IsOrdered s.texts.items s.ordered.items × AreNoLonger s.longest s.texts.items × AreMarked s.firsts.marked s.texts.items };
 }
 
 impl WordSet {
@@ -37,10 +40,12 @@ impl WordSet {
         let ordered = in_order(copied(alloc, texts.texts())?);
         let texts = copied(alloc, texts.texts())?;
         let longest = longest_of(&texts);
+        let firsts = FirstBytes::of(&texts);
         Ok(WordSet {
             texts,
             ordered,
             longest,
+            firsts,
         })
     }
 
@@ -49,6 +54,9 @@ impl WordSet {
         ensures { result ≡ contains_text self.now text.now }
     {
         if text.len() > self.longest {
+            return false;
+        }
+        if !self.firsts.may_begin(text) {
             return false;
         }
         match place_in(&self.ordered, text) {

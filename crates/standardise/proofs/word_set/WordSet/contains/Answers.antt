@@ -3,7 +3,7 @@ use Rattle.std.specs.Ordering.{ordering_index}
 use Rattle.std.specs.List.Sorted.{IsNonDecreasingBy}
 use Rattle.std.proofs.lemmas.List.Sorted.{list_any-IsPermutation}
 use Rattle.standardise.specs.Tables.{contains_text, text_cmp}
-use Rattle.standardise.proofs.OrderLemmas.{found_text, longer_text, missed_text}
+use Rattle.standardise.proofs.OrderLemmas.{found_text, longer_text, missed_text, unmarked_text}
 use Rattle.standardise.proofs.word_set.WordSet.contains.Goals as goal
 
 pub returns-in-Ok : goal.returns-in-Ok
@@ -27,3 +27,9 @@ returns-then-text-self c =
     let text = c.args.text.now in
     sym (ap (λ ts. contains_text ts text) (sym c.self.view_is)
     ∙ longer_text c.self.inside.texts.items text c.self.inside.longest c.self.invariant.1 (omega arith))
+
+pub returns-then-not-may_begin : goal.returns-then-not-may_begin
+returns-then-not-may_begin c =
+    let text = c.args.text.now in
+    sym (ap (λ ts. contains_text ts text) (sym c.self.view_is)
+    ∙ unmarked_text c.self.inside.texts.items text c.self.inside.firsts.marked c.self.invariant.2 (sym c.may_begin.ensures ∙ c.if-not-may_begin.true))

@@ -1,0 +1,11 @@
+-- Which bytes texts begin with, as `FirstBytes` holds them. No public clause names these words.
+use Rattle.std.specs.Prelude.{ℕ, List, [], ◌∷◌, Bool, true, false, All, IsTrue, get_or}
+
+-- whether a text begins with a marked byte, or is empty
+abbrev pub begins_marked : List Bool → List ℕ → Bool
+begins_marked marked [] = true
+begins_marked marked (b ∷ bs) = get_or marked b false
+
+-- the first byte of each text is marked
+abbrev pub AreMarked : List Bool → List (List ℕ) → Type 0
+AreMarked marked texts = All (λ t. IsTrue (begins_marked marked t)) texts
