@@ -1,8 +1,9 @@
 -- One step of a loop over items, bytes or words.
-use Rattle.std.proofs.Common.{◌≡◌, ◌≢◌, ◌<◌, ◌≤◌, ◌+◌, ◌++◌, ◌∷◌, ◌∙◌, ◌==◌, ℕ, zero, suc, Bool, true, false, not, List, [], Option, None, Some, length, length-append, get_or, take, ap, refl, sym, arith}
+use Rattle.std.proofs.Common.{◌≡◌, ◌≢◌, ◌<◌, ◌≤◌, ◌+◌, ◌++◌, ◌∷◌, ◌∙◌, ◌==◌, ℕ, zero, suc, Bool, true, false, not, inl, inr, List, [], Option, None, Some, length, length-append, get_or, take, ap, refl, sym, arith}
 use Rattle.std.specs.Prelude.{MatchOption, is_some}
 use Rattle.std.specs.List.{flat_map}
 use Rattle.std.specs.Option.{option_to_list}
+use Rattle.std.proofs.lemmas.Bool.{cases_lt}
 use Rattle.std.proofs.lemmas.Bool.Decides.{nat_tests}
 use Rattle.std.proofs.lemmas.List.{append-nil, take_more}
 use Rattle.std.proofs.lemmas.List.Concat.{flat_map-append}
@@ -23,6 +24,14 @@ made_more f now new xs i lt told grown =
     grown
     ∙ ap (λ l. l ++ g x) told
     ∙ sym (ap (flat_map g) (take_more xs i 0 lt) ∙ flat_map-append g (take i xs) (x ∷ []) ∙ ap (λ l. flat_map g (take i xs) ++ l) (append-nil (g x)))
+
+-- an ASCII byte
+pub ascii_more : (text : List ℕ) (i : ℕ) → get_or text i 0 < 128 → ((k : ℕ) → k < i → get_or text k 0 < 128) → (k : ℕ) → k < i + 1 → get_or text k 0 < 128
+ascii_more text i here before k lt =
+    elim (cases_lt k i) [
+      | inl earlier ↦ before k earlier
+      | inr last ↦ let same : k ≡ i = omega arith in rw same here
+    ]
 
 -- a byte that is no space
 pub same_byte : (text : List ℕ) (i d e : ℕ) → i < length text → get_or text i d ≡ get_or text i e

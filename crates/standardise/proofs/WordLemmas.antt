@@ -1,11 +1,12 @@
 -- Words, titles, and where spaces stand.
-use Rattle.std.proofs.Common.{◌≡◌, ℕ, ◌+◌, ◌<◌, ◌≤◌, List, [], ◌∷◌, ◌++◌, Bool, true, false, ◌&&◌, ◌||◌, cond, ◌==◌, ◌/◌, ◌%◌, nat_le, nat_lt, map, reverse, take, drop, length, get_or, IsTrue, encode_utf8_all, refl, ap, sym, ◌∙◌, append_assoc, arith}
+use Rattle.std.proofs.Common.{◌≡◌, ℕ, ◌+◌, ◌<◌, ◌≤◌, List, [], ◌∷◌, ◌++◌, Bool, true, false, not, ◌&&◌, ◌||◌, cond, ◌==◌, ◌/◌, ◌%◌, nat_le, nat_lt, map, reverse, take, drop, length, get_or, IsTrue, encode_utf8_all, refl, ap, sym, ◌∙◌, append_assoc, arith}
 use lib.Utf8.{encode}
 use Rattle.std.specs.List.{list_all, list_any}
 use Rattle.std.specs.Str.{IsAscii, IsUtf8}
 use Rattle.std.proofs.lemmas.Grind.{common_steps}
 use Rattle.std.proofs.lemmas.Bool.Decides.{nat_tests}
 use Rattle.std.proofs.lemmas.List.{append-nil, drop_more, take_more}
+use Rattle.std.proofs.lemmas.List.Folds.{list_any-append}
 use Rattle.std.proofs.lemmas.Str.{encode_ascii, encodes-append, length-le-encodes, IsCharBoundary-after_ascii, IsCharBoundary-before_ascii, IsUtf8-drop, IsUtf8-from_ascii, IsUtf8-take}
 use Rattle.std.proofs.lemmas.Str.Ascii.{IsAscii-cons, IsAscii-nil}
 use Rattle.link_base.specs.Tables.{is_word, is_word_byte}
@@ -44,6 +45,21 @@ run_some (c ∷ cs) some = refl
 pub run_none : (w : List ℕ) → length w ≤ 0 → run_words w ≡ []
 run_none [] none = refl
 run_none (c ∷ cs) none = absurd (omega arith)
+
+pub one_word : (w : List ℕ) → 0 < length w → has_space w ≡ false → words w ≡ w ∷ []
+one_word w some none = alone [] w none ∙ run_some w some
+
+pub none_seen : (spaced seen : Bool) → not spaced ≡ true → spaced ≡ seen → seen ≡ false
+none_seen true seen h is = absurd (let e : false ≡ true = h in cc)
+none_seen false seen h is = sym is
+
+-- a byte more
+pub space_more : (w : List ℕ) (x : ℕ) → has_space (w ++ x ∷ []) ≡ (has_space w || (x == 32))
+space_more w x = list_any-append (λ c. c == 32) w (x ∷ []) ∙ ap (λ b. has_space w || b) (or_none (x == 32))
+  where
+    or_none : (b : Bool) → (b || false) ≡ b
+    or_none true = refl
+    or_none false = refl
 
 -- at a place
 here : (text : List ℕ) (i d : ℕ) → i < length text → text ≡ take i text ++ get_or text i d ∷ drop (i + 1) text

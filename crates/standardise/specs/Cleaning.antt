@@ -58,7 +58,7 @@ cleaned_char c = if is_combining c then [] else with_spaces (without_apostrophes
 -- the same of an ASCII character: a letter as its capital, a digit as it is, an apostrophe as nothing, all else as a space
 abbrev pub ascii_cleaned : ℕ → Option ℕ
 ascii_cleaned c =
-    if c == 0x27 || c == 0x60 then None
-    else (if nat_le 97 c && nat_le c 122 then Some (c - 32)
+    if nat_le 97 c && nat_le c 122 then Some (c - 32)
     else (if (nat_le 65 c && nat_le c 90) || (nat_le 48 c && nat_le c 57) then Some c
+    else (if c == 0x27 || c == 0x60 then None
     else Some 32))

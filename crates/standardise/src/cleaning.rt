@@ -1,5 +1,5 @@
 // The characters of a name, cleaned.
-ghost use Rattle.std.specs.Prelude.{◌≡◌, ◌↔◌, ◌<◌, ◌≤◌, ◌++◌, ◌∷◌, [], IsTrue, OnOk, IfOk, chars, encode_utf8_all, length};
+ghost use Rattle.std.specs.Prelude.{◌≡◌, ◌↔◌, ◌<◌, ◌≤◌, ◌++◌, ◌∷◌, [], IsTrue, OnOk, IfOk, IfSome, chars, encode_utf8_all, length};
 ghost use Rattle.std.specs.List.{flat_map};
 ghost use Rattle.std.specs.Option.{option_to_list};
 ghost use Rattle.std.specs.Str.{IsAscii, IsUtf8};
@@ -7,8 +7,10 @@ ghost use Rattle.std.specs.String.{string_bytes};
 ghost use Rattle.unicode_normalization.specs.Forms.{nfd};
 ghost use Rattle.standardise.specs.Cleaning.{ascii_cleaned, cleaned_char, in_apostrophes, in_capitals, is_combining, letter_of, spaced, stays_in_words, with_spaces, without_apostrophes};
 ghost use Rattle.standardise.specs.Names.{characters_of};
+ghost use Rattle.standardise.specs.Words.{words};
 ghost use Rattle.standardise.specs.declared.cleaning.TheConstants.{MOST_SHORT};
 
+use crate::words::is_one_word;
 use link_base::{NoMemory, Text};
 use std::alloc::Global;
 use ucd_category::{GeneralCategory, GeneralCategoryGroup};
@@ -122,18 +124,52 @@ fn clean_chars(alloc: Global, text: &str) -> Result<String, NoMemory>
 fn cleaned_ascii(byte: u8) -> Option<u8>
     ensures { result ≡ ascii_cleaned byte }
 {
-    if byte == b'\'' || byte == b'`' {
-        None
-    } else if byte.is_ascii_lowercase() {
+    if byte.is_ascii_lowercase() {
         Some(byte - 32)
     } else if byte.is_ascii_uppercase() || byte.is_ascii_digit() {
         Some(byte)
+    } else if byte == b'\'' || byte == b'`' {
+        None
     } else {
         Some(b' ')
     }
 }
 
-// The same of an ASCII text, byte by byte. There is room for as many bytes as it has.
+/// A cleaned text. It is one word where `is_word` says so, with nothing beside it.
+#[derive(Drop)]
+pub(crate) struct Cleaned {
+    pub(crate) text: Text,
+    pub(crate) is_word: bool,
+}
+
+// A short ASCII text after the five steps, byte by byte, in no memory of its own. `None` for any other.
+fn clean_short(alloc: Global, text: &[u8]) -> Result<Option<Cleaned>, NoMemory>
+    ensures ascii { IfOk result (λ made. IfSome made (λ v. IsAscii text.now)) }
+    ensures text { IfOk result (λ made. IfSome made (λ v. v.text ≡ flat_map (λ c. option_to_list (ascii_cleaned c)) text.now)) }
+    ensures word { IfOk result (λ made. IfSome made (λ v. IsTrue v.is_word → words v.text ≡ v.text ∷ [])) }
+{
+    if text.len() > MOST_SHORT {
+        return Ok(None);
+    }
+    let mut room = [0; MOST_SHORT];
+    let mut count = 0;
+    let mut spaced = false;
+    for byte in text {
+        if *byte >= 128 {
+            return Ok(None);
+        }
+        if let Some(cleaned) = cleaned_ascii(*byte) {
+            room[count] = cleaned;
+            count += 1;
+            spaced |= cleaned == b' ';
+        }
+    }
+    let text = Text::new(alloc, &room[..count])?;
+    let is_word = count > 0 && !spaced;
+    Ok(Some(Cleaned { text, is_word }))
+}
+
+// The same of any ASCII text. There is room for as many bytes as it has.
 fn clean_ascii(alloc: Global, text: &[u8]) -> Result<Vec<u8>, NoMemory>
     ensures { IfOk result (λ v. v.items ≡ flat_map (λ c. option_to_list (ascii_cleaned c)) text.now) }
 {
@@ -146,34 +182,7 @@ fn clean_ascii(alloc: Global, text: &[u8]) -> Result<Vec<u8>, NoMemory>
     Ok(out)
 }
 
-// The same of a short ASCII text.
-fn clean_short(alloc: Global, text: &[u8]) -> Result<Text, NoMemory>
-    requires { length text.now ≤ MOST_SHORT }
-    ensures { IfOk result (λ v. v ≡ flat_map (λ c. option_to_list (ascii_cleaned c)) text.now) }
-{
-    let mut room = [0; MOST_SHORT];
-    let mut count = 0;
-    for byte in text {
-        if let Some(cleaned) = cleaned_ascii(*byte) {
-            room[count] = cleaned;
-            count += 1;
-        }
-    }
-    Text::new(alloc, &room[..count])
-}
-
-// The same of an ASCII text. A short one is cleaned in no memory of its own.
-fn clean_plain(alloc: Global, text: &[u8]) -> Result<Text, NoMemory>
-    ensures { IfOk result (λ v. v ≡ flat_map (λ c. option_to_list (ascii_cleaned c)) text.now) }
-{
-    if text.len() <= MOST_SHORT {
-        return clean_short(alloc, text);
-    }
-    let cleaned = clean_ascii(alloc, text)?;
-    Ok(Text::of(cleaned))
-}
-
-// Whether a text is ASCII. Names are short, so that byte by byte is fastest.
+// Whether a text is ASCII.
 fn is_plain(text: &[u8]) -> bool
     ensures { IsTrue result ↔ IsAscii text.now }
 {
@@ -185,17 +194,41 @@ fn is_plain(text: &[u8]) -> bool
     true
 }
 
-/// The text after the canonical decomposition and the five steps behind it. An ASCII text has none of
-/// what the decomposition and the general categories decide.
-pub(crate) fn clean(alloc: Global, text: &str) -> Result<Text, NoMemory>
+// The text after the canonical decomposition and the five steps behind it. An ASCII text has none of
+// what the decomposition and the general categories decide.
+fn clean_text(alloc: Global, text: &str) -> Result<Text, NoMemory>
     ensures text { IfOk result (λ v. v ≡ encode_utf8_all (characters_of text.now)) }
     ensures utf8 { IfOk result (λ v. IsUtf8 v) }
 {
     let bytes = text.as_bytes();
     if is_plain(bytes) {
-        let cleaned = clean_plain(alloc, bytes)?;
-        return Ok(cleaned);
+        let cleaned = clean_ascii(alloc, bytes)?;
+        return Ok(Text::of(cleaned));
     }
     let cleaned = clean_chars(alloc, text)?;
     Ok(Text::of(cleaned.into_bytes()))
+}
+
+// The same, and whether it is one word.
+fn clean_any(alloc: Global, text: &str) -> Result<Cleaned, NoMemory>
+    ensures text { IfOk result (λ v. v.text ≡ encode_utf8_all (characters_of text.now)) }
+    ensures utf8 { IfOk result (λ v. IsUtf8 v.text) }
+    ensures word { IfOk result (λ v. IsTrue v.is_word → words v.text ≡ v.text ∷ []) }
+{
+    let text = clean_text(alloc, text)?;
+    let is_word = is_one_word(text.bytes());
+    Ok(Cleaned { text, is_word })
+}
+
+/// The text after the canonical decomposition and the five steps behind it, and whether it is one word.
+/// Most names are short ASCII texts, which are gone over once.
+pub(crate) fn clean(alloc: Global, text: &str) -> Result<Cleaned, NoMemory>
+    ensures text { IfOk result (λ v. v.text ≡ encode_utf8_all (characters_of text.now)) }
+    ensures utf8 { IfOk result (λ v. IsUtf8 v.text) }
+    ensures word { IfOk result (λ v. IsTrue v.is_word → words v.text ≡ v.text ∷ []) }
+{
+    match clean_short(alloc, text.as_bytes())? {
+        Some(cleaned) => Ok(cleaned),
+        None => clean_any(alloc, text),
+    }
 }

@@ -10,7 +10,7 @@ use crate::cleaning::clean;
 use crate::pairs::{found, in_place, push_words};
 use crate::tables::{NameTables, PlaceTables};
 use crate::white_space::trimmed;
-use crate::words::{is_one_word, next_word};
+use crate::words::next_word;
 use link_base::{NoMemory, Text, Value, WordPair};
 use std::alloc::Global;
 
@@ -30,10 +30,10 @@ pub fn std_name(alloc: Global, text: &str, tables: &NameTables) -> Result<Value,
         return Ok(Value::Absent);
     }
     let cleaned = clean(alloc, name)?;
-    if is_one_word(cleaned.bytes()) {
-        return standard_word(alloc, cleaned, tables.pairs());
+    if cleaned.is_word {
+        return standard_word(alloc, cleaned.text, tables.pairs());
     }
-    let kept = tables.untitled(cleaned.bytes());
+    let kept = tables.untitled(cleaned.text.bytes());
     standard_words(alloc, kept, tables.pairs())
 }
 
@@ -49,10 +49,10 @@ pub fn std_place(alloc: Global, text: &str, tables: &PlaceTables) -> Result<Valu
         return Ok(Value::Absent);
     }
     let cleaned = clean(alloc, place)?;
-    if is_one_word(cleaned.bytes()) {
-        return standard_word(alloc, cleaned, tables.pairs());
+    if cleaned.is_word {
+        return standard_word(alloc, cleaned.text, tables.pairs());
     }
-    standard_words(alloc, cleaned.bytes(), tables.pairs())
+    standard_words(alloc, cleaned.text.bytes(), tables.pairs())
 }
 
 // A text that is one word, replaced. A word that stays is not copied.

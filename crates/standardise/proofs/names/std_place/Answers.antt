@@ -10,9 +10,9 @@ returns-then-is_missing-clause-value c =
     let mark : c.is_missing.result ≡ contains_text c.args.tables.now.marks (trim c.args.text.now) = c.is_missing.ensures ∙ ap (contains_text c.args.tables.now.marks) (c.as_bytes.ensures.value ∙ c.trimmed-place.ensures) in
     missing_place c.args.tables.now c.args.text.now c.is_missing.result mark c.if-is_missing.true
 
-pub returns-then-is_one_word-clause-value : goal.returns-then-is_one_word-clause-value
-returns-then-is_one_word-clause-value c =
-    let cleaned = c.in_ok-cleaned.cleaned in
+pub returns-then-cleaned-clause-value : goal.returns-then-cleaned-clause-value
+returns-then-cleaned-clause-value c =
+    let cleaned = c.in_ok-cleaned.cleaned.text in
     let mark : c.is_missing.result ≡ contains_text c.args.tables.now.marks (trim c.args.text.now) = c.is_missing.ensures ∙ ap (contains_text c.args.tables.now.marks) (c.as_bytes.ensures.value ∙ c.trimmed-place.ensures) in
     let all = cleaned_words c.args.text.now cleaned (rw c.trimmed-place.ensures at c.in_ok-cleaned.ensures.text) in
     let told = rw c.pairs.ensures.all at c.standard_word.ensures.value in
@@ -20,8 +20,8 @@ returns-then-is_one_word-clause-value c =
 
 pub returns-clause-value : goal.returns-clause-value
 returns-clause-value c =
-    let cleaned = c.in_ok-cleaned.cleaned in
+    let cleaned = c.in_ok-cleaned.cleaned.text in
     let mark : c.is_missing.result ≡ contains_text c.args.tables.now.marks (trim c.args.text.now) = c.is_missing.ensures ∙ ap (contains_text c.args.tables.now.marks) (c.as_bytes.ensures.value ∙ c.trimmed-place.ensures) in
     let all = cleaned_words c.args.text.now cleaned (rw c.trimmed-place.ensures at c.in_ok-cleaned.ensures.text) in
-    let told = rw (c.pairs-2.ensures.all, c.bytes-2.ensures) at c.standard_words.ensures.value in
+    let told = rw (c.pairs-2.ensures.all, c.bytes.ensures) at c.standard_words.ensures.value in
     place_of_words c.args.tables.now c.args.text.now (words cleaned) c.is_missing.result c.standard_words.result mark c.if-is_missing.false all told
