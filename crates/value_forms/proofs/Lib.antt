@@ -4,5 +4,6 @@ pub mod DayLemmas
 pub mod FirstLemmas
 pub mod InitialLemmas
 pub mod TextLemmas
+pub mod WrittenLemmas
 pub mod KindLemmas
 pub mod ReadableLemmas

@@ -38,7 +38,7 @@ day_with_signs form t = do
   j ← position (λ c. c == slice_index t i) (drop (i + 1) t)
   in_form form (take i t) (take j (drop (i + 1) t)) (drop (j + 1) (drop (i + 1) t))
 
--- how many digits come first without signs
+-- how many digits come first where month and day have two each
 abbrev pub first_length : DateForm → ℕ
 first_length form.Ymd = 4
 first_length form.Dmy = 2

@@ -1,5 +1,5 @@
 // Dates as people write them: three numbers in the order of a form.
-ghost use Rattle.std.specs.Prelude.{◌≡◌, ◌+◌, ◌==◌, ◌≤◌, ◌<◌, take, drop, length, position, IfSome};
+ghost use Rattle.std.specs.Prelude.{◌≡◌, ◌+◌, ◌==◌, ◌≤◌, ◌<◌, take, drop, length, position, IfSome, Some};
 ghost use Rattle.link_base.specs.Standard.{IsDay};
 ghost use Rattle.value_forms.specs.Written.{date_day, day_of_parts, day_with_signs, day_without_signs, first_length, in_form, in_signs, short_number, year_number};
 
@@ -102,6 +102,23 @@ fn first_run(form: DateForm) -> usize
     }
 }
 
+// A date of ten bytes, as most are, has its signs at the places of its form, and is cut there without a search.
+fn placed(form: DateForm, text: &[u8]) -> Option<i32>
+    ensures value { IfSome result (λ day. day_with_signs form text.now ≡ Some day) }
+    ensures valid { IfSome result (λ day. IsDay day) }
+{
+    if text.len() != 10 {
+        return None;
+    }
+    let n = first_run(form);
+    let (first, rest) = cut_at(text, n);
+    let (second, third) = cut_at(rest, 2);
+    if !is_sign(text[n]) || rest[2] != text[n] {
+        return None;
+    }
+    arranged(form, first, second, third)
+}
+
 #[tactic(auto, unfolding(crate::specs::Written::day_without_signs))]
 fn plain(form: DateForm, text: &[u8]) -> Option<i32>
     ensures value { result ≡ day_without_signs form text.now }
@@ -116,6 +133,17 @@ fn plain(form: DateForm, text: &[u8]) -> Option<i32>
     arranged(form, first, second, third)
 }
 
+#[tactic(auto, unfolding(crate::specs::Written::date_day))]
+fn of_either_shape(form: DateForm, text: &[u8]) -> Option<i32>
+    ensures value { result ≡ date_day form text.now }
+    ensures valid { IfSome result (λ day. IsDay day) }
+{
+    match signed(form, text) {
+        Some(day) => Some(day),
+        None => plain(form, text),
+    }
+}
+
 /// The day that a text writes in this form: three runs of digits in the order of the form with two
 /// equal signs out of `-`, `/` and `.` between them, the year of four digits, month and day of one or
 /// two; or eight digits without signs. `None` for every other text, and where there is no such date.
@@ -124,8 +152,8 @@ pub fn read_date(form: DateForm, text: &[u8]) -> Option<i32>
     ensures value { result ≡ date_day form text.now }
     ensures valid { IfSome result (λ day. IsDay day) }
 {
-    match signed(form, text) {
+    match placed(form, text) {
         Some(day) => Some(day),
-        None => plain(form, text),
+        None => of_either_shape(form, text),
     }
 }
