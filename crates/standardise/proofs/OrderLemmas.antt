@@ -12,7 +12,7 @@ use Rattle.std.proofs.lemmas.List.Sorted.{IsNonDecreasingBy-from_all_adjacent}
 use Rattle.std.proofs.lemmas.Map.Lookups.{exact_bytes}
 use Rattle.std.proofs.lemmas.Map.Text.{is_eq-slice_cmp}
 use Rattle.std.proofs.lemmas.Slice.Eq.{bytes_eq-Decides}
-use Rattle.standardise.specs.FirstBytes.{AreMarked, begins_marked}
+use Rattle.standardise.specs.FirstBytes.{AreMarked, AreMarkedWords, begins_marked}
 use Rattle.standardise.specs.WordSets.{AreNoLonger}
 use Rattle.link_base.specs.declared.tables.WordPair.{WordPair}
 use Rattle.link_base.specs.Tables.{AreWordPairs, is_word}
@@ -139,6 +139,23 @@ pub marked_more : (ts : List (List ℕ)) (i : ℕ) (t : List ℕ) (old new : Lis
 marked_more ts i t old new lt is all kept here =
     let split : take (i + 1) ts ≡ take i ts ++ t ∷ [] = grind (arith, common_steps) in
     subst (AreMarked new) (sym split) (All-push (λ x. IsTrue (begins_marked new x)) (take i ts) t (λ k d inside. kept (get_or (take i ts) k d) (all k d inside)) here)
+
+-- a word that begins as none of those that are replaced
+pub unmarked_word : (ps : List WordPair) (w : List ℕ) (marked : List Bool) → AreMarkedWords marked ps → begins_marked marked w ≡ false → word_for ps w ≡ None
+unmarked_word [] w marked all not = refl
+unmarked_word (p ∷ ps) w marked all not =
+    ap (λ b. cond b (Some p.to) (word_for ps w)) (other (bytes_eq p.from w) refl)
+    ∙ unmarked_word ps w marked (λ k d lt. all (suc k) d (omega arith)) not
+  where
+    other : (b : Bool) → bytes_eq p.from w ≡ b → b ≡ false
+    other true is = absurd (let same : p.from ≡ w = (bytes_eq-Decides p.from w).0 is in let here : begins_marked marked p.from ≡ true = all 0 p (omega arith) in let e : true ≡ false = sym here ∙ ap (begins_marked marked) same ∙ not in cc)
+    other false is = refl
+
+pub marked_more_words : (ps : List WordPair) (i : ℕ) (p : WordPair) (old new : List Bool) → i < length ps → p ≡ get_or ps i p → AreMarkedWords old (take i ps)
+    → ((other : List ℕ) → IsTrue (begins_marked old other) → IsTrue (begins_marked new other)) → IsTrue (begins_marked new p.from) → AreMarkedWords new (take (i + 1) ps)
+marked_more_words ps i p old new lt is all kept here =
+    let split : take (i + 1) ps ≡ take i ps ++ p ∷ [] = grind (arith, common_steps) in
+    subst (AreMarkedWords new) (sym split) (All-push (λ (x : WordPair). IsTrue (begins_marked new x.from)) (take i ps) p (λ k d inside. kept (get_or (take i ps) k d).from (all k d inside)) here)
 
 push_no_longer : (xs : List (List ℕ)) (t : List ℕ) (old new : ℕ) → AreNoLonger old xs → old ≤ new → length t ≤ new → (k : ℕ) (d : List ℕ) → k < length (xs ++ t ∷ []) → length (get_or (xs ++ t ∷ []) k d) ≤ new
 push_no_longer [] t old new h le few zero d lt = few

@@ -1,8 +1,8 @@
 // Which bytes texts begin with.
 ghost use Rattle.std.specs.Prelude.{◌≡◌, List, ℕ, IsTrue};
-ghost use Rattle.standardise.specs.FirstBytes.{AreMarked, begins_marked};
+ghost use Rattle.standardise.specs.FirstBytes.{AreMarked, AreMarkedWords, begins_marked};
 
-use link_base::Text;
+use link_base::{Text, WordPair};
 
 /// Which bytes texts begin with: most texts that are none of them are told by their first byte alone.
 #[derive(Drop)]
@@ -20,6 +20,19 @@ impl FirstBytes {
         };
         for text in texts {
             firsts.mark(text.bytes());
+        }
+        firsts
+    }
+
+    /// What the words begin with that these pairs replace.
+    pub(crate) fn of_pairs(pairs: &[WordPair]) -> FirstBytes
+        ensures { AreMarkedWords result.marked pairs.now }
+    {
+        let mut firsts = FirstBytes {
+            marked: [false; 256],
+        };
+        for pair in pairs {
+            firsts.mark(pair.from.bytes());
         }
         firsts
     }

@@ -2,16 +2,15 @@
 ghost use Rattle.std.specs.Prelude.{◌≡◌, ◌∷◌, [], IfOk, map};
 ghost use Rattle.std.specs.Str.{IsUtf8};
 ghost use Rattle.link_base.specs.Standard.{IsValid};
-ghost use Rattle.link_base.specs.Tables.{AreWordPairs};
 ghost use Rattle.standardise.specs.Names.{name_value, place_value, word_or_absent};
 ghost use Rattle.standardise.specs.Words.{joined, replaced, words};
 
 use crate::cleaning::clean;
-use crate::pairs::{found, in_place, push_words};
+use crate::pairs::{WordTable, in_place, push_words};
 use crate::tables::{NameTables, PlaceTables};
 use crate::white_space::trimmed;
 use crate::words::next_word;
-use link_base::{NoMemory, Text, Value, WordPair};
+use link_base::{NoMemory, Text, Value};
 use std::alloc::Global;
 
 /// The standard value of a name. White space at both ends is dropped, and a missing mark is absent.
@@ -56,23 +55,21 @@ pub fn std_place(alloc: Global, text: &str, tables: &PlaceTables) -> Result<Valu
 }
 
 // A text that is one word, replaced. A word that stays is not copied.
-fn standard_word(alloc: Global, word: Text, pairs: &[WordPair]) -> Result<Value, NoMemory>
+fn standard_word(alloc: Global, word: Text, pairs: &WordTable) -> Result<Value, NoMemory>
     requires one { words word ≡ word ∷ [] }
     requires utf8 { IsUtf8 word }
-    requires pairs { AreWordPairs pairs.now }
     ensures value { IfOk result (λ v. v ≡ word_or_absent pairs.now (words word)) }
     ensures valid { IfOk result (λ v. IsValid v) }
 {
-    match found(pairs, word.bytes()) {
+    match pairs.found(word.bytes()) {
         Some(to) => Ok(Value::Word(Text::new(alloc, to)?)),
         None => Ok(Value::Word(word)),
     }
 }
 
 // The words of a text, each replaced, with a space between them.
-fn standard_words(alloc: Global, text: &[u8], pairs: &[WordPair]) -> Result<Value, NoMemory>
+fn standard_words(alloc: Global, text: &[u8], pairs: &WordTable) -> Result<Value, NoMemory>
     requires utf8 { IsUtf8 text.now }
-    requires pairs { AreWordPairs pairs.now }
     ensures value { IfOk result (λ v. v ≡ word_or_absent pairs.now (words text.now)) }
     ensures valid { IfOk result (λ v. IsValid v) }
 {

@@ -6,9 +6,12 @@ ghost use Rattle.link_base.specs.Tables.{AreWordPairs};
 ghost use Rattle.standardise.specs.Tables.{text_cmp, word_for};
 ghost use Rattle.standardise.specs.Words.{replaced, spaced_words, words};
 
+use crate::first_bytes::FirstBytes;
 use crate::words::next_word;
-use link_base::{NoMemory, WordPair};
+use link_base::{NoMemory, WordPair, WordPairs};
+use std::alloc::Global;
 use std::cmp::Ordering;
+use std::marker::Model;
 
 fn order(pair: &WordPair, word: &[u8]) -> Ordering
     ensures { result ≡ text_cmp pair.now.from word.now }
@@ -24,8 +27,62 @@ fn place_in(pairs: &[WordPair], word: &[u8]) -> Result<usize, usize>
     pairs.binary_search_by(|pair| order(pair, word))
 }
 
+/// Pairs of words, which contracts see as the list of them, and what the words begin with that are replaced.
+#[derive(Drop)]
+pub(crate) struct WordTable {
+    pairs: WordPairs,
+    firsts: FirstBytes,
+}
+
+impl Model for WordTable {
+    ghost use Rattle.std.specs.Prelude.{List};
+    ghost use Rattle.link_base.specs.declared.tables.WordPair.{WordPair};
+    ghost use Rattle.standardise.specs.FirstBytes.{AreMarkedWords};
+
+    ghost Value = { List WordPair };
+
+    ghost view = { λ t. t.pairs };
+
+    ghost invariant = { λ t. AreMarkedWords t.firsts.marked t.pairs };
+}
+
+impl WordTable {
+    /// The table of the same pairs.
+    pub(crate) fn new(alloc: Global, pairs: &WordPairs) -> Result<WordTable, NoMemory>
+        ensures { IfOk result (λ v. v ≡ pairs.now) }
+    {
+        let copies = copied_each(alloc, pairs.pairs())?;
+        let firsts = FirstBytes::of_pairs(&copies);
+        let pairs = WordPairs::of(copies);
+        Ok(WordTable { pairs, firsts })
+    }
+
+    /// The word that stands in the place of a word.
+    pub(crate) fn found(&self, word: &[u8]) -> Option<&[u8]>
+        ensures word { option_map (λ s. s.now) result ≡ word_for self.now word.now }
+        ensures utf8 { IfSome result (λ s. IsUtf8 s.now) }
+    {
+        if !self.firsts.may_begin(word) {
+            return None;
+        }
+        found_in(self.pairs.pairs(), word)
+    }
+}
+
+fn copied_each(alloc: Global, pairs: &[WordPair]) -> Result<Vec<WordPair>, NoMemory>
+    ensures { IfOk result (λ v. v.items ≡ pairs.now) }
+{
+    let mut out = Vec::new(alloc);
+    for pair in pairs {
+        let from = pair.from.copy(alloc)?;
+        let to = pair.to.copy(alloc)?;
+        out.push(WordPair { from, to })?;
+    }
+    Ok(out)
+}
+
 // The word that pairs have for a word.
-pub(crate) fn found<'a>(pairs: &'a [WordPair], word: &[u8]) -> Option<&'a [u8]>
+fn found_in<'a>(pairs: &'a [WordPair], word: &[u8]) -> Option<&'a [u8]>
     requires { AreWordPairs pairs.now }
     ensures word { option_map (λ s. s.now) result ≡ word_for pairs.now word.now }
     ensures utf8 { IfSome result (λ s. IsUtf8 s.now) }
@@ -36,21 +93,19 @@ pub(crate) fn found<'a>(pairs: &'a [WordPair], word: &[u8]) -> Option<&'a [u8]>
     }
 }
 
-// A word, or the word that pairs have for it.
-pub(crate) fn in_place<'a>(pairs: &'a [WordPair], word: &'a [u8]) -> &'a [u8]
-    requires { AreWordPairs pairs.now }
+// A word, or the word that stands in its place.
+pub(crate) fn in_place<'a>(pairs: &'a WordTable, word: &'a [u8]) -> &'a [u8]
     ensures value { result.now ≡ replaced pairs.now word.now }
     ensures utf8 { IsUtf8 word.now → IsUtf8 result.now }
 {
-    match found(pairs, word) {
+    match pairs.found(word) {
         Some(to) => to,
         None => word,
     }
 }
 
 // Appends the words of a text, each replaced, and each behind a space.
-pub(crate) fn push_words(out: &mut Vec<u8>, text: &[u8], pairs: &[WordPair]) -> Result<(), NoMemory>
-    requires { AreWordPairs pairs.now }
+pub(crate) fn push_words(out: &mut Vec<u8>, text: &[u8], pairs: &WordTable) -> Result<(), NoMemory>
     ensures words { OnOk result (out.new.items ≡ out.old.items ++ spaced_words (map (replaced pairs.now) (words text.now))) }
     ensures utf8 { IsUtf8 out.old.items → IsUtf8 text.now → OnOk result (IsUtf8 out.new.items) }
 {

@@ -1,13 +1,13 @@
 // The tables of names and of places.
 ghost use Rattle.std.specs.Prelude.{◌≡◌, IfOk};
 ghost use Rattle.std.specs.Str.{IsUtf8};
-ghost use Rattle.link_base.specs.Tables.{AreWordPairs};
 ghost use Rattle.standardise.specs.Tables.{contains_text};
 ghost use Rattle.standardise.specs.Words.{without_titles, words};
 
+use crate::pairs::WordTable;
 use crate::word_set::WordSet;
 use crate::words::{dropped_at_end, dropped_at_front};
-use link_base::{NoMemory, Tables, WordPair, WordPairs};
+use link_base::{NoMemory, Tables};
 use std::alloc::Global;
 use std::marker::Model;
 
@@ -15,7 +15,7 @@ use std::marker::Model;
 #[derive(Drop)]
 pub struct PlaceTables {
     marks: WordSet,
-    words: WordPairs,
+    words: WordTable,
 }
 
 impl Model for PlaceTables {
@@ -33,7 +33,7 @@ impl PlaceTables {
         ensures words { IfOk result (λ t. t.words ≡ plan.now.places) }
     {
         let marks = WordSet::new(alloc, &plan.missing)?;
-        let words = copied_pairs(alloc, &plan.places)?;
+        let words = WordTable::new(alloc, &plan.places)?;
         Ok(PlaceTables { marks, words })
     }
 
@@ -44,11 +44,10 @@ impl PlaceTables {
         self.marks.contains(text)
     }
 
-    pub(crate) fn pairs(&self) -> &[WordPair]
-        ensures all { result.now ≡ self.now.words }
-        ensures rising { AreWordPairs self.now.words }
+    pub(crate) fn pairs(&self) -> &WordTable
+        ensures { result.now ≡ self.now.words }
     {
-        self.words.pairs()
+        &self.words
     }
 }
 
@@ -58,7 +57,7 @@ pub struct NameTables {
     marks: WordSet,
     titles: WordSet,
     suffixes: WordSet,
-    words: WordPairs,
+    words: WordTable,
 }
 
 impl Model for NameTables {
@@ -80,7 +79,7 @@ impl NameTables {
         let marks = WordSet::new(alloc, &plan.missing)?;
         let titles = WordSet::new(alloc, &plan.titles)?;
         let suffixes = WordSet::new(alloc, &plan.suffixes)?;
-        let words = copied_pairs(alloc, &plan.names)?;
+        let words = WordTable::new(alloc, &plan.names)?;
         Ok(NameTables {
             marks,
             titles,
@@ -105,30 +104,9 @@ impl NameTables {
         dropped_at_end(rest, &self.titles, &self.suffixes)
     }
 
-    pub(crate) fn pairs(&self) -> &[WordPair]
-        ensures all { result.now ≡ self.now.words }
-        ensures rising { AreWordPairs self.now.words }
+    pub(crate) fn pairs(&self) -> &WordTable
+        ensures { result.now ≡ self.now.words }
     {
-        self.words.pairs()
+        &self.words
     }
-}
-
-// The same pairs.
-fn copied_pairs(alloc: Global, pairs: &WordPairs) -> Result<WordPairs, NoMemory>
-    ensures { IfOk result (λ v. v ≡ pairs.now) }
-{
-    let copies = copied_each(alloc, pairs.pairs())?;
-    Ok(WordPairs::of(copies))
-}
-
-fn copied_each(alloc: Global, pairs: &[WordPair]) -> Result<Vec<WordPair>, NoMemory>
-    ensures { IfOk result (λ v. v.items ≡ pairs.now) }
-{
-    let mut out = Vec::new(alloc);
-    for pair in pairs {
-        let from = pair.from.copy(alloc)?;
-        let to = pair.to.copy(alloc)?;
-        out.push(WordPair { from, to })?;
-    }
-    Ok(out)
 }

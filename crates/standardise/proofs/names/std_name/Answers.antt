@@ -17,7 +17,7 @@ returns-then-cleaned-clause-value c =
     let mark : c.is_missing.result ≡ contains_text c.args.tables.now.marks (trim c.args.text.now) = c.is_missing.ensures ∙ ap (contains_text c.args.tables.now.marks) (c.as_bytes.ensures.value ∙ c.trimmed-name.ensures) in
     let all = cleaned_words c.args.text.now cleaned (rw c.trimmed-name.ensures at c.in_ok-cleaned.ensures.text) in
     let one = c.in_ok-cleaned.ensures.word c.if-cleaned.true in
-    let told = rw c.pairs.ensures.all at c.standard_word.ensures.value in
+    let told = rw c.pairs.ensures at c.standard_word.ensures.value in
     name_of_words t c.args.text.now (words cleaned) c.is_missing.result c.standard_word.result mark c.if-is_missing.false (one_word_kept t.titles t.suffixes cleaned _ one all) told
 
 pub returns-clause-value : goal.returns-clause-value
@@ -27,5 +27,5 @@ returns-clause-value c =
     let mark : c.is_missing.result ≡ contains_text c.args.tables.now.marks (trim c.args.text.now) = c.is_missing.ensures ∙ ap (contains_text c.args.tables.now.marks) (c.as_bytes.ensures.value ∙ c.trimmed-name.ensures) in
     let all = cleaned_words c.args.text.now cleaned (rw c.trimmed-name.ensures at c.in_ok-cleaned.ensures.text) in
     let kept = rw (c.bytes.ensures, all) at c.untitled-kept.ensures.words in
-    let told = rw c.pairs-2.ensures.all at c.standard_words.ensures.value in
+    let told = rw c.pairs-2.ensures at c.standard_words.ensures.value in
     name_of_words t c.args.text.now (words c.untitled-kept.result.now) c.is_missing.result c.standard_words.result mark c.if-is_missing.false kept told

@@ -15,7 +15,7 @@ returns-then-cleaned-clause-value c =
     let cleaned = c.in_ok-cleaned.cleaned.text in
     let mark : c.is_missing.result ≡ contains_text c.args.tables.now.marks (trim c.args.text.now) = c.is_missing.ensures ∙ ap (contains_text c.args.tables.now.marks) (c.as_bytes.ensures.value ∙ c.trimmed-place.ensures) in
     let all = cleaned_words c.args.text.now cleaned (rw c.trimmed-place.ensures at c.in_ok-cleaned.ensures.text) in
-    let told = rw c.pairs.ensures.all at c.standard_word.ensures.value in
+    let told = rw c.pairs.ensures at c.standard_word.ensures.value in
     place_of_words c.args.tables.now c.args.text.now (words cleaned) c.is_missing.result c.standard_word.result mark c.if-is_missing.false all told
 
 pub returns-clause-value : goal.returns-clause-value
@@ -23,5 +23,5 @@ returns-clause-value c =
     let cleaned = c.in_ok-cleaned.cleaned.text in
     let mark : c.is_missing.result ≡ contains_text c.args.tables.now.marks (trim c.args.text.now) = c.is_missing.ensures ∙ ap (contains_text c.args.tables.now.marks) (c.as_bytes.ensures.value ∙ c.trimmed-place.ensures) in
     let all = cleaned_words c.args.text.now cleaned (rw c.trimmed-place.ensures at c.in_ok-cleaned.ensures.text) in
-    let told = rw (c.pairs-2.ensures.all, c.bytes.ensures) at c.standard_words.ensures.value in
+    let told = rw (c.pairs-2.ensures, c.bytes.ensures) at c.standard_words.ensures.value in
     place_of_words c.args.tables.now c.args.text.now (words cleaned) c.is_missing.result c.standard_words.result mark c.if-is_missing.false all told

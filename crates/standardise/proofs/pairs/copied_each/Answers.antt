@@ -1,5 +1,5 @@
 use Rattle.standardise.proofs.StepLemmas.{taken_more}
-use Rattle.standardise.proofs.tables.copied_each.Goals as goal
+use Rattle.standardise.proofs.pairs.copied_each.Goals as goal
 
 pub loop-pair-preserved : goal.loop-pair-preserved
 loop-pair-preserved c =

@@ -2,7 +2,7 @@ use Rattle.std.proofs.Common.{Some, get_or, subst, ap, sym, ◌∙◌}
 use Rattle.std.specs.Str.{IsUtf8}
 use Rattle.standardise.proofs.OrderLemmas.{found_pair, missed_pair}
 use Rattle.standardise.proofs.WordLemmas.{word_is_utf8}
-use Rattle.standardise.proofs.pairs.found.Goals as goal
+use Rattle.standardise.proofs.pairs.found_in.Goals as goal
 
 pub returns-in-Ok-clause-word : goal.returns-in-Ok-clause-word
 returns-in-Ok-clause-word c =
