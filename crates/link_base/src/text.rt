@@ -1,11 +1,11 @@
 // Texts of bytes, and want of memory.
-ghost use Rattle.std.specs.Prelude.{◌≡◌, ◌≤◌, ◌++◌, ◌∷◌, [], List, ℕ, IfOk, OnErr, OnOk, decimal, length};
+ghost use Rattle.std.specs.Prelude.{◌≡◌, ◌≤◌, ◌++◌, ◌∷◌, [], List, ℕ, IfOk, OnErr, OnOk, decimal, length, take};
 ghost use Rattle.std.specs.Cmp.{partial_equiv_from_equiv};
 ghost use Rattle.std.specs.Cmp.Lexicographic.{nat_list_eq_equiv};
 ghost use Rattle.std.specs.Cmp.Rules.{hashing};
 ghost use Rattle.std.specs.Hash as fed;
 ghost use Rattle.std.proofs.Common.{rules};
-ghost use Rattle.link_base.specs.declared.text.TheConstants.{SHORT};
+ghost use Rattle.link_base.specs.declared.text.TheConstants.{MOST_SHORT};
 
 use indexmap::Equivalent;
 use std::alloc::{AllocError, AllocFailed, Global};
@@ -31,33 +31,33 @@ impl<T: Drop> From<AllocFailed<T>> for NoMemory {
 }
 
 /// The most bytes of a text that takes no memory of its own.
-const SHORT: usize = 22;
+pub const MOST_SHORT: usize = 22;
 
 // The bytes of a short text, behind each other.
 #[derive(Drop)]
 struct Short {
-    bytes: [u8; SHORT],
+    bytes: [u8; MOST_SHORT],
     count: u8,
 }
 
 impl Model for Short {
     ghost use Rattle.std.specs.Prelude.{◌≤◌, List, ℕ, take};
-    ghost use Rattle.link_base.specs.declared.text.TheConstants.{SHORT};
+    ghost use Rattle.link_base.specs.declared.text.TheConstants.{MOST_SHORT};
 
     ghost Value = { List ℕ };
 
     ghost view = { λ s. take s.count s.bytes };
 
-    ghost invariant = { λ s. s.count ≤ SHORT };
+    ghost invariant = { λ s. s.count ≤ MOST_SHORT };
 }
 
 impl Short {
     // A copy of these bytes.
     fn new(text: &[u8]) -> Short
-        requires { length text.now ≤ SHORT }
+        requires { length text.now ≤ MOST_SHORT }
         ensures { result ≡ text.now }
     {
-        let mut bytes = [0; SHORT];
+        let mut bytes = [0; MOST_SHORT];
         bytes[..text.len()].copy_from_slice(text);
         Short {
             bytes,
@@ -97,7 +97,7 @@ impl Model for Text {
 impl Text {
     // A copy of a few bytes.
     fn short(bytes: &[u8]) -> Text
-        requires { length bytes.now ≤ SHORT }
+        requires { length bytes.now ≤ MOST_SHORT }
         ensures { result ≡ bytes.now }
     {
         Text {
@@ -109,7 +109,7 @@ impl Text {
     pub fn new(alloc: Global, bytes: &[u8]) -> Result<Text, NoMemory>
         ensures { IfOk result (λ text. text ≡ bytes.now) }
     {
-        if bytes.len() <= SHORT {
+        if bytes.len() <= MOST_SHORT {
             return Ok(Text::short(bytes));
         }
         let bytes = Bytes::Long(Vec::from_slice(alloc, bytes)?);
@@ -120,11 +120,24 @@ impl Text {
     pub fn of(bytes: Vec<u8>) -> Text
         ensures { result ≡ bytes.items }
     {
-        if bytes.len() <= SHORT {
+        if bytes.len() <= MOST_SHORT {
             return Text::short(&bytes);
         }
         Text {
             bytes: Bytes::Long(bytes),
+        }
+    }
+
+    /// The text of the first bytes of a room, which takes no memory.
+    pub fn in_room(room: [u8; MOST_SHORT], count: usize) -> Text
+        requires { count ≤ MOST_SHORT }
+        ensures { result ≡ take count room }
+    {
+        Text {
+            bytes: Bytes::Short(Short {
+                bytes: room,
+                count: count as u8,
+            }),
         }
     }
 

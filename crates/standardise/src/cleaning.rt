@@ -8,16 +8,13 @@ ghost use Rattle.unicode_normalization.specs.Forms.{nfd};
 ghost use Rattle.standardise.specs.Cleaning.{ascii_cleaned, cleaned_char, in_apostrophes, in_capitals, is_combining, letter_of, spaced, stays_in_words, with_spaces, without_apostrophes};
 ghost use Rattle.standardise.specs.Names.{characters_of};
 ghost use Rattle.standardise.specs.Words.{words};
-ghost use Rattle.standardise.specs.declared.cleaning.TheConstants.{MOST_SHORT};
+ghost use Rattle.link_base.specs.declared.text.TheConstants.{MOST_SHORT};
 
 use crate::words::is_one_word;
-use link_base::{NoMemory, Text};
+use link_base::{MOST_SHORT, NoMemory, Text};
 use std::alloc::Global;
 use ucd_category::{GeneralCategory, GeneralCategoryGroup};
 use unicode_normalization::slice::extend_nfd;
-
-// The most bytes of a text that is cleaned in no memory of its own.
-const MOST_SHORT: usize = 22;
 
 fn is_mark(c: char) -> bool
     ensures { result ≡ is_combining c }
@@ -143,20 +140,20 @@ pub(crate) struct Cleaned {
 }
 
 // A short ASCII text after the five steps, byte by byte, in no memory of its own. `None` for any other.
-fn clean_short(alloc: Global, text: &[u8]) -> Result<Option<Cleaned>, NoMemory>
-    ensures ascii { IfOk result (λ made. IfSome made (λ v. IsAscii text.now)) }
-    ensures text { IfOk result (λ made. IfSome made (λ v. v.text ≡ flat_map (λ c. option_to_list (ascii_cleaned c)) text.now)) }
-    ensures word { IfOk result (λ made. IfSome made (λ v. IsTrue v.is_word → words v.text ≡ v.text ∷ [])) }
+fn clean_short(text: &[u8]) -> Option<Cleaned>
+    ensures ascii { IfSome result (λ v. IsAscii text.now) }
+    ensures text { IfSome result (λ v. v.text ≡ flat_map (λ c. option_to_list (ascii_cleaned c)) text.now) }
+    ensures word { IfSome result (λ v. IsTrue v.is_word → words v.text ≡ v.text ∷ []) }
 {
     if text.len() > MOST_SHORT {
-        return Ok(None);
+        return None;
     }
     let mut room = [0; MOST_SHORT];
     let mut count = 0;
     let mut spaced = false;
     for byte in text {
         if *byte >= 128 {
-            return Ok(None);
+            return None;
         }
         if let Some(cleaned) = cleaned_ascii(*byte) {
             room[count] = cleaned;
@@ -164,9 +161,9 @@ fn clean_short(alloc: Global, text: &[u8]) -> Result<Option<Cleaned>, NoMemory>
             spaced |= cleaned == b' ';
         }
     }
-    let text = Text::new(alloc, &room[..count])?;
+    let text = Text::in_room(room, count);
     let is_word = count > 0 && !spaced;
-    Ok(Some(Cleaned { text, is_word }))
+    Some(Cleaned { text, is_word })
 }
 
 // The same of any ASCII text. There is room for as many bytes as it has.
@@ -227,7 +224,7 @@ pub(crate) fn clean(alloc: Global, text: &str) -> Result<Cleaned, NoMemory>
     ensures utf8 { IfOk result (λ v. IsUtf8 v.text) }
     ensures word { IfOk result (λ v. IsTrue v.is_word → words v.text ≡ v.text ∷ []) }
 {
-    match clean_short(alloc, text.as_bytes())? {
+    match clean_short(text.as_bytes()) {
         Some(cleaned) => Ok(cleaned),
         None => clean_any(alloc, text),
     }

@@ -44,6 +44,6 @@ returns-clause-word c = λ told.
     elim c.if-count-gt0.branch [
       | then-count-gt0 w ↦
           let none : has_space text ≡ false = none_seen _ _ (sym w.is_word-is ∙ told) c.loop-byte.invariant.spaced in
-          rw c.in_ok-text.ensures (one_word text (omega (arith, w.if-count-gt0.true, c.loop-byte.invariant.count, c.loop-byte.invariant.long, c.if-text-gt-MOST_SHORT.false, length-take c.loop-byte.count c.loop-byte.room)) none)
+          rw c.in_room-text.ensures (one_word text (omega (arith, w.if-count-gt0.true, c.loop-byte.invariant.count, c.loop-byte.invariant.long, c.if-text-gt-MOST_SHORT.false, length-take c.loop-byte.count c.loop-byte.room)) none)
       | else-count-gt0 w ↦ absurd (let some = sym w.is_word-is ∙ told in grind (arith, nat_tests))
     ]

@@ -2,7 +2,7 @@ use Rattle.std.proofs.Common.{◌≡◌, ◌≤◌, ◌<◌, ℕ, get_or, length
 use Rattle.std.specs.List.{flat_map}
 use Rattle.std.specs.Option.{option_to_list}
 use Rattle.standardise.specs.Cleaning.{ascii_cleaned}
-use Rattle.standardise.specs.declared.cleaning.TheConstants.{MOST_SHORT}
+use Rattle.link_base.specs.declared.text.TheConstants.{MOST_SHORT}
 use Rattle.standardise.proofs.WordLemmas.{has_space}
 use Rattle.standardise.proofs.cleaning.clean_short.Given as goal
 
