@@ -14,6 +14,7 @@ use Rattle.indexmap.specs.IndexSet.{insert_key}
 use Rattle.value_pool.proofs.PlaceLemmas.{any-place, at-place}
 use Rattle.block_passes.specs.Keys.{same_text}
 use Rattle.block_passes.specs.Groups.{AreGroups}
+use Rattle.block_passes.specs.Index.{rows_with_number}
 use Rattle.block_passes.specs.Numbering.{codes_of, no_number, number_among, IsNumbered, KeepNumbers}
 use Rattle.block_passes.proofs.TestLemmas.{eq-true, true-eq, same-test, filter-agree, filter-empty}
 
@@ -117,22 +118,37 @@ test-past codes (Some p) None k le = refl
 test-past codes (Some p) (Some q) k le =
     same-test (bytes_eq p q) false (λ h. let e = ap (place_among codes) ((bytes_eq-Decides p q).0 h) in absurd (omega arith)) (λ h. cc)
 
+-- the group of a number has the rows with it
+pub group-read : (numbers : List ℕ) (groups : List (List ℕ)) (count n : ℕ) → AreGroups numbers count groups → get_or groups n [] ≡ rows_with_number numbers count n
+group-read numbers groups count n g =
+    elim (cases_lt n count) [
+      | inl lt ↦ let within : nat_lt n count ≡ true = grind arith in rw within (g.1 n lt)
+      | inr le ↦ let past : nat_lt n count ≡ false = grind arith in rw past (get_or_past groups n [] (rw g.0 le))
+    ]
+
+-- the rows with the number of a code are the rows with the code
+pub numbered-rows : (codes : List (List ℕ)) → length codes ≤ no_number → (numbers : List ℕ) (code_of : ℕ → Option (List ℕ)) (rows : ℕ) → length numbers ≡ rows
+    → ((j : ℕ) → j < rows → get_or numbers j 0 ≡ number_among codes (code_of j)) → ((j : ℕ) → j < rows → IsNumbered codes (code_of j))
+    → (c : Option (List ℕ)) → rows_with_number numbers (length codes) (number_among codes c) ≡ filter (λ j. same_text c (code_of j)) (range_with_len 0 rows)
+numbered-rows codes few numbers code_of rows len told known c =
+    elim (cases_lt (number_among codes c) (length codes)) [
+      | inl lt ↦
+          let within : nat_lt (number_among codes c) (length codes) ≡ true = grind arith in
+          rw (within, len)
+          (filter-agree (λ j. get_or numbers j 0 == number_among codes c) (λ j. same_text c (code_of j)) 0 rows
+          (λ j k. let below : j < rows = omega arith in ap (λ t. t == number_among codes c) (told j below) ∙ test-is codes few c (code_of j) (known j below) lt))
+      | inr le ↦
+          let past : nat_lt (number_among codes c) (length codes) ≡ false = grind arith in
+          rw past (sym (filter-empty (λ j. same_text c (code_of j)) 0 rows (λ j k. test-past codes c (code_of j) (known j (omega arith)) le)))
+    ]
+
 -- the rows of the number of a code are the rows of the code
 pub group-is : (codes : List (List ℕ)) → length codes ≤ no_number → (numbers : List ℕ) (groups : List (List ℕ)) (code_of : ℕ → Option (List ℕ)) (rows : ℕ)
     → AreGroups numbers (length codes) groups → length numbers ≡ rows
     → ((j : ℕ) → j < rows → get_or numbers j 0 ≡ number_among codes (code_of j)) → ((j : ℕ) → j < rows → IsNumbered codes (code_of j))
     → (c : Option (List ℕ)) → get_or groups (number_among codes c) [] ≡ filter (λ j. same_text c (code_of j)) (range_with_len 0 rows)
 group-is codes few numbers groups code_of rows g len told known c =
-    elim (cases_lt (number_among codes c) (length codes)) [
-      | inl lt ↦
-          g.1 (number_among codes c) lt
-          ∙ rw len refl
-          ∙ filter-agree (λ j. get_or numbers j 0 == number_among codes c) (λ j. same_text c (code_of j)) 0 rows
-          (λ j k. let below : j < rows = omega arith in ap (λ t. t == number_among codes c) (told j below) ∙ test-is codes few c (code_of j) (known j below) lt)
-      | inr le ↦
-          get_or_past groups (number_among codes c) [] (rw g.0 le)
-          ∙ sym (filter-empty (λ j. same_text c (code_of j)) 0 rows (λ j k. test-past codes c (code_of j) (known j (omega arith)) le))
-    ]
+    group-read numbers groups (length codes) (number_among codes c) g ∙ numbered-rows codes few numbers code_of rows len told known c
 
 pub place-found : {T : Type 0} (p : T → Bool) (xs : List T) (n : ℕ) → Some n ≡ position p xs → n ≡ position_or_len p xs
 place-found p xs n e =

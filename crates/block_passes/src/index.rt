@@ -2,7 +2,7 @@
 ghost use Rattle.std.specs.Prelude.{◌≡◌, ◌<◌, ◌≤◌, ◌^◌, ℕ, List, [], length, map, slice_index_or, IfOk, Option, Some};
 ghost use Rattle.block_passes.specs.Ids.{AreAllHeld};
 ghost use Rattle.block_passes.specs.IndexRows.{index_rows};
-ghost use Rattle.block_passes.specs.Index.{AreReady, row_at, rows_with_key};
+ghost use Rattle.block_passes.specs.Index.{AreReady, row_at, rows_with_key, rows_with_number};
 ghost use Rattle.block_passes.specs.CodedRows.{code_of_row, rows_with_code};
 ghost use Rattle.block_passes.specs.Numbering.{AreNumbered, AreNumbers, number_among};
 ghost use Rattle.block_passes.specs.KeyIds.{key_ids};
@@ -107,7 +107,7 @@ fn index_file(alloc: Global, file: &StdFile, pass: &Pass) -> Result<RowsByCode, 
     Ok(RowsByCode { numbering, groups })
 }
 
-/// For each row of a file the rows of another that have its key in a pass, which contracts see as
+/// For each row of a file the rows of another that have its key in a pass, or its number, which contracts see as
 /// the list of these lists.
 #[derive(Drop)]
 pub struct PassRows {
@@ -193,6 +193,21 @@ impl PassRows {
         let groups = Groups::new(alloc, &of_b, texts)?;
         let numbers = part_numbers(alloc, a)?;
         Ok(PassRows::of(numbers, groups))
+    }
+
+    /// The rows of the second file with the number of each row of the first: the rising list of those with the same number, and
+    /// none where it is `count` or more.
+    pub fn of_numbers(
+        alloc: Global,
+        numbers_a: Vec<u32>,
+        numbers_b: &[u32],
+        count: u32,
+    ) -> Result<PassRows, NoMemory>
+        requires { length numbers_b.now < 2 ^ 32 }
+        ensures { IfOk result (λ rows. rows ≡ map (rows_with_number numbers_b.now count) numbers_a.items) }
+    {
+        let groups = Groups::new(alloc, numbers_b, count)?;
+        Ok(PassRows::of(numbers_a, groups))
     }
 
     /// The rows of the second file for a row of the first, rising.
