@@ -1,79 +1,35 @@
--- The pairs that share the one key are those of equal cells.
-use Rattle.std.proofs.Common.{◌≡◌, ◌+◌, ◌∷◌, ◌∙◌, ℕ, zero, suc, List, [], ◌<◌, length, bytes_eq, filter, get_or, Bool, true, false, ◌&&◌, Option, Some, None, refl, ap, arith}
-use Rattle.std.specs.Prelude.{◌||◌}
-use Rattle.link_base.specs.Standard.{absent_value, no_record}
+-- The rows with the same field, listed pair by pair, are the pairs of the column.
+use Rattle.std.proofs.Common.{◌≡◌, ◌+◌, ◌∷◌, ◌++◌, ◌∙◌, ℕ, zero, suc, List, [], length, map, filter, get_or, Bool, refl, sym, ap, arith, inl, inr}
+use Rattle.std.specs.List.{range_with_len}
+use Rattle.std.proofs.lemmas.Bool.{cases_Bool}
+use Rattle.std.proofs.lemmas.List.Elements.{filter-append}
 use Rattle.link_base.specs.declared.rule.PairAt.{PairAt}
-use Rattle.block_passes.specs.Index.{AreReady, row_at}
-use Rattle.block_passes.specs.Keys.{AreReadable, InRange, IsReadable, joined_key, same_key, same_text, value_part}
-use Rattle.link_base.specs.declared.plan.KeyKind.TheVariants.{Whole}
-use Rattle.pair_walk.specs.Rows.{AreAllReady}
-use Rattle.pair_walk.specs.Pairs.{compared_pairs, is_compared, product_from}
-use Rattle.link_core.specs.ColumnPairs.{column_pairs, is_column_pair, present}
-use Rattle.link_core.specs.ColumnRecords.{numbered_records, value_of, whole_field}
+use Rattle.pair_walk.specs.Pairs.{pair, pairs_of_row, product_from}
+use Rattle.link_core.specs.ColumnPairs.{column_pairs, is_column_pair}
+use Rattle.link_core.specs.ColumnRows.{matched_rows, pairs_from, rows_with_field}
 
-length_numbered : (n : ℕ) (cells : List (List ℕ)) → length (numbered_records n cells) ≡ length cells
-length_numbered n [] = refl
-length_numbered n (cell ∷ cells) = ap suc (length_numbered (n + 1) cells)
+row_pairs : (p : PairAt → Bool) (a b count : ℕ) → map (pair a) (filter (λ j. p (pair a j)) (range_with_len b count)) ≡ filter p (pairs_of_row a b count)
+row_pairs p a b zero = refl
+row_pairs p a b (suc count) =
+    let rest = row_pairs p a (b + 1) count in
+    elim (cases_Bool (p (pair a b))) [
+      | inl keep ↦ rw keep (ap (λ ps. pair a b ∷ ps) rest)
+      | inr skip ↦ rw skip rest
+    ]
 
-word_of_value : (cell : List ℕ) → value_part Whole (value_of cell) ≡ present cell
-word_of_value [] = refl
-word_of_value (b ∷ bs) = refl
+pairs_on : (a b : List (List ℕ)) (at : ℕ) (fields : List (List ℕ)) → ((k : ℕ) → get_or a (at + k) [] ≡ get_or fields k [])
+    → pairs_from at (matched_rows fields b) ≡ filter (is_column_pair a b) (product_from (length b) at (length fields))
+pairs_on a b at [] are = refl
+pairs_on a b at (field ∷ fields) are =
+    let p = is_column_pair a b in
+    let later : (k : ℕ) → get_or a ((at + 1) + k) [] ≡ get_or fields k [] = λ k. let next : (at + 1) + k ≡ at + suc k = omega arith in ap (λ n. get_or a n []) next ∙ are (suc k) in
+    let first : get_or a at [] ≡ field = let start : at ≡ at + 0 = omega arith in ap (λ n. get_or a n []) start ∙ are zero in
+    let here : map (pair at) (rows_with_field b field) ≡ filter p (pairs_of_row at 0 (length b)) =
+    ap (λ f. map (pair at) (rows_with_field b f)) (sym first) ∙ row_pairs p at 0 (length b) in
+    ap (λ ps. ps ++ pairs_from (at + 1) (matched_rows fields b)) here
+    ∙ ap (λ ps. filter p (pairs_of_row at 0 (length b)) ++ ps) (pairs_on a b (at + 1) fields later)
+    ∙ sym (filter-append p (pairs_of_row at 0 (length b)) (product_from (length b) (at + 1) (length fields)))
 
-word_at : (n : ℕ) (cells : List (List ℕ)) (k : ℕ) → value_part Whole (get_or (get_or (numbered_records n cells) k no_record).row 0 absent_value) ≡ present (get_or cells k [])
-word_at n [] k = refl
-word_at n (cell ∷ cells) zero = word_of_value cell
-word_at n (cell ∷ cells) (suc k) = word_at (n + 1) cells k
-
-plain : (b : Bool) → ((b && true) || false) ≡ b
-plain true = refl
-plain false = refl
-
-one_part : (x y : Option (List ℕ)) → (same_key (joined_key x (Some [])) (joined_key y (Some [])) || false) ≡ same_text x y
-one_part None y = refl
-one_part (Some k) None = refl
-one_part (Some k) (Some l) = plain (bytes_eq k l)
-
-same_test : (a b : List (List ℕ)) (at : PairAt) → is_compared (numbered_records 0 a) (numbered_records 0 b) whole_field at ≡ is_column_pair a b at
-same_test a b at =
-    let x = value_part Whole (get_or (get_or (numbered_records 0 a) at.a no_record).row 0 absent_value) in
-    let y = value_part Whole (get_or (get_or (numbered_records 0 b) at.b no_record).row 0 absent_value) in
-    let same : same_text x y ≡ is_column_pair a b at = rw (word_at 0 a at.a, word_at 0 b at.b) refl in
-    one_part x y ∙ same
-
-filter_same : (p q : PairAt → Bool) → ((at : PairAt) → p at ≡ q at) → (xs : List PairAt) → filter p xs ≡ filter q xs
-filter_same p q h [] = refl
-filter_same p q h (x ∷ xs) = rw (h x, filter_same p q h xs) refl
-
-in_range : (n : ℕ) (cells : List (List ℕ)) (at : ℕ) → at < length (numbered_records n cells) → length (row_at (numbered_records n cells) at) ≡ 1
-in_range n [] at lt = absurd (omega arith)
-in_range n (cell ∷ cells) zero lt = refl
-in_range n (cell ∷ cells) (suc at) lt = in_range (n + 1) cells at (omega arith)
-
-readable_value : (cell : List ℕ) → IsReadable Whole (value_of cell)
-readable_value [] = tt
-readable_value (b ∷ bs) = tt
-
-readable : (n : ℕ) (cells : List (List ℕ)) (at : ℕ) → at < length (numbered_records n cells) → IsReadable Whole (get_or (row_at (numbered_records n cells) at) 0 absent_value)
-readable n [] at lt = absurd (omega arith)
-readable n (cell ∷ cells) zero lt = readable_value cell
-readable n (cell ∷ cells) (suc at) lt = readable (n + 1) cells at (omega arith)
-
-one_part_ready : (cells : List (List ℕ)) → AreReady (record { field = 0; key = Whole } ∷ []) (numbered_records 0 cells)
-one_part_ready cells at lt = (within, all)
-  where
-    within : InRange (row_at (numbered_records 0 cells) at) (record { field = 0; key = Whole } ∷ [])
-    within zero h = let one = in_range 0 cells at lt in omega arith
-    within (suc k) h = absurd (omega arith)
-
-    all : AreReadable (row_at (numbered_records 0 cells) at) (record { field = 0; key = Whole } ∷ [])
-    all zero h = readable 0 cells at lt
-    all (suc k) h = absurd (omega arith)
-
--- each row has the one field of the key
-pub numbered_ready : (cells : List (List ℕ)) → AreAllReady whole_field (numbered_records 0 cells)
-numbered_ready cells zero h = one_part_ready cells
-numbered_ready cells (suc k) h = absurd (omega arith)
-
-pub columns_compared : (a b : List (List ℕ)) → compared_pairs (numbered_records 0 a) (numbered_records 0 b) whole_field ≡ column_pairs a b
-columns_compared a b =
-    rw (length_numbered 0 a, length_numbered 0 b) (filter_same (is_compared (numbered_records 0 a) (numbered_records 0 b) whole_field) (is_column_pair a b) (same_test a b) (product_from (length b) 0 (length a)))
+-- the pairs of the matched rows are those with the same field
+pub columns_paired : (a b : List (List ℕ)) → pairs_from 0 (matched_rows a b) ≡ column_pairs a b
+columns_paired a b = pairs_on a b 0 a (λ k. let same : 0 + k ≡ k = omega arith in ap (λ n. get_or a n []) same)

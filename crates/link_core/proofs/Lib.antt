@@ -4,7 +4,7 @@ pub mod ReadyLemmas
 pub mod PreparedLemmas
 pub mod PairLemmas
 pub mod ColumnLemmas
-pub mod NumberLemmas
+pub mod PlaceLemmas
 pub mod RuleLemmas
 pub mod DecisionLemmas
 pub mod ResultLemmas

@@ -1,7 +1,7 @@
 pub mod Prepared
 pub mod Pairs
 pub mod ColumnPairs
-pub mod ColumnRecords
+pub mod ColumnRows
 pub mod NameKeys
 pub mod Rules
 pub mod Decisions

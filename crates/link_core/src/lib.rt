@@ -2,6 +2,7 @@
 #![tactic(auto)]
 
 mod column_pairs;
+mod column_rows;
 mod decisions;
 mod duplicates;
 mod many;

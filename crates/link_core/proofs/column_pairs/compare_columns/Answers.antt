@@ -1,8 +1,8 @@
-use Rattle.link_core.proofs.ColumnLemmas.{numbered_ready}
+use Rattle.std.proofs.Common.{map}
+use Rattle.link_core.specs.ColumnPairs.{first_field}
+use Rattle.link_core.proofs.ColumnLemmas.{columns_paired}
 use Rattle.link_core.proofs.column_pairs.compare_columns.Goals as goal
 
-pub walk_columns-pairs-requires-clause-ready_a : goal.walk_columns-pairs-requires-clause-ready_a
-walk_columns-pairs-requires-clause-ready_a c = rw c.in_ok-of_a.ensures (numbered_ready _)
-
-pub walk_columns-pairs-requires-clause-ready_b : goal.walk_columns-pairs-requires-clause-ready_b
-walk_columns-pairs-requires-clause-ready_b c = rw c.in-Ok.ensures (numbered_ready _)
+pub returns-clause-answer : goal.returns-clause-answer
+returns-clause-answer c =
+    rw (← columns_paired (map first_field c.args.a) (map first_field c.args.b), ← c.in_ok-rows.ensures) c.list_pairs.ensures.answer

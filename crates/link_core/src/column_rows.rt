@@ -1,0 +1,109 @@
+// The rows with the same field in one column, found by the places of the fields among their distinct texts.
+ghost use Rattle.std.specs.Prelude.{◌≡◌, ◌≤◌, ◌+◌, ◌*◌, ◌++◌, All, IfErr, IfOk, OnOk, length, map};
+ghost use Rattle.block_passes.specs.Numbering.{AreNumbered, AreNumbers, IsNumbered, KeepNumbers, number_among};
+ghost use Rattle.file_reader.specs.Rows.{TableRow};
+ghost use Rattle.file_reader.specs.Table.{HasTexts};
+ghost use Rattle.link_base.specs.Fault.{Gives, IsInputFault};
+ghost use Rattle.link_core.specs.ColumnPairs.{first_field, present};
+ghost use Rattle.link_core.specs.ColumnRows.{field_at, items_of, matched_rows, pairs_from};
+ghost use Rattle.pair_decisions.specs.Pairs.{pairs_within};
+ghost use Rattle.pair_walk.specs.Pairs.{pair};
+
+use block_passes::PassRows;
+use file_reader::Table;
+use link_base::{Fault, NoMemory, PairAt};
+use link_limits::{MOST_FIELD_BYTES, MOST_PAIRS, MOST_POOL_LIMIT, MOST_ROWS};
+use std::alloc::Global;
+use value_pool::{Pool, PoolFault};
+
+/// The number of an empty field: it is past all places.
+const NO_PLACE: u32 = u32::MAX;
+
+// Takes a field that is not empty, and gives its place.
+fn number_field(alloc: Global, pool: &mut Pool, field: &[u8]) -> Result<u32, NoMemory>
+    requires room { pool.old.used + length field.now ≤ pool.old.limit }
+    ensures limit { pool.new.limit ≡ pool.old.limit }
+    ensures used { OnOk result (pool.new.used ≤ pool.old.used + length field.now) }
+    ensures kept { OnOk result (KeepNumbers pool.old.texts pool.new.texts) }
+    ensures number { IfOk result (λ number. number ≡ number_among pool.new.texts (present field.now)) }
+    ensures numbered { OnOk result (IsNumbered pool.new.texts (present field.now)) }
+{
+    if field.is_empty() {
+        return Ok(NO_PLACE);
+    }
+    match pool.intern(alloc, field) {
+        Ok(id) => {
+            pool.are_distinct();
+            Ok(id.place())
+        }
+        Err(PoolFault::NoMemory) => Err(NoMemory),
+        Err(PoolFault::Full { .. }) => unreachable!(),
+    }
+}
+
+// Takes the fields of a column, and gives the number of each.
+fn number_column(alloc: Global, pool: &mut Pool, table: &Table) -> Result<Vec<u32>, NoMemory>
+    requires few { length table.now ≤ MOST_ROWS }
+    requires width { All (λ (r : TableRow). length r.fields ≡ 1) table.now }
+    requires texts { HasTexts table.now }
+    requires room { pool.old.used + MOST_ROWS * MOST_FIELD_BYTES ≤ pool.old.limit }
+    ensures limit { pool.new.limit ≡ pool.old.limit }
+    ensures used { OnOk result (pool.new.used ≤ pool.old.used + MOST_ROWS * MOST_FIELD_BYTES) }
+    ensures kept { OnOk result (KeepNumbers pool.old.texts pool.new.texts) }
+    ensures numbers { IfOk result (λ numbers. AreNumbers pool.new.texts (field_at (map first_field table.now)) (length table.now) numbers.items) }
+    ensures numbered { OnOk result (AreNumbered pool.new.texts (field_at (map first_field table.now)) (length table.now)) }
+{
+    let mut numbers = Vec::with_capacity(alloc, table.rows() as usize)?;
+    for at in 0..table.rows() {
+        let number = number_field(alloc, pool, table.field(at, 0))?;
+        numbers.push(number)?;
+    }
+    Ok(numbers)
+}
+
+/// For each row of a column of A the rows of B with the same field. Each table is given back once its fields have numbers.
+pub(crate) fn match_rows(alloc: Global, a: Table, b: Table) -> Result<PassRows, NoMemory>
+    requires few_a { length a ≤ MOST_ROWS }
+    requires few_b { length b ≤ MOST_ROWS }
+    requires width_a { All (λ (r : TableRow). length r.fields ≡ 1) a }
+    requires width_b { All (λ (r : TableRow). length r.fields ≡ 1) b }
+    requires texts_a { HasTexts a }
+    requires texts_b { HasTexts b }
+    ensures { IfOk result (λ rows. rows ≡ matched_rows (map first_field a) (map first_field b)) }
+{
+    let mut pool = Pool::new(alloc, MOST_POOL_LIMIT)?;
+    let numbers_a = number_column(alloc, &mut pool, &a)?;
+    drop(a);
+    let numbers_b = number_column(alloc, &mut pool, &b)?;
+    drop(b);
+    let texts = pool.len();
+    drop(pool);
+    PassRows::of_numbers(alloc, numbers_a, &numbers_b, texts)
+}
+
+// Appends the pairs of a row.
+fn push_pairs(pairs: &mut Vec<PairAt>, a: u32, bs: &[u32]) -> Result<(), NoMemory>
+    ensures { OnOk result (pairs.new.items ≡ pairs.old.items ++ map (pair a) bs.now) }
+{
+    for b in bs {
+        pairs.push(PairAt { a, b: *b })?;
+    }
+    Ok(())
+}
+
+/// The pairs of the rows, where they are at most `MOST_PAIRS`: more are never listed.
+pub(crate) fn list_pairs(alloc: Global, rows: &PassRows) -> Result<Vec<PairAt>, Fault>
+    requires { length rows.now ≤ MOST_ROWS }
+    ensures kind { IfErr result IsInputFault }
+    ensures answer { Gives items_of (pairs_within (pairs_from 0 rows.now)) result }
+{
+    let mut pairs = Vec::new(alloc);
+    for at in 0..rows.len() as u32 {
+        let bs = rows.rows(at);
+        if (pairs.len() + bs.len()) as u64 > MOST_PAIRS {
+            return Err(Fault::TooManyPairs { limit: MOST_PAIRS });
+        }
+        push_pairs(&mut pairs, at, bs)?;
+    }
+    Ok(pairs)
+}
