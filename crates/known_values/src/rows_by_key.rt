@@ -1,8 +1,10 @@
-// Indexes by keys, and keys of rows, have the memory that they want; the commands walk by lists of rows.
+// Indexes by keys, keys of rows and their ids, and lists of compared pairs have the memory that they want; the commands walk by
+// lists of rows.
 ghost use Rattle.std.specs.Prelude.{◌≡◌, []};
 
-use block_passes::{build_index, build_index_in, id_key, pass_key};
-use link_base::{NoMemory, Pass, StdFile, Value};
+use block_passes::{build_index, build_index_in, id_key, key_ids, pass_key};
+use link_base::{NoMemory, Pass, PassList, StdFile, Value};
+use pair_walk::{walk, walk_in};
 use std::alloc::Global;
 use value_pool::Pool;
 
@@ -30,10 +32,21 @@ fn are_made_over(alloc: Global, file: &StdFile, pool: &Pool) -> bool
     are_made(alloc, file, &row, &pass) && are_made_in(alloc, file, &row, &pass, pool)
 }
 
+// The compared pairs of a file with itself in no pass, by texts and by ids, and the ids of the parts of its keys.
+fn are_walked(alloc: Global, file: &StdFile, passes: &PassList, pool: &Pool) -> bool
+    requires file { file.now ≡ [] }
+    requires passes { passes.now ≡ [] }
+{
+    walk(alloc, file, file, passes).is_ok()
+        && walk_in(alloc, file, file, passes, pool).is_ok()
+        && key_ids(alloc, file, passes, pool).is_ok()
+}
+
 fn all_are_made(alloc: Global) -> Result<bool, NoMemory> {
     let pool = Pool::new(alloc, 10)?;
     let file = StdFile::new(alloc)?;
-    Ok(are_made_over(alloc, &file, &pool))
+    let passes = PassList::new(Vec::new(alloc));
+    Ok(are_made_over(alloc, &file, &pool) && are_walked(alloc, &file, &passes, &pool))
 }
 
 #[test]
