@@ -1,7 +1,8 @@
 // A stream of the host.
-ghost use Rattle.std.specs.Prelude.{◌≡◌, [], OnOk};
+ghost use Rattle.std.specs.Prelude.{◌≡◌, [], IfErr, OnOk};
 ghost use Rattle.std.specs.Io.KnownBytes.{Appends};
 ghost use Rattle.link_outside.specs.Outside.{HasCause};
+ghost use Rattle.link_outside.specs.declared.outside.SinkError.TheVariants as sink;
 
 use link_outside::{Sink, SinkError};
 use std::alloc::Global;
@@ -34,6 +35,7 @@ impl<W: Write> Sink for HostStream<W> {
 
     fn put_all(&mut self, _alloc: Global, bytes: &[u8]) -> Result<(), SinkError>
         ensures cause { HasCause self.old.faults self.new.faults result }
+        ensures failed { IfErr result (λ error. error ≡ sink.Failed) }
         ensures bytes { OnOk result (Appends (W.contents self.old.stream) (W.contents self.new.stream) bytes.now) }
     {
         if self.stream.write_all(bytes).is_ok() && self.stream.flush().is_ok() {

@@ -3,8 +3,6 @@
 
 mod host_files;
 mod host_stream;
-#[cfg(test)]
-mod tests;
 mod words;
 
 pub use host_files::HostFiles;

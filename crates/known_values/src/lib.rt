@@ -14,6 +14,10 @@ mod forests;
 #[cfg(test)]
 mod greatest_links;
 #[cfg(test)]
+mod host_adapters;
+#[cfg(test)]
+mod memory_stores;
+#[cfg(test)]
 mod proposed_links;
 #[cfg(test)]
 mod rows_by_key;

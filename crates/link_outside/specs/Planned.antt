@@ -49,10 +49,11 @@ PutsByPlan (Some f) wanted old new (Ok x) = ⊥
 PutsByPlan (Some f) wanted old new (Err store.Failed) = new ≡ (if f.applied then wanted else old)
 PutsByPlan planned wanted old new (Err store.NoMemory) = new ≡ old
 
--- a sink fails exactly where that is planned, and then takes nothing; want of memory is free
+-- a sink fails exactly where that is planned, and then takes nothing; where it is not planned, want of memory is free
 abbrev pub TakesByPlan : {T : Type 0} → Bool → List ℕ → List ℕ → List ℕ → Result T SinkError → Type 0
 TakesByPlan false bytes old new (Ok x) = new ≡ old ++ bytes
 TakesByPlan false bytes old new (Err sink.Failed) = ⊥
 TakesByPlan true bytes old new (Ok x) = ⊥
+TakesByPlan false bytes old new (Err sink.NoMemory) = new ≡ old
 TakesByPlan true bytes old new (Err sink.Failed) = new ≡ old
-TakesByPlan planned bytes old new (Err sink.NoMemory) = new ≡ old
+TakesByPlan true bytes old new (Err sink.NoMemory) = ⊥

@@ -9,8 +9,6 @@ mod memory_store;
 mod outside;
 mod piece;
 mod sure;
-#[cfg(test)]
-mod tests;
 
 pub use line::write_fault;
 pub use memory_sink::MemorySink;

@@ -1,7 +1,7 @@
 // A store and a sink that never fail.
-ghost use Rattle.std.specs.Prelude.{◌≡◌, [], Some, IfOk, OnErr, OnOk, option_map, ⊤};
+ghost use Rattle.std.specs.Prelude.{◌≡◌, [], Some, IfOk, OnErr, OnOk, option_map, true, ⊤};
 ghost use Rattle.link_outside.specs.Fakes.{sure_held};
-ghost use Rattle.link_outside.specs.Outside.{held_with};
+ghost use Rattle.link_outside.specs.Outside.{Appends, HasCause, held_with, LogsFailure, PutsAs};
 
 use crate::holdings::{Holdings, cut_to};
 use crate::outside::{Load, Sink, SinkError, Store, StoreError};
@@ -70,7 +70,11 @@ impl Store for SureStore {
         Ok(cut_to(alloc, self.bytes_at(name), limit)?)
     }
 
-    fn put(&mut self, alloc: Global, name: &str, bytes: &[u8]) -> Result<(), StoreError> {
+    fn put(&mut self, alloc: Global, name: &str, bytes: &[u8]) -> Result<(), StoreError>
+        ensures content { ⊤ → PutsAs (held_with name.now bytes.now (sure_held self.old)) (sure_held self.old) (sure_held self.new) result }
+        ensures cause { LogsFailure [] [] (record { put = true; name = name.now }) result }
+        ensures err { OnErr result (self.new ≡ self.old) }
+    {
         self.hold(alloc, name, bytes)?;
         Ok(())
     }
@@ -114,7 +118,11 @@ impl Sink for SureSink {
 
     ghost faults = { λ _. 0 };
 
-    fn put_all(&mut self, _alloc: Global, bytes: &[u8]) -> Result<(), SinkError> {
+    fn put_all(&mut self, _alloc: Global, bytes: &[u8]) -> Result<(), SinkError>
+        ensures content { ⊤ → Appends bytes.now self.old self.new result }
+        ensures cause { HasCause 0 0 result }
+        ensures err { OnErr result (self.new ≡ self.old) }
+    {
         match self.bytes.extend_from_slice(bytes) {
             Ok(()) => Ok(()),
             Err(_) => Err(SinkError::NoMemory),

@@ -1,5 +1,5 @@
-// The adapters on the host.
-use crate::{HostFiles, HostStream};
+// The files and streams of the host.
+use host_outside::{HostFiles, HostStream};
 use link_outside::{Load, Sink, SinkError, Store, StoreError};
 use std::io::Write;
 use std::test::Fail;
@@ -30,6 +30,16 @@ fn files_are_put_whole_and_loaded_up_to_a_limit(rt: HostRuntime) -> Result<(), F
     Ok(())
 }
 
+#[test]
+fn a_file_without_a_folder_is_a_failure(rt: HostRuntime) -> Result<(), Fail> {
+    let alloc = rt.alloc();
+    let folder = env::temp_dir(&rt)?;
+    let name = format!(in alloc; "{}/linkage-no-folder/a.csv", folder.as_path().display())?;
+    let mut files = HostFiles::new(alloc, &rt);
+    assert!(rt; matches!(files.put(alloc, &name, b"x"), Err(StoreError::Failed)));
+    Ok(())
+}
+
 fn is_whole(load: Result<Load, StoreError>, want: &[u8]) -> bool {
     match load {
         Ok(Load::Whole(text)) => text.bytes() == want,
@@ -52,26 +62,37 @@ fn a_long_file_is_loaded_whole(rt: HostRuntime) -> Result<(), Fail> {
     Ok(())
 }
 
-// A writer that takes nothing.
+// A writer that takes so many bytes at most of each piece, and then hands on what it has, or does not.
 #[derive(Drop)]
-struct Full;
+struct Narrow {
+    takes: usize,
+    flushes: bool,
+}
 
-impl Write for Full {
-    fn write(&mut self, _bytes: &[u8]) -> io::Result<usize> {
-        Ok(0)
+impl Write for Narrow {
+    fn write(&mut self, bytes: &[u8]) -> io::Result<usize> {
+        Ok(bytes.len().min(self.takes))
     }
 
     fn flush(&mut self) -> io::Result<()> {
-        Ok(())
+        if self.flushes {
+            Ok(())
+        } else {
+            Err(io::Error::from(io::ErrorKind::BrokenPipe))
+        }
     }
 }
 
 #[test]
-fn a_stream_that_takes_nothing_has_failed(rt: HostRuntime) -> Result<(), Fail> {
+fn a_stream_that_takes_nothing_or_hands_nothing_on_has_failed(rt: HostRuntime) -> Result<(), Fail> {
     let alloc = rt.alloc();
-    let mut full = HostStream::new(Full);
-    assert!(rt; full.put_all(alloc, b"").is_ok());
-    assert!(rt; matches!(full.put_all(alloc, b"x"), Err(SinkError::Failed)));
+    for (takes, flushes, done) in [(1, true, true), (0, true, false), (1, false, false)] {
+        let mut stream = HostStream::new(Narrow { takes, flushes });
+        match stream.put_all(alloc, b"xy") {
+            Ok(()) => assert!(rt; done),
+            Err(error) => assert!(rt; !done && error == SinkError::Failed),
+        }
+    }
     let mut open = HostStream::new(Vec::new(alloc));
     assert!(rt; open.put_all(alloc, b"x").is_ok());
     Ok(())
