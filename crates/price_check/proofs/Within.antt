@@ -71,12 +71,13 @@ place_sum_more (n ∷ ns) (q ∷ qs) (suc i) lt m =
     let e : suc i + 1 ≡ suc (i + 1) = omega arith in
     rw e (omega (arith, ints, place_sum_more ns qs i (omega arith) (omega arith)))
 
-pub product_small : (n m : ℕ) (p : ℤ) (most : ℕ) → n ≤ m → neg_ℤ (pos most) ≤ℤ p → p ≤ℤ pos most → (neg_ℤ (pos (m * most)) ≤ℤ (pos n *ℤ p)) × ((pos n *ℤ p) ≤ℤ pos (m * most))
-product_small n m (pos v) most few low high =
+-- so many times a price is within so many times its bound
+pub multiple_bounded : (n m : ℕ) (p : ℤ) (most : ℕ) → n ≤ m → neg_ℤ (pos most) ≤ℤ p → p ≤ℤ pos most → (neg_ℤ (pos (m * most)) ≤ℤ (pos n *ℤ p)) × ((pos n *ℤ p) ≤ℤ pos (m * most))
+multiple_bounded n m (pos v) most few low high =
     let small : v ≤ most = omega (arith, ints, high) in
     let le = mul-le-mul {n₁ = n} {m₁ = v} few small in
     rw (pos-*ℤ-pos n v) (omega (arith, ints, le), omega (arith, ints, le))
-product_small n m (negsuc v) most few low high =
+multiple_bounded n m (negsuc v) most few low high =
     let small : suc v ≤ most = omega (arith, ints, low) in
     let le = mul-le-mul {n₁ = n} {m₁ = suc v} few small in
     rw (pos-*ℤ-negsuc n v) (omega (arith, ints, le), omega (arith, ints, le))
