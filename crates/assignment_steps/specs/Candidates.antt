@@ -1,4 +1,4 @@
--- Candidates as edges, and links and prices as they are handed out: `edges_of`, `linked`.
+-- Candidates as edges, and links and prices as they are handed out: `edges_of`, `linked`, and the calls of both assigners.
 use Rattle.std.specs.Prelude.{ℕ, zero, suc, ℤ, pos, negsuc, ◌≤ℤ◌, List, Option, Some, None, Bool, true, false, ◌&&◌, ◌==◌, filter_map, map}
 use Rattle.link_limits.specs.declared.TheConstants.{MOST_VALUE}
 use Rattle.link_base.specs.declared.rule.Candidate.{Candidate}
@@ -44,3 +44,9 @@ is_linked es la c = links_to es c (link la c.a)
 -- prices as integers
 abbrev pub prices_of : List ℕ → List ℤ
 prices_of ps = map pos ps
+
+-- a list of links with prices
+pub record Solution : Type 0 where
+  pub links : List Candidate
+  pub prices_a : List ℤ
+  pub prices_b : List ℤ
