@@ -18,7 +18,7 @@ use Rattle.assignment_steps.specs.declared.market.Edge.{Edge}
 use Rattle.assignment_steps.specs.Market.{edge, link, number}
 use Rattle.capacity_assign.specs.Core.{linked_at}
 use Rattle.capacity_assign.specs.Round.{IsBetween}
-use Rattle.capacity_assign.specs.Seating.{Seating, free_rows}
+use Rattle.capacity_assign.specs.Seating.{Seating, free_records}
 use Rattle.capacity_assign.specs.Final.{AreClosed, AreEmpty, ReachAll}
 use Rattle.assignment_steps.specs.Candidates.{edges_of, is_linked, prices_of}
 use Rattle.capacity_assign.proofs.Links.{counted_link, linked_at-set, tick}
@@ -233,7 +233,7 @@ between_first cs rows_a capacities pa pb s within closed r empty = record {
   tight = λ k h. absurd (let none = none_linked rows_a (edge (edges_of cs) k).a in cc);
   seated = record {
     seats = empty.seats ∙ sym (length-replicate rows_a None);
-    rows = empty.rows ∙ sym (length-replicate rows_a None);
+    sitters = empty.sitters ∙ sym (length-replicate rows_a None);
     owners = empty.owners ∙ sym (length-replicate rows_a None);
     earliers = empty.earliers ∙ sym (length-replicate rows_a None);
     lasts = rw (empty.lasts, empty.left) (length-replicate (length capacities) None);
@@ -252,7 +252,7 @@ between_first cs rows_a capacities pa pb s within closed r empty = record {
       rw (← ends) (closed.covered k lt none);
 }
   where
-    few : (la : List (Option ℕ)) → free_rows la ≤ length la
+    few : (la : List (Option ℕ)) → free_records la ≤ length la
     few la = count_by-le-length is_none la
 
 pub places_first : (cs : List Candidate) (rows_a : ℕ) (capacities : List ℕ) (s : Seating) (b : ℕ) → AreEmpty rows_a capacities s → number s.left b + linked_at (edges_of cs) (replicate rows_a None) b ≡ capacity_of capacities b

@@ -7,8 +7,8 @@ use Rattle.assignment_steps.specs.declared.market.Edge.{Edge}
 use Rattle.assignment_steps.specs.Market.{IsTight, edge, link, number}
 use Rattle.capacity_assign.specs.Core.{linked_at}
 use Rattle.capacity_assign.specs.Round.{AreSettled, IsBetween, IsSettled, KeepsPlaces}
-use Rattle.capacity_assign.specs.Seating.{AddsSeat, Seating, free_rows}
-use Rattle.capacity_assign.proofs.Links.{free_row_counts, free_rows-set, linked_at-set, linked_set, tick}
+use Rattle.capacity_assign.specs.Seating.{AddsSeat, Seating, free_records}
+use Rattle.capacity_assign.proofs.Links.{free_record_counts, free_records-set, linked_at-set, linked_set, tick}
 use Rattle.capacity_assign.proofs.Seating.{places_after_added, all_taken, seats_after_added, vacant_after_added}
 use Rattle.assignment_steps.proofs.Taken.{tight_joined}
 
@@ -25,11 +25,11 @@ module _ (es : List Edge) (pa pb : List ℕ) (la : List (Option ℕ)) (s t : Sea
   pub places_linked : KeepsPlaces es la s.left (set la a (Some k)) t.left
   places_linked = rw adds.left (places_after_added es la (set la a (Some k)) s.left (edge es k).b some one_more)
 
-  pub between_linked : IsTight es pa pb k → IsBetween es pa pb (set la a (Some k)) (record t { seat = set t.seat a s.count; row = set t.row s.count a }) 0
+  pub between_linked : IsTight es pa pb k → IsBetween es pa pb (set la a (Some k)) (record t { seat = set t.seat a s.count; sitter = set t.sitter s.count a }) 0
   between_linked tight =
-      let rooms = free_row_counts la a ra none in
-      let fewer : free_rows (set la a (Some k)) + 1 ≡ free_rows la = (let e : free_rows (set la a (Some k)) + 1 ≡ free_rows la + 0 = rw none at (free_rows-set la a (Some k) ra) in omega (arith, e)) in
-      let count : s.count < length s.row = omega (arith, w.seated.room, w.seated.rows, rooms) in
+      let rooms = free_record_counts la a ra none in
+      let fewer : free_records (set la a (Some k)) + 1 ≡ free_records la = (let e : free_records (set la a (Some k)) + 1 ≡ free_records la + 0 = rw none at (free_records-set la a (Some k) ra) in omega (arith, e)) in
+      let count : s.count < length s.sitter = omega (arith, w.seated.room, w.seated.sitters, rooms) in
       record {
         rows_a = rw length-set w.rows_a;
         rows_b = rw (adds.left, length-set) w.rows_b;
@@ -39,8 +39,8 @@ module _ (es : List Edge) (pa pb : List ℕ) (la : List (Option ℕ)) (s t : Sea
         small_b = w.small_b;
         linked = linked_set es la k w.linked lt ra;
         tight = tight_joined es pa pb la k ra w.tight tight;
-        seated = seats_after_added es la (set la a (Some k)) s t (edge es k).b (set t.seat a s.count) (set t.row s.count a) w.seated adds (place_there s.left (edge es k).b some) rooms (length-set la a (Some k)) fewer (length-set t.seat a s.count) (length-set t.row s.count a)
-            (λ h. all_taken es la t.seat t.row t.owner t.count (edge es k).b s.count k h refl ra (rw adds.seat w.seated.seats) (rw adds.row count) none);
+        seated = seats_after_added es la (set la a (Some k)) s t (edge es k).b (set t.seat a s.count) (set t.sitter s.count a) w.seated adds (place_there s.left (edge es k).b some) rooms (length-set la a (Some k)) fewer (length-set t.seat a s.count) (length-set t.sitter s.count a)
+            (λ h. all_taken es la t.seat t.sitter t.owner t.count (edge es k).b s.count k h refl ra (rw adds.seat w.seated.seats) (rw adds.sitter count) none);
         free_a = λ r low free. absurd (omega arith);
         free_b = λ b left. w.free_b b (vacant_after_added s.left (edge es k).b some b (rw adds.left at left));
         closed = λ b j full ltj ends. w.closed b j (sym (places_linked b) ∙ full) ltj ends;

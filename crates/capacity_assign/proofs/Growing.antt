@@ -12,7 +12,7 @@ use Rattle.assignment_steps.specs.Market.{link, number}
 use Rattle.assignment_steps.specs.Distances.{distance, far}
 use Rattle.assignment_steps.specs.Spread.{IsNearest, IsRelaxed, IsSpread, Shortens, edge_of, paid}
 use Rattle.capacity_assign.specs.Seating.{IsLastSeat}
-use Rattle.capacity_assign.specs.Growth.{Growth, IsGrown, IsHeldAt, IsPending, IsReady, IsSettled, IsTree, Joins, places_left, with_waiting}
+use Rattle.capacity_assign.specs.Growth.{Growth, IsGrown, IsHeldAt, IsPending, IsReady, IsExhausted, IsTree, Joins, places_left, with_waiting}
 use Rattle.assignment_steps.proofs.OneWrite.{distance-set}
 use Rattle.assignment_steps.proofs.Spreading.{cons_first, joins_here, joins_keeps, spread_any, spread_joined, spread_passed, spread_planted, spread_shortened, spread_skip, spread_waiting}
 
@@ -60,7 +60,7 @@ module _ (f : Ground) (k : ℕ) (g g' : Growth) (reach : ℕ) (lt : k < length f
   }
 
 -- other entries wait, at another distance now, and another record of B is held
-tree_waiting : (f : Ground) (position next : ℕ) (g : Growth) (waiting : List (ℕ × ℕ)) (current : ℕ) (held : Option ℕ) → IsTree f position next g → current ≤ g.best → ((a : ℕ) → distance g.spread.da a < far → distance g.spread.da a ≤ current) → ((b : ℕ) → distance g.spread.db b < far → Contains waiting (distance g.spread.db b, b) ⊎ (IsSettled f g.spread.da b ⊎ (held ≡ Some b))) → ((b : ℕ) → held ≡ Some b → (places_left f b ≡ 0) × (distance g.spread.db b ≡ current)) → ((e : ℕ × ℕ) → Contains waiting e → (current ≤ e.0) × (distance g.spread.db e.1 ≤ e.0) × (e.1 < length g.spread.db)) → IsTree f position next (record g { spread = record g.spread { frontier = waiting; current = current }; held = held })
+tree_waiting : (f : Ground) (position next : ℕ) (g : Growth) (waiting : List (ℕ × ℕ)) (current : ℕ) (held : Option ℕ) → IsTree f position next g → current ≤ g.best → ((a : ℕ) → distance g.spread.da a < far → distance g.spread.da a ≤ current) → ((b : ℕ) → distance g.spread.db b < far → Contains waiting (distance g.spread.db b, b) ⊎ (IsExhausted f g.spread.da b ⊎ (held ≡ Some b))) → ((b : ℕ) → held ≡ Some b → (places_left f b ≡ 0) × (distance g.spread.db b ≡ current)) → ((e : ℕ × ℕ) → Contains waiting e → (current ≤ e.0) × (distance g.spread.db e.1 ≤ e.0) × (e.1 < length g.spread.db)) → IsTree f position next (record g { spread = record g.spread { frontier = waiting; current = current }; held = held })
 tree_waiting f position next g waiting current held t now low pending held_at late = record {
   spread = spread_waiting f.field position next g.spread g.best waiting current t.spread now low late;
   best_in = t.best_in;
@@ -179,7 +179,7 @@ steps_fewer owner n b None h = omega arith
 steps_fewer owner n b (Some p) h = omega (arith, h.0)
 
 -- the seats after an earlier one: the one between, and those after it
-pub past_more : (f : Ground) (da da' : List ℕ) (b n : ℕ) (place : Option ℕ) → IsReady f → IsLastSeat f.seats.now.owner.items n b place → ((k : ℕ) → link f.field.link_a.now (edge_of f.field k).a ≡ Some k → (edge_of f.field k).b ≡ b → n < number f.seats.now.seat.items (edge_of f.field k).a → distance da (edge_of f.field k).a < far) → ((a : ℕ) → distance da a < far → distance da' a < far) → distance da' (number f.seats.now.row.items n) < far → (k : ℕ) → link f.field.link_a.now (edge_of f.field k).a ≡ Some k → (edge_of f.field k).b ≡ b → IsPast place (number f.seats.now.seat.items (edge_of f.field k).a) → distance da' (edge_of f.field k).a < far
+pub past_more : (f : Ground) (da da' : List ℕ) (b n : ℕ) (place : Option ℕ) → IsReady f → IsLastSeat f.seats.now.owner.items n b place → ((k : ℕ) → link f.field.link_a.now (edge_of f.field k).a ≡ Some k → (edge_of f.field k).b ≡ b → n < number f.seats.now.seat.items (edge_of f.field k).a → distance da (edge_of f.field k).a < far) → ((a : ℕ) → distance da a < far → distance da' a < far) → distance da' (number f.seats.now.sitter.items n) < far → (k : ℕ) → link f.field.link_a.now (edge_of f.field k).a ≡ Some k → (edge_of f.field k).b ≡ b → IsPast place (number f.seats.now.seat.items (edge_of f.field k).a) → distance da' (edge_of f.field k).a < far
 past_more f da da' b n place ready last done stays here k on ends past =
     let a = (edge_of f.field k).a in
     let seat = number f.seats.now.seat.items a in
@@ -190,7 +190,7 @@ past_more f da da' b n place ready last done stays here k on ends past =
         | inl before ↦ absurd (last_past f.seats.now.owner.items n b place seat last before (mine.owned ∙ ends) past)
         | inr from ↦
             (let same : seat ≡ n = omega arith in
-            let sits : number f.seats.now.row.items n ≡ a = rw same at mine.sits in
+            let sits : number f.seats.now.sitter.items n ≡ a = rw same at mine.sits in
             rw sits at here)
       ]
     ]
@@ -218,7 +218,7 @@ module _ (f : Ground) (last : ℕ) (g g' : Growth) (k dist : ℕ) (ready : IsRea
   best_at : g'.best ≡ distance g'.spread.da g'.best_record + number f.field.price_a.now g'.best_record
   best_at = elim s.best_record [ inl p ↦ rw (p.0, p.1, keeps g.best_record t.best_in) t.best_at | inr p ↦ rw (p.1, here) p.0 ]
 
-  joined_pending : (x : ℕ) → distance g.spread.db x < far → Contains g.spread.frontier (distance g.spread.db x, x) ⊎ (IsSettled f g'.spread.da x ⊎ (g.held ≡ Some x))
+  joined_pending : (x : ℕ) → distance g.spread.db x < far → Contains g.spread.frontier (distance g.spread.db x, x) ⊎ (IsExhausted f g'.spread.da x ⊎ (g.held ≡ Some x))
   joined_pending x close = elim (t.pending x close) [
     | inl p ↦ inl p
     | inr p ↦ elim p [
@@ -252,18 +252,18 @@ tree_planted f g g' ready da db frontier rows_a ranks_a none no_held s =
 
 -- the record of A at a seat
 pub record IsAtSeat (f : Ground) (n r : ℕ) : Type 0 where
-  pub is : number f.seats.now.row.items n ≡ r
+  pub is : number f.seats.now.sitter.items n ≡ r
   pub inside : r < length f.field.price_a.now
   pub edge_there : ℕ
   pub on : link f.field.link_a.now (edge_of f.field edge_there).a ≡ Some edge_there
   pub record_a : (edge_of f.field edge_there).a ≡ r
   pub owned : (edge_of f.field edge_there).b ≡ number f.seats.now.owner.items n
 
-pub at_seat : (f : Ground) (n r : ℕ) → IsReady f → n < f.seats.now.count → r ≡ get_or f.seats.now.row.items n r → IsAtSeat f n r
+pub at_seat : (f : Ground) (n r : ℕ) → IsReady f → n < f.seats.now.count → r ≡ get_or f.seats.now.sitter.items n r → IsAtSeat f n r
 at_seat f n r ready lt read =
-    let rows = f.seats.now.row.items in
-    let there : n < length rows = omega (arith, lt, ready.seated.room, ready.seated.rows) in
-    let is : number rows n ≡ r = get_or_default rows n 0 r there ∙ sym read in
+    let sitters = f.seats.now.sitter.items in
+    let there : n < length sitters = omega (arith, lt, ready.seated.room, ready.seated.sitters) in
+    let is : number sitters n ≡ r = get_or_default sitters n 0 r there ∙ sym read in
     let filled = ready.seated.filled n lt in
     let k = filled.edge_there in
     let on : link f.field.link_a.now r ≡ Some k = rw is at filled.on in
@@ -279,4 +279,4 @@ at_seat f n r ready lt read =
 
 -- records of A that stood in the tree stay there
 pub joins_stays : (f : Ground) (g g' : Growth) (position dist : ℕ) → Joins f g g' position dist → position < length g.spread.da → dist < far → (a : ℕ) → distance g.spread.da a < far → distance g'.spread.da a < far
-joins_stays f g g' position dist s rows near a joined = rw s.spread.da (elim (distance-set g.spread.da position a dist rows) [ inl p ↦ omega (arith, p.1, near) | inr p ↦ omega (arith, p.1, joined) ])
+joins_stays f g g' position dist s inside near a joined = rw s.spread.da (elim (distance-set g.spread.da position a dist inside) [ inl p ↦ omega (arith, p.1, near) | inr p ↦ omega (arith, p.1, joined) ])

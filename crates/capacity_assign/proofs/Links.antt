@@ -7,7 +7,7 @@ use Rattle.std.proofs.lemmas.List.Sums.{sum_by-cons, sum_by-set}
 use Rattle.assignment_steps.specs.declared.market.Edge.{Edge}
 use Rattle.capacity_assign.specs.Core.{leads_to, linked_at}
 use Rattle.assignment_steps.specs.Market.{AreLinked, edge, link}
-use Rattle.capacity_assign.specs.Seating.{free_rows}
+use Rattle.capacity_assign.specs.Seating.{free_records}
 use Rattle.assignment_steps.proofs.Links.{link-set}
 
 -- the record of A of edge k takes it
@@ -30,14 +30,14 @@ tick b = cond b 1 0
 pub linked_at-set : (es : List Edge) (la : List (Option ℕ)) (a : ℕ) (x : Option ℕ) (b : ℕ) → a < length la → linked_at es (set la a x) b + tick (leads_to es b (link la a)) ≡ linked_at es la b + tick (leads_to es b x)
 linked_at-set es la a x b lt = sum_by-set (λ (o : Option ℕ). cond (leads_to es b o) 1 0) la a x None lt
 
-pub free_rows-set : (la : List (Option ℕ)) (a : ℕ) (x : Option ℕ) → a < length la → free_rows (set la a x) + tick (is_none (link la a)) ≡ free_rows la + tick (is_none x)
-free_rows-set la a x lt = sum_by-set (λ (o : Option ℕ). cond (is_none o) 1 0) la a x None lt
+pub free_records-set : (la : List (Option ℕ)) (a : ℕ) (x : Option ℕ) → a < length la → free_records (set la a x) + tick (is_none (link la a)) ≡ free_records la + tick (is_none x)
+free_records-set la a x lt = sum_by-set (λ (o : Option ℕ). cond (is_none o) 1 0) la a x None lt
 
 -- a record of A without a link is counted
-pub free_row_counts : (la : List (Option ℕ)) (a : ℕ) → a < length la → link la a ≡ None → 0 < free_rows la
-free_row_counts la a lt none =
+pub free_record_counts : (la : List (Option ℕ)) (a : ℕ) → a < length la → link la a ≡ None → 0 < free_records la
+free_record_counts la a lt none =
     let some : Option ℕ = Some 0 in
-    let e = free_rows-set la a some lt in
+    let e = free_records-set la a some lt in
     let t : tick (is_none (link la a)) ≡ 1 = rw none refl in
     let u : tick (is_none some) ≡ 0 = refl in
     omega (arith, e, t, u)

@@ -9,7 +9,7 @@ use Rattle.capacity_assign.specs.declared.market.Ground.{Ground}
 use Rattle.capacity_assign.specs.Core.{linked_at}
 use Rattle.assignment_steps.specs.Market.{AreLinked, AreTight, link, number, AreSmall}
 use Rattle.assignment_steps.specs.Ways.{Leads, LeadsFrom}
-use Rattle.capacity_assign.specs.Growth.{Growth, IsGrown, IsReady, IsSettled, IsWhole, places_left}
+use Rattle.capacity_assign.specs.Growth.{Growth, IsGrown, IsReady, IsExhausted, IsWhole, places_left}
 use Rattle.assignment_steps.specs.Spread.{edge_of, rank_above}
 use Rattle.assignment_steps.proofs.Arrived.{covered_kept, leads_after, leads_from, tight_kept}
 use Rattle.assignment_steps.specs.Distances.{distance, far}
@@ -21,9 +21,9 @@ module _ (f : Ground) (g : Growth) (end : ℕ) (free : Option ℕ) (last : ℕ) 
   end_small : end ≤ MOST_VALUE
   end_small = omega (arith, grown.before_best, grown.tree.spread.best_small)
 
-  -- a record of B that is not settled is as far as the end
-  pub not_settled : (b : ℕ) → (IsSettled f g.spread.da b → ⊥) → end ≤ distance g.spread.db b
-  not_settled b none = elim (cases_lt (distance g.spread.db b) far) [
+  -- a record of B that is not exhausted is as far as the end
+  pub not_exhausted : (b : ℕ) → (IsExhausted f g.spread.da b → ⊥) → end ≤ distance g.spread.db b
+  not_exhausted b none = elim (cases_lt (distance g.spread.db b) far) [
     | inl close ↦ elim (grown.tree.pending b close) [
       | inl p ↦ grown.least (distance g.spread.db b, b) p
       | inr p ↦ elim p [ inl q ↦ absurd (none q) | inr q ↦ grown.held b q ]
@@ -32,10 +32,10 @@ module _ (f : Ground) (g : Growth) (end : ℕ) (free : Option ℕ) (last : ℕ) 
   ]
 
   pub tight_after : AreTight f.field.edges.now f.field.price_a.now f.field.price_b.now f.field.link_a.now → AreTight f.field.edges.now pa pb f.field.link_a.now
-  tight_after tight = tight_kept f.field g.spread g.best end pa pb ready.field grown.tree.spread grown.before_best grown.after falls rises (λ k on away. not_settled (edge_of f.field k).b (λ settled. omega (arith, settled.joined k on refl, away))) tight
+  tight_after tight = tight_kept f.field g.spread g.best end pa pb ready.field grown.tree.spread grown.before_best grown.after falls rises (λ k on away. not_exhausted (edge_of f.field k).b (λ settled. omega (arith, settled.joined k on refl, away))) tight
 
   pub free_b_after : (b : ℕ) → 0 < places_left f b → number f.field.price_b.now b ≡ 0 → number pb b ≡ 0
-  free_b_after b some zero' = omega (arith, rises b, zero', not_settled b (λ settled. omega (arith, settled.full, some)))
+  free_b_after b some zero' = omega (arith, rises b, zero', not_exhausted b (λ exhausted. omega (arith, exhausted.full, some)))
 
   -- a record of B whose price reaches each of its edges alone is not nearer than the end
   pub closed_far : (b : ℕ) → ((k : ℕ) → k < length f.field.edges.now → (edge_of f.field k).b ≡ b → (edge_of f.field k).value ≤ number f.field.price_b.now b) → end ≤ distance g.spread.db b
@@ -74,13 +74,13 @@ module _ (f : Ground) (g : Growth) (end : ℕ) (free : Option ℕ) (last : ℕ) 
   ways_at None s = leads_from f.field g.spread g.best end pa pb ready.field grown.tree.spread grown.before_best grown.after falls rises last s
   ways_at (Some b) s = (suc (rank_above f.field g.spread b), leads_after f.field g.spread g.best end pa pb ready.field grown.tree.spread grown.before_best grown.after falls rises (suc (rank_above f.field g.spread b)) b (omega arith) (omega (arith, s.1)))
 
-  last_at : (rows : ℕ) → length g.spread.da ≡ rows → (x : Option ℕ) → MatchOption x (distance g.spread.da last < far) (λ b. (0 < places_left f b) × (distance g.spread.db b ≡ end)) → MatchOption x (last < rows) (λ _. Unit {0})
-  last_at rows len None s = elim (cases_lt last rows) [ inl lt ↦ lt | inr past ↦ absurd (let none = get_or_past g.spread.da last far (omega (arith, len, past)) in omega (arith, s, none)) ]
-  last_at rows len (Some b) s = tt
+  last_at : (records : ℕ) → length g.spread.da ≡ records → (x : Option ℕ) → MatchOption x (distance g.spread.da last < far) (λ b. (0 < places_left f b) × (distance g.spread.db b ≡ end)) → MatchOption x (last < records) (λ _. Unit {0})
+  last_at records len None s = elim (cases_lt last records) [ inl lt ↦ lt | inr past ↦ absurd (let none = get_or_past g.spread.da last far (omega (arith, len, past)) in omega (arith, s, none)) ]
+  last_at records len (Some b) s = tt
 
   -- the record of A that gives its link up is there
-  pub last_inside : (rows : ℕ) → length g.spread.da ≡ rows → MatchOption free (last < rows) (λ _. Unit {0})
-  last_inside rows len = last_at rows len free grown.stop
+  pub last_inside : (records : ℕ) → length g.spread.da ≡ records → MatchOption free (last < records) (λ _. Unit {0})
+  last_inside records len = last_at records len free grown.stop
 
   free_at : (x : Option ℕ) → MatchOption x (distance g.spread.da last < far) (λ b. (0 < places_left f b) × (distance g.spread.db b ≡ end)) → MatchOption x (Unit {0}) (λ b. 0 < places_left f b)
   free_at None s = tt

@@ -8,19 +8,19 @@ use Rattle.price_check.proofs.PlaceFacts.{place_there}
 use Rattle.assignment_steps.specs.Market.{edge, link, number}
 use Rattle.capacity_assign.specs.Core.{linked_at}
 use Rattle.capacity_assign.specs.Round.{KeepsPlaces}
-use Rattle.capacity_assign.specs.Seating.{AddsSeat, AreAllSeated, AreSeated, AreSeats, IsFilled, HangTogether, HasHole, IsLastSeat, Seating, free_rows}
-use Rattle.capacity_assign.proofs.Links.{free_rows-set, linked_at-set, tick}
+use Rattle.capacity_assign.specs.Seating.{AddsSeat, AreAllSeated, AreSeated, AreSeats, IsFilled, HangTogether, HasHole, IsLastSeat, Seating, free_records}
+use Rattle.capacity_assign.proofs.Links.{free_records-set, linked_at-set, tick}
 use Rattle.assignment_steps.proofs.Links.{link-set, link_there}
 
 -- the record of A of edge k takes the seat that is nobody's
-pub seat_taken : (es : List Edge) (la : List (Option ℕ)) (seat row owner : List ℕ) (count b free k : ℕ) → HasHole es la seat row owner count b free → (edge es k).b ≡ b → (edge es k).a < length la → length seat ≡ length la → free < length row → AreSeated es (set la (edge es k).a (Some k)) (set seat (edge es k).a free) (set row free (edge es k).a) owner count
-seat_taken es la seat row owner count b free k h ends ra rows there a j on = elim (link-set la (edge es k).a a (Some k) ra) [
+pub seat_taken : (es : List Edge) (la : List (Option ℕ)) (seat sitter owner : List ℕ) (count b free k : ℕ) → HasHole es la seat sitter owner count b free → (edge es k).b ≡ b → (edge es k).a < length la → length seat ≡ length la → free < length sitter → AreSeated es (set la (edge es k).a (Some k)) (set seat (edge es k).a free) (set sitter free (edge es k).a) owner count
+seat_taken es la seat sitter owner count b free k h ends ra records there a j on = elim (link-set la (edge es k).a a (Some k) ra) [
   | inl p ↦
       (let same : k ≡ j = cc in
-      let at : number (set seat (edge es k).a free) a ≡ free = rw p.0 (get_or-set_same seat (edge es k).a free 0 (omega (arith, ra, rows))) in
+      let at : number (set seat (edge es k).a free) a ≡ free = rw p.0 (get_or-set_same seat (edge es k).a free 0 (omega (arith, ra, records))) in
       record {
         there = rw at h.there;
-        sits = rw (at, get_or-set_same row free (edge es k).a 0 there) (sym p.0);
+        sits = rw (at, get_or-set_same sitter free (edge es k).a 0 there) (sym p.0);
         owned = rw at (h.owned ∙ (sym ends ∙ ap (λ n. (edge es n).b) same));
       })
   | inr p ↦
@@ -29,55 +29,55 @@ seat_taken es la seat row owner count b free k h ends ra rows there a j on = eli
       let at : number (set seat (edge es k).a free) a ≡ number seat a = get_or-set_other seat (edge es k).a a free 0 p.0 in
       record {
         there = rw at old.there;
-        sits = rw (at, get_or-set_other row free (number seat a) (edge es k).a 0 (h.unused a j on')) old.sits;
+        sits = rw (at, get_or-set_other sitter free (number seat a) (edge es k).a 0 (h.unused a j on')) old.sits;
         owned = rw at old.owned;
       })
 ]
 
 -- a seat that it did not have before is filled still, and the one that it took
-pub filled_taken : (es : List Edge) (la : List (Option ℕ)) (seat row owner : List ℕ) (count b free k : ℕ) → HasHole es la seat row owner count b free → (edge es k).b ≡ b → (edge es k).a < length la → length seat ≡ length la → free < length row → (n : ℕ) → n < count → (n ≢ free → number row n ≢ (edge es k).a) → IsFilled es (set la (edge es k).a (Some k)) (set seat (edge es k).a free) (set row free (edge es k).a) owner n
-filled_taken es la seat row owner count b free k h ends ra rows there n lt other = elim (cases_eq n free) [
+pub filled_taken : (es : List Edge) (la : List (Option ℕ)) (seat sitter owner : List ℕ) (count b free k : ℕ) → HasHole es la seat sitter owner count b free → (edge es k).b ≡ b → (edge es k).a < length la → length seat ≡ length la → free < length sitter → (n : ℕ) → n < count → (n ≢ free → number sitter n ≢ (edge es k).a) → IsFilled es (set la (edge es k).a (Some k)) (set seat (edge es k).a free) (set sitter free (edge es k).a) owner n
+filled_taken es la seat sitter owner count b free k h ends ra records there n lt other = elim (cases_eq n free) [
   | inl e ↦
-      (let row_is : number (set row free (edge es k).a) n ≡ (edge es k).a = rw e (get_or-set_same row free (edge es k).a 0 there) in
+      (let sitter_is : number (set sitter free (edge es k).a) n ≡ (edge es k).a = rw e (get_or-set_same sitter free (edge es k).a 0 there) in
       record {
         edge_there = k;
-        on = rw row_is (get_or-set_same la (edge es k).a (Some k) None ra);
+        on = rw sitter_is (get_or-set_same la (edge es k).a (Some k) None ra);
         owned = rw e (ends ∙ sym h.owned);
-        back = rw row_is (get_or-set_same seat (edge es k).a free 0 (omega (arith, ra, rows)) ∙ sym e);
+        back = rw sitter_is (get_or-set_same seat (edge es k).a free 0 (omega (arith, ra, records)) ∙ sym e);
       })
   | inr ne ↦
       (let old = h.filled n lt ne in
-      let row_is : number (set row free (edge es k).a) n ≡ number row n = get_or-set_other row free n (edge es k).a 0 ne in
+      let sitter_is : number (set sitter free (edge es k).a) n ≡ number sitter n = get_or-set_other sitter free n (edge es k).a 0 ne in
       record {
         edge_there = old.edge_there;
-        on = rw row_is (get_or-set_other la (edge es k).a (number row n) (Some k) None (other ne) ∙ old.on);
+        on = rw sitter_is (get_or-set_other la (edge es k).a (number sitter n) (Some k) None (other ne) ∙ old.on);
         owned = old.owned;
-        back = rw row_is (get_or-set_other seat (edge es k).a (number row n) free 0 (other ne) ∙ old.back);
+        back = rw sitter_is (get_or-set_other seat (edge es k).a (number sitter n) free 0 (other ne) ∙ old.back);
       })
 ]
 
 -- where it had none, all seats are filled
-pub all_taken : (es : List Edge) (la : List (Option ℕ)) (seat row owner : List ℕ) (count b free k : ℕ) → HasHole es la seat row owner count b free → (edge es k).b ≡ b → (edge es k).a < length la → length seat ≡ length la → free < length row → link la (edge es k).a ≡ None → AreAllSeated es (set la (edge es k).a (Some k)) (set seat (edge es k).a free) (set row free (edge es k).a) owner count
-all_taken es la seat row owner count b free k h ends ra rows there none = record {
-  seated = seat_taken es la seat row owner count b free k h ends ra rows there;
-  filled = λ n lt. filled_taken es la seat row owner count b free k h ends ra rows there n lt (λ nf e. (let old = h.filled n lt nf in let on : link la (edge es k).a ≡ Some old.edge_there = rw e at old.on in let clash : None ≡ Some old.edge_there = sym none ∙ on in cc));
+pub all_taken : (es : List Edge) (la : List (Option ℕ)) (seat sitter owner : List ℕ) (count b free k : ℕ) → HasHole es la seat sitter owner count b free → (edge es k).b ≡ b → (edge es k).a < length la → length seat ≡ length la → free < length sitter → link la (edge es k).a ≡ None → AreAllSeated es (set la (edge es k).a (Some k)) (set seat (edge es k).a free) (set sitter free (edge es k).a) owner count
+all_taken es la seat sitter owner count b free k h ends ra records there none = record {
+  seated = seat_taken es la seat sitter owner count b free k h ends ra records there;
+  filled = λ n lt. filled_taken es la seat sitter owner count b free k h ends ra records there n lt (λ nf e. (let old = h.filled n lt nf in let on : link la (edge es k).a ≡ Some old.edge_there = rw e at old.on in let clash : None ≡ Some old.edge_there = sym none ∙ on in cc));
 }
 
 -- and leaves its own to nobody
-pub seat_left : (es : List Edge) (la : List (Option ℕ)) (seat row owner : List ℕ) (count b free k j : ℕ) → HasHole es la seat row owner count b free → (edge es k).b ≡ b → (edge es k).a < length la → length seat ≡ length la → free < length row → link la (edge es k).a ≡ Some j → HasHole es (set la (edge es k).a (Some k)) (set seat (edge es k).a free) (set row free (edge es k).a) owner count (edge es j).b (number seat (edge es k).a)
-seat_left es la seat row owner count b free k j h ends ra rows there linked =
+pub seat_left : (es : List Edge) (la : List (Option ℕ)) (seat sitter owner : List ℕ) (count b free k j : ℕ) → HasHole es la seat sitter owner count b free → (edge es k).b ≡ b → (edge es k).a < length la → length seat ≡ length la → free < length sitter → link la (edge es k).a ≡ Some j → HasHole es (set la (edge es k).a (Some k)) (set seat (edge es k).a free) (set sitter free (edge es k).a) owner count (edge es j).b (number seat (edge es k).a)
+seat_left es la seat sitter owner count b free k j h ends ra records there linked =
     let mine = h.seated (edge es k).a j linked in
     record {
-      seated = seat_taken es la seat row owner count b free k h ends ra rows there;
+      seated = seat_taken es la seat sitter owner count b free k h ends ra records there;
       there = mine.there;
       owned = mine.owned;
-      filled = λ n lt ne. filled_taken es la seat row owner count b free k h ends ra rows there n lt (λ nf e. ne (sym (h.filled n lt nf).back ∙ ap (number seat) e));
+      filled = λ n lt ne. filled_taken es la seat sitter owner count b free k h ends ra records there n lt (λ nf e. ne (sym (h.filled n lt nf).back ∙ ap (number seat) e));
       unused = λ a i on. elim (link-set la (edge es k).a a (Some k) ra) [
-        | inl p ↦ (let at : number (set seat (edge es k).a free) a ≡ free = rw p.0 (get_or-set_same seat (edge es k).a free 0 (omega (arith, ra, rows))) in
+        | inl p ↦ (let at : number (set seat (edge es k).a free) a ≡ free = rw p.0 (get_or-set_same seat (edge es k).a free 0 (omega (arith, ra, records))) in
             λ e. h.unused (edge es k).a j linked (sym e ∙ at))
         | inr p ↦ (let old = h.seated a i (sym p.1 ∙ on) in
             let at : number (set seat (edge es k).a free) a ≡ number seat a = get_or-set_other seat (edge es k).a a free 0 p.0 in
-            λ e. p.0 (sym old.sits ∙ (ap (number row) (sym at ∙ e) ∙ mine.sits)))
+            λ e. p.0 (sym old.sits ∙ (ap (number sitter) (sym at ∙ e) ∙ mine.sits)))
       ];
     }
 
@@ -128,17 +128,17 @@ module _ (s t : Seating) (b : ℕ) (adds : AddsSeat s t b) (chains : HangTogethe
   }
 
   -- the new seat is nobody's
-  pub hole_added : (es : List Edge) (la : List (Option ℕ)) → AreSeated es la s.seat s.row s.owner s.count → ((n : ℕ) → n < s.count → IsFilled es la s.seat s.row s.owner n) → HasHole es la t.seat t.row t.owner t.count b s.count
+  pub hole_added : (es : List Edge) (la : List (Option ℕ)) → AreSeated es la s.seat s.sitter s.owner s.count → ((n : ℕ) → n < s.count → IsFilled es la s.seat s.sitter s.owner n) → HasHole es la t.seat t.sitter t.owner t.count b s.count
   hole_added es la seated filled = record {
     filled = λ n lt ne. (let low : n < s.count = omega (arith, lt, adds.count, ne) in let old = filled n low in record {
       edge_there = old.edge_there;
-      on = rw adds.row old.on;
+      on = rw adds.sitter old.on;
       owned = old.owned ∙ sym (owner_old n low);
-      back = rw (adds.row, adds.seat) old.back;
+      back = rw (adds.sitter, adds.seat) old.back;
     });
     seated = λ a k on. (let old = seated a k on in record {
       there = rw (adds.seat, adds.count) (omega (arith, old.there));
-      sits = rw (adds.seat, adds.row) old.sits;
+      sits = rw (adds.seat, adds.sitter) old.sits;
       owned = rw adds.seat (owner_old (number s.seat a) old.there ∙ old.owned);
     });
     there = rw adds.count (omega arith);
@@ -147,14 +147,14 @@ module _ (s t : Seating) (b : ℕ) (adds : AddsSeat s t b) (chains : HangTogethe
   }
 
 -- seats after one was added and a way was turned round from it
-pub seats_after_added : (es : List Edge) (la la' : List (Option ℕ)) (s t : Seating) (b : ℕ) (seat' row' : List ℕ) → AreSeats es la s → AddsSeat s t b → b < length s.left → 0 < free_rows la → length la' ≡ length la → free_rows la' + 1 ≡ free_rows la → length seat' ≡ length t.seat → length row' ≡ length t.row → (HasHole es la t.seat t.row t.owner t.count b s.count → AreAllSeated es la' seat' row' t.owner t.count) → AreSeats es la' (record t { seat = seat'; row = row' })
-seats_after_added es la la' s t b seat' row' old adds there some len room seats rows seated =
+pub seats_after_added : (es : List Edge) (la la' : List (Option ℕ)) (s t : Seating) (b : ℕ) (seat' sitter' : List ℕ) → AreSeats es la s → AddsSeat s t b → b < length s.left → 0 < free_records la → length la' ≡ length la → free_records la' + 1 ≡ free_records la → length seat' ≡ length t.seat → length sitter' ≡ length t.sitter → (HasHole es la t.seat t.sitter t.owner t.count b s.count → AreAllSeated es la' seat' sitter' t.owner t.count) → AreSeats es la' (record t { seat = seat'; sitter = sitter' })
+seats_after_added es la la' s t b seat' sitter' old adds there some len room seats sitters seated =
     let owners : s.count < length s.owner = omega (arith, old.room, old.owners) in
     let lasts : b < length s.last = omega (arith, old.lasts) in
     let all = seated (hole_added s t b adds old.chains owners (old.earliers ∙ sym old.owners) lasts es la old.seated old.filled) in
     record {
       seats = seats ∙ (rw adds.seat old.seats ∙ sym len);
-      rows = rows ∙ (rw adds.row old.rows ∙ sym len);
+      sitters = sitters ∙ (rw adds.sitter old.sitters ∙ sym len);
       owners = rw (adds.owner, length-set) (old.owners ∙ sym len);
       earliers = rw (adds.earlier, length-set) (old.earliers ∙ sym len);
       lasts = rw (adds.last, adds.left, length-set, length-set) old.lasts;
@@ -165,30 +165,30 @@ seats_after_added es la la' s t b seat' row' old adds there some len room seats 
     }
 
 -- a linked record of A gives its link up: its seat is nobody's
-pub hole_parted : (es : List Edge) (la : List (Option ℕ)) (seat row owner : List ℕ) (count last k : ℕ) → last < length la → link la last ≡ Some k → AreSeated es la seat row owner count → ((n : ℕ) → n < count → IsFilled es la seat row owner n) → HasHole es (set la last None) seat row owner count (edge es k).b (number seat last)
-hole_parted es la seat row owner count last k lt on seated filled =
+pub hole_parted : (es : List Edge) (la : List (Option ℕ)) (seat sitter owner : List ℕ) (count last k : ℕ) → last < length la → link la last ≡ Some k → AreSeated es la seat sitter owner count → ((n : ℕ) → n < count → IsFilled es la seat sitter owner n) → HasHole es (set la last None) seat sitter owner count (edge es k).b (number seat last)
+hole_parted es la seat sitter owner count last k lt on seated filled =
     let mine = seated last k on in
     record {
       seated = λ a j h. elim (link-set la last a None lt) [ inl p ↦ absurd (let clash : None ≡ Some j = sym p.1 ∙ h in cc) | inr p ↦ seated a j (sym p.1 ∙ h) ];
       there = mine.there;
       owned = mine.owned;
-      filled = λ n low ne. (let old = filled n low in let other : number row n ≢ last = λ e. ne (sym old.back ∙ ap (number seat) e) in record {
+      filled = λ n low ne. (let old = filled n low in let other : number sitter n ≢ last = λ e. ne (sym old.back ∙ ap (number seat) e) in record {
         edge_there = old.edge_there;
-        on = get_or-set_other la last (number row n) None None other ∙ old.on;
+        on = get_or-set_other la last (number sitter n) None None other ∙ old.on;
         owned = old.owned;
         back = old.back;
       });
       unused = λ a j h. elim (link-set la last a None lt) [
         | inl p ↦ absurd (let clash : None ≡ Some j = sym p.1 ∙ h in cc)
-        | inr p ↦ (let old = seated a j (sym p.1 ∙ h) in λ e. p.0 (sym old.sits ∙ (ap (number row) e ∙ mine.sits)))
+        | inr p ↦ (let old = seated a j (sym p.1 ∙ h) in λ e. p.0 (sym old.sits ∙ (ap (number sitter) e ∙ mine.sits)))
       ];
     }
 
 -- seats after a way was turned round from there
-pub seats_after_parted : (es : List Edge) (la la' : List (Option ℕ)) (s : Seating) (seat' row' : List ℕ) → AreSeats es la s → length la' ≡ length la → free_rows la' ≡ free_rows la → length seat' ≡ length s.seat → length row' ≡ length s.row → AreAllSeated es la' seat' row' s.owner s.count → AreSeats es la' (record s { seat = seat'; row = row' })
-seats_after_parted es la la' s seat' row' old len room seats rows all = record {
+pub seats_after_parted : (es : List Edge) (la la' : List (Option ℕ)) (s : Seating) (seat' sitter' : List ℕ) → AreSeats es la s → length la' ≡ length la → free_records la' ≡ free_records la → length seat' ≡ length s.seat → length sitter' ≡ length s.sitter → AreAllSeated es la' seat' sitter' s.owner s.count → AreSeats es la' (record s { seat = seat'; sitter = sitter' })
+seats_after_parted es la la' s seat' sitter' old len room seats sitters all = record {
   seats = seats ∙ (old.seats ∙ sym len);
-  rows = rows ∙ (old.rows ∙ sym len);
+  sitters = sitters ∙ (old.sitters ∙ sym len);
   owners = old.owners ∙ sym len;
   earliers = old.earliers ∙ sym len;
   lasts = old.lasts;
@@ -221,7 +221,7 @@ places_after_parted es la la' left last k on one x =
     let e : linked_at es (set la last None) x + tick ((edge es k).b == x) ≡ linked_at es la x + 0 = rw on at (linked_at-set es la last None x (link_there la last k on)) in
     omega (arith, e, one x)
 
-pub rows_after_parted : (la la' : List (Option ℕ)) (last k : ℕ) → link la last ≡ Some k → free_rows la' + 1 ≡ free_rows (set la last None) → free_rows la' ≡ free_rows la
-rows_after_parted la la' last k on room =
-    let e : free_rows (set la last None) + 0 ≡ free_rows la + 1 = rw on at (free_rows-set la last None (link_there la last k on)) in
+pub free_records_after_parted : (la la' : List (Option ℕ)) (last k : ℕ) → link la last ≡ Some k → free_records la' + 1 ≡ free_records (set la last None) → free_records la' ≡ free_records la
+free_records_after_parted la la' last k on room =
+    let e : free_records (set la last None) + 0 ≡ free_records la + 1 = rw on at (free_records-set la last None (link_there la last k on)) in
     omega (arith, e, room)

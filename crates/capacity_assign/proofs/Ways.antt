@@ -6,9 +6,9 @@ use Rattle.capacity_assign.specs.declared.market.Hole.{Hole}
 use Rattle.capacity_assign.specs.Core.{Reseats, linked_at}
 use Rattle.assignment_steps.specs.Ways.{IsHop, above, Leads}
 use Rattle.assignment_steps.specs.Market.{AreLinked, AreTight, link, edge, number}
-use Rattle.capacity_assign.specs.Seating.{AreAllSeated, HasHole, free_rows}
+use Rattle.capacity_assign.specs.Seating.{AreAllSeated, HasHole, free_records}
 use Rattle.assignment_steps.proofs.Links.{link-set}
-use Rattle.capacity_assign.proofs.Links.{linked_set, linked_at-set, free_rows-set}
+use Rattle.capacity_assign.proofs.Links.{linked_set, linked_at-set, free_records-set}
 use Rattle.capacity_assign.proofs.Seating.{all_taken, seat_left}
 use Rattle.assignment_steps.proofs.Leading.{leads_below, reached_by, goes_on, ends_at}
 use Rattle.assignment_steps.proofs.Taken.{tight_joined}
@@ -18,21 +18,21 @@ abbrev pub one_at : ℕ → ℕ → ℕ
 one_at missing b = cond (missing == b) 1 0
 
 -- What the walk keeps, from the links and seats as they were when it began.
-pub record IsWalking (es : List Edge) (pa pb : List ℕ) (from rank : List ℕ) (root : ℕ) (hole : Hole) (la0 : List (Option ℕ)) (seat0 row0 : List ℕ) (la : List (Option ℕ)) (seat row : List ℕ) (free : Hole) : Type 0 where
+pub record IsWalking (es : List Edge) (pa pb : List ℕ) (from rank : List ℕ) (root : ℕ) (hole : Hole) (la0 : List (Option ℕ)) (seat0 sitter0 : List ℕ) (la : List (Option ℕ)) (seat sitter : List ℕ) (free : Hole) : Type 0 where
   pub rows_a : length la ≡ length la0
-  pub rows : length seat ≡ length la
-  pub seats : length row ≡ length row0
+  pub records : length seat ≡ length la
+  pub seats : length sitter ≡ length sitter0
   pub linked : AreLinked es la
   pub tight : AreTight es pa pb la
-  pub within : (a k : ℕ) → link la a ≡ Some k → number seat a < length row
-  pub there : free.seat < length row
+  pub within : (a k : ℕ) → link la a ≡ Some k → number seat a < length sitter
+  pub there : free.seat < length sitter
   pub leads : (n : ℕ) × Leads es pa pb la from rank root n free.b
   pub still_a : (a : ℕ) → link la a ≡ None → link la0 a ≡ None
   pub places : (b : ℕ) → linked_at es la b + one_at free.b b ≡ linked_at es la0 b + one_at hole.b b
-  pub room : free_rows la ≡ free_rows la0
-  pub holes : (owner : List ℕ) (count : ℕ) → HasHole es la0 seat0 row0 owner count hole.b hole.seat → HasHole es la seat row owner count free.b free.seat
+  pub room : free_records la ≡ free_records la0
+  pub holes : (owner : List ℕ) (count : ℕ) → HasHole es la0 seat0 sitter0 owner count hole.b hole.seat → HasHole es la seat sitter owner count free.b free.seat
 
-module _ (es : List Edge) (pa pb : List ℕ) (from rank : List ℕ) (root : ℕ) (hole : Hole) (la0 : List (Option ℕ)) (seat0 row0 : List ℕ) (la : List (Option ℕ)) (seat row : List ℕ) (free : Hole) (range : (k : ℕ) → k < length es → (edge es k).a < length la0) (w : IsWalking es pa pb from rank root hole la0 seat0 row0 la seat row free) where
+module _ (es : List Edge) (pa pb : List ℕ) (from rank : List ℕ) (root : ℕ) (hole : Hole) (la0 : List (Option ℕ)) (seat0 sitter0 : List ℕ) (la : List (Option ℕ)) (seat sitter : List ℕ) (free : Hole) (range : (k : ℕ) → k < length es → (edge es k).a < length la0) (w : IsWalking es pa pb from rank root hole la0 seat0 sitter0 la seat sitter free) where
   abbrev k : ℕ
   k = number from free.b
 
@@ -42,9 +42,9 @@ module _ (es : List Edge) (pa pb : List ℕ) (from rank : List ℕ) (root : ℕ)
   pub ra : (edge es k).a < length la
   ra = omega (arith, range k hop.place, w.rows_a)
 
-  within_set : (a j : ℕ) → link (set la (edge es k).a (Some k)) a ≡ Some j → number (set seat (edge es k).a free.seat) a < length (set row free.seat (edge es k).a)
+  within_set : (a j : ℕ) → link (set la (edge es k).a (Some k)) a ≡ Some j → number (set seat (edge es k).a free.seat) a < length (set sitter free.seat (edge es k).a)
   within_set a j on = rw length-set (elim (link-set la (edge es k).a a (Some k) ra) [
-    | inl p ↦ rw (p.0, get_or-set_same seat (edge es k).a free.seat 0 (omega (arith, ra, w.rows))) w.there
+    | inl p ↦ rw (p.0, get_or-set_same seat (edge es k).a free.seat 0 (omega (arith, ra, w.records))) w.there
     | inr p ↦ rw (get_or-set_other seat (edge es k).a a free.seat 0 p.0) (w.within a j (sym p.1 ∙ on))
   ])
 
@@ -52,12 +52,12 @@ module _ (es : List Edge) (pa pb : List ℕ) (from rank : List ℕ) (root : ℕ)
   still_set a none = elim (link-set la (edge es k).a a (Some k) ra) [ inl p ↦ absurd (let clash : Some k ≡ None = sym p.1 ∙ none in cc) | inr p ↦ w.still_a a (sym p.1 ∙ none) ]
 
   -- the record above leaves its link j
-  pub walking_turned : (j : ℕ) → link la (edge es k).a ≡ Some j → IsWalking es pa pb from rank root hole la0 seat0 row0 (set la (edge es k).a (Some k)) (set seat (edge es k).a free.seat) (set row free.seat (edge es k).a) (record { b = (edge es j).b; seat = number seat (edge es k).a })
+  pub walking_turned : (j : ℕ) → link la (edge es k).a ≡ Some j → IsWalking es pa pb from rank root hole la0 seat0 sitter0 (set la (edge es k).a (Some k)) (set seat (edge es k).a free.seat) (set sitter free.seat (edge es k).a) (record { b = (edge es j).b; seat = number seat (edge es k).a })
   walking_turned j linked =
       let on = goes_on es pa pb la from rank root w.leads.0 free.b j linked w.leads.1 in
       record {
         rows_a = rw length-set w.rows_a;
-        rows = rw (length-set, length-set) w.rows;
+        records = rw (length-set, length-set) w.records;
         seats = rw length-set w.seats;
         linked = linked_set es la k w.linked hop.place ra;
         tight = tight_joined es pa pb la k ra w.tight hop.tight;
@@ -67,8 +67,8 @@ module _ (es : List Edge) (pa pb : List ℕ) (from rank : List ℕ) (root : ℕ)
         still_a = still_set;
         places = λ b. (let e : linked_at es (set la (edge es k).a (Some k)) b + one_at (edge es j).b b ≡ linked_at es la b + one_at free.b b = rw (linked, hop.ends) at (linked_at-set es la (edge es k).a (Some k) b ra) in
             omega (arith, e, w.places b));
-        room = (let e : free_rows (set la (edge es k).a (Some k)) + 0 ≡ free_rows la + 0 = rw linked at (free_rows-set la (edge es k).a (Some k) ra) in omega (arith, e, w.room));
-        holes = λ owner count h. seat_left es la seat row owner count free.b free.seat k j (w.holes owner count h) hop.ends ra w.rows w.there linked;
+        room = (let e : free_records (set la (edge es k).a (Some k)) + 0 ≡ free_records la + 0 = rw linked at (free_records-set la (edge es k).a (Some k) ra) in omega (arith, e, w.room));
+        holes = λ owner count h. seat_left es la seat sitter owner count free.b free.seat k j (w.holes owner count h) hop.ends ra w.records w.there linked;
       }
 
   -- the record above has no link
@@ -77,11 +77,11 @@ module _ (es : List Edge) (pa pb : List ℕ) (from rank : List ℕ) (root : ℕ)
       let e : linked_at es (set la (edge es k).a (Some k)) b + 0 ≡ linked_at es la b + one_at free.b b = rw (none, hop.ends) at (linked_at-set es la (edge es k).a (Some k) b ra) in
       omega (arith, e, w.places b)
 
-  pub room_ended : link la (edge es k).a ≡ None → free_rows (set la (edge es k).a (Some k)) + 1 ≡ free_rows la0
-  room_ended none = (let e : free_rows (set la (edge es k).a (Some k)) + 1 ≡ free_rows la + 0 = rw none at (free_rows-set la (edge es k).a (Some k) ra) in omega (arith, e, w.room))
+  pub room_ended : link la (edge es k).a ≡ None → free_records (set la (edge es k).a (Some k)) + 1 ≡ free_records la0
+  room_ended none = (let e : free_records (set la (edge es k).a (Some k)) + 1 ≡ free_records la + 0 = rw none at (free_records-set la (edge es k).a (Some k) ra) in omega (arith, e, w.room))
 
-  pub seated_ended : link la (edge es k).a ≡ None → (owner : List ℕ) (count : ℕ) → HasHole es la0 seat0 row0 owner count hole.b hole.seat → AreAllSeated es (set la (edge es k).a (Some k)) (set seat (edge es k).a free.seat) (set row free.seat (edge es k).a) owner count
-  seated_ended none owner count h = all_taken es la seat row owner count free.b free.seat k (w.holes owner count h) hop.ends ra w.rows w.there none
+  pub seated_ended : link la (edge es k).a ≡ None → (owner : List ℕ) (count : ℕ) → HasHole es la0 seat0 sitter0 owner count hole.b hole.seat → AreAllSeated es (set la (edge es k).a (Some k)) (set seat (edge es k).a free.seat) (set sitter free.seat (edge es k).a) owner count
+  seated_ended none owner count h = all_taken es la seat sitter owner count free.b free.seat k (w.holes owner count h) hop.ends ra w.records w.there none
 
   pub linked_ended : AreLinked es (set la (edge es k).a (Some k))
   linked_ended = linked_set es la k w.linked hop.place ra
@@ -104,13 +104,13 @@ leaves_at : (es : List Edge) (seat : List ℕ) (k : ℕ) (x : Option ℕ) (left 
 leaves_at es seat k None left h = absurd cc
 leaves_at es seat k (Some j) left h = (j, (refl, cc))
 
-pub walking_more : (es : List Edge) (pa pb : List ℕ) (from rank : List ℕ) (root : ℕ) (hole : Hole) (la0 : List (Option ℕ)) (seat0 row0 : List ℕ) (la la' : List (Option ℕ)) (seat seat' row row' : List ℕ) (free left : Hole) → ((k : ℕ) → k < length es → (edge es k).a < length la0) → IsWalking es pa pb from rank root hole la0 seat0 row0 la seat row free → Reseats es la seat row la' seat' row' (number from free.b) free.seat (Some left) → IsWalking es pa pb from rank root hole la0 seat0 row0 la' seat' row' left
-walking_more es pa pb from rank root hole la0 seat0 row0 la la' seat seat' row row' free left range w h =
+pub walking_more : (es : List Edge) (pa pb : List ℕ) (from rank : List ℕ) (root : ℕ) (hole : Hole) (la0 : List (Option ℕ)) (seat0 sitter0 : List ℕ) (la la' : List (Option ℕ)) (seat seat' sitter sitter' : List ℕ) (free left : Hole) → ((k : ℕ) → k < length es → (edge es k).a < length la0) → IsWalking es pa pb from rank root hole la0 seat0 sitter0 la seat sitter free → Reseats es la seat sitter la' seat' sitter' (number from free.b) free.seat (Some left) → IsWalking es pa pb from rank root hole la0 seat0 sitter0 la' seat' sitter' left
+walking_more es pa pb from rank root hole la0 seat0 sitter0 la la' seat seat' sitter sitter' free left range w h =
     let p = leaves_at es seat (number from free.b) (link la (edge es (number from free.b)).a) left h.leaves in
-    rw (h.links, h.seats, h.rows, p.1.1) (walking_turned es pa pb from rank root hole la0 seat0 row0 la seat row free range w p.0 p.1.0)
+    rw (h.links, h.seats, h.sitters, p.1.1) (walking_turned es pa pb from rank root hole la0 seat0 sitter0 la seat sitter free range w p.0 p.1.0)
 
-pub walking_smaller : (es : List Edge) (pa pb : List ℕ) (from rank : List ℕ) (root : ℕ) (hole : Hole) (la0 : List (Option ℕ)) (seat0 row0 : List ℕ) (la la' : List (Option ℕ)) (seat seat' row row' : List ℕ) (free left : Hole) → ((k : ℕ) → k < length es → (edge es k).a < length la0) → IsWalking es pa pb from rank root hole la0 seat0 row0 la seat row free → Reseats es la seat row la' seat' row' (number from free.b) free.seat (Some left) → number rank (above es from left.b) < number rank (above es from free.b)
-walking_smaller es pa pb from rank root hole la0 seat0 row0 la la' seat seat' row row' free left range w h =
+pub walking_smaller : (es : List Edge) (pa pb : List ℕ) (from rank : List ℕ) (root : ℕ) (hole : Hole) (la0 : List (Option ℕ)) (seat0 sitter0 : List ℕ) (la la' : List (Option ℕ)) (seat seat' sitter sitter' : List ℕ) (free left : Hole) → ((k : ℕ) → k < length es → (edge es k).a < length la0) → IsWalking es pa pb from rank root hole la0 seat0 sitter0 la seat sitter free → Reseats es la seat sitter la' seat' sitter' (number from free.b) free.seat (Some left) → number rank (above es from left.b) < number rank (above es from free.b)
+walking_smaller es pa pb from rank root hole la0 seat0 sitter0 la la' seat seat' sitter sitter' free left range w h =
     let p = leaves_at es seat (number from free.b) (link la (edge es (number from free.b)).a) left h.leaves in
     rw p.1.1 (goes_on es pa pb la from rank root w.leads.0 free.b p.0 p.1.0 w.leads.1).0
 
@@ -118,34 +118,34 @@ ends_none : (es : List Edge) (seat : List ℕ) (k : ℕ) (x y : Option ℕ) (hol
 ends_none es seat k x None hole e n h = refl
 ends_none es seat k x (Some j) hole e n h = absurd (let g : hole ≡ Some (record { b = (edge es j).b; seat = number seat (edge es k).a }) = rw e at h in let clash = sym n ∙ g in cc)
 
-pub not_left : (es : List Edge) (la : List (Option ℕ)) (seat row : List ℕ) (la' : List (Option ℕ)) (seat' row' : List ℕ) (k free : ℕ) → Reseats es la seat row la' seat' row' k free None → link la (edge es k).a ≡ None
-not_left es la seat row la' seat' row' k free h = ends_none es seat k (link la (edge es k).a) (link la (edge es k).a) None refl refl h.leaves
+pub not_left : (es : List Edge) (la : List (Option ℕ)) (seat sitter : List ℕ) (la' : List (Option ℕ)) (seat' sitter' : List ℕ) (k free : ℕ) → Reseats es la seat sitter la' seat' sitter' k free None → link la (edge es k).a ≡ None
+not_left es la seat sitter la' seat' sitter' k free h = ends_none es seat k (link la (edge es k).a) (link la (edge es k).a) None refl refl h.leaves
 
 -- what holds when the walk ends
-pub record HasWalked (es : List Edge) (pa pb : List ℕ) (root : ℕ) (hole : Hole) (la0 : List (Option ℕ)) (seat0 row0 : List ℕ) (la : List (Option ℕ)) (seat row : List ℕ) : Type 0 where
+pub record HasWalked (es : List Edge) (pa pb : List ℕ) (root : ℕ) (hole : Hole) (la0 : List (Option ℕ)) (seat0 sitter0 : List ℕ) (la : List (Option ℕ)) (seat sitter : List ℕ) : Type 0 where
   pub rows_a : length la ≡ length la0
   pub linked : AreLinked es la
   pub tight : AreTight es pa pb la
   pub root_linked : link la root ≡ None → ⊥
   pub still_a : (a : ℕ) → link la a ≡ None → link la0 a ≡ None
   pub places : (b : ℕ) → linked_at es la b ≡ linked_at es la0 b + one_at hole.b b
-  pub room : free_rows la + 1 ≡ free_rows la0
-  pub seated : (owner : List ℕ) (count : ℕ) → HasHole es la0 seat0 row0 owner count hole.b hole.seat → AreAllSeated es la seat row owner count
+  pub room : free_records la + 1 ≡ free_records la0
+  pub seated : (owner : List ℕ) (count : ℕ) → HasHole es la0 seat0 sitter0 owner count hole.b hole.seat → AreAllSeated es la seat sitter owner count
 
-pub walked : (es : List Edge) (pa pb : List ℕ) (from rank : List ℕ) (root : ℕ) (hole : Hole) (la0 : List (Option ℕ)) (seat0 row0 : List ℕ) (la la' : List (Option ℕ)) (seat seat' row row' : List ℕ) (free : Hole) → ((k : ℕ) → k < length es → (edge es k).a < length la0) → IsWalking es pa pb from rank root hole la0 seat0 row0 la seat row free → Reseats es la seat row la' seat' row' (number from free.b) free.seat None → HasWalked es pa pb root hole la0 seat0 row0 la' seat' row'
-walked es pa pb from rank root hole la0 seat0 row0 la la' seat seat' row row' free range w h =
-    let none = not_left es la seat row la' seat' row' (number from free.b) free.seat h in
-    let made : HasWalked es pa pb root hole la0 seat0 row0 (set la (edge es (number from free.b)).a (Some (number from free.b))) (set seat (edge es (number from free.b)).a free.seat) (set row free.seat (edge es (number from free.b)).a) = record {
+pub walked : (es : List Edge) (pa pb : List ℕ) (from rank : List ℕ) (root : ℕ) (hole : Hole) (la0 : List (Option ℕ)) (seat0 sitter0 : List ℕ) (la la' : List (Option ℕ)) (seat seat' sitter sitter' : List ℕ) (free : Hole) → ((k : ℕ) → k < length es → (edge es k).a < length la0) → IsWalking es pa pb from rank root hole la0 seat0 sitter0 la seat sitter free → Reseats es la seat sitter la' seat' sitter' (number from free.b) free.seat None → HasWalked es pa pb root hole la0 seat0 sitter0 la' seat' sitter'
+walked es pa pb from rank root hole la0 seat0 sitter0 la la' seat seat' sitter sitter' free range w h =
+    let none = not_left es la seat sitter la' seat' sitter' (number from free.b) free.seat h in
+    let made : HasWalked es pa pb root hole la0 seat0 sitter0 (set la (edge es (number from free.b)).a (Some (number from free.b))) (set seat (edge es (number from free.b)).a free.seat) (set sitter free.seat (edge es (number from free.b)).a) = record {
       rows_a = rw length-set w.rows_a;
-      linked = linked_ended es pa pb from rank root hole la0 seat0 row0 la seat row free range w;
-      tight = tight_ended es pa pb from rank root hole la0 seat0 row0 la seat row free range w;
-      root_linked = root_ended es pa pb from rank root hole la0 seat0 row0 la seat row free range w none;
-      still_a = still_ended es pa pb from rank root hole la0 seat0 row0 la seat row free range w;
-      places = places_ended es pa pb from rank root hole la0 seat0 row0 la seat row free range w none;
-      room = room_ended es pa pb from rank root hole la0 seat0 row0 la seat row free range w none;
-      seated = seated_ended es pa pb from rank root hole la0 seat0 row0 la seat row free range w none;
+      linked = linked_ended es pa pb from rank root hole la0 seat0 sitter0 la seat sitter free range w;
+      tight = tight_ended es pa pb from rank root hole la0 seat0 sitter0 la seat sitter free range w;
+      root_linked = root_ended es pa pb from rank root hole la0 seat0 sitter0 la seat sitter free range w none;
+      still_a = still_ended es pa pb from rank root hole la0 seat0 sitter0 la seat sitter free range w;
+      places = places_ended es pa pb from rank root hole la0 seat0 sitter0 la seat sitter free range w none;
+      room = room_ended es pa pb from rank root hole la0 seat0 sitter0 la seat sitter free range w none;
+      seated = seated_ended es pa pb from rank root hole la0 seat0 sitter0 la seat sitter free range w none;
     } in
-    rw (h.links, h.seats, h.rows) made
+    rw (h.links, h.seats, h.sitters) made
 
 -- a linked record of A gives its link up: the way from its record of B stays
 pub leads_parted : (es : List Edge) (pa pb : List ℕ) (la : List (Option ℕ)) (from rank : List ℕ) (root last k : ℕ) → link la last ≡ Some k → ((last ≡ root) × (link la last ≡ None)) ⊎ ((j : ℕ) × ((link la last ≡ Some j) × (number rank (edge es (number from (edge es j).b)).a < number rank last) × ((n : ℕ) × Leads es pa pb la from rank root n (edge es j).b))) → (n : ℕ) × Leads es pa pb (set la last None) from rank root n (edge es k).b

@@ -14,8 +14,8 @@ abbrev pub linked_at : List Edge → List (Option ℕ) → ℕ → ℕ
 linked_at es la b = count_by (leads_to es b) la
 
 -- the record of A of edge k takes the seat `free`, and leaves its own where it was linked
-pub record Reseats (es : List Edge) (la : List (Option ℕ)) (seat row : List ℕ) (la' : List (Option ℕ)) (seat' row' : List ℕ) (k free : ℕ) (hole : Option Hole) : Type 0 where
+pub record Reseats (es : List Edge) (la : List (Option ℕ)) (seat sitter : List ℕ) (la' : List (Option ℕ)) (seat' sitter' : List ℕ) (k free : ℕ) (hole : Option Hole) : Type 0 where
   pub links : la' ≡ slice_set la (edge es k).a (Some k)
   pub seats : seat' ≡ slice_set seat (edge es k).a free
-  pub rows : row' ≡ slice_set row free (edge es k).a
+  pub sitters : sitter' ≡ slice_set sitter free (edge es k).a
   pub leaves : MatchOption (link la (edge es k).a) (hole ≡ None) (λ j. hole ≡ Some (record { b = (edge es j).b; seat = number seat (edge es k).a }))

@@ -22,7 +22,7 @@ pub record ReachAll (es : List Edge) (rows_a : ℕ) (pa pb : List ℕ) : Type 0 
 -- seats before any is taken
 pub record AreEmpty (rows_a : ℕ) (capacities : List ℕ) (s : Seating) : Type 0 where
   pub seats : length s.seat ≡ rows_a
-  pub rows : length s.row ≡ rows_a
+  pub sitters : length s.sitter ≡ rows_a
   pub owners : length s.owner ≡ rows_a
   pub earliers : length s.earlier ≡ rows_a
   pub lasts : s.last ≡ replicate (length capacities) None

@@ -26,7 +26,7 @@ pub record IsReady (f : Ground) : Type 0 where
   pub field : IsSearchable f.field
   pub rows_b : vec_len f.seats.now.left ≡ length f.field.price_b.now
   pub lasts : vec_len f.seats.now.last ≡ length f.field.price_b.now
-  pub seats : vec_len f.seats.now.row ≡ length f.field.price_a.now
+  pub seats : vec_len f.seats.now.sitter ≡ length f.field.price_a.now
   pub earliers : vec_len f.seats.now.earlier ≡ length f.field.price_a.now
   pub seated : AreSeats f.field.edges.now f.field.link_a.now (seating f.seats.now)
 
@@ -35,13 +35,13 @@ abbrev pub places_left : Ground → ℕ → ℕ
 places_left f b = number f.seats.now.left.items b
 
 -- a record of B has no place left, and each record of A that is linked to it stands in the tree
-pub record IsSettled (f : Ground) (da : List ℕ) (b : ℕ) : Type 0 where
+pub record IsExhausted (f : Ground) (da : List ℕ) (b : ℕ) : Type 0 where
   pub full : places_left f b ≡ 0
   pub joined : (k : ℕ) → link f.field.link_a.now (edge_of f.field k).a ≡ Some k → (edge_of f.field k).b ≡ b → distance da (edge_of f.field k).a < far
 
--- a record of B waits at its distance, or is settled, or is held
+-- a record of B waits at its distance, or is exhausted, or is held
 abbrev pub IsPending : Ground → Spread → Option ℕ → ℕ → Type 0
-IsPending f s held b = Contains s.frontier (distance s.db b, b) ⊎ (IsSettled f s.da b ⊎ (held ≡ Some b))
+IsPending f s held b = Contains s.frontier (distance s.db b, b) ⊎ (IsExhausted f s.da b ⊎ (held ≡ Some b))
 
 -- a record of B that is held has no place left, and is at the distance of the newest record
 abbrev pub IsHeldAt : Ground → Spread → ℕ → Type 0

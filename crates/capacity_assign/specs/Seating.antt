@@ -7,7 +7,7 @@ use Rattle.assignment_steps.specs.Market.{edge, link, number}
 -- the lists of seats
 pub record Seating : Type 0 where
   pub seat : List ℕ
-  pub row : List ℕ
+  pub sitter : List ℕ
   pub owner : List ℕ
   pub earlier : List (Option ℕ)
   pub last : List (Option ℕ)
@@ -15,45 +15,45 @@ pub record Seating : Type 0 where
   pub count : ℕ
 
 abbrev pub seating : Seats → Seating
-seating s = record { seat = s.seat.items; row = s.row.items; owner = s.owner.items; earlier = s.earlier.items; last = s.last.items; left = s.left.items; count = s.count }
+seating s = record { seat = s.seat.items; sitter = s.sitter.items; owner = s.owner.items; earlier = s.earlier.items; last = s.last.items; left = s.left.items; count = s.count }
 
 -- the last of the first n seats that belongs to a record of B, if one does
 abbrev pub IsLastSeat : List ℕ → ℕ → ℕ → Option ℕ → Type 0
 IsLastSeat owner n b place = MatchOption place ((m : ℕ) → m < n → number owner m ≢ b) (λ p. (p < n) × (number owner p ≡ b) × ((m : ℕ) → m < n → number owner m ≡ b → m ≤ p))
 
 -- how many records of A have no link
-abbrev pub free_rows : List (Option ℕ) → ℕ
-free_rows la = count_by is_none la
+abbrev pub free_records : List (Option ℕ) → ℕ
+free_records la = count_by is_none la
 
 -- a record of A that is linked by edge k sits at a seat of its record of B
-pub record IsSeated (es : List Edge) (seat row owner : List ℕ) (count a k : ℕ) : Type 0 where
+pub record IsSeated (es : List Edge) (seat sitter owner : List ℕ) (count a k : ℕ) : Type 0 where
   pub there : number seat a < count
-  pub sits : number row (number seat a) ≡ a
+  pub sits : number sitter (number seat a) ≡ a
   pub owned : number owner (number seat a) ≡ (edge es k).b
 
 -- each linked record of A does
 abbrev pub AreSeated : List Edge → List (Option ℕ) → List ℕ → List ℕ → List ℕ → ℕ → Type 0
-AreSeated es la seat row owner count = (a k : ℕ) → link la a ≡ Some k → IsSeated es seat row owner count a k
+AreSeated es la seat sitter owner count = (a k : ℕ) → link la a ≡ Some k → IsSeated es seat sitter owner count a k
 
 -- a seat is that of a record of A, linked to the seat's record of B
-pub record IsFilled (es : List Edge) (la : List (Option ℕ)) (seat row owner : List ℕ) (n : ℕ) : Type 0 where
+pub record IsFilled (es : List Edge) (la : List (Option ℕ)) (seat sitter owner : List ℕ) (n : ℕ) : Type 0 where
   pub edge_there : ℕ
-  pub on : link la (number row n) ≡ Some edge_there
+  pub on : link la (number sitter n) ≡ Some edge_there
   pub owned : (edge es edge_there).b ≡ number owner n
-  pub back : number seat (number row n) ≡ n
+  pub back : number seat (number sitter n) ≡ n
 
 -- the seat `free`, of the record of B b, is nobody's, and each other is filled
-pub record HasHole (es : List Edge) (la : List (Option ℕ)) (seat row owner : List ℕ) (count b free : ℕ) : Type 0 where
-  pub seated : AreSeated es la seat row owner count
+pub record HasHole (es : List Edge) (la : List (Option ℕ)) (seat sitter owner : List ℕ) (count b free : ℕ) : Type 0 where
+  pub seated : AreSeated es la seat sitter owner count
   pub there : free < count
   pub owned : number owner free ≡ b
   pub unused : (a k : ℕ) → link la a ≡ Some k → number seat a ≢ free
-  pub filled : (n : ℕ) → n < count → n ≢ free → IsFilled es la seat row owner n
+  pub filled : (n : ℕ) → n < count → n ≢ free → IsFilled es la seat sitter owner n
 
 -- each linked record of A sits, and each seat is filled
-pub record AreAllSeated (es : List Edge) (la : List (Option ℕ)) (seat row owner : List ℕ) (count : ℕ) : Type 0 where
-  pub seated : AreSeated es la seat row owner count
-  pub filled : (n : ℕ) → n < count → IsFilled es la seat row owner n
+pub record AreAllSeated (es : List Edge) (la : List (Option ℕ)) (seat sitter owner : List ℕ) (count : ℕ) : Type 0 where
+  pub seated : AreSeated es la seat sitter owner count
+  pub filled : (n : ℕ) → n < count → IsFilled es la seat sitter owner n
 
 -- the seats of each record of B hang together
 pub record HangTogether (s : Seating) : Type 0 where
@@ -63,19 +63,19 @@ pub record HangTogether (s : Seating) : Type 0 where
 -- seats of the linked records of A, with room for one of each that is not linked
 pub record AreSeats (es : List Edge) (la : List (Option ℕ)) (s : Seating) : Type 0 where
   pub seats : length s.seat ≡ length la
-  pub rows : length s.row ≡ length la
+  pub sitters : length s.sitter ≡ length la
   pub owners : length s.owner ≡ length la
   pub earliers : length s.earlier ≡ length la
   pub lasts : length s.last ≡ length s.left
-  pub room : s.count + free_rows la ≤ length la
-  pub seated : AreSeated es la s.seat s.row s.owner s.count
-  pub filled : (n : ℕ) → n < s.count → IsFilled es la s.seat s.row s.owner n
+  pub room : s.count + free_records la ≤ length la
+  pub seated : AreSeated es la s.seat s.sitter s.owner s.count
+  pub filled : (n : ℕ) → n < s.count → IsFilled es la s.seat s.sitter s.owner n
   pub chains : HangTogether s
 
 -- a record of B has one seat more, and one place less is left
 pub record AddsSeat (old new : Seating) (b : ℕ) : Type 0 where
   pub seat : new.seat ≡ old.seat
-  pub row : new.row ≡ old.row
+  pub sitter : new.sitter ≡ old.sitter
   pub owner : new.owner ≡ slice_set old.owner old.count b
   pub earlier : new.earlier ≡ slice_set old.earlier old.count (link old.last b)
   pub last : new.last ≡ slice_set old.last b (Some old.count)

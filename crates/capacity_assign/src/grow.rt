@@ -104,9 +104,9 @@ fn join_seat(ground: Ground<'_>, tree: &mut Tree, n: usize)
     ensures work { work ground.entry.field.edges.now 0 (length ground.entry.field.edges.now) tree.new.reached ≤ work ground.entry.field.edges.now 0 (length ground.entry.field.edges.now) tree.old.reached }
     ensures queue { tree.old.reached.frontier.room ≤ tree.new.reached.frontier.room }
     ensures stays { (a : ℕ) → distance tree.old.reached.dist_a.items a < far → distance tree.new.reached.dist_a.items a < far }
-    ensures joined { distance tree.new.reached.dist_a.items (number ground.entry.seats.now.row.items n) < far }
+    ensures joined { distance tree.new.reached.dist_a.items (number ground.entry.seats.now.sitter.items n) < far }
 {
-    let position = ground.seats.row[n];
+    let position = ground.seats.sitter[n];
     if tree.reached.dist_a[position] != FARTHEST {
         return;
     }

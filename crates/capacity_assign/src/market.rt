@@ -3,13 +3,13 @@
 use assignment_steps::{Field, Reached};
 
 /// The seats at the records of B, numbered from 0 as they are taken first. A seat belongs to its `owner`, a
-/// record of B, and `row` is the record of A that sits there; `seat` says for a linked record of A where it
+/// record of B, and `sitter` is the record of A that sits there; `seat` says for a linked record of A where it
 /// sits. The seats of a record of B hang together: `last` is its last one, and `earlier` the one before a
 /// seat. `left` says how many more a record of B may have.
 #[derive(Drop)]
 pub struct Seats {
     pub seat: Vec<usize>,
-    pub row: Vec<usize>,
+    pub sitter: Vec<usize>,
     pub owner: Vec<usize>,
     pub earlier: Vec<Option<usize>>,
     pub last: Vec<Option<usize>>,

@@ -43,7 +43,7 @@ fn turn(
     if let Some(b) = free {
         let seat = add_seat(seats, b);
         let hole = Hole { b, seat };
-        walk(net, ways, link_a, &mut seats.seat, &mut seats.row, hole);
+        walk(net, ways, link_a, &mut seats.seat, &mut seats.sitter, hole);
         return;
     }
     let Some(k) = link_a[last] else {
@@ -54,7 +54,7 @@ fn turn(
         seat: seats.seat[last],
     };
     link_a[last] = None;
-    walk(net, ways, link_a, &mut seats.seat, &mut seats.row, hole);
+    walk(net, ways, link_a, &mut seats.seat, &mut seats.sitter, hole);
 }
 
 /// Takes a record of A up that has no link: a tree grows from it, prices change by it, and links are turned

@@ -1,4 +1,4 @@
-// Seats that are added, and rows that move from one to another.
+// Seats that are added, and records of A that move from one to another.
 ghost use Rattle.std.specs.Prelude.{◌≡◌, ◌<◌, length, vec_len};
 ghost use Rattle.capacity_assign.specs.Core.{Reseats};
 ghost use Rattle.assignment_steps.specs.Market.{AreLinked, number, edge};
@@ -31,16 +31,16 @@ pub fn reseat(
     edges: &[Edge],
     link_a: &mut [Option<usize>],
     seat: &mut [usize],
-    row: &mut [usize],
+    sitter: &mut [usize],
     k: usize,
     free: usize,
 ) -> Option<Hole>
     requires place { k < length edges.now }
     requires in_range { (edge edges.now k).a < length link_a.old }
     requires linked { AreLinked edges.now link_a.old }
-    requires rows { length seat.old ≡ length link_a.old }
-    requires free { free < length row.old }
-    ensures reseats { Reseats edges.now link_a.old seat.old row.old link_a.new seat.new row.new k free result }
+    requires records { length seat.old ≡ length link_a.old }
+    requires free { free < length sitter.old }
+    ensures reseats { Reseats edges.now link_a.old seat.old sitter.old link_a.new seat.new sitter.new k free result }
 {
     let edge = edges[k];
     let a = edge.a as usize;
@@ -48,7 +48,7 @@ pub fn reseat(
     let left = seat[a];
     link_a[a] = Some(k);
     seat[a] = free;
-    row[free] = a;
+    sitter[free] = a;
     match old {
         None => None,
         Some(j) => Some(Hole {

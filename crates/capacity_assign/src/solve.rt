@@ -65,14 +65,14 @@ pub fn no_seats(alloc: Global, rows_a: usize, capacity: &[u32]) -> Result<Seats,
     ensures { IfOk result (λ s. AreEmpty rows_a capacity.now (seating s)) }
 {
     let seat = vec![in alloc; 0usize; rows_a]?;
-    let row = vec![in alloc; 0usize; rows_a]?;
+    let sitter = vec![in alloc; 0usize; rows_a]?;
     let owner = vec![in alloc; 0usize; rows_a]?;
     let earlier = vec![in alloc; None; rows_a]?;
     let last = vec![in alloc; None; capacity.len()]?;
     let left = Vec::from_slice(alloc, capacity)?;
     Ok(Seats {
         seat,
-        row,
+        sitter,
         owner,
         earlier,
         last,

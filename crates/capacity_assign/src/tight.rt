@@ -32,7 +32,14 @@ fn link_if_tight(net: Net<'_>, link_a: &mut [Option<usize>], seats: &mut Seats, 
         return;
     }
     let free = add_seat(seats, b);
-    let _ = reseat(net.edges, link_a, &mut seats.seat, &mut seats.row, k, free);
+    let _ = reseat(
+        net.edges,
+        link_a,
+        &mut seats.seat,
+        &mut seats.sitter,
+        k,
+        free,
+    );
 }
 
 /// Links records over tight edges, in the order of the edges, until no tight edge joins a record of A without a

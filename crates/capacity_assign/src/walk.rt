@@ -3,7 +3,7 @@ ghost use Rattle.std.specs.Prelude.{◌≡◌, ◌+◌, ◌<◌, ◌==◌, ℕ, 
 ghost use Rattle.capacity_assign.specs.Core.{linked_at};
 ghost use Rattle.assignment_steps.specs.Market.{AreLinked, link, edge, AreTight, number};
 ghost use Rattle.assignment_steps.specs.Ways.{Leads};
-ghost use Rattle.capacity_assign.specs.Seating.{AreAllSeated, HasHole, free_rows};
+ghost use Rattle.capacity_assign.specs.Seating.{AreAllSeated, HasHole, free_records};
 
 use crate::market::Hole;
 use crate::seats::reseat;
@@ -15,15 +15,15 @@ pub fn walk(
     ways: Ways<'_>,
     link_a: &mut [Option<usize>],
     seat: &mut [usize],
-    row: &mut [usize],
+    sitter: &mut [usize],
     hole: Hole,
 )
     requires in_range { (k : ℕ) → k < length net.edges.now → (edge net.edges.now k).a < length link_a.old }
     requires linked { AreLinked net.edges.now link_a.old }
     requires tight { AreTight net.edges.now net.price_a.now net.price_b.now link_a.old }
-    requires rows { length seat.old ≡ length link_a.old }
-    requires seats { (a k : ℕ) → link link_a.old a ≡ Some k → number seat.old a < length row.old }
-    requires there { hole.seat < length row.old }
+    requires records { length seat.old ≡ length link_a.old }
+    requires seats { (a k : ℕ) → link link_a.old a ≡ Some k → number seat.old a < length sitter.old }
+    requires there { hole.seat < length sitter.old }
     requires leads { (n : ℕ) × Leads net.edges.now net.price_a.now net.price_b.now link_a.old ways.from.now ways.rank.now ways.root n hole.b }
     ensures rows_a { length link_a.new ≡ length link_a.old }
     ensures linked { AreLinked net.entry.edges.now link_a.new }
@@ -31,11 +31,18 @@ pub fn walk(
     ensures root { link link_a.new ways.entry.root ≡ None → ⊥ }
     ensures still_a { (a : ℕ) → link link_a.new a ≡ None → link link_a.old a ≡ None }
     ensures places { (b : ℕ) → linked_at net.entry.edges.now link_a.new b ≡ linked_at net.entry.edges.now link_a.old b + (if hole.b == b then 1 else 0) }
-    ensures room { free_rows link_a.new + 1 ≡ free_rows link_a.old }
-    ensures seated { (owner : List ℕ) (count : ℕ) → HasHole net.entry.edges.now link_a.old seat.old row.old owner count hole.b hole.seat → AreAllSeated net.entry.edges.now link_a.new seat.new row.new owner count }
+    ensures room { free_records link_a.new + 1 ≡ free_records link_a.old }
+    ensures seated { (owner : List ℕ) (count : ℕ) → HasHole net.entry.edges.now link_a.old seat.old sitter.old owner count hole.b hole.seat → AreAllSeated net.entry.edges.now link_a.new seat.new sitter.new owner count }
 {
     let mut free = hole;
-    while let Some(left) = reseat(net.edges, link_a, seat, row, ways.from[free.b], free.seat) {
+    while let Some(left) = reseat(
+        net.edges,
+        link_a,
+        seat,
+        sitter,
+        ways.from[free.b],
+        free.seat,
+    ) {
         free = left;
     }
 }

@@ -24,7 +24,7 @@ search-grown-requires c =
         };
         rows_b = omega (arith, w.rows_b, s.left.ok.0);
         lasts = omega (arith, w.seated.lasts, w.rows_b, s.last.ok.0);
-        seats = omega (arith, w.seated.rows, w.rows_a, s.row.ok.0);
+        seats = omega (arith, w.seated.sitters, w.rows_a, s.sitter.ok.0);
         earliers = omega (arith, w.seated.earliers, w.rows_a, s.earlier.ok.0);
         seated = w.seated;
       };

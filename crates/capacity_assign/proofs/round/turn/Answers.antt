@@ -4,9 +4,9 @@ use Rattle.std.proofs.lemmas.List.{get_or_default, length-set, with_items_is}
 use Rattle.price_check.proofs.PlaceFacts.{place_there}
 use Rattle.assignment_steps.specs.Market.{edge, number}
 use Rattle.capacity_assign.specs.Seating.{HasHole, seating}
-use Rattle.capacity_assign.proofs.Links.{free_row_counts, linked_parted}
+use Rattle.capacity_assign.proofs.Links.{free_record_counts, linked_parted}
 use Rattle.assignment_steps.proofs.Links.{link-set}
-use Rattle.capacity_assign.proofs.Seating.{hole_parted, places_after_added, places_after_parted, rows_after_parted, seats_after_added, seats_after_parted, vacant_after_added}
+use Rattle.capacity_assign.proofs.Seating.{hole_parted, places_after_added, places_after_parted, free_records_after_parted, seats_after_added, seats_after_parted, vacant_after_added}
 use Rattle.capacity_assign.proofs.Ways.{leads_parted}
 use Rattle.capacity_assign.proofs.round.turn.Goals as goal
 
@@ -16,7 +16,7 @@ add_seat-seat-requires c =
     let old = c.args.seats.now in
     let some : 0 < number old.left.items c.in-Some.b = rw c.in-Some.is at c.requires.free in
     let there = place_there old.left.items c.in-Some.b some in
-    let one = free_row_counts c.args.link_a.now c.args.ways.root c.requires.root.0 c.requires.root.1 in
+    let one = free_record_counts c.args.link_a.now c.args.ways.root c.requires.root.0 c.requires.root.1 in
     record {
       owner = omega (arith, s.room, s.owners, one, old.owner.ok.0);
       earlier = omega (arith, s.room, s.earliers, one, old.earlier.ok.0);
@@ -29,14 +29,14 @@ pub walk-requires : goal.walk-requires
 walk-requires c =
     let s = c.requires.seats in
     let adds = c.add_seat-seat.ensures.adds in
-    let one = free_row_counts c.args.link_a.now c.args.ways.root c.requires.root.0 c.requires.root.1 in
+    let one = free_record_counts c.args.link_a.now c.args.ways.root c.requires.root.0 c.requires.root.1 in
     record {
       in_range = c.requires.in_range.record_a;
       linked = c.requires.linked;
       tight = c.requires.tight;
-      rows = rw (c.deref_mut.ensures.value, adds.seat) s.seats;
-      seats = rw (c.deref_mut.ensures.value, c.deref_mut-in-Some.ensures.value, adds.seat, adds.row) (λ a k on. omega (arith, (s.seated a k on).there, s.room, s.rows));
-      there = rw (c.deref_mut-in-Some.ensures.value, adds.row) (omega (arith, c.add_seat-seat.ensures.next, s.room, s.rows, one));
+      records = rw (c.deref_mut.ensures.value, adds.seat) s.seats;
+      seats = rw (c.deref_mut.ensures.value, c.deref_mut-in-Some.ensures.value, adds.seat, adds.sitter) (λ a k on. omega (arith, (s.seated a k on).there, s.room, s.sitters));
+      there = rw (c.deref_mut-in-Some.ensures.value, adds.sitter) (omega (arith, c.add_seat-seat.ensures.next, s.room, s.sitters, one));
       leads = rw c.in-Some.is at c.requires.leads;
     }
 
@@ -55,8 +55,8 @@ returns-in-Some c =
       rows_b = ap length adds.left ∙ length-set left b _;
       linked = w.linked;
       tight = w.tight;
-      seats = rw (with_items_is t.seat c.walk.new.seat (omega (arith, c.walk.auto.seat, c.deref_mut.ensures.len)), with_items_is t.row c.walk.new.row (omega (arith, c.walk.auto.row, c.deref_mut-in-Some.ensures.len))) (seats_after_added es la c.walk.new.link_a (seating c.args.seats.now) (seating t) b c.walk.new.seat c.walk.new.row c.requires.seats adds (place_there left b some) (free_row_counts la c.args.ways.root c.requires.root.0 c.requires.root.1) w.rows_a w.room
-          (rw c.deref_mut.ensures.value at c.walk.auto.seat) (rw c.deref_mut-in-Some.ensures.value at c.walk.auto.row)
+      seats = rw (with_items_is t.seat c.walk.new.seat (omega (arith, c.walk.auto.seat, c.deref_mut.ensures.len)), with_items_is t.sitter c.walk.new.sitter (omega (arith, c.walk.auto.sitter, c.deref_mut-in-Some.ensures.len))) (seats_after_added es la c.walk.new.link_a (seating c.args.seats.now) (seating t) b c.walk.new.seat c.walk.new.sitter c.requires.seats adds (place_there left b some) (free_record_counts la c.args.ways.root c.requires.root.0 c.requires.root.1) w.rows_a w.room
+          (rw c.deref_mut.ensures.value at c.walk.auto.seat) (rw c.deref_mut-in-Some.ensures.value at c.walk.auto.sitter)
           (λ h. w.seated t.owner.items t.count (rw (c.deref_mut.ensures.value, c.deref_mut-in-Some.ensures.value, c.add_seat-seat.ensures.next) h)));
       root = rw c.in-Some.is w.root;
       still_a = λ a none. inl (w.still_a a none);
@@ -110,9 +110,9 @@ walk-requires-2 c =
         | inl p ↦ absurd (let clash : None ≡ Some j = sym p.1 ∙ here in cc)
         | inr p ↦ c.requires.tight j (sym p.1 ∙ here)
       ];
-      rows = rw (c.deref_mut-2.ensures.value, length-set) s.seats;
-      seats = rw (c.deref_mut-2.ensures.value, c.deref_mut-3.ensures.value) (λ a j here. omega (arith, (h.seated a j here).there, s.room, s.rows));
-      there = rw c.deref_mut-3.ensures.value (omega (arith, is, h.there, s.room, s.rows));
+      records = rw (c.deref_mut-2.ensures.value, length-set) s.seats;
+      seats = rw (c.deref_mut-2.ensures.value, c.deref_mut-3.ensures.value) (λ a j here. omega (arith, (h.seated a j here).there, s.room, s.sitters));
+      there = rw c.deref_mut-3.ensures.value (omega (arith, is, h.there, s.room, s.sitters));
       leads = leads_parted _ _ _ la _ _ _ last k on (rw c.in_default.is at c.requires.leads);
     }
 
@@ -128,14 +128,14 @@ returns c =
     let inside = rw c.in_default.is at c.requires.last in
     let there : last < length s.seat.items = omega (arith, inside, c.requires.seats.seats) in
     let is : number s.seat.items last ≡ c.index.result.now = get_or_default s.seat.items last 0 c.index.result.now there ∙ sym c.index.ensures in
-    let h : HasHole es (set la last None) s.seat.items s.row.items s.owner.items s.count (edge es k).b c.index.result.now = rw is at (hole_parted es la s.seat.items s.row.items s.owner.items s.count last k inside on c.requires.seats.seated c.requires.seats.filled) in
+    let h : HasHole es (set la last None) s.seat.items s.sitter.items s.owner.items s.count (edge es k).b c.index.result.now = rw is at (hole_parted es la s.seat.items s.sitter.items s.owner.items s.count last k inside on c.requires.seats.seated c.requires.seats.filled) in
     record {
       rows_a = w.rows_a ∙ length-set la last None;
       rows_b = refl;
       linked = w.linked;
       tight = w.tight;
-      seats = rw (with_items_is s.seat c.walk-2.new.seat (omega (arith, c.walk-2.auto.seat, c.deref_mut-2.ensures.len)), with_items_is s.row c.walk-2.new.row (omega (arith, c.walk-2.auto.row, c.deref_mut-3.ensures.len))) (seats_after_parted es la c.walk-2.new.link_a (seating s) c.walk-2.new.seat c.walk-2.new.row c.requires.seats (rw length-set at w.rows_a) (rows_after_parted la c.walk-2.new.link_a last k on w.room)
-          (rw c.deref_mut-2.ensures.value at c.walk-2.auto.seat) (rw c.deref_mut-3.ensures.value at c.walk-2.auto.row)
+      seats = rw (with_items_is s.seat c.walk-2.new.seat (omega (arith, c.walk-2.auto.seat, c.deref_mut-2.ensures.len)), with_items_is s.sitter c.walk-2.new.sitter (omega (arith, c.walk-2.auto.sitter, c.deref_mut-3.ensures.len))) (seats_after_parted es la c.walk-2.new.link_a (seating s) c.walk-2.new.seat c.walk-2.new.sitter c.requires.seats (rw length-set at w.rows_a) (free_records_after_parted la c.walk-2.new.link_a last k on w.room)
+          (rw c.deref_mut-2.ensures.value at c.walk-2.auto.seat) (rw c.deref_mut-3.ensures.value at c.walk-2.auto.sitter)
           (w.seated s.owner.items s.count (rw (c.deref_mut-2.ensures.value, c.deref_mut-3.ensures.value) h)));
       root = rw c.in_default.is (λ none. absurd (w.root none));
       still_a = λ a none. elim (link-set la last a None inside) [

@@ -4,7 +4,7 @@ use Rattle.capacity_assign.proofs.solve.no_seats.Goals as goal
 pub returns : goal.returns
 returns c = record {
   seats = search rules;
-  rows = search rules;
+  sitters = search rules;
   owners = search rules;
   earliers = search rules;
   lasts = search rules;

@@ -6,7 +6,7 @@ use Rattle.assignment_steps.specs.Market.{edge, link, number}
 use Rattle.capacity_assign.specs.Seating.{seating}
 use Rattle.capacity_assign.proofs.FirstLinks.{between_linked, places_linked, still_none}
 use Rattle.assignment_steps.proofs.Taken.{none_before, not_linked}
-use Rattle.capacity_assign.proofs.Links.{free_row_counts}
+use Rattle.capacity_assign.proofs.Links.{free_record_counts}
 use Rattle.capacity_assign.proofs.tight.link_if_tight.Goals as goal
 
 pub index-requires : goal.index-requires
@@ -58,7 +58,7 @@ add_seat-free-requires c =
     let ra : e.a < length la = omega (arith, w.in_range.record_a c.args.k c.requires.place, w.rows_a) in
     let there : e.b < length seats.left.items = omega (arith, w.in_range.record_b c.args.k c.requires.place, w.rows_b) in
     let read = get_or_read seats.left.items e.b c.index.result.now there c.index.ensures 0 in
-    let one = free_row_counts la e.a ra none in
+    let one = free_record_counts la e.a ra none in
     record {
       owner = omega (arith, s.room, s.owners, one, seats.owner.ok.0);
       earlier = omega (arith, s.room, s.earliers, one, seats.earlier.ok.0);
@@ -75,13 +75,13 @@ reseat-requires c =
     let adds = c.add_seat-free.ensures.adds in
     let a = (edge c.args.net.edges.now c.args.k).a in
     let ra : a < length la = omega (arith, w.in_range.record_a c.args.k c.requires.place, w.rows_a) in
-    let one = free_row_counts la a ra (not_linked (link la a) (sym c.if-is_some.ensures)) in
+    let one = free_record_counts la a ra (not_linked (link la a) (sym c.if-is_some.ensures)) in
     record {
       place = c.requires.place;
       in_range = ra;
       linked = w.linked;
-      rows = rw (c.deref_mut.ensures.value, adds.seat) s.seats;
-      free = rw (c.deref_mut-2.ensures.value, adds.row) (omega (arith, c.add_seat-free.ensures.next, s.room, s.rows, one));
+      records = rw (c.deref_mut.ensures.value, adds.seat) s.seats;
+      free = rw (c.deref_mut-2.ensures.value, adds.sitter) (omega (arith, c.add_seat-free.ensures.next, s.room, s.sitters, one));
     }
 
 pub returns : goal.returns
@@ -101,9 +101,9 @@ returns c =
     let read = get_or_read old.left.items e.b c.index.result.now there c.index.ensures 0 in
     let some : 0 < number old.left.items e.b = omega (arith, read, c.if-index-eq0.false) in
     let seat_is = rw (c.deref_mut.ensures.value, c.add_seat-free.ensures.next) at r.seats in
-    let row_is = rw (c.deref_mut-2.ensures.value, c.add_seat-free.ensures.next) at r.rows in
+    let sitter_is = rw (c.deref_mut-2.ensures.value, c.add_seat-free.ensures.next) at r.sitters in
     record {
-      between = rw (with_items_is t.seat c.reseat.new.seat (omega (arith, c.reseat.auto.seat, c.deref_mut.ensures.len)), with_items_is t.row c.reseat.new.row (omega (arith, c.reseat.auto.row, c.deref_mut-2.ensures.len)), r.links, seat_is, row_is)
+      between = rw (with_items_is t.seat c.reseat.new.seat (omega (arith, c.reseat.auto.seat, c.deref_mut.ensures.len)), with_items_is t.sitter c.reseat.new.sitter (omega (arith, c.reseat.auto.sitter, c.deref_mut-2.ensures.len)), r.links, seat_is, sitter_is)
           (between_linked es c.args.net.price_a.now c.args.net.price_b.now la (seating old) (seating t) k w c.requires.place none some adds (omega (arith, c.if-net-a.false)));
       places = rw r.links (places_linked es c.args.net.price_a.now c.args.net.price_b.now la (seating old) (seating t) k w c.requires.place none some adds);
       settled = λ tight free. absurd (let clash : Some k ≡ None = sym (get_or-set_same la e.a (Some k) None ra) ∙ (rw r.links at free) in cc);

@@ -5,7 +5,7 @@ use Rattle.capacity_assign.proofs.walk.walk.Goals as goal
 pub loop-left-init : goal.loop-left-init
 loop-left-init c = record {
   rows_a = refl;
-  rows = c.requires.rows;
+  records = c.requires.records;
   seats = refl;
   linked = c.requires.linked;
   tight = c.requires.tight;
@@ -33,7 +33,7 @@ reseat-requires c =
       place = (hop _ _ _ _ _ _ _ _ _ _ _ _ _ _ c.requires.in_range w).place;
       in_range = ra _ _ _ _ _ _ _ _ _ _ _ _ _ _ c.requires.in_range w;
       linked = w.linked;
-      rows = w.rows;
+      records = w.records;
       free = w.there;
     }
 
