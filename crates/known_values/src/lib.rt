@@ -18,6 +18,8 @@ mod host_adapters;
 #[cfg(test)]
 mod memory_stores;
 #[cfg(test)]
+mod plain_types;
+#[cfg(test)]
 mod proposed_links;
 #[cfg(test)]
 mod rows_by_key;

@@ -9,8 +9,6 @@ mod shares;
 mod sides;
 mod standard;
 mod tables;
-#[cfg(test)]
-mod tests;
 mod text;
 
 pub use fault::{Fault, FileRole, status_of};

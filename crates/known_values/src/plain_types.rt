@@ -1,5 +1,5 @@
-// The plain types with ample memory.
-use crate::{RuleTable, StdFile, Tables, Text, TextList, Value, push_number};
+// The plain types are made, and a record is found by its id, in ample memory.
+use link_base::{RuleTable, StdFile, Tables, Text, TextList, Value, push_number};
 use std::alloc::Global;
 use std::test::Fail;
 
