@@ -52,9 +52,9 @@ pub struct PairAt {
 }
 
 /// A comparison pattern in a decision rule: its chances `m` among matched and `u` among unmatched pairs
-/// over 1,024 to the number of fields, its weight in eighths of a bit, from -480 to 474, and how often
-/// it is a link and a non-link, in 65,536ths that add up to at most 65,536. A table keeps the ranges of
-/// its cells; a call that takes a cell alone asks for them.
+/// over 1,024 to the number of fields, its weight in eighths of a bit, from `LEAST_WEIGHT` to
+/// `GREATEST_WEIGHT`, and how often it is a link and a non-link, in 65,536ths that add up to at most
+/// 65,536. A table keeps the ranges of its cells; a call that takes a cell alone asks for them.
 #[derive(Clone, Copy)]
 pub struct RuleCell {
     pub pattern: u16,

@@ -29,6 +29,12 @@ pub const MOST_FIELDS: u8 = 6;
 /// The most comparison patterns: four outcomes in each of six fields.
 pub const MOST_PATTERNS: u16 = 4096;
 
+/// The least weight of a comparison pattern, in eighths of a bit: -80 in each of six fields.
+pub const LEAST_WEIGHT: i32 = -480;
+
+/// The greatest weight of a comparison pattern, in eighths of a bit: 79 in each of six fields.
+pub const GREATEST_WEIGHT: i32 = 474;
+
 /// The most compared pairs of a run, and so the most candidates.
 pub const MOST_PAIRS: u64 = 2_000_000;
 
