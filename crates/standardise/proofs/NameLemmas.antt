@@ -5,15 +5,16 @@ use Rattle.std.specs.Str.{trim}
 use Rattle.link_base.specs.declared.standard.Value.{Value}
 use Rattle.link_base.specs.declared.standard.Value.TheVariants as value
 use Rattle.standardise.specs.Names.{characters_of, name_value, place_value, word_or_absent, words_of_text}
-use Rattle.standardise.specs.Tables.{contains_text, NameView, PlaceView}
+use Rattle.link_base.specs.Texts.{stands_among}
+use Rattle.standardise.specs.Tables.{NameView, PlaceView}
 use Rattle.standardise.specs.Words.{without_titles, words}
 use Rattle.standardise.proofs.WordLemmas.{encoded_words}
 
 -- a mark of a missing value
-pub missing_name : (t : NameView) (text : List ℕ) (missing : Bool) → missing ≡ contains_text t.marks (trim text) → missing ≡ true → value.Absent ≡ name_value t text
+pub missing_name : (t : NameView) (text : List ℕ) (missing : Bool) → missing ≡ stands_among t.marks (trim text) → missing ≡ true → value.Absent ≡ name_value t text
 missing_name t text missing is so = rw (← is, so) refl
 
-pub missing_place : (t : PlaceView) (text : List ℕ) (missing : Bool) → missing ≡ contains_text t.marks (trim text) → missing ≡ true → value.Absent ≡ place_value t text
+pub missing_place : (t : PlaceView) (text : List ℕ) (missing : Bool) → missing ≡ stands_among t.marks (trim text) → missing ≡ true → value.Absent ≡ place_value t text
 missing_place t text missing is so = rw (← is, so) refl
 
 -- the words of what is left of a text after the steps at its characters
@@ -21,14 +22,14 @@ pub cleaned_words : (text cleaned : List ℕ) → cleaned ≡ encode_utf8_all (c
 cleaned_words text cleaned is = ap words is ∙ encoded_words (characters_of (trim text))
 
 -- any other text
-pub name_of_words : {E : Type 0} (t : NameView) (text : List ℕ) (ws : List (List ℕ)) (missing : Bool) (result : Result Value E) → missing ≡ contains_text t.marks (trim text) → missing ≡ false
+pub name_of_words : {E : Type 0} (t : NameView) (text : List ℕ) (ws : List (List ℕ)) (missing : Bool) (result : Result Value E) → missing ≡ stands_among t.marks (trim text) → missing ≡ false
     → ws ≡ without_titles t.titles t.suffixes (words_of_text (trim text)) → IfOk result (λ v. v ≡ word_or_absent t.words ws) → IfOk result (λ v. v ≡ name_value t text)
 name_of_words t text ws missing result is so kept told =
     let all = word_or_absent t.words (without_titles t.titles t.suffixes (words_of_text (trim text))) in
     let value : word_or_absent t.words ws ≡ name_value t text = ap (word_or_absent t.words) kept ∙ ap (λ b. if b then value.Absent else all) (sym so ∙ is) in
     subst (λ x. IfOk result (λ v. v ≡ x)) value told
 
-pub place_of_words : {E : Type 0} (t : PlaceView) (text : List ℕ) (ws : List (List ℕ)) (missing : Bool) (result : Result Value E) → missing ≡ contains_text t.marks (trim text) → missing ≡ false
+pub place_of_words : {E : Type 0} (t : PlaceView) (text : List ℕ) (ws : List (List ℕ)) (missing : Bool) (result : Result Value E) → missing ≡ stands_among t.marks (trim text) → missing ≡ false
     → ws ≡ words_of_text (trim text) → IfOk result (λ v. v ≡ word_or_absent t.words ws) → IfOk result (λ v. v ≡ place_value t text)
 place_of_words t text ws missing result is so kept told =
     let all = word_or_absent t.words (words_of_text (trim text)) in

@@ -16,7 +16,8 @@ use Rattle.standardise.specs.FirstBytes.{AreMarked, AreMarkedWords, begins_marke
 use Rattle.standardise.specs.WordSets.{AreNoLonger}
 use Rattle.link_base.specs.declared.tables.WordPair.{WordPair}
 use Rattle.link_base.specs.Tables.{AreWordPairs, is_word}
-use Rattle.standardise.specs.Tables.{contains_text, text_cmp, word_for}
+use Rattle.link_base.specs.Texts.{stands_among}
+use Rattle.standardise.specs.Tables.{text_cmp, word_for}
 
 -- the order to a third text
 index_bound : (o : Ordering) → ordering_index o ≤ 2
@@ -40,16 +41,16 @@ sorted_rises ts w sorted =
     IsNonDecreasingBy-from_all_adjacent (λ t. ordering_index (text_cmp t w)) ts (λ k d lt. no_fall (get_or ts k d) (get_or ts (k + 1) d) w (text_cmp (get_or ts (k + 1) d) (get_or ts k d)) refl (sorted k d (omega arith) lt))
 
 -- a text that is found, and one that is not
-pub found_text : (ts : List (List ℕ)) (w : List ℕ) (i : ℕ) (d : List ℕ) → i < length ts → text_cmp (get_or ts i d) w ≡ Equal → contains_text ts w ≡ true
+pub found_text : (ts : List (List ℕ)) (w : List ℕ) (i : ℕ) (d : List ℕ) → i < length ts → text_cmp (get_or ts i d) w ≡ Equal → stands_among ts w ≡ true
 found_text ts w i d lt is = list_any_at (λ t. bytes_eq t w) ts i d lt (sym (is_eq-slice_cmp (get_or ts i d) w) ∙ ap is_eq is)
 
-none_equal : (ts : List (List ℕ)) (w : List ℕ) → ((k : ℕ) (d : List ℕ) → k < length ts → is_eq (text_cmp (get_or ts k d) w) ≡ false) → contains_text ts w ≡ false
+none_equal : (ts : List (List ℕ)) (w : List ℕ) → ((k : ℕ) (d : List ℕ) → k < length ts → is_eq (text_cmp (get_or ts k d) w) ≡ false) → stands_among ts w ≡ false
 none_equal [] w h = refl
 none_equal (t ∷ ts) w h =
-    ap (λ b. b || contains_text ts w) (sym (is_eq-slice_cmp t w) ∙ h 0 t (omega arith))
+    ap (λ b. b || stands_among ts w) (sym (is_eq-slice_cmp t w) ∙ h 0 t (omega arith))
     ∙ none_equal ts w (λ k d lt. h (suc k) d (omega arith))
 
-pub missed_text : (ts : List (List ℕ)) (w : List ℕ) (i : ℕ) → IsNonDecreasingBy (λ t. ordering_index (text_cmp t w)) ts → IsBinarySearchResult (λ t. text_cmp t w) ts (Err i) → contains_text ts w ≡ false
+pub missed_text : (ts : List (List ℕ)) (w : List ℕ) (i : ℕ) → IsNonDecreasingBy (λ t. ordering_index (text_cmp t w)) ts → IsBinarySearchResult (λ t. text_cmp t w) ts (Err i) → stands_among ts w ≡ false
 missed_text ts w i rising place = none_equal ts w (λ k d lt.
     let parts = place rising in
     elim (cases_lt k i) [
@@ -113,10 +114,10 @@ one_pair p from to = record {
     first (suc k) d lt P h = absurd (omega arith)
 
 -- a text that is longer than each of them is not there
-pub longer_text : (ts : List (List ℕ)) (w : List ℕ) (most : ℕ) → AreNoLonger most ts → most < length w → contains_text ts w ≡ false
+pub longer_text : (ts : List (List ℕ)) (w : List ℕ) (most : ℕ) → AreNoLonger most ts → most < length w → stands_among ts w ≡ false
 longer_text [] w most few long = refl
 longer_text (t ∷ ts) w most few long =
-    ap (λ b. b || contains_text ts w) (other (bytes_eq t w) refl)
+    ap (λ b. b || stands_among ts w) (other (bytes_eq t w) refl)
     ∙ longer_text ts w most (λ k d lt. few (suc k) d (omega arith)) long
   where
     other : (b : Bool) → bytes_eq t w ≡ b → b ≡ false
@@ -124,10 +125,10 @@ longer_text (t ∷ ts) w most few long =
     other false is = refl
 
 -- nor is a text that begins as none of them
-pub unmarked_text : (ts : List (List ℕ)) (w : List ℕ) (marked : List Bool) → AreMarked marked ts → begins_marked marked w ≡ false → contains_text ts w ≡ false
+pub unmarked_text : (ts : List (List ℕ)) (w : List ℕ) (marked : List Bool) → AreMarked marked ts → begins_marked marked w ≡ false → stands_among ts w ≡ false
 unmarked_text [] w marked all not = refl
 unmarked_text (t ∷ ts) w marked all not =
-    ap (λ b. b || contains_text ts w) (other (bytes_eq t w) refl)
+    ap (λ b. b || stands_among ts w) (other (bytes_eq t w) refl)
     ∙ unmarked_text ts w marked (λ k d lt. all (suc k) d (omega arith)) not
   where
     other : (b : Bool) → bytes_eq t w ≡ b → b ≡ false

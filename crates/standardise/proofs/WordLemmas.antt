@@ -10,7 +10,7 @@ use Rattle.std.proofs.lemmas.List.Folds.{list_any-append}
 use Rattle.std.proofs.lemmas.Str.{encode_ascii, encodes-append, length-le-encodes, IsCharBoundary-after_ascii, IsCharBoundary-before_ascii, IsUtf8-drop, IsUtf8-from_ascii, IsUtf8-take}
 use Rattle.std.proofs.lemmas.Str.Ascii.{IsAscii-cons, IsAscii-nil}
 use Rattle.link_base.specs.Tables.{is_word, is_word_byte}
-use Rattle.standardise.specs.Tables.{contains_text}
+use Rattle.link_base.specs.Texts.{stands_among}
 use Rattle.standardise.specs.Words.{run_words, without_first, without_last, words, words_after}
 
 abbrev pub has_space : List ℕ → Bool
@@ -113,11 +113,11 @@ utf8_parted text i lt space utf8 =
     (IsUtf8-take text i utf8 (IsCharBoundary-before_ascii text i lt at), IsUtf8-drop text (i + 1) utf8 (IsCharBoundary-after_ascii text i utf8 lt at))
 
 -- titles at the front
-pub no_title : (ts : List (List ℕ)) (w : List ℕ) (ws : List (List ℕ)) → contains_text ts w ≡ false → without_first ts (w ∷ ws) ≡ w ∷ ws
+pub no_title : (ts : List (List ℕ)) (w : List ℕ) (ws : List (List ℕ)) → stands_among ts w ≡ false → without_first ts (w ∷ ws) ≡ w ∷ ws
 no_title ts w [] h = refl
 no_title ts w (v ∷ vs) h = ap (λ b. cond b (without_first ts (v ∷ vs)) (w ∷ v ∷ vs)) h
 
-pub title : (ts : List (List ℕ)) (w : List ℕ) (ws : List (List ℕ)) → 0 < length ws → contains_text ts w ≡ true → without_first ts (w ∷ ws) ≡ without_first ts ws
+pub title : (ts : List (List ℕ)) (w : List ℕ) (ws : List (List ℕ)) → 0 < length ws → stands_among ts w ≡ true → without_first ts (w ∷ ws) ≡ without_first ts ws
 title ts w [] some h = absurd (omega arith)
 title ts w (v ∷ vs) some h = ap (λ b. cond b (without_first ts (v ∷ vs)) (w ∷ v ∷ vs)) h
 
@@ -128,11 +128,11 @@ reverse_push ws w = grind (arith, common_steps)
 twice : (ws : List (List ℕ)) → reverse (reverse ws) ≡ ws
 twice ws = grind (arith, common_steps)
 
-pub no_title_last : (ts : List (List ℕ)) (w : List ℕ) (ws : List (List ℕ)) → contains_text ts w ≡ false → without_last ts (ws ++ w ∷ []) ≡ ws ++ w ∷ []
+pub no_title_last : (ts : List (List ℕ)) (w : List ℕ) (ws : List (List ℕ)) → stands_among ts w ≡ false → without_last ts (ws ++ w ∷ []) ≡ ws ++ w ∷ []
 no_title_last ts w ws h =
     ap reverse (ap (without_first ts) (reverse_push ws w) ∙ no_title ts w (reverse ws) h ∙ sym (reverse_push ws w)) ∙ twice (ws ++ w ∷ [])
 
-pub title_last : (ts : List (List ℕ)) (w : List ℕ) (ws : List (List ℕ)) → 0 < length ws → contains_text ts w ≡ true → without_last ts (ws ++ w ∷ []) ≡ without_last ts ws
+pub title_last : (ts : List (List ℕ)) (w : List ℕ) (ws : List (List ℕ)) → 0 < length ws → stands_among ts w ≡ true → without_last ts (ws ++ w ∷ []) ≡ without_last ts ws
 title_last ts w ws some h =
     let rest : 0 < length (reverse ws) = grind (arith, common_steps) in
     ap reverse (ap (without_first ts) (reverse_push ws w) ∙ title ts w (reverse ws) rest h)

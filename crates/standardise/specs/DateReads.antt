@@ -4,7 +4,7 @@ use Rattle.std.specs.Str.{trim}
 use Rattle.link_base.specs.Standard.{IsDay}
 use Rattle.link_base.specs.declared.plan.DateForm.{DateForm}
 use Rattle.value_forms.specs.Written.{date_day}
-use Rattle.standardise.specs.Tables.{contains_text}
+use Rattle.link_base.specs.Texts.{stands_among}
 use Rattle.standardise.specs.declared.date_read.DateRead.{DateRead}
 use Rattle.standardise.specs.declared.date_read.DateRead.TheVariants as read
 
@@ -14,7 +14,7 @@ day_or_unreadable None = read.Unreadable
 
 -- absent where the text without the white space at its ends is a missing mark, else its day, else unreadable
 abbrev pub date_read : DateForm → List (List ℕ) → List ℕ → DateRead
-date_read form marks text = if contains_text marks (trim text) then read.Absent else day_or_unreadable (date_day form (trim text))
+date_read form marks text = if stands_among marks (trim text) then read.Absent else day_or_unreadable (date_day form (trim text))
 
 -- a day that is read has a civil date of four digits
 abbrev pub IsValidRead : DateRead → Type 0

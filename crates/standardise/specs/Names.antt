@@ -6,7 +6,8 @@ use Rattle.link_base.specs.declared.standard.Value.{Value}
 use Rattle.link_base.specs.declared.standard.Value.TheVariants as value
 use Rattle.link_base.specs.declared.tables.WordPair.{WordPair}
 use Rattle.standardise.specs.Cleaning.{cleaned}
-use Rattle.standardise.specs.Tables.{contains_text, NameView, PlaceView}
+use Rattle.link_base.specs.Texts.{stands_among}
+use Rattle.standardise.specs.Tables.{NameView, PlaceView}
 use Rattle.standardise.specs.Words.{joined, replaced, without_titles, words}
 
 -- the characters of a text after the canonical decomposition and the five steps behind it
@@ -25,11 +26,11 @@ word_or_absent pairs (w ∷ ws) = value.Word (joined (map (replaced pairs) (w �
 -- the standard value of a name
 abbrev pub name_value : NameView → List ℕ → Value
 name_value t text =
-    if contains_text t.marks (trim text) then value.Absent
+    if stands_among t.marks (trim text) then value.Absent
     else word_or_absent t.words (without_titles t.titles t.suffixes (words_of_text (trim text)))
 
 -- the standard value of a place
 abbrev pub place_value : PlaceView → List ℕ → Value
 place_value t text =
-    if contains_text t.marks (trim text) then value.Absent
+    if stands_among t.marks (trim text) then value.Absent
     else word_or_absent t.words (words_of_text (trim text))

@@ -1,6 +1,5 @@
--- What standard values go by, and what stands in it: as which `NameTables` and `PlaceTables` are seen (their `new`).
-use Rattle.std.specs.Prelude.{ℕ, List, [], ◌∷◌, Bool, Option, Some, None, if◌then◌else◌, bytes_eq}
-use Rattle.std.specs.List.{list_any}
+-- What standard values go by: as which `NameTables` and `PlaceTables` are seen (their `new`).
+use Rattle.std.specs.Prelude.{ℕ, List, [], ◌∷◌, Option, Some, None, if◌then◌else◌, bytes_eq}
 use Rattle.std.specs.Ordering.{nat_cmp}
 use Rattle.std.specs.declared.cmp.Ordering.{Ordering}
 use Rattle.std.specs.Cmp.Lexicographic.{slice_cmp}
@@ -17,10 +16,6 @@ pub record NameView : Type 0 where
   pub titles : List (List ℕ)
   pub suffixes : List (List ℕ)
   pub words : List WordPair
-
--- whether a text stands in a list of texts
-abbrev pub contains_text : List (List ℕ) → List ℕ → Bool
-contains_text texts text = list_any (λ t. bytes_eq t text) texts
 
 -- the word that pairs have for a word
 abbrev pub word_for : List WordPair → List ℕ → Option (List ℕ)

@@ -3,13 +3,14 @@
 use Rattle.std.specs.Prelude.{ℕ, List, [], ◌∷◌, ◌++◌, if◌then◌else◌, reverse, unwrap_or}
 pub use Rattle.value_forms.specs.Words.{run_words, words, words_after}
 use Rattle.link_base.specs.declared.tables.WordPair.{WordPair}
-use Rattle.standardise.specs.Tables.{contains_text, word_for}
+use Rattle.link_base.specs.Texts.{stands_among}
+use Rattle.standardise.specs.Tables.{word_for}
 
 -- while there is more than one word and the first stands in the list, the first is dropped
 abbrev pub without_first : List (List ℕ) → List (List ℕ) → List (List ℕ)
 without_first titles [] = []
 without_first titles (w ∷ []) = w ∷ []
-without_first titles (w ∷ v ∷ ws) = if contains_text titles w then without_first titles (v ∷ ws) else w ∷ v ∷ ws
+without_first titles (w ∷ v ∷ ws) = if stands_among titles w then without_first titles (v ∷ ws) else w ∷ v ∷ ws
 
 -- the same at the end
 abbrev pub without_last : List (List ℕ) → List (List ℕ) → List (List ℕ)

@@ -1,7 +1,7 @@
 // The tables of names and of places.
 ghost use Rattle.std.specs.Prelude.{◌≡◌, IfOk};
 ghost use Rattle.std.specs.Str.{IsUtf8};
-ghost use Rattle.standardise.specs.Tables.{contains_text};
+ghost use Rattle.link_base.specs.Texts.{stands_among};
 ghost use Rattle.standardise.specs.Words.{without_titles, words};
 
 use crate::pairs::WordTable;
@@ -39,7 +39,7 @@ impl PlaceTables {
 
     /// Whether a text is one of the missing marks.
     pub(crate) fn is_missing(&self, text: &[u8]) -> bool
-        ensures { result ≡ contains_text self.now.marks text.now }
+        ensures { result ≡ stands_among self.now.marks text.now }
     {
         self.marks.contains(text)
     }
@@ -90,7 +90,7 @@ impl NameTables {
 
     /// Whether a text is one of the missing marks.
     pub(crate) fn is_missing(&self, text: &[u8]) -> bool
-        ensures { result ≡ contains_text self.now.marks text.now }
+        ensures { result ≡ stands_among self.now.marks text.now }
     {
         self.marks.contains(text)
     }

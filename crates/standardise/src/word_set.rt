@@ -1,7 +1,8 @@
 // Texts that are found by an ordered search.
 ghost use Rattle.std.specs.Prelude.{◌≡◌, ◌≤◌, IfOk, length};
 ghost use Rattle.std.specs.List.Sorted.{IsBinarySearchResult, IsSearchInRange};
-ghost use Rattle.standardise.specs.Tables.{contains_text, text_cmp};
+ghost use Rattle.link_base.specs.Texts.{stands_among};
+ghost use Rattle.standardise.specs.Tables.{text_cmp};
 ghost use Rattle.standardise.specs.WordSets.{AreNoLonger, IsOrdered};
 
 use crate::first_bytes::FirstBytes;
@@ -51,7 +52,7 @@ impl WordSet {
 
     /// Whether a text stands in the set.
     pub(crate) fn contains(&self, text: &[u8]) -> bool
-        ensures { result ≡ contains_text self.now text.now }
+        ensures { result ≡ stands_among self.now text.now }
     {
         if text.len() > self.longest {
             return false;

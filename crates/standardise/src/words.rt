@@ -1,7 +1,7 @@
 // The words of a text: the longest runs without a space.
 ghost use Rattle.std.specs.Prelude.{◌≡◌, ◌+◌, ◌++◌, ◌∷◌, [], ◌<◌, take, drop, length, IfSome, MatchOption, IsTrue, ◌↔◌, ◌≢◌};
 ghost use Rattle.std.specs.Str.{IsUtf8};
-ghost use Rattle.standardise.specs.Tables.{contains_text};
+ghost use Rattle.link_base.specs.Texts.{stands_among};
 ghost use Rattle.standardise.specs.Words.{run_words, without_first, without_last, words};
 
 use crate::word_set::WordSet;
@@ -117,7 +117,7 @@ pub(crate) fn dropped_at_front<'a>(text: &'a [u8], titles: &WordSet) -> &'a [u8]
 }
 
 fn is_either(titles: &WordSet, suffixes: &WordSet, word: &[u8]) -> bool
-    ensures { result ≡ contains_text (titles.now ++ suffixes.now) word.now }
+    ensures { result ≡ stands_among (titles.now ++ suffixes.now) word.now }
 {
     titles.contains(word) || suffixes.contains(word)
 }

@@ -1,7 +1,8 @@
 -- The texts of a pool: what a pool is seen as, whether a text stands among others, and its place. `Pool::intern` carries
 -- them (clauses `found`, `texts`, `used`), and `Pool::are_distinct` that a place and a text name each other.
-use Rattle.std.specs.Prelude.{◌≡◌, ℕ, List, Bool, true, Option, Some, None, bytes_eq, ⊤}
-use Rattle.std.specs.List.{list_any, position_or_len}
+use Rattle.std.specs.Prelude.{◌≡◌, ℕ, List, true, Option, Some, None, bytes_eq, ⊤}
+use Rattle.std.specs.List.{position_or_len}
+pub use Rattle.link_base.specs.Texts.{stands_among}
 
 -- what is seen of a pool: its texts in the order in which they came, the limit of their bytes, how many they have, and
 -- the room for more texts and more bytes
@@ -11,10 +12,6 @@ pub record PoolState : Type 0 where
   pub used : ℕ
   pub spare_texts : ℕ
   pub spare_bytes : ℕ
-
--- whether a text stands among others
-abbrev pub stands_among : List (List ℕ) → List ℕ → Bool
-stands_among texts text = list_any (λ held. bytes_eq held text) texts
 
 -- the first place of a text among others, or how many they are where it is none of them
 abbrev pub place_among : List (List ℕ) → List ℕ → ℕ

@@ -1,19 +1,19 @@
 use Rattle.std.proofs.Common.{◌≡◌, ◌∙◌, ap}
 use Rattle.std.specs.Str.{trim}
-use Rattle.standardise.specs.Tables.{contains_text}
+use Rattle.link_base.specs.Texts.{stands_among}
 use Rattle.standardise.specs.Words.{words}
 use Rattle.standardise.proofs.NameLemmas.{cleaned_words, missing_place, place_of_words}
 use Rattle.standardise.proofs.names.std_place.Goals as goal
 
 pub returns-then-is_missing-clause-value : goal.returns-then-is_missing-clause-value
 returns-then-is_missing-clause-value c =
-    let mark : c.is_missing.result ≡ contains_text c.args.tables.now.marks (trim c.args.text.now) = c.is_missing.ensures ∙ ap (contains_text c.args.tables.now.marks) (c.as_bytes.ensures.value ∙ c.trimmed-place.ensures) in
+    let mark : c.is_missing.result ≡ stands_among c.args.tables.now.marks (trim c.args.text.now) = c.is_missing.ensures ∙ ap (stands_among c.args.tables.now.marks) (c.as_bytes.ensures.value ∙ c.trimmed-place.ensures) in
     missing_place c.args.tables.now c.args.text.now c.is_missing.result mark c.if-is_missing.true
 
 pub returns-then-cleaned-clause-value : goal.returns-then-cleaned-clause-value
 returns-then-cleaned-clause-value c =
     let cleaned = c.in_ok-cleaned.cleaned.text in
-    let mark : c.is_missing.result ≡ contains_text c.args.tables.now.marks (trim c.args.text.now) = c.is_missing.ensures ∙ ap (contains_text c.args.tables.now.marks) (c.as_bytes.ensures.value ∙ c.trimmed-place.ensures) in
+    let mark : c.is_missing.result ≡ stands_among c.args.tables.now.marks (trim c.args.text.now) = c.is_missing.ensures ∙ ap (stands_among c.args.tables.now.marks) (c.as_bytes.ensures.value ∙ c.trimmed-place.ensures) in
     let all = cleaned_words c.args.text.now cleaned (rw c.trimmed-place.ensures at c.in_ok-cleaned.ensures.text) in
     let told = rw c.pairs.ensures at c.standard_word.ensures.value in
     place_of_words c.args.tables.now c.args.text.now (words cleaned) c.is_missing.result c.standard_word.result mark c.if-is_missing.false all told
@@ -21,7 +21,7 @@ returns-then-cleaned-clause-value c =
 pub returns-clause-value : goal.returns-clause-value
 returns-clause-value c =
     let cleaned = c.in_ok-cleaned.cleaned.text in
-    let mark : c.is_missing.result ≡ contains_text c.args.tables.now.marks (trim c.args.text.now) = c.is_missing.ensures ∙ ap (contains_text c.args.tables.now.marks) (c.as_bytes.ensures.value ∙ c.trimmed-place.ensures) in
+    let mark : c.is_missing.result ≡ stands_among c.args.tables.now.marks (trim c.args.text.now) = c.is_missing.ensures ∙ ap (stands_among c.args.tables.now.marks) (c.as_bytes.ensures.value ∙ c.trimmed-place.ensures) in
     let all = cleaned_words c.args.text.now cleaned (rw c.trimmed-place.ensures at c.in_ok-cleaned.ensures.text) in
     let told = rw (c.pairs-2.ensures, c.bytes.ensures) at c.standard_words.ensures.value in
     place_of_words c.args.tables.now c.args.text.now (words cleaned) c.is_missing.result c.standard_words.result mark c.if-is_missing.false all told
