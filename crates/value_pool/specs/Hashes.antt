@@ -10,11 +10,11 @@ unfoldable pub folded : ℕ → ℕ → ℕ
 folded a b = bit_xor (a * b / 2 ^ 64) (a * b % 2 ^ 64)
 
 -- the next four bytes of a text, and the next eight, the first of them lowest
-abbrev pub four_at : List ℕ → ℕ → ℕ
-four_at text at = from_le_bytes w32 (slice_index_or text at 0 ∷ slice_index_or text (at + 1) 0 ∷ slice_index_or text (at + 2) 0 ∷ slice_index_or text (at + 3) 0 ∷ [])
+abbrev pub four_bytes_at : List ℕ → ℕ → ℕ
+four_bytes_at text at = from_le_bytes w32 (slice_index_or text at 0 ∷ slice_index_or text (at + 1) 0 ∷ slice_index_or text (at + 2) 0 ∷ slice_index_or text (at + 3) 0 ∷ [])
 
-abbrev pub eight_at : List ℕ → ℕ → ℕ
-eight_at text at = from_le_bytes w64 (slice_index_or text at 0 ∷ slice_index_or text (at + 1) 0 ∷ slice_index_or text (at + 2) 0
+abbrev pub eight_bytes_at : List ℕ → ℕ → ℕ
+eight_bytes_at text at = from_le_bytes w64 (slice_index_or text at 0 ∷ slice_index_or text (at + 1) 0 ∷ slice_index_or text (at + 2) 0
     ∷ slice_index_or text (at + 3) 0 ∷ slice_index_or text (at + 4) 0 ∷ slice_index_or text (at + 5) 0 ∷ slice_index_or text (at + 6) 0
     ∷ slice_index_or text (at + 7) 0 ∷ [])
 
@@ -25,8 +25,8 @@ few_bytes text = slice_index_or text 0 0 + slice_index_or text 1 0 * 2 ^ 8 + sli
 -- the last eight bytes of a text, or a word that has all bytes of a shorter one
 unfoldable pub last_word : List ℕ → ℕ
 last_word text =
-    if nat_le 8 (length text) then eight_at text (length text - 8)
-    else (if nat_le 4 (length text) then four_at text 0 + four_at text (length text - 4) * 2 ^ 32 else few_bytes text)
+    if nat_le 8 (length text) then eight_bytes_at text (length text - 8)
+    else (if nat_le 4 (length text) then four_bytes_at text 0 + four_bytes_at text (length text - 4) * 2 ^ 32 else few_bytes text)
 
 -- a hash with these words more
 abbrev pub hash_from : ℕ → ℕ → List (List ℕ) → ℕ

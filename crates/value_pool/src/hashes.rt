@@ -1,7 +1,7 @@
 // Hash functions of texts, of which there is a row. Each multiplies words of eight bytes and folds the product (Y. Wang,
 // wyhash): which bits of a text reach which bits of its hash depends on all bits before them, and on the key.
 ghost use Rattle.std.specs.Prelude.{◌≡◌, ◌+◌, ◌≤◌, length};
-ghost use Rattle.value_pool.specs.Hashes.{eight_at, folded, four_at, hash_of, last_word};
+ghost use Rattle.value_pool.specs.Hashes.{eight_bytes_at, folded, four_bytes_at, hash_of, last_word};
 
 /// What a hash begins with, and what its words are multiplied by.
 #[derive(Clone, Copy)]
@@ -30,16 +30,16 @@ fn folded(a: u64, b: u64) -> u64
     (product >> 64) as u64 ^ (product % (1 << 64)) as u64
 }
 
-fn four_at(text: &[u8], at: usize) -> u32
+fn four_bytes_at(text: &[u8], at: usize) -> u32
     requires { at + 4 ≤ length text.now }
-    ensures { result ≡ four_at text.now at }
+    ensures { result ≡ four_bytes_at text.now at }
 {
     u32::from_le_bytes([text[at], text[at + 1], text[at + 2], text[at + 3]])
 }
 
-fn eight_at(text: &[u8], at: usize) -> u64
+fn eight_bytes_at(text: &[u8], at: usize) -> u64
     requires { at + 8 ≤ length text.now }
-    ensures { result ≡ eight_at text.now at }
+    ensures { result ≡ eight_bytes_at text.now at }
 {
     u64::from_le_bytes([
         text[at],
@@ -64,9 +64,10 @@ fn last_word(text: &[u8]) -> u64
         [a, b] => u64::from(a) + (u64::from(b) << 8),
         [a, b, c] => u64::from(a) + (u64::from(b) << 8) + (u64::from(c) << 16),
         _ if text.len() < 8 => {
-            u64::from(four_at(text, 0)) + (u64::from(four_at(text, text.len() - 4)) << 32)
+            u64::from(four_bytes_at(text, 0))
+                + (u64::from(four_bytes_at(text, text.len() - 4)) << 32)
         }
-        _ => eight_at(text, text.len() - 8),
+        _ => eight_bytes_at(text, text.len() - 8),
     }
 }
 
