@@ -1,4 +1,4 @@
--- Letters by their codes, as the rules of NYSIIS name them.
+-- Letters by their codes, and the vowels, as the rules of NYSIIS name them (`nysiis`, clause `key`).
 use Rattle.std.specs.Prelude.{ℕ, Bool, ◌==◌, ◌||◌}
 
 abbrev pub A : ℕ
