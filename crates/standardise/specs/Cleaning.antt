@@ -51,11 +51,12 @@ with_spaces cs = map spaced cs
 abbrev pub cleaned : List ℕ → List ℕ
 cleaned cs = with_spaces (without_apostrophes (in_capitals (with_letters (without_marks cs))))
 
--- what becomes of one character
+-- machinery of the code, which goes over the characters once, and which no public clause names: what becomes of one
+-- character
 abbrev pub cleaned_char : ℕ → List ℕ
 cleaned_char c = if is_combining c then [] else with_spaces (without_apostrophes (in_capitals (letter_of c)))
 
--- the same of an ASCII character: a letter as its capital, a digit as it is, an apostrophe as nothing, all else as a space
+-- and of one of ASCII: a letter as its capital, a digit as it is, an apostrophe as nothing, all else as a space
 abbrev pub ascii_cleaned : ℕ → Option ℕ
 ascii_cleaned c =
     if nat_le 97 c && nat_le c 122 then Some (c - 32)
