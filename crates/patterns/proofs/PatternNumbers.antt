@@ -2,14 +2,13 @@
 use Rattle.std.proofs.Common.{◌≡◌, ◌<◌, ◌≤◌, ◌+◌, ◌*◌, ℕ, zero, suc, Bool, true, false, List, [], ◌∷◌, length, map, get_or, refl, arith, mul_comm}
 use Rattle.std.specs.Prelude.{⊤}
 use Rattle.std.proofs.lemmas.List.{length-map}
-use Rattle.std.proofs.Math.Nat.{mul-one}
 use Rattle.std.proofs.lemmas.Nat.{div-mul-add, mod-mul-add, mul-add-lt, mul-le}
 use Rattle.link_limits.specs.declared.TheConstants.{MOST_FIELDS, MOST_PATTERNS}
 use Rattle.link_base.specs.declared.rule.Outcome.{Outcome}
 use Rattle.link_base.specs.declared.rule.Outcome.TheVariants.{Agree, Disagree, Missing, Rare}
 use Rattle.link_base.specs.Shares.{outcomes_of}
 use Rattle.patterns.specs.Shapes.{digit_of, outcome_at, outcome_with, pattern_count_by}
-use Rattle.patterns.proofs.Digits.{count-le, count-pos, outcomes_bounds}
+use Rattle.patterns.proofs.Digits.{count-le, count-pos, outcomes_bounds, total-bound}
 use Rattle.patterns.specs.Patterns.{number_of, outcomes}
 
 -- one outcome for each field, rare only where the field may be
@@ -68,10 +67,6 @@ module _ {C S : Type 0} {rare : C → Bool} {outcome : C → S → S → Outcome
   outcomes_fit law (c ∷ cs) [] ys h k = absurd (omega arith)
   outcomes_fit law (c ∷ cs) (x ∷ xs) [] h k = absurd (omega arith)
   outcomes_fit law (c ∷ cs) (x ∷ xs) (y ∷ ys) h k = (law c x y, outcomes_fit law cs xs ys (omega arith) (omega arith))
-
--- what the front of a pattern adds up to
-total-bound : (n c k w : ℕ) → 1 ≤ c → n * c + k ≡ w → n ≤ w
-total-bound n c k w h e = let product = mul-le n 1 n c (omega arith) h in omega (arith, mul-one n)
 
 pub next-le : (n : ℕ) (r : Bool) → n < MOST_PATTERNS → n * outcomes_of r ≤ 16380
 next-le n r h = let base = outcomes_bounds r in let product = mul-le n (outcomes_of r) 4095 4 (omega arith) base.1 in omega arith

@@ -9,6 +9,6 @@ mod weight;
 
 pub use fields::{Fields, pattern};
 pub use laws::chances;
-pub use numbers::{pattern_over, shape_of};
+pub use numbers::{digit, pattern_over, shape_of};
 pub use shapes::{outcome_count, outcome_of, pattern_count, patterns_of};
 pub use weight::eighth_weight;

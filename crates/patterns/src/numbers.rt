@@ -16,7 +16,8 @@ fn base(rare: bool) -> u16
     if rare { 4 } else { 3 }
 }
 
-fn digit(outcome: Outcome) -> u16
+/// The digit of an outcome in a comparison pattern.
+pub fn digit(outcome: Outcome) -> u16
     ensures { result ≡ digit_of outcome }
 {
     match outcome {
