@@ -1,4 +1,5 @@
--- The positions of reviewed pairs, as `PairIndex` keeps them (its `keep`, clauses `found` and `pairs`).
+-- Machinery of the reader of a sample: the positions of reviewed pairs, as `PairIndex` keeps them (its `keep`, clauses
+-- `found` and `pairs`). No public clause names it.
 use Rattle.std.specs.Prelude.{ℕ, Bool, ◌==◌, ◌&&◌}
 use Rattle.sample_counts.specs.declared.reviewed.Reviewed.{Reviewed}
 

@@ -76,12 +76,12 @@ sample_under a b table = and_then (reviewed_rows a b [] table) with_both
 abbrev pub sample_of : List Record → List Record → List (List (List ℕ)) → Result (List Reviewed) Fault
 sample_of a b records = and_then (table_of role.Sample sample_wanted records) (sample_under a b)
 
--- positions of files of so many records
+-- machinery of the code, which no public clause names: positions of files of so many records
 pub record IsInFiles (rows_a rows_b : ℕ) (r : Reviewed) : Type 0 where
   pub of_a : r.a < rows_a
   pub of_b : r.b < rows_b
 
--- reviewed pairs of both kinds, at most `MOST_ROWS`
+-- and reviewed pairs of both kinds, at most `MOST_ROWS`
 pub record IsSample (rows_a rows_b : ℕ) (sample : List Reviewed) : Type 0 where
   pub few : length sample ≤ MOST_ROWS
   pub in_files : All (IsInFiles rows_a rows_b) sample

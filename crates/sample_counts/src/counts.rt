@@ -1,12 +1,12 @@
 // Reviewed pairs with their patterns, and their counts.
 ghost use Rattle.std.specs.Prelude.{◌≡◌, ◌≤◌, ◌<◌, ◌+◌, ◌^◌, ℕ, All, false, length, filter, sum, slice_index, slice_index_or, if◌then◌else◌};
-ghost use Rattle.patterns.specs.Shapes.{digit_of, pattern_count_by, rare_of};
+ghost use Rattle.patterns.specs.Shapes.{pattern_count_by, rare_of};
 ghost use Rattle.sample_counts.specs.Counts.{AreJudged, count_of, digit_in, is_digit};
 ghost use Rattle.sample_counts.specs.Tallies.{counted_at};
 
-use link_base::{Outcome, Shape};
+use link_base::Shape;
 use link_limits::MOST_ROWS;
-use patterns::outcome_of;
+use patterns::{digit, outcome_of};
 use std::marker::Model;
 
 /// A reviewed pair: whether it is matched, and its comparison pattern.
@@ -35,18 +35,6 @@ impl Model for Counts {
     ghost invariant = { λ c. AreJudged (rare_of c.shape) c.rows.items };
 }
 
-fn digit(outcome: Outcome) -> usize
-    ensures value { result ≡ digit_of outcome }
-    ensures small { result < 4 }
-{
-    match outcome {
-        Outcome::Agree => 0,
-        Outcome::Disagree => 1,
-        Outcome::Missing => 2,
-        Outcome::Rare => 3,
-    }
-}
-
 // The digit of a pair's outcome in a field, where the pair has the status.
 fn digit_at(shape: &Shape, row: &Judged, field: u8, matched: bool) -> Option<usize>
     requires pattern { row.now.pattern < pattern_count_by (rare_of shape.now) }
@@ -56,7 +44,7 @@ fn digit_at(shape: &Shape, row: &Judged, field: u8, matched: bool) -> Option<usi
     if matched != row.matched {
         return None;
     }
-    Some(digit(outcome_of(shape, row.pattern, field)))
+    Some(usize::from(digit(outcome_of(shape, row.pattern, field))))
 }
 
 /// How many pairs have each outcome.
