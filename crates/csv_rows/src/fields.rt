@@ -4,12 +4,11 @@ ghost use Rattle.csv.specs.Writing.{default_writer, escaped, field_text, needs_b
 
 use link_base::NoMemory;
 
-// Whether a byte calls for quotes: a comma, a quote, or a byte that ends a line. Digits and letters are told from these by one
-// comparison.
+// Whether a byte calls for quotes: a comma, a quote, or a byte that ends a line.
 fn is_special(byte: u8) -> bool
     ensures { result ≡ needs_byte default_writer byte }
 {
-    byte <= b',' && matches!(byte, b',' | b'"' | b'\r' | b'\n')
+    matches!(byte, b',' | b'"' | b'\r' | b'\n')
 }
 
 // Whether a field calls for quotes.
