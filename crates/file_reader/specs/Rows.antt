@@ -29,7 +29,7 @@ rows_in (suc count) width cells = take width cells ∷ rows_in count width (drop
 abbrev pub table_rows : Bool → ℕ → ℕ → List (List ℕ) → List TableRow
 table_rows has_id count width cells = map (row_of_cells has_id) (rows_in count width cells)
 
--- how many cells of a row stand before its fields
+-- machinery of `Table::field`: how many cells of a row stand before its fields
 abbrev pub skipped : Bool → ℕ
 skipped true = 1
 skipped false = 0

@@ -1,4 +1,5 @@
--- The steps of a reader: an id that is kept (`Ids::keep` and `keep_id`), and a row that is taken (`take_row`).
+-- Machinery of the reader: an id that is kept (`Ids::keep` and `keep_id`), and a row that is taken (`take_row`). No public clause
+-- names it.
 use Rattle.std.specs.Prelude.{◌≡◌, ℕ, List, [], ◌∷◌, ◌++◌, position, Bool, bytes_eq, if◌then◌else◌, Option, Some, None, Result, Ok, Err, ⊤, is_some}
 use Rattle.link_base.specs.declared.fault.Fault.{Fault}
 use Rattle.link_base.specs.declared.fault.Fault.TheVariants as fault
