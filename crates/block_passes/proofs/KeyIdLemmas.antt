@@ -11,11 +11,11 @@ use Rattle.block_passes.specs.Codes.{extended_code}
 use Rattle.block_passes.specs.IdCodes.{four_ids, four_ids_at}
 use Rattle.block_passes.specs.Ids.{AreAllHeld, id_key_in, ids_of_key}
 use Rattle.block_passes.specs.Index.{row_at, rows_with_key}
-use Rattle.block_passes.specs.KeyIds.{ids_in_pass, ids_of_row, key_ids, part_id}
+use Rattle.block_passes.specs.KeyIds.{ids_in_pass, ids_of_row, key_ids, part_id, parts_in}
 use Rattle.block_passes.specs.Keys.{joined_key, key_in_pass, no_part, part_key, same_text}
 use Rattle.block_passes.specs.Numbering.{AreNumbers, no_number, number_among}
 use Rattle.block_passes.specs.OnePart.{part_at}
-use Rattle.block_passes.specs.PassIds.{all_ids, AreByPart, AreFew, AreFirstIds, AreIdsInPass, first_number, four_at, joined_id, parts_in, rows_in_pass}
+use Rattle.block_passes.specs.PassIds.{all_ids, AreByPart, AreFew, AreFirstIds, AreIdsInPass, first_number, four_at, joined_id, rows_in_pass}
 use Rattle.block_passes.proofs.IdLemmas.{rows-by-four}
 use Rattle.block_passes.proofs.PartLemmas.{rows-by-part}
 use Rattle.block_passes.proofs.RowLemmas.{mapped-at}

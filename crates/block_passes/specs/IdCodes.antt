@@ -3,6 +3,7 @@ use Rattle.std.specs.Prelude.{ℕ, zero, suc, ◌/◌, ◌%◌, List, [], ◌∷
 use Rattle.block_passes.specs.Codes.{coded_texts}
 use Rattle.block_passes.specs.Ids.{id_key_in}
 use Rattle.block_passes.specs.Index.{row_at}
+use Rattle.block_passes.specs.declared.id_codes.TheConstants.{MOST_IDS}
 use Rattle.link_base.specs.Standard.{Record}
 use Rattle.link_base.specs.declared.plan.Part.{Part}
 
@@ -13,7 +14,7 @@ padded (suc n) [] = 0 ∷ padded n []
 padded (suc n) (id ∷ ids) = id ∷ padded n ids
 
 abbrev pub four_ids : Option (List ℕ) → Option (List ℕ)
-four_ids ids = option_map (padded 4) ids
+four_ids ids = option_map (padded MOST_IDS) ids
 
 -- the four ids of the key of the row at a position
 abbrev pub four_ids_at : List (List ℕ) → List Part → List Record → ℕ → Option (List ℕ)

@@ -1,6 +1,6 @@
 -- Keys as ids: the places of their texts in a pool. `id_key` carries them (its clause), `build_index_in` the rows by them, and
 -- `ids_tell_keys` what they are worth.
-use Rattle.std.specs.Prelude.{◌<◌, ℕ, List, map, filter, length, slice_index_or, Bool, Option, option_map}
+use Rattle.std.specs.Prelude.{◌<◌, ℕ, List, [], map, filter, length, slice_index_or, Bool, Option, option_map}
 use Rattle.std.specs.List.{range_with_len}
 use Rattle.value_pool.specs.Texts.{IsHeld, place_among}
 use Rattle.block_passes.specs.Keys.{key_in_pass, no_part, part_key, same_text}
@@ -16,6 +16,10 @@ AreHeld texts row parts = (k : ℕ) → k < length parts → IsHeld texts (part_
 -- the parts of the keys of all rows of a file stand among the texts
 abbrev pub AreAllHeld : List (List ℕ) → List Part → List Record → Type 0
 AreAllHeld texts parts file = (at : ℕ) → at < length file → AreHeld texts (row_at file at) parts
+
+-- the parts of the keys of a file in each pass stand among the texts
+abbrev pub AreKeysHeld : List (List ℕ) → List (List Part) → List Record → Type 0
+AreKeysHeld texts passes file = (k : ℕ) → k < length passes → AreAllHeld texts (slice_index_or passes k []) file
 
 -- the ids of the texts of a key
 abbrev pub ids_of_key : List (List ℕ) → Option (List (List ℕ)) → Option (List ℕ)

@@ -16,6 +16,10 @@ row_at file at = (slice_index_or file at no_record).row
 abbrev pub AreReady : List Part → List Record → Type 0
 AreReady parts file = (at : ℕ) → at < length file → InRange (row_at file at) parts × AreReadable (row_at file at) parts
 
+-- each row of a file has the fields of each part of a pass, with valid values
+abbrev pub AreAllReady : List (List Part) → List Record → Type 0
+AreAllReady passes file = (k : ℕ) → k < length passes → AreReady (slice_index_or passes k []) file
+
 -- the positions whose key is this one, rising
 abbrev pub rows_with_key : List Part → List Record → Option (List (List ℕ)) → List ℕ
 rows_with_key parts file key = filter (λ at. same_key key (key_in_pass (row_at file at) parts)) (range_with_len 0 (length file))

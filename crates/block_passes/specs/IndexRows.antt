@@ -4,6 +4,7 @@ use Rattle.std.specs.Prelude.{ℕ, List, [], Some, length, slice_index_or, ◌==
 use Rattle.block_passes.specs.Codes.{coded_texts}
 use Rattle.block_passes.specs.IdCodes.{coded_ids, padded}
 use Rattle.block_passes.specs.Numbering.{number_among}
+use Rattle.block_passes.specs.declared.id_codes.TheConstants.{MOST_IDS}
 use Rattle.block_passes.specs.declared.index.Index.{Index}
 use Rattle.block_passes.specs.declared.index.RowsByCode.{RowsByCode}
 use Rattle.block_passes.specs.declared.id_index.IdIndex.{IdIndex}
@@ -16,7 +17,7 @@ rows_by_texts rows key = slice_index_or rows.groups (number_among rows.numbering
 
 -- the rows for a key of ids
 abbrev pub rows_by_ids : RowsByIds → List ℕ → List ℕ
-rows_by_ids (Four rows) ids = slice_index_or rows.groups (number_among rows.numbering (Some (padded 4 ids))) []
+rows_by_ids (Four rows) ids = slice_index_or rows.groups (number_among rows.numbering (Some (padded MOST_IDS ids))) []
 rows_by_ids (Long rows) ids = slice_index_or rows.groups (number_among rows.numbering (Some (coded_ids ids))) []
 
 -- the rows that an index gives for a key

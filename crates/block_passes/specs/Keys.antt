@@ -1,5 +1,4 @@
--- The keys of rows in blocking passes (Newcombe et al. 1959; Fellegi and Sunter 1969, section 4). `pass_key` carries them by
--- its clause. What a part makes of a value, and which values it can read, is defined with the canons.
+-- The keys of rows in blocking passes (Newcombe et al. 1959). `pass_key` carries them by its clause. What a part makes of a value, and which values it can read, is defined with the canons.
 use Rattle.std.specs.Prelude.{◌<◌, ℕ, List, [], ◌∷◌, ◌++◌, length, Bool, false, Option, Some, None, bytes_eq, slice_index_or}
 use Rattle.std.specs.Cmp.Lexicographic.{pointwise}
 use Rattle.link_base.specs.Standard.{absent_value}
@@ -49,7 +48,7 @@ IsPartReadable row part = IsReadable part.key (slice_index_or row part.field abs
 abbrev pub AreReadable : List Value → List Part → Type 0
 AreReadable row parts = (k : ℕ) → k < length parts → IsPartReadable row (slice_index_or parts k no_part)
 
--- the key that starts with these texts
+-- machinery of `pass_key`: the key that starts with these texts
 abbrev pub extended_key : List (List ℕ) → Option (List (List ℕ)) → Option (List (List ℕ))
 extended_key front None = None
 extended_key front (Some rest) = Some (front ++ rest)

@@ -7,13 +7,9 @@ use Rattle.block_passes.specs.IdCodes.{four_ids}
 use Rattle.block_passes.specs.Index.{row_at}
 use Rattle.block_passes.specs.KeyIds.{ids_in_pass}
 use Rattle.block_passes.specs.Numbering.{no_number}
+use Rattle.block_passes.specs.declared.id_codes.TheConstants.{MOST_IDS}
 use Rattle.link_base.specs.Standard.{Record}
 use Rattle.link_base.specs.declared.plan.Part.{Part}
-
--- how many parts passes have together
-abbrev pub parts_in : List (List Part) → ℕ
-parts_in [] = 0
-parts_in (pass ∷ passes) = length pass + parts_in passes
 
 -- so many ids of each row, the first of them `start` places after the row's first
 abbrev pub rows_in_pass : List (Option ℕ) → ℕ → ℕ → ℕ → ℕ → List (List (Option ℕ))
@@ -23,9 +19,9 @@ rows_in_pass ids width start parts rows = map (λ at. take parts (drop (at * wid
 abbrev pub AreIdsInPass : List (List ℕ) → List Part → List Record → List (List (Option ℕ)) → Type 0
 AreIdsInPass texts pass file rows = (length rows ≡ length file) × ((at : ℕ) → at < length file → slice_index_or rows at [] ≡ ids_in_pass texts (row_at file at) pass)
 
--- no row has more than four ids
+-- no row has more ids than stand side by side
 abbrev pub AreFew : List (List (Option ℕ)) → Type 0
-AreFew rows = (at : ℕ) → at < length rows → length (slice_index_or rows at []) ≤ 4
+AreFew rows = (at : ℕ) → at < length rows → length (slice_index_or rows at []) ≤ MOST_IDS
 
 -- the ids, present where each is
 abbrev pub joined_id : Option ℕ → Option (List ℕ) → Option (List ℕ)

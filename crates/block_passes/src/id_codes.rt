@@ -2,18 +2,19 @@
 ghost use Rattle.std.specs.Prelude.{◌≡◌, ◌≤◌, IfOk, length, slice_index_or};
 ghost use Rattle.block_passes.specs.IdCodes.{coded_ids, four_ids, id_bytes, padded};
 ghost use Rattle.block_passes.specs.PassIds.{all_ids};
+ghost use Rattle.block_passes.specs.declared.id_codes.TheConstants.{MOST_IDS};
 
 use crate::codes::push_text;
 use link_base::NoMemory;
 use std::alloc::Global;
 use value_pool::Id;
 
-/// The most parts of a key that has a code of ids.
+/// The most ids of a key that stand side by side. Those of a longer key are one list of bytes.
 pub(crate) const MOST_IDS: usize = 4;
 
 /// The places of at most four ids, present where each is.
 pub(crate) fn four_places(ids: &[Option<Id>]) -> Option<[u32; MOST_IDS]>
-    requires { length ids.now ≤ 4 }
+    requires { length ids.now ≤ MOST_IDS }
     ensures { result ≡ four_ids (all_ids ids.now) }
 {
     let mut places = [0; MOST_IDS];
@@ -37,7 +38,7 @@ fn place_at(ids: &[Id], at: usize) -> u32
 
 /// The first four ids.
 pub(crate) fn first_ids(ids: &[Id]) -> [u32; MOST_IDS]
-    ensures { result ≡ padded 4 ids.now }
+    ensures { result ≡ padded MOST_IDS ids.now }
 {
     [
         place_at(ids, 0),

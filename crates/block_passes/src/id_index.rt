@@ -8,6 +8,7 @@ ghost use Rattle.block_passes.specs.Index.{AreReady};
 ghost use Rattle.block_passes.specs.CodedRows.{rows_of_code};
 ghost use Rattle.block_passes.specs.PassIds.{AreFew, four_at};
 ghost use Rattle.block_passes.specs.Numbering.{AreNumbered, AreNumbers, number_among};
+ghost use Rattle.block_passes.specs.declared.id_codes.TheConstants.{MOST_IDS};
 
 use crate::groups::Groups;
 use crate::id_codes::{MOST_IDS, first_ids, four_places};
@@ -152,7 +153,7 @@ fn index_four(
     pass: &Pass,
     pool: &Pool,
 ) -> Result<RowsByFour, NoMemory>
-    requires parts { length pass.now ≤ 4 }
+    requires parts { length pass.now ≤ MOST_IDS }
     requires ready { AreReady pass.now file.now }
     requires held { AreAllHeld pool.now.texts pass.now file.now }
     ensures { IfOk result (λ rows. (ids : Option (List ℕ)) → slice_index_or rows.groups (number_among rows.numbering ids) [] ≡ rows_of_code (four_ids_at pool.now.texts pass.now file.now) (length file.now) ids) }

@@ -4,13 +4,11 @@ ghost use Rattle.value_pool.specs.Texts.{place_among};
 ghost use Rattle.block_passes.specs.Numbering.{IsNumbered, KeepNumbers, number_among};
 
 use crate::id_codes::MOST_IDS;
+use crate::numbering::NO_NUMBER;
 use indexmap::IndexSet;
 use link_base::NoMemory;
 use std::alloc::Global;
 use std::marker::Model;
-
-/// The number where there is no key.
-pub(crate) const NO_NUMBER: u32 = u32::MAX;
 
 /// Distinct lists of four ids, each with its place as its number. Contracts see the list of them.
 #[derive(Drop)]

@@ -21,3 +21,4 @@ pub use index::{Index, PassRows, build_index};
 pub use keys::{PassKey, pass_key};
 pub use part_ids::{KeyedPool, key_ids};
 pub use parts::part_text;
+pub use pass_ids::count_parts;

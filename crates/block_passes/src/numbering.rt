@@ -8,7 +8,8 @@ use link_base::NoMemory;
 use std::alloc::Global;
 use std::marker::Model;
 
-const NO_NUMBER: u32 = u32::MAX;
+/// The number where there is no code.
+pub(crate) const NO_NUMBER: u32 = u32::MAX;
 
 /// Distinct codes, each with its place as its number. Contracts see the list of them.
 #[derive(Drop)]

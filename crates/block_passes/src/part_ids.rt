@@ -1,7 +1,7 @@
 // The ids of the parts of the keys of a file.
 ghost use Rattle.std.specs.Prelude.{◌≡◌, ◌<◌, ◌++◌, [], ℕ, length, slice_index_or, IfOk, OnOk};
-ghost use Rattle.block_passes.specs.Ids.{AreAllHeld, AreHeld};
-ghost use Rattle.block_passes.specs.Index.{AreReady};
+ghost use Rattle.block_passes.specs.Ids.{AreHeld, AreKeysHeld};
+ghost use Rattle.block_passes.specs.Index.{AreAllReady};
 ghost use Rattle.block_passes.specs.KeyIds.{ids_in_pass, ids_of_row, key_ids};
 ghost use Rattle.block_passes.specs.Keys.{AreReadable, InRange};
 
@@ -62,8 +62,8 @@ pub(crate) fn ids_in_passes(
     passes: &[Pass],
     pool: &Pool,
 ) -> Result<Vec<Option<Id>>, NoMemory>
-    requires ready { (k : ℕ) → k < length passes.now → AreReady (slice_index_or passes.now k []) file.now }
-    requires held { (k : ℕ) → k < length passes.now → AreAllHeld pool.now.texts (slice_index_or passes.now k []) file.now }
+    requires ready { AreAllReady passes.now file.now }
+    requires held { AreKeysHeld pool.now.texts passes.now file.now }
     ensures { IfOk result (λ ids. ids.items ≡ key_ids pool.now.texts passes.now file.now) }
 {
     let room = (file.rows() as usize).saturating_mul(count_parts(passes));
@@ -82,8 +82,8 @@ pub fn key_ids(
     passes: &PassList,
     pool: &Pool,
 ) -> Result<Vec<Option<Id>>, NoMemory>
-    requires ready { (k : ℕ) → k < length passes.now → AreReady (slice_index_or passes.now k []) file.now }
-    requires held { (k : ℕ) → k < length passes.now → AreAllHeld pool.now.texts (slice_index_or passes.now k []) file.now }
+    requires ready { AreAllReady passes.now file.now }
+    requires held { AreKeysHeld pool.now.texts passes.now file.now }
     ensures { IfOk result (λ ids. ids.items ≡ key_ids pool.now.texts passes.now file.now) }
 {
     ids_in_passes(alloc, file, passes.passes(), pool)

@@ -2,7 +2,7 @@
 ghost use Rattle.std.specs.Prelude.{◌≡◌, ◌<◌, ◌^◌, IfOk, length};
 ghost use Rattle.block_passes.specs.PassIds.{AreFirstIds, first_number};
 
-use crate::id_numbering::NO_NUMBER;
+use crate::numbering::NO_NUMBER;
 use crate::pass_ids::PassIds;
 use link_base::NoMemory;
 use std::alloc::Global;

@@ -1,13 +1,14 @@
 // The ids of one pass, among those of all passes.
 ghost use Rattle.std.specs.Prelude.{◌≡◌, ◌<◌, ◌*◌, ◌^◌, ◌-◌, [], length, min, slice_index_or, take};
-ghost use Rattle.block_passes.specs.PassIds.{parts_in, rows_in_pass};
+ghost use Rattle.block_passes.specs.KeyIds.{parts_in};
+ghost use Rattle.block_passes.specs.PassIds.{rows_in_pass};
 
 use link_base::Pass;
 use std::marker::Model;
 use value_pool::Id;
 
-/// How many parts passes have together, as far as that is counted.
-pub(crate) fn count_parts(passes: &[Pass]) -> usize
+/// How many parts passes have together, at most the most that a `usize` holds.
+pub fn count_parts(passes: &[Pass]) -> usize
     ensures { result ≡ min (parts_in passes.now) (2 ^ 64 - 1) }
 {
     let mut parts: usize = 0;

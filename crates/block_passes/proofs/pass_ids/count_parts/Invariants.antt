@@ -1,6 +1,6 @@
 use Rattle.std.proofs.Common.{◌≡◌, ◌≤◌, ◌+◌, ◌-◌, ◌^◌, drop}
 use Rattle.std.specs.Prelude.{min}
-use Rattle.block_passes.specs.PassIds.{parts_in}
+use Rattle.block_passes.specs.KeyIds.{parts_in}
 use Rattle.block_passes.proofs.pass_ids.count_parts.Given as goal
 
 abbrev pub invariant-loop-pass : goal.invariant-loop-pass
