@@ -7,6 +7,7 @@ use Rattle.std.proofs.lemmas.List.Folds.{list_any-append}
 use Rattle.std.proofs.lemmas.Slice.Eq.{bytes_eq-Decides}
 use Rattle.value_forms.specs.Canons.{canon_of}
 use Rattle.value_pool.specs.Texts.{IsHeld, stands_among}
+use Rattle.block_passes.specs.Ids.{AreKeysHeld}
 use Rattle.block_passes.specs.Index.{row_at}
 use Rattle.block_passes.specs.Keys.{no_part, part_key}
 use Rattle.link_base.specs.Standard.{absent_value, no_record, Record}
@@ -14,7 +15,6 @@ use Rattle.link_base.specs.declared.plan.CompareKind.{CompareKind}
 use Rattle.link_base.specs.declared.plan.CompareKind.TheVariants as by
 use Rattle.link_base.specs.declared.plan.Part.{Part}
 use Rattle.link_base.specs.declared.standard.Value.{Value}
-use Rattle.standard_files.specs.Ready.{HoldsParts}
 use Rattle.standard_files.specs.Texts.{all_texts, both_texts, canons_of_row, file_texts, parts_in_pass, parts_of_row, texts_of_row, texts_taken}
 use Rattle.standard_files.proofs.TakingLemmas.{taken-cases}
 
@@ -104,6 +104,6 @@ pub held-by : (texts : List (List ℕ)) (key : Option (List ℕ)) → ((text : L
 held-by texts None h = tt
 held-by texts (Some text) h = h text refl
 
-pub holds-parts : (texts : List (List ℕ)) (passes : List (List Part)) (file : List Record) → ((text : List ℕ) → stands_among (file_texts (parts_of_row passes) file) text ≡ true → stands_among texts text ≡ true) → HoldsParts texts passes file
+pub holds-parts : (texts : List (List ℕ)) (passes : List (List Part)) (file : List Record) → ((text : List ℕ) → stands_among (file_texts (parts_of_row passes) file) text ≡ true → stands_among texts text ≡ true) → AreKeysHeld texts passes file
 holds-parts texts passes file all k in_passes at in_file j in_pass =
     held-by texts (part_key (row_at file at) (get_or (get_or passes k []) j no_part)) (λ text h. all text (part-stands passes file k at j text in_passes in_file in_pass h))

@@ -1,7 +1,7 @@
 -- The files whose values are pooled, and what is known of them in a pool: their parts of keys stand there (`pool_values`,
--- clauses `parts_a`, `parts_b`), and each side stands for its value and is valid (clauses `sides_a`, `sides_b`).
+-- clauses `parts_a`, `parts_b`, by `AreKeysHeld`), and each side stands for its value and is valid (clauses `sides_a`, `sides_b`).
 use Rattle.std.specs.Prelude.{◌≡◌, ◌<◌, ℕ, List, [], length, slice_index_or, All}
-use Rattle.block_passes.specs.Ids.{AreAllHeld}
+pub use Rattle.block_passes.specs.Ids.{AreKeysHeld as HoldsParts}
 use Rattle.block_passes.specs.Index.{row_at}
 use Rattle.comparators.specs.Fields.{field_of, IsFieldSide}
 use Rattle.comparators.specs.OfPool.{StandsFor}
@@ -26,10 +26,6 @@ AreInRange fields passes = All (λ pass. All (λ (p : Part). p.field < fields) p
 pub record HasParts (passes : List (List Part)) (r : Record) : Type 0 where
   pub in_range : AreInRange (length r.row) passes
   pub valid : All IsValid r.row
-
--- the parts of the keys of all rows of a file stand among the texts
-abbrev pub HoldsParts : List (List ℕ) → List (List Part) → List Record → Type 0
-HoldsParts texts passes file = (k : ℕ) → k < length passes → AreAllHeld texts (slice_index_or passes k []) file
 
 -- each side of a row stands for its value, and is a valid side of its kind of comparison
 pub record AreRowSides (texts : List (List ℕ)) (kinds : List CompareKind) (row : List Value) (sides : List IdValue) : Type 0 where

@@ -1,6 +1,6 @@
 // The parts of the keys of blocking passes taken into a pool, and their ids.
-ghost use Rattle.std.specs.Prelude.{◌≡◌, ◌≤◌, ◌<◌, ◌++◌, ◌*◌, ◌-◌, ◌^◌, [], All, IfOk, IfSome, IsTrue, List, OnOk, Some, false, length, min, option_to_list, sum_by, vec_capacity, ℕ};
-ghost use Rattle.block_passes.specs.KeyIds.{ids_in_pass, ids_of_row, key_ids, part_id};
+ghost use Rattle.std.specs.Prelude.{◌≡◌, ◌≤◌, ◌<◌, ◌++◌, ◌*◌, ◌-◌, ◌^◌, [], All, IfOk, IfSome, IsTrue, List, OnOk, Some, false, length, min, option_to_list, vec_capacity, ℕ};
+ghost use Rattle.block_passes.specs.KeyIds.{ids_in_pass, ids_of_row, key_ids, part_id, parts_in};
 ghost use Rattle.block_passes.specs.Keys.{IsPartReadable, part_key};
 ghost use Rattle.comparators.specs.Fields.{id_in};
 ghost use Rattle.link_base.specs.Standard.{IsValid};
@@ -14,6 +14,7 @@ ghost use Rattle.value_forms.specs.Canons.{canon_of, compares_days, value_part};
 
 use crate::canons::take_part;
 use crate::texts::TextIds;
+use block_passes::count_parts;
 use comparators::{IdTable, IdValue};
 use link_base::{CompareKind, KeyKind, NoMemory, Part, Pass, PassList, Sides, StdFile, Value};
 use std::alloc::Global;
@@ -45,6 +46,7 @@ fn is_canon(key: KeyKind, kind: CompareKind) -> bool
         (KeyKind::Whole, CompareKind::Exact) => true,
         (KeyKind::Soundex, CompareKind::BySoundex) => true,
         (KeyKind::Nysiis, CompareKind::ByNysiis) => true,
+        (KeyKind::First(n), CompareKind::FirstLetters(m)) => n == m,
         _ => false,
     }
 }
@@ -143,17 +145,6 @@ fn take_row(
     Ok(())
 }
 
-// The number of parts of all passes together, at most that of a `usize`.
-fn parts_together(passes: &PassList) -> usize
-    ensures { result ≡ min (sum_by length passes.now) (2 ^ 64 - 1) }
-{
-    let mut count: usize = 0;
-    for pass in passes.passes() {
-        count = count.saturating_add(pass.parts().len());
-    }
-    count
-}
-
 // Room for an id of each part of the keys of a file.
 fn room_for_ids(
     alloc: Global,
@@ -161,10 +152,10 @@ fn room_for_ids(
     file: &StdFile,
 ) -> Result<Vec<Option<Id>>, NoMemory>
     ensures none { IfOk result (λ ids. ids.items ≡ []) }
-    ensures room { IfOk result (λ ids. min (length file.now * sum_by length passes.now) (2 ^ 64 - 1) ≤ vec_capacity ids) }
+    ensures room { IfOk result (λ ids. min (length file.now * parts_in passes.now) (2 ^ 64 - 1) ≤ vec_capacity ids) }
 {
     let rows = file.rows() as usize;
-    let parts = parts_together(passes);
+    let parts = count_parts(passes.passes());
     Ok(Vec::with_capacity(alloc, rows.saturating_mul(parts))?)
 }
 

@@ -1,9 +1,10 @@
 // The pooled values of two files.
 ghost use Rattle.std.specs.Prelude.{◌≡◌, ◌≤◌, ◌^◌, All, IfOk, List, ℕ, length};
+ghost use Rattle.block_passes.specs.Ids.{AreKeysHeld};
 ghost use Rattle.block_passes.specs.KeyIds.{key_ids};
 ghost use Rattle.link_base.specs.Answers.{GivesBut};
 ghost use Rattle.value_pool.specs.Pool.{is_want_of_pool};
-ghost use Rattle.standard_files.specs.Ready.{AreFileSides, AreInRange, HoldsParts, IsRowFor};
+ghost use Rattle.standard_files.specs.Ready.{AreFileSides, AreInRange, IsRowFor};
 ghost use Rattle.standard_files.specs.Sides.{pooled_values, sides_of_file};
 ghost use Rattle.standard_files.specs.Taking.{Extends, TakesTexts};
 ghost use Rattle.standard_files.specs.Texts.{all_texts};
@@ -96,8 +97,8 @@ pub fn pool_values(
     ensures limit { IfOk result (λ p. p.limit ≡ limit) }
     ensures fields_a { IfOk result (λ p. p.a.fields ≡ length kinds.now) }
     ensures fields_b { IfOk result (λ p. p.b.fields ≡ length kinds.now) }
-    ensures parts_a { IfOk result (λ p. HoldsParts p.texts passes.now a.now) }
-    ensures parts_b { IfOk result (λ p. HoldsParts p.texts passes.now b.now) }
+    ensures parts_a { IfOk result (λ p. AreKeysHeld p.texts passes.now a.now) }
+    ensures parts_b { IfOk result (λ p. AreKeysHeld p.texts passes.now b.now) }
     ensures sides_a { IfOk result (λ p. AreFileSides p.texts kinds.now a.now p.a.rows) }
     ensures sides_b { IfOk result (λ p. AreFileSides p.texts kinds.now b.now p.b.rows) }
     ensures keys_a { IfOk result (λ p. p.keys_a ≡ key_ids p.texts passes.now a.now) }

@@ -2,6 +2,7 @@
 ghost use Rattle.std.specs.Prelude.{◌≡◌, ◌+◌, ◌<◌, ◌≤◌, ◌∷◌, ◌++◌, [], All, length, slice_index_or, IfSome, IsUtf8, OnOk, Some, None, if◌then◌else◌};
 ghost use Rattle.std.specs.Option.{option_or};
 ghost use Rattle.link_base.specs.Standard.{IsValid};
+ghost use Rattle.link_limits.specs.declared.TheConstants.{MOST_FIELDS};
 ghost use Rattle.file_reader.specs.Rows.{no_row};
 ghost use Rattle.file_reader.specs.Table.{IsTextRow};
 ghost use Rattle.standard_files.specs.Values.{standard_values, unreadable_from, unreadable_in_row};
@@ -33,7 +34,7 @@ impl StandardRow {
     // One value more.
     fn push(&mut self, text: StandardText) -> Result<(), NoMemory>
         requires few { self.old.unreadable ≤ length self.old.values.items }
-        requires short { length self.old.values.items < 6 }
+        requires short { length self.old.values.items < MOST_FIELDS }
         ensures values { OnOk result (self.new.values.items ≡ self.old.values.items ++ text.value ∷ []) }
         ensures unreadable { OnOk result (self.new.unreadable ≡ self.old.unreadable + (if text.is_unreadable then 1 else 0)) }
         ensures first { OnOk result (self.new.first ≡ option_or self.old.first (if text.is_unreadable then Some (length self.old.values.items) else None)) }
@@ -57,12 +58,12 @@ impl StandardRow {
     ) -> Result<(), NoMemory>
         requires within { at < length table.now }
         requires width { length (slice_index_or table.now at no_row).fields ≡ length sorts.now }
-        requires few { length sorts.now ≤ 6 }
+        requires few { length sorts.now ≤ MOST_FIELDS }
         requires texts { IsTextRow (slice_index_or table.now at no_row) }
         ensures values { OnOk result (self.new.values.items ≡ standard_values tables.now sorts.now (slice_index_or table.now at no_row).fields) }
         ensures unreadable { OnOk result (self.new.unreadable ≡ unreadable_in_row tables.now sorts.now (slice_index_or table.now at no_row).fields) }
         ensures first { OnOk result (self.new.first ≡ unreadable_from tables.now 0 sorts.now (slice_index_or table.now at no_row).fields) }
-        ensures few { OnOk result (self.new.unreadable ≤ 6) }
+        ensures few { OnOk result (self.new.unreadable ≤ MOST_FIELDS) }
         ensures within { OnOk result (IfSome self.new.first (λ place. place < length sorts.now)) }
         ensures valid { OnOk result (All IsValid self.new.values.items) }
     {
