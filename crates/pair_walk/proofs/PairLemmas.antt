@@ -9,7 +9,8 @@ use Rattle.link_base.specs.declared.rule.PairAt.{PairAt}
 use Rattle.pair_walk.specs.Pairs.{compared_pairs, is_compared, pair, pairs_of_row, pairs_of_rows, product_from}
 use Rattle.pair_walk.specs.Rows.{all_rows, rows_from}
 
-row-pairs : (p : PairAt → Bool) (a b count : ℕ) → map (pair a) (filter (λ j. p (pair a j)) (range_with_len b count)) ≡ filter p (pairs_of_row a b count)
+-- the pairs of one row that pass a test
+pub row-pairs : (p : PairAt → Bool) (a b count : ℕ) → map (pair a) (filter (λ j. p (pair a j)) (range_with_len b count)) ≡ filter p (pairs_of_row a b count)
 row-pairs p a b zero = refl
 row-pairs p a b (suc count) =
     let rest = row-pairs p a (b + 1) count in

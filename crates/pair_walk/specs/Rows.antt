@@ -1,9 +1,10 @@
 -- The rows of B for each row of A. `Blocks::new` and `Blocks::new_in` carry it (their lone clauses); `rows_joined` says that
 -- joined they are the compared pairs.
-use Rattle.std.specs.Prelude.{◌<◌, ℕ, zero, suc, ◌+◌, List, [], ◌∷◌, filter, length, slice_index_or}
+use Rattle.std.specs.Prelude.{ℕ, zero, suc, ◌+◌, List, [], ◌∷◌, filter, length}
 use Rattle.std.specs.List.{range_with_len}
-use Rattle.block_passes.specs.Ids.{AreAllHeld}
-use Rattle.block_passes.specs.Index.{AreReady, row_at}
+pub use Rattle.block_passes.specs.Ids.{AreKeysHeld}
+pub use Rattle.block_passes.specs.Index.{AreAllReady}
+use Rattle.block_passes.specs.Index.{row_at}
 use Rattle.link_base.specs.Standard.{Record}
 use Rattle.link_base.specs.declared.plan.Part.{Part}
 use Rattle.pair_walk.specs.Keys.{share_key}
@@ -28,11 +29,3 @@ rows_from a b passes at (suc count) = record { a = at; bs = partners a b passes 
 
 abbrev pub all_rows : List Record → List Record → List (List Part) → List RowAt
 all_rows a b passes = rows_from a b passes 0 (length a)
-
--- each row of a file has the fields of each part of a pass, with valid values
-abbrev pub AreAllReady : List (List Part) → List Record → Type 0
-AreAllReady passes file = (k : ℕ) → k < length passes → AreReady (slice_index_or passes k []) file
-
--- the parts of the keys of a file in each pass stand among the texts
-abbrev pub AreKeysHeld : List (List ℕ) → List (List Part) → List Record → Type 0
-AreKeysHeld texts passes file = (k : ℕ) → k < length passes → AreAllHeld texts (slice_index_or passes k []) file
