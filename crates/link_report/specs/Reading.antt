@@ -27,7 +27,7 @@ abbrev pub rows_under : List (List ℕ) → List (List (List ℕ)) → Result (L
 rows_under header [] = Err 0
 rows_under header (first ∷ rows) = if same_row first header then unless_at rows (first_misfit (length header) 1 rows) else Err 0
 
--- the first record that is not of the form under a header, by its number, as its search gives it
+-- machinery of the search: the first record that is not of the form under a header, by its number, and the records after the first
 abbrev pub misfit_under : List (List ℕ) → List (List (List ℕ)) → Option ℕ
 misfit_under header [] = Some 0
 misfit_under header (first ∷ rows) = if same_row first header then first_misfit (length header) 1 rows else Some 0
