@@ -35,12 +35,12 @@ abbrev pub sums_verified : List Candidate → List Candidate → PricePair → R
 sums_verified candidates links prices =
     covered_then (first_uncovered candidates prices) (balanced links (worth links) (price_sum prices.a +ℤ price_sum prices.b))
 
--- links that were taken of candidates, rising by position
+-- machinery: links that were taken of candidates, rising by position
 pub record AreTaken (candidates links : List Candidate) : Type 0 where
   pub among : All (Contains candidates) links
   pub rising : AllPairs IsBefore links
 
--- what a reason of a check refutes: one of its sums, since links that are read are candidates with prices of at least 0
+-- machinery: what a reason of a check refutes: one of its sums, since links that are read are candidates with prices of at least 0
 abbrev pub IsOfSums : List Candidate → Reason → Type 0
 IsOfSums candidates (reason.Uncovered index) = index < length candidates
 IsOfSums candidates (reason.Sum links prices) = ⊤

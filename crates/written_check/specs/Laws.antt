@@ -1,4 +1,5 @@
--- The laws of verified files, each carried by a clause of a function of `laws` that does nothing.
+-- The laws of verified files: what is verified is greatest (`verified_is_greatest`), and what a run writes is verified
+-- (`written_is_verified`), each by its lone clause.
 use Rattle.std.specs.Prelude.{◌≡◌, ℤ, All, AllPairs, Bool, List, length, map, Ok}
 use Rattle.price_check.specs.Assignment.{Certifies, IsBefore, IsGreatest, IsOneToOne, IsWithin}
 use Rattle.file_reader.specs.Left.{records_in}

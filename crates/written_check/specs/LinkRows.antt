@@ -53,7 +53,7 @@ first_reused before (c ∷ links) = if list_any (shares_record c) before then So
 abbrev pub apart_verified : List Candidate → Result (List Candidate) Refutation
 apart_verified links = unless_row refutation.Reused links (first_reused [] links)
 
--- a candidate has the ids of a row
+-- machinery: a candidate has the ids of a row
 abbrev pub HasIds : List Record → List Record → List (List ℕ) → Candidate → Type 0
 HasIds a b row c = (id_at a c.a ≡ slice_index_or row 0 []) × (id_at b c.b ≡ slice_index_or row 1 [])
 

@@ -65,7 +65,7 @@ prices_in a b number prices (row ∷ rows) = priced_more (λ more. prices_in a b
 abbrev pub prices_verified : List Record → List Record → List ℕ → Result PricePair Refutation
 prices_verified a b text = and_then (rows_of_file refutation.Price prices_header text) (λ rows. prices_in a b 1 (no_prices a b) rows)
 
--- prices are at least 0 and at most the greatest that is allowed
+-- machinery: prices are at least 0 and at most the greatest that is allowed
 abbrev pub ArePrices : List ℤ → Type 0
 ArePrices prices = All (λ p. (pos 0 ≤ℤ p) × (p ≤ℤ pos MOST_VALUE)) prices
 

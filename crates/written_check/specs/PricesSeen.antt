@@ -1,4 +1,4 @@
--- Prices that are held, as contracts see them.
+-- Machinery of the check: prices that are held, as contracts see them. No public clause names it.
 use Rattle.written_check.specs.PriceRows.{PricePair}
 use Rattle.written_check.specs.declared.prices.Prices.{Prices}
 

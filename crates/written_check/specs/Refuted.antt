@@ -1,4 +1,5 @@
--- Answers that are as defined, but for want of memory, and what refutes the form of a file.
+-- Answers that are as defined, but for want of memory, and what refutes the form of a file (`verify_written`, clauses `answer` and
+-- `within`).
 use Rattle.std.specs.Prelude.{◌<◌, ℕ, Bool, true, false, List, Option, Some, None, Result, Ok, Err, ⊤}
 use Rattle.file_reader.specs.Left.{records_in}
 use Rattle.link_base.specs.Answers.{GivesBut}
@@ -28,12 +29,12 @@ unless_row refutes x (Some number) = Err (refutes number)
 abbrev pub rows_of_file : (ℕ → Refutation) → List (List ℕ) → List ℕ → Result (List (List (List ℕ))) Refutation
 rows_of_file refutes header text = refuted_by refutes (rows_under header (records_in 44 text))
 
--- a reason of the rows of a file (clauses `kind`)
+-- machinery of the steps: a reason of the rows of a file (clauses `kind`)
 abbrev pub IsOfRows : Refutation → Type 0
 IsOfRows (refutation.Uncovered at) = ⊥
 IsOfRows r = ⊤
 
--- a candidate that is named has records of both files (clauses `within`)
+-- a candidate that is named has records of both files
 abbrev pub IsRefutationWithin : ℕ → ℕ → Refutation → Type 0
 IsRefutationWithin rows_a rows_b (refutation.Uncovered at) = (at.a < rows_a) × (at.b < rows_b)
 IsRefutationWithin rows_a rows_b r = ⊤
