@@ -7,14 +7,10 @@ mod ids;
 mod known;
 mod laws;
 mod layout;
-#[cfg(test)]
-mod record_tests;
 mod records;
 mod region;
 mod rows;
 mod table;
-#[cfg(test)]
-mod tests;
 
 pub use header::has_column;
 pub use known::known_record;

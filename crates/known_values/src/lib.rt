@@ -22,6 +22,8 @@ mod plain_types;
 #[cfg(test)]
 mod proposed_links;
 #[cfg(test)]
+mod records_of_texts;
+#[cfg(test)]
 mod rows_by_key;
 #[cfg(test)]
 mod written_pairs;
