@@ -12,7 +12,7 @@ use Rattle.settings.specs.Ranges.{IsSettingsFault, KeepsRanges}
 use Rattle.settings.specs.declared.plan.Plan.{Plan}
 use Rattle.link_base.specs.Tables.{AreWordPairs}
 use Rattle.settings.proofs.KeyFaults.{plan_key}
-use Rattle.settings.proofs.Ranges.{plan_is}
+use Rattle.settings.proofs.Ranges.{read_plan}
 
 key_fault : (r : Result Plan Fault) (f : Fault) → NamesKey r → r ≡ Err f → IsKeyFault f
 unfolding NamesKey
@@ -34,10 +34,6 @@ none_is : (o : Option Members) → plan_or_not_toml o ≡ Err fault.NotToml → 
 none_is None e = cc
 none_is (Some t) e = absurd (key_fault (plan_of t []) fault.NotToml (plan_key t []) e)
 
-kept_is : (o : Option Members) (x : Plan) → plan_or_not_toml o ≡ Ok x → AreWordPairs x.tables.names → AreWordPairs x.tables.places → KeepsRanges x
-kept_is None x e = absurd cc
-kept_is (Some t) x e = plan_is t [] x e
-
 refused : (expected : Result Plan Fault) (f : Fault) → IsAnswer expected (Err f) → ((g : Fault) → expected ≡ Err g → IsSettingsFault g) → IsSettingsFault f
 refused expected fault.NoMemory h all = tt
 refused expected f h all = all f h
@@ -47,7 +43,7 @@ answer_kind bytes (Ok x) h = tt
 answer_kind bytes (Err f) h = refused (settings bytes) f h (fault_is (document bytes))
 
 pub answer_ranges : (bytes : List ℕ) (result : Result Plan Fault) → IsAnswer (settings bytes) result → IfOk result (λ (plan : Plan). AreWordPairs plan.tables.names) → IfOk result (λ (plan : Plan). AreWordPairs plan.tables.places) → IfOk result KeepsRanges
-answer_ranges bytes (Ok x) h names places = kept_is (document bytes) x h names places
+answer_ranges bytes (Ok x) h names places = (read_plan bytes x h).ranges names places
 answer_ranges bytes (Err f) h names places = tt
 
 pub answer_not_toml : (bytes : List ℕ) (result : Result Plan Fault) → IsAnswer (settings bytes) result → result ≡ Err fault.NotToml → document bytes ≡ None

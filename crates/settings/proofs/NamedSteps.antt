@@ -8,8 +8,9 @@ use Rattle.link_base.specs.declared.plan.KeyKind.{KeyKind}
 use Rattle.link_base.specs.Fault.{Refuses}
 use Rattle.settings_readers.specs.Parts.{◌>>=◌, absent, needed}
 use Rattle.settings_readers.specs.Values.{choice, whole}
-use Rattle.settings.specs.Field.{compare_by, comparison, rare_number, span}
-use Rattle.settings.specs.Pass.{key_by, key_of}
+use Rattle.settings.specs.Field.{compare_by, rare_number}
+use Rattle.settings.specs.Pass.{key_by}
+use Rattle.settings.specs.PlanParts.{comparison, key_of, span}
 use Rattle.settings.specs.Words.{compare_named, key_named}
 use Rattle.settings.specs.declared.words.Kind.{Kind}
 use Rattle.settings.proofs.Chains.{later_given, later_refused, then_made, then_made_refused}

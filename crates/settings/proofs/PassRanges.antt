@@ -16,7 +16,7 @@ use Rattle.settings_readers.specs.Values.{choice, whole}
 use Rattle.settings_readers.specs.Lists.{on_table}
 use Rattle.settings_readers.proofs.Kept.{array_keeps, choice_keeps, IsWithin, named_keeps, needed_keeps, on_table_keeps, Reads, then_ok, whole_keeps}
 use Rattle.settings.specs.Plan.{FieldKeys}
-use Rattle.settings.specs.Words.{date_keys, key_named, name_keys, is_one_of, part_keys, pass_keys}
+use Rattle.settings.specs.Words.{date_key_words, key_named, name_key_words, is_one_of, part_keys, pass_keys}
 use Rattle.settings.specs.Pass.{field_named, first_key, plain_key, key_by, part, parts, pass, passes}
 use Rattle.settings.specs.Ranges.{is_keyed, IsPart, IsPass}
 use Rattle.settings.specs.declared.limits.TheConstants.{MOST_LETTERS, MOST_PARTS, MOST_PASSES}
@@ -59,16 +59,16 @@ key_suits false w = true
 abbrev KeySuits : Bool → KeyWord → Type 0
 KeySuits date w = key_suits date w ≡ true
 
-name_keys_suit : AllByRecursion (λ (c : List ℕ × KeyWord). KeySuits false c.1) name_keys
-name_keys_suit = (refl, (refl, (refl, (refl, tt))))
+name_words_suit : AllByRecursion (λ (c : List ℕ × KeyWord). KeySuits false c.1) name_key_words
+name_words_suit = (refl, (refl, (refl, (refl, tt))))
 
-date_keys_suit : AllByRecursion (λ (c : List ℕ × KeyWord). KeySuits true c.1) date_keys
-date_keys_suit = (refl, (refl, tt))
+date_words_suit : AllByRecursion (λ (c : List ℕ × KeyWord). KeySuits true c.1) date_key_words
+date_words_suit = (refl, (refl, tt))
 
 keys_suit : (s : FieldSort) (text : List ℕ) (w : KeyWord) → key_named s text ≡ Some w → KeySuits (is_date s) w
-keys_suit sort.Name text w e = named_keeps (KeySuits false) name_keys name_keys_suit text w e
-keys_suit sort.Place text w e = named_keeps (KeySuits false) name_keys name_keys_suit text w e
-keys_suit (sort.Date a b) text w e = named_keeps (KeySuits true) date_keys date_keys_suit text w e
+keys_suit sort.Name text w e = named_keeps (KeySuits false) name_key_words name_words_suit text w e
+keys_suit sort.Place text w e = named_keeps (KeySuits false) name_key_words name_words_suit text w e
+keys_suit (sort.Date a b) text w e = named_keeps (KeySuits true) date_key_words date_words_suit text w e
 
 plain_key_is : (k : KeyKind) (t : Members) (above : List ℕ) (x : KeyKind) → plain_key k t above ≡ Ok x → k ≡ x
 unfolding plain_key

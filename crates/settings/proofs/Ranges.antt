@@ -16,7 +16,7 @@ use Rattle.settings.specs.Words.{delimiters, delimiter_named, is_one_of, top_key
 use Rattle.settings.specs.Field.{fields}
 use Rattle.settings.specs.Pass.{passes}
 use Rattle.settings.specs.Ranges.{AreFiles, files_read, is_delimiter, IsFileName, IsLabel, KeepsRanges}
-use Rattle.settings.specs.Settings.{file_keys, is_free, journal_of, sources, numbers, tables, plan_of}
+use Rattle.settings.specs.Settings.{document, file_keys, is_free, journal_of, sources, numbers, tables, plan_of, plan_or_not_toml, settings}
 use Rattle.settings.specs.Values.{text}
 use Rattle.settings.specs.declared.limits.TheConstants.{MOST_AWARD, MOST_SEED}
 use Rattle.settings.specs.declared.plan.Plan.{Plan}
@@ -148,10 +148,16 @@ numbers_are t above x e =
     let award_is = defaulted_keeps (IsWithin 0 MOST_AWARD) (whole 0 MOST_AWARD) (whole_keeps 0 MOST_AWARD) 500 (omega arith, omega arith) t above (codes "award") award.0 award.1 in
     rw (← same) (record { mu = mu_is.1; lambda = lambda_is.1; seed = seed_is.1; award = award_is.1 })
 
--- the pairs of the word tables are known to be words that rise; the rest follows from the tests
-pub plan_is : (t : Members) (above : List ℕ) (x : Plan) → plan_of t above ≡ Ok x → AreWordPairs x.tables.names → AreWordPairs x.tables.places → KeepsRanges x
+-- what a plan keeps by the settings alone; that the pairs of its word tables rise is a fact of their type
+pub record IsReadPlan (plan : Plan) : Type 0 where
+  pub files : AreFiles plan.file_a plan.file_b plan.sample plan.journal
+  pub award : plan.award ≤ MOST_AWARD
+  pub few_fields : length plan.fields ≤ MOST_FIELDS
+  pub ranges : AreWordPairs plan.tables.names → AreWordPairs plan.tables.places → KeepsRanges plan
+
+plan_is : (t : Members) (above : List ℕ) (x : Plan) → plan_of t above ≡ Ok x → IsReadPlan x
 unfolding plan_of
-plan_is t above x e names places =
+plan_is t above x e =
     let listed = then_ok (known (is_one_of top_keys) t above) _ x e in
     let s = then_ok (sources t above) _ x listed.2 in
     let n = then_ok (numbers t above) _ x s.2 in
@@ -182,24 +188,35 @@ plan_is t above x e names places =
       passes = ps.0;
     } in
     let same : made ≡ x = ok_same made x ps.2 in
-    let kept : AreWordPairs made.tables.names → AreWordPairs made.tables.places → KeepsRanges made = λ in_names in_places. record {
+    let kept : IsReadPlan made = record {
       files = sourced.files;
-      id_a = sourced.id_a;
-      id_b = sourced.id_b;
-      delimiter_a = sourced.delimiter_a;
-      delimiter_b = sourced.delimiter_b;
-      mu = numbered.mu;
-      lambda = numbered.lambda;
-      seed = numbered.seed;
       award = numbered.award;
-      tables = tables_are t above w.0 w.1 in_names in_places;
-      some_fields = fields_kept.1;
       few_fields = fields_kept.2;
-      fields = fields_kept.0.fields;
-      distinct_fields = fields_kept.0.distinct;
-      some_passes = passes_kept.1;
-      few_passes = passes_kept.2;
-      passes = passes_kept.0;
+      ranges = λ in_names in_places. record {
+        files = sourced.files;
+        id_a = sourced.id_a;
+        id_b = sourced.id_b;
+        delimiter_a = sourced.delimiter_a;
+        delimiter_b = sourced.delimiter_b;
+        mu = numbered.mu;
+        lambda = numbered.lambda;
+        seed = numbered.seed;
+        award = numbered.award;
+        tables = tables_are t above w.0 w.1 in_names in_places;
+        some_fields = fields_kept.1;
+        few_fields = fields_kept.2;
+        fields = fields_kept.0.fields;
+        distinct_fields = fields_kept.0.distinct;
+        some_passes = passes_kept.1;
+        few_passes = passes_kept.2;
+        passes = passes_kept.0;
+      };
     } in
-    let P : Plan → Type 0 = λ y. AreWordPairs y.tables.names → AreWordPairs y.tables.places → KeepsRanges y in
-    subst P {x = made} {y = x} same kept names places
+    subst IsReadPlan {x = made} {y = x} same kept
+
+table_is : (o : Option Members) (x : Plan) → plan_or_not_toml o ≡ Ok x → IsReadPlan x
+table_is None x e = absurd cc
+table_is (Some t) x e = plan_is t [] x e
+
+pub read_plan : (bytes : List ℕ) (plan : Plan) → settings bytes ≡ Ok plan → IsReadPlan plan
+read_plan bytes plan e = table_is (document bytes) plan e

@@ -58,10 +58,6 @@ by_letters t above = do
   no_t ← absent t above (codes "t")
   Ok (by.FirstLetters n)
 
--- how far apart two values that agree may be; letters are not counted beside it
-abbrev pub span : ℕ → Members → List ℕ → Result ℕ Fault
-span most t above = absent t above (codes "n") >>= λ no_n. needed (whole 0 most) t above (codes "t")
-
 unfoldable pub by_days : Members → List ℕ → Result CompareKind Fault
 by_days t above = do
   no_n ← absent t above (codes "n")
@@ -144,14 +140,6 @@ name_keys before t above = do
   column_b ← defaulted (text rule.Label) name t above (codes "column_b")
   Ok (record { name = name; column_a = column_a; column_b = column_b })
 
--- the comparison of a field of a kind, and its rare number
-unfoldable pub comparison : Kind → Members → List ℕ → Result (CompareKind × Option ℕ) Fault
-comparison kind t above = do
-  word ← needed (choice (compare_named kind)) t above (codes "compare")
-  compare ← compare_by word t above
-  rare ← rare_number compare t above
-  Ok (compare, rare)
-
 -- what a field holds, how it is compared, and its rare number
 unfoldable pub compare_keys : Members → List ℕ → Result CompareKeys Fault
 compare_keys t above = do
@@ -161,13 +149,6 @@ compare_keys t above = do
   compare ← compare_by word t above
   rare ← rare_number compare t above
   Ok (record { sort = sort; compare = compare; rare = rare })
-
--- how a field is compared, and its shares
-unfoldable pub measure_keys : Bool → Members → List ℕ → Result (CompareKeys × Option PlainShares) Fault
-measure_keys sampled t above = do
-  compared ← compare_keys t above
-  shares ← field_shares sampled (is_some compared.rare) t above
-  Ok (compared, shares)
 
 -- a field, after those before it; sampled says that the settings name a sample
 unfoldable pub field : Bool → List FieldKeys → Members → List ℕ → Result FieldKeys Fault

@@ -36,12 +36,6 @@ key_by key.Nysiis = plain_key by.Nysiis
 key_by key.First = first_key
 key_by key.Year = plain_key by.Year
 
--- the key of a field of a sort
-unfoldable pub key_of : FieldSort → Members → List ℕ → Result KeyKind Fault
-key_of sort t above = do
-  word ← needed (choice (key_named sort)) t above (codes "key")
-  key_by word t above
-
 unfoldable pub part : List FieldKeys → Members → List ℕ → Result Part Fault
 part fields t above = do
   listed ← known (is_one_of part_keys) t above

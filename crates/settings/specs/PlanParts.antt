@@ -1,18 +1,23 @@
--- What the bodies of `top.rt` alone need: the keys of the top table, taken together in parts.
-use Rattle.std.specs.Prelude.{List, ℕ, Bool, ◌∷◌, codes, is_some, option_to_list, Result, Ok}
+-- What bodies alone need: the keys of a table, and the parts of a plan, taken together in parts, each by the one clause of the
+-- function of its name (of `top.rt`: `sources` for `sources_in_parts`, `replace_tables` for `tables_over`, `plan_of` for `plan_in_parts`).
+use Rattle.std.specs.Prelude.{List, ℕ, Bool, ◌∷◌, codes, Option, is_some, option_to_list, Result, Ok}
 use Rattle.toml.specs.Data.{Members}
 use Rattle.link_base.specs.declared.fault.Fault.{Fault}
+use Rattle.link_base.specs.declared.plan.CompareKind.{CompareKind}
+use Rattle.link_base.specs.declared.plan.FieldSort.{FieldSort}
+use Rattle.link_base.specs.declared.plan.KeyKind.{KeyKind}
 use Rattle.link_base.specs.declared.plan.Part.{Part}
 use Rattle.link_base.specs.declared.tables.Tables.{Tables}
-use Rattle.settings_readers.specs.Parts.{◌>>=◌, needed, optional, defaulted, known}
-use Rattle.settings_readers.specs.Values.{choice}
+use Rattle.settings_readers.specs.Parts.{◌>>=◌, absent, defaulted, known, needed, optional}
+use Rattle.settings_readers.specs.Values.{choice, whole}
 use Rattle.settings.specs.Values.{text}
-use Rattle.settings.specs.Words.{delimiter_named, is_one_of, top_keys}
+use Rattle.settings.specs.Words.{compare_named, delimiter_named, is_one_of, key_named, top_keys}
 use Rattle.settings.specs.WordTables.{texts, word_table}
-use Rattle.settings.specs.Field.{fields}
-use Rattle.settings.specs.Plan.{FieldKeys}
-use Rattle.settings.specs.Pass.{passes}
+use Rattle.settings.specs.Field.{compare_by, compare_keys, field_shares, fields, rare_number}
+use Rattle.settings.specs.Plan.{FieldKeys, PlainShares}
+use Rattle.settings.specs.Pass.{key_by, passes}
 use Rattle.settings.specs.Settings.{file_keys, journal_of, numbers, tables, plan_from}
+use Rattle.settings.specs.declared.fields.CompareKeys.{CompareKeys}
 use Rattle.settings.specs.declared.limits.TheConstants.{MOST_LISTED_WORDS, MOST_MARKS}
 use Rattle.settings.specs.declared.plan.Plan.{Plan}
 use Rattle.settings.specs.declared.texts.TextRule.TheVariants as rule
@@ -20,6 +25,9 @@ use Rattle.settings.specs.declared.top.FileKeys.{FileKeys}
 use Rattle.settings.specs.declared.top.LinkKeys.{LinkKeys}
 use Rattle.settings.specs.declared.top.OtherSources.{OtherSources}
 use Rattle.settings.specs.declared.top.SourceKeys.{SourceKeys}
+use Rattle.settings.specs.declared.within.NamesWithin.{NamesWithin}
+use Rattle.settings.specs.declared.within.SidesWithin.{SidesWithin}
+use Rattle.settings.specs.declared.words.Kind.{Kind}
 
 -- the keys on files after the two and their ids
 unfoldable pub other_sources : FileKeys → Members → List ℕ → Result OtherSources Fault
@@ -68,3 +76,50 @@ plan_in_parts t above = do
   s ← sources_in_parts t above
   l ← link_keys (is_some s.sample) t above
   Ok (plan_from s l.numbers l.tables l.fields l.passes)
+
+-- how far apart two values that agree may be; letters are not counted beside it
+abbrev pub span : ℕ → Members → List ℕ → Result ℕ Fault
+span most t above = absent t above (codes "n") >>= λ no_n. needed (whole 0 most) t above (codes "t")
+
+-- the comparison of a field of a kind, and its rare number
+unfoldable pub comparison : Kind → Members → List ℕ → Result (CompareKind × Option ℕ) Fault
+comparison kind t above = do
+  word ← needed (choice (compare_named kind)) t above (codes "compare")
+  compare ← compare_by word t above
+  rare ← rare_number compare t above
+  Ok (compare, rare)
+
+-- how a field is compared, and its shares
+unfoldable pub measure_keys : Bool → Members → List ℕ → Result (CompareKeys × Option PlainShares) Fault
+measure_keys sampled t above = do
+  compared ← compare_keys t above
+  shares ← field_shares sampled (is_some compared.rare) t above
+  Ok (compared, shares)
+
+-- the key of a field of a sort
+unfoldable pub key_of : FieldSort → Members → List ℕ → Result KeyKind Fault
+key_of sort t above = do
+  word ← needed (choice (key_named sort)) t above (codes "key")
+  key_by word t above
+
+-- the file and its ids on both sides
+abbrev pub sides_of_a : Plan → SidesWithin
+sides_of_a plan = record { file_a = plan.file_a; file_b = plan.file_a; id_a = plan.id_a; id_b = plan.id_a }
+
+abbrev pub names_of_a : Plan → NamesWithin
+names_of_a plan = record { sides = sides_of_a plan; sample = plan.sample; journal = plan.journal }
+
+-- other names, tables, fields and passes, and the delimiter of A on both sides
+abbrev pub plan_of_parts : Plan → NamesWithin → Tables → List FieldKeys → List (List Part) → Plan
+plan_of_parts plan names tables fields passes = record plan {
+  file_a = names.sides.file_a;
+  file_b = names.sides.file_b;
+  id_a = names.sides.id_a;
+  id_b = names.sides.id_b;
+  delimiter_b = plan.delimiter_a;
+  sample = names.sample;
+  journal = names.journal;
+  tables = tables;
+  fields = fields;
+  passes = passes;
+}

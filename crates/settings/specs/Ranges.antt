@@ -1,6 +1,6 @@
 -- The ranges of the settings, whole: what every plan of a settings file keeps (`read_settings`, clause `ranges`), and the
--- faults of one (clause `kind`). A run writes five outputs and its journal, and by `AreFiles` none of them is a file that
--- it reads.
+-- faults of one (clause `kind`). By `AreFiles` no file that is read, the journal among them, has the name of one of the five
+-- files that a run writes, and the journal, which `review` and `migrate` alone write, has the name of no other file that is read.
 use Rattle.std.specs.Prelude.{◌≡◌, ◌≢◌, ◌<◌, ◌≤◌, ℕ, List, ◌∷◌, length, Bool, true, false, not, Option, is_some, option_to_list, IfSome, IsTrue, IsUtf8, All, AllPairs, nat_le, ◌&&◌, ◌||◌, ◌==◌, ⊤}
 use Rattle.std.specs.List.{HoldsAt}
 use Rattle.link_base.specs.Shares.{IsShares, outcomes_of}
@@ -24,17 +24,17 @@ use Rattle.settings.specs.Values.{is_name_byte, is_output}
 use Rattle.settings.specs.declared.limits.TheConstants.{LEAST_RARE, MOST_AWARD, MOST_DAYS, MOST_FIELD_NAME_BYTES, MOST_LABEL_BYTES, MOST_LETTERS, MOST_LISTED_WORDS, MOST_MARK_BYTES, MOST_MARKS, MOST_PARTS, MOST_PASSES, MOST_RARE, MOST_SEED, MOST_WORD_PAIRS, MOST_YEARS}
 use Rattle.settings.specs.declared.plan.Plan.{Plan}
 
--- the name of a file that a run reads, or of its journal: no file that the run writes anew
+-- the name of a file that is read: of none that a run writes
 pub record IsFileName (name : List ℕ) : Type 0 where
   pub some : 1 ≤ length name
   pub short : length name ≤ MOST_NAME_BYTES
   pub no_output : is_output name ≡ false
 
--- the files that a run reads: A, B, and the sample where there is one
+-- the files that are read beside the journal: A, B, and the sample where there is one
 abbrev pub files_read : List ℕ → List ℕ → Option (List ℕ) → List (List ℕ)
 files_read file_a file_b sample = file_a ∷ file_b ∷ option_to_list sample
 
--- the files of a run; the journal is none of those that are read
+-- the files that the settings name; the name of the journal is that of none of the others
 pub record AreFiles (name_a name_b : List ℕ) (name_of_sample name_of_journal : Option (List ℕ)) : Type 0 where
   pub file_a : IsFileName name_a
   pub file_b : IsFileName name_b

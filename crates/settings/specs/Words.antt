@@ -63,17 +63,17 @@ compare_named kind.Place = name_compare
 compare_named kind.Date = date_compare
 
 -- keys of names and places, and of dates
-abbrev pub name_keys : List (List ℕ × KeyWord)
-name_keys = (codes "whole", key.Whole) ∷ (codes "soundex", key.Soundex) ∷ (codes "nysiis", key.Nysiis) ∷ (codes "first", key.First) ∷ []
+abbrev pub name_key_words : List (List ℕ × KeyWord)
+name_key_words = (codes "whole", key.Whole) ∷ (codes "soundex", key.Soundex) ∷ (codes "nysiis", key.Nysiis) ∷ (codes "first", key.First) ∷ []
 
 abbrev pub name_key : List ℕ → Option KeyWord
-name_key = named_in name_keys
+name_key = named_in name_key_words
 
-abbrev pub date_keys : List (List ℕ × KeyWord)
-date_keys = (codes "whole", key.Whole) ∷ (codes "year", key.Year) ∷ []
+abbrev pub date_key_words : List (List ℕ × KeyWord)
+date_key_words = (codes "whole", key.Whole) ∷ (codes "year", key.Year) ∷ []
 
 abbrev pub date_key : List ℕ → Option KeyWord
-date_key = named_in date_keys
+date_key = named_in date_key_words
 
 abbrev pub key_named : FieldSort → List ℕ → Option KeyWord
 key_named sort.Name = name_key

@@ -5,7 +5,8 @@ ghost use Rattle.std.specs.Str.{bytes_eq};
 ghost use Rattle.toml.specs.View.{table_view};
 ghost use Rattle.link_base.specs.Fault.{Gives, IsAnswer};
 ghost use Rattle.settings.specs.Plan.{plain_shares};
-ghost use Rattle.settings.specs.Field.{new_name, name_keys, compare_keys, given_shares, no_shares, field_shares, measure_keys, field, fields};
+ghost use Rattle.settings.specs.Field.{new_name, name_keys, compare_keys, given_shares, no_shares, field_shares, field, fields};
+ghost use Rattle.settings.specs.PlanParts.{measure_keys};
 
 use crate::kinds::{comparison, sort_of};
 use crate::plan::{FieldList, FieldPlan};

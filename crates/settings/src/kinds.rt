@@ -2,7 +2,8 @@
 ghost use Rattle.std.specs.Prelude.{◌≡◌};
 ghost use Rattle.toml.specs.View.{table_view};
 ghost use Rattle.link_base.specs.Fault.{IsAnswer};
-ghost use Rattle.settings.specs.Field.{date_sort, plain_sort, sort_of, by_letters, span, by_days, by_years, plain_compare, compare_by, may_be_rare, rare_number, comparison};
+ghost use Rattle.settings.specs.Field.{date_sort, plain_sort, sort_of, by_letters, by_days, by_years, plain_compare, compare_by, may_be_rare, rare_number};
+ghost use Rattle.settings.specs.PlanParts.{comparison, span};
 
 use crate::limits::{LEAST_RARE, MOST_DAYS, MOST_RARE, MOST_YEARS};
 use crate::texts::Letters;
@@ -128,7 +129,7 @@ fn rare_number(alloc: Global, compare: CompareKind, keys: &Keys) -> Result<Optio
 }
 
 /// The comparison of a field of a kind, and its rare number.
-#[tactic(auto, unfolding(crate::specs::Field::comparison))]
+#[tactic(auto, unfolding(crate::specs::PlanParts::comparison))]
 pub(crate) fn comparison(
     alloc: Global,
     kind: Kind,

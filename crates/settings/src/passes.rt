@@ -2,7 +2,8 @@
 ghost use Rattle.std.specs.Prelude.{◌≡◌};
 ghost use Rattle.toml.specs.View.{table_view};
 ghost use Rattle.link_base.specs.Fault.{IsAnswer};
-ghost use Rattle.settings.specs.Pass.{field_named, first_key, plain_key, key_by, key_of, part, parts, pass, passes};
+ghost use Rattle.settings.specs.Pass.{field_named, first_key, plain_key, key_by, part, parts, pass, passes};
+ghost use Rattle.settings.specs.PlanParts.{key_of};
 
 use crate::limits::{MOST_PARTS, MOST_PASSES};
 use crate::plan::FieldList;
@@ -76,7 +77,7 @@ fn key_by(alloc: Global, word: KeyWord, keys: &Keys) -> Result<KeyKind, Fault>
 }
 
 // The key of a field of a sort.
-#[tactic(auto, unfolding(crate::specs::Pass::key_of))]
+#[tactic(auto, unfolding(crate::specs::PlanParts::key_of))]
 fn key_of(alloc: Global, sort: FieldSort, keys: &Keys) -> Result<KeyKind, Fault>
     ensures { IsAnswer (key_of sort (table_view keys.now.table.now) keys.now.above.now) result }
 {

@@ -11,6 +11,7 @@ ghost use Rattle.settings.specs.Values.{is_output, is_name_byte, fits, text};
 
 use crate::limits::{
     MOST_FIELD_NAME_BYTES, MOST_LABEL_BYTES, MOST_LETTERS, MOST_MARK_BYTES, MOST_SEED,
+    MOST_WORD_BYTES,
 };
 use link_base::{Fault, NoMemory, Text};
 use link_limits::MOST_NAME_BYTES;
@@ -92,7 +93,7 @@ pub(crate) fn fits(rule: TextRule, text: &str) -> bool
         TextRule::File => 1 <= len && len <= MOST_NAME_BYTES && !is_output(text),
         TextRule::Label => 1 <= len && len <= MOST_LABEL_BYTES,
         TextRule::Mark => len <= MOST_MARK_BYTES,
-        TextRule::Word => 1 <= len && len <= 32 && has_word_bytes(text.as_bytes()),
+        TextRule::Word => 1 <= len && len <= MOST_WORD_BYTES && has_word_bytes(text.as_bytes()),
         TextRule::FieldName => {
             1 <= len && len <= MOST_FIELD_NAME_BYTES && has_name_bytes(text.as_bytes())
         }

@@ -2,7 +2,8 @@ use Rattle.std.proofs.Common.{refl}
 use Rattle.std.specs.Prelude.{is_some}
 use Rattle.toml.specs.View.{table_view}
 use Rattle.link_base.proofs.AnswerFacts.{refuses_then}
-use Rattle.settings.specs.Field.{compare_keys, field, field_shares, measure_keys}
+use Rattle.settings.specs.Field.{compare_keys, field, field_shares}
+use Rattle.settings.specs.PlanParts.{measure_keys}
 use Rattle.settings.proofs.Chains.{both_given, both_refused, handed_on, then_given, then_refused}
 use Rattle.settings.proofs.fields.field.Goals as goal
 

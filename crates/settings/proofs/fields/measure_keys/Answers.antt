@@ -1,7 +1,8 @@
 use Rattle.std.proofs.Common.{◌∙◌, Bool, ap, refl, sym}
 use Rattle.toml.specs.View.{table_view}
 use Rattle.link_base.proofs.AnswerFacts.{refuses_then}
-use Rattle.settings.specs.Field.{field_shares, measure_keys}
+use Rattle.settings.specs.Field.{field_shares}
+use Rattle.settings.specs.PlanParts.{measure_keys}
 use Rattle.settings.proofs.Chains.{refused_same, then_given, then_refused}
 use Rattle.settings.proofs.fields.measure_keys.Goals as goal
 

@@ -1,6 +1,6 @@
 use Rattle.std.proofs.Common.{refl}
 use Rattle.link_base.proofs.AnswerFacts.{refuses_then}
-use Rattle.settings.specs.Field.{comparison}
+use Rattle.settings.specs.PlanParts.{comparison}
 use Rattle.settings.proofs.Chains.{then_given, then_refused}
 use Rattle.settings.proofs.kinds.comparison.Goals as goal
 
