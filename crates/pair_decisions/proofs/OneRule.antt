@@ -6,6 +6,7 @@ use Rattle.std.specs.List.Sorted.{IsPermutation}
 use Rattle.std.proofs.lemmas.List.{length-map}
 use Rattle.link_base.specs.declared.rule.RuleCell.{RuleCell}
 use Rattle.link_base.specs.declared.shares.FieldShares.{FieldShares}
+use Rattle.link_limits.specs.declared.TheConstants.{WHOLE_FIELD, WHOLE_RULE}
 use Rattle.decision_rule.specs.Filled.{Chances, IsFilled, LinksAreCut, NonlinksAreCut, asked_of, chances_at, chances_of}
 use Rattle.decision_rule.proofs.OneFilled.{one_filled}
 use Rattle.patterns.specs.Chances.{chance_of, pattern_count_of, rare_in, weight_of}
@@ -58,7 +59,7 @@ same_length xs ys e = sym (length-map xs plain_shares) ∙ ap length e ∙ lengt
 
 same_filled : (xs ys : List FieldShares) (mu lambda : ℕ) (cells : List RuleCell) → plain_all xs ≡ plain_all ys → IsFilled xs mu lambda cells → IsFilled ys mu lambda cells
 same_filled xs ys mu lambda cells e h =
-    let asked : (ppm : ℕ) → asked_of xs ppm ≡ asked_of ys ppm = λ ppm. ap (λ n. ppm * 1024 ^ n * 65536) (same_length xs ys e) in
+    let asked : (ppm : ℕ) → asked_of xs ppm ≡ asked_of ys ppm = λ ppm. ap (λ n. ppm * WHOLE_FIELD ^ n * WHOLE_RULE) (same_length xs ys e) in
     record {
       patterns = subst (λ (all : List Chances). IsPermutation all (map chances_of cells)) (λ i. map (λ p. same_chances xs ys e p i) (range_with_len 0 (same_counts xs ys e i))) h.patterns;
       in_order = h.in_order;

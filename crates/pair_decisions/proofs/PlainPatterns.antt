@@ -4,6 +4,7 @@ use Rattle.std.specs.Prelude.{◌+ℤ◌}
 use Rattle.std.specs.List.{range_with_len}
 use Rattle.std.proofs.lemmas.List.{length-map}
 use Rattle.link_base.specs.declared.shares.FieldShares.{FieldShares}
+use Rattle.link_limits.specs.declared.TheConstants.{PER_MILLION, WHOLE_FIELD, WHOLE_RULE}
 use Rattle.decision_rule.specs.Filled.{asked_of, chances_at, chances_of}
 use Rattle.decision_rule.proofs.FilledLemmas.{all_chances}
 use Rattle.patterns.specs.Chances.{chance_of, pattern_count_of, weight_of}
@@ -43,5 +44,5 @@ all_chances_are xs =
     map_via (cell_of_pattern (plain_all xs)) chances_of (range_with_len 0 (plain_count (plain_all xs))) ∙ (λ i. map (λ p. chances_are xs p i) (range_with_len 0 (count_is xs i)))
 
 -- the room is what the level asks for
-pub room_is : (xs : List FieldShares) (ppm : ℕ) → room_for (plain_all xs) ppm ≡ asked_of xs ppm / 1000000
-room_is xs ppm = ap (λ n. ppm * 1024 ^ n * 65536 / 1000000) (length-map xs plain_shares)
+pub room_is : (xs : List FieldShares) (ppm : ℕ) → room_for (plain_all xs) ppm ≡ asked_of xs ppm / PER_MILLION
+room_is xs ppm = ap (λ n. ppm * WHOLE_FIELD ^ n * WHOLE_RULE / PER_MILLION) (length-map xs plain_shares)

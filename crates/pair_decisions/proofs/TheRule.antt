@@ -6,6 +6,7 @@ use Rattle.std.proofs.lemmas.List.Elements.{recursion_from_All}
 use Rattle.std.proofs.lemmas.List.Sorted.{All-permutation, IsPermutation-reverse}
 use Rattle.link_base.specs.declared.rule.RuleCell.{RuleCell}
 use Rattle.link_base.specs.declared.shares.FieldShares.{FieldShares}
+use Rattle.link_limits.specs.declared.TheConstants.{WHOLE_RULE}
 use Rattle.decision_rule.specs.Filled.{Chances, IsFilled, asked_of, chances_of}
 use Rattle.decision_rule.specs.Walk.{CutBy}
 use Rattle.decision_rule.proofs.CutLemmas.{walk_from_IsCut}
@@ -52,10 +53,10 @@ given_again put share bound weight before after b w p (c ∷ cells) room h =
 abbrev without_nonlink : RuleCell → RuleCell
 without_nonlink c = record c { nonlink = 0 }
 
-links_again : (cells : List RuleCell) (room : ℕ) → CutBy (λ (c : RuleCell). c.link) (λ (c : RuleCell). 65536) (λ (c : RuleCell). c.u) cells room → with_links (map bare cells) room ≡ map without_nonlink cells
+links_again : (cells : List RuleCell) (room : ℕ) → CutBy (λ (c : RuleCell). c.link) (λ (c : RuleCell). WHOLE_RULE) (λ (c : RuleCell). c.u) cells room → with_links (map bare cells) room ≡ map without_nonlink cells
 links_again = given_again (λ (c : RuleCell) n. record c { link = n }) _ _ _ bare without_nonlink (λ c. refl) (λ c. refl) (λ c. refl)
 
-nonlinks_again : (cells : List RuleCell) (room : ℕ) → CutBy (λ (c : RuleCell). c.nonlink) (λ (c : RuleCell). 65536 - c.link) (λ (c : RuleCell). c.m) cells room → with_nonlinks (map without_nonlink cells) room ≡ cells
+nonlinks_again : (cells : List RuleCell) (room : ℕ) → CutBy (λ (c : RuleCell). c.nonlink) (λ (c : RuleCell). WHOLE_RULE - c.link) (λ (c : RuleCell). c.m) cells room → with_nonlinks (map without_nonlink cells) room ≡ cells
 nonlinks_again cells room h = given_again (λ (c : RuleCell) n. record c { nonlink = n }) _ _ _ without_nonlink (λ c. c) (λ c. refl) (λ c. refl) (λ c. refl) cells room h ∙ map-id cells
 
 turned : (f : RuleCell → RuleCell) (cells : List RuleCell) → reverse (map f cells) ≡ map f (reverse cells)
