@@ -19,9 +19,9 @@ fn have_one_each(edges: &[Edge]) -> bool {
     true
 }
 
-/// So many rows where room for them is needed.
-fn rows_if(is_needed: bool, rows: usize) -> usize {
-    if is_needed { rows } else { 0 }
+/// So many records where room for them is needed.
+fn records_if(is_needed: bool, records: usize) -> usize {
+    if is_needed { records } else { 0 }
 }
 
 /// Room for searches and for a proposal.
@@ -45,8 +45,8 @@ pub(crate) fn room_for_side(
     let tree = clean_tree(alloc, rows_a, rows_b, edges.len())?;
     match Spare::new(
         alloc,
-        rows_if(is_needed, rows_a),
-        rows_if(is_needed, rows_b),
+        records_if(is_needed, rows_a),
+        records_if(is_needed, rows_b),
     ) {
         Ok(spare) => Ok(SideRoom { tree, spare }),
         Err(error) => {

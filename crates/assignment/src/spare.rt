@@ -3,7 +3,7 @@ ghost use Rattle.std.specs.Prelude.{◌≡◌, length};
 ghost use Rattle.assignment_steps.specs.Between.{IsBetween};
 ghost use Rattle.assignment_steps.specs.Joined.{IsFor};
 
-use assignment_levels::Levels;
+use assignment_levels::Proposer;
 use assignment_steps::{Board, adopt_proposal};
 use link_base::NoMemory;
 use std::alloc::Global;
@@ -11,7 +11,7 @@ use std::alloc::Global;
 /// Room for a proposal, and for its links as links of the edges. It is not touched before one is asked for.
 #[derive(Drop)]
 pub struct Spare {
-    levels: Levels,
+    proposer: Proposer,
     link_a: Vec<Option<usize>>,
     link_b: Vec<Option<usize>>,
 }
@@ -21,9 +21,9 @@ impl Spare {
     pub(crate) fn new(alloc: Global, rows_a: usize, rows_b: usize) -> Result<Spare, NoMemory> {
         let link_a = Vec::with_capacity(alloc, rows_a)?;
         let link_b = Vec::with_capacity(alloc, rows_b)?;
-        match Levels::new(alloc, rows_a, rows_b) {
-            Ok(levels) => Ok(Spare {
-                levels,
+        match Proposer::new(alloc, rows_a, rows_b) {
+            Ok(proposer) => Ok(Spare {
+                proposer,
                 link_a,
                 link_b,
             }),
@@ -37,8 +37,8 @@ impl Spare {
 }
 
 /// Puts so many records without a link there, within the room that was taken.
-fn put_free(links: &mut Vec<Option<usize>>, rows: usize) {
-    for _ in links.len()..rows {
+fn put_free(links: &mut Vec<Option<usize>>, records: usize) {
+    for _ in links.len()..records {
         if links.len() >= links.capacity() {
             return;
         }
@@ -59,14 +59,14 @@ pub fn take_proposal(
 )
     requires between { IsBetween board.edges.now price_a.old price_b.old link_a.old link_b.old 0 }
     ensures between { IsBetween board.entry.edges.now price_a.new price_b.new link_a.new link_b.new 0 }
-    ensures adopted { IsFor (length price_a.old) (length price_b.old) spare.new.levels.price_a spare.new.levels.price_b spare.new.link_a.items spare.new.link_b.items → IsBetween board.entry.edges.now spare.new.levels.price_a spare.new.levels.price_b spare.new.link_a.items spare.new.link_b.items 0 → (price_a.new ≡ spare.new.levels.price_a) × (price_b.new ≡ spare.new.levels.price_b) × (link_a.new ≡ spare.new.link_a.items) × (link_b.new ≡ spare.new.link_b.items) }
+    ensures adopted { IsFor (length price_a.old) (length price_b.old) spare.new.proposer.price_a spare.new.proposer.price_b spare.new.link_a.items spare.new.link_b.items → IsBetween board.entry.edges.now spare.new.proposer.price_a spare.new.proposer.price_b spare.new.link_a.items spare.new.link_b.items 0 → (price_a.new ≡ spare.new.proposer.price_a) × (price_b.new ≡ spare.new.proposer.price_b) × (link_a.new ≡ spare.new.link_a.items) × (link_b.new ≡ spare.new.link_b.items) }
 {
     put_free(&mut spare.link_a, price_a.len());
     put_free(&mut spare.link_b, price_b.len());
-    spare.levels.propose(board, price_a, price_b, link_a);
+    spare.proposer.propose(board, price_a, price_b, link_a);
     adopt_proposal(
         board,
-        spare.levels.proposal(),
+        spare.proposer.proposal(),
         &mut spare.link_a,
         &mut spare.link_b,
         price_a,

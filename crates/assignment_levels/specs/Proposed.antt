@@ -1,4 +1,4 @@
--- What `Levels` proposes: clauses of `proposal`. Nothing is said of how good it is.
+-- What a `Proposer` proposes: clauses of `proposal`. Nothing is said of how good it is.
 use Rattle.std.specs.Prelude.{ℕ, List}
 
 -- prices, and beside each record of A the number of the record of B that it is to be linked to

@@ -1,27 +1,27 @@
-// A look back from all ends of paths at once, and the fall of each price by its row's own distance.
+// A look back from all ends of paths at once, and the fall of each price by its record's own distance.
 
 use crate::level::{Level, edges_of, value_at};
 use crate::lists::Lists;
-use crate::rows::{NONE, at, fill_up, put, rooms_for};
+use crate::numbers::{NONE, at, fill_up, put, rooms_for};
 use crate::side::{Side, let_fall};
 use link_base::NoMemory;
 use std::alloc::Global;
 
-/// How much nearer than its price each row is, the order in which rows were reached, each one's place in it,
+/// How much nearer than its price each record is, the order in which records were reached, each one's place in it,
 /// and how many were.
 #[derive(Drop)]
-pub struct Reached {
+pub struct ReachOrder {
     nearer: Vec<u32>,
     order: Vec<u32>,
     place: Vec<u32>,
     count: u32,
 }
 
-impl Reached {
-    /// Room for so many rows.
-    pub(crate) fn new(alloc: Global, rows: u32) -> Result<Reached, NoMemory> {
-        let (nearer, order, place) = rooms_for(alloc, rows, rows, rows)?;
-        Ok(Reached {
+impl ReachOrder {
+    /// Room for so many records.
+    pub(crate) fn new(alloc: Global, records: u32) -> Result<ReachOrder, NoMemory> {
+        let (nearer, order, place) = rooms_for(alloc, records, records, records)?;
+        Ok(ReachOrder {
             nearer,
             order,
             place,
@@ -29,26 +29,26 @@ impl Reached {
         })
     }
 
-    /// Puts so many rows there.
-    pub(crate) fn fill(&mut self, rows: u32) {
-        fill_up(&mut self.nearer, rows);
-        fill_up(&mut self.order, rows);
-        fill_up(&mut self.place, rows);
+    /// Puts so many records there.
+    pub(crate) fn fill(&mut self, records: u32) {
+        fill_up(&mut self.nearer, records);
+        fill_up(&mut self.order, records);
+        fill_up(&mut self.place, records);
     }
 
-    /// How many rows were reached.
+    /// How many records were reached.
     pub(crate) fn count(&self) -> u32 {
         self.count
     }
 
-    /// The row that was reached at a place of the order.
-    pub(crate) fn row_at(&self, place: u32) -> u32 {
+    /// The record that was reached at a place of the order.
+    pub(crate) fn record_at(&self, place: u32) -> u32 {
         at(&self.order, place)
     }
 
-    /// The place of a row in the order.
-    pub(crate) fn place_of(&self, row: u32) -> u32 {
-        at(&self.place, row)
+    /// The place of a record in the order.
+    pub(crate) fn place_of(&self, record: u32) -> u32 {
+        at(&self.place, record)
     }
 
     /// Forgets what was reached.
@@ -58,33 +58,33 @@ impl Reached {
         self.count = 0;
     }
 
-    /// Notes that a row was reached.
-    fn note(&mut self, row: u32) {
-        put(&mut self.order, self.count, row);
-        put(&mut self.place, row, self.count);
+    /// Notes that a record was reached.
+    fn note(&mut self, record: u32) {
+        put(&mut self.order, self.count, record);
+        put(&mut self.place, record, self.count);
         self.count = self.count.saturating_add(1);
     }
 
-    /// Reaches so many rows, in the order of their numbers.
-    pub(crate) fn reach_each(&mut self, rows: u32) {
+    /// Reaches so many records, in the order of their numbers.
+    pub(crate) fn reach_each(&mut self, records: u32) {
         self.clear();
-        for row in 0..rows {
-            self.note(row);
+        for record in 0..records {
+            self.note(record);
         }
     }
 }
 
-/// Looks back from a row of the other side, at a distance that its price is added to: the rows of its edges
+/// Looks back from a record of the other side, at a distance that its price is added to: the records of its edges
 /// are that far and the slack.
 fn look_from(
     level: Level<'_>,
     own: &Side,
     lists: &mut Lists,
     nearer: &mut [u32],
-    row: u32,
+    record: u32,
     paid: u32,
 ) {
-    for edge in edges_of(level.board.turned, level.board.turned_starts, row) {
+    for edge in edges_of(level.board.turned, level.board.turned_starts, record) {
         let value = value_at(*edge, level.shift);
         if paid.wrapping_add(at(nearer, edge.b)) < value {
             let gain = value.wrapping_sub(paid);
@@ -95,7 +95,7 @@ fn look_from(
     }
 }
 
-/// Looks back from each row of the other side without a link.
+/// Looks back from each record of the other side without a link.
 fn look_from_free(
     level: Level<'_>,
     own: &Side,
@@ -103,68 +103,68 @@ fn look_from_free(
     lists: &mut Lists,
     nearer: &mut [u32],
 ) {
-    for row in 0..other.rows {
-        if other.mate_of(row) == NONE {
-            look_from(level, own, lists, nearer, row, other.price_of(row));
+    for record in 0..other.records {
+        if other.mate_of(record) == NONE {
+            look_from(level, own, lists, nearer, record, other.price_of(record));
         }
     }
 }
 
-/// Takes rows by distance and looks back from their links, until so many that wait were reached. Gives the
+/// Takes records by distance and looks back from their links, until so many that wait were reached. Gives the
 /// distance of the last.
 fn reach_waiting(
     level: Level<'_>,
     own: &Side,
     other: &Side,
     lists: &mut Lists,
-    reached: &mut Reached,
+    reached: &mut ReachOrder,
     waiting: u32,
 ) -> u32 {
     let mut left = waiting;
     let mut last = 0u32;
-    for _ in 0..own.rows {
-        let row = lists.take_nearest();
-        if left == 0 || row == NONE {
+    for _ in 0..own.records {
+        let record = lists.take_nearest();
+        if left == 0 || record == NONE {
             return last;
         }
-        reached.note(row);
-        last = lists.distance(row);
-        let mate = own.mate_of(row);
+        reached.note(record);
+        last = lists.distance(record);
+        let mate = own.mate_of(record);
         if mate != NONE {
             let paid = other.price_of(mate).wrapping_add(last);
             look_from(level, own, lists, &mut reached.nearer, mate, paid);
-        } else if own.price_of(row) > 0 {
+        } else if own.price_of(record) > 0 {
             left = left.saturating_sub(1);
         }
     }
     last
 }
 
-/// Puts each row at the distance of its price.
+/// Puts each record at the distance of its price.
 fn put_at_prices(own: &Side, lists: &mut Lists) {
     lists.clear();
-    for row in 0..own.rows {
-        lists.put_at(row, own.price_of(row));
+    for record in 0..own.records {
+        lists.put_at(record, own.price_of(record));
     }
 }
 
-/// Looks back from all ends of paths at once, rows of the other side without a link and rows of this side at
-/// the distance of their price, until each row that waits is reached. Each price falls by its row's own
-/// distance, and at most by that of the row reached last: so each row that waited has a path of tight edges,
+/// Looks back from all ends of paths at once, records of the other side without a link and records of this side at
+/// the distance of their price, until each record that waits is reached. Each price falls by its record's own
+/// distance, and at most by that of the record reached last: so each record that waited has a path of tight edges,
 /// or no price.
 pub(crate) fn look_back(
     level: Level<'_>,
     own: &mut Side,
     other: &mut Side,
     lists: &mut Lists,
-    reached: &mut Reached,
+    reached: &mut ReachOrder,
     waiting: u32,
 ) {
     reached.clear();
     put_at_prices(own, lists);
     look_from_free(level, own, other, lists, &mut reached.nearer);
     let last = reach_waiting(level, own, other, lists, reached, waiting);
-    for row in 0..own.rows {
-        let_fall(own, other, row, lists.distance(row).min(last));
+    for record in 0..own.records {
+        let_fall(own, other, record, lists.distance(record).min(last));
     }
 }

@@ -1,6 +1,6 @@
 // The edges at a level: with so many last bits of their values left out.
 
-use crate::rows::NONE;
+use crate::numbers::NONE;
 use crate::side::{Side, link};
 use assignment_steps::{Board, Edge};
 
@@ -31,10 +31,10 @@ pub(crate) fn turned(level: Level<'_>) -> Level<'_> {
     }
 }
 
-/// The edges of a row, which stand together.
+/// The edges of a record, which stand together.
 #[inline(always)]
-pub(crate) fn edges_of<'a>(edges: &'a [Edge], starts: &[usize], row: u32) -> &'a [Edge] {
-    let place = row as usize;
+pub(crate) fn edges_of<'a>(edges: &'a [Edge], starts: &[usize], record: u32) -> &'a [Edge] {
+    let place = record as usize;
     if place + 1 >= starts.len() {
         return &edges[..0];
     }
@@ -46,24 +46,24 @@ pub(crate) fn edges_of<'a>(edges: &'a [Edge], starts: &[usize], row: u32) -> &'a
     &edges[start..end]
 }
 
-/// The least price of a row that covers its edges.
-fn covering_price(level: Level<'_>, other: &Side, row: u32) -> u32 {
+/// The least price of a record that covers its edges.
+fn covering_price(level: Level<'_>, other: &Side, record: u32) -> u32 {
     let mut price = 0u32;
-    for edge in edges_of(level.board.edges, level.board.starts, row) {
+    for edge in edges_of(level.board.edges, level.board.starts, record) {
         let paid = other.price_of(edge.b);
         price = price.max(value_at(*edge, level.shift).saturating_sub(paid));
     }
     price
 }
 
-/// Gives each row the least price that covers its edges.
+/// Gives each record the least price that covers its edges.
 pub(crate) fn cover(level: Level<'_>, own: &mut Side, other: &Side) {
-    for row in 0..own.rows {
-        own.set_price(row, covering_price(level, other, row));
+    for record in 0..own.records {
+        own.set_price(record, covering_price(level, other, record));
     }
 }
 
-/// Whether the prices of an edge's rows add up to its value.
+/// Whether the prices of an edge's records add up to its value.
 #[inline(always)]
 pub(crate) fn is_tight(level: Level<'_>, own: &Side, other: &Side, edge: Edge) -> bool {
     let paid = own.price_of(edge.a).wrapping_add(other.price_of(edge.b));
@@ -80,7 +80,7 @@ pub(crate) fn part_loose(level: Level<'_>, own: &mut Side, other: &mut Side) {
     }
 }
 
-/// Links rows without links over tight edges, in the order of the edges.
+/// Links records without links over tight edges, in the order of the edges.
 pub(crate) fn link_tight(level: Level<'_>, own: &mut Side, other: &mut Side) {
     for edge in level.board.edges {
         let is_free = own.mate_of(edge.a) == NONE && other.mate_of(edge.b) == NONE;

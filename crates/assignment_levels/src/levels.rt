@@ -2,8 +2,8 @@
 ghost use Rattle.std.specs.Prelude.{◌≡◌};
 
 use crate::level::{Level, cover, part_loose, turned};
+use crate::numbers::{at, count_of, put};
 use crate::rounds::{Room, begin, run_rounds};
-use crate::rows::{at, count_of, put};
 use crate::side::{Side, link};
 use assignment_steps::{Board, Edge, Proposal};
 use link_base::NoMemory;
@@ -18,13 +18,13 @@ const FEW_BITS: u32 = 12;
 
 /// Room for a proposal of prices and links.
 #[derive(Drop)]
-pub struct Levels {
+pub struct Proposer {
     own: Side,
     other: Side,
     room: Room,
 }
 
-impl Model for Levels {
+impl Model for Proposer {
     ghost use Rattle.assignment_levels.specs.Proposed.{Proposed};
 
     ghost Value = { Proposed };
@@ -34,18 +34,18 @@ impl Model for Levels {
 
 /// Copies prices, the least of each and the greatest number.
 fn copy_prices(to: &mut [u32], prices: &[u64]) {
-    let mut row = 0u32;
+    let mut record = 0u32;
     for price in prices {
-        put(to, row, (*price).min(u64::from(u32::MAX)) as u32);
-        row = row.saturating_add(1);
+        put(to, record, (*price).min(u64::from(u32::MAX)) as u32);
+        record = record.saturating_add(1);
     }
 }
 
 /// Doubles prices so many times.
 fn double(prices: &mut [u32], times: u32) {
-    for row in 0..count_of(prices.len()) {
-        let price = at(prices, row);
-        put(prices, row, price.wrapping_shl(times));
+    for record in 0..count_of(prices.len()) {
+        let price = at(prices, record);
+        put(prices, record, price.wrapping_shl(times));
     }
 }
 
@@ -58,8 +58,8 @@ fn bits_of(edges: &[Edge]) -> u32 {
     32u32.saturating_sub(greatest.leading_zeros())
 }
 
-/// How many rows have edges, which begin at these places.
-fn rows_with_edges(starts: &[usize]) -> u32 {
+/// How many records have edges, which begin at these places.
+fn records_with_edges(starts: &[usize]) -> u32 {
     let mut count = 0u32;
     let mut start = 0usize;
     for end in starts {
@@ -71,29 +71,29 @@ fn rows_with_edges(starts: &[usize]) -> u32 {
     count
 }
 
-/// How many of the rows with edges may still wait at a level: none at the last.
+/// How many of the records with edges may still wait at a level: none at the last.
 fn most_left(starts: &[usize], shift: u32) -> u32 {
     if shift == 0 {
         0
     } else {
-        rows_with_edges(starts) / 32
+        records_with_edges(starts) / 32
     }
 }
 
-/// Settles the rows of a side, where at a level with bits left out a few may still wait.
-fn settle_rows(level: Level<'_>, own: &mut Side, other: &mut Side, room: &mut Room) {
+/// Settles the records of a side, where at a level with bits left out a few may still wait.
+fn settle_records(level: Level<'_>, own: &mut Side, other: &mut Side, room: &mut Room) {
     begin(level, own, other, room);
     let most = most_left(level.board.starts, level.shift);
     run_rounds(level, own, other, room, most, true);
 }
 
-impl Levels {
-    /// Room for so many rows.
-    pub fn new(alloc: Global, rows_a: usize, rows_b: usize) -> Result<Levels, NoMemory> {
+impl Proposer {
+    /// Room for so many records.
+    pub fn new(alloc: Global, rows_a: usize, rows_b: usize) -> Result<Proposer, NoMemory> {
         let own = Side::new(alloc, rows_a)?;
         let other = Side::new(alloc, rows_b)?;
-        match Room::new(alloc, own.rows.max(other.rows)) {
-            Ok(room) => Ok(Levels { own, other, room }),
+        match Room::new(alloc, own.records.max(other.records)) {
+            Ok(room) => Ok(Proposer { own, other, room }),
             Err(error) => {
                 drop(own);
                 drop(other);
@@ -102,11 +102,11 @@ impl Levels {
         }
     }
 
-    /// Puts the rows there, without prices and links.
+    /// Puts the records there, without prices and links.
     fn clear(&mut self) {
         self.own.clear();
         self.other.clear();
-        self.room.fill(self.own.rows.max(self.other.rows));
+        self.room.fill(self.own.records.max(self.other.records));
     }
 
     /// Takes prices and links as a start.
@@ -123,14 +123,14 @@ impl Levels {
         }
     }
 
-    /// Settles the rows of one side and then those of the other, where at a level with bits left out a few of
+    /// Settles the records of one side and then those of the other, where at a level with bits left out a few of
     /// each may still wait.
     fn settle(&mut self, level: Level<'_>) {
         cover(level, &mut self.own, &self.other);
         cover(turned(level), &mut self.other, &self.own);
         part_loose(level, &mut self.own, &mut self.other);
-        settle_rows(level, &mut self.own, &mut self.other, &mut self.room);
-        settle_rows(
+        settle_records(level, &mut self.own, &mut self.other, &mut self.room);
+        settle_records(
             turned(level),
             &mut self.other,
             &mut self.own,
@@ -176,7 +176,9 @@ impl Levels {
         price_b: &[u64],
         links: &[Option<usize>],
     ) {
-        if self.own.rows as usize != price_a.len() || self.other.rows as usize != price_b.len() {
+        if self.own.records as usize != price_a.len()
+            || self.other.records as usize != price_b.len()
+        {
             return;
         }
         self.start(board.edges, price_a, price_b, links);

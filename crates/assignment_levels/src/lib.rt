@@ -9,10 +9,10 @@ mod back;
 mod level;
 mod levels;
 mod lists;
+mod numbers;
 mod paths;
 mod rounds;
-mod rows;
 mod search;
 mod side;
 
-pub use levels::Levels;
+pub use levels::Proposer;

@@ -1,14 +1,14 @@
-// Disjoint paths over tight edges, each along rows that were reached earlier and earlier.
+// Disjoint paths over tight edges, each along records that were reached earlier and earlier.
 
-use crate::back::Reached;
+use crate::back::ReachOrder;
 use crate::level::{Level, edges_of, is_tight};
-use crate::rows::{NONE, at, fill_up, put, room_for, rooms_for};
+use crate::numbers::{NONE, at, fill_up, put, room_for, rooms_for};
 use crate::side::{Side, link};
 use assignment_steps::Edge;
 use link_base::NoMemory;
 use std::alloc::Global;
 
-/// How many edges each row has tried, the row of the other side that it tried last, the rows of the other
+/// How many edges each record has tried, the record of the other side that it tried last, the records of the other
 /// side that were met, each by the number of the round, and a path.
 #[derive(Drop)]
 pub struct Paths {
@@ -20,10 +20,10 @@ pub struct Paths {
 }
 
 impl Paths {
-    /// Room for so many rows.
-    pub(crate) fn new(alloc: Global, rows: u32) -> Result<Paths, NoMemory> {
-        let path = room_for(alloc, rows)?;
-        let (tried, chosen, met) = rooms_for(alloc, rows, rows, rows)?;
+    /// Room for so many records.
+    pub(crate) fn new(alloc: Global, records: u32) -> Result<Paths, NoMemory> {
+        let path = room_for(alloc, records)?;
+        let (tried, chosen, met) = rooms_for(alloc, records, records, records)?;
         Ok(Paths {
             tried,
             chosen,
@@ -33,28 +33,28 @@ impl Paths {
         })
     }
 
-    /// Puts so many rows there.
-    pub(crate) fn fill(&mut self, rows: u32) {
-        fill_up(&mut self.tried, rows);
-        fill_up(&mut self.chosen, rows);
-        fill_up(&mut self.met, rows);
-        fill_up(&mut self.path, rows);
+    /// Puts so many records there.
+    pub(crate) fn fill(&mut self, records: u32) {
+        fill_up(&mut self.tried, records);
+        fill_up(&mut self.chosen, records);
+        fill_up(&mut self.met, records);
+        fill_up(&mut self.path, records);
     }
 
-    /// Whether a row of the other side was met in this round.
+    /// Whether a record of the other side was met in this round.
     #[inline(always)]
     fn has_met(&self, mate: u32) -> bool {
         at(&self.met, mate) == self.round
     }
 
-    /// Meets a row of the other side.
+    /// Meets a record of the other side.
     #[inline(always)]
     fn meet(&mut self, mate: u32) {
         put(&mut self.met, mate, self.round);
     }
 }
 
-/// Where a path goes from a row: to its end, to another row, or nowhere.
+/// Where a path goes from a record: to its end, to another record, or nowhere.
 #[derive(Clone, Copy)]
 enum Way {
     Ends,
@@ -62,13 +62,13 @@ enum Way {
     Nowhere,
 }
 
-/// Where a path goes over an edge: to its end where the row of the other side has no link, or one that is
-/// given up by a row of price 0; else to the row of the link, if that one was reached earlier.
+/// Where a path goes over an edge: to its end where the record of the other side has no link, or one that is
+/// given up by a record of price 0; else to the record of the link, if that one was reached earlier.
 fn way_over(
     level: Level<'_>,
     own: &Side,
     other: &Side,
-    reached: &Reached,
+    reached: &ReachOrder,
     paths: &mut Paths,
     edge: Edge,
 ) -> Way {
@@ -87,17 +87,17 @@ fn way_over(
     Way::Goes(mate)
 }
 
-/// Where a path goes from a row, over the edges that it has not tried.
+/// Where a path goes from a record, over the edges that it has not tried.
 fn way_from(
     level: Level<'_>,
     own: &Side,
     other: &Side,
-    reached: &Reached,
+    reached: &ReachOrder,
     paths: &mut Paths,
-    row: u32,
+    record: u32,
 ) -> Way {
-    let edges = edges_of(level.board.edges, level.board.starts, row);
-    let mut tried = at(&paths.tried, row);
+    let edges = edges_of(level.board.edges, level.board.starts, record);
+    let mut tried = at(&paths.tried, record);
     if tried as usize > edges.len() {
         return Way::Nowhere;
     }
@@ -105,70 +105,68 @@ fn way_from(
         tried = tried.saturating_add(1);
         let way = way_over(level, own, other, reached, paths, *edge);
         if !matches!(way, Way::Nowhere) {
-            put(&mut paths.tried, row, tried);
-            put(&mut paths.chosen, row, edge.b);
+            put(&mut paths.tried, record, tried);
+            put(&mut paths.chosen, record, edge.b);
             return way;
         }
     }
-    put(&mut paths.tried, row, tried);
+    put(&mut paths.tried, record, tried);
     Way::Nowhere
 }
 
-/// Seeks a path from a row, depth first, and gives how many rows it has: none where there is no path.
+/// Seeks a path from a record, depth first, and gives how many records it has: none where there is no path.
 fn seek(
     level: Level<'_>,
     own: &Side,
     other: &Side,
-    reached: &Reached,
+    reached: &ReachOrder,
     paths: &mut Paths,
     root: u32,
 ) -> u32 {
-    let mut row = root;
+    let mut record = root;
     let mut above = 0u32;
     for _ in 0..level.board.edges.len() {
-        match way_from(level, own, other, reached, paths, row) {
+        match way_from(level, own, other, reached, paths, record) {
             Way::Ends => {
-                put(&mut paths.path, above, row);
+                put(&mut paths.path, above, record);
                 return above.saturating_add(1);
             }
             Way::Goes(mate) => {
-                put(&mut paths.path, above, row);
+                put(&mut paths.path, above, record);
                 above = above.saturating_add(1);
-                row = mate;
+                record = mate;
             }
+            Way::Nowhere if above == 0 => return 0,
             Way::Nowhere => {
-                if above == 0 {
-                    return 0;
-                }
                 above = above.saturating_sub(1);
-                row = at(&paths.path, above);
+                record = at(&paths.path, above);
             }
         }
     }
     0
 }
 
-/// Links the rows of a path as it goes.
+/// Links the records of a path as it goes.
 fn turn(own: &mut Side, other: &mut Side, paths: &Paths, count: u32) {
     for place in 0..count {
-        let row = at(&paths.path, place);
-        link(own, other, row, at(&paths.chosen, row));
+        let record = at(&paths.path, place);
+        link(own, other, record, at(&paths.chosen, record));
     }
 }
 
-/// Follows paths from each row that waits, in the order in which they were reached. Each row of the other
+/// Follows paths from each record that waits, in the order in which they were reached. Each record of the other
 /// side is met once.
 pub(crate) fn follow_paths(
     level: Level<'_>,
     own: &mut Side,
     other: &mut Side,
-    reached: &Reached,
+    reached: &ReachOrder,
     paths: &mut Paths,
 ) {
     paths.tried.fill(0);
     paths.round = paths.round.wrapping_add(1);
     for place in 0..reached.count() {
-        let root = reached.row_at(place);
+        let root = reached.record_at(place);
         if own.waits(root) {
             let count = seek(level, own, other, reached, paths, root);
             turn(own, other, paths, count);

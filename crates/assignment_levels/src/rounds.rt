@@ -1,6 +1,6 @@
-// Rounds: a look back, paths, and searches from the rows that still wait.
+// Rounds: a look back, paths, and searches from the records that still wait.
 
-use crate::back::{Reached, look_back};
+use crate::back::{ReachOrder, look_back};
 use crate::level::{Level, link_tight};
 use crate::lists::Lists;
 use crate::paths::{Paths, follow_paths};
@@ -12,25 +12,25 @@ use std::alloc::Global;
 /// What searches that settled few are allowed the next time: a part of the edges.
 const SMALL_PART: usize = 16;
 
-/// So few rows that wait are no reason to give up.
+/// So few records that wait are no reason to give up.
 const FEW: u32 = 16;
 
 /// Room for a look back, paths and searches.
 #[derive(Drop)]
 pub struct Room {
     lists: Lists,
-    reached: Reached,
+    reached: ReachOrder,
     paths: Paths,
     tree: Tree,
 }
 
 impl Room {
-    /// Room for so many rows.
-    pub(crate) fn new(alloc: Global, rows: u32) -> Result<Room, NoMemory> {
-        let lists = Lists::new(alloc, rows)?;
-        let reached = Reached::new(alloc, rows)?;
-        let tree = Tree::new(alloc, rows)?;
-        let paths = Paths::new(alloc, rows)?;
+    /// Room for so many records.
+    pub(crate) fn new(alloc: Global, records: u32) -> Result<Room, NoMemory> {
+        let lists = Lists::new(alloc, records)?;
+        let reached = ReachOrder::new(alloc, records)?;
+        let tree = Tree::new(alloc, records)?;
+        let paths = Paths::new(alloc, records)?;
         Ok(Room {
             lists,
             reached,
@@ -39,37 +39,37 @@ impl Room {
         })
     }
 
-    /// Puts so many rows there.
-    pub(crate) fn fill(&mut self, rows: u32) {
+    /// Puts so many records there.
+    pub(crate) fn fill(&mut self, records: u32) {
         self.lists.fill();
-        self.reached.fill(rows);
-        self.paths.fill(rows);
-        self.tree.fill(rows);
+        self.reached.fill(records);
+        self.paths.fill(records);
+        self.tree.fill(records);
     }
 }
 
-/// Searches from those rows that wait, in the order in which they were reached, as long as looks are left.
+/// Searches from those records that wait, in the order in which they were reached, as long as looks are left.
 fn search_in_order(level: Level<'_>, own: &mut Side, other: &mut Side, room: &mut Room) {
     for place in 0..room.reached.count() {
         if room.tree.is_spent() {
             return;
         }
-        let root = room.reached.row_at(place);
+        let root = room.reached.record_at(place);
         if own.waits(root) {
             search(level, own, other, &mut room.lists, &mut room.tree, root);
         }
     }
 }
 
-/// Links over tight edges, and searches from the rows in their order.
+/// Links over tight edges, and searches from the records in their order.
 pub(crate) fn begin(level: Level<'_>, own: &mut Side, other: &mut Side, room: &mut Room) {
     link_tight(level, own, other);
-    room.reached.reach_each(own.rows);
+    room.reached.reach_each(own.records);
     room.tree.allow(level.board.edges.len() / 2);
     search_in_order(level, own, other, room);
 }
 
-/// One round, with so many rows that wait and so many looks. Says whether its searches settled few rows
+/// One round, with so many records that wait and so many looks. Says whether its searches settled few records
 /// beside its paths.
 fn run_round(
     level: Level<'_>,
@@ -88,8 +88,8 @@ fn run_round(
     searched.saturating_mul(32) < count.saturating_sub(left)
 }
 
-/// Rounds until at most so many rows wait, or until three were slow, if it is not patient: a round is slow
-/// that settles less than an eighth of the rows that waited. Says whether the rounds came to their end.
+/// Rounds until at most so many records wait, or until three were slow, if it is not patient: a round is slow
+/// that settles less than an eighth of the records that waited. Says whether the rounds came to their end.
 pub(crate) fn run_rounds(
     level: Level<'_>,
     own: &mut Side,
@@ -102,7 +102,7 @@ pub(crate) fn run_rounds(
     let mut looks = whole;
     let mut count = own.waiting();
     let mut slow = 0u32;
-    for _ in 0..own.rows {
+    for _ in 0..own.records {
         if count <= most {
             return true;
         }

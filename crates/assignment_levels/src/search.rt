@@ -1,15 +1,15 @@
-// A search from one row for the nearest end of a path.
+// A search from one record for the nearest end of a path.
 
 use crate::level::{Level, edges_of, value_at};
 use crate::lists::Lists;
-use crate::rows::{NONE, at, fill_up, put, rooms_for};
+use crate::numbers::{NONE, at, fill_up, put, rooms_for};
 use crate::side::{Side, let_fall};
 use link_base::NoMemory;
 use std::alloc::Global;
 
-/// A tree as it grows: by which search each row was reached last, from which row, the rows in the order in
+/// A tree as it grows: by which search each record was reached last, from which record, the records in the order in
 /// which they joined and how many, the distance of the newest, and the nearest end so far. That end is the
-/// row `end`, over its row `free` of the other side, or, where that is none, by giving up its link. `looks`
+/// record `end`, over its record `free` of the other side, or, where that is none, by giving up its link. `looks`
 /// is how many edges may still be looked at.
 #[derive(Drop)]
 pub struct Tree {
@@ -26,9 +26,9 @@ pub struct Tree {
 }
 
 impl Tree {
-    /// Room for so many rows.
-    pub(crate) fn new(alloc: Global, rows: u32) -> Result<Tree, NoMemory> {
-        let (mark, from, joined) = rooms_for(alloc, rows, rows, rows)?;
+    /// Room for so many records.
+    pub(crate) fn new(alloc: Global, records: u32) -> Result<Tree, NoMemory> {
+        let (mark, from, joined) = rooms_for(alloc, records, records, records)?;
         Ok(Tree {
             number: 0,
             mark,
@@ -43,11 +43,11 @@ impl Tree {
         })
     }
 
-    /// Puts so many rows there.
-    pub(crate) fn fill(&mut self, rows: u32) {
-        fill_up(&mut self.mark, rows);
-        fill_up(&mut self.from, rows);
-        fill_up(&mut self.joined, rows);
+    /// Puts so many records there.
+    pub(crate) fn fill(&mut self, records: u32) {
+        fill_up(&mut self.mark, records);
+        fill_up(&mut self.from, records);
+        fill_up(&mut self.joined, records);
     }
 
     /// Allows so many looks at edges.
@@ -60,13 +60,13 @@ impl Tree {
         self.looks == 0
     }
 
-    /// Notes a row that joins at the distance `current`.
-    fn join(&mut self, row: u32) {
-        put(&mut self.joined, self.count, row);
+    /// Notes a record that joins at the distance `current`.
+    fn join(&mut self, record: u32) {
+        put(&mut self.joined, self.count, record);
         self.count = self.count.saturating_add(1);
     }
 
-    /// Begins a tree with a row of a price.
+    /// Begins a tree with a record of a price.
     fn plant(&mut self, lists: &mut Lists, root: u32, price: u32) {
         lists.clear();
         lists.note(root, 0);
@@ -80,49 +80,56 @@ impl Tree {
         self.join(root);
     }
 
-    /// Keeps the nearer end: a row that gives its link up.
-    fn offer(&mut self, row: u32, distance: u32) {
+    /// Keeps the nearer end: a record that gives its link up.
+    fn offer(&mut self, record: u32, distance: u32) {
         if distance < self.bound {
             self.bound = distance;
-            self.end = row;
+            self.end = record;
             self.free = NONE;
         }
     }
 
-    /// Reaches a row at a distance, from another; at the distance `current` it joins at once.
-    fn reach(&mut self, lists: &mut Lists, row: u32, from: u32, distance: u32) {
-        if at(&self.mark, row) == self.number {
-            if lists.distance(row) <= distance {
+    /// Reaches a record at a distance, from another; at the distance `current` it joins at once.
+    fn reach(&mut self, lists: &mut Lists, record: u32, from: u32, distance: u32) {
+        if at(&self.mark, record) == self.number {
+            if lists.distance(record) <= distance {
                 return;
             }
-            lists.take_out(row);
+            lists.take_out(record);
         }
-        put(&mut self.mark, row, self.number);
-        put(&mut self.from, row, from);
+        put(&mut self.mark, record, self.number);
+        put(&mut self.from, record, from);
         if distance == self.current {
-            lists.note(row, distance);
-            self.join(row);
+            lists.note(record, distance);
+            self.join(record);
         } else {
-            lists.put_at(row, distance);
+            lists.put_at(record, distance);
         }
     }
 
-    /// Takes the nearest row that is nearer than the bound, and says whether there was one.
+    /// Takes the nearest record that is nearer than the bound, and says whether there was one.
     fn join_nearest(&mut self, lists: &mut Lists) -> bool {
-        let row = lists.take_nearest();
-        if row == NONE || lists.distance(row) >= self.bound {
+        let record = lists.take_nearest();
+        if record == NONE || lists.distance(record) >= self.bound {
             return false;
         }
-        self.current = lists.distance(row);
-        self.join(row);
+        self.current = lists.distance(record);
+        self.join(record);
         true
     }
 }
 
-/// Looks at the edges of a row that joined, until the nearest end is no farther than the row.
-fn scan(level: Level<'_>, own: &Side, other: &Side, lists: &mut Lists, tree: &mut Tree, row: u32) {
-    let edges = edges_of(level.board.edges, level.board.starts, row);
-    let base = tree.current.wrapping_add(own.price_of(row));
+/// Looks at the edges of a record that joined, until the nearest end is no farther than the record.
+fn scan(
+    level: Level<'_>,
+    own: &Side,
+    other: &Side,
+    lists: &mut Lists,
+    tree: &mut Tree,
+    record: u32,
+) {
+    let edges = edges_of(level.board.edges, level.board.starts, record);
+    let base = tree.current.wrapping_add(own.price_of(record));
     tree.looks = tree.looks.saturating_sub(edges.len());
     for edge in edges {
         let paid = base.wrapping_add(other.price_of(edge.b));
@@ -130,10 +137,10 @@ fn scan(level: Level<'_>, own: &Side, other: &Side, lists: &mut Lists, tree: &mu
         if distance < tree.bound {
             let mate = other.mate_of(edge.b);
             if mate == NONE {
-                tree.offer(row, distance);
+                tree.offer(record, distance);
                 tree.free = edge.b;
             } else {
-                tree.reach(lists, mate, row, distance);
+                tree.reach(lists, mate, record, distance);
             }
         }
         if tree.bound <= tree.current {
@@ -142,7 +149,7 @@ fn scan(level: Level<'_>, own: &Side, other: &Side, lists: &mut Lists, tree: &mu
     }
 }
 
-/// Grows a tree until no row is nearer than the nearest end. Says whether it did, before no looks were left.
+/// Grows a tree until no record is nearer than the nearest end. Says whether it did, before no looks were left.
 fn grow(
     level: Level<'_>,
     own: &Side,
@@ -152,16 +159,16 @@ fn grow(
     root: u32,
 ) -> bool {
     tree.plant(lists, root, own.price_of(root));
-    for place in 0..own.rows {
+    for place in 0..own.records {
         if place == tree.count && !tree.join_nearest(lists) {
             return true;
         }
         if tree.looks == 0 {
             return false;
         }
-        let row = at(&tree.joined, place);
-        tree.offer(row, tree.current.wrapping_add(own.price_of(row)));
-        scan(level, own, other, lists, tree, row);
+        let record = at(&tree.joined, place);
+        tree.offer(record, tree.current.wrapping_add(own.price_of(record)));
+        scan(level, own, other, lists, tree, record);
         if tree.bound <= tree.current {
             return true;
         }
@@ -169,7 +176,7 @@ fn grow(
     true
 }
 
-/// The row of the other side at the end of a tree: one without a link, or the one that is given up.
+/// The record of the other side at the end of a tree: one without a link, or the one that is given up.
 fn end_of(own: &mut Side, tree: &Tree) -> u32 {
     if tree.free != NONE {
         return tree.free;
@@ -185,23 +192,23 @@ fn turn(own: &mut Side, other: &mut Side, tree: &Tree, root: u32) {
     if mate == NONE {
         return;
     }
-    let mut row = tree.end;
+    let mut record = tree.end;
     if tree.free == NONE {
-        row = at(&tree.from, row);
+        record = at(&tree.from, record);
     }
     for _ in 0..tree.count {
-        let before = own.mate_of(row);
-        own.set_mate(row, mate);
-        other.set_mate(mate, row);
-        if row == root {
+        let before = own.mate_of(record);
+        own.set_mate(record, mate);
+        other.set_mate(mate, record);
+        if record == root {
             return;
         }
         mate = before;
-        row = at(&tree.from, row);
+        record = at(&tree.from, record);
     }
 }
 
-/// Searches from a row for the nearest end of a path, lets prices fall and turns links round. Where no looks
+/// Searches from a record for the nearest end of a path, lets prices fall and turns links round. Where no looks
 /// are left before an end is found, prices and links stay.
 pub(crate) fn search(
     level: Level<'_>,
@@ -215,9 +222,9 @@ pub(crate) fn search(
         return;
     }
     for place in 0..tree.count {
-        let row = at(&tree.joined, place);
-        let fall = tree.bound.saturating_sub(lists.distance(row));
-        let_fall(own, other, row, fall);
+        let record = at(&tree.joined, place);
+        let fall = tree.bound.saturating_sub(lists.distance(record));
+        let_fall(own, other, record, fall);
     }
     turn(own, other, tree, root);
 }

@@ -1,68 +1,68 @@
 // Prices and links of one side.
 
-use crate::rows::{NONE, at, count_of, fill_up, put, room_for};
+use crate::numbers::{NONE, at, count_of, fill_up, put, room_for};
 use link_base::NoMemory;
 use std::alloc::Global;
 
-/// The prices of a side's rows, and the row of the other side that each is linked to. `wide` are the prices as
+/// The prices of a side's records, and the record of the other side that each is linked to. `wide` are the prices as
 /// wider numbers, where they are handed out.
 #[derive(Drop)]
 pub struct Side {
-    pub rows: u32,
+    pub records: u32,
     pub price: Vec<u32>,
     pub mate: Vec<u32>,
     pub wide: Vec<u64>,
 }
 
 impl Side {
-    /// Room for so many rows.
-    pub(crate) fn new(alloc: Global, rows: usize) -> Result<Side, NoMemory> {
-        let wide = Vec::with_capacity(alloc, rows)?;
-        let rows = count_of(rows);
-        let price = room_for(alloc, rows)?;
-        let mate = room_for(alloc, rows)?;
+    /// Room for so many records.
+    pub(crate) fn new(alloc: Global, records: usize) -> Result<Side, NoMemory> {
+        let wide = Vec::with_capacity(alloc, records)?;
+        let records = count_of(records);
+        let price = room_for(alloc, records)?;
+        let mate = room_for(alloc, records)?;
         Ok(Side {
-            rows,
+            records,
             price,
             mate,
             wide,
         })
     }
 
-    /// The price of a row.
+    /// The price of a record.
     #[inline(always)]
-    pub(crate) fn price_of(&self, row: u32) -> u32 {
-        at(&self.price, row)
+    pub(crate) fn price_of(&self, record: u32) -> u32 {
+        at(&self.price, record)
     }
 
-    /// Gives a row a price.
+    /// Gives a record a price.
     #[inline(always)]
-    pub(crate) fn set_price(&mut self, row: u32, price: u32) {
-        put(&mut self.price, row, price);
+    pub(crate) fn set_price(&mut self, record: u32, price: u32) {
+        put(&mut self.price, record, price);
     }
 
-    /// The row that a row is linked to, or none.
+    /// The record that a record is linked to, or none.
     #[inline(always)]
-    pub(crate) fn mate_of(&self, row: u32) -> u32 {
-        at(&self.mate, row)
+    pub(crate) fn mate_of(&self, record: u32) -> u32 {
+        at(&self.mate, record)
     }
 
-    /// Gives a row its link, or none.
+    /// Gives a record its link, or none.
     #[inline(always)]
-    pub(crate) fn set_mate(&mut self, row: u32, mate: u32) {
-        put(&mut self.mate, row, mate);
+    pub(crate) fn set_mate(&mut self, record: u32, mate: u32) {
+        put(&mut self.mate, record, mate);
     }
 
-    /// Whether a row has a price and no link.
-    pub(crate) fn waits(&self, row: u32) -> bool {
-        self.mate_of(row) == NONE && self.price_of(row) > 0
+    /// Whether a record has a price and no link.
+    pub(crate) fn waits(&self, record: u32) -> bool {
+        self.mate_of(record) == NONE && self.price_of(record) > 0
     }
 
-    /// How many rows wait.
+    /// How many records wait.
     pub(crate) fn waiting(&self) -> u32 {
         let mut count = 0u32;
-        for row in 0..self.rows {
-            if self.waits(row) {
+        for record in 0..self.records {
+            if self.waits(record) {
                 count = count.saturating_add(1);
             }
         }
@@ -74,10 +74,10 @@ impl Side {
         write_wide(&mut self.wide, &self.price);
     }
 
-    /// Puts the rows there, without price or link.
+    /// Puts the records there, without price or link.
     pub(crate) fn clear(&mut self) {
-        fill_up(&mut self.price, self.rows);
-        fill_up(&mut self.mate, self.rows);
+        fill_up(&mut self.price, self.records);
+        fill_up(&mut self.mate, self.records);
         self.price.fill(0);
         self.mate.fill(NONE);
     }
@@ -96,20 +96,20 @@ fn write_wide(to: &mut Vec<u64>, prices: &[u32]) {
     }
 }
 
-/// Links two rows. The row that the second was linked to is without a link then.
-pub(crate) fn link(own: &mut Side, other: &mut Side, row: u32, mate: u32) {
+/// Links two records. The record that the second was linked to is without a link then.
+pub(crate) fn link(own: &mut Side, other: &mut Side, record: u32, mate: u32) {
     let before = other.mate_of(mate);
     if before != NONE {
         own.set_mate(before, NONE);
     }
-    own.set_mate(row, mate);
-    other.set_mate(mate, row);
+    own.set_mate(record, mate);
+    other.set_mate(mate, record);
 }
 
-/// The price of a row falls, and that of the row that it is linked to rises by as much.
-pub(crate) fn let_fall(own: &mut Side, other: &mut Side, row: u32, fall: u32) {
-    own.set_price(row, own.price_of(row).saturating_sub(fall));
-    let mate = own.mate_of(row);
+/// The price of a record falls, and that of the record that it is linked to rises by as much.
+pub(crate) fn let_fall(own: &mut Side, other: &mut Side, record: u32, fall: u32) {
+    own.set_price(record, own.price_of(record).saturating_sub(fall));
+    let mate = own.mate_of(record);
     if mate != NONE {
         other.set_price(mate, other.price_of(mate).saturating_add(fall));
     }

@@ -1,7 +1,7 @@
 // Proposals for small lists, which come to no level by themselves.
 ghost use Rattle.assignment_steps.specs.Market.{IsRising};
 
-use assignment_levels::Levels;
+use assignment_levels::Proposer;
 use assignment_steps::{Board, Edge, Proposal, starts_of, turned_edges};
 use link_base::NoMemory;
 use std::alloc::Global;
@@ -63,9 +63,9 @@ fn sum_of(proposal: Proposal<'_>) -> u64 {
 
 // Whether a proposal on a board from nothing, bit by bit, certifies itself.
 fn certifies_on(alloc: Global, board: Board<'_>) -> Result<bool, NoMemory> {
-    let mut levels = Levels::new(alloc, ROWS as usize, ROWS as usize)?;
-    levels.propose_by_levels(board);
-    let proposal = levels.proposal();
+    let mut proposer = Proposer::new(alloc, ROWS as usize, ROWS as usize)?;
+    proposer.propose_by_levels(board);
+    let proposal = proposer.proposal();
     Ok(worth_of(board.edges, proposal) == Some(sum_of(proposal)))
 }
 

@@ -1,25 +1,25 @@
-// Numbers by row, read and written wherever the row is there.
+// Numbers by record, read and written wherever the record is there.
 
 use link_base::NoMemory;
 use std::alloc::Global;
 
-/// No row.
+/// No record.
 pub const NONE: u32 = u32::MAX;
 
-/// The number of a row, or 0 where there is no such row.
+/// The number of a record, or 0 where there is no such record.
 #[inline(always)]
-pub(crate) fn at(numbers: &[u32], row: u32) -> u32 {
-    if row as usize >= numbers.len() {
+pub(crate) fn at(numbers: &[u32], record: u32) -> u32 {
+    if record as usize >= numbers.len() {
         return 0;
     }
-    numbers[row as usize]
+    numbers[record as usize]
 }
 
-/// Puts the number of a row, if there is such a row.
+/// Puts the number of a record, if there is such a record.
 #[inline(always)]
-pub(crate) fn put(numbers: &mut [u32], row: u32, number: u32) {
-    if (row as usize) < numbers.len() {
-        numbers[row as usize] = number;
+pub(crate) fn put(numbers: &mut [u32], record: u32, number: u32) {
+    if (record as usize) < numbers.len() {
+        numbers[record as usize] = number;
     }
 }
 
@@ -54,7 +54,7 @@ pub(crate) fn fill_up(numbers: &mut Vec<u32>, count: u32) {
     }
 }
 
-/// So many rows as a number, or as many as a number can say.
-pub(crate) fn count_of(rows: usize) -> u32 {
-    rows.min(u32::MAX as usize) as u32
+/// So many records as a number, or as many as a number can say.
+pub(crate) fn count_of(records: usize) -> u32 {
+    records.min(u32::MAX as usize) as u32
 }
