@@ -1,21 +1,10 @@
 -- The rows with the same field, listed pair by pair, are the pairs of the column.
-use Rattle.std.proofs.Common.{◌≡◌, ◌+◌, ◌∷◌, ◌++◌, ◌∙◌, ℕ, zero, suc, List, [], length, map, filter, get_or, Bool, refl, sym, ap, arith, inl, inr}
-use Rattle.std.specs.List.{range_with_len}
-use Rattle.std.proofs.lemmas.Bool.{cases_Bool}
+use Rattle.std.proofs.Common.{◌≡◌, ◌+◌, ◌∷◌, ◌++◌, ◌∙◌, ℕ, zero, suc, List, [], length, map, filter, get_or, refl, sym, ap, arith}
 use Rattle.std.proofs.lemmas.List.Elements.{filter-append}
-use Rattle.link_base.specs.declared.rule.PairAt.{PairAt}
 use Rattle.pair_walk.specs.Pairs.{pair, pairs_of_row, product_from}
+use Rattle.pair_walk.proofs.PairLemmas.{row-pairs}
 use Rattle.link_core.specs.ColumnPairs.{column_pairs, is_column_pair}
 use Rattle.link_core.specs.ColumnRows.{matched_rows, pairs_from, rows_with_field}
-
-row_pairs : (p : PairAt → Bool) (a b count : ℕ) → map (pair a) (filter (λ j. p (pair a j)) (range_with_len b count)) ≡ filter p (pairs_of_row a b count)
-row_pairs p a b zero = refl
-row_pairs p a b (suc count) =
-    let rest = row_pairs p a (b + 1) count in
-    elim (cases_Bool (p (pair a b))) [
-      | inl keep ↦ rw keep (ap (λ ps. pair a b ∷ ps) rest)
-      | inr skip ↦ rw skip rest
-    ]
 
 pairs_on : (a b : List (List ℕ)) (at : ℕ) (fields : List (List ℕ)) → ((k : ℕ) → get_or a (at + k) [] ≡ get_or fields k [])
     → pairs_from at (matched_rows fields b) ≡ filter (is_column_pair a b) (product_from (length b) at (length fields))
@@ -25,7 +14,7 @@ pairs_on a b at (field ∷ fields) are =
     let later : (k : ℕ) → get_or a ((at + 1) + k) [] ≡ get_or fields k [] = λ k. let next : (at + 1) + k ≡ at + suc k = omega arith in ap (λ n. get_or a n []) next ∙ are (suc k) in
     let first : get_or a at [] ≡ field = let start : at ≡ at + 0 = omega arith in ap (λ n. get_or a n []) start ∙ are zero in
     let here : map (pair at) (rows_with_field b field) ≡ filter p (pairs_of_row at 0 (length b)) =
-    ap (λ f. map (pair at) (rows_with_field b f)) (sym first) ∙ row_pairs p at 0 (length b) in
+    ap (λ f. map (pair at) (rows_with_field b f)) (sym first) ∙ row-pairs p at 0 (length b) in
     ap (λ ps. ps ++ pairs_from (at + 1) (matched_rows fields b)) here
     ∙ ap (λ ps. filter p (pairs_of_row at 0 (length b)) ++ ps) (pairs_on a b (at + 1) fields later)
     ∙ sym (filter-append p (pairs_of_row at 0 (length b)) (product_from (length b) (at + 1) (length fields)))
