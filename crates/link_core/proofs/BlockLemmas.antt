@@ -2,7 +2,6 @@
 use Rattle.std.proofs.Common.{◌≡◌, ◌∙◌, ℕ, List, length, ap, subst}
 use Rattle.std.specs.Prelude.{All, AllPairs}
 use Rattle.link_base.specs.Rule.{IsPairBefore}
-use Rattle.link_base.specs.declared.rule.PairAt.{PairAt}
 use Rattle.pair_decisions.proofs.PairLemmas.{compared_inside, compared_rise}
 use Rattle.pair_decisions.specs.Pairs.{IsInside}
 use Rattle.pair_walk.proofs.PairLemmas.{all-pairs}

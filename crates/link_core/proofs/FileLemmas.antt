@@ -16,6 +16,7 @@ use Rattle.link_base.specs.declared.fault.Fault.{Fault}
 use Rattle.link_base.specs.declared.fault.FileRole.{FileRole}
 use Rattle.link_base.specs.declared.fault.FileRole.TheVariants as role
 use Rattle.link_base.specs.declared.tables.Tables.{Tables}
+use Rattle.link_limits.specs.declared.TheConstants.{MOST_FIELD_BYTES, MOST_ROWS}
 use Rattle.settings.specs.declared.plan.Plan.{Plan}
 use Rattle.standard_files.specs.Files.{sorts_a, sorts_b, standard_file, standard_files, StandardFile, StandardPair, table_a, table_b, wanted_a, wanted_b}
 use Rattle.standard_files.specs.Values.{standard_record, standard_records}
@@ -59,7 +60,7 @@ distinct_records t sorts table distinct i j d lt within same =
     distinct i j no_row lt (omega (arith, many)) (ap (λ (r : Record). r.id) (sym at_i) ∙ same ∙ ap (λ (r : Record). r.id) at_j)
 
 read_file : (r : FileRole) (wanted : Wanted) (records : List (List (List ℕ))) (table : List TableRow) (plan : Plan) (sorts : List TextSort) (file : StandardFile)
-    → IsTrue (is_some wanted.id) → wanted.most ≤ 100000 → table_of r wanted records ≡ Ok table → standard_file r plan sorts table ≡ Ok file → IsReadFile file.records
+    → IsTrue (is_some wanted.id) → wanted.most ≤ MOST_ROWS → table_of r wanted records ≡ Ok table → standard_file r plan sorts table ≡ Ok file → IsReadFile file.records
 read_file r wanted records table plan sorts file has_id most read made =
     let texts = answers_texts r wanted records (Ok table) read in
     let distinct = answers_distinct r wanted records (Ok table) read has_id in
@@ -68,7 +69,7 @@ read_file r wanted records table plan sorts file has_id most read made =
     let whole : IsReadFile (standard_records plan.tables sorts table) = record {
       small = record {
         few = omega (arith, length-map table (standard_record plan.tables sorts), few, most);
-        ids = All-map HasShortId (standard_record plan.tables sorts) table (All-weaker IsTextRow (λ (x : TableRow). length x.id ≤ 255) (λ x h. h.id.short) table texts);
+        ids = All-map HasShortId (standard_record plan.tables sorts) table (All-weaker IsTextRow (λ (x : TableRow). length x.id ≤ MOST_FIELD_BYTES) (λ x h. h.id.short) table texts);
       };
       distinct = distinct_records plan.tables sorts table distinct;
     } in

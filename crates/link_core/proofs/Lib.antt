@@ -10,6 +10,5 @@ pub mod DecisionLemmas
 pub mod ResultLemmas
 pub mod ReviewLemmas
 pub mod DuplicateLemmas
-pub mod PlanLemmas
 pub mod FileLemmas
 pub mod RunLemmas

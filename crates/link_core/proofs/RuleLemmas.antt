@@ -1,72 +1,37 @@
 -- The sides of prepared files are those that the comparators of a plan take.
-use Rattle.std.proofs.Common.{◌≡◌, ◌<◌, ◌≤◌, ◌∙◌, ℕ, zero, suc, Bool, true, false, List, [], ◌∷◌, length, map, get_or, Option, Some, None, refl, sym, ap, subst, arith}
-use Rattle.std.specs.Prelude.{MatchBool, ℤ}
+use Rattle.std.proofs.Common.{◌≡◌, ◌<◌, ◌≤◌, ◌∙◌, ◌++◌, ℕ, Bool, List, [], length, map, get_or, take, Result, Ok, Err, sym, ap, subst, arith}
 use Rattle.std.specs.List.{All}
-use Rattle.std.proofs.lemmas.List.{get_or_default, length-map}
-use Rattle.std.proofs.lemmas.Option.{slice_get_within}
-use Rattle.link_base.specs.Standard.{absent_value, Record}
-use Rattle.link_base.specs.declared.plan.CompareKind.{CompareKind}
-use Rattle.link_base.specs.declared.plan.CompareKind.TheVariants as by
-use Rattle.link_base.specs.declared.standard.Value.{Value}
-use Rattle.comparators.specs.Fields.{field_of, IsFieldSide}
-use Rattle.comparators.specs.OfPool.{IsDayItself, NamesCanon, StandsFor}
-use Rattle.comparators.specs.declared.ids.IdValue.{IdValue}
-use Rattle.comparators.specs.declared.ids.IdValue.TheVariants as id
-use Rattle.value_forms.specs.Canons.{canon_of, compares_days, day_in}
-use Rattle.pair_decisions.specs.Sides.{AreSidesOf, IsOfTexts}
-use Rattle.standard_files.specs.Ready.{AreFileSides, AreRowSides}
-use Rattle.settings.specs.Plan.{FieldKeys, plain_shares, PlainShares}
-use Rattle.settings.specs.declared.plan.Plan.{Plan}
-use Rattle.std.proofs.Common.{Result, Ok, Err, ◌++◌, take}
 use Rattle.std.specs.Prelude.{IfOk, slice_index}
+use Rattle.std.proofs.Math.Seq.{take-append_seam}
+use Rattle.std.proofs.lemmas.List.{get_or_default}
+use Rattle.link_base.specs.Standard.{Record}
 use Rattle.link_base.specs.declared.rule.RuleCell.{RuleCell}
 use Rattle.link_base.specs.declared.shares.FieldShares.{FieldShares}
+use Rattle.comparators.specs.declared.ids.IdValue.{IdValue}
 use Rattle.decision_rule.specs.Filled.{IsFilled}
 use Rattle.decision_rule.specs.Least.{IsLeast}
-use Rattle.link_report.specs.RuleText.{text_of_rule}
-use Rattle.patterns.specs.Chances.{rare_in}
-use Rattle.pair_decisions.proofs.ComparatorLemmas.{map_via}
-use Rattle.pair_decisions.specs.Comparators.{rares_of}
-use Rattle.pair_decisions.specs.PlanShares.{plain_all}
-use Rattle.link_core.specs.Rules.{IsFrontierText, IsRuleText, shared_rares}
 use Rattle.level_frontier.specs.Frontier.{FallsTo, IsFrontierRow, IsNearLeast}
 use Rattle.level_frontier.specs.declared.levels.FrontierRow.{FrontierRow}
 use Rattle.link_report.specs.FrontierText.{text_of_frontier}
-use Rattle.std.proofs.Math.Seq.{take-append_seam}
+use Rattle.link_report.specs.RuleText.{text_of_rule}
+use Rattle.patterns.specs.Chances.{rare_in}
+use Rattle.settings.specs.Plan.{FieldKeys, plain_shares, PlainShares}
+use Rattle.settings.specs.declared.plan.Plan.{Plan}
+use Rattle.standard_files.specs.Ready.{AreFileSides}
+use Rattle.pair_decisions.proofs.ComparatorLemmas.{map_via}
+use Rattle.pair_decisions.proofs.RuleSideLemmas.{sides_of_fields}
+use Rattle.pair_decisions.specs.Comparators.{rares_of}
+use Rattle.pair_decisions.specs.PlanShares.{plain_all}
+use Rattle.pair_decisions.specs.Sides.{AreSidesOf}
+use Rattle.link_core.specs.Rules.{IsFrontierText, IsRuleText, shared_rares}
 
--- a side that stands for a value names a text, where it is an id
-of_texts : (texts : List (List ℕ)) (kind : CompareKind) (x : Value) (side : IdValue) → StandsFor texts kind x side → IsOfTexts (length texts) side
-of_texts texts kind x id.Absent h = tt
-of_texts texts kind x (id.Day day) h = tt
-of_texts texts kind x (id.Id place) h = by_days (compares_days kind) (day_in x) (canon_of kind x) h
-  where
-    by_days : (days : Bool) (day : Option ℤ) (canon : Option (List ℕ)) → MatchBool days (IsDayItself day (id.Id place)) (NamesCanon texts canon (id.Id place)) → place < length texts
-    by_days true None canon h = absurd h
-    by_days true (Some day) canon h = absurd h
-    by_days false day None h = absurd h
-    by_days false day (Some text) h = slice_get_within texts place text h
-
-compared_at : (fields : List FieldKeys) (k : ℕ) (f : FieldKeys) → k < length fields → get_or (map (λ (g : FieldKeys). g.compare) fields) k by.Exact ≡ (get_or fields k f).compare
-compared_at [] k f h = absurd (omega arith)
-compared_at (g ∷ fields) zero f h = refl
-compared_at (g ∷ fields) (suc k) f h = compared_at fields k f (omega arith)
-
-of_row : (texts : List (List ℕ)) (fields : List FieldKeys) (row : List Value) (sides : List IdValue) → AreRowSides texts (map (λ (f : FieldKeys). f.compare) fields) row sides → AreSidesOf (length texts) fields sides
-of_row texts fields row sides h =
-    let many : length (map (λ (f : FieldKeys). f.compare) fields) ≡ length fields = length-map fields (λ (f : FieldKeys). f.compare) in
-    record {
-      as_many = h.as_many ∙ many;
-      valid = λ k f within.
-          let P : CompareKind → Type 0 = λ kind. IsFieldSide (field_of kind) (get_or sides k id.Absent) in
-          subst P (compared_at fields k f within) (h.valid k (omega (arith, many)));
-      of_texts = λ k within. of_texts texts _ (get_or row k absent_value) (get_or sides k id.Absent) (h.stand k (omega (arith, many)));
-    }
-
+-- the sides of all rows of a file
 pub sides_of_plan : (texts : List (List ℕ)) (n : ℕ) (fields : List FieldKeys) (file : List Record) (rows : List (List IdValue)) → n ≡ length texts → AreFileSides texts (map (λ (f : FieldKeys). f.compare) fields) file rows → All (AreSidesOf n fields) rows
 sides_of_plan texts n fields file rows many h k d within =
     let P : ℕ → Type 0 = λ m. AreSidesOf m fields (get_or rows k d) in
     let Q : List IdValue → Type 0 = λ sides. AreSidesOf (length texts) fields sides in
-    subst P (sym many) (subst Q (get_or_default rows k [] d within) (of_row texts fields _ (get_or rows k []) (h.of_row k (omega (arith, h.as_many)))))
+    let row = h.of_row k (omega (arith, h.as_many)) in
+    subst P (sym many) (subst Q (get_or_default rows k [] d within) (sides_of_fields texts fields _ (get_or rows k []) row.as_many row.stand row.valid))
 
 -- what is seen of shares tells in which fields a rare value is an outcome
 pub rares_seen : (all : List FieldShares) → shared_rares (plain_all all) ≡ rare_in all

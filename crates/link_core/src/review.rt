@@ -131,7 +131,8 @@ pub fn open_rows(
     Ok(rows)
 }
 
-/// The text of what is open: the header `id_a,id_b,pattern,weight`, and a line for each possible link without a verdict.
+/// The text of what is open: the header `id_a,id_b,pattern,weight`, and a line for each possible link that waits for a verdict:
+/// one that has none, or is undecided.
 pub fn open_lines(
     alloc: Global,
     prepared: &Prepared,

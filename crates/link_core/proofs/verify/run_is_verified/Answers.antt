@@ -5,9 +5,9 @@ use Rattle.link_base.specs.Rule.{IsWithinRanges}
 use Rattle.pair_decisions.specs.Comparators.{rares_of}
 use Rattle.written_check.specs.Short.{IsSmallCell}
 use Rattle.link_core.proofs.FileLemmas.{read_files}
-use Rattle.link_core.proofs.PlanLemmas.{read_plan}
 use Rattle.link_core.proofs.RunLemmas.{candidates_are, small_cells, weights_are}
 use Rattle.link_core.specs.Results.{candidates_in, compared_in}
+use Rattle.settings.proofs.Ranges.{read_plan}
 use Rattle.link_core.proofs.verify.run_is_verified.Goals as goal
 
 pub returns : goal.returns

@@ -1,7 +1,6 @@
-use Rattle.std.proofs.Common.{◌≡◌, List, ℕ, Option, subst, sym, rules}
-use Rattle.block_passes.specs.KeyIds.{key_ids}
+use Rattle.std.proofs.Common.{List, subst, sym}
 use Rattle.link_base.specs.Standard.{Record}
-use Rattle.pair_walk.specs.Rows.{AreAllReady, AreKeysHeld}
+use Rattle.pair_walk.specs.Rows.{AreAllReady}
 use Rattle.link_core.proofs.preparing.Prepared.blocks.Goals as goal
 
 pub new_in-requires-clause-ready_a : goal.new_in-requires-clause-ready_a
