@@ -1,4 +1,5 @@
--- Edges with prices and links: what every step of an assignment speaks of.
+-- Edges with prices and links, of which every step of an assignment speaks; `adopt_all` and `adopt_proposal` keep prices
+-- covering and links tight by their clause `between`.
 use Rattle.std.specs.Prelude.{◌≡◌, ℕ, ◌+◌, ◌<◌, ◌≤◌, List, length, slice_index_or, Option, Some, None}
 use Rattle.link_limits.specs.declared.TheConstants.{MOST_VALUE}
 use Rattle.assignment_steps.specs.declared.market.Edge.{Edge}

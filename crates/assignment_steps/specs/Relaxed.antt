@@ -1,4 +1,4 @@
--- Edges that are not relaxed yet in the growth of a tree.
+-- Machinery of a search, a measure by which it ends: the edges that are not relaxed yet in the growth of a tree.
 use Rattle.std.specs.Prelude.{ℕ, suc, ◌+◌, Bool, ◌||◌, ◌&&◌, ◌==◌, nat_le, if◌then◌else◌, List, [], ◌∷◌}
 use Rattle.assignment_steps.specs.declared.market.Edge.{Edge}
 use Rattle.assignment_steps.specs.Distances.{distance, far}

@@ -1,5 +1,6 @@
 -- An alternating tree as it grows from a record of A without a link, over candidates with positive values as edges
 -- (Edmonds and Karp 1972): what holds of all that the search has reached, whatever it may end at.
+-- `Reached::join` and `Reached::reach` carry it (clauses `joins` and `shortens`).
 use Rattle.std.specs.Prelude.{◌≡◌, ◌⊎◌, ℕ, ◌+◌, ◌<◌, ◌≤◌, List, [], ◌∷◌, ◌++◌, length, slice_set, Some, None, Contains}
 use Rattle.std.proofs.Common.{min}
 use Rattle.link_limits.specs.declared.TheConstants.{MOST_VALUE}

@@ -1,4 +1,5 @@
--- The ways along which links are turned round.
+-- Machinery of the assigners above: the ways along which links are turned round, from a record that a search has reached
+-- back to the record that it began at.
 use Rattle.std.specs.Prelude.{◌≡◌, ◌⊎◌, ℕ, zero, suc, ◌<◌, List, length, Option, Some, None}
 use Rattle.assignment_steps.specs.declared.market.Edge.{Edge}
 use Rattle.assignment_steps.specs.declared.market.Net.{Net}

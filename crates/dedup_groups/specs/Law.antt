@@ -1,4 +1,4 @@
--- The laws of leaders, carried by functions that do nothing.
+-- The laws of leaders, each the contract of a function that does nothing: `forest_leaders` and `leaders_tell_groups`.
 use Rattle.std.specs.Prelude.{◌≡◌, ◌↔◌, ℕ, ◌<◌, List, All, slice_index}
 use Rattle.link_base.specs.declared.rule.PairAt.{PairAt}
 use Rattle.dedup_groups.specs.Groups.{AreLeaders, GroupLists, IsForest, IsJoined, IsLinkWithin}

@@ -1,4 +1,4 @@
--- The lists of a search, as its functions see them.
+-- Machinery of the search: its lists, as its functions see them.
 use Rattle.dedup_groups.specs.Groups.{GroupLists, group_lists}
 use Rattle.dedup_groups.specs.declared.search.Trees.{Trees}
 

@@ -1,4 +1,5 @@
--- The laws of capacities, each carried by a clause of a function of `capacity_laws` that does nothing.
+-- The laws of capacities, each carried by a clause of a function that does nothing: `certified_within_is_greatest` and
+-- `single_capacities`.
 use Rattle.std.specs.Prelude.{◌≡◌, ◌↔◌, ℕ, ◌<◌, ℤ, List, length, All}
 use Rattle.link_base.specs.declared.rule.Candidate.{Candidate}
 use Rattle.price_check.specs.Assignment.{Certifies, IsGreatest, IsOneToOne}

@@ -1,4 +1,5 @@
--- The laws of certificates, each carried by a clause of a function of `laws` that does nothing.
+-- The laws of certificates, each carried by a clause of a function that does nothing: `certified_is_greatest`,
+-- `certificate_is_tight`, `prices_are_bounded`, `greatest_value_is_least` and `parts_together_are_certified`.
 use Rattle.std.specs.Prelude.{◌≡◌, ◌≢◌, ℕ, ℤ, pos, ◌+ℤ◌, ◌≤ℤ◌, List, All, Contains}
 use Rattle.link_base.specs.declared.rule.Candidate.{Candidate}
 use Rattle.price_check.specs.Assignment.{IsOneToOne, IsGreatest, Certifies, greatest_value, price_of}
