@@ -22,7 +22,7 @@ use Rattle.standard_files.specs.Values.{AreOfSorts, IsOfSort, sort_in_a, sort_in
 use Rattle.standard_files.specs.declared.sorts.TextSort.{TextSort}
 use Rattle.standardise.specs.DateReads.{date_read}
 use Rattle.standardise.specs.Names.{word_or_absent, words_of_text}
-use Rattle.link_base.specs.Texts.{stands_among as contains_text}
+use Rattle.link_base.specs.Texts.{stands_among}
 use Rattle.standardise.specs.Words.{without_titles}
 use Rattle.standardise.specs.declared.date_read.DateRead.{DateRead}
 use Rattle.standardise.specs.declared.date_read.DateRead.TheVariants as read
@@ -48,13 +48,13 @@ abbrev Keeps : (FieldSort → TextSort) → Type 0
 Keeps sort_in = (s : FieldSort) (t : Tables) (x : List ℕ) → IsValid (standard_value t (sort_in s) x) → IsOfSort s (standard_value t (sort_in s) x)
 
 pub a_keeps : Keeps sort_in_a
-a_keeps sort.Name t x h = name_of_sort (contains_text t.missing (trim x)) t.names (without_titles t.titles t.suffixes (words_of_text (trim x))) h
-a_keeps sort.Place t x h = place_of_sort (contains_text t.missing (trim x)) t.places (words_of_text (trim x)) h
+a_keeps sort.Name t x h = name_of_sort (stands_among t.missing (trim x)) t.names (without_titles t.titles t.suffixes (words_of_text (trim x))) h
+a_keeps sort.Place t x h = place_of_sort (stands_among t.missing (trim x)) t.places (words_of_text (trim x)) h
 a_keeps (sort.Date a b) t x h = date_of_sort a b (date_read a t.missing x) h
 
 pub b_keeps : Keeps sort_in_b
-b_keeps sort.Name t x h = name_of_sort (contains_text t.missing (trim x)) t.names (without_titles t.titles t.suffixes (words_of_text (trim x))) h
-b_keeps sort.Place t x h = place_of_sort (contains_text t.missing (trim x)) t.places (words_of_text (trim x)) h
+b_keeps sort.Name t x h = name_of_sort (stands_among t.missing (trim x)) t.names (without_titles t.titles t.suffixes (words_of_text (trim x))) h
+b_keeps sort.Place t x h = place_of_sort (stands_among t.missing (trim x)) t.places (words_of_text (trim x)) h
 b_keeps (sort.Date a b) t x h = date_of_sort a b (date_read b t.missing x) h
 
 abbrev sorts_in : (FieldSort → TextSort) → List FieldKeys → List TextSort
