@@ -9,7 +9,6 @@ use Rattle.link_base.specs.declared.fault.Fault.TheVariants as fault
 use Rattle.link_base.specs.declared.fault.FileRole.{FileRole}
 use Rattle.link_base.specs.declared.fault.FileRole.TheVariants as role
 use Rattle.link_base.specs.declared.rule.Candidate.{Candidate}
-use Rattle.link_core.proofs.PlanLemmas.{AreNames, read_plan}
 use Rattle.link_core.proofs.RunLemmas.{counted_few, given_few}
 use Rattle.link_core.specs.Decisions.{decided}
 use Rattle.link_core.specs.Prepared.{PreparedView}
@@ -20,8 +19,9 @@ use Rattle.link_outside.specs.Outside.{Held, Rose}
 use Rattle.link_outside.specs.declared.outside.SinkError.{SinkError}
 use Rattle.link_outside.specs.declared.outside.SinkError.TheVariants as sink
 use Rattle.link_outside.specs.declared.outside.StoreCall.{StoreCall}
+use Rattle.settings.proofs.Ranges.{read_plan}
 use Rattle.settings.specs.Plan.{PlainShares}
-use Rattle.settings.specs.Ranges.{IsFileName}
+use Rattle.settings.specs.Ranges.{AreFiles, IsFileName}
 use Rattle.settings.specs.Values.{is_output}
 use Rattle.settings.specs.declared.plan.Plan.{Plan}
 use Rattle.written_check.specs.Short.{AreShort}
@@ -106,10 +106,10 @@ puts_keep texts held name none =
     ∙ kept_if (bytes_eq (codes "pairs.csv") name) _ _ (turned (codes "pairs.csv") name both.0)
 
 -- the files of a plan are none of the outputs
-module _ (plan : Plan) (names : AreNames plan.file_a plan.file_b plan.sample plan.journal) where
+module _ (plan : Plan) (names : AreFiles plan.file_a plan.file_b plan.sample plan.journal) where
   loads_files : AllLoads IsKept (prepared_files plan)
   unfolding ◌>>=◌
-  loads_files = (names.of_a.no_output, λ a. (names.of_b.no_output, λ b. tt))
+  loads_files = (names.file_a.no_output, λ a. (names.file_b.no_output, λ b. tt))
 
   loads_sample : (files : PreparedView) (sample : Option (List ℕ)) → IfSome sample IsFileName → AllLoads IsKept (shares_over plan files sample)
   unfolding ◌>>=◌
@@ -123,14 +123,14 @@ module _ (plan : Plan) (names : AreNames plan.file_a plan.file_b plan.sample pla
 
   loads_decisions : (files : PreparedView) → AllLoads IsKept (decided_plan plan files)
   loads_decisions files =
-      loads_then IsKept (shares_over plan files plan.sample) _ (loads_sample files plan.sample names.of_sample) (λ shares.
+      loads_then IsKept (shares_over plan files plan.sample) _ (loads_sample files plan.sample names.sample) (λ shares.
       loads_then IsKept (gives (decided plan files shares)) _ tt (λ d. tt))
 
   loads_review : AllLoads IsKept (reviewed_plan plan)
   loads_review =
       loads_then IsKept (prepared_files plan) _ loads_files (λ files.
       loads_then IsKept (decided_plan plan files) _ (loads_decisions files) (λ found.
-      loads_then IsKept (journal_file files plan.journal) _ (loads_journal files plan.journal names.of_journal) (λ journal. tt)))
+      loads_then IsKept (journal_file files plan.journal) _ (loads_journal files plan.journal names.journal) (λ journal. tt)))
 
 loads_plan : (name : List ℕ) → IsKept name → AllLoads IsKept (plan_file name)
 unfolding ◌>>=◌
@@ -199,7 +199,7 @@ module _ (law : RunIsVerified) (name : List ℕ) (kept : IsKept name) (store : S
       let w : WrittenPlan = record { found = record { plan = plan; review = review }; texts = written_of put.texts } in
       let of_plan : outcome (plan_file name) after ≡ Ok plan = same_outcome IsKept held after (puts_keep put.texts held) (plan_file name) (loads_plan name kept) ∙ from.of_settings in
       let of_review : outcome (reviewed_plan plan) after ≡ Ok review =
-      same_outcome IsKept held after (puts_keep put.texts held) (reviewed_plan plan) (loads_review plan kept_plan.names) ∙ reviewed plan review held from.by in
+      same_outcome IsKept held after (puts_keep put.texts held) (reviewed_plan plan) (loads_review plan kept_plan.files) ∙ reviewed plan review held from.by in
       let of_found : outcome (reviewed_settings name) after ≡ Ok found = outcome_go (plan_file name) _ after plan of_plan ∙ outcome_go (reviewed_plan plan) _ after review of_review in
       let whole : outcome (verified_settings name) after ≡ Ok w =
       outcome_go (reviewed_settings name) _ after found of_found ∙ outcome_go written_files _ after (written_of put.texts) (written_held put.texts held short) in

@@ -1,4 +1,5 @@
--- The commands: which one the words are a form of, and its script.
+-- The commands: which one the words are a form of, by the clause `usage` of `perform`, and its script, which the clause `follows` says is
+-- followed.
 use Rattle.std.specs.Prelude.{ℕ, List, drop, if◌then◌else◌, Option, Some, None}
 use Rattle.link_shell.specs.Does.{Script}
 use Rattle.link_shell.specs.DuplicatesSettings.{are_duplicates_words, duplicates_script}

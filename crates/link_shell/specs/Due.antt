@@ -1,4 +1,4 @@
--- What is due of a command that is not refused, and what doing it leaves.
+-- What is due of a command that is not refused, and what doing it leaves: the dues of which the clause `follows` of `perform` speaks (`Does`).
 use Rattle.std.specs.Prelude.{◌≡◌, ◌⊎◌, ◌≤◌, ◌<◌, ◌+◌, ◌++◌, ◌∷◌, [], ℕ, List, length, map, take, slice_index_or, true, ⊤}
 use Rattle.link_outside.specs.Outside.{Held, held_with, TakesFront}
 use Rattle.link_outside.specs.declared.outside.StoreCall.{StoreCall}
@@ -76,7 +76,7 @@ abbrev pub TakesSome : Due → SinkSeen → Type 0
 TakesSome (prints ended text) out = out.tells → TakesFront text out.taken_before out.taken_after
 TakesSome (puts all) out = IsUncalled out
 
--- the puts of outputs as they are held
+-- machinery: the puts of outputs as a body holds them
 abbrev pub put_in : Output → Put
 put_in output = record { name = output.name.now; bytes = output.bytes.now }
 

@@ -21,7 +21,7 @@ use Rattle.link_shell.specs.declared.ends.Ended.TheVariants.{Done}
 abbrev pub are_duplicates_words : List (List ℕ) → Bool
 are_duplicates_words = are_verb_and_settings (codes "duplicates")
 
--- a plan is that of a file with itself
+-- machinery: a plan is that of a file with itself
 abbrev pub IsWithin : Plan → Type 0
 IsWithin plan = (whole : Plan) × (plan ≡ plan_within whole)
 
@@ -30,6 +30,7 @@ pub record Within : Type 0 where
   pub files : PreparedView
   pub decided : Decisions
 
+-- machinery: as a body holds it
 abbrev pub within_of : DecidedWithin → Within
 within_of d = record { files = d.files; decided = decisions_of d.decided }
 

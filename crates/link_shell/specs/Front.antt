@@ -1,4 +1,4 @@
--- What several commands load at their front.
+-- What several commands load at their front: first steps of the scripts of which the clause `follows` of `perform` speaks.
 use Rattle.std.specs.Prelude.{ℕ, List, Option, Some, None, Ok}
 use Rattle.link_base.specs.declared.fault.FileRole.TheVariants as role
 use Rattle.settings.specs.Settings.{settings}

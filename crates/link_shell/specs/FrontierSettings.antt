@@ -10,6 +10,7 @@ use Rattle.link_shell.specs.Words.{is_settings_word, word}
 use Rattle.link_shell.specs.declared.ends.Ended.TheVariants.{Done}
 use Rattle.link_shell.specs.declared.front.Shared.{Shared}
 use Rattle.link_shell.specs.declared.frontier_settings.FrontierRequest.{FrontierRequest}
+use Rattle.link_shell.specs.declared.words.TheConstants.{MOST_LISTED}
 
 -- a level in parts per million
 abbrev pub is_level_word : List ℕ → Bool
@@ -20,10 +21,10 @@ abbrev pub are_levels_from : ℕ → List (List ℕ) → Bool
 are_levels_from least [] = true
 are_levels_from least (w ∷ ws) = is_level_word w && nat_le least (number_in w) && are_levels_from (number_in w + 1) ws
 
--- a settings file, and 1 to 100 levels that rise
+-- a verb, a settings file, and 1 to 100 levels that rise
 abbrev pub are_frontier_words : List (List ℕ) → Bool
 are_frontier_words words =
-    nat_le 3 (length words) && nat_le (length words) 102 && bytes_eq (word words 0) (codes "frontier") && is_settings_word (word words 1)
+    nat_le 3 (length words) && nat_le (length words) (MOST_LISTED + 2) && bytes_eq (word words 0) (codes "frontier") && is_settings_word (word words 1)
     && are_levels_from 0 (drop 2 words)
 
 -- the settings file, and the asked levels of links
@@ -34,7 +35,7 @@ pub record Asked : Type 0 where
 abbrev pub asked_in : List (List ℕ) → Asked
 asked_in words = record { name = word words 1; levels = map number_in (drop 2 words) }
 
--- the words as they are held
+-- machinery: the words as a body holds them
 abbrev pub asked_of_request : FrontierRequest → Asked
 asked_of_request r = record { name = r.name.now; levels = map number_in (map string_bytes r.levels.now) }
 

@@ -1,4 +1,5 @@
--- The command `generate NUMBER`: a made input of so many rows in each file, run in memory; the first lines of its report are printed.
+-- The command `generate NUMBER`: its words, its steps and what is due, by the clause `follows` of `perform`. A made input of so many rows in each
+-- file is run in memory, and the first lines of its report are printed.
 use Rattle.std.specs.Prelude.{◌≡◌, ◌≤◌, ◌==◌, ◌&&◌, ℕ, List, [], Bool, bytes_eq, codes, length, nat_le, Result, Ok}
 use Rattle.link_limits.specs.declared.TheConstants.{MOST_POOLED_BYTES, MOST_ROWS}
 use Rattle.link_base.specs.Answers.{and_then}
@@ -19,6 +20,7 @@ use Rattle.link_shell.specs.Reviewed.{ReviewedPlan, SharedDecisions}
 use Rattle.link_shell.specs.Steps.{gives}
 use Rattle.link_shell.specs.Words.{word}
 use Rattle.link_shell.specs.declared.ends.Ended.TheVariants.{Done}
+use Rattle.link_shell.specs.declared.generate.TheConstants.{HEAD_LINES}
 use Rattle.link_shell.specs.declared.generate.MadeDecisions.{MadeDecisions}
 
 -- 2 to 100,000, without a leading zero
@@ -31,6 +33,7 @@ are_generate_words words = (length words == 2) && bytes_eq (word words 0) (codes
 abbrev pub rows_asked : List (List ℕ) → ℕ
 rows_asked words = number_in (word words 1)
 
+-- machinery: the number that was read
 pub record IsMadeNumber (rows : ℕ) : Type 0 where
   pub some : 2 ≤ rows
   pub few : rows ≤ MOST_ROWS
@@ -50,14 +53,15 @@ decided_input bytes a b sample =
     and_then (decided_sample plan files sample) (λ found.
     Ok (record { plan = plan; review = record { files = files; shares = found.shares; decided = found.decided; journal = [] } }))))
 
+-- machinery: what was decided as a body holds it
 abbrev pub review_of_made : MadeDecisions → ReviewedPlan
 review_of_made d = record { plan = d.plan; review = record { files = d.files; shares = d.shares; decided = decisions_of d.decided; journal = [] } }
 
--- the first sixteen lines of the report of a run are printed
+-- the lines of the report of a run up to its dropped candidates of a run are printed
 abbrev pub head_is_printed : ReviewedPlan → Due → Type 0
 head_is_printed found due =
     (texts : RunTexts) × AreRunTexts found.plan found.review.files found.review.decided.rule found.review.journal texts
-    × (due ≡ prints Done (first_lines_of 16 texts.report))
+    × (due ≡ prints Done (first_lines_of HEAD_LINES texts.report))
 
 abbrev pub generate_script : ℕ → Script
 generate_script rows = record {

@@ -1,5 +1,5 @@
--- The command `keys WORD..`.
-use Rattle.std.specs.Prelude.{ℕ, List, drop, length, Bool, ◌&&◌, nat_le, bytes_eq, codes, Ok}
+-- The command `keys WORD..`: its words, its steps and what is due, by the clause `follows` of `perform`.
+use Rattle.std.specs.Prelude.{◌+◌, ℕ, List, drop, length, Bool, ◌&&◌, nat_le, bytes_eq, codes, Ok}
 use Rattle.std.specs.List.{list_all}
 use Rattle.link_limits.specs.declared.TheConstants.{MOST_NAME_BYTES}
 use Rattle.link_core.specs.NameKeys.{keys_text}
@@ -7,11 +7,12 @@ use Rattle.link_shell.specs.Does.{Script}
 use Rattle.link_shell.specs.Due.{is_printed}
 use Rattle.link_shell.specs.Steps.{gives}
 use Rattle.link_shell.specs.Words.{word}
+use Rattle.link_shell.specs.declared.words.TheConstants.{MOST_LISTED}
 
--- 1 to 100 words of at most 255 bytes
+-- a verb, and 1 to 100 words of at most 255 bytes
 abbrev pub are_keys_words : List (List ℕ) → Bool
 are_keys_words words =
-    nat_le 2 (length words) && nat_le (length words) 101 && bytes_eq (word words 0) (codes "keys")
+    nat_le 2 (length words) && nat_le (length words) (MOST_LISTED + 1) && bytes_eq (word words 0) (codes "keys")
     && list_all (λ w. nat_le (length w) MOST_NAME_BYTES) (drop 1 words)
 
 -- the text of the words: nothing is loaded

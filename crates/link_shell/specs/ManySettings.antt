@@ -25,7 +25,7 @@ pub record ManyFiles : Type 0 where
 abbrev pub many_in : List (List ℕ) → ManyFiles
 many_in words = record { name = word words 1; capacities = word words 2 }
 
--- the words as they are held
+-- machinery: the words as a body holds them
 abbrev pub many_of_request : ManyRequest → ManyFiles
 many_of_request r = record { name = r.name.now; capacities = r.capacities.now }
 

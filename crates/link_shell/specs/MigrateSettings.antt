@@ -1,4 +1,5 @@
--- The command `migrate SETTINGS`: the journal as it is read, written in the newest version.
+-- The command `migrate SETTINGS`: its words, its steps and what is due, by the clause `follows` of `perform`: the journal as it is read, written
+-- in the newest version.
 use Rattle.std.specs.Prelude.{◌≡◌, ◌∷◌, [], ℕ, List, Bool, codes, Ok}
 use Rattle.link_core.specs.Prepared.{PreparedView}
 use Rattle.link_core.specs.Review.{journal_lines_of}

@@ -1,4 +1,5 @@
--- The command `open SETTINGS`: the possible links that wait for a verdict.
+-- The command `open SETTINGS`: its words, its steps and what is due, by the clause `follows` of `perform`: the possible links that wait for a
+-- verdict.
 use Rattle.std.specs.Prelude.{ℕ, List, Bool, codes}
 use Rattle.link_core.specs.Review.{open_text_of}
 use Rattle.link_shell.specs.Does.{Script}

@@ -1,4 +1,4 @@
--- The command `pairs A B COLUMN`.
+-- The command `pairs A B COLUMN`: its words, its steps and what is due, by the clause `follows` of `perform`.
 use Rattle.std.specs.Prelude.{ℕ, List, length, Bool, ◌==◌, ◌&&◌, bytes_eq, codes}
 use Rattle.link_core.specs.ColumnPairs.{rows_of_pairs}
 use Rattle.link_shell.specs.Does.{Script}
@@ -22,7 +22,7 @@ are_column_words words =
 abbrev pub columns_in : List (List ℕ) → Columns
 columns_in words = record { a = word words 1; b = word words 2; column = word words 3 }
 
--- the words as they are held
+-- machinery: the words as a body holds them
 abbrev pub columns_of_request : ColumnRequest → Columns
 columns_of_request r = record { a = r.a.now; b = r.b.now; column = r.column.now }
 

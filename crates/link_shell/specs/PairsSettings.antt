@@ -1,4 +1,4 @@
--- The command `pairs SETTINGS`.
+-- The command `pairs SETTINGS`: its words, its steps and what is due, by the clause `follows` of `perform`.
 use Rattle.std.specs.Prelude.{ℕ, List, Bool, codes}
 use Rattle.link_core.specs.Pairs.{ids_of_prepared}
 use Rattle.link_shell.specs.Does.{Script}

@@ -1,4 +1,5 @@
--- The command `review SETTINGS VERDICTS DATE REVIEWER`: new verdicts on possible links, added to the journal.
+-- The command `review SETTINGS VERDICTS DATE REVIEWER`: its words, its steps and what is due, by the clause `follows` of `perform`: new verdicts
+-- on possible links, added to the journal.
 use Rattle.std.specs.Prelude.{ℕ, ℤ, pos, List, length, Bool, ◌==◌, ◌&&◌, bytes_eq, codes, is_some, unwrap_or, Ok}
 use Rattle.link_base.specs.Standard.{IsDay}
 use Rattle.review_journal.specs.Journal.{IsReviewer}
@@ -35,11 +36,11 @@ review_in words = record {
   reviewer = word words 4;
 }
 
--- the words as they are held
+-- machinery: the words as a body holds them
 abbrev pub review_of_request : ReviewRequest → NewReview
 review_of_request r = record { name = r.name.now; verdicts = r.verdicts.now; date = r.date; reviewer = r.reviewer.now }
 
--- the day is one of the years 0001 to 9999, and the reviewer has a name
+-- machinery: the day that was read is one of the years 0001 to 9999, and the reviewer has a name
 pub record IsReviewRequest (r : ReviewRequest) : Type 0 where
   pub day : IsDay r.date
   pub reviewer : IsReviewer r.reviewer.now

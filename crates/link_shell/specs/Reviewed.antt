@@ -1,4 +1,5 @@
--- What several commands find of a plan that clerical review goes on with: the decisions of its rule, and its journal.
+-- What several commands find of a plan that clerical review goes on with, the decisions of its rule and its journal: first steps of the scripts
+-- of which the clause `follows` of `perform` speaks.
 use Rattle.std.specs.Prelude.{ℕ, List, [], codes, is_some, unwrap_or, Option, Some, None, Result, Ok, Err, if◌then◌else◌}
 use Rattle.link_base.specs.declared.fault.Fault.{Fault}
 use Rattle.link_base.specs.declared.fault.Fault.TheVariants as fault
@@ -27,6 +28,7 @@ pub record Review : Type 0 where
   pub decided : Decisions
   pub journal : List Entry
 
+-- machinery: as a body holds it
 abbrev pub review_of : Reviewed → Review
 review_of r = record { files = r.files; shares = r.shares; decided = decisions_of r.decided; journal = r.journal }
 
@@ -42,6 +44,7 @@ pub record SharedDecisions : Type 0 where
   pub shares : List PlainShares
   pub decided : Decisions
 
+-- machinery: as a body holds them
 abbrev pub shared_decisions_of : DecidedPlan → SharedDecisions
 shared_decisions_of d = record { shares = d.shares; decided = decisions_of d.decided }
 
@@ -65,10 +68,11 @@ pub record ReviewedPlan : Type 0 where
   pub plan : Plan
   pub review : Review
 
+-- machinery: as a body holds it
 abbrev pub found_of : ReviewedSettings → ReviewedPlan
 found_of s = record { plan = s.plan; review = review_of s.reviewed }
 
--- the files are those of the plan, and so are the decisions, by the rule of the plan and of the shares
+-- machinery: the files are those of the plan, and so are the decisions, by the rule of the plan and of the shares
 pub record IsReviewed (s : ReviewedSettings) : Type 0 where
   pub ranges : KeepsRanges s.plan
   pub ready : IsPreparedFor s.plan s.reviewed.files

@@ -1,4 +1,5 @@
--- The command `rule SETTINGS`: its words, its steps and what is due; the law `printed_rule_is_least` says that it is least.
+-- The command `rule SETTINGS`: its words, its steps and what is due, by the clause `follows` of `perform`; the law `printed_rule_is_least` says
+-- that it is least.
 use Rattle.std.specs.Prelude.{◌≡◌, ℕ, List, Bool, codes}
 use Rattle.link_base.specs.declared.rule.RuleCell.{RuleCell}
 use Rattle.decision_rule.specs.Least.{IsLeast}

@@ -1,4 +1,4 @@
--- A store and a sink as clauses see them, before and after.
+-- A store and a sink as the clauses of `perform` and `linkage` see them, before and after.
 use Rattle.std.specs.Prelude.{◌≡◌, ℕ, List}
 use Rattle.link_outside.specs.Outside.{Held}
 use Rattle.link_outside.specs.declared.outside.StoreCall.{StoreCall}

@@ -6,9 +6,8 @@ use Rattle.link_base.specs.declared.rule.Candidate.{Candidate}
 use Rattle.link_core.specs.Verify.{is_proved, line_of, verified_in, Verifies}
 use Rattle.link_core.specs.declared.verify.Verification.{Verification}
 use Rattle.link_limits.specs.declared.TheConstants.{MOST_WRITTEN_BYTES}
-use Rattle.written_check.specs.Verified.{texts_in, WrittenTexts}
+use Rattle.written_check.specs.Verified.{WrittenTexts}
 use Rattle.written_check.specs.declared.refutation.Refutation.{Refutation}
-use Rattle.written_check.specs.declared.written.Written.{Written}
 use Rattle.link_shell.specs.Does.{Script}
 use Rattle.link_shell.specs.Due.{Due, prints}
 use Rattle.link_shell.specs.Reviewed.{reviewed_settings, ReviewedPlan}
@@ -33,9 +32,6 @@ pub record WrittenPlan : Type 0 where
   pub found : ReviewedPlan
   pub texts : WrittenTexts
 
-abbrev pub written_of : ReviewedPlan → Written → WrittenPlan
-written_of found written = record { found = found; texts = texts_in written }
-
 -- the written files, after a plan with its decisions and its journal
 abbrev pub written_plan : ReviewedPlan → Steps WrittenPlan
 written_plan found = do
@@ -51,7 +47,7 @@ verified_settings name = do
 abbrev pub proved_by : WrittenPlan → Result (List Candidate) Refutation
 proved_by w = verified_in w.found.plan w.found.review.files w.found.review.decided.rule w.found.review.journal w.texts
 
--- it is told whether the files prove their links, with the line that says so
+-- machinery: it is told whether the files prove their links, with the line that says so
 abbrev pub tells_of : WrittenPlan → Verification → Type 0
 tells_of w told = Verifies w.found.review.files (proved_by w) told
 

@@ -1,4 +1,5 @@
--- The two ends of a command: a text for `out` (`print`), or puts one after the other (`put_each`).
+-- The two ends of a command, a text for `out` (`print`) or puts one after the other (`put_each`): the machinery of the bodies that follow
+-- scripts, whose contracts speak of `Does` alone.
 use Rattle.std.specs.Prelude.{◌≡◌, ◌⊎◌, ◌≤◌, ◌++◌, ◌∷◌, [], ℕ, List, Result, Ok, Err}
 use Rattle.link_base.specs.declared.fault.Fault.{Fault}
 use Rattle.link_base.specs.declared.fault.Fault.TheVariants as fault

@@ -11,7 +11,7 @@ ghost use Rattle.link_limits.specs.declared.TheConstants.{PER_MILLION};
 
 use crate::ends::{Ended, print_lines};
 use crate::front::{Shared, load_shared};
-use crate::words::{is_settings, word_at};
+use crate::words::{MOST_LISTED, is_settings, word_at};
 use csv_rows::number_of;
 use link_base::{Fault, NoMemory, Text};
 use link_core::frontier_lines;
@@ -47,7 +47,7 @@ pub(crate) fn read(words: &[String]) -> Option<FrontierRequest<'_>>
     ensures asked { IfSome result (λ r. asked_of_request r ≡ asked_in (map string_bytes words.now)) }
     ensures levels { IfSome result (λ r. list_all is_level_word (map string_bytes r.levels.now) ≡ true) }
 {
-    if words.len() < 3 || words.len() > 102 || word_at(words, 0) != "frontier" {
+    if words.len() < 3 || words.len() > MOST_LISTED + 2 || word_at(words, 0) != "frontier" {
         return None;
     }
     let name = word_at(words, 1);

@@ -6,6 +6,9 @@ ghost use Rattle.link_shell.specs.Words.{are_verb_and_settings, is_settings_word
 use link_limits::MOST_NAME_BYTES;
 use settings::is_output;
 
+/// The most words that a command lists: the words of `keys`, and the levels of `frontier`.
+pub(crate) const MOST_LISTED: usize = 100;
+
 // The word at a place.
 #[tactic(auto, using(crate::proofs::WordFacts::word_there))]
 pub(crate) fn word_at(words: &[String], at: usize) -> &str

@@ -1,9 +1,15 @@
 use Rattle.std.proofs.Common.{Ok, refl}
-use Rattle.link_shell.specs.Reviewed.{found_of}
+use Rattle.link_shell.specs.Reviewed.{found_of, ReviewedPlan}
 use Rattle.link_shell.specs.Steps.{gives}
-use Rattle.link_shell.specs.VerifySettings.{tells_of, written_of}
+use Rattle.link_shell.specs.VerifySettings.{tells_of, WrittenPlan}
+use Rattle.written_check.specs.Verified.{texts_in}
+use Rattle.written_check.specs.declared.written.Written.{Written}
 use Rattle.link_shell.proofs.StepFacts.{makes_end, makes_go, makes_want, takes_go, takes_value}
 use Rattle.link_shell.proofs.verify_settings.verify_found.Goals as goal
+
+-- the written files as a body holds them, after a plan with its decisions and its journal
+abbrev written_of : ReviewedPlan → Written → WrittenPlan
+written_of found written = record { found = found; texts = texts_in written }
 
 pub returns-in_err-written : goal.returns-in_err-written
 returns-in_err-written g c = makes_end _ _ tells_of _ c.in_err-written.ensures.takes c.from_residual.ensures.1
