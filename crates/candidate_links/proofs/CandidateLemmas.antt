@@ -1,6 +1,6 @@
 -- What the pairs of decided lists give as candidates: few, rising, between records that are there.
-use Rattle.std.proofs.Common.{◌≡◌, ◌≤◌, ◌+◌, ℕ, suc, List, [], ◌∷◌, Option, Some, None, length, refl, sym, ap, ◌∙◌, inl, inr, arith, subst}
-use Rattle.std.specs.Prelude.{ℤ, ◌≤ℤ◌, All, AllPairs, filter_map}
+use Rattle.std.proofs.Common.{◌≡◌, ◌≤◌, ℕ, suc, List, [], ◌∷◌, Option, Some, None, length, refl, sym, ap, ◌∙◌, inl, inr, arith, subst}
+use Rattle.std.specs.Prelude.{ℤ, pos, ◌≤ℤ◌, All, AllPairs, filter_map}
 use Rattle.std.specs.List.{cons_option}
 use Rattle.std.proofs.lemmas.List.Elements.{All-cons, All-nil, All-tail, All-head, All-weaker}
 use Rattle.std.proofs.lemmas.Int.{ints}
@@ -112,7 +112,7 @@ module _ (rule : SideRule) (rows_a rows_b : List (List IdValue)) (entries : List
   merged_all pairs rising = merged_filters links possibles (candidate_of rule rows_a rows_b entries award) _ _ gives pairs rising
 
 -- the candidates of decided lists are those of every list of pairs of which these are the decisions
-pub are_candidates : (rows_a rows_b : List (List IdValue)) (entries : List Entry) (award : ℕ) (d : DecidedView) (cs : List Candidate) → 474 + award ≤ MOST_VALUE
+pub are_candidates : (rows_a rows_b : List (List IdValue)) (entries : List Entry) (award : ℕ) (d : DecidedView) (cs : List Candidate) → most_value award ≤ℤ pos MOST_VALUE
     → cs ≡ merged (of_link (side_rule d.rule) rows_a rows_b) (of_possible (side_rule d.rule) rows_a rows_b entries award) d.links d.possible
     → All (λ (c : Candidate). c.value ≤ℤ most_value award) cs
     → (pairs : List PairAt) → AreDecisionsOn rows_a rows_b pairs d → AreCandidates (length rows_a) (length rows_b) (candidates_of (side_rule d.rule) rows_a rows_b entries award pairs) cs

@@ -1,5 +1,5 @@
 -- No candidate is worth more than the greatest weight and the award.
-use Rattle.std.proofs.Common.{◌≡◌, ◌∷◌, ℕ, ℤ, pos, negsuc, List, [], Bool, true, false, Option, Some, None, arith, subst}
+use Rattle.std.proofs.Common.{◌≡◌, ◌∷◌, ℕ, ℤ, List, [], Bool, true, false, Option, Some, None, arith, subst}
 use Rattle.std.specs.Prelude.{◌≤ℤ◌, All, find, if◌then◌else◌, unwrap_or}
 use Rattle.std.proofs.lemmas.Int.{ints}
 use Rattle.std.proofs.lemmas.List.Elements.{All-contains_itself, All-head, All-nil, All-tail}
@@ -14,29 +14,30 @@ use Rattle.link_base.specs.declared.rule.PairAt.{PairAt}
 use Rattle.link_base.specs.declared.rule.RuleCell.{RuleCell}
 use Rattle.link_base.specs.declared.rule.Verdict.{Verdict}
 use Rattle.link_base.specs.declared.rule.Verdict.TheVariants as verdict
+use Rattle.link_limits.specs.declared.TheConstants.{GREATEST_WEIGHT, LEAST_WEIGHT}
 use Rattle.pair_decisions.specs.Decisions.{decision_at, pattern_at}
 use Rattle.pair_decisions.specs.PairRule.{cell_of, has_pattern, SideRule}
 use Rattle.review_journal.specs.Verdict.{verdict_on}
 use Rattle.review_journal.specs.declared.entry.Entry.{Entry}
 use Rattle.candidate_links.proofs.CandidateLemmas.{all_if, some_same}
-use Rattle.candidate_links.specs.Candidates.{by_decision, candidate_by_verdict, candidate_of, candidates_of, HasBounds, linked, most_value, weight_of}
+use Rattle.candidate_links.specs.Candidates.{by_decision, candidate_by_verdict, candidate_of, candidates_of, HasBounds, linked, most_value, weight_of_pair}
 
 -- the weight of a cell that is found, or of none
-found_first : (x : RuleCell) (rest : Option RuleCell) (b : Bool) → x.weight ≤ℤ pos 474 → (unwrap_or rest empty_cell).weight ≤ℤ pos 474 → (unwrap_or (if b then Some x else rest) empty_cell).weight ≤ℤ pos 474
+found_first : (x : RuleCell) (rest : Option RuleCell) (b : Bool) → x.weight ≤ℤ GREATEST_WEIGHT → (unwrap_or rest empty_cell).weight ≤ℤ GREATEST_WEIGHT → (unwrap_or (if b then Some x else rest) empty_cell).weight ≤ℤ GREATEST_WEIGHT
 found_first x rest true here later = here
 found_first x rest false here later = later
 
-weight_most : (cells : List RuleCell) (pattern : ℕ) → All IsWithinRanges cells → (cell_of cells pattern).weight ≤ℤ pos 474
+weight_most : (cells : List RuleCell) (pattern : ℕ) → All IsWithinRanges cells → (cell_of cells pattern).weight ≤ℤ GREATEST_WEIGHT
 weight_most [] pattern all = omega (arith, ints)
 weight_most (x ∷ xs) pattern all =
     found_first x (find (has_pattern pattern) xs) (has_pattern pattern x) (All-head IsWithinRanges x xs all).weight_high (weight_most xs pattern (All-tail IsWithinRanges x xs all))
 
 -- the weight of a cell that is found, or of none
-least_first : (x : RuleCell) (rest : Option RuleCell) (b : Bool) → negsuc 479 ≤ℤ x.weight → negsuc 479 ≤ℤ (unwrap_or rest empty_cell).weight → negsuc 479 ≤ℤ (unwrap_or (if b then Some x else rest) empty_cell).weight
+least_first : (x : RuleCell) (rest : Option RuleCell) (b : Bool) → LEAST_WEIGHT ≤ℤ x.weight → LEAST_WEIGHT ≤ℤ (unwrap_or rest empty_cell).weight → LEAST_WEIGHT ≤ℤ (unwrap_or (if b then Some x else rest) empty_cell).weight
 least_first x rest true here later = here
 least_first x rest false here later = later
 
-weight_least : (cells : List RuleCell) (pattern : ℕ) → All IsWithinRanges cells → negsuc 479 ≤ℤ (cell_of cells pattern).weight
+weight_least : (cells : List RuleCell) (pattern : ℕ) → All IsWithinRanges cells → LEAST_WEIGHT ≤ℤ (cell_of cells pattern).weight
 weight_least [] pattern all = omega (arith, ints)
 weight_least (x ∷ xs) pattern all =
     least_first x (find (has_pattern pattern) xs) (has_pattern pattern x) (All-head IsWithinRanges x xs all).weight_low (weight_least xs pattern (All-tail IsWithinRanges x xs all))
@@ -44,14 +45,14 @@ weight_least (x ∷ xs) pattern all =
 bounds_by : (w : ℤ) (award : ℕ) (x c : Candidate) → HasBounds award x → Some x ≡ Some c → HasBounds award c
 bounds_by w award x c h e = subst (HasBounds award) (some_same x c e) h
 
-verdict_bounds : (v : Option Verdict) (at : PairAt) (w : ℤ) (award : ℕ) (c : Candidate) → negsuc 479 ≤ℤ w → w ≤ℤ pos 474 → candidate_by_verdict v at w award ≡ Some c → HasBounds award c
+verdict_bounds : (v : Option Verdict) (at : PairAt) (w : ℤ) (award : ℕ) (c : Candidate) → LEAST_WEIGHT ≤ℤ w → w ≤ℤ GREATEST_WEIGHT → candidate_by_verdict v at w award ≡ Some c → HasBounds award c
 verdict_bounds (Some verdict.Link) at w award c low high e =
     bounds_by w award _ c (record { weight_low = low; weight_high = high; value_low = omega (arith, ints, low); value_high = omega (arith, ints, high) }) e
 verdict_bounds (Some verdict.NonLink) at w award c low high e = absurd (cc)
 verdict_bounds (Some verdict.Undecided) at w award c low high e = absurd (cc)
 verdict_bounds None at w award c low high e = absurd (cc)
 
-decision_bounds : (d : Decision) (v : Option Verdict) (at : PairAt) (w : ℤ) (award : ℕ) (c : Candidate) → negsuc 479 ≤ℤ w → w ≤ℤ pos 474
+decision_bounds : (d : Decision) (v : Option Verdict) (at : PairAt) (w : ℤ) (award : ℕ) (c : Candidate) → LEAST_WEIGHT ≤ℤ w → w ≤ℤ GREATEST_WEIGHT
     → by_decision d (Some (linked at w)) (candidate_by_verdict v at w award) ≡ Some c → HasBounds award c
 decision_bounds decision.Link v at w award c low high e = bounds_by w award _ c (record { weight_low = low; weight_high = high; value_low = low; value_high = omega (arith, ints, high) }) e
 decision_bounds decision.Possible v at w award c low high e = verdict_bounds v at w award c low high e
@@ -60,7 +61,7 @@ decision_bounds decision.NonLink v at w award c low high e = absurd (cc)
 module _ (rule : SideRule) (rows_a rows_b : List (List IdValue)) (entries : List Entry) (award : ℕ) (ranges : All IsWithinRanges rule.cells) where
   candidate_bounds : (at : PairAt) (c : Candidate) → candidate_of rule rows_a rows_b entries award at ≡ Some c → HasBounds award c
   candidate_bounds at c e =
-      decision_bounds (decision_at rule rows_a rows_b at) (verdict_on entries at.a at.b) at (weight_of rule rows_a rows_b at) award c
+      decision_bounds (decision_at rule rows_a rows_b at) (verdict_on entries at.a at.b) at (weight_of_pair rule rows_a rows_b at) award c
       (weight_least rule.cells (pattern_at rule rows_a rows_b at) ranges) (weight_most rule.cells (pattern_at rule rows_a rows_b at) ranges) e
 
   pub all_bounds : (pairs : List PairAt) → All (HasBounds award) (candidates_of rule rows_a rows_b entries award pairs)

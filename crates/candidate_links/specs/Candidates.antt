@@ -1,8 +1,8 @@
 -- The candidates for links among decided pairs: the links by rule, and the possible links that clerical review calls links,
 -- each with what it is worth (Fellegi and Sunter 1969, section 2). `candidates_among` carries it (clauses
 -- `candidates` and `most`).
-use Rattle.std.specs.Prelude.{◌≡◌, ◌+◌, ◌≤◌, ◌+ℤ◌, ◌≤ℤ◌, ℕ, ℤ, pos, negsuc, true, false, List, All, AllPairs, filter_map, length, Option, Some, None}
-use Rattle.link_limits.specs.declared.TheConstants.{MOST_PAIRS}
+use Rattle.std.specs.Prelude.{◌≡◌, ◌≤◌, ◌+ℤ◌, ◌≤ℤ◌, ℕ, ℤ, pos, true, false, List, All, AllPairs, filter_map, length, Option, Some, None}
+use Rattle.link_limits.specs.declared.TheConstants.{GREATEST_WEIGHT, LEAST_WEIGHT, MOST_PAIRS}
 use Rattle.assignment.specs.Solution.{HasSmallValue}
 use Rattle.price_check.specs.Assignment.{IsBefore, IsWithin}
 use Rattle.comparators.specs.declared.ids.IdValue.{IdValue}
@@ -18,8 +18,8 @@ use Rattle.review_journal.specs.Verdict.{verdict_on}
 use Rattle.review_journal.specs.declared.entry.Entry.{Entry}
 
 -- the weight of the comparison pattern of a pair, in eighths of a bit
-abbrev pub weight_of : SideRule → List (List IdValue) → List (List IdValue) → PairAt → ℤ
-weight_of rule rows_a rows_b at = (cell_of rule.cells (pattern_at rule rows_a rows_b at)).weight
+abbrev pub weight_of_pair : SideRule → List (List IdValue) → List (List IdValue) → PairAt → ℤ
+weight_of_pair rule rows_a rows_b at = (cell_of rule.cells (pattern_at rule rows_a rows_b at)).weight
 
 -- a link by rule is worth its weight
 abbrev pub linked : PairAt → ℤ → Candidate
@@ -36,11 +36,11 @@ candidate_by_verdict other at weight award = None
 
 -- a link by rule as a candidate
 abbrev pub of_link : SideRule → List (List IdValue) → List (List IdValue) → PairAt → Option Candidate
-of_link rule rows_a rows_b at = Some (linked at (weight_of rule rows_a rows_b at))
+of_link rule rows_a rows_b at = Some (linked at (weight_of_pair rule rows_a rows_b at))
 
 -- a possible link as a candidate, by the entries of a journal and the award
 abbrev pub of_possible : SideRule → List (List IdValue) → List (List IdValue) → List Entry → ℕ → PairAt → Option Candidate
-of_possible rule rows_a rows_b entries award at = candidate_by_verdict (verdict_on entries at.a at.b) at (weight_of rule rows_a rows_b at) award
+of_possible rule rows_a rows_b entries award at = candidate_by_verdict (verdict_on entries at.a at.b) at (weight_of_pair rule rows_a rows_b at) award
 
 -- what a pair gives by its decision
 abbrev pub by_decision : Decision → Option Candidate → Option Candidate → Option Candidate
@@ -59,13 +59,13 @@ candidates_of rule rows_a rows_b entries award pairs = filter_map (candidate_of 
 
 -- the greatest value that a candidate may have: the greatest weight and the award
 abbrev pub most_value : ℕ → ℤ
-most_value award = pos (474 + award)
+most_value award = GREATEST_WEIGHT +ℤ pos award
 
 -- a candidate's weight is that of six fields at most, and its value at most that and the award: law `candidates_are_bounded`
 pub record HasBounds (award : ℕ) (c : Candidate) : Type 0 where
-  pub weight_low : negsuc 479 ≤ℤ c.weight
-  pub weight_high : c.weight ≤ℤ pos 474
-  pub value_low : negsuc 479 ≤ℤ c.value
+  pub weight_low : LEAST_WEIGHT ≤ℤ c.weight
+  pub weight_high : c.weight ≤ℤ GREATEST_WEIGHT
+  pub value_low : LEAST_WEIGHT ≤ℤ c.value
   pub value_high : c.value ≤ℤ most_value award
 
 -- candidates as they are wanted, of which the links may be chosen: few, rising, between records that are there, with small values

@@ -1,13 +1,13 @@
 // The candidates among decided pairs.
-ghost use Rattle.std.specs.Prelude.{◌≡◌, ◌+◌, ◌≤◌, ◌≤ℤ◌, ◌++◌, pos, negsuc, List, All, IfOk, IfSome, OnOk, Some, length, option_to_list};
-ghost use Rattle.candidate_links.specs.Candidates.{AreCandidates, candidates_of, linked, most_value, of_link, of_possible, reviewed, weight_of};
+ghost use Rattle.std.specs.Prelude.{◌≡◌, ◌≤◌, ◌≤ℤ◌, ◌++◌, pos, List, All, IfOk, IfSome, OnOk, Some, length, option_to_list};
+ghost use Rattle.candidate_links.specs.Candidates.{AreCandidates, candidates_of, linked, most_value, of_link, of_possible, reviewed, weight_of_pair};
 ghost use Rattle.candidate_links.specs.Merging.{merged};
 ghost use Rattle.link_base.specs.declared.rule.Candidate.{Candidate as ACandidate};
 ghost use Rattle.link_base.specs.declared.rule.PairAt.{PairAt as Pair};
 ghost use Rattle.pair_decisions.specs.Decisions.{AreDecisionsOn};
 ghost use Rattle.pair_decisions.specs.PairRule.{AreSidesFor, side_rule};
 ghost use Rattle.pair_decisions.specs.Pairs.{IsInside};
-ghost use Rattle.link_limits.specs.declared.TheConstants.{MOST_VALUE};
+ghost use Rattle.link_limits.specs.declared.TheConstants.{GREATEST_WEIGHT, LEAST_WEIGHT, MOST_VALUE};
 
 use crate::merging::{Next, after_first, next_of};
 use comparators::IdTable;
@@ -17,13 +17,13 @@ use review_journal::Journal;
 use std::alloc::Global;
 
 // The weight of a pair, in eighths of a bit.
-fn weight_of(rule: &PairRule, sides_a: &IdTable, sides_b: &IdTable, at: PairAt) -> i32
+fn weight_of_pair(rule: &PairRule, sides_a: &IdTable, sides_b: &IdTable, at: PairAt) -> i32
     requires sides_a { All (AreSidesFor rule.now) sides_a.now.rows }
     requires sides_b { All (AreSidesFor rule.now) sides_b.now.rows }
     requires inside { IsInside (length sides_a.now.rows) (length sides_b.now.rows) at }
-    ensures weight { result ≡ weight_of (side_rule rule.now) sides_a.now.rows sides_b.now.rows at }
-    ensures least { negsuc 479 ≤ℤ result }
-    ensures most { result ≤ℤ pos 474 }
+    ensures weight { result ≡ weight_of_pair (side_rule rule.now) sides_a.now.rows sides_b.now.rows at }
+    ensures least { LEAST_WEIGHT ≤ℤ result }
+    ensures most { result ≤ℤ GREATEST_WEIGHT }
 {
     let pattern = rule.pattern(sides_a.sides(at.a), sides_b.sides(at.b));
     rule.cell(pattern).weight
@@ -44,9 +44,9 @@ fn linked(at: PairAt, weight: i32) -> Candidate
 
 // A link by review, which is worth its weight and the award.
 fn reviewed(at: PairAt, weight: i32, award: u32) -> Candidate
-    requires least { negsuc 479 ≤ℤ weight }
-    requires most { weight ≤ℤ pos 474 }
-    requires award { 474 + award ≤ MOST_VALUE }
+    requires least { LEAST_WEIGHT ≤ℤ weight }
+    requires most { weight ≤ℤ GREATEST_WEIGHT }
+    requires award { most_value award ≤ℤ pos MOST_VALUE }
     ensures candidate { result ≡ reviewed at weight award }
     ensures most { result.value ≤ℤ most_value award }
 {
@@ -65,9 +65,9 @@ fn of_link(rule: &PairRule, sides_a: &IdTable, sides_b: &IdTable, at: PairAt) ->
     requires sides_b { All (AreSidesFor rule.now) sides_b.now.rows }
     requires inside { IsInside (length sides_a.now.rows) (length sides_b.now.rows) at }
     ensures candidate { Some result ≡ of_link (side_rule rule.now) sides_a.now.rows sides_b.now.rows at }
-    ensures most { result.value ≤ℤ pos 474 }
+    ensures most { result.value ≤ℤ GREATEST_WEIGHT }
 {
-    linked(at, weight_of(rule, sides_a, sides_b, at))
+    linked(at, weight_of_pair(rule, sides_a, sides_b, at))
 }
 
 // The candidate of a possible link, where its verdict is that it is a link.
@@ -79,7 +79,7 @@ fn of_possible(
     sides_b: &IdTable,
     at: PairAt,
 ) -> Option<Candidate>
-    requires award { 474 + award ≤ MOST_VALUE }
+    requires award { most_value award ≤ℤ pos MOST_VALUE }
     requires sides_a { All (AreSidesFor rule.now) sides_a.now.rows }
     requires sides_b { All (AreSidesFor rule.now) sides_b.now.rows }
     requires inside { IsInside (length sides_a.now.rows) (length sides_b.now.rows) at }
@@ -88,7 +88,7 @@ fn of_possible(
 {
     match journal.verdict(at.a, at.b) {
         Some(Verdict::Link) => {
-            let weight = weight_of(rule, sides_a, sides_b, at);
+            let weight = weight_of_pair(rule, sides_a, sides_b, at);
             Some(reviewed(at, weight, award))
         }
         _ => None,
@@ -116,7 +116,7 @@ fn merged(
     mut links: &[PairAt],
     mut possible: &[PairAt],
 ) -> Result<Vec<Candidate>, NoMemory>
-    requires award { 474 + award ≤ MOST_VALUE }
+    requires award { most_value award ≤ℤ pos MOST_VALUE }
     requires sides_a { All (AreSidesFor rule.now) sides_a.now.rows }
     requires sides_b { All (AreSidesFor rule.now) sides_b.now.rows }
     requires links { All (IsInside (length sides_a.now.rows) (length sides_b.now.rows)) links.now }
@@ -153,7 +153,7 @@ pub fn candidates_among(
     sides_a: &IdTable,
     sides_b: &IdTable,
 ) -> Result<Vec<Candidate>, NoMemory>
-    requires award { 474 + award ≤ MOST_VALUE }
+    requires award { most_value award ≤ℤ pos MOST_VALUE }
     requires sides_a { All (AreSidesFor decided.now.rule) sides_a.now.rows }
     requires sides_b { All (AreSidesFor decided.now.rule) sides_b.now.rows }
     requires links { All (IsInside (length sides_a.now.rows) (length sides_b.now.rows)) decided.now.links }

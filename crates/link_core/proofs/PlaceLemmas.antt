@@ -15,7 +15,7 @@ use Rattle.value_pool.specs.Pool.{with_text}
 use Rattle.value_pool.specs.Texts.{PoolState, place_among}
 use Rattle.value_pool.proofs.PlaceLemmas.{at-place, held-turned}
 use Rattle.link_core.specs.ColumnPairs.{first_field, present}
-use Rattle.link_core.specs.ColumnRows.{field_at, matched_rows, rows_with_field}
+use Rattle.link_core.specs.ColumnRows.{compared_field, matched_rows, rows_with_field}
 
 pub present_is : (field : List ℕ) → (length field ≡ 0 → ⊥) → present field ≡ Some field
 present_is [] some = absurd (some refl)
@@ -64,17 +64,17 @@ mapped_both f g (n ∷ numbers) (field ∷ fields) len same =
 
 -- the rows of B with the number of a field of A are those with the field
 pub rows_matched : (mid texts : List (List ℕ)) (a b : List TableRow) (numbers_a numbers_b : List ℕ) → length texts ≤ no_number
-    → AreNumbers mid (field_at (map first_field a)) (length a) numbers_a → AreNumbered mid (field_at (map first_field a)) (length a) → KeepNumbers mid texts
-    → AreNumbers texts (field_at (map first_field b)) (length b) numbers_b → AreNumbered texts (field_at (map first_field b)) (length b)
+    → AreNumbers mid (compared_field (map first_field a)) (length a) numbers_a → AreNumbered mid (compared_field (map first_field a)) (length a) → KeepNumbers mid texts
+    → AreNumbers texts (compared_field (map first_field b)) (length b) numbers_b → AreNumbered texts (compared_field (map first_field b)) (length b)
     → map (rows_with_number numbers_b (length texts)) numbers_a ≡ matched_rows (map first_field a) (map first_field b)
 rows_matched mid texts a b numbers_a numbers_b few told_a known_a kept told_b known_b =
     let fields_a = map first_field a in
     let fields_b = map first_field b in
     let wide_a : length fields_a ≡ length a = length-map a first_field in
     let wide_b : length fields_b ≡ length b = length-map b first_field in
-    let number : (j : ℕ) → j < length a → get_or numbers_a j 0 ≡ number_among texts (field_at fields_a j) = λ j lt. told_a.1 j lt ∙ sym (kept (field_at fields_a j) (known_a j lt)).0 in
+    let number : (j : ℕ) → j < length a → get_or numbers_a j 0 ≡ number_among texts (compared_field fields_a j) = λ j lt. told_a.1 j lt ∙ sym (kept (compared_field fields_a j) (known_a j lt)).0 in
     mapped_both (rows_with_number numbers_b (length texts)) (rows_with_field fields_b) numbers_a fields_a (told_a.0 ∙ sym wide_a)
     (λ j lt.
     ap (rows_with_number numbers_b (length texts)) (number j (omega (arith, lt, wide_a)))
-    ∙ numbered-rows texts few numbers_b (field_at fields_b) (length b) told_b.0 told_b.1 known_b (field_at fields_a j)
-    ∙ ap (λ count. filter (λ k. same_text (field_at fields_a j) (field_at fields_b k)) (range_with_len 0 count)) (sym wide_b))
+    ∙ numbered-rows texts few numbers_b (compared_field fields_b) (length b) told_b.0 told_b.1 known_b (compared_field fields_a j)
+    ∙ ap (λ count. filter (λ k. same_text (compared_field fields_a j) (compared_field fields_b k)) (range_with_len 0 count)) (sym wide_b))

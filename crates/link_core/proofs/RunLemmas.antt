@@ -1,5 +1,5 @@
 -- What a run writes is small enough to be verified, and its candidates stand in its files.
-use Rattle.std.proofs.Common.{◌≡◌, ◌<◌, ◌≤◌, ◌+◌, ◌∷◌, ◌^◌, ◌∙◌, ℕ, pos, negsuc, List, [], All, length, map, get_or, Ok, Option, Some, None, sym, ap, subst, arith}
+use Rattle.std.proofs.Common.{◌≡◌, ◌<◌, ◌≤◌, ◌+◌, ◌∷◌, ◌^◌, ◌∙◌, ℕ, List, [], All, length, map, get_or, Ok, Option, Some, None, sym, ap, subst, arith}
 use Rattle.std.specs.Prelude.{◌≤ℤ◌, is_some}
 use Rattle.std.specs.List.{cons_option, enumerate_from, range_with_len}
 use Rattle.std.proofs.Math.Nat.{pow-le-pow_right}
@@ -15,7 +15,7 @@ use Rattle.decision_rule.specs.Filled.{Chances, chances_at, chances_of, IsFilled
 use Rattle.link_base.specs.Rule.{empty_cell}
 use Rattle.link_base.specs.declared.rule.RuleCell.{RuleCell}
 use Rattle.link_base.specs.declared.shares.FieldShares.{FieldShares}
-use Rattle.link_limits.specs.declared.TheConstants.{MOST_FIELDS, MOST_PATTERNS}
+use Rattle.link_limits.specs.declared.TheConstants.{GREATEST_WEIGHT, LEAST_WEIGHT, MOST_FIELDS, MOST_PATTERNS}
 use Rattle.pair_decisions.proofs.PairLemmas.{compared_inside, compared_rise}
 use Rattle.pair_decisions.specs.PairRule.{SideRule}
 use Rattle.patterns.proofs.PatternLemmas.{m_of_small, pattern_count_small, u_of_small, weight_range}
@@ -42,8 +42,8 @@ record AreSmall (ch : Chances) : Type 0 where
   pattern : ch.pattern < MOST_PATTERNS
   m : ch.m < 2 ^ 64
   u : ch.u < 2 ^ 64
-  weight_low : negsuc 479 ≤ℤ ch.weight
-  weight_high : ch.weight ≤ℤ pos 474
+  weight_low : LEAST_WEIGHT ≤ℤ ch.weight
+  weight_high : ch.weight ≤ℤ GREATEST_WEIGHT
 
 module _ (shares : List FieldShares) (few : length shares ≤ 6) where
   chances_small : (pattern : ℕ) → pattern < pattern_count_of shares → AreSmall (chances_at shares pattern)

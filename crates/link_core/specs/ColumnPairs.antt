@@ -45,15 +45,15 @@ abbrev pub pairs_of_fields : List (List ℕ) → List (List ℕ) → Result (Lis
 pairs_of_fields a b = pairs_within (column_pairs a b)
 
 -- the column in two files: the faults of A come before those of B
-abbrev pub columns_of : List ℕ → List ℕ → List ℕ → Result (List (List ℕ) × List (List ℕ)) Fault
-columns_of column bytes_a bytes_b =
+abbrev pub compared_columns : List ℕ → List ℕ → List ℕ → Result (List (List ℕ) × List (List ℕ)) Fault
+compared_columns column bytes_a bytes_b =
     and_then (column_of role.A column bytes_a) (λ a.
     and_then (column_of role.B column bytes_b) (λ b.
     Ok (a, b)))
 
 -- the pairs of a column of two files
 abbrev pub pairs_of_files : List ℕ → List ℕ → List ℕ → Result (List PairAt) Fault
-pairs_of_files column bytes_a bytes_b = and_then (columns_of column bytes_a bytes_b) (λ both. pairs_of_fields both.0 both.1)
+pairs_of_files column bytes_a bytes_b = and_then (compared_columns column bytes_a bytes_b) (λ both. pairs_of_fields both.0 both.1)
 
 -- a header, and a line per pair with the rows of both, from 1
 abbrev pub pair_line : PairAt → List ℕ

@@ -9,12 +9,12 @@ use Rattle.pair_walk.specs.Pairs.{pair}
 use Rattle.link_core.specs.ColumnPairs.{present}
 
 -- the field of a row, where it is not empty
-abbrev pub field_at : List (List ℕ) → ℕ → Option (List ℕ)
-field_at fields at = present (slice_index_or fields at [])
+abbrev pub compared_field : List (List ℕ) → ℕ → Option (List ℕ)
+compared_field fields at = present (slice_index_or fields at [])
 
 -- the rows with this field, rising
 abbrev pub rows_with_field : List (List ℕ) → List ℕ → List ℕ
-rows_with_field fields field = filter (λ at. same_text (present field) (field_at fields at)) (range_with_len 0 (length fields))
+rows_with_field fields field = filter (λ at. same_text (present field) (compared_field fields at)) (range_with_len 0 (length fields))
 
 -- for each row of A the rows of B with its field
 abbrev pub matched_rows : List (List ℕ) → List (List ℕ) → List (List ℕ)

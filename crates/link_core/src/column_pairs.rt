@@ -5,7 +5,7 @@ ghost use Rattle.file_reader.specs.Layout.{wanted_of};
 ghost use Rattle.file_reader.specs.Rows.{TableRow};
 ghost use Rattle.file_reader.specs.Table.{HasTexts, HasWidth, table_of};
 ghost use Rattle.file_reader.specs.Left.{records_in};
-ghost use Rattle.link_core.specs.ColumnPairs.{columns_of, first_field, pairs_of_fields, pairs_of_files, rows_of_pairs, wanted_column};
+ghost use Rattle.link_core.specs.ColumnPairs.{compared_columns, first_field, pairs_of_fields, pairs_of_files, rows_of_pairs, wanted_column};
 ghost use Rattle.link_core.specs.ColumnRows.{items_of};
 ghost use Rattle.link_core.specs.declared.column_pairs.Columns.{Columns};
 
@@ -72,7 +72,7 @@ fn read_columns(alloc: Global, column: &str, a: &[u8], b: &[u8]) -> Result<Colum
     ensures width_b { IfOk result (λ c. HasWidth (wanted_column column.now) c.b) }
     ensures texts_a { IfOk result (λ c. HasTexts c.a) }
     ensures texts_b { IfOk result (λ c. HasTexts c.b) }
-    ensures answer { Gives (λ (c : Columns). (map first_field c.a, map first_field c.b)) (columns_of column.now a.now b.now) result }
+    ensures answer { Gives (λ (c : Columns). (map first_field c.a, map first_field c.b)) (compared_columns column.now a.now b.now) result }
 {
     let of_a = match read_column(alloc, FileRole::A, column, a) {
         Ok(table) => table,

@@ -5,7 +5,7 @@ ghost use Rattle.file_reader.specs.Rows.{TableRow};
 ghost use Rattle.file_reader.specs.Table.{HasTexts};
 ghost use Rattle.link_base.specs.Fault.{Gives, IsInputFault};
 ghost use Rattle.link_core.specs.ColumnPairs.{first_field, present};
-ghost use Rattle.link_core.specs.ColumnRows.{field_at, items_of, matched_rows, pairs_from};
+ghost use Rattle.link_core.specs.ColumnRows.{compared_field, items_of, matched_rows, pairs_from};
 ghost use Rattle.pair_decisions.specs.Pairs.{pairs_within};
 ghost use Rattle.pair_walk.specs.Pairs.{pair};
 
@@ -50,8 +50,8 @@ fn number_column(alloc: Global, pool: &mut Pool, table: &Table) -> Result<Vec<u3
     ensures limit { pool.new.limit ≡ pool.old.limit }
     ensures used { OnOk result (pool.new.used ≤ pool.old.used + MOST_ROWS * MOST_FIELD_BYTES) }
     ensures kept { OnOk result (KeepNumbers pool.old.texts pool.new.texts) }
-    ensures numbers { IfOk result (λ numbers. AreNumbers pool.new.texts (field_at (map first_field table.now)) (length table.now) numbers.items) }
-    ensures numbered { OnOk result (AreNumbered pool.new.texts (field_at (map first_field table.now)) (length table.now)) }
+    ensures numbers { IfOk result (λ numbers. AreNumbers pool.new.texts (compared_field (map first_field table.now)) (length table.now) numbers.items) }
+    ensures numbered { OnOk result (AreNumbered pool.new.texts (compared_field (map first_field table.now)) (length table.now)) }
 {
     let mut numbers = Vec::with_capacity(alloc, table.rows() as usize)?;
     for at in 0..table.rows() {

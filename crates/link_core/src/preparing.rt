@@ -3,7 +3,7 @@ ghost use Rattle.std.specs.Prelude.{◌≡◌, ◌≤◌, All, IfErr, IfOk, leng
 ghost use Rattle.block_passes.specs.KeyIds.{key_ids};
 ghost use Rattle.link_base.specs.Fault.{IsAnswer, IsInputFault};
 ghost use Rattle.link_core.specs.Prepared.{ArePooled, IsOneOfBoth, kinds_of, prepared, sides_in, unreadable_of, with_fault};
-ghost use Rattle.standard_files.specs.Ready.{AreFileSides, AreInRange, HoldsParts, IsRowFor};
+ghost use Rattle.standard_files.specs.Ready.{AreFileSides, AreInRange, IsRowFor};
 ghost use Rattle.standard_files.specs.Sides.{pooled_values};
 ghost use Rattle.link_core.specs.Rules.{IsPreparedFor};
 ghost use Rattle.pair_walk.specs.Rows.{AreAllReady, AreKeysHeld, all_rows};
@@ -128,8 +128,8 @@ fn pool_by(
     ensures kind { IfErr result IsInputFault }
     ensures answer { IsAnswer (with_fault (pooled_values pool_limit kinds.now passes.now a.now b.now)) result }
     ensures pooled { IfOk result (ArePooled pool_limit kinds.now a.now b.now) }
-    ensures parts_a { IfOk result (λ v. HoldsParts v.texts passes.now a.now) }
-    ensures parts_b { IfOk result (λ v. HoldsParts v.texts passes.now b.now) }
+    ensures parts_a { IfOk result (λ v. AreKeysHeld v.texts passes.now a.now) }
+    ensures parts_b { IfOk result (λ v. AreKeysHeld v.texts passes.now b.now) }
     ensures keys_a { IfOk result (λ v. v.keys_a ≡ key_ids v.texts passes.now a.now) }
     ensures keys_b { IfOk result (λ v. v.keys_b ≡ key_ids v.texts passes.now b.now) }
 {
@@ -155,8 +155,8 @@ fn pool_files(
     ensures kind { IfErr result IsInputFault }
     ensures answer { IsAnswer (with_fault (pooled_values pool_limit (kinds_of plan.now) plan.now.passes a.now b.now)) result }
     ensures pooled { IfOk result (ArePooled pool_limit (kinds_of plan.now) a.now b.now) }
-    ensures parts_a { IfOk result (λ v. HoldsParts v.texts plan.now.passes a.now) }
-    ensures parts_b { IfOk result (λ v. HoldsParts v.texts plan.now.passes b.now) }
+    ensures parts_a { IfOk result (λ v. AreKeysHeld v.texts plan.now.passes a.now) }
+    ensures parts_b { IfOk result (λ v. AreKeysHeld v.texts plan.now.passes b.now) }
     ensures keys_a { IfOk result (λ v. v.keys_a ≡ key_ids v.texts plan.now.passes a.now) }
     ensures keys_b { IfOk result (λ v. v.keys_b ≡ key_ids v.texts plan.now.passes b.now) }
 {

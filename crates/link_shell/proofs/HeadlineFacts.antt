@@ -3,7 +3,7 @@ use Rattle.std.proofs.Common.{◌≡◌, ◌⊎◌, ◌∙◌, inl, inr, ◌∷�
 use Rattle.std.specs.Prelude.{All, Contains}
 use Rattle.std.proofs.lemmas.List.Elements.{All-contains, All-weaker}
 use Rattle.candidate_links.proofs.CandidateLemmas.{all_if, some_same}
-use Rattle.candidate_links.specs.Candidates.{by_decision, candidate_by_verdict, candidate_of, candidates_of, linked, weight_of}
+use Rattle.candidate_links.specs.Candidates.{by_decision, candidate_by_verdict, candidate_of, candidates_of, linked, weight_of_pair}
 use Rattle.decision_rule.proofs.RuleLemmas.{least}
 use Rattle.link_base.specs.Answers.{and_then}
 use Rattle.link_base.specs.Fault.{fault_status}
@@ -106,7 +106,7 @@ of_decision decision.NonLink v at w award c e = absurd (cc)
 module _ (files : PreparedView) (rule : SideRule) (journal : List Entry) (award : ℕ) where
   of_pair : (at : PairAt) (c : Candidate) → candidate_of rule files.values.a.rows files.values.b.rows journal award at ≡ Some c → IsByRuleOrReview files rule journal c
   of_pair at c e =
-      let h = of_decision (decision_at rule files.values.a.rows files.values.b.rows at) (verdict_on journal at.a at.b) at (weight_of rule files.values.a.rows files.values.b.rows at) award c e in
+      let h = of_decision (decision_at rule files.values.a.rows files.values.b.rows at) (verdict_on journal at.a at.b) at (weight_of_pair rule files.values.a.rows files.values.b.rows at) award c e in
       let P : PairAt → Type 0 = λ x. (decision_at rule files.values.a.rows files.values.b.rows x ≡ decision.Link)
       ⊎ ((decision_at rule files.values.a.rows files.values.b.rows x ≡ decision.Possible) × (verdict_on journal x.a x.b ≡ Some verdict.Link)) in
       subst P h.1 h.0

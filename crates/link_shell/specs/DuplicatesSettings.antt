@@ -22,8 +22,8 @@ abbrev pub are_duplicates_words : List (List ℕ) → Bool
 are_duplicates_words = are_verb_and_settings (codes "duplicates")
 
 -- machinery: a plan is that of a file with itself
-abbrev pub IsWithin : Plan → Type 0
-IsWithin plan = (whole : Plan) × (plan ≡ plan_within whole)
+abbrev pub IsOfOneFile : Plan → Type 0
+IsOfOneFile plan = (whole : Plan) × (plan ≡ plan_within whole)
 
 -- a file that is ready to be compared with itself, and the decisions on its compared pairs
 pub record Within : Type 0 where

@@ -4,7 +4,7 @@ ghost use Rattle.link_core.specs.Decisions.{IsDecidedIn};
 ghost use Rattle.link_core.specs.Rules.{IsPreparedFor};
 ghost use Rattle.link_limits.specs.declared.TheConstants.{MOST_PAIRS, MOST_ROWS};
 ghost use Rattle.link_shell.specs.Does.{Does};
-ghost use Rattle.link_shell.specs.DuplicatesSettings.{decided_within, duplicates_script, prepared_within, IsWithin, within_of};
+ghost use Rattle.link_shell.specs.DuplicatesSettings.{decided_within, duplicates_script, prepared_within, IsOfOneFile, within_of};
 ghost use Rattle.link_shell.specs.Seen.{sink_seen, store_seen};
 ghost use Rattle.link_shell.specs.Steps.{seen_by, Takes};
 ghost use Rattle.settings.specs.Ranges.{KeepsRanges, NamesFiles};
@@ -29,7 +29,7 @@ pub(crate) struct DecidedWithin {
 
 // Loads the file of a plan of a file with itself, and makes it ready to be compared.
 fn load_within<S: Store>(alloc: Global, store: &mut S, plan: &Plan) -> Result<Prepared, Fault>
-    requires within { IsWithin plan.now }
+    requires within { IsOfOneFile plan.now }
     requires ranges { KeepsRanges plan.now }
     requires names { NamesFiles plan.now }
     ensures takes { Takes (prepared_within plan.now) (store_seen S.tells S.held S.faults store.old store.new) result }
@@ -44,7 +44,7 @@ fn load_within<S: Store>(alloc: Global, store: &mut S, plan: &Plan) -> Result<Pr
 
 // Loads the file of a plan of a file with itself, and its sample, and decides on the compared pairs.
 fn load_decided<S: Store>(alloc: Global, store: &mut S, plan: &Plan) -> Result<DecidedWithin, Fault>
-    requires within { IsWithin plan.now }
+    requires within { IsOfOneFile plan.now }
     requires ranges { KeepsRanges plan.now }
     requires names { NamesFiles plan.now }
     ensures takes { Takes (decided_within plan.now) (store_seen S.tells S.held S.faults store.old store.new) (seen_by within_of result) }

@@ -20,13 +20,13 @@ use Rattle.standard_files.specs.Values.{AreOfSorts, sort_in, standard_records, u
 use Rattle.standard_files.specs.declared.sorts.TextSort.{TextSort}
 
 -- what a plan says of B, and else of A: the column of a field, the column of the ids, and the delimiter
-abbrev pub column_in : FileRole → FieldKeys → List ℕ
-column_in role.B f = f.column_b
-column_in other f = f.column_a
+abbrev pub field_column : FileRole → FieldKeys → List ℕ
+field_column role.B f = f.column_b
+field_column other f = f.column_a
 
-abbrev pub id_in : FileRole → Plan → List ℕ
-id_in role.B plan = plan.id_b
-id_in other plan = plan.id_a
+abbrev pub id_column : FileRole → Plan → List ℕ
+id_column role.B plan = plan.id_b
+id_column other plan = plan.id_a
 
 abbrev pub delimiter_in : FileRole → Plan → ℕ
 delimiter_in role.B plan = plan.delimiter_b
@@ -34,7 +34,7 @@ delimiter_in other plan = plan.delimiter_a
 
 -- what it wants of the file, and the file's table
 abbrev pub wanted_in : FileRole → Plan → Wanted
-wanted_in r plan = record { id = Some (id_in r plan); columns = map (column_in r) plan.fields; most = MOST_ROWS }
+wanted_in r plan = record { id = Some (id_column r plan); columns = map (field_column r) plan.fields; most = MOST_ROWS }
 
 abbrev pub table_in : FileRole → Plan → List ℕ → Result (List TableRow) Fault
 table_in r plan bytes = table_of r (wanted_in r plan) (records_in (delimiter_in r plan) bytes)

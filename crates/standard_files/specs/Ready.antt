@@ -1,7 +1,6 @@
 -- The files whose values are pooled, and what is known of them in a pool: their parts of keys stand there (`pool_values`,
 -- clauses `parts_a`, `parts_b`, by `AreKeysHeld`), and each side stands for its value and is valid (clauses `sides_a`, `sides_b`).
 use Rattle.std.specs.Prelude.{◌≡◌, ◌<◌, ℕ, List, [], length, slice_index_or, All}
-pub use Rattle.block_passes.specs.Ids.{AreKeysHeld as HoldsParts}
 use Rattle.block_passes.specs.Index.{row_at}
 use Rattle.comparators.specs.Fields.{field_of, IsFieldSide}
 use Rattle.comparators.specs.OfPool.{StandsFor}

@@ -5,7 +5,7 @@ ghost use Rattle.file_reader.specs.Left.{records_in};
 ghost use Rattle.file_reader.specs.Layout.{wanted_of};
 ghost use Rattle.file_reader.specs.Table.{HasDistinctIds, HasTexts, HasWidth, table_of};
 ghost use Rattle.settings.specs.Plan.{FieldKeys};
-ghost use Rattle.standard_files.specs.Files.{column_in, delimiter_in, IsReadTable, sorts_in, table_in, wanted_in};
+ghost use Rattle.standard_files.specs.Files.{field_column, delimiter_in, IsReadTable, sorts_in, table_in, wanted_in};
 ghost use Rattle.standard_files.specs.Values.{sort_in};
 ghost use Rattle.standard_files.specs.declared.sources.Source.{Source};
 
@@ -41,7 +41,7 @@ fn push_column(
 
 // The column of a field in A or in B.
 fn column_of(field: &FieldPlan, role: FileRole) -> &Text
-    ensures { result.now ≡ column_in role field.now }
+    ensures { result.now ≡ field_column role field.now }
 {
     match role {
         FileRole::B => &field.column_b,
@@ -51,7 +51,7 @@ fn column_of(field: &FieldPlan, role: FileRole) -> &Text
 
 // The columns of the fields of A or of B, and what they hold.
 fn columns_of(alloc: Global, fields: &[FieldPlan], role: FileRole) -> Result<Columns, NoMemory>
-    ensures names { IfOk result (λ columns. columns.names.items ≡ map (column_in role) fields.now) }
+    ensures names { IfOk result (λ columns. columns.names.items ≡ map (field_column role) fields.now) }
     ensures sorts { IfOk result (λ columns. columns.sorts.items ≡ map (λ (f : FieldKeys). sort_in role f.sort) fields.now) }
 {
     let mut columns = Columns {
@@ -91,7 +91,7 @@ fn layout_of(
     role: FileRole,
     columns: Vec<Text>,
 ) -> Result<Layout, NoMemory>
-    requires { columns.items ≡ map (column_in role) plan.now.fields }
+    requires { columns.items ≡ map (field_column role) plan.now.fields }
     ensures wanted { IfOk result (λ layout. wanted_of layout ≡ wanted_in role plan.now) }
     ensures delimiter { IfOk result (λ layout. layout.delimiter ≡ delimiter_in role plan.now) }
     ensures most { IfOk result (λ layout. layout.most_rows ≡ MOST_ROWS) }

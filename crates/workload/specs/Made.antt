@@ -5,6 +5,7 @@ use Rattle.std.specs.List.{flat_map, range_with_len}
 use Rattle.csv.specs.Writing.{default_writer, row_text}
 use Rattle.value_forms.specs.Days.{text_of_day}
 use Rattle.workload.specs.declared.people.Person.{Person}
+use Rattle.workload.specs.declared.samples.TheConstants.{MOST_OF_STATUS}
 use Rattle.workload.specs.People.{changed, person}
 use Rattle.workload.specs.Words.{word}
 
@@ -56,7 +57,7 @@ matched_row row = sample_row row row (codes "matched")
 abbrev pub unmatched_row : ℕ → List (List ℕ)
 unmatched_row row = sample_row row (row + 1) (codes "unmatched")
 
--- at most 200 pairs of each status
+-- at most `MOST_OF_STATUS` pairs of each status
 abbrev pub text_of_sample : ℕ → List ℕ
 text_of_sample rows =
-    rows_text (sample_header ∷ map matched_row (range_with_len 0 (min rows 200)) ++ map unmatched_row (range_with_len 0 (min (rows - 1) 200)))
+    rows_text (sample_header ∷ map matched_row (range_with_len 0 (min rows MOST_OF_STATUS)) ++ map unmatched_row (range_with_len 0 (min (rows - 1) MOST_OF_STATUS)))

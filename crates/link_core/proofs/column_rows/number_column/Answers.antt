@@ -3,7 +3,7 @@ use Rattle.std.proofs.lemmas.List.{get_or-map}
 use Rattle.block_passes.proofs.StepLemmas.{given_more, numbered_more}
 use Rattle.file_reader.specs.Rows.{no_row}
 use Rattle.link_core.specs.ColumnPairs.{first_field, present}
-use Rattle.link_core.specs.ColumnRows.{field_at}
+use Rattle.link_core.specs.ColumnRows.{compared_field}
 use Rattle.link_core.proofs.PlaceLemmas.{field_short, kept_on}
 use Rattle.link_core.proofs.column_rows.number_column.Goals as goal
 
@@ -17,7 +17,7 @@ loop-at-preserved c =
     let inv = c.loop-at.invariant in
     let made = c.in_ok-number.ensures in
     let field = c.field.result.now in
-    let here : present field ≡ field_at fields at = ap present (c.field.ensures ∙ sym (get_or-map first_field rows at no_row [] (omega arith))) in
+    let here : present field ≡ compared_field fields at = ap present (c.field.ensures ∙ sym (get_or-map first_field rows at no_row [] (omega arith))) in
     let short = field_short rows at c.requires.texts c.requires.width (omega arith) in
     let size = ap length c.field.ensures in
     let grown : c.push.new.self.items ≡ c.loop-at.numbers.items ++ c.in_ok-number.number ∷ [] = search (rules, c.in_ok-push.ensures.items) in
@@ -25,6 +25,6 @@ loop-at-preserved c =
       limit = c.number_field.ensures.limit ∙ inv.limit;
       used = omega (arith, made.used, inv.used, size, short);
       kept = kept_on _ old.texts new.texts inv.kept made.kept;
-      numbers = given_more old.texts new.texts (field_at fields) at c.loop-at.numbers.items c.push.new.self.items c.in_ok-number.number made.kept inv.numbered inv.numbers grown (rw (← here) made.number);
-      numbered = numbered_more old.texts new.texts (field_at fields) at made.kept inv.numbered (rw (← here) made.numbered);
+      numbers = given_more old.texts new.texts (compared_field fields) at c.loop-at.numbers.items c.push.new.self.items c.in_ok-number.number made.kept inv.numbered inv.numbers grown (rw (← here) made.number);
+      numbered = numbered_more old.texts new.texts (compared_field fields) at made.kept inv.numbered (rw (← here) made.numbered);
     }

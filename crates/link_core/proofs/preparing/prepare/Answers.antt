@@ -2,7 +2,8 @@ use Rattle.std.proofs.Common.{◌≡◌, ◌∙◌, List, ap, rules, subst}
 use Rattle.std.proofs.lemmas.List.{length-map}
 use Rattle.block_passes.specs.KeyIds.{key_ids}
 use Rattle.link_base.specs.Standard.{Record}
-use Rattle.standard_files.specs.Ready.{AreFileSides, HoldsParts}
+use Rattle.block_passes.specs.Ids.{AreKeysHeld}
+use Rattle.standard_files.specs.Ready.{AreFileSides}
 use Rattle.settings.specs.Plan.{FieldKeys}
 use Rattle.standard_files.specs.Files.{StandardPair}
 use Rattle.link_core.specs.Prepared.{kinds_of}
@@ -50,11 +51,11 @@ returns-in-Ok-pool_files-clause-answer c =
 
 pub returns-in-Ok-pool_files-clause-held_a : goal.returns-in-Ok-pool_files-clause-held_a
 returns-in-Ok-pool_files-clause-held_a c =
-    subst (λ (file : List Record). HoldsParts c.in-Ok-pool_files.values.texts c.args.plan.now.passes file) (c.records.ensures ∙ ap (λ (f : StandardPair). f.a.records) c.files.view_is) c.in-Ok-pool_files.ensures.parts_a
+    subst (λ (file : List Record). AreKeysHeld c.in-Ok-pool_files.values.texts c.args.plan.now.passes file) (c.records.ensures ∙ ap (λ (f : StandardPair). f.a.records) c.files.view_is) c.in-Ok-pool_files.ensures.parts_a
 
 pub returns-in-Ok-pool_files-clause-held_b : goal.returns-in-Ok-pool_files-clause-held_b
 returns-in-Ok-pool_files-clause-held_b c =
-    subst (λ (file : List Record). HoldsParts c.in-Ok-pool_files.values.texts c.args.plan.now.passes file) (c.records-2.ensures ∙ ap (λ (f : StandardPair). f.b.records) c.files.view_is) c.in-Ok-pool_files.ensures.parts_b
+    subst (λ (file : List Record). AreKeysHeld c.in-Ok-pool_files.values.texts c.args.plan.now.passes file) (c.records-2.ensures ∙ ap (λ (f : StandardPair). f.b.records) c.files.view_is) c.in-Ok-pool_files.ensures.parts_b
 
 pub returns-in-Ok-pool_files-clause-keys_a : goal.returns-in-Ok-pool_files-clause-keys_a
 returns-in-Ok-pool_files-clause-keys_a c =
