@@ -4,6 +4,7 @@
 
 mod fault;
 mod plan;
+mod row;
 mod rule;
 mod shares;
 mod sides;
@@ -13,6 +14,7 @@ mod text;
 
 pub use fault::{Fault, FileRole, status_of};
 pub use plan::{CompareKind, DateForm, FieldSort, KeyKind, Part, Pass, PassList};
+pub use row::{Row, ValueRef};
 pub use rule::{Candidate, Decision, Levels, Outcome, PairAt, RuleCell, RuleTable, Step, Verdict};
 pub use shares::{FieldShares, Shape};
 pub use sides::Sides;

@@ -1,8 +1,8 @@
 // Standard values, rows and files.
 ghost use Rattle.std.specs.Prelude.{◌≡◌, ◌+◌, ◌^◌, ◌<◌, ◌++◌, ◌∷◌, [], IfNone, IfOk, IfSome, OnErr, OnOk, length, slice_index_or};
-ghost use Rattle.link_base.specs.Standard.{absent_value, HaveDistinctIds, IsFreshId, no_record, position_of_id, Record, rows_of};
+ghost use Rattle.link_base.specs.Standard.{absent_value, HaveDistinctIds, IsFreshId, no_record, position_of_id, Record};
 
-use crate::sides::Sides;
+use crate::row::Row;
 use crate::text::{NoMemory, Text};
 use indexmap::IndexMap;
 use std::alloc::Global;
@@ -106,12 +106,12 @@ impl StdFile {
     }
 
     /// The values of the record at a position.
-    pub fn row(&self, at: u32) -> &[Value]
+    pub fn row(&self, at: u32) -> Row<'_>
         requires { at < length self.now }
-        ensures { result.now ≡ (slice_index_or self.now at no_record).row }
+        ensures { result ≡ (slice_index_or self.now at no_record).row }
     {
         let (_, places) = self.rows.get_index(at as usize).unwrap();
-        &self.values[places.start..places.end]
+        Row::of(&self.values[places.start..places.end])
     }
 
     /// The position of the record with an id, found by an index. `None` exactly where no record has it.
@@ -132,16 +132,4 @@ pub fn distinct_ids(file: &StdFile)
     ensures { HaveDistinctIds file.now }
 {
     let _ = &file.rows;
-}
-
-impl Sides<Value> for StdFile {
-    ghost all = { rows_of };
-
-    fn count(&self) -> u32 {
-        self.rows()
-    }
-
-    fn sides(&self, at: u32) -> &[Value] {
-        self.row(at)
-    }
 }
