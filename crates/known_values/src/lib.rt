@@ -8,8 +8,6 @@ mod canons;
 #[cfg(test)]
 mod certificates_within_capacities;
 #[cfg(test)]
-mod counted_samples;
-#[cfg(test)]
 mod forests;
 #[cfg(test)]
 mod greatest_links;

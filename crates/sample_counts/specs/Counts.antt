@@ -1,15 +1,12 @@
--- The counts of the outcomes of each field among the reviewed pairs of a sample. `count_sample_over` and `count_sample`
--- carry it: clause `answer` for the counted pairs and the first fault, clause `outcomes` for what each count is by the
--- comparators; `Counts::of` (clause `counts`) reads them.
+-- The counts of the outcomes of each field among the reviewed pairs of a sample. `count_sample_over` carries it: clause
+-- `answer` for the counted pairs and the first fault, clause `outcomes` for what each count is by the comparators;
+-- `Counts::of` (clause `counts`) reads them.
 use Rattle.std.specs.Prelude.{◌≡◌, ◌<◌, ◌≤◌, ◌==◌, ◌&&◌, ℕ, Bool, true, false, not, List, [], All, Option, Some, None, length, map, filter, slice_index_or, if◌then◌else◌}
 use Rattle.link_limits.specs.declared.TheConstants.{MOST_ROWS}
 use Rattle.link_base.specs.declared.rule.Outcome.{Outcome}
 use Rattle.link_base.specs.declared.rule.Outcome.TheVariants.{Missing}
 use Rattle.patterns.specs.Shapes.{digit_of, outcome_at, pattern_count_by}
 use Rattle.patterns.specs.Patterns.{number_of, outcomes}
-use Rattle.link_base.specs.Standard.{IsValid}
-use Rattle.link_base.specs.declared.standard.Value.{Value}
-use Rattle.comparators.specs.declared.fields.FieldKind.{FieldKind}
 use Rattle.sample_counts.specs.declared.counts.Judged.{Judged}
 use Rattle.sample_counts.specs.declared.reviewed.Reviewed.{Reviewed}
 
@@ -74,8 +71,3 @@ pub record AreJudged (rares : List Bool) (rows : List Judged) : Type 0 where
   pub matched : 1 ≤ length (filter (has_status true) rows)
   pub unmatched : 1 ≤ length (filter (has_status false) rows)
   pub in_shape : All (λ (row : Judged). row.pattern < pattern_count_by rares) rows
-
--- a row of valid values, one for each field
-pub record IsRowOf (kinds : List FieldKind) (row : List Value) : Type 0 where
-  pub as_many : length row ≡ length kinds
-  pub valid : All IsValid row

@@ -1,5 +1,5 @@
--- The reviewed pairs of a sample file, or its first fault: of the table, then row by row. `count_sample_over` and
--- `count_sample` carry it (clause `answer`, by `sample_of`).
+-- The reviewed pairs of a sample file, or its first fault: of the table, then row by row. `count_sample_over` carries it
+-- (clause `answer`, by `sample_of`).
 use Rattle.std.specs.Prelude.{◌≡◌, ◌+◌, ◌==◌, ◌&&◌, ◌<◌, ◌≤◌, All, ℕ, Bool, true, false, not, List, [], ◌∷◌, ◌++◌, length, position, Option, Some, None, Result, Ok, Err, codes, bytes_eq, slice_index_or, if◌then◌else◌}
 use Rattle.std.specs.List.{list_any}
 use Rattle.link_limits.specs.declared.TheConstants.{MOST_ROWS}

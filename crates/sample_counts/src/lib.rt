@@ -9,4 +9,4 @@ mod rows;
 
 pub use counts::Counts;
 pub use remainders::{shares, shares4};
-pub use rows::{count_sample, count_sample_over};
+pub use rows::count_sample_over;

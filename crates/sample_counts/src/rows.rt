@@ -1,15 +1,11 @@
 // The counts of a sample.
-ghost use Rattle.std.specs.Prelude.{◌≡◌, ◌≤◌, ◌<◌, All, false, IfErr, IfOk, List, Ok, length, map};
+ghost use Rattle.std.specs.Prelude.{◌≡◌, ◌≤◌, ◌<◌, All, IfErr, IfOk, List, Ok, length, map};
 ghost use Rattle.file_reader.specs.Left.{records_in};
 ghost use Rattle.link_base.specs.Answers.{and_then};
 ghost use Rattle.link_base.specs.Fault.{IsAnswer, IsInputFault};
-ghost use Rattle.link_base.specs.Standard.{rows_of};
-ghost use Rattle.link_base.specs.declared.standard.Value.{Value};
-ghost use Rattle.comparators.specs.Fields.{kind_outcome};
-ghost use Rattle.comparators.specs.declared.fields.FieldKind.{FieldKind};
 ghost use Rattle.patterns.specs.Shapes.{pattern_count_by};
 ghost use Rattle.patterns.specs.Patterns.{AreSides};
-ghost use Rattle.sample_counts.specs.Counts.{AreOutcomeCounts, IsRowOf, counts_by, judged_by};
+ghost use Rattle.sample_counts.specs.Counts.{AreOutcomeCounts, counts_by, judged_by};
 ghost use Rattle.sample_counts.specs.declared.reviewed.Reviewed.{Reviewed as ReviewedPair};
 ghost use Rattle.sample_counts.specs.Sample.{IsInFiles, sample_of};
 
@@ -18,7 +14,7 @@ use crate::reviewed::{Reviewed, read_sample};
 use comparators::Comparator;
 use link_base::{Fault, NoMemory, Sides, StdFile};
 use link_limits::MOST_FIELDS;
-use patterns::{Fields, pattern_over, shape_of};
+use patterns::{pattern_over, shape_of};
 use std::alloc::Global;
 
 // The reviewed pairs with their patterns.
@@ -82,24 +78,4 @@ pub fn count_sample_over<C: Comparator, T: Sides<C::Side>>(
         Ok(rows) => Ok(Counts::new(shape_of(kinds), rows)),
         Err(NoMemory) => Err(Fault::NoMemory),
     }
-}
-
-/// The counts of a sample by the fields of two standard files, or the first fault.
-pub fn count_sample(
-    alloc: Global,
-    bytes: &[u8],
-    a: &StdFile,
-    b: &StdFile,
-    fields: &Fields,
-) -> Result<Counts, Fault>
-    requires rows_a { All (IsRowOf fields.now) (rows_of a.now) }
-    requires rows_b { All (IsRowOf fields.now) (rows_of b.now) }
-    ensures kind { IfErr result IsInputFault }
-    ensures fields { IfOk result (λ counts. counts.rares ≡ map (λ (_ : FieldKind). false) fields.now) }
-    ensures answer { IsAnswer (and_then (sample_of a.now b.now (records_in 44 bytes.now))
-        (λ sample. Ok (counts_by (λ (_ : FieldKind). false) kind_outcome fields.now (rows_of a.now) (rows_of b.now) sample))) result }
-    ensures outcomes { IfOk result (λ counts. (sample : List ReviewedPair) → sample_of a.now b.now (records_in 44 bytes.now) ≡ Ok sample
-        → AreOutcomeCounts kind_outcome fields.now (rows_of a.now) (rows_of b.now) sample counts) }
-{
-    count_sample_over(alloc, bytes, a, b, fields.kinds(), a, b)
 }
