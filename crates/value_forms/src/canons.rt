@@ -1,5 +1,6 @@
 // The canon of a value by each kind.
 ghost use Rattle.std.specs.Prelude.{◌≡◌, IfOk, option_map};
+ghost use Rattle.link_base.specs.Rows.{value_seen};
 ghost use Rattle.link_base.specs.Standard.{IsDay, IsValid};
 ghost use Rattle.value_forms.specs.CanonTexts.{canon_bytes};
 ghost use Rattle.value_forms.specs.Canons.{IsReadable, canon_of, exact_canon, first_letters_canon, initials_canon, nysiis_canon, soundex_canon, value_part};
@@ -9,7 +10,7 @@ ghost use Rattle.value_forms.specs.Days.{four_digits, year_of_day};
 use crate::days::{civil_of, day_text};
 use crate::first::first_chars;
 use crate::initials::initials_text;
-use link_base::{CompareKind, KeyKind, NoMemory, Text, Value};
+use link_base::{CompareKind, KeyKind, NoMemory, Text, ValueRef};
 use phonetic_keys::{Nysiis, nysiis, soundex};
 use std::alloc::Global;
 
@@ -42,50 +43,50 @@ pub fn bytes_of<'t>(canon: &'t CanonText) -> &'t [u8]
 }
 
 /// The text of a word, and `YYYY-MM-DD` of a day.
-pub fn exact<'v>(value: &'v Value) -> Option<CanonText<'v>>
-    requires { IsReadable KeyKind.Whole value.now }
-    ensures { option_map canon_bytes result ≡ exact_canon value.now }
+pub fn exact<'v>(value: &ValueRef<'v>) -> Option<CanonText<'v>>
+    requires { IsReadable KeyKind.Whole (value_seen value.now) }
+    ensures { option_map canon_bytes result ≡ exact_canon (value_seen value.now) }
 {
-    match value {
-        Value::Absent => None,
-        Value::Word(text) => Some(CanonText::Slice(text.bytes())),
-        Value::Day(day) => Some(CanonText::Date(day_text(*day))),
+    match *value {
+        ValueRef::Absent => None,
+        ValueRef::Word(text) => Some(CanonText::Slice(text)),
+        ValueRef::Day(day) => Some(CanonText::Date(day_text(day))),
     }
 }
 
 /// The Soundex key of a word, `None` where it has no letter.
-pub fn soundex_key<'v>(value: &'v Value) -> Option<CanonText<'v>>
-    ensures { option_map canon_bytes result ≡ soundex_canon value.now }
+pub fn soundex_key<'v>(value: &ValueRef<'v>) -> Option<CanonText<'v>>
+    ensures { option_map canon_bytes result ≡ soundex_canon (value_seen value.now) }
 {
-    let Value::Word(text) = value else {
+    let ValueRef::Word(text) = *value else {
         return None;
     };
-    match soundex(text.bytes()) {
+    match soundex(text) {
         Some(key) => Some(CanonText::Short(key)),
         None => None,
     }
 }
 
 /// The NYSIIS key of a word, `None` where it has no letter.
-pub fn nysiis_key<'v>(value: &'v Value) -> Option<CanonText<'v>>
-    ensures { option_map canon_bytes result ≡ nysiis_canon value.now }
+pub fn nysiis_key<'v>(value: &ValueRef<'v>) -> Option<CanonText<'v>>
+    ensures { option_map canon_bytes result ≡ nysiis_canon (value_seen value.now) }
 {
-    let Value::Word(text) = value else {
+    let ValueRef::Word(text) = *value else {
         return None;
     };
-    match nysiis(text.bytes()) {
+    match nysiis(text) {
         Some(key) => Some(CanonText::Letters(key)),
         None => None,
     }
 }
 
 /// The first `n` characters of a word, or all where there are fewer.
-pub fn first_letters<'v>(n: u8, value: &'v Value) -> Option<CanonText<'v>>
-    requires { IsReadable (KeyKind.First n) value.now }
-    ensures { option_map canon_bytes result ≡ first_letters_canon n value.now }
+pub fn first_letters<'v>(n: u8, value: &ValueRef<'v>) -> Option<CanonText<'v>>
+    requires { IsReadable (KeyKind.First n) (value_seen value.now) }
+    ensures { option_map canon_bytes result ≡ first_letters_canon n (value_seen value.now) }
 {
-    match value {
-        Value::Word(text) => Some(CanonText::Slice(first_chars(text.bytes(), n))),
+    match *value {
+        ValueRef::Word(text) => Some(CanonText::Slice(first_chars(text, n))),
         _ => None,
     }
 }
@@ -106,23 +107,23 @@ fn digits_of_year(day: i32) -> [u8; 4]
 }
 
 /// The four digits of the year of a day.
-pub fn year_digits<'v>(value: &'v Value) -> Option<CanonText<'v>>
-    requires { IsReadable KeyKind.Year value.now }
-    ensures { option_map canon_bytes result ≡ year_canon value.now }
+pub fn year_digits<'v>(value: &ValueRef<'v>) -> Option<CanonText<'v>>
+    requires { IsReadable KeyKind.Year (value_seen value.now) }
+    ensures { option_map canon_bytes result ≡ year_canon (value_seen value.now) }
 {
-    match value {
-        Value::Day(day) => Some(CanonText::Short(digits_of_year(*day))),
+    match *value {
+        ValueRef::Day(day) => Some(CanonText::Short(digits_of_year(day))),
         _ => None,
     }
 }
 
 // The initials of a word.
-fn initials<'v>(alloc: Global, value: &'v Value) -> Result<Option<CanonText<'v>>, NoMemory>
-    requires { IsValid value.now }
-    ensures { IfOk result (λ canon. option_map canon_bytes canon ≡ initials_canon value.now) }
+fn initials<'v>(alloc: Global, value: &ValueRef<'v>) -> Result<Option<CanonText<'v>>, NoMemory>
+    requires { IsValid (value_seen value.now) }
+    ensures { IfOk result (λ canon. option_map canon_bytes canon ≡ initials_canon (value_seen value.now)) }
 {
-    match value {
-        Value::Word(text) => Ok(Some(CanonText::Built(initials_text(alloc, text.bytes())?))),
+    match *value {
+        ValueRef::Word(text) => Ok(Some(CanonText::Built(initials_text(alloc, text)?))),
         _ => Ok(None),
     }
 }
@@ -142,10 +143,10 @@ pub fn compares_days(kind: CompareKind) -> bool
 pub fn canon_text<'v>(
     alloc: Global,
     kind: CompareKind,
-    value: &'v Value,
+    value: &ValueRef<'v>,
 ) -> Result<Option<CanonText<'v>>, NoMemory>
-    requires { IsValid value.now }
-    ensures { IfOk result (λ canon. option_map canon_bytes canon ≡ canon_of kind value.now) }
+    requires { IsValid (value_seen value.now) }
+    ensures { IfOk result (λ canon. option_map canon_bytes canon ≡ canon_of kind (value_seen value.now)) }
 {
     match kind {
         CompareKind::Exact => Ok(exact(value)),
@@ -158,9 +159,9 @@ pub fn canon_text<'v>(
 }
 
 /// The part of a key of a blocking pass that a value makes, `None` exactly where it makes none.
-pub fn value_text<'v>(kind: KeyKind, value: &'v Value) -> Option<CanonText<'v>>
-    requires { IsReadable kind value.now }
-    ensures { option_map canon_bytes result ≡ value_part kind value.now }
+pub fn value_text<'v>(kind: KeyKind, value: &ValueRef<'v>) -> Option<CanonText<'v>>
+    requires { IsReadable kind (value_seen value.now) }
+    ensures { option_map canon_bytes result ≡ value_part kind (value_seen value.now) }
 {
     match kind {
         KeyKind::Whole => exact(value),
