@@ -66,12 +66,12 @@ impl Comparator for Exact {
 
     #[tactic(auto, using(value_forms::proofs::ReadableLemmas::readable_valid))]
     fn present(&self, side: &Value) -> bool {
-        exact(side).is_some()
+        exact(&side.as_ref()).is_some()
     }
 
     #[tactic(auto, using(value_forms::proofs::ReadableLemmas::readable_valid))]
     fn outcome(&self, a: &Value, b: &Value) -> Outcome {
-        compare(exact(a), exact(b))
+        compare(exact(&a.as_ref()), exact(&b.as_ref()))
     }
 }
 
@@ -82,7 +82,7 @@ impl KeyComparator for Exact {
 
     #[tactic(auto, using(value_forms::proofs::ReadableLemmas::readable_valid))]
     fn canon(&self, alloc: Global, side: &Value) -> Result<Option<Text>, NoMemory> {
-        copy(alloc, exact(side))
+        copy(alloc, exact(&side.as_ref()))
     }
 }
 
@@ -108,11 +108,11 @@ impl Comparator for BySoundex {
     }
 
     fn present(&self, side: &Value) -> bool {
-        soundex_key(side).is_some()
+        soundex_key(&side.as_ref()).is_some()
     }
 
     fn outcome(&self, a: &Value, b: &Value) -> Outcome {
-        compare(soundex_key(a), soundex_key(b))
+        compare(soundex_key(&a.as_ref()), soundex_key(&b.as_ref()))
     }
 }
 
@@ -122,7 +122,7 @@ impl KeyComparator for BySoundex {
     ghost canon_laws = { λ _. canon_laws_by soundex_canon };
 
     fn canon(&self, alloc: Global, side: &Value) -> Result<Option<Text>, NoMemory> {
-        copy(alloc, soundex_key(side))
+        copy(alloc, soundex_key(&side.as_ref()))
     }
 }
 
@@ -148,11 +148,11 @@ impl Comparator for ByNysiis {
     }
 
     fn present(&self, side: &Value) -> bool {
-        nysiis_key(side).is_some()
+        nysiis_key(&side.as_ref()).is_some()
     }
 
     fn outcome(&self, a: &Value, b: &Value) -> Outcome {
-        compare(nysiis_key(a), nysiis_key(b))
+        compare(nysiis_key(&a.as_ref()), nysiis_key(&b.as_ref()))
     }
 }
 
@@ -162,7 +162,7 @@ impl KeyComparator for ByNysiis {
     ghost canon_laws = { λ _. canon_laws_by nysiis_canon };
 
     fn canon(&self, alloc: Global, side: &Value) -> Result<Option<Text>, NoMemory> {
-        copy(alloc, nysiis_key(side))
+        copy(alloc, nysiis_key(&side.as_ref()))
     }
 }
 
@@ -191,12 +191,15 @@ impl Comparator for FirstLetters {
 
     #[tactic(auto, using(value_forms::proofs::ReadableLemmas::readable_valid))]
     fn present(&self, side: &Value) -> bool {
-        first_letters(self.n, side).is_some()
+        first_letters(self.n, &side.as_ref()).is_some()
     }
 
     #[tactic(auto, using(value_forms::proofs::ReadableLemmas::readable_valid))]
     fn outcome(&self, a: &Value, b: &Value) -> Outcome {
-        compare(first_letters(self.n, a), first_letters(self.n, b))
+        compare(
+            first_letters(self.n, &a.as_ref()),
+            first_letters(self.n, &b.as_ref()),
+        )
     }
 }
 
@@ -207,7 +210,7 @@ impl KeyComparator for FirstLetters {
 
     #[tactic(auto, using(value_forms::proofs::ReadableLemmas::readable_valid))]
     fn canon(&self, alloc: Global, side: &Value) -> Result<Option<Text>, NoMemory> {
-        copy(alloc, first_letters(self.n, side))
+        copy(alloc, first_letters(self.n, &side.as_ref()))
     }
 }
 
