@@ -31,6 +31,7 @@ impl Value {
 }
 
 /// The values of a record, where they stand, which contracts see as the list of them.
+#[derive(Drop)]
 pub struct Row<'a> {
     values: &'a [Value],
 }
