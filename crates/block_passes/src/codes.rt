@@ -4,7 +4,7 @@ ghost use Rattle.block_passes.specs.Codes.{coded_text, has_marked, is_marked, ke
 ghost use Rattle.block_passes.specs.Keys.{AreReadable, InRange, key_in_pass};
 
 use crate::parts::part_text;
-use link_base::{NoMemory, Pass, Value};
+use link_base::{NoMemory, Pass, Row};
 use std::alloc::Global;
 use value_forms::bytes_of;
 
@@ -61,7 +61,7 @@ pub(crate) fn push_text(code: &mut Vec<u8>, text: &[u8]) -> Result<(), NoMemory>
 /// The code of the key of a row in a pass.
 pub(crate) fn row_code(
     alloc: Global,
-    row: &[Value],
+    row: &Row<'_>,
     pass: &Pass,
 ) -> Result<Option<Vec<u8>>, NoMemory>
     requires in_range { InRange row.now pass.now }

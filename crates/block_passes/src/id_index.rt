@@ -18,7 +18,7 @@ use crate::index::RowsByCode;
 use crate::numbering::Numbering;
 use crate::part_ids::ids_in_passes;
 use crate::pass_ids::PassIds;
-use link_base::{NoMemory, Pass, StdFile, Value};
+use link_base::{NoMemory, Pass, Row, StdFile};
 use std::alloc::Global;
 use std::slice::from_ref;
 use value_pool::Pool;
@@ -168,7 +168,7 @@ fn index_four(
 // The ids of the key of a row as bytes.
 fn long_code(
     alloc: Global,
-    row: &[Value],
+    row: &Row<'_>,
     pass: &Pass,
     pool: &Pool,
 ) -> Result<Option<Vec<u8>>, NoMemory>
@@ -200,7 +200,7 @@ fn number_long(
 {
     let mut numbers = Vec::new(alloc);
     for at in 0..file.rows() {
-        let number = numbering.number(long_code(alloc, file.row(at), pass, pool)?)?;
+        let number = numbering.number(long_code(alloc, &file.row(at), pass, pool)?)?;
         numbers.push(number)?;
     }
     Ok(numbers)

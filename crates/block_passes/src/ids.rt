@@ -9,7 +9,7 @@ ghost use Rattle.link_base.specs.declared.standard.Value.{Value};
 
 use crate::id_codes::code_of_ids;
 use crate::parts::part_text;
-use link_base::{NoMemory, Part, Pass, Value};
+use link_base::{NoMemory, Part, Pass, Row};
 use std::alloc::Global;
 use std::marker::Model;
 use value_forms::bytes_of;
@@ -64,7 +64,7 @@ impl IdKey {
 }
 
 /// The id of the part of a key that a row has, which the pool holds.
-pub(crate) fn part_id(row: &[Value], part: Part, pool: &Pool) -> Option<Id>
+pub(crate) fn part_id(row: &Row<'_>, part: Part, pool: &Pool) -> Option<Id>
     requires within { part.field < length row.now }
     requires readable { IsPartReadable row.now part }
     requires held { IsHeld pool.now.texts (part_key row.now part) }
@@ -81,7 +81,7 @@ pub(crate) fn part_id(row: &[Value], part: Part, pool: &Pool) -> Option<Id>
 /// exactly where some part is missing.
 pub fn id_key(
     alloc: Global,
-    row: &[Value],
+    row: &Row<'_>,
     pass: &Pass,
     pool: &Pool,
 ) -> Result<Option<IdKey>, NoMemory>

@@ -37,7 +37,7 @@ fn number_rows(
 {
     let mut numbers = Vec::new(alloc);
     for at in 0..file.rows() {
-        let number = numbering.number(row_code(alloc, file.row(at), pass)?)?;
+        let number = numbering.number(row_code(alloc, &file.row(at), pass)?)?;
         numbers.push(number)?;
     }
     Ok(numbers)
@@ -55,7 +55,7 @@ fn find_rows(
 {
     let mut numbers = Vec::new(alloc);
     for at in 0..file.rows() {
-        let number = numbering.find(row_code(alloc, file.row(at), pass)?);
+        let number = numbering.find(row_code(alloc, &file.row(at), pass)?);
         numbers.push(number)?;
     }
     Ok(numbers)

@@ -5,7 +5,7 @@ ghost use Rattle.block_passes.specs.Keys.{AreReadable, InRange, key_in_pass};
 
 use crate::codes::push_text;
 use crate::parts::part_text;
-use link_base::{NoMemory, Pass, Text, Value};
+use link_base::{NoMemory, Pass, Row, Text};
 use std::alloc::Global;
 use std::marker::Model;
 use value_forms::bytes_of;
@@ -67,7 +67,7 @@ fn code_of(alloc: Global, texts: &[Text]) -> Result<Vec<u8>, NoMemory>
 /// missing. A part of kind `Whole` is the text of a word or the date `YYYY-MM-DD` of a day, one of
 /// kind `Soundex` or `Nysiis` the phonetic key of a word with a letter, one of kind `First` the first
 /// characters of a word, and one of kind `Year` the four digits of a day's year.
-pub fn pass_key(alloc: Global, row: &[Value], pass: &Pass) -> Result<Option<PassKey>, NoMemory>
+pub fn pass_key(alloc: Global, row: &Row<'_>, pass: &Pass) -> Result<Option<PassKey>, NoMemory>
     requires in_range { InRange row.now pass.now }
     requires readable { AreReadable row.now pass.now }
     ensures { IfOk result (λ key. key ≡ key_in_pass row.now pass.now) }

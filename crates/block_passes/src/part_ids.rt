@@ -7,7 +7,7 @@ ghost use Rattle.block_passes.specs.Keys.{AreReadable, InRange};
 
 use crate::ids::part_id;
 use crate::pass_ids::count_parts;
-use link_base::{NoMemory, Pass, PassList, StdFile, Value};
+use link_base::{NoMemory, Pass, PassList, Row, StdFile};
 use std::alloc::Global;
 use value_pool::{Id, Pool};
 
@@ -22,7 +22,7 @@ pub struct KeyedPool<'k> {
 // Appends the ids of the parts of a row in a pass.
 fn push_pass(
     ids: &mut Vec<Option<Id>>,
-    row: &[Value],
+    row: &Row<'_>,
     pass: &Pass,
     pool: &Pool,
 ) -> Result<(), NoMemory>
@@ -40,7 +40,7 @@ fn push_pass(
 // Appends the ids of the parts of a row in all passes.
 fn push_row(
     ids: &mut Vec<Option<Id>>,
-    row: &[Value],
+    row: &Row<'_>,
     passes: &[Pass],
     pool: &Pool,
 ) -> Result<(), NoMemory>
@@ -69,7 +69,7 @@ pub(crate) fn ids_in_passes(
     let room = (file.rows() as usize).saturating_mul(count_parts(passes));
     let mut ids = Vec::with_capacity(alloc, room)?;
     for at in 0..file.rows() {
-        push_row(&mut ids, file.row(at), passes, pool)?;
+        push_row(&mut ids, &file.row(at), passes, pool)?;
     }
     Ok(ids)
 }
