@@ -3,33 +3,32 @@
 ghost use Rattle.std.specs.Prelude.{◌≡◌, []};
 
 use block_passes::{build_index, build_index_in, id_key, key_ids, pass_key};
-use link_base::{NoMemory, Pass, PassList, StdFile, Value};
+use link_base::{NoMemory, Pass, PassList, StdFile, Text};
 use pair_walk::{walk, walk_in};
 use std::alloc::Global;
 use value_pool::Pool;
 
-// By texts, of a file without records and a pass without parts.
-fn are_made(alloc: Global, file: &StdFile, row: &[Value], pass: &Pass) -> bool
-    requires file { file.now ≡ [] }
-    requires pass { pass.now ≡ [] }
+// By texts, in a pass without parts.
+fn are_made(alloc: Global, file: &StdFile, pass: &Pass) -> bool
+    requires { pass.now ≡ [] }
 {
-    build_index(alloc, file, pass).is_ok() && pass_key(alloc, row, pass).is_ok()
+    build_index(alloc, file, pass).is_ok()
+        && file.rows() > 0
+        && pass_key(alloc, &file.row(0), pass).is_ok()
 }
 
 // The same by ids.
-fn are_made_in(alloc: Global, file: &StdFile, row: &[Value], pass: &Pass, pool: &Pool) -> bool
-    requires file { file.now ≡ [] }
-    requires pass { pass.now ≡ [] }
+fn are_made_in(alloc: Global, file: &StdFile, pass: &Pass, pool: &Pool) -> bool
+    requires { pass.now ≡ [] }
 {
-    build_index_in(alloc, file, pass, pool).is_ok() && id_key(alloc, row, pass, pool).is_ok()
+    build_index_in(alloc, file, pass, pool).is_ok()
+        && file.rows() > 0
+        && id_key(alloc, &file.row(0), pass, pool).is_ok()
 }
 
-fn are_made_over(alloc: Global, file: &StdFile, pool: &Pool) -> bool
-    requires file { file.now ≡ [] }
-{
-    let row = Vec::new(alloc);
+fn are_made_over(alloc: Global, file: &StdFile, pool: &Pool) -> bool {
     let pass = Pass::new(Vec::new(alloc));
-    are_made(alloc, file, &row, &pass) && are_made_in(alloc, file, &row, &pass, pool)
+    are_made(alloc, file, &pass) && are_made_in(alloc, file, &pass, pool)
 }
 
 // The compared pairs of a file with itself in no pass, by texts and by ids, and the ids of the parts of its keys.
@@ -42,14 +41,22 @@ fn are_walked(alloc: Global, file: &StdFile, passes: &PassList, pool: &Pool) -> 
         && key_ids(alloc, file, passes, pool).is_ok()
 }
 
+// A file of one record without values.
+fn one_record(alloc: Global) -> Result<StdFile, NoMemory> {
+    let mut file = StdFile::new(alloc)?;
+    file.push(Text::new(alloc, b"A1")?, &mut Vec::new(alloc))?;
+    Ok(file)
+}
+
 fn all_are_made(alloc: Global) -> Result<bool, NoMemory> {
     let pool = Pool::new(alloc, 10)?;
-    let file = StdFile::new(alloc)?;
+    let none = StdFile::new(alloc)?;
+    let one = one_record(alloc)?;
     let passes = PassList::new(Vec::new(alloc));
-    Ok(are_made_over(alloc, &file, &pool) && are_walked(alloc, &file, &passes, &pool))
+    Ok(are_made_over(alloc, &one, &pool) && are_walked(alloc, &none, &passes, &pool))
 }
 
 #[test]
-fn indexes_without_rows(rt: HostRuntime) {
+fn indexes_without_parts(rt: HostRuntime) {
     assert!(rt; all_are_made(rt.alloc()) == Ok(true));
 }
