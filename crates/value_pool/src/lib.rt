@@ -8,6 +8,6 @@ mod laws;
 mod pool;
 mod table;
 
-pub use id::Id;
+pub use id::{Id, MaybeId};
 pub use laws::reserved_room;
 pub use pool::{Pool, PoolFault};

@@ -102,7 +102,10 @@ impl Pool {
         ensures found { IfSome result (λ id. slice_get self.now.texts id ≡ Some text.now) }
         ensures held { is_some result ≡ stands_among self.now.texts text.now }
     {
-        self.table.search(text).place.map(Id::at)
+        match self.table.search(text).place {
+            None => None,
+            Some(place) => Some(Id::at(place)),
+        }
     }
 
     /// The id of a text, which is taken where it is new. A refusal changes nothing but that there may be more room.

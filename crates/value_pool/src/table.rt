@@ -1,5 +1,5 @@
 // A table of distinct texts in one region of bytes, with a look-up whose bound does not rest on its hash.
-ghost use Rattle.std.specs.Prelude.{◌≡◌, ◌≤◌, ◌+◌, ◌++◌, ◌∷◌, [], bytes_eq, false, is_some, IfOk, IfSome, OnErr, OnOk, length, slice_get};
+ghost use Rattle.std.specs.Prelude.{◌≡◌, ◌≤◌, ◌<◌, ◌+◌, ◌-◌, ◌^◌, ◌++◌, ◌∷◌, [], bytes_eq, false, is_some, IfOk, IfSome, OnErr, OnOk, length, slice_get};
 ghost use Rattle.link_limits.specs.declared.TheConstants.{MOST_POOL_LIMIT};
 ghost use Rattle.value_pool.specs.Hashes.{hash_of};
 ghost use Rattle.value_pool.specs.Pool.{HasRoom, KeepsRoom};
@@ -90,6 +90,7 @@ impl Table {
         requires { IsTable self.now }
         ensures found { IfSome result.place (λ place. slice_get (texts_of self.now) place ≡ Some text.now) }
         ensures held { is_some result.place ≡ stands_among (texts_of self.now) text.now }
+        ensures small { IfSome result.place (λ place. place < 2 ^ 32 - 1) }
         ensures hash { result.hash ≡ hash_of self.now.key text.now }
     {
         let hash = self.key.hash(text);
@@ -123,6 +124,7 @@ impl Table {
         requires fits { length self.old.bytes.items + length text.now ≤ MOST_POOL_LIMIT }
         ensures table { IsTable self.new }
         ensures place { IfOk result (λ place. place ≡ length (texts_of self.old)) }
+        ensures small { IfOk result (λ place. place < 2 ^ 32 - 1) }
         ensures ok { OnOk result (texts_of self.new ≡ texts_of self.old ++ text.now ∷ []) }
         ensures err { OnErr result (texts_of self.new ≡ texts_of self.old) }
         ensures used { OnOk result (length self.new.bytes.items ≡ length self.old.bytes.items + length text.now) }
