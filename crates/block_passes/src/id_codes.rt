@@ -7,19 +7,19 @@ ghost use Rattle.block_passes.specs.declared.id_codes.TheConstants.{MOST_IDS};
 use crate::codes::push_text;
 use link_base::NoMemory;
 use std::alloc::Global;
-use value_pool::Id;
+use value_pool::{Id, MaybeId};
 
 /// The most ids of a key that stand side by side. Those of a longer key are one list of bytes.
 pub(crate) const MOST_IDS: usize = 4;
 
 /// The places of at most four ids, present where each is.
-pub(crate) fn four_places(ids: &[Option<Id>]) -> Option<[u32; MOST_IDS]>
+pub(crate) fn four_places(ids: &[MaybeId]) -> Option<[u32; MOST_IDS]>
     requires { length ids.now ≤ MOST_IDS }
     ensures { result ≡ four_ids (all_ids ids.now) }
 {
     let mut places = [0; MOST_IDS];
     for (at, id) in ids.iter().enumerate() {
-        match id {
+        match id.get() {
             None => return None,
             Some(id) => places[at] = id.place(),
         }

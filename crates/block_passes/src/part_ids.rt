@@ -9,19 +9,19 @@ use crate::ids::part_id;
 use crate::pass_ids::count_parts;
 use link_base::{NoMemory, Pass, PassList, Row, StdFile};
 use std::alloc::Global;
-use value_pool::{Id, Pool};
+use value_pool::{MaybeId, Pool};
 
 /// A pool with the ids of the parts of the keys of two files, each list as `key_ids` gives it.
 #[derive(Drop)]
 pub struct KeyedPool<'k> {
     pub pool: &'k Pool,
-    pub a: &'k [Option<Id>],
-    pub b: &'k [Option<Id>],
+    pub a: &'k [MaybeId],
+    pub b: &'k [MaybeId],
 }
 
 // Appends the ids of the parts of a row in a pass.
 fn push_pass(
-    ids: &mut Vec<Option<Id>>,
+    ids: &mut Vec<MaybeId>,
     row: &Row<'_>,
     pass: &Pass,
     pool: &Pool,
@@ -32,14 +32,14 @@ fn push_pass(
     ensures { OnOk result (ids.new.items ≡ ids.old.items ++ ids_in_pass pool.now.texts row.now pass.now) }
 {
     for part in pass.parts() {
-        ids.push(part_id(row, *part, pool))?;
+        ids.push(MaybeId::of(part_id(row, *part, pool)))?;
     }
     Ok(())
 }
 
 // Appends the ids of the parts of a row in all passes.
 fn push_row(
-    ids: &mut Vec<Option<Id>>,
+    ids: &mut Vec<MaybeId>,
     row: &Row<'_>,
     passes: &[Pass],
     pool: &Pool,
@@ -61,7 +61,7 @@ pub(crate) fn ids_in_passes(
     file: &StdFile,
     passes: &[Pass],
     pool: &Pool,
-) -> Result<Vec<Option<Id>>, NoMemory>
+) -> Result<Vec<MaybeId>, NoMemory>
     requires ready { AreAllReady passes.now file.now }
     requires held { AreKeysHeld pool.now.texts passes.now file.now }
     ensures { IfOk result (λ ids. ids.items ≡ key_ids pool.now.texts passes.now file.now) }
@@ -81,7 +81,7 @@ pub fn key_ids(
     file: &StdFile,
     passes: &PassList,
     pool: &Pool,
-) -> Result<Vec<Option<Id>>, NoMemory>
+) -> Result<Vec<MaybeId>, NoMemory>
     requires ready { AreAllReady passes.now file.now }
     requires held { AreKeysHeld pool.now.texts passes.now file.now }
     ensures { IfOk result (λ ids. ids.items ≡ key_ids pool.now.texts passes.now file.now) }

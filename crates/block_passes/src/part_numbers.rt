@@ -6,15 +6,18 @@ use crate::numbering::NO_NUMBER;
 use crate::pass_ids::PassIds;
 use link_base::NoMemory;
 use std::alloc::Global;
-use value_pool::Id;
+use value_pool::MaybeId;
 
 // The place of the first of some ids.
-fn first_number(ids: &[Option<Id>]) -> u32
+fn first_number(ids: &[MaybeId]) -> u32
     ensures { result ≡ first_number ids.now }
 {
-    match ids.first() {
-        Some(Some(id)) => id.place(),
-        _ => NO_NUMBER,
+    let Some(first) = ids.first() else {
+        return NO_NUMBER;
+    };
+    match first.get() {
+        None => NO_NUMBER,
+        Some(id) => id.place(),
     }
 }
 

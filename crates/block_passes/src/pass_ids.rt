@@ -5,7 +5,7 @@ ghost use Rattle.block_passes.specs.PassIds.{rows_in_pass};
 
 use link_base::Pass;
 use std::marker::Model;
-use value_pool::Id;
+use value_pool::MaybeId;
 
 /// How many parts passes have together, at most the most that a `usize` holds.
 pub fn count_parts(passes: &[Pass]) -> usize
@@ -22,7 +22,7 @@ pub fn count_parts(passes: &[Pass]) -> usize
 /// of each row.
 #[derive(Drop)]
 pub(crate) struct PassIds<'k> {
-    ids: &'k [Option<Id>],
+    ids: &'k [MaybeId],
     width: usize,
     start: usize,
     parts: usize,
@@ -42,7 +42,7 @@ impl<'k> Model for PassIds<'k> {
 
 impl<'k> PassIds<'k> {
     /// The ids of the pass `at`.
-    pub(crate) fn of(ids: &'k [Option<Id>], passes: &[Pass], at: usize, rows: u32) -> PassIds<'k>
+    pub(crate) fn of(ids: &'k [MaybeId], passes: &[Pass], at: usize, rows: u32) -> PassIds<'k>
         requires at { at < length passes.now }
         requires ids { length ids.now ≡ rows * parts_in passes.now }
         ensures { result ≡ rows_in_pass ids.now (parts_in passes.now) (parts_in (take at passes.now)) (length (slice_index_or passes.now at [])) rows }
@@ -66,7 +66,7 @@ impl<'k> PassIds<'k> {
     }
 
     /// The ids of a row.
-    pub(crate) fn row(&self, at: u32) -> &[Option<Id>]
+    pub(crate) fn row(&self, at: u32) -> &[MaybeId]
         requires { at < length self.now }
         ensures { result.now ≡ slice_index_or self.now at [] }
     {

@@ -11,7 +11,7 @@ loop-at-preserved c =
     let place = c.place.result in
     let ids = c.args.ids.now in
     let long = inv.1 in
-    let is = ap Some c.place.ensures ∙ sym c.in-Some.is ∙ get_or_read ids c.loop-at.at c.index-ids-at.result c.loop-at-test.true c.index-ids-at.is None in (
+    let is = ap Some c.place.ensures ∙ sym c.in-Some.is ∙ c.get.ensures ∙ get_or_read ids c.loop-at.at c.index-ids-at.result c.loop-at-test.true c.index-ids-at.is None in (
       front ++ place ∷ [],
       length-append front (place ∷ []) ∙ omega arith,
       rw (inv.2, ← inv.1) (padded-set 4 front place (omega arith)),
