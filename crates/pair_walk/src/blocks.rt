@@ -11,7 +11,7 @@ use block_passes::{KeyedPool, PassRows};
 use link_base::{NoMemory, PassList, StdFile};
 use std::alloc::Global;
 use std::marker::Model;
-use value_pool::{Id, Pool};
+use value_pool::{MaybeId, Pool};
 
 /// The blocks of two files: for each record of A those of B that share a key with it in some blocking pass (Newcombe et al.
 /// 1959). Contracts see the list of these rows. They are walked as often as they are needed.
@@ -57,8 +57,8 @@ impl Blocks {
         b: &StdFile,
         passes: &PassList,
         pool: &Pool,
-        keys_a: &[Option<Id>],
-        keys_b: &[Option<Id>],
+        keys_a: &[MaybeId],
+        keys_b: &[MaybeId],
     ) -> Result<Blocks, NoMemory>
         requires ready_a { AreAllReady passes.now a.now }
         requires ready_b { AreAllReady passes.now b.now }
