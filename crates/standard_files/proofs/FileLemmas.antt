@@ -4,7 +4,7 @@ use Rattle.std.proofs.lemmas.List.{at_drop_more, drop_more, take_more}
 use Rattle.std.proofs.lemmas.Grind.{flat_map-append}
 use Rattle.std.specs.List.{All}
 use Rattle.value_forms.specs.Canons.{canon_of}
-use Rattle.link_base.specs.Standard.{IsValid, no_record, Record}
+use Rattle.link_base.specs.Standard.{absent_value, IsValid, no_record, Record}
 use Rattle.link_base.specs.declared.plan.CompareKind.{CompareKind}
 use Rattle.link_base.specs.declared.plan.CompareKind.TheVariants as by
 use Rattle.link_base.specs.declared.plan.Part.{Part}
@@ -27,13 +27,13 @@ pub part-texts : (row : List Value) (parts : List Part) (at : ℕ) → at < leng
 part-texts row parts at lt = at_drop_more (parts_in_pass row) parts at no_part lt
 
 -- the values of a row one by one
-pub row-texts : (row : List Value) (at : ℕ) (v : Value) → at < length row → v ≡ get_or row at v → texts_of_row (drop at row) ≡ option_to_list (standard_text v) ++ texts_of_row (drop (at + 1) row)
+pub row-texts : (row : List Value) (at : ℕ) (v : Value) → at < length row → v ≡ get_or row at absent_value → texts_of_row (drop at row) ≡ option_to_list (standard_text v) ++ texts_of_row (drop (at + 1) row)
 row-texts row at v lt e =
-    at_drop_more texts_of_row row at v lt ∙ ap (λ x. option_to_list (standard_text x) ++ texts_of_row (drop (at + 1) row)) (sym e)
+    at_drop_more texts_of_row row at absent_value lt ∙ ap (λ x. option_to_list (standard_text x) ++ texts_of_row (drop (at + 1) row)) (sym e)
 
-pub values-push : (before row : List Value) (at : ℕ) (v : Value) → at < length row → v ≡ get_or row at v → before ++ take (at + 1) row ≡ (before ++ take at row) ++ v ∷ []
+pub values-push : (before row : List Value) (at : ℕ) (v : Value) → at < length row → v ≡ get_or row at absent_value → before ++ take (at + 1) row ≡ (before ++ take at row) ++ v ∷ []
 values-push before row at v lt e =
-    ap (λ vs. before ++ vs) (take_more row at v lt ∙ ap (λ x. take at row ++ x ∷ []) (sym e)) ∙ sym (append_assoc before (take at row) (v ∷ []))
+    ap (λ vs. before ++ vs) (take_more row at absent_value lt ∙ ap (λ x. take at row ++ x ∷ []) (sym e)) ∙ sym (append_assoc before (take at row) (v ∷ []))
 
 -- the values of one more row
 pub values-more : (file : List Record) (at : ℕ) (row : List Value) → at < length file → row ≡ (get_or file at no_record).row → file_values (take (at + 1) file) ≡ file_values (take at file) ++ row
@@ -49,15 +49,15 @@ values-row file at row lt e =
 kinds-at : (kinds : List CompareKind) (at : ℕ) → at < length kinds → drop at kinds ≡ get_or kinds at by.Exact ∷ drop (at + 1) kinds
 kinds-at kinds at lt = drop_more kinds at by.Exact lt
 
-values-at : (row : List Value) (at : ℕ) (v : Value) → at < length row → v ≡ get_or row at v → drop at row ≡ v ∷ drop (at + 1) row
-values-at row at v lt e = drop_more row at v lt ∙ ap (λ x. x ∷ drop (at + 1) row) (sym e)
+values-at : (row : List Value) (at : ℕ) (v : Value) → at < length row → v ≡ get_or row at absent_value → drop at row ≡ v ∷ drop (at + 1) row
+values-at row at v lt e = drop_more row at absent_value lt ∙ ap (λ x. x ∷ drop (at + 1) row) (sym e)
 
-pub canons-at : (kinds : List CompareKind) (row : List Value) (at : ℕ) (v : Value) → at < length kinds → length row ≡ length kinds → v ≡ get_or row at v
+pub canons-at : (kinds : List CompareKind) (row : List Value) (at : ℕ) (v : Value) → at < length kinds → length row ≡ length kinds → v ≡ get_or row at absent_value
     → canons_of_row (drop at kinds) (drop at row) ≡ option_to_list (canon_of (get_or kinds at by.Exact) v) ++ canons_of_row (drop (at + 1) kinds) (drop (at + 1) row)
 canons-at kinds row at v lt many e =
     λ i. canons_of_row (kinds-at kinds at lt i) (values-at row at v (omega arith) e i)
 
-pub sides-at : (texts : List (List ℕ)) (kinds : List CompareKind) (row : List Value) (at : ℕ) (v : Value) → at < length kinds → length row ≡ length kinds → v ≡ get_or row at v
+pub sides-at : (texts : List (List ℕ)) (kinds : List CompareKind) (row : List Value) (at : ℕ) (v : Value) → at < length kinds → length row ≡ length kinds → v ≡ get_or row at absent_value
     → sides_of_row texts (drop at kinds) (drop at row) ≡ side_of texts (get_or kinds at by.Exact) v ∷ sides_of_row texts (drop (at + 1) kinds) (drop (at + 1) row)
 sides-at texts kinds row at v lt many e =
     λ i. sides_of_row texts (kinds-at kinds at lt i) (values-at row at v (omega arith) e i)

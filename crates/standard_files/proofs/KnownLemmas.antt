@@ -2,7 +2,7 @@
 use Rattle.std.proofs.Common.{◌≡◌, ◌<◌, ◌≤◌, ◌+◌, ℕ, zero, suc, true, List, [], ◌∷◌, ◌++◌, length, get_or, take, drop, Option, Some, None, Result, Ok, Err, OnOk, option_to_list, refl, ap, sym, subst, arith, length-append}
 use Rattle.std.specs.List.{slice_get}
 use Rattle.std.specs.Str.{bytes_eq}
-use Rattle.link_base.specs.Standard.{no_record, Record}
+use Rattle.link_base.specs.Standard.{absent_value, no_record, Record}
 use Rattle.link_base.specs.declared.plan.CompareKind.{CompareKind}
 use Rattle.link_base.specs.declared.plan.CompareKind.TheVariants as by
 use Rattle.link_base.specs.declared.standard.Value.{Value}
@@ -103,8 +103,8 @@ module _ (held : List (List ℕ)) where
   ids-at (v ∷ vs) (i ∷ is) zero d e lt h = h.0
   ids-at (v ∷ vs) (i ∷ is) (suc k) d e lt h = ids-at vs is k d e (omega arith) h.1
 
-  pub ids-read : (vs : List Value) (is : List (Option ℕ)) (k : ℕ) (v : Value) (i : Option ℕ) → k < length vs → v ≡ get_or vs k v → i ≡ get_or is k i → AreTextIds held vs is → IsIdOf held (standard_text v) i
-  ids-read vs is k v i lt of_value of_id h = subst (λ x. IsIdOf held (standard_text x) i) (sym of_value) (subst (λ x. IsIdOf held (standard_text (get_or vs k v)) x) (sym of_id) (ids-at vs is k v i lt h))
+  pub ids-read : (vs : List Value) (is : List (Option ℕ)) (k : ℕ) (v : Value) (i : Option ℕ) → k < length vs → v ≡ get_or vs k absent_value → i ≡ get_or is k i → AreTextIds held vs is → IsIdOf held (standard_text v) i
+  ids-read vs is k v i lt of_value of_id h = subst (λ x. IsIdOf held (standard_text x) i) (sym of_value) (subst (λ x. IsIdOf held (standard_text (get_or vs k absent_value)) x) (sym of_id) (ids-at vs is k absent_value i lt h))
 
 -- the ids of the rows of a file that are left
 module _ (held : List (List ℕ)) (file : List Record) (at : ℕ) (row : List Value) (left : List (Option ℕ)) (width : ℕ) where

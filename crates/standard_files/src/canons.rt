@@ -1,6 +1,7 @@
 // What values are compared by, and their canons taken into a pool.
 ghost use Rattle.std.specs.Prelude.{◌≡◌, ◌<◌, ◌≤◌, All, IfOk, IsTrue, List, [], OnOk, Some, ℕ, length, option_to_list, slice_index_or};
 ghost use Rattle.value_forms.specs.Canons.{IsReadable, canon_of, value_part};
+ghost use Rattle.link_base.specs.Rows.{value_seen};
 ghost use Rattle.link_base.specs.Standard.{IsValid};
 ghost use Rattle.link_base.specs.declared.plan.CompareKind.TheVariants as by;
 ghost use Rattle.standard_files.specs.Known.{AreKnown, AreKnownDays, AreTextIds, IsIdOf, file_values, side_by_id};
@@ -12,7 +13,7 @@ ghost use Rattle.standard_files.specs.Texts.{both_texts, canons_of_row, file_tex
 use crate::known::{Known, KnownDays};
 use crate::texts::{TextIds, take_text};
 use comparators::{IdTable, IdValue};
-use link_base::{CompareKind, KeyKind, NoMemory, StdFile, Value};
+use link_base::{CompareKind, KeyKind, NoMemory, Row, StdFile, ValueRef};
 use link_limits::MOST_FIELDS;
 use std::alloc::Global;
 use value_forms::{bytes_of, canon_text, compares_days, value_text};
@@ -23,12 +24,12 @@ pub(crate) fn take_part(
     alloc: Global,
     pool: &mut Pool,
     kind: KeyKind,
-    value: &Value,
+    value: &ValueRef<'_>,
 ) -> Result<IdValue, PoolFault>
-    requires { IsReadable kind value.now }
+    requires { IsReadable kind (value_seen value.now) }
     ensures limit { pool.new.limit ≡ pool.old.limit }
-    ensures texts { TakesTexts pool.old pool.new (option_to_list (value_part kind value.now)) result }
-    ensures side { IfOk result (λ side. (final : List (List ℕ)) → Extends pool.new.texts final → id_side final (value_part kind value.now) ≡ side) }
+    ensures texts { TakesTexts pool.old pool.new (option_to_list (value_part kind (value_seen value.now))) result }
+    ensures side { IfOk result (λ side. (final : List (List ℕ)) → Extends pool.new.texts final → id_side final (value_part kind (value_seen value.now)) ≡ side) }
 {
     match value_text(kind, value) {
         None => Ok(IdValue::Absent),
@@ -37,11 +38,11 @@ pub(crate) fn take_part(
 }
 
 // A day as it is.
-fn day_of(value: &Value) -> IdValue
-    ensures { result ≡ day_side value.now }
+fn day_of(value: &ValueRef<'_>) -> IdValue
+    ensures { result ≡ day_side (value_seen value.now) }
 {
     match value {
-        Value::Day(day) => IdValue::Day(*day),
+        ValueRef::Day(day) => IdValue::Day(*day),
         _ => IdValue::Absent,
     }
 }
@@ -68,12 +69,12 @@ fn take_canon(
     alloc: Global,
     pool: &mut Pool,
     kind: CompareKind,
-    value: &Value,
+    value: &ValueRef<'_>,
 ) -> Result<Option<Id>, PoolFault>
-    requires { IsValid value.now }
+    requires { IsValid (value_seen value.now) }
     ensures limit { pool.new.limit ≡ pool.old.limit }
-    ensures texts { TakesTexts pool.old pool.new (option_to_list (canon_of kind value.now)) result }
-    ensures id { IfOk result (IsIdOf pool.new.texts (canon_of kind value.now)) }
+    ensures texts { TakesTexts pool.old pool.new (option_to_list (canon_of kind (value_seen value.now))) result }
+    ensures id { IfOk result (IsIdOf pool.new.texts (canon_of kind (value_seen value.now))) }
 {
     match canon_text(alloc, kind, value) {
         Err(NoMemory) => Err(PoolFault::NoMemory),
@@ -89,13 +90,13 @@ fn take_day(
     pool: &mut Pool,
     kind: CompareKind,
     days: &mut KnownDays,
-    value: &Value,
+    value: &ValueRef<'_>,
 ) -> Result<Option<Id>, PoolFault>
-    requires valid { IsValid value.now }
+    requires valid { IsValid (value_seen value.now) }
     requires days { AreKnownDays pool.old.texts days.old.at.items }
     ensures limit { pool.new.limit ≡ pool.old.limit }
-    ensures texts { TakesTexts pool.old pool.new (option_to_list (canon_of kind value.now)) result }
-    ensures id { IfOk result (IsIdOf pool.new.texts (canon_of kind value.now)) }
+    ensures texts { TakesTexts pool.old pool.new (option_to_list (canon_of kind (value_seen value.now))) result }
+    ensures id { IfOk result (IsIdOf pool.new.texts (canon_of kind (value_seen value.now))) }
     ensures days { OnOk result (AreKnownDays pool.new.texts days.new.at.items) }
 {
     if !is_text_itself(kind) {
@@ -120,15 +121,15 @@ fn take_known(
     known: &mut Known,
     field: u8,
     text: Option<Id>,
-    value: &Value,
+    value: &ValueRef<'_>,
 ) -> Result<Option<Id>, PoolFault>
     requires field { field < length kinds.now }
-    requires valid { IsValid value.now }
-    requires text { IsIdOf pool.old.texts (standard_text value.now) text }
+    requires valid { IsValid (value_seen value.now) }
+    requires text { IsIdOf pool.old.texts (standard_text (value_seen value.now)) text }
     requires known { AreKnown pool.old.texts kinds.now known.old }
     ensures limit { pool.new.limit ≡ pool.old.limit }
-    ensures texts { TakesTexts pool.old pool.new (option_to_list (canon_of (slice_index_or kinds.now field by.Exact) value.now)) result }
-    ensures id { IfOk result (IsIdOf pool.new.texts (canon_of (slice_index_or kinds.now field by.Exact) value.now)) }
+    ensures texts { TakesTexts pool.old pool.new (option_to_list (canon_of (slice_index_or kinds.now field by.Exact) (value_seen value.now))) result }
+    ensures id { IfOk result (IsIdOf pool.new.texts (canon_of (slice_index_or kinds.now field by.Exact) (value_seen value.now))) }
     ensures known { OnOk result (AreKnown pool.new.texts kinds.now known.new) }
 {
     let kind = kinds[field as usize];
@@ -156,15 +157,15 @@ fn take_side(
     known: &mut Known,
     field: u8,
     text: Option<Id>,
-    value: &Value,
+    value: &ValueRef<'_>,
 ) -> Result<IdValue, PoolFault>
     requires field { field < length kinds.now }
-    requires valid { IsValid value.now }
-    requires text { IsIdOf pool.old.texts (standard_text value.now) text }
+    requires valid { IsValid (value_seen value.now) }
+    requires text { IsIdOf pool.old.texts (standard_text (value_seen value.now)) text }
     requires known { AreKnown pool.old.texts kinds.now known.old }
     ensures limit { pool.new.limit ≡ pool.old.limit }
-    ensures texts { TakesTexts pool.old pool.new (option_to_list (canon_of (slice_index_or kinds.now field by.Exact) value.now)) result }
-    ensures side { IfOk result (λ side. (final : List (List ℕ)) → Extends pool.new.texts final → side_of final (slice_index_or kinds.now field by.Exact) value.now ≡ side) }
+    ensures texts { TakesTexts pool.old pool.new (option_to_list (canon_of (slice_index_or kinds.now field by.Exact) (value_seen value.now))) result }
+    ensures side { IfOk result (λ side. (final : List (List ℕ)) → Extends pool.new.texts final → side_of final (slice_index_or kinds.now field by.Exact) (value_seen value.now) ≡ side) }
     ensures known { OnOk result (AreKnown pool.new.texts kinds.now known.new) }
 {
     let kind = kinds[field as usize];
@@ -181,7 +182,7 @@ fn take_row(
     pool: &mut Pool,
     kinds: &[CompareKind],
     known: &mut Known,
-    row: &[Value],
+    row: &Row<'_>,
     ids: &[Option<Id>],
     sides: &mut Vec<IdValue>,
 ) -> Result<(), PoolFault>
@@ -205,7 +206,7 @@ fn take_row(
             known,
             field as u8,
             ids[field],
-            &row[field],
+            &row.value(field),
         )?;
         if sides.push(side).is_err() {
             return Err(PoolFault::NoMemory);
@@ -240,7 +241,7 @@ fn take_rows(
     let mut left = ids;
     for at in 0..file.rows() {
         let (here, later) = left.split_at(kinds.len());
-        take_row(alloc, pool, kinds, known, file.row(at), here, &mut sides)?;
+        take_row(alloc, pool, kinds, known, &file.row(at), here, &mut sides)?;
         if table.push(&sides).is_err() {
             return Err(PoolFault::NoMemory);
         }

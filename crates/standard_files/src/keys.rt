@@ -16,7 +16,7 @@ use crate::canons::take_part;
 use crate::texts::TextIds;
 use block_passes::count_parts;
 use comparators::{IdTable, IdValue};
-use link_base::{CompareKind, KeyKind, NoMemory, Part, Pass, PassList, Sides, StdFile, Value};
+use link_base::{CompareKind, KeyKind, NoMemory, Part, Pass, PassList, Row, Sides, StdFile};
 use std::alloc::Global;
 use value_pool::{Id, Pool, PoolFault};
 
@@ -67,7 +67,7 @@ fn take_row_part(
     pool: &mut Pool,
     kinds: &[CompareKind],
     part: Part,
-    row: &[Value],
+    row: &Row<'_>,
     texts: &[Option<Id>],
     sides: &[IdValue],
 ) -> Result<Option<Id>, PoolFault>
@@ -86,7 +86,7 @@ fn take_row_part(
     if is_canon(part.key, kinds[field]) {
         return Ok(id_of_side(sides[field]));
     }
-    match take_part(alloc, pool, part.key, &row[field]) {
+    match take_part(alloc, pool, part.key, &row.value(field)) {
         Ok(side) => Ok(id_of_side(side)),
         Err(fault) => Err(fault),
     }
@@ -98,7 +98,7 @@ fn take_key(
     pool: &mut Pool,
     kinds: &[CompareKind],
     pass: &Pass,
-    row: &[Value],
+    row: &Row<'_>,
     texts: &[Option<Id>],
     sides: &[IdValue],
     ids: &mut Vec<Option<Id>>,
@@ -126,7 +126,7 @@ fn take_row(
     pool: &mut Pool,
     kinds: &[CompareKind],
     passes: &PassList,
-    row: &[Value],
+    row: &Row<'_>,
     texts: &[Option<Id>],
     sides: &[IdValue],
     ids: &mut Vec<Option<Id>>,
@@ -190,7 +190,7 @@ fn take_file(
             pool,
             kinds,
             passes,
-            file.row(at),
+            &file.row(at),
             here,
             sides,
             &mut ids,

@@ -1,10 +1,11 @@
 // Canons that were taken, by the texts and the days that have them.
 ghost use Rattle.std.specs.Prelude.{◌≡◌, List, ℕ, IfOk, IfSome, Some, None, slice_index_or};
+ghost use Rattle.link_base.specs.Rows.{value_seen};
 ghost use Rattle.link_base.specs.declared.plan.CompareKind.{CompareKind as Kind};
 ghost use Rattle.standard_files.specs.Known.{AreKnown, AreKnownCanons, AreKnownDays, IsCanonAt, IsIdOf};
 ghost use Rattle.value_forms.specs.Canons.{exact_canon};
 
-use link_base::{NoMemory, Value};
+use link_base::{NoMemory, ValueRef};
 use std::alloc::Global;
 use value_pool::Id;
 
@@ -86,10 +87,10 @@ impl KnownDays {
     }
 
     /// The id of the text of a day, `None` for another value.
-    pub(crate) fn find(&self, value: &Value) -> Option<Id>
-        ensures { IfSome result (λ text. (held : List (List ℕ)) → AreKnownDays held self.now.at.items → IsIdOf held (exact_canon value.now) (Some text)) }
+    pub(crate) fn find(&self, value: &ValueRef<'_>) -> Option<Id>
+        ensures { IfSome result (λ text. (held : List (List ℕ)) → AreKnownDays held self.now.at.items → IsIdOf held (exact_canon (value_seen value.now)) (Some text)) }
     {
-        let Value::Day(day) = value else {
+        let ValueRef::Day(day) = value else {
             return None;
         };
         match self.at.get(self.slot(*day)) {
@@ -99,10 +100,10 @@ impl KnownDays {
     }
 
     /// Keeps the id of the text of a day.
-    pub(crate) fn keep(&mut self, value: &Value, text: Id)
-        ensures { (held : List (List ℕ)) → IsIdOf held (exact_canon value.now) (Some text) → AreKnownDays held self.old.at.items → AreKnownDays held self.new.at.items }
+    pub(crate) fn keep(&mut self, value: &ValueRef<'_>, text: Id)
+        ensures { (held : List (List ℕ)) → IsIdOf held (exact_canon (value_seen value.now)) (Some text) → AreKnownDays held self.old.at.items → AreKnownDays held self.new.at.items }
     {
-        let Value::Day(day) = value else {
+        let ValueRef::Day(day) = value else {
             return;
         };
         let slot = self.slot(*day);

@@ -1,12 +1,13 @@
 // Texts taken into a pool.
 ghost use Rattle.std.specs.Prelude.{◌≡◌, ◌≤◌, ◌++◌, ◌∷◌, ◌*◌, ◌-◌, ◌^◌, [], IfOk, List, OnOk, Some, length, min, option_to_list, slice_get, vec_capacity};
 ghost use Rattle.block_passes.specs.Index.{row_at};
+ghost use Rattle.link_base.specs.Rows.{value_seen};
 ghost use Rattle.link_base.specs.declared.standard.Value.{Value as FieldValue};
 ghost use Rattle.standard_files.specs.Known.{AreTextIds, IsIdOf, file_values};
 ghost use Rattle.standard_files.specs.Taking.{TakesTexts};
 ghost use Rattle.standard_files.specs.Texts.{both_texts, file_texts, standard_text, texts_of_row};
 
-use link_base::{NoMemory, StdFile, Value};
+use link_base::{NoMemory, Row, StdFile, ValueRef};
 use std::alloc::Global;
 use value_pool::{Id, Pool, PoolFault};
 
@@ -28,13 +29,13 @@ pub(crate) fn take_text(alloc: Global, pool: &mut Pool, text: &[u8]) -> Result<I
 }
 
 // Takes the standard text of a value.
-fn take_value(alloc: Global, pool: &mut Pool, value: &Value) -> Result<Option<Id>, PoolFault>
+fn take_value(alloc: Global, pool: &mut Pool, value: &ValueRef<'_>) -> Result<Option<Id>, PoolFault>
     ensures limit { pool.new.limit ≡ pool.old.limit }
-    ensures texts { TakesTexts pool.old pool.new (option_to_list (standard_text value.now)) result }
-    ensures id { IfOk result (IsIdOf pool.new.texts (standard_text value.now)) }
+    ensures texts { TakesTexts pool.old pool.new (option_to_list (standard_text (value_seen value.now))) result }
+    ensures id { IfOk result (IsIdOf pool.new.texts (standard_text (value_seen value.now))) }
 {
     match value {
-        Value::Word(text) => Ok(Some(take_text(alloc, pool, text.bytes())?)),
+        ValueRef::Word(text) => Ok(Some(take_text(alloc, pool, *text)?)),
         _ => Ok(None),
     }
 }
@@ -43,15 +44,15 @@ fn take_value(alloc: Global, pool: &mut Pool, value: &Value) -> Result<Option<Id
 fn take_row(
     alloc: Global,
     pool: &mut Pool,
-    row: &[Value],
+    row: &Row<'_>,
     ids: &mut Vec<Option<Id>>,
 ) -> Result<(), PoolFault>
     ensures limit { pool.new.limit ≡ pool.old.limit }
     ensures texts { TakesTexts pool.old pool.new (texts_of_row row.now) result }
     ensures ids { OnOk result ((before : List FieldValue) → AreTextIds pool.old.texts before ids.old.items → AreTextIds pool.new.texts (before ++ row.now) ids.new.items) }
 {
-    for value in row {
-        let id = take_value(alloc, pool, value)?;
+    for at in 0..row.len() {
+        let id = take_value(alloc, pool, &row.value(at))?;
         if ids.push(id).is_err() {
             return Err(PoolFault::NoMemory);
         }
@@ -80,7 +81,7 @@ fn take_file(alloc: Global, pool: &mut Pool, file: &StdFile) -> Result<Vec<Optio
         Err(NoMemory) => return Err(PoolFault::NoMemory),
     };
     for at in 0..file.rows() {
-        take_row(alloc, pool, file.row(at), &mut ids)?;
+        take_row(alloc, pool, &file.row(at), &mut ids)?;
     }
     Ok(ids)
 }

@@ -12,15 +12,15 @@ use Rattle.standard_files.proofs.canons.take_rows.Goals as goal
 pub returns-in_err-take_row-clause-texts : goal.returns-in_err-take_row-clause-texts
 returns-in_err-take_row-clause-texts c =
     let texts = canons_of_row c.args.kinds.now in
-    takes-refused (texts c.row.result.now) (file_texts texts (drop (c.loop-at.at + 1) c.args.file.now)) c.in_err-take_row.field-0.0 c.take_row.new.pool c.from_residual.result c.loop-at.invariant.goes
-    (file-row texts c.args.file.now c.loop-at.at c.row.result.now (omega arith) c.row.ensures) c.in_err-take_row.ensures.texts (search rules)
+    takes-refused (texts c.row.result) (file_texts texts (drop (c.loop-at.at + 1) c.args.file.now)) c.in_err-take_row.field-0.0 c.take_row.new.pool c.from_residual.result c.loop-at.invariant.goes
+    (file-row texts c.args.file.now c.loop-at.at c.row.result (omega arith) c.row.ensures) c.in_err-take_row.ensures.texts (search rules)
 
 pub loop-at-preserved : goal.loop-at-preserved
 loop-at-preserved c =
     let kinds = c.args.kinds.now in
     let texts = canons_of_row kinds in
     let file = c.args.file.now in
-    let row = c.row.result.now in
+    let row = c.row.result in
     let at = c.loop-at.at in
     let pool = c.loop-at.pool in
     let new = c.take_row.new.pool in
@@ -57,7 +57,7 @@ take_row-requires-clause-ids c =
     let kinds = c.args.kinds.now in
     let file = c.args.file.now in
     let at = c.loop-at.at in
-    let row = c.row.result.now in
+    let row = c.row.result in
     let pool = c.loop-at.pool in
     let left = c.loop-at.left.now in
     subst (AreTextIds pool.texts row) (sym c.split_at.ensures.front)

@@ -18,7 +18,7 @@ loop-at-preserved c =
     let texts = parts_of_row passes in
     let file = c.args.file.now in
     let at = c.loop-at.at in
-    let row = c.row.result.now in
+    let row = c.row.result in
     let pool = c.loop-at.pool in
     let taken = texts row in
     let new = c.take_row.new.pool.texts in
@@ -41,8 +41,8 @@ loop-at-preserved c =
 pub returns-in_err-take_row-clause-texts : goal.returns-in_err-take_row-clause-texts
 returns-in_err-take_row-clause-texts c =
     let texts = parts_of_row c.args.passes.now in
-    takes-refused (texts c.row.result.now) (file_texts texts (drop (c.loop-at.at + 1) c.args.file.now)) c.in_err-take_row.field-0.0 c.take_row.new.pool c.from_residual.result c.loop-at.invariant.goes
-    (file-row texts c.args.file.now c.loop-at.at c.row.result.now (omega arith) c.row.ensures) c.in_err-take_row.ensures.texts (search rules)
+    takes-refused (texts c.row.result) (file_texts texts (drop (c.loop-at.at + 1) c.args.file.now)) c.in_err-take_row.field-0.0 c.take_row.new.pool c.from_residual.result c.loop-at.invariant.goes
+    (file-row texts c.args.file.now c.loop-at.at c.row.result (omega arith) c.row.ensures) c.in_err-take_row.ensures.texts (search rules)
 
 pub split_at-requires : goal.split_at-requires
 split_at-requires c =
@@ -58,16 +58,16 @@ sides-sides-requires c =
     omega (arith, many)
 
 pub take_row-requires-clause-in_range : goal.take_row-requires-clause-in_range
-take_row-requires-clause-in_range c = (row-at c.args.passes.now c.args.file.now c.loop-at.at c.row.result.now (omega arith) c.row.ensures c.requires.parts).in_range
+take_row-requires-clause-in_range c = (row-at c.args.passes.now c.args.file.now c.loop-at.at c.row.result (omega arith) c.row.ensures c.requires.parts).in_range
 
 pub take_row-requires-clause-valid : goal.take_row-requires-clause-valid
-take_row-requires-clause-valid c = (row-at c.args.passes.now c.args.file.now c.loop-at.at c.row.result.now (omega arith) c.row.ensures c.requires.parts).valid
+take_row-requires-clause-valid c = (row-at c.args.passes.now c.args.file.now c.loop-at.at c.row.result (omega arith) c.row.ensures c.requires.parts).valid
 
 pub take_row-requires-clause-as_many : goal.take_row-requires-clause-as_many
-take_row-requires-clause-as_many c = row-many c.args.kinds.now c.args.file.now c.loop-at.at c.row.result.now (omega arith) c.row.ensures c.requires.rows
+take_row-requires-clause-as_many c = row-many c.args.kinds.now c.args.file.now c.loop-at.at c.row.result (omega arith) c.row.ensures c.requires.rows
 
 pub take_row-requires-clause-known : goal.take_row-requires-clause-known
 take_row-requires-clause-known c =
     row-known c.loop-at.pool.texts c.args.kinds.now c.args.file.now c.args.table.now.rows c.are_distinct.ensures.distinct c.loop-at.invariant.sides
-    c.loop-at.at c.row.result.now c.loop-at.left.now c.split_at.result.0.now c.sides-sides.result.now (omega arith) c.row.ensures c.requires.rows
+    c.loop-at.at c.row.result c.loop-at.left.now c.split_at.result.0.now c.sides-sides.result.now (omega arith) c.row.ensures c.requires.rows
     c.loop-at.invariant.left c.split_at.ensures.front c.loop-at.invariant.canons c.sides-sides.ensures

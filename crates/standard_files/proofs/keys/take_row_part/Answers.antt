@@ -4,6 +4,7 @@ use Rattle.std.proofs.lemmas.List.{get_or_read_under}
 use Rattle.block_passes.specs.Keys.{part_key}
 use Rattle.comparators.specs.Fields.{id_in}
 use Rattle.comparators.specs.declared.ids.IdValue.TheVariants as id
+use Rattle.link_base.specs.Rows.{value_seen}
 use Rattle.link_base.specs.Standard.{absent_value}
 use Rattle.value_forms.specs.Canons.{value_part}
 use Rattle.value_pool.specs.Texts.{place_among}
@@ -57,7 +58,6 @@ pub returns-in-Ok-clause-id : goal.returns-in-Ok-clause-id
 returns-in-Ok-clause-id c final e =
     let row = c.args.row.now in
     let part = c.args.part in
-    let v = c.index-row-field.result in
-    let value = get_or_read_under row part.field (length row) v absent_value c.index-row-field.is (omega (arith, c.requires.within, c.requires.as_many)) refl in
-    ap (λ x. option_map (place_among final) (value_part part.key x)) (sym value) ∙ side-part final (value_part part.key v)
+    let v = value_seen c.value.result in
+    ap (λ x. option_map (place_among final) (value_part part.key x)) (sym c.value.ensures) ∙ side-part final (value_part part.key v)
     ∙ ap id_in (c.in-Ok.ensures.side final e) ∙ sym c.id_of_side-in-Ok.ensures

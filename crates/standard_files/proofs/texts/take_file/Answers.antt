@@ -9,7 +9,7 @@ pub loop-at-preserved : goal.loop-at-preserved
 loop-at-preserved c =
     let file = c.args.file.now in
     let at = c.loop-at.at in
-    let row = c.row.result.now in
+    let row = c.row.result in
     let ids : AreTextIds c.take_row.new.pool.texts (file_values (take at file) ++ row) c.take_row.new.ids.items = c.in_ok-take_row.ensures.ids (file_values (take at file)) c.loop-at.invariant.ids in
     record {
       goes = goes-on (texts_of_row row) (file_texts texts_of_row (drop (at + 1) file)) c.loop-at.invariant.goes
@@ -19,5 +19,5 @@ loop-at-preserved c =
 
 pub returns-in_err-take_row-clause-texts : goal.returns-in_err-take_row-clause-texts
 returns-in_err-take_row-clause-texts c =
-    takes-refused (texts_of_row c.row.result.now) (file_texts texts_of_row (drop (c.loop-at.at + 1) c.args.file.now)) c.in_err-take_row.field-0.0 c.take_row.new.pool c.from_residual.result c.loop-at.invariant.goes
-    (file-row texts_of_row c.args.file.now c.loop-at.at c.row.result.now (omega arith) c.row.ensures) c.in_err-take_row.ensures.texts (search rules)
+    takes-refused (texts_of_row c.row.result) (file_texts texts_of_row (drop (c.loop-at.at + 1) c.args.file.now)) c.in_err-take_row.field-0.0 c.take_row.new.pool c.from_residual.result c.loop-at.invariant.goes
+    (file-row texts_of_row c.args.file.now c.loop-at.at c.row.result (omega arith) c.row.ensures) c.in_err-take_row.ensures.texts (search rules)
