@@ -17,7 +17,7 @@ use link_base::{CompareKind, KeyKind, NoMemory, Row, StdFile, ValueRef};
 use link_limits::MOST_FIELDS;
 use std::alloc::Global;
 use value_forms::{bytes_of, canon_text, compares_days, value_text};
-use value_pool::{Id, Pool, PoolFault};
+use value_pool::{Id, MaybeId, Pool, PoolFault};
 
 /// Takes the part of a key that a value makes, and gives its id.
 pub(crate) fn take_part(
@@ -183,7 +183,7 @@ fn take_row(
     kinds: &[CompareKind],
     known: &mut Known,
     row: &Row<'_>,
-    ids: &[Option<Id>],
+    ids: &[MaybeId],
     sides: &mut Vec<IdValue>,
 ) -> Result<(), PoolFault>
     requires few { length kinds.now ≤ MOST_FIELDS }
@@ -205,7 +205,7 @@ fn take_row(
             kinds,
             known,
             field as u8,
-            ids[field],
+            ids[field].get(),
             &row.value(field),
         )?;
         if sides.push(side).is_err() {
@@ -222,7 +222,7 @@ fn take_rows(
     kinds: &[CompareKind],
     known: &mut Known,
     file: &StdFile,
-    ids: &[Option<Id>],
+    ids: &[MaybeId],
     table: &mut IdTable,
 ) -> Result<(), PoolFault>
     requires few { length kinds.now ≤ MOST_FIELDS }
@@ -257,7 +257,7 @@ fn take_file(
     kinds: &[CompareKind],
     known: &mut Known,
     file: &StdFile,
-    ids: &[Option<Id>],
+    ids: &[MaybeId],
 ) -> Result<IdTable, PoolFault>
     requires few { length kinds.now ≤ MOST_FIELDS }
     requires rows { All (IsRowFor kinds.now) file.now }

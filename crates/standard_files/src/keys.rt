@@ -18,13 +18,13 @@ use block_passes::count_parts;
 use comparators::{IdTable, IdValue};
 use link_base::{CompareKind, KeyKind, NoMemory, Part, Pass, PassList, Row, Sides, StdFile};
 use std::alloc::Global;
-use value_pool::{Id, Pool, PoolFault};
+use value_pool::{Id, MaybeId, Pool, PoolFault};
 
 /// The ids of the parts of the keys of two files, record by record and pass by pass, `None` where a part is missing.
 #[derive(Drop)]
 pub(crate) struct KeyIds {
-    pub(crate) a: Vec<Option<Id>>,
-    pub(crate) b: Vec<Option<Id>>,
+    pub(crate) a: Vec<MaybeId>,
+    pub(crate) b: Vec<MaybeId>,
 }
 
 // The id of the part that a word makes by its standard text, if the part is this text.
@@ -68,7 +68,7 @@ fn take_row_part(
     kinds: &[CompareKind],
     part: Part,
     row: &Row<'_>,
-    texts: &[Option<Id>],
+    texts: &[MaybeId],
     sides: &[IdValue],
 ) -> Result<Option<Id>, PoolFault>
     requires within { part.field < length kinds.now }
@@ -80,7 +80,7 @@ fn take_row_part(
     ensures id { IfOk result (λ id. (final : List (List ℕ)) → Extends pool.new.texts final → part_id final row.now part ≡ id) }
 {
     let field = part.field as usize;
-    if let Some(text) = id_of_text(part.key, texts[field]) {
+    if let Some(text) = id_of_text(part.key, texts[field].get()) {
         return Ok(Some(text));
     }
     if is_canon(part.key, kinds[field]) {
@@ -99,9 +99,9 @@ fn take_key(
     kinds: &[CompareKind],
     pass: &Pass,
     row: &Row<'_>,
-    texts: &[Option<Id>],
+    texts: &[MaybeId],
     sides: &[IdValue],
-    ids: &mut Vec<Option<Id>>,
+    ids: &mut Vec<MaybeId>,
 ) -> Result<(), PoolFault>
     requires in_range { All (λ (p : KeyPart). p.field < length row.now) pass.now }
     requires as_many { length row.now ≡ length kinds.now }
@@ -113,7 +113,7 @@ fn take_key(
 {
     for part in pass.parts() {
         let id = take_row_part(alloc, pool, kinds, *part, row, texts, sides)?;
-        if ids.push(id).is_err() {
+        if ids.push(MaybeId::of(id)).is_err() {
             return Err(PoolFault::NoMemory);
         }
     }
@@ -127,9 +127,9 @@ fn take_row(
     kinds: &[CompareKind],
     passes: &PassList,
     row: &Row<'_>,
-    texts: &[Option<Id>],
+    texts: &[MaybeId],
     sides: &[IdValue],
-    ids: &mut Vec<Option<Id>>,
+    ids: &mut Vec<MaybeId>,
 ) -> Result<(), PoolFault>
     requires in_range { AreInRange (length row.now) passes.now }
     requires as_many { length row.now ≡ length kinds.now }
@@ -146,11 +146,7 @@ fn take_row(
 }
 
 // Room for an id of each part of the keys of a file.
-fn room_for_ids(
-    alloc: Global,
-    passes: &PassList,
-    file: &StdFile,
-) -> Result<Vec<Option<Id>>, NoMemory>
+fn room_for_ids(alloc: Global, passes: &PassList, file: &StdFile) -> Result<Vec<MaybeId>, NoMemory>
     ensures none { IfOk result (λ ids. ids.items ≡ []) }
     ensures room { IfOk result (λ ids. min (length file.now * parts_in passes.now) (2 ^ 64 - 1) ≤ vec_capacity ids) }
 {
@@ -166,9 +162,9 @@ fn take_file(
     kinds: &[CompareKind],
     passes: &PassList,
     file: &StdFile,
-    texts: &[Option<Id>],
+    texts: &[MaybeId],
     table: &IdTable,
-) -> Result<Vec<Option<Id>>, PoolFault>
+) -> Result<Vec<MaybeId>, PoolFault>
     requires parts { All (HasParts passes.now) file.now }
     requires rows { All (IsRowFor kinds.now) file.now }
     requires known { IsKnownFile pool.old.texts kinds.now file.now texts.now table.now.rows }

@@ -17,7 +17,7 @@ use link_base::{CompareKind, NoMemory, PassList, StdFile};
 use link_limits::{MOST_FIELDS, MOST_POOL_LIMIT};
 use std::alloc::Global;
 use std::marker::Model;
-use value_pool::{Id, Pool, PoolFault};
+use value_pool::{MaybeId, Pool, PoolFault};
 
 /// The values of two files in a pool. Contracts see the texts of the pool, its limit, the tables of what the rows of each
 /// file are compared by, and the ids of the parts of their keys.
@@ -27,9 +27,9 @@ pub struct PooledValues {
     pub a: IdTable,
     pub b: IdTable,
     /// The ids of the parts of the keys of A: record by record and pass by pass one for each part, `None` where it is missing.
-    pub keys_a: Vec<Option<Id>>,
+    pub keys_a: Vec<MaybeId>,
     /// The same of B.
-    pub keys_b: Vec<Option<Id>>,
+    pub keys_b: Vec<MaybeId>,
 }
 
 impl Model for PooledValues {

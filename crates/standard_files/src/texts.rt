@@ -9,13 +9,13 @@ ghost use Rattle.standard_files.specs.Texts.{both_texts, file_texts, standard_te
 
 use link_base::{NoMemory, Row, StdFile, ValueRef};
 use std::alloc::Global;
-use value_pool::{Id, Pool, PoolFault};
+use value_pool::{Id, MaybeId, Pool, PoolFault};
 
 /// The ids of the standard texts of two files, row by row, `None` where a value has no text.
 #[derive(Drop)]
 pub(crate) struct TextIds {
-    pub(crate) a: Vec<Option<Id>>,
-    pub(crate) b: Vec<Option<Id>>,
+    pub(crate) a: Vec<MaybeId>,
+    pub(crate) b: Vec<MaybeId>,
 }
 
 /// Takes a text.
@@ -45,7 +45,7 @@ fn take_row(
     alloc: Global,
     pool: &mut Pool,
     row: &Row<'_>,
-    ids: &mut Vec<Option<Id>>,
+    ids: &mut Vec<MaybeId>,
 ) -> Result<(), PoolFault>
     ensures limit { pool.new.limit ≡ pool.old.limit }
     ensures texts { TakesTexts pool.old pool.new (texts_of_row row.now) result }
@@ -53,7 +53,7 @@ fn take_row(
 {
     for at in 0..row.len() {
         let id = take_value(alloc, pool, &row.value(at))?;
-        if ids.push(id).is_err() {
+        if ids.push(MaybeId::of(id)).is_err() {
             return Err(PoolFault::NoMemory);
         }
     }
@@ -61,7 +61,7 @@ fn take_row(
 }
 
 // Room for an id of each value of a file, where each record has as many values as the first.
-fn room_for_ids(alloc: Global, file: &StdFile) -> Result<Vec<Option<Id>>, NoMemory>
+fn room_for_ids(alloc: Global, file: &StdFile) -> Result<Vec<MaybeId>, NoMemory>
     ensures none { IfOk result (λ ids. ids.items ≡ []) }
     ensures room { IfOk result (λ ids. min (length file.now * length (row_at file.now 0)) (2 ^ 64 - 1) ≤ vec_capacity ids) }
 {
@@ -71,7 +71,7 @@ fn room_for_ids(alloc: Global, file: &StdFile) -> Result<Vec<Option<Id>>, NoMemo
 }
 
 // Takes the standard texts of a file, and gives their ids.
-fn take_file(alloc: Global, pool: &mut Pool, file: &StdFile) -> Result<Vec<Option<Id>>, PoolFault>
+fn take_file(alloc: Global, pool: &mut Pool, file: &StdFile) -> Result<Vec<MaybeId>, PoolFault>
     ensures limit { pool.new.limit ≡ pool.old.limit }
     ensures texts { TakesTexts pool.old pool.new (file_texts texts_of_row file.now) result }
     ensures ids { IfOk result (λ ids. AreTextIds pool.new.texts (file_values file.now) ids.items) }

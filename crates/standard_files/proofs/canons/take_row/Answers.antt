@@ -41,7 +41,7 @@ take_side-requires-clause-text c =
     let row = c.args.row.now in
     let v = value_seen c.value.result in
     let is_value : v ≡ get_or row c.loop-field.field absent_value = c.value.ensures in
-    ids-read c.loop-field.pool.texts row c.args.ids.now c.loop-field.field v c.index-ids-field.result (omega (arith, c.requires.as_many)) is_value c.index-ids-field.is c.loop-field.invariant.ids
+    rw c.get.ensures (ids-read c.loop-field.pool.texts row c.args.ids.now c.loop-field.field v c.index-ids-field.result (omega (arith, c.requires.as_many)) is_value c.index-ids-field.is c.loop-field.invariant.ids)
 
 pub returns-in_err-side-clause-texts : goal.returns-in_err-side-clause-texts
 returns-in_err-side-clause-texts c =

@@ -27,7 +27,7 @@ text-id c =
     let v = get_or row c.args.part.field absent_value in
     let text = c.index-texts-field.result in
     let within : c.args.part.field < length row = omega (arith, c.requires.within, c.requires.as_many) in
-    c.in-Some.ensures held v (subst (IsIdOf held (standard_text v)) (sym c.index-texts-field.is) (ids-at held row c.args.texts.now c.args.part.field absent_value text within c.requires.known.texts))
+    c.in-Some.ensures held v (subst (IsIdOf held (standard_text v)) (sym (c.get.ensures ∙ c.index-texts-field.is)) (ids-at held row c.args.texts.now c.args.part.field absent_value text within c.requires.known.texts))
 
 pub returns-in-Some-clause-texts : goal.returns-in-Some-clause-texts
 returns-in-Some-clause-texts c =
