@@ -1,2 +1,5 @@
 pub mod AnswerFacts
+pub mod CellFacts
+pub mod IdFacts
 pub mod RecordFacts
+pub mod RegionFacts

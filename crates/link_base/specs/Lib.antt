@@ -1,6 +1,7 @@
 pub mod Answers
 pub mod Fault
-pub mod Places
+pub mod Ids
+pub mod Region
 pub mod Rows
 pub mod Rule
 pub mod Shares

@@ -1,6 +1,6 @@
--- Standard values, records and files: what `StdFile` is seen as (`find`, clauses `position` and `fresh`;
--- `distinct_ids`).
-use Rattle.std.specs.Prelude.{◌≢◌, ℕ, List, [], All, AllPairs, map, position, bytes_eq, slice_index_or, Option, ⊤, ℤ, pos, negsuc, ◌≤ℤ◌}
+-- Standard values, records and files: what `StdFile` is seen as (`of`; `find`, clauses `position` and
+-- `fresh`; `distinct_ids`).
+use Rattle.std.specs.Prelude.{◌≢◌, ℕ, List, [], ◌∷◌, All, AllPairs, map, position, bytes_eq, slice_index_or, Option, ⊤, ℤ, pos, negsuc, ◌≤ℤ◌}
 use Rattle.std.specs.Str.{IsUtf8}
 use Rattle.link_base.specs.declared.standard.Value.{Value}
 use Rattle.link_base.specs.declared.standard.Value.TheVariants as value
@@ -9,6 +9,12 @@ use Rattle.link_base.specs.declared.standard.Value.TheVariants as value
 pub record Record : Type 0 where
   pub id : List ℕ
   pub row : List Value
+
+-- the records with these ids and these rows
+abbrev pub records_of : List (List ℕ) → List (List Value) → List Record
+records_of [] rows = []
+records_of (id ∷ ids) [] = []
+records_of (id ∷ ids) (row ∷ rows) = record { id = id; row = row } ∷ records_of ids rows
 
 -- the value and the record past the end of a list
 abbrev pub absent_value : Value

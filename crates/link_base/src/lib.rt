@@ -3,8 +3,11 @@
 #![tactic(auto)]
 
 mod fault;
+mod ids;
 mod plan;
+mod region;
 mod row;
+mod rows;
 mod rule;
 mod shares;
 mod sides;
@@ -13,8 +16,11 @@ mod tables;
 mod text;
 
 pub use fault::{Fault, FileRole, status_of};
+pub use ids::IdSet;
 pub use plan::{CompareKind, DateForm, FieldSort, KeyKind, Part, Pass, PassList};
+pub use region::TextRegion;
 pub use row::{Row, ValueRef};
+pub use rows::StdRows;
 pub use rule::{Candidate, Decision, Levels, Outcome, PairAt, RuleCell, RuleTable, Step, Verdict};
 pub use shares::{FieldShares, Shape};
 pub use sides::Sides;

@@ -1,8 +1,10 @@
 // The values of a record, where they stand.
-ghost use Rattle.std.specs.Prelude.{◌≡◌, ◌<◌, length, slice_index_or};
-ghost use Rattle.link_base.specs.Rows.{value_seen};
+ghost use Rattle.std.specs.Prelude.{◌≡◌, ◌<◌, All, length, slice_index_or};
+ghost use Rattle.link_base.specs.Rows.{IsPlaced, value_in, value_seen, values_in};
 ghost use Rattle.link_base.specs.Standard.{absent_value};
 
+use crate::region::TextRegion;
+use crate::rows::Cell;
 use crate::standard::Value;
 use std::marker::Model;
 
@@ -33,31 +35,36 @@ impl Value {
 /// The values of a record, where they stand, which contracts see as the list of them.
 #[derive(Drop)]
 pub struct Row<'a> {
-    values: &'a [Value],
+    words: &'a TextRegion,
+    cells: &'a [Cell],
 }
 
 impl<'a> Model for Row<'a> {
-    ghost use Rattle.std.specs.Prelude.{List};
+    ghost use Rattle.std.specs.Prelude.{All, length, List};
+    ghost use Rattle.link_base.specs.Rows.{IsPlaced, values_in};
     ghost use Rattle.link_base.specs.declared.standard.Value.{Value as FieldValue};
 
     ghost Value = { List FieldValue };
 
-    ghost view = { λ r. r.values.now };
+    ghost view = { λ r. values_in r.words.now r.cells.now };
+
+    ghost invariant = { λ r. All (IsPlaced (length r.words.now)) r.cells.now };
 }
 
 impl<'a> Row<'a> {
-    // The row of these values.
-    pub(crate) fn of(values: &'a [Value]) -> Row<'a>
-        ensures { result ≡ values.now }
+    // The row of these cells, whose words are among these.
+    pub(crate) fn of(words: &'a TextRegion, cells: &'a [Cell]) -> Row<'a>
+        requires { All (IsPlaced (length words.now)) cells.now }
+        ensures { result ≡ values_in words.now cells.now }
     {
-        Row { values }
+        Row { words, cells }
     }
 
     /// The number of values.
     pub fn len(&self) -> usize
         ensures { result ≡ length self.now }
     {
-        self.values.len()
+        self.cells.len()
     }
 
     /// The value at a place, from 0.
@@ -65,14 +72,18 @@ impl<'a> Row<'a> {
         requires { at < length self.now }
         ensures { value_seen result ≡ slice_index_or self.now at absent_value }
     {
-        value_in(self.values, at)
+        value_of(self.words, self.cells[at])
     }
 }
 
-// One of these values.
-fn value_in<'v>(values: &'v [Value], at: usize) -> ValueRef<'v>
-    requires { at < length values.now }
-    ensures { value_seen result ≡ slice_index_or values.now at absent_value }
+// The value of a cell, where these are the words.
+fn value_of<'v>(words: &'v TextRegion, cell: Cell) -> ValueRef<'v>
+    requires { IsPlaced (length words.now) cell }
+    ensures { value_seen result ≡ value_in words.now cell }
 {
-    values[at].as_ref()
+    match cell {
+        Cell::Absent => ValueRef::Absent,
+        Cell::Word(at) => ValueRef::Word(words.get(at as usize)),
+        Cell::Day(day) => ValueRef::Day(day),
+    }
 }

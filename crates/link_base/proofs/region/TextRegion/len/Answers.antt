@@ -1,0 +1,8 @@
+use Rattle.std.proofs.Common.{◌≡◌, ◌∙◌, length, rules, sym}
+use Rattle.link_base.proofs.RegionFacts.{length_pieces}
+use Rattle.link_base.proofs.region.TextRegion.len.Goals as goal
+
+pub returns : goal.returns
+returns c =
+    let count : c.len.result ≡ length c.self.inside.ends.items = search (rules, c.len.ensures) in
+    rw (← c.self.view_is) (count ∙ sym (length_pieces c.self.inside.bytes.items 0 c.self.inside.ends.items))

@@ -1,0 +1,107 @@
+// Texts side by side in one region of bytes, and pieces of a list by where each ends.
+ghost use Rattle.std.specs.Prelude.{◌≡◌, ◌<◌, ◌≤◌, ◌==◌, ◌++◌, ◌∷◌, [], length, OnErr, OnOk, slice_index_or, slice_range, take};
+ghost use Rattle.link_base.specs.Region.{EndsAt, pieces_from, start_at};
+
+use crate::text::NoMemory;
+use std::alloc::Global;
+use std::marker::Model;
+
+/// Texts in one region of bytes, which contracts see as the list of them. No text has memory of its own.
+#[derive(Drop)]
+pub struct TextRegion {
+    bytes: Vec<u8>,
+    // Where each text ends among the bytes; it begins where the one before it ends.
+    ends: Vec<usize>,
+}
+
+impl Model for TextRegion {
+    ghost use Rattle.std.specs.Prelude.{List, length, ℕ};
+    ghost use Rattle.link_base.specs.Region.{EndsAt, pieces_from};
+
+    ghost Value = { List (List ℕ) };
+
+    ghost view = { λ r. pieces_from r.bytes.items 0 r.ends.items };
+
+    ghost invariant = { λ r. EndsAt (length r.bytes.items) 0 r.ends.items };
+}
+
+impl TextRegion {
+    /// The region of no texts, which takes no memory.
+    pub fn new(alloc: Global) -> TextRegion
+        ensures { result ≡ [] }
+    {
+        TextRegion {
+            bytes: Vec::new(alloc),
+            ends: Vec::new(alloc),
+        }
+    }
+
+    /// The number of texts.
+    pub fn len(&self) -> usize
+        ensures { result ≡ length self.now }
+    {
+        self.ends.len()
+    }
+
+    /// Whether there are no texts.
+    pub fn is_empty(&self) -> bool
+        ensures { result ≡ (length self.now == 0) }
+    {
+        self.ends.is_empty()
+    }
+
+    /// Appends a text.
+    pub fn push(&mut self, text: &[u8]) -> Result<(), NoMemory>
+        ensures ok { OnOk result (self.new ≡ self.old ++ text.now ∷ []) }
+        ensures err { OnErr result (self.new ≡ self.old) }
+    {
+        self.ends.reserve(1)?;
+        self.bytes.extend_from_slice(text)?;
+        self.ends.push(self.bytes.len()).unwrap();
+        Ok(())
+    }
+
+    /// Drops the texts from a place on.
+    pub fn truncate(&mut self, count: usize)
+        requires { count ≤ length self.old }
+        ensures { self.new ≡ take count self.old }
+    {
+        let end = end_of(&self.ends, count);
+        self.ends.truncate(count);
+        self.bytes.truncate(end);
+    }
+
+    /// The text at a place, from 0.
+    pub fn get(&self, at: usize) -> &[u8]
+        requires { at < length self.now }
+        ensures { result.now ≡ slice_index_or self.now at [] }
+    {
+        piece_in(&self.bytes, &self.ends, at)
+    }
+}
+
+// Where so many pieces end, which is where the next one begins.
+fn end_of(ends: &[usize], count: usize) -> usize
+    requires { count ≤ length ends.now }
+    ensures { result ≡ start_at 0 ends.now count }
+{
+    if count == 0 { 0 } else { ends[count - 1] }
+}
+
+// The items from one place to another.
+fn part<T>(items: &[T], start: usize, end: usize) -> &[T]
+    requires ordered { start ≤ end }
+    requires within { end ≤ length items.now }
+    ensures { result.now ≡ slice_range items.now start end }
+{
+    &items[start..end]
+}
+
+// The piece at a place among the items.
+pub(crate) fn piece_in<'b, T>(items: &'b [T], ends: &[usize], at: usize) -> &'b [T]
+    requires rising { EndsAt (length items.now) 0 ends.now }
+    requires within { at < length ends.now }
+    ensures { result.now ≡ slice_index_or (pieces_from items.now 0 ends.now) at [] }
+{
+    part(items, end_of(ends, at), ends[at])
+}
