@@ -3,9 +3,7 @@ pub mod FindFacts
 pub mod LeastFaulty
 pub mod MoreFacts
 pub mod ReadFacts
-pub mod RegionFacts
 pub mod RowFacts
 pub mod TextFacts
 pub mod WidthFacts
 pub mod Steps
-pub mod IdFacts

@@ -1,5 +1,5 @@
 -- One record more is read, or refused.
-use Rattle.std.proofs.Common.{◌≡◌, ◌≤◌, ◌+◌, ◌∷◌, ◌++◌, ◌∙◌, ℕ, suc, Bool, true, false, List, [], length, Some, None, Ok, Err, refl, sym, ap, arith, nat_lt}
+use Rattle.std.proofs.Common.{◌≡◌, ◌≤◌, ◌+◌, ◌∷◌, ◌++◌, ◌∙◌, ℕ, Bool, true, false, List, [], length, Some, None, Ok, Err, refl, sym, ap, arith, nat_lt}
 use Rattle.std.proofs.lemmas.Bool.Decides.{nat_tests}
 use Rattle.link_base.specs.Fault.{Refuses}
 use Rattle.link_base.specs.declared.fault.Fault.{Fault}
@@ -7,6 +7,7 @@ use Rattle.link_base.specs.declared.fault.Fault.TheVariants as fault
 use Rattle.file_reader.specs.Layout.{Heading}
 use Rattle.file_reader.specs.Rows.{ids_of, known_ids, TableRow}
 use Rattle.file_reader.specs.Steps.{ids_after, TakesRow}
+use Rattle.file_reader.proofs.RowFacts.{length_ids}
 use Rattle.file_reader.specs.Table.{row_fault, rows_read, taken}
 
 abbrev Records : Type 0
@@ -61,10 +62,6 @@ read x heading table new left rest all row number ids ids2 told el en ei h ew =
       known = h.1 ∙ ap (λ known. ids_after heading.has_id known (taken heading row).id) ei ∙ sym (known_push heading.has_id table (taken heading row)) ∙ ap (known_ids heading.has_id) (sym ew);
       told = told ∙ step heading table new left rest row number ids el en ei h.0 ew;
     }
-
-length_ids : (rows : List TableRow) → length (ids_of rows) ≡ length rows
-length_ids [] = refl
-length_ids (r ∷ rows) = ap suc (length_ids rows)
 
 pub known_short : (has_id : Bool) (rows : List TableRow) → length (known_ids has_id rows) ≤ length rows
 known_short true rows = omega (arith, length_ids rows)

@@ -1,8 +1,9 @@
--- Rows of cells side by side.
-use Rattle.std.proofs.Common.{◌≡◌, ◌<◌, ◌≤◌, ◌+◌, ◌*◌, ◌∷◌, ◌++◌, ◌∙◌, ℕ, zero, suc, Bool, true, false, IsTrue, List, [], length, map, get_or, take, drop, refl, sym, ap, arith, add-one, add-zero, length-drop}
-use Rattle.std.proofs.lemmas.List.{take-append-le, drop-append-le, get_or-take, get_or-drop, length-take-le}
+-- Rows of cells side by side, with their ids.
+use Rattle.std.proofs.Common.{◌≡◌, ◌<◌, ◌≤◌, ◌+◌, ◌*◌, ◌∷◌, ◌++◌, ◌∙◌, ℕ, zero, suc, Bool, true, false, List, [], length, get_or, take, drop, refl, sym, ap, arith, length-drop}
+use Rattle.std.proofs.lemmas.List.{take-append-le, drop-append-le, get_or-take, get_or-drop, get_or_past, length-take-le}
 use Rattle.std.proofs.Math.Seq.{take-length}
-use Rattle.file_reader.specs.Rows.{no_row, row_of_cells, rows_in, skipped, table_rows, TableRow}
+use Rattle.file_reader.specs.Rows.{AreIdsFor, HaveIds, ids_of, known_ids, no_row, row_of_cells, rows_in, skipped, table_rows, TableRow, with_ids}
+use Rattle.file_reader.specs.Steps.{ids_after}
 
 abbrev Cells : Type 0
 Cells = List (List ℕ)
@@ -26,30 +27,67 @@ rows_suc (suc n) w cells row h e =
     λ i. front i ∷ rest i
 
 -- one row more
-pub rows_push : (n m w : ℕ) (cells row : Cells) → m ≡ n + 1 → length cells ≡ n * w → length row ≡ w → rows_in m w (cells ++ row) ≡ rows_in n w cells ++ row ∷ []
+rows_push : (n m w : ℕ) (cells row : Cells) → m ≡ n + 1 → length cells ≡ n * w → length row ≡ w → rows_in m w (cells ++ row) ≡ rows_in n w cells ++ row ∷ []
 rows_push n m w cells row em h e =
     let s : m ≡ suc n = omega (arith, em) in
     rw s (rows_suc n w cells row h e)
-
-map_push : (has_id : Bool) (rows : List Cells) (row : Cells) → map (row_of_cells has_id) (rows ++ row ∷ []) ≡ map (row_of_cells has_id) rows ++ row_of_cells has_id row ∷ []
-map_push has_id [] row = refl
-map_push has_id (r ∷ rows) row = ap (λ (t : List TableRow). row_of_cells has_id r ∷ t) (map_push has_id rows row)
-
-pub table_push : (has_id : Bool) (n m w : ℕ) (cells row new : Cells) → m ≡ n + 1 → length cells ≡ n * w → length row ≡ w → new ≡ cells ++ row
-    → table_rows has_id m w new ≡ table_rows has_id n w cells ++ row_of_cells has_id row ∷ []
-table_push has_id n m w cells row new em h e en =
-    rw en (ap (map (row_of_cells has_id)) (rows_push n m w cells row em h e) ∙ map_push has_id (rows_in n w cells) row)
 
 length_rows : (n w : ℕ) (cells : Cells) → length (rows_in n w cells) ≡ n
 length_rows zero w cells = refl
 length_rows (suc n) w cells = ap suc (length_rows n w (drop w cells))
 
-length_map : (has_id : Bool) (rows : List Cells) → length (map (row_of_cells has_id) rows) ≡ length rows
-length_map has_id [] = refl
-length_map has_id (r ∷ rows) = ap suc (length_map has_id rows)
+length_with : (rows : List Cells) (ids : List (List ℕ)) → length (with_ids rows ids) ≡ length rows
+length_with [] ids = refl
+length_with (r ∷ rows) [] = ap suc (length_with rows [])
+length_with (r ∷ rows) (id ∷ ids) = ap suc (length_with rows ids)
 
-pub length_table : (has_id : Bool) (n w : ℕ) (cells : Cells) → length (table_rows has_id n w cells) ≡ n
-length_table has_id n w cells = length_map has_id (rows_in n w cells) ∙ length_rows n w cells
+pub length_table : (n w : ℕ) (cells : Cells) (ids : List (List ℕ)) → length (table_rows n w cells ids) ≡ n
+length_table n w cells ids = length_with (rows_in n w cells) ids ∙ length_rows n w cells
+
+push_none : (rows : List Cells) (row : Cells) → with_ids (rows ++ row ∷ []) [] ≡ with_ids rows [] ++ record { id = []; fields = row } ∷ []
+push_none [] row = refl
+push_none (r ∷ rows) row = ap (λ (t : List TableRow). record { id = []; fields = r } ∷ t) (push_none rows row)
+
+push_id : (rows : List Cells) (row : Cells) (ids : List (List ℕ)) (id : List ℕ) → length ids ≡ length rows
+    → with_ids (rows ++ row ∷ []) (ids ++ id ∷ []) ≡ with_ids rows ids ++ record { id = id; fields = row } ∷ []
+push_id [] row [] id e = refl
+push_id [] row (i ∷ ids) id e = absurd (omega (arith, e))
+push_id (r ∷ rows) row [] id e = absurd (omega (arith, e))
+push_id (r ∷ rows) row (i ∷ ids) id e = ap (λ (t : List TableRow). record { id = i; fields = r } ∷ t) (push_id rows row ids id (omega (arith, e)))
+
+pub length_ids : (rows : List TableRow) → length (ids_of rows) ≡ length rows
+length_ids [] = refl
+length_ids (r ∷ rows) = ap suc (length_ids rows)
+
+-- a row's fields are its cells after the id
+fields_behind : (has_id : Bool) (cells : Cells) → (row_of_cells has_id cells).fields ≡ drop (skipped has_id) cells
+fields_behind true [] = refl
+fields_behind true (c ∷ cs) = refl
+fields_behind false cells = refl
+
+row_push : (has_id : Bool) (rows : List Cells) (ids ids2 cells : List (List ℕ)) → ids ≡ known_ids has_id (with_ids rows ids)
+    → ids2 ≡ ids_after has_id ids (row_of_cells has_id cells).id → with_ids (rows ++ drop (skipped has_id) cells ∷ []) ids2 ≡ with_ids rows ids ++ row_of_cells has_id cells ∷ []
+row_push true rows ids ids2 cells known kept =
+    let count : length ids ≡ length rows = ap length known ∙ length_ids (with_ids rows ids) ∙ length_with rows ids in
+    let id = (row_of_cells true cells).id in
+    ap (with_ids (rows ++ drop 1 cells ∷ [])) kept ∙ push_id rows (drop 1 cells) ids id count
+    ∙ ap (λ (fields : Cells). with_ids rows ids ++ record { id = id; fields = fields } ∷ []) (sym (fields_behind true cells))
+row_push false rows ids ids2 cells known kept =
+    ap (with_ids (rows ++ cells ∷ [])) (kept ∙ known) ∙ push_none rows cells
+    ∙ ap (λ (l : List (List ℕ)). with_ids rows l ++ record { id = []; fields = cells } ∷ []) (sym known)
+
+-- one row more of a table
+pub table_push : (has_id : Bool) (n m w : ℕ) (cells row new ids ids2 : Cells) → m ≡ n + 1 → length cells ≡ n * w → length (drop (skipped has_id) row) ≡ w → new ≡ cells ++ drop (skipped has_id) row
+    → ids ≡ known_ids has_id (table_rows n w cells ids) → ids2 ≡ ids_after has_id ids (row_of_cells has_id row).id
+    → table_rows m w new ids2 ≡ table_rows n w cells ids ++ row_of_cells has_id row ∷ []
+table_push has_id n m w cells row new ids ids2 em h e en known kept =
+    ap (λ (c : Cells). table_rows m w c ids2) en ∙ ap (λ (rows : List Cells). with_ids rows ids2) (rows_push n m w cells (drop (skipped has_id) row) em h e)
+    ∙ row_push has_id (rows_in n w cells) ids ids2 row known kept
+
+-- as many ids as rows, or none
+pub ids_for : (has_id : Bool) (table : List TableRow) (count : ℕ) (ids : List (List ℕ)) → length table ≡ count → ids ≡ known_ids has_id table → AreIdsFor count ids
+ids_for true table count ids e known some = ap length known ∙ length_ids table ∙ e
+ids_for false table count ids e known some = absurd (omega (arith, some, ap length known))
 
 -- a cell of a row
 pub cell_in : (n w : ℕ) (cells : Cells) (at place : ℕ) → length cells ≡ n * w → at < n → place < w → get_or (get_or (rows_in n w cells) at []) place [] ≡ get_or cells (at * w + place) []
@@ -66,28 +104,42 @@ row_length zero w cells at h lt = absurd (omega arith)
 row_length (suc n) w cells zero h lt = length-take-le w cells (more_than n w cells h)
 row_length (suc n) w cells (suc at) h lt = row_length n w (drop w cells) at (less_one n w cells h) (omega arith)
 
-map_at : (has_id : Bool) (rows : List Cells) (at : ℕ) → at < length rows → get_or (map (row_of_cells has_id) rows) at no_row ≡ row_of_cells has_id (get_or rows at [])
-map_at has_id [] at lt = absurd (omega arith)
-map_at has_id (r ∷ rows) zero lt = refl
-map_at has_id (r ∷ rows) (suc at) lt = map_at has_id rows at (omega arith)
+with_at : (rows : List Cells) (ids : List (List ℕ)) (at : ℕ) → at < length rows → get_or (with_ids rows ids) at no_row ≡ record { id = get_or ids at []; fields = get_or rows at [] }
+with_at [] ids at lt = absurd (omega arith)
+with_at (r ∷ rows) [] zero lt = refl
+with_at (r ∷ rows) (id ∷ ids) zero lt = refl
+with_at (r ∷ rows) [] (suc at) lt = with_at rows [] at (omega arith)
+with_at (r ∷ rows) (id ∷ ids) (suc at) lt = with_at rows ids at (omega arith)
 
--- a row of a table
-pub row_at : (has_id : Bool) (n w : ℕ) (cells : Cells) (at : ℕ) → at < n → get_or (table_rows has_id n w cells) at no_row ≡ row_of_cells has_id (get_or (rows_in n w cells) at [])
-row_at has_id n w cells at lt = map_at has_id (rows_in n w cells) at (rw (length_rows n w cells) lt)
+row_at : (n w : ℕ) (cells : Cells) (ids : List (List ℕ)) (at : ℕ) → at < n → get_or (table_rows n w cells ids) at no_row ≡ record { id = get_or ids at []; fields = get_or (rows_in n w cells) at [] }
+row_at n w cells ids at lt = with_at (rows_in n w cells) ids at (rw (length_rows n w cells) lt)
 
--- a row's id and fields among its cells
-pub record IsSplit (has_id : Bool) (cells : Cells) (w : ℕ) (row : TableRow) : Type 0 where
-  pub id : IsTrue has_id → row.id ≡ get_or cells 0 []
-  pub no_id : has_id ≡ false → row.id ≡ []
-  pub count : length row.fields + skipped has_id ≡ w
-  pub field : (k : ℕ) → get_or row.fields k [] ≡ get_or cells (k + skipped has_id) []
+-- the id of a row, and its fields
+pub id_at : (n w : ℕ) (cells : Cells) (ids : List (List ℕ)) (at : ℕ) → at < n → (get_or (table_rows n w cells ids) at no_row).id ≡ get_or ids at []
+id_at n w cells ids at lt = ap (λ (r : TableRow). r.id) (row_at n w cells ids at lt)
 
-pub split : (has_id : Bool) (cells : Cells) (w : ℕ) → length cells ≡ w → (IsTrue has_id → 1 ≤ w) → IsSplit has_id cells w (row_of_cells has_id cells)
-split true [] w e some = absurd (omega (arith, some refl, e))
-split true (c ∷ cs) w e some = record { id = λ h. refl; no_id = λ h. cc h; count = omega (arith, e); field = λ k. rw add-one refl }
-split false cells w e some = record { id = λ h. cc h; no_id = λ h. refl; count = omega (arith, e); field = λ k. rw add-zero refl }
+pub no_id_at : (n w : ℕ) (cells : Cells) (ids : List (List ℕ)) (at : ℕ) → at < n → length ids ≤ at → (get_or (table_rows n w cells ids) at no_row).id ≡ []
+no_id_at n w cells ids at lt past = id_at n w cells ids at lt ∙ get_or_past ids at [] past
 
-pub seen : (has_id : Bool) (n w : ℕ) (cells : Cells) (at : ℕ) → length cells ≡ n * w → at < n → (IsTrue has_id → 1 ≤ w)
-    → IsSplit has_id (get_or (rows_in n w cells) at []) w (get_or (table_rows has_id n w cells) at no_row)
-seen has_id n w cells at h lt some =
-    rw (row_at has_id n w cells at lt) (split has_id (get_or (rows_in n w cells) at []) w (row_length n w cells at h lt) some)
+pub field_at : (n w : ℕ) (cells : Cells) (ids : List (List ℕ)) (at column : ℕ) → at < n
+    → get_or (get_or (table_rows n w cells ids) at no_row).fields column [] ≡ get_or (get_or (rows_in n w cells) at []) column []
+field_at n w cells ids at column lt = ap (λ (r : TableRow). get_or r.fields column []) (row_at n w cells ids at lt)
+
+pub count_at : (n w : ℕ) (cells : Cells) (ids : List (List ℕ)) (at : ℕ) → length cells ≡ n * w → at < n → length (get_or (table_rows n w cells ids) at no_row).fields ≡ w
+count_at n w cells ids at h lt = ap (λ (r : TableRow). length r.fields) (row_at n w cells ids at lt) ∙ row_length n w cells at h lt
+
+ids_with : (rows : List Cells) (ids : List (List ℕ)) → length ids ≡ length rows → ids_of (with_ids rows ids) ≡ ids
+ids_with [] [] e = refl
+ids_with [] (id ∷ ids) e = absurd (omega (arith, e))
+ids_with (r ∷ rows) [] e = absurd (omega (arith, e))
+ids_with (r ∷ rows) (id ∷ ids) e = ap (λ (l : List (List ℕ)). id ∷ l) (ids_with rows ids (omega (arith, e)))
+
+-- the ids of rows that have some
+ids_for_all : (rows : List Cells) (ids : List (List ℕ)) → AreIdsFor (length rows) ids → HaveIds (with_ids rows ids) → ids ≡ ids_of (with_ids rows ids)
+ids_for_all rows (id ∷ ids) each have = sym (ids_with rows (id ∷ ids) (each (omega arith)))
+ids_for_all [] [] each have = refl
+ids_for_all (r ∷ rows) [] each have = absurd (have 0 no_row (omega arith) refl)
+
+pub table_ids : (n w : ℕ) (cells : Cells) (ids : List (List ℕ)) → AreIdsFor n ids → HaveIds (table_rows n w cells ids) → ids ≡ ids_of (table_rows n w cells ids)
+table_ids n w cells ids each have =
+    ids_for_all (rows_in n w cells) ids (λ some. each some ∙ sym (length_rows n w cells)) have

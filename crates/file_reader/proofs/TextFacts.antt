@@ -1,5 +1,5 @@
 -- The texts and the ids of the rows of a table.
-use Rattle.std.proofs.Common.{◌≡◌, ◌≢◌, ◌<◌, ◌+◌, ◌∷◌, ◌++◌, ℕ, zero, suc, Bool, true, false, cond, not, List, [], length, get_or, Option, Some, None, Result, Ok, Err, refl, sym, subst, arith, nat_lt, inl, inr}
+use Rattle.std.proofs.Common.{◌≡◌, ◌≢◌, ◌<◌, ◌+◌, ◌∷◌, ◌++◌, ℕ, zero, suc, Bool, true, false, cond, not, List, [], length, get_or, Option, Some, None, Result, Ok, Err, refl, sym, subst, ap, arith, nat_lt, inl, inr}
 use Rattle.std.specs.List.{All, AllPairs, find, position, position_or_len}
 use Rattle.std.specs.Prelude.{◌==◌, IfOk, IsTrue}
 use Rattle.std.specs.Str.{bytes_eq, is_utf8}
@@ -17,7 +17,7 @@ use Rattle.link_base.specs.declared.fault.FileRole.{FileRole}
 use Rattle.link_limits.specs.declared.TheConstants.{MOST_FIELD_BYTES}
 use Rattle.file_reader.specs.Layout.{cell, cells_of, Heading, heading_under, needed_of, Wanted}
 use Rattle.file_reader.specs.Rows.{ids_of, known_ids, row_of_cells, TableRow}
-use Rattle.file_reader.specs.Table.{fault_by, fields_fault, HasDistinctIds, HasTexts, header_fault, id_fault, IsFieldText, IsTextRow, key_fault, row_fault, rows_read, table_of, taken, text_fault, unless_fault}
+use Rattle.file_reader.specs.Table.{fault_by, fields_fault, HasDistinctIds, HasTexts, HasWantedIds, header_fault, id_fault, IsFieldText, IsTextRow, key_fault, row_fault, rows_read, table_of, taken, text_fault, unless_fault}
 use Rattle.file_reader.specs.declared.layout.Column.{Column}
 use Rattle.file_reader.proofs.WidthFacts.{rows_all, rows_kept}
 
@@ -132,15 +132,28 @@ one_more heading has table number row e distinct =
 none_twice : Distinct []
 none_twice i j d lt le = absurd (omega arith)
 
+abbrev HasId : TableRow → Type 0
+HasId row = row.id ≢ []
+
+-- the id of a record without a fault
+taken_id : (heading : Heading) (number : ℕ) (ids row : List (List ℕ)) → IsTrue heading.has_id → row_fault heading number ids row ≡ None → (taken heading row).id ≢ []
+taken_id heading number ids row has e none =
+    let tests = both_none (text_fault heading number row) (key_fault heading number ids row) (fields_none heading number ids row e) in
+    let key = if_true_none heading.has_id (id_fault heading.role number (taken heading row).id ids) has tests.second in
+    let empty : (length (taken heading row).id == 0) ≡ true = ap (λ (id : List ℕ). length id == 0) none in
+    let refused = rw empty at key in
+    cc refused
+
 -- what holds of the table of each file without a fault
-table_facts : (file : FileRole) (wanted : Wanted) (records : Records) (all : List TableRow) → table_of file wanted records ≡ Ok all → HasTexts all × HasDistinctIds wanted all
+table_facts : (file : FileRole) (wanted : Wanted) (records : Records) (all : List TableRow) → table_of file wanted records ≡ Ok all → HasTexts all × HasWantedIds wanted all × HasDistinctIds wanted all
 table_facts file wanted [] all e = cc e
 table_facts file wanted (header ∷ rows) all e =
     by_fault (header_fault file (needed_of wanted) header) e
   where
-    by_fault : (o : Option Fault) → unless_fault o (rows_read (heading_under file wanted header) [] rows) ≡ Ok all → HasTexts all × HasDistinctIds wanted all
+    by_fault : (o : Option Fault) → unless_fault o (rows_read (heading_under file wanted header) [] rows) ≡ Ok all → HasTexts all × HasWantedIds wanted all × HasDistinctIds wanted all
     by_fault None e = (
       rows_all IsTextRow (heading_under file wanted header) (taken_text (heading_under file wanted header)) [] rows all (All-nil IsTextRow) e,
+      λ has. rows_all HasId (heading_under file wanted header) (λ number ids row none. taken_id (heading_under file wanted header) number ids row has none) [] rows all (All-nil HasId) e,
       λ has. rows_kept Distinct (heading_under file wanted header) (one_more (heading_under file wanted header) has) [] rows all none_twice e,
     )
     by_fault (Some f) e = cc e
@@ -149,6 +162,10 @@ pub answers_texts : (file : FileRole) (wanted : Wanted) (records : Records) (res
 answers_texts file wanted records (Ok all) h = (table_facts file wanted records all h).0
 answers_texts file wanted records (Err f) h = tt
 
+pub answers_ids : (file : FileRole) (wanted : Wanted) (records : Records) (result : Result (List TableRow) Fault) → IsAnswer (table_of file wanted records) result → IfOk result (HasWantedIds wanted)
+answers_ids file wanted records (Ok all) h = (table_facts file wanted records all h).1
+answers_ids file wanted records (Err f) h = tt
+
 pub answers_distinct : (file : FileRole) (wanted : Wanted) (records : Records) (result : Result (List TableRow) Fault) → IsAnswer (table_of file wanted records) result → IfOk result (HasDistinctIds wanted)
-answers_distinct file wanted records (Ok all) h = (table_facts file wanted records all h).1
+answers_distinct file wanted records (Ok all) h = (table_facts file wanted records all h).2
 answers_distinct file wanted records (Err f) h = tt

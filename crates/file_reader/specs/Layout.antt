@@ -1,8 +1,9 @@
 -- What is wanted of a file, and where its needed columns stand under a header (`read_table`, clause `answer`, takes
 -- `wanted_of`; `find_columns` finds the places).
-use Rattle.std.specs.Prelude.{◌++◌, ℕ, List, map, length, count_by, bytes_eq, slice_index_or, [], Bool, is_some, Option, option_to_list}
+use Rattle.std.specs.Prelude.{◌++◌, ℕ, List, drop, map, length, count_by, bytes_eq, slice_index_or, [], Bool, is_some, Option, option_to_list}
 use Rattle.std.specs.List.{position_or_len}
 use Rattle.link_base.specs.declared.fault.FileRole.{FileRole}
+use Rattle.file_reader.specs.Rows.{skipped}
 use Rattle.file_reader.specs.declared.layout.Column.{Column}
 use Rattle.file_reader.specs.declared.layout.Head.{Head}
 use Rattle.file_reader.specs.declared.layout.Layout.{Layout}
@@ -62,6 +63,10 @@ heading_under role wanted header =
       has_id = is_some wanted.id;
       columns = columns_of (needed_of wanted) header;
     }
+
+-- the needed columns after the id
+abbrev pub field_columns : Heading → List Column
+field_columns heading = drop (skipped heading.has_id) heading.columns
 
 -- the field of a record in a column, and in each column
 abbrev pub cell : List (List ℕ) → Column → List ℕ

@@ -5,7 +5,6 @@ pub mod Known
 pub mod Header
 pub mod Faults
 pub mod Steps
-pub mod Region
 pub mod Left
 pub mod Reader
 pub mod Plain

@@ -1,5 +1,6 @@
--- The rows of a table, and their cells side by side: what `Table` is seen as (`Table::id` and `Table::field`).
-use Rattle.std.specs.Prelude.{ℕ, zero, suc, Bool, true, false, List, [], ◌∷◌, map, take, drop, if◌then◌else◌}
+-- The rows of a table, their ids, and their fields side by side: what `Table` is seen as (`Table::id`, `Table::field` and
+-- `Table::into_ids`).
+use Rattle.std.specs.Prelude.{◌≡◌, ◌≢◌, ◌≤◌, ℕ, zero, suc, Bool, true, false, List, [], ◌∷◌, All, length, map, take, drop, if◌then◌else◌}
 
 -- a row of a table: its id, if the file has one, and its other needed fields
 pub record TableRow : Type 0 where
@@ -26,10 +27,24 @@ abbrev pub rows_in : ℕ → ℕ → List (List ℕ) → List (List (List ℕ))
 rows_in zero width cells = []
 rows_in (suc count) width cells = take width cells ∷ rows_in count width (drop width cells)
 
-abbrev pub table_rows : Bool → ℕ → ℕ → List (List ℕ) → List TableRow
-table_rows has_id count width cells = map (row_of_cells has_id) (rows_in count width cells)
+-- rows of these fields, and of these ids as far as there are any
+abbrev pub with_ids : List (List (List ℕ)) → List (List ℕ) → List TableRow
+with_ids [] ids = []
+with_ids (fields ∷ rows) [] = record { id = []; fields = fields } ∷ with_ids rows []
+with_ids (fields ∷ rows) (id ∷ ids) = record { id = id; fields = fields } ∷ with_ids rows ids
 
--- machinery of `Table::field`: how many cells of a row stand before its fields
+abbrev pub table_rows : ℕ → ℕ → List (List ℕ) → List (List ℕ) → List TableRow
+table_rows count width cells ids = with_ids (rows_in count width cells) ids
+
+-- as many ids as rows, or none
+abbrev pub AreIdsFor : ℕ → List (List ℕ) → Type 0
+AreIdsFor count ids = 1 ≤ length ids → length ids ≡ count
+
+-- each row has an id
+abbrev pub HaveIds : List TableRow → Type 0
+HaveIds rows = All (λ (r : TableRow). r.id ≢ []) rows
+
+-- machinery of the reader: how many cells of a row stand before its fields
 abbrev pub skipped : Bool → ℕ
 skipped true = 1
 skipped false = 0

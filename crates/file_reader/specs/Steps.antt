@@ -1,6 +1,6 @@
--- Machinery of the reader: an id that is kept (`Ids::keep` and `keep_id`), and a row that is taken (`take_row`). No public clause
+-- Machinery of the reader: an id that is kept (`keep_id`), and a row that is taken (`take_row`). No public clause
 -- names it.
-use Rattle.std.specs.Prelude.{◌≡◌, ℕ, List, [], ◌∷◌, ◌++◌, position, Bool, bytes_eq, if◌then◌else◌, Option, Some, None, Result, Ok, Err, ⊤, is_some}
+use Rattle.std.specs.Prelude.{◌≡◌, ℕ, List, [], ◌∷◌, ◌++◌, Bool, if◌then◌else◌, Option, Some, None, Result, Ok, Err, ⊤}
 use Rattle.link_base.specs.declared.fault.Fault.{Fault}
 use Rattle.link_base.specs.declared.fault.Fault.TheVariants as fault
 use Rattle.file_reader.specs.Layout.{Heading}
@@ -9,10 +9,6 @@ use Rattle.file_reader.specs.Table.{taken}
 -- the ids after a row's
 abbrev pub ids_after : Bool → List (List ℕ) → List ℕ → List (List ℕ)
 ids_after has_id ids id = if has_id then ids ++ id ∷ [] else ids
-
--- an id that is new is kept, and the place of one that is held is found
-abbrev pub Keeps : List ℕ → List (List ℕ) → List (List ℕ) → Option ℕ → Type 0
-Keeps id old new found = (found ≡ position (bytes_eq id) old) × (new ≡ (if is_some found then old else old ++ id ∷ []))
 
 -- an id is kept, or it has the fault that is defined
 abbrev pub KeepsId : {T : Type 0} → Option Fault → List ℕ → List (List ℕ) → List (List ℕ) → Result T Fault → Type 0

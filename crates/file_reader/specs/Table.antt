@@ -1,5 +1,5 @@
--- The table of a file, or its first fault (`read_table`, clause `answer`; what every table keeps: `width`, `texts` and
--- `distinct`).
+-- The table of a file, or its first fault (`read_table`, clause `answer`; what every table keeps: `width`, `texts`, `ids`
+-- and `distinct`).
 use Rattle.std.specs.Prelude.{◌≡◌, ◌≢◌, ◌≤◌, ◌+◌, ℕ, List, [], ◌∷◌, ◌++◌, All, AllPairs, IsTrue, length, find, min, position, ◌==◌, not, nat_lt, bytes_eq, if◌then◌else◌, Option, Some, None, Result, Ok, Err, ⊤, is_some}
 use Rattle.std.specs.Str.{is_utf8, IsUtf8}
 use Rattle.link_base.specs.Fault.{or_else}
@@ -8,7 +8,7 @@ use Rattle.link_base.specs.declared.fault.Fault.TheVariants as fault
 use Rattle.link_base.specs.declared.fault.FileRole.{FileRole}
 use Rattle.link_limits.specs.declared.TheConstants.{MOST_COLUMNS, MOST_FIELD_BYTES}
 use Rattle.file_reader.specs.Layout.{cell, cells_of, count_in, Heading, heading_under, needed_of, Wanted}
-use Rattle.file_reader.specs.Rows.{known_ids, row_of_cells, TableRow}
+use Rattle.file_reader.specs.Rows.{HaveIds, known_ids, row_of_cells, TableRow}
 use Rattle.file_reader.specs.declared.layout.Column.{Column}
 
 -- the fault that is made of what was found
@@ -111,6 +111,10 @@ pub record IsTextRow (row : TableRow) : Type 0 where
 -- each row of a table is one
 abbrev pub HasTexts : List TableRow → Type 0
 HasTexts table = All IsTextRow table
+
+-- where an id is wanted, each row has one
+abbrev pub HasWantedIds : Wanted → List TableRow → Type 0
+HasWantedIds wanted table = IsTrue (is_some wanted.id) → HaveIds table
 
 -- where an id is wanted, no two rows have the same
 abbrev pub HasDistinctIds : Wanted → List TableRow → Type 0

@@ -3,12 +3,10 @@
 
 mod fields;
 mod header;
-mod ids;
 mod known;
 mod laws;
 mod layout;
 mod records;
-mod region;
 mod rows;
 mod table;
 

@@ -1,24 +1,22 @@
 // The rows of a table.
-ghost use Rattle.std.specs.Prelude.{◌≡◌, ◌≤◌, ◌<◌, ◌*◌, ◌++◌, ◌∷◌, [], All, IfOk, IsTrue, None, OnOk, IfErr, length, ℕ};
+ghost use Rattle.std.specs.Prelude.{◌≡◌, ◌≤◌, ◌<◌, ◌*◌, ◌++◌, [], All, IfOk, IsTrue, None, OnOk, IfErr, length, ℕ};
 ghost use Rattle.csv.specs.Records.{fields_of};
 ghost use Rattle.file_reader.specs.Left.{records_in};
 ghost use Rattle.link_base.specs.Fault.{Gives, IsAnswer, IsInputFault};
-ghost use Rattle.file_reader.specs.Layout.{cell, cells_of, heading_of, heading_under, needed_of, wanted_of};
+ghost use Rattle.file_reader.specs.Layout.{cell, cells_of, field_columns, heading_of, heading_under, needed_of, wanted_of};
 ghost use Rattle.file_reader.specs.Plain.{IsPlain};
-ghost use Rattle.file_reader.specs.Rows.{table_rows};
+ghost use Rattle.file_reader.specs.Rows.{AreIdsFor, table_rows};
 ghost use Rattle.file_reader.specs.declared.layout.Column.{Column as Needed};
 ghost use Rattle.file_reader.specs.Steps.{KeepsId, TakesRow};
-ghost use Rattle.file_reader.specs.Table.{HasDistinctIds, HasTexts, HasWidth, header_fault, id_fault, length_fault, row_fault, rows_read, table_of, taken, Tests, text_fault, under_header, utf8_fault};
+ghost use Rattle.file_reader.specs.Table.{HasDistinctIds, HasTexts, HasWantedIds, HasWidth, header_fault, id_fault, length_fault, row_fault, rows_read, table_of, taken, Tests, text_fault, under_header, utf8_fault};
 
 use crate::fields::{field_of, is_plain, is_text};
 use crate::header::{find_columns, needed_names, test_header};
-use crate::ids::Ids;
 use crate::layout::{Column, Head, Layout};
 use crate::records::Records;
-use crate::region::TextRegion;
 use crate::table::Table;
 use csv::ByteRecord;
-use link_base::{Fault, FileRole, NoMemory, Text};
+use link_base::{Fault, FileRole, IdSet, NoMemory, Text, TextRegion};
 use link_limits::MOST_FIELD_BYTES;
 use std::alloc::Global;
 
@@ -93,7 +91,7 @@ fn keep_id(
     role: FileRole,
     number: u32,
     id: &[u8],
-    ids: &mut Ids,
+    ids: &mut IdSet,
 ) -> Result<(), Fault>
     requires { length ids.old < number }
     ensures kind { IfErr result IsInputFault }
@@ -128,7 +126,7 @@ fn take_row(
     alloc: Global,
     head: &Head,
     number: u32,
-    ids: &mut Ids,
+    ids: &mut IdSet,
     row: &ByteRecord,
 ) -> Result<(), Fault>
     requires fresh { length ids.old < number }
@@ -152,7 +150,19 @@ fn take_row(
     Ok(())
 }
 
-// Appends the needed fields of a row.
+// The needed columns after the id.
+fn columns_after_id(head: &Head) -> &[Column]
+    requires { IsTrue head.now.has_id → 1 ≤ length head.now.columns.items }
+    ensures { result.now ≡ field_columns (heading_of head.now) }
+{
+    if head.has_id {
+        &head.columns[1..]
+    } else {
+        &head.columns
+    }
+}
+
+// Appends the fields of a row in these columns.
 fn push_cells(cells: &mut TextRegion, columns: &[Column], row: &ByteRecord) -> Result<(), NoMemory>
     ensures { OnOk result (cells.new ≡ cells.old ++ cells_of columns.now (fields_of row.now)) }
 {
@@ -168,16 +178,19 @@ fn fill_rows(
     left: &mut Records<'_>,
     row: &mut ByteRecord,
     head: &Head,
-    ids: &mut Ids,
+    ids: &mut IdSet,
     cells: &mut TextRegion,
 ) -> Result<u32, Fault>
+    requires id { IsTrue head.now.has_id → 1 ≤ length head.now.columns.items }
     requires no_ids { ids.old ≡ [] }
     requires no_cells { cells.old ≡ [] }
     ensures kind { IfErr result IsInputFault }
     ensures few { IfOk result (λ rows. rows ≤ head.now.most_rows) }
-    ensures whole { IfOk result (λ rows. length cells.new ≡ rows * length head.now.columns.items) }
-    ensures answer { Gives (λ rows. table_rows head.now.has_id rows (length head.now.columns.items) cells.new) (rows_read (heading_of head.now) [] left.old) result }
+    ensures whole { IfOk result (λ rows. length cells.new ≡ rows * length (field_columns (heading_of head.now))) }
+    ensures ids { IfOk result (λ rows. AreIdsFor rows ids.new) }
+    ensures answer { Gives (λ rows. table_rows rows (length (field_columns (heading_of head.now))) cells.new ids.new) (rows_read (heading_of head.now) [] left.old) result }
 {
+    let columns = columns_after_id(head);
     let mut rows: u32 = 0;
     'rows: while left.next(row)? {
         if rows >= head.most_rows {
@@ -188,7 +201,7 @@ fn fill_rows(
         }
         rows += 1;
         match take_row(alloc, head, rows, ids, row) {
-            Ok(()) => push_cells(cells, &head.columns, row)?,
+            Ok(()) => push_cells(cells, columns, row)?,
             Err(fault) => return Err(fault),
         }
     }
@@ -208,9 +221,9 @@ fn read_rows(
     ensures answer { IsAnswer (rows_read (heading_of head.now) [] left.old) result }
 {
     let mut cells = TextRegion::new(alloc);
-    let mut ids = Ids::new(alloc);
+    let mut ids = IdSet::new(alloc);
     match fill_rows(alloc, left, row, head, &mut ids, &mut cells) {
-        Ok(rows) => Ok(Table::new(head.has_id, head.columns.len(), rows, cells)),
+        Ok(rows) => Ok(Table::new(ids, columns_after_id(head).len(), rows, cells)),
         Err(fault) => Err(fault),
     }
 }
@@ -292,6 +305,7 @@ pub fn read_table(
     ensures few { IfOk result (λ table. length table ≤ layout.now.most_rows) }
     ensures width { IfOk result (HasWidth (wanted_of layout.now)) }
     ensures texts { IfOk result HasTexts }
+    ensures ids { IfOk result (HasWantedIds (wanted_of layout.now)) }
     ensures distinct { IfOk result (HasDistinctIds (wanted_of layout.now)) }
     ensures answer { IsAnswer (table_of role (wanted_of layout.now) (records_in layout.now.delimiter bytes.now)) result }
 {

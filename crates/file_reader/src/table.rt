@@ -1,42 +1,43 @@
 // The table of a file.
-ghost use Rattle.std.specs.Prelude.{◌≡◌, ◌<◌, ◌≤◌, ◌*◌, [], IsTrue, length, slice_index_or};
-ghost use Rattle.file_reader.specs.Rows.{no_row, rows_in, skipped, table_rows};
+ghost use Rattle.std.specs.Prelude.{◌≡◌, ◌<◌, ◌*◌, [], length, slice_index_or};
+ghost use Rattle.file_reader.specs.Rows.{AreIdsFor, HaveIds, ids_of, no_row, rows_in, table_rows};
 
-use crate::region::TextRegion;
+use link_base::{IdSet, TextRegion};
 use std::marker::Model;
 
 /// The needed columns of a file, which contracts see as the list of its rows, each with its id and its
 /// other fields. A row's position is its number from 0.
 #[derive(Drop)]
 pub struct Table {
-    has_id: bool,
-    // The number of needed columns, and of rows.
+    // The ids of the rows, or none where the file has no ids.
+    ids: IdSet,
+    // The number of fields of each row, and of rows.
     width: usize,
     rows: u32,
-    // The needed fields, row by row.
+    // The fields, row by row.
     cells: TextRegion,
 }
 
 impl Model for Table {
-    ghost use Rattle.std.specs.Prelude.{◌≡◌, ◌≤◌, ◌*◌, IsTrue, List, length};
-    ghost use Rattle.file_reader.specs.Rows.{table_rows, TableRow};
+    ghost use Rattle.std.specs.Prelude.{◌≡◌, ◌*◌, List, length};
+    ghost use Rattle.file_reader.specs.Rows.{AreIdsFor, table_rows, TableRow};
 
     ghost Value = { List TableRow };
 
-    ghost view = { λ t. table_rows t.has_id t.rows t.width t.cells };
+    ghost view = { λ t. table_rows t.rows t.width t.cells t.ids };
 
-    ghost invariant = { λ t. (length t.cells ≡ t.rows * t.width) × (IsTrue t.has_id → 1 ≤ t.width) };
+    ghost invariant = { λ t. (length t.cells ≡ t.rows * t.width) × AreIdsFor t.rows t.ids };
 }
 
 impl Table {
-    // The table of these cells.
-    pub(crate) fn new(has_id: bool, width: usize, rows: u32, cells: TextRegion) -> Table
+    // The table of these ids and cells.
+    pub(crate) fn new(ids: IdSet, width: usize, rows: u32, cells: TextRegion) -> Table
         requires whole { length cells ≡ rows * width }
-        requires id { IsTrue has_id → 1 ≤ width }
-        ensures { result ≡ table_rows has_id rows width cells }
+        requires ids { AreIdsFor rows ids }
+        ensures { result ≡ table_rows rows width cells ids }
     {
         Table {
-            has_id,
+            ids,
             width,
             rows,
             cells,
@@ -55,8 +56,8 @@ impl Table {
         requires { at < length self.now }
         ensures { result.now ≡ (slice_index_or self.now at no_row).id }
     {
-        if self.has_id {
-            cell_of(&self.cells, self.rows, self.width, at, 0)
+        if at < self.ids.len() {
+            self.ids.id(at)
         } else {
             b""
         }
@@ -68,8 +69,15 @@ impl Table {
         requires column { column < length (slice_index_or self.now at no_row).fields }
         ensures { result.now ≡ slice_index_or (slice_index_or self.now at no_row).fields column [] }
     {
-        let place = column as usize + cells_before(self.has_id);
-        cell_of(&self.cells, self.rows, self.width, at, place)
+        cell_of(&self.cells, self.rows, self.width, at, column as usize)
+    }
+
+    /// The ids of the rows themselves.
+    pub fn into_ids(self) -> IdSet
+        requires { HaveIds self }
+        ensures { result ≡ ids_of self }
+    {
+        self.ids
     }
 }
 
@@ -82,12 +90,4 @@ fn cell_of(cells: &TextRegion, rows: u32, width: usize, at: u32, place: usize) -
 {
     let _len = cells.len();
     cells.get(at as usize * width + place)
-}
-
-// The number of cells of a row before its fields.
-fn cells_before(has_id: bool) -> usize
-    ensures value { result ≡ skipped has_id }
-    ensures small { result ≤ 1 }
-{
-    if has_id { 1 } else { 0 }
 }
