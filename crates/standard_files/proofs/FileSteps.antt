@@ -1,39 +1,54 @@
 -- One row more of a file.
-use Rattle.std.proofs.Common.{◌≡◌, ◌≢◌, ◌<◌, ◌+◌, ◌∷◌, ◌++◌, ◌∙◌, ℕ, Bool, true, false, cond, List, [], length, take, drop, get_or, Option, Some, None, Ok, Err, refl, sym, ap, arith}
-use Rattle.std.specs.List.{All, AllPairs}
-use Rattle.std.proofs.lemmas.List.{drop_more, get_or-take, length-take-le, map_push, take_more}
-use Rattle.std.proofs.lemmas.List.Elements.{All-from_get_or, All-map}
+use Rattle.std.proofs.Common.{◌≡◌, ◌<◌, ◌≤◌, ◌+◌, ◌*◌, ◌∷◌, ◌++◌, ◌∙◌, ℕ, Bool, true, false, cond, List, [], length, take, drop, get_or, Option, Some, None, Ok, Err, refl, sym, ap, arith}
+use Rattle.std.specs.List.{All, sum_by}
+use Rattle.std.proofs.lemmas.List.{drop_all, drop_more, map_push, take_all, take_more}
+use Rattle.std.proofs.lemmas.List.Elements.{All-cons, All-head, All-nil, All-tail}
+use Rattle.std.proofs.lemmas.List.Sums.{sum_by_push}
 use Rattle.link_base.specs.Fault.{or_else, Refuses}
-use Rattle.link_base.specs.Standard.{Record}
+use Rattle.link_base.specs.Standard.{IsValid, Record, records_of}
 use Rattle.link_base.specs.declared.fault.Fault.{Fault}
 use Rattle.link_base.specs.declared.fault.Fault.TheVariants as fault
 use Rattle.link_base.specs.declared.fault.FileRole.{FileRole}
 use Rattle.link_base.specs.declared.standard.Value.{Value}
 use Rattle.link_base.specs.declared.tables.Tables.{Tables}
-use Rattle.file_reader.specs.Rows.{no_row, TableRow}
+use Rattle.file_reader.specs.Rows.{ids_of, no_row, TableRow}
 use Rattle.file_reader.specs.Table.{Tests}
 use Rattle.settings.specs.declared.plan.Plan.{Plan}
 use Rattle.standard_files.specs.Files.{date_fault, dates_fault, standard_file}
-use Rattle.standard_files.specs.Values.{standard_record, standard_records, standard_values, unreadable_from}
+use Rattle.standard_files.specs.Values.{standard_record, standard_records, standard_rows, standard_values, unreadable_from, unreadable_in}
 use Rattle.standard_files.specs.declared.sorts.TextSort.{TextSort}
 
--- no earlier record has the id of a row
-pub fresh : (t : Tables) (sorts : List TextSort) (table : List TableRow) (at : ℕ) (file : List Record) (id : List ℕ)
-    → at < length table → AllPairs (λ (x y : TableRow). x.id ≢ y.id) table → file ≡ standard_records t sorts (take at table) → id ≡ (get_or table at no_row).id
-    → All (λ (r : Record). r.id ≢ id) file
-fresh t sorts table at file id lt distinct ef ei =
-    let count : length (take at table) ≡ at = length-take-le at table (omega arith) in
-    rw (ef, ei) (All-map (λ (r : Record). r.id ≢ (get_or table at no_row).id) (standard_record t sorts) (take at table)
-    (All-from_get_or (λ (r : TableRow). r.id ≢ (get_or table at no_row).id) (take at table) no_row
-    (λ k h. (let below : k < at = omega (arith, count) in rw (get_or-take at table k no_row below) (distinct k at no_row below lt)))))
+-- one row more
+pub one_row : (t : Tables) (sorts : List TextSort) (table : List TableRow) (at : ℕ) (rows new : List (List Value)) (values : List Value)
+    → at < length table → rows ≡ standard_rows t sorts (take at table) → values ≡ standard_values t sorts (get_or table at no_row).fields
+    → new ≡ rows ++ values ∷ [] → new ≡ standard_rows t sorts (take (at + 1) table)
+one_row t sorts table at rows new values lt er ev en =
+    en ∙ rw (take_more table at no_row lt, er, ev) (sym (map_push (λ (row : TableRow). standard_values t sorts row.fields) (take at table) (get_or table at no_row)))
 
--- one record more
-pub one_record : (t : Tables) (sorts : List TextSort) (table : List TableRow) (at : ℕ) (file new : List Record) (id : List ℕ) (values : List Value)
-    → at < length table → file ≡ standard_records t sorts (take at table) → id ≡ (get_or table at no_row).id
-    → values ≡ standard_values t sorts (get_or table at no_row).fields → new ≡ file ++ record { id = id; row = values } ∷ []
-    → new ≡ standard_records t sorts (take (at + 1) table)
-one_record t sorts table at file new id values lt ef ei ev en =
-    en ∙ rw (take_more table at no_row lt, ef, ei, ev) (sym (map_push (standard_record t sorts) (take at table) (get_or table at no_row)))
+pub room_more : (rows new : List (List Value)) (values : List Value) (at most : ℕ) → new ≡ rows ++ values ∷ [] → length values ≤ most
+    → sum_by length rows ≤ most * at → sum_by length new ≤ most * (at + 1)
+room_more rows new values at most en few room =
+    let sum : sum_by length new ≡ sum_by length rows + length values = ap (sum_by length) en ∙ sum_by_push length rows values in
+    let next : most * (at + 1) ≡ most * at + most = omega arith in
+    omega (arith, sum, next, few, room)
+
+-- the records with the ids of a table are the table in standard values
+pub with_rows : (t : Tables) (sorts : List TextSort) (table : List TableRow) → records_of (ids_of table) (standard_rows t sorts table) ≡ standard_records t sorts table
+with_rows t sorts [] = refl
+with_rows t sorts (row ∷ table) = ap (λ rest. standard_record t sorts row ∷ rest) (with_rows t sorts table)
+
+-- records of valid values
+abbrev AreValid : List Value → Type 0
+AreValid values = All IsValid values
+
+abbrev HasValid : Record → Type 0
+HasValid r = All IsValid r.row
+
+pub valid_records : (ids : List (List ℕ)) (rows : List (List Value)) → All AreValid rows → All HasValid (records_of ids rows)
+valid_records [] rows h = All-nil HasValid
+valid_records (id ∷ ids) [] h = All-nil HasValid
+valid_records (id ∷ ids) (row ∷ rows) h =
+    All-cons HasValid (record { id = id; row = row }) (records_of ids rows) (All-head AreValid row rows h) (valid_records ids rows (All-tail AreValid row rows h))
 
 -- the first unreadable date of the rows that are left
 dates_left : (r : FileRole) (plan : Plan) (sorts : List TextSort) (number at : ℕ) (table : List TableRow) → at < length table
@@ -78,3 +93,18 @@ pub row_refused : (r : FileRole) (plan : Plan) (sorts : List TextSort) (at : ℕ
     → Refuses (standard_file r plan sorts table) f
 row_refused r plan sorts at table first fault.NoMemory lt ef some told = tt
 row_refused r plan sorts at table first f lt ef some told = refused_file r plan sorts at table first f lt ef some told
+
+-- the rows of the whole table, without a fault
+no_fault : (strict : Bool) (o : Option Fault) → o ≡ None → cond strict o None ≡ None
+no_fault true o e = e
+no_fault false o e = refl
+
+pub whole_file : (r : FileRole) (plan : Plan) (sorts : List TextSort) (table : List TableRow) (at unreadable : ℕ) (rows : List (List Value))
+    → length table ≤ at → rows ≡ standard_rows plan.tables sorts (take at table) → unreadable ≡ unreadable_in plan.tables sorts (take at table)
+    → cond plan.strict (dates_fault r plan sorts 1 table) None ≡ cond plan.strict (dates_fault r plan sorts (at + 1) (drop at table)) None
+    → standard_file r plan sorts table ≡ Ok (record { records = records_of (ids_of table) rows; unreadable = unreadable })
+whole_file r plan sorts table at unreadable rows all er eu told =
+    let whole = take_all at table all in
+    let left : dates_fault r plan sorts (at + 1) (drop at table) ≡ None = ap (dates_fault r plan sorts (at + 1)) (drop_all at table all) in
+    let none = told ∙ no_fault plan.strict (dates_fault r plan sorts (at + 1) (drop at table)) left in
+    rw (none, er, eu, whole, with_rows plan.tables sorts table) refl

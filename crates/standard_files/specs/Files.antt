@@ -12,7 +12,7 @@ use Rattle.link_base.specs.declared.fault.FileRole.TheVariants as role
 use Rattle.link_base.specs.declared.plan.FieldSort.{FieldSort}
 use Rattle.file_reader.specs.Left.{records_in}
 use Rattle.file_reader.specs.Layout.{Wanted}
-use Rattle.file_reader.specs.Rows.{TableRow}
+use Rattle.file_reader.specs.Rows.{HaveIds, TableRow}
 use Rattle.file_reader.specs.Table.{HasTexts, table_of, unless_fault}
 use Rattle.settings.specs.Plan.{FieldKeys}
 use Rattle.settings.specs.declared.plan.Plan.{Plan}
@@ -117,9 +117,10 @@ pub record AreOfPlan (plan : Plan) (records : List Record) : Type 0 where
   pub distinct : HaveDistinctIds records
   pub sorts : All (λ (r : Record). AreOfSorts (sorts_of plan) r.row) records
 
--- a table that was read for a plan: a text for each field, and no id twice
+-- a table that was read for a plan: a text for each field, and for each row an id that no other has
 pub record IsReadTable (plan : Plan) (table : List TableRow) : Type 0 where
   pub few : length table ≤ MOST_ROWS
   pub width : All (λ (r : TableRow). length r.fields ≡ length plan.fields) table
   pub texts : HasTexts table
+  pub ids : HaveIds table
   pub distinct : AllPairs (λ (x y : TableRow). x.id ≢ y.id) table

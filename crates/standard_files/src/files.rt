@@ -1,14 +1,16 @@
 // The standard files of a plan.
-ghost use Rattle.std.specs.Prelude.{◌≡◌, ◌+◌, ◌*◌, ◌<◌, ◌≤◌, ◌∷◌, ◌++◌, [], All, length, IfErr, IfOk, IfSome, OnOk, None, if◌then◌else◌};
+ghost use Rattle.std.specs.Prelude.{◌≡◌, ◌+◌, ◌*◌, ◌<◌, ◌≤◌, ◌∷◌, ◌++◌, [], All, List, length, IfErr, IfOk, IfSome, OnOk, None, if◌then◌else◌};
 ghost use Rattle.link_base.specs.Fault.{Gives, IsAnswer, IsInputFault};
-ghost use Rattle.link_base.specs.Standard.{HaveDistinctIds, IsValid, Record};
+ghost use Rattle.link_base.specs.Standard.{HaveDistinctIds, IsValid, Record, records_of};
+ghost use Rattle.link_base.specs.declared.standard.Value.{Value as FieldValue};
+ghost use Rattle.file_reader.specs.Rows.{ids_of};
 ghost use Rattle.file_reader.specs.Table.{Tests};
 ghost use Rattle.standard_files.specs.Files.{AreOfPlan, date_fault, IsReadTable, sorts_a, sorts_b, standard_file, standard_files, standard_pair};
 
 use crate::row::StandardRow;
 use crate::sources::{Source, read_source};
 use crate::values::ValueTables;
-use link_base::{Fault, FileRole, StdFile, Text, distinct_ids};
+use link_base::{Fault, FileRole, StdFile, StdRows, distinct_ids};
 use link_limits::MOST_FIELDS;
 use settings::Plan;
 use std::alloc::Global;
@@ -71,23 +73,24 @@ fn test_dates(
     }
 }
 
-// Appends the records of a table in standard values, and counts the dates that cannot be read.
-fn push_records(
+// Appends the rows of a table in standard values, and counts the dates that cannot be read.
+fn push_rows(
     alloc: Global,
     role: FileRole,
     plan: &Plan,
     tables: &ValueTables,
     source: &Source,
-    file: &mut StdFile,
+    rows: &mut StdRows,
 ) -> Result<u32, Fault>
     requires tables { tables.now ≡ plan.now.tables }
     requires table { IsReadTable plan.now source.now.table }
     requires sorts { length source.now.sorts.items ≡ length plan.now.fields }
     requires few { length source.now.sorts.items ≤ MOST_FIELDS }
-    requires empty { file.old ≡ [] }
+    requires empty { rows.old ≡ [] }
     ensures kind { IfErr result IsInputFault }
-    ensures answer { Gives (λ unreadable. record { records = file.new; unreadable = unreadable }) (standard_file role plan.now source.now.sorts.items source.now.table) result }
-    ensures valid { OnOk result (All (λ (r : Record). All IsValid r.row) file.new) }
+    ensures answer { Gives (λ unreadable. record { records = records_of (ids_of source.now.table) rows.new; unreadable = unreadable }) (standard_file role plan.now source.now.sorts.items source.now.table) result }
+    ensures as_many { OnOk result (length rows.new ≡ length source.now.table) }
+    ensures valid { OnOk result (All (λ (values : List FieldValue). All IsValid values) rows.new) }
 {
     let table = &source.table;
     let mut unreadable: u32 = 0;
@@ -99,31 +102,32 @@ fn push_records(
             Err(fault) => return Err(fault),
         }
         unreadable += row.unreadable;
-        file.push(Text::new(alloc, table.id(at))?, &mut row.values)?;
+        rows.push(&row.values)?;
     }
     Ok(unreadable)
 }
 
-// The table of a file in standard values.
+// The table of a file in standard values. It gives its ids away, and its texts are given back.
 fn standard_file(
     alloc: Global,
     role: FileRole,
     plan: &Plan,
     tables: &ValueTables,
-    source: &Source,
+    source: Source,
 ) -> Result<StandardFile, Fault>
     requires tables { tables.now ≡ plan.now.tables }
-    requires table { IsReadTable plan.now source.now.table }
-    requires sorts { length source.now.sorts.items ≡ length plan.now.fields }
-    requires few { length source.now.sorts.items ≤ MOST_FIELDS }
+    requires table { IsReadTable plan.now source.table }
+    requires sorts { length source.sorts.items ≡ length plan.now.fields }
+    requires few { length source.sorts.items ≤ MOST_FIELDS }
     ensures kind { IfErr result IsInputFault }
-    ensures answer { IsAnswer (standard_file role plan.now source.now.sorts.items source.now.table) result }
+    ensures answer { IsAnswer (standard_file role plan.now source.sorts.items source.table) result }
     ensures valid { IfOk result (λ file. All (λ (r : Record). All IsValid r.row) file.records) }
     ensures distinct { IfOk result (λ file. HaveDistinctIds file.records) }
 {
-    let mut file = StdFile::with_capacity(alloc, source.table.rows(), source.sorts.len() as u8)?;
-    match push_records(alloc, role, plan, tables, source, &mut file) {
+    let mut rows = StdRows::with_capacity(alloc, source.table.rows(), source.sorts.len() as u8)?;
+    match push_rows(alloc, role, plan, tables, &source, &mut rows) {
         Ok(unreadable) => {
+            let file = StdFile::of(source.table.into_ids(), rows);
             distinct_ids(&file);
             Ok(StandardFile { file, unreadable })
         }
@@ -151,12 +155,11 @@ fn pair_by(
     ensures of_a { IfOk result (λ pair. AreOfPlan plan.now pair.a.records) }
     ensures of_b { IfOk result (λ pair. AreOfPlan plan.now pair.b.records) }
 {
-    let of_a = match standard_file(alloc, FileRole::A, plan, tables, &a) {
+    let of_a = match standard_file(alloc, FileRole::A, plan, tables, a) {
         Ok(file) => file,
         Err(fault) => return Err(fault),
     };
-    drop(a);
-    match standard_file(alloc, FileRole::B, plan, tables, &b) {
+    match standard_file(alloc, FileRole::B, plan, tables, b) {
         Ok(of_b) => Ok(StandardPair { a: of_a, b: of_b }),
         Err(fault) => Err(fault),
     }

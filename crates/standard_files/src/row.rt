@@ -64,6 +64,7 @@ impl StandardRow {
         ensures unreadable { OnOk result (self.new.unreadable ≡ unreadable_in_row tables.now sorts.now (slice_index_or table.now at no_row).fields) }
         ensures first { OnOk result (self.new.first ≡ unreadable_from tables.now 0 sorts.now (slice_index_or table.now at no_row).fields) }
         ensures few { OnOk result (self.new.unreadable ≤ MOST_FIELDS) }
+        ensures many { OnOk result (length self.new.values.items ≡ length sorts.now) }
         ensures within { OnOk result (IfSome self.new.first (λ place. place < length sorts.now)) }
         ensures valid { OnOk result (All IsValid self.new.values.items) }
     {

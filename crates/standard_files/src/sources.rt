@@ -3,7 +3,7 @@ ghost use Rattle.std.specs.Prelude.{◌≡◌, ◌≤◌, ◌++◌, ◌∷◌, [
 ghost use Rattle.link_base.specs.Fault.{Gives, IsAnswer, IsInputFault};
 ghost use Rattle.file_reader.specs.Left.{records_in};
 ghost use Rattle.file_reader.specs.Layout.{wanted_of};
-ghost use Rattle.file_reader.specs.Table.{HasDistinctIds, HasTexts, HasWidth, table_of};
+ghost use Rattle.file_reader.specs.Table.{HasDistinctIds, HasTexts, HasWantedIds, HasWidth, table_of};
 ghost use Rattle.settings.specs.Plan.{FieldKeys};
 ghost use Rattle.standard_files.specs.Files.{field_column, delimiter_in, IsReadTable, sorts_in, table_in, wanted_in};
 ghost use Rattle.standard_files.specs.Values.{sort_in};
@@ -78,6 +78,7 @@ fn read_by(alloc: Global, bytes: &[u8], role: FileRole, layout: Layout) -> Resul
     ensures few { IfOk result (λ table. length table ≤ layout.most_rows) }
     ensures width { IfOk result (HasWidth (wanted_of layout)) }
     ensures texts { IfOk result HasTexts }
+    ensures ids { IfOk result (HasWantedIds (wanted_of layout)) }
     ensures distinct { IfOk result (HasDistinctIds (wanted_of layout)) }
     ensures answer { IsAnswer (table_of role (wanted_of layout) (records_in layout.delimiter bytes.now)) result }
 {
