@@ -2,6 +2,7 @@ pub mod FieldFacts
 pub mod FindFacts
 pub mod LeastFaulty
 pub mod MoreFacts
+pub mod PlainFacts
 pub mod ReadFacts
 pub mod RowFacts
 pub mod TextFacts

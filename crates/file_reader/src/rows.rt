@@ -1,6 +1,6 @@
 // The rows of a table.
-ghost use Rattle.std.specs.Prelude.{◌≡◌, ◌≤◌, ◌<◌, ◌*◌, ◌++◌, [], All, IfOk, IsTrue, None, OnOk, IfErr, length, ℕ};
-ghost use Rattle.csv.specs.Records.{fields_of};
+ghost use Rattle.std.specs.Prelude.{◌≡◌, ◌↔◌, ◌≤◌, ◌<◌, ◌*◌, ◌++◌, [], All, IfOk, IsTrue, None, OnOk, IfErr, length, ℕ};
+ghost use Rattle.csv.specs.Records.{fields_of, text_of};
 ghost use Rattle.file_reader.specs.Left.{records_in};
 ghost use Rattle.link_base.specs.Fault.{Gives, IsAnswer, IsInputFault};
 ghost use Rattle.file_reader.specs.Layout.{cell, cells_of, field_columns, heading_of, heading_under, needed_of, wanted_of};
@@ -56,7 +56,15 @@ fn test_lengths(alloc: Global, head: &Head, number: u32, row: &ByteRecord) -> Re
     Ok(())
 }
 
-// Whether the needed fields of a row are ASCII and not too long, as most are.
+// Whether all fields of a row together are ASCII and not too long, as they mostly are.
+fn is_plain_row(row: &ByteRecord) -> bool
+    ensures { IsTrue result ↔ IsPlain (text_of row.now) }
+{
+    let bytes = row.as_slice();
+    bytes.len() <= MOST_FIELD_BYTES && bytes.is_ascii()
+}
+
+// Whether each needed field of a row is ASCII and not too long.
 fn are_plain(head: &Head, row: &ByteRecord) -> bool
     ensures faultless { IsTrue result → (number : ℕ) → text_fault (heading_of head.now) number (fields_of row.now) ≡ None }
     ensures all { All (λ (c : Needed). IsPlain (cell (fields_of row.now) c)) head.now.columns.items → IsTrue result }
@@ -75,7 +83,7 @@ fn test_texts(alloc: Global, head: &Head, number: u32, row: &ByteRecord) -> Resu
     ensures kind { IfErr result IsInputFault }
     ensures fault { Tests (text_fault (heading_of head.now) number (fields_of row.now)) result }
 {
-    if are_plain(head, row) {
+    if is_plain_row(row) || are_plain(head, row) {
         return Ok(());
     }
     match test_utf8(alloc, head, number, row) {
