@@ -34,6 +34,15 @@ impl IdSet {
         }
     }
 
+    /// The set of no ids, with room for so many.
+    pub fn with_capacity(alloc: Global, count: usize) -> Result<IdSet, NoMemory>
+        ensures { IfOk result (λ ids. ids ≡ []) }
+    {
+        Ok(IdSet {
+            ids: IndexSet::with_capacity(alloc, count)?,
+        })
+    }
+
     /// Keeps an id that is new; else gives the place of the one that is held.
     pub fn keep(&mut self, alloc: Global, id: &[u8]) -> Result<Option<usize>, NoMemory>
         requires room { length self.old + 1 < 2 ^ 32 }

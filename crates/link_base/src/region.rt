@@ -1,5 +1,5 @@
 // Texts side by side in one region of bytes, and pieces of a list by where each ends.
-ghost use Rattle.std.specs.Prelude.{◌≡◌, ◌<◌, ◌≤◌, ◌==◌, ◌++◌, ◌∷◌, [], length, OnErr, OnOk, slice_index_or, slice_range, take};
+ghost use Rattle.std.specs.Prelude.{◌≡◌, ◌<◌, ◌≤◌, ◌==◌, ◌++◌, ◌∷◌, [], IfOk, length, OnErr, OnOk, slice_index_or, slice_range, take};
 ghost use Rattle.link_base.specs.Region.{EndsAt, pieces_from, start_at};
 
 use crate::text::NoMemory;
@@ -34,6 +34,16 @@ impl TextRegion {
             bytes: Vec::new(alloc),
             ends: Vec::new(alloc),
         }
+    }
+
+    /// The region of no texts, with room for so many of so many bytes together.
+    pub fn with_capacity(alloc: Global, texts: usize, bytes: usize) -> Result<TextRegion, NoMemory>
+        ensures { IfOk result (λ made. made ≡ []) }
+    {
+        Ok(TextRegion {
+            bytes: Vec::with_capacity(alloc, bytes)?,
+            ends: Vec::with_capacity(alloc, texts)?,
+        })
     }
 
     /// The number of texts.

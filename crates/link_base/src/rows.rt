@@ -9,6 +9,9 @@ use crate::text::NoMemory;
 use std::alloc::Global;
 use std::marker::Model;
 
+// How many bytes a word may have for which room is made beforehand.
+const USUAL_BYTES: usize = 8;
+
 // A value of a record, whose word stands among the words of its file.
 #[derive(Clone, Copy)]
 pub(crate) enum Cell {
@@ -53,13 +56,14 @@ impl StdRows {
         }
     }
 
-    /// No rows, with room for so many of so many fields.
+    /// No rows, with room for so many of so many fields, and of words of a usual length.
     pub fn with_capacity(alloc: Global, rows: u32, fields: u8) -> Result<StdRows, NoMemory>
         ensures { IfOk result (λ made. made ≡ []) }
     {
+        let values = rows as usize * fields as usize;
         Ok(StdRows {
-            words: TextRegion::new(alloc),
-            cells: Vec::with_capacity(alloc, rows as usize * fields as usize)?,
+            words: TextRegion::with_capacity(alloc, values, values * USUAL_BYTES)?,
+            cells: Vec::with_capacity(alloc, values)?,
             ends: Vec::with_capacity(alloc, rows as usize)?,
         })
     }
