@@ -7,6 +7,7 @@ mod known;
 mod laws;
 mod layout;
 mod records;
+mod room;
 mod rows;
 mod table;
 

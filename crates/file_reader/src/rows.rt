@@ -14,6 +14,7 @@ use crate::fields::{field_of, is_plain, is_text};
 use crate::header::{find_columns, needed_names, test_header};
 use crate::layout::{Column, Head, Layout};
 use crate::records::Records;
+use crate::room::Room;
 use crate::table::Table;
 use csv::ByteRecord;
 use link_base::{Fault, FileRole, IdSet, NoMemory, Text, TextRegion};
@@ -222,14 +223,15 @@ fn read_rows(
     left: &mut Records<'_>,
     row: &mut ByteRecord,
     head: &Head,
+    room: Room,
 ) -> Result<Table, Fault>
     requires { IsTrue head.now.has_id → 1 ≤ length head.now.columns.items }
     ensures kind { IfErr result IsInputFault }
     ensures few { IfOk result (λ table. length table ≤ head.now.most_rows) }
     ensures answer { IsAnswer (rows_read (heading_of head.now) [] left.old) result }
 {
-    let mut cells = TextRegion::new(alloc);
-    let mut ids = IdSet::new(alloc);
+    let mut ids = room.for_ids(alloc, head)?;
+    let mut cells = room.for_cells(alloc, head)?;
     match fill_rows(alloc, left, row, head, &mut ids, &mut cells) {
         Ok(rows) => Ok(Table::new(ids, columns_after_id(head).len(), rows, cells)),
         Err(fault) => Err(fault),
@@ -270,6 +272,7 @@ fn read_under(
     row: &mut ByteRecord,
     role: FileRole,
     layout: &Layout,
+    room: Room,
 ) -> Result<Table, Fault>
     ensures kind { IfErr result IsInputFault }
     ensures few { IfOk result (λ table. length table ≤ layout.now.most_rows) }
@@ -277,7 +280,7 @@ fn read_under(
 {
     let names = needed_names(alloc, layout)?;
     match head_of(alloc, role, layout, &names, row) {
-        Ok(head) => read_rows(alloc, left, row, &head),
+        Ok(head) => read_rows(alloc, left, row, &head, room),
         Err(fault) => Err(fault),
     }
 }
@@ -289,13 +292,14 @@ fn read_records(
     row: &mut ByteRecord,
     role: FileRole,
     layout: &Layout,
+    room: Room,
 ) -> Result<Table, Fault>
     ensures kind { IfErr result IsInputFault }
     ensures few { IfOk result (λ table. length table ≤ layout.now.most_rows) }
     ensures answer { IsAnswer (table_of role (wanted_of layout.now) left.old) result }
 {
     match left.next(row) {
-        Ok(true) => read_under(alloc, left, row, role, layout),
+        Ok(true) => read_under(alloc, left, row, role, layout, room),
         Ok(false) => Err(Fault::NoHeader { role }),
         Err(NoMemory) => Err(Fault::NoMemory),
     }
@@ -319,5 +323,6 @@ pub fn read_table(
 {
     let mut left = Records::new(alloc, bytes, layout.delimiter);
     let mut row = ByteRecord::new(alloc);
-    read_records(alloc, &mut left, &mut row, role, layout)
+    let room = Room::of(bytes, layout.most_rows);
+    read_records(alloc, &mut left, &mut row, role, layout, room)
 }
