@@ -3,3 +3,4 @@ pub mod CellFacts
 pub mod IdFacts
 pub mod RecordFacts
 pub mod RegionFacts
+pub mod WriterFacts

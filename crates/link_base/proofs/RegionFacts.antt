@@ -82,11 +82,12 @@ ends_first last start (end ∷ ends) (suc zero) h le = (h.0, refl)
 ends_first last start (end ∷ ends) (suc (suc count)) h le = (h.0, ends_first last end ends (suc count) h.1 (omega arith))
 
 -- pieces that end among the first items are pieces of these
-among_first : {T : Type 0} (items more : List T) (start : ℕ) (ends : List ℕ) → EndsAt (length items) start ends → pieces_from (items ++ more) start ends ≡ pieces_from items start ends
-among_first items more start [] h = refl
-among_first items more start (end ∷ ends) h =
-    let here = read_before items more start end h.0 (ends_below (length items) end ends h.1) in
-    let rest = among_first items more end ends h.1 in
+pub among_first : {T : Type 0} (items more : List T) (last start : ℕ) (ends : List ℕ) → last ≤ length items → EndsAt last start ends → pieces_from (items ++ more) start ends ≡ pieces_from items start ends
+among_first items more last start [] le h = refl
+among_first items more last start (end ∷ ends) le h =
+    let below = ends_below last end ends h.1 in
+    let here = read_before items more start end h.0 (omega (arith, below, le)) in
+    let rest = among_first items more last end ends le h.1 in
     λ i. here i ∷ rest i
 
 take_pieces : {T : Type 0} (items : List T) (start : ℕ) (ends : List ℕ) (count : ℕ) → take count (pieces_from items start ends) ≡ pieces_from items start (take count ends)
@@ -107,7 +108,7 @@ cut {T = T} items ends count items2 ends2 end h le at ei ee =
     let whole : items2 ++ drop end items ≡ items = ap (λ (l : List T). l ++ drop end items) ei ∙ take-append-drop end items in
     record {
       rising = rising;
-      pieces = sym (among_first items2 (drop end items) 0 ends2 rising) ∙ ap (λ (l : List T). pieces_from l 0 ends2) whole ∙ ap (pieces_from items 0) ee ∙ sym (take_pieces items 0 ends count);
+      pieces = sym (among_first items2 (drop end items) (length items2) 0 ends2 (omega arith) rising) ∙ ap (λ (l : List T). pieces_from l 0 ends2) whole ∙ ap (pieces_from items 0) ee ∙ sym (take_pieces items 0 ends count);
     }
 
 -- pieces of what is made of each item
@@ -118,11 +119,19 @@ pieces_map f items start (end ∷ ends) =
     let rest = pieces_map f items end ends in
     λ i. here i ∷ rest i
 
--- the pieces have all items together
-pub count_items : {T : Type 0} (items : List T) (start : ℕ) (ends : List ℕ) → EndsAt (length items) start ends → start + sum_by length (pieces_from items start ends) ≡ length items
-count_items items start [] h = omega (arith, h)
-count_items items start (end ∷ ends) h =
-    let rest = count_items items end ends h.1 in
-    let below = ends_below (length items) end ends h.1 in
-    let here : length (slice_range items start end) ≡ end - start = length-take-le (end - start) (drop start items) (simp length-drop (omega (arith, below))) in
+-- the pieces have all items together, as far as the last one ends
+pub count_items : {T : Type 0} (items : List T) (last start : ℕ) (ends : List ℕ) → last ≤ length items → EndsAt last start ends → start + sum_by length (pieces_from items start ends) ≡ last
+count_items items last start [] le h = omega (arith, h)
+count_items items last start (end ∷ ends) le h =
+    let rest = count_items items last end ends le h.1 in
+    let below = ends_below last end ends h.1 in
+    let here : length (slice_range items start end) ≡ end - start = length-take-le (end - start) (drop start items) (simp length-drop (omega (arith, below, le))) in
     omega (arith, here, rest, h.0, sum_by-cons length (slice_range items start end) (pieces_from items end ends))
+
+-- what stands behind the last piece is a piece of its own
+pub rest_closed : {T : Type 0} (items : List T) (last start end : ℕ) (ends : List ℕ) → last ≤ length items → EndsAt last start ends → end ≡ length items
+    → pieces_from items start (ends ++ end ∷ []) ≡ pieces_from items start ends ++ drop last items ∷ []
+rest_closed {T = T} items last start end [] le h e =
+    let all : take (end - start) (drop start items) ≡ drop start items = grind (arith, common_steps) in
+    ap (λ (t : List T). t ∷ []) (all ∙ ap (λ n. drop n items) h)
+rest_closed {T = T} items last start end (first ∷ ends) le h e = ap (λ (t : List (List T)). slice_range items start first ∷ t) (rest_closed items last first end ends le h.1 e)

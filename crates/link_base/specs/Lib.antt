@@ -3,6 +3,7 @@ pub mod Fault
 pub mod Ids
 pub mod Region
 pub mod Rows
+pub mod RowsWriter
 pub mod Rule
 pub mod Shares
 pub mod Standard

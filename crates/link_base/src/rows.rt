@@ -1,16 +1,16 @@
 // The values of records, row by row.
 ghost use Rattle.std.specs.Prelude.{◌≡◌, ◌+◌, ◌^◌, ◌≤◌, ◌<◌, ◌++◌, ◌∷◌, [], IfOk, OnErr, OnOk, length, slice_index_or, sum_by};
+ghost use Rattle.link_base.specs.Region.{EndsAt, pieces_from};
 ghost use Rattle.link_base.specs.Rows.{AreCells, BeginsAs, IsPlaced, value_in, values_in};
+ghost use Rattle.link_base.specs.declared.standard.Value.TheVariants as value;
 
 use crate::region::{TextRegion, piece_in};
 use crate::row::Row;
+use crate::rows_writer::RowsWriter;
 use crate::standard::Value;
 use crate::text::NoMemory;
 use std::alloc::Global;
 use std::marker::Model;
-
-// How many bytes a word may have for which room is made beforehand.
-const USUAL_BYTES: usize = 8;
 
 // A value of a record, whose word stands among the words of its file.
 #[derive(Clone, Copy)]
@@ -60,12 +60,17 @@ impl StdRows {
     pub fn with_capacity(alloc: Global, rows: u32, fields: u8) -> Result<StdRows, NoMemory>
         ensures { IfOk result (λ made. made ≡ []) }
     {
-        let values = rows as usize * fields as usize;
-        Ok(StdRows {
-            words: TextRegion::with_capacity(alloc, values, values * USUAL_BYTES)?,
-            cells: Vec::with_capacity(alloc, values)?,
-            ends: Vec::with_capacity(alloc, rows as usize)?,
-        })
+        let writer = RowsWriter::with_capacity(alloc, rows, fields)?;
+        Ok(writer.finish())
+    }
+
+    // The rows of these cells, which end at these places.
+    pub(crate) fn of(words: TextRegion, cells: Vec<Cell>, ends: Vec<usize>) -> StdRows
+        requires rising { EndsAt (length cells.items) 0 ends.items }
+        requires cells { AreCells words cells.items }
+        ensures { result ≡ pieces_from (values_in words cells.items) 0 ends.items }
+    {
+        StdRows { words, cells, ends }
     }
 
     /// Appends a row, of whose words it keeps copies.
@@ -96,6 +101,20 @@ impl StdRows {
     }
 }
 
+// The cell of a word, which goes behind the words.
+pub(crate) fn word_cell(words: &mut TextRegion, word: &[u8]) -> Result<Cell, NoMemory>
+    requires { length words.old < 2 ^ 32 }
+    ensures begun { BeginsAs words.old words.new }
+    ensures few { length words.new ≤ length words.old + 1 }
+    ensures placed { IfOk result (IsPlaced (length words.new)) }
+    ensures value { IfOk result (λ cell. value_in words.new cell ≡ value.Word word.now) }
+    ensures err { OnErr result (words.new ≡ words.old) }
+{
+    let at = words.len() as u32;
+    words.push(word)?;
+    Ok(Cell::Word(at))
+}
+
 // The cell of a value, whose word goes behind the words.
 fn cell_of(words: &mut TextRegion, value: &Value) -> Result<Cell, NoMemory>
     requires { length words.old < 2 ^ 32 }
@@ -107,11 +126,7 @@ fn cell_of(words: &mut TextRegion, value: &Value) -> Result<Cell, NoMemory>
     match value {
         Value::Absent => Ok(Cell::Absent),
         Value::Day(day) => Ok(Cell::Day(*day)),
-        Value::Word(text) => {
-            let at = words.len() as u32;
-            words.push(text.bytes())?;
-            Ok(Cell::Word(at))
-        }
+        Value::Word(text) => word_cell(words, text.bytes()),
     }
 }
 

@@ -9,7 +9,7 @@ pub push_cells-requires-clause-room : goal.push_cells-requires-clause-room
 push_cells-requires-clause-room c =
     let long = length_values c.self.inside.words c.self.inside.cells.items in
     let rising : EndsAt (length (values_in c.self.inside.words c.self.inside.cells.items)) 0 c.self.inside.ends.items = rw long c.self.invariant.0 in
-    let count = count_items (values_in c.self.inside.words c.self.inside.cells.items) 0 c.self.inside.ends.items rising in
+    let count = count_items (values_in c.self.inside.words c.self.inside.cells.items) _ 0 c.self.inside.ends.items (omega arith) rising in
     let room = rw (← c.self.view_is) at c.requires in
     omega (arith, count, long, room)
 

@@ -1,0 +1,94 @@
+// Rows that are being made, value by value.
+ghost use Rattle.std.specs.Prelude.{◌≡◌, ◌+◌, ◌^◌, ◌<◌, [], IfOk, OnOk, length, sum_by};
+ghost use Rattle.link_base.specs.RowsWriter.{no_rows, with_row, with_value};
+ghost use Rattle.link_base.specs.declared.standard.Value.TheVariants as value;
+
+use crate::region::TextRegion;
+use crate::rows::{Cell, StdRows, word_cell};
+use crate::text::NoMemory;
+use std::alloc::Global;
+use std::marker::Model;
+
+// How many bytes a word may have for which room is made beforehand.
+const USUAL_BYTES: usize = 8;
+
+/// Rows that are being made, value by value. Contracts see the rows that are closed, and the values of the row that is open.
+#[derive(Drop)]
+pub struct RowsWriter {
+    words: TextRegion,
+    cells: Vec<Cell>,
+    // Where each closed row ends among the cells; it begins where the one before it ends.
+    ends: Vec<usize>,
+    // Where the open row begins among the cells.
+    begun: usize,
+}
+
+impl Model for RowsWriter {
+    ghost use Rattle.link_base.specs.RowsWriter.{AreOpen, WrittenRows, written_rows};
+
+    ghost Value = { WrittenRows };
+
+    ghost view = { λ w. written_rows w.words w.cells.items w.ends.items w.begun };
+
+    ghost invariant = { λ w. AreOpen w.words w.cells.items w.ends.items w.begun };
+}
+
+impl RowsWriter {
+    /// No rows, with room for so many of so many fields, and of words of a usual length.
+    pub fn with_capacity(alloc: Global, rows: u32, fields: u8) -> Result<RowsWriter, NoMemory>
+        ensures { IfOk result (λ made. made ≡ no_rows) }
+    {
+        let values = rows as usize * fields as usize;
+        Ok(RowsWriter {
+            words: TextRegion::with_capacity(alloc, values, values * USUAL_BYTES)?,
+            cells: Vec::with_capacity(alloc, values)?,
+            ends: Vec::with_capacity(alloc, rows as usize)?,
+            begun: 0,
+        })
+    }
+
+    /// Appends a word to the open row, and keeps a copy of it.
+    pub fn add_word(&mut self, word: &[u8]) -> Result<(), NoMemory>
+        requires { sum_by length self.old.rows + length self.old.row < 2 ^ 32 }
+        ensures { OnOk result (self.new ≡ with_value self.old (value.Word word.now)) }
+    {
+        self.cells.reserve(1)?;
+        let cell = word_cell(&mut self.words, word)?;
+        self.cells.push_reserved(cell);
+        Ok(())
+    }
+
+    /// Appends a day to the open row.
+    pub fn add_day(&mut self, day: i32) -> Result<(), NoMemory>
+        ensures { OnOk result (self.new ≡ with_value self.old (value.Day day)) }
+    {
+        self.cells.push(Cell::Day(day))?;
+        Ok(())
+    }
+
+    /// Appends a missing value to the open row.
+    pub fn add_absent(&mut self) -> Result<(), NoMemory>
+        ensures { OnOk result (self.new ≡ with_value self.old value.Absent) }
+    {
+        self.cells.push(Cell::Absent)?;
+        Ok(())
+    }
+
+    /// Makes a row of the values of the open row, and opens the next one.
+    pub fn close(&mut self) -> Result<(), NoMemory>
+        ensures { OnOk result (self.new ≡ with_row self.old) }
+    {
+        let end = self.cells.len();
+        self.ends.push(end)?;
+        self.begun = end;
+        Ok(())
+    }
+
+    /// The rows. None is open.
+    pub fn finish(self) -> StdRows
+        requires { self.row ≡ [] }
+        ensures { result ≡ self.rows }
+    {
+        StdRows::of(self.words, self.cells, self.ends)
+    }
+}
