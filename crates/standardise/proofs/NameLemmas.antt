@@ -1,8 +1,6 @@
 -- The standard value of a name or of a place, by what was found on the way to it.
-use Rattle.std.proofs.Common.{◌≡◌, ◌∷◌, ◌∙◌, ℕ, Bool, true, false, List, [], Result, if◌then◌else◌, ap, refl, subst, sym, encode_utf8_all}
-use Rattle.std.specs.Prelude.{IfOk}
+use Rattle.std.proofs.Common.{◌≡◌, ◌∷◌, ◌∙◌, ℕ, Bool, true, false, List, [], if◌then◌else◌, ap, refl, sym, encode_utf8_all}
 use Rattle.std.specs.Str.{trim}
-use Rattle.link_base.specs.declared.standard.Value.{Value}
 use Rattle.link_base.specs.declared.standard.Value.TheVariants as value
 use Rattle.standardise.specs.Names.{characters_of, name_value, place_value, word_or_absent, words_of_text}
 use Rattle.link_base.specs.Texts.{stands_among}
@@ -22,19 +20,17 @@ pub cleaned_words : (text cleaned : List ℕ) → cleaned ≡ encode_utf8_all (c
 cleaned_words text cleaned is = ap words is ∙ encoded_words (characters_of (trim text))
 
 -- any other text
-pub name_of_words : {E : Type 0} (t : NameView) (text : List ℕ) (ws : List (List ℕ)) (missing : Bool) (result : Result Value E) → missing ≡ stands_among t.marks (trim text) → missing ≡ false
-    → ws ≡ without_titles t.titles t.suffixes (words_of_text (trim text)) → IfOk result (λ v. v ≡ word_or_absent t.words ws) → IfOk result (λ v. v ≡ name_value t text)
-name_of_words t text ws missing result is so kept told =
+pub name_of_words : (t : NameView) (text : List ℕ) (ws : List (List ℕ)) (missing : Bool) → missing ≡ stands_among t.marks (trim text) → missing ≡ false
+    → ws ≡ without_titles t.titles t.suffixes (words_of_text (trim text)) → word_or_absent t.words ws ≡ name_value t text
+name_of_words t text ws missing is so kept =
     let all = word_or_absent t.words (without_titles t.titles t.suffixes (words_of_text (trim text))) in
-    let value : word_or_absent t.words ws ≡ name_value t text = ap (word_or_absent t.words) kept ∙ ap (λ b. if b then value.Absent else all) (sym so ∙ is) in
-    subst (λ x. IfOk result (λ v. v ≡ x)) value told
+    ap (word_or_absent t.words) kept ∙ ap (λ b. if b then value.Absent else all) (sym so ∙ is)
 
-pub place_of_words : {E : Type 0} (t : PlaceView) (text : List ℕ) (ws : List (List ℕ)) (missing : Bool) (result : Result Value E) → missing ≡ stands_among t.marks (trim text) → missing ≡ false
-    → ws ≡ words_of_text (trim text) → IfOk result (λ v. v ≡ word_or_absent t.words ws) → IfOk result (λ v. v ≡ place_value t text)
-place_of_words t text ws missing result is so kept told =
+pub place_of_words : (t : PlaceView) (text : List ℕ) (ws : List (List ℕ)) (missing : Bool) → missing ≡ stands_among t.marks (trim text) → missing ≡ false
+    → ws ≡ words_of_text (trim text) → word_or_absent t.words ws ≡ place_value t text
+place_of_words t text ws missing is so kept =
     let all = word_or_absent t.words (words_of_text (trim text)) in
-    let value : word_or_absent t.words ws ≡ place_value t text = ap (word_or_absent t.words) kept ∙ ap (λ b. if b then value.Absent else all) (sym so ∙ is) in
-    subst (λ x. IfOk result (λ v. v ≡ x)) value told
+    ap (word_or_absent t.words) kept ∙ ap (λ b. if b then value.Absent else all) (sym so ∙ is)
 
 -- a text that is one word keeps it
 pub one_word_kept : (titles suffixes : List (List ℕ)) (cleaned : List ℕ) (all : List (List ℕ)) → words cleaned ≡ cleaned ∷ [] → words cleaned ≡ all → words cleaned ≡ without_titles titles suffixes all

@@ -1,5 +1,5 @@
 // The characters of a name, cleaned.
-ghost use Rattle.std.specs.Prelude.{◌≡◌, ◌↔◌, ◌<◌, ◌≤◌, ◌++◌, ◌∷◌, [], IsTrue, OnOk, IfOk, IfSome, chars, encode_utf8_all, length};
+ghost use Rattle.std.specs.Prelude.{◌≡◌, ◌++◌, ◌∷◌, [], IsTrue, OnOk, IfOk, IfSome, chars, encode_utf8_all};
 ghost use Rattle.std.specs.List.{flat_map};
 ghost use Rattle.std.specs.Option.{option_to_list};
 ghost use Rattle.std.specs.Str.{IsAscii, IsUtf8};
@@ -8,10 +8,9 @@ ghost use Rattle.unicode_normalization.specs.Forms.{nfd};
 ghost use Rattle.standardise.specs.Cleaning.{ascii_cleaned, cleaned_char, in_apostrophes, in_capitals, is_combining, letter_of, spaced, stays_in_words, with_spaces, without_apostrophes};
 ghost use Rattle.standardise.specs.Names.{characters_of};
 ghost use Rattle.standardise.specs.Words.{words};
-ghost use Rattle.link_base.specs.declared.text.TheConstants.{MOST_SHORT};
 
-use crate::words::is_one_word;
-use link_base::{MOST_SHORT, NoMemory, Text};
+use crate::words::{is_one_word, put};
+use link_base::NoMemory;
 use std::alloc::Global;
 use ucd_category::{GeneralCategory, GeneralCategoryGroup};
 use unicode_normalization::slice::extend_nfd;
@@ -132,100 +131,50 @@ fn cleaned_ascii(byte: u8) -> Option<u8>
     }
 }
 
-/// A cleaned text. It is one word where `is_word` says so, with nothing beside it.
-#[derive(Drop)]
-pub(crate) struct Cleaned {
-    pub(crate) text: Text,
-    pub(crate) is_word: bool,
-}
-
-// A short ASCII text after the five steps, byte by byte, in no memory of its own. `None` for any other.
-fn clean_short(text: &[u8]) -> Option<Cleaned>
-    ensures ascii { IfSome result (λ v. IsAscii text.now) }
-    ensures text { IfSome result (λ v. v.text ≡ flat_map (λ c. option_to_list (ascii_cleaned c)) text.now) }
-    ensures word { IfSome result (λ v. IsTrue v.is_word → words v.text ≡ v.text ∷ []) }
+// Puts an ASCII text after the five steps in place of what stood in `word`, byte by byte, and says whether it is one word.
+// `None` for any other text.
+fn clean_ascii(text: &[u8], word: &mut Vec<u8>) -> Result<Option<bool>, NoMemory>
+    ensures ascii { IfOk result (λ told. IfSome told (λ is_word. IsAscii text.now)) }
+    ensures text { IfOk result (λ told. IfSome told (λ is_word. word.new.items ≡ flat_map (λ c. option_to_list (ascii_cleaned c)) text.now)) }
+    ensures word { IfOk result (λ told. IfSome told (λ is_word. IsTrue is_word → words word.new.items ≡ word.new.items ∷ [])) }
 {
-    if text.len() > MOST_SHORT {
-        return None;
-    }
-    let mut room = [0; MOST_SHORT];
-    let mut count = 0;
+    word.clear();
+    word.reserve(text.len())?;
     let mut spaced = false;
     for byte in text {
         if *byte >= 128 {
-            return None;
+            return Ok(None);
         }
         if let Some(cleaned) = cleaned_ascii(*byte) {
-            room[count] = cleaned;
-            count += 1;
+            word.push_reserved(cleaned);
             spaced |= cleaned == b' ';
         }
     }
-    let text = Text::in_room(room, count);
-    let is_word = count > 0 && !spaced;
-    Some(Cleaned { text, is_word })
+    let is_word = !word.is_empty() && !spaced;
+    Ok(Some(is_word))
 }
 
-// The same of any ASCII text. There is room for as many bytes as it has.
-fn clean_ascii(alloc: Global, text: &[u8]) -> Result<Vec<u8>, NoMemory>
-    ensures { IfOk result (λ v. v.items ≡ flat_map (λ c. option_to_list (ascii_cleaned c)) text.now) }
+// The same of a text that is not of ASCII alone.
+fn clean_other(alloc: Global, text: &str, word: &mut Vec<u8>) -> Result<bool, NoMemory>
+    ensures text { OnOk result (word.new.items ≡ encode_utf8_all (characters_of text.now)) }
+    ensures utf8 { OnOk result (IsUtf8 word.new.items) }
+    ensures word { IfOk result (λ is_word. IsTrue is_word → words word.new.items ≡ word.new.items ∷ []) }
 {
-    let mut out = Vec::with_capacity(alloc, text.len())?;
-    for byte in text {
-        if let Some(cleaned) = cleaned_ascii(*byte) {
-            out.push_reserved(cleaned);
-        }
-    }
-    Ok(out)
-}
-
-// Whether a text is ASCII.
-fn is_plain(text: &[u8]) -> bool
-    ensures { IsTrue result ↔ IsAscii text.now }
-{
-    for byte in text {
-        if *byte >= 128 {
-            return false;
-        }
-    }
-    true
-}
-
-// The text after the canonical decomposition and the five steps behind it. An ASCII text has none of
-// what the decomposition and the general categories decide.
-fn clean_text(alloc: Global, text: &str) -> Result<Text, NoMemory>
-    ensures text { IfOk result (λ v. v ≡ encode_utf8_all (characters_of text.now)) }
-    ensures utf8 { IfOk result (λ v. IsUtf8 v) }
-{
-    let bytes = text.as_bytes();
-    if is_plain(bytes) {
-        let cleaned = clean_ascii(alloc, bytes)?;
-        return Ok(Text::of(cleaned));
-    }
     let cleaned = clean_chars(alloc, text)?;
-    Ok(Text::of(cleaned.into_bytes()))
+    put(word, cleaned.as_bytes())?;
+    Ok(is_one_word(word))
 }
 
-// The same, and whether it is one word.
-fn clean_any(alloc: Global, text: &str) -> Result<Cleaned, NoMemory>
-    ensures text { IfOk result (λ v. v.text ≡ encode_utf8_all (characters_of text.now)) }
-    ensures utf8 { IfOk result (λ v. IsUtf8 v.text) }
-    ensures word { IfOk result (λ v. IsTrue v.is_word → words v.text ≡ v.text ∷ []) }
+/// Puts the text after the canonical decomposition and the five steps behind it in place of what stood in `word`, and says
+/// whether it is one word, with nothing beside it. An ASCII text, which has none of what the decomposition and the general
+/// categories decide, is gone over once.
+pub(crate) fn clean(alloc: Global, text: &str, word: &mut Vec<u8>) -> Result<bool, NoMemory>
+    ensures text { OnOk result (word.new.items ≡ encode_utf8_all (characters_of text.now)) }
+    ensures utf8 { OnOk result (IsUtf8 word.new.items) }
+    ensures word { IfOk result (λ is_word. IsTrue is_word → words word.new.items ≡ word.new.items ∷ []) }
 {
-    let text = clean_text(alloc, text)?;
-    let is_word = is_one_word(text.bytes());
-    Ok(Cleaned { text, is_word })
-}
-
-/// The text after the canonical decomposition and the five steps behind it, and whether it is one word.
-/// Most names are short ASCII texts, which are gone over once.
-pub(crate) fn clean(alloc: Global, text: &str) -> Result<Cleaned, NoMemory>
-    ensures text { IfOk result (λ v. v.text ≡ encode_utf8_all (characters_of text.now)) }
-    ensures utf8 { IfOk result (λ v. IsUtf8 v.text) }
-    ensures word { IfOk result (λ v. IsTrue v.is_word → words v.text ≡ v.text ∷ []) }
-{
-    match clean_short(text.as_bytes()) {
-        Some(cleaned) => Ok(cleaned),
-        None => clean_any(alloc, text),
+    match clean_ascii(text.as_bytes(), word)? {
+        Some(is_word) => Ok(is_word),
+        None => clean_other(alloc, text, word),
     }
 }

@@ -1,10 +1,11 @@
 // The words of a text: the longest runs without a space.
-ghost use Rattle.std.specs.Prelude.{◌≡◌, ◌+◌, ◌++◌, ◌∷◌, [], ◌<◌, take, drop, length, IfSome, MatchOption, IsTrue, ◌↔◌, ◌≢◌};
+ghost use Rattle.std.specs.Prelude.{◌≡◌, ◌+◌, ◌++◌, ◌∷◌, [], ◌<◌, take, drop, length, IfSome, OnOk, MatchOption, IsTrue, ◌↔◌, ◌≢◌};
 ghost use Rattle.std.specs.Str.{IsUtf8};
 ghost use Rattle.link_base.specs.Texts.{stands_among};
 ghost use Rattle.standardise.specs.Words.{run_words, without_first, without_last, words};
 
 use crate::word_set::WordSet;
+use link_base::NoMemory;
 
 // The place of the first space.
 fn first_space(text: &[u8]) -> Option<usize>
@@ -43,6 +44,15 @@ fn parted(text: &[u8], at: usize) -> (&[u8], &[u8])
     ensures back { result.1.now ≡ drop (at + 1) text.now }
 {
     (&text[..at], &text[at + 1..])
+}
+
+/// Puts a text in place of what stood in `word`.
+pub(crate) fn put(word: &mut Vec<u8>, text: &[u8]) -> Result<(), NoMemory>
+    ensures { OnOk result (word.new.items ≡ text.now) }
+{
+    word.clear();
+    word.extend_from_slice(text)?;
+    Ok(())
 }
 
 /// Whether a text is one word, with nothing beside it.
