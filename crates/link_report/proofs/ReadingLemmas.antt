@@ -1,5 +1,5 @@
 -- The rows of a text under its header.
-use Rattle.std.proofs.Common.{◌≡◌, ◌≢◌, ◌<◌, ◌≤◌, ◌+◌, ◌^◌, ◌==◌, ◌++◌, ◌∷◌, ◌∙◌, ℕ, ℤ, zero, suc, Bool, true, false, List, [], All, length, drop, get_or, if◌then◌else◌, Option, Some, None, Ok, map, sym, ap, add-one, arith, refl}
+use Rattle.std.proofs.Common.{◌≡◌, ◌≢◌, ◌<◌, ◌≤◌, ◌+◌, ◌==◌, ◌++◌, ◌∷◌, ◌∙◌, ℕ, ℤ, zero, suc, Bool, true, false, List, [], All, length, drop, get_or, if◌then◌else◌, Option, Some, None, Ok, map, sym, ap, add-one, arith, refl}
 use Rattle.std.specs.Prelude.{◌&&◌, bytes_eq, codes, filter, zip}
 use Rattle.std.specs.List.{flat_map}
 use Rattle.std.proofs.Math.Seq.{drop-cons}
@@ -23,7 +23,7 @@ use Rattle.link_base.specs.declared.rule.Candidate.{Candidate}
 use Rattle.link_base.specs.declared.rule.RuleCell.{RuleCell}
 use Rattle.link_report.specs.LinksText.{link_fields, links_header, text_of_links}
 use Rattle.link_report.specs.PricesText.{is_priced, price_fields, price_rows, prices_header, text_of_prices}
-use Rattle.link_report.specs.Reading.{first_misfit, past_first, rows_of_prices, rows_under, same_row, side_rows}
+use Rattle.link_report.specs.Reading.{first_misfit, rows_of_prices, rows_under, same_row, side_rows}
 use Rattle.link_report.specs.RuleText.{cell_fields, rule_header, text_of_rule}
 
 abbrev Row : Type 0
@@ -52,10 +52,6 @@ strip_few (a ∷ b ∷ c ∷ rest) = omega (arith, stripped a b c rest (is_bom a
 
 pub records_few : (bytes : List ℕ) → length (records_in 44 bytes) ≤ length bytes + 1
 records_few bytes = omega (arith, strip_few bytes, from_few (config_of 44) (length (strip_bom bytes) + 1) st.StartRecord (strip_bom bytes))
-
-pub few_past : (records : List Row) → length records < 2 ^ 32 → length (past_first records) + 1 < 2 ^ 32
-few_past [] h = omega arith
-few_past (first ∷ rows) h = omega (arith, h)
 
 -- rows have the same fields exactly where the test says so
 pub row_same : (x y : Row) → same_row x y ≡ true → x ≡ y

@@ -1,6 +1,6 @@
 -- The rows of a written file, read again: what `read_rule`, `read_links` and `read_prices` give (clause `rows` of each). The law
 -- `texts_read_again` says that they give the rows of the texts that are written.
-use Rattle.std.specs.Prelude.{◌==◌, ◌+◌, ◌<◌, ◌^◌, ℕ, Bool, List, [], ◌∷◌, ◌++◌, ℤ, bytes_eq, codes, filter, if◌then◌else◌, length, map, Option, Some, None, Result, Ok, Err, zip, ⊤}
+use Rattle.std.specs.Prelude.{◌==◌, ◌+◌, ◌<◌, ◌^◌, ℕ, Bool, List, [], ◌∷◌, ◌++◌, ℤ, bytes_eq, codes, filter, if◌then◌else◌, IfSome, length, map, Option, Some, None, Result, Ok, Err, zip, ⊤}
 use Rattle.std.specs.Cmp.Lexicographic.{pointwise}
 use Rattle.link_base.specs.Standard.{Record}
 use Rattle.link_report.specs.PricesText.{is_priced, price_fields}
@@ -27,14 +27,10 @@ abbrev pub rows_under : List (List ℕ) → List (List (List ℕ)) → Result (L
 rows_under header [] = Err 0
 rows_under header (first ∷ rows) = if same_row first header then unless_at rows (first_misfit (length header) 1 rows) else Err 0
 
--- machinery of the search: the first record that is not of the form under a header, by its number, and the records after the first
-abbrev pub misfit_under : List (List ℕ) → List (List (List ℕ)) → Option ℕ
-misfit_under header [] = Some 0
-misfit_under header (first ∷ rows) = if same_row first header then first_misfit (length header) 1 rows else Some 0
-
-abbrev pub past_first : List (List (List ℕ)) → List (List (List ℕ))
-past_first [] = []
-past_first (first ∷ rows) = rows
+-- the rows after a header, whatever their form, where the first record is that header (`rule_begun`, `links_begun` and `prices_begun`)
+abbrev pub rows_begun : List (List ℕ) → List (List (List ℕ)) → Option (List (List (List ℕ)))
+rows_begun header [] = None
+rows_begun header (first ∷ rows) = if same_row first header then Some rows else None
 
 -- what was read
 abbrev pub shown_rows : ReadRows → Result (List (List (List ℕ))) ℕ
@@ -45,6 +41,9 @@ shown_rows (Bad row) = Err row
 abbrev pub HasFewRows : ReadRows → Type 0
 HasFewRows (Rows rows) = length rows + 1 < 2 ^ 32
 HasFewRows (Bad row) = ⊤
+
+abbrev pub HaveFewBegun : Option (List (List (List ℕ))) → Type 0
+HaveFewBegun begun = IfSome begun (λ rows. length rows + 1 < 2 ^ 32)
 
 -- the rows of the prices of a side, and of both sides
 abbrev pub side_rows : List ℕ → List ℤ → List Record → List (List (List ℕ))

@@ -24,7 +24,8 @@ pub use open::{PairRow, open_text};
 pub use pairs::{PairsWriter, pairs_text};
 pub use prices::prices_text;
 pub use reading::{
-    ReadRows, field_of, has_fields, read_links, read_prices, read_rule, texts_read_again,
+    ReadRows, field_of, has_fields, links_begun, prices_begun, read_links, read_prices, read_rule,
+    rule_begun, texts_read_again,
 };
 pub use report::{Dropped, Report, report_text};
 pub use rule::{letters_of, rule_text};

@@ -7,7 +7,7 @@ ghost use Rattle.link_base.specs.declared.rule.Candidate.{Candidate as Link};
 ghost use Rattle.link_base.specs.declared.rule.RuleCell.{RuleCell as Cell};
 ghost use Rattle.link_report.specs.LinksText.{link_fields, links_header, text_of_links};
 ghost use Rattle.link_report.specs.PricesText.{prices_header, text_of_prices};
-ghost use Rattle.link_report.specs.Reading.{HasFewRows, first_misfit, misfit_under, past_first, rows_of_prices, rows_under, same_row, shown_rows};
+ghost use Rattle.link_report.specs.Reading.{HasFewRows, HaveFewBegun, first_misfit, rows_begun, rows_of_prices, rows_under, same_row, shown_rows};
 ghost use Rattle.link_report.specs.RuleText.{cell_fields, rule_header, text_of_rule};
 
 use csv::ByteRecord;
@@ -15,6 +15,21 @@ use csv_rows::rows_read_again;
 use file_reader::Records;
 use link_base::NoMemory;
 use std::alloc::Global;
+
+const RULE_HEADER: [&[u8]; 8] = [
+    b"pattern",
+    b"outcomes",
+    b"m",
+    b"u",
+    b"weight",
+    b"link",
+    b"possible",
+    b"nonlink",
+];
+
+const LINKS_HEADER: [&[u8]; 5] = [b"id_a", b"id_b", b"weight", b"value", b"by"];
+
+const PRICES_HEADER: [&[u8]; 3] = [b"side", b"id", b"price"];
 
 /// The rows of a written file.
 #[derive(Drop)]
@@ -66,36 +81,25 @@ fn misfit_in(alloc: Global, rows: &mut Records<'_>, width: usize) -> Result<Opti
     Ok(None)
 }
 
-// The first record that is not of the form under a header, by its number.
-fn misfit_under(
+// The rows after a header, where the first record is that header.
+fn rows_begun<'a>(
     alloc: Global,
-    records: &mut Records<'_>,
+    bytes: &'a [u8],
     header: &[&[u8]],
-) -> Result<Option<u32>, NoMemory>
-    requires few { length records.old < 2 ^ 32 }
-    ensures { IfOk result (λ misfit. misfit ≡ misfit_under (map (λ name. name.now) header.now) records.old) }
+) -> Result<Option<Records<'a>>, NoMemory>
+    requires { length bytes.now + 1 < 2 ^ 32 }
+    ensures rows { IfOk result (λ begun. begun ≡ rows_begun (map (λ name. name.now) header.now) (records_in 44 bytes.now)) }
+    ensures few { IfOk result HaveFewBegun }
 {
     let mut row = ByteRecord::new(alloc);
+    let mut records = Records::new(alloc, bytes, b',');
     if !records.next(&mut row)? {
-        return Ok(Some(0));
+        return Ok(None);
     }
     if !has_fields(&row, header) {
-        return Ok(Some(0));
+        return Ok(None);
     }
-    misfit_in(alloc, records, header.len())
-}
-
-// The rows after the first record.
-fn rows_past_first(alloc: Global, bytes: &[u8]) -> Result<Records<'_>, NoMemory>
-    requires { 1 ≤ length (records_in 44 bytes.now) }
-    ensures { IfOk result (λ rows. rows ≡ past_first (records_in 44 bytes.now)) }
-{
-    let mut row = ByteRecord::new(alloc);
-    let mut rows = Records::new(alloc, bytes, b',');
-    if !rows.next(&mut row)? {
-        unreachable!();
-    }
-    Ok(rows)
+    Ok(Some(records))
 }
 
 // The rows under a header. They are read twice, once for their form and then one by one, so that none is held.
@@ -104,13 +108,17 @@ fn read_rows<'a>(alloc: Global, bytes: &'a [u8], header: &[&[u8]]) -> Result<Rea
     ensures rows { IfOk result (λ read. shown_rows read ≡ rows_under (map (λ name. name.now) header.now) (records_in 44 bytes.now)) }
     ensures few { IfOk result HasFewRows }
 {
-    let mut tested = Records::new(alloc, bytes, b',');
-    let misfit = misfit_under(alloc, &mut tested, header);
+    let Some(mut tested) = rows_begun(alloc, bytes, header)? else {
+        return Ok(ReadRows::Bad { row: 0 });
+    };
+    let misfit = misfit_in(alloc, &mut tested, header.len());
     drop(tested);
     if let Some(row) = misfit? {
         return Ok(ReadRows::Bad { row });
     }
-    let rows = rows_past_first(alloc, bytes)?;
+    let Some(rows) = rows_begun(alloc, bytes, header)? else {
+        unreachable!();
+    };
     Ok(ReadRows::Rows(rows))
 }
 
@@ -120,20 +128,17 @@ pub fn read_rule(alloc: Global, bytes: &[u8]) -> Result<ReadRows<'_>, NoMemory>
     ensures rows { IfOk result (λ read. shown_rows read ≡ rows_under rule_header (records_in 44 bytes.now)) }
     ensures few { IfOk result HasFewRows }
 {
-    read_rows(
-        alloc,
-        bytes,
-        &[
-            b"pattern",
-            b"outcomes",
-            b"m",
-            b"u",
-            b"weight",
-            b"link",
-            b"possible",
-            b"nonlink",
-        ],
-    )
+    read_rows(alloc, bytes, &RULE_HEADER)
+}
+
+/// The rows of `rule.csv`, whatever their form, to be taken one by one: those of a text of fewer than 4,294,967,295 bytes after the
+/// header of `rule_text`, or none where another record is the first.
+pub fn rule_begun(alloc: Global, bytes: &[u8]) -> Result<Option<Records<'_>>, NoMemory>
+    requires { length bytes.now + 1 < 2 ^ 32 }
+    ensures rows { IfOk result (λ begun. begun ≡ rows_begun rule_header (records_in 44 bytes.now)) }
+    ensures few { IfOk result HaveFewBegun }
+{
+    rows_begun(alloc, bytes, &RULE_HEADER)
 }
 
 /// The rows of `links.csv`: those of a text of fewer than 4,294,967,295 bytes under the header of `links_text`.
@@ -142,11 +147,17 @@ pub fn read_links(alloc: Global, bytes: &[u8]) -> Result<ReadRows<'_>, NoMemory>
     ensures rows { IfOk result (λ read. shown_rows read ≡ rows_under links_header (records_in 44 bytes.now)) }
     ensures few { IfOk result HasFewRows }
 {
-    read_rows(
-        alloc,
-        bytes,
-        &[b"id_a", b"id_b", b"weight", b"value", b"by"],
-    )
+    read_rows(alloc, bytes, &LINKS_HEADER)
+}
+
+/// The rows of `links.csv`, whatever their form, to be taken one by one: those of a text of fewer than 4,294,967,295 bytes after the
+/// header of `links_text`, or none where another record is the first.
+pub fn links_begun(alloc: Global, bytes: &[u8]) -> Result<Option<Records<'_>>, NoMemory>
+    requires { length bytes.now + 1 < 2 ^ 32 }
+    ensures rows { IfOk result (λ begun. begun ≡ rows_begun links_header (records_in 44 bytes.now)) }
+    ensures few { IfOk result HaveFewBegun }
+{
+    rows_begun(alloc, bytes, &LINKS_HEADER)
 }
 
 /// The rows of `prices.csv`: those of a text of fewer than 4,294,967,295 bytes under the header of `prices_text`.
@@ -155,7 +166,17 @@ pub fn read_prices(alloc: Global, bytes: &[u8]) -> Result<ReadRows<'_>, NoMemory
     ensures rows { IfOk result (λ read. shown_rows read ≡ rows_under prices_header (records_in 44 bytes.now)) }
     ensures few { IfOk result HasFewRows }
 {
-    read_rows(alloc, bytes, &[b"side", b"id", b"price"])
+    read_rows(alloc, bytes, &PRICES_HEADER)
+}
+
+/// The rows of `prices.csv`, whatever their form, to be taken one by one: those of a text of fewer than 4,294,967,295 bytes after the
+/// header of `prices_text`, or none where another record is the first.
+pub fn prices_begun(alloc: Global, bytes: &[u8]) -> Result<Option<Records<'_>>, NoMemory>
+    requires { length bytes.now + 1 < 2 ^ 32 }
+    ensures rows { IfOk result (λ begun. begun ≡ rows_begun prices_header (records_in 44 bytes.now)) }
+    ensures few { IfOk result HaveFewBegun }
+{
+    rows_begun(alloc, bytes, &PRICES_HEADER)
 }
 
 /// Law: the texts of a rule, of links and of prices read as their rows.
