@@ -1,4 +1,5 @@
 pub mod ApartLemmas
+pub mod FormLemmas
 pub mod LinkLemmas
 pub mod ListLemmas
 pub mod PriceLemmas

@@ -1,6 +1,6 @@
 -- The candidates of the rows of written links.
 use Rattle.std.proofs.Common.{◌≡◌, ◌≢◌, ◌<◌, ◌+◌, ◌-◌, ◌⊎◌, ◌∷◌, ◌++◌, ◌∙◌, ℕ, zero, suc, Bool, true, false, List, [], All, length, get_or, if◌then◌else◌, nat_lt, Option, Some, None, Err, inl, inr, refl, sym, ap, subst, arith}
-use Rattle.std.specs.Prelude.{AllPairs, Contains, find, MatchOption}
+use Rattle.std.specs.Prelude.{◌&&◌, AllPairs, Contains, find, MatchOption}
 use Rattle.std.specs.List.{list_all, position_or_len, slice_get}
 use Rattle.std.specs.Str.{bytes_eq}
 use Rattle.std.proofs.lemmas.Bool.{cases_Bool, true≢false}
@@ -21,7 +21,7 @@ use Rattle.link_report.proofs.ReadingLemmas.{row_same, same_itself}
 use Rattle.link_report.specs.LinksText.{link_fields}
 use Rattle.link_report.specs.Reading.{same_row}
 use Rattle.price_check.specs.Verdict.{IsCandidate, IsCandidateAt}
-use Rattle.written_check.specs.LinkRows.{after_all, candidate_in, HasIds, is_before, IsPlaceOf, links_in, taken_more}
+use Rattle.written_check.specs.LinkRows.{after_all, candidate_in, HasIds, is_before, IsPlaceOf, IsPlaceWithIds, links_in, taken_more}
 use Rattle.written_check.specs.declared.refutation.Refutation.TheVariants as refutation
 
 abbrev Row : Type 0
@@ -217,11 +217,29 @@ last_decides taken d c rising is = by_length (length taken) refl
     ]
     by_length (suc last) e = by_test last (omega arith) (is_before d c) refl
 
+has_both : (x y v w : List ℕ) → (bytes_eq x y && bytes_eq v w) ≡ true → (x ≡ y) × (v ≡ w)
+has_both x y v w e = by_tests (bytes_eq x y) (bytes_eq v w) refl refl e
+  where
+    by_tests : (s t : Bool) → bytes_eq x y ≡ s → bytes_eq v w ≡ t → (s && t) ≡ true → (x ≡ y) × (v ≡ w)
+    by_tests true true is also e = ((bytes_eq-Decides x y).0 is, (bytes_eq-Decides v w).0 also)
+    by_tests true false is also e = absurd (true≢false (sym e))
+    by_tests false t is also e = absurd (true≢false (sym e))
+
 module _ (cs : List Candidate) (a b : List Record) (row : Row) (within : All (IsWithin (length a) (length b)) cs) (rising : AllPairs IsBefore cs) (distinct_a : HaveDistinctIds a) (distinct_b : HaveDistinctIds b) where
   pub place_is : (of_a of_b : ℕ) (place : Option ℕ) → Some of_a ≡ position_of_id (get_or row 0 []) a → Some of_b ≡ position_of_id (get_or row 1 []) b
       → MatchOption place (IsCandidate cs (record { a = of_a; b = of_b }) → ⊥) (λ k. IsCandidateAt cs (record { a = of_a; b = of_b }) k) → IsPlaceOf cs a b row place
   place_is of_a of_b None is_a is_b h = none_there cs a b row within distinct_a distinct_b of_a of_b is_a is_b h
   place_is of_a of_b (Some k) is_a is_b h = (h.0, only_there cs a b row within distinct_a distinct_b of_a of_b is_a is_b k rising h)
+
+  -- a candidate with the ids of a row is the only one
+  pub near_is : (k : ℕ) → IsPlaceWithIds cs a b row k → IsPlaceOf cs a b row (Some k)
+  near_is k at =
+      let c = get_or cs k no_candidate in
+      let inside = within k no_candidate at.0 in
+      let ids = has_both (id_at a c.a) (get_or row 0 []) (id_at b c.b) (get_or row 1 []) at.1 in
+      place_is c.a c.b (Some k) (sym (known_again a c.a distinct_a inside.0) ∙ ap (λ (t : List ℕ). position_of_id t a) ids.0)
+      (sym (known_again b c.b distinct_b inside.1) ∙ ap (λ (t : List ℕ). position_of_id t b) ids.1)
+      (at.0, λ d. (ap (λ (x : Candidate). x.a) (get_or_default cs k d no_candidate at.0), ap (λ (x : Candidate). x.b) (get_or_default cs k d no_candidate at.0)))
 
 -- a candidate that is taken stands after those that were taken
 module _ (taken : List Candidate) where

@@ -1,6 +1,6 @@
 -- What refutes written links: the first row that is not that of a candidate after those before it (`verify_links`, its lone clause), and
 -- then the first link with a record of an earlier one (`verify_apart`, its lone clause).
-use Rattle.std.specs.Prelude.{◌≡◌, ◌==◌, ◌&&◌, ◌||◌, ◌+◌, ◌<◌, ℕ, All, Bool, List, [], ◌∷◌, ◌++◌, find, if◌then◌else◌, length, MatchOption, nat_lt, Option, Some, None, Result, Ok, Err, slice_index_or}
+use Rattle.std.specs.Prelude.{◌≡◌, ◌==◌, ◌&&◌, ◌||◌, ◌+◌, ◌<◌, ℕ, All, Bool, true, List, [], ◌∷◌, ◌++◌, bytes_eq, find, if◌then◌else◌, length, MatchOption, nat_lt, Option, Some, None, Result, Ok, Err, slice_index_or}
 use Rattle.std.specs.List.{list_all, list_any}
 use Rattle.price_check.specs.Assignment.{no_candidate}
 use Rattle.link_base.specs.Answers.{and_then}
@@ -53,12 +53,24 @@ first_reused before (c ∷ links) = if list_any (shares_record c) before then So
 abbrev pub apart_verified : List Candidate → Result (List Candidate) Refutation
 apart_verified links = unless_row refutation.Reused links (first_reused [] links)
 
--- machinery: a candidate has the ids of a row
+-- machinery: a candidate has the ids of a row, and the test of it
 abbrev pub HasIds : List Record → List Record → List (List ℕ) → Candidate → Type 0
 HasIds a b row c = (id_at a c.a ≡ slice_index_or row 0 []) × (id_at b c.b ≡ slice_index_or row 1 [])
+
+abbrev pub has_ids : List Record → List Record → List (List ℕ) → Candidate → Bool
+has_ids a b row c = bytes_eq (id_at a c.a) (slice_index_or row 0 []) && bytes_eq (id_at b c.b) (slice_index_or row 1 [])
+
+-- machinery: a candidate with the ids of a row stands here
+abbrev pub IsPlaceWithIds : List Candidate → List Record → List Record → List (List ℕ) → ℕ → Type 0
+IsPlaceWithIds candidates a b row k = (k < length candidates) × (has_ids a b row (slice_index_or candidates k no_candidate) ≡ true)
 
 -- machinery: where the candidate with the ids of a row stands, if there is one, which is the only one
 abbrev pub IsPlaceOf : List Candidate → List Record → List Record → List (List ℕ) → Option ℕ → Type 0
 IsPlaceOf candidates a b row place = MatchOption place
     (All (λ (c : Candidate). HasIds a b row c → ⊥) candidates)
     (λ k. (k < length candidates) × All (λ (c : Candidate). HasIds a b row c → c ≡ slice_index_or candidates k no_candidate) candidates)
+
+-- machinery: the candidate at a place
+abbrev pub at_place : List Candidate → Option ℕ → Option Candidate
+at_place candidates None = None
+at_place candidates (Some k) = Some (slice_index_or candidates k no_candidate)

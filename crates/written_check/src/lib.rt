@@ -3,6 +3,7 @@
 
 mod laws;
 mod links;
+mod near;
 mod prices;
 mod refutation;
 mod rule;

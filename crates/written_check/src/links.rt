@@ -1,19 +1,20 @@
 // Written links, row by row.
-ghost use Rattle.std.specs.Prelude.{◌≡◌, ◌+◌, ◌<◌, ◌^◌, [], All, AllPairs, IfErr, length, map};
+ghost use Rattle.std.specs.Prelude.{◌≡◌, ◌+◌, ◌<◌, ◌^◌, [], All, AllPairs, IfErr, IfOk, IfSome, Ok, length, map};
 ghost use Rattle.std.specs.List.{list_all};
 ghost use Rattle.price_check.specs.Assignment.{IsBefore, IsWithin};
 ghost use Rattle.csv.specs.Records.{fields_of};
 ghost use Rattle.link_report.specs.LinksText.{link_fields};
 ghost use Rattle.link_report.specs.Reading.{same_row};
-ghost use Rattle.written_check.specs.LinkRows.{IsPlaceOf, after_all, candidate_in, is_before, links_in, links_verified};
+ghost use Rattle.written_check.specs.LinkRows.{IsPlaceOf, IsPlaceWithIds, after_all, at_place, candidate_in, has_ids, is_before, links_in, links_verified};
 ghost use Rattle.written_check.specs.Refuted.{IsOfRows, Verifies};
 
+use crate::near::end_of_near;
 use crate::refutation::Refutation;
 use csv::ByteRecord;
 use file_reader::Records;
 use itoa::Buffer;
 use link_base::{Candidate, NoMemory, PairAt, StdFile, distinct_ids};
-use link_report::{ReadRows, field_of, has_fields, read_links, source_of};
+use link_report::{ReadRows, field_of, has_fields, links_begun, read_links, source_of};
 use price_check::candidate_at;
 use std::alloc::Global;
 
@@ -34,36 +35,73 @@ fn is_row_of(row: &ByteRecord, c: Candidate, a: &StdFile, b: &StdFile) -> bool
     has_fields(row, &fields)
 }
 
-// The place of the candidate with the ids of a row.
-fn place_of(row: &ByteRecord, candidates: &[Candidate], a: &StdFile, b: &StdFile) -> Option<usize>
+// Whether a candidate has the ids of a row.
+fn has_ids_of(row: &ByteRecord, c: Candidate, a: &StdFile, b: &StdFile) -> bool
+    requires { IsWithin (length a.now) (length b.now) c }
+    ensures { result ≡ has_ids a.now b.now (fields_of row.now) c }
+{
+    a.id(c.a) == field_of(row, 0) && b.id(c.b) == field_of(row, 1)
+}
+
+// The place of a candidate with the ids of a row, where it is one of the few from a place on.
+fn place_near(
+    row: &ByteRecord,
+    candidates: &[Candidate],
+    from: usize,
+    a: &StdFile,
+    b: &StdFile,
+) -> Option<usize>
+    requires { All (IsWithin (length a.now) (length b.now)) candidates.now }
+    ensures { IfSome result (IsPlaceWithIds candidates.now a.now b.now (fields_of row.now)) }
+{
+    for place in from..end_of_near(from, candidates.len()) {
+        if has_ids_of(row, candidates[place], a, b) {
+            return Some(place);
+        }
+    }
+    None
+}
+
+// The place of the candidate with the ids of a row, which is likely to be one of those from a place on.
+fn place_of(
+    row: &ByteRecord,
+    candidates: &[Candidate],
+    from: usize,
+    a: &StdFile,
+    b: &StdFile,
+) -> Option<usize>
     requires rising { AllPairs IsBefore candidates.now }
     requires within { All (IsWithin (length a.now) (length b.now)) candidates.now }
     ensures { IsPlaceOf candidates.now a.now b.now (fields_of row.now) result }
 {
     distinct_ids(a);
     distinct_ids(b);
+    if let Some(place) = place_near(row, candidates, from, a, b) {
+        return Some(place);
+    }
     let of_a = a.find(field_of(row, 0))?;
     let of_b = b.find(field_of(row, 1))?;
     candidate_at(candidates, PairAt { a: of_a, b: of_b })
 }
 
-// The candidate whose row this is.
-fn candidate_of_row(
+// The place of the candidate whose row this is, which is likely to be one of those from a place on.
+fn place_of_row(
     row: &ByteRecord,
     candidates: &[Candidate],
+    from: usize,
     a: &StdFile,
     b: &StdFile,
-) -> Option<Candidate>
+) -> Option<usize>
     requires rising { AllPairs IsBefore candidates.now }
     requires within { All (IsWithin (length a.now) (length b.now)) candidates.now }
-    ensures { result ≡ candidate_in candidates.now a.now b.now (fields_of row.now) }
+    ensures candidate { at_place candidates.now result ≡ candidate_in candidates.now a.now b.now (fields_of row.now) }
+    ensures within { IfSome result (λ place. place < length candidates.now) }
 {
-    let Some(place) = place_of(row, candidates, a, b) else {
+    let Some(place) = place_of(row, candidates, from, a, b) else {
         return None;
     };
-    let c = candidates[place];
-    if is_row_of(row, c, a, b) {
-        Some(c)
+    if is_row_of(row, candidates[place], a, b) {
+        Some(place)
     } else {
         None
     }
@@ -87,26 +125,28 @@ fn stands_after(taken: &[Candidate], c: Candidate) -> bool
     }
 }
 
-// The candidate of a row that stands after those that were taken.
+// The place of the candidate of a row that stands after those that were taken.
 fn next_link(
     row: &ByteRecord,
     taken: &[Candidate],
     candidates: &[Candidate],
+    from: usize,
     a: &StdFile,
     b: &StdFile,
-) -> Option<Candidate>
+) -> Option<usize>
     requires taken { AllPairs IsBefore taken.now }
     requires rising { AllPairs IsBefore candidates.now }
     requires within { All (IsWithin (length a.now) (length b.now)) candidates.now }
-    ensures { result ≡ after_all taken.now (candidate_in candidates.now a.now b.now (fields_of row.now)) }
+    ensures candidate { at_place candidates.now result ≡ after_all taken.now (candidate_in candidates.now a.now b.now (fields_of row.now)) }
+    ensures within { IfSome result (λ place. place < length candidates.now) }
 {
-    match candidate_of_row(row, candidates, a, b) {
-        Some(c) if stands_after(taken, c) => Some(c),
+    match place_of_row(row, candidates, from, a, b) {
+        Some(place) if stands_after(taken, candidates[place]) => Some(place),
         _ => None,
     }
 }
 
-// The candidates of the rows that are left.
+// The candidates of the rows that are left. Links rise, so that the next is sought from the last on.
 fn links_of_rows(
     alloc: Global,
     rows: &mut Records<'_>,
@@ -122,21 +162,44 @@ fn links_of_rows(
 {
     let mut links = Vec::new(alloc);
     let mut row = ByteRecord::new(alloc);
+    let mut from = 0;
     'rows: while rows.next(&mut row)? {
-        match next_link(&row, &links, candidates, a, b) {
-            Some(c) => links.push(c)?,
-            None => {
-                return Err(Refutation::Link {
-                    row: links.len() as u32 + 1,
-                });
-            }
-        }
+        let Some(place) = next_link(&row, &links, candidates, from, a, b) else {
+            return Err(Refutation::Link {
+                row: links.len() as u32 + 1,
+            });
+        };
+        links.push(candidates[place])?;
+        from = place + 1;
     }
     Ok(links)
 }
 
-// Verifies the text of links, and gives them.
-pub(crate) fn verify_links(
+// The links of a text whose rows are all taken, in one pass.
+fn links_in_order(
+    alloc: Global,
+    text: &[u8],
+    candidates: &[Candidate],
+    a: &StdFile,
+    b: &StdFile,
+) -> Result<Option<Vec<Candidate>>, NoMemory>
+    requires few { length text.now + 1 < 2 ^ 32 }
+    requires rising { AllPairs IsBefore candidates.now }
+    requires within { All (IsWithin (length a.now) (length b.now)) candidates.now }
+    ensures { IfOk result (λ links. IfSome links (λ taken. links_verified candidates.now a.now b.now text.now ≡ Ok taken.items)) }
+{
+    let Some(mut rows) = links_begun(alloc, text)? else {
+        return Ok(None);
+    };
+    match links_of_rows(alloc, &mut rows, candidates, a, b) {
+        Ok(links) => Ok(Some(links)),
+        Err(Refutation::NoMemory) => Err(NoMemory),
+        Err(_) => Ok(None),
+    }
+}
+
+// The links of a text whose form is tested before its rows, as reasons go.
+fn links_by_form(
     alloc: Global,
     text: &[u8],
     candidates: &[Candidate],
@@ -153,4 +216,24 @@ pub(crate) fn verify_links(
         ReadRows::Rows(mut rows) => links_of_rows(alloc, &mut rows, candidates, a, b),
         ReadRows::Bad { row } => Err(Refutation::Link { row }),
     }
+}
+
+// Verifies the text of links, and gives them.
+pub(crate) fn verify_links(
+    alloc: Global,
+    text: &[u8],
+    candidates: &[Candidate],
+    a: &StdFile,
+    b: &StdFile,
+) -> Result<Vec<Candidate>, Refutation>
+    requires few { length text.now + 1 < 2 ^ 32 }
+    requires rising { AllPairs IsBefore candidates.now }
+    requires within { All (IsWithin (length a.now) (length b.now)) candidates.now }
+    ensures kind { IfErr result IsOfRows }
+    ensures answer { Verifies (λ links. links.items) (links_verified candidates.now a.now b.now text.now) result }
+{
+    if let Some(links) = links_in_order(alloc, text, candidates, a, b)? {
+        return Ok(links);
+    }
+    links_by_form(alloc, text, candidates, a, b)
 }

@@ -1,19 +1,24 @@
 // Written prices, row by row.
-ghost use Rattle.std.specs.Prelude.{◌≡◌, ◌+◌, ◌<◌, ◌^◌, IfErr, IfOk, MatchBool, None, Some, length, pos, replicate};
+ghost use Rattle.std.specs.Prelude.{◌≡◌, ◌+◌, ◌<◌, ◌^◌, IfErr, IfOk, IfSome, MatchBool, None, Ok, Some, length, pos, replicate};
 ghost use Rattle.csv.specs.Records.{fields_of};
+ghost use Rattle.link_report.specs.Reading.{first_misfit};
 ghost use Rattle.written_check.specs.PriceRows.{have_none, no_prices, price_in, prices_in, prices_verified, row_priced, side_priced};
 ghost use Rattle.written_check.specs.PricesSeen.{prices_seen};
 ghost use Rattle.written_check.specs.Refuted.{IsOfRows, Verifies};
 
+use crate::near::position_near;
 use crate::refutation::Refutation;
 use csv::ByteRecord;
 use csv_rows::number_of;
 use file_reader::Records;
 use link_base::{NoMemory, StdFile};
 use link_limits::MOST_VALUE;
-use link_report::{ReadRows, field_of, read_prices};
+use link_report::{ReadRows, field_of, prices_begun, read_prices};
 use std::alloc::Global;
 use std::marker::Model;
+
+// A side, an id and a price.
+const PRICE_FIELDS: usize = 3;
 
 // The prices of a side as far as they are read, one for each record, and the position of the first record after those that have one.
 #[derive(Drop)]
@@ -55,7 +60,7 @@ impl SidePrices {
         ensures length { length self.new ≡ length self.old }
         ensures taken { MatchBool result (side_priced file.now (fields_of row.now) self.old ≡ Some self.new) (side_priced file.now (fields_of row.now) self.old ≡ None) }
     {
-        let Some(at) = file.find(field_of(row, 1)) else {
+        let Some(at) = position_near(file, self.next, field_of(row, 1)) else {
             return false;
         };
         let Some(price) = price_of(field_of(row, 2)) else {
@@ -110,7 +115,7 @@ fn take_row(prices: &mut Prices, row: &ByteRecord, a: &StdFile, b: &StdFile) -> 
     side == b"B".as_slice() && prices.b.take(b, row)
 }
 
-// Takes the prices of the rows that are left.
+// Takes the prices of the rows that are left, each of which has the fields of a price.
 fn take_rows(
     alloc: Global,
     prices: &mut Prices,
@@ -122,12 +127,13 @@ fn take_rows(
     requires of_a { length prices.old.a ≡ length a.now }
     requires of_b { length prices.old.b ≡ length b.now }
     ensures kind { IfErr result IsOfRows }
-    ensures answer { Verifies (λ _. prices_seen prices.new) (prices_in a.now b.now 1 (prices_seen prices.old) rows.old) result }
+    ensures form { IfOk result (λ _. first_misfit PRICE_FIELDS 1 rows.old ≡ None) }
+    ensures answer { first_misfit PRICE_FIELDS 1 rows.old ≡ None → Verifies (λ _. prices_seen prices.new) (prices_in a.now b.now 1 (prices_seen prices.old) rows.old) result }
 {
     let mut row = ByteRecord::new(alloc);
     let mut number = 1;
     'rows: while rows.next(&mut row)? {
-        if !take_row(prices, &row, a, b) {
+        if row.len() != PRICE_FIELDS || !take_row(prices, &row, a, b) {
             return Err(Refutation::Price { row: number });
         }
         number += 1;
@@ -153,12 +159,50 @@ fn prices_of_rows(
 ) -> Result<Prices, Refutation>
     requires few { length rows.old + 1 < 2 ^ 32 }
     ensures kind { IfErr result IsOfRows }
-    ensures answer { Verifies prices_seen (prices_in a.now b.now 1 (no_prices a.now b.now) rows.old) result }
+    ensures form { IfOk result (λ _. first_misfit PRICE_FIELDS 1 rows.old ≡ None) }
+    ensures answer { first_misfit PRICE_FIELDS 1 rows.old ≡ None → Verifies prices_seen (prices_in a.now b.now 1 (no_prices a.now b.now) rows.old) result }
 {
     let mut prices = no_prices_of(alloc, a, b)?;
     match take_rows(alloc, &mut prices, rows, a, b) {
         Ok(()) => Ok(prices),
         Err(refutation) => Err(refutation),
+    }
+}
+
+// The prices of a text whose rows are all taken, in one pass.
+fn prices_in_order(
+    alloc: Global,
+    text: &[u8],
+    a: &StdFile,
+    b: &StdFile,
+) -> Result<Option<Prices>, NoMemory>
+    requires { length text.now + 1 < 2 ^ 32 }
+    ensures { IfOk result (λ prices. IfSome prices (λ taken. prices_verified a.now b.now text.now ≡ Ok (prices_seen taken))) }
+{
+    let Some(mut rows) = prices_begun(alloc, text)? else {
+        return Ok(None);
+    };
+    match prices_of_rows(alloc, &mut rows, a, b) {
+        Ok(prices) => Ok(Some(prices)),
+        Err(Refutation::NoMemory) => Err(NoMemory),
+        Err(_) => Ok(None),
+    }
+}
+
+// The prices of a text whose form is tested before its rows, as reasons go.
+fn prices_by_form(
+    alloc: Global,
+    text: &[u8],
+    a: &StdFile,
+    b: &StdFile,
+) -> Result<Prices, Refutation>
+    requires few { length text.now + 1 < 2 ^ 32 }
+    ensures kind { IfErr result IsOfRows }
+    ensures answer { Verifies prices_seen (prices_verified a.now b.now text.now) result }
+{
+    match read_prices(alloc, text)? {
+        ReadRows::Rows(mut rows) => prices_of_rows(alloc, &mut rows, a, b),
+        ReadRows::Bad { row } => Err(Refutation::Price { row }),
     }
 }
 
@@ -173,8 +217,8 @@ pub(crate) fn verify_prices(
     ensures kind { IfErr result IsOfRows }
     ensures answer { Verifies prices_seen (prices_verified a.now b.now text.now) result }
 {
-    match read_prices(alloc, text)? {
-        ReadRows::Rows(mut rows) => prices_of_rows(alloc, &mut rows, a, b),
-        ReadRows::Bad { row } => Err(Refutation::Price { row }),
+    if let Some(prices) = prices_in_order(alloc, text, a, b)? {
+        return Ok(prices);
     }
+    prices_by_form(alloc, text, a, b)
 }

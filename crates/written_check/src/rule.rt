@@ -1,12 +1,13 @@
 // A written rule, row by row.
-ghost use Rattle.std.specs.Prelude.{◌≡◌, ◌+◌, ◌<◌, ◌^◌, All, Bool, IfErr, IfOk, List, length, map};
+ghost use Rattle.std.specs.Prelude.{◌≡◌, ◌+◌, ◌<◌, ◌^◌, All, Bool, IfErr, IfOk, IsTrue, List, Ok, length, map};
 ghost use Rattle.csv.specs.Records.{fields_of};
 ghost use Rattle.link_base.specs.Rule.{IsWithinRanges};
 ghost use Rattle.link_base.specs.declared.rule.RuleCell.{RuleCell as Cell};
 ghost use Rattle.link_report.specs.Reading.{same_row};
 ghost use Rattle.link_report.specs.RuleText.{cell_fields, outcome_letters};
 ghost use Rattle.patterns.specs.Shapes.{pattern_count_by, rare_of};
-ghost use Rattle.written_check.specs.Refuted.{IsOfRows, Verifies};
+ghost use Rattle.written_check.specs.Refuted.{IsOfRows, Verifies, unless_row};
+ghost use Rattle.written_check.specs.declared.refutation.Refutation.TheVariants as refutation;
 ghost use Rattle.written_check.specs.RuleRows.{TakesRow, first_difference, rule_verified};
 
 use crate::refutation::Refutation;
@@ -15,7 +16,7 @@ use file_reader::Records;
 use itoa::Buffer;
 use link_base::{NoMemory, RuleCell, RuleTable, Shape};
 use link_limits::WHOLE_RULE;
-use link_report::{ReadRows, has_fields, letters_of, read_rule};
+use link_report::{ReadRows, has_fields, letters_of, read_rule, rule_begun};
 use std::alloc::Global;
 
 // Whether a row is that of a cell whose pattern has these letters.
@@ -106,6 +107,41 @@ fn difference_in(
     Ok(None)
 }
 
+// Whether the text of a rule has the rows of the cells, in one pass.
+fn is_rule_in_order(
+    alloc: Global,
+    text: &[u8],
+    table: &RuleTable,
+    shape: &Shape,
+) -> Result<bool, NoMemory>
+    requires few { length text.now + 1 < 2 ^ 32 }
+    requires shape { All (λ (c : Cell). c.pattern < pattern_count_by (rare_of shape.now)) table.now.cells.items }
+    ensures { IfOk result (λ is. IsTrue is → rule_verified (rare_of shape.now) table.now.cells.items text.now ≡ Ok text.now) }
+{
+    match rule_begun(alloc, text)? {
+        Some(mut rows) => Ok(difference_in(alloc, &mut rows, table, shape)?.is_none()),
+        None => Ok(false),
+    }
+}
+
+// The first row of the text of a rule that is not as it must be, by its number. The form of the text is tested before its rows, as
+// reasons go.
+fn difference_by_form(
+    alloc: Global,
+    text: &[u8],
+    table: &RuleTable,
+    shape: &Shape,
+) -> Result<Option<u32>, NoMemory>
+    requires few { length text.now + 1 < 2 ^ 32 }
+    requires shape { All (λ (c : Cell). c.pattern < pattern_count_by (rare_of shape.now)) table.now.cells.items }
+    ensures { IfOk result (λ number. unless_row refutation.Rule text.now number ≡ rule_verified (rare_of shape.now) table.now.cells.items text.now) }
+{
+    match read_rule(alloc, text)? {
+        ReadRows::Rows(mut rows) => difference_in(alloc, &mut rows, table, shape),
+        ReadRows::Bad { row } => Ok(Some(row)),
+    }
+}
+
 // Verifies the text of a rule.
 pub(crate) fn verify_rule(
     alloc: Global,
@@ -118,11 +154,10 @@ pub(crate) fn verify_rule(
     ensures kind { IfErr result IsOfRows }
     ensures answer { Verifies (λ _. text.now) (rule_verified (rare_of shape.now) table.now.cells.items text.now) result }
 {
-    let difference = match read_rule(alloc, text)? {
-        ReadRows::Rows(mut rows) => difference_in(alloc, &mut rows, table, shape)?,
-        ReadRows::Bad { row } => Some(row),
-    };
-    match difference {
+    if is_rule_in_order(alloc, text, table, shape)? {
+        return Ok(());
+    }
+    match difference_by_form(alloc, text, table, shape)? {
         Some(row) => Err(Refutation::Rule { row }),
         None => Ok(()),
     }

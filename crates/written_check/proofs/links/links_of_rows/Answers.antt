@@ -1,6 +1,6 @@
-use Rattle.std.proofs.Common.{◌≡◌, ◌∙◌, ◌∷◌, ◌++◌, [], List, Some, ap, arith, length, length-append, rules, subst, sym, ℕ}
+use Rattle.std.proofs.Common.{◌≡◌, ◌∙◌, ◌∷◌, ◌++◌, [], List, Some, ap, arith, get_or, length, length-append, rules, subst, sym, ℕ}
 use Rattle.std.specs.Prelude.{AllPairs}
-use Rattle.price_check.specs.Assignment.{IsBefore}
+use Rattle.price_check.specs.Assignment.{IsBefore, no_candidate}
 use Rattle.csv.specs.Records.{fields_of}
 use Rattle.link_base.specs.declared.rule.Candidate.{Candidate}
 use Rattle.written_check.specs.LinkRows.{after_all, candidate_in, links_in}
@@ -15,12 +15,13 @@ rows-preserved c =
     let taken = c.rows.links.items in
     let row = fields_of c.next.new.row in
     let took : c.rows.rows ≡ row ∷ c.next.new.self = search rules in
-    let pushed : c.push.new.self.items ≡ taken ++ c.in-Some.c ∷ [] = c.in_ok-push-in-Some.ensures.items in
-    let next : Some c.in-Some.c ≡ after_all taken (candidate_in cs a b row) = sym c.in-Some.is ∙ c.next_link.ensures ∙ ap (λ (l : List Candidate). after_all l (candidate_in cs a b row)) c.deref.ensures.value in
+    let link = get_or cs c.in-Some.place no_candidate in
+    let pushed : c.push.new.self.items ≡ taken ++ link ∷ [] = c.in_ok-push.ensures.items in
+    let next : Some link ≡ after_all taken (candidate_in cs a b row) = c.in-Some.ensures.candidate ∙ ap (λ (l : List Candidate). after_all l (candidate_in cs a b row)) c.deref.ensures.value in
     record {
-      short = omega (arith, ap (λ (r : List (List (List ℕ))). length r) took, ap (λ (l : List Candidate). length l) pushed, length-append taken (c.in-Some.c ∷ []), c.rows.invariant.short);
-      rising = subst (λ (l : List Candidate). AllPairs IsBefore l) (sym pushed) (taken_rising taken (candidate_in cs a b row) c.in-Some.c c.rows.invariant.rising next);
+      short = omega (arith, ap (λ (r : List (List (List ℕ))). length r) took, ap (λ (l : List Candidate). length l) pushed, length-append taken (link ∷ []), c.rows.invariant.short);
+      rising = subst (λ (l : List Candidate). AllPairs IsBefore l) (sym pushed) (taken_rising taken (candidate_in cs a b row) link c.rows.invariant.rising next);
       told =
-          c.rows.invariant.told ∙ ap (links_in cs a b taken) took ∙ link_taken taken cs a b row c.next.new.self c.in-Some.c next
+          c.rows.invariant.told ∙ ap (links_in cs a b taken) took ∙ link_taken taken cs a b row c.next.new.self link next
           ∙ ap (λ (l : List Candidate). links_in cs a b l c.next.new.self) (sym pushed);
     }
