@@ -9,7 +9,7 @@ ghost use Rattle.file_reader.specs.Table.{HasDistinctIds, HasWidth};
 ghost use Rattle.candidate_links.specs.Capacities.{capacities_by, capacities_in, capacities_table, capacities_wanted, capacity_in, capacity_named};
 
 use crate::capacities::Capacities;
-use csv_rows::number_of;
+use csv_rows::read_decimal;
 use file_reader::{Layout, Table, known_record, read_table};
 use link_base::{Fault, FileRole, NoMemory, StdFile, Text, distinct_ids};
 use link_limits::{MOST_CAPACITY, MOST_ROWS};
@@ -35,7 +35,7 @@ fn capacity_of(text: &[u8]) -> Option<u32>
     ensures value { result ≡ capacity_named text.now }
     ensures allowed { IfSome result (λ capacity. capacity ≤ MOST_CAPACITY) }
 {
-    number_of(text, MOST_CAPACITY)
+    read_decimal(text, MOST_CAPACITY)
 }
 
 // The position of the record of B that a row names, and the capacity that it gives.

@@ -1,4 +1,4 @@
--- The numbers that texts write in decimal digits (`number_of`, by its clauses; law `decimals_are_read`).
+-- The numbers that texts write in decimal digits (`read_decimal`, by its clauses; law `decimals_are_read`).
 use Rattle.std.specs.Prelude.{◌-◌, ◌+◌, ◌*◌, ℕ, List, [], ◌∷◌, length, Bool, not, ◌==◌, ◌&&◌, ◌||◌, nat_le, slice_index_or}
 use Rattle.std.specs.Char.{is_ascii_digit}
 use Rattle.std.specs.List.{list_all}

@@ -8,5 +8,5 @@ mod rows;
 
 pub use fields::push_field;
 pub use laws::rows_read_again;
-pub use numbers::{decimals_are_read, number_of};
+pub use numbers::{decimals_are_read, read_decimal};
 pub use rows::{digits_of, push_row};

@@ -25,7 +25,7 @@ fn number_in_digits(digits: &[u8], most: u32) -> Option<u32>
 
 /// The number that a text writes in decimal digits without a leading zero or a sign, where it is at most `most`, which may be
 /// up to 100,000,000.
-pub fn number_of(text: &[u8], most: u32) -> Option<u32>
+pub fn read_decimal(text: &[u8], most: u32) -> Option<u32>
     requires { most ≤ 10 ^ 8 }
     ensures some { is_some result ≡ (is_decimal text.now && nat_le (number_in text.now) most) }
     ensures value { IfSome result (λ n. n ≡ number_in text.now) }

@@ -5,6 +5,15 @@ use std::io::Write;
 use std::test::Fail;
 use std::{env, fs, io};
 
+// Whether a load gave this text, whole or not.
+fn gives(load: Result<Load, StoreError>, whole: bool, want: &[u8]) -> bool {
+    match load {
+        Ok(Load::Whole(text)) => whole && text.bytes() == want,
+        Ok(Load::Over(text)) => !whole && text.bytes() == want,
+        Err(_) => false,
+    }
+}
+
 #[test]
 fn files_are_put_whole_and_loaded_up_to_a_limit(rt: HostRuntime) -> Result<(), Fail> {
     let alloc = rt.alloc();
@@ -13,18 +22,9 @@ fn files_are_put_whole_and_loaded_up_to_a_limit(rt: HostRuntime) -> Result<(), F
     let mut files = HostFiles::new(alloc, &rt);
     assert!(rt; files.put(alloc, &name, b"old").is_ok());
     assert!(rt; files.put(alloc, &name, b"abc").is_ok());
-    for (limit, whole, want) in [
-        (3, true, b"abc".as_slice()),
-        (4, true, b"abc"),
-        (2, false, b"abc"),
-        (1, false, b"ab"),
-    ] {
-        match files.load(alloc, &name, limit) {
-            Ok(Load::Whole(text)) => assert!(rt; whole && text.bytes() == want, "at {limit}"),
-            Ok(Load::Over(text)) => assert!(rt; !whole && text.bytes() == want, "at {limit}"),
-            Err(_) => assert!(rt; false, "at {limit}"),
-        }
-    }
+    assert!(rt; gives(files.load(alloc, &name, 3), true, b"abc"));
+    assert!(rt; gives(files.load(alloc, &name, 2), false, b"abc"));
+    assert!(rt; gives(files.load(alloc, &name, 1), false, b"ab"));
     fs::remove_file(&rt, name.as_str())?;
     assert!(rt; matches!(files.load(alloc, &name, 3), Err(StoreError::Failed)));
     Ok(())

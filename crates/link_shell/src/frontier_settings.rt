@@ -12,7 +12,7 @@ ghost use Rattle.link_limits.specs.declared.TheConstants.{PER_MILLION};
 use crate::ends::{Ended, print_lines};
 use crate::front::{Shared, load_shared};
 use crate::words::{MOST_LISTED, is_settings, word_at};
-use csv_rows::number_of;
+use csv_rows::read_decimal;
 use link_base::{Fault, NoMemory, Text};
 use link_core::frontier_lines;
 use link_limits::PER_MILLION;
@@ -32,7 +32,7 @@ fn are_levels(words: &[String]) -> bool
 {
     let mut least = 0;
     for word in words {
-        match number_of(word.as_bytes(), PER_MILLION) {
+        match read_decimal(word.as_bytes(), PER_MILLION) {
             Some(level) if level >= least => least = level + 1,
             _ => return false,
         }
@@ -67,7 +67,7 @@ fn levels_of(alloc: Global, words: &[String]) -> Result<Vec<u32>, NoMemory>
 {
     let mut levels = Vec::new(alloc);
     for word in words {
-        match number_of(word.as_bytes(), PER_MILLION) {
+        match read_decimal(word.as_bytes(), PER_MILLION) {
             Some(level) => levels.push(level)?,
             None => unreachable!(),
         }

@@ -17,7 +17,7 @@ use crate::ends::{Ended, print};
 use crate::front::prepare_files;
 use crate::reviewed::DecidedPlan;
 use crate::words::word_at;
-use csv_rows::number_of;
+use csv_rows::read_decimal;
 use link_base::Fault;
 use link_core::{Decided, PlanShares, Prepared, counted, decide_all, finish};
 use link_limits::MOST_ROWS;
@@ -46,7 +46,7 @@ fn rows_of(word: &str) -> Option<u32>
     ensures value { IfSome result (λ rows. rows ≡ number_in word.now) }
     ensures range { IfSome result IsMadeNumber }
 {
-    match number_of(word.as_bytes(), MOST_ROWS) {
+    match read_decimal(word.as_bytes(), MOST_ROWS) {
         Some(rows) if 2 <= rows => Some(rows),
         _ => None,
     }

@@ -9,7 +9,7 @@ ghost use Rattle.written_check.specs.Refuted.{IsOfRows, Verifies};
 use crate::near::position_near;
 use crate::refutation::Refutation;
 use csv::ByteRecord;
-use csv_rows::number_of;
+use csv_rows::read_decimal;
 use file_reader::Records;
 use link_base::{NoMemory, StdFile};
 use link_limits::MOST_VALUE;
@@ -87,7 +87,7 @@ impl SidePrices {
 fn price_of(text: &[u8]) -> Option<u32>
     ensures { result ≡ price_in text.now }
 {
-    match number_of(text, MOST_VALUE) {
+    match read_decimal(text, MOST_VALUE) {
         Some(price) if price > 0 => Some(price),
         _ => None,
     }
