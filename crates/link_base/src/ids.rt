@@ -2,6 +2,7 @@
 ghost use Rattle.std.specs.Prelude.{◌≡◌, ◌+◌, ◌^◌, ◌<◌, [], length, IfNone, IfOk, IfSome, OnErr, slice_index_or};
 ghost use Rattle.link_base.specs.Ids.{AreDistinct, IsNewId, Keeps, position_among};
 
+use crate::sought::Sought;
 use crate::text::{NoMemory, Text};
 use indexmap::IndexSet;
 use std::alloc::Global;
@@ -86,7 +87,7 @@ impl IdSet {
         ensures within { IfSome result (λ at. at < length self.now) }
         ensures fresh { IfNone result (IsNewId id.now self.now) }
     {
-        match self.ids.get_index_of(id) {
+        match self.ids.get_index_of(&Sought::new(id)) {
             Some(at) => Some(at as u32),
             None => None,
         }

@@ -12,6 +12,7 @@ mod rows_writer;
 mod rule;
 mod shares;
 mod sides;
+mod sought;
 mod standard;
 mod tables;
 mod text;

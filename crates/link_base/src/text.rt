@@ -2,12 +2,8 @@
 ghost use Rattle.std.specs.Prelude.{◌≡◌, ◌≤◌, ◌++◌, ◌∷◌, [], List, ℕ, IfOk, OnErr, OnOk, decimal, length, take};
 ghost use Rattle.std.specs.Cmp.{partial_equiv_from_equiv};
 ghost use Rattle.std.specs.Cmp.Lexicographic.{nat_list_eq_equiv};
-ghost use Rattle.std.specs.Cmp.Rules.{hashing};
-ghost use Rattle.std.specs.Hash as fed;
-ghost use Rattle.std.proofs.Common.{rules};
 ghost use Rattle.link_base.specs.declared.text.TheConstants.{MOST_SHORT};
 
-use indexmap::Equivalent;
 use std::alloc::{AllocError, AllocFailed, Global};
 use std::hash::{Hash, Hasher};
 use std::marker::Model;
@@ -187,30 +183,18 @@ impl Eq for Text {
     ghost laws = { nat_list_eq_equiv };
 }
 
-// A text is hashed as its bytes.
+// A text is hashed by one write of its bytes.
 impl Hash for Text {
-    ghost hash_input = { fed.slice fed.u8 };
+    ghost use Rattle.std.specs.Prelude.{◌∷◌, []};
+    ghost use Rattle.std.specs.Cmp.Lexicographic.{bytes_decides};
+    ghost use Rattle.std.specs.Hash.{same_Alike};
 
-    ghost respects_eq = { Prim.search (hashing, rules) };
+    ghost hash_input = { λ bytes. bytes ∷ [] };
+
+    ghost respects_eq = { (same_Alike (λ bytes. bytes ∷ []) bytes_decides).fed };
 
     fn hash<H: Hasher>(&self, state: &mut H) {
-        self.bytes().hash(state);
-    }
-}
-
-// Bytes stand for the text of them.
-impl Equivalent<Text> for &[u8] {
-    ghost use Rattle.std.specs.Prelude.{nat_eq};
-    ghost use Rattle.std.specs.Cmp.Lexicographic.{pointwise};
-
-    ghost equivalent = { λ q. pointwise nat_eq q.now };
-
-    ghost respects_hash = { Prim.search (hashing, rules) };
-
-    ghost respects_eq = { λ q. nat_list_eq_equiv.congr q.now };
-
-    fn equivalent(&self, key: &Text) -> bool {
-        *self == key.bytes()
+        state.write(self.bytes());
     }
 }
 
