@@ -24,4 +24,3 @@ mod records_of_texts;
 #[cfg(test)]
 mod rows_by_key;
 #[cfg(test)]
-mod written_pairs;

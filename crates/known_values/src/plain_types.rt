@@ -1,28 +1,26 @@
-// The plain types are made, and a record is found by its id, in ample memory.
-use link_base::{RuleTable, StdFile, Tables, Text, TextList, Value, push_number};
+// The plain types are made, and an id is found, in ample memory.
+use link_base::{IdSet, RuleTable, Tables, Text, TextList, push_number};
 use std::alloc::Global;
 use std::test::Fail;
 
-// Appends a record of one absent value, where its id is new.
-fn add(alloc: Global, file: &mut StdFile, id: &[u8]) -> Result<(), Fail> {
-    let mut values = Vec::new(alloc);
-    values.push(Value::Absent)?;
-    if file.find(id).is_none() && file.rows() < 9 {
-        file.push(Text::new(alloc, id)?, &mut values)?;
+// Keeps an id among a few.
+fn add(alloc: Global, ids: &mut IdSet, id: &[u8]) -> Result<(), Fail> {
+    if ids.len() < 9 {
+        ids.keep(alloc, id)?;
     }
     Ok(())
 }
 
 #[test]
-fn a_record_is_found_by_its_id(rt: HostRuntime) -> Result<(), Fail> {
+fn an_id_is_kept_once_and_found(rt: HostRuntime) -> Result<(), Fail> {
     let alloc = rt.alloc();
-    let mut file = StdFile::new(alloc)?;
+    let mut ids = IdSet::new(alloc);
     for id in ["A1", "A2", "A1"] {
-        add(alloc, &mut file, id.as_bytes())?;
+        add(alloc, &mut ids, id.as_bytes())?;
     }
-    assert_eq!(rt; file.rows(), 2);
-    assert_eq!(rt; file.find(b"A2"), Some(1));
-    assert_eq!(rt; file.find(b"A3"), None);
+    assert_eq!(rt; ids.len(), 2);
+    assert_eq!(rt; ids.find(b"A2"), Some(1));
+    assert_eq!(rt; ids.find(b"A3"), None);
     Ok(())
 }
 

@@ -1,9 +1,9 @@
 // Indexes by keys, keys of rows and their ids, and lists of compared pairs have the memory that they want; the commands walk by
 // lists of rows.
-ghost use Rattle.std.specs.Prelude.{◌≡◌, []};
+ghost use Rattle.std.specs.Prelude.{◌≡◌, [], IfOk};
 
 use block_passes::{build_index, build_index_in, id_key, key_ids, pass_key};
-use link_base::{NoMemory, Pass, PassList, StdFile, Text};
+use link_base::{IdSet, NoMemory, Pass, PassList, RowsWriter, StdFile};
 use pair_walk::{walk, walk_in};
 use std::alloc::Global;
 use value_pool::Pool;
@@ -41,16 +41,26 @@ fn are_walked(alloc: Global, file: &StdFile, passes: &PassList, pool: &Pool) -> 
         && key_ids(alloc, file, passes, pool).is_ok()
 }
 
+// A file of no records.
+fn no_records(alloc: Global) -> Result<StdFile, NoMemory>
+    ensures { IfOk result (λ file. file ≡ []) }
+{
+    let rows = RowsWriter::with_capacity(alloc, 0, 0)?;
+    Ok(StdFile::of(IdSet::new(alloc), rows.finish()))
+}
+
 // A file of one record without values.
 fn one_record(alloc: Global) -> Result<StdFile, NoMemory> {
-    let mut file = StdFile::new(alloc)?;
-    file.push(Text::new(alloc, b"A1")?, &mut Vec::new(alloc))?;
-    Ok(file)
+    let mut ids = IdSet::new(alloc);
+    ids.keep(alloc, b"A1")?;
+    let mut rows = RowsWriter::with_capacity(alloc, 1, 0)?;
+    rows.close()?;
+    Ok(StdFile::of(ids, rows.finish()))
 }
 
 fn all_are_made(alloc: Global) -> Result<bool, NoMemory> {
     let pool = Pool::new(alloc, 10)?;
-    let none = StdFile::new(alloc)?;
+    let none = no_records(alloc)?;
     let one = one_record(alloc)?;
     let passes = PassList::new(Vec::new(alloc));
     Ok(are_made_over(alloc, &one, &pool) && are_walked(alloc, &none, &passes, &pool))

@@ -1,7 +1,7 @@
 -- One piece more in a list, fewer pieces, and a piece at a place.
-use Rattle.std.proofs.Common.{◌≡◌, ◌<◌, ◌≤◌, ◌+◌, ◌-◌, ◌∷◌, ◌++◌, ◌∙◌, ℕ, zero, suc, List, [], length, get_or, map, take, drop, refl, sym, ap, arith, length-drop, length-append}
+use Rattle.std.proofs.Common.{◌≡◌, ◌<◌, ◌≤◌, ◌+◌, ◌-◌, ◌∷◌, ◌++◌, ◌∙◌, ℕ, zero, suc, List, [], length, get_or, map, take, drop, refl, ap, arith, length-drop, length-append}
 use Rattle.std.specs.Prelude.{slice_range, sum_by}
-use Rattle.std.proofs.lemmas.List.{drop-append-le, drop-map, length-take-le, take-append-drop, take-append-le, take-map}
+use Rattle.std.proofs.lemmas.List.{drop-append-le, drop-map, length-take-le, take-append-le, take-map}
 use Rattle.std.proofs.lemmas.List.Sums.{sum_by-cons}
 use Rattle.std.proofs.lemmas.Grind.{common_steps}
 use Rattle.link_base.specs.Region.{EndsAt, pieces_from, start_at}
@@ -89,27 +89,6 @@ among_first items more last start (end ∷ ends) le h =
     let here = read_before items more start end h.0 (omega (arith, below, le)) in
     let rest = among_first items more last end ends le h.1 in
     λ i. here i ∷ rest i
-
-take_pieces : {T : Type 0} (items : List T) (start : ℕ) (ends : List ℕ) (count : ℕ) → take count (pieces_from items start ends) ≡ pieces_from items start (take count ends)
-take_pieces items start ends zero = refl
-take_pieces items start [] (suc count) = refl
-take_pieces {T = T} items start (end ∷ ends) (suc count) = ap (λ (t : List (List T)). slice_range items start end ∷ t) (take_pieces items end ends count)
-
--- what the first pieces are
-pub record IsCut {T : Type 0} (items : List T) (ends : List ℕ) (count : ℕ) (items2 : List T) (ends2 : List ℕ) : Type 0 where
-  pub rising : EndsAt (length items2) 0 ends2
-  pub pieces : pieces_from items2 0 ends2 ≡ take count (pieces_from items 0 ends)
-
-pub cut : {T : Type 0} (items : List T) (ends : List ℕ) (count : ℕ) (items2 : List T) (ends2 : List ℕ) (end : ℕ) → EndsAt (length items) 0 ends → count ≤ length ends
-    → end ≡ start_at 0 ends count → items2 ≡ take end items → ends2 ≡ take count ends → IsCut items ends count items2 ends2
-cut {T = T} items ends count items2 ends2 end h le at ei ee =
-    let long : length items2 ≡ end = ap length ei ∙ length-take-le end items (omega (arith, at, (start_below (length items) 0 ends count h le).1)) in
-    let rising : EndsAt (length items2) 0 ends2 = rw (long, at, ee) (ends_first (length items) 0 ends count h le) in
-    let whole : items2 ++ drop end items ≡ items = ap (λ (l : List T). l ++ drop end items) ei ∙ take-append-drop end items in
-    record {
-      rising = rising;
-      pieces = sym (among_first items2 (drop end items) (length items2) 0 ends2 (omega arith) rising) ∙ ap (λ (l : List T). pieces_from l 0 ends2) whole ∙ ap (pieces_from items 0) ee ∙ sym (take_pieces items 0 ends count);
-    }
 
 -- pieces of what is made of each item
 pub pieces_map : {S T : Type 0} (f : S → T) (items : List S) (start : ℕ) (ends : List ℕ) → pieces_from (map f items) start ends ≡ map (map f) (pieces_from items start ends)

@@ -1,5 +1,5 @@
 // Texts side by side in one region of bytes, and pieces of a list by where each ends.
-ghost use Rattle.std.specs.Prelude.{◌≡◌, ◌<◌, ◌≤◌, ◌==◌, ◌++◌, ◌∷◌, [], IfOk, length, OnErr, OnOk, slice_index_or, slice_range, take};
+ghost use Rattle.std.specs.Prelude.{◌≡◌, ◌<◌, ◌≤◌, ◌++◌, ◌∷◌, [], IfOk, length, OnErr, OnOk, slice_index_or, slice_range};
 ghost use Rattle.link_base.specs.Region.{EndsAt, pieces_from, start_at};
 
 use crate::text::NoMemory;
@@ -26,16 +26,6 @@ impl Model for TextRegion {
 }
 
 impl TextRegion {
-    /// The region of no texts, which takes no memory.
-    pub fn new(alloc: Global) -> TextRegion
-        ensures { result ≡ [] }
-    {
-        TextRegion {
-            bytes: Vec::new(alloc),
-            ends: Vec::new(alloc),
-        }
-    }
-
     /// The region of no texts, with room for so many of so many bytes together.
     pub fn with_capacity(alloc: Global, texts: usize, bytes: usize) -> Result<TextRegion, NoMemory>
         ensures { IfOk result (λ made. made ≡ []) }
@@ -53,13 +43,6 @@ impl TextRegion {
         self.ends.len()
     }
 
-    /// Whether there are no texts.
-    pub fn is_empty(&self) -> bool
-        ensures { result ≡ (length self.now == 0) }
-    {
-        self.ends.is_empty()
-    }
-
     /// Appends a text.
     pub fn push(&mut self, text: &[u8]) -> Result<(), NoMemory>
         ensures ok { OnOk result (self.new ≡ self.old ++ text.now ∷ []) }
@@ -69,16 +52,6 @@ impl TextRegion {
         self.bytes.extend_from_slice(text)?;
         self.ends.push(self.bytes.len()).unwrap();
         Ok(())
-    }
-
-    /// Drops the texts from a place on.
-    pub fn truncate(&mut self, count: usize)
-        requires { count ≤ length self.old }
-        ensures { self.new ≡ take count self.old }
-    {
-        let end = end_of(&self.ends, count);
-        self.ends.truncate(count);
-        self.bytes.truncate(end);
     }
 
     /// The text at a place, from 0.

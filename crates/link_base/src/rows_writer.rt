@@ -1,10 +1,11 @@
 // Rows that are being made, value by value.
-ghost use Rattle.std.specs.Prelude.{◌≡◌, ◌+◌, ◌^◌, ◌<◌, [], IfOk, OnOk, length, sum_by};
+ghost use Rattle.std.specs.Prelude.{◌≡◌, ◌+◌, ◌^◌, ◌≤◌, ◌<◌, [], IfOk, OnErr, OnOk, length, sum_by};
+ghost use Rattle.link_base.specs.Rows.{BeginsAs, IsPlaced, value_in};
 ghost use Rattle.link_base.specs.RowsWriter.{no_rows, with_row, with_value};
 ghost use Rattle.link_base.specs.declared.standard.Value.TheVariants as value;
 
 use crate::region::TextRegion;
-use crate::rows::{Cell, StdRows, word_cell};
+use crate::rows::{Cell, StdRows};
 use crate::text::NoMemory;
 use std::alloc::Global;
 use std::marker::Model;
@@ -91,4 +92,18 @@ impl RowsWriter {
     {
         StdRows::of(self.words, self.cells, self.ends)
     }
+}
+
+// The cell of a word, which goes behind the words.
+fn word_cell(words: &mut TextRegion, word: &[u8]) -> Result<Cell, NoMemory>
+    requires { length words.old < 2 ^ 32 }
+    ensures begun { BeginsAs words.old words.new }
+    ensures few { length words.new ≤ length words.old + 1 }
+    ensures placed { IfOk result (IsPlaced (length words.new)) }
+    ensures value { IfOk result (λ cell. value_in words.new cell ≡ value.Word word.now) }
+    ensures err { OnErr result (words.new ≡ words.old) }
+{
+    let at = words.len() as u32;
+    words.push(word)?;
+    Ok(Cell::Word(at))
 }

@@ -39,13 +39,6 @@ impl Model for StdFile {
 }
 
 impl StdFile {
-    /// The file of no records.
-    pub fn new(alloc: Global) -> Result<StdFile, NoMemory>
-        ensures { IfOk result (λ file. file ≡ []) }
-    {
-        Ok(StdFile::of(IdSet::new(alloc), StdRows::new(alloc)))
-    }
-
     /// The file of the records with these ids and these rows, in order.
     pub fn of(ids: IdSet, rows: StdRows) -> StdFile
         requires as_many { length ids ≡ length rows }

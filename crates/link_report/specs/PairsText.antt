@@ -1,5 +1,5 @@
--- The text of the compared pairs: a header, and a row for each pair (`pairs_text`, its lone clause). A `PairsWriter` writes the
--- same text row by row (`PairsWriter::push`, clause `text`).
+-- The text of the compared pairs: a header, and a row for each pair, as a `PairsWriter` writes it row by row
+-- (`PairsWriter::push_behind`, clause `text`).
 use Rattle.std.specs.Prelude.{ℕ, Bool, List, [], ◌∷◌, ◌++◌, codes, decimal, Option, Some, None, ⊤}
 use Rattle.std.specs.Fmt.{signed_decimal}
 use Rattle.std.specs.List.{flat_map}

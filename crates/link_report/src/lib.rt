@@ -21,7 +21,7 @@ pub use frontier::frontier_text;
 pub use ids::IdsWriter;
 pub use links::{links_text, source_of};
 pub use open::{PairRow, open_text};
-pub use pairs::{PairsWriter, pairs_text};
+pub use pairs::PairsWriter;
 pub use prices::prices_text;
 pub use reading::{
     ReadRows, field_of, has_fields, links_begun, prices_begun, read_links, read_prices, read_rule,

@@ -1,16 +1,14 @@
 // The text of the compared pairs.
-ghost use Rattle.std.specs.Prelude.{◌≡◌, ◌<◌, ◌++◌, All, AllPairs, IfOk, List, None, OnOk, Some, length};
+ghost use Rattle.std.specs.Prelude.{◌≡◌, ◌<◌, ◌++◌, IfOk, List, None, OnOk, Some, length};
 ghost use Rattle.csv.specs.Writing.{default_writer, field_text, row_text};
-ghost use Rattle.link_base.specs.Rule.{IsPairBefore};
 ghost use Rattle.link_base.specs.Standard.{id_at, Record};
 ghost use Rattle.link_report.specs.LineParts.{pair_end};
 ghost use Rattle.link_report.specs.Lines.{front_of};
-ghost use Rattle.link_report.specs.PairsText.{IsAfter, pair_row, pairs_header, text_of_pairs};
-ghost use Rattle.link_report.specs.declared.open.PairRow.{PairRow as Row};
+ghost use Rattle.link_report.specs.PairsText.{IsAfter, pair_row, pairs_header};
 ghost use Rattle.patterns.specs.Shapes.{pattern_count_by, rare_of};
 
 use crate::ends::LineEnds;
-use crate::front::{LineFront, push_front};
+use crate::front::LineFront;
 use crate::open::PairRow;
 use csv_rows::push_field;
 use link_base::{NoMemory, PairAt, Shape, StdFile, Text};
@@ -55,23 +53,9 @@ impl PairsWriter {
         })
     }
 
-    /// Appends the line of a pair, which comes after the last one by its positions. Outcomes are a letter a field: A agree, D
-    /// disagree, M missing, R rare. A pair without a verdict has an empty last field. After a refusal the writer is of no more
-    /// use.
-    pub fn push(&mut self, row: &PairRow, a: &StdFile, b: &StdFile) -> Result<(), NoMemory>
-        requires in_a { row.now.at.a < length a.now }
-        requires in_b { row.now.at.b < length b.now }
-        requires pattern { row.now.pattern < pattern_count_by self.old.rares }
-        requires after { IsAfter self.old.last row.now.at }
-        ensures rares { self.new.rares ≡ self.old.rares }
-        ensures text { OnOk result (self.new.text ≡ self.old.text ++ pair_row self.old.rares a.now b.now row.now) }
-        ensures last { OnOk result (self.new.last ≡ Some row.now.at) }
-    {
-        push_front(&mut self.text, a.id(row.at.a))?;
-        self.push_tail(row, b)
-    }
-
-    /// Appends the line of a pair as `push` does, where the front of the lines of its record of A is at hand.
+    /// Appends the line of a pair, which comes after the last one by its positions, behind the front of the lines of its record
+    /// of A. Outcomes are a letter a field: A agree, D disagree, M missing, R rare. A pair without a verdict has an empty last
+    /// field. After a refusal the writer is of no more use.
     pub fn push_behind(
         &mut self,
         front: &LineFront,
@@ -110,25 +94,4 @@ impl PairsWriter {
     {
         Text::of(self.text)
     }
-}
-
-/// The text of the compared pairs, rising by position: the header, and a line for each pair, as `PairsWriter` writes them.
-pub fn pairs_text(
-    alloc: Global,
-    rows: &[PairRow],
-    shape: &Shape,
-    a: &StdFile,
-    b: &StdFile,
-) -> Result<Text, NoMemory>
-    requires in_a { All (λ (r : Row). r.at.a < length a.now) rows.now }
-    requires in_b { All (λ (r : Row). r.at.b < length b.now) rows.now }
-    requires patterns { All (λ (r : Row). r.pattern < pattern_count_by (rare_of shape.now)) rows.now }
-    requires rising { AllPairs (λ (x y : Row). IsPairBefore x.at y.at) rows.now }
-    ensures { IfOk result (λ text. text ≡ text_of_pairs (rare_of shape.now) a.now b.now rows.now) }
-{
-    let mut writer = PairsWriter::new(alloc, shape)?;
-    for row in rows {
-        writer.push(row, a, b)?;
-    }
-    Ok(writer.finish())
 }
