@@ -1,6 +1,7 @@
 // The standard files of a plan.
 ghost use Rattle.std.specs.Prelude.{◌≡◌, ◌+◌, ◌*◌, ◌<◌, ◌≤◌, ◌∷◌, ◌++◌, [], All, List, length, IfErr, IfOk, IfSome, OnOk, None, if◌then◌else◌};
 ghost use Rattle.link_base.specs.Fault.{Gives, IsAnswer, IsInputFault};
+ghost use Rattle.link_base.specs.RowsWriter.{no_rows};
 ghost use Rattle.link_base.specs.Standard.{HaveDistinctIds, IsValid, Record, records_of};
 ghost use Rattle.link_base.specs.declared.standard.Value.{Value as FieldValue};
 ghost use Rattle.file_reader.specs.Rows.{ids_of};
@@ -10,7 +11,7 @@ ghost use Rattle.standard_files.specs.Files.{AreOfPlan, date_fault, IsReadTable,
 use crate::row::StandardRow;
 use crate::sources::{Source, read_source};
 use crate::values::ValueTables;
-use link_base::{Fault, FileRole, StdFile, StdRows, distinct_ids};
+use link_base::{Fault, FileRole, RowsWriter, StdFile, distinct_ids};
 use link_limits::MOST_FIELDS;
 use settings::Plan;
 use std::alloc::Global;
@@ -80,29 +81,30 @@ fn push_rows(
     plan: &Plan,
     tables: &ValueTables,
     source: &Source,
-    rows: &mut StdRows,
+    rows: &mut RowsWriter,
 ) -> Result<u32, Fault>
     requires tables { tables.now ≡ plan.now.tables }
     requires table { IsReadTable plan.now source.now.table }
     requires sorts { length source.now.sorts.items ≡ length plan.now.fields }
     requires few { length source.now.sorts.items ≤ MOST_FIELDS }
-    requires empty { rows.old ≡ [] }
+    requires empty { rows.old ≡ no_rows }
     ensures kind { IfErr result IsInputFault }
-    ensures answer { Gives (λ unreadable. record { records = records_of (ids_of source.now.table) rows.new; unreadable = unreadable }) (standard_file role plan.now source.now.sorts.items source.now.table) result }
-    ensures as_many { OnOk result (length rows.new ≡ length source.now.table) }
-    ensures valid { OnOk result (All (λ (values : List FieldValue). All IsValid values) rows.new) }
+    ensures answer { Gives (λ unreadable. record { records = records_of (ids_of source.now.table) rows.new.rows; unreadable = unreadable }) (standard_file role plan.now source.now.sorts.items source.now.table) result }
+    ensures closed { OnOk result (rows.new.row ≡ []) }
+    ensures as_many { OnOk result (length rows.new.rows ≡ length source.now.table) }
+    ensures valid { OnOk result (All (λ (values : List FieldValue). All IsValid values) rows.new.rows) }
 {
     let table = &source.table;
     let mut unreadable: u32 = 0;
-    let mut row = StandardRow::new(alloc, source.sorts.len())?;
+    let mut row = StandardRow::new(alloc);
     for at in 0..table.rows() {
-        row.take_in(alloc, tables, &source.sorts, table, at)?;
+        row.take_in(alloc, tables, &source.sorts, table, at, rows)?;
         match test_dates(alloc, role, plan, at + 1, row.first) {
             Ok(()) => {}
             Err(fault) => return Err(fault),
         }
         unreadable += row.unreadable;
-        rows.push(&row.values)?;
+        rows.close()?;
     }
     Ok(unreadable)
 }
@@ -124,10 +126,10 @@ fn standard_file(
     ensures valid { IfOk result (λ file. All (λ (r : Record). All IsValid r.row) file.records) }
     ensures distinct { IfOk result (λ file. HaveDistinctIds file.records) }
 {
-    let mut rows = StdRows::with_capacity(alloc, source.table.rows(), source.sorts.len() as u8)?;
+    let mut rows = RowsWriter::with_capacity(alloc, source.table.rows(), source.sorts.len() as u8)?;
     match push_rows(alloc, role, plan, tables, &source, &mut rows) {
         Ok(unreadable) => {
-            let file = StdFile::of(source.table.into_ids(), rows);
+            let file = StdFile::of(source.table.into_ids(), rows.finish());
             distinct_ids(&file);
             Ok(StandardFile { file, unreadable })
         }

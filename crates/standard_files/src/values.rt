@@ -1,12 +1,13 @@
 // Texts in standard values.
-ghost use Rattle.std.specs.Prelude.{◌≡◌, false, IfOk};
+ghost use Rattle.std.specs.Prelude.{◌≡◌, ◌+◌, ◌^◌, ◌<◌, false, IfOk, OnOk, length, sum_by};
+ghost use Rattle.link_base.specs.RowsWriter.{with_value};
 ghost use Rattle.link_base.specs.Standard.{IsValid};
-ghost use Rattle.standardise.specs.DateReads.{IsValidRead};
+ghost use Rattle.standardise.specs.Names.{written};
 ghost use Rattle.standard_files.specs.Values.{cannot_be_read, is_unreadable, standard_value, value_of_read};
 
 use crate::sorts::TextSort;
-use link_base::{NoMemory, Tables, Value};
-use standardise::{DateRead, NameTables, PlaceTables, std_date, std_name, std_place};
+use link_base::{NoMemory, RowsWriter, Tables};
+use standardise::{DateRead, NameTables, PlaceTables, std_date, std_name_in, std_place_in};
 use std::alloc::Global;
 use std::marker::Model;
 
@@ -28,13 +29,6 @@ impl Model for ValueTables {
     ghost invariant = { λ t. t.places.marks ≡ t.names.marks };
 }
 
-// A text in its standard value, and whether it is to be a date and cannot be read as one.
-#[derive(Drop)]
-pub(crate) struct StandardText {
-    pub(crate) value: Value,
-    pub(crate) is_unreadable: bool,
-}
-
 impl ValueTables {
     pub(crate) fn new(alloc: Global, tables: &Tables) -> Result<ValueTables, NoMemory>
         ensures { IfOk result (λ t. t ≡ tables.now) }
@@ -44,47 +38,57 @@ impl ValueTables {
         Ok(ValueTables { names, places })
     }
 
-    // The standard value of a text.
-    pub(crate) fn value_of(
+    // Appends the standard value of a text to the open row, and says whether it is to be a date and cannot be read as one. A
+    // text is made in `word` on the way.
+    pub(crate) fn add_value(
         &self,
         alloc: Global,
         sort: TextSort,
         text: &str,
-    ) -> Result<StandardText, NoMemory>
-        ensures value { IfOk result (λ s. s.value ≡ standard_value self.now sort text.now) }
-        ensures unreadable { IfOk result (λ s. s.is_unreadable ≡ is_unreadable self.now sort text.now) }
-        ensures valid { IfOk result (λ s. IsValid s.value) }
+        word: &mut Vec<u8>,
+        rows: &mut RowsWriter,
+    ) -> Result<bool, NoMemory>
+        requires room { sum_by length rows.old.rows + length rows.old.row < 2 ^ 32 }
+        ensures value { OnOk result (rows.new ≡ with_value rows.old (standard_value self.now sort text.now)) }
+        ensures unreadable { IfOk result (λ told. told ≡ is_unreadable self.now sort text.now) }
+        ensures valid { OnOk result (IsValid (standard_value self.now sort text.now)) }
     {
         match sort {
-            TextSort::Name => Ok(readable(std_name(alloc, text, &self.names)?)),
-            TextSort::Place => Ok(readable(std_place(alloc, text, &self.places)?)),
-            TextSort::Date(form) => Ok(date_value(std_date(text, form, &self.places))),
+            TextSort::Name => {
+                let present = std_name_in(alloc, text, &self.names, word)?;
+                add_text(rows, present, word)
+            }
+            TextSort::Place => {
+                let present = std_place_in(alloc, text, &self.places, word)?;
+                add_text(rows, present, word)
+            }
+            TextSort::Date(form) => add_date(rows, std_date(text, form, &self.places)),
         }
     }
 }
 
-fn readable(value: Value) -> StandardText
-    ensures { result ≡ record { value = value; is_unreadable = false } }
+// Appends a text to the open row, if there is one. It is no date that cannot be read.
+fn add_text(rows: &mut RowsWriter, present: bool, word: &[u8]) -> Result<bool, NoMemory>
+    requires room { sum_by length rows.old.rows + length rows.old.row < 2 ^ 32 }
+    ensures value { OnOk result (rows.new ≡ with_value rows.old (written present word.now)) }
+    ensures unreadable { IfOk result (λ told. told ≡ false) }
 {
-    StandardText {
-        value,
-        is_unreadable: false,
+    if present {
+        rows.add_word(word)?;
+    } else {
+        rows.add_absent()?;
     }
+    Ok(false)
 }
 
-// A date as a value: one that cannot be read is absent.
-fn date_value(read: DateRead) -> StandardText
-    requires { IsValidRead read }
-    ensures value { result.value ≡ value_of_read read }
-    ensures unreadable { result.is_unreadable ≡ cannot_be_read read }
-    ensures valid { IsValid result.value }
+// Appends a date to the open row, and says whether it cannot be read: then it is absent.
+fn add_date(rows: &mut RowsWriter, read: DateRead) -> Result<bool, NoMemory>
+    ensures value { OnOk result (rows.new ≡ with_value rows.old (value_of_read read)) }
+    ensures unreadable { IfOk result (λ told. told ≡ cannot_be_read read) }
 {
-    let value = match read {
-        DateRead::Day(day) => Value::Day(day),
-        DateRead::Absent | DateRead::Unreadable => Value::Absent,
-    };
-    StandardText {
-        value,
-        is_unreadable: read == DateRead::Unreadable,
+    match read {
+        DateRead::Day(day) => rows.add_day(day)?,
+        DateRead::Absent | DateRead::Unreadable => rows.add_absent()?,
     }
+    Ok(read == DateRead::Unreadable)
 }

@@ -9,11 +9,12 @@ use Rattle.standard_files.proofs.row.StandardRow.take_in.Given as goal
 
 abbrev pub invariant-loop-column : goal.invariant-loop-column
 invariant-loop-column l = record {
-  count : length l.self.values.items ≡ l.column;
+  rows : l.rows.rows ≡ l.fn.rows.rows;
+  count : length l.rows.row ≡ l.column;
   few : l.self.unreadable ≤ l.column;
   within : IfSome l.self.first (λ place. place < l.column);
-  values : l.self.values.items ++ standard_values l.tables (drop l.column l.sorts) (drop l.column (get_or l.table l.at no_row).fields) ≡ standard_values l.tables l.sorts (get_or l.table l.at no_row).fields;
+  values : l.rows.row ++ standard_values l.tables (drop l.column l.sorts) (drop l.column (get_or l.table l.at no_row).fields) ≡ standard_values l.tables l.sorts (get_or l.table l.at no_row).fields;
   unreadable : l.self.unreadable + unreadable_in_row l.tables (drop l.column l.sorts) (drop l.column (get_or l.table l.at no_row).fields) ≡ unreadable_in_row l.tables l.sorts (get_or l.table l.at no_row).fields;
   first : option_or l.self.first (unreadable_from l.tables l.column (drop l.column l.sorts) (drop l.column (get_or l.table l.at no_row).fields)) ≡ unreadable_from l.tables 0 l.sorts (get_or l.table l.at no_row).fields;
-  valid : All IsValid l.self.values.items;
+  valid : All IsValid l.rows.row;
 }
