@@ -23,4 +23,3 @@ mod proposed_links;
 mod records_of_texts;
 #[cfg(test)]
 mod rows_by_key;
-#[cfg(test)]

@@ -29,4 +29,4 @@ pub use shares::{FieldShares, Shape};
 pub use sides::Sides;
 pub use standard::{StdFile, Value, distinct_ids};
 pub use tables::{Tables, WordPair, WordPairs};
-pub use text::{MOST_SHORT, NoMemory, Text, TextList, push_number};
+pub use text::{NoMemory, Text, TextList, push_number};

@@ -1,5 +1,5 @@
 // Texts of bytes, and want of memory.
-ghost use Rattle.std.specs.Prelude.{◌≡◌, ◌≤◌, ◌++◌, ◌∷◌, [], List, ℕ, IfOk, OnErr, OnOk, decimal, length, take};
+ghost use Rattle.std.specs.Prelude.{◌≡◌, ◌≤◌, ◌++◌, ◌∷◌, [], List, ℕ, IfOk, OnErr, OnOk, decimal, length};
 ghost use Rattle.std.specs.Cmp.{partial_equiv_from_equiv};
 ghost use Rattle.std.specs.Cmp.Lexicographic.{nat_list_eq_equiv};
 ghost use Rattle.link_base.specs.declared.text.TheConstants.{MOST_SHORT};
@@ -26,8 +26,8 @@ impl<T: Drop> From<AllocFailed<T>> for NoMemory {
     }
 }
 
-/// The most bytes of a text that takes no memory of its own.
-pub const MOST_SHORT: usize = 22;
+// The most bytes of a text that takes no memory of its own.
+const MOST_SHORT: usize = 22;
 
 // The bytes of a short text, behind each other.
 #[derive(Drop)]
@@ -121,19 +121,6 @@ impl Text {
         }
         Text {
             bytes: Bytes::Long(bytes),
-        }
-    }
-
-    /// The text of the first bytes of a room, which takes no memory.
-    pub fn in_room(room: [u8; MOST_SHORT], count: usize) -> Text
-        requires { count ≤ MOST_SHORT }
-        ensures { result ≡ take count room }
-    {
-        Text {
-            bytes: Bytes::Short(Short {
-                bytes: room,
-                count: count as u8,
-            }),
         }
     }
 
