@@ -7,7 +7,7 @@ ghost use Rattle.price_check.specs.Assignment.{IsBefore, worth, price_sum, IsWit
 ghost use Rattle.price_check.specs.Search.{IsPairWithin};
 ghost use Rattle.price_check.specs.Verdict.{IsCandidate, IsAllowedPrice, HasAllowedValue, AreCertified, AreGreatest, AreLinks, IsVerdict};
 
-use crate::first::{candidate_at, first_negative, first_reused, first_stranger, first_uncovered};
+use crate::first::{candidate_near, first_negative, first_reused, first_stranger, first_uncovered};
 use crate::laws::certified_is_greatest;
 use crate::verdict::{Reason, Verified};
 use link_base::{Candidate, FileRole, NoMemory, PairAt};
@@ -37,11 +37,13 @@ pub fn links_worth(candidates: &[Candidate], links: &[PairAt]) -> i64
     ensures { (chosen : List ACandidate) → AreLinks candidates.now links.now chosen → result ≡ worth chosen }
 {
     let mut sum = 0;
+    let mut near = 0;
     for link in links {
-        let Some(k) = candidate_at(candidates, *link) else {
+        let Some(k) = candidate_near(candidates, near, *link) else {
             unreachable!();
         };
         sum += i64::from(candidates[k].value);
+        near = k;
     }
     sum
 }

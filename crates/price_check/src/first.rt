@@ -96,16 +96,41 @@ pub fn candidate_at(candidates: &[Candidate], link: PairAt) -> Option<usize>
     }
 }
 
+// How many candidates are tried from where one is likely.
+const NEAR: usize = 4;
+
+/// Where those end that are tried from a place on, of so many.
+pub fn end_of_near(from: usize, count: usize) -> usize
+    ensures { result ≤ count }
+{
+    from.saturating_add(NEAR).min(count)
+}
+
+/// The place of the candidate with these positions, which is likely to be one of those from a place on.
+pub(crate) fn candidate_near(candidates: &[Candidate], from: usize, link: PairAt) -> Option<usize>
+    requires { AllPairs IsBefore candidates.now }
+    ensures { MatchOption result (IsCandidate candidates.now link → ⊥) (λ k. IsCandidateAt candidates.now link k) }
+{
+    for at in from..end_of_near(from, candidates.len()) {
+        if has_positions(candidates[at], link) {
+            return Some(at);
+        }
+    }
+    candidate_at(candidates, link)
+}
+
 /// The first link that is no candidate.
 pub fn first_stranger(candidates: &[Candidate], links: &[PairAt]) -> Option<u32>
     requires count { length links.now < 2 ^ 32 }
     requires rising { AllPairs IsBefore candidates.now }
     ensures { IsFirstBad (IsCandidate candidates.now) links.now result }
 {
+    let mut near = 0;
     for (i, link) in links.iter().enumerate() {
-        let Some(_) = candidate_at(candidates, *link) else {
+        let Some(at) = candidate_near(candidates, near, *link) else {
             return Some(i as u32);
         };
+        near = at;
     }
     None
 }

@@ -16,7 +16,7 @@ mod verdict;
 pub use capacity::check_capacity;
 pub use capacity_laws::{certified_within_is_greatest, single_capacities};
 pub use certificate::check;
-pub use first::{candidate_at, first_reused};
+pub use first::{candidate_at, end_of_near, first_reused};
 pub use laws::{
     certificate_is_tight, certified_is_greatest, greatest_value_is_least,
     parts_together_are_certified, prices_are_bounded,

@@ -31,7 +31,7 @@ impl StandardRow {
         }
     }
 
-    // One value more.
+    // Notes whether the text at a place is a date that cannot be read.
     fn note(&mut self, place: usize, is_unreadable: bool)
         requires few { self.old.unreadable ≤ place }
         requires short { place < MOST_FIELDS }

@@ -8,14 +8,13 @@ ghost use Rattle.link_report.specs.Reading.{same_row};
 ghost use Rattle.written_check.specs.LinkRows.{IsPlaceOf, IsPlaceWithIds, after_all, at_place, candidate_in, has_ids, is_before, links_in, links_verified};
 ghost use Rattle.written_check.specs.Refuted.{IsOfRows, Verifies};
 
-use crate::near::end_of_near;
 use crate::refutation::Refutation;
 use csv::ByteRecord;
 use file_reader::Records;
 use itoa::Buffer;
 use link_base::{Candidate, NoMemory, PairAt, StdFile, distinct_ids};
 use link_report::{ReadRows, field_of, has_fields, links_begun, read_links, source_of};
-use price_check::candidate_at;
+use price_check::{candidate_at, end_of_near};
 use std::alloc::Global;
 
 // Whether a row is that of a candidate.

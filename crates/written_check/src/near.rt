@@ -1,18 +1,9 @@
 // What stands near the place that was found last, and is tried before an id is sought by its hash.
-ghost use Rattle.std.specs.Prelude.{◌≡◌, ◌<◌, ◌≤◌, IfSome, length};
+ghost use Rattle.std.specs.Prelude.{◌≡◌, ◌<◌, IfSome, length};
 ghost use Rattle.link_base.specs.Standard.{position_of_id};
 
 use link_base::{StdFile, distinct_ids};
-
-// How many are tried.
-const NEAR: usize = 4;
-
-/// Where those end that are tried from a place on, of so many.
-pub(crate) fn end_of_near(from: usize, count: usize) -> usize
-    ensures { result ≤ count }
-{
-    from.saturating_add(NEAR).min(count)
-}
+use price_check::end_of_near;
 
 /// The position of the record with an id, which is likely to be one of those from a place on.
 pub(crate) fn position_near(file: &StdFile, from: usize, id: &[u8]) -> Option<u32>
