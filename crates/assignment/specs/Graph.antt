@@ -13,7 +13,7 @@ pub record IsGraph (rows_a rows_b : ℕ) (g : Graph) : Type 0 where
   pub turned_listed : AreListed g.turned.items rows_b g.turned_starts.items
 
 -- the sides stand over the edges and the turned edges, for so many records
-pub record AreSides (rows_a rows_b : ℕ) (g : Graph) (s : Sides) : Type 0 where
+pub record AreTwoSides (rows_a rows_b : ℕ) (g : Graph) (s : Sides) : Type 0 where
   pub own : IsSide g.edges.items s.own
   pub count_a : length s.own.price_a.items ≡ rows_a
   pub count_b : length s.own.price_b.items ≡ rows_b

@@ -6,14 +6,14 @@ use Rattle.price_check.specs.Assignment.{IsBefore, greatest_value}
 use Rattle.price_check.specs.PartNumbers.{ArePartNumbers}
 use Rattle.assignment.specs.declared.assigner.Assigner.TheInside.{Inside}
 use Rattle.assignment_steps.specs.Candidates.{edges_of}
-use Rattle.assignment.specs.Graph.{AreSides, IsGraph}
+use Rattle.assignment.specs.Graph.{AreTwoSides, IsGraph}
 
 -- all is ready for the first step
 pub record IsPrepared (s : Inside) : Type 0 where
   pub order : AllPairs IsBefore s.candidates.items
   pub edges : s.graph.edges.items ≡ edges_of s.candidates.items
   pub graph : IsGraph s.rows_a s.rows_b s.graph
-  pub sides : AreSides s.rows_a s.rows_b s.graph s.sides
+  pub sides : AreTwoSides s.rows_a s.rows_b s.graph s.sides
   pub parts : ArePartNumbers s.candidates.items s.part_numbers.numbers.items s.part_numbers.parts
 
 -- no price is above the greatest of 0 and the links' values, nor above the greatest size of a value

@@ -3,7 +3,7 @@ ghost use Rattle.std.specs.Prelude.{◌≡◌, All, AllPairs, IfOk, length};
 ghost use Rattle.price_check.specs.Assignment.{IsBefore, IsWithin};
 ghost use Rattle.assignment_steps.specs.Between.{IsBetween};
 ghost use Rattle.assignment_steps.specs.Candidates.{edges_of};
-ghost use Rattle.assignment.specs.Graph.{AreSides, IsGraph};
+ghost use Rattle.assignment.specs.Graph.{AreTwoSides, IsGraph};
 ghost use Rattle.assignment.specs.Solution.{HasSmallValue};
 
 use crate::side::{Other, Side, first_side, other_if_less, run, run_other};
@@ -61,7 +61,7 @@ pub fn first_sides(
     graph: &Graph,
 ) -> Result<Sides, NoMemory>
     requires { IsGraph rows_a rows_b graph.now }
-    ensures { IfOk result (AreSides rows_a rows_b graph.now) }
+    ensures { IfOk result (AreTwoSides rows_a rows_b graph.now) }
 {
     let price_a = first_prices(alloc, &graph.edges, rows_a as usize)?;
     let price_b = first_prices(alloc, &graph.turned, rows_b as usize)?;
@@ -78,7 +78,7 @@ pub fn first_sides(
 /// Lets the other side search, if it is there, and then the side that searches, which is given back.
 pub fn run_sides(graph: &Graph, sides: Sides) -> Side
     requires graph { IsGraph (length sides.own.price_a.items) (length sides.own.price_b.items) graph.now }
-    requires sides { AreSides (length sides.own.price_a.items) (length sides.own.price_b.items) graph.now sides }
+    requires sides { AreTwoSides (length sides.own.price_a.items) (length sides.own.price_b.items) graph.now sides }
     ensures between { IsBetween graph.now.edges.items result.price_a.items result.price_b.items result.link_a.items result.link_b.items (length result.price_a.items) }
     ensures rows_a { length result.price_a.items ≡ length sides.own.price_a.items }
     ensures rows_b { length result.price_b.items ≡ length sides.own.price_b.items }

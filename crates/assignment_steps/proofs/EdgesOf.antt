@@ -10,7 +10,7 @@ use Rattle.std.proofs.lemmas.List.Elements.{All-cons, All-nil, All-contains}
 use Rattle.link_base.specs.declared.rule.Candidate.{Candidate}
 use Rattle.assignment_steps.specs.declared.market.Edge.{Edge}
 use Rattle.assignment_steps.specs.Market.{link, edge, number, no_edge, IsInRange, AreSmall, IsRising}
-use Rattle.assignment_steps.specs.Candidates.{positive, with_value, edge_from, edges_of, is_positive, links_to, is_linked, prices_of, HasSmallValue}
+use Rattle.assignment_steps.specs.Candidates.{positive, valued_edge, edge_from, edges_of, is_positive, links_to, is_linked, prices_of, HasSmallValue}
 use Rattle.assignment_steps.proofs.Members.{Contains-later}
 
 -- Candidates and edges.
@@ -21,7 +21,7 @@ pub record Makes (c : Candidate) (e : Edge) : Type 0 where
   pub value : c.value ≡ pos e.value
   pub is : is_positive c.value ≡ true
 
-makes_at : (c : Candidate) (e : Edge) (v : ℤ) → c.value ≡ v → with_value c (positive v) ≡ Some e → Makes c e
+makes_at : (c : Candidate) (e : Edge) (v : ℤ) → c.value ≡ v → valued_edge c (positive v) ≡ Some e → Makes c e
 makes_at c e (pos zero) is h = absurd cc
 makes_at c e (pos (suc n)) is h = (let same : record { a = c.a; b = c.b; value = suc n } ≡ e = cc in rw (← same) (record { record_a = refl; record_b = refl; value = is; is = ap is_positive is }))
 makes_at c e (negsuc n) is h = absurd cc
@@ -45,7 +45,7 @@ made_head y c ys e is rest (suc k) lt same = made_shift (edge_from y) (edges_of 
 
 pub edge_made : (cs : List Candidate) (c : Candidate) (n : ℕ) → Contains cs c → c.value ≡ pos (suc n) → (k : ℕ) × ((k < length (edges_of cs)) × (edge (edges_of cs) k ≡ record { a = c.a; b = c.b; value = suc n }))
 edge_made [] c n inside is = absurd (omega (arith, inside.1))
-edge_made (y ∷ ys) c n inside is = made_head y c ys (record { a = c.a; b = c.b; value = suc n }) (ap (λ v. with_value c (positive v)) is) (λ h. edge_made ys c n h is) inside.0 inside.1 inside.2
+edge_made (y ∷ ys) c n inside is = made_head y c ys (record { a = c.a; b = c.b; value = suc n }) (ap (λ v. valued_edge c (positive v)) is) (λ h. edge_made ys c n h is) inside.0 inside.1 inside.2
 
 -- Prices as integers.
 

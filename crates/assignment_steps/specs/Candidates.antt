@@ -16,12 +16,12 @@ positive (pos (suc n)) = Some (suc n)
 positive (negsuc n) = None
 
 -- a candidate as an edge, where its value is positive
-abbrev pub with_value : Candidate → Option ℕ → Option Edge
-with_value c None = None
-with_value c (Some v) = Some (record { a = c.a; b = c.b; value = v })
+abbrev pub valued_edge : Candidate → Option ℕ → Option Edge
+valued_edge c None = None
+valued_edge c (Some v) = Some (record { a = c.a; b = c.b; value = v })
 
 abbrev pub edge_from : Candidate → Option Edge
-edge_from c = with_value c (positive c.value)
+edge_from c = valued_edge c (positive c.value)
 
 -- the candidates with positive values
 abbrev pub edges_of : List Candidate → List Edge

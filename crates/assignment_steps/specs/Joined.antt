@@ -11,12 +11,12 @@ pub record IsOf (board : Board) (a k : ℕ) : Type 0 where
   pub within : k < length board.edges.now
 
 -- an edge of which one record has a link
-abbrev pub IsJoined : List Edge → List (Option ℕ) → List (Option ℕ) → ℕ → Type 0
-IsJoined es la lb k = link la (edge es k).a ≡ None → link lb (edge es k).b ≢ None
+abbrev pub IsTakenUp : List Edge → List (Option ℕ) → List (Option ℕ) → ℕ → Type 0
+IsTakenUp es la lb k = link la (edge es k).a ≡ None → link lb (edge es k).b ≢ None
 
 -- two records have no edge, or one of which a record has a link
 abbrev pub AreJoined : Board → List (Option ℕ) → List (Option ℕ) → ℕ → ℕ → Type 0
-AreJoined board la lb a b = ((k : ℕ) → IsOf board a k → (edge board.edges.now k).b ≢ b) ⊎ ((k : ℕ) × (IsOf board a k × ((edge board.edges.now k).b ≡ b) × IsJoined board.edges.now la lb k))
+AreJoined board la lb a b = ((k : ℕ) → IsOf board a k → (edge board.edges.now k).b ≢ b) ⊎ ((k : ℕ) × (IsOf board a k × ((edge board.edges.now k).b ≡ b) × IsTakenUp board.edges.now la lb k))
 
 -- so are the records of the first `count` links of turned edges
 abbrev pub AreJoinedAs : Board → List (Option ℕ) → List (Option ℕ) → List (Option ℕ) → ℕ → Type 0

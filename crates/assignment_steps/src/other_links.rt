@@ -1,7 +1,7 @@
 // Links as links of the edges: of turned edges, and of records side by side.
 ghost use Rattle.std.specs.Prelude.{◌≡◌, ◌≢◌, ◌<◌, ℕ, length, MatchOption, None, Some};
 ghost use Rattle.assignment_steps.specs.Market.{edge, link, IsMatched, IsInRange};
-ghost use Rattle.assignment_steps.specs.Joined.{AreJoined, AreJoinedAs, AreJoinedWith, IsJoined, IsOf};
+ghost use Rattle.assignment_steps.specs.Joined.{AreJoined, AreJoinedAs, AreJoinedWith, IsTakenUp, IsOf};
 
 use crate::market::{Board, Edge};
 
@@ -27,7 +27,7 @@ fn join(edges: &[Edge], link_a: &mut [Option<usize>], link_b: &mut [Option<usize
     requires in_range { IsInRange edges.now (length link_a.old) (length link_b.old) }
     requires matched { IsMatched edges.now link_a.old link_b.old }
     ensures matched { IsMatched edges.now link_a.new link_b.new }
-    ensures joined { IsJoined edges.now link_a.new link_b.new k }
+    ensures joined { IsTakenUp edges.now link_a.new link_b.new k }
     ensures kept_a { (a : ℕ) → link link_a.new a ≡ None → link link_a.old a ≡ None }
     ensures kept_b { (b : ℕ) → link link_b.new b ≡ None → link link_b.old b ≡ None }
 {

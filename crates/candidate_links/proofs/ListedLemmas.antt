@@ -10,10 +10,10 @@ use Rattle.std.proofs.lemmas.Slice.Eq.{bytes_eq-Decides}
 use Rattle.csv_rows.specs.Numbers.{number_in}
 use Rattle.link_base.specs.Standard.{HaveDistinctIds, Record, no_record, position_of_id}
 use Rattle.file_reader.specs.Rows.{TableRow, no_row}
-use Rattle.candidate_links.specs.Capacities.{capacity_by, capacity_of, capacity_text}
+use Rattle.candidate_links.specs.Capacities.{capacity_by, listed_capacity, capacity_text}
 
 -- no row names a record, and each has one place
-pub unlisted : (b : List Record) → replicate (length b) 1 ≡ map (capacity_of []) b
+pub unlisted : (b : List Record) → replicate (length b) 1 ≡ map (listed_capacity []) b
 unlisted [] = refl
 unlisted (r ∷ rs) = ap (λ ns. 1 ∷ ns) (unlisted rs)
 
@@ -23,10 +23,10 @@ other x y differ = false_from_ne_true (bytes_eq x y) (λ yes. differ ((bytes_eq-
 
 -- a record is looked up row by row
 looked_up : (r : Record) (row : TableRow) (rows : List TableRow)
-    → capacity_of (row ∷ rows) r ≡ cond (bytes_eq row.id r.id) (number_in (capacity_text row)) (capacity_of rows r)
+    → listed_capacity (row ∷ rows) r ≡ cond (bytes_eq row.id r.id) (number_in (capacity_text row)) (listed_capacity rows r)
 looked_up r row rows = by_test (bytes_eq row.id r.id)
   where
-    by_test : (t : Bool) → capacity_by (cond t (Some row) (find (λ (x : TableRow). bytes_eq x.id r.id) rows)) ≡ cond t (number_in (capacity_text row)) (capacity_of rows r)
+    by_test : (t : Bool) → capacity_by (cond t (Some row) (find (λ (x : TableRow). bytes_eq x.id r.id) rows)) ≡ cond t (number_in (capacity_text row)) (listed_capacity rows r)
     by_test true = refl
     by_test false = refl
 
@@ -41,10 +41,10 @@ module _ (b : List Record) (rows : List TableRow) (at p : ℕ) (within : at < le
 
   -- what the rows so far say of a record, and what they say with one more
   abbrev before : Record → ℕ
-  before r = capacity_of (take at rows) r
+  before r = listed_capacity (take at rows) r
 
   abbrev after : Record → ℕ
-  after r = capacity_of (take (at + 1) rows) r
+  after r = listed_capacity (take (at + 1) rows) r
 
   found : (p < length b) × (bytes_eq row.id there.id ≡ true) × ((k : ℕ) → k < p → bytes_eq row.id (get_or b k no_record).id ≡ false)
   found = position-Some (λ (r : Record). bytes_eq row.id r.id) b p no_record named
@@ -61,7 +61,7 @@ module _ (b : List Record) (rows : List TableRow) (at p : ℕ) (within : at < le
 
   here : after there ≡ number_in (capacity_text row)
   here =
-      found_at (λ rs. capacity_of rs there) (λ (x : TableRow). bytes_eq x.id there.id) (λ x. number_in (capacity_text x)) 1 refl (looked_up there)
+      found_at (λ rs. listed_capacity rs there) (λ (x : TableRow). bytes_eq x.id there.id) (λ x. number_in (capacity_text x)) 1 refl (looked_up there)
       (take (at + 1) rows) at no_row (omega (arith, length-take-le (at + 1) rows (omega arith))) earlier passes
       ∙ ap (λ x. number_in (capacity_text x)) (get_or-take (at + 1) rows at no_row (omega arith))
 
@@ -79,8 +79,8 @@ module _ (b : List Record) (rows : List TableRow) (at p : ℕ) (within : at < le
       let r = get_or b k no_record in
       let is_other = other row.id r.id (λ e. apart_from k lt differ (sym e ∙ same)) in
       let as_before =
-      ap (λ rs. capacity_of rs r) (take_more rows at no_row within)
-      ∙ found_push_other (λ rs. capacity_of rs r) (λ (x : TableRow). bytes_eq x.id r.id) (λ x. number_in (capacity_text x)) 1 refl (looked_up r) (take at rows) row is_other in
+      ap (λ rs. listed_capacity rs r) (take_more rows at no_row within)
+      ∙ found_push_other (λ rs. listed_capacity rs r) (λ (x : TableRow). bytes_eq x.id r.id) (λ x. number_in (capacity_text x)) 1 refl (looked_up r) (take at rows) row is_other in
       sym as_before
 
   pub listed_more : set (map before b) p (number_in (capacity_text row)) ≡ map after b

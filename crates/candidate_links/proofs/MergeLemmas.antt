@@ -7,26 +7,26 @@ use Rattle.std.proofs.lemmas.List.Elements.{All-filter, All-push}
 use Rattle.link_base.specs.declared.rule.Candidate.{Candidate}
 use Rattle.link_base.specs.declared.rule.PairAt.{PairAt}
 use Rattle.link_base.specs.Rule.{IsPairBefore}
-use Rattle.candidate_links.specs.Merging.{is_before, merged, next_of}
+use Rattle.candidate_links.specs.Merging.{comes_first, merged, next_of}
 use Rattle.candidate_links.specs.declared.merging.Next.TheVariants as next
 
 -- a pair that stands before another does so by the test, and not the other way round
-before_true : (x y : PairAt) → IsPairBefore x y → is_before x y ≡ true
+before_true : (x y : PairAt) → IsPairBefore x y → comes_first x y ≡ true
 before_true x y (inl lt) = grind (arith, nat_tests)
 before_true x y (inr h) = let a : x.a ≡ y.a = h.0 in let b : x.b < y.b = h.1 in grind (arith, nat_tests)
 
-before_false : (x y : PairAt) → IsPairBefore x y → is_before y x ≡ false
+before_false : (x y : PairAt) → IsPairBefore x y → comes_first y x ≡ false
 before_false x y (inl lt) = grind (arith, nat_tests)
 before_false x y (inr h) = let a : x.a ≡ y.a = h.0 in let b : x.b < y.b = h.1 in grind (arith, nat_tests)
 
 module _ (f g : PairAt → Option Candidate) where
   -- a link that is not after the first possible link
-  link_first : (x y : PairAt) (xs ys : List PairAt) → is_before x y ≡ true → merged f g (x ∷ xs) (y ∷ ys) ≡ cons_option (f x) (merged f g xs (y ∷ ys))
+  link_first : (x y : PairAt) (xs ys : List PairAt) → comes_first x y ≡ true → merged f g (x ∷ xs) (y ∷ ys) ≡ cons_option (f x) (merged f g xs (y ∷ ys))
   unfolding merged
   link_first x y xs ys is = rw is refl
 
   -- a possible link that is before the first link
-  possible_first : (x y : PairAt) (xs ys : List PairAt) → is_before x y ≡ false → merged f g (x ∷ xs) (y ∷ ys) ≡ cons_option (g y) (merged f g (x ∷ xs) ys)
+  possible_first : (x y : PairAt) (xs ys : List PairAt) → comes_first x y ≡ false → merged f g (x ∷ xs) (y ∷ ys) ≡ cons_option (g y) (merged f g (x ∷ xs) ys)
   unfolding merged
   possible_first x y xs ys is = rw is refl
 
@@ -43,7 +43,7 @@ module _ (f g : PairAt → Option Candidate) where
   none_left [] [] is = refl
   none_left [] (y ∷ ys) is = absurd (cc)
   none_left (x ∷ xs) [] is = absurd (cc)
-  none_left (x ∷ xs) (y ∷ ys) is = by_test (is_before x y) is
+  none_left (x ∷ xs) (y ∷ ys) is = by_test (comes_first x y) is
     where
       by_test : (b : Bool) → cond b (next.Link x) (next.Possible y) ≡ next.End → merged f g (x ∷ xs) (y ∷ ys) ≡ []
       by_test true e = absurd (cc)
@@ -54,9 +54,9 @@ module _ (f g : PairAt → Option Candidate) where
   link_next [] [] at is = absurd (cc)
   link_next [] (y ∷ ys) at is = absurd (cc)
   link_next (x ∷ xs) [] at is = let same : x ≡ at = cc in link_alone x xs ∙ ap (λ (p : PairAt). cons_option (f p) (merged f g xs [])) same
-  link_next (x ∷ xs) (y ∷ ys) at is = by_test (is_before x y) refl is
+  link_next (x ∷ xs) (y ∷ ys) at is = by_test (comes_first x y) refl is
     where
-      by_test : (b : Bool) → is_before x y ≡ b → cond b (next.Link x) (next.Possible y) ≡ next.Link at → merged f g (x ∷ xs) (y ∷ ys) ≡ cons_option (f at) (merged f g xs (y ∷ ys))
+      by_test : (b : Bool) → comes_first x y ≡ b → cond b (next.Link x) (next.Possible y) ≡ next.Link at → merged f g (x ∷ xs) (y ∷ ys) ≡ cons_option (f at) (merged f g xs (y ∷ ys))
       by_test true t e = let same : x ≡ at = cc in link_first x y xs ys t ∙ ap (λ (p : PairAt). cons_option (f p) (merged f g xs (y ∷ ys))) same
       by_test false t e = absurd (cc)
 
@@ -65,9 +65,9 @@ module _ (f g : PairAt → Option Candidate) where
   possible_next [] [] at is = absurd (cc)
   possible_next [] (y ∷ ys) at is = let same : y ≡ at = cc in possible_alone y ys ∙ ap (λ (p : PairAt). cons_option (g p) (merged f g [] ys)) same
   possible_next (x ∷ xs) [] at is = absurd (cc)
-  possible_next (x ∷ xs) (y ∷ ys) at is = by_test (is_before x y) refl is
+  possible_next (x ∷ xs) (y ∷ ys) at is = by_test (comes_first x y) refl is
     where
-      by_test : (b : Bool) → is_before x y ≡ b → cond b (next.Link x) (next.Possible y) ≡ next.Possible at → merged f g (x ∷ xs) (y ∷ ys) ≡ cons_option (g at) (merged f g (x ∷ xs) ys)
+      by_test : (b : Bool) → comes_first x y ≡ b → cond b (next.Link x) (next.Possible y) ≡ next.Possible at → merged f g (x ∷ xs) (y ∷ ys) ≡ cons_option (g at) (merged f g (x ∷ xs) ys)
       by_test true t e = absurd (cc)
       by_test false t e = let same : y ≡ at = cc in possible_first x y xs ys t ∙ ap (λ (p : PairAt). cons_option (g p) (merged f g (x ∷ xs) ys)) same
 
@@ -105,7 +105,7 @@ pub link_there : (P : PairAt → Type 0) (xs ys : List PairAt) (at : PairAt) →
 link_there P [] [] at is all = absurd (cc)
 link_there P [] (y ∷ ys) at is all = absurd (cc)
 link_there P (x ∷ xs) [] at is all = let same : x ≡ at = cc in (omega arith, subst P same (all 0 x (omega arith)))
-link_there P (x ∷ xs) (y ∷ ys) at is all = by_test (is_before x y) is
+link_there P (x ∷ xs) (y ∷ ys) at is all = by_test (comes_first x y) is
   where
     by_test : (b : Bool) → cond b (next.Link x) (next.Possible y) ≡ next.Link at → (0 < length (x ∷ xs)) × P at
     by_test true e = let same : x ≡ at = cc in (omega arith, subst P same (all 0 x (omega arith)))
@@ -115,7 +115,7 @@ pub possible_there : (P : PairAt → Type 0) (xs ys : List PairAt) (at : PairAt)
 possible_there P [] [] at is all = absurd (cc)
 possible_there P [] (y ∷ ys) at is all = let same : y ≡ at = cc in (omega arith, subst P same (all 0 y (omega arith)))
 possible_there P (x ∷ xs) [] at is all = absurd (cc)
-possible_there P (x ∷ xs) (y ∷ ys) at is all = by_test (is_before x y) is
+possible_there P (x ∷ xs) (y ∷ ys) at is all = by_test (comes_first x y) is
   where
     by_test : (b : Bool) → cond b (next.Link x) (next.Possible y) ≡ next.Possible at → (0 < length (y ∷ ys)) × P at
     by_test true e = absurd (cc)

@@ -9,7 +9,7 @@ use Rattle.std.proofs.lemmas.List.Elements.{All-tail, All-head, All-contains}
 use Rattle.price_check.proofs.Members.{clash}
 use Rattle.price_check.specs.Assignment.{IsBefore, total}
 use Rattle.link_base.specs.declared.rule.Candidate.{Candidate}
-use Rattle.candidate_links.specs.Choice.{dropped, dropped_of, is_linked, is_same_pair}
+use Rattle.candidate_links.specs.Choice.{dropped, dropped_of, is_chosen, is_same_pair}
 use Rattle.link_report.specs.declared.report.Dropped.{Dropped}
 use Rattle.candidate_links.specs.Passing.{is_next, unlinked}
 
@@ -104,14 +104,14 @@ not_more (c ∷ cs) (l ∷ ls) are =
     more_if c l cs ls (is_same_pair l c) (λ is. not_more cs ls (passed c cs (l ∷ ls) are is)) (λ is. not_more cs (l ∷ ls) (kept c cs (l ∷ ls) are is)) refl
 
 -- a candidate before all of some links is none of them
-none_linked : (c : Candidate) (links : List Candidate) → All (IsBefore c) links → is_linked links c ≡ false
+none_linked : (c : Candidate) (links : List Candidate) → All (IsBefore c) links → is_chosen links c ≡ false
 none_linked c [] before = refl
 none_linked c (l ∷ ls) before =
-    or_from (is_same_pair l c) (is_linked ls c) (other_records c l (All-head (IsBefore c) l ls before)) (none_linked c ls (All-tail (IsBefore c) l ls before))
+    or_from (is_same_pair l c) (is_chosen ls c) (other_records c l (All-head (IsBefore c) l ls before)) (none_linked c ls (All-tail (IsBefore c) l ls before))
 
 -- a link before all of some candidates is none of them
 filter_less : (l : Candidate) (ls cs : List Candidate) → All (λ c. is_same_pair l c ≡ false) cs
-    → filter (λ c. not (is_linked (l ∷ ls) c)) cs ≡ filter (λ c. not (is_linked ls c)) cs
+    → filter (λ c. not (is_chosen (l ∷ ls) c)) cs ≡ filter (λ c. not (is_chosen ls c)) cs
 filter_less l ls [] others = refl
 filter_less l ls (c ∷ cs) others =
     let other : is_same_pair l c ≡ false = others zero c (omega arith) in
@@ -120,7 +120,7 @@ filter_less l ls (c ∷ cs) others =
 
 -- the candidate that is the first link is left out, and the other links are among the rest
 first_linked : (c : Candidate) (cs links : List Candidate) → AreAmong (c ∷ cs) links → is_next links c ≡ true
-    → filter (λ x. not (is_linked links x)) (c ∷ cs) ≡ filter (λ x. not (is_linked (drop 1 links) x)) cs
+    → filter (λ x. not (is_chosen links x)) (c ∷ cs) ≡ filter (λ x. not (is_chosen (drop 1 links) x)) cs
 first_linked c cs [] are is = absurd (cc)
 first_linked c cs (l ∷ ls) are is =
     let same = same_records l c is in
@@ -129,15 +129,15 @@ first_linked c cs (l ∷ ls) are is =
 
 -- what is left are the candidates that are not among the links
 left_if : (c : Candidate) (cs links : List Candidate) → AreAmong (c ∷ cs) links
-    → (is_next links c ≡ true → unlinked cs (drop 1 links) ≡ filter (λ x. not (is_linked (drop 1 links) x)) cs)
-    → (is_next links c ≡ false → unlinked cs links ≡ filter (λ x. not (is_linked links x)) cs)
-    → (b : Bool) → is_next links c ≡ b → cond b (unlinked cs (drop 1 links)) (c ∷ unlinked cs links) ≡ filter (λ x. not (is_linked links x)) (c ∷ cs)
+    → (is_next links c ≡ true → unlinked cs (drop 1 links) ≡ filter (λ x. not (is_chosen (drop 1 links) x)) cs)
+    → (is_next links c ≡ false → unlinked cs links ≡ filter (λ x. not (is_chosen links x)) cs)
+    → (b : Bool) → is_next links c ≡ b → cond b (unlinked cs (drop 1 links)) (c ∷ unlinked cs links) ≡ filter (λ x. not (is_chosen links x)) (c ∷ cs)
 left_if c cs links are if_next if_other true is = if_next is ∙ sym (first_linked c cs links are is)
 left_if c cs links are if_next if_other false is =
-    let none : is_linked links c ≡ false = none_linked c links (links_later c cs links are is) in
+    let none : is_chosen links c ≡ false = none_linked c links (links_later c cs links are is) in
     rw none (ap (λ (xs : List Candidate). c ∷ xs) (if_other is))
 
-pub unlinked_are : (cs links : List Candidate) → AreAmong cs links → unlinked cs links ≡ filter (λ c. not (is_linked links c)) cs
+pub unlinked_are : (cs links : List Candidate) → AreAmong cs links → unlinked cs links ≡ filter (λ c. not (is_chosen links c)) cs
 unfolding unlinked
 unlinked_are [] links are = refl
 unlinked_are (c ∷ cs) links are =

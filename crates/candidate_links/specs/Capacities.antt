@@ -40,12 +40,12 @@ abbrev pub capacity_by : Option TableRow → ℕ
 capacity_by None = 1
 capacity_by (Some row) = number_in (capacity_text row)
 
-abbrev pub capacity_of : List TableRow → Record → ℕ
-capacity_of rows r = capacity_by (find (λ (row : TableRow). bytes_eq row.id r.id) rows)
+abbrev pub listed_capacity : List TableRow → Record → ℕ
+listed_capacity rows r = capacity_by (find (λ (row : TableRow). bytes_eq row.id r.id) rows)
 
 -- the capacities of the records of B by the rows of a table
 abbrev pub capacities_by : List Record → List TableRow → Result (List ℕ) Fault
-capacities_by b rows = after_rows b (map (capacity_of rows) b) 1 rows
+capacities_by b rows = after_rows b (map (listed_capacity rows) b) 1 rows
 
 -- the rows of a file of capacities
 abbrev pub capacities_table : List ℕ → Result (List TableRow) Fault

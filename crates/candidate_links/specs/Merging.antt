@@ -7,21 +7,21 @@ use Rattle.candidate_links.specs.declared.merging.Next.{Next}
 use Rattle.candidate_links.specs.declared.merging.Next.TheVariants as next
 
 -- one pair stands before another by its positions
-abbrev pub is_before : PairAt → PairAt → Bool
-is_before x y = nat_lt x.a y.a || ((x.a == y.a) && nat_lt x.b y.b)
+abbrev pub comes_first : PairAt → PairAt → Bool
+comes_first x y = nat_lt x.a y.a || ((x.a == y.a) && nat_lt x.b y.b)
 
 -- the next pair of two lists
 abbrev pub next_of : List PairAt → List PairAt → Next
 next_of [] [] = next.End
 next_of [] (y ∷ ys) = next.Possible y
 next_of (x ∷ xs) [] = next.Link x
-next_of (x ∷ xs) (y ∷ ys) = if is_before x y then next.Link x else next.Possible y
+next_of (x ∷ xs) (y ∷ ys) = if comes_first x y then next.Link x else next.Possible y
 
 -- what a pair and the rest of its list give, put among what the pairs of another list give
 abbrev pub merged_from : (PairAt → Option Candidate) → PairAt → Option Candidate → (List PairAt → List Candidate) → List PairAt → List Candidate
 merged_from of_possible x own rest [] = cons_option own (rest [])
 merged_from of_possible x own rest (y ∷ ys) =
-    if is_before x y then cons_option own (rest (y ∷ ys)) else cons_option (of_possible y) (merged_from of_possible x own rest ys)
+    if comes_first x y then cons_option own (rest (y ∷ ys)) else cons_option (of_possible y) (merged_from of_possible x own rest ys)
 
 -- what the pairs of two rising lists give, in the order of all of them
 unfoldable pub merged : (PairAt → Option Candidate) → (PairAt → Option Candidate) → List PairAt → List PairAt → List Candidate

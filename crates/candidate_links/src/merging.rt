@@ -1,6 +1,6 @@
 // The next pair of two rising lists.
 ghost use Rattle.std.specs.Prelude.{◌≡◌, ◌<◌, drop, length};
-ghost use Rattle.candidate_links.specs.Merging.{is_before, next_of};
+ghost use Rattle.candidate_links.specs.Merging.{comes_first, next_of};
 
 use link_base::PairAt;
 
@@ -21,7 +21,7 @@ pub(crate) fn after_first<T>(items: &[T]) -> &[T]
 
 // Whether a pair stands before another by its positions.
 fn is_before(x: &PairAt, y: &PairAt) -> bool
-    ensures { result ≡ is_before x.now y.now }
+    ensures { result ≡ comes_first x.now y.now }
 {
     x.a < y.a || (x.a == y.a && x.b < y.b)
 }

@@ -6,7 +6,7 @@ use Rattle.price_check.proofs.PlaceFacts.{place_there}
 use Rattle.assignment_steps.specs.declared.market.Edge.{Edge}
 use Rattle.assignment_steps.specs.Market.{IsTight, edge, link, number}
 use Rattle.capacity_assign.specs.Core.{linked_at}
-use Rattle.capacity_assign.specs.Round.{AreSettled, IsBetween, IsSettled, KeepsPlaces}
+use Rattle.capacity_assign.specs.Round.{AreSettled, IsBetween, IsSettled, KeepsCapacities}
 use Rattle.capacity_assign.specs.Seating.{AddsSeat, Seating, free_records}
 use Rattle.capacity_assign.proofs.Links.{free_record_counts, free_records-set, linked_at-set, linked_set, tick}
 use Rattle.capacity_assign.proofs.Seating.{places_after_added, all_taken, seats_after_added, vacant_after_added}
@@ -22,7 +22,7 @@ module _ (es : List Edge) (pa pb : List ℕ) (la : List (Option ℕ)) (s t : Sea
   one_more : (x : ℕ) → linked_at es (set la a (Some k)) x ≡ linked_at es la x + tick ((edge es k).b == x)
   one_more x = (let e : linked_at es (set la a (Some k)) x + 0 ≡ linked_at es la x + tick ((edge es k).b == x) = rw none at (linked_at-set es la a (Some k) x ra) in omega (arith, e))
 
-  pub places_linked : KeepsPlaces es la s.left (set la a (Some k)) t.left
+  pub places_linked : KeepsCapacities es la s.left (set la a (Some k)) t.left
   places_linked = rw adds.left (places_after_added es la (set la a (Some k)) s.left (edge es k).b some one_more)
 
   pub between_linked : IsTight es pa pb k → IsBetween es pa pb (set la a (Some k)) (record t { seat = set t.seat a s.count; sitter = set t.sitter s.count a }) 0

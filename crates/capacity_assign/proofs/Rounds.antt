@@ -13,7 +13,7 @@ use Rattle.capacity_assign.specs.Growth.{Growth, IsGrown, IsReady, IsExhausted, 
 use Rattle.assignment_steps.specs.Spread.{edge_of, rank_above}
 use Rattle.assignment_steps.proofs.Arrived.{covered_kept, leads_after, leads_from, tight_kept}
 use Rattle.assignment_steps.specs.Distances.{distance, far}
-use Rattle.capacity_assign.specs.Round.{IsBetween, KeepsPlaces}
+use Rattle.capacity_assign.specs.Round.{IsBetween, KeepsCapacities}
 use Rattle.capacity_assign.specs.Seating.{AreSeats, Seating, seating}
 use Rattle.capacity_assign.proofs.Links.{counted_link}
 
@@ -115,7 +115,7 @@ module _ (f : Ground) (g : Growth) (end : ℕ) (free : Option ℕ) (last : ℕ) 
   pub settled_after : IsWhole g end free last → (la : List (Option ℕ)) → MatchOption free (link la f.field.root ≡ None → f.field.root ≡ last) (λ _. link la f.field.root ≡ None → ⊥) → ((a : ℕ) → link la a ≡ None → (link f.field.link_a.now a ≡ None) ⊎ (IsNone free × (a ≡ last))) → ((a : ℕ) → a < f.field.root → link f.field.link_a.now a ≡ None → number f.field.price_a.now a ≡ 0) → (a : ℕ) → a < f.field.root + 1 → link la a ≡ None → number pa a ≡ 0
   settled_after whole la root still_a old a lt none = free_a_at free whole la root a (still_a a none) old lt none
 
-  pub between_after : (la : List (Option ℕ)) (s : Seating) → AreSmall f.field.edges.now → IsBetween f.field.edges.now f.field.price_a.now f.field.price_b.now f.field.link_a.now (seating f.seats.now) 0 → length pa ≡ length f.field.price_a.now → length pb ≡ length f.field.price_b.now → length la ≡ length f.field.link_a.now → length s.left ≡ length f.seats.now.left.items → AreLinked f.field.edges.now la → AreTight f.field.edges.now pa pb la → AreSeats f.field.edges.now la s → ((b : ℕ) → 0 < number s.left b → 0 < places_left f b) → KeepsPlaces f.field.edges.now f.field.link_a.now f.seats.now.left.items la s.left → IsBetween f.field.edges.now pa pb la s 0
+  pub between_after : (la : List (Option ℕ)) (s : Seating) → AreSmall f.field.edges.now → IsBetween f.field.edges.now f.field.price_a.now f.field.price_b.now f.field.link_a.now (seating f.seats.now) 0 → length pa ≡ length f.field.price_a.now → length pb ≡ length f.field.price_b.now → length la ≡ length f.field.link_a.now → length s.left ≡ length f.seats.now.left.items → AreLinked f.field.edges.now la → AreTight f.field.edges.now pa pb la → AreSeats f.field.edges.now la s → ((b : ℕ) → 0 < number s.left b → 0 < places_left f b) → KeepsCapacities f.field.edges.now f.field.link_a.now f.seats.now.left.items la s.left → IsBetween f.field.edges.now pa pb la s 0
   between_after la s small old len_a len_b rows_a rows_b linked tight seated vacant places = record {
     rows_a = rows_a ∙ (old.rows_a ∙ sym len_a);
     rows_b = rows_b ∙ (old.rows_b ∙ sym len_b);

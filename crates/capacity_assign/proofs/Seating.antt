@@ -7,8 +7,8 @@ use Rattle.assignment_steps.specs.declared.market.Edge.{Edge}
 use Rattle.price_check.proofs.PlaceFacts.{place_there}
 use Rattle.assignment_steps.specs.Market.{edge, link, number}
 use Rattle.capacity_assign.specs.Core.{linked_at}
-use Rattle.capacity_assign.specs.Round.{KeepsPlaces}
-use Rattle.capacity_assign.specs.Seating.{AddsSeat, AreAllSeated, AreSeated, AreSeats, IsFilled, HangTogether, HasHole, IsLastSeat, Seating, free_records}
+use Rattle.capacity_assign.specs.Round.{KeepsCapacities}
+use Rattle.capacity_assign.specs.Seating.{AddsSeat, AreAllSeated, AreSeated, AreSeats, HasSitters, HangTogether, HasHole, IsLastSeat, Seating, free_records}
 use Rattle.capacity_assign.proofs.Links.{free_records-set, linked_at-set, tick}
 use Rattle.assignment_steps.proofs.Links.{link-set, link_there}
 
@@ -35,7 +35,7 @@ seat_taken es la seat sitter owner count b free k h ends ra records there a j on
 ]
 
 -- a seat that it did not have before is filled still, and the one that it took
-pub filled_taken : (es : List Edge) (la : List (Option ℕ)) (seat sitter owner : List ℕ) (count b free k : ℕ) → HasHole es la seat sitter owner count b free → (edge es k).b ≡ b → (edge es k).a < length la → length seat ≡ length la → free < length sitter → (n : ℕ) → n < count → (n ≢ free → number sitter n ≢ (edge es k).a) → IsFilled es (set la (edge es k).a (Some k)) (set seat (edge es k).a free) (set sitter free (edge es k).a) owner n
+pub filled_taken : (es : List Edge) (la : List (Option ℕ)) (seat sitter owner : List ℕ) (count b free k : ℕ) → HasHole es la seat sitter owner count b free → (edge es k).b ≡ b → (edge es k).a < length la → length seat ≡ length la → free < length sitter → (n : ℕ) → n < count → (n ≢ free → number sitter n ≢ (edge es k).a) → HasSitters es (set la (edge es k).a (Some k)) (set seat (edge es k).a free) (set sitter free (edge es k).a) owner n
 filled_taken es la seat sitter owner count b free k h ends ra records there n lt other = elim (cases_eq n free) [
   | inl e ↦
       (let sitter_is : number (set sitter free (edge es k).a) n ≡ (edge es k).a = rw e (get_or-set_same sitter free (edge es k).a 0 there) in
@@ -128,7 +128,7 @@ module _ (s t : Seating) (b : ℕ) (adds : AddsSeat s t b) (chains : HangTogethe
   }
 
   -- the new seat is nobody's
-  pub hole_added : (es : List Edge) (la : List (Option ℕ)) → AreSeated es la s.seat s.sitter s.owner s.count → ((n : ℕ) → n < s.count → IsFilled es la s.seat s.sitter s.owner n) → HasHole es la t.seat t.sitter t.owner t.count b s.count
+  pub hole_added : (es : List Edge) (la : List (Option ℕ)) → AreSeated es la s.seat s.sitter s.owner s.count → ((n : ℕ) → n < s.count → HasSitters es la s.seat s.sitter s.owner n) → HasHole es la t.seat t.sitter t.owner t.count b s.count
   hole_added es la seated filled = record {
     filled = λ n lt ne. (let low : n < s.count = omega (arith, lt, adds.count, ne) in let old = filled n low in record {
       edge_there = old.edge_there;
@@ -165,7 +165,7 @@ seats_after_added es la la' s t b seat' sitter' old adds there some len room sea
     }
 
 -- a linked record of A gives its link up: its seat is nobody's
-pub hole_parted : (es : List Edge) (la : List (Option ℕ)) (seat sitter owner : List ℕ) (count last k : ℕ) → last < length la → link la last ≡ Some k → AreSeated es la seat sitter owner count → ((n : ℕ) → n < count → IsFilled es la seat sitter owner n) → HasHole es (set la last None) seat sitter owner count (edge es k).b (number seat last)
+pub hole_parted : (es : List Edge) (la : List (Option ℕ)) (seat sitter owner : List ℕ) (count last k : ℕ) → last < length la → link la last ≡ Some k → AreSeated es la seat sitter owner count → ((n : ℕ) → n < count → HasSitters es la seat sitter owner n) → HasHole es (set la last None) seat sitter owner count (edge es k).b (number seat last)
 hole_parted es la seat sitter owner count last k lt on seated filled =
     let mine = seated last k on in
     record {
@@ -200,7 +200,7 @@ seats_after_parted es la la' s seat' sitter' old len room seats sitters all = re
 
 -- Places: one is taken, or moves from one record of A to another.
 
-pub places_after_added : (es : List Edge) (la la' : List (Option ℕ)) (left : List ℕ) (b : ℕ) → 0 < number left b → ((x : ℕ) → linked_at es la' x ≡ linked_at es la x + tick (b == x)) → KeepsPlaces es la left la' (set left b (number left b - 1))
+pub places_after_added : (es : List Edge) (la la' : List (Option ℕ)) (left : List ℕ) (b : ℕ) → 0 < number left b → ((x : ℕ) → linked_at es la' x ≡ linked_at es la x + tick (b == x)) → KeepsCapacities es la left la' (set left b (number left b - 1))
 places_after_added es la la' left b some one x = elim (cases_eq b x) [
   | inl e ↦
       (let at : number (set left b (number left b - 1)) x ≡ number left b - 1 = rw (← e) (get_or-set_same left b (number left b - 1) 0 (place_there left b some)) in
@@ -216,7 +216,7 @@ places_after_added es la la' left b some one x = elim (cases_eq b x) [
 pub vacant_after_added : (left : List ℕ) (b : ℕ) → 0 < number left b → (x : ℕ) → 0 < number (set left b (number left b - 1)) x → 0 < number left x
 vacant_after_added left b some x h = elim (cases_eq x b) [ inl e ↦ rw e some | inr n ↦ rw (← get_or-set_other left b x (number left b - 1) 0 n) h ]
 
-pub places_after_parted : (es : List Edge) (la la' : List (Option ℕ)) (left : List ℕ) (last k : ℕ) → link la last ≡ Some k → ((x : ℕ) → linked_at es la' x ≡ linked_at es (set la last None) x + tick ((edge es k).b == x)) → KeepsPlaces es la left la' left
+pub places_after_parted : (es : List Edge) (la la' : List (Option ℕ)) (left : List ℕ) (last k : ℕ) → link la last ≡ Some k → ((x : ℕ) → linked_at es la' x ≡ linked_at es (set la last None) x + tick ((edge es k).b == x)) → KeepsCapacities es la left la' left
 places_after_parted es la la' left last k on one x =
     let e : linked_at es (set la last None) x + tick ((edge es k).b == x) ≡ linked_at es la x + 0 = rw on at (linked_at-set es la last None x (link_there la last k on)) in
     omega (arith, e, one x)

@@ -22,8 +22,8 @@ pub record IsBetween (es : List Edge) (pa pb : List ℕ) (la : List (Option ℕ)
   pub closed : (b k : ℕ) → number s.left b + linked_at es la b ≡ 0 → k < length es → (edge es k).b ≡ b → (edge es k).value ≤ number pb b
 
 -- each record of B has as many places as before, linked or left
-abbrev pub KeepsPlaces : List Edge → List (Option ℕ) → List ℕ → List (Option ℕ) → List ℕ → Type 0
-KeepsPlaces es la left la' left' = (b : ℕ) → number left' b + linked_at es la' b ≡ number left b + linked_at es la b
+abbrev pub KeepsCapacities : List Edge → List (Option ℕ) → List ℕ → List (Option ℕ) → List ℕ → Type 0
+KeepsCapacities es la left la' left' = (b : ℕ) → number left' b + linked_at es la' b ≡ number left b + linked_at es la b
 
 -- an edge is not tight, or its record of A has a link, or its record of B has no place left
 abbrev pub IsSettled : List Edge → List ℕ → List ℕ → List (Option ℕ) → List ℕ → ℕ → Type 0

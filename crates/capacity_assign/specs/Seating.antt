@@ -36,7 +36,7 @@ abbrev pub AreSeated : List Edge → List (Option ℕ) → List ℕ → List ℕ
 AreSeated es la seat sitter owner count = (a k : ℕ) → link la a ≡ Some k → IsSeated es seat sitter owner count a k
 
 -- a seat is that of a record of A, linked to the seat's record of B
-pub record IsFilled (es : List Edge) (la : List (Option ℕ)) (seat sitter owner : List ℕ) (n : ℕ) : Type 0 where
+pub record HasSitters (es : List Edge) (la : List (Option ℕ)) (seat sitter owner : List ℕ) (n : ℕ) : Type 0 where
   pub edge_there : ℕ
   pub on : link la (number sitter n) ≡ Some edge_there
   pub owned : (edge es edge_there).b ≡ number owner n
@@ -48,12 +48,12 @@ pub record HasHole (es : List Edge) (la : List (Option ℕ)) (seat sitter owner 
   pub there : free < count
   pub owned : number owner free ≡ b
   pub unused : (a k : ℕ) → link la a ≡ Some k → number seat a ≢ free
-  pub filled : (n : ℕ) → n < count → n ≢ free → IsFilled es la seat sitter owner n
+  pub filled : (n : ℕ) → n < count → n ≢ free → HasSitters es la seat sitter owner n
 
 -- each linked record of A sits, and each seat is filled
 pub record AreAllSeated (es : List Edge) (la : List (Option ℕ)) (seat sitter owner : List ℕ) (count : ℕ) : Type 0 where
   pub seated : AreSeated es la seat sitter owner count
-  pub filled : (n : ℕ) → n < count → IsFilled es la seat sitter owner n
+  pub filled : (n : ℕ) → n < count → HasSitters es la seat sitter owner n
 
 -- the seats of each record of B hang together
 pub record HangTogether (s : Seating) : Type 0 where
@@ -69,7 +69,7 @@ pub record AreSeats (es : List Edge) (la : List (Option ℕ)) (s : Seating) : Ty
   pub lasts : length s.last ≡ length s.left
   pub room : s.count + free_records la ≤ length la
   pub seated : AreSeated es la s.seat s.sitter s.owner s.count
-  pub filled : (n : ℕ) → n < s.count → IsFilled es la s.seat s.sitter s.owner n
+  pub filled : (n : ℕ) → n < s.count → HasSitters es la s.seat s.sitter s.owner n
   pub chains : HangTogether s
 
 -- a record of B has one seat more, and one place less is left

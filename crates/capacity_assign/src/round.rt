@@ -3,7 +3,7 @@ ghost use Rattle.std.specs.Prelude.{◌≡◌, ◌+◌, ◌<◌, ℕ, length, No
 ghost use Rattle.assignment_steps.specs.Market.{AreLinked, IsInRange, link, AreTight, number, AreListed};
 ghost use Rattle.capacity_assign.specs.Growth.{IsAtRest};
 ghost use Rattle.assignment_steps.specs.Ways.{LeadsBy, LeadsFromRecord};
-ghost use Rattle.capacity_assign.specs.Round.{IsBetween, KeepsPlaces};
+ghost use Rattle.capacity_assign.specs.Round.{IsBetween, KeepsCapacities};
 ghost use Rattle.capacity_assign.specs.Seating.{AreSeats, seating};
 
 use crate::grow::search;
@@ -38,7 +38,7 @@ fn turn(
     ensures root { MatchOption free (link link_a.new ways.entry.root ≡ None → ways.entry.root ≡ last) (λ _. link link_a.new ways.entry.root ≡ None → ⊥) }
     ensures still_a { (a : ℕ) → link link_a.new a ≡ None → (link link_a.old a ≡ None) ⊎ (IsNone free × (a ≡ last)) }
     ensures vacant { (b : ℕ) → 0 < number seats.new.left.items b → 0 < number seats.old.left.items b }
-    ensures places { KeepsPlaces net.entry.edges.now link_a.old seats.old.left.items link_a.new seats.new.left.items }
+    ensures places { KeepsCapacities net.entry.edges.now link_a.old seats.old.left.items link_a.new seats.new.left.items }
 {
     if let Some(b) = free {
         let seat = add_seat(seats, b);
@@ -75,7 +75,7 @@ pub fn take_up(
     requires between { IsBetween edges.now price_a.old price_b.old link_a.old (seating seats.old) 0 }
     requires tree { IsAtRest edges.now (length price_a.old) (length price_b.old) tree.old }
     ensures between { IsBetween edges.now price_a.new price_b.new link_a.new (seating seats.new) 0 }
-    ensures places { KeepsPlaces edges.now link_a.old seats.old.left.items link_a.new seats.new.left.items }
+    ensures places { KeepsCapacities edges.now link_a.old seats.old.left.items link_a.new seats.new.left.items }
     ensures settled { ((a : ℕ) → a < root → link link_a.old a ≡ None → number price_a.old a ≡ 0) → (a : ℕ) → a < root + 1 → link link_a.new a ≡ None → number price_a.new a ≡ 0 }
     ensures tree { IsAtRest edges.now (length price_a.new) (length price_b.new) tree.new }
 {
@@ -119,7 +119,7 @@ pub fn round(
     requires between { IsBetween edges.now price_a.old price_b.old link_a.old (seating seats.old) root }
     requires tree { IsAtRest edges.now (length price_a.old) (length price_b.old) tree.old }
     ensures between { IsBetween edges.now price_a.new price_b.new link_a.new (seating seats.new) (root + 1) }
-    ensures places { KeepsPlaces edges.now link_a.old seats.old.left.items link_a.new seats.new.left.items }
+    ensures places { KeepsCapacities edges.now link_a.old seats.old.left.items link_a.new seats.new.left.items }
     ensures tree { IsAtRest edges.now (length price_a.new) (length price_b.new) tree.new }
 {
     if link_a[root].is_some() {

@@ -2,7 +2,7 @@
 ghost use Rattle.std.specs.Prelude.{◌≡◌, ◌<◌, ℕ, None, length};
 ghost use Rattle.assignment_steps.specs.Market.{link, number};
 ghost use Rattle.capacity_assign.specs.Seating.{seating};
-ghost use Rattle.capacity_assign.specs.Round.{AreSettled, IsBetween, IsSettled, KeepsPlaces};
+ghost use Rattle.capacity_assign.specs.Round.{AreSettled, IsBetween, IsSettled, KeepsCapacities};
 
 use crate::market::Seats;
 use crate::seats::{add_seat, reseat};
@@ -14,7 +14,7 @@ fn link_if_tight(net: Net<'_>, link_a: &mut [Option<usize>], seats: &mut Seats, 
     requires place { k < length net.edges.now }
     requires between { IsBetween net.edges.now net.price_a.now net.price_b.now link_a.old (seating seats.old) 0 }
     ensures between { IsBetween net.entry.edges.now net.entry.price_a.now net.entry.price_b.now link_a.new (seating seats.new) 0 }
-    ensures places { KeepsPlaces net.entry.edges.now link_a.old seats.old.left.items link_a.new seats.new.left.items }
+    ensures places { KeepsCapacities net.entry.edges.now link_a.old seats.old.left.items link_a.new seats.new.left.items }
     ensures settled { IsSettled net.entry.edges.now net.entry.price_a.now net.entry.price_b.now link_a.new seats.new.left.items k }
     ensures kept { (a : ℕ) → link link_a.new a ≡ None → link link_a.old a ≡ None }
     ensures fewer { (b : ℕ) → number seats.old.left.items b ≡ 0 → number seats.new.left.items b ≡ 0 }
@@ -47,7 +47,7 @@ fn link_if_tight(net: Net<'_>, link_a: &mut [Option<usize>], seats: &mut Seats, 
 pub fn link_tight(net: Net<'_>, link_a: &mut [Option<usize>], seats: &mut Seats)
     requires { IsBetween net.edges.now net.price_a.now net.price_b.now link_a.old (seating seats.old) 0 }
     ensures between { IsBetween net.entry.edges.now net.entry.price_a.now net.entry.price_b.now link_a.new (seating seats.new) 0 }
-    ensures places { KeepsPlaces net.entry.edges.now link_a.old seats.old.left.items link_a.new seats.new.left.items }
+    ensures places { KeepsCapacities net.entry.edges.now link_a.old seats.old.left.items link_a.new seats.new.left.items }
     ensures settled { AreSettled net.entry.edges.now net.entry.price_a.now net.entry.price_b.now link_a.new seats.new.left.items (length net.entry.edges.now) }
 {
     for k in 0..net.edges.len() {

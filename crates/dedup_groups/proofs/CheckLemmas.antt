@@ -3,7 +3,7 @@ use Rattle.std.proofs.Common.{◌≡◌, ℕ, ◌<◌, List, None, Some, sym, �
 use Rattle.std.specs.Prelude.{All}
 use Rattle.link_base.specs.declared.rule.PairAt.{PairAt}
 use Rattle.dedup_groups.specs.Adjacency.{adjacency_of, both_ways}
-use Rattle.dedup_groups.specs.Groups.{AreLinked, GroupLists, HasOneLeader, HaveRows, IsForest, IsReachedFrom, IsRooted, depth_of, via_of}
+use Rattle.dedup_groups.specs.Groups.{ShareALink, GroupLists, HasOneLeader, HaveRows, IsForest, IsReachedFrom, IsRooted, depth_of, via_of}
 use Rattle.dedup_groups.specs.Search.{IsNear}
 use Rattle.dedup_groups.proofs.ForestLemmas.{rooted_by}
 use Rattle.dedup_groups.proofs.NearLemmas.{linked_near, near_linked}
@@ -13,11 +13,11 @@ pub forest_from : (rows : ℕ) (links : List PairAt) (lists : GroupLists) → Ha
 forest_from rows links lists complete ends rooted = record {
   complete = complete;
   ends = ends;
-  rooted = λ x lt. rooted_by (IsNear (adjacency_of rows (both_ways links))) (AreLinked links) lists x (λ from h. linked_near rows links x from h) (rooted x lt);
+  rooted = λ x lt. rooted_by (IsNear (adjacency_of rows (both_ways links))) (ShareALink links) lists x (λ from h. linked_near rows links x from h) (rooted x lt);
 }
 
 pub rooted_near : (rows : ℕ) (links : List PairAt) (lists : GroupLists) → IsForest rows links lists → (x : ℕ) → x < rows → IsRooted (IsNear (adjacency_of rows (both_ways links))) lists x
-rooted_near rows links lists forest x lt = rooted_by (AreLinked links) (IsNear (adjacency_of rows (both_ways links))) lists x (λ from h. near_linked rows links x from lt h) (forest.rooted x lt)
+rooted_near rows links lists forest x lt = rooted_by (ShareALink links) (IsNear (adjacency_of rows (both_ways links))) lists x (λ from h. near_linked rows links x from lt h) (forest.rooted x lt)
 
 -- what a rooted position was reached from is the position that the list names
 module _ (R : ℕ → ℕ → Type 0) (lists : GroupLists) (x from : ℕ) (named : via_of lists x ≡ Some from) (rooted : IsRooted R lists x) where

@@ -7,8 +7,8 @@ use Rattle.std.proofs.lemmas.List.Elements.{Contains-append_left, Contains-push}
 use Rattle.std.proofs.lemmas.List.Sums.{count_by-le-length, sum_by-set}
 use Rattle.link_base.specs.declared.rule.PairAt.{PairAt}
 use Rattle.dedup_groups.specs.Adjacency.{adjacency_of, both_ways}
-use Rattle.dedup_groups.specs.Groups.{AreLinked, GroupLists, HaveRows, IsForest, IsLinkWithin, IsRooted, depth_of, leader_of, via_of}
-use Rattle.dedup_groups.specs.Search.{AreFound, AreNeighbours, AreSingle, IsNear, IsReached, IsSearch, StandAlone, reached_lists, waiting_room}
+use Rattle.dedup_groups.specs.Groups.{ShareALink, GroupLists, HaveRows, IsForest, IsLinkWithin, IsRooted, depth_of, leader_of, via_of}
+use Rattle.dedup_groups.specs.Search.{AreFound, AreNeighbours, AreAlone, IsNear, IsGathered, IsSearch, StandAlone, reached_lists, waiting_room}
 use Rattle.dedup_groups.proofs.ForestLemmas.{rooted_by}
 use Rattle.dedup_groups.proofs.NearLemmas.{length_near, linked_near, near_linked}
 
@@ -16,7 +16,7 @@ pub alone_later : (near : List (List ℕ)) (lists : GroupLists) (leader : ℕ) �
 alone_later near lists leader alone x lt le = alone x lt (omega arith)
 
 -- records that stand alone, before the first search
-pub found_first : (near : List (List ℕ)) (lists : GroupLists) → AreSingle (length near) lists → AreFound near lists 0
+pub found_first : (near : List (List ℕ)) (lists : GroupLists) → AreAlone (length near) lists → AreFound near lists 0
 found_first near lists single = record {
   rows = single.complete;
   rooted = λ x lt. record {
@@ -41,7 +41,7 @@ search_first near lists leader found lt own = record {
   finished = λ k y low h. absurd (omega arith);
 }
   where
-    first : (k : ℕ) → k < length (leader ∷ []) → IsReached near lists leader (slice_index (leader ∷ []) k) k
+    first : (k : ℕ) → k < length (leader ∷ []) → IsGathered near lists leader (slice_index (leader ∷ []) k) k
     first zero low = (lt, own, (let flat = (found.alone leader lt (omega arith)).1 in omega arith))
     first (suc k) low = absurd (omega arith)
 
@@ -118,7 +118,7 @@ module _ (near : List (List ℕ)) (lists : GroupLists) (queue : List ℕ) (done 
   at_alone : (leader_of lists at ≡ at) × (depth_of lists at ≡ 0)
   at_alone = s.alone at at_low (omega arith)
 
-  from_reached : IsReached near lists leader from done
+  from_reached : IsGathered near lists leader from done
   from_reached = s.reached done within
 
   from_other : from ≢ at
@@ -194,7 +194,7 @@ module _ (near : List (List ℕ)) (lists : GroupLists) (queue : List ℕ) (done 
   reached_queue : (k : ℕ) → k < length queue → slice_index (queue ++ at ∷ []) k ≡ slice_index queue k
   reached_queue k lt = get_or_append_left queue (at ∷ []) 0 k lt
 
-  reached_after : (k : ℕ) → k < length (queue ++ at ∷ []) → IsReached near next leader (slice_index (queue ++ at ∷ []) k) k
+  reached_after : (k : ℕ) → k < length (queue ++ at ∷ []) → IsGathered near next leader (slice_index (queue ++ at ∷ []) k) k
   reached_after k lt = elim (cases_lt k (length queue)) [
     | inl before ↦
         let r = s.reached k before in
@@ -254,10 +254,10 @@ forest_found rows links lists within found =
       ends = λ k d lt.
           let link : PairAt = get_or links k d in
           let both = within k d lt in
-          let linked : AreLinked links link.a link.b = inl (k, lt, here links k d link lt refl) in
+          let linked : ShareALink links link.a link.b = inl (k, lt, here links k d link lt refl) in
           let low : leader_of lists link.a < rows = (let r = (rooted link.a (omega arith)).low in omega arith) in
           sym (found.settled link.a link.b (rw long (omega arith)) low (near_linked rows links link.a link.b (omega arith) linked));
-      rooted = λ x lt. rooted_by (IsNear near) (AreLinked links) lists x (λ from h. linked_near rows links x from h) (rooted x lt);
+      rooted = λ x lt. rooted_by (IsNear near) (ShareALink links) lists x (λ from h. linked_near rows links x from h) (rooted x lt);
     }
   where
     here : (links : List PairAt) (k : ℕ) (d link : PairAt) → k < length links → link ≡ get_or links k d → get_or links k link ≡ link

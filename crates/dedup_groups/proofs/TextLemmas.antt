@@ -11,7 +11,7 @@ use Rattle.csv.specs.Writing.{default_writer, fields_text, is_blank, row_text}
 use Rattle.link_base.specs.Standard.{Record}
 use Rattle.link_base.specs.declared.rule.PairAt.{PairAt}
 use Rattle.dedup_groups.specs.Adjacency.{arcs_of_leaders, heads_from}
-use Rattle.dedup_groups.specs.GroupsText.{group_row, group_rows, groups_header, is_printed, members}
+use Rattle.dedup_groups.specs.GroupsText.{group_row, group_rows, groups_header, is_shown, members}
 
 pub header_text : row_text default_writer groups_header ≡ codes "group,id,via\n"
 unfolding fields_text is_blank
@@ -55,21 +55,21 @@ enumerate_more n (x ∷ xs) y = ap (λ es. (n, x) ∷ es) (enumerate_more (n + 1
 
 -- the groups that are printed among those of the first so many leaders
 abbrev pub printed_before : List ℕ → ℕ → List ℕ
-printed_before leaders n = filter (is_printed leaders) (range_with_len 0 n)
+printed_before leaders n = filter (is_shown leaders) (range_with_len 0 n)
 
-printed_more : (leaders : List ℕ) (n : ℕ) → printed_before leaders (n + 1) ≡ printed_before leaders n ++ (if is_printed leaders n then n ∷ [] else [])
-printed_more leaders n = ap (filter (is_printed leaders)) (range_more n) ∙ filter-append (is_printed leaders) (range_with_len 0 n) (n ∷ [])
+printed_more : (leaders : List ℕ) (n : ℕ) → printed_before leaders (n + 1) ≡ printed_before leaders n ++ (if is_shown leaders n then n ∷ [] else [])
+printed_more leaders n = ap (filter (is_shown leaders)) (range_more n) ∙ filter-append (is_shown leaders) (range_with_len 0 n) (n ∷ [])
 
 pub few_printed : (leaders : List ℕ) (n : ℕ) → length (printed_before leaders n) ≤ n
 few_printed leaders n =
-    omega (arith, length-filter (is_printed leaders) (range_with_len 0 n), count_by-le-length (is_printed leaders) (range_with_len 0 n), length-range_with_len 0 n)
+    omega (arith, length-filter (is_shown leaders) (range_with_len 0 n), count_by-le-length (is_shown leaders) (range_with_len 0 n), length-range_with_len 0 n)
 
 if_longer : (xs : List ℕ) (n : ℕ) (t : Bool) → length (xs ++ (if t then n ∷ [] else [])) ≡ (if t then length xs + 1 else length xs)
 if_longer xs n true = omega (arith, length-append xs (n ∷ []))
 if_longer xs n false = ap length (append-nil xs)
 
-pub number_more : (leaders : List ℕ) (n : ℕ) → length (printed_before leaders (n + 1)) ≡ (if is_printed leaders n then length (printed_before leaders n) + 1 else length (printed_before leaders n))
-number_more leaders n = ap length (printed_more leaders n) ∙ if_longer (printed_before leaders n) n (is_printed leaders n)
+pub number_more : (leaders : List ℕ) (n : ℕ) → length (printed_before leaders (n + 1)) ≡ (if is_shown leaders n then length (printed_before leaders n) + 1 else length (printed_before leaders n))
+number_more leaders n = ap length (printed_more leaders n) ∙ if_longer (printed_before leaders n) n (is_shown leaders n)
 
 abbrev pub rows_before : List ℕ → List (Option ℕ) → List Record → ℕ → List ℕ
 rows_before leaders vias records n = flat_map (group_rows leaders vias records) (enumerate_from 1 (printed_before leaders n))
@@ -86,23 +86,23 @@ if_told leaders vias records xs n false =
     ap (λ ys. flat_map (group_rows leaders vias records) (enumerate_from 1 ys)) (append-nil xs) ∙ sym (append-nil (flat_map (group_rows leaders vias records) (enumerate_from 1 xs)))
 
 pub rows_more : (leaders : List ℕ) (vias : List (Option ℕ)) (records : List Record) (n : ℕ)
-    → rows_before leaders vias records (n + 1) ≡ rows_before leaders vias records n ++ (if is_printed leaders n then flat_map (group_row vias records (length (printed_before leaders n) + 1)) (members leaders n) else [])
+    → rows_before leaders vias records (n + 1) ≡ rows_before leaders vias records n ++ (if is_shown leaders n then flat_map (group_row vias records (length (printed_before leaders n) + 1)) (members leaders n) else [])
 rows_more leaders vias records n =
-    ap (λ ys. flat_map (group_rows leaders vias records) (enumerate_from 1 ys)) (printed_more leaders n) ∙ if_told leaders vias records (printed_before leaders n) n (is_printed leaders n)
+    ap (λ ys. flat_map (group_rows leaders vias records) (enumerate_from 1 ys)) (printed_more leaders n) ∙ if_told leaders vias records (printed_before leaders n) n (is_shown leaders n)
 
 -- one group more, which is printed where it has at least two members
 pub number_next : (leaders : List ℕ) (n number last : ℕ) (group : List ℕ) → group ≡ members leaders n → number ≡ length (printed_before leaders n)
     → last ≡ (if nat_le 2 (length group) then number + 1 else number)
     → last ≡ length (printed_before leaders (n + 1))
 number_next leaders n number last group is count e =
-    e ∙ (ap (λ (g : List ℕ). if nat_le 2 (length g) then number + 1 else number) is ∙ (ap (λ (m : ℕ). if is_printed leaders n then m + 1 else m) count ∙ sym (number_more leaders n)))
+    e ∙ (ap (λ (g : List ℕ). if nat_le 2 (length g) then number + 1 else number) is ∙ (ap (λ (m : ℕ). if is_shown leaders n then m + 1 else m) count ∙ sym (number_more leaders n)))
 
 pub rows_next : (leaders : List ℕ) (vias : List (Option ℕ)) (records : List Record) (n number : ℕ) (group start text new : List ℕ)
     → group ≡ members leaders n → number ≡ length (printed_before leaders n) → text ≡ start ++ rows_before leaders vias records n
     → new ≡ text ++ (if nat_le 2 (length group) then flat_map (group_row vias records (number + 1)) group else [])
     → new ≡ start ++ rows_before leaders vias records (n + 1)
 rows_next leaders vias records n number group start text new is count told e =
-    let rows : ℕ → List ℕ = λ m. if is_printed leaders n then flat_map (group_row vias records (m + 1)) (members leaders n) else [] in
+    let rows : ℕ → List ℕ = λ m. if is_shown leaders n then flat_map (group_row vias records (m + 1)) (members leaders n) else [] in
     e ∙ (ap (λ (g : List ℕ). text ++ (if nat_le 2 (length g) then flat_map (group_row vias records (number + 1)) g else [])) is
     ∙ (ap (λ m. text ++ rows m) count
     ∙ (ap (λ t. t ++ rows (length (printed_before leaders n))) told

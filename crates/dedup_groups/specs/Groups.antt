@@ -8,22 +8,22 @@ abbrev pub IsLinkWithin : ℕ → PairAt → Type 0
 IsLinkWithin rows link = (link.a < link.b) × (link.b < rows)
 
 -- two positions are a link, in one order or the other
-abbrev pub AreLinked : List PairAt → ℕ → ℕ → Type 0
-AreLinked links x y = Contains links (record { a = x; b = y }) ⊎ Contains links (record { a = y; b = x })
+abbrev pub ShareALink : List PairAt → ℕ → ℕ → Type 0
+ShareALink links x y = Contains links (record { a = x; b = y }) ⊎ Contains links (record { a = y; b = x })
 
 -- a chain of so many links leads from one position to the other
-abbrev pub Chain : List PairAt → ℕ → ℕ → ℕ → Type 0
-Chain links zero x y = x ≡ y
-Chain links (suc n) x y = (z : ℕ) × (AreLinked links x z × Chain links n z y)
+abbrev pub LinkChain : List PairAt → ℕ → ℕ → ℕ → Type 0
+LinkChain links zero x y = x ≡ y
+LinkChain links (suc n) x y = (z : ℕ) × (ShareALink links x z × LinkChain links n z y)
 
 -- two positions are in one group where some chain does; a position is in a group with itself
-abbrev pub IsJoined : List PairAt → ℕ → ℕ → Type 0
-IsJoined links x y = (n : ℕ) × Chain links n x y
+abbrev pub AreChained : List PairAt → ℕ → ℕ → Type 0
+AreChained links x y = (n : ℕ) × LinkChain links n x y
 
 -- the leader of a position is the least position of its group
 pub record IsLeader (links : List PairAt) (x leader : ℕ) : Type 0 where
-  pub joined : IsJoined links x leader
-  pub least : (y : ℕ) → IsJoined links x y → leader ≤ y
+  pub joined : AreChained links x leader
+  pub least : (y : ℕ) → AreChained links x y → leader ≤ y
 
 -- the leader of each of so many positions
 pub record AreLeaders (rows : ℕ) (links : List PairAt) (leaders : List ℕ) : Type 0 where
@@ -75,4 +75,4 @@ HasOneLeader leaders link = slice_index leaders link.a ≡ slice_index leaders l
 pub record IsForest (rows : ℕ) (links : List PairAt) (lists : GroupLists) : Type 0 where
   pub complete : HaveRows rows lists
   pub ends : All (HasOneLeader lists.leaders) links
-  pub rooted : (x : ℕ) → x < rows → IsRooted (AreLinked links) lists x
+  pub rooted : (x : ℕ) → x < rows → IsRooted (ShareALink links) lists x

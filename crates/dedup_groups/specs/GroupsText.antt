@@ -12,12 +12,12 @@ abbrev pub members : List ℕ → ℕ → List ℕ
 members leaders leader = filter (λ at. slice_index leaders at == leader) (range_with_len 0 (length leaders))
 
 -- a group of at least two is printed
-abbrev pub is_printed : List ℕ → ℕ → Bool
-is_printed leaders leader = nat_le 2 (length (members leaders leader))
+abbrev pub is_shown : List ℕ → ℕ → Bool
+is_shown leaders leader = nat_le 2 (length (members leaders leader))
 
 -- the leaders of the groups that are printed, rising
 abbrev pub printed_leaders : List ℕ → List ℕ
-printed_leaders leaders = filter (is_printed leaders) (range_with_len 0 (length leaders))
+printed_leaders leaders = filter (is_shown leaders) (range_with_len 0 (length leaders))
 
 -- the id of the record that a record was reached from, empty for a leader
 abbrev pub id_of_via : List Record → Option ℕ → List ℕ

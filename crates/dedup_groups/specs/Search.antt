@@ -12,8 +12,8 @@ pub record AreNeighbours (near : List (List ℕ)) : Type 0 where
   pub turned : (x y : ℕ) → IsNear near x y → IsNear near y x
 
 -- the neighbours of a record that has a leader before this one have that leader
-abbrev pub AreSettled : List (List ℕ) → GroupLists → ℕ → Type 0
-AreSettled near lists leader =
+abbrev pub AreGrouped : List (List ℕ) → GroupLists → ℕ → Type 0
+AreGrouped near lists leader =
     (x y : ℕ) → x < length near → leader_of lists x < leader → IsNear near x y → leader_of lists y ≡ leader_of lists x
 
 -- a record with this leader or a later one stands alone
@@ -22,7 +22,7 @@ StandAlone near lists leader =
     (x : ℕ) → x < length near → leader ≤ leader_of lists x → (leader_of lists x ≡ x) × (depth_of lists x ≡ 0)
 
 -- each of so many records stands alone, before the first search
-pub record AreSingle (rows : ℕ) (lists : GroupLists) : Type 0 where
+pub record AreAlone (rows : ℕ) (lists : GroupLists) : Type 0 where
   pub complete : HaveRows rows lists
   pub leaders : (x : ℕ) → x < rows → leader_of lists x ≡ x
   pub vias : (x : ℕ) → x < rows → via_of lists x ≡ None
@@ -32,20 +32,20 @@ pub record AreSingle (rows : ℕ) (lists : GroupLists) : Type 0 where
 pub record AreFound (near : List (List ℕ)) (lists : GroupLists) (leader : ℕ) : Type 0 where
   pub rows : HaveRows (length near) lists
   pub rooted : (x : ℕ) → x < length near → IsRooted (IsNear near) lists x
-  pub settled : AreSettled near lists leader
+  pub settled : AreGrouped near lists leader
   pub alone : StandAlone near lists leader
 
 -- a record in the queue was reached from the leader, and no deeper than its place
-abbrev pub IsReached : List (List ℕ) → GroupLists → ℕ → ℕ → ℕ → Type 0
-IsReached near lists leader x place = (x < length near) × (leader_of lists x ≡ leader) × (depth_of lists x ≤ place)
+abbrev pub IsGathered : List (List ℕ) → GroupLists → ℕ → ℕ → ℕ → Type 0
+IsGathered near lists leader x place = (x < length near) × (leader_of lists x ≡ leader) × (depth_of lists x ≤ place)
 
 -- a search from a leader: the queue has what it reached, and the neighbours of the first so many in it have the leader
 pub record IsSearch (near : List (List ℕ)) (lists : GroupLists) (queue : List ℕ) (done leader : ℕ) : Type 0 where
   pub rows : HaveRows (length near) lists
   pub rooted : (x : ℕ) → x < length near → IsRooted (IsNear near) lists x
-  pub settled : AreSettled near lists leader
+  pub settled : AreGrouped near lists leader
   pub alone : StandAlone near lists (leader + 1)
-  pub reached : (k : ℕ) → k < length queue → IsReached near lists leader (slice_index queue k) k
+  pub reached : (k : ℕ) → k < length queue → IsGathered near lists leader (slice_index queue k) k
   pub queued : (x : ℕ) → x < length near → leader_of lists x ≡ leader → Contains queue x
   pub finished : (k y : ℕ) → k < done → IsNear near (slice_index queue k) y → leader_of lists y ≡ leader
 

@@ -2,7 +2,7 @@
 ghost use Rattle.std.specs.Prelude.{◌≡◌, ◌+◌, ◌<◌, ◌≤◌, ◌^◌, ◌++◌, ◌∷◌, [], ℕ, All, IfOk, OnOk, length, slice_index};
 ghost use Rattle.dedup_groups.specs.Forest.{KeepsRows};
 ghost use Rattle.dedup_groups.specs.Groups.{AreLeaders, depth_of, HaveRows, IsForest, IsLinkWithin, leader_of};
-ghost use Rattle.dedup_groups.specs.Search.{AreFound, AreNeighbours, AreSingle, IsNear, IsSearch, reached_lists, waiting_room};
+ghost use Rattle.dedup_groups.specs.Search.{AreFound, AreNeighbours, AreAlone, IsNear, IsSearch, reached_lists, waiting_room};
 ghost use Rattle.dedup_groups.specs.Trees.{lists_of};
 ghost use Rattle.link_limits.specs.declared.TheConstants.{MOST_PAIRS, MOST_ROWS};
 
@@ -36,7 +36,7 @@ fn single_leaders(alloc: Global, rows: u32) -> Result<Vec<u32>, NoMemory>
 
 // So many records, each alone.
 fn single_trees(alloc: Global, rows: u32) -> Result<Trees, NoMemory>
-    ensures { IfOk result (λ trees. AreSingle rows (lists_of trees)) }
+    ensures { IfOk result (λ trees. AreAlone rows (lists_of trees)) }
 {
     Ok(Trees {
         leaders: single_leaders(alloc, rows)?,
@@ -141,7 +141,7 @@ fn search_all(trees: &mut Trees, near: &Adjacency, rows: u32) -> Result<(), NoMe
     requires neighbours { AreNeighbours near.now }
     requires rows { length near.now ≡ rows }
     requires few { rows ≤ MOST_ROWS }
-    requires single { AreSingle rows (lists_of trees.old) }
+    requires single { AreAlone rows (lists_of trees.old) }
     ensures { OnOk result (AreFound near.now (lists_of trees.new) rows) }
 {
     for leader in 0..rows {

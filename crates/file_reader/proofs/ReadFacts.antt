@@ -6,7 +6,7 @@ use Rattle.link_base.specs.declared.fault.Fault.{Fault}
 use Rattle.link_base.specs.declared.fault.Fault.TheVariants as fault
 use Rattle.file_reader.specs.Layout.{Heading}
 use Rattle.file_reader.specs.Rows.{ids_of, known_ids, TableRow}
-use Rattle.file_reader.specs.Steps.{ids_after, TakesRow}
+use Rattle.file_reader.specs.Steps.{ids_after, TakesTableRow}
 use Rattle.file_reader.proofs.RowFacts.{length_ids}
 use Rattle.file_reader.specs.Table.{row_fault, rows_read, taken}
 
@@ -35,7 +35,7 @@ refused heading table left rest row number ids f el en ei ef = rw (el, ← en, �
 
 pub refuses : (heading : Heading) (table : List TableRow) (left rest all : Records) (row : List (List ℕ)) (number : ℕ) (ids new : List (List ℕ)) (f : Fault)
     → rows_read heading [] all ≡ rows_read heading table left → left ≡ row ∷ rest → number ≡ length table + 1 → ids ≡ known_ids heading.has_id table
-    → TakesRow {T = Unit {0}} (row_fault heading number ids row) heading row ids new (Err f) → Refuses (rows_read heading [] all) f
+    → TakesTableRow {T = Unit {0}} (row_fault heading number ids row) heading row ids new (Err f) → Refuses (rows_read heading [] all) f
 refuses heading table left rest all row number ids new fault.NoMemory told el en ei h = tt
 refuses heading table left rest all row number ids new f told el en ei h = told ∙ refused heading table left rest row number ids f el en ei h
 
@@ -56,7 +56,7 @@ pub record IsRead (heading : Heading) (new : List TableRow) (ids : List (List �
 
 pub read : (x : Unit {0}) (heading : Heading) (table new : List TableRow) (left rest all : Records) (row : List (List ℕ)) (number : ℕ) (ids ids2 : List (List ℕ))
     → rows_read heading [] all ≡ rows_read heading table left → left ≡ row ∷ rest → number ≡ length table + 1 → ids ≡ known_ids heading.has_id table
-    → TakesRow {T = Unit {0}} (row_fault heading number ids row) heading row ids ids2 (Ok x) → new ≡ table ++ taken heading row ∷ [] → IsRead heading new ids2 rest all
+    → TakesTableRow {T = Unit {0}} (row_fault heading number ids row) heading row ids ids2 (Ok x) → new ≡ table ++ taken heading row ∷ [] → IsRead heading new ids2 rest all
 read x heading table new left rest all row number ids ids2 told el en ei h ew =
     record {
       known = h.1 ∙ ap (λ known. ids_after heading.has_id known (taken heading row).id) ei ∙ sym (known_push heading.has_id table (taken heading row)) ∙ ap (known_ids heading.has_id) (sym ew);

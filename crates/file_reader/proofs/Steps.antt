@@ -13,7 +13,7 @@ use Rattle.csv.specs.declared.parser.State.TheVariants as st
 use Rattle.csv.specs.Reading.{ExplainsRead, is_flexible}
 use Rattle.csv.specs.declared.error.ErrorKind.{ErrorKind}
 use Rattle.csv.specs.declared.error.ErrorKind.TheVariants as kind
-use Rattle.file_reader.specs.Reader.{IsBetweenRecords, IsGoing, IsOfMemory, IsReading, records_left, records_of}
+use Rattle.file_reader.specs.Reader.{IsBetweenRecords, IsGoing, IsOfMemory, IsReading, records_left, records_unread}
 
 in_field_between : (cfg : Config) (c : ℕ) → is_end (in_field cfg c).1 ≡ true → IsBetweenRecords (in_field cfg c).0
 in_field_between cfg c e = grind arith
@@ -88,7 +88,7 @@ fuel cfg (suc n) (suc m) s xs b h k =
     fuel cfg n m p.1 p.2 q.1 (omega arith) (omega arith))
 
 pub took_one : (cfg : Config) (s s2 : State) (y z : List ℕ) (f : List (List ℕ)) → IsBetweenRecords s → Reached cfg s y (f ∷ []) s2 z
-    → (records_of cfg s (Some y) ≡ f ∷ records_of cfg s2 (Some z)) × IsBetweenRecords s2
+    → (records_unread cfg s (Some y) ≡ f ∷ records_unread cfg s2 (Some z)) × IsBetweenRecords s2
 unfolding Reached records_from
 took_one cfg s s2 y z f b r =
     let p = r.0 in
@@ -96,7 +96,7 @@ took_one cfg s s2 y z f b r =
     let l = nonempty cfg s y r.0 b r.1 in
     (rw (add-one, r.1, r.2, ← r.3.0, ← r.3.1) (ap (λ (t : List (List (List ℕ))). r.0.0 ∷ t) (fuel cfg (length y) (length r.0.2 + 1) r.0.1 r.0.2 q.1 (omega arith) (omega arith))), rw (← r.3.0) q.1)
 
-pub took_none : (cfg : Config) (s : State) (y : List ℕ) → next_record cfg s [] [] y ≡ None → records_of cfg s (Some y) ≡ []
+pub took_none : (cfg : Config) (s : State) (y : List ℕ) → next_record cfg s [] [] y ≡ None → records_unread cfg s (Some y) ≡ []
 unfolding records_from
 took_none cfg s y e = rw (add-one, e) refl
 
@@ -105,7 +105,7 @@ some_of None h = cc h
 some_of (Some y) h = (y, refl)
 
 first_of_left : (cfg cfg2 : Config) (s s2 : State) (o o2 : Option (List ℕ)) (y z : List ℕ) (f : List (List ℕ)) → o ≡ Some y → o2 ≡ Some z → cfg2 ≡ cfg
-    → records_of cfg s (Some y) ≡ f ∷ records_of cfg s2 (Some z) → records_of cfg s o ≡ f ∷ records_of cfg2 s2 o2
+    → records_unread cfg s (Some y) ≡ f ∷ records_unread cfg s2 (Some z) → records_unread cfg s o ≡ f ∷ records_unread cfg2 s2 o2
 first_of_left cfg cfg2 s s2 o o2 y z f e e2 ec h = rw (e, e2, ec) h
 
 -- a read that gave a record

@@ -11,16 +11,16 @@ use Rattle.csv.specs.declared.reader.Trim.TheVariants as trim
 use Rattle.file_reader.specs.declared.records.Records.TheInside.{Inside}
 
 -- the records from a state, where the bytes are known
-abbrev pub records_of : Config → State → Option (List ℕ) → List (List (List ℕ))
-records_of cfg s None = []
-records_of cfg s (Some bytes) = records_from cfg (length bytes + 1) s bytes
+abbrev pub records_unread : Config → State → Option (List ℕ) → List (List (List ℕ))
+records_unread cfg s None = []
+records_unread cfg s (Some bytes) = records_from cfg (length bytes + 1) s bytes
 
 -- the bytes that a reader has left
 abbrev pub bytes_left : Inside → Option (List ℕ)
 bytes_left r = source_of (λ s. Some s.now) r.reader
 
 abbrev pub records_left : Inside → List (List (List ℕ))
-records_left r = if r.done then [] else records_of (reader_config r.reader) (reader_state r.reader) (bytes_left r)
+records_left r = if r.done then [] else records_unread (reader_config r.reader) (reader_state r.reader) (bytes_left r)
 
 -- a state between two records
 abbrev pub IsBetweenRecords : State → Type 0

@@ -17,7 +17,7 @@ KeepsId expected id old new (Err fault.NoMemory) = ⊤
 KeepsId expected id old new (Err f) = expected ≡ Some f
 
 -- a row is taken and its id is kept, or it has the fault that is defined
-abbrev pub TakesRow : {T : Type 0} → Option Fault → Heading → List (List ℕ) → List (List ℕ) → List (List ℕ) → Result T Fault → Type 0
-TakesRow expected heading row old new (Ok x) = (expected ≡ None) × (new ≡ ids_after heading.has_id old (taken heading row).id)
-TakesRow expected heading row old new (Err fault.NoMemory) = ⊤
-TakesRow expected heading row old new (Err f) = expected ≡ Some f
+abbrev pub TakesTableRow : {T : Type 0} → Option Fault → Heading → List (List ℕ) → List (List ℕ) → List (List ℕ) → Result T Fault → Type 0
+TakesTableRow expected heading row old new (Ok x) = (expected ≡ None) × (new ≡ ids_after heading.has_id old (taken heading row).id)
+TakesTableRow expected heading row old new (Err fault.NoMemory) = ⊤
+TakesTableRow expected heading row old new (Err f) = expected ≡ Some f

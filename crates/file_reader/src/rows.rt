@@ -7,7 +7,7 @@ ghost use Rattle.file_reader.specs.Layout.{cell, cells_of, field_columns, headin
 ghost use Rattle.file_reader.specs.Plain.{IsPlain};
 ghost use Rattle.file_reader.specs.Rows.{AreIdsFor, table_rows};
 ghost use Rattle.file_reader.specs.declared.layout.Column.{Column as Needed};
-ghost use Rattle.file_reader.specs.Steps.{KeepsId, TakesRow};
+ghost use Rattle.file_reader.specs.Steps.{KeepsId, TakesTableRow};
 ghost use Rattle.file_reader.specs.Table.{HasDistinctIds, HasTexts, HasWantedIds, HasWidth, header_fault, id_fault, length_fault, row_fault, rows_read, table_of, taken, Tests, text_fault, under_header, utf8_fault};
 
 use crate::fields::{field_of, is_plain, is_text};
@@ -141,7 +141,7 @@ fn take_row(
     requires fresh { length ids.old < number }
     requires few { number ≤ head.now.most_rows }
     ensures kind { IfErr result IsInputFault }
-    ensures fault { TakesRow (row_fault (heading_of head.now) number ids.old (fields_of row.now)) (heading_of head.now) (fields_of row.now) ids.old ids.new result }
+    ensures fault { TakesTableRow (row_fault (heading_of head.now) number ids.old (fields_of row.now)) (heading_of head.now) (fields_of row.now) ids.old ids.new result }
 {
     if row.len() != head.width {
         return Err(Fault::Ragged {

@@ -3,7 +3,7 @@ use Rattle.std.proofs.Common.{◌≡◌, ℕ, List, length, Result, Ok, Err, sub
 use Rattle.std.specs.Prelude.{All, Contains, IfOk, not}
 use Rattle.std.proofs.lemmas.List.Elements.{All-contains, All-filter, All-map, All-weaker}
 use Rattle.candidate_links.specs.Candidates.{AreCandidates, candidates_of}
-use Rattle.candidate_links.specs.Choice.{dropped, dropped_of, is_linked}
+use Rattle.candidate_links.specs.Choice.{dropped, dropped_of, is_chosen}
 use Rattle.comparators.specs.declared.ids.IdValue.{IdValue}
 use Rattle.link_base.specs.declared.rule.Candidate.{Candidate}
 use Rattle.link_base.specs.declared.rule.PairAt.{PairAt}
@@ -48,4 +48,4 @@ of_links P candidates links all among = All-weaker (Contains candidates) P (λ c
 
 pub of_dropped : (P : Dropped → Type 0) (candidates links : List Candidate) → All (λ c. P (dropped c)) candidates → All P (dropped_of candidates links)
 of_dropped P candidates links all =
-    All-map P dropped (filter (λ c. not (is_linked links c)) candidates) (All-filter (λ c. not (is_linked links c)) (λ c. P (dropped c)) candidates all)
+    All-map P dropped (filter (λ c. not (is_chosen links c)) candidates) (All-filter (λ c. not (is_chosen links c)) (λ c. P (dropped c)) candidates all)

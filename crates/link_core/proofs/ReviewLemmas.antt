@@ -10,7 +10,7 @@ use Rattle.review_journal.specs.Adding.{added, batch_fault, entry_after, ok_unle
 use Rattle.review_journal.specs.Journal.{IsWithinFiles}
 use Rattle.review_journal.specs.declared.batch.NewVerdict.{NewVerdict}
 use Rattle.review_journal.specs.declared.entry.Entry.{Entry}
-use Rattle.review_journal.specs.Batch.{IsPlaced}
+use Rattle.review_journal.specs.Batch.{NamesRecords}
 
 ok_is : {A : Type 0} (f : Option Fault) (x y : A) → ok_unless f x ≡ Ok y → x ≡ y
 ok_is None x y e = cc
@@ -18,7 +18,7 @@ ok_is (Some f) x y e = absurd (cc)
 
 -- verdicts on pairs of two files leave entries on pairs of them
 verdicts_within : (double : Bool) (date : ℤ) (reviewer : List ℕ) (rows_a rows_b : ℕ) (entries : List Entry) (batch : List NewVerdict)
-    → All (IsWithinFiles rows_a rows_b) entries → All (IsPlaced rows_a rows_b) batch
+    → All (IsWithinFiles rows_a rows_b) entries → All (NamesRecords rows_a rows_b) batch
     → All (IsWithinFiles rows_a rows_b) (with_verdicts double date reviewer entries batch)
 verdicts_within double date reviewer rows_a rows_b entries [] h placed = h
 verdicts_within double date reviewer rows_a rows_b entries (v ∷ vs) h placed =
@@ -28,7 +28,7 @@ verdicts_within double date reviewer rows_a rows_b entries (v ∷ vs) h placed =
     (λ k d within. placed (suc k) d (omega arith))
 
 pub added_within : (double : Bool) (date : ℤ) (reviewer : List ℕ) (possible : List PairAt) (rows_a rows_b : ℕ) (entries new : List Entry) (batch : List NewVerdict)
-    → added double date reviewer possible entries batch ≡ Ok new → All (IsWithinFiles rows_a rows_b) entries → All (IsPlaced rows_a rows_b) batch
+    → added double date reviewer possible entries batch ≡ Ok new → All (IsWithinFiles rows_a rows_b) entries → All (NamesRecords rows_a rows_b) batch
     → All (IsWithinFiles rows_a rows_b) new
 added_within double date reviewer possible rows_a rows_b entries new batch is h placed =
     let P : List Entry → Type 0 = λ es. All (IsWithinFiles rows_a rows_b) es in

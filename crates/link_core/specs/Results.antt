@@ -89,8 +89,8 @@ pub record RunTexts : Type 0 where
   pub prices : List ℕ
   pub report : List ℕ
 
-abbrev pub texts_of : RunResult → RunTexts
-texts_of r = record { pairs = r.pairs; rule = r.rule; links = r.links; prices = r.prices; report = r.report }
+abbrev pub five_texts : RunResult → RunTexts
+five_texts r = record { pairs = r.pairs; rule = r.rule; links = r.links; prices = r.prices; report = r.report }
 
 -- texts are those of a run: of the compared pairs, of the rule, of a greatest one-to-one list of the candidates, of prices that
 -- certify it, one for each record, and of their report

@@ -46,7 +46,7 @@ is_proved (Ok links) = true
 is_proved (Err r) = false
 
 -- whether written files prove their links, and the line that says so
-pub record Verifies (p : PreparedView) (told : Result (List Candidate) Refutation) (v : Verification) : Type 0 where
+pub record TellsVerdict (p : PreparedView) (told : Result (List Candidate) Refutation) (v : Verification) : Type 0 where
   pub proved : v.proved ≡ is_proved told
   pub line : v.line ≡ line_of p told
 

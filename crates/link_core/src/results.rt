@@ -6,7 +6,7 @@ ghost use Rattle.candidate_links.specs.Choice.{dropped_of};
 ghost use Rattle.link_core.specs.Decisions.{IsDecidedIn};
 ghost use Rattle.link_base.specs.Rule.{HasBoundedSums};
 ghost use Rattle.link_limits.specs.declared.TheConstants.{MOST_PAIRS};
-ghost use Rattle.link_core.specs.Results.{AreLevelsOf, AreRunTexts, candidates_in, IsDecidedFor, IsReportOf, pair_rows_in, texts_of};
+ghost use Rattle.link_core.specs.Results.{AreLevelsOf, AreRunTexts, candidates_in, IsDecidedFor, IsReportOf, pair_rows_in, five_texts};
 ghost use Rattle.link_core.specs.Review.{open_pairs};
 ghost use Rattle.link_core.specs.Rules.{IsPreparedFor};
 ghost use Rattle.link_base.specs.declared.rule.Candidate.{Candidate as Link};
@@ -225,7 +225,7 @@ pub fn finish(
     requires ready { IsPreparedFor plan.now prepared.now }
     requires of_files { IsDecidedIn prepared.now decided.now }
     requires of_plan { IsDecidedFor plan.now prepared.now decided.now }
-    ensures { IfOk result (λ r. AreRunTexts plan.now prepared.now (side_rule decided.now.rule) journal.now (texts_of r)) }
+    ensures { IfOk result (λ r. AreRunTexts plan.now prepared.now (side_rule decided.now.rule) journal.now (five_texts r)) }
 {
     let chosen = links_of(alloc, plan, prepared, decided, journal)?;
     let (links, prices) = link_texts(

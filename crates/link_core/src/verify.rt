@@ -3,7 +3,7 @@ ghost use Rattle.std.specs.Prelude.{◌≡◌, ◌++◌, ◌≤◌, [], Err, IfO
 ghost use Rattle.std.specs.Fmt.{signed_decimal};
 ghost use Rattle.link_core.specs.Decisions.{IsDecidedIn};
 ghost use Rattle.link_core.specs.Results.{candidates_in, IsDecidedFor};
-ghost use Rattle.link_core.specs.Verify.{RunIsVerified, Verifies, line_of, reason_text, verified_in};
+ghost use Rattle.link_core.specs.Verify.{RunIsVerified, TellsVerdict, line_of, reason_text, verified_in};
 ghost use Rattle.link_limits.specs.declared.TheConstants.{MOST_WRITTEN_BYTES};
 ghost use Rattle.pair_decisions.specs.PairRule.{side_rule};
 ghost use Rattle.settings.specs.Ranges.{KeepsRanges};
@@ -122,7 +122,7 @@ pub fn verify_files(
     requires rule { length written.now.rule ≤ MOST_WRITTEN_BYTES }
     requires links { length written.now.links ≤ MOST_WRITTEN_BYTES }
     requires prices { length written.now.prices ≤ MOST_WRITTEN_BYTES }
-    ensures { IfOk result (λ v. Verifies prepared.now (verified_in plan.now prepared.now (side_rule decided.now.rule) journal.now (texts_in written.now)) v) }
+    ensures { IfOk result (λ v. TellsVerdict prepared.now (verified_in plan.now prepared.now (side_rule decided.now.rule) journal.now (texts_in written.now)) v) }
 {
     candidates_are_bounded();
     let found = candidates(alloc, plan, prepared, decided, journal)?;

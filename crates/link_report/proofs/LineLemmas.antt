@@ -9,7 +9,7 @@ use Rattle.link_report.specs.LineParts.{pair_end}
 use Rattle.link_report.specs.LinkEnds.{end_of_link}
 use Rattle.link_report.specs.LinksText.{link_row, source_of_link}
 use Rattle.link_report.specs.Lines.{front_of, ids_line}
-use Rattle.link_report.specs.PairsText.{decision_word, pair_row, verdict_word}
+use Rattle.link_report.specs.PairsText.{decision_word, pair_row, printed_verdict}
 use Rattle.link_report.specs.RuleText.{outcome_letters}
 use Rattle.link_report.specs.declared.open.PairRow.{PairRow}
 
@@ -26,7 +26,7 @@ pub pair_written : (rares : List Bool) (a b : List Record) (row : PairRow) (star
     → new ≡ start ++ pair_row rares a b row
 unfolding fields_text is_blank
 pair_written rares a b row start mid new front end =
-    let rest = fields_text default_writer (decimal row.pattern ∷ outcome_letters rares row.pattern ∷ signed_decimal row.weight ∷ decision_word row.decision ∷ verdict_word row.verdict ∷ []) in
+    let rest = fields_text default_writer (decimal row.pattern ∷ outcome_letters rares row.pattern ∷ signed_decimal row.weight ∷ decision_word row.decision ∷ printed_verdict row.verdict ∷ []) in
     end ∙ ap (λ t. (t ++ field_text default_writer (id_at b row.at.b)) ++ pair_end rares row) front
     ∙ parts start (field_text default_writer (id_at a row.at.a)) (field_text default_writer (id_at b row.at.b)) rest
 

@@ -2,7 +2,7 @@
 use Rattle.std.specs.Prelude.{◌≡◌, Bool, List, ℕ, [], ◌∷◌, decimal}
 use Rattle.std.specs.Fmt.{signed_decimal}
 use Rattle.csv.specs.Writing.{default_writer, row_text}
-use Rattle.link_report.specs.PairsText.{decision_word, verdict_word}
+use Rattle.link_report.specs.PairsText.{decision_word, printed_verdict}
 use Rattle.link_report.specs.RuleText.{outcome_letters}
 use Rattle.link_report.specs.declared.ends.LineEnd.{LineEnd}
 use Rattle.link_report.specs.declared.open.PairRow.{PairRow}
@@ -11,7 +11,7 @@ use Rattle.link_report.specs.declared.open.PairRow.{PairRow}
 abbrev pub pair_end : List Bool → PairRow → List ℕ
 pair_end rares row =
     row_text default_writer ([] ∷ decimal row.pattern ∷ outcome_letters rares row.pattern ∷ signed_decimal row.weight
-    ∷ decision_word row.decision ∷ verdict_word row.verdict ∷ [])
+    ∷ decision_word row.decision ∷ printed_verdict row.verdict ∷ [])
 
 -- an end that is kept is that of the pair that it was written for
 abbrev pub IsEnd : List Bool → LineEnd → Type 0

@@ -25,17 +25,17 @@ decision_word decision.Possible = codes "possible"
 decision_word decision.NonLink = codes "nonlink"
 
 -- the word of a verdict, and nothing where there is none
-abbrev pub verdict_word : Option Verdict → List ℕ
-verdict_word None = []
-verdict_word (Some verdict.Link) = codes "link"
-verdict_word (Some verdict.NonLink) = codes "nonlink"
-verdict_word (Some verdict.Undecided) = codes "open"
+abbrev pub printed_verdict : Option Verdict → List ℕ
+printed_verdict None = []
+printed_verdict (Some verdict.Link) = codes "link"
+printed_verdict (Some verdict.NonLink) = codes "nonlink"
+printed_verdict (Some verdict.Undecided) = codes "open"
 
 -- a pair: the ids of its records, its comparison pattern with the outcomes, its weight, its decision and its verdict
 abbrev pub pair_fields : List Bool → List Record → List Record → PairRow → List (List ℕ)
 pair_fields rares a b row =
     id_at a row.at.a ∷ id_at b row.at.b ∷ decimal row.pattern ∷ outcome_letters rares row.pattern ∷ signed_decimal row.weight
-    ∷ decision_word row.decision ∷ verdict_word row.verdict ∷ []
+    ∷ decision_word row.decision ∷ printed_verdict row.verdict ∷ []
 
 abbrev pub pair_row : List Bool → List Record → List Record → PairRow → List ℕ
 pair_row rares a b row = row_text default_writer (pair_fields rares a b row)

@@ -1,7 +1,7 @@
 // The ends of the lines of pairs, each made once.
 ghost use Rattle.std.specs.Prelude.{◌≡◌, ◌<◌, ◌++◌, All, Bool, IfOk, IsTrue, List, OnOk, length, slice_index_or};
 ghost use Rattle.link_report.specs.LineParts.{IsEnd, pair_end};
-ghost use Rattle.link_report.specs.PairsText.{decision_word, verdict_word};
+ghost use Rattle.link_report.specs.PairsText.{decision_word, printed_verdict};
 ghost use Rattle.link_report.specs.RuleText.{outcome_letters};
 ghost use Rattle.link_report.specs.declared.ends.LineEnd.{LineEnd as End};
 ghost use Rattle.patterns.specs.Shapes.{pattern_count_by, rare_of};
@@ -28,7 +28,7 @@ fn word_of(decision: &Decision) -> &[u8]
 
 // The word of a verdict, and nothing where there is none.
 fn verdict_of(verdict: &Option<Verdict>) -> &[u8]
-    ensures { result.now ≡ verdict_word verdict.now }
+    ensures { result.now ≡ printed_verdict verdict.now }
 {
     match verdict {
         None => b"",

@@ -15,8 +15,8 @@ abbrev pub are_migrate_words : List (List ℕ) → Bool
 are_migrate_words = are_verb_and_settings (codes "migrate")
 
 -- the bytes that were found are put under their name
-abbrev pub is_put : Put → Due → Type 0
-is_put put due = due ≡ puts (put ∷ [])
+abbrev pub is_one_put : Put → Due → Type 0
+is_one_put put due = due ≡ puts (put ∷ [])
 
 -- the text of the journal of a plan, over its prepared files, within the limit of a file
 abbrev pub journal_text : Plan → PreparedView → Steps (List ℕ)
@@ -37,5 +37,5 @@ migrate_script name = record {
     plan ← journal_plan name
     text ← written_journal plan
     gives (Ok (put_of_journal plan text));
-  due = is_put;
+  due = is_one_put;
 }

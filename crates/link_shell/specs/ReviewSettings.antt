@@ -10,7 +10,7 @@ use Rattle.link_shell.specs.Does.{Script}
 use Rattle.link_shell.specs.Due.{Put}
 use Rattle.link_shell.specs.Reviewed.{journal_plan, put_of_journal, Review, reviewed_plan}
 use Rattle.link_base.specs.declared.fault.FileRole.TheVariants as role
-use Rattle.link_shell.specs.MigrateSettings.{is_put}
+use Rattle.link_shell.specs.MigrateSettings.{is_one_put}
 use Rattle.link_shell.specs.Steps.{◌>>=◌, file, gives, Steps}
 use Rattle.link_shell.specs.Words.{is_settings_word, is_short_word, word}
 use Rattle.link_shell.specs.declared.review_settings.ReviewRequest.{ReviewRequest}
@@ -66,5 +66,5 @@ review_script w = record {
     plan ← journal_plan w.name
     text ← reviewed_journal w plan
     gives (Ok (put_of_journal plan text));
-  due = is_put;
+  due = is_one_put;
 }

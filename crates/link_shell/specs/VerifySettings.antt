@@ -3,7 +3,7 @@
 use Rattle.std.specs.Prelude.{◌≡◌, ℕ, List, Bool, true, false, codes, Result, Ok}
 use Rattle.link_base.specs.declared.fault.FileRole.TheVariants as role
 use Rattle.link_base.specs.declared.rule.Candidate.{Candidate}
-use Rattle.link_core.specs.Verify.{is_proved, line_of, verified_in, Verifies}
+use Rattle.link_core.specs.Verify.{is_proved, line_of, verified_in, TellsVerdict}
 use Rattle.link_core.specs.declared.verify.Verification.{Verification}
 use Rattle.link_limits.specs.declared.TheConstants.{MOST_WRITTEN_BYTES}
 use Rattle.written_check.specs.Verified.{WrittenTexts}
@@ -49,7 +49,7 @@ proved_by w = verified_in w.found.plan w.found.review.files w.found.review.decid
 
 -- machinery: it is told whether the files prove their links, with the line that says so
 abbrev pub tells_of : WrittenPlan → Verification → Type 0
-tells_of w told = Verifies w.found.review.files (proved_by w) told
+tells_of w told = TellsVerdict w.found.review.files (proved_by w) told
 
 -- status 0 where there is no reason, and 9 where there is one
 abbrev pub ended_if : Bool → Ended

@@ -1,6 +1,6 @@
 // The command `run SETTINGS`.
 ghost use Rattle.link_shell.specs.Does.{Does};
-ghost use Rattle.link_core.specs.Results.{texts_of};
+ghost use Rattle.link_core.specs.Results.{five_texts};
 ghost use Rattle.link_shell.specs.RunSettings.{run_puts, run_script};
 ghost use Rattle.link_shell.specs.Seen.{sink_seen, store_seen};
 ghost use Rattle.link_shell.specs.Ways.{PutsAll};
@@ -14,7 +14,7 @@ use std::alloc::Global;
 
 // Puts the five texts, in their order.
 fn put_results<S: Store>(alloc: Global, made: &RunResult, store: &mut S) -> Result<Ended, Fault>
-    ensures { PutsAll (run_puts (texts_of made.now)) (store_seen S.tells S.held S.faults store.old store.new) result }
+    ensures { PutsAll (run_puts (five_texts made.now)) (store_seen S.tells S.held S.faults store.old store.new) result }
 {
     let outputs = [
         Output {

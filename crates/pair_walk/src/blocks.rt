@@ -24,14 +24,14 @@ pub struct Blocks {
 
 impl Model for Blocks {
     ghost use Rattle.std.specs.Prelude.{List};
-    ghost use Rattle.pair_walk.specs.Joining.{AreRising, HaveRows, joined_from};
+    ghost use Rattle.pair_walk.specs.Joining.{AreRising, AreAsLong, joined_from};
     ghost use Rattle.pair_walk.specs.Rows.{RowAt};
 
     ghost Value = { List RowAt };
 
     ghost view = { λ b. joined_from b.passes.items b.width 0 b.rows };
 
-    ghost invariant = { λ b. HaveRows b.passes.items b.rows × AreRising b.passes.items b.width b.rows };
+    ghost invariant = { λ b. AreAsLong b.passes.items b.rows × AreRising b.passes.items b.width b.rows };
 }
 
 impl Blocks {

@@ -1,7 +1,7 @@
 // The rows of each pass.
 ghost use Rattle.std.specs.Prelude.{◌≡◌, ◌<◌, ℕ, Bool, [], length, slice_index_or, IfOk, IfSome, IsTrue, ◌↔◌};
 ghost use Rattle.pair_walk.specs.Rows.{AreAllReady};
-ghost use Rattle.pair_walk.specs.Joining.{AreFound, AreKeyed, ArePassRows};
+ghost use Rattle.pair_walk.specs.Joining.{AreFoundRows, AreKeyed, ArePassRows};
 
 use block_passes::{KeyedPool, PassRows};
 use link_base::{NoMemory, Part, Pass, PassList, StdFile};
@@ -58,7 +58,7 @@ pub(crate) fn find_passes(
     requires ready_a { AreAllReady passes.now a.now }
     requires ready_b { AreAllReady passes.now b.now }
     requires keyed { IfSome keyed (λ keyed. AreKeyed passes.now a.now b.now keyed.now) }
-    ensures { IfOk result (λ found. AreFound passes.now (length passes.now) a.now b.now found.items) }
+    ensures { IfOk result (λ found. AreFoundRows passes.now (length passes.now) a.now b.now found.items) }
 {
     let mut found = Vec::new(alloc);
     for at in 0..passes.passes().len() {

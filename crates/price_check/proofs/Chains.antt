@@ -5,7 +5,7 @@ use Rattle.std.proofs.lemmas.Bool.{cases_eq, cases_lt}
 use Rattle.std.proofs.lemmas.Bool.Decides.{nat_tests}
 use Rattle.link_base.specs.declared.rule.Candidate.{Candidate}
 use Rattle.price_check.specs.Assignment.{IsBefore, no_candidate}
-use Rattle.price_check.specs.PartNumbers.{ShareRecord, Chain, IsJoined, candidate}
+use Rattle.price_check.specs.PartNumbers.{ShareRecord, RecordChain, AreInOnePart, candidate}
 use Rattle.price_check.specs.Forest.{PointsUp, top, merged, AreUnited}
 use Rattle.price_check.proofs.Tops.{top_low, top_itself}
 use Rattle.std.proofs.lemmas.List.{get_or_past}
@@ -14,24 +14,24 @@ pub share_turned : (cs : List Candidate) (j k : ℕ) → ShareRecord cs j k → 
 share_turned cs j k (inl e) = inl (sym e)
 share_turned cs j k (inr e) = inr (sym e)
 
-pub joined_self : (cs : List Candidate) (j : ℕ) → IsJoined cs j j
+pub joined_self : (cs : List Candidate) (j : ℕ) → AreInOnePart cs j j
 joined_self cs j = (zero, refl)
 
-chain_on : (cs : List Candidate) (n i j k : ℕ) → Chain cs n i j → IsJoined cs j k → IsJoined cs i k
+chain_on : (cs : List Candidate) (n i j k : ℕ) → RecordChain cs n i j → AreInOnePart cs j k → AreInOnePart cs i k
 chain_on cs zero i j k e h = rw e h
 chain_on cs (suc n) i j k c h = (let rest = chain_on cs n c.0 j k c.1.2 h in (suc rest.0, (c.0, (c.1.0, c.1.1, rest.1))))
 
-pub joined_on : (cs : List Candidate) (i j k : ℕ) → IsJoined cs i j → IsJoined cs j k → IsJoined cs i k
+pub joined_on : (cs : List Candidate) (i j k : ℕ) → AreInOnePart cs i j → AreInOnePart cs j k → AreInOnePart cs i k
 joined_on cs i j k h g = chain_on cs h.0 i j k h.1 g
 
-pub joined_by : (cs : List Candidate) (j k : ℕ) → k < length cs → ShareRecord cs j k → IsJoined cs j k
+pub joined_by : (cs : List Candidate) (j k : ℕ) → k < length cs → ShareRecord cs j k → AreInOnePart cs j k
 joined_by cs j k lt s = (suc zero, (k, (lt, s, refl)))
 
-chain_turned : (cs : List Candidate) (n i k : ℕ) → i < length cs → Chain cs n i k → IsJoined cs k i
+chain_turned : (cs : List Candidate) (n i k : ℕ) → i < length cs → RecordChain cs n i k → AreInOnePart cs k i
 chain_turned cs zero i k lt e = (zero, sym e)
 chain_turned cs (suc n) i k lt c = joined_on cs k c.0 i (chain_turned cs n c.0 k c.1.0 c.1.2) (joined_by cs c.0 i lt (share_turned cs i c.0 c.1.1))
 
-pub joined_turned : (cs : List Candidate) (i k : ℕ) → i < length cs → IsJoined cs i k → IsJoined cs k i
+pub joined_turned : (cs : List Candidate) (i k : ℕ) → i < length cs → AreInOnePart cs i k → AreInOnePart cs k i
 joined_turned cs i k lt h = chain_turned cs h.0 i k lt h.1
 
 -- The top after two tops are one.
@@ -49,20 +49,20 @@ merged_cases s t r = elim (cases_eq r s) [
 merged_both : (s t : ℕ) → merged s t s ≡ merged s t t
 merged_both s t = grind (arith, nat_tests)
 
-module _ (cs : List Candidate) (up up' : List ℕ) (k x y : ℕ) (u : AreUnited cs up k) (lx : x < length cs) (ly : y < length cs) (xy : IsJoined cs x y) (count : length up' ≡ length up) (earlier : PointsUp up') (tops : (z : ℕ) → top up' z ≡ merged (top up x) (top up y) (top up z)) where
+module _ (cs : List Candidate) (up up' : List ℕ) (k x y : ℕ) (u : AreUnited cs up k) (lx : x < length cs) (ly : y < length cs) (xy : AreInOnePart cs x y) (count : length up' ≡ length up) (earlier : PointsUp up') (tops : (z : ℕ) → top up' z ≡ merged (top up x) (top up y) (top up z)) where
   low : (z : ℕ) → z < length cs → top up z < length cs
   low z lt = omega (arith, top_low up u.earlier z)
 
   -- z, whose top is one of the two, is joined to both
-  to_x : (z : ℕ) → z < length cs → (top up z ≡ top up x) ⊎ (top up z ≡ top up y) → IsJoined cs z x
+  to_x : (z : ℕ) → z < length cs → (top up z ≡ top up x) ⊎ (top up z ≡ top up y) → AreInOnePart cs z x
   to_x z lt (inl e) = joined_on cs z (top up z) x (u.joined z lt) (rw e (joined_turned cs x (top up x) lx (u.joined x lx)))
   to_x z lt (inr e) = joined_on cs z (top up z) x (u.joined z lt) (rw e (joined_on cs (top up y) y x (joined_turned cs y (top up y) ly (u.joined y ly)) (joined_turned cs x y lx xy)))
 
-  to_top : (z r : ℕ) → z < length cs → IsJoined cs z x → (r ≡ top up x) ⊎ (r ≡ top up y) → IsJoined cs z r
+  to_top : (z r : ℕ) → z < length cs → AreInOnePart cs z x → (r ≡ top up x) ⊎ (r ≡ top up y) → AreInOnePart cs z r
   to_top z r lt h (inl e) = rw e (joined_on cs z x (top up x) h (u.joined x lx))
   to_top z r lt h (inr e) = rw e (joined_on cs z x (top up y) h (joined_on cs x y (top up y) xy (u.joined y ly)))
 
-  joined_after : (z : ℕ) → z < length cs → IsJoined cs z (top up' z)
+  joined_after : (z : ℕ) → z < length cs → AreInOnePart cs z (top up' z)
   joined_after z lt = elim (merged_cases (top up x) (top up y) (top up z)) [
     | inl e ↦ rw (tops z, e) (u.joined z lt)
     | inr p ↦ rw (tops z) (to_top z (merged (top up x) (top up y) (top up z)) lt (to_x z lt p.0) p.1)

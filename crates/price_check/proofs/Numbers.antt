@@ -3,7 +3,7 @@ use Rattle.std.proofs.Common.{◌≡◌, ◌≢◌, ℕ, zero, suc, ◌<◌, ◌
 use Rattle.std.specs.Prelude.{slice_index}
 use Rattle.std.proofs.lemmas.Bool.{cases_eq, cases_lt}
 use Rattle.link_base.specs.declared.rule.Candidate.{Candidate}
-use Rattle.price_check.specs.PartNumbers.{ShareRecord, Chain, IsJoined, IsFirstOf, ArePartNumbers}
+use Rattle.price_check.specs.PartNumbers.{ShareRecord, RecordChain, AreInOnePart, IsFirstOf, ArePartNumbers}
 use Rattle.price_check.specs.Forest.{PointsUp, top, AreUnited, AreByTop}
 use Rattle.price_check.proofs.Tops.{top_low, top_top, top_above, top_itself}
 use Rattle.price_check.proofs.Chains.{joined_on, joined_turned, share_turned}
@@ -70,7 +70,7 @@ module _ (cs : List Candidate) (up numbers : List ℕ) (parts : ℕ) (u : AreUni
         ]
       ]
 
-  joined_from : (j k : ℕ) → j < length cs → k < length cs → slice_index numbers j ≡ slice_index numbers k → IsJoined cs j k
+  joined_from : (j k : ℕ) → j < length cs → k < length cs → slice_index numbers j ≡ slice_index numbers k → AreInOnePart cs j k
   joined_from j k lj lk e = joined_on cs j (top up j) k (u.joined j lj) (rw (same_top j k lj lk e) (joined_turned cs k (top up k) lk (u.joined k lk)))
 
   shared_top : (i j : ℕ) → i < length cs → j < length cs → ShareRecord cs i j → top up i ≡ top up j
@@ -79,11 +79,11 @@ module _ (cs : List Candidate) (up numbers : List ℕ) (parts : ℕ) (u : AreUni
     | inr p ↦ elim (cases_lt j i) [ inl q ↦ sym (u.shared j i q li (share_turned cs i j s)) | inr q ↦ ap (top up) (let e : i ≡ j = omega arith in e) ]
   ]
 
-  chain_top : (m j k : ℕ) → j < length cs → Chain cs m j k → top up j ≡ top up k
+  chain_top : (m j k : ℕ) → j < length cs → RecordChain cs m j k → top up j ≡ top up k
   chain_top zero j k lj e = ap (top up) e
   chain_top (suc m) j k lj c = shared_top j c.0 lj c.1.0 c.1.1 ∙ chain_top m c.0 k c.1.0 c.1.2
 
-  number_from : (j k : ℕ) → j < length cs → k < length cs → IsJoined cs j k → slice_index numbers j ≡ slice_index numbers k
+  number_from : (j k : ℕ) → j < length cs → k < length cs → AreInOnePart cs j k → slice_index numbers j ≡ slice_index numbers k
   number_from j k lj lk h = n.same j lj ∙ (ap (slice_index numbers) (chain_top h.0 j k lj h.1) ∙ sym (n.same k lk))
 
   -- the first of a number is a top

@@ -3,7 +3,7 @@
 use Rattle.std.specs.Prelude.{◌≡◌, ◌≢◌, ℕ, zero, suc, ◌<◌, ◌≤◌, ◌||◌, ◌==◌, if◌then◌else◌, List, length, slice_index, slice_index_or, Option, None, MatchOption}
 use Rattle.std.proofs.Common.{min}
 use Rattle.link_base.specs.declared.rule.Candidate.{Candidate}
-use Rattle.price_check.specs.PartNumbers.{ShareRecord, IsJoined, candidate}
+use Rattle.price_check.specs.PartNumbers.{ShareRecord, AreInOnePart, candidate}
 
 -- each place points to itself or to an earlier one
 abbrev pub PointsUp : List ℕ → Type 0
@@ -34,7 +34,7 @@ AreLast cs last k = (b : ℕ) → b < length last → IsLast cs k b (slice_index
 pub record AreUnited (cs : List Candidate) (up : List ℕ) (k : ℕ) : Type 0 where
   pub count : length up ≡ length cs
   pub earlier : PointsUp up
-  pub joined : (x : ℕ) → x < length cs → IsJoined cs x (top up x)
+  pub joined : (x : ℕ) → x < length cs → AreInOnePart cs x (top up x)
   pub shared : (i j : ℕ) → i < j → j < k → ShareRecord cs i j → top up i ≡ top up j
 
 -- numbers by the tops, each new one the next

@@ -13,13 +13,13 @@ abbrev pub ShareRecord : List Candidate → ℕ → ℕ → Type 0
 ShareRecord cs j k = ((candidate cs j).a ≡ (candidate cs k).a) ⊎ ((candidate cs j).b ≡ (candidate cs k).b)
 
 -- a chain of so many candidates leads from one place to the other, each of which shares a record with the next
-abbrev pub Chain : List Candidate → ℕ → ℕ → ℕ → Type 0
-Chain cs zero j k = j ≡ k
-Chain cs (suc n) j k = (i : ℕ) × ((i < length cs) × ShareRecord cs j i × Chain cs n i k)
+abbrev pub RecordChain : List Candidate → ℕ → ℕ → ℕ → Type 0
+RecordChain cs zero j k = j ≡ k
+RecordChain cs (suc n) j k = (i : ℕ) × ((i < length cs) × ShareRecord cs j i × RecordChain cs n i k)
 
 -- some chain does
-abbrev pub IsJoined : List Candidate → ℕ → ℕ → Type 0
-IsJoined cs j k = (n : ℕ) × Chain cs n j k
+abbrev pub AreInOnePart : List Candidate → ℕ → ℕ → Type 0
+AreInOnePart cs j k = (n : ℕ) × RecordChain cs n j k
 
 -- no earlier place has the number of this one
 abbrev pub IsFirstOf : List ℕ → ℕ → Type 0
@@ -28,7 +28,7 @@ IsFirstOf numbers k = (i : ℕ) → i < k → slice_index numbers i ≢ slice_in
 -- the numbers of the parts, from 0 in the order of their first candidates
 pub record ArePartNumbers (cs : List Candidate) (numbers : List ℕ) (parts : ℕ) : Type 0 where
   pub count : length numbers ≡ length cs
-  pub joined : (j k : ℕ) → j < length cs → k < length cs → (slice_index numbers j ≡ slice_index numbers k) ↔ IsJoined cs j k
+  pub joined : (j k : ℕ) → j < length cs → k < length cs → (slice_index numbers j ≡ slice_index numbers k) ↔ AreInOnePart cs j k
   pub below : (k : ℕ) → k < length cs → slice_index numbers k < parts
   pub used : (p : ℕ) → p < parts → (k : ℕ) × ((k < length cs) × (slice_index numbers k ≡ p))
   pub in_order : (j k : ℕ) → j < k → k < length cs → IsFirstOf numbers j → IsFirstOf numbers k → slice_index numbers j < slice_index numbers k

@@ -34,6 +34,6 @@ abbrev pub verdicts_of : List Record → List Record → List ℕ → Result (Li
 verdicts_of a b bytes = and_then (table_of role.Verdicts verdicts_wanted (records_in 44 bytes)) (verdicts_read a b [])
 
 -- its positions are of records in files of so many
-pub record IsPlaced (rows_a rows_b : ℕ) (v : NewVerdict) : Type 0 where
+pub record NamesRecords (rows_a rows_b : ℕ) (v : NewVerdict) : Type 0 where
   pub in_a : v.a < rows_a
   pub in_b : v.b < rows_b

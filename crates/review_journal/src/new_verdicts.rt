@@ -5,7 +5,7 @@ ghost use Rattle.link_base.specs.Fault.{Gives, IsAnswer, IsInputFault};
 ghost use Rattle.link_limits.specs.declared.TheConstants.{MOST_ROWS};
 ghost use Rattle.file_reader.specs.Layout.{wanted_of};
 ghost use Rattle.file_reader.specs.Rows.{TableRow, no_row};
-ghost use Rattle.review_journal.specs.Batch.{IsPlaced, verdict_in, verdicts_of, verdicts_read, verdicts_wanted};
+ghost use Rattle.review_journal.specs.Batch.{NamesRecords, verdict_in, verdicts_of, verdicts_read, verdicts_wanted};
 
 use crate::batch::{NewVerdict, Verdicts};
 use crate::columns::layout_of;
@@ -35,7 +35,7 @@ fn verdict_at(
     requires few { length table.now ≤ MOST_ROWS }
     ensures kind { IfErr result IsInputFault }
     ensures answer { IsAnswer (verdict_in a.now b.now (at + 1) (slice_index_or table.now at no_row).fields) result }
-    ensures placed { IfOk result (IsPlaced (length a.now) (length b.now)) }
+    ensures placed { IfOk result (NamesRecords (length a.now) (length b.now)) }
 {
     let row = at + 1;
     let role = FileRole::Verdicts;
@@ -68,7 +68,7 @@ fn verdicts_in(
     requires few { length table.now ≤ MOST_ROWS }
     ensures kind { IfErr result IsInputFault }
     ensures answer { Gives (λ rows. rows.items) (verdicts_read a.now b.now [] table.now) result }
-    ensures placed { IfOk result (λ rows. All (IsPlaced (length a.now) (length b.now)) rows.items) }
+    ensures placed { IfOk result (λ rows. All (NamesRecords (length a.now) (length b.now)) rows.items) }
 {
     let mut rows = Vec::new(alloc);
     for at in 0..table.rows() {
@@ -89,7 +89,7 @@ pub fn read_verdicts(
 ) -> Result<Verdicts, Fault>
     ensures kind { IfErr result IsInputFault }
     ensures answer { IsAnswer (verdicts_of a.now b.now bytes.now) result }
-    ensures placed { IfOk result (λ batch. All (IsPlaced (length a.now) (length b.now)) batch) }
+    ensures placed { IfOk result (λ batch. All (NamesRecords (length a.now) (length b.now)) batch) }
 {
     let layout = layout(alloc)?;
     let table = match read_table(alloc, bytes, FileRole::Verdicts, &layout) {

@@ -47,15 +47,15 @@ text_of_b rows = rows_text (file_header ∷ map row_b (range_with_len 0 rows))
 abbrev pub sample_header : List (List ℕ)
 sample_header = codes "id_a" ∷ codes "id_b" ∷ codes "status" ∷ []
 
-abbrev pub sample_row : ℕ → ℕ → List ℕ → List (List ℕ)
-sample_row a b status = id_a a ∷ id_b b ∷ status ∷ []
+abbrev pub made_row : ℕ → ℕ → List ℕ → List (List ℕ)
+made_row a b status = id_a a ∷ id_b b ∷ status ∷ []
 
 -- a record of A with its own copy, and with the copy of the next
 abbrev pub matched_row : ℕ → List (List ℕ)
-matched_row row = sample_row row row (codes "matched")
+matched_row row = made_row row row (codes "matched")
 
 abbrev pub unmatched_row : ℕ → List (List ℕ)
-unmatched_row row = sample_row row (row + 1) (codes "unmatched")
+unmatched_row row = made_row row (row + 1) (codes "unmatched")
 
 -- at most `MOST_OF_STATUS` pairs of each status
 abbrev pub text_of_sample : ℕ → List ℕ

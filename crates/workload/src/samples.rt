@@ -3,7 +3,7 @@ ghost use Rattle.std.specs.Prelude.{◌≡◌, ◌≤◌, ◌<◌, ◌++◌, IfO
 ghost use Rattle.std.specs.List.{range_with_len};
 ghost use Rattle.csv.specs.Writing.{default_writer, row_text};
 ghost use Rattle.link_limits.specs.declared.TheConstants.{MOST_ROWS};
-ghost use Rattle.workload.specs.Made.{matched_row, rows_text, sample_row, text_of_sample, unmatched_row};
+ghost use Rattle.workload.specs.Made.{matched_row, rows_text, made_row, text_of_sample, unmatched_row};
 
 use crate::files::id_of;
 use csv_rows::push_row;
@@ -21,7 +21,7 @@ fn push_pair(
     b: u32,
     status: &[u8],
 ) -> Result<(), NoMemory>
-    ensures { OnOk result (text.new.items ≡ text.old.items ++ row_text default_writer (sample_row a b status.now)) }
+    ensures { OnOk result (text.new.items ≡ text.old.items ++ row_text default_writer (made_row a b status.now)) }
 {
     let a = id_of(alloc, b'A', a)?;
     let b = id_of(alloc, b'B', b)?;

@@ -21,7 +21,7 @@ use Rattle.link_report.proofs.ReadingLemmas.{row_same, same_itself}
 use Rattle.link_report.specs.LinksText.{link_fields}
 use Rattle.link_report.specs.Reading.{same_row}
 use Rattle.price_check.specs.Verdict.{IsCandidate, IsCandidateAt}
-use Rattle.written_check.specs.LinkRows.{after_all, candidate_in, HasIds, is_before, IsPlaceOf, IsPlaceWithIds, links_in, taken_more}
+use Rattle.written_check.specs.LinkRows.{after_all, candidate_in, HasRowIds, goes_before, IsPlaceOf, IsPlaceWithIds, links_in, taken_more}
 use Rattle.written_check.specs.declared.refutation.Refutation.TheVariants as refutation
 
 abbrev Row : Type 0
@@ -104,25 +104,25 @@ pub no_record_has : (file : List Record) (id : List ℕ) (at : ℕ) → IsFreshI
 no_record_has file id at fresh within is = fresh at no_record within is
 
 module _ (cs : List Candidate) (a b : List Record) (row : Row) (within : All (IsWithin (length a) (length b)) cs) where
-  pub none_of_a : IsFreshId (get_or row 0 []) a → All (λ (c : Candidate). HasIds a b row c → ⊥) cs
+  pub none_of_a : IsFreshId (get_or row 0 []) a → All (λ (c : Candidate). HasRowIds a b row c → ⊥) cs
   none_of_a fresh k d lt ids = no_record_has a (get_or row 0 []) (get_or cs k d).a fresh (within k d lt).0 ids.0
 
-  pub none_of_b : IsFreshId (get_or row 1 []) b → All (λ (c : Candidate). HasIds a b row c → ⊥) cs
+  pub none_of_b : IsFreshId (get_or row 1 []) b → All (λ (c : Candidate). HasRowIds a b row c → ⊥) cs
   none_of_b fresh k d lt ids = no_record_has b (get_or row 1 []) (get_or cs k d).b fresh (within k d lt).1 ids.1
 
   module _ (distinct_a : HaveDistinctIds a) (distinct_b : HaveDistinctIds b) (of_a of_b : ℕ) (is_a : Some of_a ≡ position_of_id (get_or row 0 []) a) (is_b : Some of_b ≡ position_of_id (get_or row 1 []) b) where
     abbrev pair : PairAt
     pair = record { a = of_a; b = of_b }
 
-    places : (c : Candidate) → IsWithin (length a) (length b) c → HasIds a b row c → (c.a ≡ of_a) × (c.b ≡ of_b)
+    places : (c : Candidate) → IsWithin (length a) (length b) c → HasRowIds a b row c → (c.a ≡ of_a) × (c.b ≡ of_b)
     places c inside ids = (stands_there a (get_or row 0 []) c.a of_a distinct_a inside.0 ids.0 is_a, stands_there b (get_or row 1 []) c.b of_b distinct_b inside.1 ids.1 is_b)
 
-    pub none_there : (IsCandidate cs pair → ⊥) → All (λ (c : Candidate). HasIds a b row c → ⊥) cs
+    pub none_there : (IsCandidate cs pair → ⊥) → All (λ (c : Candidate). HasRowIds a b row c → ⊥) cs
     none_there none k d lt ids =
         let at = places (get_or cs k d) (within k d lt) ids in
         none (k, (lt, λ e. (ap (λ (c : Candidate). c.a) (get_or_default cs k e d lt) ∙ at.0, ap (λ (c : Candidate). c.b) (get_or_default cs k e d lt) ∙ at.1)))
 
-    pub only_there : (place : ℕ) → AllPairs IsBefore cs → IsCandidateAt cs pair place → All (λ (c : Candidate). HasIds a b row c → c ≡ get_or cs place no_candidate) cs
+    pub only_there : (place : ℕ) → AllPairs IsBefore cs → IsCandidateAt cs pair place → All (λ (c : Candidate). HasRowIds a b row c → c ≡ get_or cs place no_candidate) cs
     only_there place rising at k d lt ids =
         let there = places (get_or cs k d) (within k d lt) ids in
         let here = at.1 no_candidate in
@@ -130,7 +130,7 @@ module _ (cs : List Candidate) (a b : List Record) (row : Row) (within : All (Is
         (there.0 ∙ sym here.0) (there.1 ∙ sym here.1)
 
 -- a row that is that of a candidate has its ids
-ids_of_row : (a b : List Record) (c : Candidate) (row : Row) → same_row (link_fields a b c) row ≡ true → HasIds a b row c
+ids_of_row : (a b : List Record) (c : Candidate) (row : Row) → same_row (link_fields a b c) row ≡ true → HasRowIds a b row c
 ids_of_row a b c row same =
     let is = row_same (link_fields a b c) row same in
     (ap (λ (r : Row). get_or r 0 []) is, ap (λ (r : Row). get_or r 1 []) is)
@@ -145,39 +145,39 @@ same_turned x y = by_test (same_row x y) (same_row y x) refl refl
     by_test false true e f = absurd (true≢false (sym (same_itself y) ∙ ap (λ (r : Row). same_row r y) (row_same y x f) ∙ e))
 
 module _ (cs : List Candidate) (a b : List Record) (row : Row) where
-  pub no_candidate_in : All (λ (c : Candidate). HasIds a b row c → ⊥) cs → candidate_in cs a b row ≡ None
+  pub no_candidate_in : All (λ (c : Candidate). HasRowIds a b row c → ⊥) cs → candidate_in cs a b row ≡ None
   no_candidate_in none = found_none (λ c. same_row (link_fields a b c) row) cs (λ k d lt. fails (get_or cs k d) (none k d lt) (same_row (link_fields a b (get_or cs k d)) row) refl)
     where
-      fails : (c : Candidate) → (HasIds a b row c → ⊥) → (t : Bool) → same_row (link_fields a b c) row ≡ t → t ≡ false
+      fails : (c : Candidate) → (HasRowIds a b row c → ⊥) → (t : Bool) → same_row (link_fields a b c) row ≡ t → t ≡ false
       fails c none true e = absurd (none (ids_of_row a b c row e))
       fails c none false e = refl
 
-  module _ (place : ℕ) (lt : place < length cs) (only : All (λ (c : Candidate). HasIds a b row c → c ≡ get_or cs place no_candidate) cs) where
+  module _ (place : ℕ) (lt : place < length cs) (only : All (λ (c : Candidate). HasRowIds a b row c → c ≡ get_or cs place no_candidate) cs) where
     abbrev there : Candidate
     there = get_or cs place no_candidate
 
     pub candidate_there : same_row row (link_fields a b there) ≡ true → candidate_in cs a b row ≡ Some there
     candidate_there same =
         found_only (λ c. same_row (link_fields a b c) row) cs there (Contains-get_or cs place no_candidate lt) (same_turned (link_fields a b there) row ∙ same)
-        (λ y found. All-contains (λ (c : Candidate). HasIds a b row c → c ≡ there) cs y only found.among (ids_of_row a b y row found.passes))
+        (λ y found. All-contains (λ (c : Candidate). HasRowIds a b row c → c ≡ there) cs y only found.among (ids_of_row a b y row found.passes))
 
     pub another_row : same_row row (link_fields a b there) ≡ false → candidate_in cs a b row ≡ None
     another_row other = found_none (λ c. same_row (link_fields a b c) row) cs (λ k d within. fails (get_or cs k d) (only k d within) (same_row (link_fields a b (get_or cs k d)) row) refl)
       where
-        fails : (c : Candidate) → (HasIds a b row c → c ≡ there) → (t : Bool) → same_row (link_fields a b c) row ≡ t → t ≡ false
+        fails : (c : Candidate) → (HasRowIds a b row c → c ≡ there) → (t : Bool) → same_row (link_fields a b c) row ≡ t → t ≡ false
         fails c is true e = absurd (true≢false (sym (ap (λ (x : Candidate). same_row (link_fields a b x) row) (sym (is (ids_of_row a b c row e))) ∙ e) ∙ same_turned (link_fields a b there) row ∙ other))
         fails c is false e = refl
 
 -- one stands before another exactly where the test says so
-pub before_so : (x y : Candidate) → IsBefore x y → is_before x y ≡ true
+pub before_so : (x y : Candidate) → IsBefore x y → goes_before x y ≡ true
 before_so x y (inl p) = grind (arith, nat_tests)
 before_so x y (inr p) = grind (arith, nat_tests)
 
-pub so_before : (x y : Candidate) → is_before x y ≡ true → IsBefore x y
+pub so_before : (x y : Candidate) → goes_before x y ≡ true → IsBefore x y
 so_before x y e = grind (arith, nat_tests)
 
-pub not_so : (x y : Candidate) → (IsBefore x y → ⊥) → is_before x y ≡ false
-not_so x y not = elim (cases_Bool (is_before x y)) [ inl e ↦ absurd (not (so_before x y e)) | inr e ↦ e ]
+pub not_so : (x y : Candidate) → (IsBefore x y → ⊥) → goes_before x y ≡ false
+not_so x y not = elim (cases_Bool (goes_before x y)) [ inl e ↦ absurd (not (so_before x y e)) | inr e ↦ e ]
 
 before_trans : (x y z : Candidate) → IsBefore x y → IsBefore y z → IsBefore x z
 before_trans x y z (inl p) (inl q) = inl (omega arith)
@@ -186,8 +186,8 @@ before_trans x y z (inr p) (inl q) = inl (omega (arith, q, p.0))
 before_trans x y z (inr p) (inr q) = inr (omega (arith, p.0, q.0), omega (arith, p.1, q.1))
 
 module _ (taken : List Candidate) (c : Candidate) (last : ℕ) (is_last : length taken ≡ last + 1) where
-  pub after_last : AllPairs IsBefore taken → IsBefore (get_or taken last no_candidate) c → list_all (λ d. is_before d c) taken ≡ true
-  after_last rising before = list_all-from_AllPass (λ d. is_before d c) taken (λ k d lt. before_so (get_or taken k d) c (each k d lt))
+  pub after_last : AllPairs IsBefore taken → IsBefore (get_or taken last no_candidate) c → list_all (λ d. goes_before d c) taken ≡ true
+  after_last rising before = list_all-from_AllPass (λ d. goes_before d c) taken (λ k d lt. before_so (get_or taken k d) c (each k d lt))
     where
       at : (k : ℕ) (d : Candidate) → k < length taken → k < last ⊎ (k ≡ last) → IsBefore (get_or taken k d) c
       at k d lt (inl p) = before_trans (get_or taken k d) (get_or taken last d) c (rising k last d p (omega arith)) (subst (λ (x : Candidate). IsBefore x c) (get_or_default taken last no_candidate d (omega arith)) before)
@@ -196,26 +196,26 @@ module _ (taken : List Candidate) (c : Candidate) (last : ℕ) (is_last : length
       each : (k : ℕ) (d : Candidate) → k < length taken → IsBefore (get_or taken k d) c
       each k d lt = at k d lt (grind arith)
 
-  pub not_after_last : (IsBefore (get_or taken last no_candidate) c → ⊥) → list_all (λ d. is_before d c) taken ≡ false
-  not_after_last not = list_all_at (λ d. is_before d c) taken last no_candidate (omega arith) (not_so (get_or taken last no_candidate) c not)
+  pub not_after_last : (IsBefore (get_or taken last no_candidate) c → ⊥) → list_all (λ d. goes_before d c) taken ≡ false
+  not_after_last not = list_all_at (λ d. goes_before d c) taken last no_candidate (omega arith) (not_so (get_or taken last no_candidate) c not)
 
 -- whether a candidate stands after each of rising ones is whether it stands after the last
-pub last_decides : (taken : List Candidate) (d c : Candidate) → AllPairs IsBefore taken → Some d ≡ slice_get taken (length taken - 1) → is_before d c ≡ list_all (λ x. is_before x c) taken
+pub last_decides : (taken : List Candidate) (d c : Candidate) → AllPairs IsBefore taken → Some d ≡ slice_get taken (length taken - 1) → goes_before d c ≡ list_all (λ x. goes_before x c) taken
 last_decides taken d c rising is = by_length (length taken) refl
   where
     told : (last : ℕ) → length taken ≡ last + 1 → get_or taken last no_candidate ≡ d
     told last e = let at : last ≡ length taken - 1 = omega arith in ap (λ n. get_or taken n no_candidate) at ∙ get_or_from_slice_get taken (length taken - 1) d no_candidate (sym is)
 
-    by_test : (last : ℕ) → length taken ≡ last + 1 → (t : Bool) → is_before d c ≡ t → t ≡ list_all (λ x. is_before x c) taken
+    by_test : (last : ℕ) → length taken ≡ last + 1 → (t : Bool) → goes_before d c ≡ t → t ≡ list_all (λ x. goes_before x c) taken
     by_test last e true h = sym (after_last taken c last e rising (subst (λ (x : Candidate). IsBefore x c) (sym (told last e)) (so_before d c h)))
     by_test last e false h = sym (not_after_last taken c last e (λ before. true≢false (sym (before_so d c (subst (λ (x : Candidate). IsBefore x c) (told last e) before)) ∙ h)))
 
-    by_length : (n : ℕ) → length taken ≡ n → is_before d c ≡ list_all (λ x. is_before x c) taken
+    by_length : (n : ℕ) → length taken ≡ n → goes_before d c ≡ list_all (λ x. goes_before x c) taken
     by_length zero e = elim ((slice_get_cases taken (length taken - 1)).1) [
       | inl h ↦ absurd (omega (arith, h.1))
       | inr h ↦ no_some d (sym (is ∙ h.1))
     ]
-    by_length (suc last) e = by_test last (omega arith) (is_before d c) refl
+    by_length (suc last) e = by_test last (omega arith) (goes_before d c) refl
 
 has_both : (x y v w : List ℕ) → (bytes_eq x y && bytes_eq v w) ≡ true → (x ≡ y) × (v ≡ w)
 has_both x y v w e = by_tests (bytes_eq x y) (bytes_eq v w) refl refl e
@@ -245,10 +245,10 @@ module _ (cs : List Candidate) (a b : List Record) (row : Row) (within : All (Is
 module _ (taken : List Candidate) where
   pub taken_rising : (found : Option Candidate) (c : Candidate) → AllPairs IsBefore taken → Some c ≡ after_all taken found → AllPairs IsBefore (taken ++ c ∷ [])
   taken_rising None c rising is = no_some c (sym is)
-  taken_rising (Some d) c rising is = by_test (list_all (λ x. is_before x d) taken) refl is
+  taken_rising (Some d) c rising is = by_test (list_all (λ x. goes_before x d) taken) refl is
     where
-      by_test : (t : Bool) → list_all (λ x. is_before x d) taken ≡ t → Some c ≡ (if t then Some d else None) → AllPairs IsBefore (taken ++ c ∷ [])
-      by_test true e is = some_same d c (λ x. AllPairs IsBefore (taken ++ x ∷ [])) (sym is) (all_pairs_push IsBefore taken d rising (λ k y lt. so_before (get_or taken k y) d (AllPass-from_list_all (λ x. is_before x d) taken e k y lt)))
+      by_test : (t : Bool) → list_all (λ x. goes_before x d) taken ≡ t → Some c ≡ (if t then Some d else None) → AllPairs IsBefore (taken ++ c ∷ [])
+      by_test true e is = some_same d c (λ x. AllPairs IsBefore (taken ++ x ∷ [])) (sym is) (all_pairs_push IsBefore taken d rising (λ k y lt. so_before (get_or taken k y) d (AllPass-from_list_all (λ x. goes_before x d) taken e k y lt)))
       by_test false e is = no_some c (sym is)
 
   pub link_taken : (cs : List Candidate) (a b : List Record) (row : Row) (rows : List Row) (c : Candidate) → Some c ≡ after_all taken (candidate_in cs a b row) → links_in cs a b taken (row ∷ rows) ≡ links_in cs a b (taken ++ c ∷ []) rows

@@ -22,7 +22,7 @@ use Rattle.link_report.specs.PricesText.{is_priced, price_fields}
 use Rattle.link_report.specs.Reading.{rows_of_prices, same_row, side_rows}
 use Rattle.written_check.proofs.LinkLemmas.{before_so, found_only, IsFound, known_again}
 use Rattle.written_check.proofs.PriceLemmas.{none_of_none}
-use Rattle.written_check.specs.LinkRows.{after_all, candidate_in, is_before, links_in, taken_more}
+use Rattle.written_check.specs.LinkRows.{after_all, candidate_in, goes_before, links_in, taken_more}
 use Rattle.written_check.specs.PriceRows.{ArePrices, have_none, no_prices, price_in, priced_at, priced_more, PricePair, prices_in, row_priced, side_priced, with_a, with_b}
 use Rattle.written_check.specs.RuleRows.{first_difference}
 
@@ -54,8 +54,8 @@ module _ (cs : List Candidate) (a b : List Record) (distinct_a : HaveDistinctIds
           same_member cs y c rising found.among among
           (known_at a y.a c.a distinct_a in_y.0 in_c.0 (ap (λ (r : Row). get_or r 0 []) rows)) (known_at b y.b c.b distinct_b in_y.1 in_c.1 (ap (λ (r : Row). get_or r 1 []) rows))
 
-  all_before : (taken rest : List Candidate) (c : Candidate) → AllPairs IsBefore (taken ++ c ∷ rest) → list_all (λ d. is_before d c) taken ≡ true
-  all_before taken rest c all = list_all-from_AllPass (λ d. is_before d c) taken (λ k d lt. before_so (get_or taken k d) c (at k d lt))
+  all_before : (taken rest : List Candidate) (c : Candidate) → AllPairs IsBefore (taken ++ c ∷ rest) → list_all (λ d. goes_before d c) taken ≡ true
+  all_before taken rest c all = list_all-from_AllPass (λ d. goes_before d c) taken (λ k d lt. before_so (get_or taken k d) c (at k d lt))
     where
       at : (k : ℕ) (d : Candidate) → k < length taken → IsBefore (get_or taken k d) c
       at k d lt =

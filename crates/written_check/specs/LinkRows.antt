@@ -17,13 +17,13 @@ abbrev pub candidate_in : List Candidate → List Record → List Record → Lis
 candidate_in candidates a b row = find (λ c. same_row (link_fields a b c) row) candidates
 
 -- x stands before y by position
-abbrev pub is_before : Candidate → Candidate → Bool
-is_before x y = nat_lt x.a y.a || ((x.a == y.a) && nat_lt x.b y.b)
+abbrev pub goes_before : Candidate → Candidate → Bool
+goes_before x y = nat_lt x.a y.a || ((x.a == y.a) && nat_lt x.b y.b)
 
 -- a candidate that stands after each of those before it
 abbrev pub after_all : List Candidate → Option Candidate → Option Candidate
 after_all taken None = None
-after_all taken (Some c) = if list_all (λ d. is_before d c) taken then Some c else None
+after_all taken (Some c) = if list_all (λ d. goes_before d c) taken then Some c else None
 
 -- the links after those that were taken, and one more
 abbrev pub taken_more : (List Candidate → Result (List Candidate) Refutation) → List Candidate → Option Candidate → Result (List Candidate) Refutation
@@ -54,8 +54,8 @@ abbrev pub apart_verified : List Candidate → Result (List Candidate) Refutatio
 apart_verified links = unless_row refutation.Reused links (first_reused [] links)
 
 -- machinery: a candidate has the ids of a row, and the test of it
-abbrev pub HasIds : List Record → List Record → List (List ℕ) → Candidate → Type 0
-HasIds a b row c = (id_at a c.a ≡ slice_index_or row 0 []) × (id_at b c.b ≡ slice_index_or row 1 [])
+abbrev pub HasRowIds : List Record → List Record → List (List ℕ) → Candidate → Type 0
+HasRowIds a b row c = (id_at a c.a ≡ slice_index_or row 0 []) × (id_at b c.b ≡ slice_index_or row 1 [])
 
 abbrev pub has_ids : List Record → List Record → List (List ℕ) → Candidate → Bool
 has_ids a b row c = bytes_eq (id_at a c.a) (slice_index_or row 0 []) && bytes_eq (id_at b c.b) (slice_index_or row 1 [])
@@ -67,8 +67,8 @@ IsPlaceWithIds candidates a b row k = (k < length candidates) × (has_ids a b ro
 -- machinery: where the candidate with the ids of a row stands, if there is one, which is the only one
 abbrev pub IsPlaceOf : List Candidate → List Record → List Record → List (List ℕ) → Option ℕ → Type 0
 IsPlaceOf candidates a b row place = MatchOption place
-    (All (λ (c : Candidate). HasIds a b row c → ⊥) candidates)
-    (λ k. (k < length candidates) × All (λ (c : Candidate). HasIds a b row c → c ≡ slice_index_or candidates k no_candidate) candidates)
+    (All (λ (c : Candidate). HasRowIds a b row c → ⊥) candidates)
+    (λ k. (k < length candidates) × All (λ (c : Candidate). HasRowIds a b row c → c ≡ slice_index_or candidates k no_candidate) candidates)
 
 -- machinery: the candidate at a place
 abbrev pub at_place : List Candidate → Option ℕ → Option Candidate

@@ -21,6 +21,6 @@ rule_verified rares cells text =
     and_then (rows_of_file refutation.Rule rule_header text) (λ rows. unless_row refutation.Rule text (first_difference 1 rows (map (cell_fields rares) cells)))
 
 -- machinery: a call takes the next row, and says whether there was one and it is the one that is wanted
-abbrev pub TakesRow : List (List ℕ) → List (List (List ℕ)) → List (List (List ℕ)) → Bool → Type 0
-TakesRow wanted [] new takes = (takes ≡ false) × (new ≡ [])
-TakesRow wanted (row ∷ rows) new takes = (takes ≡ same_row row wanted) × (new ≡ rows)
+abbrev pub TakesCellRow : List (List ℕ) → List (List (List ℕ)) → List (List (List ℕ)) → Bool → Type 0
+TakesCellRow wanted [] new takes = (takes ≡ false) × (new ≡ [])
+TakesCellRow wanted (row ∷ rows) new takes = (takes ≡ same_row row wanted) × (new ≡ rows)

@@ -5,7 +5,7 @@ ghost use Rattle.price_check.specs.Assignment.{IsBefore, IsWithin};
 ghost use Rattle.csv.specs.Records.{fields_of};
 ghost use Rattle.link_report.specs.LinksText.{link_fields};
 ghost use Rattle.link_report.specs.Reading.{same_row};
-ghost use Rattle.written_check.specs.LinkRows.{IsPlaceOf, IsPlaceWithIds, after_all, at_place, candidate_in, has_ids, is_before, links_in, links_verified};
+ghost use Rattle.written_check.specs.LinkRows.{IsPlaceOf, IsPlaceWithIds, after_all, at_place, candidate_in, has_ids, goes_before, links_in, links_verified};
 ghost use Rattle.written_check.specs.Refuted.{IsOfRows, Verifies};
 
 use crate::refutation::Refutation;
@@ -108,7 +108,7 @@ fn place_of_row(
 
 // Whether one candidate stands before another.
 fn stands_before(x: Candidate, y: Candidate) -> bool
-    ensures { result ≡ is_before x y }
+    ensures { result ≡ goes_before x y }
 {
     x.a < y.a || (x.a == y.a && x.b < y.b)
 }
@@ -116,7 +116,7 @@ fn stands_before(x: Candidate, y: Candidate) -> bool
 // Whether a candidate stands after the last of rising ones, and so after each of them.
 fn stands_after(taken: &[Candidate], c: Candidate) -> bool
     requires { AllPairs IsBefore taken.now }
-    ensures { result ≡ list_all (λ d. is_before d c) taken.now }
+    ensures { result ≡ list_all (λ d. goes_before d c) taken.now }
 {
     match taken.last() {
         Some(d) => stands_before(*d, c),

@@ -8,7 +8,7 @@ ghost use Rattle.link_report.specs.RuleText.{cell_fields, outcome_letters};
 ghost use Rattle.patterns.specs.Shapes.{pattern_count_by, rare_of};
 ghost use Rattle.written_check.specs.Refuted.{IsOfRows, Verifies, unless_row};
 ghost use Rattle.written_check.specs.declared.refutation.Refutation.TheVariants as refutation;
-ghost use Rattle.written_check.specs.RuleRows.{TakesRow, first_difference, rule_verified};
+ghost use Rattle.written_check.specs.RuleRows.{TakesCellRow, first_difference, rule_verified};
 
 use crate::refutation::Refutation;
 use csv::ByteRecord;
@@ -74,7 +74,7 @@ fn takes_row_of(
 ) -> Result<bool, NoMemory>
     requires shape { cell.now.pattern < pattern_count_by (rare_of shape.now) }
     requires ranges { IsWithinRanges cell.now }
-    ensures { IfOk result (λ takes. TakesRow (cell_fields (rare_of shape.now) cell.now) rows.old rows.new takes) }
+    ensures { IfOk result (λ takes. TakesCellRow (cell_fields (rare_of shape.now) cell.now) rows.old rows.new takes) }
 {
     if !rows.next(row)? {
         return Ok(false);

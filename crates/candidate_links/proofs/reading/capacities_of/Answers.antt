@@ -5,7 +5,7 @@ use Rattle.link_base.specs.Fault.{Refuses}
 use Rattle.link_base.specs.declared.fault.Fault.{Fault}
 use Rattle.file_reader.specs.Rows.{no_row}
 use Rattle.link_limits.specs.declared.TheConstants.{MOST_CAPACITY}
-use Rattle.candidate_links.specs.Capacities.{capacity_of}
+use Rattle.candidate_links.specs.Capacities.{listed_capacity}
 use Rattle.candidate_links.proofs.ListedLemmas.{listed_more, unlisted}
 use Rattle.candidate_links.proofs.RowLemmas.{capacity_is, row_refused, row_told}
 use Rattle.candidate_links.proofs.reading.capacities_of.Goals as goal
@@ -17,7 +17,7 @@ loop-at-init c =
     record {
       told = refl;
       listed = ones ∙ unlisted b;
-      for_each = ap length (ones ∙ unlisted b) ∙ length-map b (capacity_of []);
+      for_each = ap length (ones ∙ unlisted b) ∙ length-map b (listed_capacity []);
       allowed = subst (All (λ n. n ≤ MOST_CAPACITY)) (sym ones) (All-replicate (λ n. n ≤ MOST_CAPACITY) (length b) 1 (omega arith));
     }
 
@@ -27,7 +27,7 @@ returns-in-Err-clause-answer c =
     let rows = c.args.table.now in
     let within : c.loop-at.at < length rows = omega arith in
     subst (λ (r : Result (List ℕ) Fault). Refuses r c.in-Err.fault) (sym c.loop-at.invariant.told)
-    (row_refused b (map (capacity_of rows) b) rows c.loop-at.at within c.in-Err.fault c.in-Err.ensures.answer)
+    (row_refused b (map (listed_capacity rows) b) rows c.loop-at.at within c.in-Err.fault c.in-Err.ensures.answer)
 
 pub loop-at-preserved : goal.loop-at-preserved
 loop-at-preserved c =
@@ -37,10 +37,10 @@ loop-at-preserved c =
     let row = get_or rows at no_row in
     let within : at < length rows = omega arith in
     let listed = c.in-Ok.listed in
-    let so_far = map (capacity_of (take at rows)) b in
+    let so_far = map (listed_capacity (take at rows)) b in
     let given : listed.capacity ≡ _ = capacity_is b (at + 1) row listed.capacity c.in-Ok.ensures.answer in
     record {
-      told = c.loop-at.invariant.told ∙ row_told b (map (capacity_of rows) b) rows at within listed.capacity c.in-Ok.ensures.answer;
+      told = c.loop-at.invariant.told ∙ row_told b (map (listed_capacity rows) b) rows at within listed.capacity c.in-Ok.ensures.answer;
       listed =
           ap (λ ns. set ns listed.at listed.capacity) c.loop-at.invariant.listed
           ∙ ap (set so_far listed.at) given

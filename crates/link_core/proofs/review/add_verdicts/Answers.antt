@@ -10,7 +10,7 @@ use Rattle.link_base.specs.Rule.{IsPairBefore}
 use Rattle.link_base.specs.Standard.{Record}
 use Rattle.link_base.specs.declared.rule.PairAt.{PairAt}
 use Rattle.review_journal.specs.Adding.{added}
-use Rattle.review_journal.specs.Batch.{IsPlaced, verdicts_of}
+use Rattle.review_journal.specs.Batch.{NamesRecords, verdicts_of}
 use Rattle.link_core.specs.Review.{journal_lines_of}
 use Rattle.link_core.proofs.ReviewLemmas.{added_within, answer_next, refuses_next}
 use Rattle.link_core.proofs.review.add_verdicts.Goals as goal
@@ -27,7 +27,7 @@ pub journal_lines-requires : goal.journal_lines-requires
 journal_lines-requires c =
     let p = c.args.prepared.now in
     let n = length p.files.a.records in let m = length p.files.b.records in
-    let P : List Record → List Record → Type 0 = λ a b. All (IsPlaced (length a) (length b)) c.in-Ok.batch in
+    let P : List Record → List Record → Type 0 = λ a b. All (NamesRecords (length a) (length b)) c.in-Ok.batch in
     let in_a : P p.files.a.records c.b.result.now = subst (λ a. P a c.b.result.now) c.a.ensures c.in-Ok.ensures.placed in
     let placed : P p.files.a.records p.files.b.records = subst (λ b. P p.files.a.records b) c.b.ensures in_a in
     record {

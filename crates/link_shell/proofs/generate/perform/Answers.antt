@@ -1,5 +1,5 @@
 use Rattle.std.proofs.Common.{Err, List, ap, subst, ◌∙◌}
-use Rattle.link_core.specs.Results.{AreRunTexts, texts_of}
+use Rattle.link_core.specs.Results.{AreRunTexts, five_texts}
 use Rattle.link_report.specs.FirstLines.{first_lines_of}
 use Rattle.pair_decisions.specs.PairRule.{side_rule}
 use Rattle.review_journal.specs.declared.entry.Entry.{Entry}
@@ -21,7 +21,7 @@ returns-in_err-results g c =
 pub returns : goal.returns
 returns g c =
     let made = c.in_ok-made.made in
-    let results = texts_of c.in_ok-results.results in
+    let results = five_texts c.in_ok-results.results in
     let P : List Entry → Type 0 = λ entries. AreRunTexts made.plan made.files (side_rule made.decided.rule) entries results in
     does_print _ _ (takes_ok (review_of_made made) c.in_ok-made.ensures.answer) c.print-ended.ensures
     (results, subst P c.new-journal.ensures c.in_ok-results.ensures, ap (λ t. prints Done t) (c.first_lines-head.ensures ∙ ap (λ b. first_lines_of 16 b) c.bytes.ensures))

@@ -1,6 +1,6 @@
 use Rattle.std.proofs.Common.{refl, Ok}
 use Rattle.link_shell.specs.Due.{Put}
-use Rattle.link_shell.specs.MigrateSettings.{is_put}
+use Rattle.link_shell.specs.MigrateSettings.{is_one_put}
 use Rattle.link_shell.specs.Reviewed.{put_of_journal}
 use Rattle.link_shell.specs.Steps.{gives}
 use Rattle.link_shell.proofs.DoesFacts.{does_go, does_puts, does_stop}
@@ -16,4 +16,4 @@ returns-in-Err g c = does_go _ _ _ c.in_ok-plan.ensures.takes (does_stop _ _ _ c
 pub returns-in-Ok : goal.returns-in-Ok
 returns-in-Ok g c =
     let put : Put = put_of_journal c.in_ok-plan.plan c.in-Ok.text in
-    does_go _ _ _ c.in_ok-plan.ensures.takes (does_go _ _ _ c.in-Ok.ensures (does_puts (gives (Ok put)) is_put {x = put} (takes_value tt refl) c.put_journal-ended.ensures refl))
+    does_go _ _ _ c.in_ok-plan.ensures.takes (does_go _ _ _ c.in-Ok.ensures (does_puts (gives (Ok put)) is_one_put {x = put} (takes_value tt refl) c.put_journal-ended.ensures refl))

@@ -1,5 +1,5 @@
 use Rattle.std.proofs.Common.{refl}
-use Rattle.link_core.specs.Results.{texts_of}
+use Rattle.link_core.specs.Results.{five_texts}
 use Rattle.link_shell.specs.Reviewed.{found_of}
 use Rattle.link_shell.specs.RunSettings.{ArePut}
 use Rattle.link_shell.proofs.DoesFacts.{does_fail, does_puts, does_want_after}
@@ -14,5 +14,5 @@ returns-in_err-made g c = does_want_after _ ArePut {x = found_of c.in_ok-found.f
 pub returns : goal.returns
 returns g c =
     let found = found_of c.in_ok-found.found in
-    let put : ArePut found _ = record { texts = texts_of c.in_ok-made.made; made = c.in_ok-made.ensures; rule = c.in_ok-found.ensures.found.rule; so = refl } in
+    let put : ArePut found _ = record { texts = five_texts c.in_ok-made.made; made = c.in_ok-made.ensures; rule = c.in_ok-found.ensures.found.rule; so = refl } in
     does_puts _ ArePut {x = found} c.in_ok-found.ensures.takes c.put_results-ended.ensures put

@@ -1,6 +1,6 @@
 use Rattle.std.proofs.Common.{◌≡◌, ◌-◌, ◌<◌, length, inl, inr, ◌∙◌, arith}
 use Rattle.std.proofs.lemmas.Bool.{cases_eq}
-use Rattle.price_check.specs.PartNumbers.{IsJoined}
+use Rattle.price_check.specs.PartNumbers.{AreInOnePart}
 use Rattle.price_check.specs.Forest.{top}
 use Rattle.price_check.proofs.Chains.{joined_by, united_after, kept_after, one_after, same_a_before}
 use Rattle.price_check.proofs.numbering.unite_record_a.Goals as goal
@@ -10,7 +10,7 @@ returns-clause-united c =
     let cs = c.args.candidates.now in
     let k = c.args.k in
     let before : k - 1 < length cs = omega arith in
-    let joined : IsJoined cs (k - 1) k = joined_by cs (k - 1) k c.requires.place (inl (omega (arith, c.if-candidates-k.false))) in
+    let joined : AreInOnePart cs (k - 1) k = joined_by cs (k - 1) k c.requires.place (inl (omega (arith, c.if-candidates-k.false))) in
     united_after cs c.args.up.now c.unite.new.up k (k - 1) k c.requires.united before c.requires.place joined c.unite.auto.up c.unite.ensures.earlier c.unite.ensures.tops
 
 pub returns-clause-here : goal.returns-clause-here
@@ -18,7 +18,7 @@ returns-clause-here c =
     let cs = c.args.candidates.now in
     let k = c.args.k in
     let before : k - 1 < length cs = omega arith in
-    let joined : IsJoined cs (k - 1) k = joined_by cs (k - 1) k c.requires.place (inl (omega (arith, c.if-candidates-k.false))) in
+    let joined : AreInOnePart cs (k - 1) k = joined_by cs (k - 1) k c.requires.place (inl (omega (arith, c.if-candidates-k.false))) in
     let one : top c.unite.new.up (k - 1) ≡ top c.unite.new.up k = one_after cs c.args.up.now c.unite.new.up k (k - 1) k c.requires.united before c.requires.place joined c.unite.auto.up c.unite.ensures.earlier c.unite.ensures.tops in
     λ i lt e. elim (cases_eq i (k - 1)) [
       | inl q ↦ rw q one

@@ -4,7 +4,7 @@ use Rattle.file_reader.specs.Rows.{no_row, TableRow}
 use Rattle.link_base.specs.Fault.{Refuses}
 use Rattle.link_base.specs.declared.fault.Fault.{Fault}
 use Rattle.review_journal.specs.declared.batch.NewVerdict.{NewVerdict}
-use Rattle.review_journal.specs.Batch.{IsPlaced, verdict_in}
+use Rattle.review_journal.specs.Batch.{NamesRecords, verdict_in}
 use Rattle.review_journal.proofs.RowLemmas.{all_more, refused, taken}
 use Rattle.review_journal.proofs.new_verdicts.verdicts_in.Goals as goal
 
@@ -20,5 +20,5 @@ loop-at-preserved c =
     record {
       told = c.loop-at.invariant.told ∙ taken (λ done number (row : TableRow). verdict_in c.args.a.now c.args.b.now number row.fields) c.args.table.now no_row c.loop-at.rows.items c.push.new.self.items c.loop-at.at c.in-Ok.verdict within c.loop-at.invariant.count c.in-Ok.ensures.answer c.in_ok-push-in-Ok.ensures.items;
       count = grind (arith, common_steps);
-      placed = all_more (IsPlaced (length c.args.a.now) (length c.args.b.now)) c.loop-at.rows.items c.push.new.self.items c.in-Ok.verdict c.loop-at.invariant.placed c.in-Ok.ensures.placed c.in_ok-push-in-Ok.ensures.items;
+      placed = all_more (NamesRecords (length c.args.a.now) (length c.args.b.now)) c.loop-at.rows.items c.push.new.self.items c.in-Ok.verdict c.loop-at.invariant.placed c.in-Ok.ensures.placed c.in_ok-push-in-Ok.ensures.items;
     }
