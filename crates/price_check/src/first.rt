@@ -1,5 +1,6 @@
 // The first place at which something is wrong.
-ghost use Rattle.std.specs.Prelude.{◌≡◌, ◌<◌, ◌≤◌, ◌^◌, ℤ, pos, ◌≤ℤ◌, length, AllPairs, All, IsTrue, ◌↔◌, MatchOption, slice_index_or, ℕ, IfOk, MatchBool, false, true};
+ghost use Rattle.std.specs.Prelude.{◌≡◌, ◌<◌, ◌≤◌, ◌^◌, ℤ, pos, ◌≤ℤ◌, length, AllPairs, All, IsTrue, ◌↔◌, MatchOption, slice_index_or, ℕ, IfOk, MatchBool, false, true, ◌+◌, min};
+ghost use Rattle.price_check.specs.declared.first.TheConstants.{NEAR};
 ghost use Rattle.price_check.specs.Assignment.{IsBefore, IsCovered, IsWithin};
 ghost use Rattle.price_check.specs.Search.{IsPairWithin, IsCandidateBefore, AreTakenMarks};
 ghost use Rattle.price_check.specs.Verdict.{IsFirstBad, IsCandidate, IsAllowedPrice, IsFirstReused, IsCandidateAt, HasPositions, IsFresh};
@@ -96,12 +97,13 @@ pub fn candidate_at(candidates: &[Candidate], link: PairAt) -> Option<usize>
     }
 }
 
-// How many candidates are tried from where one is likely.
-const NEAR: usize = 4;
+/// How many are tried from where one is likely, before it is sought among all.
+pub const NEAR: usize = 4;
 
 /// Where those end that are tried from a place on, of so many.
 pub fn end_of_near(from: usize, count: usize) -> usize
-    ensures { result ≤ count }
+    ensures value { result ≡ min (from + NEAR) count }
+    ensures within { result ≤ count }
 {
     from.saturating_add(NEAR).min(count)
 }

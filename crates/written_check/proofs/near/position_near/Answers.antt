@@ -8,5 +8,5 @@ pub returns-then-eq-clause-position : goal.returns-then-eq-clause-position
 returns-then-eq-clause-position c =
     let file = c.args.file.now in
     let same : id_at file c.loop-place.place ≡ c.args.id.now = sym c.id.ensures ∙ (bytes_eq-Decides c.id.result.now c.args.id.now).0 (sym c.eq.ensures ∙ c.if-eq.true) in
-    sym (known_again file c.loop-place.place c.distinct_ids.ensures (omega (arith, c.loop-place-test.true, c.end_of_near-place-end.ensures, c.rows.ensures)))
+    sym (known_again file c.loop-place.place c.distinct_ids.ensures (omega (arith, c.loop-place-test.true, c.end_of_near-place-end.ensures.within, c.rows.ensures)))
     ∙ ap (λ (t : List ℕ). position_of_id t file) same
