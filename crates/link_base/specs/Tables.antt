@@ -5,15 +5,16 @@ use Rattle.std.specs.List.{list_all}
 use Rattle.std.specs.Ordering.{nat_cmp}
 use Rattle.std.specs.declared.cmp.Ordering.TheVariants.{Less}
 use Rattle.std.specs.Cmp.Lexicographic.{slice_cmp}
+use Rattle.link_limits.specs.declared.TheConstants.{MOST_WORD_BYTES}
 use Rattle.link_base.specs.declared.tables.WordPair.{WordPair}
 
 -- A to Z and 0 to 9
 abbrev pub is_word_byte : ℕ → Bool
 is_word_byte byte = (nat_le 65 byte && nat_le byte 90) || (nat_le 48 byte && nat_le byte 57)
 
--- 1 to 32 of them
+-- a word: one of them or more, and not too many
 abbrev pub is_word : List ℕ → Bool
-is_word text = nat_le 1 (length text) && nat_le (length text) 32 && list_all is_word_byte text
+is_word text = nat_le 1 (length text) && nat_le (length text) MOST_WORD_BYTES && list_all is_word_byte text
 
 -- the first of two texts stands before the second by its bytes
 abbrev pub StandsBefore : List ℕ → List ℕ → Type 0

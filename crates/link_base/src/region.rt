@@ -1,5 +1,5 @@
 // Texts side by side in one region of bytes, and pieces of a list by where each ends.
-ghost use Rattle.std.specs.Prelude.{◌≡◌, ◌<◌, ◌≤◌, ◌++◌, ◌∷◌, [], IfOk, length, OnErr, OnOk, slice_index_or, slice_range};
+ghost use Rattle.std.specs.Prelude.{◌≡◌, ◌<◌, ◌≤◌, ◌++◌, ◌+◌, ◌∷◌, [], IfOk, length, OnErr, OnOk, slice_index_or, slice_range};
 ghost use Rattle.link_base.specs.Region.{EndsAt, pieces_from, start_at};
 
 use crate::text::NoMemory;
@@ -11,7 +11,7 @@ use std::marker::Model;
 pub struct TextRegion {
     bytes: Vec<u8>,
     // Where each text ends among the bytes; it begins where the one before it ends.
-    ends: Vec<usize>,
+    ends: Vec<u32>,
 }
 
 impl Model for TextRegion {
@@ -43,14 +43,15 @@ impl TextRegion {
         self.ends.len()
     }
 
-    /// Appends a text.
+    /// Appends a text. A region of more than 4 GiB is want of memory.
     pub fn push(&mut self, text: &[u8]) -> Result<(), NoMemory>
         ensures ok { OnOk result (self.new ≡ self.old ++ text.now ∷ []) }
         ensures err { OnErr result (self.new ≡ self.old) }
     {
+        let end = end_behind(self.bytes.len(), text.len())?;
         self.ends.reserve(1)?;
         self.bytes.extend_from_slice(text)?;
-        self.ends.push(self.bytes.len()).unwrap();
+        self.ends.push_reserved(end);
         Ok(())
     }
 
@@ -63,12 +64,26 @@ impl TextRegion {
     }
 }
 
+// Where a piece of so many items ends, behind so many others.
+pub(crate) fn end_behind(start: usize, items: usize) -> Result<u32, NoMemory>
+    ensures { IfOk result (λ end. end ≡ start + items) }
+{
+    match u32::try_from(start.saturating_add(items)) {
+        Ok(end) => Ok(end),
+        Err(_) => Err(NoMemory),
+    }
+}
+
 // Where so many pieces end, which is where the next one begins.
-fn end_of(ends: &[usize], count: usize) -> usize
+fn end_of(ends: &[u32], count: usize) -> usize
     requires { count ≤ length ends.now }
     ensures { result ≡ start_at 0 ends.now count }
 {
-    if count == 0 { 0 } else { ends[count - 1] }
+    if count == 0 {
+        0
+    } else {
+        ends[count - 1] as usize
+    }
 }
 
 // The items from one place to another.
@@ -81,10 +96,10 @@ fn part<T>(items: &[T], start: usize, end: usize) -> &[T]
 }
 
 // The piece at a place among the items.
-pub(crate) fn piece_in<'b, T>(items: &'b [T], ends: &[usize], at: usize) -> &'b [T]
+pub(crate) fn piece_in<'b, T>(items: &'b [T], ends: &[u32], at: usize) -> &'b [T]
     requires rising { EndsAt (length items.now) 0 ends.now }
     requires within { at < length ends.now }
     ensures { result.now ≡ slice_index_or (pieces_from items.now 0 ends.now) at [] }
 {
-    part(items, end_of(ends, at), ends[at])
+    part(items, end_of(ends, at), ends[at] as usize)
 }

@@ -24,7 +24,7 @@ pub struct StdRows {
     words: TextRegion,
     cells: Vec<Cell>,
     // Where each row ends among the cells; it begins where the one before it ends.
-    ends: Vec<usize>,
+    ends: Vec<u32>,
 }
 
 impl Model for StdRows {
@@ -42,7 +42,7 @@ impl Model for StdRows {
 
 impl StdRows {
     // The rows of these cells, which end at these places.
-    pub(crate) fn of(words: TextRegion, cells: Vec<Cell>, ends: Vec<usize>) -> StdRows
+    pub(crate) fn of(words: TextRegion, cells: Vec<Cell>, ends: Vec<u32>) -> StdRows
         requires rising { EndsAt (length cells.items) 0 ends.items }
         requires cells { AreCells words cells.items }
         ensures { result ≡ pieces_from (values_in words cells.items) 0 ends.items }

@@ -4,7 +4,7 @@ ghost use Rattle.link_base.specs.Rows.{BeginsAs, IsPlaced, value_in};
 ghost use Rattle.link_base.specs.RowsWriter.{no_rows, with_row, with_value};
 ghost use Rattle.link_base.specs.declared.standard.Value.TheVariants as value;
 
-use crate::region::TextRegion;
+use crate::region::{TextRegion, end_behind};
 use crate::rows::{Cell, StdRows};
 use crate::text::NoMemory;
 use std::alloc::Global;
@@ -19,7 +19,7 @@ pub struct RowsWriter {
     words: TextRegion,
     cells: Vec<Cell>,
     // Where each closed row ends among the cells; it begins where the one before it ends.
-    ends: Vec<usize>,
+    ends: Vec<u32>,
     // Where the open row begins among the cells.
     begun: usize,
 }
@@ -79,9 +79,9 @@ impl RowsWriter {
     pub fn close(&mut self) -> Result<(), NoMemory>
         ensures { OnOk result (self.new ≡ with_row self.old) }
     {
-        let end = self.cells.len();
+        let end = end_behind(self.cells.len(), 0)?;
         self.ends.push(end)?;
-        self.begun = end;
+        self.begun = end as usize;
         Ok(())
     }
 

@@ -14,6 +14,9 @@ pub const MOST_COLUMNS: u32 = 64;
 /// The most bytes of a needed field.
 pub const MOST_FIELD_BYTES: usize = 255;
 
+/// The most bytes of a word that is replaced or dropped in names and places, and of one that stands in its place.
+pub const MOST_WORD_BYTES: usize = 32;
+
 /// The most bytes of a file's name.
 pub const MOST_NAME_BYTES: usize = 255;
 

@@ -6,9 +6,6 @@ pub(crate) const MOST_LABEL_BYTES: usize = 255;
 /// The most bytes of a mark of a missing value.
 pub(crate) const MOST_MARK_BYTES: usize = 64;
 
-/// The most bytes of a word.
-pub(crate) const MOST_WORD_BYTES: usize = 32;
-
 /// The most bytes of the name of a field.
 pub(crate) const MOST_FIELD_NAME_BYTES: usize = 32;
 

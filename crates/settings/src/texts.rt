@@ -11,10 +11,9 @@ ghost use Rattle.settings.specs.Values.{is_output, is_name_byte, fits, text};
 
 use crate::limits::{
     MOST_FIELD_NAME_BYTES, MOST_LABEL_BYTES, MOST_LETTERS, MOST_MARK_BYTES, MOST_SEED,
-    MOST_WORD_BYTES,
 };
 use link_base::{Fault, NoMemory, Text};
-use link_limits::MOST_NAME_BYTES;
+use link_limits::{MOST_NAME_BYTES, MOST_WORD_BYTES};
 use settings_readers::{Keys, Place, Reader, is_listed, whole_number};
 use std::alloc::Global;
 use std::marker::Model;

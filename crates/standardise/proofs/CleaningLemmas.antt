@@ -1,7 +1,7 @@
 -- Five steps in turn are one step at each character.
-use Rattle.std.proofs.Common.{◌≡◌, ℕ, zero, suc, ◌+◌, ◌<◌, ◌≤◌, ◌&&◌, inl, inr, Option, Some, None, take, length, get_or, subst, arith, List, [], ◌∷◌, ◌++◌, Bool, nat_lt, bytes_eq, true, false, cond, not, encode_utf8_all, refl, ap, sym, ◌∙◌, append_assoc}
+use Rattle.std.proofs.Common.{◌≡◌, ℕ, zero, suc, ◌+◌, ◌<◌, ◌≤◌, ◌&&◌, ◌||◌, ◌==◌, inl, inr, Option, Some, None, take, length, get_or, subst, arith, List, [], ◌∷◌, ◌++◌, Bool, nat_lt, bytes_eq, true, false, cond, not, encode_utf8_all, refl, ap, sym, ◌∙◌, append_assoc}
 use Rattle.std.specs.Str.{IsAscii}
-use Rattle.std.proofs.lemmas.Bool.{cases_lt}
+use Rattle.std.proofs.lemmas.Bool.{cases_lt, not-true}
 use Rattle.std.proofs.lemmas.Bool.Decides.{nat_tests}
 use Rattle.std.proofs.lemmas.Grind.{common_steps}
 use Rattle.std.proofs.lemmas.List.{append-nil}
@@ -12,7 +12,9 @@ use Rattle.std.proofs.lemmas.Str.Ascii.{All-from_ascii, encodes-IsAscii, IsAscii
 use Rattle.unicode_normalization.specs.Forms.{nfd}
 use Rattle.unicode_normalization.specs.declared.Form.TheVariants.{Nfd}
 use Rattle.unicode_normalization.proofs.FormsLemmas.{normalize-ascii}
+use Rattle.link_base.specs.Tables.{is_word_byte}
 use Rattle.standardise.specs.Names.{characters_of}
+use Rattle.standardise.proofs.WordLemmas.{has_space}
 use Rattle.std.specs.List.{flat_map, list_all, range_with_len}
 use Rattle.std.specs.Option.{option_to_list}
 use Rattle.ucd_category.specs.GeneralCategory.{general_category}
@@ -111,3 +113,43 @@ cleaned_more cs i c lt is =
     let split : take (i + 1) cs ≡ take i cs ++ c ∷ [] = grind (arith, common_steps) in
     let more : flat_map cleaned_char (take i cs ++ c ∷ []) ≡ flat_map cleaned_char (take i cs) ++ cleaned_char c = flat_map-append cleaned_char (take i cs) (c ∷ []) ∙ ap (λ xs. flat_map cleaned_char (take i cs) ++ xs) (append-nil (cleaned_char c)) in
     ap (λ xs. encode_utf8_all (flat_map cleaned_char xs)) split ∙ ap encode_utf8_all more ∙ encodes-append (flat_map cleaned_char (take i cs)) (cleaned_char c)
+
+-- a capital or a digit stays as it is, seen at each of them
+abbrev stays_at : ℕ → Bool
+stays_at c = not (is_word_byte c) || (bytes_eq (from_ascii c) (c ∷ []) && not (c == 32))
+
+all_stay : list_all stays_at (range_with_len 0 128) ≡ true
+all_stay = refl
+
+record Stays (c : ℕ) : Type 0 where
+  pub text : from_ascii c ≡ c ∷ []
+  pub low : c < 128
+  pub seen : (c == 32) ≡ false
+
+stays_if : (c : ℕ) (is : Bool) → is_word_byte c ≡ is → is ≡ true → (not is || (bytes_eq (from_ascii c) (c ∷ []) && not (c == 32))) ≡ true → c < 128 → Stays c
+stays_if c false e h told lt = absurd (let f : false ≡ true = h in cc)
+stays_if c true e h told lt =
+    let parts = both (bytes_eq (from_ascii c) (c ∷ [])) (not (c == 32)) told in
+    record { text = (bytes_eq-Decides (from_ascii c) (c ∷ [])).0 parts.0; low = lt; seen = not-true (c == 32) parts.1 }
+
+stays : (c : ℕ) → is_word_byte c ≡ true → Stays c
+stays c h =
+    let lt : c < 128 = grind (arith, nat_tests) in
+    stays_if c (is_word_byte c) refl h (below stays_at 128 0 c all_stay (omega arith) (omega (arith, lt))) lt
+
+-- a text of capitals and digits stays as it is
+pub record StaysAsIs (bs : List ℕ) : Type 0 where
+  pub text : flat_map from_ascii bs ≡ bs
+  pub ascii : IsAscii bs
+  pub spaced : has_space bs ≡ false
+
+pub stays_as_is : (bs : List ℕ) → ((k : ℕ) → k < length bs → is_word_byte (get_or bs k 0) ≡ true) → StaysAsIs bs
+stays_as_is [] h = record { text = refl; ascii = IsAscii-nil; spaced = refl }
+stays_as_is (b ∷ bs) h =
+    let here = stays b (h 0 (omega arith)) in
+    let rest = stays_as_is bs (λ k lt. h (suc k) (omega (arith, lt))) in
+    record {
+      text = ap (λ xs. xs ++ flat_map from_ascii bs) here.text ∙ ap (λ xs. b ∷ xs) rest.text;
+      ascii = IsAscii-cons b bs here.low rest.ascii;
+      spaced = ap (λ x. x || has_space bs) here.seen ∙ rest.spaced;
+    }

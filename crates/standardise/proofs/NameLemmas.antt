@@ -1,11 +1,13 @@
 -- The standard value of a name or of a place, by what was found on the way to it.
 use Rattle.std.proofs.Common.{◌≡◌, ◌∷◌, ◌∙◌, ℕ, Bool, true, false, List, [], if◌then◌else◌, ap, refl, sym, encode_utf8_all}
 use Rattle.std.specs.Str.{trim}
+use Rattle.std.proofs.lemmas.List.{append-nil}
+use Rattle.link_base.specs.declared.tables.WordPair.{WordPair}
 use Rattle.link_base.specs.declared.standard.Value.TheVariants as value
 use Rattle.standardise.specs.Names.{characters_of, name_value, place_value, word_or_absent, words_of_text}
 use Rattle.link_base.specs.Texts.{stands_among}
 use Rattle.standardise.specs.Tables.{NameView, PlaceView}
-use Rattle.standardise.specs.Words.{without_titles, words}
+use Rattle.standardise.specs.Words.{replaced, without_titles, words}
 use Rattle.standardise.proofs.WordLemmas.{encoded_words}
 
 -- a mark of a missing value
@@ -37,3 +39,8 @@ pub one_word_kept : (titles suffixes : List (List ℕ)) (cleaned : List ℕ) (al
 one_word_kept titles suffixes cleaned all one is =
     let single : all ≡ cleaned ∷ [] = sym is ∙ one in
     rw single one
+
+-- the value of one word
+pub one_replaced : (pairs : List WordPair) (cleaned result : List ℕ) → result ≡ replaced pairs cleaned → words cleaned ≡ cleaned ∷ [] → value.Word result ≡ word_or_absent pairs (words cleaned)
+one_replaced pairs cleaned result is one =
+    ap value.Word (is ∙ sym (append-nil (replaced pairs cleaned))) ∙ ap (word_or_absent pairs) (sym one)

@@ -1,6 +1,6 @@
 -- The standard values of names and places: the steps in turn (`std_name_in` and `std_place_in`, clause
--- `value`, by `written`; `std_name` and `std_place`, clause `value`).
-use Rattle.std.specs.Prelude.{ℕ, Bool, List, [], ◌∷◌, if◌then◌else◌, map, chars, encode_utf8_all}
+-- `value`, by `found_value`; `std_name` and `std_place`, clause `value`).
+use Rattle.std.specs.Prelude.{ℕ, List, [], ◌∷◌, if◌then◌else◌, map, chars, encode_utf8_all, Option, None, Some}
 use Rattle.std.specs.Str.{trim}
 use Rattle.unicode_normalization.specs.Forms.{nfd}
 use Rattle.link_base.specs.declared.standard.Value.{Value}
@@ -24,9 +24,10 @@ abbrev pub word_or_absent : List WordPair → List (List ℕ) → Value
 word_or_absent pairs [] = value.Absent
 word_or_absent pairs (w ∷ ws) = value.Word (joined (map (replaced pairs) (w ∷ ws)))
 
--- the value of a text in a buffer, where there is one
-abbrev pub written : Bool → List ℕ → Value
-written present word = if present then value.Word word else value.Absent
+-- the value of a text that was found or made, and absent where there is none
+abbrev pub found_value : Option (List ℕ) → Value
+found_value None = value.Absent
+found_value (Some text) = value.Word text
 
 -- the standard value of a name
 abbrev pub name_value : NameView → List ℕ → Value

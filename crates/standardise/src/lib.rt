@@ -14,5 +14,5 @@ mod word_set;
 mod words;
 
 pub use date_read::{DateRead, std_date};
-pub use names::{std_name, std_name_in, std_place, std_place_in};
+pub use names::{TextRoom, std_name, std_name_in, std_place, std_place_in};
 pub use tables::{NameTables, PlaceTables};

@@ -1,17 +1,34 @@
 // Names and places.
-ghost use Rattle.std.specs.Prelude.{◌≡◌, ◌∷◌, [], IfOk, map};
+ghost use Rattle.std.specs.Prelude.{◌≡◌, ◌∷◌, [], IfOk, map, option_map};
 ghost use Rattle.std.specs.Str.{IsUtf8};
 ghost use Rattle.link_base.specs.Standard.{IsValid};
-ghost use Rattle.standardise.specs.Names.{name_value, place_value, word_or_absent, written};
+ghost use Rattle.standardise.specs.Names.{found_value, name_value, place_value, word_or_absent};
 ghost use Rattle.standardise.specs.Words.{joined, replaced, words};
 
 use crate::cleaning::clean;
 use crate::pairs::{WordTable, in_place, push_words};
 use crate::tables::{NameTables, PlaceTables};
 use crate::white_space::trimmed;
-use crate::words::{next_word, put};
+use crate::words::next_word;
 use link_base::{NoMemory, Text, Value};
 use std::alloc::Global;
+
+/// Room in which the text of a standard value is made.
+#[derive(Drop)]
+pub struct TextRoom {
+    cleaned: Vec<u8>,
+    joined: Vec<u8>,
+}
+
+impl TextRoom {
+    /// Room that takes no memory before it is used.
+    pub fn new(alloc: Global) -> TextRoom {
+        TextRoom {
+            cleaned: Vec::new(alloc),
+            joined: Vec::new(alloc),
+        }
+    }
+}
 
 /// The standard value of a name. White space at both ends is dropped, and a missing mark is absent.
 /// Then, in turn: the canonical decomposition of Unicode; combining marks are dropped; ß, Æ, Œ, Ø, Ł,
@@ -23,9 +40,9 @@ pub fn std_name(alloc: Global, text: &str, tables: &NameTables) -> Result<Value,
     ensures value { IfOk result (λ v. v ≡ name_value tables.now text.now) }
     ensures valid { IfOk result (λ v. IsValid v) }
 {
-    let mut word = Vec::new(alloc);
-    let present = std_name_in(alloc, text, tables, &mut word)?;
-    Ok(value_of(present, word))
+    let mut room = TextRoom::new(alloc);
+    let found = std_name_in(alloc, text, tables, &mut room)?;
+    value_of(alloc, found)
 }
 
 /// The standard value of a place: as that of a name, with the words of places, and no title or suffix
@@ -34,96 +51,83 @@ pub fn std_place(alloc: Global, text: &str, tables: &PlaceTables) -> Result<Valu
     ensures value { IfOk result (λ v. v ≡ place_value tables.now text.now) }
     ensures valid { IfOk result (λ v. IsValid v) }
 {
-    let mut word = Vec::new(alloc);
-    let present = std_place_in(alloc, text, tables, &mut word)?;
-    Ok(value_of(present, word))
+    let mut room = TextRoom::new(alloc);
+    let found = std_place_in(alloc, text, tables, &mut room)?;
+    value_of(alloc, found)
 }
 
-/// Puts the text of the standard value of a name in place of what stood in `word`, and says whether there is one; where the
-/// value is absent, what stands in `word` is no text of it. A name that is one word of ASCII, which no word of the table
-/// replaces, is copied once.
-pub fn std_name_in(
+/// The text of the standard value of a name, `None` where the value is absent. It stands in `text` or among the words of the
+/// tables where it need not be made, and else in the room, in place of what stood there.
+pub fn std_name_in<'t>(
     alloc: Global,
-    text: &str,
-    tables: &NameTables,
-    word: &mut Vec<u8>,
-) -> Result<bool, NoMemory>
-    ensures value { IfOk result (λ present. written present word.new.items ≡ name_value tables.now text.now) }
-    ensures valid { IfOk result (λ present. IsValid (written present word.new.items)) }
+    text: &'t str,
+    tables: &'t NameTables,
+    room: &'t mut TextRoom,
+) -> Result<Option<&'t [u8]>, NoMemory>
+    ensures value { IfOk result (λ found. found_value (option_map (λ text. text.now) found) ≡ name_value tables.now text.now) }
+    ensures valid { IfOk result (λ found. IsValid (found_value (option_map (λ text. text.now) found))) }
 {
     let name = trimmed(text);
     if tables.is_missing(name.as_bytes()) {
-        return Ok(false);
+        return Ok(None);
     }
-    if clean(alloc, name, word)? {
-        return replace_word(word, tables.pairs());
+    let cleaned = clean(alloc, name, &mut room.cleaned)?;
+    if cleaned.is_word {
+        return Ok(Some(in_place(tables.pairs(), cleaned.text)));
     }
-    let mut joined = Vec::new(alloc);
-    let present = join_words(&mut joined, tables.untitled(word), tables.pairs())?;
-    put(word, &joined)?;
-    Ok(present)
+    let words = tables.untitled(cleaned.text);
+    join_words(&mut room.joined, words, tables.pairs())
 }
 
 /// The same of a place.
-pub fn std_place_in(
+pub fn std_place_in<'t>(
     alloc: Global,
-    text: &str,
-    tables: &PlaceTables,
-    word: &mut Vec<u8>,
-) -> Result<bool, NoMemory>
-    ensures value { IfOk result (λ present. written present word.new.items ≡ place_value tables.now text.now) }
-    ensures valid { IfOk result (λ present. IsValid (written present word.new.items)) }
+    text: &'t str,
+    tables: &'t PlaceTables,
+    room: &'t mut TextRoom,
+) -> Result<Option<&'t [u8]>, NoMemory>
+    ensures value { IfOk result (λ found. found_value (option_map (λ text. text.now) found) ≡ place_value tables.now text.now) }
+    ensures valid { IfOk result (λ found. IsValid (found_value (option_map (λ text. text.now) found))) }
 {
     let place = trimmed(text);
     if tables.is_missing(place.as_bytes()) {
-        return Ok(false);
+        return Ok(None);
     }
-    if clean(alloc, place, word)? {
-        return replace_word(word, tables.pairs());
+    let cleaned = clean(alloc, place, &mut room.cleaned)?;
+    if cleaned.is_word {
+        return Ok(Some(in_place(tables.pairs(), cleaned.text)));
     }
-    let mut joined = Vec::new(alloc);
-    let present = join_words(&mut joined, word, tables.pairs())?;
-    put(word, &joined)?;
-    Ok(present)
+    join_words(&mut room.joined, cleaned.text, tables.pairs())
 }
 
-fn value_of(present: bool, word: Vec<u8>) -> Value
-    ensures { result ≡ written present word.items }
+// The value of a text, where there is one.
+fn value_of(alloc: Global, found: Option<&[u8]>) -> Result<Value, NoMemory>
+    ensures { IfOk result (λ v. v ≡ found_value (option_map (λ text. text.now) found.entry)) }
 {
-    if present {
-        Value::Word(Text::of(word))
-    } else {
-        Value::Absent
+    match found {
+        Some(text) => Ok(Value::Word(Text::new(alloc, text)?)),
+        None => Ok(Value::Absent),
     }
 }
 
-// A text that is one word, replaced. A word that stays is left where it stands.
-fn replace_word(word: &mut Vec<u8>, pairs: &WordTable) -> Result<bool, NoMemory>
-    requires one { words word.old.items ≡ word.old.items ∷ [] }
-    requires utf8 { IsUtf8 word.old.items }
-    ensures value { IfOk result (λ present. written present word.new.items ≡ word_or_absent pairs.now (words word.old.items)) }
-    ensures valid { IfOk result (λ present. IsValid (written present word.new.items)) }
-{
-    if let Some(to) = pairs.found(word) {
-        put(word, to)?;
-    }
-    Ok(true)
-}
-
-// Appends the words of a text, each replaced, with a space between them, and says whether there is one.
-fn join_words(out: &mut Vec<u8>, text: &[u8], pairs: &WordTable) -> Result<bool, NoMemory>
-    requires empty { out.old.items ≡ [] }
+// The words of a text, each replaced, with a space between them, if there is one. They are put in place of what stood in `out`.
+fn join_words<'o>(
+    out: &'o mut Vec<u8>,
+    text: &[u8],
+    pairs: &WordTable,
+) -> Result<Option<&'o [u8]>, NoMemory>
     requires utf8 { IsUtf8 text.now }
-    ensures value { IfOk result (λ present. written present out.new.items ≡ word_or_absent pairs.now (words text.now)) }
-    ensures valid { IfOk result (λ present. IsValid (written present out.new.items)) }
+    ensures value { IfOk result (λ found. found_value (option_map (λ text. text.now) found) ≡ word_or_absent pairs.now (words text.now)) }
+    ensures valid { IfOk result (λ found. IsValid (found_value (option_map (λ text. text.now) found))) }
 {
     match next_word(text) {
         Some((first, rest)) => {
+            out.clear();
             out.reserve(text.len())?;
             out.extend_from_slice(in_place(pairs, first))?;
             push_words(out, rest, pairs)?;
-            Ok(true)
+            Ok(Some(out))
         }
-        None => Ok(false),
+        None => Ok(None),
     }
 }

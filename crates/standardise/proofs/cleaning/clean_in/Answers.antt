@@ -1,0 +1,22 @@
+use Rattle.std.proofs.Common.{List, ℕ, subst, sym, ◌∙◌}
+use Rattle.std.specs.List.{flat_map}
+use Rattle.std.specs.Option.{option_to_list}
+use Rattle.std.specs.Str.{IsUtf8}
+use Rattle.std.proofs.lemmas.Str.{IsUtf8-from_ascii}
+use Rattle.standardise.specs.Cleaning.{ascii_cleaned}
+use Rattle.standardise.proofs.CleaningLemmas.{ascii_stays, ascii_text}
+use Rattle.standardise.proofs.cleaning.clean_in.Goals as goal
+
+pub returns-in-Some-clause-text : goal.returns-in-Some-clause-text
+returns-in-Some-clause-text c =
+    let bytes = c.as_bytes.result.now in
+    let plain = rw c.in-Some.is at c.in_ok-is_word.ensures.ascii in
+    let is = rw c.in-Some.is at c.in_ok-is_word.ensures.text in
+    rw (← c.as_bytes.ensures.value) (is ∙ ascii_text bytes plain)
+
+pub returns-in-Some-clause-utf8 : goal.returns-in-Some-clause-utf8
+returns-in-Some-clause-utf8 c =
+    let bytes = c.as_bytes.result.now in
+    let plain = rw c.in-Some.is at c.in_ok-is_word.ensures.ascii in
+    let is = rw c.in-Some.is at c.in_ok-is_word.ensures.text in
+    subst (λ (v : List ℕ). IsUtf8 v) (sym is) (IsUtf8-from_ascii (flat_map (λ b. option_to_list (ascii_cleaned b)) bytes) (ascii_stays bytes plain))
