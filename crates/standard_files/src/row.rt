@@ -11,13 +11,14 @@ use crate::sorts::TextSort;
 use crate::values::ValueTables;
 use file_reader::Table;
 use link_base::{NoMemory, RowsWriter};
+use standardise::TextRoom;
 use std::alloc::Global;
 
 // The number of dates of a row that cannot be read, and the place of the first.
 #[derive(Drop)]
 pub(crate) struct StandardRow {
-    // Room in which a text is made.
-    word: Vec<u8>,
+    // Room in which a text is made, where it has to be.
+    room: TextRoom,
     pub(crate) unreadable: u32,
     pub(crate) first: Option<usize>,
 }
@@ -25,7 +26,7 @@ pub(crate) struct StandardRow {
 impl StandardRow {
     pub(crate) fn new(alloc: Global) -> StandardRow {
         StandardRow {
-            word: Vec::new(alloc),
+            room: TextRoom::new(alloc),
             unreadable: 0,
             first: None,
         }
@@ -74,7 +75,7 @@ impl StandardRow {
         self.first = None;
         for (column, sort) in sorts.iter().enumerate() {
             let text = text_of(table.field(at, column as u32));
-            let told = tables.add_value(alloc, *sort, text, &mut self.word, rows)?;
+            let told = tables.add_value(alloc, *sort, text, &mut self.room, rows)?;
             self.note(column, told);
         }
         Ok(())

@@ -1,13 +1,15 @@
 // Texts in standard values.
-ghost use Rattle.std.specs.Prelude.{◌≡◌, ◌+◌, ◌^◌, ◌<◌, false, IfOk, OnOk, length, sum_by};
+ghost use Rattle.std.specs.Prelude.{◌≡◌, ◌+◌, ◌^◌, ◌<◌, false, IfOk, OnOk, length, option_map, sum_by};
 ghost use Rattle.link_base.specs.RowsWriter.{with_value};
 ghost use Rattle.link_base.specs.Standard.{IsValid};
-ghost use Rattle.standardise.specs.Names.{written};
+ghost use Rattle.standardise.specs.Names.{found_value};
 ghost use Rattle.standard_files.specs.Values.{cannot_be_read, is_unreadable, standard_value, value_of_read};
 
 use crate::sorts::TextSort;
 use link_base::{NoMemory, RowsWriter, Tables};
-use standardise::{DateRead, NameTables, PlaceTables, std_date, std_name_in, std_place_in};
+use standardise::{
+    DateRead, NameTables, PlaceTables, TextRoom, std_date, std_name_in, std_place_in,
+};
 use std::alloc::Global;
 use std::marker::Model;
 
@@ -39,13 +41,13 @@ impl ValueTables {
     }
 
     // Appends the standard value of a text to the open row, and says whether it is to be a date and cannot be read as one. A
-    // text is made in `word` on the way.
+    // text that has to be made is made in the room.
     pub(crate) fn add_value(
         &self,
         alloc: Global,
         sort: TextSort,
         text: &str,
-        word: &mut Vec<u8>,
+        room: &mut TextRoom,
         rows: &mut RowsWriter,
     ) -> Result<bool, NoMemory>
         requires room { sum_by length rows.old.rows + length rows.old.row < 2 ^ 32 }
@@ -54,29 +56,22 @@ impl ValueTables {
         ensures valid { OnOk result (IsValid (standard_value self.now sort text.now)) }
     {
         match sort {
-            TextSort::Name => {
-                let present = std_name_in(alloc, text, &self.names, word)?;
-                add_text(rows, present, word)
-            }
-            TextSort::Place => {
-                let present = std_place_in(alloc, text, &self.places, word)?;
-                add_text(rows, present, word)
-            }
+            TextSort::Name => add_text(rows, std_name_in(alloc, text, &self.names, room)?),
+            TextSort::Place => add_text(rows, std_place_in(alloc, text, &self.places, room)?),
             TextSort::Date(form) => add_date(rows, std_date(text, form, &self.places)),
         }
     }
 }
 
 // Appends a text to the open row, if there is one. It is no date that cannot be read.
-fn add_text(rows: &mut RowsWriter, present: bool, word: &[u8]) -> Result<bool, NoMemory>
+fn add_text(rows: &mut RowsWriter, found: Option<&[u8]>) -> Result<bool, NoMemory>
     requires room { sum_by length rows.old.rows + length rows.old.row < 2 ^ 32 }
-    ensures value { OnOk result (rows.new ≡ with_value rows.old (written present word.now)) }
+    ensures value { OnOk result (rows.new ≡ with_value rows.old (found_value (option_map (λ text. text.now) found.entry))) }
     ensures unreadable { IfOk result (λ told. told ≡ false) }
 {
-    if present {
-        rows.add_word(word)?;
-    } else {
-        rows.add_absent()?;
+    match found {
+        Some(text) => rows.add_word(text)?,
+        None => rows.add_absent()?,
     }
     Ok(false)
 }
