@@ -1,11 +1,16 @@
--- Machinery of the lines of pairs: the end of a line, which many lines share. No public clause names it.
-use Rattle.std.specs.Prelude.{◌≡◌, Bool, List, ℕ, [], ◌∷◌, decimal}
+-- Machinery of the lines of pairs: a line behind its front, and the end of a line, which many lines share. No public
+-- clause names it.
+use Rattle.std.specs.Prelude.{◌≡◌, Bool, List, ℕ, [], ◌∷◌, ◌++◌, decimal}
 use Rattle.std.specs.Fmt.{signed_decimal}
 use Rattle.csv.specs.Writing.{default_writer, row_text}
 use Rattle.link_report.specs.PairsText.{decision_word, printed_verdict}
 use Rattle.link_report.specs.RuleText.{outcome_letters}
 use Rattle.link_report.specs.declared.ends.LineEnd.{LineEnd}
 use Rattle.link_report.specs.declared.open.PairRow.{PairRow}
+
+-- a line of ids: its front, the field of the other id and the line feed
+abbrev pub line_behind : List ℕ → List ℕ → List ℕ
+line_behind front field = (front ++ field) ++ 10 ∷ []
 
 -- the end of the line of a pair, from the comma behind its ids on: the row of an empty field and of those that follow the ids
 abbrev pub pair_end : List Bool → PairRow → List ℕ

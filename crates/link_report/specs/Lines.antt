@@ -1,6 +1,6 @@
--- The texts of ids that are printed: lines of fields, as RFC 4180 has them (`IdsWriter`), and the front that the
--- lines of a record share (`LineFront::set`, `PairsWriter::push_behind`).
-use Rattle.std.specs.Prelude.{ℕ, List, [], ◌∷◌, ◌++◌, codes}
+-- The texts of ids that are printed: lines of fields, as RFC 4180 has them (`IdsWriter`), the front that the
+-- lines of a record share (`LineFront::set`, `PairsWriter::push_behind`), and ids as fields (`IdFields::of`).
+use Rattle.std.specs.Prelude.{ℕ, List, [], ◌∷◌, ◌++◌, codes, map}
 use Rattle.std.specs.List.{flat_map}
 use Rattle.csv.specs.Writing.{default_writer, field_text, row_text}
 use Rattle.link_base.specs.Standard.{id_at, Record}
@@ -25,3 +25,7 @@ pair_with at j = record { a = at; b = j }
 -- the front of a line: an id, and the comma behind it
 abbrev pub front_of : List ℕ → List ℕ
 front_of id = field_text default_writer id ++ 44 ∷ []
+
+-- the ids of records as fields of a line
+abbrev pub id_fields : List Record → List (List ℕ)
+id_fields records = map (λ (r : Record). field_text default_writer r.id) records

@@ -1,41 +1,38 @@
 // The ids of pairs.
-ghost use Rattle.std.specs.Prelude.{◌≡◌, ◌<◌, ◌++◌, ◌∷◌, [], All, OnOk, length, map};
+ghost use Rattle.std.specs.Prelude.{◌≡◌, ◌<◌, ◌++◌, [], All, List, OnOk, length, map, slice_index_or};
 ghost use Rattle.std.specs.List.{flat_map};
-ghost use Rattle.csv.specs.Writing.{default_writer, field_text};
-ghost use Rattle.link_base.specs.Standard.{id_at};
-ghost use Rattle.link_report.specs.Lines.{front_of, ids_header, ids_line, pair_with};
+ghost use Rattle.link_base.specs.Standard.{Record};
+ghost use Rattle.link_report.specs.LineParts.{line_behind};
+ghost use Rattle.link_report.specs.Lines.{id_fields, ids_header, ids_line, pair_with};
 
 use crate::front::LineFront;
-use csv_rows::push_field;
+use crate::id_fields::IdFields;
 use link_base::{NoMemory, StdFile, Text};
 use std::alloc::Global;
 use std::marker::Model;
 
-// Appends a line: its front, an id and the line feed.
-fn push_line(text: &mut Vec<u8>, front: &LineFront, id: &[u8]) -> Result<(), NoMemory>
-    ensures { OnOk result (text.new.items ≡ ((text.old.items ++ front.now) ++ field_text default_writer id.now) ++ 10 ∷ []) }
+// Appends a line: its front, the field of an id and the line feed.
+fn push_line(text: &mut Vec<u8>, front: &[u8], field: &[u8]) -> Result<(), NoMemory>
+    ensures { OnOk result (text.new.items ≡ text.old.items ++ line_behind front.now field.now) }
 {
-    text.extend_from_slice(front.bytes())?;
-    push_field(text, id)?;
+    text.extend_from_slice(front)?;
+    text.extend_from_slice(field)?;
     text.push(b'\n')?;
     Ok(())
 }
 
-// Appends a line for each pair of a record of A, whose front stands ready.
+// Appends a line for each of these records behind the same front.
 fn push_lines(
     text: &mut Vec<u8>,
-    front: &LineFront,
-    at: u32,
+    front: &[u8],
     partners: &[u32],
-    a: &StdFile,
-    b: &StdFile,
+    ids: &IdFields,
 ) -> Result<(), NoMemory>
-    requires in_b { All (λ j. j < length b.now) partners.now }
-    requires front { front.now ≡ front_of (id_at a.now at) }
-    ensures { OnOk result (text.new.items ≡ text.old.items ++ flat_map (λ j. ids_line a.now b.now (pair_with at j)) partners.now) }
+    requires { All (λ j. j < length ids.now) partners.now }
+    ensures { OnOk result (text.new.items ≡ text.old.items ++ flat_map (λ j. line_behind front.now (slice_index_or ids.now j [])) partners.now) }
 {
     for partner in partners {
-        push_line(text, front, b.id(*partner))?;
+        push_line(text, front, ids.field(*partner))?;
     }
     Ok(())
 }
@@ -72,23 +69,25 @@ impl IdsWriter {
         })
     }
 
-    /// Appends a line for each pair of a record of A with one of these records of B, by their positions.
+    /// Appends a line for each pair of a record of A with one of these records of B, by their positions, where `ids` are the ids
+    /// of B as fields.
     pub fn push_row(
         &mut self,
         at: u32,
         partners: &[u32],
         a: &StdFile,
-        b: &StdFile,
+        ids: &IdFields,
     ) -> Result<(), NoMemory>
         requires in_a { 0 < length partners.now → at < length a.now }
-        requires in_b { All (λ j. j < length b.now) partners.now }
-        ensures { OnOk result (self.new ≡ self.old ++ flat_map (ids_line a.now b.now) (map (pair_with at) partners.now)) }
+        requires in_b { All (λ j. j < length ids.now) partners.now }
+        ensures { (b : List Record) → ids.now ≡ id_fields b
+            → OnOk result (self.new ≡ self.old ++ flat_map (ids_line a.now b) (map (pair_with at) partners.now)) }
     {
         if partners.is_empty() {
             return Ok(());
         }
         self.front.set(a.id(at))?;
-        push_lines(&mut self.text, &self.front, at, partners, a, b)
+        push_lines(&mut self.text, self.front.bytes(), partners, ids)
     }
 
     /// The text.

@@ -1,17 +1,17 @@
 // The text of the compared pairs.
 ghost use Rattle.std.specs.Prelude.{◌≡◌, ◌<◌, ◌++◌, IfOk, List, None, OnOk, Some, length};
-ghost use Rattle.csv.specs.Writing.{default_writer, field_text, row_text};
+ghost use Rattle.csv.specs.Writing.{default_writer, row_text};
 ghost use Rattle.link_base.specs.Standard.{id_at, Record};
 ghost use Rattle.link_report.specs.LineParts.{pair_end};
-ghost use Rattle.link_report.specs.Lines.{front_of};
+ghost use Rattle.link_report.specs.Lines.{front_of, id_fields};
 ghost use Rattle.link_report.specs.PairsText.{IsAfter, pair_row, pairs_header};
 ghost use Rattle.patterns.specs.Shapes.{pattern_count_by, rare_of};
 
 use crate::ends::LineEnds;
 use crate::front::LineFront;
+use crate::id_fields::IdFields;
 use crate::open::PairRow;
-use csv_rows::push_field;
-use link_base::{NoMemory, PairAt, Shape, StdFile, Text};
+use link_base::{NoMemory, PairAt, Shape, Text};
 use std::alloc::Global;
 use std::marker::Model;
 
@@ -54,35 +54,34 @@ impl PairsWriter {
     }
 
     /// Appends the line of a pair, which comes after the last one by its positions, behind the front of the lines of its record
-    /// of A. Outcomes are a letter a field: A agree, D disagree, M missing, R rare. A pair without a verdict has an empty last
-    /// field. After a refusal the writer is of no more use.
+    /// of A, where `ids` are the ids of B as fields. Outcomes are a letter a field: A agree, D disagree, M missing, R rare. A pair
+    /// without a verdict has an empty last field. After a refusal the writer is of no more use.
     pub fn push_behind(
         &mut self,
         front: &LineFront,
         row: &PairRow,
-        b: &StdFile,
+        ids: &IdFields,
     ) -> Result<(), NoMemory>
-        requires in_b { row.now.at.b < length b.now }
+        requires in_b { row.now.at.b < length ids.now }
         requires pattern { row.now.pattern < pattern_count_by self.old.rares }
         requires after { IsAfter self.old.last row.now.at }
         ensures rares { self.new.rares ≡ self.old.rares }
-        ensures text { (a : List Record) → front.now ≡ front_of (id_at a row.now.at.a)
-            → OnOk result (self.new.text ≡ self.old.text ++ pair_row self.old.rares a b.now row.now) }
+        ensures text { (a : List Record) → front.now ≡ front_of (id_at a row.now.at.a) → (b : List Record) → ids.now ≡ id_fields b
+            → OnOk result (self.new.text ≡ self.old.text ++ pair_row self.old.rares a b row.now) }
         ensures last { OnOk result (self.new.last ≡ Some row.now.at) }
     {
         self.text.extend_from_slice(front.bytes())?;
-        self.push_tail(row, b)
+        self.push_tail(row, ids.field(row.at.b))
     }
 
-    // Appends the line of a pair from its id in B on.
-    fn push_tail(&mut self, row: &PairRow, b: &StdFile) -> Result<(), NoMemory>
-        requires in_b { row.now.at.b < length b.now }
+    // Appends the line of a pair from the field of its id in B on.
+    fn push_tail(&mut self, row: &PairRow, field: &[u8]) -> Result<(), NoMemory>
         requires pattern { row.now.pattern < pattern_count_by self.old.rares }
         ensures rares { self.new.rares ≡ self.old.rares }
-        ensures text { OnOk result (self.new.text ≡ (self.old.text ++ field_text default_writer (id_at b.now row.now.at.b)) ++ pair_end self.old.rares row.now) }
+        ensures text { OnOk result (self.new.text ≡ (self.old.text ++ field.now) ++ pair_end self.old.rares row.now) }
         ensures last { OnOk result (self.new.last ≡ Some row.now.at) }
     {
-        push_field(&mut self.text, b.id(row.at.b))?;
+        self.text.extend_from_slice(field)?;
         self.ends.push_end(&mut self.text, row)?;
         self.last = Some(row.at);
         Ok(())
