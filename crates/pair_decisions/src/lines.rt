@@ -13,7 +13,7 @@ use crate::writing::write_rows;
 use comparators::IdTable;
 use link_base::{NoMemory, StdFile, Text};
 use link_limits::{MOST_PAIRS, MOST_ROWS};
-use link_report::PairsWriter;
+use link_report::{IdFields, PairsWriter};
 use review_journal::Journal;
 use settings::Plan;
 use std::alloc::Global;
@@ -46,6 +46,9 @@ pub fn pair_lines(
     let writer = PairsWriter::new(alloc, &plan.shape())?;
     let walker = decided.walk();
     let rule = decided.rule();
-    let written = write_rows(alloc, walker, writer, rule, journal, a, b, sides_a, sides_b)?;
+    let ids = IdFields::of(alloc, b)?;
+    let written = write_rows(
+        alloc, walker, writer, rule, journal, a, b, &ids, sides_a, sides_b,
+    )?;
     Ok(written.finish())
 }

@@ -1,6 +1,7 @@
 // The lines of the pairs of a walk.
 ghost use Rattle.std.specs.Prelude.{◌≡◌, ◌≤◌, ◌++◌, All, AllPairs, IfOk, None, OnOk, length, map};
 ghost use Rattle.std.specs.List.{flat_map};
+ghost use Rattle.link_report.specs.Lines.{id_fields};
 ghost use Rattle.link_report.specs.PairsText.{IsAfter, pair_row};
 ghost use Rattle.pair_decisions.specs.PairRule.{AreSidesFor, side_rule};
 ghost use Rattle.link_base.specs.Rule.{IsPairBefore};
@@ -16,7 +17,7 @@ use comparators::IdTable;
 use decision_rule::BorderWords;
 use link_base::{NoMemory, PairAt, Sides, StdFile};
 use link_limits::{MOST_PAIRS, MOST_ROWS};
-use link_report::{LineFront, PairsWriter};
+use link_report::{IdFields, LineFront, PairsWriter};
 use pair_walk::{RowPairs, WalkFault, Walker};
 use review_journal::Journal;
 use std::alloc::Global;
@@ -30,6 +31,7 @@ fn write_row(
     journal: &Journal,
     a: &StdFile,
     b: &StdFile,
+    ids: &IdFields,
     sides_a: &IdTable,
     sides_b: &IdTable,
     row: &RowPairs,
@@ -38,6 +40,7 @@ fn write_row(
     requires cells { length rule.now.cells ≡ pattern_count_by writer.old.rares }
     requires few_a { length a.now ≤ MOST_ROWS }
     requires few_b { length b.now ≤ MOST_ROWS }
+    requires ids { ids.now ≡ id_fields b.now }
     requires rows_a { length sides_a.now.rows ≡ length a.now }
     requires rows_b { length sides_b.now.rows ≡ length b.now }
     requires sides_a { All (AreSidesFor rule.now) sides_a.now.rows }
@@ -57,7 +60,7 @@ fn write_row(
     for at_b in &row.bs {
         let at = PairAt { a: row.a, b: *at_b };
         let line = row_at(rule, words, journal, sides_a, sides_b, at);
-        writer.push_behind(front, &line, b)?;
+        writer.push_behind(front, &line, ids)?;
     }
     Ok(())
 }
@@ -71,6 +74,7 @@ pub(crate) fn write_rows(
     journal: &Journal,
     a: &StdFile,
     b: &StdFile,
+    ids: &IdFields,
     sides_a: &IdTable,
     sides_b: &IdTable,
 ) -> Result<PairsWriter, NoMemory>
@@ -80,6 +84,7 @@ pub(crate) fn write_rows(
     requires cells { length rule.now.cells ≡ pattern_count_by writer.rares }
     requires few_a { length a.now ≤ MOST_ROWS }
     requires few_b { length b.now ≤ MOST_ROWS }
+    requires ids { ids.now ≡ id_fields b.now }
     requires rows_a { length sides_a.now.rows ≡ length a.now }
     requires rows_b { length sides_b.now.rows ≡ length b.now }
     requires sides_a { All (AreSidesFor rule.now) sides_a.now.rows }
@@ -103,6 +108,7 @@ pub(crate) fn write_rows(
                 journal,
                 a,
                 b,
+                ids,
                 sides_a,
                 sides_b,
                 &row,

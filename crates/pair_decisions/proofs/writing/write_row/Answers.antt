@@ -3,6 +3,7 @@ use Rattle.std.proofs.lemmas.Bool.Decides.{nat_tests}
 use Rattle.std.specs.Prelude.{All, AllPairs}
 use Rattle.link_base.specs.declared.rule.PairAt.{PairAt}
 use Rattle.link_base.specs.Standard.{id_at}
+use Rattle.link_report.proofs.LineLemmas.{count_of_ids}
 use Rattle.link_report.specs.Lines.{front_of}
 use Rattle.link_report.specs.PairsText.{IsAfter, pair_row}
 use Rattle.link_report.specs.declared.open.PairRow.{PairRow}
@@ -32,7 +33,8 @@ row_at-line-requires-clause-inside c =
 pub push_behind-requires-clause-in_b : goal.push_behind-requires-clause-in_b
 push_behind-requires-clause-in_b c =
     let here = stands (length c.args.a.now) (length c.args.b.now) c.args.row.now.a c.args.row.now.bs.items c.deref-at_b-items.result.now c.loop-at_b.at_b-index c.deref-at_b-items.ensures.value c.loop-at_b-test.true c.requires.inside in
-    subst (λ (row : PairRow). row.at.b < length c.args.b.now) (sym c.row_at-line.ensures.row) here.1
+    let count = count_of_ids c.args.ids.now c.args.b.now c.requires.ids in
+    subst (λ (row : PairRow). row.at.b < length c.args.ids.now) (sym c.row_at-line.ensures.row) (omega (arith, here.1, count))
 
 pub push_behind-requires-clause-pattern : goal.push_behind-requires-clause-pattern
 push_behind-requires-clause-pattern c =
@@ -66,7 +68,7 @@ loop-at_b-preserved c =
     let row : c.row_at-line.result ≡ row_of at = c.row_at-line.ensures.row in
     let P : List Bool → Type 0 = λ rs. c.push_behind.new.self.text ≡ c.loop-at_b.writer.text ++ pair_row rs file_a file_b c.row_at-line.result in
     let of_a : c.set.new.self ≡ front_of (id_at file_a c.row_at-line.result.at.a) = c.in_ok-set.ensures ∙ ap front_of c.id.ensures ∙ ap (λ (r : PairRow). front_of (id_at file_a r.at.a)) (sym row) in
-    let told : P rares = subst P c.loop-at_b.invariant.rares (c.in_ok-push_behind.ensures.text file_a of_a) in
+    let told : P rares = subst P c.loop-at_b.invariant.rares (c.in_ok-push_behind.ensures.text file_a of_a file_b c.requires.ids) in
     let more : c.push_behind.new.self.text ≡ c.loop-at_b.writer.text ++ pair_row rares file_a file_b (row_of at) = told ∙ ap (λ r. c.loop-at_b.writer.text ++ pair_row rares file_a file_b r) row in
     record {
       same = c.row_at-line.ensures.same ∙ c.loop-at_b.invariant.same;
