@@ -10,7 +10,7 @@ ghost use Rattle.pair_walk.specs.Pairs.{pairs_of_rows};
 
 use crate::preparing::Prepared;
 use link_base::{Fault, StdFile, Text};
-use link_report::IdsWriter;
+use link_report::{IdFields, IdsWriter};
 use pair_walk::{WalkFault, Walker};
 use settings::Plan;
 use std::alloc::Global;
@@ -27,13 +27,14 @@ fn ids_of_rows(
     ensures kind { IfErr result IsInputFault }
     ensures answer { IsAnswer (and_then (pairs_within (pairs_of_rows walker.entry.left)) (λ pairs. Ok (ids_text a.now b.now pairs))) result }
 {
+    let ids = IdFields::of(alloc, b)?;
     let mut writer = IdsWriter::new(alloc)?;
     'rows: loop {
         match walker.next_row(alloc) {
             Err(WalkFault::TooManyPairs { limit }) => return Err(Fault::TooManyPairs { limit }),
             Err(WalkFault::NoMemory) => return Err(Fault::NoMemory),
             Ok(None) => return Ok(writer.finish()),
-            Ok(Some(row)) => writer.push_row(row.a, &row.bs, a, b)?,
+            Ok(Some(row)) => writer.push_row(row.a, &row.bs, a, &ids)?,
         }
     }
 }

@@ -1,5 +1,6 @@
 use Rattle.std.proofs.Common.{◌<◌, ℕ, List, Ok, Option, arith, length, subst, sym}
 use Rattle.std.specs.Prelude.{All}
+use Rattle.link_report.proofs.LineLemmas.{count_of_ids}
 use Rattle.link_report.specs.Lines.{ids_line}
 use Rattle.link_core.proofs.PairLemmas.{lines_more, row_in_a, row_in_b}
 use Rattle.pair_decisions.proofs.WalkLemmas.{count_more, rest_holds, row_holds}
@@ -18,10 +19,11 @@ push_row-requires c =
     let rows_b = length c.args.b.now in
     let inside = row_holds (IsInside rows_a rows_b) c.rows.walker.left c.next_row.new.self.left a bs next.0 c.rows.invariant.inside in
     let in_a : List ℕ → Type 0 = λ js. 0 < length js → a < rows_a in
-    let in_b : List ℕ → Type 0 = λ js. All (λ j. j < rows_b) js in
+    let in_b : List ℕ → Type 0 = λ js. All (λ j. j < length c.in_ok-ids.ids) js in
+    let count = count_of_ids c.in_ok-ids.ids c.args.b.now c.in_ok-ids.ensures in
     record {
       in_a = subst in_a (sym c.deref.ensures.value) (row_in_a rows_a rows_b a bs inside);
-      in_b = subst in_b (sym c.deref.ensures.value) (row_in_b rows_a rows_b a bs inside);
+      in_b = subst in_b (sym c.deref.ensures.value) (subst (λ n. All (λ j. j < n) bs) (sym count) (row_in_b rows_a rows_b a bs inside));
     }
 
 pub rows-preserved : goal.rows-preserved
@@ -33,7 +35,7 @@ rows-preserved c =
     let a = c.in-Ok-Some.row.a in
     let bs = c.in-Ok-Some.row.bs.items in
     let more = count_more old rest a bs next.0 in
-    let written = rw c.deref.ensures.value at c.in_ok-push_row-in-Ok-Some.ensures in
+    let written = rw c.deref.ensures.value at (c.in_ok-push_row-in-Ok-Some.ensures c.args.b.now c.in_ok-ids.ensures) in
     record {
       given = omega (arith, next.1, more, c.rows.invariant.given);
       few = next.2;
