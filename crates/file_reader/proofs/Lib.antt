@@ -5,6 +5,7 @@ pub mod MoreFacts
 pub mod PlainFacts
 pub mod ReadFacts
 pub mod RowFacts
+pub mod TakerFacts
 pub mod TextFacts
 pub mod WidthFacts
 pub mod Steps

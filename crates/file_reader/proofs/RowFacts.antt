@@ -1,5 +1,5 @@
 -- Rows of cells side by side, with their ids.
-use Rattle.std.proofs.Common.{◌≡◌, ◌<◌, ◌≤◌, ◌+◌, ◌*◌, ◌∷◌, ◌++◌, ◌∙◌, ℕ, zero, suc, Bool, true, false, List, [], length, get_or, take, drop, refl, sym, ap, arith, length-drop}
+use Rattle.std.proofs.Common.{◌≡◌, ◌<◌, ◌≤◌, ◌+◌, ◌*◌, ◌∷◌, ◌++◌, ◌∙◌, ℕ, zero, suc, Bool, true, false, List, [], length, map, get_or, take, drop, refl, sym, ap, arith, length-drop}
 use Rattle.std.proofs.lemmas.List.{take-append-le, drop-append-le, get_or-take, get_or-drop, get_or_past, length-take-le}
 use Rattle.std.proofs.Math.Seq.{take-length}
 use Rattle.file_reader.specs.Rows.{AreIdsFor, HaveIds, ids_of, known_ids, no_row, row_of_cells, rows_in, skipped, table_rows, TableRow, with_ids}
@@ -27,7 +27,7 @@ rows_suc (suc n) w cells row h e =
     λ i. front i ∷ rest i
 
 -- one row more
-rows_push : (n m w : ℕ) (cells row : Cells) → m ≡ n + 1 → length cells ≡ n * w → length row ≡ w → rows_in m w (cells ++ row) ≡ rows_in n w cells ++ row ∷ []
+pub rows_push : (n m w : ℕ) (cells row : Cells) → m ≡ n + 1 → length cells ≡ n * w → length row ≡ w → rows_in m w (cells ++ row) ≡ rows_in n w cells ++ row ∷ []
 rows_push n m w cells row em h e =
     let s : m ≡ suc n = omega (arith, em) in
     rw s (rows_suc n w cells row h e)
@@ -36,7 +36,7 @@ length_rows : (n w : ℕ) (cells : Cells) → length (rows_in n w cells) ≡ n
 length_rows zero w cells = refl
 length_rows (suc n) w cells = ap suc (length_rows n w (drop w cells))
 
-length_with : (rows : List Cells) (ids : List (List ℕ)) → length (with_ids rows ids) ≡ length rows
+pub length_with : (rows : List Cells) (ids : List (List ℕ)) → length (with_ids rows ids) ≡ length rows
 length_with [] ids = refl
 length_with (r ∷ rows) [] = ap suc (length_with rows [])
 length_with (r ∷ rows) (id ∷ ids) = ap suc (length_with rows ids)
@@ -60,12 +60,12 @@ length_ids [] = refl
 length_ids (r ∷ rows) = ap suc (length_ids rows)
 
 -- a row's fields are its cells after the id
-fields_behind : (has_id : Bool) (cells : Cells) → (row_of_cells has_id cells).fields ≡ drop (skipped has_id) cells
+pub fields_behind : (has_id : Bool) (cells : Cells) → (row_of_cells has_id cells).fields ≡ drop (skipped has_id) cells
 fields_behind true [] = refl
 fields_behind true (c ∷ cs) = refl
 fields_behind false cells = refl
 
-row_push : (has_id : Bool) (rows : List Cells) (ids ids2 cells : List (List ℕ)) → ids ≡ known_ids has_id (with_ids rows ids)
+pub row_push : (has_id : Bool) (rows : List Cells) (ids ids2 cells : List (List ℕ)) → ids ≡ known_ids has_id (with_ids rows ids)
     → ids2 ≡ ids_after has_id ids (row_of_cells has_id cells).id → with_ids (rows ++ drop (skipped has_id) cells ∷ []) ids2 ≡ with_ids rows ids ++ row_of_cells has_id cells ∷ []
 row_push true rows ids ids2 cells known kept =
     let count : length ids ≡ length rows = ap length known ∙ length_ids (with_ids rows ids) ∙ length_with rows ids in
@@ -75,14 +75,6 @@ row_push true rows ids ids2 cells known kept =
 row_push false rows ids ids2 cells known kept =
     ap (with_ids (rows ++ cells ∷ [])) (kept ∙ known) ∙ push_none rows cells
     ∙ ap (λ (l : List (List ℕ)). with_ids rows l ++ record { id = []; fields = cells } ∷ []) (sym known)
-
--- one row more of a table
-pub table_push : (has_id : Bool) (n m w : ℕ) (cells row new ids ids2 : Cells) → m ≡ n + 1 → length cells ≡ n * w → length (drop (skipped has_id) row) ≡ w → new ≡ cells ++ drop (skipped has_id) row
-    → ids ≡ known_ids has_id (table_rows n w cells ids) → ids2 ≡ ids_after has_id ids (row_of_cells has_id row).id
-    → table_rows m w new ids2 ≡ table_rows n w cells ids ++ row_of_cells has_id row ∷ []
-table_push has_id n m w cells row new ids ids2 em h e en known kept =
-    ap (λ (c : Cells). table_rows m w c ids2) en ∙ ap (λ (rows : List Cells). with_ids rows ids2) (rows_push n m w cells (drop (skipped has_id) row) em h e)
-    ∙ row_push has_id (rows_in n w cells) ids ids2 row known kept
 
 -- as many ids as rows, or none
 pub ids_for : (has_id : Bool) (table : List TableRow) (count : ℕ) (ids : List (List ℕ)) → length table ≡ count → ids ≡ known_ids has_id table → AreIdsFor count ids
@@ -135,7 +127,7 @@ ids_with (r ∷ rows) [] e = absurd (omega (arith, e))
 ids_with (r ∷ rows) (id ∷ ids) e = ap (λ (l : List (List ℕ)). id ∷ l) (ids_with rows ids (omega (arith, e)))
 
 -- the ids of rows that have some
-ids_for_all : (rows : List Cells) (ids : List (List ℕ)) → AreIdsFor (length rows) ids → HaveIds (with_ids rows ids) → ids ≡ ids_of (with_ids rows ids)
+pub ids_for_all : (rows : List Cells) (ids : List (List ℕ)) → AreIdsFor (length rows) ids → HaveIds (with_ids rows ids) → ids ≡ ids_of (with_ids rows ids)
 ids_for_all rows (id ∷ ids) each have = sym (ids_with rows (id ∷ ids) (each (omega arith)))
 ids_for_all [] [] each have = refl
 ids_for_all (r ∷ rows) [] each have = absurd (have 0 no_row (omega arith) refl)
@@ -143,3 +135,9 @@ ids_for_all (r ∷ rows) [] each have = absurd (have 0 no_row (omega arith) refl
 pub table_ids : (n w : ℕ) (cells : Cells) (ids : List (List ℕ)) → AreIdsFor n ids → HaveIds (table_rows n w cells ids) → ids ≡ ids_of (table_rows n w cells ids)
 table_ids n w cells ids each have =
     ids_for_all (rows_in n w cells) ids (λ some. each some ∙ sym (length_rows n w cells)) have
+
+-- the fields of such rows
+pub fields_with : (rows : List Cells) (ids : List (List ℕ)) → map (λ (r : TableRow). r.fields) (with_ids rows ids) ≡ rows
+fields_with [] ids = refl
+fields_with (r ∷ rows) [] = ap (λ (l : List Cells). r ∷ l) (fields_with rows [])
+fields_with (r ∷ rows) (id ∷ ids) = ap (λ (l : List Cells). r ∷ l) (fields_with rows ids)

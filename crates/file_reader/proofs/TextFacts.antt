@@ -83,7 +83,7 @@ fields_none heading number ids row e =
     if_none (not (length row == heading.width)) (fault.Ragged heading.role number) (fields_fault heading number ids row)
     (if_none (nat_lt heading.most number) (fault.TooManyRows heading.role heading.most) (cond (not (length row == heading.width)) (Some (fault.Ragged heading.role number)) (fields_fault heading number ids row)) e)
 
-taken_text : (heading : Heading) (number : ℕ) (ids row : List (List ℕ)) → row_fault heading number ids row ≡ None → IsTextRow (taken heading row)
+pub taken_text : (heading : Heading) (number : ℕ) (ids row : List (List ℕ)) → row_fault heading number ids row ≡ None → IsTextRow (taken heading row)
 taken_text heading number ids row e =
     let tests = both_none (text_fault heading number row) (key_fault heading number ids row) (fields_none heading number ids row e) in
     cells_row heading.has_id (cells_of heading.columns row) (cells_text heading number row tests.first)
@@ -145,7 +145,7 @@ taken_id heading number ids row has e none =
     cc refused
 
 -- what holds of the table of each file without a fault
-table_facts : (file : FileRole) (wanted : Wanted) (records : Records) (all : List TableRow) → table_of file wanted records ≡ Ok all → HasTexts all × HasWantedIds wanted all × HasDistinctIds wanted all
+pub table_facts : (file : FileRole) (wanted : Wanted) (records : Records) (all : List TableRow) → table_of file wanted records ≡ Ok all → HasTexts all × HasWantedIds wanted all × HasDistinctIds wanted all
 table_facts file wanted [] all e = cc e
 table_facts file wanted (header ∷ rows) all e =
     by_fault (header_fault file (needed_of wanted) header) e
@@ -161,10 +161,6 @@ table_facts file wanted (header ∷ rows) all e =
 pub answers_texts : (file : FileRole) (wanted : Wanted) (records : Records) (result : Result (List TableRow) Fault) → IsAnswer (table_of file wanted records) result → IfOk result HasTexts
 answers_texts file wanted records (Ok all) h = (table_facts file wanted records all h).0
 answers_texts file wanted records (Err f) h = tt
-
-pub answers_ids : (file : FileRole) (wanted : Wanted) (records : Records) (result : Result (List TableRow) Fault) → IsAnswer (table_of file wanted records) result → IfOk result (HasWantedIds wanted)
-answers_ids file wanted records (Ok all) h = (table_facts file wanted records all h).1
-answers_ids file wanted records (Err f) h = tt
 
 pub answers_distinct : (file : FileRole) (wanted : Wanted) (records : Records) (result : Result (List TableRow) Fault) → IsAnswer (table_of file wanted records) result → IfOk result (HasDistinctIds wanted)
 answers_distinct file wanted records (Ok all) h = (table_facts file wanted records all h).2

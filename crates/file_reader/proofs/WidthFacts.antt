@@ -1,10 +1,8 @@
 -- What holds of each row of a table.
-use Rattle.std.proofs.Common.{◌≡◌, ◌+◌, ◌∷◌, ◌++◌, ◌∙◌, ℕ, List, [], length, Option, Some, None, Result, Ok, Err, refl, subst}
+use Rattle.std.proofs.Common.{◌≡◌, ◌+◌, ◌∷◌, ◌++◌, ◌∙◌, ℕ, List, [], length, Option, Some, None, Result, Ok, refl, subst}
 use Rattle.std.specs.List.{All}
 use Rattle.std.proofs.lemmas.List.{length-map}
 use Rattle.std.proofs.lemmas.List.Elements.{All-nil, All-push}
-use Rattle.std.specs.Prelude.{IfOk}
-use Rattle.link_base.specs.Fault.{IsAnswer}
 use Rattle.link_base.specs.declared.fault.Fault.{Fault}
 use Rattle.link_base.specs.declared.fault.FileRole.{FileRole}
 use Rattle.file_reader.specs.Layout.{cell, cells_of, columns_of, Heading, heading_under, needed_of, place_in, Wanted}
@@ -58,7 +56,3 @@ table_width file wanted (header ∷ rows) all e =
     by_fault None e =
         rows_all (λ r. length r.fields ≡ length wanted.columns) (heading_under file wanted header) (λ number ids row none. taken_width file wanted.id wanted.columns wanted.most header row) [] rows all (All-nil (λ (r : TableRow). length r.fields ≡ length wanted.columns)) e
     by_fault (Some f) e = cc e
-
-pub answers_width : (file : FileRole) (wanted : Wanted) (records : Records) (result : Result (List TableRow) Fault) → IsAnswer (table_of file wanted records) result → IfOk result (HasWidth wanted)
-answers_width file wanted records (Ok all) h = table_width file wanted records all h
-answers_width file wanted records (Err f) h = tt

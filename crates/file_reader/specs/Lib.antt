@@ -1,6 +1,7 @@
 pub mod Layout
 pub mod Rows
 pub mod Table
+pub mod Takers
 pub mod Known
 pub mod Header
 pub mod Faults

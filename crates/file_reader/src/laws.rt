@@ -6,6 +6,7 @@ ghost use Rattle.file_reader.specs.Faults.{IsFirstFault, IsWholeTable};
 ghost use Rattle.file_reader.specs.Layout.{Wanted};
 ghost use Rattle.file_reader.specs.Rows.{TableRow};
 ghost use Rattle.file_reader.specs.Table.{table_of};
+ghost use Rattle.file_reader.specs.Takers.{IsTableFor};
 
 /// Law: the fault of a file is the first one of its header, and else that of its least faulty row: no row
 /// before that one has a fault.
@@ -18,4 +19,11 @@ pub fn first_fault()
 pub fn whole_table()
     ensures { (role : FileRole) (wanted : Wanted) (records : List (List (List ℕ))) (table : List TableRow)
         → table_of role wanted records ≡ Ok table → IsWholeTable role wanted records table }
+{}
+
+/// Law: a table has at most as many rows as are wanted; each has a text for each wanted column, and, where an id is
+/// wanted, an id that no other has.
+pub fn sound_table()
+    ensures { (role : FileRole) (wanted : Wanted) (records : List (List (List ℕ))) (table : List TableRow)
+        → table_of role wanted records ≡ Ok table → IsTableFor wanted table }
 {}

@@ -10,11 +10,13 @@ mod records;
 mod room;
 mod rows;
 mod table;
+mod taker;
 
 pub use header::has_column;
 pub use known::known_record;
-pub use laws::{first_fault, whole_table};
+pub use laws::{first_fault, sound_table, whole_table};
 pub use layout::Layout;
 pub use records::Records;
-pub use rows::read_table;
+pub use rows::{read_rows, read_table};
 pub use table::Table;
+pub use taker::{RowFields, RowTaker, TableIds};

@@ -2,7 +2,7 @@
 ghost use Rattle.std.specs.Prelude.{◌≡◌, ◌≤◌, [], IfOk, length};
 
 use crate::layout::Head;
-use link_base::{IdSet, NoMemory, TextRegion};
+use link_base::{IdSet, NoMemory};
 use std::alloc::Global;
 
 // How many bytes of a text are looked at.
@@ -11,8 +11,8 @@ const LOOKED_AT: usize = 4096;
 // About how many rows a text has, and bytes.
 #[derive(Clone, Copy)]
 pub(crate) struct Room {
-    rows: usize,
-    bytes: usize,
+    pub(crate) rows: u32,
+    pub(crate) bytes: usize,
 }
 
 impl Room {
@@ -21,8 +21,9 @@ impl Room {
         let looked_at = bytes.len().min(LOOKED_AT);
         let lines = lines_in(&bytes[..looked_at]) + 1;
         let parts = bytes.len() / LOOKED_AT + 1;
+        let rows = lines.saturating_mul(parts).min(most_rows as usize);
         Room {
-            rows: lines.saturating_mul(parts).min(most_rows as usize),
+            rows: rows as u32,
             bytes: bytes.len(),
         }
     }
@@ -32,17 +33,9 @@ impl Room {
         ensures { IfOk result (λ ids. ids ≡ []) }
     {
         if head.has_id {
-            return IdSet::with_capacity(alloc, self.rows);
+            return IdSet::with_capacity(alloc, self.rows as usize);
         }
         Ok(IdSet::new(alloc))
-    }
-
-    // Room for the needed fields.
-    pub(crate) fn for_cells(&self, alloc: Global, head: &Head) -> Result<TextRegion, NoMemory>
-        ensures { IfOk result (λ cells. cells ≡ []) }
-    {
-        let fields = self.rows.saturating_mul(head.columns.len());
-        TextRegion::with_capacity(alloc, fields.min(self.bytes), self.bytes)
     }
 }
 

@@ -1,13 +1,13 @@
 // The rows of a table.
-ghost use Rattle.std.specs.Prelude.{◌≡◌, ◌↔◌, ◌≤◌, ◌<◌, ◌*◌, ◌++◌, [], All, IfOk, IsTrue, None, OnOk, IfErr, length, ℕ};
+ghost use Rattle.std.specs.Prelude.{◌≡◌, ◌↔◌, ◌≤◌, ◌<◌, [], All, IfOk, IsTrue, None, IfErr, length, ℕ};
 ghost use Rattle.csv.specs.Records.{fields_of, text_of};
 ghost use Rattle.file_reader.specs.Left.{records_in};
-ghost use Rattle.link_base.specs.Fault.{Gives, IsAnswer, IsInputFault};
-ghost use Rattle.file_reader.specs.Layout.{cell, cells_of, field_columns, heading_of, heading_under, needed_of, wanted_of};
+ghost use Rattle.link_base.specs.Fault.{IsAnswer, IsInputFault};
+ghost use Rattle.file_reader.specs.Layout.{cell, field_columns, heading_of, heading_under, needed_of, wanted_of};
 ghost use Rattle.file_reader.specs.Plain.{IsPlain};
-ghost use Rattle.file_reader.specs.Rows.{AreIdsFor, table_rows};
 ghost use Rattle.file_reader.specs.declared.layout.Column.{Column as Needed};
-ghost use Rattle.file_reader.specs.Steps.{KeepsId, TakesTableRow};
+ghost use Rattle.file_reader.specs.Steps.{FillsRows, KeepsId, TakesTableRow};
+ghost use Rattle.file_reader.specs.Takers.{ReadsInto};
 ghost use Rattle.file_reader.specs.Table.{HasDistinctIds, HasTexts, HasWantedIds, HasWidth, header_fault, id_fault, length_fault, row_fault, rows_read, table_of, taken, Tests, text_fault, under_header, utf8_fault};
 
 use crate::fields::{field_of, is_plain, is_text};
@@ -15,9 +15,10 @@ use crate::header::{find_columns, needed_names, test_header};
 use crate::layout::{Column, Head, Layout};
 use crate::records::Records;
 use crate::room::Room;
-use crate::table::Table;
+use crate::table::{Cells, Table};
+use crate::taker::{RowFields, RowTaker, TableIds};
 use csv::ByteRecord;
-use link_base::{Fault, FileRole, IdSet, NoMemory, Text, TextRegion};
+use link_base::{Fault, FileRole, IdSet, NoMemory, Text};
 use link_limits::MOST_FIELD_BYTES;
 use std::alloc::Global;
 
@@ -171,33 +172,23 @@ fn columns_after_id(head: &Head) -> &[Column]
     }
 }
 
-// Appends the fields of a row in these columns.
-fn push_cells(cells: &mut TextRegion, columns: &[Column], row: &ByteRecord) -> Result<(), NoMemory>
-    ensures { OnOk result (cells.new ≡ cells.old ++ cells_of columns.now (fields_of row.now)) }
-{
-    for column in columns {
-        cells.push(field_of(row, column.place))?;
-    }
-    Ok(())
-}
-
-// Reads the rows that are left, and tells how many they are.
-fn fill_rows(
+// Hands the rows that are left to a taker, and tells how many they are.
+fn fill_rows<T: RowTaker>(
     alloc: Global,
     left: &mut Records<'_>,
     row: &mut ByteRecord,
     head: &Head,
     ids: &mut IdSet,
-    cells: &mut TextRegion,
+    taker: &mut T,
 ) -> Result<u32, Fault>
     requires id { IsTrue head.now.has_id → 1 ≤ length head.now.columns.items }
     requires no_ids { ids.old ≡ [] }
-    requires no_cells { cells.old ≡ [] }
+    requires width { T.width taker.old ≡ length (field_columns (heading_of head.now)) }
+    requires most { head.now.most_rows ≤ T.most taker.old }
+    requires no_rows { T.keeps taker.old [] }
     ensures kind { IfErr result IsInputFault }
     ensures few { IfOk result (λ rows. rows ≤ head.now.most_rows) }
-    ensures whole { IfOk result (λ rows. length cells.new ≡ rows * length (field_columns (heading_of head.now))) }
-    ensures ids { IfOk result (λ rows. AreIdsFor rows ids.new) }
-    ensures answer { Gives (λ rows. table_rows rows (length (field_columns (heading_of head.now))) cells.new ids.new) (rows_read (heading_of head.now) [] left.old) result }
+    ensures answer { FillsRows (T.keeps taker.new) (rows_read (heading_of head.now) [] left.old) ids.new result }
 {
     let columns = columns_after_id(head);
     let mut rows: u32 = 0;
@@ -210,30 +201,34 @@ fn fill_rows(
         }
         rows += 1;
         match take_row(alloc, head, rows, ids, row) {
-            Ok(()) => push_cells(cells, columns, row)?,
+            Ok(()) => taker.take(alloc, &RowFields::of(columns, row))?,
             Err(fault) => return Err(fault),
         }
     }
     Ok(rows)
 }
 
-// The table of the rows that are left.
-fn read_rows(
+// Hands the rows that are left to a taker, for which room is made.
+fn read_left<T: RowTaker>(
     alloc: Global,
     left: &mut Records<'_>,
     row: &mut ByteRecord,
     head: &Head,
     room: Room,
-) -> Result<Table, Fault>
-    requires { IsTrue head.now.has_id → 1 ≤ length head.now.columns.items }
+    taker: &mut T,
+) -> Result<TableIds, Fault>
+    requires id { IsTrue head.now.has_id → 1 ≤ length head.now.columns.items }
+    requires width { T.width taker.old ≡ length (field_columns (heading_of head.now)) }
+    requires most { head.now.most_rows ≤ T.most taker.old }
+    requires no_rows { T.keeps taker.old [] }
     ensures kind { IfErr result IsInputFault }
-    ensures few { IfOk result (λ table. length table ≤ head.now.most_rows) }
-    ensures answer { IsAnswer (rows_read (heading_of head.now) [] left.old) result }
+    ensures few { IfOk result (λ told. told.rows ≤ head.now.most_rows) }
+    ensures answer { ReadsInto (T.keeps taker.new) (rows_read (heading_of head.now) [] left.old) result }
 {
     let mut ids = room.for_ids(alloc, head)?;
-    let mut cells = room.for_cells(alloc, head)?;
-    match fill_rows(alloc, left, row, head, &mut ids, &mut cells) {
-        Ok(rows) => Ok(Table::new(ids, columns_after_id(head).len(), rows, cells)),
+    taker.make_room(alloc, room.rows, room.bytes)?;
+    match fill_rows(alloc, left, row, head, &mut ids, taker) {
+        Ok(rows) => Ok(TableIds { ids, rows }),
         Err(fault) => Err(fault),
     }
 }
@@ -265,44 +260,75 @@ fn head_of(
     })
 }
 
-// The table under a header.
-fn read_under(
+// Hands the rows under a header to a taker.
+fn read_under<T: RowTaker>(
     alloc: Global,
     left: &mut Records<'_>,
     row: &mut ByteRecord,
     role: FileRole,
     layout: &Layout,
     room: Room,
-) -> Result<Table, Fault>
+    taker: &mut T,
+) -> Result<TableIds, Fault>
+    requires width { T.width taker.old ≡ length layout.now.columns.items }
+    requires most { layout.now.most_rows ≤ T.most taker.old }
+    requires no_rows { T.keeps taker.old [] }
     ensures kind { IfErr result IsInputFault }
-    ensures few { IfOk result (λ table. length table ≤ layout.now.most_rows) }
-    ensures answer { IsAnswer (under_header role (wanted_of layout.now) (fields_of row.old) left.old) result }
+    ensures few { IfOk result (λ told. told.rows ≤ layout.now.most_rows) }
+    ensures answer { ReadsInto (T.keeps taker.new) (under_header role (wanted_of layout.now) (fields_of row.old) left.old) result }
 {
     let names = needed_names(alloc, layout)?;
     match head_of(alloc, role, layout, &names, row) {
-        Ok(head) => read_rows(alloc, left, row, &head, room),
+        Ok(head) => read_left(alloc, left, row, &head, room, taker),
         Err(fault) => Err(fault),
     }
 }
 
-// The table of the records that are left, of which the first is the header.
-fn read_records(
+// Hands the rows of the records that are left, of which the first is the header, to a taker.
+fn read_records<T: RowTaker>(
     alloc: Global,
     left: &mut Records<'_>,
     row: &mut ByteRecord,
     role: FileRole,
     layout: &Layout,
     room: Room,
-) -> Result<Table, Fault>
+    taker: &mut T,
+) -> Result<TableIds, Fault>
+    requires width { T.width taker.old ≡ length layout.now.columns.items }
+    requires most { layout.now.most_rows ≤ T.most taker.old }
+    requires no_rows { T.keeps taker.old [] }
     ensures kind { IfErr result IsInputFault }
-    ensures few { IfOk result (λ table. length table ≤ layout.now.most_rows) }
-    ensures answer { IsAnswer (table_of role (wanted_of layout.now) left.old) result }
+    ensures few { IfOk result (λ told. told.rows ≤ layout.now.most_rows) }
+    ensures answer { ReadsInto (T.keeps taker.new) (table_of role (wanted_of layout.now) left.old) result }
 {
     match left.next(row) {
-        Ok(true) => read_under(alloc, left, row, role, layout, room),
+        Ok(true) => read_under(alloc, left, row, role, layout, room, taker),
         Ok(false) => Err(Fault::NoHeader { role }),
         Err(NoMemory) => Err(Fault::NoMemory),
     }
+}
+
+/// Reads a CSV file (RFC 4180) and hands the needed fields of each row to a taker that has taken none, as the row is
+/// read, or tells the first fault of the file: of the header, and else of the first row at fault. One byte order mark at
+/// the start is dropped. Columns that are not needed are not looked at.
+pub fn read_rows<T: RowTaker>(
+    alloc: Global,
+    bytes: &[u8],
+    role: FileRole,
+    layout: &Layout,
+    taker: &mut T,
+) -> Result<TableIds, Fault>
+    requires width { T.width taker.old ≡ length layout.now.columns.items }
+    requires most { layout.now.most_rows ≤ T.most taker.old }
+    requires no_rows { T.keeps taker.old [] }
+    ensures kind { IfErr result IsInputFault }
+    ensures few { IfOk result (λ told. told.rows ≤ layout.now.most_rows) }
+    ensures answer { ReadsInto (T.keeps taker.new) (table_of role (wanted_of layout.now) (records_in layout.now.delimiter bytes.now)) result }
+{
+    let mut left = Records::new(alloc, bytes, layout.delimiter);
+    let mut row = ByteRecord::new(alloc);
+    let room = Room::of(bytes, layout.most_rows);
+    read_records(alloc, &mut left, &mut row, role, layout, room, taker)
 }
 
 /// The table of a CSV file (RFC 4180), or its first fault: of the header, and else of the first row at
@@ -321,8 +347,9 @@ pub fn read_table(
     ensures distinct { IfOk result (HasDistinctIds (wanted_of layout.now)) }
     ensures answer { IsAnswer (table_of role (wanted_of layout.now) (records_in layout.now.delimiter bytes.now)) result }
 {
-    let mut left = Records::new(alloc, bytes, layout.delimiter);
-    let mut row = ByteRecord::new(alloc);
-    let room = Room::of(bytes, layout.most_rows);
-    read_records(alloc, &mut left, &mut row, role, layout, room)
+    let mut cells = Cells::of(alloc, layout)?;
+    match read_rows(alloc, bytes, role, layout, &mut cells) {
+        Ok(told) => Ok(Table::new(told, cells)),
+        Err(fault) => Err(fault),
+    }
 }

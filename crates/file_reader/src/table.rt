@@ -1,9 +1,64 @@
 // The table of a file.
-ghost use Rattle.std.specs.Prelude.{◌≡◌, ◌<◌, ◌*◌, [], length, slice_index_or};
+ghost use Rattle.std.specs.Prelude.{◌≡◌, ◌<◌, ◌*◌, ◌++◌, [], IfOk, length, OnOk, slice_index_or};
 ghost use Rattle.file_reader.specs.Rows.{AreIdsFor, HaveIds, ids_of, no_row, rows_in, table_rows};
+ghost use Rattle.file_reader.specs.Takers.{HasCells};
 
-use link_base::{IdSet, TextRegion};
+use crate::layout::Layout;
+use crate::taker::{RowFields, RowTaker, TableIds};
+use link_base::{IdSet, NoMemory, TextRegion};
+use std::alloc::Global;
 use std::marker::Model;
+
+// The fields of rows, side by side: how many each row has, and how many rows there may be.
+#[derive(Drop)]
+pub(crate) struct Cells {
+    width: usize,
+    most: u32,
+    cells: TextRegion,
+}
+
+impl Cells {
+    // No rows, of what a layout wants.
+    pub(crate) fn of(alloc: Global, layout: &Layout) -> Result<Cells, NoMemory>
+        ensures { IfOk result (λ made. made ≡ record { width = length layout.now.columns.items; most = layout.now.most_rows; cells = [] }) }
+    {
+        let cells = TextRegion::with_capacity(alloc, 0, 0)?;
+        Ok(Cells {
+            width: layout.columns.len(),
+            most: layout.most_rows,
+            cells,
+        })
+    }
+}
+
+// Appends the fields of a row.
+fn push_fields(cells: &mut TextRegion, row: &RowFields<'_>) -> Result<(), NoMemory>
+    ensures { OnOk result (cells.new ≡ cells.old ++ row.now) }
+{
+    for at in 0..row.len() {
+        cells.push(row.field(at))?;
+    }
+    Ok(())
+}
+
+impl RowTaker for Cells {
+    ghost width = { λ c. c.width };
+
+    ghost most = { λ c. c.most };
+
+    ghost keeps = { λ c rows. HasCells c.width c.cells rows };
+
+    fn make_room(&mut self, alloc: Global, rows: u32, bytes: usize) -> Result<(), NoMemory> {
+        let fields = (rows as usize).saturating_mul(self.width);
+        self.cells = TextRegion::with_capacity(alloc, fields.min(bytes), bytes)?;
+        Ok(())
+    }
+
+    fn take(&mut self, alloc: Global, row: &RowFields<'_>) -> Result<(), NoMemory> {
+        push_fields(&mut self.cells, row)?;
+        Ok(())
+    }
+}
 
 /// The needed columns of a file, which contracts see as the list of its rows, each with its id and its
 /// other fields. A row's position is its number from 0.
@@ -30,17 +85,17 @@ impl Model for Table {
 }
 
 impl Table {
-    // The table of these ids and cells.
-    pub(crate) fn new(ids: IdSet, width: usize, rows: u32, cells: TextRegion) -> Table
-        requires whole { length cells ≡ rows * width }
-        requires ids { AreIdsFor rows ids }
-        ensures { result ≡ table_rows rows width cells ids }
+    // The table of the rows with these ids, whose fields these are.
+    pub(crate) fn new(told: TableIds, cells: Cells) -> Table
+        requires whole { length cells.cells ≡ told.rows * cells.width }
+        requires ids { AreIdsFor told.rows told.ids }
+        ensures { result ≡ table_rows told.rows cells.width cells.cells told.ids }
     {
         Table {
-            ids,
-            width,
-            rows,
-            cells,
+            ids: told.ids,
+            width: cells.width,
+            rows: told.rows,
+            cells: cells.cells,
         }
     }
 

@@ -1,21 +1,31 @@
+use Rattle.std.proofs.Common.{◌∙◌, ap, sym, Ok}
 use Rattle.file_reader.specs.Left.{records_in}
 use Rattle.file_reader.specs.Layout.{wanted_of}
-use Rattle.file_reader.proofs.TextFacts.{answers_distinct, answers_ids, answers_texts}
-use Rattle.file_reader.proofs.WidthFacts.{answers_width}
+use Rattle.file_reader.specs.Table.{table_of}
+use Rattle.file_reader.specs.Takers.{IsTableFor}
+use Rattle.file_reader.proofs.TakerFacts.{table_kept, table_sound}
+use Rattle.file_reader.proofs.rows.read_table.Goals.{After-new}
 use Rattle.file_reader.proofs.rows.read_table.Goals as goal
 
-pub returns-clause-width : goal.returns-clause-width
-returns-clause-width c =
-    answers_width c.args.role (wanted_of c.args.layout.now) (records_in c.args.layout.now.delimiter c.args.bytes.now) c.read_records.result (rw c.new-left.ensures at c.read_records.ensures.answer)
+sound : (c : After-new) → IsTableFor (wanted_of c.args.layout.now) c.new.result
+sound c =
+    let records = records_in c.args.layout.now.delimiter c.args.bytes.now in
+    let wanted = wanted_of c.args.layout.now in
+    table_sound c.args.role wanted records c.new.result
+    (table_kept c.read_rows.new.taker.width c.in-Ok.told.rows c.read_rows.new.taker.cells c.in-Ok.told.ids (table_of c.args.role wanted records) c.in-Ok.ensures.answer
+    ∙ ap Ok (sym c.new.ensures))
 
-pub returns-clause-texts : goal.returns-clause-texts
-returns-clause-texts c =
-    answers_texts c.args.role (wanted_of c.args.layout.now) (records_in c.args.layout.now.delimiter c.args.bytes.now) c.read_records.result (rw c.new-left.ensures at c.read_records.ensures.answer)
+pub returns-in-Ok-clause-few : goal.returns-in-Ok-clause-few
+returns-in-Ok-clause-few c = (sound c).few
 
-pub returns-clause-ids : goal.returns-clause-ids
-returns-clause-ids c =
-    answers_ids c.args.role (wanted_of c.args.layout.now) (records_in c.args.layout.now.delimiter c.args.bytes.now) c.read_records.result (rw c.new-left.ensures at c.read_records.ensures.answer)
+pub returns-in-Ok-clause-width : goal.returns-in-Ok-clause-width
+returns-in-Ok-clause-width c = (sound c).width
 
-pub returns-clause-distinct : goal.returns-clause-distinct
-returns-clause-distinct c =
-    answers_distinct c.args.role (wanted_of c.args.layout.now) (records_in c.args.layout.now.delimiter c.args.bytes.now) c.read_records.result (rw c.new-left.ensures at c.read_records.ensures.answer)
+pub returns-in-Ok-clause-texts : goal.returns-in-Ok-clause-texts
+returns-in-Ok-clause-texts c = (sound c).texts
+
+pub returns-in-Ok-clause-ids : goal.returns-in-Ok-clause-ids
+returns-in-Ok-clause-ids c = (sound c).ids
+
+pub returns-in-Ok-clause-distinct : goal.returns-in-Ok-clause-distinct
+returns-in-Ok-clause-distinct c = (sound c).distinct

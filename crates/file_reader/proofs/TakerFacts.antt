@@ -1,0 +1,115 @@
+-- The rows of a table go to a taker.
+use Rattle.std.proofs.Common.{◌≡◌, ◌≤◌, ◌+◌, ◌*◌, ◌∷◌, ◌++◌, ◌∙◌, ℕ, Bool, true, false, cond, List, [], length, drop, Some, None, Result, Ok, refl, sym, subst, ap, arith, nat_lt, length-append}
+use Rattle.std.specs.List.{All}
+use Rattle.std.specs.Prelude.{◌==◌, not}
+use Rattle.std.proofs.lemmas.Bool.Decides.{nat_tests}
+use Rattle.std.proofs.lemmas.List.{drop-map, length-map}
+use Rattle.link_base.specs.declared.fault.Fault.{Fault}
+use Rattle.link_base.specs.declared.fault.Fault.TheVariants as fault
+use Rattle.link_base.specs.declared.fault.FileRole.{FileRole}
+use Rattle.file_reader.specs.Faults.{AreWhole}
+use Rattle.file_reader.specs.Layout.{cell, cells_of, field_columns, Heading, heading_under, Wanted}
+use Rattle.file_reader.specs.Rows.{rows_in, skipped, table_rows, TableRow, with_ids}
+use Rattle.file_reader.specs.Steps.{IsUnderway, TakesTableRow}
+use Rattle.file_reader.specs.Table.{fields_fault, IsFieldText, row_fault, rows_read, table_of, taken}
+use Rattle.file_reader.specs.Takers.{HasCells, IsKept, IsTableFor}
+use Rattle.file_reader.proofs.LeastFaulty.{table_is_whole}
+use Rattle.file_reader.proofs.ReadFacts.{known_short, read}
+use Rattle.file_reader.proofs.RowFacts.{fields_behind, ids_for, length_with, row_push, rows_push}
+use Rattle.file_reader.proofs.TextFacts.{table_facts, taken_text}
+use Rattle.file_reader.proofs.WidthFacts.{table_width}
+
+abbrev Records : Type 0
+Records = List (List (List ℕ))
+
+-- the fields of a record after its id
+pub behind : (heading : Heading) (row : List (List ℕ)) → drop (skipped heading.has_id) (cells_of heading.columns row) ≡ cells_of (field_columns heading) row
+behind heading row = drop-map (cell row) (skipped heading.has_id) heading.columns
+
+pub fields_texts : (heading : Heading) (number : ℕ) (ids row : List (List ℕ)) → row_fault heading number ids row ≡ None → All IsFieldText (cells_of (field_columns heading) row)
+fields_texts heading number ids row none =
+    let fields : (taken heading row).fields ≡ cells_of (field_columns heading) row = fields_behind heading.has_id (cells_of heading.columns row) ∙ behind heading row in
+    subst (λ (texts : List (List ℕ)). All IsFieldText texts) fields (taken_text heading number ids row none).fields
+
+pub fields_many : (heading : Heading) (row : List (List ℕ)) → length (cells_of (field_columns heading) row) ≡ length (field_columns heading)
+fields_many heading row = length-map (field_columns heading) (cell row)
+
+-- one row more goes to a taker
+pub underway_more : (x : Unit {0}) (keeps new : Records → Type 0) (heading : Heading) (count : ℕ) (ids ids2 : List (List ℕ)) (all left rest : Records) (row fields : List (List ℕ))
+    → IsUnderway keeps heading count ids all left → left ≡ row ∷ rest → count + 1 ≤ heading.most → fields ≡ cells_of (field_columns heading) row
+    → TakesTableRow {T = Unit {0}} (row_fault heading (count + 1) ids row) heading row ids ids2 (Ok x) → ((rows : Records) → keeps rows → new (rows ++ fields ∷ []))
+    → IsUnderway new heading (count + 1) ids2 all rest
+underway_more x keeps new heading count ids ids2 all left rest row fields u el few ef h more =
+    let table = with_ids u.rows ids in
+    let cells = cells_of heading.columns row in
+    let many : length table ≡ count = length_with u.rows ids ∙ u.as_many in
+    let is : with_ids (u.rows ++ fields ∷ []) ids2 ≡ table ++ taken heading row ∷ [] =
+    ap (λ (f : List (List ℕ)). with_ids (u.rows ++ f ∷ []) ids2) (ef ∙ sym (behind heading row)) ∙ row_push heading.has_id u.rows ids ids2 cells u.known h.1 in
+    let next = read x heading table (with_ids (u.rows ++ fields ∷ []) ids2) left rest all row (count + 1) ids ids2 u.told el (omega (arith, many)) u.known h is in
+    let one : length (u.rows ++ fields ∷ []) ≡ count + 1 = omega (arith, u.as_many, length-append u.rows (fields ∷ [])) in
+    record {
+      rows = u.rows ++ fields ∷ [];
+      kept = more u.rows u.kept;
+      as_many = one;
+      few = few;
+      short = omega (arith, ap length next.known, known_short heading.has_id (with_ids (u.rows ++ fields ∷ []) ids2), length_with (u.rows ++ fields ∷ []) ids2, one);
+      known = next.known;
+      told = next.told;
+    }
+
+-- none is left
+pub all_kept : (keeps : Records → Type 0) (heading : Heading) (count : ℕ) (ids : List (List ℕ)) (all left : Records) → IsUnderway keeps heading count ids all left → left ≡ []
+    → IsKept keeps (rows_read heading [] all) ids count
+all_kept keeps heading count ids all left u none =
+    record {
+      rows = u.rows;
+      kept = u.kept;
+      as_many = u.as_many;
+      ids_for = ids_for heading.has_id (with_ids u.rows ids) count ids (length_with u.rows ids ∙ u.as_many) u.known;
+      table = u.told ∙ ap (rows_read heading (with_ids u.rows ids)) none;
+    }
+
+-- one row more of cells side by side
+pub cells_more : (width : ℕ) (cells new row : List (List ℕ)) (rows : Records) → HasCells width cells rows → length row ≡ width → new ≡ cells ++ row → HasCells width new (rows ++ row ∷ [])
+cells_more width cells new row rows h many is =
+    let one : length (rows ++ row ∷ []) ≡ length rows + 1 = length-append rows (row ∷ []) in
+    record {
+      whole = ap length is ∙ length-append cells row ∙ omega (arith, h.whole, many, ap (λ (n : ℕ). n * width) one);
+      rows_of = ap (rows_in (length (rows ++ row ∷ [])) width) is ∙ rows_push (length rows) (length (rows ++ row ∷ [])) width cells row one h.whole many ∙ ap (λ (l : Records). l ++ row ∷ []) h.rows_of;
+    }
+
+-- the table of rows that are kept so
+pub table_kept : (width count : ℕ) (cells ids : List (List ℕ)) (expected : Result (List TableRow) Fault) → IsKept (HasCells width cells) expected ids count → expected ≡ Ok (table_rows count width cells ids)
+table_kept width count cells ids expected k =
+    k.table ∙ ap (λ (rows : Records). Ok (with_ids rows ids)) (sym k.kept.rows_of ∙ ap (λ (n : ℕ). rows_in n width cells) k.as_many)
+
+-- a table has no more rows than are wanted
+within_most : (heading : Heading) (number : ℕ) (ids row : List (List ℕ)) → row_fault heading number ids row ≡ None → number ≤ heading.most
+within_most heading number ids row none = by_test (nat_lt heading.most number) refl none
+  where
+    by_test : (b : Bool) → nat_lt heading.most number ≡ b
+        → cond b (Some (fault.TooManyRows heading.role heading.most)) (cond (not (length row == heading.width)) (Some (fault.Ragged heading.role number)) (fields_fault heading number ids row)) ≡ None → number ≤ heading.most
+    by_test true e h = cc h
+    by_test false e h = grind (arith, nat_tests, e)
+
+whole_few : (heading : Heading) (rows : Records) (table : List TableRow) → AreWhole heading rows table → length table ≤ heading.most
+whole_few heading [] table h = omega (arith, ap length h.all)
+whole_few heading (row ∷ rows) table h =
+    let last = within_most heading (length rows + 1) _ _ (h.sound (length rows) (omega arith)) in
+    omega (arith, ap length h.all, length-map rows (taken heading), last)
+
+few_of : (role : FileRole) (wanted : Wanted) (records : Records) (table : List TableRow) → table_of role wanted records ≡ Ok table → length table ≤ wanted.most
+few_of role wanted [] table e = cc e
+few_of role wanted (header ∷ rows) table e = whole_few (heading_under role wanted header) rows table (table_is_whole role wanted (header ∷ rows) table e).1
+
+-- what holds of each table
+pub table_sound : (role : FileRole) (wanted : Wanted) (records : Records) (table : List TableRow) → table_of role wanted records ≡ Ok table → IsTableFor wanted table
+table_sound role wanted records table e =
+    let facts = table_facts role wanted records table e in
+    record {
+      few = few_of role wanted records table e;
+      width = table_width role wanted records table e;
+      texts = facts.0;
+      ids = facts.1;
+      distinct = facts.2;
+    }

@@ -1,0 +1,40 @@
+-- What takes the rows of a table one by one as they are read (`RowTaker`), and a table whose rows went to it (`read_rows`,
+-- clause `answer`).
+use Rattle.std.specs.Prelude.{◌≡◌, ◌≤◌, ◌<◌, ◌*◌, ℕ, List, length, Result, Ok, Err}
+use Rattle.link_base.specs.Fault.{Refuses}
+use Rattle.link_base.specs.declared.fault.Fault.{Fault}
+use Rattle.file_reader.specs.Layout.{Wanted}
+use Rattle.file_reader.specs.Rows.{AreIdsFor, rows_in, TableRow, with_ids}
+use Rattle.file_reader.specs.Table.{HasDistinctIds, HasTexts, HasWantedIds, HasWidth}
+use Rattle.file_reader.specs.declared.taker.TableIds.{TableIds}
+
+-- fewer rows than so many are kept
+abbrev pub HasRoom : (List (List (List ℕ)) → Type 0) → ℕ → Type 0
+HasRoom keeps most = (rows : List (List (List ℕ))) × keeps rows × (length rows < most)
+
+-- rows are kept, as many as are told, and with the ids that are told they are the table
+pub record IsKept (keeps : List (List (List ℕ)) → Type 0) (expected : Result (List TableRow) Fault) (ids : List (List ℕ)) (count : ℕ) : Type 0 where
+  pub rows : List (List (List ℕ))
+  pub kept : keeps rows
+  pub as_many : length rows ≡ count
+  pub ids_for : AreIdsFor count ids
+  pub table : expected ≡ Ok (with_ids rows ids)
+
+-- the table that is defined is kept, or its fault is told, but for want of memory
+abbrev pub ReadsInto : (List (List (List ℕ)) → Type 0) → Result (List TableRow) Fault → Result TableIds Fault → Type 0
+ReadsInto keeps expected (Ok told) = IsKept keeps expected told.ids told.rows
+ReadsInto keeps expected (Err f) = Refuses expected f
+
+-- what holds of each table that is read: as many texts in each row as columns are wanted, and where an id is wanted,
+-- one for each row, and no two the same
+pub record IsTableFor (wanted : Wanted) (table : List TableRow) : Type 0 where
+  pub few : length table ≤ wanted.most
+  pub width : HasWidth wanted table
+  pub texts : HasTexts table
+  pub ids : HasWantedIds wanted table
+  pub distinct : HasDistinctIds wanted table
+
+-- machinery of the reader: rows of so many cells each are kept side by side
+pub record HasCells (width : ℕ) (cells : List (List ℕ)) (rows : List (List (List ℕ))) : Type 0 where
+  pub whole : length cells ≡ length rows * width
+  pub rows_of : rows_in (length rows) width cells ≡ rows

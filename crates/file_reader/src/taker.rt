@@ -1,0 +1,89 @@
+// What takes the rows of a table.
+ghost use Rattle.std.specs.Prelude.{◌≡◌, ◌<◌, ◌++◌, ◌∷◌, [], ℕ, All, List, length, OnOk, slice_index_or};
+ghost use Rattle.csv.specs.Records.{fields_of};
+ghost use Rattle.file_reader.specs.Layout.{cells_of};
+ghost use Rattle.file_reader.specs.Table.{IsFieldText};
+ghost use Rattle.file_reader.specs.Takers.{HasRoom};
+
+use crate::fields::field_of;
+use crate::layout::Column;
+use csv::ByteRecord;
+use link_base::{IdSet, NoMemory};
+use std::alloc::Global;
+use std::marker::Model;
+
+/// The ids of the rows of a file, or none where the file has no ids, and the number of its rows.
+#[derive(Drop)]
+pub struct TableIds {
+    pub ids: IdSet,
+    pub rows: u32,
+}
+
+/// The needed fields of a row after its id, where they stand, which contracts see as the list of them.
+#[derive(Drop)]
+pub struct RowFields<'a> {
+    columns: &'a [Column],
+    record: &'a ByteRecord,
+}
+
+impl<'a> Model for RowFields<'a> {
+    ghost use Rattle.std.specs.Prelude.{ℕ, List};
+    ghost use Rattle.csv.specs.Records.{fields_of};
+    ghost use Rattle.file_reader.specs.Layout.{cells_of};
+
+    ghost Value = { List (List ℕ) };
+
+    ghost view = { λ r. cells_of r.columns.now (fields_of r.record.now) };
+}
+
+impl<'a> RowFields<'a> {
+    // The fields of a record in these columns.
+    pub(crate) fn of(columns: &'a [Column], record: &'a ByteRecord) -> RowFields<'a>
+        ensures { result ≡ cells_of columns.now (fields_of record.now) }
+    {
+        RowFields { columns, record }
+    }
+
+    /// The number of fields.
+    pub fn len(&self) -> usize
+        ensures { result ≡ length self.now }
+    {
+        self.columns.len()
+    }
+
+    /// The field at a place, from 0.
+    pub fn field(&self, at: usize) -> &'a [u8]
+        requires { at < length self.now }
+        ensures { result.now ≡ slice_index_or self.now at [] }
+    {
+        field_of(self.record, self.columns[at].place)
+    }
+}
+
+/// What takes the rows of a table one by one, as they are read, each as the list of its fields.
+pub trait RowTaker {
+    /// How many fields each row has.
+    ghost width: { Self → ℕ };
+
+    /// How many rows it can take.
+    ghost most: { Self → ℕ };
+
+    /// Whether it keeps what these rows give, in order, and nothing else.
+    ghost keeps: { Self → List (List (List ℕ)) → Type 0 };
+
+    /// Makes room for about so many rows from a text of so many bytes, before it takes the first.
+    fn make_room(&mut self, alloc: Global, rows: u32, bytes: usize) -> Result<(), NoMemory>
+        requires none { keeps self.old [] }
+        ensures same_width { width self.new ≡ width self.old }
+        ensures same_most { most self.new ≡ most self.old }
+        ensures none { OnOk result (keeps self.new []) };
+
+    /// Takes the next row.
+    fn take(&mut self, alloc: Global, row: &RowFields<'_>) -> Result<(), NoMemory>
+        requires room { HasRoom (keeps self.old) (most self.old) }
+        requires fields { length row.now ≡ width self.old }
+        requires texts { All IsFieldText row.now }
+        ensures same_width { width self.new ≡ width self.old }
+        ensures same_most { most self.new ≡ most self.old }
+        ensures kept { OnOk result ((rows : List (List (List ℕ))) → keeps self.old rows → keeps self.new (rows ++ row.now ∷ [])) };
+}
