@@ -12,7 +12,7 @@ use Rattle.file_reader.specs.Layout.{cell, cells_of, field_columns, Heading, hea
 use Rattle.file_reader.specs.Rows.{rows_in, skipped, table_rows, TableRow, with_ids}
 use Rattle.file_reader.specs.Steps.{IsUnderway, TakesTableRow}
 use Rattle.file_reader.specs.Table.{fields_fault, IsFieldText, row_fault, rows_read, table_of, taken}
-use Rattle.file_reader.specs.Takers.{HasCells, IsKept, IsTableFor}
+use Rattle.file_reader.specs.Takers.{HasCells, IsTaken, IsTableFor}
 use Rattle.file_reader.proofs.LeastFaulty.{table_is_whole}
 use Rattle.file_reader.proofs.ReadFacts.{known_short, read}
 use Rattle.file_reader.proofs.RowFacts.{fields_behind, ids_for, length_with, row_push, rows_push}
@@ -35,11 +35,11 @@ pub fields_many : (heading : Heading) (row : List (List ℕ)) → length (cells_
 fields_many heading row = length-map (field_columns heading) (cell row)
 
 -- one row more goes to a taker
-pub underway_more : (x : Unit {0}) (keeps new : Records → Type 0) (heading : Heading) (count : ℕ) (ids ids2 : List (List ℕ)) (all left rest : Records) (row fields : List (List ℕ))
-    → IsUnderway keeps heading count ids all left → left ≡ row ∷ rest → count + 1 ≤ heading.most → fields ≡ cells_of (field_columns heading) row
-    → TakesTableRow {T = Unit {0}} (row_fault heading (count + 1) ids row) heading row ids ids2 (Ok x) → ((rows : Records) → keeps rows → new (rows ++ fields ∷ []))
+pub underway_more : (x : Unit {0}) (took new : Records → Type 0) (heading : Heading) (count : ℕ) (ids ids2 : List (List ℕ)) (all left rest : Records) (row fields : List (List ℕ))
+    → IsUnderway took heading count ids all left → left ≡ row ∷ rest → count + 1 ≤ heading.most → fields ≡ cells_of (field_columns heading) row
+    → TakesTableRow {T = Unit {0}} (row_fault heading (count + 1) ids row) heading row ids ids2 (Ok x) → ((rows : Records) → took rows → new (rows ++ fields ∷ []))
     → IsUnderway new heading (count + 1) ids2 all rest
-underway_more x keeps new heading count ids ids2 all left rest row fields u el few ef h more =
+underway_more x took new heading count ids ids2 all left rest row fields u el few ef h more =
     let table = with_ids u.rows ids in
     let cells = cells_of heading.columns row in
     let many : length table ≡ count = length_with u.rows ids ∙ u.as_many in
@@ -49,7 +49,7 @@ underway_more x keeps new heading count ids ids2 all left rest row fields u el f
     let one : length (u.rows ++ fields ∷ []) ≡ count + 1 = omega (arith, u.as_many, length-append u.rows (fields ∷ [])) in
     record {
       rows = u.rows ++ fields ∷ [];
-      kept = more u.rows u.kept;
+      taken = more u.rows u.taken;
       as_many = one;
       few = few;
       short = omega (arith, ap length next.known, known_short heading.has_id (with_ids (u.rows ++ fields ∷ []) ids2), length_with (u.rows ++ fields ∷ []) ids2, one);
@@ -58,12 +58,12 @@ underway_more x keeps new heading count ids ids2 all left rest row fields u el f
     }
 
 -- none is left
-pub all_kept : (keeps : Records → Type 0) (heading : Heading) (count : ℕ) (ids : List (List ℕ)) (all left : Records) → IsUnderway keeps heading count ids all left → left ≡ []
-    → IsKept keeps (rows_read heading [] all) ids count
-all_kept keeps heading count ids all left u none =
+pub all_taken : (took : Records → Type 0) (heading : Heading) (count : ℕ) (ids : List (List ℕ)) (all left : Records) → IsUnderway took heading count ids all left → left ≡ []
+    → IsTaken took (rows_read heading [] all) ids count
+all_taken took heading count ids all left u none =
     record {
       rows = u.rows;
-      kept = u.kept;
+      taken = u.taken;
       as_many = u.as_many;
       ids_for = ids_for heading.has_id (with_ids u.rows ids) count ids (length_with u.rows ids ∙ u.as_many) u.known;
       table = u.told ∙ ap (rows_read heading (with_ids u.rows ids)) none;
@@ -79,9 +79,9 @@ cells_more width cells new row rows h many is =
     }
 
 -- the table of rows that are kept so
-pub table_kept : (width count : ℕ) (cells ids : List (List ℕ)) (expected : Result (List TableRow) Fault) → IsKept (HasCells width cells) expected ids count → expected ≡ Ok (table_rows count width cells ids)
-table_kept width count cells ids expected k =
-    k.table ∙ ap (λ (rows : Records). Ok (with_ids rows ids)) (sym k.kept.rows_of ∙ ap (λ (n : ℕ). rows_in n width cells) k.as_many)
+pub table_taken : (width count : ℕ) (cells ids : List (List ℕ)) (expected : Result (List TableRow) Fault) → IsTaken (HasCells width cells) expected ids count → expected ≡ Ok (table_rows count width cells ids)
+table_taken width count cells ids expected k =
+    k.table ∙ ap (λ (rows : Records). Ok (with_ids rows ids)) (sym k.taken.rows_of ∙ ap (λ (n : ℕ). rows_in n width cells) k.as_many)
 
 -- a table has no more rows than are wanted
 within_most : (heading : Heading) (number : ℕ) (ids row : List (List ℕ)) → row_fault heading number ids row ≡ None → number ≤ heading.most

@@ -7,7 +7,7 @@ use Rattle.link_base.specs.declared.fault.Fault.TheVariants as fault
 use Rattle.file_reader.specs.Layout.{Heading}
 use Rattle.file_reader.specs.Rows.{known_ids, TableRow, with_ids}
 use Rattle.file_reader.specs.Table.{rows_read, taken}
-use Rattle.file_reader.specs.Takers.{IsKept}
+use Rattle.file_reader.specs.Takers.{IsTaken}
 
 -- the ids after a row's
 abbrev pub ids_after : Bool → List (List ℕ) → List ℕ → List (List ℕ)
@@ -25,15 +25,15 @@ TakesTableRow expected heading row old new (Ok x) = (expected ≡ None) × (new 
 TakesTableRow expected heading row old new (Err fault.NoMemory) = ⊤
 TakesTableRow expected heading row old new (Err f) = expected ≡ Some f
 
--- the rows of a table are kept beside these ids and counted, or its fault is told
+-- the rows of a table were taken beside these ids and counted, or its fault is told
 abbrev pub FillsRows : (List (List (List ℕ)) → Type 0) → Result (List TableRow) Fault → List (List ℕ) → Result ℕ Fault → Type 0
-FillsRows keeps expected ids (Ok count) = IsKept keeps expected ids count
-FillsRows keeps expected ids (Err f) = Refuses expected f
+FillsRows took expected ids (Ok count) = IsTaken took expected ids count
+FillsRows took expected ids (Err f) = Refuses expected f
 
--- the rows that were read are kept, so many beside these ids, and those that are left come after them
-pub record IsUnderway (keeps : List (List (List ℕ)) → Type 0) (heading : Heading) (count : ℕ) (ids : List (List ℕ)) (all left : List (List (List ℕ))) : Type 0 where
+-- the rows that were read were taken, so many beside these ids, and those that are left come after them
+pub record IsUnderway (took : List (List (List ℕ)) → Type 0) (heading : Heading) (count : ℕ) (ids : List (List ℕ)) (all left : List (List (List ℕ))) : Type 0 where
   pub rows : List (List (List ℕ))
-  pub kept : keeps rows
+  pub taken : took rows
   pub as_many : length rows ≡ count
   pub few : count ≤ heading.most
   pub short : length ids ≤ count

@@ -8,22 +8,22 @@ use Rattle.file_reader.specs.Rows.{AreIdsFor, rows_in, TableRow, with_ids}
 use Rattle.file_reader.specs.Table.{HasDistinctIds, HasTexts, HasWantedIds, HasWidth}
 use Rattle.file_reader.specs.declared.taker.TableIds.{TableIds}
 
--- fewer rows than so many are kept
+-- fewer rows than so many were taken
 abbrev pub HasRoom : (List (List (List ℕ)) → Type 0) → ℕ → Type 0
-HasRoom keeps most = (rows : List (List (List ℕ))) × keeps rows × (length rows < most)
+HasRoom took most = (rows : List (List (List ℕ))) × took rows × (length rows < most)
 
--- rows are kept, as many as are told, and with the ids that are told they are the table
-pub record IsKept (keeps : List (List (List ℕ)) → Type 0) (expected : Result (List TableRow) Fault) (ids : List (List ℕ)) (count : ℕ) : Type 0 where
+-- rows were taken, as many as are told, and with the ids that are told they are the table
+pub record IsTaken (took : List (List (List ℕ)) → Type 0) (expected : Result (List TableRow) Fault) (ids : List (List ℕ)) (count : ℕ) : Type 0 where
   pub rows : List (List (List ℕ))
-  pub kept : keeps rows
+  pub taken : took rows
   pub as_many : length rows ≡ count
   pub ids_for : AreIdsFor count ids
   pub table : expected ≡ Ok (with_ids rows ids)
 
--- the table that is defined is kept, or its fault is told, but for want of memory
+-- the rows of the table that is defined were taken, or its fault is told, but for want of memory
 abbrev pub ReadsInto : (List (List (List ℕ)) → Type 0) → Result (List TableRow) Fault → Result TableIds Fault → Type 0
-ReadsInto keeps expected (Ok told) = IsKept keeps expected told.ids told.rows
-ReadsInto keeps expected (Err f) = Refuses expected f
+ReadsInto took expected (Ok told) = IsTaken took expected told.ids told.rows
+ReadsInto took expected (Err f) = Refuses expected f
 
 -- what holds of each table that is read: as many texts in each row as columns are wanted, and where an id is wanted,
 -- one for each row, and no two the same

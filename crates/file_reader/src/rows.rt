@@ -172,12 +172,13 @@ fn columns_after_id(head: &Head) -> &[Column]
     }
 }
 
-// Hands the rows that are left to a taker, and tells how many they are.
+// Hands the rows that are left to a taker, for which room is made, and tells how many they are.
 fn fill_rows<T: RowTaker>(
     alloc: Global,
     left: &mut Records<'_>,
     row: &mut ByteRecord,
     head: &Head,
+    room: Room,
     ids: &mut IdSet,
     taker: &mut T,
 ) -> Result<u32, Fault>
@@ -185,11 +186,12 @@ fn fill_rows<T: RowTaker>(
     requires no_ids { ids.old ≡ [] }
     requires width { T.width taker.old ≡ length (field_columns (heading_of head.now)) }
     requires most { head.now.most_rows ≤ T.most taker.old }
-    requires no_rows { T.keeps taker.old [] }
+    requires none { T.took taker.old [] taker.old }
     ensures kind { IfErr result IsInputFault }
     ensures few { IfOk result (λ rows. rows ≤ head.now.most_rows) }
-    ensures answer { FillsRows (T.keeps taker.new) (rows_read (heading_of head.now) [] left.old) ids.new result }
+    ensures answer { FillsRows (λ rows. T.took taker.old rows taker.new) (rows_read (heading_of head.now) [] left.old) ids.new result }
 {
+    taker.make_room(alloc, room.rows, room.bytes)?;
     let columns = columns_after_id(head);
     let mut rows: u32 = 0;
     'rows: while left.next(row)? {
@@ -208,7 +210,7 @@ fn fill_rows<T: RowTaker>(
     Ok(rows)
 }
 
-// Hands the rows that are left to a taker, for which room is made.
+// Hands the rows that are left to a taker, and gives their ids.
 fn read_left<T: RowTaker>(
     alloc: Global,
     left: &mut Records<'_>,
@@ -220,14 +222,13 @@ fn read_left<T: RowTaker>(
     requires id { IsTrue head.now.has_id → 1 ≤ length head.now.columns.items }
     requires width { T.width taker.old ≡ length (field_columns (heading_of head.now)) }
     requires most { head.now.most_rows ≤ T.most taker.old }
-    requires no_rows { T.keeps taker.old [] }
+    requires none { T.took taker.old [] taker.old }
     ensures kind { IfErr result IsInputFault }
     ensures few { IfOk result (λ told. told.rows ≤ head.now.most_rows) }
-    ensures answer { ReadsInto (T.keeps taker.new) (rows_read (heading_of head.now) [] left.old) result }
+    ensures answer { ReadsInto (λ rows. T.took taker.old rows taker.new) (rows_read (heading_of head.now) [] left.old) result }
 {
     let mut ids = room.for_ids(alloc, head)?;
-    taker.make_room(alloc, room.rows, room.bytes)?;
-    match fill_rows(alloc, left, row, head, &mut ids, taker) {
+    match fill_rows(alloc, left, row, head, room, &mut ids, taker) {
         Ok(rows) => Ok(TableIds { ids, rows }),
         Err(fault) => Err(fault),
     }
@@ -272,10 +273,10 @@ fn read_under<T: RowTaker>(
 ) -> Result<TableIds, Fault>
     requires width { T.width taker.old ≡ length layout.now.columns.items }
     requires most { layout.now.most_rows ≤ T.most taker.old }
-    requires no_rows { T.keeps taker.old [] }
+    requires none { T.took taker.old [] taker.old }
     ensures kind { IfErr result IsInputFault }
     ensures few { IfOk result (λ told. told.rows ≤ layout.now.most_rows) }
-    ensures answer { ReadsInto (T.keeps taker.new) (under_header role (wanted_of layout.now) (fields_of row.old) left.old) result }
+    ensures answer { ReadsInto (λ rows. T.took taker.old rows taker.new) (under_header role (wanted_of layout.now) (fields_of row.old) left.old) result }
 {
     let names = needed_names(alloc, layout)?;
     match head_of(alloc, role, layout, &names, row) {
@@ -296,10 +297,10 @@ fn read_records<T: RowTaker>(
 ) -> Result<TableIds, Fault>
     requires width { T.width taker.old ≡ length layout.now.columns.items }
     requires most { layout.now.most_rows ≤ T.most taker.old }
-    requires no_rows { T.keeps taker.old [] }
+    requires none { T.took taker.old [] taker.old }
     ensures kind { IfErr result IsInputFault }
     ensures few { IfOk result (λ told. told.rows ≤ layout.now.most_rows) }
-    ensures answer { ReadsInto (T.keeps taker.new) (table_of role (wanted_of layout.now) left.old) result }
+    ensures answer { ReadsInto (λ rows. T.took taker.old rows taker.new) (table_of role (wanted_of layout.now) left.old) result }
 {
     match left.next(row) {
         Ok(true) => read_under(alloc, left, row, role, layout, room, taker),
@@ -320,10 +321,10 @@ pub fn read_rows<T: RowTaker>(
 ) -> Result<TableIds, Fault>
     requires width { T.width taker.old ≡ length layout.now.columns.items }
     requires most { layout.now.most_rows ≤ T.most taker.old }
-    requires no_rows { T.keeps taker.old [] }
+    requires none { T.took taker.old [] taker.old }
     ensures kind { IfErr result IsInputFault }
     ensures few { IfOk result (λ told. told.rows ≤ layout.now.most_rows) }
-    ensures answer { ReadsInto (T.keeps taker.new) (table_of role (wanted_of layout.now) (records_in layout.now.delimiter bytes.now)) result }
+    ensures answer { ReadsInto (λ rows. T.took taker.old rows taker.new) (table_of role (wanted_of layout.now) (records_in layout.now.delimiter bytes.now)) result }
 {
     let mut left = Records::new(alloc, bytes, layout.delimiter);
     let mut row = ByteRecord::new(alloc);

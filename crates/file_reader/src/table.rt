@@ -46,7 +46,7 @@ impl RowTaker for Cells {
 
     ghost most = { λ c. c.most };
 
-    ghost keeps = { λ c rows. HasCells c.width c.cells rows };
+    ghost took = { λ before rows c. HasCells c.width c.cells rows };
 
     fn make_room(&mut self, alloc: Global, rows: u32, bytes: usize) -> Result<(), NoMemory> {
         let fields = (rows as usize).saturating_mul(self.width);

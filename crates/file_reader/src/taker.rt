@@ -68,22 +68,21 @@ pub trait RowTaker {
     /// How many rows it can take.
     ghost most: { Self → ℕ };
 
-    /// Whether it keeps what these rows give, in order, and nothing else.
-    ghost keeps: { Self → List (List (List ℕ)) → Type 0 };
+    /// How it stood before it took these rows, in order, and stands after them.
+    ghost took: { Self → List (List (List ℕ)) → Self → Type 0 };
 
     /// Makes room for about so many rows from a text of so many bytes, before it takes the first.
     fn make_room(&mut self, alloc: Global, rows: u32, bytes: usize) -> Result<(), NoMemory>
-        requires none { keeps self.old [] }
         ensures same_width { width self.new ≡ width self.old }
         ensures same_most { most self.new ≡ most self.old }
-        ensures none { OnOk result (keeps self.new []) };
+        ensures none { OnOk result ((before : Self) → took before [] self.old → took before [] self.new) };
 
     /// Takes the next row.
     fn take(&mut self, alloc: Global, row: &RowFields<'_>) -> Result<(), NoMemory>
-        requires room { HasRoom (keeps self.old) (most self.old) }
+        requires room { (before : Self) × HasRoom (λ rows. took before rows self.old) (most self.old) }
         requires fields { length row.now ≡ width self.old }
         requires texts { All IsFieldText row.now }
         ensures same_width { width self.new ≡ width self.old }
         ensures same_most { most self.new ≡ most self.old }
-        ensures kept { OnOk result ((rows : List (List (List ℕ))) → keeps self.old rows → keeps self.new (rows ++ row.now ∷ [])) };
+        ensures one_more { OnOk result ((before : Self) (rows : List (List (List ℕ))) → took before rows self.old → took before (rows ++ row.now ∷ []) self.new) };
 }

@@ -6,7 +6,7 @@ use Rattle.file_reader.specs.Rows.{with_ids}
 use Rattle.file_reader.specs.Table.{IsFieldText}
 use Rattle.file_reader.proofs.ReadFacts.{one_too_many, refuses}
 use Rattle.file_reader.proofs.RowFacts.{length_with}
-use Rattle.file_reader.proofs.TakerFacts.{all_kept, fields_texts, underway_more}
+use Rattle.file_reader.proofs.TakerFacts.{all_taken, fields_texts, underway_more}
 use Rattle.file_reader.proofs.rows.fill_rows.Goals as goal
 
 pub returns-then-rows-head-clause-answer : goal.returns-then-rows-head-clause-answer
@@ -28,8 +28,8 @@ rows-preserved g c =
     record {
       width = c.take.ensures.same_width ∙ c.rows.invariant.width;
       most = omega (arith, c.take.ensures.same_most, c.rows.invariant.most);
-      underway = underway_more c.in-Ok.field-0 (g.T.RowTaker.keeps c.rows.taker) (g.T.RowTaker.keeps c.take.new.self) (heading_of c.args.head.now) c.rows.rows c.rows.ids c.take_row.new.ids c.args.left.now c.rows.left c.next.new.self (fields_of c.next.new.row) c.of.result
-          c.rows.invariant.underway took (omega (arith, c.if-rows-head.false)) fields c.in-Ok.ensures.fault c.in_ok-take-in-Ok.ensures.kept;
+      underway = underway_more c.in-Ok.field-0 (λ rows. g.T.RowTaker.took c.args.taker.now rows c.rows.taker) (λ rows. g.T.RowTaker.took c.args.taker.now rows c.take.new.self) (heading_of c.args.head.now) c.rows.rows c.rows.ids c.take_row.new.ids c.args.left.now c.rows.left c.next.new.self (fields_of c.next.new.row) c.of.result
+          c.rows.invariant.underway took (omega (arith, c.if-rows-head.false)) fields c.in-Ok.ensures.fault (c.in_ok-take-in-Ok.ensures.one_more c.args.taker.now);
     }
 
 pub returns-in-Err-clause-answer : goal.returns-in-Err-clause-answer
@@ -41,4 +41,4 @@ returns-in-Err-clause-answer g c =
 pub returns-clause-answer : goal.returns-clause-answer
 returns-clause-answer g c =
     let none : c.rows.left ≡ [] = search rules in
-    all_kept (g.T.RowTaker.keeps c.rows.taker) (heading_of c.args.head.now) c.rows.rows c.rows.ids c.args.left.now c.rows.left c.rows.invariant.underway none
+    all_taken (λ rows. g.T.RowTaker.took c.args.taker.now rows c.rows.taker) (heading_of c.args.head.now) c.rows.rows c.rows.ids c.args.left.now c.rows.left c.rows.invariant.underway none

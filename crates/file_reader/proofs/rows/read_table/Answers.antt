@@ -3,7 +3,7 @@ use Rattle.file_reader.specs.Left.{records_in}
 use Rattle.file_reader.specs.Layout.{wanted_of}
 use Rattle.file_reader.specs.Table.{table_of}
 use Rattle.file_reader.specs.Takers.{IsTableFor}
-use Rattle.file_reader.proofs.TakerFacts.{table_kept, table_sound}
+use Rattle.file_reader.proofs.TakerFacts.{table_taken, table_sound}
 use Rattle.file_reader.proofs.rows.read_table.Goals.{After-new}
 use Rattle.file_reader.proofs.rows.read_table.Goals as goal
 
@@ -12,7 +12,7 @@ sound c =
     let records = records_in c.args.layout.now.delimiter c.args.bytes.now in
     let wanted = wanted_of c.args.layout.now in
     table_sound c.args.role wanted records c.new.result
-    (table_kept c.read_rows.new.taker.width c.in-Ok.told.rows c.read_rows.new.taker.cells c.in-Ok.told.ids (table_of c.args.role wanted records) c.in-Ok.ensures.answer
+    (table_taken c.read_rows.new.taker.width c.in-Ok.told.rows c.read_rows.new.taker.cells c.in-Ok.told.ids (table_of c.args.role wanted records) c.in-Ok.ensures.answer
     ∙ ap Ok (sym c.new.ensures))
 
 pub returns-in-Ok-clause-few : goal.returns-in-Ok-clause-few
