@@ -1,12 +1,12 @@
 -- Each record has a value for each field of the plan.
-use Rattle.std.proofs.Common.{◌≡◌, ◌∷◌, Bool, true, false, cond, ℕ, List, [], length, map, Option, Some, None, Ok, arith}
+use Rattle.std.proofs.Common.{◌≡◌, ◌∷◌, Bool, true, false, cond, ℕ, List, [], length, map, arith}
 use Rattle.std.specs.List.{All}
 use Rattle.std.specs.Str.{trim}
 use Rattle.std.proofs.lemmas.List.{length-map}
 use Rattle.std.proofs.lemmas.List.Elements.{All-cons, All-head, All-nil, All-tail}
 use Rattle.link_base.specs.Standard.{HaveDistinctIds, IsValid, Record}
-use Rattle.link_base.specs.declared.fault.Fault.{Fault}
 use Rattle.link_base.specs.declared.fault.FileRole.{FileRole}
+use Rattle.link_base.specs.declared.fault.FileRole.TheVariants as role
 use Rattle.link_base.specs.declared.plan.DateForm.{DateForm}
 use Rattle.link_base.specs.declared.plan.FieldSort.{FieldSort}
 use Rattle.link_base.specs.declared.plan.FieldSort.TheVariants as sort
@@ -14,11 +14,11 @@ use Rattle.link_base.specs.declared.standard.Value.TheVariants as value
 use Rattle.link_base.specs.declared.tables.Tables.{Tables}
 use Rattle.link_base.specs.declared.tables.WordPair.{WordPair}
 use Rattle.file_reader.specs.Rows.{TableRow}
-use Rattle.file_reader.specs.Table.{unless_fault}
+use Rattle.file_reader.specs.Takers.{IsTableFor}
 use Rattle.settings.specs.Plan.{FieldKeys}
 use Rattle.settings.specs.declared.plan.Plan.{Plan}
-use Rattle.standard_files.specs.Files.{AreOfPlan, dates_fault, IsReadTable, standard_file, StandardFile}
-use Rattle.standard_files.specs.Values.{AreOfSorts, IsOfSort, sort_in_a, sort_in_b, standard_record, standard_records, standard_value, standard_values, unreadable_in, value_of_read}
+use Rattle.standard_files.specs.Files.{AreOfPlan, field_column, sorts_in, wanted_in}
+use Rattle.standard_files.specs.Values.{AreOfSorts, IsOfSort, sort_in, sort_in_a, sort_in_b, standard_record, standard_records, standard_value, standard_values, value_of_read}
 use Rattle.standard_files.specs.declared.sorts.TextSort.{TextSort}
 use Rattle.standardise.specs.DateReads.{date_read}
 use Rattle.standardise.specs.Names.{word_or_absent, words_of_text}
@@ -57,42 +57,42 @@ b_keeps sort.Name t x h = name_of_sort (stands_among t.missing (trim x)) t.names
 b_keeps sort.Place t x h = place_of_sort (stands_among t.missing (trim x)) t.places (words_of_text (trim x)) h
 b_keeps (sort.Date a b) t x h = date_of_sort a b (date_read b t.missing x) h
 
-abbrev sorts_in : (FieldSort → TextSort) → List FieldKeys → List TextSort
-sorts_in sort_in fields = map (λ (f : FieldKeys). sort_in f.sort) fields
+abbrev sorts_by : (FieldSort → TextSort) → List FieldKeys → List TextSort
+sorts_by sort_in fields = map (λ (f : FieldKeys). sort_in f.sort) fields
 
 values_of_sorts : (sort_in : FieldSort → TextSort) → Keeps sort_in → (t : Tables) (fields : List FieldKeys) (xs : List (List ℕ)) → length xs ≡ length fields
-    → All IsValid (standard_values t (sorts_in sort_in fields) xs) → AreOfSorts (map (λ (f : FieldKeys). f.sort) fields) (standard_values t (sorts_in sort_in fields) xs)
+    → All IsValid (standard_values t (sorts_by sort_in fields) xs) → AreOfSorts (map (λ (f : FieldKeys). f.sort) fields) (standard_values t (sorts_by sort_in fields) xs)
 values_of_sorts sort_in keeps t [] xs e h = tt
 values_of_sorts sort_in keeps t (f ∷ fields) [] e h = absurd (omega (arith, e))
 values_of_sorts sort_in keeps t (f ∷ fields) (x ∷ xs) e h = (
-  keeps f.sort t x (All-head IsValid (standard_value t (sort_in f.sort) x) (standard_values t (sorts_in sort_in fields) xs) h),
-  values_of_sorts sort_in keeps t fields xs (omega (arith, e)) (All-tail IsValid (standard_value t (sort_in f.sort) x) (standard_values t (sorts_in sort_in fields) xs) h),
+  keeps f.sort t x (All-head IsValid (standard_value t (sort_in f.sort) x) (standard_values t (sorts_by sort_in fields) xs) h),
+  values_of_sorts sort_in keeps t fields xs (omega (arith, e)) (All-tail IsValid (standard_value t (sort_in f.sort) x) (standard_values t (sorts_by sort_in fields) xs) h),
 )
 
 abbrev HasValid : Record → Type 0
 HasValid r = All IsValid r.row
 
 rows_of_sorts : (sort_in : FieldSort → TextSort) → Keeps sort_in → (t : Tables) (fields : List FieldKeys) (table : List TableRow) → All (λ (r : TableRow). length r.fields ≡ length fields) table
-    → All HasValid (standard_records t (sorts_in sort_in fields) table) → All (λ (r : Record). AreOfSorts (map (λ (f : FieldKeys). f.sort) fields) r.row) (standard_records t (sorts_in sort_in fields) table)
+    → All HasValid (standard_records t (sorts_by sort_in fields) table) → All (λ (r : Record). AreOfSorts (map (λ (f : FieldKeys). f.sort) fields) r.row) (standard_records t (sorts_by sort_in fields) table)
 rows_of_sorts sort_in keeps t fields [] width valid = All-nil (λ (r : Record). AreOfSorts (map (λ (f : FieldKeys). f.sort) fields) r.row)
 rows_of_sorts sort_in keeps t fields (r ∷ table) width valid =
-    let sorts = sorts_in sort_in fields in
+    let sorts = sorts_by sort_in fields in
     All-cons (λ (r : Record). AreOfSorts (map (λ (f : FieldKeys). f.sort) fields) r.row) (standard_record t sorts r) (standard_records t sorts table)
     (values_of_sorts sort_in keeps t fields r.fields (All-head (λ (r : TableRow). length r.fields ≡ length fields) r table width) (All-head HasValid (standard_record t sorts r) (standard_records t sorts table) valid))
     (rows_of_sorts sort_in keeps t fields table (All-tail (λ (r : TableRow). length r.fields ≡ length fields) r table width) (All-tail HasValid (standard_record t sorts r) (standard_records t sorts table) valid))
 
-records_are : (o : Option Fault) (whole file : StandardFile) → unless_fault o (Ok whole) ≡ Ok file → file.records ≡ whole.records
-records_are None whole file e = cc e
-records_are (Some f) whole file e = cc e
+-- what a field holds in either file
+in_keeps : (r : FileRole) → Keeps (sort_in r)
+in_keeps role.B = b_keeps
+in_keeps other = a_keeps
 
 -- the records of a file in standard values are of the plan
-pub file_of_plan : (sort_in : FieldSort → TextSort) → Keeps sort_in → (r : FileRole) (plan : Plan) (sorts : List TextSort) (table : List TableRow) (file : StandardFile)
-    → sorts ≡ sorts_in sort_in plan.fields → IsReadTable plan table → standard_file r plan sorts table ≡ Ok file → All HasValid file.records → HaveDistinctIds file.records → AreOfPlan plan file.records
-file_of_plan sort_in keeps r plan sorts table file es known e valid distinct =
-    let is = records_are (cond plan.strict (dates_fault r plan sorts 1 table) None) (record { records = standard_records plan.tables sorts table; unreadable = unreadable_in plan.tables sorts table }) file e in
-    let same : file.records ≡ standard_records plan.tables (sorts_in sort_in plan.fields) table = rw (← es) is in
+pub file_of_plan : (r : FileRole) (plan : Plan) (table : List TableRow) (records : List Record) → IsTableFor (wanted_in r plan) table → records ≡ standard_records plan.tables (sorts_in r plan) table
+    → All HasValid records → HaveDistinctIds records → AreOfPlan plan records
+file_of_plan r plan table records known same valid distinct =
+    let width = rw (length-map plan.fields (field_column r)) at known.width in
     record {
-      few = rw (same, length-map table (standard_record plan.tables (sorts_in sort_in plan.fields))) known.few;
+      few = rw (same, length-map table (standard_record plan.tables (sorts_in r plan))) known.few;
       distinct = distinct;
-      sorts = rw same (rows_of_sorts sort_in keeps plan.tables plan.fields table known.width (rw same at valid));
+      sorts = rw same (rows_of_sorts (sort_in r) (in_keeps r) plan.tables plan.fields table width (rw same at valid));
     }

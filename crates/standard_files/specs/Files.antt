@@ -1,6 +1,6 @@
 -- The standard files of a plan: the tables of A and of B with each text as its standard value (`read_files`, clause
 -- `answer`; what their records keep: `of_a` and `of_b`).
-use Rattle.std.specs.Prelude.{◌≡◌, ◌≢◌, ◌+◌, ◌≤◌, ℕ, List, [], ◌∷◌, length, map, All, AllPairs, Option, Some, None, Result, Ok, if◌then◌else◌, slice_index_or}
+use Rattle.std.specs.Prelude.{◌+◌, ◌≤◌, ℕ, List, [], ◌∷◌, length, map, All, Option, Some, None, Result, Ok, if◌then◌else◌, slice_index_or}
 use Rattle.link_base.specs.Answers.{and_then}
 use Rattle.link_base.specs.Fault.{or_else}
 use Rattle.link_limits.specs.declared.TheConstants.{MOST_ROWS}
@@ -12,8 +12,8 @@ use Rattle.link_base.specs.declared.fault.FileRole.TheVariants as role
 use Rattle.link_base.specs.declared.plan.FieldSort.{FieldSort}
 use Rattle.file_reader.specs.Left.{records_in}
 use Rattle.file_reader.specs.Layout.{Wanted}
-use Rattle.file_reader.specs.Rows.{HaveIds, TableRow}
-use Rattle.file_reader.specs.Table.{HasTexts, table_of, unless_fault}
+use Rattle.file_reader.specs.Rows.{TableRow}
+use Rattle.file_reader.specs.Table.{table_of, unless_fault}
 use Rattle.settings.specs.Plan.{FieldKeys}
 use Rattle.settings.specs.declared.plan.Plan.{Plan}
 use Rattle.standard_files.specs.Values.{AreOfSorts, sort_in, standard_records, unreadable_from, unreadable_in}
@@ -116,11 +116,3 @@ pub record AreOfPlan (plan : Plan) (records : List Record) : Type 0 where
   pub few : length records ≤ MOST_ROWS
   pub distinct : HaveDistinctIds records
   pub sorts : All (λ (r : Record). AreOfSorts (sorts_of plan) r.row) records
-
--- a table that was read for a plan: a text for each field, and for each row an id that no other has
-pub record IsReadTable (plan : Plan) (table : List TableRow) : Type 0 where
-  pub few : length table ≤ MOST_ROWS
-  pub width : All (λ (r : TableRow). length r.fields ≡ length plan.fields) table
-  pub texts : HasTexts table
-  pub ids : HaveIds table
-  pub distinct : AllPairs (λ (x y : TableRow). x.id ≢ y.id) table

@@ -1,5 +1,6 @@
 pub mod Values
 pub mod Files
+pub mod Kept
 pub mod Texts
 pub mod Sides
 pub mod Ready

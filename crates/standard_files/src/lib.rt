@@ -2,6 +2,7 @@
 #![tactic(auto)]
 
 mod canons;
+mod file_values;
 mod files;
 mod keys;
 mod known;
@@ -10,6 +11,7 @@ mod pooling;
 mod row;
 mod sorts;
 mod sources;
+mod taker;
 mod texts;
 mod values;
 

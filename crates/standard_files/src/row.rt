@@ -1,15 +1,14 @@
 // A row in standard values.
-ghost use Rattle.std.specs.Prelude.{◌≡◌, ◌+◌, ◌^◌, ◌<◌, ◌≤◌, [], All, length, slice_index_or, sum_by, IfSome, IsUtf8, OnOk, Some, None, if◌then◌else◌};
+ghost use Rattle.std.specs.Prelude.{◌≡◌, ◌+◌, ◌^◌, ◌<◌, ◌≤◌, [], All, length, sum_by, IfSome, IsUtf8, OnOk, Some, None, if◌then◌else◌};
 ghost use Rattle.std.specs.Option.{option_or};
 ghost use Rattle.link_base.specs.Standard.{IsValid};
 ghost use Rattle.link_limits.specs.declared.TheConstants.{MOST_FIELDS};
-ghost use Rattle.file_reader.specs.Rows.{no_row};
-ghost use Rattle.file_reader.specs.Table.{IsTextRow};
+ghost use Rattle.file_reader.specs.Table.{IsFieldText};
 ghost use Rattle.standard_files.specs.Values.{standard_values, unreadable_from, unreadable_in_row};
 
 use crate::sorts::TextSort;
 use crate::values::ValueTables;
-use file_reader::Table;
+use file_reader::RowFields;
 use link_base::{NoMemory, RowsWriter};
 use standardise::TextRoom;
 use std::alloc::Global;
@@ -45,27 +44,25 @@ impl StandardRow {
         }
     }
 
-    // Appends the row of a table in standard values to the open row, which has none, and tells of it in place of what was told
+    // Appends a row of a table in standard values to the open row, which has none, and tells of it in place of what was told
     // before.
     pub(crate) fn take_in(
         &mut self,
         alloc: Global,
         tables: &ValueTables,
         sorts: &[TextSort],
-        table: &Table,
-        at: u32,
+        row: &RowFields<'_>,
         rows: &mut RowsWriter,
     ) -> Result<(), NoMemory>
-        requires within { at < length table.now }
-        requires width { length (slice_index_or table.now at no_row).fields ≡ length sorts.now }
+        requires width { length row.now ≡ length sorts.now }
         requires few { length sorts.now ≤ MOST_FIELDS }
-        requires texts { IsTextRow (slice_index_or table.now at no_row) }
+        requires texts { All IsFieldText row.now }
         requires empty { rows.old.row ≡ [] }
         requires room { sum_by length rows.old.rows + length sorts.now < 2 ^ 32 }
         ensures rows { OnOk result (rows.new.rows ≡ rows.old.rows) }
-        ensures values { OnOk result (rows.new.row ≡ standard_values tables.now sorts.now (slice_index_or table.now at no_row).fields) }
-        ensures unreadable { OnOk result (self.new.unreadable ≡ unreadable_in_row tables.now sorts.now (slice_index_or table.now at no_row).fields) }
-        ensures first { OnOk result (self.new.first ≡ unreadable_from tables.now 0 sorts.now (slice_index_or table.now at no_row).fields) }
+        ensures values { OnOk result (rows.new.row ≡ standard_values tables.now sorts.now row.now) }
+        ensures unreadable { OnOk result (self.new.unreadable ≡ unreadable_in_row tables.now sorts.now row.now) }
+        ensures first { OnOk result (self.new.first ≡ unreadable_from tables.now 0 sorts.now row.now) }
         ensures few { OnOk result (self.new.unreadable ≤ MOST_FIELDS) }
         ensures many { OnOk result (length rows.new.row ≡ length sorts.now) }
         ensures within { OnOk result (IfSome self.new.first (λ place. place < length sorts.now)) }
@@ -74,7 +71,7 @@ impl StandardRow {
         self.unreadable = 0;
         self.first = None;
         for (column, sort) in sorts.iter().enumerate() {
-            let text = text_of(table.field(at, column as u32));
+            let text = text_of(row.field(column));
             let told = tables.add_value(alloc, *sort, text, &mut self.room, rows)?;
             self.note(column, told);
         }

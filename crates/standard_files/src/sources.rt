@@ -1,18 +1,20 @@
-// The tables of a plan's files, and what their fields hold.
-ghost use Rattle.std.specs.Prelude.{◌≡◌, ◌≤◌, ◌++◌, ◌∷◌, [], length, map, IfErr, IfOk, OnOk};
-ghost use Rattle.link_base.specs.Fault.{Gives, IsAnswer, IsInputFault};
-ghost use Rattle.file_reader.specs.Left.{records_in};
+// The files of a plan, read in standard values.
+ghost use Rattle.std.specs.Prelude.{◌≡◌, ◌<◌, ◌++◌, ◌∷◌, [], length, map, IfErr, IfOk, IfSome, OnOk};
+ghost use Rattle.link_base.specs.Fault.{IsAnswer, IsInputFault};
 ghost use Rattle.file_reader.specs.Layout.{wanted_of};
-ghost use Rattle.file_reader.specs.Table.{HasDistinctIds, HasTexts, HasWantedIds, HasWidth, table_of};
 ghost use Rattle.settings.specs.Plan.{FieldKeys};
-ghost use Rattle.standard_files.specs.Files.{field_column, delimiter_in, IsReadTable, sorts_in, table_in, wanted_in};
+ghost use Rattle.standard_files.specs.Files.{AreOfPlan, field_column, delimiter_in, wanted_in};
+ghost use Rattle.standard_files.specs.Kept.{dated_file};
 ghost use Rattle.standard_files.specs.Values.{sort_in};
-ghost use Rattle.standard_files.specs.declared.sources.Source.{Source};
+ghost use Rattle.standard_files.specs.declared.file_values.DatePlace.{DatePlace};
 
+use crate::file_values::{DatedFile, FileValues};
 use crate::sorts::TextSort;
-use file_reader::{Layout, Table, read_table};
+use crate::taker::ValueTaker;
+use crate::values::ValueTables;
+use file_reader::{Layout, read_rows};
 use link_base::{Fault, FileRole, NoMemory, Text};
-use link_limits::{MOST_FIELDS, MOST_ROWS};
+use link_limits::MOST_ROWS;
 use settings::{FieldPlan, Plan};
 use std::alloc::Global;
 
@@ -65,26 +67,6 @@ fn columns_of(alloc: Global, fields: &[FieldPlan], role: FileRole) -> Result<Col
     Ok(columns)
 }
 
-// The table of a file, and what its fields hold.
-#[derive(Drop)]
-pub(crate) struct Source {
-    pub(crate) table: Table,
-    pub(crate) sorts: Vec<TextSort>,
-}
-
-// The table of a file by a layout of its own.
-fn read_by(alloc: Global, bytes: &[u8], role: FileRole, layout: Layout) -> Result<Table, Fault>
-    ensures kind { IfErr result IsInputFault }
-    ensures few { IfOk result (λ table. length table ≤ layout.most_rows) }
-    ensures width { IfOk result (HasWidth (wanted_of layout)) }
-    ensures texts { IfOk result HasTexts }
-    ensures ids { IfOk result (HasWantedIds (wanted_of layout)) }
-    ensures distinct { IfOk result (HasDistinctIds (wanted_of layout)) }
-    ensures answer { IsAnswer (table_of role (wanted_of layout) (records_in layout.delimiter bytes.now)) result }
-{
-    read_table(alloc, bytes, role, &layout)
-}
-
 // What a plan wants of A or of B.
 fn layout_of(
     alloc: Global,
@@ -109,26 +91,26 @@ fn layout_of(
     })
 }
 
-/// The table of A or of B, and what its fields hold.
-pub(crate) fn read_source(
+/// The values of A or of B, whose table goes by the words of the plan.
+pub(crate) fn read_file(
     alloc: Global,
     plan: &Plan,
+    tables: &ValueTables,
     role: FileRole,
     bytes: &[u8],
-) -> Result<Source, Fault>
+) -> Result<DatedFile, Fault>
+    requires tables { tables.now ≡ plan.now.tables }
     ensures kind { IfErr result IsInputFault }
-    ensures answer { Gives (λ (source : Source). source.table) (table_in role plan.now bytes.now) result }
-    ensures read { IfOk result (λ source. IsReadTable plan.now source.table) }
-    ensures sorts { IfOk result (λ source. source.sorts.items ≡ sorts_in role plan.now) }
-    ensures few { IfOk result (λ source. length source.sorts.items ≤ MOST_FIELDS) }
+    ensures answer { IsAnswer (dated_file role plan.now bytes.now) result }
+    ensures of_plan { IfOk result (λ dated. AreOfPlan plan.now dated.file.records) }
+    ensures within { IfOk result (λ dated. IfSome dated.first (λ (d : DatePlace). d.field < length plan.now.fields)) }
 {
     let columns = columns_of(alloc, plan.fields.fields(), role)?;
     let layout = layout_of(alloc, plan, role, columns.names)?;
-    match read_by(alloc, bytes, role, layout) {
-        Ok(table) => Ok(Source {
-            table,
-            sorts: columns.sorts,
-        }),
+    let values = FileValues::new(alloc, columns.sorts)?;
+    let mut taker = ValueTaker { tables, values };
+    match read_rows(alloc, bytes, role, &layout, &mut taker) {
+        Ok(told) => Ok(taker.values.finish(told.ids)),
         Err(fault) => Err(fault),
     }
 }

@@ -2,7 +2,6 @@ use Rattle.std.proofs.Common.{◌≡◌, ◌<◌, ◌∙◌, [], ap, arith, get_
 use Rattle.std.proofs.lemmas.List.Elements.{All-push}
 use Rattle.link_base.specs.RowsWriter.{WrittenRows}
 use Rattle.link_base.specs.Standard.{IsValid}
-use Rattle.file_reader.specs.Rows.{no_row}
 use Rattle.standard_files.specs.Values.{standard_values, unreadable_from, unreadable_in_row}
 use Rattle.standard_files.proofs.RowSteps.{first_more, few_more, unreadable_more, values_more, within_more}
 use Rattle.standard_files.proofs.row.StandardRow.take_in.Goals as goal
@@ -14,7 +13,7 @@ pub loop-column-preserved : goal.loop-column-preserved
 loop-column-preserved c =
     let t = c.args.tables.now in
     let sorts = c.args.sorts.now in
-    let texts = (get_or c.args.table.now c.args.at no_row).fields in
+    let texts = c.args.row.now in
     let at = c.loop-column.column in
     let old = c.loop-column.self in
     let new = c.note.new.self in
