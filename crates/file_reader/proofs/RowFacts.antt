@@ -2,7 +2,7 @@
 use Rattle.std.proofs.Common.{◌≡◌, ◌<◌, ◌≤◌, ◌+◌, ◌*◌, ◌∷◌, ◌++◌, ◌∙◌, ℕ, zero, suc, Bool, true, false, List, [], length, map, get_or, take, drop, refl, sym, ap, arith, length-drop}
 use Rattle.std.proofs.lemmas.List.{take-append-le, drop-append-le, get_or-take, get_or-drop, get_or_past, length-take-le}
 use Rattle.std.proofs.Math.Seq.{take-length}
-use Rattle.file_reader.specs.Rows.{AreIdsFor, HaveIds, ids_of, known_ids, no_row, row_of_cells, rows_in, skipped, table_rows, TableRow, with_ids}
+use Rattle.file_reader.specs.Rows.{AreIdsFor, ids_of, known_ids, no_row, row_of_cells, rows_in, skipped, table_rows, TableRow, with_ids}
 use Rattle.file_reader.specs.Steps.{ids_after}
 
 abbrev Cells : Type 0
@@ -120,23 +120,7 @@ field_at n w cells ids at column lt = ap (λ (r : TableRow). get_or r.fields col
 pub count_at : (n w : ℕ) (cells : Cells) (ids : List (List ℕ)) (at : ℕ) → length cells ≡ n * w → at < n → length (get_or (table_rows n w cells ids) at no_row).fields ≡ w
 count_at n w cells ids at h lt = ap (λ (r : TableRow). length r.fields) (row_at n w cells ids at lt) ∙ row_length n w cells at h lt
 
-ids_with : (rows : List Cells) (ids : List (List ℕ)) → length ids ≡ length rows → ids_of (with_ids rows ids) ≡ ids
-ids_with [] [] e = refl
-ids_with [] (id ∷ ids) e = absurd (omega (arith, e))
-ids_with (r ∷ rows) [] e = absurd (omega (arith, e))
-ids_with (r ∷ rows) (id ∷ ids) e = ap (λ (l : List (List ℕ)). id ∷ l) (ids_with rows ids (omega (arith, e)))
-
--- the ids of rows that have some
-pub ids_for_all : (rows : List Cells) (ids : List (List ℕ)) → AreIdsFor (length rows) ids → HaveIds (with_ids rows ids) → ids ≡ ids_of (with_ids rows ids)
-ids_for_all rows (id ∷ ids) each have = sym (ids_with rows (id ∷ ids) (each (omega arith)))
-ids_for_all [] [] each have = refl
-ids_for_all (r ∷ rows) [] each have = absurd (have 0 no_row (omega arith) refl)
-
-pub table_ids : (n w : ℕ) (cells : Cells) (ids : List (List ℕ)) → AreIdsFor n ids → HaveIds (table_rows n w cells ids) → ids ≡ ids_of (table_rows n w cells ids)
-table_ids n w cells ids each have =
-    ids_for_all (rows_in n w cells) ids (λ some. each some ∙ sym (length_rows n w cells)) have
-
--- the fields of such rows
+-- the fields of rows with ids
 pub fields_with : (rows : List Cells) (ids : List (List ℕ)) → map (λ (r : TableRow). r.fields) (with_ids rows ids) ≡ rows
 fields_with [] ids = refl
 fields_with (r ∷ rows) [] = ap (λ (l : List Cells). r ∷ l) (fields_with rows [])

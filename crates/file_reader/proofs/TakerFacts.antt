@@ -9,7 +9,7 @@ use Rattle.link_base.specs.declared.fault.Fault.TheVariants as fault
 use Rattle.link_base.specs.declared.fault.FileRole.{FileRole}
 use Rattle.file_reader.specs.Faults.{AreWhole}
 use Rattle.file_reader.specs.Layout.{cell, cells_of, field_columns, Heading, heading_under, Wanted}
-use Rattle.file_reader.specs.Rows.{rows_in, skipped, table_rows, TableRow, with_ids}
+use Rattle.file_reader.specs.Rows.{AreIdsFor, rows_in, skipped, table_rows, TableRow, with_ids}
 use Rattle.file_reader.specs.Steps.{IsUnderway, TakesTableRow}
 use Rattle.file_reader.specs.Table.{fields_fault, IsFieldText, row_fault, rows_read, table_of, taken}
 use Rattle.file_reader.specs.Takers.{HasCells, IsTaken, IsTableFor}
@@ -59,13 +59,13 @@ underway_more x took new heading count ids ids2 all left rest row fields u el fe
 
 -- none is left
 pub all_taken : (took : Records → Type 0) (heading : Heading) (count : ℕ) (ids : List (List ℕ)) (all left : Records) → IsUnderway took heading count ids all left → left ≡ []
-    → IsTaken took (rows_read heading [] all) ids count
+    → IsTaken heading.has_id took (rows_read heading [] all) ids count
 all_taken took heading count ids all left u none =
     record {
       rows = u.rows;
       taken = u.taken;
       as_many = u.as_many;
-      ids_for = ids_for heading.has_id (with_ids u.rows ids) count ids (length_with u.rows ids ∙ u.as_many) u.known;
+      known = u.known;
       table = u.told ∙ ap (rows_read heading (with_ids u.rows ids)) none;
     }
 
@@ -79,9 +79,12 @@ cells_more width cells new row rows h many is =
     }
 
 -- the table of rows that are kept so
-pub table_taken : (width count : ℕ) (cells ids : List (List ℕ)) (expected : Result (List TableRow) Fault) → IsTaken (HasCells width cells) expected ids count → expected ≡ Ok (table_rows count width cells ids)
-table_taken width count cells ids expected k =
+pub table_taken : (has_id : Bool) (width count : ℕ) (cells ids : List (List ℕ)) (expected : Result (List TableRow) Fault) → IsTaken has_id (HasCells width cells) expected ids count → expected ≡ Ok (table_rows count width cells ids)
+table_taken has_id width count cells ids expected k =
     k.table ∙ ap (λ (rows : Records). Ok (with_ids rows ids)) (sym k.taken.rows_of ∙ ap (λ (n : ℕ). rows_in n width cells) k.as_many)
+
+pub taken_ids : (has_id : Bool) (took : Records → Type 0) (count : ℕ) (ids : List (List ℕ)) (expected : Result (List TableRow) Fault) → IsTaken has_id took expected ids count → AreIdsFor count ids
+taken_ids has_id took count ids expected k = ids_for has_id (with_ids k.rows ids) count ids (length_with k.rows ids ∙ k.as_many) k.known
 
 -- a table has no more rows than are wanted
 within_most : (heading : Heading) (number : ℕ) (ids row : List (List ℕ)) → row_fault heading number ids row ≡ None → number ≤ heading.most
@@ -98,17 +101,17 @@ whole_few heading (row ∷ rows) table h =
     let last = within_most heading (length rows + 1) _ _ (h.sound (length rows) (omega arith)) in
     omega (arith, ap length h.all, length-map rows (taken heading), last)
 
-few_of : (role : FileRole) (wanted : Wanted) (records : Records) (table : List TableRow) → table_of role wanted records ≡ Ok table → length table ≤ wanted.most
-few_of role wanted [] table e = cc e
-few_of role wanted (header ∷ rows) table e = whole_few (heading_under role wanted header) rows table (table_is_whole role wanted (header ∷ rows) table e).1
+few_of : (file : FileRole) (wanted : Wanted) (records : Records) (table : List TableRow) → table_of file wanted records ≡ Ok table → length table ≤ wanted.most
+few_of file wanted [] table e = cc e
+few_of file wanted (header ∷ rows) table e = whole_few (heading_under file wanted header) rows table (table_is_whole file wanted (header ∷ rows) table e).1
 
 -- what holds of each table
-pub table_sound : (role : FileRole) (wanted : Wanted) (records : Records) (table : List TableRow) → table_of role wanted records ≡ Ok table → IsTableFor wanted table
-table_sound role wanted records table e =
-    let facts = table_facts role wanted records table e in
+pub table_sound : (file : FileRole) (wanted : Wanted) (records : Records) (table : List TableRow) → table_of file wanted records ≡ Ok table → IsTableFor wanted table
+table_sound file wanted records table e =
+    let facts = table_facts file wanted records table e in
     record {
-      few = few_of role wanted records table e;
-      width = table_width role wanted records table e;
+      few = few_of file wanted records table e;
+      width = table_width file wanted records table e;
       texts = facts.0;
       ids = facts.1;
       distinct = facts.2;

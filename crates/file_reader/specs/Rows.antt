@@ -1,5 +1,4 @@
--- The rows of a table, their ids, and their fields side by side: what `Table` is seen as (`Table::id`, `Table::field` and
--- `Table::into_ids`).
+-- The rows of a table, their ids, and their fields side by side: what `Table` is seen as (`Table::id` and `Table::field`).
 use Rattle.std.specs.Prelude.{◌≡◌, ◌≢◌, ◌≤◌, ℕ, zero, suc, Bool, true, false, List, [], ◌∷◌, All, length, map, take, drop, if◌then◌else◌}
 
 -- a row of a table: its id, if the file has one, and its other needed fields

@@ -1,10 +1,10 @@
 -- What takes the rows of a table one by one as they are read (`RowTaker`), and a table whose rows went to it (`read_rows`,
--- clause `answer`).
-use Rattle.std.specs.Prelude.{◌≡◌, ◌≤◌, ◌<◌, ◌*◌, ℕ, List, length, Result, Ok, Err}
+-- clause `answer`; what every table keeps: law `sound_table`).
+use Rattle.std.specs.Prelude.{◌≡◌, ◌≤◌, ◌<◌, ◌*◌, ℕ, Bool, List, length, Result, Ok, Err}
 use Rattle.link_base.specs.Fault.{Refuses}
 use Rattle.link_base.specs.declared.fault.Fault.{Fault}
 use Rattle.file_reader.specs.Layout.{Wanted}
-use Rattle.file_reader.specs.Rows.{AreIdsFor, rows_in, TableRow, with_ids}
+use Rattle.file_reader.specs.Rows.{known_ids, rows_in, TableRow, with_ids}
 use Rattle.file_reader.specs.Table.{HasDistinctIds, HasTexts, HasWantedIds, HasWidth}
 use Rattle.file_reader.specs.declared.taker.TableIds.{TableIds}
 
@@ -12,18 +12,18 @@ use Rattle.file_reader.specs.declared.taker.TableIds.{TableIds}
 abbrev pub HasRoom : (List (List (List ℕ)) → Type 0) → ℕ → Type 0
 HasRoom took most = (rows : List (List (List ℕ))) × took rows × (length rows < most)
 
--- rows were taken, as many as are told, and with the ids that are told they are the table
-pub record IsTaken (took : List (List (List ℕ)) → Type 0) (expected : Result (List TableRow) Fault) (ids : List (List ℕ)) (count : ℕ) : Type 0 where
+-- rows were taken, as many as are told, and with the ids that are told they are the table; a file without ids has none
+pub record IsTaken (has_id : Bool) (took : List (List (List ℕ)) → Type 0) (expected : Result (List TableRow) Fault) (ids : List (List ℕ)) (count : ℕ) : Type 0 where
   pub rows : List (List (List ℕ))
   pub taken : took rows
   pub as_many : length rows ≡ count
-  pub ids_for : AreIdsFor count ids
+  pub known : ids ≡ known_ids has_id (with_ids rows ids)
   pub table : expected ≡ Ok (with_ids rows ids)
 
 -- the rows of the table that is defined were taken, or its fault is told, but for want of memory
-abbrev pub ReadsInto : (List (List (List ℕ)) → Type 0) → Result (List TableRow) Fault → Result TableIds Fault → Type 0
-ReadsInto took expected (Ok told) = IsTaken took expected told.ids told.rows
-ReadsInto took expected (Err f) = Refuses expected f
+abbrev pub ReadsInto : Bool → (List (List (List ℕ)) → Type 0) → Result (List TableRow) Fault → Result TableIds Fault → Type 0
+ReadsInto has_id took expected (Ok told) = IsTaken has_id took expected told.ids told.rows
+ReadsInto has_id took expected (Err f) = Refuses expected f
 
 -- what holds of each table that is read: as many texts in each row as columns are wanted, and where an id is wanted,
 -- one for each row, and no two the same

@@ -1,5 +1,5 @@
 // The rows of a table.
-ghost use Rattle.std.specs.Prelude.{◌≡◌, ◌↔◌, ◌≤◌, ◌<◌, [], All, IfOk, IsTrue, None, IfErr, length, ℕ};
+ghost use Rattle.std.specs.Prelude.{◌≡◌, ◌↔◌, ◌≤◌, ◌<◌, [], All, IfOk, is_some, IsTrue, None, IfErr, length, ℕ};
 ghost use Rattle.csv.specs.Records.{fields_of, text_of};
 ghost use Rattle.file_reader.specs.Left.{records_in};
 ghost use Rattle.link_base.specs.Fault.{IsAnswer, IsInputFault};
@@ -189,7 +189,7 @@ fn fill_rows<T: RowTaker>(
     requires none { T.took taker.old [] taker.old }
     ensures kind { IfErr result IsInputFault }
     ensures few { IfOk result (λ rows. rows ≤ head.now.most_rows) }
-    ensures answer { FillsRows (λ rows. T.took taker.old rows taker.new) (rows_read (heading_of head.now) [] left.old) ids.new result }
+    ensures answer { FillsRows head.now.has_id (λ rows. T.took taker.old rows taker.new) (rows_read (heading_of head.now) [] left.old) ids.new result }
 {
     taker.make_room(alloc, room.rows, room.bytes)?;
     let columns = columns_after_id(head);
@@ -225,7 +225,7 @@ fn read_left<T: RowTaker>(
     requires none { T.took taker.old [] taker.old }
     ensures kind { IfErr result IsInputFault }
     ensures few { IfOk result (λ told. told.rows ≤ head.now.most_rows) }
-    ensures answer { ReadsInto (λ rows. T.took taker.old rows taker.new) (rows_read (heading_of head.now) [] left.old) result }
+    ensures answer { ReadsInto head.now.has_id (λ rows. T.took taker.old rows taker.new) (rows_read (heading_of head.now) [] left.old) result }
 {
     let mut ids = room.for_ids(alloc, head)?;
     match fill_rows(alloc, left, row, head, room, &mut ids, taker) {
@@ -276,7 +276,7 @@ fn read_under<T: RowTaker>(
     requires none { T.took taker.old [] taker.old }
     ensures kind { IfErr result IsInputFault }
     ensures few { IfOk result (λ told. told.rows ≤ layout.now.most_rows) }
-    ensures answer { ReadsInto (λ rows. T.took taker.old rows taker.new) (under_header role (wanted_of layout.now) (fields_of row.old) left.old) result }
+    ensures answer { ReadsInto (is_some layout.now.id) (λ rows. T.took taker.old rows taker.new) (under_header role (wanted_of layout.now) (fields_of row.old) left.old) result }
 {
     let names = needed_names(alloc, layout)?;
     match head_of(alloc, role, layout, &names, row) {
@@ -300,7 +300,7 @@ fn read_records<T: RowTaker>(
     requires none { T.took taker.old [] taker.old }
     ensures kind { IfErr result IsInputFault }
     ensures few { IfOk result (λ told. told.rows ≤ layout.now.most_rows) }
-    ensures answer { ReadsInto (λ rows. T.took taker.old rows taker.new) (table_of role (wanted_of layout.now) left.old) result }
+    ensures answer { ReadsInto (is_some layout.now.id) (λ rows. T.took taker.old rows taker.new) (table_of role (wanted_of layout.now) left.old) result }
 {
     match left.next(row) {
         Ok(true) => read_under(alloc, left, row, role, layout, room, taker),
@@ -324,7 +324,7 @@ pub fn read_rows<T: RowTaker>(
     requires none { T.took taker.old [] taker.old }
     ensures kind { IfErr result IsInputFault }
     ensures few { IfOk result (λ told. told.rows ≤ layout.now.most_rows) }
-    ensures answer { ReadsInto (λ rows. T.took taker.old rows taker.new) (table_of role (wanted_of layout.now) (records_in layout.now.delimiter bytes.now)) result }
+    ensures answer { ReadsInto (is_some layout.now.id) (λ rows. T.took taker.old rows taker.new) (table_of role (wanted_of layout.now) (records_in layout.now.delimiter bytes.now)) result }
 {
     let mut left = Records::new(alloc, bytes, layout.delimiter);
     let mut row = ByteRecord::new(alloc);

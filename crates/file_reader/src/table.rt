@@ -1,6 +1,6 @@
 // The table of a file.
 ghost use Rattle.std.specs.Prelude.{◌≡◌, ◌<◌, ◌*◌, ◌++◌, [], IfOk, length, OnOk, slice_index_or};
-ghost use Rattle.file_reader.specs.Rows.{AreIdsFor, HaveIds, ids_of, no_row, rows_in, table_rows};
+ghost use Rattle.file_reader.specs.Rows.{AreIdsFor, no_row, rows_in, table_rows};
 ghost use Rattle.file_reader.specs.Takers.{HasCells};
 
 use crate::layout::Layout;
@@ -125,14 +125,6 @@ impl Table {
         ensures { result.now ≡ slice_index_or (slice_index_or self.now at no_row).fields column [] }
     {
         cell_of(&self.cells, self.rows, self.width, at, column as usize)
-    }
-
-    /// The ids of the rows themselves.
-    pub fn into_ids(self) -> IdSet
-        requires { HaveIds self }
-        ensures { result ≡ ids_of self }
-    {
-        self.ids
     }
 }
 

@@ -2,7 +2,7 @@
 use Rattle.std.proofs.Common.{◌≡◌, ◌<◌, ◌≤◌, ◌+◌, ◌*◌, ◌∷◌, ◌++◌, ◌∙◌, ℕ, Bool, true, false, cond, List, [], length, map, Option, Some, None, Result, Ok, Err, refl, subst, sym, ap, arith, length-append}
 use Rattle.std.specs.List.{All, sum_by}
 use Rattle.std.specs.Option.{option_or}
-use Rattle.std.specs.Prelude.{IfSome, MatchBool, ⊤}
+use Rattle.std.specs.Prelude.{IfSome, is_some, MatchBool, ⊤}
 use Rattle.std.proofs.lemmas.List.{length-map, map_push}
 use Rattle.std.proofs.lemmas.List.Elements.{All-cons, All-head, All-nil, All-push, All-tail}
 use Rattle.std.proofs.lemmas.List.Sums.{sum_by-cons, sum_by_push}
@@ -17,10 +17,10 @@ use Rattle.link_base.specs.declared.tables.Tables.{Tables}
 use Rattle.link_limits.specs.declared.TheConstants.{MOST_FIELDS}
 use Rattle.file_reader.specs.Layout.{Wanted}
 use Rattle.file_reader.specs.Left.{records_in}
-use Rattle.file_reader.specs.Rows.{ids_of, TableRow, with_ids}
+use Rattle.file_reader.specs.Rows.{ids_of, known_ids, TableRow, with_ids}
 use Rattle.file_reader.specs.Table.{table_of, unless_fault}
 use Rattle.file_reader.specs.Takers.{IsTableFor, IsTaken}
-use Rattle.file_reader.proofs.RowFacts.{fields_with, ids_for_all, length_ids, length_with}
+use Rattle.file_reader.proofs.RowFacts.{fields_with, length_ids, length_with}
 use Rattle.file_reader.proofs.TakerFacts.{table_sound}
 use Rattle.settings.specs.declared.plan.Plan.{Plan}
 use Rattle.standard_files.specs.Files.{date_fault, dates_fault, delimiter_in, sorts_a, sorts_b, sorts_in, StandardFile, standard_files, StandardPair, standard_pair, table_a, table_b, table_in, wanted_in}
@@ -156,14 +156,14 @@ pub record IsWholeFile (r : FileRole) (plan : Plan) (bytes : List ℕ) (v : File
   pub answer : dated_file r plan bytes ≡ Ok (record { file = record { records = records_of ids v.rows.rows; unreadable = v.unreadable }; first = v.first })
 
 pub whole_file : (r : FileRole) (plan : Plan) (bytes : List ℕ) (tables : Tables) (v : FileValues) (ids : List (List ℕ)) (count : ℕ)
-    → IsTaken (HasTaken plan.tables (sorts_in r plan) tables v) (table_in r plan bytes) ids count → IsWholeFile r plan bytes v ids
+    → IsTaken true (HasTaken plan.tables (sorts_in r plan) tables v) (table_in r plan bytes) ids count → IsWholeFile r plan bytes v ids
 whole_file r plan bytes tables v ids count k =
     let sorts = sorts_in r plan in
     let table = with_ids k.rows ids in
     let sound = table_sound r (wanted_in r plan) (records_in (delimiter_in r plan) bytes) table k.table in
     let h = k.taken.values in
     let fields : map (λ (row : TableRow). row.fields) table ≡ k.rows = fields_with k.rows ids in
-    let own : ids ≡ ids_of table = ids_for_all k.rows ids (rw k.as_many k.ids_for) (sound.ids refl) in
+    let own : ids ≡ ids_of table = k.known in
     let values : v.rows.rows ≡ map (standard_values plan.tables sorts) (map (λ (row : TableRow). row.fields) table) = rw fields h.values in
     let records : records_of ids v.rows.rows ≡ standard_records plan.tables sorts table = (λ i. records_of (own i) (values i)) ∙ with_rows plan.tables sorts table in
     let unreadable : v.unreadable ≡ unreadable_in plan.tables sorts table = rw (← fields) at h.unreadable ∙ with_unreadable plan.tables sorts table in
@@ -182,7 +182,7 @@ whole_file r plan bytes tables v ids count k =
 
 pub whole_read : (r : FileRole) (plan : Plan) (bytes : List ℕ) (t : Tables) (sorts : List TextSort) (wanted : Wanted) (delimiter : ℕ) (tables : Tables) (v : FileValues) (ids : List (List ℕ)) (count : ℕ)
     → t ≡ plan.tables → sorts ≡ sorts_in r plan → wanted ≡ wanted_in r plan → delimiter ≡ delimiter_in r plan
-    → IsTaken (λ rows. HasTaken t sorts tables v rows) (table_of r wanted (records_in delimiter bytes)) ids count → IsWholeFile r plan bytes v ids
+    → IsTaken (is_some wanted.id) (λ rows. HasTaken t sorts tables v rows) (table_of r wanted (records_in delimiter bytes)) ids count → IsWholeFile r plan bytes v ids
 whole_read r plan bytes t sorts wanted delimiter tables v ids count et es ew ed k =
     whole_file r plan bytes tables v ids count (record {
       rows = k.rows;
@@ -192,7 +192,7 @@ whole_read r plan bytes t sorts wanted delimiter tables v ids count et es ew ed 
         values = subst (λ (s : List TextSort). HasValues plan.tables s v k.rows) es (subst (λ (x : Tables). HasValues x sorts v k.rows) et k.taken.values);
       };
       as_many = k.as_many;
-      ids_for = k.ids_for;
+      known = subst (λ (w : Wanted). ids ≡ known_ids (is_some w.id) (with_ids k.rows ids)) ew k.known;
       table = (λ i. table_of r (sym ew i) (records_in (sym ed i) bytes)) ∙ k.table;
     })
 

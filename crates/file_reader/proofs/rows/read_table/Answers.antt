@@ -1,9 +1,10 @@
+use Rattle.std.specs.Prelude.{is_some}
 use Rattle.std.proofs.Common.{◌∙◌, ap, sym, Ok}
 use Rattle.file_reader.specs.Left.{records_in}
 use Rattle.file_reader.specs.Layout.{wanted_of}
 use Rattle.file_reader.specs.Table.{table_of}
-use Rattle.file_reader.specs.Takers.{IsTableFor}
-use Rattle.file_reader.proofs.TakerFacts.{table_taken, table_sound}
+use Rattle.file_reader.specs.Takers.{HasCells, IsTableFor}
+use Rattle.file_reader.proofs.TakerFacts.{table_sound, table_taken, taken_ids}
 use Rattle.file_reader.proofs.rows.read_table.Goals.{After-new}
 use Rattle.file_reader.proofs.rows.read_table.Goals as goal
 
@@ -12,8 +13,13 @@ sound c =
     let records = records_in c.args.layout.now.delimiter c.args.bytes.now in
     let wanted = wanted_of c.args.layout.now in
     table_sound c.args.role wanted records c.new.result
-    (table_taken c.read_rows.new.taker.width c.in-Ok.told.rows c.read_rows.new.taker.cells c.in-Ok.told.ids (table_of c.args.role wanted records) c.in-Ok.ensures.answer
+    (table_taken (is_some c.args.layout.now.id) c.read_rows.new.taker.width c.in-Ok.told.rows c.read_rows.new.taker.cells c.in-Ok.told.ids (table_of c.args.role wanted records) c.in-Ok.ensures.answer
     ∙ ap Ok (sym c.new.ensures))
+
+pub new-requires-clause-ids : goal.new-requires-clause-ids
+new-requires-clause-ids c =
+    taken_ids (is_some c.args.layout.now.id) (HasCells c.read_rows.new.taker.width c.read_rows.new.taker.cells) c.in-Ok.told.rows c.in-Ok.told.ids
+    (table_of c.args.role (wanted_of c.args.layout.now) (records_in c.args.layout.now.delimiter c.args.bytes.now)) c.in-Ok.ensures.answer
 
 pub returns-in-Ok-clause-few : goal.returns-in-Ok-clause-few
 returns-in-Ok-clause-few c = (sound c).few
