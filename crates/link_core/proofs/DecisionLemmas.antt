@@ -1,5 +1,5 @@
 -- The decisions on prepared files, by what is told of those on the records and sides that were handed over.
-use Rattle.std.proofs.Common.{◌≡◌, ◌∙◌, List, length, Result, Ok, Err, ap, subst, sym}
+use Rattle.std.proofs.Common.{◌≡◌, ◌∙◌, Bool, true, List, length, Result, Ok, Err, ap, subst, sym}
 use Rattle.std.specs.Prelude.{All, AllPairs, IfErr, IfOk}
 use Rattle.comparators.specs.declared.ids.IdValue.{IdValue}
 use Rattle.link_base.proofs.AnswerFacts.{refuses_then}
@@ -10,6 +10,7 @@ use Rattle.link_base.specs.declared.fault.Fault.{Fault}
 use Rattle.link_base.specs.declared.rule.Decision.{Decision}
 use Rattle.link_base.specs.declared.rule.PairAt.{PairAt}
 use Rattle.pair_decisions.specs.Decisions.{AreDecisionsOn, count_with, DecidedView, pairs_with}
+use Rattle.pair_decisions.specs.PairRows.{AreRowsIn, decided_rows, kept_rows}
 use Rattle.pair_decisions.specs.PairRule.{AreCellsOf, AreSidesFor, PairRuleView, side_rule, SideRule}
 use Rattle.pair_decisions.specs.Pairs.{IsInside, pairs_within}
 use Rattle.pair_walk.proofs.PairLemmas.{all-pairs}
@@ -22,15 +23,16 @@ use Rattle.settings.specs.Plan.{PlainShares}
 use Rattle.settings.specs.declared.plan.Plan.{Plan}
 use Rattle.link_core.specs.Decisions.{decided, decided_by, Decisions, decisions_of, IsDecidedIn, rule_over}
 use Rattle.link_core.specs.Prepared.{PreparedView}
-use Rattle.link_core.specs.Results.{compared_in, IsDecidedFor}
+use Rattle.link_core.specs.Results.{compared_in, IsDecidedFor, KeepsRows}
 use Rattle.link_core.specs.Rules.{IsPreparedFor}
 
--- a result is that of a rule on the pairs of these rows of blocks, over these sides
-pub record IsTold (rule : PairRuleView) (result : Result DecidedView Fault) (rows : List RowAt) (pairs : List PairAt) (rows_a rows_b : List (List IdValue)) : Type 0 where
+-- a result is that of a rule on these pairs, over these sides
+pub record IsTold (rule : PairRuleView) (with_rows : Bool) (result : Result DecidedView Fault) (pairs : List PairAt) (rows_a rows_b : List (List IdValue)) : Type 0 where
   pub refused : IfErr result (Refuses (pairs_within pairs))
   pub within : IfOk result (λ _. pairs_within pairs ≡ Ok pairs)
   pub rule_is : IfOk result (λ d. d.rule ≡ rule)
-  pub rows_are : IfOk result (λ d. d.rows ≡ rows)
+  pub rows_are : IfOk result (λ d. d.rows ≡ kept_rows with_rows (decided_rows (side_rule rule) rows_a rows_b pairs))
+  pub rows_in : IfOk result (λ d. AreRowsIn (length rows_a) (length rows_b) (length d.rule.cells) d.rows)
   pub counts : IfOk result (λ d. (kind : Decision) → count_with d kind ≡ length (pairs_with kind (side_rule rule) rows_a rows_b pairs))
   pub links_inside : IfOk result (λ d. All (IsInside (length rows_a) (length rows_b)) d.links)
   pub possible_inside : IfOk result (λ d. All (IsInside (length rows_a) (length rows_b)) d.possible)
@@ -38,16 +40,14 @@ pub record IsTold (rule : PairRuleView) (result : Result DecidedView Fault) (row
   pub decisions : IfOk result (AreDecisionsOn rows_a rows_b pairs)
 
 -- the same of the compared pairs of the files that the blocks are those of
-pub told_of : (plan : Plan) (rule : PairRuleView) (result : Result DecidedView Fault) (p : PreparedView) (blocks : List RowAt) (rows_a rows_b : List (List IdValue))
+pub told_of : (plan : Plan) (rule : PairRuleView) (with_rows : Bool) (result : Result DecidedView Fault) (p : PreparedView) (blocks : List RowAt) (rows_a rows_b : List (List IdValue))
     → blocks ≡ all_rows p.files.a.records p.files.b.records plan.passes → rows_a ≡ p.values.a.rows → rows_b ≡ p.values.b.rows
-    → IsTold rule result blocks (pairs_of_rows blocks) rows_a rows_b
-    → IsTold rule result (all_rows p.files.a.records p.files.b.records plan.passes) (compared_in plan p) p.values.a.rows p.values.b.rows
-told_of plan rule result p blocks rows_a rows_b of_blocks of_sides_a of_sides_b told =
-    let all = all_rows p.files.a.records p.files.b.records plan.passes in
-    subst (λ x. IsTold rule result all (compared_in plan p) p.values.a.rows x) of_sides_b
-    (subst (λ x. IsTold rule result all (compared_in plan p) x rows_b) of_sides_a
-    (subst (λ ps. IsTold rule result all ps rows_a rows_b) (all-pairs p.files.a.records p.files.b.records plan.passes)
-    (subst (λ bs. IsTold rule result bs (pairs_of_rows bs) rows_a rows_b) of_blocks told)))
+    → IsTold rule with_rows result (pairs_of_rows blocks) rows_a rows_b
+    → IsTold rule with_rows result (compared_in plan p) p.values.a.rows p.values.b.rows
+told_of plan rule with_rows result p blocks rows_a rows_b of_blocks of_sides_a of_sides_b told =
+    subst (λ x. IsTold rule with_rows result (compared_in plan p) p.values.a.rows x) of_sides_b
+    (subst (λ x. IsTold rule with_rows result (compared_in plan p) x rows_b) of_sides_a
+    (subst (λ ps. IsTold rule with_rows result ps rows_a rows_b) (ap pairs_of_rows of_blocks ∙ all-pairs p.files.a.records p.files.b.records plan.passes) told))
 
 -- pairs of as many rows of sides as there are records lie in the files
 inside_files : (plan : Plan) (p : PreparedView) (pairs : List PairAt) → IsPreparedFor plan p → All (IsInside (length p.values.a.rows) (length p.values.b.rows)) pairs
@@ -55,9 +55,9 @@ inside_files : (plan : Plan) (p : PreparedView) (pairs : List PairAt) → IsPrep
 inside_files plan p pairs ready h =
     subst (λ n. All (IsInside (length p.files.a.records) n) pairs) ready.sides_b.as_many (subst (λ n. All (IsInside n (length p.values.b.rows)) pairs) ready.sides_a.as_many h)
 
-module _ (plan : Plan) (p : PreparedView) (shares : List PlainShares) (rule : PairRuleView) where
+module _ (plan : Plan) (p : PreparedView) (shares : List PlainShares) (rule : PairRuleView) (with_rows : Bool) where
   abbrev Told : Result DecidedView Fault → Type 0
-  Told result = IsTold rule result (all_rows p.files.a.records p.files.b.records plan.passes) (compared_in plan p) p.values.a.rows p.values.b.rows
+  Told result = IsTold rule with_rows result (compared_in plan p) p.values.a.rows p.values.b.rows
 
   pub answered : (result : Result DecidedView Fault) → side_rule rule ≡ rule_over plan p shares → Told result → Gives decisions_of (decided plan p shares) result
   answered (Err f) of told = refuses_then (pairs_within (compared_in plan p)) (λ pairs. Ok (decided_by (rule_over plan p shares) p pairs)) f told.refused
@@ -80,12 +80,14 @@ module _ (plan : Plan) (p : PreparedView) (shares : List PlainShares) (rule : Pa
     links = inside_files plan p d.links ready told.links_inside;
     possible = inside_files plan p d.possible ready told.possible_inside;
     rising = told.possible_rise;
+    rows =
+        subst (λ n. AreRowsIn (length p.files.a.records) n (length d.rule.cells) d.rows) ready.sides_b.as_many
+        (subst (λ n. AreRowsIn n (length p.values.b.rows) (length d.rule.cells) d.rows) ready.sides_a.as_many told.rows_in);
   }
 
   pub decided_for_plan : (result : Result DecidedView Fault) → AreCellsOf (pattern_count_by (rares_of plan.fields)) rule.cells → Told result → IfOk result (IsDecidedFor plan p)
   decided_for_plan (Err f) cells told = tt
   decided_for_plan (Ok d) cells told = record {
-    rows = told.rows_are;
     decisions = told.decisions;
     counts = λ kind. told.counts kind ∙ ap (λ (r : PairRuleView). length (pairs_with kind (side_rule r) p.values.a.rows p.values.b.rows (compared_in plan p))) (sym told.rule_is);
     cells = subst (λ (r : PairRuleView). AreCellsOf (pattern_count_by (rares_of plan.fields)) r.cells) (sym told.rule_is) cells;
@@ -94,3 +96,9 @@ module _ (plan : Plan) (p : PreparedView) (shares : List PlainShares) (rule : Pa
   pub rule_of_plan : (result : Result DecidedView Fault) → IsRuleOf plan shares rule.cells → Told result → IfOk result (λ d. IsRuleOf plan shares d.rule.cells)
   rule_of_plan (Err f) filled told = tt
   rule_of_plan (Ok d) filled told = subst (λ (r : PairRuleView). IsRuleOf plan shares r.cells) (sym told.rule_is) filled
+
+  pub rows_kept : (result : Result DecidedView Fault) → Told result → IfOk result (λ d. with_rows ≡ true → KeepsRows plan p d)
+  rows_kept (Err f) told = tt
+  rows_kept (Ok d) told = λ asked.
+      told.rows_are ∙ (λ i. kept_rows (asked i) (decided_rows (side_rule rule) p.values.a.rows p.values.b.rows (compared_in plan p)))
+      ∙ ap (λ (r : PairRuleView). decided_rows (side_rule r) p.values.a.rows p.values.b.rows (compared_in plan p)) (sym told.rule_is)

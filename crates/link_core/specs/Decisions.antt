@@ -7,6 +7,7 @@ use Rattle.link_base.specs.declared.rule.Decision.TheVariants.{Link, Possible}
 use Rattle.link_base.specs.declared.rule.PairAt.{PairAt}
 use Rattle.link_base.specs.Rule.{IsPairBefore}
 use Rattle.pair_decisions.specs.Decisions.{DecidedView, pairs_with}
+use Rattle.pair_decisions.specs.PairRows.{AreRowsIn}
 use Rattle.pair_decisions.specs.PairRule.{AreSidesFor, side_rule, side_rule_of, SideRule}
 use Rattle.pair_decisions.specs.Pairs.{IsInside}
 use Rattle.pair_decisions.specs.TheRule.{the_rule}
@@ -43,7 +44,8 @@ decided_by rule p pairs = record {
 abbrev pub decided : Plan → PreparedView → List PlainShares → Result Decisions Fault
 decided plan p shares = and_then (plan_pairs plan p.files) (λ pairs. Ok (decided_by (rule_over plan p shares) p pairs))
 
--- decisions are of these files: the rule reads what their rows are compared by, and the pairs stand in them, rising
+-- decisions are of these files: the rule reads what their rows are compared by, and the pairs stand in them, rising, as do the
+-- rows that are kept
 pub record IsDecidedIn (p : PreparedView) (d : DecidedView) : Type 0 where
   pub rows_a : length p.values.a.rows ≡ length p.files.a.records
   pub rows_b : length p.values.b.rows ≡ length p.files.b.records
@@ -52,3 +54,4 @@ pub record IsDecidedIn (p : PreparedView) (d : DecidedView) : Type 0 where
   pub links : All (IsInside (length p.files.a.records) (length p.files.b.records)) d.links
   pub possible : All (IsInside (length p.files.a.records) (length p.files.b.records)) d.possible
   pub rising : AllPairs IsPairBefore d.possible
+  pub rows : AreRowsIn (length p.files.a.records) (length p.files.b.records) (length d.rule.cells) d.rows

@@ -21,9 +21,8 @@ use Rattle.link_report.specs.declared.open.PairRow.{PairRow}
 use Rattle.link_report.specs.declared.report.Report.{Report}
 use Rattle.pair_decisions.specs.Decisions.{AreDecisionsOn, count_with, DecidedView, pairs_with}
 use Rattle.pair_decisions.specs.PairRule.{AreCellsOf, side_rule, SideRule}
-use Rattle.pair_decisions.specs.PairRows.{pair_rows_of}
+use Rattle.pair_decisions.specs.PairRows.{decided_rows, pair_rows_of}
 use Rattle.pair_walk.specs.Pairs.{compared_pairs}
-use Rattle.pair_walk.specs.Rows.{all_rows}
 use Rattle.patterns.specs.Shapes.{pattern_count_by}
 use Rattle.pair_decisions.specs.Comparators.{rares_of}
 use Rattle.review_journal.specs.Idle.{idle_count}
@@ -49,13 +48,15 @@ pair_rows_in plan p rule entries = pair_rows_of rule p.values.a.rows p.values.b.
 abbrev pub candidates_in : Plan → PreparedView → SideRule → List Entry → List Candidate
 candidates_in plan p rule entries = candidates_of rule p.values.a.rows p.values.b.rows entries plan.award (compared_in plan p)
 
--- decisions are those of a plan's rule on the compared pairs of its files, whose blocks they keep: they are not too many, and
--- each pattern has a cell
+-- decisions are those of a plan's rule on the compared pairs of its files: they are not too many, and each pattern has a cell
 pub record IsDecidedFor (plan : Plan) (p : PreparedView) (d : DecidedView) : Type 0 where
-  pub rows : d.rows ≡ all_rows p.files.a.records p.files.b.records plan.passes
   pub decisions : AreDecisionsOn p.values.a.rows p.values.b.rows (compared_in plan p) d
   pub counts : (kind : Decision) → count_with d kind ≡ length (decided_in kind plan p (side_rule d.rule))
   pub cells : AreCellsOf (pattern_count_by (rares_of plan.fields)) d.rule.cells
+
+-- decisions keep the row of each compared pair, for those who write them
+abbrev pub KeepsRows : Plan → PreparedView → DecidedView → Type 0
+KeepsRows plan p d = d.rows ≡ decided_rows (side_rule d.rule) p.values.a.rows p.values.b.rows (compared_in plan p)
 
 -- the attained levels of a rule and its chances of a possible link, as sums over one denominator
 pub record AreLevelsOf (fields : ℕ) (cells : List RuleCell) (levels : Levels) : Type 0 where

@@ -1,8 +1,8 @@
 // The decisions on the compared pairs of a plan.
-ghost use Rattle.std.specs.Prelude.{◌≡◌, All, IfErr, IfOk};
+ghost use Rattle.std.specs.Prelude.{◌≡◌, All, IfErr, IfOk, true};
 ghost use Rattle.link_base.specs.Fault.{Gives, IsInputFault};
 ghost use Rattle.link_core.specs.Decisions.{decided, decisions_of, IsDecidedIn, rule_over};
-ghost use Rattle.link_core.specs.Results.{IsDecidedFor};
+ghost use Rattle.link_core.specs.Results.{IsDecidedFor, KeepsRows};
 ghost use Rattle.link_core.specs.Rules.{IsPreparedFor, shared_rares};
 ghost use Rattle.pair_decisions.specs.PairRule.{AreCellsOf, AreSidesFor, side_rule};
 ghost use Rattle.patterns.specs.Shapes.{pattern_count_by};
@@ -50,13 +50,14 @@ fn rule_for(
 
 /// The decisions of a plan's rule for these shares on the compared pairs of its prepared files: the rule is the filled table at
 /// the levels that the plan asks for, and each pair is a link, a possible link or a non-link by the cell of its comparison
-/// pattern and its border word. Refused as too many pairs exactly where there are more than `MOST_PAIRS`; so a second walk over
-/// the same files meets no limit.
+/// pattern and its border word. Refused as too many pairs exactly where there are more than `MOST_PAIRS`. The rows of the pairs,
+/// which `finish` writes, are kept where they are asked for.
 pub fn decide_all(
     alloc: Global,
     plan: &Plan,
     prepared: &Prepared,
     shares: &PlanShares,
+    with_rows: bool,
 ) -> Result<Decided, Fault>
     requires ranges { KeepsRanges plan.now }
     requires ready { IsPreparedFor plan.now prepared.now }
@@ -66,14 +67,16 @@ pub fn decide_all(
     ensures of_files { IfOk result (IsDecidedIn prepared.now) }
     ensures of_plan { IfOk result (IsDecidedFor plan.now prepared.now) }
     ensures rule { IfOk result (λ d. IsRuleOf plan.now shares.now d.rule.cells) }
+    ensures rows { IfOk result (λ d. with_rows ≡ true → KeepsRows plan.now prepared.now d) }
 {
     let rule = rule_for(alloc, plan, prepared, shares)?;
     let blocks = prepared.blocks(alloc, plan)?;
     decide_pairs(
         alloc,
         rule,
-        blocks,
+        &blocks,
         prepared.sides(FileRole::A),
         prepared.sides(FileRole::B),
+        with_rows,
     )
 }

@@ -6,9 +6,8 @@ ghost use Rattle.candidate_links.specs.Choice.{dropped_of};
 ghost use Rattle.link_core.specs.Decisions.{IsDecidedIn};
 ghost use Rattle.link_base.specs.Rule.{HasBoundedSums};
 ghost use Rattle.link_limits.specs.declared.TheConstants.{MOST_PAIRS};
-ghost use Rattle.link_core.specs.Results.{AreLevelsOf, AreRunTexts, candidates_in, IsDecidedFor, IsReportOf, pair_rows_in, five_texts};
+ghost use Rattle.link_core.specs.Results.{AreLevelsOf, AreRunTexts, candidates_in, IsDecidedFor, IsReportOf, KeepsRows, pair_rows_in, five_texts};
 ghost use Rattle.link_core.specs.Review.{open_pairs};
-ghost use Rattle.link_core.specs.Rules.{IsPreparedFor};
 ghost use Rattle.link_base.specs.declared.rule.Candidate.{Candidate as Link};
 ghost use Rattle.link_report.specs.LinksText.{text_of_links};
 ghost use Rattle.link_report.specs.PairsText.{text_of_pairs};
@@ -91,7 +90,7 @@ fn links_of(
     choose_links(alloc, prepared.a().rows(), prepared.b().rows(), &found)
 }
 
-// The line of each compared pair, in a second walk.
+// The line of each compared pair, by its row.
 fn pairs_of(
     alloc: Global,
     plan: &Plan,
@@ -99,21 +98,18 @@ fn pairs_of(
     decided: &Decided,
     journal: &Journal,
 ) -> Result<Text, NoMemory>
-    requires ranges { KeepsRanges plan.now }
-    requires ready { IsPreparedFor plan.now prepared.now }
     requires of_files { IsDecidedIn prepared.now decided.now }
     requires decided { IsDecidedFor plan.now prepared.now decided.now }
+    requires rows { KeepsRows plan.now prepared.now decided.now }
     ensures { IfOk result (λ text. text ≡ text_of_pairs (rares_of plan.now.fields) prepared.now.files.a.records prepared.now.files.b.records (pair_rows_in plan.now prepared.now (side_rule decided.now.rule) journal.now)) }
 {
     pair_lines(
         alloc,
         plan,
-        decided,
+        decided.rows(),
         journal,
         prepared.a(),
         prepared.b(),
-        prepared.sides(FileRole::A),
-        prepared.sides(FileRole::B),
     )
 }
 
@@ -213,7 +209,7 @@ pub(crate) fn link_texts(
 }
 
 /// The five texts of a run over prepared files: a greatest one-to-one list of the candidates; prices that certify it; the report; the
-/// compared pairs in a second walk, each line written as it comes; and the rule.
+/// compared pairs, by the rows that the decisions keep; and the rule.
 pub fn finish(
     alloc: Global,
     plan: &Plan,
@@ -222,9 +218,9 @@ pub fn finish(
     journal: &Journal,
 ) -> Result<RunResult, NoMemory>
     requires ranges { KeepsRanges plan.now }
-    requires ready { IsPreparedFor plan.now prepared.now }
     requires of_files { IsDecidedIn prepared.now decided.now }
     requires of_plan { IsDecidedFor plan.now prepared.now decided.now }
+    requires rows { KeepsRows plan.now prepared.now decided.now }
     ensures { IfOk result (λ r. AreRunTexts plan.now prepared.now (side_rule decided.now.rule) journal.now (five_texts r)) }
 {
     let chosen = links_of(alloc, plan, prepared, decided, journal)?;

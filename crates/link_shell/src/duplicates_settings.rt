@@ -54,7 +54,7 @@ fn load_decided<S: Store>(alloc: Global, store: &mut S, plan: &Plan) -> Result<D
     ensures of_file { IfOk result (λ d. IsDecidedIn d.files d.decided) }
 {
     let files = load_within(alloc, store, plan)?;
-    match load_decisions(alloc, store, plan, &files) {
+    match load_decisions(alloc, store, plan, &files, false) {
         Ok(found) => {
             drop(found.shares);
             Ok(DecidedWithin {

@@ -2,7 +2,7 @@
 ghost use Rattle.std.specs.Prelude.{◌≡◌, IfErr, IfOk, IfSome, is_some, map, string_bytes};
 ghost use Rattle.link_base.specs.Fault.{Gives, IsInputFault};
 ghost use Rattle.link_core.specs.Decisions.{IsDecidedIn};
-ghost use Rattle.link_core.specs.Results.{IsDecidedFor};
+ghost use Rattle.link_core.specs.Results.{IsDecidedFor, KeepsRows};
 ghost use Rattle.link_core.specs.Rules.{IsPreparedFor};
 ghost use Rattle.link_shell.specs.Does.{Does};
 ghost use Rattle.link_shell.specs.Generate.{are_generate_words, decided_input, decided_sample, generate_script, IsMadeNumber, is_rows_word, review_of_made, rows_asked};
@@ -77,9 +77,10 @@ fn decide_sample(
     ensures answer { Gives shared_decisions_of (decided_sample plan.now files.now sample.now) result }
     ensures of_files { IfOk result (λ d. IsDecidedIn files.now d.decided) }
     ensures of_plan { IfOk result (λ d. IsDecidedFor plan.now files.now d.decided) }
+    ensures rows { IfOk result (λ d. KeepsRows plan.now files.now d.decided) }
 {
     let shares = counted(alloc, plan, files, sample)?;
-    match decide_all(alloc, plan, files, &shares) {
+    match decide_all(alloc, plan, files, &shares, true) {
         Ok(decided) => Ok(DecidedPlan { shares, decided }),
         Err(fault) => {
             drop(shares);
@@ -96,6 +97,7 @@ fn decide_input(alloc: Global, input: &MadeInput) -> Result<MadeDecisions, Fault
     ensures ready { IfOk result (λ d. IsPreparedFor d.plan d.files) }
     ensures of_files { IfOk result (λ d. IsDecidedIn d.files d.decided) }
     ensures of_plan { IfOk result (λ d. IsDecidedFor d.plan d.files d.decided) }
+    ensures rows { IfOk result (λ d. KeepsRows d.plan d.files d.decided) }
 {
     let plan = read_settings(alloc, input.settings.bytes())?;
     let files = match prepare_files(alloc, &plan, input.a.bytes(), input.b.bytes()) {
@@ -129,6 +131,7 @@ fn decide_made(alloc: Global, rows: u32) -> Result<MadeDecisions, Fault>
     ensures ready { IfOk result (λ d. IsPreparedFor d.plan d.files) }
     ensures of_files { IfOk result (λ d. IsDecidedIn d.files d.decided) }
     ensures of_plan { IfOk result (λ d. IsDecidedFor d.plan d.files d.decided) }
+    ensures rows { IfOk result (λ d. KeepsRows d.plan d.files d.decided) }
 {
     let input = make_input(alloc, rows)?;
     let made = decide_input(alloc, &input);

@@ -90,7 +90,7 @@ pub(crate) fn perform<S: Store, O: Sink>(
 ) -> Result<Ended, Fault>
     ensures { Does (many_script (many_of_request request.now)) (store_seen S.tells S.held S.faults store.old store.new) (sink_seen O.tells O.taken O.faults out.old out.new) result }
 {
-    let found = load_reviewed_settings(alloc, store, request.name)?;
+    let found = load_reviewed_settings(alloc, store, request.name, false)?;
     let made = text_of_found(alloc, store, &found, request.capacities);
     drop(found);
     let text = made?;

@@ -1,9 +1,9 @@
 // What the decisions and the journal of a plan come to.
-ghost use Rattle.std.specs.Prelude.{◌≡◌, ◌∷◌, [], codes, Err, IfOk, IsSome, Some};
+ghost use Rattle.std.specs.Prelude.{◌≡◌, ◌∷◌, [], codes, Err, IfOk, IsSome, Some, true};
 ghost use Rattle.link_base.specs.Fault.{IsInputFault, Refuses};
 ghost use Rattle.link_base.specs.declared.fault.Fault.TheVariants as fault;
 ghost use Rattle.link_core.specs.Decisions.{IsDecidedIn};
-ghost use Rattle.link_core.specs.Results.{IsDecidedFor};
+ghost use Rattle.link_core.specs.Results.{IsDecidedFor, KeepsRows};
 ghost use Rattle.link_core.specs.Review.{IsJournalOf};
 ghost use Rattle.link_core.specs.Rules.{IsPreparedFor};
 ghost use Rattle.link_shell.specs.Reviewed.{decided_plan, found_of, IsReviewed, journal_file, journal_plan, put_of_journal, review_of, reviewed_plan, reviewed_settings, shared_decisions_of};
@@ -81,11 +81,13 @@ pub(crate) fn load_journal<S: Store>(
 }
 
 // Decides on the compared pairs of the prepared files of a plan, by the sample that it names, which is loaded, or by its own shares.
+// The rows of the pairs are kept where they are asked for.
 pub(crate) fn load_decisions<S: Store>(
     alloc: Global,
     store: &mut S,
     plan: &Plan,
     files: &Prepared,
+    with_rows: bool,
 ) -> Result<DecidedPlan, Fault>
     requires ranges { KeepsRanges plan.now }
     requires names { NamesFiles plan.now }
@@ -94,9 +96,10 @@ pub(crate) fn load_decisions<S: Store>(
     ensures of_files { IfOk result (λ d. IsDecidedIn files.now d.decided) }
     ensures of_plan { IfOk result (λ d. IsDecidedFor plan.now files.now d.decided) }
     ensures rule { IfOk result (λ d. IsRuleOf plan.now d.shares d.decided.rule.cells) }
+    ensures rows { IfOk result (λ d. with_rows ≡ true → KeepsRows plan.now files.now d.decided) }
 {
     let shares = load_shares_over(alloc, store, plan, files)?;
-    match decide_all(alloc, plan, files, &shares) {
+    match decide_all(alloc, plan, files, &shares, with_rows) {
         Ok(decided) => Ok(DecidedPlan { shares, decided }),
         Err(fault) => {
             drop(shares);
@@ -110,6 +113,7 @@ pub(crate) fn load_reviewed<S: Store>(
     alloc: Global,
     store: &mut S,
     plan: &Plan,
+    with_rows: bool,
 ) -> Result<Reviewed, Fault>
     requires ranges { KeepsRanges plan.now }
     requires names { NamesFiles plan.now }
@@ -118,10 +122,11 @@ pub(crate) fn load_reviewed<S: Store>(
     ensures of_files { IfOk result (λ r. IsDecidedIn r.files r.decided) }
     ensures of_plan { IfOk result (λ r. IsDecidedFor plan.now r.files r.decided) }
     ensures rule { IfOk result (λ r. IsRuleOf plan.now r.shares r.decided.rule.cells) }
+    ensures rows { IfOk result (λ r. with_rows ≡ true → KeepsRows plan.now r.files r.decided) }
     ensures journal { IfOk result (λ r. IsJournalOf r.files r.journal) }
 {
     let files = load_prepared(alloc, store, plan)?;
-    let found = match load_decisions(alloc, store, plan, &files) {
+    let found = match load_decisions(alloc, store, plan, &files, with_rows) {
         Ok(found) => found,
         Err(fault) => {
             drop(files);
@@ -148,12 +153,14 @@ pub(crate) fn load_reviewed_settings<S: Store>(
     alloc: Global,
     store: &mut S,
     name: &str,
+    with_rows: bool,
 ) -> Result<ReviewedSettings, Fault>
     ensures takes { Takes (reviewed_settings name.now) (store_seen S.tells S.held S.faults store.old store.new) (seen_by found_of result) }
     ensures found { IfOk result IsReviewed }
+    ensures rows { IfOk result (λ s. with_rows ≡ true → KeepsRows s.plan s.reviewed.files s.reviewed.decided) }
 {
     let plan = load_plan(alloc, store, name)?;
-    match load_reviewed(alloc, store, &plan) {
+    match load_reviewed(alloc, store, &plan, with_rows) {
         Ok(reviewed) => Ok(ReviewedSettings { plan, reviewed }),
         Err(fault) => {
             drop(plan);

@@ -73,7 +73,7 @@ pub(crate) fn perform<S: Store, O: Sink>(
 ) -> Result<Ended, Fault>
     ensures { Does (verify_script name.now) (store_seen S.tells S.held S.faults store.old store.new) (sink_seen O.tells O.taken O.faults out.old out.new) result }
 {
-    let found = load_reviewed_settings(alloc, store, name)?;
+    let found = load_reviewed_settings(alloc, store, name, false)?;
     let verified = verify_found(alloc, store, &found);
     drop(found);
     let told = verified?;

@@ -17,4 +17,4 @@ pub mod ShareLemmas
 pub mod RuleSideLemmas
 pub mod TheRule
 pub mod LineLemmas
-pub mod OrderLemmas
+pub mod RowLemmas

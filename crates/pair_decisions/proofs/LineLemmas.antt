@@ -1,35 +1,32 @@
--- The lines of pairs, pair by pair and row by row.
-use Rattle.std.proofs.Common.{◌≡◌, ◌+◌, ◌<◌, ◌∙◌, ℕ, List, [], ◌∷◌, ◌++◌, length, map, take, get_or, ap, append_assoc, sym}
+-- The lines of rows, row by row.
+use Rattle.std.proofs.Common.{◌≡◌, ◌+◌, ◌<◌, ◌∙◌, ℕ, Bool, List, [], ◌∷◌, ◌++◌, length, map, take, get_or, ap, append_assoc, refl, sym}
 use Rattle.std.specs.List.{flat_map}
 use Rattle.std.proofs.lemmas.Grind.{flat_map-append}
-use Rattle.std.proofs.lemmas.List.{append-nil, map-append}
+use Rattle.std.proofs.lemmas.List.{append-nil, map-append, take_more}
+use Rattle.comparators.specs.declared.ids.IdValue.{IdValue}
 use Rattle.link_base.specs.declared.rule.PairAt.{PairAt}
 use Rattle.link_report.specs.declared.open.PairRow.{PairRow}
-use Rattle.pair_decisions.proofs.OrderLemmas.{row_step}
-use Rattle.pair_walk.specs.Pairs.{pair, pairs_of_rows}
-use Rattle.pair_walk.specs.Rows.{RowAt}
+use Rattle.pair_decisions.specs.PairRows.{decided_rows, pair_row_of, pair_rows_of, shown_rows}
+use Rattle.pair_decisions.specs.PairRule.{SideRule}
+use Rattle.review_journal.specs.declared.entry.Entry.{Entry}
 
-module _ (f : PairRow → List ℕ) (g : PairAt → PairRow) where
-  joined : (xs ys : List PairAt) → flat_map f (map g (xs ++ ys)) ≡ flat_map f (map g xs) ++ flat_map f (map g ys)
-  joined xs ys = ap (flat_map f) (map-append g xs ys) ∙ flat_map-append f (map g xs) (map g ys)
+-- a line by the fields that may be rare, which stay the same
+pub line_by : (line : List Bool → PairRow → List ℕ) (now start : List Bool) (row : PairRow) (old new : List ℕ) → now ≡ start → new ≡ old ++ line now row → new ≡ old ++ line start row
+line_by line now start row old new same told = told ∙ ap (λ rares. old ++ line rares row) same
 
-  -- one line of a row more
-  pub line_more : (a : ℕ) (bs : List ℕ) (i : ℕ) (start old new : List ℕ) → i < length bs
-      → old ≡ start ++ flat_map f (map g (map (pair a) (take i bs))) → new ≡ old ++ f (g (pair a (get_or bs i 0)))
-      → new ≡ start ++ flat_map f (map g (map (pair a) (take (i + 1) bs)))
-  line_more a bs i start old new lt told more =
-      let x = f (g (pair a (get_or bs i 0))) in
-      let before = flat_map f (map g (map (pair a) (take i bs))) in
-      let all : flat_map f (map g (map (pair a) (take (i + 1) bs))) ≡ before ++ x =
-      ap (λ ps. flat_map f (map g ps)) (row_step a bs i lt) ∙ joined (map (pair a) (take i bs)) (pair a (get_or bs i 0) ∷ []) ∙ ap (λ t. before ++ t) (append-nil x) in
-      more ∙ ap (λ t. t ++ x) told ∙ append_assoc start before x ∙ ap (λ t. start ++ t) (sym all)
+-- one line more
+pub line_more : (line : PairRow → List ℕ) (shown : PairRow → PairRow) (rows : List PairRow) (i : ℕ) (d : PairRow) (start old new : List ℕ) → i < length rows
+    → old ≡ start ++ flat_map line (map shown (take i rows)) → new ≡ old ++ line (shown (get_or rows i d)) → new ≡ start ++ flat_map line (map shown (take (i + 1) rows))
+line_more line shown rows i d start old new lt told more =
+    let before = map shown (take i rows) in
+    let row = shown (get_or rows i d) in
+    let step : map shown (take (i + 1) rows) ≡ before ++ row ∷ [] = ap (map shown) (take_more rows i d lt) ∙ map-append shown (take i rows) (get_or rows i d ∷ []) in
+    let all : flat_map line (map shown (take (i + 1) rows)) ≡ flat_map line before ++ line row =
+    ap (flat_map line) step ∙ flat_map-append line before (row ∷ []) ∙ ap (λ t. flat_map line before ++ t) (append-nil (line row)) in
+    more ∙ ap (λ t. t ++ line row) told ∙ append_assoc start (flat_map line before) (line row) ∙ ap (λ t. start ++ t) (sym all)
 
-  -- the lines of one row of a walk more
-  pub row_lines_more : (left rest : List RowAt) (a : ℕ) (bs : List ℕ) (old new all : List ℕ) → left ≡ record { a = a; bs = bs } ∷ rest
-      → new ≡ old ++ flat_map f (map g (map (pair a) bs)) → old ++ flat_map f (map g (pairs_of_rows left)) ≡ all
-      → new ++ flat_map f (map g (pairs_of_rows rest)) ≡ all
-  row_lines_more left rest a bs old new all is more told =
-      let row = flat_map f (map g (map (pair a) bs)) in
-      let tail = flat_map f (map g (pairs_of_rows rest)) in
-      let both : flat_map f (map g (pairs_of_rows left)) ≡ row ++ tail = ap (λ rows. flat_map f (map g (pairs_of_rows rows))) is ∙ joined (map (pair a) bs) (pairs_of_rows rest) in
-      ap (λ t. t ++ tail) more ∙ append_assoc old row tail ∙ ap (λ t. old ++ t) (sym both) ∙ told
+-- the rows of pairs with the verdicts that are shown at them
+pub rows_shown : (rule : SideRule) (rows_a rows_b : List (List IdValue)) (entries : List Entry) (pairs : List PairAt)
+    → shown_rows entries (decided_rows rule rows_a rows_b pairs) ≡ pair_rows_of rule rows_a rows_b entries pairs
+rows_shown rule rows_a rows_b entries [] = refl
+rows_shown rule rows_a rows_b entries (at ∷ pairs) = ap (λ rows. pair_row_of rule rows_a rows_b entries at ∷ rows) (rows_shown rule rows_a rows_b entries pairs)

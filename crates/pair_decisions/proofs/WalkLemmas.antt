@@ -1,19 +1,32 @@
--- The pairs of a walk, row by row, and their filters.
-use Rattle.std.proofs.Common.{◌≡◌, ◌+◌, ◌<◌, ℕ, Bool, List, ◌∷◌, ◌++◌, length, map, filter, get_or, ap, append_assoc, arith, length-append, subst, sym, ◌∙◌}
+-- The pairs of a walk, row by row, and what is made of them.
+use Rattle.std.proofs.Common.{◌≡◌, ◌+◌, ◌<◌, ℕ, List, [], ◌∷◌, ◌++◌, length, map, take, get_or, ap, append_assoc, arith, length-append, subst, sym, ◌∙◌}
 use Rattle.std.specs.Prelude.{All}
-use Rattle.std.proofs.lemmas.List.{get_or-append-add, get_or-map, get_or_append_left, length-map}
-use Rattle.std.proofs.lemmas.List.Elements.{filter-append}
+use Rattle.std.proofs.lemmas.List.{get_or-append-add, get_or-map, get_or_append_left, length-map, map-append, take_more}
 use Rattle.link_base.specs.declared.rule.PairAt.{PairAt}
 use Rattle.pair_walk.specs.Pairs.{pair, pairs_of_rows}
 use Rattle.pair_walk.specs.Rows.{RowAt}
 
--- one row more of a walk
-pub row_more : (p : PairAt → Bool) (left rest : List RowAt) (a : ℕ) (bs : List ℕ) (old new all : List PairAt) → left ≡ record { a = a; bs = bs } ∷ rest
-    → new ≡ old ++ filter p (map (pair a) bs) → old ++ filter p (pairs_of_rows left) ≡ all → new ++ filter p (pairs_of_rows rest) ≡ all
-row_more p left rest a bs old new all is kept told =
-    let row = map (pair a) bs in
-    let both : filter p (pairs_of_rows left) ≡ filter p row ++ filter p (pairs_of_rows rest) = ap (λ rows. filter p (pairs_of_rows rows)) is ∙ filter-append p row (pairs_of_rows rest) in
-    ap (λ ps. ps ++ filter p (pairs_of_rows rest)) kept ∙ append_assoc old (filter p row) (filter p (pairs_of_rows rest)) ∙ ap (λ ps. old ++ ps) (sym both) ∙ told
+-- one pair of a row more
+pub row_step : (a : ℕ) (bs : List ℕ) (i : ℕ) → i < length bs → map (pair a) (take (i + 1) bs) ≡ map (pair a) (take i bs) ++ pair a (get_or bs i 0) ∷ []
+row_step a bs i lt = ap (map (pair a)) (take_more bs i 0 lt) ∙ map-append (pair a) (take i bs) (get_or bs i 0 ∷ [])
+
+-- what is made of pairs, where that of joined lists is that of each, joined
+module _ {X : Type 0} (made : List PairAt → List X) (joined : (ps qs : List PairAt) → made (ps ++ qs) ≡ made ps ++ made qs) where
+  pub pair_more : (a : ℕ) (bs : List ℕ) (i : ℕ) (start old new : List X) → i < length bs
+      → old ≡ start ++ made (map (pair a) (take i bs)) → new ≡ old ++ made (pair a (get_or bs i 0) ∷ []) → new ≡ start ++ made (map (pair a) (take (i + 1) bs))
+  pair_more a bs i start old new lt told more =
+      let before = map (pair a) (take i bs) in
+      let here = pair a (get_or bs i 0) ∷ [] in
+      let all : made (map (pair a) (take (i + 1) bs)) ≡ made before ++ made here = ap made (row_step a bs i lt) ∙ joined before here in
+      more ∙ ap (λ xs. xs ++ made here) told ∙ append_assoc start (made before) (made here) ∙ ap (λ xs. start ++ xs) (sym all)
+
+  -- one row more of a walk
+  pub row_more : (left rest : List RowAt) (a : ℕ) (bs : List ℕ) (old new all : List X) → left ≡ record { a = a; bs = bs } ∷ rest
+      → new ≡ old ++ made (map (pair a) bs) → old ++ made (pairs_of_rows left) ≡ all → new ++ made (pairs_of_rows rest) ≡ all
+  row_more left rest a bs old new all is kept told =
+      let row = map (pair a) bs in
+      let both : made (pairs_of_rows left) ≡ made row ++ made (pairs_of_rows rest) = ap (λ rows. made (pairs_of_rows rows)) is ∙ joined row (pairs_of_rows rest) in
+      ap (λ xs. xs ++ made (pairs_of_rows rest)) kept ∙ append_assoc old (made row) (made (pairs_of_rows rest)) ∙ ap (λ xs. old ++ xs) (sym both) ∙ told
 
 pub count_more : (left rest : List RowAt) (a : ℕ) (bs : List ℕ) → left ≡ record { a = a; bs = bs } ∷ rest → length (pairs_of_rows left) ≡ length bs + length (pairs_of_rows rest)
 count_more left rest a bs is =

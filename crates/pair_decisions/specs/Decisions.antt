@@ -9,9 +9,9 @@ use Rattle.link_base.specs.declared.rule.Decision.{Decision}
 use Rattle.link_base.specs.declared.rule.Decision.TheVariants.{Link, NonLink, Possible}
 use Rattle.link_base.specs.declared.rule.PairAt.{PairAt}
 use Rattle.link_base.specs.Rule.{IsPairBefore}
+use Rattle.link_report.specs.declared.open.PairRow.{PairRow}
 use Rattle.pair_decisions.specs.PairRule.{cell_of, PairRuleView, pattern_by, side_rule, SideRule}
 use Rattle.pair_decisions.specs.Pairs.{IsInside}
-use Rattle.pair_walk.specs.Rows.{RowAt}
 
 -- the comparison pattern of the rows at a pair of positions
 abbrev pub pattern_at : SideRule → List (List IdValue) → List (List IdValue) → PairAt → ℕ
@@ -31,10 +31,11 @@ is_same kind other = false
 abbrev pub pairs_with : Decision → SideRule → List (List IdValue) → List (List IdValue) → List PairAt → List PairAt
 pairs_with kind rule rows_a rows_b pairs = filter (λ at. is_same kind (decision_at rule rows_a rows_b at)) pairs
 
--- what is seen of decided pairs: the rule, the rows of the blocks, how many pairs were compared, the links and the possible links
+-- what is seen of decided pairs: the rule, the rows of the pairs where they are kept, how many pairs were compared, the links and
+-- the possible links
 pub record DecidedView : Type 0 where
   pub rule : PairRuleView
-  pub rows : List RowAt
+  pub rows : List PairRow
   pub compared : ℕ
   pub links : List PairAt
   pub possible : List PairAt

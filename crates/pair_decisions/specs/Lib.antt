@@ -8,5 +8,4 @@ pub mod PlanShares
 pub mod PlanRule
 pub mod TheRule
 pub mod RareValues
-pub mod LastPair
 pub mod PairRows

@@ -1,11 +1,13 @@
 -- The rows of compared pairs: each with its comparison pattern, the weight and the decision of the pattern's cell (Fellegi and
--- Sunter 1969, section 2), and the verdict of clerical review. `pair_lines` writes them (its lone clause).
-use Rattle.std.specs.Prelude.{List, map, Option, None}
+-- Sunter 1969, section 2), and the verdict of clerical review. `decide_pairs` finds them before review (clause `rows`), and
+-- `pair_lines` writes them with their verdicts (its lone clause).
+use Rattle.std.specs.Prelude.{◌<◌, ℕ, Bool, true, false, List, [], All, AllPairs, map, Option, None}
 use Rattle.comparators.specs.declared.ids.IdValue.{IdValue}
 use Rattle.link_base.specs.declared.rule.Decision.{Decision}
 use Rattle.link_base.specs.declared.rule.Decision.TheVariants.{Possible}
 use Rattle.link_base.specs.declared.rule.PairAt.{PairAt}
 use Rattle.link_base.specs.declared.rule.Verdict.{Verdict}
+use Rattle.link_base.specs.Rule.{IsPairBefore}
 use Rattle.link_report.specs.declared.open.PairRow.{PairRow}
 use Rattle.pair_decisions.specs.Decisions.{decision_at, pattern_at}
 use Rattle.pair_decisions.specs.PairRule.{cell_of, SideRule}
@@ -32,3 +34,37 @@ pair_row_of rule rows_a rows_b entries at =
 
 abbrev pub pair_rows_of : SideRule → List (List IdValue) → List (List IdValue) → List Entry → List PairAt → List PairRow
 pair_rows_of rule rows_a rows_b entries pairs = map (pair_row_of rule rows_a rows_b entries) pairs
+
+-- the row of a pair before review, and those of pairs
+abbrev pub decided_row : SideRule → List (List IdValue) → List (List IdValue) → PairAt → PairRow
+decided_row rule rows_a rows_b at =
+    let pattern = pattern_at rule rows_a rows_b at in
+    record {
+      at = at;
+      pattern = pattern;
+      weight = (cell_of rule.cells pattern).weight;
+      decision = decision_at rule rows_a rows_b at;
+      verdict = None;
+    }
+
+abbrev pub decided_rows : SideRule → List (List IdValue) → List (List IdValue) → List PairAt → List PairRow
+decided_rows rule rows_a rows_b pairs = map (decided_row rule rows_a rows_b) pairs
+
+-- rows where they are kept: all of them, or none
+abbrev pub kept_rows : Bool → List PairRow → List PairRow
+kept_rows true rows = rows
+kept_rows false rows = []
+
+-- a row with the verdict that is shown at it
+abbrev pub shown_row : List Entry → PairRow → PairRow
+shown_row entries row = record row { verdict = shown_verdict entries row.at row.decision }
+
+abbrev pub shown_rows : List Entry → List PairRow → List PairRow
+shown_rows entries rows = map (shown_row entries) rows
+
+-- rows that can be written: they rise, stand in files of so many records, and have some of so many patterns
+pub record AreRowsIn (rows_a rows_b patterns : ℕ) (rows : List PairRow) : Type 0 where
+  pub in_a : All (λ (r : PairRow). r.at.a < rows_a) rows
+  pub in_b : All (λ (r : PairRow). r.at.b < rows_b) rows
+  pub patterns_in : All (λ (r : PairRow). r.pattern < patterns) rows
+  pub rising : AllPairs (λ (r s : PairRow). IsPairBefore r.at s.at) rows

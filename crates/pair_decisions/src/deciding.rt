@@ -6,6 +6,7 @@ ghost use Rattle.link_base.specs.declared.rule.Decision.TheVariants.{Link, Possi
 ghost use Rattle.link_base.specs.Rule.{IsPairBefore};
 ghost use Rattle.pair_decisions.specs.Decisions.{AreDecisionsOn, count_with, pairs_with};
 ghost use Rattle.pair_decisions.specs.PairRule.{AreSidesFor, side_rule};
+ghost use Rattle.pair_decisions.specs.PairRows.{AreRowsIn, decided_rows, kept_rows};
 ghost use Rattle.pair_decisions.specs.Pairs.{IsInside, pairs_within};
 ghost use Rattle.pair_walk.specs.Pairs.{pairs_of_rows};
 
@@ -14,16 +15,17 @@ use crate::walking::decide_rows;
 use comparators::IdTable;
 use link_base::{Decision, Fault, PairAt};
 use link_limits::MOST_ROWS;
-use pair_walk::{Blocks, WalkFault, Walker};
+use link_report::PairRow;
+use pair_walk::{Blocks, WalkFault};
 use std::alloc::Global;
 use std::marker::Model;
 
-/// The decisions of a rule on all compared pairs of two files. Contracts see the rule, the rows of the blocks, how many pairs
-/// were compared, and the rising lists of the pairs that are links and possible links.
+/// The decisions of a rule on all compared pairs of two files. Contracts see the rule, the rows of the pairs where they are kept,
+/// how many pairs were compared, and the rising lists of the pairs that are links and possible links.
 #[derive(Drop)]
 pub struct Decided {
     rule: PairRule,
-    blocks: Blocks,
+    rows: Vec<PairRow>,
     compared: u32,
     links: Vec<PairAt>,
     possible: Vec<PairAt>,
@@ -35,7 +37,7 @@ impl Model for Decided {
 
     ghost Value = { DecidedView };
 
-    ghost view = { λ d. record { rule = d.rule; rows = d.blocks; compared = d.compared; links = d.links.items; possible = d.possible.items } };
+    ghost view = { λ d. record { rule = d.rule; rows = d.rows.items; compared = d.compared; links = d.links.items; possible = d.possible.items } };
 
     ghost invariant = { λ d. length d.links.items + length d.possible.items ≤ d.compared };
 }
@@ -48,12 +50,11 @@ impl Decided {
         &self.rule
     }
 
-    /// A walk over the blocks from the first row on.
-    pub(crate) fn walk(&self) -> Walker<'_>
-        ensures left { result.left ≡ self.now.rows }
-        ensures given { result.given ≡ 0 }
+    /// The rows of the compared pairs before review, rising by the positions in A and then in B, where they are kept.
+    pub fn rows(&self) -> &[PairRow]
+        ensures { result.now ≡ self.now.rows }
     {
-        self.blocks.walk()
+        &self.rows
     }
 
     /// The links, rising by the positions in A and then in B.
@@ -92,40 +93,44 @@ impl Decided {
     }
 }
 
-/// The decisions of a rule on the pairs of the blocks of two files, in one walk. There are too many pairs exactly where they are
-/// more than `MOST_PAIRS`. The sides are what the records of the two files are compared by.
+/// The decisions of a rule on the pairs of the blocks of two files, in one walk, which keeps the row of each pair where they are
+/// asked for. There are too many pairs exactly where they are more than `MOST_PAIRS`. The sides are what the records of the two
+/// files are compared by.
 pub fn decide_pairs(
     alloc: Global,
     rule: PairRule,
-    blocks: Blocks,
+    blocks: &Blocks,
     sides_a: &IdTable,
     sides_b: &IdTable,
+    with_rows: bool,
 ) -> Result<Decided, Fault>
     requires few_a { length sides_a.now.rows ≤ MOST_ROWS }
     requires few_b { length sides_b.now.rows ≤ MOST_ROWS }
     requires sides_a { All (AreSidesFor rule) sides_a.now.rows }
     requires sides_b { All (AreSidesFor rule) sides_b.now.rows }
-    requires inside { All (IsInside (length sides_a.now.rows) (length sides_b.now.rows)) (pairs_of_rows blocks) }
-    requires rising { AllPairs IsPairBefore (pairs_of_rows blocks) }
+    requires inside { All (IsInside (length sides_a.now.rows) (length sides_b.now.rows)) (pairs_of_rows blocks.now) }
+    requires rising { AllPairs IsPairBefore (pairs_of_rows blocks.now) }
     ensures kind { IfErr result IsInputFault }
-    ensures refused { IfErr result (Refuses (pairs_within (pairs_of_rows blocks))) }
-    ensures within { IfOk result (λ _. pairs_within (pairs_of_rows blocks) ≡ Ok (pairs_of_rows blocks)) }
+    ensures refused { IfErr result (Refuses (pairs_within (pairs_of_rows blocks.now))) }
+    ensures within { IfOk result (λ _. pairs_within (pairs_of_rows blocks.now) ≡ Ok (pairs_of_rows blocks.now)) }
     ensures rule { IfOk result (λ d. d.rule ≡ rule) }
-    ensures rows { IfOk result (λ d. d.rows ≡ blocks) }
-    ensures compared { IfOk result (λ d. d.compared ≡ length (pairs_of_rows blocks)) }
-    ensures links { IfOk result (λ d. d.links ≡ pairs_with Link (side_rule rule) sides_a.now.rows sides_b.now.rows (pairs_of_rows blocks)) }
-    ensures possible { IfOk result (λ d. d.possible ≡ pairs_with Possible (side_rule rule) sides_a.now.rows sides_b.now.rows (pairs_of_rows blocks)) }
-    ensures counts { IfOk result (λ d. (kind : Decision) → count_with d kind ≡ length (pairs_with kind (side_rule rule) sides_a.now.rows sides_b.now.rows (pairs_of_rows blocks))) }
+    ensures rows { IfOk result (λ d. d.rows ≡ kept_rows with_rows (decided_rows (side_rule rule) sides_a.now.rows sides_b.now.rows (pairs_of_rows blocks.now))) }
+    ensures rows_in { IfOk result (λ d. AreRowsIn (length sides_a.now.rows) (length sides_b.now.rows) (length d.rule.cells) d.rows) }
+    ensures compared { IfOk result (λ d. d.compared ≡ length (pairs_of_rows blocks.now)) }
+    ensures links { IfOk result (λ d. d.links ≡ pairs_with Link (side_rule rule) sides_a.now.rows sides_b.now.rows (pairs_of_rows blocks.now)) }
+    ensures possible { IfOk result (λ d. d.possible ≡ pairs_with Possible (side_rule rule) sides_a.now.rows sides_b.now.rows (pairs_of_rows blocks.now)) }
+    ensures counts { IfOk result (λ d. (kind : Decision) → count_with d kind ≡ length (pairs_with kind (side_rule rule) sides_a.now.rows sides_b.now.rows (pairs_of_rows blocks.now))) }
     ensures links_inside { IfOk result (λ d. All (IsInside (length sides_a.now.rows) (length sides_b.now.rows)) d.links) }
     ensures possible_inside { IfOk result (λ d. All (IsInside (length sides_a.now.rows) (length sides_b.now.rows)) d.possible) }
     ensures links_rise { IfOk result (λ d. AllPairs IsPairBefore d.links) }
     ensures possible_rise { IfOk result (λ d. AllPairs IsPairBefore d.possible) }
-    ensures decisions { IfOk result (AreDecisionsOn sides_a.now.rows sides_b.now.rows (pairs_of_rows blocks)) }
+    ensures decisions { IfOk result (AreDecisionsOn sides_a.now.rows sides_b.now.rows (pairs_of_rows blocks.now)) }
 {
-    match decide_rows(alloc, blocks.walk(), &rule, sides_a, sides_b) {
+    rule.has_cells();
+    match decide_rows(alloc, blocks.walk(), &rule, sides_a, sides_b, with_rows) {
         Ok(found) => Ok(Decided {
             rule,
-            blocks,
+            rows: found.rows,
             compared: found.compared,
             links: found.links,
             possible: found.possible,

@@ -1,5 +1,5 @@
-//! The decision rule of a plan, its decisions on all compared pairs of two files (Fellegi and Sunter 1969), and the lines
-//! of these pairs, written in a walk of their own: no list of the pairs is kept.
+//! The decision rule of a plan, its decisions on all compared pairs of two files (Fellegi and Sunter 1969), made in one walk, and
+//! the lines of these pairs, whose rows are kept for those who write them.
 #![tactic(auto)]
 
 mod choice;

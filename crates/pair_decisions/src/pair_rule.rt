@@ -1,5 +1,6 @@
 // The rule of a plan over the sides of two files.
-ghost use Rattle.std.specs.Prelude.{◌≡◌, ◌<◌, ◌≤◌, All, IfOk, Some, find, length};
+ghost use Rattle.std.specs.Prelude.{◌≡◌, ◌<◌, ◌≤◌, All, IfOk, Some, find, length, map};
+ghost use Rattle.comparators.specs.Fields.{field_rare};
 ghost use Rattle.link_base.specs.Rule.{IsWithinRanges};
 ghost use Rattle.pair_decisions.specs.PairRule.{AreCellsOf, AreSidesFor, has_pattern, pattern_by, side_rule, side_rule_of};
 ghost use Rattle.patterns.specs.Shapes.{pattern_count_by};
@@ -83,6 +84,13 @@ impl PairRule {
         ensures { result ≡ self.now.seed }
     {
         self.seed
+    }
+
+    /// Law: there are as many cells as patterns of the comparators.
+    pub(crate) fn has_cells(&self)
+        ensures { length self.now.cells ≡ pattern_count_by (map field_rare self.now.comparators) }
+    {
+        let _places = &self.places;
     }
 
     /// The comparison pattern of a row of A and a row of B.

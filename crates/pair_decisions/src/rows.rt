@@ -2,7 +2,7 @@
 ghost use Rattle.std.specs.Prelude.{◌≡◌, ◌<◌, ◌≤◌, All, length};
 ghost use Rattle.pair_decisions.specs.PairRule.{AreSidesFor, side_rule};
 ghost use Rattle.pair_decisions.specs.Pairs.{IsInside};
-ghost use Rattle.pair_decisions.specs.PairRows.{pair_row_of, shown_verdict};
+ghost use Rattle.pair_decisions.specs.PairRows.{decided_row, shown_row, shown_verdict};
 
 use crate::choice::decide_in_cell;
 use crate::pair_rule::PairRule;
@@ -13,22 +13,11 @@ use link_limits::MOST_ROWS;
 use link_report::PairRow;
 use review_journal::Journal;
 
-// The verdict that is shown at a pair with this decision.
-fn verdict_at(journal: &Journal, at: PairAt, decision: Decision) -> Option<Verdict>
-    ensures { result ≡ shown_verdict journal.now at decision }
-{
-    match decision {
-        Decision::Possible => journal.verdict(at.a, at.b),
-        Decision::Link | Decision::NonLink => None,
-    }
-}
-
-/// The row of the pair at positions: its comparison pattern, the weight and the decision of the pattern's cell, and the verdict
-/// of the journal on a possible link.
+/// The row of the pair at positions, before review: its comparison pattern, and the weight and the decision of the pattern's
+/// cell.
 pub(crate) fn row_at(
     rule: &PairRule,
     words: &mut BorderWords,
-    journal: &Journal,
     sides_a: &IdTable,
     sides_b: &IdTable,
     at: PairAt,
@@ -40,17 +29,38 @@ pub(crate) fn row_at(
     requires sides_b { All (AreSidesFor rule.now) sides_b.now.rows }
     requires inside { IsInside (length sides_a.now.rows) (length sides_b.now.rows) at }
     ensures same { words.new ≡ words.old }
-    ensures row { result ≡ pair_row_of (side_rule rule.now) sides_a.now.rows sides_b.now.rows journal.now at }
-    ensures pattern { result.pattern < length rule.now.cells }
+    ensures row { result ≡ decided_row (side_rule rule.now) sides_a.now.rows sides_b.now.rows at }
 {
     let pattern = rule.pattern(sides_a.sides(at.a), sides_b.sides(at.b));
     let cell = rule.cell(pattern);
-    let decision = decide_in_cell(cell, words, at);
     PairRow {
         at,
         pattern,
         weight: cell.weight,
-        decision,
-        verdict: verdict_at(journal, at, decision),
+        decision: decide_in_cell(cell, words, at),
+        verdict: None,
+    }
+}
+
+// The verdict that is shown at a pair with this decision.
+fn verdict_at(journal: &Journal, at: PairAt, decision: Decision) -> Option<Verdict>
+    ensures { result ≡ shown_verdict journal.now at decision }
+{
+    match decision {
+        Decision::Possible => journal.verdict(at.a, at.b),
+        Decision::Link | Decision::NonLink => None,
+    }
+}
+
+/// A row with the verdict of the journal, where the pair is a possible link.
+pub(crate) fn shown(journal: &Journal, row: &PairRow) -> PairRow
+    ensures { result ≡ shown_row journal.now row.now }
+{
+    PairRow {
+        at: row.at,
+        pattern: row.pattern,
+        weight: row.weight,
+        decision: row.decision,
+        verdict: verdict_at(journal, row.at, row.decision),
     }
 }

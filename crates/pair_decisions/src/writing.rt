@@ -1,121 +1,69 @@
-// The lines of the pairs of a walk.
-ghost use Rattle.std.specs.Prelude.{◌≡◌, ◌≤◌, ◌++◌, All, AllPairs, IfOk, None, OnOk, length, map};
+// The lines of the rows of pairs.
+ghost use Rattle.std.specs.Prelude.{◌≡◌, ◌<◌, ◌++◌, IfOk, IfSome, List, None, OnOk, Some, length};
 ghost use Rattle.std.specs.List.{flat_map};
-ghost use Rattle.link_report.specs.Lines.{id_fields};
+ghost use Rattle.link_base.specs.Standard.{id_at, Record};
+ghost use Rattle.link_report.specs.Lines.{front_of, id_fields};
 ghost use Rattle.link_report.specs.PairsText.{IsAfter, pair_row};
-ghost use Rattle.pair_decisions.specs.PairRule.{AreSidesFor, side_rule};
-ghost use Rattle.link_base.specs.Rule.{IsPairBefore};
-ghost use Rattle.pair_decisions.specs.Pairs.{IsInside};
-ghost use Rattle.pair_decisions.specs.LastPair.{last_after};
-ghost use Rattle.pair_decisions.specs.PairRows.{pair_rows_of};
-ghost use Rattle.pair_walk.specs.Pairs.{pair, pairs_of_rows};
+ghost use Rattle.pair_decisions.specs.PairRows.{AreRowsIn, shown_row, shown_rows};
 ghost use Rattle.patterns.specs.Shapes.{pattern_count_by};
 
-use crate::pair_rule::PairRule;
-use crate::rows::row_at;
-use comparators::IdTable;
-use decision_rule::BorderWords;
-use link_base::{NoMemory, PairAt, Sides, StdFile};
-use link_limits::{MOST_PAIRS, MOST_ROWS};
-use link_report::{IdFields, LineFront, PairsWriter};
-use pair_walk::{RowPairs, WalkFault, Walker};
+use crate::rows::shown;
+use link_base::{NoMemory, StdFile};
+use link_report::{IdFields, LineFront, PairRow, PairsWriter};
 use review_journal::Journal;
 use std::alloc::Global;
 
-// Writes the pairs of a row of A.
-fn write_row(
-    writer: &mut PairsWriter,
-    front: &mut LineFront,
-    words: &mut BorderWords,
-    rule: &PairRule,
-    journal: &Journal,
-    a: &StdFile,
-    b: &StdFile,
-    ids: &IdFields,
-    sides_a: &IdTable,
-    sides_b: &IdTable,
-    row: &RowPairs,
-) -> Result<(), NoMemory>
-    requires words { words.old ≡ rule.now.seed }
-    requires cells { length rule.now.cells ≡ pattern_count_by writer.old.rares }
-    requires few_a { length a.now ≤ MOST_ROWS }
-    requires few_b { length b.now ≤ MOST_ROWS }
-    requires ids { ids.now ≡ id_fields b.now }
-    requires rows_a { length sides_a.now.rows ≡ length a.now }
-    requires rows_b { length sides_b.now.rows ≡ length b.now }
-    requires sides_a { All (AreSidesFor rule.now) sides_a.now.rows }
-    requires sides_b { All (AreSidesFor rule.now) sides_b.now.rows }
-    requires inside { All (IsInside (length a.now) (length b.now)) (map (pair row.now.a) row.now.bs.items) }
-    requires rising { AllPairs IsPairBefore (map (pair row.now.a) row.now.bs.items) }
-    requires after { All (IsAfter writer.old.last) (map (pair row.now.a) row.now.bs.items) }
-    ensures same { words.new ≡ words.old }
-    ensures rares { writer.new.rares ≡ writer.old.rares }
-    ensures text { OnOk result (writer.new.text ≡ writer.old.text ++ flat_map (pair_row writer.old.rares a.now b.now) (pair_rows_of (side_rule rule.now) sides_a.now.rows sides_b.now.rows journal.now (map (pair row.now.a) row.now.bs.items))) }
-    ensures last { OnOk result (writer.new.last ≡ last_after writer.old.last (map (pair row.now.a) row.now.bs.items)) }
+// Makes the front of the lines of a record of A, where it is not that of the record before.
+fn turn(front: &mut LineFront, before: Option<u32>, a: &StdFile, at: u32) -> Result<(), NoMemory>
+    requires within { at < length a.now }
+    requires made { IfSome before (λ was. front.old ≡ front_of (id_at a.now was)) }
+    ensures { OnOk result (front.new ≡ front_of (id_at a.now at)) }
 {
-    if row.bs.is_empty() {
-        return Ok(());
+    match before {
+        Some(was) if was == at => Ok(()),
+        _ => front.set(a.id(at)),
     }
-    front.set(a.id(row.a))?;
-    for at_b in &row.bs {
-        let at = PairAt { a: row.a, b: *at_b };
-        let line = row_at(rule, words, journal, sides_a, sides_b, at);
-        writer.push_behind(front, &line, ids)?;
-    }
-    Ok(())
 }
 
-/// Writes the pairs of the rows that a new walker gives, which are not too many.
+// Writes the line of a pair behind the front of its record of A, where `ids` are the ids of B as fields.
+fn write_line(
+    writer: &mut PairsWriter,
+    front: &LineFront,
+    journal: &Journal,
+    row: &PairRow,
+    ids: &IdFields,
+) -> Result<(), NoMemory>
+    requires in_b { row.now.at.b < length ids.now }
+    requires pattern { row.now.pattern < pattern_count_by writer.old.rares }
+    requires after { IsAfter writer.old.last row.now.at }
+    ensures rares { writer.new.rares ≡ writer.old.rares }
+    ensures text { (a : List Record) → front.now ≡ front_of (id_at a row.now.at.a) → (b : List Record) → ids.now ≡ id_fields b
+        → OnOk result (writer.new.text ≡ writer.old.text ++ pair_row writer.old.rares a b (shown_row journal.now row.now)) }
+    ensures last { OnOk result (writer.new.last ≡ Some row.now.at) }
+{
+    writer.push_behind(front, &shown(journal, row), ids)
+}
+
+/// Writes the lines of rows.
 pub(crate) fn write_rows(
     alloc: Global,
-    mut walker: Walker<'_>,
     mut writer: PairsWriter,
-    rule: &PairRule,
     journal: &Journal,
+    rows: &[PairRow],
     a: &StdFile,
     b: &StdFile,
-    ids: &IdFields,
-    sides_a: &IdTable,
-    sides_b: &IdTable,
 ) -> Result<PairsWriter, NoMemory>
-    requires given { walker.given ≡ 0 }
-    requires few { length (pairs_of_rows walker.left) ≤ MOST_PAIRS }
     requires first { writer.last ≡ None }
-    requires cells { length rule.now.cells ≡ pattern_count_by writer.rares }
-    requires few_a { length a.now ≤ MOST_ROWS }
-    requires few_b { length b.now ≤ MOST_ROWS }
-    requires ids { ids.now ≡ id_fields b.now }
-    requires rows_a { length sides_a.now.rows ≡ length a.now }
-    requires rows_b { length sides_b.now.rows ≡ length b.now }
-    requires sides_a { All (AreSidesFor rule.now) sides_a.now.rows }
-    requires sides_b { All (AreSidesFor rule.now) sides_b.now.rows }
-    requires inside { All (IsInside (length a.now) (length b.now)) (pairs_of_rows walker.left) }
-    requires rising { AllPairs IsPairBefore (pairs_of_rows walker.left) }
-    ensures { IfOk result (λ written. written.text ≡ writer.text ++ flat_map (pair_row writer.rares a.now b.now) (pair_rows_of (side_rule rule.now) sides_a.now.rows sides_b.now.rows journal.now (pairs_of_rows walker.entry.left))) }
+    requires rows { AreRowsIn (length a.now) (length b.now) (pattern_count_by writer.rares) rows.now }
+    ensures { IfOk result (λ written. written.text ≡ writer.text ++ flat_map (pair_row writer.rares a.now b.now) (shown_rows journal.now rows.now)) }
 {
-    let mut words = BorderWords::new(rule.seed());
+    let ids = IdFields::of(alloc, b)?;
     let mut front = LineFront::new(alloc);
-    'rows: loop {
-        match walker.next_row(alloc) {
-            Err(WalkFault::NoMemory) => return Err(NoMemory),
-            Err(WalkFault::TooManyPairs { .. }) => unreachable!(),
-            Ok(None) => return Ok(writer),
-            Ok(Some(row)) => match write_row(
-                &mut writer,
-                &mut front,
-                &mut words,
-                rule,
-                journal,
-                a,
-                b,
-                ids,
-                sides_a,
-                sides_b,
-                &row,
-            ) {
-                Ok(()) => {}
-                Err(NoMemory) => return Err(NoMemory),
-            },
-        }
+    let mut before = None;
+    for row in rows {
+        turn(&mut front, before, a, row.at.a)?;
+        write_line(&mut writer, &front, journal, row, &ids)?;
+        before = Some(row.at.a);
     }
+    Ok(writer)
 }

@@ -8,7 +8,7 @@ use Rattle.pair_decisions.specs.PairRule.{AreSidesFor}
 use Rattle.pair_decisions.specs.Pairs.{IsInside}
 use Rattle.pair_walk.specs.Pairs.{pairs_of_rows}
 use Rattle.link_core.specs.Results.{compared_in}
-use Rattle.link_core.proofs.DecisionLemmas.{answered, decided_for_plan, decided_in_files, rule_of_plan, told_of}
+use Rattle.link_core.proofs.DecisionLemmas.{answered, decided_for_plan, decided_in_files, rows_kept, rule_of_plan, told_of}
 use Rattle.link_core.proofs.BlockLemmas.{pairs_inside, pairs_rise, walked_pairs}
 use Rattle.link_core.proofs.decisions.decide_all.Goals as goal
 
@@ -43,11 +43,12 @@ returns c =
     let rule = c.in_ok-rule.rule in
     let r = c.decide_pairs.result in
     let facts = c.decide_pairs.ensures in
-    let told = told_of plan rule r p c.in_ok-blocks.blocks c.sides.result.now.rows c.sides-2.result.now.rows c.in_ok-blocks.ensures (ap (λ t. t.rows) c.sides.ensures) (ap (λ t. t.rows) c.sides-2.ensures) (record {
+    let told = told_of plan rule c.args.with_rows r p c.in_ok-blocks.blocks c.sides.result.now.rows c.sides-2.result.now.rows c.in_ok-blocks.ensures (ap (λ t. t.rows) c.sides.ensures) (ap (λ t. t.rows) c.sides-2.ensures) (record {
       refused = facts.refused;
       within = facts.within;
       rule_is = facts.rule;
       rows_are = facts.rows;
+      rows_in = facts.rows_in;
       counts = facts.counts;
       links_inside = facts.links_inside;
       possible_inside = facts.possible_inside;
@@ -56,8 +57,9 @@ returns c =
     }) in
     record {
       kind = facts.kind;
-      answer = answered plan p shares rule r c.in_ok-rule.ensures.rule told;
-      of_files = decided_in_files plan p shares rule r c.requires.ready c.in_ok-rule.ensures.sides_a c.in_ok-rule.ensures.sides_b told;
-      of_plan = decided_for_plan plan p shares rule r c.in_ok-rule.ensures.cells told;
-      rule = rule_of_plan plan p shares rule r c.in_ok-rule.ensures.filled told;
+      answer = answered plan p shares rule c.args.with_rows r c.in_ok-rule.ensures.rule told;
+      of_files = decided_in_files plan p shares rule c.args.with_rows r c.requires.ready c.in_ok-rule.ensures.sides_a c.in_ok-rule.ensures.sides_b told;
+      of_plan = decided_for_plan plan p shares rule c.args.with_rows r c.in_ok-rule.ensures.cells told;
+      rule = rule_of_plan plan p shares rule c.args.with_rows r c.in_ok-rule.ensures.filled told;
+      rows = rows_kept plan p shares rule c.args.with_rows r told;
     }

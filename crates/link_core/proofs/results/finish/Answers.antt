@@ -42,7 +42,7 @@ report_text-report-requires c =
     }
 
 pub pairs_of-requires : goal.pairs_of-requires
-pairs_of-requires c = record { ranges = c.requires.ranges; ready = c.requires.ready; of_files = c.requires.of_files; decided = c.requires.of_plan }
+pairs_of-requires c = record { of_files = c.requires.of_files; decided = c.requires.of_plan; rows = c.requires.rows }
 
 pub rule_of-requires : goal.rule_of-requires
 rule_of-requires c = record { ranges = c.requires.ranges; decided = c.requires.of_plan }

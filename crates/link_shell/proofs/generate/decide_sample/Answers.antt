@@ -1,4 +1,4 @@
-use Rattle.std.proofs.Common.{Result, Err}
+use Rattle.std.proofs.Common.{Result, Err, refl}
 use Rattle.link_base.specs.Fault.{Gives}
 use Rattle.link_base.specs.declared.fault.Fault.{Fault}
 use Rattle.link_core.specs.Decisions.{decided}
@@ -24,3 +24,6 @@ returns-in-Err-clause-answer c =
     let f : Fault = c.in-Err.fault in
     let Refused : Result SharedDecisions Fault → Type 0 = λ r. Gives shared_decisions_of r (Err f) in
     goes_on Refused (counted_by plan files c.args.sample.now) _ shares c.in_ok-shares.ensures.answer (refuses_here shared_decisions_of (decided plan files shares) _ f c.in-Err.ensures.answer)
+
+pub returns-in-Ok-clause-rows : goal.returns-in-Ok-clause-rows
+returns-in-Ok-clause-rows c = c.in-Ok.ensures.rows refl

@@ -6,6 +6,8 @@ use Rattle.link_base.specs.declared.rule.Decision.TheVariants.{Link, Possible}
 use Rattle.link_base.specs.declared.rule.PairAt.{PairAt}
 use Rattle.link_limits.specs.declared.TheConstants.{MOST_PAIRS}
 use Rattle.pair_decisions.proofs.PairLemmas.{counted, found_inside, found_rise, not_more, past_limit, within_limit}
+use Rattle.pair_decisions.proofs.RowLemmas.{kept_in}
+use Rattle.pair_decisions.specs.PairRows.{decided_rows, kept_rows}
 use Rattle.pair_decisions.specs.Decisions.{DecidedView, decision_at, is_same, pairs_with}
 use Rattle.pair_decisions.specs.PairRule.{side_rule}
 use Rattle.pair_decisions.specs.Pairs.{IsInside}
@@ -22,7 +24,7 @@ decide_rows-requires-clause-inside c =
     subst Inside (sym (ap pairs_of_rows c.walk.ensures.left)) c.requires.inside
 
 abbrev all_of : In-Ok → List PairAt
-all_of c = pairs_of_rows c.args.blocks
+all_of c = pairs_of_rows c.args.blocks.now
 
 walked : (c : In-Ok) → pairs_of_rows c.walk.result.left ≡ all_of c
 walked c = ap pairs_of_rows c.walk.ensures.left
@@ -40,13 +42,25 @@ possible : (c : In-Ok) → c.in-Ok.found.possible.items ≡ pairs_with Possible 
 possible c = c.in-Ok.ensures.possible ∙ ap (pairs_with Possible (side_rule c.args.rule) c.args.sides_a.now.rows c.args.sides_b.now.rows) (walked c)
 
 abbrev view_of : In-Ok → DecidedView
-view_of c = record { rule = c.args.rule; rows = c.args.blocks; compared = c.in-Ok.found.compared; links = c.in-Ok.found.links.items; possible = c.in-Ok.found.possible.items }
+view_of c = record { rule = c.args.rule; rows = c.in-Ok.found.rows.items; compared = c.in-Ok.found.compared; links = c.in-Ok.found.links.items; possible = c.in-Ok.found.possible.items }
 
 pub invariant_of-result : goal.invariant_of-result
 invariant_of-result c = not_more (side_rule c.args.rule) c.args.sides_a.now.rows c.args.sides_b.now.rows (all_of c) (view_of c) (compared c) (links c) (possible c)
 
 pub returns-in-Ok-clause-within : goal.returns-in-Ok-clause-within
 returns-in-Ok-clause-within c = within_limit (all_of c) (few c)
+
+rows : (c : In-Ok) → c.in-Ok.found.rows.items ≡ kept_rows c.args.with_rows (decided_rows (side_rule c.args.rule) c.args.sides_a.now.rows c.args.sides_b.now.rows (all_of c))
+rows c =
+    c.in-Ok.ensures.rows ∙ ap (λ ps. kept_rows c.args.with_rows (decided_rows (side_rule c.args.rule) c.args.sides_a.now.rows c.args.sides_b.now.rows ps)) (walked c)
+
+pub returns-in-Ok-clause-rows : goal.returns-in-Ok-clause-rows
+returns-in-Ok-clause-rows c = rows c
+
+pub returns-in-Ok-clause-rows_in : goal.returns-in-Ok-clause-rows_in
+returns-in-Ok-clause-rows_in c =
+    kept_in c.args.rule c.args.sides_a.now.rows c.args.sides_b.now.rows (all_of c) c.requires.sides_a c.requires.sides_b c.has_cells.ensures c.requires.inside c.requires.rising
+    c.args.with_rows c.in-Ok.found.rows.items (rows c)
 
 pub returns-in-Ok-clause-compared : goal.returns-in-Ok-clause-compared
 returns-in-Ok-clause-compared c = compared c
@@ -87,8 +101,8 @@ returns-in-Ok-clause-decisions c = record {
 
 pub returns-in-Err-TooManyPairs-clause-refused : goal.returns-in-Err-TooManyPairs-clause-refused
 returns-in-Err-TooManyPairs-clause-refused c =
-    let walked : pairs_of_rows c.walk.result.left ≡ pairs_of_rows c.args.blocks = ap pairs_of_rows c.walk.ensures.left in
+    let walked : pairs_of_rows c.walk.result.left ≡ pairs_of_rows c.args.blocks.now = ap pairs_of_rows c.walk.ensures.left in
     let P : WalkFault → Type 0 = λ f. RefusesPairs (pairs_of_rows c.walk.result.left) f in
     let refused : P (walk_fault.TooManyPairs c.in-Err-TooManyPairs.limit) = subst P c.in-Err-TooManyPairs.field-0-is c.in-Err-TooManyPairs.ensures.refused in
-    let many : MOST_PAIRS < length (pairs_of_rows c.args.blocks) = subst (λ (ps : List PairAt). MOST_PAIRS < length ps) walked refused.1 in
-    past_limit (pairs_of_rows c.args.blocks) many ∙ ap (λ n. Err (fault.TooManyPairs n)) (sym refused.0)
+    let many : MOST_PAIRS < length (pairs_of_rows c.args.blocks.now) = subst (λ (ps : List PairAt). MOST_PAIRS < length ps) walked refused.1 in
+    past_limit (pairs_of_rows c.args.blocks.now) many ∙ ap (λ n. Err (fault.TooManyPairs n)) (sym refused.0)

@@ -1,4 +1,4 @@
-use Rattle.std.proofs.Common.{◌≡◌, ◌∙◌, ap, rules, sym, to_z, of_z, w32}
+use Rattle.std.proofs.Common.{◌≡◌, ◌∙◌, None, ap, rules, sym, to_z, of_z, w32}
 use Rattle.std.specs.Prelude.{FitsSigned, unwrap_or}
 use Rattle.std.proofs.lemmas.Int.{to_z-of_z}
 use Rattle.decision_rule.specs.Border.{border_word}
@@ -6,11 +6,10 @@ use Rattle.decision_rule.specs.Decide.{decision_of}
 use Rattle.link_base.specs.Rule.{empty_cell}
 use Rattle.pair_decisions.specs.Decisions.{decision_at, pattern_at}
 use Rattle.pair_decisions.specs.PairRule.{cell_of, pattern_by, side_rule}
-use Rattle.pair_decisions.specs.PairRows.{shown_verdict}
-use Rattle.pair_decisions.proofs.rows.row_at.Goals.{After-verdict_at}
+use Rattle.pair_decisions.proofs.rows.row_at.Goals.{After-decide_in_cell}
 use Rattle.pair_decisions.proofs.rows.row_at.Goals as goal
 
-fits : (c : After-verdict_at) → FitsSigned w32 c.cell-cell.result.now.weight
+fits : (c : After-decide_in_cell) → FitsSigned w32 c.cell-cell.result.now.weight
 fits c = search rules
 
 pub returns-clause-row : goal.returns-clause-row
@@ -23,7 +22,6 @@ returns-clause-row c =
     let rows : pattern_by rule.comparators c.sides.result.now c.sides-2.result.now ≡ pattern_at rule rows_a rows_b at = λ i. pattern_by rule.comparators (c.sides.ensures i) (c.sides-2.ensures i) in
     let pattern : c.pattern-pattern.result ≡ pattern_at rule rows_a rows_b at = c.pattern-pattern.ensures.number ∙ rows in
     let cell : c.cell-cell.result.now ≡ cell_of rule.cells (pattern_at rule rows_a rows_b at) = sym (ap (λ o. unwrap_or o empty_cell) c.cell-cell.ensures.found) ∙ ap (cell_of rule.cells) pattern in
-    let decision : c.decide_in_cell-decision.result ≡ decision_at rule rows_a rows_b at = c.decide_in_cell-decision.ensures.decision ∙ (λ i. decision_of (cell i) (border_word (c.requires.words i) at.a at.b)) in
-    let verdict : c.verdict_at.result ≡ shown_verdict c.args.journal.now at (decision_at rule rows_a rows_b at) = c.verdict_at.ensures ∙ ap (shown_verdict c.args.journal.now at) decision in
+    let decision : c.decide_in_cell.result ≡ decision_at rule rows_a rows_b at = c.decide_in_cell.ensures.decision ∙ (λ i. decision_of (cell i) (border_word (c.requires.words i) at.a at.b)) in
     let weight : to_z w32 (of_z w32 c.cell-cell.result.now.weight) ≡ (cell_of rule.cells (pattern_at rule rows_a rows_b at)).weight = to_z-of_z w32 c.cell-cell.result.now.weight (fits c) ∙ (λ i. (cell i).weight) in
-    λ i. record { at = at; pattern = pattern i; weight = weight i; decision = decision i; verdict = verdict i }
+    λ i. record { at = at; pattern = pattern i; weight = weight i; decision = decision i; verdict = None }

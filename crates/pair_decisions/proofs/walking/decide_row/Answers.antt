@@ -1,12 +1,47 @@
-use Rattle.std.proofs.Common.{List, ℕ, map, length, subst, sym}
+use Rattle.std.proofs.Common.{◌≡◌, ◌∙◌, ◌++◌, ◌∷◌, [], List, ℕ, ap, get_or, map, if◌then◌else◌, length, subst, sym}
 use Rattle.std.specs.Prelude.{All}
-use Rattle.pair_decisions.proofs.WalkLemmas.{pair_holds}
+use Rattle.std.proofs.lemmas.List.Elements.{filter-append}
+use Rattle.link_base.specs.declared.rule.Decision.{Decision}
+use Rattle.link_base.specs.declared.rule.Decision.TheVariants.{Link, Possible}
+use Rattle.link_base.specs.declared.rule.PairAt.{PairAt}
+use Rattle.link_report.specs.declared.open.PairRow.{PairRow}
+use Rattle.pair_decisions.proofs.RowLemmas.{kept_joined}
+use Rattle.pair_decisions.proofs.WalkLemmas.{pair_holds, pair_more}
+use Rattle.pair_decisions.specs.Decisions.{decision_at, is_same, pairs_with}
+use Rattle.pair_decisions.specs.PairRows.{decided_row, decided_rows, kept_rows}
+use Rattle.pair_decisions.specs.PairRule.{side_rule}
 use Rattle.pair_decisions.specs.Pairs.{IsInside}
 use Rattle.pair_walk.specs.Pairs.{pair}
 use Rattle.pair_decisions.proofs.walking.decide_row.Goals as goal
 
-pub decide_at-decision-requires-clause-inside : goal.decide_at-decision-requires-clause-inside
-decide_at-decision-requires-clause-inside c =
+pub row_at-decided-requires-clause-inside : goal.row_at-decided-requires-clause-inside
+row_at-decided-requires-clause-inside c =
     let inside = IsInside (length c.args.sides_a.now.rows) (length c.args.sides_b.now.rows) in
     let Q : List ℕ → Type 0 = λ bs. All inside (map (pair c.args.row.now.a) bs) in
     pair_holds inside c.args.row.now.a c.deref-b-items.result.now c.loop-b.b-index c.loop-b-test.true (subst Q (sym c.deref-b-items.ensures.value) c.requires.inside)
+
+pub loop-b-preserved : goal.loop-b-preserved
+loop-b-preserved c =
+    let a = c.args.row.now.a in
+    let bs = c.deref-b-items.result.now in
+    let i = c.loop-b.b-index in
+    let at = pair a (get_or bs i 0) in
+    let rule = side_rule c.args.rule.now in
+    let rows_a = c.args.sides_a.now.rows in
+    let rows_b = c.args.sides_b.now.rows in
+    let found = c.args.found.now in
+    let keep = c.args.with_rows in
+    let row : c.row_at-decided.result ≡ decided_row rule rows_a rows_b at = c.row_at-decided.ensures.row in
+    let decision : c.row_at-decided.result.decision ≡ decision_at rule rows_a rows_b at = ap (λ (r : PairRow). r.decision) row in
+    let has = λ (kind : Decision) (p : PairAt). is_same kind (decision_at rule rows_a rows_b p) in
+    let old = c.loop-b.found in
+    record {
+      same = c.row_at-decided.ensures.same ∙ c.loop-b.invariant.same;
+      rows = pair_more (λ ps. kept_rows keep (decided_rows rule rows_a rows_b ps)) (kept_joined keep (decided_row rule rows_a rows_b)) a bs i found.rows.items old.rows.items _ c.loop-b-test.true c.loop-b.invariant.rows
+          (c.in_ok-keep_row.ensures.rows ∙ (λ j. c.keep_pair.ensures.rows j ++ kept_rows keep (row j ∷ [])));
+      links = pair_more (pairs_with Link rule rows_a rows_b) (filter-append (has Link)) a bs i found.links.items old.links.items _ c.loop-b-test.true c.loop-b.invariant.links
+          (c.keep_row.ensures.links ∙ c.in_ok-keep_pair.ensures.links ∙ ap (λ kind. old.links.items ++ (if is_same Link kind then at ∷ [] else [])) decision);
+      possible = pair_more (pairs_with Possible rule rows_a rows_b) (filter-append (has Possible)) a bs i found.possible.items old.possible.items _ c.loop-b-test.true c.loop-b.invariant.possible
+          (c.keep_row.ensures.possible ∙ c.in_ok-keep_pair.ensures.possible ∙ ap (λ kind. old.possible.items ++ (if is_same Possible kind then at ∷ [] else [])) decision);
+      compared = c.keep_row.ensures.compared ∙ c.keep_pair.ensures.compared ∙ c.loop-b.invariant.compared;
+    }

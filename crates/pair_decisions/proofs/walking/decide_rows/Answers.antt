@@ -1,8 +1,12 @@
 use Rattle.std.proofs.Common.{◌∙◌, Ok, Option, arith, length, subst}
+use Rattle.std.proofs.lemmas.List.Elements.{filter-append}
+use Rattle.link_base.specs.declared.rule.Decision.{Decision}
 use Rattle.link_base.specs.declared.rule.Decision.TheVariants.{Link, Possible}
 use Rattle.link_base.specs.declared.rule.PairAt.{PairAt}
 use Rattle.pair_decisions.proofs.WalkLemmas.{count_more, rest_holds, row_holds, row_more}
-use Rattle.pair_decisions.specs.Decisions.{decision_at, is_same}
+use Rattle.pair_decisions.proofs.RowLemmas.{kept_joined}
+use Rattle.pair_decisions.specs.Decisions.{decision_at, is_same, pairs_with}
+use Rattle.pair_decisions.specs.PairRows.{decided_row, decided_rows, kept_rows}
 use Rattle.pair_decisions.specs.PairRule.{side_rule}
 use Rattle.pair_decisions.specs.Pairs.{IsInside}
 use Rattle.pair_walk.specs.Next.{GivesRow, NextRow}
@@ -29,14 +33,18 @@ rows-preserved c =
     let bs = c.in-Ok-Some.row.bs.items in
     let P : Option RowPairs → Type 0 = λ row. NextRow c.rows.walker c.next_row.new.self (Ok row) in
     let next : GivesRow c.rows.walker c.next_row.new.self c.in-Ok-Some.row = subst P c.in-Ok-Some.field-0-is c.in-Ok-Some.ensures in
-    let decided = decision_at (side_rule c.args.rule.now) c.args.sides_a.now.rows c.args.sides_b.now.rows in
+    let rule = side_rule c.args.rule.now in
+    let rows_a = c.args.sides_a.now.rows in
+    let rows_b = c.args.sides_b.now.rows in
+    let has = λ (kind : Decision) (at : PairAt). is_same kind (decision_at rule rows_a rows_b at) in
     let more = count_more old rest a bs next.0 in
     record {
       same = c.decide_row.ensures.same ∙ c.rows.invariant.same;
       given = omega (arith, next.1, c.decide_row.ensures.compared);
       few = omega (arith, next.1, next.2, c.decide_row.ensures.compared);
       compared = omega (arith, c.decide_row.ensures.compared);
-      links = row_more (λ (at : PairAt). is_same Link (decided at)) old rest a bs _ _ _ next.0 c.in-Ok.ensures.links c.rows.invariant.links;
-      possible = row_more (λ (at : PairAt). is_same Possible (decided at)) old rest a bs _ _ _ next.0 c.in-Ok.ensures.possible c.rows.invariant.possible;
+      rows = row_more (λ ps. kept_rows c.args.with_rows (decided_rows rule rows_a rows_b ps)) (kept_joined c.args.with_rows (decided_row rule rows_a rows_b)) old rest a bs _ _ _ next.0 c.in-Ok.ensures.rows c.rows.invariant.rows;
+      links = row_more (pairs_with Link rule rows_a rows_b) (filter-append (has Link)) old rest a bs _ _ _ next.0 c.in-Ok.ensures.links c.rows.invariant.links;
+      possible = row_more (pairs_with Possible rule rows_a rows_b) (filter-append (has Possible)) old rest a bs _ _ _ next.0 c.in-Ok.ensures.possible c.rows.invariant.possible;
       inside = rest_holds (IsInside (length c.args.sides_a.now.rows) (length c.args.sides_b.now.rows)) old rest a bs next.0 c.rows.invariant.inside;
     }

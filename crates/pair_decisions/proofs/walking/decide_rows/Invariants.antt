@@ -3,6 +3,7 @@ use Rattle.std.specs.Prelude.{All}
 use Rattle.link_base.specs.declared.rule.Decision.TheVariants.{Link, Possible}
 use Rattle.link_limits.specs.declared.TheConstants.{MOST_PAIRS}
 use Rattle.pair_decisions.specs.Decisions.{pairs_with}
+use Rattle.pair_decisions.specs.PairRows.{decided_rows, kept_rows}
 use Rattle.pair_decisions.specs.PairRule.{side_rule}
 use Rattle.pair_decisions.specs.Pairs.{IsInside}
 use Rattle.pair_walk.specs.Pairs.{pairs_of_rows}
@@ -14,6 +15,7 @@ invariant-rows l = record {
   given : l.walker.given ≡ l.found.compared;
   few : l.found.compared ≤ MOST_PAIRS;
   compared : l.found.compared + length (pairs_of_rows l.walker.left) ≡ length (pairs_of_rows l.fn.walker.left);
+  rows : l.found.rows.items ++ kept_rows l.with_rows (decided_rows (side_rule l.rule) l.sides_a.rows l.sides_b.rows (pairs_of_rows l.walker.left)) ≡ kept_rows l.with_rows (decided_rows (side_rule l.rule) l.sides_a.rows l.sides_b.rows (pairs_of_rows l.fn.walker.left));
   links : l.found.links.items ++ pairs_with Link (side_rule l.rule) l.sides_a.rows l.sides_b.rows (pairs_of_rows l.walker.left) ≡ pairs_with Link (side_rule l.rule) l.sides_a.rows l.sides_b.rows (pairs_of_rows l.fn.walker.left);
   possible : l.found.possible.items ++ pairs_with Possible (side_rule l.rule) l.sides_a.rows l.sides_b.rows (pairs_of_rows l.walker.left) ≡ pairs_with Possible (side_rule l.rule) l.sides_a.rows l.sides_b.rows (pairs_of_rows l.fn.walker.left);
   inside : All (IsInside (length l.sides_a.rows) (length l.sides_b.rows)) (pairs_of_rows l.walker.left);

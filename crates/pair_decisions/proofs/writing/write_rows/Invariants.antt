@@ -1,25 +1,17 @@
-use Rattle.std.proofs.Common.{◌≡◌, ◌+◌, ◌++◌, length}
+use Rattle.std.proofs.Common.{◌≡◌, ◌≤◌, ◌<◌, ◌++◌, ℕ, get_or, length, take}
 use Rattle.std.specs.List.{flat_map}
-use Rattle.std.specs.Prelude.{All, AllPairs}
+use Rattle.std.specs.Prelude.{IfSome}
+use Rattle.link_base.specs.Standard.{id_at}
+use Rattle.link_report.specs.Lines.{front_of}
 use Rattle.link_report.specs.PairsText.{IsAfter, pair_row}
-use Rattle.pair_decisions.specs.PairRule.{side_rule}
-use Rattle.link_base.specs.Rule.{IsPairBefore}
-use Rattle.pair_decisions.specs.Pairs.{IsInside}
-use Rattle.pair_decisions.specs.PairRows.{pair_rows_of}
-use Rattle.pair_walk.specs.Pairs.{pairs_of_rows}
+use Rattle.link_report.specs.declared.open.PairRow.{PairRow}
+use Rattle.pair_decisions.specs.PairRows.{shown_rows}
 use Rattle.pair_decisions.proofs.writing.write_rows.Given as goal
 
-abbrev pub invariant-rows : goal.invariant-rows
-invariant-rows l = record {
-  same : l.words ≡ l.rule.seed;
+abbrev pub invariant-loop-row : goal.invariant-loop-row
+invariant-loop-row l = record {
   rares : l.writer.rares ≡ l.fn.writer.rares;
-  given : l.walker.given + length (pairs_of_rows l.walker.left) ≡ length (pairs_of_rows l.fn.walker.left);
-  inside : All (IsInside (length l.a) (length l.b)) (pairs_of_rows l.walker.left);
-  rising : AllPairs IsPairBefore (pairs_of_rows l.walker.left);
-  after : All (IsAfter l.writer.last) (pairs_of_rows l.walker.left);
-  text : l.writer.text ++ flat_map (pair_row l.fn.writer.rares l.a l.b) (pair_rows_of (side_rule l.rule) l.sides_a.rows l.sides_b.rows l.journal (pairs_of_rows l.walker.left))
-      ≡ l.fn.writer.text ++ flat_map (pair_row l.fn.writer.rares l.a l.b) (pair_rows_of (side_rule l.rule) l.sides_a.rows l.sides_b.rows l.journal (pairs_of_rows l.fn.walker.left));
+  made : IfSome l.before (λ was. l.front ≡ front_of (id_at l.a was));
+  after : (k : ℕ) (d : PairRow) → l.row-index ≤ k → k < length l.rows → IsAfter l.writer.last (get_or l.rows k d).at;
+  text : l.writer.text ≡ l.fn.writer.text ++ flat_map (pair_row l.fn.writer.rares l.a l.b) (shown_rows l.journal (take l.row-index l.rows));
 }
-
-abbrev pub decreases-rows : goal.decreases-rows
-decreases-rows l = length l.walker.left
