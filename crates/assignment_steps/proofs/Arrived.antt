@@ -1,13 +1,29 @@
 -- What the change of prices at the end of a search does, whatever it ended at.
-use Rattle.std.proofs.Common.{◌≡◌, ℕ, zero, suc, ◌+◌, ◌-◌, ◌<◌, ◌≤◌, List, length, Some, ap, inl, inr, arith}
+use Rattle.std.proofs.Common.{◌≡◌, ℕ, zero, suc, ◌+◌, ◌-◌, ◌<◌, ◌≤◌, List, length, Option, Some, None, MatchOption, ap, sym, ◌∙◌, inl, inr, arith}
+use Rattle.std.specs.Prelude.{IsNone}
 use Rattle.std.proofs.lemmas.Bool.{cases_lt}
 use Rattle.std.proofs.lemmas.List.{get_or_past}
 use Rattle.link_limits.specs.declared.TheConstants.{MOST_VALUE}
 use Rattle.assignment_steps.specs.declared.market.Field.{Field}
-use Rattle.assignment_steps.specs.Market.{link, number, AreTight}
-use Rattle.assignment_steps.specs.Ways.{IsHop, Leads, LeadsFrom}
+use Rattle.assignment_steps.specs.Market.{link, number, AreLinked, AreStarts, AreTight}
+use Rattle.assignment_steps.specs.Ways.{AreTurnedFrom, IsHop, Leads, LeadsFrom}
 use Rattle.assignment_steps.specs.Distances.{distance, far}
-use Rattle.assignment_steps.specs.Spread.{Spread, IsSearchable, IsSpread, edge_of, rank_above}
+use Rattle.assignment_steps.specs.Spread.{Spread, IsSearchable, IsSpread, StopsAt, edge_of, rank_above}
+use Rattle.assignment_steps.specs.Between.{IsDone, IsPriced}
+
+-- what holds between two steps makes what is searched
+pub searchable : (f : Field) (IsFree : ℕ → Type 0) (done : ℕ) → IsPriced f.edges.now f.price_a.now f.price_b.now f.link_a.now IsFree done → AreStarts f.edges.now (length f.price_a.now) f.starts.now → f.root < length f.price_a.now → link f.link_a.now f.root ≡ None → IsSearchable f
+searchable f IsFree done w starts inside none = record {
+  rows_a = w.rows_a;
+  starts = starts;
+  root_in = inside;
+  root_free = none;
+  in_range = w.in_range;
+  covered = w.covered;
+  small_a = w.small_a;
+  small_b = w.small_b;
+  linked = w.linked;
+}
 
 -- what has a distance is within the list
 pub distance_within : (xs : List ℕ) (i : ℕ) → distance xs i < far → i < length xs
@@ -80,3 +96,43 @@ module _ (f : Field) (s : Spread) (best end : ℕ) (pa pb : List ℕ) (ready : I
         let same : distance s.da r ≡ distance s.db (edge_of f p.0).b = rw is at (t.same p.0 on joined) in
         inr (p.0, (p.1, climbs, (suc (rank_above f s (edge_of f p.0).b), leads_after (suc (rank_above f s (edge_of f p.0).b)) (edge_of f p.0).b (omega arith) (omega (arith, same, t.low r here, after))))))
   ]
+
+  -- a way leads from where the search stopped to the root
+  ways_at : (IsFree : ℕ → Type 0) (free : Option ℕ) (last : ℕ) → StopsAt s IsFree end free last → MatchOption free (LeadsFrom f.edges.now pa pb f.link_a.now s.from s.rank f.root last) (λ b. (n : ℕ) × Leads f.edges.now pa pb f.link_a.now s.from s.rank f.root n b)
+  ways_at IsFree None last stop = leads_from last stop
+  ways_at IsFree (Some b) last stop = (suc (rank_above f s b), leads_after (suc (rank_above f s b)) b (omega arith) (omega (arith, stop.1)))
+
+  pub ways_after : (IsFree : ℕ → Type 0) (free : Option ℕ) (last : ℕ) → StopsAt s IsFree end free last → MatchOption free (LeadsFrom f.edges.now pa pb f.link_a.now s.from s.rank f.root last) (λ b. (n : ℕ) × Leads f.edges.now pa pb f.link_a.now s.from s.rank f.root n b)
+  ways_after = ways_at
+
+  -- prices go on as they were, where those of B stay small and links by tight edges are put in the place of the old ones
+  pub priced_after : (la : List (Option ℕ)) (IsFree IsFree' : ℕ → Type 0) → IsPriced f.edges.now f.price_a.now f.price_b.now f.link_a.now IsFree 0 → length pa ≡ length f.price_a.now → length pb ≡ length f.price_b.now → length la ≡ length f.link_a.now → AreLinked f.edges.now la → AreTight f.edges.now pa pb la → ((b : ℕ) → number pb b ≤ MOST_VALUE) → ((b : ℕ) → IsFree' b → number pb b ≡ 0) → IsPriced f.edges.now pa pb la IsFree' 0
+  priced_after la IsFree IsFree' old len_a len_b rows linked tight small free = record {
+    rows_a = rows ∙ (old.rows_a ∙ sym len_a);
+    in_range = rw (len_a, len_b) old.in_range;
+    covered = covered_kept;
+    small_a = λ a. omega (arith, falls a, old.small_a a);
+    small_b = small;
+    linked = linked;
+    tight = tight;
+    free_a = λ a low none. absurd (omega arith);
+    free_b = free;
+  }
+
+-- a record of B at which a search stopped is free, and a record of A is one of the records
+pub stop_free : (s : Spread) (IsFree : ℕ → Type 0) (end : ℕ) (free : Option ℕ) (last : ℕ) → StopsAt s IsFree end free last → MatchOption free (Unit {0}) IsFree
+stop_free s IsFree end None last stop = tt
+stop_free s IsFree end (Some b) last stop = stop.0
+
+pub stop_within : (s : Spread) (IsFree : ℕ → Type 0) (end : ℕ) (free : Option ℕ) (last rows : ℕ) → length s.da ≡ rows → StopsAt s IsFree end free last → MatchOption free (last < rows) (λ _. Unit {0})
+stop_within s IsFree end None last rows count stop = omega (arith, count, distance_within s.da last stop)
+stop_within s IsFree end (Some b) last rows count stop = tt
+
+-- Records of A that are done, where no price of A rises and links are turned round: at a record of A that is then without
+-- a price, if at one.
+module _ (pa pa' : List ℕ) (la la' : List (Option ℕ)) (root : ℕ) (free : Option ℕ) (last : ℕ) (lower : (a : ℕ) → number pa' a ≤ number pa a) (paid : IsNone free → number pa' last ≡ 0) (turned : AreTurnedFrom la la' root free last) where
+  pub done_kept : (a : ℕ) → IsDone pa la a → IsDone pa' la' a
+  done_kept a old none = elim (turned.still a none) [ inl p ↦ omega (arith, old p, lower a) | inr p ↦ rw p.1 (paid p.0) ]
+
+  pub root_done : IsDone pa' la' root
+  root_done none = (let p = turned.of_root none in rw p.1 (paid p.0))

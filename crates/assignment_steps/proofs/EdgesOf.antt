@@ -11,7 +11,8 @@ use Rattle.link_base.specs.declared.rule.Candidate.{Candidate}
 use Rattle.assignment_steps.specs.declared.market.Edge.{Edge}
 use Rattle.assignment_steps.specs.Market.{link, edge, number, no_edge, IsInRange, AreSmall, IsRising}
 use Rattle.assignment_steps.specs.Candidates.{positive, valued_edge, edge_from, edges_of, is_positive, links_to, is_linked, prices_of, HasSmallValue}
-use Rattle.assignment_steps.proofs.Members.{Contains-later}
+use Rattle.price_check.specs.Assignment.{IsBefore, IsWithin, price_of}
+use Rattle.price_check.proofs.Members.{Contains-later}
 
 -- Candidates and edges.
 
@@ -49,7 +50,7 @@ edge_made (y ∷ ys) c n inside is = made_head y c ys (record { a = c.a; b = c.b
 
 -- Prices as integers.
 
-pub price_of-prices : (ps : List ℕ) (position : ℕ) → get_or (prices_of ps) position (pos 0) ≡ pos (number ps position)
+pub price_of-prices : (ps : List ℕ) (position : ℕ) → price_of (prices_of ps) position ≡ pos (number ps position)
 price_of-prices [] position = refl
 price_of-prices (p ∷ ps) zero = refl
 price_of-prices (p ∷ ps) (suc position) = price_of-prices ps position
@@ -74,10 +75,10 @@ linked_by es la c h = linked_case es la c (link la c.a) refl h
 pub is_linked_from : (es : List Edge) (la : List (Option ℕ)) (c : Candidate) (k : ℕ) → link la c.a ≡ Some k → (edge es k).b ≡ c.b → is_positive c.value ≡ true → is_linked es la c ≡ true
 is_linked_from es la c k on b is = rw (on, is) (grind (arith, nat_tests))
 
-pub range_edges : (cs : List Candidate) (rows_a rows_b : ℕ) → All (λ c. (c.a < rows_a) × (c.b < rows_b)) cs → IsInRange (edges_of cs) rows_a rows_b
+pub range_edges : (cs : List Candidate) (rows_a rows_b : ℕ) → All (IsWithin rows_a rows_b) cs → IsInRange (edges_of cs) rows_a rows_b
 range_edges cs rows_a rows_b within = record {
-  record_a = λ k lt. (let c = edge_kept cs k lt in rw (← c.1.1.record_a) (All-contains (λ c. (c.a < rows_a) × (c.b < rows_b)) cs c.0 within c.1.0).0);
-  record_b = λ k lt. (let c = edge_kept cs k lt in rw (← c.1.1.record_b) (All-contains (λ c. (c.a < rows_a) × (c.b < rows_b)) cs c.0 within c.1.0).1);
+  record_a = λ k lt. (let c = edge_kept cs k lt in rw (← c.1.1.record_a) (All-contains (IsWithin rows_a rows_b) cs c.0 within c.1.0).0);
+  record_b = λ k lt. (let c = edge_kept cs k lt in rw (← c.1.1.record_b) (All-contains (IsWithin rows_a rows_b) cs c.0 within c.1.0).1);
 }
 
 pub small_edges : (cs : List Candidate) → All HasSmallValue cs → AreSmall (edges_of cs)
@@ -96,17 +97,14 @@ rising_head : (c : Candidate) (es : List Edge) → ((j : ℕ) → j < length es 
 rising_head c es head tail None e = tail
 rising_head c es head tail (Some y) e = (let m = makes_at c y c.value refl e in rising_cons y es (λ j lt. rw (← m.record_a) (head j lt)) tail)
 
-abbrev IsEarlier : Candidate → Candidate → Type 0
-IsEarlier x y = (x.a < y.a) ⊎ ((x.a ≡ y.a) × (x.b < y.b))
+before_le : (x y : Candidate) → IsBefore x y → x.a ≤ y.a
+before_le x y (inl p) = omega (arith, p)
+before_le x y (inr p) = omega (arith, p.0)
 
-earlier_le : (x y : Candidate) → IsEarlier x y → x.a ≤ y.a
-earlier_le x y (inl p) = omega (arith, p)
-earlier_le x y (inr p) = omega (arith, p.0)
-
-pub rising_edges : (cs : List Candidate) → AllPairs IsEarlier cs → IsRising (edges_of cs)
+pub rising_edges : (cs : List Candidate) → AllPairs IsBefore cs → IsRising (edges_of cs)
 rising_edges [] h = λ i j le lt. absurd (omega (arith, lt))
 rising_edges (c ∷ cs) h = rising_head c (edges_of cs)
-    (λ j lt. (let d = edge_kept cs j lt in rw (← d.1.1.record_a) (earlier_le c d.0 (All-contains (IsEarlier c) cs d.0 (λ k e l. h zero (suc k) e (omega arith) (omega arith)) d.1.0))))
+    (λ j lt. (let d = edge_kept cs j lt in rw (← d.1.1.record_a) (before_le c d.0 (All-contains (IsBefore c) cs d.0 (λ k e l. h zero (suc k) e (omega arith) (omega arith)) d.1.0))))
     (rising_edges cs (λ i j e l m. h (suc i) (suc j) e (omega arith) (omega arith))) (edge_from c) refl
 
 pub none_linked : (n r : ℕ) → link (replicate n None) r ≡ None

@@ -1,8 +1,8 @@
 -- Ways to a root.
-use Rattle.std.proofs.Common.{◌≡◌, ◌≢◌, ℕ, zero, suc, ◌<◌, List, set, Option, Some, None, ap, ◌∙◌, inl, inr, arith, get_or-set_other}
+use Rattle.std.proofs.Common.{◌≡◌, ◌≢◌, ℕ, zero, suc, ◌<◌, List, set, Option, Some, None, ap, sym, ◌∙◌, inl, inr, arith, get_or-set_other}
 use Rattle.assignment_steps.specs.declared.market.Edge.{Edge}
 use Rattle.assignment_steps.specs.Market.{link, edge, number}
-use Rattle.assignment_steps.specs.Ways.{IsHop, above, Leads}
+use Rattle.assignment_steps.specs.Ways.{IsHop, Leads, LeadsFrom, above}
 
 -- a way that stands below a record is not touched by a change of that record's link
 pub leads_below : (es : List Edge) (pa pb : List ℕ) (la : List (Option ℕ)) (from rank : List ℕ) (root : ℕ) (a : ℕ) (x : Option ℕ) (n b : ℕ) → number rank (above es from b) < number rank a → Leads es pa pb la from rank root n b → Leads es pa pb (set la a x) from rank root n b
@@ -33,3 +33,10 @@ goes_on es pa pb la from rank root (suc n) b j on h = elim h.1 [
 pub ends_at : (es : List Edge) (pa pb : List ℕ) (la : List (Option ℕ)) (from rank : List ℕ) (root n b : ℕ) → link la (above es from b) ≡ None → Leads es pa pb la from rank root n b → above es from b ≡ root
 ends_at es pa pb la from rank root zero b none h = absurd h
 ends_at es pa pb la from rank root (suc n) b none h = elim h.1 [ inl p ↦ p.0 | inr p ↦ cc ]
+
+-- a linked record of A gives its link up: the way from its record of B stays
+pub leads_parted : (es : List Edge) (pa pb : List ℕ) (la : List (Option ℕ)) (from rank : List ℕ) (root last k : ℕ) → link la last ≡ Some k → LeadsFrom es pa pb la from rank root last → (n : ℕ) × Leads es pa pb (set la last None) from rank root n (edge es k).b
+leads_parted es pa pb la from rank root last k on h = elim h [
+  | inl p ↦ absurd (let clash : None ≡ Some k = sym p.1 ∙ on in cc)
+  | inr p ↦ (let same : p.0 ≡ k = cc in rw (← same) (p.1.2.0, leads_below es pa pb la from rank root last None p.1.2.0 (edge es p.0).b p.1.1 p.1.2.1))
+]

@@ -12,3 +12,5 @@ pub mod Spreading
 pub mod Arrived
 pub mod Leading
 pub mod EdgesOf
+pub mod Settled
+pub mod Certified

@@ -3,10 +3,14 @@ use Rattle.std.specs.Prelude.{◌≡◌, ◌≢◌, ℕ, ◌<◌, List, Option, 
 use Rattle.assignment_steps.specs.declared.market.Edge.{Edge}
 use Rattle.assignment_steps.specs.Market.{edge, link, IsTight}
 
--- an edge is not tight, or one of its records has a link
-abbrev pub IsSettled : List Edge → List ℕ → List ℕ → List (Option ℕ) → List (Option ℕ) → ℕ → Type 0
-IsSettled es pa pb la lb k = IsTight es pa pb k → link la (edge es k).a ≡ None → link lb (edge es k).b ≢ None
+-- a record of B has a link
+abbrev pub HasLink : List (Option ℕ) → ℕ → Type 0
+HasLink lb b = link lb b ≢ None
+
+-- an edge is not tight, or its record of A has a link, or its record of B is taken
+abbrev pub IsSettled : List Edge → List ℕ → List ℕ → List (Option ℕ) → (ℕ → Type 0) → ℕ → Type 0
+IsSettled es pa pb la IsTaken k = IsTight es pa pb k → link la (edge es k).a ≡ None → IsTaken (edge es k).b
 
 -- so are the first `count` edges
-abbrev pub AreSettled : List Edge → List ℕ → List ℕ → List (Option ℕ) → List (Option ℕ) → ℕ → Type 0
-AreSettled es pa pb la lb count = (k : ℕ) → k < count → IsSettled es pa pb la lb k
+abbrev pub AreSettled : List Edge → List ℕ → List ℕ → List (Option ℕ) → (ℕ → Type 0) → ℕ → Type 0
+AreSettled es pa pb la IsTaken count = (k : ℕ) → k < count → IsSettled es pa pb la IsTaken k

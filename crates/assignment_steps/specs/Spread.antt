@@ -1,7 +1,7 @@
 -- An alternating tree as it grows from a record of A without a link, over candidates with positive values as edges
 -- (Edmonds and Karp 1972): what holds of all that the search has reached, whatever it may end at.
 -- `Reached::join` and `Reached::reach` carry it (clauses `joins` and `shortens`).
-use Rattle.std.specs.Prelude.{◌≡◌, ◌⊎◌, ℕ, ◌+◌, ◌<◌, ◌≤◌, List, [], ◌∷◌, ◌++◌, length, slice_set, Some, None, Contains}
+use Rattle.std.specs.Prelude.{◌≡◌, ◌⊎◌, ℕ, ◌+◌, ◌<◌, ◌≤◌, List, [], ◌∷◌, ◌++◌, length, slice_set, Option, Some, None, MatchOption, Contains}
 use Rattle.std.proofs.Common.{min}
 use Rattle.link_limits.specs.declared.TheConstants.{MOST_VALUE}
 use Rattle.assignment_steps.specs.declared.market.Edge.{Edge}
@@ -114,3 +114,11 @@ pub record Joins (old new : Spread) (position dist : ℕ) : Type 0 where
 pub record IsNearest (waiting : List (ℕ × ℕ)) (n : Near) : Type 0 where
   pub inside : Contains waiting (n.distance, n.position)
   pub least : (x : ℕ × ℕ) → Contains waiting x → n.distance ≤ x.0
+
+-- a record of A that was reached is an end, at which it gives its link up
+abbrev pub EndsAt : Field → Spread → ℕ → ℕ → Type 0
+EndsAt f s end a = (distance s.da a < far) × (end ≡ distance s.da a + number f.price_a.now a)
+
+-- where a search stops: at a record of B that is free, or else at a record of A that was reached
+abbrev pub StopsAt : Spread → (ℕ → Type 0) → ℕ → Option ℕ → ℕ → Type 0
+StopsAt s IsFree end free last = MatchOption free (distance s.da last < far) (λ b. IsFree b × (distance s.db b ≡ end))

@@ -1,6 +1,6 @@
--- Machinery of the assigners above: the ways along which links are turned round, from a record that a search has reached
+-- Machinery of the assigners above (`turn` of each): the ways along which links are turned round, from a record that a search has reached
 -- back to the record that it began at.
-use Rattle.std.specs.Prelude.{◌≡◌, ◌⊎◌, ℕ, zero, suc, ◌<◌, List, length, Option, Some, None}
+use Rattle.std.specs.Prelude.{◌≡◌, ◌⊎◌, ℕ, zero, suc, ◌<◌, List, length, Option, Some, None, MatchOption, IsNone}
 use Rattle.assignment_steps.specs.declared.market.Edge.{Edge}
 use Rattle.assignment_steps.specs.declared.market.Net.{Net}
 use Rattle.assignment_steps.specs.declared.market.Ways.{Ways}
@@ -37,3 +37,14 @@ LeadsFrom es pa pb la from rank root a =
 
 abbrev pub LeadsFromRecord : Net → Ways → List (Option ℕ) → ℕ → Type 0
 LeadsFromRecord net ways la a = LeadsFrom net.edges.now net.price_a.now net.price_b.now la ways.from.now ways.rank.now ways.root a
+
+-- ways to the root from where a search ended: from a record of B, or else from a record of A
+abbrev pub LeadsFromEnd : Net → Ways → List (Option ℕ) → Option ℕ → ℕ → Type 0
+LeadsFromEnd net ways la free last = MatchOption free (LeadsFromRecord net ways la last) (λ b. (n : ℕ) × LeadsBy net ways la n b)
+
+-- the links of the records of A after a way was turned round: the root has one, and who has none had none before, but
+-- for the record of A at which the way ends
+pub record AreTurnedFrom (la la' : List (Option ℕ)) (root : ℕ) (free : Option ℕ) (last : ℕ) : Type 0 where
+  pub count : length la' ≡ length la
+  pub of_root : link la' root ≡ None → IsNone free × (root ≡ last)
+  pub still : (a : ℕ) → link la' a ≡ None → (link la a ≡ None) ⊎ (IsNone free × (a ≡ last))

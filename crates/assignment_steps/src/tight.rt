@@ -2,7 +2,7 @@
 ghost use Rattle.std.specs.Prelude.{◌≡◌, ◌<◌, ℕ, None, length};
 ghost use Rattle.assignment_steps.specs.Between.{IsBetween};
 ghost use Rattle.assignment_steps.specs.Market.{link};
-ghost use Rattle.assignment_steps.specs.Free.{AreSettled, IsSettled};
+ghost use Rattle.assignment_steps.specs.Free.{AreSettled, HasLink, IsSettled};
 
 use crate::market::Net;
 
@@ -11,7 +11,7 @@ fn take(net: Net<'_>, link_a: &mut [Option<usize>], link_b: &mut [Option<usize>]
     requires place { k < length net.edges.now }
     requires between { IsBetween net.edges.now net.price_a.now net.price_b.now link_a.old link_b.old 0 }
     ensures between { IsBetween net.entry.edges.now net.entry.price_a.now net.entry.price_b.now link_a.new link_b.new 0 }
-    ensures settled { IsSettled net.entry.edges.now net.entry.price_a.now net.entry.price_b.now link_a.new link_b.new k }
+    ensures settled { IsSettled net.entry.edges.now net.entry.price_a.now net.entry.price_b.now link_a.new (HasLink link_b.new) k }
     ensures kept_a { (a : ℕ) → link link_a.new a ≡ None → link link_a.old a ≡ None }
     ensures kept_b { (b : ℕ) → link link_b.new b ≡ None → link link_b.old b ≡ None }
 {
@@ -35,7 +35,7 @@ fn take(net: Net<'_>, link_a: &mut [Option<usize>], link_b: &mut [Option<usize>]
 pub fn link_tight(net: Net<'_>, link_a: &mut [Option<usize>], link_b: &mut [Option<usize>])
     requires { IsBetween net.edges.now net.price_a.now net.price_b.now link_a.old link_b.old 0 }
     ensures between { IsBetween net.entry.edges.now net.entry.price_a.now net.entry.price_b.now link_a.new link_b.new 0 }
-    ensures settled { AreSettled net.entry.edges.now net.entry.price_a.now net.entry.price_b.now link_a.new link_b.new (length net.entry.edges.now) }
+    ensures settled { AreSettled net.entry.edges.now net.entry.price_a.now net.entry.price_b.now link_a.new (HasLink link_b.new) (length net.entry.edges.now) }
 {
     for k in 0..net.edges.len() {
         take(net, link_a, link_b, k);

@@ -10,31 +10,24 @@ use Rattle.std.proofs.lemmas.List.Elements.{All-head, All-tail, All-cons, All-fi
 use Rattle.link_base.specs.declared.rule.Candidate.{Candidate}
 use Rattle.price_check.specs.Assignment.{price_sum, price_of, worth, IsBefore, IsWithin, IsCovered}
 use Rattle.price_check.specs.Capacities.{CertifiesWithin, IsWithinCapacities, capacity_of, links_at, place_sum}
-use Rattle.price_check.proofs.Duality.{without, IsTight, price_sum-without, price_sum-zero, AllPairs-head, AllPairs-tail}
+use Rattle.price_check.proofs.Duality.{without, absent-without, IsTight, price_sum-without, price_sum-zero, AllPairs-head, AllPairs-tail}
 use Rattle.price_check.proofs.Members.{Contains-filter, Contains-later, clash, same_member}
 use Rattle.price_check.proofs.PlaceFacts.{AreApart, fits-tail, links_at-here, links_at-other, one_less, place_sum-one_less, place_there}
 use Rattle.std.proofs.lemmas.List.Kept.{AllPairs-filter}
 use Rattle.assignment_steps.specs.declared.market.Edge.{Edge}
 use Rattle.assignment_steps.specs.Market.{edge, link, number}
 use Rattle.capacity_assign.specs.Core.{linked_at}
-use Rattle.capacity_assign.specs.Round.{IsBetween}
-use Rattle.capacity_assign.specs.Seating.{Seating, free_records}
+use Rattle.capacity_assign.specs.Round.{IsBetweenRounds}
+use Rattle.capacity_assign.specs.Seating.{HasPlace, Seating, free_records}
 use Rattle.capacity_assign.specs.Final.{AreClosed, AreEmpty, ReachAll}
 use Rattle.assignment_steps.specs.Candidates.{edges_of, is_linked, prices_of}
 use Rattle.capacity_assign.proofs.Links.{counted_link, linked_at-set, tick}
 use Rattle.assignment_steps.proofs.Links.{link_cases, link_there, link-set}
-use Rattle.assignment_steps.proofs.EdgesOf.{IsLinkedBy, edge_kept, edge_made, floored, is_linked_from, linked_by, none_linked, price_of-prices, range_edges}
+use Rattle.assignment_steps.proofs.EdgesOf.{floored, none_linked, price_of-prices, range_edges}
+use Rattle.assignment_steps.proofs.Certified.{absent_a, all_among, all_covered, all_tight, apart_a, link_member, links_rising, member_link}
 
 -- Tight members, no price where no member stands, and none at a record of B with a place left: the prices add up
 -- to the worth.
-
-without-same : (ps : List ℤ) (position : ℕ) → price_of (without ps position) position ≡ pos 0
-without-same [] position = refl
-without-same (p ∷ ps) zero = refl
-without-same (p ∷ ps) (suc position) = without-same ps position
-
-absent-without : (ps : List ℤ) (position r : ℕ) → (r ≢ position → price_of ps r ≡ pos 0) → price_of (without ps position) r ≡ pos 0
-absent-without ps position r h = elim (cases_eq r position) [ inl e ↦ rw e (without-same ps position) | inr n ↦ get_or-set_other ps position r (pos 0) (pos 0) n ∙ h n ]
 
 tight-without_a : (ps qs : List ℤ) (c : Candidate) (cs : List Candidate) → All (λ x. c.a ≢ x.a) cs → All (IsTight ps qs) cs → All (IsTight (without ps c.a) qs) cs
 tight-without_a ps qs c cs apart tight = λ k d l.
@@ -113,94 +106,31 @@ counted_members es (c ∷ cs) la b apart of_member of_link =
         at zero lt e = absurd (ne (sym e))
         at (suc k) lt e = (k, omega arith, e)
 
-module _ (cs : List Candidate) (capacities pa pb : List ℕ) (la : List (Option ℕ)) (s : Seating) (rising : AllPairs IsBefore cs) (w : IsBetween (edges_of cs) pa pb la s (length pa)) (places : (b : ℕ) → number s.left b + linked_at (edges_of cs) la b ≡ capacity_of capacities b) where
+module _ (cs : List Candidate) (capacities pa pb : List ℕ) (la : List (Option ℕ)) (s : Seating) (rising : AllPairs IsBefore cs) (w : IsBetweenRounds (edges_of cs) pa pb la s (length pa)) (places : (b : ℕ) → number s.left b + linked_at (edges_of cs) la b ≡ capacity_of capacities b) where
   abbrev es : List Edge
   es = edges_of cs
 
-  abbrev test : Candidate → Bool
-  test c = is_linked es la c
-
   abbrev links : List Candidate
-  links = filter test cs
-
-  all_linked : All (λ c. test c ≡ true) links
-  all_linked = filter_passes test cs
-
-  all_among : All (Contains cs) links
-  all_among = All-filter test (Contains cs) cs (All-contains_itself cs)
-
-  -- two linked candidates in order are not of one record of A
-  share_at : (x y : Candidate) (k j : ℕ) → IsLinkedBy es la x k → IsLinkedBy es la y j → IsBefore x y → x.a ≢ y.a
-  share_at x y k j hx hy before = λ e.
-      let on : link la x.a ≡ Some j = rw e hy.on in
-      let same : k ≡ j = cc (hx.on, on) in
-      clash x y before e (sym hx.record_b ∙ (ap (λ n. (edge es n).b) same ∙ hy.record_b))
-
-  share_none : (x y : Candidate) → test x ≡ true → test y ≡ true → IsBefore x y → x.a ≢ y.a
-  share_none x y tx ty before = (let hx = linked_by es la x tx in let hy = linked_by es la y ty in share_at x y hx.0 hy.0 hx.1 hy.1 before)
+  links = filter (is_linked es la) cs
 
   apart : AreApart links
-  apart = λ i j d lt m. share_none (get_or links i d) (get_or links j d) (all_linked i d (omega arith)) (all_linked j d m) (AllPairs-filter IsBefore test cs rising i j d lt m)
+  apart = apart_a cs pa pb la (HasPlace s.left) rising w.priced
 
-  -- each candidate is covered
-  covered_at : (c : Candidate) (v : ℤ) → Contains cs c → c.value ≡ v → v ≤ℤ (price_of (prices_of pa) c.a +ℤ price_of (prices_of pb) c.b)
-  covered_at c (pos zero) inside is = rw (price_of-prices pa c.a, price_of-prices pb c.b) (omega (arith, ints))
-  covered_at c (negsuc n) inside is = rw (price_of-prices pa c.a, price_of-prices pb c.b) (omega (arith, ints))
-  covered_at c (pos (suc n)) inside is =
-      let m = edge_made cs c n inside is in
-      let here = w.covered m.0 m.1.0 in
-      let here' : suc n ≤ number pa c.a + number pb c.b = rw m.1.1 at here in
-      rw (price_of-prices pa c.a, price_of-prices pb c.b) (omega (arith, ints, here'))
-
-  pub all_covered : All (IsCovered (prices_of pa) (prices_of pb)) cs
-  all_covered = λ k d lt. covered_at (get_or cs k d) (get_or cs k d).value (All-contains_itself cs k d lt) refl
-
-  -- a linked candidate is the one of its edge, and tight
-  tight_at : (c : Candidate) → Contains cs c → test c ≡ true → IsTight (prices_of pa) (prices_of pb) c
-  tight_at c inside t =
-      let h = linked_by es la c t in
-      let p = w.linked c.a h.0 h.1.on in
-      let kept = edge_kept cs h.0 p.0 in
-      let same : kept.0 ≡ c = same_member cs kept.0 c rising kept.1.0 inside (kept.1.1.record_a ∙ p.1) (kept.1.1.record_b ∙ h.1.record_b) in
-      let value : c.value ≡ pos (edge es h.0).value = rw same at kept.1.1.value in
-      let on : link la (edge es h.0).a ≡ Some h.0 = rw p.1 h.1.on in
-      let tight : number pa c.a + number pb c.b ≡ (edge es h.0).value = rw (p.1, h.1.record_b) at (w.tight h.0 on) in
-      rw (price_of-prices pa c.a, price_of-prices pb c.b) (omega (arith, ints, value, tight))
-
-  pub all_tight : All (IsTight (prices_of pa) (prices_of pb)) links
-  all_tight = λ k d lt. tight_at (get_or links k d) (all_among k d lt) (all_linked k d lt)
-
-  -- the candidate of a linked edge is linked
-  link_member : (a k : ℕ) → link la a ≡ Some k → (c : Candidate) × (Contains links c × (c.a ≡ a))
-  link_member a k on =
-      let m = w.linked a k on in
-      let kept = edge_kept cs k m.0 in
-      let at : kept.0.a ≡ a = kept.1.1.record_a ∙ m.1 in
-      let t : test kept.0 ≡ true = is_linked_from es la kept.0 k (rw at on) (sym kept.1.1.record_b) kept.1.1.is in
-      (kept.0, (Contains-filter test cs kept.0 kept.1.0 t, at))
-
-  member_link : (c : Candidate) → Contains links c → (k : ℕ) × ((link la c.a ≡ Some k) × ((edge es k).b ≡ c.b))
-  member_link c inside = (let h = linked_by es la c (All-contains (λ c. test c ≡ true) links c all_linked inside) in (h.0, (h.1.on, h.1.record_b)))
-
-  pub counted : (b : ℕ) → linked_at es la b ≡ links_at b links
-  counted b = counted_members es links la b apart member_link link_member
-
-  absent_a : (position : ℕ) → All (λ c. c.a ≢ position) links → price_of (prices_of pa) position ≡ pos 0
-  absent_a position absent = price_of-prices pa position ∙ ap pos (elim (link_cases la position) [
-    | inl none ↦ elim (cases_lt position (length pa)) [ inl lt ↦ w.free_a position lt none | inr past ↦ get_or_past pa position 0 past ]
-    | inr p ↦ (let c = link_member position p.0 p.1 in absurd (All-contains (λ c. c.a ≢ position) links c.0 absent c.1.0 c.1.1))
-  ])
+  counted : (b : ℕ) → linked_at es la b ≡ links_at b links
+  counted b = counted_members es links la b apart
+      (λ c inside. (let h = member_link cs pa pb la (HasPlace s.left) rising w.priced c inside in (h.0, (h.1.on, h.1.record_b))))
+      (λ a k on. (let m = link_member cs pa pb la (HasPlace s.left) rising w.priced a k on in (m.0, (m.1.0, m.1.1))))
 
   filled : (b : ℕ) → (price_of (prices_of pb) b ≡ pos 0) ⊎ (links_at b links ≡ capacity_of capacities b)
   filled b = elim (cases_lt 0 (number s.left b)) [
-    | inl some ↦ inl (price_of-prices pb b ∙ ap pos (w.free_b b some))
+    | inl some ↦ inl (price_of-prices pb b ∙ ap pos (w.priced.free_b b some))
     | inr full ↦ inr (omega (arith, full, places b, counted b))
   ]
 
   pub within : IsWithinCapacities cs capacities links
   within = record {
-    among = all_among;
-    rising = AllPairs-filter IsBefore test cs rising;
+    among = all_among cs pa pb la (HasPlace s.left) rising w.priced;
+    rising = links_rising cs pa pb la (HasPlace s.left) rising w.priced;
     apart = apart;
     fits = λ b. omega (arith, places b, counted b);
   }
@@ -209,8 +139,8 @@ module _ (cs : List Candidate) (capacities pa pb : List ℕ) (la : List (Option 
   certifies = record {
     floor_a = floored pa;
     floor_b = floored pb;
-    covered = all_covered;
-    balanced = sums_from_tight links capacities (prices_of pa) (prices_of pb) apart (λ b. within.fits b) all_tight absent_a filled;
+    covered = all_covered cs pa pb la (HasPlace s.left) rising w.priced;
+    balanced = sums_from_tight links capacities (prices_of pa) (prices_of pb) apart (λ b. within.fits b) (all_tight cs pa pb la (HasPlace s.left) rising w.priced) (absent_a cs pa pb la (HasPlace s.left) rising w.priced) filled;
   }
 
 -- What holds before the first round.
@@ -221,16 +151,20 @@ none_at es n b = elim (cases_lt 0 (linked_at es (replicate n None) b)) [
   | inr none ↦ omega arith
 ]
 
-pub between_first : (cs : List Candidate) (rows_a : ℕ) (capacities pa pb : List ℕ) (s : Seating) → All (IsWithin rows_a (length capacities)) cs → AreClosed (edges_of cs) capacities pb → ReachAll (edges_of cs) rows_a pa pb → AreEmpty rows_a capacities s → IsBetween (edges_of cs) pa pb (replicate rows_a None) s 0
+pub between_first : (cs : List Candidate) (rows_a : ℕ) (capacities pa pb : List ℕ) (s : Seating) → All (IsWithin rows_a (length capacities)) cs → AreClosed (edges_of cs) capacities pb → ReachAll (edges_of cs) rows_a pa pb → AreEmpty rows_a capacities s → IsBetweenRounds (edges_of cs) pa pb (replicate rows_a None) s 0
 between_first cs rows_a capacities pa pb s within closed r empty = record {
-  rows_a = length-replicate rows_a None ∙ sym r.records;
+  priced = record {
+    rows_a = length-replicate rows_a None ∙ sym r.records;
+    in_range = rw (r.records, closed.records) (range_edges cs rows_a (length capacities) within);
+    covered = r.covered;
+    small_a = r.small;
+    small_b = closed.small;
+    linked = λ a k h. absurd (let none = none_linked rows_a a in cc);
+    tight = λ k h. absurd (let none = none_linked rows_a (edge (edges_of cs) k).a in cc);
+    free_a = λ a lt none. absurd (omega (arith, lt));
+    free_b = λ b some. closed.vacant b (rw empty.left at some);
+  };
   rows_b = rw empty.left (sym closed.records);
-  in_range = rw (r.records, closed.records) (range_edges cs rows_a (length capacities) within);
-  covered = r.covered;
-  small_a = r.small;
-  small_b = closed.small;
-  linked = λ a k h. absurd (let none = none_linked rows_a a in cc);
-  tight = λ k h. absurd (let none = none_linked rows_a (edge (edges_of cs) k).a in cc);
   seated = record {
     seats = empty.seats ∙ sym (length-replicate rows_a None);
     sitters = empty.sitters ∙ sym (length-replicate rows_a None);
@@ -245,8 +179,6 @@ between_first cs rows_a capacities pa pb s within closed r empty = record {
       earlier = λ n lt. absurd (omega (arith, lt, empty.count));
     };
   };
-  free_a = λ a lt none. absurd (omega (arith, lt));
-  free_b = λ b some. closed.vacant b (rw empty.left at some);
   closed = λ b k full lt ends.
       let none : capacity_of capacities (edge (edges_of cs) k).b ≡ 0 = rw (ends, ← empty.left) (omega (arith, full)) in
       rw (← ends) (closed.covered k lt none);

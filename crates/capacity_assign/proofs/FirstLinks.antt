@@ -6,18 +6,18 @@ use Rattle.price_check.proofs.PlaceFacts.{place_there}
 use Rattle.assignment_steps.specs.declared.market.Edge.{Edge}
 use Rattle.assignment_steps.specs.Market.{IsTight, edge, link, number}
 use Rattle.capacity_assign.specs.Core.{linked_at}
-use Rattle.capacity_assign.specs.Round.{AreSettled, IsBetween, IsSettled, KeepsCapacities}
-use Rattle.capacity_assign.specs.Seating.{AddsSeat, Seating, free_records}
-use Rattle.capacity_assign.proofs.Links.{free_record_counts, free_records-set, linked_at-set, linked_set, tick}
+use Rattle.capacity_assign.specs.Round.{IsBetweenRounds, KeepsCapacities}
+use Rattle.capacity_assign.specs.Seating.{AddsSeat, HasPlace, Seating, free_records}
+use Rattle.capacity_assign.proofs.Links.{free_record_counts, free_records-set, linked_at-set, tick}
 use Rattle.capacity_assign.proofs.Seating.{places_after_added, all_taken, seats_after_added, vacant_after_added}
-use Rattle.assignment_steps.proofs.Taken.{tight_joined}
+use Rattle.assignment_steps.proofs.Taken.{priced_joined}
 
-module _ (es : List Edge) (pa pb : List ℕ) (la : List (Option ℕ)) (s t : Seating) (k : ℕ) (w : IsBetween es pa pb la s 0) (lt : k < length es) (none : link la (edge es k).a ≡ None) (some : 0 < number s.left (edge es k).b) (adds : AddsSeat s t (edge es k).b) where
+module _ (es : List Edge) (pa pb : List ℕ) (la : List (Option ℕ)) (s t : Seating) (k : ℕ) (w : IsBetweenRounds es pa pb la s 0) (lt : k < length es) (none : link la (edge es k).a ≡ None) (some : 0 < number s.left (edge es k).b) (adds : AddsSeat s t (edge es k).b) where
   abbrev a : ℕ
   a = (edge es k).a
 
   ra : a < length la
-  ra = omega (arith, w.in_range.record_a k lt, w.rows_a)
+  ra = omega (arith, w.priced.in_range.record_a k lt, w.priced.rows_a)
 
   one_more : (x : ℕ) → linked_at es (set la a (Some k)) x ≡ linked_at es la x + tick ((edge es k).b == x)
   one_more x = (let e : linked_at es (set la a (Some k)) x + 0 ≡ linked_at es la x + tick ((edge es k).b == x) = rw none at (linked_at-set es la a (Some k) x ra) in omega (arith, e))
@@ -25,24 +25,16 @@ module _ (es : List Edge) (pa pb : List ℕ) (la : List (Option ℕ)) (s t : Sea
   pub places_linked : KeepsCapacities es la s.left (set la a (Some k)) t.left
   places_linked = rw adds.left (places_after_added es la (set la a (Some k)) s.left (edge es k).b some one_more)
 
-  pub between_linked : IsTight es pa pb k → IsBetween es pa pb (set la a (Some k)) (record t { seat = set t.seat a s.count; sitter = set t.sitter s.count a }) 0
+  pub between_linked : IsTight es pa pb k → IsBetweenRounds es pa pb (set la a (Some k)) (record t { seat = set t.seat a s.count; sitter = set t.sitter s.count a }) 0
   between_linked tight =
       let rooms = free_record_counts la a ra none in
       let fewer : free_records (set la a (Some k)) + 1 ≡ free_records la = (let e : free_records (set la a (Some k)) + 1 ≡ free_records la + 0 = rw none at (free_records-set la a (Some k) ra) in omega (arith, e)) in
       let count : s.count < length s.sitter = omega (arith, w.seated.room, w.seated.sitters, rooms) in
       record {
-        rows_a = rw length-set w.rows_a;
+        priced = priced_joined es pa pb la k (HasPlace s.left) (HasPlace t.left) w.priced lt ra tight (λ b left. vacant_after_added s.left (edge es k).b some b (rw adds.left at left));
         rows_b = rw (adds.left, length-set) w.rows_b;
-        in_range = w.in_range;
-        covered = w.covered;
-        small_a = w.small_a;
-        small_b = w.small_b;
-        linked = linked_set es la k w.linked lt ra;
-        tight = tight_joined es pa pb la k ra w.tight tight;
         seated = seats_after_added es la (set la a (Some k)) s t (edge es k).b (set t.seat a s.count) (set t.sitter s.count a) w.seated adds (place_there s.left (edge es k).b some) rooms (length-set la a (Some k)) fewer (length-set t.seat a s.count) (length-set t.sitter s.count a)
             (λ h. all_taken es la t.seat t.sitter t.owner t.count (edge es k).b s.count k h refl ra (rw adds.seat w.seated.seats) (rw adds.sitter count) none);
-        free_a = λ r low free. absurd (omega arith);
-        free_b = λ b left. w.free_b b (vacant_after_added s.left (edge es k).b some b (rw adds.left at left));
         closed = λ b j full ltj ends. w.closed b j (sym (places_linked b) ∙ full) ltj ends;
       }
 
@@ -52,12 +44,4 @@ still_none left b x v some none =
     elim (cases_eq x b) [
       | inl same ↦ absurd (let here : number left b ≡ 0 = rw (← same) none in omega (arith, here, some))
       | inr other ↦ get_or-set_other left b x v 0 other ∙ none
-    ]
-
--- one more edge is settled
-pub one_more_settled : (es : List Edge) (pa pb : List ℕ) (la la' : List (Option ℕ)) (left left' : List ℕ) (k : ℕ) → ((a : ℕ) → link la' a ≡ None → link la a ≡ None) → ((b : ℕ) → number left b ≡ 0 → number left' b ≡ 0) → AreSettled es pa pb la left k → IsSettled es pa pb la' left' k → AreSettled es pa pb la' left' (k + 1)
-one_more_settled es pa pb la la' left left' k kept fewer before here j low tight none =
-    elim (cases_eq j k) [
-      | inl same ↦ (let at : IsSettled es pa pb la' left' j = rw same here in at tight none)
-      | inr other ↦ fewer _ (before j (omega (arith, low, other)) tight (kept _ none))
     ]

@@ -10,7 +10,7 @@ use Rattle.assignment_steps.proofs.Links.{link_there}
 use Rattle.capacity_assign.specs.declared.market.Ground.{Ground}
 use Rattle.assignment_steps.specs.Market.{link, number}
 use Rattle.assignment_steps.specs.Distances.{distance, far}
-use Rattle.assignment_steps.specs.Spread.{IsNearest, IsRelaxed, IsSpread, Shortens, edge_of, paid}
+use Rattle.assignment_steps.specs.Spread.{EndsAt, IsNearest, IsRelaxed, IsSpread, Shortens, edge_of, paid}
 use Rattle.capacity_assign.specs.Seating.{IsLastSeat}
 use Rattle.capacity_assign.specs.Growth.{Growth, IsGrown, IsHeldAt, IsPending, IsReady, IsExhausted, IsTree, Joins, places_left, with_waiting}
 use Rattle.assignment_steps.proofs.OneWrite.{distance-set}
@@ -18,7 +18,7 @@ use Rattle.assignment_steps.proofs.Spreading.{cons_first, joins_here, joins_keep
 
 -- where the tree ends, and which records of B wait, does not speak of the edges that are relaxed
 pub tree_marked : (f : Ground) (position next position' next' : ℕ) (g : Growth) → IsTree f position next g → IsSpread f.field position' next' g.spread g.best → IsTree f position' next' g
-tree_marked f position next position' next' g t s = record { spread = s; best_in = t.best_in; best_at = t.best_at; pending = t.pending; held_at = t.held_at }
+tree_marked f position next position' next' g t s = record { spread = s; ends = t.ends; pending = t.pending; held_at = t.held_at }
 
 pub tree_passed : (f : Ground) (k : ℕ) (g : Growth) → IsTree f (edge_of f.field k).a k g → IsRelaxed f.field g.spread g.best k → IsTree f (edge_of f.field k).a (k + 1) g
 tree_passed f k g t here = tree_marked f _ _ _ (k + 1) g t (spread_passed f.field k g.spread g.best t.spread here)
@@ -53,8 +53,7 @@ module _ (f : Ground) (k : ℕ) (g g' : Growth) (reach : ℕ) (lt : k < length f
   pub tree_reached : IsTree f (edge_of f.field k).a (k + 1) g'
   tree_reached = record {
     spread = spread_shortened f.field k g.spread g'.spread g.best g'.best reach lt ready.field t.spread last exact near useful records froms top (omega (arith, best)) (omega (arith, best, t.spread.now)) r;
-    best_in = rw (best_record, r.da) t.best_in;
-    best_at = rw (best, best_record, r.da) t.best_at;
+    ends = rw (best, best_record, r.da) t.ends;
     pending = pending;
     held_at = held_at;
   }
@@ -63,8 +62,7 @@ module _ (f : Ground) (k : ℕ) (g g' : Growth) (reach : ℕ) (lt : k < length f
 tree_waiting : (f : Ground) (position next : ℕ) (g : Growth) (waiting : List (ℕ × ℕ)) (current : ℕ) (held : Option ℕ) → IsTree f position next g → current ≤ g.best → ((a : ℕ) → distance g.spread.da a < far → distance g.spread.da a ≤ current) → ((b : ℕ) → distance g.spread.db b < far → Contains waiting (distance g.spread.db b, b) ⊎ (IsExhausted f g.spread.da b ⊎ (held ≡ Some b))) → ((b : ℕ) → held ≡ Some b → (places_left f b ≡ 0) × (distance g.spread.db b ≡ current)) → ((e : ℕ × ℕ) → Contains waiting e → (current ≤ e.0) × (distance g.spread.db e.1 ≤ e.0) × (e.1 < length g.spread.db)) → IsTree f position next (record g { spread = record g.spread { frontier = waiting; current = current }; held = held })
 tree_waiting f position next g waiting current held t now low pending held_at late = record {
   spread = spread_waiting f.field position next g.spread g.best waiting current t.spread now low late;
-  best_in = t.best_in;
-  best_at = t.best_at;
+  ends = t.ends;
   pending = pending;
   held_at = held_at;
 }
@@ -142,7 +140,8 @@ grown_holding f g b t is near = record {
   after = t.spread.now;
   least = λ x h. omega (arith, (t.spread.late x h).0, near);
   held = λ x q. omega (arith, (t.held_at x q).1, near);
-  stop = t.best_in;
+  stop = t.ends.0;
+  paid = λ _. t.ends;
 }
 
 -- an end that no entry comes before
@@ -153,7 +152,8 @@ grown_best f g t none least = record {
   after = t.spread.now;
   least = least;
   held = λ x is. absurd (let clash : None ≡ Some x = sym none ∙ is in cc);
-  stop = t.best_in;
+  stop = t.ends.0;
+  paid = λ _. t.ends;
 }
 
 -- the records of A that sit after the seat that comes next have joined
@@ -209,14 +209,11 @@ module _ (f : Ground) (last : ℕ) (g g' : Growth) (k dist : ℕ) (ready : IsRea
   keeps : (a : ℕ) → distance g.spread.da a < far → distance g'.spread.da a ≡ distance g.spread.da a
   keeps = joins_keeps g.spread g'.spread position dist s.spread new
 
-  best_in : distance g'.spread.da g'.best_record < far
-  best_in = elim s.best_record [
-    | inl p ↦ rw (p.1, keeps g.best_record t.best_in) t.best_in
-    | inr p ↦ rw (p.1, here) (omega (arith, now, t.spread.now, t.spread.best_small))
+  ends : EndsAt f.field g'.spread g'.best g'.best_record
+  ends = elim s.best_record [
+    | inl p ↦ rw (p.0, p.1, keeps g.best_record t.ends.0) t.ends
+    | inr p ↦ rw (p.1, here) (omega (arith, now, t.spread.now, t.spread.best_small), p.0)
   ]
-
-  best_at : g'.best ≡ distance g'.spread.da g'.best_record + number f.field.price_a.now g'.best_record
-  best_at = elim s.best_record [ inl p ↦ rw (p.0, p.1, keeps g.best_record t.best_in) t.best_at | inr p ↦ rw (p.1, here) p.0 ]
 
   joined_pending : (x : ℕ) → distance g.spread.db x < far → Contains g.spread.frontier (distance g.spread.db x, x) ⊎ (IsExhausted f g'.spread.da x ⊎ (g.held ≡ Some x))
   joined_pending x close = elim (t.pending x close) [
@@ -230,8 +227,7 @@ module _ (f : Ground) (last : ℕ) (g g' : Growth) (k dist : ℕ) (ready : IsRea
   pub tree_joining : IsTree f (edge_of f.field k).a 0 g'
   tree_joining = record {
     spread = spread_joined f.field last g.spread g'.spread g.best position k dist g'.best g.spread.frontier ready.field t.spread new rows_a ranks_a on dist_is (omega (arith, now, t.spread.now)) (omega (arith, now)) (λ x h. omega (arith, (t.spread.late x h).0, now)) (λ x h. h) s.best s.spread;
-    best_in = best_in;
-    best_at = best_at;
+    ends = ends;
     pending = λ x close. rw (s.spread.db, s.spread.frontier, s.held) (joined_pending x (rw s.spread.db at close));
     held_at = λ x is. (let old = t.held_at x (sym s.held ∙ is) in rw (s.spread.db, s.spread.current) (old.0, old.1 ∙ sym now));
   }
@@ -244,8 +240,7 @@ tree_planted f g g' ready da db frontier rows_a ranks_a none no_held s =
     let record_is : g'.best_record ≡ f.field.root = elim s.best_record [ inl p ↦ absurd (omega (arith, p.0, none, best, ready.field.small_a f.field.root)) | inr p ↦ p.1 ] in
     record {
       spread = spread_planted f.field g.spread g'.spread g'.best ready.field da db frontier rows_a ranks_a s.spread best;
-      best_in = rw (record_is, here) (omega arith);
-      best_at = rw (record_is, here) (omega (arith, best));
+      ends = rw (record_is, here) (omega arith, omega (arith, best));
       pending = λ b near. absurd (let old : distance g.spread.db b < far = rw s.spread.db at near in omega (arith, old, db b));
       held_at = λ b is. absurd (let clash : None ≡ Some b = sym no_held ∙ (sym s.held ∙ is) in cc);
     }

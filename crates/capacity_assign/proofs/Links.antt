@@ -10,13 +10,6 @@ use Rattle.assignment_steps.specs.Market.{AreLinked, edge, link}
 use Rattle.capacity_assign.specs.Seating.{free_records}
 use Rattle.assignment_steps.proofs.Links.{link-set}
 
--- the record of A of edge k takes it
-pub linked_set : (es : List Edge) (la : List (Option ℕ)) (k : ℕ) → AreLinked es la → k < length es → (edge es k).a < length la → AreLinked es (set la (edge es k).a (Some k))
-linked_set es la k h lt ra a j on = elim (link-set la (edge es k).a a (Some k) ra) [
-  | inl p ↦ (let same : k ≡ j = cc in rw (← same) (lt, sym p.0))
-  | inr p ↦ h a j (sym p.1 ∙ on)
-]
-
 -- a record of A gives its link up
 pub linked_parted : (es : List Edge) (la : List (Option ℕ)) (r : ℕ) → AreLinked es la → r < length la → AreLinked es (set la r None)
 linked_parted es la r h lt a j on = elim (link-set la r a None lt) [

@@ -8,10 +8,10 @@ use Rattle.assignment_steps.specs.Ways.{IsHop, above, Leads}
 use Rattle.assignment_steps.specs.Market.{AreLinked, AreTight, link, edge, number}
 use Rattle.capacity_assign.specs.Seating.{AreAllSeated, HasHole, free_records}
 use Rattle.assignment_steps.proofs.Links.{link-set}
-use Rattle.capacity_assign.proofs.Links.{linked_set, linked_at-set, free_records-set}
+use Rattle.capacity_assign.proofs.Links.{linked_at-set, free_records-set}
 use Rattle.capacity_assign.proofs.Seating.{all_taken, seat_left}
 use Rattle.assignment_steps.proofs.Leading.{leads_below, reached_by, goes_on, ends_at}
-use Rattle.assignment_steps.proofs.Taken.{tight_joined}
+use Rattle.assignment_steps.proofs.Taken.{linked_joined, tight_joined}
 
 -- a place that is missing at a record of B
 abbrev pub one_at : ℕ → ℕ → ℕ
@@ -59,7 +59,7 @@ module _ (es : List Edge) (pa pb : List ℕ) (from rank : List ℕ) (root : ℕ)
         rows_a = rw length-set w.rows_a;
         records = rw (length-set, length-set) w.records;
         seats = rw length-set w.seats;
-        linked = linked_set es la k w.linked hop.place ra;
+        linked = linked_joined es la k w.linked hop.place ra;
         tight = tight_joined es pa pb la k ra w.tight hop.tight;
         within = within_set;
         there = rw length-set (w.within (edge es k).a j linked);
@@ -84,7 +84,7 @@ module _ (es : List Edge) (pa pb : List ℕ) (from rank : List ℕ) (root : ℕ)
   seated_ended none owner count h = all_taken es la seat sitter owner count free.b free.seat k (w.holes owner count h) hop.ends ra w.records w.there none
 
   pub linked_ended : AreLinked es (set la (edge es k).a (Some k))
-  linked_ended = linked_set es la k w.linked hop.place ra
+  linked_ended = linked_joined es la k w.linked hop.place ra
 
   pub tight_ended : AreTight es pa pb (set la (edge es k).a (Some k))
   tight_ended = tight_joined es pa pb la k ra w.tight hop.tight
@@ -146,10 +146,3 @@ walked es pa pb from rank root hole la0 seat0 sitter0 la la' seat seat' sitter s
       seated = seated_ended es pa pb from rank root hole la0 seat0 sitter0 la seat sitter free range w none;
     } in
     rw (h.links, h.seats, h.sitters) made
-
--- a linked record of A gives its link up: the way from its record of B stays
-pub leads_parted : (es : List Edge) (pa pb : List ℕ) (la : List (Option ℕ)) (from rank : List ℕ) (root last k : ℕ) → link la last ≡ Some k → ((last ≡ root) × (link la last ≡ None)) ⊎ ((j : ℕ) × ((link la last ≡ Some j) × (number rank (edge es (number from (edge es j).b)).a < number rank last) × ((n : ℕ) × Leads es pa pb la from rank root n (edge es j).b))) → (n : ℕ) × Leads es pa pb (set la last None) from rank root n (edge es k).b
-leads_parted es pa pb la from rank root last k on h = elim h [
-  | inl p ↦ absurd (let clash : None ≡ Some k = sym p.1 ∙ on in cc)
-  | inr p ↦ (let same : p.0 ≡ k = cc in rw (← same) (p.1.2.0, leads_below es pa pb la from rank root last None p.1.2.0 (edge es p.0).b p.1.1 p.1.2.1))
-]

@@ -1,15 +1,15 @@
 -- Machinery of `search` in `grow`: an alternating tree as it grows, and what it may end at: a record of B with a place
 -- left, or a record of A that gives its link up.
-use Rattle.std.specs.Prelude.{◌≡◌, ◌⊎◌, ℕ, ◌+◌, ◌<◌, ◌≤◌, List, length, Option, Some, MatchOption, Contains, vec_len}
+use Rattle.std.specs.Prelude.{◌≡◌, ◌⊎◌, ℕ, ◌+◌, ◌<◌, ◌≤◌, List, length, Option, Some, IsNone, Contains, vec_len}
 use Rattle.std.proofs.Common.{min}
 use Rattle.assignment_steps.specs.declared.market.Edge.{Edge}
 use Rattle.capacity_assign.specs.declared.market.Tree.{Tree}
 use Rattle.capacity_assign.specs.declared.market.Ground.{Ground}
 use Rattle.assignment_steps.specs.Market.{link, number}
-use Rattle.capacity_assign.specs.Seating.{AreSeats, seating}
+use Rattle.capacity_assign.specs.Seating.{AreSeats, HasPlace, seating}
 use Rattle.assignment_steps.specs.Distances.{distance, far}
 use Rattle.assignment_steps.specs.Reached.{IsClean}
-use Rattle.assignment_steps.specs.Spread.{Spread, IsSearchable, IsSpread, Joins as JoinsSpread, edge_of, spread}
+use Rattle.assignment_steps.specs.Spread.{Spread, EndsAt, StopsAt, IsSearchable, IsSpread, Joins as JoinsSpread, edge_of, spread}
 
 -- what a tree has reached, the nearest end at a record of A, and the record of B that is held
 pub record Growth : Type 0 where
@@ -50,8 +50,7 @@ IsHeldAt f s b = (places_left f b ≡ 0) × (distance s.db b ≡ s.current)
 -- a tree in which the edges of `position` from place `next` on are not relaxed yet
 pub record IsTree (f : Ground) (position next : ℕ) (g : Growth) : Type 0 where
   pub spread : IsSpread f.field position next g.spread g.best
-  pub best_in : distance g.spread.da g.best_record < far
-  pub best_at : g.best ≡ distance g.spread.da g.best_record + number f.field.price_a.now g.best_record
+  pub ends : EndsAt f.field g.spread g.best g.best_record
   pub pending : (b : ℕ) → distance g.spread.db b < far → IsPending f g.spread g.held b
   pub held_at : (b : ℕ) → g.held ≡ Some b → IsHeldAt f g.spread b
 
@@ -79,15 +78,12 @@ pub record IsGrown (f : Ground) (g : Growth) (end : ℕ) (free : Option ℕ) (la
   pub after : g.spread.current ≤ end
   pub least : (x : ℕ × ℕ) → Contains g.spread.frontier x → end ≤ x.0
   pub held : (b : ℕ) → g.held ≡ Some b → end ≤ distance g.spread.db b
-  pub stop : MatchOption free (distance g.spread.da last < far) (λ b. (0 < places_left f b) × (distance g.spread.db b ≡ end))
+  pub stop : StopsAt g.spread (HasPlace f.seats.now.left.items) end free last
+  pub paid : IsNone free → EndsAt f.field g.spread end last
 
 -- a tree that is grown to an end, over the entries that waited when it ended
 abbrev pub HasGrown : Ground → Growth → ℕ → Option ℕ → ℕ → Type 0
 HasGrown f g end free last = (waiting : List (ℕ × ℕ)) × IsGrown f (with_waiting waiting g) end free last
-
--- where it ends at a record of A, that is the one of the least end
-abbrev pub IsWhole : Growth → ℕ → Option ℕ → ℕ → Type 0
-IsWhole g end free last = MatchOption free ((end ≡ g.best) × (last ≡ g.best_record)) (λ _. Unit {0})
 
 -- a tree with nothing in it, with room for an entry of each edge
 pub record IsAtRest (es : List Edge) (rows_a rows_b : ℕ) (t : Tree) : Type 0 where

@@ -8,7 +8,7 @@ use Rattle.capacity_assign.specs.declared.assigner.CapacityAssigner.TheInside.{I
 use Rattle.capacity_assign.specs.Core.{linked_at}
 use Rattle.assignment_steps.specs.Market.{number, AreListed}
 use Rattle.capacity_assign.specs.Growth.{IsAtRest}
-use Rattle.capacity_assign.specs.Round.{IsBetween}
+use Rattle.capacity_assign.specs.Round.{IsBetweenRounds}
 use Rattle.capacity_assign.specs.Seating.{seating}
 use Rattle.assignment_steps.specs.Candidates.{edges_of}
 
@@ -17,7 +17,7 @@ pub record IsPrepared (s : Inside) : Type 0 where
   pub order : AllPairs IsBefore s.candidates.items
   pub edges : s.edges.items ≡ edges_of s.candidates.items
   pub listed : AreListed s.edges.items (length s.price_a.items) s.starts.items
-  pub between : IsBetween s.edges.items s.price_a.items s.price_b.items s.link_a.items (seating s.seats) 0
+  pub between : IsBetweenRounds s.edges.items s.price_a.items s.price_b.items s.link_a.items (seating s.seats) 0
   pub places : (b : ℕ) → number s.seats.left.items b + linked_at s.edges.items s.link_a.items b ≡ capacity_of s.capacity.items b
   pub rows_a : length s.price_a.items ≡ s.rows_a
   pub rows_b : length s.price_b.items ≡ length s.capacity.items

@@ -21,6 +21,13 @@ seating s = record { seat = s.seat.items; sitter = s.sitter.items; owner = s.own
 abbrev pub IsLastSeat : List ℕ → ℕ → ℕ → Option ℕ → Type 0
 IsLastSeat owner n b place = MatchOption place ((m : ℕ) → m < n → number owner m ≢ b) (λ p. (p < n) × (number owner p ≡ b) × ((m : ℕ) → m < n → number owner m ≡ b → m ≤ p))
 
+-- a record of B has a place left, or none
+abbrev pub HasPlace : List ℕ → ℕ → Type 0
+HasPlace left b = 0 < number left b
+
+abbrev pub IsFull : List ℕ → ℕ → Type 0
+IsFull left b = number left b ≡ 0
+
 -- how many records of A have no link
 abbrev pub free_records : List (Option ℕ) → ℕ
 free_records la = count_by is_none la

@@ -5,7 +5,7 @@ ghost use Rattle.price_check.specs.Capacities.{CertifiesWithin, IsGreatestWithin
 ghost use Rattle.capacity_assign.specs.Solution.{HasSmallValue, IsAllowedCapacity};
 ghost use Rattle.assignment_steps.specs.Market.{AreListed};
 ghost use Rattle.capacity_assign.specs.Growth.{IsAtRest};
-ghost use Rattle.capacity_assign.specs.Round.{IsBetween, KeepsCapacities};
+ghost use Rattle.capacity_assign.specs.Round.{IsBetweenRounds, KeepsCapacities};
 ghost use Rattle.capacity_assign.specs.Seating.{seating};
 ghost use Rattle.link_limits.specs.declared.TheConstants.{MOST_VALUE};
 
@@ -77,9 +77,9 @@ fn run(
     tree: &mut Tree,
 )
     requires listed { AreListed edges.now.items (length price_a.old.items) starts.now.items }
-    requires between { IsBetween edges.now.items price_a.old.items price_b.old.items link_a.old.items (seating seats.old) 0 }
+    requires between { IsBetweenRounds edges.now.items price_a.old.items price_b.old.items link_a.old.items (seating seats.old) 0 }
     requires tree { IsAtRest edges.now.items (length price_a.old.items) (length price_b.old.items) tree.old }
-    ensures between { IsBetween edges.now.items price_a.new.items price_b.new.items link_a.new.items (seating seats.new) (length price_a.new.items) }
+    ensures between { IsBetweenRounds edges.now.items price_a.new.items price_b.new.items link_a.new.items (seating seats.new) (length price_a.new.items) }
     ensures places { KeepsCapacities edges.now.items link_a.old.items seats.old.left.items link_a.new.items seats.new.left.items }
     ensures rows_a { length price_a.new.items ≡ length price_a.old.items }
     ensures rows_b { length price_b.new.items ≡ length price_b.old.items }

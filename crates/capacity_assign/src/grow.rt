@@ -2,7 +2,7 @@
 ghost use Rattle.std.specs.Prelude.{◌≡◌, ◌+◌, ◌-◌, ◌<◌, ◌≤◌, ℕ, length, ◌∷◌, None, Some, MatchBool, false};
 ghost use Rattle.link_limits.specs.declared.TheConstants.{MOST_VALUE};
 ghost use Rattle.assignment_steps.specs.Market.{number, IsRising};
-ghost use Rattle.capacity_assign.specs.Growth.{IsTree, growth, IsReady, Joins, Improves, HasGrown, with_waiting, places_left, IsGrown, IsWhole};
+ghost use Rattle.capacity_assign.specs.Growth.{IsTree, growth, IsReady, Joins, Improves, HasGrown, with_waiting, places_left, IsGrown};
 ghost use Rattle.assignment_steps.specs.Spread.{IsNearest, edge_of};
 ghost use Rattle.assignment_steps.specs.Reached.{HasRoomForRecords, work, FitsQueue, IsClean};
 ghost use Rattle.assignment_steps.specs.Distances.{distance, far};
@@ -186,7 +186,6 @@ pub fn grow(ground: Ground<'_>, tree: &mut Tree) -> Grown
     requires room { HasRoomForRecords (length ground.field.price_a.now) (length ground.field.price_b.now) tree.old.reached }
     requires queue { FitsQueue ground.field.edges.now 0 (length ground.field.edges.now) tree.old.reached }
     ensures grown { HasGrown ground.entry (growth tree.new) result.end result.free result.last }
-    ensures whole { IsWhole (growth tree.new) result.end result.free result.last }
     ensures room { HasRoomForRecords (length ground.entry.field.price_a.now) (length ground.entry.field.price_b.now) tree.new.reached }
     ensures queue { tree.old.reached.frontier.room ≤ tree.new.reached.frontier.room }
 {
@@ -237,7 +236,6 @@ pub fn search(ground: Ground<'_>, tree: &mut Tree) -> Grown
     requires queue { length ground.field.edges.now ≤ tree.old.reached.frontier.room }
     ensures ready { IsReady ground.entry }
     ensures grown { HasGrown ground.entry (growth tree.new) result.end result.free result.last }
-    ensures whole { IsWhole (growth tree.new) result.end result.free result.last }
     ensures room { HasRoomForRecords (length ground.entry.field.price_a.now) (length ground.entry.field.price_b.now) tree.new.reached }
     ensures queue { tree.old.reached.frontier.room ≤ tree.new.reached.frontier.room }
 {

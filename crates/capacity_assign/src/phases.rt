@@ -2,7 +2,7 @@
 ghost use Rattle.std.specs.Prelude.{length};
 ghost use Rattle.assignment_steps.specs.Market.{AreListed};
 ghost use Rattle.capacity_assign.specs.Growth.{IsAtRest};
-ghost use Rattle.capacity_assign.specs.Round.{IsBetween, KeepsCapacities};
+ghost use Rattle.capacity_assign.specs.Round.{IsBetweenRounds, KeepsCapacities};
 ghost use Rattle.capacity_assign.specs.Seating.{seating};
 
 use crate::market::{Seats, Tree};
@@ -21,9 +21,9 @@ pub fn all_rounds(
     tree: &mut Tree,
 )
     requires listed { AreListed edges.now (length price_a.old) starts.now }
-    requires between { IsBetween edges.now price_a.old price_b.old link_a.old (seating seats.old) 0 }
+    requires between { IsBetweenRounds edges.now price_a.old price_b.old link_a.old (seating seats.old) 0 }
     requires tree { IsAtRest edges.now (length price_a.old) (length price_b.old) tree.old }
-    ensures between { IsBetween edges.now price_a.new price_b.new link_a.new (seating seats.new) (length price_a.new) }
+    ensures between { IsBetweenRounds edges.now price_a.new price_b.new link_a.new (seating seats.new) (length price_a.new) }
     ensures places { KeepsCapacities edges.now link_a.old seats.old.left.items link_a.new seats.new.left.items }
 {
     let net = Net {

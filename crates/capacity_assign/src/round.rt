@@ -1,10 +1,11 @@
 // One round: a record of A is taken up, prices change, and links are turned round.
-ghost use Rattle.std.specs.Prelude.{◌≡◌, ◌+◌, ◌<◌, ℕ, length, None, MatchOption, IsNone, ◌⊎◌};
-ghost use Rattle.assignment_steps.specs.Market.{AreLinked, IsInRange, link, AreTight, number, AreListed};
+ghost use Rattle.std.specs.Prelude.{◌≡◌, ◌+◌, ◌<◌, ℕ, length, None, MatchOption};
+ghost use Rattle.assignment_steps.specs.Market.{AreLinked, IsInRange, link, AreTight, AreListed};
+ghost use Rattle.assignment_steps.specs.Between.{IsDone};
 ghost use Rattle.capacity_assign.specs.Growth.{IsAtRest};
-ghost use Rattle.assignment_steps.specs.Ways.{LeadsBy, LeadsFromRecord};
-ghost use Rattle.capacity_assign.specs.Round.{IsBetween, KeepsCapacities};
-ghost use Rattle.capacity_assign.specs.Seating.{AreSeats, seating};
+ghost use Rattle.assignment_steps.specs.Ways.{AreTurnedFrom, LeadsFromEnd};
+ghost use Rattle.capacity_assign.specs.Round.{IsBetweenRounds, KeepsCapacities};
+ghost use Rattle.capacity_assign.specs.Seating.{AreSeats, HasPlace, seating};
 
 use crate::grow::search;
 use crate::market::{Ground, Grown, Hole, Seats, Tree};
@@ -28,16 +29,14 @@ fn turn(
     requires seats { AreSeats net.edges.now link_a.old (seating seats.old) }
     requires root { (ways.root < length link_a.old) × (link link_a.old ways.root ≡ None) }
     requires last { MatchOption free (last < length link_a.old) (λ _. Unit {0}) }
-    requires free { MatchOption free (Unit {0}) (λ b. 0 < number seats.old.left.items b) }
-    requires leads { MatchOption free (LeadsFromRecord net ways link_a.old last) (λ b. (n : ℕ) × LeadsBy net ways link_a.old n b) }
-    ensures rows_a { length link_a.new ≡ length link_a.old }
+    requires free { MatchOption free (Unit {0}) (HasPlace seats.old.left.items) }
+    requires leads { LeadsFromEnd net ways link_a.old free last }
     ensures rows_b { length seats.new.left.items ≡ length seats.old.left.items }
     ensures linked { AreLinked net.entry.edges.now link_a.new }
     ensures tight { AreTight net.entry.edges.now net.entry.price_a.now net.entry.price_b.now link_a.new }
     ensures seats { AreSeats net.entry.edges.now link_a.new (seating seats.new) }
-    ensures root { MatchOption free (link link_a.new ways.entry.root ≡ None → ways.entry.root ≡ last) (λ _. link link_a.new ways.entry.root ≡ None → ⊥) }
-    ensures still_a { (a : ℕ) → link link_a.new a ≡ None → (link link_a.old a ≡ None) ⊎ (IsNone free × (a ≡ last)) }
-    ensures vacant { (b : ℕ) → 0 < number seats.new.left.items b → 0 < number seats.old.left.items b }
+    ensures turned { AreTurnedFrom link_a.old link_a.new ways.entry.root free last }
+    ensures vacant { (b : ℕ) → HasPlace seats.new.left.items b → HasPlace seats.old.left.items b }
     ensures places { KeepsCapacities net.entry.edges.now link_a.old seats.old.left.items link_a.new seats.new.left.items }
 {
     if let Some(b) = free {
@@ -72,11 +71,12 @@ pub fn take_up(
     requires listed { AreListed edges.now (length price_a.old) starts.now }
     requires root { root < length price_a.old }
     requires free { link link_a.old root ≡ None }
-    requires between { IsBetween edges.now price_a.old price_b.old link_a.old (seating seats.old) 0 }
+    requires between { IsBetweenRounds edges.now price_a.old price_b.old link_a.old (seating seats.old) 0 }
     requires tree { IsAtRest edges.now (length price_a.old) (length price_b.old) tree.old }
-    ensures between { IsBetween edges.now price_a.new price_b.new link_a.new (seating seats.new) 0 }
+    ensures between { IsBetweenRounds edges.now price_a.new price_b.new link_a.new (seating seats.new) 0 }
     ensures places { KeepsCapacities edges.now link_a.old seats.old.left.items link_a.new seats.new.left.items }
-    ensures settled { ((a : ℕ) → a < root → link link_a.old a ≡ None → number price_a.old a ≡ 0) → (a : ℕ) → a < root + 1 → link link_a.new a ≡ None → number price_a.new a ≡ 0 }
+    ensures kept { (a : ℕ) → IsDone price_a.old link_a.old a → IsDone price_a.new link_a.new a }
+    ensures done { IsDone price_a.new link_a.new root }
     ensures tree { IsAtRest edges.now (length price_a.new) (length price_b.new) tree.new }
 {
     let field = Field {
@@ -116,9 +116,9 @@ pub fn round(
 )
     requires listed { AreListed edges.now (length price_a.old) starts.now }
     requires root { root < length price_a.old }
-    requires between { IsBetween edges.now price_a.old price_b.old link_a.old (seating seats.old) root }
+    requires between { IsBetweenRounds edges.now price_a.old price_b.old link_a.old (seating seats.old) root }
     requires tree { IsAtRest edges.now (length price_a.old) (length price_b.old) tree.old }
-    ensures between { IsBetween edges.now price_a.new price_b.new link_a.new (seating seats.new) (root + 1) }
+    ensures between { IsBetweenRounds edges.now price_a.new price_b.new link_a.new (seating seats.new) (root + 1) }
     ensures places { KeepsCapacities edges.now link_a.old seats.old.left.items link_a.new seats.new.left.items }
     ensures tree { IsAtRest edges.now (length price_a.new) (length price_b.new) tree.new }
 {

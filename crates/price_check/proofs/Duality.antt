@@ -1,6 +1,7 @@
 -- Weak duality: prices that cover a list without a shared record add up to at least its worth.
-use Rattle.std.proofs.Common.{◌≡◌, ◌≢◌, ℕ, zero, suc, ℤ, pos, ◌+ℤ◌, ◌≤ℤ◌, List, [], ◌∷◌, get_or, set, refl, sym, arith}
+use Rattle.std.proofs.Common.{◌≡◌, ◌≢◌, ℕ, zero, suc, ℤ, pos, ◌+ℤ◌, ◌≤ℤ◌, List, [], ◌∷◌, get_or, set, refl, sym, ◌∙◌, inl, inr, arith}
 use Rattle.std.specs.Prelude.{All, AllPairs, Contains}
+use Rattle.std.proofs.lemmas.Bool.{cases_eq}
 use Rattle.std.proofs.lemmas.Int.{ints}
 use Rattle.std.proofs.lemmas.List.{get_or-set_other}
 use Rattle.std.proofs.lemmas.List.Elements.{All-head, All-tail, All-set, All-cons, All-contains}
@@ -20,6 +21,15 @@ IsFloored prices = All (λ p. pos 0 ≤ℤ p) prices
 -- a record's price is put to 0
 abbrev pub without : List ℤ → ℕ → List ℤ
 without prices position = set prices position (pos 0)
+
+without-same : (prices : List ℤ) (position : ℕ) → price_of (without prices position) position ≡ pos 0
+without-same [] position = refl
+without-same (p ∷ ps) zero = refl
+without-same (p ∷ ps) (suc position) = without-same ps position
+
+-- a record has no price there where it has none but at the record whose price is put to 0
+pub absent-without : (prices : List ℤ) (position r : ℕ) → (r ≢ position → price_of prices r ≡ pos 0) → price_of (without prices position) r ≡ pos 0
+absent-without prices position r h = elim (cases_eq r position) [ inl e ↦ rw e (without-same prices position) | inr n ↦ get_or-set_other prices position r (pos 0) (pos 0) n ∙ h n ]
 
 pub price_sum-without : (prices : List ℤ) (position : ℕ) → (price_sum (without prices position) +ℤ price_of prices position) ≡ price_sum prices
 price_sum-without [] position = refl

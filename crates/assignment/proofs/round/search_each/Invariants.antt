@@ -1,7 +1,7 @@
 use Rattle.std.proofs.Common.{ℕ, ◌<◌, ◌≤◌, length}
 use Rattle.assignment_steps.specs.Reached.{IsClean}
-use Rattle.assignment.specs.Round.{HasLooks, IsDone}
-use Rattle.assignment_steps.specs.Between.{IsBetween}
+use Rattle.assignment.specs.Round.{HasLooks}
+use Rattle.assignment_steps.specs.Between.{IsBetween, IsDone}
 use Rattle.assignment.proofs.round.search_each.Given as goal
 
 abbrev pub invariant-loop-root : goal.invariant-loop-root

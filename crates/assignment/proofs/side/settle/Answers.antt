@@ -6,7 +6,7 @@ pub search_each-requires-clause-between : goal.search_each-requires-clause-betwe
 search_each-requires-clause-between c = c.link_tight.ensures.between
 
 pub waiting-requires : goal.waiting-requires
-waiting-requires c = c.search_each.ensures.between.rows_a
+waiting-requires c = c.search_each.ensures.between.priced.rows_a
 
 pub returns-then-waiting-eq0 : goal.returns-then-waiting-eq0
 returns-then-waiting-eq0 c = between_done _ _ _ _ _ _ c.search_each.ensures.between (c.waiting.ensures.0 c.if-waiting-eq0.true)

@@ -9,7 +9,7 @@ join_mates-requires-clause-matched c = none_matched c.args.board.edges.now _ _ c
 pub join_mates-requires-clause-in_range : goal.join_mates-requires-clause-in_range
 join_mates-requires-clause-in_range c =
     let w = c.requires.between in
-    rw (c.clear_links.ensures.count, c.if-spare_a-link_a.false, w.rows_a, c.clear_links-2.ensures.count, c.if-spare_b-link_b.false, w.rows_b) w.in_range
+    rw (c.clear_links.ensures.count, c.if-spare_a-link_a.false, w.priced.rows_a, c.clear_links-2.ensures.count, c.if-spare_b-link_b.false, w.rows_b) w.priced.in_range
 
 pub adopt_all-requires-clause-link_a : goal.adopt_all-requires-clause-link_a
 adopt_all-requires-clause-link_a c = c.join_mates.auto.link_a ∙ (c.clear_links.ensures.count ∙ c.if-spare_a-link_a.false)

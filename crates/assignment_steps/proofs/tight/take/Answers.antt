@@ -15,8 +15,8 @@ returns c =
     let free_a : link la (edge es k).a ≡ None = not_linked (link la (edge es k).a) (sym c.is_some.ensures ∙ c.if-is_some.false) in
     let free_b : link lb (edge es k).b ≡ None = not_linked (link lb (edge es k).b) (sym c.is_some-2.ensures ∙ c.if-is_some-2.false) in
     let tight : IsTight es c.args.net.price_a.now c.args.net.price_b.now k = c.if-net-a.false in
-    let ra : (edge es k).a < length la = omega (arith, between.in_range.record_a k c.requires.place, between.rows_a) in
-    let rb : (edge es k).b < length lb = omega (arith, between.in_range.record_b k c.requires.place, between.rows_b) in
+    let ra : (edge es k).a < length la = omega (arith, between.priced.in_range.record_a k c.requires.place, between.priced.rows_a) in
+    let rb : (edge es k).b < length lb = omega (arith, between.priced.in_range.record_b k c.requires.place, between.rows_b) in
     record {
       between = between_joined es _ _ _ _ k between c.requires.place free_a free_b tight;
       settled = λ _ none. absurd (let clash : Some k ≡ None = sym (get_or-set_same la (edge es k).a (Some k) None ra) ∙ none in cc);

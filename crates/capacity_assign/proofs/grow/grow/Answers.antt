@@ -65,6 +65,7 @@ returns-then-index-gt0-clause-grown c =
         least = near.least;
         held = λ b is. absurd (let none = i.held in cc);
         stop = (some, exact);
+        paid = λ none. absurd (let clash = none in cc);
       },
     )
 
@@ -106,9 +107,6 @@ returns-clause-grown c =
 pub loop-near-init : goal.loop-near-init
 loop-near-init c = record { held = c.requires.held; tree = c.requires.tree; room = c.requires.room; fits = c.requires.queue; queue = omega arith }
 
-pub returns-then-tree-near-clause-whole : goal.returns-then-tree-near-clause-whole
-returns-then-tree-near-clause-whole c = rw c.best_end.ensures.free (c.best_end.ensures.end, c.best_end.ensures.last)
-
 pub returns-then-tree-near-clause-room : goal.returns-then-tree-near-clause-room
 returns-then-tree-near-clause-room c = room_queued _ _ c.loop-near.tree.reached c.take.new.self c.loop-near.invariant.room
 
@@ -117,9 +115,6 @@ returns-then-tree-near-clause-queue c = rw c.in-Some.ensures.room c.loop-near.in
 
 pub loop-near-smaller-then-index-near : goal.loop-near-smaller-then-index-near
 loop-near-smaller-then-index-near c = omega (arith, c.in-Some.ensures.count)
-
-pub returns-then-index-gt0-clause-whole : goal.returns-then-index-gt0-clause-whole
-returns-then-index-gt0-clause-whole c = tt
 
 pub returns-then-index-gt0-clause-room : goal.returns-then-index-gt0-clause-room
 returns-then-index-gt0-clause-room c = room_queued _ _ c.loop-near.tree.reached c.take.new.self c.loop-near.invariant.room
@@ -160,9 +155,6 @@ returns-then-not-settle-clause-grown c =
     let end = c.best_end-then-not-settle.ensures in
     (c.settle.new.tree.reached.frontier.waiting, rw (end.end, end.free, end.last) (rw c.if-not-settle.true at c.settle.ensures.tree))
 
-pub returns-then-not-settle-clause-whole : goal.returns-then-not-settle-clause-whole
-returns-then-not-settle-clause-whole c = rw c.best_end-then-not-settle.ensures.free (c.best_end-then-not-settle.ensures.end, c.best_end-then-not-settle.ensures.last)
-
 pub returns-then-not-settle-clause-room : goal.returns-then-not-settle-clause-room
 returns-then-not-settle-clause-room c = c.settle.ensures.room
 
@@ -184,9 +176,6 @@ loop-near-preserved c =
       fits = omega (arith, s.work, s.queue, e.count, e.room, i.fits);
       queue = omega (arith, s.queue, e.room, i.queue);
     }
-
-pub returns-clause-whole : goal.returns-clause-whole
-returns-clause-whole c = rw c.best_end-2.ensures.free (c.best_end-2.ensures.end, c.best_end-2.ensures.last)
 
 pub returns-clause-room : goal.returns-clause-room
 returns-clause-room c = room_queued _ _ c.loop-near.tree.reached c.take.new.self c.loop-near.invariant.room

@@ -22,4 +22,4 @@ grow-requires c =
 pub returns : goal.returns
 returns c =
     let g = c.grow.ensures in
-    record { ready = c.requires.ready; grown = g.grown; whole = g.whole; room = g.room; queue = omega (arith, g.queue, c.plant.ensures.queue) }
+    record { ready = c.requires.ready; grown = g.grown; room = g.room; queue = omega (arith, g.queue, c.plant.ensures.queue) }

@@ -3,6 +3,7 @@ use Rattle.std.proofs.lemmas.Bool.{cases_lt, false≢true}
 use Rattle.std.specs.Option.{is_some}
 use Rattle.assignment_steps.specs.Market.{link}
 use Rattle.assignment_steps.proofs.Taken.{not_linked}
+use Rattle.assignment_steps.proofs.Settled.{one_more_done}
 use Rattle.capacity_assign.proofs.Rounds.{between_any}
 use Rattle.capacity_assign.proofs.round.round.Goals as goal
 
@@ -11,13 +12,7 @@ returns-then-is_some c =
     let w = c.requires.between in
     let root = c.args.root in
     record {
-      between = between_any _ _ _ _ _ root (root + 1) w (λ (a : ℕ) (low : a < root + 1) (none : link c.args.link_a.now a ≡ None). elim (cases_lt a root) [
-        | inl before ↦ w.free_a a before none
-        | inr upto ↦
-            (let same : a ≡ root = omega (arith, low, upto) in
-            let here : link c.args.link_a.now root ≡ None = rw same at none in
-            absurd (false≢true (sym (ap is_some here) ∙ sym c.if-is_some.ensures)))
-      ]);
+      between = between_any _ _ _ _ _ root (root + 1) w (one_more_done _ _ _ _ root (λ a done. done) w.priced.free_a (λ none. absurd (false≢true (sym (ap is_some none) ∙ sym c.if-is_some.ensures))));
       places = λ b. refl;
       tree = c.requires.tree;
     }
@@ -35,7 +30,7 @@ pub returns : goal.returns
 returns c =
     let t = c.take_up.ensures in
     record {
-      between = between_any _ _ _ _ _ 0 _ t.between (t.settled c.requires.between.free_a);
+      between = between_any _ _ _ _ _ 0 _ t.between (one_more_done _ _ _ _ c.args.root t.kept c.requires.between.priced.free_a t.done);
       places = t.places;
       tree = t.tree;
     }

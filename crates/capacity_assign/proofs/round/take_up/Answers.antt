@@ -1,8 +1,9 @@
 use Rattle.std.proofs.Common.{length, arith}
 use Rattle.capacity_assign.specs.Growth.{growth, with_waiting}
-use Rattle.capacity_assign.specs.Seating.{seating}
-use Rattle.assignment_steps.proofs.Arrived.{falls_within}
-use Rattle.capacity_assign.proofs.Rounds.{between_after, free_after, last_inside, settled_after, tight_after, ways_after}
+use Rattle.capacity_assign.specs.Seating.{HasPlace, seating}
+use Rattle.assignment_steps.proofs.Arrived.{done_kept, falls_within, root_done, searchable, stop_free, stop_within}
+use Rattle.assignment_steps.specs.Spread.{spread}
+use Rattle.capacity_assign.proofs.Rounds.{between_after, lower, paid_up, tight_after, ways_on}
 use Rattle.capacity_assign.proofs.round.take_up.Goals as goal
 
 pub search-grown-requires : goal.search-grown-requires
@@ -11,21 +12,11 @@ search-grown-requires c =
     let s = c.args.seats.now in
     record {
       ready = record {
-        field = record {
-          rows_a = w.rows_a;
-          starts = c.requires.listed.begins;
-          root_in = c.requires.root;
-          root_free = c.requires.free;
-          in_range = w.in_range;
-          covered = w.covered;
-          small_a = w.small_a;
-          small_b = w.small_b;
-          linked = w.linked;
-        };
+        field = searchable _ _ _ w.priced c.requires.listed.begins c.requires.root c.requires.free;
         rows_b = omega (arith, w.rows_b, s.left.ok.0);
         lasts = omega (arith, w.seated.lasts, w.rows_b, s.last.ok.0);
-        seats = omega (arith, w.seated.sitters, w.rows_a, s.sitter.ok.0);
-        earliers = omega (arith, w.seated.earliers, w.rows_a, s.earlier.ok.0);
+        seats = omega (arith, w.seated.sitters, w.priced.rows_a, s.sitter.ok.0);
+        earliers = omega (arith, w.seated.earliers, w.priced.rows_a, s.earlier.ok.0);
         seated = w.seated;
       };
       rising = c.requires.listed.rising;
@@ -42,7 +33,7 @@ shift-requires c =
       noted_a = grown.tree.spread.noted_a;
       noted_b = grown.tree.spread.noted_b;
       falls = falls_within _ _ _ _ _ _ grown.tree.spread grown.before_best;
-      small = c.requires.between.small_b;
+      small = c.requires.between.priced.small_b;
     }
 
 pub turn-requires : goal.turn-requires
@@ -53,16 +44,15 @@ turn-requires c =
     let falls = c.shift.ensures.price_a in
     let rises = c.shift.ensures.price_b in
     record {
-      in_range = rw (w.rows_a, w.rows_b) w.in_range;
-      linked = w.linked;
-      tight = tight_after _ g s.result.end s.result.free s.result.last c.shift.new.price_a c.shift.new.price_b s.ensures.ready s.ensures.grown.1 falls rises w.tight;
+      in_range = rw (w.priced.rows_a, w.rows_b) w.priced.in_range;
+      linked = w.priced.linked;
+      tight = tight_after _ g s.result.end s.result.free s.result.last c.shift.new.price_a c.shift.new.price_b s.ensures.ready s.ensures.grown.1 falls rises w.priced.tight;
       seats = w.seated;
-      root = (omega (arith, c.requires.root, w.rows_a), c.requires.free);
-      last = last_inside _ g s.result.end s.result.free s.result.last c.shift.new.price_a c.shift.new.price_b s.ensures.ready s.ensures.grown.1 falls rises
-          (length c.args.link_a.now) (omega (arith, s.ensures.room.of_a, s.new.tree.reached.dist_a.ok.0, w.rows_a));
-      free = free_after _ g s.result.end s.result.free s.result.last c.shift.new.price_a c.shift.new.price_b s.ensures.ready s.ensures.grown.1 falls rises;
+      root = (omega (arith, c.requires.root, w.priced.rows_a), c.requires.free);
+      last = stop_within (spread s.new.tree.reached) (HasPlace c.args.seats.now.left.items) s.result.end s.result.free s.result.last (length c.args.link_a.now) (omega (arith, s.ensures.room.of_a, s.new.tree.reached.dist_a.ok.0, w.priced.rows_a)) s.ensures.grown.1.stop;
+      free = stop_free (spread s.new.tree.reached) (HasPlace c.args.seats.now.left.items) s.result.end s.result.free s.result.last s.ensures.grown.1.stop;
       leads = rw (c.deref.ensures.value, c.deref-2.ensures.value, c.shift.ensures.from, c.shift.ensures.rank)
-          (ways_after _ g s.result.end s.result.free s.result.last c.shift.new.price_a c.shift.new.price_b s.ensures.ready s.ensures.grown.1 falls rises);
+          (ways_on _ g s.result.end s.result.free s.result.last c.shift.new.price_a c.shift.new.price_b s.ensures.ready s.ensures.grown.1 falls rises);
     }
 
 pub returns : goal.returns
@@ -74,10 +64,10 @@ returns c =
     let rises = c.shift.ensures.price_b in
     record {
       between = between_after _ g s.result.end s.result.free s.result.last c.shift.new.price_a c.shift.new.price_b s.ensures.ready s.ensures.grown.1 falls rises
-          c.turn.new.link_a (seating c.turn.new.seats) c.requires.listed.small c.requires.between c.shift.auto.price_a c.shift.auto.price_b t.rows_a t.rows_b t.linked t.tight t.seats t.vacant t.places;
+          c.turn.new.link_a (seating c.turn.new.seats) c.requires.listed.small c.requires.between c.shift.auto.price_a c.shift.auto.price_b t.turned.count t.rows_b t.linked t.tight t.seats t.vacant t.places;
       places = t.places;
-      settled = λ old. settled_after _ g s.result.end s.result.free s.result.last c.shift.new.price_a c.shift.new.price_b s.ensures.ready s.ensures.grown.1 falls rises
-          s.ensures.whole c.turn.new.link_a t.root t.still_a old;
+      kept = done_kept _ _ _ _ _ _ _ (lower _ g s.result.end s.result.free s.result.last c.shift.new.price_a c.shift.new.price_b s.ensures.ready s.ensures.grown.1 falls rises) (paid_up _ g s.result.end s.result.free s.result.last c.shift.new.price_a c.shift.new.price_b s.ensures.ready s.ensures.grown.1 falls rises) t.turned;
+      done = root_done _ _ _ _ _ _ _ (lower _ g s.result.end s.result.free s.result.last c.shift.new.price_a c.shift.new.price_b s.ensures.ready s.ensures.grown.1 falls rises) (paid_up _ g s.result.end s.result.free s.result.last c.shift.new.price_a c.shift.new.price_b s.ensures.ready s.ensures.grown.1 falls rises) t.turned;
       tree = record {
         clean = rw (c.shift.auto.price_a, c.shift.auto.price_b) c.shift.ensures.clean;
         queue = omega (arith, c.requires.tree.queue, s.ensures.queue, c.shift.ensures.queue);

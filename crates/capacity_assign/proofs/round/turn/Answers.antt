@@ -7,7 +7,7 @@ use Rattle.capacity_assign.specs.Seating.{HasHole, seating}
 use Rattle.capacity_assign.proofs.Links.{free_record_counts, linked_parted}
 use Rattle.assignment_steps.proofs.Links.{link-set}
 use Rattle.capacity_assign.proofs.Seating.{hole_parted, places_after_added, places_after_parted, free_records_after_parted, seats_after_added, seats_after_parted, vacant_after_added}
-use Rattle.capacity_assign.proofs.Ways.{leads_parted}
+use Rattle.assignment_steps.proofs.Leading.{leads_parted}
 use Rattle.capacity_assign.proofs.round.turn.Goals as goal
 
 pub add_seat-seat-requires : goal.add_seat-seat-requires
@@ -51,15 +51,13 @@ returns-in-Some c =
     let w = c.walk.ensures in
     let some : 0 < number left b = rw c.in-Some.is at c.requires.free in
     record {
-      rows_a = w.rows_a;
       rows_b = ap length adds.left ∙ length-set left b _;
       linked = w.linked;
       tight = w.tight;
       seats = rw (with_items_is t.seat c.walk.new.seat (omega (arith, c.walk.auto.seat, c.deref_mut.ensures.len)), with_items_is t.sitter c.walk.new.sitter (omega (arith, c.walk.auto.sitter, c.deref_mut-in-Some.ensures.len))) (seats_after_added es la c.walk.new.link_a (seating c.args.seats.now) (seating t) b c.walk.new.seat c.walk.new.sitter c.requires.seats adds (place_there left b some) (free_record_counts la c.args.ways.root c.requires.root.0 c.requires.root.1) w.rows_a w.room
           (rw c.deref_mut.ensures.value at c.walk.auto.seat) (rw c.deref_mut-in-Some.ensures.value at c.walk.auto.sitter)
           (λ h. w.seated t.owner.items t.count (rw (c.deref_mut.ensures.value, c.deref_mut-in-Some.ensures.value, c.add_seat-seat.ensures.next) h)));
-      root = rw c.in-Some.is w.root;
-      still_a = λ a none. inl (w.still_a a none);
+      turned = record { count = w.rows_a; of_root = λ none. absurd (w.root none); still = λ a none. inl (w.still_a a none) };
       vacant = λ x more. vacant_after_added left b some x (rw adds.left at more);
       places = rw adds.left (places_after_added es la c.walk.new.link_a left b some w.places);
     }
@@ -71,13 +69,15 @@ pub returns-in_default-link_a : goal.returns-in_default-link_a
 returns-in_default-link_a c =
     let leads = rw c.in_default.is at c.requires.leads in
     record {
-      rows_a = refl;
       rows_b = refl;
       linked = c.requires.linked;
       tight = c.requires.tight;
       seats = c.requires.seats;
-      root = rw c.in_default.is (λ none. elim leads [ inl p ↦ sym p.0 | inr p ↦ absurd (let clash : None ≡ Some p.0 = sym c.in_default-link_a.is ∙ p.1.0 in cc) ]);
-      still_a = λ a none. inl none;
+      turned = record {
+        count = refl;
+        of_root = λ _. (ap is_some c.in_default.is, elim leads [ inl p ↦ sym p.0 | inr p ↦ absurd (let clash : None ≡ Some p.0 = sym c.in_default-link_a.is ∙ p.1.0 in cc) ]);
+        still = λ a none. inl none;
+      };
       vacant = λ b left. left;
       places = λ b. refl;
     }
@@ -130,18 +130,20 @@ returns c =
     let is : number s.seat.items last ≡ c.index.result.now = get_or_default s.seat.items last 0 c.index.result.now there ∙ sym c.index.ensures in
     let h : HasHole es (set la last None) s.seat.items s.sitter.items s.owner.items s.count (edge es k).b c.index.result.now = rw is at (hole_parted es la s.seat.items s.sitter.items s.owner.items s.count last k inside on c.requires.seats.seated c.requires.seats.filled) in
     record {
-      rows_a = w.rows_a ∙ length-set la last None;
       rows_b = refl;
       linked = w.linked;
       tight = w.tight;
       seats = rw (with_items_is s.seat c.walk-2.new.seat (omega (arith, c.walk-2.auto.seat, c.deref_mut-2.ensures.len)), with_items_is s.sitter c.walk-2.new.sitter (omega (arith, c.walk-2.auto.sitter, c.deref_mut-3.ensures.len))) (seats_after_parted es la c.walk-2.new.link_a (seating s) c.walk-2.new.seat c.walk-2.new.sitter c.requires.seats (rw length-set at w.rows_a) (free_records_after_parted la c.walk-2.new.link_a last k on w.room)
           (rw c.deref_mut-2.ensures.value at c.walk-2.auto.seat) (rw c.deref_mut-3.ensures.value at c.walk-2.auto.sitter)
           (w.seated s.owner.items s.count (rw (c.deref_mut-2.ensures.value, c.deref_mut-3.ensures.value) h)));
-      root = rw c.in_default.is (λ none. absurd (w.root none));
-      still_a = λ a none. elim (link-set la last a None inside) [
-        | inl p ↦ inr (ap is_some c.in_default.is, p.0)
-        | inr p ↦ inl (sym p.1 ∙ w.still_a a none)
-      ];
+      turned = record {
+        count = w.rows_a ∙ length-set la last None;
+        of_root = λ none. absurd (w.root none);
+        still = λ a none. elim (link-set la last a None inside) [
+          | inl p ↦ inr (ap is_some c.in_default.is, p.0)
+          | inr p ↦ inl (sym p.1 ∙ w.still_a a none)
+        ];
+      };
       vacant = λ b left. left;
       places = places_after_parted es la c.walk-2.new.link_a s.left.items last k on w.places;
     }

@@ -12,7 +12,7 @@ use Rattle.capacity_assign.proofs.tight.link_if_tight.Goals as goal
 pub index-requires : goal.index-requires
 index-requires c =
     let w = c.requires.between in
-    omega (arith, w.in_range.record_b c.args.k c.requires.place, w.rows_b, c.args.seats.now.left.ok.0)
+    omega (arith, w.priced.in_range.record_b c.args.k c.requires.place, w.rows_b, c.args.seats.now.left.ok.0)
 
 pub returns-then-is_some : goal.returns-then-is_some
 returns-then-is_some c = record {
@@ -28,7 +28,7 @@ returns-then-index-eq0 c =
     let w = c.requires.between in
     let b = (edge c.args.net.edges.now c.args.k).b in
     let left = c.args.seats.now.left.items in
-    let there : b < length left = omega (arith, w.in_range.record_b c.args.k c.requires.place, w.rows_b) in
+    let there : b < length left = omega (arith, w.priced.in_range.record_b c.args.k c.requires.place, w.rows_b) in
     let read = get_or_read left b c.index.result.now there c.index.ensures 0 in
     record {
       between = w;
@@ -55,8 +55,8 @@ add_seat-free-requires c =
     let la = c.args.link_a.now in
     let e = edge c.args.net.edges.now c.args.k in
     let none : link la e.a ≡ None = not_linked (link la e.a) (sym c.if-is_some.ensures) in
-    let ra : e.a < length la = omega (arith, w.in_range.record_a c.args.k c.requires.place, w.rows_a) in
-    let there : e.b < length seats.left.items = omega (arith, w.in_range.record_b c.args.k c.requires.place, w.rows_b) in
+    let ra : e.a < length la = omega (arith, w.priced.in_range.record_a c.args.k c.requires.place, w.priced.rows_a) in
+    let there : e.b < length seats.left.items = omega (arith, w.priced.in_range.record_b c.args.k c.requires.place, w.rows_b) in
     let read = get_or_read seats.left.items e.b c.index.result.now there c.index.ensures 0 in
     let one = free_record_counts la e.a ra none in
     record {
@@ -74,12 +74,12 @@ reseat-requires c =
     let la = c.args.link_a.now in
     let adds = c.add_seat-free.ensures.adds in
     let a = (edge c.args.net.edges.now c.args.k).a in
-    let ra : a < length la = omega (arith, w.in_range.record_a c.args.k c.requires.place, w.rows_a) in
+    let ra : a < length la = omega (arith, w.priced.in_range.record_a c.args.k c.requires.place, w.priced.rows_a) in
     let one = free_record_counts la a ra (not_linked (link la a) (sym c.if-is_some.ensures)) in
     record {
       place = c.requires.place;
       in_range = ra;
-      linked = w.linked;
+      linked = w.priced.linked;
       records = rw (c.deref_mut.ensures.value, adds.seat) s.seats;
       free = rw (c.deref_mut-2.ensures.value, adds.sitter) (omega (arith, c.add_seat-free.ensures.next, s.room, s.sitters, one));
     }
@@ -96,8 +96,8 @@ returns c =
     let adds = c.add_seat-free.ensures.adds in
     let r = c.reseat.ensures.reseats in
     let none : link la e.a ≡ None = not_linked (link la e.a) (sym c.if-is_some.ensures) in
-    let ra : e.a < length la = omega (arith, w.in_range.record_a k c.requires.place, w.rows_a) in
-    let there : e.b < length old.left.items = omega (arith, w.in_range.record_b k c.requires.place, w.rows_b) in
+    let ra : e.a < length la = omega (arith, w.priced.in_range.record_a k c.requires.place, w.priced.rows_a) in
+    let there : e.b < length old.left.items = omega (arith, w.priced.in_range.record_b k c.requires.place, w.rows_b) in
     let read = get_or_read old.left.items e.b c.index.result.now there c.index.ensures 0 in
     let some : 0 < number old.left.items e.b = omega (arith, read, c.if-index-eq0.false) in
     let seat_is = rw (c.deref_mut.ensures.value, c.add_seat-free.ensures.next) at r.seats in

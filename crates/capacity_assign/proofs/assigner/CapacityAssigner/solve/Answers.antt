@@ -3,7 +3,7 @@ use Rattle.std.proofs.lemmas.List.{get_or_default, length-map}
 use Rattle.price_check.specs.Capacities.{capacity_of}
 use Rattle.capacity_assign.specs.Core.{linked_at}
 use Rattle.assignment_steps.specs.Market.{number}
-use Rattle.capacity_assign.specs.Round.{IsBetween}
+use Rattle.capacity_assign.specs.Round.{IsBetweenRounds}
 use Rattle.capacity_assign.specs.Seating.{seating}
 use Rattle.assignment_steps.specs.Candidates.{edges_of, is_linked}
 use Rattle.capacity_assign.specs.Solution.{Problem}
@@ -14,13 +14,13 @@ pub run-requires : goal.run-requires
 run-requires c = (let i = c.self.invariant in record { listed = i.listed; between = i.between; tree = i.tree })
 
 pub linked-links-requires : goal.linked-links-requires
-linked-links-requires c = rw (c.deref.ensures.value, c.deref-2.ensures.value) (record { links = λ a k h. (c.run.ensures.between.linked a k h).0 })
+linked-links-requires c = rw (c.deref.ensures.value, c.deref-2.ensures.value) (record { links = λ a k h. (c.run.ensures.between.priced.linked a k h).0 })
 
 pub invariant_of-result : goal.invariant_of-result
 invariant_of-result c =
     let r = c.run.new in (
-      λ k d lt. omega (arith, get_or_default r.price_a.items k d 0 lt, c.run.ensures.between.small_a k),
-      λ k d lt. omega (arith, get_or_default r.price_b.items k d 0 lt, c.run.ensures.between.small_b k),
+      λ k d lt. omega (arith, get_or_default r.price_a.items k d 0 lt, c.run.ensures.between.priced.small_a k),
+      λ k d lt. omega (arith, get_or_default r.price_b.items k d 0 lt, c.run.ensures.between.priced.small_b k),
     )
 
 pub returns-clause-certified : goal.returns-clause-certified
@@ -28,7 +28,7 @@ returns-clause-certified c =
     let cs = c.self.inside.candidates.items in
     let ns = c.self.inside.capacity.items in
     let r = c.run.new in
-    let w : IsBetween (edges_of cs) r.price_a.items r.price_b.items r.link_a.items (seating r.seats) (length r.price_a.items) = rw c.self.invariant.edges at c.run.ensures.between in
+    let w : IsBetweenRounds (edges_of cs) r.price_a.items r.price_b.items r.link_a.items (seating r.seats) (length r.price_a.items) = rw c.self.invariant.edges at c.run.ensures.between in
     let places : (b : ℕ) → number r.seats.left.items b + linked_at (edges_of cs) r.link_a.items b ≡ capacity_of ns b = rw c.self.invariant.edges at (λ (b : ℕ). c.run.ensures.places b ∙ c.self.invariant.places b) in
     let e : c.linked-links.result.items ≡ filter (is_linked (edges_of cs) r.link_a.items) cs = rw (c.deref.ensures.value, c.deref-2.ensures.value, c.self.invariant.edges) at c.linked-links.ensures in
     let view : c.args.self.candidates ≡ cs = ap (λ (v : Problem). v.candidates) (sym c.self.view_is) in
@@ -40,7 +40,7 @@ returns-clause-greatest c =
     let cs = c.self.inside.candidates.items in
     let ns = c.self.inside.capacity.items in
     let r = c.run.new in
-    let w : IsBetween (edges_of cs) r.price_a.items r.price_b.items r.link_a.items (seating r.seats) (length r.price_a.items) = rw c.self.invariant.edges at c.run.ensures.between in
+    let w : IsBetweenRounds (edges_of cs) r.price_a.items r.price_b.items r.link_a.items (seating r.seats) (length r.price_a.items) = rw c.self.invariant.edges at c.run.ensures.between in
     let places : (b : ℕ) → number r.seats.left.items b + linked_at (edges_of cs) r.link_a.items b ≡ capacity_of ns b = rw c.self.invariant.edges at (λ (b : ℕ). c.run.ensures.places b ∙ c.self.invariant.places b) in
     let e : c.linked-links.result.items ≡ filter (is_linked (edges_of cs) r.link_a.items) cs = rw (c.deref.ensures.value, c.deref-2.ensures.value, c.self.invariant.edges) at c.linked-links.ensures in
     let view : c.args.self.candidates ≡ cs = ap (λ (v : Problem). v.candidates) (sym c.self.view_is) in
