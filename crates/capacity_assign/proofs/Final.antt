@@ -1,19 +1,18 @@
 -- From links, seats and tight prices to a greatest list within capacities with a certificate.
-use Rattle.std.proofs.Common.{◌≡◌, ◌≢◌, ◌⊎◌, ◌==◌, ℕ, zero, suc, ◌+◌, ◌-◌, ◌<◌, ◌≤◌, ℤ, pos, negsuc, ◌+ℤ◌, ◌≤ℤ◌, List, [], ◌∷◌, length, get_or, set, Option, Some, None, Bool, true, false, filter, refl, ap, sym, ◌∙◌, inl, inr, arith}
+use Rattle.std.proofs.Common.{◌≡◌, ◌≢◌, ◌⊎◌, ◌==◌, ℕ, zero, suc, ◌+◌, ◌-◌, ◌<◌, ◌≤◌, ℤ, pos, ◌+ℤ◌, List, [], ◌∷◌, length, get_or, set, Option, Some, None, true, false, filter, refl, ap, sym, ◌∙◌, inl, inr, arith}
 use Rattle.std.specs.Prelude.{replicate, All, AllPairs, Contains, is_none}
 use Rattle.std.proofs.lemmas.List.Sums.{count_by-le-length}
 use Rattle.std.proofs.lemmas.Bool.{cases_eq, cases_lt}
 use Rattle.std.proofs.lemmas.Bool.Decides.{nat_tests}
 use Rattle.std.proofs.lemmas.Int.{ints}
-use Rattle.std.proofs.lemmas.List.{get_or-set_other, get_or-set_same, get_or_past, length-replicate}
-use Rattle.std.proofs.lemmas.List.Elements.{All-head, All-tail, All-cons, All-filter, All-contains_itself, All-nil, All-contains, filter_passes}
+use Rattle.std.proofs.lemmas.List.{get_or-set_other, get_or-set_same, length-replicate}
+use Rattle.std.proofs.lemmas.List.Elements.{All-head, All-tail, All-cons, All-nil, All-contains}
 use Rattle.link_base.specs.declared.rule.Candidate.{Candidate}
-use Rattle.price_check.specs.Assignment.{price_sum, price_of, worth, IsBefore, IsWithin, IsCovered}
+use Rattle.price_check.specs.Assignment.{price_sum, price_of, worth, IsBefore, IsWithin}
 use Rattle.price_check.specs.Capacities.{CertifiesWithin, IsWithinCapacities, capacity_of, links_at, place_sum}
 use Rattle.price_check.proofs.Duality.{without, absent-without, IsTight, price_sum-without, price_sum-zero, AllPairs-head, AllPairs-tail}
-use Rattle.price_check.proofs.Members.{Contains-filter, Contains-later, clash, same_member}
+use Rattle.price_check.proofs.Members.{Contains-later, clash}
 use Rattle.price_check.proofs.PlaceFacts.{AreApart, fits-tail, links_at-here, links_at-other, one_less, place_sum-one_less, place_there}
-use Rattle.std.proofs.lemmas.List.Kept.{AllPairs-filter}
 use Rattle.assignment_steps.specs.declared.market.Edge.{Edge}
 use Rattle.assignment_steps.specs.Market.{edge, link, number}
 use Rattle.capacity_assign.specs.Core.{linked_at}
@@ -22,7 +21,7 @@ use Rattle.capacity_assign.specs.Seating.{HasPlace, Seating, free_records}
 use Rattle.capacity_assign.specs.Final.{AreClosed, AreEmpty, ReachAll}
 use Rattle.assignment_steps.specs.Candidates.{edges_of, is_linked, prices_of}
 use Rattle.capacity_assign.proofs.Links.{counted_link, linked_at-set, tick}
-use Rattle.assignment_steps.proofs.Links.{link_cases, link_there, link-set}
+use Rattle.assignment_steps.proofs.Links.{link_there, link-set}
 use Rattle.assignment_steps.proofs.EdgesOf.{floored, none_linked, price_of-prices, range_edges}
 use Rattle.assignment_steps.proofs.Certified.{absent_a, all_among, all_covered, all_tight, apart_a, link_member, links_rising, member_link}
 

@@ -24,5 +24,5 @@ pub record IsPrepared (s : Inside) : Type 0 where
   pub tree : IsAtRest s.edges.items (length s.price_a.items) (length s.price_b.items) s.tree
 
 -- no price is above the greatest size of a value
-abbrev pub AreBounded : List ℕ → Type 0
-AreBounded prices = All (λ p. p ≤ MOST_VALUE) prices
+abbrev pub AreSmallPrices : List ℕ → Type 0
+AreSmallPrices prices = All (λ p. p ≤ MOST_VALUE) prices

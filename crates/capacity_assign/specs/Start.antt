@@ -13,7 +13,7 @@ pub record AreFirstPrices (es : List Edge) (rows_a : ℕ) (capacities : List ℕ
   pub reach : ReachAll es rows_a p.a.items p.b.items
 
 -- prices that cover the edges, no links, no seats, and a clean tree
-pub record IsStart (es : List Edge) (rows_a : ℕ) (capacities : List ℕ) (s : Start) : Type 0 where
+pub record IsAtStart (es : List Edge) (rows_a : ℕ) (capacities : List ℕ) (s : Start) : Type 0 where
   pub prices : AreFirstPrices es rows_a capacities s.prices
   pub links : s.link_a.items ≡ replicate rows_a None
   pub seats : AreEmpty rows_a capacities (seating s.seats)

@@ -11,7 +11,7 @@ ghost use Rattle.link_limits.specs.declared.TheConstants.{MOST_VALUE};
 
 use crate::market::{Seats, Tree};
 use crate::phases::all_rounds;
-use crate::start::{graph_of, start_of};
+use crate::start::{listed_edges, start_of};
 use assignment_steps::{Edge, linked};
 use link_base::{Candidate, NoMemory};
 use link_limits::MOST_PAIRS;
@@ -56,14 +56,14 @@ pub struct CapacityAssignment {
 
 impl Model for CapacityAssignment {
     ghost use Rattle.assignment_steps.specs.Candidates.{prices_of};
-    ghost use Rattle.capacity_assign.specs.Prepared.{AreBounded};
+    ghost use Rattle.capacity_assign.specs.Prepared.{AreSmallPrices};
     ghost use Rattle.capacity_assign.specs.Solution.{Solution};
 
     ghost Value = { Solution };
 
     ghost view = { λ s. record { links = s.links.items; prices_a = prices_of s.price_a.items; prices_b = prices_of s.price_b.items } };
 
-    ghost invariant = { λ s. AreBounded s.price_a.items × AreBounded s.price_b.items };
+    ghost invariant = { λ s. AreSmallPrices s.price_a.items × AreSmallPrices s.price_b.items };
 }
 
 /// Takes every record of A up in turn.
@@ -107,16 +107,16 @@ impl CapacityAssigner {
         ensures capacities { IfOk result (λ s. s.capacities ≡ capacity.now) }
         ensures candidates { IfOk result (λ s. s.candidates ≡ candidates.now) }
     {
-        let graph = graph_of(alloc, rows_a as usize, candidates)?;
+        let listed = listed_edges(alloc, rows_a as usize, candidates)?;
         let capacities = Vec::from_slice(alloc, capacity)?;
         let kept = Vec::from_slice(alloc, candidates)?;
-        let start = start_of(alloc, &graph.edges, rows_a as usize, capacity)?;
+        let start = start_of(alloc, &listed.edges, rows_a as usize, capacity)?;
         Ok(CapacityAssigner {
             rows_a,
             capacity: capacities,
             candidates: kept,
-            edges: graph.edges,
-            starts: graph.starts,
+            edges: listed.edges,
+            starts: listed.starts,
             price_a: start.prices.a,
             price_b: start.prices.b,
             link_a: start.link_a,

@@ -4,7 +4,7 @@ ghost use Rattle.price_check.specs.Assignment.{IsBefore};
 ghost use Rattle.assignment_steps.specs.Market.{IsInRange, AreStarts, AreSmall};
 ghost use Rattle.assignment_steps.specs.Candidates.{edges_of};
 ghost use Rattle.capacity_assign.specs.Solution.{HasSmallValue};
-ghost use Rattle.capacity_assign.specs.Start.{AreFirstPrices, IsStart};
+ghost use Rattle.capacity_assign.specs.Start.{AreFirstPrices, IsAtStart};
 
 use crate::market::{Seats, Tree};
 use crate::solve::{clean_tree, closed_prices, first_prices, no_seats};
@@ -14,7 +14,7 @@ use std::alloc::Global;
 
 /// The edges of candidates, with the places where those of each record of A begin.
 #[derive(Drop)]
-pub struct Graph {
+pub struct ListedEdges {
     pub edges: Vec<Edge>,
     pub starts: Vec<usize>,
 }
@@ -36,16 +36,20 @@ pub struct Start {
 }
 
 /// The edges of candidates.
-pub fn graph_of(alloc: Global, rows_a: usize, candidates: &[Candidate]) -> Result<Graph, NoMemory>
+pub fn listed_edges(
+    alloc: Global,
+    rows_a: usize,
+    candidates: &[Candidate],
+) -> Result<ListedEdges, NoMemory>
     requires rising { AllPairs IsBefore candidates.now }
     requires small { All HasSmallValue candidates.now }
     requires rows { rows_a + 1 < 2 ^ 64 }
-    ensures edges { IfOk result (λ g. g.edges.items ≡ edges_of candidates.now) }
-    ensures starts { IfOk result (λ g. AreStarts g.edges.items rows_a g.starts.items) }
+    ensures edges { IfOk result (λ l. l.edges.items ≡ edges_of candidates.now) }
+    ensures starts { IfOk result (λ l. AreStarts l.edges.items rows_a l.starts.items) }
 {
     let edges = edges_of(alloc, candidates)?;
     let starts = starts_of(alloc, &edges, rows_a)?;
-    Ok(Graph { edges, starts })
+    Ok(ListedEdges { edges, starts })
 }
 
 /// Prices that cover the edges: those of the records of B that have no place, and those of A.
@@ -73,7 +77,7 @@ pub fn start_of(
 ) -> Result<Start, NoMemory>
     requires small { AreSmall edges.now }
     requires in_range { IsInRange edges.now rows_a (length capacity.now) }
-    ensures { IfOk result (IsStart edges.now rows_a capacity.now) }
+    ensures { IfOk result (IsAtStart edges.now rows_a capacity.now) }
 {
     let prices = covering_prices(alloc, edges, rows_a, capacity)?;
     let link_a = no_links(alloc, rows_a)?;

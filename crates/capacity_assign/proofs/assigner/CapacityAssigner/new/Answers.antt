@@ -1,16 +1,16 @@
 use Rattle.std.proofs.Common.{length, sym, ap, ◌∙◌}
 use Rattle.assignment_steps.specs.Candidates.{edges_of}
 use Rattle.capacity_assign.specs.Seating.{seating}
-use Rattle.capacity_assign.specs.Start.{IsStart}
+use Rattle.capacity_assign.specs.Start.{IsAtStart}
 use Rattle.assignment_steps.proofs.EdgesOf.{range_edges, small_edges, rising_edges}
 use Rattle.capacity_assign.proofs.Final.{between_first, places_first}
 use Rattle.capacity_assign.proofs.assigner.CapacityAssigner.new.Goals as goal
 
 pub start_of-requires-clause-small : goal.start_of-requires-clause-small
-start_of-requires-clause-small c = rw (c.deref.ensures.value, c.in_ok-graph.ensures.edges) (small_edges c.args.candidates.now c.requires.small)
+start_of-requires-clause-small c = rw (c.deref.ensures.value, c.in_ok-listed.ensures.edges) (small_edges c.args.candidates.now c.requires.small)
 
 pub start_of-requires-clause-in_range : goal.start_of-requires-clause-in_range
-start_of-requires-clause-in_range c = rw (c.deref.ensures.value, c.in_ok-graph.ensures.edges) (range_edges c.args.candidates.now c.args.rows_a (length c.args.capacity.now) c.requires.within)
+start_of-requires-clause-in_range c = rw (c.deref.ensures.value, c.in_ok-listed.ensures.edges) (range_edges c.args.candidates.now c.args.rows_a (length c.args.capacity.now) c.requires.within)
 
 pub invariant_of-result : goal.invariant_of-result
 invariant_of-result c =
@@ -18,9 +18,9 @@ invariant_of-result c =
     let ns = c.args.capacity.now in
     let kept = c.in_ok-kept.ensures.items in
     let places = c.in_ok-capacities.ensures.items in
-    let made = c.in_ok-graph.ensures.edges in
+    let made = c.in_ok-listed.ensures.edges in
     let s = c.in_ok-start.start in
-    let start : IsStart (edges_of cs) c.args.rows_a ns s = rw (c.deref.ensures.value, made) at c.in_ok-start.ensures in
+    let start : IsAtStart (edges_of cs) c.args.rows_a ns s = rw (c.deref.ensures.value, made) at c.in_ok-start.ensures in
     let closed = start.prices.closed in
     let reach = start.prices.reach in
     record {
@@ -29,7 +29,7 @@ invariant_of-result c =
       listed = record {
         rising = rw made (rising_edges cs c.requires.rising);
         small = rw made (small_edges cs c.requires.small);
-        begins = rw reach.records c.in_ok-graph.ensures.starts;
+        begins = rw reach.records c.in_ok-listed.ensures.starts;
       };
       between = rw (made, start.links) (between_first cs c.args.rows_a ns s.prices.a.items s.prices.b.items (seating s.seats) c.requires.within closed reach start.seats);
       places = λ b. rw (made, start.links, places) (places_first cs c.args.rows_a ns (seating s.seats) b start.seats);
