@@ -13,12 +13,11 @@ use Rattle.price_check.proofs.Members.{Contains-filter, clash, same_member}
 use Rattle.std.proofs.lemmas.List.Kept.{AllPairs-filter}
 use Rattle.assignment_steps.specs.declared.market.Edge.{Edge}
 use Rattle.assignment_steps.specs.Market.{link, edge, number, IsInRange}
-use Rattle.assignment_steps.specs.Between.{HasNoLink, IsBetween}
+use Rattle.assignment_steps.specs.Between.{HasNoLink, IsBetween, ReachAll}
 use Rattle.assignment_steps.specs.Candidates.{edges_of, is_linked, prices_of}
-use Rattle.assignment.specs.Final.{ReachAll}
 use Rattle.assignment_steps.proofs.Links.{link_cases, none_matched}
 use Rattle.assignment_steps.proofs.Certified.{absent_a, all_among, all_covered, all_tight, apart_a, link_member, links_rising, member_link}
-use Rattle.assignment_steps.proofs.EdgesOf.{IsLinkedBy, floored, none_linked, price_of-prices, all_zero}
+use Rattle.assignment_steps.proofs.EdgesOf.{IsLinkedBy, floored, none_linked, price_of-prices}
 
 -- Tight members, and no price elsewhere: the prices add up to the worth.
 
@@ -96,19 +95,19 @@ module _ (cs : List Candidate) (pa pb : List ℕ) (la lb : List (Option ℕ)) (r
 
 -- What holds before the first round.
 
-pub between_first : (es : List Edge) (rows_a rows_b : ℕ) (pa : List ℕ) → IsInRange es rows_a rows_b → ReachAll es rows_a pa → IsBetween es pa (replicate rows_b 0) (replicate rows_a None) (replicate rows_b None) 0
-between_first es rows_a rows_b pa within r = record {
+pub between_first : (es : List Edge) (pa pb : List ℕ) → IsInRange es (length pa) (length pb) → ReachAll es (length pa) pa pb → ((b : ℕ) → number pb b ≡ 0) → IsBetween es pa pb (replicate (length pa) None) (replicate (length pb) None) 0
+between_first es pa pb within r none_b = record {
   priced = record {
-    rows_a = length-replicate rows_a None ∙ sym r.records;
-    in_range = rw (r.records, length-replicate) within;
-    covered = λ k lt. omega (arith, r.covered k lt);
+    rows_a = length-replicate (length pa) None;
+    in_range = within;
+    covered = r.covered;
     small_a = r.small;
-    small_b = λ b. rw (all_zero rows_b b) (omega arith);
-    linked = λ a k h. absurd (let none = none_linked rows_a a in cc);
-    tight = λ k h. absurd (let none = none_linked rows_a (edge es k).a in cc);
+    small_b = λ b. rw (none_b b) (omega arith);
+    linked = λ a k h. absurd (let none = none_linked (length pa) a in cc);
+    tight = λ k h. absurd (let none = none_linked (length pa) (edge es k).a in cc);
     free_a = λ a lt none. absurd (omega (arith, lt));
-    free_b = λ b none. all_zero rows_b b;
+    free_b = λ b none. none_b b;
   };
-  rows_b = length-replicate rows_b None ∙ sym (length-replicate rows_b 0);
-  matched = none_matched es (replicate rows_a None) (replicate rows_b None) (none_linked rows_a) (none_linked rows_b);
+  rows_b = length-replicate (length pb) None;
+  matched = none_matched es (replicate (length pa) None) (replicate (length pb) None) (none_linked (length pa)) (none_linked (length pb));
 }

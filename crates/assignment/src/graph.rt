@@ -7,8 +7,7 @@ ghost use Rattle.assignment.specs.Graph.{AreTwoSides, IsGraph};
 ghost use Rattle.assignment.specs.Solution.{HasSmallValue};
 
 use crate::side::{Other, Side, first_side, other_if_less, run, run_other};
-use crate::solve::first_prices;
-use assignment_steps::{Board, Edge, edges_of, starts_of, turned_edges};
+use assignment_steps::{Board, Edge, edges_of, first_prices, starts_of, turned_edges, zeros};
 use link_base::{Candidate, NoMemory};
 use std::alloc::Global;
 
@@ -63,10 +62,12 @@ pub fn first_sides(
     requires { IsGraph rows_a rows_b graph.now }
     ensures { IfOk result (AreTwoSides rows_a rows_b graph.now) }
 {
-    let price_a = first_prices(alloc, &graph.edges, rows_a as usize)?;
-    let price_b = first_prices(alloc, &graph.turned, rows_b as usize)?;
-    let other = other_if_less(alloc, &graph.turned, price_b, &price_a)?;
-    match first_side(alloc, &graph.edges, price_a, rows_b as usize) {
+    let price_b = zeros(alloc, rows_b as usize)?;
+    let price_a = first_prices(alloc, &graph.edges, &price_b, rows_a as usize)?;
+    let other_b = zeros(alloc, rows_a as usize)?;
+    let other_a = first_prices(alloc, &graph.turned, &other_b, rows_b as usize)?;
+    let other = other_if_less(alloc, &graph.turned, other_a, other_b, &price_a)?;
+    match first_side(alloc, &graph.edges, price_a, price_b) {
         Ok(own) => Ok(Sides { own, other }),
         Err(error) => {
             drop(other);

@@ -1,10 +1,9 @@
 // Prices, links and room of the side that searches.
 ghost use Rattle.std.specs.Prelude.{◌≡◌, ◌*◌, ◌/◌, ◌≤◌, ℕ, IfOk, MatchOption, None, is_some, length, nat_lt};
 ghost use Rattle.std.specs.List.{sum};
-ghost use Rattle.assignment_steps.specs.Market.{link, AreListed, IsInRange};
-ghost use Rattle.assignment_steps.specs.Between.{IsBetween};
+ghost use Rattle.assignment_steps.specs.Market.{link, number, AreListed, IsInRange};
+ghost use Rattle.assignment_steps.specs.Between.{IsBetween, ReachAll};
 ghost use Rattle.assignment_steps.specs.Joined.{AreJoinedAs};
-ghost use Rattle.assignment.specs.Final.{ReachAll};
 ghost use Rattle.assignment_steps.specs.Reached.{IsClean};
 ghost use Rattle.assignment.specs.Sides.{IsOther, IsSide, IsTakenOver};
 
@@ -13,7 +12,7 @@ use crate::room::room_for_side;
 use crate::round::search_each;
 use crate::solve::free_links;
 use crate::spare::{Spare, take_proposal};
-use assignment_steps::{Board, Edge, Net, adopt_all, join_as_turned, link_tight, waiting, zeros};
+use assignment_steps::{Board, Edge, Net, adopt_all, join_as_turned, link_tight, waiting};
 use link_base::NoMemory;
 use std::alloc::Global;
 
@@ -45,16 +44,17 @@ pub fn first_side(
     alloc: Global,
     edges: &[Edge],
     price_a: Vec<u64>,
-    rows_b: usize,
+    price_b: Vec<u64>,
 ) -> Result<Side, NoMemory>
-    requires reach { ReachAll edges.now (length price_a.items) price_a.items }
-    requires in_range { IsInRange edges.now (length price_a.items) rows_b }
+    requires reach { ReachAll edges.now (length price_a.items) price_a.items price_b.items }
+    requires none { (b : ℕ) → number price_b.items b ≡ 0 }
+    requires in_range { IsInRange edges.now (length price_a.items) (length price_b.items) }
     ensures side { IfOk result (IsSide edges.now) }
     ensures rows_a { IfOk result (λ s. length s.price_a.items ≡ length price_a.items) }
-    ensures rows_b { IfOk result (λ s. length s.price_b.items ≡ rows_b) }
+    ensures rows_b { IfOk result (λ s. length s.price_b.items ≡ length price_b.items) }
 {
     let rows_a = price_a.len();
-    let price_b = zeros(alloc, rows_b)?;
+    let rows_b = price_b.len();
     let links = free_links(alloc, rows_a, rows_b)?;
     match room_for_side(alloc, edges, rows_a, rows_b) {
         Ok(room) => Ok(Side {
@@ -90,21 +90,25 @@ fn sum_of(prices: &[u64]) -> u128
 pub fn other_if_less(
     alloc: Global,
     turned: &[Edge],
-    price_b: Vec<u64>,
+    other_a: Vec<u64>,
+    other_b: Vec<u64>,
     price_a: &[u64],
 ) -> Result<Option<Other>, NoMemory>
-    requires reach { ReachAll turned.now (length price_b.items) price_b.items }
-    requires in_range { IsInRange turned.now (length price_b.items) (length price_a.now) }
-    ensures chosen { IfOk result (λ o. is_some o ≡ nat_lt (sum price_b.items) (sum price_a.now / 32 * 31)) }
-    ensures other { IfOk result (λ o. MatchOption o (Unit {0}) (IsOther turned.now (length price_a.now) (length price_b.items))) }
+    requires reach { ReachAll turned.now (length other_a.items) other_a.items other_b.items }
+    requires none { (r : ℕ) → number other_b.items r ≡ 0 }
+    requires rows { length other_b.items ≡ length price_a.now }
+    requires in_range { IsInRange turned.now (length other_a.items) (length other_b.items) }
+    ensures chosen { IfOk result (λ o. is_some o ≡ nat_lt (sum other_a.items) (sum price_a.now / 32 * 31)) }
+    ensures other { IfOk result (λ o. MatchOption o (Unit {0}) (IsOther turned.now (length price_a.now) (length other_a.items))) }
 {
-    if sum_of(&price_b) >= sum_of(price_a) / 32 * 31 {
-        drop(price_b);
+    if sum_of(&other_a) >= sum_of(price_a) / 32 * 31 {
+        drop(other_a);
+        drop(other_b);
         return Ok(None);
     }
     let rows_a = price_a.len();
-    let rows_b = price_b.len();
-    let side = first_side(alloc, turned, price_b, rows_a)?;
+    let rows_b = other_a.len();
+    let side = first_side(alloc, turned, other_a, other_b)?;
     match free_links(alloc, rows_a, rows_b) {
         Ok(links) => Ok(Some(Other {
             side,

@@ -1,26 +1,11 @@
-// From candidates to a greatest list with its prices.
-ghost use Rattle.std.specs.Prelude.{◌≡◌, ◌-◌, ◌<◌, ◌≤◌, ℕ, length, None, IfOk, replicate};
-ghost use Rattle.assignment_steps.specs.Market.{edge, AreSmall};
-ghost use Rattle.assignment.specs.Final.{ReachAll};
+// A tree and links at first.
+ghost use Rattle.std.specs.Prelude.{◌≡◌, ◌≤◌, None, IfOk, replicate};
 ghost use Rattle.assignment_steps.specs.Reached.{IsClean};
 
 use crate::market::Tree;
-use assignment_steps::{Edge, Reached, no_links, raise_to, zeros};
+use assignment_steps::{Reached, no_links};
 use link_base::NoMemory;
 use std::alloc::Global;
-
-/// For each record of A the greatest value of its edges, or 0.
-pub fn first_prices(alloc: Global, edges: &[Edge], rows_a: usize) -> Result<Vec<u64>, NoMemory>
-    requires small { AreSmall edges.now }
-    requires within { (k : ℕ) → k < length edges.now → (edge edges.now k).a < rows_a }
-    ensures { IfOk result (λ v. ReachAll edges.now rows_a v.items) }
-{
-    let mut prices = zeros(alloc, rows_a)?;
-    for k in 0..edges.len() {
-        raise_to(&mut prices, edges[k].a as usize, edges[k].value as u64);
-    }
-    Ok(prices)
-}
 
 /// A tree with nothing in it.
 pub fn clean_tree(
@@ -35,8 +20,6 @@ pub fn clean_tree(
     let reached = Reached::new(alloc, rows_a, rows_b, edges)?;
     Ok(Tree {
         reached,
-        best: 0,
-        best_record: 0,
         best_free: None,
         looks: 0,
     })

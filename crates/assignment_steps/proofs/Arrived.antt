@@ -8,7 +8,7 @@ use Rattle.assignment_steps.specs.declared.market.Field.{Field}
 use Rattle.assignment_steps.specs.Market.{link, number, AreLinked, AreStarts, AreTight}
 use Rattle.assignment_steps.specs.Ways.{AreTurnedFrom, IsHop, Leads, LeadsFrom}
 use Rattle.assignment_steps.specs.Distances.{distance, far}
-use Rattle.assignment_steps.specs.Spread.{Spread, IsSearchable, IsSpread, StopsAt, edge_of, rank_above}
+use Rattle.assignment_steps.specs.Spread.{Spread, HasStopped, IsSearchable, IsSpread, StopsAt, edge_of, rank_above}
 use Rattle.assignment_steps.specs.Between.{IsDone, IsPriced}
 
 -- what holds between two steps makes what is searched
@@ -30,15 +30,15 @@ pub distance_within : (xs : List ℕ) (i : ℕ) → distance xs i < far → i < 
 distance_within xs i near = elim (cases_lt i (length xs)) [ inl p ↦ p | inr p ↦ absurd (let past : distance xs i ≡ far = get_or_past xs i far p in omega (arith, past, near)) ]
 
 -- no price of a record of A is less than what its distance lacks to the end
-pub falls_within : (f : Field) (s : Spread) (best end position next : ℕ) → IsSpread f position next s best → end ≤ best → (a : ℕ) → end - distance s.da a ≤ number f.price_a.now a
-falls_within f s best end position next t before_best a = elim (cases_lt (distance s.da a) far) [
+pub falls_within : (f : Field) (s : Spread) (end position next : ℕ) → IsSpread f position next s → end ≤ s.best → (a : ℕ) → end - distance s.da a ≤ number f.price_a.now a
+falls_within f s end position next t before_best a = elim (cases_lt (distance s.da a) far) [
   | inl close ↦ omega (arith, t.best_of a close, before_best)
   | inr away ↦ omega (arith, away, before_best, t.best_small)
 ]
 
-module _ (f : Field) (s : Spread) (best end : ℕ) (pa pb : List ℕ) (ready : IsSearchable f) (t : IsSpread f 0 (length f.edges.now) s best) (before_best : end ≤ best) (after : s.current ≤ end) (falls : (a : ℕ) → number pa a + (end - distance s.da a) ≡ number f.price_a.now a) (rises : (b : ℕ) → number pb b ≡ number f.price_b.now b + (end - distance s.db b)) where
+module _ (f : Field) (s : Spread) (IsFree : ℕ → Type 0) (end : ℕ) (free : Option ℕ) (last : ℕ) (pa pb : List ℕ) (ready : IsSearchable f) (t : IsSpread f 0 (length f.edges.now) s) (stopped : HasStopped f s IsFree end free last) (falls : (a : ℕ) → number pa a + (end - distance s.da a) ≡ number f.price_a.now a) (rises : (b : ℕ) → number pb b ≡ number f.price_b.now b + (end - distance s.db b)) where
   end_small : end ≤ MOST_VALUE
-  end_small = omega (arith, before_best, t.best_small)
+  end_small = omega (arith, stopped.before_best, t.best_small)
 
   -- the two records of a link change alike, where that of B is no nearer than the end if that of A was not reached
   pub tight_kept : ((k : ℕ) → link f.link_a.now (edge_of f k).a ≡ Some k → far ≤ distance s.da (edge_of f k).a → end ≤ distance s.db (edge_of f k).b) → AreTight f.edges.now f.price_a.now f.price_b.now f.link_a.now → AreTight f.edges.now pa pb f.link_a.now
@@ -49,7 +49,7 @@ module _ (f : Field) (s : Spread) (best end : ℕ) (pa pb : List ℕ) (ready : I
 
   pub covered_kept : (k : ℕ) → k < length f.edges.now → (edge_of f k).value ≤ number pa (edge_of f k).a + number pb (edge_of f k).b
   covered_kept k lt = elim (cases_lt (distance s.da (edge_of f k).a) far) [
-    | inl close ↦ omega (arith, t.relaxed k lt close (λ _. lt), ready.covered k lt, falls (edge_of f k).a, rises (edge_of f k).b, before_best)
+    | inl close ↦ omega (arith, t.relaxed k lt close (λ _. lt), ready.covered k lt, falls (edge_of f k).a, rises (edge_of f k).b, stopped.before_best)
     | inr away ↦ omega (arith, away, ready.covered k lt, falls (edge_of f k).a, rises (edge_of f k).b, end_small)
   ]
 
@@ -94,20 +94,27 @@ module _ (f : Field) (s : Spread) (best end : ℕ) (pa pb : List ℕ) (ready : I
         let joined : distance s.da (edge_of f p.0).a < far = rw is here in
         let climbs : rank_above f s (edge_of f p.0).b < number s.rank r = rw is at (t.climbs p.0 on joined) in
         let same : distance s.da r ≡ distance s.db (edge_of f p.0).b = rw is at (t.same p.0 on joined) in
-        inr (p.0, (p.1, climbs, (suc (rank_above f s (edge_of f p.0).b), leads_after (suc (rank_above f s (edge_of f p.0).b)) (edge_of f p.0).b (omega arith) (omega (arith, same, t.low r here, after))))))
+        inr (p.0, (p.1, climbs, (suc (rank_above f s (edge_of f p.0).b), leads_after (suc (rank_above f s (edge_of f p.0).b)) (edge_of f p.0).b (omega arith) (omega (arith, same, t.low r here, stopped.after))))))
   ]
 
-  -- a way leads from where the search stopped to the root
-  ways_at : (IsFree : ℕ → Type 0) (free : Option ℕ) (last : ℕ) → StopsAt s IsFree end free last → MatchOption free (LeadsFrom f.edges.now pa pb f.link_a.now s.from s.rank f.root last) (λ b. (n : ℕ) × Leads f.edges.now pa pb f.link_a.now s.from s.rank f.root n b)
-  ways_at IsFree None last stop = leads_from last stop
-  ways_at IsFree (Some b) last stop = (suc (rank_above f s b), leads_after (suc (rank_above f s b)) b (omega arith) (omega (arith, stop.1)))
+  abbrev HasWay : Option ℕ → Type 0
+  HasWay x = MatchOption x (LeadsFrom f.edges.now pa pb f.link_a.now s.from s.rank f.root last) (λ b. (n : ℕ) × Leads f.edges.now pa pb f.link_a.now s.from s.rank f.root n b)
 
-  pub ways_after : (IsFree : ℕ → Type 0) (free : Option ℕ) (last : ℕ) → StopsAt s IsFree end free last → MatchOption free (LeadsFrom f.edges.now pa pb f.link_a.now s.from s.rank f.root last) (λ b. (n : ℕ) × Leads f.edges.now pa pb f.link_a.now s.from s.rank f.root n b)
-  ways_after = ways_at
+  ways_at : (x : Option ℕ) → StopsAt s IsFree end x last → HasWay x
+  ways_at None stop = leads_from last stop
+  ways_at (Some b) stop = (suc (rank_above f s b), leads_after (suc (rank_above f s b)) b (omega arith) (omega (arith, stop.1)))
+
+  -- a way leads from where the search stopped to the root
+  pub ways_after : HasWay free
+  ways_after = ways_at free stopped.stop
+
+  -- a record of A at which it stopped has no price any more
+  paid_up : IsNone free → number pa last ≡ 0
+  paid_up none = (let e = stopped.paid none in omega (arith, falls last, e.1))
 
   -- prices go on as they were, where those of B stay small and links by tight edges are put in the place of the old ones
-  pub priced_after : (la : List (Option ℕ)) (IsFree IsFree' : ℕ → Type 0) → IsPriced f.edges.now f.price_a.now f.price_b.now f.link_a.now IsFree 0 → length pa ≡ length f.price_a.now → length pb ≡ length f.price_b.now → length la ≡ length f.link_a.now → AreLinked f.edges.now la → AreTight f.edges.now pa pb la → ((b : ℕ) → number pb b ≤ MOST_VALUE) → ((b : ℕ) → IsFree' b → number pb b ≡ 0) → IsPriced f.edges.now pa pb la IsFree' 0
-  priced_after la IsFree IsFree' old len_a len_b rows linked tight small free = record {
+  pub priced_after : (la : List (Option ℕ)) (IsFree' : ℕ → Type 0) → IsPriced f.edges.now f.price_a.now f.price_b.now f.link_a.now IsFree 0 → length pa ≡ length f.price_a.now → length pb ≡ length f.price_b.now → length la ≡ length f.link_a.now → AreLinked f.edges.now la → AreTight f.edges.now pa pb la → ((b : ℕ) → number pb b ≤ MOST_VALUE) → ((b : ℕ) → IsFree' b → number pb b ≡ 0) → IsPriced f.edges.now pa pb la IsFree' 0
+  priced_after la IsFree' old len_a len_b rows linked tight small free = record {
     rows_a = rows ∙ (old.rows_a ∙ sym len_a);
     in_range = rw (len_a, len_b) old.in_range;
     covered = covered_kept;
@@ -119,6 +126,13 @@ module _ (f : Field) (s : Spread) (best end : ℕ) (pa pb : List ℕ) (ready : I
     free_b = free;
   }
 
+  -- a record of A that was done stays so where links are turned round from there, and the root is done
+  pub done_kept : (la : List (Option ℕ)) → AreTurnedFrom f.link_a.now la f.root free last → (a : ℕ) → IsDone f.price_a.now f.link_a.now a → IsDone pa la a
+  done_kept la turned a old none = elim (turned.still a none) [ inl p ↦ omega (arith, old p, falls a) | inr p ↦ rw p.1 (paid_up p.0) ]
+
+  pub root_done : (la : List (Option ℕ)) → AreTurnedFrom f.link_a.now la f.root free last → IsDone pa la f.root
+  root_done la turned none = (let p = turned.of_root none in rw p.1 (paid_up p.0))
+
 -- a record of B at which a search stopped is free, and a record of A is one of the records
 pub stop_free : (s : Spread) (IsFree : ℕ → Type 0) (end : ℕ) (free : Option ℕ) (last : ℕ) → StopsAt s IsFree end free last → MatchOption free (Unit {0}) IsFree
 stop_free s IsFree end None last stop = tt
@@ -127,12 +141,3 @@ stop_free s IsFree end (Some b) last stop = stop.0
 pub stop_within : (s : Spread) (IsFree : ℕ → Type 0) (end : ℕ) (free : Option ℕ) (last rows : ℕ) → length s.da ≡ rows → StopsAt s IsFree end free last → MatchOption free (last < rows) (λ _. Unit {0})
 stop_within s IsFree end None last rows count stop = omega (arith, count, distance_within s.da last stop)
 stop_within s IsFree end (Some b) last rows count stop = tt
-
--- Records of A that are done, where no price of A rises and links are turned round: at a record of A that is then without
--- a price, if at one.
-module _ (pa pa' : List ℕ) (la la' : List (Option ℕ)) (root : ℕ) (free : Option ℕ) (last : ℕ) (lower : (a : ℕ) → number pa' a ≤ number pa a) (paid : IsNone free → number pa' last ≡ 0) (turned : AreTurnedFrom la la' root free last) where
-  pub done_kept : (a : ℕ) → IsDone pa la a → IsDone pa' la' a
-  done_kept a old none = elim (turned.still a none) [ inl p ↦ omega (arith, old p, lower a) | inr p ↦ rw p.1 (paid p.0) ]
-
-  pub root_done : IsDone pa' la' root
-  root_done none = (let p = turned.of_root none in rw p.1 (paid p.0))

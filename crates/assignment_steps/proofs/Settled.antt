@@ -3,7 +3,7 @@ use Rattle.std.proofs.Common.{◌≡◌, ℕ, ◌+◌, ◌<◌, List, Option, No
 use Rattle.std.proofs.lemmas.Bool.{cases_eq}
 use Rattle.assignment_steps.specs.declared.market.Edge.{Edge}
 use Rattle.assignment_steps.specs.Market.{link}
-use Rattle.assignment_steps.specs.Between.{IsBetween, IsDone, IsPriced, HasNoLink}
+use Rattle.assignment_steps.specs.Between.{IsDone, IsPriced}
 use Rattle.assignment_steps.specs.Free.{AreSettled, IsSettled}
 
 -- one more edge is settled, where each link stays or becomes another and what is taken stays so

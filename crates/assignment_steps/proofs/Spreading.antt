@@ -1,5 +1,5 @@
 -- What a step of a search keeps of all that it has reached.
-use Rattle.std.proofs.Common.{◌≡◌, ◌≢◌, ◌⊎◌, ℕ, zero, ◌+◌, ◌<◌, ◌≤◌, min, List, [], ◌∷◌, ◌++◌, length, set, Some, refl, ap, sym, ◌∙◌, inl, inr, arith, get_or-set_other, get_or-set_same}
+use Rattle.std.proofs.Common.{◌≡◌, ◌≢◌, ◌⊎◌, ℕ, zero, ◌+◌, ◌<◌, ◌≤◌, min, Bool, List, [], ◌∷◌, ◌++◌, length, set, Some, refl, ap, sym, ◌∙◌, inl, inr, arith, get_or-set_other, get_or-set_same}
 use Rattle.std.specs.Prelude.{All, Contains}
 use Rattle.std.proofs.lemmas.Bool.{cases_eq, cases_lt}
 use Rattle.std.proofs.lemmas.List.{length-set, length_push}
@@ -9,13 +9,13 @@ use Rattle.assignment_steps.specs.declared.queue.Near.{Near}
 use Rattle.assignment_steps.specs.Market.{link, number}
 use Rattle.assignment_steps.specs.Distances.{distance, far}
 use Rattle.assignment_steps.specs.Reached.{Waits, noted}
-use Rattle.assignment_steps.specs.Spread.{Spread, IsNearest, IsReached, IsRelaxed, IsSearchable, IsSpread, Joins, Shortens, edge_of, paid, rank_above}
+use Rattle.assignment_steps.specs.Spread.{Spread, IsNearer, IsNearest, IsReached, IsRelaxed, IsSearchable, IsSpread, Joins, Shortens, edge_of, paid, rank_above, waits_for}
 use Rattle.assignment_steps.proofs.Noted.{noted_first, noted_stays}
 use Rattle.assignment_steps.proofs.OneWrite.{distance-set}
 
 -- only what is relaxed speaks of the record whose edges are not relaxed yet, and of the place
-pub spread_marked : (f : Field) (position next position' next' : ℕ) (s : Spread) (best : ℕ) → IsSpread f position next s best → ((k : ℕ) → k < length f.edges.now → distance s.da (edge_of f k).a < far → ((edge_of f k).a ≡ position' → k < next') → IsRelaxed f s best k) → IsSpread f position' next' s best
-spread_marked f position next position' next' s best t relaxed = record {
+pub spread_marked : (f : Field) (position next position' next' : ℕ) (s : Spread) → IsSpread f position next s → ((k : ℕ) → k < length f.edges.now → distance s.da (edge_of f k).a < far → ((edge_of f k).a ≡ position' → k < next') → IsRelaxed f s k) → IsSpread f position' next' s
+spread_marked f position next position' next' s t relaxed = record {
   root_here = t.root_here;
   now = t.now;
   best_small = t.best_small;
@@ -33,36 +33,36 @@ spread_marked f position next position' next' s best t relaxed = record {
 }
 
 -- an edge that is of no use is relaxed as it is
-pub spread_passed : (f : Field) (k : ℕ) (s : Spread) (best : ℕ) → IsSpread f (edge_of f k).a k s best → IsRelaxed f s best k → IsSpread f (edge_of f k).a (k + 1) s best
-spread_passed f k s best t here =
-    spread_marked f (edge_of f k).a k (edge_of f k).a (k + 1) s best t
+pub spread_passed : (f : Field) (k : ℕ) (s : Spread) → IsSpread f (edge_of f k).a k s → IsRelaxed f s k → IsSpread f (edge_of f k).a (k + 1) s
+spread_passed f k s t here =
+    spread_marked f (edge_of f k).a k (edge_of f k).a (k + 1) s t
     (λ j lt near last. elim (cases_eq j k) [ inl e ↦ rw e here | inr n ↦ t.relaxed j lt near (λ same. (let below : j < k + 1 = last same in omega arith)) ])
 
 -- edges of the record that are of no use are relaxed as they are
-pub spread_passed_to : (f : Field) (position n m : ℕ) (s : Spread) (best : ℕ) → IsSpread f position n s best → ((j : ℕ) → n ≤ j → j < m → j < length f.edges.now → (edge_of f j).a ≡ position → IsRelaxed f s best j) → IsSpread f position m s best
-spread_passed_to f position n m s best t passed =
-    spread_marked f position n position m s best t (λ j lt joined last. elim (cases_eq (edge_of f j).a position) [
+pub spread_passed_to : (f : Field) (position n m : ℕ) (s : Spread) → IsSpread f position n s → ((j : ℕ) → n ≤ j → j < m → j < length f.edges.now → (edge_of f j).a ≡ position → IsRelaxed f s j) → IsSpread f position m s
+spread_passed_to f position n m s t passed =
+    spread_marked f position n position m s t (λ j lt joined last. elim (cases_eq (edge_of f j).a position) [
       | inl e ↦ elim (cases_lt j n) [ inl below ↦ t.relaxed j lt joined (λ same. below) | inr from ↦ passed j from (last e) lt e ]
       | inr ne ↦ t.relaxed j lt joined (λ same. absurd (ne same))
     ])
 
 -- where the nearest end is no farther than the newest record, its edges are of no use
-pub spread_ended : (f : Field) (position n : ℕ) (s : Spread) (best : ℕ) → IsSearchable f → IsSpread f position n s best → distance s.da position ≡ s.current → best ≤ s.current → IsSpread f position (length f.edges.now) s best
-spread_ended f position n s best ready t last ended =
-    spread_passed_to f position n (length f.edges.now) s best t
+pub spread_ended : (f : Field) (position n : ℕ) (s : Spread) → IsSearchable f → IsSpread f position n s → distance s.da position ≡ s.current → s.best ≤ s.current → IsSpread f position (length f.edges.now) s
+spread_ended f position n s ready t last ended =
+    spread_passed_to f position n (length f.edges.now) s t
     (λ j from below lt e. (let here : distance s.da (edge_of f j).a ≡ s.current = rw e last in omega (arith, here, ended, ready.covered j lt)))
 
 -- the mark of what is relaxed may be moved where no edge of the record stands between
-pub spread_skip : (f : Field) (position n m : ℕ) (s : Spread) (best : ℕ) → IsSpread f position n s best → ((j : ℕ) → j < length f.edges.now → j < m → (edge_of f j).a ≡ position → j < n) → IsSpread f position m s best
-spread_skip f position n m s best t none = spread_marked f position n position m s best t (λ j lt joined last. t.relaxed j lt joined (λ same. none j lt (last same) same))
+pub spread_skip : (f : Field) (position n m : ℕ) (s : Spread) → IsSpread f position n s → ((j : ℕ) → j < length f.edges.now → j < m → (edge_of f j).a ≡ position → j < n) → IsSpread f position m s
+spread_skip f position n m s t none = spread_marked f position n position m s t (λ j lt joined last. t.relaxed j lt joined (λ same. none j lt (last same) same))
 
 -- with all edges relaxed it does not matter which record was the last
-pub spread_any : (f : Field) (position position' : ℕ) (s : Spread) (best : ℕ) → IsSpread f position (length f.edges.now) s best → IsSpread f position' (length f.edges.now) s best
-spread_any f position position' s best t = spread_marked f position (length f.edges.now) position' (length f.edges.now) s best t (λ j lt joined last. t.relaxed j lt joined (λ same. lt))
+pub spread_any : (f : Field) (position position' : ℕ) (s : Spread) → IsSpread f position (length f.edges.now) s → IsSpread f position' (length f.edges.now) s
+spread_any f position position' s t = spread_marked f position (length f.edges.now) position' (length f.edges.now) s t (λ j lt joined last. t.relaxed j lt joined (λ same. lt))
 
 -- other entries wait, and another distance is the newest
-pub spread_waiting : (f : Field) (position next : ℕ) (s : Spread) (best : ℕ) (waiting : List (ℕ × ℕ)) (current : ℕ) → IsSpread f position next s best → current ≤ best → ((a : ℕ) → distance s.da a < far → distance s.da a ≤ current) → ((e : ℕ × ℕ) → Contains waiting e → (current ≤ e.0) × (distance s.db e.1 ≤ e.0) × (e.1 < length s.db)) → IsSpread f position next (record s { frontier = waiting; current = current }) best
-spread_waiting f position next s best waiting current t now low late = record {
+pub spread_waiting : (f : Field) (position next : ℕ) (s : Spread) (waiting : List (ℕ × ℕ)) (current : ℕ) → IsSpread f position next s → current ≤ s.best → ((a : ℕ) → distance s.da a < far → distance s.da a ≤ current) → ((e : ℕ × ℕ) → Contains waiting e → (current ≤ e.0) × (distance s.db e.1 ≤ e.0) × (e.1 < length s.db)) → IsSpread f position next (record s { frontier = waiting; current = current })
+spread_waiting f position next s waiting current t now low late = record {
   root_here = t.root_here;
   now = now;
   best_small = t.best_small;
@@ -90,12 +90,12 @@ nearest_taken old n waiting inside least stays = record {
 }
 
 -- A record of B is put at a shorter distance, over an edge of the newest record.
-module _ (f : Field) (k : ℕ) (s : Spread) (best reach best' : ℕ) (frontier : List (ℕ × ℕ)) (lt : k < length f.edges.now) (ready : IsSearchable f) (t : IsSpread f (edge_of f k).a k s best) (last : distance s.da (edge_of f k).a ≡ s.current) (exact : reach + (edge_of f k).value ≡ distance s.da (edge_of f k).a + paid f k) (near : reach < distance s.db (edge_of f k).b) (useful : reach < best) (records : (edge_of f k).b < length s.db) (froms : length s.from ≡ length s.db) (top : distance s.db (edge_of f k).b ≤ far) (no_more : best' ≤ best) (best_late : s.current ≤ best') (w : Waits s.frontier frontier (reach, (edge_of f k).b)) where
+module _ (f : Field) (k : ℕ) (s : Spread) (reach best' record' : ℕ) (frontier : List (ℕ × ℕ)) (lt : k < length f.edges.now) (ready : IsSearchable f) (t : IsSpread f (edge_of f k).a k s) (last : distance s.da (edge_of f k).a ≡ s.current) (exact : reach + (edge_of f k).value ≡ distance s.da (edge_of f k).a + paid f k) (near : reach < distance s.db (edge_of f k).b) (useful : reach < s.best) (records : (edge_of f k).b < length s.db) (froms : length s.from ≡ length s.db) (top : distance s.db (edge_of f k).b ≤ far) (no_more : best' ≤ s.best) (best_late : s.current ≤ best') (w : Waits s.frontier frontier (reach, (edge_of f k).b)) where
   abbrev b : ℕ
   b = (edge_of f k).b
 
   abbrev h : Spread
-  h = record s { db = set s.db b reach; from = set s.from b k; touched = noted s.db s.touched b; frontier = frontier }
+  h = record s { db = set s.db b reach; from = set s.from b k; touched = noted s.db s.touched b; frontier = frontier; best = best'; best_record = record' }
 
   late_enough : s.current ≤ reach
   late_enough = omega (arith, ready.covered k lt)
@@ -108,7 +108,7 @@ module _ (f : Field) (k : ℕ) (s : Spread) (best reach best' : ℕ) (frontier :
       let here : distance s.db (edge_of f j).b ≡ distance s.db b = ap (distance s.db) e in
       omega (arith, low, same, here, near, late_enough)
 
-  relaxed : (j : ℕ) → j < length f.edges.now → distance s.da (edge_of f j).a < far → ((edge_of f j).a ≡ (edge_of f k).a → j < k + 1) → IsRelaxed f h best' j
+  relaxed : (j : ℕ) → j < length f.edges.now → distance s.da (edge_of f j).a < far → ((edge_of f j).a ≡ (edge_of f k).a → j < k + 1) → IsRelaxed f h j
   relaxed j ltj joined order = elim (cases_eq j k) [
     | inl e ↦ rw e (let at : distance (set s.db b reach) b ≡ reach = get_or-set_same s.db b reach far records in omega (arith, at, exact, no_more))
     | inr ne ↦ (let old = t.relaxed j ltj joined (λ same. (let below : j < k + 1 = order same in omega arith)) in
@@ -169,7 +169,7 @@ module _ (f : Field) (k : ℕ) (s : Spread) (best reach best' : ℕ) (frontier :
     | inr p ↦ noted_stays s.db s.touched b x (t.noted_b x (rw (← p.1) close))
   ]
 
-  spread_nearer : IsSpread f (edge_of f k).a (k + 1) h best'
+  spread_nearer : IsSpread f (edge_of f k).a (k + 1) h
   spread_nearer = record {
     root_here = t.root_here;
     now = best_late;
@@ -188,15 +188,15 @@ module _ (f : Field) (k : ℕ) (s : Spread) (best reach best' : ℕ) (frontier :
   }
 
 -- the same, where the nearest end comes nearer too or stays
-pub spread_shortened : (f : Field) (k : ℕ) (s s' : Spread) (best best' reach : ℕ) → k < length f.edges.now → IsSearchable f → IsSpread f (edge_of f k).a k s best → distance s.da (edge_of f k).a ≡ s.current → reach + (edge_of f k).value ≡ distance s.da (edge_of f k).a + paid f k → reach < distance s.db (edge_of f k).b → reach < best → (edge_of f k).b < length s.db → length s.from ≡ length s.db → distance s.db (edge_of f k).b ≤ far → best' ≤ best → s.current ≤ best' → Shortens s s' (edge_of f k).b k reach → IsSpread f (edge_of f k).a (k + 1) s' best'
-spread_shortened f k s s' best best' reach lt ready t last exact near useful records froms top no_more best_late r =
-    let shape : s' ≡ record s { db = set s.db (edge_of f k).b reach; from = set s.from (edge_of f k).b k; touched = noted s.db s.touched (edge_of f k).b; frontier = s'.frontier } = λ i. record { da = r.da i; rank = r.rank i; db = r.db i; from = r.from i; records = r.records i; touched = r.touched i; frontier = s'.frontier; current = r.current i } in
-    rw shape (spread_nearer f k s best reach best' s'.frontier lt ready t last exact near useful records froms top no_more best_late r.waits)
+pub spread_shortened : (f : Field) (k : ℕ) (s s' : Spread) (reach : ℕ) → k < length f.edges.now → IsSearchable f → IsSpread f (edge_of f k).a k s → distance s.da (edge_of f k).a ≡ s.current → IsNearer f s k reach → (edge_of f k).b < length s.db → length s.from ≡ length s.db → distance s.db (edge_of f k).b ≤ far → s'.best ≤ s.best → s.current ≤ s'.best → Shortens s s' (edge_of f k).b k reach → IsSpread f (edge_of f k).a (k + 1) s'
+spread_shortened f k s s' reach lt ready t last nearer records froms top no_more best_late r =
+    let shape : s' ≡ record s { db = set s.db (edge_of f k).b reach; from = set s.from (edge_of f k).b k; touched = noted s.db s.touched (edge_of f k).b; frontier = s'.frontier; best = s'.best; best_record = s'.best_record } = λ i. record { da = r.da i; rank = r.rank i; db = r.db i; from = r.from i; records = r.records i; touched = r.touched i; frontier = s'.frontier; current = r.current i; best = s'.best; best_record = s'.best_record } in
+    rw shape (spread_nearer f k s reach s'.best s'.best_record s'.frontier lt ready t last nearer.exact nearer.near nearer.useful records froms top no_more best_late r.waits)
 
 -- A record of A joins that has a link: s is what was reached before the entry of its record of B was taken.
-module _ (f : Field) (last : ℕ) (s : Spread) (best position k dist best' : ℕ) (frontier : List (ℕ × ℕ)) (ready : IsSearchable f) (t : IsSpread f last (length f.edges.now) s best) (new : distance s.da position ≡ far) (rows_a : position < length s.da) (ranks_a : position < length s.rank) (on : link f.link_a.now position ≡ Some k) (dist_is : dist ≡ distance s.db (edge_of f k).b) (near : dist ≤ best) (after : s.current ≤ dist) (least : (x : ℕ × ℕ) → Contains frontier x → dist ≤ x.0) (only : (x : ℕ × ℕ) → Contains frontier x → Contains s.frontier x) (best_is : best' ≡ min best (dist + number f.price_a.now position)) where
+module _ (f : Field) (last : ℕ) (s : Spread) (position k dist best' record' : ℕ) (frontier : List (ℕ × ℕ)) (ready : IsSearchable f) (t : IsSpread f last (length f.edges.now) s) (new : distance s.da position ≡ far) (rows_a : position < length s.da) (ranks_a : position < length s.rank) (on : link f.link_a.now position ≡ Some k) (dist_is : dist ≡ distance s.db (edge_of f k).b) (near : dist ≤ s.best) (after : s.current ≤ dist) (least : (x : ℕ × ℕ) → Contains frontier x → dist ≤ x.0) (only : (x : ℕ × ℕ) → Contains frontier x → Contains s.frontier x) (best_is : best' ≡ min s.best (dist + number f.price_a.now position)) where
   abbrev j : Spread
-  j = record s { da = set s.da position dist; rank = set s.rank position (length s.records); records = s.records ++ position ∷ []; frontier = frontier; current = dist }
+  j = record s { da = set s.da position dist; rank = set s.rank position (length s.records); records = s.records ++ position ∷ []; frontier = frontier; current = dist; best = best'; best_record = record' }
 
   -- a record that stood in the tree is not the new one, and keeps its distance
   old_record : (a : ℕ) → distance s.da a < far → a ≢ position
@@ -224,7 +224,7 @@ module _ (f : Field) (last : ℕ) (s : Spread) (best position k dist best' : ℕ
     | inr p ↦ omega (arith, p.1, t.best_of a p.0, best_is)
   ]
 
-  j_relaxed : (i : ℕ) → i < length f.edges.now → distance j.da (edge_of f i).a < far → ((edge_of f i).a ≡ position → i < 0) → IsRelaxed f j best' i
+  j_relaxed : (i : ℕ) → i < length f.edges.now → distance j.da (edge_of f i).a < far → ((edge_of f i).a ≡ position → i < 0) → IsRelaxed f j i
   j_relaxed i lt joined none = elim (cases_a (edge_of f i).a joined) [
     | inl p ↦ (let no : i < 0 = none p.0 in absurd (omega (arith, no)))
     | inr p ↦ omega (arith, t.relaxed i lt p.0 (λ _. lt), p.1, best_is)
@@ -274,7 +274,7 @@ module _ (f : Field) (last : ℕ) (s : Spread) (best position k dist best' : ℕ
     | inr p ↦ Contains-append_left s.records (position ∷ []) a (t.noted_a a p.0)
   ]
 
-  spread_more : IsSpread f position 0 j best'
+  spread_more : IsSpread f position 0 j
   spread_more = record {
     root_here = j_root_here;
     now = omega (arith, near, best_is);
@@ -292,20 +292,23 @@ module _ (f : Field) (last : ℕ) (s : Spread) (best position k dist best' : ℕ
     noted_b = t.noted_b;
   }
 
-pub spread_joined : (f : Field) (last : ℕ) (s s' : Spread) (best position k dist best' : ℕ) (frontier : List (ℕ × ℕ)) → IsSearchable f → IsSpread f last (length f.edges.now) s best → distance s.da position ≡ far → position < length s.da → position < length s.rank → link f.link_a.now position ≡ Some k → dist ≡ distance s.db (edge_of f k).b → dist ≤ best → s.current ≤ dist → ((x : ℕ × ℕ) → Contains frontier x → dist ≤ x.0) → ((x : ℕ × ℕ) → Contains frontier x → Contains s.frontier x) → best' ≡ min best (dist + number f.price_a.now position) → Joins (record s { frontier = frontier }) s' position dist → IsSpread f position 0 s' best'
-spread_joined f last s s' best position k dist best' frontier ready t new rows_a ranks_a on dist_is near after least only best_is r =
-    let shape : s' ≡ record s { da = set s.da position dist; rank = set s.rank position (length s.records); records = s.records ++ position ∷ []; frontier = frontier; current = dist } = λ i. record { da = r.da i; rank = r.rank i; db = r.db i; from = r.from i; records = r.records i; touched = r.touched i; frontier = r.frontier i; current = r.current i } in
-    rw shape (spread_more f last s best position k dist best' frontier ready t new rows_a ranks_a on dist_is near after least only best_is)
+pub spread_joined : (f : Field) (last : ℕ) (s s' : Spread) (position k dist : ℕ) (nearer : Bool) (frontier : List (ℕ × ℕ)) → IsSearchable f → IsSpread f last (length f.edges.now) s → distance s.da position ≡ far → position < length s.da → position < length s.rank → link f.link_a.now position ≡ Some k → dist ≡ distance s.db (edge_of f k).b → dist ≤ s.best → s.current ≤ dist → ((x : ℕ × ℕ) → Contains frontier x → dist ≤ x.0) → ((x : ℕ × ℕ) → Contains frontier x → Contains s.frontier x) → Joins (waits_for frontier s) s' position dist (dist + number f.price_a.now position) nearer → IsSpread f position 0 s'
+spread_joined f last s s' position k dist nearer frontier ready t new rows_a ranks_a on dist_is near after least only r =
+    let shape : s' ≡ record s { da = set s.da position dist; rank = set s.rank position (length s.records); records = s.records ++ position ∷ []; frontier = frontier; current = dist; best = s'.best; best_record = s'.best_record } = λ i. record { da = r.da i; rank = r.rank i; db = r.db i; from = r.from i; records = r.records i; touched = r.touched i; frontier = r.frontier i; current = r.current i; best = s'.best; best_record = s'.best_record } in
+    rw shape (spread_more f last s position k dist s'.best s'.best_record frontier ready t new rows_a ranks_a on dist_is near after least only r.best)
 
 -- a record that joined has its distance, and those that stood in the tree keep theirs
-pub joins_here : (s s' : Spread) (position dist : ℕ) → Joins s s' position dist → position < length s.da → distance s'.da position ≡ dist
-joins_here s s' position dist r lt = rw r.da (get_or-set_same s.da position dist far lt)
+pub joins_here : (s s' : Spread) (position dist end : ℕ) (nearer : Bool) → Joins s s' position dist end nearer → position < length s.da → distance s'.da position ≡ dist
+joins_here s s' position dist end nearer r lt = rw r.da (get_or-set_same s.da position dist far lt)
 
-pub joins_keeps : (s s' : Spread) (position dist : ℕ) → Joins s s' position dist → distance s.da position ≡ far → (a : ℕ) → distance s.da a < far → distance s'.da a ≡ distance s.da a
-joins_keeps s s' position dist r new a joined = rw r.da (get_or-set_other s.da position a dist far (λ e. (let same : distance s.da a ≡ distance s.da position = ap (distance s.da) e in omega (arith, same, new, joined))))
+pub joins_keeps : (s s' : Spread) (position dist end : ℕ) (nearer : Bool) → Joins s s' position dist end nearer → distance s.da position ≡ far → (a : ℕ) → distance s.da a < far → distance s'.da a ≡ distance s.da a
+joins_keeps s s' position dist end nearer r new a joined = rw r.da (get_or-set_other s.da position a dist far (λ e. (let same : distance s.da a ≡ distance s.da position = ap (distance s.da) e in omega (arith, same, new, joined))))
 
 -- The root joins first.
-module _ (f : Field) (s s' : Spread) (best : ℕ) (ready : IsSearchable f) (da : (a : ℕ) → distance s.da a ≡ far) (db : (b : ℕ) → distance s.db b ≡ far) (frontier : s.frontier ≡ []) (rows_a : f.root < length s.da) (ranks_a : f.root < length s.rank) (r : Joins s s' f.root 0) (best_is : best ≡ number f.price_a.now f.root) where
+module _ (f : Field) (s s' : Spread) (nearer : Bool) (ready : IsSearchable f) (da : (a : ℕ) → distance s.da a ≡ far) (db : (b : ℕ) → distance s.db b ≡ far) (frontier : s.frontier ≡ []) (rows_a : f.root < length s.da) (ranks_a : f.root < length s.rank) (none : s.best ≡ far) (r : Joins s s' f.root 0 (0 + number f.price_a.now f.root) nearer) where
+  pub best_is : s'.best ≡ number f.price_a.now f.root
+  best_is = omega (arith, r.best, none, ready.small_a f.root)
+
   only_root : (a : ℕ) → distance s'.da a < far → a ≡ f.root
   only_root a near = elim (distance-set s.da f.root a 0 rows_a) [ inl p ↦ p.0 | inr p ↦ absurd (let here : distance (set s.da f.root 0) a < far = rw r.da at near in omega (arith, here, p.1, da a)) ]
 
@@ -317,18 +320,18 @@ module _ (f : Field) (s s' : Spread) (best : ℕ) (ready : IsSearchable f) (da :
   no_link k on near = (let here : link f.link_a.now f.root ≡ Some k = rw (only_root (edge_of f k).a near) at on in let free = ready.root_free in cc)
 
   root_at : distance s'.da f.root ≡ 0
-  root_at = joins_here s s' f.root 0 r rows_a
+  root_at = joins_here s s' f.root 0 _ nearer r rows_a
 
-  pub spread_planted : IsSpread f f.root 0 s' best
+  pub spread_planted : IsSpread f f.root 0 s'
   spread_planted = record {
     root_here = root_at;
     now = rw r.current (omega arith);
     best_small = rw best_is (ready.small_a f.root);
     low = λ a near. rw (only_root a near, root_at) (omega arith);
     best_of = λ a near. rw (only_root a near, root_at) (omega (arith, best_is));
-    relaxed = λ k lt near none. absurd (let no : k < 0 = none (only_root (edge_of f k).a near) in omega (arith, no));
+    relaxed = λ k lt near order. absurd (let no : k < 0 = order (only_root (edge_of f k).a near) in omega (arith, no));
     same = λ k on near. absurd (no_link k on near);
-    late = λ e inside. absurd (let none : Contains [] e = rw (r.frontier ∙ frontier) at inside in omega (arith, none.1));
+    late = λ e inside. absurd (let empty : Contains [] e = rw (r.frontier ∙ frontier) at inside in omega (arith, empty.1));
     reached = λ b near. absurd (none_b b near);
     climbs = λ k on near. absurd (no_link k on near);
     in_tree = λ a near. inl (only_root a near);

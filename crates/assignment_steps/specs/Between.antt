@@ -31,3 +31,9 @@ pub record IsBetween (es : List Edge) (pa pb : List ℕ) (la lb : List (Option �
   pub priced : IsPriced es pa pb la (HasNoLink lb) done
   pub rows_b : length lb ≡ length pb
   pub matched : IsMatched es la lb
+
+-- prices of A, none of them large, that reach each edge's value with those of B
+pub record ReachAll (es : List Edge) (rows_a : ℕ) (pa pb : List ℕ) : Type 0 where
+  pub records : length pa ≡ rows_a
+  pub covered : AreCovered es pa pb
+  pub small : (a : ℕ) → number pa a ≤ MOST_VALUE

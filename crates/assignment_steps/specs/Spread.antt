@@ -1,7 +1,7 @@
 -- An alternating tree as it grows from a record of A without a link, over candidates with positive values as edges
 -- (Edmonds and Karp 1972): what holds of all that the search has reached, whatever it may end at.
 -- `Reached::join` and `Reached::reach` carry it (clauses `joins` and `shortens`).
-use Rattle.std.specs.Prelude.{◌≡◌, ◌⊎◌, ℕ, ◌+◌, ◌<◌, ◌≤◌, List, [], ◌∷◌, ◌++◌, length, slice_set, Option, Some, None, MatchOption, Contains}
+use Rattle.std.specs.Prelude.{◌≡◌, ◌⊎◌, ℕ, ◌+◌, ◌<◌, ◌≤◌, Bool, true, false, List, [], ◌∷◌, ◌++◌, length, slice_set, Option, Some, None, MatchOption, IsNone, Contains}
 use Rattle.std.proofs.Common.{min}
 use Rattle.link_limits.specs.declared.TheConstants.{MOST_VALUE}
 use Rattle.assignment_steps.specs.declared.market.Edge.{Edge}
@@ -22,6 +22,8 @@ pub record Spread : Type 0 where
   pub touched : List ℕ
   pub frontier : List (ℕ × ℕ)
   pub current : ℕ
+  pub best : ℕ
+  pub best_record : ℕ
 
 abbrev pub spread : Reached → Spread
 spread r = record {
@@ -33,7 +35,13 @@ spread r = record {
   touched = r.touched.items;
   frontier = r.frontier.waiting;
   current = r.current;
+  best = r.best;
+  best_record = r.best_record;
 }
+
+-- with other entries waiting
+abbrev pub waits_for : List (ℕ × ℕ) → Spread → Spread
+waits_for waiting s = record s { frontier = waiting }
 
 -- the edge at a place, and what its two prices add up to
 abbrev pub edge_of : Field → ℕ → Edge
@@ -55,8 +63,14 @@ pub record IsSearchable (f : Field) : Type 0 where
   pub linked : AreLinked f.edges.now f.link_a.now
 
 -- the record of B of edge k is known to be as near as over this edge, or that is of no use
-abbrev pub IsRelaxed : Field → Spread → ℕ → ℕ → Type 0
-IsRelaxed f s best k = min (distance s.db (edge_of f k).b) best + (edge_of f k).value ≤ distance s.da (edge_of f k).a + paid f k
+abbrev pub IsRelaxed : Field → Spread → ℕ → Type 0
+IsRelaxed f s k = min (distance s.db (edge_of f k).b) s.best + (edge_of f k).value ≤ distance s.da (edge_of f k).a + paid f k
+
+-- over edge k the record of B is at this distance, nearer than it was reached and than the nearest end
+pub record IsNearer (f : Field) (s : Spread) (k dist : ℕ) : Type 0 where
+  pub exact : dist + (edge_of f k).value ≡ distance s.da (edge_of f k).a + paid f k
+  pub near : dist < distance s.db (edge_of f k).b
+  pub useful : dist < s.best
 
 -- how a record of B was reached
 pub record IsReached (f : Field) (s : Spread) (b : ℕ) : Type 0 where
@@ -70,15 +84,14 @@ pub record IsReached (f : Field) (s : Spread) (b : ℕ) : Type 0 where
 abbrev pub rank_above : Field → Spread → ℕ → ℕ
 rank_above f s b = number s.rank (edge_of f (number s.from b)).a
 
--- all that a search has reached, where the nearest end so far is at the distance `best` and the edges of `position` from
--- place `next` on are not relaxed yet
-pub record IsSpread (f : Field) (position next : ℕ) (s : Spread) (best : ℕ) : Type 0 where
+-- all that a search has reached, where the edges of `position` from place `next` on are not relaxed yet
+pub record IsSpread (f : Field) (position next : ℕ) (s : Spread) : Type 0 where
   pub root_here : distance s.da f.root ≡ 0
-  pub now : s.current ≤ best
-  pub best_small : best ≤ MOST_VALUE
+  pub now : s.current ≤ s.best
+  pub best_small : s.best ≤ MOST_VALUE
   pub low : (a : ℕ) → distance s.da a < far → distance s.da a ≤ s.current
-  pub best_of : (a : ℕ) → distance s.da a < far → best ≤ distance s.da a + number f.price_a.now a
-  pub relaxed : (k : ℕ) → k < length f.edges.now → distance s.da (edge_of f k).a < far → ((edge_of f k).a ≡ position → k < next) → IsRelaxed f s best k
+  pub best_of : (a : ℕ) → distance s.da a < far → s.best ≤ distance s.da a + number f.price_a.now a
+  pub relaxed : (k : ℕ) → k < length f.edges.now → distance s.da (edge_of f k).a < far → ((edge_of f k).a ≡ position → k < next) → IsRelaxed f s k
   pub same : (k : ℕ) → link f.link_a.now (edge_of f k).a ≡ Some k → distance s.da (edge_of f k).a < far → distance s.da (edge_of f k).a ≡ distance s.db (edge_of f k).b
   pub late : (e : ℕ × ℕ) → Contains s.frontier e → (s.current ≤ e.0) × (distance s.db e.1 ≤ e.0) × (e.1 < length s.db)
   pub reached : (b : ℕ) → distance s.db b < far → IsReached f s b
@@ -99,8 +112,13 @@ pub record Shortens (old new : Spread) (b k dist : ℕ) : Type 0 where
   pub waits : Waits old.frontier new.frontier (dist, b)
   pub current : new.current ≡ old.current
 
--- a record of A joins, and is the newest
-pub record Joins (old new : Spread) (position dist : ℕ) : Type 0 where
+-- the nearest end is at this record of A where it is nearer than each before, and else where it was
+abbrev pub EndsAgain : Spread → Spread → ℕ → ℕ → Bool → Type 0
+EndsAgain old new position end nearer =
+    ((nearer ≡ true) × (new.best ≡ end) × (new.best_record ≡ position)) ⊎ ((nearer ≡ false) × (new.best ≡ old.best) × (new.best_record ≡ old.best_record))
+
+-- a record of A joins, and is the newest, and the nearest end where it is nearer than each before
+pub record Joins (old new : Spread) (position dist end : ℕ) (nearer : Bool) : Type 0 where
   pub da : new.da ≡ slice_set old.da position dist
   pub rank : new.rank ≡ slice_set old.rank position (length old.records)
   pub db : new.db ≡ old.db
@@ -109,6 +127,8 @@ pub record Joins (old new : Spread) (position dist : ℕ) : Type 0 where
   pub touched : new.touched ≡ old.touched
   pub frontier : new.frontier ≡ old.frontier
   pub current : new.current ≡ dist
+  pub best : new.best ≡ min old.best end
+  pub ends : EndsAgain old new position end nearer
 
 -- an entry that waits, before which none comes
 pub record IsNearest (waiting : List (ℕ × ℕ)) (n : Near) : Type 0 where
@@ -122,3 +142,11 @@ EndsAt f s end a = (distance s.da a < far) × (end ≡ distance s.da a + number 
 -- where a search stops: at a record of B that is free, or else at a record of A that was reached
 abbrev pub StopsAt : Spread → (ℕ → Type 0) → ℕ → Option ℕ → ℕ → Type 0
 StopsAt s IsFree end free last = MatchOption free (distance s.da last < far) (λ b. IsFree b × (distance s.db b ≡ end))
+
+-- a search has stopped: no farther than the nearest end and than what waits, and at a record of A by its price
+pub record HasStopped (f : Field) (s : Spread) (IsFree : ℕ → Type 0) (end : ℕ) (free : Option ℕ) (last : ℕ) : Type 0 where
+  pub before_best : end ≤ s.best
+  pub after : s.current ≤ end
+  pub least : (x : ℕ × ℕ) → Contains s.frontier x → end ≤ x.0
+  pub stop : StopsAt s IsFree end free last
+  pub paid : IsNone free → EndsAt f s end last

@@ -12,6 +12,7 @@
 
 mod adopt;
 mod candidates;
+mod covering;
 mod left;
 mod market;
 mod other_links;
@@ -25,8 +26,9 @@ mod turned;
 
 pub use adopt::{adopt_all, adopt_proposal};
 pub use candidates::{edges_of, linked};
+pub use covering::first_prices;
 pub use left::waiting;
-pub use market::{Board, Edge, Field, Net, Proposal, Ways};
+pub use market::{Board, Edge, Field, Grown, Net, Proposal, Ways};
 pub use other_links::join_as_turned;
 pub use queue::{DistanceQueue, FARTHEST, Near};
 pub use reaching::{Reached, reach_over};

@@ -28,6 +28,15 @@ pub struct Field<'a> {
     pub root: usize,
 }
 
+/// Where a search ended: the distance, the record of B that is free there, if one is, and else the record of A that gives
+/// its link up.
+#[derive(Clone, Copy)]
+pub struct Grown {
+    pub end: u64,
+    pub free: Option<usize>,
+    pub last: usize,
+}
+
 /// Ways to a root: the edge by which each record of B was reached, and when each record of A was.
 #[derive(Clone, Copy)]
 pub struct Ways<'a> {

@@ -1,13 +1,13 @@
 // What a search has reached from its root.
-ghost use Rattle.std.specs.Prelude.{◌≡◌, ◌+◌, ◌-◌, ◌<◌, ◌≤◌, ℕ, length, [], ◌∷◌, ◌++◌, vec_len, vec_capacity, Contains, IfOk};
+ghost use Rattle.std.specs.Prelude.{◌≡◌, ◌+◌, ◌-◌, ◌<◌, ◌≤◌, ℕ, length, [], ◌∷◌, ◌++◌, vec_len, vec_capacity, Contains, IfOk, MatchOption};
 ghost use Rattle.link_limits.specs.declared.TheConstants.{MOST_VALUE};
 ghost use Rattle.assignment_steps.specs.Market.{edge, number};
 ghost use Rattle.assignment_steps.specs.Distances.{distance, far};
 ghost use Rattle.assignment_steps.specs.Queue.{Enters, rank_of, turn_after};
 ghost use Rattle.assignment_steps.specs.Reached.{HasRoomForRecords, IsClean, noted};
-ghost use Rattle.assignment_steps.specs.Spread.{IsSearchable, Joins, Shortens, edge_of, paid, spread};
+ghost use Rattle.assignment_steps.specs.Spread.{IsNearer, IsRelaxed, IsSearchable, Joins, Shortens, edge_of, paid, spread};
 
-use crate::market::Field;
+use crate::market::{Field, Grown};
 use crate::queue::{DistanceQueue, FARTHEST};
 use crate::room::no_distances;
 use crate::shift::{lower, raise};
@@ -17,7 +17,8 @@ use std::alloc::Global;
 /// What a search has reached from its root. `dist_a` and `dist_b` are the distances of the records, `rank` says when a
 /// record of A joined and `from` by which edge a record of B was reached. `records` and `touched` are the records of A
 /// and of B that have a distance, in the order of their coming, `frontier` the records of B whose turn is still to come,
-/// and `current` is the distance of the newest.
+/// and `current` is the distance of the newest. The nearest end so far is at the distance `best`: at `best_record`, the
+/// nearest record of A at which the search may end by giving its link up, or at a record of B, as the caller says.
 #[derive(Drop)]
 pub struct Reached {
     pub dist_a: Vec<u64>,
@@ -28,6 +29,8 @@ pub struct Reached {
     pub touched: Vec<usize>,
     pub frontier: DistanceQueue,
     pub current: u64,
+    pub best: u64,
+    pub best_record: usize,
 }
 
 /// How far a record of B is over the edge `k`, by the distance of its record of A and what the prices leave.
@@ -77,6 +80,8 @@ impl Reached {
                 touched: of_b.reached,
                 frontier,
                 current: 0,
+                best: 0,
+                best_record: 0,
             }),
             Err(error) => {
                 drop(of_a);
@@ -86,20 +91,59 @@ impl Reached {
         }
     }
 
-    /// A record of A that was not reached joins at a distance, which is the newest.
-    pub fn join(&mut self, position: usize, dist: u64)
+    /// How far a record of B is over the edge `k`, where that is nearer than it was reached and than the nearest end.
+    pub fn nearer_over(&self, field: Field<'_>, k: usize) -> Option<u64>
+        requires place { k < length field.edges.now }
+        requires ready { IsSearchable field }
+        requires room { HasRoomForRecords (length field.price_a.now) (length field.price_b.now) self.now }
+        requires near { distance self.now.dist_a.items (edge_of field k).a ≤ MOST_VALUE }
+        ensures { MatchOption result (IsRelaxed field.entry (spread self.now) k) (IsNearer field.entry (spread self.now) k) }
+    {
+        let far = reach_over(field, &self.dist_a, k);
+        if self.best <= far {
+            return None;
+        }
+        if self.dist_b[field.edges[k].b as usize] <= far {
+            return None;
+        }
+        Some(far)
+    }
+
+    /// A record of A that was not reached joins at a distance, which is the newest. Says whether it is a nearer end than
+    /// each before, by its price, which then is the nearest.
+    pub fn join(&mut self, position: usize, dist: u64, price: u64) -> bool
         requires within { position < vec_len self.old.dist_a }
-        requires near { dist < far }
+        requires near { dist ≤ MOST_VALUE }
+        requires price { price ≤ MOST_VALUE }
         requires new { distance self.old.dist_a.items position ≡ far }
         requires room { HasRoomForRecords (vec_len self.old.dist_a) (vec_len self.old.dist_b) self.old }
-        ensures joins { Joins (spread self.old) (spread self.new) position dist }
-        ensures rest { self.new ≡ record self.old { dist_a = self.new.dist_a; rank = self.new.rank; records = self.new.records; current = self.new.current } }
+        ensures joins { Joins (spread self.old) (spread self.new) position dist (dist + price) result }
+        ensures rest { self.new ≡ record self.old { dist_a = self.new.dist_a; rank = self.new.rank; records = self.new.records; current = self.new.current; best = self.new.best; best_record = self.new.best_record } }
         ensures room { HasRoomForRecords (vec_len self.old.dist_a) (vec_len self.old.dist_b) self.new }
     {
         self.dist_a[position] = dist;
         self.rank[position] = self.records.len();
         note(&mut self.records, position);
         self.current = dist;
+        if self.best <= dist + price {
+            return false;
+        }
+        self.best = dist + price;
+        self.best_record = position;
+        true
+    }
+
+    /// The nearest end, which is at the record of B `free`, if at one.
+    pub fn nearest_end(&self, free: Option<usize>) -> Grown
+        ensures end { result.end ≡ self.now.best }
+        ensures free { result.free ≡ free }
+        ensures last { result.last ≡ self.now.best_record }
+    {
+        Grown {
+            end: self.best,
+            free,
+            last: self.best_record,
+        }
     }
 
     // Notes a record of B, where it is reached for the first time.

@@ -18,7 +18,8 @@ use Rattle.assignment_steps.specs.Market.{edge, link, number}
 use Rattle.capacity_assign.specs.Core.{linked_at}
 use Rattle.capacity_assign.specs.Round.{IsBetweenRounds}
 use Rattle.capacity_assign.specs.Seating.{HasPlace, Seating, free_records}
-use Rattle.capacity_assign.specs.Final.{AreClosed, AreEmpty, ReachAll}
+use Rattle.capacity_assign.specs.Final.{AreClosed, AreEmpty}
+use Rattle.assignment_steps.specs.Between.{ReachAll}
 use Rattle.assignment_steps.specs.Candidates.{edges_of, is_linked, prices_of}
 use Rattle.capacity_assign.proofs.Links.{counted_link, linked_at-set, tick}
 use Rattle.assignment_steps.proofs.Links.{link_there, link-set}

@@ -10,27 +10,27 @@ use Rattle.assignment_steps.proofs.Links.{link_there}
 use Rattle.capacity_assign.specs.declared.market.Ground.{Ground}
 use Rattle.assignment_steps.specs.Market.{link, number}
 use Rattle.assignment_steps.specs.Distances.{distance, far}
-use Rattle.assignment_steps.specs.Spread.{EndsAt, IsNearest, IsRelaxed, IsSpread, Shortens, edge_of, paid}
-use Rattle.capacity_assign.specs.Seating.{IsLastSeat}
+use Rattle.assignment_steps.specs.Spread.{EndsAt, HasStopped, IsNearer, IsNearest, IsRelaxed, IsSpread, Shortens, edge_of}
+use Rattle.capacity_assign.specs.Seating.{HasPlace, IsLastSeat}
 use Rattle.capacity_assign.specs.Growth.{Growth, IsGrown, IsHeldAt, IsPending, IsReady, IsExhausted, IsTree, Joins, places_left, with_waiting}
 use Rattle.assignment_steps.proofs.OneWrite.{distance-set}
 use Rattle.assignment_steps.proofs.Spreading.{cons_first, joins_here, joins_keeps, spread_any, spread_joined, spread_passed, spread_planted, spread_shortened, spread_skip, spread_waiting}
 
 -- where the tree ends, and which records of B wait, does not speak of the edges that are relaxed
-pub tree_marked : (f : Ground) (position next position' next' : ℕ) (g : Growth) → IsTree f position next g → IsSpread f.field position' next' g.spread g.best → IsTree f position' next' g
+pub tree_marked : (f : Ground) (position next position' next' : ℕ) (g : Growth) → IsTree f position next g → IsSpread f.field position' next' g.spread → IsTree f position' next' g
 tree_marked f position next position' next' g t s = record { spread = s; ends = t.ends; pending = t.pending; held_at = t.held_at }
 
-pub tree_passed : (f : Ground) (k : ℕ) (g : Growth) → IsTree f (edge_of f.field k).a k g → IsRelaxed f.field g.spread g.best k → IsTree f (edge_of f.field k).a (k + 1) g
-tree_passed f k g t here = tree_marked f _ _ _ (k + 1) g t (spread_passed f.field k g.spread g.best t.spread here)
+pub tree_passed : (f : Ground) (k : ℕ) (g : Growth) → IsTree f (edge_of f.field k).a k g → IsRelaxed f.field g.spread k → IsTree f (edge_of f.field k).a (k + 1) g
+tree_passed f k g t here = tree_marked f _ _ _ (k + 1) g t (spread_passed f.field k g.spread t.spread here)
 
 pub tree_skip : (f : Ground) (position n m : ℕ) (g : Growth) → IsTree f position n g → ((j : ℕ) → j < length f.field.edges.now → j < m → (edge_of f.field j).a ≡ position → j < n) → IsTree f position m g
-tree_skip f position n m g t none = tree_marked f position n position m g t (spread_skip f.field position n m g.spread g.best t.spread none)
+tree_skip f position n m g t none = tree_marked f position n position m g t (spread_skip f.field position n m g.spread t.spread none)
 
 pub tree_any : (f : Ground) (position position' : ℕ) (g : Growth) → IsTree f position (length f.field.edges.now) g → IsTree f position' (length f.field.edges.now) g
-tree_any f position position' g t = tree_marked f position _ position' _ g t (spread_any f.field position position' g.spread g.best t.spread)
+tree_any f position position' g t = tree_marked f position _ position' _ g t (spread_any f.field position position' g.spread t.spread)
 
 -- A record of B is put at a shorter distance, over an edge of the newest record.
-module _ (f : Ground) (k : ℕ) (g g' : Growth) (reach : ℕ) (lt : k < length f.field.edges.now) (ready : IsReady f) (t : IsTree f (edge_of f.field k).a k g) (last : distance g.spread.da (edge_of f.field k).a ≡ g.spread.current) (exact : reach + (edge_of f.field k).value ≡ distance g.spread.da (edge_of f.field k).a + paid f.field k) (near : reach < distance g.spread.db (edge_of f.field k).b) (useful : reach < g.best) (records : (edge_of f.field k).b < length g.spread.db) (froms : length g.spread.from ≡ length g.spread.db) (top : distance g.spread.db (edge_of f.field k).b ≤ far) (best : g'.best ≡ g.best) (best_record : g'.best_record ≡ g.best_record) (held : g'.held ≡ g.held) (r : Shortens g.spread g'.spread (edge_of f.field k).b k reach) where
+module _ (f : Ground) (k : ℕ) (g g' : Growth) (reach : ℕ) (lt : k < length f.field.edges.now) (ready : IsReady f) (t : IsTree f (edge_of f.field k).a k g) (last : distance g.spread.da (edge_of f.field k).a ≡ g.spread.current) (nearer : IsNearer f.field g.spread k reach) (records : (edge_of f.field k).b < length g.spread.db) (froms : length g.spread.from ≡ length g.spread.db) (top : distance g.spread.db (edge_of f.field k).b ≤ far) (best : g'.spread.best ≡ g.spread.best) (best_record : g'.spread.best_record ≡ g.spread.best_record) (held : g'.held ≡ g.held) (r : Shortens g.spread g'.spread (edge_of f.field k).b k reach) where
   abbrev b : ℕ
   b = (edge_of f.field k).b
 
@@ -46,22 +46,22 @@ module _ (f : Ground) (k : ℕ) (g g' : Growth) (reach : ℕ) (lt : k < length f
   held_at x is =
       let old = t.held_at x (sym held ∙ is) in
       rw (r.db, r.current) (elim (distance-set g.spread.db b x reach records) [
-        | inl p ↦ (let same : distance g.spread.db x ≡ distance g.spread.db b = ap (distance g.spread.db) p.0 in absurd (omega (arith, same, old.1, near, exact, last, ready.field.covered k lt)))
+        | inl p ↦ (let same : distance g.spread.db x ≡ distance g.spread.db b = ap (distance g.spread.db) p.0 in absurd (omega (arith, same, old.1, nearer.near, nearer.exact, last, ready.field.covered k lt)))
         | inr p ↦ (old.0, p.1 ∙ old.1)
       ])
 
   pub tree_reached : IsTree f (edge_of f.field k).a (k + 1) g'
   tree_reached = record {
-    spread = spread_shortened f.field k g.spread g'.spread g.best g'.best reach lt ready.field t.spread last exact near useful records froms top (omega (arith, best)) (omega (arith, best, t.spread.now)) r;
+    spread = spread_shortened f.field k g.spread g'.spread reach lt ready.field t.spread last nearer records froms top (omega (arith, best)) (omega (arith, best, t.spread.now)) r;
     ends = rw (best, best_record, r.da) t.ends;
     pending = pending;
     held_at = held_at;
   }
 
 -- other entries wait, at another distance now, and another record of B is held
-tree_waiting : (f : Ground) (position next : ℕ) (g : Growth) (waiting : List (ℕ × ℕ)) (current : ℕ) (held : Option ℕ) → IsTree f position next g → current ≤ g.best → ((a : ℕ) → distance g.spread.da a < far → distance g.spread.da a ≤ current) → ((b : ℕ) → distance g.spread.db b < far → Contains waiting (distance g.spread.db b, b) ⊎ (IsExhausted f g.spread.da b ⊎ (held ≡ Some b))) → ((b : ℕ) → held ≡ Some b → (places_left f b ≡ 0) × (distance g.spread.db b ≡ current)) → ((e : ℕ × ℕ) → Contains waiting e → (current ≤ e.0) × (distance g.spread.db e.1 ≤ e.0) × (e.1 < length g.spread.db)) → IsTree f position next (record g { spread = record g.spread { frontier = waiting; current = current }; held = held })
+tree_waiting : (f : Ground) (position next : ℕ) (g : Growth) (waiting : List (ℕ × ℕ)) (current : ℕ) (held : Option ℕ) → IsTree f position next g → current ≤ g.spread.best → ((a : ℕ) → distance g.spread.da a < far → distance g.spread.da a ≤ current) → ((b : ℕ) → distance g.spread.db b < far → Contains waiting (distance g.spread.db b, b) ⊎ (IsExhausted f g.spread.da b ⊎ (held ≡ Some b))) → ((b : ℕ) → held ≡ Some b → (places_left f b ≡ 0) × (distance g.spread.db b ≡ current)) → ((e : ℕ × ℕ) → Contains waiting e → (current ≤ e.0) × (distance g.spread.db e.1 ≤ e.0) × (e.1 < length g.spread.db)) → IsTree f position next (record g { spread = record g.spread { frontier = waiting; current = current }; held = held })
 tree_waiting f position next g waiting current held t now low pending held_at late = record {
-  spread = spread_waiting f.field position next g.spread g.best waiting current t.spread now low late;
+  spread = spread_waiting f.field position next g.spread waiting current t.spread now low late;
   ends = t.ends;
   pending = pending;
   held_at = held_at;
@@ -105,7 +105,7 @@ abbrev pub letting_go : Growth → Growth
 letting_go g = record g { held = None }
 
 -- the record of B of the nearest entry is held
-pub tree_held : (f : Ground) (position next : ℕ) (g : Growth) (n : Near) → IsTree f position next (with_waiting ((n.distance, n.position) ∷ g.spread.frontier) g) → g.held ≡ None → IsNearest ((n.distance, n.position) ∷ g.spread.frontier) n → n.distance < g.best → distance g.spread.db n.position ≡ n.distance → places_left f n.position ≡ 0 → IsTree f position next (holding g n)
+pub tree_held : (f : Ground) (position next : ℕ) (g : Growth) (n : Near) → IsTree f position next (with_waiting ((n.distance, n.position) ∷ g.spread.frontier) g) → g.held ≡ None → IsNearest ((n.distance, n.position) ∷ g.spread.frontier) n → n.distance < g.spread.best → distance g.spread.db n.position ≡ n.distance → places_left f n.position ≡ 0 → IsTree f position next (holding g n)
 tree_held f position next g n t none near useful exact full =
     tree_waiting f position next (with_waiting ((n.distance, n.position) ∷ g.spread.frontier) g) g.spread.frontier n.distance (Some n.position) t (omega (arith, useful))
     (λ a joined. omega (arith, t.spread.low a joined, (t.spread.late (n.distance, n.position) near.inside).0))
@@ -132,29 +132,21 @@ tree_let_go f position next g b t is joined =
     ])
     (λ x none. absurd (let clash : None ≡ Some x = none in cc)) t.spread.late
 
+-- the nearest end, as one at which the tree stops
+stopped_best : (f : Ground) (g : Growth) → IsTree f 0 (length f.field.edges.now) g → ((x : ℕ × ℕ) → Contains g.spread.frontier x → g.spread.best ≤ x.0) → HasStopped f.field g.spread (HasPlace f.seats.now.left.items) g.spread.best None g.spread.best_record
+stopped_best f g t least = record { before_best = omega arith; after = t.spread.now; least = least; stop = t.ends.0; paid = λ _. t.ends }
+
 -- an end that is as near as the record that is held
-pub grown_holding : (f : Ground) (g : Growth) (b : ℕ) → IsTree f 0 (length f.field.edges.now) g → g.held ≡ Some b → g.best ≤ g.spread.current → IsGrown f g g.best None g.best_record
+pub grown_holding : (f : Ground) (g : Growth) (b : ℕ) → IsTree f 0 (length f.field.edges.now) g → g.held ≡ Some b → g.spread.best ≤ g.spread.current → IsGrown f g g.spread.best None g.spread.best_record
 grown_holding f g b t is near = record {
   tree = t;
-  before_best = omega arith;
-  after = t.spread.now;
-  least = λ x h. omega (arith, (t.spread.late x h).0, near);
+  stopped = stopped_best f g t (λ x h. omega (arith, (t.spread.late x h).0, near));
   held = λ x q. omega (arith, (t.held_at x q).1, near);
-  stop = t.ends.0;
-  paid = λ _. t.ends;
 }
 
 -- an end that no entry comes before
-pub grown_best : (f : Ground) (g : Growth) → IsTree f 0 (length f.field.edges.now) g → g.held ≡ None → ((x : ℕ × ℕ) → Contains g.spread.frontier x → g.best ≤ x.0) → IsGrown f g g.best None g.best_record
-grown_best f g t none least = record {
-  tree = t;
-  before_best = omega arith;
-  after = t.spread.now;
-  least = least;
-  held = λ x is. absurd (let clash : None ≡ Some x = sym none ∙ is in cc);
-  stop = t.ends.0;
-  paid = λ _. t.ends;
-}
+pub grown_best : (f : Ground) (g : Growth) → IsTree f 0 (length f.field.edges.now) g → g.held ≡ None → ((x : ℕ × ℕ) → Contains g.spread.frontier x → g.spread.best ≤ x.0) → IsGrown f g g.spread.best None g.spread.best_record
+grown_best f g t none least = record { tree = t; stopped = stopped_best f g t least; held = λ x is. absurd (let clash : None ≡ Some x = sym none ∙ is in cc) }
 
 -- the records of A that sit after the seat that comes next have joined
 abbrev pub IsPast : Option ℕ → ℕ → Type 0
@@ -204,15 +196,15 @@ module _ (f : Ground) (last : ℕ) (g g' : Growth) (k dist : ℕ) (ready : IsRea
   dist_is = now ∙ sym (t.held_at (edge_of f.field k).b held).1
 
   here : distance g'.spread.da position ≡ dist
-  here = joins_here g.spread g'.spread position dist s.spread rows_a
+  here = joins_here g.spread g'.spread position dist _ s.nearer s.spread rows_a
 
   keeps : (a : ℕ) → distance g.spread.da a < far → distance g'.spread.da a ≡ distance g.spread.da a
-  keeps = joins_keeps g.spread g'.spread position dist s.spread new
+  keeps = joins_keeps g.spread g'.spread position dist _ s.nearer s.spread new
 
-  ends : EndsAt f.field g'.spread g'.best g'.best_record
-  ends = elim s.best_record [
-    | inl p ↦ rw (p.0, p.1, keeps g.best_record t.ends.0) t.ends
-    | inr p ↦ rw (p.1, here) (omega (arith, now, t.spread.now, t.spread.best_small), p.0)
+  ends : EndsAt f.field g'.spread g'.spread.best g'.spread.best_record
+  ends = elim s.spread.ends [
+    | inl p ↦ rw (p.2, here) (omega (arith, now, t.spread.now, t.spread.best_small), p.1)
+    | inr p ↦ rw (p.1, p.2, keeps g.spread.best_record t.ends.0) t.ends
   ]
 
   joined_pending : (x : ℕ) → distance g.spread.db x < far → Contains g.spread.frontier (distance g.spread.db x, x) ⊎ (IsExhausted f g'.spread.da x ⊎ (g.held ≡ Some x))
@@ -226,20 +218,20 @@ module _ (f : Ground) (last : ℕ) (g g' : Growth) (k dist : ℕ) (ready : IsRea
 
   pub tree_joining : IsTree f (edge_of f.field k).a 0 g'
   tree_joining = record {
-    spread = spread_joined f.field last g.spread g'.spread g.best position k dist g'.best g.spread.frontier ready.field t.spread new rows_a ranks_a on dist_is (omega (arith, now, t.spread.now)) (omega (arith, now)) (λ x h. omega (arith, (t.spread.late x h).0, now)) (λ x h. h) s.best s.spread;
+    spread = spread_joined f.field last g.spread g'.spread position k dist s.nearer g.spread.frontier ready.field t.spread new rows_a ranks_a on dist_is (omega (arith, now, t.spread.now)) (omega (arith, now)) (λ x h. omega (arith, (t.spread.late x h).0, now)) (λ x h. h) s.spread;
     ends = ends;
     pending = λ x close. rw (s.spread.db, s.spread.frontier, s.held) (joined_pending x (rw s.spread.db at close));
     held_at = λ x is. (let old = t.held_at x (sym s.held ∙ is) in rw (s.spread.db, s.spread.current) (old.0, old.1 ∙ sym now));
   }
 
 -- the root joins first
-pub tree_planted : (f : Ground) (g g' : Growth) → IsReady f → ((a : ℕ) → distance g.spread.da a ≡ far) → ((b : ℕ) → distance g.spread.db b ≡ far) → g.spread.frontier ≡ [] → f.field.root < length g.spread.da → f.field.root < length g.spread.rank → g.best ≡ far → g.held ≡ None → Joins f g g' f.field.root 0 → IsTree f f.field.root 0 g'
+pub tree_planted : (f : Ground) (g g' : Growth) → IsReady f → ((a : ℕ) → distance g.spread.da a ≡ far) → ((b : ℕ) → distance g.spread.db b ≡ far) → g.spread.frontier ≡ [] → f.field.root < length g.spread.da → f.field.root < length g.spread.rank → g.spread.best ≡ far → g.held ≡ None → Joins f g g' f.field.root 0 → IsTree f f.field.root 0 g'
 tree_planted f g g' ready da db frontier rows_a ranks_a none no_held s =
-    let best : g'.best ≡ number f.field.price_a.now f.field.root = omega (arith, s.best, none, ready.field.small_a f.field.root) in
-    let here = joins_here g.spread g'.spread f.field.root 0 s.spread rows_a in
-    let record_is : g'.best_record ≡ f.field.root = elim s.best_record [ inl p ↦ absurd (omega (arith, p.0, none, best, ready.field.small_a f.field.root)) | inr p ↦ p.1 ] in
+    let best : g'.spread.best ≡ number f.field.price_a.now f.field.root = omega (arith, s.spread.best, none, ready.field.small_a f.field.root) in
+    let here = joins_here g.spread g'.spread f.field.root 0 _ s.nearer s.spread rows_a in
+    let record_is : g'.spread.best_record ≡ f.field.root = elim s.spread.ends [ inl p ↦ p.2 | inr p ↦ absurd (omega (arith, p.1, none, best, ready.field.small_a f.field.root)) ] in
     record {
-      spread = spread_planted f.field g.spread g'.spread g'.best ready.field da db frontier rows_a ranks_a s.spread best;
+      spread = spread_planted f.field g.spread g'.spread s.nearer ready.field da db frontier rows_a ranks_a none s.spread;
       ends = rw (record_is, here) (omega arith, omega (arith, best));
       pending = λ b near. absurd (let old : distance g.spread.db b < far = rw s.spread.db at near in omega (arith, old, db b));
       held_at = λ b is. absurd (let clash : None ≡ Some b = sym no_held ∙ (sym s.held ∙ is) in cc);

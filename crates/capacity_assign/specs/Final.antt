@@ -1,5 +1,5 @@
 -- Machinery of `new` and `solve`: candidates as edges, and links and prices as they are handed out.
-use Rattle.std.specs.Prelude.{◌≡◌, ℕ, ◌+◌, ◌<◌, ◌≤◌, List, length, None, replicate}
+use Rattle.std.specs.Prelude.{◌≡◌, ℕ, ◌<◌, ◌≤◌, List, length, None, replicate}
 use Rattle.link_limits.specs.declared.TheConstants.{MOST_VALUE}
 use Rattle.assignment_steps.specs.declared.market.Edge.{Edge}
 use Rattle.price_check.specs.Capacities.{capacity_of}
@@ -12,12 +12,6 @@ pub record AreClosed (es : List Edge) (capacities pb : List ℕ) : Type 0 where
   pub covered : (k : ℕ) → k < length es → capacity_of capacities (edge es k).b ≡ 0 → (edge es k).value ≤ number pb (edge es k).b
   pub vacant : (b : ℕ) → 0 < capacity_of capacities b → number pb b ≡ 0
   pub small : (b : ℕ) → number pb b ≤ MOST_VALUE
-
--- prices of A that reach each edge's value with those of B
-pub record ReachAll (es : List Edge) (rows_a : ℕ) (pa pb : List ℕ) : Type 0 where
-  pub records : length pa ≡ rows_a
-  pub covered : (k : ℕ) → k < length es → (edge es k).value ≤ number pa (edge es k).a + number pb (edge es k).b
-  pub small : (a : ℕ) → number pa a ≤ MOST_VALUE
 
 -- seats before any is taken
 pub record AreEmpty (rows_a : ℕ) (capacities : List ℕ) (s : Seating) : Type 0 where

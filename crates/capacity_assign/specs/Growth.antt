@@ -1,7 +1,6 @@
 -- Machinery of `search` in `grow`: an alternating tree as it grows, and what it may end at: a record of B with a place
 -- left, or a record of A that gives its link up.
-use Rattle.std.specs.Prelude.{◌≡◌, ◌⊎◌, ℕ, ◌+◌, ◌<◌, ◌≤◌, List, length, Option, Some, IsNone, Contains, vec_len}
-use Rattle.std.proofs.Common.{min}
+use Rattle.std.specs.Prelude.{◌≡◌, ◌⊎◌, ℕ, ◌+◌, ◌<◌, ◌≤◌, List, length, Bool, Option, Some, Contains, vec_len}
 use Rattle.assignment_steps.specs.declared.market.Edge.{Edge}
 use Rattle.capacity_assign.specs.declared.market.Tree.{Tree}
 use Rattle.capacity_assign.specs.declared.market.Ground.{Ground}
@@ -9,17 +8,15 @@ use Rattle.assignment_steps.specs.Market.{link, number}
 use Rattle.capacity_assign.specs.Seating.{AreSeats, HasPlace, seating}
 use Rattle.assignment_steps.specs.Distances.{distance, far}
 use Rattle.assignment_steps.specs.Reached.{IsClean}
-use Rattle.assignment_steps.specs.Spread.{Spread, EndsAt, StopsAt, IsSearchable, IsSpread, Joins as JoinsSpread, edge_of, spread}
+use Rattle.assignment_steps.specs.Spread.{Spread, EndsAt, HasStopped, IsSearchable, IsSpread, Joins as JoinsSpread, edge_of, spread, waits_for}
 
--- what a tree has reached, the nearest end at a record of A, and the record of B that is held
+-- what a tree has reached, and the record of B that is held
 pub record Growth : Type 0 where
   pub spread : Spread
-  pub best : ℕ
-  pub best_record : ℕ
   pub held : Option ℕ
 
 abbrev pub growth : Tree → Growth
-growth t = record { spread = spread t.reached; best = t.best; best_record = t.best_record; held = t.held }
+growth t = record { spread = spread t.reached; held = t.held }
 
 -- what a tree may be grown over: a field that may be searched, and seats of its links
 pub record IsReady (f : Ground) : Type 0 where
@@ -49,37 +46,26 @@ IsHeldAt f s b = (places_left f b ≡ 0) × (distance s.db b ≡ s.current)
 
 -- a tree in which the edges of `position` from place `next` on are not relaxed yet
 pub record IsTree (f : Ground) (position next : ℕ) (g : Growth) : Type 0 where
-  pub spread : IsSpread f.field position next g.spread g.best
-  pub ends : EndsAt f.field g.spread g.best g.best_record
+  pub spread : IsSpread f.field position next g.spread
+  pub ends : EndsAt f.field g.spread g.spread.best g.spread.best_record
   pub pending : (b : ℕ) → distance g.spread.db b < far → IsPending f g.spread g.held b
   pub held_at : (b : ℕ) → g.held ≡ Some b → IsHeldAt f g.spread b
 
 -- the growth with other entries waiting
 abbrev pub with_waiting : List (ℕ × ℕ) → Growth → Growth
-with_waiting waiting g = record g { spread = record g.spread { frontier = waiting } }
+with_waiting waiting g = record g { spread = waits_for waiting g.spread }
 
 -- a record of A joins the tree
 pub record Joins (f : Ground) (old new : Growth) (position dist : ℕ) : Type 0 where
-  pub spread : JoinsSpread old.spread new.spread position dist
+  pub nearer : Bool
+  pub spread : JoinsSpread old.spread new.spread position dist (dist + number f.field.price_a.now position) nearer
   pub held : new.held ≡ old.held
-  pub best : new.best ≡ min old.best (dist + number f.field.price_a.now position)
-  pub best_record : ((new.best ≡ old.best) × (new.best_record ≡ old.best_record)) ⊎ ((new.best ≡ dist + number f.field.price_a.now position) × (new.best_record ≡ position))
-
--- the least end of two, with its record
-pub record Improves (old new : Tree) (position end : ℕ) : Type 0 where
-  pub rest : new ≡ record old { best = new.best; best_record = new.best_record }
-  pub best : new.best ≡ min old.best end
-  pub best_record : ((new.best ≡ old.best) × (new.best_record ≡ old.best_record)) ⊎ ((new.best ≡ end) × (new.best_record ≡ position))
 
 -- a tree that is grown to an end: at a record of B with a place left, or at a record of A that stands in it
 pub record IsGrown (f : Ground) (g : Growth) (end : ℕ) (free : Option ℕ) (last : ℕ) : Type 0 where
   pub tree : IsTree f 0 (length f.field.edges.now) g
-  pub before_best : end ≤ g.best
-  pub after : g.spread.current ≤ end
-  pub least : (x : ℕ × ℕ) → Contains g.spread.frontier x → end ≤ x.0
+  pub stopped : HasStopped f.field g.spread (HasPlace f.seats.now.left.items) end free last
   pub held : (b : ℕ) → g.held ≡ Some b → end ≤ distance g.spread.db b
-  pub stop : StopsAt g.spread (HasPlace f.seats.now.left.items) end free last
-  pub paid : IsNone free → EndsAt f.field g.spread end last
 
 -- a tree that is grown to an end, over the entries that waited when it ended
 abbrev pub HasGrown : Ground → Growth → ℕ → Option ℕ → ℕ → Type 0

@@ -3,7 +3,8 @@ use Rattle.std.specs.Prelude.{◌≡◌, ◌≤◌, ℕ, List, length, None, rep
 use Rattle.assignment_steps.specs.declared.market.Edge.{Edge}
 use Rattle.capacity_assign.specs.declared.start.Prices.{Prices}
 use Rattle.capacity_assign.specs.declared.start.Start.{Start}
-use Rattle.capacity_assign.specs.Final.{AreClosed, AreEmpty, ReachAll}
+use Rattle.capacity_assign.specs.Final.{AreClosed, AreEmpty}
+use Rattle.assignment_steps.specs.Between.{ReachAll}
 use Rattle.assignment_steps.specs.Reached.{IsClean}
 use Rattle.capacity_assign.specs.Seating.{seating}
 

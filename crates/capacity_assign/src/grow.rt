@@ -2,13 +2,13 @@
 ghost use Rattle.std.specs.Prelude.{◌≡◌, ◌+◌, ◌-◌, ◌<◌, ◌≤◌, ℕ, length, ◌∷◌, None, Some, MatchBool, false};
 ghost use Rattle.link_limits.specs.declared.TheConstants.{MOST_VALUE};
 ghost use Rattle.assignment_steps.specs.Market.{number, IsRising};
-ghost use Rattle.capacity_assign.specs.Growth.{IsTree, growth, IsReady, Joins, Improves, HasGrown, with_waiting, places_left, IsGrown};
+ghost use Rattle.capacity_assign.specs.Growth.{IsTree, growth, IsReady, Joins, HasGrown, with_waiting, places_left, IsGrown};
 ghost use Rattle.assignment_steps.specs.Spread.{IsNearest, edge_of};
 ghost use Rattle.assignment_steps.specs.Reached.{HasRoomForRecords, work, FitsQueue, IsClean};
 ghost use Rattle.assignment_steps.specs.Distances.{distance, far};
 
-use crate::market::{Ground, Grown, Tree};
-use assignment_steps::{FARTHEST, Near, reach_over};
+use crate::market::{Ground, Tree};
+use assignment_steps::{FARTHEST, Grown, Near};
 
 /// Notes a shorter way over the edge `k` from its record of A, which joined the tree last.
 fn relax(ground: Ground<'_>, tree: &mut Tree, k: usize)
@@ -26,14 +26,10 @@ fn relax(ground: Ground<'_>, tree: &mut Tree, k: usize)
     ensures held { tree.new.held ≡ tree.old.held }
     ensures dist_a { tree.new.reached.dist_a.items ≡ tree.old.reached.dist_a.items }
 {
+    let Some(far) = tree.reached.nearer_over(ground.field, k) else {
+        return;
+    };
     let b = ground.field.edges[k].b as usize;
-    let far = reach_over(ground.field, &tree.reached.dist_a, k);
-    if tree.best <= far {
-        return;
-    }
-    if tree.reached.dist_b[b] <= far {
-        return;
-    }
     let first = ground.seats.left[b] > 0;
     tree.reached.reach(b, k, far, first);
 }
@@ -49,18 +45,8 @@ fn join(ground: Ground<'_>, tree: &mut Tree, position: usize, dist: u64)
     ensures room { HasRoomForRecords (length ground.entry.field.price_a.now) (length ground.entry.field.price_b.now) tree.new.reached }
     ensures queue { tree.new.reached.frontier ≡ tree.old.reached.frontier }
 {
-    tree.reached.join(position, dist);
-    improve(tree, position, dist + ground.field.price_a[position]);
-}
-
-/// Keeps the least end that a record of A gives.
-fn improve(tree: &mut Tree, position: usize, end: u64)
-    ensures { Improves tree.old tree.new position end }
-{
-    if end < tree.best {
-        tree.best = end;
-        tree.best_record = position;
-    }
+    let price = ground.field.price_a[position];
+    let _ = tree.reached.join(position, dist, price);
 }
 
 /// Relaxes the edges of the record of A that joined last.
@@ -118,7 +104,7 @@ fn join_seat(ground: Ground<'_>, tree: &mut Tree, n: usize)
 /// The record of B that is the nearest, and has no place left, is held.
 fn hold(ground: Ground<'_>, tree: &mut Tree, near: Near)
     requires full { places_left ground near.position ≡ 0 }
-    requires useful { near.distance < tree.old.best }
+    requires useful { near.distance < tree.old.reached.best }
     requires exact { distance tree.old.reached.dist_b.items near.position ≡ near.distance }
     requires nearest { IsNearest ((near.distance, near.position) ∷ tree.old.reached.frontier.waiting) near }
     requires held { tree.old.held ≡ None }
@@ -137,14 +123,14 @@ fn settle(ground: Ground<'_>, tree: &mut Tree, near: Near) -> bool
     requires rising { IsRising ground.field.edges.now }
     requires inside { near.position < length ground.field.price_b.now }
     requires full { places_left ground near.position ≡ 0 }
-    requires useful { near.distance < tree.old.best }
+    requires useful { near.distance < tree.old.reached.best }
     requires exact { distance tree.old.reached.dist_b.items near.position ≡ near.distance }
     requires nearest { IsNearest ((near.distance, near.position) ∷ tree.old.reached.frontier.waiting) near }
     requires held { tree.old.held ≡ None }
     requires tree { IsTree ground 0 (length ground.field.edges.now) (with_waiting ((near.distance, near.position) ∷ tree.old.reached.frontier.waiting) (growth tree.old)) }
     requires room { HasRoomForRecords (length ground.field.price_a.now) (length ground.field.price_b.now) tree.old.reached }
     requires queue { FitsQueue ground.field.edges.now 0 (length ground.field.edges.now) tree.old.reached }
-    ensures tree { MatchBool result (IsTree ground.entry 0 (length ground.entry.field.edges.now) (growth tree.new)) (IsGrown ground.entry (growth tree.new) tree.new.best None tree.new.best_record) }
+    ensures tree { MatchBool result (IsTree ground.entry 0 (length ground.entry.field.edges.now) (growth tree.new)) (IsGrown ground.entry (growth tree.new) tree.new.reached.best None tree.new.reached.best_record) }
     ensures held { MatchBool result (tree.new.held ≡ None) (Unit {0}) }
     ensures room { HasRoomForRecords (length ground.entry.field.price_a.now) (length ground.entry.field.price_b.now) tree.new.reached }
     ensures work { work ground.entry.field.edges.now 0 (length ground.entry.field.edges.now) tree.new.reached ≤ work ground.entry.field.edges.now 0 (length ground.entry.field.edges.now) tree.old.reached }
@@ -153,7 +139,7 @@ fn settle(ground: Ground<'_>, tree: &mut Tree, near: Near) -> bool
     hold(ground, tree, near);
     let mut next = ground.seats.last[near.position];
     while let Some(n) = next {
-        if tree.best <= near.distance {
+        if tree.reached.best <= near.distance {
             return false;
         }
         join_seat(ground, tree, n);
@@ -161,19 +147,6 @@ fn settle(ground: Ground<'_>, tree: &mut Tree, near: Near) -> bool
     }
     tree.held = None;
     true
-}
-
-/// The end at the record of A with the least end.
-fn best_end(tree: &Tree) -> Grown
-    ensures end { result.end ≡ tree.now.best }
-    ensures free { result.free ≡ None }
-    ensures last { result.last ≡ tree.now.best_record }
-{
-    Grown {
-        end: tree.best,
-        free: None,
-        last: tree.best_record,
-    }
 }
 
 /// Grows the tree until a record of B with a place left is the nearest, or no record of B is nearer than an end
@@ -190,8 +163,8 @@ pub fn grow(ground: Ground<'_>, tree: &mut Tree) -> Grown
     ensures queue { tree.old.reached.frontier.room ≤ tree.new.reached.frontier.room }
 {
     while let Some(near) = tree.reached.frontier.take() {
-        if tree.best <= near.distance {
-            return best_end(tree);
+        if tree.reached.best <= near.distance {
+            return tree.reached.nearest_end(None);
         }
         if tree.reached.dist_b[near.position] < near.distance {
             continue;
@@ -204,10 +177,10 @@ pub fn grow(ground: Ground<'_>, tree: &mut Tree) -> Grown
             };
         }
         if !settle(ground, tree, near) {
-            return best_end(tree);
+            return tree.reached.nearest_end(None);
         }
     }
-    best_end(tree)
+    tree.reached.nearest_end(None)
 }
 
 /// Begins a tree with its root.
@@ -222,7 +195,7 @@ fn plant(ground: Ground<'_>, tree: &mut Tree)
     ensures queue { tree.old.reached.frontier.room ≤ tree.new.reached.frontier.room }
     ensures held { tree.new.held ≡ None }
 {
-    tree.best = FARTHEST;
+    tree.reached.best = FARTHEST;
     tree.held = None;
     join(ground, tree, ground.field.root, 0);
     relax_record(ground, tree, ground.field.root);

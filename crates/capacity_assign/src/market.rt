@@ -31,21 +31,10 @@ pub struct Ground<'a> {
     pub seats: &'a Seats,
 }
 
-/// An alternating tree as it grows, with what it has reached. The nearest end at a record of A so far is at the distance
-/// `best`, where `best_record` would give its link up. `held` is the record of B whose records of A are joining.
+/// An alternating tree as it grows, with what it has reached: its nearest end so far is at a record of A. `held` is the
+/// record of B whose records of A are joining.
 #[derive(Drop)]
 pub struct Tree {
     pub reached: Reached,
-    pub best: u64,
-    pub best_record: usize,
     pub held: Option<usize>,
-}
-
-/// Where a tree ends: the distance, the record of B with a place left that is there, if one is, and else the
-/// record of A that gives its link up.
-#[derive(Clone, Copy)]
-pub struct Grown {
-    pub end: u64,
-    pub free: Option<usize>,
-    pub last: usize,
 }

@@ -8,7 +8,7 @@ ghost use Rattle.capacity_assign.specs.Round.{IsBetweenRounds, KeepsCapacities};
 ghost use Rattle.capacity_assign.specs.Seating.{AreSeats, HasPlace, seating};
 
 use crate::grow::search;
-use crate::market::{Ground, Grown, Hole, Seats, Tree};
+use crate::market::{Ground, Hole, Seats, Tree};
 use crate::seats::add_seat;
 use crate::walk::walk;
 use assignment_steps::{Edge, Field, Net, Ways};

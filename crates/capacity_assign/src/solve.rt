@@ -1,8 +1,8 @@
 // From candidates to a greatest list with its prices.
-ghost use Rattle.std.specs.Prelude.{◌≡◌, ◌-◌, ◌<◌, ◌≤◌, ℕ, length, IfOk};
+ghost use Rattle.std.specs.Prelude.{◌≡◌, ◌<◌, ◌≤◌, ℕ, length, IfOk};
 ghost use Rattle.price_check.specs.Capacities.{capacity_of};
-ghost use Rattle.assignment_steps.specs.Market.{number, edge, IsInRange, AreSmall};
-ghost use Rattle.capacity_assign.specs.Final.{AreClosed, AreEmpty, ReachAll};
+ghost use Rattle.assignment_steps.specs.Market.{number, edge, AreSmall};
+ghost use Rattle.capacity_assign.specs.Final.{AreClosed, AreEmpty};
 ghost use Rattle.capacity_assign.specs.Seating.{seating};
 ghost use Rattle.link_limits.specs.declared.TheConstants.{MOST_VALUE};
 ghost use Rattle.assignment_steps.specs.Reached.{IsClean};
@@ -40,26 +40,6 @@ fn close(prices: &mut [u64], capacity: &[u32], edge: Edge)
     raise_to(prices, edge.b as usize, edge.value as u64);
 }
 
-/// For each record of A the most by which the value of one of its edges passes the price of B, or 0.
-pub fn first_prices(
-    alloc: Global,
-    edges: &[Edge],
-    price_b: &[u64],
-    rows_a: usize,
-) -> Result<Vec<u64>, NoMemory>
-    requires small { AreSmall edges.now }
-    requires in_range { IsInRange edges.now rows_a (length price_b.now) }
-    ensures { IfOk result (λ v. ReachAll edges.now rows_a v.items price_b.now) }
-{
-    let mut prices = vec![in alloc; 0u64; rows_a]?;
-    for k in 0..edges.len() {
-        let edge = edges[k];
-        let lacks = (edge.value as u64).saturating_sub(price_b[edge.b as usize]);
-        raise_to(&mut prices, edge.a as usize, lacks);
-    }
-    Ok(prices)
-}
-
 /// Seats before any is taken.
 pub fn no_seats(alloc: Global, rows_a: usize, capacity: &[u32]) -> Result<Seats, NoMemory>
     ensures { IfOk result (λ s. AreEmpty rows_a capacity.now (seating s)) }
@@ -94,8 +74,6 @@ pub fn clean_tree(
     let reached = Reached::new(alloc, rows_a, rows_b, edges)?;
     Ok(Tree {
         reached,
-        best: 0,
-        best_record: 0,
         held: None,
     })
 }

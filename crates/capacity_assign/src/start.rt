@@ -7,8 +7,8 @@ ghost use Rattle.capacity_assign.specs.Solution.{HasSmallValue};
 ghost use Rattle.capacity_assign.specs.Start.{AreFirstPrices, IsAtStart};
 
 use crate::market::{Seats, Tree};
-use crate::solve::{clean_tree, closed_prices, first_prices, no_seats};
-use assignment_steps::{Edge, edges_of, no_links, starts_of};
+use crate::solve::{clean_tree, closed_prices, no_seats};
+use assignment_steps::{Edge, edges_of, first_prices, no_links, starts_of};
 use link_base::{Candidate, NoMemory};
 use std::alloc::Global;
 

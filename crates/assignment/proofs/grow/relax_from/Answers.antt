@@ -11,7 +11,7 @@ use Rattle.assignment.proofs.Growing.{tree_ended, tree_passed_to, tree_skip}
 use Rattle.assignment.proofs.grow.relax_from.Goals as goal
 
 -- an edge that does not reach nearer than the nearest end is of no use
-useless : (f : Ground) (g : Growth) (position base j : ℕ) → distance g.spread.da position ≡ g.spread.current → base ≡ g.spread.current + number f.field.price_a.now position → (edge_of f.field j).a ≡ position → g.best + (edge_of f.field j).value ≤ base + number f.field.price_b.now (edge_of f.field j).b → IsRelaxed f.field g.spread g.best j
+useless : (f : Ground) (g : Growth) (position base j : ℕ) → distance g.spread.da position ≡ g.spread.current → base ≡ g.spread.current + number f.field.price_a.now position → (edge_of f.field j).a ≡ position → g.spread.best + (edge_of f.field j).value ≤ base + number f.field.price_b.now (edge_of f.field j).b → IsRelaxed f.field g.spread j
 useless f g position base j last is same passed =
     let near : distance g.spread.da (edge_of f.field j).a ≡ g.spread.current = ap (distance g.spread.da) same ∙ last in
     let price : number f.field.price_a.now (edge_of f.field j).a ≡ number f.field.price_a.now position = ap (number f.field.price_a.now) same in

@@ -5,7 +5,7 @@ use Rattle.assignment_steps.proofs.EdgesOf.{none_linked}
 use Rattle.assignment.proofs.side.other_if_less.Goals as goal
 
 pub first_side-requires : goal.first_side-requires
-first_side-requires c = record { reach = c.requires.reach; in_range = c.requires.in_range }
+first_side-requires c = record { reach = c.requires.reach; none = c.requires.none; in_range = c.requires.in_range }
 
 pub returns-then-sum_of-clause-chosen : goal.returns-then-sum_of-clause-chosen
 returns-then-sum_of-clause-chosen c = sym (le-ltb _ _ (rw (c.sum_of.ensures, c.deref.ensures.value, c.sum_of-2.ensures) at c.if-sum_of.true))
@@ -17,11 +17,11 @@ pub returns-in-Ok-clause-other : goal.returns-in-Ok-clause-other
 returns-in-Ok-clause-other c =
     let rows_a = length c.args.price_a.now in
     let rows_b = c.len-rows_b.result in
-    let same : rows_b ≡ length c.args.price_b.items = omega (arith, c.len-rows_b.ensures, c.args.price_b.ok.0) in
+    let same : rows_b ≡ length c.args.other_a.items = omega (arith, c.len-rows_b.ensures, c.args.other_a.ok.0) in
     let free = c.in-Ok.ensures in
     record {
       side = c.in_ok-side.ensures.side;
-      count_a = c.in_ok-side.ensures.rows_b;
+      count_a = c.in_ok-side.ensures.rows_b ∙ c.requires.rows;
       count_b = c.in_ok-side.ensures.rows_a;
       links_a = ap length free.a ∙ length-replicate rows_a None;
       links_b = ap length free.b ∙ (length-replicate rows_b None ∙ same);

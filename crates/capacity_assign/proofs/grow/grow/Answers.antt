@@ -14,7 +14,7 @@ returns-then-tree-near-clause-grown c =
     let i = c.loop-near.invariant in
     let near = nearest_taken c.loop-near.tree.reached.frontier.waiting c.in-Some.near c.take.new.self.waiting e.inside e.least e.stays in (
       c.loop-near.tree.reached.frontier.waiting,
-      rw (c.best_end.ensures.end, c.best_end.ensures.free, c.best_end.ensures.last)
+      rw (c.nearest_end.ensures.end, c.nearest_end.ensures.free, c.nearest_end.ensures.last)
           (grown_best c.args.ground (growth c.loop-near.tree) i.tree i.held (λ x h. omega (arith, near.least x h, c.if-tree-near.true))),
     )
 
@@ -60,12 +60,8 @@ returns-then-index-gt0-clause-grown c =
       t.reached.frontier.waiting,
       record {
         tree = i.tree;
-        before_best = omega (arith, c.if-tree-near.false);
-        after = late.0;
-        least = near.least;
+        stopped = record { before_best = omega (arith, c.if-tree-near.false); after = late.0; least = near.least; stop = (some, exact); paid = λ none. absurd (let clash = none in cc) };
         held = λ b is. absurd (let none = i.held in cc);
-        stop = (some, exact);
-        paid = λ none. absurd (let clash = none in cc);
       },
     )
 
@@ -100,7 +96,7 @@ pub returns-clause-grown : goal.returns-clause-grown
 returns-clause-grown c =
     let i = c.loop-near.invariant in (
       c.loop-near.tree.reached.frontier.waiting,
-      rw (c.best_end-2.ensures.end, c.best_end-2.ensures.free, c.best_end-2.ensures.last)
+      rw (c.nearest_end-2.ensures.end, c.nearest_end-2.ensures.free, c.nearest_end-2.ensures.last)
           (grown_best c.args.ground (growth c.loop-near.tree) i.tree i.held (λ x h. absurd (c.in_default.ensures.inside x h))),
     )
 
@@ -152,7 +148,7 @@ settle-requires-clause-queue c = omega (arith, c.loop-near.invariant.fits, c.in-
 
 pub returns-then-not-settle-clause-grown : goal.returns-then-not-settle-clause-grown
 returns-then-not-settle-clause-grown c =
-    let end = c.best_end-then-not-settle.ensures in
+    let end = c.nearest_end-then-not-settle.ensures in
     (c.settle.new.tree.reached.frontier.waiting, rw (end.end, end.free, end.last) (rw c.if-not-settle.true at c.settle.ensures.tree))
 
 pub returns-then-not-settle-clause-room : goal.returns-then-not-settle-clause-room

@@ -6,12 +6,10 @@ pub join-requires-clause-room : goal.join-requires-clause-room
 join-requires-clause-room c = room_own _ _ c.args.tree.now.reached c.requires.room
 
 pub returns-clause-joins : goal.returns-clause-joins
-returns-clause-joins c = rw c.improve.ensures.rest (record { spread = c.join.ensures.joins; held = refl; best = c.improve.ensures.best; best_record = c.improve.ensures.best_record })
+returns-clause-joins c = record { nearer = c.join.result; spread = c.join.ensures.joins; held = refl }
 
 pub returns-clause-room : goal.returns-clause-room
-returns-clause-room c =
-    let room = c.requires.room in
-    rw c.improve.ensures.rest (room_at _ _ (length c.args.ground.field.price_a.now) (length c.args.ground.field.price_b.now) c.join.new.self (sym room.of_a) (sym room.of_b) c.join.ensures.room)
+returns-clause-room c = (let room = c.requires.room in room_at _ _ (length c.args.ground.field.price_a.now) (length c.args.ground.field.price_b.now) c.join.new.self (sym room.of_a) (sym room.of_b) c.join.ensures.room)
 
 pub returns-clause-queue : goal.returns-clause-queue
-returns-clause-queue c = rw c.improve.ensures.rest (ap (λ r. r.frontier) c.join.ensures.rest)
+returns-clause-queue c = ap (λ r. r.frontier) c.join.ensures.rest

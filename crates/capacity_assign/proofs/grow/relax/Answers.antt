@@ -1,33 +1,28 @@
-use Rattle.std.proofs.Common.{length, ◌≡◌, ◌+◌, ◌<◌, refl, sym, arith}
-use Rattle.std.proofs.lemmas.List.{get_or_read}
+use Rattle.std.proofs.Common.{length, ◌+◌, ◌<◌, refl, sym, ap, arith}
 use Rattle.capacity_assign.specs.Growth.{growth}
-use Rattle.assignment_steps.specs.Spread.{IsRelaxed, edge_of, paid}
+use Rattle.assignment_steps.specs.Spread.{IsNearer, edge_of, spread}
 use Rattle.assignment_steps.specs.Distances.{distance, far}
 use Rattle.assignment_steps.proofs.Count.{left_later, left_relaxed}
 use Rattle.assignment_steps.proofs.Noted.{room_at, room_own}
 use Rattle.capacity_assign.proofs.Growing.{tree_passed, tree_reached}
 use Rattle.capacity_assign.proofs.grow.relax.Goals as goal
 
-pub reach_over-far-requires : goal.reach_over-far-requires
-reach_over-far-requires c =
-    let t = c.args.tree.now in
-    record {
-      place = c.requires.place;
-      ready = c.requires.ready.field;
-      records = rw c.deref.ensures.value (omega (arith, c.requires.room.of_a, t.reached.dist_a.ok.0));
-      near = rw c.deref.ensures.value (omega (arith, c.requires.last, c.requires.tree.spread.now, c.requires.tree.spread.best_small));
-    }
+pub nearer_over-requires : goal.nearer_over-requires
+nearer_over-requires c = record {
+  place = c.requires.place;
+  ready = c.requires.ready.field;
+  room = c.requires.room;
+  near = omega (arith, c.requires.last, c.requires.tree.spread.now, c.requires.tree.spread.best_small);
+}
 
-pub returns-then-tree-far : goal.returns-then-tree-far
-returns-then-tree-far c =
+pub returns-in_default : goal.returns-in_default
+returns-in_default c =
     let t = c.args.tree.now in
     let f = c.args.ground in
     let k = c.args.k in
-    let exact : c.reach_over-far.result + (edge_of f.field k).value ≡ distance t.reached.dist_a.items (edge_of f.field k).a + paid f.field k = rw c.deref.ensures.value at c.reach_over-far.ensures in
-    let here : IsRelaxed f.field (growth t).spread (growth t).best k = omega (arith, exact) in
     let fewer = left_later f.field.edges.now t.reached.dist_a.items (edge_of f.field k).a k (k + 1) (omega arith) in
     record {
-      tree = tree_passed f k (growth t) c.requires.tree here;
+      tree = tree_passed f k (growth t) c.requires.tree (rw c.in_default.is at c.nearer_over.ensures);
       room = c.requires.room;
       work = omega (arith, fewer);
       queue = omega arith;
@@ -37,48 +32,22 @@ returns-then-tree-far c =
     }
 
 pub index-requires : goal.index-requires
-index-requires c = omega (arith, c.requires.ready.field.in_range.record_b c.args.k c.requires.place, c.requires.room.of_b)
-
-pub returns-then-index-far : goal.returns-then-index-far
-returns-then-index-far c =
-    let t = c.args.tree.now in
-    let f = c.args.ground in
-    let k = c.args.k in
-    let b = (edge_of f.field k).b in
-    let records : b < length t.reached.dist_b.items = omega (arith, c.requires.ready.field.in_range.record_b k c.requires.place, c.requires.room.of_b, t.reached.dist_b.ok.0) in
-    let exact : c.reach_over-far.result + (edge_of f.field k).value ≡ distance t.reached.dist_a.items (edge_of f.field k).a + paid f.field k = rw c.deref.ensures.value at c.reach_over-far.ensures in
-    let read = get_or_read t.reached.dist_b.items b c.index.result.now records c.index.ensures far in
-    let here : IsRelaxed f.field (growth t).spread (growth t).best k = omega (arith, exact, read) in
-    let fewer = left_later f.field.edges.now t.reached.dist_a.items (edge_of f.field k).a k (k + 1) (omega arith) in
-    record {
-      tree = tree_passed f k (growth t) c.requires.tree here;
-      room = c.requires.room;
-      work = omega (arith, fewer);
-      queue = omega arith;
-      current = refl;
-      held = refl;
-      dist_a = refl;
-    }
-
-pub index-requires-2 : goal.index-requires-2
-index-requires-2 c = omega (arith, c.requires.ready.field.in_range.record_b c.args.k c.requires.place, c.requires.ready.rows_b)
+index-requires c = omega (arith, c.requires.ready.field.in_range.record_b c.args.k c.requires.place, c.requires.ready.rows_b)
 
 pub reach-requires : goal.reach-requires
 reach-requires c =
     let t = c.args.tree.now in
     let f = c.args.ground in
     let k = c.args.k in
-    let b = (edge_of f.field k).b in
     let r = c.requires.room in
     let inside = c.requires.ready.field.in_range.record_b k c.requires.place in
-    let records : b < length t.reached.dist_b.items = omega (arith, inside, r.of_b, t.reached.dist_b.ok.0) in
-    let read = get_or_read t.reached.dist_b.items b c.index.result.now records c.index.ensures far in
+    let nearer : IsNearer f.field (spread t.reached) k c.in-Some.far = rw c.in-Some.is at c.nearer_over.ensures in
     let near : distance t.reached.dist_a.items (edge_of f.field k).a < far = omega (arith, c.requires.last, c.requires.tree.spread.now, c.requires.tree.spread.best_small) in
     let one = left_relaxed f.field.edges.now t.reached.dist_a.items k c.requires.place near in
     record {
       within = omega (arith, inside, r.of_b);
       room = room_own _ _ t.reached r;
-      near = omega (arith, read, c.if-index-far.false);
+      near = nearer.near;
       queue = omega (arith, one, c.requires.queue);
     }
 
@@ -91,12 +60,11 @@ returns c =
     let r = c.requires.room in
     let e = c.reach.ensures in
     let records : b < length t.reached.dist_b.items = omega (arith, c.requires.ready.field.in_range.record_b k c.requires.place, r.of_b, t.reached.dist_b.ok.0) in
-    let exact : c.reach_over-far.result + (edge_of f.field k).value ≡ distance t.reached.dist_a.items (edge_of f.field k).a + paid f.field k = rw c.deref.ensures.value at c.reach_over-far.ensures in
-    let read = get_or_read t.reached.dist_b.items b c.index.result.now records c.index.ensures far in
+    let nearer : IsNearer f.field (spread t.reached) k c.in-Some.far = rw c.in-Some.is at c.nearer_over.ensures in
     let near : distance t.reached.dist_a.items (edge_of f.field k).a < far = omega (arith, c.requires.last, c.requires.tree.spread.now, c.requires.tree.spread.best_small) in
     let one = left_relaxed f.field.edges.now t.reached.dist_a.items k c.requires.place near in
     record {
-      tree = tree_reached f k (growth t) (growth (record t { reached = c.reach.new.self })) c.reach_over-far.result c.requires.place c.requires.ready c.requires.tree c.requires.last exact (omega (arith, read, c.if-index-far.false)) c.if-tree-far.false records (omega (arith, r.of_b, r.of_from, t.reached.dist_b.ok.0, t.reached.from.ok.0)) (r.top b) refl refl refl e.shortens;
+      tree = tree_reached f k (growth t) (growth (record t { reached = c.reach.new.self })) c.in-Some.far c.requires.place c.requires.ready c.requires.tree c.requires.last nearer records (omega (arith, r.of_b, r.of_from, t.reached.dist_b.ok.0, t.reached.from.ok.0)) (r.top b) (ap (λ u. u.best) e.rest) (ap (λ u. u.best_record) e.rest) refl e.shortens;
       room = room_at _ _ _ _ c.reach.new.self (sym r.of_a) (sym r.of_b) e.room;
       work = rw e.shortens.da (omega (arith, one, e.count));
       queue = e.queue;

@@ -1,9 +1,9 @@
 use Rattle.std.proofs.Common.{length, arith}
 use Rattle.capacity_assign.specs.Growth.{growth, with_waiting}
 use Rattle.capacity_assign.specs.Seating.{HasPlace, seating}
-use Rattle.assignment_steps.proofs.Arrived.{done_kept, falls_within, root_done, searchable, stop_free, stop_within}
+use Rattle.assignment_steps.proofs.Arrived.{done_kept, falls_within, root_done, searchable, stop_free, stop_within, ways_after}
 use Rattle.assignment_steps.specs.Spread.{spread}
-use Rattle.capacity_assign.proofs.Rounds.{between_after, lower, paid_up, tight_after, ways_on}
+use Rattle.capacity_assign.proofs.Rounds.{between_after, tight_after}
 use Rattle.capacity_assign.proofs.round.take_up.Goals as goal
 
 pub search-grown-requires : goal.search-grown-requires
@@ -29,10 +29,10 @@ shift-requires c =
     let grown = c.search-grown.ensures.grown.1 in
     record {
       room = c.search-grown.ensures.room;
-      end = omega (arith, grown.before_best, grown.tree.spread.best_small);
+      end = omega (arith, grown.stopped.before_best, grown.tree.spread.best_small);
       noted_a = grown.tree.spread.noted_a;
       noted_b = grown.tree.spread.noted_b;
-      falls = falls_within _ _ _ _ _ _ grown.tree.spread grown.before_best;
+      falls = falls_within _ _ _ _ _ grown.tree.spread grown.stopped.before_best;
       small = c.requires.between.priced.small_b;
     }
 
@@ -49,10 +49,10 @@ turn-requires c =
       tight = tight_after _ g s.result.end s.result.free s.result.last c.shift.new.price_a c.shift.new.price_b s.ensures.ready s.ensures.grown.1 falls rises w.priced.tight;
       seats = w.seated;
       root = (omega (arith, c.requires.root, w.priced.rows_a), c.requires.free);
-      last = stop_within (spread s.new.tree.reached) (HasPlace c.args.seats.now.left.items) s.result.end s.result.free s.result.last (length c.args.link_a.now) (omega (arith, s.ensures.room.of_a, s.new.tree.reached.dist_a.ok.0, w.priced.rows_a)) s.ensures.grown.1.stop;
-      free = stop_free (spread s.new.tree.reached) (HasPlace c.args.seats.now.left.items) s.result.end s.result.free s.result.last s.ensures.grown.1.stop;
+      last = stop_within (spread s.new.tree.reached) (HasPlace c.args.seats.now.left.items) s.result.end s.result.free s.result.last (length c.args.link_a.now) (omega (arith, s.ensures.room.of_a, s.new.tree.reached.dist_a.ok.0, w.priced.rows_a)) s.ensures.grown.1.stopped.stop;
+      free = stop_free (spread s.new.tree.reached) (HasPlace c.args.seats.now.left.items) s.result.end s.result.free s.result.last s.ensures.grown.1.stopped.stop;
       leads = rw (c.deref.ensures.value, c.deref-2.ensures.value, c.shift.ensures.from, c.shift.ensures.rank)
-          (ways_on _ g s.result.end s.result.free s.result.last c.shift.new.price_a c.shift.new.price_b s.ensures.ready s.ensures.grown.1 falls rises);
+          (ways_after _ g.spread _ s.result.end s.result.free s.result.last c.shift.new.price_a c.shift.new.price_b s.ensures.ready.field s.ensures.grown.1.tree.spread s.ensures.grown.1.stopped falls rises);
     }
 
 pub returns : goal.returns
@@ -66,8 +66,8 @@ returns c =
       between = between_after _ g s.result.end s.result.free s.result.last c.shift.new.price_a c.shift.new.price_b s.ensures.ready s.ensures.grown.1 falls rises
           c.turn.new.link_a (seating c.turn.new.seats) c.requires.listed.small c.requires.between c.shift.auto.price_a c.shift.auto.price_b t.turned.count t.rows_b t.linked t.tight t.seats t.vacant t.places;
       places = t.places;
-      kept = done_kept _ _ _ _ _ _ _ (lower _ g s.result.end s.result.free s.result.last c.shift.new.price_a c.shift.new.price_b s.ensures.ready s.ensures.grown.1 falls rises) (paid_up _ g s.result.end s.result.free s.result.last c.shift.new.price_a c.shift.new.price_b s.ensures.ready s.ensures.grown.1 falls rises) t.turned;
-      done = root_done _ _ _ _ _ _ _ (lower _ g s.result.end s.result.free s.result.last c.shift.new.price_a c.shift.new.price_b s.ensures.ready s.ensures.grown.1 falls rises) (paid_up _ g s.result.end s.result.free s.result.last c.shift.new.price_a c.shift.new.price_b s.ensures.ready s.ensures.grown.1 falls rises) t.turned;
+      kept = done_kept _ g.spread _ s.result.end s.result.free s.result.last c.shift.new.price_a c.shift.new.price_b s.ensures.ready.field s.ensures.grown.1.tree.spread s.ensures.grown.1.stopped falls rises c.turn.new.link_a t.turned;
+      done = root_done _ g.spread _ s.result.end s.result.free s.result.last c.shift.new.price_a c.shift.new.price_b s.ensures.ready.field s.ensures.grown.1.tree.spread s.ensures.grown.1.stopped falls rises c.turn.new.link_a t.turned;
       tree = record {
         clean = rw (c.shift.auto.price_a, c.shift.auto.price_b) c.shift.ensures.clean;
         queue = omega (arith, c.requires.tree.queue, s.ensures.queue, c.shift.ensures.queue);

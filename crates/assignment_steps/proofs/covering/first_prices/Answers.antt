@@ -3,7 +3,7 @@ use Rattle.std.proofs.lemmas.Bool.{cases_eq}
 use Rattle.std.proofs.lemmas.List.{with_items_is}
 use Rattle.link_limits.specs.declared.TheConstants.{MOST_VALUE}
 use Rattle.assignment_steps.specs.Market.{edge, number}
-use Rattle.capacity_assign.proofs.solve.first_prices.Goals as goal
+use Rattle.assignment_steps.proofs.covering.first_prices.Goals as goal
 
 pub raise_to-requires : goal.raise_to-requires
 raise_to-requires c = rw (c.deref_mut.ensures.value, c.loop-k.invariant.records) (c.requires.in_range.record_a c.loop-k.k c.loop-k-test.true)
