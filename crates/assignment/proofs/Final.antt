@@ -1,16 +1,13 @@
 -- From agreeing links and tight prices to a greatest list with a certificate.
-use Rattle.std.proofs.Common.{◌≡◌, ◌≢◌, ℕ, zero, suc, ◌+◌, ◌<◌, ◌≤◌, ℤ, pos, negsuc, ◌+ℤ◌, ◌≤ℤ◌, List, [], ◌∷◌, length, get_or, Option, Some, None, Bool, true, filter, refl, ap, sym, ◌∙◌, inl, inr, arith}
-use Rattle.std.specs.Prelude.{replicate, All, AllPairs, Contains}
-use Rattle.std.proofs.lemmas.Bool.{cases_eq, cases_lt}
+use Rattle.std.proofs.Common.{◌≡◌, ◌≢◌, ℕ, ◌+◌, ◌≤◌, ℤ, pos, ◌+ℤ◌, ◌≤ℤ◌, List, [], ◌∷◌, length, get_or, Option, Some, None, filter, ap, sym, ◌∙◌, inl, inr, arith}
+use Rattle.std.specs.Prelude.{replicate, All, AllPairs}
 use Rattle.std.proofs.lemmas.Int.{ints}
-use Rattle.std.proofs.lemmas.List.{get_or-set_other, get_or_past, length-replicate}
-use Rattle.std.proofs.lemmas.List.Elements.{All-head, All-tail, All-cons, All-filter, All-contains_itself, All-nil, All-contains, filter_passes}
+use Rattle.std.proofs.lemmas.List.{get_or-set_other, length-replicate}
+use Rattle.std.proofs.lemmas.List.Elements.{All-head, All-tail, All-cons, All-contains_itself, All-nil, All-contains}
 use Rattle.link_base.specs.declared.rule.Candidate.{Candidate}
-use Rattle.price_check.specs.Assignment.{price_sum, price_of, worth, greatest_value, IsBefore, SharesNoRecord, IsCovered, IsOneToOne, Certifies}
+use Rattle.price_check.specs.Assignment.{price_sum, price_of, worth, greatest_value, IsBefore, SharesNoRecord, IsOneToOne, Certifies}
 use Rattle.price_check.proofs.Duality.{without, absent-without, IsTight, price_sum-without, price_sum-zero, AllPairs-head, AllPairs-tail}
 use Rattle.price_check.proofs.Bounds.{bounded_by_links}
-use Rattle.price_check.proofs.Members.{Contains-filter, clash, same_member}
-use Rattle.std.proofs.lemmas.List.Kept.{AllPairs-filter}
 use Rattle.assignment_steps.specs.declared.market.Edge.{Edge}
 use Rattle.assignment_steps.specs.Market.{link, edge, number, IsInRange}
 use Rattle.assignment_steps.specs.Between.{HasNoLink, IsBetween, ReachAll}

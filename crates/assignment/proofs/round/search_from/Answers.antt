@@ -1,4 +1,4 @@
-use Rattle.std.proofs.Common.{◌<◌, length, arith}
+use Rattle.std.proofs.Common.{length, arith}
 use Rattle.assignment.specs.Growth.{growth, with_waiting}
 use Rattle.assignment_steps.specs.Between.{HasNoLink}
 use Rattle.assignment_steps.specs.Spread.{spread, waits_for}
