@@ -33,9 +33,9 @@ impl Room {
         ensures { IfOk result (λ ids. ids ≡ []) }
     {
         if head.has_id {
-            return IdSet::with_capacity(alloc, self.rows as usize);
+            return IdSet::with_capacity(alloc, self.rows);
         }
-        Ok(IdSet::new(alloc))
+        IdSet::new(alloc)
     }
 }
 

@@ -14,7 +14,7 @@ fn add(alloc: Global, ids: &mut IdSet, id: &[u8]) -> Result<(), Fail> {
 #[test]
 fn an_id_is_kept_once_and_found(rt: HostRuntime) -> Result<(), Fail> {
     let alloc = rt.alloc();
-    let mut ids = IdSet::new(alloc);
+    let mut ids = IdSet::new(alloc)?;
     for id in ["A1", "A2", "A1"] {
         add(alloc, &mut ids, id.as_bytes())?;
     }

@@ -46,12 +46,12 @@ fn no_records(alloc: Global) -> Result<StdFile, NoMemory>
     ensures { IfOk result (λ file. file ≡ []) }
 {
     let rows = RowsWriter::with_capacity(alloc, 0, 0)?;
-    Ok(StdFile::of(IdSet::new(alloc), rows.finish()))
+    Ok(StdFile::of(IdSet::new(alloc)?, rows.finish()))
 }
 
 // A file of one record without values.
 fn one_record(alloc: Global) -> Result<StdFile, NoMemory> {
-    let mut ids = IdSet::new(alloc);
+    let mut ids = IdSet::new(alloc)?;
     ids.keep(alloc, b"A1")?;
     let mut rows = RowsWriter::with_capacity(alloc, 1, 0)?;
     rows.close()?;

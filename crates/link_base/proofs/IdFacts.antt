@@ -1,14 +1,18 @@
 -- Where an id stands among those that are held, whether it does, and that no one stands twice.
 use Rattle.std.proofs.Common.{◌≡◌, ◌≢◌, ◌^◌, ◌∷◌, ◌++◌, ◌∙◌, ◌+◌, ◌<◌, ◌≤◌, ℕ, suc, Bool, true, false, List, [], Option, Some, None, arith, ap, bytes_eq, inl, inr, length, get_or, nat_lt, refl, sym}
-use Rattle.std.specs.Prelude.{if◌then◌else◌}
+use Rattle.std.specs.Prelude.{IfSome, if◌then◌else◌, is_some, slice_get}
 use Rattle.std.specs.List.{list_any, position_or_len}
 use Rattle.std.proofs.lemmas.Bool.{cases_Bool}
 use Rattle.std.proofs.lemmas.Bool.Decides.{nat_tests}
-use Rattle.std.proofs.lemmas.List.{length_push}
+use Rattle.std.proofs.lemmas.List.{get_or_append_left, length_push}
 use Rattle.std.proofs.lemmas.List.Quantifiers.{all_pairs_push}
 use Rattle.std.proofs.lemmas.List.Sums.{fails_before_first}
+use Rattle.std.proofs.lemmas.Option.{get_or_from_slice_get, slice_get_within}
 use Rattle.std.proofs.lemmas.Slice.Eq.{bytes_eq-Decides}
 use Rattle.link_base.specs.Ids.{AreDistinct, IsNewId, Keeps, position_among}
+use Rattle.link_texts.specs.Texts.{stands_among}
+use Rattle.value_pool.proofs.PlaceLemmas.{found-place, held-turned}
+use Rattle.value_pool.proofs.SearchLemmas.{held_where}
 
 shift : (m n : ℕ) → nat_lt m n ≡ nat_lt (1 + m) (suc n)
 shift m n = grind (arith, nat_tests)
@@ -25,20 +29,51 @@ stands p (x ∷ xs) =
       | inr gone ↦ rw gone (stands p xs ∙ shift (position_or_len p xs) (length xs))
     ]
 
-module _ (id : List ℕ) (old new : List (List ℕ)) (place : ℕ) (at : place ≡ position_or_len (bytes_eq id) old) (grown : new ≡ (if list_any (bytes_eq id) old then old else old ++ id ∷ [])) where
-  -- an id that is held
-  pub kept_there : place < length old → Keeps id old new (Some place)
-  kept_there h =
-      let test : nat_lt place (length old) ≡ true = grind (arith, nat_tests) in
-      let held : list_any (bytes_eq id) old ≡ true = stands (bytes_eq id) old ∙ ap (λ n. nat_lt n (length old)) (sym at) ∙ test in
-      (rw (← at, test) refl, rw held at grown)
+-- no two places have the same id
+abbrev pub AreApart : List (List ℕ) → Type 0
+AreApart ids = (a b : ℕ) → a < length ids → slice_get ids a ≡ slice_get ids b → a ≡ b
 
-  -- an id that is new
-  pub kept_last : length old ≤ place → Keeps id old new None
-  kept_last h =
-      let test : nat_lt place (length old) ≡ false = grind (arith, nat_tests) in
-      let none : list_any (bytes_eq id) old ≡ false = stands (bytes_eq id) old ∙ ap (λ n. nat_lt n (length old)) (sym at) ∙ test in
-      (rw (← at, test) refl, rw none at grown)
+-- what is found for an id is its place
+pub found_at_place : (id : List ℕ) (ids : List (List ℕ)) (found : Option ℕ) → AreApart ids → IfSome found (λ at. slice_get ids at ≡ Some id) → is_some found ≡ stands_among ids id → found ≡ position_among id ids
+found_at_place id ids None apart is held =
+    let test : nat_lt (position_or_len (bytes_eq id) ids) (length ids) ≡ false = sym (stands (bytes_eq id) ids) ∙ sym (held-turned id ids) ∙ sym held in
+    rw test refl
+found_at_place id ids (Some at) apart is held =
+    let test : nat_lt (position_or_len (bytes_eq id) ids) (length ids) ≡ true = sym (stands (bytes_eq id) ids) ∙ sym (held-turned id ids) ∙ sym held in
+    found-place ids id (Some at) apart is held (sym held) ∙ rw test refl
+
+module _ (id : List ℕ) (old new : List (List ℕ)) (place : ℕ) (found : slice_get new place ≡ Some id) (grown : new ≡ (if stands_among old id then old else old ++ id ∷ [])) where
+  -- an id that is found among those that were held
+  was_held : place < length old → stands_among old id ≡ true
+  was_held h =
+      elim (cases_Bool (stands_among old id)) [
+        | inl held ↦ held
+        | inr new_one ↦
+            let longer : new ≡ old ++ id ∷ [] = rw new_one at grown in
+            let at : get_or old place [] ≡ id = sym (get_or_append_left old (id ∷ []) [] place h) ∙ ap (λ (l : List (List ℕ)). get_or l place []) (sym longer) ∙ get_or_from_slice_get new place id [] found in
+            held_where old id place h at
+      ]
+
+  -- an id that is found behind them
+  was_new : length old ≤ place → stands_among old id ≡ false
+  was_new h =
+      elim (cases_Bool (stands_among old id)) [
+        | inl held ↦
+            let same : new ≡ old = rw held at grown in
+            absurd (omega (arith, h, slice_get_within new place id found, ap length same))
+        | inr new_one ↦ new_one
+      ]
+
+  pub kept_there : AreApart old → place < length old → Keeps id old new (Some place)
+  kept_there apart h =
+      let held = was_held h in
+      let same : new ≡ old = rw held at grown in
+      (found_at_place id old (Some place) apart (ap (λ (l : List (List ℕ)). slice_get l place) (sym same) ∙ found) (sym held), same)
+
+  pub kept_last : AreApart old → length old ≤ place → Keeps id old new None
+  kept_last apart h =
+      let new_one = was_new h in
+      (found_at_place id old None apart tt (sym new_one), rw new_one at grown)
 
 -- where an id has no place, each of the ids is another
 pub new_if_none : (id : List ℕ) (ids : List (List ℕ)) → None ≡ position_among id ids → IsNewId id ids

@@ -8,4 +8,3 @@ pub mod Rule
 pub mod Shares
 pub mod Standard
 pub mod Tables
-pub mod Texts

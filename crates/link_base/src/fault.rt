@@ -2,7 +2,7 @@
 ghost use Rattle.std.specs.Prelude.{◌≡◌};
 ghost use Rattle.link_base.specs.Fault.{fault_status};
 
-use crate::text::{NoMemory, Text};
+use link_texts::{NoMemory, Text};
 use std::alloc::{AllocError, AllocFailed};
 
 /// Which file a fault is of.

@@ -2,16 +2,19 @@
 ghost use Rattle.std.specs.Prelude.{◌≡◌, ◌+◌, ◌^◌, ◌<◌, [], length, IfNone, IfOk, IfSome, OnErr, slice_index_or};
 ghost use Rattle.link_base.specs.Ids.{AreDistinct, IsNewId, Keeps, position_among};
 
-use crate::sought::Sought;
-use crate::text::{NoMemory, Text};
-use indexmap::IndexSet;
+use link_limits::MOST_POOL_LIMIT;
+use link_texts::NoMemory;
 use std::alloc::Global;
 use std::marker::Model;
+use value_pool::Pool;
+
+// How many bytes an id may have for which room is made beforehand.
+const USUAL_BYTES: u64 = 8;
 
 /// Distinct ids in order, which contracts see as the list of them. They are fewer than 2^32.
 #[derive(Drop)]
 pub struct IdSet {
-    ids: IndexSet<Text>,
+    pool: Pool,
 }
 
 impl Model for IdSet {
@@ -20,45 +23,44 @@ impl Model for IdSet {
 
     ghost Value = { List (List ℕ) };
 
-    ghost view = { λ s. s.ids.keys };
+    ghost view = { λ s. s.pool.texts };
 
-    ghost invariant = { λ s. AreDistinct s.ids.keys × (length s.ids.keys < 2 ^ 32) };
+    ghost invariant = { λ s. AreDistinct s.pool.texts × (length s.pool.texts < 2 ^ 32) };
 }
 
 impl IdSet {
-    /// The set of no ids, which takes no memory.
-    pub fn new(alloc: Global) -> IdSet
-        ensures { result ≡ [] }
+    /// The set of no ids.
+    pub fn new(alloc: Global) -> Result<IdSet, NoMemory>
+        ensures { IfOk result (λ ids. ids ≡ []) }
     {
-        IdSet {
-            ids: IndexSet::new(alloc),
-        }
+        let pool = Pool::new(alloc, MOST_POOL_LIMIT)?;
+        Ok(IdSet { pool })
     }
 
     /// The set of no ids, with room for so many.
-    pub fn with_capacity(alloc: Global, count: usize) -> Result<IdSet, NoMemory>
+    pub fn with_capacity(alloc: Global, count: u32) -> Result<IdSet, NoMemory>
         ensures { IfOk result (λ ids. ids ≡ []) }
     {
-        Ok(IdSet {
-            ids: IndexSet::with_capacity(alloc, count)?,
-        })
+        let mut pool = Pool::new(alloc, MOST_POOL_LIMIT)?;
+        pool.reserve(alloc, count, u64::from(count) * USUAL_BYTES)?;
+        Ok(IdSet { pool })
     }
 
-    /// Keeps an id that is new; else gives the place of the one that is held.
+    /// Keeps an id that is new; else gives the place of the one that is held. A set of more than 1 GiB is want of memory.
     pub fn keep(&mut self, alloc: Global, id: &[u8]) -> Result<Option<usize>, NoMemory>
         requires room { length self.old + 1 < 2 ^ 32 }
         ensures keeps { IfOk result (λ found. Keeps id.now self.old self.new found) }
         ensures within { IfOk result (λ found. IfSome found (λ place. place < length self.old)) }
         ensures err { OnErr result (self.new ≡ self.old) }
     {
-        let key = Text::new(alloc, id)?;
-        let held = self.ids.len();
-        let place = match self.ids.insert_full(key) {
-            Ok((place, _)) => place,
-            Err(failed) => return Err(NoMemory::from(failed)),
+        self.pool.are_distinct();
+        let held = self.pool.len();
+        let place = match self.pool.intern(alloc, id) {
+            Ok(found) => found.place(),
+            Err(_) => return Err(NoMemory),
         };
         if place < held {
-            return Ok(Some(place));
+            return Ok(Some(place as usize));
         }
         Ok(None)
     }
@@ -67,7 +69,7 @@ impl IdSet {
     pub fn len(&self) -> u32
         ensures { result ≡ length self.now }
     {
-        self.ids.len() as u32
+        self.pool.len()
     }
 
     /// The id at a place, from 0.
@@ -75,10 +77,7 @@ impl IdSet {
         requires { at < length self.now }
         ensures { result.now ≡ slice_index_or self.now at [] }
     {
-        match self.ids.get_index(at as usize) {
-            Some(id) => id.bytes(),
-            None => b"",
-        }
+        self.pool.text_at(at)
     }
 
     /// The place of an id, found by an index. `None` exactly where it is not held.
@@ -87,8 +86,9 @@ impl IdSet {
         ensures within { IfSome result (λ at. at < length self.now) }
         ensures fresh { IfNone result (IsNewId id.now self.now) }
     {
-        match self.ids.get_index_of(&Sought::new(id)) {
-            Some(at) => Some(at as u32),
+        self.pool.are_distinct();
+        match self.pool.find(id) {
+            Some(found) => Some(found.place()),
             None => None,
         }
     }
@@ -97,6 +97,6 @@ impl IdSet {
     pub fn distinct(&self)
         ensures { AreDistinct self.now }
     {
-        let _ = &self.ids;
+        let _ = &self.pool;
     }
 }

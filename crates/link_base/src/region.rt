@@ -2,7 +2,7 @@
 ghost use Rattle.std.specs.Prelude.{◌≡◌, ◌<◌, ◌≤◌, ◌++◌, ◌+◌, ◌∷◌, [], IfOk, length, OnErr, OnOk, slice_index_or, slice_range};
 ghost use Rattle.link_base.specs.Region.{EndsAt, pieces_from, start_at};
 
-use crate::text::NoMemory;
+use link_texts::NoMemory;
 use std::alloc::Global;
 use std::marker::Model;
 

@@ -6,7 +6,7 @@ ghost use Rattle.link_base.specs.declared.standard.Value.TheVariants as value;
 
 use crate::region::{TextRegion, end_behind};
 use crate::rows::{Cell, StdRows};
-use crate::text::NoMemory;
+use link_texts::NoMemory;
 use std::alloc::Global;
 use std::marker::Model;
 

@@ -2,8 +2,8 @@
 ghost use Rattle.std.specs.Prelude.{◌≡◌, ◌≤◌, All, IfOk, replicate};
 ghost use Rattle.link_base.specs.Rule.{IsWithinRanges, empty_cell};
 
-use crate::text::NoMemory;
 use link_limits::MOST_PATTERNS;
+use link_texts::NoMemory;
 use std::alloc::Global;
 
 /// What the comparison of a field comes to. The order is that of the digits of a comparison pattern.

@@ -5,7 +5,7 @@ ghost use Rattle.link_base.specs.Standard.{HaveDistinctIds, IsFreshId, no_record
 use crate::ids::IdSet;
 use crate::row::Row;
 use crate::rows::StdRows;
-use crate::text::{NoMemory, Text};
+use link_texts::{NoMemory, Text};
 use std::alloc::Global;
 use std::marker::Model;
 

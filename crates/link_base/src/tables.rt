@@ -2,7 +2,7 @@
 ghost use Rattle.std.specs.Prelude.{◌≡◌, [], IfOk, map};
 ghost use Rattle.link_base.specs.Tables.{AreWordPairs, missing_marks, name_suffixes, name_titles};
 
-use crate::text::{NoMemory, Text, TextList};
+use link_texts::{NoMemory, Text, TextList};
 use std::alloc::Global;
 use std::marker::Model;
 

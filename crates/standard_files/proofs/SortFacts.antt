@@ -22,7 +22,7 @@ use Rattle.standard_files.specs.Values.{AreOfSorts, IsOfSort, sort_in, sort_in_a
 use Rattle.standard_files.specs.declared.sorts.TextSort.{TextSort}
 use Rattle.standardise.specs.DateReads.{date_read}
 use Rattle.standardise.specs.Names.{word_or_absent, words_of_text}
-use Rattle.link_base.specs.Texts.{stands_among}
+use Rattle.link_texts.specs.Texts.{stands_among}
 use Rattle.standardise.specs.Words.{without_titles}
 use Rattle.standardise.specs.declared.date_read.DateRead.{DateRead}
 use Rattle.standardise.specs.declared.date_read.DateRead.TheVariants as read

@@ -5,7 +5,7 @@ use Rattle.std.proofs.lemmas.List.{append-nil}
 use Rattle.link_base.specs.declared.tables.WordPair.{WordPair}
 use Rattle.link_base.specs.declared.standard.Value.TheVariants as value
 use Rattle.standardise.specs.Names.{characters_of, name_value, place_value, word_or_absent, words_of_text}
-use Rattle.link_base.specs.Texts.{stands_among}
+use Rattle.link_texts.specs.Texts.{stands_among}
 use Rattle.standardise.specs.Tables.{NameView, PlaceView}
 use Rattle.standardise.specs.Words.{replaced, without_titles, words}
 use Rattle.standardise.proofs.WordLemmas.{encoded_words}

@@ -16,7 +16,7 @@ use Rattle.standardise.specs.FirstBytes.{AreMarked, AreMarkedWords, begins_marke
 use Rattle.standardise.specs.WordSets.{AreNoLonger}
 use Rattle.link_base.specs.declared.tables.WordPair.{WordPair}
 use Rattle.link_base.specs.Tables.{AreWordPairs, is_word}
-use Rattle.link_base.specs.Texts.{stands_among}
+use Rattle.link_texts.specs.Texts.{stands_among}
 use Rattle.standardise.specs.Tables.{text_cmp, word_for}
 
 -- the order to a third text

@@ -4,7 +4,7 @@ use Rattle.std.specs.Str.{trim}
 use Rattle.link_base.specs.Standard.{IsDay}
 use Rattle.link_base.specs.declared.plan.DateForm.{DateForm}
 use Rattle.value_forms.specs.Written.{date_day}
-use Rattle.link_base.specs.Texts.{stands_among}
+use Rattle.link_texts.specs.Texts.{stands_among}
 use Rattle.standardise.specs.declared.date_read.DateRead.{DateRead}
 use Rattle.standardise.specs.declared.date_read.DateRead.TheVariants as read
 

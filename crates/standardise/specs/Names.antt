@@ -7,7 +7,7 @@ use Rattle.link_base.specs.declared.standard.Value.{Value}
 use Rattle.link_base.specs.declared.standard.Value.TheVariants as value
 use Rattle.link_base.specs.declared.tables.WordPair.{WordPair}
 use Rattle.standardise.specs.Cleaning.{cleaned}
-use Rattle.link_base.specs.Texts.{stands_among}
+use Rattle.link_texts.specs.Texts.{stands_among}
 use Rattle.standardise.specs.Tables.{NameView, PlaceView}
 use Rattle.standardise.specs.Words.{joined, replaced, without_titles, words}
 

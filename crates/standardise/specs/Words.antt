@@ -3,7 +3,7 @@
 use Rattle.std.specs.Prelude.{ℕ, List, [], ◌∷◌, ◌++◌, if◌then◌else◌, reverse, unwrap_or}
 pub use Rattle.value_forms.specs.Words.{run_words, words, words_after}
 use Rattle.link_base.specs.declared.tables.WordPair.{WordPair}
-use Rattle.link_base.specs.Texts.{stands_among}
+use Rattle.link_texts.specs.Texts.{stands_among}
 use Rattle.standardise.specs.Tables.{word_for}
 
 -- while there is more than one word and the first stands in the list, the first is dropped

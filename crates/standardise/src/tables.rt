@@ -1,7 +1,7 @@
 // The tables of names and of places.
 ghost use Rattle.std.specs.Prelude.{◌≡◌, IfOk};
 ghost use Rattle.std.specs.Str.{IsUtf8};
-ghost use Rattle.link_base.specs.Texts.{stands_among};
+ghost use Rattle.link_texts.specs.Texts.{stands_among};
 ghost use Rattle.standardise.specs.Words.{without_titles, words};
 
 use crate::pairs::WordTable;

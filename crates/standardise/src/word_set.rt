@@ -1,7 +1,7 @@
 // Texts that are found by an ordered search.
 ghost use Rattle.std.specs.Prelude.{◌≡◌, ◌≤◌, IfOk, length};
 ghost use Rattle.std.specs.List.Sorted.{IsBinarySearchResult, IsSearchInRange};
-ghost use Rattle.link_base.specs.Texts.{stands_among};
+ghost use Rattle.link_texts.specs.Texts.{stands_among};
 ghost use Rattle.standardise.specs.Tables.{text_cmp};
 ghost use Rattle.standardise.specs.WordSets.{AreNoLonger, IsOrdered};
 

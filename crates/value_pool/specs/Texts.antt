@@ -2,7 +2,7 @@
 -- them (clauses `found`, `texts`, `used`), and `Pool::are_distinct` that a place and a text name each other.
 use Rattle.std.specs.Prelude.{◌≡◌, ℕ, List, true, Option, Some, None, bytes_eq, ⊤}
 use Rattle.std.specs.List.{position_or_len}
-pub use Rattle.link_base.specs.Texts.{stands_among}
+pub use Rattle.link_texts.specs.Texts.{stands_among}
 
 -- what is seen of a pool: its texts in the order in which they came, the limit of their bytes, how many they have, and
 -- the room for more texts and more bytes

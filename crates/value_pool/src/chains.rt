@@ -5,7 +5,7 @@ ghost use Rattle.value_pool.specs.Region.{IsSlotWithin, hashes_of, nexts_of, tex
 ghost use Rattle.value_pool.specs.Table.{IsHashed};
 
 use crate::hashes::HashKey;
-use link_base::NoMemory;
+use link_texts::NoMemory;
 use std::alloc::Global;
 
 /// Where a text stands among the bytes, its hash, and what its chain goes on with.

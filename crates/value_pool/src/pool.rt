@@ -5,8 +5,8 @@ ghost use Rattle.value_pool.specs.Texts.{stands_among};
 
 use crate::id::Id;
 use crate::table::{Search, Table};
-use link_base::NoMemory;
 use link_limits::MOST_POOL_LIMIT;
+use link_texts::NoMemory;
 use std::alloc::Global;
 use std::marker::Model;
 
@@ -52,7 +52,7 @@ impl Pool {
     }
 
     /// Makes room for so many texts of so many bytes together. After a refusal the pool is as it was, or has more room.
-    pub fn reserve(&mut self, texts: u32, bytes: u64) -> Result<(), NoMemory>
+    pub fn reserve(&mut self, alloc: Global, texts: u32, bytes: u64) -> Result<(), NoMemory>
         ensures texts { self.new.texts ≡ self.old.texts }
         ensures limit { self.new.limit ≡ self.old.limit }
         ensures used { self.new.used ≡ self.old.used }
@@ -61,6 +61,7 @@ impl Pool {
     {
         self.table.slots.reserve(texts as usize)?;
         self.table.bytes.reserve(bytes as usize)?;
+        self.table.widen_for(alloc, texts);
         Ok(())
     }
 
@@ -83,7 +84,15 @@ impl Pool {
         requires { id < length self.now.texts }
         ensures { slice_get self.now.texts id ≡ Some result.now }
     {
-        let slot = self.table.slots[id.place() as usize];
+        self.text_at(id.place())
+    }
+
+    /// The bytes of the text at a place.
+    pub fn text_at(&self, place: u32) -> &[u8]
+        requires { place < length self.now.texts }
+        ensures { slice_get self.now.texts place ≡ Some result.now }
+    {
+        let slot = self.table.slots[place as usize];
         &self.table.bytes[slot.start as usize..slot.end as usize]
     }
 

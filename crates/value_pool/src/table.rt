@@ -9,7 +9,7 @@ ghost use Rattle.value_pool.specs.Texts.{stands_among};
 
 use crate::chains::{Slot, bucket, empty_heads, make_anew, thread};
 use crate::hashes::HashKey;
-use link_base::NoMemory;
+use link_texts::NoMemory;
 use std::alloc::Global;
 
 /// The buckets of a new table, a power of 2. They double as texts come.
@@ -156,6 +156,22 @@ impl Table {
         Ok(place)
     }
 
+    // Spreads the chains over so many buckets. Without memory for them the chains stay as they are.
+    fn spread(&mut self, alloc: Global, buckets: usize)
+        requires table { IsTable self.old }
+        requires some { 1 ≤ buckets }
+        ensures table { IsTable self.new }
+        ensures state { state_of 0 self.new ≡ state_of 0 self.old }
+    {
+        match empty_heads(alloc, buckets) {
+            Ok(mut heads) => {
+                thread(&mut self.slots, &mut heads);
+                self.heads = heads;
+            }
+            Err(NoMemory) => {}
+        }
+    }
+
     /// Doubles the buckets where there are fewer than two of them a text. Without memory for more the chains grow.
     pub(crate) fn widen(&mut self, alloc: Global)
         requires { IsTable self.old }
@@ -163,15 +179,20 @@ impl Table {
         ensures state { state_of 0 self.new ≡ state_of 0 self.old }
     {
         let buckets = self.heads.len();
-        if self.slots.len() <= buckets / 2 {
-            return;
+        if self.slots.len() > buckets / 2 {
+            self.spread(alloc, 2 * buckets);
         }
-        match empty_heads(alloc, 2 * buckets) {
-            Ok(mut heads) => {
-                thread(&mut self.slots, &mut heads);
-                self.heads = heads;
-            }
-            Err(NoMemory) => {}
+    }
+
+    /// Makes two buckets a text for so many texts, where there are fewer. Without memory for more the chains grow.
+    pub(crate) fn widen_for(&mut self, alloc: Global, texts: u32)
+        requires { IsTable self.old }
+        ensures table { IsTable self.new }
+        ensures state { state_of 0 self.new ≡ state_of 0 self.old }
+    {
+        let buckets = (2 * texts as usize).next_power_of_two();
+        if buckets > self.heads.len() {
+            self.spread(alloc, buckets);
         }
     }
 

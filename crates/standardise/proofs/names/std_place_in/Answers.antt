@@ -1,7 +1,7 @@
 use Rattle.std.proofs.Common.{◌≡◌, ◌∙◌, ap, option_map, subst}
 use Rattle.std.specs.Prelude.{IfOk}
 use Rattle.std.specs.Str.{trim}
-use Rattle.link_base.specs.Texts.{stands_among}
+use Rattle.link_texts.specs.Texts.{stands_among}
 use Rattle.standardise.specs.Names.{found_value}
 use Rattle.standardise.specs.Words.{words}
 use Rattle.standardise.proofs.NameLemmas.{cleaned_words, one_replaced, place_of_words}

@@ -1,4 +1,4 @@
-use Rattle.std.proofs.Common.{◌≡◌, ◌+◌, ◌++◌, ◌∷◌, ◌∙◌, [], ap, arith, length, length-append, rules}
+use Rattle.std.proofs.Common.{◌≡◌, ◌++◌, ◌∷◌, ◌∙◌, [], ap, arith, length, length-append, rules}
 use Rattle.link_base.proofs.RegionFacts.{pushed}
 use Rattle.link_base.proofs.region.TextRegion.push.Goals as goal
 

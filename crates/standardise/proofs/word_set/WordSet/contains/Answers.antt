@@ -2,7 +2,7 @@ use Rattle.std.proofs.Common.{[], bytes_eq, subst, ap, sym, ◌∙◌, arith}
 use Rattle.std.specs.Ordering.{ordering_index}
 use Rattle.std.specs.List.Sorted.{IsNonDecreasingBy}
 use Rattle.std.proofs.lemmas.List.Sorted.{list_any-IsPermutation}
-use Rattle.link_base.specs.Texts.{stands_among}
+use Rattle.link_texts.specs.Texts.{stands_among}
 use Rattle.standardise.specs.Tables.{text_cmp}
 use Rattle.standardise.proofs.OrderLemmas.{found_text, longer_text, missed_text, unmarked_text}
 use Rattle.standardise.proofs.word_set.WordSet.contains.Goals as goal

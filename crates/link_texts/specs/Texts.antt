@@ -2,8 +2,8 @@
 -- of `Text::bytes`: where the bytes of a text stand.
 use Rattle.std.specs.Prelude.{ℕ, List, Bool, bytes_eq}
 use Rattle.std.specs.List.{list_any}
-use Rattle.link_base.specs.declared.text.Bytes.{Bytes}
-use Rattle.link_base.specs.declared.text.Bytes.TheVariants as stand
+use Rattle.link_texts.specs.declared.text.Bytes.{Bytes}
+use Rattle.link_texts.specs.declared.text.Bytes.TheVariants as stand
 
 -- whether a text stands among others
 abbrev pub stands_among : List (List ℕ) → List ℕ → Bool

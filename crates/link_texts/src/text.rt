@@ -2,10 +2,9 @@
 ghost use Rattle.std.specs.Prelude.{◌≡◌, ◌≤◌, ◌++◌, ◌∷◌, [], List, ℕ, IfOk, OnErr, OnOk, decimal, length};
 ghost use Rattle.std.specs.Cmp.{partial_equiv_from_equiv};
 ghost use Rattle.std.specs.Cmp.Lexicographic.{nat_list_eq_equiv};
-ghost use Rattle.link_base.specs.declared.text.TheConstants.{MOST_SHORT};
+ghost use Rattle.link_texts.specs.declared.text.TheConstants.{MOST_SHORT};
 
 use std::alloc::{AllocError, AllocFailed, Global};
-use std::hash::{Hash, Hasher};
 use std::marker::Model;
 use thiserror::Error;
 
@@ -38,7 +37,7 @@ struct Short {
 
 impl Model for Short {
     ghost use Rattle.std.specs.Prelude.{◌≤◌, List, ℕ, take};
-    ghost use Rattle.link_base.specs.declared.text.TheConstants.{MOST_SHORT};
+    ghost use Rattle.link_texts.specs.declared.text.TheConstants.{MOST_SHORT};
 
     ghost Value = { List ℕ };
 
@@ -83,7 +82,7 @@ pub struct Text {
 
 impl Model for Text {
     ghost use Rattle.std.specs.Prelude.{List, ℕ};
-    ghost use Rattle.link_base.specs.Texts.{bytes_in};
+    ghost use Rattle.link_texts.specs.Texts.{bytes_in};
 
     ghost Value = { List ℕ };
 
@@ -168,21 +167,6 @@ impl PartialEq for Text {
 
 impl Eq for Text {
     ghost laws = { nat_list_eq_equiv };
-}
-
-// A text is hashed by one write of its bytes.
-impl Hash for Text {
-    ghost use Rattle.std.specs.Prelude.{◌∷◌, []};
-    ghost use Rattle.std.specs.Cmp.Lexicographic.{bytes_decides};
-    ghost use Rattle.std.specs.Hash.{same_Alike};
-
-    ghost hash_input = { λ bytes. bytes ∷ [] };
-
-    ghost respects_eq = { (same_Alike (λ bytes. bytes ∷ []) bytes_decides).fed };
-
-    fn hash<H: Hasher>(&self, state: &mut H) {
-        state.write(self.bytes());
-    }
 }
 
 /// Texts, which contracts see as the list of them.
