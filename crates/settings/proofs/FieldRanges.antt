@@ -8,6 +8,7 @@ use Rattle.std.proofs.lemmas.List.Elements.{All-from_recursion, All-nil, All-pus
 use Rattle.std.proofs.lemmas.List.Quantifiers.{all_pairs_push}
 use Rattle.std.proofs.lemmas.Slice.Eq.{bytes_eq-Decides}
 use Rattle.toml.specs.Data.{Members, get_member}
+use Rattle.link_texts.specs.Texts.{stands_among}
 use Rattle.link_base.specs.declared.plan.CompareKind.{CompareKind}
 use Rattle.link_limits.specs.declared.TheConstants.{MOST_FIELDS}
 use Rattle.settings_readers.specs.Parts.{◌>>=◌, needed, optional, absent, defaulted, known}
@@ -15,7 +16,7 @@ use Rattle.settings_readers.specs.Values.{choice, whole}
 use Rattle.settings_readers.specs.Lists.{on_table}
 use Rattle.settings_readers.proofs.Kept.{array_keeps, choice_keeps, defaulted_keeps, in_range_ok, IsWithin, needed_keeps, ok_same, on_table_keeps, optional_keeps, Reads, then_ok, whole_keeps}
 use Rattle.settings.specs.Plan.{FieldKeys, PlainShares}
-use Rattle.settings.specs.Words.{compare_named, field_keys, kind_named, is_one_of}
+use Rattle.settings.specs.Words.{compare_named, field_keys, kind_named}
 use Rattle.settings.specs.Field.{name_keys, compare_keys, sort_of, compare_by, may_be_rare, rare_number, new_name, shares, given_shares, no_shares, field_shares, field, fields}
 use Rattle.settings.specs.Ranges.{AreShares, has_comparison, HaveDistinctNames, IsField, IsFieldName, IsLabel, IsRareNumber}
 use Rattle.settings.specs.Values.{text}
@@ -143,7 +144,7 @@ compare_keys_are t above x e =
 field_is : (sampled : Bool) (before : List FieldKeys) (t : Members) (above : List ℕ) (x : FieldKeys) → field sampled before t above ≡ Ok x → IsNext sampled before x
 unfolding field
 field_is sampled before t above x e =
-    let listed = then_ok (known (is_one_of field_keys) t above) _ x e in
+    let listed = then_ok (known (stands_among field_keys) t above) _ x e in
     let n = then_ok (name_keys before t above) _ x listed.2 in
     let c = then_ok (compare_keys t above) _ x n.2 in
     let u = then_ok (field_shares sampled (is_some c.0.rare) t above) _ x c.2 in

@@ -2,13 +2,14 @@
 use Rattle.std.proofs.Common.{◌≡◌, ◌∷◌, [], ℕ, List, codes, Result, Ok, ap, sym, ◌∙◌}
 use Rattle.std.specs.Prelude.{is_some, option_to_list}
 use Rattle.toml.specs.Data.{Members}
+use Rattle.link_texts.specs.Texts.{stands_among}
 use Rattle.link_base.specs.declared.fault.Fault.{Fault}
 use Rattle.link_base.specs.declared.tables.Tables.{Tables}
 use Rattle.link_base.specs.Tables.{missing_marks, name_titles, name_suffixes}
 use Rattle.settings_readers.specs.Parts.{◌>>=◌, needed, optional, defaulted, known}
 use Rattle.settings_readers.specs.Values.{choice}
 use Rattle.settings.specs.Values.{text}
-use Rattle.settings.specs.Words.{delimiter_named, is_one_of, top_keys}
+use Rattle.settings.specs.Words.{delimiter_named, top_keys}
 use Rattle.settings.specs.Field.{fields}
 use Rattle.settings.specs.Pass.{passes}
 use Rattle.settings.specs.Settings.{file_keys, journal_of, sources, numbers, tables, plan_from, plan_of}
@@ -48,5 +49,5 @@ joined s t above =
 pub in_parts : (t : Members) (above : List ℕ) → plan_of t above ≡ plan_in_parts t above
 unfolding plan_of plan_in_parts
 in_parts t above =
-    then_same (known (is_one_of top_keys) t above) _ _ (λ listed.
+    then_same (known (stands_among top_keys) t above) _ _ (λ listed.
     then_both (sources t above) (sources_in_parts t above) _ _ (sources_same t above) (λ s. sym (joined s t above)))

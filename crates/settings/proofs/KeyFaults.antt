@@ -4,6 +4,7 @@ use Rattle.std.specs.Prelude.{nat_le, is_some, not, option_to_list}
 use Rattle.std.specs.List.{list_any}
 use Rattle.std.specs.Str.{bytes_eq}
 use Rattle.toml.specs.Data.{Data, Members, no_members, member, as_str, as_array, as_table}
+use Rattle.link_texts.specs.Texts.{stands_among}
 use Rattle.link_base.specs.declared.plan.FieldSort.{FieldSort}
 use Rattle.link_base.specs.declared.plan.CompareKind.{CompareKind}
 use Rattle.link_base.specs.declared.plan.KeyKind.{KeyKind}
@@ -17,7 +18,7 @@ use Rattle.settings.specs.Plan.{FieldKeys}
 use Rattle.settings.specs.Values.{fits, text}
 use Rattle.settings.specs.WordTables.{texts, word_pair, pairs, small_table, word_table, members_len}
 use Rattle.link_base.specs.Tables.{missing_marks, name_titles, name_suffixes}
-use Rattle.settings.specs.Words.{is_one_of, top_keys, kind_named, compare_named, key_named, delimiter_named}
+use Rattle.settings.specs.Words.{top_keys, kind_named, compare_named, key_named, delimiter_named}
 use Rattle.settings.specs.Field.{new_name, name_keys, compare_keys, date_sort, plain_sort, sort_of, by_letters, by_days, by_years, plain_compare, compare_by, may_be_rare, rare_number, wholes, shares, given_shares, no_shares, field_shares, field, fields}
 use Rattle.settings.specs.Pass.{field_named, first_key, plain_key, key_by, part, parts, pass, passes}
 use Rattle.settings.specs.Settings.{file_keys, is_free, journal_of, sources, numbers, tables, plan_of}
@@ -224,7 +225,7 @@ tables_key t above =
 pub plan_key : (t : Members) (above : List ℕ) → NamesKey (plan_of t above)
 unfolding plan_of
 plan_key t above =
-    then_key _ _ (known_key (is_one_of top_keys) t above) (λ listed.
+    then_key _ _ (known_key (stands_among top_keys) t above) (λ listed.
     then_key _ _ (sources_key t above) (λ s.
     then_key _ _ (numbers_key t above) (λ n.
     then_key _ _ (tables_key t above) (λ tables.

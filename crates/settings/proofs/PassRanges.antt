@@ -6,6 +6,7 @@ use Rattle.std.specs.Str.{bytes_eq}
 use Rattle.std.proofs.lemmas.Bool.{cases_Bool, le-leb}
 use Rattle.std.proofs.lemmas.List.Elements.{All-nil, All-push}
 use Rattle.toml.specs.Data.{Members}
+use Rattle.link_texts.specs.Texts.{stands_among}
 use Rattle.link_base.specs.declared.plan.FieldSort.{FieldSort}
 use Rattle.link_base.specs.declared.plan.FieldSort.TheVariants as sort
 use Rattle.link_base.specs.declared.plan.KeyKind.{KeyKind}
@@ -16,7 +17,7 @@ use Rattle.settings_readers.specs.Values.{choice, whole}
 use Rattle.settings_readers.specs.Lists.{on_table}
 use Rattle.settings_readers.proofs.Kept.{array_keeps, choice_keeps, IsWithin, named_keeps, needed_keeps, on_table_keeps, Reads, then_ok, whole_keeps}
 use Rattle.settings.specs.Plan.{FieldKeys}
-use Rattle.settings.specs.Words.{date_key_words, key_named, name_key_words, is_one_of, part_keys, pass_keys}
+use Rattle.settings.specs.Words.{date_key_words, key_named, name_key_words, part_keys, pass_keys}
 use Rattle.settings.specs.Pass.{field_named, first_key, plain_key, key_by, part, parts, pass, passes}
 use Rattle.settings.specs.Ranges.{is_keyed, IsPart, IsPass}
 use Rattle.settings.specs.declared.limits.TheConstants.{MOST_LETTERS, MOST_PARTS, MOST_PASSES}
@@ -113,7 +114,7 @@ keyed (sort.Date a b) word.Year h t above x e = key_along (sort.Date a b) key.Ye
 part_is : (fs : List FieldKeys) (t : Members) (above : List ℕ) (x : Part) → part fs t above ≡ Ok x → IsPart fs x
 unfolding part
 part_is fs t above x e =
-    let listed = then_ok (known (is_one_of part_keys) t above) _ x e in
+    let listed = then_ok (known (stands_among part_keys) t above) _ x e in
     let f = then_ok (needed (choice (field_named fs 0)) t above (codes "field")) _ x listed.2 in
     let w = then_ok (needed (choice (key_named f.0.1)) t above (codes "key")) _ x f.2 in
     let k = then_ok (key_by w.0 t above) _ x w.2 in
@@ -134,7 +135,7 @@ parts_are fs at d xs e =
 pass_is : (fs : List FieldKeys) (t : Members) (above : List ℕ) (x : List Part) → pass fs t above ≡ Ok x → IsPass fs x
 unfolding pass
 pass_is fs t above x e =
-    let listed = then_ok (known (is_one_of pass_keys) t above) _ x e in
+    let listed = then_ok (known (stands_among pass_keys) t above) _ x e in
     let r = needed_keeps (IsParts fs) (parts fs) (parts_are fs) t above (codes "parts") x listed.2 in
     record { some = r.1; few = r.2; parts = r.0 }
 

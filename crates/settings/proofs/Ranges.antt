@@ -7,12 +7,13 @@ use Rattle.std.proofs.lemmas.Bool.{false≢true, not-true, or_parts}
 use Rattle.std.proofs.lemmas.List.Elements.{All-from_recursion}
 use Rattle.std.proofs.lemmas.Slice.Eq.{bytes_eq-Decides}
 use Rattle.toml.specs.Data.{Members}
+use Rattle.link_texts.specs.Texts.{stands_among}
 use Rattle.link_base.specs.Tables.{AreWordPairs}
 use Rattle.link_limits.specs.declared.TheConstants.{MOST_FIELDS, PER_MILLION}
 use Rattle.settings_readers.specs.Parts.{needed, optional, defaulted, known}
 use Rattle.settings_readers.specs.Values.{choice, whole, truth}
 use Rattle.settings_readers.proofs.Kept.{choice_keeps, defaulted_keeps, in_range_ok, IsWithin, named_keeps, needed_keeps, ok_same, optional_keeps, Reads, then_ok, whole_keeps}
-use Rattle.settings.specs.Words.{delimiters, delimiter_named, is_one_of, top_keys}
+use Rattle.settings.specs.Words.{delimiters, delimiter_named, top_keys}
 use Rattle.settings.specs.Field.{fields}
 use Rattle.settings.specs.Pass.{passes}
 use Rattle.settings.specs.Ranges.{AreFiles, files_read, is_delimiter, IsFileName, IsLabel, KeepsRanges}
@@ -42,18 +43,18 @@ delimiter_is at d x e = choice_keeps IsDelimiter delimiter_named (named_keeps Is
 abbrev IsNoneOf : List (List ℕ) → List ℕ → Type 0
 IsNoneOf names name = All (λ (other : List ℕ). name ≢ other) names
 
-not_one : (name other : List ℕ) → bytes_eq name other ≡ false → name ≢ other
-not_one name other h same = false≢true (sym h ∙ (bytes_eq-Decides name other).1 same)
+not_one : (name other : List ℕ) → bytes_eq other name ≡ false → name ≢ other
+not_one name other h same = false≢true (sym h ∙ (bytes_eq-Decides other name).1 (sym same))
 
-none_of : (names : List (List ℕ)) (name : List ℕ) → is_one_of names name ≡ false → AllByRecursion (λ (other : List ℕ). name ≢ other) names
+none_of : (names : List (List ℕ)) (name : List ℕ) → stands_among names name ≡ false → AllByRecursion (λ (other : List ℕ). name ≢ other) names
 none_of [] name h = tt
 none_of (other ∷ names) name h =
-    let (here, later) = or_parts (bytes_eq name other) (is_one_of names name) h in
+    let (here, later) = or_parts (bytes_eq other name) (stands_among names name) h in
     (not_one name other here, none_of names name later)
 
 free_is : (taken : List (List ℕ)) (o : Option (List ℕ)) → is_free taken o ≡ true → IfSome o (IsNoneOf taken)
 free_is taken None h = tt
-free_is taken (Some name) h = All-from_recursion (λ (other : List ℕ). name ≢ other) taken (none_of taken name (not-true (is_one_of taken name) h))
+free_is taken (Some name) h = All-from_recursion (λ (other : List ℕ). name ≢ other) taken (none_of taken name (not-true (stands_among taken name) h))
 
 abbrev IsJournal : List (List ℕ) → Option (List ℕ) → Type 0
 IsJournal taken o = (IfSome o IsFileName) × IfSome o (IsNoneOf taken)
@@ -158,7 +159,7 @@ pub record IsReadPlan (plan : Plan) : Type 0 where
 plan_is : (t : Members) (above : List ℕ) (x : Plan) → plan_of t above ≡ Ok x → IsReadPlan x
 unfolding plan_of
 plan_is t above x e =
-    let listed = then_ok (known (is_one_of top_keys) t above) _ x e in
+    let listed = then_ok (known (stands_among top_keys) t above) _ x e in
     let s = then_ok (sources t above) _ x listed.2 in
     let n = then_ok (numbers t above) _ x s.2 in
     let w = then_ok (tables t above) _ x n.2 in

@@ -6,6 +6,7 @@ use Rattle.std.specs.Option.{option_map_or}
 use Rattle.std.specs.Str.{bytes_eq}
 use Rattle.toml.specs.Data.{Data, Items, no_items, item, Members, as_array, as_integer}
 use Rattle.link_limits.specs.declared.TheConstants.{MOST_FIELDS, WHOLE_FIELD}
+use Rattle.link_texts.specs.Texts.{stands_among}
 use Rattle.link_base.specs.declared.fault.Fault.{Fault}
 use Rattle.link_base.specs.declared.plan.FieldSort.{FieldSort}
 use Rattle.link_base.specs.declared.plan.FieldSort.TheVariants as sort
@@ -17,7 +18,7 @@ use Rattle.settings_readers.specs.Values.{choice, whole, magnitude}
 use Rattle.settings_readers.specs.Lists.{array_of, on_table}
 use Rattle.settings.specs.Plan.{FieldKeys, PlainShares}
 use Rattle.settings.specs.Values.{text}
-use Rattle.settings.specs.Words.{is_one_of, field_keys, kind_named, form_named, compare_named}
+use Rattle.settings.specs.Words.{field_keys, kind_named, form_named, compare_named}
 use Rattle.settings.specs.declared.fields.CompareKeys.{CompareKeys}
 use Rattle.settings.specs.declared.fields.NameKeys.{NameKeys}
 use Rattle.settings.specs.declared.limits.TheConstants.{LEAST_RARE, MOST_DAYS, MOST_LETTERS, MOST_RARE, MOST_YEARS}
@@ -153,7 +154,7 @@ compare_keys t above = do
 -- a field, after those before it; sampled says that the settings name a sample
 unfoldable pub field : Bool → List FieldKeys → Members → List ℕ → Result FieldKeys Fault
 field sampled before t above = do
-  listed ← known (is_one_of field_keys) t above
+  listed ← known (stands_among field_keys) t above
   named ← name_keys before t above
   compared ← compare_keys t above
   shares ← field_shares sampled (is_some compared.rare) t above

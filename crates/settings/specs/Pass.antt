@@ -3,6 +3,7 @@
 use Rattle.std.specs.Prelude.{List, ℕ, ◌+◌, [], ◌∷◌, codes, Option, Some, None, Result, Ok, if◌then◌else◌}
 use Rattle.std.specs.Str.{bytes_eq}
 use Rattle.toml.specs.Data.{Data, Members}
+use Rattle.link_texts.specs.Texts.{stands_among}
 use Rattle.link_base.specs.declared.fault.Fault.{Fault}
 use Rattle.link_base.specs.declared.plan.FieldSort.{FieldSort}
 use Rattle.link_base.specs.declared.plan.KeyKind.{KeyKind}
@@ -15,7 +16,7 @@ use Rattle.settings.specs.declared.words.KeyWord.TheVariants as key
 use Rattle.settings_readers.specs.Parts.{◌>>=◌, needed, absent, known}
 use Rattle.settings_readers.specs.Values.{choice, whole}
 use Rattle.settings_readers.specs.Lists.{array_of, on_table}
-use Rattle.settings.specs.Words.{is_one_of, pass_keys, part_keys, key_named}
+use Rattle.settings.specs.Words.{pass_keys, part_keys, key_named}
 
 -- the field of a name, by its number from n, and its sort
 abbrev pub field_named : List FieldKeys → ℕ → List ℕ → Option (ℕ × FieldSort)
@@ -38,7 +39,7 @@ key_by key.Year = plain_key by.Year
 
 unfoldable pub part : List FieldKeys → Members → List ℕ → Result Part Fault
 part fields t above = do
-  listed ← known (is_one_of part_keys) t above
+  listed ← known (stands_among part_keys) t above
   field ← needed (choice (field_named fields 0)) t above (codes "field")
   word ← needed (choice (key_named field.1)) t above (codes "key")
   key ← key_by word t above
@@ -50,7 +51,7 @@ parts fields at d = array_of 1 MOST_PARTS (λ before. on_table (part fields)) at
 
 unfoldable pub pass : List FieldKeys → Members → List ℕ → Result (List Part) Fault
 pass fields t above = do
-  listed ← known (is_one_of pass_keys) t above
+  listed ← known (stands_among pass_keys) t above
   needed (parts fields) t above (codes "parts")
 
 -- an array of one to eight passes

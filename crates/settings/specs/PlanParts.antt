@@ -2,6 +2,7 @@
 -- function of its name (of `top.rt`: `sources` for `sources_in_parts`, `replace_tables` for `tables_over`, `plan_of` for `plan_in_parts`).
 use Rattle.std.specs.Prelude.{List, ℕ, Bool, ◌∷◌, codes, Option, is_some, option_to_list, Result, Ok}
 use Rattle.toml.specs.Data.{Members}
+use Rattle.link_texts.specs.Texts.{stands_among}
 use Rattle.link_base.specs.declared.fault.Fault.{Fault}
 use Rattle.link_base.specs.declared.plan.CompareKind.{CompareKind}
 use Rattle.link_base.specs.declared.plan.FieldSort.{FieldSort}
@@ -11,7 +12,7 @@ use Rattle.link_base.specs.declared.tables.Tables.{Tables}
 use Rattle.settings_readers.specs.Parts.{◌>>=◌, absent, defaulted, known, needed, optional}
 use Rattle.settings_readers.specs.Values.{choice, whole}
 use Rattle.settings.specs.Values.{text}
-use Rattle.settings.specs.Words.{compare_named, delimiter_named, is_one_of, key_named, top_keys}
+use Rattle.settings.specs.Words.{compare_named, delimiter_named, key_named, top_keys}
 use Rattle.settings.specs.WordTables.{texts, word_table}
 use Rattle.settings.specs.Field.{compare_by, compare_keys, field_shares, fields, rare_number}
 use Rattle.settings.specs.Plan.{FieldKeys, PlainShares}
@@ -72,7 +73,7 @@ link_keys sampled t above = do
 -- the plan, by its sources and the keys after them
 unfoldable pub plan_in_parts : Members → List ℕ → Result Plan Fault
 plan_in_parts t above = do
-  listed ← known (is_one_of top_keys) t above
+  listed ← known (stands_among top_keys) t above
   s ← sources_in_parts t above
   l ← link_keys (is_some s.sample) t above
   Ok (plan_from s l.numbers l.tables l.fields l.passes)

@@ -5,6 +5,7 @@ use Rattle.std.specs.Str.{is_utf8}
 use Rattle.toml.specs.Data.{Members}
 use Rattle.toml.specs.Parse.{parse_document}
 use Rattle.link_limits.specs.declared.TheConstants.{PER_MILLION}
+use Rattle.link_texts.specs.Texts.{stands_among}
 use Rattle.link_base.specs.declared.fault.Fault.{Fault}
 use Rattle.link_base.specs.declared.fault.Fault.TheVariants.{NotToml}
 use Rattle.link_base.specs.declared.plan.Part.{Part}
@@ -13,7 +14,7 @@ use Rattle.link_base.specs.Tables.{missing_marks, name_titles, name_suffixes}
 use Rattle.settings_readers.specs.Parts.{◌>>=◌, in_range, needed, optional, defaulted, known}
 use Rattle.settings_readers.specs.Values.{choice, whole, truth}
 use Rattle.settings.specs.Values.{text}
-use Rattle.settings.specs.Words.{is_one_of, top_keys, delimiter_named}
+use Rattle.settings.specs.Words.{top_keys, delimiter_named}
 use Rattle.settings.specs.WordTables.{texts, word_table}
 use Rattle.settings.specs.Field.{fields}
 use Rattle.settings.specs.Plan.{FieldKeys}
@@ -28,7 +29,7 @@ use Rattle.settings.specs.declared.top.NumberKeys.{NumberKeys}
 -- the journal is none of the files that are read
 abbrev pub is_free : List (List ℕ) → Option (List ℕ) → Bool
 is_free taken None = true
-is_free taken (Some name) = not (is_one_of taken name)
+is_free taken (Some name) = not (stands_among taken name)
 
 unfoldable pub journal_of : List (List ℕ) → Members → List ℕ → Result (Option (List ℕ)) Fault
 journal_of taken t above = do
@@ -97,7 +98,7 @@ plan_from s n tables fields passes = record {
 -- the parts of the top table in their order
 unfoldable pub plan_of : Members → List ℕ → Result Plan Fault
 plan_of t above = do
-  listed ← known (is_one_of top_keys) t above
+  listed ← known (stands_among top_keys) t above
   s ← sources t above
   n ← numbers t above
   tables ← tables t above

@@ -1,8 +1,6 @@
 -- The listed keys of each table, and the words that name choices (the `Choices` of src/words.rt, by the clause of
 -- `Choices::named`).
-use Rattle.std.specs.Prelude.{List, ℕ, Bool, [], ◌∷◌, codes, Option}
-use Rattle.std.specs.List.{list_any}
-use Rattle.std.specs.Str.{bytes_eq}
+use Rattle.std.specs.Prelude.{List, ℕ, [], ◌∷◌, codes, Option}
 use Rattle.link_base.specs.declared.plan.DateForm.{DateForm}
 use Rattle.link_base.specs.declared.plan.DateForm.TheVariants as form
 use Rattle.link_base.specs.declared.plan.FieldSort.{FieldSort}
@@ -14,9 +12,6 @@ use Rattle.settings.specs.declared.words.CompareWord.{CompareWord}
 use Rattle.settings.specs.declared.words.CompareWord.TheVariants as compare
 use Rattle.settings.specs.declared.words.KeyWord.{KeyWord}
 use Rattle.settings.specs.declared.words.KeyWord.TheVariants as key
-
-abbrev pub is_one_of : List (List ℕ) → List ℕ → Bool
-is_one_of words s = list_any (bytes_eq s) words
 
 abbrev pub top_keys : List (List ℕ)
 top_keys = codes "file_a" ∷ codes "file_b" ∷ codes "id_a" ∷ codes "id_b" ∷ codes "delimiter_a" ∷ codes "delimiter_b" ∷ codes "sample" ∷ codes "journal"

@@ -1,11 +1,11 @@
 // The keys of the top table.
 ghost use Rattle.std.specs.Prelude.{◌≡◌, ◌∷◌, IfErr, IfOk, IfSome, IsUtf8, option_to_list, not};
 ghost use Rattle.toml.specs.View.{table_view};
+ghost use Rattle.link_texts.specs.Texts.{stands_among};
 ghost use Rattle.link_base.specs.declared.fault.Fault.TheVariants as fault;
 ghost use Rattle.link_base.specs.Fault.{Gives, IsAnswer};
 ghost use Rattle.link_base.specs.Tables.{AreWordPairs};
 ghost use Rattle.settings_readers.specs.Parts.{defaulted};
-ghost use Rattle.settings.specs.Words.{is_one_of};
 ghost use Rattle.settings.specs.Settings.{file_keys, is_free, journal_of, numbers, tables, plan_from, document, settings};
 ghost use Rattle.settings.specs.PlanParts.{link_keys, matching_keys, other_sources, plan_in_parts, sources_in_parts, tables_over};
 ghost use Rattle.settings.specs.Ranges.{IsSettingsFault, KeepsRanges, NamesFiles};
@@ -95,11 +95,11 @@ pub(crate) struct LinkKeys {
 }
 
 fn differs(name: &FileName, sample: &Option<FileName>) -> bool
-    ensures { result ≡ not (is_one_of (option_to_list sample.now) name.now) }
+    ensures { result ≡ not (stands_among (option_to_list sample.now) name.now) }
 {
     match sample {
         None => true,
-        Some(sample) => name.bytes() != sample.bytes(),
+        Some(sample) => sample.bytes() != name.bytes(),
     }
 }
 
@@ -110,8 +110,8 @@ fn is_free(files: &FileKeys, sample: &Option<FileName>, journal: &Option<FileNam
     match journal {
         None => true,
         Some(name) => {
-            name.bytes() != files.file_a.bytes()
-                && name.bytes() != files.file_b.bytes()
+            files.file_a.bytes() != name.bytes()
+                && files.file_b.bytes() != name.bytes()
                 && differs(name, sample)
         }
     }

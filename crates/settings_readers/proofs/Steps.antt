@@ -1,6 +1,6 @@
 -- The length of an array, its items and choices one by one, and refusals.
 use Rattle.std.proofs.Common.{◌≡◌, ◌<◌, ◌+◌, ◌++◌, ◌∙◌, ℕ, List, [], ◌∷◌, Bool, true, false, Result, Ok, Err, length, length-append, drop, map, get_or, Option, Some, ap, refl, subst, sym, arith}
-use Rattle.std.specs.Prelude.{MatchBool, ⊤, decimal, nat_le, ◌&&◌}
+use Rattle.std.specs.Prelude.{MatchBool, ⊤, decimal, nat_le, ◌&&◌, ◌||◌}
 use Rattle.std.specs.List.{list_any}
 use Rattle.std.specs.Str.{bytes_eq}
 use Rattle.std.proofs.lemmas.List.{drop_more}
@@ -81,3 +81,8 @@ pub any_found : {E : Type 0} (test : E → Bool) (all : List E) (i : ℕ) (none 
 any_found test all i none total lt on so_far =
     let here : list_any test (drop i all) ≡ true = rw (drop_more all i none lt, on) refl in
     sym here ∙ so_far
+
+-- a test of what is read of each item
+pub any-map : {E X : Type 0} (test : X → Bool) (f : E → X) (all : List E) → list_any test (map f all) ≡ list_any (λ e. test (f e)) all
+any-map test f [] = refl
+any-map test f (e ∷ all) = ap (λ b. test (f e) || b) (any-map test f all)

@@ -1,9 +1,8 @@
 // Keys of a table.
-ghost use Rattle.std.specs.Prelude.{◌≡◌, option_map};
-ghost use Rattle.std.specs.List.{list_any};
-ghost use Rattle.std.specs.Str.{bytes_eq};
+ghost use Rattle.std.specs.Prelude.{◌≡◌, map, option_map};
 ghost use Rattle.toml.specs.Data.{get_member};
 ghost use Rattle.toml.specs.View.{view, table_view};
+ghost use Rattle.link_texts.specs.Texts.{stands_among};
 ghost use Rattle.link_base.specs.Fault.{IsAnswer};
 ghost use Rattle.settings_readers.specs.Parts.{absent, defaulted, defaulted_both, known, needed, needed_both, optional, without, without_both};
 
@@ -29,10 +28,10 @@ fn find<'a>(table: &'a Table, key: &str) -> Option<&'a Value>
 
 /// Whether a key is one of those listed.
 pub fn is_listed(listed: &[&str], key: &str) -> bool
-    ensures { result ≡ list_any (λ k. bytes_eq key.now k.now) listed.now }
+    ensures { result ≡ stands_among (map (λ k. k.now) listed.now) key.now }
 {
     for other in listed {
-        if key == *other {
+        if *other == key {
             return true;
         }
     }
@@ -42,7 +41,7 @@ pub fn is_listed(listed: &[&str], key: &str) -> bool
 impl Keys<'_> {
     /// Refuses a table that has a key that is not listed: the fault names the least such key by its bytes.
     pub fn known(&self, alloc: Global, listed: &[&str]) -> Result<(), Fault>
-        ensures { IsAnswer (known (λ q. list_any (λ k. bytes_eq q k.now) listed.now) (table_view self.now.table.now) self.now.above.now) result }
+        ensures { IsAnswer (known (stands_among (map (λ k. k.now) listed.now)) (table_view self.now.table.now) self.now.above.now) result }
     {
         let above = self.above;
         let table = self.table;

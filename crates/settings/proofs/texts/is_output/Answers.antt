@@ -1,15 +1,12 @@
-use Rattle.std.proofs.Common.{◌≡◌, ◌∙◌, Bool, true, false, codes, refl}
+use Rattle.std.proofs.Common.{◌≡◌, ◌∙◌, ℕ, List, [], ◌∷◌, codes, arith}
 use Rattle.std.specs.Prelude.{◌||◌}
+use Rattle.std.specs.Cmp.Lexicographic.{nat_list_eq_equiv}
 use Rattle.std.specs.Str.{bytes_eq}
+use Rattle.link_texts.specs.Texts.{stands_among}
 use Rattle.settings.proofs.texts.is_output.Goals as goal
 
-one_of_five : (a b c d e : Bool) → (a || (b || (c || (d || (e || false))))) ≡ (a || b || c || d || e)
-one_of_five true b c d e = refl
-one_of_five false true c d e = refl
-one_of_five false false true d e = refl
-one_of_five false false false true e = refl
-one_of_five false false false false true = refl
-one_of_five false false false false false = refl
+one_of_five : (a b c d e s : List ℕ) → stands_among (a ∷ b ∷ c ∷ d ∷ e ∷ []) s ≡ (bytes_eq s a || bytes_eq s b || bytes_eq s c || bytes_eq s d || bytes_eq s e)
+one_of_five a b c d e s = grind (arith, nat_list_eq_equiv.symm)
 
 pub returns : goal.returns
-returns c = c.is_listed.ensures ∙ one_of_five (bytes_eq c.args.text.now (codes "pairs.csv")) (bytes_eq c.args.text.now (codes "rule.csv")) (bytes_eq c.args.text.now (codes "links.csv")) (bytes_eq c.args.text.now (codes "prices.csv")) (bytes_eq c.args.text.now (codes "report.txt"))
+returns c = c.is_listed.ensures ∙ one_of_five (codes "pairs.csv") (codes "rule.csv") (codes "links.csv") (codes "prices.csv") (codes "report.txt") c.args.text.now
