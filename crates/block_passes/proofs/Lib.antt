@@ -1,5 +1,6 @@
 pub mod ChainLemmas
 pub mod CodeLemmas
+pub mod IdByteLemmas
 pub mod IdLemmas
 pub mod KeyIdLemmas
 pub mod NumberLemmas

@@ -1,49 +1,20 @@
 -- Numbers stand for codes.
-use Rattle.std.proofs.Common.{◌≡◌, ◌<◌, ◌≤◌, ◌+◌, ◌==◌, List, [], ◌∷◌, ◌++◌, ◌^◌, ℕ, suc, Bool, true, false, not, cond, ◌||◌, Option, Some, None, Result, Ok, Err, OnErr, refl, sym, ◌∙◌, ap, length, length-append, filter, get_or, arith, inl, inr, bytes_eq, nat_eq, nat_lt, if◌then◌else◌}
-use Rattle.std.specs.List.{list_any, position, position_or_len, range_with_len}
-use Rattle.value_pool.specs.Texts.{place_among}
-use Rattle.std.specs.Prelude.{IfOk, unwrap_or}
-use Rattle.std.specs.Cmp.Lexicographic.{pointwise}
-use Rattle.std.specs.declared.alloc.Global.{Global}
-use Rattle.std.specs.declared.vec.Vec.{Vec}
+use Rattle.std.proofs.Common.{◌≡◌, ◌<◌, ◌≤◌, ◌==◌, List, [], ◌∷◌, ◌++◌, ℕ, Bool, true, false, Option, Some, None, refl, sym, ◌∙◌, ap, length, length-append, filter, get_or, arith, inl, inr, bytes_eq, nat_lt}
+use Rattle.std.specs.List.{list_any, position_or_len, range_with_len}
+use Rattle.std.specs.Prelude.{slice_get}
+use Rattle.value_pool.specs.Pool.{with_text}
+use Rattle.value_pool.specs.Texts.{PoolState, place_among, stands_among}
 use Rattle.std.proofs.lemmas.Bool.{cases_Bool, cases_lt, false≢true}
 use Rattle.std.proofs.lemmas.List.{get_or_past}
+use Rattle.std.proofs.lemmas.Option.{slice_get-get_or}
 use Rattle.std.proofs.lemmas.List.Folds.{position_or_len_push}
 use Rattle.std.proofs.lemmas.Slice.Eq.{bytes_eq-Decides}
-use Rattle.indexmap.specs.IndexSet.{insert_key}
-use Rattle.value_pool.proofs.PlaceLemmas.{any-place, at-place}
+use Rattle.value_pool.proofs.PlaceLemmas.{any-place, at-place, held-turned}
 use Rattle.block_passes.specs.Keys.{same_text}
 use Rattle.block_passes.specs.Groups.{AreGroups}
 use Rattle.block_passes.specs.Index.{rows_with_number}
-use Rattle.block_passes.specs.Numbering.{codes_of, no_number, number_among, IsNumbered, KeepNumbers}
+use Rattle.block_passes.specs.Numbering.{IsNumbered, KeepNumbers, no_number, number_among, with_code}
 use Rattle.block_passes.proofs.TestLemmas.{eq-true, true-eq, same-test, filter-agree, filter-empty}
-
--- the codes with one more, where it is new
-abbrev with_code : List (List ℕ) → List ℕ → List (List ℕ)
-with_code codes code = if list_any (bytes_eq code) codes then codes else codes ++ code ∷ []
-
-pub place-items : (code : List ℕ) (keys : List (Vec ℕ Global)) → position_or_len (λ k. bytes_eq code k.items) keys ≡ place_among (codes_of keys) code
-place-items code [] = refl
-place-items code (k ∷ keys) = ap (λ n. cond (not (bytes_eq code k.items)) (1 + n) 0) (place-items code keys)
-
-pub length-codes : (keys : List (Vec ℕ Global)) → length (codes_of keys) ≡ length keys
-length-codes [] = refl
-length-codes (k ∷ keys) = ap suc (length-codes keys)
-
-any-items : (code : List ℕ) (keys : List (Vec ℕ Global)) → list_any (λ k. bytes_eq code k.items) keys ≡ list_any (bytes_eq code) (codes_of keys)
-any-items code [] = refl
-any-items code (k ∷ keys) = ap (λ b. bytes_eq code k.items || b) (any-items code keys)
-
-codes-push : (keys : List (Vec ℕ Global)) (key : Vec ℕ Global) → codes_of (keys ++ key ∷ []) ≡ codes_of keys ++ key.items ∷ []
-codes-push [] key = refl
-codes-push (k ∷ keys) key = ap (λ cs. k.items ∷ cs) (codes-push keys key)
-
-pub codes-insert : (keys : List (Vec ℕ Global)) (key : Vec ℕ Global) → codes_of (insert_key (λ x y. pointwise nat_eq x.items y.items) keys key) ≡ with_code (codes_of keys) key.items
-codes-insert keys key =
-    elim (cases_Bool (list_any (bytes_eq key.items) (codes_of keys))) [
-      | inl held ↦ rw (any-items key.items keys, held) refl
-      | inr new ↦ rw (any-items key.items keys, new) (codes-push keys key)
-    ]
 
 none-place : {T : Type 0} (p : T → Bool) (xs : List T) → list_any p xs ≡ false → position_or_len p xs ≡ length xs
 none-place p [] h = refl
@@ -66,25 +37,11 @@ place-new codes code new =
     let same : (place_among codes code == length codes) ≡ true = true-eq _ _ (none-place (bytes_eq code) codes new) in
     position_or_len_push (bytes_eq code) codes code ∙ rw (same, same-itself code) (omega arith)
 
-pub place-with : (codes : List (List ℕ)) (code : List ℕ) → place_among (with_code codes code) code ≡ place_among codes code
-place-with codes code =
-    elim (cases_Bool (list_any (bytes_eq code) codes)) [
-      | inl held ↦ rw held refl
-      | inr new ↦ rw new (place-new codes code new ∙ sym (none-place (bytes_eq code) codes new))
-    ]
-
 pub place-within : (codes : List (List ℕ)) (code : List ℕ) → place_among (with_code codes code) code < length (with_code codes code)
 place-within codes code =
     elim (cases_Bool (list_any (bytes_eq code) codes)) [
       | inl held ↦ rw held (any-place (bytes_eq code) codes held)
       | inr new ↦ rw (new, place-new codes code new, length-append codes (code ∷ [])) (omega arith)
-    ]
-
-pub length-with : (codes : List (List ℕ)) (code : List ℕ) → length (with_code codes code) ≤ length codes + 1
-length-with codes code =
-    elim (cases_Bool (list_any (bytes_eq code) codes)) [
-      | inl held ↦ rw held (omega arith)
-      | inr new ↦ rw (new, length-append codes (code ∷ [])) (omega arith)
     ]
 
 kept-push : (codes : List (List ℕ)) (code : List ℕ) → KeepNumbers codes (codes ++ code ∷ [])
@@ -150,21 +107,16 @@ pub group-is : (codes : List (List ℕ)) → length codes ≤ no_number → (num
 group-is codes few numbers groups code_of rows g len told known c =
     group-read numbers groups (length codes) (number_among codes c) g ∙ numbered-rows codes few numbers code_of rows len told known c
 
-pub place-found : {T : Type 0} (p : T → Bool) (xs : List T) (n : ℕ) → Some n ≡ position p xs → n ≡ position_or_len p xs
-place-found p xs n e =
-    elim (cases_Bool (nat_lt (position_or_len p xs) (length xs))) [
-      | inl lt ↦ let f : Some n ≡ Some (position_or_len p xs) = rw lt at e in ap (λ o. unwrap_or o 0) f
-      | inr ge ↦ let f : Some n ≡ None = rw ge at e in absurd (some_is_none n f)
-    ]
-  where
-    some_is_none : (n : ℕ) → Some n ≡ None → ⊥
-    some_is_none n f = cc
+-- a place at which a code stands among distinct ones is its number
+pub place-read : (codes : List (List ℕ)) (code : List ℕ) (at : ℕ) → ((a b : ℕ) → a < length codes → slice_get codes a ≡ slice_get codes b → a ≡ b)
+    → slice_get codes at ≡ Some code → place_among codes code < length codes → at ≡ place_among codes code
+place-read codes code at distinct is within =
+    let reads : slice_get codes (place_among codes code) ≡ Some code = slice_get-get_or codes (place_among codes code) [] within ∙ ap Some (sym (at-place codes code within)) in
+    sym (distinct (place_among codes code) at within (reads ∙ sym is))
 
-pub place-missed : {T : Type 0} (p : T → Bool) (xs : List T) → false ≡ list_any p xs → position_or_len p xs ≡ length xs
-place-missed p xs e = none-place p xs (sym e)
+pub place-missed : (codes : List (List ℕ)) (code : List ℕ) → stands_among codes code ≡ false → place_among codes code ≡ length codes
+place-missed codes code new = none-place (bytes_eq code) codes (sym (held-turned code codes) ∙ new)
 
--- the codes stay few
-pub few-kept : {T E : Type 0} (result : Result T E) (keys new : List (Vec ℕ Global)) (key : Vec ℕ Global) → length (codes_of keys) + 1 < 2 ^ 32
-    → IfOk result (λ _. new ≡ insert_key (λ x y. pointwise nat_eq x.items y.items) keys key) → OnErr result (new ≡ keys) → length (codes_of new) < 2 ^ 32
-few-kept (Ok x) keys new key room ok err = let long = length-with (codes_of keys) key.items in rw (ok, codes-insert keys key) (omega arith)
-few-kept (Err x) keys new key room ok err = rw err (omega arith)
+-- a text that is taken is a code more
+pub text-taken : (old : PoolState) (text : List ℕ) → with_text old text ≡ with_code old.texts text
+text-taken old text = rw (held-turned text old.texts) refl

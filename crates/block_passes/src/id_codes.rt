@@ -1,5 +1,5 @@
 // Up to four ids side by side, and longer lists of them as bytes.
-ghost use Rattle.std.specs.Prelude.{◌≡◌, ◌≤◌, IfOk, length, slice_index_or};
+ghost use Rattle.std.specs.Prelude.{◌≡◌, ◌≤◌, IfOk, length, map, slice_index_or};
 ghost use Rattle.block_passes.specs.IdCodes.{coded_ids, four_ids, id_bytes, padded};
 ghost use Rattle.block_passes.specs.PassIds.{all_ids};
 ghost use Rattle.block_passes.specs.declared.id_codes.TheConstants.{MOST_IDS};
@@ -48,15 +48,22 @@ pub(crate) fn first_ids(ids: &[Id]) -> [u32; MOST_IDS]
     ]
 }
 
-fn bytes_of_id(id: Id) -> [u8; 4]
-    ensures { result ≡ id_bytes id }
+fn bytes_of_place(place: u32) -> [u8; 4]
+    ensures { result ≡ id_bytes place }
 {
-    let place = id.place();
+    place.to_le_bytes()
+}
+
+/// The bytes of four ids.
+pub(crate) fn bytes_of_four(ids: &[u32; MOST_IDS]) -> [[u8; 4]; MOST_IDS]
+    ensures { result ≡ map id_bytes ids.now }
+{
+    let [a, b, c, d] = *ids;
     [
-        (place % 256) as u8,
-        (place / 256 % 256) as u8,
-        (place / 65_536 % 256) as u8,
-        (place / 16_777_216) as u8,
+        bytes_of_place(a),
+        bytes_of_place(b),
+        bytes_of_place(c),
+        bytes_of_place(d),
     ]
 }
 
@@ -66,7 +73,7 @@ pub(crate) fn code_of_ids(alloc: Global, ids: &[Id]) -> Result<Vec<u8>, NoMemory
 {
     let mut code = Vec::new(alloc);
     for id in ids {
-        push_text(&mut code, &bytes_of_id(*id))?;
+        push_text(&mut code, &bytes_of_place(id.place()))?;
     }
     Ok(code)
 }

@@ -37,7 +37,7 @@ fn number_ids(
 {
     let mut numbers = Vec::with_capacity(alloc, keys.rows() as usize)?;
     for at in 0..keys.rows() {
-        let number = numbering.number(four_places(keys.row(at)))?;
+        let number = numbering.number(alloc, four_places(keys.row(at)))?;
         numbers.push(number)?;
     }
     Ok(numbers)
@@ -140,7 +140,7 @@ pub(crate) fn index_ids(alloc: Global, keys: &PassIds<'_>) -> Result<RowsByFour,
     requires parts { AreFew keys.now }
     ensures { IfOk result (λ rows. (ids : Option (List ℕ)) → slice_index_or rows.groups (number_among rows.numbering ids) [] ≡ rows_of_code (four_at keys.now) (length keys.now) ids) }
 {
-    let mut numbering = IdNumbering::new(alloc);
+    let mut numbering = IdNumbering::new(alloc)?;
     let numbers = number_ids(alloc, keys, &mut numbering)?;
     let groups = Groups::new(alloc, &numbers, numbering.count())?;
     Ok(RowsByFour { numbering, groups })
@@ -200,7 +200,7 @@ fn number_long(
 {
     let mut numbers = Vec::new(alloc);
     for at in 0..file.rows() {
-        let number = numbering.number(long_code(alloc, &file.row(at), pass, pool)?)?;
+        let number = numbering.number(alloc, long_code(alloc, &file.row(at), pass, pool)?)?;
         numbers.push(number)?;
     }
     Ok(numbers)
@@ -217,7 +217,7 @@ fn index_long(
     requires held { AreAllHeld pool.now.texts pass.now file.now }
     ensures { IfOk result (λ rows. (code : Option (List ℕ)) → slice_index_or rows.groups (number_among rows.numbering code) [] ≡ rows_of_code (long_ids_at pool.now.texts pass.now file.now) (length file.now) code) }
 {
-    let mut numbering = Numbering::new(alloc);
+    let mut numbering = Numbering::new(alloc)?;
     let numbers = number_long(alloc, file, pass, pool, &mut numbering)?;
     let groups = Groups::new(alloc, &numbers, numbering.count())?;
     Ok(RowsByCode { numbering, groups })

@@ -1,38 +1,37 @@
 // Lists of four ids with their numbers.
 ghost use Rattle.std.specs.Prelude.{◌≡◌, ◌<◌, ◌≤◌, ◌+◌, ◌^◌, [], length, IfOk, OnOk};
 ghost use Rattle.value_pool.specs.Texts.{place_among};
-ghost use Rattle.block_passes.specs.Numbering.{IsNumbered, KeepNumbers, number_among};
+ghost use Rattle.block_passes.specs.Numbering.{IsNumbered, KeepNumbers, number_among, with_code};
 
-use crate::id_codes::MOST_IDS;
-use crate::numbering::NO_NUMBER;
-use indexmap::IndexSet;
+use crate::id_codes::{MOST_IDS, bytes_of_four};
+use crate::numbering::{NO_NUMBER, Numbering};
 use link_base::NoMemory;
 use std::alloc::Global;
 use std::marker::Model;
 
-/// Distinct lists of four ids, each with its place as its number. Contracts see the list of them.
+/// Distinct lists of four ids, each with its place as its number. Their codes are their bytes. Contracts see the list of them.
 #[derive(Drop)]
 pub(crate) struct IdNumbering {
-    codes: IndexSet<[u32; MOST_IDS]>,
+    codes: Numbering,
 }
 
 impl Model for IdNumbering {
-    ghost use Rattle.std.specs.Prelude.{◌<◌, ◌^◌, ℕ, List, length};
+    ghost use Rattle.std.specs.Prelude.{All, ℕ, List, map};
+    ghost use Rattle.block_passes.specs.IdCodes.{IsIdCode, ids_in_bytes};
 
     ghost Value = { List (List ℕ) };
 
-    ghost view = { λ n. n.codes.keys };
+    ghost view = { λ n. map ids_in_bytes n.codes };
 
-    ghost invariant = { λ n. length n.codes.keys < 2 ^ 32 };
+    ghost invariant = { λ n. All IsIdCode n.codes };
 }
 
 impl IdNumbering {
-    pub(crate) fn new(alloc: Global) -> IdNumbering
-        ensures { result ≡ [] }
+    pub(crate) fn new(alloc: Global) -> Result<IdNumbering, NoMemory>
+        ensures { IfOk result (λ numbering. numbering ≡ []) }
     {
-        IdNumbering {
-            codes: IndexSet::new(alloc),
-        }
+        let codes = Numbering::new(alloc)?;
+        Ok(IdNumbering { codes })
     }
 
     /// How many lists have a number.
@@ -40,17 +39,14 @@ impl IdNumbering {
         ensures count { result ≡ length self.now }
         ensures few { length self.now < 2 ^ 32 }
     {
-        self.codes.len() as u32
+        self.codes.count()
     }
 
     /// The place of a list, or the number of lists where it is none of them.
     pub(crate) fn place(&self, code: &[u32; MOST_IDS]) -> u32
         ensures { result ≡ place_among self.now code.now }
     {
-        match self.codes.get_index_of(code) {
-            Some(at) => at as u32,
-            None => self.codes.len() as u32,
-        }
+        self.codes.place(bytes_of_four(code).as_flattened())
     }
 
     /// The number of a list.
@@ -64,8 +60,11 @@ impl IdNumbering {
     }
 
     /// The number of a list, the next one if it had none.
-    pub(crate) fn number(&mut self, code: Option<[u32; MOST_IDS]>) -> Result<u32, NoMemory>
-        requires room { length self.old + 1 < 2 ^ 32 }
+    pub(crate) fn number(
+        &mut self,
+        alloc: Global,
+        code: Option<[u32; MOST_IDS]>,
+    ) -> Result<u32, NoMemory>
         ensures number { IfOk result (λ n. n ≡ number_among self.new code) }
         ensures numbered { OnOk result (IsNumbered self.new code) }
         ensures kept { OnOk result (KeepNumbers self.old self.new) }
@@ -73,21 +72,15 @@ impl IdNumbering {
     {
         match code {
             None => Ok(NO_NUMBER),
-            Some(code) => self.take(code),
+            Some(code) => self.take(alloc, &code),
         }
     }
 
     // The place of a list, which goes last if it is new.
-    fn take(&mut self, code: [u32; MOST_IDS]) -> Result<u32, NoMemory>
-        requires room { length self.old + 1 < 2 ^ 32 }
-        ensures number { IfOk result (λ n. n ≡ place_among self.new code) }
-        ensures numbered { OnOk result (place_among self.new code < length self.new) }
-        ensures kept { OnOk result (KeepNumbers self.old self.new) }
-        ensures count { OnOk result (length self.new ≤ length self.old + 1) }
+    fn take(&mut self, alloc: Global, code: &[u32; MOST_IDS]) -> Result<u32, NoMemory>
+        ensures number { IfOk result (λ n. n ≡ place_among self.new code.now) }
+        ensures codes { OnOk result (self.new ≡ with_code self.old code.now) }
     {
-        match self.codes.insert_full(code) {
-            Ok((at, _)) => return Ok(at as u32),
-            Err(_) => return Err(NoMemory),
-        }
+        self.codes.take(alloc, bytes_of_four(code).as_flattened())
     }
 }

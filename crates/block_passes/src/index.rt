@@ -37,7 +37,7 @@ fn number_rows(
 {
     let mut numbers = Vec::new(alloc);
     for at in 0..file.rows() {
-        let number = numbering.number(row_code(alloc, &file.row(at), pass)?)?;
+        let number = numbering.number(alloc, row_code(alloc, &file.row(at), pass)?)?;
         numbers.push(number)?;
     }
     Ok(numbers)
@@ -101,7 +101,7 @@ fn index_file(alloc: Global, file: &StdFile, pass: &Pass) -> Result<RowsByCode, 
     requires { AreReady pass.now file.now }
     ensures { IfOk result (λ rows. (code : Option (List ℕ)) → slice_index_or rows.groups (number_among rows.numbering code) [] ≡ rows_with_code pass.now file.now code) }
 {
-    let mut numbering = Numbering::new(alloc);
+    let mut numbering = Numbering::new(alloc)?;
     let numbers = number_rows(alloc, file, pass, &mut numbering)?;
     let groups = Groups::new(alloc, &numbers, numbering.count())?;
     Ok(RowsByCode { numbering, groups })

@@ -1,40 +1,41 @@
 // Codes with their numbers.
-ghost use Rattle.std.specs.Prelude.{◌≡◌, ◌<◌, ◌≤◌, ◌+◌, ◌^◌, [], length, IfOk, OnOk, option_map};
+ghost use Rattle.std.specs.Prelude.{◌≡◌, ◌<◌, ◌≤◌, ◌+◌, ◌^◌, [], length, IfOk, OnErr, OnOk, option_map};
 ghost use Rattle.value_pool.specs.Texts.{place_among};
-ghost use Rattle.block_passes.specs.Numbering.{IsNumbered, KeepNumbers, number_among};
+ghost use Rattle.block_passes.specs.Numbering.{IsNumbered, KeepNumbers, number_among, with_code};
 
-use indexmap::IndexSet;
 use link_base::NoMemory;
+use link_limits::MOST_POOL_LIMIT;
 use std::alloc::Global;
 use std::marker::Model;
+use value_pool::{Pool, PoolFault};
 
 /// The number where there is no code.
 pub(crate) const NO_NUMBER: u32 = u32::MAX;
 
-/// Distinct codes, each with its place as its number. Contracts see the list of them.
+/// Distinct codes, each with its place as its number. They stand in a pool, so that codes chosen for its hash do not keep
+/// look-ups long. Contracts see the list of them. Codes of more than 1 GiB together are want of memory.
 #[derive(Drop)]
 pub(crate) struct Numbering {
-    codes: IndexSet<Vec<u8>>,
+    codes: Pool,
 }
 
 impl Model for Numbering {
-    ghost use Rattle.std.specs.Prelude.{◌<◌, ◌^◌, ℕ, List, length};
-    ghost use Rattle.block_passes.specs.Numbering.{codes_of};
+    ghost use Rattle.std.specs.Prelude.{◌≡◌, ℕ, List};
+    ghost use Rattle.link_limits.specs.declared.TheConstants.{MOST_POOL_LIMIT};
 
     ghost Value = { List (List ℕ) };
 
-    ghost view = { λ n. codes_of n.codes.keys };
+    ghost view = { λ n. n.codes.texts };
 
-    ghost invariant = { λ n. length (codes_of n.codes.keys) < 2 ^ 32 };
+    ghost invariant = { λ n. n.codes.limit ≡ MOST_POOL_LIMIT };
 }
 
 impl Numbering {
-    pub(crate) fn new(alloc: Global) -> Numbering
-        ensures { result ≡ [] }
+    pub(crate) fn new(alloc: Global) -> Result<Numbering, NoMemory>
+        ensures { IfOk result (λ numbering. numbering ≡ []) }
     {
-        Numbering {
-            codes: IndexSet::new(alloc),
-        }
+        let codes = Pool::new(alloc, MOST_POOL_LIMIT)?;
+        Ok(Numbering { codes })
     }
 
     /// How many codes have a number.
@@ -42,16 +43,17 @@ impl Numbering {
         ensures count { result ≡ length self.now }
         ensures few { length self.now < 2 ^ 32 }
     {
-        self.codes.len() as u32
+        self.codes.len()
     }
 
     /// The place of a code, or the number of codes where it is none of them.
     pub(crate) fn place(&self, code: &[u8]) -> u32
         ensures { result ≡ place_among self.now code.now }
     {
-        match self.codes.get_index_of(code) {
-            Some(at) => at as u32,
-            None => self.codes.len() as u32,
+        self.codes.are_distinct();
+        match self.codes.find(code) {
+            Some(id) => id.place(),
+            None => self.codes.len(),
         }
     }
 
@@ -66,8 +68,7 @@ impl Numbering {
     }
 
     /// The number of a code, the next one if it had none.
-    pub(crate) fn number(&mut self, code: Option<Vec<u8>>) -> Result<u32, NoMemory>
-        requires room { length self.old + 1 < 2 ^ 32 }
+    pub(crate) fn number(&mut self, alloc: Global, code: Option<Vec<u8>>) -> Result<u32, NoMemory>
         ensures number { IfOk result (λ n. n ≡ number_among self.new (option_map (λ bytes. bytes.items) code)) }
         ensures numbered { OnOk result (IsNumbered self.new (option_map (λ bytes. bytes.items) code)) }
         ensures kept { OnOk result (KeepNumbers self.old self.new) }
@@ -75,21 +76,22 @@ impl Numbering {
     {
         match code {
             None => Ok(NO_NUMBER),
-            Some(code) => self.take(code),
+            Some(code) => self.take(alloc, &code),
         }
     }
 
-    // The place of a code, which goes last if it is new.
-    fn take(&mut self, code: Vec<u8>) -> Result<u32, NoMemory>
-        requires room { length self.old + 1 < 2 ^ 32 }
-        ensures number { IfOk result (λ n. n ≡ place_among self.new code.items) }
-        ensures numbered { OnOk result (place_among self.new code.items < length self.new) }
-        ensures kept { OnOk result (KeepNumbers self.old self.new) }
-        ensures count { OnOk result (length self.new ≤ length self.old + 1) }
+    /// The place of a code, which goes last if it is new. A refusal changes nothing.
+    pub(crate) fn take(&mut self, alloc: Global, code: &[u8]) -> Result<u32, NoMemory>
+        ensures number { IfOk result (λ n. n ≡ place_among self.new code.now) }
+        ensures codes { OnOk result (self.new ≡ with_code self.old code.now) }
+        ensures refused { OnErr result (self.new ≡ self.old) }
     {
-        match self.codes.insert_full(code) {
-            Ok((at, _)) => return Ok(at as u32),
-            Err(_) => return Err(NoMemory),
+        match self.codes.intern(alloc, code) {
+            Ok(id) => {
+                self.codes.are_distinct();
+                Ok(id.place())
+            }
+            Err(PoolFault::Full { .. } | PoolFault::NoMemory) => Err(NoMemory),
         }
     }
 }

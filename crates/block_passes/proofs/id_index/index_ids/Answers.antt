@@ -3,8 +3,8 @@ use Rattle.block_passes.specs.PassIds.{four_at}
 use Rattle.block_passes.proofs.NumberLemmas.{group-is}
 use Rattle.block_passes.proofs.id_index.index_ids.Goals as goal
 
-pub new-requires : goal.new-requires
-new-requires c = rw c.deref.ensures.value c.in_ok-numbers.ensures.few
+pub new-requires-2 : goal.new-requires-2
+new-requires-2 c = rw c.deref.ensures.value c.in_ok-numbers.ensures.few
 
 pub returns : goal.returns
 returns c = λ ids.

@@ -1,4 +1,4 @@
-use Rattle.std.proofs.Common.{◌≡◌, ◌∷◌, ◌++◌, [], arith, rules}
+use Rattle.std.proofs.Common.{◌≡◌, ◌∷◌, ◌++◌, [], rules}
 use Rattle.block_passes.specs.PassIds.{four_at}
 use Rattle.block_passes.proofs.StepLemmas.{given_more, numbered_more}
 use Rattle.block_passes.proofs.id_index.number_ids.Goals as goal
@@ -14,7 +14,6 @@ loop-at-preserved c =
     let code = rw c.row.ensures at c.four_places.ensures in
     let grown : c.push.new.self.items ≡ c.loop-at.numbers.items ++ c.in_ok-number.number ∷ [] = search (rules, c.in_ok-push.ensures.items) in
     record {
-      count = omega (arith, made.count);
       numbers = given_more old new code_of at c.loop-at.numbers.items c.push.new.self.items c.in_ok-number.number made.kept inv.numbered inv.numbers grown (rw code at made.number);
       numbered = numbered_more old new code_of at made.kept inv.numbered (rw code at made.numbered);
     }

@@ -1,4 +1,4 @@
-use Rattle.std.proofs.Common.{◌≡◌, ◌∷◌, ◌++◌, [], arith, rules}
+use Rattle.std.proofs.Common.{◌≡◌, ◌∷◌, ◌++◌, [], rules}
 use Rattle.block_passes.specs.CodedRows.{code_of_row}
 use Rattle.block_passes.proofs.StepLemmas.{given_more, numbered_more}
 use Rattle.block_passes.proofs.index.number_rows.Goals as goal
@@ -20,7 +20,6 @@ loop-at-preserved c =
     let code = rw c.row.ensures at c.in_ok-row_code.ensures in
     let grown : c.push.new.self.items ≡ c.loop-at.numbers.items ++ c.in_ok-number.number ∷ [] = search (rules, c.in_ok-push.ensures.items) in
     record {
-      count = omega (arith, made.count);
       numbers = given_more old new code_of at c.loop-at.numbers.items c.push.new.self.items c.in_ok-number.number made.kept inv.numbered inv.numbers grown (rw code at made.number);
       numbered = numbered_more old new code_of at made.kept inv.numbered (rw code at made.numbered);
     }

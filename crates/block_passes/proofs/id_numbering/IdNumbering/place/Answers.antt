@@ -1,8 +1,11 @@
-use Rattle.std.proofs.Common.{◌∙◌, sym}
-use Rattle.std.specs.Str.{bytes_eq}
-use Rattle.block_passes.proofs.NumberLemmas.{place-missed}
+use Rattle.std.proofs.Common.{◌∙◌, ap}
+use Rattle.value_pool.specs.Texts.{place_among}
+use Rattle.block_passes.proofs.IdByteLemmas.{joined-bytes, place-ids}
 use Rattle.block_passes.proofs.id_numbering.IdNumbering.place.Goals as goal
 
-pub returns-in-None : goal.returns-in-None
-returns-in-None c =
-    rw (← c.self.view_is) (c.len.ensures.len ∙ sym (place-missed (bytes_eq c.args.code.now) c.self.inside.codes.keys c.in-None.ensures.found))
+pub returns : goal.returns
+returns c =
+    let codes = c.self.inside.codes in
+    let ids = c.args.code.now in
+    let bytes = rw c.bytes_of_four.ensures at c.as_flattened.ensures.value ∙ joined-bytes ids in
+    rw (← c.self.view_is) (c.place.ensures ∙ ap (place_among codes) bytes ∙ place-ids codes ids c.self.invariant)

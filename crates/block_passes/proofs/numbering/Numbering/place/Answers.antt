@@ -1,13 +1,14 @@
 use Rattle.std.proofs.Common.{◌∙◌, sym}
-use Rattle.std.specs.Str.{bytes_eq}
-use Rattle.block_passes.proofs.NumberLemmas.{place-found, place-items, place-missed}
+use Rattle.value_pool.proofs.PlaceLemmas.{held-place}
+use Rattle.block_passes.proofs.NumberLemmas.{place-missed, place-read}
 use Rattle.block_passes.proofs.numbering.Numbering.place.Goals as goal
 
 pub returns-in-Some : goal.returns-in-Some
 returns-in-Some c =
-    rw (← c.self.view_is) (place-found (λ k. bytes_eq c.args.code.now k.items) c.self.inside.codes.keys c.in-Some.at c.in-Some.ensures.index ∙ place-items c.args.code.now c.self.inside.codes.keys)
+    let codes = c.self.inside.codes.texts in
+    let code = c.args.code.now in
+    rw (← c.self.view_is) (c.place.ensures ∙ place-read codes code c.in-Some.id c.are_distinct.ensures.same_id c.in-Some.ensures.found (held-place codes code (sym c.in-Some.ensures.held)))
 
 pub returns-in-None : goal.returns-in-None
 returns-in-None c =
-    let keys = c.self.inside.codes.keys in
-    rw (← c.self.view_is) (c.len.ensures.len ∙ sym (place-missed (λ k. bytes_eq c.args.code.now k.items) keys c.in-None.ensures.found) ∙ place-items c.args.code.now keys)
+    rw (← c.self.view_is) (c.len.ensures ∙ sym (place-missed c.self.inside.codes.texts c.args.code.now (sym c.in-None.ensures.held)))
