@@ -3,3 +3,4 @@ pub mod OutcomeLemmas
 pub mod SampleLemmas
 pub mod RankFour
 pub mod RemainderLemmas
+pub mod PlaceLemmas

@@ -2,23 +2,28 @@
 ghost use Rattle.std.specs.Prelude.{◌≡◌, ◌++◌, ◌∷◌, ◌<◌, [], is_some, position, length, IfOk, IfSome, if◌then◌else◌};
 ghost use Rattle.sample_counts.specs.Places.{is_at};
 
-use indexmap::IndexSet;
 use link_base::NoMemory;
 use std::alloc::Global;
+use std::collections::BTreeMap;
 use std::marker::Model;
 
 // Distinct pairs of positions in order, which contracts see as the list of them.
 #[derive(Drop)]
 pub(crate) struct PairIndex {
-    pairs: IndexSet<(u32, u32)>,
+    pairs: Vec<(u32, u32)>,
+    // Where each pair stands, found in few steps whichever pairs a sample has.
+    places: BTreeMap<(u32, u32), usize>,
 }
 
 impl Model for PairIndex {
     ghost use Rattle.std.specs.Prelude.{ℕ, List};
+    ghost use Rattle.sample_counts.specs.Places.{HasPlaces};
 
     ghost Value = { List (ℕ × ℕ) };
 
-    ghost view = { λ x. x.pairs.keys };
+    ghost view = { λ x. x.pairs.items };
+
+    ghost invariant = { λ x. HasPlaces x.places x.pairs.items };
 }
 
 impl PairIndex {
@@ -26,7 +31,8 @@ impl PairIndex {
         ensures { result ≡ [] }
     {
         PairIndex {
-            pairs: IndexSet::new(alloc),
+            pairs: Vec::new(alloc),
+            places: BTreeMap::new(alloc),
         }
     }
 
@@ -36,13 +42,18 @@ impl PairIndex {
         ensures pairs { IfOk result (λ found. self.new ≡ (if is_some found then self.old else self.old ++ (a, b) ∷ [])) }
         ensures within { IfOk result (λ found. IfSome found (λ place. place < length self.old)) }
     {
-        match self.pairs.get_index_of(&(a, b)) {
-            Some(place) => return Ok(Some(place)),
+        match self.places.get(&(a, b)) {
+            Some(place) => return Ok(Some(*place)),
             None => {}
         }
-        match self.pairs.insert((a, b)) {
+        let place = self.pairs.len();
+        self.pairs.push((a, b))?;
+        match self.places.insert((a, b), place) {
             Ok(_) => return Ok(None),
-            Err(_) => return Err(NoMemory),
+            Err(_) => {
+                self.pairs.truncate(place);
+                return Err(NoMemory);
+            }
         }
     }
 }
