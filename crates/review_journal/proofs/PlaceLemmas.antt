@@ -4,9 +4,11 @@ use Rattle.std.specs.Prelude.{if◌then◌else◌, option_and_then}
 use Rattle.std.proofs.lemmas.List.{get_or_append_left, reverse-append}
 use Rattle.std.proofs.lemmas.Option.{slice_get-get_or}
 use Rattle.std.proofs.Math.Seq.{get_or-append_seam}
+use Rattle.std.proofs.lemmas.Bool.Decides.{nat_tests}
 use Rattle.std.specs.Map.{lookup}
-use Rattle.indexmap.specs.IndexMap.{Updates}
-use Rattle.review_journal.specs.Places.{IsIndexed, place_of_pair, Places, same_pair}
+use Rattle.std.specs.Ordering.{is_eq}
+use Rattle.std.specs.BTreeMap.{is_at, Updates}
+use Rattle.review_journal.specs.Places.{IsIndexed, pair_cmp, place_of_pair, Places}
 use Rattle.review_journal.specs.Verdict.{is_on, last_on}
 use Rattle.review_journal.specs.declared.entry.Entry.{Entry}
 
@@ -29,23 +31,26 @@ still_found : (es : List Entry) (e : Entry) (o : Option ℕ) → ((q : ℕ) → 
 still_found es e None within = refl
 still_found es e (Some q) within = get-push es e q (within q refl)
 
-module _ (old new : Places) (es : List Entry) (e : Entry) (place : ℕ) (indexed : IsIndexed old es) (at_end : place ≡ length es) (updates : Updates same_pair old new (e.a, e.b) (Some place)) where
+-- the order tells the pair of an entry from others
+tested : (e : Entry) (a b : ℕ) → is_eq (pair_cmp (e.a, e.b) (a, b)) ≡ is_on a b e
+tested e a b = grind (arith, nat_tests)
+
+module _ (old new : Places) (es : List Entry) (e : Entry) (place : ℕ) (indexed : IsIndexed old es) (at_end : place ≡ length es) (updates : Updates pair_cmp old new (e.a, e.b) (Some place)) where
+  place_now : (a b : ℕ) (test : Bool) → is_on a b e ≡ test → place_of_pair new a b ≡ (if test then Some place else place_of_pair old a b)
+  place_now a b test is = updates.0 (a, b) ∙ ap (λ t. if t then Some place else place_of_pair old a b) (tested e a b ∙ is)
+
   found : (a b : ℕ) (test : Bool) → is_on a b e ≡ test → option_and_then (slice_get (es ++ e ∷ [])) (place_of_pair new a b) ≡ (if test then Some e else last_on es a b)
   found a b true is =
-      let here : place_of_pair new a b ≡ Some place = updates.0 (a, b) ∙ ap (λ t. if t then Some place else place_of_pair old a b) is in
-      ap (option_and_then (slice_get (es ++ e ∷ []))) here ∙ ap (slice_get (es ++ e ∷ [])) at_end ∙ get-last es e
+      ap (option_and_then (slice_get (es ++ e ∷ []))) (place_now a b true is) ∙ ap (slice_get (es ++ e ∷ [])) at_end ∙ get-last es e
   found a b false is =
-      let here : place_of_pair new a b ≡ place_of_pair old a b = updates.0 (a, b) ∙ ap (λ t. if t then Some place else place_of_pair old a b) is in
-      ap (option_and_then (slice_get (es ++ e ∷ []))) here ∙ still_found es e (place_of_pair old a b) (indexed.within a b) ∙ indexed.found a b
+      ap (option_and_then (slice_get (es ++ e ∷ []))) (place_now a b false is) ∙ still_found es e (place_of_pair old a b) (indexed.within a b) ∙ indexed.found a b
 
   within : (a b q : ℕ) (test : Bool) → is_on a b e ≡ test → place_of_pair new a b ≡ Some q → q < length es + 1
   within a b q true is there =
-      let here : place_of_pair new a b ≡ Some place = updates.0 (a, b) ∙ ap (λ t. if t then Some place else place_of_pair old a b) is in
+      let here : Some place ≡ Some q = sym (place_now a b true is) ∙ there in
       let same : place ≡ q = cc in
       omega arith
-  within a b q false is there =
-      let here : place_of_pair new a b ≡ place_of_pair old a b = updates.0 (a, b) ∙ ap (λ t. if t then Some place else place_of_pair old a b) is in
-      omega (arith, indexed.within a b q (sym here ∙ there))
+  within a b q false is there = omega (arith, indexed.within a b q (sym (place_now a b false is) ∙ there))
 
   pub indexed_push : IsIndexed new (es ++ e ∷ [])
   indexed_push = record {
@@ -61,7 +66,7 @@ at_place places es a b place e indexed there is =
 -- an index with the same entries is as good
 pub indexed-same : (old new : Places) (es : List Entry) → new.entries ≡ old.entries → IsIndexed old es → IsIndexed new es
 indexed-same old new es is indexed =
-    let same : (a b : ℕ) → place_of_pair new a b ≡ place_of_pair old a b = λ a b. ap (lookup (same_pair (a, b))) is in
+    let same : (a b : ℕ) → place_of_pair new a b ≡ place_of_pair old a b = λ a b. ap (lookup (is_at (pair_cmp (a, b)))) is in
     record {
       found = λ a b. ap (option_and_then (slice_get es)) (same a b) ∙ indexed.found a b;
       within = λ a b place there. indexed.within a b place (sym (same a b) ∙ there);

@@ -14,18 +14,18 @@ use crate::batch::{NewVerdict, Verdicts};
 use crate::entry::Entry;
 use crate::possible::first_not_among;
 use crate::steps::{confirms_entry, is_decided, standing_verdict, step_by};
-use indexmap::IndexMap;
 use link_base::{Fault, FileRole, NoMemory, PairAt, Step, Text, Verdict};
 use link_limits::MOST_ENTRIES;
 use std::alloc::Global;
+use std::collections::BTreeMap;
 use std::marker::Model;
 
 /// A journal of clerical review, which contracts see as the list of its entries.
 #[derive(Drop)]
 pub struct Journal {
     entries: Vec<Entry>,
-    // Where the last entry on each pair stands.
-    places: IndexMap<(u32, u32), u32>,
+    // Where the last entry on each pair stands, found in few steps whichever pairs the entries are on.
+    places: BTreeMap<(u32, u32), u32>,
 }
 
 impl Model for Journal {
@@ -49,7 +49,7 @@ impl Journal {
     {
         Journal {
             entries: Vec::new(alloc),
-            places: IndexMap::new(alloc),
+            places: BTreeMap::new(alloc),
         }
     }
 
