@@ -11,7 +11,7 @@ ghost use Rattle.pair_walk.specs.Pairs.{pairs_of_rows};
 use crate::preparing::Prepared;
 use link_base::{Fault, StdFile, Text};
 use link_report::{IdFields, IdsWriter};
-use pair_walk::{WalkFault, Walker};
+use pair_walk::{RowPairs, WalkFault, Walker};
 use settings::Plan;
 use std::alloc::Global;
 
@@ -29,12 +29,13 @@ fn ids_of_rows(
 {
     let ids = IdFields::of(alloc, b)?;
     let mut writer = IdsWriter::new(alloc)?;
+    let mut row = RowPairs::new(alloc);
     'rows: loop {
-        match walker.next_row(alloc) {
+        match walker.next_row(alloc, &mut row) {
             Err(WalkFault::TooManyPairs { limit }) => return Err(Fault::TooManyPairs { limit }),
             Err(WalkFault::NoMemory) => return Err(Fault::NoMemory),
-            Ok(None) => return Ok(writer.finish()),
-            Ok(Some(row)) => writer.push_row(row.a, &row.bs, a, &ids)?,
+            Ok(false) => return Ok(writer.finish()),
+            Ok(true) => writer.push_row(row.a, &row.bs, a, &ids)?,
         }
     }
 }

@@ -48,10 +48,11 @@ fn show_row(alloc: Global, page: &mut Buffer, row: &RowPairs) {
 
 // Shows the partners of each record that is left, and that there are no more.
 fn show_rows(alloc: Global, page: &mut Buffer, walker: &mut Walker<'_>) {
+    let mut row = RowPairs::new(alloc);
     for _ in 0..8 {
-        match walker.next_row(alloc) {
-            Ok(Some(row)) => show_row(alloc, page, &row),
-            Ok(None) => page.push(b"no more\n"),
+        match walker.next_row(alloc, &mut row) {
+            Ok(true) => show_row(alloc, page, &row),
+            Ok(false) => page.push(b"no more\n"),
             Err(_) => page.fail(Fault::NotShown),
         }
     }

@@ -118,11 +118,12 @@ pub(crate) fn decide_rows(
         possible: Vec::new(alloc),
         compared: 0,
     };
+    let mut row = RowPairs::new(alloc);
     'rows: loop {
-        match walker.next_row(alloc) {
+        match walker.next_row(alloc, &mut row) {
             Err(fault) => return Err(fault),
-            Ok(None) => return Ok(found),
-            Ok(Some(row)) => match decide_row(
+            Ok(false) => return Ok(found),
+            Ok(true) => match decide_row(
                 rule, &mut words, sides_a, sides_b, &row, with_rows, &mut found,
             ) {
                 Ok(()) => {}

@@ -1,5 +1,5 @@
 // The rows of B that share a key with each row of A.
-ghost use Rattle.std.specs.Prelude.{◌≡◌, ◌<◌, length, slice_index_or, IfOk, IfSome};
+ghost use Rattle.std.specs.Prelude.{◌≡◌, ◌<◌, length, slice_index_or, IfOk, IfSome, OnOk};
 ghost use Rattle.block_passes.specs.KeyIds.{key_ids};
 ghost use Rattle.pair_walk.specs.Joining.{AreKeyed};
 ghost use Rattle.pair_walk.specs.Rows.{AreAllReady, AreKeysHeld, all_rows, no_partners};
@@ -104,13 +104,12 @@ impl Blocks {
         self.rows
     }
 
-    // The rows of B for a row of A, rising.
-    pub(crate) fn partners(&self, alloc: Global, at: u32) -> Result<Vec<u32>, NoMemory>
+    // Puts the rows of B for a row of A, rising, in place of what stood in `bs`.
+    pub(crate) fn partners(&self, alloc: Global, at: u32, bs: &mut Vec<u32>) -> Result<(), NoMemory>
         requires { at < length self.now }
-        ensures { IfOk result (λ bs. slice_index_or self.now at no_partners ≡ record { a = at; bs = bs.items }) }
+        ensures { OnOk result (slice_index_or self.now at no_partners ≡ record { a = at; bs = bs.new.items }) }
     {
-        let bs = join_row(alloc, &self.passes, at)?;
-        Ok(bs)
+        join_row(alloc, &self.passes, at, bs)
     }
 
     /// A walk over the rows from the first on.

@@ -62,11 +62,12 @@ fn collect(alloc: Global, mut walker: Walker<'_>) -> Result<Pairs, WalkFault>
     ensures { GivesPairs (pairs_of_rows walker.entry.left) result }
 {
     let mut pairs = Vec::new(alloc);
+    let mut row = RowPairs::new(alloc);
     'rows: loop {
-        match walker.next_row(alloc) {
+        match walker.next_row(alloc, &mut row) {
             Err(fault) => return Err(fault),
-            Ok(None) => return Ok(Pairs { pairs }),
-            Ok(Some(row)) => match push_row(&mut pairs, &row) {
+            Ok(false) => return Ok(Pairs { pairs }),
+            Ok(true) => match push_row(&mut pairs, &row) {
                 Ok(()) => {}
                 Err(NoMemory) => return Err(WalkFault::NoMemory),
             },

@@ -1,5 +1,5 @@
 // The pairs row by row.
-ghost use Rattle.std.specs.Prelude.{◌≡◌};
+ghost use Rattle.std.specs.Prelude.{◌≡◌, []};
 
 use crate::blocks::Blocks;
 use crate::fault::WalkFault;
@@ -13,6 +13,19 @@ use std::marker::Model;
 pub struct RowPairs {
     pub a: u32,
     pub bs: Vec<u32>,
+}
+
+impl RowPairs {
+    /// A row of no pairs, for a walk to fill. It takes no memory.
+    pub fn new(alloc: Global) -> RowPairs
+        ensures a { result.a ≡ 0 }
+        ensures bs { result.bs.items ≡ [] }
+    {
+        RowPairs {
+            a: 0,
+            bs: Vec::new(alloc),
+        }
+    }
 }
 
 /// The compared pairs of two files, row by row. Contracts see the list of the rows not yet given and
@@ -51,26 +64,26 @@ impl<'b> Walker<'b> {
         }
     }
 
-    /// The pairs of the next row of A, and `None` exactly where every row was given. There are too
-    /// many pairs exactly where those given so far and those of this row pass `MOST_PAIRS`. A refusal
-    /// changes nothing.
-    pub fn next_row(&mut self, alloc: Global) -> Result<Option<RowPairs>, WalkFault>
-        ensures { NextRow self.old self.new result }
+    /// The pairs of the next row of A, put in place of what stood in `row`; `false` exactly where every row was given. There are
+    /// too many pairs exactly where those given so far and those of this row pass `MOST_PAIRS`. A refusal leaves the walk as it
+    /// was; what stands in `row` then says nothing.
+    pub fn next_row(&mut self, alloc: Global, row: &mut RowPairs) -> Result<bool, WalkFault>
+        ensures { NextRow self.old self.new row.new result }
     {
         if self.at >= self.blocks.rows() {
-            return Ok(None);
+            return Ok(false);
         }
         let a = self.at;
-        let bs = match self.blocks.partners(alloc, a) {
-            Ok(bs) => bs,
-            Err(NoMemory) => return Err(WalkFault::NoMemory),
-        };
-        let given = self.given + bs.len() as u64;
+        if let Err(NoMemory) = self.blocks.partners(alloc, a, &mut row.bs) {
+            return Err(WalkFault::NoMemory);
+        }
+        let given = self.given + row.bs.len() as u64;
         if given > MOST_PAIRS {
             return Err(WalkFault::TooManyPairs { limit: MOST_PAIRS });
         }
+        row.a = a;
         self.at = a + 1;
         self.given = given;
-        Ok(Some(RowPairs { a, bs }))
+        Ok(true)
     }
 }

@@ -1,20 +1,18 @@
-use Rattle.std.proofs.Common.{◌<◌, ℕ, List, Ok, Option, arith, length, subst, sym}
+use Rattle.std.proofs.Common.{◌<◌, ℕ, List, arith, length, subst, sym}
 use Rattle.std.specs.Prelude.{All}
 use Rattle.link_report.proofs.LineLemmas.{count_of_ids}
 use Rattle.link_report.specs.Lines.{ids_line}
 use Rattle.link_core.proofs.PairLemmas.{lines_more, row_in_a, row_in_b}
 use Rattle.pair_decisions.proofs.WalkLemmas.{count_more, rest_holds, row_holds}
 use Rattle.pair_decisions.specs.Pairs.{IsInside}
-use Rattle.pair_walk.specs.Next.{GivesRow, NextRow}
-use Rattle.pair_walk.specs.declared.walker.RowPairs.{RowPairs}
+use Rattle.pair_walk.specs.Next.{GivesRow}
 use Rattle.link_core.proofs.pairs.ids_of_rows.Goals as goal
 
 pub push_row-requires : goal.push_row-requires
 push_row-requires c =
-    let P : Option RowPairs → Type 0 = λ row. NextRow c.rows.walker c.next_row.new.self (Ok row) in
-    let next : GivesRow c.rows.walker c.next_row.new.self c.in-Ok-Some.row = subst P c.in-Ok-Some.field-0-is c.in-Ok-Some.ensures in
-    let a = c.in-Ok-Some.row.a in
-    let bs = c.in-Ok-Some.row.bs.items in
+    let next : GivesRow c.rows.walker c.next_row.new.self c.next_row.new.row = rw c.in-Ok-true.field-0-test at c.in-Ok-true.ensures in
+    let a = c.next_row.new.row.a in
+    let bs = c.next_row.new.row.bs.items in
     let rows_a = length c.args.a.now in
     let rows_b = length c.args.b.now in
     let inside = row_holds (IsInside rows_a rows_b) c.rows.walker.left c.next_row.new.self.left a bs next.0 c.rows.invariant.inside in
@@ -28,14 +26,13 @@ push_row-requires c =
 
 pub rows-preserved : goal.rows-preserved
 rows-preserved c =
-    let P : Option RowPairs → Type 0 = λ row. NextRow c.rows.walker c.next_row.new.self (Ok row) in
-    let next : GivesRow c.rows.walker c.next_row.new.self c.in-Ok-Some.row = subst P c.in-Ok-Some.field-0-is c.in-Ok-Some.ensures in
+    let next : GivesRow c.rows.walker c.next_row.new.self c.next_row.new.row = rw c.in-Ok-true.field-0-test at c.in-Ok-true.ensures in
     let old = c.rows.walker.left in
     let rest = c.next_row.new.self.left in
-    let a = c.in-Ok-Some.row.a in
-    let bs = c.in-Ok-Some.row.bs.items in
+    let a = c.next_row.new.row.a in
+    let bs = c.next_row.new.row.bs.items in
     let more = count_more old rest a bs next.0 in
-    let written = rw c.deref.ensures.value at (c.in_ok-push_row-in-Ok-Some.ensures c.args.b.now c.in_ok-ids.ensures) in
+    let written = rw c.deref.ensures.value at (c.in_ok-push_row-in-Ok-true.ensures c.args.b.now c.in_ok-ids.ensures) in
     record {
       given = omega (arith, next.1, more, c.rows.invariant.given);
       few = next.2;

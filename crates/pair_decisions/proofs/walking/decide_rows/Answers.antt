@@ -1,4 +1,4 @@
-use Rattle.std.proofs.Common.{◌∙◌, Ok, Option, arith, length, subst}
+use Rattle.std.proofs.Common.{◌∙◌, arith, length}
 use Rattle.std.proofs.lemmas.List.Elements.{filter-append}
 use Rattle.link_base.specs.declared.rule.Decision.{Decision}
 use Rattle.link_base.specs.declared.rule.Decision.TheVariants.{Link, Possible}
@@ -9,30 +9,26 @@ use Rattle.pair_decisions.specs.Decisions.{decision_at, is_same, pairs_with}
 use Rattle.pair_decisions.specs.PairRows.{decided_row, decided_rows, kept_rows}
 use Rattle.pair_decisions.specs.PairRule.{side_rule}
 use Rattle.pair_decisions.specs.Pairs.{IsInside}
-use Rattle.pair_walk.specs.Next.{GivesRow, NextRow}
-use Rattle.pair_walk.specs.declared.walker.RowPairs.{RowPairs}
+use Rattle.pair_walk.specs.Next.{GivesRow}
 use Rattle.pair_decisions.proofs.walking.decide_rows.Goals as goal
 
 pub decide_row-requires-clause-inside : goal.decide_row-requires-clause-inside
 decide_row-requires-clause-inside c =
-    let P : Option RowPairs → Type 0 = λ row. NextRow c.rows.walker c.next_row.new.self (Ok row) in
-    let next : GivesRow c.rows.walker c.next_row.new.self c.in-Ok-Some.row = subst P c.in-Ok-Some.field-0-is c.in-Ok-Some.ensures in
-    row_holds (IsInside (length c.args.sides_a.now.rows) (length c.args.sides_b.now.rows)) c.rows.walker.left c.next_row.new.self.left c.in-Ok-Some.row.a c.in-Ok-Some.row.bs.items next.0 c.rows.invariant.inside
+    let next : GivesRow c.rows.walker c.next_row.new.self c.next_row.new.row = rw c.in-Ok-true.field-0-test at c.in-Ok-true.ensures in
+    row_holds (IsInside (length c.args.sides_a.now.rows) (length c.args.sides_b.now.rows)) c.rows.walker.left c.next_row.new.self.left c.next_row.new.row.a c.next_row.new.row.bs.items next.0 c.rows.invariant.inside
 
 pub decide_row-requires-clause-few : goal.decide_row-requires-clause-few
 decide_row-requires-clause-few c =
-    let P : Option RowPairs → Type 0 = λ row. NextRow c.rows.walker c.next_row.new.self (Ok row) in
-    let next : GivesRow c.rows.walker c.next_row.new.self c.in-Ok-Some.row = subst P c.in-Ok-Some.field-0-is c.in-Ok-Some.ensures in
+    let next : GivesRow c.rows.walker c.next_row.new.self c.next_row.new.row = rw c.in-Ok-true.field-0-test at c.in-Ok-true.ensures in
     omega (arith, next.1, next.2, c.rows.invariant.given)
 
 pub rows-preserved : goal.rows-preserved
 rows-preserved c =
     let old = c.rows.walker.left in
     let rest = c.next_row.new.self.left in
-    let a = c.in-Ok-Some.row.a in
-    let bs = c.in-Ok-Some.row.bs.items in
-    let P : Option RowPairs → Type 0 = λ row. NextRow c.rows.walker c.next_row.new.self (Ok row) in
-    let next : GivesRow c.rows.walker c.next_row.new.self c.in-Ok-Some.row = subst P c.in-Ok-Some.field-0-is c.in-Ok-Some.ensures in
+    let a = c.next_row.new.row.a in
+    let bs = c.next_row.new.row.bs.items in
+    let next : GivesRow c.rows.walker c.next_row.new.self c.next_row.new.row = rw c.in-Ok-true.field-0-test at c.in-Ok-true.ensures in
     let rule = side_rule c.args.rule.now in
     let rows_a = c.args.sides_a.now.rows in
     let rows_b = c.args.sides_b.now.rows in

@@ -1,4 +1,5 @@
 use Rattle.std.proofs.Common.{◌≡◌, ◌<◌, ◌∙◌, ap, arith, get_or, length, sym}
+use Rattle.std.proofs.lemmas.Result.{on_ok_weaker}
 use Rattle.pair_walk.specs.Rows.{no_partners}
 use Rattle.pair_walk.proofs.JoinLemmas.{joined-first, joined-len, row-is}
 use Rattle.pair_walk.proofs.blocks.Blocks.partners.Goals as goal
@@ -15,7 +16,8 @@ returns c =
     let passes = blocks.passes.items in
     let many : blocks.rows ≡ length c.args.self.now = sym (joined-len passes blocks.width 0 blocks.rows) ∙ ap length c.self.view_is in
     let lt : c.args.at < blocks.rows = omega (arith, c.requires, many) in
-    let bs = rw c.deref.ensures.value at c.in_ok-bs.ensures in
-    sym (ap (λ rows. get_or rows c.args.at no_partners) c.self.view_is)
+    on_ok_weaker c.join_row.result
+    (λ bs. sym (ap (λ rows. get_or rows c.args.at no_partners) c.self.view_is)
     ∙ joined-first passes blocks.width blocks.rows c.args.at lt
-    ∙ row-is c.args.at _ _ (sym (bs blocks.width (c.self.invariant.1 c.args.at lt)))
+    ∙ row-is c.args.at _ _ (sym (bs blocks.width (c.self.invariant.1 c.args.at lt))))
+    (rw c.deref.ensures.value at c.join_row.ensures)

@@ -10,7 +10,7 @@ returns c =
     let lt : walker.at < length rows = omega (arith, c.if-self-rows.false, c.rows.ensures) in (
       sym (ap (λ w. w.left) c.self.view_is)
           ∙ drop_more rows walker.at no_partners lt
-          ∙ ap (λ (row : RowAt). row ∷ drop (walker.at + 1) rows) c.in-Ok.ensures,
+          ∙ ap (λ (row : RowAt). row ∷ drop (walker.at + 1) rows) c.in_default.ensures,
       search rules,
       c.if-given-gt-MOST_PAIRS.false,
     )
