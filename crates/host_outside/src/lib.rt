@@ -1,10 +1,13 @@
-//! The outside of a run on the host: its files as a store, its streams as sinks, and the words that it was called with.
+//! The outside of a run on the host: its files as a store, its streams as sinks, its memory,
+//! and the words that it was called with.
 #![tactic(auto)]
 
 mod host_files;
+mod host_memory;
 mod host_stream;
 mod words;
 
 pub use host_files::HostFiles;
+pub use host_memory::keep_memory;
 pub use host_stream::HostStream;
 pub use words::words_after_name;

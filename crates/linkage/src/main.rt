@@ -2,7 +2,7 @@
 //! the host, and prints or writes what a command's words ask for.
 #![tactic(auto)]
 
-use host_outside::{HostFiles, HostStream, words_after_name};
+use host_outside::{HostFiles, HostStream, keep_memory, words_after_name};
 use link_shell::linkage;
 use std::env;
 use std::process::ExitCode;
@@ -12,6 +12,7 @@ const NO_MEMORY: u8 = 8;
 
 fn main(rt: HostRuntime) -> ExitCode {
     let alloc = rt.alloc();
+    keep_memory(alloc);
     let Ok(words) = words_after_name(alloc, env::args(&rt)) else {
         return ExitCode::from(NO_MEMORY);
     };
