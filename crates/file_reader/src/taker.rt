@@ -23,7 +23,7 @@ pub struct TableIds {
 #[derive(Drop)]
 pub struct RowFields<'a> {
     columns: &'a [Column],
-    record: &'a ByteRecord,
+    row: &'a ByteRecord,
 }
 
 impl<'a> Model for RowFields<'a> {
@@ -33,15 +33,15 @@ impl<'a> Model for RowFields<'a> {
 
     ghost Value = { List (List ℕ) };
 
-    ghost view = { λ r. cells_of r.columns.now (fields_of r.record.now) };
+    ghost view = { λ r. cells_of r.columns.now (fields_of r.row.now) };
 }
 
 impl<'a> RowFields<'a> {
-    // The fields of a record in these columns.
-    pub(crate) fn of(columns: &'a [Column], record: &'a ByteRecord) -> RowFields<'a>
-        ensures { result ≡ cells_of columns.now (fields_of record.now) }
+    // The fields of a row in these columns.
+    pub(crate) fn of(columns: &'a [Column], row: &'a ByteRecord) -> RowFields<'a>
+        ensures { result ≡ cells_of columns.now (fields_of row.now) }
     {
-        RowFields { columns, record }
+        RowFields { columns, row }
     }
 
     /// The number of fields.
@@ -56,7 +56,7 @@ impl<'a> RowFields<'a> {
         requires { at < length self.now }
         ensures { result.now ≡ slice_index_or self.now at [] }
     {
-        field_of(self.record, self.columns[at].place)
+        field_of(self.row, self.columns[at].place)
     }
 }
 

@@ -1,15 +1,14 @@
 -- Where an id stands among those that are held, whether it does, and that no one stands twice.
-use Rattle.std.proofs.Common.{◌≡◌, ◌≢◌, ◌^◌, ◌∷◌, ◌++◌, ◌∙◌, ◌+◌, ◌<◌, ◌≤◌, ℕ, suc, Bool, true, false, List, [], Option, Some, None, arith, ap, bytes_eq, inl, inr, length, get_or, nat_lt, refl, sym}
+use Rattle.std.proofs.Common.{◌≡◌, ◌∷◌, ◌++◌, ◌∙◌, ◌+◌, ◌<◌, ◌≤◌, ℕ, suc, Bool, true, false, List, [], Option, Some, None, arith, ap, bytes_eq, inl, inr, length, get_or, nat_lt, refl, sym}
 use Rattle.std.specs.Prelude.{IfSome, if◌then◌else◌, is_some, slice_get}
 use Rattle.std.specs.List.{list_any, position_or_len}
 use Rattle.std.proofs.lemmas.Bool.{cases_Bool}
 use Rattle.std.proofs.lemmas.Bool.Decides.{nat_tests}
-use Rattle.std.proofs.lemmas.List.{get_or_append_left, length_push}
-use Rattle.std.proofs.lemmas.List.Quantifiers.{all_pairs_push}
+use Rattle.std.proofs.lemmas.List.{get_or_append_left}
 use Rattle.std.proofs.lemmas.List.Sums.{fails_before_first}
 use Rattle.std.proofs.lemmas.Option.{get_or_from_slice_get, slice_get_within}
 use Rattle.std.proofs.lemmas.Slice.Eq.{bytes_eq-Decides}
-use Rattle.link_base.specs.Ids.{AreDistinct, IsNewId, Keeps, position_among}
+use Rattle.link_base.specs.Ids.{IsNewId, Keeps, position_among}
 use Rattle.link_texts.specs.Texts.{stands_among}
 use Rattle.value_pool.proofs.PlaceLemmas.{found-place, held-turned}
 use Rattle.value_pool.proofs.SearchLemmas.{held_where}
@@ -86,12 +85,3 @@ new_if_none id ids none k d within is = by_test (nat_lt (position_or_len (bytes_
         let other : bytes_eq id (get_or ids k d) ≡ false = fails_before_first (bytes_eq id) ids k d (omega (arith, past, within)) in
         let held : bytes_eq id (get_or ids k d) ≡ true = (bytes_eq-Decides id (get_or ids k d)).1 (sym is) in
         cc
-
--- what a set keeps
-abbrev pub Holds : List (List ℕ) → Type 0
-Holds ids = AreDistinct ids × (length ids < 2 ^ 32)
-
-pub kept_distinct : (id : List ℕ) (old new : List (List ℕ)) (found : Option ℕ) → Holds old → length old + 1 < 2 ^ 32 → Keeps id old new found → Holds new
-kept_distinct id old new (Some place) holds room keeps = rw keeps.1 holds
-kept_distinct id old new None holds room keeps =
-    (rw keeps.1 (all_pairs_push (λ (x y : List ℕ). x ≢ y) old id holds.0 (new_if_none id old keeps.0)), omega (arith, room, ap length keeps.1 ∙ length_push old id))

@@ -1,5 +1,5 @@
 // Distinct ids with their places.
-ghost use Rattle.std.specs.Prelude.{◌≡◌, ◌+◌, ◌^◌, ◌<◌, [], length, IfNone, IfOk, IfSome, OnErr, slice_index_or};
+ghost use Rattle.std.specs.Prelude.{◌≡◌, ◌<◌, [], length, IfNone, IfOk, IfSome, OnErr, slice_index_or};
 ghost use Rattle.link_base.specs.Ids.{AreDistinct, IsNewId, Keeps, position_among};
 
 use link_limits::MOST_POOL_LIMIT;
@@ -18,14 +18,14 @@ pub struct IdSet {
 }
 
 impl Model for IdSet {
-    ghost use Rattle.std.specs.Prelude.{◌^◌, ◌<◌, length, ℕ, List};
-    ghost use Rattle.link_base.specs.Ids.{AreDistinct};
+    ghost use Rattle.std.specs.Prelude.{◌≡◌, ℕ, List};
+    ghost use Rattle.link_limits.specs.declared.TheConstants.{MOST_POOL_LIMIT};
 
     ghost Value = { List (List ℕ) };
 
     ghost view = { λ s. s.pool.texts };
 
-    ghost invariant = { λ s. AreDistinct s.pool.texts × (length s.pool.texts < 2 ^ 32) };
+    ghost invariant = { λ s. s.pool.limit ≡ MOST_POOL_LIMIT };
 }
 
 impl IdSet {
@@ -48,7 +48,6 @@ impl IdSet {
 
     /// Keeps an id that is new; else gives the place of the one that is held. A set of more than 1 GiB is want of memory.
     pub fn keep(&mut self, alloc: Global, id: &[u8]) -> Result<Option<usize>, NoMemory>
-        requires room { length self.old + 1 < 2 ^ 32 }
         ensures keeps { IfOk result (λ found. Keeps id.now self.old self.new found) }
         ensures within { IfOk result (λ found. IfSome found (λ place. place < length self.old)) }
         ensures err { OnErr result (self.new ≡ self.old) }
@@ -97,6 +96,6 @@ impl IdSet {
     pub fn distinct(&self)
         ensures { AreDistinct self.now }
     {
-        let _ = &self.pool;
+        self.pool.are_distinct();
     }
 }

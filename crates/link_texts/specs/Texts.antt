@@ -1,5 +1,5 @@
--- Whether a text stands among others, which `Pool::find` of value_pool carries by its clause `held`. The rest is machinery
--- of `Text::bytes`: where the bytes of a text stand.
+-- Whether a text stands among others, which `Pool::find` of value_pool carries by its clause `held` and `is_listed` of settings_readers
+-- by its result. The rest is machinery of `Text::bytes`: where the bytes of a text stand.
 use Rattle.std.specs.Prelude.{ℕ, List, Bool, bytes_eq}
 use Rattle.std.specs.List.{list_any}
 use Rattle.link_texts.specs.declared.text.Bytes.{Bytes}

@@ -1,5 +1,5 @@
 use Rattle.std.proofs.Common.{arith}
-use Rattle.link_base.proofs.IdFacts.{kept_distinct, kept_last, kept_there}
+use Rattle.link_base.proofs.IdFacts.{kept_last, kept_there}
 use Rattle.link_base.proofs.ids.IdSet.keep.Goals as goal
 
 pub returns-then-place-held-clause-keeps : goal.returns-then-place-held-clause-keeps
@@ -9,13 +9,3 @@ returns-then-place-held-clause-keeps c =
 pub returns-clause-keeps : goal.returns-clause-keeps
 returns-clause-keeps c =
     rw (← c.self.view_is) (kept_last c.args.id.now c.self.inside.pool.texts c.intern.new.self.texts c.in-Ok.found c.in-Ok.ensures.found c.in-Ok.ensures.texts c.are_distinct.ensures.same_id (omega (arith, c.if-place-held.false, c.len-held.ensures)))
-
-pub invariant_of-self-then-place-held : goal.invariant_of-self-then-place-held
-invariant_of-self-then-place-held c =
-    kept_distinct c.args.id.now c.self.inside.pool.texts _ _ c.self.invariant (rw c.self.view_is c.requires.room)
-    (kept_there c.args.id.now c.self.inside.pool.texts c.intern.new.self.texts c.in-Ok.found c.in-Ok.ensures.found c.in-Ok.ensures.texts c.are_distinct.ensures.same_id (omega (arith, c.if-place-held.true, c.len-held.ensures)))
-
-pub invariant_of-self-2 : goal.invariant_of-self-2
-invariant_of-self-2 c =
-    kept_distinct c.args.id.now c.self.inside.pool.texts _ _ c.self.invariant (rw c.self.view_is c.requires.room)
-    (kept_last c.args.id.now c.self.inside.pool.texts c.intern.new.self.texts c.in-Ok.found c.in-Ok.ensures.found c.in-Ok.ensures.texts c.are_distinct.ensures.same_id (omega (arith, c.if-place-held.false, c.len-held.ensures)))
