@@ -2,6 +2,7 @@ pub mod Answers
 pub mod Fault
 pub mod Ids
 pub mod Region
+pub mod RisingIds
 pub mod Rows
 pub mod RowsWriter
 pub mod Rule

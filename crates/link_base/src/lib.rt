@@ -6,6 +6,7 @@ mod fault;
 mod ids;
 mod plan;
 mod region;
+mod rising_ids;
 mod row;
 mod rows;
 mod rows_writer;
