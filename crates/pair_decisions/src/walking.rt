@@ -28,6 +28,21 @@ pub(crate) struct Found {
     pub(crate) compared: u32,
 }
 
+// Room for the rows of the pairs of a walk, where they are to be kept.
+fn room_for_rows(
+    alloc: Global,
+    walker: &Walker<'_>,
+    with_rows: bool,
+) -> Result<Vec<PairRow>, NoMemory>
+    ensures { IfOk result (λ rows. rows.items ≡ []) }
+{
+    if !with_rows {
+        return Ok(Vec::new(alloc));
+    }
+    let room = walker.usual_pairs().min(MOST_PAIRS as usize);
+    Ok(Vec::with_capacity(alloc, room)?)
+}
+
 // Keeps a pair that is a link or a possible link.
 fn keep_pair(found: &mut Found, at: PairAt, decision: Decision) -> Result<(), NoMemory>
     ensures rows { found.new.rows.items ≡ found.old.rows.items }
@@ -112,8 +127,12 @@ pub(crate) fn decide_rows(
     ensures possible { IfOk result (λ found. found.possible.items ≡ pairs_with Possible (side_rule rule.now) sides_a.now.rows sides_b.now.rows (pairs_of_rows walker.entry.left)) }
 {
     let mut words = BorderWords::new(rule.seed());
+    let kept = match room_for_rows(alloc, &walker, with_rows) {
+        Ok(kept) => kept,
+        Err(NoMemory) => return Err(WalkFault::NoMemory),
+    };
     let mut found = Found {
-        rows: Vec::new(alloc),
+        rows: kept,
         links: Vec::new(alloc),
         possible: Vec::new(alloc),
         compared: 0,

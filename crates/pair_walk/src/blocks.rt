@@ -1,5 +1,5 @@
 // The rows of B that share a key with each row of A.
-ghost use Rattle.std.specs.Prelude.{◌≡◌, ◌<◌, length, slice_index_or, IfOk, IfSome, OnOk};
+ghost use Rattle.std.specs.Prelude.{◌≡◌, ◌<◌, ◌≤◌, length, slice_index_or, IfOk, IfSome, OnOk};
 ghost use Rattle.block_passes.specs.KeyIds.{key_ids};
 ghost use Rattle.pair_walk.specs.Joining.{AreKeyed};
 ghost use Rattle.pair_walk.specs.Rows.{AreAllReady, AreKeysHeld, all_rows, no_partners};
@@ -12,6 +12,17 @@ use link_base::{NoMemory, PassList, StdFile};
 use std::alloc::Global;
 use std::marker::Model;
 use value_pool::{MaybeId, Pool};
+
+// How many pairs the first rows of a pass come to, or all that can be counted.
+fn pairs_in(pass: &PassRows, rows: u32) -> usize
+    requires { rows ≤ length pass.now }
+{
+    let mut pairs = 0usize;
+    for at in 0..rows {
+        pairs = pairs.saturating_add(pass.rows(at).len());
+    }
+    pairs
+}
 
 /// The blocks of two files: for each record of A those of B that share a key with it in some blocking pass (Newcombe et al.
 /// 1959). Contracts see the list of these rows. They are walked as often as they are needed.
@@ -102,6 +113,15 @@ impl Blocks {
         ensures { result ≡ length self.now }
     {
         self.rows
+    }
+
+    // About how many pairs these rows come to: one that shares a key in two passes is counted in both.
+    pub(crate) fn usual_pairs(&self) -> usize {
+        let mut pairs = 0usize;
+        for pass in &self.passes {
+            pairs = pairs.saturating_add(pairs_in(pass, self.rows));
+        }
+        pairs
     }
 
     // Puts the rows of B for a row of A, rising, in place of what stood in `bs`.

@@ -64,6 +64,11 @@ impl<'b> Walker<'b> {
         }
     }
 
+    /// About how many pairs the whole walk comes to, for the making of room.
+    pub fn usual_pairs(&self) -> usize {
+        self.blocks.usual_pairs()
+    }
+
     /// The pairs of the next row of A, put in place of what stood in `row`; `false` exactly where every row was given. There are
     /// too many pairs exactly where those given so far and those of this row pass `MOST_PAIRS`. A refusal leaves the walk as it
     /// was; what stands in `row` then says nothing.
