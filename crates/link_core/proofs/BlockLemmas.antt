@@ -7,7 +7,7 @@ use Rattle.pair_decisions.specs.Pairs.{IsInside}
 use Rattle.pair_walk.proofs.PairLemmas.{all-pairs}
 use Rattle.pair_walk.specs.Pairs.{pairs_of_rows}
 use Rattle.pair_walk.specs.Rows.{RowAt, all_rows}
-use Rattle.settings.specs.declared.plan.Plan.{Plan}
+use Rattle.link_plan.specs.declared.plan.Plan.{Plan}
 use Rattle.link_core.specs.Prepared.{PreparedView}
 use Rattle.link_core.specs.Results.{compared_in}
 

@@ -19,8 +19,8 @@ use Rattle.pair_walk.specs.Rows.{RowAt, all_rows}
 use Rattle.patterns.specs.Shapes.{pattern_count_by}
 use Rattle.pair_decisions.specs.Comparators.{rares_of}
 use Rattle.pair_decisions.specs.PlanRule.{IsRuleOf}
-use Rattle.settings.specs.Plan.{PlainShares}
-use Rattle.settings.specs.declared.plan.Plan.{Plan}
+use Rattle.link_plan.specs.Plan.{PlainShares}
+use Rattle.link_plan.specs.declared.plan.Plan.{Plan}
 use Rattle.link_core.specs.Decisions.{decided, decided_by, Decisions, decisions_of, IsDecidedIn, rule_over}
 use Rattle.link_core.specs.Prepared.{PreparedView}
 use Rattle.link_core.specs.Results.{compared_in, IsDecidedFor, KeepsRows}

@@ -11,8 +11,8 @@ use Rattle.link_base.specs.Answers.{and_then}
 use Rattle.link_base.specs.declared.fault.Fault.{Fault}
 use Rattle.link_base.specs.declared.fault.FileRole.{FileRole}
 use Rattle.link_base.specs.declared.fault.FileRole.TheVariants as role
-use Rattle.settings.specs.Within.{plan_within}
-use Rattle.settings.specs.declared.plan.Plan.{Plan}
+use Rattle.link_plan.specs.Within.{plan_within}
+use Rattle.link_plan.specs.declared.plan.Plan.{Plan}
 use Rattle.standard_files.specs.Files.{sorts_a, sorts_b, standard_file, standard_files, standard_pair, StandardFile, StandardPair, table_a, table_b, wanted_a, wanted_b}
 use Rattle.standard_files.specs.Values.{standard_record}
 use Rattle.standard_files.specs.declared.sorts.TextSort.{TextSort}

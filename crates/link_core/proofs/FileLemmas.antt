@@ -17,7 +17,7 @@ use Rattle.link_base.specs.declared.fault.FileRole.{FileRole}
 use Rattle.link_base.specs.declared.fault.FileRole.TheVariants as role
 use Rattle.link_base.specs.declared.tables.Tables.{Tables}
 use Rattle.link_limits.specs.declared.TheConstants.{MOST_FIELD_BYTES, MOST_ROWS}
-use Rattle.settings.specs.declared.plan.Plan.{Plan}
+use Rattle.link_plan.specs.declared.plan.Plan.{Plan}
 use Rattle.standard_files.specs.Files.{sorts_a, sorts_b, standard_file, standard_files, StandardFile, StandardPair, table_a, table_b, wanted_a, wanted_b}
 use Rattle.standard_files.specs.Values.{standard_record, standard_records}
 use Rattle.standard_files.specs.declared.sorts.TextSort.{TextSort}

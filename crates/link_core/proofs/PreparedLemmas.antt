@@ -6,7 +6,7 @@ use Rattle.link_base.specs.Standard.{Record}
 use Rattle.link_base.specs.declared.fault.Fault.{Fault}
 use Rattle.link_base.proofs.AnswerFacts.{refuses_then}
 use Rattle.standard_files.specs.Sides.{pooled_values, PooledView}
-use Rattle.settings.specs.declared.plan.Plan.{Plan}
+use Rattle.link_plan.specs.declared.plan.Plan.{Plan}
 use Rattle.standard_files.specs.Files.{standard_files, StandardPair}
 use Rattle.link_core.specs.Prepared.{kinds_of, pooled, prepared, PreparedView, with_fault}
 

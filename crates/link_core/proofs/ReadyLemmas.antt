@@ -13,9 +13,9 @@ use Rattle.block_passes.specs.Keys.{AreReadable, InRange, no_part}
 use Rattle.value_forms.proofs.ReadableLemmas.{readable_valid}
 use Rattle.pair_walk.specs.Rows.{AreAllReady}
 use Rattle.standard_files.specs.Ready.{AreInRange, IsRowFor}
-use Rattle.settings.specs.Plan.{FieldKeys}
-use Rattle.settings.specs.Ranges.{IsPart, IsPass, KeepsRanges}
-use Rattle.settings.specs.declared.plan.Plan.{Plan}
+use Rattle.link_plan.specs.Plan.{FieldKeys}
+use Rattle.link_plan.specs.Ranges.{IsPart, IsPass, KeepsRanges}
+use Rattle.link_plan.specs.declared.plan.Plan.{Plan}
 use Rattle.standard_files.specs.Files.{AreOfPlan, sorts_of}
 use Rattle.standard_files.specs.Values.{AreOfSorts, IsOfSort}
 use Rattle.link_core.specs.Prepared.{kinds_of}

@@ -11,7 +11,7 @@ use Rattle.link_report.specs.declared.report.Dropped.{Dropped}
 use Rattle.pair_decisions.specs.Decisions.{AreDecisionsOn, DecidedView}
 use Rattle.pair_decisions.specs.PairRule.{side_rule}
 use Rattle.review_journal.specs.declared.entry.Entry.{Entry}
-use Rattle.settings.specs.declared.plan.Plan.{Plan}
+use Rattle.link_plan.specs.declared.plan.Plan.{Plan}
 use Rattle.link_core.specs.Decisions.{IsDecidedIn}
 use Rattle.link_core.specs.Prepared.{PreparedView}
 use Rattle.link_core.specs.Results.{candidates_in, compared_in, IsDecidedFor}

@@ -15,8 +15,8 @@ use Rattle.level_frontier.specs.declared.levels.FrontierRow.{FrontierRow}
 use Rattle.link_report.specs.FrontierText.{text_of_frontier}
 use Rattle.link_report.specs.RuleText.{text_of_rule}
 use Rattle.patterns.specs.Chances.{rare_in}
-use Rattle.settings.specs.Plan.{FieldKeys, plain_shares, PlainShares}
-use Rattle.settings.specs.declared.plan.Plan.{Plan}
+use Rattle.link_plan.specs.Plan.{FieldKeys, plain_shares, PlainShares}
+use Rattle.link_plan.specs.declared.plan.Plan.{Plan}
 use Rattle.standard_files.specs.Ready.{AreFileSides}
 use Rattle.pair_decisions.proofs.ComparatorLemmas.{map_via}
 use Rattle.pair_decisions.proofs.RuleSideLemmas.{sides_of_fields}

@@ -27,8 +27,8 @@ use Rattle.price_check.specs.Verdict.{HasAllowedValue}
 use Rattle.review_journal.specs.declared.entry.Entry.{Entry}
 use Rattle.sample_counts.specs.Sample.{sample_of}
 use Rattle.file_reader.specs.Left.{records_in}
-use Rattle.settings.specs.Plan.{FieldKeys, plain_shares, PlainShares}
-use Rattle.settings.specs.declared.plan.Plan.{Plan}
+use Rattle.link_plan.specs.Plan.{FieldKeys, plain_shares, PlainShares}
+use Rattle.link_plan.specs.declared.plan.Plan.{Plan}
 use Rattle.written_check.specs.Laws.{AreCandidatesOf}
 use Rattle.written_check.specs.Short.{AreSmallCells, HasAllowedWeight, IsSmallCell}
 use Rattle.link_core.proofs.DuplicateLemmas.{came, ok_is}

@@ -11,8 +11,8 @@ use Rattle.pair_decisions.specs.PairRows.{AreRowsIn}
 use Rattle.pair_decisions.specs.PairRule.{AreSidesFor, side_rule, side_rule_of, SideRule}
 use Rattle.pair_decisions.specs.Pairs.{IsInside}
 use Rattle.pair_decisions.specs.TheRule.{the_rule}
-use Rattle.settings.specs.Plan.{PlainShares}
-use Rattle.settings.specs.declared.plan.Plan.{Plan}
+use Rattle.link_plan.specs.Plan.{PlainShares}
+use Rattle.link_plan.specs.declared.plan.Plan.{Plan}
 use Rattle.link_core.specs.Pairs.{plan_pairs}
 use Rattle.link_core.specs.Prepared.{PreparedView}
 

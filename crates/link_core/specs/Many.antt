@@ -11,7 +11,7 @@ use Rattle.link_report.specs.LinksText.{text_of_links}
 use Rattle.link_report.specs.PricesText.{text_of_prices}
 use Rattle.pair_decisions.specs.PairRule.{SideRule}
 use Rattle.review_journal.specs.declared.entry.Entry.{Entry}
-use Rattle.settings.specs.declared.plan.Plan.{Plan}
+use Rattle.link_plan.specs.declared.plan.Plan.{Plan}
 use Rattle.link_core.specs.Prepared.{PreparedView}
 use Rattle.link_core.specs.Results.{candidates_in}
 

@@ -6,7 +6,7 @@ use Rattle.link_base.specs.declared.plan.Part.{Part}
 use Rattle.link_base.specs.declared.rule.PairAt.{PairAt}
 use Rattle.pair_decisions.specs.Pairs.{pairs_within}
 use Rattle.pair_walk.specs.Pairs.{compared_pairs}
-use Rattle.settings.specs.declared.plan.Plan.{Plan}
+use Rattle.link_plan.specs.declared.plan.Plan.{Plan}
 use Rattle.standard_files.specs.Files.{StandardPair}
 use Rattle.link_report.specs.Lines.{ids_text}
 use Rattle.link_core.specs.Prepared.{PreparedView}

@@ -11,8 +11,8 @@ use Rattle.link_base.specs.declared.plan.CompareKind.{CompareKind}
 use Rattle.comparators.specs.Rows.{IdRows}
 use Rattle.value_pool.specs.declared.pool.PoolFault.{PoolFault}
 use Rattle.value_pool.specs.declared.pool.PoolFault.TheVariants as pool
-use Rattle.settings.specs.Plan.{FieldKeys}
-use Rattle.settings.specs.declared.plan.Plan.{Plan}
+use Rattle.link_plan.specs.Plan.{FieldKeys}
+use Rattle.link_plan.specs.declared.plan.Plan.{Plan}
 use Rattle.standard_files.specs.Files.{standard_files, StandardPair}
 use Rattle.standard_files.specs.Ready.{AreFileSides}
 use Rattle.standard_files.specs.Sides.{pooled_values, PooledView}

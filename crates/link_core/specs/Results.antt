@@ -27,7 +27,7 @@ use Rattle.patterns.specs.Shapes.{pattern_count_by}
 use Rattle.pair_decisions.specs.Comparators.{rares_of}
 use Rattle.review_journal.specs.Idle.{idle_count}
 use Rattle.review_journal.specs.declared.entry.Entry.{Entry}
-use Rattle.settings.specs.declared.plan.Plan.{Plan}
+use Rattle.link_plan.specs.declared.plan.Plan.{Plan}
 use Rattle.link_core.specs.Prepared.{PreparedView}
 use Rattle.link_core.specs.Review.{open_pairs}
 use Rattle.link_core.specs.declared.results.RunResult.{RunResult}

@@ -13,8 +13,8 @@ use Rattle.link_report.specs.RuleText.{text_of_rule}
 use Rattle.pair_decisions.specs.Comparators.{rares_of}
 use Rattle.pair_decisions.specs.PlanRule.{IsRuleOf}
 use Rattle.pair_decisions.specs.PlanShares.{counted_in, plain_all}
-use Rattle.settings.specs.Plan.{PlainShares}
-use Rattle.settings.specs.declared.plan.Plan.{Plan}
+use Rattle.link_plan.specs.Plan.{PlainShares}
+use Rattle.link_plan.specs.declared.plan.Plan.{Plan}
 use Rattle.standard_files.specs.Files.{AreOfPlan}
 use Rattle.pair_walk.specs.Rows.{AreAllReady, AreKeysHeld}
 use Rattle.standard_files.specs.Ready.{AreFileSides}

@@ -10,9 +10,9 @@ use Rattle.pair_decisions.specs.PairRule.{SideRule}
 use Rattle.pair_decisions.specs.Comparators.{rares_of}
 use Rattle.pair_decisions.specs.PlanRule.{IsRuleOf}
 use Rattle.review_journal.specs.declared.entry.Entry.{Entry}
-use Rattle.settings.specs.Plan.{PlainShares}
+use Rattle.link_plan.specs.Plan.{PlainShares}
 use Rattle.settings.specs.Settings.{settings}
-use Rattle.settings.specs.declared.plan.Plan.{Plan}
+use Rattle.link_plan.specs.declared.plan.Plan.{Plan}
 use Rattle.written_check.specs.Laws.{written_texts}
 use Rattle.written_check.specs.Short.{AreShort}
 use Rattle.written_check.specs.Verified.{verified, WrittenTexts}

@@ -8,15 +8,15 @@ ghost use Rattle.pair_decisions.specs.PairRule.{AreCellsOf, AreSidesFor, side_ru
 ghost use Rattle.patterns.specs.Shapes.{pattern_count_by};
 ghost use Rattle.pair_decisions.specs.Comparators.{rares_of};
 ghost use Rattle.pair_decisions.specs.PlanRule.{IsRuleOf};
-ghost use Rattle.settings.specs.Ranges.{KeepsRanges};
+ghost use Rattle.link_plan.specs.Ranges.{KeepsRanges};
 
 use crate::preparing::Prepared;
 use crate::rules::PlanShares;
 use link_base::{Fault, FileRole, NoMemory};
+use link_plan::Plan;
 use pair_decisions::{
     Decided, PairRule, decide_pairs, is_the_rule, rule_has_patterns, rule_of_shares,
 };
-use settings::Plan;
 use std::alloc::Global;
 
 // The rule of a plan for these shares, over its prepared files.

@@ -8,15 +8,15 @@ ghost use Rattle.link_core.specs.Results.{IsDecidedFor};
 ghost use Rattle.link_report.specs.LinksText.{text_of_links};
 ghost use Rattle.link_report.specs.PricesText.{text_of_prices};
 ghost use Rattle.pair_decisions.specs.PairRule.{side_rule};
-ghost use Rattle.settings.specs.Ranges.{KeepsRanges};
+ghost use Rattle.link_plan.specs.Ranges.{KeepsRanges};
 
 use crate::preparing::Prepared;
 use crate::results::{candidates, link_texts};
 use candidate_links::{Capacities, LinksWithin, choose_within, read_capacities};
 use link_base::{Fault, NoMemory, Text};
+use link_plan::Plan;
 use pair_decisions::Decided;
 use review_journal::Journal;
-use settings::Plan;
 use std::alloc::Global;
 
 /// The capacities in a file, one for each record of the prepared B, or the first fault of the file.

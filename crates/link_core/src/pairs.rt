@@ -10,9 +10,9 @@ ghost use Rattle.pair_walk.specs.Pairs.{pairs_of_rows};
 
 use crate::preparing::Prepared;
 use link_base::{Fault, StdFile, Text};
+use link_plan::Plan;
 use link_report::{IdFields, IdsWriter};
 use pair_walk::{RowPairs, WalkFault, Walker};
-use settings::Plan;
 use std::alloc::Global;
 
 // The ids of the pairs of the rows that a new walker gives.

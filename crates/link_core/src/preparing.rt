@@ -7,14 +7,14 @@ ghost use Rattle.standard_files.specs.Ready.{AreFileSides, AreInRange, IsRowFor}
 ghost use Rattle.standard_files.specs.Sides.{pooled_values};
 ghost use Rattle.link_core.specs.Rules.{IsPreparedFor};
 ghost use Rattle.pair_walk.specs.Rows.{AreAllReady, AreKeysHeld, all_rows};
-ghost use Rattle.settings.specs.Ranges.{KeepsRanges};
+ghost use Rattle.link_plan.specs.Ranges.{KeepsRanges};
 ghost use Rattle.standard_files.specs.Files.{AreOfPlan};
 
 use comparators::IdTable;
 use link_base::{CompareKind, Fault, FileRole, NoMemory, PassList, StdFile};
 use link_limits::{MOST_FIELDS, MOST_POOL_LIMIT};
+use link_plan::Plan;
 use pair_walk::Blocks;
-use settings::Plan;
 use standard_files::{PooledValues, StandardFile, StandardPair, pool_values, read_files};
 use std::alloc::Global;
 use std::marker::Model;

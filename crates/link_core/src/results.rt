@@ -16,17 +16,17 @@ ghost use Rattle.link_report.specs.RuleText.{text_of_rule};
 ghost use Rattle.link_report.specs.declared.report.Dropped.{Dropped as Row};
 ghost use Rattle.pair_decisions.specs.PairRule.{side_rule};
 ghost use Rattle.pair_decisions.specs.Comparators.{rares_of};
-ghost use Rattle.settings.specs.Ranges.{KeepsRanges};
+ghost use Rattle.link_plan.specs.Ranges.{KeepsRanges};
 
 use crate::preparing::Prepared;
 use crate::review::awaits;
 use candidate_links::{ChosenLinks, candidates_among, choose_links};
 use decision_rule::attained;
 use link_base::{Candidate, Decision, FileRole, Levels, NoMemory, Text};
+use link_plan::Plan;
 use link_report::{Report, links_text, prices_text, report_text, rule_text};
 use pair_decisions::{Decided, pair_lines};
 use review_journal::{Journal, idle_entries};
-use settings::Plan;
 use std::alloc::Global;
 
 /// The five texts of a run: the compared pairs, the decision rule, the links, their dual prices, and the report.

@@ -5,16 +5,16 @@ ghost use Rattle.link_core.specs.Rules.{counted_by, IsFrontierText, IsPreparedFo
 ghost use Rattle.pair_decisions.specs.Comparators.{rares_of};
 ghost use Rattle.link_limits.specs.declared.TheConstants.{MOST_FIELDS};
 ghost use Rattle.pair_decisions.specs.PlanShares.{given_in, plain_all};
-ghost use Rattle.settings.specs.Ranges.{KeepsRanges};
+ghost use Rattle.link_plan.specs.Ranges.{KeepsRanges};
 
 use crate::preparing::Prepared;
 use level_frontier::{FrontierRow, frontier};
 use link_base::{Fault, FieldShares, FileRole, Levels, NoMemory, RuleTable, Text};
 use link_limits::PER_MILLION;
+use link_plan::Plan;
 use link_report::{frontier_text, rule_text};
 use pair_decisions::{counted_shares, given_shares, rule_of_shares};
 use patterns::patterns_of;
-use settings::Plan;
 use std::alloc::Global;
 use std::marker::Model;
 
@@ -28,7 +28,7 @@ impl Model for PlanShares {
     ghost use Rattle.std.specs.Prelude.{List, length, ◌≤◌};
     ghost use Rattle.link_limits.specs.declared.TheConstants.{MOST_FIELDS};
     ghost use Rattle.pair_decisions.specs.PlanShares.{plain_all};
-    ghost use Rattle.settings.specs.Plan.{PlainShares};
+    ghost use Rattle.link_plan.specs.Plan.{PlainShares};
 
     ghost Value = { List PlainShares };
 

@@ -20,10 +20,10 @@ use Rattle.link_outside.specs.declared.outside.SinkError.{SinkError}
 use Rattle.link_outside.specs.declared.outside.SinkError.TheVariants as sink
 use Rattle.link_outside.specs.declared.outside.StoreCall.{StoreCall}
 use Rattle.settings.proofs.Ranges.{read_plan}
-use Rattle.settings.specs.Plan.{PlainShares}
-use Rattle.settings.specs.Ranges.{AreFiles, IsFileName}
-use Rattle.settings.specs.Values.{is_output}
-use Rattle.settings.specs.declared.plan.Plan.{Plan}
+use Rattle.link_plan.specs.Plan.{PlainShares}
+use Rattle.link_plan.specs.Ranges.{AreFiles, IsFileName}
+use Rattle.link_plan.specs.Names.{is_output}
+use Rattle.link_plan.specs.declared.plan.Plan.{Plan}
 use Rattle.written_check.specs.Short.{AreShort}
 use Rattle.written_check.specs.Verified.{WrittenTexts}
 use Rattle.written_check.specs.declared.refutation.Refutation.{Refutation}

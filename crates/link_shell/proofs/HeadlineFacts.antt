@@ -26,7 +26,7 @@ use Rattle.pair_decisions.specs.Decisions.{decision_at}
 use Rattle.pair_decisions.specs.PairRule.{SideRule}
 use Rattle.review_journal.specs.Verdict.{verdict_on}
 use Rattle.review_journal.specs.declared.entry.Entry.{Entry}
-use Rattle.settings.specs.declared.plan.Plan.{Plan}
+use Rattle.link_plan.specs.declared.plan.Plan.{Plan}
 use Rattle.link_shell.proofs.StepFacts.{no_ok, ok_same}
 use Rattle.link_shell.specs.Does.{Ends}
 use Rattle.link_shell.specs.Due.{after_puts, HoldsAll, puts, TakesAll}

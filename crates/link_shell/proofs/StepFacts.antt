@@ -7,7 +7,7 @@ use Rattle.link_base.specs.declared.fault.Fault.TheVariants as fault
 use Rattle.link_base.specs.declared.fault.FileRole.{FileRole}
 use Rattle.link_outside.specs.Outside.{Held}
 use Rattle.link_outside.specs.declared.outside.StoreCall.{StoreCall}
-use Rattle.settings.specs.Ranges.{IsSettingsFault}
+use Rattle.settings.specs.Settings.{IsSettingsFault}
 use Rattle.link_shell.specs.Causes.{Cause, cause_of, the_input, the_memory, the_output, the_store, the_words}
 use Rattle.link_shell.specs.Loads.{HasLoadCause, IsLoadFault, load_of, loaded, LoadGives}
 use Rattle.link_shell.specs.Seen.{StoreSeen}

@@ -7,8 +7,8 @@ use Rattle.link_core.specs.Decisions.{Decisions, decisions_of}
 use Rattle.link_core.specs.Duplicates.{IsGroupsText, links_within}
 use Rattle.link_core.specs.Prepared.{prepared, PreparedView}
 use Rattle.link_limits.specs.declared.TheConstants.{MOST_POOLED_BYTES}
-use Rattle.settings.specs.Within.{plan_within}
-use Rattle.settings.specs.declared.plan.Plan.{Plan}
+use Rattle.link_plan.specs.Within.{plan_within}
+use Rattle.link_plan.specs.declared.plan.Plan.{Plan}
 use Rattle.link_shell.specs.Does.{Script}
 use Rattle.link_shell.specs.Due.{Due, prints}
 use Rattle.link_shell.specs.Front.{plan_file}

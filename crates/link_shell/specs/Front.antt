@@ -2,12 +2,12 @@
 use Rattle.std.specs.Prelude.{ℕ, List, Option, Some, None, Ok}
 use Rattle.link_base.specs.declared.fault.FileRole.TheVariants as role
 use Rattle.settings.specs.Settings.{settings}
-use Rattle.settings.specs.declared.plan.Plan.{Plan}
+use Rattle.link_plan.specs.declared.plan.Plan.{Plan}
 use Rattle.link_limits.specs.declared.TheConstants.{MOST_POOLED_BYTES}
 use Rattle.link_core.specs.Prepared.{prepared, PreparedView}
 use Rattle.link_core.specs.Rules.{counted_by}
 use Rattle.pair_decisions.specs.PlanShares.{given_in}
-use Rattle.settings.specs.Plan.{PlainShares}
+use Rattle.link_plan.specs.Plan.{PlainShares}
 use Rattle.link_shell.specs.Steps.{◌>>=◌, file, gives, Steps}
 use Rattle.link_shell.specs.declared.front.Described.{Described}
 use Rattle.link_shell.specs.declared.front.Inputs.{Inputs}

@@ -10,7 +10,7 @@ use Rattle.link_core.specs.Results.{AreRunTexts, RunTexts}
 use Rattle.link_core.specs.Rules.{counted_by}
 use Rattle.link_report.specs.FirstLines.{first_lines_of}
 use Rattle.settings.specs.Settings.{settings}
-use Rattle.settings.specs.declared.plan.Plan.{Plan}
+use Rattle.link_plan.specs.declared.plan.Plan.{Plan}
 use Rattle.workload.specs.Made.{text_of_a, text_of_b, text_of_sample}
 use Rattle.workload.specs.MadeSettings.{text_of_settings}
 use Rattle.link_shell.specs.Does.{Script}

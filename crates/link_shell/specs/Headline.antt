@@ -29,8 +29,8 @@ use Rattle.pair_decisions.specs.Comparators.{rares_of}
 use Rattle.pair_decisions.specs.PlanRule.{IsRuleOf}
 use Rattle.review_journal.specs.Verdict.{verdict_on}
 use Rattle.review_journal.specs.declared.entry.Entry.{Entry}
-use Rattle.settings.specs.Plan.{PlainShares}
-use Rattle.settings.specs.declared.plan.Plan.{Plan}
+use Rattle.link_plan.specs.Plan.{PlainShares}
+use Rattle.link_plan.specs.declared.plan.Plan.{Plan}
 use Rattle.link_shell.specs.Commands.{command_of, run_of_settings}
 use Rattle.link_shell.specs.Due.{after_puts}
 use Rattle.link_shell.specs.Front.{plan_file, prepared_files, shares_over}

@@ -3,7 +3,7 @@
 use Rattle.std.specs.Prelude.{◌≡◌, ◌∷◌, [], ℕ, List, Bool, codes, Ok}
 use Rattle.link_core.specs.Prepared.{PreparedView}
 use Rattle.link_core.specs.Review.{journal_lines_of}
-use Rattle.settings.specs.declared.plan.Plan.{Plan}
+use Rattle.link_plan.specs.declared.plan.Plan.{Plan}
 use Rattle.link_shell.specs.Does.{Script}
 use Rattle.link_shell.specs.Due.{Due, Put, puts}
 use Rattle.link_shell.specs.Front.{prepared_files}

@@ -5,9 +5,9 @@ use Rattle.link_base.specs.declared.fault.Fault.{Fault}
 use Rattle.link_base.specs.declared.fault.Fault.TheVariants as fault
 use Rattle.link_base.specs.declared.fault.FileRole.TheVariants as role
 use Rattle.pair_decisions.specs.PlanRule.{IsRuleOf}
-use Rattle.settings.specs.Plan.{PlainShares}
-use Rattle.settings.specs.Ranges.{KeepsRanges}
-use Rattle.settings.specs.declared.plan.Plan.{Plan}
+use Rattle.link_plan.specs.Plan.{PlainShares}
+use Rattle.link_plan.specs.Ranges.{KeepsRanges}
+use Rattle.link_plan.specs.declared.plan.Plan.{Plan}
 use Rattle.review_journal.specs.declared.entry.Entry.{Entry}
 use Rattle.link_core.specs.Decisions.{decided, Decisions, decisions_of, IsDecidedIn}
 use Rattle.link_core.specs.Prepared.{PreparedView}

@@ -1,7 +1,7 @@
 -- The words of a command: which are in their place, by the clause `usage` of `perform`.
 use Rattle.std.specs.Prelude.{ℕ, List, length, Bool, ◌==◌, ◌&&◌, not, nat_le, bytes_eq, slice_index_or, []}
 use Rattle.link_limits.specs.declared.TheConstants.{MOST_NAME_BYTES}
-use Rattle.settings.specs.Values.{is_output}
+use Rattle.link_plan.specs.Names.{is_output}
 
 -- a file, a column, a reviewer: 1 to 255 bytes
 abbrev pub is_short_word : List ℕ → Bool

@@ -7,7 +7,7 @@ ghost use Rattle.link_shell.specs.Does.{Does};
 ghost use Rattle.link_shell.specs.DuplicatesSettings.{decided_within, duplicates_script, prepared_within, IsOfOneFile, within_of};
 ghost use Rattle.link_shell.specs.Seen.{sink_seen, store_seen};
 ghost use Rattle.link_shell.specs.Steps.{seen_by, Takes};
-ghost use Rattle.settings.specs.Ranges.{KeepsRanges, NamesFiles};
+ghost use Rattle.link_plan.specs.Ranges.{KeepsRanges, NamesFiles};
 
 use crate::ends::{Ended, print_lines};
 use crate::front::{file_name, load_plan, prepare_files};
@@ -17,7 +17,7 @@ use dedup_groups::forest_leaders;
 use link_base::{Fault, FileRole};
 use link_core::{Decided, Prepared, duplicate_lines};
 use link_outside::{Sink, Store};
-use settings::Plan;
+use link_plan::Plan;
 use std::alloc::Global;
 
 /// A file that is ready to be compared with itself, and the decisions on its compared pairs.

@@ -9,14 +9,15 @@ ghost use Rattle.pair_decisions.specs.Comparators.{rares_of};
 ghost use Rattle.pair_decisions.specs.PlanShares.{given_in};
 ghost use Rattle.link_shell.specs.Seen.{store_seen};
 ghost use Rattle.link_shell.specs.Steps.{Takes};
-ghost use Rattle.settings.specs.Ranges.{KeepsRanges, NamesFiles};
+ghost use Rattle.link_plan.specs.Ranges.{KeepsRanges, NamesFiles};
 
 use crate::load::load_file;
 use link_base::{Fault, FileRole, NoMemory, Text};
 use link_core::{PlanShares, Prepared, counted, prepare};
 use link_limits::MOST_POOLED_BYTES;
 use link_outside::Store;
-use settings::{Plan, read_settings};
+use link_plan::Plan;
+use settings::read_settings;
 use std::alloc::Global;
 
 /// The bytes of both files.

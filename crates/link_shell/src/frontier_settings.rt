@@ -6,7 +6,7 @@ ghost use Rattle.link_shell.specs.Does.{Does};
 ghost use Rattle.link_shell.specs.FrontierSettings.{are_frontier_words, are_levels_from, asked_in, asked_of_request, frontier_script, is_level_word};
 ghost use Rattle.csv_rows.specs.Numbers.{number_in};
 ghost use Rattle.link_shell.specs.Seen.{sink_seen, store_seen};
-ghost use Rattle.settings.specs.Ranges.{KeepsRanges};
+ghost use Rattle.link_plan.specs.Ranges.{KeepsRanges};
 ghost use Rattle.link_limits.specs.declared.TheConstants.{PER_MILLION};
 
 use crate::ends::{Ended, print_lines};

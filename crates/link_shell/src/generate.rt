@@ -9,7 +9,7 @@ ghost use Rattle.link_shell.specs.Generate.{are_generate_words, decided_input, d
 ghost use Rattle.csv_rows.specs.Numbers.{number_in};
 ghost use Rattle.link_shell.specs.Reviewed.{shared_decisions_of};
 ghost use Rattle.link_shell.specs.Seen.{sink_seen, store_seen};
-ghost use Rattle.settings.specs.Ranges.{KeepsRanges};
+ghost use Rattle.link_plan.specs.Ranges.{KeepsRanges};
 ghost use Rattle.workload.specs.Made.{text_of_a, text_of_b, text_of_sample};
 ghost use Rattle.workload.specs.MadeSettings.{text_of_settings};
 
@@ -22,9 +22,10 @@ use link_base::Fault;
 use link_core::{Decided, PlanShares, Prepared, counted, decide_all, finish};
 use link_limits::MOST_ROWS;
 use link_outside::{Sink, Store};
+use link_plan::Plan;
 use link_report::first_lines;
 use review_journal::Journal;
-use settings::{Plan, read_settings};
+use settings::read_settings;
 use std::alloc::Global;
 use workload::{MadeInput, make_input};
 

@@ -3,7 +3,7 @@ ghost use Rattle.link_shell.specs.Does.{Does};
 ghost use Rattle.link_shell.specs.MigrateSettings.{journal_text, migrate_script, written_journal};
 ghost use Rattle.link_shell.specs.Seen.{sink_seen, store_seen};
 ghost use Rattle.link_shell.specs.Steps.{Takes};
-ghost use Rattle.settings.specs.Ranges.{KeepsRanges, NamesFiles};
+ghost use Rattle.link_plan.specs.Ranges.{KeepsRanges, NamesFiles};
 
 use crate::ends::Ended;
 use crate::front::load_prepared;
@@ -11,7 +11,7 @@ use crate::reviewed::{load_journal, load_journal_plan, put_journal};
 use link_base::{Fault, Text};
 use link_core::{Prepared, journal_lines};
 use link_outside::{Sink, Store};
-use settings::Plan;
+use link_plan::Plan;
 use std::alloc::Global;
 
 // Loads the journal of a plan, over its prepared files, and makes its text.

@@ -7,7 +7,7 @@ ghost use Rattle.link_shell.specs.ReviewSettings.{added_verdicts, are_review_wor
 ghost use Rattle.link_shell.specs.Reviewed.{review_of};
 ghost use Rattle.link_shell.specs.Seen.{sink_seen, store_seen};
 ghost use Rattle.link_shell.specs.Steps.{Takes};
-ghost use Rattle.settings.specs.Ranges.{KeepsRanges, NamesFiles};
+ghost use Rattle.link_plan.specs.Ranges.{KeepsRanges, NamesFiles};
 
 use crate::ends::Ended;
 use crate::load::load_file;
@@ -16,7 +16,7 @@ use crate::words::{is_settings, is_short, word_at};
 use link_base::{Fault, FileRole, Text};
 use link_core::add_verdicts;
 use link_outside::{Sink, Store};
-use settings::Plan;
+use link_plan::Plan;
 use std::alloc::Global;
 use value_forms::read_iso;
 

@@ -11,8 +11,8 @@ ghost use Rattle.link_shell.specs.Seen.{store_seen};
 ghost use Rattle.link_shell.specs.Steps.{seen_by, Takes};
 ghost use Rattle.link_shell.specs.Ways.{PutsAll};
 ghost use Rattle.pair_decisions.specs.PlanRule.{IsRuleOf};
-ghost use Rattle.settings.specs.Ranges.{KeepsRanges, NamesFiles};
-ghost use Rattle.settings.specs.declared.plan.Plan.{Plan as AnyPlan};
+ghost use Rattle.link_plan.specs.Ranges.{KeepsRanges, NamesFiles};
+ghost use Rattle.link_plan.specs.declared.plan.Plan.{Plan as AnyPlan};
 
 use crate::ends::{Ended, Output, put_each};
 use crate::front::{file_name, load_plan, load_prepared, load_shares_over};
@@ -20,8 +20,8 @@ use crate::load::load_file;
 use link_base::{Fault, FileRole, NoMemory, Text};
 use link_core::{Decided, PlanShares, Prepared, decide_all, journal_in_files};
 use link_outside::Store;
+use link_plan::Plan;
 use review_journal::Journal;
-use settings::Plan;
 use std::alloc::Global;
 
 /// The shares of a plan's fields, and the decisions of its rule on the compared pairs.

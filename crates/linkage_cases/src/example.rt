@@ -3,13 +3,14 @@
 ghost use Rattle.std.specs.Prelude.{◌≤◌};
 ghost use Rattle.link_core.specs.Rules.{IsPreparedFor};
 ghost use Rattle.link_limits.specs.declared.TheConstants.{MOST_POOL_LIMIT};
-ghost use Rattle.settings.specs.Ranges.{KeepsRanges};
+ghost use Rattle.link_plan.specs.Ranges.{KeepsRanges};
 
 use crate::buffer::{Buffer, Fault};
 use crate::files::Files;
 use link_core::{Prepared, prepare};
+use link_plan::Plan;
 use pair_walk::{RowPairs, Walker};
-use settings::{Plan, read_settings};
+use settings::read_settings;
 use std::alloc::Global;
 
 /// The bytes of the distinct texts of the worked example, and one byte less.

@@ -19,8 +19,8 @@ use Rattle.patterns.specs.Shapes.{pattern_count_by}
 use Rattle.pair_decisions.proofs.ComparatorLemmas.{map_via}
 use Rattle.pair_decisions.specs.Comparators.{rares_of}
 use Rattle.pair_decisions.specs.PlanRule.{IsRuleOf}
-use Rattle.settings.specs.Plan.{FieldKeys, PlainShares, plain_shares}
-use Rattle.settings.specs.declared.plan.Plan.{Plan}
+use Rattle.link_plan.specs.Plan.{FieldKeys, PlainShares, plain_shares}
+use Rattle.link_plan.specs.declared.plan.Plan.{Plan}
 use Rattle.pair_decisions.specs.PairRule.{AreCellsOf, has_pattern}
 use Rattle.pair_decisions.specs.Places.{place_of}
 

@@ -14,9 +14,8 @@ use Rattle.comparators.specs.declared.ids.FieldById.{FieldById}
 use Rattle.comparators.specs.declared.ids.IdValue.{IdValue}
 use Rattle.comparators.specs.declared.ids.IdValue.TheVariants as id
 use Rattle.patterns.specs.Patterns.{AreSides}
-use Rattle.settings.specs.Field.{may_be_rare}
-use Rattle.settings.specs.Plan.{FieldKeys}
-use Rattle.settings.specs.Ranges.{IsRareNumber}
+use Rattle.link_plan.specs.Ranges.{IsRareNumber, may_be_rare}
+use Rattle.link_plan.specs.Plan.{FieldKeys}
 use Rattle.pair_decisions.specs.Comparators.{SideComparator, answers_of, comparator_at, comparator_by, id_counts, rares_of}
 use Rattle.pair_decisions.specs.Sides.{AreSidesOf, IsOfTexts}
 

@@ -14,7 +14,7 @@ use Rattle.link_base.specs.declared.plan.Part.{Part}
 use Rattle.link_base.specs.declared.standard.Value.{Value}
 use Rattle.pair_walk.specs.Rows.{AreAllReady, AreKeysHeld}
 use Rattle.pair_decisions.specs.Sides.{AreSidesOf, IsOfTexts}
-use Rattle.settings.specs.Plan.{FieldKeys}
+use Rattle.link_plan.specs.Plan.{FieldKeys}
 
 absent_side : (kind : CompareKind) → IsFieldSide (field_of kind) id.Absent
 absent_side by.Exact = tt

@@ -12,8 +12,8 @@ use Rattle.decision_rule.proofs.OneFilled.{one_filled}
 use Rattle.patterns.specs.Chances.{chance_of, pattern_count_of, rare_in, weight_of}
 use Rattle.patterns.specs.Shapes.{pattern_count_by}
 use Rattle.patterns.specs.Weight.{eighth_weight_of}
-use Rattle.settings.specs.Plan.{PlainShares, plain_shares}
-use Rattle.settings.specs.declared.plan.Plan.{Plan}
+use Rattle.link_plan.specs.Plan.{PlainShares, plain_shares}
+use Rattle.link_plan.specs.declared.plan.Plan.{Plan}
 use Rattle.pair_decisions.specs.PlanRule.{IsRuleOf}
 use Rattle.pair_decisions.specs.PlanShares.{plain_all}
 use Rattle.pair_decisions.proofs.ComparatorLemmas.{map_via}

@@ -10,7 +10,7 @@ use Rattle.decision_rule.proofs.FilledLemmas.{all_chances}
 use Rattle.patterns.specs.Chances.{chance_of, pattern_count_of, weight_of}
 use Rattle.patterns.specs.Shapes.{pattern_count_by}
 use Rattle.patterns.specs.Weight.{eighth_weight_of}
-use Rattle.settings.specs.Plan.{PlainShares, plain_shares}
+use Rattle.link_plan.specs.Plan.{PlainShares, plain_shares}
 use Rattle.pair_decisions.specs.PlanShares.{plain_all}
 use Rattle.pair_decisions.specs.TheRule.{cells_of_patterns, cell_of_pattern, plain_chance, plain_count, plain_weight, room_for}
 use Rattle.pair_decisions.proofs.ComparatorLemmas.{map_via}

@@ -14,8 +14,8 @@ use Rattle.comparators.specs.OfPool.{IsDayItself, NamesCanon, StandsFor}
 use Rattle.comparators.specs.declared.ids.IdValue.{IdValue}
 use Rattle.comparators.specs.declared.ids.IdValue.TheVariants as id
 use Rattle.patterns.specs.Shapes.{rare_of}
-use Rattle.settings.specs.Plan.{FieldKeys}
-use Rattle.settings.specs.Shape.{rare_flags}
+use Rattle.link_plan.specs.Plan.{FieldKeys}
+use Rattle.link_plan.specs.Shape.{rare_flags}
 use Rattle.value_forms.specs.Canons.{canon_of, compares_days, day_in}
 use Rattle.pair_decisions.specs.Comparators.{rares_of}
 use Rattle.pair_decisions.specs.Sides.{AreSidesOf, IsOfTexts}

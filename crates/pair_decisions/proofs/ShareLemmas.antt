@@ -5,8 +5,8 @@ use Rattle.std.specs.List.{filter_map}
 use Rattle.std.proofs.lemmas.List.{map_push, take_more}
 use Rattle.std.proofs.lemmas.List.Elements.{filter_map-append}
 use Rattle.std.proofs.lemmas.List.{get_or-map}
-use Rattle.settings.specs.Plan.{FieldKeys, PlainShares}
-use Rattle.settings.specs.Ranges.{AreShares, IsField}
+use Rattle.link_plan.specs.Plan.{FieldKeys, PlainShares}
+use Rattle.link_plan.specs.Ranges.{AreShares, IsField}
 use Rattle.pair_decisions.specs.Comparators.{rares_of}
 
 -- one value more, where there is one

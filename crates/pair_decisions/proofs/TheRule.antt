@@ -14,8 +14,8 @@ use Rattle.decision_rule.proofs.CutSteps.{reverse-cons}
 use Rattle.decision_rule.proofs.FilledLemmas.{positive_cells}
 use Rattle.decision_rule.proofs.OneFilled.{same_chances}
 use Rattle.decision_rule.proofs.RuleLemmas.{in_order, permuted}
-use Rattle.settings.specs.Plan.{PlainShares}
-use Rattle.settings.specs.declared.plan.Plan.{Plan}
+use Rattle.link_plan.specs.Plan.{PlainShares}
+use Rattle.link_plan.specs.declared.plan.Plan.{Plan}
 use Rattle.pair_decisions.specs.PlanRule.{IsRuleOf}
 use Rattle.pair_decisions.specs.PlanShares.{plain_all}
 use Rattle.pair_decisions.specs.TheRule.{cell_of_pattern, cells_of_patterns, give, plain_count, ranked, the_rule, with_links, with_nonlinks}

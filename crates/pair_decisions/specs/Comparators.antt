@@ -10,7 +10,7 @@ use Rattle.comparators.specs.Laws.{outcome_by, outcome_of_counted}
 use Rattle.comparators.specs.declared.ids.FieldById.{FieldById}
 use Rattle.comparators.specs.declared.ids.IdValue.{IdValue}
 use Rattle.comparators.specs.declared.ids.IdValue.TheVariants as id
-use Rattle.settings.specs.Plan.{FieldKeys}
+use Rattle.link_plan.specs.Plan.{FieldKeys}
 
 -- a comparator as its answers: whether `Rare` is one of them, and the outcome of two sides
 pub record SideComparator : Type 0 where

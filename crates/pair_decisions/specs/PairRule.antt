@@ -10,7 +10,7 @@ use Rattle.link_base.specs.Rule.{empty_cell}
 use Rattle.link_base.specs.declared.rule.RuleCell.{RuleCell}
 use Rattle.patterns.specs.Patterns.{AreSides, number_of, outcomes}
 use Rattle.pair_decisions.specs.Comparators.{answers_of, comparators_of, SideComparator}
-use Rattle.settings.specs.declared.plan.Plan.{Plan}
+use Rattle.link_plan.specs.declared.plan.Plan.{Plan}
 
 -- the comparators, the cells of the filled table, and the seed of the border words
 pub record PairRuleView : Type 0 where

@@ -4,8 +4,8 @@ use Rattle.std.specs.Prelude.{◌≡◌, List}
 use Rattle.link_base.specs.declared.rule.RuleCell.{RuleCell}
 use Rattle.link_base.specs.declared.shares.FieldShares.{FieldShares}
 use Rattle.decision_rule.specs.Filled.{IsFilled}
-use Rattle.settings.specs.Plan.{PlainShares}
-use Rattle.settings.specs.declared.plan.Plan.{Plan}
+use Rattle.link_plan.specs.Plan.{PlainShares}
+use Rattle.link_plan.specs.declared.plan.Plan.{Plan}
 use Rattle.pair_decisions.specs.PlanShares.{plain_all}
 
 -- the cells of the rule of a plan for these shares of its fields

@@ -11,7 +11,7 @@ use Rattle.comparators.specs.declared.ids.IdValue.{IdValue}
 use Rattle.sample_counts.specs.Counts.{CountsState, count_of, counts_by}
 use Rattle.sample_counts.specs.Sample.{sample_of}
 use Rattle.sample_counts.specs.declared.reviewed.Reviewed.{Reviewed}
-use Rattle.settings.specs.Plan.{FieldKeys, PlainShares, plain_shares}
+use Rattle.link_plan.specs.Plan.{FieldKeys, PlainShares, plain_shares}
 use Rattle.sample_counts.specs.Remainders.{share_of}
 use Rattle.pair_decisions.specs.Comparators.{SideComparator, comparators_of}
 

@@ -10,7 +10,7 @@ use Rattle.decision_rule.specs.Sorting.{ranks_before}
 use Rattle.decision_rule.specs.Walk.{room_after}
 use Rattle.patterns.specs.Shapes.{pattern_count_by}
 use Rattle.patterns.specs.Weight.{eighth_weight_of}
-use Rattle.settings.specs.Plan.{PlainShares}
+use Rattle.link_plan.specs.Plan.{PlainShares}
 
 -- how many patterns there are, and the chances and the weight of one: as in `Chances` of `patterns`, of plain shares
 abbrev pub plain_count : List PlainShares → ℕ

@@ -6,13 +6,13 @@ ghost use Rattle.comparators.specs.declared.ids.IdValue.TheVariants as id;
 ghost use Rattle.patterns.specs.Patterns.{AreSides};
 ghost use Rattle.pair_decisions.specs.Comparators.{answers_of, comparator_by, comparators_of, id_counts, rares_of};
 ghost use Rattle.pair_decisions.specs.Sides.{AreSidesOf, IsOfTexts};
-ghost use Rattle.settings.specs.Ranges.{IsRareNumber, KeepsRanges};
+ghost use Rattle.link_plan.specs.Ranges.{IsRareNumber, KeepsRanges};
 
 use crate::id_counts::counts_in;
 use comparators::{FieldById, IdTable};
 use link_base::NoMemory;
 use link_limits::{MOST_FIELDS, MOST_ROWS};
-use settings::{FieldPlan, Plan};
+use link_plan::{FieldPlan, Plan};
 use std::alloc::Global;
 
 // The comparator of the field at a place.

@@ -5,8 +5,8 @@ ghost use Rattle.pair_decisions.specs.PairRule.{AreCellsOf};
 ghost use Rattle.patterns.specs.Shapes.{pattern_count_by};
 ghost use Rattle.pair_decisions.specs.Comparators.{rares_of};
 ghost use Rattle.pair_decisions.specs.PlanRule.{IsRuleOf};
-ghost use Rattle.settings.specs.Plan.{PlainShares};
-ghost use Rattle.settings.specs.declared.plan.Plan.{Plan};
+ghost use Rattle.link_plan.specs.Plan.{PlainShares};
+ghost use Rattle.link_plan.specs.declared.plan.Plan.{Plan};
 
 /// Law: each comparison pattern of a plan stands in one cell of its rule.
 pub fn rule_has_patterns()

@@ -7,9 +7,9 @@ ghost use Rattle.pair_decisions.specs.Comparators.{rares_of};
 
 use crate::writing::write_rows;
 use link_base::{NoMemory, StdFile, Text};
+use link_plan::Plan;
 use link_report::{PairRow, PairsWriter};
 use review_journal::Journal;
-use settings::Plan;
 use std::alloc::Global;
 
 /// The text of the rows of pairs of two files, which rise by position and have patterns of the plan: each with the verdict of

@@ -6,15 +6,15 @@ ghost use Rattle.pair_decisions.specs.PairRule.{AreCellsOf, AreSidesFor, has_pat
 ghost use Rattle.patterns.specs.Shapes.{pattern_count_by};
 ghost use Rattle.pair_decisions.specs.Comparators.{rares_of};
 ghost use Rattle.pair_decisions.specs.Sides.{AreSidesOf};
-ghost use Rattle.settings.specs.Ranges.{KeepsRanges};
+ghost use Rattle.link_plan.specs.Ranges.{KeepsRanges};
 
 use crate::comparisons::comparisons_of;
 use crate::places::places_of;
 use comparators::{FieldById, IdTable, IdValue};
 use link_base::{NoMemory, RuleCell, RuleTable};
 use link_limits::MOST_ROWS;
+use link_plan::Plan;
 use patterns::pattern_over;
-use settings::Plan;
 use std::alloc::Global;
 use std::marker::Model;
 

@@ -6,15 +6,15 @@ ghost use Rattle.patterns.specs.Chances.{rare_in};
 ghost use Rattle.pair_decisions.specs.Comparators.{rares_of};
 ghost use Rattle.pair_decisions.specs.PlanShares.{counted_in, given_in, outcome_counts, plain_all, remainder_shares, shares_at, shares_in, status_shares};
 ghost use Rattle.pair_decisions.specs.Sides.{AreSidesOf};
-ghost use Rattle.settings.specs.Plan.{plain_shares};
-ghost use Rattle.settings.specs.Ranges.{KeepsRanges};
+ghost use Rattle.link_plan.specs.Plan.{plain_shares};
+ghost use Rattle.link_plan.specs.Ranges.{KeepsRanges};
 
 use crate::comparisons::comparisons_of;
 use comparators::IdTable;
 use link_base::{Fault, FieldShares, NoMemory, StdFile};
 use link_limits::{MOST_FIELDS, MOST_ROWS};
+use link_plan::Plan;
 use sample_counts::{Counts, count_sample_over, shares, shares4};
-use settings::Plan;
 use std::alloc::Global;
 
 /// The shares that the settings of a plan without a sample give, one for each field.

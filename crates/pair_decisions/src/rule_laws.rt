@@ -9,8 +9,8 @@ ghost use Rattle.pair_decisions.specs.Comparators.{count_of_id};
 ghost use Rattle.pair_decisions.specs.PlanRule.{IsRuleOf};
 ghost use Rattle.pair_decisions.specs.RareValues.{StandInField, records_with};
 ghost use Rattle.pair_decisions.specs.TheRule.{the_rule};
-ghost use Rattle.settings.specs.Plan.{PlainShares};
-ghost use Rattle.settings.specs.declared.plan.Plan.{Plan};
+ghost use Rattle.link_plan.specs.Plan.{PlainShares};
+ghost use Rattle.link_plan.specs.declared.plan.Plan.{Plan};
 ghost use Rattle.value_forms.specs.Canons.{compares_days};
 
 use value_pool::Pool;

@@ -8,13 +8,13 @@ ghost use Rattle.patterns.specs.Chances.{pattern_count_of, rare_in};
 ghost use Rattle.pair_decisions.specs.Comparators.{rares_of};
 ghost use Rattle.pair_decisions.specs.PlanRule.{IsRuleOf};
 ghost use Rattle.pair_decisions.specs.PlanShares.{plain_all};
-ghost use Rattle.settings.specs.Ranges.{KeepsRanges};
+ghost use Rattle.link_plan.specs.Ranges.{KeepsRanges};
 
 use decision_rule::cut_rule;
 use link_base::{FieldShares, NoMemory, RuleTable};
 use link_limits::MOST_FIELDS;
+use link_plan::Plan;
 use patterns::patterns_of;
-use settings::Plan;
 use std::alloc::Global;
 
 /// The filled table of a plan for these shares of its fields, at the levels that the plan asks for: one cell for each

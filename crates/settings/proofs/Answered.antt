@@ -7,9 +7,9 @@ use Rattle.link_base.specs.declared.fault.Fault.TheVariants as fault
 use Rattle.link_base.specs.Fault.{IsAnswer}
 use Rattle.settings_readers.specs.KeyFaults.{IsKeyFault}
 use Rattle.settings_readers.proofs.KeyFaults.{NamesKey}
-use Rattle.settings.specs.Settings.{document, plan_of, plan_or_not_toml, settings}
-use Rattle.settings.specs.Ranges.{IsSettingsFault, KeepsRanges}
-use Rattle.settings.specs.declared.plan.Plan.{Plan}
+use Rattle.settings.specs.Settings.{document, IsSettingsFault, plan_of, plan_or_not_toml, settings}
+use Rattle.link_plan.specs.Ranges.{KeepsRanges}
+use Rattle.link_plan.specs.declared.plan.Plan.{Plan}
 use Rattle.link_base.specs.Tables.{AreWordPairs}
 use Rattle.settings.proofs.KeyFaults.{plan_key}
 use Rattle.settings.proofs.Ranges.{read_plan}

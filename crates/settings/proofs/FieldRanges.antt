@@ -15,14 +15,14 @@ use Rattle.settings_readers.specs.Parts.{◌>>=◌, needed, optional, absent, de
 use Rattle.settings_readers.specs.Values.{choice, whole}
 use Rattle.settings_readers.specs.Lists.{on_table}
 use Rattle.settings_readers.proofs.Kept.{array_keeps, choice_keeps, defaulted_keeps, in_range_ok, IsWithin, needed_keeps, ok_same, on_table_keeps, optional_keeps, Reads, then_ok, whole_keeps}
-use Rattle.settings.specs.Plan.{FieldKeys, PlainShares}
+use Rattle.link_plan.specs.Plan.{FieldKeys, PlainShares}
 use Rattle.settings.specs.Words.{compare_named, field_keys, kind_named}
-use Rattle.settings.specs.Field.{name_keys, compare_keys, sort_of, compare_by, may_be_rare, rare_number, new_name, shares, given_shares, no_shares, field_shares, field, fields}
-use Rattle.settings.specs.Ranges.{AreShares, has_comparison, HaveDistinctNames, IsField, IsFieldName, IsLabel, IsRareNumber}
+use Rattle.settings.specs.Field.{name_keys, compare_keys, sort_of, compare_by, rare_number, new_name, shares, given_shares, no_shares, field_shares, field, fields}
+use Rattle.link_plan.specs.Ranges.{AreShares, has_comparison, HaveDistinctNames, IsField, IsFieldName, IsLabel, IsRareNumber, may_be_rare}
 use Rattle.settings.specs.Values.{text}
 use Rattle.settings.specs.declared.fields.CompareKeys.{CompareKeys}
 use Rattle.settings.specs.declared.fields.NameKeys.{NameKeys}
-use Rattle.settings.specs.declared.limits.TheConstants.{LEAST_RARE, MOST_RARE}
+use Rattle.link_plan.specs.declared.limits.TheConstants.{LEAST_RARE, MOST_RARE}
 use Rattle.settings.specs.declared.texts.TextRule.TheVariants as rule
 use Rattle.settings.proofs.GivenShares.{given_are}
 use Rattle.settings.proofs.KindRanges.{compared, compare_suits, is_date, is_date_kind, sort_is, suits, Suits}

@@ -14,16 +14,17 @@ use Rattle.settings_readers.specs.Parts.{◌>>=◌, typed, in_range, needed, opt
 use Rattle.settings_readers.specs.Values.{choice, whole, truth}
 use Rattle.settings_readers.specs.Lists.{on_table}
 use Rattle.settings_readers.proofs.KeyFaults.{NamesKey, ReadsKey, value_key, then_key, typed_key, ranged_key, in_range_key, needed_key, optional_key, defaulted_key, absent_key, known_key, choice_key, whole_key, truth_key, array_key, on_table_key}
-use Rattle.settings.specs.Plan.{FieldKeys}
+use Rattle.link_plan.specs.Plan.{FieldKeys}
 use Rattle.settings.specs.Values.{fits, text}
 use Rattle.settings.specs.WordTables.{texts, word_pair, pairs, small_table, word_table, members_len}
 use Rattle.link_base.specs.Tables.{missing_marks, name_titles, name_suffixes}
 use Rattle.settings.specs.Words.{top_keys, kind_named, compare_named, key_named, delimiter_named}
-use Rattle.settings.specs.Field.{new_name, name_keys, compare_keys, date_sort, plain_sort, sort_of, by_letters, by_days, by_years, plain_compare, compare_by, may_be_rare, rare_number, wholes, shares, given_shares, no_shares, field_shares, field, fields}
+use Rattle.settings.specs.Field.{new_name, name_keys, compare_keys, date_sort, plain_sort, sort_of, by_letters, by_days, by_years, plain_compare, compare_by, rare_number, wholes, shares, given_shares, no_shares, field_shares, field, fields}
+use Rattle.link_plan.specs.Ranges.{may_be_rare}
 use Rattle.settings.specs.Pass.{field_named, first_key, plain_key, key_by, part, parts, pass, passes}
 use Rattle.settings.specs.Settings.{file_keys, is_free, journal_of, sources, numbers, tables, plan_of}
 use Rattle.link_limits.specs.declared.TheConstants.{MOST_FIELDS, PER_MILLION}
-use Rattle.settings.specs.declared.limits.TheConstants.{LEAST_RARE, MOST_AWARD, MOST_DAYS, MOST_LETTERS, MOST_LISTED_WORDS, MOST_MARKS, MOST_PARTS, MOST_PASSES, MOST_RARE, MOST_SEED, MOST_WORD_PAIRS, MOST_YEARS}
+use Rattle.link_plan.specs.declared.limits.TheConstants.{LEAST_RARE, MOST_AWARD, MOST_DAYS, MOST_LETTERS, MOST_LISTED_WORDS, MOST_MARKS, MOST_PARTS, MOST_PASSES, MOST_RARE, MOST_SEED, MOST_WORD_PAIRS, MOST_YEARS}
 use Rattle.settings.specs.declared.texts.TextRule.{TextRule}
 use Rattle.settings.specs.declared.texts.TextRule.TheVariants as rule
 use Rattle.settings.specs.declared.words.Kind.{Kind}

@@ -12,10 +12,10 @@ use Rattle.link_base.specs.declared.plan.CompareKind.TheVariants as by
 use Rattle.settings_readers.specs.Parts.{needed, absent}
 use Rattle.settings_readers.specs.Values.{choice, whole}
 use Rattle.settings_readers.proofs.Kept.{IsWithin, named_keeps, needed_keeps, then_ok, whole_keeps}
-use Rattle.settings.specs.declared.limits.TheConstants.{MOST_DAYS, MOST_LETTERS, MOST_YEARS}
+use Rattle.link_plan.specs.declared.limits.TheConstants.{MOST_DAYS, MOST_LETTERS, MOST_YEARS}
 use Rattle.settings.specs.Words.{form_named, name_comparisons, date_comparisons, compare_named}
 use Rattle.settings.specs.Field.{date_sort, plain_sort, sort_of, by_letters, by_days, by_years, plain_compare, compare_by}
-use Rattle.settings.specs.Ranges.{has_comparison}
+use Rattle.link_plan.specs.Ranges.{has_comparison}
 use Rattle.settings.specs.declared.words.Kind.{Kind}
 use Rattle.settings.specs.declared.words.Kind.TheVariants as kind
 use Rattle.settings.specs.declared.words.CompareWord.{CompareWord}

@@ -10,7 +10,6 @@ pub mod FieldRanges
 pub mod PassRanges
 pub mod TableRanges
 pub mod Ranges
-pub mod WithinRanges
 pub mod Answered
 pub mod Chains
 pub mod NamedSteps

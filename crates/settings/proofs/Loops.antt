@@ -1,9 +1,9 @@
 -- Lists that are walked: one more item.
-use Rattle.std.proofs.Common.{◌≡◌, ◌<◌, ◌+◌, ◌++◌, ◌∷◌, ◌∙◌, ℕ, ℤ, List, [], Bool, true, false, Option, Some, None, Result, Ok, length, get_or, take, drop, map, is_some, ap, sym, refl, string_bytes}
+use Rattle.std.proofs.Common.{◌≡◌, ◌<◌, ◌+◌, ◌++◌, ◌∷◌, ◌∙◌, ℕ, ℤ, List, [], Bool, true, false, Option, Some, None, Result, Ok, length, get_or, drop, is_some, ap, sym, refl, string_bytes}
 use Rattle.std.specs.List.{list_all}
 use Rattle.std.specs.Option.{option_and_then, option_map}
 use Rattle.std.specs.Str.{bytes_eq}
-use Rattle.std.proofs.lemmas.List.{drop_more, map_push, take_more}
+use Rattle.std.proofs.lemmas.List.{drop_more}
 use Rattle.toml.proofs.Views.{Entry}
 use Rattle.toml.specs.Data.{as_integer}
 use Rattle.toml.specs.View.{items_view, members_view, view}
@@ -13,20 +13,8 @@ use Rattle.link_base.specs.declared.plan.FieldSort.{FieldSort}
 use Rattle.link_base.specs.declared.tables.WordPair.{WordPair}
 use Rattle.settings.specs.Field.{wholes}
 use Rattle.settings.specs.Pass.{field_named}
-use Rattle.settings.specs.Plan.{FieldKeys}
+use Rattle.link_plan.specs.Plan.{FieldKeys}
 use Rattle.settings.specs.WordTables.{pairs, word_pair}
-
--- one more of what each item gives
-pub mapped_more : {E T : Type 0} (f : E → T) (all : List E) (i : ℕ) (e : E) (made : T) (copy more : List T) → i < length all → e ≡ get_or all i e → made ≡ f e
-    → copy ≡ map f (take i all) → more ≡ copy ++ made ∷ [] → more ≡ map f (take (i + 1) all)
-mapped_more f all i e made copy more lt is same so_far pushed =
-    pushed ∙ ap (λ c. c ++ made ∷ []) so_far ∙ ap (λ x. map f (take i all) ++ x ∷ []) (same ∙ ap f is) ∙ sym (ap (map f) (take_more all i e lt) ∙ map_push f (take i all) (get_or all i e))
-
--- one more equal item
-pub copied_more : {E : Type 0} (all : List E) (i : ℕ) (e made : E) (copy more : List E) → i < length all → e ≡ get_or all i e → made ≡ e
-    → copy ≡ take i all → more ≡ copy ++ made ∷ [] → more ≡ take (i + 1) all
-copied_more all i e made copy more lt is same so_far pushed =
-    pushed ∙ ap (λ c. c ++ made ∷ []) so_far ∙ ap (λ x. take i all ++ x ∷ []) (same ∙ is) ∙ sym (take_more all i e lt)
 
 -- an item that passes a test which all may pass, and one that does not
 pub all_more : {E : Type 0} (test : E → Bool) (all : List E) (i : ℕ) (none : E) (total : Bool) → i < length all → test (get_or all i none) ≡ true

@@ -16,11 +16,11 @@ use Rattle.settings_readers.specs.Parts.{needed, absent, known}
 use Rattle.settings_readers.specs.Values.{choice, whole}
 use Rattle.settings_readers.specs.Lists.{on_table}
 use Rattle.settings_readers.proofs.Kept.{array_keeps, choice_keeps, IsWithin, named_keeps, needed_keeps, on_table_keeps, Reads, then_ok, whole_keeps}
-use Rattle.settings.specs.Plan.{FieldKeys}
+use Rattle.link_plan.specs.Plan.{FieldKeys}
 use Rattle.settings.specs.Words.{date_key_words, key_named, name_key_words, part_keys, pass_keys}
 use Rattle.settings.specs.Pass.{field_named, first_key, plain_key, key_by, part, parts, pass, passes}
-use Rattle.settings.specs.Ranges.{is_keyed, IsPart, IsPass}
-use Rattle.settings.specs.declared.limits.TheConstants.{MOST_LETTERS, MOST_PARTS, MOST_PASSES}
+use Rattle.link_plan.specs.Ranges.{is_keyed, IsPart, IsPass}
+use Rattle.link_plan.specs.declared.limits.TheConstants.{MOST_LETTERS, MOST_PARTS, MOST_PASSES}
 use Rattle.settings.specs.declared.words.KeyWord.{KeyWord}
 use Rattle.settings.specs.declared.words.KeyWord.TheVariants as word
 use Rattle.settings.proofs.KindRanges.{is_date}

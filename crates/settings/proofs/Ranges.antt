@@ -16,11 +16,11 @@ use Rattle.settings_readers.proofs.Kept.{choice_keeps, defaulted_keeps, in_range
 use Rattle.settings.specs.Words.{delimiters, delimiter_named, top_keys}
 use Rattle.settings.specs.Field.{fields}
 use Rattle.settings.specs.Pass.{passes}
-use Rattle.settings.specs.Ranges.{AreFiles, files_read, is_delimiter, IsFileName, IsLabel, KeepsRanges}
+use Rattle.link_plan.specs.Ranges.{AreFiles, files_read, is_delimiter, IsFileName, IsLabel, KeepsRanges}
 use Rattle.settings.specs.Settings.{document, file_keys, is_free, journal_of, sources, numbers, tables, plan_of, plan_or_not_toml, settings}
 use Rattle.settings.specs.Values.{text}
-use Rattle.settings.specs.declared.limits.TheConstants.{MOST_AWARD, MOST_SEED}
-use Rattle.settings.specs.declared.plan.Plan.{Plan}
+use Rattle.link_plan.specs.declared.limits.TheConstants.{MOST_AWARD, MOST_SEED}
+use Rattle.link_plan.specs.declared.plan.Plan.{Plan}
 use Rattle.settings.specs.declared.texts.TextRule.TheVariants as rule
 use Rattle.settings.specs.declared.top.FileKeys.{FileKeys}
 use Rattle.settings.specs.declared.top.SourceKeys.{SourceKeys}

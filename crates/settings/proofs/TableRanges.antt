@@ -9,11 +9,11 @@ use Rattle.link_base.specs.declared.tables.Tables.{Tables}
 use Rattle.link_base.specs.declared.tables.WordPair.{WordPair}
 use Rattle.settings_readers.specs.Parts.{defaulted}
 use Rattle.settings_readers.proofs.Kept.{array_keeps, defaulted_keeps, ok_same, Reads, then_ok}
-use Rattle.settings.specs.Ranges.{AreListedWords, AreMarks, AreTables}
+use Rattle.link_plan.specs.Ranges.{AreListedWords, AreMarks, AreTables}
 use Rattle.settings.specs.Settings.{tables}
 use Rattle.settings.specs.Values.{fits, text}
 use Rattle.settings.specs.WordTables.{texts, word_table}
-use Rattle.settings.specs.declared.limits.TheConstants.{MOST_LISTED_WORDS, MOST_MARK_BYTES, MOST_MARKS, MOST_WORD_PAIRS}
+use Rattle.link_plan.specs.declared.limits.TheConstants.{MOST_LISTED_WORDS, MOST_MARK_BYTES, MOST_MARKS, MOST_WORD_PAIRS}
 use Rattle.settings.specs.declared.texts.TextRule.{TextRule}
 use Rattle.settings.specs.declared.texts.TextRule.TheVariants as rule
 use Rattle.settings.proofs.TextRanges.{as_mark, Fits, text_keeps}

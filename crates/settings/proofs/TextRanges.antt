@@ -9,9 +9,10 @@ use Rattle.toml.specs.Data.{as_str}
 use Rattle.link_limits.specs.declared.TheConstants.{MOST_NAME_BYTES}
 use Rattle.settings_readers.specs.Parts.{typed}
 use Rattle.settings_readers.proofs.Kept.{in_range_ok, Reads, then_ok}
-use Rattle.settings.specs.Ranges.{IsFieldName, IsFileName, IsLabel}
-use Rattle.settings.specs.Values.{fits, has_len, is_name_byte, is_output, text}
-use Rattle.settings.specs.declared.limits.TheConstants.{MOST_FIELD_NAME_BYTES, MOST_LABEL_BYTES, MOST_MARK_BYTES}
+use Rattle.link_plan.specs.Ranges.{IsFieldName, IsFileName, IsLabel}
+use Rattle.settings.specs.Values.{fits, has_len, text}
+use Rattle.link_plan.specs.Names.{is_name_byte, is_output}
+use Rattle.link_plan.specs.declared.limits.TheConstants.{MOST_FIELD_NAME_BYTES, MOST_LABEL_BYTES, MOST_MARK_BYTES}
 use Rattle.settings.specs.declared.texts.TextRule.{TextRule}
 use Rattle.settings.specs.declared.texts.TextRule.TheVariants as rule
 

@@ -13,7 +13,7 @@ use Rattle.link_base.specs.Tables.{AreWordPairs, is_word, StandsBefore}
 use Rattle.settings_readers.specs.Parts.{typed, in_range}
 use Rattle.settings_readers.specs.Laws.{IsKeyOf, keys_ascend}
 use Rattle.settings_readers.proofs.Ascending.{above}
-use Rattle.settings.specs.declared.limits.TheConstants.{MOST_WORD_PAIRS}
+use Rattle.link_plan.specs.declared.limits.TheConstants.{MOST_WORD_PAIRS}
 use Rattle.settings.specs.declared.texts.TextRule.TheVariants as rule
 use Rattle.settings.specs.Values.{text}
 use Rattle.settings.specs.WordTables.{members_len, word_pair, pairs, small_table, word_table}

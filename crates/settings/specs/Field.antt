@@ -1,6 +1,6 @@
 -- A field's table: its keys in order, with what each gives (`Fields`, by the clause of `Reader::read`; the parts, by the
 -- one clause of the function of their name).
-use Rattle.std.specs.Prelude.{List, ℕ, ℤ, Bool, true, false, not, ◌++◌, [], ◌∷◌, codes, length, map, sum, Option, Some, None, is_some, option_map, Result, Ok, ◌&&◌, nat_le, ◌==◌, if◌then◌else◌, option_and_then}
+use Rattle.std.specs.Prelude.{List, ℕ, ℤ, Bool, not, ◌++◌, [], ◌∷◌, codes, length, map, sum, Option, Some, None, is_some, option_map, Result, Ok, ◌&&◌, nat_le, ◌==◌, if◌then◌else◌, option_and_then}
 use Rattle.std.specs.List.{list_any, list_all}
 use Rattle.std.specs.Option.{option_map_or}
 use Rattle.std.specs.Str.{bytes_eq}
@@ -16,12 +16,13 @@ use Rattle.link_base.specs.Shares.{outcomes_of}
 use Rattle.settings_readers.specs.Parts.{◌>>=◌, typed, ranged, in_range, needed, optional, defaulted, absent, known}
 use Rattle.settings_readers.specs.Values.{choice, whole, magnitude}
 use Rattle.settings_readers.specs.Lists.{array_of, on_table}
-use Rattle.settings.specs.Plan.{FieldKeys, PlainShares}
+use Rattle.link_plan.specs.Plan.{FieldKeys, PlainShares}
+use Rattle.link_plan.specs.Ranges.{may_be_rare}
 use Rattle.settings.specs.Values.{text}
 use Rattle.settings.specs.Words.{field_keys, kind_named, form_named, compare_named}
 use Rattle.settings.specs.declared.fields.CompareKeys.{CompareKeys}
 use Rattle.settings.specs.declared.fields.NameKeys.{NameKeys}
-use Rattle.settings.specs.declared.limits.TheConstants.{LEAST_RARE, MOST_DAYS, MOST_LETTERS, MOST_RARE, MOST_YEARS}
+use Rattle.link_plan.specs.declared.limits.TheConstants.{LEAST_RARE, MOST_DAYS, MOST_LETTERS, MOST_RARE, MOST_YEARS}
 use Rattle.settings.specs.declared.texts.TextRule.TheVariants as rule
 use Rattle.settings.specs.declared.words.Kind.{Kind}
 use Rattle.settings.specs.declared.words.Kind.TheVariants as kind
@@ -87,11 +88,6 @@ compare_by compare.Days = by_days
 compare_by compare.Years = by_years
 
 -- a rare number, where values are compared by a canon
-abbrev pub may_be_rare : CompareKind → Bool
-may_be_rare (by.DaysWithin t) = false
-may_be_rare (by.YearsWithin t) = false
-may_be_rare _ = true
-
 abbrev pub rare_number : CompareKind → Members → List ℕ → Result (Option ℕ) Fault
 rare_number c t above = if may_be_rare c then optional (whole LEAST_RARE MOST_RARE) t above (codes "rare") else (absent t above (codes "rare") >>= λ no_rare. Ok None)
 

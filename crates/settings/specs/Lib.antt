@@ -1,4 +1,3 @@
-pub mod Plan
 pub mod Values
 pub mod Words
 pub mod WordTables
@@ -6,6 +5,3 @@ pub mod Field
 pub mod Pass
 pub mod Settings
 pub mod PlanParts
-pub mod Within
-pub mod Shape
-pub mod Ranges

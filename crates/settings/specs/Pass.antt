@@ -9,8 +9,8 @@ use Rattle.link_base.specs.declared.plan.FieldSort.{FieldSort}
 use Rattle.link_base.specs.declared.plan.KeyKind.{KeyKind}
 use Rattle.link_base.specs.declared.plan.KeyKind.TheVariants as by
 use Rattle.link_base.specs.declared.plan.Part.{Part}
-use Rattle.settings.specs.Plan.{FieldKeys}
-use Rattle.settings.specs.declared.limits.TheConstants.{MOST_LETTERS, MOST_PARTS, MOST_PASSES}
+use Rattle.link_plan.specs.Plan.{FieldKeys}
+use Rattle.link_plan.specs.declared.limits.TheConstants.{MOST_LETTERS, MOST_PARTS, MOST_PASSES}
 use Rattle.settings.specs.declared.words.KeyWord.{KeyWord}
 use Rattle.settings.specs.declared.words.KeyWord.TheVariants as key
 use Rattle.settings_readers.specs.Parts.{◌>>=◌, needed, absent, known}

@@ -15,19 +15,17 @@ use Rattle.settings.specs.Values.{text}
 use Rattle.settings.specs.Words.{compare_named, delimiter_named, key_named, top_keys}
 use Rattle.settings.specs.WordTables.{texts, word_table}
 use Rattle.settings.specs.Field.{compare_by, compare_keys, field_shares, fields, rare_number}
-use Rattle.settings.specs.Plan.{FieldKeys, PlainShares}
+use Rattle.link_plan.specs.Plan.{FieldKeys, PlainShares}
 use Rattle.settings.specs.Pass.{key_by, passes}
 use Rattle.settings.specs.Settings.{file_keys, journal_of, numbers, tables, plan_from}
 use Rattle.settings.specs.declared.fields.CompareKeys.{CompareKeys}
-use Rattle.settings.specs.declared.limits.TheConstants.{MOST_LISTED_WORDS, MOST_MARKS}
-use Rattle.settings.specs.declared.plan.Plan.{Plan}
+use Rattle.link_plan.specs.declared.limits.TheConstants.{MOST_LISTED_WORDS, MOST_MARKS}
+use Rattle.link_plan.specs.declared.plan.Plan.{Plan}
 use Rattle.settings.specs.declared.texts.TextRule.TheVariants as rule
 use Rattle.settings.specs.declared.top.FileKeys.{FileKeys}
 use Rattle.settings.specs.declared.top.LinkKeys.{LinkKeys}
 use Rattle.settings.specs.declared.top.OtherSources.{OtherSources}
 use Rattle.settings.specs.declared.top.SourceKeys.{SourceKeys}
-use Rattle.settings.specs.declared.within.NamesWithin.{NamesWithin}
-use Rattle.settings.specs.declared.within.SidesWithin.{SidesWithin}
 use Rattle.settings.specs.declared.words.Kind.{Kind}
 
 -- the keys on files after the two and their ids
@@ -102,25 +100,3 @@ unfoldable pub key_of : FieldSort → Members → List ℕ → Result KeyKind Fa
 key_of sort t above = do
   word ← needed (choice (key_named sort)) t above (codes "key")
   key_by word t above
-
--- the file and its ids on both sides
-abbrev pub sides_of_a : Plan → SidesWithin
-sides_of_a plan = record { file_a = plan.file_a; file_b = plan.file_a; id_a = plan.id_a; id_b = plan.id_a }
-
-abbrev pub names_of_a : Plan → NamesWithin
-names_of_a plan = record { sides = sides_of_a plan; sample = plan.sample; journal = plan.journal }
-
--- other names, tables, fields and passes, and the delimiter of A on both sides
-abbrev pub plan_of_parts : Plan → NamesWithin → Tables → List FieldKeys → List (List Part) → Plan
-plan_of_parts plan names tables fields passes = record plan {
-  file_a = names.sides.file_a;
-  file_b = names.sides.file_b;
-  id_a = names.sides.id_a;
-  id_b = names.sides.id_b;
-  delimiter_b = plan.delimiter_a;
-  sample = names.sample;
-  journal = names.journal;
-  tables = tables;
-  fields = fields;
-  passes = passes;
-}

@@ -1,26 +1,27 @@
--- The settings: the bytes of a file to a plan, or the first key at fault (`read_settings`, clauses `gives` and
--- `not_toml`).
-use Rattle.std.specs.Prelude.{List, ℕ, Bool, true, false, not, [], ◌∷◌, ◌++◌, codes, Option, Some, None, is_some, option_to_list, Result, Ok, Err, if◌then◌else◌}
+-- The settings: the bytes of a file to a plan, or the first key at fault (`read_settings`, clauses `gives`,
+-- `not_toml` and `kind`).
+use Rattle.std.specs.Prelude.{List, ℕ, Bool, true, false, not, [], ◌∷◌, ◌++◌, codes, Option, Some, None, is_some, option_to_list, Result, Ok, Err, if◌then◌else◌, ⊤}
 use Rattle.std.specs.Str.{is_utf8}
 use Rattle.toml.specs.Data.{Members}
 use Rattle.toml.specs.Parse.{parse_document}
 use Rattle.link_limits.specs.declared.TheConstants.{PER_MILLION}
 use Rattle.link_texts.specs.Texts.{stands_among}
 use Rattle.link_base.specs.declared.fault.Fault.{Fault}
-use Rattle.link_base.specs.declared.fault.Fault.TheVariants.{NotToml}
+use Rattle.link_base.specs.declared.fault.Fault.TheVariants as fault
 use Rattle.link_base.specs.declared.plan.Part.{Part}
 use Rattle.link_base.specs.declared.tables.Tables.{Tables}
 use Rattle.link_base.specs.Tables.{missing_marks, name_titles, name_suffixes}
+use Rattle.settings_readers.specs.KeyFaults.{IsKeyFault}
 use Rattle.settings_readers.specs.Parts.{◌>>=◌, in_range, needed, optional, defaulted, known}
 use Rattle.settings_readers.specs.Values.{choice, whole, truth}
 use Rattle.settings.specs.Values.{text}
 use Rattle.settings.specs.Words.{top_keys, delimiter_named}
 use Rattle.settings.specs.WordTables.{texts, word_table}
 use Rattle.settings.specs.Field.{fields}
-use Rattle.settings.specs.Plan.{FieldKeys}
+use Rattle.link_plan.specs.Plan.{FieldKeys}
 use Rattle.settings.specs.Pass.{passes}
-use Rattle.settings.specs.declared.limits.TheConstants.{MOST_AWARD, MOST_LISTED_WORDS, MOST_MARKS, MOST_SEED}
-use Rattle.settings.specs.declared.plan.Plan.{Plan}
+use Rattle.link_plan.specs.declared.limits.TheConstants.{MOST_AWARD, MOST_LISTED_WORDS, MOST_MARKS, MOST_SEED}
+use Rattle.link_plan.specs.declared.plan.Plan.{Plan}
 use Rattle.settings.specs.declared.texts.TextRule.TheVariants as rule
 use Rattle.settings.specs.declared.top.FileKeys.{FileKeys}
 use Rattle.settings.specs.declared.top.SourceKeys.{SourceKeys}
@@ -111,9 +112,15 @@ abbrev pub document : List ℕ → Option Members
 document bytes = if is_utf8 bytes then parse_document bytes else None
 
 abbrev pub plan_or_not_toml : Option Members → Result Plan Fault
-plan_or_not_toml None = Err NotToml
+plan_or_not_toml None = Err fault.NotToml
 plan_or_not_toml (Some t) = plan_of t []
 
 -- the plan of a settings file, or its first fault
 abbrev pub settings : List ℕ → Result Plan Fault
 settings bytes = plan_or_not_toml (document bytes)
+
+-- the faults of a settings file
+abbrev pub IsSettingsFault : Fault → Type 0
+IsSettingsFault fault.NotToml = ⊤
+IsSettingsFault fault.NoMemory = ⊤
+IsSettingsFault f = IsKeyFault f

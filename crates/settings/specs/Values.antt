@@ -1,26 +1,18 @@
--- Which texts are in range at a key (`is_output` and `fits`, and `TextRule`, by the clause of `Reader::read`).
-use Rattle.std.specs.Prelude.{List, ℕ, Bool, not, codes, length, Result, ◌&&◌, ◌||◌, nat_le, ◌==◌}
+-- Which texts are in range at a key (`fits`, and `TextRule`, by the clause of `Reader::read`).
+use Rattle.std.specs.Prelude.{List, ℕ, Bool, not, length, Result, ◌&&◌, nat_le}
 use Rattle.std.specs.List.{list_all}
-use Rattle.std.specs.Str.{bytes_eq}
 use Rattle.toml.specs.Data.{Data, as_str}
 use Rattle.link_base.specs.declared.fault.Fault.{Fault}
 use Rattle.link_base.specs.Tables.{is_word}
 use Rattle.settings_readers.specs.Parts.{◌>>=◌, typed, in_range}
 use Rattle.link_limits.specs.declared.TheConstants.{MOST_NAME_BYTES}
-use Rattle.settings.specs.declared.limits.TheConstants.{MOST_FIELD_NAME_BYTES, MOST_LABEL_BYTES, MOST_MARK_BYTES}
+use Rattle.link_plan.specs.Names.{is_name_byte, is_output}
+use Rattle.link_plan.specs.declared.limits.TheConstants.{MOST_FIELD_NAME_BYTES, MOST_LABEL_BYTES, MOST_MARK_BYTES}
 use Rattle.settings.specs.declared.texts.TextRule.{TextRule}
 use Rattle.settings.specs.declared.texts.TextRule.TheVariants as rule
 
--- the five files that a run writes
-abbrev pub is_output : List ℕ → Bool
-is_output s = bytes_eq s (codes "pairs.csv") || bytes_eq s (codes "rule.csv") || bytes_eq s (codes "links.csv") || bytes_eq s (codes "prices.csv") || bytes_eq s (codes "report.txt")
-
 abbrev pub has_len : ℕ → ℕ → List ℕ → Bool
 has_len low high s = nat_le low (length s) && nat_le (length s) high
-
--- a to z, 0 to 9 and _
-abbrev pub is_name_byte : ℕ → Bool
-is_name_byte b = (nat_le 97 b && nat_le b 122) || (nat_le 48 b && nat_le b 57) || b == 95
 
 abbrev pub fits : TextRule → List ℕ → Bool
 fits rule.File s = has_len 1 MOST_NAME_BYTES s && not (is_output s)

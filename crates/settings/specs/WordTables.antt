@@ -8,7 +8,7 @@ use Rattle.link_base.specs.Tables.{is_word}
 use Rattle.settings_readers.specs.Parts.{◌>>=◌, typed, in_range}
 use Rattle.settings_readers.specs.Lists.{array_of}
 use Rattle.settings.specs.Values.{text}
-use Rattle.settings.specs.declared.limits.TheConstants.{MOST_WORD_PAIRS}
+use Rattle.link_plan.specs.declared.limits.TheConstants.{MOST_WORD_PAIRS}
 use Rattle.settings.specs.declared.texts.TextRule.{TextRule}
 use Rattle.settings.specs.declared.texts.TextRule.TheVariants as rule
 

@@ -2,13 +2,14 @@
 ghost use Rattle.std.specs.Prelude.{◌≡◌};
 ghost use Rattle.toml.specs.View.{table_view};
 ghost use Rattle.link_base.specs.Fault.{IsAnswer};
-ghost use Rattle.settings.specs.Field.{date_sort, plain_sort, sort_of, by_letters, by_days, by_years, plain_compare, compare_by, may_be_rare, rare_number};
+ghost use Rattle.settings.specs.Field.{date_sort, plain_sort, sort_of, by_letters, by_days, by_years, plain_compare, compare_by, rare_number};
+ghost use Rattle.link_plan.specs.Ranges.{may_be_rare};
 ghost use Rattle.settings.specs.PlanParts.{comparison, span};
 
-use crate::limits::{LEAST_RARE, MOST_DAYS, MOST_RARE, MOST_YEARS};
 use crate::texts::Letters;
 use crate::words::{CompareWord, Forms, Kind};
 use link_base::{CompareKind, Fault, FieldSort};
+use link_plan::{LEAST_RARE, MOST_DAYS, MOST_RARE, MOST_YEARS};
 use settings_readers::{Choice, Keys, Whole};
 use std::alloc::Global;
 

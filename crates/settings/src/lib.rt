@@ -3,17 +3,13 @@
 
 mod fields;
 mod kinds;
-mod limits;
 mod passes;
-mod plan;
 mod shares;
 mod texts;
 mod top;
-mod within;
 mod word_tables;
 mod words;
 
-pub use plan::{FieldList, FieldPlan, Plan};
 pub use settings_readers::least_unknown_key;
 pub use texts::is_output;
 pub use top::read_settings;

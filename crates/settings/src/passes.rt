@@ -5,11 +5,10 @@ ghost use Rattle.link_base.specs.Fault.{IsAnswer};
 ghost use Rattle.settings.specs.Pass.{field_named, first_key, plain_key, key_by, part, parts, pass, passes};
 ghost use Rattle.settings.specs.PlanParts.{key_of};
 
-use crate::limits::{MOST_PARTS, MOST_PASSES};
-use crate::plan::FieldList;
 use crate::texts::Letters;
 use crate::words::{KeyWord, KeysOf};
 use link_base::{Fault, FieldSort, KeyKind, Part, Pass, PassList};
+use link_plan::{FieldList, MOST_PARTS, MOST_PASSES};
 use settings_readers::{Choice, Choices, Items, Keys, Place, Reader, Row, Rows};
 use std::alloc::Global;
 use toml::Value;

@@ -7,13 +7,14 @@ ghost use Rattle.link_base.specs.Tables.{is_word_byte};
 ghost use Rattle.settings_readers.specs.Parts.{defaulted, defaulted_both};
 ghost use Rattle.settings_readers.specs.Values.{whole};
 ghost use Rattle.settings.specs.declared.texts.TextRule.TheVariants as rule;
-ghost use Rattle.settings.specs.Values.{is_output, is_name_byte, fits, text};
+ghost use Rattle.link_plan.specs.Names.{is_output, is_name_byte};
+ghost use Rattle.settings.specs.Values.{fits, text};
 
-use crate::limits::{
-    MOST_FIELD_NAME_BYTES, MOST_LABEL_BYTES, MOST_LETTERS, MOST_MARK_BYTES, MOST_SEED,
-};
 use link_base::{Fault, NoMemory, Text};
 use link_limits::{MOST_NAME_BYTES, MOST_WORD_BYTES};
+use link_plan::{
+    MOST_FIELD_NAME_BYTES, MOST_LABEL_BYTES, MOST_LETTERS, MOST_MARK_BYTES, MOST_SEED,
+};
 use settings_readers::{Keys, Place, Reader, is_listed, whole_number};
 use std::alloc::Global;
 use std::marker::Model;
@@ -238,7 +239,7 @@ impl Reader for File {
 pub(crate) struct Letters;
 
 impl Reader for Letters {
-    ghost use Rattle.settings.specs.declared.limits.TheConstants.{MOST_LETTERS};
+    ghost use Rattle.link_plan.specs.declared.limits.TheConstants.{MOST_LETTERS};
 
     type Item = u8;
 
@@ -257,7 +258,7 @@ impl Reader for Letters {
 pub(crate) struct Seed;
 
 impl Reader for Seed {
-    ghost use Rattle.settings.specs.declared.limits.TheConstants.{MOST_SEED};
+    ghost use Rattle.link_plan.specs.declared.limits.TheConstants.{MOST_SEED};
 
     type Item = u64;
 

@@ -6,19 +6,18 @@ ghost use Rattle.link_base.specs.declared.fault.Fault.TheVariants as fault;
 ghost use Rattle.link_base.specs.Fault.{Gives, IsAnswer};
 ghost use Rattle.link_base.specs.Tables.{AreWordPairs};
 ghost use Rattle.settings_readers.specs.Parts.{defaulted};
-ghost use Rattle.settings.specs.Settings.{file_keys, is_free, journal_of, numbers, tables, plan_from, document, settings};
+ghost use Rattle.settings.specs.Settings.{document, file_keys, is_free, IsSettingsFault, journal_of, numbers, plan_from, settings, tables};
 ghost use Rattle.settings.specs.PlanParts.{link_keys, matching_keys, other_sources, plan_in_parts, sources_in_parts, tables_over};
-ghost use Rattle.settings.specs.Ranges.{IsSettingsFault, KeepsRanges, NamesFiles};
+ghost use Rattle.link_plan.specs.Ranges.{KeepsRanges, NamesFiles};
 
 use crate::fields::Fields;
-use crate::limits::{MOST_AWARD, MOST_LISTED_WORDS, MOST_MARKS};
 use crate::passes::Passes;
-use crate::plan::{FieldList, Plan};
 use crate::texts::{File, FileName, Seed, TextRule, labels};
 use crate::word_tables::{Texts, WordTable};
 use crate::words::Delimiters;
 use link_base::{Fault, PassList, Tables, Text};
 use link_limits::PER_MILLION;
+use link_plan::{FieldList, MOST_AWARD, MOST_LISTED_WORDS, MOST_MARKS, Plan};
 use settings_readers::{Choice, Keys, Place, Reader, Truth, Whole};
 use std::alloc::Global;
 

@@ -6,9 +6,9 @@ ghost use Rattle.settings_readers.specs.Laws.{keys_ascend};
 ghost use Rattle.settings.specs.Values.{text};
 ghost use Rattle.settings.specs.WordTables.{texts, word_pair, pairs, small_table, word_table};
 
-use crate::limits::MOST_WORD_PAIRS;
 use crate::texts::{TextRule, fits};
 use link_base::{Fault, NoMemory, Text, TextList, WordPair, WordPairs};
+use link_plan::MOST_WORD_PAIRS;
 use settings_readers::{Element, Items, Place, Reader};
 use std::alloc::Global;
 use toml::{Table, Value};

@@ -22,7 +22,7 @@ use Rattle.file_reader.specs.Table.{table_of, unless_fault}
 use Rattle.file_reader.specs.Takers.{IsTableFor, IsTaken}
 use Rattle.file_reader.proofs.RowFacts.{fields_with, length_ids, length_with}
 use Rattle.file_reader.proofs.TakerFacts.{table_sound}
-use Rattle.settings.specs.declared.plan.Plan.{Plan}
+use Rattle.link_plan.specs.declared.plan.Plan.{Plan}
 use Rattle.standard_files.specs.Files.{date_fault, dates_fault, delimiter_in, sorts_a, sorts_b, sorts_in, StandardFile, standard_files, StandardPair, standard_pair, table_a, table_b, table_in, wanted_in}
 use Rattle.standard_files.specs.Kept.{date_in_row, dated_file, dated_pair, dated_table, first_unreadable, HasTaken, HasValues, place_fault}
 use Rattle.standard_files.specs.Values.{standard_record, standard_records, standard_values, unreadable_from, unreadable_in, unreadable_in_row}

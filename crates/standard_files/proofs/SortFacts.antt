@@ -15,8 +15,8 @@ use Rattle.link_base.specs.declared.tables.Tables.{Tables}
 use Rattle.link_base.specs.declared.tables.WordPair.{WordPair}
 use Rattle.file_reader.specs.Rows.{TableRow}
 use Rattle.file_reader.specs.Takers.{IsTableFor}
-use Rattle.settings.specs.Plan.{FieldKeys}
-use Rattle.settings.specs.declared.plan.Plan.{Plan}
+use Rattle.link_plan.specs.Plan.{FieldKeys}
+use Rattle.link_plan.specs.declared.plan.Plan.{Plan}
 use Rattle.standard_files.specs.Files.{AreOfPlan, field_column, sorts_in, wanted_in}
 use Rattle.standard_files.specs.Values.{AreOfSorts, IsOfSort, sort_in, sort_in_a, sort_in_b, standard_record, standard_records, standard_value, standard_values, value_of_read}
 use Rattle.standard_files.specs.declared.sorts.TextSort.{TextSort}

@@ -14,8 +14,8 @@ use Rattle.file_reader.specs.Left.{records_in}
 use Rattle.file_reader.specs.Layout.{Wanted}
 use Rattle.file_reader.specs.Rows.{TableRow}
 use Rattle.file_reader.specs.Table.{table_of, unless_fault}
-use Rattle.settings.specs.Plan.{FieldKeys}
-use Rattle.settings.specs.declared.plan.Plan.{Plan}
+use Rattle.link_plan.specs.Plan.{FieldKeys}
+use Rattle.link_plan.specs.declared.plan.Plan.{Plan}
 use Rattle.standard_files.specs.Values.{AreOfSorts, sort_in, standard_records, unreadable_from, unreadable_in}
 use Rattle.standard_files.specs.declared.sorts.TextSort.{TextSort}
 

@@ -12,7 +12,7 @@ use Rattle.link_base.specs.declared.tables.Tables.{Tables}
 use Rattle.link_limits.specs.declared.TheConstants.{MOST_FIELDS}
 use Rattle.file_reader.specs.Rows.{TableRow}
 use Rattle.file_reader.specs.Table.{unless_fault}
-use Rattle.settings.specs.declared.plan.Plan.{Plan}
+use Rattle.link_plan.specs.declared.plan.Plan.{Plan}
 use Rattle.standard_files.specs.Files.{date_fault, sorts_in, StandardPair, table_in}
 use Rattle.standard_files.specs.Values.{standard_records, standard_values, unreadable_from, unreadable_in, unreadable_in_row}
 use Rattle.standard_files.specs.declared.file_values.DatedFile.{DatedFile}

@@ -10,7 +10,7 @@ use crate::file_values::{DatePlace, DatedFile};
 use crate::sources::read_file;
 use crate::values::ValueTables;
 use link_base::{Fault, FileRole, StdFile};
-use settings::Plan;
+use link_plan::Plan;
 use std::alloc::Global;
 use std::marker::Model;
 

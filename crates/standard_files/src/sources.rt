@@ -2,7 +2,7 @@
 ghost use Rattle.std.specs.Prelude.{◌≡◌, ◌<◌, ◌++◌, ◌∷◌, [], length, map, IfErr, IfOk, IfSome, OnOk};
 ghost use Rattle.link_base.specs.Fault.{IsAnswer, IsInputFault};
 ghost use Rattle.file_reader.specs.Layout.{wanted_of};
-ghost use Rattle.settings.specs.Plan.{FieldKeys};
+ghost use Rattle.link_plan.specs.Plan.{FieldKeys};
 ghost use Rattle.standard_files.specs.Files.{AreOfPlan, field_column, delimiter_in, wanted_in};
 ghost use Rattle.standard_files.specs.Kept.{dated_file};
 ghost use Rattle.standard_files.specs.Values.{sort_in};
@@ -15,7 +15,7 @@ use crate::values::ValueTables;
 use file_reader::{Layout, read_rows};
 use link_base::{Fault, FileRole, NoMemory, Text};
 use link_limits::MOST_ROWS;
-use settings::{FieldPlan, Plan};
+use link_plan::{FieldPlan, Plan};
 use std::alloc::Global;
 
 // The columns of a file's fields, and what they hold.

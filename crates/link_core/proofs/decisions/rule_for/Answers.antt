@@ -13,7 +13,7 @@ use Rattle.pair_decisions.specs.Comparators.{rares_of}
 use Rattle.pair_decisions.specs.PlanRule.{IsRuleOf}
 use Rattle.pair_decisions.specs.PlanShares.{plain_all}
 use Rattle.pair_decisions.specs.TheRule.{the_rule}
-use Rattle.settings.specs.Plan.{PlainShares}
+use Rattle.link_plan.specs.Plan.{PlainShares}
 use Rattle.link_core.proofs.ResultLemmas.{if_ok}
 use Rattle.link_core.proofs.decisions.rule_for.Goals as goal
 

@@ -1,5 +1,5 @@
 use Rattle.std.proofs.Common.{◌++◌, ◌∷◌, ◌∙◌, [], ap}
-use Rattle.settings.specs.Plan.{FieldKeys}
+use Rattle.link_plan.specs.Plan.{FieldKeys}
 use Rattle.link_core.proofs.StepLemmas.{map_more}
 use Rattle.link_core.proofs.preparing.kinds_of_plan.Goals as goal
 

@@ -1,5 +1,5 @@
 use Rattle.std.proofs.Common.{◌≡◌, map, take}
-use Rattle.settings.specs.Plan.{FieldKeys}
+use Rattle.link_plan.specs.Plan.{FieldKeys}
 use Rattle.link_core.proofs.preparing.kinds_of_plan.Given as goal
 
 abbrev pub invariant-loop-field : goal.invariant-loop-field

@@ -4,7 +4,7 @@ use Rattle.block_passes.specs.KeyIds.{key_ids}
 use Rattle.link_base.specs.Standard.{Record}
 use Rattle.block_passes.specs.Ids.{AreKeysHeld}
 use Rattle.standard_files.specs.Ready.{AreFileSides}
-use Rattle.settings.specs.Plan.{FieldKeys}
+use Rattle.link_plan.specs.Plan.{FieldKeys}
 use Rattle.standard_files.specs.Files.{StandardPair}
 use Rattle.link_core.specs.Prepared.{kinds_of}
 use Rattle.link_core.proofs.PreparedLemmas.{made_values, refused_values}

@@ -5,8 +5,8 @@ use Rattle.link_base.specs.declared.fault.FileRole.TheVariants as role
 use Rattle.link_core.proofs.DuplicateLemmas.{same_rows}
 use Rattle.link_core.specs.Prepared.{prepared, PreparedView}
 use Rattle.link_limits.specs.declared.TheConstants.{MOST_POOLED_BYTES}
-use Rattle.settings.specs.Within.{plan_within}
-use Rattle.settings.specs.declared.plan.Plan.{Plan}
+use Rattle.link_plan.specs.Within.{plan_within}
+use Rattle.link_plan.specs.declared.plan.Plan.{Plan}
 use Rattle.link_shell.specs.Seen.{StoreSeen}
 use Rattle.link_shell.specs.Steps.{file, Takes}
 use Rattle.link_shell.proofs.StepFacts.{of_bytes, takes_go, takes_stop, takes_value}

@@ -7,8 +7,8 @@ use Rattle.link_base.specs.declared.fault.Fault.{Fault}
 use Rattle.link_base.specs.declared.rule.PairAt.{PairAt}
 use Rattle.link_core.specs.Duplicates.{IsGroupsText, links_within}
 use Rattle.pair_decisions.specs.Pairs.{IsInside}
-use Rattle.settings.specs.Within.{plan_within}
-use Rattle.settings.specs.declared.plan.Plan.{Plan}
+use Rattle.link_plan.specs.Within.{plan_within}
+use Rattle.link_plan.specs.declared.plan.Plan.{Plan}
 use Rattle.link_shell.specs.Due.{prints}
 use Rattle.link_shell.specs.DuplicatesSettings.{AreGroupsPrinted, decided_within, Within, within_of}
 use Rattle.link_shell.specs.Seen.{StoreSeen}

@@ -2,8 +2,8 @@ use Rattle.std.proofs.Common.{◌≡◌, ◌∙◌, ℕ, ap, length, subst, sym,
 use Rattle.std.proofs.lemmas.List.FromFn.{length-map-range_with_len}
 use Rattle.comparators.specs.Fields.{IsCounted, IsFieldSide}
 use Rattle.comparators.specs.declared.ids.FieldById.{FieldById}
-use Rattle.settings.specs.Field.{may_be_rare}
-use Rattle.settings.specs.Plan.{FieldKeys}
+use Rattle.link_plan.specs.Ranges.{may_be_rare}
+use Rattle.link_plan.specs.Plan.{FieldKeys}
 use Rattle.pair_decisions.specs.Comparators.{count_of_id}
 use Rattle.pair_decisions.proofs.ComparatorLemmas.{canon_of_rare, counted_side}
 use Rattle.pair_decisions.proofs.comparisons.comparison_at.Goals as goal

@@ -1,8 +1,8 @@
 use Rattle.std.proofs.Common.{◌≡◌, ◌<◌, ◌∙◌, Option, Some, None, ap, arith, get_or, length, subst, sym}
 use Rattle.std.specs.Prelude.{is_some, option_map}
 use Rattle.link_base.specs.declared.shares.FieldShares.{FieldShares}
-use Rattle.settings.specs.Plan.{FieldKeys, plain_shares}
-use Rattle.settings.specs.Ranges.{IsField}
+use Rattle.link_plan.specs.Plan.{FieldKeys, plain_shares}
+use Rattle.link_plan.specs.Ranges.{IsField}
 use Rattle.pair_decisions.proofs.ListSteps.{made_more}
 use Rattle.pair_decisions.proofs.ShareLemmas.{is_given, kept_more, rare_given}
 use Rattle.pair_decisions.proofs.plan_shares.given_shares.Goals.{in-Some+in_ok-push, in_default}

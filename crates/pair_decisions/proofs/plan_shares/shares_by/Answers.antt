@@ -2,7 +2,7 @@ use Rattle.std.proofs.Common.{◌≡◌, ◌<◌, ◌∙◌, ap, arith, get_or, 
 use Rattle.std.specs.Prelude.{is_some}
 use Rattle.std.proofs.lemmas.List.{length-map}
 use Rattle.link_base.specs.declared.shares.FieldShares.{FieldShares}
-use Rattle.settings.specs.Plan.{FieldKeys, PlainShares, plain_shares}
+use Rattle.link_plan.specs.Plan.{FieldKeys, PlainShares, plain_shares}
 use Rattle.pair_decisions.specs.PlanShares.{shares_at}
 use Rattle.pair_decisions.proofs.ListSteps.{made_more, placed_more}
 use Rattle.pair_decisions.proofs.ShareLemmas.{rare_at}

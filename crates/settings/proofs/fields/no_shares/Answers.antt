@@ -3,7 +3,7 @@ use Rattle.std.specs.Prelude.{option_map}
 use Rattle.toml.specs.View.{table_view}
 use Rattle.settings_readers.specs.Parts.{absent}
 use Rattle.settings.specs.Field.{no_shares}
-use Rattle.settings.specs.Plan.{plain_shares}
+use Rattle.link_plan.specs.Plan.{plain_shares}
 use Rattle.settings.proofs.Chains.{as_seen}
 use Rattle.settings.proofs.fields.no_shares.Goals as goal
 

@@ -1,7 +1,7 @@
 use Rattle.toml.specs.View.{table_view}
 use Rattle.link_base.specs.declared.plan.CompareKind.TheVariants.{YearsWithin}
 use Rattle.settings.specs.Field.{by_years}
-use Rattle.settings.specs.declared.limits.TheConstants.{MOST_YEARS}
+use Rattle.link_plan.specs.declared.limits.TheConstants.{MOST_YEARS}
 use Rattle.settings.proofs.NamedSteps.{by_span, no_span}
 use Rattle.settings.proofs.kinds.by_years.Goals as goal
 

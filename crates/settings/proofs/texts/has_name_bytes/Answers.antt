@@ -1,5 +1,5 @@
 use Rattle.std.proofs.Common.{◌∙◌, sym}
-use Rattle.settings.specs.Values.{is_name_byte}
+use Rattle.link_plan.specs.Names.{is_name_byte}
 use Rattle.settings.proofs.Loops.{all_more, all_stops}
 use Rattle.settings.proofs.texts.has_name_bytes.Goals as goal
 

@@ -1,6 +1,6 @@
 use Rattle.std.proofs.Common.{◌≡◌, drop}
 use Rattle.std.specs.List.{list_all}
-use Rattle.settings.specs.Values.{is_name_byte}
+use Rattle.link_plan.specs.Names.{is_name_byte}
 use Rattle.settings.proofs.texts.has_name_bytes.Given as goal
 
 abbrev pub invariant-loop-byte : goal.invariant-loop-byte

@@ -2,7 +2,7 @@ use Rattle.std.proofs.Common.{◌∙◌}
 use Rattle.std.proofs.lemmas.Bool.{lt-leb, le-leb}
 use Rattle.settings_readers.proofs.Ascending.{keys_ascend-sorted}
 use Rattle.settings_readers.proofs.Steps.{refused_as}
-use Rattle.settings.specs.declared.limits.TheConstants.{MOST_WORD_PAIRS}
+use Rattle.link_plan.specs.declared.limits.TheConstants.{MOST_WORD_PAIRS}
 use Rattle.settings.proofs.WordTables.{small_table_is}
 use Rattle.settings.proofs.word_tables.small_table.Goals as goal
 

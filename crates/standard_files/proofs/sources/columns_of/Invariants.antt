@@ -1,5 +1,5 @@
 use Rattle.std.proofs.Common.{◌≡◌, map, take}
-use Rattle.settings.specs.Plan.{FieldKeys}
+use Rattle.link_plan.specs.Plan.{FieldKeys}
 use Rattle.standard_files.specs.Files.{field_column}
 use Rattle.standard_files.specs.Values.{sort_in}
 use Rattle.standard_files.proofs.sources.columns_of.Given as goal

@@ -1,6 +1,6 @@
 use Rattle.std.proofs.Common.{◌∙◌, Ok, ap, map, sym}
 use Rattle.file_reader.specs.Layout.{wanted_of}
-use Rattle.settings.specs.Plan.{FieldKeys}
+use Rattle.link_plan.specs.Plan.{FieldKeys}
 use Rattle.standard_files.specs.Values.{sort_in}
 use Rattle.standard_files.proofs.FileSteps.{whole_read}
 use Rattle.standard_files.proofs.SortFacts.{file_of_plan}

@@ -1,5 +1,5 @@
-use Rattle.settings.proofs.Loops.{copied_more}
-use Rattle.settings.proofs.within.copied_each.Goals as goal
+use Rattle.link_plan.proofs.Loops.{copied_more}
+use Rattle.link_plan.proofs.within.copied_each.Goals as goal
 
 pub loop-item-preserved : goal.loop-item-preserved
 loop-item-preserved g c =

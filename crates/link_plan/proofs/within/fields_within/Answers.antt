@@ -1,6 +1,6 @@
-use Rattle.settings.specs.Within.{field_within}
-use Rattle.settings.proofs.Loops.{mapped_more}
-use Rattle.settings.proofs.within.fields_within.Goals as goal
+use Rattle.link_plan.specs.Within.{field_within}
+use Rattle.link_plan.proofs.Loops.{mapped_more}
+use Rattle.link_plan.proofs.within.fields_within.Goals as goal
 
 pub loop-field-preserved : goal.loop-field-preserved
 loop-field-preserved c =

@@ -1,7 +1,7 @@
 // The parts of the plan of a file with itself.
 ghost use Rattle.std.specs.Prelude.{◌≡◌, IfOk, map};
-ghost use Rattle.settings.specs.Within.{field_within, plan_within, sort_within};
-ghost use Rattle.settings.specs.PlanParts.{names_of_a, plan_of_parts, sides_of_a};
+ghost use Rattle.link_plan.specs.Within.{field_within, plan_within, sort_within};
+ghost use Rattle.link_plan.specs.WithinParts.{names_of_a, plan_of_parts, sides_of_a};
 
 use crate::plan::{FieldList, FieldPlan, Plan};
 use link_base::{FieldSort, NoMemory, Pass, PassList, Tables, Text, TextList, WordPair, WordPairs};

@@ -1,46 +1,46 @@
-// The ranges of the settings' keys, each written once. Limits that other crates speak of are `link_limits`'.
+// The ranges of the settings' keys, each written once. Limits of more than a plan are `link_limits`'.
 
 /// The most bytes of the name of a column.
-pub(crate) const MOST_LABEL_BYTES: usize = 255;
+pub const MOST_LABEL_BYTES: usize = 255;
 
 /// The most bytes of a mark of a missing value.
-pub(crate) const MOST_MARK_BYTES: usize = 64;
+pub const MOST_MARK_BYTES: usize = 64;
 
 /// The most bytes of the name of a field.
-pub(crate) const MOST_FIELD_NAME_BYTES: usize = 32;
+pub const MOST_FIELD_NAME_BYTES: usize = 32;
 
 /// The most marks of a missing value.
-pub(crate) const MOST_MARKS: usize = 50;
+pub const MOST_MARKS: usize = 50;
 
 /// The most titles, and the most suffixes.
-pub(crate) const MOST_LISTED_WORDS: usize = 200;
+pub const MOST_LISTED_WORDS: usize = 200;
 
 /// The most pairs of words that are replaced in names, and in places.
-pub(crate) const MOST_WORD_PAIRS: usize = 1000;
+pub const MOST_WORD_PAIRS: usize = 1000;
 
 /// The most passes.
-pub(crate) const MOST_PASSES: usize = 8;
+pub const MOST_PASSES: usize = 8;
 
 /// The most parts of a pass.
-pub(crate) const MOST_PARTS: usize = 4;
+pub const MOST_PARTS: usize = 4;
 
 /// The most first letters that are compared or blocked by.
-pub(crate) const MOST_LETTERS: u8 = 20;
+pub const MOST_LETTERS: u8 = 20;
 
 /// The most days that two dates that agree may be apart.
-pub(crate) const MOST_DAYS: u32 = 36_500;
+pub const MOST_DAYS: u32 = 36_500;
 
 /// The most years that two years that agree may be apart.
-pub(crate) const MOST_YEARS: u32 = 100;
+pub const MOST_YEARS: u32 = 100;
 
 /// The least rare number: an agreement on a value has a record of each file.
-pub(crate) const LEAST_RARE: u32 = 2;
+pub const LEAST_RARE: u32 = 2;
 
 /// The greatest rare number: the records of both files.
-pub(crate) const MOST_RARE: u32 = 200_000;
+pub const MOST_RARE: u32 = 200_000;
 
 /// The greatest award for a pair that is a link by review.
-pub(crate) const MOST_AWARD: u32 = 1000;
+pub const MOST_AWARD: u32 = 1000;
 
 /// The greatest seed, which is the greatest whole number of TOML.
-pub(crate) const MOST_SEED: u64 = 9_223_372_036_854_775_807;
+pub const MOST_SEED: u64 = 9_223_372_036_854_775_807;

@@ -1,5 +1,5 @@
-use Rattle.settings.proofs.WithinRanges.{names_within, ranges_within}
-use Rattle.settings.proofs.plan.Plan.within.Goals as goal
+use Rattle.link_plan.proofs.WithinRanges.{names_within, ranges_within}
+use Rattle.link_plan.proofs.plan.Plan.within.Goals as goal
 
 pub returns-clause-ranges : goal.returns-clause-ranges
 returns-clause-ranges c = λ h. rw c.in_ok-plan.ensures (ranges_within c.args.self.now h)

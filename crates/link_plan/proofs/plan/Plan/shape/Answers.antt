@@ -2,8 +2,8 @@ use Rattle.std.proofs.Common.{◌≡◌, ℕ, suc, ◌+◌, ◌-◌, ◌<◌, �
 use Rattle.std.specs.Prelude.{replicate, is_some}
 use Rattle.std.proofs.lemmas.List.{take_more, map_push, length-map, length-take-le}
 use Rattle.std.proofs.Math.Seq.{set-append_seam}
-use Rattle.settings.specs.Plan.{FieldKeys}
-use Rattle.settings.proofs.plan.Plan.shape.Goals as goal
+use Rattle.link_plan.specs.Plan.{FieldKeys}
+use Rattle.link_plan.proofs.plan.Plan.shape.Goals as goal
 
 -- one more field
 rare_more : (g : FieldKeys → Bool) (fs : List FieldKeys) (i : ℕ) (f : FieldKeys) (rare : List Bool) (b : Bool) → length fs ≤ 6 → i < length fs → f ≡ get_or fs i f → b ≡ g f

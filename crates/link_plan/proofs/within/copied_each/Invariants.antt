@@ -1,5 +1,5 @@
 use Rattle.std.proofs.Common.{◌≡◌, take}
-use Rattle.settings.proofs.within.copied_each.Given as goal
+use Rattle.link_plan.proofs.within.copied_each.Given as goal
 
 abbrev pub invariant-loop-item : goal.invariant-loop-item
 invariant-loop-item g l = l.copy.items ≡ take l.item-index l.items

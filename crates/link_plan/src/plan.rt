@@ -22,7 +22,7 @@ pub struct FieldPlan {
 
 impl Model for FieldPlan {
     ghost use Rattle.std.specs.Prelude.{option_map};
-    ghost use Rattle.settings.specs.Plan.{FieldKeys, plain_shares};
+    ghost use Rattle.link_plan.specs.Plan.{FieldKeys, plain_shares};
 
     ghost Value = { FieldKeys };
 
@@ -30,7 +30,8 @@ impl Model for FieldPlan {
 }
 
 impl FieldPlan {
-    pub(crate) fn is_named(&self, name: &[u8]) -> bool
+    /// Whether this is its name.
+    pub fn is_named(&self, name: &[u8]) -> bool
         ensures { result ≡ bytes_eq name.now self.now.name }
     {
         name == self.name.bytes()
@@ -52,7 +53,7 @@ pub struct FieldList {
 impl Model for FieldList {
     ghost use Rattle.std.specs.Prelude.{List, length, ◌≤◌};
     ghost use Rattle.link_limits.specs.declared.TheConstants.{MOST_FIELDS};
-    ghost use Rattle.settings.specs.Plan.{FieldKeys};
+    ghost use Rattle.link_plan.specs.Plan.{FieldKeys};
 
     ghost Value = { List FieldKeys };
 
@@ -104,9 +105,9 @@ pub struct Plan {
 }
 
 impl Plan {
-    ghost use Rattle.settings.specs.Ranges.{KeepsRanges, NamesFiles};
-    ghost use Rattle.settings.specs.Shape.{rare_flags};
-    ghost use Rattle.settings.specs.Within.{plan_within};
+    ghost use Rattle.link_plan.specs.Ranges.{KeepsRanges, NamesFiles};
+    ghost use Rattle.link_plan.specs.Shape.{rare_flags};
+    ghost use Rattle.link_plan.specs.Within.{plan_within};
 
     /// The shape of comparison patterns: a field for each field of the plan, and rare where that field
     /// has a rare number.

@@ -1,12 +1,11 @@
--- The ranges of the settings, whole: what every plan of a settings file keeps (`read_settings`, clause `ranges`), and the
--- faults of one (clause `kind`). By `AreFiles` no file that is read, the journal among them, has the name of one of the five
--- files that a run writes, and the journal, which `review` and `migrate` alone write, has the name of no other file that is read.
-use Rattle.std.specs.Prelude.{◌≡◌, ◌≢◌, ◌<◌, ◌≤◌, ℕ, List, ◌∷◌, length, Bool, true, false, not, Option, is_some, option_to_list, IfSome, IsTrue, IsUtf8, All, AllPairs, nat_le, ◌&&◌, ◌||◌, ◌==◌, ⊤}
+-- The ranges of the settings, whole: what every plan of a settings file keeps (`read_settings` of `settings`, clause `ranges`), and
+-- with it the plan of a file with itself (`Plan::within`, clauses `ranges` and `files`). By `AreFiles` no file that is read, the
+-- journal among them, has the name of one of the five files that a run writes, and the journal, which `review` and `migrate` alone
+-- write, has the name of no other file that is read.
+use Rattle.std.specs.Prelude.{◌≡◌, ◌≢◌, ◌<◌, ◌≤◌, ℕ, List, ◌∷◌, length, Bool, true, false, not, Option, is_some, option_to_list, IfSome, IsTrue, IsUtf8, All, AllPairs, nat_le, ◌&&◌, ◌||◌, ◌==◌}
 use Rattle.std.specs.List.{HoldsAt}
 use Rattle.link_base.specs.Shares.{IsShares, outcomes_of}
 use Rattle.link_base.specs.Tables.{AreWordPairs, is_word}
-use Rattle.link_base.specs.declared.fault.Fault.{Fault}
-use Rattle.link_base.specs.declared.fault.Fault.TheVariants as fault
 use Rattle.link_base.specs.declared.plan.FieldSort.{FieldSort}
 use Rattle.link_base.specs.declared.plan.FieldSort.TheVariants as sort
 use Rattle.link_base.specs.declared.plan.CompareKind.{CompareKind}
@@ -17,12 +16,10 @@ use Rattle.link_base.specs.declared.plan.Part.{Part}
 use Rattle.link_base.specs.declared.tables.Tables.{Tables}
 use Rattle.link_base.specs.declared.tables.WordPair.{WordPair}
 use Rattle.link_limits.specs.declared.TheConstants.{MOST_FIELDS, MOST_NAME_BYTES, PER_MILLION}
-use Rattle.settings_readers.specs.KeyFaults.{IsKeyFault}
-use Rattle.settings.specs.Plan.{FieldKeys, PlainShares}
-use Rattle.settings.specs.Field.{may_be_rare}
-use Rattle.settings.specs.Values.{is_name_byte, is_output}
-use Rattle.settings.specs.declared.limits.TheConstants.{LEAST_RARE, MOST_AWARD, MOST_DAYS, MOST_FIELD_NAME_BYTES, MOST_LABEL_BYTES, MOST_LETTERS, MOST_LISTED_WORDS, MOST_MARK_BYTES, MOST_MARKS, MOST_PARTS, MOST_PASSES, MOST_RARE, MOST_SEED, MOST_WORD_PAIRS, MOST_YEARS}
-use Rattle.settings.specs.declared.plan.Plan.{Plan}
+use Rattle.link_plan.specs.Plan.{FieldKeys, PlainShares}
+use Rattle.link_plan.specs.Names.{is_name_byte, is_output}
+use Rattle.link_plan.specs.declared.limits.TheConstants.{LEAST_RARE, MOST_AWARD, MOST_DAYS, MOST_FIELD_NAME_BYTES, MOST_LABEL_BYTES, MOST_LETTERS, MOST_LISTED_WORDS, MOST_MARK_BYTES, MOST_MARKS, MOST_PARTS, MOST_PASSES, MOST_RARE, MOST_SEED, MOST_WORD_PAIRS, MOST_YEARS}
+use Rattle.link_plan.specs.declared.plan.Plan.{Plan}
 
 -- the name of a file that is read: of none that a run writes
 pub record IsFileName (name : List ℕ) : Type 0 where
@@ -100,6 +97,12 @@ pub record IsFieldName (name : List ℕ) : Type 0 where
   pub short : length name ≤ MOST_FIELD_NAME_BYTES
   pub bytes : All (λ (byte : ℕ). IsTrue (is_name_byte byte)) name
 
+-- the comparisons by a canon: all but those by how far apart two dates are
+abbrev pub may_be_rare : CompareKind → Bool
+may_be_rare (by.DaysWithin t) = false
+may_be_rare (by.YearsWithin t) = false
+may_be_rare _ = true
+
 -- a rare number, where values are compared by a canon
 pub record IsRareNumber (compare : CompareKind) (n : ℕ) : Type 0 where
   pub least : LEAST_RARE ≤ n
@@ -162,9 +165,3 @@ pub record NamesFiles (plan : Plan) : Type 0 where
   pub file_b : IsUtf8 plan.file_b
   pub sample : IfSome plan.sample IsUtf8
   pub journal : IfSome plan.journal IsUtf8
-
--- the faults of a settings file
-abbrev pub IsSettingsFault : Fault → Type 0
-IsSettingsFault fault.NotToml = ⊤
-IsSettingsFault fault.NoMemory = ⊤
-IsSettingsFault f = IsKeyFault f

@@ -8,10 +8,10 @@ use Rattle.link_base.specs.declared.plan.FieldSort.{FieldSort}
 use Rattle.link_base.specs.declared.plan.FieldSort.TheVariants as sort
 use Rattle.link_base.specs.declared.plan.KeyKind.{KeyKind}
 use Rattle.link_base.specs.declared.plan.Part.{Part}
-use Rattle.settings.specs.Plan.{FieldKeys}
-use Rattle.settings.specs.Ranges.{AreFiles, HaveDistinctNames, IsField, IsPart, IsPass, KeepsRanges, NamesFiles, files_read, has_comparison, is_keyed}
-use Rattle.settings.specs.Within.{field_within, plan_within, sort_within}
-use Rattle.settings.specs.declared.plan.Plan.{Plan}
+use Rattle.link_plan.specs.Plan.{FieldKeys}
+use Rattle.link_plan.specs.Ranges.{AreFiles, HaveDistinctNames, IsField, IsPart, IsPass, KeepsRanges, NamesFiles, files_read, has_comparison, is_keyed}
+use Rattle.link_plan.specs.Within.{field_within, plan_within, sort_within}
+use Rattle.link_plan.specs.declared.plan.Plan.{Plan}
 
 -- whether a sort of field has a comparison, or a key, does not depend on the forms of dates
 comparison_within : (s : FieldSort) (c : CompareKind) → has_comparison (sort_within s) c ≡ has_comparison s c

@@ -1,0 +1,6 @@
+pub mod Plan
+pub mod Names
+pub mod Ranges
+pub mod Shape
+pub mod Within
+pub mod WithinParts
