@@ -27,8 +27,17 @@ use Rattle.link_plan.specs.declared.plan.Plan.{Plan}
 use Rattle.written_check.specs.Short.{AreShort}
 use Rattle.written_check.specs.Verified.{WrittenTexts}
 use Rattle.written_check.specs.declared.refutation.Refutation.{Refutation}
+use Rattle.command_steps.proofs.StepFacts.{no_err, ok_same, outcome_go}
+use Rattle.command_steps.specs.Does.{Ends}
+use Rattle.command_steps.specs.Due.{after_puts, ended_of, HoldsAll, prints, puts, TakesAll}
+use Rattle.command_steps.specs.Front.{both_files, plan_file, prepared_files, shares_over}
+use Rattle.command_steps.specs.Loads.{loaded}
+use Rattle.command_steps.specs.Reviewed.{decided_plan, journal_file, Review, reviewed_plan, reviewed_settings, ReviewedPlan}
+use Rattle.command_steps.specs.Seen.{IsUncalled, SinkSeen, StoreSeen}
+use Rattle.command_steps.specs.Steps.{◌>>=◌, ComesTo, file, file_within, gives, load, outcome, Steps}
+use Rattle.command_steps.specs.declared.ends.Ended.{Ended}
+use Rattle.command_steps.specs.declared.ends.Ended.TheVariants.{Done, Refuted}
 use Rattle.link_shell.proofs.HeadlineFacts.{came, FoundBy, settings_found, told_above}
-use Rattle.link_shell.proofs.StepFacts.{no_err, ok_same, outcome_go}
 use Rattle.link_shell.specs.AfterRun.{HoldsProof, ProvedByRun, SaysYes, YesAfterRun, YesWhereProved}
 use Rattle.link_shell.specs.Commands.{Command, command_of, duplicates_of_settings, frontier_of_settings, generation, keys, many_of_settings, migration_of_settings, open_of_settings, or_command, pairs_of_columns, pairs_of_settings, review_of_settings, rule_of_settings, run_of_settings, settings_command_of, verification_of_settings}
 use Rattle.link_shell.specs.DuplicatesSettings.{are_duplicates_words}
@@ -42,19 +51,10 @@ use Rattle.link_shell.specs.PairsColumns.{are_column_words, columns_in}
 use Rattle.link_shell.specs.PairsSettings.{are_settings_words}
 use Rattle.link_shell.specs.ReviewSettings.{are_review_words, review_in}
 use Rattle.link_shell.specs.RuleSettings.{are_rule_words}
-use Rattle.link_shell.specs.Does.{Ends}
-use Rattle.link_shell.specs.Due.{after_puts, ended_of, HoldsAll, prints, puts, TakesAll}
-use Rattle.link_shell.specs.Front.{both_files, plan_file, prepared_files, shares_over}
 use Rattle.link_shell.specs.Linked.{Follows, IsComplete, Performed, Reported, status_after}
-use Rattle.link_shell.specs.Loads.{loaded}
-use Rattle.link_shell.specs.Reviewed.{decided_plan, journal_file, Review, reviewed_plan, reviewed_settings, ReviewedPlan}
 use Rattle.link_shell.specs.RunSettings.{are_run_words, run_puts, run_script}
-use Rattle.link_shell.specs.Seen.{IsUncalled, SinkSeen, StoreSeen}
-use Rattle.link_shell.specs.Steps.{◌>>=◌, ComesTo, file, file_within, gives, load, outcome, Steps}
 use Rattle.link_shell.specs.VerifySettings.{are_verify_words, ended_by, proved_by, verified_settings, verify_script, written_files, WrittenPlan}
 use Rattle.link_shell.specs.Words.{are_verb_and_settings, is_settings_word, is_short_word, word}
-use Rattle.link_shell.specs.declared.ends.Ended.{Ended}
-use Rattle.link_shell.specs.declared.ends.Ended.TheVariants.{Done, Refuted}
 
 -- each name that steps load has a property
 abbrev AllLoads : {T : Type 0} → (List ℕ → Type 0) → Steps T → Type 0

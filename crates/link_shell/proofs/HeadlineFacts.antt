@@ -27,19 +27,19 @@ use Rattle.pair_decisions.specs.PairRule.{SideRule}
 use Rattle.review_journal.specs.Verdict.{verdict_on}
 use Rattle.review_journal.specs.declared.entry.Entry.{Entry}
 use Rattle.link_plan.specs.declared.plan.Plan.{Plan}
-use Rattle.link_shell.proofs.StepFacts.{no_ok, ok_same}
-use Rattle.link_shell.specs.Does.{Ends}
-use Rattle.link_shell.specs.Due.{after_puts, HoldsAll, puts, TakesAll}
-use Rattle.link_shell.specs.Front.{plan_file, prepared_files, shares_over}
+use Rattle.command_steps.proofs.StepFacts.{no_ok, ok_same}
+use Rattle.command_steps.specs.Does.{Ends}
+use Rattle.command_steps.specs.Due.{after_puts, HoldsAll, puts, TakesAll}
+use Rattle.command_steps.specs.Front.{plan_file, prepared_files, shares_over}
+use Rattle.command_steps.specs.Loads.{loaded}
+use Rattle.command_steps.specs.Reviewed.{decided_plan, journal_file, Review, reviewed_plan, reviewed_settings, ReviewedPlan, SharedDecisions}
+use Rattle.command_steps.specs.Seen.{IsUncalled, SinkSeen, StoreSeen}
+use Rattle.command_steps.specs.Steps.{◌>>=◌, gives, load, outcome, Steps}
+use Rattle.command_steps.specs.declared.ends.Ended.{Ended}
+use Rattle.command_steps.specs.declared.ends.Ended.TheVariants.{Done, Refuted}
 use Rattle.link_shell.specs.Headline.{Headline, IsByRuleOrReview, RunWrites}
 use Rattle.link_shell.specs.Linked.{Follows, Performed, Reported, status_after}
-use Rattle.link_shell.specs.Loads.{loaded}
-use Rattle.link_shell.specs.Reviewed.{decided_plan, journal_file, Review, reviewed_plan, reviewed_settings, ReviewedPlan, SharedDecisions}
 use Rattle.link_shell.specs.RunSettings.{run_puts, run_script}
-use Rattle.link_shell.specs.Seen.{IsUncalled, SinkSeen, StoreSeen}
-use Rattle.link_shell.specs.Steps.{◌>>=◌, gives, load, outcome, Steps}
-use Rattle.link_shell.specs.declared.ends.Ended.{Ended}
-use Rattle.link_shell.specs.declared.ends.Ended.TheVariants.{Done, Refuted}
 
 -- steps that came to a value were passed, one after the other
 came_read : {A B : Type 0} (read : Result (List ℕ) Fault) (p : List ℕ → Result A Fault) (q : List ℕ → Result B Fault) (Q : A → Type 0) (y : B)

@@ -9,14 +9,14 @@ use Rattle.link_core.specs.Prepared.{prepared, PreparedView}
 use Rattle.link_limits.specs.declared.TheConstants.{MOST_POOLED_BYTES}
 use Rattle.link_plan.specs.Within.{plan_within}
 use Rattle.link_plan.specs.declared.plan.Plan.{Plan}
-use Rattle.link_shell.specs.Does.{Script}
-use Rattle.link_shell.specs.Due.{Due, prints}
-use Rattle.link_shell.specs.Front.{plan_file}
-use Rattle.link_shell.specs.Reviewed.{decided_plan}
-use Rattle.link_shell.specs.Steps.{◌>>=◌, file, gives, Steps}
+use Rattle.command_steps.specs.Does.{Script}
+use Rattle.command_steps.specs.Due.{Due, prints}
+use Rattle.command_steps.specs.Front.{plan_file}
+use Rattle.command_steps.specs.Reviewed.{decided_plan}
+use Rattle.command_steps.specs.Steps.{◌>>=◌, file, gives, Steps}
+use Rattle.command_steps.specs.declared.ends.Ended.TheVariants.{Done}
 use Rattle.link_shell.specs.Words.{are_verb_and_settings}
 use Rattle.link_shell.specs.declared.duplicates_settings.DecidedWithin.{DecidedWithin}
-use Rattle.link_shell.specs.declared.ends.Ended.TheVariants.{Done}
 
 abbrev pub are_duplicates_words : List (List ℕ) → Bool
 are_duplicates_words = are_verb_and_settings (codes "duplicates")

@@ -31,13 +31,13 @@ use Rattle.review_journal.specs.Verdict.{verdict_on}
 use Rattle.review_journal.specs.declared.entry.Entry.{Entry}
 use Rattle.link_plan.specs.Plan.{PlainShares}
 use Rattle.link_plan.specs.declared.plan.Plan.{Plan}
+use Rattle.command_steps.specs.Due.{after_puts}
+use Rattle.command_steps.specs.Front.{plan_file, prepared_files, shares_over}
+use Rattle.command_steps.specs.Reviewed.{journal_file}
+use Rattle.command_steps.specs.Seen.{IsUncalled, SinkSeen, StoreSeen}
+use Rattle.command_steps.specs.Steps.{outcome}
 use Rattle.link_shell.specs.Commands.{command_of, run_of_settings}
-use Rattle.link_shell.specs.Due.{after_puts}
-use Rattle.link_shell.specs.Front.{plan_file, prepared_files, shares_over}
-use Rattle.link_shell.specs.Reviewed.{journal_file}
 use Rattle.link_shell.specs.RunSettings.{run_puts}
-use Rattle.link_shell.specs.Seen.{IsUncalled, SinkSeen, StoreSeen}
-use Rattle.link_shell.specs.Steps.{outcome}
 
 -- an accepted input: what the names hold at the start has a plan, two files, the shares of the plan's fields, and a journal
 pub record Accepted (name : List ℕ) (store : StoreSeen) : Type 0 where

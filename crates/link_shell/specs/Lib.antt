@@ -1,12 +1,4 @@
 pub mod Words
-pub mod Causes
-pub mod Loads
-pub mod Seen
-pub mod Steps
-pub mod Due
-pub mod Does
-pub mod Ways
-pub mod Front
 pub mod PairsColumns
 pub mod PairsSettings
 pub mod Keys
@@ -17,7 +9,6 @@ pub mod Commands
 pub mod Headline
 pub mod Linked
 pub mod RuleSettings
-pub mod Reviewed
 pub mod OpenSettings
 pub mod MigrateSettings
 pub mod ReviewSettings

@@ -4,12 +4,12 @@ use Rattle.std.specs.Prelude.{◌≡◌, ℕ, List, length, Bool, ◌==◌, ◌&
 use Rattle.link_base.specs.declared.fault.FileRole.TheVariants as role
 use Rattle.link_core.specs.Many.{capacities_in_file, IsManyText}
 use Rattle.link_core.specs.Prepared.{PreparedView}
-use Rattle.link_shell.specs.Does.{Script}
-use Rattle.link_shell.specs.Due.{Due, prints}
-use Rattle.link_shell.specs.Reviewed.{reviewed_settings, ReviewedPlan}
-use Rattle.link_shell.specs.Steps.{◌>>=◌, file, gives, Steps}
+use Rattle.command_steps.specs.Does.{Script}
+use Rattle.command_steps.specs.Due.{Due, prints}
+use Rattle.command_steps.specs.Reviewed.{reviewed_settings, ReviewedPlan}
+use Rattle.command_steps.specs.Steps.{◌>>=◌, file, gives, Steps}
+use Rattle.command_steps.specs.declared.ends.Ended.TheVariants.{Done}
 use Rattle.link_shell.specs.Words.{is_settings_word, is_short_word, word}
-use Rattle.link_shell.specs.declared.ends.Ended.TheVariants.{Done}
 use Rattle.link_shell.specs.declared.many_settings.ManyRequest.{ManyRequest}
 
 -- a settings file, and a file of capacities

@@ -2,9 +2,9 @@
 -- verdict.
 use Rattle.std.specs.Prelude.{ℕ, List, Bool, codes}
 use Rattle.link_core.specs.Review.{open_text_of}
-use Rattle.link_shell.specs.Does.{Script}
-use Rattle.link_shell.specs.Due.{is_printed}
-use Rattle.link_shell.specs.Reviewed.{reviewed_settings, ReviewedPlan}
+use Rattle.command_steps.specs.Does.{Script}
+use Rattle.command_steps.specs.Due.{is_printed}
+use Rattle.command_steps.specs.Reviewed.{reviewed_settings, ReviewedPlan}
 use Rattle.link_shell.specs.Words.{are_verb_and_settings}
 
 abbrev pub are_open_words : List (List ℕ) → Bool

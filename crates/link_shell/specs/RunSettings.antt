@@ -3,16 +3,13 @@
 use Rattle.std.specs.Prelude.{◌≡◌, ◌∷◌, [], ℕ, List, Bool, codes}
 use Rattle.pair_decisions.specs.PlanRule.{IsRuleOf}
 use Rattle.link_core.specs.Results.{AreRunTexts, RunTexts}
-use Rattle.link_shell.specs.Does.{Script}
-use Rattle.link_shell.specs.Due.{Due, Put, puts}
-use Rattle.link_shell.specs.Reviewed.{reviewed_settings, ReviewedPlan}
+use Rattle.command_steps.specs.Does.{Script}
+use Rattle.command_steps.specs.Due.{a_put, Due, Put, puts}
+use Rattle.command_steps.specs.Reviewed.{reviewed_settings, ReviewedPlan}
 use Rattle.link_shell.specs.Words.{are_verb_and_settings}
 
 abbrev pub are_run_words : List (List ℕ) → Bool
 are_run_words = are_verb_and_settings (codes "run")
-
-abbrev pub a_put : List ℕ → List ℕ → Put
-a_put name bytes = record { name = name; bytes = bytes }
 
 -- the five files with their texts, in the order in which they are put
 abbrev pub run_puts : RunTexts → List Put

@@ -8,13 +8,13 @@ use Rattle.link_core.specs.declared.verify.Verification.{Verification}
 use Rattle.link_limits.specs.declared.TheConstants.{MOST_WRITTEN_BYTES}
 use Rattle.written_check.specs.Verified.{WrittenTexts}
 use Rattle.written_check.specs.declared.refutation.Refutation.{Refutation}
-use Rattle.link_shell.specs.Does.{Script}
-use Rattle.link_shell.specs.Due.{Due, prints}
-use Rattle.link_shell.specs.Reviewed.{reviewed_settings, ReviewedPlan}
-use Rattle.link_shell.specs.Steps.{◌>>=◌, file_within, gives, Steps}
+use Rattle.command_steps.specs.Does.{Script}
+use Rattle.command_steps.specs.Due.{Due, prints}
+use Rattle.command_steps.specs.Reviewed.{reviewed_settings, ReviewedPlan}
+use Rattle.command_steps.specs.Steps.{◌>>=◌, file_within, gives, Steps}
+use Rattle.command_steps.specs.declared.ends.Ended.{Ended}
+use Rattle.command_steps.specs.declared.ends.Ended.TheVariants.{Done, Refuted}
 use Rattle.link_shell.specs.Words.{are_verb_and_settings}
-use Rattle.link_shell.specs.declared.ends.Ended.{Ended}
-use Rattle.link_shell.specs.declared.ends.Ended.TheVariants.{Done, Refuted}
 
 abbrev pub are_verify_words : List (List ℕ) → Bool
 are_verify_words = are_verb_and_settings (codes "verify")

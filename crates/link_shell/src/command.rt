@@ -1,20 +1,20 @@
 // The top calls.
 ghost use Rattle.std.specs.Prelude.{◌≡◌, map, None, Result, string_bytes};
+ghost use Rattle.command_steps.specs.Seen.{sink_seen, store_seen};
+ghost use Rattle.command_steps.specs.declared.ends.Ended.{Ended as AnyEnded};
 ghost use Rattle.link_base.specs.declared.fault.Fault.{Fault as AnyFault};
 ghost use Rattle.link_shell.specs.AfterRun.{ProvedByRun, YesWhereProved};
 ghost use Rattle.link_shell.specs.Commands.{command_of, settings_command_of};
 ghost use Rattle.link_shell.specs.Headline.{Headline};
 ghost use Rattle.link_shell.specs.Linked.{Follows, Performed, Reported};
-ghost use Rattle.link_shell.specs.Seen.{sink_seen, store_seen};
-ghost use Rattle.link_shell.specs.declared.ends.Ended.{Ended as AnyEnded};
 
-use crate::ends::Ended;
 use crate::words::settings_after;
 use crate::{
     duplicates_settings, frontier_settings, generate, keys, many_settings, migrate_settings,
     open_settings, pairs_columns, pairs_settings, review_settings, rule_settings, run_settings,
     verify_settings,
 };
+use command_steps::Ended;
 use link_base::{Fault, status_of};
 use link_core::run_is_verified;
 use link_outside::{Sink, SinkError, Store, write_fault};

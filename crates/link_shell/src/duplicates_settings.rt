@@ -1,18 +1,17 @@
 // The command `duplicates SETTINGS`.
 ghost use Rattle.std.specs.Prelude.{◌≡◌, ◌≤◌, IfOk, length};
+ghost use Rattle.command_steps.specs.Does.{Does};
+ghost use Rattle.command_steps.specs.Seen.{sink_seen, store_seen};
+ghost use Rattle.command_steps.specs.Steps.{seen_by, Takes};
 ghost use Rattle.link_core.specs.Decisions.{IsDecidedIn};
 ghost use Rattle.link_core.specs.Rules.{IsPreparedFor};
 ghost use Rattle.link_limits.specs.declared.TheConstants.{MOST_PAIRS, MOST_ROWS};
-ghost use Rattle.link_shell.specs.Does.{Does};
 ghost use Rattle.link_shell.specs.DuplicatesSettings.{decided_within, duplicates_script, prepared_within, IsOfOneFile, within_of};
-ghost use Rattle.link_shell.specs.Seen.{sink_seen, store_seen};
-ghost use Rattle.link_shell.specs.Steps.{seen_by, Takes};
 ghost use Rattle.link_plan.specs.Ranges.{KeepsRanges, NamesFiles};
 
-use crate::ends::{Ended, print_lines};
-use crate::front::{file_name, load_plan, prepare_files};
-use crate::load::load_file;
-use crate::reviewed::load_decisions;
+use command_steps::{
+    Ended, file_name, load_decisions, load_file, load_plan, prepare_files, print_lines,
+};
 use dedup_groups::forest_leaders;
 use link_base::{Fault, FileRole};
 use link_core::{Decided, Prepared, duplicate_lines};

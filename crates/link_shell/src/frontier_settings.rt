@@ -1,17 +1,16 @@
 // The command `frontier SETTINGS MU..`.
 ghost use Rattle.std.specs.Prelude.{◌≡◌, ◌≤◌, All, IfOk, IfSome, is_some, map, string_bytes, true};
 ghost use Rattle.std.specs.List.{list_all};
-ghost use Rattle.link_core.specs.Rules.{IsFrontierText};
-ghost use Rattle.link_shell.specs.Does.{Does};
-ghost use Rattle.link_shell.specs.FrontierSettings.{are_frontier_words, are_levels_from, asked_in, asked_of_request, frontier_script, is_level_word};
+ghost use Rattle.command_steps.specs.Does.{Does};
+ghost use Rattle.command_steps.specs.Seen.{sink_seen, store_seen};
 ghost use Rattle.csv_rows.specs.Numbers.{number_in};
-ghost use Rattle.link_shell.specs.Seen.{sink_seen, store_seen};
-ghost use Rattle.link_plan.specs.Ranges.{KeepsRanges};
+ghost use Rattle.link_core.specs.Rules.{IsFrontierText};
 ghost use Rattle.link_limits.specs.declared.TheConstants.{PER_MILLION};
+ghost use Rattle.link_shell.specs.FrontierSettings.{are_frontier_words, are_levels_from, asked_in, asked_of_request, frontier_script, is_level_word};
+ghost use Rattle.link_plan.specs.Ranges.{KeepsRanges};
 
-use crate::ends::{Ended, print_lines};
-use crate::front::{Shared, load_shared};
 use crate::words::{MOST_LISTED, is_settings, word_at};
+use command_steps::{Ended, Shared, load_shared, print_lines};
 use csv_rows::read_decimal;
 use link_base::{Fault, NoMemory, Text};
 use link_core::frontier_lines;

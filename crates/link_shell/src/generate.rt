@@ -1,22 +1,20 @@
 // The command `generate NUMBER`.
 ghost use Rattle.std.specs.Prelude.{◌≡◌, IfErr, IfOk, IfSome, is_some, map, string_bytes};
+ghost use Rattle.command_steps.specs.Does.{Does};
+ghost use Rattle.command_steps.specs.Reviewed.{shared_decisions_of};
+ghost use Rattle.command_steps.specs.Seen.{sink_seen, store_seen};
+ghost use Rattle.csv_rows.specs.Numbers.{number_in};
 ghost use Rattle.link_base.specs.Fault.{Gives, IsInputFault};
 ghost use Rattle.link_core.specs.Decisions.{IsDecidedIn};
 ghost use Rattle.link_core.specs.Results.{IsDecidedFor, KeepsRows};
 ghost use Rattle.link_core.specs.Rules.{IsPreparedFor};
-ghost use Rattle.link_shell.specs.Does.{Does};
 ghost use Rattle.link_shell.specs.Generate.{are_generate_words, decided_input, decided_sample, generate_script, IsMadeNumber, is_rows_word, review_of_made, rows_asked};
-ghost use Rattle.csv_rows.specs.Numbers.{number_in};
-ghost use Rattle.link_shell.specs.Reviewed.{shared_decisions_of};
-ghost use Rattle.link_shell.specs.Seen.{sink_seen, store_seen};
 ghost use Rattle.link_plan.specs.Ranges.{KeepsRanges};
 ghost use Rattle.workload.specs.Made.{text_of_a, text_of_b, text_of_sample};
 ghost use Rattle.workload.specs.MadeSettings.{text_of_settings};
 
-use crate::ends::{Ended, print};
-use crate::front::prepare_files;
-use crate::reviewed::DecidedPlan;
 use crate::words::word_at;
+use command_steps::{DecidedPlan, Ended, prepare_files, print};
 use csv_rows::read_decimal;
 use link_base::Fault;
 use link_core::{Decided, PlanShares, Prepared, counted, decide_all, finish};

@@ -5,19 +5,15 @@
 mod after_run;
 mod command;
 mod duplicates_settings;
-mod ends;
-mod front;
 mod frontier_settings;
 mod generate;
 mod keys;
-mod load;
 mod many_settings;
 mod migrate_settings;
 mod open_settings;
 mod pairs_columns;
 mod pairs_settings;
 mod review_settings;
-mod reviewed;
 mod rule_settings;
 mod run_settings;
 mod verify_settings;
@@ -25,6 +21,4 @@ mod words;
 
 pub use after_run::run_then_verify;
 pub use command::{linkage, perform};
-pub use ends::Ended;
-pub use load::load_whole;
 pub use rule_settings::printed_rule_is_least;

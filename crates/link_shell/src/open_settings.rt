@@ -1,10 +1,9 @@
 // The command `open SETTINGS`.
-ghost use Rattle.link_shell.specs.Does.{Does};
+ghost use Rattle.command_steps.specs.Does.{Does};
+ghost use Rattle.command_steps.specs.Seen.{sink_seen, store_seen};
 ghost use Rattle.link_shell.specs.OpenSettings.{open_script};
-ghost use Rattle.link_shell.specs.Seen.{sink_seen, store_seen};
 
-use crate::ends::{Ended, print_lines};
-use crate::reviewed::load_reviewed_settings;
+use command_steps::{Ended, load_reviewed_settings, print_lines};
 use link_base::Fault;
 use link_core::open_lines;
 use link_outside::{Sink, Store};

@@ -1,10 +1,9 @@
 // The command `pairs SETTINGS`.
-ghost use Rattle.link_shell.specs.Does.{Does};
+ghost use Rattle.command_steps.specs.Does.{Does};
+ghost use Rattle.command_steps.specs.Seen.{sink_seen, store_seen};
 ghost use Rattle.link_shell.specs.PairsSettings.{settings_script};
-ghost use Rattle.link_shell.specs.Seen.{sink_seen, store_seen};
 
-use crate::ends::{Ended, print_text};
-use crate::front::load_described;
+use command_steps::{Ended, load_described, print_text};
 use link_base::Fault;
 use link_core::pair_ids;
 use link_outside::{Sink, Store};

@@ -1,18 +1,16 @@
 // The command `review SETTINGS VERDICTS DATE REVIEWER`.
 ghost use Rattle.std.specs.Prelude.{◌≡◌, IfSome, is_some, map, string_bytes, Some};
+ghost use Rattle.command_steps.specs.Does.{Does};
+ghost use Rattle.command_steps.specs.Reviewed.{review_of};
+ghost use Rattle.command_steps.specs.Seen.{sink_seen, store_seen};
+ghost use Rattle.command_steps.specs.Steps.{Takes};
 ghost use Rattle.link_core.specs.Decisions.{IsDecidedIn};
 ghost use Rattle.link_core.specs.Review.{IsJournalOf};
-ghost use Rattle.link_shell.specs.Does.{Does};
 ghost use Rattle.link_shell.specs.ReviewSettings.{added_verdicts, are_review_words, IsReviewRequest, review_in, review_of_request, review_script, reviewed_journal};
-ghost use Rattle.link_shell.specs.Reviewed.{review_of};
-ghost use Rattle.link_shell.specs.Seen.{sink_seen, store_seen};
-ghost use Rattle.link_shell.specs.Steps.{Takes};
 ghost use Rattle.link_plan.specs.Ranges.{KeepsRanges, NamesFiles};
 
-use crate::ends::Ended;
-use crate::load::load_file;
-use crate::reviewed::{Reviewed, load_journal_plan, load_reviewed, put_journal};
 use crate::words::{is_settings, is_short, word_at};
+use command_steps::{Ended, Reviewed, load_file, load_journal_plan, load_reviewed, put_journal};
 use link_base::{Fault, FileRole, Text};
 use link_core::add_verdicts;
 use link_outside::{Sink, Store};

@@ -1,12 +1,11 @@
 // The command `rule SETTINGS`.
-ghost use Rattle.link_shell.specs.Does.{Does};
-ghost use Rattle.link_shell.specs.Due.{Due};
+ghost use Rattle.command_steps.specs.Does.{Does};
+ghost use Rattle.command_steps.specs.Due.{Due};
+ghost use Rattle.command_steps.specs.Seen.{sink_seen, store_seen};
+ghost use Rattle.command_steps.specs.declared.front.Shared.{Shared as AnyShared};
 ghost use Rattle.link_shell.specs.RuleSettings.{PrintsLeastRule, rule_is_printed, rule_script};
-ghost use Rattle.link_shell.specs.Seen.{sink_seen, store_seen};
-ghost use Rattle.link_shell.specs.declared.front.Shared.{Shared as AnyShared};
 
-use crate::ends::{Ended, print_lines};
-use crate::front::load_shared;
+use command_steps::{Ended, load_shared, print_lines};
 use link_base::Fault;
 use link_core::rule_lines;
 use link_outside::{Sink, Store};

@@ -1,12 +1,11 @@
 // The command `run SETTINGS`.
-ghost use Rattle.link_shell.specs.Does.{Does};
+ghost use Rattle.command_steps.specs.Does.{Does};
+ghost use Rattle.command_steps.specs.Seen.{sink_seen, store_seen};
+ghost use Rattle.command_steps.specs.Ways.{PutsAll};
 ghost use Rattle.link_core.specs.Results.{five_texts};
 ghost use Rattle.link_shell.specs.RunSettings.{run_puts, run_script};
-ghost use Rattle.link_shell.specs.Seen.{sink_seen, store_seen};
-ghost use Rattle.link_shell.specs.Ways.{PutsAll};
 
-use crate::ends::{Ended, Output, put_each};
-use crate::reviewed::load_reviewed_settings;
+use command_steps::{Ended, Output, load_reviewed_settings, put_each};
 use link_base::Fault;
 use link_core::{RunResult, finish};
 use link_outside::{Sink, Store};

@@ -1,16 +1,14 @@
 // The command `verify SETTINGS`.
 ghost use Rattle.std.specs.Prelude.{◌≡◌, ◌≤◌, IfOk, length};
+ghost use Rattle.command_steps.specs.Does.{Does};
+ghost use Rattle.command_steps.specs.Reviewed.{found_of, IsReviewed};
+ghost use Rattle.command_steps.specs.Seen.{sink_seen, store_seen};
+ghost use Rattle.command_steps.specs.Steps.{Makes, seen_by, Takes};
 ghost use Rattle.link_limits.specs.declared.TheConstants.{MOST_WRITTEN_BYTES};
-ghost use Rattle.link_shell.specs.Does.{Does};
-ghost use Rattle.link_shell.specs.Reviewed.{found_of, IsReviewed};
-ghost use Rattle.link_shell.specs.Seen.{sink_seen, store_seen};
-ghost use Rattle.link_shell.specs.Steps.{Makes, seen_by, Takes};
 ghost use Rattle.link_shell.specs.VerifySettings.{ended_if, tells_of, verify_script, written_files, written_plan};
 ghost use Rattle.written_check.specs.Verified.{texts_in};
 
-use crate::ends::{Ended, print_text};
-use crate::load::load_written;
-use crate::reviewed::{ReviewedSettings, load_reviewed_settings};
+use command_steps::{Ended, ReviewedSettings, load_reviewed_settings, load_written, print_text};
 use link_base::{Fault, FileRole};
 use link_core::{Verification, Written, verify_files};
 use link_outside::{Sink, Store};

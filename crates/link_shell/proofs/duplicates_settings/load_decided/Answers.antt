@@ -4,8 +4,8 @@ use Rattle.link_core.specs.Results.{compared_in}
 use Rattle.pair_decisions.specs.Decisions.{decision_at, is_same}
 use Rattle.pair_decisions.specs.PairRule.{side_rule}
 use Rattle.pair_decisions.proofs.CountLemmas.{filter_all}
+use Rattle.command_steps.proofs.StepFacts.{seen_err, takes_go, takes_stop, takes_value}
 use Rattle.link_shell.specs.DuplicatesSettings.{within_of}
-use Rattle.link_shell.proofs.StepFacts.{seen_err, takes_go, takes_stop, takes_value}
 use Rattle.link_shell.proofs.duplicates_settings.load_decided.Goals as goal
 
 pub returns-in_err-files-clause-takes : goal.returns-in_err-files-clause-takes

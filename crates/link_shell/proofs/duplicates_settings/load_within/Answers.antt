@@ -7,9 +7,9 @@ use Rattle.link_core.specs.Prepared.{prepared, PreparedView}
 use Rattle.link_limits.specs.declared.TheConstants.{MOST_POOLED_BYTES}
 use Rattle.link_plan.specs.Within.{plan_within}
 use Rattle.link_plan.specs.declared.plan.Plan.{Plan}
-use Rattle.link_shell.specs.Seen.{StoreSeen}
-use Rattle.link_shell.specs.Steps.{file, Takes}
-use Rattle.link_shell.proofs.StepFacts.{of_bytes, takes_go, takes_stop, takes_value}
+use Rattle.command_steps.specs.Seen.{StoreSeen}
+use Rattle.command_steps.specs.Steps.{file, Takes}
+use Rattle.command_steps.proofs.StepFacts.{of_bytes, takes_go, takes_stop, takes_value}
 use Rattle.link_shell.proofs.duplicates_settings.load_within.Goals as goal
 
 -- the load of a file by its name

@@ -4,8 +4,8 @@ use Rattle.link_base.specs.declared.fault.Fault.{Fault}
 use Rattle.link_limits.specs.declared.TheConstants.{MOST_POOLED_BYTES}
 use Rattle.link_core.specs.Prepared.{prepared}
 use Rattle.settings.specs.Settings.{settings}
+use Rattle.command_steps.specs.Reviewed.{ReviewedPlan}
 use Rattle.link_shell.specs.Generate.{decided_sample, review_of_made}
-use Rattle.link_shell.specs.Reviewed.{ReviewedPlan}
 use Rattle.link_shell.proofs.InputFacts.{goes_on, refuses_here}
 use Rattle.link_shell.proofs.generate.decide_input.Goals as goal
 

@@ -1,8 +1,8 @@
 use Rattle.std.proofs.Common.{Result, subst}
 use Rattle.link_base.specs.Fault.{Gives}
 use Rattle.link_base.specs.declared.fault.Fault.{Fault}
+use Rattle.command_steps.specs.Reviewed.{ReviewedPlan}
 use Rattle.link_shell.specs.Generate.{decided_input, review_of_made}
-use Rattle.link_shell.specs.Reviewed.{ReviewedPlan}
 use Rattle.link_shell.proofs.generate.decide_made.Goals as goal
 
 pub returns-clause-answer : goal.returns-clause-answer

@@ -3,7 +3,7 @@ use Rattle.link_base.specs.Fault.{Gives}
 use Rattle.link_base.specs.declared.fault.Fault.{Fault}
 use Rattle.link_core.specs.Decisions.{decided}
 use Rattle.link_core.specs.Rules.{counted_by}
-use Rattle.link_shell.specs.Reviewed.{shared_decisions_of, SharedDecisions}
+use Rattle.command_steps.specs.Reviewed.{shared_decisions_of, SharedDecisions}
 use Rattle.link_shell.proofs.InputFacts.{answer_as, fault_as, goes_on, refuses_here}
 use Rattle.link_shell.proofs.generate.decide_sample.Goals as goal
 

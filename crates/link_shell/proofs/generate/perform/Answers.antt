@@ -3,11 +3,11 @@ use Rattle.link_core.specs.Results.{AreRunTexts, five_texts}
 use Rattle.link_report.specs.FirstLines.{first_lines_of}
 use Rattle.pair_decisions.specs.PairRule.{side_rule}
 use Rattle.review_journal.specs.declared.entry.Entry.{Entry}
-use Rattle.link_shell.specs.Due.{prints}
+use Rattle.command_steps.specs.Due.{prints}
+use Rattle.command_steps.specs.declared.ends.Ended.TheVariants.{Done}
+use Rattle.command_steps.proofs.DoesFacts.{does_fail, does_print, does_want_after}
+use Rattle.command_steps.proofs.StepFacts.{takes_ok, takes_seen}
 use Rattle.link_shell.specs.Generate.{review_of_made}
-use Rattle.link_shell.specs.declared.ends.Ended.TheVariants.{Done}
-use Rattle.link_shell.proofs.DoesFacts.{does_fail, does_print, does_want_after}
-use Rattle.link_shell.proofs.StepFacts.{takes_ok, takes_seen}
 use Rattle.link_shell.proofs.generate.perform.Goals as goal
 
 pub returns-in_err-made : goal.returns-in_err-made

@@ -1,10 +1,10 @@
 use Rattle.std.proofs.Common.{refl, Ok}
-use Rattle.link_shell.specs.Due.{Put}
+use Rattle.command_steps.specs.Due.{Put}
+use Rattle.command_steps.specs.Reviewed.{put_of_journal}
+use Rattle.command_steps.specs.Steps.{gives}
+use Rattle.command_steps.proofs.DoesFacts.{does_go, does_puts, does_stop}
+use Rattle.command_steps.proofs.StepFacts.{takes_value}
 use Rattle.link_shell.specs.MigrateSettings.{is_one_put}
-use Rattle.link_shell.specs.Reviewed.{put_of_journal}
-use Rattle.link_shell.specs.Steps.{gives}
-use Rattle.link_shell.proofs.DoesFacts.{does_go, does_puts, does_stop}
-use Rattle.link_shell.proofs.StepFacts.{takes_value}
 use Rattle.link_shell.proofs.review_settings.perform.Goals as goal
 
 pub returns-in_err-plan : goal.returns-in_err-plan

@@ -1,7 +1,7 @@
 use Rattle.std.proofs.Common.{refl}
 use Rattle.link_core.specs.Rules.{IsRuleText}
+use Rattle.command_steps.proofs.DoesFacts.{does_fail, does_lines}
 use Rattle.link_shell.specs.RuleSettings.{rule_is_printed}
-use Rattle.link_shell.proofs.DoesFacts.{does_fail, does_lines}
 use Rattle.link_shell.proofs.rule_settings.perform.Goals as goal
 
 pub returns-in_err-shared : goal.returns-in_err-shared

@@ -1,8 +1,8 @@
 use Rattle.std.proofs.Common.{◌≡◌, ◌∙◌, ap}
 use Rattle.link_core.specs.Verify.{line_of}
-use Rattle.link_shell.specs.Due.{prints}
+use Rattle.command_steps.specs.Due.{prints}
+use Rattle.command_steps.proofs.DoesFacts.{does_fail, does_go, does_print, does_stop}
 use Rattle.link_shell.specs.VerifySettings.{ended_by, ended_if, is_told, proved_by}
-use Rattle.link_shell.proofs.DoesFacts.{does_fail, does_go, does_print, does_stop}
 use Rattle.link_shell.proofs.verify_settings.perform.Goals as goal
 
 pub returns-in_err-found : goal.returns-in_err-found

@@ -1,10 +1,10 @@
 use Rattle.std.proofs.Common.{Ok, refl}
-use Rattle.link_shell.specs.Reviewed.{found_of, ReviewedPlan}
-use Rattle.link_shell.specs.Steps.{gives}
-use Rattle.link_shell.specs.VerifySettings.{tells_of, WrittenPlan}
+use Rattle.command_steps.specs.Reviewed.{found_of, ReviewedPlan}
+use Rattle.command_steps.specs.Steps.{gives}
+use Rattle.command_steps.proofs.StepFacts.{makes_end, makes_go, makes_want, takes_go, takes_value}
 use Rattle.written_check.specs.Verified.{texts_in}
 use Rattle.written_check.specs.declared.written.Written.{Written}
-use Rattle.link_shell.proofs.StepFacts.{makes_end, makes_go, makes_want, takes_go, takes_value}
+use Rattle.link_shell.specs.VerifySettings.{tells_of, WrittenPlan}
 use Rattle.link_shell.proofs.verify_settings.verify_found.Goals as goal
 
 -- the written files as a body holds them, after a plan with its decisions and its journal

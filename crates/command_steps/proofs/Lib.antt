@@ -1,0 +1,3 @@
+pub mod StepFacts
+pub mod DoesFacts
+pub mod PutFacts

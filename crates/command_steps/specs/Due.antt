@@ -1,0 +1,87 @@
+-- What is due of a command that is not refused, and what doing it leaves: the dues of which `Does` speaks, and the puts of `put_each` (`PutsAll`).
+use Rattle.std.specs.Prelude.{◌≡◌, ◌⊎◌, ◌≤◌, ◌<◌, ◌+◌, ◌++◌, ◌∷◌, [], ℕ, List, length, map, take, slice_index_or, true, ⊤}
+use Rattle.link_outside.specs.Outside.{Held, held_with, TakesFront}
+use Rattle.link_outside.specs.declared.outside.StoreCall.{StoreCall}
+use Rattle.command_steps.specs.Seen.{IsUncalled, SinkSeen, StoreSeen}
+use Rattle.command_steps.specs.declared.ends.Ended.{Ended}
+use Rattle.command_steps.specs.declared.ends.Ended.TheVariants.{Done}
+use Rattle.command_steps.specs.declared.ends.Output.{Output}
+
+-- bytes that a name is to hold
+pub record Put : Type 0 where
+  pub name : List ℕ
+  pub bytes : List ℕ
+
+abbrev pub a_put : List ℕ → List ℕ → Put
+a_put name bytes = record { name = name; bytes = bytes }
+
+-- a text for `out`, handed over in one call, after which the command has ended so; or puts, one after the other
+pub data Due : Type 0 where
+  prints : Ended → List ℕ → Due
+  puts : List Put → Due
+
+-- the text that was found is printed
+abbrev pub is_printed : List ℕ → Due → Type 0
+is_printed text due = due ≡ prints Done text
+
+abbrev pub ended_of : Due → Ended
+ended_of (prints ended text) = ended
+ended_of (puts all) = Done
+
+-- a text is handed to `out`
+abbrev pub Prints : Due → Type 0
+Prints (prints ended text) = ⊤
+Prints (puts all) = ⊥
+
+abbrev pub puts_of : Due → List Put
+puts_of (prints ended text) = []
+puts_of (puts all) = all
+
+-- what names hold after these puts
+abbrev pub after_puts : List Put → Held → Held
+after_puts [] held = held
+after_puts (put ∷ rest) held = after_puts rest (held_with put.name put.bytes held)
+
+-- names hold what they held and the puts that are due
+abbrev pub HoldsAll : Due → StoreSeen → Type 0
+HoldsAll (prints ended text) store = store.held_after ≡ store.held_before
+HoldsAll (puts all) store = store.tells → store.held_after ≡ after_puts all store.held_before
+
+-- some of the puts were made, from the first on
+abbrev pub PutsSome : List Put → StoreSeen → Type 0
+PutsSome all store = (count : ℕ) × (count ≤ length all) × (store.held_after ≡ after_puts (take count all) store.held_before)
+
+abbrev pub HoldsSome : Due → StoreSeen → Type 0
+HoldsSome (prints ended text) store = store.held_after ≡ store.held_before
+HoldsSome (puts all) store = store.tells → PutsSome all store
+
+abbrev pub no_put : Put
+no_put = record { name = []; bytes = [] }
+
+-- the call that puts under a name
+abbrev pub put_of : List ℕ → StoreCall
+put_of name = record { put = true; name = name }
+
+-- a put failed: those before it were made, and its name holds the new bytes or what it held
+abbrev pub PutFails : List Put → StoreSeen → StoreCall → Type 0
+PutFails all store call =
+    (count : ℕ) × (count < length all) × (call ≡ put_of (slice_index_or all count no_put).name)
+    × (store.tells → (store.held_after ≡ after_puts (take count all) store.held_before)
+    ⊎ (store.held_after ≡ after_puts (take (count + 1) all) store.held_before))
+
+-- `out` took the whole text that is due, with no fault; where none is due it was not called
+abbrev pub TakesAll : Due → SinkSeen → Type 0
+TakesAll (prints ended text) out = (out.tells → out.taken_after ≡ out.taken_before ++ text) × (out.faults_after ≡ out.faults_before)
+TakesAll (puts all) out = IsUncalled out
+
+-- `out` took a front of the text that is due; where none is due it was not called
+abbrev pub TakesSome : Due → SinkSeen → Type 0
+TakesSome (prints ended text) out = out.tells → TakesFront text out.taken_before out.taken_after
+TakesSome (puts all) out = IsUncalled out
+
+-- machinery: the puts of outputs as a body holds them
+abbrev pub put_in : Output → Put
+put_in output = record { name = output.name.now; bytes = output.bytes.now }
+
+abbrev pub puts_in : List Output → List Put
+puts_in outputs = map put_in outputs

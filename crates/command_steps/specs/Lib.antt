@@ -1,0 +1,9 @@
+pub mod Causes
+pub mod Loads
+pub mod Seen
+pub mod Steps
+pub mod Due
+pub mod Does
+pub mod Ways
+pub mod Front
+pub mod Reviewed

@@ -1,8 +1,0 @@
-use Rattle.link_limits.specs.declared.TheConstants.{MOST_FILE_BYTES}
-use Rattle.link_shell.proofs.StepFacts.{takes_load}
-use Rattle.link_shell.proofs.load.load_file.Goals as goal
-
-pub returns : goal.returns
-returns g c =
-    let e = c.load_whole.ensures in
-    takes_load c.args.role MOST_FILE_BYTES c.args.name.now e.kind e.content e.unchanged e.cause
