@@ -39,8 +39,8 @@ rows-preserved c =
       given = omega (arith, next.1, c.decide_row.ensures.compared);
       few = omega (arith, next.1, next.2, c.decide_row.ensures.compared);
       compared = omega (arith, c.decide_row.ensures.compared);
-      rows = row_more (λ ps. kept_rows c.args.with_rows (decided_rows rule rows_a rows_b ps)) (kept_joined c.args.with_rows (decided_row rule rows_a rows_b)) old rest a bs _ _ _ next.0 c.in-Ok.ensures.rows c.rows.invariant.rows;
-      links = row_more (pairs_with Link rule rows_a rows_b) (filter-append (has Link)) old rest a bs _ _ _ next.0 c.in-Ok.ensures.links c.rows.invariant.links;
-      possible = row_more (pairs_with Possible rule rows_a rows_b) (filter-append (has Possible)) old rest a bs _ _ _ next.0 c.in-Ok.ensures.possible c.rows.invariant.possible;
+      rows = row_more (λ ps. kept_rows c.args.with_rows (decided_rows rule rows_a rows_b ps)) (kept_joined c.args.with_rows (decided_row rule rows_a rows_b)) old rest a bs _ _ _ next.0 c.in-Ok-decide_row.ensures.rows c.rows.invariant.rows;
+      links = row_more (pairs_with Link rule rows_a rows_b) (filter-append (has Link)) old rest a bs _ _ _ next.0 c.in-Ok-decide_row.ensures.links c.rows.invariant.links;
+      possible = row_more (pairs_with Possible rule rows_a rows_b) (filter-append (has Possible)) old rest a bs _ _ _ next.0 c.in-Ok-decide_row.ensures.possible c.rows.invariant.possible;
       inside = rest_holds (IsInside (length c.args.sides_a.now.rows) (length c.args.sides_b.now.rows)) old rest a bs next.0 c.rows.invariant.inside;
     }
