@@ -10,10 +10,17 @@ ghost use Rattle.pair_walk.specs.Pairs.{pairs_of_rows};
 
 use crate::preparing::Prepared;
 use link_base::{Fault, StdFile, Text};
+use link_limits::MOST_PAIRS;
 use link_plan::Plan;
-use link_report::{IdFields, IdsWriter};
+use link_report::{IdFields, IdsWriter, usual_id_bytes};
 use pair_walk::{RowPairs, WalkFault, Walker};
 use std::alloc::Global;
+
+// About how many bytes the lines of the pairs of a walk have: two ids, a comma and a line feed each.
+fn usual_bytes(walker: &Walker<'_>, a: &StdFile, b: &StdFile) -> usize {
+    let pairs = walker.usual_pairs().min(MOST_PAIRS as usize);
+    pairs.saturating_mul(usual_id_bytes(a, b).saturating_add(2))
+}
 
 // The ids of the pairs of the rows that a new walker gives.
 fn ids_of_rows(
@@ -28,7 +35,7 @@ fn ids_of_rows(
     ensures answer { IsAnswer (and_then (pairs_within (pairs_of_rows walker.entry.left)) (λ pairs. Ok (ids_text a.now b.now pairs))) result }
 {
     let ids = IdFields::of(alloc, b)?;
-    let mut writer = IdsWriter::new(alloc)?;
+    let mut writer = IdsWriter::with_room(alloc, usual_bytes(&walker, a, b))?;
     let mut row = RowPairs::new(alloc);
     'rows: loop {
         match walker.next_row(alloc, &mut row) {

@@ -11,6 +11,21 @@ use std::marker::Model;
 // How many bytes a field may have for which room is made beforehand.
 const USUAL_BYTES: usize = 8;
 
+// How many bytes the id of a file's last record has.
+fn last_id_bytes(file: &StdFile) -> usize {
+    let rows = file.rows();
+    if rows == 0 {
+        return 0;
+    }
+    file.id(rows - 1).len()
+}
+
+/// About how many bytes the ids of a pair have, for the making of room: as many as those of the last records, since the ids of
+/// a file are mostly of one length.
+pub fn usual_id_bytes(a: &StdFile, b: &StdFile) -> usize {
+    last_id_bytes(a).saturating_add(last_id_bytes(b))
+}
+
 // Appends an id as a field, which is made in the room.
 fn push_id(fields: &mut TextRegion, room: &mut Vec<u8>, id: &[u8]) -> Result<(), NoMemory>
     ensures { OnOk result (fields.new ≡ fields.old ++ field_text default_writer id.now ∷ []) }

@@ -56,12 +56,12 @@ impl Model for IdsWriter {
 impl IdsWriter {
     ghost use Rattle.std.specs.Prelude.{IfOk};
 
-    /// The header.
+    /// The header, with room for a text of so many bytes.
     #[tactic(auto, using(crate::proofs::HeaderLemmas::ids_header_text))]
-    pub fn new(alloc: Global) -> Result<IdsWriter, NoMemory>
+    pub fn with_room(alloc: Global, room: usize) -> Result<IdsWriter, NoMemory>
         ensures { IfOk result (λ writer. writer ≡ ids_header) }
     {
-        let mut text = Vec::new(alloc);
+        let mut text = Vec::with_capacity(alloc, room)?;
         text.extend_from_slice(b"id_a,id_b\n")?;
         Ok(IdsWriter {
             text,

@@ -19,7 +19,7 @@ mod rule;
 pub use first::{first_lines, head_of_report};
 pub use front::LineFront;
 pub use frontier::frontier_text;
-pub use id_fields::IdFields;
+pub use id_fields::{IdFields, usual_id_bytes};
 pub use ids::IdsWriter;
 pub use links::{links_text, source_of};
 pub use open::{PairRow, open_text};

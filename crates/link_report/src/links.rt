@@ -6,6 +6,7 @@ ghost use Rattle.link_report.specs.declared.links.LinkEnd.{LinkEnd as End};
 ghost use Rattle.link_report.specs.LinksText.{link_row, source_of_link, text_of_links};
 
 use crate::front::push_front;
+use crate::id_fields::usual_id_bytes;
 use csv_rows::{push_field, push_row};
 use itoa::Buffer;
 use link_base::{Candidate, NoMemory, StdFile, Text};
@@ -13,6 +14,9 @@ use std::alloc::Global;
 
 // How many ends of lines are kept.
 const KEPT_ENDS: usize = 64;
+
+// How many bytes may follow the two ids of a line, for which room is made beforehand.
+const USUAL_END: usize = 20;
 
 /// What a link goes by: `review` where clerical review made it a link, and else `rule`.
 pub fn source_of(link: &Candidate) -> &[u8]
@@ -129,7 +133,8 @@ pub fn links_text(
     requires in_b { All (λ (l : Link). l.b < length b.now) links.now }
     ensures { IfOk result (λ text. text ≡ text_of_links a.now b.now links.now) }
 {
-    let mut text = Vec::new(alloc);
+    let line = usual_id_bytes(a, b).saturating_add(USUAL_END);
+    let mut text = Vec::with_capacity(alloc, links.len().saturating_mul(line))?;
     text.extend_from_slice(b"id_a,id_b,weight,value,by\n")?;
     let mut ends = some_ends(alloc)?;
     for link in links {

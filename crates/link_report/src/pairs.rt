@@ -34,18 +34,16 @@ impl Model for PairsWriter {
 
 impl PairsWriter {
     /// A writer of pairs with patterns of this shape: its text is the header
-    /// `id_a,id_b,pattern,outcomes,weight,decision,verdict`.
+    /// `id_a,id_b,pattern,outcomes,weight,decision,verdict`, with room for so many bytes.
     #[tactic(auto, using(crate::proofs::HeaderLemmas::pairs_header_text))]
-    pub fn new(alloc: Global, shape: &Shape) -> Result<PairsWriter, NoMemory>
+    pub fn with_room(alloc: Global, shape: &Shape, room: usize) -> Result<PairsWriter, NoMemory>
         ensures rares { IfOk result (λ writer. writer.rares ≡ rare_of shape.now) }
         ensures text { IfOk result (λ writer. writer.text ≡ row_text default_writer pairs_header) }
         ensures last { IfOk result (λ writer. writer.last ≡ None) }
     {
         let ends = LineEnds::new(alloc, shape)?;
-        let text = Vec::from_slice(
-            alloc,
-            b"id_a,id_b,pattern,outcomes,weight,decision,verdict\n",
-        )?;
+        let mut text = Vec::with_capacity(alloc, room)?;
+        text.extend_from_slice(b"id_a,id_b,pattern,outcomes,weight,decision,verdict\n")?;
         Ok(PairsWriter {
             ends,
             text,

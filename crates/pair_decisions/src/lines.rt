@@ -8,9 +8,12 @@ ghost use Rattle.pair_decisions.specs.Comparators.{rares_of};
 use crate::writing::write_rows;
 use link_base::{NoMemory, StdFile, Text};
 use link_plan::Plan;
-use link_report::{PairRow, PairsWriter};
+use link_report::{PairRow, PairsWriter, usual_id_bytes};
 use review_journal::Journal;
 use std::alloc::Global;
+
+// How many bytes may follow the two ids of a line, for which room is made beforehand.
+const USUAL_END: usize = 24;
 
 /// The text of the rows of pairs of two files, which rise by position and have patterns of the plan: each with the verdict of
 /// the journal where the pair is a possible link.
@@ -25,7 +28,8 @@ pub fn pair_lines(
     requires { AreRowsIn (length a.now) (length b.now) (pattern_count_by (rares_of plan.now.fields)) rows.now }
     ensures { IfOk result (λ text. text ≡ text_of_pairs (rares_of plan.now.fields) a.now b.now (shown_rows journal.now rows.now)) }
 {
-    let writer = PairsWriter::new(alloc, &plan.shape())?;
+    let line = usual_id_bytes(a, b).saturating_add(USUAL_END);
+    let writer = PairsWriter::with_room(alloc, &plan.shape(), rows.len().saturating_mul(line))?;
     let written = write_rows(alloc, writer, journal, rows, a, b)?;
     Ok(written.finish())
 }
