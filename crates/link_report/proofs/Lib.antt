@@ -7,4 +7,5 @@ pub mod ReadLineLemmas
 pub mod ReadingLemmas
 pub mod RowLemmas
 pub mod LineLemmas
+pub mod PlainLemmas
 pub mod PairLemmas

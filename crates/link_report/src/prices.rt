@@ -1,12 +1,27 @@
 // The dual prices of records.
-ghost use Rattle.std.specs.Prelude.{◌≡◌, ◌<◌, ◌++◌, ◌∷◌, [], IfOk, OnOk, codes, length, slice_index_or};
+ghost use Rattle.std.specs.Prelude.{◌≡◌, ◌<◌, ◌++◌, ◌∷◌, [], IfOk, OnOk, codes, false, length, slice_index_or};
+ghost use Rattle.csv.specs.Writing.{default_writer, needs_quotes, row_text};
 ghost use Rattle.link_base.specs.Standard.{no_record};
 ghost use Rattle.link_report.specs.PricesText.{price_rows, text_of_prices};
 
-use csv_rows::push_row;
+use crate::front::push_front;
 use itoa::Buffer;
 use link_base::{NoMemory, StdFile, Text};
 use std::alloc::Global;
+
+// Appends a row of a side, an id and digits.
+fn push_priced(text: &mut Vec<u8>, side: &[u8], id: &[u8], digits: &[u8]) -> Result<(), NoMemory>
+    requires side { needs_quotes default_writer side.now ≡ false }
+    requires digits { needs_quotes default_writer digits.now ≡ false }
+    ensures { OnOk result (text.new.items ≡ text.old.items ++ row_text default_writer (side.now ∷ id.now ∷ digits.now ∷ [])) }
+{
+    text.extend_from_slice(side)?;
+    text.push(b',')?;
+    push_front(text, id)?;
+    text.extend_from_slice(digits)?;
+    text.push(b'\n')?;
+    Ok(())
+}
 
 // Appends the row of the price of a record, where it is not 0.
 fn push_price(
@@ -16,14 +31,15 @@ fn push_price(
     file: &StdFile,
     at: u32,
 ) -> Result<(), NoMemory>
-    requires { at < length file.now }
+    requires within { at < length file.now }
+    requires side { needs_quotes default_writer side.now ≡ false }
     ensures { OnOk result (text.new.items ≡ text.old.items ++ price_rows side.now (price ∷ []) (slice_index_or file.now at no_record ∷ [])) }
 {
     if price == 0 {
         return Ok(());
     }
     let mut digits = Buffer::new();
-    push_row(text, &[side, file.id(at), digits.format(price).as_bytes()])
+    push_priced(text, side, file.id(at), digits.format(price).as_bytes())
 }
 
 // Appends the rows of a side.
@@ -33,7 +49,8 @@ fn push_side(
     prices: &[i64],
     file: &StdFile,
 ) -> Result<(), NoMemory>
-    requires { length prices.now ≡ length file.now }
+    requires as_many { length prices.now ≡ length file.now }
+    requires side { needs_quotes default_writer side.now ≡ false }
     ensures { OnOk result (text.new.items ≡ text.old.items ++ price_rows side.now prices.now file.now) }
 {
     for at in 0..file.rows() {

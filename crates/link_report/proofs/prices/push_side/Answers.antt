@@ -12,7 +12,7 @@ loop-at-preserved c =
     let price : ℤ = get_or c.args.prices.now c.loop-at.at (pos 0) in
     let fits : FitsSigned w64 price = search rules in
     prices_more c.args.side.now c.args.prices.now c.args.file.now c.loop-at.at (pos 0) _ _ c.args.text.now.items c.loop-at.text.items c.push_price.new.text.items
-    (omega (arith, c.rows-at-end.ensures)) c.requires (to_z-of_z w64 price fits) c.loop-at.invariant c.in_ok-push_price.ensures
+    (omega (arith, c.rows-at-end.ensures)) c.requires.as_many (to_z-of_z w64 price fits) c.loop-at.invariant c.in_ok-push_price.ensures
 
 pub returns : goal.returns
 returns c =
