@@ -18,7 +18,7 @@ use std::alloc::Global;
 
 // About how many bytes the lines of the pairs of a walk have: two ids, a comma and a line feed each.
 fn usual_bytes(walker: &Walker<'_>, a: &StdFile, b: &StdFile) -> usize {
-    let pairs = walker.usual_pairs().min(MOST_PAIRS as usize);
+    let pairs = walker.most_pairs().min(MOST_PAIRS as usize);
     pairs.saturating_mul(usual_id_bytes(a, b).saturating_add(2))
 }
 

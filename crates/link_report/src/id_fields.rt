@@ -1,6 +1,7 @@
 // The ids of a file's records as fields of lines.
-ghost use Rattle.std.specs.Prelude.{◌≡◌, ◌<◌, ◌++◌, ◌∷◌, [], IfOk, OnOk, length, slice_index_or};
+ghost use Rattle.std.specs.Prelude.{◌≡◌, ◌<◌, ◌+◌, ◌-◌, ◌^◌, ◌++◌, ◌∷◌, [], IfOk, OnOk, length, slice_index_or};
 ghost use Rattle.csv.specs.Writing.{default_writer, field_text};
+ghost use Rattle.link_base.specs.Standard.{id_at};
 ghost use Rattle.link_report.specs.Lines.{id_fields};
 
 use csv_rows::push_field;
@@ -11,8 +12,11 @@ use std::marker::Model;
 // How many bytes a field may have for which room is made beforehand.
 const USUAL_BYTES: usize = 8;
 
-// How many bytes the id of a file's last record has.
-fn last_id_bytes(file: &StdFile) -> usize {
+// How many bytes the id of a file's last record has, 0 where the file has none.
+fn last_id_bytes(file: &StdFile) -> usize
+    ensures bytes { result ≡ length (id_at file.now (length file.now - 1)) }
+    ensures short { result < 2 ^ 63 }
+{
     let rows = file.rows();
     if rows == 0 {
         return 0;
@@ -22,8 +26,10 @@ fn last_id_bytes(file: &StdFile) -> usize {
 
 /// About how many bytes the ids of a pair have, for the making of room: as many as those of the last records, since the ids of
 /// a file are mostly of one length.
-pub fn usual_id_bytes(a: &StdFile, b: &StdFile) -> usize {
-    last_id_bytes(a).saturating_add(last_id_bytes(b))
+pub fn usual_id_bytes(a: &StdFile, b: &StdFile) -> usize
+    ensures { result ≡ length (id_at a.now (length a.now - 1)) + length (id_at b.now (length b.now - 1)) }
+{
+    last_id_bytes(a) + last_id_bytes(b)
 }
 
 // Appends an id as a field, which is made in the room.

@@ -39,7 +39,7 @@ fn room_for_rows(
     if !with_rows {
         return Ok(Vec::new(alloc));
     }
-    let room = walker.usual_pairs().min(MOST_PAIRS as usize);
+    let room = walker.most_pairs().min(MOST_PAIRS as usize);
     Ok(Vec::with_capacity(alloc, room)?)
 }
 

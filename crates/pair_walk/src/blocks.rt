@@ -1,7 +1,9 @@
 // The rows of B that share a key with each row of A.
-ghost use Rattle.std.specs.Prelude.{◌≡◌, ◌<◌, ◌≤◌, length, slice_index_or, IfOk, IfSome, OnOk};
+ghost use Rattle.std.specs.Prelude.{◌≡◌, ◌<◌, ◌≤◌, ◌-◌, ◌^◌, length, slice_index_or, take, IfOk, IfSome, OnOk};
+ghost use Rattle.std.specs.List.{sum_by};
 ghost use Rattle.block_passes.specs.KeyIds.{key_ids};
 ghost use Rattle.pair_walk.specs.Joining.{AreKeyed};
+ghost use Rattle.pair_walk.specs.Pairs.{pairs_of_rows};
 ghost use Rattle.pair_walk.specs.Rows.{AreAllReady, AreKeysHeld, all_rows, no_partners};
 
 use crate::merging::join_row;
@@ -13,15 +15,16 @@ use std::alloc::Global;
 use std::marker::Model;
 use value_pool::{MaybeId, Pool};
 
-// How many pairs the first rows of a pass come to, or all that can be counted.
-fn pairs_in(pass: &PassRows, rows: u32) -> usize
+// How many rows of B the first rows of a pass list, or all that can be counted.
+fn listed_in(pass: &PassRows, rows: u32) -> usize
     requires { rows ≤ length pass.now }
+    ensures { result < 2 ^ 64 - 1 → sum_by length (take rows pass.now) ≤ result }
 {
-    let mut pairs = 0usize;
+    let mut listed = 0usize;
     for at in 0..rows {
-        pairs = pairs.saturating_add(pass.rows(at).len());
+        listed = listed.saturating_add(pass.rows(at).len());
     }
-    pairs
+    listed
 }
 
 /// The blocks of two files: for each record of A those of B that share a key with it in some blocking pass (Newcombe et al.
@@ -115,11 +118,14 @@ impl Blocks {
         self.rows
     }
 
-    // About how many pairs these rows come to: one that shares a key in two passes is counted in both.
-    pub(crate) fn usual_pairs(&self) -> usize {
+    // At most how many pairs these rows come to, where that can be counted: one that shares a key in two passes is counted in both.
+    pub(crate) fn most_pairs(&self) -> usize
+        ensures { result < 2 ^ 64 - 1 → length (pairs_of_rows self.now) ≤ result }
+    {
+        let rows = self.rows;
         let mut pairs = 0usize;
         for pass in &self.passes {
-            pairs = pairs.saturating_add(pairs_in(pass, self.rows));
+            pairs = pairs.saturating_add(listed_in(pass, rows));
         }
         pairs
     }

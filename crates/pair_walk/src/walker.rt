@@ -1,5 +1,6 @@
 // The pairs row by row.
-ghost use Rattle.std.specs.Prelude.{◌≡◌, []};
+ghost use Rattle.std.specs.Prelude.{◌≡◌, ◌<◌, ◌≤◌, ◌-◌, ◌^◌, [], length};
+ghost use Rattle.pair_walk.specs.Pairs.{pairs_of_rows};
 
 use crate::blocks::Blocks;
 use crate::fault::WalkFault;
@@ -64,9 +65,12 @@ impl<'b> Walker<'b> {
         }
     }
 
-    /// About how many pairs the whole walk comes to, for the making of room.
-    pub fn usual_pairs(&self) -> usize {
-        self.blocks.usual_pairs()
+    /// At most how many pairs are still to come, for the making of room, or 2^64 - 1 where they are too many to count: a pair
+    /// that shares a key in two passes is counted in both, and what was given is counted too.
+    pub fn most_pairs(&self) -> usize
+        ensures { result < 2 ^ 64 - 1 → length (pairs_of_rows self.now.left) ≤ result }
+    {
+        self.blocks.most_pairs()
     }
 
     /// The pairs of the next row of A, put in place of what stood in `row`; `false` exactly where every row was given. There are
