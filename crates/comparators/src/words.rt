@@ -1,6 +1,7 @@
 // The kinds with a canon.
-ghost use Rattle.std.specs.Prelude.{◌≡◌, false, is_some, IfOk, option_map};
+ghost use Rattle.std.specs.Prelude.{◌≡◌, false, is_some, IfOk, List, Option, ℕ, option_map};
 ghost use Rattle.link_base.specs.Standard.{IsValid};
+ghost use Rattle.link_base.specs.declared.standard.Value.{Value};
 ghost use Rattle.comparators.specs.Laws.{agree_where, outcome_by, outcome_of_texts};
 ghost use Rattle.comparators.specs.LawsBy.{canon_laws_by, laws_by, text_laws};
 ghost use Rattle.value_forms.specs.CanonTexts.{canon_bytes};
@@ -43,46 +44,63 @@ fn copy(alloc: Global, canon: Option<CanonText>) -> Result<Option<Text>, NoMemor
     }
 }
 
-/// Agrees on the same text, or the same day.
-#[derive(Clone, Copy, PartialEq, Eq)]
-pub struct Exact;
+/// A kind whose canons take no memory: two values agree where their canons are equal.
+pub trait CanonKind {
+    /// The canon of a value, where it has one.
+    ghost canon_in: { Self → Value → Option (List ℕ) };
 
-impl Comparator for Exact {
+    /// The canon of a value, where it has one.
+    fn canon_text<'v>(&self, value: &'v Value) -> Option<CanonText<'v>>
+        requires { IsValid value.now }
+        ensures { option_map canon_bytes result ≡ canon_in self.now value.now };
+}
+
+impl<K: CanonKind> Comparator for K {
     type Side = Value;
 
     ghost is_valid = { λ _ side. IsValid side };
 
     ghost is_rare = { λ _. false };
 
-    ghost is_present = { λ _ side. is_some (exact_canon side) };
+    ghost is_present = { λ kind side. is_some (K.canon_in kind side) };
 
-    ghost outcome_of = { λ _ a b. outcome_by outcome_of_texts (exact_canon a) (exact_canon b) };
+    ghost outcome_of = { λ kind a b. outcome_by outcome_of_texts (K.canon_in kind a) (K.canon_in kind b) };
 
-    ghost laws = { λ _. laws_by text_laws exact_canon };
+    ghost laws = { λ kind. laws_by text_laws (K.canon_in kind) };
 
     fn rare(&self) -> bool {
         false
     }
 
-    #[tactic(auto, using(value_forms::proofs::ReadableLemmas::readable_valid))]
     fn present(&self, side: &Value) -> bool {
-        exact(&side.as_ref()).is_some()
+        self.canon_text(side).is_some()
     }
 
-    #[tactic(auto, using(value_forms::proofs::ReadableLemmas::readable_valid))]
     fn outcome(&self, a: &Value, b: &Value) -> Outcome {
-        compare(exact(&a.as_ref()), exact(&b.as_ref()))
+        compare(self.canon_text(a), self.canon_text(b))
     }
 }
 
-impl KeyComparator for Exact {
-    ghost canon_of = { λ _. exact_canon };
+impl<K: CanonKind> KeyComparator for K {
+    ghost canon_of = { λ kind. K.canon_in kind };
 
-    ghost canon_laws = { λ _. canon_laws_by exact_canon };
+    ghost canon_laws = { λ kind. canon_laws_by (K.canon_in kind) };
+
+    fn canon(&self, alloc: Global, side: &Value) -> Result<Option<Text>, NoMemory> {
+        copy(alloc, self.canon_text(side))
+    }
+}
+
+/// Agrees on the same text, or the same day.
+#[derive(Clone, Copy, PartialEq, Eq)]
+pub struct Exact;
+
+impl CanonKind for Exact {
+    ghost canon_in = { λ _. exact_canon };
 
     #[tactic(auto, using(value_forms::proofs::ReadableLemmas::readable_valid))]
-    fn canon(&self, alloc: Global, side: &Value) -> Result<Option<Text>, NoMemory> {
-        copy(alloc, exact(&side.as_ref()))
+    fn canon_text<'v>(&self, value: &'v Value) -> Option<CanonText<'v>> {
+        exact(&value.as_ref())
     }
 }
 
@@ -90,39 +108,11 @@ impl KeyComparator for Exact {
 #[derive(Clone, Copy, PartialEq, Eq)]
 pub struct BySoundex;
 
-impl Comparator for BySoundex {
-    type Side = Value;
+impl CanonKind for BySoundex {
+    ghost canon_in = { λ _. soundex_canon };
 
-    ghost is_valid = { λ _ side. IsValid side };
-
-    ghost is_rare = { λ _. false };
-
-    ghost is_present = { λ _ side. is_some (soundex_canon side) };
-
-    ghost outcome_of = { λ _ a b. outcome_by outcome_of_texts (soundex_canon a) (soundex_canon b) };
-
-    ghost laws = { λ _. laws_by text_laws soundex_canon };
-
-    fn rare(&self) -> bool {
-        false
-    }
-
-    fn present(&self, side: &Value) -> bool {
-        soundex_key(&side.as_ref()).is_some()
-    }
-
-    fn outcome(&self, a: &Value, b: &Value) -> Outcome {
-        compare(soundex_key(&a.as_ref()), soundex_key(&b.as_ref()))
-    }
-}
-
-impl KeyComparator for BySoundex {
-    ghost canon_of = { λ _. soundex_canon };
-
-    ghost canon_laws = { λ _. canon_laws_by soundex_canon };
-
-    fn canon(&self, alloc: Global, side: &Value) -> Result<Option<Text>, NoMemory> {
-        copy(alloc, soundex_key(&side.as_ref()))
+    fn canon_text<'v>(&self, value: &'v Value) -> Option<CanonText<'v>> {
+        soundex_key(&value.as_ref())
     }
 }
 
@@ -130,39 +120,11 @@ impl KeyComparator for BySoundex {
 #[derive(Clone, Copy, PartialEq, Eq)]
 pub struct ByNysiis;
 
-impl Comparator for ByNysiis {
-    type Side = Value;
+impl CanonKind for ByNysiis {
+    ghost canon_in = { λ _. nysiis_canon };
 
-    ghost is_valid = { λ _ side. IsValid side };
-
-    ghost is_rare = { λ _. false };
-
-    ghost is_present = { λ _ side. is_some (nysiis_canon side) };
-
-    ghost outcome_of = { λ _ a b. outcome_by outcome_of_texts (nysiis_canon a) (nysiis_canon b) };
-
-    ghost laws = { λ _. laws_by text_laws nysiis_canon };
-
-    fn rare(&self) -> bool {
-        false
-    }
-
-    fn present(&self, side: &Value) -> bool {
-        nysiis_key(&side.as_ref()).is_some()
-    }
-
-    fn outcome(&self, a: &Value, b: &Value) -> Outcome {
-        compare(nysiis_key(&a.as_ref()), nysiis_key(&b.as_ref()))
-    }
-}
-
-impl KeyComparator for ByNysiis {
-    ghost canon_of = { λ _. nysiis_canon };
-
-    ghost canon_laws = { λ _. canon_laws_by nysiis_canon };
-
-    fn canon(&self, alloc: Global, side: &Value) -> Result<Option<Text>, NoMemory> {
-        copy(alloc, nysiis_key(&side.as_ref()))
+    fn canon_text<'v>(&self, value: &'v Value) -> Option<CanonText<'v>> {
+        nysiis_key(&value.as_ref())
     }
 }
 
@@ -172,45 +134,12 @@ pub struct FirstLetters {
     pub n: u8,
 }
 
-impl Comparator for FirstLetters {
-    type Side = Value;
-
-    ghost is_valid = { λ _ side. IsValid side };
-
-    ghost is_rare = { λ _. false };
-
-    ghost is_present = { λ c side. is_some (first_letters_canon c.n side) };
-
-    ghost outcome_of = { λ c a b. outcome_by outcome_of_texts (first_letters_canon c.n a) (first_letters_canon c.n b) };
-
-    ghost laws = { λ c. laws_by text_laws (first_letters_canon c.n) };
-
-    fn rare(&self) -> bool {
-        false
-    }
+impl CanonKind for FirstLetters {
+    ghost canon_in = { λ kind. first_letters_canon kind.n };
 
     #[tactic(auto, using(value_forms::proofs::ReadableLemmas::readable_valid))]
-    fn present(&self, side: &Value) -> bool {
-        first_letters(self.n, &side.as_ref()).is_some()
-    }
-
-    #[tactic(auto, using(value_forms::proofs::ReadableLemmas::readable_valid))]
-    fn outcome(&self, a: &Value, b: &Value) -> Outcome {
-        compare(
-            first_letters(self.n, &a.as_ref()),
-            first_letters(self.n, &b.as_ref()),
-        )
-    }
-}
-
-impl KeyComparator for FirstLetters {
-    ghost canon_of = { λ c. first_letters_canon c.n };
-
-    ghost canon_laws = { λ c. canon_laws_by (first_letters_canon c.n) };
-
-    #[tactic(auto, using(value_forms::proofs::ReadableLemmas::readable_valid))]
-    fn canon(&self, alloc: Global, side: &Value) -> Result<Option<Text>, NoMemory> {
-        copy(alloc, first_letters(self.n, &side.as_ref()))
+    fn canon_text<'v>(&self, value: &'v Value) -> Option<CanonText<'v>> {
+        first_letters(self.n, &value.as_ref())
     }
 }
 
