@@ -141,6 +141,8 @@ def settings(data):
 # ---- standard values, keys and outcomes
 
 MARKS = ["", "-", "?", "N/A"]
+# Unicode's property White_Space
+WHITE = "\t\n\v\f\r \x85\xa0\u1680" + "".join(map(chr, range(0x2000, 0x200B))) + "\u2028\u2029\u202f\u205f\u3000"
 TITLES = "MR MRS MS MISS DR PROF REV SIR".split()
 SUFFIXES = "JR SR II III IV".split()
 LETTERS = {"ß": "SS", "ẞ": "SS", "Æ": "AE", "æ": "AE", "Œ": "OE", "œ": "OE", "Ø": "O", "ø": "O", "Ł": "L", "ł": "L"}
@@ -150,7 +152,7 @@ APOSTROPHES = "\u0027\u0060\u00b4\u02bc\u2018\u2019"
 
 @cache
 def name_value(text):
-    text = text.strip()
+    text = text.strip(WHITE)
     if text in MARKS:
         return None
     chars = [it for it in unicodedata.normalize("NFD", text) if unicodedata.category(it) not in ("Mn", "Mc", "Me")]
@@ -174,7 +176,7 @@ def days_of(year, month):
 @cache
 def date_value(text, form):
     """A date as (year, month, day); none where it is absent or cannot be read. And whether it cannot be read."""
-    text = text.strip()
+    text = text.strip(WHITE)
     if text in MARKS:
         return None, False
     order = {"ymd": "ymd", "dmy": "dmy", "mdy": "mdy"}[form]
@@ -303,9 +305,9 @@ def shares(plan, data, a, b):
 
 def rounded(counts):
     """Shares in 1,024ths by largest remainders, one of them beforehand for each outcome."""
-    total = sum(counts)
-    given = [1 + 1021 * it // total for it in counts]
-    order = sorted(range(3), key=lambda at: (-(1021 * counts[at] % total), at))
+    total, spare = sum(counts), 1024 - len(counts)
+    given = [1 + spare * it // total for it in counts]
+    order = sorted(range(len(counts)), key=lambda at: (-(spare * counts[at] % total), at))
     for at in order[: 1024 - sum(given)]:
         given[at] += 1
     return given
@@ -324,7 +326,7 @@ def filled(plan, by_field):
 def filled_at(mu_ppm, lambda_ppm, by_field):
     """The cells of the rule in their order: outcomes, m, u, weight, link, nonlink."""
     cells = []
-    for digits in product(range(3), repeat=len(by_field)):
+    for digits in product(*(range(len(ms)) for ms, _ in by_field)):
         m = u = 1
         for (ms, us), at in zip(by_field, digits):
             m, u = m * ms[at], u * us[at]
