@@ -6,9 +6,10 @@
 PROGRAM is crates/linkage/out/linkage, ROUNDS 200 and SEED 1 if nothing is said. It is no part of the program and shares nothing
 with it: it follows docs/DEFINITIONS.md in the plainest way, over all pairs of records, with `expected.py` beside it. Each round
 makes a hundred words for `keys`, and two small files with settings of every kind of comparison and key, rare numbers, a sample
-or shares, and a journal. It compares what `keys` prints, all of `rule.csv`, `pairs.csv` and `report.txt`, that the links are
-candidates, one to one and worth as much as the best links that a search of its own finds, that the prices certify it, and that
-`verify` says yes. It prints what differs and the folder where that input stands, and ends with 1.
+or shares, and a journal. It compares what `keys`, `pairs`, `rule` and `open` print, all of `rule.csv`, `pairs.csv` and
+`report.txt`, and of `run` and `many`, within capacities made at random, that the links are candidates, not too many of a record,
+and worth as much as the best links that a search of its own finds, and that the prices certify it; `verify` must say yes. It
+prints what differs and the folder where that input stands, and ends with 1.
 """
 import datetime
 import pathlib
@@ -129,7 +130,8 @@ class Input:
 
     def keys(self, row):
         names = [field["name"] for field in self.fields]
-        made = [[key_of(part["key"], row[names.index(part["field"])], part.get("n", 0)) for part in one["parts"]] for one in self.plan["pass"]]
+        part_key = lambda part: key_of(part["key"], row[names.index(part["field"])], part.get("n", 0))
+        made = [[part_key(part) for part in one["parts"]] for one in self.plan["pass"]]
         return [None if None in key else key for key in made]
 
     def compared(self):
@@ -215,24 +217,40 @@ def level_lines(cells, fields):
     return [f"{name} {it} {whole} {it * 10**6 // whole}" for name, it in sums.items()]
 
 
-def faults_of_links(made, candidates, links, prices):
-    """What is wrong with links and prices."""
+def faults_of_links(made, candidates, links, prices, capacity):
+    """What is wrong with links and prices, where a record of B may have so many links."""
     by_ids = {(made.ids[0][i], made.ids[1][j]): (i, j, str(weight), str(value), by) for i, j, weight, value, by in candidates}
     rows = [line.split(",") for line in links]
     taken = [by_ids.get((row[0], row[1])) for row in rows]
     if any(one is None or list(one[2:]) != row[2:] for one, row in zip(taken, rows)):
         return ["a link is no candidate"]
     faults = []
-    if any(len({one[side] for one in taken}) < len(taken) for side in (0, 1)) or taken != sorted(taken):
-        faults.append("links are not one to one, or do not rise")
+    most = max(Counter(one[0] for one in taken).values(), default=0)
+    if most > 1 or any(count > capacity[j] for j, count in Counter(one[1] for one in taken).items()) or taken != sorted(taken):
+        faults.append("too many links of a record, or they do not rise")
     total = sum(int(one[3]) for one in taken)
-    if total != best_total(candidates):
-        faults.append(f"links of {total}, where {best_total(candidates)} is best")
+    best = best_total([(i, (j, place), *rest) for i, j, *rest in candidates for place in range(capacity[j])])
+    if total != best:
+        faults.append(f"links of {total}, where {best} is best")
     priced = {(side, key): int(price) for side, key, price in (line.split(",") for line in prices)}
-    lacks = lambda i, j, value: priced.get(("A", made.ids[0][i]), 0) + priced.get(("B", made.ids[1][j]), 0) < value
-    if sum(priced.values()) != total or min(priced.values(), default=1) < 1 or any(lacks(i, j, value) for i, j, _, value, _ in candidates):
+    price = lambda side, at: priced.get(("AB"[side], made.ids[side][at]), 0)
+    whole = sum(price(0, i) for i in range(len(made.ids[0]))) + sum(price(1, j) * capacity[j] for j in range(len(made.ids[1])))
+    if whole != total or min(priced.values(), default=1) < 1 or any(price(0, i) + price(1, j) < value for i, j, _, value, _ in candidates):
         faults.append("the prices do not certify the links")
     return faults
+
+
+def faults_of_many(made, candidates, program, folder, chance):
+    """What is wrong with links within capacities."""
+    capacity = [chance.choice([0, 1, 1, 2, 3]) for _ in made.ids[1]]
+    listed = [[key, str(count)] for key, count in zip(made.ids[1], capacity) if count != 1 or chance.random() < 0.5]
+    write(folder, "capacities.csv", [["id_b", "capacity"], *listed])
+    status, said = run(program, folder, "many", "s.toml", "capacities.csv")
+    lines = said.splitlines()
+    if status or "side,id,price" not in lines:
+        return [f"many: {status} {said}"]
+    cut = lines.index("side,id,price")
+    return [f"many: {it}" for it in faults_of_links(made, candidates, lines[1:cut], lines[cut + 1 :], capacity)]
 
 
 def report_lines(made, candidates, counts, waiting, entries, possible, levels, links):
@@ -256,11 +274,19 @@ def report_lines(made, candidates, counts, waiting, entries, possible, levels, l
 
 # ---- inputs at random
 
-NAMES = "SMITH,Smyth,Schmidt,Dr. Schmidt,MUELLER,Müller,O'Brien,OBrien,Lee,Li,-,,Mac Kay,McKay,KNUTH jr,Østergård,日本,Élise Ann,Elise B"
+NAMES = "SMITH,Smyth,Schmidt,Dr. Schmidt,MUELLER,Müller,O'Brien,OBrien,Lee,Li,-,".split(",")
+NAMES += "Mac Kay,McKay,KNUTH jr,Østergård,日本,Élise Ann,Elise B".split(",")
 PIECES = "MR,dr.,Prof,SIR,JR,III,iv,Mac,KN,SCH,PH,PF,EV,EE,IE,ND,RT,DT,-,?,N/A".split(",")
 ALPHABETS = [
-    "ABCDEFGHIJKLMNOPQRSTUVWXYZ", "abcdefghijklmnopqrstuvwxyz", "AEIOUHWKNSCHPFMDTRYE", " .-,'`´ʼ‘’/\t\x1c\u00a0\u200b\u3000", "0123456789²½Ⅳ",
-    "ßẞÆæŒœØøŁłĐđÐðÞþ", "éèüñÅçİıŞşǅǆﬁŉſ", "αβγΩאבγжЩ日本語한글ཀ", "\u0301\u0308\u0327\u20dd\u0903",
+    "ABCDEFGHIJKLMNOPQRSTUVWXYZ",
+    "abcdefghijklmnopqrstuvwxyz",
+    "AEIOUHWKNSCHPFMDTRYE",
+    "0123456789²½Ⅳ",
+    " .-,'`´ʼ‘’/\t\x1c\u00a0\u200b\u3000",
+    "ßẞÆæŒœØøŁłĐđÐðÞþ",
+    "éèüñÅçİıŞşǅǆﬁŉſ",
+    "αβγΩאבγжЩ日本語한글ཀ",
+    "\u0301\u0308\u0327\u20dd\u0903",
 ]
 
 
@@ -276,7 +302,7 @@ def some_word(chance):
 
 def some_name(chance):
     tail = chance.choice([" ", "x", "s", "-Anne", " II"]) if chance.random() < 0.15 else ""
-    return chance.choice(NAMES.split(",")) + tail
+    return chance.choice(NAMES) + tail
 
 
 def some_date(chance):
@@ -355,7 +381,8 @@ def write_input(chance, folder, plan):
     rows = [[str(number), "2024-03-06", "ana", *ids(pair), it] for number, (pair, it) in enumerate(entries, 1)]
     write(folder, "journal.csv", [head, *rows])
     top = "".join(f"{key} = {toml_of(it)}\n" for key, it in plan.items() if key not in ("field", "pass"))
-    tables = "".join(f"\n[[{name}]]\n" + "".join(f"{key} = {toml_of(it)}\n" for key, it in one.items()) for name in ("field", "pass") for one in plan[name])
+    table = lambda name, one: f"\n[[{name}]]\n" + "".join(f"{key} = {toml_of(it)}\n" for key, it in one.items())
+    tables = "".join(table(name, one) for name in ("field", "pass") for one in plan[name])
     (folder / "s.toml").write_text(top + tables, encoding="utf-8")
     return files, dict(zip(drawn, said)) if "sample" in plan else None, entries if "journal" in plan else []
 
@@ -393,9 +420,17 @@ def faults_of_run(program, folder, chance):
     report = report_lines(made, candidates, counts, waiting, entries, possible, level_lines(cells, len(plan["field"])), links)
     wanted = {"rule.csv": rule_lines(cells), "pairs.csv": lines, "report.txt": report}
     faults = [f"{name} differs" for name, it in wanted.items() if written[name] != it]
-    faults += faults_of_links(made, candidates, links, prices)
-    said = run(program, folder, "verify", "s.toml")
-    return faults + ([] if said == (0, "yes\n") else [f"verify: {said}"])
+    faults += faults_of_links(made, candidates, links, prices, [1] * len(made.ids[1]))
+    faults += faults_of_many(made, candidates, program, folder, chance)
+    rows = [line.split(",") for line in lines[1:]]
+    waits = lambda row: row[5] == "possible" and row[6] in ("", "open")
+    printed = {
+        "verify": ["yes"],
+        "rule": rule_lines(cells),
+        "pairs": ["id_a,id_b", *(f"{row[0]},{row[1]}" for row in rows)],
+        "open": ["id_a,id_b,pattern,weight", *(f"{row[0]},{row[1]},{row[2]},{row[4]}" for row in filter(waits, rows))],
+    }
+    return faults + [f"{verb} differs" for verb, it in printed.items() if run(program, folder, verb, "s.toml") != (0, "\n".join([*it, ""]))]
 
 
 def main():
