@@ -342,7 +342,7 @@ def some_plan(chance):
     plan = {"file_a": "a.csv", "file_b": "b.csv"} | ({"sample": "sample.csv"} if is_sampled else {})
     plan |= {"journal": "journal.csv"} if chance.random() < 0.7 else {}
     plan |= {it: chance.choice([0, 40, 1000, 20000, 200000, 1000000]) for it in ("mu_ppm", "lambda_ppm")}
-    plan |= {"seed": chance.choice([0, 7, 2**63 - 1]), "award": chance.choice([0, 100, 1000])}
+    plan |= {"seed": chance.choice([0, 7, 2**63 - 1]), "award": chance.choice([0, 1000, chance.randint(1, 60)])}
     names = chance.sample(["surname", "given", "birth"], chance.randint(1, 3))
     plan["field"] = [some_field(chance, name, is_sampled) for name in names]
     some_parts = lambda: [some_part(chance, field) for field in chance.sample(plan["field"], chance.randint(1, min(2, len(names))))]
