@@ -1,6 +1,7 @@
 // The files and streams of the host.
 use host_outside::{HostFiles, HostStream};
 use link_outside::{Load, Sink, SinkError, Store, StoreError};
+use std::alloc::Global;
 use std::io::Write;
 use std::test::Fail;
 use std::{env, fs, io};
@@ -14,17 +15,27 @@ fn gives(load: Result<Load, StoreError>, whole: bool, want: &[u8]) -> bool {
     }
 }
 
+// The name of a file of the host's folder for such.
+fn name_in_folder(rt: HostRuntime, name: &str) -> Result<String, Fail> {
+    let folder = env::temp_dir(&rt)?;
+    Ok(format!(in rt.alloc(); "{}/{}", folder.as_path().display(), name)?)
+}
+
+// Whether a text that is put over another is loaded up to a limit.
+fn is_put_over<S: Store>(alloc: Global, files: &mut S, name: &str) -> bool {
+    files.put(alloc, name, b"old").is_ok()
+        && files.put(alloc, name, b"abc").is_ok()
+        && gives(files.load(alloc, name, 3), true, b"abc")
+        && gives(files.load(alloc, name, 2), false, b"abc")
+        && gives(files.load(alloc, name, 1), false, b"ab")
+}
+
 #[test]
 fn files_are_put_whole_and_loaded_up_to_a_limit(rt: HostRuntime) -> Result<(), Fail> {
     let alloc = rt.alloc();
-    let folder = env::temp_dir(&rt)?;
-    let name = format!(in alloc; "{}/linkage-adapter-test.csv", folder.as_path().display())?;
+    let name = name_in_folder(rt, "linkage-adapter-test.csv")?;
     let mut files = HostFiles::new(alloc, &rt);
-    assert!(rt; files.put(alloc, &name, b"old").is_ok());
-    assert!(rt; files.put(alloc, &name, b"abc").is_ok());
-    assert!(rt; gives(files.load(alloc, &name, 3), true, b"abc"));
-    assert!(rt; gives(files.load(alloc, &name, 2), false, b"abc"));
-    assert!(rt; gives(files.load(alloc, &name, 1), false, b"ab"));
+    assert!(rt; is_put_over(alloc, &mut files, &name));
     fs::remove_file(&rt, name.as_str())?;
     assert!(rt; matches!(files.load(alloc, &name, 3), Err(StoreError::Failed)));
     Ok(())
@@ -33,31 +44,24 @@ fn files_are_put_whole_and_loaded_up_to_a_limit(rt: HostRuntime) -> Result<(), F
 #[test]
 fn a_file_without_a_folder_is_a_failure(rt: HostRuntime) -> Result<(), Fail> {
     let alloc = rt.alloc();
-    let folder = env::temp_dir(&rt)?;
-    let name = format!(in alloc; "{}/linkage-no-folder/a.csv", folder.as_path().display())?;
+    let name = name_in_folder(rt, "linkage-no-folder/a.csv")?;
     let mut files = HostFiles::new(alloc, &rt);
     assert!(rt; matches!(files.put(alloc, &name, b"x"), Err(StoreError::Failed)));
     Ok(())
 }
 
-fn is_whole(load: Result<Load, StoreError>, want: &[u8]) -> bool {
-    match load {
-        Ok(Load::Whole(text)) => text.bytes() == want,
-        Ok(Load::Over(_)) => false,
-        Err(_) => false,
-    }
+// Whether a text that is put is loaded whole.
+fn is_kept_whole<S: Store>(alloc: Global, files: &mut S, name: &str, text: &[u8]) -> bool {
+    files.put(alloc, name, text).is_ok() && gives(files.load(alloc, name, 200_000), true, text)
 }
 
 #[test]
 fn a_long_file_is_loaded_whole(rt: HostRuntime) -> Result<(), Fail> {
     let alloc = rt.alloc();
-    let folder = env::temp_dir(&rt)?;
-    let name = format!(in alloc; "{}/linkage-long-test.csv", folder.as_path().display())?;
+    let name = name_in_folder(rt, "linkage-long-test.csv")?;
     let long = vec![in alloc; b'x'; 200_000]?;
     let mut files = HostFiles::new(alloc, &rt);
-    assert!(rt; files.put(alloc, &name, &long).is_ok());
-    let load = files.load(alloc, &name, 200_000);
-    assert!(rt; is_whole(load, &long));
+    assert!(rt; is_kept_whole(alloc, &mut files, &name, &long));
     fs::remove_file(&rt, name.as_str())?;
     Ok(())
 }

@@ -58,12 +58,21 @@ fn one_record(alloc: Global) -> Result<StdFile, NoMemory> {
     Ok(StdFile::of(ids, rows.finish()))
 }
 
+fn are_made_of_one(alloc: Global, pool: &Pool) -> Result<bool, NoMemory> {
+    let one = one_record(alloc)?;
+    Ok(are_made_over(alloc, &one, pool))
+}
+
+fn are_walked_over_none(alloc: Global, pool: &Pool) -> Result<bool, NoMemory> {
+    let none = no_records(alloc)?;
+    let passes = PassList::new(Vec::new(alloc));
+    Ok(are_walked(alloc, &none, &passes, pool))
+}
+
 fn all_are_made(alloc: Global) -> Result<bool, NoMemory> {
     let pool = Pool::new(alloc, 10)?;
-    let none = no_records(alloc)?;
-    let one = one_record(alloc)?;
-    let passes = PassList::new(Vec::new(alloc));
-    Ok(are_made_over(alloc, &one, &pool) && are_walked(alloc, &none, &passes, &pool))
+    let are_made = are_made_of_one(alloc, &pool)?;
+    Ok(are_walked_over_none(alloc, &pool)? && are_made)
 }
 
 #[test]

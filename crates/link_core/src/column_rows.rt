@@ -1,5 +1,6 @@
 // The rows with the same field in one column, found by the places of the fields among their distinct texts.
-ghost use Rattle.std.specs.Prelude.{◌≡◌, ◌≤◌, ◌+◌, ◌*◌, ◌++◌, All, IfErr, IfOk, OnOk, length, map};
+ghost use Rattle.std.specs.Prelude.{◌≡◌, ◌≤◌, ◌<◌, ◌+◌, ◌*◌, ◌++◌, ◌^◌, All, IfErr, IfOk, OnOk, length, map};
+ghost use Rattle.block_passes.specs.Index.{rows_with_number};
 ghost use Rattle.block_passes.specs.Numbering.{AreNumbered, AreNumbers, IsNumbered, KeepNumbers, number_among};
 ghost use Rattle.file_reader.specs.Rows.{TableRow};
 ghost use Rattle.file_reader.specs.Table.{HasTexts};
@@ -61,7 +62,36 @@ fn number_column(alloc: Global, pool: &mut Pool, table: &Table) -> Result<Vec<u3
     Ok(numbers)
 }
 
-/// For each row of a column of A the rows of B with the same field. Each table is given back once its fields have numbers.
+// The numbers of the fields of two columns, equal fields of one number, and how many numbers there are.
+#[derive(Drop)]
+struct ColumnNumbers {
+    a: Vec<u32>,
+    b: Vec<u32>,
+    count: u32,
+}
+
+// Numbers the fields of two columns.
+fn number_columns(alloc: Global, a: &Table, b: &Table) -> Result<ColumnNumbers, NoMemory>
+    requires few_a { length a.now ≤ MOST_ROWS }
+    requires few_b { length b.now ≤ MOST_ROWS }
+    requires width_a { All (λ (r : TableRow). length r.fields ≡ 1) a.now }
+    requires width_b { All (λ (r : TableRow). length r.fields ≡ 1) b.now }
+    requires texts_a { HasTexts a.now }
+    requires texts_b { HasTexts b.now }
+    ensures few { IfOk result (λ n. length n.b.items < 2 ^ 32) }
+    ensures matched { IfOk result (λ n. map (rows_with_number n.b.items n.count) n.a.items ≡ matched_rows (map first_field a.now) (map first_field b.now)) }
+{
+    let mut pool = Pool::new(alloc, MOST_POOL_LIMIT)?;
+    let numbers_a = number_column(alloc, &mut pool, a)?;
+    let numbers_b = number_column(alloc, &mut pool, b)?;
+    Ok(ColumnNumbers {
+        a: numbers_a,
+        b: numbers_b,
+        count: pool.len(),
+    })
+}
+
+/// For each row of a column of A the rows of B with the same field. Both tables are given back once their fields have numbers.
 pub(crate) fn match_rows(alloc: Global, a: Table, b: Table) -> Result<PassRows, NoMemory>
     requires few_a { length a ≤ MOST_ROWS }
     requires few_b { length b ≤ MOST_ROWS }
@@ -71,14 +101,13 @@ pub(crate) fn match_rows(alloc: Global, a: Table, b: Table) -> Result<PassRows, 
     requires texts_b { HasTexts b }
     ensures { IfOk result (λ rows. rows ≡ matched_rows (map first_field a) (map first_field b)) }
 {
-    let mut pool = Pool::new(alloc, MOST_POOL_LIMIT)?;
-    let numbers_a = number_column(alloc, &mut pool, &a)?;
+    let numbers = number_columns(alloc, &a, &b);
     drop(a);
-    let numbers_b = number_column(alloc, &mut pool, &b)?;
     drop(b);
-    let texts = pool.len();
-    drop(pool);
-    PassRows::of_numbers(alloc, numbers_a, &numbers_b, texts)
+    match numbers {
+        Ok(numbers) => PassRows::of_numbers(alloc, numbers.a, &numbers.b, numbers.count),
+        Err(NoMemory) => Err(NoMemory),
+    }
 }
 
 // Appends the pairs of a row.

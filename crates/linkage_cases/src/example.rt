@@ -16,6 +16,17 @@ use std::alloc::Global;
 /// The bytes of the distinct texts of the worked example, and one byte less.
 const LIMITS: [u64; 2] = [168, 167];
 
+// Shows why two files do not fit into a pool.
+fn show_want(alloc: Global, page: &mut Buffer, fault: &link_base::Fault) {
+    if let link_base::Fault::PoolFull { used, .. } = fault {
+        page.push(b" bytes: ");
+        page.push_number(alloc, *used);
+        page.push(b" are wanted\n");
+    } else {
+        page.push(b" bytes: refused\n");
+    }
+}
+
 // Shows whether two files fit into a pool of so many bytes.
 fn show_pool(alloc: Global, page: &mut Buffer, plan: &Plan, a: &[u8], b: &[u8], limit: u64)
     requires ranges { KeepsRanges plan.now }
@@ -27,12 +38,10 @@ fn show_pool(alloc: Global, page: &mut Buffer, plan: &Plan, a: &[u8], b: &[u8], 
             drop(files);
             page.push(b" bytes: enough\n");
         }
-        Err(link_base::Fault::PoolFull { used, .. }) => {
-            page.push(b" bytes: ");
-            page.push_number(alloc, used);
-            page.push(b" are wanted\n");
+        Err(fault) => {
+            show_want(alloc, page, &fault);
+            drop(fault);
         }
-        Err(_fault) => page.push(b" bytes: refused\n"),
     }
 }
 
@@ -98,7 +107,10 @@ fn show_compared(alloc: Global, page: &mut Buffer, plan: &Plan, a: &[u8], b: &[u
     requires { KeepsRanges plan.now }
 {
     match prepare(alloc, plan, a, b, LIMITS[0]) {
-        Err(_) => page.fail(Fault::NotShown),
+        Err(fault) => {
+            page.fail(Fault::NotShown);
+            drop(fault);
+        }
         Ok(files) => {
             show_partners(alloc, page, plan, &files);
             drop(files);
@@ -124,7 +136,10 @@ pub(crate) fn show_example(alloc: Global, page: &mut Buffer, beside: &Files) {
     let a = beside.held("a.csv").unwrap_or_default();
     let b = beside.held("b.csv").unwrap_or_default();
     match read_settings(alloc, beside.held("s.toml").unwrap_or_default()) {
-        Err(_) => page.fail(Fault::NotShown),
+        Err(fault) => {
+            page.fail(Fault::NotShown);
+            drop(fault);
+        }
         Ok(plan) => {
             show(alloc, page, &plan, a, b);
             drop(plan);

@@ -298,7 +298,8 @@ pub(crate) fn take_canons(
     ensures a { IfOk result (λ t. (final : List (List ℕ)) → Extends pool.new.texts final → sides_of_file final kinds.now a.now ≡ t.0.rows) }
     ensures b { IfOk result (λ t. (final : List (List ℕ)) → Extends pool.new.texts final → sides_of_file final kinds.now b.now ≡ t.1.rows) }
 {
-    let mut known = match Known::new(alloc, pool.len()) {
+    let rows = a.rows().saturating_add(b.rows());
+    let mut known = match Known::new(alloc, pool.len(), rows) {
         Ok(known) => known,
         Err(NoMemory) => return Err(PoolFault::NoMemory),
     };

@@ -1,6 +1,7 @@
 // The standard files of a plan.
 ghost use Rattle.std.specs.Prelude.{◌≡◌, ◌<◌, length, IfErr, IfOk, IfSome};
-ghost use Rattle.link_base.specs.Fault.{IsAnswer, IsInputFault};
+ghost use Rattle.link_base.specs.Fault.{IsAnswer, IsInputFault, or_else};
+ghost use Rattle.link_base.specs.declared.fault.FileRole.TheVariants as role;
 ghost use Rattle.file_reader.specs.Table.{Tests};
 ghost use Rattle.standard_files.specs.Files.{AreOfPlan, standard_files};
 ghost use Rattle.standard_files.specs.Kept.{dated_pair, strict_fault};
@@ -70,6 +71,25 @@ fn test_dates(
     }
 }
 
+// Refuses the first unreadable date of A, and then that of B, where the plan is strict.
+fn test_both(
+    alloc: Global,
+    plan: &Plan,
+    a: Option<DatePlace>,
+    b: Option<DatePlace>,
+) -> Result<(), Fault>
+    requires within_a { IfSome a (λ (d : DatePlace). d.field < length plan.now.fields) }
+    requires within_b { IfSome b (λ (d : DatePlace). d.field < length plan.now.fields) }
+    ensures kind { IfErr result IsInputFault }
+    ensures fault { Tests (or_else (strict_fault role.A plan.now a) (strict_fault role.B plan.now b)) result }
+{
+    match test_dates(alloc, FileRole::A, plan, a) {
+        Ok(()) => {}
+        Err(fault) => return Err(fault),
+    }
+    test_dates(alloc, FileRole::B, plan, b)
+}
+
 // Both files, unless a strict plan refuses a date, of A before one of B.
 fn pair_of(alloc: Global, plan: &Plan, a: DatedFile, b: DatedFile) -> Result<StandardPair, Fault>
     requires within_a { IfSome a.first (λ (d : DatePlace). d.field < length plan.now.fields) }
@@ -79,18 +99,17 @@ fn pair_of(alloc: Global, plan: &Plan, a: DatedFile, b: DatedFile) -> Result<Sta
     ensures a { IfOk result (λ pair. pair.a ≡ a.file) }
     ensures b { IfOk result (λ pair. pair.b ≡ b.file) }
 {
-    match test_dates(alloc, FileRole::A, plan, a.first) {
-        Ok(()) => {}
-        Err(fault) => return Err(fault),
+    match test_both(alloc, plan, a.first, b.first) {
+        Ok(()) => Ok(StandardPair {
+            a: a.file,
+            b: b.file,
+        }),
+        Err(fault) => {
+            drop(a);
+            drop(b);
+            Err(fault)
+        }
     }
-    match test_dates(alloc, FileRole::B, plan, b.first) {
-        Ok(()) => {}
-        Err(fault) => return Err(fault),
-    }
-    Ok(StandardPair {
-        a: a.file,
-        b: b.file,
-    })
 }
 
 // Both files in standard values, by the words of the plan.
@@ -113,7 +132,10 @@ fn read_by(
     };
     match read_file(alloc, plan, tables, FileRole::B, b) {
         Ok(of_b) => pair_of(alloc, plan, of_a, of_b),
-        Err(fault) => Err(fault),
+        Err(fault) => {
+            drop(of_a);
+            Err(fault)
+        }
     }
 }
 
@@ -127,5 +149,7 @@ pub fn read_files(alloc: Global, plan: &Plan, a: &[u8], b: &[u8]) -> Result<Stan
     ensures of_b { IfOk result (λ pair. AreOfPlan plan.now pair.b.records) }
 {
     let tables = ValueTables::new(alloc, &plan.tables)?;
-    read_by(alloc, plan, &tables, a, b)
+    let pair = read_by(alloc, plan, &tables, a, b);
+    drop(tables);
+    pair
 }

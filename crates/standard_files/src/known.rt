@@ -66,24 +66,22 @@ pub(crate) struct KnownDays {
     pub(crate) at: Vec<Option<KnownDay>>,
 }
 
-/// What is added to a day so that none is below 0.
-const DAYS_BEFORE_1970: u32 = 719_162;
+/// The most slots of days: as many as the days of 179 years.
+const MOST_SLOTS: u32 = 65_536;
 
 impl KnownDays {
-    // No day, with so many slots.
-    fn new(alloc: Global, slots: u32) -> Result<KnownDays, NoMemory>
-        ensures { IfOk result (λ days. (held : List (List ℕ)) → AreKnownDays held days.at.items) }
+    // No day, with slots for about so many, a power of 2.
+    fn new(alloc: Global, days: u32) -> Result<KnownDays, NoMemory>
+        ensures { IfOk result (λ known. (held : List (List ℕ)) → AreKnownDays held known.at.items) }
     {
+        let slots = days.min(MOST_SLOTS).next_power_of_two();
         let at = vec![in alloc; None; slots as usize]?;
         Ok(KnownDays { at })
     }
 
     // The slot of a day: days that follow each other have different ones.
     fn slot(&self, day: i32) -> usize {
-        if self.at.is_empty() {
-            return 0;
-        }
-        day.cast_unsigned().wrapping_add(DAYS_BEFORE_1970) as usize % self.at.len()
+        day.cast_unsigned() as usize & self.at.len().wrapping_sub(1)
     }
 
     /// The id of the text of a day, `None` for another value.
@@ -121,12 +119,12 @@ pub(crate) struct Known {
 }
 
 impl Known {
-    /// Nothing, with room for a canon of each of so many texts, and for as many days.
-    pub(crate) fn new(alloc: Global, texts: u32) -> Result<Known, NoMemory>
+    /// Nothing, with room for a canon of each of so many texts, and for about so many days.
+    pub(crate) fn new(alloc: Global, texts: u32, days: u32) -> Result<Known, NoMemory>
         ensures { IfOk result (λ known. (held : List (List ℕ)) (kinds : List Kind) → AreKnown held kinds known) }
     {
         let canons = KnownCanons::new(alloc, texts)?;
-        let days = KnownDays::new(alloc, texts)?;
+        let days = KnownDays::new(alloc, days)?;
         Ok(Known { canons, days })
     }
 }

@@ -1,5 +1,5 @@
 // The pooled values of two files.
-ghost use Rattle.std.specs.Prelude.{◌≡◌, ◌≤◌, ◌^◌, All, IfOk, List, ℕ, length};
+ghost use Rattle.std.specs.Prelude.{◌≡◌, ◌≤◌, ◌^◌, [], All, IfOk, List, ℕ, length};
 ghost use Rattle.block_passes.specs.Ids.{AreKeysHeld};
 ghost use Rattle.block_passes.specs.KeyIds.{key_ids};
 ghost use Rattle.link_base.specs.Answers.{GivesBut};
@@ -46,6 +46,20 @@ struct TakenValues {
     a: IdTable,
     b: IdTable,
     keys: KeyIds,
+}
+
+/// How many bytes a text of the pool may have for which room is made beforehand.
+const USUAL_BYTES: u64 = 8;
+
+// An empty pool, with room for so many texts of a usual length.
+fn new_pool(alloc: Global, limit: u64, texts: u32) -> Result<Pool, NoMemory>
+    requires { limit ≤ MOST_POOL_LIMIT }
+    ensures texts { IfOk result (λ pool. pool.texts ≡ []) }
+    ensures limit { IfOk result (λ pool. pool.limit ≡ limit) }
+{
+    let mut pool = Pool::new(alloc, limit)?;
+    pool.reserve(alloc, texts, u64::from(texts) * USUAL_BYTES)?;
+    Ok(pool)
 }
 
 // Takes the three groups of texts, and gives what is kept of the rows of both files.
@@ -104,7 +118,7 @@ pub fn pool_values(
     ensures keys_a { IfOk result (λ p. p.keys_a ≡ key_ids p.texts passes.now a.now) }
     ensures keys_b { IfOk result (λ p. p.keys_b ≡ key_ids p.texts passes.now b.now) }
 {
-    let mut pool = match Pool::new(alloc, limit) {
+    let mut pool = match new_pool(alloc, limit, a.rows().max(b.rows())) {
         Ok(pool) => pool,
         Err(NoMemory) => return Err(PoolFault::NoMemory),
     };
