@@ -1,5 +1,5 @@
 -- Texts by their ids, and canons that are known.
-use Rattle.std.proofs.Common.{◌≡◌, ◌<◌, ◌≤◌, ◌+◌, ℕ, zero, suc, true, List, [], ◌∷◌, ◌++◌, length, get_or, take, drop, Option, Some, None, Result, Ok, Err, OnOk, option_to_list, refl, ap, sym, subst, arith, length-append}
+use Rattle.std.proofs.Common.{◌≡◌, ◌<◌, ◌≤◌, ◌+◌, ℕ, zero, suc, true, List, [], ◌∷◌, ◌++◌, length, get_or, take, drop, Option, Some, None, Result, Ok, Err, OnOk, IfSome, option_to_list, refl, ap, sym, subst, arith, length-append}
 use Rattle.std.specs.List.{slice_get}
 use Rattle.std.specs.Str.{bytes_eq}
 use Rattle.link_base.specs.Standard.{absent_value, no_record, Record}
@@ -10,7 +10,7 @@ use Rattle.link_base.specs.declared.standard.Value.TheVariants as value
 use Rattle.value_forms.specs.Canons.{canon_of, exact_canon}
 use Rattle.value_pool.specs.Texts.{PoolState, stands_among}
 use Rattle.value_pool.specs.declared.pool.PoolFault.{PoolFault}
-use Rattle.standard_files.specs.Known.{AreKnown, AreKnownCanons, AreKnownDays, AreTextIds, IsCanonAt, IsIdOf, IsKnownAt, IsKnownDay, file_values, side_by_id}
+use Rattle.standard_files.specs.Known.{AreKnown, AreKnownCanons, AreKnownDays, AreTextIds, IsCanonAt, IsIdOf, IsKnownAt, IsKnownDay, file_values, no_day, side_by_id}
 use Rattle.standard_files.specs.Sides.{id_side}
 use Rattle.standard_files.specs.Taking.{Extends, TakesTexts}
 use Rattle.standard_files.specs.Texts.{standard_text, texts_taken}
@@ -68,12 +68,15 @@ module _ (held new : List (List ℕ)) (keeps : Keeps held new) where
   pub canons-kept : (kinds : List CompareKind) (known : List (Option KnownCanon)) → AreKnownCanons held kinds known → AreKnownCanons new kinds known
   canons-kept kinds known h place = known-at-kept kinds place (get_or known place None) (h place)
 
-  known-day-kept : (known : Option KnownDay) → IsKnownDay held known → IsKnownDay new known
-  known-day-kept None h = tt
-  known-day-kept (Some known) h = id-kept (exact_canon (value.Day known.day)) (Some known.text) h
+  day-kept : (o : Option (List ℕ)) (i : Option ℕ) → IfSome i (λ (text : ℕ). IsIdOf held o (Some text)) → IfSome i (λ (text : ℕ). IsIdOf new o (Some text))
+  day-kept o None h = tt
+  day-kept o (Some i) h = id-kept o (Some i) h
 
-  pub days-kept : (days : List (Option KnownDay)) → AreKnownDays held days → AreKnownDays new days
-  days-kept days h slot = known-day-kept (get_or days slot None) (h slot)
+  known-day-kept : (known : KnownDay) → IsKnownDay held known → IsKnownDay new known
+  known-day-kept known h = day-kept (exact_canon (value.Day known.day)) known.text h
+
+  pub days-kept : (days : List KnownDay) → AreKnownDays held days → AreKnownDays new days
+  days-kept days h slot = known-day-kept (get_or days slot no_day) (h slot)
 
   pub known-kept : (kinds : List CompareKind) (known : Known) → AreKnown held kinds known → AreKnown new kinds known
   known-kept kinds known h = record { canons = canons-kept kinds known.canons.at.items h.canons; days = days-kept known.days.at.items h.days }
@@ -150,6 +153,16 @@ module _ (held : List (List ℕ)) (kinds : List CompareKind) where
   new-known (value.Day day) i known h k = absurd h
 
 -- the canons that are known stay so while the text of a day is taken
+-- the text of a day, read from its slot
+pub day-at : (days : List KnownDay) (slot : ℕ) (known : KnownDay) (i : Option ℕ) (o : Option (List ℕ)) → get_or days slot no_day ≡ known → i ≡ known.text → exact_canon (value.Day known.day) ≡ o
+    → IfSome i (λ (text : ℕ). (held : List (List ℕ)) → AreKnownDays held days → IsIdOf held o (Some text))
+day-at days slot known None o is_known is_text is_day = tt
+day-at days slot known (Some text) o is_known is_text is_day = λ held h.
+    let at : IsKnownDay held known = subst (IsKnownDay held) is_known (h slot) in
+    let of_text : IsIdOf held (exact_canon (value.Day known.day)) (Some text) =
+    subst (λ (j : Option ℕ). IfSome j (λ (t : ℕ). IsIdOf held (exact_canon (value.Day known.day)) (Some t))) (sym is_text) at in
+    subst (λ (p : Option (List ℕ)). IsIdOf held p (Some text)) is_day of_text
+
 pub known-after : {T : Type 0} (old new : PoolState) (texts : List (List ℕ)) (kinds : List CompareKind) (canons : KnownCanons) (r : Result T PoolFault) (days : KnownDays)
     → TakesTexts old new texts r → AreKnownCanons old.texts kinds canons.at.items → OnOk r (AreKnownDays new.texts days.at.items) → OnOk r (AreKnown new.texts kinds (record { canons = canons; days = days }))
 known-after old new texts kinds canons (Ok x) days taken h k =

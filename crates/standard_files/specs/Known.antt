@@ -1,6 +1,6 @@
 -- Machinery of `pool_values`: texts by their ids in a pool, canons that are known by them, and what is known of a row when its
 -- keys are taken. No public clause names it.
-use Rattle.std.specs.Prelude.{◌≡◌, ℕ, List, [], ◌∷◌, length, Option, Some, None, slice_get, slice_index_or, ⊤}
+use Rattle.std.specs.Prelude.{◌≡◌, ℕ, List, [], ◌∷◌, length, Option, Some, None, slice_get, slice_index_or, ⊤, IfSome, pos}
 use Rattle.std.specs.List.{flat_map}
 use Rattle.comparators.specs.declared.ids.IdValue.{IdValue}
 use Rattle.comparators.specs.declared.ids.IdValue.TheVariants as id
@@ -55,13 +55,16 @@ IsKnownAt held kinds place (Some known) = IsCanonAt held kinds place known
 abbrev pub AreKnownCanons : List (List ℕ) → List CompareKind → List (Option KnownCanon) → Type 0
 AreKnownCanons held kinds canons = (place : ℕ) → IsKnownAt held kinds place (slice_index_or canons place None)
 
--- days with the ids of their texts
-abbrev pub IsKnownDay : List (List ℕ) → Option KnownDay → Type 0
-IsKnownDay held None = ⊤
-IsKnownDay held (Some known) = IsIdOf held (exact_canon (value.Day known.day)) (Some known.text)
+-- a slot that keeps no day
+abbrev pub no_day : KnownDay
+no_day = record { day = pos 0; text = None }
 
-abbrev pub AreKnownDays : List (List ℕ) → List (Option KnownDay) → Type 0
-AreKnownDays held days = (slot : ℕ) → IsKnownDay held (slice_index_or days slot None)
+-- days with the ids of their texts
+abbrev pub IsKnownDay : List (List ℕ) → KnownDay → Type 0
+IsKnownDay held known = IfSome known.text (λ (text : ℕ). IsIdOf held (exact_canon (value.Day known.day)) (Some text))
+
+abbrev pub AreKnownDays : List (List ℕ) → List KnownDay → Type 0
+AreKnownDays held days = (slot : ℕ) → IsKnownDay held (slice_index_or days slot no_day)
 
 -- what is known of the texts of a pool
 pub record AreKnown (held : List (List ℕ)) (kinds : List CompareKind) (known : Known) : Type 0 where

@@ -2,7 +2,7 @@
 ghost use Rattle.std.specs.Prelude.{◌≡◌, ◌<◌, ◌≤◌, All, IfOk, IsTrue, List, [], OnOk, Some, ℕ, length, option_to_list, slice_index_or};
 ghost use Rattle.value_forms.specs.Canons.{IsReadable, canon_of, value_part};
 ghost use Rattle.link_base.specs.Rows.{value_seen};
-ghost use Rattle.link_base.specs.Standard.{IsValid};
+ghost use Rattle.link_base.specs.Standard.{IsValid, absent_value};
 ghost use Rattle.link_base.specs.declared.plan.CompareKind.TheVariants as by;
 ghost use Rattle.standard_files.specs.Known.{AreKnown, AreKnownDays, AreTextIds, IsIdOf, file_values, side_by_id};
 ghost use Rattle.standard_files.specs.Ready.{IsRowFor};
@@ -112,8 +112,8 @@ fn take_day(
     Ok(Some(text))
 }
 
-// Takes the canon of a value in a field, and gives its id. One that is known by the id of the standard text is not looked
-// for again.
+// Takes the canon of the value of a row in a field, and gives its id. One that is known by the id of the standard text is not
+// looked for again, and its value is not looked at.
 fn take_known(
     alloc: Global,
     pool: &mut Pool,
@@ -121,20 +121,22 @@ fn take_known(
     known: &mut Known,
     field: u8,
     text: Option<Id>,
-    value: &ValueRef<'_>,
+    row: &Row<'_>,
 ) -> Result<Option<Id>, PoolFault>
     requires field { field < length kinds.now }
-    requires valid { IsValid (value_seen value.now) }
-    requires text { IsIdOf pool.old.texts (standard_text (value_seen value.now)) text }
+    requires within { field < length row.now }
+    requires valid { IsValid (slice_index_or row.now field absent_value) }
+    requires text { IsIdOf pool.old.texts (standard_text (slice_index_or row.now field absent_value)) text }
     requires known { AreKnown pool.old.texts kinds.now known.old }
     ensures limit { pool.new.limit ≡ pool.old.limit }
-    ensures texts { TakesTexts pool.old pool.new (option_to_list (canon_of (slice_index_or kinds.now field by.Exact) (value_seen value.now))) result }
-    ensures id { IfOk result (IsIdOf pool.new.texts (canon_of (slice_index_or kinds.now field by.Exact) (value_seen value.now))) }
+    ensures texts { TakesTexts pool.old pool.new (option_to_list (canon_of (slice_index_or kinds.now field by.Exact) (slice_index_or row.now field absent_value))) result }
+    ensures id { IfOk result (IsIdOf pool.new.texts (canon_of (slice_index_or kinds.now field by.Exact) (slice_index_or row.now field absent_value))) }
     ensures known { OnOk result (AreKnown pool.new.texts kinds.now known.new) }
 {
     let kind = kinds[field as usize];
     let Some(text) = text else {
-        return take_day(alloc, pool, kind, &mut known.days, value);
+        let value = row.value(field as usize);
+        return take_day(alloc, pool, kind, &mut known.days, &value);
     };
     if is_text_itself(kind) {
         return Ok(Some(text));
@@ -142,14 +144,15 @@ fn take_known(
     if let Some(canon) = known.canons.find(field, text) {
         return Ok(Some(canon));
     }
-    let Some(canon) = take_canon(alloc, pool, kind, value)? else {
+    let value = row.value(field as usize);
+    let Some(canon) = take_canon(alloc, pool, kind, &value)? else {
         return Ok(None);
     };
     known.canons.keep(field, text, canon);
     Ok(Some(canon))
 }
 
-// Takes the canon of a value in a field, and gives what the value is compared by.
+// Takes the canon of the value of a row in a field, and gives what the value is compared by.
 fn take_side(
     alloc: Global,
     pool: &mut Pool,
@@ -157,22 +160,23 @@ fn take_side(
     known: &mut Known,
     field: u8,
     text: Option<Id>,
-    value: &ValueRef<'_>,
+    row: &Row<'_>,
 ) -> Result<IdValue, PoolFault>
     requires field { field < length kinds.now }
-    requires valid { IsValid (value_seen value.now) }
-    requires text { IsIdOf pool.old.texts (standard_text (value_seen value.now)) text }
+    requires within { field < length row.now }
+    requires valid { IsValid (slice_index_or row.now field absent_value) }
+    requires text { IsIdOf pool.old.texts (standard_text (slice_index_or row.now field absent_value)) text }
     requires known { AreKnown pool.old.texts kinds.now known.old }
     ensures limit { pool.new.limit ≡ pool.old.limit }
-    ensures texts { TakesTexts pool.old pool.new (option_to_list (canon_of (slice_index_or kinds.now field by.Exact) (value_seen value.now))) result }
-    ensures side { IfOk result (λ side. (final : List (List ℕ)) → Extends pool.new.texts final → side_of final (slice_index_or kinds.now field by.Exact) (value_seen value.now) ≡ side) }
+    ensures texts { TakesTexts pool.old pool.new (option_to_list (canon_of (slice_index_or kinds.now field by.Exact) (slice_index_or row.now field absent_value))) result }
+    ensures side { IfOk result (λ side. (final : List (List ℕ)) → Extends pool.new.texts final → side_of final (slice_index_or kinds.now field by.Exact) (slice_index_or row.now field absent_value) ≡ side) }
     ensures known { OnOk result (AreKnown pool.new.texts kinds.now known.new) }
 {
     let kind = kinds[field as usize];
     if compares_days(kind) {
-        return Ok(day_of(value));
+        return Ok(day_of(&row.value(field as usize)));
     }
-    let canon = take_known(alloc, pool, kinds, known, field, text, value)?;
+    let canon = take_known(alloc, pool, kinds, known, field, text, row)?;
     Ok(side_by_id(canon))
 }
 
@@ -206,7 +210,7 @@ fn take_row(
             known,
             field as u8,
             ids[field].get(),
-            &row.value(field),
+            row,
         )?;
         if sides.push(side).is_err() {
             return Err(PoolFault::NoMemory);

@@ -7,7 +7,7 @@ ghost use Rattle.value_forms.specs.Canons.{exact_canon};
 
 use link_base::{NoMemory, ValueRef};
 use std::alloc::Global;
-use value_pool::Id;
+use value_pool::{Id, MaybeId};
 
 /// A canon of a text: the field by whose kind it is one, and its id.
 #[derive(Clone, Copy)]
@@ -53,17 +53,17 @@ impl KnownCanons {
     }
 }
 
-/// A day, and the id of its text.
+/// A day, and the id of its text, or that of none.
 #[derive(Clone, Copy)]
 pub(crate) struct KnownDay {
     pub(crate) day: i32,
-    pub(crate) text: Id,
+    pub(crate) text: MaybeId,
 }
 
 /// Days whose texts were taken, each in one of so many slots, so that a day that comes again is not written again.
 #[derive(Drop)]
 pub(crate) struct KnownDays {
-    pub(crate) at: Vec<Option<KnownDay>>,
+    pub(crate) at: Vec<KnownDay>,
 }
 
 /// The most slots of days: as many as the days of 179 years.
@@ -75,7 +75,11 @@ impl KnownDays {
         ensures { IfOk result (λ known. (held : List (List ℕ)) → AreKnownDays held known.at.items) }
     {
         let slots = days.min(MOST_SLOTS).next_power_of_two();
-        let at = vec![in alloc; None; slots as usize]?;
+        let none = KnownDay {
+            day: 0,
+            text: MaybeId::of(None),
+        };
+        let at = vec![in alloc; none; slots as usize]?;
         Ok(KnownDays { at })
     }
 
@@ -92,7 +96,7 @@ impl KnownDays {
             return None;
         };
         match self.at.get(self.slot(*day)) {
-            Some(Some(known)) if known.day == *day => Some(known.text),
+            Some(known) if known.day == *day => known.text.get(),
             _ => None,
         }
     }
@@ -106,7 +110,10 @@ impl KnownDays {
         };
         let slot = self.slot(*day);
         if slot < self.at.len() {
-            self.at[slot] = Some(KnownDay { day: *day, text });
+            self.at[slot] = KnownDay {
+                day: *day,
+                text: MaybeId::of(Some(text)),
+            };
         }
     }
 }

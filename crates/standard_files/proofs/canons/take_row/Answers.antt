@@ -1,6 +1,5 @@
-use Rattle.std.proofs.Common.{◌≡◌, ◌+◌, ◌++◌, ◌∷◌, [], drop, get_or, option_to_list, arith, rules, length-append}
+use Rattle.std.proofs.Common.{◌≡◌, ◌+◌, ◌++◌, ◌∷◌, [], drop, get_or, option_to_list, refl, arith, rules, length-append}
 use Rattle.value_forms.specs.Canons.{canon_of}
-use Rattle.link_base.specs.Rows.{value_seen}
 use Rattle.link_base.specs.Standard.{absent_value}
 use Rattle.link_base.specs.declared.plan.CompareKind.TheVariants as by
 use Rattle.standard_files.specs.Sides.{side_of, sides_of_row}
@@ -16,9 +15,9 @@ loop-field-preserved c =
     let kinds = c.args.kinds.now in
     let row = c.args.row.now in
     let at = c.loop-field.field in
-    let v = value_seen c.value.result in
+    let v = get_or row at absent_value in
     let canons = option_to_list (canon_of (get_or kinds at by.Exact) v) in
-    let is_value : v ≡ get_or row at absent_value = c.value.ensures in
+    let is_value : v ≡ get_or row at absent_value = refl in
     let pushed : c.push.new.self.items ≡ c.loop-field.sides.items ++ c.in_ok-side.side ∷ [] = search rules in
     record {
       goes = goes-on canons (canons_of_row (drop (at + 1) kinds) (drop (at + 1) row)) c.loop-field.invariant.goes
@@ -39,8 +38,8 @@ bounds-ids-field c = omega (arith, ids-many c.loop-field.pool.texts c.args.row.n
 pub take_side-requires-clause-text : goal.take_side-requires-clause-text
 take_side-requires-clause-text c =
     let row = c.args.row.now in
-    let v = value_seen c.value.result in
-    let is_value : v ≡ get_or row c.loop-field.field absent_value = c.value.ensures in
+    let v = get_or row c.loop-field.field absent_value in
+    let is_value : v ≡ get_or row c.loop-field.field absent_value = refl in
     rw c.get.ensures (ids-read c.loop-field.pool.texts row c.args.ids.now c.loop-field.field v c.index-ids-field.result (omega (arith, c.requires.as_many)) is_value c.index-ids-field.is c.loop-field.invariant.ids)
 
 pub returns-in_err-side-clause-texts : goal.returns-in_err-side-clause-texts
@@ -48,7 +47,7 @@ returns-in_err-side-clause-texts c =
     let kinds = c.args.kinds.now in
     let row = c.args.row.now in
     let at = c.loop-field.field in
-    let v = value_seen c.value.result in
-    let is_value : v ≡ get_or row at absent_value = c.value.ensures in
+    let v = get_or row at absent_value in
+    let is_value : v ≡ get_or row at absent_value = refl in
     takes-refused (option_to_list (canon_of (get_or kinds at by.Exact) v)) (canons_of_row (drop (at + 1) kinds) (drop (at + 1) row)) c.in_err-side.field-0.0 c.take_side.new.pool c.from_residual.result
     c.loop-field.invariant.goes (canons-at kinds row at v (omega arith) c.requires.as_many is_value) c.in_err-side.ensures.texts (search rules)
