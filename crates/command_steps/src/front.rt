@@ -13,7 +13,7 @@ ghost use Rattle.link_plan.specs.Ranges.{KeepsRanges, NamesFiles};
 
 use crate::load::load_file;
 use link_base::{Fault, FileRole, NoMemory, Text};
-use link_core::{PlanShares, Prepared, counted, prepare};
+use link_core::{PlanShares, Prepared, counted, prepare, prepare_texts};
 use link_limits::MOST_POOLED_BYTES;
 use link_outside::Store;
 use link_plan::Plan;
@@ -100,9 +100,7 @@ pub fn load_prepared<S: Store>(alloc: Global, store: &mut S, plan: &Plan) -> Res
     ensures ready { IfOk result (IsPreparedFor plan.now) }
 {
     let inputs = load_files(alloc, store, plan)?;
-    let files = prepare_files(alloc, plan, inputs.a.bytes(), inputs.b.bytes());
-    drop(inputs);
-    files
+    prepare_texts(alloc, plan, inputs.a, inputs.b, MOST_POOLED_BYTES)
 }
 
 /// The plan of a settings file, and the two files that it names, ready to be compared.

@@ -1,5 +1,5 @@
--- What is prepared of the two files of a plan: their standard values, and these in a pool. `prepare` carries it (clause
--- `answer`, by `prepared`), and says of it what later steps need (clauses from `limit` on).
+-- What is prepared of the two files of a plan: their standard values, and these in a pool. `prepare` and `prepare_texts` carry
+-- it (clause `answer`, by `prepared`), and say of it what later steps need (clauses from `limit` on, and `ready`).
 use Rattle.std.specs.Prelude.{◌≡◌, ℕ, List, length, map, Result, Ok, Err, ⊤}
 use Rattle.link_base.specs.Answers.{and_then}
 use Rattle.link_base.specs.Standard.{Record}
@@ -39,12 +39,13 @@ pub record PreparedView : Type 0 where
 abbrev pub pooled : Plan → ℕ → StandardPair → Result PooledView Fault
 pooled plan limit files = with_fault (pooled_values limit (kinds_of plan) plan.passes files.a.records files.b.records)
 
+-- two standard files, and their texts in a pool of at most `limit` bytes
+abbrev pub pooled_pair : Plan → ℕ → StandardPair → Result PreparedView Fault
+pooled_pair plan limit files = and_then (pooled plan limit files) (λ values. Ok (record { files = files; values = values }))
+
 -- the two files in standard values, and their texts in a pool of at most `limit` bytes
 abbrev pub prepared : Plan → ℕ → List ℕ → List ℕ → Result PreparedView Fault
-prepared plan limit bytes_a bytes_b =
-    and_then (standard_files plan bytes_a bytes_b) (λ files.
-    and_then (pooled plan limit files) (λ values.
-    Ok (record { files = files; values = values })))
+prepared plan limit bytes_a bytes_b = and_then (standard_files plan bytes_a bytes_b) (λ files. pooled_pair plan limit files)
 
 -- A or B
 abbrev pub IsOneOfBoth : FileRole → Type 0

@@ -23,7 +23,7 @@ pub use many::{capacities_in_file, many_lines};
 pub use name_keys::key_lines;
 pub use pair_decisions::Decided;
 pub use pairs::pair_ids;
-pub use preparing::{Prepared, prepare};
+pub use preparing::{Prepared, prepare, prepare_texts};
 pub use results::{RunResult, candidates, finish};
 pub use review::{add_verdicts, journal_in_files, journal_lines, open_lines, open_rows};
 pub use rules::{PlanShares, counted, frontier_lines, rule_lines};

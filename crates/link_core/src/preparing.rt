@@ -2,7 +2,7 @@
 ghost use Rattle.std.specs.Prelude.{◌≡◌, ◌≤◌, All, IfErr, IfOk, length};
 ghost use Rattle.block_passes.specs.KeyIds.{key_ids};
 ghost use Rattle.link_base.specs.Fault.{IsAnswer, IsInputFault};
-ghost use Rattle.link_core.specs.Prepared.{ArePooled, IsOneOfBoth, kinds_of, prepared, sides_in, unreadable_of, with_fault};
+ghost use Rattle.link_core.specs.Prepared.{ArePooled, IsOneOfBoth, kinds_of, pooled_pair, prepared, sides_in, unreadable_of, with_fault};
 ghost use Rattle.standard_files.specs.Ready.{AreFileSides, AreInRange, IsRowFor};
 ghost use Rattle.standard_files.specs.Sides.{pooled_values};
 ghost use Rattle.link_core.specs.Rules.{IsPreparedFor};
@@ -11,7 +11,7 @@ ghost use Rattle.link_plan.specs.Ranges.{KeepsRanges};
 ghost use Rattle.standard_files.specs.Files.{AreOfPlan};
 
 use comparators::IdTable;
-use link_base::{CompareKind, Fault, FileRole, NoMemory, PassList, StdFile};
+use link_base::{CompareKind, Fault, FileRole, NoMemory, PassList, StdFile, Text};
 use link_limits::{MOST_FIELDS, MOST_POOL_LIMIT};
 use link_plan::Plan;
 use pair_walk::Blocks;
@@ -171,6 +171,39 @@ fn records(file: &StandardFile) -> &StdFile
     &file.file
 }
 
+// The two standard files of a plan, with their texts in a pool.
+fn pool_pair(
+    alloc: Global,
+    plan: &Plan,
+    files: StandardPair,
+    pool_limit: u64,
+) -> Result<Prepared, Fault>
+    requires ranges { KeepsRanges plan.now }
+    requires limit { pool_limit ≤ MOST_POOL_LIMIT }
+    requires of_a { AreOfPlan plan.now files.a.records }
+    requires of_b { AreOfPlan plan.now files.b.records }
+    ensures kind { IfErr result IsInputFault }
+    ensures answer { IsAnswer (pooled_pair plan.now pool_limit files) result }
+    ensures limit { IfOk result (λ p. p.values.limit ≡ pool_limit) }
+    ensures fields_a { IfOk result (λ p. p.values.a.fields ≡ length plan.now.fields) }
+    ensures fields_b { IfOk result (λ p. p.values.b.fields ≡ length plan.now.fields) }
+    ensures ready { IfOk result (IsPreparedFor plan.now) }
+{
+    match pool_files(
+        alloc,
+        plan,
+        records(&files.a),
+        records(&files.b),
+        pool_limit,
+    ) {
+        Ok(values) => Ok(Prepared { files, values }),
+        Err(fault) => {
+            drop(files);
+            Err(fault)
+        }
+    }
+}
+
 /// Prepares the two files of a plan: the table of A, the table of B, their standard values, and their texts in a pool of at
 /// most `pool_limit` bytes, itself at most `MOST_POOL_LIMIT`. The records of each file are of the plan: at most `MOST_ROWS`,
 /// with distinct ids and one value of its sort for each field.
@@ -199,21 +232,31 @@ pub fn prepare(
     ensures keys_a { IfOk result (λ p. p.values.keys_a ≡ key_ids p.values.texts plan.now.passes p.files.a.records) }
     ensures keys_b { IfOk result (λ p. p.values.keys_b ≡ key_ids p.values.texts plan.now.passes p.files.b.records) }
 {
-    let files = match read_files(alloc, plan, a, b) {
-        Ok(files) => files,
-        Err(fault) => return Err(fault),
-    };
-    match pool_files(
-        alloc,
-        plan,
-        records(&files.a),
-        records(&files.b),
-        pool_limit,
-    ) {
-        Ok(values) => Ok(Prepared { files, values }),
-        Err(fault) => {
-            drop(files);
-            Err(fault)
-        }
+    match read_files(alloc, plan, a, b) {
+        Ok(files) => pool_pair(alloc, plan, files, pool_limit),
+        Err(fault) => Err(fault),
+    }
+}
+
+/// The same of two files whose bytes are given back as soon as their records are read.
+pub fn prepare_texts(
+    alloc: Global,
+    plan: &Plan,
+    a: Text,
+    b: Text,
+    pool_limit: u64,
+) -> Result<Prepared, Fault>
+    requires ranges { KeepsRanges plan.now }
+    requires limit { pool_limit ≤ MOST_POOL_LIMIT }
+    ensures kind { IfErr result IsInputFault }
+    ensures answer { IsAnswer (prepared plan.now pool_limit a b) result }
+    ensures ready { IfOk result (IsPreparedFor plan.now) }
+{
+    let files = read_files(alloc, plan, a.bytes(), b.bytes());
+    drop(a);
+    drop(b);
+    match files {
+        Ok(files) => pool_pair(alloc, plan, files, pool_limit),
+        Err(fault) => Err(fault),
     }
 }
