@@ -1,6 +1,6 @@
 //! What no clause says and no command shows: links against a plain search, proposals that certify themselves, texts on which RFC 4180
-//! says nothing, the host's files and streams, and that calls succeed in ample memory. The tests stand in a crate of their own, in a
-//! module for each matter: a crate with tests is proved a second time, and so none of the others is for these.
+//! says nothing, the host's files and streams, and that calls which no command makes succeed in ample memory. The tests stand in a
+//! crate of their own, in a module for each matter: a crate with tests is proved a second time, and so none of the others is for these.
 #![tactic(auto)]
 
 #[cfg(test)]
@@ -15,8 +15,6 @@ mod greatest_links;
 mod host_adapters;
 #[cfg(test)]
 mod memory_stores;
-#[cfg(test)]
-mod plain_types;
 #[cfg(test)]
 mod proposed_links;
 #[cfg(test)]

@@ -23,7 +23,7 @@ use Rattle.link_base.specs.declared.rule.Candidate.{Candidate}
 use Rattle.link_base.specs.declared.rule.RuleCell.{RuleCell}
 use Rattle.link_report.specs.LinksText.{link_fields, links_header, text_of_links}
 use Rattle.link_report.specs.PricesText.{is_priced, price_fields, price_rows, prices_header, text_of_prices}
-use Rattle.link_report.specs.Reading.{first_misfit, rows_of_prices, rows_under, same_row, side_rows}
+use Rattle.link_report.specs.Reading.{first_misfit, rows_begun, rows_of_prices, rows_under, same_row, side_rows}
 use Rattle.link_report.specs.RuleText.{cell_fields, rule_header, text_of_rule}
 
 abbrev Row : Type 0
@@ -52,6 +52,15 @@ strip_few (a ∷ b ∷ c ∷ rest) = omega (arith, stripped a b c rest (is_bom a
 
 pub records_few : (bytes : List ℕ) → length (records_in 44 bytes) ≤ length bytes + 1
 records_few bytes = omega (arith, strip_few bytes, from_few (config_of 44) (length (strip_bom bytes) + 1) st.StartRecord (strip_bom bytes))
+
+-- the rows after a header are one fewer than the records
+pub begun_few : (header : List (List ℕ)) (records rows : List Row) → rows_begun header records ≡ Some rows → length rows < length records
+begun_few header [] rows e = absurd (let none : None ≡ Some rows = e in cc)
+begun_few header (first ∷ rest) rows e = by_test (same_row first header) e
+  where
+    by_test : (t : Bool) → (if t then Some rest else None) ≡ Some rows → length rows < suc (length rest)
+    by_test true is = grind (arith)
+    by_test false is = absurd (let none : None ≡ Some rows = is in cc)
 
 -- rows have the same fields exactly where the test says so
 pub row_same : (x y : Row) → same_row x y ≡ true → x ≡ y

@@ -1,5 +1,5 @@
 // The rows of written files, read again.
-ghost use Rattle.std.specs.Prelude.{◌≡◌, ◌<◌, ◌≤◌, ◌+◌, ◌^◌, [], Bool, IfOk, List, Ok, length, map, slice_index_or, ℤ};
+ghost use Rattle.std.specs.Prelude.{◌≡◌, ◌<◌, ◌≤◌, ◌+◌, ◌^◌, [], Bool, IfOk, List, None, Ok, Some, if◌then◌else◌, length, map, slice_index_or, ℤ};
 ghost use Rattle.csv.specs.Records.{fields_of};
 ghost use Rattle.file_reader.specs.Left.{records_in};
 ghost use Rattle.link_base.specs.Standard.{Record};
@@ -81,6 +81,14 @@ fn misfit_in(alloc: Global, rows: &mut Records<'_>, width: usize) -> Result<Opti
     Ok(None)
 }
 
+// Takes the first record, and says whether it is a header.
+fn begins_with(alloc: Global, records: &mut Records<'_>, header: &[&[u8]]) -> Result<bool, NoMemory>
+    ensures { IfOk result (λ is_header. rows_begun (map (λ name. name.now) header.now) records.old ≡ (if is_header then Some records.new else None)) }
+{
+    let mut row = ByteRecord::new(alloc);
+    Ok(records.next(&mut row)? && has_fields(&row, header))
+}
+
 // The rows after a header, where the first record is that header.
 fn rows_begun<'a>(
     alloc: Global,
@@ -91,15 +99,11 @@ fn rows_begun<'a>(
     ensures rows { IfOk result (λ begun. begun ≡ rows_begun (map (λ name. name.now) header.now) (records_in 44 bytes.now)) }
     ensures few { IfOk result HaveFewBegun }
 {
-    let mut row = ByteRecord::new(alloc);
     let mut records = Records::new(alloc, bytes, b',');
-    if !records.next(&mut row)? {
-        return Ok(None);
+    if begins_with(alloc, &mut records, header)? {
+        return Ok(Some(records));
     }
-    if !has_fields(&row, header) {
-        return Ok(None);
-    }
-    Ok(Some(records))
+    Ok(None)
 }
 
 // The rows under a header. They are read twice, once for their form and then one by one, so that none is held.

@@ -59,7 +59,7 @@ abbrev same_at : ℕ → Bool
 same_at c = bytes_eq (cleaned_char c) (option_to_list (ascii_cleaned c)) && list_all (λ b. nat_lt b 128) (option_to_list (ascii_cleaned c))
 
 all_same : list_all same_at (range_with_len 0 128) ≡ true
-unfolding letter_of general_category value_in general_category_rows
+unfolding ascii_cleaned letter_of general_category value_in general_category_rows
 all_same = refl
 
 both : (a b : Bool) → (a && b) ≡ true → (a ≡ true) × (b ≡ true)
@@ -119,6 +119,7 @@ abbrev stays_at : ℕ → Bool
 stays_at c = not (is_word_byte c) || (bytes_eq (from_ascii c) (c ∷ []) && not (c == 32))
 
 all_stay : list_all stays_at (range_with_len 0 128) ≡ true
+unfolding ascii_cleaned
 all_stay = refl
 
 record Stays (c : ℕ) : Type 0 where

@@ -57,7 +57,7 @@ abbrev pub cleaned_char : ℕ → List ℕ
 cleaned_char c = if is_combining c then [] else with_spaces (without_apostrophes (in_capitals (letter_of c)))
 
 -- and of one of ASCII: a letter as its capital, a digit as it is, an apostrophe as nothing, all else as a space
-abbrev pub ascii_cleaned : ℕ → Option ℕ
+unfoldable pub ascii_cleaned : ℕ → Option ℕ
 ascii_cleaned c =
     if nat_le 97 c && nat_le c 122 then Some (c - 32)
     else (if (nat_le 65 c && nat_le c 90) || (nat_le 48 c && nat_le c 57) then Some c

@@ -117,6 +117,7 @@ fn clean_chars(alloc: Global, text: &str) -> Result<String, NoMemory>
 }
 
 // What becomes of an ASCII character.
+#[tactic(auto, unfolding(crate::specs::Cleaning::ascii_cleaned))]
 fn cleaned_ascii(byte: u8) -> Option<u8>
     ensures { result ≡ ascii_cleaned byte }
 {
