@@ -1,11 +1,11 @@
 // What a search has reached from its root.
-ghost use Rattle.std.specs.Prelude.{◌≡◌, ◌+◌, ◌-◌, ◌<◌, ◌≤◌, ℕ, length, [], ◌∷◌, ◌++◌, vec_len, vec_capacity, Contains, IfOk, MatchOption};
+ghost use Rattle.std.specs.Prelude.{◌≡◌, ◌+◌, ◌-◌, ◌<◌, ◌≤◌, ℕ, length, [], ◌∷◌, ◌++◌, vec_len, vec_capacity, Contains, IfOk, MatchOption, min, slice_set};
 ghost use Rattle.link_limits.specs.declared.TheConstants.{MOST_VALUE};
 ghost use Rattle.assignment_steps.specs.Market.{edge, number};
 ghost use Rattle.assignment_steps.specs.Distances.{distance, far};
 ghost use Rattle.assignment_steps.specs.Queue.{Enters, rank_of, turn_after};
 ghost use Rattle.assignment_steps.specs.Reached.{HasRoomForRecords, IsClean, noted};
-ghost use Rattle.assignment_steps.specs.Spread.{IsNearer, IsRelaxed, IsSearchable, Joins, Shortens, edge_of, paid, spread};
+ghost use Rattle.assignment_steps.specs.Spread.{EndsAgain, IsNearer, IsRelaxed, IsSearchable, Joins, Shortens, edge_of, paid, spread};
 
 use crate::market::{Field, Grown};
 use crate::queue::{DistanceQueue, FARTHEST};
@@ -109,6 +109,38 @@ impl Reached {
         Some(far)
     }
 
+    // A record of A that was not reached is noted at a distance, which is the newest.
+    fn add(&mut self, position: usize, dist: u64)
+        requires within { position < vec_len self.old.dist_a }
+        requires near { dist ≤ MOST_VALUE }
+        requires new { distance self.old.dist_a.items position ≡ far }
+        requires room { HasRoomForRecords (vec_len self.old.dist_a) (vec_len self.old.dist_b) self.old }
+        ensures dist_a { self.new.dist_a.items ≡ slice_set self.old.dist_a.items position dist }
+        ensures rank { self.new.rank.items ≡ slice_set self.old.rank.items position (length self.old.records.items) }
+        ensures records { self.new.records.items ≡ self.old.records.items ++ position ∷ [] }
+        ensures rest { self.new ≡ record self.old { dist_a = self.new.dist_a; rank = self.new.rank; records = self.new.records; current = dist } }
+        ensures room { HasRoomForRecords (vec_len self.old.dist_a) (vec_len self.old.dist_b) self.new }
+    {
+        self.dist_a[position] = dist;
+        self.rank[position] = self.records.len();
+        note(&mut self.records, position);
+        self.current = dist;
+    }
+
+    // The nearest end is at a record of A where that is nearer than each before. Says whether it is.
+    fn end_at(&mut self, position: usize, end: u64) -> bool
+        ensures best { self.new.best ≡ min self.old.best end }
+        ensures ends { EndsAgain (spread self.old) (spread self.new) position end result }
+        ensures rest { self.new ≡ record self.old { best = self.new.best; best_record = self.new.best_record } }
+    {
+        if self.best <= end {
+            return false;
+        }
+        self.best = end;
+        self.best_record = position;
+        true
+    }
+
     /// A record of A that was not reached joins at a distance, which is the newest. Says whether it is a nearer end than
     /// each before, by its price, which then is the nearest.
     pub fn join(&mut self, position: usize, dist: u64, price: u64) -> bool
@@ -121,16 +153,8 @@ impl Reached {
         ensures rest { self.new ≡ record self.old { dist_a = self.new.dist_a; rank = self.new.rank; records = self.new.records; current = self.new.current; best = self.new.best; best_record = self.new.best_record } }
         ensures room { HasRoomForRecords (vec_len self.old.dist_a) (vec_len self.old.dist_b) self.new }
     {
-        self.dist_a[position] = dist;
-        self.rank[position] = self.records.len();
-        note(&mut self.records, position);
-        self.current = dist;
-        if self.best <= dist + price {
-            return false;
-        }
-        self.best = dist + price;
-        self.best_record = position;
-        true
+        self.add(position, dist);
+        self.end_at(position, dist + price)
     }
 
     /// The nearest end, which is at the record of B `free`, if at one.
