@@ -1,14 +1,14 @@
 -- Chains of candidates, and what uniting two places keeps.
-use Rattle.std.proofs.Common.{◌≡◌, ◌⊎◌, ℕ, zero, suc, ◌<◌, ◌≤◌, ◌+◌, ◌-◌, List, length, refl, ap, sym, ◌∙◌, inl, inr, arith}
-use Rattle.std.specs.Prelude.{AllPairs, slice_index}
+use Rattle.std.proofs.Common.{◌≡◌, ◌≢◌, ◌⊎◌, ℕ, zero, suc, ◌<◌, ◌≤◌, ◌+◌, ◌-◌, List, length, set, get_or, refl, ap, sym, ◌∙◌, inl, inr, arith, get_or-set_other, get_or-set_same}
+use Rattle.std.specs.Prelude.{AllPairs, Option, None, Some, slice_index}
 use Rattle.std.proofs.lemmas.Bool.{cases_eq, cases_lt}
 use Rattle.std.proofs.lemmas.Bool.Decides.{nat_tests}
 use Rattle.link_base.specs.declared.rule.Candidate.{Candidate}
 use Rattle.price_check.specs.Assignment.{IsBefore, no_candidate}
 use Rattle.price_check.specs.PartNumbers.{ShareRecord, RecordChain, AreInOnePart, candidate}
-use Rattle.price_check.specs.Forest.{PointsUp, top, merged, AreUnited}
+use Rattle.price_check.specs.Forest.{PointsUp, top, merged, AreUnited, AreLast, IsLast}
 use Rattle.price_check.proofs.Tops.{top_low, top_itself}
-use Rattle.std.proofs.lemmas.List.{get_or_past}
+use Rattle.std.proofs.lemmas.List.{get_or_past, length-set}
 
 pub share_turned : (cs : List Candidate) (j k : ℕ) → ShareRecord cs j k → ShareRecord cs k j
 share_turned cs j k (inl e) = inl (sym e)
@@ -124,3 +124,25 @@ same_a_before cs rising i k lt within e =
     let low = record_a_le cs rising i (k - 1) (omega arith) (omega arith) in
     let high = record_a_le cs rising (k - 1) k (omega arith) within in
     omega (arith, low, high, e)
+
+-- the last place of a record of B stays where the next candidate has another record
+last_later : (cs : List Candidate) (k b : ℕ) (place : Option ℕ) → b ≢ (candidate cs k).b → IsLast cs k b place → IsLast cs (k + 1) b place
+last_later cs k b None ne old = λ i lt. elim (cases_eq i k) [
+  | inl e ↦ (λ same. ne (sym (rw e at same)))
+  | inr other ↦ old i (omega (arith, lt, other))
+]
+last_later cs k b (Some p) ne old = (
+  omega (arith, old.0),
+  old.1,
+  λ i lt same. elim (cases_eq i k) [
+    | inl e ↦ absurd (ne (sym (rw e at same)))
+    | inr other ↦ old.2 i (omega (arith, lt, other)) same
+  ],
+)
+
+-- the last places, one candidate on
+pub last_after : (cs : List Candidate) (last : List (Option ℕ)) (k : ℕ) → (candidate cs k).b < length last → AreLast cs last k → AreLast cs (set last (candidate cs k).b (Some k)) (k + 1)
+last_after cs last k within old = λ b lt. elim (cases_eq b (candidate cs k).b) [
+  | inl e ↦ rw (e, get_or-set_same last (candidate cs k).b (Some k) None within) (omega arith, refl, λ i before same. omega (arith, before))
+  | inr ne ↦ rw (get_or-set_other last (candidate cs k).b b (Some k) None ne) (last_later cs k b (get_or last b None) ne (old b (rw length-set at lt)))
+]

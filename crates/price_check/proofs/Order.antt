@@ -1,6 +1,6 @@
 -- Candidates found at links, and links as a one-to-one list of candidates.
-use Rattle.std.proofs.Common.{◌≡◌, ℕ, ◌+◌, ◌-◌, ◌<◌, ◌≤◌, inl, inr, List, [], ◌∷◌, zero, suc, ℤ, ◌+ℤ◌, take, refl, Bool, true, false, sym, ◌∙◌, get_or, length, arith}
-use Rattle.std.proofs.lemmas.Bool.{cases_lt, false≢true}
+use Rattle.std.proofs.Common.{◌≡◌, ℕ, ◌+◌, ◌-◌, ◌<◌, ◌≤◌, inl, inr, List, [], ◌∷◌, zero, suc, ℤ, ◌+ℤ◌, take, refl, Bool, true, false, sym, ◌∙◌, get_or, get_or-set_other, get_or-set_same, length, set, arith}
+use Rattle.std.proofs.lemmas.Bool.{cases_eq, cases_lt, false≢true}
 use Rattle.std.proofs.lemmas.List.{get_or_default}
 use Rattle.std.proofs.lemmas.List.Elements.{Contains-get_or, All-cons}
 use Rattle.std.proofs.lemmas.Int.{ints}
@@ -72,6 +72,22 @@ fresh_last links taken i e rising lt m free other some = λ k d lk.
           let marked : get_or taken (get_or links i e).b false ≡ true = rw (← here) (m.marked k e lk) in
           false≢true (sym free ∙ marked)),
     )
+
+-- the marks, one link on
+pub marks_after : (taken : List Bool) (links : List PairAt) (i : ℕ) (e : PairAt) → i < length links → (get_or links i e).b < length taken → AreTakenMarks taken links i → AreTakenMarks (set taken (get_or links i e).b true) links (i + 1)
+marks_after taken links i e lt within m = record {
+  marked = λ k d lk. elim (cases_eq k i) [
+    | inl q ↦ rw (q, get_or_default links i d e lt, get_or-set_same taken (get_or links i e).b true false within) refl
+    | inr ne ↦ (let old = m.marked k d (omega (arith, lk, ne)) in elim (cases_eq (get_or links k d).b (get_or links i e).b) [
+      | inl same ↦ rw (same, get_or-set_same taken (get_or links i e).b true false within) refl
+      | inr other ↦ rw (get_or-set_other taken (get_or links i e).b (get_or links k d).b true false other) old
+    ])
+  ];
+  marks = λ b on. elim (cases_eq b (get_or links i e).b) [
+    | inl q ↦ (i, (omega arith, λ d. rw (get_or_default links i d e lt) (sym q)))
+    | inr ne ↦ (let old = m.marks b (rw (get_or-set_other taken (get_or links i e).b b true false ne) at on) in (old.0, (omega (arith, old.1.0), old.1.1)))
+  ];
+}
 
 -- a sum, one member on
 pub total_more : {X : Type 0} (f : X → ℤ) (xs : List X) (i : ℕ) (d : X) → i < length xs → total f (take (i + 1) xs) ≡ total f (take i xs) +ℤ f (get_or xs i d)

@@ -24,3 +24,6 @@ returns-clause-here c =
       | inl q ↦ rw q one
       | inr ne ↦ kept_after cs c.args.up.now c.unite.new.up k (k - 1) k c.requires.united before c.requires.place joined c.unite.auto.up c.unite.ensures.earlier c.unite.ensures.tops i (k - 1) (c.requires.united.shared i (k - 1) (omega arith) (omega arith) (inl (same_a_before cs c.requires.rising i k lt c.requires.place e))) ∙ one
     ]
+
+pub returns-then-candidates-k-clause-here : goal.returns-then-candidates-k-clause-here
+returns-then-candidates-k-clause-here c = λ i lt e. absurd (let same = same_a_before c.args.candidates.now c.requires.rising i c.args.k lt c.requires.place e in omega (arith, c.if-candidates-k.true, same, e))
