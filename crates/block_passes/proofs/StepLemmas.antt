@@ -41,9 +41,9 @@ numbered_more codes new code_of at kept numbered one = λ j lt. elim (cases_lt j
   | inr le ↦ let last : j ≡ at = omega (arith, lt) in subst (λ k. IsNumbered new (code_of k)) (sym last) one
 ]
 
--- the bytes of one item more
-pub joined_more : {A : Type 0} (f : A → List ℕ) (join : List A → List ℕ) → ((x : A) (xs : List A) → join (x ∷ xs) ≡ f x ++ join xs)
-    → (xs : List A) (i : ℕ) (none : A) (code new all : List ℕ) → i < length xs → code ++ join (drop i xs) ≡ all → new ≡ code ++ f (get_or xs i none) → new ++ join (drop (i + 1) xs) ≡ all
+-- what one item more gives
+pub joined_more : {A B : Type 0} (f : A → List B) (join : List A → List B) → ((x : A) (xs : List A) → join (x ∷ xs) ≡ f x ++ join xs)
+    → (xs : List A) (i : ℕ) (none : A) (code new all : List B) → i < length xs → code ++ join (drop i xs) ≡ all → new ≡ code ++ f (get_or xs i none) → new ++ join (drop (i + 1) xs) ≡ all
 joined_more f join step xs i none code new all lt told grown =
     let x = get_or xs i none in
     let rest = join (drop (i + 1) xs) in

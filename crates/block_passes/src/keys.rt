@@ -1,11 +1,11 @@
 // The key of a row in a pass.
-ghost use Rattle.std.specs.Prelude.{◌≡◌, IfOk};
+ghost use Rattle.std.specs.Prelude.{◌≡◌, ◌<◌, IfOk, length, option_map};
 ghost use Rattle.block_passes.specs.Codes.{coded_texts};
-ghost use Rattle.block_passes.specs.Keys.{AreReadable, InRange, key_in_pass};
+ghost use Rattle.block_passes.specs.Keys.{AreReadable, InRange, IsPartReadable, key_in_pass, part_key};
 
 use crate::codes::push_text;
 use crate::parts::part_text;
-use link_base::{NoMemory, Pass, Row, Text};
+use link_base::{NoMemory, Part, Pass, Row, Text};
 use std::alloc::Global;
 use std::marker::Model;
 use value_forms::bytes_of;
@@ -63,6 +63,34 @@ fn code_of(alloc: Global, texts: &[Text]) -> Result<Vec<u8>, NoMemory>
     Ok(code)
 }
 
+// The text of the part of a key that a row has.
+fn text_of(alloc: Global, row: &Row<'_>, part: Part) -> Result<Option<Text>, NoMemory>
+    requires within { part.field < length row.now }
+    requires readable { IsPartReadable row.now part }
+    ensures { IfOk result (λ text. text ≡ part_key row.now part) }
+{
+    match part_text(row, part) {
+        None => Ok(None),
+        Some(text) => Ok(Some(Text::new(alloc, bytes_of(&text))?)),
+    }
+}
+
+// The texts of the key of a row, `None` exactly where some part is missing.
+fn texts_of(alloc: Global, row: &Row<'_>, pass: &Pass) -> Result<Option<Vec<Text>>, NoMemory>
+    requires in_range { InRange row.now pass.now }
+    requires readable { AreReadable row.now pass.now }
+    ensures { IfOk result (λ texts. option_map (λ list. list.items) texts ≡ key_in_pass row.now pass.now) }
+{
+    let mut texts = Vec::new(alloc);
+    for part in pass.parts() {
+        match text_of(alloc, row, *part)? {
+            None => return Ok(None),
+            Some(text) => texts.push(text)?,
+        }
+    }
+    Ok(Some(texts))
+}
+
 /// The key of a row in a blocking pass: the list of the parts, `None` exactly where some part is
 /// missing. A part of kind `Whole` is the text of a word or the date `YYYY-MM-DD` of a day, one of
 /// kind `Soundex` or `Nysiis` the phonetic key of a word with a letter, one of kind `First` the first
@@ -72,12 +100,8 @@ pub fn pass_key(alloc: Global, row: &Row<'_>, pass: &Pass) -> Result<Option<Pass
     requires readable { AreReadable row.now pass.now }
     ensures { IfOk result (λ key. key ≡ key_in_pass row.now pass.now) }
 {
-    let mut texts = Vec::new(alloc);
-    for part in pass.parts() {
-        match part_text(row, *part) {
-            None => return Ok(None),
-            Some(text) => texts.push(Text::new(alloc, bytes_of(&text))?)?,
-        }
+    match texts_of(alloc, row, pass)? {
+        None => Ok(None),
+        Some(texts) => Ok(Some(PassKey::of(alloc, texts)?)),
     }
-    Ok(Some(PassKey::of(alloc, texts)?))
 }

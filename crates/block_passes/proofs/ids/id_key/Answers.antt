@@ -1,6 +1,14 @@
 use Rattle.std.proofs.Common.{◌∙◌, ◌≡◌, ◌++◌, ◌∷◌, [], rules}
-use Rattle.block_passes.proofs.IdLemmas.{ids-step}
+use Rattle.block_passes.specs.Ids.{id_key_in}
+use Rattle.block_passes.proofs.IdLemmas.{ids-step, no-ids}
 use Rattle.block_passes.proofs.ids.id_key.Goals as goal
+
+pub returns-in-None : goal.returns-in-None
+returns-in-None c =
+    let texts = c.args.pool.now.texts in
+    let row = c.args.row.now in
+    let parts = c.parts-part-items.result.now in
+    rw (← c.parts-part-items.ensures) (no-ids texts row parts c.loop-part.part-index c.loop-part.ids.items (id_key_in texts row parts) c.loop-part-test.true c.loop-part.invariant c.in-None.ensures)
 
 pub loop-part-preserved : goal.loop-part-preserved
 loop-part-preserved c =
