@@ -27,3 +27,7 @@ module _ {R E : Type 0} (one : List E → ℕ → R → Result E Fault) (rows : 
 -- what held of those before holds with one more
 pub all_more : {E : Type 0} (P : E → Type 0) (done new : List E) (e : E) → All P done → P e → new ≡ done ++ e ∷ [] → All P new
 all_more P done new e all here is_new = subst (All P) (sym is_new) (All-push P done e all here)
+
+-- a fault after a step that was taken
+pub refused_after : {A B : Type 0} (x : Result A Fault) (next : A → Result B Fault) (a : A) (f : Fault) → x ≡ Ok a → Refuses (next a) f → Refuses (and_then x next) f
+refused_after {A = A} x next a f told h = subst (λ (r : Result A Fault). Refuses (and_then r next) f) (sym told) h

@@ -1,7 +1,7 @@
 // The new verdicts in a file.
 ghost use Rattle.std.specs.Prelude.{◌≡◌, ◌≤◌, ◌<◌, ◌+◌, All, [], IfErr, IfOk, length, slice_index_or};
 ghost use Rattle.file_reader.specs.Left.{records_in};
-ghost use Rattle.link_base.specs.Fault.{Gives, IsAnswer, IsInputFault};
+ghost use Rattle.link_base.specs.Fault.{IsAnswer, IsInputFault};
 ghost use Rattle.link_limits.specs.declared.TheConstants.{MOST_ROWS};
 ghost use Rattle.file_reader.specs.Layout.{wanted_of};
 ghost use Rattle.file_reader.specs.Rows.{TableRow, no_row};
@@ -58,17 +58,12 @@ fn verdict_at(
 }
 
 // The new verdicts of the rows of a table.
-fn verdicts_in(
-    alloc: Global,
-    table: &Table,
-    a: &StdFile,
-    b: &StdFile,
-) -> Result<Vec<NewVerdict>, Fault>
+fn verdicts_in(alloc: Global, table: &Table, a: &StdFile, b: &StdFile) -> Result<Verdicts, Fault>
     requires width { All (λ (r : TableRow). length r.fields ≡ 3) table.now }
     requires few { length table.now ≤ MOST_ROWS }
     ensures kind { IfErr result IsInputFault }
-    ensures answer { Gives (λ rows. rows.items) (verdicts_read a.now b.now [] table.now) result }
-    ensures placed { IfOk result (λ rows. All (NamesRecords (length a.now) (length b.now)) rows.items) }
+    ensures answer { IsAnswer (verdicts_read a.now b.now [] table.now) result }
+    ensures placed { IfOk result (λ batch. All (NamesRecords (length a.now) (length b.now)) batch) }
 {
     let mut rows = Vec::new(alloc);
     for at in 0..table.rows() {
@@ -77,7 +72,7 @@ fn verdicts_in(
             Err(fault) => return Err(fault),
         }
     }
-    Ok(rows)
+    Ok(Verdicts::new(rows))
 }
 
 /// The new verdicts in a file, or its first fault.
@@ -92,12 +87,8 @@ pub fn read_verdicts(
     ensures placed { IfOk result (λ batch. All (NamesRecords (length a.now) (length b.now)) batch) }
 {
     let layout = layout(alloc)?;
-    let table = match read_table(alloc, bytes, FileRole::Verdicts, &layout) {
-        Ok(table) => table,
-        Err(fault) => return Err(fault),
-    };
-    match verdicts_in(alloc, &table, a, b) {
-        Ok(rows) => Ok(Verdicts::new(rows)),
+    match read_table(alloc, bytes, FileRole::Verdicts, &layout) {
+        Ok(table) => verdicts_in(alloc, &table, a, b),
         Err(fault) => Err(fault),
     }
 }
