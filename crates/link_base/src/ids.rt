@@ -71,10 +71,9 @@ fn keep_behind(
         rising.push(id)?;
         return Ok(None);
     }
-    let empty = TextRegion::with_capacity(alloc, 0, 0)?;
     let mut pool = pooled(alloc, rising, expected)?;
     let found = keep_in_pool(&mut pool, alloc, id)?;
-    *rising = empty;
+    *rising = TextRegion::new(alloc);
     *index = Some(pool);
     Ok(found)
 }

@@ -26,6 +26,16 @@ impl Model for TextRegion {
 }
 
 impl TextRegion {
+    /// The region of no texts, which takes no memory.
+    pub(crate) fn new(alloc: Global) -> TextRegion
+        ensures { result ≡ [] }
+    {
+        TextRegion {
+            bytes: Vec::new(alloc),
+            ends: Vec::new(alloc),
+        }
+    }
+
     /// The region of no texts, with room for so many of so many bytes together.
     pub fn with_capacity(alloc: Global, texts: usize, bytes: usize) -> Result<TextRegion, NoMemory>
         ensures { IfOk result (λ made. made ≡ []) }
