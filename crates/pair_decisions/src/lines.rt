@@ -29,7 +29,7 @@ pub fn pair_lines(
     ensures { IfOk result (λ text. text ≡ text_of_pairs (rares_of plan.now.fields) a.now b.now (shown_rows journal.now rows.now)) }
 {
     let line = usual_id_bytes(a, b).saturating_add(USUAL_END);
-    let writer = PairsWriter::with_room(alloc, &plan.shape(), rows.len().saturating_mul(line))?;
-    let written = write_rows(alloc, writer, journal, rows, a, b)?;
-    Ok(written.finish())
+    let mut writer = PairsWriter::with_room(alloc, &plan.shape(), rows.len().saturating_mul(line))?;
+    write_rows(alloc, &mut writer, journal, rows, a, b)?;
+    Ok(writer.finish())
 }

@@ -44,26 +44,43 @@ fn write_line(
     writer.push_behind(front, &shown(journal, row), ids)
 }
 
+// Writes the lines of rows, where `ids` are the ids of B as fields.
+fn write_lines(
+    writer: &mut PairsWriter,
+    front: &mut LineFront,
+    journal: &Journal,
+    rows: &[PairRow],
+    a: &StdFile,
+    ids: &IdFields,
+) -> Result<(), NoMemory>
+    requires first { writer.old.last ≡ None }
+    requires rows { AreRowsIn (length a.now) (length ids.now) (pattern_count_by writer.old.rares) rows.now }
+    ensures { (b : List Record) → ids.now ≡ id_fields b
+        → OnOk result (writer.new.text ≡ writer.old.text ++ flat_map (pair_row writer.old.rares a.now b) (shown_rows journal.now rows.now)) }
+{
+    let mut before = None;
+    for row in rows {
+        turn(front, before, a, row.at.a)?;
+        write_line(writer, front, journal, row, ids)?;
+        before = Some(row.at.a);
+    }
+    Ok(())
+}
+
 /// Writes the lines of rows.
 pub(crate) fn write_rows(
     alloc: Global,
-    mut writer: PairsWriter,
+    writer: &mut PairsWriter,
     journal: &Journal,
     rows: &[PairRow],
     a: &StdFile,
     b: &StdFile,
-) -> Result<PairsWriter, NoMemory>
-    requires first { writer.last ≡ None }
-    requires rows { AreRowsIn (length a.now) (length b.now) (pattern_count_by writer.rares) rows.now }
-    ensures { IfOk result (λ written. written.text ≡ writer.text ++ flat_map (pair_row writer.rares a.now b.now) (shown_rows journal.now rows.now)) }
+) -> Result<(), NoMemory>
+    requires first { writer.old.last ≡ None }
+    requires rows { AreRowsIn (length a.now) (length b.now) (pattern_count_by writer.old.rares) rows.now }
+    ensures { OnOk result (writer.new.text ≡ writer.old.text ++ flat_map (pair_row writer.old.rares a.now b.now) (shown_rows journal.now rows.now)) }
 {
     let ids = IdFields::of(alloc, b)?;
     let mut front = LineFront::new(alloc);
-    let mut before = None;
-    for row in rows {
-        turn(&mut front, before, a, row.at.a)?;
-        write_line(&mut writer, &front, journal, row, &ids)?;
-        before = Some(row.at.a);
-    }
-    Ok(writer)
+    write_lines(writer, &mut front, journal, rows, a, &ids)
 }

@@ -19,4 +19,4 @@ returns c =
     let b = c.args.b.now in
     let fields = c.args.plan.now.fields in
     let rares : c.in_ok-writer.writer.rares ≡ rares_of fields = c.in_ok-writer.ensures.rares ∙ shape_rares fields c.shape.result c.shape.ensures.fields c.shape.ensures.rare in
-    c.finish.ensures ∙ c.in_ok-written.ensures ∙ (λ i. c.in_ok-writer.ensures.text i ++ flat_map (pair_row (rares i) a b) (shown_rows c.args.journal.now c.args.rows.now))
+    c.finish.ensures ∙ c.in_ok-write_rows.ensures ∙ (λ i. c.in_ok-writer.ensures.text i ++ flat_map (pair_row (rares i) a b) (shown_rows c.args.journal.now c.args.rows.now))

@@ -1,10 +1,14 @@
-use Rattle.std.proofs.Common.{◌≡◌, ◌<◌, ◌∙◌, Option, Some, None, ap, arith, get_or, length, subst, sym}
+use Rattle.std.proofs.Common.{◌≡◌, ◌<◌, ◌∙◌, Option, Some, None, ap, arith, get_or, length, subst, sym, take}
 use Rattle.std.specs.Prelude.{is_some, option_map}
+use Rattle.std.proofs.lemmas.List.{take_all}
 use Rattle.link_base.specs.declared.shares.FieldShares.{FieldShares}
 use Rattle.link_plan.specs.Plan.{FieldKeys, plain_shares}
 use Rattle.link_plan.specs.Ranges.{IsField}
+use Rattle.patterns.specs.Chances.{rare_in}
+use Rattle.pair_decisions.specs.Comparators.{rares_of}
+use Rattle.pair_decisions.specs.PlanShares.{given_in}
 use Rattle.pair_decisions.proofs.ListSteps.{made_more}
-use Rattle.pair_decisions.proofs.ShareLemmas.{is_given, kept_more, rare_given}
+use Rattle.pair_decisions.proofs.ShareLemmas.{as_many_shares, is_given, kept_more, rare_given}
 use Rattle.pair_decisions.proofs.plan_shares.given_shares.Goals.{in-Some+in_ok-push, in_default}
 use Rattle.pair_decisions.proofs.plan_shares.given_shares.Goals as goal
 
@@ -27,3 +31,16 @@ loop-field-preserved c =
           let none : field.shares ≡ None = sym seen ∙ ap (λ (o : Option FieldShares). option_map plain_shares o) w.in_default.is in
           absurd (is_given c.args.plan.now.sample field c.requires.no_sample of none)
     ]
+
+pub returns : goal.returns
+returns c =
+    let fields = c.args.plan.now.fields in
+    let all : take c.loop-field.field-index fields ≡ fields = take_all c.loop-field.field-index fields (omega (arith, c.loop-field-test.false, ap length c.fields-field-items.ensures.all)) in
+    let rares : rare_in c.loop-field.all.items ≡ rares_of fields = c.loop-field.invariant.rares ∙ ap rares_of all in
+    let as_many = as_many_shares c.loop-field.all.items fields rares in
+    record {
+      shares = c.loop-field.invariant.shares ∙ ap given_in all;
+      rares = rares;
+      some = omega (arith, as_many, c.requires.ranges.some_fields);
+      few = omega (arith, as_many, c.requires.ranges.few_fields);
+    }
