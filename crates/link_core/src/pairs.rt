@@ -1,8 +1,10 @@
 // The compared pairs of a plan.
-ghost use Rattle.std.specs.Prelude.{◌≡◌, All, IfErr, Ok, length};
+ghost use Rattle.std.specs.Prelude.{◌≡◌, ◌++◌, All, IfErr, IfOk, List, Ok, OnOk, length};
+ghost use Rattle.std.specs.List.{flat_map};
 ghost use Rattle.link_base.specs.Answers.{and_then};
-ghost use Rattle.link_base.specs.Fault.{IsAnswer, IsInputFault};
-ghost use Rattle.link_report.specs.Lines.{ids_text};
+ghost use Rattle.link_base.specs.Fault.{IsAnswer, IsInputFault, Refuses};
+ghost use Rattle.link_base.specs.Standard.{Record};
+ghost use Rattle.link_report.specs.Lines.{id_fields, ids_line, ids_text};
 ghost use Rattle.pair_decisions.specs.Pairs.{IsInside, pairs_within};
 ghost use Rattle.link_core.specs.Pairs.{ids_of_prepared};
 ghost use Rattle.link_core.specs.Rules.{IsPreparedFor};
@@ -22,13 +24,35 @@ fn usual_bytes(walker: &Walker<'_>, a: &StdFile, b: &StdFile) -> usize {
     pairs.saturating_mul(usual_id_bytes(a, b).saturating_add(2))
 }
 
-// The ids of the pairs of the rows that a new walker gives.
-fn ids_of_rows(
+// Appends the ids of the pairs of the rows that a new walker gives, where `ids` are the ids of B as fields.
+fn push_rows(
     alloc: Global,
     mut walker: Walker<'_>,
+    writer: &mut IdsWriter,
     a: &StdFile,
-    b: &StdFile,
-) -> Result<Text, Fault>
+    ids: &IdFields,
+) -> Result<(), Fault>
+    requires given { walker.given ≡ 0 }
+    requires inside { All (IsInside (length a.now) (length ids.now)) (pairs_of_rows walker.left) }
+    ensures kind { IfErr result IsInputFault }
+    ensures refused { IfErr result (Refuses (pairs_within (pairs_of_rows walker.entry.left))) }
+    ensures within { IfOk result (λ _. pairs_within (pairs_of_rows walker.entry.left) ≡ Ok (pairs_of_rows walker.entry.left)) }
+    ensures text { (b : List Record) → ids.now ≡ id_fields b
+        → OnOk result (writer.new ≡ writer.old ++ flat_map (ids_line a.now b) (pairs_of_rows walker.entry.left)) }
+{
+    let mut row = RowPairs::new(alloc);
+    'rows: loop {
+        match walker.next_row(alloc, &mut row) {
+            Err(WalkFault::TooManyPairs { limit }) => return Err(Fault::TooManyPairs { limit }),
+            Err(WalkFault::NoMemory) => return Err(Fault::NoMemory),
+            Ok(false) => return Ok(()),
+            Ok(true) => writer.push_row(row.a, &row.bs, a, ids)?,
+        }
+    }
+}
+
+// The ids of the pairs of the rows that a new walker gives.
+fn ids_of_rows(alloc: Global, walker: Walker<'_>, a: &StdFile, b: &StdFile) -> Result<Text, Fault>
     requires given { walker.given ≡ 0 }
     requires inside { All (IsInside (length a.now) (length b.now)) (pairs_of_rows walker.left) }
     ensures kind { IfErr result IsInputFault }
@@ -36,14 +60,9 @@ fn ids_of_rows(
 {
     let ids = IdFields::of(alloc, b)?;
     let mut writer = IdsWriter::with_room(alloc, usual_bytes(&walker, a, b))?;
-    let mut row = RowPairs::new(alloc);
-    'rows: loop {
-        match walker.next_row(alloc, &mut row) {
-            Err(WalkFault::TooManyPairs { limit }) => return Err(Fault::TooManyPairs { limit }),
-            Err(WalkFault::NoMemory) => return Err(Fault::NoMemory),
-            Ok(false) => return Ok(writer.finish()),
-            Ok(true) => writer.push_row(row.a, &row.bs, a, &ids)?,
-        }
+    match push_rows(alloc, walker, &mut writer, a, &ids) {
+        Ok(()) => Ok(writer.finish()),
+        Err(fault) => Err(fault),
     }
 }
 
