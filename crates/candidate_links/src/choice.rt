@@ -113,6 +113,40 @@ fn prices_of_b(alloc: Global, solved: &Assignment, rows: u32) -> Result<Vec<i64>
     Ok(prices)
 }
 
+// The links and the prices of an answer, the candidates that are not among the links, and what the links are worth.
+fn chosen_of(
+    alloc: Global,
+    candidates: &[Candidate],
+    solved: &Assignment,
+    rows_a: u32,
+    rows_b: u32,
+) -> Result<ChosenLinks, NoMemory>
+    requires rising { AllPairs IsBefore candidates.now }
+    requires links_rise { AllPairs IsBefore solved.now.links }
+    requires among { All (Contains candidates.now) solved.now.links }
+    requires few { length solved.now.links ≤ MOST_PAIRS }
+    requires rows_a { length solved.now.prices_a ≡ rows_a }
+    requires rows_b { length solved.now.prices_b ≡ rows_b }
+    ensures links { IfOk result (λ c. c.links.items ≡ solved.now.links) }
+    ensures prices_a { IfOk result (λ c. c.prices_a.items ≡ solved.now.prices_a) }
+    ensures prices_b { IfOk result (λ c. c.prices_b.items ≡ solved.now.prices_b) }
+    ensures dropped { IfOk result (λ c. c.dropped.items ≡ dropped_of candidates.now solved.now.links) }
+    ensures total { IfOk result (λ c. c.total ≡ worth solved.now.links) }
+{
+    let links = Vec::from_slice(alloc, solved.links())?;
+    let prices_a = prices_of_a(alloc, solved, rows_a)?;
+    let prices_b = prices_of_b(alloc, solved, rows_b)?;
+    let dropped = dropped_of(alloc, candidates, solved.links())?;
+    let total = worth(solved.links());
+    Ok(ChosenLinks {
+        links,
+        prices_a,
+        prices_b,
+        dropped,
+        total,
+    })
+}
+
 /// The greatest one-to-one links among at most [`MOST_PAIRS`] candidates that rise strictly by record of A, then of B, with the
 /// prices that certify them. Each price is at least 0 and at most the greatest of 0 and the candidates' values.
 pub fn choose_links(
@@ -137,16 +171,7 @@ pub fn choose_links(
     prices_are_bounded();
     let assigner = Assigner::new(alloc, rows_a, rows_b, candidates)?;
     let solved = assigner.solve();
-    let links = Vec::from_slice(alloc, solved.links())?;
-    let prices_a = prices_of_a(alloc, &solved, rows_a)?;
-    let prices_b = prices_of_b(alloc, &solved, rows_b)?;
-    let dropped = dropped_of(alloc, candidates, &links)?;
-    let total = worth(&links);
-    Ok(ChosenLinks {
-        links,
-        prices_a,
-        prices_b,
-        dropped,
-        total,
-    })
+    let chosen = chosen_of(alloc, candidates, &solved, rows_a, rows_b);
+    drop(solved);
+    chosen
 }

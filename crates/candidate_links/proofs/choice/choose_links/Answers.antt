@@ -1,52 +1,66 @@
-use Rattle.std.proofs.Common.{◌≡◌, ◌∙◌, ℕ, List, ℤ, subst, sym, ap, arith, length, pos}
-use Rattle.std.specs.Prelude.{All, AllPairs, Contains, ◌≤ℤ◌}
+use Rattle.std.proofs.Common.{◌≡◌, ◌∙◌, ℕ, List, ℤ, Result, Ok, Err, subst, ap, arith, length, pos, sym}
+use Rattle.std.specs.Prelude.{All, Contains, IfOk, ◌≤ℤ◌}
 use Rattle.std.proofs.lemmas.List.{get_or_default}
-use Rattle.price_check.specs.Assignment.{IsBefore, greatest_value, price_of}
+use Rattle.price_check.specs.Assignment.{Certifies, IsGreatest, greatest_value, price_of, worth}
 use Rattle.link_base.specs.declared.rule.Candidate.{Candidate}
 use Rattle.candidate_links.proofs.PassLemmas.{not_more}
+use Rattle.candidate_links.specs.Choice.{dropped_of}
+use Rattle.candidate_links.specs.declared.choice.ChosenLinks.{ChosenLinks}
 use Rattle.candidate_links.proofs.choice.choose_links.Goals as goal
 
-pub dropped_of-requires-clause-links_rise : goal.dropped_of-requires-clause-links_rise
-dropped_of-requires-clause-links_rise c =
-    let same : c.deref.result.now ≡ c.solve-solved.result.links = c.deref.ensures.value ∙ c.in_ok-links.ensures.items ∙ c.links.ensures in
-    subst (λ (ls : List Candidate). AllPairs IsBefore ls) (sym same) c.solve-solved.ensures.greatest.one_to_one.rising
+-- what holds of links and prices holds of their copies
+of_chosen : {E : Type 0} (P : List Candidate → List ℤ → List ℤ → Type 0) (links : List Candidate) (ps qs : List ℤ) (r : Result ChosenLinks E) → IfOk r (λ c. c.links.items ≡ links)
+    → IfOk r (λ c. c.prices_a.items ≡ ps) → IfOk r (λ c. c.prices_b.items ≡ qs) → P links ps qs → IfOk r (λ c. P c.links.items c.prices_a.items c.prices_b.items)
+of_chosen P links ps qs (Ok c) l a b h = rw (l, a, b) h
+of_chosen P links ps qs (Err e) l a b h = tt
 
-pub dropped_of-requires-clause-among : goal.dropped_of-requires-clause-among
-dropped_of-requires-clause-among c =
-    let same : c.deref.result.now ≡ c.solve-solved.result.links = c.deref.ensures.value ∙ c.in_ok-links.ensures.items ∙ c.links.ensures in
-    let given : All (Contains c.in_ok-assigner.assigner.candidates) c.solve-solved.result.links = c.solve-solved.ensures.greatest.one_to_one.among in
-    let of_given : All (Contains c.args.candidates.now) c.solve-solved.result.links = subst (λ (cs : List Candidate). All (Contains cs) c.solve-solved.result.links) c.in_ok-assigner.ensures.candidates given in
-    subst (λ (ls : List Candidate). All (Contains c.args.candidates.now) ls) (sym same) of_given
-
-pub worth-total-requires : goal.worth-total-requires
-worth-total-requires c =
-    let same : c.deref-2.result.now ≡ c.solve-solved.result.links = c.deref-2.ensures.value ∙ c.in_ok-links.ensures.items ∙ c.links.ensures in
-    let one = c.solve-solved.ensures.greatest.one_to_one in
-    let cs : c.in_ok-assigner.assigner.candidates ≡ c.args.candidates.now = c.in_ok-assigner.ensures.candidates in
-    let among : All (Contains c.args.candidates.now) c.solve-solved.result.links = subst (λ (all : List Candidate). All (Contains all) c.solve-solved.result.links) cs one.among in
-    let few = not_more c.args.candidates.now c.solve-solved.result.links (record { rising = c.requires.rising; links_rise = one.rising; among = among }) in
-    omega (arith, ap length same, few, c.requires.count)
+-- what is told of the links is told of their copies
+told_of : {E X : Type 0} (of : List Candidate → X) (seen : ChosenLinks → X) (links : List Candidate) (r : Result ChosenLinks E) → IfOk r (λ c. c.links.items ≡ links)
+    → IfOk r (λ c. seen c ≡ of links) → IfOk r (λ c. seen c ≡ of c.links.items)
+told_of of seen links (Ok c) l h = h ∙ ap of (sym l)
+told_of of seen links (Err e) l h = tt
 
 -- no price is above the greatest value of the candidates
 priced : (prices : List ℤ) (most : ℤ) → ((position : ℕ) → price_of prices position ≤ℤ most) → All (λ price. price ≤ℤ most) prices
 priced prices most bound k d lt = subst (λ (price : ℤ). price ≤ℤ most) (get_or_default prices k (pos 0) d lt) (bound k)
 
-pub returns-clause-most_a : goal.returns-clause-most_a
-returns-clause-most_a c =
-    let solved = c.solve-solved.result in
-    let given = c.in_ok-assigner.assigner.candidates in
-    let bound : (position : ℕ) → price_of solved.prices_a position ≤ℤ greatest_value given = λ position.
-    (c.prices_are_bounded.ensures.by_candidates given solved.links solved.prices_a solved.prices_b c.solve-solved.ensures.greatest.one_to_one c.solve-solved.ensures.certified position).0 in
-    let all : All (λ price. price ≤ℤ greatest_value given) solved.prices_a = priced solved.prices_a (greatest_value given) bound in
-    let P : List Candidate → Type 0 = λ cs. All (λ price. price ≤ℤ greatest_value cs) c.in_ok-prices_a.prices_a.items in
-    subst P c.in_ok-assigner.ensures.candidates (subst (λ (ps : List ℤ). All (λ price. price ≤ℤ greatest_value given) ps) (sym c.in_ok-prices_a.ensures) all)
+pub chosen_of-chosen-requires : goal.chosen_of-chosen-requires
+chosen_of-chosen-requires c =
+    let cs = c.args.candidates.now in
+    let made = c.in_ok-assigner.ensures in
+    let s = c.solve-solved.ensures in
+    let links = c.solve-solved.result.links in
+    let among : All (Contains cs) links = subst (λ (all : List Candidate). All (Contains all) links) made.candidates s.greatest.one_to_one.among in
+    let few = not_more cs links (record { rising = c.requires.rising; links_rise = s.greatest.one_to_one.rising; among = among }) in
+    record {
+      rising = c.requires.rising;
+      links_rise = s.greatest.one_to_one.rising;
+      among = among;
+      few = omega (arith, few, c.requires.count);
+      rows_a = s.rows_a ∙ made.rows_a;
+      rows_b = s.rows_b ∙ made.rows_b;
+    }
 
-pub returns-clause-most_b : goal.returns-clause-most_b
-returns-clause-most_b c =
+pub returns : goal.returns
+returns c =
+    let cs = c.args.candidates.now in
+    let made = c.in_ok-assigner.ensures in
+    let s = c.solve-solved.ensures in
     let solved = c.solve-solved.result in
-    let given = c.in_ok-assigner.assigner.candidates in
-    let bound : (position : ℕ) → price_of solved.prices_b position ≤ℤ greatest_value given = λ position.
-    (c.prices_are_bounded.ensures.by_candidates given solved.links solved.prices_a solved.prices_b c.solve-solved.ensures.greatest.one_to_one c.solve-solved.ensures.certified position).1 in
-    let all : All (λ price. price ≤ℤ greatest_value given) solved.prices_b = priced solved.prices_b (greatest_value given) bound in
-    let P : List Candidate → Type 0 = λ cs. All (λ price. price ≤ℤ greatest_value cs) c.in_ok-prices_b.prices_b.items in
-    subst P c.in_ok-assigner.ensures.candidates (subst (λ (ps : List ℤ). All (λ price. price ≤ℤ greatest_value given) ps) (sym c.in_ok-prices_b.ensures) all)
+    let r = c.chosen_of-chosen.result in
+    let e = c.chosen_of-chosen.ensures in
+    let greatest : IsGreatest cs solved.links = subst (λ (all : List Candidate). IsGreatest all solved.links) made.candidates s.greatest in
+    let certified : Certifies cs solved.links solved.prices_a solved.prices_b = subst (λ (all : List Candidate). Certifies all solved.links solved.prices_a solved.prices_b) made.candidates s.certified in
+    let bound = c.prices_are_bounded.ensures.by_candidates cs solved.links solved.prices_a solved.prices_b greatest.one_to_one certified in
+    let most_a : All (λ price. price ≤ℤ greatest_value cs) solved.prices_a = priced solved.prices_a (greatest_value cs) (λ position. (bound position).0) in
+    let most_b : All (λ price. price ≤ℤ greatest_value cs) solved.prices_b = priced solved.prices_b (greatest_value cs) (λ position. (bound position).1) in
+    record {
+      greatest = of_chosen (λ links ps qs. IsGreatest cs links) _ _ _ r e.links e.prices_a e.prices_b greatest;
+      certified = of_chosen (λ links ps qs. Certifies cs links ps qs) _ _ _ r e.links e.prices_a e.prices_b certified;
+      rows_a = of_chosen (λ links ps qs. length ps ≡ c.args.rows_a) _ _ _ r e.links e.prices_a e.prices_b (s.rows_a ∙ made.rows_a);
+      rows_b = of_chosen (λ links ps qs. length qs ≡ c.args.rows_b) _ _ _ r e.links e.prices_a e.prices_b (s.rows_b ∙ made.rows_b);
+      dropped = told_of (dropped_of cs) (λ k. k.dropped.items) solved.links r e.links e.dropped;
+      total = told_of worth (λ k. k.total) solved.links r e.links e.total;
+      most_a = of_chosen (λ links ps qs. All (λ price. price ≤ℤ greatest_value cs) ps) _ _ _ r e.links e.prices_a e.prices_b most_a;
+      most_b = of_chosen (λ links ps qs. All (λ price. price ≤ℤ greatest_value cs) qs) _ _ _ r e.links e.prices_a e.prices_b most_b;
+    }
