@@ -1,5 +1,6 @@
 -- Written files step by step: what is left to verify after the steps that found nothing.
-use Rattle.std.proofs.Common.{◌≡◌, ◌∙◌, ℕ, Bool, List, Ok, Err, Result, ap, sym, subst}
+use Rattle.std.proofs.Common.{◌≡◌, ◌∙◌, ℕ, Bool, List, Option, Some, None, Ok, Err, Result, ap, sym, subst}
+use Rattle.std.specs.Prelude.{IfOk, IfSome}
 use Rattle.std.specs.Result.{IsErrAnd}
 use Rattle.link_base.specs.Answers.{and_then, RefusesBut}
 use Rattle.link_base.specs.Standard.{Record}
@@ -49,3 +50,9 @@ module _ (rares : List Bool) (cells : List RuleCell) (cs : List Candidate) (a b 
       → verified rares cells cs a b texts ≡ sums_verified cs links prices
   after_prices text links same prices e f g h =
       after_apart text links same e f g ∙ ap (λ (r : Result PricePair Refutation). and_then r (λ (p : PricePair). sums_verified cs links p)) h
+
+-- what follows for what is given, where something is
+pub given_weaker : {X E : Type 0} (r : Result (Option X) E) (P Q : X → Type 0) → ((x : X) → P x → Q x) → IfOk r (λ given. IfSome given P) → IfOk r (λ given. IfSome given Q)
+given_weaker (Ok (Some x)) P Q follows h = follows x h
+given_weaker (Ok None) P Q follows h = tt
+given_weaker (Err e) P Q follows h = tt

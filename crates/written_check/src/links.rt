@@ -8,7 +8,7 @@ ghost use Rattle.link_report.specs.Reading.{same_row};
 ghost use Rattle.written_check.specs.LinkRows.{IsPlaceOf, IsPlaceWithIds, after_all, at_place, candidate_in, has_ids, goes_before, links_in, links_verified};
 ghost use Rattle.written_check.specs.Refuted.{IsOfRows, Verifies};
 
-use crate::refutation::Refutation;
+use crate::refutation::{Refutation, unless_refuted};
 use csv::ByteRecord;
 use file_reader::Records;
 use itoa::Buffer;
@@ -190,11 +190,7 @@ fn links_in_order(
     let Some(mut rows) = links_begun(alloc, text)? else {
         return Ok(None);
     };
-    match links_of_rows(alloc, &mut rows, candidates, a, b) {
-        Ok(links) => Ok(Some(links)),
-        Err(Refutation::NoMemory) => Err(NoMemory),
-        Err(_) => Ok(None),
-    }
+    unless_refuted(links_of_rows(alloc, &mut rows, candidates, a, b))
 }
 
 // The links of a text whose form is tested before its rows, as reasons go.

@@ -7,7 +7,7 @@ ghost use Rattle.written_check.specs.PricesSeen.{prices_seen};
 ghost use Rattle.written_check.specs.Refuted.{IsOfRows, Verifies};
 
 use crate::near::position_near;
-use crate::refutation::Refutation;
+use crate::refutation::{Refutation, unless_refuted};
 use csv::ByteRecord;
 use csv_rows::read_decimal;
 use file_reader::Records;
@@ -182,11 +182,7 @@ fn prices_in_order(
     let Some(mut rows) = prices_begun(alloc, text)? else {
         return Ok(None);
     };
-    match prices_of_rows(alloc, &mut rows, a, b) {
-        Ok(prices) => Ok(Some(prices)),
-        Err(Refutation::NoMemory) => Err(NoMemory),
-        Err(_) => Ok(None),
-    }
+    unless_refuted(prices_of_rows(alloc, &mut rows, a, b))
 }
 
 // The prices of a text whose form is tested before its rows, as reasons go.

@@ -1,4 +1,6 @@
 // Why written files are refuted.
+ghost use Rattle.std.specs.Prelude.{◌≡◌, IfOk, IfSome, Ok};
+
 use link_base::{NoMemory, PairAt};
 use std::alloc::AllocFailed;
 
@@ -41,5 +43,16 @@ impl<T: Drop> From<AllocFailed<T>> for Refutation {
 
     fn from(_: AllocFailed<T>) -> Refutation {
         Refutation::NoMemory
+    }
+}
+
+/// What rows give, or nothing where a reason refutes them.
+pub(crate) fn unless_refuted<T: Drop>(answer: Result<T, Refutation>) -> Result<Option<T>, NoMemory>
+    ensures { IfOk result (λ given. IfSome given (λ x. answer ≡ Ok x)) }
+{
+    match answer {
+        Ok(given) => Ok(Some(given)),
+        Err(Refutation::NoMemory) => Err(NoMemory),
+        Err(_) => Ok(None),
     }
 }
