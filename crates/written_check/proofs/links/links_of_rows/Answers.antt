@@ -25,3 +25,18 @@ rows-preserved c =
           c.rows.invariant.told ∙ ap (links_in cs a b taken) took ∙ link_taken taken cs a b row c.next.new.self link next
           ∙ ap (λ (l : List Candidate). links_in cs a b l c.next.new.self) (sym pushed);
     }
+
+pub next_link-requires : goal.next_link-requires
+next_link-requires c = record {
+  taken = subst (λ (l : List Candidate). AllPairs IsBefore l) (sym c.deref.ensures.value) c.rows.invariant.rising;
+  rising = c.requires.rising;
+  within = c.requires.within;
+}
+
+pub returns : goal.returns
+returns c =
+    let ended : c.rows.rows ≡ [] = search rules in
+    record {
+      kind = _;
+      answer = c.rows.invariant.told ∙ ap (links_in c.args.candidates.now c.args.a.now c.args.b.now c.rows.links.items) ended;
+    }
