@@ -1,5 +1,6 @@
 pub mod ChainLemmas
 pub mod EqualLemmas
+pub mod FrontLemmas
 pub mod HashLemmas
 pub mod PlaceLemmas
 pub mod RegionLemmas

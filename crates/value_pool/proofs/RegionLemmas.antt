@@ -12,7 +12,7 @@ use Rattle.std.proofs.lemmas.Slice.Eq.{bytes_eq-Decides}
 use Rattle.std.proofs.lemmas.Grind.{common_steps}
 use Rattle.value_pool.specs.declared.chains.Slot.{Slot}
 use Rattle.value_pool.specs.Texts.{stands_among}
-use Rattle.value_pool.specs.Region.{IsSlotWithin, most_texts, texts_at}
+use Rattle.value_pool.specs.Region.{IsSlotWithin, front_of, most_texts, texts_at}
 
 pub found_at : (bytes : List ℕ) (slots : List Slot) (i : ℕ) (s : Slot) (text : List ℕ) → i < length slots → s ≡ get_or slots i s → slice_range bytes s.start s.end ≡ text → slice_get (texts_at bytes slots) i ≡ Some text
 found_at bytes [] i s text h e r = absurd (omega arith)
@@ -24,7 +24,7 @@ read-append bytes more a b h k =
     let rest : b - a ≤ length (drop a bytes) = simp length-drop (omega arith) in
     ap (take (b - a)) (drop-append-le a bytes more (omega arith)) ∙ take-append-le (b - a) (drop a bytes) more rest
 
-pub texts-append : (bytes more : List ℕ) (slots : List Slot) → All (IsSlotWithin (length bytes)) slots → texts_at (bytes ++ more) slots ≡ texts_at bytes slots
+pub texts-append : (bytes more : List ℕ) (slots : List Slot) → All (IsSlotWithin bytes) slots → texts_at (bytes ++ more) slots ≡ texts_at bytes slots
 texts-append bytes more [] h = refl
 texts-append bytes more (s ∷ ss) h =
     let here = h 0 s (omega arith) in
@@ -38,7 +38,7 @@ map-push bytes (x ∷ xs) s = ap (λ ts. slice_range bytes x.start x.end ∷ ts)
 read-last : (bytes text : List ℕ) (a b : ℕ) → a ≡ length bytes → b ≡ a + length text → slice_range (bytes ++ text) a b ≡ text
 read-last bytes text a b e f = grind (arith, common_steps)
 
-pub texts-push : (bytes text : List ℕ) (slots : List Slot) (s : Slot) → All (IsSlotWithin (length bytes)) slots → s.start ≡ length bytes → s.end ≡ length bytes + length text → texts_at (bytes ++ text) (slots ++ s ∷ []) ≡ texts_at bytes slots ++ text ∷ []
+pub texts-push : (bytes text : List ℕ) (slots : List Slot) (s : Slot) → All (IsSlotWithin bytes) slots → s.start ≡ length bytes → s.end ≡ length bytes + length text → texts_at (bytes ++ text) (slots ++ s ∷ []) ≡ texts_at bytes slots ++ text ∷ []
 texts-push bytes text slots s h e f =
     map-push (bytes ++ text) slots s ∙ (λ i. texts-append bytes text slots h i ++ read-last bytes text s.start s.end e (f ∙ ap (λ n. n + length text) (sym e)) i ∷ [])
 
@@ -73,27 +73,33 @@ most-push n bytes texts (x ∷ xs) h fresh = rw (list_any-append (λ text. bytes
     by_other true k = omega arith
     by_other false k = omega arith
 
-pub within-push : (bytes more : ℕ) (slots : List Slot) (s : Slot) → All (IsSlotWithin bytes) slots → s.start ≡ bytes → s.end ≡ bytes + more → All (IsSlotWithin (bytes + more)) (slots ++ s ∷ [])
-within-push bytes more slots s h e f =
-    let before : All (IsSlotWithin (bytes + more)) slots = λ k d within. let old = h k d within in record { ordered = old.ordered; within = omega arith } in
-    All-push (IsSlotWithin (bytes + more)) slots s before (record { ordered = omega arith; within = omega arith })
+pub within-push : (bytes text : List ℕ) (slots : List Slot) (s : Slot) → All (IsSlotWithin bytes) slots → s.start ≡ length bytes → s.end ≡ length bytes + length text → s.front ≡ front_of text → All (IsSlotWithin (bytes ++ text)) (slots ++ s ∷ [])
+within-push bytes text slots s h e f g =
+    let longer = length-append bytes text in
+    let before : All (IsSlotWithin (bytes ++ text)) slots = λ k d within.
+    let old = h k d within in
+    let slot = get_or slots k d in
+    record { ordered = old.ordered; within = omega (arith, longer, old.within); front = old.front ∙ ap front_of (sym (read-append bytes text slot.start slot.end old.ordered old.within)) } in
+    let own : IsSlotWithin (bytes ++ text) s =
+    record { ordered = omega arith; within = omega (arith, longer); front = g ∙ ap front_of (sym (read-last bytes text s.start s.end e (f ∙ ap (λ n. n + length text) (sym e)))) } in
+    All-push (IsSlotWithin (bytes ++ text)) slots s before own
 
 -- what holds of a region after one text more
 pub record IsAppended (bytes text : List ℕ) (slots : List Slot) (bytes' : List ℕ) (slots' : List Slot) : Type 0 where
   pub texts : texts_at bytes' slots' ≡ texts_at bytes slots ++ text ∷ []
-  pub within : All (IsSlotWithin (length bytes')) slots'
+  pub within : All (IsSlotWithin bytes') slots'
   pub distinct : AllPairs (λ a b. a ≢ b) (texts_at bytes' slots')
   pub most : length slots' ≤ most_texts (length bytes') (texts_at bytes' slots')
   pub texts_sum : sum_by length (texts_at bytes slots) ≡ length bytes → sum_by length (texts_at bytes' slots') ≡ length bytes'
 
-pub appended : (bytes text : List ℕ) (slots : List Slot) (s : Slot) (bytes' : List ℕ) (slots' : List Slot) → All (IsSlotWithin (length bytes)) slots → AllPairs (λ a b. a ≢ b) (texts_at bytes slots) → length slots ≤ most_texts (length bytes) (texts_at bytes slots) → list_any (λ held. bytes_eq held text) (texts_at bytes slots) ≡ false → s.start ≡ length bytes → s.end ≡ length bytes + length text → bytes' ≡ bytes ++ text → slots' ≡ slots ++ s ∷ [] → IsAppended bytes text slots bytes' slots'
-appended bytes text slots s bytes' slots' h distinct most fresh e f is_bytes is_slots =
+pub appended : (bytes text : List ℕ) (slots : List Slot) (s : Slot) (bytes' : List ℕ) (slots' : List Slot) → All (IsSlotWithin bytes) slots → AllPairs (λ a b. a ≢ b) (texts_at bytes slots) → length slots ≤ most_texts (length bytes) (texts_at bytes slots) → list_any (λ held. bytes_eq held text) (texts_at bytes slots) ≡ false → s.start ≡ length bytes → s.end ≡ length bytes + length text → s.front ≡ front_of text → bytes' ≡ bytes ++ text → slots' ≡ slots ++ s ∷ [] → IsAppended bytes text slots bytes' slots'
+appended bytes text slots s bytes' slots' h distinct most fresh e f g is_bytes is_slots =
     let is_texts : texts_at bytes' slots' ≡ texts_at bytes slots ++ text ∷ [] = rw (is_bytes, is_slots) (texts-push bytes text slots s h e f) in
     let long : length bytes' ≡ length bytes + length text = ap length is_bytes ∙ length-append bytes text in
     let many : length slots' ≡ length slots + 1 = ap length is_slots ∙ length-append slots (s ∷ []) in
     record {
       texts = is_texts;
-      within = rw (long, is_slots) (within-push (length bytes) (length text) slots s h e f);
+      within = rw (is_bytes, is_slots) (within-push bytes text slots s h e f g);
       distinct = rw is_texts (distinct-push (texts_at bytes slots) text distinct fresh);
       most = rw (many, long, is_texts) (most-push (length slots) (length bytes) (texts_at bytes slots) text most fresh);
       texts_sum = λ before. ap (sum_by length) is_texts ∙ sum_by_push length (texts_at bytes slots) text ∙ ap (λ n. n + length text) before ∙ sym long;

@@ -13,7 +13,7 @@ texts_count bytes slots = length-map slots (λ (s : Slot). slice_range bytes s.s
 
 -- the same texts in other chains
 pub anew : (old new : Table) (slots : List Slot) (heads : List ℕ) → IsTable old → new.bytes.items ≡ old.bytes.items → new.slots.items ≡ slots → new.heads.items ≡ heads
-    → texts_at old.bytes.items slots ≡ texts_of old → All (IsSlotWithin (length old.bytes.items)) slots
+    → texts_at old.bytes.items slots ≡ texts_of old → All (IsSlotWithin old.bytes.items) slots
     → IsHashed new.key (texts_at old.bytes.items slots) (hashes_of slots) → IsChained heads (hashes_of slots) (nexts_of slots) → IsTable new
 anew old new slots heads h bytes is_slots is_heads same within hashed chained =
     let texts : texts_of new ≡ texts_of old = (λ i. texts_at (bytes i) (is_slots i)) ∙ same in

@@ -33,7 +33,7 @@ state_of limit table = record {
 
 -- distinct texts that fill the bytes, each with its hash and in the chain of its bucket
 pub record IsTable (table : Table) : Type 0 where
-  pub within : All (IsSlotWithin (length table.bytes.items)) table.slots.items
+  pub within : All (IsSlotWithin table.bytes.items) table.slots.items
   pub distinct : AllPairs (λ a b. a ≢ b) (texts_of table)
   pub few : length table.slots.items ≤ most_texts (length table.bytes.items) (texts_of table)
   pub chained : IsChained table.heads.items (hashes_of table.slots.items) (nexts_of table.slots.items)

@@ -8,7 +8,7 @@ use crate::hashes::HashKey;
 use link_texts::NoMemory;
 use std::alloc::Global;
 
-/// Where a text stands among the bytes, its hash, and what its chain goes on with.
+/// Where a text stands among the bytes, its hash, its front, and what its chain goes on with.
 #[derive(Clone, Copy)]
 pub(crate) struct Slot {
     pub(crate) start: u32,
@@ -16,6 +16,7 @@ pub(crate) struct Slot {
     /// One more than the place before it in its chain, or 0.
     pub(crate) next: u32,
     pub(crate) hash: u32,
+    pub(crate) front: u64,
 }
 
 /// The bucket of a hash: its low bits, since the buckets are a power of 2.
@@ -48,9 +49,9 @@ fn clear(heads: &mut [u32])
 
 // Gives each text its hash by another key.
 fn rehash(key: HashKey, bytes: &[u8], slots: &mut [Slot])
-    requires { All (IsSlotWithin (length bytes.now)) slots.old }
+    requires { All (IsSlotWithin bytes.now) slots.old }
     ensures texts { texts_at bytes.now slots.new ≡ texts_at bytes.now slots.old }
-    ensures within { All (IsSlotWithin (length bytes.now)) slots.new }
+    ensures within { All (IsSlotWithin bytes.now) slots.new }
     ensures hashed { IsHashed key (texts_at bytes.now slots.new) (hashes_of slots.new) }
 {
     for place in 0..slots.len() {
@@ -58,6 +59,7 @@ fn rehash(key: HashKey, bytes: &[u8], slots: &mut [Slot])
             start,
             end,
             next,
+            front,
             ..
         } = slots[place];
         let hash = key.hash(&bytes[start as usize..end as usize]);
@@ -66,6 +68,7 @@ fn rehash(key: HashKey, bytes: &[u8], slots: &mut [Slot])
             end,
             next,
             hash,
+            front,
         };
     }
 }
@@ -76,7 +79,7 @@ pub(crate) fn thread(slots: &mut [Slot], heads: &mut [u32])
     requires some { 1 ≤ length heads.old }
     requires empty { (b : ℕ) → b < length heads.old → slice_index_or heads.old b 0 ≡ 0 }
     ensures texts { (bytes : List ℕ) → texts_at bytes slots.new ≡ texts_at bytes slots.old }
-    ensures within { (n : ℕ) → All (IsSlotWithin n) slots.old → All (IsSlotWithin n) slots.new }
+    ensures within { (bytes : List ℕ) → All (IsSlotWithin bytes) slots.old → All (IsSlotWithin bytes) slots.new }
     ensures hashes { hashes_of slots.new ≡ hashes_of slots.old }
     ensures chained { IsChained heads.new (hashes_of slots.new) (nexts_of slots.new) }
 {
@@ -85,6 +88,7 @@ pub(crate) fn thread(slots: &mut [Slot], heads: &mut [u32])
             start,
             end,
             hash,
+            front,
             ..
         } = slots[place];
         let bucket = bucket(hash, heads.len());
@@ -94,6 +98,7 @@ pub(crate) fn thread(slots: &mut [Slot], heads: &mut [u32])
             end,
             next,
             hash,
+            front,
         };
         heads[bucket] = place as u32 + 1;
     }
@@ -101,11 +106,11 @@ pub(crate) fn thread(slots: &mut [Slot], heads: &mut [u32])
 
 /// Gives each text its hash by another key, and threads it into the chain of its bucket.
 pub(crate) fn make_anew(key: HashKey, bytes: &[u8], slots: &mut [Slot], heads: &mut [u32])
-    requires within { All (IsSlotWithin (length bytes.now)) slots.old }
+    requires within { All (IsSlotWithin bytes.now) slots.old }
     requires few { length slots.old < 2 ^ 32 }
     requires some { 1 ≤ length heads.old }
     ensures texts { texts_at bytes.now slots.new ≡ texts_at bytes.now slots.old }
-    ensures within { All (IsSlotWithin (length bytes.now)) slots.new }
+    ensures within { All (IsSlotWithin bytes.now) slots.new }
     ensures hashed { IsHashed key (texts_at bytes.now slots.new) (hashes_of slots.new) }
     ensures chained { IsChained heads.new (hashes_of slots.new) (nexts_of slots.new) }
 {

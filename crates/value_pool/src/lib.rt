@@ -2,6 +2,7 @@
 #![tactic(auto)]
 
 mod chains;
+mod fronts;
 mod hashes;
 mod id;
 mod laws;

@@ -3,11 +3,12 @@ ghost use Rattle.std.specs.Prelude.{◌≡◌, ◌≤◌, ◌<◌, ◌+◌, ◌-
 ghost use Rattle.link_limits.specs.declared.TheConstants.{MOST_POOL_LIMIT};
 ghost use Rattle.value_pool.specs.Hashes.{hash_of};
 ghost use Rattle.value_pool.specs.Pool.{HasRoom, KeepsRoom};
-ghost use Rattle.value_pool.specs.Region.{IsSlotWithin};
+ghost use Rattle.value_pool.specs.Region.{IsSlotWithin, front_of};
 ghost use Rattle.value_pool.specs.Table.{IsTable, has_text, state_of, texts_of};
 ghost use Rattle.value_pool.specs.Texts.{stands_among};
 
 use crate::chains::{Slot, bucket, empty_heads, make_anew, thread};
+use crate::fronts::{front_of, same_text};
 use crate::hashes::HashKey;
 use link_texts::NoMemory;
 use std::alloc::Global;
@@ -42,27 +43,14 @@ pub(crate) struct Search {
     pub(crate) passed: u32,
 }
 
-// Whether two texts are equal. Most are short, so that byte by byte is fastest.
-fn same_bytes(a: &[u8], b: &[u8]) -> bool
-    ensures { result ≡ bytes_eq a.now b.now }
-{
-    if a.len() != b.len() {
-        return false;
-    }
-    for at in 0..a.len() {
-        if a[at] != b[at] {
-            return false;
-        }
-    }
-    true
-}
-
-// Whether a slot has a text. The bytes are read only where the hashes agree.
-fn has_text(bytes: &[u8], slot: Slot, hash: u32, text: &[u8]) -> bool
-    requires { IsSlotWithin (length bytes.now) slot }
+// Whether a slot has a text of this hash and this front. The bytes are read only where the hashes agree.
+fn has_text(bytes: &[u8], slot: Slot, hash: u32, front: u64, text: &[u8]) -> bool
+    requires within { IsSlotWithin bytes.now slot }
+    requires front { front ≡ front_of text.now }
     ensures { result ≡ has_text bytes.now slot hash text.now }
 {
-    slot.hash == hash && same_bytes(&bytes[slot.start as usize..slot.end as usize], text)
+    let held = &bytes[slot.start as usize..slot.end as usize];
+    slot.hash == hash && same_text(held, slot.front, text, front)
 }
 
 impl Table {
@@ -94,12 +82,13 @@ impl Table {
         ensures hash { result.hash ≡ hash_of self.now.key text.now }
     {
         let hash = self.key.hash(text);
+        let front = front_of(text);
         let bucket = bucket(hash, self.heads.len());
         let mut at = self.heads[bucket];
         let mut passed = 0;
         'chain: while at != 0 {
             let slot = self.slots[(at - 1) as usize];
-            if has_text(&self.bytes, slot, hash, text) {
+            if has_text(&self.bytes, slot, hash, front, text) {
                 return Search {
                     place: Some(at - 1),
                     hash,
@@ -145,6 +134,7 @@ impl Table {
             end,
             next,
             hash,
+            front: front_of(text),
         };
         if self.bytes.extend_from_slice(text).is_err() {
             return Err(NoMemory);

@@ -1,5 +1,4 @@
-use Rattle.std.proofs.Common.{length}
 use Rattle.value_pool.proofs.chains.make_anew.Goals as goal
 
 pub returns-clause-within : goal.returns-clause-within
-returns-clause-within c = c.thread.ensures.within (length c.args.bytes.now) c.rehash.ensures.within
+returns-clause-within c = c.thread.ensures.within c.args.bytes.now c.rehash.ensures.within

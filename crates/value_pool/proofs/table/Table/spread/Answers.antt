@@ -1,4 +1,4 @@
-use Rattle.std.proofs.Common.{◌≡◌, length, ap, ◌∙◌, rules}
+use Rattle.std.proofs.Common.{◌≡◌, ap, ◌∙◌, rules}
 use Rattle.std.proofs.lemmas.List.{places, with_items_is}
 use Rattle.value_pool.specs.Region.{hashes_of, texts_at}
 use Rattle.value_pool.specs.Table.{IsHashed, texts_of}
@@ -14,4 +14,4 @@ returns-in-Ok-clause-table c =
     let hashed : IsHashed table.key (texts_at table.bytes.items c.thread.new.slots) (hashes_of c.thread.new.slots) = rw (same, hashes) c.requires.table.hashed in
     let slots = with_items_is table.slots c.thread.new.slots (search (rules, places)) in
     let heads = with_items_is c.in-Ok.heads c.thread.new.heads (search (rules, places)) in
-    anew table _ c.thread.new.slots c.thread.new.heads c.requires.table (λ i. table.bytes.items) slots heads same (c.thread.ensures.within (length table.bytes.items) (rw was c.requires.table.within)) hashed c.thread.ensures.chained
+    anew table _ c.thread.new.slots c.thread.new.heads c.requires.table (λ i. table.bytes.items) slots heads same (c.thread.ensures.within table.bytes.items (rw was c.requires.table.within)) hashed c.thread.ensures.chained
