@@ -1,6 +1,6 @@
 pub mod ChainLemmas
 pub mod EqualLemmas
-pub mod FrontLemmas
+pub mod WordLemmas
 pub mod HashLemmas
 pub mod PlaceLemmas
 pub mod RegionLemmas

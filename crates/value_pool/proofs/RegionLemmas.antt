@@ -12,7 +12,8 @@ use Rattle.std.proofs.lemmas.Slice.Eq.{bytes_eq-Decides}
 use Rattle.std.proofs.lemmas.Grind.{common_steps}
 use Rattle.value_pool.specs.declared.chains.Slot.{Slot}
 use Rattle.value_pool.specs.Texts.{stands_among}
-use Rattle.value_pool.specs.Region.{IsSlotWithin, front_of, most_texts, texts_at}
+use Rattle.value_pool.specs.Hashes.{last_word}
+use Rattle.value_pool.specs.Region.{IsSlotWithin, most_texts, texts_at}
 
 pub found_at : (bytes : List ℕ) (slots : List Slot) (i : ℕ) (s : Slot) (text : List ℕ) → i < length slots → s ≡ get_or slots i s → slice_range bytes s.start s.end ≡ text → slice_get (texts_at bytes slots) i ≡ Some text
 found_at bytes [] i s text h e r = absurd (omega arith)
@@ -73,15 +74,15 @@ most-push n bytes texts (x ∷ xs) h fresh = rw (list_any-append (λ text. bytes
     by_other true k = omega arith
     by_other false k = omega arith
 
-pub within-push : (bytes text : List ℕ) (slots : List Slot) (s : Slot) → All (IsSlotWithin bytes) slots → s.start ≡ length bytes → s.end ≡ length bytes + length text → s.front ≡ front_of text → All (IsSlotWithin (bytes ++ text)) (slots ++ s ∷ [])
+pub within-push : (bytes text : List ℕ) (slots : List Slot) (s : Slot) → All (IsSlotWithin bytes) slots → s.start ≡ length bytes → s.end ≡ length bytes + length text → s.last ≡ last_word text → All (IsSlotWithin (bytes ++ text)) (slots ++ s ∷ [])
 within-push bytes text slots s h e f g =
     let longer = length-append bytes text in
     let before : All (IsSlotWithin (bytes ++ text)) slots = λ k d within.
     let old = h k d within in
     let slot = get_or slots k d in
-    record { ordered = old.ordered; within = omega (arith, longer, old.within); front = old.front ∙ ap front_of (sym (read-append bytes text slot.start slot.end old.ordered old.within)) } in
+    record { ordered = old.ordered; within = omega (arith, longer, old.within); last = old.last ∙ ap last_word (sym (read-append bytes text slot.start slot.end old.ordered old.within)) } in
     let own : IsSlotWithin (bytes ++ text) s =
-    record { ordered = omega arith; within = omega (arith, longer); front = g ∙ ap front_of (sym (read-last bytes text s.start s.end e (f ∙ ap (λ n. n + length text) (sym e)))) } in
+    record { ordered = omega arith; within = omega (arith, longer); last = g ∙ ap last_word (sym (read-last bytes text s.start s.end e (f ∙ ap (λ n. n + length text) (sym e)))) } in
     All-push (IsSlotWithin (bytes ++ text)) slots s before own
 
 -- what holds of a region after one text more
@@ -92,7 +93,7 @@ pub record IsAppended (bytes text : List ℕ) (slots : List Slot) (bytes' : List
   pub most : length slots' ≤ most_texts (length bytes') (texts_at bytes' slots')
   pub texts_sum : sum_by length (texts_at bytes slots) ≡ length bytes → sum_by length (texts_at bytes' slots') ≡ length bytes'
 
-pub appended : (bytes text : List ℕ) (slots : List Slot) (s : Slot) (bytes' : List ℕ) (slots' : List Slot) → All (IsSlotWithin bytes) slots → AllPairs (λ a b. a ≢ b) (texts_at bytes slots) → length slots ≤ most_texts (length bytes) (texts_at bytes slots) → list_any (λ held. bytes_eq held text) (texts_at bytes slots) ≡ false → s.start ≡ length bytes → s.end ≡ length bytes + length text → s.front ≡ front_of text → bytes' ≡ bytes ++ text → slots' ≡ slots ++ s ∷ [] → IsAppended bytes text slots bytes' slots'
+pub appended : (bytes text : List ℕ) (slots : List Slot) (s : Slot) (bytes' : List ℕ) (slots' : List Slot) → All (IsSlotWithin bytes) slots → AllPairs (λ a b. a ≢ b) (texts_at bytes slots) → length slots ≤ most_texts (length bytes) (texts_at bytes slots) → list_any (λ held. bytes_eq held text) (texts_at bytes slots) ≡ false → s.start ≡ length bytes → s.end ≡ length bytes + length text → s.last ≡ last_word text → bytes' ≡ bytes ++ text → slots' ≡ slots ++ s ∷ [] → IsAppended bytes text slots bytes' slots'
 appended bytes text slots s bytes' slots' h distinct most fresh e f g is_bytes is_slots =
     let is_texts : texts_at bytes' slots' ≡ texts_at bytes slots ++ text ∷ [] = rw (is_bytes, is_slots) (texts-push bytes text slots s h e f) in
     let long : length bytes' ≡ length bytes + length text = ap length is_bytes ∙ length-append bytes text in

@@ -1,6 +1,6 @@
 -- Machinery of the pool: texts as parts of one list of bytes. No public clause names it; the invariant of `Pool` does.
 use Rattle.std.specs.Prelude.{◌≡◌, ℕ, ◌+◌, List, [], length, map, ◌≤◌, slice_range, if◌then◌else◌}
-use Rattle.value_pool.specs.Hashes.{eight_bytes_at}
+use Rattle.value_pool.specs.Hashes.{last_word}
 use Rattle.value_pool.specs.Texts.{stands_among}
 use Rattle.value_pool.specs.declared.chains.Slot.{Slot}
 
@@ -16,15 +16,11 @@ nexts_of slots = map (λ (s : Slot). s.next) slots
 abbrev pub hashes_of : List Slot → List ℕ
 hashes_of slots = map (λ (s : Slot). s.hash) slots
 
--- the first eight bytes of a text as one number, with zeros behind a shorter text
-unfoldable pub front_of : List ℕ → ℕ
-front_of text = eight_bytes_at text 0
-
--- the text of a slot is a part of these bytes, and has the front of the slot
+-- the text of a slot is a part of these bytes, and ends with the last word of the slot
 pub record IsSlotWithin (bytes : List ℕ) (slot : Slot) : Type 0 where
   pub ordered : slot.start ≤ slot.end
   pub within : slot.end ≤ length bytes
-  pub front : slot.front ≡ front_of (slice_range bytes slot.start slot.end)
+  pub last : slot.last ≡ last_word (slice_range bytes slot.start slot.end)
 
 -- how many distinct texts of so many bytes there may be: one of them may be empty
 abbrev pub most_texts : ℕ → List (List ℕ) → ℕ

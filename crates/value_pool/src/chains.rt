@@ -8,7 +8,7 @@ use crate::hashes::HashKey;
 use link_texts::NoMemory;
 use std::alloc::Global;
 
-/// Where a text stands among the bytes, its hash, its front, and what its chain goes on with.
+/// Where a text stands among the bytes, its hash, its last word, and what its chain goes on with.
 #[derive(Clone, Copy)]
 pub(crate) struct Slot {
     pub(crate) start: u32,
@@ -16,7 +16,7 @@ pub(crate) struct Slot {
     /// One more than the place before it in its chain, or 0.
     pub(crate) next: u32,
     pub(crate) hash: u32,
-    pub(crate) front: u64,
+    pub(crate) last: u64,
 }
 
 /// The bucket of a hash: its low bits, since the buckets are a power of 2.
@@ -59,7 +59,7 @@ fn rehash(key: HashKey, bytes: &[u8], slots: &mut [Slot])
             start,
             end,
             next,
-            front,
+            last,
             ..
         } = slots[place];
         let hash = key.hash(&bytes[start as usize..end as usize]);
@@ -68,7 +68,7 @@ fn rehash(key: HashKey, bytes: &[u8], slots: &mut [Slot])
             end,
             next,
             hash,
-            front,
+            last,
         };
     }
 }
@@ -88,7 +88,7 @@ pub(crate) fn thread(slots: &mut [Slot], heads: &mut [u32])
             start,
             end,
             hash,
-            front,
+            last,
             ..
         } = slots[place];
         let bucket = bucket(hash, heads.len());
@@ -98,7 +98,7 @@ pub(crate) fn thread(slots: &mut [Slot], heads: &mut [u32])
             end,
             next,
             hash,
-            front,
+            last,
         };
         heads[bucket] = place as u32 + 1;
     }

@@ -37,7 +37,7 @@ fn four_bytes_at(text: &[u8], at: usize) -> u32
     u32::from_le_bytes([text[at], text[at + 1], text[at + 2], text[at + 3]])
 }
 
-pub(crate) fn eight_bytes_at(text: &[u8], at: usize) -> u64
+fn eight_bytes_at(text: &[u8], at: usize) -> u64
     requires { at + 8 ≤ length text.now }
     ensures { result ≡ eight_bytes_at text.now at }
 {
@@ -55,7 +55,7 @@ pub(crate) fn eight_bytes_at(text: &[u8], at: usize) -> u64
 
 // The last eight bytes, or a word that has all bytes of a shorter text.
 #[tactic(auto, unfolding(crate::specs::Hashes::last_word))]
-fn last_word(text: &[u8]) -> u64
+pub(crate) fn last_word(text: &[u8]) -> u64
     ensures { result ≡ last_word text.now }
 {
     match *text {

@@ -2,11 +2,11 @@
 #![tactic(auto)]
 
 mod chains;
-mod fronts;
 mod hashes;
 mod id;
 mod laws;
 mod pool;
+mod same_text;
 mod table;
 
 pub use id::{Id, MaybeId};

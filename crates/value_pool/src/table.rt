@@ -1,15 +1,15 @@
 // A table of distinct texts in one region of bytes, with a look-up whose bound does not rest on its hash.
 ghost use Rattle.std.specs.Prelude.{◌≡◌, ◌≤◌, ◌<◌, ◌+◌, ◌-◌, ◌^◌, ◌++◌, ◌∷◌, [], bytes_eq, false, is_some, IfOk, IfSome, OnErr, OnOk, length, slice_get};
 ghost use Rattle.link_limits.specs.declared.TheConstants.{MOST_POOL_LIMIT};
-ghost use Rattle.value_pool.specs.Hashes.{hash_of};
+ghost use Rattle.value_pool.specs.Hashes.{hash_of, last_word};
 ghost use Rattle.value_pool.specs.Pool.{HasRoom, KeepsRoom};
-ghost use Rattle.value_pool.specs.Region.{IsSlotWithin, front_of};
+ghost use Rattle.value_pool.specs.Region.{IsSlotWithin};
 ghost use Rattle.value_pool.specs.Table.{IsTable, has_text, state_of, texts_of};
 ghost use Rattle.value_pool.specs.Texts.{stands_among};
 
 use crate::chains::{Slot, bucket, empty_heads, make_anew, thread};
-use crate::fronts::{front_of, same_text};
-use crate::hashes::HashKey;
+use crate::hashes::{HashKey, last_word};
+use crate::same_text::same_text;
 use link_texts::NoMemory;
 use std::alloc::Global;
 
@@ -43,14 +43,14 @@ pub(crate) struct Search {
     pub(crate) passed: u32,
 }
 
-// Whether a slot has a text of this hash and this front. The bytes are read only where the hashes agree.
-fn has_text(bytes: &[u8], slot: Slot, hash: u32, front: u64, text: &[u8]) -> bool
+// Whether a slot has a text of this hash and this last word. The bytes are read only of a longer text, where both agree.
+fn has_text(bytes: &[u8], slot: Slot, hash: u32, last: u64, text: &[u8]) -> bool
     requires within { IsSlotWithin bytes.now slot }
-    requires front { front ≡ front_of text.now }
+    requires last { last ≡ last_word text.now }
     ensures { result ≡ has_text bytes.now slot hash text.now }
 {
     let held = &bytes[slot.start as usize..slot.end as usize];
-    slot.hash == hash && same_text(held, slot.front, text, front)
+    slot.hash == hash && same_text(held, slot.last, text, last)
 }
 
 impl Table {
@@ -82,13 +82,13 @@ impl Table {
         ensures hash { result.hash ≡ hash_of self.now.key text.now }
     {
         let hash = self.key.hash(text);
-        let front = front_of(text);
+        let last = last_word(text);
         let bucket = bucket(hash, self.heads.len());
         let mut at = self.heads[bucket];
         let mut passed = 0;
         'chain: while at != 0 {
             let slot = self.slots[(at - 1) as usize];
-            if has_text(&self.bytes, slot, hash, front, text) {
+            if has_text(&self.bytes, slot, hash, last, text) {
                 return Search {
                     place: Some(at - 1),
                     hash,
@@ -134,7 +134,7 @@ impl Table {
             end,
             next,
             hash,
-            front: front_of(text),
+            last: last_word(text),
         };
         if self.bytes.extend_from_slice(text).is_err() {
             return Err(NoMemory);

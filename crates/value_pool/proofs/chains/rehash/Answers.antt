@@ -16,14 +16,14 @@ loop-place-preserved c =
     let key = c.args.key in
     let slots = c.loop-place.slots in
     let place = c.loop-place.place in
-    let none : Slot = record { start = 0; end = 0; next = 0; hash = 0; front = 0 } in
+    let none : Slot = record { start = 0; end = 0; next = 0; hash = 0; last = 0 } in
     let old = get_or slots place none in
-    let new : Slot = record { start = old.start; end = old.end; next = old.next; hash = c.hash-hash.result; front = old.front } in
+    let new : Slot = record { start = old.start; end = old.end; next = old.next; hash = c.hash-hash.result; last = old.last } in
     let long : length (hashes_of slots) ≡ length slots = length-map slots (λ (s : Slot). s.hash) in
     let here = text_at bytes slots place none (omega arith) ∙ ap (λ (ts : List (List ℕ)). get_or ts place []) c.loop-place.invariant.texts in
     let own = c.loop-place.invariant.within place none (omega arith) in
     record {
       texts = map-set_same (λ (s : Slot). slice_range bytes s.start s.end) slots place new none refl ∙ c.loop-place.invariant.texts;
-      within = All-set (IsSlotWithin bytes) slots place new (record { ordered = own.ordered; within = own.within; front = own.front }) c.loop-place.invariant.within;
+      within = All-set (IsSlotWithin bytes) slots place new (record { ordered = own.ordered; within = own.within; last = own.last }) c.loop-place.invariant.within;
       hashed = λ p within. rw (map-set (λ (s : Slot). s.hash) slots place new) (hash-step key (texts_at bytes c.args.slots.now) (hashes_of slots) place c.hash-hash.result p (nat_lt p place) refl (omega arith) (omega (arith, long)) c.loop-place.invariant.hashed (c.hash-hash.ensures ∙ ap (hash_of key) here));
     }

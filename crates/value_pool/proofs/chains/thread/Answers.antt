@@ -14,15 +14,15 @@ loop-place-preserved c =
     let slots = c.loop-place.slots in
     let heads = c.loop-place.heads in
     let place = c.loop-place.place in
-    let none : Slot = record { start = 0; end = 0; next = 0; hash = 0; front = 0 } in
+    let none : Slot = record { start = 0; end = 0; next = 0; hash = 0; last = 0 } in
     let old = get_or slots place none in
     let next = get_or heads c.bucket-bucket.result 0 in
-    let new : Slot = record { start = old.start; end = old.end; next = next; hash = old.hash; front = old.front } in
+    let new : Slot = record { start = old.start; end = old.end; next = next; hash = old.hash; last = old.last } in
     let long : length (nexts_of slots) ≡ length slots = length-map slots (λ (s : Slot). s.next) in
     let here = hash_at slots place none (omega arith) ∙ ap (λ (hs : List ℕ). get_or hs place 0) c.loop-place.invariant.hashes in
     record {
       texts = λ bytes. map-set_same (λ (s : Slot). slice_range bytes s.start s.end) slots place new none refl ∙ c.loop-place.invariant.texts bytes;
-      within = λ bytes before. let all = c.loop-place.invariant.within bytes before in let own = all place none (omega arith) in All-set (IsSlotWithin bytes) slots place new (record { ordered = own.ordered; within = own.within; front = own.front }) all;
+      within = λ bytes before. let all = c.loop-place.invariant.within bytes before in let own = all place none (omega arith) in All-set (IsSlotWithin bytes) slots place new (record { ordered = own.ordered; within = own.within; last = own.last }) all;
       hashes = map-set_same (λ (s : Slot). s.hash) slots place new none refl ∙ c.loop-place.invariant.hashes;
       threaded = rw (map-set (λ (s : Slot). s.next) slots place new, length-set heads c.bucket-bucket.result (place + 1)) (threaded_step (length heads) heads (hashes_of c.args.slots.now) (nexts_of slots) place c.bucket-bucket.result next (place + 1) (place + 1) c.loop-place.invariant.threaded (omega (arith, long)) (search rules) (c.bucket-bucket.ensures.value ∙ ap (bucket_of (length heads)) here) (search rules) (omega arith) (omega arith));
     }

@@ -1,6 +1,6 @@
 use Rattle.std.proofs.Common.{arith}
 use Rattle.value_pool.proofs.EqualLemmas.{alike}
-use Rattle.value_pool.proofs.fronts.same_bytes.Goals as goal
+use Rattle.value_pool.proofs.same_text.same_bytes.Goals as goal
 
 pub returns : goal.returns
 returns c =
