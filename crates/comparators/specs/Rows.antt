@@ -1,4 +1,5 @@
--- Rows that stand one behind the other: what `IdTable` is seen as. `IdTable::push` carries it (clauses `fields`, `ok`).
+-- Rows that stand one behind the other: what `IdTable` is seen as. `IdTable::push` carries it (clauses `fields`, `ok`), and
+-- `IdTable::of` (clause `rows`).
 use Rattle.std.specs.Prelude.{ℕ, zero, suc, List, [], ◌∷◌, take, drop}
 use Rattle.comparators.specs.declared.ids.IdValue.{IdValue}
 

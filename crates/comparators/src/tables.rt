@@ -1,5 +1,6 @@
 // Tables of ids, one row of them per record.
-ghost use Rattle.std.specs.Prelude.{◌≡◌, ◌+◌, ◌<◌, ◌^◌, ◌++◌, ◌∷◌, [], IfOk, OnErr, OnOk, length};
+ghost use Rattle.std.specs.Prelude.{◌≡◌, ◌+◌, ◌*◌, ◌<◌, ◌^◌, ◌++◌, ◌∷◌, [], IfOk, OnErr, OnOk, length};
+ghost use Rattle.comparators.specs.Rows.{rows_of_width};
 
 use crate::ids::IdValue;
 use link_base::{NoMemory, Sides};
@@ -39,17 +40,17 @@ impl IdTable {
         })
     }
 
-    /// The table of no rows, for rows of so many values and with room for so many of them.
-    pub fn with_capacity(alloc: Global, fields: u8, rows: u32) -> Result<IdTable, NoMemory>
-        ensures fields { IfOk result (λ table. table.fields ≡ fields) }
-        ensures rows { IfOk result (λ table. table.rows ≡ []) }
+    /// The table of so many rows of so many values, which stand one behind the other.
+    pub fn of(fields: u8, rows: u32, values: Vec<IdValue>) -> IdTable
+        requires { length values.items ≡ rows * fields }
+        ensures fields { result.fields ≡ fields }
+        ensures rows { result.rows ≡ rows_of_width fields rows values.items }
     {
-        let values = Vec::with_capacity(alloc, rows as usize * usize::from(fields))?;
-        Ok(IdTable {
+        IdTable {
             values,
-            rows: 0,
+            rows,
             fields,
-        })
+        }
     }
 
     /// Appends a row. A table has at most 4,294,967,295 rows.

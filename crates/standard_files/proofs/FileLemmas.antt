@@ -10,9 +10,9 @@ use Rattle.link_base.specs.declared.plan.CompareKind.TheVariants as by
 use Rattle.link_base.specs.declared.plan.Part.{Part}
 use Rattle.link_base.specs.declared.standard.Value.{Value}
 use Rattle.block_passes.specs.Keys.{no_part, part_key}
-use Rattle.standard_files.specs.Known.{file_values}
+use Rattle.standard_files.specs.Known.{file_values, flat_sides}
 use Rattle.standard_files.specs.Ready.{AreInRange, HasParts, IsRowFor}
-use Rattle.standard_files.specs.Sides.{side_of, sides_of_file, sides_of_row}
+use Rattle.standard_files.specs.Sides.{side_of, sides_of_row}
 use Rattle.standard_files.specs.Texts.{canons_of_row, file_texts, parts_in_pass, parts_of_row, standard_text, texts_of_row}
 
 pub file-row : (texts : List Value → List (List ℕ)) (file : List Record) (at : ℕ) (row : List Value) → at < length file → row ≡ (get_or file at no_record).row → file_texts texts (drop at file) ≡ texts row ++ file_texts texts (drop (at + 1) file)
@@ -62,15 +62,20 @@ pub sides-at : (texts : List (List ℕ)) (kinds : List CompareKind) (row : List 
 sides-at texts kinds row at v lt many e =
     λ i. sides_of_row texts (kinds-at kinds at lt i) (values-at row at v (omega arith) e i)
 
-pub file-sides-at : (texts : List (List ℕ)) (kinds : List CompareKind) (file : List Record) (at : ℕ) (row : List Value) → at < length file → row ≡ (get_or file at no_record).row
-    → sides_of_file texts kinds (drop at file) ≡ sides_of_row texts kinds row ∷ sides_of_file texts kinds (drop (at + 1) file)
-file-sides-at texts kinds file at row lt e =
-    at_drop_more (sides_of_file texts kinds) file at no_record lt ∙ ap (λ r. sides_of_row texts kinds r ∷ sides_of_file texts kinds (drop (at + 1) file)) (sym e)
+pub flat-sides-at : (texts : List (List ℕ)) (kinds : List CompareKind) (file : List Record) (at : ℕ) (row : List Value) → at < length file → row ≡ (get_or file at no_record).row
+    → flat_sides texts kinds (drop at file) ≡ sides_of_row texts kinds row ++ flat_sides texts kinds (drop (at + 1) file)
+flat-sides-at texts kinds file at row lt e =
+    at_drop_more (flat_sides texts kinds) file at no_record lt ∙ ap (λ r. sides_of_row texts kinds r ++ flat_sides texts kinds (drop (at + 1) file)) (sym e)
 
--- one side, or one row of sides, more
+-- one side more
 pub push-sides : {X : Type 0} (before rest whole left : List X) (x y : X) → before ++ left ≡ whole → left ≡ x ∷ rest → x ≡ y → (before ++ y ∷ []) ++ rest ≡ whole
 push-sides before rest whole left x y e f g =
     append_assoc before (y ∷ []) rest ∙ ap (λ z. before ++ (z ∷ rest)) (sym g) ∙ ap (λ l. before ++ l) (sym f) ∙ e
+
+-- some more of them
+pub push-ids : {X : Type 0} (before rest whole left more after : List X) → before ++ left ≡ whole → left ≡ more ++ rest → before ++ more ≡ after → after ++ rest ≡ whole
+push-ids before rest whole left more after e f g =
+    ap (λ l. l ++ rest) (sym g) ∙ append_assoc before more rest ∙ ap (λ l. before ++ l) (sym f) ∙ e
 
 -- the parts of a row are at hand, where those of each row are
 pub record RowParts (passes : List (List Part)) (row : List Value) : Type 0 where

@@ -65,11 +65,6 @@ pub ids-row : (final : List (List ℕ)) (passes : List (List Part)) (file : List
 ids-row final passes file at row lt e =
     at_drop_more (key_ids final passes) file at no_record lt ∙ ap (λ r. ids_of_row final passes r ++ key_ids final passes (drop (at + 1) file)) (sym e)
 
--- some ids more
-pub push-ids : {X : Type 0} (before rest whole left more after : List X) → before ++ left ≡ whole → left ≡ more ++ rest → before ++ more ≡ after → after ++ rest ≡ whole
-push-ids before rest whole left more after e f g =
-    ap (λ l. l ++ rest) (sym g) ∙ append_assoc before more rest ∙ ap (λ l. before ++ l) (sym f) ∙ e
-
 -- what is known of rows stays known while texts are taken
 module _ (limit : ℕ) (more held new : List (List ℕ)) (kinds : List CompareKind) (taken : texts_taken limit held more ≡ Ok new) where
   pub row-kept : (row : List Value) (texts : List (Option ℕ)) (sides : List IdValue) → IsKnownRow held kinds row texts sides → IsKnownRow new kinds row texts sides

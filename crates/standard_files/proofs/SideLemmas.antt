@@ -1,7 +1,8 @@
 -- The sides of rows, one by one.
-use Rattle.std.proofs.Common.{◌≡◌, ◌<◌, ℕ, zero, suc, true, List, [], ◌∷◌, length, get_or, Option, Some, None, refl, ap, arith}
+use Rattle.std.proofs.Common.{◌≡◌, ◌<◌, ◌++◌, ◌∙◌, ℕ, zero, suc, true, List, [], ◌∷◌, length, get_or, take, drop, Option, Some, None, refl, ap, sym, arith}
 use Rattle.std.specs.List.{All}
-use Rattle.std.proofs.lemmas.List.{get_or-map}
+use Rattle.std.proofs.lemmas.List.{drop-append-le, drop_all, get_or-map, take-append-le, take_all}
+use Rattle.comparators.specs.Rows.{rows_of_width}
 use Rattle.value_pool.specs.Texts.{IsHeld, stands_among}
 use Rattle.value_forms.specs.Canons.{canon_of, compares_days, day_in}
 use Rattle.block_passes.specs.Index.{row_at}
@@ -17,6 +18,7 @@ use Rattle.link_base.specs.declared.plan.CompareKind.{CompareKind}
 use Rattle.link_base.specs.declared.plan.CompareKind.TheVariants as by
 use Rattle.link_base.specs.declared.standard.Value.{Value}
 use Rattle.link_base.specs.declared.standard.Value.TheVariants as value
+use Rattle.standard_files.specs.Known.{flat_sides}
 use Rattle.standard_files.specs.Ready.{AreFileSides, AreRowSides, IsRowFor}
 use Rattle.standard_files.specs.Sides.{day_side, id_side, side_of, sides_of_file, sides_of_row}
 use Rattle.standard_files.specs.Texts.{canons_of_row, file_texts}
@@ -88,3 +90,19 @@ file-sides texts kinds file rows for_kinds e all = rw (← e) (record {
       rw (get_or-map (λ (r : Record). sides_of_row texts kinds r.row) file at no_record [] lt)
       (row-sides texts kinds (row_at file at) here.as_many here.valid (λ text h. all text (stands-flat (λ (r : Record). canons_of_row kinds r.row) file at no_record text lt h)));
 })
+
+-- the rows of a file, cut out of what their values are compared by
+pub rows-cut : (texts : List (List ℕ)) (kinds : List CompareKind) (file : List Record) → All (IsRowFor kinds) file → rows_of_width (length kinds) (length file) (flat_sides texts kinds file) ≡ sides_of_file texts kinds file
+rows-cut texts kinds [] h = refl
+rows-cut texts kinds (r ∷ rs) h =
+    let here = sides_of_row texts kinds r.row in
+    let rest = flat_sides texts kinds rs in
+    let many : length here ≡ length kinds = sides-many texts kinds r.row (h 0 no_record (omega arith)).as_many in
+    let front : take (length kinds) (here ++ rest) ≡ here = take-append-le (length kinds) here rest (omega (arith, many)) ∙ take_all (length kinds) here (omega (arith, many)) in
+    let back : drop (length kinds) (here ++ rest) ≡ rest = drop-append-le (length kinds) here rest (omega (arith, many)) ∙ ap (λ l. l ++ rest) (drop_all (length kinds) here (omega (arith, many))) in
+    (λ i. front i ∷ rows_of_width (length kinds) (length rs) (back i)) ∙ ap (λ l. here ∷ l) (rows-cut texts kinds rs (λ at d lt. h (suc at) d (omega arith)))
+
+pub rows-cut-as : (texts : List (List ℕ)) (kinds : List CompareKind) (file : List Record) (flat : List IdValue) (fields rows : ℕ) (table : List (List IdValue)) → All (IsRowFor kinds) file
+    → flat_sides texts kinds file ≡ flat → fields ≡ length kinds → rows ≡ length file → table ≡ rows_of_width fields rows flat → sides_of_file texts kinds file ≡ table
+rows-cut-as texts kinds file flat fields rows table h is_flat is_fields is_rows is_table =
+    sym (rows-cut texts kinds file h) ∙ ap (rows_of_width (length kinds) (length file)) is_flat ∙ (λ i. rows_of_width (sym is_fields i) (sym is_rows i) flat) ∙ sym is_table

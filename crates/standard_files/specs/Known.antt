@@ -36,6 +36,10 @@ AreTextIds held (v ∷ vs) (id ∷ ids) = IsIdOf held (standard_text v) id × Ar
 abbrev pub file_values : List Record → List Value
 file_values file = flat_map (λ (r : Record). r.row) file
 
+-- what the values of a file are compared by, row by row
+abbrev pub flat_sides : List (List ℕ) → List CompareKind → List Record → List IdValue
+flat_sides texts kinds file = flat_map (λ (r : Record). sides_of_row texts kinds r.row) file
+
 -- what a value is compared by, whose canon has this id
 abbrev pub side_by_id : Option ℕ → IdValue
 side_by_id None = id.Absent

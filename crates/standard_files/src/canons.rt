@@ -1,10 +1,10 @@
 // What values are compared by, and their canons taken into a pool.
-ghost use Rattle.std.specs.Prelude.{◌≡◌, ◌<◌, ◌≤◌, All, IfOk, IsTrue, List, [], OnOk, Some, ℕ, length, option_to_list, slice_index_or};
+ghost use Rattle.std.specs.Prelude.{◌≡◌, ◌<◌, ◌≤◌, ◌++◌, ◌+◌, ◌*◌, All, IfOk, IsTrue, List, [], OnOk, Some, ℕ, length, option_to_list, slice_index_or};
 ghost use Rattle.value_forms.specs.Canons.{IsReadable, canon_of, value_part};
 ghost use Rattle.link_base.specs.Rows.{value_seen};
 ghost use Rattle.link_base.specs.Standard.{IsValid, absent_value};
 ghost use Rattle.link_base.specs.declared.plan.CompareKind.TheVariants as by;
-ghost use Rattle.standard_files.specs.Known.{AreKnown, AreKnownDays, AreTextIds, IsIdOf, file_values, side_by_id};
+ghost use Rattle.standard_files.specs.Known.{AreKnown, AreKnownDays, AreTextIds, IsIdOf, file_values, flat_sides, side_by_id};
 ghost use Rattle.standard_files.specs.Ready.{IsRowFor};
 ghost use Rattle.standard_files.specs.Sides.{day_side, id_side, side_of, sides_of_file, sides_of_row};
 ghost use Rattle.standard_files.specs.Taking.{Extends, TakesTexts};
@@ -197,11 +197,10 @@ fn take_row(
     requires known { AreKnown pool.old.texts kinds.now known.old }
     ensures limit { pool.new.limit ≡ pool.old.limit }
     ensures texts { TakesTexts pool.old pool.new (canons_of_row kinds.now row.now) result }
-    ensures sides { OnOk result ((final : List (List ℕ)) → Extends pool.new.texts final → sides_of_row final kinds.now row.now ≡ sides.new.items) }
-    ensures width { OnOk result (length sides.new.items ≡ length kinds.now) }
+    ensures sides { OnOk result ((final : List (List ℕ)) → Extends pool.new.texts final → sides.old.items ++ sides_of_row final kinds.now row.now ≡ sides.new.items) }
+    ensures width { OnOk result (length sides.new.items ≡ length sides.old.items + length kinds.now) }
     ensures known { OnOk result (AreKnown pool.new.texts kinds.now known.new) }
 {
-    sides.clear();
     for field in 0..kinds.len() {
         let side = take_side(
             alloc,
@@ -219,7 +218,7 @@ fn take_row(
     Ok(())
 }
 
-// Takes the canons of the rows of a file, and appends what they are compared by.
+// Takes the canons of the rows of a file, and appends what they are compared by, row by row.
 fn take_rows(
     alloc: Global,
     pool: &mut Pool,
@@ -227,28 +226,23 @@ fn take_rows(
     known: &mut Known,
     file: &StdFile,
     ids: &[MaybeId],
-    table: &mut IdTable,
+    sides: &mut Vec<IdValue>,
 ) -> Result<(), PoolFault>
     requires few { length kinds.now ≤ MOST_FIELDS }
     requires rows { All (IsRowFor kinds.now) file.now }
     requires ids { AreTextIds pool.old.texts (file_values file.now) ids.now }
     requires known { AreKnown pool.old.texts kinds.now known.old }
-    requires fields { table.old.fields ≡ length kinds.now }
-    requires empty { table.old.rows ≡ [] }
-    ensures fields { table.new.fields ≡ table.old.fields }
+    requires empty { sides.old.items ≡ [] }
     ensures limit { pool.new.limit ≡ pool.old.limit }
     ensures texts { TakesTexts pool.old pool.new (file_texts (canons_of_row kinds.now) file.now) result }
-    ensures sides { OnOk result ((final : List (List ℕ)) → Extends pool.new.texts final → sides_of_file final kinds.now file.now ≡ table.new.rows) }
+    ensures sides { OnOk result ((final : List (List ℕ)) → Extends pool.new.texts final → flat_sides final kinds.now file.now ≡ sides.new.items) }
+    ensures width { OnOk result (length sides.new.items ≡ length file.now * length kinds.now) }
     ensures known { OnOk result (AreKnown pool.new.texts kinds.now known.new) }
 {
-    let mut sides = Vec::new(alloc);
     let mut left = ids;
     for at in 0..file.rows() {
         let (here, later) = left.split_at(kinds.len());
-        take_row(alloc, pool, kinds, known, &file.row(at), here, &mut sides)?;
-        if table.push(&sides).is_err() {
-            return Err(PoolFault::NoMemory);
-        }
+        take_row(alloc, pool, kinds, known, &file.row(at), here, sides)?;
         left = later;
     }
     Ok(())
@@ -273,12 +267,12 @@ fn take_file(
     ensures sides { IfOk result (λ table. (final : List (List ℕ)) → Extends pool.new.texts final → sides_of_file final kinds.now file.now ≡ table.rows) }
     ensures known { OnOk result (AreKnown pool.new.texts kinds.now known.new) }
 {
-    let mut table = match IdTable::with_capacity(alloc, kinds.len() as u8, file.rows()) {
-        Ok(table) => table,
-        Err(NoMemory) => return Err(PoolFault::NoMemory),
+    let room = (file.rows() as usize).saturating_mul(kinds.len());
+    let Ok(mut sides) = Vec::with_capacity(alloc, room) else {
+        return Err(PoolFault::NoMemory);
     };
-    take_rows(alloc, pool, kinds, known, file, ids, &mut table)?;
-    Ok(table)
+    take_rows(alloc, pool, kinds, known, file, ids, &mut sides)?;
+    Ok(IdTable::of(kinds.len() as u8, file.rows(), sides))
 }
 
 /// Takes the canons of two files whose standard texts are taken, and gives what the rows of each are compared by.

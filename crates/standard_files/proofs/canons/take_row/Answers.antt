@@ -27,7 +27,7 @@ loop-field-preserved c =
       width = rw pushed (omega (arith, length-append c.loop-field.sides.items (c.in_ok-side.side ∷ []), c.loop-field.invariant.width));
       sides = λ final e.
           let before = extends-before c.loop-field.pool.limit canons c.loop-field.pool.texts c.take_side.new.pool.texts final c.in_ok-side.ensures.texts e in
-          rw pushed (push-sides c.loop-field.sides.items (sides_of_row final (drop (at + 1) kinds) (drop (at + 1) row)) (sides_of_row final kinds row) (sides_of_row final (drop at kinds) (drop at row))
+          rw pushed (push-sides c.loop-field.sides.items (sides_of_row final (drop (at + 1) kinds) (drop (at + 1) row)) (c.args.sides.now.items ++ sides_of_row final kinds row) (sides_of_row final (drop at kinds) (drop at row))
           (side_of final (get_or kinds at by.Exact) v) c.in_ok-side.side (c.loop-field.invariant.sides final before)
           (sides-at final kinds row at v (omega arith) c.requires.as_many is_value) (c.in_ok-side.ensures.side final e));
     }

@@ -1,4 +1,4 @@
-use Rattle.std.proofs.Common.{◌≡◌, ℕ, List, ◌++◌, drop, length}
+use Rattle.std.proofs.Common.{◌≡◌, ◌+◌, ℕ, List, ◌++◌, drop, length}
 use Rattle.standard_files.specs.Known.{AreKnown, AreTextIds}
 use Rattle.standard_files.specs.Sides.{sides_of_row}
 use Rattle.standard_files.specs.Taking.{Extends}
@@ -11,6 +11,6 @@ invariant-loop-field l = record {
   goes : Goes l.fn.pool l.pool (canons_of_row (drop l.field l.kinds) (drop l.field l.row)) (canons_of_row l.kinds l.row);
   ids : AreTextIds l.pool.texts l.row l.ids;
   known : AreKnown l.pool.texts l.kinds l.known;
-  width : length l.sides.items ≡ l.field;
-  sides : (final : List (List ℕ)) → Extends l.pool.texts final → l.sides.items ++ sides_of_row final (drop l.field l.kinds) (drop l.field l.row) ≡ sides_of_row final l.kinds l.row;
+  width : length l.sides.items ≡ length l.fn.sides.items + l.field;
+  sides : (final : List (List ℕ)) → Extends l.pool.texts final → l.sides.items ++ sides_of_row final (drop l.field l.kinds) (drop l.field l.row) ≡ l.fn.sides.items ++ sides_of_row final l.kinds l.row;
 }

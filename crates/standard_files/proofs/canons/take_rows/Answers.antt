@@ -1,9 +1,9 @@
-use Rattle.std.proofs.Common.{◌≡◌, ◌+◌, ◌++◌, ◌∷◌, [], drop, get_or, length, refl, sym, subst, arith, rules, length-append, ◌∙◌}
+use Rattle.std.proofs.Common.{◌+◌, drop, get_or, length, refl, sym, subst, arith, rules}
 use Rattle.link_base.specs.Standard.{no_record}
-use Rattle.standard_files.specs.Known.{AreTextIds, file_values}
-use Rattle.standard_files.specs.Sides.{sides_of_file, sides_of_row}
+use Rattle.standard_files.specs.Known.{AreTextIds, file_values, flat_sides}
+use Rattle.standard_files.specs.Sides.{sides_of_row}
 use Rattle.standard_files.specs.Texts.{canons_of_row, file_texts}
-use Rattle.standard_files.proofs.FileLemmas.{file-row, file-sides-at, push-sides, row-many}
+use Rattle.standard_files.proofs.FileLemmas.{file-row, flat-sides-at, push-ids, row-many}
 use Rattle.standard_files.proofs.KnownLemmas.{ids-kept, ids-next, ids-room}
 use Rattle.standard_files.proofs.PlaceLemmas.{extends-before, kept-taken}
 use Rattle.standard_files.proofs.TakingLemmas.{goes-on, takes-refused}
@@ -27,7 +27,6 @@ loop-at-preserved c =
     let left = c.loop-at.left.now in
     let kept = kept-taken pool.limit (texts row) pool.texts new.texts c.in_ok-take_row.ensures.texts in
     let sides = c.take_row.new.sides.items in
-    let pushed : c.push.new.self.rows ≡ c.loop-at.table.rows ++ sides ∷ [] = search rules in
     record {
       goes = goes-on (texts row) (file_texts texts (drop (at + 1) file)) c.loop-at.invariant.goes
           (file-row texts file at row (omega arith) c.row.ensures) c.take_row.ensures.limit c.in_ok-take_row.ensures.texts;
@@ -35,13 +34,12 @@ loop-at-preserved c =
           (ids-kept pool.texts new.texts kept (file_values (drop (at + 1) file)) (drop (length kinds) left)
           (ids-next pool.texts file at row left (length kinds) (omega arith) c.row.ensures (row-many kinds file at row (omega arith) c.row.ensures c.requires.rows) c.loop-at.invariant.left).1);
       known = c.in_ok-take_row.ensures.known;
-      fields = c.push.ensures.fields ∙ c.loop-at.invariant.fields;
-      count = rw pushed (omega (arith, length-append c.loop-at.table.rows (sides ∷ []), c.loop-at.invariant.count));
+      width = omega (arith, c.in_ok-take_row.ensures.width, c.loop-at.invariant.width);
       sides = λ final e.
           let before = extends-before pool.limit (texts row) pool.texts new.texts final c.in_ok-take_row.ensures.texts e in
-          rw pushed (push-sides c.loop-at.table.rows (sides_of_file final kinds (drop (at + 1) file)) (sides_of_file final kinds file) (sides_of_file final kinds (drop at file))
+          push-ids c.loop-at.sides.items (flat_sides final kinds (drop (at + 1) file)) (flat_sides final kinds file) (flat_sides final kinds (drop at file))
           (sides_of_row final kinds row) sides (c.loop-at.invariant.sides final before)
-          (file-sides-at final kinds file at row (omega arith) c.row.ensures) (c.in_ok-take_row.ensures.sides final e));
+          (flat-sides-at final kinds file at row (omega arith) c.row.ensures) (c.in_ok-take_row.ensures.sides final e);
     }
 
 pub split_at-requires : goal.split_at-requires
