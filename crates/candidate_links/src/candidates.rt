@@ -124,7 +124,7 @@ fn merged(
     ensures merged { IfOk result (λ cs. cs.items ≡ merged (of_link (side_rule rule.now) sides_a.now.rows sides_b.now.rows) (of_possible (side_rule rule.now) sides_a.now.rows sides_b.now.rows journal.now award) links.now possible.now) }
     ensures most { IfOk result (λ cs. All (λ (c : ACandidate). c.value ≤ℤ most_value award) cs.items) }
 {
-    let mut candidates = Vec::new(alloc);
+    let mut candidates = Vec::with_capacity(alloc, links.len())?;
     'pairs: loop {
         match next_of(links, possible) {
             Next::End => return Ok(candidates),
