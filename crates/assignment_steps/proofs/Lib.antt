@@ -14,3 +14,4 @@ pub mod Leading
 pub mod EdgesOf
 pub mod Settled
 pub mod Certified
+pub mod Chained

@@ -3,6 +3,7 @@ pub mod Free
 pub mod Joined
 pub mod Market
 pub mod Turned
+pub mod Chains
 pub mod Entries
 pub mod Queue
 pub mod Candidates
