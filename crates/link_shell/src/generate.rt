@@ -13,7 +13,7 @@ ghost use Rattle.link_plan.specs.Ranges.{KeepsRanges};
 ghost use Rattle.workload.specs.Made.{text_of_a, text_of_b, text_of_sample};
 ghost use Rattle.workload.specs.MadeSettings.{text_of_settings};
 
-use crate::words::word_at;
+use crate::words::{are_form, word_at};
 use command_steps::{DecidedPlan, Ended, prepare_files, print};
 use csv_rows::read_decimal;
 use link_base::Fault;
@@ -57,7 +57,7 @@ pub(crate) fn read(words: &[String]) -> Option<u32>
     ensures rows { IfSome result (λ rows. rows ≡ rows_asked (map string_bytes words.now)) }
     ensures range { IfSome result IsMadeNumber }
 {
-    if words.len() != 2 || word_at(words, 0) != "generate" {
+    if !are_form(words, "generate", 2) {
         return None;
     }
     rows_of(word_at(words, 1))

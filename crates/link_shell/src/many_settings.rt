@@ -7,7 +7,7 @@ ghost use Rattle.command_steps.specs.Steps.{Makes, Takes};
 ghost use Rattle.link_core.specs.Many.{AreCapacitiesOf};
 ghost use Rattle.link_shell.specs.ManySettings.{are_many_words, capacity_file, capacity_plan, IsLinksText, many_in, many_of_request, many_script};
 
-use crate::words::{is_settings, is_short, word_at};
+use crate::words::{are_form, is_settings, is_short, word_at};
 use command_steps::{Ended, ReviewedSettings, load_file, load_reviewed_settings, print_text};
 use link_base::{Fault, FileRole, Text};
 use link_core::{Capacities, capacities_in_file, many_lines};
@@ -26,7 +26,7 @@ pub(crate) fn read(words: &[String]) -> Option<ManyRequest<'_>>
     ensures some { is_some result ≡ are_many_words (map string_bytes words.now) }
     ensures request { IfSome result (λ r. many_of_request r ≡ many_in (map string_bytes words.now)) }
 {
-    if words.len() != 3 || word_at(words, 0) != "many" {
+    if !are_form(words, "many", 3) {
         return None;
     }
     let name = word_at(words, 1);

@@ -4,7 +4,7 @@ ghost use Rattle.command_steps.specs.Does.{Does};
 ghost use Rattle.command_steps.specs.Seen.{sink_seen, store_seen};
 ghost use Rattle.link_shell.specs.PairsColumns.{are_column_words, columns_in, columns_of_request, columns_script};
 
-use crate::words::{is_short, word_at};
+use crate::words::{are_form, is_short, word_at};
 use command_steps::{Ended, load_both, print_text};
 use link_base::Fault;
 use link_core::pair_rows;
@@ -24,7 +24,7 @@ pub(crate) fn read(words: &[String]) -> Option<ColumnRequest<'_>>
     ensures some { is_some result ≡ are_column_words (map string_bytes words.now) }
     ensures request { IfSome result (λ r. columns_of_request r ≡ columns_in (map string_bytes words.now)) }
 {
-    if words.len() != 4 || word_at(words, 0) != "pairs" {
+    if !are_form(words, "pairs", 4) {
         return None;
     }
     let a = word_at(words, 1);
