@@ -22,13 +22,25 @@ fn load_files<S: Store>(alloc: Global, store: &mut S) -> Result<Written, Fault>
     ensures prices { IfOk result (λ w. length w.prices ≤ MOST_WRITTEN_BYTES) }
 {
     let rule = load_written(alloc, store, "rule.csv", FileRole::Rule)?;
-    let links = load_written(alloc, store, "links.csv", FileRole::Links)?;
-    let prices = load_written(alloc, store, "prices.csv", FileRole::Prices)?;
-    Ok(Written {
-        rule,
-        links,
-        prices,
-    })
+    let links = match load_written(alloc, store, "links.csv", FileRole::Links) {
+        Ok(links) => links,
+        Err(fault) => {
+            drop(rule);
+            return Err(fault);
+        }
+    };
+    match load_written(alloc, store, "prices.csv", FileRole::Prices) {
+        Ok(prices) => Ok(Written {
+            rule,
+            links,
+            prices,
+        }),
+        Err(fault) => {
+            drop(links);
+            drop(rule);
+            Err(fault)
+        }
+    }
 }
 
 // Loads the three files, and verifies them.
