@@ -47,6 +47,18 @@ load_decided-decided-requires-clause-ranges g c = c.in_ok-within.ensures.ranges 
 pub load_decided-decided-requires-clause-names : goal.load_decided-decided-requires-clause-names
 load_decided-decided-requires-clause-names g c = c.in_ok-within.ensures.files c.in_ok-plan.ensures.files
 
+pub duplicate_lines-lines-requires-clause-same : goal.duplicate_lines-lines-requires-clause-same
+duplicate_lines-lines-requires-clause-same g c = c.in_ok-found.ensures.same
+
+pub duplicate_lines-lines-requires-clause-few : goal.duplicate_lines-lines-requires-clause-few
+duplicate_lines-lines-requires-clause-few g c = c.in_ok-found.ensures.few
+
+pub duplicate_lines-lines-requires-clause-few_links : goal.duplicate_lines-lines-requires-clause-few_links
+duplicate_lines-lines-requires-clause-few_links g c = c.in_ok-found.ensures.few_links
+
+pub duplicate_lines-lines-requires-clause-of_files : goal.duplicate_lines-lines-requires-clause-of_files
+duplicate_lines-lines-requires-clause-of_files g c = c.in_ok-found.ensures.of_file
+
 pub returns-in_err-found : goal.returns-in_err-found
 returns-in_err-found g c =
     let gives = c.in_ok-within.ensures.gives in

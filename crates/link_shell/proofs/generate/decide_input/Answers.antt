@@ -1,10 +1,10 @@
-use Rattle.std.proofs.Common.{◌≡◌, List, ℕ, Result, Ok, Err, subst}
+use Rattle.std.proofs.Common.{◌≡◌, [], List, ℕ, Result, Ok, Err, refl, subst}
 use Rattle.link_base.specs.Fault.{Gives, IsAnswer}
 use Rattle.link_base.specs.declared.fault.Fault.{Fault}
 use Rattle.link_limits.specs.declared.TheConstants.{MOST_POOLED_BYTES}
 use Rattle.link_core.specs.Prepared.{prepared}
 use Rattle.settings.specs.Settings.{settings}
-use Rattle.command_steps.specs.Reviewed.{ReviewedPlan}
+use Rattle.command_steps.specs.Reviewed.{ReviewedPlan, shared_decisions_of}
 use Rattle.link_shell.specs.Generate.{decided_sample, review_of_made}
 use Rattle.link_shell.proofs.InputFacts.{goes_on, refuses_here}
 use Rattle.link_shell.proofs.generate.decide_input.Goals as goal
@@ -36,3 +36,19 @@ returns-in-Err-decide_sample-clause-answer c =
     let Refused : Result ReviewedPlan Fault → Type 0 = λ r. Gives review_of_made r (Err f) in
     goes_on Refused (settings input.settings) _ plan of_plan (goes_on Refused (prepared plan MOST_POOLED_BYTES input.a input.b) _ files of_files
     (refuses_here review_of_made (decided_sample plan files input.sample) _ f here))
+
+pub returns-in-Ok-decide_sample-clause-answer : goal.returns-in-Ok-decide_sample-clause-answer
+returns-in-Ok-decide_sample-clause-answer c =
+    let input = c.args.input.now in
+    let plan = c.in_ok-plan.plan in
+    let files = c.in-Ok.files in
+    let found = shared_decisions_of c.in-Ok-decide_sample.found in
+    let of_plan : settings input.settings ≡ Ok plan = subst (λ (b : List ℕ). settings b ≡ Ok plan) c.bytes.ensures c.in_ok-plan.ensures.gives in
+    let of_a : prepared plan MOST_POOLED_BYTES input.a c.bytes-3.result.now ≡ Ok files = subst (λ (b : List ℕ). prepared plan MOST_POOLED_BYTES b c.bytes-3.result.now ≡ Ok files) c.bytes-2.ensures c.in-Ok.ensures.answer in
+    let of_files : prepared plan MOST_POOLED_BYTES input.a input.b ≡ Ok files = subst (λ (b : List ℕ). prepared plan MOST_POOLED_BYTES input.a b ≡ Ok files) c.bytes-3.ensures of_a in
+    let here : decided_sample plan files input.sample ≡ Ok found =
+    subst (λ (b : List ℕ). decided_sample plan files b ≡ Ok found) c.bytes-4.ensures c.in-Ok-decide_sample.ensures.answer in
+    let review : ReviewedPlan = record { plan = plan; review = record { files = files; shares = found.shares; decided = found.decided; journal = [] } } in
+    let Given : Result ReviewedPlan Fault → Type 0 = λ r. r ≡ Ok review in
+    goes_on Given (settings input.settings) _ plan of_plan (goes_on Given (prepared plan MOST_POOLED_BYTES input.a input.b) _ files of_files
+    (goes_on Given (decided_sample plan files input.sample) _ found here refl))
