@@ -4,7 +4,7 @@ use Rattle.std.specs.Prelude.{◌≡◌, ◌≤◌, ◌==◌, ◌&&◌, ℕ, Lis
 use Rattle.link_limits.specs.declared.TheConstants.{MOST_POOLED_BYTES, MOST_ROWS}
 use Rattle.link_base.specs.Answers.{and_then}
 use Rattle.link_base.specs.declared.fault.Fault.{Fault}
-use Rattle.link_core.specs.Decisions.{decided, decisions_of}
+use Rattle.link_core.specs.Decisions.{decided}
 use Rattle.link_core.specs.Prepared.{prepared, PreparedView}
 use Rattle.link_core.specs.Results.{AreRunTexts, RunTexts}
 use Rattle.link_core.specs.Rules.{counted_by}
@@ -21,7 +21,6 @@ use Rattle.command_steps.specs.Steps.{gives}
 use Rattle.command_steps.specs.declared.ends.Ended.TheVariants.{Done}
 use Rattle.link_shell.specs.Words.{word}
 use Rattle.link_shell.specs.declared.generate.TheConstants.{HEAD_LINES}
-use Rattle.link_shell.specs.declared.generate.MadeDecisions.{MadeDecisions}
 
 -- 2 to 100,000, without a leading zero
 abbrev pub is_rows_word : List ℕ → Bool
@@ -52,10 +51,6 @@ decided_input bytes a b sample =
     and_then (prepared plan MOST_POOLED_BYTES a b) (λ files.
     and_then (decided_sample plan files sample) (λ found.
     Ok (record { plan = plan; review = record { files = files; shares = found.shares; decided = found.decided; journal = [] } }))))
-
--- machinery: what was decided as a body holds it
-abbrev pub review_of_made : MadeDecisions → ReviewedPlan
-review_of_made d = record { plan = d.plan; review = record { files = d.files; shares = d.shares; decided = decisions_of d.decided; journal = [] } }
 
 -- the lines of the report of a run up to its dropped candidates of a run are printed
 abbrev pub head_is_printed : ReviewedPlan → Due → Type 0

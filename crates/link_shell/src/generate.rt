@@ -1,23 +1,23 @@
 // The command `generate NUMBER`.
 ghost use Rattle.std.specs.Prelude.{◌≡◌, IfErr, IfOk, IfSome, is_some, map, string_bytes};
 ghost use Rattle.command_steps.specs.Does.{Does};
-ghost use Rattle.command_steps.specs.Reviewed.{shared_decisions_of};
+ghost use Rattle.command_steps.specs.Reviewed.{found_of, shared_decisions_of};
 ghost use Rattle.command_steps.specs.Seen.{sink_seen, store_seen};
 ghost use Rattle.csv_rows.specs.Numbers.{number_in};
 ghost use Rattle.link_base.specs.Fault.{Gives, IsInputFault};
 ghost use Rattle.link_core.specs.Decisions.{IsDecidedIn};
 ghost use Rattle.link_core.specs.Results.{IsDecidedFor, KeepsRows};
 ghost use Rattle.link_core.specs.Rules.{IsPreparedFor};
-ghost use Rattle.link_shell.specs.Generate.{are_generate_words, decided_input, decided_sample, generate_script, IsMadeNumber, is_rows_word, review_of_made, rows_asked};
+ghost use Rattle.link_shell.specs.Generate.{are_generate_words, decided_input, decided_sample, generate_script, IsMadeNumber, is_rows_word, rows_asked};
 ghost use Rattle.link_plan.specs.Ranges.{KeepsRanges};
 ghost use Rattle.workload.specs.Made.{text_of_a, text_of_b, text_of_sample};
 ghost use Rattle.workload.specs.MadeSettings.{text_of_settings};
 
 use crate::words::{are_form, word_at};
-use command_steps::{DecidedPlan, Ended, prepare_files, print};
+use command_steps::{DecidedPlan, Ended, Reviewed, ReviewedSettings, prepare_files, print};
 use csv_rows::read_decimal;
 use link_base::Fault;
-use link_core::{Decided, PlanShares, Prepared, counted, decide_all, finish};
+use link_core::{Prepared, counted, decide_all, finish};
 use link_limits::MOST_ROWS;
 use link_outside::{Sink, Store};
 use link_plan::Plan;
@@ -29,15 +29,6 @@ use workload::{MadeInput, make_input};
 
 /// How many lines of a report stand before its dropped candidates.
 const HEAD_LINES: u32 = 16;
-
-/// The plan of a made input, its prepared files, the shares of its fields, and the decisions on the compared pairs.
-#[derive(Drop)]
-pub(crate) struct MadeDecisions {
-    pub(crate) plan: Plan,
-    pub(crate) files: Prepared,
-    pub(crate) shares: PlanShares,
-    pub(crate) decided: Decided,
-}
 
 // How many rows a word asks for.
 fn rows_of(word: &str) -> Option<u32>
@@ -89,14 +80,14 @@ fn decide_sample(
 }
 
 // Reads a made input, and decides on its compared pairs.
-fn decide_input(alloc: Global, input: &MadeInput) -> Result<MadeDecisions, Fault>
+fn decide_input(alloc: Global, input: &MadeInput) -> Result<ReviewedSettings, Fault>
     ensures kind { IfErr result IsInputFault }
-    ensures answer { Gives review_of_made (decided_input input.now.settings input.now.a input.now.b input.now.sample) result }
-    ensures ranges { IfOk result (λ d. KeepsRanges d.plan) }
-    ensures ready { IfOk result (λ d. IsPreparedFor d.plan d.files) }
-    ensures of_files { IfOk result (λ d. IsDecidedIn d.files d.decided) }
-    ensures of_plan { IfOk result (λ d. IsDecidedFor d.plan d.files d.decided) }
-    ensures rows { IfOk result (λ d. KeepsRows d.plan d.files d.decided) }
+    ensures answer { Gives found_of (decided_input input.now.settings input.now.a input.now.b input.now.sample) result }
+    ensures ranges { IfOk result (λ s. KeepsRanges s.plan) }
+    ensures ready { IfOk result (λ s. IsPreparedFor s.plan s.reviewed.files) }
+    ensures of_files { IfOk result (λ s. IsDecidedIn s.reviewed.files s.reviewed.decided) }
+    ensures of_plan { IfOk result (λ s. IsDecidedFor s.plan s.reviewed.files s.reviewed.decided) }
+    ensures rows { IfOk result (λ s. KeepsRows s.plan s.reviewed.files s.reviewed.decided) }
 {
     let plan = read_settings(alloc, input.settings.bytes())?;
     let files = match prepare_files(alloc, &plan, input.a.bytes(), input.b.bytes()) {
@@ -107,11 +98,14 @@ fn decide_input(alloc: Global, input: &MadeInput) -> Result<MadeDecisions, Fault
         }
     };
     match decide_sample(alloc, &plan, &files, input.sample.bytes()) {
-        Ok(found) => Ok(MadeDecisions {
+        Ok(found) => Ok(ReviewedSettings {
             plan,
-            files,
-            shares: found.shares,
-            decided: found.decided,
+            reviewed: Reviewed {
+                files,
+                shares: found.shares,
+                decided: found.decided,
+                journal: Journal::new(alloc),
+            },
         }),
         Err(fault) => {
             drop(files);
@@ -122,15 +116,15 @@ fn decide_input(alloc: Global, input: &MadeInput) -> Result<MadeDecisions, Fault
 }
 
 // Decides on the compared pairs of the made input of so many rows.
-fn decide_made(alloc: Global, rows: u32) -> Result<MadeDecisions, Fault>
+fn decide_made(alloc: Global, rows: u32) -> Result<ReviewedSettings, Fault>
     requires { IsMadeNumber rows }
     ensures kind { IfErr result IsInputFault }
-    ensures answer { Gives review_of_made (decided_input (text_of_settings rows) (text_of_a rows) (text_of_b rows) (text_of_sample rows)) result }
-    ensures ranges { IfOk result (λ d. KeepsRanges d.plan) }
-    ensures ready { IfOk result (λ d. IsPreparedFor d.plan d.files) }
-    ensures of_files { IfOk result (λ d. IsDecidedIn d.files d.decided) }
-    ensures of_plan { IfOk result (λ d. IsDecidedFor d.plan d.files d.decided) }
-    ensures rows { IfOk result (λ d. KeepsRows d.plan d.files d.decided) }
+    ensures answer { Gives found_of (decided_input (text_of_settings rows) (text_of_a rows) (text_of_b rows) (text_of_sample rows)) result }
+    ensures ranges { IfOk result (λ s. KeepsRanges s.plan) }
+    ensures ready { IfOk result (λ s. IsPreparedFor s.plan s.reviewed.files) }
+    ensures of_files { IfOk result (λ s. IsDecidedIn s.reviewed.files s.reviewed.decided) }
+    ensures of_plan { IfOk result (λ s. IsDecidedFor s.plan s.reviewed.files s.reviewed.decided) }
+    ensures rows { IfOk result (λ s. KeepsRows s.plan s.reviewed.files s.reviewed.decided) }
 {
     let input = make_input(alloc, rows)?;
     let made = decide_input(alloc, &input);
@@ -148,11 +142,16 @@ pub(crate) fn perform<S: Store, O: Sink>(
     requires { IsMadeNumber rows }
     ensures { Does (generate_script rows) (store_seen S.tells S.held S.faults store.old store.new) (sink_seen O.tells O.taken O.faults out.old out.new) result }
 {
-    let made = decide_made(alloc, rows)?;
-    let journal = Journal::new(alloc);
-    let finished = finish(alloc, &made.plan, &made.files, &made.decided, &journal);
-    drop(made);
-    drop(journal);
+    let found = decide_made(alloc, rows)?;
+    let reviewed = &found.reviewed;
+    let finished = finish(
+        alloc,
+        &found.plan,
+        &reviewed.files,
+        &reviewed.decided,
+        &reviewed.journal,
+    );
+    drop(found);
     let results = finished?;
     let head = first_lines(results.report.bytes(), HEAD_LINES);
     let ended = print(alloc, Ended::Done, head, out);

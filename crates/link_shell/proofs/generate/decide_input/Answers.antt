@@ -1,11 +1,12 @@
-use Rattle.std.proofs.Common.{◌≡◌, [], List, ℕ, Result, Ok, Err, refl, subst}
+use Rattle.std.proofs.Common.{◌≡◌, List, ℕ, Result, Ok, Err, ap, subst, sym}
 use Rattle.link_base.specs.Fault.{Gives, IsAnswer}
 use Rattle.link_base.specs.declared.fault.Fault.{Fault}
 use Rattle.link_limits.specs.declared.TheConstants.{MOST_POOLED_BYTES}
 use Rattle.link_core.specs.Prepared.{prepared}
 use Rattle.settings.specs.Settings.{settings}
-use Rattle.command_steps.specs.Reviewed.{ReviewedPlan, shared_decisions_of}
-use Rattle.link_shell.specs.Generate.{decided_sample, review_of_made}
+use Rattle.command_steps.specs.Reviewed.{found_of, ReviewedPlan, shared_decisions_of}
+use Rattle.review_journal.specs.declared.entry.Entry.{Entry}
+use Rattle.link_shell.specs.Generate.{decided_sample}
 use Rattle.link_shell.proofs.InputFacts.{goes_on, refuses_here}
 use Rattle.link_shell.proofs.generate.decide_input.Goals as goal
 
@@ -19,8 +20,8 @@ returns-in-Err-clause-answer c =
     subst (λ (b : List ℕ). IsAnswer (prepared plan MOST_POOLED_BYTES b c.bytes-3.result.now) (Err f)) c.bytes-2.ensures c.in-Err.ensures.answer in
     let here : IsAnswer (prepared plan MOST_POOLED_BYTES input.a input.b) (Err f) =
     subst (λ (b : List ℕ). IsAnswer (prepared plan MOST_POOLED_BYTES input.a b) (Err f)) c.bytes-3.ensures of_a in
-    let Refused : Result ReviewedPlan Fault → Type 0 = λ r. Gives review_of_made r (Err f) in
-    goes_on Refused (settings input.settings) _ plan of_plan (refuses_here review_of_made (prepared plan MOST_POOLED_BYTES input.a input.b) _ f here)
+    let Refused : Result ReviewedPlan Fault → Type 0 = λ r. Gives found_of r (Err f) in
+    goes_on Refused (settings input.settings) _ plan of_plan (refuses_here found_of (prepared plan MOST_POOLED_BYTES input.a input.b) _ f here)
 
 pub returns-in-Err-decide_sample-clause-answer : goal.returns-in-Err-decide_sample-clause-answer
 returns-in-Err-decide_sample-clause-answer c =
@@ -33,9 +34,9 @@ returns-in-Err-decide_sample-clause-answer c =
     let of_files : prepared plan MOST_POOLED_BYTES input.a input.b ≡ Ok files = subst (λ (b : List ℕ). prepared plan MOST_POOLED_BYTES input.a b ≡ Ok files) c.bytes-3.ensures of_a in
     let here : IsAnswer (decided_sample plan files input.sample) (Err f) =
     subst (λ (b : List ℕ). IsAnswer (decided_sample plan files b) (Err f)) c.bytes-4.ensures c.in-Err-decide_sample.ensures.answer in
-    let Refused : Result ReviewedPlan Fault → Type 0 = λ r. Gives review_of_made r (Err f) in
+    let Refused : Result ReviewedPlan Fault → Type 0 = λ r. Gives found_of r (Err f) in
     goes_on Refused (settings input.settings) _ plan of_plan (goes_on Refused (prepared plan MOST_POOLED_BYTES input.a input.b) _ files of_files
-    (refuses_here review_of_made (decided_sample plan files input.sample) _ f here))
+    (refuses_here found_of (decided_sample plan files input.sample) _ f here))
 
 pub returns-in-Ok-decide_sample-clause-answer : goal.returns-in-Ok-decide_sample-clause-answer
 returns-in-Ok-decide_sample-clause-answer c =
@@ -48,7 +49,22 @@ returns-in-Ok-decide_sample-clause-answer c =
     let of_files : prepared plan MOST_POOLED_BYTES input.a input.b ≡ Ok files = subst (λ (b : List ℕ). prepared plan MOST_POOLED_BYTES input.a b ≡ Ok files) c.bytes-3.ensures of_a in
     let here : decided_sample plan files input.sample ≡ Ok found =
     subst (λ (b : List ℕ). decided_sample plan files b ≡ Ok found) c.bytes-4.ensures c.in-Ok-decide_sample.ensures.answer in
-    let review : ReviewedPlan = record { plan = plan; review = record { files = files; shares = found.shares; decided = found.decided; journal = [] } } in
-    let Given : Result ReviewedPlan Fault → Type 0 = λ r. r ≡ Ok review in
+    let of_journal : List Entry → Result ReviewedPlan Fault = λ entries. Ok (record { plan = plan; review = record { files = files; shares = found.shares; decided = found.decided; journal = entries } }) in
+    let Given : Result ReviewedPlan Fault → Type 0 = λ r. r ≡ of_journal c.new.result in
     goes_on Given (settings input.settings) _ plan of_plan (goes_on Given (prepared plan MOST_POOLED_BYTES input.a input.b) _ files of_files
-    (goes_on Given (decided_sample plan files input.sample) _ found here refl))
+    (goes_on Given (decided_sample plan files input.sample) _ found here (ap of_journal (sym c.new.ensures))))
+
+pub returns-in-Ok-decide_sample-clause-ranges : goal.returns-in-Ok-decide_sample-clause-ranges
+returns-in-Ok-decide_sample-clause-ranges c = c.in_ok-plan.ensures.ranges
+
+pub returns-in-Ok-decide_sample-clause-ready : goal.returns-in-Ok-decide_sample-clause-ready
+returns-in-Ok-decide_sample-clause-ready c = c.in-Ok.ensures.ready
+
+pub returns-in-Ok-decide_sample-clause-of_files : goal.returns-in-Ok-decide_sample-clause-of_files
+returns-in-Ok-decide_sample-clause-of_files c = c.in-Ok-decide_sample.ensures.of_files
+
+pub returns-in-Ok-decide_sample-clause-of_plan : goal.returns-in-Ok-decide_sample-clause-of_plan
+returns-in-Ok-decide_sample-clause-of_plan c = c.in-Ok-decide_sample.ensures.of_plan
+
+pub returns-in-Ok-decide_sample-clause-rows : goal.returns-in-Ok-decide_sample-clause-rows
+returns-in-Ok-decide_sample-clause-rows c = c.in-Ok-decide_sample.ensures.rows
