@@ -1,8 +1,13 @@
-use Rattle.std.proofs.Common.{◌≡◌, ◌-◌, ◌∙◌, ◌∷◌, [], List, ap, arith, drop, length, map, refl, suc, sym, take}
-use Rattle.std.specs.Prelude.{string_bytes}
-use Rattle.std.proofs.lemmas.List.{take_all}
+use Rattle.std.proofs.Common.{◌≡◌, ◌+◌, ◌-◌, ◌∙◌, ◌∷◌, [], Bool, List, ap, arith, codes, drop, false, length, map, nat_le, refl, rules, suc, sym, take, true}
+use Rattle.std.specs.Prelude.{◌&&◌, bytes_eq, string_bytes}
+use Rattle.std.proofs.lemmas.Bool.{le-leb}
+use Rattle.std.proofs.lemmas.List.{length-map, take_all}
 use Rattle.csv_rows.specs.Numbers.{number_in}
+use Rattle.link_shell.specs.FrontierSettings.{are_levels_from}
+use Rattle.link_shell.specs.Words.{is_settings_word, word}
+use Rattle.link_shell.specs.declared.words.TheConstants.{MOST_LISTED}
 use Rattle.link_shell.proofs.LevelFacts.{rising_are_levels}
+use Rattle.link_shell.proofs.frontier_settings.read.Goals.{else-is_settings-via-then-is_settings+else-are_levels, else-is_settings-via-else-is_settings}
 use Rattle.link_shell.proofs.frontier_settings.read.Goals as goal
 
 -- the words from the third on, of which a part is taken
@@ -13,6 +18,21 @@ after_second f (x ∷ y ∷ xs) =
     let count : suc (suc (length xs)) - 2 ≡ length xs = omega arith in
     ap (λ n. map f (take n xs)) count ∙ ap (map f) (take_all (length xs) xs (omega arith))
 
+all_five : (a b c d e : Bool) → a ≡ true → b ≡ true → c ≡ true → d ≡ true → e ≡ true → true ≡ (a && b && c && d && e)
+all_five a b c d e ha hb hc hd he = λ i. sym ha i && sym hb i && sym hc i && sym hd i && sym he i
+
+pub returns-then-are_levels-clause-some : goal.returns-then-are_levels-clause-some
+returns-then-are_levels-clause-some c =
+    let words = c.args.words.now in
+    let all = map string_bytes words in
+    let same : length all ≡ length words = length-map words string_bytes in
+    let many : nat_le 3 (length all) ≡ true = le-leb 3 (length all) (omega (arith, same, c.if-words-lt3.false)) in
+    let few : nat_le (length all) (MOST_LISTED + 2) ≡ true = le-leb (length all) (MOST_LISTED + 2) (omega (arith, same, c.if-words.false)) in
+    let verb : bytes_eq (word all 0) (codes "frontier") ≡ true = search (rules, c.if-ne.ensures, c.word_at.ensures) in
+    let name : is_settings_word (word all 1) ≡ true = ap is_settings_word (sym c.word_at-name.ensures) ∙ sym c.is_settings.ensures ∙ c.if-is_settings.true in
+    let rising : are_levels_from 0 (drop 2 all) ≡ true = ap (are_levels_from 0) (sym (after_second string_bytes words)) ∙ sym c.are_levels.ensures ∙ c.if-are_levels.true in
+    all_five _ _ _ _ _ many few verb name rising
+
 pub returns-then-are_levels-clause-asked : goal.returns-then-are_levels-clause-asked
 returns-then-are_levels-clause-asked c =
     let rest = after_second string_bytes c.args.words.now in
@@ -22,3 +42,21 @@ pub returns-then-are_levels-clause-levels : goal.returns-then-are_levels-clause-
 returns-then-are_levels-clause-levels c =
     let words = c.args.words.now in
     rising_are_levels 0 (map string_bytes (take (length words - 2) (drop 2 words))) (sym c.are_levels.ensures ∙ c.if-are_levels.true)
+
+later : (a b : Bool) → b ≡ false → (a && b) ≡ false
+later true b e = e
+later false b e = refl
+
+pub returns-else-is_settings-clause-some : goal.returns-else-is_settings-clause-some
+returns-else-is_settings-clause-some c =
+    let words = c.args.words.now in
+    let all = map string_bytes words in
+    let front : Bool = nat_le 3 (length all) && nat_le (length all) (MOST_LISTED + 2) && bytes_eq (word all 0) (codes "frontier") in
+    let rising : Bool = are_levels_from 0 (drop 2 all) in
+    let fails : (front && is_settings_word (word all 1) && rising) ≡ false = elim c.else-is_settings.branch [
+      | else-is_settings-via-then-is_settings+else-are_levels w ↦
+          later (front && is_settings_word (word all 1)) rising (ap (are_levels_from 0) (sym (after_second string_bytes words)) ∙ sym w.are_levels.ensures ∙ w.if-are_levels.false)
+      | else-is_settings-via-else-is_settings w ↦
+          ap (λ t. t && rising) (later front (is_settings_word (word all 1)) (ap is_settings_word (sym c.word_at-name.ensures) ∙ sym c.is_settings.ensures ∙ w.if-is_settings.false))
+    ] in
+    sym fails
