@@ -40,7 +40,6 @@ fn are_levels(words: &[String]) -> bool
 }
 
 // Reads the words: the name of the settings file, and the levels.
-#[tactic(auto, using(crate::proofs::WordFacts::words_after_second, crate::proofs::LevelFacts::rising_are_levels))]
 pub(crate) fn read(words: &[String]) -> Option<FrontierRequest<'_>>
     ensures some { is_some result ≡ are_frontier_words (map string_bytes words.now) }
     ensures asked { IfSome result (λ r. asked_of_request r ≡ asked_in (map string_bytes words.now)) }
