@@ -1,16 +1,9 @@
 // The canons of a name; no command makes one by its comparator.
-ghost use Rattle.std.specs.Prelude.{IfOk};
 ghost use Rattle.link_base.specs.Standard.{IsValid};
 
 use comparators::{ByNysiis, BySoundex, Exact, FirstLetters, Initials, KeyComparator};
 use link_base::{NoMemory, Text, Value};
 use std::alloc::Global;
-
-fn word(alloc: Global, text: &str) -> Result<Value, NoMemory>
-    ensures { IfOk result IsValid }
-{
-    Ok(Value::Word(Text::new(alloc, text.as_bytes())?))
-}
 
 fn is_text(canon: Result<Option<Text>, NoMemory>, wanted: &[u8]) -> bool {
     match canon {
@@ -30,7 +23,7 @@ fn has_canons(alloc: Global, name: &Value) -> bool
 }
 
 fn are_known(alloc: Global) -> Result<bool, NoMemory> {
-    let name = word(alloc, "KNUTH")?;
+    let name = Value::Word(Text::new(alloc, "KNUTH".as_bytes())?);
     Ok(has_canons(alloc, &name))
 }
 

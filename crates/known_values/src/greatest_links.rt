@@ -9,16 +9,13 @@ use link_limits::MOST_VALUE;
 use price_check::are_rising;
 use std::alloc::Global;
 
-fn are_within(candidates: &[Candidate]) -> bool
-    ensures { IsTrue result → All (IsWithin 3 3) candidates.now }
+fn are_fit(candidates: &[Candidate]) -> bool
+    ensures within { IsTrue result → All (IsWithin 3 3) candidates.now }
+    ensures small { IsTrue result → All HasSmallValue candidates.now }
 {
-    candidates.iter().all(|c| c.a < 3 && c.b < 3)
-}
-
-fn are_small(candidates: &[Candidate]) -> bool
-    ensures { IsTrue result → All HasSmallValue candidates.now }
-{
-    candidates.iter().all(|c| c.value <= MOST_VALUE as i32)
+    candidates
+        .iter()
+        .all(|c| c.a < 3 && c.b < 3 && c.value <= MOST_VALUE as i32)
 }
 
 /// Nine values from -3 to 3 that a number makes, for each pair of three records a side.
@@ -72,10 +69,7 @@ fn most_of(values: &[i32; 9]) -> i32 {
 
 /// What the links of the assigner are worth. `None` where the candidates are none of its.
 fn found_of(alloc: Global, candidates: &[Candidate]) -> Result<Option<i32>, NoMemory> {
-    if candidates.len() > 9 || !are_rising(candidates) {
-        return Ok(None);
-    }
-    if !are_within(candidates) || !are_small(candidates) {
+    if candidates.len() > 9 || !are_rising(candidates) || !are_fit(candidates) {
         return Ok(None);
     }
     let solved = Assigner::new(alloc, 3, 3, candidates)?.solve();

@@ -21,13 +21,33 @@ fn name_in_folder(rt: HostRuntime, name: &str) -> Result<String, Fail> {
     Ok(format!(in rt.alloc(); "{}/{}", folder.as_path().display(), name)?)
 }
 
-// Whether a text that is put over another is loaded up to a limit.
+// Whether a text that is put is loaded whole.
+fn is_kept<S: Store>(alloc: Global, files: &mut S, name: &str, text: &[u8]) -> bool {
+    files.put(alloc, name, text).is_ok()
+        && gives(files.load(alloc, name, text.len() as u64), true, text)
+}
+
+// The same of a long text.
+fn is_long_kept<S: Store>(alloc: Global, files: &mut S, name: &str) -> bool {
+    match vec![in alloc; b'x'; 200_000] {
+        Ok(long) => is_kept(alloc, files, name, &long),
+        Err(_) => false,
+    }
+}
+
+// Whether a short text is put over a long one, and loaded up to a limit.
 fn is_put_over<S: Store>(alloc: Global, files: &mut S, name: &str) -> bool {
-    files.put(alloc, name, b"old").is_ok()
-        && files.put(alloc, name, b"abc").is_ok()
-        && gives(files.load(alloc, name, 3), true, b"abc")
+    is_long_kept(alloc, files, name)
+        && is_kept(alloc, files, name, b"abc")
         && gives(files.load(alloc, name, 2), false, b"abc")
         && gives(files.load(alloc, name, 1), false, b"ab")
+}
+
+// Whether neither a file that is not there is loaded nor one put into a folder that is not there.
+fn are_refused<S: Store>(alloc: Global, files: &mut S, name: &str) -> bool {
+    let is_loaded = !matches!(files.load(alloc, name, 3), Err(StoreError::Failed));
+    let put = files.put(alloc, "linkage-no-folder/a.csv", b"x");
+    !is_loaded && put == Err(StoreError::Failed)
 }
 
 #[test]
@@ -36,33 +56,8 @@ fn files_are_put_whole_and_loaded_up_to_a_limit(rt: HostRuntime) -> Result<(), F
     let name = name_in_folder(rt, "linkage-adapter-test.csv")?;
     let mut files = HostFiles::new(alloc, &rt);
     assert!(rt; is_put_over(alloc, &mut files, &name));
-    fs::remove_file(&rt, name.as_str())?;
-    assert!(rt; matches!(files.load(alloc, &name, 3), Err(StoreError::Failed)));
-    Ok(())
-}
-
-#[test]
-fn a_file_without_a_folder_is_a_failure(rt: HostRuntime) -> Result<(), Fail> {
-    let alloc = rt.alloc();
-    let name = name_in_folder(rt, "linkage-no-folder/a.csv")?;
-    let mut files = HostFiles::new(alloc, &rt);
-    assert!(rt; matches!(files.put(alloc, &name, b"x"), Err(StoreError::Failed)));
-    Ok(())
-}
-
-// Whether a text that is put is loaded whole.
-fn is_kept_whole<S: Store>(alloc: Global, files: &mut S, name: &str, text: &[u8]) -> bool {
-    files.put(alloc, name, text).is_ok() && gives(files.load(alloc, name, 200_000), true, text)
-}
-
-#[test]
-fn a_long_file_is_loaded_whole(rt: HostRuntime) -> Result<(), Fail> {
-    let alloc = rt.alloc();
-    let name = name_in_folder(rt, "linkage-long-test.csv")?;
-    let long = vec![in alloc; b'x'; 200_000]?;
-    let mut files = HostFiles::new(alloc, &rt);
-    assert!(rt; is_kept_whole(alloc, &mut files, &name, &long));
-    fs::remove_file(&rt, name.as_str())?;
+    assert!(rt; fs::remove_file(&rt, name.as_str()).is_ok());
+    assert!(rt; are_refused(alloc, &mut files, &name));
     Ok(())
 }
 
@@ -88,16 +83,10 @@ impl Write for Narrow {
 }
 
 #[test]
-fn a_stream_that_takes_nothing_or_hands_nothing_on_has_failed(rt: HostRuntime) -> Result<(), Fail> {
-    let alloc = rt.alloc();
-    for (takes, flushes, done) in [(1, true, true), (0, true, false), (1, false, false)] {
+fn a_stream_that_takes_nothing_or_hands_nothing_on_has_failed(rt: HostRuntime) {
+    let failed = Err(SinkError::Failed);
+    for (takes, flushes, done) in [(1, true, Ok(())), (0, true, failed), (1, false, failed)] {
         let mut stream = HostStream::new(Narrow { takes, flushes });
-        match stream.put_all(alloc, b"xy") {
-            Ok(()) => assert!(rt; done),
-            Err(error) => assert!(rt; !done && error == SinkError::Failed),
-        }
+        assert!(rt; stream.put_all(rt.alloc(), b"xy") == done);
     }
-    let mut open = HostStream::new(Vec::new(alloc));
-    assert!(rt; open.put_all(alloc, b"x").is_ok());
-    Ok(())
 }
