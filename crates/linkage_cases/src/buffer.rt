@@ -11,7 +11,6 @@ pub(crate) enum Fault {
     NotToml,
     NotListed,
     NotText,
-    NotNumber,
     NotByte,
     NotBeside,
     NotMade,
@@ -31,7 +30,6 @@ impl Fault {
             Fault::NotListed =>
                 "a table with a key or a value that it may not have, or without one that it needs",
             Fault::NotText => "not a text",
-            Fault::NotNumber => "not a number",
             Fault::NotByte => "not a byte",
             Fault::NotBeside => "no such file beside the case files",
             Fault::NotMade => "no such made file",
@@ -73,6 +71,13 @@ impl Buffer {
     pub(crate) fn push(&mut self, bytes: &[u8]) {
         if self.bytes.extend_from_slice(bytes).is_err() {
             self.fail(Fault::NoMemory);
+        }
+    }
+
+    /// Appends bytes one after the other.
+    pub(crate) fn push_each(&mut self, parts: &[&[u8]]) {
+        for part in parts {
+            self.push(part);
         }
     }
 

@@ -7,7 +7,7 @@ use crate::keys::{
 use link_limits::MOST_ROWS;
 use std::alloc::Global;
 use toml::Value;
-use workload::{MadeInput, make_input};
+use workload::make_input;
 
 // Appends the bytes that numbers are.
 fn push_bytes(bytes: &mut Buffer, numbers: &[Value]) {
@@ -38,16 +38,6 @@ fn push_piece(alloc: Global, bytes: &mut Buffer, piece: &Value) {
     }
 }
 
-// Appends the file of a name in a made input.
-fn push_text_of(bytes: &mut Buffer, input: &MadeInput, name: &str) {
-    match name {
-        "a.csv" => bytes.push(input.a.bytes()),
-        "b.csv" => bytes.push(input.b.bytes()),
-        "sample.csv" => bytes.push(input.sample.bytes()),
-        _ => bytes.fail(Fault::NotMade),
-    }
-}
-
 // Appends the file of a name in a made input of so many rows.
 fn push_made(alloc: Global, bytes: &mut Buffer, name: &str, rows: u32) {
     if rows < 2 || rows > MOST_ROWS {
@@ -56,7 +46,11 @@ fn push_made(alloc: Global, bytes: &mut Buffer, name: &str, rows: u32) {
     match make_input(alloc, rows) {
         Err(_) => bytes.fail(Fault::NoMemory),
         Ok(input) => {
-            push_text_of(bytes, &input, name);
+            match name {
+                "a.csv" => bytes.push(input.a.bytes()),
+                "b.csv" => bytes.push(input.b.bytes()),
+                _ => bytes.fail(Fault::NotMade),
+            }
             drop(input);
         }
     }
@@ -109,9 +103,8 @@ fn replaced(alloc: Global, bytes: &Buffer, replacement: &Value) -> Buffer {
     match whole.split_once(text(replacement, "old")) {
         None => changed.fail(Fault::NotReplaced),
         Some((before, after)) => {
-            changed.push(before.as_bytes());
-            changed.push(text(replacement, "new").as_bytes());
-            changed.push(after.as_bytes());
+            let new = text(replacement, "new");
+            changed.push_each(&[before.as_bytes(), new.as_bytes(), after.as_bytes()]);
         }
     }
     changed

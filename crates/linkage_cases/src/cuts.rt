@@ -1,50 +1,32 @@
 // A command over each cut of a file.
 use crate::buffer::{Buffer, Fault, copied};
 use crate::files::Files;
-use crate::trial::{Ending, NONE, push_ending, run_over};
+use crate::trial::{NONE, push_ending, run_over};
 use std::alloc::Global;
 
-// The line of an ending. Of one that is done nothing more is said.
-fn line_of(alloc: Global, ending: &Ending, files: &Files) -> Buffer {
-    let mut line = Buffer::new(alloc);
-    if ending.status == 0 {
-        line.push(b"0");
-    } else {
-        push_ending(alloc, &mut line, ending, files, ending);
-    }
-    line
-}
-
-// How a command ends over what the files hold.
-fn line_over(alloc: Global, words: &[String], files: &Files) -> Buffer {
-    match run_over(alloc, words, files, NONE) {
-        Ok(ending) => {
-            let line = line_of(alloc, &ending, files);
-            drop(ending);
-            line
-        }
-        Err(_) => {
-            let mut line = Buffer::new(alloc);
-            line.fail(Fault::NoMemory);
-            line
-        }
-    }
-}
-
-// How a command ends over a cut of a file.
+// How a command ends over a front of a file. Of one that is done nothing more is said.
 fn line_at(
     alloc: Global,
     words: &[String],
     files: &mut Files,
     name: &str,
-    all: &[u8],
-    length: usize,
+    front: Option<&[u8]>,
 ) -> Buffer {
-    let mut page = Buffer::new(alloc);
-    let front = copied(alloc, &mut page, all.get(..length));
-    files.set(alloc, &mut page, name, front);
-    page.push_all(&line_over(alloc, words, files));
-    page
+    let mut line = Buffer::new(alloc);
+    let front = copied(alloc, &mut line, front);
+    files.set(alloc, &mut line, name, front);
+    match run_over(alloc, words, files, NONE) {
+        Err(_) => line.fail(Fault::NoMemory),
+        Ok(ending) => {
+            if ending.status == 0 {
+                line.push(b"0");
+            } else {
+                push_ending(alloc, &mut line, &ending, files, &ending);
+            }
+            drop(ending);
+        }
+    }
+    line
 }
 
 // Appends the line of cuts that end alike, from one length to another.
@@ -69,9 +51,9 @@ fn push_lines(
     all: &[u8],
 ) {
     let mut least = 0usize;
-    let mut last = line_at(alloc, words, files, name, all, 0);
+    let mut last = line_at(alloc, words, files, name, all.get(..0));
     for length in 1..=all.len() {
-        let line = line_at(alloc, words, files, name, all, length);
+        let line = line_at(alloc, words, files, name, all.get(..length));
         if line.bytes != last.bytes {
             close(alloc, lines, least, length.saturating_sub(1), &last);
             least = length;
@@ -79,16 +61,6 @@ fn push_lines(
         }
     }
     close(alloc, lines, least, all.len(), &last);
-}
-
-// What is shown of the cuts of a file.
-fn cuts_of(alloc: Global, words: &[String], files: &mut Files, name: &str, all: &[u8]) -> Buffer {
-    let mut lines = Buffer::new(alloc);
-    lines.push(b"-- ");
-    lines.push(name.as_bytes());
-    lines.push(b" cut\n");
-    push_lines(alloc, &mut lines, words, files, name, all);
-    lines
 }
 
 /// What was shown of the cuts of a file, and by which command.
@@ -112,11 +84,10 @@ fn earlier<'a>(shown: &'a [Cuts], lines: &Buffer) -> Option<&'a Buffer> {
 fn show_lines(page: &mut Buffer, shown: &mut Vec<Cuts>, name: &str, cuts: Cuts) {
     match earlier(shown, &cuts.lines) {
         Some(earlier) => {
-            page.push(b"-- ");
-            page.push(name.as_bytes());
-            page.push(b" cut: as");
+            page.push_each(&[b"-- ", name.as_bytes(), b" cut: as"]);
             page.push_all(earlier);
             page.push(b"\n");
+            drop(cuts);
         }
         None => {
             page.push_all(&cuts.lines);
@@ -139,20 +110,20 @@ pub(crate) fn show_cuts(
     match copied(alloc, page, files.held(name)) {
         None => page.fail(Fault::NotCut),
         Some(all) => {
-            let lines = cuts_of(alloc, words, files, name, &all);
+            let mut lines = Buffer::new(alloc);
+            lines.push_each(&[b"-- ", name.as_bytes(), b" cut\n"]);
+            push_lines(alloc, &mut lines, words, files, name, &all);
             files.set(alloc, page, name, Some(all));
-            let command = words_text(alloc, words);
+            let mut command = Buffer::new(alloc);
+            push_words(&mut command, words);
             show_lines(page, shown, name, Cuts { lines, command });
         }
     }
 }
 
-/// Words with a space before each.
-pub(crate) fn words_text(alloc: Global, words: &[String]) -> Buffer {
-    let mut text = Buffer::new(alloc);
+/// Appends words with a space before each.
+pub(crate) fn push_words(text: &mut Buffer, words: &[String]) {
     for word in words {
-        text.push(b" ");
-        text.push(word.as_bytes());
+        text.push_each(&[b" ", word.as_bytes()]);
     }
-    text
 }

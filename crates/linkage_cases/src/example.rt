@@ -13,35 +13,26 @@ use pair_walk::{RowPairs, Walker};
 use settings::read_settings;
 use std::alloc::Global;
 
-/// The bytes of the distinct texts of the worked example, and one byte less.
-const LIMITS: [u64; 2] = [168, 167];
+/// The bytes of the distinct texts of the worked example.
+const POOL: u64 = 168;
 
-// Shows why two files do not fit into a pool.
-fn show_want(alloc: Global, page: &mut Buffer, fault: &link_base::Fault) {
-    if let link_base::Fault::PoolFull { used, .. } = fault {
-        page.push(b" bytes: ");
-        page.push_number(alloc, *used);
-        page.push(b" are wanted\n");
-    } else {
-        page.push(b" bytes: refused\n");
-    }
-}
+/// One byte less.
+const SMALL_POOL: u64 = 167;
 
-// Shows whether two files fit into a pool of so many bytes.
-fn show_pool(alloc: Global, page: &mut Buffer, plan: &Plan, a: &[u8], b: &[u8], limit: u64)
-    requires ranges { KeepsRanges plan.now }
-    requires limit { limit ≤ MOST_POOL_LIMIT }
+// Shows that a pool of less bytes is too small for two files.
+fn show_want(alloc: Global, page: &mut Buffer, plan: &Plan, a: &[u8], b: &[u8])
+    requires { KeepsRanges plan.now }
 {
-    page.push_number(alloc, limit);
-    match prepare(alloc, plan, a, b, limit) {
-        Ok(files) => {
-            drop(files);
-            page.push(b" bytes: enough\n");
-        }
+    match prepare(alloc, plan, a, b, SMALL_POOL) {
         Err(fault) => {
-            show_want(alloc, page, &fault);
+            if let link_base::Fault::PoolFull { used, .. } = &fault {
+                page.push(b"167 bytes: ");
+                page.push_number(alloc, *used);
+                page.push(b" are wanted\n");
+            }
             drop(fault);
         }
+        Ok(files) => drop(files),
     }
 }
 
@@ -81,51 +72,37 @@ fn show_partners(alloc: Global, page: &mut Buffer, plan: &Plan, files: &Prepared
     }
 }
 
-// Shows the second file of a plan, and the columns in it.
-fn show_second(page: &mut Buffer, within: &Plan) {
-    page.push(within.file_b.bytes());
-    for field in within.fields.fields() {
-        page.push(b" ");
-        page.push(field.column_b.bytes());
-    }
-    page.push(b"\n");
-}
-
 // Shows the second file, and the columns in it, of the plan of the first file with itself.
 fn show_within(alloc: Global, page: &mut Buffer, plan: &Plan) {
     match plan.within(alloc) {
         Err(_) => page.fail(Fault::NotShown),
         Ok(within) => {
-            show_second(page, &within);
+            page.push(within.file_b.bytes());
+            for field in within.fields.fields() {
+                page.push_each(&[b" ", field.column_b.bytes()]);
+            }
+            page.push(b"\n");
             drop(within);
         }
     }
 }
 
-// Shows with which records of B each record of A is compared.
-fn show_compared(alloc: Global, page: &mut Buffer, plan: &Plan, a: &[u8], b: &[u8])
+// Shows which pool two files fit into, and with which records of B each record of A is compared.
+fn show_files(alloc: Global, page: &mut Buffer, plan: &Plan, a: &[u8], b: &[u8])
     requires { KeepsRanges plan.now }
 {
-    match prepare(alloc, plan, a, b, LIMITS[0]) {
+    match prepare(alloc, plan, a, b, POOL) {
         Err(fault) => {
             page.fail(Fault::NotShown);
             drop(fault);
         }
         Ok(files) => {
+            page.push(b"168 bytes: enough\n");
+            show_want(alloc, page, plan, a, b);
             show_partners(alloc, page, plan, &files);
             drop(files);
         }
     }
-}
-
-// Shows what no command prints of two files and their settings.
-fn show(alloc: Global, page: &mut Buffer, plan: &Plan, a: &[u8], b: &[u8])
-    requires { KeepsRanges plan.now }
-{
-    show_within(alloc, page, plan);
-    show_pool(alloc, page, plan, a, b, LIMITS[0]);
-    show_pool(alloc, page, plan, a, b, LIMITS[1]);
-    show_compared(alloc, page, plan, a, b);
 }
 
 /// Shows what no command prints of the worked example, whose files stand beside the case files.
@@ -141,7 +118,8 @@ pub(crate) fn show_example(alloc: Global, page: &mut Buffer, beside: &Files) {
             drop(fault);
         }
         Ok(plan) => {
-            show(alloc, page, &plan, a, b);
+            show_within(alloc, page, &plan);
+            show_files(alloc, page, &plan, a, b);
             drop(plan);
         }
     }

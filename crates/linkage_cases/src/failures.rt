@@ -26,8 +26,8 @@ struct Trials<'a> {
 
 impl Trials<'_> {
     // Runs the command again with standard error failing too, and counts whether it ends otherwise.
-    fn run_in_silence(&mut self, line: &mut Buffer, ending: &Ending, fails: Failures<'_>) {
-        let silent = Failures { err: &[1], ..fails };
+    fn run_in_silence(&mut self, line: &mut Buffer, ending: &Ending, fails: Failures) {
+        let silent = Failures { err: 1, ..fails };
         match run_over(self.alloc, self.words, self.files, silent) {
             Err(_) => line.fail(Fault::NoMemory),
             Ok(again) => {
@@ -50,7 +50,7 @@ impl Trials<'_> {
     }
 
     // How the command ends where some calls fail; and again with standard error failing too.
-    fn line_of(&mut self, fails: Failures<'_>) -> Buffer {
+    fn line_of(&mut self, fails: Failures) -> Buffer {
         let mut line = Buffer::new(self.alloc);
         match run_over(self.alloc, self.words, self.files, fails) {
             Err(_) => line.fail(Fault::NoMemory),
@@ -63,22 +63,6 @@ impl Trials<'_> {
         line
     }
 
-    // How the command ends where a call of the store fails, whose bytes are written or not.
-    fn line_at(&mut self, call: u32, applied: bool) -> Buffer {
-        self.line_of(Failures {
-            store: &[Failure { call, applied }],
-            ..NONE
-        })
-    }
-
-    // How the command ends where a call of standard output fails.
-    fn line_at_output(&mut self, call: u32) -> Buffer {
-        self.line_of(Failures {
-            out: &[call],
-            ..NONE
-        })
-    }
-
     // Shows which call fails, and how the command then ends.
     fn show(&self, page: &mut Buffer, call: u32, before: &[u8], after: &[u8], line: &Buffer) {
         page.push(before);
@@ -88,32 +72,22 @@ impl Trials<'_> {
         page.push(b"\n");
     }
 
-    // Shows the ending where a call of the store fails with its bytes written, if that is another.
-    fn show_written(&mut self, page: &mut Buffer, call: u32, line: &Buffer) {
-        let written = self.line_at(call, true);
-        if written.bytes != line.bytes {
-            self.show(page, call, b"store ", b", written: ", &written);
-        }
-    }
-
-    // Shows the ending where a call of the store fails. False where the command makes no such call.
+    // Shows the ending where a call of the store fails; and with its bytes written, if that is another. False where the
+    // command makes no such call.
     fn show_store_call(&mut self, page: &mut Buffer, call: u32) -> bool {
-        let line = self.line_at(call, false);
+        let line = self.line_of(fails_at(call, false));
         self.show(page, call, b"store ", b": ", &line);
         let is_made = line.bytes.as_slice() != AS_NONE;
         if is_made {
-            self.show_written(page, call, &line);
+            let written = self.line_of(fails_at(call, true));
+            if written.bytes != line.bytes {
+                self.show(page, call, b"store ", b", written: ", &written);
+            }
         }
         is_made
     }
 
-    // Shows the ending where a call of standard output fails. False where the command makes no such call.
-    fn show_output_call(&mut self, page: &mut Buffer, call: u32) -> bool {
-        let line = self.line_at_output(call);
-        self.show(page, call, b"output ", b": ", &line);
-        line.bytes.as_slice() != AS_NONE
-    }
-
+    // Shows the ending at each call of the store that the command makes, with that call failing.
     fn show_store_calls(&mut self, page: &mut Buffer) {
         for call in 1..=MOST_CALLS {
             if !self.show_store_call(page, call) {
@@ -122,26 +96,23 @@ impl Trials<'_> {
         }
     }
 
+    // The same at each call of standard output.
     fn show_output_calls(&mut self, page: &mut Buffer) {
         for call in 1..=MOST_CALLS {
-            if !self.show_output_call(page, call) {
+            let line = self.line_of(Failures { out: call, ..NONE });
+            self.show(page, call, b"output ", b": ", &line);
+            if line.bytes.as_slice() == AS_NONE {
                 return;
             }
         }
     }
+}
 
-    // Shows the ending at each call that the command makes, with that call failing.
-    fn show_all(&mut self, page: &mut Buffer) {
-        page.push(b"none: ");
-        page.push(self.line);
-        page.push(b"\n");
-        self.show_store_calls(page);
-        self.show_output_calls(page);
-        page.push(b"standard error too: ");
-        page.push_number(self.alloc, u64::from(self.silent));
-        page.push(b" endings, ");
-        page.push_number(self.alloc, u64::from(self.others));
-        page.push(b" of them others\n");
+// Where a call of the store fails alone, whose bytes are written or not.
+fn fails_at(call: u32, applied: bool) -> Failures {
+    Failures {
+        store: Failure { call, applied },
+        ..NONE
     }
 }
 
@@ -149,6 +120,7 @@ impl Trials<'_> {
 fn show_beside(alloc: Global, page: &mut Buffer, words: &[String], files: &Files, whole: &Ending) {
     let mut line = Buffer::new(alloc);
     push_ending(alloc, &mut line, whole, files, whole);
+    page.push_each(&[b"none: ", &line.bytes, b"\n"]);
     let mut trials = Trials {
         alloc,
         words,
@@ -158,7 +130,13 @@ fn show_beside(alloc: Global, page: &mut Buffer, words: &[String], files: &Files
         silent: 0,
         others: 0,
     };
-    trials.show_all(page);
+    trials.show_store_calls(page);
+    trials.show_output_calls(page);
+    page.push(b"standard error too: ");
+    page.push_number(alloc, u64::from(trials.silent));
+    page.push(b" endings, ");
+    page.push_number(alloc, u64::from(trials.others));
+    page.push(b" of them others\n");
 }
 
 /// Runs a command once for each call that it makes to the store and to standard output, with that call failing, and shows

@@ -1,7 +1,6 @@
 // Tables of a case file: which keys they may have, and what stands at a key.
 use crate::buffer::{Buffer, Fault};
-use link_outside::Failure;
-use std::alloc::{AllocError, Global};
+use std::alloc::Global;
 use toml::{Table, Value};
 
 /// A key of a table, the type of what stands there, and whether it has to be there.
@@ -42,20 +41,19 @@ pub(crate) const PIECE: [Key; 3] = [
 /// A text, and what stands in its place.
 pub(crate) const REPLACEMENT: [Key; 2] = [("old", "string", true), ("new", "string", true)];
 
-/// A command: its words; changes before it; the calls that fail, of the store, of standard output and of standard error; whether
-/// it is run once for each call that it makes, with that call failing; and the files of which it is run over each cut.
-pub(crate) const RUN: [Key; 7] = [
+/// A command: its words; changes before it; the calls that fail, from 1: of the store, loads and puts counted together, applied
+/// where a failing put has written its bytes, of standard output and of standard error; whether it is run once for each call
+/// that it makes, with that call failing; and the files of which it is run over each cut.
+pub(crate) const RUN: [Key; 8] = [
     ("words", "array", true),
     ("file", "array", false),
-    ("fails", "array", false),
-    ("out_fails", "array", false),
-    ("err_fails", "array", false),
+    ("fails", "integer", false),
+    ("applied", "boolean", false),
+    ("out_fails", "integer", false),
+    ("err_fails", "integer", false),
     ("each_failure", "boolean", false),
     ("each_cut", "array", false),
 ];
-
-/// A call of the store, from 1, loads and puts counted together; applied where a failing put has written its bytes.
-const FAIL: [Key; 2] = [("call", "integer", true), ("applied", "boolean", false)];
 
 // Whether a value is of a type; a number is one of at most 32 bits.
 fn is_of(value: &Value, kind: &str) -> bool {
@@ -149,47 +147,17 @@ pub(crate) fn text_of<'a>(page: &mut Buffer, value: &'a Value) -> &'a str {
     }
 }
 
-// Appends a word.
-fn push_word(alloc: Global, words: &mut Vec<String>, word: &str) -> Result<(), AllocError> {
-    words.push(String::from_str(alloc, word)?)?;
-    Ok(())
-}
-
 /// The words that values are.
 pub(crate) fn words_of(alloc: Global, page: &mut Buffer, values: &[Value]) -> Vec<String> {
     let mut words = Vec::new(alloc);
     for value in values {
-        if push_word(alloc, &mut words, text_of(page, value)).is_err() {
+        let is_pushed = match String::from_str(alloc, text_of(page, value)) {
+            Ok(word) => words.push(word).is_ok(),
+            Err(_) => false,
+        };
+        if !is_pushed {
             page.fail(Fault::NoMemory);
         }
     }
     words
-}
-
-/// The numbers that values are.
-pub(crate) fn numbers_of(alloc: Global, page: &mut Buffer, values: &[Value]) -> Vec<u32> {
-    let mut numbers = Vec::new(alloc);
-    for value in values {
-        match number_of(value) {
-            Some(number) if numbers.push(number).is_ok() => {}
-            _ => page.fail(Fault::NotNumber),
-        }
-    }
-    numbers
-}
-
-/// The planned failures of a store.
-pub(crate) fn failures_of(alloc: Global, page: &mut Buffer, fails: &[Value]) -> Vec<Failure> {
-    let mut failures = Vec::new(alloc);
-    for fail in fails {
-        check(page, fail, &FAIL);
-        let failure = Failure {
-            call: number(fail, "call", 0),
-            applied: truth(fail, "applied"),
-        };
-        if failures.push(failure).is_err() {
-            page.fail(Fault::NoMemory);
-        }
-    }
-    failures
 }

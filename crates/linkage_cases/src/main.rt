@@ -19,11 +19,30 @@ use files::Files;
 use keys::{CASES, check, values};
 use runs::run_case;
 use std::alloc::Global;
-use std::env::Env;
 use std::io::Write;
 use std::rt::Files as HostFiles;
-use std::{env, fs, io};
+use std::{fs, io};
 use toml::Value;
+
+/// The case files, in the order in which they are run.
+const CASE_FILES: [&str; 16] = [
+    "keys.toml",
+    "pairs_of_columns.toml",
+    "pairs_of_settings.toml",
+    "settings.toml",
+    "tables.toml",
+    "rule.toml",
+    "frontier.toml",
+    "review.toml",
+    "run.toml",
+    "verify.toml",
+    "failures.toml",
+    "cuts.toml",
+    "limits.toml",
+    "duplicates.toml",
+    "many.toml",
+    "values.toml",
+];
 
 /// The files beside the case files.
 const BESIDE: [&str; 13] = [
@@ -73,14 +92,6 @@ fn run_cases<R: Print>(rt: &R, alloc: Global, page: &mut Buffer, beside: &Files,
     }
 }
 
-// Runs the cases of a text.
-fn run_text<R: Print>(rt: &R, alloc: Global, page: &mut Buffer, beside: &Files, text: &str) {
-    match toml::table_from_str(alloc, text) {
-        Ok(table) => run_cases(rt, alloc, page, beside, &Value::Table(table)),
-        Err(_) => page.fail(Fault::NotToml),
-    }
-}
-
 // Runs the cases of the file of a name.
 fn run_file<R: Print + HostFiles + AllocGlobal>(
     rt: &R,
@@ -89,21 +100,19 @@ fn run_file<R: Print + HostFiles + AllocGlobal>(
     name: &str,
 ) {
     match fs::read_to_string(rt, name) {
-        Ok(text) => run_text(rt, rt.alloc(), page, beside, &text),
         Err(_) => page.fail(Fault::NoInput),
+        Ok(text) => match toml::table_from_str(rt.alloc(), &text) {
+            Ok(table) => run_cases(rt, rt.alloc(), page, beside, &Value::Table(table)),
+            Err(_) => page.fail(Fault::NotToml),
+        },
     }
 }
 
-// Runs the cases of the files that the arguments name, and shows what no command prints of the example beside them.
-fn run_files<R: Print + HostFiles + Env + AllocGlobal>(rt: &R, page: &mut Buffer) {
+// Runs the cases of the case files, and shows what no command prints of the example beside them.
+fn run_files<R: Print + HostFiles + AllocGlobal>(rt: &R, page: &mut Buffer) {
     let beside = beside_of(rt, page);
-    match env::args(rt) {
-        Ok(names) => {
-            for name in names.skip(1) {
-                run_file(rt, page, &beside, &name);
-            }
-        }
-        Err(_) => page.fail(Fault::NoInput),
+    for name in &CASE_FILES {
+        run_file(rt, page, &beside, name);
     }
     if page.fault.is_none() {
         show_example(rt.alloc(), page, &beside);

@@ -1,39 +1,26 @@
 // The commands of a case.
 use crate::buffer::{Buffer, Fault};
 use crate::changes::{change_all, hold_all};
-use crate::cuts::{Cuts, show_cuts, words_text};
+use crate::cuts::{Cuts, push_words, show_cuts};
 use crate::failures::show_each_failure;
 use crate::files::Files;
-use crate::keys::{
-    CASE, RUN, check, failures_of, numbers_of, text, text_of, truth, values, words_of,
-};
-use crate::trial::{Ending, Failures, run_over};
-use link_base::NoMemory;
+use crate::keys::{CASE, RUN, check, number, text, text_of, truth, values, words_of};
+use crate::trial::{Failures, run_over};
+use link_outside::Failure;
 use std::alloc::Global;
 use toml::Value;
 
-// How a command ends over what the files hold, with its planned calls failing.
-fn ending_of(
-    alloc: Global,
-    page: &mut Buffer,
-    files: &Files,
-    run: &Value,
-    words: &[String],
-) -> Result<Ending, NoMemory> {
-    let store = failures_of(alloc, page, values(run, "fails"));
-    let out = numbers_of(alloc, page, values(run, "out_fails"));
-    let err = numbers_of(alloc, page, values(run, "err_fails"));
-    let fails = Failures {
-        store: &store,
-        out: &out,
-        err: &err,
-    };
-    run_over(alloc, words, files, fails)
-}
-
-// Runs a command once over what the files hold, and shows what it did.
+// Runs a command once over what the files hold, with its planned calls failing, and shows what it did.
 fn run_once(alloc: Global, page: &mut Buffer, files: &mut Files, run: &Value, words: &[String]) {
-    match ending_of(alloc, page, files, run, words) {
+    let fails = Failures {
+        store: Failure {
+            call: number(run, "fails", 0),
+            applied: truth(run, "applied"),
+        },
+        out: number(run, "out_fails", 0),
+        err: number(run, "err_fails", 0),
+    };
+    match run_over(alloc, words, files, fails) {
         Err(_) => page.fail(Fault::NoMemory),
         Ok(ending) => {
             page.push_shortened(alloc, ending.out.bytes());
@@ -56,9 +43,6 @@ fn run_words(
     run: &Value,
     words: &[String],
 ) {
-    page.push(b"$ linkage");
-    page.push_all(&words_text(alloc, words));
-    page.push(b"\n");
     let each_cut = values(run, "each_cut");
     if truth(run, "each_failure") {
         show_each_failure(alloc, page, words, files);
@@ -83,15 +67,16 @@ fn run_command(
     check(page, run, &RUN);
     change_all(alloc, page, files, beside, values(run, "file"));
     let words = words_of(alloc, page, values(run, "words"));
+    page.push(b"$ linkage");
+    push_words(page, &words);
+    page.push(b"\n");
     run_words(alloc, page, files, shown, run, &words);
 }
 
 /// Runs the commands of a case one after the other over the same files.
 pub(crate) fn run_case(alloc: Global, page: &mut Buffer, beside: &Files, case: &Value) {
     check(page, case, &CASE);
-    page.push(b"== ");
-    page.push(text(case, "name").as_bytes());
-    page.push(b"\n");
+    page.push_each(&[b"== ", text(case, "name").as_bytes(), b"\n"]);
     let mut files = Files::outputs(alloc, page);
     let mut shown = Vec::new(alloc);
     hold_all(alloc, page, &mut files, beside, values(case, "hold"));

@@ -6,19 +6,22 @@ use link_outside::{Failure, MemorySink, MemoryStore};
 use link_shell::linkage;
 use std::alloc::Global;
 
-/// Which calls of the store and of the two streams fail.
+/// Which call of the store and of each of the two streams fails, counted from 1; no call has the number 0.
 #[derive(Clone, Copy)]
-pub(crate) struct Failures<'a> {
-    pub(crate) store: &'a [Failure],
-    pub(crate) out: &'a [u32],
-    pub(crate) err: &'a [u32],
+pub(crate) struct Failures {
+    pub(crate) store: Failure,
+    pub(crate) out: u32,
+    pub(crate) err: u32,
 }
 
 /// No call fails.
-pub(crate) const NONE: Failures<'static> = Failures {
-    store: &[],
-    out: &[],
-    err: &[],
+pub(crate) const NONE: Failures = Failures {
+    store: Failure {
+        call: 0,
+        applied: false,
+    },
+    out: 0,
+    err: 0,
 };
 
 /// Where a command has ended.
@@ -30,49 +33,24 @@ pub(crate) struct Ending {
     pub(crate) err: MemorySink,
 }
 
-// The outside of a command that has not begun: a store that holds no name, and the two streams.
-fn outside_of(alloc: Global, fails: Failures<'_>) -> Result<Ending, NoMemory> {
-    Ok(Ending {
-        status: 0,
-        store: MemoryStore::new(alloc, fails.store)?,
-        out: MemorySink::new(alloc, fails.out)?,
-        err: MemorySink::new(alloc, fails.err)?,
-    })
-}
-
-// Runs a command over the outside of an ending.
-fn run(
-    alloc: Global,
-    words: &[String],
-    files: &Files,
-    ending: &mut Ending,
-) -> Result<(), NoMemory> {
-    files.hold_in(alloc, &mut ending.store)?;
-    ending.status = linkage(
-        alloc,
-        words,
-        &mut ending.store,
-        &mut ending.out,
-        &mut ending.err,
-    );
-    Ok(())
-}
-
 /// Runs a command over a store that holds what the files hold.
 pub(crate) fn run_over(
     alloc: Global,
     words: &[String],
     files: &Files,
-    fails: Failures<'_>,
+    fails: Failures,
 ) -> Result<Ending, NoMemory> {
-    let mut ending = outside_of(alloc, fails)?;
-    match run(alloc, words, files, &mut ending) {
-        Ok(()) => Ok(ending),
-        Err(NoMemory) => {
-            drop(ending);
-            Err(NoMemory)
-        }
-    }
+    let mut store = MemoryStore::new(alloc, &[fails.store])?;
+    files.hold_in(alloc, &mut store)?;
+    let mut out = MemorySink::new(alloc, &[fails.out])?;
+    let mut err = MemorySink::new(alloc, &[fails.err])?;
+    let status = linkage(alloc, words, &mut store, &mut out, &mut err);
+    Ok(Ending {
+        status,
+        store,
+        out,
+        err,
+    })
 }
 
 // The text of a fault's line; all of what was told, where that is no such line.
@@ -89,12 +67,10 @@ fn push_said(alloc: Global, line: &mut Buffer, ending: &Ending) {
     let printed = ending.out.bytes();
     let told = ending.err.bytes();
     if !told.is_empty() {
-        line.push(b" ");
-        line.push(text_of(told));
+        line.push_each(&[b" ", text_of(told)]);
     }
     if ending.status == 9 {
-        line.push(b" ");
-        line.push(printed.strip_suffix(b"\n").unwrap_or(printed));
+        line.push_each(&[b" ", printed.strip_suffix(b"\n").unwrap_or(printed)]);
     } else if ending.status > 0 && !printed.is_empty() {
         line.push(b", ");
         line.push_number(alloc, printed.len() as u64);
@@ -102,23 +78,8 @@ fn push_said(alloc: Global, line: &mut Buffer, ending: &Ending) {
     }
 }
 
-// Whether two stores hold the same at a name.
-fn hold_alike(one: &MemoryStore, other: &MemoryStore, name: &str) -> bool {
-    one.held(name) == other.held(name)
-}
-
-// Appends the names that hold other bytes than before: new ones, as the command leaves where nothing fails, or torn ones.
-fn push_changes(line: &mut Buffer, ending: &Ending, files: &Files, whole: &Ending) {
-    for named in &files.all {
-        if !named.is_held_in(&ending.store) {
-            let is_new = hold_alike(&ending.store, &whole.store, &named.name);
-            line.push(if is_new { b", new " } else { b", torn " });
-            line.push(named.name.as_bytes());
-        }
-    }
-}
-
-/// Appends an ending in one line: the status, what was told, and what changed beside what the command leaves where nothing fails.
+/// Appends an ending in one line: the status, what was told, and the names that hold other bytes than before: new ones, as the
+/// command leaves where nothing fails, or torn ones.
 pub(crate) fn push_ending(
     alloc: Global,
     line: &mut Buffer,
@@ -128,13 +89,19 @@ pub(crate) fn push_ending(
 ) {
     line.push_number(alloc, u64::from(ending.status));
     push_said(alloc, line, ending);
-    push_changes(line, ending, files, whole);
+    for named in &files.all {
+        if !named.is_held_in(&ending.store) {
+            let is_new = ending.store.held(&named.name) == whole.store.held(&named.name);
+            line.push(if is_new { b", new " } else { b", torn " });
+            line.push(named.name.as_bytes());
+        }
+    }
 }
 
 // Whether two stores hold the same at each name.
-fn hold_all_alike(one: &MemoryStore, other: &MemoryStore, files: &Files) -> bool {
+fn hold_alike(one: &MemoryStore, other: &MemoryStore, files: &Files) -> bool {
     for named in &files.all {
-        if !hold_alike(one, other, &named.name) {
+        if one.held(&named.name) != other.held(&named.name) {
             return false;
         }
     }
@@ -146,5 +113,5 @@ pub(crate) fn is_same_in_silence(ending: &Ending, silent: &Ending, files: &Files
     ending.status == silent.status
         && ending.out.bytes() == silent.out.bytes()
         && silent.err.bytes().is_empty()
-        && hold_all_alike(&ending.store, &silent.store, files)
+        && hold_alike(&ending.store, &silent.store, files)
 }
