@@ -18,6 +18,7 @@ after_second f (x ∷ y ∷ xs) =
     let count : suc (suc (length xs)) - 2 ≡ length xs = omega arith in
     ap (λ n. map f (take n xs)) count ∙ ap (map f) (take_all (length xs) xs (omega arith))
 
+-- five tests hold
 all_five : (a b c d e : Bool) → a ≡ true → b ≡ true → c ≡ true → d ≡ true → e ≡ true → true ≡ (a && b && c && d && e)
 all_five a b c d e ha hb hc hd he = λ i. sym ha i && sym hb i && sym hc i && sym hd i && sym he i
 
@@ -43,6 +44,7 @@ returns-then-are_levels-clause-levels c =
     let words = c.args.words.now in
     rising_are_levels 0 (map string_bytes (take (length words - 2) (drop 2 words))) (sym c.are_levels.ensures ∙ c.if-are_levels.true)
 
+-- a test that fails after another
 later : (a b : Bool) → b ≡ false → (a && b) ≡ false
 later true b e = e
 later false b e = refl
