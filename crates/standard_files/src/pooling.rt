@@ -51,6 +51,17 @@ struct TakenValues {
 /// How many bytes a text of the pool may have for which room is made beforehand.
 const USUAL_BYTES: u64 = 8;
 
+/// For how many texts at most room is made beforehand, unless a file has more rows.
+const MOST_USUAL: u32 = 65_536;
+
+// For how many distinct texts of two files of so many rows room is made beforehand: five for four rows where they are few,
+// since most names and days of few rows differ, and as many as the larger file has rows where they are many.
+fn usual_texts(rows_a: u32, rows_b: u32) -> u32 {
+    let rows = rows_a.saturating_add(rows_b);
+    let usual = rows.saturating_add(rows / 4).min(MOST_USUAL);
+    usual.max(rows_a).max(rows_b)
+}
+
 // An empty pool, with room for so many texts of a usual length.
 fn new_pool(alloc: Global, limit: u64, texts: u32) -> Result<Pool, NoMemory>
     requires { limit ≤ MOST_POOL_LIMIT }
@@ -118,7 +129,7 @@ pub fn pool_values(
     ensures keys_a { IfOk result (λ p. p.keys_a ≡ key_ids p.texts passes.now a.now) }
     ensures keys_b { IfOk result (λ p. p.keys_b ≡ key_ids p.texts passes.now b.now) }
 {
-    let mut pool = match new_pool(alloc, limit, a.rows().max(b.rows())) {
+    let mut pool = match new_pool(alloc, limit, usual_texts(a.rows(), b.rows())) {
         Ok(pool) => pool,
         Err(NoMemory) => return Err(PoolFault::NoMemory),
     };

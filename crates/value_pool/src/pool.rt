@@ -133,6 +133,7 @@ impl Pool {
         let Search {
             place,
             hash,
+            last,
             passed,
         } = self.table.search(text);
         if let Some(place) = place {
@@ -146,7 +147,7 @@ impl Pool {
                 limit: self.limit,
             });
         }
-        match self.table.append(hash, text) {
+        match self.table.append(hash, last, text) {
             Ok(place) => {
                 self.table.count_passed(passed);
                 self.table.widen(alloc);

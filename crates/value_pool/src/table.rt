@@ -39,6 +39,8 @@ pub(crate) struct Search {
     pub(crate) place: Option<u32>,
     /// The hash of the text.
     pub(crate) hash: u32,
+    /// Its last word.
+    pub(crate) last: u64,
     /// How many other texts were passed.
     pub(crate) passed: u32,
 }
@@ -74,12 +76,14 @@ impl Table {
     }
 
     /// Looks for a text.
+    #[inline(always)]
     pub(crate) fn search(&self, text: &[u8]) -> Search
         requires { IsTable self.now }
         ensures found { IfSome result.place (λ place. slice_get (texts_of self.now) place ≡ Some text.now) }
         ensures held { is_some result.place ≡ stands_among (texts_of self.now) text.now }
         ensures small { IfSome result.place (λ place. place < 2 ^ 32 - 1) }
         ensures hash { result.hash ≡ hash_of self.now.key text.now }
+        ensures last { result.last ≡ last_word text.now }
     {
         let hash = self.key.hash(text);
         let last = last_word(text);
@@ -92,6 +96,7 @@ impl Table {
                 return Search {
                     place: Some(at - 1),
                     hash,
+                    last,
                     passed,
                 };
             }
@@ -101,14 +106,16 @@ impl Table {
         Search {
             place: None,
             hash,
+            last,
             passed,
         }
     }
 
-    /// Appends a text that is not held, by its hash.
-    pub(crate) fn append(&mut self, hash: u32, text: &[u8]) -> Result<u32, NoMemory>
+    /// Appends a text that is not held, by its hash and its last word.
+    pub(crate) fn append(&mut self, hash: u32, last: u64, text: &[u8]) -> Result<u32, NoMemory>
         requires table { IsTable self.old }
         requires hash { hash ≡ hash_of self.old.key text.now }
+        requires last { last ≡ last_word text.now }
         requires fresh { stands_among (texts_of self.old) text.now ≡ false }
         requires fits { length self.old.bytes.items + length text.now ≤ MOST_POOL_LIMIT }
         ensures table { IsTable self.new }
@@ -134,7 +141,7 @@ impl Table {
             end,
             next,
             hash,
-            last: last_word(text),
+            last,
         };
         if self.bytes.extend_from_slice(text).is_err() {
             return Err(NoMemory);
@@ -206,9 +213,19 @@ impl Table {
         ensures table { IsTable self.new }
         ensures state { state_of 0 self.new ≡ state_of 0 self.old }
     {
-        if passed < LONG_SEARCH {
-            return;
+        if passed >= LONG_SEARCH {
+            self.count_long(passed);
         }
+    }
+
+    // Counts what one long search has passed.
+    #[cold]
+    #[inline(never)]
+    fn count_long(&mut self, passed: u32)
+        requires { IsTable self.old }
+        ensures table { IsTable self.new }
+        ensures state { state_of 0 self.new ≡ state_of 0 self.old }
+    {
         self.passed = self.passed.saturating_add(u64::from(passed));
         if self.passed >= self.slots.len() as u64 {
             self.change_key();

@@ -16,11 +16,11 @@ spare_left capacity len grown last longer more n m first second is_n is_m is = o
 pub returns-clause-table : goal.returns-clause-table
 returns-clause-table c =
     let table = c.args.self.now in
-    let slot : Slot = record { start = c.len-start.result; end = c.len-start.result + length c.args.text.now; next = c.index-next.result.now; hash = c.args.hash; last = c.last_word.result } in
+    let slot : Slot = record { start = c.len-start.result; end = c.len-start.result + length c.args.text.now; next = c.index-next.result.now; hash = c.args.hash; last = c.args.last } in
     let start : c.len-start.result ≡ length table.bytes.items = search rules in
     let grown : c.push.new.self.items ≡ table.slots.items ++ slot ∷ [] = search rules in
     let longer : c.extend_from_slice.new.self.items ≡ table.bytes.items ++ c.args.text.now = search rules in
-    let all = appended table.bytes.items c.args.text.now table.slots.items slot _ _ c.requires.table.within c.requires.table.distinct c.requires.table.few c.requires.fresh start (ap (λ n. n + length c.args.text.now) start) c.last_word.ensures longer grown in
+    let all = appended table.bytes.items c.args.text.now table.slots.items slot _ _ c.requires.table.within c.requires.table.distinct c.requires.table.few c.requires.fresh start (ap (λ n. n + length c.args.text.now) start) c.requires.last longer grown in
     let nexts = ap nexts_of grown ∙ nexts-push table.slots.items slot in
     let hashes = ap hashes_of grown ∙ hashes-push table.slots.items slot in
     let many = length-map table.slots.items (λ (s : Slot). s.hash) in
@@ -38,7 +38,7 @@ returns-clause-table c =
 pub returns-clause-ok : goal.returns-clause-ok
 returns-clause-ok c =
     let table = c.args.self.now in
-    let slot : Slot = record { start = c.len-start.result; end = c.len-start.result + length c.args.text.now; next = c.index-next.result.now; hash = c.args.hash; last = c.last_word.result } in
+    let slot : Slot = record { start = c.len-start.result; end = c.len-start.result + length c.args.text.now; next = c.index-next.result.now; hash = c.args.hash; last = c.args.last } in
     let start : c.len-start.result ≡ length table.bytes.items = search rules in
     let grown : c.push.new.self.items ≡ table.slots.items ++ slot ∷ [] = search rules in
     let longer : c.extend_from_slice.new.self.items ≡ table.bytes.items ++ c.args.text.now = search rules in
@@ -59,7 +59,7 @@ returns-clause-used c =
 pub returns-clause-room : goal.returns-clause-room
 returns-clause-room c =
     let table = c.args.self.now in
-    let slot : Slot = record { start = c.len-start.result; end = c.len-start.result + length c.args.text.now; next = c.index-next.result.now; hash = c.args.hash; last = c.last_word.result } in
+    let slot : Slot = record { start = c.len-start.result; end = c.len-start.result + length c.args.text.now; next = c.index-next.result.now; hash = c.args.hash; last = c.args.last } in
     let grown : c.push.new.self.items ≡ table.slots.items ++ slot ∷ [] = search rules in
     let longer : c.extend_from_slice.new.self.items ≡ table.bytes.items ++ c.args.text.now = search rules in
     record {
