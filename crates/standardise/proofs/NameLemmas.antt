@@ -18,21 +18,21 @@ pub missing_place : (t : PlaceView) (text : List ℕ) (missing : Bool) → missi
 missing_place t text missing is so = rw (← is, so) refl
 
 -- the words of what is left of a text after the steps at its characters
-pub cleaned_words : (text cleaned : List ℕ) → cleaned ≡ encode_utf8_all (characters_of (trim text)) → words cleaned ≡ words_of_text (trim text)
-cleaned_words text cleaned is = ap words is ∙ encoded_words (characters_of (trim text))
+pub cleaned_words : (text cleaned : List ℕ) → cleaned ≡ encode_utf8_all (characters_of text) → words cleaned ≡ words_of_text text
+cleaned_words text cleaned is = ap words is ∙ encoded_words (characters_of text)
 
 -- any other text
-pub name_of_words : (t : NameView) (text : List ℕ) (ws : List (List ℕ)) (missing : Bool) → missing ≡ stands_among t.marks (trim text) → missing ≡ false
-    → ws ≡ without_titles t.titles t.suffixes (words_of_text (trim text)) → word_or_absent t.words ws ≡ name_value t text
-name_of_words t text ws missing is so kept =
+pub name_of_words : (t : NameView) (text : List ℕ) (missing : Bool) → missing ≡ stands_among t.marks (trim text) → missing ≡ false
+    → word_or_absent t.words (without_titles t.titles t.suffixes (words_of_text (trim text))) ≡ name_value t text
+name_of_words t text missing is so =
     let all = word_or_absent t.words (without_titles t.titles t.suffixes (words_of_text (trim text))) in
-    ap (word_or_absent t.words) kept ∙ ap (λ b. if b then value.Absent else all) (sym so ∙ is)
+    ap (λ b. if b then value.Absent else all) (sym so ∙ is)
 
-pub place_of_words : (t : PlaceView) (text : List ℕ) (ws : List (List ℕ)) (missing : Bool) → missing ≡ stands_among t.marks (trim text) → missing ≡ false
-    → ws ≡ words_of_text (trim text) → word_or_absent t.words ws ≡ place_value t text
-place_of_words t text ws missing is so kept =
+pub place_of_words : (t : PlaceView) (text : List ℕ) (missing : Bool) → missing ≡ stands_among t.marks (trim text) → missing ≡ false
+    → word_or_absent t.words (words_of_text (trim text)) ≡ place_value t text
+place_of_words t text missing is so =
     let all = word_or_absent t.words (words_of_text (trim text)) in
-    ap (word_or_absent t.words) kept ∙ ap (λ b. if b then value.Absent else all) (sym so ∙ is)
+    ap (λ b. if b then value.Absent else all) (sym so ∙ is)
 
 -- a text that is one word keeps it
 pub one_word_kept : (titles suffixes : List (List ℕ)) (cleaned : List ℕ) (all : List (List ℕ)) → words cleaned ≡ cleaned ∷ [] → words cleaned ≡ all → words cleaned ≡ without_titles titles suffixes all

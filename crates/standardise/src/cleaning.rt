@@ -155,6 +155,17 @@ fn clean_ascii(text: &[u8], word: &mut Vec<u8>) -> Result<Option<bool>, NoMemory
     Ok(Some(is_word))
 }
 
+// Puts a text that is not of ASCII alone after the steps in place of what stood in `word`, and says whether it is one word.
+fn clean_other(alloc: Global, text: &str, word: &mut Vec<u8>) -> Result<bool, NoMemory>
+    ensures text { OnOk result (word.new.items ≡ encode_utf8_all (characters_of text.now)) }
+    ensures utf8 { OnOk result (IsUtf8 word.new.items) }
+    ensures word { IfOk result (λ is_word. IsTrue is_word → words word.new.items ≡ word.new.items ∷ []) }
+{
+    let cleaned = clean_chars(alloc, text)?;
+    put(word, cleaned.as_bytes())?;
+    Ok(is_one_word(word))
+}
+
 // Whether a text is one word of A to Z and 0 to 9, which stays as it is.
 fn is_clean_word(text: &[u8]) -> bool
     ensures ascii { IsTrue result → IsAscii text.now }
@@ -169,21 +180,18 @@ fn is_clean_word(text: &[u8]) -> bool
     !text.is_empty()
 }
 
-// The same of a text that is not of ASCII alone.
-fn clean_other(alloc: Global, text: &str, word: &mut Vec<u8>) -> Result<bool, NoMemory>
-    ensures text { OnOk result (word.new.items ≡ encode_utf8_all (characters_of text.now)) }
-    ensures utf8 { OnOk result (IsUtf8 word.new.items) }
-    ensures word { IfOk result (λ is_word. IsTrue is_word → words word.new.items ≡ word.new.items ∷ []) }
+/// Whether a text is known to be one word that the steps leave as it is.
+pub(crate) fn is_clean(text: &str) -> bool
+    ensures text { IsTrue result → text.now ≡ encode_utf8_all (characters_of text.now) }
+    ensures word { IsTrue result → words text.now ≡ text.now ∷ [] }
 {
-    let cleaned = clean_chars(alloc, text)?;
-    put(word, cleaned.as_bytes())?;
-    Ok(is_one_word(word))
+    is_clean_word(text.as_bytes())
 }
 
-// Puts the text after the canonical decomposition and the five steps behind it in place of what stood in `word`, and says
-// whether it is one word, with nothing beside it. An ASCII text, which has none of what the decomposition and the general
-// categories decide, is gone over once.
-fn clean_in(alloc: Global, text: &str, word: &mut Vec<u8>) -> Result<bool, NoMemory>
+/// Puts the text after the canonical decomposition and the five steps behind it in place of what stood in `word`, and says
+/// whether it is known to be one word, with nothing beside it. An ASCII text, which has none of what the decomposition and the
+/// general categories decide, is gone over once.
+pub(crate) fn clean(alloc: Global, text: &str, word: &mut Vec<u8>) -> Result<bool, NoMemory>
     ensures text { OnOk result (word.new.items ≡ encode_utf8_all (characters_of text.now)) }
     ensures utf8 { OnOk result (IsUtf8 word.new.items) }
     ensures word { IfOk result (λ is_word. IsTrue is_word → words word.new.items ≡ word.new.items ∷ []) }
@@ -192,37 +200,4 @@ fn clean_in(alloc: Global, text: &str, word: &mut Vec<u8>) -> Result<bool, NoMem
         Some(is_word) => Ok(is_word),
         None => clean_other(alloc, text, word),
     }
-}
-
-/// A text that has been cleaned.
-#[derive(Drop)]
-pub(crate) struct Cleaned<'t> {
-    pub(crate) text: &'t [u8],
-    /// Whether it is known to be one word, with nothing beside it.
-    pub(crate) is_word: bool,
-}
-
-/// The text after the canonical decomposition and the five steps behind it. It stands in `text` where nothing changes, and is
-/// else made in `word`, in place of what stood there.
-pub(crate) fn clean<'t>(
-    alloc: Global,
-    text: &'t str,
-    word: &'t mut Vec<u8>,
-) -> Result<Cleaned<'t>, NoMemory>
-    ensures text { IfOk result (λ cleaned. cleaned.text.now ≡ encode_utf8_all (characters_of text.now)) }
-    ensures utf8 { IfOk result (λ cleaned. IsUtf8 cleaned.text.now) }
-    ensures word { IfOk result (λ cleaned. IsTrue cleaned.is_word → words cleaned.text.now ≡ cleaned.text.now ∷ []) }
-{
-    let bytes = text.as_bytes();
-    if is_clean_word(bytes) {
-        return Ok(Cleaned {
-            text: bytes,
-            is_word: true,
-        });
-    }
-    let is_word = clean_in(alloc, text, word)?;
-    Ok(Cleaned {
-        text: word,
-        is_word,
-    })
 }

@@ -2,10 +2,10 @@
 ghost use Rattle.std.specs.Prelude.{◌≡◌, ◌∷◌, [], IfOk, map, option_map};
 ghost use Rattle.std.specs.Str.{IsUtf8};
 ghost use Rattle.link_base.specs.Standard.{IsValid};
-ghost use Rattle.standardise.specs.Names.{found_value, name_value, place_value, word_or_absent};
-ghost use Rattle.standardise.specs.Words.{joined, replaced, words};
+ghost use Rattle.standardise.specs.Names.{found_value, name_value, place_value, word_or_absent, words_of_text};
+ghost use Rattle.standardise.specs.Words.{joined, replaced, without_titles, words};
 
-use crate::cleaning::clean;
+use crate::cleaning::{clean, is_clean};
 use crate::pairs::{WordTable, in_place, push_words};
 use crate::tables::{NameTables, PlaceTables};
 use crate::white_space::trimmed;
@@ -71,12 +71,10 @@ pub fn std_name_in<'t>(
     if tables.is_missing(name.as_bytes()) {
         return Ok(None);
     }
-    let cleaned = clean(alloc, name, &mut room.cleaned)?;
-    if cleaned.is_word {
-        return Ok(Some(in_place(tables.pairs(), cleaned.text)));
+    if is_clean(name) {
+        return Ok(Some(in_place(tables.pairs(), name.as_bytes())));
     }
-    let words = tables.untitled(cleaned.text);
-    join_words(&mut room.joined, words, tables.pairs())
+    make_name(alloc, name, tables, room)
 }
 
 /// The same of a place.
@@ -93,11 +91,45 @@ pub fn std_place_in<'t>(
     if tables.is_missing(place.as_bytes()) {
         return Ok(None);
     }
-    let cleaned = clean(alloc, place, &mut room.cleaned)?;
-    if cleaned.is_word {
-        return Ok(Some(in_place(tables.pairs(), cleaned.text)));
+    if is_clean(place) {
+        return Ok(Some(in_place(tables.pairs(), place.as_bytes())));
     }
-    join_words(&mut room.joined, cleaned.text, tables.pairs())
+    make_place(alloc, place, tables, room)
+}
+
+// The text of the value of a name without white space at its ends that is no mark.
+#[inline(never)]
+fn make_name<'t>(
+    alloc: Global,
+    name: &str,
+    tables: &'t NameTables,
+    room: &'t mut TextRoom,
+) -> Result<Option<&'t [u8]>, NoMemory>
+    ensures value { IfOk result (λ found. found_value (option_map (λ text. text.now) found) ≡ word_or_absent tables.now.words (without_titles tables.now.titles tables.now.suffixes (words_of_text name.now))) }
+    ensures valid { IfOk result (λ found. IsValid (found_value (option_map (λ text. text.now) found))) }
+{
+    if clean(alloc, name, &mut room.cleaned)? {
+        return Ok(Some(in_place(tables.pairs(), &room.cleaned)));
+    }
+    let words = tables.untitled(&room.cleaned);
+    join_words(&mut room.joined, words, tables.pairs())
+}
+
+// The same of a place.
+#[inline(never)]
+fn make_place<'t>(
+    alloc: Global,
+    place: &str,
+    tables: &'t PlaceTables,
+    room: &'t mut TextRoom,
+) -> Result<Option<&'t [u8]>, NoMemory>
+    ensures value { IfOk result (λ found. found_value (option_map (λ text. text.now) found) ≡ word_or_absent tables.now.words (words_of_text place.now)) }
+    ensures valid { IfOk result (λ found. IsValid (found_value (option_map (λ text. text.now) found))) }
+{
+    if clean(alloc, place, &mut room.cleaned)? {
+        return Ok(Some(in_place(tables.pairs(), &room.cleaned)));
+    }
+    join_words(&mut room.joined, &room.cleaned, tables.pairs())
 }
 
 // The value of a text, where there is one.

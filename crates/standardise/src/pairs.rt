@@ -94,6 +94,7 @@ fn found_in<'a>(pairs: &'a [WordPair], word: &[u8]) -> Option<&'a [u8]>
 }
 
 // A word, or the word that stands in its place.
+#[inline(always)]
 pub(crate) fn in_place<'a>(pairs: &'a WordTable, word: &'a [u8]) -> &'a [u8]
     ensures value { result.now ≡ replaced pairs.now word.now }
     ensures utf8 { IsUtf8 word.now → IsUtf8 result.now }

@@ -1,10 +1,22 @@
-use Rattle.std.proofs.Common.{sym, ◌∙◌}
-use Rattle.standardise.proofs.CleaningLemmas.{ascii_text}
+use Rattle.std.proofs.Common.{List, ℕ, subst, sym, ◌∙◌}
+use Rattle.std.specs.List.{flat_map}
+use Rattle.std.specs.Option.{option_to_list}
+use Rattle.std.specs.Str.{IsUtf8}
+use Rattle.std.proofs.lemmas.Str.{IsUtf8-from_ascii}
+use Rattle.standardise.specs.Cleaning.{ascii_cleaned}
+use Rattle.standardise.proofs.CleaningLemmas.{ascii_stays, ascii_text}
 use Rattle.standardise.proofs.cleaning.clean.Goals as goal
 
-pub returns-then-is_clean_word-clause-text : goal.returns-then-is_clean_word-clause-text
-returns-then-is_clean_word-clause-text c =
-    let bytes = c.as_bytes-bytes.result.now in
-    let plain = c.is_clean_word.ensures.ascii c.if-is_clean_word.true in
-    let same = c.is_clean_word.ensures.text c.if-is_clean_word.true in
-    rw (← c.as_bytes-bytes.ensures.value) (sym same ∙ ascii_text bytes plain)
+pub returns-in-Some-clause-text : goal.returns-in-Some-clause-text
+returns-in-Some-clause-text c =
+    let bytes = c.as_bytes.result.now in
+    let plain = rw c.in-Some.is at c.in_ok-is_word.ensures.ascii in
+    let is = rw c.in-Some.is at c.in_ok-is_word.ensures.text in
+    rw (← c.as_bytes.ensures.value) (is ∙ ascii_text bytes plain)
+
+pub returns-in-Some-clause-utf8 : goal.returns-in-Some-clause-utf8
+returns-in-Some-clause-utf8 c =
+    let bytes = c.as_bytes.result.now in
+    let plain = rw c.in-Some.is at c.in_ok-is_word.ensures.ascii in
+    let is = rw c.in-Some.is at c.in_ok-is_word.ensures.text in
+    subst (λ (v : List ℕ). IsUtf8 v) (sym is) (IsUtf8-from_ascii (flat_map (λ b. option_to_list (ascii_cleaned b)) bytes) (ascii_stays bytes plain))
