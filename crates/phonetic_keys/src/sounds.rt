@@ -98,6 +98,7 @@ impl Carry {
 /// The Soundex key of the letters A to Z of a text, in their order; every other byte is skipped.
 /// `None` exactly where there is no letter. The code is that of Knuth, The Art of Computer
 /// Programming, volume 3, second edition, chapter 6.
+#[inline(never)]
 pub fn soundex(text: &[u8]) -> Option<[u8; 4]>
     ensures key { result ≡ soundex_of text.now }
     ensures letter { IsNone result ↔ (letters_of text.now ≡ []) }

@@ -1,22 +1,27 @@
 // What values are compared by, and their canons taken into a pool.
-ghost use Rattle.std.specs.Prelude.{◌≡◌, ◌<◌, ◌≤◌, ◌++◌, ◌+◌, ◌*◌, All, IfOk, IsTrue, List, [], OnOk, Some, ℕ, length, option_to_list, slice_index_or};
+ghost use Rattle.std.specs.Prelude.{◌≡◌, ◌<◌, ◌≤◌, ◌++◌, ◌∷◌, ◌+◌, ◌*◌, All, IfOk, List, [], OnOk, Some, ℕ, length, option_to_list, slice_index_or};
 ghost use Rattle.value_forms.specs.Canons.{IsReadable, canon_of, value_part};
 ghost use Rattle.link_base.specs.Rows.{value_seen};
-ghost use Rattle.link_base.specs.Standard.{IsValid, absent_value};
+ghost use Rattle.link_base.specs.Standard.{IsDay, IsValid, absent_value};
 ghost use Rattle.link_base.specs.declared.plan.CompareKind.TheVariants as by;
-ghost use Rattle.standard_files.specs.Known.{AreKnown, AreKnownDays, AreTextIds, IsIdOf, file_values, flat_sides, side_by_id};
+ghost use Rattle.link_base.specs.declared.standard.Value.TheVariants as value;
+ghost use Rattle.std.specs.Str.{IsUtf8};
+ghost use Rattle.value_forms.specs.Initials.{initials_of};
+ghost use Rattle.standard_files.specs.Known.{AreKnown, AreTextIds, IsIdOf, file_values, flat_sides, side_by_id};
 ghost use Rattle.standard_files.specs.Ready.{IsRowFor};
 ghost use Rattle.standard_files.specs.Sides.{day_side, id_side, side_of, sides_of_file, sides_of_row};
 ghost use Rattle.standard_files.specs.Taking.{Extends, TakesTexts};
 ghost use Rattle.standard_files.specs.Texts.{both_texts, canons_of_row, file_texts, standard_text};
 
-use crate::known::{Known, KnownDays};
+use crate::known::Known;
 use crate::texts::{TextIds, take_text};
 use comparators::{IdTable, IdValue};
 use link_base::{CompareKind, KeyKind, NoMemory, Row, StdFile, ValueRef};
 use link_limits::MOST_FIELDS;
 use std::alloc::Global;
-use value_forms::{bytes_of, canon_text, compares_days, value_text};
+use value_forms::{
+    bytes_of, canon_text, compares_days, compares_initials, day_text, initials_text, value_text,
+};
 use value_pool::{Id, MaybeId, Pool, PoolFault};
 
 /// Takes the part of a key that a value makes, and gives its id.
@@ -57,11 +62,56 @@ fn side_by_id(canon: Option<Id>) -> IdValue
     }
 }
 
-// Whether the canon of a word is its standard text.
-fn is_text_itself(kind: CompareKind) -> bool
-    ensures { IsTrue result → kind ≡ by.Exact }
+// Takes the canon of a day, and gives its id. Only its text is one.
+fn take_day(
+    alloc: Global,
+    pool: &mut Pool,
+    kind: CompareKind,
+    day: i32,
+) -> Result<Option<Id>, PoolFault>
+    requires { IsDay day }
+    ensures limit { pool.new.limit ≡ pool.old.limit }
+    ensures texts { TakesTexts pool.old pool.new (option_to_list (canon_of kind (value.Day day))) result }
+    ensures id { IfOk result (IsIdOf pool.new.texts (canon_of kind (value.Day day))) }
 {
-    matches!(kind, CompareKind::Exact)
+    match kind {
+        CompareKind::Exact => Ok(Some(take_text(alloc, pool, &day_text(day))?)),
+        _ => Ok(None),
+    }
+}
+
+// Takes the initials of a text, and gives their id.
+fn take_initials(alloc: Global, pool: &mut Pool, text: &[u8]) -> Result<Option<Id>, PoolFault>
+    requires { IsUtf8 text.now }
+    ensures limit { pool.new.limit ≡ pool.old.limit }
+    ensures texts { TakesTexts pool.old pool.new (initials_of text.now ∷ []) result }
+    ensures id { IfOk result (IsIdOf pool.new.texts (Some (initials_of text.now))) }
+{
+    match initials_text(alloc, text) {
+        Ok(initials) => Ok(Some(take_text(alloc, pool, initials.bytes())?)),
+        Err(NoMemory) => Err(PoolFault::NoMemory),
+    }
+}
+
+// Takes the canon of a word, and gives its id.
+fn take_word(
+    alloc: Global,
+    pool: &mut Pool,
+    kind: CompareKind,
+    text: &[u8],
+) -> Result<Option<Id>, PoolFault>
+    requires { IsUtf8 text.now }
+    ensures limit { pool.new.limit ≡ pool.old.limit }
+    ensures texts { TakesTexts pool.old pool.new (option_to_list (canon_of kind (value.Word text.now))) result }
+    ensures id { IfOk result (IsIdOf pool.new.texts (canon_of kind (value.Word text.now))) }
+{
+    if compares_initials(kind) {
+        return take_initials(alloc, pool, text);
+    }
+    match canon_text(kind, &ValueRef::Word(text)) {
+        None => Ok(None),
+        Some(canon) => Ok(Some(take_text(alloc, pool, bytes_of(&canon))?)),
+    }
 }
 
 // Takes the canon of a value, and gives its id.
@@ -76,57 +126,28 @@ fn take_canon(
     ensures texts { TakesTexts pool.old pool.new (option_to_list (canon_of kind (value_seen value.now))) result }
     ensures id { IfOk result (IsIdOf pool.new.texts (canon_of kind (value_seen value.now))) }
 {
-    match canon_text(alloc, kind, value) {
-        Err(NoMemory) => Err(PoolFault::NoMemory),
-        Ok(None) => Ok(None),
-        Ok(Some(text)) => Ok(Some(take_text(alloc, pool, bytes_of(&text))?)),
+    match *value {
+        ValueRef::Absent => Ok(None),
+        ValueRef::Day(day) => take_day(alloc, pool, kind, day),
+        ValueRef::Word(text) => take_word(alloc, pool, kind, text),
     }
 }
 
-// Takes the canon of a value without a standard text, and gives its id. The text of a day that is known is not looked for
-// again.
-fn take_day(
-    alloc: Global,
-    pool: &mut Pool,
-    kind: CompareKind,
-    days: &mut KnownDays,
-    value: &ValueRef<'_>,
-) -> Result<Option<Id>, PoolFault>
-    requires valid { IsValid (value_seen value.now) }
-    requires days { AreKnownDays pool.old.texts days.old.at.items }
-    ensures limit { pool.new.limit ≡ pool.old.limit }
-    ensures texts { TakesTexts pool.old pool.new (option_to_list (canon_of kind (value_seen value.now))) result }
-    ensures id { IfOk result (IsIdOf pool.new.texts (canon_of kind (value_seen value.now))) }
-    ensures days { OnOk result (AreKnownDays pool.new.texts days.new.at.items) }
-{
-    if !is_text_itself(kind) {
-        return take_canon(alloc, pool, kind, value);
-    }
-    if let Some(text) = days.find(value) {
-        return Ok(Some(text));
-    }
-    let Some(text) = take_canon(alloc, pool, kind, value)? else {
-        return Ok(None);
-    };
-    days.keep(value, text);
-    Ok(Some(text))
-}
-
-// Takes the canon of the value of a row in a field, and gives its id. One that is known by the id of the standard text is not
-// looked for again, and its value is not looked at.
-fn take_known(
+// Takes the canon of the value of a row in a field, which is not known, keeps it, and gives its id.
+#[inline(never)]
+fn take_new(
     alloc: Global,
     pool: &mut Pool,
     kinds: &[CompareKind],
     known: &mut Known,
     field: u8,
-    text: Option<Id>,
+    text: &Option<Id>,
     row: &Row<'_>,
 ) -> Result<Option<Id>, PoolFault>
     requires field { field < length kinds.now }
     requires within { field < length row.now }
     requires valid { IsValid (slice_index_or row.now field absent_value) }
-    requires text { IsIdOf pool.old.texts (standard_text (slice_index_or row.now field absent_value)) text }
+    requires text { IsIdOf pool.old.texts (standard_text (slice_index_or row.now field absent_value)) text.now }
     requires known { AreKnown pool.old.texts kinds.now known.old }
     ensures limit { pool.new.limit ≡ pool.old.limit }
     ensures texts { TakesTexts pool.old pool.new (option_to_list (canon_of (slice_index_or kinds.now field by.Exact) (slice_index_or row.now field absent_value))) result }
@@ -134,22 +155,39 @@ fn take_known(
     ensures known { OnOk result (AreKnown pool.new.texts kinds.now known.new) }
 {
     let kind = kinds[field as usize];
-    let Some(text) = text else {
-        let value = row.value(field as usize);
-        return take_day(alloc, pool, kind, &mut known.days, &value);
-    };
-    if is_text_itself(kind) {
-        return Ok(Some(text));
-    }
-    if let Some(canon) = known.canons.find(field, text) {
-        return Ok(Some(canon));
-    }
     let value = row.value(field as usize);
     let Some(canon) = take_canon(alloc, pool, kind, &value)? else {
         return Ok(None);
     };
-    known.canons.keep(field, text, canon);
+    known.keep(kind, field, text, &value, canon);
     Ok(Some(canon))
+}
+
+// Takes the canon of the value of a row in a field, and gives its id. One that is known is not looked for again.
+fn take_known(
+    alloc: Global,
+    pool: &mut Pool,
+    kinds: &[CompareKind],
+    known: &mut Known,
+    field: u8,
+    text: &Option<Id>,
+    row: &Row<'_>,
+) -> Result<Option<Id>, PoolFault>
+    requires field { field < length kinds.now }
+    requires within { field < length row.now }
+    requires valid { IsValid (slice_index_or row.now field absent_value) }
+    requires text { IsIdOf pool.old.texts (standard_text (slice_index_or row.now field absent_value)) text.now }
+    requires known { AreKnown pool.old.texts kinds.now known.old }
+    ensures limit { pool.new.limit ≡ pool.old.limit }
+    ensures texts { TakesTexts pool.old pool.new (option_to_list (canon_of (slice_index_or kinds.now field by.Exact) (slice_index_or row.now field absent_value))) result }
+    ensures id { IfOk result (IsIdOf pool.new.texts (canon_of (slice_index_or kinds.now field by.Exact) (slice_index_or row.now field absent_value))) }
+    ensures known { OnOk result (AreKnown pool.new.texts kinds.now known.new) }
+{
+    let kind = kinds[field as usize];
+    if let Some(canon) = known.find(kind, field, text, row) {
+        return Ok(Some(canon));
+    }
+    take_new(alloc, pool, kinds, known, field, text, row)
 }
 
 // Takes the canon of the value of a row in a field, and gives what the value is compared by.
@@ -176,7 +214,7 @@ fn take_side(
     if compares_days(kind) {
         return Ok(day_of(&row.value(field as usize)));
     }
-    let canon = take_known(alloc, pool, kinds, known, field, text, row)?;
+    let canon = take_known(alloc, pool, kinds, known, field, &text, row)?;
     Ok(side_by_id(canon))
 }
 

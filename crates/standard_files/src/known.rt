@@ -1,11 +1,14 @@
 // Canons that were taken, by the texts and the days that have them.
-ghost use Rattle.std.specs.Prelude.{◌≡◌, List, ℕ, IfOk, IfSome, Some, None, slice_index_or};
+ghost use Rattle.std.specs.Prelude.{◌≡◌, ◌<◌, IsTrue, length, List, ℕ, IfOk, IfSome, Some, None, slice_index_or};
 ghost use Rattle.link_base.specs.Rows.{value_seen};
+ghost use Rattle.link_base.specs.Standard.{absent_value};
 ghost use Rattle.link_base.specs.declared.plan.CompareKind.{CompareKind as Kind};
+ghost use Rattle.link_base.specs.declared.plan.CompareKind.TheVariants as by;
 ghost use Rattle.standard_files.specs.Known.{AreKnown, AreKnownCanons, AreKnownDays, IsCanonAt, IsIdOf};
-ghost use Rattle.value_forms.specs.Canons.{exact_canon};
+ghost use Rattle.standard_files.specs.Texts.{standard_text};
+ghost use Rattle.value_forms.specs.Canons.{canon_of, exact_canon};
 
-use link_base::{NoMemory, ValueRef};
+use link_base::{CompareKind, NoMemory, Row, ValueRef};
 use std::alloc::Global;
 use value_pool::{Id, MaybeId};
 
@@ -125,6 +128,13 @@ pub(crate) struct Known {
     pub(crate) days: KnownDays,
 }
 
+// Whether the canon of a word is its standard text.
+fn is_text_itself(kind: CompareKind) -> bool
+    ensures { IsTrue result → kind ≡ by.Exact }
+{
+    matches!(kind, CompareKind::Exact)
+}
+
 impl Known {
     /// Nothing, with room for a canon of each of so many texts, and for about so many days.
     pub(crate) fn new(alloc: Global, texts: u32, days: u32) -> Result<Known, NoMemory>
@@ -133,5 +143,43 @@ impl Known {
         let canons = KnownCanons::new(alloc, texts)?;
         let days = KnownDays::new(alloc, days)?;
         Ok(Known { canons, days })
+    }
+
+    /// The canon of the value of a row in a field of this kind, whose standard text has this id, if it is known. A value with a
+    /// standard text is not looked at.
+    pub(crate) fn find(
+        &self,
+        kind: CompareKind,
+        field: u8,
+        text: &Option<Id>,
+        row: &Row<'_>,
+    ) -> Option<Id>
+        requires { field < length row.now }
+        ensures { IfSome result (λ canon. (held : List (List ℕ)) (kinds : List Kind) → slice_index_or kinds field by.Exact ≡ kind → IsIdOf held (standard_text (slice_index_or row.now field absent_value)) text.now → AreKnown held kinds self.now → IsIdOf held (canon_of kind (slice_index_or row.now field absent_value)) (Some canon)) }
+    {
+        match *text {
+            Some(text) if is_text_itself(kind) => Some(text),
+            Some(text) => self.canons.find(field, text),
+            None if is_text_itself(kind) => self.days.find(&row.value(field as usize)),
+            None => None,
+        }
+    }
+
+    /// Keeps the canon of a value in a field of this kind, whose standard text has this id.
+    pub(crate) fn keep(
+        &mut self,
+        kind: CompareKind,
+        field: u8,
+        text: &Option<Id>,
+        value: &ValueRef<'_>,
+        canon: Id,
+    )
+        ensures { (held : List (List ℕ)) (kinds : List Kind) → slice_index_or kinds field by.Exact ≡ kind → IsIdOf held (standard_text (value_seen value.now)) text.now → IsIdOf held (canon_of kind (value_seen value.now)) (Some canon) → AreKnown held kinds self.old → AreKnown held kinds self.new }
+    {
+        match *text {
+            Some(text) => self.canons.keep(field, text, canon),
+            None if is_text_itself(kind) => self.days.keep(value, canon),
+            None => {}
+        }
     }
 }

@@ -64,6 +64,7 @@ impl ValueTables {
 }
 
 // Appends a text to the open row, if there is one. It is no date that cannot be read.
+#[inline(always)]
 fn add_text(rows: &mut RowsWriter, found: Option<&[u8]>) -> Result<bool, NoMemory>
     requires room { sum_by length rows.old.rows + length rows.old.row < 2 ^ 32 }
     ensures value { OnOk result (rows.new ≡ with_value rows.old (found_value (option_map (λ text. text.now) found.entry))) }

@@ -73,6 +73,16 @@ compares_days by.Initials = false
 compares_days (by.DaysWithin t) = true
 compares_days (by.YearsWithin t) = true
 
+-- whether a kind compares initials, the canons that are made in memory
+abbrev pub compares_initials : CompareKind → Bool
+compares_initials by.Exact = false
+compares_initials by.BySoundex = false
+compares_initials by.ByNysiis = false
+compares_initials (by.FirstLetters n) = false
+compares_initials by.Initials = true
+compares_initials (by.DaysWithin t) = false
+compares_initials (by.YearsWithin t) = false
+
 -- the canon by which a kind compares a value
 abbrev pub canon_of : CompareKind → Value → Option (List ℕ)
 canon_of by.Exact v = exact_canon v

@@ -1,20 +1,18 @@
 // The canon of a value by each kind.
-ghost use Rattle.std.specs.Prelude.{◌≡◌, IfOk, option_map};
+ghost use Rattle.std.specs.Prelude.{◌≡◌, false, is_some, option_map, true};
 ghost use Rattle.link_base.specs.Rows.{value_seen};
 ghost use Rattle.link_base.specs.Standard.{IsDay, IsValid};
 ghost use Rattle.value_forms.specs.CanonTexts.{canon_bytes};
-ghost use Rattle.value_forms.specs.Canons.{IsReadable, canon_of, exact_canon, first_letters_canon, initials_canon, nysiis_canon, soundex_canon, value_part};
-ghost use Rattle.value_forms.specs.Canons.{compares_days as is_of_days, year_digits as year_canon};
+ghost use Rattle.value_forms.specs.Canons.{IsReadable, canon_of, exact_canon, first_letters_canon, nysiis_canon, soundex_canon, value_part};
+ghost use Rattle.value_forms.specs.Canons.{compares_days as is_of_days, compares_initials as is_of_initials, year_digits as year_canon};
 ghost use Rattle.value_forms.specs.Days.{four_digits, year_of_day};
 
 use crate::days::{civil_of, day_text};
 use crate::first::first_chars;
-use crate::initials::initials_text;
-use link_base::{CompareKind, KeyKind, NoMemory, Text, ValueRef};
+use link_base::{CompareKind, KeyKind, ValueRef};
 use phonetic_keys::{Nysiis, nysiis, soundex};
-use std::alloc::Global;
 
-/// The bytes of a canon. All but `Built` take no memory.
+/// The bytes of a canon that takes no memory.
 #[derive(Drop)]
 pub enum CanonText<'v> {
     /// A word, or its first characters.
@@ -25,8 +23,6 @@ pub enum CanonText<'v> {
     Date([u8; 10]),
     /// A NYSIIS key.
     Letters(Nysiis),
-    /// Initials.
-    Built(Text),
 }
 
 /// The bytes, without a copy.
@@ -38,7 +34,6 @@ pub fn bytes_of<'t>(canon: &'t CanonText) -> &'t [u8]
         CanonText::Short(bytes) => bytes,
         CanonText::Date(bytes) => bytes,
         CanonText::Letters(key) => key.bytes(),
-        CanonText::Built(text) => text.bytes(),
     }
 }
 
@@ -117,17 +112,6 @@ pub fn year_digits<'v>(value: &ValueRef<'v>) -> Option<CanonText<'v>>
     }
 }
 
-// The initials of a word.
-fn initials<'v>(alloc: Global, value: &ValueRef<'v>) -> Result<Option<CanonText<'v>>, NoMemory>
-    requires { IsValid (value_seen value.now) }
-    ensures { IfOk result (λ canon. option_map canon_bytes canon ≡ initials_canon (value_seen value.now)) }
-{
-    match *value {
-        ValueRef::Word(text) => Ok(Some(CanonText::Built(initials_text(alloc, text)?))),
-        _ => Ok(None),
-    }
-}
-
 /// Whether a kind compares days as they are: no value has a canon for it.
 pub fn compares_days(kind: CompareKind) -> bool
     ensures { result ≡ is_of_days kind }
@@ -138,23 +122,27 @@ pub fn compares_days(kind: CompareKind) -> bool
     )
 }
 
-/// The canon by which a kind compares a value, `None` exactly where it has none.
+/// Whether a kind compares initials, the canons that are made in memory.
+pub fn compares_initials(kind: CompareKind) -> bool
+    ensures { result ≡ is_of_initials kind }
+{
+    matches!(kind, CompareKind::Initials)
+}
+
+/// The canon by which a kind compares a value, `None` exactly where it has none, and for initials: they are made in memory,
+/// which `initials_text` does.
 #[tactic(auto, using(crate::proofs::ReadableLemmas::readable_valid))]
-pub fn canon_text<'v>(
-    alloc: Global,
-    kind: CompareKind,
-    value: &ValueRef<'v>,
-) -> Result<Option<CanonText<'v>>, NoMemory>
+pub fn canon_text<'v>(kind: CompareKind, value: &ValueRef<'v>) -> Option<CanonText<'v>>
     requires { IsValid (value_seen value.now) }
-    ensures { IfOk result (λ canon. option_map canon_bytes canon ≡ canon_of kind (value_seen value.now)) }
+    ensures canon { is_of_initials kind ≡ false → option_map canon_bytes result ≡ canon_of kind (value_seen value.now) }
+    ensures initials { is_of_initials kind ≡ true → is_some result ≡ false }
 {
     match kind {
-        CompareKind::Exact => Ok(exact(value)),
-        CompareKind::BySoundex => Ok(soundex_key(value)),
-        CompareKind::ByNysiis => Ok(nysiis_key(value)),
-        CompareKind::FirstLetters(n) => Ok(first_letters(n, value)),
-        CompareKind::Initials => initials(alloc, value),
-        CompareKind::DaysWithin(_) | CompareKind::YearsWithin(_) => Ok(None),
+        CompareKind::Exact => exact(value),
+        CompareKind::BySoundex => soundex_key(value),
+        CompareKind::ByNysiis => nysiis_key(value),
+        CompareKind::FirstLetters(n) => first_letters(n, value),
+        CompareKind::Initials | CompareKind::DaysWithin(_) | CompareKind::YearsWithin(_) => None,
     }
 }
 

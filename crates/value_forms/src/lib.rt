@@ -9,8 +9,8 @@ mod initials;
 mod written;
 
 pub use canons::{
-    CanonText, bytes_of, canon_text, compares_days, exact, first_letters, nysiis_key, soundex_key,
-    value_text, year_digits,
+    CanonText, bytes_of, canon_text, compares_days, compares_initials, exact, first_letters,
+    nysiis_key, soundex_key, value_text, year_digits,
 };
 pub use days::{Civil, civil_of, day_of, day_read_again, day_text, read_iso};
 pub use first::first_chars;
