@@ -1,6 +1,6 @@
--- What a value is compared or blocked by: its canon of each kind. `canon_text` gives the canon of a kind of comparison, and
--- `value_text` the part of a key of a blocking pass, both by their one clause. Comparators and blocking passes cite these
--- definitions, so that both speak of the same canons.
+-- What a value is compared or blocked by: its canon of each kind. `canon_text` gives the canon of a kind of comparison (clause
+-- `canon`), but initials, which `initials_text` makes, and `value_text` the part of a key of a blocking pass. Comparators and
+-- blocking passes cite these definitions, so that both speak of the same canons.
 use Rattle.std.specs.Prelude.{Bool, true, false, Option, Some, None, List, ℕ, ℤ, pos, ⊤}
 use Rattle.std.specs.Str.{IsUtf8}
 use Rattle.link_base.specs.Standard.{IsDay}
