@@ -1,0 +1,146 @@
+"""The lists that stand in the manual and in the definitions: keys of the settings, faults, limits, commands. They must be the same."""
+
+import re
+import tomllib
+
+from pages import ROOT, read
+
+# What a piece of a fault's text is in the definitions, and in the manual.
+SPEC_PIECES = [
+    (r"role_name r", "ROLE"),
+    (r"row_name \(role_name r\) row", "ROLE: row ROW: "),
+    (r'row_name \(codes "(\w+)"\) row', r"\1: row ROW: "),
+    (r"decimal (\w+)", None),
+    (r'codes "([^"]*)"', r"\1"),
+    (r"(\w+)", None),
+]
+HEADS = {"top_keys": "Keys of the file", "field_keys": "Keys of a field", "pass_keys": "Keys of a pass", "part_keys": "Keys of a part"}
+WORDS = ["delimiters", "kind_named", "form_named", "name_comparisons", "date_comparisons", "name_key_words", "date_key_words"]
+# Limits that no user meets.
+INNER_LIMITS = ["MOST_POOL_LIMIT", "MOST_PATTERNS"]
+
+
+def codes_of(name: str, text: str) -> list[str]:
+    """The texts of a definition `NAME = codes ".." ∷ ..` of a specification."""
+    body = re.search(rf"^{name} =(.*?)(?=^\S)", text + "\n#", flags=re.S | re.M)
+    return re.findall(r'codes "([^"]*)"', body.group(1)) if body else []
+
+
+def commands_of() -> set[str]:
+    """The commands' words, as the specifications of the shell name them."""
+    found: set[str] = set()
+    for path in (ROOT / "crates/link_shell/specs").glob("*.antt"):
+        for body in re.findall(r"^are_\w+_words(?: words)? =(.*?)(?=^\S|\Z)", path.read_text(encoding="utf-8"), flags=re.S | re.M):
+            found.update(re.findall(r'codes "([^"]*)"', body))
+    return found
+
+
+def spec_piece(piece: str) -> str:
+    """A piece of a fault's text, with what it names in capitals."""
+    for pattern, form in SPEC_PIECES:
+        found = re.fullmatch(pattern, piece)
+        if found:
+            return found.group(1).upper() if form is None else found.expand(form)
+    raise ValueError(piece)
+
+
+def faults_of_specs() -> dict[str, tuple[str, str]]:
+    """Each fault's status and text, with its parts in capitals, by the specification."""
+    text = read("crates/link_base/specs/Fault.antt")
+    status = dict(re.findall(r"^fault_status \(?fault\.(\w+)[^=]*= (\d)$", text, flags=re.M))
+    found = {}
+    for name, body in re.findall(r"^fault_text \(?fault\.(\w+)[^=]*=(.*?)(?=^\S|^$)", text, flags=re.S | re.M):
+        found[name] = (status[name], "".join(spec_piece(piece.strip()) for piece in body.split("++")))
+    return found
+
+
+def is_of(line: str, template: str) -> bool:
+    """Whether a line is a fault's text, whose words in capitals stand for anything."""
+    words = re.split(r"(\W+)", template)
+    return bool(re.fullmatch("".join(".+" if it.isupper() and it not in ("TOML", "UTF") else re.escape(it) for it in words), line))
+
+
+def table_rows(path: str, heading: str) -> list[list[str]]:
+    """The rows of the tables under a heading of a page, each as a list of cells, their heads among them."""
+    body = re.search(rf"^#+ {re.escape(heading)}\n(.*?)(?=^#|\Z)", read(path), flags=re.S | re.M)
+    if not body:
+        return []
+    rows = [re.split(r"(?<!\\)\|", line.strip().strip("|")) for line in body.group(1).splitlines() if line.startswith("|")]
+    return [[cell.strip() for cell in row] for row in rows if not re.fullmatch(r"[\s:-]+", row[0])]
+
+
+def first_codes(path: str, heading: str) -> list[str]:
+    """The code spans of the first column of the tables under a heading."""
+    return [code for row in table_rows(path, heading) for code in re.findall(r"`([^`]*)`", row[0])]
+
+
+def key_examples() -> list[str]:
+    """The examples of SETTINGS that are no line of TOML which gives their own key a value."""
+    wrong = []
+    for row in [it for head in HEADS.values() for it in table_rows("docs/SETTINGS.md", head)]:
+        key, example = re.findall(r"`([^`]*)`", row[0]), re.findall(r"^`(.*)`$", row[-1])
+        try:
+            if key and example and list(tomllib.loads(example[0])) != key:
+                wrong.append(example[0])
+        except tomllib.TOMLDecodeError:
+            wrong.append(example[0])
+    return wrong
+
+
+def unexplained_words() -> list[str]:
+    """The words that a key may have as its value, and that no code span of SETTINGS shows."""
+    page = set(re.findall(r"`([^`\n]*)`", read("docs/SETTINGS.md")))
+    words = read("crates/settings/specs/Words.antt")
+    return [word for name in WORDS for word in codes_of(name, words) if word not in page]
+
+
+def unwritten_limits() -> list[str]:
+    """The limits whose numbers stand in no page."""
+    page, lost = "".join(read(f"docs/{it}.md") for it in ("FILES", "SETTINGS", "FAULTS")), []
+    for path in ("crates/link_limits/src/lib.rt", "crates/link_plan/src/limits.rt"):
+        for name, number in re.findall(r"const (MOST_\w+|LEAST_\w+): \w+ = ([\d_]+);", read(path)):
+            value = int(number)
+            forms = {str(value), f"{value:,}"} | ({f"{value // 2**20} MiB"} if value % 2**20 == 0 else set())
+            forms |= {"2^63 - 1"} if value == 2**63 - 1 else set()
+            stands = any(re.search(rf"(?<![\d,]){re.escape(form)}(?![\d,]\d)", page) for form in forms)
+            if name not in INNER_LIMITS and not stands:
+                lost.append(f"{name} = {number}")
+    return lost
+
+
+def lists() -> dict[str, tuple[list, list]]:
+    """Each list by its name: what is shown, and what is wanted, both in order."""
+    words = read("crates/settings/specs/Words.antt")
+    found = {f"docs/SETTINGS.md: {head}": (first_codes("docs/SETTINGS.md", head), codes_of(name, words)) for name, head in HEADS.items()}
+    shown = [(row[1], code) for row in table_rows("docs/FAULTS.md", "The lines") for code in re.findall(r"^`([^`]*)`", row[0])]
+    found["docs/FAULTS.md: The lines"] = shown, list(faults_of_specs().values())
+    roles = re.findall(r'^role_name role\.\w+ = codes "(\w+)"', read("crates/link_base/specs/Fault.antt"), flags=re.M)
+    found["docs/FAULTS.md: The files"] = first_codes("docs/FAULTS.md", "The files"), roles
+    reasons = re.findall(r'^reason_text .*? = codes "(\w+) "', read("crates/link_core/specs/Verify.antt"), flags=re.M)
+    said = [code.split()[1] for code in first_codes("docs/FAULTS.md", "What verify says") if code != "yes"]
+    found["docs/FAULTS.md: What verify says"] = said, reasons
+    commands = [code.split()[0] for code in first_codes("README.md", "Commands")]
+    found["README.md: Commands"] = sorted(set(commands)), sorted(commands_of())
+    found["docs/SETTINGS.md: examples of other keys, or no TOML"] = key_examples(), []
+    found["docs/SETTINGS.md: words that are not explained"] = unexplained_words(), []
+    found["docs: limits that stand in no page"] = unwritten_limits(), []
+    return {name: (sorted(shown), sorted(wanted)) for name, (shown, wanted) in found.items()}
+
+
+def broken_links(page: str) -> list[str]:
+    """The relative links of a page that name no file of the repository, or no heading of it."""
+    text, found = re.sub(r"^\s*```.*?^\s*```\s*$", "", read(page), flags=re.S | re.M), []
+    for target in re.findall(r"\]\(([^)\s]+)\)", text):
+        name, _, anchor = target.partition("#")
+        file = ((ROOT / page).parent / name).resolve() if name else ROOT / page
+        if re.match(r"[a-z]+:", target):
+            continue
+        heads = re.findall(r"^#+ (.*)$", file.read_text(encoding="utf-8"), flags=re.M) if anchor and file.exists() else []
+        if not file.exists() or anchor and anchor not in [anchor_of(head) for head in heads]:
+            found.append(target)
+    return found
+
+
+def anchor_of(head: str) -> str:
+    """What a link names a heading by."""
+    return re.sub(r"[^\w\- ]", "", head.lower()).strip().replace(" ", "-")
