@@ -7,7 +7,6 @@ use std::alloc::Global;
 pub(crate) enum Fault {
     NoMemory,
     NoInput,
-    NoOutput,
     NotToml,
     NotListed,
     NotText,
@@ -25,7 +24,6 @@ impl Fault {
         match self {
             Fault::NoMemory => "want of memory",
             Fault::NoInput => "a case file that cannot be read",
-            Fault::NoOutput => "standard output",
             Fault::NotToml => "a case file that is not TOML",
             Fault::NotListed =>
                 "a table with a key or a value that it may not have, or without one that it needs",
@@ -59,6 +57,11 @@ impl Buffer {
             bytes: Vec::new(alloc),
             fault: None,
         }
+    }
+
+    /// Whether nothing is shown, nor any fault noted.
+    pub(crate) fn is_empty(&self) -> bool {
+        self.bytes.is_empty() && self.fault.is_none()
     }
 
     /// Notes a fault, where there was none before.

@@ -1,8 +1,10 @@
-// A command over each cut of a file.
+// A command over each cut of the files that it reads.
 use crate::buffer::{Buffer, Fault, copied};
 use crate::files::Files;
+use crate::keys::{push_words, text_of, values, words_of};
 use crate::trial::{NONE, push_ending, run_over};
 use std::alloc::Global;
+use toml::Value;
 
 // How a command ends over a front of a file. Of one that is done nothing more is said.
 fn line_at(
@@ -63,30 +65,31 @@ fn push_lines(
     close(alloc, lines, least, all.len(), &last);
 }
 
-/// What was shown of the cuts of a file, and by which command.
+/// What was shown of the cuts of a file, and of which command.
 #[derive(Drop)]
-pub(crate) struct Cuts {
+pub(crate) struct Cuts<'a> {
     lines: Buffer,
-    command: Buffer,
+    command: &'a Value,
 }
 
-// The command by which these lines were shown before, if any.
-fn earlier<'a>(shown: &'a [Cuts], lines: &Buffer) -> Option<&'a Buffer> {
+// The command of which these lines were shown before, if any.
+fn earlier<'a>(shown: &[Cuts<'a>], lines: &Buffer) -> Option<&'a Value> {
     for cuts in shown {
         if cuts.lines.bytes == lines.bytes {
-            return Some(&cuts.command);
+            return Some(cuts.command);
         }
     }
     None
 }
 
 // Shows the lines of a command's cuts, and keeps them; or the command that ended so before.
-fn show_lines(page: &mut Buffer, shown: &mut Vec<Cuts>, name: &str, cuts: Cuts) {
+fn show_lines<'a>(page: &mut Buffer, shown: &mut Vec<Cuts<'a>>, name: &str, cuts: Cuts<'a>) {
     match earlier(shown, &cuts.lines) {
-        Some(earlier) => {
+        Some(command) => {
             page.push_each(&[b"-- ", name.as_bytes(), b" cut: as"]);
-            page.push_all(earlier);
+            push_words(page, values(command, "words"));
             page.push(b"\n");
+            page.fail_as(&cuts.lines);
             drop(cuts);
         }
         None => {
@@ -98,32 +101,38 @@ fn show_lines(page: &mut Buffer, shown: &mut Vec<Cuts>, name: &str, cuts: Cuts) 
     }
 }
 
-/// Runs a command over each cut of a file, and shows how it ends; or the command of this case that ended so before.
-pub(crate) fn show_cuts(
+// Runs a command over each cut of a file, and shows how it ends; or the command that ended so before.
+fn show_cuts<'a>(
     alloc: Global,
     page: &mut Buffer,
-    shown: &mut Vec<Cuts>,
-    words: &[String],
     files: &mut Files,
+    shown: &mut Vec<Cuts<'a>>,
+    command: &'a Value,
     name: &str,
 ) {
+    let words = words_of(alloc, page, values(command, "words"));
     match copied(alloc, page, files.held(name)) {
         None => page.fail(Fault::NotCut),
         Some(all) => {
             let mut lines = Buffer::new(alloc);
             lines.push_each(&[b"-- ", name.as_bytes(), b" cut\n"]);
-            push_lines(alloc, &mut lines, words, files, name, &all);
+            push_lines(alloc, &mut lines, &words, files, name, &all);
             files.set(alloc, page, name, Some(all));
-            let mut command = Buffer::new(alloc);
-            push_words(&mut command, words);
             show_lines(page, shown, name, Cuts { lines, command });
         }
     }
 }
 
-/// Appends words with a space before each.
-pub(crate) fn push_words(text: &mut Buffer, words: &[String]) {
-    for word in words {
-        text.push_each(&[b" ", word.as_bytes()]);
+/// Runs a command over each cut of each file that it reads, and shows how it ends; or the command that ended so before.
+pub(crate) fn show_each_cut<'a>(
+    alloc: Global,
+    page: &mut Buffer,
+    files: &mut Files,
+    shown: &mut Vec<Cuts<'a>>,
+    command: &'a Value,
+) {
+    for name in values(command, "reads") {
+        let name = text_of(page, name);
+        show_cuts(alloc, page, files, shown, command, name);
     }
 }

@@ -7,6 +7,8 @@ ghost use Rattle.link_plan.specs.Ranges.{KeepsRanges};
 
 use crate::buffer::{Buffer, Fault};
 use crate::files::Files;
+use crate::runs::Shared;
+use crate::wants::push_difference;
 use link_core::{Prepared, prepare};
 use link_plan::Plan;
 use pair_walk::{RowPairs, Walker};
@@ -105,11 +107,8 @@ fn show_files(alloc: Global, page: &mut Buffer, plan: &Plan, a: &[u8], b: &[u8])
     }
 }
 
-/// Shows what no command prints of the worked example, whose files stand beside the case files.
-pub(crate) fn show_example(alloc: Global, page: &mut Buffer, beside: &Files) {
-    page.push(
-        b"== beside the commands: a file with itself, its texts in a pool, the records that are compared\n",
-    );
+// Shows what no command prints of the worked example.
+fn show_example(alloc: Global, page: &mut Buffer, beside: &Files) {
     let a = beside.held("a.csv").unwrap_or_default();
     let b = beside.held("b.csv").unwrap_or_default();
     match read_settings(alloc, beside.held("s.toml").unwrap_or_default()) {
@@ -123,4 +122,17 @@ pub(crate) fn show_example(alloc: Global, page: &mut Buffer, beside: &Files) {
             drop(plan);
         }
     }
+}
+
+/// Shows what no command prints of the worked example, where that is not what stands in a file beside it.
+pub(crate) fn run_example(shared: Shared<'_>) -> Buffer {
+    let mut page = Buffer::new(shared.alloc);
+    let mut came = Buffer::new(shared.alloc);
+    show_example(shared.alloc, &mut came, shared.beside);
+    let wants = shared.beside.held("example.txt").unwrap_or_default();
+    if wants != came.bytes.as_slice() {
+        push_difference(&mut page, wants, &came.bytes);
+    }
+    page.fail_as(&came);
+    page
 }

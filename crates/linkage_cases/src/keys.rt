@@ -41,18 +41,36 @@ pub(crate) const PIECE: [Key; 3] = [
 /// A text, and what stands in its place.
 pub(crate) const REPLACEMENT: [Key; 2] = [("old", "string", true), ("new", "string", true)];
 
-/// A command: its words; changes before it; the calls that fail, from 1: of the store, loads and puts counted together, applied
-/// where a failing put has written its bytes, of standard output and of standard error; whether it is run once for each call
-/// that it makes, with that call failing; and the files of which it is run over each cut.
-pub(crate) const RUN: [Key; 8] = [
+/// The list of commands.
+pub(crate) const COMMANDS: [Key; 1] = [("command", "array", true)];
+
+/// A command of the list: its words, and the files that it reads.
+pub(crate) const COMMAND: [Key; 2] = [("words", "array", true), ("reads", "array", true)];
+
+/// A run: the words of its command; changes before it; the calls that fail, from 1: of the store, loads and puts counted
+/// together, applied where a failing put has written its bytes, of standard output and of standard error; whether it is run
+/// once for each call that it makes, with that call failing; or over each cut of the files that it reads; and what is wanted
+/// of it, without which it is refused.
+pub(crate) const RUN: [Key; 10] = [
     ("words", "array", true),
+    ("reads", "array", false),
     ("file", "array", false),
     ("fails", "integer", false),
     ("applied", "boolean", false),
     ("out_fails", "integer", false),
     ("err_fails", "integer", false),
     ("each_failure", "boolean", false),
-    ("each_cut", "array", false),
+    ("each_cut", "boolean", false),
+    ("wants", "string", false),
+];
+
+/// A run of each command of the list: changes before it, how each is run, and what is wanted.
+pub(crate) const EACH: [Key; 5] = [
+    ("each_command", "boolean", true),
+    ("file", "array", false),
+    ("each_failure", "boolean", false),
+    ("each_cut", "boolean", false),
+    ("wants", "string", false),
 ];
 
 // Whether a value is of a type; a number is one of at most 32 bits.
@@ -160,4 +178,12 @@ pub(crate) fn words_of(alloc: Global, page: &mut Buffer, values: &[Value]) -> Ve
         }
     }
     words
+}
+
+/// Appends words with a space before each.
+pub(crate) fn push_words(page: &mut Buffer, words: &[Value]) {
+    for word in words {
+        let word = text_of(page, word);
+        page.push_each(&[b" ", word.as_bytes()]);
+    }
 }
