@@ -1,0 +1,131 @@
+"""Checks of single functions: the command that rt itself uses, run on a copy of a crate with edits applied."""
+
+import shutil
+import subprocess
+import sys
+import tempfile
+import tomllib
+from dataclasses import dataclass
+from pathlib import Path
+
+sys.path.insert(0, str(Path(__file__).resolve().parent.parent))
+from tally import ROOT, CannotRun  # noqa: E402  (the frame stands one folder above)
+
+
+@dataclass(frozen=True)
+class Pair:
+    """A text of one line that stands once in a file of a crate, and what comes in its place."""
+
+    file: str
+    old: str
+    new: str
+
+
+@dataclass(frozen=True)
+class Edit:
+    """A wrong body: the function whose own contract must refuse it, and the texts that make it."""
+
+    crate: str
+    name: str
+    wrong: str
+    function: str
+    pairs: tuple[Pair, ...]
+
+    @property
+    def part(self) -> str:
+        return f"{self.crate}/{self.name}"
+
+
+class BadEdit(Exception):
+    """Why an edit cannot be applied, in one line."""
+
+
+def read_edits(file: Path) -> list[Edit]:
+    """The edits of a TOML file: tables `edit` with crate, name, wrong, function, file, old and new, and more pairs in `more`."""
+    found = []
+    for table in tomllib.loads(file.read_text("utf-8"))["edit"]:
+        pairs = [Pair(it["file"], it["old"], it["new"]) for it in [table, *table.get("more", [])]]
+        found.append(Edit(table["crate"], table["name"], table["wrong"], table["function"], tuple(pairs)))
+    return found
+
+
+def kit() -> Path:
+    """The folder of the kit whose command is rt."""
+    command = shutil.which("rt")
+    if not command:
+        raise CannotRun("there is no command rt: the Rattle kit is not set up")
+    return Path(command).resolve().parent.parent
+
+
+def crates() -> dict[str, list[str]]:
+    """The names that each crate of crates.txt stands on, those of the kit among them."""
+    lines = [line.partition("#")[0].partition(":") for line in (ROOT / "crates.txt").read_text("utf-8").splitlines()]
+    return {name.split()[0]: uses.split() for name, _, uses in lines if name.strip()}
+
+
+def below(crate: str, uses: dict[str, list[str]]) -> list[str]:
+    """The repository's libraries below a crate, each after those that it uses."""
+    found: list[str] = []
+    for dep in uses[crate]:
+        if dep in uses:
+            found += [it for it in [*below(dep, uses), dep] if it not in found]
+    return found
+
+
+def is_older(rlib: Path) -> bool:
+    """Whether a built library is older than the text of its crate: rt ci puts back what it found when it began."""
+    crate = rlib.parents[2]
+    texts = [it for part in ("src", "specs", "proofs") for it in crate.glob(f"{part}/**/*") if it.is_file()]
+    return rlib.stat().st_mtime < max(it.stat().st_mtime for it in texts)
+
+
+def command(crate: str, functions: list[str], libraries: Path) -> list[str]:
+    """The words that check these functions of a crate, over the built libraries of the checkout `libraries`."""
+    uses, home = crates(), kit()
+    rlib = {it: libraries / f"crates/{it}/out/rlib/{it}.rlib" for it in below(crate, uses)}
+    for path in rlib.values():
+        if not path.is_dir():
+            raise CannotRun(f"{path} is not built: rt ci")
+        if is_older(path):
+            raise CannotRun(f"{path} is older than the text of its crate: rm -r crates/*/out/rlib, and rt ci")
+    words = [f"{home}/bin/rattle", "check", "--crate-name", crate, "src/lib.rt"]
+    for name in ["std", *(it for it in uses[crate] if it not in uses)]:
+        words += ["--extern", f"{name}={home}/rlibs/{name}.rlib"]
+    words += ["-L", f"dependency={home}/rlibs"]
+    for name in (it for it in uses[crate] if it in uses):
+        words += ["--extern", f"{name}={rlib[name]}"]
+    for path in rlib.values():
+        words += ["-L", f"dependency={path.parent}"]
+    words += ["--antt-project", f"{home}/rattle/logic/antt-project.json", "--logic-built", f"{home}/logic_built"]
+    words += ["--links", f"{crate}=", "--jobs", "1"]
+    return words + [word for name in functions for word in ("--only", name)]
+
+
+def edited(edits: list[Edit]) -> dict[str, str]:
+    """The texts of the files of a crate that these edits change, by their paths in it."""
+    texts: dict[str, str] = {}
+    for edit in edits:
+        for pair in edit.pairs:
+            path = ROOT / "crates" / edit.crate / pair.file
+            if pair.file not in texts:
+                if not path.is_file():
+                    raise BadEdit(f"there is no file {pair.file}")
+                texts[pair.file] = path.read_text("utf-8")
+            count = texts[pair.file].count(pair.old)
+            if count != 1 or "\n" in pair.old + pair.new:
+                raise BadEdit(f"{pair.old!r} is in {pair.file} {count} times: it is to stand there once, and on one line")
+            texts[pair.file] = texts[pair.file].replace(pair.old, pair.new)
+    return texts
+
+
+def check(crate: str, functions: list[str], texts: dict[str, str], libraries: Path) -> tuple[int, str]:
+    """The status of a check of these functions with these texts in place of a crate's own, and what it says."""
+    words = command(crate, functions, libraries)
+    with tempfile.TemporaryDirectory(prefix="edits-") as room:
+        for part in ("src", "specs", "proofs"):
+            if (ROOT / "crates" / crate / part).is_dir():
+                shutil.copytree(ROOT / "crates" / crate / part, f"{room}/{part}")
+        for path, text in texts.items():
+            Path(room, path).write_text(text, "utf-8")
+        ended = subprocess.run(words, cwd=room, stdin=subprocess.DEVNULL, stdout=subprocess.PIPE, stderr=subprocess.STDOUT, check=False)
+    return ended.returncode, ended.stdout.decode("utf-8", "replace")
