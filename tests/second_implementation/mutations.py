@@ -2,7 +2,7 @@
 
 import random
 import re
-from collections.abc import Callable
+from collections.abc import Callable, Iterator
 from itertools import product
 
 from commands import perform
@@ -19,9 +19,13 @@ ANY += ["x" * 256, "é" * 127, "é" * 128, "comma", "date", "ymd", "soundex", "f
 ANY += [[], [1], ["A"] * 201, ["A"] * 50, ["a"], ["A", 1], [1, 2, 1021], [512, 511, 1, 0], [0, 512, 512], [1, "a", 3], ["é" * 33], {}]
 ANY += [{"a": "B"}, {"B": "b", "A": 1}, {"B": 2, "A": "a"}, [{}], [{}] * 9]
 ANY += [{f"W{at}": "X" for at in range(1001)}, [[{}]], [{"parts": []}], [{"parts": [{}] * 5}], ["W" * 33], [True, 512, 511]]
+# What stands at the bounds of a key, and one past them.
 EDGES = {"rare": [1, 2, 200_000, 200_001], "n": [0, 1, 20, 21], "t": [-1, 0, 100, 101, 36_500, 36_501], "award": [-1, 0, 1000, 1001]}
-EDGES |= {"seed": [-1], "mu_ppm": [-1, 10**6 + 1], "missing": [["x" * 64], ["x" * 65], [""] * 51]}
-EDGES |= {"parts": [[], [{}] * 5], "name": ["a" * 33, "A", ""]}
+EDGES |= {"seed": [-1, 0, 2**63 - 1], **{it: [-1, 0, 10**6, 10**6 + 1] for it in ("mu_ppm", "lambda_ppm")}}
+EDGES |= {"missing": [[], ["x" * 64], ["x" * 65], ["x"] * 50, ["x"] * 51], "parts": [[], [{}] * 5], "name": ["a" * 33, "A", ""]}
+EDGES |= {it: [[], ["A" * 32], ["A" * 33], [""], ["A"] * 200, ["A"] * 201] for it in ("titles", "suffixes")}
+EDGES |= {it: [{}, {f"W{at}": "X" for at in range(1000)}, {f"W{at}": "X" for at in range(1001)}] for it in ("names", "places")}
+EDGES |= {it: ["", "x" * 255, "x" * 256, "é" * 128] for it in ("file_a", "id_a", "id_b", "sample", "journal", "column_a", "column_b")}
 BAD = {"number": ["01", "0"], "date": ["2024-2-30", "2020-01-01"], "reviewer": [""], "step": ["second", "confirm", "first"]}
 BAD |= {"verdict": ["no", "open"], "id_a": ["nobody"], "id_b": ["nobody", ""], "status": ["yes"], "capacity": ["1001", "01"]}
 READ_BY = {"a": "pairs", "b": "pairs", "sample": "rule", "journal": "open", "verdicts": "review", "capacities": "many"}
@@ -50,14 +54,29 @@ def copied(made: Input) -> Input:
 # ---- faults of the settings, of whole files, of rows
 
 
+def tables_of(plan: dict, level: str) -> list[dict]:
+    """The tables of a level of the settings."""
+    parts = [part for one in plan["pass"] for part in one["parts"]]
+    return {"top": [plan], "field": plan["field"], "pass": plan["pass"], "part": parts}[level]
+
+
 def change_key(chance: random.Random, plan: dict, level: str) -> None:
     """Drops a key of a table of a level of the settings, or gives it any value."""
-    parts = [part for one in plan["pass"] for part in one["parts"]]
-    table = chance.choice({"top": [plan], "field": plan["field"], "pass": plan["pass"], "part": parts}[level])
-    key = chance.choice(OF_LEVEL[level])
+    table, key = chance.choice(tables_of(plan, level)), chance.choice(OF_LEVEL[level])
     table.pop(key, None)
     if chance.random() < 0.8:
         table[key] = chance.choice(EDGES[key] if key in EDGES and chance.random() < 0.5 else ANY)
+
+
+def at_bounds(made: Input) -> Iterator[dict]:
+    """The settings of an input with one key at one of its bounds or past it, where the key belongs."""
+    for level in LEVELS:
+        for place, table in enumerate(tables_of(made.plan, level)):
+            keys = [it for it in EDGES if it in table or it in TOP and level == "top" or it in ("rare", "column_a") and level == "field"]
+            for key, edge in ((key, edge) for key in keys for edge in EDGES[key]):
+                plan = copied(made).plan
+                tables_of(plan, level)[place][key] = edge
+                yield plan
 
 
 def of_settings(fault: str, level: str) -> Change:
@@ -165,7 +184,7 @@ def any_words(chance: random.Random, made: Input) -> bool:
 def spoil_row(chance: random.Random, rows: Rows) -> None:
     """Makes two cells of a row wrong, so that the order of their faults shows."""
     row = chance.choice(rows[1:] or rows)
-    for at in chance.sample(range(len(row)), 2):
+    for at in chance.sample(range(len(row)), min(2, len(row))):
         row[at] = chance.choice(BAD.get(rows[0][at], [""]) + ["e" * 256, "\udcff"][: chance.choice([0, 0, 2])])
 
 
