@@ -13,7 +13,7 @@ from checks import Edit, below, crates, kit
 from tally import ROOT
 
 HERE = Path(__file__).resolve().parent
-FOLDER = Path(os.environ.get("XDG_CACHE_HOME") or Path.home() / ".cache") / "linkage/edits"
+FOLDER = Path(os.environ.get("XDG_CACHE_HOME") or os.path.expanduser("~/.cache")) / "linkage/edits"
 
 
 @cache
@@ -29,8 +29,8 @@ def sum_of_crate(crate: str) -> str:
 
 @cache
 def sum_of_judge() -> str:
-    """The sum of what judges an edit: these programs, and the kit."""
-    texts = [path.read_bytes() for path in sorted(HERE.glob("*.py"))]
+    """The sum of what judges an edit: the check, what is made of its words, and the kit."""
+    texts = [(HERE / name).read_bytes() for name in ("checks.py", "said.py")]
     known = kit() / "KIT-ID"
     return hashlib.sha256(repr((texts, known.read_bytes() if known.is_file() else b"")).encode()).hexdigest()
 

@@ -51,7 +51,10 @@ class Host:
 
     def ending(self, words: str, **how) -> str:
         """The status of a command, and the text of its fault."""
-        ended = subprocess.run([self.program, *words.split()], cwd=self.folder, capture_output=True, check=False, **how)
+        try:
+            ended = subprocess.run([self.program, *words.split()], cwd=self.folder, capture_output=True, check=False, **how)
+        except subprocess.TimeoutExpired as late:
+            return f"no end within {late.timeout} s"
         return f"{ended.returncode} {ended.stderr.decode().replace('linkage: ', '')}".strip()
 
     def shell(self, script: str) -> str:
