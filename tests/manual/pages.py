@@ -135,6 +135,9 @@ class Runner:
             self.judge(f"{block.place} {rest}", self.held(rest), block.lines)
         elif word == "is":
             self.judge(f"{block.place} {rest}", read(rest).splitlines(), block.lines)
+        elif word == "rows":
+            lines = read(rest).splitlines()
+            self.judge(f"{block.place} {rest}", [it for it in block.lines if it in lines], block.lines)
         elif word == "certifies":
             (self.folder / "prices.csv").write_text(block.text(), encoding="utf-8")
             self.judge(f"{block.place} these prices certify the links", self.run("linkage verify s.toml"), ["yes"])

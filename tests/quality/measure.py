@@ -55,6 +55,8 @@ class Quality:
     attained_mu: float
     asked_lambda: int
     attained_lambda: float
+    possible_m: float  # the chance of a possible link among matched pairs by the shares, in millionths
+    possible_u: float  # and among unmatched ones
 
     @property
     def wrong(self) -> int:
@@ -83,6 +85,11 @@ class Quality:
         """Of a million unmatched pairs of A x B, those that the rule linked."""
         return 1e6 * share(self.linked_unmatched, self.space - self.matched)
 
+    def spoken_of(self, compared: bool) -> tuple[int, int]:
+        """The matched and the unmatched pairs that shares speak of: those of the compared pairs, or of all pairs of A x B."""
+        matched = self.compared_matched if compared else self.matched
+        return matched, (self.compared if compared else self.space) - matched
+
     @property
     def lambda_compared(self) -> float:
         """Of a million compared matched pairs, those that the rule called non-links."""
@@ -105,7 +112,7 @@ def measured(folder: Path, settings: str = "settings.toml") -> Quality:
     opened = [row for row in compared if row["decision"] == "possible" and row["verdict"] in ("", "open")]
     wrong = [row["by"] for row in links if (row["id_a"], row["id_b"]) not in truth]
     kept = [row for row in matched if row["decision"] == "link" or row["verdict"] == "link"]
-    level = {name: 1e6 * report[name][0] / report[name][1] for name in ("mu", "lambda")}
+    level = {name: 1e6 * report[name][0] / report[name][1] for name in ("mu", "lambda", "possible_m", "possible_u")}
     return Quality(
         matched=len(truth), links=len(links), right=len(linked & truth), wrong_by_rule=wrong.count("rule"),
         wrong_by_review=wrong.count("review"), compared=len(compared), compared_matched=len(matched),
@@ -113,7 +120,8 @@ def measured(folder: Path, settings: str = "settings.toml") -> Quality:
         lost=sum(row["decision"] == "nonlink" for row in matched), lost_by_review=sum(row["verdict"] == "nonlink" for row in matched),
         lost_by_choice=len(set(pairs_of(kept)) - linked), possible=sum(row["decision"] == "possible" for row in compared),
         open=len(opened), open_right=sum(pair in truth for pair in pairs_of(opened)), space=report["rows"][0] * report["rows"][1],
-        asked_mu=asked["mu_ppm"], attained_mu=level["mu"], asked_lambda=asked["lambda_ppm"], attained_lambda=level["lambda"])
+        asked_mu=asked["mu_ppm"], attained_mu=level["mu"], asked_lambda=asked["lambda_ppm"], attained_lambda=level["lambda"],
+        possible_m=level["possible_m"], possible_u=level["possible_u"])
 
 
 def told(quality: Quality) -> str:

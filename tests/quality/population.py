@@ -13,7 +13,7 @@ households  a.csv: N persons (20,000); b.csv: households; capacities.csv: how ma
 All is made from syllables, and drawn by SEED: the same words should give the same bytes with each version of Python from 3.11
 (tried with 3.11 alone).
 
-Where a rate of error comes from:
+Where a rate of error comes from (what is said of a work was not looked up again, and may differ from it):
 - in matched pairs of the test census of 1988 given names agreed letter by letter in 75 to 82 %, surnames in 85 to 88 % (Winkler 1990,
   three places). The rates for names below are chosen to come near.
 - one typing error a word in four of five, else two (Damerau 1964); the first letter seldom: assumed one in ten.

@@ -8,10 +8,12 @@ Tables = dict[str, dict[str, list[str]]]  # name of a table, part, cells
 
 COLUMNS = {
     "populations": ["records of A", "records of B", "matched pairs", "digest of the files"],
+    "samples": ["pairs looked at", "matched", "unmatched"],
     "quality": ["precision", "recall", "links", "wrong links", "of them by review", "lost by blocking", "called non-links", "in review",
-                "right in review"],
+                "right in review", "asked of the reviewer", "right ones among them"],
     "levels": ["asked mu", "attained mu", "actual mu, compared", "actual mu, all", "linked by rule, unmatched", "asked lambda",
                "attained lambda", "actual lambda, compared"],
+    "counts": ["unmatched pairs spoken of", "may be linked", "linked by rule", "left by the choice", "expected in review", "in review"],
 }
 HEAD = """\
 # The table of quality
@@ -20,9 +22,10 @@ Written by `tests/quality/run --keep`; what the columns mean stands in README.md
 """
 
 
-def quality_cells(it: Quality) -> list[str]:
+def quality_cells(it: Quality, asked: tuple[int, int] | None = None) -> list[str]:
+    """The cells of a job; `asked` are the pairs that the reviewer was asked about, and the right ones among them."""
     return [f"{it.precision:.4f}", f"{it.recall:.4f}", str(it.links), str(it.wrong), str(it.wrong_by_review), str(it.blocked),
-            str(it.lost + it.lost_by_review), str(it.open), str(it.open_right)]
+            str(it.lost + it.lost_by_review), str(it.open), str(it.open_right), *(str(count) for count in asked or "--")]
 
 
 def level_cells(it: Quality) -> list[str]:
@@ -30,10 +33,18 @@ def level_cells(it: Quality) -> list[str]:
             str(it.asked_lambda), f"{it.attained_lambda:.2f}", f"{it.lambda_compared:.1f}"]
 
 
+def count_cells(it: Quality, compared: bool) -> list[str]:
+    """What the levels let expect, where the shares speak of the compared pairs or of all, and what came."""
+    matched, unmatched = it.spoken_of(compared)
+    review = (matched * it.possible_m + unmatched * it.possible_u) / 1e6
+    return [str(unmatched), f"{unmatched * it.asked_mu / 1e6:.0f}", str(it.linked_unmatched), str(it.wrong), f"{review:.0f}",
+            str(it.possible)]
+
+
 def plain_cells(links: set[Pair], truth: set[Pair]) -> list[str]:
     """The cells of a method that knows links alone; a dash where a column says nothing of it."""
     right = len(links & truth)
-    return [f"{share(right, len(links)):.4f}", f"{share(right, len(truth)):.4f}", str(len(links)), str(len(links) - right), *"-----"]
+    return [f"{share(right, len(links)):.4f}", f"{share(right, len(truth)):.4f}", str(len(links)), str(len(links) - right), *"-------"]
 
 
 def line(cells: list[str]) -> str:

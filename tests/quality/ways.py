@@ -76,39 +76,89 @@ class Job:
         return measured(self.folder)
 
 
-Sampled = dict[Pair, str]
+@dataclass(frozen=True)
+class Sampled:
+    """A sample: the status of each of its pairs, and how many pairs people had to look at for it."""
+
+    status: dict[Pair, str]
+    decided: int
+
+    def cells(self) -> list[str]:
+        """What a row of the table says of it."""
+        kinds = list(self.status.values())
+        return [str(self.decided), str(kinds.count("matched")), str(kinds.count("unmatched"))]
 
 
 def of_compared_pairs(job: Job, seed: str) -> Sampled:
     """Compared pairs drawn at random, each decided rightly: both kinds of them are counted."""
     drawn = Chance(seed, "compared").drawn(job.printed_pairs("pairs", "settings.toml"), COMPARED)
-    return {pair: "matched" if pair in job.truth else "unmatched" for pair in drawn}
+    return Sampled({pair: "matched" if pair in job.truth else "unmatched" for pair in drawn}, len(drawn))
 
 
 def crossed(job: Job, seed: str) -> Sampled:
     """The matched ones of all compared pairs of records of A drawn at random, and as unmatched ones pairs of A x B drawn at random.
 
-    Those of the latter that are matched after all are left out: a look at the few that agree on most fields finds them.
+    Of the latter people look at those that some pass compares, and the matched ones are left out; the others are taken as unmatched.
     """
     chance = Chance(seed, "crossed")
     ids_a, ids_b = job.ids("a"), job.ids("b")
-    reviewed = set(chance.drawn(ids_a, RECORDS))
-    found = {pair: "matched" for pair in job.printed_pairs("pairs", "settings.toml") if pair[0] in reviewed and pair in job.truth}
-    for _ in range(CROSSED):
-        pair = chance.of(ids_a), chance.of(ids_b)
-        if pair not in job.truth:
-            found[pair] = "unmatched"
-    return found
+    records = set(chance.drawn(ids_a, RECORDS))
+    compared = job.printed_pairs("pairs", "settings.toml")
+    looked_at = {pair for pair in compared if pair[0] in records}
+    found = {pair: "matched" for pair in compared if pair in looked_at and pair in job.truth}
+    drawn = [(chance.of(ids_a), chance.of(ids_b)) for _ in range(CROSSED)]
+    drawn_and_compared = set(drawn) & set(compared)
+    looked_at |= drawn_and_compared
+    found.update({pair: "unmatched" for pair in drawn if not (pair in drawn_and_compared and pair in job.truth)})
+    return Sampled(found, len(looked_at))
+
+
+SAMPLES: dict[str, Callable[[Job, str], Sampled]] = {"compared": of_compared_pairs, "crossed": crossed}
+
+
+def all_open(_: Job, asked: list[Pair]) -> list[Pair]:
+    """The reviewer is asked about everything that is open."""
+    return asked
+
+
+def unlinked(job: Job, asked: list[Pair]) -> list[Pair]:
+    """She is asked about the pairs of which neither record has a link."""
+    links = pairs_of(rows(job.folder / "links.csv"))
+    linked_a, linked_b = {a for a, _ in links}, {b for _, b in links}
+    return [(a, b) for a, b in asked if a not in linked_a and b not in linked_b]
+
+
+@dataclass(frozen=True)
+class Review:
+    """What the reviewer is asked of the open pairs, and the award that her links are given."""
+
+    name: str
+    award: int
+    asks: Callable[[Job, list[Pair]], list[Pair]]
+
+
+ALL, UNLINKED = Review("all reviewed", 500, all_open), Review("unlinked reviewed", 500, unlinked)
+REVIEWS = ALL, Review("all reviewed, award 100", 100, all_open), UNLINKED
 
 
 @dataclass(frozen=True)
 class Way:
-    """Where the shares come from (None: those guessed in the settings), and the asked levels in millionths."""
+    """The sample that the shares come from (none: those guessed in the settings), the asked levels in millionths, what is reviewed.
+
+    The settings are those of the kind, or, where `fields` has a word, those of the kind and that word; kinds without them go without.
+    """
 
     name: str
-    sample: Callable[[Job, str], Sampled] | None
+    sample: str
     mu: int
     lambda_: int
+    reviews: tuple[Review, ...] = ()
+    fields: str = ""
+    draw: str = ""  # a seed of the sample alone, in the place of that of all
+
+    def guessed(self, settings: Path, kind: str) -> Path:
+        """The file of settings with guessed shares of a kind."""
+        return settings / f"{kind}{self.fields and '_'}{self.fields}.toml"
 
     def settings(self, guessed: str) -> str:
         """The text of the settings, from that with guessed shares."""
@@ -127,24 +177,35 @@ def prepared(program: Path, files: Path, folder: Path, guessed: str, way: Way, s
     (folder / "settings.toml").write_text(guessed, encoding="utf-8")
     job = Job(program, folder)
     if way.sample:
-        lines = [f"{a},{b},{status}\n" for (a, b), status in way.sample(job, seed).items()]
+        sample = SAMPLES[way.sample](job, way.draw or seed)
+        lines = [f"{a},{b},{status}\n" for (a, b), status in sample.status.items()]
         (folder / "sample.csv").write_text("id_a,id_b,status\n" + "".join(lines), encoding="utf-8")
     (folder / "settings.toml").write_text(way.settings(guessed), encoding="utf-8")
     return job
 
 
-def reviewed(job: Job, seed: str) -> tuple[list[list[str]], list[list[str]]]:
-    """Has the made reviewer answer all that is open; her rows (pair and verdict), and those of the journal beyond the old ones."""
-    before = rows(job.folder / "journal.csv")
-    asked = job.printed_pairs("open", "settings.toml")
+def begun_anew(job: Job, award: int) -> None:
+    """The job with an empty journal and an award, after a run without review."""
+    (job.folder / "journal.csv").write_text("", encoding="utf-8")
+    path = job.folder / "settings.toml"
+    text = re.sub(r"(?m)^award = .*\n", "", path.read_text(encoding="utf-8"))
+    path.write_text(re.sub(r"(?m)^journal = ", f"award = {award}\njournal = ", text), encoding="utf-8")
+    job.call("run", "settings.toml")
+
+
+def reviewed(job: Job, seed: str, review: Review) -> tuple[list[list[str]], list[list[str]]]:
+    """Has the made reviewer answer what is asked; her rows (pair and verdict), and those of the journal."""
+    begun_anew(job, review.award)
+    asked = review.asks(job, job.printed_pairs("open", "settings.toml"))
     said = verdicts(asked, job.truth, seed).splitlines()[1:]
     for at in range(0, len(said), VERDICTS):
         (job.folder / "verdicts.csv").write_text("\n".join(["id_a,id_b,verdict", *said[at:at + VERDICTS]]) + "\n", encoding="utf-8")
+        before = rows(job.folder / "journal.csv")
         job.call("review", "settings.toml", "verdicts.csv", DAY, "made")
-    after = rows(job.folder / "journal.csv")
-    if after[:len(before)] != before:
-        raise Broken("linkage review: an old entry of the journal has changed")
-    return [line.split(",") for line in said], [[row["id_a"], row["id_b"], row["verdict"]] for row in after[len(before):]]
+        if rows(job.folder / "journal.csv")[:len(before)] != before:
+            raise Broken("linkage review: an old entry of the journal has changed")
+    kept = rows(job.folder / "journal.csv")
+    return [line.split(",") for line in said], [[row["id_a"], row["id_b"], row["verdict"]] for row in kept]
 
 
 PLAIN: dict[str, Callable[[dict[str, Record], dict[str, Record]], list[Pair]]] = {
