@@ -1,0 +1,1 @@
+"""Tools beside the program linkage: each module is one of them, but for words, tables, settings and job, which they share."""
