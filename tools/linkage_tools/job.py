@@ -187,8 +187,9 @@ class Job:
 
     def pairs(self) -> Iterator[Compared]:
         """The compared pairs of pairs.csv, one after the other, for there may be 2,000,000. Fault: as of `output`; a number that is none."""
-        for number, (id_a, id_b, pattern, outcomes, weight, decision, verdict) in enumerate(self.output("pairs.csv", PAIRS_HEADER), 1):
-            yield Compared((id_a, id_b), whole("pairs.csv", number, pattern), outcomes, whole("pairs.csv", number, weight), decision, verdict)
+        name = "pairs.csv"
+        for number, (id_a, id_b, pattern, outcomes, weight, *others) in enumerate(self.output(name, PAIRS_HEADER), 1):
+            yield Compared((id_a, id_b), whole(name, number, pattern), outcomes, whole(name, number, weight), *others)
 
     def rule(self) -> list[Cell]:
         """The rule of rule.csv, links first. Fault: as of `pairs`."""
@@ -214,7 +215,7 @@ class Job:
         """Fault: what `run` wrote is not of the settings, files and journal as they are now, by the program's own check."""
         status, said, refused = self.call("verify", self.name)
         if status == 9:
-            raise Fault(f"the written files are not of {self.name} and its inputs as they are now ({said.strip()}): linkage run {self.name}")
+            raise Fault(f"the written files are not of {self.name} and its inputs as they are now ({said.strip()}): run it again")
         if status:
             raise Fault(refused.strip() or f"linkage ended with status {status}")
 
@@ -272,5 +273,6 @@ def program() -> str:
     built = Path(__file__).resolve().parent.parent.parent / "crates/linkage/out/linkage"
     found = named or (str(built) if built.is_file() else shutil.which("linkage"))
     if found is None or not Path(found).is_file():
-        raise Fault(f"LINKAGE names no program: {named}" if named else "there is no program linkage: put it on the path, or name it in LINKAGE")
+        lack = "there is no program linkage: put it on the path, or name it in the variable LINKAGE"
+        raise Fault(f"LINKAGE names no program: {named}" if named else lack)
     return str(Path(found).resolve())

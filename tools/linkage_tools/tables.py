@@ -31,12 +31,12 @@ def load(path: Path) -> bytes:
 
 
 def records(text: str, sign: str = ",") -> Iterator[list[str]]:
-    """The records of a text (RFC 4180). A quote counts at the start of a field alone, a record ends at CR, LF or both, an empty line is none."""
+    """The records of a text (RFC 4180). A quote counts at the start of a field alone; an empty line is no record."""
     return (row for row in csv.reader(io.StringIO(text, newline=""), delimiter=sign) if row)
 
 
 def text_of(data: bytes) -> str:
-    """The text of bytes, without a byte order mark. Bytes that are no UTF-8 stay as they are: `is_text` tells them, `shown` replaces them."""
+    """The text of bytes, without a byte order mark. Bytes that are no UTF-8 are kept: `is_text` tells of them, `shown` replaces them."""
     return data.removeprefix(MARK).decode("utf-8", "surrogateescape")
 
 
