@@ -12,7 +12,7 @@ from pathlib import Path
 sys.path.insert(0, str(Path(__file__).resolve().parent.parent))
 from tally import EXAMPLE, ROOT, Tally  # noqa: E402
 
-PAGES = [ROOT / "README.md", *sorted((ROOT / "docs").glob("*.md"))]
+PAGES = [ROOT / "README.md", *sorted((ROOT / "docs").glob("*.md")), ROOT / "tools/README.md"]
 FENCE = re.compile(r"^(\s*)```(\w*)\s*$")
 NOTE = re.compile(r"^\s*<!-- check: (\w+)\s*(.*?)\s*-->\s*$")
 
@@ -89,7 +89,7 @@ class Runner:
         (top / "bin").mkdir()
         (top / "bin" / "linkage").symlink_to(program)
         self.tally, self.top, self.folder = tally, top, top
-        self.environment = dict(os.environ, LC_ALL="C.UTF-8", HOME=str(top), PATH=f"{top / 'bin'}:{os.environ['PATH']}")
+        self.environment = dict(os.environ, LC_ALL="C.UTF-8", HOME=str(top), PATH=f"{top / 'bin'}:{ROOT / 'tools'}:{os.environ['PATH']}")
 
     def fresh(self, source: str) -> None:
         """From here on a new folder, a copy of one of the repository where it is named."""

@@ -186,7 +186,7 @@ class Job:
             yield row
 
     def pairs(self) -> Iterator[Compared]:
-        """The compared pairs of pairs.csv, one after the other, for there may be 2,000,000. Fault: as of `output`; a number that is none."""
+        """The compared pairs of pairs.csv, one after the other. Fault: as of `output`; a number that is none."""
         name = "pairs.csv"
         for number, (id_a, id_b, pattern, outcomes, weight, *others) in enumerate(self.output(name, PAIRS_HEADER), 1):
             yield Compared((id_a, id_b), whole(name, number, pattern), outcomes, whole(name, number, weight), *others)

@@ -35,14 +35,21 @@ def tell(name: str, *lines: str) -> None:
         print(f"{name}: {line}", file=sys.stderr, flush=True)
 
 
-def start(name: str, tool: Callable[[list[str]], int | None]) -> None:
-    """Runs a tool over the words of the command line, and ends with its status; a fault is one line on standard error."""
+def ended(name: str, tool: Callable[[list[str]], int | None], given: list[str]) -> int:
+    """The status of a tool over some words, 0 where it says none; a fault is one line on standard error."""
     try:
-        status = tool(sys.argv[1:]) or 0
+        status = tool(given) or 0
         sys.stdout.flush()
     except Fault as fault:
         tell(name, " ".join(fault.text.splitlines()))
         status = fault.status
+    return status
+
+
+def start(name: str, tool: Callable[[list[str]], int | None]) -> None:
+    """Runs a tool over the words of the command line, and ends with its status; with 1 where whoever reads what it prints has ended."""
+    try:
+        status = ended(name, tool, sys.argv[1:])
     except BrokenPipeError:
         os.dup2(os.open(os.devnull, os.O_WRONLY), sys.stdout.fileno())
         status = 1
