@@ -95,17 +95,8 @@ def out(job: Job, words: Namespace) -> None:
     table = [[kind, "id_a", "id_b", *more, *map(guarded, header)]]
     for pair, weight, cells in zip(pairs, weights, rows):
         table.append(["", *map(guarded, pair), *([weight] if words.weight else []), *map(guarded, cells)])
-    text = written(table)
-    if words.delimiter != ",":
-        text = resigned(table, words.delimiter)
-    give(text, words.out, with_mark=True)
+    give(written(table, words.delimiter), words.out, with_mark=True)
     tell("sheet", f"{len(pairs)} pairs to be reviewed" + (f"; {done} need no look" if done else ""))
-
-
-def resigned(table: list[list[str]], sign: str) -> str:
-    """A table with another delimiter."""
-    quoted = lambda it: '"' + it.replace('"', '""') + '"' if re.search(f'[{sign}"\r\n]', it) else it
-    return "".join(sign.join(map(quoted, row)) + "\n" for row in table)
 
 
 # Back.

@@ -92,14 +92,14 @@ def read_table(path: Path, sign: str = ",") -> Table:
     return table_of(str(path), load(path), sign)
 
 
-def field_text(cell: str) -> str:
-    """A cell as it stands in a comma file: in quotes where it must be."""
-    return '"' + cell.replace('"', '""') + '"' if re.search('[,"\r\n]', cell) else cell
+def field_text(cell: str, sign: str = ",") -> str:
+    """A cell as it stands in a file with a delimiter: in quotes where it must be."""
+    return '"' + cell.replace('"', '""') + '"' if re.search(f'[{sign}"\r\n]', cell) else cell
 
 
-def written(rows: Iterable[Iterable[object]]) -> str:
-    """Rows as the text of a comma file with LF line ends. A row of one empty cell is written as two quotes, for an empty line is no row."""
-    lines = (",".join(field_text(str(cell)) for cell in row) for row in rows)
+def written(rows: Iterable[Iterable[object]], sign: str = ",") -> str:
+    """Rows as the text of a file with LF line ends. A row of one empty cell is written as two quotes, for an empty line is no row."""
+    lines = (sign.join(field_text(str(cell), sign) for cell in row) for row in rows)
     return "".join(f"{line or chr(34) * 2}\n" for line in lines)
 
 
