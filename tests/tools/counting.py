@@ -1,8 +1,6 @@
 """`shares` and `idle`: what stands behind a rule, and what of a journal counts no more."""
 
-from pathlib import Path
-
-from jobs import Bench, asks, rows_of, truth_of
+from jobs import Bench, asks, rows_of, with_sample
 from tally import Tally
 
 # By hand from the sample of the example: 6 matched pairs, 8 unmatched; docs/SETTINGS.md has the first line's counts.
@@ -45,21 +43,9 @@ A1,B1,open,2024-03-05,ben,linked,none
 """
 
 
-def with_sample(folder: Path) -> None:
-    """Gives the register a sample of all its compared pairs, decided by the truth."""
-    truth = truth_of(folder)
-    rows = [(row[0], row[1], "matched" if (row[0], row[1]) in truth else "unmatched")
-            for row in rows_of((folder / "pairs.csv").read_text(encoding="utf-8"))[1:]]
-    text = "".join(",".join(row) + "\n" for row in [("id_a", "id_b", "status"), *rows])
-    (folder / "sample.csv").write_text(text, encoding="utf-8")
-    lines = (folder / "settings.toml").read_text(encoding="utf-8").splitlines(keepends=True)
-    kept = [line for line in lines if line[:4] not in ("m = ", "u = ")]
-    (folder / "settings.toml").write_text("".join(['sample = "sample.csv"\n', *kept]), encoding="utf-8")
-
-
 def check_shares(tally: Tally, bench: Bench) -> None:
     example, register = bench.example(), bench.register()
-    with_sample(register)
+    with_sample(register, [row[:2] for row in rows_of((register / "pairs.csv").read_text(encoding="utf-8"))[1:]])
     bench.linkage(register, "run", "settings.toml")
     tally.judge("shares: of the example, by hand", bench.tool(example, "shares", "s.toml")[1].startswith(EXAMPLE_M), True)
     for folder, name in ((example, "s.toml"), (register, "settings.toml")):

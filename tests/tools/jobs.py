@@ -66,7 +66,7 @@ class Bench:
 
     def __init__(self):
         self.top = Path(tempfile.mkdtemp(prefix="linkage-tools-"))
-        self.made: Path | None = None
+        self.made: dict[int, Path] = {}
 
     def __enter__(self) -> "Bench":
         return self
@@ -84,17 +84,17 @@ class Bench:
         self.linkage(folder, "run", "s.toml")
         return folder
 
-    def register(self) -> Path:
+    def register(self, persons: int = PERSONS) -> Path:
         """A fresh copy of the made register and its census, with guessed shares and an empty journal, after `run`."""
-        if self.made is None:
-            self.made = self.empty() / "register"
-            words = ["tests/quality/population", "register", str(SEED), str(self.made), "--persons", str(PERSONS)]
-            subprocess.run(words, cwd=ROOT, check=True, stdin=subprocess.DEVNULL)
-            shutil.copy(ROOT / "tests/quality/settings/register.toml", self.made / "settings.toml")
-            (self.made / "journal.csv").write_text("", encoding="utf-8")
-            self.linkage(self.made, "run", "settings.toml")
+        if persons not in self.made:
+            self.made[persons] = self.empty() / "register"
+            made = [ROOT / "tests/quality/population", "register", SEED, self.made[persons], "--persons", persons]
+            subprocess.run(list(map(str, made)), check=True, stdin=subprocess.DEVNULL)
+            shutil.copy(ROOT / "tests/quality/settings/register.toml", self.made[persons] / "settings.toml")
+            (self.made[persons] / "journal.csv").write_text("", encoding="utf-8")
+            self.linkage(self.made[persons], "run", "settings.toml")
         folder = self.empty() / "job"
-        shutil.copytree(self.made, folder)
+        shutil.copytree(self.made[persons], folder)
         return folder
 
     def hostile(self) -> Path:
@@ -141,3 +141,13 @@ class Bench:
 def truth_of(folder: Path) -> set[tuple[str, str]]:
     """The pairs that are of one person."""
     return {(a, b) for a, b in rows_of((folder / "truth.csv").read_text(encoding="utf-8"))[1:]}
+
+
+def with_sample(folder: Path, pairs: list[list[str]]) -> None:
+    """Gives the register a sample of pairs, decided by the truth; those of a drawn record that are unmatched are left out."""
+    truth = truth_of(folder)
+    rows = [[a, b, "matched" if (a, b) in truth else "unmatched"] for a, b, *why in pairs if (a, b) in truth or why != ["record"]]
+    (folder / "sample.csv").write_text(text_of([["id_a", "id_b", "status"], *rows]), encoding="utf-8")
+    lines = (folder / "settings.toml").read_text(encoding="utf-8").splitlines(keepends=True)
+    kept = [line for line in lines if line[:4] not in ("m = ", "u = ")]
+    (folder / "settings.toml").write_text("".join(['sample = "sample.csv"\n', *kept]), encoding="utf-8")

@@ -99,7 +99,7 @@ def check_bad(tally: Tally, bench: Bench) -> None:
     (folder / "settings.toml").write_text(settings, encoding="utf-8")
     status, printed, said = bench.tool(folder, "prepare", "bad.csv", "--settings", "settings.toml", "--side", "a")
     tally.judge("prepare: all that is wrong, by rows", printed, BAD_LINES)
-    tally.judge("prepare: counts it", (status, said), (1, "prepare: 6 things are refused, 11 are to be looked at\n"))
+    tally.judge("prepare: counts it", (status, said), (1, "prepare: 6 refused, 11 to be looked at\n"))
     status, _, said = bench.tool(folder, "prepare", "bad.csv", "-o", "new.csv")
     line = "prepare: bad.csv: row 2: 6 fields, and the header has 5: mend it before a copy can be made"
     tally.judge("prepare: makes no copy of broken rows", (status, said.splitlines()[-1], (folder / "new.csv").exists()), (1, line, False))

@@ -286,7 +286,7 @@ def tool(given: list[str]) -> int:
     facts = [f"{name}: {how.said()}, delimiter {delimiter}, {len(rows)} rows", f"{name}: columns: {', '.join(header)}"]
     give("".join(f"{line}\n" for line in [*facts, *(it.line(name) for it in found)]), None)
     refused = sum(it.is_refused for it in found)
-    tell("prepare", f"{refused} things are refused, {len(found) - refused} are to be looked at" if found else "nothing found")
+    tell("prepare", f"{refused} refused, {len(found) - refused} to be looked at" if found else "nothing found")
     if words.out is not None:
         copy(looked, words)
     return 1 if refused else 0
