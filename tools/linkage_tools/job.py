@@ -265,13 +265,13 @@ def cells_of(name: str, rows: Iterator[list[str]]) -> list[Cell]:
 
 
 def program() -> str:
-    """Where the program is: what the variable LINKAGE names; else the one built in this repository; else the one on the path.
+    """Where the program is: what the variable LINKAGE names; else the one beside the tools; else the one on the path.
 
-    Fault: there is none.
+    Beside the tools it stands in crates/linkage/out of the repository, or in bin of an archive. Fault: there is none.
     """
-    named = os.environ.get("LINKAGE")
-    built = Path(__file__).resolve().parent.parent.parent / "crates/linkage/out/linkage"
-    found = named or (str(built) if built.is_file() else shutil.which("linkage"))
+    named, top = os.environ.get("LINKAGE"), Path(__file__).resolve().parent.parent.parent
+    beside = [str(it) for it in (top / "crates/linkage/out/linkage", top / "bin/linkage") if it.is_file()]
+    found = named or next(iter(beside), None) or shutil.which("linkage")
     if found is None or not Path(found).is_file():
         lack = "there is no program linkage: put it on the path, or name it in the variable LINKAGE"
         raise Fault(f"LINKAGE names no program: {named}" if named else lack)

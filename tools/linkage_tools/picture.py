@@ -55,7 +55,7 @@ def weights(job: Job) -> Picture:
     width = max(8, 8 * ceil((max(every) - min(every)) / 8 / 60))
     low = min(every) // width * width
     title = f"Of {whole(sum(total.values()))} compared pairs {whole(total['link'])} are links, and {whole(total['possible'])} go to review"
-    said = f"Pairs by weight, in steps of {width} eighths of a bit. Each row has a scale of its own; its highest bar is labelled."
+    said = f"Pairs by weight, in steps of {width} eighths of a bit. A row has its own scale; its highest bar is labelled."
     picture = Picture(title, said)
     left, room = 60, WIDTH - 120
     step = room / len(histogram(Counter(), low, max(every), width))
