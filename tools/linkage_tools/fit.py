@@ -21,10 +21,10 @@ unmatched compared pairs; if hardly one is, of all pairs of A x B. Guessed share
 nothing of how many pairs the passes leave out. So fewer pairs than expected count only in patterns of which some pass compares all.
 
 How many matched pairs are among the compared ones is the number under which the pairs seen are likeliest, m and u being as they are: with
-shares of compared pairs the share of one of two parts of a mixture; with shares of all pairs the mean of a Poisson sum whose other part is
-known, taken once more without the patterns that score 3 or more by the first. That is the model of Fellegi and Sunter 1969 with the
-proportion alone open. Belin and Rubin 1995 fit the parts too, from reviewed pairs: an error rate cannot be had from a mixture that does
-not fit. So a score says where to look, and is no test.
+shares of compared pairs the share of one of two parts of a mixture; with shares of all pairs the mean of a Poisson sum whose other part
+is known, taken once more without the patterns that have twice the pairs expected by the first, and score 3. That is the model of Fellegi
+and Sunter 1969 with the proportion alone open. Belin and Rubin 1995 fit the parts too, from reviewed pairs: an error rate cannot be had
+from a mixture that does not fit. So a score says where to look, and is no test.
 """
 
 import math
@@ -124,9 +124,11 @@ def mean_of_matched(counts: list[tuple[int, float, float]], unmatched: float) ->
 
 
 def matched_of_all(counts: list[tuple[int, float, float]], unmatched: float) -> float:
-    """The same by patterns all pairs of which are compared, without those that have far more pairs than a first estimate lets expect."""
+    """The same by patterns all pairs of which are compared, without those that have twice the pairs that a first estimate lets expect."""
     first = mean_of_matched(counts, unmatched)
-    return mean_of_matched([it for it in counts if score(it[0], first * it[1] + unmatched * it[2]) < LEAST_SCORE], unmatched)
+    expected = [first * m + unmatched * u for _, m, u in counts]
+    kept = [it for it, at in zip(counts, expected) if it[0] <= 2 * at or score(it[0], at) < LEAST_SCORE]
+    return mean_of_matched(kept, unmatched)
 
 
 def speaks_of(job: Job, compared: set[tuple[str, str]], asked: str | None) -> tuple[str, str]:
