@@ -13,8 +13,8 @@ from jobs import Job, register, small
 from tally import program
 
 MARKUP = "</script><script>document.title='hit'</script>"
-TEXTS = [MARKUP, "<!-- <b>bold</b> --> \"q\" & &amp; 'p'", "A\u2028B\u2029C", "\u05e2\u05d1\u05e8\u05d9\u05ea abc (1)", "\u202egnp.exe", "é" * 127 + "x",
-         "a\tb\nc", "  two  blanks  ", "@@DATA@@ @@SCRIPT@@", "\\u003cb\\u003e", "=1+1", "👩‍👩‍👧 ﷽ Z̷a̷l̷g̷o̷"]
+TEXTS = [MARKUP, "<!-- <b>bold</b> --> \"q\" & &amp; 'p'", "A\u2028B\u2029C", "\u05e2\u05d1\u05e8\u05d9\u05ea abc (1)", "\u202egnp.exe",
+         "é" * 127 + "x", "a\tb\nc", "  two  blanks  ", "@@DATA@@ @@SCRIPT@@", "\\u003cb\\u003e", "=1+1", "👩‍👩‍👧 ﷽ Z̷a̷l̷g̷o̷"]
 IDS = ["a/1 \"x\", 'y'", "<img src=x onerror=\"document.title='hit'\">", "\u202eB", "7", "007", " 007", "-", "__proto__", "é" * 127 + "y",
        "a\nb", "null", "constructor"]
 # Each way in which a page may ask for something, with the address of a server.
@@ -28,11 +28,11 @@ try { navigator.sendBeacon(at + "beacon", "x"); } catch (e) {}
 try { new WebSocket(at.replace("http", "ws")); } catch (e) {}
 try { new EventSource(at + "events"); } catch (e) {}
 put("img", { src: at + "img" }); put("script", { src: at + "script" }); put("link", { rel: "stylesheet", href: at + "css" });
-put("iframe", { src: at + "frame" }); put("object", { data: at + "object" }); put("video", { src: at + "video" });
+put("iframe", { src: at + "frame", name: "inner" }); put("object", { data: at + "object" }); put("video", { src: at + "video" });
 put("style", { textContent: "@import url(" + at + "import); body { background: url(" + at + "ground) }" });
 put("script", { textContent: "document.title = 'hit'" });
-const form = document.createElement("form"); form.action = at + "form"; form.target = "_blank"; document.body.append(form); form.submit();
-setTimeout(() => end(refused.length), 600);
+const form = document.createElement("form"); form.action = at + "form"; form.target = "inner"; document.body.append(form); form.submit();
+setTimeout(() => end(refused.length), arguments[1]);
 """
 
 
@@ -67,7 +67,7 @@ def no_request(bench: Bench) -> object:
             text = (job.folder / "desk.html").read_text(encoding="utf-8")
             (job.folder / "desk.html").write_text(re.sub('<meta http-equiv="Content-Security-Policy"[^>]*>', "", text), encoding="utf-8")
         browser.visit(page)
-        refused = browser.wait_for(REQUESTS, address)
+        refused = browser.wait_for(REQUESTS, address, 2500)
         found.append((len(server.asked) >= 8 if is_open else server.asked.copy(), refused >= 10, browser.run("return document.title")))
     server.shutdown()
     server.server_close()
@@ -172,7 +172,7 @@ def fluent(bench: Bench) -> object:
         time.sleep(0.2)
         spans = browser.run("return window.spans")
         rounds.append(max(spans) if len(spans) == 60 else 1e9)
-    print(f"        worst key of each round, ms: {[round(it) for it in rounds]}")
+        print(f"        {len(spans)} keys, worst {max(spans):.0f} ms, middle {sorted(spans)[len(spans) // 2]:.0f} ms")
     return len(job.pairs_of_page()), min(rounds) < 100, browser.text("#warning")
 
 

@@ -50,8 +50,10 @@ u = [10, 990, 24]
 parts = [{{ field = "block", key = "whole" }}]
 """
 A_HEADER, B_HEADER = ["id", "block", "surname", "birth", "parish"], ["id", "block", "family", "born", "parish"]
-A_ROWS = [["A1", "x", "Smith", "1980-02-03", "St Mary"], ["A2", "x", "Müller", "1975-11-17", "St Paul"], ["A3", "y", "Lee", "1968-12-12", ""]]
-B_ROWS = [["B1", "x", "Smyth", "03.02.1980", "St Mary"], ["B2", "x", "Mueller", "17.11.1976", "St Ann"], ["B3", "y", "Li", "-", "St Ann"]]
+A_ROWS = [["A1", "x", "Smith", "1980-02-03", "St Mary"], ["A2", "x", "Müller", "1975-11-17", "St Paul"],
+          ["A3", "y", "Lee", "1968-12-12", ""]]
+B_ROWS = [["B1", "x", "Smyth", "03.02.1980", "St Mary"], ["B2", "x", "Mueller", "17.11.1976", "St Ann"],
+          ["B3", "y", "Li", "-", "St Ann"]]
 
 
 @dataclass(frozen=True)
