@@ -42,7 +42,7 @@ def second_version(bench: Bench) -> object:
         job = small(bench.folder("second-version"), more=DOUBLE, journal=SECOND_VERSION)
         job.report("open")
         status, said = job.make("--reviewer", reviewer)
-        found.append((sorted(job.pairs_of_page()), said.count("wait for another reviewer")))
+        found.append((sorted(job.pairs_of_page()), said.count("waiting for another reviewer")))
     return found
 
 

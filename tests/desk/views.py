@@ -1,10 +1,12 @@
 """What the page shows and does: order, keys, mouse, what is kept, candidates, labels, sizes, light and dark, print."""
 
 import csv
+import re
 
 from bench import Bench
 from browser import Browser
 from jobs import B_ROWS, Job, small
+from tally import ROOT
 
 # The contrast of a text to what lies behind it, as WCAG 2 reckons it, in hundredths; the least of those found by the selectors.
 CONTRAST = """
@@ -88,6 +90,15 @@ def letters_of_another_script(bench: Bench) -> object:
     return browser.text("#counts")
 
 
+def keys_of_manual(bench: Bench) -> object:
+    """The keys in the help of the page, and in the table of docs/DESK.md."""
+    _, browser = fresh(bench, "manual")
+    page = browser.run("return [...document.querySelectorAll('#help dt')].map((it) => it.textContent)")
+    lines = (ROOT / "docs/DESK.md").read_text(encoding="utf-8").splitlines()
+    rows = [re.findall("<kbd>(.*?)</kbd>", it.split("|")[1]) for it in lines if it.startswith("| <kbd>")]
+    return [" ".join(it) for it in rows] == page, len(page)
+
+
 def mouse(bench: Bench) -> object:
     """The same by buttons, and single keys that are switched off and stay so."""
     _, browser = fresh(bench, "mouse")
@@ -105,7 +116,7 @@ def mouse(bench: Bench) -> object:
 
 
 def kept(bench: Bench) -> object:
-    """Verdicts and a note after a reload and in another window; Forget; what the store holds."""
+    """Verdicts and a note after a reload; what the store holds, and that other pages of files see it too; Forget."""
     job, browser = fresh(bench, "kept")
     browser.press("l", "n", "t")
     browser.press(*"see \"parish\"", "Escape", "f")
@@ -116,11 +127,15 @@ def kept(bench: Bench) -> object:
     after = browser.text("#counts"), browser.text("#pair-title")
     browser.press("g", "3", "Enter")
     note = browser.run("return document.getElementById('note').value")
+    address = browser.run("return location.href")
+    fresh(bench, "other")
+    shared = browser.run("return Object.keys(localStorage).filter((it) => it.includes(arguments[0])).length", job.data()["digest"])
+    browser.visit(address)
     browser.press("s")
     browser.click("#forget")
     browser.click("#forget")
     left = browser.run("return Object.keys(localStorage).filter((it) => it.includes(arguments[0])).length", job.data()["digest"])
-    return before, after, note, held, browser.text("#counts"), left
+    return before, after, note, held, shared, browser.text("#counts"), left
 
 
 def notes(bench: Bench) -> object:
@@ -160,7 +175,10 @@ def decided_candidates(bench: Bench) -> object:
         is_right = (data["patterns"][pattern], str(weight), decision) == (row["outcomes"], row["weight"], row["decision"])
         if not is_right or by != (link["by"] if link else ""):
             wrong.append(pair)
-    return wrong, {it[4] for it in data["compared"]}, {it[5] for it in data["compared"]}
+    mates = {x: y for x, y in rows["links"]}, {y: x for x, y in rows["links"]}
+    wrong += [it for side, place in (("a", 0), ("b", 1)) for it in zip(data[side], data["mates"][place])
+              if it[1] != mates[place].get(it[0][data["id"][place]], "")]
+    return wrong[:3], {it[4] for it in data["compared"]}, {it[5] for it in data["compared"]}
 
 
 def no_run(bench: Bench) -> object:
@@ -266,12 +284,13 @@ PARTS = {
     "a page holds its pairs and their candidates and no other record": (only_what_is_needed, (3, True, True, True)),
     "both records as they stand, with signs and what was compared": (both_records, ("Pair 1 of 5", FIRST, ["i", "y"])),
     "keys": (keys, (SAID, "2 of 5 decided: 1 link, 0 nonlink, 1 open", "Pair 4 of 5")),
+    "the keys of the page are those of the manual": (keys_of_manual, (True, 12)),
     "keys of another script, held keys, keys with Control": (letters_of_another_script, "2 of 5 decided: 1 link, 1 nonlink, 0 open"),
     "mouse": (mouse, (("Weight -28 eighths of a bit, pattern ADD", 2), "2 of 5 decided: 1 link, 0 nonlink, 1 open")),
     "kept when the page is closed, and forgotten when asked": (kept, (
         "2 of 5 decided: 1 link, 1 nonlink, 0 open", ("2 of 5 decided: 1 link, 1 nonlink, 0 open", "Pair 3 of 5"), 'see "parish"',
         ['{"verdict":"","note":"see \\"parish\\""}', '{"verdict":"link","note":""}', '{"verdict":"nonlink","note":""}'],
-        "0 of 5 decided: 0 link, 0 nonlink, 0 open", 0)),
+        3, "0 of 5 decided: 0 link, 0 nonlink, 0 open", 0)),
     "notes": (notes, ('id_a,id_b,verdict,note\nA1,B1,link,"a, ""b"""\n', "id_a,id_b,verdict\nA1,B1,link\n")),
     "other candidates one key away": (candidates, (
         "Other candidates: 1 of A's record, 1 of B's record", CANDIDATES, "You called a link: A1 – B1", "Pair 3 of 5")),

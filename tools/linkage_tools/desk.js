@@ -8,7 +8,6 @@
   const MOST_SHOWN = 30;       // candidates of one record that are shown
   const MOST_COMPARED = 70000; // product of two lengths up to which characters are compared one by one
   const OUTCOMES = { A: ["✓", "agrees"], R: ["✓", "agrees, rare"], D: ["✗", "disagrees"], M: ["–", "missing"] };
-  const GROUPS = ["Neither record has a link yet", "One of the two records has a link", "Both records have links"];
 
   // ---- What is decided, and where it is kept
 
@@ -251,9 +250,11 @@
     return found;
   }
 
-  function standingOf(at) {
-    const it = page.compared[at];
-    return it[5] ? `by ${it[5]}` : it[6] ? `no; ${it[6]} by review` : "no";
+  // By what a candidate is linked; else to which other record that of the other file is, and a verdict of review.
+  function linkedCell(at, otherSide) {
+    const it = page.compared[at], mate = page.mates[otherSide][it[otherSide]];
+    const inside = it[5] ? [`by ${it[5]}`] : mate ? ["to ", bdi(mate)] : ["no"];
+    return element("td", "", ...inside, it[6] && !it[5] ? `; ${it[6]} by review` : "");
   }
 
   function candidateRow(at, other, isThis) {
@@ -277,7 +278,7 @@
     }
     const rule = isThis ? "this pair" : it[4];
     const weight = shows.weight ? [element("td", "", String(it[3]))] : [];
-    const linked = element("td", "", isThis ? "" : standingOf(at));
+    const linked = isThis ? element("td", "") : linkedCell(at, other === "a" ? 0 : 1);
     return element("tr", isThis ? "this" : "", head, ...cells, element("td", "", rule), ...weight, linked, yours);
   }
 
@@ -345,7 +346,7 @@
   function draw() {
     const it = pairAt(now), a = page.a[it[0]], b = page.b[it[1]], letters = page.patterns[it[2]];
     by("pair-title").textContent = `Pair ${number(now + 1)} of ${number(total)}`;
-    by("group").textContent = page.whole ? GROUPS[page.groups[now]] : "";
+    by("group").replaceChildren(...linkWords(it));
     by("id-a").textContent = id.a(it[0]);
     by("id-b").textContent = id.b(it[1]);
     by("compared").replaceChildren(...page.fields.map((field, at) => comparedRow(field, at, a, b, letters)));
@@ -364,6 +365,14 @@
     drawYours();
     drawCandidates();
     drawState();
+  }
+
+  // To which other records the two of a pair are linked.
+  function linkWords(it) {
+    const mates = [0, 1].map((side) => page.mates[side][it[side]]);
+    const words = mates.flatMap((mate, side) => (mate ? [`; ${"AB"[side]} is linked to `, bdi(mate)] : []));
+    if (words.length) words[0] = words[0].slice(2);
+    return page.whole && !words.length ? ["Neither record has a link yet"] : words;
   }
 
   function say(text) {

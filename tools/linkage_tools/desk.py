@@ -217,7 +217,9 @@ def pairs_part(job: Job, asked: list[Open], waiting: list[Open], ringed: Around)
                 raise Fault(f"pairs.csv: no pattern {it.pattern} in the rule: linkage run {job.name}")
             add(it.pair, it.pattern, it.weight, it.decision, it.verdict)
     counts = [{side.at[key]: count for key, count in held.items() if key in side.at} for side, held in zip(sides, ringed.counts)]
-    return {"a": sides[0].rows, "b": sides[1].rows, "patterns": [outcomes[it] for it in patterns], "compared": compared,
+    mates = {id_a: id_b for id_a, id_b in ringed.links}, {id_b: id_a for id_a, id_b in ringed.links}
+    return {"a": sides[0].rows, "b": sides[1].rows, "mates": [[held.get(key, "") for key in side.at] for side, held in zip(sides, mates)],
+            "patterns": [outcomes[it] for it in patterns], "compared": compared,
             "pairs": [at[one.pair] for one in asked],
             "partners": [[held.get(place, 1) for place in range(len(side.rows))] for side, held in zip(sides, counts)]}
 
@@ -240,8 +242,8 @@ class Made:
 
     text: str
     pairs: int
-    left: int  # open pairs that are not in it
-    others: int  # pairs that wait for another reviewer
+    waiting: int  # open pairs of the job
+    others: int  # those of them that wait for another reviewer
     lack: str
 
 
@@ -256,7 +258,7 @@ def made(job: Job, reviewer: str, most: int, weight: bool) -> Made:
     data |= {"groups": [group for _, group in ordered], "turns": [turn.get(it.pair, 0) for it in asked], "left": left,
              "earlier": {at: earlier[it.pair] for at, it in enumerate(asked) if it.pair in earlier},
              "whole": not ringed.lack}
-    return Made(put_together(data), len(asked), left, len(waiting) - len(mine), ringed.lack)
+    return Made(put_together(data), len(asked), len(waiting), len(waiting) - len(mine), ringed.lack)
 
 
 def put_together(data: dict[str, Any]) -> str:
@@ -300,7 +302,7 @@ def tool(words: list[str]) -> None:
     """The tool over the words of its command line."""
     parser = Words("desk", ABOUT)
     parser.add_argument("settings", metavar="SETTINGS", help="the settings file of the job, in whose folder desk runs")
-    parser.add_argument("--out", type=Path, default=Path("desk.html"), metavar="PAGE", help="the page to write (desk.html)")
+    parser.add_argument("-o", "--out", type=Path, default=Path("desk.html"), metavar="PAGE", help="the page to write (desk.html)")
     parser.add_argument("--reviewer", default="", metavar="NAME", help="who reviews; needed with double = true")
     parser.add_argument("--most", type=count_of, default=20_000, metavar="NUMBER", help="how many pairs at most are in the page (20000)")
     parser.add_argument("--weight", action="store_true", help="show weight and pattern from the start")
@@ -315,8 +317,6 @@ def tool(words: list[str]) -> None:
     if page.lack:
         tell("desk", f"without other candidates and links: {page.lack}")
     if page.others:
-        tell("desk", f"{page.others} pairs wait for another reviewer than {given.reviewer}")
-    if page.left:
-        tell("desk", f"{page.left} more open pairs are not in this page")
-    tell("desk", f"{given.out}: {page.pairs} open pairs; it holds personal data: delete it after the review")
+        tell("desk", f"waiting for another reviewer than {given.reviewer}: {page.others}")
+    tell("desk", f"{given.out}: {page.pairs} of {page.waiting} open pairs; it holds personal data: delete it after the review")
 
