@@ -79,6 +79,9 @@ def hostile(bench: Bench) -> object:
     a = [[key, "x", text, "1980-02-03", text] for key, text in zip(IDS, TEXTS)]
     b = [[key, "x", text, text, text] for key, text in zip(IDS[:2], TEXTS[3:5])]
     job = small(bench.folder("hostile"), a, b)
+    for name in ("a.csv", "b.csv"):
+        text = (job.folder / name).read_text(encoding="utf-8")
+        (job.folder / name).write_text(text.replace("parish", "<i>parish</i>", 1), encoding="utf-8", newline="")
     job.report("open")
     bench.browser.visit(job.page("--reviewer", MARKUP, "--weight"))
     bench.browser.press("c")
@@ -191,6 +194,9 @@ def words(bench: Bench) -> object:
     """A fault is one line and a status; the program's own where it refuses."""
     double, one = small(bench.folder("double"), more="double = true\n"), small(bench.folder("words"))
     found = [double.make(), one.make("--most", "0"), one.make("--reviewer", "é" * 128), Job(one.folder, "none.toml").make()]
+    text = (one.folder / "s.toml").read_text(encoding="utf-8")
+    (one.folder / "s.toml").write_text(text.replace('journal = "journal.csv"', ""), encoding="utf-8")
+    found.append(one.make()[1].splitlines()[0])
     (one.folder / "s.toml").write_text("file_a = 1", encoding="utf-8")
     lines = "number,date,reviewer,step,id_a,id_b,verdict\n1,2024-03-04,,single,A1,B1,link\n"
     (double.folder / "journal.csv").write_text(lines, encoding="utf-8")
@@ -224,7 +230,8 @@ PARTS = {
     "faults are one line": (words, [
         (2, "desk: s.toml has double = true: say whose page it is by --reviewer NAME"),
         (2, "desk: argument --most: not a number from 1 to 100000; see desk -h"), (2, "desk: the name of the reviewer is over 255 bytes"),
-        (1, "desk: none.toml: No such file or directory"), (1, "desk: s.toml: missing key field"),
+        (1, "desk: none.toml: No such file or directory"), "desk: s.toml names no journal, and linkage review needs one",
+        (1, "desk: s.toml: missing key field"),
         (1, "desk: linkage: journal: row 1: no reviewer")]),
     "no open pair": (nothing_open, ("No pair waits for you.", True)),
 }

@@ -266,7 +266,8 @@
       const [sign, word] = OUTCOMES[letters[which]];
       const seen = element("span", `seen is-${letters[which]}`, sign);
       seen.setAttribute("aria-hidden", "true");
-      return element("td", "", seen, element("span", "hidden-label", `${word}: `), value(record[field.columns[other === "a" ? 0 : 1]]));
+      const text = value(record[field.columns[other === "a" ? 0 : 1]]);
+      return element("td", "", element("div", "cell", seen, element("span", "hidden-label", `${word}: `), text));
     });
     const place = placeOf.get(at);
     const yours = element("td", "", place === undefined ? "" : verdictOf(place));
@@ -287,7 +288,7 @@
     const all = candidatesOf(place, side), count = page.partners[side][pairAt(place)[side]] - 1;
     const shown = all.slice(0, MOST_SHOWN);
     const weight = shows.weight ? ["weight"] : [];
-    const heads = [`of ${other.toUpperCase()}`, ...page.fields.map((field) => field.name), "decision", ...weight, "linked", "your verdict"];
+    const heads = [`of ${other.toUpperCase()}`, ...page.fields.map((field) => field.name), "decision", ...weight, "linked", "yours"];
     const head = element("tr", "", ...heads.map((text) => {
       const cell = element("th", "", text);
       cell.scope = "col";
@@ -459,9 +460,9 @@
       by(it).hidden = it !== name || !opens;
       by(`${it}-button`).setAttribute("aria-expanded", String(it === name && opens));
     }
-    if (!opens) by("pair-title").focus();
+    if (!opens) by("pair-title").focus({ preventScroll: true });
     if (opens && name === "save") drawSave();
-    if (opens) by(`${name}-title`).scrollIntoView({ block: "nearest" });
+    window.scrollTo(0, 0);
     if (opens) by(name === "save" ? "save-verdicts" : "help-close").focus({ preventScroll: true });
   }
 

@@ -314,6 +314,8 @@ def tool(words: list[str]) -> None:
         raise Fault(f"{given.settings} has double = true: say whose page it is by --reviewer NAME", 2)
     page = made(job, given.reviewer, given.most, given.weight)
     write_page(given.out, page.text)
+    if job.settings.journal is None:
+        tell("desk", f"{given.settings} names no journal, and linkage review needs one")
     if page.lack:
         tell("desk", f"without other candidates and links: {page.lack}")
     if page.others:
