@@ -2,10 +2,11 @@
 
 import csv
 import re
+import shutil
 
 from bench import Bench
 from browser import Browser
-from jobs import B_ROWS, Job, small
+from jobs import B_ROWS, Job, register, small
 from tally import ROOT
 
 # The contrast of a text to what lies behind it, as WCAG 2 reckons it, in hundredths; the least of those found by the selectors.
@@ -196,6 +197,14 @@ def no_run(bench: Bench) -> object:
     return found
 
 
+def another_level(bench: Bench) -> str:
+    """The files of a run at another level, at which more pairs were possible links: they do not fit either."""
+    job = register(bench.folder("level"), bench.population.folder, mu_ppm=20)
+    for name in ("pairs.csv", "links.csv"):
+        shutil.copy(bench.population.folder / name, job.folder)
+    return job.make("--most", "10")[1].splitlines()[0]
+
+
 def labels(bench: Bench) -> object:
     """Roles and names as the browser gives them to a screen reader, and that each cell of the table has its heads."""
     _, browser = fresh(bench, "labels")
@@ -277,6 +286,7 @@ CANDIDATES = [
 LABELS = [("button", "Link"), ("button", "Note"), ("progressbar", "pairs with a verdict"), ("status", ""), ("table", ""),
           ("textbox", "Go to pair"), ("main", "Pair 1 of 5")]
 STALE = "desk: without other candidates and links: "
+OTHER_RUN = "pairs.csv and links.csv are not of a run over these files and settings: linkage run s.toml"
 ALONE = "Other candidates, among the open pairs alone: 1 of A's record, 1 of B's record"
 
 PARTS = {
@@ -297,7 +307,8 @@ PARTS = {
     "candidates with decision and link, as the files of the run": (decided_candidates, ([], {"link", "possible", "nonlink"}, {"", "rule"})),
     "without a run, or with files of another": (no_run, [
         f"{STALE}links.csv: is not there: linkage run s.toml", ALONE,
-        f"{STALE}pairs.csv and links.csv are not of a run over these files and settings: linkage run s.toml", ALONE]),
+        STALE + OTHER_RUN, ALONE]),
+    "with the files of a run at another level": (another_level, STALE + OTHER_RUN),
     "labels for a screen reader": (labels, (LABELS, True, 0, "same text", "en")),
     "by Tab and Space": (by_tab, (True, "solid", "1 of 5 decided: 1 link, 0 nonlink, 0 open")),
     "a zoom of 200 % and of 400 %": (zoomed, [[True, []], [True, []]]),

@@ -81,12 +81,14 @@ def best(found: list[tuple[tuple[int, int, int], Compared]]) -> list[tuple[tuple
 def fitting(job: Job, waiting: list[Open], links: list[Link]) -> Iterator[Compared]:
     """The compared pairs of pairs.csv. Fault: open pairs or links are not as they are there, so it is of another run."""
     lacking, unlinked = {it.pair: it for it in waiting}, {it.pair: it.weight for it in links}
+    decided = {pair for pair, entry in job.standing().items() if entry.stands() != "open"}
     lack = Fault(f"pairs.csv and links.csv are not of a run over these files and settings: linkage run {job.name}")
     for it in job.pairs():
         wanted = lacking.pop(it.pair, None)
         differs = wanted and (wanted.pattern, wanted.weight, "possible") != (it.pattern, it.weight, it.decision)
         is_known = it.pair[0] in job.a.at and it.pair[1] in job.b.at
-        if differs or not is_known or unlinked.pop(it.pair, it.weight) != it.weight:
+        is_no_more = it.decision == "possible" and wanted is None and it.pair not in decided
+        if differs or is_no_more or not is_known or unlinked.pop(it.pair, it.weight) != it.weight:
             raise lack
         yield it
     if lacking or unlinked:
