@@ -153,6 +153,9 @@ def check_verdicts(tally: Tally, bench: Bench) -> None:
     folder = bench.example()
     _, text, said = bench.tool(folder, "sheet", "s.toml")
     tally.judge("sheet: the open pair of the example", (text, said), (EXAMPLE_SHEET, "sheet: 1 pairs to be reviewed\n"))
+    _, text, said = bench.tool(folder, "sheet", "s.toml", "--unlinked")
+    tally.judge("sheet: pairs of which a record has a link are left out", (len(rows_of(text)), said.splitlines()[0]),
+                (1, "sheet: 1 pairs are left out of which a record has a link"))
     header, row = rows_of(bench.tool(folder, "sheet", "s.toml", "--weight")[1])
     tally.judge("sheet: the weight, where asked for", dict(zip(header, row))["weight"], "-5")
     (folder / "back.csv").write_text(EXAMPLE_SHEET.replace("\n,", "\nNonlink,"), encoding="cp1252")

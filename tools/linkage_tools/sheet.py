@@ -75,7 +75,8 @@ def pairs_shown(job: Job, words: Namespace) -> tuple[str, list[Pair], list[str],
 
 
 def unlinked(job: Job, pairs: list[Pair]) -> list[bool]:
-    """Of each pair whether neither record has a link in links.csv."""
+    """Of each pair whether neither record has a link in links.csv. Fault: the written files are not of now."""
+    job.must_be_of_now()
     links = [it.pair for it in job.links()]
     taken_a, taken_b = {a for a, _ in links}, {b for _, b in links}
     return [a not in taken_a and b not in taken_b for a, b in pairs]
