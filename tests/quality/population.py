@@ -19,6 +19,8 @@ Where a rate of error comes from (what is said of a work was not looked up again
 - one typing error a word in four of five, else two (Damerau 1964); the first letter seldom: assumed one in ten.
 - errors come together: one record in ten is a poor one, with four times the rates; assumed. The premise that fields err independently
   of one another is thus wrong here, as it is in life.
+- a wrong digit never makes a year before 1860 or after that of the register, since those who enter dates refuse such a year; before
+  this was so, one wrong year in two was one of 0903 or 8926. A day or month that cannot be is let through, and cannot be read.
 - all others: assumed.
 """
 
@@ -35,6 +37,7 @@ from spelling import by_ear, by_other_system, folded, mistyped_digits, nickname,
 PERSONS = 20_000
 MARKS = ("", "-", "?", "N/A", "UNKNOWN")
 TITLES = ("Dr.", "Prof.", "Mrs", "Rev")
+FIRST_YEAR = "1860"  # of a birth that is taken when it is entered
 POOR, POORER = 0.1, 4.0  # share of poor records; their rates, times those of the others
 
 Row = list[str]
@@ -136,10 +139,17 @@ class Clerk:
         if day <= 12 and self.errs(self.rates.order):
             month, day = day, month
         text = f"{year:04}{month:02}{day:02}"
-        text = mistyped_digits(self.chance, text) if self.errs(self.rates.digit) else text
+        text = self.with_wrong_digit(text) if self.errs(self.rates.digit) else text
         if self.form == "ymd":
             return "-".join((text[:4], text[4:6], text[6:]))
         return self.chance.of("..../").join((text[6:], text[4:6], text[:4]))
+
+    def with_wrong_digit(self, text: str) -> str:
+        """A date of eight digits with one mistyped; a year in which nobody alive was born is not taken when it is entered."""
+        while True:
+            wrong = mistyped_digits(self.chance, text)
+            if FIRST_YEAR <= wrong[:4] <= str(YEAR):
+                return wrong
 
     def place(self, text: str) -> str:
         text = with_typing_errors(self.chance, text) if self.errs(self.rates.place_typed) else text
@@ -192,10 +202,10 @@ def compounded(country: Country, people: list[Person], chance: Chance) -> list[P
     found = []
     for person in people:
         if person.culture == 3:
-            if person.family not in second:
+            if person.line not in second:
                 other = country.surnames[3].draw(chance)
-                second[person.family] = chance.of((f"-{other}", f"-{other}", "", "de "))
-            tail = second[person.family]
+                second[person.line] = chance.of((f"-{other}", f"-{other}", "", "de "))
+            tail = second[person.line]
             name = tail + person.surname if tail == "de " else person.surname + tail
             person = replace(person, surname=name)
         found.append(person)

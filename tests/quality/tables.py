@@ -13,12 +13,15 @@ COLUMNS = {
                 "right in review", "asked of the reviewer", "right ones among them"],
     "levels": ["asked mu", "attained mu", "actual mu, compared", "actual mu, all", "linked by rule, unmatched", "asked lambda",
                "attained lambda", "actual lambda, compared"],
+    "sizes": ["draws", "pairs looked at", "precision", "recall", "asked mu", "attained mu", "actual mu", "in review"],
+    "passes": ["compared pairs", "matched pairs lost", "guessed from all", "guessed from a sample"],
     "counts": ["unmatched pairs spoken of", "may be linked", "linked by rule", "left by the choice", "expected in review", "in review"],
 }
 HEAD = """\
 # The table of quality
 
-Written by `tests/quality/run --keep`; what the columns mean stands in README.md. Size: {persons} persons in the first file.
+Written by `tests/quality/run --keep`; what the columns mean stands in README.md. Size: {persons} persons in the first file; the three
+parts that begin with `register of 20,000` are of 20,000 and 25,000. `tests/quality/run --persons 20000` prints all others at that size.
 """
 
 

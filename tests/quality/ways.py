@@ -46,6 +46,10 @@ class Job:
         """The pairs of a printed table whose first two columns are id_a and id_b."""
         return [(first, second) for first, second, *_ in (line.split(",") for line in self.call(*words).splitlines()[1:])]
 
+    def compared(self) -> list[Pair]:
+        """The pairs that the passes compare."""
+        return self.printed_pairs("pairs", "settings.toml")
+
     def settings(self) -> dict:
         return tomllib.loads((self.folder / "settings.toml").read_text(encoding="utf-8"))
 
@@ -65,14 +69,21 @@ class Job:
 
     def ids(self, letter: str) -> list[str]:
         """The ids of a side, in the order of its file."""
-        return list(self.side(letter))
+        asked = self.settings()
+        table = rows(self.folder / asked[f"file_{letter}"], DELIMITERS[asked.get(f"delimiter_{letter}", "comma")])
+        return [row[asked.get(f"id_{letter}", "id")] for row in table]
 
     def done(self) -> Quality:
         """The quality of a run, which `verify` must accept."""
-        self.call("run", "settings.toml")
+        found = self.run()
         answer = self.call("verify", "settings.toml")
         if answer != "yes\n":
             raise Broken(f"linkage verify settings.toml: {answer.strip()}")
+        return found
+
+    def run(self) -> Quality:
+        """The quality of a run."""
+        self.call("run", "settings.toml")
         return measured(self.folder)
 
 
@@ -89,24 +100,24 @@ class Sampled:
         return [str(self.decided), str(kinds.count("matched")), str(kinds.count("unmatched"))]
 
 
-def of_compared_pairs(job: Job, seed: str) -> Sampled:
+def of_compared_pairs(job: Job, seed: str, size: int = COMPARED) -> Sampled:
     """Compared pairs drawn at random, each decided rightly: both kinds of them are counted."""
-    drawn = Chance(seed, "compared").drawn(job.printed_pairs("pairs", "settings.toml"), COMPARED)
+    drawn = Chance(seed, "compared").drawn(job.compared(), size)
     return Sampled({pair: "matched" if pair in job.truth else "unmatched" for pair in drawn}, len(drawn))
 
 
-def crossed(job: Job, seed: str) -> Sampled:
+def crossed(job: Job, seed: str, records: int = RECORDS, random: int = CROSSED) -> Sampled:
     """The matched ones of all compared pairs of records of A drawn at random, and as unmatched ones pairs of A x B drawn at random.
 
     Of the latter people look at those that some pass compares, and the matched ones are left out; the others are taken as unmatched.
     """
     chance = Chance(seed, "crossed")
     ids_a, ids_b = job.ids("a"), job.ids("b")
-    records = set(chance.drawn(ids_a, RECORDS))
-    compared = job.printed_pairs("pairs", "settings.toml")
-    looked_at = {pair for pair in compared if pair[0] in records}
+    of = set(chance.drawn(ids_a, records))
+    compared = job.compared()
+    looked_at = {pair for pair in compared if pair[0] in of}
     found = {pair: "matched" for pair in compared if pair in looked_at and pair in job.truth}
-    drawn = [(chance.of(ids_a), chance.of(ids_b)) for _ in range(CROSSED)]
+    drawn = [(chance.of(ids_a), chance.of(ids_b)) for _ in range(random)]
     drawn_and_compared = set(drawn) & set(compared)
     looked_at |= drawn_and_compared
     found.update({pair: "unmatched" for pair in drawn if not (pair in drawn_and_compared and pair in job.truth)})
@@ -137,7 +148,7 @@ class Review:
     asks: Callable[[Job, list[Pair]], list[Pair]]
 
 
-ALL, UNLINKED = Review("all reviewed", 500, all_open), Review("unlinked reviewed", 500, unlinked)
+ALL, UNLINKED = Review("all reviewed", 500, all_open), Review("unlinked reviewed", 100, unlinked)
 REVIEWS = ALL, Review("all reviewed, award 100", 100, all_open), UNLINKED
 
 
@@ -145,7 +156,7 @@ REVIEWS = ALL, Review("all reviewed, award 100", 100, all_open), UNLINKED
 class Way:
     """The sample that the shares come from (none: those guessed in the settings), the asked levels in millionths, what is reviewed.
 
-    The settings are those of the kind, or, where `fields` has a word, those of the kind and that word; kinds without them go without.
+    Where `fields` has a word, the settings are changed as variants.py says; kinds whose settings lack what is changed go without.
     """
 
     name: str
@@ -156,30 +167,39 @@ class Way:
     fields: str = ""
     draw: str = ""  # a seed of the sample alone, in the place of that of all
 
-    def guessed(self, settings: Path, kind: str) -> Path:
-        """The file of settings with guessed shares of a kind."""
-        return settings / f"{kind}{self.fields and '_'}{self.fields}.toml"
-
     def settings(self, guessed: str) -> str:
         """The text of the settings, from that with guessed shares."""
-        text = re.sub(r"(?m)^mu_ppm = .*$", f"mu_ppm = {self.mu}", guessed)
-        text = re.sub(r"(?m)^lambda_ppm = .*$", f"lambda_ppm = {self.lambda_}", text)
-        if self.sample:
-            text = re.sub(r"(?m)^[mu] = .*\n", "", text)
-            text = re.sub(r"(?m)^journal = ", 'sample = "sample.csv"\njournal = ', text)
-        return text
+        return settings_with(guessed, self.mu, self.lambda_, bool(self.sample))
+
+
+def settings_with(guessed: str, mu: int, lambda_: int, sampled: bool) -> str:
+    """The text of settings with other levels, in millionths, and with a sample in the place of guessed shares."""
+    text = re.sub(r"(?m)^mu_ppm = \d+", f"mu_ppm = {mu}", guessed)
+    text = re.sub(r"(?m)^lambda_ppm = \d+", f"lambda_ppm = {lambda_}", text)
+    if sampled:
+        text = re.sub(r"(?m)^[mu] = .*\n", "", text)
+        text = re.sub(r"(?m)^journal = ", 'sample = "sample.csv"\njournal = ', text)
+    return text
+
+
+def begun(program: Path, files: Path, folder: Path, guessed: str) -> Job:
+    """A job in a folder of its own: the files, the settings with guessed shares, an empty journal."""
+    shutil.copytree(files, folder)
+    (folder / "journal.csv").write_text("", encoding="utf-8")
+    (folder / "settings.toml").write_text(guessed, encoding="utf-8")
+    return Job(program, folder)
+
+
+def write_sample(job: Job, sample: Sampled) -> None:
+    lines = [f"{a},{b},{status}\n" for (a, b), status in sample.status.items()]
+    (job.folder / "sample.csv").write_text("id_a,id_b,status\n" + "".join(lines), encoding="utf-8")
 
 
 def prepared(program: Path, files: Path, folder: Path, guessed: str, way: Way, seed: str) -> Job:
     """A job of a way in a folder of its own: the files, the settings, an empty journal, the sample."""
-    shutil.copytree(files, folder)
-    (folder / "journal.csv").write_text("", encoding="utf-8")
-    (folder / "settings.toml").write_text(guessed, encoding="utf-8")
-    job = Job(program, folder)
+    job = begun(program, files, folder, guessed)
     if way.sample:
-        sample = SAMPLES[way.sample](job, way.draw or seed)
-        lines = [f"{a},{b},{status}\n" for (a, b), status in sample.status.items()]
-        (folder / "sample.csv").write_text("id_a,id_b,status\n" + "".join(lines), encoding="utf-8")
+        write_sample(job, SAMPLES[way.sample](job, way.draw or seed))
     (folder / "settings.toml").write_text(way.settings(guessed), encoding="utf-8")
     return job
 
