@@ -80,7 +80,7 @@ def worked(job: Job, seed: str, row: Callable[[str, Job, tuple[int, int] | None]
     note = ""
     for item in items():
         if isinstance(item, Note):
-            note = item.rest if item.word == "write" else ""
+            note = Path(item.rest).name if item.word in ("write", "is") else ""
         elif note:
             if note == "verdicts.csv":
                 row("", job, None)
