@@ -19,8 +19,8 @@ Where a rate of error comes from (what is said of a work was not looked up again
 - one typing error a word in four of five, else two (Damerau 1964); the first letter seldom: assumed one in ten.
 - errors come together: one record in ten is a poor one, with four times the rates; assumed. The premise that fields err independently
   of one another is thus wrong here, as it is in life.
-- a wrong digit never makes a year before 1860 or after that of the register, since those who enter dates refuse such a year; before
-  this was so, one wrong year in two was one of 0903 or 8926. A day or month that cannot be is let through, and cannot be read.
+- a wrong digit never makes a year before 1860 or after that of the register, since those who enter dates refuse such a year; before this
+  was so, births of 0903 and 8926 stood in the files. A day or month that cannot be is let through, and cannot be read.
 - all others: assumed.
 """
 
