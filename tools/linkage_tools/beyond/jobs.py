@@ -12,13 +12,13 @@ from typing import NamedTuple
 
 import numpy as np
 
+from ..job import OUTPUTS
 from ..tables import Fault, written
 from .parts import Plan, read_plan
 from .runs import Cost, TooMuch, Work, call, cost_since, report_of, seed_of, settings_text
 from .source import Places, Source, put, raw_records, records_at, rows_bytes
 
-INPUTS = ("a.csv", "b.csv", "settings.toml", "journal.csv")
-OUTPUTS = ("pairs.csv", "rule.csv", "links.csv", "prices.csv", "report.txt")
+INPUTS = ("a.csv", "b.csv", "settings.toml")  # stay as they were made; a review changes the journal alone
 
 
 class Task(NamedTuple):
@@ -41,20 +41,27 @@ def plan_at(path: str) -> Plan:
     return read_plan(Path(path))
 
 
-def digest_of(folder: Path) -> str:
-    """A digest of all files of a job."""
-    found = hashlib.sha256()
-    for name in INPUTS + OUTPUTS:
-        path = folder / name
-        found.update(path.read_bytes() if path.is_file() else b"none")
-        found.update(name.encode())
-    return found.hexdigest()
+def digests_of(folder: Path) -> list[str]:
+    """Digests of a job's inputs, and of its journal and what was written."""
+    found = []
+    for names in (INPUTS, ("journal.csv", *OUTPUTS)):
+        digest = hashlib.sha256()
+        for name in names:
+            path = folder / name
+            digest.update(name.encode() + (path.read_bytes() if path.is_file() else b"none"))
+        found.append(digest.hexdigest())
+    return found
 
 
 def is_done(folder: Path, name: str) -> bool:
-    """Whether a job is done, and its files are as they were left."""
+    """Whether a job is done, and its files are as they were left. Fault: its inputs are not."""
     mark = folder / "done" / f"{name}.sha256"
-    return mark.is_file() and mark.read_text(encoding="ascii") == digest_of(folder / "jobs" / name)
+    if not mark.is_file():
+        return False
+    then, now = mark.read_text(encoding="ascii").split(), digests_of(folder / "jobs" / name)
+    if then[0] != now[0]:
+        raise Fault(f"job {name}: {', '.join(INPUTS)} are not as they were made: put them back")
+    return then == now
 
 
 def work_job(work: Work, task: Task) -> list[Done]:
@@ -73,7 +80,7 @@ def work_job(work: Work, task: Task) -> list[Done]:
         return by_halves(work, task, refused)
     if place != final:
         place.rename(final)
-    put(folder / "done" / f"{task.name}.sha256", digest_of(final).encode())
+    put(folder / "done" / f"{task.name}.sha256", " ".join(digests_of(final)).encode())
     return [Done(task, cost_since(begun, seconds, 3))]
 
 

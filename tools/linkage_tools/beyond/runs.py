@@ -100,12 +100,11 @@ def settings_text(text: str, **changes: object) -> str:
     """Settings with some keys of the file changed, or without them where the value is None; the rest stays as it is written."""
     document, wanted = tomlkit.parse(text), tomllib.loads(text)
     for key, value in changes.items():
-        wanted.pop(key, None)
-        if key in document:
-            document.remove(key)
         if value is not None:
-            wanted[key] = value
-            document.add(key, value)
+            wanted[key] = document[key] = value
+        elif key in document:
+            document.remove(key)
+            wanted.pop(key)
     found = tomlkit.dumps(document)
     if tomllib.loads(found) != wanted:
         raise Fault("settings: their text cannot be changed; write its keys above the first [[field]]")
