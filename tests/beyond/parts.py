@@ -13,9 +13,10 @@ sys.dont_write_bytecode = True
 sys.path.insert(0, str(Path(__file__).resolve().parent.parent.parent / "tools"))
 import numpy as np  # noqa: E402
 from linkage_tools.beyond import source as sources  # noqa: E402
-from linkage_tools.beyond.parts import plan_of  # noqa: E402
+from linkage_tools.beyond.parts import plan_of, too_large  # noqa: E402
 from linkage_tools.beyond.runs import Kept, Ranges, Work, check, compared, settings_text  # noqa: E402
 from linkage_tools.beyond.source import Source, range_bytes, rows_bytes, scan  # noqa: E402
+from linkage_tools.job import Cell  # noqa: E402
 from linkage_tools.tables import Fault  # noqa: E402
 
 # Eight rows: a byte order mark, all line ends, empty lines, line ends and delimiters within quotes, quotes amid a field, no end.
@@ -115,6 +116,26 @@ def packing() -> list[tuple[str, object, object]]:
             ("kept pairs of components", plan.pairs.tolist(), [2, 2, 1, 1])]
 
 
+def too_many(folder: Path) -> list[tuple[str, object, object]]:
+    """Three links of weight 100 that two pairs of weight 20 join: without these each finds room in a job of one row.
+
+    Of 1,024^2 = 1,048,576 the patterns AD and DD have 100,000 + 48,576, which is 141,693.1 in a million.
+    """
+    kept = Kept(*(np.array(it) for it in ([0, 1, 2, 0, 1], [0, 1, 2, 1, 2], [0, 0, 0, 1, 1])), np.zeros(1))
+    rule = [Cell(0, "AA", 900_000, 1, 100, 65536, 0, 0), Cell(1, "AD", 100_000, 100, 20, 0, 65536, 0),
+            Cell(4, "DD", 48_576, 1, -50, 0, 0, 65536)]
+    found = {}
+    for side in "ab":
+        (folder / f"t{side}.csv").write_bytes(b"id,x\nk,\nl,\nm,\n")
+        found[side] = scan(side, str(folder / f"t{side}.csv"), ",", "id", str(folder / f"t{side}.index"))
+    said = too_large(folder, plan_of(kept, 3, 3, 1, 100), 0, kept, found, rule, 1).text
+    wanted = ("3 records of A and 3 of B hang together by 5 possible links or links, too many for a job (1 rows): among them k of A "
+              f"(row 1) and k of B (row 1), all in {folder}/too_large.csv; their patterns are AA (weight 100) 3, AD (weight 20) 2: with "
+              "patterns of a weight below 100 as non-links, which lambda_ppm = 141694 makes them, all find room; or compare by more fields")
+    rows = "row_a,row_b,pattern\n1,1,0\n2,2,0\n3,3,0\n1,2,1\n2,3,1\n"
+    return [("a component too large, and its cure", said, wanted), ("its pairs", (folder / "too_large.csv").read_text(), rows)]
+
+
 def other_key(folder: Path) -> list[tuple[str, object, object]]:
     """Where two ids share a hash, another key is taken."""
     (folder / "c.csv").write_bytes(b"id,x\n" + b"".join(b"%d,\n" % at for at in range(50)))
@@ -138,7 +159,7 @@ def main() -> None:
     program, folder = sys.argv[1], Path(sys.argv[2])
     given = cutting(folder, program)
     given += [(f"scan: {name}", fault_of(f"s{at}.csv", data, folder), wanted) for at, (name, (data, wanted)) in enumerate(SCANNED.items())]
-    given += limits(folder, program) + packing() + other_key(folder) + settings()
+    given += limits(folder, program) + packing() + too_many(folder) + other_key(folder) + settings()
     print(json.dumps([[name, repr(it), repr(wanted)] for name, it, wanted in given]))
 
 

@@ -59,7 +59,8 @@ def each(client: distributed.Client, task: Callable[..., Any], work: Any, items:
         except Ended as lack:
             raise Fault(f"{lack}, {RETRIES + 1} times") from lack
         except KilledWorker as lack:
-            raise Fault(f"workers died at one task again and again, the last was {lack.last_worker.address}: do they have memory enough?") from lack
+            last = lack.last_worker.address
+            raise Fault(f"workers died at one task again and again, the last was {last}: do they have memory enough?") from lack
         finally:
             client.cancel(futures)
             bar()

@@ -18,6 +18,7 @@ from .parts import Plan, read_plan
 from .runs import Cost, TooMuch, Work, call, cost_since, report_of, seed_of, settings_text
 from .source import Places, Source, put, raw_records, records_at, rows_bytes
 
+COUNTS = ("link", "possible", "open", "entries", "idle", "links", "total")  # lines of a report that are added up
 INPUTS = ("a.csv", "b.csv", "settings.toml")  # stay as they were made; a review changes the journal alone
 
 
@@ -173,5 +174,6 @@ def standing(sources: dict[str, Source], rows: tuple[np.ndarray, np.ndarray], pl
         found[f"prices_{side}"] = places[side].of(row[1] for row in prices if row[0] == letter)
     if any((it < 0).any() for it in found.values()):
         raise Fault(f"an id that the program wrote into {place} is none of the job's")
-    found["report"] = np.array([value for key in ("link", "possible", "open", "entries", "idle", "links", "total") for value in report_of(place)[key]])
+    report = report_of(place)
+    found["report"] = np.array([report[key][0] for key in COUNTS])
     return found

@@ -65,7 +65,8 @@ class Whole:
         then = json.loads(path.read_text(encoding="utf-8"))
         changed = sorted(name for name in {*now, *then} if now.get(name) != then.get(name))
         if changed:
-            raise Fault(f"{', '.join(changed)}: not as when {self.folder} was begun; name a new folder, or put back what was")
+            what = ", ".join(changed)
+            raise Fault(f"{what}: not as when {self.folder} was begun; name a new folder, or put back what was")
         for name in ("checked", "compared", "jobs", "done"):
             (self.folder / name).mkdir(exist_ok=True)
 
@@ -97,7 +98,8 @@ class Whole:
 def refuse(settings: Settings) -> None:
     """Fault: settings that would be counted in each part for itself."""
     if settings.sample is not None:
-        raise Fault(f"{settings.name}: sample: shares would be counted in each part; give m and u, as tools/shares writes them from a rule.csv")
+        raise Fault(f"{settings.name}: sample: shares would be counted in each part; give m and u in its place, which "
+                    "tools/shares writes from a rule.csv")
     for number, field in enumerate(settings.fields, 1):
         if field.rare is not None:
             raise Fault(f"{settings.name}: field.{number}.rare: how rare a value is would be counted in each part; leave it out, "

@@ -124,7 +124,8 @@ def cure_of(kept: Kept, sources: dict[str, Source], rule: list[Cell], most_rows:
     last = max(at for at, cell in enumerate(rule) if cell.weight >= steps[low])
     whole = 1024 ** len(rule[0].outcomes)
     level = -(-sum(cell.m for cell in rule[last + 1:]) * 1_000_000 // whole)
-    return f"with patterns of a weight below {steps[low]} as non-links, which lambda_ppm = {level} makes them, all find room; or compare by more fields"
+    return (f"with patterns of a weight below {steps[low]} as non-links, which lambda_ppm = {level} makes them, all find room; "
+            "or compare by more fields")
 
 
 def too_large(folder: Path, plan: Plan, at: int, kept: Kept, sources: dict[str, Source], rule: list[Cell], most_rows: int) -> Fault:
@@ -139,6 +140,6 @@ def too_large(folder: Path, plan: Plan, at: int, kept: Kept, sources: dict[str, 
     put(folder / "too_large.csv", written([head, *rows]).encode())
     said = ", ".join(f"{outcomes[int(it)]} {counts[it]}" for it in most)
     first = [shown_id(sources[side], int(rows[0])) for side, rows in (("a", rows_a), ("b", rows_b))]
-    return Fault(f"{len(rows_a)} records of A and {len(rows_b)} of B hang together by {len(pattern)} possible links or links, too many for a job "
-                 f"({most_rows} rows): among them {first[0]} of A (row {rows_a[0] + 1}) and {first[1]} of B (row {rows_b[0] + 1}), all in "
-                 f"{folder / 'too_large.csv'}; their patterns are {said}: {cure_of(kept, sources, rule, most_rows)}")
+    return Fault(f"{len(rows_a)} records of A and {len(rows_b)} of B hang together by {len(pattern)} possible links or links, too many "
+                 f"for a job ({most_rows} rows): among them {first[0]} of A (row {rows_a[0] + 1}) and {first[1]} of B (row {rows_b[0] + 1}), "
+                 f"all in {folder / 'too_large.csv'}; their patterns are {said}: {cure_of(kept, sources, rule, most_rows)}")

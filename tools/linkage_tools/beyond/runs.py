@@ -239,7 +239,8 @@ def kept_of(work: Work, ranges: Ranges, folder: Path) -> Kept:
     """What is kept of pairs.csv, whose rows are taken in some at a time."""
     is_kept = np.zeros(work.patterns, bool)
     is_kept[list(work.kept)] = True
-    places = [Places(work.sources["a"], np.arange(ranges.a_low, ranges.a_high)), Places(work.sources["b"], np.arange(ranges.b_low, ranges.b_high))]
+    rows = {"a": np.arange(ranges.a_low, ranges.a_high), "b": np.arange(ranges.b_low, ranges.b_high)}
+    places = [Places(work.sources[side], some) for side, some in rows.items()]
     counts, found = np.zeros(work.patterns, np.int64), []
     how = {"usecols": ["id_a", "id_b", "pattern"], "dtype": {"id_a": str, "id_b": str, "pattern": np.int32}, "na_filter": False}
     for rows in pandas.read_csv(folder / "pairs.csv", encoding="latin-1", chunksize=READ_AT_ONCE, **how):
