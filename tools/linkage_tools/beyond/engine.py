@@ -20,11 +20,14 @@ AT_ONCE = 20_000  # tasks that the scheduler is given together
 
 @contextlib.contextmanager
 def engine(workers: int, scheduler: str | None, page: str | None, scratch: str) -> Iterator[distributed.Client]:
-    """A client of the scheduler at an address or of a scheduler's file, else of one with workers of its own, one thread each."""
+    """A client of the scheduler at an address or of a scheduler's file, else of one with workers of its own, one thread each.
+
+    What the latter say to each other is ciphered by a key of this command's own, so nobody else of the machine can give them work.
+    """
     with contextlib.ExitStack() as stack:
         if scheduler is None:
-            how = {"n_workers": workers, "threads_per_worker": 1, "local_directory": scratch, "dashboard_address": page, "silence_logs": 50}
-            cluster = stack.enter_context(distributed.LocalCluster(**how))
+            how = {"n_workers": workers, "threads_per_worker": 1, "local_directory": scratch, "dashboard_address": page}
+            cluster = stack.enter_context(distributed.LocalCluster(**how, security=True, silence_logs=50))
             yield stack.enter_context(distributed.Client(cluster))
         else:
             how = {"scheduler_file": scheduler} if Path(scheduler).is_file() else {"address": scheduler}
