@@ -7,6 +7,7 @@ from collections.abc import Callable, Iterator
 from pathlib import Path
 from typing import Any
 
+import dask
 import distributed
 from distributed.scheduler import KilledWorker
 
@@ -14,6 +15,7 @@ from ..tables import Fault
 from .jobs import Alone
 from .runs import Ended
 
+PATIENCE = {"distributed.comm.timeouts.connect": "300s", "distributed.comm.timeouts.tcp": "300s"}  # on a machine that is busy
 RETRIES = 2  # of a task whose program was killed or wanted memory; a task whose worker died is done again by the scheduler
 AT_ONCE = 20_000  # tasks that the scheduler is given together
 
@@ -25,6 +27,7 @@ def engine(workers: int, scheduler: str | None, page: str | None, scratch: str) 
     What the latter say to each other is ciphered by a key of this command's own, so nobody else of the machine can give them work.
     """
     with contextlib.ExitStack() as stack:
+        stack.enter_context(dask.config.set(PATIENCE))
         if scheduler is None:
             how = {"n_workers": workers, "threads_per_worker": 1, "local_directory": scratch, "dashboard_address": page}
             cluster = stack.enter_context(distributed.LocalCluster(**how, security=True, silence_logs=50))
@@ -50,14 +53,29 @@ def told(task: Callable[..., Any], *words: Any) -> Any:
 
 def each(client: distributed.Client, task: Callable[..., Any], work: Any, items: list[tuple]) -> Iterator[tuple[int, Any]]:
     """The number of each item of a list and what the task over it comes to, as they end. Fault: the first; the others are given up."""
+    for number, found in outcomes(client, task, work, items):
+        if isinstance(found, Exception):
+            raise found
+        yield number, found
+
+
+def all_of(client: distributed.Client, task: Callable[..., Any], work: Any, items: list[tuple]) -> list[Any]:
+    """What the task over each item of a list comes to, when all have ended. Fault: that of the first item that has one."""
+    found = [outcome for _, outcome in sorted(outcomes(client, task, work, items), key=lambda it: it[0])]
+    for outcome in found:
+        if isinstance(outcome, Exception):
+            raise outcome
+    return found
+
+
+def outcomes(client: distributed.Client, task: Callable[..., Any], work: Any, items: list[tuple]) -> Iterator[tuple[int, Any]]:
+    """As `each`, with a fault in the place of what a task comes to. Fault: the task cannot be done again and again."""
     for low in range(0, len(items), AT_ONCE):
         futures = [client.submit(told, task, work, *item, pure=False, retries=RETRIES) for item in items[low:low + AT_ONCE]]
         number = {future.key: at for at, future in enumerate(futures, low)}
         bar = shown(futures)
         try:
             for future, found in distributed.as_completed(futures, with_results=True):
-                if isinstance(found, Exception):
-                    raise found
                 yield number[future.key], found
         except Ended as lack:
             raise Fault(f"{lack}, {RETRIES + 1} times") from lack

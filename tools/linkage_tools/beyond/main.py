@@ -18,7 +18,7 @@ from ..job import Cell, Job, cells_of, program
 from ..settings import Settings, read_settings
 from ..tables import MARK, Fault, load, records
 from ..words import tell
-from .engine import each, engine
+from .engine import all_of, each, engine
 from .jobs import Alone, Task, work_job
 from .parts import Plan, plan_of, read_plan, too_large, write_plan
 from .runs import Cost, Kept, Ranges, Work, call, check, compare, peak_mb, settings_text
@@ -59,7 +59,7 @@ class Whole:
         """Makes the folder, or finds that it was begun over the same inputs. Fault: it is another's, or they changed."""
         path, now = self.folder / "manifest.json", self.manifest()
         if not path.exists():
-            if self.folder.exists() and any(it.name != "lock" for it in self.folder.iterdir()):
+            if self.folder.exists() and {it.name for it in self.folder.iterdir()} - {"lock", "manifest.json.new"}:
                 raise Fault(f"{self.folder} has other files: name a new folder")
             put(path, json.dumps(now, indent=1).encode())
         then = json.loads(path.read_text(encoding="utf-8"))
@@ -135,8 +135,8 @@ def find_rows(whole: Whole, client, work: Work) -> Work:
     with whole.step("rows"):
         items = [(side, str(whole.paths[side]), whole.settings.signs[side], whole.settings.ids[side], f"{work.folder}/index_{side}")
                  for side in "ab"]
-        found = dict(each(client, scan_side, None, items))
-    return work._replace(sources={"a": found[0], "b": found[1]})
+        found = all_of(client, scan_side, None, items)
+    return work._replace(sources=dict(zip("ab", found)))
 
 
 def check_parts(whole: Whole, client, work: Work) -> dict[str, list[int]]:
@@ -148,7 +148,7 @@ def check_parts(whole: Whole, client, work: Work) -> dict[str, list[int]]:
             outs[side].append(out)
             items.append((Ranges(low, high, 0, 0) if side == "a" else Ranges(0, 0, low, high), out))
     with whole.step("check") as costs:
-        costs += [cost for _, cost in each(client, check, work, [it for it in items if not os.path.exists(it[1])])]
+        costs += all_of(client, check, work, [it for it in items if not os.path.exists(it[1])])
     texts = {side: [Path(it).read_text(encoding="utf-8").split("\n") for it in outs[side]] for side in "ab"}
     levels = {words[0]: [int(it) for it in words[1:]] for words in map(str.split, texts["a"][0][1:]) if words and words[0] in LEVELS}
     unreadable = [sum(int(lines[0].split()[at]) for lines in texts[side]) for at, side in enumerate("ab")]
