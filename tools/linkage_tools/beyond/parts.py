@@ -142,4 +142,5 @@ def too_large(folder: Path, plan: Plan, at: int, kept: Kept, sources: dict[str, 
     first = [shown_id(sources[side], int(rows[0])) for side, rows in (("a", rows_a), ("b", rows_b))]
     return Fault(f"{len(rows_a)} records of A and {len(rows_b)} of B hang together by {len(pattern)} possible links or links, too many "
                  f"for a job ({most_rows} rows): among them {first[0]} of A (row {rows_a[0] + 1}) and {first[1]} of B "
-                 f"(row {rows_b[0] + 1}), all in {folder / 'too_large.csv'}; their patterns are {said}: {cure_of(kept, sources, rule, most_rows)}")
+                 f"(row {rows_b[0] + 1}), all in {folder / 'too_large.csv'}; their patterns are {said}: "
+                 f"{cure_of(kept, sources, rule, most_rows)}")
