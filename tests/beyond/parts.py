@@ -93,7 +93,7 @@ def limits(folder: Path, program: str) -> list[tuple[str, object, object]]:
     (folder / "q.csv").write_bytes(b"id,birth\n" + b"".join(b"%d,1980-01-%02d\n" % (at, 1 + at % 28) for at in range(1400)))
     found = {"a": scan("a", str(folder / "p.csv"), ";", "id", str(folder / "p.index")),
              "b": scan("b", str(folder / "q.csv"), ",", "id", str(folder / "q.index"))}
-    kept, _, calls = compared(work_over(program, folder, found), Ranges(0, 1500, 0, 1400))
+    kept, calls = compared(work_over(program, folder, found), Ranges(0, 1500, 0, 1400))
     pairs = {(a, b) for a in range(1500) for b in range(1400) if a % 28 == b % 28}
     given = [("pairs over a limit: all", int(kept.counts.sum()), 1500 * 1400), ("pairs over a limit: calls", calls, 3),
              ("pairs over a limit: kept", set(zip(kept.a.tolist(), kept.b.tolist())) == pairs and len(kept.a) == len(pairs), True)]

@@ -5,7 +5,6 @@ import hashlib
 import io
 import re
 import shutil
-import time
 from functools import lru_cache
 from pathlib import Path
 from typing import NamedTuple
@@ -15,7 +14,7 @@ import numpy as np
 from ..job import OUTPUTS
 from ..tables import Fault, written
 from .parts import Plan, read_plan
-from .runs import Cost, TooMuch, Work, call, cost_since, report_of, seed_of, settings_text
+from .runs import Cost, TooMuch, Work, call, cost_since, report_of, seed_of, settings_text, spent
 from .source import Places, Source, put, raw_records, records_at, rows_bytes
 
 COUNTS = ("link", "possible", "open", "entries", "idle", "links", "total")  # lines of a report that are added up
@@ -70,11 +69,11 @@ def work_job(work: Work, task: Task) -> list[Done]:
     folder = Path(work.folder)
     if is_done(folder, task.name):
         return [Done(task, Cost())]
-    begun = time.monotonic()
+    begun = spent()
     final = folder / "jobs" / task.name
     try:
         place = final if final.is_dir() else made(work, task)
-        seconds = done_in(work, task, place)
+        do(work, task, place)
     except TooMuch as refused:
         if final.is_dir():
             raise Fault(f"job {task.name}: {refused.line}") from refused
@@ -82,7 +81,7 @@ def work_job(work: Work, task: Task) -> list[Done]:
     if place != final:
         place.rename(final)
     put(folder / "done" / f"{task.name}.sha256", " ".join(digests_of(final)).encode())
-    return [Done(task, cost_since(begun, seconds, 3))]
+    return [Done(task, cost_since(begun))]
 
 
 def by_halves(work: Work, task: Task, refused: TooMuch) -> list[Done]:
@@ -139,12 +138,11 @@ def journal_of(work: Work, task: Task) -> bytes:
     return written([rows[0], *own]).encode("latin-1")
 
 
-def done_in(work: Work, task: Task, place: Path) -> float:
-    """Runs and verifies a job, lists what is open, and writes where all stands in the whole. Gives the program's seconds."""
+def do(work: Work, task: Task, place: Path) -> None:
+    """Runs and verifies a job, lists what is open, and writes where all stands in the whole."""
     try:
-        spent = call(work, place, "run", "settings.toml")[1]
-        said, seconds = call(work, place, "verify", "settings.toml")
-        opened, more = call(work, place, "open", "settings.toml")
+        call(work, place, "run", "settings.toml")
+        said, opened = (call(work, place, word, "settings.toml") for word in ("verify", "open"))
     except Fault as fault:
         found = re.match(r"linkage: journal: row (\d+): (.*)$", fault.text)
         own = entries_of(work, task)
@@ -157,7 +155,6 @@ def done_in(work: Work, task: Task, place: Path) -> float:
     held = io.BytesIO()
     np.savez(held, **standing(work.sources, plan_at(f"{work.folder}/plan.npz").rows(task.low, task.high), place, opened))
     put(results / f"{task.name}.npz", held.getvalue())
-    return spent + seconds + more
 
 
 def standing(sources: dict[str, Source], rows: tuple[np.ndarray, np.ndarray], place: Path, opened: str) -> dict[str, np.ndarray]:

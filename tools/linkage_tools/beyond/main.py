@@ -27,7 +27,7 @@ from .whole import LEVELS, write_jobs, write_journal, write_report, write_tables
 
 MOST_BYTES = 2**26 - 2**16  # of the rows of a part; the program takes 2**26 bytes with the header
 MOST_KEPT = 1_000_000  # kept pairs of a job
-COST_HEAD = "step,tasks,seconds,seconds_of_tasks,seconds_in_program,calls,driver_mb,worker_mb\n"
+COST_HEAD = "step,tasks,seconds,worker_seconds,program_seconds,driver_mb,worker_mb\n"
 
 
 class Whole:
@@ -78,7 +78,7 @@ class Whole:
         total, seconds = Cost(), time.monotonic() - begun
         for cost in costs:
             total = total.with_other(cost)
-        cells = f"{len(costs)},{seconds:.1f},{total.seconds:.1f},{total.program:.1f},{total.runs},{peak_mb():.0f},{total.worker_mb:.0f}"
+        cells = f"{len(costs)},{seconds:.1f},{total.worker:.1f},{total.program:.1f},{peak_mb():.0f},{total.worker_mb:.0f}"
         self.costs.append(f"{name},{cells}\n")
         tell("beyond", f"{name}: {len(costs)} tasks, {seconds:.1f} s")
 
@@ -87,7 +87,7 @@ class Whole:
         place = Path(work.scratch)
         (place / "settings.toml").write_text(settings_text(self.text, journal=None), encoding="utf-8")
         try:
-            printed, _ = call(work, place, "rule", "settings.toml")
+            printed = call(work, place, "rule", "settings.toml")
         except Fault as fault:
             raise Fault(fault.text.removeprefix("linkage: ")) from fault
         rows = records(printed)

@@ -1,12 +1,12 @@
 """Runs of the program over parts of the two files, each in a folder of its own that is removed; refusals by rows of the whole files."""
 
 import hashlib
+import os
 import re
 import resource
 import shutil
 import subprocess
 import tempfile
-import time
 import tomllib
 from io import BytesIO
 from pathlib import Path
@@ -74,21 +74,25 @@ class Ended(Exception):
 
 
 class Cost(NamedTuple):
-    """What a task cost: seconds of the clock in all and in the program, the worker's peak memory in MB, calls of the program."""
+    """What a task cost: seconds of a processor in the worker and in the program, and the worker's peak memory in MB."""
 
-    seconds: float = 0.0
+    worker: float = 0.0
     program: float = 0.0
     worker_mb: float = 0.0
-    runs: int = 0
 
     def with_other(self, other: "Cost") -> "Cost":
-        most = max(self.worker_mb, other.worker_mb)
-        return Cost(self.seconds + other.seconds, self.program + other.program, most, self.runs + other.runs)
+        return Cost(self.worker + other.worker, self.program + other.program, max(self.worker_mb, other.worker_mb))
 
 
-def cost_since(begun: float, program: float, runs: int) -> Cost:
-    """The cost of a task that began at a time of the clock."""
-    return Cost(time.monotonic() - begun, program, peak_mb(), runs)
+def spent() -> tuple[float, float]:
+    """The seconds of a processor of this process so far, and of the programs that it ran."""
+    times = os.times()
+    return times.user + times.system, times.children_user + times.children_system
+
+
+def cost_since(begun: tuple[float, float]) -> Cost:
+    """The cost of a task that began when so much was spent."""
+    return Cost(*(now - then for now, then in zip(spent(), begun)), peak_mb())
 
 
 def peak_mb() -> float:
@@ -116,9 +120,8 @@ def seed_of(seed: int, name: str) -> int:
     return int.from_bytes(hashlib.sha256(f"{seed} {name}".encode()).digest()[:8]) >> 1
 
 
-def call(work: Work, folder: Path, *words: str) -> tuple[str, float]:
-    """What the program prints in a folder, and its seconds. TooMuch, Ended; Fault: any other refusal, as the program tells it."""
-    begun = time.monotonic()
+def call(work: Work, folder: Path, *words: str) -> str:
+    """What the program prints in a folder. TooMuch, Ended; Fault: any other refusal, as the program tells it."""
     ended = subprocess.run([work.program, *words], cwd=folder, stdin=subprocess.DEVNULL, capture_output=True, check=False)
     said = ended.stderr.decode("utf-8", "replace").strip()
     if ended.returncode < 0 or ended.returncode == MEMORY:
@@ -130,7 +133,7 @@ def call(work: Work, folder: Path, *words: str) -> tuple[str, float]:
         raise Fault(f"{said.removeprefix('linkage: ')} in {folder}, where {free} MB are free: make room, and start again")
     if ended.returncode:
         raise Fault(said or f"linkage {' '.join(words)} in {folder}: {ended.stdout.decode('utf-8', 'replace').strip()}")
-    return ended.stdout.decode("latin-1"), time.monotonic() - begun
+    return ended.stdout.decode("latin-1")
 
 
 def in_whole(fault: Fault, ranges: Ranges) -> Fault:
@@ -144,20 +147,19 @@ def in_whole(fault: Fault, ranges: Ranges) -> Fault:
     return Fault(f"{side}: row {low + int(row)}: {cause}")
 
 
-def run_part(work: Work, ranges: Ranges, folder: Path) -> float:
-    """Runs the program over two ranges in a folder, and gives its seconds. Fault, told by rows of the whole; TooMuch; Ended."""
+def run_part(work: Work, ranges: Ranges, folder: Path) -> None:
+    """Runs the program over two ranges in a folder. Fault, told by rows of the whole; TooMuch; Ended."""
     text = settings_text(work.settings, file_a="a.csv", file_b="b.csv", journal=None, seed=seed_of(work.seed, ranges.name()))
     (folder / "settings.toml").write_text(text, encoding="utf-8")
     (folder / "a.csv").write_bytes(range_bytes(work.sources["a"], ranges.a_low, ranges.a_high))
     (folder / "b.csv").write_bytes(range_bytes(work.sources["b"], ranges.b_low, ranges.b_high))
     try:
-        _, seconds = call(work, folder, "run", "settings.toml")
+        call(work, folder, "run", "settings.toml")
     except Fault as fault:
         raise in_whole(fault, ranges) from fault
     rows = report_of(folder)["rows"]
     if rows != [ranges.a_high - ranges.a_low, ranges.b_high - ranges.b_low]:
         raise Fault(f"rows {ranges.name()} of A and B are {rows} to the program: look for quotes in the midst of fields there")
-    return seconds
 
 
 def report_of(folder: Path) -> dict[str, list[int]]:
@@ -171,16 +173,16 @@ def check(work: Work, ranges: Ranges, out: str) -> Cost:
 
     Writes `out`: a line with the two counts of `unreadable`, and below it the report of the run.
     """
-    begun = time.monotonic()
+    begun = spent()
     with tempfile.TemporaryDirectory(dir=work.scratch) as name:
         folder = Path(name)
         try:
-            seconds = run_part(work, ranges, folder)
+            run_part(work, ranges, folder)
         except TooMuch as refused:
             return checked_by_halves(work, ranges, out, refused)
         found = report_of(folder)
         put(Path(out), ("{} {}\n".format(*found["unreadable"]) + (folder / "report.txt").read_text()).encode())
-    return cost_since(begun, seconds, 1)
+    return cost_since(begun)
 
 
 def checked_by_halves(work: Work, ranges: Ranges, out: str, refused: TooMuch) -> Cost:
@@ -213,26 +215,25 @@ class Kept(NamedTuple):
 
 def compare(work: Work, ranges: Ranges, out: str) -> Cost:
     """Runs the program over two ranges, and writes what is kept of the pairs."""
-    begun = time.monotonic()
-    kept, seconds, runs = compared(work, ranges)
+    begun = spent()
+    kept, runs = compared(work, ranges)
     held = BytesIO()
-    np.savez(held, **kept._asdict(), seconds=seconds, runs=runs)
+    np.savez(held, **kept._asdict(), runs=runs)
     put(Path(out), held.getvalue())
-    return cost_since(begun, seconds, runs)
+    return cost_since(begun)
 
 
-def compared(work: Work, ranges: Ranges) -> tuple[Kept, float, int]:
-    """What is kept of the pairs of two ranges, the seconds in the program, and its runs; parts that are too much are cut in two."""
+def compared(work: Work, ranges: Ranges) -> tuple[Kept, int]:
+    """What is kept of the pairs of two ranges, and the runs that it took; parts that are too much are cut in two."""
     with tempfile.TemporaryDirectory(dir=work.scratch) as name:
-        begun = time.monotonic()
         try:
-            seconds = run_part(work, ranges, Path(name))
-            return kept_of(work, ranges, Path(name)), seconds, 1
+            run_part(work, ranges, Path(name))
+            return kept_of(work, ranges, Path(name)), 1
         except TooMuch as refused:
-            parts, lost = halves_of(ranges, refused), time.monotonic() - begun
+            parts = halves_of(ranges, refused)
     found = [compared(work, part) for part in parts]
-    joined = [np.concatenate([kept[at] for kept, _, _ in found]) for at in range(3)]
-    return Kept(*joined, sum(kept.counts for kept, _, _ in found)), lost + sum(it[1] for it in found), 1 + sum(it[2] for it in found)
+    joined = [np.concatenate([kept[at] for kept, _ in found]) for at in range(3)]
+    return Kept(*joined, sum(kept.counts for kept, _ in found)), 1 + sum(runs for _, runs in found)
 
 
 def kept_of(work: Work, ranges: Ranges, folder: Path) -> Kept:
