@@ -10,8 +10,9 @@ import sys
 from dataclasses import dataclass
 from pathlib import Path
 
-sys.path.insert(0, str(Path(__file__).resolve().parent.parent))
+sys.path[:0] = [str(Path(__file__).resolve().parent.parent), str(Path(__file__).resolve().parent.parent / "quality")]
 from tally import ROOT, program, run  # noqa: E402
+from variants import settings_of  # noqa: E402
 
 DESK = ROOT / "tools/desk"
 PERSONS, SEED = 7000, 51  # of the made register: enough for 20,000 compared pairs
@@ -129,7 +130,7 @@ def register(folder: Path, source: Path | None = None, **keys: int) -> Job:
     else:
         for name in ("a.csv", "b.csv"):
             shutil.copy(source / name, folder)
-    text = (ROOT / "tests/quality/settings/register.toml").read_text(encoding="utf-8")
+    text = settings_of("register")
     for key, value in keys.items():
         text = re.sub(rf"^{key} = .*$", f"{key} = {value}", text, flags=re.M)
     (folder / "s.toml").write_text(text, encoding="utf-8")

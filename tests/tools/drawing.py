@@ -26,7 +26,7 @@ DRAW_REFUSES = {
     "settings.toml --seed 1": (2, f"draw: {WORDS}"),
     "settings.toml --seed 1 --compared 3 --links 2": (2, f"draw: {WORDS}"),
     "settings.toml --seed 1 --records 3": (2, "draw: --records and --random belong together; see draw -h"),
-    "settings.toml --seed 1 --compared 99999": (2, "draw: asked for 99999 of 482 compared pairs"),
+    "settings.toml --seed 1 --compared 99999": (2, "draw: asked for 99999 of 446 compared pairs"),
     "settings.toml --seed 1 --records 401 --random 1": (2, "draw: asked for 401 of 400 records of A"),
     "settings.toml --seed 1 --records 1 --random 200001": (2, "draw: asked for 200001 of 200000 pairs of A x B"),
     "settings.toml --seed 1 --records 1 --random 100001": (2, "draw: 100001 rows, and a sample has at most 100000"),

@@ -9,9 +9,9 @@ from linkage_tools.settings import Field, Part
 from tally import ROOT, Tally
 
 PERSONS = 4_000  # as in tests/quality/table.md
-# By hand from the shares of docs/start: 6 matched pairs times m, 50 unmatched ones times u, each over 1,024^4, and the score of AAAA:
+# By hand from the shares of the files in small/: 6 matched pairs times m, 50 unmatched ones times u, each over 1,024^4; the score of AAAA:
 # 952 870 922 717 6 / 1024^4 = 2.988; 10 15 1 41 50 / 1024^4 = 0.0000003; sqrt 4 + sqrt 5 - sqrt (4 2.988 + 1) = 0.6.
-START_ROWS = {"AAAA": ["4", "2.99", "3e-07", "0.6", "1 2"], "AAMA": ["1", "0.10", "9e-06", "1.2", ""],
+SMALL_ROWS = {"AAAA": ["4", "2.99", "3e-07", "0.6", "1 2"], "AAMA": ["1", "0.10", "9e-06", "1.2", ""],
               "AADD": ["1", "0.09", "0.006", "1.2", ""]}
 # Whether what two values agree by gives them the key of a part in common: comparison, n or t; key, n.
 COMMON = {("exact", None, "whole", None): True, ("exact", None, "first", 3): True, ("soundex", None, "soundex", None): True,
@@ -30,11 +30,11 @@ REFUSES = {
 
 def check_numbers(tally: Tally, bench: Bench) -> None:
     folder = bench.empty()
-    shutil.copytree(ROOT / "docs/start", folder, dirs_exist_ok=True)
+    shutil.copytree(ROOT / "tests/tools/small", folder, dirs_exist_ok=True)
     bench.linkage(folder, "run", "settings.toml")
     _, printed, said = bench.tool(folder, "fit", "settings.toml", "--matched", "6", "--all")
     rows = {row[1]: row[4:9] for row in rows_of(printed)[1:]}
-    tally.judge("fit: expected pairs, by hand", {name: rows.get(name) for name in START_ROWS}, START_ROWS)
+    tally.judge("fit: expected pairs, by hand", {name: rows.get(name) for name in SMALL_ROWS}, SMALL_ROWS)
     tally.judge("fit: says what it took for granted", said.splitlines()[:2],
                 ["fit: u is taken to speak of the unmatched pairs of A x B, 50, for the shares are guessed",
                  "fit: 6 of 8 compared pairs are taken as matched, as you say"])
@@ -84,8 +84,8 @@ def check_made(tally: Tally, bench: Bench) -> None:
     said = bench.tool(folder, "fit", "settings.toml")[2].splitlines()
     why = "for 100% of the unmatched pairs of the sample are compared ones"
     tally.judge("fit: sees that u is of compared pairs", said[0].endswith(why), True)
-    is_near = abs(int(said[1].split()[1]) - right) * 100 < right
-    tally.judge("fit: the matched pairs are estimated within a hundredth, compared pairs", is_near, True)
+    is_near = abs(int(said[1].split()[1]) - right) * 20 < right  # birth and its year depend on one another, so no nearer
+    tally.judge("fit: the matched pairs are estimated within a twentieth, compared pairs", is_near, True)
 
 
 def check(tally: Tally, bench: Bench) -> None:

@@ -14,8 +14,9 @@ from pathlib import Path
 sys.path.insert(0, str(Path(__file__).resolve().parent.parent))
 from tally import EXAMPLE, ROOT, Tally, program, run  # noqa: E402
 
-sys.path.insert(0, str(ROOT / "tools"))
+sys.path[:0] = [str(ROOT / "tools"), str(ROOT / "tests/quality")]
 from linkage_tools import words  # noqa: E402
+from variants import settings_of  # noqa: E402
 
 PERSONS, SEED = 400, 7
 # Ids that a spreadsheet, a table or a shell may take for something else.
@@ -90,7 +91,7 @@ class Bench:
             self.made[persons] = self.empty() / "register"
             made = [ROOT / "tests/quality/population", "register", SEED, self.made[persons], "--persons", persons]
             subprocess.run(list(map(str, made)), check=True, stdin=subprocess.DEVNULL)
-            shutil.copy(ROOT / "tests/quality/settings/register.toml", self.made[persons] / "settings.toml")
+            (self.made[persons] / "settings.toml").write_text(settings_of("register"), encoding="utf-8")
             (self.made[persons] / "journal.csv").write_text("", encoding="utf-8")
             self.linkage(self.made[persons], "run", "settings.toml")
         folder = self.empty() / "job"

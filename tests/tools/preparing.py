@@ -1,13 +1,14 @@
 """`prepare`: files as spreadsheets and exports write them, and files damaged at random."""
 
 import random
+import re
 import shutil
 from pathlib import Path
 
 from jobs import Bench, asks
 from tally import ROOT, Tally
 
-START = ROOT / "docs/start"
+SMALL = ROOT / "tests/tools/small"  # two files of seven and eight records, by four fields
 # A file with all that can be wrong, and what is wrong with it, row by row, by hand.
 BAD = '''id,Surname,given ,birth,town
 r1,Lindqvist,Eva,1984-07-19,Uppsala
@@ -78,7 +79,7 @@ def spoilt(data: bytes) -> dict[str, tuple[bytes, str]]:
 def check_spoilt(tally: Tally, bench: Bench) -> None:
     """What exports do to the register is told, and the clean copy gives the pairs of the register as it was."""
     folder = bench.empty()
-    shutil.copytree(START, folder, dirs_exist_ok=True)
+    shutil.copytree(SMALL, folder, dirs_exist_ok=True)
     pairs = bench.linkage(folder, "pairs", "settings.toml")
     for name, (data, told) in spoilt((folder / "register.csv").read_bytes()).items():
         (folder / "raw.csv").write_bytes(data)
@@ -93,7 +94,7 @@ def check_spoilt(tally: Tally, bench: Bench) -> None:
 
 def check_bad(tally: Tally, bench: Bench) -> None:
     folder = bench.empty()
-    shutil.copytree(START, folder, dirs_exist_ok=True)
+    shutil.copytree(SMALL, folder, dirs_exist_ok=True)
     (folder / "bad.csv").write_text(BAD, encoding="utf-8")
     settings = (folder / "settings.toml").read_text(encoding="utf-8").replace('column_a = "surname"', 'column_a = "Surname"')
     (folder / "settings.toml").write_text(settings, encoding="utf-8")
@@ -122,8 +123,12 @@ def check_bad(tally: Tally, bench: Bench) -> None:
 
 
 def check_dates(tally: Tally, bench: Bench) -> None:
-    """As many unreadable dates as the program counts."""
+    """As many unreadable dates as the program counts, where one field alone reads the column; the program counts them for each field."""
     folder = bench.register()
+    settings = (folder / "settings.toml").read_text(encoding="utf-8")
+    once = re.sub(r'(?s)\n\[\[field\]\]\nname = "year".*?(?=\n\n\[)', "", settings)
+    (folder / "settings.toml").write_text(once, encoding="utf-8")
+    bench.linkage(folder, "run", "settings.toml")
     report = (folder / "report.txt").read_text(encoding="utf-8").splitlines()[1]
     counts = []
     for name in ("a.csv", "b.csv"):
@@ -144,7 +149,7 @@ def damaged(data: bytes, seed: int) -> bytes:
 def check_damaged(tally: Tally, bench: Bench) -> None:
     """Over files damaged at random: what the program refuses of a row is told of that row, and where nothing is told it takes the file."""
     folder, wrong, tried = bench.empty(), [], {True: 0, False: 0}
-    shutil.copytree(START, folder, dirs_exist_ok=True)
+    shutil.copytree(SMALL, folder, dirs_exist_ok=True)
     whole = (folder / "register.csv").read_bytes()
     for seed in range(120):
         (folder / "register.csv").write_bytes(damaged(whole, seed))
