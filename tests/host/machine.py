@@ -62,6 +62,10 @@ class Host:
         how = {"cwd": self.folder, "env": os.environ | {"P": str(self.program)}, "stderr": subprocess.STDOUT, "text": True}
         return subprocess.run(["bash", "-c", script], check=False, stdout=subprocess.PIPE, **how).stdout.strip()
 
+    def remember(self) -> None:
+        """Has the outputs that are there count as old texts."""
+        self.old |= {name: (self.folder / name).read_bytes() for name in OUTPUTS if (self.folder / name).exists()}
+
     def held(self) -> str:
         """Which names hold their new texts, and any other file that is torn or left over."""
         found = []

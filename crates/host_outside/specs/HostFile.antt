@@ -1,15 +1,33 @@
 -- What the host's store has done with the host's files, of which nothing is known but that they were opened: a load that ends
 -- well has read one (`HostFiles::load`, clause `read`), and a put that ends well has written one (`HostFiles::put`, clause
 -- `written`).
-use Rattle.std.specs.Prelude.{ℕ, List, Option, IfSome}
+use Rattle.std.specs.Prelude.{◌≡◌, ◌++◌, ◌∷◌, [], ℕ, Bool, List, Option, All, IfSome, IsTrue}
 use Rattle.std.specs.Io.KnownBytes.{Appends}
 use Rattle.link_outside.specs.Outside.{Shows}
 use Rattle.link_outside.specs.declared.outside.Load.{Load}
+use Rattle.host_outside.specs.declared.host_file.FileState.{FileState}
+use Rattle.host_outside.specs.declared.host_files.Loaded.{Loaded}
 
 -- what was read is, of some file whose bytes are known, what a load of them shows
 abbrev pub IsRead : {File : Type 0} → (File → Option (List ℕ)) → ℕ → Load → Type 0
 IsRead {File} remaining limit load = (file : File) × IfSome (remaining file) (λ bytes. Shows bytes limit load)
 
--- all of the bytes were handed to some file, behind what it held, where that is known
-abbrev pub IsWritten : {File : Type 0} → (File → Option (List ℕ)) → List ℕ → Type 0
-IsWritten {File} contents bytes = (before : File) × (after : File) × Appends (contents before) (contents after) bytes
+-- all of the bytes were handed to some file, behind what it held, where that is known, and the host was asked to keep it then
+abbrev pub IsWritten : {File : Type 0} → (File → Option (List ℕ)) → (File → Bool) → List ℕ → Type 0
+IsWritten {File} contents is_kept bytes =
+    (before : File) × (after : File) × Appends (contents before) (contents after) bytes × IsTrue (is_kept after)
+
+-- what was read is of some file, whose state was taken first where it tells it
+abbrev pub IsReadIn : {File : Type 0} → (File → Option (List ℕ)) → (File → Option FileState) → ℕ → Load → FileState → Type 0
+IsReadIn {File} remaining told limit load state =
+    (file : File) × IfSome (remaining file) (λ bytes. Shows bytes limit load) × IfSome (told file) (λ now. state ≡ now)
+
+-- where the name was loaded, some file was opened whose state, where it tells it, is the one before each of these loads
+abbrev pub IsUnchanged : {File : Type 0} → (File → Option FileState) → List Loaded → List ℕ → Type 0
+IsUnchanged {File} told loads name =
+    All (λ loaded. loaded.name ≡ name → (file : File) × IfSome (told file) (λ now. loaded.state ≡ now)) loads
+
+-- a load notes the name with that state
+abbrev pub IsNoted : {File : Type 0} → (File → Option (List ℕ)) → (File → Option FileState) → ℕ → List ℕ → List Loaded → List Loaded → Load → Type 0
+IsNoted remaining told limit name old new load =
+    (state : FileState) × IsReadIn remaining told limit load state × (new ≡ old ++ (record { name = name; state = state } ∷ []))

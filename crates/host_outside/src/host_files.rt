@@ -1,30 +1,51 @@
 // Files of the host.
-ghost use Rattle.std.specs.Prelude.{◌≡◌, ◌+◌, ◌^◌, ◌<◌, [], ℕ, List, None, false, true, take, vec_capacity, vec_len, IfOk, IfSome, OnOk};
-ghost use Rattle.std.specs.IoError.{error_kind};
-ghost use Rattle.std.specs.declared.io.ErrorKind.TheVariants as kind;
+ghost use Rattle.std.specs.Prelude.{◌≡◌, ◌≢◌, ◌+◌, ◌^◌, ◌<◌, [], ℕ, List, None, false, true, take, vec_capacity, vec_len, All, Any, IfOk, IfSome, IsTrue, OnOk};
+ghost use Rattle.std.specs.Bool.{OnFalse};
 ghost use Rattle.link_outside.specs.Outside.{IsLogged, IsWithinLimit, LogsFailure, Shows};
-ghost use Rattle.host_outside.specs.HostFile.{IsRead, IsWritten};
-ghost use Rattle.host_outside.specs.declared.host_files.HostError.TheVariants as host;
+ghost use Rattle.host_outside.specs.Extends.{KeepsAll};
+ghost use Rattle.host_outside.specs.HostFile.{IsNoted, IsRead, IsReadIn, IsUnchanged, IsWritten};
 
-use link_base::Text;
+use super::host_error::HostError;
+use super::host_file::{FileState, HostFile};
+use super::locked_folders::{LockedFolder, locked};
+use super::places::{folder_of, followed};
+use super::rights::{made_like, replaced};
+use link_base::{NoMemory, Text};
 use link_outside::{Load, Store, StoreCall, StoreError, entry_of_call};
-use std::alloc::{AllocError, Global};
-use std::fs::OpenFile;
+use std::alloc::Global;
+use std::fs::Metadata;
 use std::io::{Read, Write};
+use std::os::unix::fs::MetadataExt;
 use std::rt::Files;
 use std::{fs, io};
 
-/// The files of the host, named by their paths. They tell nothing of what they hold: that a load has read an opened
-/// file to its end or past the limit, and that a put has written all its bytes to a file, is all that contracts see. A
-/// put writes the file `NAME.new`, has the host keep it on its disk, and renames it, so a crash leaves the old file or
-/// the new one, and a file of that name is lost. Where it ends well the host keeps the new name too.
+/// A name that was loaded, and the state of its file before it was read.
 #[derive(Drop)]
-pub struct HostFiles<'r, R> {
-    rt: &'r R,
-    faults: Vec<StoreCall>,
+pub struct Loaded {
+    pub name: Text,
+    pub state: FileState,
 }
 
-impl<'r, R> HostFiles<'r, R> {
+/// The files of the host, named by their paths. They tell nothing of what they hold: that a load has read an opened
+/// file to its end or past the limit, and that a put has written all its bytes to a file, is all that contracts see. A
+/// put locks the folder of the name for as long as this value lives, refuses a file that is no longer what a load of
+/// the name has read, writes the file `NAME.new`, has the host keep it on its disk, and renames it, so a crash leaves
+/// the old file or the new one, and a file of that name is lost. Where it ends well the host keeps the new name too.
+#[derive(Drop)]
+pub struct HostFiles<'r, R: Files>
+where
+    R::File: HostFile,
+{
+    rt: &'r R,
+    faults: Vec<StoreCall>,
+    loads: Vec<Loaded>,
+    folders: Vec<LockedFolder<R::File>>,
+}
+
+impl<'r, R: Files> HostFiles<'r, R>
+where
+    R::File: HostFile,
+{
     /// The files of the host, none of whose calls has failed yet.
     pub fn new(alloc: Global, rt: &'r R) -> HostFiles<'r, R>
         ensures { result.faults.items ≡ [] }
@@ -32,32 +53,8 @@ impl<'r, R> HostFiles<'r, R> {
         HostFiles {
             rt,
             faults: Vec::new(alloc),
-        }
-    }
-}
-
-/// Why a file was not read or written.
-enum HostError {
-    Failed,
-    NoMemory,
-}
-
-impl From<AllocError> for HostError {
-    ghost from_gives = { λ _ e. e ≡ host.NoMemory };
-
-    fn from(_: AllocError) -> HostError {
-        HostError::NoMemory
-    }
-}
-
-impl From<io::Error> for HostError {
-    ghost from_gives = { λ error e. (error_kind error ≡ kind.OutOfMemory → e ≡ host.NoMemory) × (e ≡ host.NoMemory → error_kind error ≡ kind.OutOfMemory) };
-
-    fn from(error: io::Error) -> HostError {
-        if error.kind() == io::ErrorKind::OutOfMemory {
-            HostError::NoMemory
-        } else {
-            HostError::Failed
+            loads: Vec::new(alloc),
+            folders: Vec::new(alloc),
         }
     }
 }
@@ -88,59 +85,136 @@ fn read_up_to<F: Read + Drop>(alloc: Global, file: F, limit: u64) -> Result<Load
     Ok(load_of(text, limit))
 }
 
-fn load_file<R: Files>(alloc: Global, rt: &R, name: &str, limit: u64) -> Result<Load, HostError>
+// Reads a file, and tells its state before it was read.
+fn load_file<R: Files>(
+    alloc: Global,
+    rt: &R,
+    name: &str,
+    limit: u64,
+) -> Result<(Load, FileState), HostError>
+where
+    R::File: HostFile,
     requires { limit + 1 < 2 ^ 64 }
-    ensures within { IfOk result (IsWithinLimit limit) }
-    ensures read { IfOk result (IsRead R.File.remaining limit) }
+    ensures within { IfOk result (λ read. IsWithinLimit limit read.0) }
+    ensures read { IfOk result (λ read. IsReadIn R.File.remaining R.File.told_state limit read.0 read.1) }
 {
     let file = fs::open(rt, name)?;
-    read_up_to(alloc, file, limit)
+    let state = file.state()?;
+    let load = read_up_to(alloc, file, limit)?;
+    Ok((load, state))
 }
 
-// The folder of a name.
-fn folder_of(name: &str) -> &str {
-    match name.rsplit_once('/') {
-        None => ".",
-        Some((folder, _)) => { if folder.is_empty() { "/" } else { folder } }
-    }
-}
-
-// Writes a file, and has the host keep it on its disk.
-fn write_kept<R: Files>(rt: &R, name: &str, bytes: &[u8]) -> io::Result<()>
-    ensures { OnOk result (IsWritten R.File.contents bytes.now) }
+// Whether a name was loaded.
+fn is_loaded(loads: &[Loaded], name: &str) -> bool
+    ensures { OnFalse result (All (λ loaded. loaded.name ≢ name.now) loads.now) }
 {
-    let mut file = fs::create(rt, name)?;
+    for loaded in loads {
+        if loaded.name.bytes() == name.as_bytes() {
+            return true;
+        }
+    }
+    false
+}
+
+// Fails where the file of a name that was loaded is no longer what was read.
+fn unchanged<R: Files>(rt: &R, loads: &[Loaded], name: &str, place: &str) -> io::Result<()>
+where
+    R::File: HostFile,
+    ensures { OnOk result (IsUnchanged R.File.told_state loads.now name.now) }
+{
+    if !is_loaded(loads, name) {
+        return Ok(());
+    }
+    let state = fs::open(rt, place)?.state()?;
+    for loaded in loads {
+        if loaded.name.bytes() == name.as_bytes() && loaded.state != state {
+            return Err(io::Error::from(io::ErrorKind::Other));
+        }
+    }
+    Ok(())
+}
+
+// Writes all of the bytes, and has the host keep them on its disk.
+fn write_kept<F: Write + HostFile + Drop>(mut file: F, bytes: &[u8]) -> io::Result<()>
+    ensures { OnOk result (IsWritten F.contents F.is_kept bytes.now) }
+{
     file.write_all(bytes)?;
-    file.sync_all()
+    file.keep()
 }
 
-// Has the host keep the names of a folder. A file system that keeps no folder by itself refuses that as invalid.
-fn keep_names<F: OpenFile>(folder: &F) -> io::Result<()> {
-    match folder.sync_all() {
-        Err(error) if error.kind() != io::ErrorKind::InvalidInput => Err(error),
-        _ => Ok(()),
+// The names of a put: the one that was asked for, the place that it leads to, and the one beside that place.
+#[derive(Drop)]
+struct Names<'n> {
+    name: &'n str,
+    place: String,
+    beside: String,
+}
+
+impl Names<'_> {
+    // Whether the name is a link that leads to a file which was loaded under another name.
+    fn lead_to_an_input(&self, loads: &[Loaded], old: Option<&Metadata>) -> bool {
+        let Some(old) = old else { return false };
+        let is_it = |state: &FileState| state.device == old.dev() && state.inode == old.ino();
+        self.name != self.place.as_str()
+            && loads.iter().any(|loaded| loaded.name.bytes() != self.name.as_bytes()
+                && is_it(&loaded.state))
     }
 }
 
-// Writes a file and puts it in the place of a name. The folder is opened first, so that nothing has changed where it
-// cannot be.
-fn put_as<R: Files>(rt: &R, beside: &str, name: &str, bytes: &[u8]) -> io::Result<()>
-    ensures { OnOk result (IsWritten R.File.contents bytes.now) }
+// Writes a file beside the place, and puts it there if nothing was changed meanwhile.
+fn put_as<R: Files>(
+    rt: &R,
+    loads: &[Loaded],
+    names: &Names,
+    folder: &R::File,
+    bytes: &[u8],
+) -> io::Result<()>
+where
+    R::File: HostFile,
+    ensures unchanged { OnOk result (IsUnchanged R.File.told_state loads.now names.now.name.now) }
+    ensures written { OnOk result (IsWritten R.File.contents R.File.is_kept bytes.now) }
+    ensures kept { OnOk result (IsTrue (R.File.is_kept folder.now)) }
 {
-    let folder = fs::open(rt, folder_of(name))?;
-    write_kept(rt, beside, bytes)?;
-    fs::rename(rt, beside, name)?;
-    keep_names(&folder)
+    let old = replaced(rt, names.name)?;
+    if names.lead_to_an_input(loads, old.as_ref()) {
+        return Err(io::Error::from(io::ErrorKind::InvalidInput));
+    }
+    let file = made_like(rt, names.beside.as_str(), old)?;
+    write_kept(file, bytes)?;
+    unchanged(rt, loads, names.name, names.place.as_str())?;
+    fs::rename(rt, names.beside.as_str(), names.place.as_str())?;
+    folder.keep_names()
 }
 
-// Writes a file beside the name, and puts it in its place. Of one that could not be put nothing stays.
-fn put_file<R: Files>(alloc: Global, rt: &R, name: &str, bytes: &[u8]) -> Result<(), HostError>
-    ensures { OnOk result (IsWritten R.File.contents bytes.now) }
+// Locks the folder, and puts a file in the place of the name. Of one that could not be put nothing stays. The folder is
+// opened first, so that nothing has changed where it cannot be.
+fn put_file<R: Files>(
+    alloc: Global,
+    rt: &R,
+    loads: &[Loaded],
+    folders: &mut Vec<LockedFolder<R::File>>,
+    name: &str,
+    bytes: &[u8],
+) -> Result<(), HostError>
+where
+    R::File: HostFile,
+    ensures unchanged { OnOk result (IsUnchanged R.File.told_state loads.now name.now) }
+    ensures written { OnOk result (IsWritten R.File.contents R.File.is_kept bytes.now) }
+    ensures locked { OnOk result (Any (λ kept. IsTrue (R.File.is_locked kept.folder) × IsTrue (R.File.is_kept kept.folder)) folders.new.items) }
+    ensures locks { KeepsAll folders.old.items folders.new.items }
 {
-    let beside = format!(in alloc; "{name}.new")?;
-    let put = put_as(rt, beside.as_str(), name, bytes);
+    let place = followed(alloc, rt, name)?;
+    let beside = format!(in alloc; "{place}.new")?;
+    let folder = fs::open(rt, folder_of(place.as_str()))?;
+    let at = locked(folders, folder)?;
+    let names = Names {
+        name,
+        place,
+        beside,
+    };
+    let put = put_as(rt, loads, &names, &folders[at].folder, bytes);
     if put.is_err() {
-        let _removed = fs::remove_file(rt, beside.as_str());
+        let _removed = fs::remove_file(rt, names.beside.as_str());
     }
     put?;
     Ok(())
@@ -160,7 +234,10 @@ fn logged(error: HostError, faults: &mut Vec<StoreCall>, entry: StoreCall) -> St
     }
 }
 
-impl<'r, R: Files> Store for HostFiles<'r, R> {
+impl<'r, R: Files> Store for HostFiles<'r, R>
+where
+    R::File: HostFile,
+{
     ghost tells = { ⊥ };
 
     ghost held = { λ _ _. None };
@@ -172,21 +249,37 @@ impl<'r, R: Files> Store for HostFiles<'r, R> {
         ensures within { IfOk result (IsWithinLimit limit) }
         ensures cause { LogsFailure self.old.faults.items self.new.faults.items (record { put = false; name = name.now }) result }
         ensures read { IfOk result (IsRead R.File.remaining limit) }
+        ensures noted { IfOk result (IsNoted R.File.remaining R.File.told_state limit name.now self.old.loads.items self.new.loads.items) }
+        ensures locks { self.new.folders.items ≡ self.old.folders.items }
     {
         let entry = entry_of_call(alloc, &mut self.faults, false, name)?;
+        self.loads.reserve(1).map_err(NoMemory::from)?;
         match load_file(alloc, self.rt, name, limit) {
-            Ok(load) => Ok(load),
+            Ok((load, state)) => {
+                self.loads.push_reserved(Loaded {
+                    name: entry.name,
+                    state,
+                });
+                Ok(load)
+            }
             Err(error) => Err(logged(error, &mut self.faults, entry)),
         }
     }
 
     fn put(&mut self, alloc: Global, name: &str, bytes: &[u8]) -> Result<(), StoreError>
         ensures cause { LogsFailure self.old.faults.items self.new.faults.items (record { put = true; name = name.now }) result }
-        ensures written { OnOk result (IsWritten R.File.contents bytes.now) }
+        ensures written { OnOk result (IsWritten R.File.contents R.File.is_kept bytes.now) }
+        ensures unchanged { OnOk result (IsUnchanged R.File.told_state self.old.loads.items name.now) }
+        ensures locked { OnOk result (Any (λ kept. IsTrue (R.File.is_locked kept.folder) × IsTrue (R.File.is_kept kept.folder)) self.new.folders.items) }
+        ensures locks { KeepsAll self.old.folders.items self.new.folders.items }
     {
         let entry = entry_of_call(alloc, &mut self.faults, true, name)?;
-        match put_file(alloc, self.rt, name, bytes) {
-            Ok(()) => Ok(()),
+        match put_file(alloc, self.rt, &self.loads, &mut self.folders, name, bytes) {
+            Ok(()) => {
+                self.loads
+                    .retain(|loaded| loaded.name.bytes() != name.as_bytes());
+                Ok(())
+            }
             Err(error) => Err(logged(error, &mut self.faults, entry)),
         }
     }

@@ -2,11 +2,17 @@
 //! and the words that it was called with.
 #![tactic(auto)]
 
+mod host_error;
+mod host_file;
 mod host_files;
 mod host_memory;
 mod host_stream;
+mod locked_folders;
+mod places;
+mod rights;
 mod words;
 
+pub use host_file::{FileState, HostFile};
 pub use host_files::HostFiles;
 pub use host_memory::keep_memory;
 pub use host_stream::HostStream;
