@@ -95,7 +95,7 @@ def reviewers(host: Host) -> None:
     def freely() -> str:
         (host.folder / "w.csv").write_text("id_a,id_b,verdict\nA3,B3,link\n", encoding="utf-8")
         lost = 0
-        for _ in range(TIMES // 2):
+        for _ in range(TIMES // 4):
             before = len(entries(host))
             both = [started(host, "review", "s.toml", words, "2024-03-06", "ana") for words in ("v.csv", "w.csv")]
             lost += [ended(it) for it in both].count("0") != len(entries(host)) - before
@@ -103,7 +103,7 @@ def reviewers(host: Host) -> None:
 
     host.judge(f"two reviewers at once, {TIMES} times", both, "0 and 6 store: journal.csv; kept")
     host.judge("a slow reviewer is told", one_after_the_other, "0, 6 store: journal.csv; ben")
-    host.judge(f"two reviewers who run as they like, {TIMES // 2} times", freely, "0 times lost")
+    host.judge(f"two reviewers who run as they like, {TIMES // 4} times", freely, "0 times lost")
 
 
 def texts(host: Host) -> tuple[bytes, ...]:
@@ -146,11 +146,11 @@ def runs(host: Host) -> None:
         for name in ("s.toml", "t.toml"):
             host.ending(f"run {name}")
             whole[texts(host)] = name
-        for _ in range(TIMES // 2):
+        for _ in range(TIMES // 4):
             seen.add(f"{at_once(host, list(whole.values()))}; {'one' if texts(host) in whole else 'mixed'}")
         return f"{len(whole)} runs; {' | '.join(sorted(seen))}"
 
-    host.judge(f"two runs at once, {TIMES // 2} times", both, "2 runs; 0 and 0; one")
+    host.judge(f"two runs at once, {TIMES // 4} times", both, "2 runs; 0 and 0; one")
 
 
 def locks(host: Host) -> None:
@@ -184,7 +184,8 @@ def other_programs(host: Host) -> None:
         time.sleep(0.02)
         host.shell(script)
         left = host.shell("cat journal.csv")
-        return f"{said_by(process, pipe)}; {'as left' if host.shell('cat journal.csv') == left else 'changed'} {host.shell('ls *.new 2>&-')}"
+        said = said_by(process, pipe)
+        return f"{said}; {'as left' if host.shell('cat journal.csv') == left else 'changed'} {host.shell('ls *.new 2>&-')}"
 
     for name, script in CHANGED.items():
         host.judge(f"a journal that is changed meanwhile: {name}", lambda script=script: changed(script), "6 store: journal.csv; as left")

@@ -6,7 +6,7 @@ use Rattle.std.specs.Io.KnownBytes.{Appends}
 use Rattle.link_outside.specs.Outside.{Shows}
 use Rattle.link_outside.specs.declared.outside.Load.{Load}
 use Rattle.host_outside.specs.declared.host_file.FileState.{FileState}
-use Rattle.host_outside.specs.declared.host_files.Loaded.{Loaded}
+use Rattle.host_outside.specs.declared.loads.Loaded.{Loaded}
 
 -- what was read is, of some file whose bytes are known, what a load of them shows
 abbrev pub IsRead : {File : Type 0} → (File → Option (List ℕ)) → ℕ → Load → Type 0
@@ -17,17 +17,20 @@ abbrev pub IsWritten : {File : Type 0} → (File → Option (List ℕ)) → (Fil
 IsWritten {File} contents is_kept bytes =
     (before : File) × (after : File) × Appends (contents before) (contents after) bytes × IsTrue (is_kept after)
 
+-- some file has this state, where it tells it
+abbrev pub IsStateOf : {File : Type 0} → (File → Option FileState) → FileState → Type 0
+IsStateOf {File} told state = (file : File) × IfSome (told file) (λ now. state ≡ now)
+
 -- what was read is of some file, whose state was taken first where it tells it
 abbrev pub IsReadIn : {File : Type 0} → (File → Option (List ℕ)) → (File → Option FileState) → ℕ → Load → FileState → Type 0
 IsReadIn {File} remaining told limit load state =
     (file : File) × IfSome (remaining file) (λ bytes. Shows bytes limit load) × IfSome (told file) (λ now. state ≡ now)
 
--- where the name was loaded, some file was opened whose state, where it tells it, is the one before each of these loads
-abbrev pub IsUnchanged : {File : Type 0} → (File → Option FileState) → List Loaded → List ℕ → Type 0
-IsUnchanged {File} told loads name =
-    All (λ loaded. loaded.name ≡ name → (file : File) × IfSome (told file) (λ now. loaded.state ≡ now)) loads
-
 -- a load notes the name with that state
 abbrev pub IsNoted : {File : Type 0} → (File → Option (List ℕ)) → (File → Option FileState) → ℕ → List ℕ → List Loaded → List Loaded → Load → Type 0
 IsNoted remaining told limit name old new load =
     (state : FileState) × IsReadIn remaining told limit load state × (new ≡ old ++ (record { name = name; state = state } ∷ []))
+
+-- some file that was opened has the state that a load of the name noted, for each of them
+abbrev pub IsUnchanged : {File : Type 0} → (File → Option FileState) → List Loaded → List ℕ → Type 0
+IsUnchanged told loads name = All (λ loaded. loaded.name ≡ name → IsStateOf told loaded.state) loads

@@ -13,8 +13,10 @@ pub struct FileState {
     pub device: u64,
     pub inode: u64,
     pub size: u64,
-    pub modified: (i64, i64),
-    pub changed: (i64, i64),
+    pub modified: i64,
+    pub modified_nanos: i64,
+    pub changed: i64,
+    pub changed_nanos: i64,
 }
 
 /// What a store asks of an open file or folder beside what `OpenFile` has. Contracts see what a handle was asked for.
@@ -66,8 +68,10 @@ impl HostFile for File {
             device: told.dev(),
             inode: told.ino(),
             size: told.len(),
-            modified: (told.mtime(), told.mtime_nsec()),
-            changed: (told.ctime(), told.ctime_nsec()),
+            modified: told.mtime(),
+            modified_nanos: told.mtime_nsec(),
+            changed: told.ctime(),
+            changed_nanos: told.ctime_nsec(),
         })
     }
 

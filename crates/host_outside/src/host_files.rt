@@ -1,12 +1,12 @@
 // Files of the host.
-ghost use Rattle.std.specs.Prelude.{◌≡◌, ◌≢◌, ◌+◌, ◌^◌, ◌<◌, [], ℕ, List, None, false, true, take, vec_capacity, vec_len, All, Any, IfOk, IfSome, IsTrue, OnOk};
-ghost use Rattle.std.specs.Bool.{OnFalse};
+ghost use Rattle.std.specs.Prelude.{◌≡◌, ◌+◌, ◌^◌, ◌<◌, [], ℕ, List, None, false, true, take, vec_capacity, vec_len, Any, IfOk, IfSome, IsTrue, OnOk};
 ghost use Rattle.link_outside.specs.Outside.{IsLogged, IsWithinLimit, LogsFailure, Shows};
 ghost use Rattle.host_outside.specs.Extends.{KeepsAll};
-ghost use Rattle.host_outside.specs.HostFile.{IsNoted, IsRead, IsReadIn, IsUnchanged, IsWritten};
+ghost use Rattle.host_outside.specs.HostFile.{IsNoted, IsRead, IsReadIn, IsStateOf, IsUnchanged, IsWritten};
 
 use super::host_error::HostError;
 use super::host_file::{FileState, HostFile};
+use super::loads::{Loaded, is_loaded, is_noted, is_of};
 use super::locked_folders::{LockedFolder, locked};
 use super::places::{folder_of, followed};
 use super::rights::{made_like, replaced};
@@ -18,13 +18,6 @@ use std::io::{Read, Write};
 use std::os::unix::fs::MetadataExt;
 use std::rt::Files;
 use std::{fs, io};
-
-/// A name that was loaded, and the state of its file before it was read.
-#[derive(Drop)]
-pub struct Loaded {
-    pub name: Text,
-    pub state: FileState,
-}
 
 /// The files of the host, named by their paths. They tell nothing of what they hold: that a load has read an opened
 /// file to its end or past the limit, and that a put has written all its bytes to a file, is all that contracts see. A
@@ -104,16 +97,14 @@ where
     Ok((load, state))
 }
 
-// Whether a name was loaded.
-fn is_loaded(loads: &[Loaded], name: &str) -> bool
-    ensures { OnFalse result (All (λ loaded. loaded.name ≢ name.now) loads.now) }
+// The state of a file by its name.
+fn state_of<R: Files>(rt: &R, name: &str) -> io::Result<FileState>
+where
+    R::File: HostFile,
+    ensures { IfOk result (IsStateOf R.File.told_state) }
 {
-    for loaded in loads {
-        if loaded.name.bytes() == name.as_bytes() {
-            return true;
-        }
-    }
-    false
+    let file = fs::open(rt, name)?;
+    Ok(file.state()?)
 }
 
 // Fails where the file of a name that was loaded is no longer what was read.
@@ -122,14 +113,12 @@ where
     R::File: HostFile,
     ensures { OnOk result (IsUnchanged R.File.told_state loads.now name.now) }
 {
-    if !is_loaded(loads, name) {
-        return Ok(());
-    }
-    let state = fs::open(rt, place)?.state()?;
-    for loaded in loads {
-        if loaded.name.bytes() == name.as_bytes() && loaded.state != state {
+    if is_loaded(loads, name) {
+        let state = state_of(rt, place)?;
+        if !is_noted(loads, name, &state) {
             return Err(io::Error::from(io::ErrorKind::Other));
         }
+        return Ok(());
     }
     Ok(())
 }
@@ -276,8 +265,7 @@ where
         let entry = entry_of_call(alloc, &mut self.faults, true, name)?;
         match put_file(alloc, self.rt, &self.loads, &mut self.folders, name, bytes) {
             Ok(()) => {
-                self.loads
-                    .retain(|loaded| loaded.name.bytes() != name.as_bytes());
+                self.loads.retain(|loaded| !is_of(loaded, name));
                 Ok(())
             }
             Err(error) => Err(logged(error, &mut self.faults, entry)),

@@ -7,6 +7,7 @@ mod host_file;
 mod host_files;
 mod host_memory;
 mod host_stream;
+mod loads;
 mod locked_folders;
 mod places;
 mod rights;

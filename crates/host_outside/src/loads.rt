@@ -1,0 +1,54 @@
+// What was loaded, and in which state it was.
+ghost use Rattle.std.specs.Prelude.{◌≡◌, ◌≢◌, ◌↔◌, All, IsTrue};
+ghost use Rattle.std.specs.Bool.{OnFalse, OnTrue};
+
+use super::host_file::FileState;
+use link_base::Text;
+
+/// A name that was loaded, and the state of its file before it was read.
+#[derive(Drop)]
+pub struct Loaded {
+    pub name: Text,
+    pub state: FileState,
+}
+
+/// Whether this is a load of a name.
+pub fn is_of(loaded: &Loaded, name: &str) -> bool
+    ensures { IsTrue result ↔ (loaded.now.name ≡ name.now) }
+{
+    loaded.name.bytes() == name.as_bytes()
+}
+
+// Whether a load of a name has noted this state; one of another name has not noted another.
+fn fits(loaded: &Loaded, name: &str, state: &FileState) -> bool
+    ensures { OnTrue result (loaded.now.name ≡ name.now → loaded.now.state ≡ state.now) }
+{
+    if is_of(loaded, name) {
+        return loaded.state == *state;
+    }
+    true
+}
+
+/// Whether a name was loaded.
+pub fn is_loaded(loads: &[Loaded], name: &str) -> bool
+    ensures { OnFalse result (All (λ loaded. loaded.name ≢ name.now) loads.now) }
+{
+    for loaded in loads {
+        if is_of(loaded, name) {
+            return true;
+        }
+    }
+    false
+}
+
+/// Whether each load of a name has noted this state.
+pub fn is_noted(loads: &[Loaded], name: &str, state: &FileState) -> bool
+    ensures { OnTrue result (All (λ loaded. loaded.name ≡ name.now → loaded.state ≡ state.now) loads.now) }
+{
+    for loaded in loads {
+        if !fits(loaded, name, state) {
+            return false;
+        }
+    }
+    true
+}
