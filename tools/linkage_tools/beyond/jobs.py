@@ -13,9 +13,10 @@ import numpy as np
 
 from ..job import OUTPUTS
 from ..tables import Fault, written
+from .files import put
 from .parts import Plan, read_plan
 from .runs import Cost, TooMuch, Work, call, cost_since, report_of, seed_of, settings_text, spent
-from .source import Places, Source, put, raw_records, records_at, rows_bytes
+from .source import Places, Source, raw_records, records_at, rows_bytes
 
 COUNTS = ("link", "possible", "open", "entries", "idle", "links", "total")  # lines of a report that are added up
 INPUTS = ("a.csv", "b.csv", "settings.toml")  # stay as they were made; a review changes the journal alone

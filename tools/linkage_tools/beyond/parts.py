@@ -5,13 +5,12 @@ from pathlib import Path
 from typing import NamedTuple
 
 import numpy as np
-from scipy.sparse import coo_matrix
-from scipy.sparse.csgraph import connected_components
 
 from ..job import Cell
 from ..tables import Fault, written
+from .files import put
 from .runs import Kept
-from .source import Source, put, shown_id
+from .source import Source, shown_id
 
 SHOWN_PATTERNS = 5  # in the line of a component that is too large
 
@@ -41,6 +40,8 @@ class Plan(NamedTuple):
 
 def labels_of(kept: Kept, rows_a: int, rows_b: int) -> tuple[int, np.ndarray]:
     """How many components there are of all rows, and that of each row of A and then of B."""
+    from scipy.sparse import coo_matrix  # here, for no worker needs it
+    from scipy.sparse.csgraph import connected_components
     count = rows_a + rows_b
     graph = coo_matrix((np.ones(len(kept.a), np.int8), (kept.a, kept.b + rows_a)), shape=(count, count))
     return connected_components(graph, directed=False)

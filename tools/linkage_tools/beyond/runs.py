@@ -17,7 +17,8 @@ import pandas
 import tomlkit
 
 from ..tables import Fault
-from .source import Places, Source, put, range_bytes
+from .files import put
+from .source import Places, Source, range_bytes
 
 TOO_MUCH = re.compile(r"linkage: (pairs|values|a|b): (?:more than \d+( bytes| rows)?|\d+ bytes, limit \d+)$")
 AT_ROW = re.compile(r"linkage: (a|b): row (\d+): (id of row )?(.*)$")

@@ -79,16 +79,6 @@ def hashes_of(ids: Iterable[str], key: int) -> np.ndarray:
     return hash_array(np.array([it.encode("latin-1") for it in ids] + [None], dtype=object)[:-1], hash_key=f"{key:016}", categorize=False)
 
 
-def put(path: Path, data: bytes) -> None:
-    """Writes a file as a whole or not at all."""
-    new = path.with_name(path.name + ".new")
-    with new.open("wb") as file:
-        file.write(data)
-        file.flush()
-        os.fsync(file.fileno())
-    new.replace(path)
-
-
 class Rows:
     """What a scan has taken in and not yet written out."""
 

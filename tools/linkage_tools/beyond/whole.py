@@ -9,9 +9,10 @@ from pathlib import Path
 import numpy as np
 
 from ..tables import written
+from .files import put
 from .jobs import COUNTS, Task
 from .parts import Plan
-from .source import put, raw_records, records_at
+from .source import raw_records, records_at
 
 LEVELS = ("mu", "lambda", "possible_m", "possible_u")
 SPARE_FILES = 64  # open files that are not of a merge

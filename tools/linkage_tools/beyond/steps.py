@@ -1,13 +1,9 @@
 """The steps of linkage beyond one run, each of which leaves files that are whole, so that a command that stopped goes on where it was."""
 
-import argparse
 import contextlib
-import fcntl
-import hashlib
 import json
 import os
 import shutil
-import sys
 import time
 from collections.abc import Iterator
 from pathlib import Path
@@ -15,14 +11,15 @@ from pathlib import Path
 import numpy as np
 
 from ..job import Cell, Job, cells_of, program
-from ..settings import Settings, read_settings
-from ..tables import MARK, Fault, load, records
+from ..tables import Fault, records
 from ..words import tell
+from .begin import Whole
 from .engine import all_of, each, engine
+from .files import put
 from .jobs import Alone, Task, work_job
 from .parts import Plan, plan_of, read_plan, too_large, write_plan
 from .runs import Cost, Kept, Ranges, Work, call, check, compare, peak_mb, settings_text
-from .source import Places, Source, numbers, put, scan
+from .source import Places, Source, numbers, scan
 from .whole import LEVELS, write_jobs, write_journal, write_report, write_tables
 
 MOST_BYTES = 2**26 - 2**16  # of the rows of a part; the program takes 2**26 bytes with the header
@@ -30,80 +27,30 @@ MOST_KEPT = 1_000_000  # kept pairs of a job
 COST_HEAD = "step,tasks,seconds,worker_seconds,program_seconds,driver_mb,worker_mb\n"
 
 
-class Whole:
-    """A linkage beyond one run: its words, its settings, and its folder."""
-
-    def __init__(self, words: argparse.Namespace):
-        self.words, self.folder = words, words.folder.resolve()
-        self.settings: Settings = read_settings(Path("."), words.settings)
-        self.text = load(Path(words.settings)).removeprefix(MARK).decode()
-        self.paths = {side: Path(name).resolve() for side, name in self.settings.files.items()}
-        self.costs: list[str] = []
-        refuse(self.settings)
-
-    def manifest(self) -> dict[str, str]:
-        """What all answers rest on: digests of the inputs and of the program, and the size of jobs."""
-        inputs = {"settings": Path(self.words.settings), **self.paths, "program": Path(program())}
-        if self.settings.journal is not None:
-            inputs["journal"] = Path(self.settings.journal)
-        found = {}
-        for name, path in inputs.items():
-            try:
-                with path.open("rb") as file:
-                    found[name] = hashlib.file_digest(file, "sha256").hexdigest()
-            except OSError as lack:
-                raise Fault(f"{path}: {lack.strerror}") from lack
-        return found | {"job_rows": str(self.words.job_rows)}
-
-    def begin(self) -> None:
-        """Makes the folder, or finds that it was begun over the same inputs. Fault: it is another's, or they changed."""
-        path, now = self.folder / "manifest.json", self.manifest()
-        if not path.exists():
-            if self.folder.exists() and {it.name for it in self.folder.iterdir()} - {"lock", "manifest.json.new"}:
-                raise Fault(f"{self.folder} has other files: name a new folder")
-            put(path, json.dumps(now, indent=1).encode())
-        then = json.loads(path.read_text(encoding="utf-8"))
-        changed = sorted(name for name in {*now, *then} if now.get(name) != then.get(name))
-        if changed:
-            what = ", ".join(changed)
-            raise Fault(f"{what}: not as when {self.folder} was begun; name a new folder, or put back what was")
-        for name in ("checked", "compared", "jobs", "done"):
-            (self.folder / name).mkdir(exist_ok=True)
-
-    @contextlib.contextmanager
-    def step(self, name: str) -> Iterator[list[Cost]]:
-        """A step, which hands over what its tasks cost; says what it took, and keeps it for cost.csv."""
-        begun, costs = time.monotonic(), []
-        yield costs
-        total, seconds = Cost(), time.monotonic() - begun
-        for cost in costs:
-            total = total.with_other(cost)
-        cells = f"{len(costs)},{seconds:.1f},{total.worker:.1f},{total.program:.1f},{peak_mb():.0f},{total.worker_mb:.0f}"
-        self.costs.append(f"{name},{cells}\n")
-        tell("beyond", f"{name}: {len(costs)} tasks, {seconds:.1f} s")
-
-    def rule(self, work: Work) -> list[Cell]:
-        """The rule, which the program prints; its refusal of the settings, where they are at fault."""
-        place = Path(work.scratch)
-        (place / "settings.toml").write_text(settings_text(self.text, journal=None), encoding="utf-8")
-        try:
-            printed = call(work, place, "rule", "settings.toml")
-        except Fault as fault:
-            raise Fault(fault.text.removeprefix("linkage: ")) from fault
-        rows = records(printed)
-        next(rows)
-        return cells_of("rule.csv", rows)
+@contextlib.contextmanager
+def step(whole: Whole, name: str) -> Iterator[list[Cost]]:
+    """A step, which hands over what its tasks cost; says what it took, and keeps it for cost.csv."""
+    begun, costs = time.monotonic(), []
+    yield costs
+    total, seconds = Cost(), time.monotonic() - begun
+    for cost in costs:
+        total = total.with_other(cost)
+    cells = f"{len(costs)},{seconds:.1f},{total.worker:.1f},{total.program:.1f},{peak_mb():.0f},{total.worker_mb:.0f}"
+    whole.costs.append(f"{name},{cells}\n")
+    tell("beyond", f"{name}: {len(costs)} tasks, {seconds:.1f} s")
 
 
-def refuse(settings: Settings) -> None:
-    """Fault: settings that would be counted in each part for itself."""
-    if settings.sample is not None:
-        raise Fault(f"{settings.name}: sample: shares would be counted in each part; give m and u in its place, which "
-                    "tools/shares writes from a rule.csv")
-    for number, field in enumerate(settings.fields, 1):
-        if field.rare is not None:
-            raise Fault(f"{settings.name}: field.{number}.rare: how rare a value is would be counted in each part; leave it out, "
-                        "and add its share of m and u to those of agreement")
+def rule_of(whole: Whole, work: Work) -> list[Cell]:
+    """The rule, which the program prints; its refusal of the settings, where they are at fault."""
+    place = Path(work.scratch)
+    (place / "settings.toml").write_text(settings_text(whole.text, journal=None), encoding="utf-8")
+    try:
+        printed = call(work, place, "rule", "settings.toml")
+    except Fault as fault:
+        raise Fault(fault.text.removeprefix("linkage: ")) from fault
+    rows = records(printed)
+    next(rows)
+    return cells_of("rule.csv", rows)
 
 
 def scan_side(_: None, side: str, path: str, sign: str, column: str, index: str) -> Source:
@@ -132,7 +79,7 @@ def parts_of(source: Source, most_rows: int) -> list[tuple[int, int]]:
 
 def find_rows(whole: Whole, client, work: Work) -> Work:
     """The first step: where each row begins, and that no id stands twice."""
-    with whole.step("rows"):
+    with step(whole, "rows"):
         items = [(side, str(whole.paths[side]), whole.settings.signs[side], whole.settings.ids[side], f"{work.folder}/index_{side}")
                  for side in "ab"]
         found = all_of(client, scan_side, None, items)
@@ -147,7 +94,7 @@ def check_parts(whole: Whole, client, work: Work) -> dict[str, list[int]]:
             out = f"{work.folder}/checked/{side}_{low}-{high}"
             outs[side].append(out)
             items.append((Ranges(low, high, 0, 0) if side == "a" else Ranges(0, 0, low, high), out))
-    with whole.step("check") as costs:
+    with step(whole, "check") as costs:
         costs += all_of(client, check, work, [it for it in items if not os.path.exists(it[1])])
     texts = {side: [Path(it).read_text(encoding="utf-8").split("\n") for it in outs[side]] for side in "ab"}
     levels = {words[0]: [int(it) for it in words[1:]] for words in map(str.split, texts["a"][0][1:]) if words and words[0] in LEVELS}
@@ -160,7 +107,7 @@ def compare_parts(whole: Whole, client, work: Work) -> list[str]:
     parts = {side: parts_of(work.sources[side], whole.words.rows) for side in "ab"}
     ranges = [Ranges(*a, *b) for a in parts["a"] for b in parts["b"]]
     items = [(it, f"{work.folder}/compared/{it.name()}.npz") for it in ranges]
-    with whole.step("compare") as costs:
+    with step(whole, "compare") as costs:
         costs += [cost for _, cost in each(client, compare, work, [it for it in items if not os.path.exists(it[1])])]
     return [out for _, out in items]
 
@@ -179,7 +126,7 @@ def read_kept(outs: list[str], with_pairs: bool = True) -> Kept:
 def plan_jobs(whole: Whole, work: Work, outs: list[str], rule: list[Cell]) -> Plan:
     """The fourth: whole components, packed into jobs. Fault: one is too large for any."""
     path, most = whole.folder / "plan.npz", whole.words.job_rows
-    with whole.step("components"):
+    with step(whole, "components"):
         if path.exists():
             return read_plan(path)
         kept = read_kept(outs)
@@ -221,7 +168,7 @@ def work_jobs(whole: Whole, client, work: Work, plan: Plan, outs: list[str], rul
     """The fifth: each job is run and verified. Gives the jobs that there are, in their order."""
     tasks = [Task(f"{number:04}", int(low), int(high)) for number, (low, high) in enumerate(zip(plan.jobs, plan.jobs[1:]), 1)]
     found: list[Task] = []
-    with whole.step("jobs") as costs:
+    with step(whole, "jobs") as costs:
         try:
             for _, several in each(client, work_job, work, [(it,) for it in tasks]):
                 found += [done.task for done in several]
@@ -232,9 +179,10 @@ def work_jobs(whole: Whole, client, work: Work, plan: Plan, outs: list[str], rul
     return sorted(found, key=lambda it: it.low)
 
 
-def link(whole: Whole, work: Work) -> None:
+def link(whole: Whole, scratch: str) -> None:
     """All steps."""
-    rule = whole.rule(work)
+    work = Work(program(), whole.text, whole.settings.seed, {}, str(whole.folder), scratch, 0, ())
+    rule = rule_of(whole, work)
     work = work._replace(patterns=max(it.pattern for it in rule) + 1, kept=tuple(it.pattern for it in rule if it.link or it.possible))
     words = whole.words
     with engine(words.workers, words.scheduler, words.page, work.scratch) as client:
@@ -247,29 +195,10 @@ def link(whole: Whole, work: Work) -> None:
         plan = plan_jobs(whole, work, outs, rule)
         idle = split_journal(whole, work, plan)
         tasks = work_jobs(whole, client, work, plan, outs, rule)
-    with whole.step("whole"):
+    with step(whole, "whole"):
         write_tables(whole.folder, tasks)
         write_journal(whole.folder, tasks, idle)
         write_jobs(whole.folder, tasks, plan)
         sums = write_report(whole.folder, tasks, facts, len(idle))
     put(whole.folder / "cost.csv", (COST_HEAD + "".join(whole.costs)).encode())
     tell("beyond", f"{len(tasks)} jobs, all verified: {sums['links']} links, total {sums['total']}, {sums['open']} open")
-
-
-def main(words: argparse.Namespace) -> None:
-    """Links by the words of the command line. Fault: what is at fault."""
-    whole = Whole(words)
-    whole.folder.mkdir(parents=True, exist_ok=True)
-    with (whole.folder / "lock").open("w") as lock, contextlib.redirect_stdout(sys.stderr):
-        try:
-            fcntl.flock(lock, fcntl.LOCK_EX | fcntl.LOCK_NB)
-        except OSError as lack:
-            raise Fault(f"{whole.folder}: another command works in it") from lack
-        whole.begin()
-        scratch = Path(words.scratch or whole.folder / "scratch").resolve()
-        if words.scratch is None:
-            shutil.rmtree(scratch, ignore_errors=True)
-        scratch.mkdir(parents=True, exist_ok=True)
-        link(whole, Work(program(), whole.text, whole.settings.seed, {}, str(whole.folder), str(scratch), 0, ()))
-        if words.scratch is None:
-            shutil.rmtree(scratch, ignore_errors=True)
