@@ -1,6 +1,6 @@
 -- What the host's store has done with the host's files, of which nothing is known but that they were opened: a load that ends
--- well has read one (`HostFiles::load`, clause `read`), and a put that ends well has written one (`HostFiles::put`, clause
--- `written`).
+-- well has read one and noted its state (`HostFiles::load`, clauses `read`, `noted`), and a put that ends well has written one and
+-- seen that the one it replaces has the state that was noted (`HostFiles::put`, clauses `written`, `unchanged`).
 use Rattle.std.specs.Prelude.{◌≡◌, ◌++◌, ◌∷◌, [], ℕ, Bool, List, Option, All, IfSome, IsTrue}
 use Rattle.std.specs.Io.KnownBytes.{Appends}
 use Rattle.link_outside.specs.Outside.{Shows}

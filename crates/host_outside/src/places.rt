@@ -5,8 +5,8 @@ use std::alloc::{AllocError, Global};
 use std::io::ErrorKind;
 use std::rt::Files;
 
-// How many symbolic links are followed one after the other, as many as the system follows.
-const MOST_LINKS: u32 = 40;
+// How many names are looked at: the first, and those that up to 40 symbolic links lead to, as many as the system follows.
+const MOST_NAMES: u32 = 41;
 
 /// The folder of a name.
 pub fn folder_of(name: &str) -> &str {
@@ -36,7 +36,7 @@ fn is_end(why_not_read: ErrorKind) -> bool {
 /// itself that name.
 pub fn followed<R: Files>(alloc: Global, rt: &R, name: &str) -> Result<String, HostError> {
     let mut place = String::from_str(alloc, name)?;
-    for _ in 0..MOST_LINKS {
+    for _ in 0..MOST_NAMES {
         match rt.read_link(alloc, place.as_str()) {
             Ok(text) => place = led_to(alloc, place.as_str(), text.into_string().as_str())?,
             Err(error) if is_end(error.kind()) => return Ok(place),
