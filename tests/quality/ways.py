@@ -106,6 +106,13 @@ def of_compared_pairs(job: Job, seed: str, size: int = COMPARED) -> Sampled:
     return Sampled({pair: "matched" if pair in job.truth else "unmatched" for pair in drawn}, len(drawn))
 
 
+def clusters(job: Job, seed: str, records: int = RECORDS) -> Sampled:
+    """All compared pairs of records of A drawn at random, each decided rightly: both kinds of them are counted."""
+    of = set(Chance(seed, "clusters").drawn(job.ids("a"), records))
+    looked_at = [pair for pair in job.compared() if pair[0] in of]
+    return Sampled({pair: "matched" if pair in job.truth else "unmatched" for pair in looked_at}, len(looked_at))
+
+
 def crossed(job: Job, seed: str, records: int = RECORDS, random: int = CROSSED) -> Sampled:
     """The matched ones of all compared pairs of records of A drawn at random, and as unmatched ones pairs of A x B drawn at random.
 
@@ -124,7 +131,7 @@ def crossed(job: Job, seed: str, records: int = RECORDS, random: int = CROSSED) 
     return Sampled(found, len(looked_at))
 
 
-SAMPLES: dict[str, Callable[[Job, str], Sampled]] = {"compared": of_compared_pairs, "crossed": crossed}
+SAMPLES: dict[str, Callable[[Job, str], Sampled]] = {"compared": of_compared_pairs, "clusters": clusters, "crossed": crossed}
 
 
 def all_open(_: Job, asked: list[Pair]) -> list[Pair]:

@@ -13,7 +13,7 @@ from tally import Tally
 EXAMPLE_SHEET = """verdict,id_a,id_b,A surname,B family,A given,B first,A birth,B dob
 ,A4,B3,Schmidt,Smith,Karl,Mary,'31/02/1980,'1990-05-01
 """
-WORDS = "say one of --compared N, --records N --random M, --links N; see draw -h"
+WORDS = "say one of --compared N, --records N, --records N --random M, --links N; see draw -h"
 BACK_REFUSES = {
     "verdict,id_a,id_b\nlink,0007,7\n": "back.csv: row 1: unknown id_a '0007'; a spreadsheet may have changed '007'",
     "verdict,id_a,id_b\n,7,7\n": "back.csv: no verdict",
@@ -25,7 +25,7 @@ BACK_REFUSES = {
 DRAW_REFUSES = {
     "settings.toml --seed 1": (2, f"draw: {WORDS}"),
     "settings.toml --seed 1 --compared 3 --links 2": (2, f"draw: {WORDS}"),
-    "settings.toml --seed 1 --records 3": (2, "draw: --records and --random belong together; see draw -h"),
+    "settings.toml --seed 1 --random 3": (2, "draw: --random goes with --records; see draw -h"),
     "settings.toml --seed 1 --compared 99999": (2, "draw: asked for 99999 of 446 compared pairs"),
     "settings.toml --seed 1 --records 401 --random 1": (2, "draw: asked for 401 of 400 records of A"),
     "settings.toml --seed 1 --records 1 --random 200001": (2, "draw: asked for 200001 of 200000 pairs of A x B"),
@@ -64,6 +64,9 @@ def check_draw(tally: Tally, bench: Bench) -> None:
     records, far = {row[0] for row in near}, [row for row in rows if row[2] in ("random", "both")]
     wanted = [pair for pair in compared if pair[0] in records]
     tally.judge("draw: all compared pairs of the drawn records", sorted(row[:2] for row in near), sorted(wanted))
+    _, text, _ = bench.tool(folder, "draw", "settings.toml", "--seed", "3", "--records", "50")
+    alone = [tuple(row) for row in rows_of(text)[1:]]
+    tally.judge("draw: clusters are these pairs alone", alone, [(*row[:2], "cluster", "") for row in near])
     tally.judge("draw: no pair twice, and as many random ones as asked", (len({row[:2] for row in rows}), len(far)), (len(rows), 3000))
     given = {row[:2] for row in rows if row[3] == ""}
     tally.judge("draw: only compared pairs need a look", given, {row[:2] for row in rows} & set(compared))

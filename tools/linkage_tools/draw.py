@@ -1,14 +1,15 @@
 """Draws a sample of pairs that people are to review, at random by a seed, in one of the ways of docs/SETTINGS.md.
 
   draw SETTINGS --seed S --compared N             N of the compared pairs
-  draw SETTINGS --seed S --records N --random M   all compared pairs of N records of A, and M pairs of all of A x B
+  draw SETTINGS --seed S --records N              all compared pairs of N records of A: clusters
+  draw SETTINGS --seed S --records N --random M   the same, and M pairs of all of A x B: crossed
   draw SETTINGS --seed S --links N                N of the links of links.csv: the check at the end
 
 It prints, or writes into a new file, a table with the columns id_a, id_b, drawn and status. `drawn` says why a pair is there: compared,
-record, random, both (the last two at once) or link. The status is empty where people must look, and `unmatched` at random pairs that no
-pass compares. `sheet` shows the pairs to be reviewed, and `sheet --back` makes the sample of what comes back. On standard error it says
-what was drawn from how many. Pairs stand in the order in which they were drawn, those of one record together, so whoever stops early has
-a sample all the same. The same words on the same files give the same bytes.
+cluster, record, random, both (the last two at once) or link. The status is empty where people must look, and `unmatched` at random
+pairs that no pass compares. `sheet` shows the pairs to be reviewed, and `sheet --back` makes the sample of what comes back. On standard
+error it says what was drawn from how many. Pairs stand in the order in which they were drawn, those of one record together, so whoever
+stops early has a sample all the same. The same words on the same files give the same bytes.
 """
 
 import random
@@ -87,14 +88,17 @@ def drawn(job: Job, words: Namespace) -> tuple[list[Row], list[str]]:
     """The rows of the way that the words ask for, and what was drawn."""
     is_crossed = words.records is not None or words.random is not None
     if is_crossed + (words.compared is not None) + (words.links is not None) != 1:
-        raise Fault("say one of --compared N, --records N --random M, --links N; see draw -h", 2)
+        raise Fault("say one of --compared N, --records N, --records N --random M, --links N; see draw -h", 2)
     if words.compared is not None:
         return some_of(job.compared(), words.compared, words.seed, "compared", "compared pairs")
     if words.links is not None:
         job.must_be_of_now()
         return some_of([it.pair for it in job.links()], words.links, words.seed, "link", "links")
-    if words.records is None or words.random is None:
-        raise Fault("--records and --random belong together; see draw -h", 2)
+    if words.records is None:
+        raise Fault("--random goes with --records; see draw -h", 2)
+    if words.random is None:
+        near, said = of_records(job, job.compared(), words.records, words.seed)
+        return [(a, b, "cluster", "") for a, b in near], [said]
     return crossed(job, words.records, words.random, words.seed)
 
 
