@@ -1,8 +1,15 @@
-use Rattle.std.proofs.Common.{◌≡◌, ℕ, ℤ, Bool, true, false, ◌&&◌, int_eq, nat_eq, refl}
+use Rattle.std.proofs.Common.{◌≡◌, ℕ, ℤ, Bool, true, false, ◌&&◌, int_eq, nat_eq, refl, subst}
 use Rattle.std.specs.Bool.{OnTrue}
 use Rattle.std.proofs.lemmas.Bool.{and_parts, eqb-true}
 use Rattle.std.proofs.lemmas.Bool.Decides.{Decides-int_eq}
+use Rattle.std.specs.Prelude.{Option, None, Some, IfSome}
+use Rattle.host_outside.specs.HostFile.{IsSameFile}
 use Rattle.host_outside.specs.declared.host_file.FileState.{FileState}
+
+-- a state of the same file as the one that a folder tells is a state of that folder
+pub folder_of_state : (told : Option FileState) (state kept : FileState) → IfSome told (λ now. state ≡ now) → IsSameFile kept state → IfSome told (λ now. IsSameFile kept now)
+folder_of_state None state kept e same = tt
+folder_of_state (Some now) state kept e same = subst (IsSameFile kept) e same
 
 -- what follows where a test says so
 pub on_true : (b : Bool) (P : Type 0) → (b ≡ true → P) → OnTrue b P

@@ -34,3 +34,11 @@ IsNoted remaining told limit name old new load =
 -- some file that was opened has the state that a load of the name noted, for each of them
 abbrev pub IsUnchanged : {File : Type 0} → (File → Option FileState) → List Loaded → List ℕ → Type 0
 IsUnchanged told loads name = All (λ loaded. loaded.name ≡ name → IsStateOf told loaded.state) loads
+
+-- two states are of one file: no two files of a system have one number on one device at a time (IEEE 1003.1, sys/stat.h)
+abbrev pub IsSameFile : FileState → FileState → Type 0
+IsSameFile a b = (a.device ≡ b.device) × (a.inode ≡ b.inode)
+
+-- this is the state of the folder of that handle, where the handle tells its own
+abbrev pub IsFolderOf : {File : Type 0} → (File → Option FileState) → File → FileState → Type 0
+IsFolderOf told folder state = IfSome (told folder) (λ now. IsSameFile state now)

@@ -1,8 +1,10 @@
 // An open file or folder of the host: the state that tells whether it was changed, its lock, its owner.
-ghost use Rattle.std.specs.Prelude.{◌≡◌, Bool, Option, None, true, IfOk, IfSome, IsTrue, OnOk};
+ghost use Rattle.std.specs.Prelude.{◌≡◌, ◌↔◌, Bool, Option, None, true, IfOk, IfSome, IsTrue, OnOk};
+ghost use Rattle.std.specs.Fs.{metadata_len};
 ghost use Rattle.host_outside.specs.declared.host_file.FileState.{FileState};
+ghost use Rattle.host_outside.specs.HostFile.{IsSameFile};
 
-use std::fs::{File, OpenFile};
+use std::fs::{File, Metadata, OpenFile};
 use std::io;
 use std::os::unix::fs::{MetadataExt, fchown};
 
@@ -17,6 +19,30 @@ pub struct FileState {
     pub modified_nanos: i64,
     pub changed: i64,
     pub changed_nanos: i64,
+}
+
+impl FileState {
+    /// The state that the metadata of a file tells.
+    pub fn of(told: &Metadata) -> FileState
+        ensures size { result.size ≡ metadata_len told.now }
+    {
+        FileState {
+            device: told.dev(),
+            inode: told.ino(),
+            size: told.len(),
+            modified: told.mtime(),
+            modified_nanos: told.mtime_nsec(),
+            changed: told.ctime(),
+            changed_nanos: told.ctime_nsec(),
+        }
+    }
+
+    /// Whether this is a state of the same file as another.
+    pub fn is_same_file(&self, other: &FileState) -> bool
+        ensures { IsTrue result ↔ IsSameFile self.now other.now }
+    {
+        self.device == other.device && self.inode == other.inode
+    }
 }
 
 /// What a store asks of an open file or folder beside what `OpenFile` has. Contracts see what a handle was asked for.
@@ -63,16 +89,7 @@ impl HostFile for File {
     ghost is_kept = { λ _. true };
 
     fn state(&self) -> io::Result<FileState> {
-        let told = self.metadata()?;
-        Ok(FileState {
-            device: told.dev(),
-            inode: told.ino(),
-            size: told.len(),
-            modified: told.mtime(),
-            modified_nanos: told.mtime_nsec(),
-            changed: told.ctime(),
-            changed_nanos: told.ctime_nsec(),
-        })
+        Ok(FileState::of(&self.metadata()?))
     }
 
     fn wait_for_lock(&self) -> io::Result<()> {

@@ -1,21 +1,20 @@
 // Files of the host.
-ghost use Rattle.std.specs.Prelude.{◌≡◌, ◌+◌, ◌^◌, ◌<◌, [], ℕ, List, None, false, true, take, vec_capacity, vec_len, Any, IfOk, IfSome, IsTrue, OnOk};
+ghost use Rattle.std.specs.Prelude.{◌≡◌, ◌≢◌, ◌+◌, ◌^◌, ◌<◌, [], ℕ, List, None, false, true, string_bytes, take, vec_capacity, vec_len, All, Any, IfOk, IfSome, IsTrue, OnOk};
+ghost use Rattle.std.specs.Bool.{OnFalse, OnTrue};
 ghost use Rattle.link_outside.specs.Outside.{IsLogged, IsWithinLimit, LogsFailure, Shows};
 ghost use Rattle.host_outside.specs.Extends.{KeepsAll};
-ghost use Rattle.host_outside.specs.HostFile.{IsNoted, IsRead, IsReadIn, IsStateOf, IsUnchanged, IsWritten};
+ghost use Rattle.host_outside.specs.HostFile.{IsNoted, IsRead, IsReadIn, IsSameFile, IsStateOf, IsUnchanged, IsWritten};
 
 use super::host_error::HostError;
 use super::host_file::{FileState, HostFile};
-use super::loads::{Loaded, is_loaded, is_noted, is_of};
+use super::loads::{Loaded, is_loaded, is_noted, is_of, is_other_input};
 use super::locked_folders::{LockedFolder, locked};
 use super::places::{folder_of, followed};
 use super::rights::{made_like, replaced};
 use link_base::{NoMemory, Text};
 use link_outside::{Load, Store, StoreCall, StoreError, entry_of_call};
 use std::alloc::Global;
-use std::fs::Metadata;
 use std::io::{Read, Write};
-use std::os::unix::fs::MetadataExt;
 use std::rt::Files;
 use std::{fs, io};
 
@@ -141,12 +140,11 @@ struct Names<'n> {
 
 impl Names<'_> {
     // Whether the name is a link that leads to a file which was loaded under another name.
-    fn lead_to_an_input(&self, loads: &[Loaded], old: Option<&Metadata>) -> bool {
-        let Some(old) = old else { return false };
-        let is_it = |state: &FileState| state.device == old.dev() && state.inode == old.ino();
-        self.name != self.place.as_str()
-            && loads.iter().any(|loaded| loaded.name.bytes() != self.name.as_bytes()
-                && is_it(&loaded.state))
+    fn lead_to_an_input(&self, loads: &[Loaded], old: &FileState) -> bool
+        ensures found { OnTrue result (Any (λ loaded. (loaded.name ≢ self.now.name.now) × IsSameFile loaded.state old.now) loads.now) }
+        ensures none { OnFalse result (self.now.name.now ≢ string_bytes self.now.place → All (λ loaded. IsSameFile loaded.state old.now → loaded.name ≡ self.now.name.now) loads.now) }
+    {
+        self.name != self.place.as_str() && is_other_input(loads, self.name, old)
     }
 }
 
@@ -165,8 +163,10 @@ where
     ensures kept { OnOk result (IsTrue (R.File.is_kept folder.now)) }
 {
     let old = replaced(rt, names.name)?;
-    if names.lead_to_an_input(loads, old.as_ref()) {
-        return Err(io::Error::from(io::ErrorKind::InvalidInput));
+    if let Some(file) = &old {
+        if names.lead_to_an_input(loads, &FileState::of(file)) {
+            return Err(io::Error::from(io::ErrorKind::InvalidInput));
+        }
     }
     let file = made_like(rt, names.beside.as_str(), old)?;
     write_kept(file, bytes)?;

@@ -1,6 +1,7 @@
 // What was loaded, and in which state it was.
-ghost use Rattle.std.specs.Prelude.{◌≡◌, ◌≢◌, ◌↔◌, All, IsTrue};
+ghost use Rattle.std.specs.Prelude.{◌≡◌, ◌≢◌, ◌↔◌, All, Any, IsTrue};
 ghost use Rattle.std.specs.Bool.{OnFalse, OnTrue};
+ghost use Rattle.host_outside.specs.HostFile.{IsSameFile};
 
 use super::host_file::FileState;
 use link_base::Text;
@@ -51,4 +52,17 @@ pub fn is_noted(loads: &[Loaded], name: &str, state: &FileState) -> bool
         }
     }
     true
+}
+
+/// Whether a file is one that was loaded under another name.
+pub fn is_other_input(loads: &[Loaded], name: &str, state: &FileState) -> bool
+    ensures found { OnTrue result (Any (λ loaded. (loaded.name ≢ name.now) × IsSameFile loaded.state state.now) loads.now) }
+    ensures none { OnFalse result (All (λ loaded. IsSameFile loaded.state state.now → loaded.name ≡ name.now) loads.now) }
+{
+    for loaded in loads {
+        if !is_of(loaded, name) && loaded.state.is_same_file(state) {
+            return true;
+        }
+    }
+    false
 }

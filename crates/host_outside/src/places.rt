@@ -1,4 +1,7 @@
 // Where names of the host lead.
+ghost use Rattle.std.specs.Prelude.{◌≡◌, ◌↔◌, ◌⊎◌, IfOk, IsTrue, string_bytes};
+ghost use Rattle.std.specs.declared.io.ErrorKind.TheVariants as kind;
+ghost use Rattle.host_outside.specs.Places.{folder_of, led_to};
 
 use super::host_error::HostError;
 use std::alloc::{AllocError, Global};
@@ -9,7 +12,9 @@ use std::rt::Files;
 const MOST_NAMES: u32 = 41;
 
 /// The folder of a name.
-pub fn folder_of(name: &str) -> &str {
+pub fn folder_of(name: &str) -> &str
+    ensures { result.now ≡ folder_of name.now }
+{
     match name.rsplit_once('/') {
         None => ".",
         Some((folder, _)) => { if folder.is_empty() { "/" } else { folder } }
@@ -17,7 +22,9 @@ pub fn folder_of(name: &str) -> &str {
 }
 
 // The name that a link leads to: that of its text, from the link's folder where it begins with none.
-fn led_to(alloc: Global, link: &str, text: &str) -> Result<String, AllocError> {
+fn led_to(alloc: Global, link: &str, text: &str) -> Result<String, AllocError>
+    ensures { IfOk result (λ name. string_bytes name ≡ led_to link.now text.now) }
+{
     match link.rsplit_once('/') {
         Some((folder, _)) if !text.starts_with('/') => format!(in alloc; "{folder}/{text}"),
         _ => String::from_str(alloc, text),
@@ -25,7 +32,9 @@ fn led_to(alloc: Global, link: &str, text: &str) -> Result<String, AllocError> {
 }
 
 // Whether a name is the last: it is no link, it is not there, or the host has no links.
-fn is_end(why_not_read: ErrorKind) -> bool {
+fn is_end(why_not_read: ErrorKind) -> bool
+    ensures { IsTrue result ↔ ((why_not_read ≡ kind.InvalidInput) ⊎ ((why_not_read ≡ kind.NotFound) ⊎ (why_not_read ≡ kind.Unsupported))) }
+{
     matches!(
         why_not_read,
         ErrorKind::InvalidInput | ErrorKind::NotFound | ErrorKind::Unsupported

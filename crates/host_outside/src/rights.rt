@@ -1,4 +1,6 @@
 // The rights of a file that is replaced.
+ghost use Rattle.std.specs.Prelude.{◌≡◌, ◌<◌, ◌/◌, ◌%◌, IfOk, IfSome};
+ghost use Rattle.std.specs.Fs.{file_type, IsFile};
 
 use super::host_file::HostFile;
 use std::fs::{Metadata, OpenFile, OpenOptions, Permissions};
@@ -11,7 +13,9 @@ use std::{fs, io};
 const ALL_READ_AND_WRITE: u32 = 0o666;
 
 /// The file that a name leads to, if there is one. What is no plain file fails.
-pub fn replaced<R: Files>(rt: &R, name: &str) -> io::Result<Option<Metadata>> {
+pub fn replaced<R: Files>(rt: &R, name: &str) -> io::Result<Option<Metadata>>
+    ensures { IfOk result (λ old. IfSome old (λ file. IsFile (file_type file))) }
+{
     match fs::metadata(rt, name) {
         Ok(file) if file.is_file() => Ok(Some(file)),
         Ok(_) => Err(io::Error::from(ErrorKind::InvalidInput)),
@@ -38,9 +42,14 @@ fn made_anew<R: Files>(rt: &R, name: &str, mode: u32) -> io::Result<R::File> {
     }
 }
 
-// The rights of everyone in the place of those of the group.
-fn without_group(mode: u32) -> u32 {
-    (mode & 0o707) | ((mode & 0o007) << 3)
+// The rights of everyone in the place of those of the group. Owner, group and everyone have a digit of base eight each.
+fn without_group(mode: u32) -> u32
+    requires { mode < 0o1000 }
+    ensures owner { result / 0o100 ≡ mode / 0o100 }
+    ensures group { result / 0o10 % 0o10 ≡ mode % 0o10 }
+    ensures everyone { result % 0o10 ≡ mode % 0o10 }
+{
+    mode / 0o100 * 0o100 + mode % 0o10 * 0o11
 }
 
 // Gives a new file the owner, the group and the rights of another, as far as the host allows it. Where it may not have

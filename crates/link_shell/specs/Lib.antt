@@ -16,3 +16,4 @@ pub mod VerifySettings
 pub mod AfterRun
 pub mod DuplicatesSettings
 pub mod ManySettings
+pub mod Limits

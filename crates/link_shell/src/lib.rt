@@ -8,6 +8,7 @@ mod duplicates_settings;
 mod frontier_settings;
 mod generate;
 mod keys;
+mod limits;
 mod many_settings;
 mod migrate_settings;
 mod open_settings;
@@ -21,4 +22,5 @@ mod words;
 
 pub use after_run::run_then_verify;
 pub use command::{linkage, perform};
+pub use limits::limits_are_these;
 pub use rule_settings::printed_rule_is_least;

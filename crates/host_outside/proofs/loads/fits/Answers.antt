@@ -1,4 +1,4 @@
-use Rattle.std.proofs.Common.{◌≡◌, true, sym, ◌∙◌}
+use Rattle.std.proofs.Common.{sym, ◌∙◌}
 use Rattle.host_outside.proofs.States.{on_true, same_state}
 use Rattle.host_outside.proofs.loads.fits.Goals as goal
 
