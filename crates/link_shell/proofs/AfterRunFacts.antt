@@ -57,11 +57,11 @@ use Rattle.link_shell.specs.VerifySettings.{are_verify_words, ended_by, proved_b
 use Rattle.link_shell.specs.Words.{are_verb_and_settings, is_settings_word, is_short_word, word}
 
 -- each name that steps load has a property
-abbrev AllLoads : {T : Type 0} → (List ℕ → Type 0) → Steps T → Type 0
+abbrev pub AllLoads : {T : Type 0} → (List ℕ → Type 0) → Steps T → Type 0
 AllLoads P (load r limit name step) = P name × ((bytes : List ℕ) → AllLoads P (step bytes))
 AllLoads P (gives result) = ⊤
 
-loads_then : {A B : Type 0} (P : List ℕ → Type 0) (s : Steps A) (next : A → Steps B) → AllLoads P s → ((x : A) → AllLoads P (next x)) → AllLoads P (s >>= next)
+pub loads_then : {A B : Type 0} (P : List ℕ → Type 0) (s : Steps A) (next : A → Steps B) → AllLoads P s → ((x : A) → AllLoads P (next x)) → AllLoads P (s >>= next)
 unfolding ◌>>=◌
 loads_then P (load r limit name step) next h k = (h.0, λ bytes. loads_then P (step bytes) next (h.1 bytes) k)
 loads_then P (gives (Ok x)) next h k = k x
@@ -72,7 +72,7 @@ then_same : {B : Type 0} (r : Result (List ℕ) Fault) (f g : List ℕ → Resul
 then_same (Ok bytes) f g h = h bytes
 then_same (Err e) f g h = refl
 
-same_outcome : {T : Type 0} (P : List ℕ → Type 0) (h k : Held) → ((name : List ℕ) → P name → k name ≡ h name) → (s : Steps T) → AllLoads P s → outcome s k ≡ outcome s h
+pub same_outcome : {T : Type 0} (P : List ℕ → Type 0) (h k : Held) → ((name : List ℕ) → P name → k name ≡ h name) → (s : Steps T) → AllLoads P s → outcome s k ≡ outcome s h
 same_outcome P h k same (load r limit name step) all =
     ap (λ content. and_then (loaded r limit name content) (λ bytes. outcome (step bytes) k)) (same name all.0)
     ∙ then_same (loaded r limit name (h name)) (λ bytes. outcome (step bytes) k) (λ bytes. outcome (step bytes) h) (λ bytes. same_outcome P h k same (step bytes) (all.1 bytes))
@@ -82,7 +82,7 @@ same_outcome P h k same (gives result) all = refl
 abbrev IsKept : List ℕ → Type 0
 IsKept name = is_output name ≡ false
 
-kept_if : (test : Bool) (bytes : List ℕ) (before : Option (List ℕ)) → test ≡ false → (if test then Some bytes else before) ≡ before
+pub kept_if : (test : Bool) (bytes : List ℕ) (before : Option (List ℕ)) → test ≡ false → (if test then Some bytes else before) ≡ before
 kept_if true bytes before e = absurd (cc e)
 kept_if false bytes before e = refl
 
@@ -141,7 +141,7 @@ within_limit : (r : FileRole) (limit : ℕ) (name bytes : List ℕ) (t : Bool) �
 within_limit r limit name bytes true e = refl
 within_limit r limit name bytes false e = absurd (cc e)
 
-file_held : (r : FileRole) (limit : ℕ) (name bytes : List ℕ) (held : Held) → held name ≡ Some bytes → length bytes ≤ limit → outcome (file_within limit r name) held ≡ Ok bytes
+pub file_held : (r : FileRole) (limit : ℕ) (name bytes : List ℕ) (held : Held) → held name ≡ Some bytes → length bytes ≤ limit → outcome (file_within limit r name) held ≡ Ok bytes
 file_held r limit name bytes held is short =
     ap (λ content. and_then (loaded r limit name content) (λ read. Ok read)) is
     ∙ ap (λ x. and_then x (λ read. Ok read)) (within_limit r limit name bytes (nat_le (length bytes) limit) (le-leb (length bytes) limit short))

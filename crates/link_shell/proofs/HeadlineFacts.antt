@@ -61,7 +61,7 @@ pub record FoundBy (plan : Plan) (held : Held) (review : Review) : Type 0 where
   pub of_decisions : decided plan review.files review.shares ≡ Ok review.decided
   pub of_journal : outcome (journal_file review.files plan.journal) held ≡ Ok review.journal
 
-found_by : (plan : Plan) (held : Held) (review : Review) → outcome (reviewed_plan plan) held ≡ Ok review → FoundBy plan held review
+pub found_by : (plan : Plan) (held : Held) (review : Review) → outcome (reviewed_plan plan) held ≡ Ok review → FoundBy plan held review
 found_by plan held review e =
     let files = came (prepared_files plan) _ held review e in
     let found = came (decided_plan plan files.0) _ held review files.2 in

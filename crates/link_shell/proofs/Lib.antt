@@ -4,3 +4,5 @@ pub mod LevelFacts
 pub mod HeadlineFacts
 pub mod InputFacts
 pub mod AfterRunFacts
+pub mod OnePutFacts
+pub mod KeptVerdictFacts

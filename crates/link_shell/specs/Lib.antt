@@ -17,3 +17,4 @@ pub mod AfterRun
 pub mod DuplicatesSettings
 pub mod ManySettings
 pub mod Limits
+pub mod KeptVerdicts

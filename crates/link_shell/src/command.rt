@@ -6,6 +6,7 @@ ghost use Rattle.link_base.specs.declared.fault.Fault.{Fault as AnyFault};
 ghost use Rattle.link_shell.specs.AfterRun.{ProvedByRun, YesWhereProved};
 ghost use Rattle.link_shell.specs.Commands.{command_of, settings_command_of};
 ghost use Rattle.link_shell.specs.Headline.{Headline};
+ghost use Rattle.link_shell.specs.KeptVerdicts.{NoVerdictLost};
 ghost use Rattle.link_shell.specs.Linked.{Follows, Performed, Reported};
 
 use crate::words::settings_after;
@@ -18,6 +19,7 @@ use command_steps::Ended;
 use link_base::{Fault, status_of};
 use link_core::run_is_verified;
 use link_outside::{Sink, SinkError, Store, write_fault};
+use review_journal::no_verdict_is_lost;
 use std::alloc::Global;
 
 // Follows the script of the command that the words name, which is none of a settings file alone.
@@ -131,7 +133,8 @@ fn report<E: Sink>(alloc: Global, answer: &Result<Ended, Fault>, err: &mut E) ->
 /// randomised rules whose error levels are at most its own, has the least chance of 'possible link' for matched and for unmatched
 /// pairs; and one-to-one links, each by rule or review, of greatest total weight, awards of review included, with prices that
 /// certify it (clause `headline`). What it writes is verified: after it `verify` with the same settings file says yes where nothing
-/// outside fails and memory is there (clauses `proved_by_run` and `yes_where_proved`).
+/// outside fails and memory is there (clauses `proved_by_run` and `yes_where_proved`). No verdict is lost: the journal that `review` or
+/// `migrate` leaves loads as the entries that it had, followed by one for each new verdict (clause `no_verdict_lost`).
 pub fn linkage<S: Store, O: Sink, E: Sink>(
     alloc: Global,
     words: &[String],
@@ -145,8 +148,10 @@ pub fn linkage<S: Store, O: Sink, E: Sink>(
     ensures headline { Headline (map string_bytes words.now) (store_seen S.tells S.held S.faults store.old store.new) (sink_seen O.tells O.taken O.faults out.old out.new) (sink_seen E.tells E.taken E.faults err.old err.new) result }
     ensures proved_by_run { ProvedByRun (map string_bytes words.now) (store_seen S.tells S.held S.faults store.old store.new) result }
     ensures yes_where_proved { YesWhereProved (map string_bytes words.now) (store_seen S.tells S.held S.faults store.old store.new) (sink_seen O.tells O.taken O.faults out.old out.new) result }
+    ensures no_verdict_lost { NoVerdictLost (map string_bytes words.now) (store_seen S.tells S.held S.faults store.old store.new) result }
 {
     run_is_verified();
+    no_verdict_is_lost();
     let answer = perform(alloc, words, store, out);
     let status = report(alloc, &answer, err);
     drop(answer);

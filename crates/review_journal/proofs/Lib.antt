@@ -8,3 +8,6 @@ pub mod ListLemmas
 pub mod RowLemmas
 pub mod TableLemmas
 pub mod VersionLemmas
+pub mod DayFacts
+pub mod ReadFacts
+pub mod KeptFacts

@@ -19,12 +19,12 @@ use Rattle.review_journal.specs.Reading.{dated, entries_read, entry_in, journal_
 use Rattle.review_journal.specs.Rows.{each_read, verdict_named, Written, written_in}
 
 -- a step that went on, and what it went on with
-record WentOn {A B : Type 0} (x : Result A Fault) (next : A → Result B Fault) (y : B) : Type 0 where
+pub record WentOn {A B : Type 0} (x : Result A Fault) (next : A → Result B Fault) (y : B) : Type 0 where
   pub first : A
   pub is : x ≡ Ok first
   pub rest : next first ≡ Ok y
 
-went_on : {A B : Type 0} (x : Result A Fault) (next : A → Result B Fault) (y : B) → and_then x next ≡ Ok y → WentOn x next y
+pub went_on : {A B : Type 0} (x : Result A Fault) (next : A → Result B Fault) (y : B) → and_then x next ≡ Ok y → WentOn x next y
 went_on (Ok z) next y e = record { first = z; is = refl; rest = e }
 went_on (Err f) next y e = cc e
 
@@ -47,7 +47,7 @@ entry_single a b done number fields e told =
     ap (λ (x : Entry). x.step) (sym same)
 
 -- what holds of each that is read holds of all
-all_hold : {R E : Type 0} (one : List E → ℕ → R → Result E Fault) (P : E → Type 0) → ((done : List E) (number : ℕ) (row : R) (e : E) → one done number row ≡ Ok e → P e)
+pub all_hold : {R E : Type 0} (one : List E → ℕ → R → Result E Fault) (P : E → Type 0) → ((done : List E) (number : ℕ) (row : R) (e : E) → one done number row ≡ Ok e → P e)
     → (done : List E) (rows : List R) (es : List E) → All P done → each_read one done rows ≡ Ok es → All P es
 all_hold one P holds done [] es all told = let same : done ≡ es = cc told in subst (All P) same all
 all_hold one P holds done (row ∷ rows) es all told =

@@ -10,3 +10,4 @@ pub mod Row
 pub mod Reading
 pub mod Batch
 pub mod Text
+pub mod Kept

@@ -5,6 +5,7 @@ ghost use Rattle.link_base.specs.Standard.{Record};
 ghost use Rattle.link_base.specs.declared.rule.Step.TheVariants.{Single};
 ghost use Rattle.file_reader.specs.Header.{header_has};
 ghost use Rattle.review_journal.specs.Journal.{IsJournal, IsWithinFiles};
+ghost use Rattle.review_journal.specs.Kept.{MigrationKeepsAll, ReviewKeepsAll};
 ghost use Rattle.review_journal.specs.Verdict.{last_on, verdict_on};
 ghost use Rattle.review_journal.specs.declared.entry.Entry.{Entry as JournalEntry};
 ghost use Rattle.review_journal.specs.Reading.{journal_in};
@@ -35,4 +36,13 @@ pub fn first_version_is_single()
         → (x y : ℕ) → verdict_on entries x y ≡ option_map (λ (e : JournalEntry). e.verdict) (last_on entries x y) }
 {
     single_verdicts_stand();
+}
+
+/// Law: the text of a journal that was read, with the new verdicts that were added to it, reads as the old entries followed by one for
+/// each new verdict, and each other pair has the verdict that it had; the text of a journal that was read reads as its entries.
+pub fn no_verdict_is_lost()
+    ensures reviewed { ReviewKeepsAll }
+    ensures migrated { MigrationKeepsAll }
+{
+    read_again();
 }

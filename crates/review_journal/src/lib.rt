@@ -20,7 +20,7 @@ mod words;
 
 pub use batch::{NewVerdict, Verdicts};
 pub use entry::Entry;
-pub use file_laws::{first_version_is_single, read_again};
+pub use file_laws::{first_version_is_single, no_verdict_is_lost, read_again};
 pub use idle::idle_entries;
 pub use journal::Journal;
 pub use laws::single_verdicts_stand;

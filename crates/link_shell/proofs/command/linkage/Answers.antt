@@ -1,5 +1,9 @@
+use Rattle.std.specs.Prelude.{IsUtf8, string_bytes}
+use Rattle.std.proofs.lemmas.List.Elements.{All-map}
+use Rattle.std.proofs.lemmas.Str.{IsUtf8-string_bytes}
 use Rattle.link_shell.proofs.AfterRunFacts.{proved_by_run, yes_where_proved}
 use Rattle.link_shell.proofs.HeadlineFacts.{headline}
+use Rattle.link_shell.proofs.KeptVerdictFacts.{no_verdict_lost}
 use Rattle.link_shell.proofs.command.linkage.Goals as goal
 
 pub returns-clause-headline : goal.returns-clause-headline
@@ -10,3 +14,8 @@ returns-clause-proved_by_run g c = proved_by_run c.run_is_verified.ensures _ _ _
 
 pub returns-clause-yes_where_proved : goal.returns-clause-yes_where_proved
 returns-clause-yes_where_proved g c = yes_where_proved _ _ _ _ c.perform-answer.result _ c.perform-answer.ensures c.report-status.ensures
+
+pub returns-clause-no_verdict_lost : goal.returns-clause-no_verdict_lost
+returns-clause-no_verdict_lost g c =
+    no_verdict_lost c.no_verdict_is_lost.ensures.reviewed c.no_verdict_is_lost.ensures.migrated _ _ _ _ c.perform-answer.result _
+    (All-map IsUtf8 string_bytes c.args.words.now (λ k d within. IsUtf8-string_bytes _)) c.perform-answer.ensures c.report-status.ensures

@@ -1,0 +1,167 @@
+-- What is read of a journal file is a journal over its two files.
+use Rattle.std.proofs.Common.{◌≡◌, ◌<◌, ◌≤◌, ◌+◌, ◌∷◌, ◌++◌, ℕ, ℤ, Bool, true, false, List, [], All, length, Option, Some, None, Result, Ok, refl, subst, arith, length-append, nat_lt}
+use Rattle.std.specs.Prelude.{codes, slice_index_or}
+use Rattle.std.specs.List.{position_or_len}
+use Rattle.std.specs.Str.{bytes_eq}
+use Rattle.std.proofs.lemmas.Bool.Decides.{nat_tests}
+use Rattle.std.proofs.lemmas.List.Elements.{All-nil, All-push, All-tail}
+use Rattle.std.proofs.lemmas.Option.{cond_some}
+use Rattle.file_reader.specs.Header.{header_has}
+use Rattle.file_reader.specs.Known.{known_in, or_fault}
+use Rattle.file_reader.specs.Left.{records_in}
+use Rattle.file_reader.specs.Rows.{TableRow}
+use Rattle.file_reader.specs.Table.{HasTexts, IsFieldText, IsTextRow, table_of}
+use Rattle.file_reader.proofs.TextFacts.{table_facts}
+use Rattle.link_base.specs.Standard.{IsDay, position_of_id, Record}
+use Rattle.link_base.specs.declared.fault.Fault.{Fault}
+use Rattle.link_base.specs.declared.fault.Fault.TheVariants as fault
+use Rattle.link_base.specs.declared.fault.FileRole.TheVariants as role
+use Rattle.link_base.specs.declared.rule.PairAt.{PairAt}
+use Rattle.link_limits.specs.declared.TheConstants.{MOST_ENTRIES}
+use Rattle.value_forms.specs.Days.{iso_day}
+use Rattle.review_journal.specs.Adding.{is_not_before}
+use Rattle.review_journal.specs.Batch.{NamesRecords, verdict_in, verdicts_of, verdicts_read, verdicts_wanted}
+use Rattle.review_journal.specs.Journal.{IsJournal, IsReviewer, IsWithinFiles}
+use Rattle.review_journal.specs.Reading.{CanFollow, dated, entries_read, entry_in, journal_in, journal_under, journal_wanted, numbered, placed, signed, unless}
+use Rattle.review_journal.specs.Rows.{step_named, verdict_named, Written, written_in}
+use Rattle.review_journal.specs.Steps.{fits_after}
+use Rattle.review_journal.specs.declared.batch.NewVerdict.{NewVerdict}
+use Rattle.review_journal.specs.declared.entry.Entry.{Entry}
+use Rattle.review_journal.proofs.DayFacts.{iso_is_day}
+use Rattle.review_journal.proofs.EntryLemmas.{journal_push}
+use Rattle.review_journal.proofs.TableLemmas.{table_few, text_at}
+use Rattle.review_journal.proofs.VersionLemmas.{all_hold, went_on}
+
+same_value : {T : Type 0} (x y : T) → ◌≡◌ {A = Result T Fault} (Ok x) (Ok y) → x ≡ y
+same_value x y e = cc e
+
+-- what passed a test
+passed_test : {T : Type 0} (test : Bool) (f : Fault) (x y : T) → unless test f x ≡ Ok y → (test ≡ true) × (x ≡ y)
+passed_test true f x y e = (refl, same_value x y e)
+passed_test false f x y e = absurd (cc e)
+
+-- what was found
+found_is : {A : Type 0} (f : Fault) (o : Option A) (x : A) → or_fault f o ≡ Ok x → o ≡ Some x
+found_is f None x e = absurd (cc e)
+found_is f (Some y) x e = cc e
+
+-- an id that is found stands in the file
+found_within : (f : Fault) (id : List ℕ) (file : List Record) (at : ℕ) → or_fault f (position_of_id id file) ≡ Ok at → at < length file
+found_within f id file at e =
+    let place : ℕ = position_or_len (λ (r : Record). bytes_eq id r.id) file in
+    let found = cond_some (nat_lt place (length file)) place at (found_is f (position_of_id id file) at e) in
+    let test = found.0 in
+    let within : place < length file = grind (arith, nat_tests) in
+    subst (λ n. n < length file) found.1 within
+
+module _ (a b : List Record) where
+  placed_within : (number : ℕ) (w : Written) (at : PairAt) → placed a b number w ≡ Ok at → (at.a < length a) × (at.b < length b)
+  placed_within number w at e =
+      let of_a = went_on (known_in role.Journal number (codes "id_a") w.id_a a) _ at e in
+      let of_b = went_on (known_in role.Journal number (codes "id_b") w.id_b b) _ at of_a.rest in
+      let pair : PairAt = record { a = of_a.first; b = of_b.first } in
+      let same : pair ≡ at = same_value pair at of_b.rest in
+      subst (λ (p : PairAt). (p.a < length a) × (p.b < length b)) same (found_within _ w.id_a a of_a.first of_a.is, found_within _ w.id_b b of_b.first of_b.is)
+
+  -- a new verdict that is read names records
+  verdict_names : (number : ℕ) (fields : List (List ℕ)) (v : NewVerdict) → verdict_in a b number fields ≡ Ok v → NamesRecords (length a) (length b) v
+  verdict_names number fields v e =
+      let of_a = went_on (known_in role.Verdicts number (codes "id_a") (slice_index_or fields 0 []) a) _ v e in
+      let of_b = went_on (known_in role.Verdicts number (codes "id_b") (slice_index_or fields 1 []) b) _ v of_a.rest in
+      let word = went_on (or_fault (fault.BadVerdict role.Verdicts number) (verdict_named (slice_index_or fields 2 []))) _ v of_b.rest in
+      let made : NewVerdict = record { a = of_a.first; b = of_b.first; verdict = word.first } in
+      let same : made ≡ v = same_value made v word.rest in
+      let names : NamesRecords (length a) (length b) made = record {
+        in_a = found_within _ (slice_index_or fields 0 []) a of_a.first of_a.is;
+        in_b = found_within _ (slice_index_or fields 1 []) b of_b.first of_b.is;
+      } in
+      subst (NamesRecords (length a) (length b)) same names
+
+  pub batch_names : (bytes : List ℕ) (batch : List NewVerdict) → verdicts_of a b bytes ≡ Ok batch → All (NamesRecords (length a) (length b)) batch
+  batch_names bytes batch told =
+      let table = went_on (table_of role.Verdicts verdicts_wanted (records_in 44 bytes)) (verdicts_read a b []) batch told in
+      all_hold (λ done number (row : TableRow). verdict_in a b number row.fields) (NamesRecords (length a) (length b))
+      (λ done number row v is. verdict_names number row.fields v is) [] table.first batch (All-nil (NamesRecords (length a) (length b))) table.rest
+
+-- the day of a row, and its reviewer
+dated_day : (done : List Entry) (number : ℕ) (text : List ℕ) (date : ℤ) → dated done number text ≡ Ok date → IsDay date × (is_not_before done date ≡ true)
+dated_day done number text date e =
+    let iso = went_on (or_fault (fault.BadDate number) (iso_day text)) _ date e in
+    let kept = passed_test (is_not_before done iso.first) (fault.DateBack role.Journal number) iso.first date iso.rest in
+    let day = iso_is_day text iso.first (found_is (fault.BadDate number) (iso_day text) iso.first iso.is) in
+    subst (λ z. IsDay z × (is_not_before done z ≡ true)) kept.1 (day, kept.0)
+
+named_is : (number : ℕ) (text name : List ℕ) → IsFieldText text → signed number text ≡ Ok name → IsReviewer name
+named_is number [] name is e = absurd (cc e)
+named_is number (byte ∷ bytes) name is e =
+    subst IsReviewer (same_value (byte ∷ bytes) name e) (record { some = omega arith; few = is.short; text = is.utf8 })
+
+-- a journal over two files, and an entry that may come next
+pub record IsJournalOver (a b : List Record) (entries : List Entry) : Type 0 where
+  pub journal : IsJournal entries
+  pub within : All (IsWithinFiles (length a) (length b)) entries
+
+pub record IsNextOver (a b : List Record) (done : List Entry) (e : Entry) : Type 0 where
+  pub follows : CanFollow done e
+  pub within : IsWithinFiles (length a) (length b) e
+
+module _ (a b : List Record) where
+  read_entry : (done : List Entry) (number : ℕ) (w : Written) (e : Entry) → IsFieldText w.reviewer → entry_in a b done number w ≡ Ok e → IsNextOver a b done e
+  read_entry done number w e text told =
+      let numbered_is = went_on (numbered number w.number) _ e told in
+      let dated_is = went_on (dated done number w.date) _ e numbered_is.rest in
+      let signed_is = went_on (signed number w.reviewer) _ e dated_is.rest in
+      let placed_is = went_on (placed a b number w) _ e signed_is.rest in
+      let verdict_is = went_on (or_fault (fault.BadVerdict role.Journal number) (verdict_named w.verdict)) _ e placed_is.rest in
+      let step_is = went_on (or_fault (fault.BadStep number) (step_named w.step)) _ e verdict_is.rest in
+      let entry : Entry = record { date = dated_is.first; reviewer = signed_is.first; step = step_is.first; a = placed_is.first.a; b = placed_is.first.b; verdict = verdict_is.first } in
+      let fits = passed_test (fits_after done entry) (fault.BadStep number) entry e step_is.rest in
+      let day = dated_day done number w.date dated_is.first dated_is.is in
+      let at = placed_within a b number w placed_is.first placed_is.is in
+      let next : IsNextOver a b done entry = record {
+        follows = record { day = day.0; not_back = day.1; reviewer = named_is number w.reviewer signed_is.first text signed_is.is; fits = fits.0 };
+        within = record { of_a = at.0; of_b = at.1 };
+      } in
+      subst (IsNextOver a b done) {x = entry} {y = e} fits.1 next
+
+  pub one_over : (done : List Entry) (e : Entry) → length done < MOST_ENTRIES → IsJournalOver a b done → IsNextOver a b done e → IsJournalOver a b (done ++ e ∷ [])
+  one_over done e room is next = record {
+    journal = journal_push done e is.journal room next.follows.day next.follows.not_back next.follows.reviewer next.follows.fits;
+    within = All-push (IsWithinFiles (length a) (length b)) done e is.within next.within;
+  }
+
+  none_over : IsJournalOver a b []
+  none_over = record {
+    journal = record {
+      few = omega arith;
+      days = All-nil (λ (e : Entry). IsDay e.date);
+      dates = λ i j d lt le. absurd (omega arith);
+      reviewers = All-nil (λ (e : Entry). IsReviewer e.reviewer);
+      steps = refl;
+    };
+    within = All-nil (IsWithinFiles (length a) (length b));
+  }
+
+  reviewer_text : (second : Bool) (fields : List (List ℕ)) → All IsFieldText fields → IsFieldText (written_in second fields).reviewer
+  reviewer_text true fields texts = text_at fields 2 texts
+  reviewer_text false fields texts = text_at fields 2 texts
+
+  all_over : (second : Bool) (done : List Entry) (rows : List TableRow) (es : List Entry) → length done + length rows ≤ MOST_ENTRIES → HasTexts rows → IsJournalOver a b done
+      → entries_read second a b done rows ≡ Ok es → IsJournalOver a b es
+  all_over second done [] es few texts is told = subst (IsJournalOver a b) (same_value done es told) is
+  all_over second done (row ∷ rows) es few texts is told =
+      let w = went_on (entry_in a b done (length done + 1) (written_in second row.fields)) (λ e. entries_read second a b (done ++ e ∷ []) rows) es told in
+      let first : IsTextRow row = texts 0 row (omega arith) in
+      let next = read_entry done (length done + 1) (written_in second row.fields) w.first (reviewer_text second row.fields first.fields) w.is in
+      all_over second (done ++ w.first ∷ []) rows es (omega (arith, length-append done (w.first ∷ []))) (All-tail IsTextRow row rows texts) (one_over done w.first (omega arith) is next) w.rest
+
+  under_over : (second : Bool) (records : List (List (List ℕ))) (entries : List Entry) → journal_under second a b records ≡ Ok entries → IsJournalOver a b entries
+  under_over second records entries told =
+      let table = went_on (table_of role.Journal (journal_wanted second) records) (entries_read second a b []) entries told in
+      let facts = table_facts role.Journal (journal_wanted second) records table.first table.is in
+      let few = table_few role.Journal (journal_wanted second) records table.first table.is in
+      all_over second [] table.first entries (omega (arith, few)) facts.0 none_over table.rest
+
+  pub journal_over : (bytes : List ℕ) (entries : List Entry) → journal_in a b bytes ≡ Ok entries → IsJournalOver a b entries
+  journal_over [] entries told = subst (IsJournalOver a b) (same_value [] entries told) none_over
+  journal_over (byte ∷ bytes) entries told = under_over (header_has (codes "step") (records_in 44 (byte ∷ bytes))) (records_in 44 (byte ∷ bytes)) entries told
