@@ -28,3 +28,7 @@ LimitsOfSettings = (MOST_LETTERS ≡ 20) × (MOST_DAYS ≡ 36500) × (MOST_YEARS
 -- words that `keys` takes, and lines of the report that `generate` prints
 abbrev pub LimitsOfCommands : Type 0
 LimitsOfCommands = (MOST_LISTED ≡ 100) × (HEAD_LINES ≡ 16)
+
+-- the limits of the product
+abbrev pub TheLimits : Type 0
+TheLimits = LimitsOfFiles × LimitsOfRuns × LimitsOfRules × LimitsOfLists × LimitsOfSettings × LimitsOfCommands

@@ -7,8 +7,10 @@ ghost use Rattle.link_shell.specs.AfterRun.{ProvedByRun, YesWhereProved};
 ghost use Rattle.link_shell.specs.Commands.{command_of, settings_command_of};
 ghost use Rattle.link_shell.specs.Headline.{Headline};
 ghost use Rattle.link_shell.specs.KeptVerdicts.{NoVerdictLost};
+ghost use Rattle.link_shell.specs.Limits.{TheLimits};
 ghost use Rattle.link_shell.specs.Linked.{Follows, Performed, Reported};
 
+use crate::limits::limits_are_these;
 use crate::words::settings_after;
 use crate::{
     duplicates_settings, frontier_settings, generate, keys, many_settings, migrate_settings,
@@ -134,7 +136,8 @@ fn report<E: Sink>(alloc: Global, answer: &Result<Ended, Fault>, err: &mut E) ->
 /// pairs; and one-to-one links, each by rule or review, of greatest total weight, awards of review included, with prices that
 /// certify it (clause `headline`). What it writes is verified: after it `verify` with the same settings file says yes where nothing
 /// outside fails and memory is there (clauses `proved_by_run` and `yes_where_proved`). No verdict is lost: the journal that `review` or
-/// `migrate` leaves loads as the entries that it had, followed by one for each new verdict (clause `no_verdict_lost`).
+/// `migrate` leaves loads as the entries that it had, followed by one for each new verdict (clause `no_verdict_lost`). Each limit is
+/// the number that users are told (clause `limits`).
 pub fn linkage<S: Store, O: Sink, E: Sink>(
     alloc: Global,
     words: &[String],
@@ -149,9 +152,11 @@ pub fn linkage<S: Store, O: Sink, E: Sink>(
     ensures proved_by_run { ProvedByRun (map string_bytes words.now) (store_seen S.tells S.held S.faults store.old store.new) result }
     ensures yes_where_proved { YesWhereProved (map string_bytes words.now) (store_seen S.tells S.held S.faults store.old store.new) (sink_seen O.tells O.taken O.faults out.old out.new) result }
     ensures no_verdict_lost { NoVerdictLost (map string_bytes words.now) (store_seen S.tells S.held S.faults store.old store.new) result }
+    ensures limits { TheLimits }
 {
     run_is_verified();
     no_verdict_is_lost();
+    limits_are_these();
     let answer = perform(alloc, words, store, out);
     let status = report(alloc, &answer, err);
     drop(answer);

@@ -19,3 +19,6 @@ pub returns-clause-no_verdict_lost : goal.returns-clause-no_verdict_lost
 returns-clause-no_verdict_lost g c =
     no_verdict_lost c.no_verdict_is_lost.ensures.reviewed c.no_verdict_is_lost.ensures.migrated _ _ _ _ c.perform-answer.result _
     (All-map IsUtf8 string_bytes c.args.words.now (λ k d within. IsUtf8-string_bytes _)) c.perform-answer.ensures c.report-status.ensures
+
+pub returns-clause-limits : goal.returns-clause-limits
+returns-clause-limits g c = c.limits_are_these.ensures
