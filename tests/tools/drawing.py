@@ -120,11 +120,18 @@ def check_sample(tally: Tally, bench: Bench) -> None:
         (folder / "back.csv").write_bytes(data)
         _, text, said = bench.tool(folder, "sheet", "settings.toml", "--back", "back.csv", "--drawn", "drawn.csv")
         tally.judge(f"sheet: a sample comes back: {name}", rows_of(text)[1:] if text else said, wanted)
+    count = sum(status == "matched" for _, _, status in wanted)
+    few = f"sheet: only {count} matched pairs: below 100 the guessed shares may serve better; draw more records"
+    tally.judge("sheet: says that a sample has few matched pairs", (count < 100, said.splitlines()[1:]), (True, [few]))
     (folder / "sample.csv").write_text(text, encoding="utf-8")
     settings = [line for line in (folder / "settings.toml").read_text(encoding="utf-8").splitlines() if line[:4] not in ("m = ", "u = ")]
     (folder / "counted.toml").write_text("\n".join(['sample = "sample.csv"', *settings]), encoding="utf-8")
     tally.judge("sheet: the program takes the sample", bench.linkage(folder, "rule", "counted.toml").count("\n"), 1 + 4 * 3**5)
     check_lost(tally, bench, folder, rows, drawn)
+    table = [["id_a", "id_b", "status"], *([*pair, "m"] for pair in sorted(truth)[:100])]
+    (folder / "back.csv").write_text(text_of(table), encoding="utf-8")
+    said = bench.tool(folder, "sheet", "settings.toml", "--back", "back.csv")[2]
+    tally.judge("sheet: says nothing of a hundred matched pairs", said, "sheet: 100 matched pairs, 0 unmatched ones\n")
 
 
 def check_lost(tally: Tally, bench: Bench, folder: Path, rows: list[list[str]], drawn: list[list[str]]) -> None:
@@ -169,11 +176,40 @@ def check_verdicts(tally: Tally, bench: Bench) -> None:
     tally.judge("sheet: `review` takes the verdicts", last, "4,2024-03-06,ana,single,A4,B3,nonlink")
 
 
+def check_shown(tally: Tally, bench: Bench) -> None:
+    """All columns but the ids, unless asked otherwise, and which pairs in which order, by what `open` prints and the links."""
+    folder = bench.register()
+    header = {words: rows_of(bench.tool(folder, "sheet", "settings.toml", *words)[1])[0] for words in ((), ("--compared",))}
+    compared = ["A surname", "B last_name", "A given", "B first_name", "A birth", "B born", "A birthplace", "B born_in", "A sex", "B sex"]
+    tally.judge("sheet: the compared columns alone, where asked for", header["--compared",], ["verdict", "id_a", "id_b", *compared])
+    tally.judge("sheet: all columns but the ids", header[()], ["verdict", "id_a", "id_b", *compared, "A town", "B place"])
+    waiting = [(a, b, int(weight)) for a, b, _, weight in rows_of(bench.linkage(folder, "open", "settings.toml"))[1:]]
+    by_weight = sorted(waiting, key=lambda it: -it[2])
+    linked = [row[:2] for row in rows_of((folder / "links.csv").read_text(encoding="utf-8"))[1:]]
+    taken_a, taken_b = {a for a, _ in linked}, {b for _, b in linked}
+    free = [it for it in by_weight if it[0] not in taken_a and it[1] not in taken_b]
+    cases = {"": by_weight, "--order given": waiting, "--unlinked --most 9": free[:9], "--most 5 --order given": waiting[:5],
+             "--most 0": []}
+    for given, wanted in cases.items():
+        _, text, said = bench.tool(folder, "sheet", "settings.toml", "--weight", *given.split())
+        rows = [(restored(row[1]), restored(row[2]), int(row[3])) for row in rows_of(text)[1:]]
+        tally.judge(f"sheet: which pairs in which order: {given or 'all that wait'}", rows, wanted)
+        if given == "--unlinked --most 9":
+            told = [f"sheet: {len(waiting) - len(free)} pairs are left out of which a record has a link",
+                    f"sheet: {len(free) - 9} pairs are left out, for 9 are asked for, the greatest weights first",
+                    "sheet: 9 pairs to be reviewed"]
+            tally.judge("sheet: says what it left out", (len(free) > 9, said.splitlines()), (True, told))
+    lines = (folder / "a.csv").read_text(encoding="utf-8").splitlines()
+    (folder / "a.csv").write_text("".join(f"{line},{'town' if at == 0 else 'x'}\n" for at, line in enumerate(lines)), encoding="utf-8")
+    header, row = rows_of(bench.tool(folder, "sheet", "settings.toml", "--most", "1")[1])
+    tally.judge("sheet: a column that nobody needs may stand twice", (header[-3:], row[-2]), (["A town", "A town", "B place"], "x"))
+
+
 def check_hostile(tally: Tally, bench: Bench) -> None:
     """Ids and values that a spreadsheet would change: no cell is a formula, and all come back as they went."""
     folder = bench.hostile()
     wanted = sorted([a, b, "nonlink"] for a in HOSTILE for b in HOSTILE)
-    _, text, _ = bench.tool(folder, "sheet", "settings.toml", "--all", "--delimiter", "semicolon")
+    _, text, _ = bench.tool(folder, "sheet", "settings.toml", "--delimiter", "semicolon")
     header, *rows = rows_of(text, ";")
     risky = [cell for row in rows for cell in row if cell and cell.lstrip()[:1] in tuple("=+-@0123456789")]
     tally.judge("sheet: no cell is a formula or a number", (len(rows), risky), (len(HOSTILE) ** 2, []))
@@ -200,4 +236,5 @@ def check(tally: Tally, bench: Bench) -> None:
     if asks(tally, "sheet"):
         check_sample(tally, bench)
         check_verdicts(tally, bench)
+        check_shown(tally, bench)
         check_hostile(tally, bench)

@@ -13,12 +13,12 @@ stops early has a sample all the same. The same words on the same files give the
 """
 
 import random
-from argparse import ArgumentTypeError, Namespace
+from argparse import Namespace
 from pathlib import Path
 
 from .job import Job, Pair
 from .tables import Fault, written
-from .words import Words, give, start, tell
+from .words import Words, count_of, give, start, tell
 
 HEADER = ["id_a", "id_b", "drawn", "status"]
 MOST_ROWS = 100_000  # of a file `sample`
@@ -100,13 +100,6 @@ def drawn(job: Job, words: Namespace) -> tuple[list[Row], list[str]]:
         near, said = of_records(job, job.compared(), words.records, words.seed)
         return [(a, b, "cluster", "") for a, b in near], [said]
     return crossed(job, words.records, words.random, words.seed)
-
-
-def count_of(text: str) -> int:
-    """A whole number of the command line. ArgumentTypeError: it is none, or negative."""
-    if not (text.isascii() and text.isdecimal()):
-        raise ArgumentTypeError(f"{text!r} is no whole number")
-    return int(text)
 
 
 def tool(given: list[str]) -> None:

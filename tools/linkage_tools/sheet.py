@@ -1,33 +1,39 @@
 """Shows pairs to people in a spreadsheet, both records side by side, and reads what comes back.
 
   sheet SETTINGS                       the possible links that wait (`linkage open`), with an empty column `verdict`
+  sheet SETTINGS --unlinked --most N   of these the N of greatest weight of which neither record has a link
   sheet SETTINGS PAIRS                 the pairs of a file: what `draw` wrote, or what `linkage open` printed
   sheet SETTINGS --back FILE           verdicts for `linkage review`, or, where FILE has a column `status`, a sample
   sheet SETTINGS --back FILE --drawn D the sample of D, which `draw` wrote, with the statuses of FILE
 
-The columns are those that are compared, as they stand in the two files: `A surname` beside `B last_name`. Pairs that need no look (a
-status stands there already) are not shown. The weight is shown by --weight alone, for people are to decide without it.
+The columns are those that are compared, as they stand in the two files, `A surname` beside `B last_name`, and behind them all others but
+the ids, for people are to decide with all that is known; --compared leaves these out. Pairs that need no look (a status stands there
+already) are not shown. The weight is shown by --weight alone, for people are to decide without it. What waits stands by weight, the
+greatest first, the pairs of a file as they stand there, since `draw` drew them in that order; --order says otherwise.
 
 A spreadsheet takes some cells for formulas, numbers or dates, and changes them: 007 becomes 7. So a cell that begins with = + - @, an
 apostrophe or a digit, and an id that it might take for a date, has an apostrophe in front; on the way back it is taken off again.
 What comes back may have commas, semicolons or tabs, any order of columns and rows, columns of your own; in UTF-8, UTF-16 or Windows-1252.
 A row without a verdict is left out; one without a status is refused, or left out with --undecided.
 In a sample that was drawn by records and at random, the unmatched pairs of the records are left out, for u is that of the random ones.
+A sample of fewer than 100 matched pairs is made, and a line says that guessed shares may serve better.
 """
 
 import re
 from argparse import Namespace
 from pathlib import Path
+from typing import NamedTuple
 
-from .job import OUTPUTS, STATUSES, VERDICTS, Job, Pair
+from .job import OUTPUTS, STATUSES, VERDICTS, Job, Pair, whole
 from .tables import Fault, Table, load, read_table, records, shown, written
-from .words import Words, give, start, tell
+from .words import Words, count_of, give, start, tell
 from .writing import SIGNS, written_of
 
 RISKY = re.compile(r"[\s]*['=+\-@0-9.,(%\t\r]|(?:true|false)\Z|[^\W\d_]{3,9}[ .-]?\d{1,4}\Z", re.IGNORECASE)
 # Of a sample drawn by records and at random: `u` is that of the random pairs, `m` that of the records.
 LEFT_OUT = (("record", "unmatched"), ("random", "matched"))
 WORDS_OF = {"status": STATUSES, "verdict": VERDICTS}
+LEAST_MATCHED = 100  # matched pairs of a sample, below which guessed shares may serve better: docs/SETTINGS.md, How large
 
 
 def guarded(cell: str) -> str:
@@ -43,61 +49,82 @@ def restored(cell: str) -> str:
 # Out.
 
 
-def columns(job: Job, is_all: bool) -> list[tuple[str, str]]:
-    """Side and name of the columns to show: those of each field side by side, and, if asked for, all others after them."""
-    found = [(side, field.columns[side]) for field in job.settings.fields for side in "ab"]
+class Shown(NamedTuple):
+    """A pair to be reviewed, and its weight in eighths of a bit where that is known."""
+
+    pair: Pair
+    weight: int | None
+
+
+def columns(job: Job, is_all: bool) -> list[tuple[str, int]]:
+    """Side and place of the columns to show: those of each field side by side, and, if asked for, all others but the ids after them."""
+    tables = {side: getattr(job, side).table for side in "ab"}
+    found = [(side, tables[side].place(field.columns[side])) for field in job.settings.fields for side in "ab"]
     if is_all:
-        found += [(side, name) for side in "ab" for name in job.records_of(side).table.header if name != job.settings.ids[side]]
+        ids = [(side, tables[side].place(job.settings.ids[side])) for side in "ab"]
+        found += [it for side in "ab" for it in ((side, at) for at in range(len(tables[side].header))) if it not in ids]
     return list(dict.fromkeys(found))
 
 
 def shown_rows(job: Job, pairs: list[Pair], is_all: bool) -> tuple[list[str], list[list[str]]]:
     """The header of the shown columns, and for each pair the cells of both records."""
-    asked = columns(job, is_all)
     sides = {"a": (job.a, 0), "b": (job.b, 1)}
-    places = [(*sides[side], sides[side][0].table.place(name)) for side, name in asked]
+    places = [(*sides[side], at) for side, at in columns(job, is_all)]
     rows = [[shown(side.row(pair[which])[at]) for side, which, at in places] for pair in pairs]
-    return [f"{side.upper()} {name}" for side, name in asked], rows
+    return [f"{'AB'[which]} {side.table.header[at]}" for side, which, at in places], rows
 
 
-def pairs_shown(job: Job, words: Namespace) -> tuple[str, list[Pair], list[str], int]:
-    """Whether a status or a verdict is wanted, the pairs, the weight of each or nothing, and how many need no look."""
+def pairs_shown(job: Job, words: Namespace) -> tuple[str, list[Shown], int]:
+    """Whether a status or a verdict is wanted, the pairs, and how many need no look. Fault: of the file of pairs."""
     if words.pairs is None:
-        rows = [(it.pair, str(it.weight)) for it in job.open()]
-        return "verdict", [pair for pair, _ in rows], [weight for _, weight in rows], 0
+        return "verdict", [Shown(it.pair, it.weight) for it in job.open()], 0
     table = read_table(words.pairs)
     kind = "status" if "status" in table.header else "verdict"
-    weights = [cell for cell, in table.cells(["weight"])] if "weight" in table.header else [""] * len(table.rows)
+    cells = [cell for cell, in table.cells(["weight"])] if "weight" in table.header else [""] * len(table.rows)
+    weights = [whole(table.name, number, cell) if cell else None for number, cell in enumerate(cells, 1)]
     done = [cell for cell, in table.cells([kind])] if kind in table.header else [""] * len(table.rows)
     pairs = [job.known(table.name, number, pair) for number, pair in enumerate(table.cells(["id_a", "id_b"]), 1)]
-    kept = [at for at, cell in enumerate(done) if not cell]
-    return kind, [pairs[at] for at in kept], [weights[at] for at in kept], len(pairs) - len(kept)
+    kept = [Shown(pair, weight) for pair, weight, cell in zip(pairs, weights, done) if not cell]
+    return kind, kept, len(pairs) - len(kept)
 
 
-def unlinked(job: Job, pairs: list[Pair]) -> list[bool]:
-    """Of each pair whether neither record has a link in links.csv. Fault: the written files are not of now."""
+def unlinked(job: Job, found: list[Shown]) -> list[Shown]:
+    """Those pairs of which neither record has a link in links.csv; it says how many others there are.
+
+    Fault: the written files are not of now.
+    """
     job.must_be_of_now()
     links = [it.pair for it in job.links()]
     taken_a, taken_b = {a for a, _ in links}, {b for _, b in links}
-    return [a not in taken_a and b not in taken_b for a, b in pairs]
+    kept = [it for it in found if it.pair[0] not in taken_a and it.pair[1] not in taken_b]
+    tell("sheet", f"{len(found) - len(kept)} pairs are left out of which a record has a link")
+    return kept
+
+
+def first_of(found: list[Shown], words: Namespace) -> list[Shown]:
+    """The pairs in the order that is asked for, and as many of them; it says how many others there are."""
+    order = words.order or ("given" if words.pairs else "weight")
+    if order == "weight":
+        found = sorted(found, key=lambda it: -it.weight)
+    kept = found if words.most is None else found[:words.most]
+    if len(kept) < len(found):
+        tell("sheet", f"{len(found) - len(kept)} pairs are left out, for {words.most} are asked for"
+             + (", the greatest weights first" if order == "weight" else ""))
+    return kept
 
 
 def out(job: Job, words: Namespace) -> None:
     """Writes the sheet, and says what is in it."""
-    kind, pairs, weights, done = pairs_shown(job, words)
-    if words.unlinked:
-        is_first = unlinked(job, pairs)
-        pairs, weights = ([it for it, is_kept in zip(them, is_first) if is_kept] for them in (pairs, weights))
-        tell("sheet", f"{len(is_first) - len(pairs)} pairs are left out of which a record has a link")
-    if words.weight and not all(weights):
+    kind, found, done = pairs_shown(job, words)
+    if (words.weight or words.order == "weight") and any(it.weight is None for it in found):
         raise Fault(f"{words.pairs}: no column weight")
-    header, rows = shown_rows(job, pairs, words.all)
-    more = ["weight"] if words.weight else []
-    table = [[kind, "id_a", "id_b", *more, *map(guarded, header)]]
-    for pair, weight, cells in zip(pairs, weights, rows):
-        table.append(["", *map(guarded, pair), *([weight] if words.weight else []), *map(guarded, cells)])
+    found = first_of(unlinked(job, found) if words.unlinked else found, words)
+    header, rows = shown_rows(job, [it.pair for it in found], not words.compared)
+    table = [[kind, "id_a", "id_b", *(["weight"] if words.weight else []), *map(guarded, header)]]
+    for it, cells in zip(found, rows):
+        table.append(["", *map(guarded, it.pair), *([str(it.weight)] if words.weight else []), *map(guarded, cells)])
     give(written(table, words.delimiter), words.out, with_mark=True)
-    tell("sheet", f"{len(pairs)} pairs to be reviewed" + (f"; {done} need no look" if done else ""))
+    tell("sheet", f"{len(found)} pairs to be reviewed" + (f"; {done} need no look" if done else ""))
 
 
 # Back.
@@ -180,6 +207,9 @@ def sample_back(job: Job, words: Namespace, said: dict[Pair, str]) -> list[list[
     tell("sheet", f"{count['matched']} matched pairs, {count['unmatched']} unmatched ones"
          + (f"; left out: {near} unmatched ones of the records, {far} matched ones at random" if near or far else "")
          + (f"; {len(empty)} undecided" if empty else ""))
+    if count["matched"] < LEAST_MATCHED:
+        few = f"only {count['matched']} matched pairs: below {LEAST_MATCHED} the guessed shares may serve better"
+        tell("sheet", f"{few}; draw more records")
     return [["id_a", "id_b", "status"], *([*pair, status] for pair, _, status in kept)]
 
 
@@ -204,9 +234,11 @@ def tool(given: list[str]) -> None:
     parser.add_argument("settings", help="the settings of the job; run where the program runs")
     parser.add_argument("pairs", nargs="?", type=Path, help="a file of pairs; else what `linkage open` prints")
     parser.add_argument("-o", "--out", type=Path, metavar="FILE", help="the new file; else it is printed")
-    parser.add_argument("--all", action="store_true", help="show all columns of both files")
+    parser.add_argument("--compared", action="store_true", help="show only the columns that are compared")
     parser.add_argument("--weight", action="store_true", help="show the weight, in eighths of a bit")
     parser.add_argument("--unlinked", action="store_true", help="only the pairs of which neither record has a link in links.csv")
+    parser.add_argument("--most", type=count_of, metavar="N", help="at most so many pairs, the first of the order")
+    parser.add_argument("--order", choices=["weight", "given"], help="by weight, the greatest first, or as they were given")
     parser.add_argument("--delimiter", choices=[name for name in SIGNS.values() if name != "bar"], default="comma")
     parser.add_argument("--back", type=Path, metavar="FILE", help="what came back from the spreadsheet")
     parser.add_argument("--drawn", type=Path, metavar="D", help="with --back: the file of `draw` that the sheet was made of")

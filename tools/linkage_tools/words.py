@@ -19,6 +19,13 @@ class Words(argparse.ArgumentParser):
         raise Fault(f"{message}; see {self.prog} -h", 2)
 
 
+def count_of(text: str) -> int:
+    """A whole number of the command line. ArgumentTypeError: it is none, or negative."""
+    if not (text.isascii() and text.isdecimal()):
+        raise argparse.ArgumentTypeError(f"{text!r} is no whole number")
+    return int(text)
+
+
 def give(text: str, path: Path | None, with_mark: bool = False) -> None:
     """Writes a text in UTF-8 into a new file, with a byte order mark where a spreadsheet is to read it; without a file it is printed."""
     data = text.encode("utf-8", "surrogateescape")
