@@ -157,15 +157,13 @@ class Runner:
             elif item.word == "fresh":
                 self.fresh(item.rest)
             elif item.word == "draws":
-                self.draws(item.rest.split())
+                self.draws(*item.rest.split(maxsplit=1))
             else:
                 note = item
 
-    def draws(self, names: list[str]) -> None:
-        """Draws pictures from the files of the folder, which must be those of docs/pictures."""
-        for name in names:
-            drawn = self.run(f"{sys.executable} {ROOT}/docs/pictures/draw {name} .")
-            self.judge(f"docs/pictures/{name}", drawn, read(f"docs/pictures/{name}").splitlines())
+    def draws(self, name: str, command: str) -> None:
+        """Draws a picture by a command in the folder; it must be that of docs/pictures, byte for byte."""
+        self.judge(f"docs/pictures/{name} $ {command}", self.run(command), read(f"docs/pictures/{name}").splitlines())
 
     def provoked(self, rows: list[list[str]]) -> list[str]:
         """Runs each example of a fault on a fresh copy of the worked example, and gives the lines that were provoked."""

@@ -7,12 +7,19 @@ from jobs import Bench, asks, rows_of
 from linkage_tools import picture
 from linkage_tools.job import Job
 from linkage_tools.picture import PICTURES, blocks_of
-from tally import Tally
+from linkage_tools.rule_pictures import groups
+from linkage_tools.rule_pictures import rows_of as rows_of_group
+from linkage_tools.svg import LINK, NONLINK, POSSIBLE
+from tally import ROOT, Tally
 
 WIDTHS = 0.62  # of a letter, in heights: as wide as a sans-serif letter is in the mean, and a little more
 REFUSES = {
     "s.toml": (2, "picture: the following arguments are required: picture; see picture -h"),
-    "s.toml cake": (2, "picture: argument picture: invalid choice: 'cake' (choose from 'weights', 'levels', 'passes'); see picture -h"),
+    "s.toml cake": (2, "picture: argument picture: invalid choice: 'cake' (choose from 'weights', 'levels', 'passes', 'patterns', "
+                       "'frontier', 'choice'); see picture -h"),
+    "s.toml weights --levels 1": (2, "picture: --levels goes with frontier; see picture -h"),
+    "s.toml frontier --levels x": (2, "picture: argument --levels: 'x' is no whole number; see picture -h"),
+    "s.toml frontier --levels 1000001": (2, "picture: --levels are at most 1000000; see picture -h"),
     "nosuch.toml weights": (1, "picture: linkage: store: nosuch.toml"),
     "nosuch.toml passes": (1, "picture: nosuch.toml: No such file or directory"),
     "s.toml weights -o a.csv": (1, "picture: a.csv: is there already; name a new file"),
@@ -63,6 +70,32 @@ def check_example(tally: Tally, bench: Bench) -> None:
                 (1, "", True))
 
 
+# The pictures of the manual, and the words that draw them from the worked example.
+MANUAL = {"weights.svg": "patterns", "frontier.svg": "frontier --levels 0 1 10 40 100 400 1000 4000 10000 40000 100000",
+          "assignment.svg": "choice"}
+
+
+def check_manual(tally: Tally, bench: Bench) -> None:
+    """The manual's pictures are what the tool draws, byte for byte; what they count is told by hand from the example's pages."""
+    folder = bench.example()
+    drawn = {name: bench.tool(folder, "picture", "s.toml", *words.split())[1] for name, words in MANUAL.items()}
+    for name, text in drawn.items():
+        tally.judge(f"picture: docs/pictures/{name}, byte for byte", (ROOT / "docs/pictures" / name).read_bytes() == text.encode(), True)
+        tally.judge(f"picture: docs/pictures/{name}: no words cover others", covered(text), [])
+    titles = {"weights.svg": "4 of 27 patterns are links, 11 go to review, 10 are non-links, 2 by lot",
+              "frontier.svg": "Of 1,000 matched pairs 998 wait for review at mu_ppm 0, 177 at 40, 0 at 100,000",
+              "assignment.svg": "6 of 7 candidates are links, 1 dropped"}
+    tally.judge("picture: titles of the manual's pictures", {name: words_of(text)[0] for name, text in drawn.items()}, titles)
+    values = [words for words in words_of(drawn["assignment.svg"])[1:] if words.isdecimal()]
+    tally.judge("picture: choice: the values of the candidates, by hand", sorted(values), ["157", "167", "167", "167", "169", "93", "95"])
+    grey = lambda fill: sum(share * int(fill[at:at + 2], 16) for share, at in ((0.2126, 1), (0.7152, 3), (0.0722, 5)))
+    greys = [grey(fill) for fill in (LINK, POSSIBLE, NONLINK)]
+    tally.judge("picture: the three colours are apart in grey", [b - a > 50 for a, b in zip(greys, greys[1:])], [True, True])
+    pairs = [("a", "x"), ("c", "z"), ("b", "y"), ("b", "x")]
+    tally.judge("picture: choice: groups and their rows, by hand", [rows_of_group(it, {("a", "x"), ("c", "z")}) for it in groups(pairs)],
+                [[("a", "x"), ("b", None), (None, "y")], [("c", "z")]])
+
+
 def check_register(tally: Tally, bench: Bench) -> None:
     """On the made register: the counts are the program's, and no words cover others."""
     folder = bench.register()
@@ -92,4 +125,5 @@ def check(tally: Tally, bench: Bench) -> None:
     """What is asked for of the tool."""
     if asks(tally, "picture"):
         check_example(tally, bench)
+        check_manual(tally, bench)
         check_register(tally, bench)

@@ -3,12 +3,17 @@
   picture SETTINGS weights      how many compared pairs have which weight, by decision: links, possible links, non-links
   picture SETTINGS levels       for each asked level of links: expected wrong links by the rule, and how many pairs go to review
   picture SETTINGS passes       what each pass compares: its pairs, those that no other pass finds, and how large its blocks are
+  picture SETTINGS patterns     the rule: each comparison pattern with its weight, its decision and its compared pairs
+  picture SETTINGS frontier     for each asked level of links what waits for review of 1,000 matched and of 1,000 unmatched pairs
+  picture SETTINGS choice       the candidates as lines between their records, with values and prices: links, and what was dropped
 
 `weights` reads pairs.csv. `levels` asks `linkage rule` at each level, and counts the compared pairs of pairs.csv under it: a pattern of
 which a third goes to review counts with a third of its pairs. Expected wrong links are the attained level, as `linkage frontier` prints
 it, times the unmatched pairs of which the shares u speak (all of A x B, or the compared ones: `fit -h` says how that is told). They are
 those of the shares, the fields taken as independent: expect more. `passes` asks `linkage pairs` with each pass alone. A block is what
-shares one key: its pairs are all pairs of its records of A and of B.
+shares one key: its pairs are all pairs of its records of A and of B. `frontier` asks `linkage frontier` for the levels named by --levels;
+`patterns` and `choice` read what `run` wrote. Of a rule of more than 60 patterns the first 60 that have pairs are drawn, and of a choice
+30 rows of records, those first of which a candidate is dropped.
 """
 
 import re
@@ -20,11 +25,12 @@ from math import ceil
 from pathlib import Path
 from typing import NamedTuple
 
+from . import rule_pictures
 from .fit import patterns
 from .job import RULE_HEADER, Cell, Job, Pair, cells_of
 from .svg import INK, LINK, NONLINK, POSSIBLE, QUIET, WIDTH, Picture, whole
 from .tables import MARK, Fault, load, records
-from .words import Words, give, start
+from .words import Words, count_of, give, start
 
 LADDER = [level * 10**power for power in range(6) for level in (1, 2, 5)]  # asked levels, in a million
 DECISIONS = {"link": ("links", LINK), "possible": ("possible links, for review", POSSIBLE), "nonlink": ("non-links", NONLINK)}
@@ -256,7 +262,8 @@ def block_bars(picture: Picture, y: float, counts: list[int], longest: int) -> f
     return y
 
 
-PICTURES = {"weights": weights, "levels": levels, "passes": passes}
+PICTURES = {"weights": weights, "levels": levels, "passes": passes, "patterns": rule_pictures.patterns,
+            "frontier": rule_pictures.frontier, "choice": rule_pictures.choice}
 
 
 def tool(given: list[str]) -> None:
@@ -264,9 +271,15 @@ def tool(given: list[str]) -> None:
     parser = Words("picture", __doc__)
     parser.add_argument("settings", help="the settings of the job; run where the program runs")
     parser.add_argument("picture", choices=PICTURES)
+    parser.add_argument("--levels", type=count_of, nargs="+", metavar="MU", help="of `frontier`: the asked levels, in a million")
     parser.add_argument("-o", "--out", type=Path, metavar="FILE", help="the new file, say weights.svg; else it is printed")
     words = parser.parse_args(given)
-    give(PICTURES[words.picture](Job(words.settings)).svg(), words.out)
+    if words.levels is not None and words.picture != "frontier":
+        raise Fault("--levels goes with frontier; see picture -h", 2)
+    if max(words.levels or [0]) > 1_000_000:
+        raise Fault("--levels are at most 1000000; see picture -h", 2)
+    more = [words.levels or []] if words.picture == "frontier" else []
+    give(PICTURES[words.picture](Job(words.settings), *more).svg(), words.out)
 
 
 if __name__ == "__main__":

@@ -3,7 +3,7 @@
 from html import escape
 
 INK, QUIET = "#1a1a1a", "#555555"
-LINK, POSSIBLE, NONLINK = "#1b5e20", "#d08700", "#8a8a8a"  # dark, middle and light in grey too
+LINK, POSSIBLE, NONLINK = "#1b5e20", "#c77c00", "#bbbbbb"  # dark, middle and light in grey too
 WIDTH = 860
 
 
@@ -24,14 +24,21 @@ class Picture:
         self.parts.append(f'<rect x="{x:.1f}" y="{y:.1f}" width="{max(width, 0):.1f}" height="{height:.1f}" fill="{fill}"/>')
         self.reaches(y + height)
 
-    def line(self, x1: float, y1: float, x2: float, y2: float, stroke: str = INK) -> None:
-        self.parts.append(f'<line x1="{x1:.1f}" y1="{y1:.1f}" x2="{x2:.1f}" y2="{y2:.1f}" stroke="{stroke}"/>')
+    def line(self, x1: float, y1: float, x2: float, y2: float, stroke: str = INK, width: float = 1, dashes: str = "") -> None:
+        more = (f' stroke-width="{width}"' if width != 1 else "") + (f' stroke-dasharray="{dashes}"' if dashes else "")
+        self.parts.append(f'<line x1="{x1:.1f}" y1="{y1:.1f}" x2="{x2:.1f}" y2="{y2:.1f}" stroke="{stroke}"{more}/>')
         self.reaches(max(y1, y2))
 
-    def text(self, x: float, y: float, words: str, anchor: str = "start", size: int = 13, fill: str = INK, bold: bool = False) -> None:
-        weight = ' font-weight="bold"' if bold else ""
+    def dot(self, x: float, y: float) -> None:
+        self.parts.append(f'<circle cx="{x:.1f}" cy="{y:.1f}" r="4" fill="{INK}"/>')
+        self.reaches(y + 4)
+
+    def text(self, x: float, y: float, words: str, anchor: str = "start", size: int = 13, fill: str = INK, bold: bool = False,
+             halo: bool = False) -> None:
+        """Words; with a halo they stand out from a line below them."""
+        more = (' font-weight="bold"' if bold else "") + (' stroke="#ffffff" stroke-width="5" paint-order="stroke"' if halo else "")
         place = f'x="{x:.1f}" y="{y:.1f}" text-anchor="{anchor}"'
-        self.parts.append(f'<text {place} font-size="{size}" fill="{fill}"{weight}>{escape(words)}</text>')
+        self.parts.append(f'<text {place} font-size="{size}" fill="{fill}"{more}>{escape(words)}</text>')
         self.reaches(y + 6)
 
     def svg(self) -> str:
