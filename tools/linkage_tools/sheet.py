@@ -223,7 +223,7 @@ def back(job: Job, words: Namespace) -> None:
         return
     given = {pair: verdict for pair, verdict in said.items() if verdict}
     tell("sheet", f"{len(given)} verdicts; {len(said) - len(given)} pairs have none yet")
-    if not given:
+    if said and not given:
         raise Fault(f"{words.back}: no verdict")
     give(written([["id_a", "id_b", "verdict"], *([*pair, verdict] for pair, verdict in given.items())]), words.out)
 
