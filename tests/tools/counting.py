@@ -1,6 +1,9 @@
-"""`shares` and `idle`: what stands behind a rule, and what of a journal counts no more."""
+"""`shares`, `idle` and `passes`: what stands behind a rule, what of a journal counts no more, what passes find and lose."""
 
-from jobs import Bench, asks, rows_of, with_sample
+from collections import Counter
+
+from jobs import Bench, asks, rows_of, truth_of, with_sample
+from linkage_tools.passes import missed
 from tally import Tally
 
 # By hand from the sample of the example: 6 matched pairs, 8 unmatched; docs/SETTINGS.md has the first line's counts.
@@ -84,9 +87,49 @@ def check_idle(tally: Tally, bench: Bench) -> None:
     tally.judge("idle: refuses a missing file", bench.tool(folder, "idle", "s.toml"), (1, "", "idle: linkage: store: links.csv\n"))
 
 
+# By hand from the files of the example: which surnames have one Soundex key, and which births one year.
+PASSES_HEAD = "pass,parts,pairs,alone\n"
+ALL_PASSES = (0, f"{PASSES_HEAD}1,surname soundex,9,4\n2,birth year,7,2\n", "passes: 11 pairs: 6 by one pass, 5 by two\n")
+OF_LINKS = (0, f"{PASSES_HEAD}1,surname soundex,5,1\n2,birth year,5,1\n", "passes: 6 pairs: 2 by one pass, 4 by two\n"
+            "passes: passes 1 and 2 find 5 and 5 pairs, 4 of them by both: 0.25 others are found by neither, 4 % of 6.25 "
+            "(Sekar and Deming 1949)\n")
+PASSES_REFUSES = {
+    "nosuch.toml": (1, "passes: nosuch.toml: No such file or directory"),
+    "s.toml nosuch.csv": (1, "passes: nosuch.csv: No such file or directory"),
+    "s.toml a.csv": (1, "passes: a.csv: no column id_a"),
+    "s.toml other.csv": (1, "passes: other.csv: row 1: unknown id_a"),
+}
+
+
+def check_passes(tally: Tally, bench: Bench) -> None:
+    """The example by hand; on the register the matched pairs that no pass finds, by its truth."""
+    folder = bench.example()
+    tally.judge("passes: of the example, by hand", bench.tool(folder, "passes", "s.toml"), ALL_PASSES)
+    tally.judge("passes: of its links, by hand", bench.tool(folder, "passes", "s.toml", "links.csv"), OF_LINKS)
+    (folder / "other.csv").write_text("id_a,id_b\nX,B1\n", encoding="utf-8")
+    tally.judge("passes: refusals", bench.refusals(folder, "passes", PASSES_REFUSES), PASSES_REFUSES)
+    given = [missed(Counter(it)) for it in ({1: 10, 2: 5}, {1: 3, 4: 5}, {4: 5})]
+    tally.judge("passes: found by none, by hand", given, ["at least 10.00 others are found by none (Chao 1987)", "none is found by two "
+                "passes, so how many are found by none cannot be guessed", None])
+    folder = bench.register()
+    truth, compared = truth_of(folder), {tuple(row) for row in rows_of(bench.linkage(folder, "pairs", "settings.toml"))[1:]}
+    rows = [[*pair, "matched"] for pair in sorted(truth)] + [[*pair, "unmatched"] for pair in sorted(compared - truth)]
+    (folder / "known.csv").write_text("".join(f"{','.join(it)}\n" for it in [["id_a", "id_b", "status"], *rows]), encoding="utf-8")
+    _, text, said = bench.tool(folder, "passes", "settings.toml", "known.csv")
+    front = f"passes: {len(truth)} pairs: {len(truth - compared)} by no pass, "
+    is_told = said.startswith(front), len(truth - compared) > 0
+    tally.judge("passes: matched pairs alone, and those that no pass finds", is_told, (True, True))
+    parts = [row[1] for row in rows_of(text)[1:]]
+    wanted = ["surname soundex + birth year", "birth whole", "surname soundex + given first 2", "given first 4 + birth year"]
+    told = [line.split(" find ")[0] for line in said.splitlines() if " find " in line]
+    tally.judge("passes: two without a field in common", (parts, told), (wanted, ["passes: passes 2 and 3"]))
+
+
 def check(tally: Tally, bench: Bench) -> None:
-    """What is asked for of both tools."""
+    """What is asked for of the tools."""
     if asks(tally, "shares"):
         check_shares(tally, bench)
     if asks(tally, "idle"):
         check_idle(tally, bench)
+    if asks(tally, "passes"):
+        check_passes(tally, bench)

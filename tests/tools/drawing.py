@@ -13,7 +13,7 @@ from tally import Tally
 EXAMPLE_SHEET = """verdict,id_a,id_b,A surname,B family,A given,B first,A birth,B dob
 ,A4,B3,Schmidt,Smith,Karl,Mary,'31/02/1980,'1990-05-01
 """
-WORDS = "say one of --compared N, --records N, --records N --random M, --links N; see draw -h"
+WORDS = ("say one of --compared N, --records N, --records N --random M, --links N, --unlinked-a N, --unlinked-b N; see draw -h")
 BACK_REFUSES = {
     "verdict,id_a,id_b\nlink,0007,7\n": "back.csv: row 1: unknown id_a '0007'; a spreadsheet may have changed '007'",
     "verdict,id_a,id_b\n,7,7\n": "back.csv: no verdict",
@@ -25,6 +25,7 @@ BACK_REFUSES = {
 DRAW_REFUSES = {
     "settings.toml --seed 1": (2, f"draw: {WORDS}"),
     "settings.toml --seed 1 --compared 3 --links 2": (2, f"draw: {WORDS}"),
+    "settings.toml --seed 1 --unlinked-a 1 --unlinked-b 1": (2, f"draw: {WORDS}"),
     "settings.toml --seed 1 --random 3": (2, "draw: --random goes with --records; see draw -h"),
     "settings.toml --seed 1 --compared 99999": (2, "draw: asked for 99999 of 446 compared pairs"),
     "settings.toml --seed 1 --records 401 --random 1": (2, "draw: asked for 401 of 400 records of A"),
@@ -78,7 +79,25 @@ def check_draw(tally: Tally, bench: Bench) -> None:
     _, text, _ = bench.tool(folder, "draw", "settings.toml", "--seed", "3", "--links", "20")
     links = {(*row[:2],) for row in rows_of((folder / "links.csv").read_text(encoding="utf-8"))}
     tally.judge("draw: links", ({(*row[:2],) for row in rows_of(text)[1:]} <= links, text.count(",link,\n")), (True, 20))
+    check_unlinked(tally, bench, folder, links)
     tally.judge("draw: refusals", bench.refusals(folder, "draw", DRAW_REFUSES), DRAW_REFUSES)
+
+
+def check_unlinked(tally: Tally, bench: Bench, folder: Path, links: set[tuple[str, str]]) -> None:
+    """Records without a link, of either side: all of them where all are asked for, and no more."""
+    for at, side in enumerate("ab"):
+        ids = [row[0] for row in rows_of((folder / f"{side}.csv").read_text(encoding="utf-8"), ",;"[at])[1:]]
+        left = [key for key in ids if key not in {pair[at] for pair in links}]
+        _, text, said = bench.tool(folder, "draw", "settings.toml", "--seed", "3", f"--unlinked-{side}", str(len(left)))
+        rows = rows_of(text)[1:]
+        what = f"records of {side.upper()} without a link"
+        given = sorted(row[at] for row in rows), {(row[1 - at], *row[2:]) for row in rows}
+        tally.judge(f"draw: {what}", given, (sorted(left), {("", "unlinked", "")}))
+        tally.judge(f"draw: says so of {side.upper()}", said.splitlines()[1],
+                    f"draw: {len(left)} of {len(left)} {what}, to be searched for in {'BA'[at]}")
+        given = bench.tool(folder, "draw", "settings.toml", "--seed", "3", f"--unlinked-{side}", str(len(left) + 1))
+        line = f"draw: asked for {len(left) + 1} of {len(left)} {what}\n"
+        tally.judge(f"draw: no more than there are of {side.upper()}", given, (2, "", line))
 
 
 def answered(text: str, truth: set[tuple[str, str]]) -> list[list[str]]:

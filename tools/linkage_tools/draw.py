@@ -4,9 +4,11 @@
   draw SETTINGS --seed S --records N              all compared pairs of N records of A: clusters
   draw SETTINGS --seed S --records N --random M   the same, and M pairs of all of A x B: crossed
   draw SETTINGS --seed S --links N                N of the links of links.csv: the check at the end
+  draw SETTINGS --seed S --unlinked-a N           N of the records of A without a link, to be searched for in B; --unlinked-b: the reverse
 
 It prints, or writes into a new file, a table with the columns id_a, id_b, drawn and status. `drawn` says why a pair is there: compared,
-cluster, record, random, both (the last two at once) or link. The status is empty where people must look, and `unmatched` at random
+cluster, record, random, both (the last two at once), link, or unlinked, where the id of the other file is empty: whoever finds the
+partner writes it there. The status is empty where people must look, and `unmatched` at random
 pairs that no pass compares. `sheet` shows the pairs to be reviewed, and `sheet --back` makes the sample of what comes back. On standard
 error it says what was drawn from how many. Pairs stand in the order in which they were drawn, those of one record together, so whoever
 stops early has a sample all the same. The same words on the same files give the same bytes.
@@ -84,11 +86,27 @@ def crossed(job: Job, records: int, count: int, seed: int) -> tuple[list[Row], l
     return rows, [said, f"{count} of {all_pairs} pairs of A x B: {look} are compared and to be reviewed, {count - look} taken as unmatched"]
 
 
+def unlinked(job: Job, side: str, count: int, seed: int) -> tuple[list[Row], list[str]]:
+    """Some records of a side without a link, and what was drawn. Fault: the written files are not of now."""
+    job.must_be_of_now()
+    taken = {it.pair["ab".index(side)] for it in job.links()}
+    ids = [key for key in getattr(job, side).ids if key not in taken]
+    what, other = f"records of {side.upper()} without a link", "BA"["ab".index(side)]
+    must_have(count, len(ids), what)
+    keys = [ids[at] for at in places(random.Random(f"{seed} unlinked {side}"), count, len(ids))]
+    rows = [(key, "", "unlinked", "") if side == "a" else ("", key, "unlinked", "") for key in keys]
+    return rows, [f"{count} of {len(ids)} {what}, to be searched for in {other}"]
+
+
 def drawn(job: Job, words: Namespace) -> tuple[list[Row], list[str]]:
     """The rows of the way that the words ask for, and what was drawn."""
     is_crossed = words.records is not None or words.random is not None
-    if is_crossed + (words.compared is not None) + (words.links is not None) != 1:
-        raise Fault("say one of --compared N, --records N, --records N --random M, --links N; see draw -h", 2)
+    if is_crossed + sum(it is not None for it in (words.compared, words.links, words.unlinked_a, words.unlinked_b)) != 1:
+        ways = "--compared N, --records N, --records N --random M, --links N, --unlinked-a N, --unlinked-b N"
+        raise Fault(f"say one of {ways}; see draw -h", 2)
+    for side, count in (("a", words.unlinked_a), ("b", words.unlinked_b)):
+        if count is not None:
+            return unlinked(job, side, count, words.seed)
     if words.compared is not None:
         return some_of(job.compared(), words.compared, words.seed, "compared", "compared pairs")
     if words.links is not None:
@@ -108,7 +126,8 @@ def tool(given: list[str]) -> None:
     parser.add_argument("settings", help="the settings of the job; run where the program runs")
     parser.add_argument("--seed", type=count_of, required=True, help="a whole number; choose it before you see results, and write it down")
     for name, what in (("compared", "of the compared pairs"), ("records", "of the records of A, with all their compared pairs"),
-                       ("random", "of all pairs of A x B"), ("links", "of the links that `run` wrote")):
+                       ("random", "of all pairs of A x B"), ("links", "of the links that `run` wrote"),
+                       ("unlinked-a", "of the records of A without a link"), ("unlinked-b", "of those of B")):
         parser.add_argument(f"--{name}", type=count_of, metavar="N", help=f"how many {what}")
     parser.add_argument("-o", "--out", type=Path, metavar="FILE", help="the new file; else it is printed")
     words = parser.parse_args(given)

@@ -17,10 +17,7 @@ shares one key: its pairs are all pairs of its records of A and of B. `frontier`
 """
 
 import re
-import tempfile
-import tomllib
 from collections import Counter
-from collections.abc import Callable
 from math import ceil
 from pathlib import Path
 from typing import NamedTuple
@@ -28,8 +25,9 @@ from typing import NamedTuple
 from . import rule_pictures
 from .fit import patterns
 from .job import RULE_HEADER, Cell, Job, Pair, cells_of
+from .passes import asked, changed, pairs_of_passes, words_of
 from .svg import INK, LINK, NONLINK, POSSIBLE, QUIET, WIDTH, Picture, whole
-from .tables import MARK, Fault, load, records
+from .tables import Fault
 from .words import Words, count_of, give, start
 
 LADDER = [level * 10**power for power in range(6) for level in (1, 2, 5)]  # asked levels, in a million
@@ -100,27 +98,6 @@ class Level(NamedTuple):
     mu_ppm: int
     wrong: float
     reviews: float
-
-
-def changed(job: Job, change: Callable[[str], str], wanted: Callable[[dict], dict]) -> str:
-    """The text of the settings after a change. Fault: it is written so that the change goes wrong."""
-    text = load(job.folder / job.name).removeprefix(MARK).decode().replace("\r\n", "\n")
-    made = change(text)
-    try:
-        is_right = tomllib.loads(made) == wanted(tomllib.loads(text))
-    except ValueError:
-        is_right = False
-    if not is_right:
-        raise Fault(f"{job.name}: is not written as in docs/SETTINGS.md: mu_ppm on a line of its own, each pass as a table [[pass]]")
-    return made
-
-
-def asked(job: Job, text: str, command: str) -> list[list[str]]:
-    """What a command prints under other settings, which stand in a file elsewhere meanwhile; the header first."""
-    with tempfile.TemporaryDirectory(prefix="linkage-picture-") as folder:
-        path = Path(folder) / "settings.toml"
-        path.write_text(text, encoding="utf-8")
-        return list(records(job.ask(command, str(path))))
 
 
 def rule_at(job: Job, mu_ppm: int) -> list[Cell]:
@@ -196,16 +173,6 @@ class Pass(NamedTuple):
     blocks: list[tuple[int, int]]
 
 
-def only_pass(text: str, number: int) -> str:
-    """Settings with one pass alone, the tables of the others taken out."""
-    heads = [it.start() for it in re.finditer(r"(?m)^[ \t]*\[\[[ \t]*\w+[ \t]*\]\]", text)] + [len(text)]
-    tables = [text[start:end] for start, end in zip(heads, heads[1:])]
-    is_pass = [re.match(r"[ \t]*\[\[[ \t]*pass[ \t]*\]\]", it) is not None for it in tables]
-    places = [at for at, it in enumerate(is_pass) if it]
-    wanted = places[number] if number < len(places) else None
-    return text[: heads[0]] + "".join(it for at, it in enumerate(tables) if not is_pass[at] or at == wanted)
-
-
 def blocks_of(pairs: list[Pair]) -> list[tuple[int, int]]:
     """The records of A and of B in each block of one pass: the records of A of a block have the same first record of B."""
     first: dict[str, str] = {}
@@ -220,15 +187,11 @@ def blocks_of(pairs: list[Pair]) -> list[tuple[int, int]]:
 
 
 def passes_of(job: Job) -> list[Pass]:
-    """What each pass compares. Fault: as of `changed`, or the program refuses."""
-    said = [" + ".join(f"{it.field} {it.key}{'' if it.n is None else f' {it.n}'}" for it in parts) for parts in job.settings.passes]
-    found = []
-    for number in range(len(said)):
-        alone = lambda it, number=number: it | {"pass": [it["pass"][number]]}
-        text = changed(job, lambda it, number=number: only_pass(it, number), alone)
-        found.append([(a, b) for a, b in asked(job, text, "pairs")[1:]])
+    """What each pass compares. Fault: as of `pairs_of_passes`."""
+    found = pairs_of_passes(job)
     times = Counter(pair for pairs in found for pair in pairs)
-    return [Pass(words, len(pairs), sum(times[it] == 1 for it in pairs), blocks_of(pairs)) for words, pairs in zip(said, found)]
+    words = [words_of(parts) for parts in job.settings.passes]
+    return [Pass(words, len(pairs), sum(times[it] == 1 for it in pairs), blocks_of(pairs)) for words, pairs in zip(words, found)]
 
 
 def passes(job: Job) -> Picture:
