@@ -25,6 +25,8 @@ r8,1
 '''
 BAD_LINES = """bad.csv: UTF-8, delimiter comma, 9 rows
 bad.csv: columns: id, Surname, given , birth, town
+bad.csv: birth: 1 read as ymd, 3 unreadable, 2 missing; in 0 of those read day and month could be exchanged
+bad.csv: birth: ymd reads 1, dmy reads 1, mdy reads 1; written 2 as 9999-99-99, 1 as 99.99.9999, 1 as 99.9.9999
 bad.csv: look: town: 'NULL' stands in 1 rows; does it mean missing? (rows 5)
 bad.csv: header: look: column 'given ' has blanks at an end, or no name
 bad.csv: header: refused: no column 'given'; is 'given ' meant?
@@ -86,7 +88,7 @@ def check_spoilt(tally: Tally, bench: Bench) -> None:
         (folder / "register.csv").unlink(missing_ok=True)
         words = ("raw.csv", "--settings", "settings.toml", "--side", "a", "-o", "register.csv")
         status, printed, _ = bench.tool(folder, "prepare", *words)
-        lines = [line for line in printed.splitlines()[2:]]
+        lines = [line for line in printed.splitlines() if re.search(": (?:refused|look): ", line)]
         tally.judge(f"prepare: {name}: told", (status, lines), (int(told != ""), [f"raw.csv: refused: {told}"] if told else []))
         tally.judge(f"prepare: {name}: the copy serves", bench.linkage(folder, "pairs", "settings.toml"), pairs)
         tally.judge(f"prepare: {name}: the file is as it was", (folder / "raw.csv").read_bytes() == data, True)
@@ -109,7 +111,7 @@ def check_bad(tally: Tally, bench: Bench) -> None:
     tally.judge("prepare: refusals", bench.refusals(folder, "prepare", REFUSES), REFUSES)
     (folder / "other.toml").write_text(settings.replace('form_a = "ymd"', 'form_a = "dmy"'), encoding="utf-8")
     lines = bench.tool(folder, "prepare", "register.csv", "--settings", "other.toml")[1].splitlines()
-    tally.judge("prepare: another form of dates", (lines[2], sum("is no date of the form dmy" in line for line in lines)),
+    tally.judge("prepare: another form of dates", (lines[4], sum("is no date of the form dmy" in line for line in lines)),
                 ("register.csv: look: birth: the form ymd reads 6 of 6 dates, dmy, as the settings say, 0", 6))
     kept = (folder / "census.csv").read_bytes()
     said = bench.tool(folder, "prepare", "census.csv", "-o", "census.csv")[2].splitlines()[-1]
@@ -120,6 +122,27 @@ def check_bad(tally: Tally, bench: Bench) -> None:
     tally.judge("prepare: numbers the rows of a copy", (folder / "numbered.csv").read_text(encoding="utf-8"), "id,a,b\n1,1,x\n2,2,y\n")
     left = "left out: 1 headers that stood again, 1 rows of empty cells, 1 empty cells beyond the header, rows"
     tally.judge("prepare: says what it left out", said.splitlines()[-1], f"prepare: numbered.csv: 2 rows, delimiter comma; {left}")
+
+
+# Dates of many kinds. By hand: the first four are read as dmy, and in the first and third day and month could be exchanged; the fifth is
+# read as ymd alone, the sixth as mdy alone, as are the first three; no form reads the others.
+KINDS = """01.02.1980 2.2.1980 3/12/1981 13.12.1981 1982-01-31 12/31/1982 - 03.04.84 1985 19860101x 31-Dec-87 1988.1 1/1 5.May.1990 1991a
+1992-1 30.02.1993 1.2""".split()
+
+
+def check_kinds(tally: Tally, bench: Bench) -> None:
+    """Dates of many kinds, by hand."""
+    folder = bench.empty()
+    shutil.copytree(SMALL, folder, dirs_exist_ok=True)
+    settings = (folder / "settings.toml").read_text(encoding="utf-8").replace('form_a = "ymd"', 'form_a = "dmy"')
+    (folder / "settings.toml").write_text(settings, encoding="utf-8")
+    rows = "".join(f"{at},x,y,{cell},z\n" for at, cell in enumerate(KINDS))
+    (folder / "kinds.csv").write_text(f"id,surname,given,birth,town\n{rows}", encoding="utf-8")
+    lines = bench.tool(folder, "prepare", "kinds.csv", "--settings", "settings.toml", "--side", "a")[1].splitlines()
+    tally.judge("prepare: dates by kind, by hand", lines[2:4], [
+        "kinds.csv: birth: 4 read as dmy, 13 unreadable, 1 missing; in 2 of those read day and month could be exchanged",
+        "kinds.csv: birth: ymd reads 1, dmy reads 4, mdy reads 4; written 3 as 99.99.9999, 1 as 9.9.9999, 1 as 9/99/9999, 1 as 9999-99-99, "
+        "1 as 99/99/9999, 1 as 99.99.99, 1 as 9999, 1 as 99999999a, 7 other kinds"])
 
 
 def check_dates(tally: Tally, bench: Bench) -> None:
@@ -179,4 +202,5 @@ def check(tally: Tally, bench: Bench) -> None:
         check_spoilt(tally, bench)
         check_bad(tally, bench)
         check_dates(tally, bench)
+        check_kinds(tally, bench)
         check_damaged(tally, bench)

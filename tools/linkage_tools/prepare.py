@@ -5,6 +5,9 @@
   prepare FILE .. -o CLEAN                    a copy that the program can read: UTF-8, one delimiter, LF line ends
   prepare FILE .. -o CLEAN --number COLUMN    with a new column in front, the number of the row, to serve as the id
 
+Under the columns it tells of each column of dates how many the settings' form reads and how many not, in how many of those read day and
+month could be exchanged (132 of 365 days of a year), how many each form reads, and how they are written, a 9 for a digit.
+
 A line `refused` tells what the program refuses, a line `look` what it takes, but may be wrong. Rows are counted from 1, under the header,
 as the program counts them. The status is 1 where something is refused. What is told of the encoding and the delimiter is a guess by the
 bytes and by how many fields the rows have; --encoding and --delimiter say otherwise.
@@ -18,6 +21,7 @@ from argparse import Namespace
 from collections import Counter
 from collections.abc import Iterator
 from datetime import date
+from functools import lru_cache
 from pathlib import Path
 from typing import NamedTuple
 
@@ -33,6 +37,7 @@ WHITE = "\t\n\v\f\r \x85\xa0\u1680" + "".join(map(chr, range(0x2000, 0x200B))) +
 LIKE_MISSING = {"NA", "N.A.", "NAN", "NULL", "NONE", "NIL", "UNKNOWN", "UNK", "#N/A", "#NAME?", ".", "..", "*", "XX", "XXX", "--", "???"}
 LINE_END = re.compile("\r\n|\r|\n")
 FORMS = ("ymd", "dmy", "mdy")
+MOST_SHAPES = 8  # kinds of writing a date that are told of a column
 
 
 class Finding(NamedTuple):
@@ -164,6 +169,7 @@ def of_ids(looked: Looked) -> Iterator[Finding]:
         first.setdefault(key, number)
 
 
+@lru_cache(maxsize=2**19)
 def day_of(text: str, form: str) -> date | None:
     """The day of a text in the order of a form, by docs/SETTINGS.md (What a text becomes); none where it cannot be read."""
     runs = lambda width: tuple(f"(?P<{it}>[0-9]{{{4 if it == 'y' else width}}})" for it in form)
@@ -175,20 +181,53 @@ def day_of(text: str, form: str) -> date | None:
         return None
 
 
-def of_dates(looked: Looked) -> Iterator[Finding]:
-    """Dates that cannot be read by the form that the settings name, and whether another form would read more."""
+class Dates(NamedTuple):
+    """A column of dates: its name, the settings' form, its values by row but for missing ones, and how many of these there are."""
+
+    name: str
+    form: str
+    given: dict[int, str]
+    missing: int
+
+    def read(self, form: str) -> list[date]:
+        """The days of the values that a form reads."""
+        return [it for it in (day_of(cell, form) for cell in self.given.values()) if it is not None]
+
+
+def date_columns(looked: Looked) -> Iterator[Dates]:
+    """The columns of dates that the settings name and the file has."""
     fields = [field for field in looked.settings.fields if field.kind == "date"] if looked.settings else []
     for name, form in dict.fromkeys((field.columns[looked.side], field.forms[looked.side] or "ymd") for field in fields):
-        cells = numbered(looked, looked.column(name))
+        cells = list(numbered(looked, looked.column(name)))
         given = {number: cell for number, cell in cells if cell.strip(WHITE) not in looked.settings.missing}
-        counts = {it: sum(day_of(cell, it) is not None for cell in given.values()) for it in FORMS}
-        for number, cell in given.items():
-            if day_of(cell, form) is None:
-                yield Finding(number, looked.settings.strict, f"{name} is no date of the form {form}: {cell[:40]!r}")
-        best = max(FORMS, key=lambda it: counts[it])
-        if counts[best] > counts[form]:
-            what = f"{name}: the form {best} reads {counts[best]} of {len(given)} dates"
-            yield Finding(None, False, f"{what}, {form}, as the settings say, {counts[form]}")
+        yield Dates(name, form, given, len(cells) - len(given))
+
+
+def date_facts(looked: Looked) -> Iterator[str]:
+    """What each column of dates has, by kind: what each form reads, and how it is written, a 9 for a digit and an a for a letter."""
+    for it in date_columns(looked):
+        read = it.read(it.form)
+        either = sum(day.day <= 12 and day.day != day.month for day in read)
+        counts = f"{len(read)} read as {it.form}, {len(it.given) - len(read)} unreadable, {it.missing} missing"
+        yield f"{it.name}: {counts}; in {either} of those read day and month could be exchanged"
+        shapes = Counter(re.sub(r"[^\W\d_]", "a", re.sub("[0-9]", "9", cell.strip(WHITE)[:20])) for cell in it.given.values())
+        kinds = [f"{count} as {shape}" for shape, count in shapes.most_common(MOST_SHAPES)]
+        more = [f"{len(shapes) - MOST_SHAPES} other kinds"] if len(shapes) > MOST_SHAPES else []
+        if kinds:
+            yield f"{it.name}: {', '.join(f'{form} reads {len(it.read(form))}' for form in FORMS)}; written {', '.join(kinds + more)}"
+
+
+def of_dates(looked: Looked) -> Iterator[Finding]:
+    """Dates that cannot be read by the form that the settings name, and whether another form would read more."""
+    for it in date_columns(looked):
+        for number, cell in it.given.items():
+            if day_of(cell, it.form) is None:
+                yield Finding(number, looked.settings.strict, f"{it.name} is no date of the form {it.form}: {cell[:40]!r}")
+        counts = {form: len(it.read(form)) for form in FORMS}
+        best = max(FORMS, key=lambda form: counts[form])
+        if counts[best] > counts[it.form]:
+            what = f"{it.name}: the form {best} reads {counts[best]} of {len(it.given)} dates"
+            yield Finding(None, False, f"{what}, {it.form}, as the settings say, {counts[it.form]}")
 
 
 def numbered(looked: Looked, at: int | None) -> Iterator[tuple[int, str]]:
@@ -283,7 +322,8 @@ def tool(given: list[str]) -> int:
     looked = Looked(how, header, rows, settings, side)
     found = findings(looked, data, words.encoding is not None)
     delimiter = SIGNS.get(how.sign, repr(how.sign))
-    facts = [f"{name}: {how.said()}, delimiter {delimiter}, {len(rows)} rows", f"{name}: columns: {', '.join(header)}"]
+    facts = [f"{name}: {it}" for it in (f"{how.said()}, delimiter {delimiter}, {len(rows)} rows", f"columns: {', '.join(header)}",
+                                        *date_facts(looked))]
     give("".join(f"{line}\n" for line in [*facts, *(it.line(name) for it in found)]), None)
     refused = sum(it.is_refused for it in found)
     tell("prepare", f"{refused} refused, {len(found) - refused} to be looked at" if found else "nothing found")
