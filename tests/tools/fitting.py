@@ -4,7 +4,7 @@ import shutil
 from pathlib import Path
 
 from jobs import Bench, asks, rows_of, truth_of, with_sample
-from linkage_tools.fit import has_in_common, matched_of_all, matched_of_compared, score
+from linkage_tools.fit import advice_of, has_in_common, matched_of_all, matched_of_compared, score
 from linkage_tools.settings import Field, Part
 from tally import ROOT, Tally
 
@@ -42,6 +42,9 @@ def check_numbers(tally: Tally, bench: Bench) -> None:
                 [round(score(*it), 1) for it in ((0, 0.0), (1, 0.0), (25, 16.0))], [0.0, 1.4, 2.0])
     given = {key: has_in_common(Field("f", {}, "", {}, key[0], key[1], key[1], None, None, None), Part("f", *key[2:])) for key in COMMON}
     tally.judge("fit: keys that agreeing values have in common", given, COMMON)
+    advice = {(kind, *levels): "lower" in advice_of((kind, True), *levels) for kind in ("link", "nonlink") for levels in ((2, 1), (1, 2))}
+    tally.judge("fit: advises a lower level where there is one", advice,
+                {("link", 2, 1): True, ("link", 1, 2): False, ("nonlink", 2, 1): False, ("nonlink", 1, 2): True})
     exact = [(30_000, 0.3, 0.0), (60_500, 0.6, 0.005), (9_500, 0.1, 0.095), (900_000, 0.0, 0.9)]
     counts = [(round(100_000 * m + 1_000_000 * u), m, u) for _, m, u in exact]
     tally.judge("fit: counts just as expected give back the number of matched pairs",
@@ -68,6 +71,8 @@ def check_made(tally: Tally, bench: Bench) -> None:
     bench.linkage(folder, "run", "settings.toml")
     _, printed, said = bench.tool(folder, "fit", "settings.toml")
     told = [row[0] for row in rows_of(printed)[1:] if row[3] == "link" and float(row[7]) > 0]
+    finest = {"mu_ppm is the finest" in row[9] for row in rows_of(printed)[1:] if row[0] in told}
+    tally.judge("fit: at 1 in a million no lower level is advised", finest, {True})
     by_pattern = wrong_links(folder)
     wrong, links = (sum(by_pattern[pattern][at] for pattern in told) for at in (1, 0))
     every = [sum(it[at] for it in by_pattern.values()) for at in (1, 0)]

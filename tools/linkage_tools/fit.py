@@ -52,6 +52,11 @@ ADVICE = {
     ("possible", False): "fewer than promised: less review, nothing to do",
     ("nonlink", False): "fewer than u promises: the weights are on the safe side",
 }
+# The same where the asked level is 1 or 0 in a million already: below it is nothing, or the level by which no pair is a link (a non-link).
+AT_FINEST = {
+    ("link", True): "review some: wrong links may be among them; mu_ppm is the finest: take another field, or u of compared pairs",
+    ("nonlink", True): "look at some: right ones may be lost here; lambda_ppm is the finest: take another field",
+}
 HARM = (("link", True), ("possible", True), ("nonlink", True))  # what comes first; then patterns with fewer pairs than expected
 
 
@@ -171,10 +176,17 @@ def rounded(number: float) -> str:
     return f"{number:.0f}" if number >= 100 else f"{number:.1f}" if number >= 10 else f"{number:.2f}" if number >= 0.01 else f"{number:.1g}"
 
 
-def row_of(it: Seen) -> list[object]:
+def advice_of(kind: tuple[str, bool], mu_ppm: int, lambda_ppm: int) -> str:
+    """What to do about a pattern that fits badly, at the asked levels."""
+    level = {"link": mu_ppm, "nonlink": lambda_ppm}.get(kind[0], 2)
+    return AT_FINEST.get(kind, ADVICE[kind]) if level <= 1 else ADVICE[kind]
+
+
+def row_of(it: Seen, settings: Settings) -> list[object]:
     """The printed row of a pattern."""
     front = [it.cell.pattern, it.cell.outcomes, it.cell.weight, it.kind()[0], it.seen, rounded(it.matched), rounded(it.unmatched)]
-    advice = ADVICE[it.kind()] if abs(it.score()) >= LEAST_SCORE else ""
+    is_told = abs(it.score()) >= LEAST_SCORE
+    advice = advice_of(it.kind(), settings.mu_ppm or 0, settings.lambda_ppm or 0) if is_told else ""
     return [*front, f"{it.score():.1f}", " ".join(map(str, it.passes)), advice]
 
 
@@ -185,7 +197,7 @@ def fitted(job: Job, words: Namespace) -> None:
     found.sort(key=Seen.rank)
     worst = [it for it in found if abs(it.score()) >= LEAST_SCORE]
     kept = [it for it in found if it.seen or it.matched + it.unmatched >= 0.5] if words.all else worst
-    give(written([HEADER, *map(row_of, kept)]), words.out)
+    give(written([HEADER, *(row_of(it, job.settings) for it in kept)]), words.out)
     links = [it for it in worst if it.kind() == ("link", True)]
     more = sum(it.seen - it.matched - it.unmatched for it in links)
     seen = sum(it.seen for it in links)
