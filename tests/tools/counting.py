@@ -1,5 +1,6 @@
 """`shares`, `idle` and `passes`: what stands behind a rule, what of a journal counts no more, what passes find and lose."""
 
+import re
 from collections import Counter
 
 from jobs import Bench, asks, rows_of, truth_of, with_sample
@@ -20,6 +21,8 @@ SHARES_REFUSES = {
     "s.toml --rule words.csv": (1, "shares: words.csv: row 1: 'abc' is no number"),
     "s.toml --rule cut.csv": (1, "shares: cut.csv: row 3: number of fields"),
     "s.toml --rule empty.csv": (1, "shares: empty.csv: no header"),
+    "s.toml --m-of nosuch.toml": (1, "shares: nosuch.toml: No such file or directory"),
+    "s.toml --m-of s.toml": (1, "shares: s.toml: has no m of the outcomes of field surname"),
     "s.toml -o a.csv": (1, "shares: a.csv: is there already; name a new file"),
     "inline.toml --rule inline.csv --whole": (1, "shares: inline.toml: put the lines in by hand, for a field is not written as a table "
                                                  "[[field]] with m and u on a line each"),
@@ -56,6 +59,12 @@ def check_shares(tally: Tally, bench: Bench) -> None:
         part = f"shares: the rule under the lines is the same, byte for byte: {'sample' if name == 's.toml' else 'register'}"
         tally.judge(part, bench.linkage(folder, "rule", "fixed.toml"), (folder / "rule.csv").read_text(encoding="utf-8"))
         tally.judge(f"{part}: without a sample", "\nsample" in "\n" + (folder / "fixed.toml").read_text(encoding="utf-8"), False)
+    guessed = re.sub("(?m)^m = .*$", "m = [1000, 23, 1]", (example / "fixed.toml").read_text(encoding="utf-8"))
+    (example / "guessed.toml").write_text(guessed, encoding="utf-8")
+    mixed = bench.tool(example, "shares", "s.toml", "--m-of", "guessed.toml")[1]
+    lines = [re.findall(f"(?m)^{kind} = .*$", text) for kind, text in (("m", mixed), ("m", guessed), ("u", mixed), ("u", guessed))]
+    tally.judge("shares: m of other settings, and u as it is counted", (lines[0] == lines[1], lines[2] == lines[3], len(lines[0])),
+                (True, True, 3))
     header, *rows = (example / "rule.csv").read_text(encoding="utf-8").splitlines()
     for name, lines in {"short": rows[:-1], "wrong": [rows[0].replace("618470208", "618470209"), *rows[1:]], "empty": [],
                         "words": [rows[0].replace("618470208", "abc"), *rows[1:]], "cut": [*rows[:2], "1,AAD"]}.items():

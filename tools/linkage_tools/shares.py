@@ -2,6 +2,7 @@
 
   shares SETTINGS             the lines, by the rule in rule.csv
   shares SETTINGS --whole     the settings with these lines in the place of the sample
+  shares SETTINGS --m-of FILE the same with the m of the settings FILE, as they were guessed, and u alone as it is counted
   shares SETTINGS --rule FILE the same of another file of a rule, as `linkage rule` prints it
 
 Under the settings that --whole makes, `linkage rule` prints the same bytes, whatever becomes of the sample later: so the shares of one
@@ -77,6 +78,15 @@ def whole(settings: Settings, text: str, shares: list[tuple[Shares, Shares]]) ->
     return text
 
 
+def with_m_of(settings: Settings, other: Settings, shares: list[tuple[Shares, Shares]]) -> list[tuple[Shares, Shares]]:
+    """The shares with the m of other settings. Fault: these have a field of the name without m, none, or one of other outcomes."""
+    m_of = {field.name: dict(zip(field.letters(), field.m or [])) for field in other.fields}
+    for field in settings.fields:
+        if list(m_of.get(field.name, {})) != list(field.letters()):
+            raise Fault(f"{other.name}: has no m of the outcomes of field {field.name}")
+    return [(m_of[field.name], of_u) for field, (_, of_u) in zip(settings.fields, shares)]
+
+
 def load_text(name: str) -> str:
     """The text of the settings, line ends as LF."""
     return load(Path(name)).removeprefix(MARK).decode().replace("\r\n", "\n")
@@ -88,6 +98,7 @@ def tool(given: list[str]) -> None:
     parser.add_argument("settings", help="the settings of the job; run where the program runs")
     parser.add_argument("--rule", type=Path, metavar="FILE", default=Path("rule.csv"), help="the file of the rule (rule.csv)")
     parser.add_argument("--whole", action="store_true", help="the settings whole, with the lines in the place of the sample")
+    parser.add_argument("--m-of", metavar="FILE", help="the settings whole, with the shares m of other settings")
     parser.add_argument("-o", "--out", type=Path, metavar="FILE", help="the new file; else it is printed")
     words = parser.parse_args(given)
     settings = Job(words.settings).settings
@@ -95,7 +106,9 @@ def tool(given: list[str]) -> None:
     if table.header != RULE_HEADER:
         raise Fault(f"{words.rule}: is no rule as `linkage rule` prints it")
     shares = shares_of(str(words.rule), cells_of(str(words.rule), iter(table.rows)), [field.letters() for field in settings.fields])
-    if words.whole:
+    if words.m_of:
+        shares = with_m_of(settings, Job(words.m_of).settings, shares)
+    if words.whole or words.m_of:
         give(whole(settings, load_text(words.settings), shares), words.out)
         return
     lines = []
