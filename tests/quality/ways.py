@@ -14,7 +14,7 @@ from plain import Record, exact_join, greedy, standard
 from reviewer import verdicts
 
 sys.path.insert(0, str(Path(__file__).resolve().parent.parent))
-from tally import run  # noqa: E402
+from tally import ROOT, run  # noqa: E402
 
 COMPARED = 3_000  # compared pairs that a sample of both kinds draws
 RECORDS = 600  # records of A, all compared pairs of which are reviewed for the matched ones
@@ -131,7 +131,20 @@ def crossed(job: Job, seed: str, records: int = RECORDS, random: int = CROSSED) 
     return Sampled(found, len(looked_at))
 
 
-SAMPLES: dict[str, Callable[[Job, str], Sampled]] = {"compared": of_compared_pairs, "clusters": clusters, "crossed": crossed}
+def random_pairs(job: Job, seed: str, random: int = CROSSED) -> Sampled:
+    """Pairs of A x B drawn at random, as unmatched ones, and one matched pair that is known, since there is no rule without any.
+
+    People look at those that some pass compares, and the matched ones are left out; the others are taken as unmatched.
+    """
+    chance = Chance(seed, "random")
+    ids_a, ids_b, compared = job.ids("a"), job.ids("b"), set(job.compared())
+    drawn = [(chance.of(ids_a), chance.of(ids_b)) for _ in range(random)]
+    found = {pair: "unmatched" for pair in drawn if not (pair in compared and pair in job.truth)}
+    return Sampled({**found, min(job.truth): "matched"}, len(set(drawn) & compared))
+
+
+SAMPLES: dict[str, Callable[[Job, str], Sampled]] = {"compared": of_compared_pairs, "clusters": clusters, "crossed": crossed,
+                                                       "random": random_pairs}
 
 
 def all_open(_: Job, asked: list[Pair]) -> list[Pair]:
@@ -173,6 +186,7 @@ class Way:
     reviews: tuple[Review, ...] = ()
     fields: str = ""
     draw: str = ""  # a seed of the sample alone, in the place of that of all
+    guesses_m: bool = False  # of the sample u alone is counted, and m is that of the settings
 
     def settings(self, guessed: str) -> str:
         """The text of the settings, from that with guessed shares."""
@@ -208,7 +222,19 @@ def prepared(program: Path, files: Path, folder: Path, guessed: str, way: Way, s
     if way.sample:
         write_sample(job, SAMPLES[way.sample](job, way.draw or seed))
     (folder / "settings.toml").write_text(way.settings(guessed), encoding="utf-8")
+    if way.guesses_m:
+        guess_m(job, guessed)
     return job
+
+
+def guess_m(job: Job, guessed: str) -> None:
+    """Puts the guessed shares m and the counted u into the settings, by the tool `shares`. Raises Broken where it refuses."""
+    (job.folder / "guessed.toml").write_text(guessed, encoding="utf-8")
+    (job.folder / "counted.csv").write_text(job.call("rule", "settings.toml"), encoding="utf-8")
+    status, text, said = run([ROOT / "tools/shares", "settings.toml", "--rule", "counted.csv", "--m-of", "guessed.toml"], job.folder)
+    if status:
+        raise Broken(said.strip())
+    (job.folder / "settings.toml").write_text(text, encoding="utf-8")
 
 
 def begun_anew(job: Job, award: int) -> None:
