@@ -10,9 +10,33 @@ from rule import UNIT, WHOLE, levels
 from tables import Refused, records, text_of
 
 
+def parted(found: list[Candidate]) -> list[list[Candidate]]:
+    """The candidates in parts that have no record in common."""
+    of_a, of_b, parts = {}, {}, []
+    for it in found:
+        of_a.setdefault(it.pair[0], []).append(it)
+        of_b.setdefault(it.pair[1], []).append(it)
+    seen = set()
+    for first in found:
+        part, waiting = [], [] if first.pair in seen else [first]
+        seen.add(first.pair)
+        while waiting:
+            part.append(waiting.pop())
+            near = [it for it in of_a[part[-1].pair[0]] + of_b[part[-1].pair[1]] if it.pair not in seen]
+            seen |= {it.pair for it in near}
+            waiting += near
+        parts += [part] * bool(part)
+    return parts
+
+
 def best_total(found: list[Candidate], capacity: list[int]) -> int:
-    """What the best choice of links is worth: links change along the path from a free record of A that gains most, as long as one
-    gains. A path goes on from a record of B through one of its links to the record of A that gives this link up."""
+    """What the best choice of links is worth, which is what its parts that have no record in common are worth together."""
+    return sum(best_of_part(part, capacity) for part in parted(found))
+
+
+def best_of_part(found: list[Candidate], capacity: list[int]) -> int:
+    """The same of one part: links change along the path from a free record of A that gains most, as long as one gains. A path goes on
+    from a record of B through one of its links to the record of A that gives this link up."""
     value, linked, times, total = {it.pair: it.value for it in found}, {}, Counter(), 0
     while True:
         gain, via, changed = {}, {}, True

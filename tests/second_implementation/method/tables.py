@@ -4,6 +4,7 @@ import re
 from functools import lru_cache
 
 MOST_BYTES, MOST_WRITTEN_BYTES, MOST_COLUMNS, MOST_FIELD_BYTES, MOST_ROWS = 64 * 2**20, 128 * 2**20, 64, 255, 100_000
+QUOTED = re.compile('[,"\r\n]')  # what a field is put in quotes for
 
 
 class Refused(Exception):
@@ -49,7 +50,7 @@ def records(data: bytes, delimiter: bytes = b",") -> list[list[bytes]]:
 
 def text_of(rows: list) -> bytes:
     """Rows as a CSV text: fields are quoted where they must be, and each row ends with a line feed."""
-    quoted = lambda it: '"' + it.replace('"', '""') + '"' if re.search('[,"\r\n]', it) else it
+    quoted = lambda it: '"' + it.replace('"', '""') + '"' if QUOTED.search(it) else it
     return "".join(",".join(quoted(str(it)) for it in row) + "\n" for row in rows).encode()
 
 
