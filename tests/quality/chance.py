@@ -13,15 +13,22 @@ class Chance:
     """A source of draws. Its seed is a text, so two sources of other words are independent of one another."""
 
     def __init__(self, *seed: object):
-        self.source = random.Random(" ".join(str(word) for word in seed))
+        source = random.Random(" ".join(str(word) for word in seed))
+        self.share, self.bits = source.random, source.getrandbits
 
     def happens(self, share: float) -> bool:
         """Yes with a chance of `share`, 0 to 1."""
-        return self.source.random() < share
+        return self.share() < share
 
     def below(self, limit: int) -> int:
-        """A whole number from 0 to `limit` - 1, each as likely."""
-        return self.source.randrange(limit)
+        """A whole number from 0 to `limit` - 1, each as likely: the first of some draws of as many bits that is below the limit."""
+        if limit < 1:
+            raise ValueError(f"no whole number is below {limit}")
+        width = limit.bit_length()
+        found = self.bits(width)
+        while found >= limit:
+            found = self.bits(width)
+        return found
 
     def between(self, low: int, high: int) -> int:
         """A whole number from `low` to `high`, each as likely."""

@@ -8,8 +8,11 @@ FOLDER is that of a job after `run`: the settings (settings.toml), `truth.csv` (
 
 import argparse
 import csv
+import functools
+import operator
 import sys
 import tomllib
+from collections import Counter
 from collections.abc import Iterable
 from dataclasses import dataclass
 from pathlib import Path
@@ -19,8 +22,24 @@ Pair = tuple[str, str]
 
 def rows(path: Path, delimiter: str = ",") -> list[dict[str, str]]:
     """The rows of a table, every column as text."""
-    with path.open(encoding="utf-8-sig", newline="") as table:
-        return list(csv.DictReader(table, delimiter=delimiter))
+    with path.open(encoding="utf-8-sig", newline="") as file:
+        table = filter(None, csv.reader(file, delimiter=delimiter))
+        header = next(table, [])
+        return [dict(zip(header, row, strict=True)) for row in table]
+
+
+@functools.lru_cache(8)
+def truth_in(text: bytes) -> frozenset[Pair]:
+    """The pairs of a table id_a,id_b of all pairs of one person. Many jobs have the same, which is read once."""
+    return frozenset((a, b) for a, b in filter(None, list(csv.reader(text.decode("utf-8").splitlines()))[1:]))
+
+
+def columns(path: Path, *names: str) -> list[tuple[str, ...]]:
+    """Some columns of a table, row by row."""
+    with path.open(encoding="utf-8", newline="") as file:
+        table = filter(None, csv.reader(file))
+        header = next(table)
+        return list(map(operator.itemgetter(*map(header.index, names)), table))
 
 
 def pairs_of(table: Iterable[dict[str, str]]) -> list[Pair]:
@@ -105,21 +124,23 @@ def report_of(path: Path) -> dict[str, list[int]]:
 def measured(folder: Path, settings: str = "settings.toml") -> Quality:
     """The quality of the job in a folder."""
     asked = tomllib.loads((folder / settings).read_text(encoding="utf-8"))
-    truth = set(pairs_of(rows(folder / "truth.csv")))
-    compared, links, report = rows(folder / "pairs.csv"), rows(folder / "links.csv"), report_of(folder / "report.txt")
-    linked = set(pairs_of(links))
-    matched = [row for row in compared if (row["id_a"], row["id_b"]) in truth]
-    opened = [row for row in compared if row["decision"] == "possible" and row["verdict"] in ("", "open")]
-    wrong = [row["by"] for row in links if (row["id_a"], row["id_b"]) not in truth]
-    kept = [row for row in matched if row["decision"] == "link" or row["verdict"] == "link"]
+    truth, report = truth_in((folder / "truth.csv").read_bytes()), report_of(folder / "report.txt")
+    compared = columns(folder / "pairs.csv", "id_a", "id_b", "decision", "verdict")
+    links = columns(folder / "links.csv", "id_a", "id_b", "by")
+    linked = {(a, b) for a, b, _ in links}
+    matched = [(decision, verdict) for a, b, decision, verdict in compared if (a, b) in truth]
+    opened = [(a, b) for a, b, decision, verdict in compared if decision == "possible" and verdict in ("", "open")]
+    wrong = [by for a, b, by in links if (a, b) not in truth]
+    kept = {(a, b) for a, b, decision, verdict in compared if (decision == "link" or verdict == "link") and (a, b) in truth}
+    decisions, of_matched = Counter(it[2] for it in compared), Counter(it[0] for it in matched)
     level = {name: 1e6 * report[name][0] / report[name][1] for name in ("mu", "lambda", "possible_m", "possible_u")}
     return Quality(
         matched=len(truth), links=len(links), right=len(linked & truth), wrong_by_rule=wrong.count("rule"),
         wrong_by_review=wrong.count("review"), compared=len(compared), compared_matched=len(matched),
-        linked_unmatched=sum(row["decision"] == "link" for row in compared) - sum(row["decision"] == "link" for row in matched),
-        lost=sum(row["decision"] == "nonlink" for row in matched), lost_by_review=sum(row["verdict"] == "nonlink" for row in matched),
-        lost_by_choice=len(set(pairs_of(kept)) - linked), possible=sum(row["decision"] == "possible" for row in compared),
-        open=len(opened), open_right=sum(pair in truth for pair in pairs_of(opened)), space=report["rows"][0] * report["rows"][1],
+        linked_unmatched=decisions["link"] - of_matched["link"], lost=of_matched["nonlink"],
+        lost_by_review=sum(verdict == "nonlink" for _, verdict in matched), lost_by_choice=len(kept - linked),
+        possible=decisions["possible"], open=len(opened), open_right=sum(pair in truth for pair in opened),
+        space=report["rows"][0] * report["rows"][1],
         asked_mu=asked["mu_ppm"], attained_mu=level["mu"], asked_lambda=asked["lambda_ppm"], attained_lambda=level["lambda"],
         possible_m=level["possible_m"], possible_u=level["possible_u"])
 

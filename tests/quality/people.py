@@ -173,5 +173,6 @@ def later(country: Country, people: list[Person], chance: Chance) -> list[Person
         if person.sex == "F" and not person.married and 18 <= YEAR - person.birth[0] <= 35 and chance.happens(MARRIES):
             surname = country.surnames[person.culture].draw(chance)
             town = country.towns.draw(chance) if chance.happens(MOVES_AT_MARRIAGE) else town
-        found.append(replace(person, surname=surname, town=town))
+        is_as_before = (surname, town) == (person.surname, person.town)
+        found.append(person if is_as_before else replace(person, surname=surname, town=town))
     return found

@@ -1,5 +1,6 @@
 """Two plain methods to hold the program against: an exact join, and a match by points taken greedily. They share nothing with it."""
 
+import functools
 import unicodedata
 from collections.abc import Callable
 
@@ -14,8 +15,12 @@ ENOUGH = 7  # points of a match, of 20: chosen on the made register, whose truth
 
 def standard(text: str, marks: list[str]) -> str:
     """Capitals and digits without accents and titles, one space between words; of a missing mark nothing."""
-    if text.strip() in marks:
-        return ""
+    return "" if text.strip() in marks else letters_of(text)
+
+
+@functools.cache
+def letters_of(text: str) -> str:
+    """The same of a text that is no missing mark."""
     letters = unicodedata.normalize("NFKD", text.translate(SAME)).encode("ascii", "ignore").decode().upper()
     words = "".join(letter if letter.isalnum() else " " for letter in letters).split()
     return " ".join([word for word in words if word not in DROPPED] or words)

@@ -97,7 +97,7 @@ class Clerk:
         self.times = POORER if self.chance.happens(POOR) else 1.0
 
     def errs(self, rate: float) -> bool:
-        return self.chance.happens(min(rate * self.times, 0.9))
+        return self.chance.share() < min(rate * self.times, 0.9)
 
     def missing(self, text: str, rate: float) -> str:
         return self.chance.of(MARKS) if self.errs(rate) else text

@@ -10,6 +10,7 @@ order and among whatever other pairs the pair is asked about. Both shares are as
 
 import argparse
 import csv
+import functools
 import sys
 from pathlib import Path
 
@@ -19,6 +20,7 @@ from measure import Pair, pairs_of, rows
 WRONG, UNDECIDED = 0.01, 0.05
 
 
+@functools.cache
 def verdict(pair: Pair, matched: bool, seed: str, wrong: float = WRONG, undecided: float = UNDECIDED) -> str:
     """`link`, `nonlink` or `open`: what the reviewer of a seed says of a pair."""
     chance = Chance("reviewer", seed, *pair)

@@ -1,5 +1,6 @@
 """Ways to work a job with the program: where its shares come from, which levels are asked, and what is done before and after review."""
 
+import hashlib
 import re
 import shutil
 import sys
@@ -9,7 +10,7 @@ from dataclasses import dataclass
 from pathlib import Path
 
 from chance import Chance
-from measure import Pair, Quality, measured, pairs_of, rows
+from measure import Pair, Quality, columns, measured, rows, truth_in
 from plain import Record, exact_join, greedy, standard
 from reviewer import verdicts
 
@@ -21,6 +22,8 @@ RECORDS = 600  # records of A, all compared pairs of which are reviewed for the 
 CROSSED = 20_000  # pairs of A x B, drawn at random, that are taken as unmatched
 VERDICTS = 100_000  # rows that `review` takes at once
 DAY = "1969-12-01"
+UNREVIEWED = "unreviewed.csv"  # the links of a run without review
+COMPARED_BEFORE: dict[bytes, list[Pair]] = {}
 DELIMITERS = {"comma": ",", "semicolon": ";", "tab": "\t"}
 
 
@@ -33,7 +36,7 @@ class Job:
 
     def __init__(self, program: Path, folder: Path):
         self.program, self.folder = program, folder
-        self.truth = set(pairs_of(rows(folder / "truth.csv")))
+        self.truth = truth_in((folder / "truth.csv").read_bytes())
 
     def call(self, *words: str) -> str:
         """What the program prints. Raises Broken where its status is not 0."""
@@ -47,8 +50,12 @@ class Job:
         return [(first, second) for first, second, *_ in (line.split(",") for line in self.call(*words).splitlines()[1:])]
 
     def compared(self) -> list[Pair]:
-        """The pairs that the passes compare."""
-        return self.printed_pairs("pairs", "settings.toml")
+        """The pairs that the passes compare. Jobs of one text of settings over the same files, as samples have, share them."""
+        files = [self.settings()[f"file_{letter}"] for letter in "ab"]
+        key = hashlib.sha256(b"".join((self.folder / it).read_bytes() for it in ("settings.toml", *files))).digest()
+        if key not in COMPARED_BEFORE:
+            COMPARED_BEFORE[key] = self.printed_pairs("pairs", "settings.toml")
+        return COMPARED_BEFORE[key]
 
     def settings(self) -> dict:
         return tomllib.loads((self.folder / "settings.toml").read_text(encoding="utf-8"))
@@ -153,8 +160,8 @@ def all_open(_: Job, asked: list[Pair]) -> list[Pair]:
 
 
 def unlinked(job: Job, asked: list[Pair]) -> list[Pair]:
-    """She is asked about the pairs of which neither record has a link."""
-    links = pairs_of(rows(job.folder / "links.csv"))
+    """She is asked about the pairs of which neither record has a link by the run without review."""
+    links = columns(job.folder / UNREVIEWED, "id_a", "id_b")
     linked_a, linked_b = {a for a, _ in links}, {b for _, b in links}
     return [(a, b) for a, b in asked if a not in linked_a and b not in linked_b]
 
@@ -238,12 +245,13 @@ def guess_m(job: Job, guessed: str) -> None:
 
 
 def begun_anew(job: Job, award: int) -> None:
-    """The job with an empty journal and an award, after a run without review."""
+    """The job with an empty journal and an award. Its links without review, which no award changes, are kept beside it."""
+    if not (job.folder / UNREVIEWED).exists():
+        shutil.copy(job.folder / "links.csv", job.folder / UNREVIEWED)
     (job.folder / "journal.csv").write_text("", encoding="utf-8")
     path = job.folder / "settings.toml"
     text = re.sub(r"(?m)^award = .*\n", "", path.read_text(encoding="utf-8"))
     path.write_text(re.sub(r"(?m)^journal = ", f"award = {award}\njournal = ", text), encoding="utf-8")
-    job.call("run", "settings.toml")
 
 
 def reviewed(job: Job, seed: str, review: Review) -> tuple[list[list[str]], list[list[str]]]:
@@ -253,12 +261,12 @@ def reviewed(job: Job, seed: str, review: Review) -> tuple[list[list[str]], list
     said = verdicts(asked, job.truth, seed).splitlines()[1:]
     for at in range(0, len(said), VERDICTS):
         (job.folder / "verdicts.csv").write_text("\n".join(["id_a,id_b,verdict", *said[at:at + VERDICTS]]) + "\n", encoding="utf-8")
-        before = rows(job.folder / "journal.csv")
+        before = (job.folder / "journal.csv").read_bytes()
         job.call("review", "settings.toml", "verdicts.csv", DAY, "made")
-        if rows(job.folder / "journal.csv")[:len(before)] != before:
+        if not (job.folder / "journal.csv").read_bytes().startswith(before):
             raise Broken("linkage review: an old entry of the journal has changed")
-    kept = rows(job.folder / "journal.csv")
-    return [line.split(",") for line in said], [[row["id_a"], row["id_b"], row["verdict"]] for row in kept]
+    kept = columns(job.folder / "journal.csv", "id_a", "id_b", "verdict")
+    return [line.split(",") for line in said], [list(it) for it in kept]
 
 
 PLAIN: dict[str, Callable[[dict[str, Record], dict[str, Record]], list[Pair]]] = {
