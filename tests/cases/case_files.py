@@ -70,8 +70,11 @@ def listed_commands() -> list[dict]:
 
 def piece_bytes(piece: dict) -> bytes:
     """A piece so many times: bytes and a text, in which the number of the time stands for `{n}`."""
-    text, front = piece.get("text", "").encode(), bytes(piece.get("bytes", []))
-    return b"".join(front + text.replace(b"{n}", b"%d" % time, 1) for time in range(1, piece.get("times", 1) + 1))
+    text, times = bytes(piece.get("bytes", [])) + piece.get("text", "").encode(), piece.get("times", 1)
+    at = text.find(b"{n}", len(piece.get("bytes", [])))
+    if at < 0:
+        return text * times
+    return text[:at] * (times > 0) + (text[at + 3 :] + text[:at]).join(b"%d" % time for time in range(1, times + 1)) + text[at + 3 :] * (times > 0)
 
 
 def changed(held: bytes, change: dict) -> bytes:

@@ -2,6 +2,7 @@
 
 from collections import Counter
 from datetime import date, timedelta
+from functools import cache
 
 from commands import Front, Held
 from links import LINKS_HEADER, PRICES_HEADER, Candidate, capacities, certified
@@ -108,6 +109,7 @@ pass = [{ parts = [{ field = "surname", key = "whole" }] }, { parts = [{ field =
 """
 
 
+@cache
 def made_input(rows: int) -> Held:
     """The made input of so many rows: B is A, but for a given name in ten, a birth in ten, and a surname in ten."""
     syllables = "BA DE FI GO KU LA ME NI RO SU TA VE WI ZO HA PE".split()

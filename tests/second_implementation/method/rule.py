@@ -142,6 +142,7 @@ def decision(cell: Cell, seed: int, pair: Pair) -> str:
 def decided(plan: Keys, shares: Shares, a: People, b: People) -> list[tuple[Pair, Cell, str]]:
     """Each compared pair, its pattern, and the decision on it."""
     cell_of = {cell.outcomes: cell for cell in filled(shares, plan["mu_ppm"], plan["lambda_ppm"])}
+    sure = {cell.number: decision(cell, 0, (0, 0)) for cell in cell_of.values() if WHOLE in (cell.link, cell.possible, cell.nonlink)}
     outcomes_of = comparison(plan, a, b)
     found = [(pair, cell_of[outcomes_of(*pair)]) for pair in compared(plan, a, b)]
-    return [(pair, cell, decision(cell, plan["seed"], pair)) for pair, cell in found]
+    return [(pair, cell, sure.get(cell.number) or decision(cell, plan["seed"], pair)) for pair, cell in found]

@@ -4,7 +4,7 @@ import re
 from functools import lru_cache
 
 MOST_BYTES, MOST_WRITTEN_BYTES, MOST_COLUMNS, MOST_FIELD_BYTES, MOST_ROWS = 64 * 2**20, 128 * 2**20, 64, 255, 100_000
-QUOTED = re.compile('[,"\r\n]')  # what a field is put in quotes for
+QUOTED, BROKEN = re.compile('[,"\r\n]'), re.compile('["\r\n]')  # what a field is put in quotes for, with and without the comma
 
 
 class Refused(Exception):
@@ -51,7 +51,13 @@ def records(data: bytes, delimiter: bytes = b",") -> list[list[bytes]]:
 def text_of(rows: list) -> bytes:
     """Rows as a CSV text: fields are quoted where they must be, and each row ends with a line feed."""
     quoted = lambda it: '"' + it.replace('"', '""') + '"' if QUOTED.search(it) else it
-    return "".join(",".join(quoted(str(it)) for it in row) + "\n" for row in rows).encode()
+
+    def line(row: list) -> str:
+        cells = list(map(str, row))
+        plain = ",".join(cells)
+        return plain if plain.count(",") < len(cells) and not BROKEN.search(plain) else ",".join(map(quoted, cells))
+
+    return "".join(line(row) + "\n" for row in rows).encode()
 
 
 def table(data: bytes, role: str, columns: list[str], key: str | None = None, sign: bytes = b",", most: int = MOST_ROWS) -> list[list[str]]:
