@@ -11,6 +11,9 @@ from pathlib import Path
 sys.path.insert(0, str(Path(__file__).resolve().parent.parent))
 from tally import ROOT, CannotRun  # noqa: E402  (the frame stands one folder above)
 
+# An answer to nothing, which the check refuses for a name that nothing has; said.py knows it.
+WRONG_ANSWER = "\npub without-offer : nothing-of-the-kind\nwithout-offer = nothing-of-the-kind\n"
+
 
 @dataclass(frozen=True)
 class Pair:
@@ -34,6 +37,11 @@ class Edit:
     @property
     def part(self) -> str:
         return f"{self.crate}/{self.name}"
+
+    @property
+    def answers(self) -> str:
+        """Where the answers of the function's proof stand in its crate."""
+        return f"proofs/{self.function.replace('::', '/')}/Answers.antt"
 
 
 class BadEdit(Exception):
@@ -102,9 +110,15 @@ def command(crate: str, functions: list[str], libraries: Path) -> list[str]:
 
 
 def edited(edits: list[Edit]) -> dict[str, str]:
-    """The texts of the files of a crate that these edits change, by their paths in it."""
+    """The texts of the files of a crate that these edits change, by their paths in it.
+
+    The answers of each edited function end with WRONG_ANSWER. A goal is then searched as ever, but the check does not do most of its work
+    once more to print what answers a function without proof could have.
+    """
     texts: dict[str, str] = {}
     for edit in edits:
+        path = ROOT / "crates" / edit.crate / edit.answers
+        texts[edit.answers] = (path.read_text("utf-8") if path.is_file() else "") + WRONG_ANSWER
         for pair in edit.pairs:
             path = ROOT / "crates" / edit.crate / pair.file
             if pair.file not in texts:
@@ -126,6 +140,7 @@ def check(crate: str, functions: list[str], texts: dict[str, str], libraries: Pa
             if (ROOT / "crates" / crate / part).is_dir():
                 shutil.copytree(ROOT / "crates" / crate / part, f"{room}/{part}")
         for path, text in texts.items():
+            Path(room, path).parent.mkdir(parents=True, exist_ok=True)
             Path(room, path).write_text(text, "utf-8")
         ended = subprocess.run(words, cwd=room, stdin=subprocess.DEVNULL, stdout=subprocess.PIPE, stderr=subprocess.STDOUT, check=False)
     return ended.returncode, ended.stdout.decode("utf-8", "replace")

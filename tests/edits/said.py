@@ -11,6 +11,8 @@ GONE = re.compile(r"has no field|is not in scope|has no `|was not admitted|motiv
 OPEN = re.compile(r"note: (src/\S+?):\d+:\d+: it is not proved that (.*?) \(`([^`]+)`\)")
 # A goal of the function's own clauses, and not of a call in it.
 OWN = re.compile(r"what the function ensures|invariant")
+# The error of the answer that each edited function has beside its own, which says nothing of its proof.
+WRONG_ANSWER = "error: `without-offer`: `nothing-of-the-kind` is not in scope"
 MOST = 200
 
 
@@ -50,9 +52,9 @@ def open_goals(output: str, crate: str, function: str) -> list[str]:
 
 
 def answer_errors(output: str, function: str) -> list[str]:
-    """The errors in the proof files of a function: answers that do not answer what is to be shown now."""
+    """The errors in the proof files of a function but for WRONG_ANSWER: answers that do not answer what is to be shown now."""
     folder = re.escape(f"proofs/{function.replace('::', '/')}/")
-    return re.findall(rf"^(?:\./)?({folder}\S+ error: .*)$", output, re.M)
+    return [it for it in re.findall(rf"^(?:\./)?({folder}\S+ error: .*)$", output, re.M) if WRONG_ANSWER not in it]
 
 
 def judged(output: str, status: int, crate: str, function: str) -> Said:
@@ -61,10 +63,11 @@ def judged(output: str, status: int, crate: str, function: str) -> Said:
     if state is None:
         error = re.search(r"^.*\berror\b.*$", output, re.M)
         return Said(False, cut(f"the prover was not reached (status {status}): {error[0] if error else output.strip()[-MOST:]}"))
-    if state == "proved":
-        return Said(False, f"{function} is still proved: its contract lets this body through, or it means the same as before")
     goals = open_goals(output, crate, function)
     errors = answer_errors(output, function)
+    is_wrong_answer_all = WRONG_ANSWER in output and not goals and not errors and not LIMIT.search(output)
+    if state == "proved" or state == "not proved" and is_wrong_answer_all:
+        return Said(False, f"{function} is still proved: its contract lets this body through, or it means the same as before")
     if any(map(GONE.search, errors)):
         # a call under another name has lost its answer
         goals = [it for it in goals if OWN.search(it)]

@@ -1,6 +1,6 @@
 """What a check and `rt ci` have been seen to say, and how it is to be judged."""
 
-from said import judged, refusals
+from said import WRONG_ANSWER, judged, refusals
 
 FUNCTION = "rows::is_plain"
 OPEN = """fn c::rows::first: proved
@@ -10,11 +10,20 @@ note: `returns-clause-all` of proofs/rows/is_plain/Answers.antt must prove: 1 â‰
 only=2 proved=1
 """
 ANSWER = "./proofs/rows/is_plain/Answers.antt:8:48: error: `returns`: "
+WRONG = f"./proofs/rows/is_plain/Answers.antt:1:21: {WRONG_ANSWER}\n"
 REFUSED = "fn c::rows::is_plain: not proved\nonly=1 proved=0\n"
 
 # What a check says of the function, and the front of the line that it is to come to: `refused`, or why this shows nothing of its contract.
 CHECKS = {
     "an open goal": (OPEN, "refused rows::is_plain: what the function ensures holds when it returns (`returns-clause-all`): 1 â‰¡ 2"),
+    "an open goal beside the wrong answer": (
+        WRONG + OPEN.replace("no proof: expected answers in ./proofs/rows/is_plain/Answers.antt; `search` did not prove", "not proved:"),
+        "refused rows::is_plain: what the function ensures holds when it returns (`returns-clause-all`)",
+    ),
+    "the wrong answer alone": (WRONG + "fn c::rows::is_plain: not proved\nonly=1 proved=0\n", "rows::is_plain is still proved"),
+    "a limit beside the wrong answer": (
+        WRONG + "antt ran out of stack\nfn c::rows::is_plain: could not tell\n", "refused only by a limit of the prover",
+    ),
     "an open goal of another function": (
         OPEN.replace("is_plain", "other") + "fn c::rows::is_plain: proved\n",
         "rows::is_plain is still proved",
