@@ -158,13 +158,29 @@ written_held texts held short =
     ∙ outcome_go (file_within MOST_WRITTEN_BYTES role.Prices (codes "prices.csv")) _ after texts.prices (file_held role.Prices MOST_WRITTEN_BYTES (codes "prices.csv") texts.prices after refl short.prices)
 
 -- a plan has no more shares than fields
-shares_few : (plan : Plan) (files : PreparedView) (held : Held) (shares : List PlainShares) (sample : Option (List ℕ)) → outcome (shares_over plan files sample) held ≡ Ok shares → length shares ≤ length plan.fields
+pub shares_few : (plan : Plan) (files : PreparedView) (held : Held) (shares : List PlainShares) (sample : Option (List ℕ)) → outcome (shares_over plan files sample) held ≡ Ok shares → length shares ≤ length plan.fields
 shares_few plan files held shares None e =
     let is = ok_same _ shares e in
     omega (arith, ap (λ (s : List PlainShares). length s) is, given_few plan.fields)
 shares_few plan files held shares (Some name) e =
     let read = came (file role.Sample name) _ held shares e in
     counted_few plan files read.0 shares read.2
+
+-- a plan's review is loaded by its parts, and all that `verify` loads
+pub review_loads : (plan : Plan) (review : Review) (held : Held) → FoundBy plan held review → outcome (reviewed_plan plan) held ≡ Ok review
+review_loads plan review held by =
+    let decisions : outcome (decided_plan plan review.files) held ≡ Ok (record { shares = review.shares; decided = review.decided }) =
+    outcome_go (shares_over plan review.files plan.sample) _ held review.shares by.of_shares
+    ∙ outcome_go (gives (decided plan review.files review.shares)) _ held review.decided by.of_decisions in
+    outcome_go (prepared_files plan) _ held review.files by.of_files
+    ∙ outcome_go (decided_plan plan review.files) _ held (record { shares = review.shares; decided = review.decided }) decisions
+    ∙ outcome_go (journal_file review.files plan.journal) _ held review.journal by.of_journal
+
+pub all_loads : (name : List ℕ) (held : Held) (found : ReviewedPlan) (texts : WrittenTexts) → outcome (plan_file name) held ≡ Ok found.plan → outcome (reviewed_plan found.plan) held ≡ Ok found.review
+    → outcome written_files held ≡ Ok texts → outcome (verified_settings name) held ≡ Ok (record { found = found; texts = texts })
+all_loads name held found texts of_plan of_review of_texts =
+    let of_found : outcome (reviewed_settings name) held ≡ Ok found = outcome_go (plan_file name) _ held found.plan of_plan ∙ outcome_go (reviewed_plan found.plan) _ held found.review of_review in
+    outcome_go (reviewed_settings name) _ held found of_found ∙ outcome_go written_files _ held texts of_texts
 
 -- what a run has put proves its links
 module _ (law : RunIsVerified) (name : List ℕ) (kept : IsKept name) (store : StoreSeen) (out : SinkSeen) (told : store.tells) where
@@ -199,21 +215,10 @@ module _ (law : RunIsVerified) (name : List ℕ) (kept : IsKept name) (store : S
       let w : WrittenPlan = record { found = record { plan = plan; review = review }; texts = written_of put.texts } in
       let of_plan : outcome (plan_file name) after ≡ Ok plan = same_outcome IsKept held after (puts_keep put.texts held) (plan_file name) (loads_plan name kept) ∙ from.of_settings in
       let of_review : outcome (reviewed_plan plan) after ≡ Ok review =
-      same_outcome IsKept held after (puts_keep put.texts held) (reviewed_plan plan) (loads_review plan kept_plan.files) ∙ reviewed plan review held from.by in
-      let of_found : outcome (reviewed_settings name) after ≡ Ok found = outcome_go (plan_file name) _ after plan of_plan ∙ outcome_go (reviewed_plan plan) _ after review of_review in
-      let whole : outcome (verified_settings name) after ≡ Ok w =
-      outcome_go (reviewed_settings name) _ after found of_found ∙ outcome_go written_files _ after (written_of put.texts) (written_held put.texts held short) in
+      same_outcome IsKept held after (puts_keep put.texts held) (reviewed_plan plan) (loads_review plan kept_plan.files) ∙ review_loads plan review held from.by in
+      let whole : outcome (verified_settings name) after ≡ Ok w = all_loads name after found (written_of put.texts) of_plan of_review (written_held put.texts held short) in
       let holds : HoldsAll (puts (run_puts put.texts)) store = subst (λ d. HoldsAll d store) put.so e.held in
       subst (HoldsProof name) (sym (holds told)) (record { found = w; loaded = whole; links = made.links; proved = proved })
-    where
-      reviewed : (plan : Plan) (review : Review) (held : Held) → FoundBy plan held review → outcome (reviewed_plan plan) held ≡ Ok review
-      reviewed plan review held by =
-          let decisions : outcome (decided_plan plan review.files) held ≡ Ok (record { shares = review.shares; decided = review.decided }) =
-          outcome_go (shares_over plan review.files plan.sample) _ held review.shares by.of_shares
-          ∙ outcome_go (gives (decided plan review.files review.shares)) _ held review.decided by.of_decisions in
-          outcome_go (prepared_files plan) _ held review.files by.of_files
-          ∙ outcome_go (decided_plan plan review.files) _ held (record { shares = review.shares; decided = review.decided }) decisions
-          ∙ outcome_go (journal_file review.files plan.journal) _ held review.journal by.of_journal
 
 -- the settings file of a run is none of the outputs
 record KeepsSettings (command : Option Command) : Type 0 where
@@ -289,7 +294,7 @@ module _ (name : List ℕ) (store : StoreSeen) (out : SinkSeen) (told : store.te
   yes_of ended e =
       let same : proof.found ≡ e.is_due.found = ok_same proof.found e.is_due.found (sym proof.loaded ∙ e.is_due.steps.told told) in
       let proved : proved_by e.is_due.found ≡ Ok proof.links = subst (λ w. proved_by w ≡ Ok proof.links) same proof.proved in
-      e.is_due.so ∙ is_yes e.is_due.found proof.links (proved_by e.is_due.found) proved
+      e.is_due.so.line ∙ is_yes e.is_due.found proof.links (proved_by e.is_due.found) proved
 
   no_refusal : (f : Fault) → ComesTo (verified_settings name) store (Err f) → ⊥
   no_refusal f c = no_err proof.found f (sym proof.loaded ∙ c.told told)

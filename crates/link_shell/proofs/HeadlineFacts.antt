@@ -1,5 +1,5 @@
 -- The headline follows of what the words do, and of the status that is told.
-use Rattle.std.proofs.Common.{◌≡◌, ◌⊎◌, ◌∙◌, inl, inr, ◌∷◌, ℕ, ℤ, List, [], Option, Some, None, Result, Ok, Err, refl, sym, ap, subst, arith}
+use Rattle.std.proofs.Common.{◌≡◌, ◌⊎◌, ◌∙◌, inl, inr, ◌∷◌, ℕ, ℤ, List, [], length, Option, Some, None, Result, Ok, Err, refl, sym, ap, subst, arith}
 use Rattle.std.specs.Prelude.{All, Contains}
 use Rattle.std.proofs.lemmas.List.Elements.{All-contains, All-weaker}
 use Rattle.candidate_links.proofs.CandidateLemmas.{all_if, some_same}
@@ -21,6 +21,7 @@ use Rattle.link_core.specs.Results.{candidates_in, compared_in}
 use Rattle.link_outside.specs.Outside.{Held}
 use Rattle.link_outside.specs.declared.outside.SinkError.{SinkError}
 use Rattle.link_outside.specs.declared.outside.SinkError.TheVariants as sink
+use Rattle.price_check.specs.Assignment.{Certifies, IsGreatest}
 use Rattle.pair_decisions.proofs.PairLemmas.{compared_rise}
 use Rattle.pair_decisions.specs.Decisions.{decision_at}
 use Rattle.pair_decisions.specs.PairRule.{SideRule}
@@ -37,7 +38,7 @@ use Rattle.command_steps.specs.Seen.{IsUncalled, SinkSeen, StoreSeen}
 use Rattle.command_steps.specs.Steps.{◌>>=◌, gives, load, outcome, Steps}
 use Rattle.command_steps.specs.declared.ends.Ended.{Ended}
 use Rattle.command_steps.specs.declared.ends.Ended.TheVariants.{Done, Refuted}
-use Rattle.link_shell.specs.Headline.{Headline, IsByRuleOrReview, RunWrites}
+use Rattle.link_shell.specs.Headline.{AreGreatestLinks, Headline, IsByRuleOrReview, RunWrites}
 use Rattle.link_shell.specs.Linked.{Follows, Performed, Reported, status_after}
 use Rattle.link_shell.specs.RunSettings.{run_puts, run_script}
 
@@ -84,7 +85,7 @@ settings_found name held found e =
     subst (λ f. SettingsFound name held f) (ok_same _ _ review.2) (record { of_settings = plan.1; by = found_by plan.0 held review.0 review.1 })
 
 -- the rule of decisions is that of the plan and its shares
-rule_is : (r : Result (List PairAt) Fault) (rule : SideRule) (p : PreparedView) (d : Decisions) → and_then r (λ pairs. Ok (decided_by rule p pairs)) ≡ Ok d → d.rule ≡ rule
+pub rule_is : (r : Result (List PairAt) Fault) (rule : SideRule) (p : PreparedView) (d : Decisions) → and_then r (λ pairs. Ok (decided_by rule p pairs)) ≡ Ok d → d.rule ≡ rule
 rule_is (Ok pairs) rule p d e = ap (λ (x : Decisions). x.rule) (sym (ok_same _ _ e))
 rule_is (Err f) rule p d e = no_ok f d e
 
@@ -116,6 +117,22 @@ module _ (files : PreparedView) (rule : SideRule) (journal : List Entry) (award 
   all_by (at ∷ pairs) =
       all_if (IsByRuleOrReview files rule journal) (candidates_of rule files.values.a.rows files.values.b.rows journal award pairs) (candidate_of rule files.values.a.rows files.values.b.rows journal award at) (of_pair at) (all_by pairs)
 
+-- a greatest list of a plan's candidates, with prices that certify it
+pub are_greatest : (plan : Plan) (files : PreparedView) (rule : SideRule) (journal : List Entry) (links : List Candidate) (prices_a prices_b : List ℤ)
+    → IsGreatest (candidates_in plan files rule journal) links → Certifies (candidates_in plan files rule journal) links prices_a prices_b
+    → length prices_a ≡ length files.files.a.records → length prices_b ≡ length files.files.b.records → AreGreatestLinks plan files rule journal links prices_a prices_b
+are_greatest plan files rule journal links prices_a prices_b greatest certified priced_a priced_b =
+    let candidates = candidates_in plan files rule journal in
+    record {
+      one_to_one = greatest.one_to_one;
+      by_rule_or_review = All-weaker (Contains candidates) (IsByRuleOrReview files rule journal)
+          (λ c among. All-contains (IsByRuleOrReview files rule journal) candidates c (all_by files rule journal plan.award (compared_in plan files)) among) links greatest.one_to_one.among;
+      greatest = greatest.most;
+      certified = certified;
+      priced_a = priced_a;
+      priced_b = priced_b;
+    }
+
 -- a fault has a status above 0
 status_above : (f : Fault) → fault_status f ≡ 0 → ⊥
 status_above f e = grind (arith)
@@ -133,7 +150,6 @@ module _ (name : List ℕ) (store : StoreSeen) (out err : SinkSeen) (told : stor
       let put = e.is_due.so in
       let made = put.made in
       let from = settings_found name store.held_before found (e.is_due.steps.told told) in
-      let candidates = candidates_in found.plan found.review.files found.review.decided.rule found.review.journal in
       let holds : HoldsAll (puts (run_puts put.texts)) store = subst (λ d. HoldsAll d store) put.so e.held in
       let silent : TakesAll (puts (run_puts put.texts)) out = subst (λ d. TakesAll d out) put.so e.taken in
       record {
@@ -156,15 +172,7 @@ module _ (name : List ℕ) (store : StoreSeen) (out err : SinkSeen) (told : stor
         of_plan = rule_is (plan_pairs found.plan found.review.files.files) (rule_over found.plan found.review.files found.review.shares) found.review.files found.review.decided from.by.of_decisions;
         exactly_the_pairs = record { exactly = refl; once = compared_rise found.review.files.files.a.records found.review.files.files.b.records found.plan.passes };
         a_least_rule = record { filled = put.rule; least = least put.rule.by_shares found.plan.mu_ppm found.plan.lambda_ppm found.review.decided.rule.cells put.rule.filled };
-        greatest_links = record {
-          one_to_one = made.greatest.one_to_one;
-          by_rule_or_review = All-weaker (Contains candidates) (IsByRuleOrReview found.review.files found.review.decided.rule found.review.journal)
-              (λ c among. All-contains (IsByRuleOrReview found.review.files found.review.decided.rule found.review.journal) candidates c (all_by found.review.files found.review.decided.rule found.review.journal found.plan.award (compared_in found.plan found.review.files)) among) made.links made.greatest.one_to_one.among;
-          greatest = made.greatest.most;
-          certified = made.certified;
-          priced_a = made.priced_a;
-          priced_b = made.priced_b;
-        };
+        greatest_links = are_greatest found.plan found.review.files found.review.decided.rule found.review.journal made.links made.prices_a made.prices_b made.greatest made.certified made.priced_a made.priced_b;
         reported = made.reported;
         writes = holds told ∙ (λ i. after_puts (run_puts (record { pairs = made.pairs_text i; rule = made.rule_text i; links = made.links_text i; prices = made.prices_text i; report = made.report_text i })) store.held_before);
         nothing_out = silent;

@@ -14,6 +14,7 @@ use Rattle.link_base.specs.declared.rule.Verdict.TheVariants as verdict
 use Rattle.link_core.specs.Decisions.{rule_over}
 use Rattle.link_core.specs.Prepared.{PreparedView}
 use Rattle.link_core.specs.Results.{candidates_in, IsReportOf}
+use Rattle.link_outside.specs.Outside.{Held}
 use Rattle.link_report.specs.LinksText.{text_of_links}
 use Rattle.link_report.specs.PairsText.{text_of_pairs}
 use Rattle.link_report.specs.PricesText.{text_of_prices}
@@ -39,16 +40,16 @@ use Rattle.command_steps.specs.Steps.{outcome}
 use Rattle.link_shell.specs.Commands.{command_of, run_of_settings}
 use Rattle.link_shell.specs.RunSettings.{run_puts}
 
--- an accepted input: what the names hold at the start has a plan, two files, the shares of the plan's fields, and a journal
-pub record Accepted (name : List ℕ) (store : StoreSeen) : Type 0 where
+-- an accepted input: what names hold has a plan, two files, the shares of the plan's fields, and a journal
+pub record Accepted (name : List ℕ) (held : Held) : Type 0 where
   pub plan : Plan
   pub files : PreparedView
   pub shares : List PlainShares
   pub journal : List Entry
-  pub of_settings : outcome (plan_file name) store.held_before ≡ Ok plan
-  pub of_files : outcome (prepared_files plan) store.held_before ≡ Ok files
-  pub of_shares : outcome (shares_over plan files plan.sample) store.held_before ≡ Ok shares
-  pub of_journal : outcome (journal_file files plan.journal) store.held_before ≡ Ok journal
+  pub of_settings : outcome (plan_file name) held ≡ Ok plan
+  pub of_files : outcome (prepared_files plan) held ≡ Ok files
+  pub of_shares : outcome (shares_over plan files plan.sample) held ≡ Ok shares
+  pub of_journal : outcome (journal_file files plan.journal) held ≡ Ok journal
 
 -- exactly the pairs that share a key in some pass: the filter of the product, which rises, so that each stands there once
 pub record AreExactlyThePairs (plan : Plan) (files : PreparedView) (pairs : List PairAt) : Type 0 where
@@ -79,7 +80,7 @@ pub record AreGreatestLinks (plan : Plan) (files : PreparedView) (rule : SideRul
 
 -- what `run` has written
 pub record RunWrites (name : List ℕ) (store : StoreSeen) (out err : SinkSeen) : Type 0 where
-  pub input : Accepted name store
+  pub input : Accepted name store.held_before
   pub rule : SideRule
   pub pairs : List PairAt
   pub links : List Candidate

@@ -18,3 +18,4 @@ pub mod DuplicatesSettings
 pub mod ManySettings
 pub mod Limits
 pub mod KeptVerdicts
+pub mod Meaning

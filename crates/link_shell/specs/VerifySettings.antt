@@ -6,6 +6,7 @@ use Rattle.link_base.specs.declared.rule.Candidate.{Candidate}
 use Rattle.link_core.specs.Verify.{is_proved, line_of, verified_in, TellsVerdict}
 use Rattle.link_core.specs.declared.verify.Verification.{Verification}
 use Rattle.link_limits.specs.declared.TheConstants.{MOST_WRITTEN_BYTES}
+use Rattle.pair_decisions.specs.PlanRule.{IsRuleOf}
 use Rattle.written_check.specs.Verified.{WrittenTexts}
 use Rattle.written_check.specs.declared.refutation.Refutation.{Refutation}
 use Rattle.command_steps.specs.Does.{Script}
@@ -47,9 +48,14 @@ verified_settings name = do
 abbrev pub proved_by : WrittenPlan → Result (List Candidate) Refutation
 proved_by w = verified_in w.found.plan w.found.review.files w.found.review.decided.rule w.found.review.journal w.texts
 
+-- the rule that written files are held against is the filled table of the plan and the shares of its fields
+abbrev pub IsHeldToRule : WrittenPlan → Type 0
+IsHeldToRule w = IsRuleOf w.found.plan w.found.review.shares w.found.review.decided.rule.cells
+
 -- machinery: it is told whether the files prove their links, with the line that says so
-abbrev pub tells_of : WrittenPlan → Verification → Type 0
-tells_of w told = TellsVerdict w.found.review.files (proved_by w) told
+pub record TellsOf (w : WrittenPlan) (told : Verification) : Type 0 where
+  pub rule : IsHeldToRule w
+  pub verdict : TellsVerdict w.found.review.files (proved_by w) told
 
 -- status 0 where there is no reason, and 9 where there is one
 abbrev pub ended_if : Bool → Ended
@@ -59,9 +65,10 @@ ended_if false = Refuted
 abbrev pub ended_by : Result (List Candidate) Refutation → Ended
 ended_by told = ended_if (is_proved told)
 
--- the line is printed: `yes`, or `no: ` and the first reason
-abbrev pub is_told : WrittenPlan → Due → Type 0
-is_told w due = due ≡ prints (ended_by (proved_by w)) (line_of w.found.review.files (proved_by w))
+-- the line is printed: `yes`, or `no: ` and the first reason, by the filled table of the plan and the shares of its fields
+pub record IsTold (w : WrittenPlan) (due : Due) : Type 0 where
+  pub rule : IsHeldToRule w
+  pub line : due ≡ prints (ended_by (proved_by w)) (line_of w.found.review.files (proved_by w))
 
 abbrev pub verify_script : List ℕ → Script
-verify_script name = record { Found = WrittenPlan; steps = verified_settings name; due = is_told }
+verify_script name = record { Found = WrittenPlan; steps = verified_settings name; due = IsTold }

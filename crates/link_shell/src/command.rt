@@ -9,8 +9,10 @@ ghost use Rattle.link_shell.specs.Headline.{Headline};
 ghost use Rattle.link_shell.specs.KeptVerdicts.{NoVerdictLost};
 ghost use Rattle.link_shell.specs.Limits.{TheLimits};
 ghost use Rattle.link_shell.specs.Linked.{Follows, Performed, Reported};
+ghost use Rattle.link_shell.specs.Meaning.{RowsSayYes, YesMeans};
 
 use crate::limits::limits_are_these;
+use crate::meaning::verify_tells;
 use crate::words::settings_after;
 use crate::{
     duplicates_settings, frontier_settings, generate, keys, many_settings, migrate_settings,
@@ -135,9 +137,14 @@ fn report<E: Sink>(alloc: Global, answer: &Result<Ended, Fault>, err: &mut E) ->
 /// randomised rules whose error levels are at most its own, has the least chance of 'possible link' for matched and for unmatched
 /// pairs; and one-to-one links, each by rule or review, of greatest total weight, awards of review included, with prices that
 /// certify it (clause `headline`). What it writes is verified: after it `verify` with the same settings file says yes where nothing
-/// outside fails and memory is there (clauses `proved_by_run` and `yes_where_proved`). No verdict is lost: the journal that `review` or
-/// `migrate` leaves loads as the entries that it had, followed by one for each new verdict (clause `no_verdict_lost`). Each limit is
-/// the number that users are told (clause `limits`).
+/// outside fails and memory is there (clauses `proved_by_run` and `yes_where_proved`).
+///
+/// `verify` ends with 0 only where the three files, whoever wrote them, have the rows of that least rule, of such links and of such
+/// prices, and with 9 only where they have not (clause `yes_means`); where they have them, in any form that CSV allows, it says yes where
+/// nothing outside fails and memory is there (clause `rows_say_yes`).
+///
+/// No verdict is lost: the journal that `review` or `migrate` leaves loads as the entries that it had, followed by one for each new
+/// verdict (clause `no_verdict_lost`). Each limit is the number that users are told (clause `limits`).
 pub fn linkage<S: Store, O: Sink, E: Sink>(
     alloc: Global,
     words: &[String],
@@ -151,10 +158,13 @@ pub fn linkage<S: Store, O: Sink, E: Sink>(
     ensures headline { Headline (map string_bytes words.now) (store_seen S.tells S.held S.faults store.old store.new) (sink_seen O.tells O.taken O.faults out.old out.new) (sink_seen E.tells E.taken E.faults err.old err.new) result }
     ensures proved_by_run { ProvedByRun (map string_bytes words.now) (store_seen S.tells S.held S.faults store.old store.new) result }
     ensures yes_where_proved { YesWhereProved (map string_bytes words.now) (store_seen S.tells S.held S.faults store.old store.new) (sink_seen O.tells O.taken O.faults out.old out.new) result }
+    ensures yes_means { YesMeans (map string_bytes words.now) (store_seen S.tells S.held S.faults store.old store.new) (sink_seen O.tells O.taken O.faults out.old out.new) result }
+    ensures rows_say_yes { RowsSayYes (map string_bytes words.now) (store_seen S.tells S.held S.faults store.old store.new) (sink_seen O.tells O.taken O.faults out.old out.new) result }
     ensures no_verdict_lost { NoVerdictLost (map string_bytes words.now) (store_seen S.tells S.held S.faults store.old store.new) result }
     ensures limits { TheLimits }
 {
     run_is_verified();
+    verify_tells();
     no_verdict_is_lost();
     limits_are_these();
     let answer = perform(alloc, words, store, out);

@@ -5,7 +5,7 @@ ghost use Rattle.command_steps.specs.Reviewed.{found_of, IsReviewed};
 ghost use Rattle.command_steps.specs.Seen.{sink_seen, store_seen};
 ghost use Rattle.command_steps.specs.Steps.{Makes, seen_by, Takes};
 ghost use Rattle.link_limits.specs.declared.TheConstants.{MOST_WRITTEN_BYTES};
-ghost use Rattle.link_shell.specs.VerifySettings.{ended_if, tells_of, verify_script, written_files, written_plan};
+ghost use Rattle.link_shell.specs.VerifySettings.{ended_if, TellsOf, verify_script, written_files, written_plan};
 ghost use Rattle.written_check.specs.Verified.{texts_in};
 
 use command_steps::{Ended, ReviewedSettings, load_reviewed_settings, load_written, print_text};
@@ -50,7 +50,7 @@ fn verify_found<S: Store>(
     found: &ReviewedSettings,
 ) -> Result<Verification, Fault>
     requires { IsReviewed found.now }
-    ensures { Makes (written_plan (found_of found.now)) tells_of (store_seen S.tells S.held S.faults store.old store.new) result }
+    ensures { Makes (written_plan (found_of found.now)) TellsOf (store_seen S.tells S.held S.faults store.old store.new) result }
 {
     let written = load_files(alloc, store)?;
     let reviewed = &found.reviewed;

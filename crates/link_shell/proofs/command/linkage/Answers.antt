@@ -4,6 +4,7 @@ use Rattle.std.proofs.lemmas.Str.{IsUtf8-string_bytes}
 use Rattle.link_shell.proofs.AfterRunFacts.{proved_by_run, yes_where_proved}
 use Rattle.link_shell.proofs.HeadlineFacts.{headline}
 use Rattle.link_shell.proofs.KeptVerdictFacts.{no_verdict_lost}
+use Rattle.link_shell.proofs.MeaningFacts.{rows_say_yes, yes_means}
 use Rattle.link_shell.proofs.command.linkage.Goals as goal
 
 pub returns-clause-headline : goal.returns-clause-headline
@@ -22,3 +23,9 @@ returns-clause-no_verdict_lost g c =
 
 pub returns-clause-limits : goal.returns-clause-limits
 returns-clause-limits g c = c.limits_are_these.ensures
+
+pub returns-clause-yes_means : goal.returns-clause-yes_means
+returns-clause-yes_means g c = yes_means c.verify_tells.ensures.told _ _ _ _ c.perform-answer.result _ c.perform-answer.ensures c.report-status.ensures
+
+pub returns-clause-rows_say_yes : goal.returns-clause-rows_say_yes
+returns-clause-rows_say_yes g c = rows_say_yes c.verify_tells.ensures.proved _ _ _ _ c.perform-answer.result _ c.perform-answer.ensures c.report-status.ensures

@@ -1,0 +1,248 @@
+-- What `verify` tells, by what names hold.
+use Rattle.std.proofs.Common.{◌≡◌, ◌≤◌, ◌∙◌, ℕ, List, Bool, true, false, length, codes, if◌then◌else◌, Some, Result, Ok, Err, refl, sym, ap, subst, arith}
+use Rattle.std.specs.Prelude.{All, nat_le}
+use Rattle.std.proofs.lemmas.Bool.{le-leb, leb-true, true≢false}
+use Rattle.std.proofs.lemmas.List.Elements.{All-weaker}
+use Rattle.candidate_links.specs.Candidates.{HasBounds}
+use Rattle.decision_rule.proofs.RuleLemmas.{least}
+use Rattle.link_base.specs.Answers.{and_then}
+use Rattle.link_base.specs.Fault.{fault_status}
+use Rattle.link_base.specs.Rule.{IsWithinRanges}
+use Rattle.link_base.specs.declared.fault.Fault.{Fault}
+use Rattle.link_base.specs.declared.fault.Fault.TheVariants as fault
+use Rattle.link_base.specs.declared.fault.FileRole.TheVariants as role
+use Rattle.link_base.specs.declared.rule.Candidate.{Candidate}
+use Rattle.link_base.specs.declared.rule.PairAt.{PairAt}
+use Rattle.link_base.specs.declared.rule.RuleCell.{RuleCell}
+use Rattle.link_core.proofs.FileLemmas.{read_files}
+use Rattle.link_core.proofs.RunLemmas.{candidates_are, small_cells}
+use Rattle.link_core.specs.Decisions.{decided, decided_by, Decisions, rule_over}
+use Rattle.link_core.specs.Pairs.{plan_pairs}
+use Rattle.link_core.specs.Prepared.{PreparedView}
+use Rattle.link_core.specs.Results.{candidates_in, compared_in}
+use Rattle.link_core.specs.Verify.{line_of, verified_in}
+use Rattle.link_limits.specs.declared.TheConstants.{MOST_FIELDS, MOST_PAIRS, MOST_POOLED_BYTES}
+use Rattle.link_outside.specs.Outside.{Held}
+use Rattle.link_outside.specs.declared.outside.SinkError.{SinkError}
+use Rattle.link_outside.specs.declared.outside.SinkError.TheVariants as sink
+use Rattle.link_plan.specs.Plan.{PlainShares}
+use Rattle.link_plan.specs.declared.plan.Plan.{Plan}
+use Rattle.pair_decisions.specs.Comparators.{rares_of}
+use Rattle.pair_decisions.specs.PairRule.{SideRule}
+use Rattle.pair_decisions.specs.PlanRule.{IsRuleOf}
+use Rattle.pair_decisions.specs.TheRule.{the_rule}
+use Rattle.price_check.specs.Law.{CertifiedIsGreatest}
+use Rattle.review_journal.specs.declared.entry.Entry.{Entry}
+use Rattle.settings.proofs.Ranges.{read_plan}
+use Rattle.written_check.specs.Short.{IsSmallCell}
+use Rattle.written_check.specs.Verified.{WrittenTexts}
+use Rattle.written_check.specs.declared.refutation.Refutation.{Refutation}
+use Rattle.command_steps.proofs.StepFacts.{no_ok, ok_same}
+use Rattle.command_steps.specs.Does.{Ends}
+use Rattle.command_steps.specs.Due.{Due, ended_of, HoldsAll, prints, TakesAll}
+use Rattle.command_steps.specs.Front.{both_files, plan_file}
+use Rattle.command_steps.specs.Reviewed.{Review, reviewed_settings, ReviewedPlan}
+use Rattle.command_steps.specs.Seen.{SinkSeen, StoreSeen}
+use Rattle.command_steps.specs.Steps.{file, outcome}
+use Rattle.command_steps.specs.declared.ends.Ended.{Ended}
+use Rattle.command_steps.specs.declared.ends.Ended.TheVariants.{Done, Refuted}
+use Rattle.link_shell.proofs.AfterRunFacts.{all_loads, review_loads, shares_few, yes_where_proved}
+use Rattle.link_shell.proofs.HeadlineFacts.{are_greatest, came, FoundBy, rule_is, settings_found, told_above}
+use Rattle.link_shell.specs.AfterRun.{HoldsProof}
+use Rattle.link_shell.specs.Linked.{Follows, Performed, Reported, status_after}
+use Rattle.link_shell.specs.Meaning.{HaveCertifiedRows, HoldsRows, rule_with, RowsAreProof, RowsAreVerified, SaidYes, TellsRows, VerifiedHaveRows, VerifyTells, YesMeans, RowsSayYes}
+use Rattle.link_shell.specs.VerifySettings.{ended_by, IsHeldToRule, IsTold, proved_by, verified_settings, verify_script, written_files, WrittenPlan}
+
+-- pairs that were found are not too many, and those that are not too many are found
+few_if : (pairs got : List PairAt) (t : Bool) → nat_le (length pairs) MOST_PAIRS ≡ t → (if t then Ok pairs else Err (fault.TooManyPairs MOST_PAIRS)) ≡ Ok got → length pairs ≤ MOST_PAIRS
+few_if pairs got true is e = leb-true (length pairs) MOST_PAIRS is
+few_if pairs got false is e = no_ok (fault.TooManyPairs MOST_PAIRS) got e
+
+found_pairs : (r : Result (List PairAt) Fault) (rule : SideRule) (p : PreparedView) (d : Decisions) → and_then r (λ pairs. Ok (decided_by rule p pairs)) ≡ Ok d → (pairs : List PairAt) × (r ≡ Ok pairs)
+found_pairs (Ok pairs) rule p d e = (pairs, refl)
+found_pairs (Err f) rule p d e = no_ok f d e
+
+few_pairs : (plan : Plan) (files : PreparedView) (shares : List PlainShares) (d : Decisions) → decided plan files shares ≡ Ok d → length (compared_in plan files) ≤ MOST_PAIRS
+few_pairs plan files shares d e =
+    let pairs = found_pairs (plan_pairs plan files.files) (rule_over plan files shares) files d e in
+    few_if (compared_in plan files) pairs.0 (nat_le (length (compared_in plan files)) MOST_PAIRS) refl pairs.1
+
+decided_if : (pairs : List PairAt) (rule : SideRule) (p : PreparedView) (t : Bool) → t ≡ true
+    → and_then (if t then Ok pairs else Err (fault.TooManyPairs MOST_PAIRS)) (λ found. Ok (decided_by rule p found)) ≡ Ok (decided_by rule p pairs)
+decided_if pairs rule p true e = refl
+decided_if pairs rule p false e = absurd (true≢false (sym e))
+
+-- ---- verified files have the rows of a proof
+
+module _ (rows : VerifiedHaveRows) (duality : CertifiedIsGreatest) (name : List ℕ) (held : Held) where
+  found_rows : (found : ReviewedPlan) (texts : WrittenTexts) (links : List Candidate) → outcome (reviewed_settings name) held ≡ Ok found → outcome written_files held ≡ Ok texts
+      → IsHeldToRule (record { found = found; texts = texts }) → proved_by (record { found = found; texts = texts }) ≡ Ok links → HoldsRows name held
+  found_rows found texts links of_found of_texts of_plan proved =
+      let plan = found.plan in
+      let files = found.review.files in
+      let shares = found.review.shares in
+      let journal = found.review.journal in
+      let from = settings_found name held found of_found in
+      let rule : SideRule = rule_over plan files shares in
+      let same : found.review.decided.rule ≡ rule = rule_is (plan_pairs plan files.files) rule files found.review.decided from.by.of_decisions in
+      let filled : IsRuleOf plan shares rule.cells = subst (λ (r : SideRule). IsRuleOf plan shares r.cells) same of_plan in
+      let told : verified_in plan files rule journal texts ≡ Ok links = subst (λ (r : SideRule). verified_in plan files r journal texts ≡ Ok links) same proved in
+      let candidates = candidates_in plan files rule journal in
+      let h = rows (rares_of plan.fields) rule.cells candidates files.files.a.records files.files.b.records texts links told in
+      record {
+        input = record {
+          plan = plan;
+          files = files;
+          shares = shares;
+          journal = journal;
+          of_settings = from.of_settings;
+          of_files = from.by.of_files;
+          of_shares = from.by.of_shares;
+          of_journal = from.by.of_journal;
+        };
+        few = few_pairs plan files shares found.review.decided from.by.of_decisions;
+        texts = texts;
+        of_texts = of_texts;
+        proof = record {
+          cells = rule.cells;
+          links = links;
+          prices_a = h.prices_a;
+          prices_b = h.prices_b;
+          a_least_rule = record { filled = filled; least = least filled.by_shares plan.mu_ppm plan.lambda_ppm rule.cells filled.filled };
+          greatest_links = are_greatest plan files rule journal links h.prices_a h.prices_b (duality candidates links h.prices_a h.prices_b h.one_to_one h.certified) h.certified h.priced_a h.priced_b;
+          rows = h.rows;
+        };
+      }
+
+  told_rows : (w : WrittenPlan) (links : List Candidate) → outcome (verified_settings name) held ≡ Ok w → IsHeldToRule w → proved_by w ≡ Ok links → HoldsRows name held
+  told_rows w links loaded of_plan proved =
+      let found = came (reviewed_settings name) _ held w loaded in
+      let texts = came written_files _ held w found.2 in
+      let whole : WrittenPlan = record { found = found.0; texts = texts.0 } in
+      let is : whole ≡ w = ok_same whole w texts.2 in
+      found_rows found.0 texts.0 links found.1 texts.1 (subst IsHeldToRule (sym is) of_plan) (subst (λ (x : WrittenPlan). proved_by x ≡ Ok links) (sym is) proved)
+
+-- ---- rows that prove links are verified
+
+abbrev pub RuleIsFunction : Type 0
+RuleIsFunction = (plan : Plan) (shares : List PlainShares) (cells : List RuleCell) → IsRuleOf plan shares cells → cells ≡ the_rule plan.mu_ppm plan.lambda_ppm shares
+
+abbrev pub CandidatesAreBounded : Type 0
+CandidatesAreBounded =
+    (plan : Plan) (p : PreparedView) (rule : SideRule) (entries : List Entry) → All IsWithinRanges rule.cells → All (HasBounds plan.award) (candidates_in plan p rule entries)
+
+pub rows_are_proof : RowsAreVerified → RuleIsFunction → CandidatesAreBounded → RowsAreProof
+rows_are_proof verified one bounded = λ name held h.
+    let plan = h.input.plan in
+    let files = h.input.files in
+    let shares = h.input.shares in
+    let journal = h.input.journal in
+    let proof = h.proof in
+    let of_plan = proof.a_least_rule.filled in
+    let rule : SideRule = rule_with plan files proof.cells in
+    let candidates = candidates_in plan files rule journal in
+    let read = came (file role.Settings name) _ held plan h.input.of_settings in
+    let kept = read_plan read.0 plan read.2 in
+    let inputs = came (both_files plan.file_a plan.file_b) _ held files h.input.of_files in
+    let few_shares : length shares ≤ MOST_FIELDS = omega (arith, shares_few plan files held shares plan.sample h.input.of_shares, kept.few_fields) in
+    let small = small_cells plan shares proof.cells few_shares kept.few_fields of_plan in
+    let ranges : All IsWithinRanges rule.cells = All-weaker IsSmallCell IsWithinRanges (λ x s. s.ranges) proof.cells small.each in
+    let bounds : All (HasBounds plan.award) candidates = bounded plan files rule journal ranges in
+    let are = candidates_are plan files rule journal (read_files plan MOST_POOLED_BYTES inputs.0.a inputs.0.b files inputs.2) kept.award bounds in
+    let certified : HaveCertifiedRows (rares_of plan.fields) proof.cells candidates files.files.a.records files.files.b.records h.texts proof.links = record {
+      prices_a = proof.prices_a;
+      prices_b = proof.prices_b;
+      rows = proof.rows;
+      one_to_one = proof.greatest_links.one_to_one;
+      certified = proof.greatest_links.certified;
+      priced_a = proof.greatest_links.priced_a;
+      priced_b = proof.greatest_links.priced_b;
+    } in
+    let told : verified_in plan files rule journal h.texts ≡ Ok proof.links =
+    verified (rares_of plan.fields) proof.cells candidates files.files.a.records files.files.b.records h.texts proof.links are certified in
+    let proved : verified_in plan files (rule_over plan files shares) journal h.texts ≡ Ok proof.links =
+    subst (λ (cells : List RuleCell). verified_in plan files (rule_with plan files cells) journal h.texts ≡ Ok proof.links) (one plan shares proof.cells of_plan) told in
+    let own : Decisions = decided_by (rule_over plan files shares) files (compared_in plan files) in
+    let of_decisions : decided plan files shares ≡ Ok own =
+    decided_if (compared_in plan files) (rule_over plan files shares) files (nat_le (length (compared_in plan files)) MOST_PAIRS) (le-leb (length (compared_in plan files)) MOST_PAIRS h.few) in
+    let review : Review = record { files = files; shares = shares; decided = own; journal = journal } in
+    let by : FoundBy plan held review = record { of_files = h.input.of_files; of_shares = h.input.of_shares; of_decisions = of_decisions; of_journal = h.input.of_journal } in
+    let found : ReviewedPlan = record { plan = plan; review = review } in
+    record {
+      found = record { found = found; texts = h.texts };
+      loaded = all_loads name held found h.texts h.input.of_settings (review_loads plan review held by) h.of_texts;
+      links = proof.links;
+      proved = proved;
+    }
+
+-- ---- what is due
+
+abbrev is_done : Ended → Bool
+is_done Done = true
+is_done Refuted = false
+
+not_both : Done ≡ Refuted → ⊥
+not_both e = true≢false (ap is_done e)
+
+abbrev found_links : List Candidate → Result (List Candidate) Refutation
+found_links links = Ok links
+
+abbrev no_links : Refutation → Result (List Candidate) Refutation
+no_links r = Err r
+
+not_refuted : (links : List Candidate) (r : Refutation) → found_links links ≡ no_links r → ⊥
+not_refuted links r e = absurd (cc e)
+
+module _ (rows : VerifiedHaveRows) (duality : CertifiedIsGreatest) (proof : RowsAreProof) (name : List ℕ) (held : Held) (w : WrittenPlan) (due : Due) (loaded : outcome (verified_settings name) held ≡ Ok w) (of_plan : IsHeldToRule w) where
+  tells_by : (r : Result (List Candidate) Refutation) → proved_by w ≡ r → due ≡ prints (ended_by r) (line_of w.found.review.files r) → TellsRows name held due
+  tells_by (Ok links) proved is = record {
+    done = λ ended. record { line = is; rows = told_rows rows duality name held w links loaded of_plan proved };
+    refuted = λ ended. absurd (not_both (ap ended_of (sym is) ∙ ended));
+  }
+  tells_by (Err r) proved is = record {
+    done = λ ended. absurd (not_both (sym ended ∙ ap ended_of is));
+    refuted = λ ended hold. refutes hold;
+  }
+    where
+      refutes : HoldsRows name held → ⊥
+      refutes hold =
+          let h = proof name held hold in
+          let same : h.found ≡ w = ok_same h.found w (sym h.loaded ∙ loaded) in
+          let here : proved_by w ≡ Ok h.links = subst (λ (x : WrittenPlan). proved_by x ≡ Ok h.links) same h.proved in
+          not_refuted h.links r (sym here ∙ proved)
+
+pub verify_tells : VerifiedHaveRows → CertifiedIsGreatest → RowsAreProof → VerifyTells
+verify_tells rows duality proof = λ name held w due loaded told. tells_by rows duality proof name held w due loaded told.rule (proved_by w) refl told.line
+
+-- ---- what the top call answers
+
+status_below : (f : Fault) → fault_status f ≡ 9 → ⊥
+status_below f e = grind (arith)
+
+told_below : {T : Type 0} (f : Fault) (written : Result T SinkError) → status_after f written ≡ 9 → ⊥
+told_below f (Ok x) e = status_below f e
+told_below f (Err sink.Failed) e = status_below f e
+told_below f (Err sink.NoMemory) e = absurd (omega arith)
+
+module _ (law : VerifyTells) (name : List ℕ) (store : StoreSeen) (out : SinkSeen) (told : store.tells) where
+  said_yes : Ends (verify_script name) store out Done → SaidYes name store out
+  said_yes e =
+      let so = (law name store.held_before e.is_due.found e.due (e.is_due.steps.told told) e.is_due.so).done e.as_due in
+      let taken : TakesAll (prints Done (codes "yes\n")) out = subst (λ d. TakesAll d out) so.line e.taken in
+      let still : HoldsAll (prints Done (codes "yes\n")) store = subst (λ d. HoldsAll d store) so.line e.held in
+      record { rows = so.rows; printed = taken.0; unchanged = still }
+
+  said_no : Ends (verify_script name) store out Refuted → HoldsRows name store.held_before → ⊥
+  said_no e hold = (law name store.held_before e.is_due.found e.due (e.is_due.steps.told told) e.is_due.so).refuted e.as_due hold
+
+pub yes_means : VerifyTells → (words : List (List ℕ)) (store : StoreSeen) (out err : SinkSeen) (answer : Result Ended Fault) (status : ℕ) → Performed words store out answer → Reported err answer status → YesMeans words store out status
+yes_means law words store out err (Ok Done) status p r = λ name is told.
+    (λ at_0. said_yes law name store out told (subst (λ command. Follows command store out (Ok Done)) is p.follows).answers, λ at_9. absurd (omega (arith, r.0, at_9)))
+yes_means law words store out err (Ok Refuted) status p r = λ name is told.
+    (λ at_0. absurd (omega (arith, r.0, at_0)), λ at_9. said_no law name store out told (subst (λ command. Follows command store out (Ok Refuted)) is p.follows).answers)
+yes_means law words store out err (Err f) status p r = λ name is told.
+    (λ at_0. absurd (told_above f r.written (sym r.status_is ∙ at_0)), λ at_9. absurd (told_below f r.written (sym r.status_is ∙ at_9)))
+
+pub rows_say_yes : RowsAreProof → (words : List (List ℕ)) (store : StoreSeen) (out err : SinkSeen) (answer : Result Ended Fault) (status : ℕ) → Performed words store out answer → Reported err answer status → RowsSayYes words store out status
+rows_say_yes proof words store out err answer status p r = λ name is told hold same still.
+    yes_where_proved words store out err answer status p r name is told (proof name store.held_before hold) same still

@@ -1,0 +1,391 @@
+-- The rows of written files that are verified, and written files with such rows.
+use Rattle.std.proofs.Common.{◌≡◌, ◌<◌, ◌≤◌, ◌+ℤ◌, ◌+◌, ◌==◌, ◌∷◌, ◌++◌, ◌∙◌, ℕ, ℤ, pos, zero, suc, Bool, true, false, List, [], All, length, drop, get_or, if◌then◌else◌, map, Option, Some, None, Result, Ok, Err, refl, sym, ap, subst, arith}
+use Rattle.std.specs.Prelude.{◌&&◌, ◌||◌, bytes_eq, codes, decimal, filter, nat_le, not, slice_set, zip}
+use Rattle.std.specs.Char.{is_ascii_digit}
+use Rattle.std.specs.List.{list_all}
+use Rattle.std.specs.Ordering.{int_eq}
+use Rattle.std.proofs.lemmas.Bool.{and_parts, eqb-false, eqb-true, leb-true, true≢false}
+use Rattle.std.proofs.lemmas.Bool.Decides.{Decides-int_eq, nat_tests}
+use Rattle.std.proofs.lemmas.Fmt.{decimal-digits_value}
+use Rattle.std.proofs.lemmas.Int.{ints}
+use Rattle.std.proofs.lemmas.List.{append_assoc, append-nil, length-replicate, length-set}
+use Rattle.std.proofs.lemmas.List.Quantifiers.{position-Some}
+use Rattle.std.proofs.lemmas.Slice.Eq.{bytes_eq-Decides}
+use Rattle.std.proofs.lemmas.Str.Parse.{FoldsDigits, IsDigitsTest, IsNumeralModel, numerals_by_fold}
+use Rattle.csv_rows.specs.Numbers.{is_decimal, number_after, number_in}
+use Rattle.file_reader.specs.Left.{records_in}
+use Rattle.link_base.specs.Answers.{and_then}
+use Rattle.link_base.specs.Standard.{id_at, no_record, position_of_id, Record}
+use Rattle.link_base.specs.declared.rule.Candidate.{Candidate}
+use Rattle.link_base.specs.declared.rule.RuleCell.{RuleCell}
+use Rattle.link_limits.specs.declared.TheConstants.{MOST_VALUE}
+use Rattle.link_report.proofs.ReadingLemmas.{row_same}
+use Rattle.link_report.specs.PricesText.{is_priced, price_fields, prices_header}
+use Rattle.link_report.specs.Reading.{first_misfit, rows_of_prices, rows_under, same_row, side_rows, unless_at}
+use Rattle.link_report.specs.RuleText.{cell_fields, rule_header}
+use Rattle.price_check.specs.Assignment.{Certifies, IsCovered, price_sum, worth}
+use Rattle.price_check.specs.Law.{GreatestValueIsLeast, PricesAreBoundedByCandidates}
+use Rattle.written_check.proofs.ApartLemmas.{apart_none}
+use Rattle.written_check.proofs.LinkLemmas.{all_fail}
+use Rattle.written_check.proofs.PriceLemmas.{none_of_none, price_within}
+use Rattle.written_check.proofs.SmallPrices.{small_a, small_b}
+use Rattle.written_check.proofs.SumLemmas.{all_covered, apart_links, covered_so, of_not}
+use Rattle.written_check.proofs.VerifiedLemmas.{came, links_are, ok_is, prices_are, rows_read}
+use Rattle.written_check.proofs.WrittenLemmas.{DecimalsRead, links_read, no_difference, prices_read}
+use Rattle.written_check.specs.Certified.{balanced, covered_then, first_uncovered, is_covered, sums_verified}
+use Rattle.written_check.specs.Laws.{AreCandidatesOf}
+use Rattle.written_check.specs.LinkRows.{apart_verified, first_reused, links_in, links_verified}
+use Rattle.written_check.specs.PriceRows.{have_none, no_prices, price_in, priced_at, priced_more, PricePair, prices_in, prices_verified, row_priced, side_priced, with_a, with_b}
+use Rattle.written_check.specs.Refuted.{refuted_by, rows_of_file, unless_row}
+use Rattle.written_check.specs.RuleRows.{first_difference, rule_verified}
+use Rattle.written_check.specs.Verified.{verified, WrittenTexts}
+use Rattle.written_check.specs.declared.refutation.Refutation.{Refutation}
+use Rattle.written_check.specs.declared.refutation.Refutation.TheVariants as refutation
+use Rattle.link_shell.specs.Meaning.{HaveCertifiedRows, RowsAreVerified, VerifiedHaveRows}
+
+abbrev Row : Type 0
+Row = List (List ℕ)
+
+abbrev okay : (T : Type 0) → T → Result T ℕ
+okay T x = Ok x
+
+-- ---- the rows of a rule
+
+-- rows that do not differ are the same
+same_if : (number : ℕ) (row w : Row) (rows wanted : List Row) (t : Bool) → same_row row w ≡ t → (first_difference (number + 1) rows wanted ≡ None → rows ≡ wanted)
+    → (if t then first_difference (number + 1) rows wanted else Some number) ≡ None → row ∷ rows ≡ w ∷ wanted
+same_if number row w rows wanted true is go e = λ i. row_same row w is i ∷ go e i
+same_if number row w rows wanted false is go e = absurd (cc e)
+
+same_rows : (number : ℕ) (rows wanted : List Row) → first_difference number rows wanted ≡ None → rows ≡ wanted
+same_rows number [] [] e = refl
+same_rows number [] (w ∷ wanted) e = absurd (cc e)
+same_rows number (row ∷ rows) [] e = absurd (cc e)
+same_rows number (row ∷ rows) (w ∷ wanted) e = same_if number row w rows wanted (same_row row w) refl (same_rows (number + 1) rows wanted) e
+
+none_if : (text last : List ℕ) (o : Option ℕ) → unless_row refutation.Rule text o ≡ Ok last → o ≡ None
+none_if text last None e = refl
+none_if text last (Some n) e = absurd (cc e)
+
+rule_rows : (rares : List Bool) (cells : List RuleCell) (text last : List ℕ) → rule_verified rares cells text ≡ Ok last → rows_under rule_header (records_in 44 text) ≡ Ok (map (cell_fields rares) cells)
+rule_rows rares cells text last e =
+    let wanted = map (cell_fields rares) cells in
+    let read = came (rows_of_file refutation.Rule rule_header text) (λ rows. unless_row refutation.Rule text (first_difference 1 rows wanted)) last e in
+    let rows : rows_under rule_header (records_in 44 text) ≡ Ok read.0 = rows_read (List Row) refutation.Rule (rows_under rule_header (records_in 44 text)) read.0 read.1 in
+    rows ∙ ap (okay (List Row)) (same_rows 1 read.0 wanted (none_if text last (first_difference 1 read.0 wanted) read.2))
+
+-- ---- rows that are read are as wide as their header
+
+fit_if : (rest got : List Row) (o : Option ℕ) → unless_at rest o ≡ Ok got → (rest ≡ got) × (o ≡ None)
+fit_if rest got None e = (ok_is ℕ (List Row) rest got e, refl)
+fit_if rest got (Some n) e = absurd (cc e)
+
+fit_by : (header : Row) (rest got : List Row) (t : Bool) → (if t then unless_at rest (first_misfit (length header) 1 rest) else Err 0) ≡ Ok got → first_misfit (length header) 1 got ≡ None
+fit_by header rest got true e =
+    let fit = fit_if rest got (first_misfit (length header) 1 rest) e in
+    ap (first_misfit (length header) 1) (sym fit.0) ∙ fit.1
+fit_by header rest got false e = absurd (cc e)
+
+fit : (header : Row) (records got : List Row) → rows_under header records ≡ Ok got → first_misfit (length header) 1 got ≡ None
+fit header [] got e = absurd (cc e)
+fit header (first ∷ rest) got e = fit_by header rest got (same_row first header) e
+
+fits_if : (width number : ℕ) (row : Row) (rows : List Row) (t : Bool) → (length row == width) ≡ t → (if t then first_misfit width (number + 1) rows else Some number) ≡ None
+    → (length row ≡ width) × (first_misfit width (number + 1) rows ≡ None)
+fits_if width number row rows true is e = (eqb-true (length row) width is, e)
+fits_if width number row rows false is e = absurd (cc e)
+
+three : (row : Row) → length row ≡ 3 → row ≡ get_or row 0 [] ∷ get_or row 1 [] ∷ get_or row 2 [] ∷ []
+three [] e = absurd (omega (arith, e))
+three (x ∷ []) e = absurd (omega (arith, e))
+three (x ∷ y ∷ []) e = absurd (omega (arith, e))
+three (x ∷ y ∷ z ∷ []) e = refl
+three (x ∷ y ∷ z ∷ w ∷ rest) e = absurd (omega (arith, e))
+
+-- ---- the text of a price is that of its number
+
+first_so : (s t : Bool) → (s && t) ≡ true → s ≡ true
+first_so true t e = refl
+first_so false t e = e
+
+second_so : (s t : Bool) → (s && t) ≡ true → t ≡ true
+second_so true t e = e
+second_so false t e = absurd (cc e)
+
+both_so : (s t : Bool) → s ≡ true → t ≡ true → (s && t) ≡ true
+both_so true t e h = h
+both_so false t e h = e
+
+all_digits : IsDigitsTest (λ ds. list_all is_ascii_digit ds ≡ true)
+all_digits = record {
+  empty = refl;
+  parts = λ c cs e. (grind (arith, nat_tests, first_so (is_ascii_digit c) (list_all is_ascii_digit cs) e), second_so (is_ascii_digit c) (list_all is_ascii_digit cs) e);
+  more = λ c cs k e. both_so (is_ascii_digit c) (list_all is_ascii_digit cs) (grind (arith, nat_tests, k)) e;
+}
+
+folds : FoldsDigits number_after
+folds = record { empty = λ n. refl; more = λ n c cs k. refl }
+
+own : IsNumeralModel (λ ds. list_all is_ascii_digit ds ≡ true) number_in
+own = numerals_by_fold (λ ds. list_all is_ascii_digit ds ≡ true) all_digits number_after folds
+
+lead_by : (n c : ℕ) (s t : Bool) → (n == 1) ≡ s → (c == 48) ≡ t → (s || not t) ≡ true → c ≡ 48 → n ≡ 1
+lead_by n c true t is_n is_c e h = eqb-true n 1 is_n
+lead_by n c false true is_n is_c e h = absurd (true≢false (sym e))
+lead_by n c false false is_n is_c e h = absurd (eqb-false c 48 is_c h)
+
+lead : (text : List ℕ) → (length text == 1 || not (get_or text 0 48 == 48)) ≡ true → get_or text 0 0 ≡ 48 → length text ≡ 1
+lead [] e h = absurd (omega (arith, h))
+lead (c ∷ cs) e h = lead_by (length (c ∷ cs)) c (length (c ∷ cs) == 1) (c == 48) refl refl e h
+
+decimal_text : (text : List ℕ) → is_decimal text ≡ true → number_in text ≤ MOST_VALUE → decimal (number_in text) ≡ text
+decimal_text text e few =
+    let led = and_parts (nat_le 1 (length text) && list_all is_ascii_digit text) (length text == 1 || not (get_or text 0 48 == 48)) e in
+    let digits = and_parts (nat_le 1 (length text)) (list_all is_ascii_digit text) led.0 in
+    decimal-digits_value own text digits.1 (leb-true 1 (length text) digits.0) (lead text led.1) (omega (arith, few))
+
+some_number : (x y : ℕ) → Some x ≡ Some y → x ≡ y
+some_number x y e = cc e
+
+text_by : (text : List ℕ) (n : ℕ) (t : Bool) → (t ≡ true → decimal (number_in text) ≡ text) → (if t then Some (number_in text) else None) ≡ Some n → decimal n ≡ text
+text_by text n true go e = ap decimal (sym (some_number (number_in text) n e)) ∙ go refl
+text_by text n false go e = absurd (cc e)
+
+price_text : (text : List ℕ) (n : ℕ) → price_in text ≡ Some n → decimal n ≡ text
+price_text text n e = text_by text n (is_decimal text && nat_le 1 (number_in text) && nat_le (number_in text) MOST_VALUE) of_test e
+  where
+    of_test : (is_decimal text && nat_le 1 (number_in text) && nat_le (number_in text) MOST_VALUE) ≡ true → decimal (number_in text) ≡ text
+    of_test so =
+        let few = and_parts (is_decimal text && nat_le 1 (number_in text)) (nat_le (number_in text) MOST_VALUE) so in
+        let digits = and_parts (is_decimal text) (nat_le 1 (number_in text)) few.0 in
+        decimal_text text digits.0 (leb-true (number_in text) MOST_VALUE few.1)
+
+-- ---- the rows of the prices of a side
+
+some_price : (p : ℕ) → 1 ≤ p → int_eq (pos p) (pos 0) ≡ false
+some_price p some = grind (arith, ints)
+
+module _ (side : List ℕ) where
+  abbrev told : Bool → ℤ → Record → List ℤ → List Record → List Row
+  told t p r prices file = map (price_fields side) (if not t then (p, r) ∷ filter is_priced (zip prices file) else filter is_priced (zip prices file))
+
+  -- prices of 0 have no row
+  none_told : (prices : List ℤ) (file : List Record) → have_none prices ≡ true → side_rows side prices file ≡ []
+  none_told [] file e = refl
+  none_told (p ∷ prices) [] e = refl
+  none_told (p ∷ prices) (r ∷ file) e =
+      let parts = and_parts (int_eq p (pos 0)) (have_none prices) e in
+      ap (λ (t : Bool). told t p r prices file) parts.0 ∙ none_told prices file parts.1
+
+  put_later : (t : Bool) (p : ℤ) (r : Record) (prices more : List ℤ) (file : List Record) (row : Row) → side_rows side more file ≡ side_rows side prices file ++ row ∷ []
+      → told t p r more file ≡ told t p r prices file ++ row ∷ []
+  put_later true p r prices more file row go = go
+  put_later false p r prices more file row go = ap (λ (rows : List Row). price_fields side (p, r) ∷ rows) go
+
+  -- a price that is put after all that are not 0 has the last row
+  put_told : (prices : List ℤ) (file : List Record) (at n : ℕ) → 1 ≤ n → at < length prices → length prices ≡ length file → have_none (drop at prices) ≡ true
+      → side_rows side (slice_set prices at (pos n)) file ≡ side_rows side prices file ++ price_fields side (pos n, get_or file at no_record) ∷ []
+  put_told [] file at n some within long none = absurd (omega (arith, within))
+  put_told (p ∷ prices) [] at n some within long none = absurd (omega (arith, long))
+  put_told (p ∷ prices) (r ∷ file) zero n some within long none =
+      let parts = and_parts (int_eq p (pos 0)) (have_none prices) none in
+      let row = price_fields side (pos n, r) in
+      ap (λ (t : Bool). told t (pos n) r prices file) (some_price n some)
+      ∙ ap (λ (rows : List Row). row ∷ rows) (none_told prices file parts.1)
+      ∙ ap (λ (rows : List Row). rows ++ row ∷ []) (sym (none_told (p ∷ prices) (r ∷ file) none))
+  put_told (p ∷ prices) (r ∷ file) (suc at) n some within long none =
+      put_later (int_eq p (pos 0)) p r prices (slice_set prices at (pos n)) file (price_fields side (pos n, get_or file at no_record))
+      (put_told prices file at n some (omega (arith, within)) (omega (arith, long)) none)
+
+-- a row that is taken for a side is its last one
+record SideTold (side : List ℕ) (file : List Record) (row : Row) (before after : List ℤ) : Type 0 where
+  long : length after ≡ length before
+  rows : side_rows side after file ≡ side_rows side before file ++ (side ∷ get_or row 1 [] ∷ get_or row 2 [] ∷ []) ∷ []
+
+known_there : (file : List Record) (id : List ℕ) (at : ℕ) → position_of_id id file ≡ Some at → (at < length file) × (id_at file at ≡ id)
+known_there file id at e =
+    let found = position-Some (λ (r : Record). bytes_eq id r.id) file at no_record e in
+    (found.0, sym ((bytes_eq-Decides id (id_at file at)).0 found.1))
+
+module _ (side : List ℕ) (file : List Record) (row : Row) (prices qs : List ℤ) (long : length prices ≡ length file) where
+  side_if : (at n : ℕ) → position_of_id (get_or row 1 []) file ≡ Some at → price_in (get_or row 2 []) ≡ Some n → (t : Bool) → have_none (drop at prices) ≡ t
+      → (if t then Some (slice_set prices at (pos n)) else None) ≡ Some qs → SideTold side file row prices qs
+  side_if at n is_at is_price true none e =
+      let there = known_there file (get_or row 1 []) at is_at in
+      let text : decimal n ≡ get_or row 2 [] = price_text (get_or row 2 []) n is_price in
+      let put = put_told side prices file at n (price_within (get_or row 2 []) n (sym is_price)).0 (omega (arith, there.0, long)) long none in
+      let id : id_at file at ≡ get_or row 1 [] = there.1 in
+      subst (SideTold side file row prices) (list_is (slice_set prices at (pos n)) qs e)
+      (record { long = length-set prices at (pos n); rows = put ∙ (λ i. side_rows side prices file ++ (side ∷ id i ∷ text i ∷ []) ∷ []) })
+    where
+      list_is : (x y : List ℤ) → Some x ≡ Some y → x ≡ y
+      list_is x y e = cc e
+  side_if at n is_at is_price false none e = absurd (cc e)
+
+  side_by : (place price : Option ℕ) → position_of_id (get_or row 1 []) file ≡ place → price_in (get_or row 2 []) ≡ price → priced_at prices place price ≡ Some qs → SideTold side file row prices qs
+  side_by None price is_at is_price e = absurd (cc e)
+  side_by (Some at) None is_at is_price e = absurd (cc e)
+  side_by (Some at) (Some n) is_at is_price e = side_if at n is_at is_price (have_none (drop at prices)) refl e
+
+  side_told : side_priced file row prices ≡ Some qs → SideTold side file row prices qs
+  side_told e = side_by (position_of_id (get_or row 1 []) file) (price_in (get_or row 2 [])) refl refl e
+
+-- ---- the rows of all prices
+
+-- a row that is taken is the last one
+record RowTold (a b : List Record) (row : Row) (before after : PricePair) : Type 0 where
+  long_a : length after.a ≡ length before.a
+  long_b : length after.b ≡ length before.b
+  rows : rows_of_prices after.a after.b a b ≡ rows_of_prices before.a before.b a b ++ row ∷ []
+
+before_none : (xs ys none : List Row) (row : Row) → none ≡ [] → ys ≡ xs ++ row ∷ [] → ys ++ none ≡ (xs ++ none) ++ row ∷ []
+before_none xs ys none row is e =
+    ap (λ (z : List Row). ys ++ z) is ∙ append-nil ys ∙ e ∙ ap (λ (z : List Row). z ++ row ∷ []) (sym (append-nil xs) ∙ ap (λ (z : List Row). xs ++ z) (sym is))
+
+whole_row : (side : List ℕ) (row : Row) → length row ≡ 3 → get_or row 0 [] ≡ side → side ∷ get_or row 1 [] ∷ get_or row 2 [] ∷ [] ≡ row
+whole_row side row wide is = ap (λ (x : List ℕ). x ∷ get_or row 1 [] ∷ get_or row 2 [] ∷ []) (sym is) ∙ sym (three row wide)
+
+pair_is : (x y : PricePair) → Some x ≡ Some y → x ≡ y
+pair_is x y e = cc e
+
+module _ (a b : List Record) (row : Row) (s more : PricePair) (wide : length row ≡ 3) (long_a : length s.a ≡ length a) (long_b : length s.b ≡ length b) where
+  a_told : (o : Option (List ℤ)) → side_priced a row s.a ≡ o → get_or row 0 [] ≡ codes "A" → have_none s.b ≡ true → with_a s o ≡ Some more → RowTold a b row s more
+  a_told None is side none e = absurd (cc e)
+  a_told (Some qs) is side none e =
+      let one = side_told (codes "A") a row s.a qs long_a is in
+      let last : side_rows (codes "A") qs a ≡ side_rows (codes "A") s.a a ++ row ∷ [] =
+      one.rows ∙ ap (λ (r : Row). side_rows (codes "A") s.a a ++ r ∷ []) (whole_row (codes "A") row wide side) in
+      subst (RowTold a b row s) (pair_is (record { a = qs; b = s.b }) more e)
+      (record { long_a = one.long; long_b = refl; rows = before_none (side_rows (codes "A") s.a a) (side_rows (codes "A") qs a) (side_rows (codes "B") s.b b) row (none_told (codes "B") s.b b none) last })
+
+  b_told : (o : Option (List ℤ)) → side_priced b row s.b ≡ o → get_or row 0 [] ≡ codes "B" → with_b s o ≡ Some more → RowTold a b row s more
+  b_told None is side e = absurd (cc e)
+  b_told (Some qs) is side e =
+      let one = side_told (codes "B") b row s.b qs long_b is in
+      let of_a = side_rows (codes "A") s.a a in
+      let last : side_rows (codes "B") qs b ≡ side_rows (codes "B") s.b b ++ row ∷ [] =
+      one.rows ∙ ap (λ (r : Row). side_rows (codes "B") s.b b ++ r ∷ []) (whole_row (codes "B") row wide side) in
+      subst (RowTold a b row s) (pair_is (record { a = s.a; b = qs }) more e)
+      (record { long_a = refl; long_b = one.long; rows = ap (λ (rows : List Row). of_a ++ rows) last ∙ sym (append_assoc of_a (side_rows (codes "B") s.b b) (row ∷ [])) })
+
+  choice_told : (in_a none in_b : Bool) → bytes_eq (get_or row 0 []) (codes "A") ≡ in_a → have_none s.b ≡ none → bytes_eq (get_or row 0 []) (codes "B") ≡ in_b
+      → (if in_a then (if none then with_a s (side_priced a row s.a) else None) else if in_b then with_b s (side_priced b row s.b) else None) ≡ Some more → RowTold a b row s more
+  choice_told true true in_b is_a is_none is_b e = a_told (side_priced a row s.a) refl ((bytes_eq-Decides (get_or row 0 []) (codes "A")).0 is_a) is_none e
+  choice_told true false in_b is_a is_none is_b e = absurd (cc e)
+  choice_told false none true is_a is_none is_b e = b_told (side_priced b row s.b) refl ((bytes_eq-Decides (get_or row 0 []) (codes "B")).0 is_b) e
+  choice_told false none false is_a is_none is_b e = absurd (cc e)
+
+  row_told : row_priced a b row s ≡ Some more → RowTold a b row s more
+  row_told e = choice_told (bytes_eq (get_or row 0 []) (codes "A")) (have_none s.b) (bytes_eq (get_or row 0 []) (codes "B")) refl refl refl e
+
+module _ (a b : List Record) where
+  step_told : (number : ℕ) (s last : PricePair) (row : Row) (rows : List Row) (o : Option PricePair) → ((more : PricePair) → o ≡ Some more → RowTold a b row s more)
+      → ((more : PricePair) → RowTold a b row s more → prices_in a b (number + 1) more rows ≡ Ok last → rows_of_prices last.a last.b a b ≡ rows_of_prices more.a more.b a b ++ rows)
+      → priced_more (λ more. prices_in a b (number + 1) more rows) number o ≡ Ok last → rows_of_prices last.a last.b a b ≡ rows_of_prices s.a s.b a b ++ row ∷ rows
+  step_told number s last row rows None h go e = absurd (cc e)
+  step_told number s last row rows (Some more) h go e =
+      let one = h more refl in
+      go more one e ∙ ap (λ (z : List Row). z ++ rows) one.rows ∙ append_assoc (rows_of_prices s.a s.b a b) (row ∷ []) rows
+
+  -- the rows of the prices that rows come to, after those so far
+  all_told : (number : ℕ) (s last : PricePair) (rows : List Row) → length s.a ≡ length a → length s.b ≡ length b → first_misfit 3 number rows ≡ None → prices_in a b number s rows ≡ Ok last
+      → rows_of_prices last.a last.b a b ≡ rows_of_prices s.a s.b a b ++ rows
+  all_told number s last [] long_a long_b fits e =
+      ap (λ (p : PricePair). rows_of_prices p.a p.b a b) (sym (ok_is Refutation PricePair s last e)) ∙ sym (append-nil (rows_of_prices s.a s.b a b))
+  all_told number s last (row ∷ rows) long_a long_b fits e =
+      let wide = fits_if 3 number row rows (length row == 3) refl fits in
+      step_told number s last row rows (row_priced a b row s) (λ more is. row_told a b row s more wide.0 long_a long_b is)
+      (λ more one. all_told (number + 1) more last rows (one.long_a ∙ long_a) (one.long_b ∙ long_b) wide.1) e
+
+  no_rows : rows_of_prices (no_prices a b).a (no_prices a b).b a b ≡ []
+  no_rows =
+      ap (λ (z : List Row). z ++ side_rows (codes "B") (no_prices a b).b b) (none_told (codes "A") (no_prices a b).a a (none_of_none (length a)))
+      ∙ none_told (codes "B") (no_prices a b).b b (none_of_none (length b))
+
+  price_rows : (text : List ℕ) (prices : PricePair) → prices_verified a b text ≡ Ok prices → rows_under prices_header (records_in 44 text) ≡ Ok (rows_of_prices prices.a prices.b a b)
+  price_rows text prices e =
+      let read = came (rows_of_file refutation.Price prices_header text) (λ rows. prices_in a b 1 (no_prices a b) rows) prices e in
+      let rows : rows_under prices_header (records_in 44 text) ≡ Ok read.0 = rows_read (List Row) refutation.Price (rows_under prices_header (records_in 44 text)) read.0 read.1 in
+      let all = all_told 1 (no_prices a b) prices read.0 (length-replicate (length a) (pos 0)) (length-replicate (length b) (pos 0)) (fit prices_header (records_in 44 text) read.0 rows) read.2 in
+      rows ∙ ap (okay (List Row)) (sym (all ∙ ap (λ (z : List Row). z ++ read.0) no_rows))
+
+-- ---- the sums
+
+record SumsTold (cs links last : List Candidate) (prices : PricePair) : Type 0 where
+  same : last ≡ links
+  covered : All (IsCovered prices.a prices.b) cs
+  balanced_ : price_sum prices.a +ℤ price_sum prices.b ≡ worth links
+
+balanced_if : (links last : List Candidate) (x y : ℤ) (t : Bool) → int_eq x y ≡ t → (if t then Ok links else Err (refutation.Sum x y)) ≡ Ok last → (last ≡ links) × (y ≡ x)
+balanced_if links last x y true is e = (sym (ok_is Refutation (List Candidate) links last e), sym ((Decides-int_eq x y).0 is))
+balanced_if links last x y false is e = absurd (cc e)
+
+sums_if : (cs links last : List Candidate) (prices : PricePair) (o : Option Candidate) → first_uncovered cs prices ≡ o
+    → covered_then o (balanced links (worth links) (price_sum prices.a +ℤ price_sum prices.b)) ≡ Ok last → SumsTold cs links last prices
+sums_if cs links last prices (Some c) is e = absurd (cc e)
+sums_if cs links last prices None is e =
+    let sums = balanced_if links last (worth links) (price_sum prices.a +ℤ price_sum prices.b) _ refl e in
+    let none = all_fail (λ c. not (is_covered prices.a prices.b c)) cs is in
+    record { same = sums.0; covered = λ k d lt. covered_so prices.a prices.b (get_or cs k d) (of_not (is_covered prices.a prices.b (get_or cs k d)) (none k d lt)); balanced_ = sums.1 }
+
+apart_if : (links last : List Candidate) (o : Option ℕ) → unless_row refutation.Reused links o ≡ Ok last → unless_row refutation.Reused links o ≡ Ok links
+apart_if links last None e = refl
+apart_if links last (Some n) e = absurd (cc e)
+
+-- ---- verified files, and files with such rows
+
+pub verified_rows : VerifiedHaveRows
+verified_rows = λ rares cells cs a b texts last e.
+    let of_rule = came (rule_verified rares cells texts.rule) _ last e in
+    let of_links = came (links_verified cs a b texts.links) _ last of_rule.2 in
+    let links = of_links.0 in
+    let of_apart = came (apart_verified links) _ last of_links.2 in
+    let of_prices = came (prices_verified a b texts.prices) _ last of_apart.2 in
+    let prices = of_prices.0 in
+    let read = links_are cs a b texts.links links of_links.1 in
+    let priced = prices_are a b texts.prices prices of_prices.1 in
+    let sums = sums_if cs links last prices (first_uncovered cs prices) refl of_prices.2 in
+    subst (HaveCertifiedRows rares cells cs a b texts) (sym sums.same)
+    (record {
+      prices_a = prices.a;
+      prices_b = prices.b;
+      rows = record { of_rule = rule_rows rares cells texts.rule of_rule.0 of_rule.1; of_links = read.rows; of_prices = price_rows a b texts.prices prices of_prices.1 };
+      one_to_one = record { among = read.taken.among; rising = read.taken.rising; apart = apart_links links (apart_if links of_apart.0 (first_reused [] links) of_apart.1) };
+      certified = record {
+        floor_a = λ k d lt. (priced.small_a k d lt).0;
+        floor_b = λ k d lt. (priced.small_b k d lt).0;
+        covered = sums.covered;
+        balanced = sums.balanced_;
+      };
+      priced_a = priced.rows_a;
+      priced_b = priced.rows_b;
+    })
+
+sums_ok : (cs links : List Candidate) (prices : PricePair) → Certifies cs links prices.a prices.b → sums_verified cs links prices ≡ Ok links
+sums_ok cs links prices certified =
+    let sum : ℤ = price_sum prices.a +ℤ price_sum prices.b in
+    ap (λ o. covered_then o (balanced links (worth links) sum)) (all_covered cs prices certified.covered)
+    ∙ ap (λ (t : Bool). if t then Ok links else Err (refutation.Sum (worth links) sum)) ((Decides-int_eq (worth links) sum).1 (sym certified.balanced))
+
+pub rows_verified : DecimalsRead → PricesAreBoundedByCandidates → GreatestValueIsLeast → RowsAreVerified
+rows_verified decimals bounded least = λ rares cells cs a b texts links are h.
+    let ps = h.prices_a in
+    let qs = h.prices_b in
+    let wanted = map (cell_fields rares) cells in
+    let of_rule : rule_verified rares cells texts.rule ≡ Ok texts.rule =
+    ap (λ r. and_then (refuted_by refutation.Rule r) (λ read. unless_row refutation.Rule texts.rule (first_difference 1 read wanted))) h.rows.of_rule
+    ∙ ap (unless_row refutation.Rule texts.rule) (no_difference 1 wanted) in
+    let of_links : links_verified cs a b texts.links ≡ Ok links =
+    ap (λ r. and_then (refuted_by refutation.Link r) (λ read. links_in cs a b [] read)) h.rows.of_links
+    ∙ links_read cs a b are.distinct_a are.distinct_b are.rising are.within [] links h.one_to_one.rising h.one_to_one.among in
+    let of_apart : apart_verified links ≡ Ok links = ap (unless_row refutation.Reused links) (apart_none [] links h.one_to_one.apart) in
+    let prices : PricePair = record { a = ps; b = qs } in
+    let of_prices : prices_verified a b texts.prices ≡ Ok prices =
+    ap (λ r. and_then (refuted_by refutation.Price r) (λ read. prices_in a b 1 (no_prices a b) read)) h.rows.of_prices
+    ∙ prices_read decimals a b ps qs are.distinct_a are.distinct_b h.priced_a h.priced_b
+    (small_a bounded least cs links are.allowed h.one_to_one ps qs h.certified) (small_b bounded least cs links are.allowed h.one_to_one ps qs h.certified) in
+    ap (λ r. and_then r (λ _. and_then (links_verified cs a b texts.links) (λ ls. and_then (apart_verified ls) (λ _. and_then (prices_verified a b texts.prices) (λ p. sums_verified cs ls p))))) of_rule
+    ∙ ap (λ r. and_then r (λ ls. and_then (apart_verified ls) (λ _. and_then (prices_verified a b texts.prices) (λ p. sums_verified cs ls p)))) of_links
+    ∙ ap (λ r. and_then r (λ _. and_then (prices_verified a b texts.prices) (λ p. sums_verified cs links p))) of_apart
+    ∙ ap (λ r. and_then r (λ p. sums_verified cs links p)) of_prices
+    ∙ sums_ok cs links prices h.certified

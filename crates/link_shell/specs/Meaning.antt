@@ -1,0 +1,125 @@
+-- What `yes` means, whoever wrote the three files: their rows are exactly those of the filled, hence least, rule, of one-to-one links of
+-- greatest total weight, and of prices, one for each record, that certify it (clause `yes_means` of `linkage`, law `verify_tells`). Where names
+-- hold such rows, in any form that CSV allows, `verify` says yes (clause `rows_say_yes`). The law `verified_means` says the same of the five
+-- steps of `verified`.
+use Rattle.std.specs.Prelude.{◌≡◌, ◌≤◌, ◌++◌, ℕ, ℤ, Bool, List, codes, length, map, Some, Ok}
+use Rattle.price_check.specs.Assignment.{Certifies, IsOneToOne}
+use Rattle.file_reader.specs.Left.{records_in}
+use Rattle.link_base.specs.Standard.{Record}
+use Rattle.link_base.specs.declared.rule.Candidate.{Candidate}
+use Rattle.link_base.specs.declared.rule.RuleCell.{RuleCell}
+use Rattle.link_core.specs.Prepared.{PreparedView}
+use Rattle.link_core.specs.Results.{compared_in}
+use Rattle.link_limits.specs.declared.TheConstants.{MOST_PAIRS}
+use Rattle.link_outside.specs.Outside.{Held, Rose}
+use Rattle.link_plan.specs.Plan.{PlainShares}
+use Rattle.link_plan.specs.declared.plan.Plan.{Plan}
+use Rattle.link_report.specs.LinksText.{link_fields, links_header}
+use Rattle.link_report.specs.PricesText.{prices_header}
+use Rattle.link_report.specs.Reading.{rows_of_prices, rows_under}
+use Rattle.link_report.specs.RuleText.{cell_fields, rule_header}
+use Rattle.pair_decisions.specs.Comparators.{rares_of}
+use Rattle.pair_decisions.specs.PairRule.{side_rule_of, SideRule}
+use Rattle.review_journal.specs.declared.entry.Entry.{Entry}
+use Rattle.written_check.specs.Laws.{AreCandidatesOf}
+use Rattle.written_check.specs.Verified.{verified, WrittenTexts}
+use Rattle.command_steps.specs.Due.{Due, ended_of, prints}
+use Rattle.command_steps.specs.Seen.{SinkSeen, StoreSeen}
+use Rattle.command_steps.specs.Steps.{outcome}
+use Rattle.command_steps.specs.declared.ends.Ended.TheVariants.{Done, Refuted}
+use Rattle.link_shell.specs.AfterRun.{HoldsProof, SaysYes}
+use Rattle.link_shell.specs.Commands.{command_of, verification_of_settings}
+use Rattle.link_shell.specs.Headline.{Accepted, AreGreatestLinks, IsLeastRule}
+use Rattle.link_shell.specs.VerifySettings.{IsTold, verified_settings, written_files, WrittenPlan}
+
+-- texts have exactly these rows under their headers, in any form that CSV allows: those of a rule's cells, of links, and of the prices
+-- that are not 0
+pub record HaveRows (rares : List Bool) (cells : List RuleCell) (links : List Candidate) (prices_a prices_b : List ℤ) (a b : List Record) (texts : WrittenTexts) : Type 0 where
+  pub of_rule : rows_under rule_header (records_in 44 texts.rule) ≡ Ok (map (cell_fields rares) cells)
+  pub of_links : rows_under links_header (records_in 44 texts.links) ≡ Ok (map (link_fields a b) links)
+  pub of_prices : rows_under prices_header (records_in 44 texts.prices) ≡ Ok (rows_of_prices prices_a prices_b a b)
+
+-- texts have the rows of cells, of one-to-one links of candidates, and of prices, one for each record, that certify these links
+pub record HaveCertifiedRows (rares : List Bool) (cells : List RuleCell) (candidates : List Candidate) (a b : List Record) (texts : WrittenTexts) (links : List Candidate) : Type 0 where
+  pub prices_a : List ℤ
+  pub prices_b : List ℤ
+  pub rows : HaveRows rares cells links prices_a prices_b a b texts
+  pub one_to_one : IsOneToOne candidates links
+  pub certified : Certifies candidates links prices_a prices_b
+  pub priced_a : length prices_a ≡ length a
+  pub priced_b : length prices_b ≡ length b
+
+-- what the five steps of `verified` come to: clauses `rows` and `verified` of `verified_means`
+abbrev pub VerifiedHaveRows : Type 0
+VerifiedHaveRows =
+    (rares : List Bool) (cells : List RuleCell) (candidates : List Candidate) (a b : List Record) (texts : WrittenTexts) (links : List Candidate)
+    → verified rares cells candidates a b texts ≡ Ok links → HaveCertifiedRows rares cells candidates a b texts links
+
+abbrev pub RowsAreVerified : Type 0
+RowsAreVerified =
+    (rares : List Bool) (cells : List RuleCell) (candidates : List Candidate) (a b : List Record) (texts : WrittenTexts) (links : List Candidate)
+    → AreCandidatesOf a b candidates → HaveCertifiedRows rares cells candidates a b texts links → verified rares cells candidates a b texts ≡ Ok links
+
+-- the rule of a plan with these cells, over what the rows of its files are compared by
+abbrev pub rule_with : Plan → PreparedView → List RuleCell → SideRule
+rule_with plan p cells = side_rule_of plan (length p.values.texts) p.values.a.rows p.values.b.rows cells
+
+-- texts prove links for a plan, its prepared files, the shares of its fields and a journal: their rows are those of the filled table at the
+-- asked levels, than which no randomised rule with levels at most its own has a smaller chance of a possible link; of one-to-one links,
+-- each by rule or review, of greatest total weight; and of prices, one for each record, that certify it
+pub record ProveByRows (plan : Plan) (files : PreparedView) (shares : List PlainShares) (journal : List Entry) (texts : WrittenTexts) : Type 0 where
+  pub cells : List RuleCell
+  pub links : List Candidate
+  pub prices_a : List ℤ
+  pub prices_b : List ℤ
+  pub a_least_rule : IsLeastRule plan shares (rule_with plan files cells)
+  pub greatest_links : AreGreatestLinks plan files (rule_with plan files cells) journal links prices_a prices_b
+  pub rows : HaveRows (rares_of plan.fields) cells links prices_a prices_b files.files.a.records files.files.b.records texts
+
+-- names hold an input that a run accepts, with not too many compared pairs, and three written files, each within its limit, that prove
+-- links by their rows
+pub record HoldsRows (name : List ℕ) (held : Held) : Type 0 where
+  pub input : Accepted name held
+  pub few : length (compared_in input.plan input.files) ≤ MOST_PAIRS
+  pub texts : WrittenTexts
+  pub of_texts : outcome written_files held ≡ Ok texts
+  pub proof : ProveByRows input.plan input.files input.shares input.journal texts
+
+-- the line `yes` is due, and names hold rows that prove links
+pub record YesIsDue (name : List ℕ) (held : Held) (due : Due) : Type 0 where
+  pub line : due ≡ prints Done (codes "yes\n")
+  pub rows : HoldsRows name held
+
+-- what is due ends with 0 only where names hold rows that prove links, and with 9 only where they do not
+pub record TellsRows (name : List ℕ) (held : Held) (due : Due) : Type 0 where
+  pub done : ended_of due ≡ Done → YesIsDue name held due
+  pub refuted : ended_of due ≡ Refuted → ¬ HoldsRows name held
+
+-- what is due of `verify` by what names hold: clause `told` of `verify_tells`
+abbrev pub VerifyTells : Type 0
+VerifyTells =
+    (name : List ℕ) (held : Held) (w : WrittenPlan) (due : Due) → outcome (verified_settings name) held ≡ Ok w → IsTold w due → TellsRows name held due
+
+-- rows that prove links are a proof by the five steps: clause `proved` of `verify_tells`
+abbrev pub RowsAreProof : Type 0
+RowsAreProof = (name : List ℕ) (held : Held) → HoldsRows name held → HoldsProof name held
+
+-- names hold rows that prove links, `out` took the line `yes`, and no name has changed
+pub record SaidYes (name : List ℕ) (store : StoreSeen) (out : SinkSeen) : Type 0 where
+  pub rows : HoldsRows name store.held_before
+  pub printed : out.tells → out.taken_after ≡ out.taken_before ++ codes "yes\n"
+  pub unchanged : store.held_after ≡ store.held_before
+
+-- the words are `verify` with a settings file, and the store tells: the status is 0 only where names hold rows that prove links, and 9 only
+-- where they do not
+abbrev pub YesMeans : List (List ℕ) → StoreSeen → SinkSeen → ℕ → Type 0
+YesMeans words store out status =
+    (name : List ℕ) → command_of words ≡ Some (verification_of_settings name) → store.tells
+    → (status ≡ 0 → SaidYes name store out) × (status ≡ 9 → ¬ HoldsRows name store.held_before)
+
+-- the words are `verify` with a settings file, the store tells, names hold rows that prove links, and in this call neither it nor `out`
+-- failed
+abbrev pub RowsSayYes : List (List ℕ) → StoreSeen → SinkSeen → ℕ → Type 0
+RowsSayYes words store out status =
+    (name : List ℕ) → command_of words ≡ Some (verification_of_settings name) → store.tells → HoldsRows name store.held_before
+    → store.faults_after ≡ store.faults_before → ¬ (Rose out.faults_before out.faults_after) → SaysYes out status
