@@ -40,7 +40,7 @@ module _ (s : Steps Put) (store : StoreSeen) (out : SinkSeen) (told : store.tell
   in_part due is some =
       let holds : HoldsSome (puts (is.found ∷ [])) store = subst (λ d. HoldsSome d store) is.so some in
       let part : PutsSome (is.found ∷ []) store = holds told in
-      by_count is.found (is.steps.told told) part.0 part.1.0 part.1.1
+      by_count is.found (is.steps.told told) part.0 part.1 part.2
 
   by_failed : (put : Put) → outcome s store.held_before ≡ Ok put → (count : ℕ) → count < 1
       → (store.held_after ≡ after_puts (take count (put ∷ [])) store.held_before) ⊎ (store.held_after ≡ after_puts (take (count + 1) (put ∷ [])) store.held_before)
@@ -52,11 +52,11 @@ module _ (s : Steps Put) (store : StoreSeen) (out : SinkSeen) (told : store.tell
   put_failed : (due : Due) → IsDue (one_put s) store due → (call : StoreCall) → PutFails (puts_of due) store call → IsMadeOrKept s store
   put_failed due is call fails =
       let part : PutFails (is.found ∷ []) store call = subst (λ d. PutFails (puts_of d) store call) is.so fails in
-      by_failed is.found (is.steps.told told) part.0 part.1.0 (part.1.1.1 told)
+      by_failed is.found (is.steps.told told) part.0 part.1 (part.3 told)
 
   at_call : (call : StoreCall) → FailsAt (one_put s) store call → IsMadeOrKept s store
   at_call call (inl reached) = inl reached.1
-  at_call call (inr h) = put_failed h.0 h.1.0 call h.1.1
+  at_call call (inr h) = put_failed h.0 h.1 call h.2
 
   for_memory : ((store.held_after ≡ store.held_before) × IsUncalled out) ⊎ DoesPart (one_put s) store out → IsMadeOrKept s store
   for_memory (inl nothing) = inl nothing.0

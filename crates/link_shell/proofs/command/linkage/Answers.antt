@@ -1,3 +1,4 @@
+use Rattle.std.proofs.Common.{get_or}
 use Rattle.std.specs.Prelude.{IsUtf8, string_bytes}
 use Rattle.std.proofs.lemmas.List.Elements.{All-map}
 use Rattle.std.proofs.lemmas.Str.{IsUtf8-string_bytes}
@@ -19,7 +20,7 @@ returns-clause-yes_where_proved g c = yes_where_proved _ _ _ _ c.perform-answer.
 pub returns-clause-no_verdict_lost : goal.returns-clause-no_verdict_lost
 returns-clause-no_verdict_lost g c =
     no_verdict_lost c.no_verdict_is_lost.ensures.reviewed c.no_verdict_is_lost.ensures.migrated _ _ _ _ c.perform-answer.result _
-    (All-map IsUtf8 string_bytes c.args.words.now (λ k d within. IsUtf8-string_bytes _)) c.perform-answer.ensures c.report-status.ensures
+    (All-map IsUtf8 string_bytes c.args.words.now (λ k d within. IsUtf8-string_bytes (get_or c.args.words.now k d))) c.perform-answer.ensures c.report-status.ensures
 
 pub returns-clause-limits : goal.returns-clause-limits
 returns-clause-limits g c = c.limits_are_these.ensures
