@@ -74,7 +74,10 @@ def piece_bytes(piece: dict) -> bytes:
     at = text.find(b"{n}", len(piece.get("bytes", [])))
     if at < 0:
         return text * times
-    return text[:at] * (times > 0) + (text[at + 3 :] + text[:at]).join(b"%d" % time for time in range(1, times + 1)) + text[at + 3 :] * (times > 0)
+    if not times:
+        return b""
+    before, after = text[:at], text[at + 3:]
+    return before + (after + before).join(b"%d" % time for time in range(1, times + 1)) + after
 
 
 def changed(held: bytes, change: dict) -> bytes:
