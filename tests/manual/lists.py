@@ -4,6 +4,7 @@ import re
 import tomllib
 
 from pages import ROOT, read
+from theorems import wrong_theorems
 
 # What a piece of a fault's text is in the definitions, and in the manual.
 SPEC_PIECES = [
@@ -124,6 +125,7 @@ def lists() -> dict[str, tuple[list, list]]:
     found["docs/SETTINGS.md: examples of other keys, or no TOML"] = key_examples(), []
     found["docs/SETTINGS.md: words that are not explained"] = unexplained_words(), []
     found["docs: limits that stand in no page"] = unwritten_limits(), []
+    found["docs/PROVED.md: theorems that do not hold"] = wrong_theorems(), []
     return {name: (sorted(shown), sorted(wanted)) for name, (shown, wanted) in found.items()}
 
 
