@@ -12,8 +12,10 @@ from pathlib import Path
 sys.path.insert(0, str(Path(__file__).resolve().parent.parent))
 from tally import EXAMPLE, ROOT, Tally  # noqa: E402
 
-PAGES = [ROOT / "README.md", *sorted((ROOT / "docs").glob("*.md")), ROOT / "tools/README.md"]
+PAGES = [ROOT / "README.md", ROOT / "CONTRIBUTING.md", *sorted((ROOT / "docs").glob("*.md")), ROOT / "tools/README.md"]
 FENCE = re.compile(r"^(\s*)```(\w*)\s*$")
+# Commands whose examples are left out where a machine has none.
+MAY_LACK = ["Rscript", "rt"]
 NOTE = re.compile(r"^\s*<!-- check: (\w+)\s*(.*?)\s*-->\s*$")
 
 
@@ -117,8 +119,9 @@ class Runner:
 
     def console(self, block: Block) -> None:
         for command, shown in block.commands():
-            if command.split()[0] == "Rscript" and not shutil.which("Rscript"):
-                print(f"left out: {block.place}: {command} (there is no Rscript)")
+            name = command.split()[0]
+            if name in MAY_LACK and not shutil.which(name):
+                print(f"left out: {block.place}: {command} (there is no {name})")
             else:
                 self.judge(f"{block.place} $ {command}", self.run(command), shown)
 
@@ -156,6 +159,8 @@ class Runner:
                 note = None
             elif item.word == "fresh":
                 self.fresh(item.rest)
+            elif item.word == "top":
+                self.folder = ROOT
             elif item.word == "draws":
                 self.draws(*item.rest.split(maxsplit=1))
             else:
