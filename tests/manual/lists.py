@@ -3,6 +3,7 @@
 import re
 import tomllib
 
+import sources
 from pages import ROOT, read
 from theorems import wrong_theorems
 
@@ -125,6 +126,8 @@ def lists() -> dict[str, tuple[list, list]]:
     found["docs/SETTINGS.md: examples of other keys, or no TOML"] = key_examples(), []
     found["docs/SETTINGS.md: words that are not explained"] = unexplained_words(), []
     found["docs: limits that stand in no page"] = unwritten_limits(), []
+    found["docs/DEFINITIONS.md: files of definitions"] = sources.definitions()
+    found["docs/ARCHITECTURE.md: crates and what they stand on"] = sources.crates()
     found["docs/PROVED.md: theorems that do not hold"] = wrong_theorems(), []
     return {name: (sorted(shown), sorted(wanted)) for name, (shown, wanted) in found.items()}
 
