@@ -1,9 +1,9 @@
 """The theorems of docs/PROVED.md: each row's call, clause and definition must stand in the sources.
 
-A row names a public call as `crate::module::function` (or `crate::module::Type::method`), a clause of its contract (`ensures` for one
-or a ghost member without a name), then, behind points, fields of records of the definition, and the file of the definition. A definition
-counts where a clause names something of it, or of a file from which imports lead there; a row has none where its clauses name none. Every
-clause of `linkage` stands in a row, and every crate but those of NO_THEOREM.
+A row names public calls as `crate::module::function` (or `crate::module::Type::method`); clauses of their contracts (`ensures` for one
+or a ghost member without a name), then, behind points, fields of records of the definitions, to which the clause leads one after the other;
+and the files of these definitions. A definition counts where a clause names it, or what it names leads there; a row has none where its
+clauses name none. Every clause of `linkage` stands in a row, and every crate but those of NO_THEOREM.
 """
 
 import functools
@@ -86,39 +86,62 @@ def clauses_in(contract: str) -> dict[str, str]:
 
 
 @functools.cache
-def imports(path: str) -> dict[str, str]:
-    """The names that a file imports of specifications of the repository, and the file of each."""
+def imports(path: str) -> dict[str, tuple[str, str]]:
+    """The names that a file imports of specifications of the repository, with the file of each and its name there."""
     found = {}
     for crate, module, names, alias in USE.findall(read(path)):
         file = f"{crate}/specs/{module.replace('.', '/')}.antt"
         if (ROOT / "crates" / file).is_file():
             for name in names.split(",") if names else [f"_ as {alias}"]:
-                found[name.split(" as ")[-1].strip()] = file
+                found[name.split(" as ")[-1].strip()] = file, name.split(" as ")[0].strip()
     return found
 
 
 @functools.cache
-def below(file: str) -> frozenset[str]:
-    """A file of definitions with all those that it stands on."""
-    found, left = {file}, [file]
+def definitions_in(file: str) -> dict[str, str]:
+    """The definitions of a file by their names, each with all of its lines."""
+    found: dict[str, str] = {}
+    name = ""
+    for line in read(f"crates/{file}").splitlines():
+        head = re.match(r"(?:abbrev |unfoldable )?(?:pub )?(?:record |data )?([^\W\d][\w-]*)", line)
+        if head and not line.startswith("use "):
+            name = head.group(1)
+        if name and not line.startswith("--"):
+            found[name] = found.get(name, "") + line + "\n"
+    return found
+
+
+@functools.cache
+def reached(file: str, text: str) -> set[tuple[str, str]]:
+    """The definitions, each with its file, that a text in a file speaks of, and all that these stand on."""
+    found: set[tuple[str, str]] = set()
+    left = [(file, word) for word in re.findall(r"[\w-]+", text)]
     while left:
-        new = set(imports(f"crates/{left.pop()}").values()) - found
-        found |= new
-        left += new
-    return frozenset(found)
+        file, word = left.pop()
+        if not (file.endswith(".antt") and word in definitions_in(file)):
+            file, word = imports(f"crates/{file}").get(word, ("", ""))
+        if file and (file, word) not in found:
+            found.add((file, word))
+            left += [(file, it) for it in re.findall(r"[\w-]+", definitions_in(file).get(word, ""))]
+    return found
 
 
-def cited(call: str, clause: str) -> frozenset[str]:
-    """The files of definitions that a clause of a call speaks of."""
+def lost_field(source: str, clause: str, fields: list[str], files: list[str]) -> str | None:
+    """The first of these fields that no record of the files has to which the clause, and then the field before, leads."""
+    starts = [(source, clause)]
+    for field in fields:
+        names = {it for file, text in starts for it in reached(file, text) if it[0] in files}
+        form = rf"^  pub {field} : (.*?)(?=^  pub |\Z)"
+        starts = [(file, it) for file, name in names for it in re.findall(form, definitions_in(file).get(name, ""), flags=re.S | re.M)]
+        if not starts:
+            return field
+    return None
+
+
+def source_of(call: str) -> str:
+    """The file of the code of a call, below crates/."""
     crate, module, *_ = call.split("::")
-    words = set(re.findall(r"[\w◌]+", clause))
-    found = [below(file) for name, file in imports(f"crates/{crate}/src/{module}.rt").items() if name in words]
-    return frozenset().union(*found)
-
-
-def fields_of(files: list[str]) -> set[str]:
-    """The fields of the records of files of definitions."""
-    return {name for file in files for name in re.findall(r"^  pub (\w+) :", read(f"crates/{file}"), flags=re.M)}
+    return f"{crate}/src/{module}.rt"
 
 
 def wrong_in(row: Row) -> list[str]:
@@ -128,21 +151,22 @@ def wrong_in(row: Row) -> list[str]:
     lost = [f"no file of definitions {it}" for it in row.files if not (ROOT / "crates" / it).is_file()]
     if lost:
         return lost
-    found, reached = [], set()
+    found, stood = [], set()
     for call in row.calls:
         contract = contract_of(call)
         clauses = clauses_in(contract or "")
         heads = [it.split(".")[0] for it in row.clauses]
         found += [f"no public call {call}"] if contract is None else [f"{call} has no clause {it}" for it in heads if it not in clauses]
-        named = {file for it in heads if it in clauses for file in cited(call, clauses[it])}
+        named = {file for it in heads if it in clauses for file, _ in reached(source_of(call), clauses[it])}
         if contract is not None and row.files and not named.intersection(row.files):
             found.append(f"{call} stands on no definition of {row.files}")
         if named and not row.files:
             found.append(f"{call} stands on definitions, of which the row names none: {sorted(named)}")
-        reached |= named
-    fields = fields_of(row.files)
-    found += [f"no record of {row.files} has a field {it}" for parts in row.clauses for it in parts.split(".")[1:] if it not in fields]
-    return found + [f"no clause of the row stands on {it}" for it in row.files if it not in reached]
+        for clause, *fields in (it.split(".") for it in row.clauses):
+            lost = lost_field(source_of(call), clauses.get(clause, ""), fields, row.files)
+            found += [f"{'.'.join([clause, *fields])} leads to no field {lost} in {row.files}"] if lost else []
+        stood |= named
+    return found + [f"no clause of the row stands on {it}" for it in row.files if it not in stood]
 
 
 def wrong_theorems() -> list[str]:
