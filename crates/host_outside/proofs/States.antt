@@ -1,5 +1,5 @@
-use Rattle.std.proofs.Common.{◌≡◌, ℕ, ℤ, Bool, true, false, ◌&&◌, int_eq, nat_eq, refl, subst}
-use Rattle.std.specs.Bool.{OnTrue}
+use Rattle.std.proofs.Common.{◌≡◌, ℕ, ℤ, Bool, true, false, ◌&&◌, int_eq, nat_eq, refl, subst, eq-eqb, sym, ◌∙◌}
+use Rattle.std.specs.Bool.{OnFalse, OnTrue}
 use Rattle.std.proofs.lemmas.Bool.{and_parts, eqb-true}
 use Rattle.std.proofs.lemmas.Bool.Decides.{Decides-int_eq}
 use Rattle.std.specs.Prelude.{Option, None, Some, IfSome}
@@ -40,3 +40,23 @@ same_state a b h =
     ((Decides-int_eq _ _).0 modified_nanos.0)
     ((Decides-int_eq _ _).0 changed.0)
     ((Decides-int_eq _ _).0 changed.1)
+
+-- what follows where a test says that it is not so
+pub on_false : (b : Bool) (P : Type 0) → (b ≡ false → P) → OnFalse b P
+on_false true P f = tt
+on_false false P f = f refl
+
+both : (s t : Bool) → s ≡ true → t ≡ true → (s && t) ≡ true
+both true t e h = h
+both false t e h = e
+
+same_test : (a : FileState) → (nat_eq a.device a.device && (nat_eq a.inode a.inode && (nat_eq a.size a.size && (int_eq a.modified a.modified && (int_eq a.modified_nanos a.modified_nanos && (int_eq a.changed a.changed && int_eq a.changed_nanos a.changed_nanos)))))) ≡ true
+same_test a =
+    both _ _ (eq-eqb a.device a.device refl) (both _ _ (eq-eqb a.inode a.inode refl) (both _ _ (eq-eqb a.size a.size refl)
+    (both _ _ ((Decides-int_eq a.modified a.modified).1 refl) (both _ _ ((Decides-int_eq a.modified_nanos a.modified_nanos).1 refl) (both _ _ ((Decides-int_eq a.changed a.changed).1 refl) ((Decides-int_eq a.changed_nanos a.changed_nanos).1 refl))))))
+
+-- states are not equal where the test of their parts says so
+pub other_state : (a b : FileState) → (nat_eq a.device b.device && (nat_eq a.inode b.inode && (nat_eq a.size b.size && (int_eq a.modified b.modified && (int_eq a.modified_nanos b.modified_nanos && (int_eq a.changed b.changed && int_eq a.changed_nanos b.changed_nanos)))))) ≡ false → a ≡ b → ⊥
+other_state a b h e =
+    let same = subst (λ x. (nat_eq a.device x.device && (nat_eq a.inode x.inode && (nat_eq a.size x.size && (int_eq a.modified x.modified && (int_eq a.modified_nanos x.modified_nanos && (int_eq a.changed x.changed && int_eq a.changed_nanos x.changed_nanos)))))) ≡ true) e (same_test a) in
+    absurd (cc (sym h ∙ same))

@@ -22,7 +22,8 @@ pub fn is_of(loaded: &Loaded, name: &str) -> bool
 
 // Whether a load of a name has noted this state; one of another name has not noted another.
 fn fits(loaded: &Loaded, name: &str, state: &FileState) -> bool
-    ensures { OnTrue result (loaded.now.name ≡ name.now → loaded.now.state ≡ state.now) }
+    ensures fits { OnTrue result (loaded.now.name ≡ name.now → loaded.now.state ≡ state.now) }
+    ensures other { OnFalse result ((loaded.now.name ≡ name.now) × (loaded.now.state ≢ state.now)) }
 {
     if is_of(loaded, name) {
         return loaded.state == *state;
@@ -32,7 +33,8 @@ fn fits(loaded: &Loaded, name: &str, state: &FileState) -> bool
 
 /// Whether a name was loaded.
 pub fn is_loaded(loads: &[Loaded], name: &str) -> bool
-    ensures { OnFalse result (All (λ loaded. loaded.name ≢ name.now) loads.now) }
+    ensures found { OnTrue result (Any (λ loaded. loaded.name ≡ name.now) loads.now) }
+    ensures none { OnFalse result (All (λ loaded. loaded.name ≢ name.now) loads.now) }
 {
     for loaded in loads {
         if is_of(loaded, name) {
@@ -44,7 +46,8 @@ pub fn is_loaded(loads: &[Loaded], name: &str) -> bool
 
 /// Whether each load of a name has noted this state.
 pub fn is_noted(loads: &[Loaded], name: &str, state: &FileState) -> bool
-    ensures { OnTrue result (All (λ loaded. loaded.name ≡ name.now → loaded.state ≡ state.now) loads.now) }
+    ensures noted { OnTrue result (All (λ loaded. loaded.name ≡ name.now → loaded.state ≡ state.now) loads.now) }
+    ensures other { OnFalse result (Any (λ loaded. (loaded.name ≡ name.now) × (loaded.state ≢ state.now)) loads.now) }
 {
     for loaded in loads {
         if !fits(loaded, name, state) {

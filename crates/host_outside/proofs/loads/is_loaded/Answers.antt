@@ -10,5 +10,5 @@ loop-loaded-preserved c =
     let here : other c.loaded-item.result = grind arith in
     All-more other c.args.loads.now c.loop-loaded.loaded-index c.loaded-item.result (omega arith) c.loop-loaded.invariant (subst other c.loaded-item.is here)
 
-pub returns : goal.returns
-returns c = rw (take_all c.loop-loaded.loaded-index c.args.loads.now (omega arith)) at c.loop-loaded.invariant
+pub returns-clause-none : goal.returns-clause-none
+returns-clause-none c = rw (take_all c.loop-loaded.loaded-index c.args.loads.now (omega arith)) at c.loop-loaded.invariant
