@@ -50,49 +50,21 @@ def one_field(folder: Path, top: str = "mu_ppm = 0\nlambda_ppm = 0\n", shares: s
 
 
 def ids_one_chain(hostile: Path, ordinary: Path, size: int) -> None:
-    """Ids of A in one chain under the second key, as many of the first key as change it, and a sample that names the id at the chain's end.
-
-    Rows of a sample only look ids up, which counts nothing, so the key stays.
-    """
-    draw = random.Random("ids_one_chain")
-    last = chains.enough_to_change(size)
-    ids = chains.chain(2, size - last) + chains.chain(1, last)
-    for folder, names in ((hostile, ids), (ordinary, likes(draw, ids))):
+    """Ids of A in one chain, and a sample that names the id at the chain's end again and again."""
+    ids = chains.chain(size)
+    for folder, names in ((hostile, ids), (ordinary, likes(random.Random("ids_one_chain"), ids))):
         put(folder, "a.csv", "id,x", (f"{name},{TWO_NAMES[at > 0]}" for at, name in enumerate(names)))
         put(folder, "b.csv", "id,x", (f"{at},LEE" for at in range(size)))
         put(folder, "sample.csv", "id_a,id_b,status", (f"{names[0]},{at},{'un' * (at % 2)}matched" for at in range(size)))
         one_field(folder, 'sample = "sample.csv"\nmu_ppm = 0\nlambda_ppm = 0\n', "")
 
 
-def ids_first_key(hostile: Path, ordinary: Path, size: int) -> None:
-    """Ids of A in one chain under the first key, so that each that comes would pass all before it, if the key did not change."""
-    draw = random.Random("ids_first_key")
-    ids = chains.chain(1, size)
-    for folder, names in ((hostile, ids), (ordinary, likes(draw, ids))):
-        put(folder, "a.csv", "id,x", (f"{name},{TWO_NAMES[at > 0]}" for at, name in enumerate(names)))
-        put(folder, "b.csv", "id,x", (f"{at},LEE" for at in range(size)))
-        one_field(folder)
-
-
-def fields_first_key(hostile: Path, ordinary: Path, size: int) -> None:
-    """The fields of a column in one chain under the first key, in both files."""
-    texts = chains.chain(1, size)
-    for folder, fields in ((hostile, texts), (ordinary, likes(random.Random("fields_first_key"), texts))):
+def fields_one_chain(hostile: Path, ordinary: Path, size: int) -> None:
+    """The fields of a column in one chain, in both files."""
+    texts = chains.chain(size)
+    for folder, fields in ((hostile, texts), (ordinary, likes(random.Random("fields_one_chain"), texts))):
         for side, order in (("a", fields), ("b", fields[::-1])):
             put(folder, f"{side}.csv", "id,x", (f"{at},{text}" for at, text in enumerate(order)))
-
-
-def keys_change(hostile: Path, ordinary: Path, size: int) -> None:
-    """Texts of A in chains, one chain under each of many keys in turn, and rows of B that seek each chain's end until its key changes."""
-    long = max(2 * chains.LONG_SEARCH, int(size**0.5))
-    sets = [chains.chain(number, long) for number in range(2, 2 + (size - chains.enough_to_change(size)) // long)]
-    first = chains.chain(1, size - long * len(sets))
-    texts = [text for chain in sets for text in chain] + first
-    seeks = [chain[0] for chain in sets for _ in range(size // (long - 1) + 2)][:size]
-    other = dict(zip(texts, likes(random.Random("keys_change"), texts)))
-    for folder, of in ((hostile, {text: text for text in texts}), (ordinary, other)):
-        put(folder, "a.csv", "id,x", (f"{at},{of[text]}" for at, text in enumerate(texts)))
-        put(folder, "b.csv", "id,x", (f"{at},{of[text]}" for at, text in enumerate(seeks)))
 
 
 def place_text(place: int) -> str:
@@ -102,17 +74,15 @@ def place_text(place: int) -> str:
 
 
 def codes_one_chain(hostile: Path, ordinary: Path, size: int) -> None:
-    """Keys of three parts in one chain of the numbers of keys, under the second key; A looks for the one at its end again and again.
+    """Keys of three parts in one chain of the numbers of keys; A looks for the one at its end again and again.
 
     The first third of A brings the texts in the order of their places, so that a code is three numbers that the file's writer chooses.
     """
     program = chains.compiled(hostile.parent)
     if program is None:
         raise LeftOut("there is no C compiler (cc)")
-    places, last = size // 3 * 3, chains.enough_to_change(size)
-    bits = (2 * size).bit_length() + 1
-    second = chains.triples(program, 2, bits, size - last, places, 0)
-    codes = second + chains.triples(program, 1, bits, last, places, places // 2)
+    places = size // 3 * 3
+    codes = chains.triples(program, (2 * size).bit_length() + 1, size, places)
     draw = random.Random("codes_one_chain")
     others = [tuple(draw.randrange(places) for _ in range(3)) for _ in codes]
     for folder, triples in ((hostile, codes), (ordinary, others)):
@@ -187,16 +157,14 @@ COLUMN = ("pairs", "a.csv", "b.csv", "x")
 PAIRS = ("pairs", "s.toml")
 
 SHAPES = {
-    "ids_first_key": Shape(ids_first_key, 4_000, 100_000, PAIRS),
-    "fields_first_key": Shape(fields_first_key, 4_000, 100_000, COLUMN),
-    "keys_change": Shape(keys_change, 6_000, 100_000, COLUMN, most=6),
+    "ids_one_chain": Shape(ids_one_chain, 4_000, 100_000, ("rule", "s.toml")),
+    "fields_one_chain": Shape(fields_one_chain, 4_000, 100_000, COLUMN, most=3),
+    "codes_one_chain": Shape(codes_one_chain, 3_000, 100_000, PAIRS),
     "equal_keys": Shape(equal_keys, 10_000, 100_000, PAIRS),
     "texts_alike": Shape(texts_alike, 4_000, 100_000, COLUMN),
     "late_id": Shape(late_id, 10_000, 90_000, PAIRS),
     "quotes": Shape(quotes, 10_000, 100_000, COLUMN, most=2.5),
     "long_ids": Shape(long_ids("i" * 251), 400, 1_414, PAIRS, most_memory=35),
     "quoted_ids": Shape(long_ids('""' * 251), 400, 1_414, PAIRS, most=2.5, most_memory=65),
-    "ids_one_chain": Shape(ids_one_chain, 4_000, 100_000, ("rule", "s.toml"), known="half a minute"),
-    "codes_one_chain": Shape(codes_one_chain, 3_000, 100_000, PAIRS, known="20 s"),
     "names_grow": Shape(names_grow, 1_500, 100_000, PAIRS, known="2.2 GB"),
 }

@@ -2,6 +2,7 @@ pub mod ChainLemmas
 pub mod EqualLemmas
 pub mod WordLemmas
 pub mod HashLemmas
+pub mod OrderLemmas
 pub mod PlaceLemmas
 pub mod RegionLemmas
 pub mod SearchLemmas

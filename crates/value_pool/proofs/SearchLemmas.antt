@@ -6,7 +6,6 @@ use Rattle.std.proofs.lemmas.Bool.Decides.{nat_tests}
 use Rattle.std.specs.Prelude.{slice_range}
 use Rattle.std.proofs.lemmas.List.{length-map}
 use Rattle.value_pool.specs.declared.chains.Slot.{Slot}
-use Rattle.value_pool.specs.declared.hashes.HashKey.{HashKey}
 use Rattle.value_pool.specs.Texts.{stands_among}
 use Rattle.value_pool.specs.Region.{hashes_of, nexts_of, texts_at}
 use Rattle.value_pool.specs.Chains.{IsChained, bucket_of, last_in}
@@ -53,30 +52,30 @@ pub record IsLeft (m : ℕ) (texts : List (List ℕ)) (hashes : List ℕ) (text 
   pub others : (q : ℕ) → at ≤ q → q < length texts → get_or texts q [] ≢ text
 
 -- a place outside a bucket has no text of that bucket
-other_bucket : (key : HashKey) (m : ℕ) (texts : List (List ℕ)) (hashes : List ℕ) (text : List ℕ) (b q : ℕ) → IsHashed key texts hashes → b ≡ bucket_of m (hash_of key text) → q < length texts → bucket_of m (get_or hashes q 0) ≢ b → get_or texts q [] ≢ text
-other_bucket key m texts hashes text b q h is_b within other = λ same. other (ap (bucket_of m) (h.hash_at q within ∙ ap (hash_of key) same) ∙ sym is_b)
+other_bucket : (m : ℕ) (texts : List (List ℕ)) (hashes : List ℕ) (text : List ℕ) (b q : ℕ) → IsHashed texts hashes → b ≡ bucket_of m (hash_of text) → q < length texts → bucket_of m (get_or hashes q 0) ≢ b → get_or texts q [] ≢ text
+other_bucket m texts hashes text b q h is_b within other = λ same. other (ap (bucket_of m) (h.hash_at q within ∙ ap hash_of same) ∙ sym is_b)
 
-pub left-start : (key : HashKey) (heads : List ℕ) (texts : List (List ℕ)) (hashes nexts : List ℕ) (text : List ℕ) (b at : ℕ) → IsChained heads hashes nexts → IsHashed key texts hashes → length texts ≡ length hashes → b < length heads → b ≡ bucket_of (length heads) (hash_of key text) → at ≡ get_or heads b at → IsLeft (length heads) texts hashes text b at
-left-start key heads texts hashes nexts text b at h hashed many low is_b is_at =
+pub left-start : (heads : List ℕ) (texts : List (List ℕ)) (hashes nexts : List ℕ) (text : List ℕ) (b at : ℕ) → IsChained heads hashes nexts → IsHashed texts hashes → length texts ≡ length hashes → b < length heads → b ≡ bucket_of (length heads) (hash_of text) → at ≡ get_or heads b at → IsLeft (length heads) texts hashes text b at
+left-start heads texts hashes nexts text b at h hashed many low is_b is_at =
     let m = length heads in
     let is_last : at ≡ last_in m hashes b (length hashes) = read_any heads b at low is_at ∙ h.head_at b low in
     let below = last-le m hashes b (length hashes) in
     record {
       within = omega arith;
       own = is_last ∙ sym (last-same m hashes b (length hashes)) ∙ ap (last_in m hashes b) (sym is_last);
-      others = λ q above within. other_bucket key m texts hashes text b q hashed is_b within (last-skip m hashes b (length hashes) q (omega arith) (omega arith));
+      others = λ q above within. other_bucket m texts hashes text b q hashed is_b within (last-skip m hashes b (length hashes) q (omega arith) (omega arith));
     }
 
-left-other : (key : HashKey) (m : ℕ) (texts : List (List ℕ)) (hashes : List ℕ) (text : List ℕ) (b at p next q : ℕ) (u v : Bool) → (q == p) ≡ u → nat_lt q p ≡ v → IsHashed key texts hashes → b ≡ bucket_of m (hash_of key text) → next ≡ last_in m hashes b p → next ≤ q → q < length texts → IsLeft m texts hashes text b at → at ≡ p + 1 → get_or texts p [] ≢ text → get_or texts q [] ≢ text
-left-other key m texts hashes text b at p next q true v eq lt hashed is_b is_last low within left is_at differs = λ same. differs (ap (λ k. get_or texts k []) (sym (eqb-true q p eq)) ∙ same)
-left-other key m texts hashes text b at p next q false true eq lt hashed is_b is_last low within left is_at differs = other_bucket key m texts hashes text b q hashed is_b within (last-skip m hashes b p q (omega arith) (ltb-true q p lt))
-left-other key m texts hashes text b at p next q false false eq lt hashed is_b is_last low within left is_at differs = left.others q (above q p at eq lt is_at) within
+left-other : (m : ℕ) (texts : List (List ℕ)) (hashes : List ℕ) (text : List ℕ) (b at p next q : ℕ) (u v : Bool) → (q == p) ≡ u → nat_lt q p ≡ v → IsHashed texts hashes → b ≡ bucket_of m (hash_of text) → next ≡ last_in m hashes b p → next ≤ q → q < length texts → IsLeft m texts hashes text b at → at ≡ p + 1 → get_or texts p [] ≢ text → get_or texts q [] ≢ text
+left-other m texts hashes text b at p next q true v eq lt hashed is_b is_last low within left is_at differs = λ same. differs (ap (λ k. get_or texts k []) (sym (eqb-true q p eq)) ∙ same)
+left-other m texts hashes text b at p next q false true eq lt hashed is_b is_last low within left is_at differs = other_bucket m texts hashes text b q hashed is_b within (last-skip m hashes b p q (omega arith) (ltb-true q p lt))
+left-other m texts hashes text b at p next q false false eq lt hashed is_b is_last low within left is_at differs = left.others q (above q p at eq lt is_at) within
   where
     above : (q p at : ℕ) → (q == p) ≡ false → nat_lt q p ≡ false → at ≡ p + 1 → at ≤ q
     above q p at eq lt e = grind (arith, nat_tests)
 
-left-next : (key : HashKey) (heads : List ℕ) (texts : List (List ℕ)) (hashes nexts : List ℕ) (text : List ℕ) (b at p next : ℕ) → IsChained heads hashes nexts → IsHashed key texts hashes → b ≡ bucket_of (length heads) (hash_of key text) → IsLeft (length heads) texts hashes text b at → at ≡ p + 1 → next ≡ get_or nexts p 0 → get_or texts p [] ≢ text → IsLeft (length heads) texts hashes text b next × (next < at)
-left-next key heads texts hashes nexts text b at p next h hashed is_b left is_at is_next differs =
+left-next : (heads : List ℕ) (texts : List (List ℕ)) (hashes nexts : List ℕ) (text : List ℕ) (b at p next : ℕ) → IsChained heads hashes nexts → IsHashed texts hashes → b ≡ bucket_of (length heads) (hash_of text) → IsLeft (length heads) texts hashes text b at → at ≡ p + 1 → next ≡ get_or nexts p 0 → get_or texts p [] ≢ text → IsLeft (length heads) texts hashes text b next × (next < at)
+left-next heads texts hashes nexts text b at p next h hashed is_b left is_at is_next differs =
     let m = length heads in
     let own : suc p ≡ last_in m hashes b (suc p) = let same : at ≡ suc p = omega arith in sym same ∙ left.own ∙ ap (last_in m hashes b) same in
     let here : bucket_of m (get_or hashes p 0) ≡ b = at-bucket m hashes b p own in
@@ -85,7 +84,7 @@ left-next key heads texts hashes nexts text b at p next h hashed is_b left is_at
       record {
         within = omega (arith, left.within);
         own = is_last ∙ sym (last-same m hashes b p) ∙ ap (last_in m hashes b) (sym is_last);
-        others = λ q low within. left-other key m texts hashes text b at p next q (q == p) (nat_lt q p) refl refl hashed is_b is_last low within left is_at differs;
+        others = λ q low within. left-other m texts hashes text b at p next q (q == p) (nat_lt q p) refl refl hashed is_b is_last low within left is_at differs;
       },
       omega arith,
     )
@@ -102,14 +101,14 @@ both_true true true e p q = cc
 both_true true false e p q = cc
 both_true false b e p q = cc
 
-pub next_left : (key : HashKey) (bytes : List ℕ) (slots : List Slot) (heads text : List ℕ) (hash b at : ℕ) (s : Slot) → IsChained heads (hashes_of slots) (nexts_of slots) → IsHashed key (texts_at bytes slots) (hashes_of slots) → hash ≡ hash_of key text → b ≡ bucket_of (length heads) hash → IsLeft (length heads) (texts_at bytes slots) (hashes_of slots) text b at → at ≢ 0 → s ≡ get_or slots (at - 1) s → has_text bytes s hash text ≡ false → IsLeft (length heads) (texts_at bytes slots) (hashes_of slots) text b s.next × (s.next < at)
-next_left key bytes slots heads text hash b at s h hashed is_hash is_b left some is_s differs =
+pub next_left : (bytes : List ℕ) (slots : List Slot) (heads text : List ℕ) (hash b at : ℕ) (s : Slot) → IsChained heads (hashes_of slots) (nexts_of slots) → IsHashed (texts_at bytes slots) (hashes_of slots) → hash ≡ hash_of text → b ≡ bucket_of (length heads) hash → IsLeft (length heads) (texts_at bytes slots) (hashes_of slots) text b at → at ≢ 0 → s ≡ get_or slots (at - 1) s → has_text bytes s hash text ≡ false → IsLeft (length heads) (texts_at bytes slots) (hashes_of slots) text b s.next × (s.next < at)
+next_left bytes slots heads text hash b at s h hashed is_hash is_b left some is_s differs =
     let within = inside_slots slots at left.within some in
     let many = as_many bytes slots in
     let inside : at - 1 < length (texts_at bytes slots) = omega (arith, length-map slots (λ (s : Slot). s.hash)) in
-    left-next key heads (texts_at bytes slots) (hashes_of slots) (nexts_of slots) text b at (at - 1) s.next h hashed (is_b ∙ ap (bucket_of (length heads)) is_hash) left (omega arith) (next_at_slot slots (at - 1) s within is_s)
+    left-next heads (texts_at bytes slots) (hashes_of slots) (nexts_of slots) text b at (at - 1) s.next h hashed (is_b ∙ ap (bucket_of (length heads)) is_hash) left (omega arith) (next_at_slot slots (at - 1) s within is_s)
     (λ same.
-    let own : s.hash ≡ hash = hash_at_slot slots (at - 1) s within is_s ∙ hashed.hash_at (at - 1) inside ∙ ap (hash_of key) same ∙ sym is_hash in
+    let own : s.hash ≡ hash = hash_at_slot slots (at - 1) s within is_s ∙ hashed.hash_at (at - 1) inside ∙ ap hash_of same ∙ sym is_hash in
     both_true (s.hash == hash) (bytes_eq (slice_range bytes s.start s.end) text) differs (eq-eqb _ _ own) ((bytes_eq-Decides _ _).1 (text_at_slot bytes slots (at - 1) s within is_s ∙ same)))
 
 both_left : (a b : Bool) → (a && b) ≡ true → b ≡ true

@@ -1,4 +1,4 @@
--- What a pool is after it has taken a text: its table may have changed its key and its chains since.
+-- What a pool is after it has taken a text: its table may have changed its order and its chains since.
 use Rattle.std.proofs.Common.{◌≡◌, ◌+◌, ◌++◌, ◌∷◌, ◌∙◌, ℕ, List, [], false, length, if◌then◌else◌, ap, sym, refl, arith}
 use Rattle.value_pool.specs.Pool.{KeepsRoom, with_text}
 use Rattle.value_pool.specs.Table.{state_of, texts_of}

@@ -1,9 +1,9 @@
--- Machinery of the pool: a row of hash functions of texts. Each multiplies a text's words of eight bytes, one after the
--- other, and folds the product (Y. Wang, wyhash). No public clause names them, and none rests on what they give.
+-- Machinery of the pool: the hash of texts. It multiplies a text's words of eight bytes, one after the other, and folds the
+-- product (Y. Wang, wyhash). No public clause names it, and none rests on what it gives.
 use Rattle.std.specs.Prelude.{ℕ, List, [], ◌∷◌, ◌+◌, ◌*◌, ◌/◌, ◌%◌, ◌-◌, ◌^◌, length, slice_index_or, bit_xor, nat_le, if◌then◌else◌}
 use Rattle.std.specs.Int.{from_le_bytes, w32, w64}
 use Rattle.std.specs.Simd.{first_chunks}
-use Rattle.value_pool.specs.declared.hashes.HashKey.{HashKey}
+use Rattle.value_pool.specs.declared.hashes.TheConstants.{START, FACTOR}
 
 -- a product of two words, one half of it over the other
 unfoldable pub folded : ℕ → ℕ → ℕ
@@ -29,10 +29,10 @@ last_word text =
     else (if nat_le 4 (length text) then four_bytes_at text 0 + four_bytes_at text (length text - 4) * 2 ^ 32 else few_bytes text)
 
 -- a hash with these words more
-abbrev pub hash_from : ℕ → ℕ → List (List ℕ) → ℕ
-hash_from factor hash [] = hash
-hash_from factor hash (word ∷ words) = hash_from factor (folded (bit_xor hash (from_le_bytes w64 word)) factor) words
+abbrev pub hash_from : ℕ → List (List ℕ) → ℕ
+hash_from hash [] = hash
+hash_from hash (word ∷ words) = hash_from (folded (bit_xor hash (from_le_bytes w64 word)) FACTOR) words
 
 -- the hash of a text: its length, its whole words and its last one
-unfoldable pub hash_of : HashKey → List ℕ → ℕ
-hash_of key text = folded (bit_xor (hash_from key.factor (bit_xor key.start (length text)) (first_chunks 8 (length text / 8) text)) (last_word text)) key.factor % 2 ^ 32
+unfoldable pub hash_of : List ℕ → ℕ
+hash_of text = folded (bit_xor (hash_from (bit_xor START (length text)) (first_chunks 8 (length text / 8) text)) (last_word text)) FACTOR % 2 ^ 32

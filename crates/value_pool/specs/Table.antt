@@ -4,10 +4,10 @@ use Rattle.std.specs.Prelude.{◌≡◌, ◌≢◌, ◌<◌, ◌≤◌, ◌-◌,
 use Rattle.link_limits.specs.declared.TheConstants.{MOST_POOL_LIMIT}
 use Rattle.value_pool.specs.Chains.{IsChained}
 use Rattle.value_pool.specs.Hashes.{hash_of}
+use Rattle.value_pool.specs.Order.{IsOrder}
 use Rattle.value_pool.specs.Region.{IsSlotWithin, hashes_of, most_texts, nexts_of, texts_at}
 use Rattle.value_pool.specs.Texts.{PoolState}
 use Rattle.value_pool.specs.declared.chains.Slot.{Slot}
-use Rattle.value_pool.specs.declared.hashes.HashKey.{HashKey}
 use Rattle.value_pool.specs.declared.table.Table.{Table}
 
 -- the slot has this hash, and its bytes are this text
@@ -15,8 +15,8 @@ abbrev pub has_text : List ℕ → Slot → ℕ → List ℕ → Bool
 has_text bytes slot hash text = (slot.hash == hash) && bytes_eq (slice_range bytes slot.start slot.end) text
 
 -- each text has its hash
-pub record IsHashed (key : HashKey) (texts : List (List ℕ)) (hashes : List ℕ) : Type 0 where
-  pub hash_at : (p : ℕ) → p < length texts → slice_index_or hashes p 0 ≡ hash_of key (slice_index_or texts p [])
+pub record IsHashed (texts : List (List ℕ)) (hashes : List ℕ) : Type 0 where
+  pub hash_at : (p : ℕ) → p < length texts → slice_index_or hashes p 0 ≡ hash_of (slice_index_or texts p [])
 
 abbrev pub texts_of : Table → List (List ℕ)
 texts_of table = texts_at table.bytes.items table.slots.items
@@ -31,12 +31,13 @@ state_of limit table = record {
   spare_bytes = vec_capacity table.bytes - vec_len table.bytes;
 }
 
--- distinct texts that fill the bytes, each with its hash and in the chain of its bucket
+-- distinct texts that fill the bytes, each with its hash, in the chain of its bucket, and in the order if there is one
 pub record IsTable (table : Table) : Type 0 where
   pub within : All (IsSlotWithin table.bytes.items) table.slots.items
   pub distinct : AllPairs (λ a b. a ≢ b) (texts_of table)
   pub few : length table.slots.items ≤ most_texts (length table.bytes.items) (texts_of table)
   pub chained : IsChained table.heads.items (hashes_of table.slots.items) (nexts_of table.slots.items)
-  pub hashed : IsHashed table.key (texts_of table) (hashes_of table.slots.items)
+  pub hashed : IsHashed (texts_of table) (hashes_of table.slots.items)
+  pub ordered : IsOrder table.order (texts_of table)
   pub short : length table.bytes.items ≤ MOST_POOL_LIMIT
   pub whole : sum_by length (texts_of table) ≡ length table.bytes.items

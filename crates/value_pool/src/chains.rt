@@ -2,9 +2,7 @@
 ghost use Rattle.std.specs.Prelude.{◌≡◌, ◌≤◌, ◌<◌, ◌^◌, All, List, ℕ, IfOk, length, slice_index_or};
 ghost use Rattle.value_pool.specs.Chains.{IsChained, bucket_of};
 ghost use Rattle.value_pool.specs.Region.{IsSlotWithin, hashes_of, nexts_of, texts_at};
-ghost use Rattle.value_pool.specs.Table.{IsHashed};
 
-use crate::hashes::HashKey;
 use link_texts::NoMemory;
 use std::alloc::Global;
 
@@ -37,42 +35,6 @@ pub(crate) fn empty_heads(alloc: Global, buckets: usize) -> Result<Vec<u32>, NoM
     Ok(vec![in alloc; 0; buckets]?)
 }
 
-// Empties each chain.
-fn clear(heads: &mut [u32])
-    ensures len { length heads.new ≡ length heads.old }
-    ensures empty { (b : ℕ) → b < length heads.new → slice_index_or heads.new b 0 ≡ 0 }
-{
-    for bucket in 0..heads.len() {
-        heads[bucket] = 0;
-    }
-}
-
-// Gives each text its hash by another key.
-fn rehash(key: HashKey, bytes: &[u8], slots: &mut [Slot])
-    requires { All (IsSlotWithin bytes.now) slots.old }
-    ensures texts { texts_at bytes.now slots.new ≡ texts_at bytes.now slots.old }
-    ensures within { All (IsSlotWithin bytes.now) slots.new }
-    ensures hashed { IsHashed key (texts_at bytes.now slots.new) (hashes_of slots.new) }
-{
-    for place in 0..slots.len() {
-        let Slot {
-            start,
-            end,
-            next,
-            last,
-            ..
-        } = slots[place];
-        let hash = key.hash(&bytes[start as usize..end as usize]);
-        slots[place] = Slot {
-            start,
-            end,
-            next,
-            hash,
-            last,
-        };
-    }
-}
-
 /// Threads each text into the chain of its bucket, whatever the chains were before.
 pub(crate) fn thread(slots: &mut [Slot], heads: &mut [u32])
     requires few { length slots.old < 2 ^ 32 }
@@ -102,19 +64,4 @@ pub(crate) fn thread(slots: &mut [Slot], heads: &mut [u32])
         };
         heads[bucket] = place as u32 + 1;
     }
-}
-
-/// Gives each text its hash by another key, and threads it into the chain of its bucket.
-pub(crate) fn make_anew(key: HashKey, bytes: &[u8], slots: &mut [Slot], heads: &mut [u32])
-    requires within { All (IsSlotWithin bytes.now) slots.old }
-    requires few { length slots.old < 2 ^ 32 }
-    requires some { 1 ≤ length heads.old }
-    ensures texts { texts_at bytes.now slots.new ≡ texts_at bytes.now slots.old }
-    ensures within { All (IsSlotWithin bytes.now) slots.new }
-    ensures hashed { IsHashed key (texts_at bytes.now slots.new) (hashes_of slots.new) }
-    ensures chained { IsChained heads.new (hashes_of slots.new) (nexts_of slots.new) }
-{
-    rehash(key, bytes, slots);
-    clear(heads);
-    thread(slots, heads);
 }

@@ -1,25 +1,13 @@
-// Hash functions of texts, of which there is a row. Each multiplies words of eight bytes and folds the product (Y. Wang,
-// wyhash): which bits of a text reach which bits of its hash depends on all bits before them, and on the key.
+// The hash of texts. It multiplies words of eight bytes and folds the product (Y. Wang, wyhash): which bits of a text reach which
+// bits of its hash depends on all bits before them.
 ghost use Rattle.std.specs.Prelude.{◌≡◌, ◌+◌, ◌≤◌, length};
 ghost use Rattle.value_pool.specs.Hashes.{eight_bytes_at, folded, four_bytes_at, hash_of, last_word};
 
-/// What a hash begins with, and what its words are multiplied by.
-#[derive(Clone, Copy)]
-pub(crate) struct HashKey {
-    start: u64,
-    factor: u64,
-}
+/// What a hash begins with: digits of pi.
+const START: u64 = 0x243f_6a88_85a3_08d3;
 
-/// The key of a new pool: digits of pi and of the golden ratio.
-const FIRST_KEY: HashKey = HashKey {
-    start: 0x243f_6a88_85a3_08d3,
-    factor: 0x9e37_79b9_7f4a_7c15,
-};
-
-/// The generator of the row of keys (Knuth, vol. 2, 3.3.4: MMIX), whose period is 2^64.
-const STEP: u64 = 6_364_136_223_846_793_005;
-
-const INCREMENT: u64 = 1_442_695_040_888_963_407;
+/// What words are multiplied by: digits of the golden ratio.
+const FACTOR: u64 = 0x9e37_79b9_7f4a_7c15;
 
 // The product of two words, one half of it over the other.
 #[tactic(auto, unfolding(crate::specs::Hashes::folded))]
@@ -71,28 +59,15 @@ pub(crate) fn last_word(text: &[u8]) -> u64
     }
 }
 
-impl HashKey {
-    pub(crate) fn first() -> HashKey {
-        FIRST_KEY
+/// The hash of a text.
+#[tactic(auto, unfolding(crate::specs::Hashes::hash_of))]
+pub(crate) fn hash(text: &[u8]) -> u32
+    ensures { result ≡ hash_of text.now }
+{
+    let mut hash = START ^ text.len() as u64;
+    let (words, _) = text.as_chunks::<8>();
+    for word in words {
+        hash = folded(hash ^ u64::from_le_bytes(*word), FACTOR);
     }
-
-    /// The key after this one in the row.
-    pub(crate) fn next(self) -> HashKey {
-        let start = self.start.wrapping_mul(STEP).wrapping_add(INCREMENT);
-        let factor = folded(start, FIRST_KEY.factor) | 1;
-        HashKey { start, factor }
-    }
-
-    /// The hash of a text.
-    #[tactic(auto, unfolding(crate::specs::Hashes::hash_of))]
-    pub(crate) fn hash(self, text: &[u8]) -> u32
-        ensures { result ≡ hash_of self text.now }
-    {
-        let mut hash = self.start ^ text.len() as u64;
-        let (words, _) = text.as_chunks::<8>();
-        for word in words {
-            hash = folded(hash ^ u64::from_le_bytes(*word), self.factor);
-        }
-        (folded(hash ^ last_word(text), self.factor) % (1 << 32)) as u32
-    }
+    (folded(hash ^ last_word(text), FACTOR) % (1 << 32)) as u32
 }

@@ -5,6 +5,7 @@ mod chains;
 mod hashes;
 mod id;
 mod laws;
+mod order;
 mod pool;
 mod same_text;
 mod table;

@@ -3,6 +3,7 @@ ghost use Rattle.std.specs.Prelude.{◌≡◌, ◌≤◌, ◌↔◌, IsTrue, ◌
 ghost use Rattle.value_pool.specs.Pool.{FullExactly, HasRoom, KeepsRoom, with_text};
 ghost use Rattle.value_pool.specs.Texts.{stands_among};
 
+use crate::hashes::{hash, last_word};
 use crate::id::Id;
 use crate::table::{Search, Table};
 use link_limits::MOST_POOL_LIMIT;
@@ -111,7 +112,9 @@ impl Pool {
         ensures found { IfSome result (λ id. slice_get self.now.texts id ≡ Some text.now) }
         ensures held { is_some result ≡ stands_among self.now.texts text.now }
     {
-        match self.table.search(text).place {
+        let hash = hash(text);
+        let last = last_word(text);
+        match self.table.search(hash, last, text).place {
             None => None,
             Some(place) => Some(Id::at(place)),
         }
@@ -130,14 +133,10 @@ impl Pool {
         ensures room_held { stands_among self.old.texts text.now ≡ true → KeepsRoom self.old self.new 0 0 }
         ensures room_refused { OnErr result (KeepsRoom self.old self.new 0 0) }
     {
-        let Search {
-            place,
-            hash,
-            last,
-            passed,
-        } = self.table.search(text);
+        let hash = hash(text);
+        let last = last_word(text);
+        let Search { place, passed } = self.table.search(hash, last, text);
         if let Some(place) = place {
-            self.table.count_passed(passed);
             return Ok(Id::at(place));
         }
         let used = self.table.bytes.len() as u64 + text.len() as u64;
@@ -147,9 +146,9 @@ impl Pool {
                 limit: self.limit,
             });
         }
-        match self.table.append(hash, last, text) {
+        match self.table.append(alloc, hash, last, text) {
             Ok(place) => {
-                self.table.count_passed(passed);
+                self.table.put_in_order(alloc, passed);
                 self.table.widen(alloc);
                 Ok(Id::at(place))
             }

@@ -1,4 +1,4 @@
-// A table of distinct texts in one region of bytes, with a look-up whose bound does not rest on its hash.
+// A table of distinct texts in one region of bytes, with a look-up that takes few comparisons whichever texts they are.
 ghost use Rattle.std.specs.Prelude.{◌≡◌, ◌≤◌, ◌<◌, ◌+◌, ◌-◌, ◌^◌, ◌++◌, ◌∷◌, [], bytes_eq, false, is_some, IfOk, IfSome, OnErr, OnOk, length, slice_get};
 ghost use Rattle.link_limits.specs.declared.TheConstants.{MOST_POOL_LIMIT};
 ghost use Rattle.value_pool.specs.Hashes.{hash_of, last_word};
@@ -7,8 +7,8 @@ ghost use Rattle.value_pool.specs.Region.{IsSlotWithin};
 ghost use Rattle.value_pool.specs.Table.{IsTable, has_text, state_of, texts_of};
 ghost use Rattle.value_pool.specs.Texts.{stands_among};
 
-use crate::chains::{Slot, bucket, empty_heads, make_anew, thread};
-use crate::hashes::{HashKey, last_word};
+use crate::chains::{Slot, bucket, empty_heads, thread};
+use crate::order::{Order, place_in};
 use crate::same_text::same_text;
 use link_texts::NoMemory;
 use std::alloc::Global;
@@ -16,9 +16,9 @@ use std::alloc::Global;
 /// The buckets of a new table, a power of 2. They double as texts come.
 const FIRST_BUCKETS: usize = 1024;
 
-/// A search that passes so many texts is a long one. With two buckets a text, and texts that were not chosen for their
-/// hashes, the chance that a chain is so long is below 10^-40.
-const LONG_SEARCH: u32 = 32;
+/// A chain of so many texts is a long one: when another comes to it, all texts are put in order. With two buckets a text, and
+/// texts that were not chosen for their hashes, the chance of that is below 10^-12 for a million texts.
+const LONG_CHAIN: u32 = 16;
 
 /// Texts one after the other, and the chains of the buckets of their hashes.
 #[derive(Drop)]
@@ -27,9 +27,7 @@ pub(crate) struct Table {
     pub(crate) slots: Vec<Slot>,
     // One more than the last place of each bucket, or 0.
     heads: Vec<u32>,
-    key: HashKey,
-    // How many texts long searches have passed since the key is this one.
-    passed: u64,
+    order: Order,
 }
 
 /// What a search for a text gives.
@@ -37,11 +35,7 @@ pub(crate) struct Table {
 pub(crate) struct Search {
     /// The place of the text, where it is held.
     pub(crate) place: Option<u32>,
-    /// The hash of the text.
-    pub(crate) hash: u32,
-    /// Its last word.
-    pub(crate) last: u64,
-    /// How many other texts were passed.
+    /// How many other texts of its chain were passed: at most `LONG_CHAIN`, where there is an order.
     pub(crate) passed: u32,
 }
 
@@ -65,38 +59,40 @@ impl Table {
         let bytes = Vec::new(alloc);
         let slots = Vec::new(alloc);
         let heads = empty_heads(alloc, FIRST_BUCKETS)?;
-        let key = HashKey::first();
         Ok(Table {
             bytes,
             slots,
             heads,
-            key,
-            passed: 0,
+            order: Order::Unneeded,
         })
     }
 
-    /// Looks for a text.
+    /// Looks for a text, by its hash and its last word.
     #[inline(always)]
-    pub(crate) fn search(&self, text: &[u8]) -> Search
-        requires { IsTable self.now }
+    pub(crate) fn search(&self, hash: u32, last: u64, text: &[u8]) -> Search
+        requires table { IsTable self.now }
+        requires hash { hash ≡ hash_of text.now }
+        requires last { last ≡ last_word text.now }
         ensures found { IfSome result.place (λ place. slice_get (texts_of self.now) place ≡ Some text.now) }
         ensures held { is_some result.place ≡ stands_among (texts_of self.now) text.now }
         ensures small { IfSome result.place (λ place. place < 2 ^ 32 - 1) }
-        ensures hash { result.hash ≡ hash_of self.now.key text.now }
-        ensures last { result.last ≡ last_word text.now }
     {
-        let hash = self.key.hash(text);
-        let last = last_word(text);
         let bucket = bucket(hash, self.heads.len());
         let mut at = self.heads[bucket];
         let mut passed = 0;
         'chain: while at != 0 {
+            if passed == LONG_CHAIN {
+                if let Order::Places(places) = &self.order {
+                    return Search {
+                        place: place_in(places, text),
+                        passed,
+                    };
+                }
+            }
             let slot = self.slots[(at - 1) as usize];
             if has_text(&self.bytes, slot, hash, last, text) {
                 return Search {
                     place: Some(at - 1),
-                    hash,
-                    last,
                     passed,
                 };
             }
@@ -105,16 +101,20 @@ impl Table {
         }
         Search {
             place: None,
-            hash,
-            last,
             passed,
         }
     }
 
     /// Appends a text that is not held, by its hash and its last word.
-    pub(crate) fn append(&mut self, hash: u32, last: u64, text: &[u8]) -> Result<u32, NoMemory>
+    pub(crate) fn append(
+        &mut self,
+        alloc: Global,
+        hash: u32,
+        last: u64,
+        text: &[u8],
+    ) -> Result<u32, NoMemory>
         requires table { IsTable self.old }
-        requires hash { hash ≡ hash_of self.old.key text.now }
+        requires hash { hash ≡ hash_of text.now }
         requires last { last ≡ last_word text.now }
         requires fresh { stands_among (texts_of self.old) text.now ≡ false }
         requires fits { length self.old.bytes.items + length text.now ≤ MOST_POOL_LIMIT }
@@ -150,6 +150,7 @@ impl Table {
             return Err(NoMemory);
         }
         self.heads[bucket] = place + 1;
+        self.order.take(alloc, text, place);
         Ok(place)
     }
 
@@ -193,42 +194,17 @@ impl Table {
         }
     }
 
-    // Makes the chains anew by the next key, which takes no memory.
-    fn change_key(&mut self)
+    /// Puts all texts in order after a search along a long chain, if it is the first one.
+    pub(crate) fn put_in_order(&mut self, alloc: Global, passed: u32)
         requires { IsTable self.old }
         ensures table { IsTable self.new }
         ensures state { state_of 0 self.new ≡ state_of 0 self.old }
     {
-        self.key = self.key.next();
-        self.passed = 0;
-        make_anew(self.key, &self.bytes, &mut self.slots, &mut self.heads);
-    }
-
-    /// Counts what a long search has passed, and changes the key where that comes to as many texts as are held. So texts
-    /// chosen for one key do not help against the next, and chains are made anew only after long searches that have cost
-    /// about as much. The row of keys does not end: texts with long chains under all keys would be searched as in a list,
-    /// with as much work again for the chains.
-    pub(crate) fn count_passed(&mut self, passed: u32)
-        requires { IsTable self.old }
-        ensures table { IsTable self.new }
-        ensures state { state_of 0 self.new ≡ state_of 0 self.old }
-    {
-        if passed >= LONG_SEARCH {
-            self.count_long(passed);
+        if passed < LONG_CHAIN {
+            return;
         }
-    }
-
-    // Counts what one long search has passed.
-    #[cold]
-    #[inline(never)]
-    fn count_long(&mut self, passed: u32)
-        requires { IsTable self.old }
-        ensures table { IsTable self.new }
-        ensures state { state_of 0 self.new ≡ state_of 0 self.old }
-    {
-        self.passed = self.passed.saturating_add(u64::from(passed));
-        if self.passed >= self.slots.len() as u64 {
-            self.change_key();
+        if let Order::Unneeded = self.order {
+            self.order = Order::of(alloc, &self.bytes, &self.slots);
         }
     }
 }

@@ -30,7 +30,8 @@ returns-clause-table c =
       distinct = all.distinct;
       few = all.most;
       chained = rw (hashes, nexts) (chained-push table.heads.items (hashes_of table.slots.items) (nexts_of table.slots.items) c.args.hash c.bucket-bucket.result c.index-next.result.now (c.len-place.result + 1) c.requires.table.chained (length-map table.slots.items (λ (s : Slot). s.next) ∙ sym many) (search rules) (search rules) (search rules) (omega (arith, many, place)));
-      hashed = rw (all.texts, hashes) (hashed-push table.key (texts_of table) (hashes_of table.slots.items) c.args.text.now c.args.hash c.requires.table.hashed (as_many table.bytes.items table.slots.items) c.requires.hash);
+      hashed = rw (all.texts, hashes) (hashed-push (texts_of table) (hashes_of table.slots.items) c.args.text.now c.args.hash c.requires.table.hashed (as_many table.bytes.items table.slots.items) c.requires.hash);
+      ordered = rw all.texts (c.take.ensures (texts_of table) c.requires.table.ordered (place ∙ sym many ∙ sym (as_many table.bytes.items table.slots.items)));
       short = omega (arith, c.requires.fits, ap length longer, length-append table.bytes.items c.args.text.now);
       whole = all.texts_sum c.requires.table.whole;
     }

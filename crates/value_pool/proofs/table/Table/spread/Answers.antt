@@ -11,7 +11,7 @@ returns-in-Ok-clause-table c =
     let was = c.deref_mut.ensures.value in
     let same : texts_at table.bytes.items c.thread.new.slots ≡ texts_of table = c.thread.ensures.texts table.bytes.items ∙ ap (texts_at table.bytes.items) was in
     let hashes : hashes_of c.thread.new.slots ≡ hashes_of table.slots.items = c.thread.ensures.hashes ∙ ap hashes_of was in
-    let hashed : IsHashed table.key (texts_at table.bytes.items c.thread.new.slots) (hashes_of c.thread.new.slots) = rw (same, hashes) c.requires.table.hashed in
+    let hashed : IsHashed (texts_at table.bytes.items c.thread.new.slots) (hashes_of c.thread.new.slots) = rw (same, hashes) c.requires.table.hashed in
     let slots = with_items_is table.slots c.thread.new.slots (search (rules, places)) in
     let heads = with_items_is c.in-Ok.heads c.thread.new.heads (search (rules, places)) in
-    anew table _ c.thread.new.slots c.thread.new.heads c.requires.table (λ i. table.bytes.items) slots heads same (c.thread.ensures.within table.bytes.items (rw was c.requires.table.within)) hashed c.thread.ensures.chained
+    anew table _ c.thread.new.slots c.thread.new.heads c.requires.table (λ i. table.bytes.items) slots heads (λ i. table.order) same (c.thread.ensures.within table.bytes.items (rw was c.requires.table.within)) hashed c.thread.ensures.chained

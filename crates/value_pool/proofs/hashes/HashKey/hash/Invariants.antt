@@ -1,7 +1,0 @@
-use Rattle.std.proofs.Common.{◌≡◌, drop, length}
-use Rattle.std.specs.Prelude.{bit_xor}
-use Rattle.value_pool.specs.Hashes.{hash_from}
-use Rattle.value_pool.proofs.hashes.HashKey.hash.Given as goal
-
-abbrev pub invariant-loop-word : goal.invariant-loop-word
-invariant-loop-word l = hash_from l.self.factor l.hash (drop l.word-index l.words) ≡ hash_from l.self.factor (bit_xor l.self.start (length l.text)) l.words
