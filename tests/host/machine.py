@@ -67,8 +67,8 @@ class Host:
         self.old |= {name: (self.folder / name).read_bytes() for name in OUTPUTS if (self.folder / name).exists()}
 
     def held(self) -> str:
-        """Which names hold their new texts, and any other file that is torn or left over."""
-        found = []
+        """Which names hold their new texts, and any other file that is torn, left over, or lost."""
+        found = [f"lost:{name}" for name in self.old if not (self.folder / name).exists()]
         for name in [*OUTPUTS, "journal.csv"]:
             path = self.folder / name
             if path.is_file() and not path.is_symlink() and path.read_bytes() != self.old.get(name):

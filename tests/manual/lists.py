@@ -6,6 +6,7 @@ import tomllib
 import sources
 from pages import ROOT, read
 from theorems import wrong_theorems
+from wrong_bodies import unrefused_bodies
 
 # What a piece of a fault's text is in the definitions, and in the manual.
 SPEC_PIECES = [
@@ -129,6 +130,7 @@ def lists() -> dict[str, tuple[list, list]]:
     found["docs/DEFINITIONS.md: files of definitions"] = sources.definitions()
     found["docs/ARCHITECTURE.md: crates and what they stand on"] = sources.crates()
     found["docs/PROVED.md: theorems that do not hold"] = wrong_theorems(), []
+    found["docs/PROVED.md: wrong bodies that nothing refuses"] = unrefused_bodies(), []
     return {name: (sorted(shown), sorted(wanted)) for name, (shown, wanted) in found.items()}
 
 
