@@ -15,7 +15,7 @@ pub record Put : Type 0 where
 abbrev pub a_put : List ℕ → List ℕ → Put
 a_put name bytes = record { name = name; bytes = bytes }
 
--- a text for `out`, handed over in one call, after which the command has ended so; or puts, one after the other
+-- a text for `out`, after which the command has ended so; or puts, one after the other
 pub data Due : Type 0 where
   prints : Ended → List ℕ → Due
   puts : List Put → Due

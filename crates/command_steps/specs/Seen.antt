@@ -32,7 +32,7 @@ pub record IsUntouched (store : StoreSeen) : Type 0 where
   pub held : store.held_after ≡ store.held_before
   pub faults : store.faults_after ≡ store.faults_before
 
--- a sink that was not called: it took nothing, and its count stands
+-- a sink as if it was not called: it took nothing, and its count stands
 pub record IsUncalled (out : SinkSeen) : Type 0 where
   pub taken : out.taken_after ≡ out.taken_before
   pub faults : out.faults_after ≡ out.faults_before

@@ -10,7 +10,7 @@ use link_limits::{MOST_FILE_BYTES, MOST_WRITTEN_BYTES};
 use link_outside::{Load, Store, StoreError};
 use std::alloc::Global;
 
-/// Loads all that a name holds, by one load. A file of more bytes than the limit is refused as too long,
+/// Loads all that a name holds. A file of more bytes than the limit is refused as too long,
 /// and a failure of the store under the name.
 pub fn load_whole<S: Store>(
     alloc: Global,

@@ -1,6 +1,6 @@
--- What the host's store has done with the host's files, of which nothing is known but that they were opened: a load that ends
--- well has read one and noted its state (`HostFiles::load`, clauses `read`, `noted`), and a put that ends well has written one and
--- seen that the one it replaces has the state that was noted (`HostFiles::put`, clauses `written`, `unchanged`).
+-- What loads and puts of the host's store come to, of some file of the host, where that tells its bytes and its state: a load that ends
+-- well gives what one had left, and notes the state of one (`HostFiles::load`, clauses `read`, `noted`); of a put that ends well one has
+-- all bytes and is kept, and one has the state that was noted (`HostFiles::put`, clauses `written`, `unchanged`). Which file, no clause says.
 use Rattle.std.specs.Prelude.{◌≡◌, ◌++◌, ◌∷◌, [], ℕ, Bool, List, Option, All, IfSome, IsTrue}
 use Rattle.std.specs.Io.KnownBytes.{Appends}
 use Rattle.link_outside.specs.Outside.{Shows}
@@ -12,7 +12,7 @@ use Rattle.host_outside.specs.declared.loads.Loaded.{Loaded}
 abbrev pub IsRead : {File : Type 0} → (File → Option (List ℕ)) → ℕ → Load → Type 0
 IsRead {File} remaining limit load = (file : File) × IfSome (remaining file) (λ bytes. Shows bytes limit load)
 
--- all of the bytes were handed to some file, behind what it held, where that is known, and the host was asked to keep it then
+-- all of the bytes stand behind what some file had, where that is known, and the file is kept then
 abbrev pub IsWritten : {File : Type 0} → (File → Option (List ℕ)) → (File → Bool) → List ℕ → Type 0
 IsWritten {File} contents is_kept bytes =
     (before : File) × (after : File) × Appends (contents before) (contents after) bytes × IsTrue (is_kept after)
@@ -21,7 +21,7 @@ IsWritten {File} contents is_kept bytes =
 abbrev pub IsStateOf : {File : Type 0} → (File → Option FileState) → FileState → Type 0
 IsStateOf {File} told state = (file : File) × IfSome (told file) (λ now. state ≡ now)
 
--- what was read is of some file, whose state was taken first where it tells it
+-- what was read is of some file that has this state, each where it tells it
 abbrev pub IsReadIn : {File : Type 0} → (File → Option (List ℕ)) → (File → Option FileState) → ℕ → Load → FileState → Type 0
 IsReadIn {File} remaining told limit load state =
     (file : File) × IfSome (remaining file) (λ bytes. Shows bytes limit load) × IfSome (told file) (λ now. state ≡ now)
@@ -31,7 +31,7 @@ abbrev pub IsNoted : {File : Type 0} → (File → Option (List ℕ)) → (File 
 IsNoted remaining told limit name old new load =
     (state : FileState) × IsReadIn remaining told limit load state × (new ≡ old ++ (record { name = name; state = state } ∷ []))
 
--- some file that was opened has the state that a load of the name noted, for each of them
+-- for each load of the name some file has the state that it noted, where it tells it
 abbrev pub IsUnchanged : {File : Type 0} → (File → Option FileState) → List Loaded → List ℕ → Type 0
 IsUnchanged told loads name = All (λ loaded. loaded.name ≡ name → IsStateOf told loaded.state) loads
 

@@ -18,11 +18,11 @@ use std::io::{Read, Write};
 use std::rt::Files;
 use std::{fs, io};
 
-/// The files of the host, named by their paths. They tell nothing of what they hold: that a load has read an opened
-/// file to its end or past the limit, and that a put has written all its bytes to a file, is all that contracts see. A
-/// put locks the folder of the name for as long as this value lives, refuses a file that is no longer what a load of
-/// the name has read, writes the file `NAME.new`, has the host keep it on its disk, and renames it, so a crash leaves
-/// the old file or the new one, and a file of that name is lost. Where it ends well the host keeps the new name too.
+/// The files of the host, named by their paths. They tell nothing of what they hold: that a load gives what some file
+/// had left, and that all bytes of a put stand in some file, is all that contracts see. A put locks the folder of the
+/// name for as long as this value lives, refuses a file that is no longer what a load of the name has read, writes the
+/// file `NAME.new`, has the host keep it on its disk, and renames it, so a crash leaves the old file or the new one, and
+/// a file of that name is lost. Where it ends well the host keeps the new name too.
 #[derive(Drop)]
 pub struct HostFiles<'r, R: Files>
 where

@@ -238,7 +238,7 @@ pub fn prepare(
     }
 }
 
-/// The same of two files whose bytes are given back as soon as their records are read.
+/// The same of two files whose bytes it takes over.
 pub fn prepare_texts(
     alloc: Global,
     plan: &Plan,

@@ -1,5 +1,5 @@
 -- The command `duplicates SETTINGS`: its words, its steps and what is due, by the clause `follows` of `perform`. A is read as both files of
--- the plan of A with itself; neither B nor the journal is loaded.
+-- the plan of A with itself; no step is a load of B or of the journal.
 use Rattle.std.specs.Prelude.{◌≡◌, ℕ, List, length, Bool, codes, Ok}
 use Rattle.dedup_groups.specs.Groups.{AreLeaders}
 use Rattle.link_base.specs.declared.fault.FileRole.TheVariants as role
@@ -34,7 +34,7 @@ pub record Within : Type 0 where
 abbrev pub within_of : DecidedWithin → Within
 within_of d = record { files = d.files; decided = decisions_of d.decided }
 
--- A is loaded once, and its bytes stand as both files: the faults of A come first, then unreadable dates of a strict plan, and the pool
+-- one step loads A, and its bytes stand as both files: the faults of A come first, then unreadable dates of a strict plan, and the pool
 abbrev pub prepared_within : Plan → Steps PreparedView
 prepared_within plan = do
   bytes ← file role.A plan.file_a

@@ -15,6 +15,6 @@ are_keys_words words =
     nat_le 2 (length words) && nat_le (length words) (MOST_LISTED + 1) && bytes_eq (word words 0) (codes "keys")
     && list_all (λ w. nat_le (length w) MOST_NAME_BYTES) (drop 1 words)
 
--- the text of the words: nothing is loaded
+-- the text of the words: no step is a load
 abbrev pub keys_script : List (List ℕ) → Script
 keys_script words = record { Found = List ℕ; steps = gives (Ok (keys_text words)); due = is_printed }

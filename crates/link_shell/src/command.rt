@@ -145,6 +145,8 @@ fn report<E: Sink>(alloc: Global, answer: &Result<Ended, Fault>, err: &mut E) ->
 ///
 /// No verdict is lost: the journal that `review` or `migrate` leaves loads as the entries that it had, followed by one for each new
 /// verdict (clause `no_verdict_lost`). Each limit is the number that users are told (clause `limits`).
+///
+/// But for `performed` and `limits`, all of this is said of a store that tells what its names hold.
 pub fn linkage<S: Store, O: Sink, E: Sink>(
     alloc: Global,
     words: &[String],
