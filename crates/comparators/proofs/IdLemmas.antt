@@ -11,7 +11,7 @@ use Rattle.link_base.specs.declared.standard.Value.TheVariants as value
 use Rattle.value_forms.specs.Days.{year_of_day}
 use Rattle.comparators.specs.declared.ids.IdValue.{IdValue}
 use Rattle.comparators.specs.declared.ids.IdValue.TheVariants as id
-use Rattle.value_forms.specs.Canons.{compares_days, exact_canon, soundex_canon, nysiis_canon, first_letters_canon, initials_canon, day_in, year_in}
+use Rattle.value_forms.specs.Canons.{compares_days, canon_by, initials_canon, day_in, year_in}
 use Rattle.comparators.specs.Fields.{day_of_id, field_of, field_outcome, id_in, IsDayOrAbsent, IsFieldSide, IsIdOrAbsent, kind_of, kind_outcome, year_of_id}
 use Rattle.comparators.specs.Laws.{agree_where, near, outcome_by, outcome_of_ids, outcome_of_counted, outcome_of_texts}
 use Rattle.comparators.specs.OfPool.{IsDayItself, NamesCanon, StandsFor, rare_where}
@@ -91,20 +91,14 @@ years_alike t x y a b h k = ap (λ (o : Option ℤ). outcome_by (near t) o (year
     year_is (value.Day d) (id.Day m) h = ap (λ (e : ℤ). Some (pos (year_of_day e))) h
 
 pub outcomes_alike : (texts : List (List ℕ)) (distinct : (a b : ℕ) → a < length texts → slice_get texts a ≡ slice_get texts b → a ≡ b) (kind : CompareKind) (x y : Value) (a b : IdValue) → StandsFor texts kind x a → StandsFor texts kind y b → field_outcome (field_of kind) a b ≡ kind_outcome (kind_of kind) x y
-outcomes_alike texts distinct compare.Exact x y a b h k = outcome_of_canons texts distinct (exact_canon x) (exact_canon y) a b h k
-outcomes_alike texts distinct compare.BySoundex x y a b h k = outcome_of_canons texts distinct (soundex_canon x) (soundex_canon y) a b h k
-outcomes_alike texts distinct compare.ByNysiis x y a b h k = outcome_of_canons texts distinct (nysiis_canon x) (nysiis_canon y) a b h k
-outcomes_alike texts distinct (compare.FirstLetters n) x y a b h k = outcome_of_canons texts distinct (first_letters_canon n x) (first_letters_canon n y) a b h k
+outcomes_alike texts distinct (compare.Same canon) x y a b h k = outcome_of_canons texts distinct (canon_by canon x) (canon_by canon y) a b h k
 outcomes_alike texts distinct compare.Initials x y a b h k = outcome_of_canons texts distinct (initials_canon x) (initials_canon y) a b h k
 outcomes_alike texts distinct (compare.DaysWithin t) x y a b h k = days_alike t (day_in x) (day_in y) a b h k
 outcomes_alike texts distinct (compare.YearsWithin t) x y a b h k = years_alike t x y a b h k
 
 -- a side by what a kind compares is a valid one of its comparator over ids
 pub side-valid : (kind : CompareKind) (x : IdValue) → MatchBool (compares_days kind) (IsDayOrAbsent x) (IsIdOrAbsent x) → IsFieldSide (field_of kind) x
-side-valid compare.Exact x h = h
-side-valid compare.BySoundex x h = h
-side-valid compare.ByNysiis x h = h
-side-valid (compare.FirstLetters n) x h = h
+side-valid (compare.Same canon) x h = h
 side-valid compare.Initials x h = h
 side-valid (compare.DaysWithin t) x h = h
 side-valid (compare.YearsWithin t) x h = h

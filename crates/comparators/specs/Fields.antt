@@ -13,43 +13,31 @@ use Rattle.comparators.specs.declared.ids.IdValue.{IdValue}
 use Rattle.comparators.specs.declared.ids.IdValue.TheVariants as id
 use Rattle.comparators.specs.declared.ids.FieldById.{FieldById}
 use Rattle.comparators.specs.declared.ids.FieldById.TheVariants as field
-use Rattle.value_forms.specs.Canons.{exact_canon, soundex_canon, nysiis_canon, first_letters_canon, initials_canon, day_in, year_in}
+use Rattle.value_forms.specs.Canons.{canon_by, initials_canon, day_in, year_in}
 use Rattle.comparators.specs.Laws.{ComparatorLaws, outcome_by, outcome_of_texts, outcome_of_ids, outcome_of_counted, near}
 use Rattle.comparators.specs.LawsBy.{laws_by, text_laws, id_laws, rare_id_laws, near_laws}
 
 abbrev pub kind_present : FieldKind → Value → Bool
-kind_present (kind.Exact c) x = is_some (exact_canon x)
-kind_present (kind.BySoundex c) x = is_some (soundex_canon x)
-kind_present (kind.ByNysiis c) x = is_some (nysiis_canon x)
-kind_present (kind.FirstLetters c) x = is_some (first_letters_canon c.n x)
+kind_present (kind.Same c) x = is_some (canon_by c.canon x)
 kind_present (kind.Initials c) x = is_some (initials_canon x)
 kind_present (kind.DaysWithin c) x = is_some (day_in x)
 kind_present (kind.YearsWithin c) x = is_some (year_in x)
 
 abbrev pub kind_outcome : FieldKind → Value → Value → Outcome
-kind_outcome (kind.Exact c) x y = outcome_by outcome_of_texts (exact_canon x) (exact_canon y)
-kind_outcome (kind.BySoundex c) x y = outcome_by outcome_of_texts (soundex_canon x) (soundex_canon y)
-kind_outcome (kind.ByNysiis c) x y = outcome_by outcome_of_texts (nysiis_canon x) (nysiis_canon y)
-kind_outcome (kind.FirstLetters c) x y = outcome_by outcome_of_texts (first_letters_canon c.n x) (first_letters_canon c.n y)
+kind_outcome (kind.Same c) x y = outcome_by outcome_of_texts (canon_by c.canon x) (canon_by c.canon y)
 kind_outcome (kind.Initials c) x y = outcome_by outcome_of_texts (initials_canon x) (initials_canon y)
 kind_outcome (kind.DaysWithin c) x y = outcome_by (near c.t) (day_in x) (day_in y)
 kind_outcome (kind.YearsWithin c) x y = outcome_by (near c.t) (year_in x) (year_in y)
 
 -- the comparator of a kind
 abbrev pub kind_of : CompareKind → FieldKind
-kind_of compare.Exact = kind.Exact (record {})
-kind_of compare.BySoundex = kind.BySoundex (record {})
-kind_of compare.ByNysiis = kind.ByNysiis (record {})
-kind_of (compare.FirstLetters n) = kind.FirstLetters (record { n = n })
+kind_of (compare.Same canon) = kind.Same (record { canon = canon })
 kind_of compare.Initials = kind.Initials (record {})
 kind_of (compare.DaysWithin t) = kind.DaysWithin (record { t = t })
 kind_of (compare.YearsWithin t) = kind.YearsWithin (record { t = t })
 
 pub kind_laws : (c : FieldKind) → ComparatorLaws false (kind_present c) (kind_outcome c)
-kind_laws (kind.Exact c) = laws_by text_laws exact_canon
-kind_laws (kind.BySoundex c) = laws_by text_laws soundex_canon
-kind_laws (kind.ByNysiis c) = laws_by text_laws nysiis_canon
-kind_laws (kind.FirstLetters c) = laws_by text_laws (first_letters_canon c.n)
+kind_laws (kind.Same c) = laws_by text_laws (canon_by c.canon)
 kind_laws (kind.Initials c) = laws_by text_laws initials_canon
 kind_laws (kind.DaysWithin c) = laws_by (near_laws c.t) day_in
 kind_laws (kind.YearsWithin c) = laws_by (near_laws c.t) year_in
@@ -121,10 +109,7 @@ field_laws (field.Years c) = laws_by (near_laws c.t) year_of_id
 
 -- the comparator of a kind, over ids of canons or over days
 abbrev pub field_of : CompareKind → FieldById
-field_of compare.Exact = field.Same (record {})
-field_of compare.BySoundex = field.Same (record {})
-field_of compare.ByNysiis = field.Same (record {})
-field_of (compare.FirstLetters n) = field.Same (record {})
+field_of (compare.Same canon) = field.Same (record {})
 field_of compare.Initials = field.Same (record {})
 field_of (compare.DaysWithin t) = field.Days (record { t = t })
 field_of (compare.YearsWithin t) = field.Years (record { t = t })

@@ -5,16 +5,13 @@ ghost use Rattle.comparators.specs.Fields.{kind_laws, kind_of, kind_outcome, kin
 
 use crate::comparator::Comparator;
 use crate::days::{DaysWithin, YearsWithin};
-use crate::words::{ByNysiis, BySoundex, Exact, FirstLetters, Initials};
+use crate::words::{Initials, SameCanon};
 use link_base::{CompareKind, Outcome, Value};
 
 /// A kind of comparison of values.
 #[derive(Clone, Copy, PartialEq, Eq)]
 pub enum FieldKind {
-    Exact(Exact),
-    BySoundex(BySoundex),
-    ByNysiis(ByNysiis),
-    FirstLetters(FirstLetters),
+    Same(SameCanon),
     Initials(Initials),
     DaysWithin(DaysWithin),
     YearsWithin(YearsWithin),
@@ -26,10 +23,7 @@ impl FieldKind {
         ensures { result ≡ kind_of kind }
     {
         match kind {
-            CompareKind::Exact => FieldKind::Exact(Exact),
-            CompareKind::BySoundex => FieldKind::BySoundex(BySoundex),
-            CompareKind::ByNysiis => FieldKind::ByNysiis(ByNysiis),
-            CompareKind::FirstLetters(n) => FieldKind::FirstLetters(FirstLetters { n }),
+            CompareKind::Same(canon) => FieldKind::Same(SameCanon { canon }),
             CompareKind::Initials => FieldKind::Initials(Initials),
             CompareKind::DaysWithin(t) => FieldKind::DaysWithin(DaysWithin { t }),
             CompareKind::YearsWithin(t) => FieldKind::YearsWithin(YearsWithin { t }),
@@ -56,10 +50,7 @@ impl Comparator for FieldKind {
 
     fn present(&self, side: &Value) -> bool {
         match self {
-            FieldKind::Exact(kind) => kind.present(side),
-            FieldKind::BySoundex(kind) => kind.present(side),
-            FieldKind::ByNysiis(kind) => kind.present(side),
-            FieldKind::FirstLetters(kind) => kind.present(side),
+            FieldKind::Same(kind) => kind.present(side),
             FieldKind::Initials(kind) => kind.present(side),
             FieldKind::DaysWithin(kind) => kind.present(side),
             FieldKind::YearsWithin(kind) => kind.present(side),
@@ -68,10 +59,7 @@ impl Comparator for FieldKind {
 
     fn outcome(&self, a: &Value, b: &Value) -> Outcome {
         match self {
-            FieldKind::Exact(kind) => kind.outcome(a, b),
-            FieldKind::BySoundex(kind) => kind.outcome(a, b),
-            FieldKind::ByNysiis(kind) => kind.outcome(a, b),
-            FieldKind::FirstLetters(kind) => kind.outcome(a, b),
+            FieldKind::Same(kind) => kind.outcome(a, b),
             FieldKind::Initials(kind) => kind.outcome(a, b),
             FieldKind::DaysWithin(kind) => kind.outcome(a, b),
             FieldKind::YearsWithin(kind) => kind.outcome(a, b),

@@ -15,4 +15,4 @@ pub use fields::FieldKind;
 pub use ids::{ById, FieldById, IdValue, RareById};
 pub use laws::same_outcomes;
 pub use tables::IdTable;
-pub use words::{ByNysiis, BySoundex, CanonKind, Exact, FirstLetters, Initials};
+pub use words::{Initials, SameCanon};

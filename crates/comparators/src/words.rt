@@ -1,19 +1,15 @@
 // The kinds with a canon.
-ghost use Rattle.std.specs.Prelude.{◌≡◌, false, is_some, IfOk, List, Option, ℕ, option_map};
+ghost use Rattle.std.specs.Prelude.{◌≡◌, false, is_some, IfOk, option_map};
 ghost use Rattle.link_base.specs.Standard.{IsValid};
-ghost use Rattle.link_base.specs.declared.standard.Value.{Value};
 ghost use Rattle.comparators.specs.Laws.{agree_where, outcome_by, outcome_of_texts};
 ghost use Rattle.comparators.specs.LawsBy.{canon_laws_by, laws_by, text_laws};
 ghost use Rattle.value_forms.specs.CanonTexts.{canon_bytes};
-ghost use Rattle.value_forms.specs.Canons.{exact_canon, first_letters_canon, initials_canon, nysiis_canon, soundex_canon};
+ghost use Rattle.value_forms.specs.Canons.{canon_by, initials_canon};
 
 use crate::comparator::{Comparator, KeyComparator};
-use link_base::{NoMemory, Outcome, Text, Value};
+use link_base::{Canon, NoMemory, Outcome, Text, Value};
 use std::alloc::Global;
-use value_forms::{
-    CanonText, bytes_of, exact, first_letters, initials_text, nysiis_key, same_initials,
-    soundex_key,
-};
+use value_forms::{CanonText, bytes_of, canon_text, initials_text, same_initials};
 
 /// The outcome of two present sides.
 pub(crate) fn agree_if(alike: bool) -> Outcome
@@ -44,102 +40,56 @@ fn copy(alloc: Global, canon: Option<CanonText>) -> Result<Option<Text>, NoMemor
     }
 }
 
-/// A kind whose canons take no memory: two values agree where their canons are equal.
-pub trait CanonKind {
-    /// The canon of a value, where it has one.
-    ghost canon_in: { Self → Value → Option (List ℕ) };
-
-    /// The canon of a value, where it has one.
-    fn canon_text<'v>(&self, value: &'v Value) -> Option<CanonText<'v>>
-        requires { IsValid value.now }
-        ensures { option_map canon_bytes result ≡ canon_in self.now value.now };
+/// Agrees on equal canons.
+#[derive(Clone, Copy, PartialEq, Eq)]
+pub struct SameCanon {
+    pub canon: Canon,
 }
 
-impl<K: CanonKind> Comparator for K {
+impl SameCanon {
+    // The canon of a value, where it has one.
+    #[tactic(auto, using(value_forms::proofs::ReadableLemmas::readable_valid))]
+    fn text<'v>(&self, value: &'v Value) -> Option<CanonText<'v>>
+        requires { IsValid value.now }
+        ensures { option_map canon_bytes result ≡ canon_by self.now.canon value.now }
+    {
+        canon_text(self.canon, &value.as_ref())
+    }
+}
+
+impl Comparator for SameCanon {
     type Side = Value;
 
     ghost is_valid = { λ _ side. IsValid side };
 
     ghost is_rare = { λ _. false };
 
-    ghost is_present = { λ kind side. is_some (K.canon_in kind side) };
+    ghost is_present = { λ kind side. is_some (canon_by kind.canon side) };
 
-    ghost outcome_of = { λ kind a b. outcome_by outcome_of_texts (K.canon_in kind a) (K.canon_in kind b) };
+    ghost outcome_of = { λ kind a b. outcome_by outcome_of_texts (canon_by kind.canon a) (canon_by kind.canon b) };
 
-    ghost laws = { λ kind. laws_by text_laws (K.canon_in kind) };
+    ghost laws = { λ kind. laws_by text_laws (canon_by kind.canon) };
 
     fn rare(&self) -> bool {
         false
     }
 
     fn present(&self, side: &Value) -> bool {
-        self.canon_text(side).is_some()
+        self.text(side).is_some()
     }
 
     fn outcome(&self, a: &Value, b: &Value) -> Outcome {
-        compare(self.canon_text(a), self.canon_text(b))
+        compare(self.text(a), self.text(b))
     }
 }
 
-impl<K: CanonKind> KeyComparator for K {
-    ghost canon_of = { λ kind. K.canon_in kind };
+impl KeyComparator for SameCanon {
+    ghost canon_of = { λ kind. canon_by kind.canon };
 
-    ghost canon_laws = { λ kind. canon_laws_by (K.canon_in kind) };
+    ghost canon_laws = { λ kind. canon_laws_by (canon_by kind.canon) };
 
     fn canon(&self, alloc: Global, side: &Value) -> Result<Option<Text>, NoMemory> {
-        copy(alloc, self.canon_text(side))
-    }
-}
-
-/// Agrees on the same text, or the same day.
-#[derive(Clone, Copy, PartialEq, Eq)]
-pub struct Exact;
-
-impl CanonKind for Exact {
-    ghost canon_in = { λ _. exact_canon };
-
-    #[tactic(auto, using(value_forms::proofs::ReadableLemmas::readable_valid))]
-    fn canon_text<'v>(&self, value: &'v Value) -> Option<CanonText<'v>> {
-        exact(&value.as_ref())
-    }
-}
-
-/// Agrees on the same Soundex key.
-#[derive(Clone, Copy, PartialEq, Eq)]
-pub struct BySoundex;
-
-impl CanonKind for BySoundex {
-    ghost canon_in = { λ _. soundex_canon };
-
-    fn canon_text<'v>(&self, value: &'v Value) -> Option<CanonText<'v>> {
-        soundex_key(&value.as_ref())
-    }
-}
-
-/// Agrees on the same NYSIIS key.
-#[derive(Clone, Copy, PartialEq, Eq)]
-pub struct ByNysiis;
-
-impl CanonKind for ByNysiis {
-    ghost canon_in = { λ _. nysiis_canon };
-
-    fn canon_text<'v>(&self, value: &'v Value) -> Option<CanonText<'v>> {
-        nysiis_key(&value.as_ref())
-    }
-}
-
-/// Agrees on the same first characters.
-#[derive(Clone, Copy, PartialEq, Eq)]
-pub struct FirstLetters {
-    pub n: u8,
-}
-
-impl CanonKind for FirstLetters {
-    ghost canon_in = { λ kind. first_letters_canon kind.n };
-
-    #[tactic(auto, using(value_forms::proofs::ReadableLemmas::readable_valid))]
-    fn canon_text<'v>(&self, value: &'v Value) -> Option<CanonText<'v>> {
-        first_letters(self.n, &value.as_ref())
+        copy(alloc, self.text(side))
     }
 }
 

@@ -1,5 +1,6 @@
 // What a settings file chooses among: kinds of fields, of comparison and of keys.
 ghost use Rattle.std.specs.Prelude.{◌≡◌};
+ghost use Rattle.link_base.specs.Canons.{letters_of, with_letters};
 
 use std::marker::Model;
 
@@ -25,17 +26,49 @@ pub enum FieldSort {
     Date(DateForm, DateForm),
 }
 
+/// A canon of a value, which takes no memory: what values of a field are compared by, or the part of a key of a blocking pass
+/// that a value makes.
+#[derive(Clone, Copy, PartialEq, Eq)]
+pub enum Canon {
+    /// The whole value.
+    Whole,
+    /// The Soundex key.
+    Soundex,
+    /// The NYSIIS key.
+    Nysiis,
+    /// The first characters, 1 to 20 of them.
+    FirstLetters(u8),
+    /// The year of a day.
+    Year,
+}
+
+impl Canon {
+    /// The number of its letters, where it has one.
+    pub fn letters(self) -> Option<u8>
+        ensures { result ≡ letters_of self }
+    {
+        match self {
+            Canon::FirstLetters(n) => Some(n),
+            _ => None,
+        }
+    }
+
+    /// The same canon of so many letters, where it has a number of letters.
+    pub fn with_letters(self, n: u8) -> Canon
+        ensures { result ≡ with_letters n self }
+    {
+        match self {
+            Canon::FirstLetters(_) => Canon::FirstLetters(n),
+            other => other,
+        }
+    }
+}
+
 /// How the two values of a field are compared.
 #[derive(Clone, Copy)]
 pub enum CompareKind {
-    /// Equal values agree.
-    Exact,
-    /// Equal Soundex keys agree.
-    BySoundex,
-    /// Equal NYSIIS keys agree.
-    ByNysiis,
-    /// Equal first characters agree, at most 20 of them.
-    FirstLetters(u8),
+    /// Equal canons agree.
+    Same(Canon),
     /// Equal initials agree.
     Initials,
     /// Days at most so many days apart agree, at most 36,500.
@@ -44,26 +77,11 @@ pub enum CompareKind {
     YearsWithin(u32),
 }
 
-/// How a field makes a part of a key of a blocking pass.
-#[derive(Clone, Copy, PartialEq, Eq)]
-pub enum KeyKind {
-    /// The whole value.
-    Whole,
-    /// The Soundex key.
-    Soundex,
-    /// The NYSIIS key.
-    Nysiis,
-    /// The first characters, 1 to 20 of them.
-    First(u8),
-    /// The year of a day.
-    Year,
-}
-
-/// A part of a key: a field by its place, and how it makes the part.
+/// A part of a key: a field by its place, and the canon that makes the part.
 #[derive(Clone, Copy, PartialEq, Eq)]
 pub struct Part {
     pub field: u8,
-    pub key: KeyKind,
+    pub key: Canon,
 }
 
 /// A blocking pass, which contracts see as the list of the parts of its key.

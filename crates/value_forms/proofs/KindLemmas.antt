@@ -7,10 +7,7 @@ use Rattle.value_forms.specs.Canons.{canon_of, compares_days}
 
 -- a value has no canon for a kind that compares days
 pub no-canon : (kind : CompareKind) (v : Value) → compares_days kind ≡ true → canon_of kind v ≡ None
-no-canon by.Exact v h = cc
-no-canon by.BySoundex v h = cc
-no-canon by.ByNysiis v h = cc
-no-canon (by.FirstLetters n) v h = cc
+no-canon (by.Same c) v h = cc
 no-canon by.Initials v h = cc
 no-canon (by.DaysWithin t) v h = refl
 no-canon (by.YearsWithin t) v h = refl

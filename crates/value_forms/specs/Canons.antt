@@ -1,15 +1,14 @@
--- What a value is compared or blocked by: its canon of each kind. `canon_text` gives the canon of a kind of comparison (clause
--- `canon`), but initials, which `initials_text` makes, and `value_text` the part of a key of a blocking pass. Comparators and
--- blocking passes cite these definitions, so that both speak of the same canons.
-use Rattle.std.specs.Prelude.{Bool, true, false, Option, Some, None, List, ℕ, ℤ, pos, ⊤}
+-- What a value is compared or blocked by: its canon of each kind (`canon_text`), and its initials (`initials_text`). Comparators
+-- and blocking passes cite these definitions, so that both speak of the same canons.
+use Rattle.std.specs.Prelude.{◌≡◌, Bool, true, false, Option, Some, None, List, ℕ, ℤ, pos, ⊤}
 use Rattle.std.specs.Str.{IsUtf8}
 use Rattle.link_base.specs.Standard.{IsDay}
 use Rattle.link_base.specs.declared.standard.Value.{Value}
 use Rattle.link_base.specs.declared.standard.Value.TheVariants.{Absent, Word, Day}
+use Rattle.link_base.specs.declared.plan.Canon.{Canon}
+use Rattle.link_base.specs.declared.plan.Canon.TheVariants as canon
 use Rattle.link_base.specs.declared.plan.CompareKind.{CompareKind}
 use Rattle.link_base.specs.declared.plan.CompareKind.TheVariants as by
-use Rattle.link_base.specs.declared.plan.KeyKind.{KeyKind}
-use Rattle.link_base.specs.declared.plan.KeyKind.TheVariants as key
 use Rattle.value_forms.specs.Days.{four_digits, text_of_day, year_of_day}
 use Rattle.value_forms.specs.Firsts.{first_characters}
 use Rattle.value_forms.specs.Initials.{initials_of}
@@ -40,17 +39,36 @@ first_letters_canon n Absent = None
 first_letters_canon n (Word text) = Some (first_characters n text)
 first_letters_canon n (Day day) = None
 
--- the first character of each word of a word's text, joined
-abbrev pub initials_canon : Value → Option (List ℕ)
-initials_canon Absent = None
-initials_canon (Word text) = Some (initials_of text)
-initials_canon (Day day) = None
-
 -- the four digits of the year of a day
 abbrev pub year_digits : Value → Option (List ℕ)
 year_digits Absent = None
 year_digits (Word text) = None
 year_digits (Day day) = Some (four_digits (year_of_day day))
+
+-- the canon of a value: what values are compared by, or the part of a key that a value makes
+abbrev pub canon_by : Canon → Value → Option (List ℕ)
+canon_by canon.Whole v = exact_canon v
+canon_by canon.Soundex v = soundex_canon v
+canon_by canon.Nysiis v = nysiis_canon v
+canon_by (canon.FirstLetters n) v = first_letters_canon n v
+canon_by canon.Year v = year_digits v
+
+-- whether the canon of a word is of its characters, and not of its bytes
+abbrev pub reads_characters : Canon → Bool
+reads_characters (canon.FirstLetters n) = true
+reads_characters c = false
+
+-- a valid value, as far as its canon reads it: a word whose characters are read is text
+abbrev pub IsReadable : Canon → Value → Type 0
+IsReadable c Absent = ⊤
+IsReadable c (Word text) = reads_characters c ≡ true → IsUtf8 text
+IsReadable c (Day day) = IsDay day
+
+-- the first character of each word of a word's text, joined
+abbrev pub initials_canon : Value → Option (List ℕ)
+initials_canon Absent = None
+initials_canon (Word text) = Some (initials_of text)
+initials_canon (Day day) = None
 
 -- a day, and its year as a number
 abbrev pub day_in : Value → Option ℤ
@@ -65,52 +83,14 @@ year_in (Day day) = Some (pos (year_of_day day))
 
 -- whether a kind compares days as they are, so that values have no canon for it
 abbrev pub compares_days : CompareKind → Bool
-compares_days by.Exact = false
-compares_days by.BySoundex = false
-compares_days by.ByNysiis = false
-compares_days (by.FirstLetters n) = false
+compares_days (by.Same c) = false
 compares_days by.Initials = false
 compares_days (by.DaysWithin t) = true
 compares_days (by.YearsWithin t) = true
 
--- whether a kind compares initials, the canons that are made in memory
-abbrev pub compares_initials : CompareKind → Bool
-compares_initials by.Exact = false
-compares_initials by.BySoundex = false
-compares_initials by.ByNysiis = false
-compares_initials (by.FirstLetters n) = false
-compares_initials by.Initials = true
-compares_initials (by.DaysWithin t) = false
-compares_initials (by.YearsWithin t) = false
-
--- the canon by which a kind compares a value
+-- the text by which a kind compares a value
 abbrev pub canon_of : CompareKind → Value → Option (List ℕ)
-canon_of by.Exact v = exact_canon v
-canon_of by.BySoundex v = soundex_canon v
-canon_of by.ByNysiis v = nysiis_canon v
-canon_of (by.FirstLetters n) v = first_letters_canon n v
+canon_of (by.Same c) v = canon_by c v
 canon_of by.Initials v = initials_canon v
 canon_of (by.DaysWithin t) v = None
 canon_of (by.YearsWithin t) v = None
-
--- the part of a key that a value makes
-abbrev pub value_part : KeyKind → Value → Option (List ℕ)
-value_part key.Whole v = exact_canon v
-value_part key.Soundex v = soundex_canon v
-value_part key.Nysiis v = nysiis_canon v
-value_part (key.First n) v = first_letters_canon n v
-value_part key.Year v = year_digits v
-
--- a word whose first characters are read is text
-abbrev pub IsTextFor : KeyKind → List ℕ → Type 0
-IsTextFor key.Whole text = ⊤
-IsTextFor key.Soundex text = ⊤
-IsTextFor key.Nysiis text = ⊤
-IsTextFor (key.First n) text = IsUtf8 text
-IsTextFor key.Year text = ⊤
-
--- a valid value, as far as a part of this kind reads it
-abbrev pub IsReadable : KeyKind → Value → Type 0
-IsReadable kind Absent = ⊤
-IsReadable kind (Word text) = IsTextFor kind text
-IsReadable kind (Day day) = IsDay day

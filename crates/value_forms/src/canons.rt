@@ -1,15 +1,15 @@
-// The canon of a value by each kind.
-ghost use Rattle.std.specs.Prelude.{◌≡◌, false, is_some, option_map, true};
+// The canon of a value of each kind.
+ghost use Rattle.std.specs.Prelude.{◌≡◌, option_map};
 ghost use Rattle.link_base.specs.Rows.{value_seen};
-ghost use Rattle.link_base.specs.Standard.{IsDay, IsValid};
+ghost use Rattle.link_base.specs.Standard.{IsDay};
 ghost use Rattle.value_forms.specs.CanonTexts.{canon_bytes};
-ghost use Rattle.value_forms.specs.Canons.{IsReadable, canon_of, exact_canon, first_letters_canon, nysiis_canon, soundex_canon, value_part};
-ghost use Rattle.value_forms.specs.Canons.{compares_days as is_of_days, compares_initials as is_of_initials, year_digits as year_canon};
+ghost use Rattle.value_forms.specs.Canons.{IsReadable, canon_by, exact_canon, first_letters_canon, nysiis_canon, soundex_canon};
+ghost use Rattle.value_forms.specs.Canons.{compares_days as is_of_days, year_digits as year_canon};
 ghost use Rattle.value_forms.specs.Days.{four_digits, year_of_day};
 
 use crate::days::{civil_of, day_text};
 use crate::first::first_chars;
-use link_base::{CompareKind, KeyKind, ValueRef};
+use link_base::{Canon, CompareKind, ValueRef};
 use phonetic_keys::{Nysiis, nysiis, soundex};
 
 /// The bytes of a canon that takes no memory.
@@ -37,9 +37,9 @@ pub fn bytes_of<'t>(canon: &'t CanonText) -> &'t [u8]
     }
 }
 
-/// The text of a word, and `YYYY-MM-DD` of a day.
-pub fn exact<'v>(value: &ValueRef<'v>) -> Option<CanonText<'v>>
-    requires { IsReadable KeyKind.Whole (value_seen value.now) }
+// The text of a word, and `YYYY-MM-DD` of a day.
+fn exact<'v>(value: &ValueRef<'v>) -> Option<CanonText<'v>>
+    requires { IsReadable Canon.Whole (value_seen value.now) }
     ensures { option_map canon_bytes result ≡ exact_canon (value_seen value.now) }
 {
     match *value {
@@ -49,8 +49,8 @@ pub fn exact<'v>(value: &ValueRef<'v>) -> Option<CanonText<'v>>
     }
 }
 
-/// The Soundex key of a word, `None` where it has no letter.
-pub fn soundex_key<'v>(value: &ValueRef<'v>) -> Option<CanonText<'v>>
+// The Soundex key of a word, `None` where it has no letter.
+fn soundex_key<'v>(value: &ValueRef<'v>) -> Option<CanonText<'v>>
     ensures { option_map canon_bytes result ≡ soundex_canon (value_seen value.now) }
 {
     let ValueRef::Word(text) = *value else {
@@ -62,8 +62,8 @@ pub fn soundex_key<'v>(value: &ValueRef<'v>) -> Option<CanonText<'v>>
     }
 }
 
-/// The NYSIIS key of a word, `None` where it has no letter.
-pub fn nysiis_key<'v>(value: &ValueRef<'v>) -> Option<CanonText<'v>>
+// The NYSIIS key of a word, `None` where it has no letter.
+fn nysiis_key<'v>(value: &ValueRef<'v>) -> Option<CanonText<'v>>
     ensures { option_map canon_bytes result ≡ nysiis_canon (value_seen value.now) }
 {
     let ValueRef::Word(text) = *value else {
@@ -75,9 +75,9 @@ pub fn nysiis_key<'v>(value: &ValueRef<'v>) -> Option<CanonText<'v>>
     }
 }
 
-/// The first `n` characters of a word, or all where there are fewer.
-pub fn first_letters<'v>(n: u8, value: &ValueRef<'v>) -> Option<CanonText<'v>>
-    requires { IsReadable (KeyKind.First n) (value_seen value.now) }
+// The first `n` characters of a word, or all where there are fewer.
+fn first_letters<'v>(n: u8, value: &ValueRef<'v>) -> Option<CanonText<'v>>
+    requires { IsReadable (Canon.FirstLetters n) (value_seen value.now) }
     ensures { option_map canon_bytes result ≡ first_letters_canon n (value_seen value.now) }
 {
     match *value {
@@ -101,9 +101,9 @@ fn digits_of_year(day: i32) -> [u8; 4]
     ]
 }
 
-/// The four digits of the year of a day.
-pub fn year_digits<'v>(value: &ValueRef<'v>) -> Option<CanonText<'v>>
-    requires { IsReadable KeyKind.Year (value_seen value.now) }
+// The four digits of the year of a day.
+fn year_digits<'v>(value: &ValueRef<'v>) -> Option<CanonText<'v>>
+    requires { IsReadable Canon.Year (value_seen value.now) }
     ensures { option_map canon_bytes result ≡ year_canon (value_seen value.now) }
 {
     match *value {
@@ -122,40 +122,16 @@ pub fn compares_days(kind: CompareKind) -> bool
     )
 }
 
-/// Whether a kind compares initials, the canons that are made in memory.
-pub fn compares_initials(kind: CompareKind) -> bool
-    ensures { result ≡ is_of_initials kind }
+/// The canon of a value, `None` exactly where it has none.
+pub fn canon_text<'v>(canon: Canon, value: &ValueRef<'v>) -> Option<CanonText<'v>>
+    requires { IsReadable canon (value_seen value.now) }
+    ensures { option_map canon_bytes result ≡ canon_by canon (value_seen value.now) }
 {
-    matches!(kind, CompareKind::Initials)
-}
-
-/// The canon by which a kind compares a value, `None` exactly where it has none, and for initials: they are made in memory,
-/// which `initials_text` does.
-#[tactic(auto, using(crate::proofs::ReadableLemmas::readable_valid))]
-pub fn canon_text<'v>(kind: CompareKind, value: &ValueRef<'v>) -> Option<CanonText<'v>>
-    requires { IsValid (value_seen value.now) }
-    ensures canon { is_of_initials kind ≡ false → option_map canon_bytes result ≡ canon_of kind (value_seen value.now) }
-    ensures initials { is_of_initials kind ≡ true → is_some result ≡ false }
-{
-    match kind {
-        CompareKind::Exact => exact(value),
-        CompareKind::BySoundex => soundex_key(value),
-        CompareKind::ByNysiis => nysiis_key(value),
-        CompareKind::FirstLetters(n) => first_letters(n, value),
-        CompareKind::Initials | CompareKind::DaysWithin(_) | CompareKind::YearsWithin(_) => None,
-    }
-}
-
-/// The part of a key of a blocking pass that a value makes, `None` exactly where it makes none.
-pub fn value_text<'v>(kind: KeyKind, value: &ValueRef<'v>) -> Option<CanonText<'v>>
-    requires { IsReadable kind (value_seen value.now) }
-    ensures { option_map canon_bytes result ≡ value_part kind (value_seen value.now) }
-{
-    match kind {
-        KeyKind::Whole => exact(value),
-        KeyKind::Soundex => soundex_key(value),
-        KeyKind::Nysiis => nysiis_key(value),
-        KeyKind::First(n) => first_letters(n, value),
-        KeyKind::Year => year_digits(value),
+    match canon {
+        Canon::Whole => exact(value),
+        Canon::Soundex => soundex_key(value),
+        Canon::Nysiis => nysiis_key(value),
+        Canon::FirstLetters(n) => first_letters(n, value),
+        Canon::Year => year_digits(value),
     }
 }

@@ -8,10 +8,7 @@ mod first;
 mod initials;
 mod written;
 
-pub use canons::{
-    CanonText, bytes_of, canon_text, compares_days, compares_initials, exact, first_letters,
-    nysiis_key, soundex_key, value_text, year_digits,
-};
+pub use canons::{CanonText, bytes_of, canon_text, compares_days};
 pub use days::{Civil, civil_of, day_of, day_read_again, day_text, read_iso};
 pub use first::first_chars;
 pub use initials::{initials_text, same_initials};
