@@ -3,10 +3,10 @@ use Rattle.std.proofs.Common.{◌≡◌, ◌≢◌, ℕ, ◌<◌, List, ◌∷�
 use Rattle.std.specs.Prelude.{All, IfSome, Option, is_some, option_to_list}
 use Rattle.std.proofs.lemmas.List.{get_or-map, length-map}
 use Rattle.std.proofs.lemmas.List.Elements.{All-cons, All-head, All-map, All-tail, All-weaker}
+use Rattle.link_base.specs.declared.plan.Canon.{Canon}
 use Rattle.link_base.specs.declared.plan.CompareKind.{CompareKind}
 use Rattle.link_base.specs.declared.plan.FieldSort.{FieldSort}
 use Rattle.link_base.specs.declared.plan.FieldSort.TheVariants as sort
-use Rattle.link_base.specs.declared.plan.KeyKind.{KeyKind}
 use Rattle.link_base.specs.declared.plan.Part.{Part}
 use Rattle.link_plan.specs.Plan.{FieldKeys}
 use Rattle.link_plan.specs.Ranges.{AreFiles, HaveDistinctNames, IsField, IsPart, IsPass, KeepsRanges, NamesFiles, files_read, has_comparison, is_keyed}
@@ -19,7 +19,7 @@ comparison_within sort.Name c = refl
 comparison_within sort.Place c = refl
 comparison_within (sort.Date a b) c = refl
 
-key_within : (s : FieldSort) (k : KeyKind) → is_keyed (sort_within s) k ≡ is_keyed s k
+key_within : (s : FieldSort) (k : Canon) → is_keyed (sort_within s) k ≡ is_keyed s k
 key_within sort.Name k = refl
 key_within sort.Place k = refl
 key_within (sort.Date a b) k = refl

@@ -2,16 +2,17 @@
 -- with it the plan of a file with itself (`Plan::within`, clauses `ranges` and `files`). By `AreFiles` no file that is read, the
 -- journal among them, has the name of one of the five files that a run writes, and the journal, which `review` and `migrate` alone
 -- write, has the name of no other file that is read.
-use Rattle.std.specs.Prelude.{◌≡◌, ◌≢◌, ◌<◌, ◌≤◌, ℕ, List, ◌∷◌, length, Bool, true, false, not, Option, is_some, option_to_list, IfSome, IsTrue, IsUtf8, All, AllPairs, nat_le, ◌&&◌, ◌||◌, ◌==◌}
+use Rattle.std.specs.Prelude.{◌≡◌, ◌≢◌, ◌<◌, ◌≤◌, ℕ, List, ◌∷◌, length, Bool, true, false, not, Option, Some, None, is_some, option_to_list, IfSome, IsTrue, IsUtf8, All, AllPairs, nat_le, ◌&&◌, ◌||◌, ◌==◌}
 use Rattle.std.specs.List.{HoldsAt}
+use Rattle.link_base.specs.Canons.{letters_of}
 use Rattle.link_base.specs.Shares.{IsShares, outcomes_of}
 use Rattle.link_base.specs.Tables.{AreWordPairs, is_word}
 use Rattle.link_base.specs.declared.plan.FieldSort.{FieldSort}
 use Rattle.link_base.specs.declared.plan.FieldSort.TheVariants as sort
+use Rattle.link_base.specs.declared.plan.Canon.{Canon}
+use Rattle.link_base.specs.declared.plan.Canon.TheVariants as canon
 use Rattle.link_base.specs.declared.plan.CompareKind.{CompareKind}
 use Rattle.link_base.specs.declared.plan.CompareKind.TheVariants as by
-use Rattle.link_base.specs.declared.plan.KeyKind.{KeyKind}
-use Rattle.link_base.specs.declared.plan.KeyKind.TheVariants as key
 use Rattle.link_base.specs.declared.plan.Part.{Part}
 use Rattle.link_base.specs.declared.tables.Tables.{Tables}
 use Rattle.link_base.specs.declared.tables.WordPair.{WordPair}
@@ -71,25 +72,45 @@ pub record AreTables (tables : Tables) : Type 0 where
   pub names : IsWordTable tables.names
   pub places : IsWordTable tables.places
 
--- the comparisons that a sort of field has, with their numbers in range
-abbrev pub has_comparison : FieldSort → CompareKind → Bool
-has_comparison (sort.Date a b) by.Exact = true
-has_comparison (sort.Date a b) (by.DaysWithin t) = nat_le t MOST_DAYS
-has_comparison (sort.Date a b) (by.YearsWithin t) = nat_le t MOST_YEARS
-has_comparison (sort.Date a b) c = false
-has_comparison s (by.FirstLetters n) = nat_le 1 n && nat_le n MOST_LETTERS
-has_comparison s (by.DaysWithin t) = false
-has_comparison s (by.YearsWithin t) = false
-has_comparison s c = true
+-- a number of letters in its range, or none
+abbrev pub is_letters : Option ℕ → Bool
+is_letters None = true
+is_letters (Some n) = nat_le 1 n && nat_le n MOST_LETTERS
 
--- the keys that a sort of field has, with their numbers in range
-abbrev pub is_keyed : FieldSort → KeyKind → Bool
-is_keyed (sort.Date a b) key.Whole = true
-is_keyed (sort.Date a b) key.Year = true
-is_keyed (sort.Date a b) k = false
-is_keyed s (key.First n) = nat_le 1 n && nat_le n MOST_LETTERS
-is_keyed s key.Year = false
-is_keyed s k = true
+-- the canons of names and places, and of dates
+abbrev pub is_of_words : Canon → Bool
+is_of_words canon.Year = false
+is_of_words c = is_letters (letters_of c)
+
+abbrev pub is_of_dates : Canon → Bool
+is_of_dates canon.Whole = true
+is_of_dates canon.Year = true
+is_of_dates c = false
+
+-- the comparisons of names and places, and of dates, with their numbers in range
+abbrev pub compares_words : CompareKind → Bool
+compares_words (by.Same c) = is_of_words c
+compares_words by.Initials = true
+compares_words (by.DaysWithin t) = false
+compares_words (by.YearsWithin t) = false
+
+abbrev pub compares_dates : CompareKind → Bool
+compares_dates (by.Same canon.Whole) = true
+compares_dates (by.Same c) = false
+compares_dates by.Initials = false
+compares_dates (by.DaysWithin t) = nat_le t MOST_DAYS
+compares_dates (by.YearsWithin t) = nat_le t MOST_YEARS
+
+-- the comparisons that a sort of field has, and the keys
+abbrev pub has_comparison : FieldSort → CompareKind → Bool
+has_comparison sort.Name = compares_words
+has_comparison sort.Place = compares_words
+has_comparison (sort.Date a b) = compares_dates
+
+abbrev pub is_keyed : FieldSort → Canon → Bool
+is_keyed sort.Name = is_of_words
+is_keyed sort.Place = is_of_words
+is_keyed (sort.Date a b) = is_of_dates
 
 -- the name of a field
 pub record IsFieldName (name : List ℕ) : Type 0 where
@@ -97,7 +118,7 @@ pub record IsFieldName (name : List ℕ) : Type 0 where
   pub short : length name ≤ MOST_FIELD_NAME_BYTES
   pub bytes : All (λ (byte : ℕ). IsTrue (is_name_byte byte)) name
 
--- the comparisons by a canon: all but those by how far apart two dates are
+-- the comparisons of equal texts: all but those by how far apart two dates are
 abbrev pub may_be_rare : CompareKind → Bool
 may_be_rare (by.DaysWithin t) = false
 may_be_rare (by.YearsWithin t) = false

@@ -25,7 +25,7 @@ use Rattle.settings.specs.declared.fields.NameKeys.{NameKeys}
 use Rattle.link_plan.specs.declared.limits.TheConstants.{LEAST_RARE, MOST_RARE}
 use Rattle.settings.specs.declared.texts.TextRule.TheVariants as rule
 use Rattle.settings.proofs.GivenShares.{given_are}
-use Rattle.settings.proofs.KindRanges.{compared, compare_suits, is_date, is_date_kind, sort_is, suits, Suits}
+use Rattle.settings.proofs.KindRanges.{compared, compare_suits, is_date, is_date_kind, sort_is, Suits}
 use Rattle.settings.proofs.TextRanges.{label_keeps, name_as_label, name_keeps}
 
 -- rare numbers
@@ -138,7 +138,7 @@ compare_keys_are t above x e =
     let same : record { sort = s.0; compare = c.0; rare = r.0 } ≡ x = ok_same _ x r.2 in
     let word_suits = needed_keeps (Suits (is_date_kind k.0)) (choice (compare_named k.0)) (choice_keeps (Suits (is_date_kind k.0)) (compare_named k.0) (compare_suits k.0)) t above (codes "compare") w.0 w.1 in
     let date = sort_is k.0 t above s.0 s.1 in
-    let suited : suits (is_date s.0) w.0 ≡ true = rw date word_suits in
+    let suited : Suits (is_date s.0) w.0 = rw date word_suits in
     rw (← same) (record { compare = compared s.0 w.0 suited t above c.0 c.1; rare = rare_is c.0 t above r.0 r.1 })
 
 field_is : (sampled : Bool) (before : List FieldKeys) (t : Members) (above : List ℕ) (x : FieldKeys) → field sampled before t above ≡ Ok x → IsNext sampled before x

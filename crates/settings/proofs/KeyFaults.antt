@@ -6,8 +6,10 @@ use Rattle.std.specs.Str.{bytes_eq}
 use Rattle.toml.specs.Data.{Data, Members, no_members, member, as_str, as_array, as_table}
 use Rattle.link_texts.specs.Texts.{stands_among}
 use Rattle.link_base.specs.declared.plan.FieldSort.{FieldSort}
+use Rattle.link_base.specs.declared.plan.Canon.{Canon}
 use Rattle.link_base.specs.declared.plan.CompareKind.{CompareKind}
-use Rattle.link_base.specs.declared.plan.KeyKind.{KeyKind}
+use Rattle.link_base.specs.declared.plan.CompareKind.TheVariants as by
+use Rattle.link_base.specs.Canons.{letters_of}
 use Rattle.link_base.specs.declared.tables.WordPair.{WordPair}
 use Rattle.link_base.specs.Tables.{is_word}
 use Rattle.settings_readers.specs.Parts.{◌>>=◌, typed, in_range, needed, optional, absent}
@@ -19,9 +21,10 @@ use Rattle.settings.specs.Values.{fits, text}
 use Rattle.settings.specs.WordTables.{texts, word_pair, pairs, small_table, word_table, members_len}
 use Rattle.link_base.specs.Tables.{missing_marks, name_titles, name_suffixes}
 use Rattle.settings.specs.Words.{top_keys, kind_named, compare_named, key_named, delimiter_named}
-use Rattle.settings.specs.Field.{new_name, name_keys, compare_keys, date_sort, plain_sort, sort_of, by_letters, by_days, by_years, plain_compare, compare_by, rare_number, wholes, shares, given_shares, no_shares, field_shares, field, fields}
+use Rattle.settings.specs.Field.{new_name, name_keys, compare_keys, date_sort, plain_sort, sort_of, by_canon, by_days, by_years, plain_compare, compare_by, rare_number, wholes, shares, given_shares, no_shares, field_shares, field, fields}
 use Rattle.link_plan.specs.Ranges.{may_be_rare}
-use Rattle.settings.specs.Pass.{field_named, first_key, plain_key, key_by, part, parts, pass, passes}
+use Rattle.settings.specs.CanonKeys.{lettered, numbered, plain}
+use Rattle.settings.specs.Pass.{field_named, part, parts, pass, passes}
 use Rattle.settings.specs.Settings.{file_keys, is_free, journal_of, sources, numbers, tables, plan_of}
 use Rattle.link_limits.specs.declared.TheConstants.{MOST_FIELDS, PER_MILLION}
 use Rattle.link_plan.specs.declared.limits.TheConstants.{LEAST_RARE, MOST_AWARD, MOST_DAYS, MOST_LETTERS, MOST_LISTED_WORDS, MOST_MARKS, MOST_PARTS, MOST_PASSES, MOST_RARE, MOST_SEED, MOST_WORD_PAIRS, MOST_YEARS}
@@ -29,10 +32,6 @@ use Rattle.settings.specs.declared.texts.TextRule.{TextRule}
 use Rattle.settings.specs.declared.texts.TextRule.TheVariants as rule
 use Rattle.settings.specs.declared.words.Kind.{Kind}
 use Rattle.settings.specs.declared.words.Kind.TheVariants as kind
-use Rattle.settings.specs.declared.words.CompareWord.{CompareWord}
-use Rattle.settings.specs.declared.words.CompareWord.TheVariants as compare
-use Rattle.settings.specs.declared.words.KeyWord.{KeyWord}
-use Rattle.settings.specs.declared.words.KeyWord.TheVariants as key
 
 text_key : (rule : TextRule) → ReadsKey (text rule)
 text_key rule at d = then_key (typed at (as_str d)) _ (typed_key at (as_str d)) (λ s. in_range_key at (fits rule s) s)
@@ -74,9 +73,24 @@ sort_of_key kind.Name t above = plain_sort_key _ t above
 sort_of_key kind.Place t above = plain_sort_key _ t above
 sort_of_key kind.Date t above = date_sort_key t above
 
-by_letters_key : (t : Members) (above : List ℕ) → NamesKey (by_letters t above)
-unfolding by_letters
-by_letters_key t above = then_key _ _ (needed_key _ t above (codes "n") (whole_key 1 MOST_LETTERS)) (λ n. then_key _ _ (absent_key t above (codes "t")) (λ no_t. value_key _))
+lettered_key : (c : Canon) (t : Members) (above : List ℕ) → NamesKey (lettered c t above)
+unfolding lettered
+lettered_key c t above = then_key _ _ (needed_key _ t above (codes "n") (whole_key 1 MOST_LETTERS)) (λ n. value_key _)
+
+plain_key : (c : Canon) (t : Members) (above : List ℕ) → NamesKey (plain c t above)
+unfolding plain
+plain_key c t above = then_key _ _ (absent_key t above (codes "n")) (λ no_n. value_key _)
+
+number_where : (has_letters : Bool) (c : Canon) (t : Members) (above : List ℕ) → NamesKey (cond has_letters (lettered c t above) (plain c t above))
+number_where true c t above = lettered_key c t above
+number_where false c t above = plain_key c t above
+
+numbered_key : (c : Canon) (t : Members) (above : List ℕ) → NamesKey (numbered c t above)
+numbered_key c t above = number_where (is_some (letters_of c)) c t above
+
+by_canon_key : (c : Canon) (t : Members) (above : List ℕ) → NamesKey (by_canon c t above)
+unfolding by_canon
+by_canon_key c t above = then_key _ _ (numbered_key c t above) (λ canon. then_key _ _ (absent_key t above (codes "t")) (λ no_t. value_key _))
 
 by_days_key : (t : Members) (above : List ℕ) → NamesKey (by_days t above)
 unfolding by_days
@@ -90,14 +104,11 @@ plain_compare_key : (c : CompareKind) (t : Members) (above : List ℕ) → Names
 unfolding plain_compare
 plain_compare_key c t above = then_key _ _ (absent_key t above (codes "n")) (λ no_n. then_key _ _ (absent_key t above (codes "t")) (λ no_t. value_key _))
 
-compare_by_key : (w : CompareWord) (t : Members) (above : List ℕ) → NamesKey (compare_by w t above)
-compare_by_key compare.Exact t above = plain_compare_key _ t above
-compare_by_key compare.Soundex t above = plain_compare_key _ t above
-compare_by_key compare.Nysiis t above = plain_compare_key _ t above
-compare_by_key compare.First t above = by_letters_key t above
-compare_by_key compare.Initials t above = plain_compare_key _ t above
-compare_by_key compare.Days t above = by_days_key t above
-compare_by_key compare.Years t above = by_years_key t above
+compare_by_key : (c : CompareKind) (t : Members) (above : List ℕ) → NamesKey (compare_by c t above)
+compare_by_key (by.Same c) t above = by_canon_key c t above
+compare_by_key by.Initials t above = plain_compare_key _ t above
+compare_by_key (by.DaysWithin least) t above = by_days_key t above
+compare_by_key (by.YearsWithin least) t above = by_years_key t above
 
 rare_where : (may : Bool) (t : Members) (above : List ℕ) → NamesKey (cond may (optional (whole LEAST_RARE MOST_RARE) t above (codes "rare")) (absent t above (codes "rare") >>= λ no_rare. Ok None))
 rare_where true t above = optional_key (whole LEAST_RARE MOST_RARE) t above (codes "rare") (whole_key LEAST_RARE MOST_RARE)
@@ -148,28 +159,13 @@ field_key sampled before t above =
 fields_key : (sampled : Bool) → ReadsKey (fields sampled)
 fields_key sampled at d = array_key 1 MOST_FIELDS (λ before. on_table (field sampled before)) (λ before. on_table_key (field sampled before) (field_key sampled before)) at d
 
-first_key_key : (t : Members) (above : List ℕ) → NamesKey (first_key t above)
-unfolding first_key
-first_key_key t above = then_key _ _ (needed_key _ t above (codes "n") (whole_key 1 MOST_LETTERS)) (λ n. value_key _)
-
-plain_key_key : (k : KeyKind) (t : Members) (above : List ℕ) → NamesKey (plain_key k t above)
-unfolding plain_key
-plain_key_key k t above = then_key _ _ (absent_key t above (codes "n")) (λ no_n. value_key _)
-
-key_by_key : (w : KeyWord) (t : Members) (above : List ℕ) → NamesKey (key_by w t above)
-key_by_key key.Whole t above = plain_key_key _ t above
-key_by_key key.Soundex t above = plain_key_key _ t above
-key_by_key key.Nysiis t above = plain_key_key _ t above
-key_by_key key.First t above = first_key_key t above
-key_by_key key.Year t above = plain_key_key _ t above
-
 part_key : (fs : List FieldKeys) (t : Members) (above : List ℕ) → NamesKey (part fs t above)
 unfolding part
 part_key fs t above =
     then_key _ _ (known_key _ t above) (λ listed.
     then_key _ _ (needed_key (choice (field_named fs 0)) t above (codes "field") (choice_key (field_named fs 0))) (λ field.
     then_key _ _ (needed_key (choice (key_named field.1)) t above (codes "key") (choice_key (key_named field.1))) (λ word.
-    then_key _ _ (key_by_key word t above) (λ key. value_key _))))
+    then_key _ _ (numbered_key word t above) (λ key. value_key _))))
 
 parts_key : (fs : List FieldKeys) → ReadsKey (parts fs)
 parts_key fs at d = array_key 1 MOST_PARTS (λ before. on_table (part fs)) (λ before. on_table_key (part fs) (part_key fs)) at d

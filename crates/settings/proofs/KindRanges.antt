@@ -1,10 +1,8 @@
 -- A comparison is one that the sort of its field has, with its number in range.
-use Rattle.std.proofs.Common.{◌≡◌, ℕ, List, codes, Bool, true, false, Ok, refl, ◌∙◌}
-use Rattle.std.specs.List.{AllByRecursion}
+use Rattle.std.proofs.Common.{◌≡◌, ℕ, List, codes, Bool, true, false, Ok, refl}
 use Rattle.std.specs.Prelude.{Some}
-use Rattle.std.proofs.lemmas.Bool.{le-leb}
 use Rattle.toml.specs.Data.{Members}
-use Rattle.link_base.specs.declared.plan.DateForm.{DateForm}
+use Rattle.link_base.specs.declared.plan.Canon.{Canon}
 use Rattle.link_base.specs.declared.plan.FieldSort.{FieldSort}
 use Rattle.link_base.specs.declared.plan.FieldSort.TheVariants as sort
 use Rattle.link_base.specs.declared.plan.CompareKind.{CompareKind}
@@ -12,14 +10,14 @@ use Rattle.link_base.specs.declared.plan.CompareKind.TheVariants as by
 use Rattle.settings_readers.specs.Parts.{needed, absent}
 use Rattle.settings_readers.specs.Values.{choice, whole}
 use Rattle.settings_readers.proofs.Kept.{IsWithin, named_keeps, needed_keeps, then_ok, whole_keeps}
-use Rattle.link_plan.specs.declared.limits.TheConstants.{MOST_DAYS, MOST_LETTERS, MOST_YEARS}
+use Rattle.link_plan.specs.declared.limits.TheConstants.{MOST_DAYS, MOST_YEARS}
 use Rattle.settings.specs.Words.{form_named, name_comparisons, date_comparisons, compare_named}
-use Rattle.settings.specs.Field.{date_sort, plain_sort, sort_of, by_letters, by_days, by_years, plain_compare, compare_by}
-use Rattle.link_plan.specs.Ranges.{has_comparison}
+use Rattle.settings.specs.Field.{date_sort, plain_sort, sort_of, by_canon, by_days, by_years, plain_compare, compare_by}
+use Rattle.settings.specs.CanonKeys.{numbered}
+use Rattle.link_plan.specs.Ranges.{compares_dates, compares_words, has_comparison}
 use Rattle.settings.specs.declared.words.Kind.{Kind}
 use Rattle.settings.specs.declared.words.Kind.TheVariants as kind
-use Rattle.settings.specs.declared.words.CompareWord.{CompareWord}
-use Rattle.settings.specs.declared.words.CompareWord.TheVariants as compare
+use Rattle.settings.proofs.CanonRanges.{FitsKind, dates_fit, names_fit, numbered_fits}
 
 -- what a kind gives is of that kind
 abbrev pub is_date : FieldSort → Bool
@@ -51,28 +49,17 @@ sort_is kind.Place t above x e = let same = plain_sort_is sort.Place t above x e
 sort_is kind.Date t above x e = date_sort_is t above x e
 
 -- comparisons of dates, and of names and places
-abbrev pub suits : Bool → CompareWord → Bool
-suits date compare.Exact = true
-suits true compare.Days = true
-suits true compare.Years = true
-suits true w = false
-suits false compare.Days = false
-suits false compare.Years = false
-suits false w = true
+abbrev pub comparisons_of : Bool → CompareKind → Bool
+comparisons_of true = compares_dates
+comparisons_of false = compares_words
 
-abbrev pub Suits : Bool → CompareWord → Type 0
-Suits date w = suits date w ≡ true
+abbrev pub Suits : Bool → CompareKind → Type 0
+Suits date named = FitsKind (comparisons_of date) named
 
-names_suit : AllByRecursion (λ (c : List ℕ × CompareWord). Suits false c.1) name_comparisons
-names_suit = (refl, (refl, (refl, (refl, (refl, tt)))))
-
-dates_suit : AllByRecursion (λ (c : List ℕ × CompareWord). Suits true c.1) date_comparisons
-dates_suit = (refl, (refl, (refl, tt)))
-
-pub compare_suits : (k : Kind) (s : List ℕ) (w : CompareWord) → compare_named k s ≡ Some w → Suits (is_date_kind k) w
-compare_suits kind.Name s w e = named_keeps (Suits false) name_comparisons names_suit s w e
-compare_suits kind.Place s w e = named_keeps (Suits false) name_comparisons names_suit s w e
-compare_suits kind.Date s w e = named_keeps (Suits true) date_comparisons dates_suit s w e
+pub compare_suits : (k : Kind) (s : List ℕ) (named : CompareKind) → compare_named k s ≡ Some named → Suits (is_date_kind k) named
+compare_suits kind.Name s named e = named_keeps (Suits false) name_comparisons names_fit s named e
+compare_suits kind.Place s named e = named_keeps (Suits false) name_comparisons names_fit s named e
+compare_suits kind.Date s named e = named_keeps (Suits true) date_comparisons dates_fit s named e
 
 plain_compare_is : (c : CompareKind) (t : Members) (above : List ℕ) (x : CompareKind) → plain_compare c t above ≡ Ok x → c ≡ x
 unfolding plain_compare
@@ -81,61 +68,40 @@ plain_compare_is c t above x e =
     let b = then_ok (absent t above (codes "t")) _ x a.2 in
     cc
 
-letters_are : (t : Members) (above : List ℕ) (x : CompareKind) → by_letters t above ≡ Ok x → has_comparison sort.Name x ≡ true
-unfolding by_letters
-letters_are t above x e =
-    let a = then_ok (needed (whole 1 MOST_LETTERS) t above (codes "n")) _ x e in
-    let b = then_ok (absent t above (codes "t")) _ x a.2 in
-    let r = needed_keeps (IsWithin 1 MOST_LETTERS) (whole 1 MOST_LETTERS) (whole_keeps 1 MOST_LETTERS) t above (codes "n") a.0 a.1 in
-    let same : by.FirstLetters a.0 ≡ x = cc in
-    rw (← same, le-leb 1 a.0 r.0, le-leb a.0 MOST_LETTERS r.1)
+module _ (has : CompareKind → Bool) (t : Members) (above : List ℕ) (x : CompareKind) where
+  canon_is : (c : Canon) → FitsKind has (by.Same c) → by_canon c t above ≡ Ok x → has x ≡ true
+  unfolding by_canon
+  canon_is c fits e =
+      let a = then_ok (numbered c t above) _ x e in
+      let b = then_ok (absent t above (codes "t")) _ x a.2 in
+      let same : by.Same a.0 ≡ x = cc in
+      rw (← same) (numbered_fits (λ d. has (by.Same d)) c fits t above a.0 a.1)
 
-days_are : (p q : DateForm) (t : Members) (above : List ℕ) (x : CompareKind) → by_days t above ≡ Ok x → has_comparison (sort.Date p q) x ≡ true
-unfolding by_days
-days_are p q t above x e =
-    let a = then_ok (absent t above (codes "n")) _ x e in
-    let b = then_ok (needed (whole 0 MOST_DAYS) t above (codes "t")) _ x a.2 in
-    let r = needed_keeps (IsWithin 0 MOST_DAYS) (whole 0 MOST_DAYS) (whole_keeps 0 MOST_DAYS) t above (codes "t") b.0 b.1 in
-    let same : by.DaysWithin b.0 ≡ x = cc in
-    rw (← same) (le-leb b.0 MOST_DAYS r.1)
+  days_are : FitsKind has (by.DaysWithin 0) → by_days t above ≡ Ok x → has x ≡ true
+  unfolding by_days
+  days_are fits e =
+      let a = then_ok (absent t above (codes "n")) _ x e in
+      let b = then_ok (needed (whole 0 MOST_DAYS) t above (codes "t")) _ x a.2 in
+      let r = needed_keeps (IsWithin 0 MOST_DAYS) (whole 0 MOST_DAYS) (whole_keeps 0 MOST_DAYS) t above (codes "t") b.0 b.1 in
+      let same : by.DaysWithin b.0 ≡ x = cc in
+      rw (← same) (fits b.0 r)
 
-years_are : (p q : DateForm) (t : Members) (above : List ℕ) (x : CompareKind) → by_years t above ≡ Ok x → has_comparison (sort.Date p q) x ≡ true
-unfolding by_years
-years_are p q t above x e =
-    let a = then_ok (absent t above (codes "n")) _ x e in
-    let b = then_ok (needed (whole 0 MOST_YEARS) t above (codes "t")) _ x a.2 in
-    let r = needed_keeps (IsWithin 0 MOST_YEARS) (whole 0 MOST_YEARS) (whole_keeps 0 MOST_YEARS) t above (codes "t") b.0 b.1 in
-    let same : by.YearsWithin b.0 ≡ x = cc in
-    rw (← same) (le-leb b.0 MOST_YEARS r.1)
+  years_are : FitsKind has (by.YearsWithin 0) → by_years t above ≡ Ok x → has x ≡ true
+  unfolding by_years
+  years_are fits e =
+      let a = then_ok (absent t above (codes "n")) _ x e in
+      let b = then_ok (needed (whole 0 MOST_YEARS) t above (codes "t")) _ x a.2 in
+      let r = needed_keeps (IsWithin 0 MOST_YEARS) (whole 0 MOST_YEARS) (whole_keeps 0 MOST_YEARS) t above (codes "t") b.0 b.1 in
+      let same : by.YearsWithin b.0 ≡ x = cc in
+      rw (← same) (fits b.0 r)
 
-along : (s : FieldSort) (c x : CompareKind) → c ≡ x → has_comparison s c ≡ true → has_comparison s x ≡ true
-along s c x same h = rw (← same) h
+  comparison_is : (named : CompareKind) → FitsKind has named → compare_by named t above ≡ Ok x → has x ≡ true
+  comparison_is (by.Same c) fits e = canon_is c fits e
+  comparison_is by.Initials fits e = let same = plain_compare_is by.Initials t above x e in rw (← same) fits
+  comparison_is (by.DaysWithin least) fits e = days_are fits e
+  comparison_is (by.YearsWithin least) fits e = years_are fits e
 
-name_compared : (w : CompareWord) → suits false w ≡ true → (t : Members) (above : List ℕ) (x : CompareKind) → compare_by w t above ≡ Ok x → has_comparison sort.Name x ≡ true
-name_compared compare.Exact h t above x e = along sort.Name by.Exact x (plain_compare_is by.Exact t above x e) refl
-name_compared compare.Soundex h t above x e = along sort.Name by.BySoundex x (plain_compare_is by.BySoundex t above x e) refl
-name_compared compare.Nysiis h t above x e = along sort.Name by.ByNysiis x (plain_compare_is by.ByNysiis t above x e) refl
-name_compared compare.First h t above x e = letters_are t above x e
-name_compared compare.Initials h t above x e = along sort.Name by.Initials x (plain_compare_is by.Initials t above x e) refl
-name_compared compare.Days h t above x e = absurd cc
-name_compared compare.Years h t above x e = absurd cc
-
-place_as_name : (x : CompareKind) → has_comparison sort.Place x ≡ has_comparison sort.Name x
-place_as_name by.Exact = refl
-place_as_name by.BySoundex = refl
-place_as_name by.ByNysiis = refl
-place_as_name (by.FirstLetters n) = refl
-place_as_name by.Initials = refl
-place_as_name (by.DaysWithin t) = refl
-place_as_name (by.YearsWithin t) = refl
-
-pub compared : (s : FieldSort) (w : CompareWord) → suits (is_date s) w ≡ true → (t : Members) (above : List ℕ) (x : CompareKind) → compare_by w t above ≡ Ok x → has_comparison s x ≡ true
-compared sort.Name w h t above x e = name_compared w h t above x e
-compared sort.Place w h t above x e = place_as_name x ∙ name_compared w h t above x e
-compared (sort.Date p q) compare.Exact h t above x e = along (sort.Date p q) by.Exact x (plain_compare_is by.Exact t above x e) refl
-compared (sort.Date p q) compare.Soundex h t above x e = absurd cc
-compared (sort.Date p q) compare.Nysiis h t above x e = absurd cc
-compared (sort.Date p q) compare.First h t above x e = absurd cc
-compared (sort.Date p q) compare.Initials h t above x e = absurd cc
-compared (sort.Date p q) compare.Days h t above x e = days_are p q t above x e
-compared (sort.Date p q) compare.Years h t above x e = years_are p q t above x e
+pub compared : (s : FieldSort) (named : CompareKind) → Suits (is_date s) named → (t : Members) (above : List ℕ) (x : CompareKind) → compare_by named t above ≡ Ok x → has_comparison s x ≡ true
+compared sort.Name named h t above x e = comparison_is compares_words t above x named h e
+compared sort.Place named h t above x e = comparison_is compares_words t above x named h e
+compared (sort.Date p q) named h t above x e = comparison_is compares_dates t above x named h e

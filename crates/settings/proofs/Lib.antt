@@ -5,6 +5,7 @@ pub mod GivenShares
 pub mod TextRanges
 pub mod WordTables
 pub mod KeyFaults
+pub mod CanonRanges
 pub mod KindRanges
 pub mod FieldRanges
 pub mod PassRanges

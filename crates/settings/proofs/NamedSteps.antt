@@ -2,14 +2,14 @@
 use Rattle.std.proofs.Common.{◌≡◌, ℕ, List, Option, Result, Ok, codes}
 use Rattle.toml.specs.Data.{Members}
 use Rattle.link_base.specs.declared.fault.Fault.{Fault}
+use Rattle.link_base.specs.declared.plan.Canon.{Canon}
 use Rattle.link_base.specs.declared.plan.CompareKind.{CompareKind}
 use Rattle.link_base.specs.declared.plan.FieldSort.{FieldSort}
-use Rattle.link_base.specs.declared.plan.KeyKind.{KeyKind}
 use Rattle.link_base.specs.Fault.{Refuses}
 use Rattle.settings_readers.specs.Parts.{◌>>=◌, absent, needed}
 use Rattle.settings_readers.specs.Values.{choice, whole}
 use Rattle.settings.specs.Field.{compare_by, rare_number}
-use Rattle.settings.specs.Pass.{key_by}
+use Rattle.settings.specs.CanonKeys.{numbered}
 use Rattle.settings.specs.PlanParts.{comparison, key_of, span}
 use Rattle.settings.specs.Words.{compare_named, key_named}
 use Rattle.settings.specs.declared.words.Kind.{Kind}
@@ -33,12 +33,12 @@ pub no_comparison : {C : Type 0} (kind : Kind) (t : Members) (above : List ℕ) 
 unfolding comparison
 no_comparison kind t above next f h = later_refused (needed (choice (compare_named kind)) t above (codes "compare")) (λ word. compare_by word t above) (λ x. rare_number x t above) next f h
 
-pub by_key : {C : Type 0} (sort : FieldSort) (t : Members) (above : List ℕ) (made : KeyKind → C) (x : KeyKind) → key_of sort t above ≡ Ok x
-    → (needed (choice (key_named sort)) t above (codes "key") >>= λ word. key_by word t above >>= λ x. Ok (made x)) ≡ Ok (made x)
+pub by_key : {C : Type 0} (sort : FieldSort) (t : Members) (above : List ℕ) (made : Canon → C) (x : Canon) → key_of sort t above ≡ Ok x
+    → (needed (choice (key_named sort)) t above (codes "key") >>= λ word. numbered word t above >>= λ x. Ok (made x)) ≡ Ok (made x)
 unfolding key_of
-by_key sort t above made x is = then_made (needed (choice (key_named sort)) t above (codes "key")) (λ word. key_by word t above) made x is
+by_key sort t above made x is = then_made (needed (choice (key_named sort)) t above (codes "key")) (λ word. numbered word t above) made x is
 
-pub no_key : {C : Type 0} (sort : FieldSort) (t : Members) (above : List ℕ) (made : KeyKind → C) (f : Fault) → Refuses (key_of sort t above) f
-    → Refuses (needed (choice (key_named sort)) t above (codes "key") >>= λ word. key_by word t above >>= λ x. Ok (made x)) f
+pub no_key : {C : Type 0} (sort : FieldSort) (t : Members) (above : List ℕ) (made : Canon → C) (f : Fault) → Refuses (key_of sort t above) f
+    → Refuses (needed (choice (key_named sort)) t above (codes "key") >>= λ word. numbered word t above >>= λ x. Ok (made x)) f
 unfolding key_of
-no_key sort t above made f h = then_made_refused (needed (choice (key_named sort)) t above (codes "key")) (λ word. key_by word t above) made f h
+no_key sort t above made f h = then_made_refused (needed (choice (key_named sort)) t above (codes "key")) (λ word. numbered word t above) made f h

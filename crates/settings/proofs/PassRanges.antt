@@ -1,28 +1,27 @@
 -- A pass is in its ranges: its parts speak of the fields, by keys that these have.
 use Rattle.std.proofs.Common.{◌≡◌, ℕ, suc, ◌+◌, ◌<◌, ◌≤◌, List, [], ◌∷◌, length, codes, Bool, true, false, Some, Ok, refl, ◌∙◌, arith, inl, inr}
 use Rattle.std.specs.Prelude.{All}
-use Rattle.std.specs.List.{AllByRecursion, HoldsAt}
+use Rattle.std.specs.List.{HoldsAt}
 use Rattle.std.specs.Str.{bytes_eq}
-use Rattle.std.proofs.lemmas.Bool.{cases_Bool, le-leb}
+use Rattle.std.proofs.lemmas.Bool.{cases_Bool}
 use Rattle.std.proofs.lemmas.List.Elements.{All-nil, All-push}
 use Rattle.toml.specs.Data.{Members}
 use Rattle.link_texts.specs.Texts.{stands_among}
 use Rattle.link_base.specs.declared.plan.FieldSort.{FieldSort}
 use Rattle.link_base.specs.declared.plan.FieldSort.TheVariants as sort
-use Rattle.link_base.specs.declared.plan.KeyKind.{KeyKind}
-use Rattle.link_base.specs.declared.plan.KeyKind.TheVariants as key
+use Rattle.link_base.specs.declared.plan.Canon.{Canon}
 use Rattle.link_base.specs.declared.plan.Part.{Part}
-use Rattle.settings_readers.specs.Parts.{needed, absent, known}
-use Rattle.settings_readers.specs.Values.{choice, whole}
+use Rattle.settings_readers.specs.Parts.{needed, known}
+use Rattle.settings_readers.specs.Values.{choice}
 use Rattle.settings_readers.specs.Lists.{on_table}
-use Rattle.settings_readers.proofs.Kept.{array_keeps, choice_keeps, IsWithin, named_keeps, needed_keeps, on_table_keeps, Reads, then_ok, whole_keeps}
+use Rattle.settings_readers.proofs.Kept.{array_keeps, choice_keeps, named_keeps, needed_keeps, on_table_keeps, Reads, then_ok}
 use Rattle.link_plan.specs.Plan.{FieldKeys}
 use Rattle.settings.specs.Words.{date_key_words, key_named, name_key_words, part_keys, pass_keys}
-use Rattle.settings.specs.Pass.{field_named, first_key, plain_key, key_by, part, parts, pass, passes}
-use Rattle.link_plan.specs.Ranges.{is_keyed, IsPart, IsPass}
-use Rattle.link_plan.specs.declared.limits.TheConstants.{MOST_LETTERS, MOST_PARTS, MOST_PASSES}
-use Rattle.settings.specs.declared.words.KeyWord.{KeyWord}
-use Rattle.settings.specs.declared.words.KeyWord.TheVariants as word
+use Rattle.settings.specs.CanonKeys.{numbered}
+use Rattle.settings.specs.Pass.{field_named, part, parts, pass, passes}
+use Rattle.link_plan.specs.Ranges.{is_keyed, is_of_dates, is_of_words, IsPart, IsPass}
+use Rattle.link_plan.specs.declared.limits.TheConstants.{MOST_PARTS, MOST_PASSES}
+use Rattle.settings.proofs.CanonRanges.{Fits, date_keys_fit, name_keys_fit, numbered_fits}
 use Rattle.settings.proofs.KindRanges.{is_date}
 
 -- the field of a name
@@ -50,66 +49,22 @@ field_at fs name p e =
     (omega (arith, r.2.0, same), λ d. rw same (r.2.1 d))
 
 -- keys of dates, and of names and places
-abbrev key_suits : Bool → KeyWord → Bool
-key_suits date word.Whole = true
-key_suits true word.Year = true
-key_suits true w = false
-key_suits false word.Year = false
-key_suits false w = true
+abbrev keys_of : Bool → Canon → Bool
+keys_of true = is_of_dates
+keys_of false = is_of_words
 
-abbrev KeySuits : Bool → KeyWord → Type 0
-KeySuits date w = key_suits date w ≡ true
+abbrev KeySuits : Bool → Canon → Type 0
+KeySuits date named = Fits (keys_of date) named
 
-name_words_suit : AllByRecursion (λ (c : List ℕ × KeyWord). KeySuits false c.1) name_key_words
-name_words_suit = (refl, (refl, (refl, (refl, tt))))
+keys_suit : (s : FieldSort) (text : List ℕ) (named : Canon) → key_named s text ≡ Some named → KeySuits (is_date s) named
+keys_suit sort.Name text named e = named_keeps (KeySuits false) name_key_words name_keys_fit text named e
+keys_suit sort.Place text named e = named_keeps (KeySuits false) name_key_words name_keys_fit text named e
+keys_suit (sort.Date a b) text named e = named_keeps (KeySuits true) date_key_words date_keys_fit text named e
 
-date_words_suit : AllByRecursion (λ (c : List ℕ × KeyWord). KeySuits true c.1) date_key_words
-date_words_suit = (refl, (refl, tt))
-
-keys_suit : (s : FieldSort) (text : List ℕ) (w : KeyWord) → key_named s text ≡ Some w → KeySuits (is_date s) w
-keys_suit sort.Name text w e = named_keeps (KeySuits false) name_key_words name_words_suit text w e
-keys_suit sort.Place text w e = named_keeps (KeySuits false) name_key_words name_words_suit text w e
-keys_suit (sort.Date a b) text w e = named_keeps (KeySuits true) date_key_words date_words_suit text w e
-
-plain_key_is : (k : KeyKind) (t : Members) (above : List ℕ) (x : KeyKind) → plain_key k t above ≡ Ok x → k ≡ x
-unfolding plain_key
-plain_key_is k t above x e =
-    let a = then_ok (absent t above (codes "n")) _ x e in
-    cc
-
-first_key_is : (t : Members) (above : List ℕ) (x : KeyKind) → first_key t above ≡ Ok x → is_keyed sort.Name x ≡ true
-unfolding first_key
-first_key_is t above x e =
-    let a = then_ok (needed (whole 1 MOST_LETTERS) t above (codes "n")) _ x e in
-    let r = needed_keeps (IsWithin 1 MOST_LETTERS) (whole 1 MOST_LETTERS) (whole_keeps 1 MOST_LETTERS) t above (codes "n") a.0 a.1 in
-    let same : key.First a.0 ≡ x = cc in
-    rw (← same, le-leb 1 a.0 r.0, le-leb a.0 MOST_LETTERS r.1)
-
-key_along : (s : FieldSort) (k x : KeyKind) → k ≡ x → is_keyed s k ≡ true → is_keyed s x ≡ true
-key_along s k x same h = rw (← same) h
-
-name_keyed : (w : KeyWord) → key_suits false w ≡ true → (t : Members) (above : List ℕ) (x : KeyKind) → key_by w t above ≡ Ok x → is_keyed sort.Name x ≡ true
-name_keyed word.Whole h t above x e = key_along sort.Name key.Whole x (plain_key_is key.Whole t above x e) refl
-name_keyed word.Soundex h t above x e = key_along sort.Name key.Soundex x (plain_key_is key.Soundex t above x e) refl
-name_keyed word.Nysiis h t above x e = key_along sort.Name key.Nysiis x (plain_key_is key.Nysiis t above x e) refl
-name_keyed word.First h t above x e = first_key_is t above x e
-name_keyed word.Year h t above x e = absurd cc
-
-place_keyed_as_name : (x : KeyKind) → is_keyed sort.Place x ≡ is_keyed sort.Name x
-place_keyed_as_name key.Whole = refl
-place_keyed_as_name key.Soundex = refl
-place_keyed_as_name key.Nysiis = refl
-place_keyed_as_name (key.First n) = refl
-place_keyed_as_name key.Year = refl
-
-keyed : (s : FieldSort) (w : KeyWord) → key_suits (is_date s) w ≡ true → (t : Members) (above : List ℕ) (x : KeyKind) → key_by w t above ≡ Ok x → is_keyed s x ≡ true
-keyed sort.Name w h t above x e = name_keyed w h t above x e
-keyed sort.Place w h t above x e = place_keyed_as_name x ∙ name_keyed w h t above x e
-keyed (sort.Date a b) word.Whole h t above x e = key_along (sort.Date a b) key.Whole x (plain_key_is key.Whole t above x e) refl
-keyed (sort.Date a b) word.Soundex h t above x e = absurd cc
-keyed (sort.Date a b) word.Nysiis h t above x e = absurd cc
-keyed (sort.Date a b) word.First h t above x e = absurd cc
-keyed (sort.Date a b) word.Year h t above x e = key_along (sort.Date a b) key.Year x (plain_key_is key.Year t above x e) refl
+keyed : (s : FieldSort) (named : Canon) → KeySuits (is_date s) named → (t : Members) (above : List ℕ) (x : Canon) → numbered named t above ≡ Ok x → is_keyed s x ≡ true
+keyed sort.Name named h t above x e = numbered_fits is_of_words named h t above x e
+keyed sort.Place named h t above x e = numbered_fits is_of_words named h t above x e
+keyed (sort.Date a b) named h t above x e = numbered_fits is_of_dates named h t above x e
 
 part_is : (fs : List FieldKeys) (t : Members) (above : List ℕ) (x : Part) → part fs t above ≡ Ok x → IsPart fs x
 unfolding part
@@ -117,7 +72,7 @@ part_is fs t above x e =
     let listed = then_ok (known (stands_among part_keys) t above) _ x e in
     let f = then_ok (needed (choice (field_named fs 0)) t above (codes "field")) _ x listed.2 in
     let w = then_ok (needed (choice (key_named f.0.1)) t above (codes "key")) _ x f.2 in
-    let k = then_ok (key_by w.0 t above) _ x w.2 in
+    let k = then_ok (numbered w.0 t above) _ x w.2 in
     let same : record { field = f.0.0; key = k.0 } ≡ x = cc in
     let there = needed_keeps (IsFieldAt fs) (choice (field_named fs 0)) (choice_keeps (IsFieldAt fs) (field_named fs 0) (field_at fs)) t above (codes "field") f.0 f.1 in
     let suited = needed_keeps (KeySuits (is_date f.0.1)) (choice (key_named f.0.1)) (choice_keeps (KeySuits (is_date f.0.1)) (key_named f.0.1) (keys_suit f.0.1)) t above (codes "key") w.0 w.1 in

@@ -10,6 +10,7 @@ use Rattle.link_texts.specs.Texts.{stands_among}
 use Rattle.link_base.specs.declared.fault.Fault.{Fault}
 use Rattle.link_base.specs.declared.plan.FieldSort.{FieldSort}
 use Rattle.link_base.specs.declared.plan.FieldSort.TheVariants as sort
+use Rattle.link_base.specs.declared.plan.Canon.{Canon}
 use Rattle.link_base.specs.declared.plan.CompareKind.{CompareKind}
 use Rattle.link_base.specs.declared.plan.CompareKind.TheVariants as by
 use Rattle.link_base.specs.Shares.{outcomes_of}
@@ -19,15 +20,14 @@ use Rattle.settings_readers.specs.Lists.{array_of, on_table}
 use Rattle.link_plan.specs.Plan.{FieldKeys, PlainShares}
 use Rattle.link_plan.specs.Ranges.{may_be_rare}
 use Rattle.settings.specs.Values.{text}
+use Rattle.settings.specs.CanonKeys.{numbered}
 use Rattle.settings.specs.Words.{field_keys, kind_named, form_named, compare_named}
 use Rattle.settings.specs.declared.fields.CompareKeys.{CompareKeys}
 use Rattle.settings.specs.declared.fields.NameKeys.{NameKeys}
-use Rattle.link_plan.specs.declared.limits.TheConstants.{LEAST_RARE, MOST_DAYS, MOST_LETTERS, MOST_RARE, MOST_YEARS}
+use Rattle.link_plan.specs.declared.limits.TheConstants.{LEAST_RARE, MOST_DAYS, MOST_RARE, MOST_YEARS}
 use Rattle.settings.specs.declared.texts.TextRule.TheVariants as rule
 use Rattle.settings.specs.declared.words.Kind.{Kind}
 use Rattle.settings.specs.declared.words.Kind.TheVariants as kind
-use Rattle.settings.specs.declared.words.CompareWord.{CompareWord}
-use Rattle.settings.specs.declared.words.CompareWord.TheVariants as compare
 
 -- a name that no earlier field has
 unfoldable pub new_name : List FieldKeys → Members → List ℕ → Result (List ℕ) Fault
@@ -53,12 +53,12 @@ sort_of kind.Name = plain_sort sort.Name
 sort_of kind.Place = plain_sort sort.Place
 sort_of kind.Date = date_sort
 
--- n for `first` alone, and t for `days` and `years` alone
-unfoldable pub by_letters : Members → List ℕ → Result CompareKind Fault
-by_letters t above = do
-  n ← needed (whole 1 MOST_LETTERS) t above (codes "n")
+-- n for a canon of a number of letters alone, and t for `days` and `years` alone
+unfoldable pub by_canon : Canon → Members → List ℕ → Result CompareKind Fault
+by_canon c t above = do
+  canon ← numbered c t above
   no_t ← absent t above (codes "t")
-  Ok (by.FirstLetters n)
+  Ok (by.Same canon)
 
 unfoldable pub by_days : Members → List ℕ → Result CompareKind Fault
 by_days t above = do
@@ -78,14 +78,11 @@ plain_compare c t above = do
   no_t ← absent t above (codes "t")
   Ok c
 
-abbrev pub compare_by : CompareWord → Members → List ℕ → Result CompareKind Fault
-compare_by compare.Exact = plain_compare by.Exact
-compare_by compare.Soundex = plain_compare by.BySoundex
-compare_by compare.Nysiis = plain_compare by.ByNysiis
-compare_by compare.First = by_letters
-compare_by compare.Initials = plain_compare by.Initials
-compare_by compare.Days = by_days
-compare_by compare.Years = by_years
+abbrev pub compare_by : CompareKind → Members → List ℕ → Result CompareKind Fault
+compare_by (by.Same c) = by_canon c
+compare_by by.Initials = plain_compare by.Initials
+compare_by (by.DaysWithin least) = by_days
+compare_by (by.YearsWithin least) = by_years
 
 -- a rare number, where values are compared by a canon
 abbrev pub rare_number : CompareKind → Members → List ℕ → Result (Option ℕ) Fault

@@ -6,16 +6,13 @@ use Rattle.toml.specs.Data.{Data, Members}
 use Rattle.link_texts.specs.Texts.{stands_among}
 use Rattle.link_base.specs.declared.fault.Fault.{Fault}
 use Rattle.link_base.specs.declared.plan.FieldSort.{FieldSort}
-use Rattle.link_base.specs.declared.plan.KeyKind.{KeyKind}
-use Rattle.link_base.specs.declared.plan.KeyKind.TheVariants as by
 use Rattle.link_base.specs.declared.plan.Part.{Part}
 use Rattle.link_plan.specs.Plan.{FieldKeys}
-use Rattle.link_plan.specs.declared.limits.TheConstants.{MOST_LETTERS, MOST_PARTS, MOST_PASSES}
-use Rattle.settings.specs.declared.words.KeyWord.{KeyWord}
-use Rattle.settings.specs.declared.words.KeyWord.TheVariants as key
-use Rattle.settings_readers.specs.Parts.{◌>>=◌, needed, absent, known}
-use Rattle.settings_readers.specs.Values.{choice, whole}
+use Rattle.link_plan.specs.declared.limits.TheConstants.{MOST_PARTS, MOST_PASSES}
+use Rattle.settings_readers.specs.Parts.{◌>>=◌, needed, known}
+use Rattle.settings_readers.specs.Values.{choice}
 use Rattle.settings_readers.specs.Lists.{array_of, on_table}
+use Rattle.settings.specs.CanonKeys.{numbered}
 use Rattle.settings.specs.Words.{pass_keys, part_keys, key_named}
 
 -- the field of a name, by its number from n, and its sort
@@ -23,26 +20,12 @@ abbrev pub field_named : List FieldKeys → ℕ → List ℕ → Option (ℕ × 
 field_named [] n name = None
 field_named (f ∷ fs) n name = if bytes_eq name f.name then Some (n, f.sort) else field_named fs (n + 1) name
 
--- n for `first` alone
-unfoldable pub first_key : Members → List ℕ → Result KeyKind Fault
-first_key t above = needed (whole 1 MOST_LETTERS) t above (codes "n") >>= λ n. Ok (by.First n)
-
-unfoldable pub plain_key : KeyKind → Members → List ℕ → Result KeyKind Fault
-plain_key k t above = absent t above (codes "n") >>= λ no_n. Ok k
-
-abbrev pub key_by : KeyWord → Members → List ℕ → Result KeyKind Fault
-key_by key.Whole = plain_key by.Whole
-key_by key.Soundex = plain_key by.Soundex
-key_by key.Nysiis = plain_key by.Nysiis
-key_by key.First = first_key
-key_by key.Year = plain_key by.Year
-
 unfoldable pub part : List FieldKeys → Members → List ℕ → Result Part Fault
 part fields t above = do
   listed ← known (stands_among part_keys) t above
   field ← needed (choice (field_named fields 0)) t above (codes "field")
   word ← needed (choice (key_named field.1)) t above (codes "key")
-  key ← key_by word t above
+  key ← numbered word t above
   Ok (record { field = field.0; key = key })
 
 -- an array of one to four parts

@@ -4,9 +4,9 @@ use Rattle.std.specs.Prelude.{List, ℕ, Bool, ◌∷◌, codes, Option, is_some
 use Rattle.toml.specs.Data.{Members}
 use Rattle.link_texts.specs.Texts.{stands_among}
 use Rattle.link_base.specs.declared.fault.Fault.{Fault}
+use Rattle.link_base.specs.declared.plan.Canon.{Canon}
 use Rattle.link_base.specs.declared.plan.CompareKind.{CompareKind}
 use Rattle.link_base.specs.declared.plan.FieldSort.{FieldSort}
-use Rattle.link_base.specs.declared.plan.KeyKind.{KeyKind}
 use Rattle.link_base.specs.declared.plan.Part.{Part}
 use Rattle.link_base.specs.declared.tables.Tables.{Tables}
 use Rattle.settings_readers.specs.Parts.{◌>>=◌, absent, defaulted, known, needed, optional}
@@ -16,7 +16,8 @@ use Rattle.settings.specs.Words.{compare_named, delimiter_named, key_named, top_
 use Rattle.settings.specs.WordTables.{texts, word_table}
 use Rattle.settings.specs.Field.{compare_by, compare_keys, field_shares, fields, rare_number}
 use Rattle.link_plan.specs.Plan.{FieldKeys, PlainShares}
-use Rattle.settings.specs.Pass.{key_by, passes}
+use Rattle.settings.specs.CanonKeys.{numbered}
+use Rattle.settings.specs.Pass.{passes}
 use Rattle.settings.specs.Settings.{file_keys, journal_of, numbers, tables, plan_from}
 use Rattle.settings.specs.declared.fields.CompareKeys.{CompareKeys}
 use Rattle.link_plan.specs.declared.limits.TheConstants.{MOST_LISTED_WORDS, MOST_MARKS}
@@ -96,7 +97,7 @@ measure_keys sampled t above = do
   Ok (compared, shares)
 
 -- the key of a field of a sort
-unfoldable pub key_of : FieldSort → Members → List ℕ → Result KeyKind Fault
+unfoldable pub key_of : FieldSort → Members → List ℕ → Result Canon Fault
 key_of sort t above = do
   word ← needed (choice (key_named sort)) t above (codes "key")
-  key_by word t above
+  numbered word t above

@@ -2,13 +2,13 @@
 ghost use Rattle.std.specs.Prelude.{◌≡◌};
 ghost use Rattle.toml.specs.View.{table_view};
 ghost use Rattle.link_base.specs.Fault.{IsAnswer};
-ghost use Rattle.settings.specs.Field.{date_sort, plain_sort, sort_of, by_letters, by_days, by_years, plain_compare, compare_by, rare_number};
+ghost use Rattle.settings.specs.Field.{date_sort, plain_sort, sort_of, by_canon, by_days, by_years, plain_compare, compare_by, rare_number};
 ghost use Rattle.link_plan.specs.Ranges.{may_be_rare};
 ghost use Rattle.settings.specs.PlanParts.{comparison, span};
 
-use crate::texts::Letters;
-use crate::words::{CompareWord, Forms, Kind};
-use link_base::{CompareKind, Fault, FieldSort};
+use crate::canons::numbered;
+use crate::words::{Forms, Kind};
+use link_base::{Canon, CompareKind, Fault, FieldSort};
 use link_plan::{LEAST_RARE, MOST_DAYS, MOST_RARE, MOST_YEARS};
 use settings_readers::{Choice, Keys, Whole};
 use std::alloc::Global;
@@ -41,12 +41,12 @@ pub(crate) fn sort_of(alloc: Global, kind: Kind, keys: &Keys) -> Result<FieldSor
     }
 }
 
-#[tactic(auto, unfolding(crate::specs::Field::by_letters))]
-fn by_letters(alloc: Global, keys: &Keys) -> Result<CompareKind, Fault>
-    ensures { IsAnswer (by_letters (table_view keys.now.table.now) keys.now.above.now) result }
+#[tactic(auto, unfolding(crate::specs::Field::by_canon))]
+fn by_canon(alloc: Global, canon: Canon, keys: &Keys) -> Result<CompareKind, Fault>
+    ensures { IsAnswer (by_canon canon (table_view keys.now.table.now) keys.now.above.now) result }
 {
-    match keys.needed(alloc, &Letters, "n") {
-        Ok(letters) => keys.without(alloc, "t", CompareKind::FirstLetters(letters)),
+    match numbered(alloc, canon, keys) {
+        Ok(canon) => keys.without(alloc, "t", CompareKind::Same(canon)),
         Err(fault) => Err(fault),
     }
 }
@@ -92,17 +92,14 @@ fn plain_compare(alloc: Global, compare: CompareKind, keys: &Keys) -> Result<Com
 }
 
 // The comparison that a word names, with its number where it has one.
-fn compare_by(alloc: Global, word: CompareWord, keys: &Keys) -> Result<CompareKind, Fault>
-    ensures { IsAnswer (compare_by word (table_view keys.now.table.now) keys.now.above.now) result }
+fn compare_by(alloc: Global, named: CompareKind, keys: &Keys) -> Result<CompareKind, Fault>
+    ensures { IsAnswer (compare_by named (table_view keys.now.table.now) keys.now.above.now) result }
 {
-    match word {
-        CompareWord::Exact => plain_compare(alloc, CompareKind::Exact, keys),
-        CompareWord::Soundex => plain_compare(alloc, CompareKind::BySoundex, keys),
-        CompareWord::Nysiis => plain_compare(alloc, CompareKind::ByNysiis, keys),
-        CompareWord::First => by_letters(alloc, keys),
-        CompareWord::Initials => plain_compare(alloc, CompareKind::Initials, keys),
-        CompareWord::Days => by_days(alloc, keys),
-        CompareWord::Years => by_years(alloc, keys),
+    match named {
+        CompareKind::Same(canon) => by_canon(alloc, canon, keys),
+        CompareKind::Initials => plain_compare(alloc, CompareKind::Initials, keys),
+        CompareKind::DaysWithin(_) => by_days(alloc, keys),
+        CompareKind::YearsWithin(_) => by_years(alloc, keys),
     }
 }
 
@@ -139,7 +136,7 @@ pub(crate) fn comparison(
     ensures { IsAnswer (comparison kind (table_view keys.now.table.now) keys.now.above.now) result }
 {
     match keys.needed(alloc, &Choice(kind), "compare") {
-        Ok(word) => match compare_by(alloc, word, keys) {
+        Ok(named) => match compare_by(alloc, named, keys) {
             Ok(compare) => match rare_number(alloc, compare, keys) {
                 Ok(rare) => Ok((compare, rare)),
                 Err(fault) => Err(fault),

@@ -1,6 +1,7 @@
 //! The settings of a run: the bytes of a TOML file to a plan, or the first key at fault.
 #![tactic(auto)]
 
+mod canons;
 mod fields;
 mod kinds;
 mod passes;

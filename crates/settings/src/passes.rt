@@ -2,12 +2,12 @@
 ghost use Rattle.std.specs.Prelude.{◌≡◌};
 ghost use Rattle.toml.specs.View.{table_view};
 ghost use Rattle.link_base.specs.Fault.{IsAnswer};
-ghost use Rattle.settings.specs.Pass.{field_named, first_key, plain_key, key_by, part, parts, pass, passes};
+ghost use Rattle.settings.specs.Pass.{field_named, part, parts, pass, passes};
 ghost use Rattle.settings.specs.PlanParts.{key_of};
 
-use crate::texts::Letters;
-use crate::words::{KeyWord, KeysOf};
-use link_base::{Fault, FieldSort, KeyKind, Part, Pass, PassList};
+use crate::canons::numbered;
+use crate::words::KeysOf;
+use link_base::{Canon, Fault, FieldSort, Part, Pass, PassList};
 use link_plan::{FieldList, MOST_PARTS, MOST_PASSES};
 use settings_readers::{Choice, Choices, Items, Keys, Place, Reader, Row, Rows};
 use std::alloc::Global;
@@ -46,42 +46,13 @@ impl Choices for FieldNames<'_> {
     }
 }
 
-#[tactic(auto, unfolding(crate::specs::Pass::first_key))]
-fn first_key(alloc: Global, keys: &Keys) -> Result<KeyKind, Fault>
-    ensures { IsAnswer (first_key (table_view keys.now.table.now) keys.now.above.now) result }
-{
-    match keys.needed(alloc, &Letters, "n") {
-        Ok(letters) => Ok(KeyKind::First(letters)),
-        Err(fault) => Err(fault),
-    }
-}
-
-#[tactic(auto, unfolding(crate::specs::Pass::plain_key))]
-fn plain_key(alloc: Global, key: KeyKind, keys: &Keys) -> Result<KeyKind, Fault>
-    ensures { IsAnswer (plain_key key (table_view keys.now.table.now) keys.now.above.now) result }
-{
-    keys.without(alloc, "n", key)
-}
-
-fn key_by(alloc: Global, word: KeyWord, keys: &Keys) -> Result<KeyKind, Fault>
-    ensures { IsAnswer (key_by word (table_view keys.now.table.now) keys.now.above.now) result }
-{
-    match word {
-        KeyWord::Whole => plain_key(alloc, KeyKind::Whole, keys),
-        KeyWord::Soundex => plain_key(alloc, KeyKind::Soundex, keys),
-        KeyWord::Nysiis => plain_key(alloc, KeyKind::Nysiis, keys),
-        KeyWord::First => first_key(alloc, keys),
-        KeyWord::Year => plain_key(alloc, KeyKind::Year, keys),
-    }
-}
-
 // The key of a field of a sort.
 #[tactic(auto, unfolding(crate::specs::PlanParts::key_of))]
-fn key_of(alloc: Global, sort: FieldSort, keys: &Keys) -> Result<KeyKind, Fault>
+fn key_of(alloc: Global, sort: FieldSort, keys: &Keys) -> Result<Canon, Fault>
     ensures { IsAnswer (key_of sort (table_view keys.now.table.now) keys.now.above.now) result }
 {
     match keys.needed(alloc, &Choice(KeysOf(sort)), "key") {
-        Ok(word) => key_by(alloc, word, keys),
+        Ok(named) => numbered(alloc, named, keys),
         Err(fault) => Err(fault),
     }
 }

@@ -1,7 +1,7 @@
 // The words that name choices.
 ghost use Rattle.settings.specs.Words.{delimiter_named, kind_named, form_named, compare_named, key_named};
 
-use link_base::{DateForm, FieldSort};
+use link_base::{Canon, CompareKind, DateForm, FieldSort};
 use settings_readers::{Choices, named_in};
 
 /// What a field holds, before its forms.
@@ -10,28 +10,6 @@ pub(crate) enum Kind {
     Name,
     Place,
     Date,
-}
-
-/// How a field is compared, before its numbers.
-#[derive(Clone, Copy)]
-pub(crate) enum CompareWord {
-    Exact,
-    Soundex,
-    Nysiis,
-    First,
-    Initials,
-    Days,
-    Years,
-}
-
-/// How a field makes a part of a key, before its number.
-#[derive(Clone, Copy)]
-pub(crate) enum KeyWord {
-    Whole,
-    Soundex,
-    Nysiis,
-    First,
-    Year,
 }
 
 const DELIMITERS: [(&str, u8); 3] = [("comma", b','), ("semicolon", b';'), ("tab", b'\t')];
@@ -48,28 +26,29 @@ const FORMS: [(&str, DateForm); 3] = [
     ("mdy", DateForm::Mdy),
 ];
 
-const NAME_COMPARES: [(&str, CompareWord); 5] = [
-    ("exact", CompareWord::Exact),
-    ("soundex", CompareWord::Soundex),
-    ("nysiis", CompareWord::Nysiis),
-    ("first", CompareWord::First),
-    ("initials", CompareWord::Initials),
+// A number stands here at its least, until its key is read.
+const NAME_COMPARES: [(&str, CompareKind); 5] = [
+    ("exact", CompareKind::Same(Canon::Whole)),
+    ("soundex", CompareKind::Same(Canon::Soundex)),
+    ("nysiis", CompareKind::Same(Canon::Nysiis)),
+    ("first", CompareKind::Same(Canon::FirstLetters(1))),
+    ("initials", CompareKind::Initials),
 ];
 
-const DATE_COMPARES: [(&str, CompareWord); 3] = [
-    ("exact", CompareWord::Exact),
-    ("days", CompareWord::Days),
-    ("years", CompareWord::Years),
+const DATE_COMPARES: [(&str, CompareKind); 3] = [
+    ("exact", CompareKind::Same(Canon::Whole)),
+    ("days", CompareKind::DaysWithin(0)),
+    ("years", CompareKind::YearsWithin(0)),
 ];
 
-const NAME_KEYS: [(&str, KeyWord); 4] = [
-    ("whole", KeyWord::Whole),
-    ("soundex", KeyWord::Soundex),
-    ("nysiis", KeyWord::Nysiis),
-    ("first", KeyWord::First),
+const NAME_KEYS: [(&str, Canon); 4] = [
+    ("whole", Canon::Whole),
+    ("soundex", Canon::Soundex),
+    ("nysiis", Canon::Nysiis),
+    ("first", Canon::FirstLetters(1)),
 ];
 
-const DATE_KEYS: [(&str, KeyWord); 2] = [("whole", KeyWord::Whole), ("year", KeyWord::Year)];
+const DATE_KEYS: [(&str, Canon); 2] = [("whole", Canon::Whole), ("year", Canon::Year)];
 
 /// The delimiters of a table.
 #[derive(Drop)]
@@ -113,13 +92,13 @@ impl Choices for Forms {
     }
 }
 
-/// The comparisons of a kind.
+/// The comparisons of a kind, before their numbers.
 impl Choices for Kind {
-    type Item = CompareWord;
+    type Item = CompareKind;
 
     ghost gives = { compare_named };
 
-    fn named(&self, text: &str) -> Option<CompareWord> {
+    fn named(&self, text: &str) -> Option<CompareKind> {
         match self {
             Kind::Name | Kind::Place => named_in(&NAME_COMPARES, text),
             Kind::Date => named_in(&DATE_COMPARES, text),
@@ -127,16 +106,16 @@ impl Choices for Kind {
     }
 }
 
-/// The keys of a sort of field.
+/// The keys of a sort of field, before their numbers.
 #[derive(Drop)]
 pub(crate) struct KeysOf(pub(crate) FieldSort);
 
 impl Choices for KeysOf {
-    type Item = KeyWord;
+    type Item = Canon;
 
     ghost gives = { λ k. key_named k.0 };
 
-    fn named(&self, text: &str) -> Option<KeyWord> {
+    fn named(&self, text: &str) -> Option<Canon> {
         match self.0 {
             FieldSort::Name | FieldSort::Place => named_in(&NAME_KEYS, text),
             FieldSort::Date(_, _) => named_in(&DATE_KEYS, text),
