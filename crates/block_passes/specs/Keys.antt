@@ -4,12 +4,12 @@ use Rattle.std.specs.Cmp.Lexicographic.{pointwise}
 use Rattle.link_base.specs.Standard.{absent_value}
 use Rattle.link_base.specs.declared.standard.Value.{Value}
 use Rattle.link_base.specs.declared.plan.Part.{Part}
-use Rattle.link_base.specs.declared.plan.KeyKind.TheVariants.{Whole}
-pub use Rattle.value_forms.specs.Canons.{IsReadable, value_part}
+use Rattle.link_base.specs.declared.plan.Canon.TheVariants.{Whole}
+pub use Rattle.value_forms.specs.Canons.{IsReadable, canon_by}
 
 -- the part of a key that a row has
 abbrev pub part_key : List Value → Part → Option (List ℕ)
-part_key row part = value_part part.key (slice_index_or row part.field absent_value)
+part_key row part = canon_by part.key (slice_index_or row part.field absent_value)
 
 abbrev pub joined_key : Option (List ℕ) → Option (List (List ℕ)) → Option (List (List ℕ))
 joined_key None keys = None

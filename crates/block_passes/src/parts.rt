@@ -4,7 +4,7 @@ ghost use Rattle.block_passes.specs.Keys.{IsPartReadable, part_key};
 ghost use Rattle.value_forms.specs.CanonTexts.{canon_bytes};
 
 use link_base::{Part, Row};
-use value_forms::{CanonText, value_text};
+use value_forms::{CanonText, canon_text};
 
 /// The part of a key that a row has, `None` exactly where its value makes none.
 pub fn part_text<'r>(row: &Row<'r>, part: Part) -> Option<CanonText<'r>>
@@ -12,5 +12,5 @@ pub fn part_text<'r>(row: &Row<'r>, part: Part) -> Option<CanonText<'r>>
     requires readable { IsPartReadable row.now part }
     ensures { option_map canon_bytes result ≡ part_key row.now part }
 {
-    value_text(part.key, &row.value(part.field as usize))
+    canon_text(part.key, &row.value(part.field as usize))
 }

@@ -6,7 +6,7 @@ use Rattle.std.specs.List.{All}
 use Rattle.value_forms.specs.Canons.{canon_of}
 use Rattle.link_base.specs.Standard.{absent_value, IsValid, no_record, Record}
 use Rattle.link_base.specs.declared.plan.CompareKind.{CompareKind}
-use Rattle.link_base.specs.declared.plan.CompareKind.TheVariants as by
+use Rattle.link_base.specs.Canons.{exact}
 use Rattle.link_base.specs.declared.plan.Part.{Part}
 use Rattle.link_base.specs.declared.standard.Value.{Value}
 use Rattle.block_passes.specs.Keys.{no_part, part_key}
@@ -46,19 +46,19 @@ values-row file at row lt e =
     at_drop_more file_values file at no_record lt ∙ ap (λ r. r ++ file_values (drop (at + 1) file)) (sym e)
 
 -- a row and the kinds of its fields, field by field
-kinds-at : (kinds : List CompareKind) (at : ℕ) → at < length kinds → drop at kinds ≡ get_or kinds at by.Exact ∷ drop (at + 1) kinds
-kinds-at kinds at lt = drop_more kinds at by.Exact lt
+kinds-at : (kinds : List CompareKind) (at : ℕ) → at < length kinds → drop at kinds ≡ get_or kinds at exact ∷ drop (at + 1) kinds
+kinds-at kinds at lt = drop_more kinds at exact lt
 
 values-at : (row : List Value) (at : ℕ) (v : Value) → at < length row → v ≡ get_or row at absent_value → drop at row ≡ v ∷ drop (at + 1) row
 values-at row at v lt e = drop_more row at absent_value lt ∙ ap (λ x. x ∷ drop (at + 1) row) (sym e)
 
 pub canons-at : (kinds : List CompareKind) (row : List Value) (at : ℕ) (v : Value) → at < length kinds → length row ≡ length kinds → v ≡ get_or row at absent_value
-    → canons_of_row (drop at kinds) (drop at row) ≡ option_to_list (canon_of (get_or kinds at by.Exact) v) ++ canons_of_row (drop (at + 1) kinds) (drop (at + 1) row)
+    → canons_of_row (drop at kinds) (drop at row) ≡ option_to_list (canon_of (get_or kinds at exact) v) ++ canons_of_row (drop (at + 1) kinds) (drop (at + 1) row)
 canons-at kinds row at v lt many e =
     λ i. canons_of_row (kinds-at kinds at lt i) (values-at row at v (omega arith) e i)
 
 pub sides-at : (texts : List (List ℕ)) (kinds : List CompareKind) (row : List Value) (at : ℕ) (v : Value) → at < length kinds → length row ≡ length kinds → v ≡ get_or row at absent_value
-    → sides_of_row texts (drop at kinds) (drop at row) ≡ side_of texts (get_or kinds at by.Exact) v ∷ sides_of_row texts (drop (at + 1) kinds) (drop (at + 1) row)
+    → sides_of_row texts (drop at kinds) (drop at row) ≡ side_of texts (get_or kinds at exact) v ∷ sides_of_row texts (drop (at + 1) kinds) (drop (at + 1) row)
 sides-at texts kinds row at v lt many e =
     λ i. sides_of_row texts (kinds-at kinds at lt i) (values-at row at v (omega arith) e i)
 

@@ -2,10 +2,10 @@
 use Rattle.std.proofs.Common.{◌≡◌, ◌<◌, ◌++◌, ℕ, List, length, get_or, Option, Some, None, Ok, option_to_list, refl}
 use Rattle.link_base.specs.Standard.{absent_value, no_record, Record}
 use Rattle.link_base.specs.declared.plan.CompareKind.{CompareKind}
-use Rattle.link_base.specs.declared.plan.CompareKind.TheVariants as by
-use Rattle.link_base.specs.declared.plan.KeyKind.{KeyKind}
+use Rattle.link_base.specs.Canons.{exact}
+use Rattle.link_base.specs.declared.plan.Canon.{Canon}
 use Rattle.link_base.specs.declared.standard.Value.{Value}
-use Rattle.value_forms.specs.Canons.{canon_of, value_part}
+use Rattle.value_forms.specs.Canons.{canon_of, canon_by}
 use Rattle.value_pool.specs.Texts.{IsHeld}
 use Rattle.standard_files.specs.Held.{HoldsTexts}
 use Rattle.standard_files.specs.Texts.{canons_of_row, file_texts, texts_taken}
@@ -35,7 +35,7 @@ pub held-right : (xs ys held : List (List ℕ)) → HoldsTexts held (xs ++ ys) �
 held-right xs ys held h text stands = h text (stands-right xs ys text stands)
 
 -- a part that is a canon of its row
-pub canon-held : (kinds : List CompareKind) (row : List Value) (k : ℕ) (key : KeyKind) (held : List (List ℕ)) → k < length kinds → length row ≡ length kinds
-    → value_part key (get_or row k absent_value) ≡ canon_of (get_or kinds k by.Exact) (get_or row k absent_value) → HoldsTexts held (canons_of_row kinds row) → IsHeld held (value_part key (get_or row k absent_value))
+pub canon-held : (kinds : List CompareKind) (row : List Value) (k : ℕ) (key : Canon) (held : List (List ℕ)) → k < length kinds → length row ≡ length kinds
+    → canon_by key (get_or row k absent_value) ≡ canon_of (get_or kinds k exact) (get_or row k absent_value) → HoldsTexts held (canons_of_row kinds row) → IsHeld held (canon_by key (get_or row k absent_value))
 canon-held kinds row k key held lt many same all =
-    rw same (held-by held (canon_of (get_or kinds k by.Exact) (get_or row k absent_value)) (λ text h. all text (stands-canons kinds row k text lt many h)))
+    rw same (held-by held (canon_of (get_or kinds k exact) (get_or row k absent_value)) (λ text h. all text (stands-canons kinds row k text lt many h)))

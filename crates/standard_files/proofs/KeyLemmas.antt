@@ -1,6 +1,6 @@
 -- The ids of the parts of keys, one by one, and what is known of the rows that they are of.
 use Rattle.std.proofs.Common.{◌≡◌, ◌≢◌, ◌<◌, ◌+◌, ℕ, false, List, [], ◌∷◌, ◌++◌, length, get_or, take, drop, Option, Some, None, Ok, refl, ap, sym, subst, ◌∙◌}
-use Rattle.std.specs.Prelude.{option_map}
+use Rattle.std.specs.Prelude.{IfOk, Result, Err, option_map}
 use Rattle.std.specs.List.{All, AllPairs}
 use Rattle.std.proofs.lemmas.List.{at_drop_more, get_or-map}
 use Rattle.block_passes.specs.KeyIds.{ids_in_pass, ids_of_row, key_ids, part_id}
@@ -10,11 +10,12 @@ use Rattle.comparators.specs.declared.ids.IdValue.{IdValue}
 use Rattle.comparators.specs.declared.ids.IdValue.TheVariants as id
 use Rattle.link_base.specs.Standard.{absent_value, no_record, Record}
 use Rattle.link_base.specs.declared.plan.CompareKind.{CompareKind}
-use Rattle.link_base.specs.declared.plan.CompareKind.TheVariants as by
+use Rattle.link_base.specs.Canons.{exact}
 use Rattle.link_base.specs.declared.plan.Part.{Part}
 use Rattle.link_base.specs.declared.standard.Value.{Value}
-use Rattle.value_forms.specs.Canons.{canon_of, compares_days, value_part}
+use Rattle.value_forms.specs.Canons.{canon_of, compares_days, canon_by}
 use Rattle.value_pool.specs.Texts.{place_among}
+use Rattle.value_pool.specs.declared.pool.PoolFault.{PoolFault}
 use Rattle.standard_files.specs.Held.{HoldsTexts}
 use Rattle.standard_files.specs.Known.{AreTextIds, IsIdOf, IsKnownFile, IsKnownRow, file_values}
 use Rattle.standard_files.specs.Ready.{IsRowFor}
@@ -34,7 +35,11 @@ id-part held final None (Some i) e h = absurd h
 id-part held final (Some text) None e h = absurd h
 id-part held final (Some text) (Some i) e h = ap Some (place-in i text e h)
 
-pub side-part : (final : List (List ℕ)) (o : Option (List ℕ)) → option_map (place_among final) o ≡ id_in (id_side final o)
+pub parts-named : (held : List (List ℕ)) (o : Option (List ℕ)) (r : Result (Option ℕ) PoolFault) → IfOk r (IsIdOf held o) → IfOk r (λ i. (final : List (List ℕ)) → Extends held final → option_map (place_among final) o ≡ i)
+parts-named held o (Ok i) h = λ final e. id-part held final o i e h
+parts-named held o (Err f) h = tt
+
+side-part : (final : List (List ℕ)) (o : Option (List ℕ)) → option_map (place_among final) o ≡ id_in (id_side final o)
 side-part final None = refl
 side-part final (Some text) = refl
 
@@ -42,11 +47,11 @@ canon-part : (final : List (List ℕ)) (kind : CompareKind) (v : Value) → comp
 canon-part final kind v e = rw e (side-part final (canon_of kind v))
 
 pub known-part : (held final : List (List ℕ)) (kinds : List CompareKind) (row : List Value) (texts : List (Option ℕ)) (sides : List IdValue) (part : Part)
-    → part.field < length kinds → length row ≡ length kinds → ((v : Value) → value_part part.key v ≡ canon_of (get_or kinds part.field by.Exact) v)
-    → compares_days (get_or kinds part.field by.Exact) ≡ false → Extends held final → IsKnownRow held kinds row texts sides → part_id final row part ≡ id_in (get_or sides part.field id.Absent)
+    → part.field < length kinds → length row ≡ length kinds → ((v : Value) → canon_by part.key v ≡ canon_of (get_or kinds part.field exact) v)
+    → compares_days (get_or kinds part.field exact) ≡ false → Extends held final → IsKnownRow held kinds row texts sides → part_id final row part ≡ id_in (get_or sides part.field id.Absent)
 known-part held final kinds row texts sides part lt many canon by_id e known =
     let v = get_or row part.field absent_value in
-    let kind = get_or kinds part.field by.Exact in
+    let kind = get_or kinds part.field exact in
     ap (option_map (place_among final)) (canon v) ∙ canon-part final kind v by_id ∙ ap id_in (sym (side-at final kinds row part.field lt many))
     ∙ ap (λ xs. id_in (get_or xs part.field id.Absent)) (known.sides final e)
 

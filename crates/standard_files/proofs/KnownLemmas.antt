@@ -4,7 +4,7 @@ use Rattle.std.specs.List.{slice_get}
 use Rattle.std.specs.Str.{bytes_eq}
 use Rattle.link_base.specs.Standard.{absent_value, no_record, Record}
 use Rattle.link_base.specs.declared.plan.CompareKind.{CompareKind}
-use Rattle.link_base.specs.declared.plan.CompareKind.TheVariants as by
+use Rattle.link_base.specs.Canons.{exact}
 use Rattle.link_base.specs.declared.standard.Value.{Value}
 use Rattle.link_base.specs.declared.standard.Value.TheVariants as value
 use Rattle.value_forms.specs.Canons.{canon_of, exact_canon}
@@ -63,7 +63,7 @@ module _ (held new : List (List ℕ)) (keeps : Keeps held new) where
   known-at-kept : (kinds : List CompareKind) (place : ℕ) (known : Option KnownCanon) → IsKnownAt held kinds place known → IsKnownAt new kinds place known
   known-at-kept kinds place None h = tt
   known-at-kept kinds place (Some known) h =
-      record { text = h.text; stands = keeps place h.text h.stands; canon = id-kept (canon_of (get_or kinds known.field by.Exact) (value.Word h.text)) (Some known.canon) h.canon }
+      record { text = h.text; stands = keeps place h.text h.stands; canon = id-kept (canon_of (get_or kinds known.field exact) (value.Word h.text)) (Some known.canon) h.canon }
 
   pub canons-kept : (kinds : List CompareKind) (known : List (Option KnownCanon)) → AreKnownCanons held kinds known → AreKnownCanons new kinds known
   canons-kept kinds known h place = known-at-kept kinds place (get_or known place None) (h place)
@@ -131,23 +131,23 @@ same-text : (a b : List ℕ) (o : Option (List ℕ)) → o ≡ Some a → o ≡ 
 same-text a b o h k = cc
 
 module _ (held : List (List ℕ)) (kinds : List CompareKind) where
-  exact-id : (v : Value) (i : ℕ) → IsIdOf held (standard_text v) (Some i) → IsIdOf held (canon_of by.Exact v) (Some i)
+  exact-id : (v : Value) (i : ℕ) → IsIdOf held (standard_text v) (Some i) → IsIdOf held (canon_of exact v) (Some i)
   exact-id value.Absent i h = absurd h
   exact-id (value.Word text) i h = h
   exact-id (value.Day day) i h = absurd h
 
-  pub itself-id : (kind : CompareKind) (v : Value) (i : ℕ) → kind ≡ by.Exact → IsIdOf held (standard_text v) (Some i) → IsIdOf held (canon_of kind v) (Some i)
+  pub itself-id : (kind : CompareKind) (v : Value) (i : ℕ) → kind ≡ exact → IsIdOf held (standard_text v) (Some i) → IsIdOf held (canon_of kind v) (Some i)
   itself-id kind v i e h = rw e (exact-id v i h)
 
   pub known-at : (place : ℕ) (known : List (Option KnownCanon)) (canon : KnownCanon) → get_or known place None ≡ Some canon → AreKnownCanons held kinds known → IsCanonAt held kinds place canon
   known-at place known canon e h = subst (IsKnownAt held kinds place) e (h place)
 
-  pub known-id : (v : Value) (i : ℕ) (known : KnownCanon) → IsIdOf held (standard_text v) (Some i) → IsCanonAt held kinds i known → IsIdOf held (canon_of (get_or kinds known.field by.Exact) v) (Some known.canon)
+  pub known-id : (v : Value) (i : ℕ) (known : KnownCanon) → IsIdOf held (standard_text v) (Some i) → IsCanonAt held kinds i known → IsIdOf held (canon_of (get_or kinds known.field exact) v) (Some known.canon)
   known-id value.Absent i known h k = absurd h
   known-id (value.Word text) i known h k = rw (same-text text k.text (slice_get held i) h k.stands) k.canon
   known-id (value.Day day) i known h k = absurd h
 
-  pub new-known : (v : Value) (i : ℕ) (known : KnownCanon) → IsIdOf held (standard_text v) (Some i) → IsIdOf held (canon_of (get_or kinds known.field by.Exact) v) (Some known.canon) → IsCanonAt held kinds i known
+  pub new-known : (v : Value) (i : ℕ) (known : KnownCanon) → IsIdOf held (standard_text v) (Some i) → IsIdOf held (canon_of (get_or kinds known.field exact) v) (Some known.canon) → IsCanonAt held kinds i known
   new-known value.Absent i known h k = absurd h
   new-known (value.Word text) i known h k = record { text = text; stands = h; canon = k }
   new-known (value.Day day) i known h k = absurd h

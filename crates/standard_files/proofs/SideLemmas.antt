@@ -15,7 +15,7 @@ use Rattle.std.specs.Prelude.{Bool, true, false, MatchBool, if◌then◌else◌}
 use Rattle.comparators.proofs.IdLemmas.{side-valid}
 use Rattle.value_pool.proofs.PlaceLemmas.{place-reads}
 use Rattle.link_base.specs.declared.plan.CompareKind.{CompareKind}
-use Rattle.link_base.specs.declared.plan.CompareKind.TheVariants as by
+use Rattle.link_base.specs.Canons.{exact}
 use Rattle.link_base.specs.declared.standard.Value.{Value}
 use Rattle.link_base.specs.declared.standard.Value.TheVariants as value
 use Rattle.standard_files.specs.Known.{flat_sides}
@@ -56,7 +56,7 @@ valid-side texts kind v h = side-valid kind (side_of texts kind v) (by_test (com
     by_test true = day-valid v h
     by_test false = id-valid texts (canon_of kind v)
 
-pub side-at : (texts : List (List ℕ)) (kinds : List CompareKind) (row : List Value) (k : ℕ) → k < length kinds → length row ≡ length kinds → get_or (sides_of_row texts kinds row) k id.Absent ≡ side_of texts (get_or kinds k by.Exact) (get_or row k absent_value)
+pub side-at : (texts : List (List ℕ)) (kinds : List CompareKind) (row : List Value) (k : ℕ) → k < length kinds → length row ≡ length kinds → get_or (sides_of_row texts kinds row) k id.Absent ≡ side_of texts (get_or kinds k exact) (get_or row k absent_value)
 side-at texts [] row k lt many = absurd (omega arith)
 side-at texts (kind ∷ kinds) [] k lt many = absurd (omega arith)
 side-at texts (kind ∷ kinds) (v ∷ vs) zero lt many = refl
@@ -71,10 +71,10 @@ row-sides : (texts : List (List ℕ)) (kinds : List CompareKind) (row : List Val
 row-sides texts kinds row many valid all = record {
   as_many = sides-many texts kinds row many;
   stand = λ k lt.
-      let kind = get_or kinds k by.Exact in
+      let kind = get_or kinds k exact in
       let v = get_or row k absent_value in
       rw (side-at texts kinds row k lt many) (stands-for texts kind v (held-by texts (canon_of kind v) (λ text h. all text (stands-canons kinds row k text lt many h))));
-  valid = λ k lt. rw (side-at texts kinds row k lt many) (valid-side texts (get_or kinds k by.Exact) (get_or row k absent_value) (valid k absent_value (omega arith)));
+  valid = λ k lt. rw (side-at texts kinds row k lt many) (valid-side texts (get_or kinds k exact) (get_or row k absent_value) (valid k absent_value (omega arith)));
 }
 
 pub length-sides : (texts : List (List ℕ)) (kinds : List CompareKind) (file : List Record) → length (sides_of_file texts kinds file) ≡ length file

@@ -12,7 +12,7 @@ use Rattle.block_passes.specs.Index.{row_at}
 use Rattle.block_passes.specs.Keys.{no_part, part_key}
 use Rattle.link_base.specs.Standard.{absent_value, no_record, Record}
 use Rattle.link_base.specs.declared.plan.CompareKind.{CompareKind}
-use Rattle.link_base.specs.declared.plan.CompareKind.TheVariants as by
+use Rattle.link_base.specs.Canons.{exact}
 use Rattle.link_base.specs.declared.plan.Part.{Part}
 use Rattle.link_base.specs.declared.standard.Value.{Value}
 use Rattle.standard_files.specs.Texts.{all_texts, both_texts, canons_of_row, file_texts, parts_in_pass, parts_of_row, texts_of_row, texts_taken}
@@ -41,7 +41,7 @@ stands-flat f [] k d text lt h = absurd (omega arith)
 stands-flat f (x ∷ xs) zero d text lt h = stands-left (f x) (flat_map f xs) text h
 stands-flat f (x ∷ xs) (suc k) d text lt h = stands-right (f x) (flat_map f xs) text (stands-flat f xs k d text (omega arith) h)
 
-pub stands-canons : (kinds : List CompareKind) (row : List Value) (k : ℕ) (text : List ℕ) → k < length kinds → length row ≡ length kinds → canon_of (get_or kinds k by.Exact) (get_or row k absent_value) ≡ Some text → stands_among (canons_of_row kinds row) text ≡ true
+pub stands-canons : (kinds : List CompareKind) (row : List Value) (k : ℕ) (text : List ℕ) → k < length kinds → length row ≡ length kinds → canon_of (get_or kinds k exact) (get_or row k absent_value) ≡ Some text → stands_among (canons_of_row kinds row) text ≡ true
 stands-canons [] row k text lt many h = absurd (omega arith)
 stands-canons (kind ∷ kinds) [] k text lt many h = absurd (omega arith)
 stands-canons (kind ∷ kinds) (v ∷ vs) zero text lt many h =

@@ -6,7 +6,7 @@ use Rattle.comparators.specs.declared.ids.IdValue.{IdValue}
 use Rattle.comparators.specs.declared.ids.IdValue.TheVariants as id
 use Rattle.link_base.specs.Standard.{Record}
 use Rattle.link_base.specs.declared.plan.CompareKind.{CompareKind}
-use Rattle.link_base.specs.declared.plan.CompareKind.TheVariants as by
+use Rattle.link_base.specs.Canons.{exact}
 use Rattle.link_base.specs.declared.standard.Value.{Value}
 use Rattle.link_base.specs.declared.standard.Value.TheVariants as value
 use Rattle.value_forms.specs.Canons.{canon_of, exact_canon}
@@ -49,7 +49,7 @@ side_by_id (Some canon) = id.Id canon
 pub record IsCanonAt (held : List (List ℕ)) (kinds : List CompareKind) (place : ℕ) (known : KnownCanon) : Type 0 where
   pub text : List ℕ
   pub stands : slice_get held place ≡ Some text
-  pub canon : IsIdOf held (canon_of (slice_index_or kinds known.field by.Exact) (value.Word text)) (Some known.canon)
+  pub canon : IsIdOf held (canon_of (slice_index_or kinds known.field exact) (value.Word text)) (Some known.canon)
 
 abbrev pub IsKnownAt : List (List ℕ) → List CompareKind → ℕ → Option KnownCanon → Type 0
 IsKnownAt held kinds place None = ⊤

@@ -8,7 +8,7 @@ use Rattle.comparators.specs.declared.ids.IdValue.{IdValue}
 use Rattle.comparators.specs.declared.ids.IdValue.TheVariants as id
 use Rattle.link_base.specs.Standard.{absent_value, IsValid, Record}
 use Rattle.link_base.specs.declared.plan.CompareKind.{CompareKind}
-use Rattle.link_base.specs.declared.plan.CompareKind.TheVariants as by
+use Rattle.link_base.specs.Canons.{exact}
 use Rattle.link_base.specs.declared.plan.Part.{Part}
 use Rattle.link_base.specs.declared.standard.Value.{Value}
 
@@ -30,8 +30,8 @@ pub record HasParts (passes : List (List Part)) (r : Record) : Type 0 where
 pub record AreRowSides (texts : List (List ℕ)) (kinds : List CompareKind) (row : List Value) (sides : List IdValue) : Type 0 where
   pub as_many : length sides ≡ length kinds
   pub stand : (k : ℕ) → k < length kinds
-      → StandsFor texts (slice_index_or kinds k by.Exact) (slice_index_or row k absent_value) (slice_index_or sides k id.Absent)
-  pub valid : (k : ℕ) → k < length kinds → IsFieldSide (field_of (slice_index_or kinds k by.Exact)) (slice_index_or sides k id.Absent)
+      → StandsFor texts (slice_index_or kinds k exact) (slice_index_or row k absent_value) (slice_index_or sides k id.Absent)
+  pub valid : (k : ℕ) → k < length kinds → IsFieldSide (field_of (slice_index_or kinds k exact)) (slice_index_or sides k id.Absent)
 
 -- the sides of a file, row by row
 pub record AreFileSides (texts : List (List ℕ)) (kinds : List CompareKind) (file : List Record) (rows : List (List IdValue)) : Type 0 where

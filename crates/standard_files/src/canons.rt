@@ -1,44 +1,39 @@
 // What values are compared by, and their canons taken into a pool.
-ghost use Rattle.std.specs.Prelude.{◌≡◌, ◌<◌, ◌≤◌, ◌++◌, ◌∷◌, ◌+◌, ◌*◌, All, IfOk, List, [], OnOk, Some, ℕ, length, option_to_list, slice_index_or};
-ghost use Rattle.value_forms.specs.Canons.{IsReadable, canon_of, value_part};
+ghost use Rattle.std.specs.Prelude.{◌≡◌, ◌<◌, ◌≤◌, ◌++◌, ◌+◌, ◌*◌, All, IfOk, List, [], OnOk, ℕ, length, option_to_list, slice_index_or};
+ghost use Rattle.value_forms.specs.Canons.{IsReadable, canon_by, canon_of, initials_canon};
 ghost use Rattle.link_base.specs.Rows.{value_seen};
-ghost use Rattle.link_base.specs.Standard.{IsDay, IsValid, absent_value};
-ghost use Rattle.link_base.specs.declared.plan.CompareKind.TheVariants as by;
-ghost use Rattle.link_base.specs.declared.standard.Value.TheVariants as value;
-ghost use Rattle.std.specs.Str.{IsUtf8};
-ghost use Rattle.value_forms.specs.Initials.{initials_of};
+ghost use Rattle.link_base.specs.Standard.{IsValid, absent_value};
+ghost use Rattle.link_base.specs.Canons.{exact};
 ghost use Rattle.standard_files.specs.Known.{AreKnown, AreTextIds, IsIdOf, file_values, flat_sides, side_by_id};
 ghost use Rattle.standard_files.specs.Ready.{IsRowFor};
-ghost use Rattle.standard_files.specs.Sides.{day_side, id_side, side_of, sides_of_file, sides_of_row};
+ghost use Rattle.standard_files.specs.Sides.{day_side, side_of, sides_of_file, sides_of_row};
 ghost use Rattle.standard_files.specs.Taking.{Extends, TakesTexts};
 ghost use Rattle.standard_files.specs.Texts.{both_texts, canons_of_row, file_texts, standard_text};
 
 use crate::known::Known;
 use crate::texts::{TextIds, take_text};
 use comparators::{IdTable, IdValue};
-use link_base::{CompareKind, KeyKind, NoMemory, Row, StdFile, ValueRef};
+use link_base::{Canon, CompareKind, NoMemory, Row, StdFile, ValueRef};
 use link_limits::MOST_FIELDS;
 use std::alloc::Global;
-use value_forms::{
-    bytes_of, canon_text, compares_days, compares_initials, day_text, initials_text, value_text,
-};
+use value_forms::{bytes_of, canon_text, compares_days, initials_text};
 use value_pool::{Id, MaybeId, Pool, PoolFault};
 
-/// Takes the part of a key that a value makes, and gives its id.
+/// Takes the canon of a value, and gives its id, `None` exactly where it has none.
 pub(crate) fn take_part(
     alloc: Global,
     pool: &mut Pool,
-    kind: KeyKind,
+    canon: Canon,
     value: &ValueRef<'_>,
-) -> Result<IdValue, PoolFault>
-    requires { IsReadable kind (value_seen value.now) }
+) -> Result<Option<Id>, PoolFault>
+    requires { IsReadable canon (value_seen value.now) }
     ensures limit { pool.new.limit ≡ pool.old.limit }
-    ensures texts { TakesTexts pool.old pool.new (option_to_list (value_part kind (value_seen value.now))) result }
-    ensures side { IfOk result (λ side. (final : List (List ℕ)) → Extends pool.new.texts final → id_side final (value_part kind (value_seen value.now)) ≡ side) }
+    ensures texts { TakesTexts pool.old pool.new (option_to_list (canon_by canon (value_seen value.now))) result }
+    ensures id { IfOk result (IsIdOf pool.new.texts (canon_by canon (value_seen value.now))) }
 {
-    match value_text(kind, value) {
-        None => Ok(IdValue::Absent),
-        Some(text) => Ok(IdValue::Id(take_text(alloc, pool, bytes_of(&text))?)),
+    match canon_text(canon, value) {
+        None => Ok(None),
+        Some(text) => Ok(Some(take_text(alloc, pool, bytes_of(&text))?)),
     }
 }
 
@@ -62,59 +57,28 @@ fn side_by_id(canon: Option<Id>) -> IdValue
     }
 }
 
-// Takes the canon of a day, and gives its id. Only its text is one.
-fn take_day(
+// Takes the initials of a word, and gives their id.
+fn take_initials(
     alloc: Global,
     pool: &mut Pool,
-    kind: CompareKind,
-    day: i32,
+    value: &ValueRef<'_>,
 ) -> Result<Option<Id>, PoolFault>
-    requires { IsDay day }
+    requires { IsValid (value_seen value.now) }
     ensures limit { pool.new.limit ≡ pool.old.limit }
-    ensures texts { TakesTexts pool.old pool.new (option_to_list (canon_of kind (value.Day day))) result }
-    ensures id { IfOk result (IsIdOf pool.new.texts (canon_of kind (value.Day day))) }
+    ensures texts { TakesTexts pool.old pool.new (option_to_list (initials_canon (value_seen value.now))) result }
+    ensures id { IfOk result (IsIdOf pool.new.texts (initials_canon (value_seen value.now))) }
 {
-    match kind {
-        CompareKind::Exact => Ok(Some(take_text(alloc, pool, &day_text(day))?)),
-        _ => Ok(None),
-    }
-}
-
-// Takes the initials of a text, and gives their id.
-fn take_initials(alloc: Global, pool: &mut Pool, text: &[u8]) -> Result<Option<Id>, PoolFault>
-    requires { IsUtf8 text.now }
-    ensures limit { pool.new.limit ≡ pool.old.limit }
-    ensures texts { TakesTexts pool.old pool.new (initials_of text.now ∷ []) result }
-    ensures id { IfOk result (IsIdOf pool.new.texts (Some (initials_of text.now))) }
-{
+    let ValueRef::Word(text) = *value else {
+        return Ok(None);
+    };
     match initials_text(alloc, text) {
         Ok(initials) => Ok(Some(take_text(alloc, pool, initials.bytes())?)),
         Err(NoMemory) => Err(PoolFault::NoMemory),
     }
 }
 
-// Takes the canon of a word, and gives its id.
-fn take_word(
-    alloc: Global,
-    pool: &mut Pool,
-    kind: CompareKind,
-    text: &[u8],
-) -> Result<Option<Id>, PoolFault>
-    requires { IsUtf8 text.now }
-    ensures limit { pool.new.limit ≡ pool.old.limit }
-    ensures texts { TakesTexts pool.old pool.new (option_to_list (canon_of kind (value.Word text.now))) result }
-    ensures id { IfOk result (IsIdOf pool.new.texts (canon_of kind (value.Word text.now))) }
-{
-    if compares_initials(kind) {
-        return take_initials(alloc, pool, text);
-    }
-    match canon_text(kind, &ValueRef::Word(text)) {
-        None => Ok(None),
-        Some(canon) => Ok(Some(take_text(alloc, pool, bytes_of(&canon))?)),
-    }
-}
-
-// Takes the canon of a value, and gives its id.
+// Takes the text by which a kind compares a value, and gives its id.
+#[tactic(auto, using(value_forms::proofs::ReadableLemmas::readable_valid))]
 fn take_canon(
     alloc: Global,
     pool: &mut Pool,
@@ -126,10 +90,10 @@ fn take_canon(
     ensures texts { TakesTexts pool.old pool.new (option_to_list (canon_of kind (value_seen value.now))) result }
     ensures id { IfOk result (IsIdOf pool.new.texts (canon_of kind (value_seen value.now))) }
 {
-    match *value {
-        ValueRef::Absent => Ok(None),
-        ValueRef::Day(day) => take_day(alloc, pool, kind, day),
-        ValueRef::Word(text) => take_word(alloc, pool, kind, text),
+    match kind {
+        CompareKind::Same(canon) => take_part(alloc, pool, canon, value),
+        CompareKind::Initials => take_initials(alloc, pool, value),
+        CompareKind::DaysWithin(_) | CompareKind::YearsWithin(_) => Ok(None),
     }
 }
 
@@ -150,8 +114,8 @@ fn take_new(
     requires text { IsIdOf pool.old.texts (standard_text (slice_index_or row.now field absent_value)) text.now }
     requires known { AreKnown pool.old.texts kinds.now known.old }
     ensures limit { pool.new.limit ≡ pool.old.limit }
-    ensures texts { TakesTexts pool.old pool.new (option_to_list (canon_of (slice_index_or kinds.now field by.Exact) (slice_index_or row.now field absent_value))) result }
-    ensures id { IfOk result (IsIdOf pool.new.texts (canon_of (slice_index_or kinds.now field by.Exact) (slice_index_or row.now field absent_value))) }
+    ensures texts { TakesTexts pool.old pool.new (option_to_list (canon_of (slice_index_or kinds.now field exact) (slice_index_or row.now field absent_value))) result }
+    ensures id { IfOk result (IsIdOf pool.new.texts (canon_of (slice_index_or kinds.now field exact) (slice_index_or row.now field absent_value))) }
     ensures known { OnOk result (AreKnown pool.new.texts kinds.now known.new) }
 {
     let kind = kinds[field as usize];
@@ -179,8 +143,8 @@ fn take_known(
     requires text { IsIdOf pool.old.texts (standard_text (slice_index_or row.now field absent_value)) text.now }
     requires known { AreKnown pool.old.texts kinds.now known.old }
     ensures limit { pool.new.limit ≡ pool.old.limit }
-    ensures texts { TakesTexts pool.old pool.new (option_to_list (canon_of (slice_index_or kinds.now field by.Exact) (slice_index_or row.now field absent_value))) result }
-    ensures id { IfOk result (IsIdOf pool.new.texts (canon_of (slice_index_or kinds.now field by.Exact) (slice_index_or row.now field absent_value))) }
+    ensures texts { TakesTexts pool.old pool.new (option_to_list (canon_of (slice_index_or kinds.now field exact) (slice_index_or row.now field absent_value))) result }
+    ensures id { IfOk result (IsIdOf pool.new.texts (canon_of (slice_index_or kinds.now field exact) (slice_index_or row.now field absent_value))) }
     ensures known { OnOk result (AreKnown pool.new.texts kinds.now known.new) }
 {
     let kind = kinds[field as usize];
@@ -206,8 +170,8 @@ fn take_side(
     requires text { IsIdOf pool.old.texts (standard_text (slice_index_or row.now field absent_value)) text }
     requires known { AreKnown pool.old.texts kinds.now known.old }
     ensures limit { pool.new.limit ≡ pool.old.limit }
-    ensures texts { TakesTexts pool.old pool.new (option_to_list (canon_of (slice_index_or kinds.now field by.Exact) (slice_index_or row.now field absent_value))) result }
-    ensures side { IfOk result (λ side. (final : List (List ℕ)) → Extends pool.new.texts final → side_of final (slice_index_or kinds.now field by.Exact) (slice_index_or row.now field absent_value) ≡ side) }
+    ensures texts { TakesTexts pool.old pool.new (option_to_list (canon_of (slice_index_or kinds.now field exact) (slice_index_or row.now field absent_value))) result }
+    ensures side { IfOk result (λ side. (final : List (List ℕ)) → Extends pool.new.texts final → side_of final (slice_index_or kinds.now field exact) (slice_index_or row.now field absent_value) ≡ side) }
     ensures known { OnOk result (AreKnown pool.new.texts kinds.now known.new) }
 {
     let kind = kinds[field as usize];

@@ -10,13 +10,13 @@ ghost use Rattle.standard_files.specs.Known.{IsIdOf, IsKnownFile, IsKnownRow};
 ghost use Rattle.standard_files.specs.Ready.{AreInRange, HasParts, IsRowFor};
 ghost use Rattle.standard_files.specs.Taking.{Extends, TakesTexts};
 ghost use Rattle.standard_files.specs.Texts.{both_texts, file_texts, parts_in_pass, parts_of_row, standard_text};
-ghost use Rattle.value_forms.specs.Canons.{canon_of, compares_days, value_part};
+ghost use Rattle.value_forms.specs.Canons.{canon_of, compares_days, canon_by};
 
 use crate::canons::take_part;
 use crate::texts::TextIds;
 use block_passes::count_parts;
 use comparators::{IdTable, IdValue};
-use link_base::{CompareKind, KeyKind, NoMemory, Part, Pass, PassList, Row, Sides, StdFile};
+use link_base::{Canon, CompareKind, NoMemory, Part, Pass, PassList, Row, Sides, StdFile};
 use std::alloc::Global;
 use value_pool::{Id, MaybeId, Pool, PoolFault};
 
@@ -28,25 +28,22 @@ pub(crate) struct KeyIds {
 }
 
 // The id of the part that a word makes by its standard text, if the part is this text.
-fn id_of_text(key: KeyKind, text: Option<Id>) -> Option<Id>
-    ensures { IfSome result (λ id. (held : List (List ℕ)) (v : FieldValue) → IsIdOf held (standard_text v) text → IsIdOf held (value_part key v) (Some id)) }
+fn id_of_text(key: Canon, text: Option<Id>) -> Option<Id>
+    ensures { IfSome result (λ id. (held : List (List ℕ)) (v : FieldValue) → IsIdOf held (standard_text v) text → IsIdOf held (canon_by key v) (Some id)) }
 {
     match key {
-        KeyKind::Whole => text,
+        Canon::Whole => text,
         _ => None,
     }
 }
 
 // Whether the part that a value makes is its canon.
-fn is_canon(key: KeyKind, kind: CompareKind) -> bool
-    ensures canon { IsTrue result → (v : FieldValue) → value_part key v ≡ canon_of kind v }
+fn is_canon(key: Canon, kind: CompareKind) -> bool
+    ensures canon { IsTrue result → (v : FieldValue) → canon_by key v ≡ canon_of kind v }
     ensures by_id { IsTrue result → compares_days kind ≡ false }
 {
-    match (key, kind) {
-        (KeyKind::Whole, CompareKind::Exact) => true,
-        (KeyKind::Soundex, CompareKind::BySoundex) => true,
-        (KeyKind::Nysiis, CompareKind::ByNysiis) => true,
-        (KeyKind::First(n), CompareKind::FirstLetters(m)) => n == m,
+    match kind {
+        CompareKind::Same(canon) => canon == key,
         _ => false,
     }
 }
@@ -86,10 +83,7 @@ fn take_row_part(
     if is_canon(part.key, kinds[field]) {
         return Ok(id_of_side(sides[field]));
     }
-    match take_part(alloc, pool, part.key, &row.value(field)) {
-        Ok(side) => Ok(id_of_side(side)),
-        Err(fault) => Err(fault),
-    }
+    take_part(alloc, pool, part.key, &row.value(field))
 }
 
 // Takes the parts of the key of a row in a pass, also where some other part is missing, and appends their ids.

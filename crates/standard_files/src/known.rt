@@ -3,12 +3,12 @@ ghost use Rattle.std.specs.Prelude.{◌≡◌, ◌<◌, IsTrue, length, List, �
 ghost use Rattle.link_base.specs.Rows.{value_seen};
 ghost use Rattle.link_base.specs.Standard.{absent_value};
 ghost use Rattle.link_base.specs.declared.plan.CompareKind.{CompareKind as Kind};
-ghost use Rattle.link_base.specs.declared.plan.CompareKind.TheVariants as by;
+ghost use Rattle.link_base.specs.Canons.{exact};
 ghost use Rattle.standard_files.specs.Known.{AreKnown, AreKnownCanons, AreKnownDays, IsCanonAt, IsIdOf};
 ghost use Rattle.standard_files.specs.Texts.{standard_text};
 ghost use Rattle.value_forms.specs.Canons.{canon_of, exact_canon};
 
-use link_base::{CompareKind, NoMemory, Row, ValueRef};
+use link_base::{Canon, CompareKind, NoMemory, Row, ValueRef};
 use std::alloc::Global;
 use value_pool::{Id, MaybeId};
 
@@ -130,9 +130,9 @@ pub(crate) struct Known {
 
 // Whether the canon of a word is its standard text.
 fn is_text_itself(kind: CompareKind) -> bool
-    ensures { IsTrue result → kind ≡ by.Exact }
+    ensures { IsTrue result → kind ≡ exact }
 {
-    matches!(kind, CompareKind::Exact)
+    matches!(kind, CompareKind::Same(Canon::Whole))
 }
 
 impl Known {
@@ -155,7 +155,7 @@ impl Known {
         row: &Row<'_>,
     ) -> Option<Id>
         requires { field < length row.now }
-        ensures { IfSome result (λ canon. (held : List (List ℕ)) (kinds : List Kind) → slice_index_or kinds field by.Exact ≡ kind → IsIdOf held (standard_text (slice_index_or row.now field absent_value)) text.now → AreKnown held kinds self.now → IsIdOf held (canon_of kind (slice_index_or row.now field absent_value)) (Some canon)) }
+        ensures { IfSome result (λ canon. (held : List (List ℕ)) (kinds : List Kind) → slice_index_or kinds field exact ≡ kind → IsIdOf held (standard_text (slice_index_or row.now field absent_value)) text.now → AreKnown held kinds self.now → IsIdOf held (canon_of kind (slice_index_or row.now field absent_value)) (Some canon)) }
     {
         match *text {
             Some(text) if is_text_itself(kind) => Some(text),
@@ -174,7 +174,7 @@ impl Known {
         value: &ValueRef<'_>,
         canon: Id,
     )
-        ensures { (held : List (List ℕ)) (kinds : List Kind) → slice_index_or kinds field by.Exact ≡ kind → IsIdOf held (standard_text (value_seen value.now)) text.now → IsIdOf held (canon_of kind (value_seen value.now)) (Some canon) → AreKnown held kinds self.old → AreKnown held kinds self.new }
+        ensures { (held : List (List ℕ)) (kinds : List Kind) → slice_index_or kinds field exact ≡ kind → IsIdOf held (standard_text (value_seen value.now)) text.now → IsIdOf held (canon_of kind (value_seen value.now)) (Some canon) → AreKnown held kinds self.old → AreKnown held kinds self.new }
     {
         match *text {
             Some(text) => self.canons.keep(field, text, canon),

@@ -1,5 +1,5 @@
 use Rattle.std.proofs.Common.{Some, get_or, refl}
-use Rattle.link_base.specs.declared.plan.CompareKind.TheVariants as by
+use Rattle.link_base.specs.Canons.{exact}
 use Rattle.link_base.specs.Standard.{absent_value}
 use Rattle.value_forms.specs.Canons.{canon_of}
 use Rattle.standard_files.proofs.KnownLemmas.{id-taken}
@@ -9,5 +9,5 @@ pub returns-in-Some-clause-texts : goal.returns-in-Some-clause-texts
 returns-in-Some-clause-texts c =
     let pool = c.args.pool.now in
     let kinds = c.args.kinds.now in
-    id-taken pool.limit pool.texts (canon_of (get_or kinds c.args.field by.Exact) (get_or c.args.row.now c.args.field absent_value)) (Some c.in-Some.canon)
+    id-taken pool.limit pool.texts (canon_of (get_or kinds c.args.field exact) (get_or c.args.row.now c.args.field absent_value)) (Some c.in-Some.canon)
     (c.in-Some.ensures pool.texts kinds refl c.requires.text c.requires.known)

@@ -1,7 +1,7 @@
 use Rattle.std.proofs.Common.{◌≡◌, ◌+◌, ◌++◌, ◌∷◌, [], drop, get_or, option_to_list, refl, arith, rules, length-append}
 use Rattle.value_forms.specs.Canons.{canon_of}
 use Rattle.link_base.specs.Standard.{absent_value}
-use Rattle.link_base.specs.declared.plan.CompareKind.TheVariants as by
+use Rattle.link_base.specs.Canons.{exact}
 use Rattle.standard_files.specs.Sides.{side_of, sides_of_row}
 use Rattle.standard_files.specs.Texts.{canons_of_row}
 use Rattle.standard_files.proofs.FileLemmas.{canons-at, push-sides, sides-at}
@@ -16,7 +16,7 @@ loop-field-preserved c =
     let row = c.args.row.now in
     let at = c.loop-field.field in
     let v = get_or row at absent_value in
-    let canons = option_to_list (canon_of (get_or kinds at by.Exact) v) in
+    let canons = option_to_list (canon_of (get_or kinds at exact) v) in
     let is_value : v ≡ get_or row at absent_value = refl in
     let pushed : c.push.new.self.items ≡ c.loop-field.sides.items ++ c.in_ok-side.side ∷ [] = search rules in
     record {
@@ -28,7 +28,7 @@ loop-field-preserved c =
       sides = λ final e.
           let before = extends-before c.loop-field.pool.limit canons c.loop-field.pool.texts c.take_side.new.pool.texts final c.in_ok-side.ensures.texts e in
           rw pushed (push-sides c.loop-field.sides.items (sides_of_row final (drop (at + 1) kinds) (drop (at + 1) row)) (c.args.sides.now.items ++ sides_of_row final kinds row) (sides_of_row final (drop at kinds) (drop at row))
-          (side_of final (get_or kinds at by.Exact) v) c.in_ok-side.side (c.loop-field.invariant.sides final before)
+          (side_of final (get_or kinds at exact) v) c.in_ok-side.side (c.loop-field.invariant.sides final before)
           (sides-at final kinds row at v (omega arith) c.requires.as_many is_value) (c.in_ok-side.ensures.side final e));
     }
 
@@ -49,5 +49,5 @@ returns-in_err-side-clause-texts c =
     let at = c.loop-field.field in
     let v = get_or row at absent_value in
     let is_value : v ≡ get_or row at absent_value = refl in
-    takes-refused (option_to_list (canon_of (get_or kinds at by.Exact) v)) (canons_of_row (drop (at + 1) kinds) (drop (at + 1) row)) c.in_err-side.field-0.0 c.take_side.new.pool c.from_residual.result
+    takes-refused (option_to_list (canon_of (get_or kinds at exact) v)) (canons_of_row (drop (at + 1) kinds) (drop (at + 1) row)) c.in_err-side.field-0.0 c.take_side.new.pool c.from_residual.result
     c.loop-field.invariant.goes (canons-at kinds row at v (omega arith) c.requires.as_many is_value) c.in_err-side.ensures.texts (search rules)

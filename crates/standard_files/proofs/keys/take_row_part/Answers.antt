@@ -1,17 +1,15 @@
 use Rattle.std.proofs.Common.{◌∙◌, ◌<◌, Some, ap, arith, get_or, length, refl, subst, sym}
-use Rattle.std.specs.Prelude.{option_map}
+use Rattle.std.specs.Prelude.{IfOk}
 use Rattle.std.proofs.lemmas.List.{get_or_read_under}
 use Rattle.block_passes.specs.Keys.{part_key}
 use Rattle.comparators.specs.Fields.{id_in}
 use Rattle.comparators.specs.declared.ids.IdValue.TheVariants as id
-use Rattle.link_base.specs.Rows.{value_seen}
 use Rattle.link_base.specs.Standard.{absent_value}
-use Rattle.value_forms.specs.Canons.{value_part}
-use Rattle.value_pool.specs.Texts.{place_among}
+use Rattle.value_forms.specs.Canons.{canon_by}
 use Rattle.standard_files.specs.Known.{IsIdOf}
 use Rattle.standard_files.specs.Texts.{standard_text}
 use Rattle.standard_files.proofs.HeldLemmas.{canon-held, takes-held}
-use Rattle.standard_files.proofs.KeyLemmas.{id-part, known-part, side-part}
+use Rattle.standard_files.proofs.KeyLemmas.{id-part, known-part, parts-named}
 use Rattle.standard_files.proofs.KnownLemmas.{id-taken, ids-at, ids-many}
 use Rattle.standard_files.proofs.keys.take_row_part.Goals.{In-Some}
 use Rattle.standard_files.proofs.keys.take_row_part.Goals as goal
@@ -54,10 +52,6 @@ returns-then-is_canon-clause-id c final e =
     (c.is_canon.ensures.canon c.if-is_canon.true) (c.is_canon.ensures.by_id c.if-is_canon.true) e c.requires.known
     ∙ ap id_in (sym side) ∙ sym c.id_of_side.ensures
 
-pub returns-in-Ok-clause-id : goal.returns-in-Ok-clause-id
-returns-in-Ok-clause-id c final e =
-    let row = c.args.row.now in
-    let part = c.args.part in
-    let v = value_seen c.value.result in
-    ap (λ x. option_map (place_among final) (value_part part.key x)) (sym c.value.ensures) ∙ side-part final (value_part part.key v)
-    ∙ ap id_in (c.in-Ok.ensures.side final e) ∙ sym c.id_of_side-in-Ok.ensures
+pub returns-clause-id : goal.returns-clause-id
+returns-clause-id c = parts-named c.take_part.new.pool.texts (part_key c.args.row.now c.args.part) c.take_part.result
+    (subst (λ v. IfOk c.take_part.result (IsIdOf c.take_part.new.pool.texts (canon_by c.args.part.key v))) c.value.ensures c.take_part.ensures.id)
