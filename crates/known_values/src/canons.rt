@@ -1,8 +1,8 @@
 // The canons of a name; no command makes one by its comparator.
 ghost use Rattle.link_base.specs.Standard.{IsValid};
 
-use comparators::{ByNysiis, BySoundex, Exact, FirstLetters, Initials, KeyComparator};
-use link_base::{NoMemory, Text, Value};
+use comparators::{Initials, KeyComparator, SameCanon};
+use link_base::{Canon, NoMemory, Text, Value};
 use std::alloc::Global;
 
 fn is_text(canon: Result<Option<Text>, NoMemory>, wanted: &[u8]) -> bool {
@@ -12,13 +12,19 @@ fn is_text(canon: Result<Option<Text>, NoMemory>, wanted: &[u8]) -> bool {
     }
 }
 
+fn has_canon(alloc: Global, name: &Value, canon: Canon, wanted: &[u8]) -> bool
+    requires { IsValid name.now }
+{
+    is_text(SameCanon { canon }.canon(alloc, name), wanted)
+}
+
 fn has_canons(alloc: Global, name: &Value) -> bool
     requires { IsValid name.now }
 {
-    is_text(Exact.canon(alloc, name), b"KNUTH")
-        && is_text(BySoundex.canon(alloc, name), b"K530")
-        && is_text(ByNysiis.canon(alloc, name), b"NAT")
-        && is_text(FirstLetters { n: 3 }.canon(alloc, name), b"KNU")
+    has_canon(alloc, name, Canon::Whole, b"KNUTH")
+        && has_canon(alloc, name, Canon::Soundex, b"K530")
+        && has_canon(alloc, name, Canon::Nysiis, b"NAT")
+        && has_canon(alloc, name, Canon::FirstLetters(3), b"KNU")
         && is_text(Initials.canon(alloc, name), b"K")
 }
 

@@ -6,6 +6,7 @@ use Rattle.std.proofs.Math.ListN.{get_or-append}
 use Rattle.std.proofs.Math.Seq.{get_or-append_seam}
 use Rattle.std.proofs.lemmas.Bool.{cases_lt}
 use Rattle.std.proofs.lemmas.List.{get_or_default}
+use Rattle.link_base.specs.Canons.{exact}
 use Rattle.link_base.specs.declared.plan.CompareKind.{CompareKind}
 use Rattle.link_base.specs.declared.plan.CompareKind.TheVariants as by
 use Rattle.link_base.specs.declared.plan.FieldSort.TheVariants as sort
@@ -20,16 +21,13 @@ use Rattle.pair_decisions.specs.Comparators.{SideComparator, answers_of, compara
 use Rattle.pair_decisions.specs.Sides.{AreSidesOf, IsOfTexts}
 
 -- a side of a kind that is compared by a canon has a count
-counted_id : (texts : ℕ) (side : IdValue) → IsFieldSide (field_of by.Exact) side → IsOfTexts texts side → IsCounted texts side
+counted_id : (texts : ℕ) (side : IdValue) → IsFieldSide (field_of exact) side → IsOfTexts texts side → IsCounted texts side
 counted_id texts id.Absent h of_texts = tt
 counted_id texts (id.Id place) h of_texts = of_texts
 counted_id texts (id.Day day) h of_texts = absurd h
 
 pub counted_side : (kind : CompareKind) (texts : ℕ) (side : IdValue) → may_be_rare kind ≡ true → IsFieldSide (field_of kind) side → IsOfTexts texts side → IsCounted texts side
-counted_side by.Exact texts side canon h of_texts = counted_id texts side h of_texts
-counted_side by.BySoundex texts side canon h of_texts = counted_id texts side h of_texts
-counted_side by.ByNysiis texts side canon h of_texts = counted_id texts side h of_texts
-counted_side (by.FirstLetters n) texts side canon h of_texts = counted_id texts side h of_texts
+counted_side (by.Same c) texts side canon h of_texts = counted_id texts side h of_texts
 counted_side by.Initials texts side canon h of_texts = counted_id texts side h of_texts
 counted_side (by.DaysWithin t) texts side canon h of_texts = absurd (cc)
 counted_side (by.YearsWithin t) texts side canon h of_texts = absurd (cc)
@@ -40,10 +38,7 @@ canon_of_rare kind rare most e h = (subst (λ (o : Option ℕ). IfSome o (IsRare
 
 -- a comparator can answer `Rare` exactly where there is a rare number
 kind_not_rare : (kind : CompareKind) → field_rare (field_of kind) ≡ false
-kind_not_rare by.Exact = refl
-kind_not_rare by.BySoundex = refl
-kind_not_rare by.ByNysiis = refl
-kind_not_rare (by.FirstLetters n) = refl
+kind_not_rare (by.Same c) = refl
 kind_not_rare by.Initials = refl
 kind_not_rare (by.DaysWithin t) = refl
 kind_not_rare (by.YearsWithin t) = refl
@@ -84,7 +79,7 @@ asked_more texts fields all i f c len lt is here so_far k d g side within h of_t
     ]
 
 no_field : FieldKeys
-no_field = record { name = []; column_a = []; column_b = []; sort = sort.Name; compare = by.Exact; rare = None; shares = None }
+no_field = record { name = []; column_a = []; column_b = []; sort = sort.Name; compare = exact; rare = None; shares = None }
 
 -- the sides of a row, one for each comparator
 pub sides_valid : (texts : ℕ) (fields : List FieldKeys) (all : List FieldById) (sides : List IdValue) → AreSidesOf texts fields sides → length all ≡ length fields → AskedOf texts fields all (length fields) → AreSides IsFieldSide all sides

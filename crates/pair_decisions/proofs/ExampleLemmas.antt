@@ -17,10 +17,7 @@ use Rattle.pair_decisions.specs.Sides.{AreSidesOf, IsOfTexts}
 use Rattle.link_plan.specs.Plan.{FieldKeys}
 
 absent_side : (kind : CompareKind) → IsFieldSide (field_of kind) id.Absent
-absent_side by.Exact = tt
-absent_side by.BySoundex = tt
-absent_side by.ByNysiis = tt
-absent_side (by.FirstLetters n) = tt
+absent_side (by.Same c) = tt
 absent_side by.Initials = tt
 absent_side (by.DaysWithin t) = tt
 absent_side (by.YearsWithin t) = tt

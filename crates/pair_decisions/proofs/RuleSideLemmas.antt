@@ -6,7 +6,7 @@ use Rattle.std.proofs.lemmas.List.{get_or-map, length-map, take-append-le, take_
 use Rattle.std.proofs.lemmas.Option.{slice_get_within}
 use Rattle.link_base.specs.Standard.{absent_value}
 use Rattle.link_base.specs.declared.plan.CompareKind.{CompareKind}
-use Rattle.link_base.specs.declared.plan.CompareKind.TheVariants as by
+use Rattle.link_base.specs.Canons.{exact}
 use Rattle.link_base.specs.declared.shares.Shape.{Shape}
 use Rattle.link_base.specs.declared.standard.Value.{Value}
 use Rattle.comparators.specs.Fields.{IsFieldSide, field_of}
@@ -37,17 +37,17 @@ kinds_in fields = map (λ (f : FieldKeys). f.compare) fields
 
 -- valid sides that stand for the values of a row
 pub sides_of_fields : (texts : List (List ℕ)) (fields : List FieldKeys) (row : List Value) (sides : List IdValue) → length sides ≡ length (kinds_in fields)
-    → ((k : ℕ) → k < length (kinds_in fields) → StandsFor texts (get_or (kinds_in fields) k by.Exact) (get_or row k absent_value) (get_or sides k id.Absent))
-    → ((k : ℕ) → k < length (kinds_in fields) → IsFieldSide (field_of (get_or (kinds_in fields) k by.Exact)) (get_or sides k id.Absent))
+    → ((k : ℕ) → k < length (kinds_in fields) → StandsFor texts (get_or (kinds_in fields) k exact) (get_or row k absent_value) (get_or sides k id.Absent))
+    → ((k : ℕ) → k < length (kinds_in fields) → IsFieldSide (field_of (get_or (kinds_in fields) k exact)) (get_or sides k id.Absent))
     → AreSidesOf (length texts) fields sides
 sides_of_fields texts fields row sides as_many stand valid =
     let size : length (kinds_in fields) ≡ length fields = length-map fields (λ (f : FieldKeys). f.compare) in
     record {
       as_many = as_many ∙ size;
       valid = λ k f lt.
-          let kind : get_or (kinds_in fields) k by.Exact ≡ (get_or fields k f).compare = get_or-map (λ (g : FieldKeys). g.compare) fields k f by.Exact lt in
+          let kind : get_or (kinds_in fields) k exact ≡ (get_or fields k f).compare = get_or-map (λ (g : FieldKeys). g.compare) fields k f exact lt in
           subst (λ (x : CompareKind). IsFieldSide (field_of x) (get_or sides k id.Absent)) kind (valid k (omega arith));
-      of_texts = λ k lt. stands_within texts (get_or (kinds_in fields) k by.Exact) (get_or row k absent_value) (get_or sides k id.Absent) (stand k (omega arith));
+      of_texts = λ k lt. stands_within texts (get_or (kinds_in fields) k exact) (get_or row k absent_value) (get_or sides k id.Absent) (stand k (omega arith));
     }
 
 -- the shape of a plan's patterns has its rare fields

@@ -6,8 +6,8 @@ use Rattle.value_forms.proofs.ReadableLemmas.{readable_valid}
 use Rattle.block_passes.specs.Index.{row_at}
 use Rattle.block_passes.specs.Keys.{AreReadable, InRange}
 use Rattle.link_base.specs.Standard.{IsValid, Record, absent_value, no_record}
-use Rattle.link_base.specs.declared.plan.KeyKind.{KeyKind}
-use Rattle.link_base.specs.declared.plan.KeyKind.TheVariants.{Soundex}
+use Rattle.link_base.specs.declared.plan.Canon.{Canon}
+use Rattle.link_base.specs.declared.plan.Canon.TheVariants.{Soundex}
 use Rattle.link_base.specs.declared.standard.Value.{Value}
 use Rattle.pair_walk.specs.Rows.{AreAllReady}
 
@@ -15,13 +15,13 @@ use Rattle.pair_walk.specs.Rows.{AreAllReady}
 abbrev AreOne : List Record → Type 0
 AreOne file = All (λ (r : Record). (length r.row ≡ 1) × All IsValid r.row) file
 
-part-in-range : (field : ℕ) (kind : KeyKind) (row : List Value) → field < length row → InRange row (record { field = field; key = kind } ∷ [])
-part-in-range field kind row lt zero below = lt
-part-in-range field kind row lt (suc k) below = absurd (omega arith)
+part-in-range : (field : ℕ) (canon : Canon) (row : List Value) → field < length row → InRange row (record { field = field; key = canon } ∷ [])
+part-in-range field canon row lt zero below = lt
+part-in-range field canon row lt (suc k) below = absurd (omega arith)
 
-part-readable : (field : ℕ) (kind : KeyKind) (row : List Value) → IsValid (get_or row field absent_value) → AreReadable row (record { field = field; key = kind } ∷ [])
-part-readable field kind row h zero below = readable_valid kind (get_or row field absent_value) h
-part-readable field kind row h (suc k) below = absurd (omega arith)
+part-readable : (field : ℕ) (canon : Canon) (row : List Value) → IsValid (get_or row field absent_value) → AreReadable row (record { field = field; key = canon } ∷ [])
+part-readable field canon row h zero below = readable_valid canon (get_or row field absent_value) h
+part-readable field canon row h (suc k) below = absurd (omega arith)
 
 pub one-ready : (file : List Record) → AreOne file → AreAllReady ((record { field = 0; key = Soundex } ∷ []) ∷ []) file
 one-ready file one zero lt at below =
