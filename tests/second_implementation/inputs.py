@@ -7,6 +7,7 @@ from datetime import date, timedelta
 
 from commands import perform
 from tables import records
+from values import COMPARES, KEYS, LETTERED
 
 NAMES = "SMITH,Smyth,Schmidt,Dr. Schmidt,MUELLER,Müller,O'Brien,OBrien,Lee,Li,-,,Mac Kay,McKay,KNUTH jr,Østergård,日本,Élise Ann,Élise B"
 PIECES = "MR,dr.,Prof,SIR,JR,III,iv,Mac,KN,SCH,PH,PF,EV,EE,IE,ND,RT,DT,-,?,N/A".split(",")
@@ -93,8 +94,8 @@ def some_field(chance: random.Random, name: str, is_sampled: bool) -> dict:
     made: dict = {"name": name, "kind": kind}
     made |= {side: chance.choice(["ymd", "dmy", "mdy"]) for side in ("form_a", "form_b") if kind == "date"}
     made |= {f"column_{side}": f"{chance.choice(['last name', 'Straße', 'x;y', 'a,b'])} {name}" for side in "ab" if chance.random() < 0.2}
-    made["compare"] = chance.choice(["exact", "days", "years"] if kind == "date" else ["exact", "soundex", "nysiis", "first", "initials"])
-    if made["compare"] == "first":
+    made["compare"] = chance.choice(COMPARES[kind == "date"])
+    if made["compare"] in LETTERED:
         made["n"] = chance.randint(1, 4)
     if made["compare"] in ("days", "years"):
         made["t"] = chance.randint(0, 40 if made["compare"] == "days" else 1)
@@ -109,8 +110,8 @@ def some_field(chance: random.Random, name: str, is_sampled: bool) -> dict:
 
 
 def some_part(chance: random.Random, of: dict) -> dict:
-    key = chance.choice(["whole", "year"] if of["kind"] == "date" else ["whole", "soundex", "nysiis", "first"])
-    return {"field": of["name"], "key": key} | ({"n": chance.randint(1, 3)} if key == "first" else {})
+    key = chance.choice(KEYS[of["kind"] == "date"])
+    return {"field": of["name"], "key": key} | ({"n": chance.randint(1, 3)} if key in LETTERED else {})
 
 
 def some_plan(chance: random.Random) -> dict:

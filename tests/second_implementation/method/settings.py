@@ -7,12 +7,10 @@ from functools import lru_cache
 from typing import Any
 
 from tables import refuse_if
+from values import COMPARES, KEYS, LETTERED, MARKS, SUFFIXES, TITLES
 
 OUTPUTS = ("pairs.csv", "rule.csv", "links.csv", "prices.csv", "report.txt")
-MARKS, TITLES, SUFFIXES = ("", "-", "?", "N/A"), ("MR", "MRS", "MS", "MISS", "DR", "PROF", "REV", "SIR"), ("JR", "SR", "II", "III", "IV")
 DELIMITERS = {"comma": b",", "semicolon": b";", "tab": b"\t"}
-COMPARES = {False: ("exact", "soundex", "nysiis", "first", "initials"), True: ("exact", "days", "years")}
-KEYS = {False: ("whole", "soundex", "nysiis", "first"), True: ("whole", "year")}
 NEEDED = object()
 Reader = Callable[[str, Any], Any]
 
@@ -108,7 +106,7 @@ def field(has_sample: bool) -> Reader:
         "form_a": lambda it: needed(form, it["kind"] == "date"),
         "form_b": lambda it: needed(form, it["kind"] == "date"),
         "compare": lambda it: needed(choice(COMPARES[it["kind"] == "date"])),
-        "n": lambda it: needed(whole(1, 20), it["compare"] == "first"),
+        "n": lambda it: needed(whole(1, 20), it["compare"] in LETTERED),
         "t": lambda it: needed(whole(0, 36_500 if it["compare"] == "days" else 100), it["compare"] in ("days", "years")),
         "rare": lambda it: (None if it["compare"] in ("days", "years") else whole(2, 200_000), None),
         "m": lambda it: needed(shares(3 if it["rare"] is None else 4), not has_sample),
@@ -129,7 +127,7 @@ def blocking_pass(fields: tuple[Keys, ...]) -> Reader:
     rules = {
         "field": lambda it: needed(choice(by_name)),
         "key": lambda it: needed(choice(KEYS[by_name[it["field"]]["kind"] == "date"])),
-        "n": lambda it: needed(whole(1, 20), it["key"] == "first"),
+        "n": lambda it: needed(whole(1, 20), it["key"] in LETTERED),
     }
     part = lambda path, value: keys(path, value, rules)
     return lambda path, value: keys(path, value, {"parts": lambda _: needed(array(1, 4, part))})["parts"]

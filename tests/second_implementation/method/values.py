@@ -5,10 +5,13 @@ import unicodedata
 from datetime import date
 from functools import cache
 
-from settings import MARKS, SUFFIXES, TITLES
-
 Value = str | date | None
 Listed = tuple[str, ...]
+MARKS, TITLES, SUFFIXES = ("", "-", "?", "N/A"), ("MR", "MRS", "MS", "MISS", "DR", "PROF", "REV", "SIR"), ("JR", "SR", "II", "III", "IV")
+# The words of comparisons and of keys: of names and places, and of dates; and those that take a number of letters
+COMPARES = {False: ("exact", "soundex", "nysiis", "first", "initials"), True: ("exact", "days", "years")}
+KEYS = {False: ("whole", "soundex", "nysiis", "first"), True: ("whole", "year")}
+LETTERED = ("first",)
 # Unicode's property White_Space
 WHITE = "\t\n\v\f\r \x85\xa0\u1680" + "".join(map(chr, range(0x2000, 0x200B))) + "\u2028\u2029\u202f\u205f\u3000"
 LETTERS = {"ß": "SS", "ẞ": "SS", "Æ": "AE", "æ": "AE", "Œ": "OE", "œ": "OE", "Ø": "O", "ø": "O", "Ł": "L", "ł": "L"}
