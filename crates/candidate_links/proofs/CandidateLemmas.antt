@@ -14,7 +14,7 @@ use Rattle.link_base.specs.declared.rule.PairAt.{PairAt}
 use Rattle.link_base.specs.declared.rule.Verdict.{Verdict}
 use Rattle.link_base.specs.declared.rule.Verdict.TheVariants as verdict
 use Rattle.pair_decisions.specs.Decisions.{AreDecisionsOn, DecidedView, decision_at, is_same, pairs_with}
-use Rattle.pair_decisions.specs.PairRule.{SideRule, side_rule}
+use Rattle.pair_decisions.specs.PairRule.{FileRule, side_rule}
 use Rattle.link_base.specs.Rule.{IsPairBefore}
 use Rattle.pair_decisions.specs.Pairs.{IsInside}
 use Rattle.review_journal.specs.Verdict.{verdict_on}
@@ -76,12 +76,12 @@ module _ (h : PairAt → Option Candidate) (stands : StandsAt h) where
       (λ c is. given_all (IsPairBefore x) (IsBefore c) (λ at d lt of_d. before_as x at c d (stands x c is) of_d lt) xs after)
       (given_rise xs (λ i j d lt within. rising (suc i) (suc j) d (omega arith) (omega arith)))
 
-module _ (rule : SideRule) (rows_a rows_b : List (List IdValue)) (entries : List Entry) (award : ℕ) where
+module _ (rule : FileRule) (entries : List Entry) (award : ℕ) where
   abbrev links : PairAt → Option Candidate
-  links = of_link rule rows_a rows_b
+  links = of_link rule
 
   abbrev possibles : PairAt → Option Candidate
-  possibles = of_possible rule rows_a rows_b entries award
+  possibles = of_possible rule entries award
 
   possible_stands : (at : PairAt) (c : Candidate) (v : Option Verdict) (w : ℤ) → candidate_by_verdict v at w award ≡ Some c → IsAt at c
   possible_stands at c None w is = absurd (cc)
@@ -94,36 +94,36 @@ module _ (rule : SideRule) (rows_a rows_b : List (List IdValue)) (entries : List
   stands_by at c decision.Possible is = possible_stands at c (verdict_on entries at.a at.b) _ is
   stands_by at c decision.NonLink is = absurd (cc)
 
-  pub candidate_stands : StandsAt (candidate_of rule rows_a rows_b entries award)
-  candidate_stands at c is = stands_by at c (decision_at rule rows_a rows_b at) is
+  pub candidate_stands : StandsAt (candidate_of rule entries award)
+  candidate_stands at c is = stands_by at c (decision_at rule at) is
 
-  gives : (at : PairAt) → GivesBy links possibles (candidate_of rule rows_a rows_b entries award) (λ p. is_same decision.Link (decision_at rule rows_a rows_b p)) (λ p. is_same decision.Possible (decision_at rule rows_a rows_b p)) at
-  gives at = by_kind (decision_at rule rows_a rows_b at) refl
+  gives : (at : PairAt) → GivesBy links possibles (candidate_of rule entries award) (λ p. is_same decision.Link (decision_at rule p)) (λ p. is_same decision.Possible (decision_at rule p)) at
+  gives at = by_kind (decision_at rule at) refl
     where
-      by_kind : (kind : Decision) → decision_at rule rows_a rows_b at ≡ kind
-          → GivesBy links possibles (candidate_of rule rows_a rows_b entries award) (λ p. is_same decision.Link (decision_at rule rows_a rows_b p)) (λ p. is_same decision.Possible (decision_at rule rows_a rows_b p)) at
+      by_kind : (kind : Decision) → decision_at rule at ≡ kind
+          → GivesBy links possibles (candidate_of rule entries award) (λ p. is_same decision.Link (decision_at rule p)) (λ p. is_same decision.Possible (decision_at rule p)) at
       by_kind decision.Link is = by_link (rw is refl) (rw is refl) (rw is refl)
       by_kind decision.Possible is = by_possible (rw is refl) (rw is refl) (rw is refl)
       by_kind decision.NonLink is = by_none (rw is refl) (rw is refl) (rw is refl)
 
   -- links and possible links, taken together, give the candidates of all pairs
   pub merged_all : (pairs : List PairAt) → AllPairs IsPairBefore pairs
-      → merged links possibles (pairs_with decision.Link rule rows_a rows_b pairs) (pairs_with decision.Possible rule rows_a rows_b pairs) ≡ candidates_of rule rows_a rows_b entries award pairs
-  merged_all pairs rising = merged_filters links possibles (candidate_of rule rows_a rows_b entries award) _ _ gives pairs rising
+      → merged links possibles (pairs_with decision.Link rule pairs) (pairs_with decision.Possible rule pairs) ≡ candidates_of rule entries award pairs
+  merged_all pairs rising = merged_filters links possibles (candidate_of rule entries award) _ _ gives pairs rising
 
 -- the candidates of decided lists are those of every list of pairs of which these are the decisions
 pub are_candidates : (rows_a rows_b : List (List IdValue)) (entries : List Entry) (award : ℕ) (d : DecidedView) (cs : List Candidate) → most_value award ≤ℤ pos MOST_VALUE
-    → cs ≡ merged (of_link (side_rule d.rule) rows_a rows_b) (of_possible (side_rule d.rule) rows_a rows_b entries award) d.links d.possible
+    → cs ≡ merged (of_link (side_rule d.rule rows_a rows_b)) (of_possible (side_rule d.rule rows_a rows_b) entries award) d.links d.possible
     → All (λ (c : Candidate). c.value ≤ℤ most_value award) cs
-    → (pairs : List PairAt) → AreDecisionsOn rows_a rows_b pairs d → AreCandidates (length rows_a) (length rows_b) (candidates_of (side_rule d.rule) rows_a rows_b entries award pairs) cs
+    → (pairs : List PairAt) → AreDecisionsOn rows_a rows_b pairs d → AreCandidates (length rows_a) (length rows_b) (candidates_of (side_rule d.rule rows_a rows_b) entries award pairs) cs
 are_candidates rows_a rows_b entries award d cs small is most pairs are =
-    let rule = side_rule d.rule in
-    let h = candidate_of rule rows_a rows_b entries award in
-    let stands : StandsAt h = candidate_stands rule rows_a rows_b entries award in
-    let f = of_link rule rows_a rows_b in
-    let g = of_possible rule rows_a rows_b entries award in
-    let lists : merged f g d.links d.possible ≡ merged f g (pairs_with decision.Link rule rows_a rows_b pairs) (pairs_with decision.Possible rule rows_a rows_b pairs) = λ i. merged f g (are.links i) (are.possible i) in
-    let same : cs ≡ candidates_of rule rows_a rows_b entries award pairs = is ∙ lists ∙ merged_all rule rows_a rows_b entries award pairs are.rising in
+    let rule = side_rule d.rule rows_a rows_b in
+    let h = candidate_of rule entries award in
+    let stands : StandsAt h = candidate_stands rule entries award in
+    let f = of_link rule in
+    let g = of_possible rule entries award in
+    let lists : merged f g d.links d.possible ≡ merged f g (pairs_with decision.Link rule pairs) (pairs_with decision.Possible rule pairs) = λ i. merged f g (are.links i) (are.possible i) in
+    let same : cs ≡ candidates_of rule entries award pairs = is ∙ lists ∙ merged_all rule entries award pairs are.rising in
     record {
       same = same;
       few = omega (arith, ap length same, given_few h stands pairs, are.few);

@@ -5,7 +5,6 @@ use Rattle.std.proofs.lemmas.Int.{ints}
 use Rattle.std.proofs.lemmas.List.Elements.{All-contains_itself, All-head, All-nil, All-tail}
 use Rattle.price_check.proofs.Bounds.{bounded_by_candidates, greatest_value-least}
 use Rattle.price_check.specs.Assignment.{Certifies, IsOneToOne, price_of}
-use Rattle.comparators.specs.declared.ids.IdValue.{IdValue}
 use Rattle.link_base.specs.Rule.{empty_cell, IsWithinRanges}
 use Rattle.link_base.specs.declared.rule.Candidate.{Candidate}
 use Rattle.link_base.specs.declared.rule.Decision.{Decision}
@@ -15,8 +14,8 @@ use Rattle.link_base.specs.declared.rule.RuleCell.{RuleCell}
 use Rattle.link_base.specs.declared.rule.Verdict.{Verdict}
 use Rattle.link_base.specs.declared.rule.Verdict.TheVariants as verdict
 use Rattle.link_limits.specs.declared.TheConstants.{GREATEST_WEIGHT, LEAST_WEIGHT}
-use Rattle.pair_decisions.specs.Decisions.{decision_at, pattern_at}
-use Rattle.pair_decisions.specs.PairRule.{cell_of, has_pattern, SideRule}
+use Rattle.pair_decisions.specs.Decisions.{decision_at}
+use Rattle.pair_decisions.specs.PairRule.{cell_of, has_pattern, FileRule}
 use Rattle.review_journal.specs.Verdict.{verdict_on}
 use Rattle.review_journal.specs.declared.entry.Entry.{Entry}
 use Rattle.candidate_links.proofs.CandidateLemmas.{all_if, some_same}
@@ -58,24 +57,24 @@ decision_bounds decision.Link v at w award c low high e = bounds_by w award _ c 
 decision_bounds decision.Possible v at w award c low high e = verdict_bounds v at w award c low high e
 decision_bounds decision.NonLink v at w award c low high e = absurd (cc)
 
-module _ (rule : SideRule) (rows_a rows_b : List (List IdValue)) (entries : List Entry) (award : ℕ) (ranges : All IsWithinRanges rule.cells) where
-  candidate_bounds : (at : PairAt) (c : Candidate) → candidate_of rule rows_a rows_b entries award at ≡ Some c → HasBounds award c
+module _ (rule : FileRule) (entries : List Entry) (award : ℕ) (ranges : All IsWithinRanges rule.cells) where
+  candidate_bounds : (at : PairAt) (c : Candidate) → candidate_of rule entries award at ≡ Some c → HasBounds award c
   candidate_bounds at c e =
-      decision_bounds (decision_at rule rows_a rows_b at) (verdict_on entries at.a at.b) at (weight_of_pair rule rows_a rows_b at) award c
-      (weight_least rule.cells (pattern_at rule rows_a rows_b at) ranges) (weight_most rule.cells (pattern_at rule rows_a rows_b at) ranges) e
+      decision_bounds (decision_at rule at) (verdict_on entries at.a at.b) at (weight_of_pair rule at) award c
+      (weight_least rule.cells (rule.pattern at) ranges) (weight_most rule.cells (rule.pattern at) ranges) e
 
-  pub all_bounds : (pairs : List PairAt) → All (HasBounds award) (candidates_of rule rows_a rows_b entries award pairs)
+  pub all_bounds : (pairs : List PairAt) → All (HasBounds award) (candidates_of rule entries award pairs)
   all_bounds [] = All-nil (HasBounds award)
   all_bounds (at ∷ pairs) =
-      all_if (HasBounds award) (candidates_of rule rows_a rows_b entries award pairs) (candidate_of rule rows_a rows_b entries award at) (candidate_bounds at) (all_bounds pairs)
+      all_if (HasBounds award) (candidates_of rule entries award pairs) (candidate_of rule entries award at) (candidate_bounds at) (all_bounds pairs)
 
-  values_most : (pairs : List PairAt) → All (λ (c : Candidate). c.value ≤ℤ most_value award) (candidates_of rule rows_a rows_b entries award pairs)
+  values_most : (pairs : List PairAt) → All (λ (c : Candidate). c.value ≤ℤ most_value award) (candidates_of rule entries award pairs)
   values_most pairs k d lt = (all_bounds pairs k d lt).value_high
 
-  pub prices_most : (pairs : List PairAt) (links : List Candidate) (prices_a prices_b : List ℤ) → IsOneToOne (candidates_of rule rows_a rows_b entries award pairs) links
-      → Certifies (candidates_of rule rows_a rows_b entries award pairs) links prices_a prices_b → (position : ℕ) → (price_of prices_a position ≤ℤ most_value award) × (price_of prices_b position ≤ℤ most_value award)
+  pub prices_most : (pairs : List PairAt) (links : List Candidate) (prices_a prices_b : List ℤ) → IsOneToOne (candidates_of rule entries award pairs) links
+      → Certifies (candidates_of rule entries award pairs) links prices_a prices_b → (position : ℕ) → (price_of prices_a position ≤ℤ most_value award) × (price_of prices_b position ≤ℤ most_value award)
   prices_most pairs links prices_a prices_b one cert position =
-      let cs : List Candidate = candidates_of rule rows_a rows_b entries award pairs in
+      let cs : List Candidate = candidates_of rule entries award pairs in
       let bounded = bounded_by_candidates cs links prices_a prices_b one cert position in
       let least = greatest_value-least cs cs (most_value award) (All-contains_itself cs) (omega (arith, ints)) (values_most pairs) in
       (omega (arith, ints, bounded.0, least), omega (arith, ints, bounded.1, least))

@@ -5,21 +5,20 @@ use Rattle.std.specs.Prelude.{◌≡◌, ◌≤◌, ◌+ℤ◌, ◌≤ℤ◌, �
 use Rattle.link_limits.specs.declared.TheConstants.{GREATEST_WEIGHT, LEAST_WEIGHT, MOST_PAIRS}
 use Rattle.assignment.specs.Solution.{HasSmallValue}
 use Rattle.price_check.specs.Assignment.{IsBefore, IsWithin}
-use Rattle.comparators.specs.declared.ids.IdValue.{IdValue}
 use Rattle.link_base.specs.declared.rule.Candidate.{Candidate}
 use Rattle.link_base.specs.declared.rule.Decision.{Decision}
 use Rattle.link_base.specs.declared.rule.Decision.TheVariants as decision
 use Rattle.link_base.specs.declared.rule.PairAt.{PairAt}
 use Rattle.link_base.specs.declared.rule.Verdict.{Verdict}
 use Rattle.link_base.specs.declared.rule.Verdict.TheVariants as verdict
-use Rattle.pair_decisions.specs.Decisions.{decision_at, pattern_at}
-use Rattle.pair_decisions.specs.PairRule.{SideRule, cell_of}
+use Rattle.pair_decisions.specs.Decisions.{decision_at}
+use Rattle.pair_decisions.specs.PairRule.{cell_of, FileRule}
 use Rattle.review_journal.specs.Verdict.{verdict_on}
 use Rattle.review_journal.specs.declared.entry.Entry.{Entry}
 
 -- the weight of the comparison pattern of a pair, in eighths of a bit
-abbrev pub weight_of_pair : SideRule → List (List IdValue) → List (List IdValue) → PairAt → ℤ
-weight_of_pair rule rows_a rows_b at = (cell_of rule.cells (pattern_at rule rows_a rows_b at)).weight
+abbrev pub weight_of_pair : FileRule → PairAt → ℤ
+weight_of_pair rule at = (cell_of rule.cells (rule.pattern at)).weight
 
 -- a link by rule is worth its weight
 abbrev pub linked : PairAt → ℤ → Candidate
@@ -35,12 +34,12 @@ candidate_by_verdict (Some verdict.Link) at weight award = Some (reviewed at wei
 candidate_by_verdict other at weight award = None
 
 -- a link by rule as a candidate
-abbrev pub of_link : SideRule → List (List IdValue) → List (List IdValue) → PairAt → Option Candidate
-of_link rule rows_a rows_b at = Some (linked at (weight_of_pair rule rows_a rows_b at))
+abbrev pub of_link : FileRule → PairAt → Option Candidate
+of_link rule at = Some (linked at (weight_of_pair rule at))
 
 -- a possible link as a candidate, by the entries of a journal and the award
-abbrev pub of_possible : SideRule → List (List IdValue) → List (List IdValue) → List Entry → ℕ → PairAt → Option Candidate
-of_possible rule rows_a rows_b entries award at = candidate_by_verdict (verdict_on entries at.a at.b) at (weight_of_pair rule rows_a rows_b at) award
+abbrev pub of_possible : FileRule → List Entry → ℕ → PairAt → Option Candidate
+of_possible rule entries award at = candidate_by_verdict (verdict_on entries at.a at.b) at (weight_of_pair rule at) award
 
 -- what a pair gives by its decision
 abbrev pub by_decision : Decision → Option Candidate → Option Candidate → Option Candidate
@@ -48,14 +47,14 @@ by_decision decision.Link link possible = link
 by_decision decision.Possible link possible = possible
 by_decision decision.NonLink link possible = None
 
--- a pair of positions as a candidate, by a rule over rows of sides, the entries of a journal and the award
-abbrev pub candidate_of : SideRule → List (List IdValue) → List (List IdValue) → List Entry → ℕ → PairAt → Option Candidate
-candidate_of rule rows_a rows_b entries award at =
-    by_decision (decision_at rule rows_a rows_b at) (of_link rule rows_a rows_b at) (of_possible rule rows_a rows_b entries award at)
+-- a pair of positions as a candidate, by a rule over two files, the entries of a journal and the award
+abbrev pub candidate_of : FileRule → List Entry → ℕ → PairAt → Option Candidate
+candidate_of rule entries award at =
+    by_decision (decision_at rule at) (of_link rule at) (of_possible rule entries award at)
 
 -- the candidates among pairs, in their order
-abbrev pub candidates_of : SideRule → List (List IdValue) → List (List IdValue) → List Entry → ℕ → List PairAt → List Candidate
-candidates_of rule rows_a rows_b entries award pairs = filter_map (candidate_of rule rows_a rows_b entries award) pairs
+abbrev pub candidates_of : FileRule → List Entry → ℕ → List PairAt → List Candidate
+candidates_of rule entries award pairs = filter_map (candidate_of rule entries award) pairs
 
 -- the greatest value that a candidate may have: the greatest weight and the award
 abbrev pub most_value : ℕ → ℤ

@@ -21,7 +21,7 @@ fn weight_of_pair(rule: &PairRule, sides_a: &IdTable, sides_b: &IdTable, at: Pai
     requires sides_a { All (AreSidesFor rule.now) sides_a.now.rows }
     requires sides_b { All (AreSidesFor rule.now) sides_b.now.rows }
     requires inside { IsInside (length sides_a.now.rows) (length sides_b.now.rows) at }
-    ensures weight { result ≡ weight_of_pair (side_rule rule.now) sides_a.now.rows sides_b.now.rows at }
+    ensures weight { result ≡ weight_of_pair (side_rule rule.now sides_a.now.rows sides_b.now.rows) at }
     ensures least { LEAST_WEIGHT ≤ℤ result }
     ensures most { result ≤ℤ GREATEST_WEIGHT }
 {
@@ -64,7 +64,7 @@ fn of_link(rule: &PairRule, sides_a: &IdTable, sides_b: &IdTable, at: PairAt) ->
     requires sides_a { All (AreSidesFor rule.now) sides_a.now.rows }
     requires sides_b { All (AreSidesFor rule.now) sides_b.now.rows }
     requires inside { IsInside (length sides_a.now.rows) (length sides_b.now.rows) at }
-    ensures candidate { Some result ≡ of_link (side_rule rule.now) sides_a.now.rows sides_b.now.rows at }
+    ensures candidate { Some result ≡ of_link (side_rule rule.now sides_a.now.rows sides_b.now.rows) at }
     ensures most { result.value ≤ℤ GREATEST_WEIGHT }
 {
     linked(at, weight_of_pair(rule, sides_a, sides_b, at))
@@ -83,7 +83,7 @@ fn of_possible(
     requires sides_a { All (AreSidesFor rule.now) sides_a.now.rows }
     requires sides_b { All (AreSidesFor rule.now) sides_b.now.rows }
     requires inside { IsInside (length sides_a.now.rows) (length sides_b.now.rows) at }
-    ensures candidate { result ≡ of_possible (side_rule rule.now) sides_a.now.rows sides_b.now.rows journal.now award at }
+    ensures candidate { result ≡ of_possible (side_rule rule.now sides_a.now.rows sides_b.now.rows) journal.now award at }
     ensures most { IfSome result (λ c. c.value ≤ℤ most_value award) }
 {
     match journal.verdict(at.a, at.b) {
@@ -121,7 +121,7 @@ fn merged(
     requires sides_b { All (AreSidesFor rule.now) sides_b.now.rows }
     requires links { All (IsInside (length sides_a.now.rows) (length sides_b.now.rows)) links.now }
     requires possible { All (IsInside (length sides_a.now.rows) (length sides_b.now.rows)) possible.now }
-    ensures merged { IfOk result (λ cs. cs.items ≡ merged (of_link (side_rule rule.now) sides_a.now.rows sides_b.now.rows) (of_possible (side_rule rule.now) sides_a.now.rows sides_b.now.rows journal.now award) links.now possible.now) }
+    ensures merged { IfOk result (λ cs. cs.items ≡ merged (of_link (side_rule rule.now sides_a.now.rows sides_b.now.rows)) (of_possible (side_rule rule.now sides_a.now.rows sides_b.now.rows) journal.now award) links.now possible.now) }
     ensures most { IfOk result (λ cs. All (λ (c : ACandidate). c.value ≤ℤ most_value award) cs.items) }
 {
     let mut candidates = Vec::with_capacity(alloc, links.len())?;
@@ -159,7 +159,7 @@ pub fn candidates_among(
     requires links { All (IsInside (length sides_a.now.rows) (length sides_b.now.rows)) decided.now.links }
     requires possible { All (IsInside (length sides_a.now.rows) (length sides_b.now.rows)) decided.now.possible }
     ensures candidates { IfOk result (λ cs. (pairs : List Pair) → AreDecisionsOn sides_a.now.rows sides_b.now.rows pairs decided.now
-        → AreCandidates (length sides_a.now.rows) (length sides_b.now.rows) (candidates_of (side_rule decided.now.rule) sides_a.now.rows sides_b.now.rows journal.now award pairs) cs.items) }
+        → AreCandidates (length sides_a.now.rows) (length sides_b.now.rows) (candidates_of (side_rule decided.now.rule sides_a.now.rows sides_b.now.rows) journal.now award pairs) cs.items) }
     ensures most { IfOk result (λ cs. All (λ (c : ACandidate). c.value ≤ℤ most_value award) cs.items) }
 {
     let candidates = merged(

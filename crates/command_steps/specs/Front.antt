@@ -5,10 +5,11 @@ use Rattle.link_base.specs.declared.fault.FileRole.TheVariants as role
 use Rattle.settings.specs.Settings.{settings}
 use Rattle.link_plan.specs.declared.plan.Plan.{Plan}
 use Rattle.link_limits.specs.declared.TheConstants.{MOST_POOLED_BYTES}
-use Rattle.link_core.specs.Prepared.{prepared, PreparedView}
+use Rattle.link_core.specs.Prepared.{files_of, prepared}
 use Rattle.link_core.specs.Rules.{counted_by}
 use Rattle.pair_decisions.specs.PlanShares.{given_in}
 use Rattle.link_plan.specs.Plan.{PlainShares}
+use Rattle.standard_files.specs.Files.{StandardPair}
 use Rattle.command_steps.specs.Steps.{◌>>=◌, file, gives, Steps}
 use Rattle.command_steps.specs.declared.front.Described.{Described}
 use Rattle.command_steps.specs.declared.front.Inputs.{Inputs}
@@ -27,22 +28,31 @@ plan_file name = do
   bytes ← file role.Settings name
   gives (settings bytes)
 
--- the two files of a plan, ready to be compared: the faults of A come first, then those of B, unreadable dates of a strict plan,
--- and the pool
-abbrev pub prepared_files : Plan → Steps PreparedView
+-- the two files of a plan in standard values: the faults of A come first, then those of B, unreadable dates of a strict plan, and want
+-- of room for their texts
+abbrev pub prepared_files : Plan → Steps StandardPair
 prepared_files plan = do
   inputs ← both_files plan.file_a plan.file_b
   gives (prepared plan MOST_POOLED_BYTES inputs.a inputs.b)
 
--- the plan of a settings file, and then the two files that it names, ready to be compared
-abbrev pub described_files : List ℕ → Steps Described
+-- a plan, and its two files in standard values
+pub record DescribedFiles : Type 0 where
+  pub plan : Plan
+  pub files : StandardPair
+
+-- machinery: as a body holds them
+abbrev pub described_of : Described → DescribedFiles
+described_of d = record { plan = d.plan; files = files_of d.files }
+
+-- the plan of a settings file, and then the two files that it names
+abbrev pub described_files : List ℕ → Steps DescribedFiles
 described_files name = do
   plan ← plan_file name
   files ← prepared_files plan
   gives (Ok (record { plan = plan; files = files }))
 
--- the shares of a plan's fields over its prepared files: those of its settings, or where a sample is named those of the sample
-abbrev pub shares_over : Plan → PreparedView → Option (List ℕ) → Steps (List PlainShares)
+-- the shares of a plan's fields over its two files: those of its settings, or where a sample is named those of the sample
+abbrev pub shares_over : Plan → StandardPair → Option (List ℕ) → Steps (List PlainShares)
 shares_over plan files None = gives (Ok (given_in plan.fields))
 shares_over plan files (Some name) = do
   sample ← file role.Sample name

@@ -9,8 +9,9 @@ use Rattle.link_plan.specs.Plan.{PlainShares}
 use Rattle.link_plan.specs.Ranges.{KeepsRanges}
 use Rattle.link_plan.specs.declared.plan.Plan.{Plan}
 use Rattle.review_journal.specs.declared.entry.Entry.{Entry}
+use Rattle.standard_files.specs.Files.{StandardPair}
 use Rattle.link_core.specs.Decisions.{decided, Decisions, decisions_of, IsDecidedIn}
-use Rattle.link_core.specs.Prepared.{PreparedView}
+use Rattle.link_core.specs.Prepared.{files_of, PreparedView}
 use Rattle.link_core.specs.Results.{IsDecidedFor}
 use Rattle.link_core.specs.Review.{journal_in_files}
 use Rattle.link_core.specs.Rules.{IsPreparedFor}
@@ -21,19 +22,19 @@ use Rattle.command_steps.specs.declared.reviewed.DecidedPlan.{DecidedPlan}
 use Rattle.command_steps.specs.declared.reviewed.Reviewed.{Reviewed}
 use Rattle.command_steps.specs.declared.reviewed.ReviewedSettings.{ReviewedSettings}
 
--- the prepared files of a plan, the shares of its fields, the decisions on the compared pairs, and the entries of the journal
+-- the two files of a plan in standard values, the shares of its fields, the decisions on the compared pairs, and the entries of the journal
 pub record Review : Type 0 where
-  pub files : PreparedView
+  pub files : StandardPair
   pub shares : List PlainShares
   pub decided : Decisions
   pub journal : List Entry
 
 -- machinery: as a body holds it
 abbrev pub review_of : Reviewed → Review
-review_of r = record { files = r.files; shares = r.shares; decided = decisions_of r.decided; journal = r.journal }
+review_of r = record { files = files_of r.files; shares = r.shares; decided = decisions_of r.files r.decided; journal = r.journal }
 
--- the entries of the journal that a plan names, over its prepared files
-abbrev pub journal_file : PreparedView → Option (List ℕ) → Steps (List Entry)
+-- the entries of the journal that a plan names, over its two files
+abbrev pub journal_file : StandardPair → Option (List ℕ) → Steps (List Entry)
 journal_file files None = gives (Ok [])
 journal_file files (Some name) = do
   bytes ← file role.Journal name
@@ -45,11 +46,11 @@ pub record SharedDecisions : Type 0 where
   pub decided : Decisions
 
 -- machinery: as a body holds them
-abbrev pub shared_decisions_of : DecidedPlan → SharedDecisions
-shared_decisions_of d = record { shares = d.shares; decided = decisions_of d.decided }
+abbrev pub shared_decisions_of : PreparedView → DecidedPlan → SharedDecisions
+shared_decisions_of p d = record { shares = d.shares; decided = decisions_of p d.decided }
 
--- the decisions of the rule of a plan over its prepared files: the faults of the sample come before too many pairs
-abbrev pub decided_plan : Plan → PreparedView → Steps SharedDecisions
+-- the decisions of the rule of a plan over its two files: the faults of the sample come before too many pairs
+abbrev pub decided_plan : Plan → StandardPair → Steps SharedDecisions
 decided_plan plan files = do
   shares ← shares_over plan files plan.sample
   decided ← gives (decided plan files shares)

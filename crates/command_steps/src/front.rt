@@ -1,10 +1,10 @@
 // What several commands load at their front.
 ghost use Rattle.std.specs.Prelude.{◌≡◌, IfErr, IfOk, IsUtf8, None, Ok, Some};
-ghost use Rattle.command_steps.specs.Front.{both_files, described_files, plan_file, prepared_files, shared_plan, shares_of, shares_over};
+ghost use Rattle.command_steps.specs.Front.{both_files, described_files, described_of, plan_file, prepared_files, shared_plan, shares_of, shares_over};
 ghost use Rattle.command_steps.specs.Seen.{store_seen};
-ghost use Rattle.command_steps.specs.Steps.{Takes};
-ghost use Rattle.link_base.specs.Fault.{IsAnswer, IsInputFault};
-ghost use Rattle.link_core.specs.Prepared.{prepared};
+ghost use Rattle.command_steps.specs.Steps.{seen_by, Takes};
+ghost use Rattle.link_base.specs.Fault.{Gives, IsAnswer, IsInputFault};
+ghost use Rattle.link_core.specs.Prepared.{files_of, prepared};
 ghost use Rattle.link_core.specs.Rules.{IsPreparedFor, shared_rares};
 ghost use Rattle.link_limits.specs.declared.TheConstants.{MOST_POOLED_BYTES};
 ghost use Rattle.pair_decisions.specs.Comparators.{rares_of};
@@ -86,7 +86,7 @@ fn load_files<S: Store>(alloc: Global, store: &mut S, plan: &Plan) -> Result<Inp
 pub fn prepare_files(alloc: Global, plan: &Plan, a: &[u8], b: &[u8]) -> Result<Prepared, Fault>
     requires { KeepsRanges plan.now }
     ensures kind { IfErr result IsInputFault }
-    ensures answer { IsAnswer (prepared plan.now MOST_POOLED_BYTES a.now b.now) result }
+    ensures answer { Gives files_of (prepared plan.now MOST_POOLED_BYTES a.now b.now) result }
     ensures ready { IfOk result (IsPreparedFor plan.now) }
 {
     prepare(alloc, plan, a, b, MOST_POOLED_BYTES)
@@ -96,7 +96,7 @@ pub fn prepare_files(alloc: Global, plan: &Plan, a: &[u8], b: &[u8]) -> Result<P
 pub fn load_prepared<S: Store>(alloc: Global, store: &mut S, plan: &Plan) -> Result<Prepared, Fault>
     requires ranges { KeepsRanges plan.now }
     requires files { NamesFiles plan.now }
-    ensures takes { Takes (prepared_files plan.now) (store_seen S.tells S.held S.faults store.old store.new) result }
+    ensures takes { Takes (prepared_files plan.now) (store_seen S.tells S.held S.faults store.old store.new) (seen_by files_of result) }
     ensures ready { IfOk result (IsPreparedFor plan.now) }
 {
     let inputs = load_files(alloc, store, plan)?;
@@ -116,7 +116,7 @@ pub fn load_described<S: Store>(
     store: &mut S,
     name: &str,
 ) -> Result<Described, Fault>
-    ensures takes { Takes (described_files name.now) (store_seen S.tells S.held S.faults store.old store.new) result }
+    ensures takes { Takes (described_files name.now) (store_seen S.tells S.held S.faults store.old store.new) (seen_by described_of result) }
     ensures ready { IfOk result (λ d. IsPreparedFor d.plan d.files) }
 {
     let plan = load_plan(alloc, store, name)?;
@@ -139,7 +139,7 @@ fn count_named<S: Store>(
 ) -> Result<PlanShares, Fault>
     requires ranges { KeepsRanges plan.now }
     requires ready { IsPreparedFor plan.now files.now }
-    ensures takes { Takes (shares_over plan.now files.now (Some name.now)) (store_seen S.tells S.held S.faults store.old store.new) result }
+    ensures takes { Takes (shares_over plan.now files.now.files (Some name.now)) (store_seen S.tells S.held S.faults store.old store.new) result }
     ensures rares { IfOk result (λ shares. shared_rares shares ≡ rares_of plan.now.fields) }
 {
     let sample = load_file(alloc, store, name, FileRole::Sample)?;
@@ -203,7 +203,7 @@ pub(crate) fn load_shares_over<S: Store>(
     requires ranges { KeepsRanges plan.now }
     requires names { NamesFiles plan.now }
     requires ready { IsPreparedFor plan.now files.now }
-    ensures takes { Takes (shares_over plan.now files.now plan.now.sample) (store_seen S.tells S.held S.faults store.old store.new) result }
+    ensures takes { Takes (shares_over plan.now files.now.files plan.now.sample) (store_seen S.tells S.held S.faults store.old store.new) result }
     ensures rares { IfOk result (λ shares. shared_rares shares ≡ rares_of plan.now.fields) }
 {
     match &plan.sample {

@@ -54,8 +54,8 @@ fn load_named<S: Store>(
     files: &Prepared,
     name: &str,
 ) -> Result<Journal, Fault>
-    ensures takes { Takes (journal_file files.now (Some name.now)) (store_seen S.tells S.held S.faults store.old store.new) result }
-    ensures of_files { IfOk result (IsJournalOf files.now) }
+    ensures takes { Takes (journal_file files.now.files (Some name.now)) (store_seen S.tells S.held S.faults store.old store.new) result }
+    ensures of_files { IfOk result (IsJournalOf files.now.files) }
 {
     let bytes = load_file(alloc, store, name, FileRole::Journal)?;
     let journal = journal_in_files(alloc, files, bytes.bytes());
@@ -71,8 +71,8 @@ pub fn load_journal<S: Store>(
     files: &Prepared,
 ) -> Result<Journal, Fault>
     requires names { NamesFiles plan.now }
-    ensures takes { Takes (journal_file files.now plan.now.journal) (store_seen S.tells S.held S.faults store.old store.new) result }
-    ensures of_files { IfOk result (IsJournalOf files.now) }
+    ensures takes { Takes (journal_file files.now.files plan.now.journal) (store_seen S.tells S.held S.faults store.old store.new) result }
+    ensures of_files { IfOk result (IsJournalOf files.now.files) }
 {
     match &plan.journal {
         Some(name) => load_named(alloc, store, files, file_name(name)),
@@ -92,7 +92,7 @@ pub fn load_decisions<S: Store>(
     requires ranges { KeepsRanges plan.now }
     requires names { NamesFiles plan.now }
     requires ready { IsPreparedFor plan.now files.now }
-    ensures takes { Takes (decided_plan plan.now files.now) (store_seen S.tells S.held S.faults store.old store.new) (seen_by shared_decisions_of result) }
+    ensures takes { Takes (decided_plan plan.now files.now.files) (store_seen S.tells S.held S.faults store.old store.new) (seen_by (shared_decisions_of files.now) result) }
     ensures of_files { IfOk result (λ d. IsDecidedIn files.now d.decided) }
     ensures of_plan { IfOk result (λ d. IsDecidedFor plan.now files.now d.decided) }
     ensures rule { IfOk result (λ d. IsRuleOf plan.now d.shares d.decided.rule.cells) }
@@ -123,7 +123,7 @@ pub fn load_reviewed<S: Store>(
     ensures of_plan { IfOk result (λ r. IsDecidedFor plan.now r.files r.decided) }
     ensures rule { IfOk result (λ r. IsRuleOf plan.now r.shares r.decided.rule.cells) }
     ensures rows { IfOk result (λ r. with_rows ≡ true → KeepsRows plan.now r.files r.decided) }
-    ensures journal { IfOk result (λ r. IsJournalOf r.files r.journal) }
+    ensures journal { IfOk result (λ r. IsJournalOf r.files.files r.journal) }
 {
     let files = load_prepared(alloc, store, plan)?;
     let found = match load_decisions(alloc, store, plan, &files, with_rows) {

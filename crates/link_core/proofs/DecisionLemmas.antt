@@ -11,7 +11,7 @@ use Rattle.link_base.specs.declared.rule.Decision.{Decision}
 use Rattle.link_base.specs.declared.rule.PairAt.{PairAt}
 use Rattle.pair_decisions.specs.Decisions.{AreDecisionsOn, count_with, DecidedView, pairs_with}
 use Rattle.pair_decisions.specs.PairRows.{AreRowsIn, decided_rows, kept_rows}
-use Rattle.pair_decisions.specs.PairRule.{AreCellsOf, AreSidesFor, PairRuleView, side_rule, SideRule}
+use Rattle.pair_decisions.specs.PairRule.{AreCellsOf, AreSidesFor, FileRule, PairRuleView, side_rule}
 use Rattle.pair_decisions.specs.Pairs.{IsInside, pairs_within}
 use Rattle.pair_walk.proofs.PairLemmas.{all-pairs}
 use Rattle.pair_walk.specs.Pairs.{pairs_of_rows}
@@ -21,7 +21,7 @@ use Rattle.pair_decisions.specs.Comparators.{rares_of}
 use Rattle.pair_decisions.specs.PlanRule.{IsRuleOf}
 use Rattle.link_plan.specs.Plan.{PlainShares}
 use Rattle.link_plan.specs.declared.plan.Plan.{Plan}
-use Rattle.link_core.specs.Decisions.{decided, decided_by, Decisions, decisions_of, IsDecidedIn, rule_over}
+use Rattle.link_core.specs.Decisions.{decided, decided_by, Decisions, decisions_of, IsDecidedIn, rule_in, rule_over}
 use Rattle.link_core.specs.Prepared.{PreparedView}
 use Rattle.link_core.specs.Results.{compared_in, IsDecidedFor, KeepsRows}
 use Rattle.link_core.specs.Rules.{IsPreparedFor}
@@ -31,9 +31,9 @@ pub record IsTold (rule : PairRuleView) (with_rows : Bool) (result : Result Deci
   pub refused : IfErr result (Refuses (pairs_within pairs))
   pub within : IfOk result (λ _. pairs_within pairs ≡ Ok pairs)
   pub rule_is : IfOk result (λ d. d.rule ≡ rule)
-  pub rows_are : IfOk result (λ d. d.rows ≡ kept_rows with_rows (decided_rows (side_rule rule) rows_a rows_b pairs))
+  pub rows_are : IfOk result (λ d. d.rows ≡ kept_rows with_rows (decided_rows (side_rule rule rows_a rows_b) pairs))
   pub rows_in : IfOk result (λ d. AreRowsIn (length rows_a) (length rows_b) (length d.rule.cells) d.rows)
-  pub counts : IfOk result (λ d. (kind : Decision) → count_with d kind ≡ length (pairs_with kind (side_rule rule) rows_a rows_b pairs))
+  pub counts : IfOk result (λ d. (kind : Decision) → count_with d kind ≡ length (pairs_with kind (side_rule rule rows_a rows_b) pairs))
   pub links_inside : IfOk result (λ d. All (IsInside (length rows_a) (length rows_b)) d.links)
   pub possible_inside : IfOk result (λ d. All (IsInside (length rows_a) (length rows_b)) d.possible)
   pub possible_rise : IfOk result (λ d. AllPairs IsPairBefore d.possible)
@@ -43,10 +43,10 @@ pub record IsTold (rule : PairRuleView) (with_rows : Bool) (result : Result Deci
 pub told_of : (plan : Plan) (rule : PairRuleView) (with_rows : Bool) (result : Result DecidedView Fault) (p : PreparedView) (blocks : List RowAt) (rows_a rows_b : List (List IdValue))
     → blocks ≡ all_rows p.files.a.records p.files.b.records plan.passes → rows_a ≡ p.values.a.rows → rows_b ≡ p.values.b.rows
     → IsTold rule with_rows result (pairs_of_rows blocks) rows_a rows_b
-    → IsTold rule with_rows result (compared_in plan p) p.values.a.rows p.values.b.rows
+    → IsTold rule with_rows result (compared_in plan p.files) p.values.a.rows p.values.b.rows
 told_of plan rule with_rows result p blocks rows_a rows_b of_blocks of_sides_a of_sides_b told =
-    subst (λ x. IsTold rule with_rows result (compared_in plan p) p.values.a.rows x) of_sides_b
-    (subst (λ x. IsTold rule with_rows result (compared_in plan p) x rows_b) of_sides_a
+    subst (λ x. IsTold rule with_rows result (compared_in plan p.files) p.values.a.rows x) of_sides_b
+    (subst (λ x. IsTold rule with_rows result (compared_in plan p.files) x rows_b) of_sides_a
     (subst (λ ps. IsTold rule with_rows result ps rows_a rows_b) (ap pairs_of_rows of_blocks ∙ all-pairs p.files.a.records p.files.b.records plan.passes) told))
 
 -- pairs of as many rows of sides as there are records lie in the files
@@ -57,17 +57,17 @@ inside_files plan p pairs ready h =
 
 module _ (plan : Plan) (p : PreparedView) (shares : List PlainShares) (rule : PairRuleView) (with_rows : Bool) where
   abbrev Told : Result DecidedView Fault → Type 0
-  Told result = IsTold rule with_rows result (compared_in plan p) p.values.a.rows p.values.b.rows
+  Told result = IsTold rule with_rows result (compared_in plan p.files) p.values.a.rows p.values.b.rows
 
-  pub answered : (result : Result DecidedView Fault) → side_rule rule ≡ rule_over plan p shares → Told result → Gives decisions_of (decided plan p shares) result
-  answered (Err f) of told = refuses_then (pairs_within (compared_in plan p)) (λ pairs. Ok (decided_by (rule_over plan p shares) p pairs)) f told.refused
+  pub answered : (result : Result DecidedView Fault) → side_rule rule p.values.a.rows p.values.b.rows ≡ rule_over plan p.files shares → Told result → Gives (decisions_of p) (decided plan p.files shares) result
+  answered (Err f) of told = refuses_then (pairs_within (compared_in plan p.files)) (λ pairs. Ok (decided_by (rule_over plan p.files shares) pairs)) f told.refused
   answered (Ok d) of told =
-      let same : side_rule d.rule ≡ rule_over plan p shares = ap side_rule told.rule_is ∙ of in
-      let made : decisions_of d ≡ decided_by (side_rule d.rule) p (compared_in plan p) =
-      λ i. record { rule = side_rule d.rule; compared = told.decisions.compared i; links = told.decisions.links i; possible = told.decisions.possible i } in
-      let whole : decisions_of d ≡ decided_by (rule_over plan p shares) p (compared_in plan p) = made ∙ ap (λ (r : SideRule). decided_by r p (compared_in plan p)) same in
+      let same : rule_in p d ≡ rule_over plan p.files shares = ap (λ (r : PairRuleView). side_rule r p.values.a.rows p.values.b.rows) told.rule_is ∙ of in
+      let made : decisions_of p d ≡ decided_by (rule_in p d) (compared_in plan p.files) =
+      λ i. record { rule = rule_in p d; compared = told.decisions.compared i; links = told.decisions.links i; possible = told.decisions.possible i } in
+      let whole : decisions_of p d ≡ decided_by (rule_over plan p.files shares) (compared_in plan p.files) = made ∙ ap (λ (r : FileRule). decided_by r (compared_in plan p.files)) same in
       let ok : Decisions → Result Decisions Fault = λ x. Ok x in
-      let next : List PairAt → Result Decisions Fault = λ pairs. Ok (decided_by (rule_over plan p shares) p pairs) in
+      let next : List PairAt → Result Decisions Fault = λ pairs. Ok (decided_by (rule_over plan p.files shares) pairs) in
       ap (λ (r : Result (List PairAt) Fault). and_then r next) told.within ∙ ap ok (sym whole)
 
   pub decided_in_files : (result : Result DecidedView Fault) → IsPreparedFor plan p → All (AreSidesFor rule) p.values.a.rows → All (AreSidesFor rule) p.values.b.rows → Told result → IfOk result (IsDecidedIn p)
@@ -89,7 +89,7 @@ module _ (plan : Plan) (p : PreparedView) (shares : List PlainShares) (rule : Pa
   decided_for_plan (Err f) cells told = tt
   decided_for_plan (Ok d) cells told = record {
     decisions = told.decisions;
-    counts = λ kind. told.counts kind ∙ ap (λ (r : PairRuleView). length (pairs_with kind (side_rule r) p.values.a.rows p.values.b.rows (compared_in plan p))) (sym told.rule_is);
+    counts = λ kind. told.counts kind ∙ ap (λ (r : PairRuleView). length (pairs_with kind (side_rule r p.values.a.rows p.values.b.rows) (compared_in plan p.files))) (sym told.rule_is);
     cells = subst (λ (r : PairRuleView). AreCellsOf (pattern_count_by (rares_of plan.fields)) r.cells) (sym told.rule_is) cells;
   }
 
@@ -100,5 +100,5 @@ module _ (plan : Plan) (p : PreparedView) (shares : List PlainShares) (rule : Pa
   pub rows_kept : (result : Result DecidedView Fault) → Told result → IfOk result (λ d. with_rows ≡ true → KeepsRows plan p d)
   rows_kept (Err f) told = tt
   rows_kept (Ok d) told = λ asked.
-      told.rows_are ∙ (λ i. kept_rows (asked i) (decided_rows (side_rule rule) p.values.a.rows p.values.b.rows (compared_in plan p)))
-      ∙ ap (λ (r : PairRuleView). decided_rows (side_rule r) p.values.a.rows p.values.b.rows (compared_in plan p)) (sym told.rule_is)
+      told.rows_are ∙ (λ i. kept_rows (asked i) (decided_rows (side_rule rule p.values.a.rows p.values.b.rows) (compared_in plan p.files)))
+      ∙ ap (λ (r : PairRuleView). decided_rows (side_rule r p.values.a.rows p.values.b.rows) (compared_in plan p.files)) (sym told.rule_is)

@@ -16,7 +16,8 @@ use Rattle.link_plan.specs.declared.plan.Plan.{Plan}
 use Rattle.standard_files.specs.Files.{sorts_a, sorts_b, standard_file, standard_files, standard_pair, StandardFile, StandardPair, table_a, table_b, wanted_a, wanted_b}
 use Rattle.standard_files.specs.Values.{standard_record}
 use Rattle.standard_files.specs.declared.sorts.TextSort.{TextSort}
-use Rattle.link_core.specs.Prepared.{pooled, prepared, PreparedView}
+use Rattle.standard_files.specs.Texts.{pooled_texts}
+use Rattle.link_core.specs.Prepared.{kinds_of, prepared, with_fault}
 
 abbrev pub okay : (T : Type 0) → T → Result T Fault
 okay T x = Ok x
@@ -53,15 +54,15 @@ pair_rows plan t u files same e =
     ap (λ (p : StandardPair). length p.b.records) (sym is) ∙ file_rows role.B plan (sorts_b plan) u of_b.0 of_b.1 ∙ same
     ∙ sym (file_rows role.A plan (sorts_a plan) t of_a.0 of_a.1) ∙ ap (λ (p : StandardPair). length p.a.records) is
 
-pub same_rows : (plan : Plan) (limit : ℕ) (bytes : List ℕ) (p : PreparedView) → prepared (plan_within plan) limit bytes bytes ≡ Ok p → length p.files.b.records ≡ length p.files.a.records
-same_rows plan limit bytes p e =
+pub same_rows : (plan : Plan) (limit : ℕ) (bytes : List ℕ) (files : StandardPair) → prepared (plan_within plan) limit bytes bytes ≡ Ok files → length files.b.records ≡ length files.a.records
+same_rows plan limit bytes files e =
     let w = plan_within plan in
-    let read = came StandardPair PreparedView (standard_files w bytes bytes) _ p e in
+    let read = came StandardPair StandardPair (standard_files w bytes bytes) _ files e in
     let of_a = came (List TableRow) StandardPair (table_a w bytes) _ read.0 read.1 in
     let of_b = came (List TableRow) StandardPair (table_b w bytes) _ read.0 of_a.2 in
     let records = records_in plan.delimiter_a bytes in
     let same : length of_b.0 ≡ length of_a.0 =
     whole_rows role.B role.A (wanted_b w) (wanted_a w) records of_b.0 of_a.0 (table_is_whole role.B (wanted_b w) records of_b.0 of_b.1) (table_is_whole role.A (wanted_a w) records of_a.0 of_a.1) in
-    let pool = came _ PreparedView (pooled w limit read.0) _ p read.2 in
-    let is = ok_is PreparedView (record { files = read.0; values = pool.0 }) p pool.2 in
-    ap (λ (v : PreparedView). length v.files.b.records) (sym is) ∙ pair_rows w of_a.0 of_b.0 read.0 same of_b.2 ∙ ap (λ (v : PreparedView). length v.files.a.records) is
+    let room = came (List (List ℕ)) StandardPair (with_fault (pooled_texts limit (kinds_of w) w.passes read.0.a.records read.0.b.records)) _ files read.2 in
+    let is = ok_is StandardPair read.0 files room.2 in
+    ap (λ (v : StandardPair). length v.b.records) (sym is) ∙ pair_rows w of_a.0 of_b.0 read.0 same of_b.2 ∙ ap (λ (v : StandardPair). length v.a.records) is

@@ -22,7 +22,8 @@ use Rattle.review_journal.proofs.TableLemmas.{table_few}
 use Rattle.review_journal.specs.Text.{IsIdText}
 use Rattle.written_check.specs.Short.{HasShortId, IsSmallFile}
 use Rattle.link_core.proofs.DuplicateLemmas.{came, ok_is, unless_is}
-use Rattle.link_core.specs.Prepared.{pooled, prepared, PreparedView}
+use Rattle.standard_files.specs.Texts.{pooled_texts}
+use Rattle.link_core.specs.Prepared.{kinds_of, prepared, with_fault}
 
 pub record IsReadFile (file : List Record) : Type 0 where
   pub small : IsSmallFile file
@@ -64,21 +65,20 @@ read_file r wanted records table plan sorts file has_id most read made =
     } in
     subst IsReadFile is whole
 
-pub read_files : (plan : Plan) (limit : ℕ) (bytes_a bytes_b : List ℕ) (p : PreparedView) → prepared plan limit bytes_a bytes_b ≡ Ok p → AreReadFiles p.files
-read_files plan limit bytes_a bytes_b p e =
-    let read = came StandardPair PreparedView (standard_files plan bytes_a bytes_b) _ p e in
+pub read_files : (plan : Plan) (limit : ℕ) (bytes_a bytes_b : List ℕ) (files : StandardPair) → prepared plan limit bytes_a bytes_b ≡ Ok files → AreReadFiles files
+read_files plan limit bytes_a bytes_b files e =
+    let read = came StandardPair StandardPair (standard_files plan bytes_a bytes_b) _ files e in
     let of_a = came (List TableRow) StandardPair (table_a plan bytes_a) _ read.0 read.1 in
     let of_b = came (List TableRow) StandardPair (table_b plan bytes_b) _ read.0 of_a.2 in
     let a = came StandardFile StandardPair (standard_file role.A plan (sorts_a plan) of_a.0) _ read.0 of_b.2 in
     let b = came StandardFile StandardPair (standard_file role.B plan (sorts_b plan) of_b.0) _ read.0 a.2 in
     let pair : StandardPair = record { a = a.0; b = b.0 } in
     let pair_is = ok_is StandardPair pair read.0 b.2 in
-    let pool = came _ PreparedView (pooled plan limit read.0) _ p read.2 in
-    let view : PreparedView = record { files = read.0; values = pool.0 } in
-    let is = ok_is PreparedView view p pool.2 in
+    let room = came (List (List ℕ)) StandardPair (with_fault (pooled_texts limit (kinds_of plan) plan.passes read.0.a.records read.0.b.records)) _ files read.2 in
+    let is = ok_is StandardPair read.0 files room.2 in
     let made : AreReadFiles pair = record {
       of_a = read_file role.A (wanted_a plan) (records_in plan.delimiter_a bytes_a) of_a.0 plan (sorts_a plan) a.0 refl (omega arith) of_a.1 a.1;
       of_b = read_file role.B (wanted_b plan) (records_in plan.delimiter_b bytes_b) of_b.0 plan (sorts_b plan) b.0 refl (omega arith) of_b.1 b.1;
     } in
     let of_pair : AreReadFiles read.0 = subst AreReadFiles {x = pair} {y = read.0} pair_is made in
-    subst (λ (v : PreparedView). AreReadFiles v.files) {x = view} {y = p} is of_pair
+    subst AreReadFiles {x = read.0} {y = files} is of_pair

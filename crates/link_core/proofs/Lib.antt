@@ -12,3 +12,4 @@ pub mod ReviewLemmas
 pub mod DuplicateLemmas
 pub mod FileLemmas
 pub mod RunLemmas
+pub mod ValueLemmas

@@ -12,7 +12,7 @@ use Rattle.pair_decisions.specs.Decisions.{AreDecisionsOn, DecidedView}
 use Rattle.pair_decisions.specs.PairRule.{side_rule}
 use Rattle.review_journal.specs.declared.entry.Entry.{Entry}
 use Rattle.link_plan.specs.declared.plan.Plan.{Plan}
-use Rattle.link_core.specs.Decisions.{IsDecidedIn}
+use Rattle.link_core.specs.Decisions.{IsDecidedIn, rule_in}
 use Rattle.link_core.specs.Prepared.{PreparedView}
 use Rattle.link_core.specs.Results.{candidates_in, compared_in, IsDecidedFor}
 
@@ -23,17 +23,17 @@ if_ok P Q (Err f) h p = tt
 -- the candidates among decided pairs are those of the files
 module _ (plan : Plan) (p : PreparedView) (d : DecidedView) (entries : List Entry) where
   abbrev Wanted : List Candidate
-  Wanted = candidates_in plan p (side_rule d.rule) entries
+  Wanted = candidates_in plan p.files (rule_in p d) entries
 
   abbrev Over : List (List IdValue) → List (List IdValue) → List Candidate → Type 0
-  Over ra rb cs = (pairs : List PairAt) → AreDecisionsOn ra rb pairs d → AreCandidates (length ra) (length rb) (candidates_of (side_rule d.rule) ra rb entries plan.award pairs) cs
+  Over ra rb cs = (pairs : List PairAt) → AreDecisionsOn ra rb pairs d → AreCandidates (length ra) (length rb) (candidates_of (side_rule d.rule ra rb) entries plan.award pairs) cs
 
   pub candidates_found : (ra rb : List (List IdValue)) (cs : List Candidate) → ra ≡ p.values.a.rows → rb ≡ p.values.b.rows → IsDecidedIn p d → IsDecidedFor plan p d → Over ra rb cs
       → AreCandidates (length p.files.a.records) (length p.files.b.records) Wanted cs
   candidates_found ra rb cs ea eb inside of_plan h =
       let over_a : Over p.values.a.rows rb cs = subst (λ r. Over r rb cs) ea h in
       let over : Over p.values.a.rows p.values.b.rows cs = subst (λ r. Over p.values.a.rows r cs) eb over_a in
-      let found = over (compared_in plan p) of_plan.decisions in
+      let found = over (compared_in plan p.files) of_plan.decisions in
       let found_b = subst (λ n. AreCandidates (length p.values.a.rows) n Wanted cs) inside.rows_b found in
       subst (λ n. AreCandidates n (length p.files.b.records) Wanted cs) inside.rows_a found_b
 

@@ -17,12 +17,13 @@ use Rattle.link_base.specs.declared.rule.RuleCell.{RuleCell}
 use Rattle.link_base.specs.declared.shares.FieldShares.{FieldShares}
 use Rattle.link_limits.specs.declared.TheConstants.{GREATEST_WEIGHT, LEAST_WEIGHT, MOST_FIELDS, MOST_PATTERNS}
 use Rattle.pair_decisions.proofs.PairLemmas.{compared_inside, compared_rise}
-use Rattle.pair_decisions.specs.PairRule.{SideRule}
+use Rattle.pair_decisions.specs.PairRule.{FileRule}
 use Rattle.patterns.proofs.PatternLemmas.{m_of_small, pattern_count_small, u_of_small, weight_range}
 use Rattle.patterns.specs.Chances.{pattern_count_of}
-use Rattle.pair_decisions.specs.Comparators.{comparator_at, rares_of, SideComparator}
+use Rattle.pair_decisions.specs.Comparators.{rares_of}
+use Rattle.pair_decisions.specs.FieldComparators.{pattern_of_pair}
 use Rattle.pair_decisions.specs.PlanRule.{IsRuleOf}
-use Rattle.pair_decisions.specs.PlanShares.{counts_of, given_in, shares_at}
+use Rattle.pair_decisions.specs.PlanShares.{counts_by_pattern, given_in, shares_at}
 use Rattle.price_check.specs.Verdict.{HasAllowedValue}
 use Rattle.review_journal.specs.declared.entry.Entry.{Entry}
 use Rattle.sample_counts.specs.Sample.{sample_of}
@@ -33,7 +34,7 @@ use Rattle.written_check.specs.Laws.{AreCandidatesOf}
 use Rattle.written_check.specs.Short.{AreSmallCells, HasAllowedWeight, IsSmallCell}
 use Rattle.link_core.proofs.DuplicateLemmas.{came, ok_is}
 use Rattle.link_core.proofs.FileLemmas.{AreReadFiles}
-use Rattle.link_core.specs.Prepared.{PreparedView}
+use Rattle.standard_files.specs.Files.{StandardPair}
 use Rattle.link_core.specs.Results.{candidates_in, compared_in}
 use Rattle.link_core.specs.Rules.{counted_by}
 
@@ -90,22 +91,22 @@ small_cells plan shares cells few fields rule =
     }
 
 -- candidates stand in the files, and are worth no more than they may
-module _ (plan : Plan) (p : PreparedView) (rule : SideRule) (entries : List Entry) where
-  pub candidates_are : AreReadFiles p.files → plan.award ≤ 1000 → All (HasBounds plan.award) (candidates_in plan p rule entries) → AreCandidatesOf p.files.a.records p.files.b.records (candidates_in plan p rule entries)
-  candidates_are files award bounds =
-      let stands = candidate_stands rule p.values.a.rows p.values.b.rows entries plan.award in
+module _ (plan : Plan) (files : StandardPair) (rule : FileRule) (entries : List Entry) where
+  pub candidates_are : AreReadFiles files → plan.award ≤ 1000 → All (HasBounds plan.award) (candidates_in plan files rule entries) → AreCandidatesOf files.a.records files.b.records (candidates_in plan files rule entries)
+  candidates_are read award bounds =
+      let stands = candidate_stands rule entries plan.award in
       record {
-        distinct_a = files.of_a.distinct;
-        distinct_b = files.of_b.distinct;
-        rising = given_rise (candidate_of rule p.values.a.rows p.values.b.rows entries plan.award) stands (compared_in plan p) (compared_rise p.files.a.records p.files.b.records plan.passes);
-        within = given_within (candidate_of rule p.values.a.rows p.values.b.rows entries plan.award) stands (length p.files.a.records) (length p.files.b.records) (compared_in plan p)
-            (compared_inside p.files.a.records p.files.b.records plan.passes);
-        allowed = All-weaker (HasBounds plan.award) HasAllowedValue (λ c b. (omega (arith, ints, b.value_low), omega (arith, ints, b.value_high, award))) (candidates_in plan p rule entries) bounds;
+        distinct_a = read.of_a.distinct;
+        distinct_b = read.of_b.distinct;
+        rising = given_rise (candidate_of rule entries plan.award) stands (compared_in plan files) (compared_rise files.a.records files.b.records plan.passes);
+        within = given_within (candidate_of rule entries plan.award) stands (length files.a.records) (length files.b.records) (compared_in plan files)
+            (compared_inside files.a.records files.b.records plan.passes);
+        allowed = All-weaker (HasBounds plan.award) HasAllowedValue (λ c b. (omega (arith, ints, b.value_low), omega (arith, ints, b.value_high, award))) (candidates_in plan files rule entries) bounds;
       }
 
-  pub weights_are : All (HasBounds plan.award) (candidates_in plan p rule entries) → All HasAllowedWeight (candidates_in plan p rule entries)
+  pub weights_are : All (HasBounds plan.award) (candidates_in plan files rule entries) → All HasAllowedWeight (candidates_in plan files rule entries)
   weights_are bounds =
-      All-weaker (HasBounds plan.award) HasAllowedWeight (λ c b. (omega (arith, ints, b.weight_low), omega (arith, ints, b.weight_high))) (candidates_in plan p rule entries) bounds
+      All-weaker (HasBounds plan.award) HasAllowedWeight (λ c b. (omega (arith, ints, b.weight_low), omega (arith, ints, b.weight_high))) (candidates_in plan files rule entries) bounds
 
 -- a plan has no more shares than fields
 given_or : {Y : Type 0} (o : Option Y) (ys : List Y) (n : ℕ) → length ys ≤ n → length (cons_option o ys) ≤ n + 1
@@ -116,15 +117,11 @@ pub given_few : (fields : List FieldKeys) → length (given_in fields) ≤ lengt
 given_few [] = omega arith
 given_few (f ∷ fields) = omega (arith, given_or f.shares (given_in fields) (length fields) (given_few fields))
 
-pub counted_few : (plan : Plan) (p : PreparedView) (bytes : List ℕ) (shares : List PlainShares) → counted_by plan p bytes ≡ Ok shares → length shares ≤ length plan.fields
-counted_few plan p bytes shares e =
-    let sample = came _ (List PlainShares) (sample_of p.files.a.records p.files.b.records (records_in 44 bytes)) _ shares e in
+pub counted_few : (plan : Plan) (files : StandardPair) (bytes : List ℕ) (shares : List PlainShares) → counted_by plan files bytes ≡ Ok shares → length shares ≤ length plan.fields
+counted_few plan files bytes shares e =
+    let sample = came _ (List PlainShares) (sample_of files.a.records files.b.records (records_in 44 bytes)) _ shares e in
     let is = ok_is (List PlainShares) _ shares sample.2 in
-    let rows_a = p.values.a.rows in
-    let rows_b = p.values.b.rows in
-    let all = enumerate_from 0 plan.fields in
-    let comparators = map (comparator_at (length p.values.texts) rows_a rows_b) all in
-    let rares = map (λ (c : SideComparator). c.rare) comparators in
-    let counts = counts_of comparators rows_a rows_b sample.0 in
+    let rares = rares_of plan.fields in
+    let counts = counts_by_pattern rares (pattern_of_pair plan.fields files.a.records files.b.records) sample.0 in
     let many : length shares ≡ length (enumerate_from 0 rares) = ap (λ (s : List PlainShares). length s) (sym is) ∙ length-map (enumerate_from 0 rares) (shares_at counts) in
-    omega (arith, many, length-enumerate_from 0 rares, length-map comparators (λ (c : SideComparator). c.rare), length-map all (comparator_at (length p.values.texts) rows_a rows_b), length-enumerate_from 0 plan.fields)
+    omega (arith, many, length-enumerate_from 0 rares, length-map plan.fields (λ (f : FieldKeys). is_some f.rare))

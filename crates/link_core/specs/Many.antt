@@ -9,28 +9,28 @@ use Rattle.link_base.specs.declared.fault.Fault.{Fault}
 use Rattle.link_base.specs.declared.rule.Candidate.{Candidate}
 use Rattle.link_report.specs.LinksText.{text_of_links}
 use Rattle.link_report.specs.PricesText.{text_of_prices}
-use Rattle.pair_decisions.specs.PairRule.{SideRule}
+use Rattle.pair_decisions.specs.PairRule.{FileRule}
 use Rattle.review_journal.specs.declared.entry.Entry.{Entry}
 use Rattle.link_plan.specs.declared.plan.Plan.{Plan}
-use Rattle.link_core.specs.Prepared.{PreparedView}
+use Rattle.standard_files.specs.Files.{StandardPair}
 use Rattle.link_core.specs.Results.{candidates_in}
 
 -- the capacities of the records of B in these bytes, over prepared files
-abbrev pub capacities_in_file : PreparedView → List ℕ → Result (List ℕ) Fault
-capacities_in_file p bytes = capacities_in p.files.b.records bytes
+abbrev pub capacities_in_file : StandardPair → List ℕ → Result (List ℕ) Fault
+capacities_in_file files bytes = capacities_in files.b.records bytes
 
 -- there is a capacity for each record of B, and none is too great
-pub record AreCapacitiesOf (p : PreparedView) (capacities : List ℕ) : Type 0 where
-  pub for_each : length capacities ≡ length p.files.b.records
+pub record AreCapacitiesOf (files : StandardPair) (capacities : List ℕ) : Type 0 where
+  pub for_each : length capacities ≡ length files.b.records
   pub allowed : All IsAllowedCapacity capacities
 
 -- the text of a greatest list of the candidates within capacities, and after it that of prices that certify it, one for each record
-pub record IsManyText (plan : Plan) (p : PreparedView) (rule : SideRule) (entries : List Entry) (capacities text : List ℕ) : Type 0 where
+pub record IsManyText (plan : Plan) (files : StandardPair) (rule : FileRule) (entries : List Entry) (capacities text : List ℕ) : Type 0 where
   pub links : List Candidate
   pub prices_a : List ℤ
   pub prices_b : List ℤ
-  pub greatest : IsGreatestWithin (candidates_in plan p rule entries) capacities links
-  pub certified : CertifiesWithin (candidates_in plan p rule entries) capacities links prices_a prices_b
-  pub priced_a : length prices_a ≡ length p.files.a.records
-  pub priced_b : length prices_b ≡ length p.files.b.records
-  pub lines : text ≡ text_of_links p.files.a.records p.files.b.records links ++ text_of_prices prices_a prices_b p.files.a.records p.files.b.records
+  pub greatest : IsGreatestWithin (candidates_in plan files rule entries) capacities links
+  pub certified : CertifiesWithin (candidates_in plan files rule entries) capacities links prices_a prices_b
+  pub priced_a : length prices_a ≡ length files.a.records
+  pub priced_b : length prices_b ≡ length files.b.records
+  pub lines : text ≡ text_of_links files.a.records files.b.records links ++ text_of_prices prices_a prices_b files.a.records files.b.records

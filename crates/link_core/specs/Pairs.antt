@@ -9,14 +9,13 @@ use Rattle.pair_walk.specs.Pairs.{compared_pairs}
 use Rattle.link_plan.specs.declared.plan.Plan.{Plan}
 use Rattle.standard_files.specs.Files.{StandardPair}
 use Rattle.link_report.specs.Lines.{ids_text}
-use Rattle.link_core.specs.Prepared.{PreparedView}
 
 -- the pairs of two standard files that share a key in some blocking pass of the plan
 abbrev pub plan_pairs : Plan → StandardPair → Result (List PairAt) Fault
 plan_pairs plan files = pairs_within (compared_pairs files.a.records files.b.records plan.passes)
 
 -- the ids of the compared pairs of prepared files, or too many pairs
-abbrev pub ids_of_prepared : List (List Part) → PreparedView → Result (List ℕ) Fault
-ids_of_prepared passes p =
-    and_then (pairs_within (compared_pairs p.files.a.records p.files.b.records passes)) (λ pairs.
-    Ok (ids_text p.files.a.records p.files.b.records pairs))
+abbrev pub ids_of_prepared : List (List Part) → StandardPair → Result (List ℕ) Fault
+ids_of_prepared passes files =
+    and_then (pairs_within (compared_pairs files.a.records files.b.records passes)) (λ pairs.
+    Ok (ids_text files.a.records files.b.records pairs))

@@ -1,5 +1,6 @@
--- What is prepared of the two files of a plan: their standard values, and these in a pool. `prepare` and `prepare_texts` carry
--- it (clause `answer`, by `prepared`), and say of it what later steps need (clauses from `limit` on, and `ready`).
+-- What is prepared of the two files of a plan: their standard values, whose distinct texts have room. `prepare` and `prepare_texts`
+-- carry it (clause `answer`, by `prepared`), and say of the pool of these texts what later steps need (clauses from `pooled` on, and
+-- `ready`).
 use Rattle.std.specs.Prelude.{◌≡◌, ℕ, List, length, map, Result, Ok, Err, ⊤}
 use Rattle.link_base.specs.Answers.{and_then}
 use Rattle.link_base.specs.Standard.{Record}
@@ -16,6 +17,7 @@ use Rattle.link_plan.specs.declared.plan.Plan.{Plan}
 use Rattle.standard_files.specs.Files.{standard_files, StandardPair}
 use Rattle.standard_files.specs.Ready.{AreFileSides}
 use Rattle.standard_files.specs.Sides.{pooled_values, PooledView}
+use Rattle.standard_files.specs.Texts.{pooled_texts}
 
 -- the comparisons of a plan's fields
 abbrev pub kinds_of : Plan → List CompareKind
@@ -30,22 +32,25 @@ abbrev pub with_fault : {T : Type 0} → Result T PoolFault → Result T Fault
 with_fault (Ok x) = Ok x
 with_fault (Err f) = Err (pool_fault f)
 
--- what is seen of prepared files
+-- two standard files, where their distinct texts, standard texts, canons and parts of keys, have room in so many bytes
+abbrev pub with_room : Plan → ℕ → StandardPair → Result StandardPair Fault
+with_room plan limit files = and_then (with_fault (pooled_texts limit (kinds_of plan) plan.passes files.a.records files.b.records)) (λ texts. Ok files)
+
+-- the two files in standard values, whose texts have room in `limit` bytes
+abbrev pub prepared : Plan → ℕ → List ℕ → List ℕ → Result StandardPair Fault
+prepared plan limit bytes_a bytes_b = and_then (standard_files plan bytes_a bytes_b) (λ files. with_room plan limit files)
+
+-- machinery: what is seen of prepared files, with their values in a pool
 pub record PreparedView : Type 0 where
   pub files : StandardPair
   pub values : PooledView
 
--- the values of two standard files in a pool
+abbrev pub files_of : PreparedView → StandardPair
+files_of p = p.files
+
+-- machinery: the values of two standard files in a pool of at most `limit` bytes
 abbrev pub pooled : Plan → ℕ → StandardPair → Result PooledView Fault
 pooled plan limit files = with_fault (pooled_values limit (kinds_of plan) plan.passes files.a.records files.b.records)
-
--- two standard files, and their texts in a pool of at most `limit` bytes
-abbrev pub pooled_pair : Plan → ℕ → StandardPair → Result PreparedView Fault
-pooled_pair plan limit files = and_then (pooled plan limit files) (λ values. Ok (record { files = files; values = values }))
-
--- the two files in standard values, and their texts in a pool of at most `limit` bytes
-abbrev pub prepared : Plan → ℕ → List ℕ → List ℕ → Result PreparedView Fault
-prepared plan limit bytes_a bytes_b = and_then (standard_files plan bytes_a bytes_b) (λ files. pooled_pair plan limit files)
 
 -- A or B
 abbrev pub IsOneOfBoth : FileRole → Type 0

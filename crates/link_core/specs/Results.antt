@@ -20,7 +20,7 @@ use Rattle.link_report.specs.RuleText.{text_of_rule}
 use Rattle.link_report.specs.declared.open.PairRow.{PairRow}
 use Rattle.link_report.specs.declared.report.Report.{Report}
 use Rattle.pair_decisions.specs.Decisions.{AreDecisionsOn, count_with, DecidedView, pairs_with}
-use Rattle.pair_decisions.specs.PairRule.{AreCellsOf, side_rule, SideRule}
+use Rattle.pair_decisions.specs.PairRule.{AreCellsOf, FileRule}
 use Rattle.pair_decisions.specs.PairRows.{decided_rows, pair_rows_of}
 use Rattle.pair_walk.specs.Pairs.{compared_pairs}
 use Rattle.patterns.specs.Shapes.{pattern_count_by}
@@ -28,35 +28,37 @@ use Rattle.pair_decisions.specs.Comparators.{rares_of}
 use Rattle.review_journal.specs.Idle.{idle_count}
 use Rattle.review_journal.specs.declared.entry.Entry.{Entry}
 use Rattle.link_plan.specs.declared.plan.Plan.{Plan}
+use Rattle.standard_files.specs.Files.{StandardPair}
+use Rattle.link_core.specs.Decisions.{rule_in}
 use Rattle.link_core.specs.Prepared.{PreparedView}
 use Rattle.link_core.specs.Review.{open_pairs}
 use Rattle.link_core.specs.declared.results.RunResult.{RunResult}
 
 -- the pairs that share a key in some blocking pass of a plan
-abbrev pub compared_in : Plan → PreparedView → List PairAt
-compared_in plan p = compared_pairs p.files.a.records p.files.b.records plan.passes
+abbrev pub compared_in : Plan → StandardPair → List PairAt
+compared_in plan files = compared_pairs files.a.records files.b.records plan.passes
 
 -- those of them with a decision
-abbrev pub decided_in : Decision → Plan → PreparedView → SideRule → List PairAt
-decided_in kind plan p rule = pairs_with kind rule p.values.a.rows p.values.b.rows (compared_in plan p)
+abbrev pub decided_in : Decision → Plan → StandardPair → FileRule → List PairAt
+decided_in kind plan files rule = pairs_with kind rule (compared_in plan files)
 
 -- each of them with its pattern, its weight, its decision and its verdict
-abbrev pub pair_rows_in : Plan → PreparedView → SideRule → List Entry → List PairRow
-pair_rows_in plan p rule entries = pair_rows_of rule p.values.a.rows p.values.b.rows entries (compared_in plan p)
+abbrev pub pair_rows_in : Plan → StandardPair → FileRule → List Entry → List PairRow
+pair_rows_in plan files rule entries = pair_rows_of rule entries (compared_in plan files)
 
 -- the candidates for links: links by the rule, and possible links that review says are links, which have the award of the plan
-abbrev pub candidates_in : Plan → PreparedView → SideRule → List Entry → List Candidate
-candidates_in plan p rule entries = candidates_of rule p.values.a.rows p.values.b.rows entries plan.award (compared_in plan p)
+abbrev pub candidates_in : Plan → StandardPair → FileRule → List Entry → List Candidate
+candidates_in plan files rule entries = candidates_of rule entries plan.award (compared_in plan files)
 
--- decisions are those of a plan's rule on the compared pairs of its files: they are not too many, and each pattern has a cell
+-- machinery: decisions are those of a plan's rule on the compared pairs of its files: they are not too many, and each pattern has a cell
 pub record IsDecidedFor (plan : Plan) (p : PreparedView) (d : DecidedView) : Type 0 where
-  pub decisions : AreDecisionsOn p.values.a.rows p.values.b.rows (compared_in plan p) d
-  pub counts : (kind : Decision) → count_with d kind ≡ length (decided_in kind plan p (side_rule d.rule))
+  pub decisions : AreDecisionsOn p.values.a.rows p.values.b.rows (compared_in plan p.files) d
+  pub counts : (kind : Decision) → count_with d kind ≡ length (decided_in kind plan p.files (rule_in p d))
   pub cells : AreCellsOf (pattern_count_by (rares_of plan.fields)) d.rule.cells
 
--- decisions keep the row of each compared pair, for those who write them
+-- machinery: decisions keep the row of each compared pair, for those who write them
 abbrev pub KeepsRows : Plan → PreparedView → DecidedView → Type 0
-KeepsRows plan p d = d.rows ≡ decided_rows (side_rule d.rule) p.values.a.rows p.values.b.rows (compared_in plan p)
+KeepsRows plan p d = d.rows ≡ decided_rows (rule_in p d) (compared_in plan p.files)
 
 -- the attained levels of a rule and its chances of a possible link, as sums over one denominator
 pub record AreLevelsOf (fields : ℕ) (cells : List RuleCell) (levels : Levels) : Type 0 where
@@ -67,20 +69,20 @@ pub record AreLevelsOf (fields : ℕ) (cells : List RuleCell) (levels : Levels) 
   pub possible_u : levels.possible_u ≡ possible_u_of cells
 
 -- the numbers of a report, and the candidates that are not among the links
-pub record IsReportOf (plan : Plan) (p : PreparedView) (rule : SideRule) (entries : List Entry) (links : List Candidate) (r : Report) : Type 0 where
-  pub unreadable_a : r.unreadable_a ≡ p.files.a.unreadable
-  pub unreadable_b : r.unreadable_b ≡ p.files.b.unreadable
-  pub pairs : r.pairs ≡ length (compared_in plan p)
-  pub link : r.link ≡ length (decided_in Link plan p rule)
-  pub possible : r.possible ≡ length (decided_in Possible plan p rule)
-  pub nonlink : r.nonlink ≡ length (decided_in NonLink plan p rule)
-  pub undecided : r.undecided ≡ length (open_pairs entries (decided_in Possible plan p rule))
+pub record IsReportOf (plan : Plan) (files : StandardPair) (rule : FileRule) (entries : List Entry) (links : List Candidate) (r : Report) : Type 0 where
+  pub unreadable_a : r.unreadable_a ≡ files.a.unreadable
+  pub unreadable_b : r.unreadable_b ≡ files.b.unreadable
+  pub pairs : r.pairs ≡ length (compared_in plan files)
+  pub link : r.link ≡ length (decided_in Link plan files rule)
+  pub possible : r.possible ≡ length (decided_in Possible plan files rule)
+  pub nonlink : r.nonlink ≡ length (decided_in NonLink plan files rule)
+  pub undecided : r.undecided ≡ length (open_pairs entries (decided_in Possible plan files rule))
   pub entries_ : r.entries ≡ length entries
-  pub idle : r.idle ≡ idle_count (decided_in Possible plan p rule) entries
+  pub idle : r.idle ≡ idle_count (decided_in Possible plan files rule) entries
   pub levels : AreLevelsOf (length plan.fields) rule.cells r.levels
   pub links_ : r.links ≡ length links
   pub total : r.total ≡ worth links
-  pub dropped : r.dropped.items ≡ dropped_of (candidates_in plan p rule entries) links
+  pub dropped : r.dropped.items ≡ dropped_of (candidates_in plan files rule entries) links
 
 -- the five texts
 pub record RunTexts : Type 0 where
@@ -95,18 +97,18 @@ five_texts r = record { pairs = r.pairs; rule = r.rule; links = r.links; prices 
 
 -- texts are those of a run: of the compared pairs, of the rule, of a greatest one-to-one list of the candidates, of prices that
 -- certify it, one for each record, and of their report
-pub record AreRunTexts (plan : Plan) (p : PreparedView) (rule : SideRule) (entries : List Entry) (texts : RunTexts) : Type 0 where
+pub record AreRunTexts (plan : Plan) (files : StandardPair) (rule : FileRule) (entries : List Entry) (texts : RunTexts) : Type 0 where
   pub links : List Candidate
   pub prices_a : List ℤ
   pub prices_b : List ℤ
   pub report : Report
-  pub greatest : IsGreatest (candidates_in plan p rule entries) links
-  pub certified : Certifies (candidates_in plan p rule entries) links prices_a prices_b
-  pub priced_a : length prices_a ≡ length p.files.a.records
-  pub priced_b : length prices_b ≡ length p.files.b.records
-  pub reported : IsReportOf plan p rule entries links report
-  pub pairs_text : texts.pairs ≡ text_of_pairs (rares_of plan.fields) p.files.a.records p.files.b.records (pair_rows_in plan p rule entries)
+  pub greatest : IsGreatest (candidates_in plan files rule entries) links
+  pub certified : Certifies (candidates_in plan files rule entries) links prices_a prices_b
+  pub priced_a : length prices_a ≡ length files.a.records
+  pub priced_b : length prices_b ≡ length files.b.records
+  pub reported : IsReportOf plan files rule entries links report
+  pub pairs_text : texts.pairs ≡ text_of_pairs (rares_of plan.fields) files.a.records files.b.records (pair_rows_in plan files rule entries)
   pub rule_text : texts.rule ≡ text_of_rule (rares_of plan.fields) rule.cells
-  pub links_text : texts.links ≡ text_of_links p.files.a.records p.files.b.records links
-  pub prices_text : texts.prices ≡ text_of_prices prices_a prices_b p.files.a.records p.files.b.records
-  pub report_text : texts.report ≡ text_of_report p.files.a.records p.files.b.records report
+  pub links_text : texts.links ≡ text_of_links files.a.records files.b.records links
+  pub prices_text : texts.prices ≡ text_of_prices prices_a prices_b files.a.records files.b.records
+  pub report_text : texts.report ≡ text_of_report files.a.records files.b.records report

@@ -19,33 +19,32 @@ use Rattle.review_journal.specs.Reading.{journal_in}
 use Rattle.review_journal.specs.Text.{text_of_journal}
 use Rattle.link_report.specs.OpenText.{text_of_open}
 use Rattle.link_report.specs.declared.open.PairRow.{PairRow}
-use Rattle.pair_decisions.specs.Decisions.{pattern_at}
 use Rattle.pair_decisions.specs.PairRule.{cell_of}
 use Rattle.link_core.specs.Decisions.{Decisions}
-use Rattle.link_core.specs.Prepared.{PreparedView}
+use Rattle.standard_files.specs.Files.{StandardPair}
 
 -- the journal in these bytes, over prepared files
-abbrev pub journal_in_files : PreparedView → List ℕ → Result (List Entry) Fault
-journal_in_files p bytes = journal_in p.files.a.records p.files.b.records bytes
+abbrev pub journal_in_files : StandardPair → List ℕ → Result (List Entry) Fault
+journal_in_files files bytes = journal_in files.a.records files.b.records bytes
 
 -- the entries are on pairs of these files
-abbrev pub IsJournalOf : PreparedView → List Entry → Type 0
-IsJournalOf p entries = All (IsWithinFiles (length p.files.a.records) (length p.files.b.records)) entries
+abbrev pub IsJournalOf : StandardPair → List Entry → Type 0
+IsJournalOf files entries = All (IsWithinFiles (length files.a.records) (length files.b.records)) entries
 
 -- a text of a journal that can be loaded again
 abbrev pub text_within : List ℕ → Result (List ℕ) Fault
 text_within text = if nat_le (length text) MOST_FILE_BYTES then Ok text else Err (fault.FileTooLong role.Journal MOST_FILE_BYTES)
 
 -- the text of a journal over prepared files
-abbrev pub journal_lines_of : PreparedView → List Entry → Result (List ℕ) Fault
-journal_lines_of p entries = text_within (text_of_journal p.files.a.records p.files.b.records entries)
+abbrev pub journal_lines_of : StandardPair → List Entry → Result (List ℕ) Fault
+journal_lines_of files entries = text_within (text_of_journal files.a.records files.b.records entries)
 
 -- the text of a journal with the new verdicts in these bytes
-abbrev pub reviewed_lines_of : Bool → ℤ → List ℕ → PreparedView → List PairAt → List Entry → List ℕ → Result (List ℕ) Fault
-reviewed_lines_of double date reviewer p possible entries bytes =
-    and_then (verdicts_of p.files.a.records p.files.b.records bytes) (λ batch.
+abbrev pub reviewed_lines_of : Bool → ℤ → List ℕ → StandardPair → List PairAt → List Entry → List ℕ → Result (List ℕ) Fault
+reviewed_lines_of double date reviewer files possible entries bytes =
+    and_then (verdicts_of files.a.records files.b.records bytes) (λ batch.
     and_then (added double date reviewer possible entries batch) (λ all.
-    journal_lines_of p all))
+    journal_lines_of files all))
 
 -- a pair is open: no entry names it, or its verdict is none yet
 abbrev pub is_open : Option Verdict → Bool
@@ -58,9 +57,9 @@ abbrev pub open_pairs : List Entry → List PairAt → List PairAt
 open_pairs entries possible = filter (λ (at : PairAt). is_open (verdict_on entries at.a at.b)) possible
 
 -- a possible link with its pattern, the weight of the pattern's cell, and its verdict
-abbrev pub open_row_of : PreparedView → Decisions → List Entry → PairAt → PairRow
-open_row_of p d entries at =
-    let pattern = pattern_at d.rule p.values.a.rows p.values.b.rows at in
+abbrev pub open_row_of : Decisions → List Entry → PairAt → PairRow
+open_row_of d entries at =
+    let pattern = d.rule.pattern at in
     record {
       at = at;
       pattern = pattern;
@@ -70,8 +69,8 @@ open_row_of p d entries at =
     }
 
 -- the rows of what is open, rising, and their text
-abbrev pub open_rows_of : PreparedView → Decisions → List Entry → List PairRow
-open_rows_of p d entries = map (open_row_of p d entries) (open_pairs entries d.possible)
+abbrev pub open_rows_of : Decisions → List Entry → List PairRow
+open_rows_of d entries = map (open_row_of d entries) (open_pairs entries d.possible)
 
-abbrev pub open_text_of : PreparedView → Decisions → List Entry → List ℕ
-open_text_of p d entries = text_of_open p.files.a.records p.files.b.records (open_rows_of p d entries)
+abbrev pub open_text_of : StandardPair → Decisions → List Entry → List ℕ
+open_text_of files d entries = text_of_open files.a.records files.b.records (open_rows_of d entries)

@@ -11,16 +11,17 @@ use Rattle.level_frontier.specs.declared.levels.FrontierRow.{FrontierRow}
 use Rattle.link_report.specs.FrontierText.{text_of_frontier}
 use Rattle.link_report.specs.RuleText.{text_of_rule}
 use Rattle.pair_decisions.specs.Comparators.{rares_of}
+use Rattle.pair_decisions.specs.FieldComparators.{pattern_of_pair}
 use Rattle.pair_decisions.specs.PlanRule.{IsRuleOf}
 use Rattle.pair_decisions.specs.PlanShares.{counted_in, plain_all}
 use Rattle.link_plan.specs.Plan.{PlainShares}
 use Rattle.link_plan.specs.declared.plan.Plan.{Plan}
-use Rattle.standard_files.specs.Files.{AreOfPlan}
+use Rattle.standard_files.specs.Files.{AreOfPlan, StandardPair}
 use Rattle.pair_walk.specs.Rows.{AreAllReady, AreKeysHeld}
 use Rattle.standard_files.specs.Ready.{AreFileSides}
 use Rattle.link_core.specs.Prepared.{kinds_of, PreparedView}
 
--- prepared files are those of a plan: at most so many records each, with keys in its passes whose parts stand in the pool, whose
+-- machinery: prepared files are those of a plan: at most so many records each, with keys in its passes whose parts stand in the pool, whose
 -- ids are at hand, and a side for each of their values, which stands for it and is valid for its kind of comparison
 pub record IsPreparedFor (plan : Plan) (p : PreparedView) : Type 0 where
   pub of_a : AreOfPlan plan p.files.a.records
@@ -39,9 +40,9 @@ abbrev pub shared_rares : List PlainShares → List Bool
 shared_rares shares = map (λ (s : PlainShares). s.rare) shares
 
 -- the shares of a plan's fields by its sample of these files, or the first fault of the sample
-abbrev pub counted_by : Plan → PreparedView → List ℕ → Result (List PlainShares) Fault
-counted_by plan p sample =
-    counted_in (length p.values.texts) plan.fields p.files.a.records p.files.b.records p.values.a.rows p.values.b.rows sample
+abbrev pub counted_by : Plan → StandardPair → List ℕ → Result (List PlainShares) Fault
+counted_by plan files sample =
+    counted_in plan.fields (pattern_of_pair plan.fields files.a.records files.b.records) files.a.records files.b.records sample
 
 -- the text of the filled table of a plan for these shares, of which there is one: of all randomised rules with levels at most
 -- its own, none has a smaller chance of a possible link (Fellegi and Sunter 1969, section 2)

@@ -6,7 +6,7 @@ use Rattle.price_check.specs.Assignment.{Certifies, IsOneToOne}
 use Rattle.link_base.specs.Standard.{id_at, Record}
 use Rattle.link_base.specs.declared.rule.Candidate.{Candidate}
 use Rattle.link_limits.specs.declared.TheConstants.{MOST_FIELDS}
-use Rattle.pair_decisions.specs.PairRule.{SideRule}
+use Rattle.pair_decisions.specs.PairRule.{FileRule}
 use Rattle.pair_decisions.specs.Comparators.{rares_of}
 use Rattle.pair_decisions.specs.PlanRule.{IsRuleOf}
 use Rattle.review_journal.specs.declared.entry.Entry.{Entry}
@@ -18,13 +18,14 @@ use Rattle.written_check.specs.Short.{AreShort}
 use Rattle.written_check.specs.Verified.{verified, WrittenTexts}
 use Rattle.written_check.specs.declared.refutation.Refutation.{Refutation}
 use Rattle.written_check.specs.declared.refutation.Refutation.TheVariants as refutation
-use Rattle.link_core.specs.Prepared.{prepared, PreparedView}
+use Rattle.standard_files.specs.Files.{StandardPair}
+use Rattle.link_core.specs.Prepared.{prepared}
 use Rattle.link_core.specs.Results.{candidates_in}
 use Rattle.link_core.specs.declared.verify.Verification.{Verification}
 
 -- the links that written files prove for a plan's rule and candidates, or the first reason that refutes them
-abbrev pub verified_in : Plan → PreparedView → SideRule → List Entry → WrittenTexts → Result (List Candidate) Refutation
-verified_in plan p rule entries texts = verified (rares_of plan.fields) rule.cells (candidates_in plan p rule entries) p.files.a.records p.files.b.records texts
+abbrev pub verified_in : Plan → StandardPair → FileRule → List Entry → WrittenTexts → Result (List Candidate) Refutation
+verified_in plan files rule entries texts = verified (rares_of plan.fields) rule.cells (candidates_in plan files rule entries) files.a.records files.b.records texts
 
 -- a reason: the row at fault, the ids of the candidate that is not covered, or the two sums
 abbrev pub reason_text : List Record → List Record → Refutation → List ℕ
@@ -37,27 +38,27 @@ reason_text a b (refutation.Sum links prices) = codes "sum " ++ (signed_decimal 
 reason_text a b refutation.NoMemory = []
 
 -- the line that is printed
-abbrev pub line_of : PreparedView → Result (List Candidate) Refutation → List ℕ
-line_of p (Ok links) = codes "yes\n"
-line_of p (Err r) = codes "no: " ++ (reason_text p.files.a.records p.files.b.records r ++ codes "\n")
+abbrev pub line_of : StandardPair → Result (List Candidate) Refutation → List ℕ
+line_of files (Ok links) = codes "yes\n"
+line_of files (Err r) = codes "no: " ++ (reason_text files.a.records files.b.records r ++ codes "\n")
 
 abbrev pub is_proved : Result (List Candidate) Refutation → Bool
 is_proved (Ok links) = true
 is_proved (Err r) = false
 
 -- whether written files prove their links, and the line that says so
-pub record TellsVerdict (p : PreparedView) (told : Result (List Candidate) Refutation) (v : Verification) : Type 0 where
+pub record TellsVerdict (files : StandardPair) (told : Result (List Candidate) Refutation) (v : Verification) : Type 0 where
   pub proved : v.proved ≡ is_proved told
-  pub line : v.line ≡ line_of p told
+  pub line : v.line ≡ line_of files told
 
 -- what a run goes by: the plan of a settings file, its two files as they are prepared, and the rule of its fields' shares
-pub record IsRunOf (plan : Plan) (p : PreparedView) (shares : List PlainShares) (rule : SideRule) : Type 0 where
+pub record IsRunOf (plan : Plan) (files : StandardPair) (shares : List PlainShares) (rule : FileRule) : Type 0 where
   pub bytes : List ℕ
   pub bytes_a : List ℕ
   pub bytes_b : List ℕ
   pub limit : ℕ
   pub of_settings : settings bytes ≡ Ok plan
-  pub of_files : prepared plan limit bytes_a bytes_b ≡ Ok p
+  pub of_files : prepared plan limit bytes_a bytes_b ≡ Ok files
   pub few_shares : length shares ≤ MOST_FIELDS
   pub of_shares : IsRuleOf plan shares rule.cells
 
@@ -67,15 +68,15 @@ pub record AreProof (told : Result (List Candidate) Refutation) (links : List Ca
   pub short : AreShort texts
 
 -- the texts of a rule, of links and of prices, over prepared files
-abbrev pub run_texts : Plan → PreparedView → SideRule → List Candidate → List ℤ → List ℤ → WrittenTexts
-run_texts plan p rule links prices_a prices_b =
-    written_texts (rares_of plan.fields) rule.cells links prices_a prices_b p.files.a.records p.files.b.records
+abbrev pub run_texts : Plan → StandardPair → FileRule → List Candidate → List ℤ → List ℤ → WrittenTexts
+run_texts plan files rule links prices_a prices_b =
+    written_texts (rares_of plan.fields) rule.cells links prices_a prices_b files.a.records files.b.records
 
 -- what a run writes proves its links: `run_is_verified`
 abbrev pub RunIsVerified : Type 0
 RunIsVerified =
-    (plan : Plan) (p : PreparedView) (shares : List PlainShares) (rule : SideRule) (entries : List Entry) (links : List Candidate) (prices_a prices_b : List ℤ)
-    → IsRunOf plan p shares rule → IsOneToOne (candidates_in plan p rule entries) links
-    → Certifies (candidates_in plan p rule entries) links prices_a prices_b
-    → length prices_a ≡ length p.files.a.records → length prices_b ≡ length p.files.b.records
-    → AreProof (verified_in plan p rule entries (run_texts plan p rule links prices_a prices_b)) links (run_texts plan p rule links prices_a prices_b)
+    (plan : Plan) (files : StandardPair) (shares : List PlainShares) (rule : FileRule) (entries : List Entry) (links : List Candidate) (prices_a prices_b : List ℤ)
+    → IsRunOf plan files shares rule → IsOneToOne (candidates_in plan files rule entries) links
+    → Certifies (candidates_in plan files rule entries) links prices_a prices_b
+    → length prices_a ≡ length files.a.records → length prices_b ≡ length files.b.records
+    → AreProof (verified_in plan files rule entries (run_texts plan files rule links prices_a prices_b)) links (run_texts plan files rule links prices_a prices_b)

@@ -15,7 +15,7 @@ use crate::rules::PlanShares;
 use link_base::{Fault, FileRole, NoMemory};
 use link_plan::Plan;
 use pair_decisions::{
-    Decided, PairRule, decide_pairs, is_the_rule, rule_has_patterns, rule_of_shares,
+    Decided, PairRule, decide_pairs, is_the_rule, rule_has_patterns, rule_of_shares, same_patterns,
 };
 use std::alloc::Global;
 
@@ -29,7 +29,7 @@ fn rule_for(
     requires ranges { KeepsRanges plan.now }
     requires ready { IsPreparedFor plan.now prepared.now }
     requires rares { shared_rares shares.now ≡ rares_of plan.now.fields }
-    ensures rule { IfOk result (λ rule. side_rule rule ≡ rule_over plan.now prepared.now shares.now) }
+    ensures rule { IfOk result (λ rule. side_rule rule prepared.now.values.a.rows prepared.now.values.b.rows ≡ rule_over plan.now prepared.now.files shares.now) }
     ensures filled { IfOk result (λ rule. IsRuleOf plan.now shares.now rule.cells) }
     ensures cells { IfOk result (λ rule. AreCellsOf (pattern_count_by (rares_of plan.now.fields)) rule.cells) }
     ensures sides_a { IfOk result (λ rule. All (AreSidesFor rule) prepared.now.values.a.rows) }
@@ -38,6 +38,7 @@ fn rule_for(
     let table = rule_of_shares(alloc, plan, shares.fields())?;
     rule_has_patterns();
     is_the_rule();
+    same_patterns(prepared.pool());
     PairRule::new(
         alloc,
         plan,
@@ -63,7 +64,7 @@ pub fn decide_all(
     requires ready { IsPreparedFor plan.now prepared.now }
     requires rares { shared_rares shares.now ≡ rares_of plan.now.fields }
     ensures kind { IfErr result IsInputFault }
-    ensures answer { Gives decisions_of (decided plan.now prepared.now shares.now) result }
+    ensures answer { Gives (decisions_of prepared.now) (decided plan.now prepared.now.files shares.now) result }
     ensures of_files { IfOk result (IsDecidedIn prepared.now) }
     ensures of_plan { IfOk result (IsDecidedFor plan.now prepared.now) }
     ensures rule { IfOk result (λ d. IsRuleOf plan.now shares.now d.rule.cells) }

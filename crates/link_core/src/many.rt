@@ -2,12 +2,11 @@
 ghost use Rattle.std.specs.Prelude.{◌≡◌, ◌<◌, ◌++◌, All, IfErr, IfOk, length};
 ghost use Rattle.link_base.specs.Fault.{IsAnswer, IsInputFault};
 ghost use Rattle.link_base.specs.declared.rule.Candidate.{Candidate as Link};
-ghost use Rattle.link_core.specs.Decisions.{IsDecidedIn};
+ghost use Rattle.link_core.specs.Decisions.{IsDecidedIn, rule_in};
 ghost use Rattle.link_core.specs.Many.{AreCapacitiesOf, capacities_in_file, IsManyText};
 ghost use Rattle.link_core.specs.Results.{IsDecidedFor};
 ghost use Rattle.link_report.specs.LinksText.{text_of_links};
 ghost use Rattle.link_report.specs.PricesText.{text_of_prices};
-ghost use Rattle.pair_decisions.specs.PairRule.{side_rule};
 ghost use Rattle.link_plan.specs.Ranges.{KeepsRanges};
 
 use crate::preparing::Prepared;
@@ -26,8 +25,8 @@ pub fn capacities_in_file(
     bytes: &[u8],
 ) -> Result<Capacities, Fault>
     ensures kind { IfErr result IsInputFault }
-    ensures answer { IsAnswer (capacities_in_file prepared.now bytes.now) result }
-    ensures of_files { IfOk result (AreCapacitiesOf prepared.now) }
+    ensures answer { IsAnswer (capacities_in_file prepared.now.files bytes.now) result }
+    ensures of_files { IfOk result (AreCapacitiesOf prepared.now.files) }
 {
     read_capacities(alloc, bytes, prepared.b())
 }
@@ -65,8 +64,8 @@ pub fn many_lines(
     requires ranges { KeepsRanges plan.now }
     requires of_files { IsDecidedIn prepared.now decided.now }
     requires decided { IsDecidedFor plan.now prepared.now decided.now }
-    requires capacities { AreCapacitiesOf prepared.now capacities.now }
-    ensures { IfOk result (λ text. IsManyText plan.now prepared.now (side_rule decided.now.rule) journal.now capacities.now text) }
+    requires capacities { AreCapacitiesOf prepared.now.files capacities.now }
+    ensures { IfOk result (λ text. IsManyText plan.now prepared.now.files (rule_in prepared.now decided.now) journal.now capacities.now text) }
 {
     let found = candidates(alloc, plan, prepared, decided, journal)?;
     let chosen = choose_within(

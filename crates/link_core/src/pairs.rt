@@ -72,7 +72,7 @@ fn ids_of_rows(alloc: Global, walker: Walker<'_>, a: &StdFile, b: &StdFile) -> R
 pub fn pair_ids(alloc: Global, plan: &Plan, prepared: &Prepared) -> Result<Text, Fault>
     requires { IsPreparedFor plan.now prepared.now }
     ensures kind { IfErr result IsInputFault }
-    ensures answer { IsAnswer (ids_of_prepared plan.now.passes prepared.now) result }
+    ensures answer { IsAnswer (ids_of_prepared plan.now.passes prepared.now.files) result }
 {
     let blocks = prepared.blocks(alloc, plan)?;
     ids_of_rows(alloc, blocks.walk(), prepared.a(), prepared.b())

@@ -1,8 +1,8 @@
 // Two files ready to be compared.
-ghost use Rattle.std.specs.Prelude.{◌≡◌, ◌≤◌, All, IfErr, IfOk, length};
+ghost use Rattle.std.specs.Prelude.{◌≡◌, ◌≤◌, All, IfErr, IfOk, Ok, length};
 ghost use Rattle.block_passes.specs.KeyIds.{key_ids};
-ghost use Rattle.link_base.specs.Fault.{IsAnswer, IsInputFault};
-ghost use Rattle.link_core.specs.Prepared.{ArePooled, IsOneOfBoth, kinds_of, pooled_pair, prepared, sides_in, unreadable_of, with_fault};
+ghost use Rattle.link_base.specs.Fault.{Gives, IsAnswer, IsInputFault};
+ghost use Rattle.link_core.specs.Prepared.{ArePooled, files_of, IsOneOfBoth, kinds_of, pooled, prepared, sides_in, unreadable_of, with_fault, with_room};
 ghost use Rattle.standard_files.specs.Ready.{AreFileSides, AreInRange, IsRowFor};
 ghost use Rattle.standard_files.specs.Sides.{pooled_values};
 ghost use Rattle.link_core.specs.Rules.{IsPreparedFor};
@@ -183,7 +183,8 @@ fn pool_pair(
     requires of_a { AreOfPlan plan.now files.a.records }
     requires of_b { AreOfPlan plan.now files.b.records }
     ensures kind { IfErr result IsInputFault }
-    ensures answer { IsAnswer (pooled_pair plan.now pool_limit files) result }
+    ensures answer { Gives files_of (with_room plan.now pool_limit files) result }
+    ensures pooled { IfOk result (λ p. pooled plan.now pool_limit p.files ≡ Ok p.values) }
     ensures limit { IfOk result (λ p. p.values.limit ≡ pool_limit) }
     ensures fields_a { IfOk result (λ p. p.values.a.fields ≡ length plan.now.fields) }
     ensures fields_b { IfOk result (λ p. p.values.b.fields ≡ length plan.now.fields) }
@@ -217,7 +218,8 @@ pub fn prepare(
     requires ranges { KeepsRanges plan.now }
     requires limit { pool_limit ≤ MOST_POOL_LIMIT }
     ensures kind { IfErr result IsInputFault }
-    ensures answer { IsAnswer (prepared plan.now pool_limit a.now b.now) result }
+    ensures answer { Gives files_of (prepared plan.now pool_limit a.now b.now) result }
+    ensures pooled { IfOk result (λ p. pooled plan.now pool_limit p.files ≡ Ok p.values) }
     ensures of_a { IfOk result (λ p. AreOfPlan plan.now p.files.a.records) }
     ensures of_b { IfOk result (λ p. AreOfPlan plan.now p.files.b.records) }
     ensures limit { IfOk result (λ p. p.values.limit ≡ pool_limit) }
@@ -249,7 +251,8 @@ pub fn prepare_texts(
     requires ranges { KeepsRanges plan.now }
     requires limit { pool_limit ≤ MOST_POOL_LIMIT }
     ensures kind { IfErr result IsInputFault }
-    ensures answer { IsAnswer (prepared plan.now pool_limit a b) result }
+    ensures answer { Gives files_of (prepared plan.now pool_limit a b) result }
+    ensures pooled { IfOk result (λ p. pooled plan.now pool_limit p.files ≡ Ok p.values) }
     ensures ready { IfOk result (IsPreparedFor plan.now) }
 {
     let files = read_files(alloc, plan, a.bytes(), b.bytes());

@@ -3,7 +3,7 @@ ghost use Rattle.std.specs.Prelude.{◌≡◌, ◌<◌, ◌≤◌, All, IfOk, le
 ghost use Rattle.price_check.specs.Assignment.{Certifies, IsGreatest, worth};
 ghost use Rattle.candidate_links.specs.Candidates.{AreCandidates};
 ghost use Rattle.candidate_links.specs.Choice.{dropped_of};
-ghost use Rattle.link_core.specs.Decisions.{IsDecidedIn};
+ghost use Rattle.link_core.specs.Decisions.{IsDecidedIn, rule_in};
 ghost use Rattle.link_base.specs.Rule.{HasBoundedSums};
 ghost use Rattle.link_limits.specs.declared.TheConstants.{MOST_PAIRS};
 ghost use Rattle.link_core.specs.Results.{AreLevelsOf, AreRunTexts, candidates_in, IsDecidedFor, IsReportOf, KeepsRows, pair_rows_in, five_texts};
@@ -14,7 +14,6 @@ ghost use Rattle.link_report.specs.PairsText.{text_of_pairs};
 ghost use Rattle.link_report.specs.PricesText.{text_of_prices};
 ghost use Rattle.link_report.specs.RuleText.{text_of_rule};
 ghost use Rattle.link_report.specs.declared.report.Dropped.{Dropped as Row};
-ghost use Rattle.pair_decisions.specs.PairRule.{side_rule};
 ghost use Rattle.pair_decisions.specs.Comparators.{rares_of};
 ghost use Rattle.link_plan.specs.Ranges.{KeepsRanges};
 
@@ -51,7 +50,7 @@ pub fn candidates(
     requires ranges { KeepsRanges plan.now }
     requires of_files { IsDecidedIn prepared.now decided.now }
     requires decided { IsDecidedFor plan.now prepared.now decided.now }
-    ensures { IfOk result (λ cs. AreCandidates (length prepared.now.files.a.records) (length prepared.now.files.b.records) (candidates_in plan.now prepared.now (side_rule decided.now.rule) journal.now) cs.items) }
+    ensures { IfOk result (λ cs. AreCandidates (length prepared.now.files.a.records) (length prepared.now.files.b.records) (candidates_in plan.now prepared.now.files (rule_in prepared.now decided.now) journal.now) cs.items) }
 {
     candidates_among(
         alloc,
@@ -74,8 +73,8 @@ fn links_of(
     requires ranges { KeepsRanges plan.now }
     requires of_files { IsDecidedIn prepared.now decided.now }
     requires decided { IsDecidedFor plan.now prepared.now decided.now }
-    ensures greatest { IfOk result (λ c. IsGreatest (candidates_in plan.now prepared.now (side_rule decided.now.rule) journal.now) c.links.items) }
-    ensures certified { IfOk result (λ c. Certifies (candidates_in plan.now prepared.now (side_rule decided.now.rule) journal.now) c.links.items c.prices_a.items c.prices_b.items) }
+    ensures greatest { IfOk result (λ c. IsGreatest (candidates_in plan.now prepared.now.files (rule_in prepared.now decided.now) journal.now) c.links.items) }
+    ensures certified { IfOk result (λ c. Certifies (candidates_in plan.now prepared.now.files (rule_in prepared.now decided.now) journal.now) c.links.items c.prices_a.items c.prices_b.items) }
     ensures priced_a { IfOk result (λ c. length c.prices_a.items ≡ length prepared.now.files.a.records) }
     ensures priced_b { IfOk result (λ c. length c.prices_b.items ≡ length prepared.now.files.b.records) }
     ensures in_a { IfOk result (λ c. All (λ (l : Link). l.a < length prepared.now.files.a.records) c.links.items) }
@@ -83,7 +82,7 @@ fn links_of(
     ensures few { IfOk result (λ c. length c.links.items ≤ MOST_PAIRS) }
     ensures left_a { IfOk result (λ c. All (λ (d : Row). d.at.a < length prepared.now.files.a.records) c.dropped.items) }
     ensures left_b { IfOk result (λ c. All (λ (d : Row). d.at.b < length prepared.now.files.b.records) c.dropped.items) }
-    ensures dropped { IfOk result (λ c. c.dropped.items ≡ dropped_of (candidates_in plan.now prepared.now (side_rule decided.now.rule) journal.now) c.links.items) }
+    ensures dropped { IfOk result (λ c. c.dropped.items ≡ dropped_of (candidates_in plan.now prepared.now.files (rule_in prepared.now decided.now) journal.now) c.links.items) }
     ensures total { IfOk result (λ c. c.total ≡ worth c.links.items) }
 {
     let found = candidates(alloc, plan, prepared, decided, journal)?;
@@ -101,7 +100,7 @@ fn pairs_of(
     requires of_files { IsDecidedIn prepared.now decided.now }
     requires decided { IsDecidedFor plan.now prepared.now decided.now }
     requires rows { KeepsRows plan.now prepared.now decided.now }
-    ensures { IfOk result (λ text. text ≡ text_of_pairs (rares_of plan.now.fields) prepared.now.files.a.records prepared.now.files.b.records (pair_rows_in plan.now prepared.now (side_rule decided.now.rule) journal.now)) }
+    ensures { IfOk result (λ text. text ≡ text_of_pairs (rares_of plan.now.fields) prepared.now.files.a.records prepared.now.files.b.records (pair_rows_in plan.now prepared.now.files (rule_in prepared.now decided.now) journal.now)) }
 {
     pair_lines(
         alloc,
@@ -162,10 +161,10 @@ fn report_of(
     requires ranges { KeepsRanges plan.now }
     requires of_files { IsDecidedIn prepared.now decided.now }
     requires decided { IsDecidedFor plan.now prepared.now decided.now }
-    requires dropped { chosen.dropped.items ≡ dropped_of (candidates_in plan.now prepared.now (side_rule decided.now.rule) journal.now) chosen.links.items }
+    requires dropped { chosen.dropped.items ≡ dropped_of (candidates_in plan.now prepared.now.files (rule_in prepared.now decided.now) journal.now) chosen.links.items }
     requires total { chosen.total ≡ worth chosen.links.items }
     requires few { length chosen.links.items ≤ MOST_PAIRS }
-    ensures numbers { IsReportOf plan.now prepared.now (side_rule decided.now.rule) journal.now chosen.links.items result }
+    ensures numbers { IsReportOf plan.now prepared.now.files (rule_in prepared.now decided.now) journal.now chosen.links.items result }
     ensures dropped { result.dropped.items ≡ chosen.dropped.items }
     ensures bounded { HasBoundedSums result.levels }
 {
@@ -221,7 +220,7 @@ pub fn finish(
     requires of_files { IsDecidedIn prepared.now decided.now }
     requires of_plan { IsDecidedFor plan.now prepared.now decided.now }
     requires rows { KeepsRows plan.now prepared.now decided.now }
-    ensures { IfOk result (λ r. AreRunTexts plan.now prepared.now (side_rule decided.now.rule) journal.now (five_texts r)) }
+    ensures { IfOk result (λ r. AreRunTexts plan.now prepared.now.files (rule_in prepared.now decided.now) journal.now (five_texts r)) }
 {
     let chosen = links_of(alloc, plan, prepared, decided, journal)?;
     let (links, prices) = link_texts(

@@ -18,8 +18,8 @@ use std::alloc::Global;
 /// The journal in a file, over prepared files, or the first fault of the file.
 pub fn journal_in_files(alloc: Global, prepared: &Prepared, bytes: &[u8]) -> Result<Journal, Fault>
     ensures kind { IfErr result IsInputFault }
-    ensures answer { IsAnswer (journal_in_files prepared.now bytes.now) result }
-    ensures of_files { IfOk result (IsJournalOf prepared.now) }
+    ensures answer { IsAnswer (journal_in_files prepared.now.files bytes.now) result }
+    ensures of_files { IfOk result (IsJournalOf prepared.now.files) }
 {
     read_journal(alloc, bytes, prepared.a(), prepared.b())
 }
@@ -41,9 +41,9 @@ fn within_limit(text: Text) -> Result<Text, Fault>
 /// The text of a journal over prepared files; it is too long where it has more than `MOST_FILE_BYTES`, since no later command
 /// could load it.
 pub fn journal_lines(alloc: Global, prepared: &Prepared, journal: &Journal) -> Result<Text, Fault>
-    requires of_files { IsJournalOf prepared.now journal.now }
+    requires of_files { IsJournalOf prepared.now.files journal.now }
     ensures kind { IfErr result IsInputFault }
-    ensures answer { IsAnswer (journal_lines_of prepared.now journal.now) result }
+    ensures answer { IsAnswer (journal_lines_of prepared.now.files journal.now) result }
 {
     let text = journal_text(alloc, journal, prepared.a(), prepared.b())?;
     within_limit(text)
@@ -65,9 +65,9 @@ pub fn add_verdicts(
     requires day { IsDay date }
     requires reviewer { IsReviewer reviewer.now }
     requires decided { IsDecidedIn prepared.now decided.now }
-    requires of_files { IsJournalOf prepared.now journal.old }
+    requires of_files { IsJournalOf prepared.now.files journal.old }
     ensures kind { IfErr result IsInputFault }
-    ensures answer { IsAnswer (reviewed_lines_of double date reviewer.now prepared.now decided.now.possible journal.old verdicts.now) result }
+    ensures answer { IsAnswer (reviewed_lines_of double date reviewer.now prepared.now.files decided.now.possible journal.old verdicts.now) result }
 {
     let batch = match read_verdicts(alloc, verdicts, prepared.a(), prepared.b()) {
         Ok(batch) => batch,
@@ -94,7 +94,7 @@ fn row_of(prepared: &Prepared, decided: &Decided, journal: &Journal, at: PairAt)
     requires decided { IsDecidedIn prepared.now decided.now }
     requires in_a { at.a < length prepared.now.files.a.records }
     requires in_b { at.b < length prepared.now.files.b.records }
-    ensures { result ≡ open_row_of prepared.now (decisions_of decided.now) journal.now at }
+    ensures { result ≡ open_row_of (decisions_of prepared.now decided.now) journal.now at }
 {
     let rule = decided.rule();
     let pattern = rule.pattern(
@@ -118,7 +118,7 @@ pub fn open_rows(
     journal: &Journal,
 ) -> Result<Vec<PairRow>, NoMemory>
     requires decided { IsDecidedIn prepared.now decided.now }
-    ensures rows { IfOk result (λ rows. rows.items ≡ open_rows_of prepared.now (decisions_of decided.now) journal.now) }
+    ensures rows { IfOk result (λ rows. rows.items ≡ open_rows_of (decisions_of prepared.now decided.now) journal.now) }
     ensures in_a { IfOk result (λ rows. All (λ (r : Row). r.at.a < length prepared.now.files.a.records) rows.items) }
     ensures in_b { IfOk result (λ rows. All (λ (r : Row). r.at.b < length prepared.now.files.b.records) rows.items) }
 {
@@ -140,7 +140,7 @@ pub fn open_lines(
     journal: &Journal,
 ) -> Result<Text, NoMemory>
     requires decided { IsDecidedIn prepared.now decided.now }
-    ensures { IfOk result (λ text. text ≡ open_text_of prepared.now (decisions_of decided.now) journal.now) }
+    ensures { IfOk result (λ text. text ≡ open_text_of prepared.now.files (decisions_of prepared.now decided.now) journal.now) }
 {
     let rows = open_rows(alloc, prepared, decided, journal)?;
     open_text(alloc, &rows, prepared.a(), prepared.b())

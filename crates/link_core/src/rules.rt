@@ -1,9 +1,10 @@
 // The decision rule of a plan, and its frontier of levels.
 ghost use Rattle.std.specs.Prelude.{◌≡◌, ◌≤◌, All, IfErr, IfOk, None, length};
-ghost use Rattle.link_base.specs.Fault.{IsAnswer, IsInputFault};
+ghost use Rattle.link_base.specs.Fault.{Gives, IsAnswer, IsInputFault};
 ghost use Rattle.link_core.specs.Rules.{counted_by, IsFrontierText, IsPreparedFor, IsRuleText, shared_rares};
 ghost use Rattle.pair_decisions.specs.Comparators.{rares_of};
 ghost use Rattle.link_limits.specs.declared.TheConstants.{MOST_FIELDS};
+ghost use Rattle.patterns.specs.Chances.{rare_in};
 ghost use Rattle.pair_decisions.specs.PlanShares.{given_in, plain_all};
 ghost use Rattle.link_plan.specs.Ranges.{KeepsRanges};
 
@@ -13,7 +14,7 @@ use link_base::{Fault, FieldShares, FileRole, Levels, NoMemory, RuleTable, Text}
 use link_limits::PER_MILLION;
 use link_plan::Plan;
 use link_report::{frontier_text, rule_text};
-use pair_decisions::{counted_shares, given_shares, rule_of_shares};
+use pair_decisions::{counted_shares, given_shares, rule_of_shares, same_patterns};
 use patterns::patterns_of;
 use std::alloc::Global;
 use std::marker::Model;
@@ -59,6 +60,35 @@ impl PlanShares {
     }
 }
 
+// The shares of a plan's fields by its sample of two prepared files, field by field, or the first fault of the sample.
+fn counted_fields(
+    alloc: Global,
+    plan: &Plan,
+    prepared: &Prepared,
+    sample: &[u8],
+) -> Result<Vec<FieldShares>, Fault>
+    requires ranges { KeepsRanges plan.now }
+    requires files { IsPreparedFor plan.now prepared.now }
+    ensures kind { IfErr result IsInputFault }
+    ensures answer { Gives (λ all. plain_all all.items) (counted_by plan.now prepared.now.files sample.now) result }
+    ensures rares { IfOk result (λ all. rare_in all.items ≡ rares_of plan.now.fields) }
+    ensures some { IfOk result (λ all. 1 ≤ length all.items) }
+    ensures few { IfOk result (λ all. length all.items ≤ MOST_FIELDS) }
+{
+    same_patterns(prepared.pool());
+    let texts = prepared.pool().len();
+    counted_shares(
+        alloc,
+        plan,
+        sample,
+        prepared.a(),
+        prepared.b(),
+        texts,
+        prepared.sides(FileRole::A),
+        prepared.sides(FileRole::B),
+    )
+}
+
 /// The shares of a plan's fields by its sample of two prepared files, or the first fault of the sample.
 pub fn counted(
     alloc: Global,
@@ -69,20 +99,10 @@ pub fn counted(
     requires ranges { KeepsRanges plan.now }
     requires files { IsPreparedFor plan.now prepared.now }
     ensures kind { IfErr result IsInputFault }
-    ensures answer { IsAnswer (counted_by plan.now prepared.now sample.now) result }
+    ensures answer { IsAnswer (counted_by plan.now prepared.now.files sample.now) result }
     ensures rares { IfOk result (λ shares. shared_rares shares ≡ rares_of plan.now.fields) }
 {
-    let texts = prepared.pool().len();
-    let all = counted_shares(
-        alloc,
-        plan,
-        sample,
-        prepared.a(),
-        prepared.b(),
-        texts,
-        prepared.sides(FileRole::A),
-        prepared.sides(FileRole::B),
-    )?;
+    let all = counted_fields(alloc, plan, prepared, sample)?;
     Ok(PlanShares { all })
 }
 

@@ -1,11 +1,10 @@
 // What an auditor is told of written files.
 ghost use Rattle.std.specs.Prelude.{◌≡◌, ◌++◌, ◌≤◌, [], Err, IfOk, OnOk, decimal, length};
 ghost use Rattle.std.specs.Fmt.{signed_decimal};
-ghost use Rattle.link_core.specs.Decisions.{IsDecidedIn};
+ghost use Rattle.link_core.specs.Decisions.{IsDecidedIn, rule_in};
 ghost use Rattle.link_core.specs.Results.{candidates_in, IsDecidedFor};
 ghost use Rattle.link_core.specs.Verify.{RunIsVerified, TellsVerdict, line_of, reason_text, verified_in};
 ghost use Rattle.link_limits.specs.declared.TheConstants.{MOST_WRITTEN_BYTES};
-ghost use Rattle.pair_decisions.specs.PairRule.{side_rule};
 ghost use Rattle.link_plan.specs.Ranges.{KeepsRanges};
 ghost use Rattle.written_check.specs.Refuted.{IsRefutationWithin};
 ghost use Rattle.written_check.specs.Verified.{texts_in};
@@ -97,7 +96,7 @@ fn refuted_line(
     prepared: &Prepared,
 ) -> Result<Text, NoMemory>
     requires within { IsRefutationWithin (length prepared.now.files.a.records) (length prepared.now.files.b.records) refutation }
-    ensures { IfOk result (λ line. line ≡ line_of prepared.now (Err refutation)) }
+    ensures { IfOk result (λ line. line ≡ line_of prepared.now.files (Err refutation)) }
 {
     let mut text = Vec::new(alloc);
     text.extend_from_slice(b"no: ")?;
@@ -122,7 +121,7 @@ pub fn verify_files(
     requires rule { length written.now.rule ≤ MOST_WRITTEN_BYTES }
     requires links { length written.now.links ≤ MOST_WRITTEN_BYTES }
     requires prices { length written.now.prices ≤ MOST_WRITTEN_BYTES }
-    ensures { IfOk result (λ v. TellsVerdict prepared.now (verified_in plan.now prepared.now (side_rule decided.now.rule) journal.now (texts_in written.now)) v) }
+    ensures { IfOk result (λ v. TellsVerdict prepared.now.files (verified_in plan.now prepared.now.files (rule_in prepared.now decided.now) journal.now (texts_in written.now)) v) }
 {
     candidates_are_bounded();
     let found = candidates(alloc, plan, prepared, decided, journal)?;

@@ -11,7 +11,7 @@ use Rattle.link_base.specs.declared.fault.FileRole.TheVariants as role
 use Rattle.link_base.specs.declared.rule.Candidate.{Candidate}
 use Rattle.link_core.proofs.RunLemmas.{counted_few, given_few}
 use Rattle.link_core.specs.Decisions.{decided}
-use Rattle.link_core.specs.Prepared.{PreparedView}
+use Rattle.standard_files.specs.Files.{StandardPair}
 use Rattle.link_core.specs.Results.{RunTexts}
 use Rattle.link_core.specs.Verify.{line_of, run_texts, RunIsVerified, verified_in}
 use Rattle.link_limits.specs.declared.TheConstants.{MOST_POOLED_BYTES, MOST_WRITTEN_BYTES}
@@ -111,17 +111,17 @@ module _ (plan : Plan) (names : AreFiles plan.file_a plan.file_b plan.sample pla
   unfolding ◌>>=◌
   loads_files = (names.file_a.no_output, λ a. (names.file_b.no_output, λ b. tt))
 
-  loads_sample : (files : PreparedView) (sample : Option (List ℕ)) → IfSome sample IsFileName → AllLoads IsKept (shares_over plan files sample)
+  loads_sample : (files : StandardPair) (sample : Option (List ℕ)) → IfSome sample IsFileName → AllLoads IsKept (shares_over plan files sample)
   unfolding ◌>>=◌
   loads_sample files None h = tt
   loads_sample files (Some name) h = (h.no_output, λ bytes. tt)
 
-  loads_journal : (files : PreparedView) (journal : Option (List ℕ)) → IfSome journal IsFileName → AllLoads IsKept (journal_file files journal)
+  loads_journal : (files : StandardPair) (journal : Option (List ℕ)) → IfSome journal IsFileName → AllLoads IsKept (journal_file files journal)
   unfolding ◌>>=◌
   loads_journal files None h = tt
   loads_journal files (Some name) h = (h.no_output, λ bytes. tt)
 
-  loads_decisions : (files : PreparedView) → AllLoads IsKept (decided_plan plan files)
+  loads_decisions : (files : StandardPair) → AllLoads IsKept (decided_plan plan files)
   loads_decisions files =
       loads_then IsKept (shares_over plan files plan.sample) _ (loads_sample files plan.sample names.sample) (λ shares.
       loads_then IsKept (gives (decided plan files shares)) _ tt (λ d. tt))
@@ -158,7 +158,7 @@ written_held texts held short =
     ∙ outcome_go (file_within MOST_WRITTEN_BYTES role.Prices (codes "prices.csv")) _ after texts.prices (file_held role.Prices MOST_WRITTEN_BYTES (codes "prices.csv") texts.prices after refl short.prices)
 
 -- a plan has no more shares than fields
-pub shares_few : (plan : Plan) (files : PreparedView) (held : Held) (shares : List PlainShares) (sample : Option (List ℕ)) → outcome (shares_over plan files sample) held ≡ Ok shares → length shares ≤ length plan.fields
+pub shares_few : (plan : Plan) (files : StandardPair) (held : Held) (shares : List PlainShares) (sample : Option (List ℕ)) → outcome (shares_over plan files sample) held ≡ Ok shares → length shares ≤ length plan.fields
 shares_few plan files held shares None e =
     let is = ok_same _ shares e in
     omega (arith, ap (λ (s : List PlainShares). length s) is, given_few plan.fields)

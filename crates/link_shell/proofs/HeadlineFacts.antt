@@ -16,7 +16,7 @@ use Rattle.link_base.specs.declared.rule.Verdict.{Verdict}
 use Rattle.link_base.specs.declared.rule.Verdict.TheVariants as verdict
 use Rattle.link_core.specs.Decisions.{decided, decided_by, Decisions, rule_over}
 use Rattle.link_core.specs.Pairs.{plan_pairs}
-use Rattle.link_core.specs.Prepared.{PreparedView}
+use Rattle.standard_files.specs.Files.{StandardPair}
 use Rattle.link_core.specs.Results.{candidates_in, compared_in}
 use Rattle.link_outside.specs.Outside.{Held}
 use Rattle.link_outside.specs.declared.outside.SinkError.{SinkError}
@@ -24,7 +24,7 @@ use Rattle.link_outside.specs.declared.outside.SinkError.TheVariants as sink
 use Rattle.price_check.specs.Assignment.{Certifies, IsGreatest}
 use Rattle.pair_decisions.proofs.PairLemmas.{compared_rise}
 use Rattle.pair_decisions.specs.Decisions.{decision_at}
-use Rattle.pair_decisions.specs.PairRule.{SideRule}
+use Rattle.pair_decisions.specs.PairRule.{FileRule}
 use Rattle.review_journal.specs.Verdict.{verdict_on}
 use Rattle.review_journal.specs.declared.entry.Entry.{Entry}
 use Rattle.link_plan.specs.declared.plan.Plan.{Plan}
@@ -85,9 +85,9 @@ settings_found name held found e =
     subst (λ f. SettingsFound name held f) (ok_same _ _ review.2) (record { of_settings = plan.1; by = found_by plan.0 held review.0 review.1 })
 
 -- the rule of decisions is that of the plan and its shares
-pub rule_is : (r : Result (List PairAt) Fault) (rule : SideRule) (p : PreparedView) (d : Decisions) → and_then r (λ pairs. Ok (decided_by rule p pairs)) ≡ Ok d → d.rule ≡ rule
-rule_is (Ok pairs) rule p d e = ap (λ (x : Decisions). x.rule) (sym (ok_same _ _ e))
-rule_is (Err f) rule p d e = no_ok f d e
+pub rule_is : (r : Result (List PairAt) Fault) (rule : FileRule) (d : Decisions) → and_then r (λ pairs. Ok (decided_by rule pairs)) ≡ Ok d → d.rule ≡ rule
+rule_is (Ok pairs) rule d e = ap (λ (x : Decisions). x.rule) (sym (ok_same _ _ e))
+rule_is (Err f) rule d e = no_ok f d e
 
 -- a candidate is a link by the rule, or by review
 abbrev IsBy : Decision → Option Verdict → PairAt → Candidate → Type 0
@@ -104,29 +104,29 @@ of_decision decision.Link v at w award c e = (inl refl, ap (λ (x : Candidate). 
 of_decision decision.Possible v at w award c e = let h = of_verdict v at w award c e in (inr (refl, h.0), h.1)
 of_decision decision.NonLink v at w award c e = absurd (cc)
 
-module _ (files : PreparedView) (rule : SideRule) (journal : List Entry) (award : ℕ) where
-  of_pair : (at : PairAt) (c : Candidate) → candidate_of rule files.values.a.rows files.values.b.rows journal award at ≡ Some c → IsByRuleOrReview files rule journal c
+module _ (rule : FileRule) (journal : List Entry) (award : ℕ) where
+  of_pair : (at : PairAt) (c : Candidate) → candidate_of rule journal award at ≡ Some c → IsByRuleOrReview rule journal c
   of_pair at c e =
-      let h = of_decision (decision_at rule files.values.a.rows files.values.b.rows at) (verdict_on journal at.a at.b) at (weight_of_pair rule files.values.a.rows files.values.b.rows at) award c e in
-      let P : PairAt → Type 0 = λ x. (decision_at rule files.values.a.rows files.values.b.rows x ≡ decision.Link)
-      ⊎ ((decision_at rule files.values.a.rows files.values.b.rows x ≡ decision.Possible) × (verdict_on journal x.a x.b ≡ Some verdict.Link)) in
+      let h = of_decision (decision_at rule at) (verdict_on journal at.a at.b) at (weight_of_pair rule at) award c e in
+      let P : PairAt → Type 0 = λ x. (decision_at rule x ≡ decision.Link)
+      ⊎ ((decision_at rule x ≡ decision.Possible) × (verdict_on journal x.a x.b ≡ Some verdict.Link)) in
       subst P h.1 h.0
 
-  all_by : (pairs : List PairAt) → All (IsByRuleOrReview files rule journal) (candidates_of rule files.values.a.rows files.values.b.rows journal award pairs)
+  all_by : (pairs : List PairAt) → All (IsByRuleOrReview rule journal) (candidates_of rule journal award pairs)
   all_by [] = λ k d within. absurd (omega arith)
   all_by (at ∷ pairs) =
-      all_if (IsByRuleOrReview files rule journal) (candidates_of rule files.values.a.rows files.values.b.rows journal award pairs) (candidate_of rule files.values.a.rows files.values.b.rows journal award at) (of_pair at) (all_by pairs)
+      all_if (IsByRuleOrReview rule journal) (candidates_of rule journal award pairs) (candidate_of rule journal award at) (of_pair at) (all_by pairs)
 
 -- a greatest list of a plan's candidates, with prices that certify it
-pub are_greatest : (plan : Plan) (files : PreparedView) (rule : SideRule) (journal : List Entry) (links : List Candidate) (prices_a prices_b : List ℤ)
+pub are_greatest : (plan : Plan) (files : StandardPair) (rule : FileRule) (journal : List Entry) (links : List Candidate) (prices_a prices_b : List ℤ)
     → IsGreatest (candidates_in plan files rule journal) links → Certifies (candidates_in plan files rule journal) links prices_a prices_b
-    → length prices_a ≡ length files.files.a.records → length prices_b ≡ length files.files.b.records → AreGreatestLinks plan files rule journal links prices_a prices_b
+    → length prices_a ≡ length files.a.records → length prices_b ≡ length files.b.records → AreGreatestLinks plan files rule journal links prices_a prices_b
 are_greatest plan files rule journal links prices_a prices_b greatest certified priced_a priced_b =
     let candidates = candidates_in plan files rule journal in
     record {
       one_to_one = greatest.one_to_one;
-      by_rule_or_review = All-weaker (Contains candidates) (IsByRuleOrReview files rule journal)
-          (λ c among. All-contains (IsByRuleOrReview files rule journal) candidates c (all_by files rule journal plan.award (compared_in plan files)) among) links greatest.one_to_one.among;
+      by_rule_or_review = All-weaker (Contains candidates) (IsByRuleOrReview rule journal)
+          (λ c among. All-contains (IsByRuleOrReview rule journal) candidates c (all_by rule journal plan.award (compared_in plan files)) among) links greatest.one_to_one.among;
       greatest = greatest.most;
       certified = certified;
       priced_a = priced_a;
@@ -169,8 +169,8 @@ module _ (name : List ℕ) (store : StoreSeen) (out err : SinkSeen) (told : stor
         prices_a = made.prices_a;
         prices_b = made.prices_b;
         report = made.report;
-        of_plan = rule_is (plan_pairs found.plan found.review.files.files) (rule_over found.plan found.review.files found.review.shares) found.review.files found.review.decided from.by.of_decisions;
-        exactly_the_pairs = record { exactly = refl; once = compared_rise found.review.files.files.a.records found.review.files.files.b.records found.plan.passes };
+        of_plan = rule_is (plan_pairs found.plan found.review.files) (rule_over found.plan found.review.files found.review.shares) found.review.decided from.by.of_decisions;
+        exactly_the_pairs = record { exactly = refl; once = compared_rise found.review.files.a.records found.review.files.b.records found.plan.passes };
         a_least_rule = record { filled = put.rule; least = least put.rule.by_shares found.plan.mu_ppm found.plan.lambda_ppm found.review.decided.rule.cells put.rule.filled };
         greatest_links = are_greatest found.plan found.review.files found.review.decided.rule found.review.journal made.links made.prices_a made.prices_b made.greatest made.certified made.priced_a made.priced_b;
         reported = made.reported;

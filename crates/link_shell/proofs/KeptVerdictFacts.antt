@@ -12,7 +12,7 @@ use Rattle.link_base.specs.declared.fault.Fault.TheVariants as fault
 use Rattle.link_base.specs.declared.fault.FileRole.TheVariants as role
 use Rattle.link_core.proofs.DuplicateLemmas.{came as step_came}
 use Rattle.link_core.proofs.FileLemmas.{AreReadFiles, IsReadFile, read_files}
-use Rattle.link_core.specs.Prepared.{PreparedView}
+use Rattle.standard_files.specs.Files.{StandardPair}
 use Rattle.link_core.specs.Review.{journal_in_files, text_within}
 use Rattle.link_limits.specs.declared.TheConstants.{MOST_FILE_BYTES, MOST_POOLED_BYTES}
 use Rattle.link_outside.specs.Outside.{Held, held_with}
@@ -122,7 +122,7 @@ module _ (plan : Plan) (named : plan.journal ≡ Some (named_journal plan)) (nam
     abbrev put_after : Held
     put_after = held_with (named_journal plan) text held
 
-    loads_again : (files : PreparedView) (entries : List Entry) → length text ≤ MOST_FILE_BYTES → outcome (prepared_files plan) held ≡ Ok files → journal_in_files files text ≡ Ok entries
+    loads_again : (files : StandardPair) (entries : List Entry) → length text ≤ MOST_FILE_BYTES → outcome (prepared_files plan) held ≡ Ok files → journal_in_files files text ≡ Ok entries
         → LoadsAs plan files entries put_after
     loads_again files entries short of_files read =
         let there = file_held role.Journal MOST_FILE_BYTES (named_journal plan) text put_after (put_there (named_journal plan) text held) short in
@@ -140,17 +140,17 @@ module _ (plan : Plan) (named : plan.journal ≡ Some (named_journal plan)) (nam
 ids_of_file : (records : List Record) → IsReadFile records → HasIds records
 ids_of_file records is = record { texts = is.texts; distinct = is.distinct }
 
-files_ids : (plan : Plan) (files : PreparedView) (held : Held) → outcome (prepared_files plan) held ≡ Ok files → AreReadFiles files.files
+files_ids : (plan : Plan) (files : StandardPair) (held : Held) → outcome (prepared_files plan) held ≡ Ok files → AreReadFiles files
 files_ids plan files held e =
     let inputs = came (both_files plan.file_a plan.file_b) _ held files e in
     read_files plan MOST_POOLED_BYTES inputs.0.a inputs.0.b files inputs.2
 
 -- the entries of the journal that a plan names, in some bytes
-record HasRead (plan : Plan) (files : PreparedView) (entries : List Entry) : Type 0 where
+record HasRead (plan : Plan) (files : StandardPair) (entries : List Entry) : Type 0 where
   bytes : List ℕ
   read : journal_in_files files bytes ≡ Ok entries
 
-journal_read : (plan : Plan) (files : PreparedView) (entries : List Entry) (held : Held) → plan.journal ≡ Some (named_journal plan) → outcome (journal_file files plan.journal) held ≡ Ok entries → HasRead plan files entries
+journal_read : (plan : Plan) (files : StandardPair) (entries : List Entry) (held : Held) → plan.journal ≡ Some (named_journal plan) → outcome (journal_file files plan.journal) held ≡ Ok entries → HasRead plan files entries
 journal_read plan files entries held named e =
     let of_name : outcome (journal_file files (Some (named_journal plan))) held ≡ Ok entries = subst (λ o. outcome (journal_file files o) held ≡ Ok entries) named e in
     let read = came (file role.Journal (named_journal plan)) _ held entries of_name in
@@ -167,15 +167,15 @@ migrate_keeps law name store made =
     let plan : Plan = found.0 in
     let put = came (written_journal plan) _ held made.put found.2 in
     let both = came (prepared_files plan) _ held put.0 put.1 in
-    let files : PreparedView = both.0 in
+    let files : StandardPair = both.0 in
     let journal = came (journal_file files plan.journal) _ held put.0 both.2 in
     let entries : List Entry = journal.0 in
     let of = of_settings name held plan found.1 in
     let names = settings_files name held plan of.of_plan in
     let ids = files_ids plan files held both.1 in
     let old = journal_read plan files entries held of.journal journal.1 in
-    let a = files.files.a.records in
-    let b = files.files.b.records in
+    let a = files.a.records in
+    let b = files.b.records in
     let text = text_of_journal a b entries in
     let line = within_is text put.0 journal.2 in
     let again = law a b old.bytes entries (ids_of_file a ids.of_a) (ids_of_file b ids.of_b) old.read in
@@ -199,10 +199,10 @@ review_keeps law w store is_day is_name made =
     let reviewed = came (reviewed_plan plan) _ held put.0 put.1 in
     let review = reviewed.0 in
     let by = found_by plan held review reviewed.1 in
-    let files : PreparedView = review.files in
+    let files : StandardPair = review.files in
     let given = came (file role.Verdicts w.verdicts) _ held put.0 reviewed.2 in
-    let a = files.files.a.records in
-    let b = files.files.b.records in
+    let a = files.a.records in
+    let b = files.b.records in
     let read = step_came (List NewVerdict) (List ℕ) (verdicts_of a b given.0) _ put.0 given.2 in
     let batch : List NewVerdict = read.0 in
     let all = step_came (List Entry) (List ℕ) (added plan.double w.date w.reviewer review.decided.possible review.journal batch) _ put.0 read.2 in

@@ -8,3 +8,4 @@ pub mod OnePutFacts
 pub mod KeptVerdictFacts
 pub mod RowFacts
 pub mod MeaningFacts
+pub mod FilledRuleFacts

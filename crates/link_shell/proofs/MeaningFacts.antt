@@ -18,7 +18,7 @@ use Rattle.link_core.proofs.FileLemmas.{read_files}
 use Rattle.link_core.proofs.RunLemmas.{candidates_are, small_cells}
 use Rattle.link_core.specs.Decisions.{decided, decided_by, Decisions, rule_over}
 use Rattle.link_core.specs.Pairs.{plan_pairs}
-use Rattle.link_core.specs.Prepared.{PreparedView}
+use Rattle.standard_files.specs.Files.{StandardPair}
 use Rattle.link_core.specs.Results.{candidates_in, compared_in}
 use Rattle.link_core.specs.Verify.{line_of, verified_in}
 use Rattle.link_limits.specs.declared.TheConstants.{MOST_FIELDS, MOST_PAIRS, MOST_POOLED_BYTES}
@@ -28,7 +28,7 @@ use Rattle.link_outside.specs.declared.outside.SinkError.TheVariants as sink
 use Rattle.link_plan.specs.Plan.{PlainShares}
 use Rattle.link_plan.specs.declared.plan.Plan.{Plan}
 use Rattle.pair_decisions.specs.Comparators.{rares_of}
-use Rattle.pair_decisions.specs.PairRule.{SideRule}
+use Rattle.pair_decisions.specs.PairRule.{FileRule}
 use Rattle.pair_decisions.specs.PlanRule.{IsRuleOf}
 use Rattle.pair_decisions.specs.TheRule.{the_rule}
 use Rattle.price_check.specs.Law.{CertifiedIsGreatest}
@@ -58,19 +58,19 @@ few_if : (pairs got : List PairAt) (t : Bool) → nat_le (length pairs) MOST_PAI
 few_if pairs got true is e = leb-true (length pairs) MOST_PAIRS is
 few_if pairs got false is e = no_ok (fault.TooManyPairs MOST_PAIRS) got e
 
-found_pairs : (r : Result (List PairAt) Fault) (rule : SideRule) (p : PreparedView) (d : Decisions) → and_then r (λ pairs. Ok (decided_by rule p pairs)) ≡ Ok d → (pairs : List PairAt) × (r ≡ Ok pairs)
-found_pairs (Ok pairs) rule p d e = (pairs, refl)
-found_pairs (Err f) rule p d e = no_ok f d e
+found_pairs : (r : Result (List PairAt) Fault) (rule : FileRule) (d : Decisions) → and_then r (λ pairs. Ok (decided_by rule pairs)) ≡ Ok d → (pairs : List PairAt) × (r ≡ Ok pairs)
+found_pairs (Ok pairs) rule d e = (pairs, refl)
+found_pairs (Err f) rule d e = no_ok f d e
 
-few_pairs : (plan : Plan) (files : PreparedView) (shares : List PlainShares) (d : Decisions) → decided plan files shares ≡ Ok d → length (compared_in plan files) ≤ MOST_PAIRS
+few_pairs : (plan : Plan) (files : StandardPair) (shares : List PlainShares) (d : Decisions) → decided plan files shares ≡ Ok d → length (compared_in plan files) ≤ MOST_PAIRS
 few_pairs plan files shares d e =
-    let pairs = found_pairs (plan_pairs plan files.files) (rule_over plan files shares) files d e in
+    let pairs = found_pairs (plan_pairs plan files) (rule_over plan files shares) d e in
     few_if (compared_in plan files) pairs.0 (nat_le (length (compared_in plan files)) MOST_PAIRS) refl pairs.1
 
-decided_if : (pairs : List PairAt) (rule : SideRule) (p : PreparedView) (t : Bool) → t ≡ true
-    → and_then (if t then Ok pairs else Err (fault.TooManyPairs MOST_PAIRS)) (λ found. Ok (decided_by rule p found)) ≡ Ok (decided_by rule p pairs)
-decided_if pairs rule p true e = refl
-decided_if pairs rule p false e = absurd (true≢false (sym e))
+decided_if : (pairs : List PairAt) (rule : FileRule) (t : Bool) → t ≡ true
+    → and_then (if t then Ok pairs else Err (fault.TooManyPairs MOST_PAIRS)) (λ found. Ok (decided_by rule found)) ≡ Ok (decided_by rule pairs)
+decided_if pairs rule true e = refl
+decided_if pairs rule false e = absurd (true≢false (sym e))
 
 -- ---- verified files have the rows of a proof
 
@@ -83,12 +83,12 @@ module _ (rows : VerifiedHaveRows) (duality : CertifiedIsGreatest) (name : List 
       let shares = found.review.shares in
       let journal = found.review.journal in
       let from = settings_found name held found of_found in
-      let rule : SideRule = rule_over plan files shares in
-      let same : found.review.decided.rule ≡ rule = rule_is (plan_pairs plan files.files) rule files found.review.decided from.by.of_decisions in
-      let filled : IsRuleOf plan shares rule.cells = subst (λ (r : SideRule). IsRuleOf plan shares r.cells) same of_plan in
-      let told : verified_in plan files rule journal texts ≡ Ok links = subst (λ (r : SideRule). verified_in plan files r journal texts ≡ Ok links) same proved in
+      let rule : FileRule = rule_over plan files shares in
+      let same : found.review.decided.rule ≡ rule = rule_is (plan_pairs plan files) rule found.review.decided from.by.of_decisions in
+      let filled : IsRuleOf plan shares rule.cells = subst (λ (r : FileRule). IsRuleOf plan shares r.cells) same of_plan in
+      let told : verified_in plan files rule journal texts ≡ Ok links = subst (λ (r : FileRule). verified_in plan files r journal texts ≡ Ok links) same proved in
       let candidates = candidates_in plan files rule journal in
-      let h = rows (rares_of plan.fields) rule.cells candidates files.files.a.records files.files.b.records texts links told in
+      let h = rows (rares_of plan.fields) rule.cells candidates files.a.records files.b.records texts links told in
       record {
         input = record {
           plan = plan;
@@ -129,7 +129,7 @@ RuleIsFunction = (plan : Plan) (shares : List PlainShares) (cells : List RuleCel
 
 abbrev pub CandidatesAreBounded : Type 0
 CandidatesAreBounded =
-    (plan : Plan) (p : PreparedView) (rule : SideRule) (entries : List Entry) → All IsWithinRanges rule.cells → All (HasBounds plan.award) (candidates_in plan p rule entries)
+    (plan : Plan) (p : StandardPair) (rule : FileRule) (entries : List Entry) → All IsWithinRanges rule.cells → All (HasBounds plan.award) (candidates_in plan p rule entries)
 
 pub rows_are_proof : RowsAreVerified → RuleIsFunction → CandidatesAreBounded → RowsAreProof
 rows_are_proof verified one bounded = λ name held h.
@@ -139,7 +139,7 @@ rows_are_proof verified one bounded = λ name held h.
     let journal = h.input.journal in
     let proof = h.proof in
     let of_plan = proof.a_least_rule.filled in
-    let rule : SideRule = rule_with plan files proof.cells in
+    let rule : FileRule = rule_with plan files proof.cells in
     let candidates = candidates_in plan files rule journal in
     let read = came (file role.Settings name) _ held plan h.input.of_settings in
     let kept = read_plan read.0 plan read.2 in
@@ -149,7 +149,7 @@ rows_are_proof verified one bounded = λ name held h.
     let ranges : All IsWithinRanges rule.cells = All-weaker IsSmallCell IsWithinRanges (λ x s. s.ranges) proof.cells small.each in
     let bounds : All (HasBounds plan.award) candidates = bounded plan files rule journal ranges in
     let are = candidates_are plan files rule journal (read_files plan MOST_POOLED_BYTES inputs.0.a inputs.0.b files inputs.2) kept.award bounds in
-    let certified : HaveCertifiedRows (rares_of plan.fields) proof.cells candidates files.files.a.records files.files.b.records h.texts proof.links = record {
+    let certified : HaveCertifiedRows (rares_of plan.fields) proof.cells candidates files.a.records files.b.records h.texts proof.links = record {
       prices_a = proof.prices_a;
       prices_b = proof.prices_b;
       rows = proof.rows;
@@ -159,12 +159,12 @@ rows_are_proof verified one bounded = λ name held h.
       priced_b = proof.greatest_links.priced_b;
     } in
     let told : verified_in plan files rule journal h.texts ≡ Ok proof.links =
-    verified (rares_of plan.fields) proof.cells candidates files.files.a.records files.files.b.records h.texts proof.links are certified in
+    verified (rares_of plan.fields) proof.cells candidates files.a.records files.b.records h.texts proof.links are certified in
     let proved : verified_in plan files (rule_over plan files shares) journal h.texts ≡ Ok proof.links =
     subst (λ (cells : List RuleCell). verified_in plan files (rule_with plan files cells) journal h.texts ≡ Ok proof.links) (one plan shares proof.cells of_plan) told in
-    let own : Decisions = decided_by (rule_over plan files shares) files (compared_in plan files) in
+    let own : Decisions = decided_by (rule_over plan files shares) (compared_in plan files) in
     let of_decisions : decided plan files shares ≡ Ok own =
-    decided_if (compared_in plan files) (rule_over plan files shares) files (nat_le (length (compared_in plan files)) MOST_PAIRS) (le-leb (length (compared_in plan files)) MOST_PAIRS h.few) in
+    decided_if (compared_in plan files) (rule_over plan files shares) (nat_le (length (compared_in plan files)) MOST_PAIRS) (le-leb (length (compared_in plan files)) MOST_PAIRS h.few) in
     let review : Review = record { files = files; shares = shares; decided = own; journal = journal } in
     let by : FoundBy plan held review = record { of_files = h.input.of_files; of_shares = h.input.of_shares; of_decisions = of_decisions; of_journal = h.input.of_journal } in
     let found : ReviewedPlan = record { plan = plan; review = review } in

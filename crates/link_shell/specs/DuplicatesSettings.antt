@@ -5,10 +5,12 @@ use Rattle.dedup_groups.specs.Groups.{AreLeaders}
 use Rattle.link_base.specs.declared.fault.FileRole.TheVariants as role
 use Rattle.link_core.specs.Decisions.{Decisions, decisions_of}
 use Rattle.link_core.specs.Duplicates.{IsGroupsText, links_within}
-use Rattle.link_core.specs.Prepared.{prepared, PreparedView}
+use Rattle.link_core.specs.Prepared.{files_of, prepared}
 use Rattle.link_limits.specs.declared.TheConstants.{MOST_POOLED_BYTES}
+use Rattle.link_plan.specs.Plan.{PlainShares}
 use Rattle.link_plan.specs.Within.{plan_within}
 use Rattle.link_plan.specs.declared.plan.Plan.{Plan}
+use Rattle.standard_files.specs.Files.{StandardPair}
 use Rattle.command_steps.specs.Does.{Script}
 use Rattle.command_steps.specs.Due.{Due, prints}
 use Rattle.command_steps.specs.Front.{plan_file}
@@ -25,17 +27,19 @@ are_duplicates_words = are_verb_and_settings (codes "duplicates")
 abbrev pub IsOfOneFile : Plan → Type 0
 IsOfOneFile plan = (whole : Plan) × (plan ≡ plan_within whole)
 
--- a file that is ready to be compared with itself, and the decisions on its compared pairs
+-- a file in standard values, as both files, the shares of the fields, and the decisions on its compared pairs
 pub record Within : Type 0 where
-  pub files : PreparedView
+  pub files : StandardPair
+  pub shares : List PlainShares
   pub decided : Decisions
 
 -- machinery: as a body holds it
 abbrev pub within_of : DecidedWithin → Within
-within_of d = record { files = d.files; decided = decisions_of d.decided }
+within_of d = record { files = files_of d.files; shares = d.shares; decided = decisions_of d.files d.decided }
 
--- one step loads A, and its bytes stand as both files: the faults of A come first, then unreadable dates of a strict plan, and the pool
-abbrev pub prepared_within : Plan → Steps PreparedView
+-- one step loads A, and its bytes stand as both files: the faults of A come first, then unreadable dates of a strict plan, and want of room for
+-- its texts
+abbrev pub prepared_within : Plan → Steps StandardPair
 prepared_within plan = do
   bytes ← file role.A plan.file_a
   gives (prepared plan MOST_POOLED_BYTES bytes bytes)
@@ -45,14 +49,14 @@ abbrev pub decided_within : Plan → Steps Within
 decided_within plan = do
   files ← prepared_within plan
   found ← decided_plan plan files
-  gives (Ok (record { files = files; decided = found.decided }))
+  gives (Ok (record { files = files; shares = found.shares; decided = found.decided }))
 
 -- the groups that the links within A join are printed: each under its leader, the least of the records that chains of links join, and each
 -- record with the one through which a forest reaches it
 pub record AreGroupsPrinted (found : Within) (due : Due) : Type 0 where
   pub text : List ℕ
-  pub groups : IsGroupsText found.files.files.a.records found.decided.links text
-  pub leaders : AreLeaders (length found.files.files.a.records) (links_within found.decided.links) groups.lists.leaders
+  pub groups : IsGroupsText found.files.a.records found.decided.links text
+  pub leaders : AreLeaders (length found.files.a.records) (links_within found.decided.links) groups.lists.leaders
   pub so : due ≡ prints Done text
 
 -- the settings, and then A by the plan of A with itself

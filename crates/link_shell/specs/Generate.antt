@@ -5,7 +5,7 @@ use Rattle.link_limits.specs.declared.TheConstants.{MOST_POOLED_BYTES, MOST_ROWS
 use Rattle.link_base.specs.Answers.{and_then}
 use Rattle.link_base.specs.declared.fault.Fault.{Fault}
 use Rattle.link_core.specs.Decisions.{decided}
-use Rattle.link_core.specs.Prepared.{prepared, PreparedView}
+use Rattle.link_core.specs.Prepared.{prepared}
 use Rattle.link_core.specs.Results.{AreRunTexts, RunTexts}
 use Rattle.link_core.specs.Rules.{counted_by}
 use Rattle.link_report.specs.FirstLines.{first_lines_of}
@@ -13,6 +13,7 @@ use Rattle.settings.specs.Settings.{settings}
 use Rattle.link_plan.specs.declared.plan.Plan.{Plan}
 use Rattle.workload.specs.Made.{text_of_a, text_of_b, text_of_sample}
 use Rattle.workload.specs.MadeSettings.{text_of_settings}
+use Rattle.standard_files.specs.Files.{StandardPair}
 use Rattle.command_steps.specs.Does.{Script}
 use Rattle.command_steps.specs.Due.{Due, prints}
 use Rattle.csv_rows.specs.Numbers.{is_decimal, number_in}
@@ -38,7 +39,7 @@ pub record IsMadeNumber (rows : ℕ) : Type 0 where
   pub few : rows ≤ MOST_ROWS
 
 -- the shares of a plan's fields by a sample, and the decisions of its rule on the compared pairs
-abbrev pub decided_sample : Plan → PreparedView → List ℕ → Result SharedDecisions Fault
+abbrev pub decided_sample : Plan → StandardPair → List ℕ → Result SharedDecisions Fault
 decided_sample plan files sample =
     and_then (counted_by plan files sample) (λ shares.
     and_then (decided plan files shares) (λ decisions.

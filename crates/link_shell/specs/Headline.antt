@@ -12,7 +12,6 @@ use Rattle.link_base.specs.declared.rule.Decision.TheVariants.{Link, Possible}
 use Rattle.link_base.specs.declared.rule.PairAt.{PairAt}
 use Rattle.link_base.specs.declared.rule.Verdict.TheVariants as verdict
 use Rattle.link_core.specs.Decisions.{rule_over}
-use Rattle.link_core.specs.Prepared.{PreparedView}
 use Rattle.link_core.specs.Results.{candidates_in, IsReportOf}
 use Rattle.link_outside.specs.Outside.{Held}
 use Rattle.link_report.specs.LinksText.{text_of_links}
@@ -22,7 +21,7 @@ use Rattle.link_report.specs.ReportText.{text_of_report}
 use Rattle.link_report.specs.RuleText.{text_of_rule}
 use Rattle.link_report.specs.declared.report.Report.{Report}
 use Rattle.pair_decisions.specs.Decisions.{decision_at}
-use Rattle.pair_decisions.specs.PairRule.{SideRule}
+use Rattle.pair_decisions.specs.PairRule.{FileRule}
 use Rattle.link_base.specs.Rule.{IsPairBefore}
 use Rattle.pair_decisions.specs.PairRows.{pair_rows_of}
 use Rattle.pair_walk.specs.Pairs.{is_compared, product_from}
@@ -32,6 +31,7 @@ use Rattle.review_journal.specs.Verdict.{verdict_on}
 use Rattle.review_journal.specs.declared.entry.Entry.{Entry}
 use Rattle.link_plan.specs.Plan.{PlainShares}
 use Rattle.link_plan.specs.declared.plan.Plan.{Plan}
+use Rattle.standard_files.specs.Files.{StandardPair}
 use Rattle.command_steps.specs.Due.{after_puts}
 use Rattle.command_steps.specs.Front.{plan_file, prepared_files, shares_over}
 use Rattle.command_steps.specs.Reviewed.{journal_file}
@@ -43,7 +43,7 @@ use Rattle.link_shell.specs.RunSettings.{run_puts}
 -- an accepted input: what names hold has a plan, two files, the shares of the plan's fields, and a journal
 pub record Accepted (name : List ℕ) (held : Held) : Type 0 where
   pub plan : Plan
-  pub files : PreparedView
+  pub files : StandardPair
   pub shares : List PlainShares
   pub journal : List Entry
   pub of_settings : outcome (plan_file name) held ≡ Ok plan
@@ -52,36 +52,36 @@ pub record Accepted (name : List ℕ) (held : Held) : Type 0 where
   pub of_journal : outcome (journal_file files plan.journal) held ≡ Ok journal
 
 -- exactly the pairs that share a key in some pass: the filter of the product, which rises, so that each stands there once
-pub record AreExactlyThePairs (plan : Plan) (files : PreparedView) (pairs : List PairAt) : Type 0 where
-  pub exactly : pairs ≡ filter (is_compared files.files.a.records files.files.b.records plan.passes)
-      (product_from (length files.files.b.records) 0 (length files.files.a.records))
+pub record AreExactlyThePairs (plan : Plan) (files : StandardPair) (pairs : List PairAt) : Type 0 where
+  pub exactly : pairs ≡ filter (is_compared files.a.records files.b.records plan.passes)
+      (product_from (length files.b.records) 0 (length files.a.records))
   pub once : AllPairs IsPairBefore pairs
 
 -- a rule: the filled table at the asked levels; among all randomised rules, of every denominator, whose error levels are at most its
 -- own, none has a smaller chance of a possible link, for matched or for unmatched pairs
-pub record IsLeastRule (plan : Plan) (shares : List PlainShares) (rule : SideRule) : Type 0 where
+pub record IsLeastRule (plan : Plan) (shares : List PlainShares) (rule : FileRule) : Type 0 where
   pub filled : IsRuleOf plan shares rule.cells
   pub least : IsLeast filled.by_shares rule.cells
 
 -- a link by the rule, or by review: the rule calls its pair a link, or a possible link on which the verdict is that it is one
-abbrev pub IsByRuleOrReview : PreparedView → SideRule → List Entry → Candidate → Type 0
-IsByRuleOrReview files rule journal c =
-    let decision = decision_at rule files.values.a.rows files.values.b.rows (record { a = c.a; b = c.b }) in
+abbrev pub IsByRuleOrReview : FileRule → List Entry → Candidate → Type 0
+IsByRuleOrReview rule journal c =
+    let decision = decision_at rule (record { a = c.a; b = c.b }) in
     (decision ≡ Link) ⊎ ((decision ≡ Possible) × (verdict_on journal c.a c.b ≡ Some verdict.Link))
 
 -- one-to-one links, each by rule or review, of greatest total weight, with prices that certify it, one for each record
-pub record AreGreatestLinks (plan : Plan) (files : PreparedView) (rule : SideRule) (journal : List Entry) (links : List Candidate) (prices_a prices_b : List ℤ) : Type 0 where
+pub record AreGreatestLinks (plan : Plan) (files : StandardPair) (rule : FileRule) (journal : List Entry) (links : List Candidate) (prices_a prices_b : List ℤ) : Type 0 where
   pub one_to_one : IsOneToOne (candidates_in plan files rule journal) links
-  pub by_rule_or_review : All (IsByRuleOrReview files rule journal) links
+  pub by_rule_or_review : All (IsByRuleOrReview rule journal) links
   pub greatest : (others : List Candidate) → IsOneToOne (candidates_in plan files rule journal) others → worth others ≤ℤ worth links
   pub certified : Certifies (candidates_in plan files rule journal) links prices_a prices_b
-  pub priced_a : length prices_a ≡ length files.files.a.records
-  pub priced_b : length prices_b ≡ length files.files.b.records
+  pub priced_a : length prices_a ≡ length files.a.records
+  pub priced_b : length prices_b ≡ length files.b.records
 
 -- what `run` has written
 pub record RunWrites (name : List ℕ) (store : StoreSeen) (out err : SinkSeen) : Type 0 where
   pub input : Accepted name store.held_before
-  pub rule : SideRule
+  pub rule : FileRule
   pub pairs : List PairAt
   pub links : List Candidate
   pub prices_a : List ℤ
@@ -93,11 +93,11 @@ pub record RunWrites (name : List ℕ) (store : StoreSeen) (out err : SinkSeen) 
   pub greatest_links : AreGreatestLinks input.plan input.files rule input.journal links prices_a prices_b
   pub reported : IsReportOf input.plan input.files rule input.journal links report
   pub writes : store.held_after ≡ after_puts (run_puts (record {
-    pairs = text_of_pairs (rares_of input.plan.fields) input.files.files.a.records input.files.files.b.records (pair_rows_of rule input.files.values.a.rows input.files.values.b.rows input.journal pairs);
+    pairs = text_of_pairs (rares_of input.plan.fields) input.files.a.records input.files.b.records (pair_rows_of rule input.journal pairs);
     rule = text_of_rule (rares_of input.plan.fields) rule.cells;
-    links = text_of_links input.files.files.a.records input.files.files.b.records links;
-    prices = text_of_prices prices_a prices_b input.files.files.a.records input.files.files.b.records;
-    report = text_of_report input.files.files.a.records input.files.files.b.records report;
+    links = text_of_links input.files.a.records input.files.b.records links;
+    prices = text_of_prices prices_a prices_b input.files.a.records input.files.b.records;
+    report = text_of_report input.files.a.records input.files.b.records report;
   })) store.held_before
   pub nothing_out : IsUncalled out
   pub nothing_said : IsUncalled err

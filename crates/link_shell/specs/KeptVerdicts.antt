@@ -4,13 +4,13 @@
 -- than it did.
 use Rattle.std.specs.Prelude.{◌≡◌, ◌≢◌, ◌⊎◌, ℕ, List, Some, Ok}
 use Rattle.link_base.specs.declared.fault.FileRole.TheVariants as role
-use Rattle.link_core.specs.Prepared.{PreparedView}
 use Rattle.link_outside.specs.Outside.{Held}
 use Rattle.link_plan.specs.declared.plan.Plan.{Plan}
 use Rattle.review_journal.specs.Batch.{verdicts_of}
 use Rattle.review_journal.specs.Kept.{KeepsAll}
 use Rattle.review_journal.specs.declared.batch.NewVerdict.{NewVerdict}
 use Rattle.review_journal.specs.declared.entry.Entry.{Entry}
+use Rattle.standard_files.specs.Files.{StandardPair}
 use Rattle.command_steps.specs.Front.{prepared_files}
 use Rattle.command_steps.specs.Reviewed.{journal_file, journal_plan, named_journal}
 use Rattle.command_steps.specs.Seen.{StoreSeen}
@@ -19,7 +19,7 @@ use Rattle.link_shell.specs.Commands.{command_of, migration_of_settings, review_
 use Rattle.link_shell.specs.ReviewSettings.{NewReview}
 
 -- the journal that a plan names loads as these entries, over the two files of the plan, by what names hold
-pub record LoadsAs (plan : Plan) (files : PreparedView) (entries : List Entry) (held : Held) : Type 0 where
+pub record LoadsAs (plan : Plan) (files : StandardPair) (entries : List Entry) (held : Held) : Type 0 where
   pub of_files : outcome (prepared_files plan) held ≡ Ok files
   pub of_journal : outcome (journal_file files plan.journal) held ≡ Ok entries
 
@@ -28,16 +28,16 @@ abbrev pub StillGives : List ℕ → Plan → Held → Type 0
 StillGives name plan held = name ≢ named_journal plan → outcome (journal_plan name) held ≡ Ok plan
 
 -- the new verdicts in a file, over the two files of a plan
-abbrev pub verdicts_file : PreparedView → List ℕ → Steps (List NewVerdict)
+abbrev pub verdicts_file : StandardPair → List ℕ → Steps (List NewVerdict)
 verdicts_file files name = do
   bytes ← file role.Verdicts name
-  gives (verdicts_of files.files.a.records files.files.b.records bytes)
+  gives (verdicts_of files.a.records files.b.records bytes)
 
 -- what `review` keeps: the journal loaded as the old entries, and loads as the new ones, which are the old ones and one for each of the
 -- new verdicts, by the reviewer and of the day of the words
 pub record ReviewKeeps (w : NewReview) (store : StoreSeen) : Type 0 where
   pub plan : Plan
-  pub files : PreparedView
+  pub files : StandardPair
   pub old : List Entry
   pub batch : List NewVerdict
   pub new : List Entry
@@ -51,7 +51,7 @@ pub record ReviewKeeps (w : NewReview) (store : StoreSeen) : Type 0 where
 -- what `migrate` keeps: the journal loads as the entries that it loaded as, so that each pair has the verdict that it had
 pub record MigrateKeeps (name : List ℕ) (store : StoreSeen) : Type 0 where
   pub plan : Plan
-  pub files : PreparedView
+  pub files : StandardPair
   pub entries : List Entry
   pub of_settings : outcome (journal_plan name) store.held_before ≡ Ok plan
   pub before : LoadsAs plan files entries store.held_before

@@ -19,3 +19,6 @@ pub mod ManySettings
 pub mod Limits
 pub mod KeptVerdicts
 pub mod Meaning
+pub mod Carried
+pub mod FilledRule
+pub mod Always

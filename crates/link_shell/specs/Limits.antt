@@ -9,7 +9,7 @@ use Rattle.link_shell.specs.declared.words.TheConstants.{MOST_LISTED}
 abbrev pub LimitsOfFiles : Type 0
 LimitsOfFiles = (MOST_FILE_BYTES ≡ 67108864) × (MOST_WRITTEN_BYTES ≡ 134217728) × (MOST_NAME_BYTES ≡ 255) × (MOST_FIELD_BYTES ≡ 255) × (MOST_WORD_BYTES ≡ 32) × (MOST_COLUMNS ≡ 64)
 
--- rows of a file, entries of a journal, compared pairs, bytes in the pool, and the capacity of a record
+-- rows of a file, entries of a journal, compared pairs, bytes of distinct texts, and the capacity of a record
 abbrev pub LimitsOfRuns : Type 0
 LimitsOfRuns = (MOST_ROWS ≡ 100000) × (MOST_ENTRIES ≡ 1000000) × (MOST_PAIRS ≡ 2000000) × (MOST_POOLED_BYTES ≡ 201326592) × (MOST_CAPACITY ≡ 1000)
 

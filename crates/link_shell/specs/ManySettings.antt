@@ -3,7 +3,7 @@
 use Rattle.std.specs.Prelude.{◌≡◌, ℕ, List, length, Bool, ◌==◌, ◌&&◌, bytes_eq, codes, Ok}
 use Rattle.link_base.specs.declared.fault.FileRole.TheVariants as role
 use Rattle.link_core.specs.Many.{capacities_in_file, IsManyText}
-use Rattle.link_core.specs.Prepared.{PreparedView}
+use Rattle.standard_files.specs.Files.{StandardPair}
 use Rattle.command_steps.specs.Does.{Script}
 use Rattle.command_steps.specs.Due.{Due, prints}
 use Rattle.command_steps.specs.Reviewed.{reviewed_settings, ReviewedPlan}
@@ -34,8 +34,8 @@ pub record CapacityPlan : Type 0 where
   pub found : ReviewedPlan
   pub capacities : List ℕ
 
--- the capacities in a file, over prepared files
-abbrev pub capacity_file : PreparedView → List ℕ → Steps (List ℕ)
+-- the capacities in a file, over the two files of a plan
+abbrev pub capacity_file : StandardPair → List ℕ → Steps (List ℕ)
 capacity_file files name = do
   bytes ← file role.Capacities name
   gives (capacities_in_file files bytes)

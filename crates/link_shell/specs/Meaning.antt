@@ -8,7 +8,6 @@ use Rattle.file_reader.specs.Left.{records_in}
 use Rattle.link_base.specs.Standard.{Record}
 use Rattle.link_base.specs.declared.rule.Candidate.{Candidate}
 use Rattle.link_base.specs.declared.rule.RuleCell.{RuleCell}
-use Rattle.link_core.specs.Prepared.{PreparedView}
 use Rattle.link_core.specs.Results.{compared_in}
 use Rattle.link_limits.specs.declared.TheConstants.{MOST_PAIRS}
 use Rattle.link_outside.specs.Outside.{Held, Rose}
@@ -19,10 +18,12 @@ use Rattle.link_report.specs.PricesText.{prices_header}
 use Rattle.link_report.specs.Reading.{rows_of_prices, rows_under}
 use Rattle.link_report.specs.RuleText.{cell_fields, rule_header}
 use Rattle.pair_decisions.specs.Comparators.{rares_of}
-use Rattle.pair_decisions.specs.PairRule.{side_rule_of, SideRule}
+use Rattle.pair_decisions.specs.FieldComparators.{rule_of_plan}
+use Rattle.pair_decisions.specs.PairRule.{FileRule}
 use Rattle.review_journal.specs.declared.entry.Entry.{Entry}
 use Rattle.written_check.specs.Laws.{AreCandidatesOf}
 use Rattle.written_check.specs.Verified.{verified, WrittenTexts}
+use Rattle.standard_files.specs.Files.{StandardPair}
 use Rattle.command_steps.specs.Due.{Due, ended_of, prints}
 use Rattle.command_steps.specs.Seen.{SinkSeen, StoreSeen}
 use Rattle.command_steps.specs.Steps.{outcome}
@@ -60,21 +61,21 @@ RowsAreVerified =
     (rares : List Bool) (cells : List RuleCell) (candidates : List Candidate) (a b : List Record) (texts : WrittenTexts) (links : List Candidate)
     → AreCandidatesOf a b candidates → HaveCertifiedRows rares cells candidates a b texts links → verified rares cells candidates a b texts ≡ Ok links
 
--- the rule of a plan with these cells, over what the rows of its files are compared by
-abbrev pub rule_with : Plan → PreparedView → List RuleCell → SideRule
-rule_with plan p cells = side_rule_of plan (length p.values.texts) p.values.a.rows p.values.b.rows cells
+-- the rule of a plan with these cells, over its two files
+abbrev pub rule_with : Plan → StandardPair → List RuleCell → FileRule
+rule_with plan files cells = rule_of_plan plan files.a.records files.b.records cells
 
--- texts prove links for a plan, its prepared files, the shares of its fields and a journal: their rows are those of the filled table at the
+-- texts prove links for a plan, its two files, the shares of its fields and a journal: their rows are those of the filled table at the
 -- asked levels, than which no randomised rule with levels at most its own has a smaller chance of a possible link; of one-to-one links,
 -- each by rule or review, of greatest total weight; and of prices, one for each record, that certify it
-pub record ProveByRows (plan : Plan) (files : PreparedView) (shares : List PlainShares) (journal : List Entry) (texts : WrittenTexts) : Type 0 where
+pub record ProveByRows (plan : Plan) (files : StandardPair) (shares : List PlainShares) (journal : List Entry) (texts : WrittenTexts) : Type 0 where
   pub cells : List RuleCell
   pub links : List Candidate
   pub prices_a : List ℤ
   pub prices_b : List ℤ
   pub a_least_rule : IsLeastRule plan shares (rule_with plan files cells)
   pub greatest_links : AreGreatestLinks plan files (rule_with plan files cells) journal links prices_a prices_b
-  pub rows : HaveRows (rares_of plan.fields) cells links prices_a prices_b files.files.a.records files.files.b.records texts
+  pub rows : HaveRows (rares_of plan.fields) cells links prices_a prices_b files.a.records files.b.records texts
 
 -- names hold an input that a run accepts, with not too many compared pairs, and three written files, each within its limit, that prove
 -- links by their rows

@@ -1,9 +1,9 @@
 -- The command `migrate SETTINGS`: its words, its steps and what is due, by the clause `follows` of `perform`: the journal as it is read, written
 -- in the newest version.
 use Rattle.std.specs.Prelude.{◌≡◌, ◌∷◌, [], ℕ, List, Bool, codes, Ok}
-use Rattle.link_core.specs.Prepared.{PreparedView}
 use Rattle.link_core.specs.Review.{journal_lines_of}
 use Rattle.link_plan.specs.declared.plan.Plan.{Plan}
+use Rattle.standard_files.specs.Files.{StandardPair}
 use Rattle.command_steps.specs.Does.{Script}
 use Rattle.command_steps.specs.Due.{Due, Put, puts}
 use Rattle.command_steps.specs.Front.{prepared_files}
@@ -18,8 +18,8 @@ are_migrate_words = are_verb_and_settings (codes "migrate")
 abbrev pub is_one_put : Put → Due → Type 0
 is_one_put put due = due ≡ puts (put ∷ [])
 
--- the text of the journal of a plan, over its prepared files, within the limit of a file
-abbrev pub journal_text : Plan → PreparedView → Steps (List ℕ)
+-- the text of the journal of a plan, over its two files, within the limit of a file
+abbrev pub journal_text : Plan → StandardPair → Steps (List ℕ)
 journal_text plan files = do
   journal ← journal_file files plan.journal
   gives (journal_lines_of files journal)

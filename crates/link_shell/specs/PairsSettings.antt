@@ -10,8 +10,8 @@ use Rattle.link_shell.specs.Words.{are_verb_and_settings}
 abbrev pub are_settings_words : List (List ℕ) → Bool
 are_settings_words = are_verb_and_settings (codes "pairs")
 
--- the settings and the files that they name; then the faults of A, those of B, unreadable dates of a strict plan, the pool,
--- and then the pairs
+-- the settings and the files that they name; then the faults of A, those of B, unreadable dates of a strict plan, want of room
+-- for their texts, and then the pairs
 abbrev pub settings_script : List ℕ → Script
 settings_script name = record {
   Found = List ℕ;

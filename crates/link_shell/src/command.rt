@@ -4,13 +4,15 @@ ghost use Rattle.command_steps.specs.Seen.{sink_seen, store_seen};
 ghost use Rattle.command_steps.specs.declared.ends.Ended.{Ended as AnyEnded};
 ghost use Rattle.link_base.specs.declared.fault.Fault.{Fault as AnyFault};
 ghost use Rattle.link_shell.specs.AfterRun.{ProvedByRun, YesWhereProved};
+ghost use Rattle.link_shell.specs.Always.{Always};
+ghost use Rattle.link_shell.specs.Carried.{Carried};
 ghost use Rattle.link_shell.specs.Commands.{command_of, settings_command_of};
 ghost use Rattle.link_shell.specs.Headline.{Headline};
 ghost use Rattle.link_shell.specs.KeptVerdicts.{NoVerdictLost};
-ghost use Rattle.link_shell.specs.Limits.{TheLimits};
 ghost use Rattle.link_shell.specs.Linked.{Follows, Performed, Reported};
 ghost use Rattle.link_shell.specs.Meaning.{RowsSayYes, YesMeans};
 
+use crate::filled_rule::commands_go_by_filled_rule;
 use crate::limits::limits_are_these;
 use crate::meaning::verify_tells;
 use crate::words::settings_after;
@@ -103,15 +105,20 @@ fn follow<S: Store, O: Sink>(
 }
 
 /// Does the command that the words name, all but the line of a fault: it goes through the steps of the
-/// command, and hands its text to `out` or makes its puts.
+/// command, and hands its text to `out` or makes its puts (clause `performed`). All that `linkage` says of the store, of `out` and of
+/// the status holds of its answer (clause `carried`).
 pub fn perform<S: Store, O: Sink>(
     alloc: Global,
     words: &[String],
     store: &mut S,
     out: &mut O,
 ) -> Result<Ended, Fault>
-    ensures { Performed (map string_bytes words.now) (store_seen S.tells S.held S.faults store.old store.new) (sink_seen O.tells O.taken O.faults out.old out.new) result }
+    ensures performed { Performed (map string_bytes words.now) (store_seen S.tells S.held S.faults store.old store.new) (sink_seen O.tells O.taken O.faults out.old out.new) result }
+    ensures carried { Carried (map string_bytes words.now) (store_seen S.tells S.held S.faults store.old store.new) (sink_seen O.tells O.taken O.faults out.old out.new) result }
 {
+    run_is_verified();
+    verify_tells();
+    no_verdict_is_lost();
     follow(alloc, words, store, out)
 }
 
@@ -144,9 +151,10 @@ fn report<E: Sink>(alloc: Global, answer: &Result<Ended, Fault>, err: &mut E) ->
 /// nothing outside fails and memory is there (clause `rows_say_yes`).
 ///
 /// No verdict is lost: the journal that `review` or `migrate` leaves loads as the entries that it had, followed by one for each new
-/// verdict (clause `no_verdict_lost`). Each limit is the number that users are told (clause `limits`).
+/// verdict (clause `no_verdict_lost`). Each command that decides goes by the filled table, and each limit is the
+/// number that users are told (clause `always`).
 ///
-/// But for `performed` and `limits`, all of this is said of a store that tells what its names hold.
+/// But for `performed` and `always`, all of this is said of a store that tells what its names hold.
 pub fn linkage<S: Store, O: Sink, E: Sink>(
     alloc: Global,
     words: &[String],
@@ -163,11 +171,12 @@ pub fn linkage<S: Store, O: Sink, E: Sink>(
     ensures yes_means { YesMeans (map string_bytes words.now) (store_seen S.tells S.held S.faults store.old store.new) (sink_seen O.tells O.taken O.faults out.old out.new) result }
     ensures rows_say_yes { RowsSayYes (map string_bytes words.now) (store_seen S.tells S.held S.faults store.old store.new) (sink_seen O.tells O.taken O.faults out.old out.new) result }
     ensures no_verdict_lost { NoVerdictLost (map string_bytes words.now) (store_seen S.tells S.held S.faults store.old store.new) result }
-    ensures limits { TheLimits }
+    ensures always { Always }
 {
     run_is_verified();
     verify_tells();
     no_verdict_is_lost();
+    commands_go_by_filled_rule();
     limits_are_these();
     let answer = perform(alloc, words, store, out);
     let status = report(alloc, &answer, err);

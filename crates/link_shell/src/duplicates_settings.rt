@@ -4,6 +4,7 @@ ghost use Rattle.command_steps.specs.Does.{Does};
 ghost use Rattle.command_steps.specs.Seen.{sink_seen, store_seen};
 ghost use Rattle.command_steps.specs.Steps.{seen_by, Takes};
 ghost use Rattle.link_core.specs.Decisions.{IsDecidedIn};
+ghost use Rattle.link_core.specs.Prepared.{files_of};
 ghost use Rattle.link_core.specs.Rules.{IsPreparedFor};
 ghost use Rattle.link_limits.specs.declared.TheConstants.{MOST_PAIRS, MOST_ROWS};
 ghost use Rattle.link_shell.specs.DuplicatesSettings.{decided_within, duplicates_script, prepared_within, IsOfOneFile, within_of};
@@ -14,7 +15,7 @@ use command_steps::{
 };
 use dedup_groups::forest_leaders;
 use link_base::{Fault, FileRole};
-use link_core::{Decided, Prepared, duplicate_lines};
+use link_core::{Decided, PlanShares, Prepared, duplicate_lines};
 use link_outside::{Sink, Store};
 use link_plan::Plan;
 use std::alloc::Global;
@@ -23,6 +24,7 @@ use std::alloc::Global;
 #[derive(Drop)]
 pub(crate) struct DecidedWithin {
     pub(crate) files: Prepared,
+    pub(crate) shares: PlanShares,
     pub(crate) decided: Decided,
 }
 
@@ -31,7 +33,7 @@ fn load_within<S: Store>(alloc: Global, store: &mut S, plan: &Plan) -> Result<Pr
     requires within { IsOfOneFile plan.now }
     requires ranges { KeepsRanges plan.now }
     requires names { NamesFiles plan.now }
-    ensures takes { Takes (prepared_within plan.now) (store_seen S.tells S.held S.faults store.old store.new) result }
+    ensures takes { Takes (prepared_within plan.now) (store_seen S.tells S.held S.faults store.old store.new) (seen_by files_of result) }
     ensures ready { IfOk result (IsPreparedFor plan.now) }
     ensures same { IfOk result (λ p. length p.files.b.records ≡ length p.files.a.records) }
 {
@@ -54,13 +56,11 @@ fn load_decided<S: Store>(alloc: Global, store: &mut S, plan: &Plan) -> Result<D
 {
     let files = load_within(alloc, store, plan)?;
     match load_decisions(alloc, store, plan, &files, false) {
-        Ok(found) => {
-            drop(found.shares);
-            Ok(DecidedWithin {
-                files,
-                decided: found.decided,
-            })
-        }
+        Ok(found) => Ok(DecidedWithin {
+            files,
+            shares: found.shares,
+            decided: found.decided,
+        }),
         Err(fault) => {
             drop(files);
             Err(fault)

@@ -64,7 +64,7 @@ fn decide_sample(
     requires ranges { KeepsRanges plan.now }
     requires ready { IsPreparedFor plan.now files.now }
     ensures kind { IfErr result IsInputFault }
-    ensures answer { Gives shared_decisions_of (decided_sample plan.now files.now sample.now) result }
+    ensures answer { Gives (shared_decisions_of files.now) (decided_sample plan.now files.now.files sample.now) result }
     ensures of_files { IfOk result (λ d. IsDecidedIn files.now d.decided) }
     ensures of_plan { IfOk result (λ d. IsDecidedFor plan.now files.now d.decided) }
     ensures rows { IfOk result (λ d. KeepsRows plan.now files.now d.decided) }

@@ -5,6 +5,7 @@
 mod after_run;
 mod command;
 mod duplicates_settings;
+mod filled_rule;
 mod frontier_settings;
 mod generate;
 mod keys;
@@ -23,6 +24,7 @@ mod words;
 
 pub use after_run::run_then_verify;
 pub use command::{linkage, perform};
+pub use filled_rule::commands_go_by_filled_rule;
 pub use limits::limits_are_these;
 pub use meaning::{verified_means, verify_tells};
 pub use rule_settings::printed_rule_is_least;

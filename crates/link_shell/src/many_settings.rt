@@ -45,8 +45,8 @@ fn load_capacities<S: Store>(
     found: &ReviewedSettings,
     name: &str,
 ) -> Result<Capacities, Fault>
-    ensures takes { Takes (capacity_file found.now.reviewed.files name.now) (store_seen S.tells S.held S.faults store.old store.new) result }
-    ensures of_files { IfOk result (AreCapacitiesOf found.now.reviewed.files) }
+    ensures takes { Takes (capacity_file found.now.reviewed.files.files name.now) (store_seen S.tells S.held S.faults store.old store.new) result }
+    ensures of_files { IfOk result (AreCapacitiesOf found.now.reviewed.files.files) }
 {
     let bytes = load_file(alloc, store, name, FileRole::Capacities)?;
     let capacities = capacities_in_file(alloc, &found.reviewed.files, bytes.bytes());

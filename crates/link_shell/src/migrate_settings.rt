@@ -20,7 +20,7 @@ fn text_over<S: Store>(
     files: &Prepared,
 ) -> Result<Text, Fault>
     requires { NamesFiles plan.now }
-    ensures { Takes (journal_text plan.now files.now) (store_seen S.tells S.held S.faults store.old store.new) result }
+    ensures { Takes (journal_text plan.now files.now.files) (store_seen S.tells S.held S.faults store.old store.new) result }
 {
     let journal = load_journal(alloc, store, plan, files)?;
     let lines = journal_lines(alloc, files, &journal);

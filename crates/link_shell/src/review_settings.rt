@@ -63,7 +63,7 @@ fn add_loaded<S: Store>(
 ) -> Result<Text, Fault>
     requires request { IsReviewRequest request.now }
     requires of_files { IsDecidedIn reviewed.old.files reviewed.old.decided }
-    requires journal { IsJournalOf reviewed.old.files reviewed.old.journal }
+    requires journal { IsJournalOf reviewed.old.files.files reviewed.old.journal }
     ensures { Takes (added_verdicts (review_of_request request.now) double (review_of reviewed.old)) (store_seen S.tells S.held S.faults store.old store.new) result }
 {
     let verdicts = load_file(alloc, store, request.verdicts, FileRole::Verdicts)?;

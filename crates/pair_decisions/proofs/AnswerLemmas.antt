@@ -1,4 +1,4 @@
--- The counts of a sample by comparators are those by their answers, and so are its faults.
+-- The counts of a sample by comparators are those by the patterns that their answers give, and so are its faults.
 use Rattle.std.proofs.Common.{◌≡◌, Bool, true, false, List, [], ◌∷◌, map, get_or, refl, ap, sym, ◌∙◌}
 use Rattle.std.specs.Prelude.{MatchBool, Result, Ok, Err, ⊤}
 use Rattle.link_base.specs.Answers.{and_then, RefusesBut}
@@ -12,13 +12,14 @@ use Rattle.patterns.specs.Patterns.{number_of, outcomes}
 use Rattle.sample_counts.specs.Counts.{counts_by, judged_by}
 use Rattle.sample_counts.specs.declared.reviewed.Reviewed.{Reviewed}
 use Rattle.pair_decisions.specs.Comparators.{SideComparator, answers_of}
-use Rattle.pair_decisions.specs.PlanShares.{counts_of}
+use Rattle.pair_decisions.specs.PairRule.{pattern_over}
+use Rattle.pair_decisions.specs.PlanShares.{counts_by_pattern}
 use Rattle.pair_decisions.proofs.ComparatorLemmas.{map_via}
 
-abbrev rare_in_answers : SideComparator → Bool
+abbrev rare_in_answers : SideComparator IdValue → Bool
 rare_in_answers c = c.rare
 
-abbrev outcome_in_answers : SideComparator → IdValue → IdValue → Outcome
+abbrev outcome_in_answers : SideComparator IdValue → IdValue → IdValue → Outcome
 outcome_in_answers c = c.outcome
 
 same_outcomes : (kinds : List FieldById) (xs ys : List IdValue) → outcomes field_outcome kinds xs ys ≡ outcomes outcome_in_answers (map answers_of kinds) xs ys
@@ -37,11 +38,15 @@ module _ (kinds : List FieldById) (rows_a rows_b : List (List IdValue)) where
     pattern = number_of (same_rares i) (same_outcomes kinds (get_or rows_a r.a []) (get_or rows_b r.b []) i);
   }
 
-  counts_answered : (sample : List Reviewed) → counts_by field_rare field_outcome kinds rows_a rows_b sample ≡ counts_of (map answers_of kinds) rows_a rows_b sample
+  counts_answered : (sample : List Reviewed) → counts_by field_rare field_outcome kinds rows_a rows_b sample
+      ≡ counts_by_pattern (map rare_in_answers (map answers_of kinds)) (pattern_over (map answers_of kinds) rows_a rows_b) sample
   counts_answered sample = λ i. record { rares = same_rares i; rows = map (λ r. same_judged r i) sample }
 
-  pub counts_by_answers : (cs : List SideComparator) → map answers_of kinds ≡ cs → (sample : List Reviewed) → counts_by field_rare field_outcome kinds rows_a rows_b sample ≡ counts_of cs rows_a rows_b sample
-  counts_by_answers cs e sample = counts_answered sample ∙ ap (λ all. counts_of all rows_a rows_b sample) e
+  pub counts_by_answers : (cs : List (SideComparator IdValue)) (rares : List Bool) → map answers_of kinds ≡ cs → map field_rare kinds ≡ rares → (sample : List Reviewed)
+      → counts_by field_rare field_outcome kinds rows_a rows_b sample ≡ counts_by_pattern rares (pattern_over cs rows_a rows_b) sample
+  counts_by_answers cs rares e r sample =
+      counts_answered sample ∙ ap (λ bs. counts_by_pattern bs (pattern_over (map answers_of kinds) rows_a rows_b) sample) (sym same_rares ∙ r)
+      ∙ ap (λ all. counts_by_pattern rares (pattern_over all rows_a rows_b) sample) e
 
 -- what is given of what is given
 pub given_then : {A B C : Type 0} (step : Result A Fault) (f g : A → B) (h : B → C) (v : B) → ((x : A) → f x ≡ g x) → and_then step (λ x. Ok (f x)) ≡ Ok v → and_then step (λ x. Ok (h (g x))) ≡ Ok (h v)

@@ -52,12 +52,12 @@ map_via f g [] = refl
 map_via f g (x ∷ xs) = ap (λ ys. g (f x) ∷ ys) (map_via f g xs)
 
 module _ (texts : ℕ) (rows_a rows_b : List (List IdValue)) where
-  rares_from : (n : ℕ) (fields : List FieldKeys) → map (λ (c : SideComparator). c.rare) (map (comparator_at texts rows_a rows_b) (enumerate_from n fields)) ≡ rares_of fields
+  pub rares_from : (n : ℕ) (fields : List FieldKeys) → map (λ (c : SideComparator IdValue). c.rare) (map (comparator_at texts rows_a rows_b) (enumerate_from n fields)) ≡ rares_of fields
   rares_from n [] = refl
   rares_from n (f ∷ fs) = λ i. rare_by f.compare (id_counts texts rows_a rows_b n) f.rare i ∷ rares_from (n + 1) fs i
 
   pub rares_answered : (fields : List FieldKeys) (all : List FieldById) → map answers_of all ≡ map (comparator_at texts rows_a rows_b) (enumerate_from 0 fields) → map field_rare all ≡ rares_of fields
-  rares_answered fields all e = sym (map_via answers_of (λ (c : SideComparator). c.rare) all) ∙ ap (map (λ (c : SideComparator). c.rare)) e ∙ rares_from 0 fields
+  rares_answered fields all e = sym (map_via answers_of (λ (c : SideComparator IdValue). c.rare) all) ∙ ap (map (λ (c : SideComparator IdValue). c.rare)) e ∙ rares_from 0 fields
 
 -- what the comparators of the first fields may be asked of
 abbrev pub AskedOf : ℕ → List FieldKeys → List FieldById → ℕ → Type 0

@@ -16,5 +16,9 @@ pub mod RareLemmas
 pub mod ShareLemmas
 pub mod RuleSideLemmas
 pub mod TheRule
+pub mod FilledGive
+pub mod FilledRule
+pub mod SharesRule
 pub mod LineLemmas
 pub mod RowLemmas
+pub mod ValuePatterns

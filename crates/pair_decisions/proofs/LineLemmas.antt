@@ -3,11 +3,10 @@ use Rattle.std.proofs.Common.{◌≡◌, ◌+◌, ◌<◌, ◌∙◌, ℕ, Bool,
 use Rattle.std.specs.List.{flat_map}
 use Rattle.std.proofs.lemmas.Grind.{flat_map-append}
 use Rattle.std.proofs.lemmas.List.{append-nil, map-append, take_more}
-use Rattle.comparators.specs.declared.ids.IdValue.{IdValue}
 use Rattle.link_base.specs.declared.rule.PairAt.{PairAt}
 use Rattle.link_report.specs.declared.open.PairRow.{PairRow}
 use Rattle.pair_decisions.specs.PairRows.{decided_rows, pair_row_of, pair_rows_of, shown_rows}
-use Rattle.pair_decisions.specs.PairRule.{SideRule}
+use Rattle.pair_decisions.specs.PairRule.{FileRule}
 use Rattle.review_journal.specs.declared.entry.Entry.{Entry}
 
 -- a line by the fields that may be rare, which stay the same
@@ -26,7 +25,7 @@ line_more line shown rows i d start old new lt told more =
     more ∙ ap (λ t. t ++ line row) told ∙ append_assoc start (flat_map line before) (line row) ∙ ap (λ t. start ++ t) (sym all)
 
 -- the rows of pairs with the verdicts that are shown at them
-pub rows_shown : (rule : SideRule) (rows_a rows_b : List (List IdValue)) (entries : List Entry) (pairs : List PairAt)
-    → shown_rows entries (decided_rows rule rows_a rows_b pairs) ≡ pair_rows_of rule rows_a rows_b entries pairs
-rows_shown rule rows_a rows_b entries [] = refl
-rows_shown rule rows_a rows_b entries (at ∷ pairs) = ap (λ rows. pair_row_of rule rows_a rows_b entries at ∷ rows) (rows_shown rule rows_a rows_b entries pairs)
+pub rows_shown : (rule : FileRule) (entries : List Entry) (pairs : List PairAt)
+    → shown_rows entries (decided_rows rule pairs) ≡ pair_rows_of rule entries pairs
+rows_shown rule entries [] = refl
+rows_shown rule entries (at ∷ pairs) = ap (λ rows. pair_row_of rule entries at ∷ rows) (rows_shown rule entries pairs)

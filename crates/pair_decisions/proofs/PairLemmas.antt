@@ -15,7 +15,7 @@ use Rattle.link_limits.specs.declared.TheConstants.{MOST_PAIRS}
 use Rattle.link_base.specs.Rule.{IsPairBefore}
 use Rattle.pair_walk.specs.Pairs.{compared_pairs, is_compared, pairs_of_row, product_from}
 use Rattle.pair_decisions.specs.Decisions.{DecidedView, count_with, decision_at, is_same, pairs_with}
-use Rattle.pair_decisions.specs.PairRule.{SideRule}
+use Rattle.pair_decisions.specs.PairRule.{FileRule}
 use Rattle.pair_decisions.specs.Pairs.{IsInside, pairs_within}
 
 -- a pair of the row `a`, from the column `b` on, below `width`
@@ -99,15 +99,15 @@ three_kinds decided (at ∷ pairs) = one_more (decided at) (three_kinds decided 
     one_more NonLink rest = omega arith
 
 -- what is counted of decided pairs
-module _ (rule : SideRule) (rows_a rows_b : List (List IdValue)) (pairs : List PairAt) (d : DecidedView) (all : d.compared ≡ length pairs)
-    (links : d.links ≡ pairs_with Link rule rows_a rows_b pairs) (possible : d.possible ≡ pairs_with Possible rule rows_a rows_b pairs) where
-  pub counted : (kind : Decision) → count_with d kind ≡ length (pairs_with kind rule rows_a rows_b pairs)
+module _ (rule : FileRule) (pairs : List PairAt) (d : DecidedView) (all : d.compared ≡ length pairs)
+    (links : d.links ≡ pairs_with Link rule pairs) (possible : d.possible ≡ pairs_with Possible rule pairs) where
+  pub counted : (kind : Decision) → count_with d kind ≡ length (pairs_with kind rule pairs)
   counted Link = ap length links
   counted Possible = ap length possible
-  counted NonLink = omega (arith, three_kinds (decision_at rule rows_a rows_b) pairs, ap length links, ap length possible)
+  counted NonLink = omega (arith, three_kinds (decision_at rule) pairs, ap length links, ap length possible)
 
   pub not_more : length d.links + length d.possible ≤ d.compared
-  not_more = omega (arith, three_kinds (decision_at rule rows_a rows_b) pairs, ap length links, ap length possible)
+  not_more = omega (arith, three_kinds (decision_at rule) pairs, ap length links, ap length possible)
 
 -- pairs that are not too many
 pub within_limit : (pairs : List PairAt) → length pairs ≤ MOST_PAIRS → pairs_within pairs ≡ Ok pairs

@@ -10,7 +10,8 @@ use Rattle.comparators.specs.declared.ids.IdValue.{IdValue}
 use Rattle.comparators.specs.declared.ids.IdValue.TheVariants as id
 use Rattle.value_forms.specs.Canons.{canon_of, compares_days, day_in}
 use Rattle.pair_decisions.specs.Comparators.{count_of_id, has_id, is_id}
-use Rattle.pair_decisions.specs.RareValues.{StandInField, is_canon, records_with}
+use Rattle.pair_decisions.specs.FieldComparators.{is_canon, records_with}
+use Rattle.pair_decisions.specs.RareValues.{StandInField}
 
 passes_more : {X Y : Type 0} (p : X → Bool) (q : Y → Bool) (x : X) (y : Y) (xs : List X) (ys : List Y) (s t : Bool) → p x ≡ s → q y ≡ t → p x ≡ q y
     → length (filter p xs) ≡ length (filter q ys) → length (filter p (x ∷ xs)) ≡ length (filter q (y ∷ ys))

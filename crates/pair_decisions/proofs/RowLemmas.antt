@@ -12,7 +12,6 @@ use Rattle.patterns.proofs.PatternNumbers.{pattern-lt}
 use Rattle.patterns.specs.Shapes.{pattern_count_by}
 use Rattle.pair_decisions.proofs.SideLemmas.{pattern_seen}
 use Rattle.pair_decisions.specs.Comparators.{answers_of}
-use Rattle.pair_decisions.specs.Decisions.{pattern_at}
 use Rattle.pair_decisions.specs.PairRows.{AreRowsIn, decided_row, decided_rows, kept_rows}
 use Rattle.pair_decisions.specs.PairRule.{AreSidesFor, pattern_by, PairRuleView, side_rule}
 use Rattle.pair_decisions.specs.Pairs.{IsInside}
@@ -36,16 +35,16 @@ module _ (rule : PairRuleView) (rows_a rows_b : List (List IdValue)) (pairs : Li
     (many : length rule.cells ≡ pattern_count_by (map field_rare rule.comparators))
     (inside : All (IsInside (length rows_a) (length rows_b)) pairs) (rise : AllPairs IsPairBefore pairs) where
   abbrev rows : List PairRow
-  rows = decided_rows (side_rule rule) rows_a rows_b pairs
+  rows = decided_rows (side_rule rule rows_a rows_b) pairs
 
-  below : (at : PairAt) → IsInside (length rows_a) (length rows_b) at → pattern_at (side_rule rule) rows_a rows_b at < length rule.cells
+  below : (at : PairAt) → IsInside (length rows_a) (length rows_b) at → (side_rule rule rows_a rows_b).pattern at < length rule.cells
   below at within =
-      subst (λ (n : ℕ). pattern_at (side_rule rule) rows_a rows_b at < n) (sym many)
+      subst (λ (n : ℕ). (side_rule rule rows_a rows_b).pattern at < n) (sym many)
       (pattern_below rule (get_or rows_a at.a []) (get_or rows_b at.b []) (sides_a at.a [] within.0) (sides_b at.b [] within.1))
 
   all_in : AreRowsIn (length rows_a) (length rows_b) (length rule.cells) rows
   all_in =
-      let row = decided_row (side_rule rule) rows_a rows_b in
+      let row = decided_row (side_rule rule rows_a rows_b) in
       record {
         in_a = All-map (λ (r : PairRow). r.at.a < length rows_a) row pairs (All-weaker (IsInside (length rows_a) (length rows_b)) (λ at. at.a < length rows_a) (λ at h. h.0) pairs inside);
         in_b = All-map (λ (r : PairRow). r.at.b < length rows_b) row pairs (All-weaker (IsInside (length rows_a) (length rows_b)) (λ at. at.b < length rows_b) (λ at h. h.1) pairs inside);

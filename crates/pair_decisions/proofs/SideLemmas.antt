@@ -10,9 +10,9 @@ use Rattle.pair_decisions.specs.Comparators.{SideComparator, answers_of}
 use Rattle.pair_decisions.specs.PairRule.{pattern_by, rares_in}
 
 rares_seen : (all : List FieldById) → map field_rare all ≡ rares_in (map answers_of all)
-rares_seen all = sym (map_via answers_of (λ (c : SideComparator). c.rare) all)
+rares_seen all = sym (map_via answers_of (λ (c : SideComparator IdValue). c.rare) all)
 
-abbrev outcome_in : SideComparator → IdValue → IdValue → Outcome
+abbrev outcome_in : SideComparator IdValue → IdValue → IdValue → Outcome
 outcome_in c = c.outcome
 
 outcomes_seen : (all : List FieldById) (a b : List IdValue) → outcomes field_outcome all a b ≡ outcomes outcome_in (map answers_of all) a b

@@ -13,11 +13,11 @@ use Rattle.comparators.specs.declared.ids.IdValue.TheVariants as id
 use Rattle.link_plan.specs.Plan.{FieldKeys}
 
 -- a comparator as its answers: whether `Rare` is one of them, and the outcome of two sides
-pub record SideComparator : Type 0 where
+pub record SideComparator (S : Type 0) : Type 0 where
   pub rare : Bool
-  pub outcome : IdValue → IdValue → Outcome
+  pub outcome : S → S → Outcome
 
-abbrev pub answers_of : FieldById → SideComparator
+abbrev pub answers_of : FieldById → SideComparator IdValue
 answers_of c = record { rare = field_rare c; outcome = field_outcome c }
 
 -- whether the side of a row in a field is this id
@@ -38,15 +38,15 @@ abbrev pub id_counts : ℕ → List (List IdValue) → List (List IdValue) → �
 id_counts texts rows_a rows_b field = map (count_of_id rows_a rows_b field) (range_with_len 0 texts)
 
 -- the comparator of a kind, and where there is a rare number the one that answers `Rare` by it and these counts
-abbrev pub comparator_by : CompareKind → List ℕ → Option ℕ → SideComparator
+abbrev pub comparator_by : CompareKind → List ℕ → Option ℕ → SideComparator IdValue
 comparator_by kind counts None = answers_of (field_of kind)
 comparator_by kind counts (Some most) = record { rare = true; outcome = λ x y. outcome_by (outcome_of_counted most counts) (id_in x) (id_in y) }
 
 -- the comparator of the field at a place
-abbrev pub comparator_at : ℕ → List (List IdValue) → List (List IdValue) → ℕ × FieldKeys → SideComparator
+abbrev pub comparator_at : ℕ → List (List IdValue) → List (List IdValue) → ℕ × FieldKeys → SideComparator IdValue
 comparator_at texts rows_a rows_b at = comparator_by at.1.compare (id_counts texts rows_a rows_b at.0) at.1.rare
 
-abbrev pub comparators_of : ℕ → List FieldKeys → List (List IdValue) → List (List IdValue) → List SideComparator
+abbrev pub comparators_of : ℕ → List FieldKeys → List (List IdValue) → List (List IdValue) → List (SideComparator IdValue)
 comparators_of texts fields rows_a rows_b = map (comparator_at texts rows_a rows_b) (enumerate_from 0 fields)
 
 -- which fields have a rare number

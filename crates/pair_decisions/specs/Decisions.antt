@@ -1,6 +1,6 @@
 -- The decisions of a rule on pairs of two files (Fellegi and Sunter 1969, section 2). `decide_pairs` carries them (clauses
 -- `compared`, `links`, `possible` and `counts`, and all at once `decisions`); the decision on one pair is by `decide_in_cell`.
-use Rattle.std.specs.Prelude.{◌≡◌, ◌+◌, ◌-◌, ◌≤◌, ℕ, Bool, true, false, List, [], All, AllPairs, filter, length, slice_index_or}
+use Rattle.std.specs.Prelude.{◌≡◌, ◌+◌, ◌-◌, ◌≤◌, ℕ, Bool, true, false, List, All, AllPairs, filter, length}
 use Rattle.link_limits.specs.declared.TheConstants.{MOST_PAIRS}
 use Rattle.comparators.specs.declared.ids.IdValue.{IdValue}
 use Rattle.decision_rule.specs.Border.{border_word}
@@ -10,16 +10,12 @@ use Rattle.link_base.specs.declared.rule.Decision.TheVariants.{Link, NonLink, Po
 use Rattle.link_base.specs.declared.rule.PairAt.{PairAt}
 use Rattle.link_base.specs.Rule.{IsPairBefore}
 use Rattle.link_report.specs.declared.open.PairRow.{PairRow}
-use Rattle.pair_decisions.specs.PairRule.{cell_of, PairRuleView, pattern_by, side_rule, SideRule}
+use Rattle.pair_decisions.specs.PairRule.{cell_of, FileRule, PairRuleView, side_rule}
 use Rattle.pair_decisions.specs.Pairs.{IsInside}
 
--- the comparison pattern of the rows at a pair of positions
-abbrev pub pattern_at : SideRule → List (List IdValue) → List (List IdValue) → PairAt → ℕ
-pattern_at rule rows_a rows_b at = pattern_by rule.comparators (slice_index_or rows_a at.a []) (slice_index_or rows_b at.b [])
-
--- the decision on the pair at positions, by the cell of its pattern and its border word
-unfoldable pub decision_at : SideRule → List (List IdValue) → List (List IdValue) → PairAt → Decision
-decision_at rule rows_a rows_b at = decision_of (cell_of rule.cells (pattern_at rule rows_a rows_b at)) (border_word rule.seed at.a at.b)
+-- the decision on the pair at positions, by the cell of its comparison pattern and its border word
+unfoldable pub decision_at : FileRule → PairAt → Decision
+decision_at rule at = decision_of (cell_of rule.cells (rule.pattern at)) (border_word rule.seed at.a at.b)
 
 abbrev pub is_same : Decision → Decision → Bool
 is_same Link Link = true
@@ -28,8 +24,8 @@ is_same NonLink NonLink = true
 is_same kind other = false
 
 -- the pairs of a list with a decision
-abbrev pub pairs_with : Decision → SideRule → List (List IdValue) → List (List IdValue) → List PairAt → List PairAt
-pairs_with kind rule rows_a rows_b pairs = filter (λ at. is_same kind (decision_at rule rows_a rows_b at)) pairs
+abbrev pub pairs_with : Decision → FileRule → List PairAt → List PairAt
+pairs_with kind rule pairs = filter (λ at. is_same kind (decision_at rule at)) pairs
 
 -- what is seen of decided pairs: the rule, the rows of the pairs where they are kept, how many pairs were compared, the links and
 -- the possible links
@@ -52,5 +48,5 @@ pub record AreDecisionsOn (rows_a rows_b : List (List IdValue)) (pairs : List Pa
   pub rising : AllPairs IsPairBefore pairs
   pub inside : All (IsInside (length rows_a) (length rows_b)) pairs
   pub compared : d.compared ≡ length pairs
-  pub links : d.links ≡ pairs_with Link (side_rule d.rule) rows_a rows_b pairs
-  pub possible : d.possible ≡ pairs_with Possible (side_rule d.rule) rows_a rows_b pairs
+  pub links : d.links ≡ pairs_with Link (side_rule d.rule rows_a rows_b) pairs
+  pub possible : d.possible ≡ pairs_with Possible (side_rule d.rule rows_a rows_b) pairs

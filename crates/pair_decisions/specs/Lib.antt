@@ -8,4 +8,5 @@ pub mod PlanShares
 pub mod PlanRule
 pub mod TheRule
 pub mod RareValues
+pub mod FieldComparators
 pub mod PairRows

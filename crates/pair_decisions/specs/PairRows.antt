@@ -2,15 +2,14 @@
 -- Sunter 1969, section 2), and the verdict of clerical review. `decide_pairs` finds them before review (clause `rows`), and
 -- `pair_lines` writes them with their verdicts (its lone clause).
 use Rattle.std.specs.Prelude.{◌<◌, ℕ, Bool, true, false, List, [], All, AllPairs, map, Option, None}
-use Rattle.comparators.specs.declared.ids.IdValue.{IdValue}
 use Rattle.link_base.specs.declared.rule.Decision.{Decision}
 use Rattle.link_base.specs.declared.rule.Decision.TheVariants.{Possible}
 use Rattle.link_base.specs.declared.rule.PairAt.{PairAt}
 use Rattle.link_base.specs.declared.rule.Verdict.{Verdict}
 use Rattle.link_base.specs.Rule.{IsPairBefore}
 use Rattle.link_report.specs.declared.open.PairRow.{PairRow}
-use Rattle.pair_decisions.specs.Decisions.{decision_at, pattern_at}
-use Rattle.pair_decisions.specs.PairRule.{cell_of, SideRule}
+use Rattle.pair_decisions.specs.Decisions.{decision_at}
+use Rattle.pair_decisions.specs.PairRule.{cell_of, FileRule}
 use Rattle.review_journal.specs.Verdict.{verdict_on}
 use Rattle.review_journal.specs.declared.entry.Entry.{Entry}
 
@@ -20,10 +19,10 @@ shown_verdict entries at Possible = verdict_on entries at.a at.b
 shown_verdict entries at decision = None
 
 -- the row of a pair
-abbrev pub pair_row_of : SideRule → List (List IdValue) → List (List IdValue) → List Entry → PairAt → PairRow
-pair_row_of rule rows_a rows_b entries at =
-    let pattern = pattern_at rule rows_a rows_b at in
-    let decision = decision_at rule rows_a rows_b at in
+abbrev pub pair_row_of : FileRule → List Entry → PairAt → PairRow
+pair_row_of rule entries at =
+    let pattern = rule.pattern at in
+    let decision = decision_at rule at in
     record {
       at = at;
       pattern = pattern;
@@ -32,23 +31,23 @@ pair_row_of rule rows_a rows_b entries at =
       verdict = shown_verdict entries at decision;
     }
 
-abbrev pub pair_rows_of : SideRule → List (List IdValue) → List (List IdValue) → List Entry → List PairAt → List PairRow
-pair_rows_of rule rows_a rows_b entries pairs = map (pair_row_of rule rows_a rows_b entries) pairs
+abbrev pub pair_rows_of : FileRule → List Entry → List PairAt → List PairRow
+pair_rows_of rule entries pairs = map (pair_row_of rule entries) pairs
 
 -- the row of a pair before review, and those of pairs
-abbrev pub decided_row : SideRule → List (List IdValue) → List (List IdValue) → PairAt → PairRow
-decided_row rule rows_a rows_b at =
-    let pattern = pattern_at rule rows_a rows_b at in
+abbrev pub decided_row : FileRule → PairAt → PairRow
+decided_row rule at =
+    let pattern = rule.pattern at in
     record {
       at = at;
       pattern = pattern;
       weight = (cell_of rule.cells pattern).weight;
-      decision = decision_at rule rows_a rows_b at;
+      decision = decision_at rule at;
       verdict = None;
     }
 
-abbrev pub decided_rows : SideRule → List (List IdValue) → List (List IdValue) → List PairAt → List PairRow
-decided_rows rule rows_a rows_b pairs = map (decided_row rule rows_a rows_b) pairs
+abbrev pub decided_rows : FileRule → List PairAt → List PairRow
+decided_rows rule pairs = map (decided_row rule) pairs
 
 -- rows where they are kept: all of them, or none
 abbrev pub kept_rows : Bool → List PairRow → List PairRow

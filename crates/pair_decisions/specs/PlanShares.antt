@@ -1,22 +1,27 @@
 -- The shares of a plan's fields: those of its settings (`given_shares`, clause `shares`), or those of the counts of its
--- sample by the comparators of the plan (`counted_shares`, clause `answer`).
-use Rattle.std.specs.Prelude.{ℕ, Bool, true, false, List, [], ◌∷◌, ◌++◌, map, Result, Ok, if◌then◌else◌}
+-- sample, by the comparison patterns of its pairs (`counted_shares`, clause `answer`).
+use Rattle.std.specs.Prelude.{ℕ, Bool, true, false, List, [], ◌∷◌, ◌++◌, All, IfSome, is_some, map, Result, Ok, if◌then◌else◌}
 use Rattle.std.specs.List.{enumerate_from, filter_map, range_with_len}
 use Rattle.file_reader.specs.Left.{records_in}
 use Rattle.link_base.specs.Answers.{and_then}
 use Rattle.link_base.specs.Standard.{Record}
 use Rattle.link_base.specs.declared.fault.Fault.{Fault}
+use Rattle.link_base.specs.declared.rule.PairAt.{PairAt}
 use Rattle.link_base.specs.declared.shares.FieldShares.{FieldShares}
-use Rattle.comparators.specs.declared.ids.IdValue.{IdValue}
-use Rattle.sample_counts.specs.Counts.{CountsState, count_of, counts_by}
+use Rattle.sample_counts.specs.Counts.{CountsState, count_of}
 use Rattle.sample_counts.specs.Sample.{sample_of}
 use Rattle.sample_counts.specs.declared.reviewed.Reviewed.{Reviewed}
 use Rattle.link_plan.specs.Plan.{FieldKeys, PlainShares, plain_shares}
+use Rattle.link_plan.specs.Ranges.{AreShares}
 use Rattle.sample_counts.specs.Remainders.{share_of}
-use Rattle.pair_decisions.specs.Comparators.{SideComparator, comparators_of}
+use Rattle.pair_decisions.specs.Comparators.{rares_of}
 
 abbrev pub plain_all : List FieldShares → List PlainShares
 plain_all shares = map plain_shares shares
+
+-- each field that has shares of its own has valid ones
+abbrev pub HaveValidShares : List FieldKeys → Type 0
+HaveValidShares fields = All (λ (f : FieldKeys). IfSome f.shares (AreShares (is_some f.rare))) fields
 
 -- the shares that the settings give, field by field
 abbrev pub given_in : List FieldKeys → List PlainShares
@@ -47,13 +52,15 @@ shares_at counts at = record {
 abbrev pub shares_in : CountsState → List PlainShares
 shares_in counts = map (shares_at counts) (enumerate_from 0 counts.rares)
 
--- the counts of a sample by comparators
-abbrev pub counts_of : List SideComparator → List (List IdValue) → List (List IdValue) → List Reviewed → CountsState
-counts_of comparators rows_a rows_b sample =
-    counts_by (λ (c : SideComparator). c.rare) (λ (c : SideComparator). c.outcome) comparators rows_a rows_b sample
+-- the counts of a sample whose pairs have these comparison patterns
+abbrev pub counts_by_pattern : List Bool → (PairAt → ℕ) → List Reviewed → CountsState
+counts_by_pattern rares pattern sample = record {
+  rares = rares;
+  rows = map (λ (r : Reviewed). record { matched = r.matched; pattern = pattern (record { a = r.a; b = r.b }) }) sample;
+}
 
--- the shares of a sample of two files, or its first fault
-abbrev pub counted_in : ℕ → List FieldKeys → List Record → List Record → List (List IdValue) → List (List IdValue) → List ℕ → Result (List PlainShares) Fault
-counted_in texts fields a b rows_a rows_b bytes =
+-- the shares of a sample of two files whose pairs have these comparison patterns, or its first fault
+abbrev pub counted_in : List FieldKeys → (PairAt → ℕ) → List Record → List Record → List ℕ → Result (List PlainShares) Fault
+counted_in fields pattern a b bytes =
     and_then (sample_of a b (records_in 44 bytes)) (λ sample.
-    Ok (shares_in (counts_of (comparators_of texts fields rows_a rows_b) rows_a rows_b sample)))
+    Ok (shares_in (counts_by_pattern (rares_of fields) pattern sample)))

@@ -114,12 +114,12 @@ pub fn decide_pairs(
     ensures refused { IfErr result (Refuses (pairs_within (pairs_of_rows blocks.now))) }
     ensures within { IfOk result (λ _. pairs_within (pairs_of_rows blocks.now) ≡ Ok (pairs_of_rows blocks.now)) }
     ensures rule { IfOk result (λ d. d.rule ≡ rule) }
-    ensures rows { IfOk result (λ d. d.rows ≡ kept_rows with_rows (decided_rows (side_rule rule) sides_a.now.rows sides_b.now.rows (pairs_of_rows blocks.now))) }
+    ensures rows { IfOk result (λ d. d.rows ≡ kept_rows with_rows (decided_rows (side_rule rule sides_a.now.rows sides_b.now.rows) (pairs_of_rows blocks.now))) }
     ensures rows_in { IfOk result (λ d. AreRowsIn (length sides_a.now.rows) (length sides_b.now.rows) (length d.rule.cells) d.rows) }
     ensures compared { IfOk result (λ d. d.compared ≡ length (pairs_of_rows blocks.now)) }
-    ensures links { IfOk result (λ d. d.links ≡ pairs_with Link (side_rule rule) sides_a.now.rows sides_b.now.rows (pairs_of_rows blocks.now)) }
-    ensures possible { IfOk result (λ d. d.possible ≡ pairs_with Possible (side_rule rule) sides_a.now.rows sides_b.now.rows (pairs_of_rows blocks.now)) }
-    ensures counts { IfOk result (λ d. (kind : Decision) → count_with d kind ≡ length (pairs_with kind (side_rule rule) sides_a.now.rows sides_b.now.rows (pairs_of_rows blocks.now))) }
+    ensures links { IfOk result (λ d. d.links ≡ pairs_with Link (side_rule rule sides_a.now.rows sides_b.now.rows) (pairs_of_rows blocks.now)) }
+    ensures possible { IfOk result (λ d. d.possible ≡ pairs_with Possible (side_rule rule sides_a.now.rows sides_b.now.rows) (pairs_of_rows blocks.now)) }
+    ensures counts { IfOk result (λ d. (kind : Decision) → count_with d kind ≡ length (pairs_with kind (side_rule rule sides_a.now.rows sides_b.now.rows) (pairs_of_rows blocks.now))) }
     ensures links_inside { IfOk result (λ d. All (IsInside (length sides_a.now.rows) (length sides_b.now.rows)) d.links) }
     ensures possible_inside { IfOk result (λ d. All (IsInside (length sides_a.now.rows) (length sides_b.now.rows)) d.possible) }
     ensures links_rise { IfOk result (λ d. AllPairs IsPairBefore d.links) }

@@ -2,9 +2,9 @@
 ghost use Rattle.std.specs.Prelude.{◌≡◌, ◌<◌, ◌≤◌, All, IfOk, Some, find, length, map};
 ghost use Rattle.comparators.specs.Fields.{field_rare};
 ghost use Rattle.link_base.specs.Rule.{IsWithinRanges};
-ghost use Rattle.pair_decisions.specs.PairRule.{AreCellsOf, AreSidesFor, has_pattern, pattern_by, side_rule, side_rule_of};
+ghost use Rattle.pair_decisions.specs.PairRule.{AreCellsOf, AreSidesFor, has_pattern, pattern_by};
 ghost use Rattle.patterns.specs.Shapes.{pattern_count_by};
-ghost use Rattle.pair_decisions.specs.Comparators.{rares_of};
+ghost use Rattle.pair_decisions.specs.Comparators.{answers_of, comparators_of, rares_of};
 ghost use Rattle.pair_decisions.specs.Sides.{AreSidesOf};
 ghost use Rattle.link_plan.specs.Ranges.{KeepsRanges};
 
@@ -57,8 +57,9 @@ impl PairRule {
         requires sides_a { All (AreSidesOf texts plan.now.fields) sides_a.now.rows }
         requires sides_b { All (AreSidesOf texts plan.now.fields) sides_b.now.rows }
         requires cells { AreCellsOf (pattern_count_by (rares_of plan.now.fields)) table.cells.items }
-        ensures rule { IfOk result (λ rule. side_rule rule ≡ side_rule_of plan.now texts sides_a.now.rows sides_b.now.rows table.cells.items) }
-        ensures cells { IfOk result (λ rule. length rule.cells ≡ pattern_count_by (rares_of plan.now.fields)) }
+        ensures comparators { IfOk result (λ rule. map answers_of rule.comparators ≡ comparators_of texts plan.now.fields sides_a.now.rows sides_b.now.rows) }
+        ensures cells { IfOk result (λ rule. rule.cells ≡ table.cells.items) }
+        ensures seed { IfOk result (λ rule. rule.seed ≡ plan.now.seed) }
         ensures sides_a { IfOk result (λ rule. All (AreSidesFor rule) sides_a.now.rows) }
         ensures sides_b { IfOk result (λ rule. All (AreSidesFor rule) sides_b.now.rows) }
     {
@@ -97,7 +98,7 @@ impl PairRule {
     pub fn pattern(&self, a: &[IdValue], b: &[IdValue]) -> u16
         requires sides_a { AreSidesFor self.now a.now }
         requires sides_b { AreSidesFor self.now b.now }
-        ensures number { result ≡ pattern_by (side_rule self.now).comparators a.now b.now }
+        ensures number { result ≡ pattern_by (map answers_of self.now.comparators) a.now b.now }
         ensures range { result < length self.now.cells }
     {
         pattern_over(&self.comparators, a, b)

@@ -3,7 +3,8 @@ ghost use Rattle.std.specs.Prelude.{◌≡◌, ◌<◌, ◌≤◌, ℕ, All, Non
 ghost use Rattle.link_base.specs.Fault.{Gives, IsInputFault};
 ghost use Rattle.link_base.specs.Shares.{IsShares, outcomes_of};
 ghost use Rattle.patterns.specs.Chances.{rare_in};
-ghost use Rattle.pair_decisions.specs.Comparators.{rares_of};
+ghost use Rattle.pair_decisions.specs.Comparators.{comparators_of, rares_of};
+ghost use Rattle.pair_decisions.specs.PairRule.{pattern_over};
 ghost use Rattle.pair_decisions.specs.PlanShares.{counted_in, given_in, outcome_counts, plain_all, remainder_shares, shares_at, shares_in, status_shares};
 ghost use Rattle.pair_decisions.specs.Sides.{AreSidesOf};
 ghost use Rattle.link_plan.specs.Plan.{plain_shares};
@@ -114,7 +115,7 @@ pub fn counted_shares(
     requires sides_a { All (AreSidesOf texts plan.now.fields) sides_a.now.rows }
     requires sides_b { All (AreSidesOf texts plan.now.fields) sides_b.now.rows }
     ensures kind { IfErr result IsInputFault }
-    ensures answer { Gives (λ all. plain_all all.items) (counted_in texts plan.now.fields a.now b.now sides_a.now.rows sides_b.now.rows sample.now) result }
+    ensures answer { Gives (λ all. plain_all all.items) (counted_in plan.now.fields (pattern_over (comparators_of texts plan.now.fields sides_a.now.rows sides_b.now.rows) sides_a.now.rows sides_b.now.rows) a.now b.now sample.now) result }
     ensures rares { IfOk result (λ all. rare_in all.items ≡ rares_of plan.now.fields) }
     ensures some { IfOk result (λ all. 1 ≤ length all.items) }
     ensures few { IfOk result (λ all. length all.items ≤ MOST_FIELDS) }

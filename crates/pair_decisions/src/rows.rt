@@ -29,7 +29,7 @@ pub(crate) fn row_at(
     requires sides_b { All (AreSidesFor rule.now) sides_b.now.rows }
     requires inside { IsInside (length sides_a.now.rows) (length sides_b.now.rows) at }
     ensures same { words.new ≡ words.old }
-    ensures row { result ≡ decided_row (side_rule rule.now) sides_a.now.rows sides_b.now.rows at }
+    ensures row { result ≡ decided_row (side_rule rule.now sides_a.now.rows sides_b.now.rows) at }
 {
     let pattern = rule.pattern(sides_a.sides(at.a), sides_b.sides(at.b));
     let cell = rule.cell(pattern);

@@ -1,16 +1,24 @@
 // What holds of every rule of a plan, and what its rare numbers count.
-ghost use Rattle.std.specs.Prelude.{◌≡◌, ◌+◌, List, Some, false, slice_get, ℕ};
+ghost use Rattle.std.specs.Prelude.{◌≡◌, ◌+◌, ◌<◌, List, None, Ok, Some, false, length, slice_get, ℕ};
 ghost use Rattle.comparators.specs.declared.ids.IdValue.{IdValue};
 ghost use Rattle.link_base.specs.Standard.{Record};
 ghost use Rattle.link_base.specs.declared.plan.CompareKind.{CompareKind};
+ghost use Rattle.link_base.specs.declared.rule.PairAt.{PairAt};
 ghost use Rattle.link_base.specs.declared.rule.RuleCell.{RuleCell};
+ghost use Rattle.link_base.specs.declared.shares.FieldShares.{FieldShares};
+ghost use Rattle.decision_rule.specs.Filled.{IsFilled};
 ghost use Rattle.decision_rule.specs.Least.{IsLeast};
-ghost use Rattle.pair_decisions.specs.Comparators.{count_of_id};
+ghost use Rattle.pair_decisions.specs.Comparators.{comparators_of, count_of_id, rares_of};
+ghost use Rattle.pair_decisions.specs.FieldComparators.{pattern_of_pair, records_with};
+ghost use Rattle.pair_decisions.specs.PairRule.{pattern_over};
 ghost use Rattle.pair_decisions.specs.PlanRule.{IsRuleOf};
-ghost use Rattle.pair_decisions.specs.RareValues.{StandInField, records_with};
+ghost use Rattle.pair_decisions.specs.PlanShares.{counted_in, given_in, HaveValidShares, plain_all};
+ghost use Rattle.pair_decisions.specs.RareValues.{StandForFile, StandInField};
 ghost use Rattle.pair_decisions.specs.TheRule.{the_rule};
 ghost use Rattle.link_plan.specs.Plan.{PlainShares};
+ghost use Rattle.link_plan.specs.Ranges.{KeepsRanges};
 ghost use Rattle.link_plan.specs.declared.plan.Plan.{Plan};
+ghost use Rattle.patterns.specs.Shapes.{pattern_count_by};
 ghost use Rattle.value_forms.specs.Canons.{compares_days};
 
 use value_pool::Pool;
@@ -44,3 +52,41 @@ pub fn rare_counts(pool: &Pool)
 {
     pool.are_distinct();
 }
+
+/// Law: the comparison pattern of two rows of ids and days that stand for the values of two records, by the comparators over ids of a
+/// pool and the counts of ids, is that of the two records by the outcomes of their values: each field by its kind, and agreement rare
+/// where at most so many records have the value (Fellegi and Sunter 1969, section 2; Newcombe et al. 1959).
+pub fn same_patterns(pool: &Pool)
+    ensures { (plan : Plan) (a b : List Record) (rows_a rows_b : List (List IdValue)) → KeepsRanges plan
+        → StandForFile pool.now.texts plan.fields a rows_a → StandForFile pool.now.texts plan.fields b rows_b
+        → pattern_over (comparators_of (length pool.now.texts) plan.fields rows_a rows_b) rows_a rows_b ≡ pattern_of_pair plan.fields a b }
+{
+    pool.are_distinct();
+}
+
+/// The rule that asked levels and the shares of fields determine is a filled table, whatever the levels and the shares are:
+/// each comparison pattern stands in one cell with its chances and its weight, the greater m/u first, links are cut from
+/// the first cell on and non-links from the last cell back (Fellegi and Sunter 1969, section 2). So each plan has a rule
+/// for given shares of its fields.
+pub fn the_rule_is_filled()
+    ensures filled { (shares : List FieldShares) (mu_ppm lambda_ppm : ℕ)
+        → IsFilled shares mu_ppm lambda_ppm (the_rule mu_ppm lambda_ppm (plain_all shares)) }
+    ensures of_plan { (plan : Plan) (shares : List FieldShares)
+        → IsRuleOf plan (plain_all shares) (the_rule plan.mu_ppm plan.lambda_ppm (plain_all shares)) }
+{}
+
+/// The shares of a plan's fields have a rule, and it is the one that they determine (Fellegi and Sunter 1969, section 2): those
+/// that its settings give, and those of the counts of its sample. A sample has a pair of each status, so largest remainders
+/// give each outcome of a field at least one 1,024th, and they add up to the whole. Its pairs have any comparison patterns of
+/// the plan's fields, in which no outcome is rare where a field has no rare number, as have records by their values.
+pub fn shares_have_a_rule()
+    ensures given { (plan : Plan) → HaveValidShares plan.fields
+        → IsRuleOf plan (given_in plan.fields) (the_rule plan.mu_ppm plan.lambda_ppm (given_in plan.fields)) }
+    ensures counted { (plan : Plan) (pattern : PairAt → ℕ) (a b : List Record) (bytes : List ℕ) (shares : List PlainShares)
+        → ((at : PairAt) → pattern at < pattern_count_by (rares_of plan.fields))
+        → counted_in plan.fields pattern a b bytes ≡ Ok shares
+        → IsRuleOf plan shares (the_rule plan.mu_ppm plan.lambda_ppm shares) }
+    ensures by_values { (plan : Plan) (a b : List Record) (bytes : List ℕ) (shares : List PlainShares)
+        → counted_in plan.fields (pattern_of_pair plan.fields a b) a b bytes ≡ Ok shares
+        → IsRuleOf plan shares (the_rule plan.mu_ppm plan.lambda_ppm shares) }
+{}

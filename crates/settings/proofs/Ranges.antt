@@ -16,7 +16,7 @@ use Rattle.settings_readers.proofs.Kept.{choice_keeps, defaulted_keeps, in_range
 use Rattle.settings.specs.Words.{delimiters, delimiter_named, top_keys}
 use Rattle.settings.specs.Field.{fields}
 use Rattle.settings.specs.Pass.{passes}
-use Rattle.link_plan.specs.Ranges.{AreFiles, files_read, is_delimiter, IsFileName, IsLabel, KeepsRanges}
+use Rattle.link_plan.specs.Ranges.{AreFiles, files_read, is_delimiter, IsField, IsFileName, IsLabel, KeepsRanges}
 use Rattle.settings.specs.Settings.{document, file_keys, is_free, journal_of, sources, numbers, tables, plan_of, plan_or_not_toml, settings}
 use Rattle.settings.specs.Values.{text}
 use Rattle.link_plan.specs.declared.limits.TheConstants.{MOST_AWARD, MOST_SEED}
@@ -154,6 +154,7 @@ pub record IsReadPlan (plan : Plan) : Type 0 where
   pub files : AreFiles plan.file_a plan.file_b plan.sample plan.journal
   pub award : plan.award ≤ MOST_AWARD
   pub few_fields : length plan.fields ≤ MOST_FIELDS
+  pub fields : All (IsField (is_some plan.sample)) plan.fields
   pub ranges : AreWordPairs plan.tables.names → AreWordPairs plan.tables.places → KeepsRanges plan
 
 plan_is : (t : Members) (above : List ℕ) (x : Plan) → plan_of t above ≡ Ok x → IsReadPlan x
@@ -193,6 +194,7 @@ plan_is t above x e =
       files = sourced.files;
       award = numbered.award;
       few_fields = fields_kept.2;
+      fields = fields_kept.0.fields;
       ranges = λ in_names in_places. record {
         files = sourced.files;
         id_a = sourced.id_a;

@@ -12,7 +12,7 @@ returns-clause-candidates c =
     let entries = c.args.journal.now in
     let award = c.args.award in
     let d = c.args.decided.now in
-    let same : merged (of_link (side_rule c.rule.result.now) rows_a rows_b) (of_possible (side_rule c.rule.result.now) rows_a rows_b entries award) c.links.result.now c.possible.result.now
-    ≡ merged (of_link (side_rule d.rule) rows_a rows_b) (of_possible (side_rule d.rule) rows_a rows_b entries award) d.links d.possible
-    = λ i. merged (of_link (side_rule (c.rule.ensures i)) rows_a rows_b) (of_possible (side_rule (c.rule.ensures i)) rows_a rows_b entries award) (c.links.ensures i) (c.possible.ensures i) in
+    let same : merged (of_link (side_rule c.rule.result.now rows_a rows_b)) (of_possible (side_rule c.rule.result.now rows_a rows_b) entries award) c.links.result.now c.possible.result.now
+    ≡ merged (of_link (side_rule d.rule rows_a rows_b)) (of_possible (side_rule d.rule rows_a rows_b) entries award) d.links d.possible
+    = λ i. merged (of_link (side_rule (c.rule.ensures i) rows_a rows_b)) (of_possible (side_rule (c.rule.ensures i) rows_a rows_b) entries award) (c.links.ensures i) (c.possible.ensures i) in
     are_candidates rows_a rows_b entries award d c.in_ok-candidates.candidates.items c.requires.award (c.in_ok-candidates.ensures.merged ∙ same) c.in_ok-candidates.ensures.most

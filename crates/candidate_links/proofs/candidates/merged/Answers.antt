@@ -14,14 +14,14 @@ use Rattle.candidate_links.proofs.candidates.merged.Goals as goal
 
 pub returns-in-End-clause-merged : goal.returns-in-End-clause-merged
 returns-in-End-clause-merged c =
-    all_told (of_link (side_rule c.args.rule.now) c.args.sides_a.now.rows c.args.sides_b.now.rows)
-    (of_possible (side_rule c.args.rule.now) c.args.sides_a.now.rows c.args.sides_b.now.rows c.args.journal.now c.args.award)
+    all_told (of_link (side_rule c.args.rule.now c.args.sides_a.now.rows c.args.sides_b.now.rows))
+    (of_possible (side_rule c.args.rule.now c.args.sides_a.now.rows c.args.sides_b.now.rows) c.args.journal.now c.args.award)
     c.pairs.candidates.items _ c.pairs.links.now c.pairs.possible.now (sym c.next_of.ensures ∙ c.in-End.is) c.pairs.invariant.merged
 
 pub pairs-preserved-in-Link : goal.pairs-preserved-in-Link
 pairs-preserved-in-Link c =
-    let f = of_link (side_rule c.args.rule.now) c.args.sides_a.now.rows c.args.sides_b.now.rows in
-    let g = of_possible (side_rule c.args.rule.now) c.args.sides_a.now.rows c.args.sides_b.now.rows c.args.journal.now c.args.award in
+    let f = of_link (side_rule c.args.rule.now c.args.sides_a.now.rows c.args.sides_b.now.rows) in
+    let g = of_possible (side_rule c.args.rule.now c.args.sides_a.now.rows c.args.sides_b.now.rows) c.args.journal.now c.args.award in
     let inside = IsInside (length c.args.sides_a.now.rows) (length c.args.sides_b.now.rows) in
     let small : Candidate → Type 0 = λ x. x.value ≤ℤ most_value c.args.award in
     let is : next_of c.pairs.links.now c.pairs.possible.now ≡ next.Link c.in-Link.at = sym c.next_of.ensures ∙ c.in-Link.is in
@@ -36,8 +36,8 @@ pairs-preserved-in-Link c =
 
 pub pairs-preserved : goal.pairs-preserved
 pairs-preserved c =
-    let f = of_link (side_rule c.args.rule.now) c.args.sides_a.now.rows c.args.sides_b.now.rows in
-    let g = of_possible (side_rule c.args.rule.now) c.args.sides_a.now.rows c.args.sides_b.now.rows c.args.journal.now c.args.award in
+    let f = of_link (side_rule c.args.rule.now c.args.sides_a.now.rows c.args.sides_b.now.rows) in
+    let g = of_possible (side_rule c.args.rule.now c.args.sides_a.now.rows c.args.sides_b.now.rows) c.args.journal.now c.args.award in
     let inside = IsInside (length c.args.sides_a.now.rows) (length c.args.sides_b.now.rows) in
     let small : Candidate → Type 0 = λ x. x.value ≤ℤ most_value c.args.award in
     let is : next_of c.pairs.links.now c.pairs.possible.now ≡ next.Possible c.in-Possible.at = sym c.next_of.ensures ∙ c.in-Possible.is in

@@ -9,8 +9,8 @@ use Rattle.candidate_links.proofs.candidates.merged.Given as goal
 
 abbrev pub invariant-pairs : goal.invariant-pairs
 invariant-pairs l = record {
-  merged : l.candidates.items ++ merged (of_link (side_rule l.rule) l.sides_a.rows l.sides_b.rows) (of_possible (side_rule l.rule) l.sides_a.rows l.sides_b.rows l.journal l.award) l.links l.possible
-      ≡ merged (of_link (side_rule l.rule) l.sides_a.rows l.sides_b.rows) (of_possible (side_rule l.rule) l.sides_a.rows l.sides_b.rows l.journal l.award) l.fn.links l.fn.possible;
+  merged : l.candidates.items ++ merged (of_link (side_rule l.rule l.sides_a.rows l.sides_b.rows)) (of_possible (side_rule l.rule l.sides_a.rows l.sides_b.rows) l.journal l.award) l.links l.possible
+      ≡ merged (of_link (side_rule l.rule l.sides_a.rows l.sides_b.rows)) (of_possible (side_rule l.rule l.sides_a.rows l.sides_b.rows) l.journal l.award) l.fn.links l.fn.possible;
   most : All (λ (c : Candidate). c.value ≤ℤ most_value l.award) l.candidates.items;
   links : All (IsInside (length l.sides_a.rows) (length l.sides_b.rows)) l.links;
   possible : All (IsInside (length l.sides_a.rows) (length l.sides_b.rows)) l.possible;

@@ -9,5 +9,5 @@ returns-in_err-sample-clause-takes g c = takes_stop _ _ c.in_err-sample.ensures 
 
 pub returns-clause-takes : goal.returns-clause-takes
 returns-clause-takes g c =
-    let P : List ℕ → Type 0 = λ bytes. IsAnswer (counted_by c.args.plan.now c.args.files.now bytes) c.counted-shares.result in
+    let P : List ℕ → Type 0 = λ bytes. IsAnswer (counted_by c.args.plan.now c.args.files.now.files bytes) c.counted-shares.result in
     takes_go _ _ c.in_ok-sample.ensures (takes_value c.counted-shares.ensures.kind (subst P c.bytes.ensures c.counted-shares.ensures.answer))

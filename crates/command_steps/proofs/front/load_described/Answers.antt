@@ -1,9 +1,10 @@
 use Rattle.std.proofs.Common.{refl}
-use Rattle.command_steps.proofs.StepFacts.{takes_go, takes_stop, takes_value}
+use Rattle.command_steps.specs.Front.{described_of}
+use Rattle.command_steps.proofs.StepFacts.{seen_err, takes_go, takes_stop, takes_value}
 use Rattle.command_steps.proofs.front.load_described.Goals as goal
 
 pub returns-in_err-plan-clause-takes : goal.returns-in_err-plan-clause-takes
-returns-in_err-plan-clause-takes g c = takes_stop _ _ c.in_err-plan.ensures.takes c.from_residual.ensures.1
+returns-in_err-plan-clause-takes g c = takes_stop _ _ c.in_err-plan.ensures.takes (seen_err described_of c.from_residual.result _ c.from_residual.ensures.1)
 
 pub returns-in-Err-clause-takes : goal.returns-in-Err-clause-takes
 returns-in-Err-clause-takes g c = takes_go _ _ c.in_ok-plan.ensures.takes (takes_stop _ _ c.in-Err.ensures.takes refl)

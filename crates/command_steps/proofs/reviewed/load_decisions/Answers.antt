@@ -5,11 +5,11 @@ use Rattle.command_steps.proofs.StepFacts.{seen_err, takes_go, takes_ok, takes_s
 use Rattle.command_steps.proofs.reviewed.load_decisions.Goals as goal
 
 pub returns-in_err-shares-clause-takes : goal.returns-in_err-shares-clause-takes
-returns-in_err-shares-clause-takes g c = takes_stop _ _ c.in_err-shares.ensures.takes (seen_err shared_decisions_of c.from_residual.result _ c.from_residual.ensures.1)
+returns-in_err-shares-clause-takes g c = takes_stop _ _ c.in_err-shares.ensures.takes (seen_err (shared_decisions_of c.args.files.now) c.from_residual.result _ c.from_residual.ensures.1)
 
 pub returns-in-Err-clause-takes : goal.returns-in-Err-clause-takes
 returns-in-Err-clause-takes g c =
-    takes_go _ _ c.in_ok-shares.ensures.takes (takes_stop _ _ (takes_seen decisions_of (Err c.in-Err.fault) c.in-Err.ensures.kind c.in-Err.ensures.answer) refl)
+    takes_go _ _ c.in_ok-shares.ensures.takes (takes_stop _ _ (takes_seen (decisions_of c.args.files.now) (Err c.in-Err.fault) c.in-Err.ensures.kind c.in-Err.ensures.answer) refl)
 
 pub returns-in-Ok-clause-takes : goal.returns-in-Ok-clause-takes
-returns-in-Ok-clause-takes g c = takes_go _ _ c.in_ok-shares.ensures.takes (takes_go _ _ (takes_ok (decisions_of c.in-Ok.decided) c.in-Ok.ensures.answer) (takes_value tt refl))
+returns-in-Ok-clause-takes g c = takes_go _ _ c.in_ok-shares.ensures.takes (takes_go _ _ (takes_ok (decisions_of c.args.files.now c.in-Ok.decided) c.in-Ok.ensures.answer) (takes_value tt refl))

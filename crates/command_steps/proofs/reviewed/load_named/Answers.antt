@@ -9,5 +9,5 @@ returns-in_err-bytes-clause-takes g c = takes_stop _ _ c.in_err-bytes.ensures c.
 
 pub returns-clause-takes : goal.returns-clause-takes
 returns-clause-takes g c =
-    let P : List ℕ → Type 0 = λ bytes. IsAnswer (journal_in_files c.args.files.now bytes) c.journal_in_files-journal.result in
+    let P : List ℕ → Type 0 = λ bytes. IsAnswer (journal_in_files c.args.files.now.files bytes) c.journal_in_files-journal.result in
     takes_go _ _ c.in_ok-bytes.ensures (takes_value c.journal_in_files-journal.ensures.kind (subst P c.bytes.ensures c.journal_in_files-journal.ensures.answer))

@@ -1,5 +1,5 @@
-use Rattle.std.proofs.Common.{◌≡◌, ◌≤◌, ◌∙◌, ℕ, ap, List, subst, sym, length}
-use Rattle.std.specs.Prelude.{All}
+use Rattle.std.proofs.Common.{◌≡◌, ◌≤◌, ◌∙◌, ℕ, ap, List, map, Result, Ok, Err, subst, sym, length}
+use Rattle.std.specs.Prelude.{All, IfOk}
 use Rattle.comparators.specs.declared.ids.IdValue.{IdValue}
 use Rattle.link_limits.specs.declared.TheConstants.{MOST_ROWS}
 use Rattle.standard_files.specs.Ready.{AreFileSides}
@@ -7,9 +7,12 @@ use Rattle.link_core.proofs.RuleLemmas.{rares_seen, sides_of_plan}
 use Rattle.link_core.specs.Decisions.{rule_over}
 use Rattle.link_core.specs.Prepared.{kinds_of}
 use Rattle.link_core.specs.Rules.{shared_rares}
-use Rattle.pair_decisions.specs.PairRule.{AreCellsOf, AreSidesFor, PairRuleView, side_rule, side_rule_of, SideRule}
+use Rattle.link_base.specs.declared.rule.RuleCell.{RuleCell}
+use Rattle.link_core.proofs.ValueLemmas.{patterns_are}
+use Rattle.pair_decisions.specs.FieldComparators.{pattern_of_pair}
+use Rattle.pair_decisions.specs.PairRule.{AreCellsOf, AreSidesFor, PairRuleView, pattern_over, side_rule}
 use Rattle.patterns.specs.Shapes.{pattern_count_by}
-use Rattle.pair_decisions.specs.Comparators.{rares_of}
+use Rattle.pair_decisions.specs.Comparators.{answers_of, comparators_of, rares_of}
 use Rattle.pair_decisions.specs.PlanRule.{IsRuleOf}
 use Rattle.pair_decisions.specs.PlanShares.{plain_all}
 use Rattle.pair_decisions.specs.TheRule.{the_rule}
@@ -31,7 +34,7 @@ new-requires c =
     let ready = c.requires.ready in
     let rows_a : c.sides.result.now.rows ≡ p.values.a.rows = ap (λ t. t.rows) c.sides.ensures in
     let rows_b : c.sides-2.result.now.rows ≡ p.values.b.rows = ap (λ t. t.rows) c.sides-2.ensures in
-    let texts = c.len.ensures ∙ ap length c.pool.ensures.texts in
+    let texts = c.len.ensures ∙ ap length c.pool-2.ensures.texts in
     let Few : ℕ → Type 0 = λ n. n ≤ MOST_ROWS in
     let many_a = ap (λ (rows : List (List IdValue)). length rows) rows_a ∙ ready.sides_a.as_many in
     let many_b = ap (λ (rows : List (List IdValue)). length rows) rows_b ∙ ready.sides_b.as_many in
@@ -48,27 +51,41 @@ new-requires c =
           (ap shared_rares c.fields.ensures.shares ∙ c.requires.rares);
     }
 
+-- two facts of one answer
+both : {T E : Type 0} (P Q R : T → Type 0) (r : Result T E) → ((x : T) → P x → Q x → R x) → IfOk r P → IfOk r Q → IfOk r R
+both P Q R (Ok x) h p q = h x p q
+both P Q R (Err e) h p q = tt
+
 pub returns : goal.returns
 returns c =
     let plan = c.args.plan.now in
     let p = c.args.prepared.now in
     let all = c.in_ok-table.table.cells.items in
     let n = pattern_count_by (rares_of plan.fields) in
-    let made = side_rule_of plan c.len.result c.sides.result.now.rows c.sides-2.result.now.rows all in
     let rows_a : c.sides.result.now.rows ≡ p.values.a.rows = ap (λ t. t.rows) c.sides.ensures in
     let rows_b : c.sides-2.result.now.rows ≡ p.values.b.rows = ap (λ t. t.rows) c.sides-2.ensures in
-    let texts : c.len.result ≡ length p.values.texts = c.len.ensures ∙ ap length c.pool.ensures.texts in
     let Filled : List PlainShares → Type 0 = λ shares. IsRuleOf plan shares all in
     let filled : IsRuleOf plan c.args.shares.now all = subst Filled c.fields.ensures.shares c.in_ok-table.ensures.rule in
     let the : all ≡ the_rule plan.mu_ppm plan.lambda_ppm c.args.shares.now = c.is_the_rule.ensures plan c.args.shares.now all filled in
-    let whole : made ≡ rule_over plan p c.args.shares.now = λ i. side_rule_of plan (texts i) (rows_a i) (rows_b i) (the i) in
+    let patterns =
+    patterns_are plan p c.pool.result.now.texts c.len.result c.sides.result.now.rows c.sides-2.result.now.rows c.requires.ranges c.requires.ready c.same_patterns.ensures
+    c.pool.ensures.texts (c.len.ensures ∙ ap length c.pool-2.ensures.texts) rows_a rows_b in
     let of_table : AreCellsOf n all = c.rule_has_patterns.ensures plan (plain_all c.fields.result.now) all c.in_ok-table.ensures.rule (ap shared_rares c.fields.ensures.shares ∙ c.requires.rares) in
-    let Made : PairRuleView → Type 0 = λ rule. side_rule rule ≡ made in
+    let Compares : PairRuleView → Type 0 = λ rule. map answers_of rule.comparators ≡ comparators_of c.len.result plan.fields c.sides.result.now.rows c.sides-2.result.now.rows in
+    let HasCells : PairRuleView → Type 0 = λ rule. rule.cells ≡ all in
+    let HasSeed : PairRuleView → Type 0 = λ rule. rule.seed ≡ plan.seed in
+    let IsMade : PairRuleView → Type 0 = λ rule. side_rule rule p.values.a.rows p.values.b.rows ≡ rule_over plan p.files c.args.shares.now in
+    let same : (rule : PairRuleView) → Compares rule → HasCells rule → HasSeed rule → IsMade rule = λ rule compares cells seed.
+    let pattern : pattern_over (map answers_of rule.comparators) p.values.a.rows p.values.b.rows ≡ pattern_of_pair plan.fields p.files.a.records p.files.b.records =
+    (λ i. pattern_over (compares i) (sym rows_a i) (sym rows_b i)) ∙ patterns in
+    λ i. record { pattern = pattern i; cells = (cells ∙ the) i; seed = seed i } in
     record {
-      rule = if_ok Made (λ (rule : PairRuleView). side_rule rule ≡ rule_over plan p c.args.shares.now) c.new.result (λ rule is. is ∙ whole) c.new.ensures.rule;
-      filled = if_ok Made (λ (rule : PairRuleView). IsRuleOf plan c.args.shares.now rule.cells) c.new.result
-          (λ rule is. subst (λ (r : SideRule). IsRuleOf plan c.args.shares.now r.cells) (sym is) filled) c.new.ensures.rule;
-      cells = if_ok Made (λ (rule : PairRuleView). AreCellsOf n rule.cells) c.new.result (λ rule is. subst (λ (r : SideRule). AreCellsOf n r.cells) (sym is) of_table) c.new.ensures.rule;
+      rule =
+          both Compares (λ rule. HasCells rule × HasSeed rule) IsMade c.new.result (λ rule compares has. same rule compares has.0 has.1) c.new.ensures.comparators
+          (both HasCells HasSeed (λ rule. HasCells rule × HasSeed rule) c.new.result (λ rule cells seed. (cells, seed)) c.new.ensures.cells c.new.ensures.seed);
+      filled = if_ok HasCells (λ (rule : PairRuleView). IsRuleOf plan c.args.shares.now rule.cells) c.new.result
+          (λ rule is. subst (λ (cs : List RuleCell). IsRuleOf plan c.args.shares.now cs) (sym is) filled) c.new.ensures.cells;
+      cells = if_ok HasCells (λ (rule : PairRuleView). AreCellsOf n rule.cells) c.new.result (λ rule is. subst (λ (cs : List RuleCell). AreCellsOf n cs) (sym is) of_table) c.new.ensures.cells;
       sides_a = if_ok (λ (rule : PairRuleView). All (AreSidesFor rule) c.sides.result.now.rows) (λ (rule : PairRuleView). All (AreSidesFor rule) p.values.a.rows) c.new.result
           (λ rule. subst (λ (rows : List (List IdValue)). All (AreSidesFor rule) rows) rows_a) c.new.ensures.sides_a;
       sides_b = if_ok (λ (rule : PairRuleView). All (AreSidesFor rule) c.sides-2.result.now.rows) (λ (rule : PairRuleView). All (AreSidesFor rule) p.values.b.rows) c.new.result

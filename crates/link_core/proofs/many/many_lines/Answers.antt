@@ -6,7 +6,7 @@ use Rattle.link_base.specs.Standard.{Record}
 use Rattle.link_base.specs.declared.rule.Candidate.{Candidate}
 use Rattle.link_report.specs.LinksText.{text_of_links}
 use Rattle.link_report.specs.PricesText.{text_of_prices}
-use Rattle.pair_decisions.specs.PairRule.{side_rule}
+use Rattle.link_core.specs.Decisions.{rule_in}
 use Rattle.link_core.specs.Many.{IsManyText}
 use Rattle.link_core.specs.Results.{candidates_in}
 use Rattle.link_core.proofs.ResultLemmas.{handed, if_ok}
@@ -15,7 +15,7 @@ use Rattle.link_core.proofs.many.many_lines.Goals as goal
 pub choose_within-chosen-requires : goal.choose_within-chosen-requires
 choose_within-chosen-requires c =
     let p = c.args.prepared.now in
-    let wanted = candidates_in c.args.plan.now p (side_rule c.args.decided.now.rule) c.args.journal.now in
+    let wanted = candidates_in c.args.plan.now p.files (rule_in p c.args.decided.now) c.args.journal.now in
     let rows_a : c.rows.result ≡ length p.files.a.records = c.rows.ensures ∙ ap (λ (file : List Record). length file) c.a.ensures in
     let rows_b : c.rows-2.result ≡ length p.files.b.records = c.rows-2.ensures ∙ ap (λ (file : List Record). length file) c.b.ensures in
     let found = handed (length p.files.a.records) (length p.files.b.records) c.rows.result c.rows-2.result wanted c.in_ok-found.found.items c.deref.result.now rows_a rows_b c.deref.ensures.value c.in_ok-found.ensures in
@@ -45,8 +45,8 @@ pub returns : goal.returns
 returns c =
     let plan = c.args.plan.now in
     let p = c.args.prepared.now in
-    let rule = side_rule c.args.decided.now.rule in
-    let wanted = candidates_in plan p rule c.args.journal.now in
+    let rule = rule_in p c.args.decided.now in
+    let wanted = candidates_in plan p.files rule c.args.journal.now in
     let chosen = c.in_ok-chosen.chosen in
     let facts = c.in_ok-chosen.ensures in
     let rows_a : c.rows.result ≡ length p.files.a.records = c.rows.ensures ∙ ap (λ (file : List Record). length file) c.a.ensures in
@@ -56,7 +56,7 @@ returns c =
     let certified = subst (λ caps. CertifiesWithin wanted caps chosen.links.items chosen.prices_a.items chosen.prices_b.items) c.each.ensures
     (subst (λ cs. CertifiesWithin cs c.each.result.now chosen.links.items chosen.prices_a.items chosen.prices_b.items) same facts.certified) in
     if_ok (λ text. text ≡ text_of_links p.files.a.records p.files.b.records chosen.links.items ++ text_of_prices chosen.prices_a.items chosen.prices_b.items p.files.a.records p.files.b.records)
-    (IsManyText plan p rule c.args.journal.now c.args.capacities.now) c.many_text.result
+    (IsManyText plan p.files rule c.args.journal.now c.args.capacities.now) c.many_text.result
     (λ text told. record {
       links = chosen.links.items;
       prices_a = chosen.prices_a.items;

@@ -12,7 +12,7 @@ pub ids_of_rows-requires-clause-inside : goal.ids_of_rows-requires-clause-inside
 ids_of_rows-requires-clause-inside c =
     let plan = c.args.plan.now in
     let p = c.args.prepared.now in
-    let walked : pairs_of_rows c.walk.result.left ≡ compared_in plan p = walked_pairs plan p c.walk.result.left (c.walk.ensures.left ∙ c.in_ok-blocks.ensures) in
+    let walked : pairs_of_rows c.walk.result.left ≡ compared_in plan p.files = walked_pairs plan p c.walk.result.left (c.walk.ensures.left ∙ c.in_ok-blocks.ensures) in
     let a = ap (λ (file : List Record). length file) (sym c.a.ensures) in
     let b = ap (λ (file : List Record). length file) (sym c.b.ensures) in
     subst (λ (pairs : List PairAt). All (IsInside (length c.a.result.now) (length c.b.result.now)) pairs) (sym walked) (pairs_inside plan p (length c.a.result.now) (length c.b.result.now) a b)
@@ -21,5 +21,5 @@ pub returns-clause-answer : goal.returns-clause-answer
 returns-clause-answer c =
     let plan = c.args.plan.now in
     let p = c.args.prepared.now in
-    let walked : pairs_of_rows c.walk.result.left ≡ compared_in plan p = walked_pairs plan p c.walk.result.left (c.walk.ensures.left ∙ c.in_ok-blocks.ensures) in
+    let walked : pairs_of_rows c.walk.result.left ≡ compared_in plan p.files = walked_pairs plan p c.walk.result.left (c.walk.ensures.left ∙ c.in_ok-blocks.ensures) in
     rw (← walked, ← c.a.ensures, ← c.b.ensures) c.ids_of_rows.ensures.answer

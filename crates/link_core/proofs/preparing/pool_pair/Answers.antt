@@ -7,7 +7,7 @@ use Rattle.standard_files.specs.Ready.{AreFileSides}
 use Rattle.link_plan.specs.Plan.{FieldKeys}
 use Rattle.standard_files.specs.Files.{StandardPair}
 use Rattle.link_core.specs.Prepared.{kinds_of}
-use Rattle.link_core.proofs.PreparedLemmas.{made_values, refused_values}
+use Rattle.link_core.proofs.PreparedLemmas.{has_room, refused_values, values_are}
 use Rattle.link_core.proofs.ReadyLemmas.{plan_ready}
 use Rattle.link_core.proofs.preparing.pool_pair.Goals as goal
 
@@ -23,11 +23,18 @@ returns-in-Ok-clause-fields_a c = c.in-Ok.ensures.pooled.fields_a ∙ length-map
 pub returns-in-Ok-clause-fields_b : goal.returns-in-Ok-clause-fields_b
 returns-in-Ok-clause-fields_b c = c.in-Ok.ensures.pooled.fields_b ∙ length-map c.args.plan.now.fields (λ (f : FieldKeys). f.compare)
 
+pub returns-in-Ok-clause-pooled : goal.returns-in-Ok-clause-pooled
+returns-in-Ok-clause-pooled c =
+    let of_a : c.records.result.now ≡ c.args.files.a.records = c.records.ensures ∙ ap (λ (f : StandardPair). f.a.records) c.files.view_is in
+    let of_b : c.records-2.result.now ≡ c.args.files.b.records = c.records-2.ensures ∙ ap (λ (f : StandardPair). f.b.records) c.files.view_is in
+    values_are c.args.plan.now c.args.pool_limit c.args.files c.records.result.now c.records-2.result.now c.in-Ok.values of_a of_b c.in-Ok.ensures.answer
+
 pub returns-in-Ok-clause-answer : goal.returns-in-Ok-clause-answer
 returns-in-Ok-clause-answer c =
     let of_a : c.records.result.now ≡ c.args.files.a.records = c.records.ensures ∙ ap (λ (f : StandardPair). f.a.records) c.files.view_is in
     let of_b : c.records-2.result.now ≡ c.args.files.b.records = c.records-2.ensures ∙ ap (λ (f : StandardPair). f.b.records) c.files.view_is in
-    made_values c.args.plan.now c.args.pool_limit c.args.files c.records.result.now c.records-2.result.now c.in-Ok.values of_a of_b c.in-Ok.ensures.answer
+    has_room c.args.plan.now c.args.pool_limit c.args.files c.in-Ok.values
+    (values_are c.args.plan.now c.args.pool_limit c.args.files c.records.result.now c.records-2.result.now c.in-Ok.values of_a of_b c.in-Ok.ensures.answer)
 
 pub returns-in-Ok-clause-ready : goal.returns-in-Ok-clause-ready
 returns-in-Ok-clause-ready c =

@@ -9,7 +9,7 @@ use Rattle.link_base.specs.Standard.{Record}
 use Rattle.link_base.specs.declared.rule.Candidate.{Candidate}
 use Rattle.link_limits.specs.declared.TheConstants.{MOST_PAIRS}
 use Rattle.link_report.specs.declared.report.Dropped.{Dropped}
-use Rattle.pair_decisions.specs.PairRule.{side_rule}
+use Rattle.link_core.specs.Decisions.{rule_in}
 use Rattle.link_core.proofs.ResultLemmas.{handed, if_ok, of_dropped, of_links}
 use Rattle.link_core.specs.Results.{candidates_in}
 use Rattle.link_core.proofs.results.links_of.Goals as goal
@@ -69,7 +69,7 @@ pub choose_links-requires : goal.choose_links-requires
 choose_links-requires c =
     let p = c.args.prepared.now in
     let found =
-    handed (length p.files.a.records) (length p.files.b.records) c.rows.result c.rows-2.result (candidates_in c.args.plan.now p (side_rule c.args.decided.now.rule) c.args.journal.now)
+    handed (length p.files.a.records) (length p.files.b.records) c.rows.result c.rows-2.result (candidates_in c.args.plan.now p.files (rule_in p c.args.decided.now) c.args.journal.now)
     c.in_ok-found.found.items c.deref.result.now (c.rows.ensures ∙ ap (λ (file : List Record). length file) c.a.ensures) (c.rows-2.ensures ∙ ap (λ (file : List Record). length file) c.b.ensures)
     c.deref.ensures.value c.in_ok-found.ensures in
     record { count = found.few; rising = found.rising; within = found.within; small = found.small }

@@ -1,7 +1,7 @@
 use Rattle.std.proofs.Common.{ap, arith, length}
 use Rattle.link_base.specs.declared.rule.Decision.TheVariants.{Possible}
 use Rattle.pair_decisions.specs.Decisions.{decision_at, is_same}
-use Rattle.pair_decisions.specs.PairRule.{side_rule}
+use Rattle.link_core.specs.Decisions.{rule_in}
 use Rattle.pair_decisions.proofs.CountLemmas.{filter_all}
 use Rattle.link_core.specs.Results.{compared_in}
 use Rattle.link_core.proofs.results.report_of.Goals as goal
@@ -11,5 +11,5 @@ open_count-requires c =
     let p = c.args.prepared.now in
     let d = c.args.decided.now in
     let decisions = c.requires.decided.decisions in
-    let fewer = filter_all (λ at. is_same Possible (decision_at (side_rule d.rule) p.values.a.rows p.values.b.rows at)) (compared_in c.args.plan.now p) in
+    let fewer = filter_all (λ at. is_same Possible (decision_at (rule_in p d) at)) (compared_in c.args.plan.now p.files) in
     omega (arith, ap length decisions.possible, fewer, decisions.few)

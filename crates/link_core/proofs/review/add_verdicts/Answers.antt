@@ -44,7 +44,7 @@ returns-in-Ok-add-clause-answer c =
     let fits : FitsSigned w32 c.args.date = search rules in
     let new = as_handed all (λ r. r ≡ Ok c.add.new.self) c.args.date _ c.args.decided.now.possible c.possible.result.now (to_z-of_z w32 c.args.date fits) c.possible.ensures c.in-Ok-add.ensures.answer in
     answer_next (verdicts_of p.files.a.records p.files.b.records c.args.verdicts.now) _ c.in-Ok.batch c.journal_lines.result read
-    (answer_next (all c.args.date c.args.decided.now.possible) (λ es. journal_lines_of p es) c.add.new.self c.journal_lines.result new c.journal_lines.ensures.answer)
+    (answer_next (all c.args.date c.args.decided.now.possible) (λ es. journal_lines_of p.files es) c.add.new.self c.journal_lines.result new c.journal_lines.ensures.answer)
 
 pub returns-clause-answer : goal.returns-clause-answer
 returns-clause-answer c =
@@ -55,7 +55,7 @@ returns-clause-answer c =
     let fits : FitsSigned w32 c.args.date = search rules in
     let refused = as_handed all (λ r. Refuses r f) c.args.date _ c.args.decided.now.possible c.possible.result.now (to_z-of_z w32 c.args.date fits) c.possible.ensures c.in-Err-add.ensures.answer.0 in
     refuses_next (verdicts_of p.files.a.records p.files.b.records c.args.verdicts.now) _ c.in-Ok.batch f read
-    (refuses_then (all c.args.date c.args.decided.now.possible) (λ es. journal_lines_of p es) f refused)
+    (refuses_then (all c.args.date c.args.decided.now.possible) (λ es. journal_lines_of p.files es) f refused)
 
 pub add-requires-clause-rising : goal.add-requires-clause-rising
 add-requires-clause-rising c = subst (λ (ps : List PairAt). AllPairs IsPairBefore ps) (sym c.possible.ensures) c.requires.decided.rising

@@ -11,17 +11,17 @@ use Rattle.settings.proofs.Ranges.{read_plan}
 use Rattle.link_core.proofs.verify.run_is_verified.Goals as goal
 
 pub returns : goal.returns
-returns c = λ plan p shares rule entries links ps qs of one certified long_a long_b.
+returns c = λ plan files shares rule entries links ps qs of one certified long_a long_b.
     let read = read_plan of.bytes plan of.of_settings in
-    let files = read_files plan of.limit of.bytes_a of.bytes_b p of.of_files in
+    let whole = read_files plan of.limit of.bytes_a of.bytes_b files of.of_files in
     let cells = small_cells plan shares rule.cells of.few_shares read.few_fields of.of_shares in
-    let candidates = candidates_in plan p rule entries in
+    let candidates = candidates_in plan files rule entries in
     let ranges : All IsWithinRanges rule.cells = All-weaker IsSmallCell IsWithinRanges (λ x h. h.ranges) rule.cells cells.each in
     let bounds : All (HasBounds plan.award) candidates =
-    c.candidates_are_bounded.ensures rule p.values.a.rows p.values.b.rows entries plan.award (compared_in plan p) ranges in
-    let are = candidates_are plan p rule entries files read.award bounds in
+    c.candidates_are_bounded.ensures rule entries plan.award (compared_in plan files) ranges in
+    let are = candidates_are plan files rule entries whole read.award bounds in
     record {
-      proved = c.written_is_verified.ensures (rares_of plan.fields) rule.cells candidates links ps qs p.files.a.records p.files.b.records are one certified long_a long_b;
-      short = c.written_is_short.ensures (rares_of plan.fields) rule.cells candidates links ps qs p.files.a.records p.files.b.records cells are
-          (weights_are plan p rule entries bounds) files.of_a.small files.of_b.small one certified;
+      proved = c.written_is_verified.ensures (rares_of plan.fields) rule.cells candidates links ps qs files.a.records files.b.records are one certified long_a long_b;
+      short = c.written_is_short.ensures (rares_of plan.fields) rule.cells candidates links ps qs files.a.records files.b.records cells are
+          (weights_are plan files rule entries bounds) whole.of_a.small whole.of_b.small one certified;
     }

@@ -7,11 +7,12 @@ use Rattle.link_base.specs.Standard.{Record}
 use Rattle.link_base.specs.declared.rule.Candidate.{Candidate}
 use Rattle.link_base.specs.declared.rule.RuleCell.{RuleCell}
 use Rattle.link_core.proofs.ResultLemmas.{handed}
+use Rattle.link_core.specs.Decisions.{rule_in}
 use Rattle.link_core.specs.Results.{candidates_in, compared_in}
 use Rattle.link_core.specs.Verify.{line_of, is_proved, verified_in}
 use Rattle.link_limits.specs.declared.TheConstants.{MOST_PAIRS}
 use Rattle.pair_decisions.proofs.CellLemmas.{cells_below}
-use Rattle.pair_decisions.specs.PairRule.{PairRuleView, side_rule}
+use Rattle.pair_decisions.specs.PairRule.{PairRuleView}
 use Rattle.patterns.specs.Shapes.{pattern_count_by, rare_of}
 use Rattle.pair_decisions.proofs.RuleSideLemmas.{shape_rares}
 use Rattle.pair_decisions.specs.Comparators.{rares_of}
@@ -29,14 +30,14 @@ verify_written-verified-requires c =
     let p = c.args.prepared.now in
     let fields = plan.fields in
     let all = c.args.decided.now.rule.cells in
-    let wanted = candidates_in plan p (side_rule c.args.decided.now.rule) c.args.journal.now in
+    let wanted = candidates_in plan p.files (rule_in p c.args.decided.now) c.args.journal.now in
     let flags : rare_of c.shape-shape.result ≡ rares_of fields = shape_rares fields c.shape-shape.result c.shape-shape.ensures.fields c.shape-shape.ensures.rare in
     let cells : c.table-table.result.now.cells.items ≡ all = c.table-table.ensures ∙ ap (λ (r : PairRuleView). r.cells) c.rule.ensures in
     let below = cells_below (pattern_count_by (rares_of fields)) all c.requires.decided.cells in
     let P : List Bool → Type 0 = λ rares. All (λ (x : RuleCell). x.pattern < pattern_count_by rares) all in
     let Q : List RuleCell → Type 0 = λ cs. All (λ (x : RuleCell). x.pattern < pattern_count_by (rare_of c.shape-shape.result)) cs in
     let ranges : All IsWithinRanges all = subst (λ (cs : List RuleCell). All IsWithinRanges cs) cells c.table-table.result.now.in_range in
-    let bounds : All (HasBounds plan.award) wanted = c.candidates_are_bounded.ensures (side_rule c.args.decided.now.rule) p.values.a.rows p.values.b.rows c.args.journal.now plan.award (compared_in plan p) ranges in
+    let bounds : All (HasBounds plan.award) wanted = c.candidates_are_bounded.ensures (rule_in p c.args.decided.now) c.args.journal.now plan.award (compared_in plan p.files) ranges in
     let of_both =
     handed (length p.files.a.records) (length p.files.b.records) (length c.a.result.now) (length c.b.result.now) wanted c.in_ok-found.found.items c.deref.result.now
     (ap (λ (file : List Record). length file) c.a.ensures) (ap (λ (file : List Record). length file) c.b.ensures) c.deref.ensures.value c.in_ok-found.ensures in
@@ -62,9 +63,9 @@ returns-in_ok-line-in-Ok c =
     let plan = c.args.plan.now in
     let p = c.args.prepared.now in
     let fields = plan.fields in
-    let told = verified_in plan p (side_rule c.args.decided.now.rule) c.args.journal.now (texts_in c.args.written.now) in
+    let told = verified_in plan p.files (rule_in p c.args.decided.now) c.args.journal.now (texts_in c.args.written.now) in
     let is : told ≡ Ok c.in-Ok.links.items =
     handed_is (rares_of fields) (rare_of c.shape-shape.result) c.args.decided.now.rule.cells c.table-table.result.now.cells.items _ c.deref.result.now p.files.a.records p.files.b.records c.a.result.now c.b.result.now (texts_in c.args.written.now) (Ok c.in-Ok.links.items)
     (shape_rares fields c.shape-shape.result c.shape-shape.ensures.fields c.shape-shape.ensures.rare)
     (c.table-table.ensures ∙ ap (λ (r : PairRuleView). r.cells) c.rule.ensures) (c.deref.ensures.value ∙ c.in_ok-found.ensures.same) c.a.ensures c.b.ensures c.in-Ok.ensures.answer in
-    record { proved = ap is_proved (sym is); line = c.in_ok-line-in-Ok.ensures ∙ ap (line_of p) (sym is) }
+    record { proved = ap is_proved (sym is); line = c.in_ok-line-in-Ok.ensures ∙ ap (line_of p.files) (sym is) }

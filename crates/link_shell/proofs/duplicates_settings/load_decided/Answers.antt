@@ -1,8 +1,8 @@
 use Rattle.std.proofs.Common.{ap, arith, length, refl}
 use Rattle.link_base.specs.declared.rule.Decision.TheVariants.{Link}
+use Rattle.link_core.specs.Decisions.{rule_in}
 use Rattle.link_core.specs.Results.{compared_in}
 use Rattle.pair_decisions.specs.Decisions.{decision_at, is_same}
-use Rattle.pair_decisions.specs.PairRule.{side_rule}
 use Rattle.pair_decisions.proofs.CountLemmas.{filter_all}
 use Rattle.command_steps.proofs.StepFacts.{seen_err, takes_go, takes_stop, takes_value}
 use Rattle.link_shell.specs.DuplicatesSettings.{within_of}
@@ -28,7 +28,7 @@ returns-in-Ok-clause-few_links g c =
     let p = c.in_ok-files.files in
     let d = c.in-Ok.found.decided in
     let decisions = c.in-Ok.ensures.of_plan.decisions in
-    let fewer = filter_all (λ at. is_same Link (decision_at (side_rule d.rule) p.values.a.rows p.values.b.rows at)) (compared_in c.args.plan.now p) in
+    let fewer = filter_all (λ at. is_same Link (decision_at (rule_in p d) at)) (compared_in c.args.plan.now p.files) in
     omega (arith, ap length decisions.links, fewer, decisions.few)
 
 pub returns-in-Ok-clause-of_file : goal.returns-in-Ok-clause-of_file

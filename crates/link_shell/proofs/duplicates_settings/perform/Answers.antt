@@ -69,8 +69,8 @@ pub returns : goal.returns
 returns g c =
     let gives = c.in_ok-within.ensures.gives in
     let found = within_of c.in_ok-found.found in
-    let records = found.files.files.a.records in
-    let links = two_records (length records) (length found.files.files.b.records) found.decided.links c.in_ok-found.ensures.same c.in_ok-found.ensures.of_file.links in
+    let records = found.files.a.records in
+    let links = two_records (length records) (length found.files.b.records) found.decided.links c.in_ok-found.ensures.same c.in_ok-found.ensures.of_file.links in
     let printed : (text : List ℕ) → IsGroupsText records found.decided.links text → AreGroupsPrinted found (prints Done text) =
     λ text groups. record { text = text; groups = groups; leaders = c.forest_leaders.ensures (length records) (links_within found.decided.links) groups.lists links groups.forest; so = refl } in
     does_go _ _ _ c.in_ok-plan.ensures.takes

@@ -2,7 +2,7 @@ use Rattle.std.proofs.Common.{◌≡◌, List, ℕ, Result, Ok, Err, ap, subst, 
 use Rattle.link_base.specs.Fault.{Gives, IsAnswer}
 use Rattle.link_base.specs.declared.fault.Fault.{Fault}
 use Rattle.link_limits.specs.declared.TheConstants.{MOST_POOLED_BYTES}
-use Rattle.link_core.specs.Prepared.{prepared}
+use Rattle.link_core.specs.Prepared.{files_of, prepared}
 use Rattle.settings.specs.Settings.{settings}
 use Rattle.command_steps.specs.Reviewed.{found_of, ReviewedPlan, shared_decisions_of}
 use Rattle.review_journal.specs.declared.entry.Entry.{Entry}
@@ -16,10 +16,10 @@ returns-in-Err-clause-answer c =
     let plan = c.in_ok-plan.plan in
     let f : Fault = c.in-Err.fault in
     let of_plan : settings input.settings ≡ Ok plan = subst (λ (b : List ℕ). settings b ≡ Ok plan) c.bytes.ensures c.in_ok-plan.ensures.gives in
-    let of_a : IsAnswer (prepared plan MOST_POOLED_BYTES input.a c.bytes-3.result.now) (Err f) =
-    subst (λ (b : List ℕ). IsAnswer (prepared plan MOST_POOLED_BYTES b c.bytes-3.result.now) (Err f)) c.bytes-2.ensures c.in-Err.ensures.answer in
-    let here : IsAnswer (prepared plan MOST_POOLED_BYTES input.a input.b) (Err f) =
-    subst (λ (b : List ℕ). IsAnswer (prepared plan MOST_POOLED_BYTES input.a b) (Err f)) c.bytes-3.ensures of_a in
+    let of_a : Gives files_of (prepared plan MOST_POOLED_BYTES input.a c.bytes-3.result.now) (Err f) =
+    subst (λ (b : List ℕ). Gives files_of (prepared plan MOST_POOLED_BYTES b c.bytes-3.result.now) (Err f)) c.bytes-2.ensures c.in-Err.ensures.answer in
+    let here : Gives files_of (prepared plan MOST_POOLED_BYTES input.a input.b) (Err f) =
+    subst (λ (b : List ℕ). Gives files_of (prepared plan MOST_POOLED_BYTES input.a b) (Err f)) c.bytes-3.ensures of_a in
     let Refused : Result ReviewedPlan Fault → Type 0 = λ r. Gives found_of r (Err f) in
     goes_on Refused (settings input.settings) _ plan of_plan (refuses_here found_of (prepared plan MOST_POOLED_BYTES input.a input.b) _ f here)
 
@@ -27,7 +27,7 @@ pub returns-in-Err-decide_sample-clause-answer : goal.returns-in-Err-decide_samp
 returns-in-Err-decide_sample-clause-answer c =
     let input = c.args.input.now in
     let plan = c.in_ok-plan.plan in
-    let files = c.in-Ok.files in
+    let files = files_of c.in-Ok.files in
     let f : Fault = c.in-Err-decide_sample.fault in
     let of_plan : settings input.settings ≡ Ok plan = subst (λ (b : List ℕ). settings b ≡ Ok plan) c.bytes.ensures c.in_ok-plan.ensures.gives in
     let of_a : prepared plan MOST_POOLED_BYTES input.a c.bytes-3.result.now ≡ Ok files = subst (λ (b : List ℕ). prepared plan MOST_POOLED_BYTES b c.bytes-3.result.now ≡ Ok files) c.bytes-2.ensures c.in-Ok.ensures.answer in
@@ -42,8 +42,8 @@ pub returns-in-Ok-decide_sample-clause-answer : goal.returns-in-Ok-decide_sample
 returns-in-Ok-decide_sample-clause-answer c =
     let input = c.args.input.now in
     let plan = c.in_ok-plan.plan in
-    let files = c.in-Ok.files in
-    let found = shared_decisions_of c.in-Ok-decide_sample.found in
+    let files = files_of c.in-Ok.files in
+    let found = shared_decisions_of c.in-Ok.files c.in-Ok-decide_sample.found in
     let of_plan : settings input.settings ≡ Ok plan = subst (λ (b : List ℕ). settings b ≡ Ok plan) c.bytes.ensures c.in_ok-plan.ensures.gives in
     let of_a : prepared plan MOST_POOLED_BYTES input.a c.bytes-3.result.now ≡ Ok files = subst (λ (b : List ℕ). prepared plan MOST_POOLED_BYTES b c.bytes-3.result.now ≡ Ok files) c.bytes-2.ensures c.in-Ok.ensures.answer in
     let of_files : prepared plan MOST_POOLED_BYTES input.a input.b ≡ Ok files = subst (λ (b : List ℕ). prepared plan MOST_POOLED_BYTES input.a b ≡ Ok files) c.bytes-3.ensures of_a in

@@ -13,17 +13,17 @@ returns-in_err-shares-clause-kind c = fault_as c.from_residual.result _ c.from_r
 pub returns-in_err-shares-clause-answer : goal.returns-in_err-shares-clause-answer
 returns-in_err-shares-clause-answer c =
     let f : Fault = c.in_err-shares.field-0.0 in
-    answer_as shared_decisions_of _ c.from_residual.result f c.from_residual.ensures.1
-    (refuses_here shared_decisions_of (counted_by c.args.plan.now c.args.files.now c.args.sample.now) _ f c.in_err-shares.ensures.answer)
+    answer_as (shared_decisions_of c.args.files.now) _ c.from_residual.result f c.from_residual.ensures.1
+    (refuses_here (shared_decisions_of c.args.files.now) (counted_by c.args.plan.now c.args.files.now.files c.args.sample.now) _ f c.in_err-shares.ensures.answer)
 
 pub returns-in-Err-clause-answer : goal.returns-in-Err-clause-answer
 returns-in-Err-clause-answer c =
     let plan = c.args.plan.now in
-    let files = c.args.files.now in
+    let files = c.args.files.now.files in
     let shares = c.in_ok-shares.shares in
     let f : Fault = c.in-Err.fault in
-    let Refused : Result SharedDecisions Fault → Type 0 = λ r. Gives shared_decisions_of r (Err f) in
-    goes_on Refused (counted_by plan files c.args.sample.now) _ shares c.in_ok-shares.ensures.answer (refuses_here shared_decisions_of (decided plan files shares) _ f c.in-Err.ensures.answer)
+    let Refused : Result SharedDecisions Fault → Type 0 = λ r. Gives (shared_decisions_of c.args.files.now) r (Err f) in
+    goes_on Refused (counted_by plan files c.args.sample.now) _ shares c.in_ok-shares.ensures.answer (refuses_here (shared_decisions_of c.args.files.now) (decided plan files shares) _ f c.in-Err.ensures.answer)
 
 pub returns-in-Ok-clause-rows : goal.returns-in-Ok-clause-rows
 returns-in-Ok-clause-rows c = c.in-Ok.ensures.rows refl

@@ -9,5 +9,5 @@ returns-in_err-bytes-clause-takes g c = takes_stop _ _ c.in_err-bytes.ensures c.
 
 pub returns-clause-takes : goal.returns-clause-takes
 returns-clause-takes g c =
-    let P : List ℕ → Type 0 = λ bytes. IsAnswer (capacities_in_file c.args.found.now.reviewed.files bytes) c.capacities_in_file-capacities.result in
+    let P : List ℕ → Type 0 = λ bytes. IsAnswer (capacities_in_file c.args.found.now.reviewed.files.files bytes) c.capacities_in_file-capacities.result in
     takes_go _ _ c.in_ok-bytes.ensures (takes_value c.capacities_in_file-capacities.ensures.kind (subst P c.bytes.ensures c.capacities_in_file-capacities.ensures.answer))

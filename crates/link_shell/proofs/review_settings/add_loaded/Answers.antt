@@ -18,7 +18,7 @@ returns-in_err-verdicts g c = takes_stop _ _ c.in_err-verdicts.ensures c.from_re
 pub returns : goal.returns
 returns g c =
     let w = c.args.request.now in let r = c.args.reviewed.now in
-    let lines : ℤ → List ℕ → Result (List ℕ) Fault = λ date bytes. reviewed_lines_of c.args.double date w.reviewer.now r.files r.decided.possible r.journal bytes in
+    let lines : ℤ → List ℕ → Result (List ℕ) Fault = λ date bytes. reviewed_lines_of c.args.double date w.reviewer.now r.files.files r.decided.possible r.journal bytes in
     let fits : FitsSigned w32 w.date = search rules in
     let answer = as_handed lines c.add_verdicts-added.result w.date _ c.in_ok-verdicts.verdicts c.bytes.result.now (to_z-of_z w32 w.date fits) c.bytes.ensures c.add_verdicts-added.ensures.answer in
     takes_go _ _ c.in_ok-verdicts.ensures (takes_value c.add_verdicts-added.ensures.kind answer)

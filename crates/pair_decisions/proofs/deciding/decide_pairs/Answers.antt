@@ -35,24 +35,24 @@ few c = subst (λ (ps : List PairAt). length ps ≤ MOST_PAIRS) (walked c) c.in-
 compared : (c : In-Ok) → c.in-Ok.found.compared ≡ length (all_of c)
 compared c = c.in-Ok.ensures.compared ∙ ap length (walked c)
 
-links : (c : In-Ok) → c.in-Ok.found.links.items ≡ pairs_with Link (side_rule c.args.rule) c.args.sides_a.now.rows c.args.sides_b.now.rows (all_of c)
-links c = c.in-Ok.ensures.links ∙ ap (pairs_with Link (side_rule c.args.rule) c.args.sides_a.now.rows c.args.sides_b.now.rows) (walked c)
+links : (c : In-Ok) → c.in-Ok.found.links.items ≡ pairs_with Link (side_rule c.args.rule c.args.sides_a.now.rows c.args.sides_b.now.rows) (all_of c)
+links c = c.in-Ok.ensures.links ∙ ap (pairs_with Link (side_rule c.args.rule c.args.sides_a.now.rows c.args.sides_b.now.rows)) (walked c)
 
-possible : (c : In-Ok) → c.in-Ok.found.possible.items ≡ pairs_with Possible (side_rule c.args.rule) c.args.sides_a.now.rows c.args.sides_b.now.rows (all_of c)
-possible c = c.in-Ok.ensures.possible ∙ ap (pairs_with Possible (side_rule c.args.rule) c.args.sides_a.now.rows c.args.sides_b.now.rows) (walked c)
+possible : (c : In-Ok) → c.in-Ok.found.possible.items ≡ pairs_with Possible (side_rule c.args.rule c.args.sides_a.now.rows c.args.sides_b.now.rows) (all_of c)
+possible c = c.in-Ok.ensures.possible ∙ ap (pairs_with Possible (side_rule c.args.rule c.args.sides_a.now.rows c.args.sides_b.now.rows)) (walked c)
 
 abbrev view_of : In-Ok → DecidedView
 view_of c = record { rule = c.args.rule; rows = c.in-Ok.found.rows.items; compared = c.in-Ok.found.compared; links = c.in-Ok.found.links.items; possible = c.in-Ok.found.possible.items }
 
 pub invariant_of-result : goal.invariant_of-result
-invariant_of-result c = not_more (side_rule c.args.rule) c.args.sides_a.now.rows c.args.sides_b.now.rows (all_of c) (view_of c) (compared c) (links c) (possible c)
+invariant_of-result c = not_more (side_rule c.args.rule c.args.sides_a.now.rows c.args.sides_b.now.rows) (all_of c) (view_of c) (compared c) (links c) (possible c)
 
 pub returns-in-Ok-clause-within : goal.returns-in-Ok-clause-within
 returns-in-Ok-clause-within c = within_limit (all_of c) (few c)
 
-rows : (c : In-Ok) → c.in-Ok.found.rows.items ≡ kept_rows c.args.with_rows (decided_rows (side_rule c.args.rule) c.args.sides_a.now.rows c.args.sides_b.now.rows (all_of c))
+rows : (c : In-Ok) → c.in-Ok.found.rows.items ≡ kept_rows c.args.with_rows (decided_rows (side_rule c.args.rule c.args.sides_a.now.rows c.args.sides_b.now.rows) (all_of c))
 rows c =
-    c.in-Ok.ensures.rows ∙ ap (λ ps. kept_rows c.args.with_rows (decided_rows (side_rule c.args.rule) c.args.sides_a.now.rows c.args.sides_b.now.rows ps)) (walked c)
+    c.in-Ok.ensures.rows ∙ ap (λ ps. kept_rows c.args.with_rows (decided_rows (side_rule c.args.rule c.args.sides_a.now.rows c.args.sides_b.now.rows) ps)) (walked c)
 
 pub returns-in-Ok-clause-rows : goal.returns-in-Ok-clause-rows
 returns-in-Ok-clause-rows c = rows c
@@ -72,10 +72,10 @@ pub returns-in-Ok-clause-possible : goal.returns-in-Ok-clause-possible
 returns-in-Ok-clause-possible c = possible c
 
 pub returns-in-Ok-clause-counts : goal.returns-in-Ok-clause-counts
-returns-in-Ok-clause-counts c = counted (side_rule c.args.rule) c.args.sides_a.now.rows c.args.sides_b.now.rows (all_of c) (view_of c) (compared c) (links c) (possible c)
+returns-in-Ok-clause-counts c = counted (side_rule c.args.rule c.args.sides_a.now.rows c.args.sides_b.now.rows) (all_of c) (view_of c) (compared c) (links c) (possible c)
 
 abbrev has : In-Ok → Decision → PairAt → Bool
-has c kind at = is_same kind (decision_at (side_rule c.args.rule) c.args.sides_a.now.rows c.args.sides_b.now.rows at)
+has c kind at = is_same kind (decision_at (side_rule c.args.rule c.args.sides_a.now.rows c.args.sides_b.now.rows) at)
 
 pub returns-in-Ok-clause-links_inside : goal.returns-in-Ok-clause-links_inside
 returns-in-Ok-clause-links_inside c = found_inside (has c Link) (all_of c) _ (links c) (length c.args.sides_a.now.rows) (length c.args.sides_b.now.rows) c.requires.inside

@@ -29,18 +29,16 @@ rows-preserved c =
     let a = c.next_row.new.row.a in
     let bs = c.next_row.new.row.bs.items in
     let next : GivesRow c.rows.walker c.next_row.new.self c.next_row.new.row = rw c.in-Ok-true.field-0-test at c.in-Ok-true.ensures in
-    let rule = side_rule c.args.rule.now in
-    let rows_a = c.args.sides_a.now.rows in
-    let rows_b = c.args.sides_b.now.rows in
-    let has = λ (kind : Decision) (at : PairAt). is_same kind (decision_at rule rows_a rows_b at) in
+    let rule = side_rule c.args.rule.now c.args.sides_a.now.rows c.args.sides_b.now.rows in
+    let has = λ (kind : Decision) (at : PairAt). is_same kind (decision_at rule at) in
     let more = count_more old rest a bs next.0 in
     record {
       same = c.decide_row.ensures.same ∙ c.rows.invariant.same;
       given = omega (arith, next.1, c.decide_row.ensures.compared);
       few = omega (arith, next.1, next.2, c.decide_row.ensures.compared);
       compared = omega (arith, c.decide_row.ensures.compared);
-      rows = row_more (λ ps. kept_rows c.args.with_rows (decided_rows rule rows_a rows_b ps)) (kept_joined c.args.with_rows (decided_row rule rows_a rows_b)) old rest a bs _ _ _ next.0 c.in-Ok-decide_row.ensures.rows c.rows.invariant.rows;
-      links = row_more (pairs_with Link rule rows_a rows_b) (filter-append (has Link)) old rest a bs _ _ _ next.0 c.in-Ok-decide_row.ensures.links c.rows.invariant.links;
-      possible = row_more (pairs_with Possible rule rows_a rows_b) (filter-append (has Possible)) old rest a bs _ _ _ next.0 c.in-Ok-decide_row.ensures.possible c.rows.invariant.possible;
+      rows = row_more (λ ps. kept_rows c.args.with_rows (decided_rows rule ps)) (kept_joined c.args.with_rows (decided_row rule)) old rest a bs _ _ _ next.0 c.in-Ok-decide_row.ensures.rows c.rows.invariant.rows;
+      links = row_more (pairs_with Link rule) (filter-append (has Link)) old rest a bs _ _ _ next.0 c.in-Ok-decide_row.ensures.links c.rows.invariant.links;
+      possible = row_more (pairs_with Possible rule) (filter-append (has Possible)) old rest a bs _ _ _ next.0 c.in-Ok-decide_row.ensures.possible c.rows.invariant.possible;
       inside = rest_holds (IsInside (length c.args.sides_a.now.rows) (length c.args.sides_b.now.rows)) old rest a bs next.0 c.rows.invariant.inside;
     }

@@ -15,9 +15,9 @@ invariant-rows l = record {
   given : l.walker.given ≡ l.found.compared;
   few : l.found.compared ≤ MOST_PAIRS;
   compared : l.found.compared + length (pairs_of_rows l.walker.left) ≡ length (pairs_of_rows l.fn.walker.left);
-  rows : l.found.rows.items ++ kept_rows l.with_rows (decided_rows (side_rule l.rule) l.sides_a.rows l.sides_b.rows (pairs_of_rows l.walker.left)) ≡ kept_rows l.with_rows (decided_rows (side_rule l.rule) l.sides_a.rows l.sides_b.rows (pairs_of_rows l.fn.walker.left));
-  links : l.found.links.items ++ pairs_with Link (side_rule l.rule) l.sides_a.rows l.sides_b.rows (pairs_of_rows l.walker.left) ≡ pairs_with Link (side_rule l.rule) l.sides_a.rows l.sides_b.rows (pairs_of_rows l.fn.walker.left);
-  possible : l.found.possible.items ++ pairs_with Possible (side_rule l.rule) l.sides_a.rows l.sides_b.rows (pairs_of_rows l.walker.left) ≡ pairs_with Possible (side_rule l.rule) l.sides_a.rows l.sides_b.rows (pairs_of_rows l.fn.walker.left);
+  rows : l.found.rows.items ++ kept_rows l.with_rows (decided_rows (side_rule l.rule l.sides_a.rows l.sides_b.rows) (pairs_of_rows l.walker.left)) ≡ kept_rows l.with_rows (decided_rows (side_rule l.rule l.sides_a.rows l.sides_b.rows) (pairs_of_rows l.fn.walker.left));
+  links : l.found.links.items ++ pairs_with Link (side_rule l.rule l.sides_a.rows l.sides_b.rows) (pairs_of_rows l.walker.left) ≡ pairs_with Link (side_rule l.rule l.sides_a.rows l.sides_b.rows) (pairs_of_rows l.fn.walker.left);
+  possible : l.found.possible.items ++ pairs_with Possible (side_rule l.rule l.sides_a.rows l.sides_b.rows) (pairs_of_rows l.walker.left) ≡ pairs_with Possible (side_rule l.rule l.sides_a.rows l.sides_b.rows) (pairs_of_rows l.fn.walker.left);
   inside : All (IsInside (length l.sides_a.rows) (length l.sides_b.rows)) (pairs_of_rows l.walker.left);
 }
 

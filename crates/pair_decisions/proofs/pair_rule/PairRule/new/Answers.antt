@@ -37,6 +37,3 @@ invariant_of-result c =
       told = λ pattern lt. told pattern (stands pattern lt);
       stands = stands;
     }
-
-pub returns-clause-cells : goal.returns-clause-cells
-returns-clause-cells c = cells_many (pattern_count_by (rares_of c.args.plan.now.fields)) c.args.table.cells.items c.requires.cells
