@@ -3,10 +3,10 @@ ghost use Rattle.std.specs.Prelude.{◌≡◌, ◌≤◌, All, IfErr, IfOk, Ok, 
 ghost use Rattle.block_passes.specs.KeyIds.{key_ids};
 ghost use Rattle.link_base.specs.Fault.{Gives, IsAnswer, IsInputFault};
 ghost use Rattle.link_core.specs.Prepared.{ArePooled, files_of, IsOneOfBoth, kinds_of, pooled, prepared, sides_in, unreadable_of, with_fault, with_room};
-ghost use Rattle.standard_files.specs.Ready.{AreFileSides, AreInRange, IsRowFor};
+ghost use Rattle.standard_files.specs.Ready.{AreInRange, IsRowFor};
 ghost use Rattle.standard_files.specs.Sides.{pooled_values};
 ghost use Rattle.link_core.specs.Rules.{IsPreparedFor};
-ghost use Rattle.pair_walk.specs.Rows.{AreAllReady, AreKeysHeld, all_rows};
+ghost use Rattle.pair_walk.specs.Rows.{AreKeysHeld, all_rows};
 ghost use Rattle.link_plan.specs.Ranges.{KeepsRanges};
 ghost use Rattle.standard_files.specs.Files.{AreOfPlan};
 
@@ -220,19 +220,10 @@ pub fn prepare(
     ensures kind { IfErr result IsInputFault }
     ensures answer { Gives files_of (prepared plan.now pool_limit a.now b.now) result }
     ensures pooled { IfOk result (λ p. pooled plan.now pool_limit p.files ≡ Ok p.values) }
-    ensures of_a { IfOk result (λ p. AreOfPlan plan.now p.files.a.records) }
-    ensures of_b { IfOk result (λ p. AreOfPlan plan.now p.files.b.records) }
     ensures limit { IfOk result (λ p. p.values.limit ≡ pool_limit) }
     ensures fields_a { IfOk result (λ p. p.values.a.fields ≡ length plan.now.fields) }
     ensures fields_b { IfOk result (λ p. p.values.b.fields ≡ length plan.now.fields) }
-    ensures sides_a { IfOk result (λ p. AreFileSides p.values.texts (kinds_of plan.now) p.files.a.records p.values.a.rows) }
-    ensures sides_b { IfOk result (λ p. AreFileSides p.values.texts (kinds_of plan.now) p.files.b.records p.values.b.rows) }
-    ensures ready_a { IfOk result (λ p. AreAllReady plan.now.passes p.files.a.records) }
-    ensures ready_b { IfOk result (λ p. AreAllReady plan.now.passes p.files.b.records) }
-    ensures held_a { IfOk result (λ p. AreKeysHeld p.values.texts plan.now.passes p.files.a.records) }
-    ensures held_b { IfOk result (λ p. AreKeysHeld p.values.texts plan.now.passes p.files.b.records) }
-    ensures keys_a { IfOk result (λ p. p.values.keys_a ≡ key_ids p.values.texts plan.now.passes p.files.a.records) }
-    ensures keys_b { IfOk result (λ p. p.values.keys_b ≡ key_ids p.values.texts plan.now.passes p.files.b.records) }
+    ensures ready { IfOk result (IsPreparedFor plan.now) }
 {
     match read_files(alloc, plan, a, b) {
         Ok(files) => pool_pair(alloc, plan, files, pool_limit),
