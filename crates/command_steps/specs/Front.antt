@@ -4,7 +4,7 @@ use Rattle.std.specs.Prelude.{ℕ, List, Option, Some, None, Ok}
 use Rattle.link_base.specs.declared.fault.FileRole.TheVariants as role
 use Rattle.settings.specs.Settings.{settings}
 use Rattle.link_plan.specs.declared.plan.Plan.{Plan}
-use Rattle.link_limits.specs.declared.TheConstants.{MOST_POOLED_BYTES}
+use Rattle.link_limits.specs.declared.TheConstants.{MOST_DISTINCT_BYTES}
 use Rattle.link_core.specs.Prepared.{files_of, prepared}
 use Rattle.link_core.specs.Rules.{counted_by}
 use Rattle.pair_decisions.specs.PlanShares.{given_in}
@@ -33,7 +33,7 @@ plan_file name = do
 abbrev pub prepared_files : Plan → Steps StandardPair
 prepared_files plan = do
   inputs ← both_files plan.file_a plan.file_b
-  gives (prepared plan MOST_POOLED_BYTES inputs.a inputs.b)
+  gives (prepared plan MOST_DISTINCT_BYTES inputs.a inputs.b)
 
 -- a plan, and its two files in standard values
 pub record DescribedFiles : Type 0 where

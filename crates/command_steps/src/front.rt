@@ -6,7 +6,7 @@ ghost use Rattle.command_steps.specs.Steps.{seen_by, Takes};
 ghost use Rattle.link_base.specs.Fault.{Gives, IsAnswer, IsInputFault};
 ghost use Rattle.link_core.specs.Prepared.{files_of, prepared};
 ghost use Rattle.link_core.specs.Rules.{IsPreparedFor, shared_rares};
-ghost use Rattle.link_limits.specs.declared.TheConstants.{MOST_POOLED_BYTES};
+ghost use Rattle.link_limits.specs.declared.TheConstants.{MOST_DISTINCT_BYTES};
 ghost use Rattle.pair_decisions.specs.Comparators.{rares_of};
 ghost use Rattle.pair_decisions.specs.PlanShares.{given_in};
 ghost use Rattle.link_plan.specs.Ranges.{KeepsRanges, NamesFiles};
@@ -14,7 +14,7 @@ ghost use Rattle.link_plan.specs.Ranges.{KeepsRanges, NamesFiles};
 use crate::load::load_file;
 use link_base::{Fault, FileRole, NoMemory, Text};
 use link_core::{PlanShares, Prepared, counted, prepare, prepare_texts};
-use link_limits::MOST_POOLED_BYTES;
+use link_limits::MOST_DISTINCT_BYTES;
 use link_outside::Store;
 use link_plan::Plan;
 use settings::read_settings;
@@ -86,10 +86,10 @@ fn load_files<S: Store>(alloc: Global, store: &mut S, plan: &Plan) -> Result<Inp
 pub fn prepare_files(alloc: Global, plan: &Plan, a: &[u8], b: &[u8]) -> Result<Prepared, Fault>
     requires { KeepsRanges plan.now }
     ensures kind { IfErr result IsInputFault }
-    ensures answer { Gives files_of (prepared plan.now MOST_POOLED_BYTES a.now b.now) result }
+    ensures answer { Gives files_of (prepared plan.now MOST_DISTINCT_BYTES a.now b.now) result }
     ensures ready { IfOk result (IsPreparedFor plan.now) }
 {
-    prepare(alloc, plan, a, b, MOST_POOLED_BYTES)
+    prepare(alloc, plan, a, b, MOST_DISTINCT_BYTES)
 }
 
 /// Loads the two files of a plan, and makes them ready to be compared.
@@ -100,7 +100,7 @@ pub fn load_prepared<S: Store>(alloc: Global, store: &mut S, plan: &Plan) -> Res
     ensures ready { IfOk result (IsPreparedFor plan.now) }
 {
     let inputs = load_files(alloc, store, plan)?;
-    prepare_texts(alloc, plan, inputs.a, inputs.b, MOST_POOLED_BYTES)
+    prepare_texts(alloc, plan, inputs.a, inputs.b, MOST_DISTINCT_BYTES)
 }
 
 /// The plan of a settings file, and the two files that it names, ready to be compared.

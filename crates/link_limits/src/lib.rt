@@ -41,8 +41,8 @@ pub const GREATEST_WEIGHT: i32 = 474;
 /// The most compared pairs of a run, and so the most candidates.
 pub const MOST_PAIRS: u64 = 2_000_000;
 
-/// The most bytes of distinct texts in the pool of a run: 192 MiB.
-pub const MOST_POOLED_BYTES: u64 = 201_326_592;
+/// The most bytes that the distinct texts of the two files of a run may have together: 192 MiB.
+pub const MOST_DISTINCT_BYTES: u64 = 201_326_592;
 
 /// The greatest limit that a pool may have, so that each of its places is a `u32`: 1 GiB.
 pub const MOST_POOL_LIMIT: u64 = 1_073_741_824;

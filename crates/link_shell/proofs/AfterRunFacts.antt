@@ -14,7 +14,7 @@ use Rattle.link_core.specs.Decisions.{decided}
 use Rattle.standard_files.specs.Files.{StandardPair}
 use Rattle.link_core.specs.Results.{RunTexts}
 use Rattle.link_core.specs.Verify.{line_of, run_texts, RunIsVerified, verified_in}
-use Rattle.link_limits.specs.declared.TheConstants.{MOST_POOLED_BYTES, MOST_WRITTEN_BYTES}
+use Rattle.link_limits.specs.declared.TheConstants.{MOST_DISTINCT_BYTES, MOST_WRITTEN_BYTES}
 use Rattle.link_outside.specs.Outside.{Held, Rose}
 use Rattle.link_outside.specs.declared.outside.SinkError.{SinkError}
 use Rattle.link_outside.specs.declared.outside.SinkError.TheVariants as sink
@@ -201,7 +201,7 @@ module _ (law : RunIsVerified) (name : List ℕ) (kept : IsKept name) (store : S
         bytes = read.0;
         bytes_a = inputs.0.a;
         bytes_b = inputs.0.b;
-        limit = MOST_POOLED_BYTES;
+        limit = MOST_DISTINCT_BYTES;
         of_settings = read.2;
         of_files = inputs.2;
         few_shares = omega (arith, shares_few plan review.files held review.shares plan.sample from.by.of_shares, kept_plan.few_fields);

@@ -11,7 +11,7 @@ use Rattle.link_core.specs.Decisions.{decided, Decisions, rule_over}
 use Rattle.link_core.specs.Pairs.{plan_pairs}
 use Rattle.link_core.specs.Prepared.{prepared}
 use Rattle.link_core.specs.Rules.{counted_by}
-use Rattle.link_limits.specs.declared.TheConstants.{MOST_POOLED_BYTES}
+use Rattle.link_limits.specs.declared.TheConstants.{MOST_DISTINCT_BYTES}
 use Rattle.link_outside.specs.Outside.{Held}
 use Rattle.link_plan.specs.Plan.{FieldKeys, PlainShares}
 use Rattle.link_plan.specs.Ranges.{AreShares, IsField}
@@ -105,7 +105,7 @@ module _ (given : GivenHaveRule) (counted : CountedHaveRule) where
   of_input : (bytes a b sample : List ℕ) (found : ReviewedPlan) → decided_input bytes a b sample ≡ Ok found → AreByFilledRule found.plan found.review.shares found.review.decided
   of_input bytes a b sample found e =
       let plan = came_of (settings bytes) _ found e in
-      let files = came_of (prepared plan.0 MOST_POOLED_BYTES a b) _ found plan.2 in
+      let files = came_of (prepared plan.0 MOST_DISTINCT_BYTES a b) _ found plan.2 in
       let shared = came_of (decided_sample plan.0 files.0 sample) _ found files.2 in
       let shares = came_of (counted_by plan.0 files.0 sample) _ shared.0 shared.1 in
       let decisions = came_of (decided plan.0 files.0 shares.0) _ shared.0 shares.2 in

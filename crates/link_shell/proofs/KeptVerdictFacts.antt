@@ -14,7 +14,7 @@ use Rattle.link_core.proofs.DuplicateLemmas.{came as step_came}
 use Rattle.link_core.proofs.FileLemmas.{AreReadFiles, IsReadFile, read_files}
 use Rattle.standard_files.specs.Files.{StandardPair}
 use Rattle.link_core.specs.Review.{journal_in_files, text_within}
-use Rattle.link_limits.specs.declared.TheConstants.{MOST_FILE_BYTES, MOST_POOLED_BYTES}
+use Rattle.link_limits.specs.declared.TheConstants.{MOST_FILE_BYTES, MOST_DISTINCT_BYTES}
 use Rattle.link_outside.specs.Outside.{Held, held_with}
 use Rattle.link_plan.specs.Ranges.{AreFiles, files_read}
 use Rattle.link_plan.specs.declared.plan.Plan.{Plan}
@@ -143,7 +143,7 @@ ids_of_file records is = record { texts = is.texts; distinct = is.distinct }
 files_ids : (plan : Plan) (files : StandardPair) (held : Held) → outcome (prepared_files plan) held ≡ Ok files → AreReadFiles files
 files_ids plan files held e =
     let inputs = came (both_files plan.file_a plan.file_b) _ held files e in
-    read_files plan MOST_POOLED_BYTES inputs.0.a inputs.0.b files inputs.2
+    read_files plan MOST_DISTINCT_BYTES inputs.0.a inputs.0.b files inputs.2
 
 -- the entries of the journal that a plan names, in some bytes
 record HasRead (plan : Plan) (files : StandardPair) (entries : List Entry) : Type 0 where

@@ -21,7 +21,7 @@ use Rattle.link_core.specs.Pairs.{plan_pairs}
 use Rattle.standard_files.specs.Files.{StandardPair}
 use Rattle.link_core.specs.Results.{candidates_in, compared_in}
 use Rattle.link_core.specs.Verify.{line_of, verified_in}
-use Rattle.link_limits.specs.declared.TheConstants.{MOST_FIELDS, MOST_PAIRS, MOST_POOLED_BYTES}
+use Rattle.link_limits.specs.declared.TheConstants.{MOST_FIELDS, MOST_PAIRS, MOST_DISTINCT_BYTES}
 use Rattle.link_outside.specs.Outside.{Held}
 use Rattle.link_outside.specs.declared.outside.SinkError.{SinkError}
 use Rattle.link_outside.specs.declared.outside.SinkError.TheVariants as sink
@@ -148,7 +148,7 @@ rows_are_proof verified one bounded = λ name held h.
     let small = small_cells plan shares proof.cells few_shares kept.few_fields of_plan in
     let ranges : All IsWithinRanges rule.cells = All-weaker IsSmallCell IsWithinRanges (λ x s. s.ranges) proof.cells small.each in
     let bounds : All (HasBounds plan.award) candidates = bounded plan files rule journal ranges in
-    let are = candidates_are plan files rule journal (read_files plan MOST_POOLED_BYTES inputs.0.a inputs.0.b files inputs.2) kept.award bounds in
+    let are = candidates_are plan files rule journal (read_files plan MOST_DISTINCT_BYTES inputs.0.a inputs.0.b files inputs.2) kept.award bounds in
     let certified : HaveCertifiedRows (rares_of plan.fields) proof.cells candidates files.a.records files.b.records h.texts proof.links = record {
       prices_a = proof.prices_a;
       prices_b = proof.prices_b;

@@ -6,7 +6,7 @@ use Rattle.link_base.specs.declared.fault.FileRole.TheVariants as role
 use Rattle.link_core.specs.Decisions.{Decisions, decisions_of}
 use Rattle.link_core.specs.Duplicates.{IsGroupsText, links_within}
 use Rattle.link_core.specs.Prepared.{files_of, prepared}
-use Rattle.link_limits.specs.declared.TheConstants.{MOST_POOLED_BYTES}
+use Rattle.link_limits.specs.declared.TheConstants.{MOST_DISTINCT_BYTES}
 use Rattle.link_plan.specs.Plan.{PlainShares}
 use Rattle.link_plan.specs.Within.{plan_within}
 use Rattle.link_plan.specs.declared.plan.Plan.{Plan}
@@ -42,7 +42,7 @@ within_of d = record { files = files_of d.files; shares = d.shares; decided = de
 abbrev pub prepared_within : Plan → Steps StandardPair
 prepared_within plan = do
   bytes ← file role.A plan.file_a
-  gives (prepared plan MOST_POOLED_BYTES bytes bytes)
+  gives (prepared plan MOST_DISTINCT_BYTES bytes bytes)
 
 -- the decisions of a plan's rule on the compared pairs of A with itself: the faults of the sample come before too many pairs
 abbrev pub decided_within : Plan → Steps Within

@@ -1,7 +1,7 @@
 -- The command `generate NUMBER`: its words, its steps and what is due, by the clause `follows` of `perform`. A made input of so many rows in each
 -- file is run in memory, and the first lines of its report are printed.
 use Rattle.std.specs.Prelude.{◌≡◌, ◌≤◌, ◌==◌, ◌&&◌, ℕ, List, [], Bool, bytes_eq, codes, length, nat_le, Result, Ok}
-use Rattle.link_limits.specs.declared.TheConstants.{MOST_POOLED_BYTES, MOST_ROWS}
+use Rattle.link_limits.specs.declared.TheConstants.{MOST_DISTINCT_BYTES, MOST_ROWS}
 use Rattle.link_base.specs.Answers.{and_then}
 use Rattle.link_base.specs.declared.fault.Fault.{Fault}
 use Rattle.link_core.specs.Decisions.{decided}
@@ -49,7 +49,7 @@ decided_sample plan files sample =
 abbrev pub decided_input : List ℕ → List ℕ → List ℕ → List ℕ → Result ReviewedPlan Fault
 decided_input bytes a b sample =
     and_then (settings bytes) (λ plan.
-    and_then (prepared plan MOST_POOLED_BYTES a b) (λ files.
+    and_then (prepared plan MOST_DISTINCT_BYTES a b) (λ files.
     and_then (decided_sample plan files sample) (λ found.
     Ok (record { plan = plan; review = record { files = files; shares = found.shares; decided = found.decided; journal = [] } }))))
 

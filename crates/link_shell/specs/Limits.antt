@@ -1,6 +1,6 @@
 -- The limits, as numbers, each written once. The other definitions cite the constants of the code, which are these numbers.
 use Rattle.std.specs.Prelude.{◌≡◌}
-use Rattle.link_limits.specs.declared.TheConstants.{MOST_CAPACITY, MOST_COLUMNS, MOST_ENTRIES, MOST_FIELD_BYTES, MOST_FIELDS, MOST_FILE_BYTES, MOST_NAME_BYTES, MOST_PAIRS, MOST_PATTERNS, MOST_POOLED_BYTES, MOST_ROWS, MOST_VALUE, MOST_WORD_BYTES, MOST_WRITTEN_BYTES, PER_MILLION, WHOLE_FIELD, WHOLE_RULE}
+use Rattle.link_limits.specs.declared.TheConstants.{MOST_CAPACITY, MOST_COLUMNS, MOST_ENTRIES, MOST_FIELD_BYTES, MOST_FIELDS, MOST_FILE_BYTES, MOST_NAME_BYTES, MOST_PAIRS, MOST_PATTERNS, MOST_DISTINCT_BYTES, MOST_ROWS, MOST_VALUE, MOST_WORD_BYTES, MOST_WRITTEN_BYTES, PER_MILLION, WHOLE_FIELD, WHOLE_RULE}
 use Rattle.link_plan.specs.declared.limits.TheConstants.{LEAST_RARE, MOST_AWARD, MOST_DAYS, MOST_FIELD_NAME_BYTES, MOST_LABEL_BYTES, MOST_LETTERS, MOST_LISTED_WORDS, MOST_MARK_BYTES, MOST_MARKS, MOST_PARTS, MOST_PASSES, MOST_RARE, MOST_SEED, MOST_WORD_PAIRS, MOST_YEARS}
 use Rattle.link_shell.specs.declared.generate.TheConstants.{HEAD_LINES}
 use Rattle.link_shell.specs.declared.words.TheConstants.{MOST_LISTED}
@@ -11,7 +11,7 @@ LimitsOfFiles = (MOST_FILE_BYTES ≡ 67108864) × (MOST_WRITTEN_BYTES ≡ 134217
 
 -- rows of a file, entries of a journal, compared pairs, bytes of distinct texts, and the capacity of a record
 abbrev pub LimitsOfRuns : Type 0
-LimitsOfRuns = (MOST_ROWS ≡ 100000) × (MOST_ENTRIES ≡ 1000000) × (MOST_PAIRS ≡ 2000000) × (MOST_POOLED_BYTES ≡ 201326592) × (MOST_CAPACITY ≡ 1000)
+LimitsOfRuns = (MOST_ROWS ≡ 100000) × (MOST_ENTRIES ≡ 1000000) × (MOST_PAIRS ≡ 2000000) × (MOST_DISTINCT_BYTES ≡ 201326592) × (MOST_CAPACITY ≡ 1000)
 
 -- fields, patterns, the wholes of shares and levels, and the greatest value and price
 abbrev pub LimitsOfRules : Type 0

@@ -4,7 +4,7 @@ use Rattle.link_base.specs.declared.fault.Fault.{Fault}
 use Rattle.link_base.specs.declared.fault.FileRole.TheVariants as role
 use Rattle.link_core.proofs.DuplicateLemmas.{same_rows}
 use Rattle.link_core.specs.Prepared.{files_of, prepared, PreparedView}
-use Rattle.link_limits.specs.declared.TheConstants.{MOST_POOLED_BYTES}
+use Rattle.link_limits.specs.declared.TheConstants.{MOST_DISTINCT_BYTES}
 use Rattle.link_plan.specs.Within.{plan_within}
 use Rattle.link_plan.specs.declared.plan.Plan.{Plan}
 use Rattle.command_steps.specs.Seen.{StoreSeen}
@@ -29,12 +29,12 @@ returns-in_err-a-clause-takes g c =
 pub returns-clause-takes : goal.returns-clause-takes
 returns-clause-takes g c =
     let a = c.in_ok-a.a in
-    let answer = of_bytes (λ x y. Gives files_of (prepared c.args.plan.now MOST_POOLED_BYTES x y) c.prepare_files-files.result) {a = a} {b = a} c.bytes.ensures c.bytes-2.ensures c.prepare_files-files.ensures.answer in
+    let answer = of_bytes (λ x y. Gives files_of (prepared c.args.plan.now MOST_DISTINCT_BYTES x y) c.prepare_files-files.result) {a = a} {b = a} c.bytes.ensures c.bytes-2.ensures c.prepare_files-files.ensures.answer in
     takes_go _ _ (by_name c.file_name.result.now c.args.plan.now.file_a c.file_name.ensures c.in_ok-a.ensures)
     (takes_seen files_of c.prepare_files-files.result c.prepare_files-files.ensures.kind answer)
 
 pub returns-clause-same : goal.returns-clause-same
 returns-clause-same g c =
     let a = c.in_ok-a.a in
-    let answer = of_bytes (λ x y. Gives files_of (prepared c.args.plan.now MOST_POOLED_BYTES x y) c.prepare_files-files.result) {a = a} {b = a} c.bytes.ensures c.bytes-2.ensures c.prepare_files-files.ensures.answer in
-    same_if c.args.plan.now c.requires.within.0 MOST_POOLED_BYTES a c.prepare_files-files.result c.requires.within.1 answer
+    let answer = of_bytes (λ x y. Gives files_of (prepared c.args.plan.now MOST_DISTINCT_BYTES x y) c.prepare_files-files.result) {a = a} {b = a} c.bytes.ensures c.bytes-2.ensures c.prepare_files-files.ensures.answer in
+    same_if c.args.plan.now c.requires.within.0 MOST_DISTINCT_BYTES a c.prepare_files-files.result c.requires.within.1 answer
