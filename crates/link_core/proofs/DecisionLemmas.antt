@@ -1,15 +1,14 @@
 -- The decisions on prepared files, by what is told of those on the records and sides that were handed over.
 use Rattle.std.proofs.Common.{◌≡◌, ◌∙◌, Bool, true, List, length, Result, Ok, Err, ap, subst, sym}
-use Rattle.std.specs.Prelude.{All, AllPairs, IfErr, IfOk}
+use Rattle.std.specs.Prelude.{All, IfOk}
 use Rattle.comparators.specs.declared.ids.IdValue.{IdValue}
 use Rattle.link_base.proofs.AnswerFacts.{refuses_then}
 use Rattle.link_base.specs.Answers.{and_then}
-use Rattle.link_base.specs.Fault.{Gives, Refuses}
-use Rattle.link_base.specs.Rule.{IsPairBefore}
+use Rattle.link_base.specs.Fault.{Gives}
 use Rattle.link_base.specs.declared.fault.Fault.{Fault}
 use Rattle.link_base.specs.declared.rule.Decision.{Decision}
 use Rattle.link_base.specs.declared.rule.PairAt.{PairAt}
-use Rattle.pair_decisions.specs.Decisions.{AreDecisionsOn, count_with, DecidedView, pairs_with}
+use Rattle.pair_decisions.specs.Decisions.{AreDecisionsOn, AreListsIn, count_with, DecidedView, pairs_with}
 use Rattle.pair_decisions.specs.PairRows.{AreRowsIn, decided_rows, kept_rows}
 use Rattle.pair_decisions.specs.PairRule.{AreCellsOf, AreSidesFor, FileRule, PairRuleView, side_rule}
 use Rattle.pair_decisions.specs.Pairs.{IsInside, pairs_within}
@@ -28,15 +27,12 @@ use Rattle.link_core.specs.Rules.{IsPreparedFor}
 
 -- a result is that of a rule on these pairs, over these sides
 pub record IsTold (rule : PairRuleView) (with_rows : Bool) (result : Result DecidedView Fault) (pairs : List PairAt) (rows_a rows_b : List (List IdValue)) : Type 0 where
-  pub refused : IfErr result (Refuses (pairs_within pairs))
-  pub within : IfOk result (λ _. pairs_within pairs ≡ Ok pairs)
+  pub answer : Gives (λ _. pairs) (pairs_within pairs) result
   pub rule_is : IfOk result (λ d. d.rule ≡ rule)
   pub rows_are : IfOk result (λ d. d.rows ≡ kept_rows with_rows (decided_rows (side_rule rule rows_a rows_b) pairs))
   pub rows_in : IfOk result (λ d. AreRowsIn (length rows_a) (length rows_b) (length d.rule.cells) d.rows)
   pub counts : IfOk result (λ d. (kind : Decision) → count_with d kind ≡ length (pairs_with kind (side_rule rule rows_a rows_b) pairs))
-  pub links_inside : IfOk result (λ d. All (IsInside (length rows_a) (length rows_b)) d.links)
-  pub possible_inside : IfOk result (λ d. All (IsInside (length rows_a) (length rows_b)) d.possible)
-  pub possible_rise : IfOk result (λ d. AllPairs IsPairBefore d.possible)
+  pub lists : IfOk result (AreListsIn (length rows_a) (length rows_b))
   pub decisions : IfOk result (AreDecisionsOn rows_a rows_b pairs)
 
 -- the same of the compared pairs of the files that the blocks are those of
@@ -60,7 +56,7 @@ module _ (plan : Plan) (p : PreparedView) (shares : List PlainShares) (rule : Pa
   Told result = IsTold rule with_rows result (compared_in plan p.files) p.values.a.rows p.values.b.rows
 
   pub answered : (result : Result DecidedView Fault) → side_rule rule p.values.a.rows p.values.b.rows ≡ rule_over plan p.files shares → Told result → Gives (decisions_of p) (decided plan p.files shares) result
-  answered (Err f) of told = refuses_then (pairs_within (compared_in plan p.files)) (λ pairs. Ok (decided_by (rule_over plan p.files shares) pairs)) f told.refused
+  answered (Err f) of told = refuses_then (pairs_within (compared_in plan p.files)) (λ pairs. Ok (decided_by (rule_over plan p.files shares) pairs)) f told.answer
   answered (Ok d) of told =
       let same : rule_in p d ≡ rule_over plan p.files shares = ap (λ (r : PairRuleView). side_rule r p.values.a.rows p.values.b.rows) told.rule_is ∙ of in
       let made : decisions_of p d ≡ decided_by (rule_in p d) (compared_in plan p.files) =
@@ -68,7 +64,7 @@ module _ (plan : Plan) (p : PreparedView) (shares : List PlainShares) (rule : Pa
       let whole : decisions_of p d ≡ decided_by (rule_over plan p.files shares) (compared_in plan p.files) = made ∙ ap (λ (r : FileRule). decided_by r (compared_in plan p.files)) same in
       let ok : Decisions → Result Decisions Fault = λ x. Ok x in
       let next : List PairAt → Result Decisions Fault = λ pairs. Ok (decided_by (rule_over plan p.files shares) pairs) in
-      ap (λ (r : Result (List PairAt) Fault). and_then r next) told.within ∙ ap ok (sym whole)
+      ap (λ (r : Result (List PairAt) Fault). and_then r next) told.answer ∙ ap ok (sym whole)
 
   pub decided_in_files : (result : Result DecidedView Fault) → IsPreparedFor plan p → All (AreSidesFor rule) p.values.a.rows → All (AreSidesFor rule) p.values.b.rows → Told result → IfOk result (IsDecidedIn p)
   decided_in_files (Err f) ready sides_a sides_b told = tt
@@ -77,9 +73,9 @@ module _ (plan : Plan) (p : PreparedView) (shares : List PlainShares) (rule : Pa
     rows_b = ready.sides_b.as_many;
     sides_a = subst (λ (r : PairRuleView). All (AreSidesFor r) p.values.a.rows) (sym told.rule_is) sides_a;
     sides_b = subst (λ (r : PairRuleView). All (AreSidesFor r) p.values.b.rows) (sym told.rule_is) sides_b;
-    links = inside_files plan p d.links ready told.links_inside;
-    possible = inside_files plan p d.possible ready told.possible_inside;
-    rising = told.possible_rise;
+    links = inside_files plan p d.links ready told.lists.links;
+    possible = inside_files plan p d.possible ready told.lists.possible;
+    rising = told.lists.possible_rise;
     rows =
         subst (λ n. AreRowsIn (length p.files.a.records) n (length d.rule.cells) d.rows) ready.sides_b.as_many
         (subst (λ n. AreRowsIn n (length p.values.b.rows) (length d.rule.cells) d.rows) ready.sides_a.as_many told.rows_in);

@@ -27,7 +27,7 @@ use Rattle.link_plan.specs.declared.plan.Plan.{Plan}
 use Rattle.patterns.specs.Patterns.{number_of, outcomes}
 use Rattle.patterns.specs.Shapes.{digit_of, pattern_count_by}
 use Rattle.patterns.proofs.Digits.{count-pos}
-use Rattle.patterns.proofs.PatternNumbers.{digit-le}
+use Rattle.patterns.proofs.PatternNumbers.{digit-lt}
 use Rattle.sample_counts.specs.Counts.{CountsState, count_of, has_status}
 use Rattle.sample_counts.specs.Sample.{reviewed_rows, sample_of, sample_under, sample_wanted, with_both}
 use Rattle.sample_counts.specs.declared.counts.Judged.{Judged}
@@ -41,6 +41,7 @@ use Rattle.pair_decisions.specs.PlanRule.{IsRuleOf}
 use Rattle.pair_decisions.specs.PlanShares.{counted_in, counts_by_pattern, given_in, HaveValidShares, outcome_counts, plain_all, shares_at, shares_in, status_shares}
 use Rattle.pair_decisions.specs.TheRule.{the_rule}
 use Rattle.pair_decisions.proofs.FilledRule.{the_rule_of_plan}
+use Rattle.pair_decisions.proofs.ValuePatterns.{value_rares}
 
 -- ---- plain shares that are those of fields
 
@@ -193,13 +194,6 @@ counted_rule plan pattern a b bytes shares in_shape e = rule_of_plain plan share
 
 -- ---- the pattern of two records is of the shape
 
-digit_within : (rare : Bool) (o : Outcome) → (o ≡ Rare → rare ≡ true) → digit_of o < outcomes_of rare
-digit_within true o h = omega (arith, digit-le o)
-digit_within false Agree h = omega arith
-digit_within false Disagree h = omega arith
-digit_within false Missing h = omega arith
-digit_within false Rare h = let never : false ≡ true = h refl in absurd (cc)
-
 only_rare : (kind : CompareKind) (rare : Option ℕ) (holders : List ℕ → ℕ) (x y : Value) → (field_comparator kind rare holders).outcome x y ≡ Rare → (field_comparator kind rare holders).rare ≡ true
 only_rare kind None holders x y e = (kind_laws (kind_of kind)).only_rare x y e
 only_rare kind (Some most) holders x y e = refl
@@ -215,13 +209,9 @@ number_within (c ∷ cs) told [] ys = count-pos (rares_in (c ∷ cs))
 number_within (c ∷ cs) told (x ∷ xs) [] = count-pos (rares_in (c ∷ cs))
 number_within (c ∷ cs) told (x ∷ xs) (y ∷ ys) =
     let others = pattern_count_by (rares_in cs) in
-    let digit = digit_within c.rare (c.outcome x y) (told.0 x y) in
+    let digit = digit-lt c.rare (c.outcome x y) (told.0 x y) in
     let placed = mul-add-lt (digit_of (c.outcome x y)) others _ (outcomes_of c.rare) digit (number_within cs told.1 xs ys) in
     rw (mul_comm (outcomes_of c.rare) others) placed
-
-rare_as : (kind : CompareKind) (rare : Option ℕ) (holders : List ℕ → ℕ) → (field_comparator kind rare holders).rare ≡ is_some rare
-rare_as kind None holders = refl
-rare_as kind (Some most) holders = refl
 
 module _ (a b : List Record) where
   abbrev comparators_from : ℕ → List FieldKeys → List (SideComparator Value)
@@ -231,13 +221,9 @@ module _ (a b : List Record) where
   all_told n [] = tt
   all_told n (f ∷ fields) = (only_rare f.compare f.rare (holders_of f.compare n a b), all_told (n + 1) fields)
 
-  same_rares : (n : ℕ) (fields : List FieldKeys) → rares_in (comparators_from n fields) ≡ rares_of fields
-  same_rares n [] = refl
-  same_rares n (f ∷ fields) = λ i. rare_as f.compare f.rare (holders_of f.compare n a b) i ∷ same_rares (n + 1) fields i
-
   pair_in_shape : (fields : List FieldKeys) (at : PairAt) → pattern_of_pair fields a b at < pattern_count_by (rares_of fields)
   pair_in_shape fields at =
-      subst (λ rares. pattern_of_pair fields a b at < pattern_count_by rares) (same_rares 0 fields)
+      subst (λ rares. pattern_of_pair fields a b at < pattern_count_by rares) (value_rares a b 0 fields)
       (number_within (field_comparators fields a b) (all_told 0 fields) (get_or (values_of a) at.a []) (get_or (values_of b) at.b []))
 
 pub rule_by_values : (plan : Plan) (a b : List Record) (bytes : List ℕ) (shares : List PlainShares) → counted_in plan.fields (pattern_of_pair plan.fields a b) a b bytes ≡ Ok shares

@@ -121,7 +121,7 @@ rare_as : (kind : CompareKind) (rare : Option ℕ) (holders : List ℕ → ℕ) 
 rare_as kind None holders = refl
 rare_as kind (Some most) holders = refl
 
-value_rares : (a b : List Record) (n : ℕ) (fields : List FieldKeys) → rares_in (map (field_comparator_at a b) (enumerate_from n fields)) ≡ rares_of fields
+pub value_rares : (a b : List Record) (n : ℕ) (fields : List FieldKeys) → rares_in (map (field_comparator_at a b) (enumerate_from n fields)) ≡ rares_of fields
 value_rares a b n [] = refl
 value_rares a b n (f ∷ fs) = λ i. rare_as f.compare f.rare (holders_of f.compare n a b) i ∷ value_rares a b (n + 1) fs i
 

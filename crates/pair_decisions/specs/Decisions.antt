@@ -1,5 +1,5 @@
 -- The decisions of a rule on pairs of two files (Fellegi and Sunter 1969, section 2). `decide_pairs` carries them (clauses
--- `compared`, `links`, `possible` and `counts`, and all at once `decisions`); the decision on one pair is by `decide_in_cell`.
+-- `decisions`, `counts` and `lists`); the decision on one pair is by `decide_in_cell`.
 use Rattle.std.specs.Prelude.{◌≡◌, ◌+◌, ◌-◌, ◌≤◌, ℕ, Bool, true, false, List, All, AllPairs, filter, length}
 use Rattle.link_limits.specs.declared.TheConstants.{MOST_PAIRS}
 use Rattle.comparators.specs.declared.ids.IdValue.{IdValue}
@@ -50,3 +50,10 @@ pub record AreDecisionsOn (rows_a rows_b : List (List IdValue)) (pairs : List Pa
   pub compared : d.compared ≡ length pairs
   pub links : d.links ≡ pairs_with Link (side_rule d.rule rows_a rows_b) pairs
   pub possible : d.possible ≡ pairs_with Possible (side_rule d.rule rows_a rows_b) pairs
+
+-- the lists of decided pairs stand in files of so many records, and rise
+pub record AreListsIn (rows_a rows_b : ℕ) (d : DecidedView) : Type 0 where
+  pub links : All (IsInside rows_a rows_b) d.links
+  pub possible : All (IsInside rows_a rows_b) d.possible
+  pub links_rise : AllPairs IsPairBefore d.links
+  pub possible_rise : AllPairs IsPairBefore d.possible

@@ -1,5 +1,5 @@
--- Lists of pairs: the compared pairs where they are not too many (`decide_pairs`, clauses `refused` and `within`), and what
--- holds of the lists of decided pairs (clauses `links_inside` to `possible_rise`).
+-- Lists of pairs: the compared pairs where they are not too many (`decide_pairs`, clause `answer`), and pairs that stand in two files (clause
+-- `lists`).
 use Rattle.std.specs.Prelude.{◌<◌, ℕ, List, length, nat_le, if◌then◌else◌, Result, Ok, Err}
 use Rattle.link_limits.specs.declared.TheConstants.{MOST_PAIRS}
 use Rattle.link_base.specs.declared.fault.Fault.{Fault}

@@ -1,10 +1,9 @@
 // The decisions on the pairs of blocks.
-ghost use Rattle.std.specs.Prelude.{◌≡◌, ◌≤◌, All, AllPairs, IfErr, IfOk, Ok, length};
-ghost use Rattle.link_base.specs.Fault.{IsInputFault, Refuses};
+ghost use Rattle.std.specs.Prelude.{◌≡◌, ◌≤◌, All, AllPairs, IfErr, IfOk, length};
+ghost use Rattle.link_base.specs.Fault.{Gives, IsInputFault};
 ghost use Rattle.link_base.specs.declared.rule.Decision.{Decision};
-ghost use Rattle.link_base.specs.declared.rule.Decision.TheVariants.{Link, Possible};
 ghost use Rattle.link_base.specs.Rule.{IsPairBefore};
-ghost use Rattle.pair_decisions.specs.Decisions.{AreDecisionsOn, count_with, pairs_with};
+ghost use Rattle.pair_decisions.specs.Decisions.{AreDecisionsOn, AreListsIn, count_with, pairs_with};
 ghost use Rattle.pair_decisions.specs.PairRule.{AreSidesFor, side_rule};
 ghost use Rattle.pair_decisions.specs.PairRows.{AreRowsIn, decided_rows, kept_rows};
 ghost use Rattle.pair_decisions.specs.Pairs.{IsInside, pairs_within};
@@ -111,19 +110,12 @@ pub fn decide_pairs(
     requires inside { All (IsInside (length sides_a.now.rows) (length sides_b.now.rows)) (pairs_of_rows blocks.now) }
     requires rising { AllPairs IsPairBefore (pairs_of_rows blocks.now) }
     ensures kind { IfErr result IsInputFault }
-    ensures refused { IfErr result (Refuses (pairs_within (pairs_of_rows blocks.now))) }
-    ensures within { IfOk result (λ _. pairs_within (pairs_of_rows blocks.now) ≡ Ok (pairs_of_rows blocks.now)) }
+    ensures answer { Gives (λ _. pairs_of_rows blocks.now) (pairs_within (pairs_of_rows blocks.now)) result }
     ensures rule { IfOk result (λ d. d.rule ≡ rule) }
     ensures rows { IfOk result (λ d. d.rows ≡ kept_rows with_rows (decided_rows (side_rule rule sides_a.now.rows sides_b.now.rows) (pairs_of_rows blocks.now))) }
     ensures rows_in { IfOk result (λ d. AreRowsIn (length sides_a.now.rows) (length sides_b.now.rows) (length d.rule.cells) d.rows) }
-    ensures compared { IfOk result (λ d. d.compared ≡ length (pairs_of_rows blocks.now)) }
-    ensures links { IfOk result (λ d. d.links ≡ pairs_with Link (side_rule rule sides_a.now.rows sides_b.now.rows) (pairs_of_rows blocks.now)) }
-    ensures possible { IfOk result (λ d. d.possible ≡ pairs_with Possible (side_rule rule sides_a.now.rows sides_b.now.rows) (pairs_of_rows blocks.now)) }
     ensures counts { IfOk result (λ d. (kind : Decision) → count_with d kind ≡ length (pairs_with kind (side_rule rule sides_a.now.rows sides_b.now.rows) (pairs_of_rows blocks.now))) }
-    ensures links_inside { IfOk result (λ d. All (IsInside (length sides_a.now.rows) (length sides_b.now.rows)) d.links) }
-    ensures possible_inside { IfOk result (λ d. All (IsInside (length sides_a.now.rows) (length sides_b.now.rows)) d.possible) }
-    ensures links_rise { IfOk result (λ d. AllPairs IsPairBefore d.links) }
-    ensures possible_rise { IfOk result (λ d. AllPairs IsPairBefore d.possible) }
+    ensures lists { IfOk result (AreListsIn (length sides_a.now.rows) (length sides_b.now.rows)) }
     ensures decisions { IfOk result (AreDecisionsOn sides_a.now.rows sides_b.now.rows (pairs_of_rows blocks.now)) }
 {
     rule.has_cells();

@@ -24,7 +24,7 @@ digit-le Disagree = omega arith
 digit-le Missing = omega arith
 digit-le Rare = omega arith
 
-digit-lt : (r : Bool) (o : Outcome) → (o ≡ Rare → r ≡ true) → digit_of o < outcomes_of r
+pub digit-lt : (r : Bool) (o : Outcome) → (o ≡ Rare → r ≡ true) → digit_of o < outcomes_of r
 digit-lt true o h = let bound = digit-le o in omega arith
 digit-lt false Agree h = omega arith
 digit-lt false Disagree h = omega arith

@@ -44,15 +44,12 @@ returns c =
     let r = c.decide_pairs.result in
     let facts = c.decide_pairs.ensures in
     let told = told_of plan rule c.args.with_rows r p c.in_ok-blocks.blocks c.sides.result.now.rows c.sides-2.result.now.rows c.in_ok-blocks.ensures (ap (λ t. t.rows) c.sides.ensures) (ap (λ t. t.rows) c.sides-2.ensures) (record {
-      refused = facts.refused;
-      within = facts.within;
+      answer = facts.answer;
       rule_is = facts.rule;
       rows_are = facts.rows;
       rows_in = facts.rows_in;
       counts = facts.counts;
-      links_inside = facts.links_inside;
-      possible_inside = facts.possible_inside;
-      possible_rise = facts.possible_rise;
+      lists = facts.lists;
       decisions = facts.decisions;
     }) in
     record {

@@ -47,8 +47,8 @@ view_of c = record { rule = c.args.rule; rows = c.in-Ok.found.rows.items; compar
 pub invariant_of-result : goal.invariant_of-result
 invariant_of-result c = not_more (side_rule c.args.rule c.args.sides_a.now.rows c.args.sides_b.now.rows) (all_of c) (view_of c) (compared c) (links c) (possible c)
 
-pub returns-in-Ok-clause-within : goal.returns-in-Ok-clause-within
-returns-in-Ok-clause-within c = within_limit (all_of c) (few c)
+pub returns-in-Ok-clause-answer : goal.returns-in-Ok-clause-answer
+returns-in-Ok-clause-answer c = within_limit (all_of c) (few c)
 
 rows : (c : In-Ok) → c.in-Ok.found.rows.items ≡ kept_rows c.args.with_rows (decided_rows (side_rule c.args.rule c.args.sides_a.now.rows c.args.sides_b.now.rows) (all_of c))
 rows c =
@@ -62,32 +62,22 @@ returns-in-Ok-clause-rows_in c =
     kept_in c.args.rule c.args.sides_a.now.rows c.args.sides_b.now.rows (all_of c) c.requires.sides_a c.requires.sides_b c.has_cells.ensures c.requires.inside c.requires.rising
     c.args.with_rows c.in-Ok.found.rows.items (rows c)
 
-pub returns-in-Ok-clause-compared : goal.returns-in-Ok-clause-compared
-returns-in-Ok-clause-compared c = compared c
-
-pub returns-in-Ok-clause-links : goal.returns-in-Ok-clause-links
-returns-in-Ok-clause-links c = links c
-
-pub returns-in-Ok-clause-possible : goal.returns-in-Ok-clause-possible
-returns-in-Ok-clause-possible c = possible c
-
 pub returns-in-Ok-clause-counts : goal.returns-in-Ok-clause-counts
 returns-in-Ok-clause-counts c = counted (side_rule c.args.rule c.args.sides_a.now.rows c.args.sides_b.now.rows) (all_of c) (view_of c) (compared c) (links c) (possible c)
 
 abbrev has : In-Ok → Decision → PairAt → Bool
 has c kind at = is_same kind (decision_at (side_rule c.args.rule c.args.sides_a.now.rows c.args.sides_b.now.rows) at)
 
-pub returns-in-Ok-clause-links_inside : goal.returns-in-Ok-clause-links_inside
-returns-in-Ok-clause-links_inside c = found_inside (has c Link) (all_of c) _ (links c) (length c.args.sides_a.now.rows) (length c.args.sides_b.now.rows) c.requires.inside
-
-pub returns-in-Ok-clause-possible_inside : goal.returns-in-Ok-clause-possible_inside
-returns-in-Ok-clause-possible_inside c = found_inside (has c Possible) (all_of c) _ (possible c) (length c.args.sides_a.now.rows) (length c.args.sides_b.now.rows) c.requires.inside
-
-pub returns-in-Ok-clause-links_rise : goal.returns-in-Ok-clause-links_rise
-returns-in-Ok-clause-links_rise c = found_rise (has c Link) (all_of c) _ (links c) c.requires.rising
-
-pub returns-in-Ok-clause-possible_rise : goal.returns-in-Ok-clause-possible_rise
-returns-in-Ok-clause-possible_rise c = found_rise (has c Possible) (all_of c) _ (possible c) c.requires.rising
+pub returns-in-Ok-clause-lists : goal.returns-in-Ok-clause-lists
+returns-in-Ok-clause-lists c =
+    let rows_a = length c.args.sides_a.now.rows in
+    let rows_b = length c.args.sides_b.now.rows in
+    record {
+      links = found_inside (has c Link) (all_of c) _ (links c) rows_a rows_b c.requires.inside;
+      possible = found_inside (has c Possible) (all_of c) _ (possible c) rows_a rows_b c.requires.inside;
+      links_rise = found_rise (has c Link) (all_of c) _ (links c) c.requires.rising;
+      possible_rise = found_rise (has c Possible) (all_of c) _ (possible c) c.requires.rising;
+    }
 
 pub returns-in-Ok-clause-decisions : goal.returns-in-Ok-clause-decisions
 returns-in-Ok-clause-decisions c = record {
@@ -99,8 +89,8 @@ returns-in-Ok-clause-decisions c = record {
   possible = possible c;
 }
 
-pub returns-in-Err-TooManyPairs-clause-refused : goal.returns-in-Err-TooManyPairs-clause-refused
-returns-in-Err-TooManyPairs-clause-refused c =
+pub returns-in-Err-TooManyPairs-clause-answer : goal.returns-in-Err-TooManyPairs-clause-answer
+returns-in-Err-TooManyPairs-clause-answer c =
     let walked : pairs_of_rows c.walk.result.left ≡ pairs_of_rows c.args.blocks.now = ap pairs_of_rows c.walk.ensures.left in
     let P : WalkFault → Type 0 = λ f. RefusesPairs (pairs_of_rows c.walk.result.left) f in
     let refused : P (walk_fault.TooManyPairs c.in-Err-TooManyPairs.limit) = subst P c.in-Err-TooManyPairs.field-0-is c.in-Err-TooManyPairs.ensures.refused in
