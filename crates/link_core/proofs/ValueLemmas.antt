@@ -4,9 +4,9 @@ use Rattle.std.proofs.lemmas.List.{get_or-map, length-map}
 use Rattle.comparators.specs.OfPool.{StandsFor}
 use Rattle.comparators.specs.declared.ids.IdValue.{IdValue}
 use Rattle.comparators.specs.declared.ids.IdValue.TheVariants as id
+use Rattle.link_base.specs.Canons.{exact}
 use Rattle.link_base.specs.Standard.{Record, absent_value, no_record}
 use Rattle.link_base.specs.declared.plan.CompareKind.{CompareKind}
-use Rattle.link_base.specs.declared.plan.CompareKind.TheVariants as by
 use Rattle.link_base.specs.declared.rule.PairAt.{PairAt}
 use Rattle.link_plan.specs.Plan.{FieldKeys}
 use Rattle.link_plan.specs.Ranges.{KeepsRanges}
@@ -33,7 +33,7 @@ stand_for plan texts file rows of sides =
         as_many = sides.as_many;
         stand = λ at within.
             subst (λ (kind : CompareKind). StandsFor texts kind (get_or (get_or file at no_record).row k absent_value) (get_or (get_or rows at []) k id.Absent))
-            (get_or-map (λ (g : FieldKeys). g.compare) plan.fields k f by.Exact lt)
+            (get_or-map (λ (g : FieldKeys). g.compare) plan.fields k f exact lt)
             ((sides.of_row at within).stand k (omega (arith, many, lt)));
       };
     }

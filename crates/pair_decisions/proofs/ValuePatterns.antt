@@ -33,19 +33,13 @@ use Rattle.pair_decisions.specs.RareValues.{StandForFile, StandInField}
 
 -- a kind that may be rare compares canons
 compares_canons : (kind : CompareKind) → may_be_rare kind ≡ true → compares_days kind ≡ false
-compares_canons by.Exact h = refl
-compares_canons by.BySoundex h = refl
-compares_canons by.ByNysiis h = refl
-compares_canons (by.FirstLetters n) h = refl
+compares_canons (by.Same c) h = refl
 compares_canons by.Initials h = refl
 compares_canons (by.DaysWithin t) h = absurd (cc)
 compares_canons (by.YearsWithin t) h = absurd (cc)
 
 by_canons : (kind : CompareKind) (x y : Value) → compares_days kind ≡ false → kind_outcome (kind_of kind) x y ≡ outcome_by outcome_of_texts (canon_of kind x) (canon_of kind y)
-by_canons by.Exact x y h = refl
-by_canons by.BySoundex x y h = refl
-by_canons by.ByNysiis x y h = refl
-by_canons (by.FirstLetters n) x y h = refl
+by_canons (by.Same c) x y h = refl
 by_canons by.Initials x y h = refl
 by_canons (by.DaysWithin t) x y h = absurd (cc)
 by_canons (by.YearsWithin t) x y h = absurd (cc)
