@@ -1,7 +1,8 @@
 """Texts that stand in one chain of a pool: the hash of crates/value_pool, turned against it.
 
 A text of three words of eight bytes whose second word is the hash of the first starts anew at the third, for 0 times the factor is 0.
-So all such texts with the same third word have the same hash, whatever the number of buckets, and the same last word as well. Of some 300 first words one gives a second that can stand in a file, so that thousands of them take a second.
+So all such texts with the same third word have the same hash, whatever the number of buckets, and the same last word as well. Of some
+300 first words one gives a second that can stand in a file, so that thousands of them take a second.
 
 Codes of three or four places are too short for that; `codes.c` finds triples by trying, where there is a C compiler.
 """
