@@ -11,10 +11,12 @@ use Rattle.capacity_assign.specs.declared.market.Ground.{Ground}
 use Rattle.assignment_steps.specs.Market.{link, number}
 use Rattle.assignment_steps.specs.Distances.{distance, far}
 use Rattle.assignment_steps.specs.Spread.{EndsAt, HasStopped, IsNearer, IsNearest, IsRelaxed, IsSpread, Shortens, edge_of}
+use Rattle.assignment_steps.specs.declared.market.Edge.{Edge}
+use Rattle.capacity_assign.specs.Alike.{AreAlike, HasCopies}
 use Rattle.capacity_assign.specs.Seating.{HasPlace, IsLastSeat}
-use Rattle.capacity_assign.specs.Growth.{Growth, IsGrown, IsHeldAt, IsPending, IsReady, IsExhausted, IsTree, Joins, places_left, with_waiting}
+use Rattle.capacity_assign.specs.Growth.{Growth, IsGrown, IsHeldAt, IsPending, IsReady, IsExhausted, IsTree, IsTwin, Joins, places_left, with_waiting}
 use Rattle.assignment_steps.proofs.OneWrite.{distance-set}
-use Rattle.assignment_steps.proofs.Spreading.{cons_first, joins_here, joins_keeps, spread_any, spread_joined, spread_passed, spread_planted, spread_shortened, spread_skip, spread_waiting}
+use Rattle.assignment_steps.proofs.Spreading.{cons_first, joins_here, joins_keeps, spread_any, spread_joined, spread_passed, spread_passed_to, spread_planted, spread_shortened, spread_skip, spread_waiting}
 
 -- where the tree ends, and which records of B wait, does not speak of the edges that are relaxed
 pub tree_marked : (f : Ground) (position next position' next' : ℕ) (g : Growth) → IsTree f position next g → IsSpread f.field position' next' g.spread → IsTree f position' next' g
@@ -28,6 +30,25 @@ tree_skip f position n m g t none = tree_marked f position n position m g t (spr
 
 pub tree_any : (f : Ground) (position position' : ℕ) (g : Growth) → IsTree f position (length f.field.edges.now) g → IsTree f position' (length f.field.edges.now) g
 tree_any f position position' g t = tree_marked f position _ position' _ g t (spread_any f.field position position' g.spread t.spread)
+
+-- where a record of A of equal edges is at the same distance and price, the edges are relaxed as its are
+pub copies_through : (es : List Edge) (rows a r : ℕ) (like : List ℕ) → AreAlike es rows like → a < rows → r < rows → number like r ≡ number like a → HasCopies es a r
+copies_through es rows a r like w la lr same k lt is =
+    let m = w.there a la k lt is in
+    let n = w.back r lr m.0 m.1.place (m.1.record_a ∙ sym same) in
+    (n.0, record { place = n.1.place; record_a = n.1.record_a; record_b = n.1.record_b ∙ m.1.record_b; value = n.1.value ∙ m.1.value })
+
+pub tree_twin : (f : Ground) (position twin : ℕ) (g : Growth) → IsTree f position 0 g → distance g.spread.da position < far → IsTwin f g.spread position twin → IsTree f position (length f.field.edges.now) g
+tree_twin f position twin g t joined w = tree_marked f position 0 position (length f.field.edges.now) g t (spread_passed_to f.field position 0 (length f.field.edges.now) g.spread t.spread (λ j from below lt e.
+    let c = w.copies j lt e in
+    let i = c.0 in
+    let near : distance g.spread.da (edge_of f.field i).a < far = rw (c.1.record_a, w.near) joined in
+    let done : IsRelaxed f.field g.spread i = t.spread.relaxed i c.1.place near (λ same. absurd (w.apart (sym c.1.record_a ∙ same))) in
+    let da : distance g.spread.da (edge_of f.field i).a ≡ distance g.spread.da (edge_of f.field j).a = rw (c.1.record_a, e) w.near in
+    let pa : number f.field.price_a.now (edge_of f.field i).a ≡ number f.field.price_a.now (edge_of f.field j).a = rw (c.1.record_a, e) w.price in
+    let db : distance g.spread.db (edge_of f.field i).b ≡ distance g.spread.db (edge_of f.field j).b = ap (distance g.spread.db) c.1.record_b in
+    let pb : number f.field.price_b.now (edge_of f.field i).b ≡ number f.field.price_b.now (edge_of f.field j).b = ap (number f.field.price_b.now) c.1.record_b in
+    omega (arith, done, da, pa, db, pb, c.1.value)))
 
 -- A record of B is put at a shorter distance, over an edge of the newest record.
 module _ (f : Ground) (k : ℕ) (g g' : Growth) (reach : ℕ) (lt : k < length f.field.edges.now) (ready : IsReady f) (t : IsTree f (edge_of f.field k).a k g) (last : distance g.spread.da (edge_of f.field k).a ≡ g.spread.current) (nearer : IsNearer f.field g.spread k reach) (records : (edge_of f.field k).b < length g.spread.db) (froms : length g.spread.from ≡ length g.spread.db) (top : distance g.spread.db (edge_of f.field k).b ≤ far) (best : g'.spread.best ≡ g.spread.best) (best_record : g'.spread.best_record ≡ g.spread.best_record) (held : g'.held ≡ g.held) (r : Shortens g.spread g'.spread (edge_of f.field k).b k reach) where

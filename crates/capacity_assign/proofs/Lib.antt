@@ -5,3 +5,4 @@ pub mod FirstLinks
 pub mod Growing
 pub mod Rounds
 pub mod Final
+pub mod Copies

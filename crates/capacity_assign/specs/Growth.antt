@@ -1,10 +1,11 @@
 -- Machinery of `search` in `grow`: an alternating tree as it grows, and what it may end at: a record of B with a place
 -- left, or a record of A that gives its link up.
-use Rattle.std.specs.Prelude.{◌≡◌, ◌⊎◌, ℕ, ◌+◌, ◌<◌, ◌≤◌, List, length, Bool, Option, Some, Contains, vec_len}
+use Rattle.std.specs.Prelude.{◌≡◌, ◌≢◌, ◌⊎◌, ℕ, ◌+◌, ◌<◌, ◌≤◌, List, length, Bool, Option, Some, Contains, vec_len}
 use Rattle.assignment_steps.specs.declared.market.Edge.{Edge}
 use Rattle.capacity_assign.specs.declared.market.Tree.{Tree}
 use Rattle.capacity_assign.specs.declared.market.Ground.{Ground}
 use Rattle.assignment_steps.specs.Market.{link, number}
+use Rattle.capacity_assign.specs.Alike.{AreAlike, HasCopies}
 use Rattle.capacity_assign.specs.Seating.{AreSeats, HasPlace, seating}
 use Rattle.assignment_steps.specs.Distances.{distance, far}
 use Rattle.assignment_steps.specs.Reached.{IsClean}
@@ -26,6 +27,7 @@ pub record IsReady (f : Ground) : Type 0 where
   pub seats : vec_len f.seats.now.sitter ≡ length f.field.price_a.now
   pub earliers : vec_len f.seats.now.earlier ≡ length f.field.price_a.now
   pub seated : AreSeats f.field.edges.now f.field.link_a.now (seating f.seats.now)
+  pub alike : AreAlike f.field.edges.now (length f.field.price_a.now) f.like.now
 
 -- how many places a record of B has left
 abbrev pub places_left : Ground → ℕ → ℕ
@@ -50,6 +52,13 @@ pub record IsTree (f : Ground) (position next : ℕ) (g : Growth) : Type 0 where
   pub ends : EndsAt f.field g.spread g.spread.best g.spread.best_record
   pub pending : (b : ℕ) → distance g.spread.db b < far → IsPending f g.spread g.held b
   pub held_at : (b : ℕ) → g.held ≡ Some b → IsHeldAt f g.spread b
+
+-- another record of A with the edges and the price of one that joined last is at its distance
+pub record IsTwin (f : Ground) (s : Spread) (position twin : ℕ) : Type 0 where
+  pub apart : twin ≢ position
+  pub near : distance s.da twin ≡ distance s.da position
+  pub price : number f.field.price_a.now twin ≡ number f.field.price_a.now position
+  pub copies : HasCopies f.field.edges.now position twin
 
 -- the growth with other entries waiting
 abbrev pub with_waiting : List (ℕ × ℕ) → Growth → Growth

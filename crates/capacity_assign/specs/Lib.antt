@@ -1,6 +1,7 @@
 pub mod Solution
 pub mod Core
 pub mod Seating
+pub mod Alike
 pub mod Growth
 pub mod Round
 pub mod Final

@@ -5,6 +5,7 @@ use Rattle.link_limits.specs.declared.TheConstants.{MOST_VALUE}
 use Rattle.price_check.specs.Assignment.{IsBefore}
 use Rattle.price_check.specs.Capacities.{capacity_of}
 use Rattle.capacity_assign.specs.declared.assigner.CapacityAssigner.TheInside.{Inside}
+use Rattle.capacity_assign.specs.Alike.{AreAlike}
 use Rattle.capacity_assign.specs.Core.{linked_at}
 use Rattle.assignment_steps.specs.Market.{number, AreListed}
 use Rattle.capacity_assign.specs.Growth.{IsAtRest}
@@ -17,6 +18,7 @@ pub record IsPrepared (s : Inside) : Type 0 where
   pub order : AllPairs IsBefore s.candidates.items
   pub edges : s.edges.items ≡ edges_of s.candidates.items
   pub listed : AreListed s.edges.items (length s.price_a.items) s.starts.items
+  pub alike : AreAlike s.edges.items (length s.price_a.items) s.like.items
   pub between : IsBetweenRounds s.edges.items s.price_a.items s.price_b.items s.link_a.items (seating s.seats) 0
   pub places : (b : ℕ) → number s.seats.left.items b + linked_at s.edges.items s.link_a.items b ≡ capacity_of s.capacity.items b
   pub rows_a : length s.price_a.items ≡ s.rows_a

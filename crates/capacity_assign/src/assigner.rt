@@ -4,11 +4,13 @@ ghost use Rattle.price_check.specs.Assignment.{IsBefore, IsWithin, price_of};
 ghost use Rattle.price_check.specs.Capacities.{CertifiesWithin, IsGreatestWithin};
 ghost use Rattle.capacity_assign.specs.Solution.{HasSmallValue, IsAllowedCapacity};
 ghost use Rattle.assignment_steps.specs.Market.{AreListed};
+ghost use Rattle.capacity_assign.specs.Alike.{AreAlike};
 ghost use Rattle.capacity_assign.specs.Growth.{IsAtRest};
 ghost use Rattle.capacity_assign.specs.Round.{IsBetweenRounds, KeepsCapacities};
 ghost use Rattle.capacity_assign.specs.Seating.{seating};
 ghost use Rattle.link_limits.specs.declared.TheConstants.{MOST_VALUE};
 
+use crate::alike::like_of;
 use crate::market::{Seats, Tree};
 use crate::phases::all_rounds;
 use crate::start::{listed_edges, start_of};
@@ -27,6 +29,7 @@ pub struct CapacityAssigner {
     candidates: Vec<Candidate>,
     edges: Vec<Edge>,
     starts: Vec<usize>,
+    like: Vec<usize>,
     price_a: Vec<u64>,
     price_b: Vec<u64>,
     link_a: Vec<Option<usize>>,
@@ -74,17 +77,19 @@ fn run(
     price_b: &mut Vec<u64>,
     link_a: &mut Vec<Option<usize>>,
     seats: &mut Seats,
+    like: &Vec<usize>,
     tree: &mut Tree,
 )
     requires listed { AreListed edges.now.items (length price_a.old.items) starts.now.items }
     requires between { IsBetweenRounds edges.now.items price_a.old.items price_b.old.items link_a.old.items (seating seats.old) 0 }
+    requires alike { AreAlike edges.now.items (length price_a.old.items) like.now.items }
     requires tree { IsAtRest edges.now.items (length price_a.old.items) (length price_b.old.items) tree.old }
     ensures between { IsBetweenRounds edges.now.items price_a.new.items price_b.new.items link_a.new.items (seating seats.new) (length price_a.new.items) }
     ensures places { KeepsCapacities edges.now.items link_a.old.items seats.old.left.items link_a.new.items seats.new.left.items }
     ensures rows_a { length price_a.new.items ≡ length price_a.old.items }
     ensures rows_b { length price_b.new.items ≡ length price_b.old.items }
 {
-    all_rounds(edges, starts, price_a, price_b, link_a, seats, tree);
+    all_rounds(edges, starts, price_a, price_b, link_a, seats, like, tree);
 }
 
 impl CapacityAssigner {
@@ -108,6 +113,8 @@ impl CapacityAssigner {
         ensures candidates { IfOk result (λ s. s.candidates ≡ candidates.now) }
     {
         let listed = listed_edges(alloc, rows_a as usize, candidates)?;
+        // Before the rest is taken, since it gives back what it notes records in.
+        let like = like_of(alloc, &listed.edges, &listed.starts, rows_a as usize)?;
         let capacities = Vec::from_slice(alloc, capacity)?;
         let kept = Vec::from_slice(alloc, candidates)?;
         let start = start_of(alloc, &listed.edges, rows_a as usize, capacity)?;
@@ -117,6 +124,7 @@ impl CapacityAssigner {
             candidates: kept,
             edges: listed.edges,
             starts: listed.starts,
+            like,
             price_a: start.prices.a,
             price_b: start.prices.b,
             link_a: start.link_a,
@@ -139,6 +147,7 @@ impl CapacityAssigner {
             candidates,
             edges,
             starts,
+            like,
             mut price_a,
             mut price_b,
             mut link_a,
@@ -152,6 +161,7 @@ impl CapacityAssigner {
             &mut price_b,
             &mut link_a,
             &mut seats,
+            &like,
             &mut tree,
         );
         drop(seats);

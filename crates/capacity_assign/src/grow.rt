@@ -1,9 +1,9 @@
 // The growth of a tree.
-ghost use Rattle.std.specs.Prelude.{◌≡◌, ◌+◌, ◌-◌, ◌<◌, ◌≤◌, ℕ, length, ◌∷◌, None, Some, MatchBool, false};
+ghost use Rattle.std.specs.Prelude.{◌≡◌, ◌+◌, ◌-◌, ◌<◌, ◌≤◌, ℕ, length, ◌∷◌, None, Some, MatchBool, IsTrue, false};
 ghost use Rattle.link_limits.specs.declared.TheConstants.{MOST_VALUE};
 ghost use Rattle.assignment_steps.specs.Market.{number, IsRising};
-ghost use Rattle.capacity_assign.specs.Growth.{IsTree, growth, IsReady, Joins, HasGrown, with_waiting, places_left, IsGrown};
-ghost use Rattle.assignment_steps.specs.Spread.{IsNearest, edge_of};
+ghost use Rattle.capacity_assign.specs.Growth.{IsTree, growth, IsReady, Joins, HasGrown, with_waiting, places_left, IsGrown, IsTwin};
+ghost use Rattle.assignment_steps.specs.Spread.{IsNearest, edge_of, spread};
 ghost use Rattle.assignment_steps.specs.Reached.{HasRoomForRecords, work, FitsQueue, IsClean};
 ghost use Rattle.assignment_steps.specs.Distances.{distance, far};
 
@@ -73,6 +73,62 @@ fn relax_record(ground: Ground<'_>, tree: &mut Tree, position: usize)
     }
 }
 
+/// Whether a record of A with the edges and the price of another has joined at that one's distance, by what is noted.
+fn has_twin(ground: Ground<'_>, tree: &Tree, position: usize) -> bool
+    requires inside { position < length ground.field.price_a.now }
+    requires ready { IsReady ground }
+    requires room { HasRoomForRecords (length ground.field.price_a.now) (length ground.field.price_b.now) tree.now.reached }
+    ensures { IsTrue result → (twin : ℕ) × IsTwin ground.entry (spread tree.now.reached) position twin }
+{
+    let like = ground.like[position];
+    if like >= tree.twin.len() {
+        return false;
+    }
+    let twin = tree.twin[like];
+    if twin == position || twin >= ground.like.len() || ground.like[twin] != like {
+        return false;
+    }
+    if tree.reached.dist_a[twin] != tree.reached.dist_a[position] {
+        return false;
+    }
+    ground.field.price_a[twin] == ground.field.price_a[position]
+}
+
+/// Notes that the edges of a record of A are relaxed.
+fn note_twin(ground: Ground<'_>, tree: &mut Tree, position: usize)
+    requires inside { position < length ground.like.now }
+    ensures rest { tree.new ≡ record tree.old { twin = tree.new.twin } }
+{
+    let like = ground.like[position];
+    if like < tree.twin.len() {
+        tree.twin[like] = position;
+    }
+}
+
+/// Relaxes the edges of the record of A that joined last, where those of no record that is like it are.
+fn relax_joined(ground: Ground<'_>, tree: &mut Tree, position: usize)
+    requires inside { position < length ground.field.price_a.now }
+    requires ready { IsReady ground }
+    requires rising { IsRising ground.field.edges.now }
+    requires last { distance tree.old.reached.dist_a.items position ≡ tree.old.reached.current }
+    requires tree { IsTree ground position 0 (growth tree.old) }
+    requires room { HasRoomForRecords (length ground.field.price_a.now) (length ground.field.price_b.now) tree.old.reached }
+    requires queue { FitsQueue ground.field.edges.now position 0 tree.old.reached }
+    ensures tree { IsTree ground.entry position (length ground.entry.field.edges.now) (growth tree.new) }
+    ensures room { HasRoomForRecords (length ground.entry.field.price_a.now) (length ground.entry.field.price_b.now) tree.new.reached }
+    ensures work { work ground.entry.field.edges.now position (length ground.entry.field.edges.now) tree.new.reached ≤ work ground.entry.field.edges.now position 0 tree.old.reached }
+    ensures queue { tree.old.reached.frontier.room ≤ tree.new.reached.frontier.room }
+    ensures held { tree.new.held ≡ tree.old.held }
+    ensures current { tree.new.reached.current ≡ tree.old.reached.current }
+    ensures dist_a { tree.new.reached.dist_a.items ≡ tree.old.reached.dist_a.items }
+{
+    if has_twin(ground, tree, position) {
+        return;
+    }
+    relax_record(ground, tree, position);
+    note_twin(ground, tree, position);
+}
+
 /// The record of A at the seat `n` of the record of B that is held joins the tree, at the distance of its newest
 /// record, where it has not joined yet, and its edges are relaxed.
 fn join_seat(ground: Ground<'_>, tree: &mut Tree, n: usize)
@@ -98,7 +154,7 @@ fn join_seat(ground: Ground<'_>, tree: &mut Tree, n: usize)
     }
     let dist = tree.reached.current;
     join(ground, tree, position, dist);
-    relax_record(ground, tree, position);
+    relax_joined(ground, tree, position);
 }
 
 /// The record of B that is the nearest, and has no place left, is held.

@@ -3,6 +3,7 @@
 //! 1955, shortest augmenting paths of Edmonds and Karp 1972).
 #![tactic(auto)]
 
+mod alike;
 mod assigner;
 mod grow;
 mod market;

@@ -24,17 +24,21 @@ pub struct Hole {
     pub seat: usize,
 }
 
-/// What a tree is grown over, with the seats at the records of B.
+/// What a tree is grown over, with the seats at the records of B. `like` has beside each record of A one of the same
+/// edges, which may be itself.
 #[derive(Clone, Copy)]
 pub struct Ground<'a> {
     pub field: Field<'a>,
     pub seats: &'a Seats,
+    pub like: &'a [usize],
 }
 
 /// An alternating tree as it grows, with what it has reached: its nearest end so far is at a record of A. `held` is the
-/// record of B whose records of A are joining.
+/// record of B whose records of A are joining. `twin` is a note: at the place that `like` has beside a record of A stands
+/// the last one whose edges were relaxed, of this search or an earlier one. It is tested where it is used.
 #[derive(Drop)]
 pub struct Tree {
     pub reached: Reached,
     pub held: Option<usize>,
+    pub twin: Vec<usize>,
 }

@@ -1,6 +1,7 @@
 // All of a solution: links over tight edges, and every record of A taken up in turn.
 ghost use Rattle.std.specs.Prelude.{length};
 ghost use Rattle.assignment_steps.specs.Market.{AreListed};
+ghost use Rattle.capacity_assign.specs.Alike.{AreAlike};
 ghost use Rattle.capacity_assign.specs.Growth.{IsAtRest};
 ghost use Rattle.capacity_assign.specs.Round.{IsBetweenRounds, KeepsCapacities};
 ghost use Rattle.capacity_assign.specs.Seating.{seating};
@@ -18,10 +19,12 @@ pub fn all_rounds(
     price_b: &mut [u64],
     link_a: &mut [Option<usize>],
     seats: &mut Seats,
+    like: &[usize],
     tree: &mut Tree,
 )
     requires listed { AreListed edges.now (length price_a.old) starts.now }
     requires between { IsBetweenRounds edges.now price_a.old price_b.old link_a.old (seating seats.old) 0 }
+    requires alike { AreAlike edges.now (length price_a.old) like.now }
     requires tree { IsAtRest edges.now (length price_a.old) (length price_b.old) tree.old }
     ensures between { IsBetweenRounds edges.now price_a.new price_b.new link_a.new (seating seats.new) (length price_a.new) }
     ensures places { KeepsCapacities edges.now link_a.old seats.old.left.items link_a.new seats.new.left.items }
@@ -33,6 +36,8 @@ pub fn all_rounds(
     };
     link_tight(net, link_a, seats);
     for root in 0..price_a.len() {
-        round(edges, starts, price_a, price_b, link_a, seats, tree, root);
+        round(
+            edges, starts, price_a, price_b, link_a, seats, like, tree, root,
+        );
     }
 }

@@ -2,6 +2,7 @@
 ghost use Rattle.std.specs.Prelude.{◌≡◌, ◌+◌, ◌<◌, ℕ, length, None, MatchOption};
 ghost use Rattle.assignment_steps.specs.Market.{AreLinked, IsInRange, link, AreTight, AreListed};
 ghost use Rattle.assignment_steps.specs.Between.{IsDone};
+ghost use Rattle.capacity_assign.specs.Alike.{AreAlike};
 ghost use Rattle.capacity_assign.specs.Growth.{IsAtRest};
 ghost use Rattle.assignment_steps.specs.Ways.{AreTurnedFrom, LeadsFromEnd};
 ghost use Rattle.capacity_assign.specs.Round.{IsBetweenRounds, KeepsCapacities};
@@ -58,18 +59,20 @@ fn turn(
 
 /// Takes a record of A up that has no link: a tree grows from it, prices change by it, and links are turned
 /// round. The record is linked afterwards, or its price is 0.
-pub fn take_up(
-    edges: &[Edge],
-    starts: &[usize],
+pub fn take_up<'a>(
+    edges: &'a [Edge],
+    starts: &'a [usize],
     price_a: &mut [u64],
     price_b: &mut [u64],
     link_a: &mut [Option<usize>],
     seats: &mut Seats,
+    like: &'a [usize],
     tree: &mut Tree,
     root: usize,
 )
     requires listed { AreListed edges.now (length price_a.old) starts.now }
     requires root { root < length price_a.old }
+    requires alike { AreAlike edges.now (length price_a.old) like.now }
     requires free { link link_a.old root ≡ None }
     requires between { IsBetweenRounds edges.now price_a.old price_b.old link_a.old (seating seats.old) 0 }
     requires tree { IsAtRest edges.now (length price_a.old) (length price_b.old) tree.old }
@@ -87,7 +90,7 @@ pub fn take_up(
         link_a,
         root,
     };
-    let ground = Ground { field, seats };
+    let ground = Ground { field, seats, like };
     let grown = search(ground, tree);
     tree.reached.shift(price_a, price_b, grown.end);
     let net = Net {
@@ -104,18 +107,20 @@ pub fn take_up(
 }
 
 /// Takes a record of A up: afterwards it is linked, or its price is 0.
-pub fn round(
-    edges: &[Edge],
-    starts: &[usize],
+pub fn round<'a>(
+    edges: &'a [Edge],
+    starts: &'a [usize],
     price_a: &mut [u64],
     price_b: &mut [u64],
     link_a: &mut [Option<usize>],
     seats: &mut Seats,
+    like: &'a [usize],
     tree: &mut Tree,
     root: usize,
 )
     requires listed { AreListed edges.now (length price_a.old) starts.now }
     requires root { root < length price_a.old }
+    requires alike { AreAlike edges.now (length price_a.old) like.now }
     requires between { IsBetweenRounds edges.now price_a.old price_b.old link_a.old (seating seats.old) root }
     requires tree { IsAtRest edges.now (length price_a.old) (length price_b.old) tree.old }
     ensures between { IsBetweenRounds edges.now price_a.new price_b.new link_a.new (seating seats.new) (root + 1) }
@@ -125,5 +130,7 @@ pub fn round(
     if link_a[root].is_some() {
         return;
     }
-    take_up(edges, starts, price_a, price_b, link_a, seats, tree, root);
+    take_up(
+        edges, starts, price_a, price_b, link_a, seats, like, tree, root,
+    );
 }

@@ -71,9 +71,12 @@ pub fn clean_tree(
     ensures clean { IfOk result (λ t. IsClean rows_a rows_b t.reached) }
     ensures queue { IfOk result (λ t. edges ≤ t.reached.frontier.room) }
 {
+    // The lists of `reached` last, so that where memory is wanting none of them is to be given back.
+    let twin = vec![in alloc; rows_a; rows_a]?;
     let reached = Reached::new(alloc, rows_a, rows_b, edges)?;
     Ok(Tree {
         reached,
         held: None,
+        twin,
     })
 }

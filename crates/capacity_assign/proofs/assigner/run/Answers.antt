@@ -10,6 +10,7 @@ all_rounds-requires c =
     record {
       listed = rw (edges, c.deref-2.ensures.value, pa) c.requires.listed;
       between = rw (edges, pa, pb, c.deref_mut-3.ensures.value) c.requires.between;
+      alike = rw (edges, pa, c.deref-3.ensures.value) c.requires.alike;
       tree = rw (edges, pa, pb) c.requires.tree;
     }
 

@@ -28,19 +28,19 @@ returns-then-index-ne-FARTHEST-clause-joined c =
 pub join-requires-clause-in_range : goal.join-requires-clause-in_range
 join-requires-clause-in_range c = (at_seat c.args.ground c.args.n c.index-position.result.now c.requires.ready c.requires.seat c.index-position.ensures).inside
 
-pub relax_record-requires-clause-inside : goal.relax_record-requires-clause-inside
-relax_record-requires-clause-inside c = (at_seat c.args.ground c.args.n c.index-position.result.now c.requires.ready c.requires.seat c.index-position.ensures).inside
+pub relax_joined-requires-clause-inside : goal.relax_joined-requires-clause-inside
+relax_joined-requires-clause-inside c = (at_seat c.args.ground c.args.n c.index-position.result.now c.requires.ready c.requires.seat c.index-position.ensures).inside
 
-pub relax_record-requires-clause-last : goal.relax_record-requires-clause-last
-relax_record-requires-clause-last c =
+pub relax_joined-requires-clause-last : goal.relax_joined-requires-clause-last
+relax_joined-requires-clause-last c =
     let t = c.args.tree.now in
     let position = c.index-position.result.now in
     let at = at_seat c.args.ground c.args.n position c.requires.ready c.requires.seat c.index-position.ensures in
     let records : position < length t.reached.dist_a.items = omega (arith, at.inside, c.requires.room.of_a, t.reached.dist_a.ok.0) in
     rw (c.join.ensures.joins.spread.da, c.join.ensures.joins.spread.current) (get_or-set_same t.reached.dist_a.items position t.reached.current far records)
 
-pub relax_record-requires-clause-tree : goal.relax_record-requires-clause-tree
-relax_record-requires-clause-tree c =
+pub relax_joined-requires-clause-tree : goal.relax_joined-requires-clause-tree
+relax_joined-requires-clause-tree c =
     let t = c.args.tree.now in
     let f = c.args.ground in
     let position = c.index-position.result.now in
@@ -54,8 +54,8 @@ relax_record-requires-clause-tree c =
     let made : IsTree f (edge_of f.field k).a 0 (growth c.join.new.tree) = tree_joining f 0 (growth t) (growth c.join.new.tree) k t.reached.current c.requires.ready c.requires.tree (rw at.record_a new) (rw at.record_a records) (rw at.record_a ranks) at.on (rw at.owned c.requires.owned) refl (rw at.record_a joins) in
     rw at.record_a at made
 
-pub relax_record-requires-clause-queue : goal.relax_record-requires-clause-queue
-relax_record-requires-clause-queue c =
+pub relax_joined-requires-clause-queue : goal.relax_joined-requires-clause-queue
+relax_joined-requires-clause-queue c =
     let t = c.args.tree.now in
     let es = c.args.ground.field.edges.now in
     let position = c.index-position.result.now in
@@ -68,7 +68,7 @@ relax_record-requires-clause-queue c =
     omega (arith, same, c.requires.queue, ap (λ q. q.count) c.join.ensures.queue, ap (λ q. q.room) c.join.ensures.queue)
 
 pub returns-clause-tree : goal.returns-clause-tree
-returns-clause-tree c = tree_any c.args.ground _ 0 _ c.relax_record.ensures.tree
+returns-clause-tree c = tree_any c.args.ground _ 0 _ c.relax_joined.ensures.tree
 
 pub returns-clause-work : goal.returns-clause-work
 returns-clause-work c =
@@ -81,8 +81,8 @@ returns-clause-work c =
     let new : distance t.reached.dist_a.items position ≡ far = sym read ∙ c.if-index-ne-FARTHEST.false in
     let near : t.reached.current < far = omega (arith, c.requires.tree.spread.now, c.requires.tree.spread.best_small) in
     let same : left es c.join.new.tree.reached.dist_a.items position 0 ≡ left es t.reached.dist_a.items 0 (length es) = rw c.join.ensures.joins.spread.da (left_joined es t.reached.dist_a.items position 0 t.reached.current records new near) in
-    let any = left_any es c.relax_record.new.tree.reached.dist_a.items position 0 in
-    omega (arith, same, any, c.relax_record.ensures.work, ap (λ q. q.count) c.join.ensures.queue)
+    let any = left_any es c.relax_joined.new.tree.reached.dist_a.items position 0 in
+    omega (arith, same, any, c.relax_joined.ensures.work, ap (λ q. q.count) c.join.ensures.queue)
 
 pub returns-clause-stays : goal.returns-clause-stays
 returns-clause-stays c =
@@ -90,7 +90,7 @@ returns-clause-stays c =
     let at = at_seat c.args.ground c.args.n c.index-position.result.now c.requires.ready c.requires.seat c.index-position.ensures in
     let records : c.index-position.result.now < length t.reached.dist_a.items = omega (arith, at.inside, c.requires.room.of_a, t.reached.dist_a.ok.0) in
     let near : t.reached.current < far = omega (arith, c.requires.tree.spread.now, c.requires.tree.spread.best_small) in
-    rw c.relax_record.ensures.dist_a (joins_stays c.args.ground (growth t) (growth c.join.new.tree) c.index-position.result.now t.reached.current c.join.ensures.joins records near)
+    rw c.relax_joined.ensures.dist_a (joins_stays c.args.ground (growth t) (growth c.join.new.tree) c.index-position.result.now t.reached.current c.join.ensures.joins records near)
 
 pub returns-clause-joined : goal.returns-clause-joined
 returns-clause-joined c =
@@ -99,4 +99,4 @@ returns-clause-joined c =
     let at = at_seat c.args.ground c.args.n position c.requires.ready c.requires.seat c.index-position.ensures in
     let records : position < length t.reached.dist_a.items = omega (arith, at.inside, c.requires.room.of_a, t.reached.dist_a.ok.0) in
     let near : t.reached.current < far = omega (arith, c.requires.tree.spread.now, c.requires.tree.spread.best_small) in
-    rw (at.is, c.relax_record.ensures.dist_a, c.join.ensures.joins.spread.da, get_or-set_same t.reached.dist_a.items position t.reached.current far records) near
+    rw (at.is, c.relax_joined.ensures.dist_a, c.join.ensures.joins.spread.da, get_or-set_same t.reached.dist_a.items position t.reached.current far records) near

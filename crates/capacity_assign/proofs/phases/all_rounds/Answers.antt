@@ -12,6 +12,7 @@ round-requires c =
     record {
       listed = rw c.loop-root.auto.price_a c.requires.listed;
       root = rw c.loop-root.auto.price_a c.loop-root-test.true;
+      alike = rw c.loop-root.auto.price_a c.requires.alike;
       between = i.between;
       tree = i.tree;
     }

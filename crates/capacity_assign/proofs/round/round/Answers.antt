@@ -21,6 +21,7 @@ pub take_up-requires : goal.take_up-requires
 take_up-requires c = record {
   listed = c.requires.listed;
   root = c.requires.root;
+  alike = c.requires.alike;
   free = not_linked (link c.args.link_a.now c.args.root) (sym c.if-is_some.ensures);
   between = between_any _ _ _ _ _ c.args.root 0 c.requires.between (λ a low none. absurd (omega (arith, low)));
   tree = c.requires.tree;

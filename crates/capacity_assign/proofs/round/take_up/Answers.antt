@@ -18,6 +18,7 @@ search-grown-requires c =
         seats = omega (arith, w.seated.sitters, w.priced.rows_a, s.sitter.ok.0);
         earliers = omega (arith, w.seated.earliers, w.priced.rows_a, s.earlier.ok.0);
         seated = w.seated;
+        alike = c.requires.alike;
       };
       rising = c.requires.listed.rising;
       clean = c.requires.tree.clean;

@@ -7,10 +7,10 @@ use Rattle.capacity_assign.proofs.Final.{between_first, places_first}
 use Rattle.capacity_assign.proofs.assigner.CapacityAssigner.new.Goals as goal
 
 pub start_of-requires-clause-small : goal.start_of-requires-clause-small
-start_of-requires-clause-small c = rw (c.deref.ensures.value, c.in_ok-listed.ensures.edges) (small_edges c.args.candidates.now c.requires.small)
+start_of-requires-clause-small c = rw (c.deref-3.ensures.value, c.in_ok-listed.ensures.edges) (small_edges c.args.candidates.now c.requires.small)
 
 pub start_of-requires-clause-in_range : goal.start_of-requires-clause-in_range
-start_of-requires-clause-in_range c = rw (c.deref.ensures.value, c.in_ok-listed.ensures.edges) (range_edges c.args.candidates.now c.args.rows_a (length c.args.capacity.now) c.requires.within)
+start_of-requires-clause-in_range c = rw (c.deref-3.ensures.value, c.in_ok-listed.ensures.edges) (range_edges c.args.candidates.now c.args.rows_a (length c.args.capacity.now) c.requires.within)
 
 pub invariant_of-result : goal.invariant_of-result
 invariant_of-result c =
@@ -20,12 +20,13 @@ invariant_of-result c =
     let places = c.in_ok-capacities.ensures.items in
     let made = c.in_ok-listed.ensures.edges in
     let s = c.in_ok-start.start in
-    let start : IsAtStart (edges_of cs) c.args.rows_a ns s = rw (c.deref.ensures.value, made) at c.in_ok-start.ensures in
+    let start : IsAtStart (edges_of cs) c.args.rows_a ns s = rw (c.deref-3.ensures.value, made) at c.in_ok-start.ensures in
     let closed = start.prices.closed in
     let reach = start.prices.reach in
     record {
       order = rw kept c.requires.rising;
       edges = made ∙ ap edges_of (sym kept);
+      alike = rw reach.records (rw c.deref.ensures.value at c.in_ok-like.ensures);
       listed = record {
         rising = rw made (rising_edges cs c.requires.rising);
         small = rw made (small_edges cs c.requires.small);

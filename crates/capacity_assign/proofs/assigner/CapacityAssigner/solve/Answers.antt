@@ -11,7 +11,7 @@ use Rattle.capacity_assign.proofs.Final.{within, certifies}
 use Rattle.capacity_assign.proofs.assigner.CapacityAssigner.solve.Goals as goal
 
 pub run-requires : goal.run-requires
-run-requires c = (let i = c.self.invariant in record { listed = i.listed; between = i.between; tree = i.tree })
+run-requires c = (let i = c.self.invariant in record { listed = i.listed; between = i.between; alike = i.alike; tree = i.tree })
 
 pub linked-links-requires : goal.linked-links-requires
 linked-links-requires c = rw (c.deref.ensures.value, c.deref-2.ensures.value) (record { links = λ a k h. (c.run.ensures.between.priced.linked a k h).0 })
