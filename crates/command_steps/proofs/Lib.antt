@@ -1,3 +1,1 @@
-pub mod StepFacts
-pub mod DoesFacts
-pub mod PutFacts
+pub mod PlanFacts

@@ -10,7 +10,7 @@ use Rattle.link_core.specs.Rules.{counted_by}
 use Rattle.pair_decisions.specs.PlanShares.{given_in}
 use Rattle.link_plan.specs.Plan.{PlainShares}
 use Rattle.standard_files.specs.Files.{StandardPair}
-use Rattle.command_steps.specs.Steps.{◌>>=◌, file, gives, Steps}
+use Rattle.command_scripts.specs.Steps.{◌>>=◌, file, gives, Steps}
 use Rattle.command_steps.specs.declared.front.Described.{Described}
 use Rattle.command_steps.specs.declared.front.Inputs.{Inputs}
 use Rattle.command_steps.specs.declared.front.Shared.{Shared}

@@ -1,9 +1,2 @@
-pub mod Causes
-pub mod Loads
-pub mod Seen
-pub mod Steps
-pub mod Due
-pub mod Does
-pub mod Ways
 pub mod Front
 pub mod Reviewed

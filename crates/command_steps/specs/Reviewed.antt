@@ -15,9 +15,9 @@ use Rattle.link_core.specs.Prepared.{files_of, PreparedView}
 use Rattle.link_core.specs.Results.{IsDecidedFor}
 use Rattle.link_core.specs.Review.{journal_in_files}
 use Rattle.link_core.specs.Rules.{IsPreparedFor}
-use Rattle.command_steps.specs.Due.{Put}
+use Rattle.command_scripts.specs.Due.{Put}
 use Rattle.command_steps.specs.Front.{plan_file, prepared_files, shares_over}
-use Rattle.command_steps.specs.Steps.{◌>>=◌, file, gives, Steps}
+use Rattle.command_scripts.specs.Steps.{◌>>=◌, file, gives, Steps}
 use Rattle.command_steps.specs.declared.reviewed.DecidedPlan.{DecidedPlan}
 use Rattle.command_steps.specs.declared.reviewed.Reviewed.{Reviewed}
 use Rattle.command_steps.specs.declared.reviewed.ReviewedSettings.{ReviewedSettings}

@@ -1,8 +1,8 @@
 // What several commands load at their front.
 ghost use Rattle.std.specs.Prelude.{◌≡◌, IfErr, IfOk, IsUtf8, None, Ok, Some};
 ghost use Rattle.command_steps.specs.Front.{both_files, described_files, described_of, plan_file, prepared_files, shared_plan, shares_of, shares_over};
-ghost use Rattle.command_steps.specs.Seen.{store_seen};
-ghost use Rattle.command_steps.specs.Steps.{seen_by, Takes};
+ghost use Rattle.command_scripts.specs.Seen.{store_seen};
+ghost use Rattle.command_scripts.specs.Steps.{seen_by, Takes};
 ghost use Rattle.link_base.specs.Fault.{Gives, IsAnswer, IsInputFault};
 ghost use Rattle.link_core.specs.Prepared.{files_of, prepared};
 ghost use Rattle.link_core.specs.Rules.{IsPreparedFor, shared_rares};
@@ -11,7 +11,7 @@ ghost use Rattle.pair_decisions.specs.Comparators.{rares_of};
 ghost use Rattle.pair_decisions.specs.PlanShares.{given_in};
 ghost use Rattle.link_plan.specs.Ranges.{KeepsRanges, NamesFiles};
 
-use crate::load::load_file;
+use command_scripts::load_file;
 use link_base::{Fault, FileRole, NoMemory, Text};
 use link_core::{PlanShares, Prepared, counted, prepare, prepare_texts};
 use link_limits::MOST_DISTINCT_BYTES;

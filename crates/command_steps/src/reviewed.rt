@@ -1,9 +1,9 @@
 // What the decisions and the journal of a plan come to.
 ghost use Rattle.std.specs.Prelude.{◌≡◌, ◌∷◌, [], codes, Err, IfOk, IsSome, Some, true};
 ghost use Rattle.command_steps.specs.Reviewed.{decided_plan, found_of, IsReviewed, journal_file, journal_plan, put_of_journal, review_of, reviewed_plan, reviewed_settings, shared_decisions_of};
-ghost use Rattle.command_steps.specs.Seen.{store_seen};
-ghost use Rattle.command_steps.specs.Steps.{seen_by, Takes};
-ghost use Rattle.command_steps.specs.Ways.{PutsAll};
+ghost use Rattle.command_scripts.specs.Seen.{store_seen};
+ghost use Rattle.command_scripts.specs.Steps.{seen_by, Takes};
+ghost use Rattle.command_scripts.specs.Ways.{PutsAll};
 ghost use Rattle.link_base.specs.Fault.{IsInputFault, Refuses};
 ghost use Rattle.link_base.specs.declared.fault.Fault.TheVariants as fault;
 ghost use Rattle.link_core.specs.Decisions.{IsDecidedIn};
@@ -14,9 +14,8 @@ ghost use Rattle.pair_decisions.specs.PlanRule.{IsRuleOf};
 ghost use Rattle.link_plan.specs.Ranges.{KeepsRanges, NamesFiles};
 ghost use Rattle.link_plan.specs.declared.plan.Plan.{Plan as AnyPlan};
 
-use crate::ends::{Ended, Output, put_each};
 use crate::front::{file_name, load_plan, load_prepared, load_shares_over};
-use crate::load::load_file;
+use command_scripts::{Ended, Output, load_file, put_each};
 use link_base::{Fault, FileRole, NoMemory, Text};
 use link_core::{Decided, PlanShares, Prepared, decide_all, journal_in_files};
 use link_outside::Store;

@@ -27,16 +27,16 @@ use Rattle.link_plan.specs.declared.plan.Plan.{Plan}
 use Rattle.written_check.specs.Short.{AreShort}
 use Rattle.written_check.specs.Verified.{WrittenTexts}
 use Rattle.written_check.specs.declared.refutation.Refutation.{Refutation}
-use Rattle.command_steps.proofs.StepFacts.{no_err, ok_same, outcome_go}
-use Rattle.command_steps.specs.Does.{Ends}
-use Rattle.command_steps.specs.Due.{after_puts, ended_of, HoldsAll, prints, puts, TakesAll}
+use Rattle.command_scripts.proofs.StepFacts.{no_err, ok_same, outcome_go}
+use Rattle.command_scripts.specs.Does.{Ends}
+use Rattle.command_scripts.specs.Due.{after_puts, ended_of, HoldsAll, prints, puts, TakesAll}
 use Rattle.command_steps.specs.Front.{both_files, plan_file, prepared_files, shares_over}
-use Rattle.command_steps.specs.Loads.{loaded}
+use Rattle.command_scripts.specs.Loads.{loaded}
 use Rattle.command_steps.specs.Reviewed.{decided_plan, journal_file, Review, reviewed_plan, reviewed_settings, ReviewedPlan}
-use Rattle.command_steps.specs.Seen.{IsUncalled, SinkSeen, StoreSeen}
-use Rattle.command_steps.specs.Steps.{◌>>=◌, ComesTo, file, file_within, gives, load, outcome, Steps}
-use Rattle.command_steps.specs.declared.ends.Ended.{Ended}
-use Rattle.command_steps.specs.declared.ends.Ended.TheVariants.{Done, Refuted}
+use Rattle.command_scripts.specs.Seen.{IsUncalled, SinkSeen, StoreSeen}
+use Rattle.command_scripts.specs.Steps.{◌>>=◌, ComesTo, file, file_within, gives, load, outcome, Steps}
+use Rattle.command_scripts.specs.declared.ends.Ended.{Ended}
+use Rattle.command_scripts.specs.declared.ends.Ended.TheVariants.{Done, Refuted}
 use Rattle.link_shell.proofs.HeadlineFacts.{came, FoundBy, settings_found, told_above}
 use Rattle.link_shell.specs.AfterRun.{HoldsProof, ProvedByRun, SaysYes, YesAfterRun, YesWhereProved}
 use Rattle.link_shell.specs.Commands.{Command, command_of, duplicates_of_settings, frontier_of_settings, generation, keys, many_of_settings, migration_of_settings, open_of_settings, or_command, pairs_of_columns, pairs_of_settings, review_of_settings, rule_of_settings, run_of_settings, settings_command_of, verification_of_settings}

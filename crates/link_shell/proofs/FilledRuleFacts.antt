@@ -25,10 +25,10 @@ use Rattle.pair_decisions.specs.TheRule.{the_rule}
 use Rattle.settings.proofs.Ranges.{read_plan}
 use Rattle.settings.specs.Settings.{settings}
 use Rattle.standard_files.specs.Files.{StandardPair}
-use Rattle.command_steps.proofs.StepFacts.{no_ok, ok_same}
+use Rattle.command_scripts.proofs.StepFacts.{no_ok, ok_same}
 use Rattle.command_steps.specs.Front.{plan_file, shares_over}
 use Rattle.command_steps.specs.Reviewed.{decided_plan, journal_plan, Review, reviewed_plan, ReviewedPlan, SharedDecisions, with_journal}
-use Rattle.command_steps.specs.Steps.{file, gives, outcome}
+use Rattle.command_scripts.specs.Steps.{file, gives, outcome}
 use Rattle.link_shell.specs.DuplicatesSettings.{decided_within, prepared_within, Within}
 use Rattle.link_shell.specs.FilledRule.{AreByFilledRule, FilledRule}
 use Rattle.link_shell.specs.Generate.{decided_input, decided_sample}

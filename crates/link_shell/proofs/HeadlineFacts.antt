@@ -28,16 +28,16 @@ use Rattle.pair_decisions.specs.PairRule.{FileRule}
 use Rattle.review_journal.specs.Verdict.{verdict_on}
 use Rattle.review_journal.specs.declared.entry.Entry.{Entry}
 use Rattle.link_plan.specs.declared.plan.Plan.{Plan}
-use Rattle.command_steps.proofs.StepFacts.{no_ok, ok_same}
-use Rattle.command_steps.specs.Does.{Ends}
-use Rattle.command_steps.specs.Due.{after_puts, HoldsAll, puts, TakesAll}
+use Rattle.command_scripts.proofs.StepFacts.{no_ok, ok_same}
+use Rattle.command_scripts.specs.Does.{Ends}
+use Rattle.command_scripts.specs.Due.{after_puts, HoldsAll, puts, TakesAll}
 use Rattle.command_steps.specs.Front.{plan_file, prepared_files, shares_over}
-use Rattle.command_steps.specs.Loads.{loaded}
+use Rattle.command_scripts.specs.Loads.{loaded}
 use Rattle.command_steps.specs.Reviewed.{decided_plan, journal_file, Review, reviewed_plan, reviewed_settings, ReviewedPlan, SharedDecisions}
-use Rattle.command_steps.specs.Seen.{IsUncalled, SinkSeen, StoreSeen}
-use Rattle.command_steps.specs.Steps.{◌>>=◌, gives, load, outcome, Steps}
-use Rattle.command_steps.specs.declared.ends.Ended.{Ended}
-use Rattle.command_steps.specs.declared.ends.Ended.TheVariants.{Done, Refuted}
+use Rattle.command_scripts.specs.Seen.{IsUncalled, SinkSeen, StoreSeen}
+use Rattle.command_scripts.specs.Steps.{◌>>=◌, gives, load, outcome, Steps}
+use Rattle.command_scripts.specs.declared.ends.Ended.{Ended}
+use Rattle.command_scripts.specs.declared.ends.Ended.TheVariants.{Done, Refuted}
 use Rattle.link_shell.specs.Headline.{AreGreatestLinks, Headline, IsByRuleOrReview, RunWrites}
 use Rattle.link_shell.specs.Linked.{Follows, Performed, Reported, status_after}
 use Rattle.link_shell.specs.RunSettings.{run_puts, run_script}

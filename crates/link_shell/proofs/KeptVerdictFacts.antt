@@ -28,13 +28,13 @@ use Rattle.review_journal.specs.declared.batch.NewVerdict.{NewVerdict}
 use Rattle.review_journal.specs.declared.entry.Entry.{Entry}
 use Rattle.settings.proofs.Ranges.{read_plan}
 use Rattle.value_forms.specs.Days.{iso_day}
-use Rattle.command_steps.proofs.StepFacts.{no_ok, ok_same, outcome_go}
-use Rattle.command_steps.specs.Due.{Put}
+use Rattle.command_scripts.proofs.StepFacts.{no_ok, ok_same, outcome_go}
+use Rattle.command_scripts.specs.Due.{Put}
 use Rattle.command_steps.specs.Front.{both_files, plan_file, prepared_files}
 use Rattle.command_steps.specs.Reviewed.{journal_file, journal_plan, named_journal, put_of_journal, reviewed_plan, with_journal}
-use Rattle.command_steps.specs.Seen.{SinkSeen, StoreSeen}
-use Rattle.command_steps.specs.Steps.{◌>>=◌, file, outcome, Steps}
-use Rattle.command_steps.specs.declared.ends.Ended.{Ended}
+use Rattle.command_scripts.specs.Seen.{SinkSeen, StoreSeen}
+use Rattle.command_scripts.specs.Steps.{◌>>=◌, file, outcome, Steps}
+use Rattle.command_scripts.specs.declared.ends.Ended.{Ended}
 use Rattle.link_shell.proofs.AfterRunFacts.{AllLoads, file_held, kept_if, loads_then, same_outcome}
 use Rattle.link_shell.proofs.HeadlineFacts.{came, found_by}
 use Rattle.link_shell.proofs.OnePutFacts.{IsMade, made_at_zero, made_or_kept}

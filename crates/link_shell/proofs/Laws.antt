@@ -5,11 +5,11 @@ use Rattle.link_base.specs.declared.fault.Fault.{Fault}
 use Rattle.link_base.specs.declared.fault.Fault.TheVariants as fault
 use Rattle.link_outside.specs.Outside.{Rose}
 use Rattle.link_outside.specs.declared.outside.StoreCall.{StoreCall}
-use Rattle.command_steps.specs.Causes.{Cause, cause_of, the_input, the_memory, the_output, the_store, the_words}
-use Rattle.command_steps.specs.Does.{Answers, Does, DoesPart, FailsAt, FailsBy, IsDue, Script}
-use Rattle.command_steps.specs.Due.{Due, HoldsAll, HoldsSome, prints, Prints, PutFails, puts, puts_of, TakesAll, TakesSome}
-use Rattle.command_steps.specs.Seen.{IsUncalled, SinkSeen, StoreSeen}
-use Rattle.command_steps.specs.declared.ends.Ended.{Ended}
+use Rattle.command_scripts.specs.Causes.{Cause, cause_of, the_input, the_memory, the_output, the_store, the_words}
+use Rattle.command_scripts.specs.Does.{Answers, Does, DoesPart, FailsAt, FailsBy, IsDue, Script}
+use Rattle.command_scripts.specs.Due.{Due, HoldsAll, HoldsSome, prints, Prints, PutFails, puts, puts_of, TakesAll, TakesSome}
+use Rattle.command_scripts.specs.Seen.{IsUncalled, SinkSeen, StoreSeen}
+use Rattle.command_scripts.specs.declared.ends.Ended.{Ended}
 use Rattle.link_shell.specs.Commands.{Command, command_of, or_command, script_of}
 use Rattle.link_shell.specs.Linked.{Follows, IsComplete, IsExactUsage, IsSilent, IsStill, NeverPrints, NeverPuts, Performed, RefusesBy}
 

@@ -37,15 +37,15 @@ use Rattle.settings.proofs.Ranges.{read_plan}
 use Rattle.written_check.specs.Short.{IsSmallCell}
 use Rattle.written_check.specs.Verified.{WrittenTexts}
 use Rattle.written_check.specs.declared.refutation.Refutation.{Refutation}
-use Rattle.command_steps.proofs.StepFacts.{no_ok, ok_same}
-use Rattle.command_steps.specs.Does.{Ends}
-use Rattle.command_steps.specs.Due.{Due, ended_of, HoldsAll, prints, TakesAll}
+use Rattle.command_scripts.proofs.StepFacts.{no_ok, ok_same}
+use Rattle.command_scripts.specs.Does.{Ends}
+use Rattle.command_scripts.specs.Due.{Due, ended_of, HoldsAll, prints, TakesAll}
 use Rattle.command_steps.specs.Front.{both_files, plan_file}
 use Rattle.command_steps.specs.Reviewed.{Review, reviewed_settings, ReviewedPlan}
-use Rattle.command_steps.specs.Seen.{SinkSeen, StoreSeen}
-use Rattle.command_steps.specs.Steps.{file, outcome}
-use Rattle.command_steps.specs.declared.ends.Ended.{Ended}
-use Rattle.command_steps.specs.declared.ends.Ended.TheVariants.{Done, Refuted}
+use Rattle.command_scripts.specs.Seen.{SinkSeen, StoreSeen}
+use Rattle.command_scripts.specs.Steps.{file, outcome}
+use Rattle.command_scripts.specs.declared.ends.Ended.{Ended}
+use Rattle.command_scripts.specs.declared.ends.Ended.TheVariants.{Done, Refuted}
 use Rattle.link_shell.proofs.AfterRunFacts.{all_loads, review_loads, shares_few, yes_where_proved}
 use Rattle.link_shell.proofs.HeadlineFacts.{are_greatest, came, FoundBy, rule_is, settings_found, told_above}
 use Rattle.link_shell.specs.AfterRun.{HoldsProof}

@@ -1,12 +1,12 @@
 -- A command of which one put is due: the put was made, or no name holds anything else than it did.
 use Rattle.std.proofs.Common.{◌≡◌, ◌⊎◌, ◌≤◌, ◌<◌, ◌+◌, ◌∷◌, ◌∙◌, inl, inr, ℕ, zero, suc, [], take, Result, Ok, Err, sym, subst, arith}
 use Rattle.link_base.specs.declared.fault.Fault.{Fault}
-use Rattle.command_steps.specs.Causes.{Cause, cause_of, the_input, the_memory, the_output, the_store, the_words}
-use Rattle.command_steps.specs.Does.{Answers, DoesPart, Ends, FailsAt, FailsBy, IsDue, Script}
-use Rattle.command_steps.specs.Due.{after_puts, Due, HoldsAll, HoldsSome, Put, PutFails, puts, puts_of, PutsSome}
-use Rattle.command_steps.specs.Seen.{IsUncalled, SinkSeen, StoreSeen}
-use Rattle.command_steps.specs.Steps.{outcome, Steps}
-use Rattle.command_steps.specs.declared.ends.Ended.{Ended}
+use Rattle.command_scripts.specs.Causes.{Cause, cause_of, the_input, the_memory, the_output, the_store, the_words}
+use Rattle.command_scripts.specs.Does.{Answers, DoesPart, Ends, FailsAt, FailsBy, IsDue, Script}
+use Rattle.command_scripts.specs.Due.{after_puts, Due, HoldsAll, HoldsSome, Put, PutFails, puts, puts_of, PutsSome}
+use Rattle.command_scripts.specs.Seen.{IsUncalled, SinkSeen, StoreSeen}
+use Rattle.command_scripts.specs.Steps.{outcome, Steps}
+use Rattle.command_scripts.specs.declared.ends.Ended.{Ended}
 use Rattle.link_outside.specs.declared.outside.StoreCall.{StoreCall}
 use Rattle.link_shell.proofs.HeadlineFacts.{told_above}
 use Rattle.link_shell.specs.Linked.{Reported}

@@ -4,8 +4,8 @@
 use Rattle.std.specs.Prelude.{◌≡◌, ◌⊎◌, ◌++◌, ℕ, List, codes, Some, Ok}
 use Rattle.link_base.specs.declared.rule.Candidate.{Candidate}
 use Rattle.link_outside.specs.Outside.{Held, Rose}
-use Rattle.command_steps.specs.Seen.{SinkSeen, StoreSeen}
-use Rattle.command_steps.specs.Steps.{outcome}
+use Rattle.command_scripts.specs.Seen.{SinkSeen, StoreSeen}
+use Rattle.command_scripts.specs.Steps.{outcome}
 use Rattle.link_shell.specs.Commands.{command_of, run_of_settings, verification_of_settings}
 use Rattle.link_shell.specs.VerifySettings.{proved_by, verified_settings, WrittenPlan}
 

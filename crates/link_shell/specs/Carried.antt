@@ -2,9 +2,9 @@
 use Rattle.std.specs.Prelude.{ℕ, List, [], Result, Ok, Err}
 use Rattle.link_base.specs.Fault.{fault_status}
 use Rattle.link_base.specs.declared.fault.Fault.{Fault}
-use Rattle.command_steps.specs.Seen.{SinkSeen, StoreSeen}
-use Rattle.command_steps.specs.declared.ends.Ended.{Ended}
-use Rattle.command_steps.specs.declared.ends.Ended.TheVariants.{Done, Refuted}
+use Rattle.command_scripts.specs.Seen.{SinkSeen, StoreSeen}
+use Rattle.command_scripts.specs.declared.ends.Ended.{Ended}
+use Rattle.command_scripts.specs.declared.ends.Ended.TheVariants.{Done, Refuted}
 use Rattle.link_shell.specs.AfterRun.{ProvedByRun, YesWhereProved}
 use Rattle.link_shell.specs.Headline.{Headline}
 use Rattle.link_shell.specs.KeptVerdicts.{NoVerdictLost}

@@ -1,7 +1,7 @@
 -- The commands: which one the words are a form of, by the clause `usage` of `perform`, and its script, which the clause `follows` says is
 -- followed.
 use Rattle.std.specs.Prelude.{ℕ, List, drop, if◌then◌else◌, Option, Some, None}
-use Rattle.command_steps.specs.Does.{Script}
+use Rattle.command_scripts.specs.Does.{Script}
 use Rattle.link_shell.specs.DuplicatesSettings.{are_duplicates_words, duplicates_script}
 use Rattle.link_shell.specs.Generate.{are_generate_words, generate_script, rows_asked}
 use Rattle.link_shell.specs.FrontierSettings.{are_frontier_words, Asked, asked_in, frontier_script}

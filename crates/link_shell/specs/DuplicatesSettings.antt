@@ -11,12 +11,12 @@ use Rattle.link_plan.specs.Plan.{PlainShares}
 use Rattle.link_plan.specs.Within.{plan_within}
 use Rattle.link_plan.specs.declared.plan.Plan.{Plan}
 use Rattle.standard_files.specs.Files.{StandardPair}
-use Rattle.command_steps.specs.Does.{Script}
-use Rattle.command_steps.specs.Due.{Due, prints}
+use Rattle.command_scripts.specs.Does.{Script}
+use Rattle.command_scripts.specs.Due.{Due, prints}
 use Rattle.command_steps.specs.Front.{plan_file}
 use Rattle.command_steps.specs.Reviewed.{decided_plan}
-use Rattle.command_steps.specs.Steps.{◌>>=◌, file, gives, Steps}
-use Rattle.command_steps.specs.declared.ends.Ended.TheVariants.{Done}
+use Rattle.command_scripts.specs.Steps.{◌>>=◌, file, gives, Steps}
+use Rattle.command_scripts.specs.declared.ends.Ended.TheVariants.{Done}
 use Rattle.link_shell.specs.Words.{are_verb_and_settings}
 use Rattle.link_shell.specs.declared.duplicates_settings.DecidedWithin.{DecidedWithin}
 

@@ -9,7 +9,7 @@ use Rattle.link_plan.specs.declared.plan.Plan.{Plan}
 use Rattle.pair_decisions.specs.PlanRule.{IsRuleOf}
 use Rattle.command_steps.specs.Front.{plan_file}
 use Rattle.command_steps.specs.Reviewed.{journal_plan, Review, reviewed_plan, reviewed_settings, ReviewedPlan}
-use Rattle.command_steps.specs.Steps.{outcome}
+use Rattle.command_scripts.specs.Steps.{outcome}
 use Rattle.link_shell.specs.DuplicatesSettings.{decided_within, Within}
 use Rattle.link_shell.specs.Generate.{decided_input}
 

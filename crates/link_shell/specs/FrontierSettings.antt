@@ -2,11 +2,11 @@
 use Rattle.std.specs.Prelude.{◌≡◌, ◌+◌, ℕ, List, [], ◌∷◌, length, drop, map, Bool, true, ◌&&◌, nat_le, bytes_eq, codes, string_bytes}
 use Rattle.link_limits.specs.declared.TheConstants.{PER_MILLION}
 use Rattle.link_core.specs.Rules.{IsFrontierText}
-use Rattle.command_steps.specs.Does.{Script}
-use Rattle.command_steps.specs.Due.{Due, prints}
+use Rattle.command_scripts.specs.Does.{Script}
+use Rattle.command_scripts.specs.Due.{Due, prints}
 use Rattle.command_steps.specs.Front.{shared_plan}
 use Rattle.csv_rows.specs.Numbers.{is_decimal, number_in}
-use Rattle.command_steps.specs.declared.ends.Ended.TheVariants.{Done}
+use Rattle.command_scripts.specs.declared.ends.Ended.TheVariants.{Done}
 use Rattle.command_steps.specs.declared.front.Shared.{Shared}
 use Rattle.link_shell.specs.Words.{is_settings_word, word}
 use Rattle.link_shell.specs.declared.frontier_settings.FrontierRequest.{FrontierRequest}

@@ -14,12 +14,12 @@ use Rattle.link_plan.specs.declared.plan.Plan.{Plan}
 use Rattle.workload.specs.Made.{text_of_a, text_of_b, text_of_sample}
 use Rattle.workload.specs.MadeSettings.{text_of_settings}
 use Rattle.standard_files.specs.Files.{StandardPair}
-use Rattle.command_steps.specs.Does.{Script}
-use Rattle.command_steps.specs.Due.{Due, prints}
+use Rattle.command_scripts.specs.Does.{Script}
+use Rattle.command_scripts.specs.Due.{Due, prints}
 use Rattle.csv_rows.specs.Numbers.{is_decimal, number_in}
 use Rattle.command_steps.specs.Reviewed.{ReviewedPlan, SharedDecisions}
-use Rattle.command_steps.specs.Steps.{gives}
-use Rattle.command_steps.specs.declared.ends.Ended.TheVariants.{Done}
+use Rattle.command_scripts.specs.Steps.{gives}
+use Rattle.command_scripts.specs.declared.ends.Ended.TheVariants.{Done}
 use Rattle.link_shell.specs.Words.{word}
 use Rattle.link_shell.specs.declared.generate.TheConstants.{HEAD_LINES}
 

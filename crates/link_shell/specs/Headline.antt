@@ -32,11 +32,11 @@ use Rattle.review_journal.specs.declared.entry.Entry.{Entry}
 use Rattle.link_plan.specs.Plan.{PlainShares}
 use Rattle.link_plan.specs.declared.plan.Plan.{Plan}
 use Rattle.standard_files.specs.Files.{StandardPair}
-use Rattle.command_steps.specs.Due.{after_puts}
+use Rattle.command_scripts.specs.Due.{after_puts}
 use Rattle.command_steps.specs.Front.{plan_file, prepared_files, shares_over}
 use Rattle.command_steps.specs.Reviewed.{journal_file}
-use Rattle.command_steps.specs.Seen.{IsUncalled, SinkSeen, StoreSeen}
-use Rattle.command_steps.specs.Steps.{outcome}
+use Rattle.command_scripts.specs.Seen.{IsUncalled, SinkSeen, StoreSeen}
+use Rattle.command_scripts.specs.Steps.{outcome}
 use Rattle.link_shell.specs.Commands.{command_of, run_of_settings}
 use Rattle.link_shell.specs.RunSettings.{run_puts}
 

@@ -3,9 +3,9 @@ use Rattle.std.specs.Prelude.{◌+◌, ℕ, List, drop, length, Bool, ◌&&◌, 
 use Rattle.std.specs.List.{list_all}
 use Rattle.link_limits.specs.declared.TheConstants.{MOST_NAME_BYTES}
 use Rattle.link_core.specs.NameKeys.{keys_text}
-use Rattle.command_steps.specs.Does.{Script}
-use Rattle.command_steps.specs.Due.{is_printed}
-use Rattle.command_steps.specs.Steps.{gives}
+use Rattle.command_scripts.specs.Does.{Script}
+use Rattle.command_scripts.specs.Due.{is_printed}
+use Rattle.command_scripts.specs.Steps.{gives}
 use Rattle.link_shell.specs.Words.{word}
 use Rattle.link_shell.specs.declared.words.TheConstants.{MOST_LISTED}
 

@@ -6,13 +6,13 @@ use Rattle.link_base.specs.declared.fault.Fault.TheVariants as fault
 use Rattle.link_outside.specs.Outside.{Appends, HasCause, Rose}
 use Rattle.link_outside.specs.declared.outside.SinkError.{SinkError}
 use Rattle.link_outside.specs.declared.outside.SinkError.TheVariants as sink
-use Rattle.command_steps.specs.Causes.{Cause, cause_of, the_memory}
-use Rattle.command_steps.specs.Does.{Does, IsDue, Script}
-use Rattle.command_steps.specs.Due.{Due, ended_of, Prints}
-use Rattle.command_steps.specs.Seen.{IsUncalled, IsUntouched, SinkSeen, StoreSeen}
-use Rattle.command_steps.specs.Steps.{ComesTo}
-use Rattle.command_steps.specs.declared.ends.Ended.{Ended}
-use Rattle.command_steps.specs.declared.ends.Ended.TheVariants.{Done, Refuted}
+use Rattle.command_scripts.specs.Causes.{Cause, cause_of, the_memory}
+use Rattle.command_scripts.specs.Does.{Does, IsDue, Script}
+use Rattle.command_scripts.specs.Due.{Due, ended_of, Prints}
+use Rattle.command_scripts.specs.Seen.{IsUncalled, IsUntouched, SinkSeen, StoreSeen}
+use Rattle.command_scripts.specs.Steps.{ComesTo}
+use Rattle.command_scripts.specs.declared.ends.Ended.{Ended}
+use Rattle.command_scripts.specs.declared.ends.Ended.TheVariants.{Done, Refuted}
 use Rattle.link_shell.specs.Commands.{Command, command_of, script_of}
 
 -- words that are no form of a command: `Usage` is answered, and nothing is done

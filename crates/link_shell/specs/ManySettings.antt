@@ -4,11 +4,11 @@ use Rattle.std.specs.Prelude.{◌≡◌, ℕ, List, length, Bool, ◌==◌, ◌&
 use Rattle.link_base.specs.declared.fault.FileRole.TheVariants as role
 use Rattle.link_core.specs.Many.{capacities_in_file, IsManyText}
 use Rattle.standard_files.specs.Files.{StandardPair}
-use Rattle.command_steps.specs.Does.{Script}
-use Rattle.command_steps.specs.Due.{Due, prints}
+use Rattle.command_scripts.specs.Does.{Script}
+use Rattle.command_scripts.specs.Due.{Due, prints}
 use Rattle.command_steps.specs.Reviewed.{reviewed_settings, ReviewedPlan}
-use Rattle.command_steps.specs.Steps.{◌>>=◌, file, gives, Steps}
-use Rattle.command_steps.specs.declared.ends.Ended.TheVariants.{Done}
+use Rattle.command_scripts.specs.Steps.{◌>>=◌, file, gives, Steps}
+use Rattle.command_scripts.specs.declared.ends.Ended.TheVariants.{Done}
 use Rattle.link_shell.specs.Words.{is_settings_word, is_short_word, word}
 use Rattle.link_shell.specs.declared.many_settings.ManyRequest.{ManyRequest}
 

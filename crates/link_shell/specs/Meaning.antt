@@ -24,10 +24,10 @@ use Rattle.review_journal.specs.declared.entry.Entry.{Entry}
 use Rattle.written_check.specs.Laws.{AreCandidatesOf}
 use Rattle.written_check.specs.Verified.{verified, WrittenTexts}
 use Rattle.standard_files.specs.Files.{StandardPair}
-use Rattle.command_steps.specs.Due.{Due, ended_of, prints}
-use Rattle.command_steps.specs.Seen.{SinkSeen, StoreSeen}
-use Rattle.command_steps.specs.Steps.{outcome}
-use Rattle.command_steps.specs.declared.ends.Ended.TheVariants.{Done, Refuted}
+use Rattle.command_scripts.specs.Due.{Due, ended_of, prints}
+use Rattle.command_scripts.specs.Seen.{SinkSeen, StoreSeen}
+use Rattle.command_scripts.specs.Steps.{outcome}
+use Rattle.command_scripts.specs.declared.ends.Ended.TheVariants.{Done, Refuted}
 use Rattle.link_shell.specs.AfterRun.{HoldsProof, SaysYes}
 use Rattle.link_shell.specs.Commands.{command_of, verification_of_settings}
 use Rattle.link_shell.specs.Headline.{Accepted, AreGreatestLinks, IsLeastRule}

@@ -4,11 +4,11 @@ use Rattle.std.specs.Prelude.{◌≡◌, ◌∷◌, [], ℕ, List, Bool, codes, 
 use Rattle.link_core.specs.Review.{journal_lines_of}
 use Rattle.link_plan.specs.declared.plan.Plan.{Plan}
 use Rattle.standard_files.specs.Files.{StandardPair}
-use Rattle.command_steps.specs.Does.{Script}
-use Rattle.command_steps.specs.Due.{Due, Put, puts}
+use Rattle.command_scripts.specs.Does.{Script}
+use Rattle.command_scripts.specs.Due.{Due, Put, puts}
 use Rattle.command_steps.specs.Front.{prepared_files}
 use Rattle.command_steps.specs.Reviewed.{journal_file, journal_plan, put_of_journal}
-use Rattle.command_steps.specs.Steps.{◌>>=◌, gives, Steps}
+use Rattle.command_scripts.specs.Steps.{◌>>=◌, gives, Steps}
 use Rattle.link_shell.specs.Words.{are_verb_and_settings}
 
 abbrev pub are_migrate_words : List (List ℕ) → Bool

@@ -2,8 +2,8 @@
 -- verdict.
 use Rattle.std.specs.Prelude.{ℕ, List, Bool, codes}
 use Rattle.link_core.specs.Review.{open_text_of}
-use Rattle.command_steps.specs.Does.{Script}
-use Rattle.command_steps.specs.Due.{is_printed}
+use Rattle.command_scripts.specs.Does.{Script}
+use Rattle.command_scripts.specs.Due.{is_printed}
 use Rattle.command_steps.specs.Reviewed.{reviewed_settings, ReviewedPlan}
 use Rattle.link_shell.specs.Words.{are_verb_and_settings}
 

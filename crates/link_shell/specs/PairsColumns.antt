@@ -1,10 +1,10 @@
 -- The command `pairs A B COLUMN`: its words, its steps and what is due, by the clause `follows` of `perform`.
 use Rattle.std.specs.Prelude.{ℕ, List, length, Bool, ◌==◌, ◌&&◌, bytes_eq, codes}
 use Rattle.link_core.specs.ColumnPairs.{rows_of_pairs}
-use Rattle.command_steps.specs.Does.{Script}
-use Rattle.command_steps.specs.Due.{is_printed}
+use Rattle.command_scripts.specs.Does.{Script}
+use Rattle.command_scripts.specs.Due.{is_printed}
 use Rattle.command_steps.specs.Front.{both_files}
-use Rattle.command_steps.specs.Steps.{◌>>=◌, gives}
+use Rattle.command_scripts.specs.Steps.{◌>>=◌, gives}
 use Rattle.link_shell.specs.Words.{is_short_word, word}
 use Rattle.link_shell.specs.declared.pairs_columns.ColumnRequest.{ColumnRequest}
 

@@ -1,10 +1,10 @@
 -- The command `pairs SETTINGS`: its words, its steps and what is due, by the clause `follows` of `perform`.
 use Rattle.std.specs.Prelude.{ℕ, List, Bool, codes}
 use Rattle.link_core.specs.Pairs.{ids_of_prepared}
-use Rattle.command_steps.specs.Does.{Script}
-use Rattle.command_steps.specs.Due.{is_printed}
+use Rattle.command_scripts.specs.Does.{Script}
+use Rattle.command_scripts.specs.Due.{is_printed}
 use Rattle.command_steps.specs.Front.{described_files}
-use Rattle.command_steps.specs.Steps.{◌>>=◌, gives}
+use Rattle.command_scripts.specs.Steps.{◌>>=◌, gives}
 use Rattle.link_shell.specs.Words.{are_verb_and_settings}
 
 abbrev pub are_settings_words : List (List ℕ) → Bool

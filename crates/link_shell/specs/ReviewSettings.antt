@@ -6,11 +6,11 @@ use Rattle.review_journal.specs.Journal.{IsReviewer}
 use Rattle.link_plan.specs.declared.plan.Plan.{Plan}
 use Rattle.value_forms.specs.Days.{iso_day}
 use Rattle.link_core.specs.Review.{reviewed_lines_of}
-use Rattle.command_steps.specs.Does.{Script}
-use Rattle.command_steps.specs.Due.{Put}
+use Rattle.command_scripts.specs.Does.{Script}
+use Rattle.command_scripts.specs.Due.{Put}
 use Rattle.command_steps.specs.Reviewed.{journal_plan, put_of_journal, Review, reviewed_plan}
 use Rattle.link_base.specs.declared.fault.FileRole.TheVariants as role
-use Rattle.command_steps.specs.Steps.{◌>>=◌, file, gives, Steps}
+use Rattle.command_scripts.specs.Steps.{◌>>=◌, file, gives, Steps}
 use Rattle.link_shell.specs.MigrateSettings.{is_one_put}
 use Rattle.link_shell.specs.Words.{is_settings_word, is_short_word, word}
 use Rattle.link_shell.specs.declared.review_settings.ReviewRequest.{ReviewRequest}

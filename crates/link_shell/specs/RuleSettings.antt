@@ -7,10 +7,10 @@ use Rattle.link_report.specs.RuleText.{text_of_rule}
 use Rattle.pair_decisions.specs.Comparators.{rares_of}
 use Rattle.pair_decisions.specs.PlanRule.{IsRuleOf}
 use Rattle.link_core.specs.Rules.{IsRuleText}
-use Rattle.command_steps.specs.Does.{Script}
-use Rattle.command_steps.specs.Due.{Due, prints}
+use Rattle.command_scripts.specs.Does.{Script}
+use Rattle.command_scripts.specs.Due.{Due, prints}
 use Rattle.command_steps.specs.Front.{shared_plan}
-use Rattle.command_steps.specs.declared.ends.Ended.TheVariants.{Done}
+use Rattle.command_scripts.specs.declared.ends.Ended.TheVariants.{Done}
 use Rattle.command_steps.specs.declared.front.Shared.{Shared}
 use Rattle.link_shell.specs.Words.{are_verb_and_settings}
 

@@ -3,8 +3,8 @@
 use Rattle.std.specs.Prelude.{◌≡◌, ◌∷◌, [], ℕ, List, Bool, codes}
 use Rattle.pair_decisions.specs.PlanRule.{IsRuleOf}
 use Rattle.link_core.specs.Results.{AreRunTexts, RunTexts}
-use Rattle.command_steps.specs.Does.{Script}
-use Rattle.command_steps.specs.Due.{a_put, Due, Put, puts}
+use Rattle.command_scripts.specs.Does.{Script}
+use Rattle.command_scripts.specs.Due.{a_put, Due, Put, puts}
 use Rattle.command_steps.specs.Reviewed.{reviewed_settings, ReviewedPlan}
 use Rattle.link_shell.specs.Words.{are_verb_and_settings}
 

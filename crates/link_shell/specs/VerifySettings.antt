@@ -9,12 +9,12 @@ use Rattle.link_limits.specs.declared.TheConstants.{MOST_WRITTEN_BYTES}
 use Rattle.pair_decisions.specs.PlanRule.{IsRuleOf}
 use Rattle.written_check.specs.Verified.{WrittenTexts}
 use Rattle.written_check.specs.declared.refutation.Refutation.{Refutation}
-use Rattle.command_steps.specs.Does.{Script}
-use Rattle.command_steps.specs.Due.{Due, prints}
+use Rattle.command_scripts.specs.Does.{Script}
+use Rattle.command_scripts.specs.Due.{Due, prints}
 use Rattle.command_steps.specs.Reviewed.{reviewed_settings, ReviewedPlan}
-use Rattle.command_steps.specs.Steps.{◌>>=◌, file_within, gives, Steps}
-use Rattle.command_steps.specs.declared.ends.Ended.{Ended}
-use Rattle.command_steps.specs.declared.ends.Ended.TheVariants.{Done, Refuted}
+use Rattle.command_scripts.specs.Steps.{◌>>=◌, file_within, gives, Steps}
+use Rattle.command_scripts.specs.declared.ends.Ended.{Ended}
+use Rattle.command_scripts.specs.declared.ends.Ended.TheVariants.{Done, Refuted}
 use Rattle.link_shell.specs.Words.{are_verb_and_settings}
 
 abbrev pub are_verify_words : List (List ℕ) → Bool

@@ -1,6 +1,6 @@
 // A run, and then what an auditor is told of it.
 ghost use Rattle.std.specs.Prelude.{map, string_bytes};
-ghost use Rattle.command_steps.specs.Seen.{sink_seen, store_seen};
+ghost use Rattle.command_scripts.specs.Seen.{sink_seen, store_seen};
 ghost use Rattle.link_shell.specs.AfterRun.{YesAfterRun};
 
 use crate::command::linkage;

@@ -1,7 +1,7 @@
 // The top calls.
 ghost use Rattle.std.specs.Prelude.{◌≡◌, map, None, Result, string_bytes};
-ghost use Rattle.command_steps.specs.Seen.{sink_seen, store_seen};
-ghost use Rattle.command_steps.specs.declared.ends.Ended.{Ended as AnyEnded};
+ghost use Rattle.command_scripts.specs.Seen.{sink_seen, store_seen};
+ghost use Rattle.command_scripts.specs.declared.ends.Ended.{Ended as AnyEnded};
 ghost use Rattle.link_base.specs.declared.fault.Fault.{Fault as AnyFault};
 ghost use Rattle.link_shell.specs.AfterRun.{ProvedByRun, YesWhereProved};
 ghost use Rattle.link_shell.specs.Always.{Always};
@@ -21,7 +21,7 @@ use crate::{
     open_settings, pairs_columns, pairs_settings, review_settings, rule_settings, run_settings,
     verify_settings,
 };
-use command_steps::Ended;
+use command_scripts::Ended;
 use link_base::{Fault, status_of};
 use link_core::run_is_verified;
 use link_outside::{Sink, SinkError, Store, write_fault};

@@ -1,8 +1,8 @@
 // The command `duplicates SETTINGS`.
 ghost use Rattle.std.specs.Prelude.{◌≡◌, ◌≤◌, IfOk, length};
-ghost use Rattle.command_steps.specs.Does.{Does};
-ghost use Rattle.command_steps.specs.Seen.{sink_seen, store_seen};
-ghost use Rattle.command_steps.specs.Steps.{seen_by, Takes};
+ghost use Rattle.command_scripts.specs.Does.{Does};
+ghost use Rattle.command_scripts.specs.Seen.{sink_seen, store_seen};
+ghost use Rattle.command_scripts.specs.Steps.{seen_by, Takes};
 ghost use Rattle.link_core.specs.Decisions.{IsDecidedIn};
 ghost use Rattle.link_core.specs.Prepared.{files_of};
 ghost use Rattle.link_core.specs.Rules.{IsPreparedFor};
@@ -10,9 +10,8 @@ ghost use Rattle.link_limits.specs.declared.TheConstants.{MOST_PAIRS, MOST_ROWS}
 ghost use Rattle.link_shell.specs.DuplicatesSettings.{decided_within, duplicates_script, prepared_within, IsOfOneFile, within_of};
 ghost use Rattle.link_plan.specs.Ranges.{KeepsRanges, NamesFiles};
 
-use command_steps::{
-    Ended, file_name, load_decisions, load_file, load_plan, prepare_files, print_lines,
-};
+use command_scripts::{Ended, load_file, print_lines};
+use command_steps::{file_name, load_decisions, load_plan, prepare_files};
 use dedup_groups::forest_leaders;
 use link_base::{Fault, FileRole};
 use link_core::{Decided, PlanShares, Prepared, duplicate_lines};

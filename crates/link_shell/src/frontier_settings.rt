@@ -1,8 +1,8 @@
 // The command `frontier SETTINGS MU..`.
 ghost use Rattle.std.specs.Prelude.{◌≡◌, ◌≤◌, All, IfOk, IfSome, is_some, map, string_bytes, true};
 ghost use Rattle.std.specs.List.{list_all};
-ghost use Rattle.command_steps.specs.Does.{Does};
-ghost use Rattle.command_steps.specs.Seen.{sink_seen, store_seen};
+ghost use Rattle.command_scripts.specs.Does.{Does};
+ghost use Rattle.command_scripts.specs.Seen.{sink_seen, store_seen};
 ghost use Rattle.csv_rows.specs.Numbers.{number_in};
 ghost use Rattle.link_core.specs.Rules.{IsFrontierText};
 ghost use Rattle.link_limits.specs.declared.TheConstants.{PER_MILLION};
@@ -10,7 +10,8 @@ ghost use Rattle.link_shell.specs.FrontierSettings.{are_frontier_words, are_leve
 ghost use Rattle.link_plan.specs.Ranges.{KeepsRanges};
 
 use crate::words::{MOST_LISTED, is_settings, word_at};
-use command_steps::{Ended, Shared, load_shared, print_lines};
+use command_scripts::{Ended, print_lines};
+use command_steps::{Shared, load_shared};
 use csv_rows::read_decimal;
 use link_base::{Fault, NoMemory, Text};
 use link_core::frontier_lines;

@@ -1,8 +1,8 @@
 // The command `generate NUMBER`.
 ghost use Rattle.std.specs.Prelude.{◌≡◌, IfErr, IfOk, IfSome, is_some, map, string_bytes};
-ghost use Rattle.command_steps.specs.Does.{Does};
+ghost use Rattle.command_scripts.specs.Does.{Does};
 ghost use Rattle.command_steps.specs.Reviewed.{found_of, shared_decisions_of};
-ghost use Rattle.command_steps.specs.Seen.{sink_seen, store_seen};
+ghost use Rattle.command_scripts.specs.Seen.{sink_seen, store_seen};
 ghost use Rattle.csv_rows.specs.Numbers.{number_in};
 ghost use Rattle.link_base.specs.Fault.{Gives, IsInputFault};
 ghost use Rattle.link_core.specs.Decisions.{IsDecidedIn};
@@ -14,7 +14,8 @@ ghost use Rattle.workload.specs.Made.{text_of_a, text_of_b, text_of_sample};
 ghost use Rattle.workload.specs.MadeSettings.{text_of_settings};
 
 use crate::words::{are_form, word_at};
-use command_steps::{DecidedPlan, Ended, Reviewed, ReviewedSettings, prepare_files, print};
+use command_scripts::{Ended, print};
+use command_steps::{DecidedPlan, Reviewed, ReviewedSettings, prepare_files};
 use csv_rows::read_decimal;
 use link_base::Fault;
 use link_core::{Prepared, counted, decide_all, finish};

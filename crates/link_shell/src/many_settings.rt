@@ -1,14 +1,15 @@
 // The command `many SETTINGS CAPACITIES`.
 ghost use Rattle.std.specs.Prelude.{◌≡◌, IfOk, IfSome, is_some, map, string_bytes};
-ghost use Rattle.command_steps.specs.Does.{Does};
+ghost use Rattle.command_scripts.specs.Does.{Does};
 ghost use Rattle.command_steps.specs.Reviewed.{found_of, IsReviewed};
-ghost use Rattle.command_steps.specs.Seen.{sink_seen, store_seen};
-ghost use Rattle.command_steps.specs.Steps.{Makes, Takes};
+ghost use Rattle.command_scripts.specs.Seen.{sink_seen, store_seen};
+ghost use Rattle.command_scripts.specs.Steps.{Makes, Takes};
 ghost use Rattle.link_core.specs.Many.{AreCapacitiesOf};
 ghost use Rattle.link_shell.specs.ManySettings.{are_many_words, capacity_file, capacity_plan, IsLinksText, many_in, many_of_request, many_script};
 
 use crate::words::{are_form, is_settings, is_short, word_at};
-use command_steps::{Ended, ReviewedSettings, load_file, load_reviewed_settings, print_text};
+use command_scripts::{Ended, load_file, print_text};
+use command_steps::{ReviewedSettings, load_reviewed_settings};
 use link_base::{Fault, FileRole, Text};
 use link_core::{Capacities, capacities_in_file, many_lines};
 use link_outside::{Sink, Store};

@@ -1,11 +1,12 @@
 // The command `migrate SETTINGS`.
-ghost use Rattle.command_steps.specs.Does.{Does};
-ghost use Rattle.command_steps.specs.Seen.{sink_seen, store_seen};
-ghost use Rattle.command_steps.specs.Steps.{Takes};
+ghost use Rattle.command_scripts.specs.Does.{Does};
+ghost use Rattle.command_scripts.specs.Seen.{sink_seen, store_seen};
+ghost use Rattle.command_scripts.specs.Steps.{Takes};
 ghost use Rattle.link_shell.specs.MigrateSettings.{journal_text, migrate_script, written_journal};
 ghost use Rattle.link_plan.specs.Ranges.{KeepsRanges, NamesFiles};
 
-use command_steps::{Ended, load_journal, load_journal_plan, load_prepared, put_journal};
+use command_scripts::Ended;
+use command_steps::{load_journal, load_journal_plan, load_prepared, put_journal};
 use link_base::{Fault, Text};
 use link_core::{Prepared, journal_lines};
 use link_outside::{Sink, Store};

@@ -1,9 +1,10 @@
 // The command `open SETTINGS`.
-ghost use Rattle.command_steps.specs.Does.{Does};
-ghost use Rattle.command_steps.specs.Seen.{sink_seen, store_seen};
+ghost use Rattle.command_scripts.specs.Does.{Does};
+ghost use Rattle.command_scripts.specs.Seen.{sink_seen, store_seen};
 ghost use Rattle.link_shell.specs.OpenSettings.{open_script};
 
-use command_steps::{Ended, load_reviewed_settings, print_lines};
+use command_scripts::{Ended, print_lines};
+use command_steps::load_reviewed_settings;
 use link_base::Fault;
 use link_core::open_lines;
 use link_outside::{Sink, Store};

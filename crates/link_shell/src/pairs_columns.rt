@@ -1,11 +1,12 @@
 // The command `pairs A B COLUMN`.
 ghost use Rattle.std.specs.Prelude.{◌≡◌, IfSome, is_some, map, string_bytes};
-ghost use Rattle.command_steps.specs.Does.{Does};
-ghost use Rattle.command_steps.specs.Seen.{sink_seen, store_seen};
+ghost use Rattle.command_scripts.specs.Does.{Does};
+ghost use Rattle.command_scripts.specs.Seen.{sink_seen, store_seen};
 ghost use Rattle.link_shell.specs.PairsColumns.{are_column_words, columns_in, columns_of_request, columns_script};
 
 use crate::words::{are_form, is_short, word_at};
-use command_steps::{Ended, load_both, print_text};
+use command_scripts::{Ended, print_text};
+use command_steps::load_both;
 use link_base::Fault;
 use link_core::pair_rows;
 use link_outside::{Sink, Store};

@@ -1,9 +1,10 @@
 // The command `pairs SETTINGS`.
-ghost use Rattle.command_steps.specs.Does.{Does};
-ghost use Rattle.command_steps.specs.Seen.{sink_seen, store_seen};
+ghost use Rattle.command_scripts.specs.Does.{Does};
+ghost use Rattle.command_scripts.specs.Seen.{sink_seen, store_seen};
 ghost use Rattle.link_shell.specs.PairsSettings.{settings_script};
 
-use command_steps::{Ended, load_described, print_text};
+use command_scripts::{Ended, print_text};
+use command_steps::load_described;
 use link_base::Fault;
 use link_core::pair_ids;
 use link_outside::{Sink, Store};

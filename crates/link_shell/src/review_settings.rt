@@ -1,16 +1,17 @@
 // The command `review SETTINGS VERDICTS DATE REVIEWER`.
 ghost use Rattle.std.specs.Prelude.{◌≡◌, IfSome, is_some, map, string_bytes, Some};
-ghost use Rattle.command_steps.specs.Does.{Does};
+ghost use Rattle.command_scripts.specs.Does.{Does};
 ghost use Rattle.command_steps.specs.Reviewed.{review_of};
-ghost use Rattle.command_steps.specs.Seen.{sink_seen, store_seen};
-ghost use Rattle.command_steps.specs.Steps.{Takes};
+ghost use Rattle.command_scripts.specs.Seen.{sink_seen, store_seen};
+ghost use Rattle.command_scripts.specs.Steps.{Takes};
 ghost use Rattle.link_core.specs.Decisions.{IsDecidedIn};
 ghost use Rattle.link_core.specs.Review.{IsJournalOf};
 ghost use Rattle.link_shell.specs.ReviewSettings.{added_verdicts, are_review_words, IsReviewRequest, review_in, review_of_request, review_script, reviewed_journal};
 ghost use Rattle.link_plan.specs.Ranges.{KeepsRanges, NamesFiles};
 
 use crate::words::{are_form, is_settings, is_short, word_at};
-use command_steps::{Ended, Reviewed, load_file, load_journal_plan, load_reviewed, put_journal};
+use command_scripts::{Ended, load_file};
+use command_steps::{Reviewed, load_journal_plan, load_reviewed, put_journal};
 use link_base::{Fault, FileRole, Text};
 use link_core::add_verdicts;
 use link_outside::{Sink, Store};

@@ -1,11 +1,12 @@
 // The command `rule SETTINGS`.
-ghost use Rattle.command_steps.specs.Does.{Does};
-ghost use Rattle.command_steps.specs.Due.{Due};
-ghost use Rattle.command_steps.specs.Seen.{sink_seen, store_seen};
+ghost use Rattle.command_scripts.specs.Does.{Does};
+ghost use Rattle.command_scripts.specs.Due.{Due};
+ghost use Rattle.command_scripts.specs.Seen.{sink_seen, store_seen};
 ghost use Rattle.command_steps.specs.declared.front.Shared.{Shared as AnyShared};
 ghost use Rattle.link_shell.specs.RuleSettings.{PrintsLeastRule, rule_is_printed, rule_script};
 
-use command_steps::{Ended, load_shared, print_lines};
+use command_scripts::{Ended, print_lines};
+use command_steps::load_shared;
 use link_base::Fault;
 use link_core::rule_lines;
 use link_outside::{Sink, Store};

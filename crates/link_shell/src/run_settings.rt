@@ -1,11 +1,12 @@
 // The command `run SETTINGS`.
-ghost use Rattle.command_steps.specs.Does.{Does};
-ghost use Rattle.command_steps.specs.Seen.{sink_seen, store_seen};
-ghost use Rattle.command_steps.specs.Ways.{PutsAll};
+ghost use Rattle.command_scripts.specs.Does.{Does};
+ghost use Rattle.command_scripts.specs.Seen.{sink_seen, store_seen};
+ghost use Rattle.command_scripts.specs.Ways.{PutsAll};
 ghost use Rattle.link_core.specs.Results.{five_texts};
 ghost use Rattle.link_shell.specs.RunSettings.{run_puts, run_script};
 
-use command_steps::{Ended, Output, load_reviewed_settings, put_each};
+use command_scripts::{Ended, Output, put_each};
+use command_steps::load_reviewed_settings;
 use link_base::Fault;
 use link_core::{RunResult, finish};
 use link_outside::{Sink, Store};

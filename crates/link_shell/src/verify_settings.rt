@@ -1,14 +1,15 @@
 // The command `verify SETTINGS`.
 ghost use Rattle.std.specs.Prelude.{◌≡◌, ◌≤◌, IfOk, length};
-ghost use Rattle.command_steps.specs.Does.{Does};
+ghost use Rattle.command_scripts.specs.Does.{Does};
 ghost use Rattle.command_steps.specs.Reviewed.{found_of, IsReviewed};
-ghost use Rattle.command_steps.specs.Seen.{sink_seen, store_seen};
-ghost use Rattle.command_steps.specs.Steps.{Makes, seen_by, Takes};
+ghost use Rattle.command_scripts.specs.Seen.{sink_seen, store_seen};
+ghost use Rattle.command_scripts.specs.Steps.{Makes, seen_by, Takes};
 ghost use Rattle.link_limits.specs.declared.TheConstants.{MOST_WRITTEN_BYTES};
 ghost use Rattle.link_shell.specs.VerifySettings.{ended_if, TellsOf, verify_script, written_files, written_plan};
 ghost use Rattle.written_check.specs.Verified.{texts_in};
 
-use command_steps::{Ended, ReviewedSettings, load_reviewed_settings, load_written, print_text};
+use command_scripts::{Ended, load_written, print_text};
+use command_steps::{ReviewedSettings, load_reviewed_settings};
 use link_base::{Fault, FileRole};
 use link_core::{Verification, Written, verify_files};
 use link_outside::{Sink, Store};

@@ -1,5 +1,6 @@
 use Rattle.std.proofs.Common.{rules}
-use Rattle.command_steps.proofs.StepFacts.{takes_go, takes_plan, takes_stop}
+use Rattle.command_scripts.proofs.StepFacts.{takes_go, takes_stop}
+use Rattle.command_steps.proofs.PlanFacts.{takes_plan}
 use Rattle.command_steps.proofs.front.load_plan.Goals as goal
 
 pub returns-in_err-bytes-clause-takes : goal.returns-in_err-bytes-clause-takes

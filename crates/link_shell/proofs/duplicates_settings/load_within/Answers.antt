@@ -7,9 +7,9 @@ use Rattle.link_core.specs.Prepared.{files_of, prepared, PreparedView}
 use Rattle.link_limits.specs.declared.TheConstants.{MOST_DISTINCT_BYTES}
 use Rattle.link_plan.specs.Within.{plan_within}
 use Rattle.link_plan.specs.declared.plan.Plan.{Plan}
-use Rattle.command_steps.specs.Seen.{StoreSeen}
-use Rattle.command_steps.specs.Steps.{file, Takes}
-use Rattle.command_steps.proofs.StepFacts.{of_bytes, seen_err, takes_go, takes_seen, takes_stop}
+use Rattle.command_scripts.specs.Seen.{StoreSeen}
+use Rattle.command_scripts.specs.Steps.{file, Takes}
+use Rattle.command_scripts.proofs.StepFacts.{of_bytes, seen_err, takes_go, takes_seen, takes_stop}
 use Rattle.link_shell.proofs.duplicates_settings.load_within.Goals as goal
 
 -- the load of a file by its name

@@ -1,6 +1,6 @@
 use Rattle.std.proofs.Common.{◌∙◌, ap}
-use Rattle.command_steps.specs.Due.{prints}
-use Rattle.command_steps.specs.declared.ends.Ended.TheVariants.{Done}
+use Rattle.command_scripts.specs.Due.{prints}
+use Rattle.command_scripts.specs.declared.ends.Ended.TheVariants.{Done}
 use Rattle.link_shell.proofs.rule_settings.printed_rule_is_least.Goals as goal
 
 pub returns : goal.returns

@@ -1,9 +1,9 @@
 // The ends of a command: a text for `out`, or puts one after the other.
 ghost use Rattle.std.specs.Prelude.{◌≡◌, IfErr, IfOk, map};
-ghost use Rattle.command_steps.specs.Due.{put_in, puts_in};
-ghost use Rattle.command_steps.specs.Seen.{sink_seen, store_seen};
-ghost use Rattle.command_steps.specs.declared.ends.Ended.TheVariants.{Done};
-ghost use Rattle.command_steps.specs.Ways.{HandsOver, IsWanted, PutsAll, PutsOne};
+ghost use Rattle.command_scripts.specs.Due.{put_in, puts_in};
+ghost use Rattle.command_scripts.specs.Seen.{sink_seen, store_seen};
+ghost use Rattle.command_scripts.specs.declared.ends.Ended.TheVariants.{Done};
+ghost use Rattle.command_scripts.specs.Ways.{HandsOver, IsWanted, PutsAll, PutsOne};
 
 use link_base::{Fault, NoMemory, Text};
 use link_outside::{Sink, SinkError, Store, StoreError};

@@ -4,11 +4,11 @@ use Rattle.std.specs.Prelude.{unwrap_or}
 use Rattle.link_base.specs.declared.fault.Fault.{Fault}
 use Rattle.link_outside.specs.Outside.{Held, held_with}
 use Rattle.link_outside.specs.declared.outside.StoreCall.{StoreCall}
-use Rattle.command_steps.specs.Causes.{Cause, cause_of, the_memory, the_store}
-use Rattle.command_steps.specs.Due.{a_put, after_puts, no_put, Put, put_of}
-use Rattle.command_steps.specs.Seen.{StoreSeen}
-use Rattle.command_steps.specs.Ways.{EachFails, OneFails, PutsAll, PutsEach, PutsOne}
-use Rattle.command_steps.specs.declared.ends.Ended.{Ended}
+use Rattle.command_scripts.specs.Causes.{Cause, cause_of, the_memory, the_store}
+use Rattle.command_scripts.specs.Due.{a_put, after_puts, no_put, Put, put_of}
+use Rattle.command_scripts.specs.Seen.{StoreSeen}
+use Rattle.command_scripts.specs.Ways.{EachFails, OneFails, PutsAll, PutsEach, PutsOne}
+use Rattle.command_scripts.specs.declared.ends.Ended.{Ended}
 
 -- one put more
 after_suc : (all : List Put) (n : ℕ) (held : Held) → n < length all

@@ -8,9 +8,9 @@ use Rattle.link_base.specs.declared.fault.FileRole.{FileRole}
 use Rattle.link_limits.specs.declared.TheConstants.{MOST_FILE_BYTES}
 use Rattle.link_outside.specs.Outside.{Held}
 use Rattle.link_outside.specs.declared.outside.StoreCall.{StoreCall}
-use Rattle.command_steps.specs.Causes.{Cause, cause_of, the_input, the_memory, the_output, the_store, the_words}
-use Rattle.command_steps.specs.Seen.{StoreSeen}
-use Rattle.command_steps.specs.Loads.{load_of, loaded}
+use Rattle.command_scripts.specs.Causes.{Cause, cause_of, the_input, the_memory, the_output, the_store, the_words}
+use Rattle.command_scripts.specs.Seen.{StoreSeen}
+use Rattle.command_scripts.specs.Loads.{load_of, loaded}
 
 -- a load of a name up to a limit, with the steps that its bytes lead to; or the end, with a value or a fault
 pub data Steps (T : Type 0) : Type 0 where

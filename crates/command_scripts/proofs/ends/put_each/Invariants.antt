@@ -1,6 +1,6 @@
 use Rattle.std.proofs.Common.{◌≡◌, take}
-use Rattle.command_steps.specs.Due.{after_puts, puts_in}
-use Rattle.command_steps.proofs.ends.put_each.Given as goal
+use Rattle.command_scripts.specs.Due.{after_puts, puts_in}
+use Rattle.command_scripts.proofs.ends.put_each.Given as goal
 
 abbrev pub invariant-loop-output : goal.invariant-loop-output
 invariant-loop-output g l = record {

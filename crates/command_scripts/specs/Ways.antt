@@ -5,11 +5,11 @@ use Rattle.link_base.specs.declared.fault.Fault.{Fault}
 use Rattle.link_base.specs.declared.fault.Fault.TheVariants as fault
 use Rattle.link_outside.specs.Outside.{held_with, Rose, TakesFront}
 use Rattle.link_outside.specs.declared.outside.StoreCall.{StoreCall}
-use Rattle.command_steps.specs.Causes.{Cause, cause_of, the_memory, the_output, the_store}
-use Rattle.command_steps.specs.Seen.{IsUncalled, SinkSeen, StoreSeen}
-use Rattle.command_steps.specs.Due.{after_puts, Put, put_of, PutFails, PutsSome}
-use Rattle.command_steps.specs.declared.ends.Ended.{Ended}
-use Rattle.command_steps.specs.declared.ends.Ended.TheVariants.{Done}
+use Rattle.command_scripts.specs.Causes.{Cause, cause_of, the_memory, the_output, the_store}
+use Rattle.command_scripts.specs.Seen.{IsUncalled, SinkSeen, StoreSeen}
+use Rattle.command_scripts.specs.Due.{after_puts, Put, put_of, PutFails, PutsSome}
+use Rattle.command_scripts.specs.declared.ends.Ended.{Ended}
+use Rattle.command_scripts.specs.declared.ends.Ended.TheVariants.{Done}
 
 abbrev pub HandFails : Cause → List ℕ → SinkSeen → Type 0
 HandFails the_output text out = Rose out.faults_before out.faults_after × (out.tells → TakesFront text out.taken_before out.taken_after)

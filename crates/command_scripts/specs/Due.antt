@@ -2,10 +2,10 @@
 use Rattle.std.specs.Prelude.{◌≡◌, ◌⊎◌, ◌≤◌, ◌<◌, ◌+◌, ◌++◌, ◌∷◌, [], ℕ, List, length, map, take, slice_index_or, true, ⊤}
 use Rattle.link_outside.specs.Outside.{Held, held_with, TakesFront}
 use Rattle.link_outside.specs.declared.outside.StoreCall.{StoreCall}
-use Rattle.command_steps.specs.Seen.{IsUncalled, SinkSeen, StoreSeen}
-use Rattle.command_steps.specs.declared.ends.Ended.{Ended}
-use Rattle.command_steps.specs.declared.ends.Ended.TheVariants.{Done}
-use Rattle.command_steps.specs.declared.ends.Output.{Output}
+use Rattle.command_scripts.specs.Seen.{IsUncalled, SinkSeen, StoreSeen}
+use Rattle.command_scripts.specs.declared.ends.Ended.{Ended}
+use Rattle.command_scripts.specs.declared.ends.Ended.TheVariants.{Done}
+use Rattle.command_scripts.specs.declared.ends.Output.{Output}
 
 -- bytes that a name is to hold
 pub record Put : Type 0 where

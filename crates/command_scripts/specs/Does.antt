@@ -4,11 +4,11 @@ use Rattle.std.specs.Prelude.{◌≡◌, ◌⊎◌, ◌≤◌, ◌++◌, ◌∷�
 use Rattle.link_base.specs.declared.fault.Fault.{Fault}
 use Rattle.link_outside.specs.Outside.{Rose}
 use Rattle.link_outside.specs.declared.outside.StoreCall.{StoreCall}
-use Rattle.command_steps.specs.Causes.{Cause, cause_of, the_input, the_memory, the_output, the_store, the_words}
-use Rattle.command_steps.specs.Seen.{IsUncalled, IsUntouched, SinkSeen, StoreSeen}
-use Rattle.command_steps.specs.Steps.{ComesTo, Reaches, Steps}
-use Rattle.command_steps.specs.Due.{Due, ended_of, HoldsAll, HoldsSome, Prints, PutFails, puts_of, TakesAll, TakesSome}
-use Rattle.command_steps.specs.declared.ends.Ended.{Ended}
+use Rattle.command_scripts.specs.Causes.{Cause, cause_of, the_input, the_memory, the_output, the_store, the_words}
+use Rattle.command_scripts.specs.Seen.{IsUncalled, IsUntouched, SinkSeen, StoreSeen}
+use Rattle.command_scripts.specs.Steps.{ComesTo, Reaches, Steps}
+use Rattle.command_scripts.specs.Due.{Due, ended_of, HoldsAll, HoldsSome, Prints, PutFails, puts_of, TakesAll, TakesSome}
+use Rattle.command_scripts.specs.declared.ends.Ended.{Ended}
 
 -- a command: its steps, and what may be due of the value that they give
 pub record Script : Type 1 where

@@ -7,11 +7,10 @@ use Rattle.link_base.specs.declared.fault.Fault.TheVariants as fault
 use Rattle.link_base.specs.declared.fault.FileRole.{FileRole}
 use Rattle.link_outside.specs.Outside.{Held}
 use Rattle.link_outside.specs.declared.outside.StoreCall.{StoreCall}
-use Rattle.settings.specs.Settings.{IsSettingsFault}
-use Rattle.command_steps.specs.Causes.{Cause, cause_of, the_input, the_memory, the_output, the_store, the_words}
-use Rattle.command_steps.specs.Loads.{HasLoadCause, IsLoadFault, load_of, loaded, LoadGives}
-use Rattle.command_steps.specs.Seen.{StoreSeen}
-use Rattle.command_steps.specs.Steps.{◌>>=◌, ComesTo, file_within, gives, IsLoadIn, load, Makes, Might, MightLoad, outcome, Reaches, seen_by, Steps, StopsBy, Takes}
+use Rattle.command_scripts.specs.Causes.{Cause, cause_of, the_input, the_memory, the_output, the_store, the_words}
+use Rattle.command_scripts.specs.Loads.{HasLoadCause, IsLoadFault, load_of, loaded, LoadGives}
+use Rattle.command_scripts.specs.Seen.{StoreSeen}
+use Rattle.command_scripts.specs.Steps.{◌>>=◌, ComesTo, file_within, gives, IsLoadIn, load, Makes, Might, MightLoad, outcome, Reaches, seen_by, Steps, StopsBy, Takes}
 
 abbrev pub ok : {T : Type 0} → T → Result T Fault
 ok x = Ok x
@@ -192,18 +191,6 @@ takes_ok x e = takes_value {result = Ok x} tt e
 -- what is said of the bytes that two calls give is said of the bytes that they are
 pub of_bytes : (P : List ℕ → List ℕ → Type 0) {a b a2 b2 : List ℕ} → a2 ≡ a → b2 ≡ b → P a2 b2 → P a b
 of_bytes P {a = a} {b2 = b2} of_a of_b h = subst (λ y. P a y) of_b (subst (λ x. P x b2) of_a h)
-
-input_of_settings : {T : Type 0} (result : Result T Fault) → IfErr result IsSettingsFault → IfErr result IsInputFault
-input_of_settings (Ok x) h = tt
-input_of_settings (Err fault.Usage) h = absurd h
-input_of_settings (Err (fault.StoreFault name)) h = absurd h
-input_of_settings (Err fault.SinkFault) h = absurd h
-input_of_settings (Err f) h = tt
-
--- a plan that was read takes no store
-pub takes_plan : {T : Type 0} {expected result : Result T Fault} {tells : Type 0} {held : Held} {faults : List StoreCall} → IfErr result IsSettingsFault → IsAnswer expected result
-    → Takes (gives expected) (record { tells = tells; held_before = held; held_after = held; faults_before = faults; faults_after = faults }) result
-takes_plan {result = result} kind answer = takes_value (input_of_settings result kind) answer
 
 plain : (r v : Result (List ℕ) Fault) → r ≡ v → and_then r (λ bytes. Ok bytes) ≡ v
 plain (Ok bytes) v e = e

@@ -4,16 +4,16 @@ use Rattle.link_base.specs.declared.fault.Fault.{Fault}
 use Rattle.link_base.specs.declared.fault.Fault.TheVariants as fault
 use Rattle.link_outside.specs.Outside.{Held}
 use Rattle.link_outside.specs.declared.outside.StoreCall.{StoreCall}
-use Rattle.command_steps.specs.Causes.{Cause, cause_of, the_input, the_memory, the_output, the_store, the_words}
-use Rattle.command_steps.specs.Loads.{load_of}
-use Rattle.command_steps.specs.Seen.{IsUncalled, SinkSeen, StoreSeen}
-use Rattle.command_steps.specs.Steps.{◌>>=◌, ComesTo, gives, Reaches, Steps, StopsBy, Takes}
-use Rattle.command_steps.specs.Due.{Due, Put, prints, puts}
-use Rattle.command_steps.specs.Does.{Answers, Does, DoesPart, FailsAt, FailsBy, IsDue, Script}
-use Rattle.command_steps.specs.Ways.{EachFails, HandFails, Hands, HandsOver, IsWanted, PutsAll, PutsEach}
-use Rattle.command_steps.specs.declared.ends.Ended.{Ended}
-use Rattle.command_steps.specs.declared.ends.Ended.TheVariants.{Done}
-use Rattle.command_steps.proofs.StepFacts.{at_err, comes_go, comes_stop, from_to, reaches_first, reaches_later, whole}
+use Rattle.command_scripts.specs.Causes.{Cause, cause_of, the_input, the_memory, the_output, the_store, the_words}
+use Rattle.command_scripts.specs.Loads.{load_of}
+use Rattle.command_scripts.specs.Seen.{IsUncalled, SinkSeen, StoreSeen}
+use Rattle.command_scripts.specs.Steps.{◌>>=◌, ComesTo, gives, Reaches, Steps, StopsBy, Takes}
+use Rattle.command_scripts.specs.Due.{Due, Put, prints, puts}
+use Rattle.command_scripts.specs.Does.{Answers, Does, DoesPart, FailsAt, FailsBy, IsDue, Script}
+use Rattle.command_scripts.specs.Ways.{EachFails, HandFails, Hands, HandsOver, IsWanted, PutsAll, PutsEach}
+use Rattle.command_scripts.specs.declared.ends.Ended.{Ended}
+use Rattle.command_scripts.specs.declared.ends.Ended.TheVariants.{Done}
+use Rattle.command_scripts.proofs.StepFacts.{at_err, comes_go, comes_stop, from_to, reaches_first, reaches_later, whole}
 
 -- a sink between two times
 abbrev taken_from_to : Type 0 → List ℕ → List ℕ → ℕ → ℕ → SinkSeen

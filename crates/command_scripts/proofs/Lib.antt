@@ -1,0 +1,3 @@
+pub mod StepFacts
+pub mod PutFacts
+pub mod DoesFacts
