@@ -5,3 +5,6 @@ pub mod Causes
 pub mod Due
 pub mod Ways
 pub mod Does
+pub mod StepLaws
+pub mod DoesLaws
+pub mod PutLaws

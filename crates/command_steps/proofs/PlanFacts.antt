@@ -7,7 +7,7 @@ use Rattle.link_outside.specs.Outside.{Held}
 use Rattle.link_outside.specs.declared.outside.StoreCall.{StoreCall}
 use Rattle.settings.specs.Settings.{IsSettingsFault}
 use Rattle.command_scripts.specs.Steps.{gives, Takes}
-use Rattle.command_scripts.proofs.StepFacts.{takes_value}
+use Rattle.command_scripts.specs.StepLaws.{takes_value}
 
 input_of_settings : {T : Type 0} (result : Result T Fault) → IfErr result IsSettingsFault → IfErr result IsInputFault
 input_of_settings (Ok x) h = tt

@@ -27,7 +27,7 @@ use Rattle.link_plan.specs.declared.plan.Plan.{Plan}
 use Rattle.written_check.specs.Short.{AreShort}
 use Rattle.written_check.specs.Verified.{WrittenTexts}
 use Rattle.written_check.specs.declared.refutation.Refutation.{Refutation}
-use Rattle.command_scripts.proofs.StepFacts.{no_err, ok_same, outcome_go}
+use Rattle.command_scripts.specs.StepLaws.{no_err, ok_same, outcome_go}
 use Rattle.command_scripts.specs.Does.{Ends}
 use Rattle.command_scripts.specs.Due.{after_puts, ended_of, HoldsAll, prints, puts, TakesAll}
 use Rattle.command_steps.specs.Front.{both_files, plan_file, prepared_files, shares_over}

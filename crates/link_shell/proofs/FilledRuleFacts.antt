@@ -25,7 +25,7 @@ use Rattle.pair_decisions.specs.TheRule.{the_rule}
 use Rattle.settings.proofs.Ranges.{read_plan}
 use Rattle.settings.specs.Settings.{settings}
 use Rattle.standard_files.specs.Files.{StandardPair}
-use Rattle.command_scripts.proofs.StepFacts.{no_ok, ok_same}
+use Rattle.command_scripts.specs.StepLaws.{no_ok, ok_same}
 use Rattle.command_steps.specs.Front.{plan_file, shares_over}
 use Rattle.command_steps.specs.Reviewed.{decided_plan, journal_plan, Review, reviewed_plan, ReviewedPlan, SharedDecisions, with_journal}
 use Rattle.command_scripts.specs.Steps.{file, gives, outcome}

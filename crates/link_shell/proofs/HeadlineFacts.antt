@@ -28,7 +28,7 @@ use Rattle.pair_decisions.specs.PairRule.{FileRule}
 use Rattle.review_journal.specs.Verdict.{verdict_on}
 use Rattle.review_journal.specs.declared.entry.Entry.{Entry}
 use Rattle.link_plan.specs.declared.plan.Plan.{Plan}
-use Rattle.command_scripts.proofs.StepFacts.{no_ok, ok_same}
+use Rattle.command_scripts.specs.StepLaws.{no_ok, ok_same}
 use Rattle.command_scripts.specs.Does.{Ends}
 use Rattle.command_scripts.specs.Due.{after_puts, HoldsAll, puts, TakesAll}
 use Rattle.command_steps.specs.Front.{plan_file, prepared_files, shares_over}

@@ -4,7 +4,7 @@ use Rattle.std.specs.Prelude.{MatchBool, ⊤}
 use Rattle.link_base.specs.Answers.{and_then}
 use Rattle.link_base.specs.Fault.{Gives, IsAnswer, IsInputFault, is_want}
 use Rattle.link_base.specs.declared.fault.Fault.{Fault}
-use Rattle.command_scripts.proofs.StepFacts.{at_err}
+use Rattle.command_scripts.specs.StepLaws.{at_err}
 
 refused : {A B : Type 0} (b : Bool) (r : Result A Fault) (next : A → Result B Fault) (f : Fault) → MatchBool b ⊤ (r ≡ Err f) → MatchBool b ⊤ (and_then r next ≡ Err f)
 refused true r next f h = tt

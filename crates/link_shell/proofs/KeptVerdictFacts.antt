@@ -28,7 +28,7 @@ use Rattle.review_journal.specs.declared.batch.NewVerdict.{NewVerdict}
 use Rattle.review_journal.specs.declared.entry.Entry.{Entry}
 use Rattle.settings.proofs.Ranges.{read_plan}
 use Rattle.value_forms.specs.Days.{iso_day}
-use Rattle.command_scripts.proofs.StepFacts.{no_ok, ok_same, outcome_go}
+use Rattle.command_scripts.specs.StepLaws.{no_ok, ok_same, outcome_go}
 use Rattle.command_scripts.specs.Due.{Put}
 use Rattle.command_steps.specs.Front.{both_files, plan_file, prepared_files}
 use Rattle.command_steps.specs.Reviewed.{journal_file, journal_plan, named_journal, put_of_journal, reviewed_plan, with_journal}

@@ -37,7 +37,7 @@ use Rattle.settings.proofs.Ranges.{read_plan}
 use Rattle.written_check.specs.Short.{IsSmallCell}
 use Rattle.written_check.specs.Verified.{WrittenTexts}
 use Rattle.written_check.specs.declared.refutation.Refutation.{Refutation}
-use Rattle.command_scripts.proofs.StepFacts.{no_ok, ok_same}
+use Rattle.command_scripts.specs.StepLaws.{no_ok, ok_same}
 use Rattle.command_scripts.specs.Does.{Ends}
 use Rattle.command_scripts.specs.Due.{Due, ended_of, HoldsAll, prints, TakesAll}
 use Rattle.command_steps.specs.Front.{both_files, plan_file}

@@ -1,5 +1,5 @@
 use Rattle.std.proofs.Common.{rules}
-use Rattle.command_scripts.proofs.StepFacts.{takes_go, takes_stop}
+use Rattle.command_scripts.specs.StepLaws.{takes_go, takes_stop}
 use Rattle.command_steps.proofs.PlanFacts.{takes_plan}
 use Rattle.command_steps.proofs.front.load_plan.Goals as goal
 

@@ -1,5 +1,5 @@
 use Rattle.link_core.specs.Prepared.{files_of}
-use Rattle.command_scripts.proofs.StepFacts.{seen_err, takes_go, takes_seen, takes_stop}
+use Rattle.command_scripts.specs.StepLaws.{seen_err, takes_go, takes_seen, takes_stop}
 use Rattle.command_steps.proofs.front.load_prepared.Goals as goal
 
 pub returns-in_err-inputs-clause-takes : goal.returns-in_err-inputs-clause-takes

@@ -4,7 +4,7 @@ use Rattle.link_base.specs.Fault.{Refuses}
 use Rattle.link_base.specs.declared.fault.Fault.{Fault}
 use Rattle.link_base.specs.declared.fault.Fault.TheVariants as fault
 use Rattle.link_plan.specs.declared.plan.Plan.{Plan}
-use Rattle.command_scripts.proofs.StepFacts.{takes_go, takes_stop, takes_value}
+use Rattle.command_scripts.specs.StepLaws.{takes_go, takes_stop, takes_value}
 use Rattle.command_steps.proofs.reviewed.load_journal_plan.Goals as goal
 
 -- a plan that names a journal, and one that names none

@@ -1,7 +1,7 @@
 use Rattle.std.proofs.Common.{ℕ, List, subst}
 use Rattle.link_base.specs.Fault.{IsAnswer}
 use Rattle.link_core.specs.Review.{journal_in_files}
-use Rattle.command_scripts.proofs.StepFacts.{takes_go, takes_stop, takes_value}
+use Rattle.command_scripts.specs.StepLaws.{takes_go, takes_stop, takes_value}
 use Rattle.command_steps.proofs.reviewed.load_named.Goals as goal
 
 pub returns-in_err-bytes-clause-takes : goal.returns-in_err-bytes-clause-takes

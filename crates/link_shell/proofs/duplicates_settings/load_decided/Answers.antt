@@ -4,7 +4,7 @@ use Rattle.link_core.specs.Decisions.{rule_in}
 use Rattle.link_core.specs.Results.{compared_in}
 use Rattle.pair_decisions.specs.Decisions.{decision_at, is_same}
 use Rattle.pair_decisions.proofs.CountLemmas.{filter_all}
-use Rattle.command_scripts.proofs.StepFacts.{seen_err, takes_go, takes_stop, takes_value}
+use Rattle.command_scripts.specs.StepLaws.{seen_err, takes_go, takes_stop, takes_value}
 use Rattle.link_shell.specs.DuplicatesSettings.{within_of}
 use Rattle.link_shell.proofs.duplicates_settings.load_decided.Goals as goal
 

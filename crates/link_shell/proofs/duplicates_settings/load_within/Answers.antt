@@ -9,7 +9,7 @@ use Rattle.link_plan.specs.Within.{plan_within}
 use Rattle.link_plan.specs.declared.plan.Plan.{Plan}
 use Rattle.command_scripts.specs.Seen.{StoreSeen}
 use Rattle.command_scripts.specs.Steps.{file, Takes}
-use Rattle.command_scripts.proofs.StepFacts.{of_bytes, seen_err, takes_go, takes_seen, takes_stop}
+use Rattle.command_scripts.specs.StepLaws.{of_bytes, seen_err, takes_go, takes_seen, takes_stop}
 use Rattle.link_shell.proofs.duplicates_settings.load_within.Goals as goal
 
 -- the load of a file by its name

@@ -13,7 +13,7 @@ use Rattle.command_scripts.specs.Due.{prints}
 use Rattle.command_scripts.specs.Seen.{StoreSeen}
 use Rattle.command_scripts.specs.Steps.{Takes}
 use Rattle.command_scripts.specs.declared.ends.Ended.TheVariants.{Done}
-use Rattle.command_scripts.proofs.DoesFacts.{does_fail, does_go, does_lines, does_stop, does_want}
+use Rattle.command_scripts.specs.DoesLaws.{does_fail, does_go, does_lines, does_stop, does_want}
 use Rattle.link_shell.specs.DuplicatesSettings.{AreGroupsPrinted, decided_within, Within, within_of}
 use Rattle.link_shell.proofs.duplicates_settings.perform.Goals as goal
 

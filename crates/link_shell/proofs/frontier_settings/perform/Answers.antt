@@ -2,7 +2,7 @@ use Rattle.std.proofs.Common.{map, refl}
 use Rattle.std.specs.Prelude.{string_bytes}
 use Rattle.csv_rows.specs.Numbers.{number_in}
 use Rattle.link_core.specs.Rules.{IsFrontierText}
-use Rattle.command_scripts.proofs.DoesFacts.{does_fail, does_lines}
+use Rattle.command_scripts.specs.DoesLaws.{does_fail, does_lines}
 use Rattle.link_shell.specs.FrontierSettings.{frontier_is_printed}
 use Rattle.link_shell.proofs.frontier_settings.perform.Goals as goal
 

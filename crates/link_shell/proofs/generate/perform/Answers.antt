@@ -4,8 +4,8 @@ use Rattle.link_report.specs.FirstLines.{first_lines_of}
 use Rattle.command_scripts.specs.Due.{prints}
 use Rattle.command_steps.specs.Reviewed.{found_of}
 use Rattle.command_scripts.specs.declared.ends.Ended.TheVariants.{Done}
-use Rattle.command_scripts.proofs.DoesFacts.{does_fail, does_print, does_want_after}
-use Rattle.command_scripts.proofs.StepFacts.{takes_ok, takes_seen}
+use Rattle.command_scripts.specs.DoesLaws.{does_fail, does_print, does_want_after}
+use Rattle.command_scripts.specs.StepLaws.{takes_ok, takes_seen}
 use Rattle.link_shell.proofs.generate.perform.Goals as goal
 
 pub returns-in_err-found : goal.returns-in_err-found

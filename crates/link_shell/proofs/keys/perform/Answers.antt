@@ -3,8 +3,8 @@ use Rattle.std.specs.Prelude.{map, string_bytes}
 use Rattle.link_core.specs.NameKeys.{keys_text}
 use Rattle.command_scripts.specs.Due.{is_printed, prints}
 use Rattle.command_scripts.specs.declared.ends.Ended.TheVariants.{Done}
-use Rattle.command_scripts.proofs.DoesFacts.{does_lines}
-use Rattle.command_scripts.proofs.StepFacts.{takes_value}
+use Rattle.command_scripts.specs.DoesLaws.{does_lines}
+use Rattle.command_scripts.specs.StepLaws.{takes_value}
 use Rattle.link_shell.proofs.keys.perform.Goals as goal
 
 pub returns : goal.returns

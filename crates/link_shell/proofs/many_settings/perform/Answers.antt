@@ -1,5 +1,5 @@
 use Rattle.std.proofs.Common.{refl}
-use Rattle.command_scripts.proofs.DoesFacts.{does_fail, does_go, does_print, does_stop}
+use Rattle.command_scripts.specs.DoesLaws.{does_fail, does_go, does_print, does_stop}
 use Rattle.link_shell.specs.ManySettings.{AreLinksPrinted}
 use Rattle.link_shell.proofs.many_settings.perform.Goals as goal
 

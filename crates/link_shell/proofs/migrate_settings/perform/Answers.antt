@@ -2,8 +2,8 @@ use Rattle.std.proofs.Common.{refl, Ok}
 use Rattle.command_scripts.specs.Due.{Put}
 use Rattle.command_steps.specs.Reviewed.{put_of_journal}
 use Rattle.command_scripts.specs.Steps.{gives}
-use Rattle.command_scripts.proofs.DoesFacts.{does_go, does_puts, does_stop}
-use Rattle.command_scripts.proofs.StepFacts.{takes_value}
+use Rattle.command_scripts.specs.DoesLaws.{does_go, does_puts, does_stop}
+use Rattle.command_scripts.specs.StepLaws.{takes_value}
 use Rattle.link_shell.specs.MigrateSettings.{is_one_put}
 use Rattle.link_shell.proofs.migrate_settings.perform.Goals as goal
 

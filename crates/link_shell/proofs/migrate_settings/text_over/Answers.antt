@@ -1,4 +1,4 @@
-use Rattle.command_scripts.proofs.StepFacts.{takes_go, takes_stop, takes_value}
+use Rattle.command_scripts.specs.StepLaws.{takes_go, takes_stop, takes_value}
 use Rattle.link_shell.proofs.migrate_settings.text_over.Goals as goal
 
 pub returns-in_err-journal : goal.returns-in_err-journal

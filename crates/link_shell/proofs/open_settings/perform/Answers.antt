@@ -3,7 +3,7 @@ use Rattle.link_core.specs.Review.{open_text_of}
 use Rattle.command_scripts.specs.Due.{is_printed, prints}
 use Rattle.command_steps.specs.Reviewed.{found_of, ReviewedPlan}
 use Rattle.command_scripts.specs.declared.ends.Ended.TheVariants.{Done}
-use Rattle.command_scripts.proofs.DoesFacts.{does_fail, does_lines}
+use Rattle.command_scripts.specs.DoesLaws.{does_fail, does_lines}
 use Rattle.link_shell.proofs.open_settings.perform.Goals as goal
 
 pub returns-in_err-found : goal.returns-in_err-found

@@ -4,7 +4,7 @@ use Rattle.std.proofs.lemmas.Int.{to_z-of_z}
 use Rattle.link_base.specs.Fault.{IsAnswer}
 use Rattle.link_base.specs.declared.fault.Fault.{Fault}
 use Rattle.link_core.specs.Review.{reviewed_lines_of}
-use Rattle.command_scripts.proofs.StepFacts.{takes_go, takes_stop, takes_value}
+use Rattle.command_scripts.specs.StepLaws.{takes_go, takes_stop, takes_value}
 use Rattle.link_shell.proofs.review_settings.add_loaded.Goals as goal
 
 -- the text of the day and of the bytes that are handed on

@@ -1,6 +1,6 @@
 use Rattle.std.proofs.Common.{◌∷◌, []}
 use Rattle.std.specs.Prelude.{codes}
-use Rattle.command_scripts.proofs.PutFacts.{puts_as}
+use Rattle.command_scripts.specs.PutLaws.{puts_as}
 use Rattle.command_scripts.specs.Due.{a_put}
 use Rattle.link_shell.proofs.run_settings.put_results.Goals as goal
 

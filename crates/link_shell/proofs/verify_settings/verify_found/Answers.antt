@@ -1,7 +1,7 @@
 use Rattle.std.proofs.Common.{Ok, refl}
 use Rattle.command_steps.specs.Reviewed.{found_of, ReviewedPlan}
 use Rattle.command_scripts.specs.Steps.{gives}
-use Rattle.command_scripts.proofs.StepFacts.{makes_end, makes_go, makes_want, takes_go, takes_value}
+use Rattle.command_scripts.specs.StepLaws.{makes_end, makes_go, makes_want, takes_go, takes_value}
 use Rattle.written_check.specs.Verified.{texts_in}
 use Rattle.written_check.specs.declared.written.Written.{Written}
 use Rattle.link_shell.specs.VerifySettings.{TellsOf, WrittenPlan}

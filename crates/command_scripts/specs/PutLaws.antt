@@ -1,4 +1,4 @@
--- Puts one after the other.
+-- Laws of puts one after the other: the proofs of calls that put cite them.
 use Rattle.std.proofs.Common.{◌≡◌, ◌⊎◌, ◌≤◌, ◌<◌, ◌+◌, inl, inr, ◌++◌, ◌∷◌, ℕ, zero, suc, List, [], Result, Err, get_or, refl, sym, ap, subst, ◌∙◌, arith, take, length, add-one, Option, Some}
 use Rattle.std.specs.Prelude.{unwrap_or}
 use Rattle.link_base.specs.declared.fault.Fault.{Fault}

@@ -1,4 +1,4 @@
--- A command that goes on with what its first steps gave, and the two ends of a command.
+-- Laws of a command that goes on with what its first steps gave, and of the two ends of a command: the proofs of commands cite them.
 use Rattle.std.proofs.Common.{◌≡◌, ◌⊎◌, inl, inr, ℕ, List, Result, Ok, Err, IsErrAnd, IfErr, IfOk, refl, sym, subst, arith}
 use Rattle.link_base.specs.declared.fault.Fault.{Fault}
 use Rattle.link_base.specs.declared.fault.Fault.TheVariants as fault
@@ -13,7 +13,7 @@ use Rattle.command_scripts.specs.Does.{Answers, Does, DoesPart, FailsAt, FailsBy
 use Rattle.command_scripts.specs.Ways.{EachFails, HandFails, Hands, HandsOver, IsWanted, PutsAll, PutsEach}
 use Rattle.command_scripts.specs.declared.ends.Ended.{Ended}
 use Rattle.command_scripts.specs.declared.ends.Ended.TheVariants.{Done}
-use Rattle.command_scripts.proofs.StepFacts.{at_err, comes_go, comes_stop, from_to, reaches_first, reaches_later, whole}
+use Rattle.command_scripts.specs.StepLaws.{at_err, comes_go, comes_stop, from_to, reaches_first, reaches_later, whole}
 
 -- a sink between two times
 abbrev taken_from_to : Type 0 → List ℕ → List ℕ → ℕ → ℕ → SinkSeen

@@ -1,4 +1,5 @@
--- Steps, and then those that their value leads to.
+-- Laws of steps, and then those that their value leads to: the proofs of calls cite them. They are said over every store and sink, which no
+-- clause of a call can range over, so they stand here.
 use Rattle.std.proofs.Common.{◌≡◌, inl, inr, ◌++◌, ◌∷◌, [], ℕ, List, Result, Ok, Err, IsErrAnd, IsOkAnd, IfErr, refl, sym, ap, subst, ◌∙◌}
 use Rattle.link_base.specs.Answers.{and_then}
 use Rattle.link_base.specs.Fault.{Gives, IsAnswer, IsInputFault, Refuses}

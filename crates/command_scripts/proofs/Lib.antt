@@ -1,3 +1,0 @@
-pub mod StepFacts
-pub mod PutFacts
-pub mod DoesFacts
