@@ -3,7 +3,7 @@ use Rattle.std.proofs.Common.{◌≡◌, ◌<◌, ◌≤◌, ◌+◌, ◌++◌, 
 use Rattle.std.specs.List.{flat_map}
 use Rattle.csv.proofs.RoundTrip.{read-write}
 use Rattle.csv.specs.Machine.{next_record}
-use Rattle.csv.specs.Reading.{default_config, records_from, strip_bom}
+use Rattle.csv.specs.Reading.{default_config, records_from}
 use Rattle.csv.specs.Writing.{default_writer, read_back, row_text}
 use Rattle.csv.specs.declared.parser.State.TheVariants as st
 use Rattle.file_reader.specs.Left.{records_in}
@@ -39,10 +39,3 @@ pub read_again : (rows : List (List (List ℕ))) → All (λ row. 1 ≤ length r
 read_again rows some plain =
     ap (λ (t : List ℕ). records_from default_config (length t + 1) st.StartRecord t) plain
     ∙ read_with (length (text_of rows) + 1) rows some (omega arith)
-
--- a text that begins with a byte of ASCII does not begin with a mark
-pub no_mark : (byte : ℕ) (bytes : List ℕ) → byte < 239 → HasNoMark (byte ∷ bytes)
-unfolding strip_bom
-no_mark byte [] low = refl
-no_mark byte (x ∷ []) low = refl
-no_mark byte (x ∷ y ∷ bytes) low = grind arith

@@ -1,10 +1,11 @@
 -- The first item that passes a test, sought from the front.
-use Rattle.std.proofs.Common.{◌≡◌, ◌≢◌, ◌<◌, ◌≤◌, ◌+◌, ◌==◌, ◌∷◌, ◌∙◌, ℕ, nat_lt, Bool, true, false, List, length, get_or, drop, None, Some, ap, refl, sym, arith}
+use Rattle.std.proofs.Common.{◌≡◌, ◌≢◌, ◌<◌, ◌≤◌, ◌+◌, ◌==◌, ◌∷◌, ◌∙◌, ℕ, nat_lt, Bool, true, false, List, length, get_or, drop, None, Some, ap, refl, sym, arith, zero, suc, []}
 use Rattle.std.specs.Prelude.{find}
 use Rattle.std.proofs.lemmas.List.{drop_all, drop_more}
 use Rattle.std.proofs.lemmas.Bool.Decides.{nat_tests}
 use Rattle.file_reader.specs.Table.{fault_by}
 use Rattle.link_base.specs.declared.fault.Fault.{Fault}
+use Rattle.csv.specs.Records.{field_at}
 
 from_here : {A : Type 0} (p : A → Bool) (xs : List A) (i : ℕ) (x : A) → i < length xs → x ≡ get_or xs i x → find p (drop i xs) ≡ find p (x ∷ drop (i + 1) xs)
 from_here {A = A} p xs i x lt is = ap (find p) (drop_more xs i x lt ∙ ap (λ (w : A). w ∷ drop (i + 1) xs) (sym is))
@@ -38,3 +39,10 @@ is_some n le = grind (arith, nat_tests)
 -- behind the last item nothing is found
 pub none_found : {A : Type 0} (p : A → Bool) (xs : List A) (i : ℕ) → length xs ≤ i → find p (drop i xs) ≡ find p xs → find p xs ≡ None
 none_found p xs i le told = sym told ∙ ap (find p) (drop_all i xs le)
+
+-- a field that is not there
+pub field-none : (fields : List (List ℕ)) (at : ℕ) → field_at fields at ≡ None → get_or fields at [] ≡ []
+unfolding field_at
+field-none [] at e = refl
+field-none (f ∷ fs) zero e = cc e
+field-none (f ∷ fs) (suc at) e = field-none fs at e

@@ -1,11 +1,7 @@
-pub mod FieldFacts
 pub mod FindFacts
-pub mod LeastFaulty
 pub mod MoreFacts
 pub mod PlainFacts
 pub mod ReadFacts
 pub mod RowFacts
 pub mod TakerFacts
-pub mod TextFacts
-pub mod WidthFacts
 pub mod Steps

@@ -1,6 +1,6 @@
 -- A row whose bytes together are ASCII and not too long.
-use Rattle.std.proofs.Common.{◌≡◌, ◌-◌, ◌∷◌, ℕ, zero, suc, Bool, false, List, [], length, get_or, take, drop, None, ap, arith, nat_lt, refl}
-use Rattle.std.specs.Prelude.{find, not}
+use Rattle.std.proofs.Common.{◌≡◌, ◌-◌, ◌∷◌, ℕ, zero, suc, List, [], length, get_or, take, drop, None, ap, arith, nat_lt, refl}
+use Rattle.std.specs.Prelude.{not}
 use Rattle.std.specs.Str.{is_utf8}
 use Rattle.std.proofs.lemmas.List.{length-drop, length-take}
 use Rattle.std.proofs.lemmas.Str.{is_utf8-from_IsUtf8, IsAscii-drop, IsAscii-take, IsUtf8-from_ascii}
@@ -10,6 +10,7 @@ use Rattle.link_limits.specs.declared.TheConstants.{MOST_FIELD_BYTES}
 use Rattle.file_reader.specs.Layout.{cell, Heading}
 use Rattle.file_reader.specs.Plain.{IsPlain}
 use Rattle.file_reader.specs.Table.{text_fault}
+use Rattle.file_reader.specs.TableLaws.{none_found}
 use Rattle.file_reader.specs.declared.layout.Column.{Column}
 use Rattle.file_reader.proofs.FindFacts.{no_more}
 
@@ -25,14 +26,10 @@ field_plain start [] bytes at h = (IsAscii-nil, omega arith)
 field_plain start (end ∷ ends) bytes zero h = part_plain bytes start (end - start) h
 field_plain start (end ∷ ends) bytes (suc at) h = field_plain end ends bytes at h
 
-none_passes : {X : Type 0} (p : X → Bool) (xs : List X) → ((x : X) → p x ≡ false) → find p xs ≡ None
-none_passes p [] fails = refl
-none_passes p (x ∷ xs) fails = rw (fails x) (none_passes p xs fails)
-
 -- such a row has no fault in its fields
 pub plain_faultless : (heading : Heading) (row : Row) → IsPlain (text_of row) → (number : ℕ) → text_fault heading number (fields_of row) ≡ None
 plain_faultless heading row h number =
     let plain : (c : Column) → IsPlain (cell (fields_of row) c) = λ c. field_plain 0 row.ends row.bytes c.place h in
-    let texts = none_passes (λ (c : Column). not (is_utf8 (cell (fields_of row) c))) heading.columns (λ c. ap not (is_utf8-from_IsUtf8 (cell (fields_of row) c) (IsUtf8-from_ascii (cell (fields_of row) c) (plain c).0))) in
-    let lengths = none_passes (λ (c : Column). nat_lt MOST_FIELD_BYTES (length (cell (fields_of row) c))) heading.columns (λ c. no_more MOST_FIELD_BYTES (length (cell (fields_of row) c)) (plain c).1) in
+    let texts = none_found (λ (c : Column). not (is_utf8 (cell (fields_of row) c))) heading.columns (λ c. ap not (is_utf8-from_IsUtf8 (cell (fields_of row) c) (IsUtf8-from_ascii (cell (fields_of row) c) (plain c).0))) in
+    let lengths = none_found (λ (c : Column). nat_lt MOST_FIELD_BYTES (length (cell (fields_of row) c))) heading.columns (λ c. no_more MOST_FIELD_BYTES (length (cell (fields_of row) c)) (plain c).1) in
     rw (texts, lengths) refl

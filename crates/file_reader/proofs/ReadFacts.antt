@@ -7,7 +7,7 @@ use Rattle.link_base.specs.declared.fault.Fault.TheVariants as fault
 use Rattle.file_reader.specs.Layout.{Heading}
 use Rattle.file_reader.specs.Rows.{ids_of, known_ids, TableRow}
 use Rattle.file_reader.specs.Steps.{ids_after, TakesTableRow}
-use Rattle.file_reader.proofs.RowFacts.{length_ids}
+use Rattle.file_reader.specs.RowLaws.{length_ids}
 use Rattle.file_reader.specs.Table.{row_fault, rows_read, taken}
 
 abbrev Records : Type 0

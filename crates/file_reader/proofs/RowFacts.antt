@@ -1,8 +1,9 @@
 -- Rows of cells side by side, with their ids.
-use Rattle.std.proofs.Common.{◌≡◌, ◌<◌, ◌≤◌, ◌+◌, ◌*◌, ◌∷◌, ◌++◌, ◌∙◌, ℕ, zero, suc, Bool, true, false, List, [], length, map, get_or, take, drop, refl, sym, ap, arith, length-drop}
+use Rattle.std.proofs.Common.{◌≡◌, ◌<◌, ◌≤◌, ◌+◌, ◌*◌, ◌∷◌, ◌++◌, ◌∙◌, ℕ, zero, suc, Bool, true, false, List, [], length, get_or, take, drop, refl, sym, ap, arith, length-drop}
 use Rattle.std.proofs.lemmas.List.{take-append-le, drop-append-le, get_or-take, get_or-drop, get_or_past, length-take-le}
 use Rattle.std.proofs.Math.Seq.{take-length}
-use Rattle.file_reader.specs.Rows.{AreIdsFor, ids_of, known_ids, no_row, row_of_cells, rows_in, skipped, table_rows, TableRow, with_ids}
+use Rattle.file_reader.specs.Rows.{AreIdsFor, known_ids, no_row, row_of_cells, rows_in, skipped, table_rows, TableRow, with_ids}
+use Rattle.file_reader.specs.RowLaws.{length_ids, length_with}
 use Rattle.file_reader.specs.Steps.{ids_after}
 
 abbrev Cells : Type 0
@@ -36,11 +37,6 @@ length_rows : (n w : ℕ) (cells : Cells) → length (rows_in n w cells) ≡ n
 length_rows zero w cells = refl
 length_rows (suc n) w cells = ap suc (length_rows n w (drop w cells))
 
-pub length_with : (rows : List Cells) (ids : List (List ℕ)) → length (with_ids rows ids) ≡ length rows
-length_with [] ids = refl
-length_with (r ∷ rows) [] = ap suc (length_with rows [])
-length_with (r ∷ rows) (id ∷ ids) = ap suc (length_with rows ids)
-
 pub length_table : (n w : ℕ) (cells : Cells) (ids : List (List ℕ)) → length (table_rows n w cells ids) ≡ n
 length_table n w cells ids = length_with (rows_in n w cells) ids ∙ length_rows n w cells
 
@@ -54,10 +50,6 @@ push_id [] row [] id e = refl
 push_id [] row (i ∷ ids) id e = absurd (omega (arith, e))
 push_id (r ∷ rows) row [] id e = absurd (omega (arith, e))
 push_id (r ∷ rows) row (i ∷ ids) id e = ap (λ (t : List TableRow). record { id = i; fields = r } ∷ t) (push_id rows row ids id (omega (arith, e)))
-
-pub length_ids : (rows : List TableRow) → length (ids_of rows) ≡ length rows
-length_ids [] = refl
-length_ids (r ∷ rows) = ap suc (length_ids rows)
 
 -- a row's fields are its cells after the id
 pub fields_behind : (has_id : Bool) (cells : Cells) → (row_of_cells has_id cells).fields ≡ drop (skipped has_id) cells
@@ -119,9 +111,3 @@ field_at n w cells ids at column lt = ap (λ (r : TableRow). get_or r.fields col
 
 pub count_at : (n w : ℕ) (cells : Cells) (ids : List (List ℕ)) (at : ℕ) → length cells ≡ n * w → at < n → length (get_or (table_rows n w cells ids) at no_row).fields ≡ w
 count_at n w cells ids at h lt = ap (λ (r : TableRow). length r.fields) (row_at n w cells ids at lt) ∙ row_length n w cells at h lt
-
--- the fields of rows with ids
-pub fields_with : (rows : List Cells) (ids : List (List ℕ)) → map (λ (r : TableRow). r.fields) (with_ids rows ids) ≡ rows
-fields_with [] ids = refl
-fields_with (r ∷ rows) [] = ap (λ (l : List Cells). r ∷ l) (fields_with rows [])
-fields_with (r ∷ rows) (id ∷ ids) = ap (λ (l : List Cells). r ∷ l) (fields_with rows ids)

@@ -24,27 +24,15 @@ start_record_between cfg c e = grind arith
 start_field_between : (cfg : Config) (c : ℕ) → is_end (start_field cfg c).1 ≡ true → IsBetweenRecords (start_field cfg c).0
 start_field_between cfg c e = grind arith
 
-in_quoted_between : (cfg : Config) (c : ℕ) → is_end (step cfg st.InQuoted c).1 ≡ true → IsBetweenRecords (step cfg st.InQuoted c).0
-in_quoted_between cfg c e = grind arith
-
-after_quote_between : (cfg : Config) (c : ℕ) → is_end (step cfg st.AfterQuote c).1 ≡ true → IsBetweenRecords (step cfg st.AfterQuote c).0
-after_quote_between cfg c e = grind arith
-
-in_comment_between : (cfg : Config) (c : ℕ) → is_end (step cfg st.InComment c).1 ≡ true → IsBetweenRecords (step cfg st.InComment c).0
-in_comment_between cfg c e = grind arith
-
-after_cr_between : (cfg : Config) (c : ℕ) → is_end (step cfg st.AfterCr c).1 ≡ true → IsBetweenRecords (step cfg st.AfterCr c).0
-after_cr_between cfg c e = grind arith
-
 end_between : (cfg : Config) (s : State) (c : ℕ) → is_end (step cfg s c).1 ≡ true → IsBetweenRecords (step cfg s c).0
 end_between cfg st.StartRecord c e = start_record_between cfg c e
 end_between cfg st.StartField c e = start_field_between cfg c e
 end_between cfg st.InField c e = in_field_between cfg c e
-end_between cfg st.InQuoted c e = in_quoted_between cfg c e
+end_between cfg st.InQuoted c e = grind arith
 end_between cfg st.InEscape c e = cc e
-end_between cfg st.AfterQuote c e = after_quote_between cfg c e
-end_between cfg st.InComment c e = in_comment_between cfg c e
-end_between cfg st.AfterCr c e = after_cr_between cfg c e
+end_between cfg st.AfterQuote c e = grind arith
+end_between cfg st.InComment c e = grind arith
+end_between cfg st.AfterCr c e = grind arith
 
 -- the two ways to a record
 either : (b : Bool) (r p : Read) (o : Option Read) → (if b then Some r else o) ≡ Some p → ((b ≡ true) × (r ≡ p)) ⊎ (o ≡ Some p)

@@ -1,23 +1,17 @@
 -- The rows of a table go to a taker.
-use Rattle.std.proofs.Common.{◌≡◌, ◌≤◌, ◌+◌, ◌*◌, ◌∷◌, ◌++◌, ◌∙◌, ℕ, Bool, true, false, cond, List, [], length, drop, Some, None, Result, Ok, refl, sym, subst, ap, arith, nat_lt, length-append}
+use Rattle.std.proofs.Common.{◌≡◌, ◌≤◌, ◌+◌, ◌*◌, ◌∷◌, ◌++◌, ◌∙◌, ℕ, Bool, List, [], length, drop, None, Result, Ok, sym, subst, ap, arith, length-append}
 use Rattle.std.specs.List.{All}
-use Rattle.std.specs.Prelude.{◌==◌, not}
-use Rattle.std.proofs.lemmas.Bool.Decides.{nat_tests}
-use Rattle.std.proofs.lemmas.List.{drop-map, length-map}
+use Rattle.std.proofs.lemmas.List.{drop-map}
 use Rattle.link_base.specs.declared.fault.Fault.{Fault}
-use Rattle.link_base.specs.declared.fault.Fault.TheVariants as fault
-use Rattle.link_base.specs.declared.fault.FileRole.{FileRole}
-use Rattle.file_reader.specs.Faults.{AreWhole}
-use Rattle.file_reader.specs.Layout.{cell, cells_of, field_columns, Heading, heading_under, Wanted}
+use Rattle.file_reader.specs.Layout.{cell, cells_of, field_columns, Heading}
 use Rattle.file_reader.specs.Rows.{AreIdsFor, rows_in, skipped, table_rows, TableRow, with_ids}
 use Rattle.file_reader.specs.Steps.{IsUnderway, TakesTableRow}
-use Rattle.file_reader.specs.Table.{fields_fault, IsFieldText, row_fault, rows_read, table_of, taken}
-use Rattle.file_reader.specs.Takers.{HasCells, IsTaken, IsTableFor}
-use Rattle.file_reader.proofs.LeastFaulty.{table_is_whole}
+use Rattle.file_reader.specs.Table.{IsFieldText, row_fault, rows_read, taken}
+use Rattle.file_reader.specs.Takers.{HasCells, IsTaken}
 use Rattle.file_reader.proofs.ReadFacts.{known_short, read}
-use Rattle.file_reader.proofs.RowFacts.{fields_behind, ids_for, length_with, row_push, rows_push}
-use Rattle.file_reader.proofs.TextFacts.{table_facts, taken_text}
-use Rattle.file_reader.proofs.WidthFacts.{table_width}
+use Rattle.file_reader.proofs.RowFacts.{fields_behind, ids_for, row_push, rows_push}
+use Rattle.file_reader.specs.RowLaws.{length_with}
+use Rattle.file_reader.specs.TableLaws.{taken_text}
 
 abbrev Records : Type 0
 Records = List (List (List ℕ))
@@ -30,9 +24,6 @@ pub fields_texts : (heading : Heading) (number : ℕ) (ids row : List (List ℕ)
 fields_texts heading number ids row none =
     let fields : (taken heading row).fields ≡ cells_of (field_columns heading) row = fields_behind heading.has_id (cells_of heading.columns row) ∙ behind heading row in
     subst (λ (texts : List (List ℕ)). All IsFieldText texts) fields (taken_text heading number ids row none).fields
-
-pub fields_many : (heading : Heading) (row : List (List ℕ)) → length (cells_of (field_columns heading) row) ≡ length (field_columns heading)
-fields_many heading row = length-map (field_columns heading) (cell row)
 
 -- one row more goes to a taker
 pub underway_more : (x : Unit {0}) (took new : Records → Type 0) (heading : Heading) (count : ℕ) (ids ids2 : List (List ℕ)) (all left rest : Records) (row fields : List (List ℕ))
@@ -85,34 +76,3 @@ table_taken has_id width count cells ids expected k =
 
 pub taken_ids : (has_id : Bool) (took : Records → Type 0) (count : ℕ) (ids : List (List ℕ)) (expected : Result (List TableRow) Fault) → IsTaken has_id took expected ids count → AreIdsFor count ids
 taken_ids has_id took count ids expected k = ids_for has_id (with_ids k.rows ids) count ids (length_with k.rows ids ∙ k.as_many) k.known
-
--- a table has no more rows than are wanted
-within_most : (heading : Heading) (number : ℕ) (ids row : List (List ℕ)) → row_fault heading number ids row ≡ None → number ≤ heading.most
-within_most heading number ids row none = by_test (nat_lt heading.most number) refl none
-  where
-    by_test : (b : Bool) → nat_lt heading.most number ≡ b
-        → cond b (Some (fault.TooManyRows heading.role heading.most)) (cond (not (length row == heading.width)) (Some (fault.Ragged heading.role number)) (fields_fault heading number ids row)) ≡ None → number ≤ heading.most
-    by_test true e h = cc h
-    by_test false e h = grind (arith, nat_tests, e)
-
-whole_few : (heading : Heading) (rows : Records) (table : List TableRow) → AreWhole heading rows table → length table ≤ heading.most
-whole_few heading [] table h = omega (arith, ap length h.all)
-whole_few heading (row ∷ rows) table h =
-    let last = within_most heading (length rows + 1) _ _ (h.sound (length rows) (omega arith)) in
-    omega (arith, ap length h.all, length-map rows (taken heading), last)
-
-few_of : (file : FileRole) (wanted : Wanted) (records : Records) (table : List TableRow) → table_of file wanted records ≡ Ok table → length table ≤ wanted.most
-few_of file wanted [] table e = cc e
-few_of file wanted (header ∷ rows) table e = whole_few (heading_under file wanted header) rows table (table_is_whole file wanted (header ∷ rows) table e).1
-
--- what holds of each table
-pub table_sound : (file : FileRole) (wanted : Wanted) (records : Records) (table : List TableRow) → table_of file wanted records ≡ Ok table → IsTableFor wanted table
-table_sound file wanted records table e =
-    let facts = table_facts file wanted records table e in
-    record {
-      few = few_of file wanted records table e;
-      width = table_width file wanted records table e;
-      texts = facts.0;
-      ids = facts.1;
-      distinct = facts.2;
-    }

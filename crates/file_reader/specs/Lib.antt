@@ -9,3 +9,8 @@ pub mod Steps
 pub mod Left
 pub mod Reader
 pub mod Plain
+pub mod FaultLaws
+pub mod TableLaws
+pub mod RowLaws
+pub mod LeftLaws
+pub mod EachRow

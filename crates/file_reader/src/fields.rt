@@ -6,8 +6,8 @@ ghost use Rattle.csv.specs.Records.{fields_of};
 
 use csv::ByteRecord;
 
-// The field at a place, or nothing past the last.
-pub(crate) fn field_of(row: &ByteRecord, at: usize) -> &[u8]
+/// The field of a record at a place, or nothing past the last.
+pub fn field_of(row: &ByteRecord, at: usize) -> &[u8]
     ensures { result.now ≡ slice_index_or (fields_of row.now) at [] }
 {
     match row.get(at) {

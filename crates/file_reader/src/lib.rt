@@ -12,8 +12,9 @@ mod rows;
 mod table;
 mod taker;
 
+pub use fields::field_of;
 pub use header::has_column;
-pub use known::known_record;
+pub use known::{known_pair, known_record};
 pub use laws::{first_fault, sound_table, whole_table};
 pub use layout::Layout;
 pub use records::Records;

@@ -2,7 +2,7 @@
 use Rattle.std.proofs.Common.{◌≡◌, ◌∷◌, ◌∙◌, ℕ, List, [], length, Option, Some, None, Result, Ok, Err, ap, sym, refl}
 use Rattle.std.proofs.lemmas.List.{length-map}
 use Rattle.file_reader.specs.Left.{records_in}
-use Rattle.file_reader.proofs.LeastFaulty.{table_is_whole}
+use Rattle.file_reader.specs.FaultLaws.{table_is_whole}
 use Rattle.file_reader.specs.Faults.{IsWholeTable}
 use Rattle.file_reader.specs.Layout.{heading_under, Wanted}
 use Rattle.file_reader.specs.Rows.{TableRow}

@@ -5,7 +5,7 @@ use Rattle.std.specs.Prelude.{All, AllPairs, ◌≢◌, IsTrue, is_some}
 use Rattle.std.proofs.lemmas.List.{get_or-map, length-map}
 use Rattle.std.proofs.lemmas.List.Elements.{All-map, All-weaker}
 use Rattle.file_reader.specs.Left.{records_in}
-use Rattle.file_reader.proofs.TextFacts.{table_facts}
+use Rattle.file_reader.specs.TableLaws.{table_sound}
 use Rattle.file_reader.specs.Layout.{Wanted}
 use Rattle.file_reader.specs.Rows.{no_row, TableRow}
 use Rattle.file_reader.specs.Table.{IsTextRow, table_of}
@@ -18,7 +18,6 @@ use Rattle.link_plan.specs.declared.plan.Plan.{Plan}
 use Rattle.standard_files.specs.Files.{sorts_a, sorts_b, standard_file, standard_files, StandardFile, StandardPair, table_a, table_b, wanted_a, wanted_b}
 use Rattle.standard_files.specs.Values.{standard_record, standard_records}
 use Rattle.standard_files.specs.declared.sorts.TextSort.{TextSort}
-use Rattle.review_journal.proofs.TableLemmas.{table_few}
 use Rattle.review_journal.specs.Text.{IsIdText}
 use Rattle.written_check.specs.Short.{HasShortId, IsSmallFile}
 use Rattle.link_core.proofs.DuplicateLemmas.{came, ok_is, unless_is}
@@ -50,18 +49,16 @@ distinct_records t sorts table distinct i j d lt within same =
 read_file : (r : FileRole) (wanted : Wanted) (records : List (List (List ℕ))) (table : List TableRow) (plan : Plan) (sorts : List TextSort) (file : StandardFile)
     → IsTrue (is_some wanted.id) → wanted.most ≤ MOST_ROWS → table_of r wanted records ≡ Ok table → standard_file r plan sorts table ≡ Ok file → IsReadFile file.records
 read_file r wanted records table plan sorts file has_id most read made =
-    let facts = table_facts r wanted records table read in
-    let texts = facts.0 in
-    let few = table_few r wanted records table read in
+    let sound = table_sound r wanted records table read in
     let is = ap (λ (f : StandardFile). f.records) (unless_is _ _ file made) in
     let whole : IsReadFile (standard_records plan.tables sorts table) = record {
       small = record {
-        few = omega (arith, length-map table (standard_record plan.tables sorts), few, most);
-        ids = All-map HasShortId (standard_record plan.tables sorts) table (All-weaker IsTextRow (λ (x : TableRow). length x.id ≤ MOST_FIELD_BYTES) (λ x h. h.id.short) table texts);
+        few = omega (arith, length-map table (standard_record plan.tables sorts), sound.few, most);
+        ids = All-map HasShortId (standard_record plan.tables sorts) table (All-weaker IsTextRow (λ (x : TableRow). length x.id ≤ MOST_FIELD_BYTES) (λ x h. h.id.short) table sound.texts);
       };
       texts = All-map IsIdText (standard_record plan.tables sorts) table (λ k d within.
-          let id = (texts k d within).id in record { some = not_empty _ (facts.1 has_id k d within); few = id.short; text = id.utf8 });
-      distinct = distinct_records plan.tables sorts table (facts.2 has_id);
+          let id = (sound.texts k d within).id in record { some = not_empty _ (sound.ids has_id k d within); few = id.short; text = id.utf8 });
+      distinct = distinct_records plan.tables sorts table (sound.distinct has_id);
     } in
     subst IsReadFile is whole
 

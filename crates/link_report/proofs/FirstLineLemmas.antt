@@ -1,5 +1,5 @@
 -- The first lines of a text of lines: those of a report are its head.
-use Rattle.std.proofs.Common.{◌≡◌, ◌<◌, ◌*◌, ◌%◌, ◌/◌, ◌==◌, ◌++◌, ◌∷◌, ◌∙◌, ◌&&◌, ℕ, zero, suc, ℤ, pos, negsuc, Bool, true, false, not, List, [], length, codes, decimal, if◌then◌else◌, sym, ap, arith, refl}
+use Rattle.std.proofs.Common.{◌≡◌, ◌<◌, ◌*◌, ◌%◌, ◌/◌, ◌==◌, ◌++◌, ◌∷◌, ◌∙◌, ◌&&◌, ℕ, zero, suc, ℤ, pos, negsuc, Bool, true, false, not, List, [], length, codes, decimal, map, if◌then◌else◌, sym, ap, arith, refl}
 use Rattle.std.specs.Fmt.{digit_glyph, digits, digits_onto, signed_decimal}
 use Rattle.std.specs.Prelude.{⊤}
 use Rattle.std.specs.List.{concat, flat_map, list_all}
@@ -9,7 +9,7 @@ use Rattle.std.proofs.lemmas.Bool.{and_parts, not-true}
 use Rattle.link_limits.specs.declared.TheConstants.{PER_MILLION}
 use Rattle.link_base.specs.Standard.{Record}
 use Rattle.link_report.specs.FirstLines.{first_lines_of}
-use Rattle.link_report.specs.ReportText.{dropped_row, file_lines, level_line, level_lines, line, link_lines, pair_lines, report_head, text_of_report}
+use Rattle.link_report.specs.ReportText.{dropped_row, file_lines, level_lines, line, link_lines, pair_lines, report_head, text_of_report}
 use Rattle.link_report.specs.declared.report.Report.{Report}
 
 -- no byte ends a line
@@ -82,60 +82,40 @@ signed_one : (z : ℤ) → IsOneLine (signed_decimal z)
 signed_one (pos n) = decimal_one n
 signed_one (negsuc n) = decimal_one (suc n)
 
-count_is_line : (name : List ℕ) (n : ℕ) → IsOneLine name → IsLine (line name (decimal n ∷ []))
-count_is_line name n one = is_line name (decimal n ∷ []) one (decimal_one n, tt)
+-- lines of a name and counts
+decimals_one : (numbers : List ℕ) → Each IsOneLine (map decimal numbers)
+decimals_one [] = tt
+decimals_one (n ∷ numbers) = (decimal_one n, decimals_one numbers)
 
-two_are_line : (name : List ℕ) (n m : ℕ) → IsOneLine name → IsLine (line name (decimal n ∷ decimal m ∷ []))
-two_are_line name n m one = is_line name (decimal n ∷ decimal m ∷ []) one (decimal_one n, (decimal_one m, tt))
+abbrev Counted : Type 0
+Counted = List (List ℕ × List ℕ)
 
-level_is_line : (name : List ℕ) (n m : ℕ) → IsOneLine name → IsLine (level_line name n m)
-level_is_line name n m one =
-    is_line name (decimal n ∷ decimal m ∷ decimal (n * PER_MILLION / m) ∷ []) one (decimal_one n, (decimal_one m, (decimal_one (n * PER_MILLION / m), tt)))
+abbrev lines_of : Counted → List (List ℕ)
+lines_of counted = map (λ (c : List ℕ × List ℕ). line c.0 (map decimal c.1)) counted
+
+are_lines : (counted : Counted) (more : List (List ℕ)) → list_all (λ (c : List ℕ × List ℕ). list_all (λ byte. not (byte == 10)) c.0) counted ≡ true → Each IsLine more
+    → Each IsLine (lines_of counted ++ more)
+are_lines [] more names rest = rest
+are_lines (c ∷ counted) more names rest =
+    let parts = and_parts (list_all (λ byte. not (byte == 10)) c.0) (list_all (λ (c : List ℕ × List ℕ). list_all (λ byte. not (byte == 10)) c.0) counted) names in
+    (is_line c.0 (map decimal c.1) parts.0 (decimals_one c.1), are_lines counted more parts.1 rest)
+
+abbrev level : List ℕ → ℕ → ℕ → List ℕ × List ℕ
+level name sum denominator = (name, sum ∷ denominator ∷ sum * PER_MILLION / denominator ∷ [])
+
+abbrev counts_in : List Record → List Record → Report → Counted
+counts_in a b r =
+    (codes "rows", length a ∷ length b ∷ []) ∷ (codes "unreadable", r.unreadable_a ∷ r.unreadable_b ∷ []) ∷ (codes "pairs", r.pairs ∷ [])
+    ∷ (codes "link", r.link ∷ []) ∷ (codes "possible", r.possible ∷ []) ∷ (codes "nonlink", r.nonlink ∷ []) ∷ (codes "open", r.undecided ∷ [])
+    ∷ (codes "entries", r.entries ∷ []) ∷ (codes "idle", r.idle ∷ [])
+    ∷ level (codes "mu") r.levels.mu r.levels.denominator ∷ level (codes "lambda") r.levels.lambda r.levels.denominator
+    ∷ level (codes "possible_m") r.levels.possible_m r.levels.denominator ∷ level (codes "possible_u") r.levels.possible_u r.levels.denominator
+    ∷ (codes "links", r.links ∷ []) ∷ []
 
 head_is_lines : (a b : List Record) (r : Report) → Each IsLine (file_lines a b r ++ pair_lines r ++ level_lines r.levels ++ link_lines r)
-head_is_lines a b r = (
-  two_are_line (codes "rows") (length a) (length b) refl,
-  (
-    two_are_line (codes "unreadable") r.unreadable_a r.unreadable_b refl,
-    (
-      count_is_line (codes "pairs") r.pairs refl,
-      (
-        count_is_line (codes "link") r.link refl,
-        (
-          count_is_line (codes "possible") r.possible refl,
-          (
-            count_is_line (codes "nonlink") r.nonlink refl,
-            (
-              count_is_line (codes "open") r.undecided refl,
-              (
-                count_is_line (codes "entries") r.entries refl,
-                (
-                  count_is_line (codes "idle") r.idle refl,
-                  (
-                    level_is_line (codes "mu") r.levels.mu r.levels.denominator refl,
-                    (
-                      level_is_line (codes "lambda") r.levels.lambda r.levels.denominator refl,
-                      (
-                        level_is_line (codes "possible_m") r.levels.possible_m r.levels.denominator refl,
-                        (
-                          level_is_line (codes "possible_u") r.levels.possible_u r.levels.denominator refl,
-                          (
-                            count_is_line (codes "links") r.links refl,
-                            (is_line (codes "total") (signed_decimal r.total ∷ []) refl (signed_one r.total, tt), (count_is_line (codes "dropped") (length r.dropped.items) refl, tt)),
-                          ),
-                        ),
-                      ),
-                    ),
-                  ),
-                ),
-              ),
-            ),
-          ),
-        ),
-      ),
-    ),
-  ),
-)
+head_is_lines a b r =
+    are_lines (counts_in a b r) (line (codes "total") (signed_decimal r.total ∷ []) ∷ line (codes "dropped") (decimal (length r.dropped.items) ∷ []) ∷ []) refl
+    (is_line (codes "total") (signed_decimal r.total ∷ []) refl (signed_one r.total, tt), (is_line (codes "dropped") (decimal (length r.dropped.items) ∷ []) refl (decimal_one (length r.dropped.items), tt), tt))
 
 pub head_first : (a b : List Record) (report : Report) → first_lines_of 16 (text_of_report a b report) ≡ report_head a b report
 head_first a b report =

@@ -8,4 +8,3 @@ pub mod ReadingLemmas
 pub mod RowLemmas
 pub mod LineLemmas
 pub mod PlainLemmas
-pub mod PairLemmas

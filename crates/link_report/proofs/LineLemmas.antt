@@ -1,7 +1,6 @@
 -- The lines of pairs, as their fronts, ids and ends.
-use Rattle.std.proofs.Common.{◌≡◌, ◌∙◌, ◌++◌, ◌∷◌, ℕ, Bool, List, [], ap, append_assoc, decimal, get_or, length, map, sym}
+use Rattle.std.proofs.Common.{◌≡◌, ◌∙◌, ◌++◌, ◌∷◌, ℕ, Bool, List, [], ap, append_assoc, decimal, get_or, map, sym}
 use Rattle.std.proofs.Math.ListN.{get_or-map}
-use Rattle.std.proofs.lemmas.List.{length-map}
 use Rattle.std.proofs.lemmas.List.Folds.{flat_map-map}
 use Rattle.std.specs.Fmt.{signed_decimal}
 use Rattle.std.specs.List.{flat_map}
@@ -37,10 +36,6 @@ pair_written rares a b row start mid new front end =
 -- the field of a record's id
 pub field_of_id : (records : List Record) (at : ℕ) → get_or (id_fields records) at [] ≡ field_text default_writer (id_at records at)
 field_of_id records at = get_or-map (λ (r : Record). field_text default_writer r.id) records at no_record
-
--- as many fields as records
-pub count_of_ids : (ids : List (List ℕ)) (records : List Record) → ids ≡ id_fields records → length ids ≡ length records
-count_of_ids ids records of = ap length of ∙ length-map records (λ (r : Record). field_text default_writer r.id)
 
 -- a front, the id in B and the line feed are the line of ids
 line_of_ids : (a b : List Record) (at : PairAt) → line_behind (front_of (id_at a at.a)) (field_text default_writer (id_at b at.b)) ≡ ids_line a b at

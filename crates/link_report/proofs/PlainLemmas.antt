@@ -6,7 +6,7 @@ use Rattle.std.specs.List.{list_all}
 use Rattle.std.specs.Prelude.{FitsSigned}
 use Rattle.std.proofs.lemmas.Bool.{cases_Bool, false≢true}
 use Rattle.std.proofs.lemmas.Bool.Decides.{nat_tests}
-use Rattle.csv_rows.proofs.NumberLemmas.{decimal_is_read}
+use Rattle.csv_rows.specs.NumberLaws.{decimal_is_decimal}
 use Rattle.csv.specs.Writing.{default_writer, field_text, fields_text, is_blank, needs_byte, needs_quotes, row_text}
 use Rattle.link_report.specs.Lines.{front_of}
 
@@ -27,7 +27,7 @@ all_digits true false led h = h
 all_digits false digits led h = absurd (false≢true h)
 
 decimal_plain : (n : ℕ) → n < 2 ^ 64 → needs_quotes default_writer (decimal n) ≡ false
-decimal_plain n small = digits_plain (decimal n) (all_digits _ _ _ (decimal_is_read n small).digits)
+decimal_plain n small = digits_plain (decimal n) (all_digits _ _ _ (decimal_is_decimal n small))
 
 -- a number that is written needs no quotes
 pub signed_plain : (n : ℤ) → FitsSigned w64 n → needs_quotes default_writer (signed_decimal n) ≡ false

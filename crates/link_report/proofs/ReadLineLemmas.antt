@@ -36,10 +36,6 @@ byte_more text i d n new whole within some is told =
     ∙ ap (λ xs. take i text ++ first_lines_of n xs) (sym (drop-cons text i d within))
     ∙ told)
 
--- no line is left to be read
-pub lines_read : (text : List ℕ) (i n : ℕ) (whole : List ℕ) → n ≡ 0 → take i text ++ first_lines_of n (drop i text) ≡ whole → take i text ≡ whole
-lines_read text i n whole none told = sym (append-nil (take i text)) ∙ ap (λ m. take i text ++ first_lines_of m (drop i text)) (sym none) ∙ told
-
 -- no byte is left to be read
 pub text_read : (text : List ℕ) (i n : ℕ) (whole : List ℕ) → length text ≤ i → take i text ++ first_lines_of n (drop i text) ≡ whole → take (length text) text ≡ whole
 text_read text i n whole past told =

@@ -1,5 +1,5 @@
 -- The rows of a text under its header.
-use Rattle.std.proofs.Common.{◌≡◌, ◌≢◌, ◌<◌, ◌≤◌, ◌+◌, ◌==◌, ◌++◌, ◌∷◌, ◌∙◌, ℕ, ℤ, zero, suc, Bool, true, false, List, [], All, length, drop, get_or, if◌then◌else◌, Option, Some, None, Ok, map, sym, ap, add-one, arith, refl}
+use Rattle.std.proofs.Common.{◌≡◌, ◌≢◌, ◌<◌, ◌≤◌, ◌+◌, ◌++◌, ◌∷◌, ◌∙◌, ℕ, ℤ, suc, Bool, true, false, List, [], All, length, drop, get_or, if◌then◌else◌, Some, None, Ok, map, sym, ap, add-one, arith, refl}
 use Rattle.std.specs.Prelude.{◌&&◌, bytes_eq, codes, filter, zip}
 use Rattle.std.specs.List.{flat_map}
 use Rattle.std.proofs.Math.Seq.{drop-cons}
@@ -7,51 +7,21 @@ use Rattle.std.proofs.lemmas.List.Elements.{All-append, All-cons, All-map}
 use Rattle.std.proofs.lemmas.List.Folds.{flat_map-map}
 use Rattle.std.proofs.lemmas.Grind.{flat_map-append}
 use Rattle.std.proofs.lemmas.Bool.{true≢false}
-use Rattle.std.proofs.lemmas.Slice.Eq.{bytes_eq-Decides, slice_eq-Decides}
-use Rattle.csv.specs.Machine.{Read, next_record}
-use Rattle.csv.specs.Reading.{is_bom, records_from, records_next, strip_bom}
-use Rattle.csv.specs.Records.{field_at}
+use Rattle.std.proofs.lemmas.Slice.Eq.{bytes_eq-Decides}
 use Rattle.csv.specs.Writing.{default_writer, row_text}
-use Rattle.csv.specs.declared.parser.Config.{Config}
-use Rattle.csv.specs.declared.parser.State.{State}
-use Rattle.csv.specs.declared.parser.State.TheVariants as st
-use Rattle.file_reader.specs.Left.{config_of, records_in}
-use Rattle.csv_rows.specs.ReadAgain.{HasNoMark}
-use Rattle.csv_rows.proofs.ReadAgainFacts.{no_mark}
+use Rattle.file_reader.specs.Left.{records_in}
+use Rattle.csv_rows.specs.ReadAgain.{HasNoMark, no_mark}
 use Rattle.link_base.specs.Standard.{Record}
 use Rattle.link_base.specs.declared.rule.Candidate.{Candidate}
 use Rattle.link_base.specs.declared.rule.RuleCell.{RuleCell}
 use Rattle.link_report.specs.LinksText.{link_fields, links_header, text_of_links}
 use Rattle.link_report.specs.PricesText.{is_priced, price_fields, price_rows, prices_header, text_of_prices}
-use Rattle.link_report.specs.Reading.{first_misfit, rows_begun, rows_of_prices, rows_under, same_row, side_rows}
+use Rattle.link_report.specs.ReadingLaws.{fits, row_same, same_itself}
+use Rattle.link_report.specs.Reading.{rows_begun, rows_of_prices, rows_under, same_row, side_rows}
 use Rattle.link_report.specs.RuleText.{cell_fields, rule_header, text_of_rule}
 
 abbrev Row : Type 0
 Row = List (List ℕ)
-
--- there are no more records than bytes, and one
-next_few : (n : ℕ) (more : State → List ℕ → List Row) → ((s : State) (xs : List ℕ) → length (more s xs) ≤ n) → (o : Option Read) → length (records_next more o) ≤ n + 1
-next_few n more h None = omega arith
-next_few n more h (Some p) = omega (arith, h p.1 p.2)
-
-from_few : (cfg : Config) (n : ℕ) (s : State) (xs : List ℕ) → length (records_from cfg n s xs) ≤ n
-unfolding records_from
-from_few cfg zero s xs = omega arith
-from_few cfg (suc n) s xs = omega (arith, next_few n (records_from cfg n) (from_few cfg n) (next_record cfg s [] [] xs))
-
-stripped : (a b c : ℕ) (rest : List ℕ) (t : Bool) → length (if t then rest else a ∷ b ∷ c ∷ rest) ≤ length rest + 3
-stripped a b c rest true = omega arith
-stripped a b c rest false = omega arith
-
-strip_few : (bytes : List ℕ) → length (strip_bom bytes) ≤ length bytes
-unfolding strip_bom
-strip_few [] = omega arith
-strip_few (a ∷ []) = omega arith
-strip_few (a ∷ b ∷ []) = omega arith
-strip_few (a ∷ b ∷ c ∷ rest) = omega (arith, stripped a b c rest (is_bom a b c))
-
-pub records_few : (bytes : List ℕ) → length (records_in 44 bytes) ≤ length bytes + 1
-records_few bytes = omega (arith, strip_few bytes, from_few (config_of 44) (length (strip_bom bytes) + 1) st.StartRecord (strip_bom bytes))
 
 -- the rows after a header are one fewer than the records
 pub begun_few : (header : List (List ℕ)) (records rows : List Row) → rows_begun header records ≡ Some rows → length rows < length records
@@ -61,13 +31,6 @@ begun_few header (first ∷ rest) rows e = by_test (same_row first header) e
     by_test : (t : Bool) → (if t then Some rest else None) ≡ Some rows → length rows < suc (length rest)
     by_test true is = grind (arith)
     by_test false is = absurd (let none : None ≡ Some rows = is in cc)
-
--- rows have the same fields exactly where the test says so
-pub row_same : (x y : Row) → same_row x y ≡ true → x ≡ y
-row_same x y e = (slice_eq-Decides bytes_eq-Decides x y (same_row x y) refl).0 e
-
-pub same_itself : (x : Row) → same_row x x ≡ true
-same_itself x = (slice_eq-Decides bytes_eq-Decides x x (same_row x x) refl).1 refl
 
 -- a field more is compared
 both : (s t : Bool) → s ≡ true → (s && t) ≡ t
@@ -97,16 +60,6 @@ differ_length xs ys ne = by_test (same_row xs ys) refl
     by_test : (t : Bool) → same_row xs ys ≡ t → t ≡ false
     by_test true e = absurd (ne (ap (λ (r : Row). length r) (row_same xs ys e)))
     by_test false e = refl
-
--- rows of one width have no misfit
-pub fits : (width n : ℕ) (rows : List Row) → All (λ (r : Row). length r ≡ width) rows → first_misfit width n rows ≡ None
-fits width n [] all = refl
-fits width n (row ∷ rows) all =
-    let here : length row ≡ width = all 0 [] (omega arith) in
-    rw here (rw (eq_itself width) (fits width (n + 1) rows (λ k d lt. all (suc k) d (omega arith))))
-  where
-    eq_itself : (m : ℕ) → (m == m) ≡ true
-    eq_itself m = grind arith
 
 pub whole : (header : Row) (rows : List Row) → All (λ (r : Row). length r ≡ length header) rows → rows_under header (header ∷ rows) ≡ Ok rows
 whole header rows all = rw (same_itself header) (rw (fits (length header) 1 rows all) refl)
@@ -160,10 +113,3 @@ prices_again read prices_a prices_b a b =
     ap (λ (t : List ℕ). rows_under prices_header (records_in 44 (row_text default_writer prices_header ++ t))) (sym text)
     ∙ under_again read prices_header (omega arith) prices_plain (of_a ++ of_b)
     (All-append (λ (r : Row). length r ≡ 3) of_a of_b (side_width (codes "A") prices_a a) (side_width (codes "B") prices_b b))
-
--- a field that is not there
-pub field_none : (fields : Row) (at : ℕ) → field_at fields at ≡ None → get_or fields at [] ≡ []
-unfolding field_at
-field_none [] at e = refl
-field_none (f ∷ fs) zero e = cc e
-field_none (f ∷ fs) (suc at) e = field_none fs at e

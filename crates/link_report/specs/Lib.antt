@@ -10,3 +10,4 @@ pub mod Reading
 pub mod ReportText
 pub mod PairsText
 pub mod RuleText
+pub mod ReadingLaws

@@ -26,7 +26,7 @@ pub use open::{PairRow, open_text};
 pub use pairs::PairsWriter;
 pub use prices::prices_text;
 pub use reading::{
-    ReadRows, field_of, has_fields, links_begun, prices_begun, read_links, read_prices, read_rule,
+    ReadRows, has_fields, links_begun, prices_begun, read_links, read_prices, read_rule,
     rule_begun, texts_read_again,
 };
 pub use report::{Dropped, Report, report_text};

@@ -1,5 +1,5 @@
 // The rows of written files, read again.
-ghost use Rattle.std.specs.Prelude.{◌≡◌, ◌<◌, ◌≤◌, ◌+◌, ◌^◌, [], Bool, IfOk, List, None, Ok, Some, if◌then◌else◌, length, map, slice_index_or, ℤ};
+ghost use Rattle.std.specs.Prelude.{◌≡◌, ◌<◌, ◌≤◌, ◌+◌, ◌^◌, Bool, IfOk, List, None, Ok, Some, if◌then◌else◌, length, map, ℤ};
 ghost use Rattle.csv.specs.Records.{fields_of};
 ghost use Rattle.file_reader.specs.Left.{records_in};
 ghost use Rattle.link_base.specs.Standard.{Record};
@@ -12,7 +12,7 @@ ghost use Rattle.link_report.specs.RuleText.{cell_fields, rule_header, text_of_r
 
 use csv::ByteRecord;
 use csv_rows::rows_read_again;
-use file_reader::Records;
+use file_reader::{Records, field_of};
 use link_base::NoMemory;
 use std::alloc::Global;
 
@@ -53,16 +53,6 @@ pub fn has_fields(row: &ByteRecord, fields: &[&[u8]]) -> bool
         }
     }
     true
-}
-
-/// The field of a row at a place, or nothing past the last.
-pub fn field_of(row: &ByteRecord, at: usize) -> &[u8]
-    ensures { result.now ≡ slice_index_or (fields_of row.now) at [] }
-{
-    match row.get(at) {
-        Some(field) => field,
-        None => b"",
-    }
 }
 
 // The first row that has not so many fields, by its number.

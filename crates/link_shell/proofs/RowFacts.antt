@@ -1,25 +1,22 @@
 -- The rows of written files that are verified, and written files with such rows.
 use Rattle.std.proofs.Common.{◌≡◌, ◌<◌, ◌≤◌, ◌+ℤ◌, ◌+◌, ◌==◌, ◌∷◌, ◌++◌, ◌∙◌, ℕ, ℤ, pos, zero, suc, Bool, true, false, List, [], All, length, drop, get_or, if◌then◌else◌, map, Option, Some, None, Result, Ok, Err, refl, sym, ap, subst, arith}
-use Rattle.std.specs.Prelude.{◌&&◌, ◌||◌, bytes_eq, codes, decimal, filter, nat_le, not, slice_set, zip}
-use Rattle.std.specs.Char.{is_ascii_digit}
-use Rattle.std.specs.List.{list_all}
+use Rattle.std.specs.Prelude.{◌&&◌, bytes_eq, codes, decimal, filter, nat_le, not, slice_set, zip}
 use Rattle.std.specs.Ordering.{int_eq}
-use Rattle.std.proofs.lemmas.Bool.{and_parts, eqb-false, eqb-true, leb-true, true≢false}
-use Rattle.std.proofs.lemmas.Bool.Decides.{Decides-int_eq, nat_tests}
-use Rattle.std.proofs.lemmas.Fmt.{decimal-digits_value}
+use Rattle.std.proofs.lemmas.Bool.{and_parts, eqb-true, leb-true}
+use Rattle.std.proofs.lemmas.Bool.Decides.{Decides-int_eq}
 use Rattle.std.proofs.lemmas.Int.{ints}
 use Rattle.std.proofs.lemmas.List.{append_assoc, append-nil, length-replicate, length-set}
 use Rattle.std.proofs.lemmas.List.Quantifiers.{position-Some}
 use Rattle.std.proofs.lemmas.Slice.Eq.{bytes_eq-Decides}
-use Rattle.std.proofs.lemmas.Str.Parse.{FoldsDigits, IsDigitsTest, IsNumeralModel, numerals_by_fold}
-use Rattle.csv_rows.specs.Numbers.{is_decimal, number_after, number_in}
+use Rattle.csv_rows.specs.NumberLaws.{decimal_of_read}
+use Rattle.csv_rows.specs.Numbers.{is_decimal, number_in}
 use Rattle.file_reader.specs.Left.{records_in}
 use Rattle.link_base.specs.Answers.{and_then}
 use Rattle.link_base.specs.Standard.{id_at, no_record, position_of_id, Record}
 use Rattle.link_base.specs.declared.rule.Candidate.{Candidate}
 use Rattle.link_base.specs.declared.rule.RuleCell.{RuleCell}
 use Rattle.link_limits.specs.declared.TheConstants.{MOST_VALUE}
-use Rattle.link_report.proofs.ReadingLemmas.{row_same}
+use Rattle.link_report.specs.ReadingLaws.{row_same}
 use Rattle.link_report.specs.PricesText.{is_priced, price_fields, prices_header}
 use Rattle.link_report.specs.Reading.{first_misfit, rows_of_prices, rows_under, same_row, side_rows, unless_at}
 use Rattle.link_report.specs.RuleText.{cell_fields, rule_header}
@@ -33,12 +30,10 @@ use Rattle.written_check.proofs.SumLemmas.{all_covered, apart_links, covered_so,
 use Rattle.written_check.proofs.VerifiedLemmas.{came, links_are, ok_is, prices_are, rows_read}
 use Rattle.written_check.proofs.WrittenLemmas.{DecimalsRead, links_read, no_difference, prices_read}
 use Rattle.written_check.specs.Certified.{balanced, covered_then, first_uncovered, is_covered, sums_verified}
-use Rattle.written_check.specs.Laws.{AreCandidatesOf}
 use Rattle.written_check.specs.LinkRows.{apart_verified, first_reused, links_in, links_verified}
 use Rattle.written_check.specs.PriceRows.{have_none, no_prices, price_in, priced_at, priced_more, PricePair, prices_in, prices_verified, row_priced, side_priced, with_a, with_b}
 use Rattle.written_check.specs.Refuted.{refuted_by, rows_of_file, unless_row}
 use Rattle.written_check.specs.RuleRows.{first_difference, rule_verified}
-use Rattle.written_check.specs.Verified.{verified, WrittenTexts}
 use Rattle.written_check.specs.declared.refutation.Refutation.{Refutation}
 use Rattle.written_check.specs.declared.refutation.Refutation.TheVariants as refutation
 use Rattle.link_shell.specs.Meaning.{HaveCertifiedRows, RowsAreVerified, VerifiedHaveRows}
@@ -104,46 +99,6 @@ three (x ∷ y ∷ z ∷ w ∷ rest) e = absurd (omega (arith, e))
 
 -- ---- the text of a price is that of its number
 
-first_so : (s t : Bool) → (s && t) ≡ true → s ≡ true
-first_so true t e = refl
-first_so false t e = e
-
-second_so : (s t : Bool) → (s && t) ≡ true → t ≡ true
-second_so true t e = e
-second_so false t e = absurd (cc e)
-
-both_so : (s t : Bool) → s ≡ true → t ≡ true → (s && t) ≡ true
-both_so true t e h = h
-both_so false t e h = e
-
-all_digits : IsDigitsTest (λ ds. list_all is_ascii_digit ds ≡ true)
-all_digits = record {
-  empty = refl;
-  parts = λ c cs e. (grind (arith, nat_tests, first_so (is_ascii_digit c) (list_all is_ascii_digit cs) e), second_so (is_ascii_digit c) (list_all is_ascii_digit cs) e);
-  more = λ c cs k e. both_so (is_ascii_digit c) (list_all is_ascii_digit cs) (grind (arith, nat_tests, k)) e;
-}
-
-folds : FoldsDigits number_after
-folds = record { empty = λ n. refl; more = λ n c cs k. refl }
-
-own : IsNumeralModel (λ ds. list_all is_ascii_digit ds ≡ true) number_in
-own = numerals_by_fold (λ ds. list_all is_ascii_digit ds ≡ true) all_digits number_after folds
-
-lead_by : (n c : ℕ) (s t : Bool) → (n == 1) ≡ s → (c == 48) ≡ t → (s || not t) ≡ true → c ≡ 48 → n ≡ 1
-lead_by n c true t is_n is_c e h = eqb-true n 1 is_n
-lead_by n c false true is_n is_c e h = absurd (true≢false (sym e))
-lead_by n c false false is_n is_c e h = absurd (eqb-false c 48 is_c h)
-
-lead : (text : List ℕ) → (length text == 1 || not (get_or text 0 48 == 48)) ≡ true → get_or text 0 0 ≡ 48 → length text ≡ 1
-lead [] e h = absurd (omega (arith, h))
-lead (c ∷ cs) e h = lead_by (length (c ∷ cs)) c (length (c ∷ cs) == 1) (c == 48) refl refl e h
-
-decimal_text : (text : List ℕ) → is_decimal text ≡ true → number_in text ≤ MOST_VALUE → decimal (number_in text) ≡ text
-decimal_text text e few =
-    let led = and_parts (nat_le 1 (length text) && list_all is_ascii_digit text) (length text == 1 || not (get_or text 0 48 == 48)) e in
-    let digits = and_parts (nat_le 1 (length text)) (list_all is_ascii_digit text) led.0 in
-    decimal-digits_value own text digits.1 (leb-true 1 (length text) digits.0) (lead text led.1) (omega (arith, few))
-
 some_number : (x y : ℕ) → Some x ≡ Some y → x ≡ y
 some_number x y e = cc e
 
@@ -158,7 +113,8 @@ price_text text n e = text_by text n (is_decimal text && nat_le 1 (number_in tex
     of_test so =
         let few = and_parts (is_decimal text && nat_le 1 (number_in text)) (nat_le (number_in text) MOST_VALUE) so in
         let digits = and_parts (is_decimal text) (nat_le 1 (number_in text)) few.0 in
-        decimal_text text digits.0 (leb-true (number_in text) MOST_VALUE few.1)
+        let least : number_in text ≤ MOST_VALUE = leb-true (number_in text) MOST_VALUE few.1 in
+        decimal_of_read text digits.0 (omega (arith, least))
 
 -- ---- the rows of the prices of a side
 

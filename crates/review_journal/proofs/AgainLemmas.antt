@@ -1,23 +1,22 @@
 -- The text of a journal reads as this journal.
-use Rattle.std.proofs.Common.{◌≡◌, ◌<◌, ◌≤◌, ◌+◌, ◌∷◌, ◌++◌, ◌∙◌, ◌≤ℤ◌, ℕ, ℤ, Bool, true, false, List, [], All, length, map, get_or, Result, Ok, Some, refl, sym, ap, subst, arith, append_assoc, length-append, nat_lt}
-use Rattle.std.specs.Prelude.{◌&&◌, codes, decimal}
-use Rattle.std.specs.List.{AllPairs, enumerate_from, flat_map, list_all}
-use Rattle.std.specs.Str.{IsAscii}
+use Rattle.std.proofs.Common.{◌≡◌, ◌<◌, ◌≤◌, ◌+◌, ◌∷◌, ◌++◌, ◌∙◌, ◌≤ℤ◌, ℕ, ℤ, true, false, List, [], All, length, map, get_or, Result, Ok, Some, refl, sym, ap, subst, arith, append_assoc, length-append, nat_lt, ◌≢◌, inl, inr}
+use Rattle.std.specs.Prelude.{codes, decimal, int_le}
+use Rattle.std.specs.List.{AllPairs, enumerate_from, flat_map, list_all, position_or_len}
+use Rattle.std.specs.Str.{IsAscii, bytes_eq}
 use Rattle.std.proofs.lemmas.Bool.Decides.{nat_tests}
 use Rattle.std.proofs.lemmas.Fmt.{IsAscii-decimal, length-decimal-le}
-use Rattle.std.proofs.lemmas.List.{append-nil, length-map}
+use Rattle.std.proofs.lemmas.List.{append-nil, length-map, get_or_append_left}
 use Rattle.std.proofs.lemmas.List.Elements.{All-cons, All-map, All-nil, All-tail}
-use Rattle.std.proofs.lemmas.List.Sums.{AllPass-from_list_all}
+use Rattle.std.proofs.lemmas.List.Sums.{AllPass-from_list_all, list_all-from_AllPass, position_or_len_is}
 use Rattle.std.proofs.lemmas.List.Folds.{flat_map-map}
 use Rattle.std.proofs.lemmas.List.FromFn.{length-enumerate_from}
 use Rattle.std.proofs.lemmas.Str.{IsUtf8-from_ascii}
 use Rattle.std.proofs.lemmas.Str.Ascii.{IsAscii-from_all}
 use Rattle.csv.specs.Writing.{default_writer, fields_text, is_blank, row_text}
 use Rattle.file_reader.specs.Left.{records_in}
-use Rattle.csv_rows.specs.ReadAgain.{HasNoMark}
-use Rattle.csv_rows.proofs.ReadAgainFacts.{no_mark}
+use Rattle.csv_rows.specs.ReadAgain.{HasNoMark, no_mark}
 use Rattle.link_base.specs.Answers.{and_then}
-use Rattle.link_base.specs.Standard.{id_at, IsDay, no_record, Record}
+use Rattle.link_base.specs.Standard.{id_at, IsDay, no_record, Record, HaveDistinctIds, position_of_id}
 use Rattle.link_base.specs.declared.fault.Fault.{Fault}
 use Rattle.link_base.specs.declared.fault.FileRole.TheVariants as role
 use Rattle.link_base.specs.declared.rule.Step.{Step}
@@ -33,12 +32,77 @@ use Rattle.review_journal.specs.Journal.{all_fit, IsJournal, IsReviewer, IsWithi
 use Rattle.review_journal.specs.Steps.{fits_after}
 use Rattle.review_journal.specs.declared.entry.Entry.{Entry}
 use Rattle.value_forms.specs.Days.{iso_day, text_of_day}
-use Rattle.review_journal.specs.Reading.{entries_read, entry_in, journal_in, journal_under, journal_wanted}
-use Rattle.review_journal.specs.Rows.{journal_columns, step_word, verdict_word, written_in}
+use Rattle.review_journal.specs.Reading.{entries_read, entry_in, journal_in, journal_under, journal_wanted, signed}
+use Rattle.review_journal.specs.Rows.{journal_columns, step_word, verdict_word, written_in, step_named, verdict_named}
 use Rattle.review_journal.specs.Text.{entry_fields, entry_line, HasIds, IsIdText, text_of_journal}
-use Rattle.review_journal.proofs.EntryFacts.{entry_again, found_again, not_before}
-use Rattle.review_journal.proofs.TableLemmas.{IsRowOf, rows_whole}
+use Rattle.file_reader.specs.TableLaws.{IsRowOf, rows_whole}
+use Rattle.std.proofs.lemmas.Bool.{and_parts, cases_Bool}
+use Rattle.std.proofs.lemmas.Int.{ints}
+use Rattle.std.proofs.lemmas.Slice.Eq.{bytes_eq-Decides}
+use Rattle.std.proofs.Math.Seq.{get_or-append_seam}
+use Rattle.review_journal.specs.Adding.{is_not_before}
 
+same_bytes : (text : List ℕ) → bytes_eq text text ≡ true
+same_bytes text = (bytes_eq-Decides text text).1 refl
+
+other_bytes : (x y : List ℕ) → x ≢ y → bytes_eq x y ≡ false
+other_bytes x y apart =
+    elim (cases_Bool (bytes_eq x y)) [
+      | inl same ↦ absurd (apart ((bytes_eq-Decides x y).0 same))
+      | inr other ↦ other
+    ]
+
+-- the record at a position is the one that its id names
+pub found_again : (file : List Record) (at : ℕ) → HaveDistinctIds file → at < length file → position_of_id (id_at file at) file ≡ Some at
+found_again file at distinct within =
+    let here : position_or_len (λ (r : Record). bytes_eq (id_at file at) r.id) file ≡ at =
+    position_or_len_is (λ (r : Record). bytes_eq (id_at file at) r.id) file at no_record (omega arith)
+    (λ k lt. other_bytes (id_at file at) (get_or file k no_record).id (λ e. distinct k at no_record lt within (sym e)))
+    (λ lt. same_bytes (id_at file at)) in
+    let test : nat_lt at (length file) ≡ true = grind (arith, nat_tests) in
+    rw (here, test)
+
+pub verdict_again : (v : Verdict) → verdict_named (verdict_word v) ≡ Some v
+verdict_again verdict.Link = refl
+verdict_again verdict.NonLink = refl
+verdict_again verdict.Undecided = refl
+
+pub step_again : (s : Step) → step_named (Some (step_word s)) ≡ Some s
+step_again Single = refl
+step_again First = refl
+step_again Confirm = refl
+
+signed_again : (number : ℕ) (name : List ℕ) → 1 ≤ length name → signed number name ≡ Ok name
+signed_again number [] some = absurd (omega arith)
+signed_again number (byte ∷ bytes) some = refl
+
+in_order : (x y : ℤ) → x ≤ℤ y → int_le x y ≡ true
+in_order x y le = grind (arith, ints)
+
+-- the day of an entry is not before those of the entries before it
+pub not_before : (done later : List Entry) (e : Entry) → AllPairs (λ (x y : Entry). x.date ≤ℤ y.date) (done ++ e ∷ later) → is_not_before done e.date ≡ true
+not_before done later e dates =
+    list_all-from_AllPass (λ (x : Entry). int_le x.date e.date) done (λ k d lt.
+    let earlier : get_or (done ++ e ∷ later) k d ≡ get_or done k d = get_or_append_left done (e ∷ later) d k lt in
+    let last : get_or (done ++ e ∷ later) (length done) d ≡ e = get_or-append_seam done e later d in
+    let told = dates k (length done) d lt (omega (arith, length-append done (e ∷ later))) in
+    in_order (get_or done k d).date e.date (subst (λ (x : Entry). x.date ≤ℤ e.date) earlier (subst (λ (y : Entry). (get_or (done ++ e ∷ later) k d).date ≤ℤ y.date) last told)))
+
+-- what an entry needs to be read again after these
+pub record IsReadable (a b : List Record) (done : List Entry) (e : Entry) : Type 0 where
+  pub day : iso_day (text_of_day e.date) ≡ Some e.date
+  pub not_back : is_not_before done e.date ≡ true
+  pub reviewer : 1 ≤ length e.reviewer
+  pub of_a : position_of_id (id_at a e.a) a ≡ Some e.a
+  pub of_b : position_of_id (id_at b e.b) b ≡ Some e.b
+  pub fits : fits_after done e ≡ true
+
+pub entry_again : (a b : List Record) (done : List Entry) (e : Entry) → IsReadable a b done e
+    → entry_in a b done (length done + 1) (written_in true (entry_fields a b (length done, e))) ≡ Ok e
+entry_again a b done e is =
+    rw (same_bytes (decimal (length done + 1)), is.day, is.not_back, signed_again (length done + 1) e.reviewer is.reviewer, is.of_a, is.of_b, verdict_again e.verdict, step_again e.step, is.fits)
+
+-- the rows of a journal
 -- the text of a day is read, and is ten bytes of ASCII
 pub record DaysRead : Type 0 where
   pub same : (day : ℤ) → IsDay day → iso_day (text_of_day day) ≡ Some day
@@ -53,14 +117,6 @@ RowsRead =
 
 abbrev heading : Heading
 heading = heading_under role.Journal (journal_wanted true) (journal_columns true)
-
-first_so : (s t : Bool) → (s && t) ≡ true → s ≡ true
-first_so true t e = refl
-first_so false t e = cc e
-
-second_so : (s t : Bool) → (s && t) ≡ true → t ≡ true
-second_so true t e = e
-second_so false t e = cc e
 
 -- an entry of a journal of the files
 record IsEntryOf (a b : List Record) (e : Entry) : Type 0 where
@@ -162,8 +218,9 @@ module _ (days : DaysRead) (a b : List Record) (ids_a : HasIds a) (ids_b : HasId
       let more : List Entry = done ++ e ∷ [] in
       let count : length more ≡ length done + 1 = length-append done (e ∷ []) in
       let joined : more ++ later ≡ done ++ e ∷ later = append_assoc done (e ∷ []) later in
-      let next = entry_next done later e (all 0 e (omega arith)) (first_so (fits_after done e) (all_fit more later) fit) dates in
-      let rest = entries_again more later (All-tail (IsEntryOf a b) e later all) (second_so (fits_after done e) (all_fit more later) fit) (subst (AllPairs (λ (x y : Entry). x.date ≤ℤ y.date)) (sym joined) dates) in
+      let fits = and_parts (fits_after done e) (all_fit more later) fit in
+      let next = entry_next done later e (all 0 e (omega arith)) fits.0 dates in
+      let rest = entries_again more later (All-tail (IsEntryOf a b) e later all) fits.1 (subst (AllPairs (λ (x y : Entry). x.date ≤ℤ y.date)) (sym joined) dates) in
       ap (λ (r : Result Entry Fault). and_then r (λ x. entries_read true a b (done ++ x ∷ []) (map (row_of a b) (enumerate_from (length done + 1) later)))) next
       ∙ ap (λ n. entries_read true a b more (map (row_of a b) (enumerate_from n later))) (sym count)
       ∙ rest ∙ ap Ok joined

@@ -1,6 +1,7 @@
 -- What a journal keeps, of one entry more.
-use Rattle.std.proofs.Common.{◌≡◌, ◌<◌, ◌+◌, ◌∷◌, ◌++◌, ◌∙◌, ◌&&◌, ℕ, ℤ, List, [], AllPairs, length, get_or, slice_get, Some, Bool, true, false, nat_lt, arith, ap, refl, subst, sym, length-append, append_assoc, true≢false}
+use Rattle.std.proofs.Common.{◌≡◌, ◌<◌, ◌+◌, ◌∷◌, ◌++◌, ◌∙◌, ℕ, ℤ, List, [], AllPairs, length, get_or, slice_get, Some, Bool, true, false, nat_lt, arith, ap, refl, subst, length-append, append_assoc}
 use Rattle.std.specs.Prelude.{◌≤ℤ◌, int_le}
+use Rattle.std.proofs.lemmas.Bool.{and_parts}
 use Rattle.std.proofs.lemmas.Bool.Decides.{nat_tests}
 use Rattle.std.proofs.lemmas.Int.{ints}
 use Rattle.std.proofs.lemmas.List.{append-nil}
@@ -16,22 +17,13 @@ use Rattle.review_journal.specs.Journal.{all_fit, IsJournal, IsReviewer}
 use Rattle.review_journal.specs.Steps.{fits_after}
 use Rattle.review_journal.specs.declared.entry.Entry.{Entry}
 
-first_true : (a b : Bool) → (a && b) ≡ true → a ≡ true
-first_true true b h = refl
-first_true false b h = h
-
-second_true : (a b : Bool) → (a && b) ≡ true → b ≡ true
-second_true true b h = h
-second_true false b h = absurd (true≢false (sym h))
-
 all_fit-push : (earlier later : List Entry) (e : Entry) → all_fit earlier later ≡ true → fits_after (earlier ++ later) e ≡ true → all_fit earlier (later ++ e ∷ []) ≡ true
 all_fit-push earlier [] e h fits =
     let here : fits_after earlier e ≡ true = subst (λ (es : List Entry). fits_after es e ≡ true) (append-nil earlier) fits in
     rw here refl
 all_fit-push earlier (x ∷ later) e h fits =
-    let here = first_true (fits_after earlier x) (all_fit (earlier ++ x ∷ []) later) h in
-    let rest = second_true (fits_after earlier x) (all_fit (earlier ++ x ∷ []) later) h in
-    rw (here, all_fit-push (earlier ++ x ∷ []) later e rest (rw append_assoc fits)) refl
+    let parts = and_parts (fits_after earlier x) (all_fit (earlier ++ x ∷ []) later) h in
+    rw (parts.0, all_fit-push (earlier ++ x ∷ []) later e parts.1 (rw append_assoc fits)) refl
 
 not_before_at : (es : List Entry) (date : ℤ) → is_not_before es date ≡ true → (k : ℕ) (d : Entry) → k < length es → (get_or es k d).date ≤ℤ date
 not_before_at es date h k d within =

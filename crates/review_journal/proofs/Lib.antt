@@ -3,11 +3,7 @@ pub mod PlaceLemmas
 pub mod SearchLemmas
 pub mod VerdictLemmas
 pub mod AgainLemmas
-pub mod EntryFacts
 pub mod ListLemmas
-pub mod RowLemmas
-pub mod TableLemmas
-pub mod VersionLemmas
 pub mod DayFacts
 pub mod ReadFacts
 pub mod KeptFacts

@@ -1,12 +1,11 @@
 -- What is made of each of some values, one more.
-use Rattle.std.proofs.Common.{◌≡◌, ◌<◌, ◌≤◌, ◌+◌, ◌++◌, ◌∷◌, ◌∙◌, ℕ, List, [], length, drop, get_or, map, take, ap, sym}
+use Rattle.std.proofs.Common.{◌≡◌, ◌<◌, ◌≤◌, ◌+◌, ◌++◌, ◌∙◌, ℕ, List, length, drop, get_or, ap, sym, All, ◌∷◌, [], Result, Ok, subst}
 use Rattle.std.specs.List.{enumerate_from, flat_map}
-use Rattle.std.proofs.lemmas.List.{append_assoc, append-nil, drop_all, drop_more, map-append, take_more}
-
-pub map_more : {A B : Type 0} (f : A → B) (xs : List A) (i : ℕ) (none : A) (old new : List B) → i < length xs
-    → old ≡ map f (take i xs) → new ≡ old ++ f (get_or xs i none) ∷ [] → new ≡ map f (take (i + 1) xs)
-map_more f xs i none old new within told more =
-    more ∙ ap (λ ys. ys ++ f (get_or xs i none) ∷ []) told ∙ sym (map-append f (take i xs) (get_or xs i none ∷ [])) ∙ ap (map f) (sym (take_more xs i none within))
+use Rattle.std.proofs.lemmas.List.{append_assoc, append-nil, drop_all, drop_more}
+use Rattle.std.proofs.lemmas.List.Elements.{All-push}
+use Rattle.link_base.specs.Answers.{and_then}
+use Rattle.link_base.specs.Fault.{Refuses}
+use Rattle.link_base.specs.declared.fault.Fault.{Fault}
 
 -- a text, and the lines of what is left
 pub line_more : {A : Type 0} (f : ℕ × A → List ℕ) (xs : List A) (i : ℕ) (none : A) (text new whole : List ℕ) → i < length xs
@@ -21,3 +20,11 @@ pub lines_all : {A : Type 0} (f : ℕ × A → List ℕ) (xs : List A) (i : ℕ)
     → text ++ flat_map f (enumerate_from i (drop i xs)) ≡ whole → text ≡ whole
 lines_all f xs i text whole past told =
     sym (append-nil text) ∙ ap (λ ys. text ++ flat_map f (enumerate_from i ys)) (sym (drop_all i xs past)) ∙ told
+
+-- what held of those before holds with one more
+pub all_more : {E : Type 0} (P : E → Type 0) (done new : List E) (e : E) → All P done → P e → new ≡ done ++ e ∷ [] → All P new
+all_more P done new e all here is_new = subst (All P) (sym is_new) (All-push P done e all here)
+
+-- a fault after a step that was taken
+pub refused_after : {A B : Type 0} (x : Result A Fault) (next : A → Result B Fault) (a : A) (f : Fault) → x ≡ Ok a → Refuses (next a) f → Refuses (and_then x next) f
+refused_after {A = A} x next a f told h = subst (λ (r : Result A Fault). Refuses (and_then r next) f) (sym told) h

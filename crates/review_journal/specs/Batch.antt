@@ -7,12 +7,13 @@ use Rattle.link_base.specs.Standard.{Record}
 use Rattle.link_base.specs.declared.fault.Fault.{Fault}
 use Rattle.link_base.specs.declared.fault.Fault.TheVariants as fault
 use Rattle.link_base.specs.declared.fault.FileRole.TheVariants as role
-use Rattle.file_reader.specs.Known.{known_in, or_fault}
+use Rattle.file_reader.specs.Known.{or_fault, pair_in}
+use Rattle.file_reader.specs.EachRow.{each_read}
 use Rattle.file_reader.specs.Layout.{Wanted}
 use Rattle.file_reader.specs.Rows.{TableRow}
 use Rattle.file_reader.specs.Table.{table_of}
 use Rattle.review_journal.specs.declared.batch.NewVerdict.{NewVerdict}
-use Rattle.review_journal.specs.Rows.{each_read, verdict_named}
+use Rattle.review_journal.specs.Rows.{verdict_named}
 
 abbrev pub verdicts_wanted : Wanted
 verdicts_wanted = record { id = None; columns = codes "id_a" ∷ codes "id_b" ∷ codes "verdict" ∷ []; most = MOST_ROWS }
@@ -20,10 +21,9 @@ verdicts_wanted = record { id = None; columns = codes "id_a" ∷ codes "id_b" �
 -- the new verdict of a row: its ids are tested first
 abbrev pub verdict_in : List Record → List Record → ℕ → List (List ℕ) → Result NewVerdict Fault
 verdict_in a b number fields =
-    and_then (known_in role.Verdicts number (codes "id_a") (slice_index_or fields 0 []) a) (λ at_a.
-    and_then (known_in role.Verdicts number (codes "id_b") (slice_index_or fields 1 []) b) (λ at_b.
+    and_then (pair_in role.Verdicts number (slice_index_or fields 0 []) (slice_index_or fields 1 []) a b) (λ at.
     and_then (or_fault (fault.BadVerdict role.Verdicts number) (verdict_named (slice_index_or fields 2 []))) (λ verdict.
-    Ok (record { a = at_a; b = at_b; verdict = verdict }))))
+    Ok (record { a = at.a; b = at.b; verdict = verdict })))
 
 -- the verdicts with those of the rows that are left; the first row with a fault decides
 abbrev pub verdicts_read : List Record → List Record → List NewVerdict → List TableRow → Result (List NewVerdict) Fault

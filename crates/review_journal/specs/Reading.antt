@@ -7,9 +7,9 @@ use Rattle.link_base.specs.Standard.{IsDay, Record}
 use Rattle.link_base.specs.declared.fault.Fault.{Fault}
 use Rattle.link_base.specs.declared.fault.Fault.TheVariants as fault
 use Rattle.link_base.specs.declared.fault.FileRole.TheVariants as role
-use Rattle.link_base.specs.declared.rule.PairAt.{PairAt}
-use Rattle.file_reader.specs.Known.{known_in, or_fault}
+use Rattle.file_reader.specs.Known.{or_fault, pair_in}
 use Rattle.file_reader.specs.Header.{header_has}
+use Rattle.file_reader.specs.EachRow.{each_read}
 use Rattle.file_reader.specs.Layout.{Wanted}
 use Rattle.file_reader.specs.Rows.{TableRow}
 use Rattle.file_reader.specs.Table.{table_of}
@@ -18,7 +18,7 @@ use Rattle.review_journal.specs.Adding.{is_not_before}
 use Rattle.review_journal.specs.Journal.{IsReviewer}
 use Rattle.review_journal.specs.Steps.{fits_after}
 use Rattle.review_journal.specs.declared.entry.Entry.{Entry}
-use Rattle.review_journal.specs.Rows.{each_read, journal_columns, step_named, verdict_named, Written, written_in}
+use Rattle.review_journal.specs.Rows.{journal_columns, step_named, verdict_named, Written, written_in}
 
 abbrev pub journal_wanted : Bool → Wanted
 journal_wanted second = record { id = None; columns = journal_columns second; most = MOST_ENTRIES }
@@ -47,20 +47,13 @@ signed number (byte ∷ bytes) = Ok (byte ∷ bytes)
 abbrev pub fitting : List Entry → ℕ → Entry → Result Entry Fault
 fitting done number e = unless (fits_after done e) (fault.BadStep number) e
 
--- its ids name a record of A and one of B, and the first is tested first
-abbrev pub placed : List Record → List Record → ℕ → Written → Result PairAt Fault
-placed a b number w =
-    and_then (known_in role.Journal number (codes "id_a") w.id_a a) (λ at_a.
-    and_then (known_in role.Journal number (codes "id_b") w.id_b b) (λ at_b.
-    Ok (record { a = at_a; b = at_b })))
-
 -- the entry of a row: its number, date, reviewer, ids, verdict and step are tested in this order
 abbrev pub entry_in : List Record → List Record → List Entry → ℕ → Written → Result Entry Fault
 entry_in a b done number w =
     and_then (numbered number w.number) (λ text.
     and_then (dated done number w.date) (λ date.
     and_then (signed number w.reviewer) (λ reviewer.
-    and_then (placed a b number w) (λ at.
+    and_then (pair_in role.Journal number w.id_a w.id_b a b) (λ at.
     and_then (or_fault (fault.BadVerdict role.Journal number) (verdict_named w.verdict)) (λ verdict.
     and_then (or_fault (fault.BadStep number) (step_named w.step)) (λ step.
     fitting done number (record { date = date; reviewer = reviewer; step = step; a = at.a; b = at.b; verdict = verdict })))))))

@@ -1,8 +1,6 @@
 -- The columns of a journal file, and the words of its rows. A journal of the second version says at each entry which step
 -- of review it is; one of the first version has single verdicts (`read_journal` and `journal_text`).
-use Rattle.std.specs.Prelude.{ℕ, List, [], ◌∷◌, ◌++◌, ◌+◌, Bool, true, false, length, bytes_eq, codes, if◌then◌else◌, slice_index_or, Option, Some, None, Result, Ok}
-use Rattle.link_base.specs.Answers.{and_then}
-use Rattle.link_base.specs.declared.fault.Fault.{Fault}
+use Rattle.std.specs.Prelude.{ℕ, List, [], ◌∷◌, Bool, true, false, bytes_eq, codes, if◌then◌else◌, slice_index_or, Option, Some, None}
 use Rattle.link_base.specs.declared.rule.Step.{Step}
 use Rattle.link_base.specs.declared.rule.Step.TheVariants.{Single, First, Confirm}
 use Rattle.link_base.specs.declared.rule.Verdict.{Verdict}
@@ -70,8 +68,3 @@ step_named (Some word) =
     else if bytes_eq word (codes "first") then Some First
     else if bytes_eq word (codes "confirm") then Some Confirm
     else None
-
--- what rows give, each by its number and after those before it; the first row with a fault decides
-abbrev pub each_read : {R E : Type 0} → (List E → ℕ → R → Result E Fault) → List E → List R → Result (List E) Fault
-each_read one done [] = Ok done
-each_read one done (row ∷ rows) = and_then (one done (length done + 1) row) (λ e. each_read one (done ++ e ∷ []) rows)

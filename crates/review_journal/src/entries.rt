@@ -1,21 +1,21 @@
 // The entry of a row of a journal.
-ghost use Rattle.std.specs.Prelude.{◌≡◌, ◌<◌, IfErr, IfOk, OnOk, length, true};
+ghost use Rattle.std.specs.Prelude.{◌≡◌, IfErr, IfOk, OnOk, length, true};
 ghost use Rattle.link_base.specs.Fault.{Gives, IsAnswer, IsInputFault};
 ghost use Rattle.link_base.specs.Standard.{IsDay};
 ghost use Rattle.file_reader.specs.Table.{IsFieldText};
 ghost use Rattle.review_journal.specs.Adding.{is_not_before};
 ghost use Rattle.review_journal.specs.Journal.{IsReviewer, IsWithinFiles};
 ghost use Rattle.review_journal.specs.Steps.{fits_after};
-ghost use Rattle.review_journal.specs.Reading.{dated, entry_in, fitting, numbered, placed, signed, CanFollow};
+ghost use Rattle.review_journal.specs.Reading.{dated, entry_in, fitting, numbered, signed, CanFollow};
 ghost use Rattle.review_journal.specs.Row.{written_of};
 
 use crate::entry::Entry;
 use crate::journal::Journal;
 use crate::row::Row;
 use crate::words::{step_of, verdict_of};
-use file_reader::known_record;
+use file_reader::known_pair;
 use itoa::Buffer;
-use link_base::{Fault, FileRole, PairAt, StdFile, Text};
+use link_base::{Fault, FileRole, StdFile, Text};
 use std::alloc::Global;
 use value_forms::read_iso;
 
@@ -31,15 +31,6 @@ fn test_number(row: u32, text: &[u8]) -> Result<(), Fault>
     Ok(())
 }
 
-fn is_in_order(journal: &Journal, date: i32) -> bool
-    ensures { result ≡ is_not_before journal.now date }
-{
-    match journal.last_date() {
-        Some(last) => last <= date,
-        None => true,
-    }
-}
-
 // The day of a row, which is not before that of the entry before.
 fn date_of(journal: &Journal, row: u32, text: &[u8]) -> Result<i32, Fault>
     ensures kind { IfErr result IsInputFault }
@@ -51,7 +42,7 @@ fn date_of(journal: &Journal, row: u32, text: &[u8]) -> Result<i32, Fault>
         Some(date) => date,
         None => return Err(Fault::BadDate { row }),
     };
-    if !is_in_order(journal, date) {
+    if !journal.is_not_before(date) {
         let role = FileRole::Journal;
         return Err(Fault::DateBack { role, row });
     }
@@ -69,24 +60,6 @@ fn test_reviewer(row: u32, text: &[u8]) -> Result<(), Fault>
         return Err(Fault::EmptyReviewer { row });
     }
     Ok(())
-}
-
-// The pair of records that the ids of a row name.
-fn pair_of(alloc: Global, number: u32, row: &Row, a: &StdFile, b: &StdFile) -> Result<PairAt, Fault>
-    ensures kind { IfErr result IsInputFault }
-    ensures answer { IsAnswer (placed a.now b.now number (written_of row.now)) result }
-    ensures in_a { IfOk result (λ at. at.a < length a.now) }
-    ensures in_b { IfOk result (λ at. at.b < length b.now) }
-{
-    let role = FileRole::Journal;
-    let of_a = match known_record(alloc, role, number, b"id_a", row.id_a, a) {
-        Ok(of_a) => of_a,
-        Err(fault) => return Err(fault),
-    };
-    match known_record(alloc, role, number, b"id_b", row.id_b, b) {
-        Ok(of_b) => Ok(PairAt { a: of_a, b: of_b }),
-        Err(fault) => Err(fault),
-    }
 }
 
 // An entry whose step may stand after the entries before.
@@ -129,7 +102,7 @@ pub(crate) fn entry_of(
         Ok(()) => {}
         Err(fault) => return Err(fault),
     }
-    let pair = match pair_of(alloc, number, row, a, b) {
+    let pair = match known_pair(alloc, FileRole::Journal, number, row.id_a, row.id_b, a, b) {
         Ok(pair) => pair,
         Err(fault) => return Err(fault),
     };

@@ -3,7 +3,6 @@
 #![tactic(auto)]
 
 mod batch;
-mod columns;
 mod entries;
 mod entry;
 mod file_laws;

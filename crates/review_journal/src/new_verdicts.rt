@@ -8,9 +8,8 @@ ghost use Rattle.file_reader.specs.Rows.{TableRow, no_row};
 ghost use Rattle.review_journal.specs.Batch.{NamesRecords, verdict_in, verdicts_of, verdicts_read, verdicts_wanted};
 
 use crate::batch::{NewVerdict, Verdicts};
-use crate::columns::layout_of;
 use crate::words::verdict_of;
-use file_reader::{Layout, Table, known_record, read_table};
+use file_reader::{Layout, Table, known_pair, read_table};
 use link_base::{Fault, FileRole, NoMemory, StdFile};
 use link_limits::MOST_ROWS;
 use std::alloc::Global;
@@ -19,7 +18,7 @@ fn layout(alloc: Global) -> Result<Layout, NoMemory>
     ensures wanted { IfOk result (λ layout. wanted_of layout ≡ verdicts_wanted) }
     ensures delimiter { IfOk result (λ layout. layout.delimiter ≡ 44) }
 {
-    layout_of(alloc, &[b"id_a", b"id_b", b"verdict"], MOST_ROWS)
+    Layout::of(alloc, &[b"id_a", b"id_b", b"verdict"], MOST_ROWS)
 }
 
 // The new verdict of the row at a position.
@@ -39,18 +38,22 @@ fn verdict_at(
 {
     let row = at + 1;
     let role = FileRole::Verdicts;
-    let of_a = match known_record(alloc, role, row, b"id_a", table.field(at, 0), a) {
-        Ok(of_a) => of_a,
-        Err(fault) => return Err(fault),
-    };
-    let of_b = match known_record(alloc, role, row, b"id_b", table.field(at, 1), b) {
-        Ok(of_b) => of_b,
+    let pair = match known_pair(
+        alloc,
+        role,
+        row,
+        table.field(at, 0),
+        table.field(at, 1),
+        a,
+        b,
+    ) {
+        Ok(pair) => pair,
         Err(fault) => return Err(fault),
     };
     match verdict_of(role, row, table.field(at, 2)) {
         Ok(verdict) => Ok(NewVerdict {
-            a: of_a,
-            b: of_b,
+            a: pair.a,
+            b: pair.b,
             verdict,
         }),
         Err(fault) => Err(fault),

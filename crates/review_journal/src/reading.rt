@@ -10,7 +10,6 @@ ghost use Rattle.review_journal.specs.Journal.{IsWithinFiles};
 ghost use Rattle.review_journal.specs.Reading.{entries_read, journal_in, journal_under, journal_wanted};
 ghost use Rattle.review_journal.specs.Rows.{journal_columns};
 
-use crate::columns::layout_of;
 use crate::entries::entry_of;
 use crate::journal::Journal;
 use crate::row::row_at;
@@ -25,7 +24,7 @@ fn layout(alloc: Global, second: bool) -> Result<Layout, NoMemory>
     ensures delimiter { IfOk result (λ layout. layout.delimiter ≡ 44) }
 {
     if second {
-        return layout_of(
+        return Layout::of(
             alloc,
             &[
                 b"number",
@@ -39,7 +38,7 @@ fn layout(alloc: Global, second: bool) -> Result<Layout, NoMemory>
             MOST_ENTRIES,
         );
     }
-    layout_of(
+    Layout::of(
         alloc,
         &[
             b"number",

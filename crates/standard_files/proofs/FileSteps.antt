@@ -20,8 +20,8 @@ use Rattle.file_reader.specs.Left.{records_in}
 use Rattle.file_reader.specs.Rows.{ids_of, known_ids, TableRow, with_ids}
 use Rattle.file_reader.specs.Table.{table_of, unless_fault}
 use Rattle.file_reader.specs.Takers.{IsTableFor, IsTaken}
-use Rattle.file_reader.proofs.RowFacts.{fields_with, length_ids, length_with}
-use Rattle.file_reader.proofs.TakerFacts.{table_sound}
+use Rattle.file_reader.specs.RowLaws.{fields_with, length_ids, length_with}
+use Rattle.file_reader.specs.TableLaws.{table_sound}
 use Rattle.link_plan.specs.declared.plan.Plan.{Plan}
 use Rattle.standard_files.specs.Files.{date_fault, dates_fault, delimiter_in, sorts_a, sorts_b, sorts_in, StandardFile, standard_files, StandardPair, standard_pair, table_a, table_b, table_in, wanted_in}
 use Rattle.standard_files.specs.Kept.{date_in_row, dated_file, dated_pair, dated_table, first_unreadable, HasTaken, HasValues, place_fault}

@@ -8,7 +8,7 @@ use Rattle.link_base.specs.Answers.{and_then}
 use Rattle.link_base.specs.Standard.{Record}
 use Rattle.link_base.specs.declared.rule.Candidate.{Candidate}
 use Rattle.link_base.specs.declared.rule.RuleCell.{RuleCell}
-use Rattle.link_report.proofs.ReadingLemmas.{fits, row_same}
+use Rattle.link_report.specs.ReadingLaws.{fits, row_same}
 use Rattle.link_report.specs.LinksText.{link_fields, links_header}
 use Rattle.link_report.specs.PricesText.{prices_header}
 use Rattle.link_report.specs.Reading.{first_misfit, rows_begun, rows_under, same_row, unless_at}

@@ -17,7 +17,7 @@ use Rattle.price_check.specs.Assignment.{IsBefore, IsWithin, no_candidate}
 use Rattle.link_base.specs.Standard.{HaveDistinctIds, id_at, IsFreshId, no_record, position_of_id, Record}
 use Rattle.link_base.specs.declared.rule.Candidate.{Candidate}
 use Rattle.link_base.specs.declared.rule.PairAt.{PairAt}
-use Rattle.link_report.proofs.ReadingLemmas.{row_same, same_itself}
+use Rattle.link_report.specs.ReadingLaws.{row_same, same_itself}
 use Rattle.link_report.specs.LinksText.{link_fields}
 use Rattle.link_report.specs.Reading.{same_row}
 use Rattle.price_check.specs.Verdict.{IsCandidate, IsCandidateAt}

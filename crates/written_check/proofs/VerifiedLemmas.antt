@@ -13,7 +13,8 @@ use Rattle.link_base.specs.Standard.{position_of_id, Record}
 use Rattle.link_base.specs.declared.rule.Candidate.{Candidate}
 use Rattle.link_base.specs.declared.rule.RuleCell.{RuleCell}
 use Rattle.link_limits.specs.declared.TheConstants.{MOST_VALUE}
-use Rattle.link_report.proofs.ReadingLemmas.{records_few, row_same}
+use Rattle.file_reader.specs.LeftLaws.{records_few}
+use Rattle.link_report.specs.ReadingLaws.{row_same}
 use Rattle.link_report.specs.LinksText.{link_fields, links_header}
 use Rattle.link_report.specs.PricesText.{prices_header}
 use Rattle.link_report.specs.Reading.{first_misfit, rows_under, same_row, unless_at}
@@ -110,7 +111,7 @@ links_are cs a b text links e =
     record {
       rows = rows ∙ ap (okay ℕ (List Row)) (sym of.fields);
       taken = record { among = of.among (All-nil (Contains cs)); rising = of.rising (λ i j d lt within. absurd (omega (arith, within))) };
-      few = omega (arith, fewer links_header (records_in 44 text) read.0 rows, records_few text, length-map links (link_fields a b), ap (λ (r : List Row). length r) of.fields);
+      few = omega (arith, fewer links_header (records_in 44 text) read.0 rows, records_few 44 text, length-map links (link_fields a b), ap (λ (r : List Row). length r) of.fields);
     }
 
 -- prices stay as many, and within their bounds

@@ -16,7 +16,7 @@ use Rattle.csv_rows.specs.Numbers.{is_decimal, number_in}
 use Rattle.link_base.specs.Standard.{HaveDistinctIds, id_at, no_record, position_of_id, Record}
 use Rattle.link_base.specs.declared.rule.Candidate.{Candidate}
 use Rattle.link_limits.specs.declared.TheConstants.{MOST_VALUE}
-use Rattle.link_report.proofs.ReadingLemmas.{same_itself, row_same}
+use Rattle.link_report.specs.ReadingLaws.{same_itself, row_same}
 use Rattle.link_report.specs.LinksText.{link_fields}
 use Rattle.link_report.specs.PricesText.{is_priced, price_fields}
 use Rattle.link_report.specs.Reading.{rows_of_prices, same_row, side_rows}

@@ -10,10 +10,10 @@ ghost use Rattle.written_check.specs.Refuted.{IsOfRows, Verifies};
 
 use crate::refutation::{Refutation, unless_refuted};
 use csv::ByteRecord;
-use file_reader::Records;
+use file_reader::{Records, field_of};
 use itoa::Buffer;
 use link_base::{Candidate, NoMemory, PairAt, StdFile, distinct_ids};
-use link_report::{ReadRows, field_of, has_fields, links_begun, read_links, source_of};
+use link_report::{ReadRows, has_fields, links_begun, read_links, source_of};
 use price_check::{candidate_at, end_of_near};
 use std::alloc::Global;
 

@@ -10,10 +10,10 @@ use crate::near::position_near;
 use crate::refutation::{Refutation, unless_refuted};
 use csv::ByteRecord;
 use csv_rows::read_decimal;
-use file_reader::Records;
+use file_reader::{Records, field_of};
 use link_base::{NoMemory, StdFile};
 use link_limits::MOST_VALUE;
-use link_report::{ReadRows, field_of, prices_begun, read_prices};
+use link_report::{ReadRows, prices_begun, read_prices};
 use std::alloc::Global;
 use std::marker::Model;
 

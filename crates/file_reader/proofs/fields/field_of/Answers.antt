@@ -1,7 +1,7 @@
 use Rattle.std.proofs.Common.{sym}
 use Rattle.csv.specs.Records.{fields_of}
 use Rattle.csv.proofs.RecordFacts.{field-get}
-use Rattle.file_reader.proofs.FieldFacts.{field-none}
+use Rattle.file_reader.proofs.FindFacts.{field-none}
 use Rattle.file_reader.proofs.fields.field_of.Goals as goal
 
 pub returns-in-Some : goal.returns-in-Some

@@ -1,4 +1,4 @@
-use Rattle.file_reader.proofs.LeastFaulty.{fault_is_first}
+use Rattle.file_reader.specs.FaultLaws.{fault_is_first}
 use Rattle.file_reader.proofs.laws.first_fault.Goals as goal
 
 pub returns : goal.returns

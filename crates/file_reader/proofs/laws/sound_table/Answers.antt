@@ -1,4 +1,4 @@
-use Rattle.file_reader.proofs.TakerFacts.{table_sound}
+use Rattle.file_reader.specs.TableLaws.{table_sound}
 use Rattle.file_reader.proofs.laws.sound_table.Goals as goal
 
 pub returns : goal.returns

@@ -4,7 +4,8 @@ use Rattle.file_reader.specs.Left.{records_in}
 use Rattle.file_reader.specs.Layout.{wanted_of}
 use Rattle.file_reader.specs.Table.{table_of}
 use Rattle.file_reader.specs.Takers.{HasCells, IsTableFor}
-use Rattle.file_reader.proofs.TakerFacts.{table_sound, table_taken, taken_ids}
+use Rattle.file_reader.proofs.TakerFacts.{table_taken, taken_ids}
+use Rattle.file_reader.specs.TableLaws.{table_sound}
 use Rattle.file_reader.proofs.rows.read_table.Goals.{After-new}
 use Rattle.file_reader.proofs.rows.read_table.Goals as goal
 

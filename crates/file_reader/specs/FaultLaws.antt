@@ -1,5 +1,6 @@
--- The rows of a file are read up to the least faulty one.
-use Rattle.std.proofs.Common.{◌≡◌, ◌<◌, ◌+◌, ◌∷◌, ◌++◌, ◌∙◌, ℕ, zero, suc, List, [], length, map, take, get_or, MatchOption, Option, Some, None, Result, Ok, Err, refl, sym, arith, append_assoc, length-append}
+-- Laws of the rows of a file, which are read up to the least faulty one: the fault of a file is its first (law `first_fault`), and a file
+-- that has a table has no fault (law `whole_table`). Proofs of the crates above cite them here.
+use Rattle.std.proofs.Common.{◌≡◌, ◌<◌, ◌+◌, ◌∷◌, ◌++◌, ◌∙◌, ℕ, zero, suc, List, [], length, map, take, get_or, MatchOption, Option, Some, None, Result, Ok, Err, refl, sym, subst, arith, append_assoc, length-append}
 use Rattle.std.proofs.lemmas.List.{append-nil}
 use Rattle.link_base.specs.declared.fault.Fault.{Fault}
 use Rattle.link_base.specs.declared.fault.FileRole.{FileRole}
@@ -45,28 +46,35 @@ none_before : (heading : Heading) (table : List TableRow) (row : List (List ℕ)
 none_before heading table row rows count none more zero lt = here heading table row rows ∙ none
 none_before heading table row rows count none more (suc k) lt = later heading table row rows k ∙ more k (omega arith)
 
-same_some : (f g : Fault) → ◌≡◌ {A = Result (List TableRow) Fault} (Err g) (Err f) → Some g ≡ Some f
-same_some f g e = cc e
+record AreWholeAfter (heading : Heading) (table : List TableRow) (rows : Records) (whole : List TableRow) : Type 0 where
+  all : whole ≡ table ++ map (taken heading) rows
+  sound : (k : ℕ) → k < length rows → fault_after heading table rows k ≡ None
 
-at_row : (heading : Heading) (table : List TableRow) (row : List (List ℕ)) (rows : Records) (f : Fault)
-    → (rows_read heading (table ++ taken heading row ∷ []) rows ≡ Err f → HasLeastAfter heading (table ++ taken heading row ∷ []) rows f)
-    → (o : Option Fault) → row_fault heading (length table + 1) (known_ids heading.has_id table) row ≡ o
-    → unless_fault o (rows_read heading (table ++ taken heading row ∷ []) rows) ≡ Err f → HasLeastAfter heading table (row ∷ rows) f
-at_row heading table row rows f next (Some g) some e =
-    (0, record { within = omega arith; faulty = here heading table row rows ∙ some ∙ same_some f g e; least = λ k lt. absurd (omega arith) })
-at_row heading table row rows f next None none e =
-    let r = next e in
-    (suc r.0, record { within = omega (arith, r.1.within); faulty = later heading table row rows r.0 ∙ r.1.faulty; least = none_before heading table row rows r.0 none r.1.least })
+-- what rows that are read come to
+abbrev IsTold : Heading → List TableRow → Records → Result (List TableRow) Fault → Type 0
+IsTold heading table rows (Ok whole) = AreWholeAfter heading table rows whole
+IsTold heading table rows (Err f) = HasLeastAfter heading table rows f
 
-least_after : (heading : Heading) (table : List TableRow) (rows : Records) (f : Fault) → rows_read heading table rows ≡ Err f → HasLeastAfter heading table rows f
-least_after heading table [] f e = cc e
-least_after heading table (row ∷ rows) f e =
-    at_row heading table row rows f (least_after heading (table ++ taken heading row ∷ []) rows f) (row_fault heading (length table + 1) (known_ids heading.has_id table) row) refl e
+-- with a row without a fault in front
+told_next : (heading : Heading) (table : List TableRow) (row : List (List ℕ)) (rows : Records) → row_fault heading (length table + 1) (known_ids heading.has_id table) row ≡ None
+    → (r : Result (List TableRow) Fault) → IsTold heading (table ++ taken heading row ∷ []) rows r → IsTold heading table (row ∷ rows) r
+told_next heading table row rows none (Ok whole) told = record {
+  all = told.all ∙ append_assoc table (taken heading row ∷ []) (map (taken heading) rows);
+  sound = λ k lt. none_before heading table row rows (length rows) none told.sound k (omega arith);
+}
+told_next heading table row rows none (Err f) told =
+    (suc told.0, record { within = omega (arith, told.1.within); faulty = later heading table row rows told.0 ∙ told.1.faulty; least = none_before heading table row rows told.0 none told.1.least })
 
-least_faulty : (heading : Heading) (rows : Records) (f : Fault) → rows_read heading [] rows ≡ Err f → (at : ℕ) × IsLeastFaulty heading rows f at
-least_faulty heading rows f e =
-    let r = least_after heading [] rows f e in
-    (r.0, record { within = r.1.within; faulty = sym (start heading rows r.0) ∙ r.1.faulty; least = λ k lt. sym (start heading rows k) ∙ r.1.least k lt })
+rows_told : (heading : Heading) (table : List TableRow) (rows : Records) → IsTold heading table rows (rows_read heading table rows)
+rows_told heading table [] = record { all = sym (append-nil table); sound = λ k lt. absurd (omega arith) }
+rows_told heading table (row ∷ rows) =
+    by_fault (row_fault heading (length table + 1) (known_ids heading.has_id table) row) refl (rows_told heading (table ++ taken heading row ∷ []) rows)
+  where
+    by_fault : (o : Option Fault) → row_fault heading (length table + 1) (known_ids heading.has_id table) row ≡ o
+        → IsTold heading (table ++ taken heading row ∷ []) rows (rows_read heading (table ++ taken heading row ∷ []) rows)
+        → IsTold heading table (row ∷ rows) (unless_fault o (rows_read heading (table ++ taken heading row ∷ []) rows))
+    by_fault None none rest = told_next heading table row rows none (rows_read heading (table ++ taken heading row ∷ []) rows) rest
+    by_fault (Some f) some rest = (0, record { within = omega arith; faulty = here heading table row rows ∙ some; least = λ k lt. absurd (omega arith) })
 
 -- the fault of a file is its first
 pub fault_is_first : (role : FileRole) (wanted : Wanted) (records : Records) (f : Fault) → table_of role wanted records ≡ Err f → IsFirstFault role wanted records f
@@ -74,32 +82,10 @@ fault_is_first _ wanted [] f e = cc e
 fault_is_first role wanted (header ∷ rows) f e = by_header (header_fault role (needed_of wanted) header) e
   where
     by_header : (o : Option Fault) → unless_fault o (rows_read (heading_under role wanted header) [] rows) ≡ Err f → MatchOption o ((at : ℕ) × IsLeastFaulty (heading_under role wanted header) rows f at) (λ g. f ≡ g)
-    by_header None e = least_faulty (heading_under role wanted header) rows f e
+    by_header None e =
+        let r : HasLeastAfter (heading_under role wanted header) [] rows f = subst (IsTold (heading_under role wanted header) [] rows) e (rows_told (heading_under role wanted header) [] rows) in
+        (r.0, record { within = r.1.within; faulty = sym (start (heading_under role wanted header) rows r.0) ∙ r.1.faulty; least = λ k lt. sym (start (heading_under role wanted header) rows k) ∙ r.1.least k lt })
     by_header (Some g) e = cc e
-
-record AreWholeAfter (heading : Heading) (table : List TableRow) (rows : Records) (whole : List TableRow) : Type 0 where
-  all : whole ≡ table ++ map (taken heading) rows
-  sound : (k : ℕ) → k < length rows → fault_after heading table rows k ≡ None
-
-sound_row : (heading : Heading) (table : List TableRow) (row : List (List ℕ)) (rows : Records) (whole : List TableRow)
-    → (rows_read heading (table ++ taken heading row ∷ []) rows ≡ Ok whole → AreWholeAfter heading (table ++ taken heading row ∷ []) rows whole)
-    → (o : Option Fault) → row_fault heading (length table + 1) (known_ids heading.has_id table) row ≡ o
-    → unless_fault o (rows_read heading (table ++ taken heading row ∷ []) rows) ≡ Ok whole → AreWholeAfter heading table (row ∷ rows) whole
-sound_row heading table row rows whole next (Some g) some e = cc e
-sound_row heading table row rows whole next None none e =
-    let r = next e in
-    record {
-      all = r.all ∙ append_assoc table (taken heading row ∷ []) (map (taken heading) rows);
-      sound = λ k lt. none_before heading table row rows (length rows) none r.sound k (omega arith);
-    }
-
-same_whole : (s t : List TableRow) → ◌≡◌ {A = Result (List TableRow) Fault} (Ok s) (Ok t) → t ≡ s
-same_whole s t e = cc e
-
-whole_after : (heading : Heading) (table : List TableRow) (rows : Records) (whole : List TableRow) → rows_read heading table rows ≡ Ok whole → AreWholeAfter heading table rows whole
-whole_after heading table [] whole e = record { all = same_whole table whole e ∙ sym (append-nil table); sound = λ k lt. absurd (omega arith) }
-whole_after heading table (row ∷ rows) whole e =
-    sound_row heading table row rows whole (whole_after heading (table ++ taken heading row ∷ []) rows whole) (row_fault heading (length table + 1) (known_ids heading.has_id table) row) refl e
 
 -- a file that has a table has no fault
 pub table_is_whole : (role : FileRole) (wanted : Wanted) (records : Records) (table : List TableRow) → table_of role wanted records ≡ Ok table → IsWholeTable role wanted records table
@@ -108,6 +94,6 @@ table_is_whole role wanted (header ∷ rows) table e = by_header (header_fault r
   where
     by_header : (o : Option Fault) → unless_fault o (rows_read (heading_under role wanted header) [] rows) ≡ Ok table → (o ≡ None) × AreWhole (heading_under role wanted header) rows table
     by_header None e =
-        let r = whole_after (heading_under role wanted header) [] rows table e in
+        let r : AreWholeAfter (heading_under role wanted header) [] rows table = subst (IsTold (heading_under role wanted header) [] rows) e (rows_told (heading_under role wanted header) [] rows) in
         (refl, record { all = r.all; sound = λ k lt. sym (start (heading_under role wanted header) rows k) ∙ r.sound k lt })
     by_header (Some g) e = cc e
