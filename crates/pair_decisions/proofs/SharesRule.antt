@@ -32,8 +32,8 @@ use Rattle.sample_counts.specs.Counts.{CountsState, count_of, has_status}
 use Rattle.sample_counts.specs.Sample.{reviewed_rows, sample_of, sample_under, sample_wanted, with_both}
 use Rattle.sample_counts.specs.declared.counts.Judged.{Judged}
 use Rattle.sample_counts.specs.declared.reviewed.Reviewed.{Reviewed}
-use Rattle.sample_counts.proofs.CountLemmas.{all-digits, none-rare, some-matched, some-unmatched}
-use Rattle.sample_counts.proofs.RemainderLemmas.{valid_shares, valid_shares4}
+use Rattle.sample_counts.specs.CountLaws.{all-digits, none-rare, some-matched, some-unmatched}
+use Rattle.sample_counts.specs.ShareLaws.{valid_shares, valid_shares4}
 use Rattle.pair_decisions.specs.Comparators.{SideComparator, rares_of}
 use Rattle.pair_decisions.specs.FieldComparators.{field_comparator, field_comparator_at, field_comparators, holders_of, pattern_of_pair, values_of}
 use Rattle.pair_decisions.specs.PairRule.{rares_in}

@@ -1,5 +1,7 @@
 pub mod Counts
-pub mod Places
 pub mod Sample
+pub mod Places
 pub mod Tallies
 pub mod Remainders
+pub mod CountLaws
+pub mod ShareLaws

@@ -1,6 +1,6 @@
 -- The reviewed pairs of a sample file, or its first fault: of the table, then row by row. `count_sample_over` carries it
 -- (clause `answer`, by `sample_of`).
-use Rattle.std.specs.Prelude.{◌≡◌, ◌+◌, ◌==◌, ◌&&◌, ◌<◌, ◌≤◌, All, ℕ, Bool, true, false, not, List, [], ◌∷◌, ◌++◌, length, position, Option, Some, None, Result, Ok, Err, codes, bytes_eq, slice_index_or, if◌then◌else◌}
+use Rattle.std.specs.Prelude.{◌≡◌, ◌+◌, ◌==◌, ◌&&◌, ◌<◌, ◌≤◌, All, ℕ, Bool, true, false, not, List, [], ◌∷◌, length, position, Option, Some, None, Result, Ok, Err, codes, bytes_eq, slice_index_or, if◌then◌else◌}
 use Rattle.std.specs.List.{list_any}
 use Rattle.link_limits.specs.declared.TheConstants.{MOST_ROWS}
 use Rattle.link_base.specs.Answers.{and_then}
@@ -8,7 +8,8 @@ use Rattle.link_base.specs.Standard.{Record}
 use Rattle.link_base.specs.declared.fault.Fault.{Fault}
 use Rattle.link_base.specs.declared.fault.Fault.TheVariants as fault
 use Rattle.link_base.specs.declared.fault.FileRole.TheVariants as role
-use Rattle.file_reader.specs.Known.{known_in, or_fault}
+use Rattle.file_reader.specs.EachRow.{each_read}
+use Rattle.file_reader.specs.Known.{or_fault, pair_in}
 use Rattle.file_reader.specs.Layout.{Wanted}
 use Rattle.file_reader.specs.Rows.{TableRow}
 use Rattle.file_reader.specs.Table.{table_of}
@@ -31,17 +32,17 @@ field_at fields k = slice_index_or fields k []
 -- the pair of a row with this status: its id in A is tested first, then its id in B
 abbrev pub named_pair : List Record → List Record → ℕ → List (List ℕ) → Bool → Result Reviewed Fault
 named_pair a b number fields matched =
-    and_then (known_in role.Sample number (codes "id_a") (field_at fields 0) a) (λ of_a.
-    and_then (known_in role.Sample number (codes "id_b") (field_at fields 1) b) (λ of_b.
-    Ok (record { a = of_a; b = of_b; matched = matched })))
+    and_then (pair_in role.Sample number (field_at fields 0) (field_at fields 1) a b) (λ at.
+    Ok (record { a = at.a; b = at.b; matched = matched }))
 
 -- the reviewed pair of a row, whose status is tested before its ids
 abbrev pub reviewed_row : List Record → List Record → ℕ → List (List ℕ) → Result Reviewed Fault
 reviewed_row a b number fields =
     and_then (or_fault (fault.BadStatus number) (is_matched_by (field_at fields 2))) (named_pair a b number fields)
 
-abbrev pub same_reviewed_pair : Reviewed → Reviewed → Bool
-same_reviewed_pair r s = r.a == s.a && r.b == s.b
+-- a reviewed pair is the one at these positions
+abbrev pub is_pair : ℕ → ℕ → Reviewed → Bool
+is_pair a b r = a == r.a && b == r.b
 
 -- a pair that none of the earlier rows names
 abbrev pub unless_repeated : ℕ → Reviewed → Option ℕ → Result Reviewed Fault
@@ -49,18 +50,15 @@ unless_repeated number r None = Ok r
 unless_repeated number r (Some place) = Err (fault.RepeatedPair number (place + 1))
 
 abbrev pub new_after : List Reviewed → ℕ → Reviewed → Result Reviewed Fault
-new_after done number r = unless_repeated number r (position (same_reviewed_pair r) done)
+new_after done number r = unless_repeated number r (position (is_pair r.a r.b) done)
 
 -- the pair of a row after these
-abbrev pub sample_row : List Record → List Record → List Reviewed → List (List ℕ) → Result Reviewed Fault
-sample_row a b done fields =
-    and_then (reviewed_row a b (length done + 1) fields) (new_after done (length done + 1))
+abbrev pub sample_row : List Record → List Record → List Reviewed → ℕ → List (List ℕ) → Result Reviewed Fault
+sample_row a b done number fields = and_then (reviewed_row a b number fields) (new_after done number)
 
 -- the pairs with those of the rows that are left; the first row with a fault decides
 abbrev pub reviewed_rows : List Record → List Record → List Reviewed → List TableRow → Result (List Reviewed) Fault
-reviewed_rows a b done [] = Ok done
-reviewed_rows a b done (row ∷ rows) =
-    and_then (sample_row a b done row.fields) (λ r. reviewed_rows a b (done ++ r ∷ []) rows)
+reviewed_rows a b = each_read (λ done number (row : TableRow). sample_row a b done number row.fields)
 
 -- a sample has a matched and an unmatched pair
 abbrev pub with_both : List Reviewed → Result (List Reviewed) Fault

@@ -2,7 +2,6 @@
 #![tactic(auto)]
 
 mod counts;
-mod index;
 mod remainders;
 mod reviewed;
 mod rows;

@@ -6,13 +6,13 @@ ghost use Rattle.link_base.specs.Fault.{Gives, IsAnswer, IsInputFault};
 ghost use Rattle.file_reader.specs.Layout.{wanted_of};
 ghost use Rattle.file_reader.specs.Rows.{TableRow, no_row};
 ghost use Rattle.sample_counts.specs.Sample.{IsInFiles, is_matched_by, reviewed_row, reviewed_rows, sample_of, sample_row, sample_under, sample_wanted, with_both, IsSample};
-ghost use Rattle.sample_counts.specs.Places.{positions_of};
+ghost use Rattle.sample_counts.specs.Places.{HasPlaces};
 
-use crate::index::PairIndex;
-use file_reader::{Layout, Table, known_record, read_table};
-use link_base::{Fault, FileRole, NoMemory, StdFile, Text};
+use file_reader::{Layout, Table, known_pair, read_table};
+use link_base::{Fault, FileRole, NoMemory, StdFile};
 use link_limits::MOST_ROWS;
 use std::alloc::Global;
+use std::collections::BTreeMap;
 
 /// A reviewed pair: the positions of its records in A and in B, and whether it is matched.
 #[derive(Clone, Copy)]
@@ -22,28 +22,11 @@ pub struct Reviewed {
     pub(crate) matched: bool,
 }
 
-// Columns of these names.
-fn columns_of(alloc: Global, names: &[&[u8]]) -> Result<Vec<Text>, NoMemory>
-    ensures { IfOk result (λ columns. columns.items ≡ map (λ name. name.now) names.now) }
-{
-    let mut columns = Vec::new(alloc);
-    for name in names {
-        columns.push(Text::new(alloc, name)?)?;
-    }
-    Ok(columns)
-}
-
 fn layout(alloc: Global) -> Result<Layout, NoMemory>
     ensures wanted { IfOk result (λ layout. wanted_of layout ≡ sample_wanted) }
     ensures delimiter { IfOk result (λ layout. layout.delimiter ≡ 44) }
 {
-    let columns = columns_of(alloc, &[b"id_a", b"id_b", b"status"])?;
-    Ok(Layout {
-        delimiter: b',',
-        id: None,
-        columns,
-        most_rows: MOST_ROWS,
-    })
+    Layout::of(alloc, &[b"id_a", b"id_b", b"status"], MOST_ROWS)
 }
 
 // Whether a status says that the pair is matched.
@@ -79,21 +62,25 @@ fn reviewed_at(
         Some(matched) => matched,
         None => return Err(Fault::BadStatus { row }),
     };
-    let of_a = match known_record(alloc, FileRole::Sample, row, b"id_a", table.field(at, 0), a) {
-        Ok(of_a) => of_a,
-        Err(fault) => return Err(fault),
-    };
-    match known_record(alloc, FileRole::Sample, row, b"id_b", table.field(at, 1), b) {
-        Ok(of_b) => Ok(Reviewed {
-            a: of_a,
-            b: of_b,
+    match known_pair(
+        alloc,
+        FileRole::Sample,
+        row,
+        table.field(at, 0),
+        table.field(at, 1),
+        a,
+        b,
+    ) {
+        Ok(pair) => Ok(Reviewed {
+            a: pair.a,
+            b: pair.b,
             matched,
         }),
         Err(fault) => Err(fault),
     }
 }
 
-// The reviewed pair of the row at a position, which no earlier row names.
+// The reviewed pair of the row at a position, which no earlier row names; where the pairs stand is found in few steps.
 fn sample_at(
     alloc: Global,
     table: &Table,
@@ -101,56 +88,35 @@ fn sample_at(
     a: &StdFile,
     b: &StdFile,
     done: &[Reviewed],
-    index: &mut PairIndex,
+    places: &mut BTreeMap<(u32, u32), u32>,
 ) -> Result<Reviewed, Fault>
     requires within { at < length table.now }
     requires width { length (slice_index_or table.now at no_row).fields ≡ 3 }
     requires few { length table.now ≤ MOST_ROWS }
     requires done { length done.now ≡ at }
-    requires index { index.old ≡ map positions_of done.now }
+    requires places { HasPlaces places.old done.now }
     ensures kind { IfErr result IsInputFault }
-    ensures answer { IsAnswer (sample_row a.now b.now done.now (slice_index_or table.now at no_row).fields) result }
+    ensures answer { IsAnswer (sample_row a.now b.now done.now (at + 1) (slice_index_or table.now at no_row).fields) result }
     ensures in_files { IfOk result (λ r. IsInFiles (length a.now) (length b.now) r) }
-    ensures index { IfOk result (λ r. index.new ≡ map positions_of done.now ++ positions_of r ∷ []) }
+    ensures places { IfOk result (λ r. HasPlaces places.new (done.now ++ r ∷ [])) }
 {
     let pair = match reviewed_at(alloc, table, at, a, b) {
         Ok(pair) => pair,
         Err(fault) => return Err(fault),
     };
-    match index.keep(pair.a, pair.b) {
-        Ok(None) => Ok(pair),
-        Ok(Some(place)) => Err(Fault::RepeatedPair {
-            row: at + 1,
-            first: place as u32 + 1,
-        }),
-        Err(NoMemory) => Err(Fault::NoMemory),
-    }
-}
-
-// The reviewed pairs of the rows of a table, which an index of no pairs comes to hold.
-fn reviewed_by(
-    alloc: Global,
-    table: &Table,
-    a: &StdFile,
-    b: &StdFile,
-    index: &mut PairIndex,
-) -> Result<Vec<Reviewed>, Fault>
-    requires empty { index.old ≡ [] }
-    requires width { All (λ (r : TableRow). length r.fields ≡ 3) table.now }
-    requires few { length table.now ≤ MOST_ROWS }
-    ensures kind { IfErr result IsInputFault }
-    ensures answer { Gives (λ sample. sample.items) (reviewed_rows a.now b.now [] table.now) result }
-    ensures in_files { IfOk result (λ sample. All (IsInFiles (length a.now) (length b.now)) sample.items) }
-    ensures rows { IfOk result (λ sample. length sample.items ≡ length table.now) }
-{
-    let mut done = Vec::new(alloc);
-    for at in 0..table.rows() {
-        match sample_at(alloc, table, at, a, b, &done, index) {
-            Ok(pair) => done.push(pair)?,
-            Err(fault) => return Err(fault),
+    match places.get(&(pair.a, pair.b)) {
+        Some(place) => {
+            return Err(Fault::RepeatedPair {
+                row: at + 1,
+                first: *place + 1,
+            });
         }
+        None => {}
     }
-    Ok(done)
+    match places.insert((pair.a, pair.b), at) {
+        Ok(_) => Ok(pair),
+        Err(_) => Err(Fault::NoMemory),
+    }
 }
 
 // The reviewed pairs of the rows of a table.
@@ -167,8 +133,15 @@ fn reviewed_in(
     ensures in_files { IfOk result (λ sample. All (IsInFiles (length a.now) (length b.now)) sample.items) }
     ensures rows { IfOk result (λ sample. length sample.items ≡ length table.now) }
 {
-    let mut index = PairIndex::new(alloc);
-    reviewed_by(alloc, table, a, b, &mut index)
+    let mut places = BTreeMap::new(alloc);
+    let mut done = Vec::new(alloc);
+    for at in 0..table.rows() {
+        match sample_at(alloc, table, at, a, b, &done, &mut places) {
+            Ok(pair) => done.push(pair)?,
+            Err(fault) => return Err(fault),
+        }
+    }
+    Ok(done)
 }
 
 fn has_matched(sample: &[Reviewed]) -> bool

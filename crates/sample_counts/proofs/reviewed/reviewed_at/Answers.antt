@@ -1,12 +1,8 @@
 use Rattle.std.proofs.Common.{◌+◌, get_or}
 use Rattle.file_reader.specs.Rows.{no_row}
-use Rattle.sample_counts.proofs.SampleLemmas.{refused_a, refused_b}
+use Rattle.sample_counts.proofs.SampleLemmas.{pair_refused}
 use Rattle.sample_counts.proofs.reviewed.reviewed_at.Goals as goal
 
 pub returns-in-Err-clause-answer : goal.returns-in-Err-clause-answer
 returns-in-Err-clause-answer c =
-    refused_a c.args.a.now c.args.b.now (c.args.at + 1) (get_or c.args.table.now c.args.at no_row).fields c.field.result.now c.field-2.result.now c.in-Some.matched c.in-Err.fault c.field.ensures c.field-2.ensures c.in-Some.ensures c.in-Err.ensures.answer
-
-pub returns-in-Err-known_record-clause-answer : goal.returns-in-Err-known_record-clause-answer
-returns-in-Err-known_record-clause-answer c =
-    refused_b c.args.a.now c.args.b.now (c.args.at + 1) (get_or c.args.table.now c.args.at no_row).fields c.field.result.now c.field-2.result.now c.field-3.result.now c.in-Some.matched c.in-Ok.of_a c.in-Err-known_record.fault c.field.ensures c.field-2.ensures c.field-3.ensures c.in-Some.ensures c.in-Ok.ensures.answer c.in-Err-known_record.ensures.answer
+    pair_refused c.args.a.now c.args.b.now (c.args.at + 1) (get_or c.args.table.now c.args.at no_row).fields c.field.result.now c.field-2.result.now c.field-3.result.now c.in-Some.matched c.in-Err.fault c.field.ensures c.field-2.ensures c.field-3.ensures c.in-Some.ensures c.in-Err.ensures.answer

@@ -1,10 +1,10 @@
-use Rattle.std.proofs.Common.{◌++◌, ◌∷◌, ◌∙◌, ◌<◌, [], ℕ, ap, arith, get_or, map}
+use Rattle.std.proofs.Common.{◌++◌, ◌∷◌, ◌∙◌, ◌<◌, [], ℕ, List, ap, arith, get_or, map, sym}
+use Rattle.std.proofs.lemmas.List.{map_more}
 use Rattle.std.proofs.lemmas.List.Elements.{All-push}
 use Rattle.patterns.specs.Shapes.{pattern_count_by}
 use Rattle.sample_counts.specs.Counts.{judged_by}
 use Rattle.sample_counts.specs.declared.counts.Judged.{Judged}
 use Rattle.sample_counts.specs.declared.reviewed.Reviewed.{Reviewed}
-use Rattle.sample_counts.proofs.SampleLemmas.{map_more}
 use Rattle.sample_counts.proofs.rows.judge.Goals as goal
 
 pub loop-pair-preserved : goal.loop-pair-preserved
@@ -14,7 +14,8 @@ loop-pair-preserved g c =
     let pair : Reviewed = get_or c.args.sample.now c.loop-pair.pair-index _ in
     let new = c.in_ok-push.ensures.items in
     record {
-      rows = map_more judged c.args.sample.now c.loop-pair.pair-index _ c.loop-pair.rows.items c.push.new.self.items (omega arith) c.loop-pair.invariant.rows
-          (new ∙ ap (λ (pattern : ℕ). c.loop-pair.rows.items ++ record { matched = pair.matched; pattern = pattern } ∷ []) number);
+      rows =
+          new ∙ ap (λ (pattern : ℕ). c.loop-pair.rows.items ++ record { matched = pair.matched; pattern = pattern } ∷ []) number
+          ∙ ap (λ (rows : List Judged). rows ++ judged pair ∷ []) c.loop-pair.invariant.rows ∙ sym (map_more judged c.args.sample.now c.loop-pair.pair-index _ (omega arith));
       in_shape = rw new (All-push (λ (row : Judged). row.pattern < pattern_count_by (map g.C.Comparator.is_rare c.args.kinds.now)) c.loop-pair.rows.items _ c.loop-pair.invariant.in_shape c.pattern_over-pattern.ensures.range);
     }

@@ -3,7 +3,8 @@ use Rattle.std.specs.List.{filter}
 use Rattle.link_limits.specs.declared.TheConstants.{MOST_ROWS}
 use Rattle.patterns.specs.Shapes.{rare_of}
 use Rattle.sample_counts.specs.Counts.{has_status}
-use Rattle.sample_counts.proofs.CountLemmas.{filter-le, none-rare, some-of, total-of}
+use Rattle.sample_counts.proofs.CountLemmas.{filter-le, some-of, total-of}
+use Rattle.sample_counts.specs.CountLaws.{none-rare}
 use Rattle.sample_counts.proofs.counts.Counts.of.Goals as goal
 
 total : (c : goal.After-tally_of-counts) → sum (c.tally_of-counts.result.agree ∷ c.tally_of-counts.result.disagree ∷ c.tally_of-counts.result.missing ∷ c.tally_of-counts.result.rare ∷ []) ≡ length (filter (has_status c.args.matched) c.self.inside.rows.items)
