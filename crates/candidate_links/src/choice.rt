@@ -1,8 +1,8 @@
 // The links chosen among candidates.
 ghost use Rattle.std.specs.Prelude.{◌≡◌, ◌≤◌, ◌≤ℤ◌, ◌^◌, All, AllPairs, Contains, IfOk, length};
 ghost use Rattle.assignment.specs.Solution.{HasSmallValue};
-ghost use Rattle.price_check.specs.Assignment.{Certifies, greatest_value, IsBefore, IsGreatest, IsWithin, worth};
-ghost use Rattle.candidate_links.specs.Choice.{dropped, dropped_of, is_same_pair};
+ghost use Rattle.price_check.specs.Assignment.{greatest_value, IsBefore, IsWithin, worth};
+ghost use Rattle.candidate_links.specs.Choice.{dropped, dropped_of, is_same_pair, IsChoice};
 ghost use Rattle.candidate_links.specs.Passing.{is_next};
 
 use crate::merging::after_first;
@@ -159,12 +159,7 @@ pub fn choose_links(
     requires rising { AllPairs IsBefore candidates.now }
     requires within { All (IsWithin rows_a rows_b) candidates.now }
     requires small { All HasSmallValue candidates.now }
-    ensures greatest { IfOk result (λ c. IsGreatest candidates.now c.links.items) }
-    ensures certified { IfOk result (λ c. Certifies candidates.now c.links.items c.prices_a.items c.prices_b.items) }
-    ensures rows_a { IfOk result (λ c. length c.prices_a.items ≡ rows_a) }
-    ensures rows_b { IfOk result (λ c. length c.prices_b.items ≡ rows_b) }
-    ensures dropped { IfOk result (λ c. c.dropped.items ≡ dropped_of candidates.now c.links.items) }
-    ensures total { IfOk result (λ c. c.total ≡ worth c.links.items) }
+    ensures chosen { IfOk result (IsChoice rows_a rows_b candidates.now) }
     ensures most_a { IfOk result (λ c. All (λ price. price ≤ℤ greatest_value candidates.now) c.prices_a.items) }
     ensures most_b { IfOk result (λ c. All (λ price. price ≤ℤ greatest_value candidates.now) c.prices_b.items) }
 {

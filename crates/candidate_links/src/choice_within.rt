@@ -1,9 +1,8 @@
 // The links chosen among candidates within capacities.
-ghost use Rattle.std.specs.Prelude.{◌≡◌, ◌≤◌, ◌<◌, All, AllPairs, IfOk, length};
+ghost use Rattle.std.specs.Prelude.{◌≡◌, ◌≤◌, All, AllPairs, IfOk, length};
 ghost use Rattle.price_check.specs.Assignment.{IsBefore, IsWithin};
-ghost use Rattle.price_check.specs.Capacities.{CertifiesWithin, IsGreatestWithin};
 ghost use Rattle.capacity_assign.specs.Solution.{HasSmallValue, IsAllowedCapacity};
-ghost use Rattle.link_base.specs.declared.rule.Candidate.{Candidate as Link};
+ghost use Rattle.candidate_links.specs.Choice.{IsChoiceWithin};
 
 use capacity_assign::{CapacityAssigner, CapacityAssignment};
 use link_base::{Candidate, NoMemory};
@@ -81,12 +80,7 @@ pub fn choose_within(
     requires rising { AllPairs IsBefore candidates.now }
     requires within { All (IsWithin rows_a rows_b) candidates.now }
     requires small { All HasSmallValue candidates.now }
-    ensures greatest { IfOk result (λ c. IsGreatestWithin candidates.now capacities.now c.links.items) }
-    ensures certified { IfOk result (λ c. CertifiesWithin candidates.now capacities.now c.links.items c.prices_a.items c.prices_b.items) }
-    ensures priced_a { IfOk result (λ c. length c.prices_a.items ≡ rows_a) }
-    ensures priced_b { IfOk result (λ c. length c.prices_b.items ≡ rows_b) }
-    ensures in_a { IfOk result (λ c. All (λ (l : Link). l.a < rows_a) c.links.items) }
-    ensures in_b { IfOk result (λ c. All (λ (l : Link). l.b < rows_b) c.links.items) }
+    ensures chosen { IfOk result (IsChoiceWithin rows_a rows_b capacities.now candidates.now) }
 {
     let assigner = CapacityAssigner::new(alloc, rows_a, capacities, candidates)?;
     let solved = assigner.solve();

@@ -49,7 +49,7 @@ told_of plan rule with_rows result p blocks rows_a rows_b of_blocks of_sides_a o
 inside_files : (plan : Plan) (p : PreparedView) (pairs : List PairAt) → IsPreparedFor plan p → All (IsInside (length p.values.a.rows) (length p.values.b.rows)) pairs
     → All (IsInside (length p.files.a.records) (length p.files.b.records)) pairs
 inside_files plan p pairs ready h =
-    subst (λ n. All (IsInside (length p.files.a.records) n) pairs) ready.sides_b.as_many (subst (λ n. All (IsInside n (length p.values.b.rows)) pairs) ready.sides_a.as_many h)
+    subst (λ n. All (IsInside (length p.files.a.records) n) pairs) ready.pooled.b.sides.as_many (subst (λ n. All (IsInside n (length p.values.b.rows)) pairs) ready.pooled.a.sides.as_many h)
 
 module _ (plan : Plan) (p : PreparedView) (shares : List PlainShares) (rule : PairRuleView) (with_rows : Bool) where
   abbrev Told : Result DecidedView Fault → Type 0
@@ -69,16 +69,16 @@ module _ (plan : Plan) (p : PreparedView) (shares : List PlainShares) (rule : Pa
   pub decided_in_files : (result : Result DecidedView Fault) → IsPreparedFor plan p → All (AreSidesFor rule) p.values.a.rows → All (AreSidesFor rule) p.values.b.rows → Told result → IfOk result (IsDecidedIn p)
   decided_in_files (Err f) ready sides_a sides_b told = tt
   decided_in_files (Ok d) ready sides_a sides_b told = record {
-    rows_a = ready.sides_a.as_many;
-    rows_b = ready.sides_b.as_many;
+    rows_a = ready.pooled.a.sides.as_many;
+    rows_b = ready.pooled.b.sides.as_many;
     sides_a = subst (λ (r : PairRuleView). All (AreSidesFor r) p.values.a.rows) (sym told.rule_is) sides_a;
     sides_b = subst (λ (r : PairRuleView). All (AreSidesFor r) p.values.b.rows) (sym told.rule_is) sides_b;
     links = inside_files plan p d.links ready told.lists.links;
     possible = inside_files plan p d.possible ready told.lists.possible;
     rising = told.lists.possible_rise;
     rows =
-        subst (λ n. AreRowsIn (length p.files.a.records) n (length d.rule.cells) d.rows) ready.sides_b.as_many
-        (subst (λ n. AreRowsIn n (length p.values.b.rows) (length d.rule.cells) d.rows) ready.sides_a.as_many told.rows_in);
+        subst (λ n. AreRowsIn (length p.files.a.records) n (length d.rule.cells) d.rows) ready.pooled.b.sides.as_many
+        (subst (λ n. AreRowsIn n (length p.values.b.rows) (length d.rule.cells) d.rows) ready.pooled.a.sides.as_many told.rows_in);
   }
 
   pub decided_for_plan : (result : Result DecidedView Fault) → AreCellsOf (pattern_count_by (rares_of plan.fields)) rule.cells → Told result → IfOk result (IsDecidedFor plan p)

@@ -1,9 +1,12 @@
 -- What the steps of a run give, over the prepared files of a plan.
-use Rattle.std.proofs.Common.{◌≡◌, ℕ, List, length, Result, Ok, Err, subst, sym, filter}
+use Rattle.std.proofs.Common.{◌≡◌, ◌<◌, ℕ, List, length, Result, Ok, Err, arith, subst, sym, filter}
 use Rattle.std.specs.Prelude.{All, Contains, IfOk, not}
 use Rattle.std.proofs.lemmas.List.Elements.{All-contains, All-filter, All-map, All-weaker}
+use Rattle.price_check.specs.Assignment.{IsWithin}
+use Rattle.candidate_links.proofs.PassLemmas.{not_more}
 use Rattle.candidate_links.specs.Candidates.{AreCandidates, candidates_of}
-use Rattle.candidate_links.specs.Choice.{dropped, dropped_of, is_chosen}
+use Rattle.candidate_links.specs.Choice.{dropped, dropped_of, is_chosen, IsChoice}
+use Rattle.candidate_links.specs.declared.choice.ChosenLinks.{ChosenLinks}
 use Rattle.comparators.specs.declared.ids.IdValue.{IdValue}
 use Rattle.link_base.specs.declared.rule.Candidate.{Candidate}
 use Rattle.link_base.specs.declared.rule.PairAt.{PairAt}
@@ -14,7 +17,7 @@ use Rattle.review_journal.specs.declared.entry.Entry.{Entry}
 use Rattle.link_plan.specs.declared.plan.Plan.{Plan}
 use Rattle.link_core.specs.Decisions.{IsDecidedIn, rule_in}
 use Rattle.link_core.specs.Prepared.{PreparedView}
-use Rattle.link_core.specs.Results.{candidates_in, compared_in, IsDecidedFor}
+use Rattle.link_core.specs.Results.{candidates_in, compared_in, IsDecidedFor, IsPlaced}
 
 pub if_ok : {T E : Type 0} (P Q : T → Type 0) (r : Result T E) → ((x : T) → P x → Q x) → IfOk r P → IfOk r Q
 if_ok P Q (Ok x) h p = h x p
@@ -43,9 +46,24 @@ handed rows_a rows_b n m wanted cs given of_a of_b is found =
     subst (λ x. AreCandidates x m wanted given) (sym of_a) (subst (λ x. AreCandidates rows_a x wanted given) (sym of_b) (subst (λ (xs : List Candidate). AreCandidates rows_a rows_b wanted xs) (sym is) found))
 
 -- links and dropped candidates stand in the files, by what holds of each candidate
-pub of_links : (P : Candidate → Type 0) (candidates links : List Candidate) → All P candidates → All (Contains candidates) links → All P links
+of_links : (P : Candidate → Type 0) (candidates links : List Candidate) → All P candidates → All (Contains candidates) links → All P links
 of_links P candidates links all among = All-weaker (Contains candidates) P (λ c h. All-contains P candidates c all h) links among
 
-pub of_dropped : (P : Dropped → Type 0) (candidates links : List Candidate) → All (λ c. P (dropped c)) candidates → All P (dropped_of candidates links)
+of_dropped : (P : Dropped → Type 0) (candidates links : List Candidate) → All (λ c. P (dropped c)) candidates → All P (dropped_of candidates links)
 of_dropped P candidates links all =
     All-map P dropped (filter (λ c. not (is_chosen links c)) candidates) (All-filter (λ c. not (is_chosen links c)) (λ c. P (dropped c)) candidates all)
+
+-- a choice among the candidates of files stands in them
+pub choice_placed : (rows_a rows_b : ℕ) (wanted cs : List Candidate) (k : ChosenLinks) → AreCandidates rows_a rows_b wanted cs → IsChoice rows_a rows_b cs k → IsPlaced rows_a rows_b k
+choice_placed rows_a rows_b wanted cs k found chosen =
+    let one = chosen.greatest.one_to_one in
+    let in_a : All (λ (c : Candidate). c.a < rows_a) cs = All-weaker (IsWithin rows_a rows_b) (λ (c : Candidate). c.a < rows_a) (λ c h. h.0) cs found.within in
+    let in_b : All (λ (c : Candidate). c.b < rows_b) cs = All-weaker (IsWithin rows_a rows_b) (λ (c : Candidate). c.b < rows_b) (λ c h. h.1) cs found.within in
+    let most = not_more cs k.links.items (record { rising = found.rising; links_rise = one.rising; among = one.among }) in
+    record {
+      few = omega (arith, most, found.few);
+      in_a = of_links (λ l. l.a < rows_a) cs k.links.items in_a one.among;
+      in_b = of_links (λ l. l.b < rows_b) cs k.links.items in_b one.among;
+      left_a = subst (λ (ds : List Dropped). All (λ d. d.at.a < rows_a) ds) (sym chosen.dropped) (of_dropped (λ d. d.at.a < rows_a) cs k.links.items in_a);
+      left_b = subst (λ (ds : List Dropped). All (λ d. d.at.b < rows_b) ds) (sym chosen.dropped) (of_dropped (λ d. d.at.b < rows_b) cs k.links.items in_b);
+    }

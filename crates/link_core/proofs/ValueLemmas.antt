@@ -52,4 +52,4 @@ patterns_are plan p texts n rows_a rows_b ranges ready law of_texts many of_a of
     let here : SamePatterns p.values.texts = subst SamePatterns of_texts law in
     (λ i. pattern_over (comparators_of (many i) plan.fields (of_a i) (of_b i)) (of_a i) (of_b i))
     ∙ here plan p.files.a.records p.files.b.records p.values.a.rows p.values.b.rows ranges
-    (stand_for plan p.values.texts p.files.a.records p.values.a.rows ready.of_a ready.sides_a) (stand_for plan p.values.texts p.files.b.records p.values.b.rows ready.of_b ready.sides_b)
+    (stand_for plan p.values.texts p.files.a.records p.values.a.rows ready.of_a ready.pooled.a.sides) (stand_for plan p.values.texts p.files.b.records p.values.b.rows ready.of_b ready.pooled.b.sides)

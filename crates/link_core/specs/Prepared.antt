@@ -1,6 +1,5 @@
 -- What is prepared of the two files of a plan: their standard values, whose distinct texts have room. `prepare` and `prepare_texts`
--- carry it (clause `answer`, by `prepared`), and say of the pool of these texts what later steps need (clauses from `pooled` on, and
--- `ready`).
+-- carry it (clause `answer`, by `prepared`), and say of the pool of these texts what later steps need (clauses `pooled` and `ready`).
 use Rattle.std.specs.Prelude.{◌≡◌, ℕ, List, length, map, Result, Ok, Err, ⊤}
 use Rattle.link_base.specs.Answers.{and_then}
 use Rattle.link_base.specs.Standard.{Record}
@@ -15,7 +14,6 @@ use Rattle.value_pool.specs.declared.pool.PoolFault.TheVariants as pool
 use Rattle.link_plan.specs.Plan.{FieldKeys}
 use Rattle.link_plan.specs.declared.plan.Plan.{Plan}
 use Rattle.standard_files.specs.Files.{standard_files, StandardPair}
-use Rattle.standard_files.specs.Ready.{AreFileSides}
 use Rattle.standard_files.specs.Sides.{pooled_values, PooledView}
 use Rattle.standard_files.specs.Texts.{pooled_texts}
 
@@ -66,11 +64,3 @@ sides_in p r = p.values.a
 abbrev pub unreadable_of : PreparedView → FileRole → ℕ
 unreadable_of p role.B = p.files.b.unreadable
 unreadable_of p r = p.files.a.unreadable
-
--- the pool has this limit, and the tables have a valid side for each value of both files, which stands for it
-pub record ArePooled (most : ℕ) (kinds : List CompareKind) (a b : List Record) (v : PooledView) : Type 0 where
-  pub limit : v.limit ≡ most
-  pub fields_a : v.a.fields ≡ length kinds
-  pub fields_b : v.b.fields ≡ length kinds
-  pub sides_a : AreFileSides v.texts kinds a v.a.rows
-  pub sides_b : AreFileSides v.texts kinds b v.b.rows

@@ -1,10 +1,11 @@
 -- What a run comes to: the pairs, the rule, links and prices, and the report, each as its text (`finish`, its lone clause), and the
 -- candidates (`candidates`). Links and prices are a relation: any greatest one-to-one list serves, with any prices that certify it.
-use Rattle.std.specs.Prelude.{◌≡◌, ◌*◌, ◌^◌, ℕ, ℤ, List, length}
-use Rattle.link_limits.specs.declared.TheConstants.{WHOLE_FIELD, WHOLE_RULE}
+use Rattle.std.specs.Prelude.{◌≡◌, ◌<◌, ◌≤◌, ◌*◌, ◌^◌, All, ℕ, ℤ, List, length}
+use Rattle.link_limits.specs.declared.TheConstants.{MOST_PAIRS, WHOLE_FIELD, WHOLE_RULE}
 use Rattle.price_check.specs.Assignment.{Certifies, IsGreatest, worth}
 use Rattle.candidate_links.specs.Candidates.{candidates_of}
 use Rattle.candidate_links.specs.Choice.{dropped_of}
+use Rattle.candidate_links.specs.declared.choice.ChosenLinks.{ChosenLinks}
 use Rattle.decision_rule.specs.Rule.{lambda_of, mu_of, possible_m_of, possible_u_of}
 use Rattle.link_base.specs.declared.rule.Candidate.{Candidate}
 use Rattle.link_base.specs.declared.rule.Decision.{Decision}
@@ -18,6 +19,7 @@ use Rattle.link_report.specs.PricesText.{text_of_prices}
 use Rattle.link_report.specs.ReportText.{text_of_report}
 use Rattle.link_report.specs.RuleText.{text_of_rule}
 use Rattle.link_report.specs.declared.open.PairRow.{PairRow}
+use Rattle.link_report.specs.declared.report.Dropped.{Dropped}
 use Rattle.link_report.specs.declared.report.Report.{Report}
 use Rattle.pair_decisions.specs.Decisions.{AreDecisionsOn, count_with, DecidedView, pairs_with}
 use Rattle.pair_decisions.specs.PairRule.{AreCellsOf, FileRule}
@@ -59,6 +61,14 @@ pub record IsDecidedFor (plan : Plan) (p : PreparedView) (d : DecidedView) : Typ
 -- machinery: decisions keep the row of each compared pair, for those who write them
 abbrev pub KeepsRows : Plan → PreparedView → DecidedView → Type 0
 KeepsRows plan p d = d.rows ≡ decided_rows (rule_in p d) (compared_in plan p.files)
+
+-- machinery: links are not too many, and they and the dropped candidates stand in files of so many records
+pub record IsPlaced (rows_a rows_b : ℕ) (c : ChosenLinks) : Type 0 where
+  pub few : length c.links.items ≤ MOST_PAIRS
+  pub in_a : All (λ (l : Candidate). l.a < rows_a) c.links.items
+  pub in_b : All (λ (l : Candidate). l.b < rows_b) c.links.items
+  pub left_a : All (λ (d : Dropped). d.at.a < rows_a) c.dropped.items
+  pub left_b : All (λ (d : Dropped). d.at.b < rows_b) c.dropped.items
 
 -- the attained levels of a rule and its chances of a possible link, as sums over one denominator
 pub record AreLevelsOf (fields : ℕ) (cells : List RuleCell) (levels : Levels) : Type 0 where

@@ -1,7 +1,6 @@
 -- What a plan's rule comes to: the shares of its fields by its sample of two prepared files (`counted`, clause `answer`),
 -- and the texts of the rule (`rule_lines`) and of its frontier of levels (`frontier_lines`) for given shares.
 use Rattle.std.specs.Prelude.{◌≡◌, ◌<◌, ◌≤◌, ℕ, Bool, List, length, map, slice_index, slice_index_or, Result}
-use Rattle.block_passes.specs.KeyIds.{key_ids}
 use Rattle.link_base.specs.declared.fault.Fault.{Fault}
 use Rattle.link_base.specs.declared.rule.RuleCell.{RuleCell}
 use Rattle.link_base.specs.declared.shares.FieldShares.{FieldShares}
@@ -17,23 +16,18 @@ use Rattle.pair_decisions.specs.PlanShares.{counted_in, plain_all}
 use Rattle.link_plan.specs.Plan.{PlainShares}
 use Rattle.link_plan.specs.declared.plan.Plan.{Plan}
 use Rattle.standard_files.specs.Files.{AreOfPlan, StandardPair}
-use Rattle.pair_walk.specs.Rows.{AreAllReady, AreKeysHeld}
-use Rattle.standard_files.specs.Ready.{AreFileSides}
+use Rattle.pair_walk.specs.Rows.{AreAllReady}
+use Rattle.standard_files.specs.Ready.{ArePooled}
 use Rattle.link_core.specs.Prepared.{kinds_of, PreparedView}
 
--- machinery: prepared files are those of a plan: at most so many records each, with keys in its passes whose parts stand in the pool, whose
--- ids are at hand, and a side for each of their values, which stands for it and is valid for its kind of comparison
+-- machinery: prepared files are those of a plan, with keys in its passes, and the pool has what is compared of them: a side for each of their
+-- values, which stands for it and is valid for its kind of comparison, and the parts of their keys, whose ids are at hand
 pub record IsPreparedFor (plan : Plan) (p : PreparedView) : Type 0 where
   pub of_a : AreOfPlan plan p.files.a.records
   pub of_b : AreOfPlan plan p.files.b.records
-  pub sides_a : AreFileSides p.values.texts (kinds_of plan) p.files.a.records p.values.a.rows
-  pub sides_b : AreFileSides p.values.texts (kinds_of plan) p.files.b.records p.values.b.rows
   pub ready_a : AreAllReady plan.passes p.files.a.records
   pub ready_b : AreAllReady plan.passes p.files.b.records
-  pub held_a : AreKeysHeld p.values.texts plan.passes p.files.a.records
-  pub held_b : AreKeysHeld p.values.texts plan.passes p.files.b.records
-  pub keys_a : p.values.keys_a ≡ key_ids p.values.texts plan.passes p.files.a.records
-  pub keys_b : p.values.keys_b ≡ key_ids p.values.texts plan.passes p.files.b.records
+  pub pooled : ArePooled (kinds_of plan) plan.passes p.files.a.records p.files.b.records p.values
 
 -- in which fields agreement on a rare value is an outcome of its own
 abbrev pub shared_rares : List PlainShares → List Bool

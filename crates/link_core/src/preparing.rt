@@ -1,12 +1,11 @@
 // Two files ready to be compared.
 ghost use Rattle.std.specs.Prelude.{◌≡◌, ◌≤◌, All, IfErr, IfOk, Ok, length};
-ghost use Rattle.block_passes.specs.KeyIds.{key_ids};
 ghost use Rattle.link_base.specs.Fault.{Gives, IsAnswer, IsInputFault};
-ghost use Rattle.link_core.specs.Prepared.{ArePooled, files_of, IsOneOfBoth, kinds_of, pooled, prepared, sides_in, unreadable_of, with_fault, with_room};
-ghost use Rattle.standard_files.specs.Ready.{AreInRange, IsRowFor};
+ghost use Rattle.link_core.specs.Prepared.{files_of, IsOneOfBoth, kinds_of, pooled, prepared, sides_in, unreadable_of, with_fault, with_room};
+ghost use Rattle.standard_files.specs.Ready.{AreInRange, ArePooled, IsRowFor};
 ghost use Rattle.standard_files.specs.Sides.{pooled_values};
 ghost use Rattle.link_core.specs.Rules.{IsPreparedFor};
-ghost use Rattle.pair_walk.specs.Rows.{AreKeysHeld, all_rows};
+ghost use Rattle.pair_walk.specs.Rows.{all_rows};
 ghost use Rattle.link_plan.specs.Ranges.{KeepsRanges};
 ghost use Rattle.standard_files.specs.Files.{AreOfPlan};
 
@@ -127,11 +126,7 @@ fn pool_by(
     requires parts { AreInRange (length kinds.now) passes.now }
     ensures kind { IfErr result IsInputFault }
     ensures answer { IsAnswer (with_fault (pooled_values pool_limit kinds.now passes.now a.now b.now)) result }
-    ensures pooled { IfOk result (ArePooled pool_limit kinds.now a.now b.now) }
-    ensures parts_a { IfOk result (λ v. AreKeysHeld v.texts passes.now a.now) }
-    ensures parts_b { IfOk result (λ v. AreKeysHeld v.texts passes.now b.now) }
-    ensures keys_a { IfOk result (λ v. v.keys_a ≡ key_ids v.texts passes.now a.now) }
-    ensures keys_b { IfOk result (λ v. v.keys_b ≡ key_ids v.texts passes.now b.now) }
+    ensures pooled { IfOk result (ArePooled kinds.now passes.now a.now b.now) }
 {
     match pool_values(alloc, kinds, passes, a, b, pool_limit) {
         Ok(values) => Ok(values),
@@ -154,11 +149,7 @@ fn pool_files(
     requires of_b { AreOfPlan plan.now b.now }
     ensures kind { IfErr result IsInputFault }
     ensures answer { IsAnswer (with_fault (pooled_values pool_limit (kinds_of plan.now) plan.now.passes a.now b.now)) result }
-    ensures pooled { IfOk result (ArePooled pool_limit (kinds_of plan.now) a.now b.now) }
-    ensures parts_a { IfOk result (λ v. AreKeysHeld v.texts plan.now.passes a.now) }
-    ensures parts_b { IfOk result (λ v. AreKeysHeld v.texts plan.now.passes b.now) }
-    ensures keys_a { IfOk result (λ v. v.keys_a ≡ key_ids v.texts plan.now.passes a.now) }
-    ensures keys_b { IfOk result (λ v. v.keys_b ≡ key_ids v.texts plan.now.passes b.now) }
+    ensures pooled { IfOk result (ArePooled (kinds_of plan.now) plan.now.passes a.now b.now) }
 {
     let kinds = kinds_of_plan(alloc, plan)?;
     pool_by(alloc, &kinds, &plan.passes, a, b, pool_limit)
@@ -185,9 +176,6 @@ fn pool_pair(
     ensures kind { IfErr result IsInputFault }
     ensures answer { Gives files_of (with_room plan.now pool_limit files) result }
     ensures pooled { IfOk result (λ p. pooled plan.now pool_limit p.files ≡ Ok p.values) }
-    ensures limit { IfOk result (λ p. p.values.limit ≡ pool_limit) }
-    ensures fields_a { IfOk result (λ p. p.values.a.fields ≡ length plan.now.fields) }
-    ensures fields_b { IfOk result (λ p. p.values.b.fields ≡ length plan.now.fields) }
     ensures ready { IfOk result (IsPreparedFor plan.now) }
 {
     match pool_files(
@@ -220,9 +208,6 @@ pub fn prepare(
     ensures kind { IfErr result IsInputFault }
     ensures answer { Gives files_of (prepared plan.now pool_limit a.now b.now) result }
     ensures pooled { IfOk result (λ p. pooled plan.now pool_limit p.files ≡ Ok p.values) }
-    ensures limit { IfOk result (λ p. p.values.limit ≡ pool_limit) }
-    ensures fields_a { IfOk result (λ p. p.values.a.fields ≡ length plan.now.fields) }
-    ensures fields_b { IfOk result (λ p. p.values.b.fields ≡ length plan.now.fields) }
     ensures ready { IfOk result (IsPreparedFor plan.now) }
 {
     match read_files(alloc, plan, a, b) {

@@ -1,19 +1,18 @@
 // What a run comes to.
 ghost use Rattle.std.specs.Prelude.{◌≡◌, ◌<◌, ◌≤◌, All, IfOk, length};
-ghost use Rattle.price_check.specs.Assignment.{Certifies, IsGreatest, worth};
+ghost use Rattle.price_check.specs.Assignment.{worth};
 ghost use Rattle.candidate_links.specs.Candidates.{AreCandidates};
-ghost use Rattle.candidate_links.specs.Choice.{dropped_of};
+ghost use Rattle.candidate_links.specs.Choice.{dropped_of, IsChoice};
 ghost use Rattle.link_core.specs.Decisions.{IsDecidedIn, rule_in};
 ghost use Rattle.link_base.specs.Rule.{HasBoundedSums};
 ghost use Rattle.link_limits.specs.declared.TheConstants.{MOST_PAIRS};
-ghost use Rattle.link_core.specs.Results.{AreLevelsOf, AreRunTexts, candidates_in, IsDecidedFor, IsReportOf, KeepsRows, pair_rows_in, five_texts};
+ghost use Rattle.link_core.specs.Results.{AreLevelsOf, AreRunTexts, candidates_in, IsDecidedFor, IsPlaced, IsReportOf, KeepsRows, pair_rows_in, five_texts};
 ghost use Rattle.link_core.specs.Review.{open_pairs};
 ghost use Rattle.link_base.specs.declared.rule.Candidate.{Candidate as Link};
 ghost use Rattle.link_report.specs.LinksText.{text_of_links};
 ghost use Rattle.link_report.specs.PairsText.{text_of_pairs};
 ghost use Rattle.link_report.specs.PricesText.{text_of_prices};
 ghost use Rattle.link_report.specs.RuleText.{text_of_rule};
-ghost use Rattle.link_report.specs.declared.report.Dropped.{Dropped as Row};
 ghost use Rattle.pair_decisions.specs.Comparators.{rares_of};
 ghost use Rattle.link_plan.specs.Ranges.{KeepsRanges};
 
@@ -73,17 +72,8 @@ fn links_of(
     requires ranges { KeepsRanges plan.now }
     requires of_files { IsDecidedIn prepared.now decided.now }
     requires decided { IsDecidedFor plan.now prepared.now decided.now }
-    ensures greatest { IfOk result (λ c. IsGreatest (candidates_in plan.now prepared.now.files (rule_in prepared.now decided.now) journal.now) c.links.items) }
-    ensures certified { IfOk result (λ c. Certifies (candidates_in plan.now prepared.now.files (rule_in prepared.now decided.now) journal.now) c.links.items c.prices_a.items c.prices_b.items) }
-    ensures priced_a { IfOk result (λ c. length c.prices_a.items ≡ length prepared.now.files.a.records) }
-    ensures priced_b { IfOk result (λ c. length c.prices_b.items ≡ length prepared.now.files.b.records) }
-    ensures in_a { IfOk result (λ c. All (λ (l : Link). l.a < length prepared.now.files.a.records) c.links.items) }
-    ensures in_b { IfOk result (λ c. All (λ (l : Link). l.b < length prepared.now.files.b.records) c.links.items) }
-    ensures few { IfOk result (λ c. length c.links.items ≤ MOST_PAIRS) }
-    ensures left_a { IfOk result (λ c. All (λ (d : Row). d.at.a < length prepared.now.files.a.records) c.dropped.items) }
-    ensures left_b { IfOk result (λ c. All (λ (d : Row). d.at.b < length prepared.now.files.b.records) c.dropped.items) }
-    ensures dropped { IfOk result (λ c. c.dropped.items ≡ dropped_of (candidates_in plan.now prepared.now.files (rule_in prepared.now decided.now) journal.now) c.links.items) }
-    ensures total { IfOk result (λ c. c.total ≡ worth c.links.items) }
+    ensures chosen { IfOk result (IsChoice (length prepared.now.files.a.records) (length prepared.now.files.b.records) (candidates_in plan.now prepared.now.files (rule_in prepared.now decided.now) journal.now)) }
+    ensures placed { IfOk result (IsPlaced (length prepared.now.files.a.records) (length prepared.now.files.b.records)) }
 {
     let found = candidates(alloc, plan, prepared, decided, journal)?;
     choose_links(alloc, prepared.a().rows(), prepared.b().rows(), &found)

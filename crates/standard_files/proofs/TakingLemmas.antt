@@ -2,7 +2,7 @@
 use Rattle.std.proofs.Common.{◌≡◌, ◌+◌, ℕ, Bool, true, false, not, ◌&&◌, List, [], ◌∷◌, ◌++◌, length, Result, Ok, Err, OnOk, ◌⊎◌, inl, inr, nat_lt, if◌then◌else◌, refl, ap, sym, subst, ◌∙◌}
 use Rattle.std.specs.List.{sum_by}
 use Rattle.link_base.specs.Answers.{RefusesBut, and_then}
-use Rattle.value_pool.specs.Pool.{FullExactly, is_want_of_pool, with_text}
+use Rattle.value_pool.specs.Pool.{FullExactly, HasTaken, is_want_of_pool}
 use Rattle.value_pool.specs.Texts.{PoolState, stands_among}
 use Rattle.value_pool.specs.declared.pool.PoolFault.{PoolFault}
 use Rattle.value_pool.specs.declared.pool.PoolFault.TheVariants as fault
@@ -62,10 +62,10 @@ full-one held more f true c h = cc
 full-one held more f false true h = refl
 full-one held more f false false h = cc
 
-pub takes-interned : (old new : PoolState) (text : List ℕ) (r : Result ℕ PoolFault) → old.used ≡ sum_by length old.texts → OnOk r (new.texts ≡ with_text old text) → FullExactly old text r → TakesTexts old new (text ∷ []) r
+pub takes-interned : (old new : PoolState) (text : List ℕ) (r : Result ℕ PoolFault) → old.used ≡ sum_by length old.texts → OnOk r (HasTaken text old new) → FullExactly old text r → TakesTexts old new (text ∷ []) r
 takes-interned old new text (Ok id) used is h =
     let f : PoolFault = fault.Full (sum_by length old.texts + length text) old.limit in
-    ok-one old.texts (old.texts ++ text ∷ []) f (stands_among old.texts text) (nat_lt old.limit (sum_by length old.texts + length text)) (rw used at h) ∙ ap Ok (sym is)
+    ok-one old.texts (old.texts ++ text ∷ []) f (stands_among old.texts text) (nat_lt old.limit (sum_by length old.texts + length text)) (rw used at h) ∙ ap Ok (sym is.texts)
 takes-interned old new text (Err (fault.Full sum most)) used is h =
     let f : PoolFault = fault.Full (sum_by length old.texts + length text) old.limit in
     let e : f ≡ fault.Full sum most = rw (h.1, h.2, used) refl in

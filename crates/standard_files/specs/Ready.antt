@@ -1,7 +1,9 @@
--- The files whose values are pooled, and what is known of them in a pool: their parts of keys stand there (`pool_values`,
--- clauses `parts_a`, `parts_b`, by `AreKeysHeld`), and each side stands for its value and is valid (clauses `sides_a`, `sides_b`).
-use Rattle.std.specs.Prelude.{◌≡◌, ◌<◌, ℕ, List, [], length, slice_index_or, All}
+-- The files whose values are pooled, and what is known of them in a pool: each side stands for its value and is valid, the parts of their
+-- keys stand there, and the ids of these are kept (`pool_values`, clause `pooled`).
+use Rattle.std.specs.Prelude.{◌≡◌, ◌<◌, ℕ, List, [], Option, length, slice_index_or, All}
+use Rattle.block_passes.specs.Ids.{AreKeysHeld}
 use Rattle.block_passes.specs.Index.{row_at}
+use Rattle.block_passes.specs.KeyIds.{key_ids}
 use Rattle.comparators.specs.Fields.{field_of, IsFieldSide}
 use Rattle.comparators.specs.OfPool.{StandsFor}
 use Rattle.comparators.specs.declared.ids.IdValue.{IdValue}
@@ -11,6 +13,7 @@ use Rattle.link_base.specs.declared.plan.CompareKind.{CompareKind}
 use Rattle.link_base.specs.Canons.{exact}
 use Rattle.link_base.specs.declared.plan.Part.{Part}
 use Rattle.link_base.specs.declared.standard.Value.{Value}
+use Rattle.standard_files.specs.Sides.{PooledView}
 
 -- a valid value for each kind of comparison
 pub record IsRowFor (kinds : List CompareKind) (r : Record) : Type 0 where
@@ -37,3 +40,14 @@ pub record AreRowSides (texts : List (List ℕ)) (kinds : List CompareKind) (row
 pub record AreFileSides (texts : List (List ℕ)) (kinds : List CompareKind) (file : List Record) (rows : List (List IdValue)) : Type 0 where
   pub as_many : length rows ≡ length file
   pub of_row : (at : ℕ) → at < length file → AreRowSides texts kinds (row_at file at) (slice_index_or rows at [])
+
+-- what is kept of a file in a pool of these texts: its sides, and the ids of the parts of its keys, which stand there
+pub record IsPooled (texts : List (List ℕ)) (kinds : List CompareKind) (passes : List (List Part)) (file : List Record) (rows : List (List IdValue)) (ids : List (Option ℕ)) : Type 0 where
+  pub sides : AreFileSides texts kinds file rows
+  pub held : AreKeysHeld texts passes file
+  pub keys : ids ≡ key_ids texts passes file
+
+-- the same of two files
+pub record ArePooled (kinds : List CompareKind) (passes : List (List Part)) (file_a file_b : List Record) (v : PooledView) : Type 0 where
+  pub a : IsPooled v.texts kinds passes file_a v.a.rows v.keys_a
+  pub b : IsPooled v.texts kinds passes file_b v.b.rows v.keys_b

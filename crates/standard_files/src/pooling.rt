@@ -1,12 +1,10 @@
 // The pooled values of two files.
-ghost use Rattle.std.specs.Prelude.{◌≡◌, ◌≤◌, ◌^◌, [], All, IfOk, List, ℕ, length};
-ghost use Rattle.block_passes.specs.Ids.{AreKeysHeld};
-ghost use Rattle.block_passes.specs.KeyIds.{key_ids};
+ghost use Rattle.std.specs.Prelude.{◌≡◌, ◌≤◌, [], All, IfOk, length};
 ghost use Rattle.link_base.specs.Answers.{GivesBut};
 ghost use Rattle.value_pool.specs.Pool.{is_want_of_pool};
-ghost use Rattle.standard_files.specs.Ready.{AreFileSides, AreInRange, IsRowFor};
-ghost use Rattle.standard_files.specs.Sides.{pooled_values, sides_of_file};
-ghost use Rattle.standard_files.specs.Taking.{Extends, TakesTexts};
+ghost use Rattle.standard_files.specs.Ready.{AreInRange, ArePooled, IsRowFor};
+ghost use Rattle.standard_files.specs.Sides.{pooled_values};
+ghost use Rattle.standard_files.specs.Taking.{IsTaken, TakesTexts};
 ghost use Rattle.standard_files.specs.Texts.{all_texts};
 
 use crate::canons::take_canons;
@@ -88,12 +86,8 @@ fn take_values(
     requires parts { AreInRange (length kinds.now) passes.now }
     ensures limit { pool.new.limit ≡ pool.old.limit }
     ensures texts { TakesTexts pool.old pool.new (all_texts kinds.now passes.now a.now b.now) result }
-    ensures fields_a { IfOk result (λ t. t.a.fields ≡ length kinds.now) }
-    ensures fields_b { IfOk result (λ t. t.b.fields ≡ length kinds.now) }
-    ensures a { IfOk result (λ t. (final : List (List ℕ)) → Extends pool.new.texts final → sides_of_file final kinds.now a.now ≡ t.a.rows) }
-    ensures b { IfOk result (λ t. (final : List (List ℕ)) → Extends pool.new.texts final → sides_of_file final kinds.now b.now ≡ t.b.rows) }
-    ensures keys_a { IfOk result (λ t. (final : List (List ℕ)) → Extends pool.new.texts final → key_ids final passes.now a.now ≡ t.keys.a.items) }
-    ensures keys_b { IfOk result (λ t. (final : List (List ℕ)) → Extends pool.new.texts final → key_ids final passes.now b.now ≡ t.keys.b.items) }
+    ensures a { IfOk result (λ t. IsTaken pool.new.texts kinds.now passes.now a.now t.a t.keys.a.items) }
+    ensures b { IfOk result (λ t. IsTaken pool.new.texts kinds.now passes.now b.now t.b t.keys.b.items) }
 {
     let texts = take_texts(alloc, pool, a, b)?;
     let tables = take_canons(alloc, pool, kinds, a, b, &texts)?;
@@ -119,15 +113,7 @@ pub fn pool_values(
     requires rows_b { All (IsRowFor kinds.now) b.now }
     requires parts { AreInRange (length kinds.now) passes.now }
     ensures gives { GivesBut is_want_of_pool (λ pooled. pooled) (pooled_values limit kinds.now passes.now a.now b.now) result }
-    ensures limit { IfOk result (λ p. p.limit ≡ limit) }
-    ensures fields_a { IfOk result (λ p. p.a.fields ≡ length kinds.now) }
-    ensures fields_b { IfOk result (λ p. p.b.fields ≡ length kinds.now) }
-    ensures parts_a { IfOk result (λ p. AreKeysHeld p.texts passes.now a.now) }
-    ensures parts_b { IfOk result (λ p. AreKeysHeld p.texts passes.now b.now) }
-    ensures sides_a { IfOk result (λ p. AreFileSides p.texts kinds.now a.now p.a.rows) }
-    ensures sides_b { IfOk result (λ p. AreFileSides p.texts kinds.now b.now p.b.rows) }
-    ensures keys_a { IfOk result (λ p. p.keys_a ≡ key_ids p.texts passes.now a.now) }
-    ensures keys_b { IfOk result (λ p. p.keys_b ≡ key_ids p.texts passes.now b.now) }
+    ensures pooled { IfOk result (ArePooled kinds.now passes.now a.now b.now) }
 {
     let mut pool = match new_pool(alloc, limit, usual_texts(a.rows(), b.rows())) {
         Ok(pool) => pool,

@@ -15,7 +15,7 @@ use phonetic_keys::{Nysiis, nysiis, soundex};
 /// The bytes of a canon that takes no memory.
 #[derive(Drop)]
 pub enum CanonText<'v> {
-    /// A word, or its first characters.
+    /// A word, or a part of it.
     Slice(&'v [u8]),
     /// A Soundex key, or the digits of a year.
     Short([u8; 4]),

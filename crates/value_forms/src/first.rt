@@ -17,7 +17,7 @@ pub fn first_chars(text: &[u8], n: u8) -> &[u8]
     }
 }
 
-// What follows the first characters.
+// What follows the first `n` characters, nothing where there are no more.
 fn without_first(text: &str, n: u8) -> &str
     ensures later { result.now ≡ later_characters n text.now }
     ensures whole { text.now ≡ first_characters n text.now ++ result.now }

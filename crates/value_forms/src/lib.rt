@@ -1,5 +1,5 @@
-//! Forms of standard values: civil days, the texts of days, dates as people write them, the first
-//! characters of a text, its initials, and the canon by which a value is compared or blocked.
+//! Forms of standard values: civil days, the texts of days, dates as people write them, characters and
+//! initials of a text, and the canon by which a value is compared or blocked.
 #![tactic(auto)]
 
 mod canons;

@@ -1,10 +1,11 @@
 -- Machinery of the pool: a table of distinct texts, and what is seen of it. No public clause names it; the invariant of
 -- `Pool` does.
-use Rattle.std.specs.Prelude.{◌≡◌, ◌≢◌, ◌<◌, ◌≤◌, ◌-◌, ℕ, Bool, ◌&&◌, ◌==◌, List, [], All, AllPairs, bytes_eq, length, slice_index_or, slice_range, sum_by, vec_capacity, vec_len}
+use Rattle.std.specs.Prelude.{◌≡◌, ◌≢◌, ◌<◌, ◌≤◌, ◌+◌, ◌-◌, ℕ, Bool, ◌&&◌, ◌==◌, List, [], ◌∷◌, ◌++◌, All, AllPairs, bytes_eq, length, slice_index_or, slice_range, sum_by, vec_capacity, vec_len}
 use Rattle.link_limits.specs.declared.TheConstants.{MOST_POOL_LIMIT}
 use Rattle.value_pool.specs.Chains.{IsChained}
 use Rattle.value_pool.specs.Hashes.{hash_of}
 use Rattle.value_pool.specs.Order.{IsOrder}
+use Rattle.value_pool.specs.Pool.{KeepsRoom}
 use Rattle.value_pool.specs.Region.{IsSlotWithin, hashes_of, most_texts, nexts_of, texts_at}
 use Rattle.value_pool.specs.Texts.{PoolState}
 use Rattle.value_pool.specs.declared.chains.Slot.{Slot}
@@ -41,3 +42,9 @@ pub record IsTable (table : Table) : Type 0 where
   pub ordered : IsOrder table.order (texts_of table)
   pub short : length table.bytes.items ≤ MOST_POOL_LIMIT
   pub whole : sum_by length (texts_of table) ≡ length table.bytes.items
+
+-- the text is the last of the texts, and at most its room is used up
+pub record HasAppended (text : List ℕ) (old new : Table) : Type 0 where
+  pub texts : texts_of new ≡ texts_of old ++ text ∷ []
+  pub used : length new.bytes.items ≡ length old.bytes.items + length text
+  pub room : KeepsRoom (state_of 0 old) (state_of 0 new) 1 (length text)

@@ -1,5 +1,5 @@
 -- The texts of a pool: what a pool is seen as, whether a text stands among others, and its place. `Pool::intern` carries
--- them (clauses `found`, `texts`, `used`), and `Pool::are_distinct` that a place and a text name each other.
+-- them (clauses `found` and `taken`), and `Pool::are_distinct` that a place and a text name each other.
 use Rattle.std.specs.Prelude.{◌≡◌, ℕ, List, true, Option, Some, None, bytes_eq, ⊤}
 use Rattle.std.specs.List.{position_or_len}
 pub use Rattle.link_texts.specs.Texts.{stands_among}

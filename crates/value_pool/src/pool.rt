@@ -1,6 +1,6 @@
 // Distinct texts, a limit of their bytes, and room for more of them.
 ghost use Rattle.std.specs.Prelude.{◌≡◌, ◌≤◌, ◌↔◌, IsTrue, ◌≢◌, AllPairs, ◌<◌, ◌+◌, ◌++◌, ◌∷◌, [], ℕ, true, false, is_some, IfOk, IfSome, OnErr, OnOk, length, slice_get, slice_index_or, sum_by, if◌then◌else◌};
-ghost use Rattle.value_pool.specs.Pool.{FullExactly, HasRoom, KeepsRoom, with_text};
+ghost use Rattle.value_pool.specs.Pool.{FullExactly, HasRoom, HasTaken, IsAsBefore, KeepsRoom};
 ghost use Rattle.value_pool.specs.Texts.{stands_among};
 
 use crate::hashes::{hash, last_word};
@@ -123,15 +123,10 @@ impl Pool {
     /// The id of a text, which is taken where it is new. A refusal changes nothing but that there may be more room.
     pub fn intern(&mut self, alloc: Global, text: &[u8]) -> Result<Id, PoolFault>
         ensures found { IfOk result (λ id. slice_get self.new.texts id ≡ Some text.now) }
-        ensures texts { OnOk result (self.new.texts ≡ with_text self.old text.now) }
-        ensures refused { OnErr result (self.new.texts ≡ self.old.texts) }
+        ensures taken { OnOk result (HasTaken text.now self.old self.new) }
+        ensures refused { OnErr result (IsAsBefore self.old self.new) }
         ensures limit { self.new.limit ≡ self.old.limit }
-        ensures used { OnOk result (self.new.used ≡ self.old.used + (if stands_among self.old.texts text.now then 0 else length text.now)) }
-        ensures used_refused { OnErr result (self.new.used ≡ self.old.used) }
         ensures full { FullExactly self.old text.now result }
-        ensures room { KeepsRoom self.old self.new 1 (length text.now) }
-        ensures room_held { stands_among self.old.texts text.now ≡ true → KeepsRoom self.old self.new 0 0 }
-        ensures room_refused { OnErr result (KeepsRoom self.old self.new 0 0) }
     {
         let hash = hash(text);
         let last = last_word(text);

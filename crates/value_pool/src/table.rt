@@ -2,9 +2,9 @@
 ghost use Rattle.std.specs.Prelude.{◌≡◌, ◌≤◌, ◌<◌, ◌+◌, ◌-◌, ◌^◌, ◌++◌, ◌∷◌, [], bytes_eq, false, is_some, IfOk, IfSome, OnErr, OnOk, length, slice_get};
 ghost use Rattle.link_limits.specs.declared.TheConstants.{MOST_POOL_LIMIT};
 ghost use Rattle.value_pool.specs.Hashes.{hash_of, last_word};
-ghost use Rattle.value_pool.specs.Pool.{HasRoom, KeepsRoom};
+ghost use Rattle.value_pool.specs.Pool.{HasRoom, IsAsBefore};
 ghost use Rattle.value_pool.specs.Region.{IsSlotWithin};
-ghost use Rattle.value_pool.specs.Table.{IsTable, has_text, state_of, texts_of};
+ghost use Rattle.value_pool.specs.Table.{HasAppended, IsTable, has_text, state_of, texts_of};
 ghost use Rattle.value_pool.specs.Texts.{stands_among};
 
 use crate::chains::{Slot, bucket, empty_heads, thread};
@@ -121,13 +121,9 @@ impl Table {
         ensures table { IsTable self.new }
         ensures place { IfOk result (λ place. place ≡ length (texts_of self.old)) }
         ensures small { IfOk result (λ place. place < 2 ^ 32 - 1) }
-        ensures ok { OnOk result (texts_of self.new ≡ texts_of self.old ++ text.now ∷ []) }
-        ensures err { OnErr result (texts_of self.new ≡ texts_of self.old) }
-        ensures used { OnOk result (length self.new.bytes.items ≡ length self.old.bytes.items + length text.now) }
-        ensures used_err { OnErr result (length self.new.bytes.items ≡ length self.old.bytes.items) }
+        ensures appended { OnOk result (HasAppended text.now self.old self.new) }
+        ensures refused { OnErr result (IsAsBefore (state_of 0 self.old) (state_of 0 self.new)) }
         ensures cause { OnErr result (HasRoom (state_of 0 self.old) 1 (length text.now) → ⊥) }
-        ensures room { OnOk result (KeepsRoom (state_of 0 self.old) (state_of 0 self.new) 1 (length text.now)) }
-        ensures room_err { OnErr result (KeepsRoom (state_of 0 self.old) (state_of 0 self.new) 0 0) }
     {
         self.slots.reserve(1)?;
         self.bytes.reserve(text.len())?;

@@ -4,7 +4,7 @@ use Rattle.std.proofs.lemmas.List.{get_or_default}
 use Rattle.price_check.specs.Assignment.{Certifies, IsGreatest, greatest_value, price_of, worth}
 use Rattle.link_base.specs.declared.rule.Candidate.{Candidate}
 use Rattle.candidate_links.proofs.PassLemmas.{not_more}
-use Rattle.candidate_links.specs.Choice.{dropped_of}
+use Rattle.candidate_links.specs.Choice.{dropped_of, IsChoice}
 use Rattle.candidate_links.specs.declared.choice.ChosenLinks.{ChosenLinks}
 use Rattle.candidate_links.proofs.choice.choose_links.Goals as goal
 
@@ -14,11 +14,18 @@ of_chosen : {E : Type 0} (P : List Candidate → List ℤ → List ℤ → Type 
 of_chosen P links ps qs (Ok c) l a b h = rw (l, a, b) h
 of_chosen P links ps qs (Err e) l a b h = tt
 
--- what is told of the links is told of their copies
-told_of : {E X : Type 0} (of : List Candidate → X) (seen : ChosenLinks → X) (links : List Candidate) (r : Result ChosenLinks E) → IfOk r (λ c. c.links.items ≡ links)
-    → IfOk r (λ c. seen c ≡ of links) → IfOk r (λ c. seen c ≡ of c.links.items)
-told_of of seen links (Ok c) l h = h ∙ ap of (sym l)
-told_of of seen links (Err e) l h = tt
+-- the copies are a choice where links and prices are
+choice_of : {E : Type 0} (m n : ℕ) (cs links : List Candidate) (ps qs : List ℤ) (r : Result ChosenLinks E) → IfOk r (λ c. c.links.items ≡ links) → IfOk r (λ c. c.prices_a.items ≡ ps) → IfOk r (λ c. c.prices_b.items ≡ qs)
+    → IfOk r (λ c. c.dropped.items ≡ dropped_of cs links) → IfOk r (λ c. c.total ≡ worth links) → IsGreatest cs links → Certifies cs links ps qs → length ps ≡ m → length qs ≡ n → IfOk r (IsChoice m n cs)
+choice_of m n cs links ps qs (Ok c) l a b dropped total greatest certified of_a of_b = record {
+  greatest = rw l greatest;
+  certified = rw (l, a, b) certified;
+  priced_a = ap (λ (xs : List ℤ). length xs) a ∙ of_a;
+  priced_b = ap (λ (xs : List ℤ). length xs) b ∙ of_b;
+  dropped = dropped ∙ ap (dropped_of cs) (sym l);
+  total = total ∙ ap worth (sym l);
+}
+choice_of m n cs links ps qs (Err e) l a b dropped total greatest certified of_a of_b = tt
 
 -- no price is above the greatest value of the candidates
 priced : (prices : List ℤ) (most : ℤ) → ((position : ℕ) → price_of prices position ≤ℤ most) → All (λ price. price ≤ℤ most) prices
@@ -55,12 +62,7 @@ returns c =
     let most_a : All (λ price. price ≤ℤ greatest_value cs) solved.prices_a = priced solved.prices_a (greatest_value cs) (λ position. (bound position).0) in
     let most_b : All (λ price. price ≤ℤ greatest_value cs) solved.prices_b = priced solved.prices_b (greatest_value cs) (λ position. (bound position).1) in
     record {
-      greatest = of_chosen (λ links ps qs. IsGreatest cs links) _ _ _ r e.links e.prices_a e.prices_b greatest;
-      certified = of_chosen (λ links ps qs. Certifies cs links ps qs) _ _ _ r e.links e.prices_a e.prices_b certified;
-      rows_a = of_chosen (λ links ps qs. length ps ≡ c.args.rows_a) _ _ _ r e.links e.prices_a e.prices_b (s.rows_a ∙ made.rows_a);
-      rows_b = of_chosen (λ links ps qs. length qs ≡ c.args.rows_b) _ _ _ r e.links e.prices_a e.prices_b (s.rows_b ∙ made.rows_b);
-      dropped = told_of (dropped_of cs) (λ k. k.dropped.items) solved.links r e.links e.dropped;
-      total = told_of worth (λ k. k.total) solved.links r e.links e.total;
+      chosen = choice_of c.args.rows_a c.args.rows_b cs solved.links solved.prices_a solved.prices_b r e.links e.prices_a e.prices_b e.dropped e.total greatest certified (s.rows_a ∙ made.rows_a) (s.rows_b ∙ made.rows_b);
       most_a = of_chosen (λ links ps qs. All (λ price. price ≤ℤ greatest_value cs) ps) _ _ _ r e.links e.prices_a e.prices_b most_a;
       most_b = of_chosen (λ links ps qs. All (λ price. price ≤ℤ greatest_value cs) qs) _ _ _ r e.links e.prices_a e.prices_b most_b;
     }

@@ -1,17 +1,25 @@
-use Rattle.std.proofs.Common.{◌≡◌, ◌<◌, ◌∙◌, ℤ, List, Result, Ok, Err, ap, length}
+use Rattle.std.proofs.Common.{◌≡◌, ◌<◌, ◌∙◌, ℕ, ℤ, List, Result, Ok, Err, ap, length}
 use Rattle.std.specs.Prelude.{All, Contains, IfOk}
 use Rattle.std.proofs.lemmas.List.Elements.{All-contains, All-weaker}
 use Rattle.price_check.specs.Assignment.{IsWithin}
 use Rattle.price_check.specs.Capacities.{CertifiesWithin, IsGreatestWithin}
 use Rattle.link_base.specs.declared.rule.Candidate.{Candidate}
+use Rattle.candidate_links.specs.Choice.{IsChoiceWithin}
 use Rattle.candidate_links.specs.declared.choice_within.LinksWithin.{LinksWithin}
 use Rattle.candidate_links.proofs.choice_within.choose_within.Goals as goal
 
--- what holds of links and prices holds of their copies
-of_copied : {E : Type 0} (P : List Candidate → List ℤ → List ℤ → Type 0) (links : List Candidate) (ps qs : List ℤ) (r : Result LinksWithin E) → IfOk r (λ c. c.links.items ≡ links)
-    → IfOk r (λ c. c.prices_a.items ≡ ps) → IfOk r (λ c. c.prices_b.items ≡ qs) → P links ps qs → IfOk r (λ c. P c.links.items c.prices_a.items c.prices_b.items)
-of_copied P links ps qs (Ok c) l a b h = rw (l, a, b) h
-of_copied P links ps qs (Err e) l a b h = tt
+-- the copies are a choice where links and prices are
+choice_of : {E : Type 0} (m n : ℕ) (ns : List ℕ) (cs links : List Candidate) (ps qs : List ℤ) (r : Result LinksWithin E) → IfOk r (λ c. c.links.items ≡ links) → IfOk r (λ c. c.prices_a.items ≡ ps) → IfOk r (λ c. c.prices_b.items ≡ qs)
+    → IsGreatestWithin cs ns links → CertifiesWithin cs ns links ps qs → length ps ≡ m → length qs ≡ n → All (λ (l : Candidate). l.a < m) links → All (λ (l : Candidate). l.b < n) links → IfOk r (IsChoiceWithin m n ns cs)
+choice_of m n ns cs links ps qs (Ok c) l a b greatest certified of_a of_b in_a in_b = record {
+  greatest = rw l greatest;
+  certified = rw (l, a, b) certified;
+  priced_a = ap (λ (xs : List ℤ). length xs) a ∙ of_a;
+  priced_b = ap (λ (xs : List ℤ). length xs) b ∙ of_b;
+  in_a = rw l in_a;
+  in_b = rw l in_b;
+}
+choice_of m n ns cs links ps qs (Err e) l a b greatest certified of_a of_b in_a in_b = tt
 
 -- what holds of each candidate holds of each of the links
 of_links : (P : Candidate → Type 0) (candidates links : List Candidate) → All P candidates → All (Contains candidates) links → All P links
@@ -39,11 +47,5 @@ returns c =
     let certified : CertifiesWithin cs ns solved.links solved.prices_a solved.prices_b = rw (made.candidates, made.capacities) at s.certified in
     let a_within : All (λ (l : Candidate). l.a < c.args.rows_a) cs = All-weaker (IsWithin c.args.rows_a c.args.rows_b) (λ l. l.a < c.args.rows_a) (λ l h. h.0) cs c.requires.within in
     let b_within : All (λ (l : Candidate). l.b < c.args.rows_b) cs = All-weaker (IsWithin c.args.rows_a c.args.rows_b) (λ l. l.b < c.args.rows_b) (λ l h. h.1) cs c.requires.within in
-    record {
-      greatest = of_copied (λ links ps qs. IsGreatestWithin cs ns links) _ _ _ r e.links e.prices_a e.prices_b greatest;
-      certified = of_copied (λ links ps qs. CertifiesWithin cs ns links ps qs) _ _ _ r e.links e.prices_a e.prices_b certified;
-      priced_a = of_copied (λ links ps qs. length ps ≡ c.args.rows_a) _ _ _ r e.links e.prices_a e.prices_b (s.rows_a ∙ made.rows_a);
-      priced_b = of_copied (λ links ps qs. length qs ≡ c.args.rows_b) _ _ _ r e.links e.prices_a e.prices_b (s.rows_b ∙ (ap length made.capacities ∙ c.requires.for_each));
-      in_a = of_copied (λ links ps qs. All (λ (l : Candidate). l.a < c.args.rows_a) links) _ _ _ r e.links e.prices_a e.prices_b (of_links (λ l. l.a < c.args.rows_a) cs solved.links a_within greatest.within.among);
-      in_b = of_copied (λ links ps qs. All (λ (l : Candidate). l.b < c.args.rows_b) links) _ _ _ r e.links e.prices_a e.prices_b (of_links (λ l. l.b < c.args.rows_b) cs solved.links b_within greatest.within.among);
-    }
+    choice_of c.args.rows_a c.args.rows_b ns cs solved.links solved.prices_a solved.prices_b r e.links e.prices_a e.prices_b greatest certified (s.rows_a ∙ made.rows_a) (s.rows_b ∙ (ap length made.capacities ∙ c.requires.for_each))
+    (of_links (λ l. l.a < c.args.rows_a) cs solved.links a_within greatest.within.among) (of_links (λ l. l.b < c.args.rows_b) cs solved.links b_within greatest.within.among)

@@ -36,16 +36,16 @@ new-requires c =
     let rows_b : c.sides-2.result.now.rows ≡ p.values.b.rows = ap (λ t. t.rows) c.sides-2.ensures in
     let texts = c.len.ensures ∙ ap length c.pool-2.ensures.texts in
     let Few : ℕ → Type 0 = λ n. n ≤ MOST_ROWS in
-    let many_a = ap (λ (rows : List (List IdValue)). length rows) rows_a ∙ ready.sides_a.as_many in
-    let many_b = ap (λ (rows : List (List IdValue)). length rows) rows_b ∙ ready.sides_b.as_many in
+    let many_a = ap (λ (rows : List (List IdValue)). length rows) rows_a ∙ ready.pooled.a.sides.as_many in
+    let many_b = ap (λ (rows : List (List IdValue)). length rows) rows_b ∙ ready.pooled.b.sides.as_many in
     let A : List (List IdValue) → Type 0 = λ rows. AreFileSides p.values.texts (kinds_of c.args.plan.now) p.files.a.records rows in
     let B : List (List IdValue) → Type 0 = λ rows. AreFileSides p.values.texts (kinds_of c.args.plan.now) p.files.b.records rows in
     record {
       ranges = c.requires.ranges;
       few_a = subst Few (sym many_a) ready.of_a.few;
       few_b = subst Few (sym many_b) ready.of_b.few;
-      sides_a = sides_of_plan p.values.texts c.len.result c.args.plan.now.fields p.files.a.records c.sides.result.now.rows texts (subst A (sym rows_a) ready.sides_a);
-      sides_b = sides_of_plan p.values.texts c.len.result c.args.plan.now.fields p.files.b.records c.sides-2.result.now.rows texts (subst B (sym rows_b) ready.sides_b);
+      sides_a = sides_of_plan p.values.texts c.len.result c.args.plan.now.fields p.files.a.records c.sides.result.now.rows texts (subst A (sym rows_a) ready.pooled.a.sides);
+      sides_b = sides_of_plan p.values.texts c.len.result c.args.plan.now.fields p.files.b.records c.sides-2.result.now.rows texts (subst B (sym rows_b) ready.pooled.b.sides);
       cells =
           c.rule_has_patterns.ensures c.args.plan.now (plain_all c.fields.result.now) c.in_ok-table.table.cells.items c.in_ok-table.ensures.rule
           (ap shared_rares c.fields.ensures.shares ∙ c.requires.rares);

@@ -35,10 +35,10 @@ many_text-requires c =
     let rows_a : c.rows.result ≡ length p.files.a.records = c.rows.ensures ∙ ap (λ (file : List Record). length file) c.a.ensures in
     let rows_b : c.rows-2.result ≡ length p.files.b.records = c.rows-2.ensures ∙ ap (λ (file : List Record). length file) c.b.ensures in
     record {
-      in_a = subst (λ n. All (λ (l : Candidate). l.a < n) links) rows_a c.in_ok-chosen.ensures.in_a;
-      in_b = subst (λ n. All (λ (l : Candidate). l.b < n) links) rows_b c.in_ok-chosen.ensures.in_b;
-      priced_a = c.in_ok-chosen.ensures.priced_a ∙ rows_a;
-      priced_b = c.in_ok-chosen.ensures.priced_b ∙ rows_b;
+      in_a = subst (λ n. All (λ (l : Candidate). l.a < n) links) rows_a c.in_ok-chosen.ensures.chosen.in_a;
+      in_b = subst (λ n. All (λ (l : Candidate). l.b < n) links) rows_b c.in_ok-chosen.ensures.chosen.in_b;
+      priced_a = c.in_ok-chosen.ensures.chosen.priced_a ∙ rows_a;
+      priced_b = c.in_ok-chosen.ensures.chosen.priced_b ∙ rows_b;
     }
 
 pub returns : goal.returns
@@ -48,7 +48,7 @@ returns c =
     let rule = rule_in p c.args.decided.now in
     let wanted = candidates_in plan p.files rule c.args.journal.now in
     let chosen = c.in_ok-chosen.chosen in
-    let facts = c.in_ok-chosen.ensures in
+    let facts = c.in_ok-chosen.ensures.chosen in
     let rows_a : c.rows.result ≡ length p.files.a.records = c.rows.ensures ∙ ap (λ (file : List Record). length file) c.a.ensures in
     let rows_b : c.rows-2.result ≡ length p.files.b.records = c.rows-2.ensures ∙ ap (λ (file : List Record). length file) c.b.ensures in
     let same : c.deref.result.now ≡ wanted = c.deref.ensures.value ∙ c.in_ok-found.ensures.same in

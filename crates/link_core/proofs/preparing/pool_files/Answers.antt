@@ -2,9 +2,9 @@ use Rattle.std.proofs.Common.{◌≡◌, All, List, rules, subst, sym}
 use Rattle.std.specs.Prelude.{IfOk}
 use Rattle.link_base.specs.Fault.{IsAnswer}
 use Rattle.link_base.specs.declared.plan.CompareKind.{CompareKind}
-use Rattle.standard_files.specs.Ready.{IsRowFor}
+use Rattle.standard_files.specs.Ready.{ArePooled, IsRowFor}
 use Rattle.standard_files.specs.Sides.{pooled_values}
-use Rattle.link_core.specs.Prepared.{ArePooled, kinds_of, with_fault}
+use Rattle.link_core.specs.Prepared.{kinds_of, with_fault}
 use Rattle.link_core.proofs.ReadyLemmas.{plan_rows}
 use Rattle.link_core.proofs.preparing.pool_files.Goals as goal
 
@@ -29,5 +29,5 @@ returns-clause-answer c =
 pub returns-clause-pooled : goal.returns-clause-pooled
 returns-clause-pooled c =
     let same : c.deref.result.now ≡ kinds_of c.args.plan.now = search (rules, c.deref.ensures, c.in_ok-kinds.ensures) in
-    let pooled : List CompareKind → Type 0 = λ kinds. IfOk c.pool_by.result (ArePooled c.args.pool_limit kinds c.args.a.now c.args.b.now) in
+    let pooled : List CompareKind → Type 0 = λ kinds. IfOk c.pool_by.result (ArePooled kinds c.args.plan.now.passes c.args.a.now c.args.b.now) in
     subst pooled same c.pool_by.ensures.pooled

@@ -11,12 +11,13 @@ use Rattle.link_core.proofs.results.finish.Goals as goal
 pub link_texts-requires : goal.link_texts-requires
 link_texts-requires c =
     let p = c.args.prepared.now in
-    let facts = c.in_ok-chosen.ensures in
+    let chosen = c.in_ok-chosen.ensures.chosen in
+    let placed = c.in_ok-chosen.ensures.placed in
     record {
-      in_a = subst (λ (ls : List Candidate). All (λ (l : Candidate). l.a < length p.files.a.records) ls) (sym c.deref.ensures.value) facts.in_a;
-      in_b = subst (λ (ls : List Candidate). All (λ (l : Candidate). l.b < length p.files.b.records) ls) (sym c.deref.ensures.value) facts.in_b;
-      priced_a = ap (λ (ps : List ℤ). length ps) c.deref-2.ensures.value ∙ facts.priced_a;
-      priced_b = ap (λ (ps : List ℤ). length ps) c.deref-3.ensures.value ∙ facts.priced_b;
+      in_a = subst (λ (ls : List Candidate). All (λ (l : Candidate). l.a < length p.files.a.records) ls) (sym c.deref.ensures.value) placed.in_a;
+      in_b = subst (λ (ls : List Candidate). All (λ (l : Candidate). l.b < length p.files.b.records) ls) (sym c.deref.ensures.value) placed.in_b;
+      priced_a = ap (λ (ps : List ℤ). length ps) c.deref-2.ensures.value ∙ chosen.priced_a;
+      priced_b = ap (λ (ps : List ℤ). length ps) c.deref-3.ensures.value ∙ chosen.priced_b;
     }
 
 pub report_of-made-requires : goal.report_of-made-requires
@@ -24,14 +25,14 @@ report_of-made-requires c = record {
   ranges = c.requires.ranges;
   of_files = c.requires.of_files;
   decided = c.requires.of_plan;
-  dropped = c.in_ok-chosen.ensures.dropped;
-  total = c.in_ok-chosen.ensures.total;
-  few = c.in_ok-chosen.ensures.few;
+  dropped = c.in_ok-chosen.ensures.chosen.dropped;
+  total = c.in_ok-chosen.ensures.chosen.total;
+  few = c.in_ok-chosen.ensures.placed.few;
 }
 
 pub report_text-report-requires : goal.report_text-report-requires
 report_text-report-requires c =
-    let facts = c.in_ok-chosen.ensures in
+    let facts = c.in_ok-chosen.ensures.placed in
     let made = sym c.report_of-made.ensures.dropped in
     record {
       levels = c.report_of-made.ensures.bounded;
@@ -51,7 +52,7 @@ pub returns : goal.returns
 returns c =
     let p = c.args.prepared.now in
     let chosen = c.in_ok-chosen.chosen in
-    let facts = c.in_ok-chosen.ensures in
+    let facts = c.in_ok-chosen.ensures.chosen in
     record {
       links = chosen.links.items;
       prices_a = chosen.prices_a.items;

@@ -16,14 +16,14 @@ pub counted_shares-requires-clause-sides_a : goal.counted_shares-requires-clause
 counted_shares-requires-clause-sides_a c =
     let p = c.args.prepared.now in
     let Q : List (List IdValue) → Type 0 = λ rows. AreFileSides p.values.texts (kinds_of c.args.plan.now) p.files.a.records rows in
-    let sides : Q c.sides.result.now.rows = subst Q (sym (ap (λ t. t.rows) c.sides.ensures)) c.requires.files.sides_a in
+    let sides : Q c.sides.result.now.rows = subst Q (sym (ap (λ t. t.rows) c.sides.ensures)) c.requires.files.pooled.a.sides in
     sides_of_plan p.values.texts c.len-texts.result c.args.plan.now.fields p.files.a.records c.sides.result.now.rows (c.len-texts.ensures ∙ ap length c.pool-2.ensures.texts) sides
 
 pub counted_shares-requires-clause-sides_b : goal.counted_shares-requires-clause-sides_b
 counted_shares-requires-clause-sides_b c =
     let p = c.args.prepared.now in
     let Q : List (List IdValue) → Type 0 = λ rows. AreFileSides p.values.texts (kinds_of c.args.plan.now) p.files.b.records rows in
-    let sides : Q c.sides-2.result.now.rows = subst Q (sym (ap (λ t. t.rows) c.sides-2.ensures)) c.requires.files.sides_b in
+    let sides : Q c.sides-2.result.now.rows = subst Q (sym (ap (λ t. t.rows) c.sides-2.ensures)) c.requires.files.pooled.b.sides in
     sides_of_plan p.values.texts c.len-texts.result c.args.plan.now.fields p.files.b.records c.sides-2.result.now.rows (c.len-texts.ensures ∙ ap length c.pool-2.ensures.texts) sides
 
 -- the shares by the patterns of ids are those by the patterns of records

@@ -51,12 +51,14 @@ returns-clause-texts c =
     c.take_texts.ensures.limit c.in_ok-texts.ensures.texts c.take_canons.ensures.limit c.in_ok-tables.ensures.texts c.in_ok-keys.ensures.texts
 
 pub returns-clause-a : goal.returns-clause-a
-returns-clause-a c final e =
-    c.in_ok-tables.ensures.a final (extends-before c.take_canons.new.pool.limit (both_texts (parts_of_row c.args.passes.now) c.args.a.now c.args.b.now) c.take_canons.new.pool.texts c.take_keys.new.pool.texts final c.in_ok-keys.ensures.texts e)
+returns-clause-a c =
+    let before = extends-before c.take_canons.new.pool.limit (both_texts (parts_of_row c.args.passes.now) c.args.a.now c.args.b.now) c.take_canons.new.pool.texts c.take_keys.new.pool.texts in
+    record { fields = c.in_ok-tables.ensures.fields_a; sides = λ final e. c.in_ok-tables.ensures.a final (before final c.in_ok-keys.ensures.texts e); keys = c.in_ok-keys.ensures.a }
 
 pub returns-clause-b : goal.returns-clause-b
-returns-clause-b c final e =
-    c.in_ok-tables.ensures.b final (extends-before c.take_canons.new.pool.limit (both_texts (parts_of_row c.args.passes.now) c.args.a.now c.args.b.now) c.take_canons.new.pool.texts c.take_keys.new.pool.texts final c.in_ok-keys.ensures.texts e)
+returns-clause-b c =
+    let before = extends-before c.take_canons.new.pool.limit (both_texts (parts_of_row c.args.passes.now) c.args.a.now c.args.b.now) c.take_canons.new.pool.texts c.take_keys.new.pool.texts in
+    record { fields = c.in_ok-tables.ensures.fields_b; sides = λ final e. c.in_ok-tables.ensures.b final (before final c.in_ok-keys.ensures.texts e); keys = c.in_ok-keys.ensures.b }
 
 -- what is known of the rows when the parts of their keys are taken
 pub take_keys-requires-clause-known_a : goal.take_keys-requires-clause-known_a

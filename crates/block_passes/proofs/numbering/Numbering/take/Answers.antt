@@ -11,7 +11,7 @@ returns-clause-number c =
     let code = c.args.code.now in
     elim c.match-intern.branch [
       | in-Ok w ↦
-          let within : place_among new code < length new = rw (w.in-Ok.ensures.texts ∙ text-taken old code) (place-within old.texts code) in
+          let within : place_among new code < length new = rw (w.in-Ok.ensures.taken.texts ∙ text-taken old code) (place-within old.texts code) in
           rw w.result-is (w.place.ensures ∙ place-read new code w.in-Ok.id w.are_distinct.ensures.same_id w.in-Ok.ensures.found within)
       | in-Err-Full w ↦ rw w.result-is tt
     ]

@@ -36,34 +36,25 @@ returns-clause-table c =
       whole = all.texts_sum c.requires.table.whole;
     }
 
-pub returns-clause-ok : goal.returns-clause-ok
-returns-clause-ok c =
-    let table = c.args.self.now in
-    let slot : Slot = record { start = c.len-start.result; end = c.len-start.result + length c.args.text.now; next = c.index-next.result.now; hash = c.args.hash; last = c.args.last } in
-    let start : c.len-start.result ≡ length table.bytes.items = search rules in
-    let grown : c.push.new.self.items ≡ table.slots.items ++ slot ∷ [] = search rules in
-    let longer : c.extend_from_slice.new.self.items ≡ table.bytes.items ++ c.args.text.now = search rules in
-    (λ i. texts_at (longer i) (grown i)) ∙ texts-push table.bytes.items c.args.text.now table.slots.items slot c.requires.table.within start (ap (λ n. n + length c.args.text.now) start)
-
 pub returns-clause-place : goal.returns-clause-place
 returns-clause-place c =
     let table = c.args.self.now in
     let place : c.len-place.result ≡ length table.slots.items = search rules in
     place ∙ sym (length-map table.slots.items (λ (s : Slot). s.hash)) ∙ sym (as_many table.bytes.items table.slots.items)
 
-pub returns-clause-used : goal.returns-clause-used
-returns-clause-used c =
-    let table = c.args.self.now in
-    let longer : c.extend_from_slice.new.self.items ≡ table.bytes.items ++ c.args.text.now = search rules in
-    ap length longer ∙ length-append table.bytes.items c.args.text.now
-
-pub returns-clause-room : goal.returns-clause-room
-returns-clause-room c =
+pub returns-clause-appended : goal.returns-clause-appended
+returns-clause-appended c =
     let table = c.args.self.now in
     let slot : Slot = record { start = c.len-start.result; end = c.len-start.result + length c.args.text.now; next = c.index-next.result.now; hash = c.args.hash; last = c.args.last } in
+    let start : c.len-start.result ≡ length table.bytes.items = search rules in
     let grown : c.push.new.self.items ≡ table.slots.items ++ slot ∷ [] = search rules in
     let longer : c.extend_from_slice.new.self.items ≡ table.bytes.items ++ c.args.text.now = search rules in
+    let more = ap length longer ∙ length-append table.bytes.items c.args.text.now in
     record {
-      of_texts = spare_left (vec_capacity table.slots) (vec_len table.slots) _ _ _ 1 _ _ c.in_ok-reserve.ensures.capacity c.push.ensures.capacity table.slots.ok.0 c.push.new.self.ok.0 (ap length grown ∙ length-append table.slots.items (slot ∷ []));
-      of_bytes = spare_left (vec_capacity table.bytes) (vec_len table.bytes) _ _ _ (length c.args.text.now) _ _ c.in_ok-reserve-2.ensures.capacity c.extend_from_slice.ensures.capacity table.bytes.ok.0 c.extend_from_slice.new.self.ok.0 (ap length longer ∙ length-append table.bytes.items c.args.text.now);
+      texts = (λ i. texts_at (longer i) (grown i)) ∙ texts-push table.bytes.items c.args.text.now table.slots.items slot c.requires.table.within start (ap (λ n. n + length c.args.text.now) start);
+      used = more;
+      room = record {
+        of_texts = spare_left (vec_capacity table.slots) (vec_len table.slots) _ _ _ 1 _ _ c.in_ok-reserve.ensures.capacity c.push.ensures.capacity table.slots.ok.0 c.push.new.self.ok.0 (ap length grown ∙ length-append table.slots.items (slot ∷ []));
+        of_bytes = spare_left (vec_capacity table.bytes) (vec_len table.bytes) _ _ _ (length c.args.text.now) _ _ c.in_ok-reserve-2.ensures.capacity c.extend_from_slice.ensures.capacity table.bytes.ok.0 c.extend_from_slice.new.self.ok.0 more;
+      };
     }
