@@ -3,6 +3,7 @@
 import re
 import tomllib
 
+import names
 import sources
 from pages import ROOT, read
 from theorems import wrong_theorems
@@ -154,7 +155,8 @@ def lists() -> dict[str, tuple[list, list]]:
     found |= comparisons(words)
     found["docs: limits that stand in no page"] = unwritten_limits(), []
     found["docs/DEFINITIONS.md: files of definitions"] = sources.definitions()
-    found["docs/ARCHITECTURE.md: crates and what they stand on"] = sources.crates()
+    found["docs/ARCHITECTURE.md: crates"] = sources.crates()
+    found["CONTRIBUTING.md, ARCHITECTURE, DECISIONS, SPEED: files and names that are gone"] = names.lost(), []
     found["docs/PROVED.md: theorems that do not hold"] = wrong_theorems(), []
     found["docs/PROVED.md: wrong bodies that nothing refuses"] = unrefused_bodies(), []
     return {name: (sorted(shown), sorted(wanted)) for name, (shown, wanted) in found.items()}
