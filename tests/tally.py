@@ -79,6 +79,7 @@ def main(matter: str, body) -> None:
     try:
         body(tally)
     except CannotRun as lack:
-        print(f"{matter}: cannot run: {lack}", file=sys.stderr, flush=True)
+        before = f" (before that {tally.count[True]} passed and {tally.count[False]} failed, as shown above)" * any(tally.count.values())
+        print(f"{matter}: cannot run: {lack}{before}", file=sys.stderr, flush=True)
         sys.exit(2)
     sys.exit(tally.end())

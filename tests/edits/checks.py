@@ -1,5 +1,6 @@
 """Checks of single functions: the command that rt itself uses, run on a copy of a crate with edits applied."""
 
+import difflib
 import shutil
 import subprocess
 import sys
@@ -45,7 +46,7 @@ class Edit:
 
 
 class BadEdit(Exception):
-    """Why an edit cannot be applied, in one line."""
+    """Why an edit cannot be applied, and what to do about it."""
 
 
 def read_edits(file: Path) -> list[Edit]:
@@ -109,6 +110,30 @@ def command(crate: str, functions: list[str], libraries: Path) -> list[str]:
     return words + [word for name in functions for word in ("--only", name)]
 
 
+def nearest(old: str, text: str) -> str:
+    """Where in a file a line is nearest to the text of an edit, in words; nothing where none is near."""
+    lines = [line.strip() for line in text.splitlines()]
+    near = difflib.get_close_matches(old.strip(), lines, 1)
+    return f"\nnearest: line {lines.index(near[0]) + 1}: {near[0]}" if near else ""
+
+
+def applied(edit: Edit, pair: Pair, text: str | None) -> str:
+    """The text of a file with a pair of an edit applied. BadEdit: the file is gone, or the pair's text does not stand in it once."""
+    here = f"{edit.part}, an edit of tests/edits/edits.toml: `{pair.old}`"
+    file = f"crates/{edit.crate}/{pair.file}"
+    if "\n" in pair.old + pair.new:
+        raise BadEdit(f"{here} or what comes in its place is more than one line\ntake one line each, and more pairs in `more`")
+    count = 0 if text is None else text.count(pair.old)
+    if count > 1:
+        raise BadEdit(f"{here} stands {count} times in {file}\nmake `old` and `new` longer, until `old` stands there once")
+    if not count:
+        gone = f"{here} stands in {file} no more" if text is not None else f"{here} was in {file}, a file that is gone"
+        todo = "write into `old` what stands there now, and into `new` the same wrong body"
+        none = "where the source has no such place any more take the edit out, and its name in docs/PROVED.md"
+        raise BadEdit(f"{gone}\n{todo}; {none}{nearest(pair.old, text or '')}")
+    return text.replace(pair.old, pair.new)
+
+
 def edited(edits: list[Edit]) -> dict[str, str]:
     """The texts of the files of a crate that these edits change, by their paths in it.
 
@@ -121,14 +146,8 @@ def edited(edits: list[Edit]) -> dict[str, str]:
         texts[edit.answers] = (path.read_text("utf-8") if path.is_file() else "") + WRONG_ANSWER
         for pair in edit.pairs:
             path = ROOT / "crates" / edit.crate / pair.file
-            if pair.file not in texts:
-                if not path.is_file():
-                    raise BadEdit(f"there is no file {pair.file}")
-                texts[pair.file] = path.read_text("utf-8")
-            count = texts[pair.file].count(pair.old)
-            if count != 1 or "\n" in pair.old + pair.new:
-                raise BadEdit(f"{pair.old!r} is in {pair.file} {count} times: it is to stand there once, and on one line")
-            texts[pair.file] = texts[pair.file].replace(pair.old, pair.new)
+            held = path.read_text("utf-8") if path.is_file() else None
+            texts[pair.file] = applied(edit, pair, texts.get(pair.file, held))
     return texts
 
 

@@ -3,6 +3,7 @@
 import re
 import tomllib
 
+import names
 import sources
 from pages import ROOT, read
 from theorems import wrong_theorems
@@ -97,6 +98,31 @@ def unexplained_words() -> list[str]:
     return [word for name in WORDS for word in codes_of(name, words) if word not in page]
 
 
+def words_of_key(head: str, key: str) -> list[str]:
+    """The words that SETTINGS gives to a key, each with what it is a word of: of names and places, or of dates."""
+    cell = next((row[1] for row in table_rows("docs/SETTINGS.md", head) if row[0] == f"`{key}`"), "")
+    parts = zip(("name", "date"), cell.split("; for dates "))
+    return [f"{sort} {word}" for sort, part in parts for word in re.findall(r"`([^`]*)`", part)]
+
+
+def words_of_tables(words: str, name: str) -> list[str]:
+    """The same of the tables of the definitions, NAME being what the name of both has behind `name_` and `date_`."""
+    return [f"{sort} {word}" for sort in ("name", "date") for word in codes_of(f"{sort}_{name}", words)]
+
+
+def comparisons(words: str) -> dict[str, tuple[list, list]]:
+    """The lists of comparisons and of kinds of key, which stand in SETTINGS and in no other page."""
+    compared = words_of_tables(words, "comparisons")
+    return {
+        "docs/SETTINGS.md: words of compare": (words_of_key("Keys of a field", "compare"), compared),
+        "docs/SETTINGS.md: words of key": (words_of_key("Keys of a part", "key"), words_of_tables(words, "key_words")),
+        "docs/SETTINGS.md: How two values compare": (
+            [it for it in first_codes("docs/SETTINGS.md", "How two values compare") if it != "compare"],
+            list(dict.fromkeys(it.split()[1] for it in compared)),
+        ),
+    }
+
+
 def unwritten_limits() -> list[str]:
     """The limits whose numbers stand in no page."""
     page, lost = "".join(read(f"docs/{it}.md") for it in ("FILES", "SETTINGS", "FAULTS")), []
@@ -126,9 +152,11 @@ def lists() -> dict[str, tuple[list, list]]:
     found["README.md: Commands"] = sorted(set(commands)), sorted(commands_of())
     found["docs/SETTINGS.md: examples of other keys, or no TOML"] = key_examples(), []
     found["docs/SETTINGS.md: words that are not explained"] = unexplained_words(), []
+    found |= comparisons(words)
     found["docs: limits that stand in no page"] = unwritten_limits(), []
     found["docs/DEFINITIONS.md: files of definitions"] = sources.definitions()
-    found["docs/ARCHITECTURE.md: crates and what they stand on"] = sources.crates()
+    found["docs/ARCHITECTURE.md: crates"] = sources.crates()
+    found["CONTRIBUTING.md, ARCHITECTURE, DECISIONS, SPEED: files and names that are gone"] = names.lost(), []
     found["docs/PROVED.md: theorems that do not hold"] = wrong_theorems(), []
     found["docs/PROVED.md: wrong bodies that nothing refuses"] = unrefused_bodies(), []
     return {name: (sorted(shown), sorted(wanted)) for name, (shown, wanted) in found.items()}

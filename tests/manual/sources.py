@@ -6,6 +6,7 @@ from pages import ROOT, read
 
 # What the head of a file of definitions says where only bodies need it.
 IS_MACHINERY = re.compile(r"machinery|no public clause|bodies alone need", re.I)
+MOST_WIDTH = 280  # of a row of a crate: two lines of the page
 FILE = re.compile(r"(?:(\w+)/specs/)?([A-Z]\w*)\.antt")
 
 
@@ -45,9 +46,9 @@ def definitions() -> tuple[list[str], list[str]]:
     return sorted(shown), sorted(wanted)
 
 
-def crates() -> tuple[list[tuple], list[tuple]]:
-    """Each crate with what it stands on, by the table of ARCHITECTURE and by crates.txt."""
-    rows = cells_of("docs/ARCHITECTURE.md", "| Crate | What it does | Stands on ")
-    shown = [(row[0].strip("`"), *sorted(re.findall(r"`(\w+)`", row[2]))) for row in rows]
-    lines = [line.partition("#")[0].partition(":") for line in read("crates.txt").splitlines()]
-    return sorted(shown), sorted((name.split()[0], *sorted(uses.split())) for name, _, uses in lines if name.strip())
+def crates() -> tuple[list[str], list[str]]:
+    """The crates, by the table of ARCHITECTURE, with those whose rows are too long, and by crates.txt, which has what each stands on."""
+    rows = cells_of("docs/ARCHITECTURE.md", "| Crate | What it does | ")
+    long = [f"{row[0]}, a row of over {MOST_WIDTH} characters" for row in rows if len(" | ".join(row)) + 4 > MOST_WIDTH]
+    names = [line.partition("#")[0].partition(":")[0] for line in read("crates.txt").splitlines()]
+    return sorted([row[0].strip("`") for row in rows] + long), sorted(name.split()[0] for name in names if name.strip())

@@ -7,7 +7,7 @@ from datetime import date, timedelta
 
 from commands import perform
 from tables import records
-from values import COMPARES, KEYS, LETTERED
+from values import APART, COMPARES, KEYS, LETTERED
 
 NAMES = "SMITH,Smyth,Schmidt,Dr. Schmidt,MUELLER,Müller,O'Brien,OBrien,Lee,Li,-,,Mac Kay,McKay,KNUTH jr,Østergård,日本,Élise Ann,Élise B"
 PIECES = "MR,dr.,Prof,SIR,JR,III,iv,Mac,KN,SCH,PH,PF,EV,EE,IE,ND,RT,DT,-,?,N/A".split(",")
@@ -97,8 +97,8 @@ def some_field(chance: random.Random, name: str, is_sampled: bool) -> dict:
     made["compare"] = chance.choice(COMPARES[kind == "date"])
     if made["compare"] in LETTERED:
         made["n"] = chance.randint(1, 4)
-    if made["compare"] in ("days", "years"):
-        made["t"] = chance.randint(0, 40 if made["compare"] == "days" else 1)
+    if made["compare"] in APART:
+        made["t"] = chance.randint(0, APART[made["compare"]] // 900 or 1)
     elif chance.random() < 0.4:
         made["rare"] = chance.randint(2, 6)
     if not is_sampled:

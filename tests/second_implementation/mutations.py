@@ -8,6 +8,7 @@ from itertools import product
 from commands import perform
 from inputs import Input, toml_of
 from settings import OUTPUTS, TOP
+from values import COMPARES, KEYS
 
 Change = Callable[[random.Random, Input], bool]
 Rows = list[list[str]]
@@ -15,7 +16,8 @@ WHATS, LEVELS = ("unknown key", "missing key", "wrong type at", "out of range at
 OF_LEVEL = {"top": [*TOP, "Seed", "zz"], "pass": ["parts", "part", "a"], "part": ["field", "key", "n", "N", "a"]}
 OF_LEVEL["field"] = "name column_a column_b kind form_a form_b compare n t rare m u mu a n t rare".split()
 ANY = [True, 0, -1, 1, 2, 21, 101, 200_001, 36_501, 10**6 + 1, 2**63 - 1, 1.5, "", "a.csv", "b.csv", "pairs.csv"]
-ANY += ["x" * 256, "é" * 127, "é" * 128, "comma", "date", "ymd", "soundex", "first", "days", "whole", "year", "surname", "Name"]
+ANY += ["x" * 256, "é" * 127, "é" * 128, "comma", "date", "ymd", "surname", "Name"]
+ANY += dict.fromkeys(word for table in (COMPARES, KEYS) for words in table.values() for word in words)
 ANY += [[], [1], ["A"] * 201, ["A"] * 50, ["a"], ["A", 1], [1, 2, 1021], [512, 511, 1, 0], [0, 512, 512], [1, "a", 3], ["é" * 33], {}]
 ANY += [{"a": "B"}, {"B": "b", "A": 1}, {"B": 2, "A": "a"}, [{}], [{}] * 9]
 ANY += [{f"W{at}": "X" for at in range(1001)}, [[{}]], [{"parts": []}], [{"parts": [{}] * 5}], ["W" * 33], [True, 512, 511]]

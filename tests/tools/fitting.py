@@ -19,7 +19,8 @@ COMMON = {("exact", None, "whole", None): True, ("exact", None, "first", 3): Tru
           ("nysiis", None, "soundex", None): False, ("first", 4, "first", 3): True, ("first", 4, "first", 5): False,
           ("first", 4, "whole", None): False, ("initials", None, "first", 1): True, ("initials", None, "first", 2): False,
           ("days", 0, "whole", None): True, ("days", 0, "year", None): True, ("days", 1, "year", None): False,
-          ("years", 0, "year", None): True, ("years", 0, "whole", None): False, ("years", 1, "year", None): False}
+          ("years", 0, "year", None): True, ("years", 0, "whole", None): False, ("years", 1, "year", None): False,
+          ("a word that no table has", 3, "a word that no table has", 3): True, ("a word that no table has", 3, "first", 1): False}
 REFUSES = {
     "nosuch.toml": (1, "fit: linkage: store: nosuch.toml"),
     "settings.toml --u some": (2, "fit: argument --u: invalid choice: 'some' (choose from 'all', 'compared'); see fit -h"),

@@ -145,10 +145,10 @@ def chosen(job: Job, waiting: list[Open], mine: list[Open], most: int) -> tuple[
 
 
 def says(it: Field) -> str:
-    """How a field is compared, in words."""
-    words = {"exact": "exact", "soundex": "Soundex key", "nysiis": "NYSIIS key", "first": f"first {it.n} letters", "initials": "initials",
-             "days": f"within {it.t} days", "years": f"within {it.t} years"}
-    return words.get(it.compare, it.compare)
+    """How a field is compared: the word of the settings, with its number of letters or the number that two values may be apart."""
+    if it.t is not None:
+        return f"within {it.t} {it.compare}"
+    return it.compare if it.n is None else f"{it.compare} {it.n} letters"
 
 
 def digest(job: Job, reviewer: str) -> str:

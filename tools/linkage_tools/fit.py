@@ -41,9 +41,10 @@ from .words import Words, give, start, tell
 
 HEADER = ["pattern", "outcomes", "weight", "decision", "seen", "matched", "unmatched", "score", "passes", "advice"]
 LEAST_SCORE = 3.0
-# For each way of comparison the keys that two values have in common where they agree by it; `first` and `days` are looked at apart.
-COMMON = {"exact": {"whole", "soundex", "nysiis", "first", "year"}, "soundex": {"soundex"}, "nysiis": {"nysiis"}, "years": set(),
-          "initials": set(), "first": set(), "days": set()}
+# What two values have in common where they agree, by the word of the comparison and its number: the key of that word, of as many letters
+# or fewer, which no line here says. Values that agree by one of the first are the same; the others have a key of another word too.
+SAME = {("exact", None), ("days", 0)}
+ALSO = {("initials", None): ("first", 1), ("years", 0): ("year", None)}
 ADVICE = {
     ("link", True): "review some: wrong links may be among them; a lower mu_ppm sends them to review, another field tells them apart",
     ("possible", True): "people see these; review those first whose records have no link",
@@ -89,13 +90,9 @@ def score(seen: int, expected: float) -> float:
 
 def has_in_common(field: Field, part: Part) -> bool:
     """Whether two values that agree in a field always have the key of a part in common (a value without letters aside)."""
-    if field.compare == "first":
-        return part.key == "first" and (part.n or 0) <= (field.n or 0)
-    if field.compare == "initials":
-        return part.key == "first" and part.n == 1
-    if field.t == 0:
-        return part.key == "year" or field.compare == "days"
-    return part.key in COMMON.get(field.compare, set())
+    by = field.compare, field.n if field.t is None else field.t
+    is_own = part.key == field.compare and (part.n or 0) <= (field.n or 0)
+    return by in SAME or is_own or ALSO.get(by) == (part.key, part.n)
 
 
 def passes_of(settings: Settings, outcomes: str) -> list[int]:

@@ -7,7 +7,7 @@ from functools import lru_cache
 from typing import Any
 
 from tables import refuse_if
-from values import COMPARES, KEYS, LETTERED, MARKS, SUFFIXES, TITLES
+from values import APART, COMPARES, KEYS, LETTERED, MARKS, SUFFIXES, TITLES
 
 OUTPUTS = ("pairs.csv", "rule.csv", "links.csv", "prices.csv", "report.txt")
 DELIMITERS = {"comma": b",", "semicolon": b";", "tab": b"\t"}
@@ -107,8 +107,8 @@ def field(has_sample: bool) -> Reader:
         "form_b": lambda it: needed(form, it["kind"] == "date"),
         "compare": lambda it: needed(choice(COMPARES[it["kind"] == "date"])),
         "n": lambda it: needed(whole(1, 20), it["compare"] in LETTERED),
-        "t": lambda it: needed(whole(0, 36_500 if it["compare"] == "days" else 100), it["compare"] in ("days", "years")),
-        "rare": lambda it: (None if it["compare"] in ("days", "years") else whole(2, 200_000), None),
+        "t": lambda it: needed(whole(0, APART.get(it["compare"], 0)), it["compare"] in APART),
+        "rare": lambda it: (None if it["compare"] in APART else whole(2, 200_000), None),
         "m": lambda it: needed(shares(3 if it["rare"] is None else 4), not has_sample),
         "u": lambda it: needed(shares(3 if it["rare"] is None else 4), not has_sample),
     }

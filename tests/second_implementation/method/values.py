@@ -8,10 +8,12 @@ from functools import cache
 Value = str | date | None
 Listed = tuple[str, ...]
 MARKS, TITLES, SUFFIXES = ("", "-", "?", "N/A"), ("MR", "MRS", "MS", "MISS", "DR", "PROF", "REV", "SIR"), ("JR", "SR", "II", "III", "IV")
-# The words of comparisons and of keys: of names and places, and of dates; and those that take a number of letters
+# The words of comparisons and of keys: of names and places, and of dates; those that take a number of letters, and those that take how far
+# two values may be apart, with its limit. What a word makes of a value stands in FORMS below.
 COMPARES = {False: ("exact", "soundex", "nysiis", "first", "initials"), True: ("exact", "days", "years")}
 KEYS = {False: ("whole", "soundex", "nysiis", "first"), True: ("whole", "year")}
 LETTERED = ("first",)
+APART = {"days": 36_500, "years": 100}
 # Unicode's property White_Space
 WHITE = "\t\n\v\f\r \x85\xa0\u1680" + "".join(map(chr, range(0x2000, 0x200B))) + "\u2028\u2029\u202f\u205f\u3000"
 LETTERS = {"ß": "SS", "ẞ": "SS", "Æ": "AE", "æ": "AE", "Œ": "OE", "œ": "OE", "Ø": "O", "ø": "O", "Ł": "L", "ł": "L"}
@@ -109,11 +111,18 @@ def rewritten(before: str, rest: str) -> str:
     return before + rest[1:] if is_silent_h or rest[0] == "W" and before in VOWELS else rest
 
 
+# By the word of a comparison or a key what it makes of a value that is there, and of a number of letters; none where there is nothing.
+FORMS = {
+    **dict.fromkeys(("exact", "whole"), lambda it, _: it),
+    "soundex": lambda it, _: soundex(it),
+    "nysiis": lambda it, _: nysiis(it),
+    "first": lambda it, n: it[:n],
+    "initials": lambda it, _: "".join(word[0] for word in it.split(" ")),
+    "days": lambda it, _: it.toordinal(),
+    **dict.fromkeys(("years", "year"), lambda it, _: it.year),
+}
+
+
 def form_of(kind: str, value: Value, n: int | None) -> Value | int:
     """What a value is compared or blocked by; none where it has nothing of the kind. Days and years are numbers."""
-    if value is None:
-        return None
-    initials = lambda it: "".join(word[0] for word in it.split(" "))
-    forms = {"soundex": soundex, "nysiis": nysiis, "first": lambda it: it[:n], "initials": initials}
-    forms |= {"days": date.toordinal, "years": lambda it: it.year, "year": lambda it: it.year}
-    return value if kind in ("exact", "whole") else forms[kind](value)
+    return None if value is None else FORMS[kind](value, n)
