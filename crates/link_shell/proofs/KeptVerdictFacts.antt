@@ -18,7 +18,7 @@ use Rattle.link_limits.specs.declared.TheConstants.{MOST_FILE_BYTES, MOST_DISTIN
 use Rattle.link_outside.specs.Outside.{Held, held_with}
 use Rattle.link_plan.specs.Ranges.{AreFiles, files_read}
 use Rattle.link_plan.specs.declared.plan.Plan.{Plan}
-use Rattle.review_journal.proofs.DayFacts.{iso_is_day}
+use Rattle.review_journal.specs.DayLaws.{iso_is_day}
 use Rattle.review_journal.specs.Adding.{added}
 use Rattle.review_journal.specs.Batch.{verdicts_of}
 use Rattle.review_journal.specs.Journal.{IsReviewer}

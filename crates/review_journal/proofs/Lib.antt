@@ -4,6 +4,5 @@ pub mod SearchLemmas
 pub mod VerdictLemmas
 pub mod AgainLemmas
 pub mod ListLemmas
-pub mod DayFacts
 pub mod ReadFacts
 pub mod KeptFacts

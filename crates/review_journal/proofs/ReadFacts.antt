@@ -28,7 +28,7 @@ use Rattle.review_journal.specs.Rows.{step_named, verdict_named, Written, writte
 use Rattle.review_journal.specs.Steps.{fits_after}
 use Rattle.review_journal.specs.declared.batch.NewVerdict.{NewVerdict}
 use Rattle.review_journal.specs.declared.entry.Entry.{Entry}
-use Rattle.review_journal.proofs.DayFacts.{iso_is_day}
+use Rattle.review_journal.specs.DayLaws.{iso_is_day}
 use Rattle.review_journal.proofs.EntryLemmas.{journal_push}
 use Rattle.file_reader.specs.EachRow.{each_read}
 use Rattle.link_base.specs.Answers.{and_then}

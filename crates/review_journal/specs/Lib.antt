@@ -11,3 +11,4 @@ pub mod Reading
 pub mod Batch
 pub mod Text
 pub mod Kept
+pub mod DayLaws

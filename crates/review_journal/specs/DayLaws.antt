@@ -1,4 +1,4 @@
--- The day of a text is one of the years 0001 to 9999.
+-- Law of the days of entries: the day that a text writes is one of the years 0001 to 9999. Proofs of the crates above cite it here.
 use Rattle.std.proofs.Common.{◌≡◌, ℕ, ◌≤◌, ◌&&◌, nat_le, true, List, Some, subst, arith, ℤ, pos, ◌≤ℤ◌}
 use Rattle.std.proofs.lemmas.Bool.Decides.{nat_tests}
 use Rattle.std.proofs.lemmas.Option.{cond_some}
