@@ -1,12 +1,21 @@
 -- The rows of B with the field of each row of A, by which `pair_rows` lists its pairs: no public clause cites them.
-use Rattle.std.specs.Prelude.{◌+◌, ◌++◌, ◌∷◌, [], ℕ, List, filter, length, map, slice_index_or, Option}
+use Rattle.std.specs.Prelude.{◌≡◌, ◌≤◌, ◌+◌, ◌++◌, ◌∷◌, [], All, ℕ, List, filter, length, map, slice_index_or, Option}
 use Rattle.std.specs.List.{range_with_len}
 use Rattle.std.specs.declared.alloc.Global.{Global}
 use Rattle.std.specs.declared.vec.Vec.{Vec}
+use Rattle.file_reader.specs.Rows.{TableRow}
+use Rattle.file_reader.specs.Table.{HasTexts}
 use Rattle.link_base.specs.declared.rule.PairAt.{PairAt}
+use Rattle.link_limits.specs.declared.TheConstants.{MOST_ROWS}
 use Rattle.pair_walk.specs.Keys.{same_text}
 use Rattle.pair_walk.specs.Pairs.{pair}
 use Rattle.link_core.specs.ColumnPairs.{present}
+
+-- a table of one column
+pub record IsColumn (table : List TableRow) : Type 0 where
+  pub few : length table ≤ MOST_ROWS
+  pub width : All (λ (r : TableRow). length r.fields ≡ 1) table
+  pub texts : HasTexts table
 
 -- the field of a row, where it is not empty
 abbrev pub compared_field : List (List ℕ) → ℕ → Option (List ℕ)

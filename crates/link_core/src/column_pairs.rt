@@ -1,12 +1,11 @@
 // The pairs of rows with the same field in one column.
-ghost use Rattle.std.specs.Prelude.{◌≡◌, ◌≤◌, All, IfErr, IfOk, length, map};
+ghost use Rattle.std.specs.Prelude.{◌≡◌, IfErr, IfOk, map};
 ghost use Rattle.link_base.specs.Fault.{Gives, IsAnswer, IsInputFault};
 ghost use Rattle.file_reader.specs.Layout.{wanted_of};
-ghost use Rattle.file_reader.specs.Rows.{TableRow};
-ghost use Rattle.file_reader.specs.Table.{HasTexts, HasWidth, table_of};
+ghost use Rattle.file_reader.specs.Table.{table_of};
 ghost use Rattle.file_reader.specs.Left.{records_in};
 ghost use Rattle.link_core.specs.ColumnPairs.{compared_columns, first_field, pairs_of_fields, pairs_of_files, rows_of_pairs, wanted_column};
-ghost use Rattle.link_core.specs.ColumnRows.{items_of};
+ghost use Rattle.link_core.specs.ColumnRows.{IsColumn, items_of};
 ghost use Rattle.link_core.specs.declared.column_pairs.Columns.{Columns};
 
 use crate::column_rows::{list_pairs, match_rows};
@@ -32,9 +31,7 @@ fn column_layout(alloc: Global, column: &str) -> Result<Layout, NoMemory>
 
 fn read_column(alloc: Global, role: FileRole, column: &str, bytes: &[u8]) -> Result<Table, Fault>
     ensures kind { IfErr result IsInputFault }
-    ensures few { IfOk result (λ table. length table ≤ MOST_ROWS) }
-    ensures width { IfOk result (HasWidth (wanted_column column.now)) }
-    ensures texts { IfOk result HasTexts }
+    ensures column { IfOk result IsColumn }
     ensures answer { IsAnswer (table_of role (wanted_column column.now) (records_in 44 bytes.now)) result }
 {
     let layout = column_layout(alloc, column)?;
@@ -43,12 +40,8 @@ fn read_column(alloc: Global, role: FileRole, column: &str, bytes: &[u8]) -> Res
 
 // The pairs of rows of two columns with the same field.
 fn compare_columns(alloc: Global, a: Table, b: Table) -> Result<Vec<PairAt>, Fault>
-    requires few_a { length a ≤ MOST_ROWS }
-    requires few_b { length b ≤ MOST_ROWS }
-    requires width_a { All (λ (r : TableRow). length r.fields ≡ 1) a }
-    requires width_b { All (λ (r : TableRow). length r.fields ≡ 1) b }
-    requires texts_a { HasTexts a }
-    requires texts_b { HasTexts b }
+    requires a { IsColumn a }
+    requires b { IsColumn b }
     ensures kind { IfErr result IsInputFault }
     ensures answer { Gives items_of (pairs_of_fields (map first_field a) (map first_field b)) result }
 {
@@ -66,12 +59,8 @@ struct Columns {
 // A column of two files: the faults of A come before those of B.
 fn read_columns(alloc: Global, column: &str, a: &[u8], b: &[u8]) -> Result<Columns, Fault>
     ensures kind { IfErr result IsInputFault }
-    ensures few_a { IfOk result (λ c. length c.a ≤ MOST_ROWS) }
-    ensures few_b { IfOk result (λ c. length c.b ≤ MOST_ROWS) }
-    ensures width_a { IfOk result (λ c. HasWidth (wanted_column column.now) c.a) }
-    ensures width_b { IfOk result (λ c. HasWidth (wanted_column column.now) c.b) }
-    ensures texts_a { IfOk result (λ c. HasTexts c.a) }
-    ensures texts_b { IfOk result (λ c. HasTexts c.b) }
+    ensures a { IfOk result (λ c. IsColumn c.a) }
+    ensures b { IfOk result (λ c. IsColumn c.b) }
     ensures answer { Gives (λ (c : Columns). (map first_field c.a, map first_field c.b)) (compared_columns column.now a.now b.now) result }
 {
     let of_a = match read_column(alloc, FileRole::A, column, a) {

@@ -1,12 +1,10 @@
 // The rows with the same field in one column, found by the places of the fields among their distinct texts.
-ghost use Rattle.std.specs.Prelude.{◌≡◌, ◌≤◌, ◌<◌, ◌+◌, ◌*◌, ◌++◌, ◌^◌, All, IfErr, IfOk, OnOk, length, map};
+ghost use Rattle.std.specs.Prelude.{◌≡◌, ◌≤◌, ◌<◌, ◌+◌, ◌*◌, ◌++◌, ◌^◌, IfErr, IfOk, OnOk, length, map};
 ghost use Rattle.block_passes.specs.Index.{rows_with_number};
 ghost use Rattle.block_passes.specs.Numbering.{AreNumbered, AreNumbers, IsNumbered, KeepNumbers, number_among};
-ghost use Rattle.file_reader.specs.Rows.{TableRow};
-ghost use Rattle.file_reader.specs.Table.{HasTexts};
 ghost use Rattle.link_base.specs.Fault.{Gives, IsInputFault};
 ghost use Rattle.link_core.specs.ColumnPairs.{first_field, present};
-ghost use Rattle.link_core.specs.ColumnRows.{compared_field, items_of, matched_rows, pairs_from};
+ghost use Rattle.link_core.specs.ColumnRows.{compared_field, IsColumn, items_of, matched_rows, pairs_from};
 ghost use Rattle.pair_decisions.specs.Pairs.{pairs_within};
 ghost use Rattle.pair_walk.specs.Pairs.{pair};
 
@@ -44,9 +42,7 @@ fn number_field(alloc: Global, pool: &mut Pool, field: &[u8]) -> Result<u32, NoM
 
 // Takes the fields of a column, and gives the number of each.
 fn number_column(alloc: Global, pool: &mut Pool, table: &Table) -> Result<Vec<u32>, NoMemory>
-    requires few { length table.now ≤ MOST_ROWS }
-    requires width { All (λ (r : TableRow). length r.fields ≡ 1) table.now }
-    requires texts { HasTexts table.now }
+    requires column { IsColumn table.now }
     requires room { pool.old.used + MOST_ROWS * MOST_FIELD_BYTES ≤ pool.old.limit }
     ensures limit { pool.new.limit ≡ pool.old.limit }
     ensures used { OnOk result (pool.new.used ≤ pool.old.used + MOST_ROWS * MOST_FIELD_BYTES) }
@@ -72,12 +68,8 @@ struct ColumnNumbers {
 
 // Numbers the fields of two columns.
 fn number_columns(alloc: Global, a: &Table, b: &Table) -> Result<ColumnNumbers, NoMemory>
-    requires few_a { length a.now ≤ MOST_ROWS }
-    requires few_b { length b.now ≤ MOST_ROWS }
-    requires width_a { All (λ (r : TableRow). length r.fields ≡ 1) a.now }
-    requires width_b { All (λ (r : TableRow). length r.fields ≡ 1) b.now }
-    requires texts_a { HasTexts a.now }
-    requires texts_b { HasTexts b.now }
+    requires a { IsColumn a.now }
+    requires b { IsColumn b.now }
     ensures few { IfOk result (λ n. length n.b.items < 2 ^ 32) }
     ensures matched { IfOk result (λ n. map (rows_with_number n.b.items n.count) n.a.items ≡ matched_rows (map first_field a.now) (map first_field b.now)) }
 {
@@ -93,12 +85,8 @@ fn number_columns(alloc: Global, a: &Table, b: &Table) -> Result<ColumnNumbers, 
 
 /// For each row of a column of A the rows of B with the same field. Both tables are given back once their fields have numbers.
 pub(crate) fn match_rows(alloc: Global, a: Table, b: Table) -> Result<PassRows, NoMemory>
-    requires few_a { length a ≤ MOST_ROWS }
-    requires few_b { length b ≤ MOST_ROWS }
-    requires width_a { All (λ (r : TableRow). length r.fields ≡ 1) a }
-    requires width_b { All (λ (r : TableRow). length r.fields ≡ 1) b }
-    requires texts_a { HasTexts a }
-    requires texts_b { HasTexts b }
+    requires a { IsColumn a }
+    requires b { IsColumn b }
     ensures { IfOk result (λ rows. rows ≡ matched_rows (map first_field a) (map first_field b)) }
 {
     let numbers = number_columns(alloc, &a, &b);

@@ -18,7 +18,7 @@ loop-at-preserved c =
     let made = c.in_ok-number.ensures in
     let field = c.field.result.now in
     let here : present field ≡ compared_field fields at = ap present (c.field.ensures ∙ sym (get_or-map first_field rows at no_row [] (omega arith))) in
-    let short = field_short rows at c.requires.texts c.requires.width (omega arith) in
+    let short = field_short rows at c.requires.column.texts c.requires.column.width (omega arith) in
     let size = ap length c.field.ensures in
     let grown : c.push.new.self.items ≡ c.loop-at.numbers.items ++ c.in_ok-number.number ∷ [] = search (rules, c.in_ok-push.ensures.items) in
     record {
