@@ -6,8 +6,8 @@ use Rattle.std.proofs.lemmas.List.{get_or-set_other, length-replicate}
 use Rattle.std.proofs.lemmas.List.Elements.{All-head, All-tail, All-cons, All-contains_itself, All-nil, All-contains}
 use Rattle.link_base.specs.declared.rule.Candidate.{Candidate}
 use Rattle.price_check.specs.Assignment.{price_sum, price_of, worth, greatest_value, IsBefore, SharesNoRecord, IsOneToOne, Certifies}
-use Rattle.price_check.proofs.Duality.{without, absent-without, IsTight, price_sum-without, price_sum-zero, AllPairs-head, AllPairs-tail}
-use Rattle.price_check.proofs.Bounds.{bounded_by_links}
+use Rattle.price_check.specs.PriceLaws.{without, absent-without, IsTight, price_sum-without, price_sum-zero, AllPairs-head, AllPairs-tail}
+use Rattle.price_check.specs.Law.{PricesAreBoundedByLinks}
 use Rattle.assignment_steps.specs.declared.market.Edge.{Edge}
 use Rattle.assignment_steps.specs.Market.{link, edge, number, IsInRange}
 use Rattle.assignment_steps.specs.Between.{HasNoLink, IsBetween, ReachAll}
@@ -85,9 +85,9 @@ module _ (cs : List Candidate) (pa pb : List ℕ) (la lb : List (Option ℕ)) (r
   }
 
   -- no price is above the greatest of 0 and the links' values
-  pub bounded : (position : ℕ) → (pos (number pa position) ≤ℤ greatest_value links) × (pos (number pb position) ≤ℤ greatest_value links)
-  bounded position =
-      let h = bounded_by_links cs links (prices_of pa) (prices_of pb) one_to_one certifies position in
+  pub bounded : PricesAreBoundedByLinks → (position : ℕ) → (pos (number pa position) ≤ℤ greatest_value links) × (pos (number pb position) ≤ℤ greatest_value links)
+  bounded by_links position =
+      let h = by_links cs links (prices_of pa) (prices_of pb) one_to_one certifies position in
       (rw (← price_of-prices pa position) h.0, rw (← price_of-prices pb position) h.1)
 
 -- What holds before the first round.

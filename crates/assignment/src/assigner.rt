@@ -9,7 +9,7 @@ use crate::side::Side;
 use assignment_steps::linked;
 use link_base::{Candidate, NoMemory};
 use link_limits::MOST_PAIRS;
-use price_check::{PartNumbers, certified_is_greatest, part_numbers};
+use price_check::{PartNumbers, certified_is_greatest, part_numbers, prices_are_bounded};
 use std::alloc::Global;
 use std::marker::Model;
 
@@ -114,6 +114,7 @@ impl Assigner {
         ensures certified { Certifies self.candidates result.links result.prices_a result.prices_b }
     {
         certified_is_greatest();
+        prices_are_bounded();
         let Assigner {
             rows_a: _,
             rows_b: _,

@@ -8,8 +8,8 @@ use Rattle.std.proofs.lemmas.List.{get_or_past}
 use Rattle.std.proofs.lemmas.List.Elements.{All-filter, All-contains_itself, All-contains, filter_passes}
 use Rattle.link_base.specs.declared.rule.Candidate.{Candidate}
 use Rattle.price_check.specs.Assignment.{price_of, IsBefore, IsCovered}
-use Rattle.price_check.proofs.Duality.{IsTight}
-use Rattle.price_check.proofs.Members.{Contains-filter, clash, same_member}
+use Rattle.price_check.specs.PriceLaws.{IsTight}
+use Rattle.price_check.specs.CandidateLaws.{Contains-filter, clash, same_member}
 use Rattle.std.proofs.lemmas.List.Kept.{AllPairs-filter}
 use Rattle.assignment_steps.specs.declared.market.Edge.{Edge}
 use Rattle.assignment_steps.specs.Market.{link, edge, number}

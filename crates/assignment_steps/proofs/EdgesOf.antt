@@ -12,7 +12,7 @@ use Rattle.assignment_steps.specs.declared.market.Edge.{Edge}
 use Rattle.assignment_steps.specs.Market.{link, edge, number, no_edge, IsInRange, AreSmall, IsRising}
 use Rattle.assignment_steps.specs.Candidates.{positive, valued_edge, edge_from, edges_of, is_positive, links_to, is_linked, prices_of, HasSmallValue}
 use Rattle.price_check.specs.Assignment.{IsBefore, IsWithin, price_of}
-use Rattle.price_check.proofs.Members.{Contains-later}
+use Rattle.price_check.specs.CandidateLaws.{Contains-later}
 
 -- Candidates and edges.
 

@@ -2,7 +2,7 @@ use Rattle.std.proofs.Common.{◌≡◌, ◌⊎◌, ℕ, zero, suc, ◌-◌, ◌
 use Rattle.std.specs.Prelude.{Contains, IsPermutation}
 use Rattle.assignment_steps.specs.declared.queue.TheConstants.{LAST, TURNS}
 use Rattle.std.proofs.lemmas.List.Sorted.{Contains-permutation, IsPermutation-sym}
-use Rattle.price_check.proofs.Members.{Contains-later}
+use Rattle.price_check.specs.CandidateLaws.{Contains-later}
 
 at_cons : {X : Type 0} (y : X) (ys : List X) (x : X) (k : ℕ) → k < length (y ∷ ys) → get_or (y ∷ ys) k x ≡ x → Contains ys x ⊎ (x ≡ y)
 at_cons y ys x zero lt e = inr (sym e)

@@ -6,7 +6,7 @@ use Rattle.std.proofs.lemmas.Bool.{or_from}
 use Rattle.std.proofs.lemmas.Int.{ints}
 use Rattle.std.proofs.lemmas.List.{drop_more, drop_all}
 use Rattle.std.proofs.lemmas.List.Elements.{All-tail, All-head, All-contains}
-use Rattle.price_check.proofs.Members.{clash}
+use Rattle.price_check.specs.CandidateLaws.{clash}
 use Rattle.price_check.specs.Assignment.{IsBefore, total}
 use Rattle.link_base.specs.declared.rule.Candidate.{Candidate}
 use Rattle.candidate_links.specs.Choice.{dropped, dropped_of, is_chosen, is_same_pair}

@@ -3,7 +3,7 @@ use Rattle.std.proofs.Common.{◌≡◌, ◌∷◌, ℕ, ℤ, List, [], Bool, tr
 use Rattle.std.specs.Prelude.{◌≤ℤ◌, All, find, if◌then◌else◌, unwrap_or}
 use Rattle.std.proofs.lemmas.Int.{ints}
 use Rattle.std.proofs.lemmas.List.Elements.{All-contains_itself, All-head, All-nil, All-tail}
-use Rattle.price_check.proofs.Bounds.{bounded_by_candidates, greatest_value-least}
+use Rattle.price_check.specs.Law.{GreatestValueIsLeast, PricesAreBoundedByCandidates}
 use Rattle.price_check.specs.Assignment.{Certifies, IsOneToOne, price_of}
 use Rattle.link_base.specs.Rule.{empty_cell, IsWithinRanges}
 use Rattle.link_base.specs.declared.rule.Candidate.{Candidate}
@@ -71,10 +71,10 @@ module _ (rule : FileRule) (entries : List Entry) (award : ℕ) (ranges : All Is
   values_most : (pairs : List PairAt) → All (λ (c : Candidate). c.value ≤ℤ most_value award) (candidates_of rule entries award pairs)
   values_most pairs k d lt = (all_bounds pairs k d lt).value_high
 
-  pub prices_most : (pairs : List PairAt) (links : List Candidate) (prices_a prices_b : List ℤ) → IsOneToOne (candidates_of rule entries award pairs) links
+  pub prices_most : PricesAreBoundedByCandidates → GreatestValueIsLeast → (pairs : List PairAt) (links : List Candidate) (prices_a prices_b : List ℤ) → IsOneToOne (candidates_of rule entries award pairs) links
       → Certifies (candidates_of rule entries award pairs) links prices_a prices_b → (position : ℕ) → (price_of prices_a position ≤ℤ most_value award) × (price_of prices_b position ≤ℤ most_value award)
-  prices_most pairs links prices_a prices_b one cert position =
+  prices_most by_candidates is_least pairs links prices_a prices_b one cert position =
       let cs : List Candidate = candidates_of rule entries award pairs in
-      let bounded = bounded_by_candidates cs links prices_a prices_b one cert position in
-      let least = greatest_value-least cs cs (most_value award) (All-contains_itself cs) (omega (arith, ints)) (values_most pairs) in
+      let bounded = by_candidates cs links prices_a prices_b one cert position in
+      let least = is_least cs cs (most_value award) (All-contains_itself cs) (omega (arith, ints)) (values_most pairs) in
       (omega (arith, ints, bounded.0, least), omega (arith, ints, bounded.1, least))

@@ -10,9 +10,9 @@ use Rattle.std.proofs.lemmas.List.Elements.{All-head, All-tail, All-cons, All-ni
 use Rattle.link_base.specs.declared.rule.Candidate.{Candidate}
 use Rattle.price_check.specs.Assignment.{price_sum, price_of, worth, IsBefore, IsWithin}
 use Rattle.price_check.specs.Capacities.{CertifiesWithin, IsWithinCapacities, capacity_of, links_at, place_sum}
-use Rattle.price_check.proofs.Duality.{without, absent-without, IsTight, price_sum-without, price_sum-zero, AllPairs-head, AllPairs-tail}
-use Rattle.price_check.proofs.Members.{Contains-later}
-use Rattle.price_check.proofs.PlaceFacts.{AreApart, fits-tail, links_at-here, links_at-other, one_less, place_sum-one_less, place_there}
+use Rattle.price_check.specs.PriceLaws.{without, absent-without, IsTight, price_sum-without, price_sum-zero, AllPairs-head, AllPairs-tail}
+use Rattle.price_check.specs.CandidateLaws.{Contains-later}
+use Rattle.price_check.specs.PlaceLaws.{AreApart, fits-tail, links_at-here, links_at-other, one_less, place_sum-one_less, place_there}
 use Rattle.assignment_steps.specs.declared.market.Edge.{Edge}
 use Rattle.assignment_steps.specs.Market.{edge, link, number}
 use Rattle.capacity_assign.specs.Core.{linked_at}

@@ -2,7 +2,7 @@
 use Rattle.std.proofs.Common.{◌≡◌, ◌==◌, ℕ, ◌+◌, ◌<◌, List, length, set, Option, Some, None, refl, sym, ◌∙◌, arith, inl, inr, get_or-set_other}
 use Rattle.std.proofs.lemmas.Bool.{cases_eq}
 use Rattle.std.proofs.lemmas.List.{length-set}
-use Rattle.price_check.proofs.PlaceFacts.{place_there}
+use Rattle.price_check.specs.PlaceLaws.{place_there}
 use Rattle.assignment_steps.specs.declared.market.Edge.{Edge}
 use Rattle.assignment_steps.specs.Market.{IsTight, edge, link, number}
 use Rattle.capacity_assign.specs.Core.{linked_at}

@@ -5,7 +5,7 @@ use Rattle.std.proofs.lemmas.Bool.{cases_lt}
 use Rattle.std.proofs.lemmas.List.{get_or_default}
 use Rattle.assignment_steps.specs.declared.queue.Near.{Near}
 use Rattle.assignment_steps.proofs.Members.{Contains-cons_cases}
-use Rattle.price_check.proofs.Members.{Contains-later}
+use Rattle.price_check.specs.CandidateLaws.{Contains-later}
 use Rattle.assignment_steps.proofs.Links.{link_there}
 use Rattle.capacity_assign.specs.declared.market.Ground.{Ground}
 use Rattle.assignment_steps.specs.Market.{link, number}

@@ -6,6 +6,5 @@ pub mod InputFacts
 pub mod AfterRunFacts
 pub mod OnePutFacts
 pub mod KeptVerdictFacts
-pub mod RowFacts
 pub mod MeaningFacts
 pub mod FilledRuleFacts

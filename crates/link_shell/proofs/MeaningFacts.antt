@@ -1,5 +1,5 @@
 -- What `verify` tells, by what names hold.
-use Rattle.std.proofs.Common.{◌≡◌, ◌≤◌, ◌∙◌, ℕ, List, Bool, true, false, length, codes, if◌then◌else◌, Some, Result, Ok, Err, refl, sym, ap, subst, arith}
+use Rattle.std.proofs.Common.{◌≡◌, ◌≤◌, ◌∙◌, ℕ, List, Bool, true, false, length, codes, if◌then◌else◌, Result, Ok, Err, refl, sym, ap, subst, arith}
 use Rattle.std.specs.Prelude.{All, nat_le}
 use Rattle.std.proofs.lemmas.Bool.{le-leb, leb-true, true≢false}
 use Rattle.std.proofs.lemmas.List.Elements.{All-weaker}
@@ -40,7 +40,7 @@ use Rattle.written_check.specs.declared.refutation.Refutation.{Refutation}
 use Rattle.command_scripts.specs.StepLaws.{no_ok, ok_same}
 use Rattle.command_scripts.specs.Does.{Ends}
 use Rattle.command_scripts.specs.Due.{Due, ended_of, HoldsAll, prints, TakesAll}
-use Rattle.command_steps.specs.Front.{both_files, plan_file}
+use Rattle.command_steps.specs.Front.{both_files}
 use Rattle.command_steps.specs.Reviewed.{Review, reviewed_settings, ReviewedPlan}
 use Rattle.command_scripts.specs.Seen.{SinkSeen, StoreSeen}
 use Rattle.command_scripts.specs.Steps.{file, outcome}
@@ -48,10 +48,10 @@ use Rattle.command_scripts.specs.declared.ends.Ended.{Ended}
 use Rattle.command_scripts.specs.declared.ends.Ended.TheVariants.{Done, Refuted}
 use Rattle.link_shell.proofs.AfterRunFacts.{all_loads, review_loads, shares_few, yes_where_proved}
 use Rattle.link_shell.proofs.HeadlineFacts.{are_greatest, came, FoundBy, rule_is, settings_found, told_above}
-use Rattle.link_shell.specs.AfterRun.{HoldsProof}
 use Rattle.link_shell.specs.Linked.{Follows, Performed, Reported, status_after}
-use Rattle.link_shell.specs.Meaning.{HaveCertifiedRows, HoldsRows, rule_with, RowsAreProof, RowsAreVerified, SaidYes, TellsRows, VerifiedHaveRows, VerifyTells, YesMeans, RowsSayYes}
-use Rattle.link_shell.specs.VerifySettings.{ended_by, IsHeldToRule, IsTold, proved_by, verified_settings, verify_script, written_files, WrittenPlan}
+use Rattle.written_check.specs.Laws.{HaveCertifiedRows, RowsAreVerified, VerifiedHaveRows}
+use Rattle.link_shell.specs.Meaning.{HoldsRows, rule_with, RowsAreProof, SaidYes, TellsRows, VerifyTells, YesMeans, RowsSayYes}
+use Rattle.link_shell.specs.VerifySettings.{ended_by, IsHeldToRule, proved_by, verified_settings, verify_script, written_files, WrittenPlan}
 
 -- pairs that were found are not too many, and those that are not too many are found
 few_if : (pairs got : List PairAt) (t : Bool) → nat_le (length pairs) MOST_PAIRS ≡ t → (if t then Ok pairs else Err (fault.TooManyPairs MOST_PAIRS)) ≡ Ok got → length pairs ≤ MOST_PAIRS

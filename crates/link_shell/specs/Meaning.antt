@@ -1,11 +1,8 @@
 -- What `yes` means, whoever wrote the three files: their rows are exactly those of the filled, hence least, rule, of one-to-one links of
 -- greatest total weight, and of prices, one for each record, that certify it (clause `yes_means` of `linkage`, law `verify_tells`). Where names
--- hold such rows, in any form that CSV allows, `verify` says yes (clause `rows_say_yes`). The law `verified_means` says the same of the five
--- steps of `verified`.
-use Rattle.std.specs.Prelude.{◌≡◌, ◌≤◌, ◌++◌, ℕ, ℤ, Bool, List, codes, length, map, Some, Ok}
-use Rattle.price_check.specs.Assignment.{Certifies, IsOneToOne}
-use Rattle.file_reader.specs.Left.{records_in}
-use Rattle.link_base.specs.Standard.{Record}
+-- hold such rows, in any form that CSV allows, `verify` says yes (clause `rows_say_yes`). The law `verified_means` of `written_check` says the
+-- same of the five steps of `verified`.
+use Rattle.std.specs.Prelude.{◌≡◌, ◌≤◌, ◌++◌, ℕ, ℤ, List, codes, length, Some, Ok}
 use Rattle.link_base.specs.declared.rule.Candidate.{Candidate}
 use Rattle.link_base.specs.declared.rule.RuleCell.{RuleCell}
 use Rattle.link_core.specs.Results.{compared_in}
@@ -13,16 +10,12 @@ use Rattle.link_limits.specs.declared.TheConstants.{MOST_PAIRS}
 use Rattle.link_outside.specs.Outside.{Held, Rose}
 use Rattle.link_plan.specs.Plan.{PlainShares}
 use Rattle.link_plan.specs.declared.plan.Plan.{Plan}
-use Rattle.link_report.specs.LinksText.{link_fields, links_header}
-use Rattle.link_report.specs.PricesText.{prices_header}
-use Rattle.link_report.specs.Reading.{rows_of_prices, rows_under}
-use Rattle.link_report.specs.RuleText.{cell_fields, rule_header}
 use Rattle.pair_decisions.specs.Comparators.{rares_of}
 use Rattle.pair_decisions.specs.FieldComparators.{rule_of_plan}
 use Rattle.pair_decisions.specs.PairRule.{FileRule}
 use Rattle.review_journal.specs.declared.entry.Entry.{Entry}
-use Rattle.written_check.specs.Laws.{AreCandidatesOf}
-use Rattle.written_check.specs.Verified.{verified, WrittenTexts}
+use Rattle.written_check.specs.Laws.{HaveRows}
+use Rattle.written_check.specs.Verified.{WrittenTexts}
 use Rattle.standard_files.specs.Files.{StandardPair}
 use Rattle.command_scripts.specs.Due.{Due, ended_of, prints}
 use Rattle.command_scripts.specs.Seen.{SinkSeen, StoreSeen}
@@ -32,34 +25,6 @@ use Rattle.link_shell.specs.AfterRun.{HoldsProof, SaysYes}
 use Rattle.link_shell.specs.Commands.{command_of, verification_of_settings}
 use Rattle.link_shell.specs.Headline.{Accepted, AreGreatestLinks, IsLeastRule}
 use Rattle.link_shell.specs.VerifySettings.{IsTold, verified_settings, written_files, WrittenPlan}
-
--- texts have exactly these rows under their headers, in any form that CSV allows: those of a rule's cells, of links, and of the prices
--- that are not 0
-pub record HaveRows (rares : List Bool) (cells : List RuleCell) (links : List Candidate) (prices_a prices_b : List ℤ) (a b : List Record) (texts : WrittenTexts) : Type 0 where
-  pub of_rule : rows_under rule_header (records_in 44 texts.rule) ≡ Ok (map (cell_fields rares) cells)
-  pub of_links : rows_under links_header (records_in 44 texts.links) ≡ Ok (map (link_fields a b) links)
-  pub of_prices : rows_under prices_header (records_in 44 texts.prices) ≡ Ok (rows_of_prices prices_a prices_b a b)
-
--- texts have the rows of cells, of one-to-one links of candidates, and of prices, one for each record, that certify these links
-pub record HaveCertifiedRows (rares : List Bool) (cells : List RuleCell) (candidates : List Candidate) (a b : List Record) (texts : WrittenTexts) (links : List Candidate) : Type 0 where
-  pub prices_a : List ℤ
-  pub prices_b : List ℤ
-  pub rows : HaveRows rares cells links prices_a prices_b a b texts
-  pub one_to_one : IsOneToOne candidates links
-  pub certified : Certifies candidates links prices_a prices_b
-  pub priced_a : length prices_a ≡ length a
-  pub priced_b : length prices_b ≡ length b
-
--- what the five steps of `verified` come to: clauses `rows` and `verified` of `verified_means`
-abbrev pub VerifiedHaveRows : Type 0
-VerifiedHaveRows =
-    (rares : List Bool) (cells : List RuleCell) (candidates : List Candidate) (a b : List Record) (texts : WrittenTexts) (links : List Candidate)
-    → verified rares cells candidates a b texts ≡ Ok links → HaveCertifiedRows rares cells candidates a b texts links
-
-abbrev pub RowsAreVerified : Type 0
-RowsAreVerified =
-    (rares : List Bool) (cells : List RuleCell) (candidates : List Candidate) (a b : List Record) (texts : WrittenTexts) (links : List Candidate)
-    → AreCandidatesOf a b candidates → HaveCertifiedRows rares cells candidates a b texts links → verified rares cells candidates a b texts ≡ Ok links
 
 -- the rule of a plan with these cells, over its two files
 abbrev pub rule_with : Plan → StandardPair → List RuleCell → FileRule

@@ -26,5 +26,5 @@ pub use after_run::run_then_verify;
 pub use command::{linkage, perform};
 pub use filled_rule::commands_go_by_filled_rule;
 pub use limits::limits_are_these;
-pub use meaning::{verified_means, verify_tells};
+pub use meaning::verify_tells;
 pub use rule_settings::printed_rule_is_least;

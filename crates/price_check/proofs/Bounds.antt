@@ -7,8 +7,9 @@ use Rattle.std.proofs.lemmas.List.{get_or-map, length-map}
 use Rattle.std.proofs.lemmas.List.Elements.{All-cons, All-contains, All-contains_itself, All-map, All-nil}
 use Rattle.link_base.specs.declared.rule.Candidate.{Candidate}
 use Rattle.price_check.specs.Assignment.{IsOneToOne, Certifies, greatest_value, price_of}
-use Rattle.price_check.proofs.Duality.{IsFloored, IsTight, IsTight-from_sums, covered_links, price_of-floor, unlinked_a, unlinked_b}
-use Rattle.price_check.proofs.Members.{Contains-later}
+use Rattle.price_check.specs.PriceLaws.{IsFloored, IsTight}
+use Rattle.price_check.proofs.Duality.{IsTight-from_sums, covered_links, price_of-floor, unlinked_a, unlinked_b}
+use Rattle.price_check.specs.CandidateLaws.{Contains-later}
 
 greatest_value-floor : (cs : List Candidate) → pos 0 ≤ℤ greatest_value cs
 greatest_value-floor cs = (fold-int_max_bounds (pos 0) (map (λ (c : Candidate). c.value) cs) (greatest_value cs) refl).0

@@ -1,40 +1,12 @@
 -- Weak duality: prices that cover a list without a shared record add up to at least its worth.
-use Rattle.std.proofs.Common.{◌≡◌, ◌≢◌, ℕ, zero, suc, ℤ, pos, ◌+ℤ◌, ◌≤ℤ◌, List, [], ◌∷◌, get_or, set, refl, sym, ◌∙◌, inl, inr, arith}
+use Rattle.std.proofs.Common.{◌≡◌, ◌≢◌, zero, suc, ℕ, ℤ, pos, ◌+ℤ◌, ◌≤ℤ◌, List, [], ◌∷◌, get_or, sym, arith}
 use Rattle.std.specs.Prelude.{All, AllPairs, Contains}
-use Rattle.std.proofs.lemmas.Bool.{cases_eq}
 use Rattle.std.proofs.lemmas.Int.{ints}
 use Rattle.std.proofs.lemmas.List.{get_or-set_other}
 use Rattle.std.proofs.lemmas.List.Elements.{All-head, All-tail, All-set, All-cons, All-contains}
 use Rattle.link_base.specs.declared.rule.Candidate.{Candidate}
 use Rattle.price_check.specs.Assignment.{price_sum, price_of, worth, SharesNoRecord, IsCovered}
-
--- pairs of a list: those with its head, and those of its rest
-pub AllPairs-head : {X : Type 0} (R : X → X → Type 0) (x : X) (xs : List X) → AllPairs R (x ∷ xs) → All (R x) xs
-AllPairs-head R x xs h = λ k d l. h zero (suc k) d (omega arith) (omega arith)
-
-pub AllPairs-tail : {X : Type 0} (R : X → X → Type 0) (x : X) (xs : List X) → AllPairs R (x ∷ xs) → AllPairs R xs
-AllPairs-tail R x xs h = λ i j d l m. h (suc i) (suc j) d (omega arith) (omega arith)
-
-abbrev pub IsFloored : List ℤ → Type 0
-IsFloored prices = All (λ p. pos 0 ≤ℤ p) prices
-
--- a record's price is put to 0
-abbrev pub without : List ℤ → ℕ → List ℤ
-without prices position = set prices position (pos 0)
-
-without-same : (prices : List ℤ) (position : ℕ) → price_of (without prices position) position ≡ pos 0
-without-same [] position = refl
-without-same (p ∷ ps) zero = refl
-without-same (p ∷ ps) (suc position) = without-same ps position
-
--- a record has no price there where it has none but at the record whose price is put to 0
-pub absent-without : (prices : List ℤ) (position r : ℕ) → (r ≢ position → price_of prices r ≡ pos 0) → price_of (without prices position) r ≡ pos 0
-absent-without prices position r h = elim (cases_eq r position) [ inl e ↦ rw e (without-same prices position) | inr n ↦ get_or-set_other prices position r (pos 0) (pos 0) n ∙ h n ]
-
-pub price_sum-without : (prices : List ℤ) (position : ℕ) → (price_sum (without prices position) +ℤ price_of prices position) ≡ price_sum prices
-price_sum-without [] position = refl
-price_sum-without (p ∷ ps) zero = omega (arith, ints)
-price_sum-without (p ∷ ps) (suc position) = omega (arith, ints, price_sum-without ps position)
+use Rattle.price_check.specs.PriceLaws.{AllPairs-head, AllPairs-tail, IsFloored, IsTight, price_sum-without, without}
 
 pub price_sum-floor : (prices : List ℤ) → IsFloored prices → pos 0 ≤ℤ price_sum prices
 price_sum-floor [] h = omega (arith, ints)
@@ -61,9 +33,6 @@ worth-le-price_sum [] ps qs fa fb apart covered = omega (arith, ints, price_sum-
 worth-le-price_sum (c ∷ cs) ps qs fa fb apart covered =
     let rest = worth-le-price_sum cs (without ps c.a) (without qs c.b) (IsFloored-without ps c.a fa) (IsFloored-without qs c.b fb) (AllPairs-tail SharesNoRecord c cs apart) (IsCovered-without ps qs c cs (AllPairs-head SharesNoRecord c cs apart) (All-tail (IsCovered ps qs) c cs covered)) in
     omega (arith, ints, rest, All-head (IsCovered ps qs) c cs covered, price_sum-without ps c.a, price_sum-without qs c.b)
-
-abbrev pub IsTight : List ℤ → List ℤ → Candidate → Type 0
-IsTight prices_a prices_b c = (price_of prices_a c.a +ℤ price_of prices_b c.b) ≡ c.value
 
 pub IsTight-without : (prices_a prices_b : List ℤ) (c : Candidate) (cs : List Candidate) → All (SharesNoRecord c) cs → All (IsTight (without prices_a c.a) (without prices_b c.b)) cs → All (IsTight prices_a prices_b) cs
 IsTight-without ps qs c cs apart tight = λ k d l.
@@ -110,9 +79,3 @@ unlinked_b links ps qs position fa fb apart covered sums absent =
 -- a one-to-one list is covered where the candidates are
 pub covered_links : (candidates links : List Candidate) (ps qs : List ℤ) → All (Contains candidates) links → All (IsCovered ps qs) candidates → All (IsCovered ps qs) links
 covered_links candidates links ps qs among covered = λ k d l. All-contains (IsCovered ps qs) candidates _ covered (among k d l)
-
--- The other direction: tight members, and no price elsewhere, make the sums equal.
-
-pub price_sum-zero : (prices : List ℤ) → ((position : ℕ) → price_of prices position ≡ pos 0) → price_sum prices ≡ pos 0
-price_sum-zero [] h = refl
-price_sum-zero (p ∷ ps) h = omega (arith, ints, h zero, price_sum-zero ps (λ position. h (suc position)))

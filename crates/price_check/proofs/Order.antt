@@ -1,17 +1,17 @@
--- Candidates found at links, and links as a one-to-one list of candidates.
-use Rattle.std.proofs.Common.{◌≡◌, ℕ, ◌+◌, ◌-◌, ◌<◌, ◌≤◌, inl, inr, List, [], ◌∷◌, zero, suc, ℤ, ◌+ℤ◌, take, refl, Bool, true, false, sym, ◌∙◌, get_or, get_or-set_other, get_or-set_same, length, set, arith}
-use Rattle.std.proofs.lemmas.Bool.{cases_eq, cases_lt, false≢true}
+-- Candidates found at links.
+use Rattle.std.proofs.Common.{◌≡◌, ℕ, ◌+◌, ◌<◌, ◌≤◌, inl, inr, List, [], ◌∷◌, zero, suc, ℤ, ◌+ℤ◌, take, refl, sym, ◌∙◌, get_or, length, arith}
+use Rattle.std.proofs.lemmas.Bool.{cases_lt}
 use Rattle.std.proofs.lemmas.List.{get_or_default}
 use Rattle.std.proofs.lemmas.List.Elements.{Contains-get_or, All-cons}
 use Rattle.std.proofs.lemmas.Int.{ints}
 use Rattle.link_base.specs.declared.rule.Candidate.{Candidate}
-use Rattle.price_check.specs.Assignment.{IsBefore, total, worth, IsOneToOne}
-use Rattle.price_check.proofs.Members.{same_member}
+use Rattle.price_check.specs.Assignment.{IsBefore, total, worth}
+use Rattle.price_check.specs.CandidateLaws.{same_member}
 use Rattle.std.specs.Prelude.{AllPairs, Contains, All}
 use Rattle.link_base.specs.declared.rule.PairAt.{PairAt}
 use Rattle.link_base.specs.Rule.{IsPairBefore}
-use Rattle.price_check.specs.Search.{IsCandidateBefore, AreTakenMarks}
-use Rattle.price_check.specs.Verdict.{IsCandidate, HasPositions, IsFresh, AreLinks, IsCandidateAt}
+use Rattle.price_check.specs.Search.{IsCandidateBefore}
+use Rattle.price_check.specs.Verdict.{IsCandidate, HasPositions, AreLinks, IsCandidateAt}
 
 -- what stands before a candidate that stands before the link stands before it too
 pub down : (x y : Candidate) (l : PairAt) → IsBefore x y → IsCandidateBefore y l → IsCandidateBefore x l
@@ -57,38 +57,6 @@ pub pair_le : (x y : PairAt) → IsPairBefore x y → x.a ≤ y.a
 pair_le x y (inl p) = omega (arith, p)
 pair_le x y (inr p) = omega (arith, p.0)
 
--- a link whose record of B is not marked, and whose record of A the one before it has not
-pub fresh_last : (links : List PairAt) (taken : List Bool) (i : ℕ) (e : PairAt) → AllPairs IsPairBefore links → i < length links → AreTakenMarks taken links i → get_or taken (get_or links i e).b false ≡ false → ((get_or links (i - 1) e).a ≡ (get_or links i e).a → ⊥) → (0 < i) → IsFresh links i
-fresh_last links taken i e rising lt m free other some = λ k d lk.
-    let di : get_or links i d ≡ get_or links i e = get_or_default links i d e lt in
-    let dk : get_or links k d ≡ get_or links k e = get_or_default links k d e (omega arith) in
-    let step = pair_le (get_or links (i - 1) e) (get_or links i e) (rising (i - 1) i e (omega arith) lt) in
-    let upto : (get_or links k e).a ≤ (get_or links (i - 1) e).a = elim (cases_lt k (i - 1)) [
-      | inl p ↦ pair_le (get_or links k e) (get_or links (i - 1) e) (rising k (i - 1) e p (omega arith))
-      | inr p ↦ (let q : k ≡ i - 1 = omega arith in rw q (omega arith))
-    ] in (
-      λ same. (let here : (get_or links k e).a ≡ (get_or links i e).a = rw (di, dk) at same in other (omega (arith, here, step, upto))),
-      λ same. (let here : (get_or links k e).b ≡ (get_or links i e).b = rw (di, dk) at same in
-          let marked : get_or taken (get_or links i e).b false ≡ true = rw (← here) (m.marked k e lk) in
-          false≢true (sym free ∙ marked)),
-    )
-
--- the marks, one link on
-pub marks_after : (taken : List Bool) (links : List PairAt) (i : ℕ) (e : PairAt) → i < length links → (get_or links i e).b < length taken → AreTakenMarks taken links i → AreTakenMarks (set taken (get_or links i e).b true) links (i + 1)
-marks_after taken links i e lt within m = record {
-  marked = λ k d lk. elim (cases_eq k i) [
-    | inl q ↦ rw (q, get_or_default links i d e lt, get_or-set_same taken (get_or links i e).b true false within) refl
-    | inr ne ↦ (let old = m.marked k d (omega (arith, lk, ne)) in elim (cases_eq (get_or links k d).b (get_or links i e).b) [
-      | inl same ↦ rw (same, get_or-set_same taken (get_or links i e).b true false within) refl
-      | inr other ↦ rw (get_or-set_other taken (get_or links i e).b (get_or links k d).b true false other) old
-    ])
-  ];
-  marks = λ b on. elim (cases_eq b (get_or links i e).b) [
-    | inl q ↦ (i, (omega arith, λ d. rw (get_or_default links i d e lt) (sym q)))
-    | inr ne ↦ (let old = m.marks b (rw (get_or-set_other taken (get_or links i e).b b true false ne) at on) in (old.0, (omega (arith, old.1.0), old.1.1)))
-  ];
-}
-
 -- a sum, one member on
 pub total_more : {X : Type 0} (f : X → ℤ) (xs : List X) (i : ℕ) (d : X) → i < length xs → total f (take (i + 1) xs) ≡ total f (take i xs) +ℤ f (get_or xs i d)
 total_more f [] i d lt = absurd (omega arith)
@@ -107,9 +75,6 @@ worth_more cs ls chosen i k d e sum rising are lt at so_far =
     rw same (omega (arith, ints, so_far, total_more (λ (c : Candidate). c.value) chosen i e within))
 
 -- The candidates that links name.
-
-at_link : (cs : List Candidate) (ls : List PairAt) → All (IsCandidate cs) ls → (k : ℕ) (d : PairAt) → k < length ls → IsCandidate cs (get_or ls k d)
-at_link cs ls h k d lt = h k d lt
 
 pub choose : (cs : List Candidate) (ls : List PairAt) (e : Candidate) → All (IsCandidate cs) ls → (chosen : List Candidate) × AreLinks cs ls chosen
 choose cs [] e h = ([], record { count = refl; among = λ k d lt. absurd (omega arith); positions = λ k d c lt. absurd (omega arith) })
@@ -132,20 +97,3 @@ choose cs (l ∷ ls) e h =
 pub before_of : (x y : Candidate) (l m : PairAt) → HasPositions l x → HasPositions m y → IsPairBefore l m → IsBefore x y
 before_of x y l m hx hy (inl p) = inl (omega (arith, hx.0, hy.0, p))
 before_of x y l m hx hy (inr p) = inr (omega (arith, hx.0, hy.0, p.0), omega (arith, hx.1, hy.1, p.1))
-
-pub one_to_one_links : (cs : List Candidate) (ls : List PairAt) (chosen : List Candidate) → AreLinks cs ls chosen → AllPairs IsPairBefore ls → ((i : ℕ) → i < length ls → IsFresh ls i) → IsOneToOne cs chosen
-one_to_one_links cs ls chosen are rising fresh = record {
-  among = are.among;
-  rising = λ i j d lt m.
-      let hi = are.positions i none d (omega (arith, are.count)) in
-      let hj = are.positions j none d (omega (arith, are.count)) in
-      before_of (get_or chosen i d) (get_or chosen j d) (get_or ls i none) (get_or ls j none) hi hj (rising i j none lt (omega (arith, are.count)));
-  apart = λ i j d lt m.
-      let hi = are.positions i none d (omega (arith, are.count)) in
-      let hj = are.positions j none d (omega (arith, are.count)) in
-      let f = fresh j (omega (arith, are.count)) i none lt in
-      (λ e. f.0 (sym hi.0 ∙ (e ∙ hj.0)), λ e. f.1 (sym hi.1 ∙ (e ∙ hj.1)));
-}
-  where
-    none : PairAt
-    none = record { a = 0; b = 0 }

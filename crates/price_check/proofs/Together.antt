@@ -9,8 +9,9 @@ use Rattle.std.proofs.lemmas.List.Elements.{All-head, All-tail, All-cons, All-ni
 use Rattle.link_base.specs.declared.rule.Candidate.{Candidate}
 use Rattle.price_check.specs.Assignment.{price_sum, price_of, worth, IsBefore, SharesNoRecord, IsCovered, IsOneToOne, Certifies}
 use Rattle.price_check.specs.Parts.{added_prices, prices_together, in_part, AreCertifiedParts}
-use Rattle.price_check.proofs.Duality.{IsFloored, price_of-floor}
-use Rattle.price_check.proofs.Members.{Contains-filter, clash}
+use Rattle.price_check.specs.PriceLaws.{IsFloored}
+use Rattle.price_check.proofs.Duality.{price_of-floor}
+use Rattle.price_check.specs.CandidateLaws.{Contains-filter, clash}
 
 -- Sums over the parts.
 

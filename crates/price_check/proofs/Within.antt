@@ -1,6 +1,6 @@
 -- Links that find a place within capacities, and what prices add up to there.
 use Rattle.std.proofs.Common.{◌≡◌, ◌≢◌, ◌==◌, ◌↔◌, ℕ, zero, suc, ◌+◌, ◌-◌, ◌*◌, ◌<◌, ◌≤◌, inl, inr, List, [], ◌∷◌, ℤ, pos, negsuc, neg_ℤ, ◌+ℤ◌, ◌*ℤ◌, ◌≤ℤ◌, take, take_all, refl, Bool, true, false, cond, sym, ap, ◌∙◌, get_or, set, length, arith}
-use Rattle.std.specs.Prelude.{AllPairs}
+use Rattle.std.specs.Prelude.{All, AllPairs}
 use Rattle.std.proofs.lemmas.Bool.{cases_eq, cases_lt}
 use Rattle.std.proofs.lemmas.Bool.Decides.{nat_tests}
 use Rattle.std.proofs.lemmas.Int.{ints}
@@ -11,18 +11,23 @@ use Rattle.std.proofs.Math.Nat.{mul-le-mul}
 use Rattle.link_base.specs.declared.rule.Candidate.{Candidate}
 use Rattle.link_base.specs.declared.rule.PairAt.{PairAt}
 use Rattle.link_base.specs.Rule.{IsPairBefore}
+use Rattle.link_base.specs.declared.fault.FileRole.{FileRole}
+use Rattle.link_base.specs.declared.fault.FileRole.TheVariants.{Settings, A, B, Sample, Journal, Verdicts, Rule, Links, Prices, Capacities}
 use Rattle.price_check.specs.Assignment.{no_candidate}
 use Rattle.price_check.specs.Capacities.{IsWithinCapacities, capacity_of, links_at, place_sum}
-use Rattle.price_check.proofs.PlaceFacts.{links_at-here, links_at-other}
+use Rattle.price_check.specs.PlaceLaws.{links_at-here, links_at-other}
 use Rattle.price_check.specs.declared.verdict.Reason.{Reason}
 use Rattle.price_check.specs.declared.verdict.Reason.TheVariants.{NotCandidate, Reused, Negative, Uncovered, Sum}
 use Rattle.price_check.specs.declared.verdict.Verified.{Verified}
 use Rattle.price_check.specs.declared.verdict.Verified.TheVariants.{Yes, No}
 use Rattle.price_check.specs.Search.{AreUsed}
-use Rattle.price_check.specs.Verdict.{AreLinks, HasPositions}
+use Rattle.price_check.specs.Verdict.{AreLinks, HasPositions, IsCandidate, IsFirstNegative}
 use Rattle.price_check.specs.CapacityVerdict.{AreCertifiedWithin, HasPlace, IsFirstReasonWithin, IsVerdictWithin, pairs_at}
-use Rattle.price_check.proofs.Exact.{candidate_of, no_negative, no_pair}
 use Rattle.price_check.proofs.Order.{before_of, pair_le}
+
+-- what is read past the end of a list of links
+abbrev pub no_pair : PairAt
+no_pair = record { a = 0; b = 0 }
 
 abbrev tick : Bool → ℕ
 tick b = cond b 1 0
@@ -134,6 +139,26 @@ within_links cs capacities ls chosen are rising placed = record {
 }
 
 -- A certified list leaves no reason.
+
+candidate_of : (cs : List Candidate) (ls : List PairAt) (chosen : List Candidate) (i : ℕ) → AreLinks cs ls chosen → i < length ls → IsCandidate cs (get_or ls i no_pair)
+candidate_of cs ls chosen i are lt =
+    let within : i < length chosen = omega (arith, are.count) in
+    let c : Candidate = get_or chosen i no_candidate in
+    let h = are.among i no_candidate within in
+    let p = are.positions i no_pair no_candidate lt in
+    (h.0, (h.1, λ d. (let same : get_or cs h.0 d ≡ c = get_or_default cs h.0 d c h.1 ∙ h.2 in (ap (λ (x : Candidate). x.a) same ∙ p.0, ap (λ (x : Candidate). x.b) same ∙ p.1))))
+
+no_negative : (ps qs : List ℤ) (side : FileRole) (i : ℕ) → All (λ p. pos 0 ≤ℤ p) ps → All (λ p. pos 0 ≤ℤ p) qs → IsFirstNegative ps qs side i → ⊥
+no_negative ps qs A i fa fb h = h.2 (pos 0) (fa i (pos 0) h.0)
+no_negative ps qs B i fa fb h = h.1.2 (pos 0) (fb i (pos 0) h.1.0)
+no_negative ps qs Settings i fa fb h = h
+no_negative ps qs Sample i fa fb h = h
+no_negative ps qs Journal i fa fb h = h
+no_negative ps qs Verdicts i fa fb h = h
+no_negative ps qs Rule i fa fb h = h
+no_negative ps qs Links i fa fb h = h
+no_negative ps qs Prices i fa fb h = h
+no_negative ps qs Capacities i fa fb h = h
 
 placed_of : (cs : List Candidate) (capacities : List ℕ) (ls : List PairAt) (chosen : List Candidate) (i : ℕ) → AreLinks cs ls chosen → IsWithinCapacities cs capacities chosen → i < length ls → HasPlace capacities ls i
 placed_of cs capacities ls chosen i are within lt = (

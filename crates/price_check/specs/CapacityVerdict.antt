@@ -1,16 +1,15 @@
 -- What a check with capacities needs and what it answers: clauses `first_reason`, `certified` and `greatest` of
--- `check_capacity`. The reasons are tried in the order in which `IsFirstReasonWithin` lists them.
-use Rattle.std.specs.Prelude.{◌≡◌, ◌≢◌, ◌==◌, ℕ, ◌<◌, ◌≤◌, ℤ, pos, ◌+ℤ◌, ◌≤ℤ◌, List, All, count_by, length, slice_index_or, take, Option, Some, None, MatchOption}
+-- `check_capacity`. The reasons are those of a check of one-to-one links, in the same order.
+use Rattle.std.specs.Prelude.{◌≢◌, ◌==◌, ℕ, ◌<◌, ◌≤◌, ℤ, ◌+ℤ◌, List, count_by, length, slice_index_or, take, Option}
 use Rattle.link_limits.specs.declared.TheConstants.{MOST_CAPACITY}
 use Rattle.link_base.specs.declared.rule.Candidate.{Candidate}
 use Rattle.link_base.specs.declared.rule.PairAt.{PairAt}
-use Rattle.price_check.specs.Assignment.{IsCovered, worth, price_sum}
+use Rattle.price_check.specs.Assignment.{price_sum}
 use Rattle.price_check.specs.Capacities.{CertifiesWithin, IsGreatestWithin, IsWithinCapacities, capacity_of, place_sum}
 use Rattle.price_check.specs.declared.verdict.Reason.{Reason}
-use Rattle.price_check.specs.declared.verdict.Reason.TheVariants.{NotCandidate, Reused, Negative, Uncovered, Sum}
 use Rattle.price_check.specs.declared.verdict.Verified.{Verified}
 use Rattle.price_check.specs.declared.verdict.Verified.TheVariants.{Yes, No}
-use Rattle.price_check.specs.Verdict.{AreLinks, IsCandidate, IsFirstBad, IsFirstNegative}
+use Rattle.price_check.specs.Verdict.{AreLinks, IsFirstReasonBy, IsFirstUnfit}
 
 -- a capacity is at most the greatest allowed: clause `allowed_capacities`
 abbrev pub IsAllowedCapacity : ℕ → Type 0
@@ -28,9 +27,7 @@ HasPlace capacities links i =
 
 -- the first link that has no place, if there is one
 abbrev pub IsFirstUnplaced : List ℕ → List PairAt → Option ℕ → Type 0
-IsFirstUnplaced capacities links place =
-    MatchOption place ((i : ℕ) → i < length links → HasPlace capacities links i)
-    (λ i. (i < length links) × ((k : ℕ) → k < i → HasPlace capacities links k) × (HasPlace capacities links i → ⊥))
+IsFirstUnplaced capacities links place = IsFirstUnfit (HasPlace capacities links) (length links) place
 
 -- the links are a list of candidates within the capacities that the prices certify
 abbrev pub AreCertifiedWithin : List Candidate → List ℕ → List PairAt → List ℤ → List ℤ → Type 0
@@ -40,15 +37,9 @@ AreCertifiedWithin cs ns ls ps qs = (chosen : List Candidate) × (AreLinks cs ls
 abbrev pub AreGreatestWithin : List Candidate → List ℕ → List PairAt → Type 0
 AreGreatestWithin cs ns ls = (chosen : List Candidate) × (AreLinks cs ls chosen × IsGreatestWithin cs ns chosen)
 
--- the reason holds, and none before it in the order of the reasons
+-- the first reason against links within capacities
 abbrev pub IsFirstReasonWithin : List Candidate → List ℕ → List PairAt → List ℤ → List ℤ → Reason → Type 0
-IsFirstReasonWithin cs ns ls ps qs (NotCandidate i) = IsFirstBad (IsCandidate cs) ls (Some i)
-IsFirstReasonWithin cs ns ls ps qs (Reused i) = All (IsCandidate cs) ls × IsFirstUnplaced ns ls (Some i)
-IsFirstReasonWithin cs ns ls ps qs (Negative side i) = All (IsCandidate cs) ls × IsFirstUnplaced ns ls None × IsFirstNegative ps qs side i
-IsFirstReasonWithin cs ns ls ps qs (Uncovered i) = All (IsCandidate cs) ls × IsFirstUnplaced ns ls None × All (λ p. pos 0 ≤ℤ p) ps × All (λ p. pos 0 ≤ℤ p) qs × IsFirstBad (IsCovered ps qs) cs (Some i)
-IsFirstReasonWithin cs ns ls ps qs (Sum l p) = All (IsCandidate cs) ls × IsFirstUnplaced ns ls None × All (λ p. pos 0 ≤ℤ p) ps
-    × All (λ p. pos 0 ≤ℤ p) qs × All (IsCovered ps qs) cs × (p ≡ price_sum ps +ℤ place_sum ns qs)
-    × ((chosen : List Candidate) → AreLinks cs ls chosen → l ≡ worth chosen) × (l ≢ p)
+IsFirstReasonWithin cs ns ls ps qs reason = IsFirstReasonBy (HasPlace ns ls) (price_sum ps +ℤ place_sum ns qs) cs ls ps qs reason
 
 -- the answer of a check with capacities
 abbrev pub IsVerdictWithin : List Candidate → List ℕ → List PairAt → List ℤ → List ℤ → Verified → Type 0

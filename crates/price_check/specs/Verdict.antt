@@ -1,5 +1,5 @@
 -- What a check needs and what it answers: clauses `first_reason`, `certified` and `greatest` of `check`. The reasons
--- are tried in the order in which `IsFirstReason` lists them.
+-- are tried in the order in which `IsFirstReasonBy` lists them.
 use Rattle.std.specs.Prelude.{◌≡◌, ◌≢◌, ℕ, ◌<◌, ℤ, pos, ◌+ℤ◌, ◌≤ℤ◌, neg_ℤ, List, All, Contains, slice_index_or, length, Option, Some, None, MatchOption}
 use Rattle.link_limits.specs.declared.TheConstants.{MOST_VALUE}
 use Rattle.link_base.specs.declared.rule.Candidate.{Candidate}
@@ -40,9 +40,13 @@ IsCandidate candidates l = (k : ℕ) × IsCandidateAt candidates l k
 abbrev pub IsFresh : List PairAt → ℕ → Type 0
 IsFresh links i = (k : ℕ) (d : PairAt) → k < i → ((slice_index_or links k d).a ≢ (slice_index_or links i d).a) × ((slice_index_or links k d).b ≢ (slice_index_or links i d).b)
 
+-- the first of so many places, if there is one, at which what stands there does not fit what stands before it
+abbrev pub IsFirstUnfit : (ℕ → Type 0) → ℕ → Option ℕ → Type 0
+IsFirstUnfit Fits count place = MatchOption place ((i : ℕ) → i < count → Fits i) (λ i. (i < count) × ((k : ℕ) → k < i → Fits k) × (Fits i → ⊥))
+
 -- the first link that is not fresh, if there is one
 abbrev pub IsFirstReused : List PairAt → Option ℕ → Type 0
-IsFirstReused links place = MatchOption place ((i : ℕ) → i < length links → IsFresh links i) (λ i. (i < length links) × ((k : ℕ) → k < i → IsFresh links k) × (IsFresh links i → ⊥))
+IsFirstReused links place = IsFirstUnfit (IsFresh links) (length links) place
 
 -- the candidates that the links name
 pub record AreLinks (candidates : List Candidate) (links : List PairAt) (chosen : List Candidate) : Type 0 where
@@ -64,14 +68,19 @@ IsFirstNegative ps qs A i = IsFirstBad (λ p. pos 0 ≤ℤ p) ps (Some i)
 IsFirstNegative ps qs B i = All (λ p. pos 0 ≤ℤ p) ps × IsFirstBad (λ p. pos 0 ≤ℤ p) qs (Some i)
 IsFirstNegative ps qs _ i = ⊥
 
--- the reason holds, and none before it in the order of the reasons
+-- the reason holds, and none before it in the order of the reasons, where a link fits those before it by `Fits`, and all prices add up to `sum`
+abbrev pub IsFirstReasonBy : (ℕ → Type 0) → ℤ → List Candidate → List PairAt → List ℤ → List ℤ → Reason → Type 0
+IsFirstReasonBy Fits sum cs ls ps qs (NotCandidate i) = IsFirstBad (IsCandidate cs) ls (Some i)
+IsFirstReasonBy Fits sum cs ls ps qs (Reused i) = All (IsCandidate cs) ls × IsFirstUnfit Fits (length ls) (Some i)
+IsFirstReasonBy Fits sum cs ls ps qs (Negative side i) = All (IsCandidate cs) ls × IsFirstUnfit Fits (length ls) None × IsFirstNegative ps qs side i
+IsFirstReasonBy Fits sum cs ls ps qs (Uncovered i) =
+    All (IsCandidate cs) ls × IsFirstUnfit Fits (length ls) None × All (λ p. pos 0 ≤ℤ p) ps × All (λ p. pos 0 ≤ℤ p) qs × IsFirstBad (IsCovered ps qs) cs (Some i)
+IsFirstReasonBy Fits sum cs ls ps qs (Sum l p) = All (IsCandidate cs) ls × IsFirstUnfit Fits (length ls) None × All (λ p. pos 0 ≤ℤ p) ps
+    × All (λ p. pos 0 ≤ℤ p) qs × All (IsCovered ps qs) cs × (p ≡ sum) × ((chosen : List Candidate) → AreLinks cs ls chosen → l ≡ worth chosen) × (l ≢ p)
+
+-- the first reason against one-to-one links
 abbrev pub IsFirstReason : List Candidate → List PairAt → List ℤ → List ℤ → Reason → Type 0
-IsFirstReason cs ls ps qs (NotCandidate i) = IsFirstBad (IsCandidate cs) ls (Some i)
-IsFirstReason cs ls ps qs (Reused i) = All (IsCandidate cs) ls × IsFirstReused ls (Some i)
-IsFirstReason cs ls ps qs (Negative side i) = All (IsCandidate cs) ls × IsFirstReused ls None × IsFirstNegative ps qs side i
-IsFirstReason cs ls ps qs (Uncovered i) = All (IsCandidate cs) ls × IsFirstReused ls None × All (λ p. pos 0 ≤ℤ p) ps × All (λ p. pos 0 ≤ℤ p) qs × IsFirstBad (IsCovered ps qs) cs (Some i)
-IsFirstReason cs ls ps qs (Sum l p) = All (IsCandidate cs) ls × IsFirstReused ls None × All (λ p. pos 0 ≤ℤ p) ps × All (λ p. pos 0 ≤ℤ p) qs
-    × All (IsCovered ps qs) cs × (p ≡ price_sum ps +ℤ price_sum qs) × ((chosen : List Candidate) → AreLinks cs ls chosen → l ≡ worth chosen) × (l ≢ p)
+IsFirstReason cs ls ps qs reason = IsFirstReasonBy (IsFresh ls) (price_sum ps +ℤ price_sum qs) cs ls ps qs reason
 
 -- the answer of a check
 abbrev pub IsVerdict : List Candidate → List PairAt → List ℤ → List ℤ → Verified → Type 0

@@ -14,7 +14,7 @@ use link_base::{Candidate, FileRole, NoMemory, PairAt};
 use std::alloc::Global;
 
 /// The first reason why prices do not certify links within capacities, if there is one.
-fn capacity_verdict(
+pub(crate) fn verdict(
     alloc: Global,
     rows_a: u32,
     capacity: &[u32],
@@ -102,7 +102,7 @@ pub fn check_capacity(
     ensures greatest { IfOk result (λ v. v ≡ Verified.Yes → AreGreatestWithin candidates.now capacity.now links.now) }
 {
     certified_within_is_greatest();
-    let answer = capacity_verdict(
+    let answer = verdict(
         alloc, rows_a, capacity, candidates, links, prices_a, prices_b,
     )?;
     Ok(answer)

@@ -4,13 +4,13 @@ ghost use Rattle.link_base.specs.declared.rule.Candidate.{Candidate as ACandidat
 ghost use Rattle.link_limits.specs.declared.TheConstants.{MOST_VALUE};
 ghost use Rattle.link_base.specs.Rule.{IsPairBefore};
 ghost use Rattle.price_check.specs.Assignment.{IsBefore, worth, price_sum, IsWithin};
-ghost use Rattle.price_check.specs.Search.{IsPairWithin};
 ghost use Rattle.price_check.specs.Verdict.{IsCandidate, IsAllowedPrice, HasAllowedValue, AreCertified, AreGreatest, AreLinks, IsVerdict};
 
-use crate::first::{candidate_near, first_negative, first_reused, first_stranger, first_uncovered};
+use crate::capacity::verdict;
+use crate::first::candidate_near;
 use crate::laws::certified_is_greatest;
-use crate::verdict::{Reason, Verified};
-use link_base::{Candidate, FileRole, NoMemory, PairAt};
+use crate::verdict::Verified;
+use link_base::{Candidate, NoMemory, PairAt};
 use std::alloc::Global;
 
 /// The sum of prices.
@@ -24,6 +24,19 @@ pub fn price_total(prices: &[i64]) -> i64
     let mut sum = 0;
     for p in prices {
         sum += *p;
+    }
+    sum
+}
+
+/// What candidates are worth together.
+pub fn value_total(links: &[Candidate]) -> i64
+    requires count { length links.now < 2 ^ 32 }
+    requires allowed { All HasAllowedValue links.now }
+    ensures { result ≡ worth links.now }
+{
+    let mut sum = 0;
+    for link in links {
+        sum += i64::from(link.value);
     }
     sum
 }
@@ -46,60 +59,6 @@ pub fn links_worth(candidates: &[Candidate], links: &[PairAt]) -> i64
         near = k;
     }
     sum
-}
-
-/// The first reason why prices do not certify links, if there is one.
-fn verdict(
-    alloc: Global,
-    rows_a: u32,
-    rows_b: u32,
-    candidates: &[Candidate],
-    links: &[PairAt],
-    prices_a: &[i64],
-    prices_b: &[i64],
-) -> Result<Verified, NoMemory>
-    requires count { length candidates.now < 2 ^ 32 }
-    requires rising { AllPairs IsBefore candidates.now }
-    requires in_range { All (IsWithin rows_a rows_b) candidates.now }
-    requires allowed { All HasAllowedValue candidates.now }
-    requires link_count { length links.now < 2 ^ 32 }
-    requires links_rising { AllPairs IsPairBefore links.now }
-    requires rows_a { length prices_a.now ≡ rows_a }
-    requires rows_b { length prices_b.now ≡ rows_b }
-    requires small_a { All IsAllowedPrice prices_a.now }
-    requires small_b { All IsAllowedPrice prices_b.now }
-    ensures { IfOk result (λ v. IsVerdict candidates.now links.now prices_a.now prices_b.now v) }
-{
-    if let Some(index) = first_stranger(candidates, links) {
-        return Ok(Verified::No(Reason::NotCandidate { index }));
-    }
-    if let Some(index) = first_reused(alloc, rows_b, links)? {
-        return Ok(Verified::No(Reason::Reused { index }));
-    }
-    if let Some(at) = first_negative(prices_a) {
-        return Ok(Verified::No(Reason::Negative {
-            side: FileRole::A,
-            at,
-        }));
-    }
-    if let Some(at) = first_negative(prices_b) {
-        return Ok(Verified::No(Reason::Negative {
-            side: FileRole::B,
-            at,
-        }));
-    }
-    if let Some(index) = first_uncovered(candidates, prices_a, prices_b) {
-        return Ok(Verified::No(Reason::Uncovered { index }));
-    }
-    let worth = links_worth(candidates, links);
-    let prices = price_total(prices_a) + price_total(prices_b);
-    if worth != prices {
-        return Ok(Verified::No(Reason::Sum {
-            links: worth,
-            prices,
-        }));
-    }
-    Ok(Verified::Yes)
 }
 
 /// Whether prices certify links as a one-to-one list of candidates, which is then greatest, and else the
@@ -129,6 +88,9 @@ pub fn check(
     ensures greatest { IfOk result (λ v. v ≡ Verified.Yes → AreGreatest candidates.now links.now) }
 {
     certified_is_greatest();
-    let answer = verdict(alloc, rows_a, rows_b, candidates, links, prices_a, prices_b)?;
+    let single = vec![in alloc; 1u32; rows_b as usize]?;
+    let answer = verdict(
+        alloc, rows_a, &single, candidates, links, prices_a, prices_b,
+    )?;
     Ok(answer)
 }

@@ -1,14 +1,12 @@
 // The first place at which something is wrong.
-ghost use Rattle.std.specs.Prelude.{◌≡◌, ◌<◌, ◌≤◌, ◌^◌, ℤ, pos, ◌≤ℤ◌, length, AllPairs, All, IsTrue, ◌↔◌, MatchOption, slice_index_or, ℕ, IfOk, MatchBool, false, true, ◌+◌, min};
+ghost use Rattle.std.specs.Prelude.{◌≡◌, ◌<◌, ◌≤◌, ◌^◌, pos, ◌≤ℤ◌, length, AllPairs, All, IsTrue, ◌↔◌, MatchOption, slice_index_or, ℕ, ◌+◌, min};
 ghost use Rattle.price_check.specs.declared.first.TheConstants.{NEAR};
 ghost use Rattle.price_check.specs.Assignment.{IsBefore, IsCovered, IsWithin};
-ghost use Rattle.price_check.specs.Search.{IsPairWithin, IsCandidateBefore, AreTakenMarks};
-ghost use Rattle.price_check.specs.Verdict.{IsFirstBad, IsCandidate, IsAllowedPrice, IsFirstReused, IsCandidateAt, HasPositions, IsFresh};
+ghost use Rattle.price_check.specs.Search.{IsCandidateBefore};
+ghost use Rattle.price_check.specs.Verdict.{IsFirstBad, IsCandidate, IsAllowedPrice, IsCandidateAt, HasPositions};
 ghost use Rattle.link_base.specs.declared.rule.Candidate.{Candidate as ACandidate};
-ghost use Rattle.link_base.specs.Rule.{IsPairBefore};
 
-use link_base::{Candidate, NoMemory, PairAt};
-use std::alloc::Global;
+use link_base::{Candidate, PairAt};
 
 /// The first price below 0.
 pub fn first_negative(prices: &[i64]) -> Option<u32>
@@ -133,55 +131,6 @@ pub fn first_stranger(candidates: &[Candidate], links: &[PairAt]) -> Option<u32>
             return Some(i as u32);
         };
         near = at;
-    }
-    None
-}
-
-/// Whether an earlier link has a position of the one at `i`.
-fn is_reused(taken: &[bool], links: &[PairAt], i: usize) -> bool
-    requires place { i < length links.now }
-    requires rising { AllPairs IsPairBefore links.now }
-    requires in_range { All (IsPairWithin (length taken.now)) links.now }
-    requires marks { AreTakenMarks taken.now links.now i }
-    ensures { MatchBool result (IsFresh links.now i → ⊥) (IsFresh links.now i) }
-{
-    let link = links[i];
-    if taken[link.b as usize] {
-        return true;
-    }
-    if i == 0 {
-        return false;
-    }
-    if links[i - 1].a == link.a {
-        return true;
-    }
-    false
-}
-
-/// The first link with a position that an earlier link has.
-pub fn first_reused(alloc: Global, rows_b: u32, links: &[PairAt]) -> Result<Option<u32>, NoMemory>
-    requires count { length links.now < 2 ^ 32 }
-    requires rising { AllPairs IsPairBefore links.now }
-    requires in_range { All (IsPairWithin rows_b) links.now }
-    ensures { IfOk result (λ place. IsFirstReused links.now place) }
-{
-    let mut taken = vec![in alloc; false; rows_b as usize]?;
-    Ok(reused_in(&mut taken, links))
-}
-
-/// The same, over a list of marks that are not set yet.
-fn reused_in(taken: &mut [bool], links: &[PairAt]) -> Option<u32>
-    requires count { length links.now < 2 ^ 32 }
-    requires rising { AllPairs IsPairBefore links.now }
-    requires in_range { All (IsPairWithin (length taken.old)) links.now }
-    requires unset { (b : ℕ) → slice_index_or taken.old b false ≡ false }
-    ensures { IsFirstReused links.now result }
-{
-    for i in 0..links.len() {
-        if is_reused(taken, links, i) {
-            return Some(i as u32);
-        }
-        taken[links[i].b as usize] = true;
     }
     None
 }

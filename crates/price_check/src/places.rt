@@ -4,7 +4,7 @@ ghost use Rattle.link_limits.specs.declared.TheConstants.{MOST_CAPACITY, MOST_VA
 ghost use Rattle.link_base.specs.Rule.{IsPairBefore};
 ghost use Rattle.price_check.specs.Capacities.{place_sum};
 ghost use Rattle.price_check.specs.Search.{AreUsed, IsPairWithin};
-ghost use Rattle.price_check.specs.Verdict.{IsAllowedPrice};
+ghost use Rattle.price_check.specs.Verdict.{IsAllowedPrice, IsFirstReused};
 ghost use Rattle.price_check.specs.CapacityVerdict.{HasPlace, IsAllowedCapacity, IsFirstUnplaced};
 
 use link_base::{NoMemory, PairAt};
@@ -66,7 +66,19 @@ fn unplaced_in(capacity: &[u32], used: &mut [u32], links: &[PairAt]) -> Option<u
     None
 }
 
-/// What a price counts for where it counts once for each place of its record.
+//// The first link with a position that an earlier link has: each record of B has one place.
+pub fn first_reused(alloc: Global, rows_b: u32, links: &[PairAt]) -> Result<Option<u32>, NoMemory>
+    requires count { length links.now < 2 ^ 32 }
+    requires rising { AllPairs IsPairBefore links.now }
+    requires in_range { All (IsPairWithin rows_b) links.now }
+    ensures { IfOk result (λ place. IsFirstReused links.now place) }
+{
+    let single = vec![in alloc; 1u32; rows_b as usize]?;
+    let place = first_unplaced(alloc, &single, links)?;
+    Ok(place)
+}
+
+// What a price counts for where it counts once for each place of its record.
 fn price_of_places(capacity: u32, price: i64) -> i64
     requires few { IsAllowedCapacity capacity }
     requires small { IsAllowedPrice price }

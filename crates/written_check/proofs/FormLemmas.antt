@@ -36,22 +36,6 @@ pub begun_under : (header : Row) (records rows : List Row) → Some rows ≡ row
 begun_under header [] rows is fit = absurd (cc is)
 begun_under header (first ∷ more) rows is fit = under_if (length header) more rows (same_row first header) is fit
 
-unless_fit : (width : ℕ) (rows got : List Row) (o : Option ℕ) → first_misfit width 1 rows ≡ o → unless_at rows o ≡ Ok got → first_misfit width 1 got ≡ None
-unless_fit width rows got None is e = subst (λ (r : List Row). first_misfit width 1 r ≡ None) (rows_ok rows got e) is
-  where
-    rows_ok : (x y : List Row) → unless_at x None ≡ Ok y → x ≡ y
-    rows_ok x y e = cc e
-unless_fit width rows got (Some n) is e = absurd (cc e)
-
-fit_if : (width : ℕ) (rows got : List Row) (t : Bool) → (if t then unless_at rows (first_misfit width 1 rows) else Err 0) ≡ Ok got → first_misfit width 1 got ≡ None
-fit_if width rows got true e = unless_fit width rows got (first_misfit width 1 rows) refl e
-fit_if width rows got false e = absurd (cc e)
-
--- the rows under a header have no misfit
-pub under_fit : (header : Row) (records rows : List Row) → rows_under header records ≡ Ok rows → first_misfit (length header) 1 rows ≡ None
-under_fit header [] rows e = absurd (cc e)
-under_fit header (first ∷ more) rows e = fit_if (length header) more rows (same_row first header) e
-
 -- a row that fits is passed
 pub fit_passed : (width n : ℕ) (row : Row) (rows : List Row) → length row ≡ width → first_misfit width n (row ∷ rows) ≡ first_misfit width (n + 1) rows
 fit_passed width n row rows e = rw (is_width e) refl

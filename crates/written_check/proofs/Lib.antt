@@ -9,3 +9,4 @@ pub mod StepLemmas
 pub mod SumLemmas
 pub mod VerifiedLemmas
 pub mod WrittenLemmas
+pub mod RowFacts

@@ -1,5 +1,5 @@
 -- The candidates of the rows of written links.
-use Rattle.std.proofs.Common.{◌≡◌, ◌≢◌, ◌<◌, ◌+◌, ◌-◌, ◌⊎◌, ◌∷◌, ◌++◌, ◌∙◌, ℕ, zero, suc, Bool, true, false, List, [], All, length, get_or, if◌then◌else◌, nat_lt, Option, Some, None, Err, inl, inr, refl, sym, ap, subst, arith}
+use Rattle.std.proofs.Common.{◌≡◌, ◌≢◌, ◌<◌, ◌+◌, ◌-◌, ◌⊎◌, ◌∷◌, ◌++◌, ◌∙◌, ℕ, zero, suc, Bool, true, false, List, [], All, length, get_or, if◌then◌else◌, nat_lt, Option, Some, None, inl, inr, refl, sym, ap, subst, arith}
 use Rattle.std.specs.Prelude.{◌&&◌, AllPairs, Contains, find, MatchOption}
 use Rattle.std.specs.List.{list_all, position_or_len, slice_get}
 use Rattle.std.specs.Str.{bytes_eq}
@@ -12,9 +12,9 @@ use Rattle.std.proofs.lemmas.List.Quantifiers.{all_pairs_push}
 use Rattle.std.proofs.lemmas.List.Sums.{AllPass-from_list_all, list_all-from_AllPass, position_or_len_is}
 use Rattle.std.proofs.lemmas.Option.{get_or_from_slice_get, slice_get_cases}
 use Rattle.std.proofs.lemmas.Slice.Eq.{bytes_eq-Decides}
-use Rattle.price_check.proofs.Members.{Contains-later, same_member}
+use Rattle.price_check.specs.CandidateLaws.{Contains-later, same_member}
 use Rattle.price_check.specs.Assignment.{IsBefore, IsWithin, no_candidate}
-use Rattle.link_base.specs.Standard.{HaveDistinctIds, id_at, IsFreshId, no_record, position_of_id, Record}
+use Rattle.link_base.specs.Standard.{HaveDistinctIds, id_at, no_record, position_of_id, Record}
 use Rattle.link_base.specs.declared.rule.Candidate.{Candidate}
 use Rattle.link_base.specs.declared.rule.PairAt.{PairAt}
 use Rattle.link_report.specs.ReadingLaws.{row_same, same_itself}
@@ -99,17 +99,7 @@ pub stands_there : (file : List Record) (id : List ℕ) (at found : ℕ) → Hav
 stands_there file id at found distinct within is place =
     some_number at found (sym (known_again file at distinct within) ∙ ap (λ (t : List ℕ). position_of_id t file) is ∙ sym place)
 
--- no record has an id that is fresh
-pub no_record_has : (file : List Record) (id : List ℕ) (at : ℕ) → IsFreshId id file → at < length file → id_at file at ≡ id → ⊥
-no_record_has file id at fresh within is = fresh at no_record within is
-
 module _ (cs : List Candidate) (a b : List Record) (row : Row) (within : All (IsWithin (length a) (length b)) cs) where
-  pub none_of_a : IsFreshId (get_or row 0 []) a → All (λ (c : Candidate). HasRowIds a b row c → ⊥) cs
-  none_of_a fresh k d lt ids = no_record_has a (get_or row 0 []) (get_or cs k d).a fresh (within k d lt).0 ids.0
-
-  pub none_of_b : IsFreshId (get_or row 1 []) b → All (λ (c : Candidate). HasRowIds a b row c → ⊥) cs
-  none_of_b fresh k d lt ids = no_record_has b (get_or row 1 []) (get_or cs k d).b fresh (within k d lt).1 ids.1
-
   module _ (distinct_a : HaveDistinctIds a) (distinct_b : HaveDistinctIds b) (of_a of_b : ℕ) (is_a : Some of_a ≡ position_of_id (get_or row 0 []) a) (is_b : Some of_b ≡ position_of_id (get_or row 1 []) b) where
     abbrev pair : PairAt
     pair = record { a = of_a; b = of_b }
@@ -253,6 +243,3 @@ module _ (taken : List Candidate) where
 
   pub link_taken : (cs : List Candidate) (a b : List Record) (row : Row) (rows : List Row) (c : Candidate) → Some c ≡ after_all taken (candidate_in cs a b row) → links_in cs a b taken (row ∷ rows) ≡ links_in cs a b (taken ++ c ∷ []) rows
   link_taken cs a b row rows c is = ap (taken_more (λ more. links_in cs a b more rows) taken) (sym is)
-
-  pub link_refused : (cs : List Candidate) (a b : List Record) (row : Row) (rows : List Row) → None ≡ after_all taken (candidate_in cs a b row) → links_in cs a b taken (row ∷ rows) ≡ Err (refutation.Link (length taken + 1))
-  link_refused cs a b row rows is = ap (taken_more (λ more. links_in cs a b more rows) taken) (sym is)

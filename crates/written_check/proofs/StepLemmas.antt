@@ -1,7 +1,6 @@
 -- Written files step by step: what is left to verify after the steps that found nothing.
 use Rattle.std.proofs.Common.{◌≡◌, ◌∙◌, ℕ, Bool, List, Option, Some, None, Ok, Err, Result, ap, sym, subst}
 use Rattle.std.specs.Prelude.{IfOk, IfSome}
-use Rattle.std.specs.Result.{IsErrAnd}
 use Rattle.link_base.specs.Answers.{and_then, RefusesBut}
 use Rattle.link_base.specs.Standard.{Record}
 use Rattle.link_base.specs.declared.rule.Candidate.{Candidate}
@@ -9,7 +8,7 @@ use Rattle.link_base.specs.declared.rule.RuleCell.{RuleCell}
 use Rattle.written_check.specs.Certified.{sums_verified}
 use Rattle.written_check.specs.LinkRows.{apart_verified, links_verified}
 use Rattle.written_check.specs.PriceRows.{PricePair, prices_verified}
-use Rattle.written_check.specs.Refuted.{is_want, Verifies}
+use Rattle.written_check.specs.Refuted.{is_want}
 use Rattle.written_check.specs.RuleRows.{rule_verified}
 use Rattle.written_check.specs.Verified.{verified, WrittenTexts}
 use Rattle.written_check.specs.declared.refutation.Refutation.{Refutation}
@@ -18,11 +17,6 @@ use Rattle.written_check.specs.declared.refutation.Refutation.TheVariants as ref
 -- a refusal of what is left refuses the whole
 pub refuses_whole : {T : Type 0} (whole left : Result T Refutation) (f : Refutation) → whole ≡ left → RefusesBut is_want left f → RefusesBut is_want whole f
 refuses_whole whole left f e h = subst (λ r. RefusesBut is_want r f) (sym e) h
-
--- want of memory refuses nothing
-pub free : {X T : Type 0} (view : X → T) (expected : Result T Refutation) (r : Result X Refutation) → IsErrAnd r (λ e. e ≡ refutation.NoMemory) → Verifies view expected r
-free view expected (Ok x) h = absurd h
-free view expected (Err e) h = subst (λ f. RefusesBut is_want expected f) (sym h) tt
 
 module _ (rares : List Bool) (cells : List RuleCell) (cs : List Candidate) (a b : List Record) (texts : WrittenTexts) where
   abbrev pub from_prices : List Candidate → Result (List Candidate) Refutation

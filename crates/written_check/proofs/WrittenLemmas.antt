@@ -10,7 +10,7 @@ use Rattle.std.proofs.lemmas.Int.{ints}
 use Rattle.std.proofs.lemmas.List.{append_assoc, append-nil, get_or_append_left}
 use Rattle.std.proofs.lemmas.List.Elements.{All-contains, All-head, All-tail}
 use Rattle.std.proofs.lemmas.List.Sums.{list_all-from_AllPass}
-use Rattle.price_check.proofs.Members.{same_member}
+use Rattle.price_check.specs.CandidateLaws.{same_member}
 use Rattle.price_check.specs.Assignment.{IsBefore, IsWithin}
 use Rattle.csv_rows.specs.Numbers.{is_decimal, number_in}
 use Rattle.link_base.specs.Standard.{HaveDistinctIds, id_at, no_record, position_of_id, Record}

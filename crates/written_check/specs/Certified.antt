@@ -1,12 +1,10 @@
 -- What refutes links and prices that are read: the first candidate that the prices do not cover, and else two sums that differ
 -- (`verify_sums`, its lone clause).
-use Rattle.std.specs.Prelude.{◌<◌, ◌+ℤ◌, ℤ, All, AllPairs, Bool, Contains, List, find, if◌then◌else◌, int_le, length, not, Option, Some, None, Result, Ok, Err, slice_index_or, ⊤}
+use Rattle.std.specs.Prelude.{◌+ℤ◌, ℤ, All, AllPairs, Bool, Contains, List, find, if◌then◌else◌, int_le, not, Option, Some, None, Result, Ok, Err}
 use Rattle.std.specs.Ordering.{int_eq}
-use Rattle.price_check.specs.Assignment.{IsBefore, no_candidate, price_of, price_sum, worth}
+use Rattle.price_check.specs.Assignment.{IsBefore, price_of, price_sum, worth}
 use Rattle.link_base.specs.declared.rule.Candidate.{Candidate}
 use Rattle.link_base.specs.declared.rule.PairAt.{PairAt}
-use Rattle.price_check.specs.declared.verdict.Reason.{Reason}
-use Rattle.price_check.specs.declared.verdict.Reason.TheVariants as reason
 use Rattle.written_check.specs.PriceRows.{PricePair}
 use Rattle.written_check.specs.declared.refutation.Refutation.{Refutation}
 use Rattle.written_check.specs.declared.refutation.Refutation.TheVariants as refutation
@@ -39,14 +37,3 @@ sums_verified candidates links prices =
 pub record AreTaken (candidates links : List Candidate) : Type 0 where
   pub among : All (Contains candidates) links
   pub rising : AllPairs IsBefore links
-
--- machinery: what a reason of a check refutes: one of its sums, since links that are read are candidates with prices of at least 0
-abbrev pub IsOfSums : List Candidate → Reason → Type 0
-IsOfSums candidates (reason.Uncovered index) = index < length candidates
-IsOfSums candidates (reason.Sum links prices) = ⊤
-IsOfSums candidates r = ⊥
-
-abbrev pub refutation_by : List Candidate → Reason → Refutation
-refutation_by candidates (reason.Uncovered index) = refutation.Uncovered (pair_of (slice_index_or candidates index no_candidate))
-refutation_by candidates (reason.Sum links prices) = refutation.Sum links prices
-refutation_by candidates r = refutation.NoMemory

@@ -1,5 +1,6 @@
 -- The laws of verified files: what is verified is greatest (`verified_is_greatest`), and what a run writes is verified
--- (`written_is_verified`), each by its lone clause.
+-- (`written_is_verified`), each by its lone clause; and what is verified has the rows of a rule, of links and of prices that certify them,
+-- whoever wrote them (`verified_means`).
 use Rattle.std.specs.Prelude.{◌≡◌, ℤ, All, AllPairs, Bool, List, length, map, Ok}
 use Rattle.price_check.specs.Assignment.{Certifies, IsBefore, IsGreatest, IsOneToOne, IsWithin}
 use Rattle.file_reader.specs.Left.{records_in}
@@ -7,9 +8,9 @@ use Rattle.link_base.specs.Standard.{HaveDistinctIds, Record}
 use Rattle.link_base.specs.declared.rule.Candidate.{Candidate}
 use Rattle.link_base.specs.declared.rule.RuleCell.{RuleCell}
 use Rattle.link_report.specs.LinksText.{link_fields, links_header, text_of_links}
-use Rattle.link_report.specs.PricesText.{text_of_prices}
-use Rattle.link_report.specs.Reading.{rows_under}
-use Rattle.link_report.specs.RuleText.{text_of_rule}
+use Rattle.link_report.specs.PricesText.{prices_header, text_of_prices}
+use Rattle.link_report.specs.Reading.{rows_of_prices, rows_under}
+use Rattle.link_report.specs.RuleText.{cell_fields, rule_header, text_of_rule}
 use Rattle.price_check.specs.Verdict.{HasAllowedValue}
 use Rattle.written_check.specs.Verified.{verified, WrittenTexts}
 
@@ -45,3 +46,31 @@ WrittenIsVerified =
     → AreCandidatesOf a b candidates → IsOneToOne candidates links → Certifies candidates links prices_a prices_b
     → length prices_a ≡ length a → length prices_b ≡ length b
     → verified rares cells candidates a b (written_texts rares cells links prices_a prices_b a b) ≡ Ok links
+
+-- texts have exactly these rows under their headers, in any form that CSV allows: those of a rule's cells, of links, and of the prices
+-- that are not 0
+pub record HaveRows (rares : List Bool) (cells : List RuleCell) (links : List Candidate) (prices_a prices_b : List ℤ) (a b : List Record) (texts : WrittenTexts) : Type 0 where
+  pub of_rule : rows_under rule_header (records_in 44 texts.rule) ≡ Ok (map (cell_fields rares) cells)
+  pub of_links : rows_under links_header (records_in 44 texts.links) ≡ Ok (map (link_fields a b) links)
+  pub of_prices : rows_under prices_header (records_in 44 texts.prices) ≡ Ok (rows_of_prices prices_a prices_b a b)
+
+-- texts have the rows of cells, of one-to-one links of candidates, and of prices, one for each record, that certify these links
+pub record HaveCertifiedRows (rares : List Bool) (cells : List RuleCell) (candidates : List Candidate) (a b : List Record) (texts : WrittenTexts) (links : List Candidate) : Type 0 where
+  pub prices_a : List ℤ
+  pub prices_b : List ℤ
+  pub rows : HaveRows rares cells links prices_a prices_b a b texts
+  pub one_to_one : IsOneToOne candidates links
+  pub certified : Certifies candidates links prices_a prices_b
+  pub priced_a : length prices_a ≡ length a
+  pub priced_b : length prices_b ≡ length b
+
+-- what the five steps of `verified` come to: clauses `rows` and `verified` of `verified_means`
+abbrev pub VerifiedHaveRows : Type 0
+VerifiedHaveRows =
+    (rares : List Bool) (cells : List RuleCell) (candidates : List Candidate) (a b : List Record) (texts : WrittenTexts) (links : List Candidate)
+    → verified rares cells candidates a b texts ≡ Ok links → HaveCertifiedRows rares cells candidates a b texts links
+
+abbrev pub RowsAreVerified : Type 0
+RowsAreVerified =
+    (rares : List Bool) (cells : List RuleCell) (candidates : List Candidate) (a b : List Record) (texts : WrittenTexts) (links : List Candidate)
+    → AreCandidatesOf a b candidates → HaveCertifiedRows rares cells candidates a b texts links → verified rares cells candidates a b texts ≡ Ok links

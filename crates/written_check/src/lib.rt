@@ -10,6 +10,6 @@ mod rule;
 mod sums;
 mod written;
 
-pub use laws::{verified_is_greatest, written_is_short, written_is_verified};
+pub use laws::{verified_is_greatest, verified_means, written_is_short, written_is_verified};
 pub use refutation::Refutation;
 pub use written::{Written, verify_written};

@@ -3,7 +3,7 @@ ghost use Rattle.std.specs.Prelude.{◌≡◌, ◌+◌, ◌<◌, ◌^◌, All, A
 ghost use Rattle.price_check.specs.Assignment.{IsBefore, IsWithin};
 ghost use Rattle.link_base.specs.declared.rule.Candidate.{Candidate as Link};
 ghost use Rattle.price_check.specs.Verdict.{HasAllowedValue};
-ghost use Rattle.written_check.specs.Certified.{AreTaken, IsOfSums, pair_of, refutation_by, sums_verified};
+ghost use Rattle.written_check.specs.Certified.{AreTaken, pair_of, sums_verified};
 ghost use Rattle.written_check.specs.LinkRows.{apart_verified};
 ghost use Rattle.written_check.specs.PriceRows.{ArePrices};
 ghost use Rattle.written_check.specs.PricesSeen.{prices_seen};
@@ -12,11 +12,11 @@ ghost use Rattle.written_check.specs.Refuted.{IsOfRows, IsRefutationWithin, Veri
 use crate::prices::Prices;
 use crate::refutation::Refutation;
 use link_base::{Candidate, NoMemory, PairAt};
-use price_check::{Reason, Verified, check, first_reused};
+use price_check::{first_reused, first_uncovered, price_total, value_total};
 use std::alloc::Global;
 
 // The records of links.
-pub(crate) fn pairs_of(alloc: Global, links: &[Candidate]) -> Result<Vec<PairAt>, NoMemory>
+fn pairs_of(alloc: Global, links: &[Candidate]) -> Result<Vec<PairAt>, NoMemory>
     ensures { IfOk result (λ pairs. pairs.items ≡ map pair_of links.now) }
 {
     let mut pairs = Vec::new(alloc);
@@ -29,63 +29,38 @@ pub(crate) fn pairs_of(alloc: Global, links: &[Candidate]) -> Result<Vec<PairAt>
     Ok(pairs)
 }
 
-// Verifies that no record stands in two links, whose records are these.
+// Verifies that no record stands in two links.
 pub(crate) fn verify_apart(
     alloc: Global,
     rows_b: u32,
     links: &[Candidate],
-    pairs: &[PairAt],
 ) -> Result<(), Refutation>
     requires few { length links.now + 1 < 2 ^ 32 }
     requires rising { AllPairs IsBefore links.now }
     requires within { All (λ (l : Link). l.b < rows_b) links.now }
-    requires pairs { pairs.now ≡ map pair_of links.now }
     ensures kind { IfErr result IsOfRows }
     ensures answer { Verifies (λ _. links.now) (apart_verified links.now) result }
 {
-    match first_reused(alloc, rows_b, pairs)? {
+    let pairs = pairs_of(alloc, links)?;
+    match first_reused(alloc, rows_b, &pairs)? {
         Some(index) => Err(Refutation::Reused { row: index + 1 }),
         None => Ok(()),
     }
 }
 
-// What a reason of the sums refutes.
-fn refutation_of(candidates: &[Candidate], reason: Reason) -> Refutation
-    requires { IsOfSums candidates.now reason }
-    ensures { result ≡ refutation_by candidates.now reason }
-{
-    match reason {
-        Reason::Uncovered { index } => {
-            let c = candidates[index as usize];
-            Refutation::Uncovered {
-                at: PairAt { a: c.a, b: c.b },
-            }
-        }
-        Reason::Sum { links, prices } => Refutation::Sum { links, prices },
-        Reason::NotCandidate { .. } => unreachable!(),
-        Reason::Reused { .. } => unreachable!(),
-        Reason::Negative { .. } => unreachable!(),
-    }
-}
-
-// Verifies that prices certify links, whose records are these.
+// Verifies that prices certify links, which are taken of the candidates and share no record.
 pub(crate) fn verify_sums(
-    alloc: Global,
     rows_a: u32,
     rows_b: u32,
     candidates: &[Candidate],
     links: &[Candidate],
-    pairs: &[PairAt],
     prices: &Prices,
 ) -> Result<(), Refutation>
     requires count { length candidates.now < 2 ^ 32 }
-    requires rising { AllPairs IsBefore candidates.now }
     requires within { All (IsWithin rows_a rows_b) candidates.now }
     requires allowed { All HasAllowedValue candidates.now }
     requires taken { AreTaken candidates.now links.now }
     requires few { length links.now + 1 < 2 ^ 32 }
-    requires pairs { pairs.now ≡ map pair_of links.now }
-    requires apart { apart_verified links.now ≡ Ok links.now }
     requires rows_a { length prices.now.a ≡ rows_a }
     requires rows_b { length prices.now.b ≡ rows_b }
     requires small_a { ArePrices prices.now.a }
@@ -95,8 +70,19 @@ pub(crate) fn verify_sums(
 {
     let a = prices.a.prices();
     let b = prices.b.prices();
-    match check(alloc, rows_a, rows_b, candidates, pairs, a, b)? {
-        Verified::Yes => Ok(()),
-        Verified::No(reason) => Err(refutation_of(candidates, reason)),
+    if let Some(index) = first_uncovered(candidates, a, b) {
+        let c = candidates[index as usize];
+        return Err(Refutation::Uncovered {
+            at: PairAt { a: c.a, b: c.b },
+        });
     }
+    let worth = value_total(links);
+    let paid = price_total(a) + price_total(b);
+    if worth != paid {
+        return Err(Refutation::Sum {
+            links: worth,
+            prices: paid,
+        });
+    }
+    Ok(())
 }

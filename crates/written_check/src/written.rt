@@ -13,7 +13,7 @@ use crate::links::verify_links;
 use crate::prices::verify_prices;
 use crate::refutation::Refutation;
 use crate::rule::verify_rule;
-use crate::sums::{pairs_of, verify_apart, verify_sums};
+use crate::sums::{verify_apart, verify_sums};
 use link_base::{Candidate, RuleTable, Shape, StdFile, Text};
 use std::alloc::Global;
 
@@ -58,8 +58,7 @@ pub fn verify_written(
         Ok(links) => links,
         Err(refutation) => return Err(refutation),
     };
-    let pairs = pairs_of(alloc, &links)?;
-    match verify_apart(alloc, b.rows(), &links, &pairs) {
+    match verify_apart(alloc, b.rows(), &links) {
         Ok(()) => {}
         Err(refutation) => return Err(refutation),
     }
@@ -67,15 +66,7 @@ pub fn verify_written(
         Ok(prices) => prices,
         Err(refutation) => return Err(refutation),
     };
-    match verify_sums(
-        alloc,
-        a.rows(),
-        b.rows(),
-        candidates,
-        &links,
-        &pairs,
-        &prices,
-    ) {
+    match verify_sums(a.rows(), b.rows(), candidates, &links, &prices) {
         Ok(()) => Ok(links),
         Err(refutation) => Err(refutation),
     }

@@ -1,7 +1,7 @@
 use Rattle.std.proofs.Common.{◌≡◌, ◌<◌, length, set, None, Some, refl, ap, sym, ◌∙◌, inl, inr, arith}
 use Rattle.std.specs.Option.{is_some}
 use Rattle.std.proofs.lemmas.List.{get_or_default, length-set, with_items_is}
-use Rattle.price_check.proofs.PlaceFacts.{place_there}
+use Rattle.price_check.specs.PlaceLaws.{place_there}
 use Rattle.assignment_steps.specs.Market.{edge, number}
 use Rattle.capacity_assign.specs.Seating.{HasHole, seating}
 use Rattle.capacity_assign.proofs.Links.{free_record_counts, linked_parted}

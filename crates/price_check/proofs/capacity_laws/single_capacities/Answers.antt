@@ -1,6 +1,4 @@
-use Rattle.std.proofs.Common.{sym, ◌∙◌, ap, ◌+ℤ◌}
-use Rattle.price_check.specs.Assignment.{price_sum}
-use Rattle.price_check.proofs.PlaceFacts.{one_to_one_within, within_one_to_one, place_sum_single}
+use Rattle.price_check.proofs.Single.{certifies_single, one_to_one_within, within_one_to_one}
 use Rattle.price_check.proofs.capacity_laws.single_capacities.Goals as goal
 
 pub returns-clause-lists : goal.returns-clause-lists
@@ -22,17 +20,4 @@ returns-clause-greatest c = λ candidates capacities links s. (
 )
 
 pub returns-clause-certificates : goal.returns-clause-certificates
-returns-clause-certificates c = λ candidates capacities links ps qs s len. (
-  λ cert. record {
-    floor_a = cert.floor_a;
-    floor_b = cert.floor_b;
-    covered = cert.covered;
-    balanced = sym (ap (λ n. price_sum ps +ℤ n) (place_sum_single capacities qs s.single len)) ∙ cert.balanced;
-  },
-  λ cert. record {
-    floor_a = cert.floor_a;
-    floor_b = cert.floor_b;
-    covered = cert.covered;
-    balanced = ap (λ n. price_sum ps +ℤ n) (place_sum_single capacities qs s.single len) ∙ cert.balanced;
-  },
-)
+returns-clause-certificates c = λ candidates capacities links ps qs s. certifies_single candidates capacities links s.single s.within ps qs

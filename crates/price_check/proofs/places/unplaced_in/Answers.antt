@@ -1,7 +1,7 @@
 use Rattle.std.proofs.Common.{◌≡◌, ◌<◌, get_or, length, arith, inl, inr, refl}
 use Rattle.std.proofs.lemmas.Bool.{cases_lt}
 use Rattle.price_check.specs.CapacityVerdict.{HasPlace}
-use Rattle.price_check.proofs.Exact.{no_pair}
+use Rattle.price_check.proofs.Within.{no_pair}
 use Rattle.price_check.proofs.Within.{used_more, room_used}
 use Rattle.price_check.proofs.places.unplaced_in.Goals as goal
 

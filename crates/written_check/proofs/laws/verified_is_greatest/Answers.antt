@@ -1,7 +1,7 @@
-use Rattle.written_check.proofs.VerifiedLemmas.{verified_by}
+use Rattle.written_check.proofs.RowFacts.{verified_rows}
 use Rattle.written_check.proofs.laws.verified_is_greatest.Goals as goal
 
 pub returns : goal.returns
 returns c = λ rares cells candidates a b texts links e.
-    let by = verified_by rares cells candidates a b texts links e in
-    record { rows = by.read.rows; greatest = c.certified_is_greatest.ensures candidates links by.prices.a by.prices.b by.one_to_one by.certified }
+    let h = verified_rows rares cells candidates a b texts links e in
+    record { rows = h.rows.of_links; greatest = c.certified_is_greatest.ensures candidates links h.prices_a h.prices_b h.one_to_one h.certified }

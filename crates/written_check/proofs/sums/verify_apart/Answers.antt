@@ -10,17 +10,19 @@ use Rattle.written_check.proofs.ApartLemmas.{apart_reused, pairs_rise, pairs_wit
 use Rattle.written_check.proofs.sums.verify_apart.Goals as goal
 
 pub first_reused-requires-clause-rising : goal.first_reused-requires-clause-rising
-first_reused-requires-clause-rising c = subst (λ (ps : List PairAt). AllPairs IsPairBefore ps) (sym c.requires.pairs) (pairs_rise c.args.links.now c.requires.rising)
+first_reused-requires-clause-rising c =
+    subst (λ (ps : List PairAt). AllPairs IsPairBefore ps) (sym (c.deref.ensures.value ∙ c.in_ok-pairs.ensures)) (pairs_rise c.args.links.now c.requires.rising)
 
 pub first_reused-requires-clause-in_range : goal.first_reused-requires-clause-in_range
-first_reused-requires-clause-in_range c = subst (λ (ps : List PairAt). All (IsPairWithin c.args.rows_b) ps) (sym c.requires.pairs) (pairs_within c.args.links.now c.args.rows_b c.requires.within)
+first_reused-requires-clause-in_range c =
+    subst (λ (ps : List PairAt). All (IsPairWithin c.args.rows_b) ps) (sym (c.deref.ensures.value ∙ c.in_ok-pairs.ensures)) (pairs_within c.args.links.now c.args.rows_b c.requires.within)
 
 pub returns-in-Some-clause-answer : goal.returns-in-Some-clause-answer
 returns-in-Some-clause-answer c =
-    apart_reused c.args.links.now c.in_ok-index.field-0 (subst (λ (ps : List PairAt). IsFirstReused ps c.in_ok-index.field-0) c.requires.pairs c.in_ok-index.ensures)
+    apart_reused c.args.links.now c.in_ok-index.field-0 (subst (λ (ps : List PairAt). IsFirstReused ps c.in_ok-index.field-0) (c.deref.ensures.value ∙ c.in_ok-pairs.ensures) c.in_ok-index.ensures)
     ∙ ap (λ o. unless_row refutation.Reused c.args.links.now (option_map (λ i. i + 1) o)) c.in-Some.is
 
-pub returns-in-None-clause-answer : goal.returns-in-None-clause-answer
-returns-in-None-clause-answer c =
-    apart_reused c.args.links.now c.in_ok-index.field-0 (subst (λ (ps : List PairAt). IsFirstReused ps c.in_ok-index.field-0) c.requires.pairs c.in_ok-index.ensures)
+pub returns-clause-answer : goal.returns-clause-answer
+returns-clause-answer c =
+    apart_reused c.args.links.now c.in_ok-index.field-0 (subst (λ (ps : List PairAt). IsFirstReused ps c.in_ok-index.field-0) (c.deref.ensures.value ∙ c.in_ok-pairs.ensures) c.in_ok-index.ensures)
     ∙ ap (λ o. unless_row refutation.Reused c.args.links.now (option_map (λ i. i + 1) o)) c.in-None.is

@@ -1,4 +1,4 @@
-use Rattle.std.proofs.Common.{Global, Vec, ◌∙◌, ◌<◌, List, ap, arith, length, subst, sym, ℕ}
+use Rattle.std.proofs.Common.{◌∙◌, ◌<◌, List, ap, arith, length, subst, sym, ℕ}
 use Rattle.std.specs.Prelude.{All, AllPairs}
 use Rattle.std.proofs.lemmas.List.Elements.{All-contains}
 use Rattle.price_check.specs.Assignment.{IsBefore, IsWithin}
@@ -6,8 +6,9 @@ use Rattle.link_base.specs.declared.rule.Candidate.{Candidate}
 use Rattle.written_check.specs.Certified.{AreTaken}
 use Rattle.link_base.proofs.AnswerFacts.{refuses-then}
 use Rattle.written_check.specs.Refuted.{is_want}
-use Rattle.written_check.proofs.StepLemmas.{after_apart, after_links, after_prices, after_rule, free, refuses_whole}
-use Rattle.written_check.proofs.VerifiedLemmas.{links_are, prices_are}
+use Rattle.written_check.proofs.StepLemmas.{after_apart, after_links, after_prices, after_rule, refuses_whole}
+use Rattle.written_check.proofs.VerifiedLemmas.{links_are}
+use Rattle.written_check.proofs.RowFacts.{prices_are}
 use Rattle.written_check.proofs.written.verify_written.Goals as goal
 
 -- links within the records of B
@@ -17,29 +18,29 @@ within_b rows_a rows_b cs links within taken k d lt = (All-contains (IsWithin ro
 pub verify_apart-requires-clause-few : goal.verify_apart-requires-clause-few
 verify_apart-requires-clause-few c =
     let links = links_are c.args.candidates.now c.args.a.now c.args.b.now c.bytes-2.result.now c.in-Ok-verify_links.links.items c.in-Ok-verify_links.ensures.answer in
-    omega (arith, links.few, ap (λ (l : List Candidate). length l) c.deref-2.ensures.value, ap (λ (t : List ℕ). length t) c.bytes-2.ensures, c.requires.links)
+    omega (arith, links.few, ap (λ (l : List Candidate). length l) c.deref.ensures.value, ap (λ (t : List ℕ). length t) c.bytes-2.ensures, c.requires.links)
 
 pub verify_apart-requires-clause-rising : goal.verify_apart-requires-clause-rising
 verify_apart-requires-clause-rising c =
     let links = links_are c.args.candidates.now c.args.a.now c.args.b.now c.bytes-2.result.now c.in-Ok-verify_links.links.items c.in-Ok-verify_links.ensures.answer in
-    subst (λ (l : List Candidate). AllPairs IsBefore l) (sym c.deref-2.ensures.value) links.taken.rising
+    subst (λ (l : List Candidate). AllPairs IsBefore l) (sym c.deref.ensures.value) links.taken.rising
 
 pub verify_apart-requires-clause-within : goal.verify_apart-requires-clause-within
 verify_apart-requires-clause-within c =
     let links = links_are c.args.candidates.now c.args.a.now c.args.b.now c.bytes-2.result.now c.in-Ok-verify_links.links.items c.in-Ok-verify_links.ensures.answer in
     let within = within_b (length c.args.a.now) (length c.args.b.now) c.args.candidates.now c.in-Ok-verify_links.links.items c.requires.within links.taken in
-    subst (λ (l : List Candidate). All (λ (x : Candidate). x.b < c.rows.result) l) (sym c.deref-2.ensures.value)
+    subst (λ (l : List Candidate). All (λ (x : Candidate). x.b < c.rows.result) l) (sym c.deref.ensures.value)
     (subst (λ n. All (λ (x : Candidate). x.b < n) c.in-Ok-verify_links.links.items) (sym c.rows.ensures) within)
 
 pub verify_sums-requires-clause-taken : goal.verify_sums-requires-clause-taken
 verify_sums-requires-clause-taken c =
     let links = links_are c.args.candidates.now c.args.a.now c.args.b.now c.bytes-2.result.now c.in-Ok-verify_links.links.items c.in-Ok-verify_links.ensures.answer in
-    subst (λ (l : List Candidate). AreTaken c.args.candidates.now l) (sym c.deref-4.ensures.value) links.taken
+    subst (λ (l : List Candidate). AreTaken c.args.candidates.now l) (sym c.deref-2.ensures.value) links.taken
 
 pub verify_sums-requires-clause-few : goal.verify_sums-requires-clause-few
 verify_sums-requires-clause-few c =
     let links = links_are c.args.candidates.now c.args.a.now c.args.b.now c.bytes-2.result.now c.in-Ok-verify_links.links.items c.in-Ok-verify_links.ensures.answer in
-    omega (arith, links.few, ap (λ (l : List Candidate). length l) c.deref-4.ensures.value, ap (λ (t : List ℕ). length t) c.bytes-2.ensures, c.requires.links)
+    omega (arith, links.few, ap (λ (l : List Candidate). length l) c.deref-2.ensures.value, ap (λ (t : List ℕ). length t) c.bytes-2.ensures, c.requires.links)
 
 pub verify_sums-requires-clause-rows_a : goal.verify_sums-requires-clause-rows_a
 verify_sums-requires-clause-rows_a c =
@@ -71,13 +72,13 @@ returns-in-Err-verify_apart-clause-answer c =
     let rule = rw c.bytes.ensures at c.in-Ok.ensures.answer in
     let links = rw c.bytes-2.ensures at c.in-Ok-verify_links.ensures.answer in
     refuses_whole _ _ c.in-Err-verify_apart.refutation (after_links _ _ _ _ _ _ _ _ rule links)
-    (refuses-then is_want _ _ c.in-Err-verify_apart.refutation (rw c.deref-2.ensures.value at c.in-Err-verify_apart.ensures.answer))
+    (refuses-then is_want _ _ c.in-Err-verify_apart.refutation (rw c.deref.ensures.value at c.in-Err-verify_apart.ensures.answer))
 
 pub returns-in-Err-verify_prices-clause-answer : goal.returns-in-Err-verify_prices-clause-answer
 returns-in-Err-verify_prices-clause-answer c =
     let rule = rw c.bytes.ensures at c.in-Ok.ensures.answer in
     let links = rw c.bytes-2.ensures at c.in-Ok-verify_links.ensures.answer in
-    let apart = rw c.deref-2.ensures.value at c.in-Ok-verify_apart.ensures.answer in
+    let apart = rw c.deref.ensures.value at c.in-Ok-verify_apart.ensures.answer in
     refuses_whole _ _ c.in-Err-verify_prices.refutation (after_apart _ _ _ _ _ _ _ _ _ rule links apart)
     (refuses-then is_want _ _ c.in-Err-verify_prices.refutation (rw c.bytes-3.ensures at c.in-Err-verify_prices.ensures.answer))
 
@@ -85,27 +86,24 @@ pub returns-in-Err-verify_sums-clause-answer : goal.returns-in-Err-verify_sums-c
 returns-in-Err-verify_sums-clause-answer c =
     let rule = rw c.bytes.ensures at c.in-Ok.ensures.answer in
     let links = rw c.bytes-2.ensures at c.in-Ok-verify_links.ensures.answer in
-    let apart = rw c.deref-2.ensures.value at c.in-Ok-verify_apart.ensures.answer in
+    let apart = rw c.deref.ensures.value at c.in-Ok-verify_apart.ensures.answer in
     let prices = rw c.bytes-3.ensures at c.in-Ok-verify_prices.ensures.answer in
     refuses_whole _ _ c.in-Err-verify_sums.refutation (after_prices _ _ _ _ _ _ _ _ _ _ rule links apart prices)
-    (rw c.deref-4.ensures.value at c.in-Err-verify_sums.ensures.answer)
+    (rw c.deref-2.ensures.value at c.in-Err-verify_sums.ensures.answer)
 
 pub returns-in-Ok-verify_sums-clause-answer : goal.returns-in-Ok-verify_sums-clause-answer
 returns-in-Ok-verify_sums-clause-answer c =
     let rule = rw c.bytes.ensures at c.in-Ok.ensures.answer in
     let links = rw c.bytes-2.ensures at c.in-Ok-verify_links.ensures.answer in
-    let apart = rw c.deref-2.ensures.value at c.in-Ok-verify_apart.ensures.answer in
+    let apart = rw c.deref.ensures.value at c.in-Ok-verify_apart.ensures.answer in
     let prices = rw c.bytes-3.ensures at c.in-Ok-verify_prices.ensures.answer in
-    after_prices _ _ _ _ _ _ _ _ _ _ rule links apart prices ∙ (rw c.deref-4.ensures.value at c.in-Ok-verify_sums.ensures.answer)
+    after_prices _ _ _ _ _ _ _ _ _ _ rule links apart prices ∙ (rw c.deref-2.ensures.value at c.in-Ok-verify_sums.ensures.answer)
 
 pub returns-in-Ok-verify_sums-clause-greatest : goal.returns-in-Ok-verify_sums-clause-greatest
 returns-in-Ok-verify_sums-clause-greatest c =
     let rule = rw c.bytes.ensures at c.in-Ok.ensures.answer in
     let links = rw c.bytes-2.ensures at c.in-Ok-verify_links.ensures.answer in
-    let apart = rw c.deref-2.ensures.value at c.in-Ok-verify_apart.ensures.answer in
+    let apart = rw c.deref.ensures.value at c.in-Ok-verify_apart.ensures.answer in
     let prices = rw c.bytes-3.ensures at c.in-Ok-verify_prices.ensures.answer in
-    let verified_so = after_prices _ _ _ _ _ _ _ _ _ _ rule links apart prices ∙ (rw c.deref-4.ensures.value at c.in-Ok-verify_sums.ensures.answer) in
+    let verified_so = after_prices _ _ _ _ _ _ _ _ _ _ rule links apart prices ∙ (rw c.deref-2.ensures.value at c.in-Ok-verify_sums.ensures.answer) in
     (c.verified_is_greatest.ensures _ _ _ _ _ _ c.in-Ok-verify_links.links.items verified_so).greatest
-
-pub returns-in_err-pairs-clause-answer : goal.returns-in_err-pairs-clause-answer
-returns-in_err-pairs-clause-answer c = free (λ (links : Vec Candidate Global). links.items) _ c.from_residual.result c.from_residual.ensures.1

@@ -3,7 +3,7 @@ use Rattle.std.proofs.lemmas.Int.{ints}
 use Rattle.price_check.specs.Assignment.{no_candidate}
 use Rattle.price_check.proofs.Order.{choose}
 use Rattle.price_check.proofs.Within.{within_links}
-use Rattle.price_check.proofs.capacity.capacity_verdict.Goals as goal
+use Rattle.price_check.proofs.capacity.verdict.Goals as goal
 
 pub first_unplaced-requires-clause-in_range : goal.first_unplaced-requires-clause-in_range
 first_unplaced-requires-clause-in_range c = λ k d lt.

@@ -1,11 +1,12 @@
 -- The rows of written files that are verified, and written files with such rows.
-use Rattle.std.proofs.Common.{◌≡◌, ◌<◌, ◌≤◌, ◌+ℤ◌, ◌+◌, ◌==◌, ◌∷◌, ◌++◌, ◌∙◌, ℕ, ℤ, pos, zero, suc, Bool, true, false, List, [], All, length, drop, get_or, if◌then◌else◌, map, Option, Some, None, Result, Ok, Err, refl, sym, ap, subst, arith}
-use Rattle.std.specs.Prelude.{◌&&◌, bytes_eq, codes, decimal, filter, nat_le, not, slice_set, zip}
+use Rattle.std.proofs.Common.{◌≡◌, ◌<◌, ◌≤◌, ◌≤ℤ◌, ◌+ℤ◌, ◌+◌, ◌==◌, ◌∷◌, ◌++◌, ◌∙◌, ℕ, ℤ, pos, zero, suc, Bool, true, false, List, [], All, length, drop, get_or, if◌then◌else◌, map, Option, Some, None, Result, Ok, Err, refl, sym, ap, subst, arith}
+use Rattle.std.specs.Prelude.{◌&&◌, ◌||◌, bytes_eq, codes, decimal, filter, nat_le, not, replicate, slice_set, zip}
 use Rattle.std.specs.Ordering.{int_eq}
 use Rattle.std.proofs.lemmas.Bool.{and_parts, eqb-true, leb-true}
 use Rattle.std.proofs.lemmas.Bool.Decides.{Decides-int_eq}
 use Rattle.std.proofs.lemmas.Int.{ints}
 use Rattle.std.proofs.lemmas.List.{append_assoc, append-nil, length-replicate, length-set}
+use Rattle.std.proofs.lemmas.List.Elements.{All-replicate, All-set}
 use Rattle.std.proofs.lemmas.List.Quantifiers.{position-Some}
 use Rattle.std.proofs.lemmas.Slice.Eq.{bytes_eq-Decides}
 use Rattle.csv_rows.specs.NumberLaws.{decimal_of_read}
@@ -16,27 +17,27 @@ use Rattle.link_base.specs.Standard.{id_at, no_record, position_of_id, Record}
 use Rattle.link_base.specs.declared.rule.Candidate.{Candidate}
 use Rattle.link_base.specs.declared.rule.RuleCell.{RuleCell}
 use Rattle.link_limits.specs.declared.TheConstants.{MOST_VALUE}
-use Rattle.link_report.specs.ReadingLaws.{row_same}
 use Rattle.link_report.specs.PricesText.{is_priced, price_fields, prices_header}
-use Rattle.link_report.specs.Reading.{first_misfit, rows_of_prices, rows_under, same_row, side_rows, unless_at}
+use Rattle.link_report.specs.Reading.{first_misfit, rows_of_prices, rows_under, side_rows}
 use Rattle.link_report.specs.RuleText.{cell_fields, rule_header}
-use Rattle.price_check.specs.Assignment.{Certifies, IsCovered, price_sum, worth}
+use Rattle.price_check.specs.Assignment.{IsCovered, price_sum, worth}
 use Rattle.price_check.specs.Law.{GreatestValueIsLeast, PricesAreBoundedByCandidates}
 use Rattle.written_check.proofs.ApartLemmas.{apart_none}
+use Rattle.written_check.proofs.FormLemmas.{same_rows}
 use Rattle.written_check.proofs.LinkLemmas.{all_fail}
 use Rattle.written_check.proofs.PriceLemmas.{none_of_none, price_within}
 use Rattle.written_check.proofs.SmallPrices.{small_a, small_b}
-use Rattle.written_check.proofs.SumLemmas.{all_covered, apart_links, covered_so, of_not}
-use Rattle.written_check.proofs.VerifiedLemmas.{came, links_are, ok_is, prices_are, rows_read}
+use Rattle.written_check.proofs.SumLemmas.{apart_links, covered_so, of_not, sums_ok}
+use Rattle.written_check.proofs.VerifiedLemmas.{came, links_are, ok_is, rows_read, under_fit}
 use Rattle.written_check.proofs.WrittenLemmas.{DecimalsRead, links_read, no_difference, prices_read}
 use Rattle.written_check.specs.Certified.{balanced, covered_then, first_uncovered, is_covered, sums_verified}
+use Rattle.written_check.specs.Laws.{HaveCertifiedRows, RowsAreVerified, VerifiedHaveRows}
 use Rattle.written_check.specs.LinkRows.{apart_verified, first_reused, links_in, links_verified}
-use Rattle.written_check.specs.PriceRows.{have_none, no_prices, price_in, priced_at, priced_more, PricePair, prices_in, prices_verified, row_priced, side_priced, with_a, with_b}
+use Rattle.written_check.specs.PriceRows.{ArePrices, have_none, no_prices, price_in, priced_at, priced_more, PricePair, prices_in, prices_verified, row_priced, side_priced, with_a, with_b}
 use Rattle.written_check.specs.Refuted.{refuted_by, rows_of_file, unless_row}
 use Rattle.written_check.specs.RuleRows.{first_difference, rule_verified}
 use Rattle.written_check.specs.declared.refutation.Refutation.{Refutation}
 use Rattle.written_check.specs.declared.refutation.Refutation.TheVariants as refutation
-use Rattle.link_shell.specs.Meaning.{HaveCertifiedRows, RowsAreVerified, VerifiedHaveRows}
 
 abbrev Row : Type 0
 Row = List (List ℕ)
@@ -45,18 +46,6 @@ abbrev okay : (T : Type 0) → T → Result T ℕ
 okay T x = Ok x
 
 -- ---- the rows of a rule
-
--- rows that do not differ are the same
-same_if : (number : ℕ) (row w : Row) (rows wanted : List Row) (t : Bool) → same_row row w ≡ t → (first_difference (number + 1) rows wanted ≡ None → rows ≡ wanted)
-    → (if t then first_difference (number + 1) rows wanted else Some number) ≡ None → row ∷ rows ≡ w ∷ wanted
-same_if number row w rows wanted true is go e = λ i. row_same row w is i ∷ go e i
-same_if number row w rows wanted false is go e = absurd (cc e)
-
-same_rows : (number : ℕ) (rows wanted : List Row) → first_difference number rows wanted ≡ None → rows ≡ wanted
-same_rows number [] [] e = refl
-same_rows number [] (w ∷ wanted) e = absurd (cc e)
-same_rows number (row ∷ rows) [] e = absurd (cc e)
-same_rows number (row ∷ rows) (w ∷ wanted) e = same_if number row w rows wanted (same_row row w) refl (same_rows (number + 1) rows wanted) e
 
 none_if : (text last : List ℕ) (o : Option ℕ) → unless_row refutation.Rule text o ≡ Ok last → o ≡ None
 none_if text last None e = refl
@@ -70,20 +59,6 @@ rule_rows rares cells text last e =
     rows ∙ ap (okay (List Row)) (same_rows 1 read.0 wanted (none_if text last (first_difference 1 read.0 wanted) read.2))
 
 -- ---- rows that are read are as wide as their header
-
-fit_if : (rest got : List Row) (o : Option ℕ) → unless_at rest o ≡ Ok got → (rest ≡ got) × (o ≡ None)
-fit_if rest got None e = (ok_is ℕ (List Row) rest got e, refl)
-fit_if rest got (Some n) e = absurd (cc e)
-
-fit_by : (header : Row) (rest got : List Row) (t : Bool) → (if t then unless_at rest (first_misfit (length header) 1 rest) else Err 0) ≡ Ok got → first_misfit (length header) 1 got ≡ None
-fit_by header rest got true e =
-    let fit = fit_if rest got (first_misfit (length header) 1 rest) e in
-    ap (first_misfit (length header) 1) (sym fit.0) ∙ fit.1
-fit_by header rest got false e = absurd (cc e)
-
-fit : (header : Row) (records got : List Row) → rows_under header records ≡ Ok got → first_misfit (length header) 1 got ≡ None
-fit header [] got e = absurd (cc e)
-fit header (first ∷ rest) got e = fit_by header rest got (same_row first header) e
 
 fits_if : (width number : ℕ) (row : Row) (rows : List Row) (t : Bool) → (length row == width) ≡ t → (if t then first_misfit width (number + 1) rows else Some number) ≡ None
     → (length row ≡ width) × (first_misfit width (number + 1) rows ≡ None)
@@ -156,6 +131,7 @@ module _ (side : List ℕ) where
 -- a row that is taken for a side is its last one
 record SideTold (side : List ℕ) (file : List Record) (row : Row) (before after : List ℤ) : Type 0 where
   long : length after ≡ length before
+  small : ArePrices before → ArePrices after
   rows : side_rows side after file ≡ side_rows side before file ++ (side ∷ get_or row 1 [] ∷ get_or row 2 [] ∷ []) ∷ []
 
 known_there : (file : List Record) (id : List ℕ) (at : ℕ) → position_of_id id file ≡ Some at → (at < length file) × (id_at file at ≡ id)
@@ -169,10 +145,11 @@ module _ (side : List ℕ) (file : List Record) (row : Row) (prices qs : List �
   side_if at n is_at is_price true none e =
       let there = known_there file (get_or row 1 []) at is_at in
       let text : decimal n ≡ get_or row 2 [] = price_text (get_or row 2 []) n is_price in
-      let put = put_told side prices file at n (price_within (get_or row 2 []) n (sym is_price)).0 (omega (arith, there.0, long)) long none in
+      let bounds = price_within (get_or row 2 []) n (sym is_price) in
+      let put = put_told side prices file at n bounds.0 (omega (arith, there.0, long)) long none in
       let id : id_at file at ≡ get_or row 1 [] = there.1 in
       subst (SideTold side file row prices) (list_is (slice_set prices at (pos n)) qs e)
-      (record { long = length-set prices at (pos n); rows = put ∙ (λ i. side_rows side prices file ++ (side ∷ id i ∷ text i ∷ []) ∷ []) })
+      (record { long = length-set prices at (pos n); small = All-set (λ p. (pos 0 ≤ℤ p) × (p ≤ℤ pos MOST_VALUE)) prices at (pos n) (omega (arith, ints), omega (arith, ints, bounds.1)); rows = put ∙ (λ i. side_rows side prices file ++ (side ∷ id i ∷ text i ∷ []) ∷ []) })
     where
       list_is : (x y : List ℤ) → Some x ≡ Some y → x ≡ y
       list_is x y e = cc e
@@ -188,11 +165,13 @@ module _ (side : List ℕ) (file : List Record) (row : Row) (prices qs : List �
 
 -- ---- the rows of all prices
 
--- a row that is taken is the last one
-record RowTold (a b : List Record) (row : Row) (before after : PricePair) : Type 0 where
+-- prices after rows: one for each record and within their bounds as before, and these rows are the last ones
+record Told (a b : List Record) (read : List Row) (before after : PricePair) : Type 0 where
   long_a : length after.a ≡ length before.a
   long_b : length after.b ≡ length before.b
-  rows : rows_of_prices after.a after.b a b ≡ rows_of_prices before.a before.b a b ++ row ∷ []
+  small_a : ArePrices before.a → ArePrices after.a
+  small_b : ArePrices before.b → ArePrices after.b
+  rows : rows_of_prices after.a after.b a b ≡ rows_of_prices before.a before.b a b ++ read
 
 before_none : (xs ys none : List Row) (row : Row) → none ≡ [] → ys ≡ xs ++ row ∷ [] → ys ++ none ≡ (xs ++ none) ++ row ∷ []
 before_none xs ys none row is e =
@@ -205,49 +184,55 @@ pair_is : (x y : PricePair) → Some x ≡ Some y → x ≡ y
 pair_is x y e = cc e
 
 module _ (a b : List Record) (row : Row) (s more : PricePair) (wide : length row ≡ 3) (long_a : length s.a ≡ length a) (long_b : length s.b ≡ length b) where
-  a_told : (o : Option (List ℤ)) → side_priced a row s.a ≡ o → get_or row 0 [] ≡ codes "A" → have_none s.b ≡ true → with_a s o ≡ Some more → RowTold a b row s more
+  a_told : (o : Option (List ℤ)) → side_priced a row s.a ≡ o → get_or row 0 [] ≡ codes "A" → have_none s.b ≡ true → with_a s o ≡ Some more → Told a b (row ∷ []) s more
   a_told None is side none e = absurd (cc e)
   a_told (Some qs) is side none e =
       let one = side_told (codes "A") a row s.a qs long_a is in
       let last : side_rows (codes "A") qs a ≡ side_rows (codes "A") s.a a ++ row ∷ [] =
       one.rows ∙ ap (λ (r : Row). side_rows (codes "A") s.a a ++ r ∷ []) (whole_row (codes "A") row wide side) in
-      subst (RowTold a b row s) (pair_is (record { a = qs; b = s.b }) more e)
-      (record { long_a = one.long; long_b = refl; rows = before_none (side_rows (codes "A") s.a a) (side_rows (codes "A") qs a) (side_rows (codes "B") s.b b) row (none_told (codes "B") s.b b none) last })
+      subst (Told a b (row ∷ []) s) (pair_is (record { a = qs; b = s.b }) more e)
+      (record { long_a = one.long; long_b = refl; small_a = one.small; small_b = λ h. h; rows = before_none (side_rows (codes "A") s.a a) (side_rows (codes "A") qs a) (side_rows (codes "B") s.b b) row (none_told (codes "B") s.b b none) last })
 
-  b_told : (o : Option (List ℤ)) → side_priced b row s.b ≡ o → get_or row 0 [] ≡ codes "B" → with_b s o ≡ Some more → RowTold a b row s more
+  b_told : (o : Option (List ℤ)) → side_priced b row s.b ≡ o → get_or row 0 [] ≡ codes "B" → with_b s o ≡ Some more → Told a b (row ∷ []) s more
   b_told None is side e = absurd (cc e)
   b_told (Some qs) is side e =
       let one = side_told (codes "B") b row s.b qs long_b is in
       let of_a = side_rows (codes "A") s.a a in
       let last : side_rows (codes "B") qs b ≡ side_rows (codes "B") s.b b ++ row ∷ [] =
       one.rows ∙ ap (λ (r : Row). side_rows (codes "B") s.b b ++ r ∷ []) (whole_row (codes "B") row wide side) in
-      subst (RowTold a b row s) (pair_is (record { a = s.a; b = qs }) more e)
-      (record { long_a = refl; long_b = one.long; rows = ap (λ (rows : List Row). of_a ++ rows) last ∙ sym (append_assoc of_a (side_rows (codes "B") s.b b) (row ∷ [])) })
+      subst (Told a b (row ∷ []) s) (pair_is (record { a = s.a; b = qs }) more e)
+      (record { long_a = refl; long_b = one.long; small_a = λ h. h; small_b = one.small; rows = ap (λ (rows : List Row). of_a ++ rows) last ∙ sym (append_assoc of_a (side_rows (codes "B") s.b b) (row ∷ [])) })
 
   choice_told : (in_a none in_b : Bool) → bytes_eq (get_or row 0 []) (codes "A") ≡ in_a → have_none s.b ≡ none → bytes_eq (get_or row 0 []) (codes "B") ≡ in_b
-      → (if in_a then (if none then with_a s (side_priced a row s.a) else None) else if in_b then with_b s (side_priced b row s.b) else None) ≡ Some more → RowTold a b row s more
+      → (if in_a then (if none then with_a s (side_priced a row s.a) else None) else if in_b then with_b s (side_priced b row s.b) else None) ≡ Some more → Told a b (row ∷ []) s more
   choice_told true true in_b is_a is_none is_b e = a_told (side_priced a row s.a) refl ((bytes_eq-Decides (get_or row 0 []) (codes "A")).0 is_a) is_none e
   choice_told true false in_b is_a is_none is_b e = absurd (cc e)
   choice_told false none true is_a is_none is_b e = b_told (side_priced b row s.b) refl ((bytes_eq-Decides (get_or row 0 []) (codes "B")).0 is_b) e
   choice_told false none false is_a is_none is_b e = absurd (cc e)
 
-  row_told : row_priced a b row s ≡ Some more → RowTold a b row s more
+  row_told : row_priced a b row s ≡ Some more → Told a b (row ∷ []) s more
   row_told e = choice_told (bytes_eq (get_or row 0 []) (codes "A")) (have_none s.b) (bytes_eq (get_or row 0 []) (codes "B")) refl refl refl e
 
 module _ (a b : List Record) where
-  step_told : (number : ℕ) (s last : PricePair) (row : Row) (rows : List Row) (o : Option PricePair) → ((more : PricePair) → o ≡ Some more → RowTold a b row s more)
-      → ((more : PricePair) → RowTold a b row s more → prices_in a b (number + 1) more rows ≡ Ok last → rows_of_prices last.a last.b a b ≡ rows_of_prices more.a more.b a b ++ rows)
-      → priced_more (λ more. prices_in a b (number + 1) more rows) number o ≡ Ok last → rows_of_prices last.a last.b a b ≡ rows_of_prices s.a s.b a b ++ row ∷ rows
+  step_told : (number : ℕ) (s last : PricePair) (row : Row) (rows : List Row) (o : Option PricePair) → ((more : PricePair) → o ≡ Some more → Told a b (row ∷ []) s more)
+      → ((more : PricePair) → Told a b (row ∷ []) s more → prices_in a b (number + 1) more rows ≡ Ok last → Told a b rows more last)
+      → priced_more (λ more. prices_in a b (number + 1) more rows) number o ≡ Ok last → Told a b (row ∷ rows) s last
   step_told number s last row rows None h go e = absurd (cc e)
   step_told number s last row rows (Some more) h go e =
       let one = h more refl in
-      go more one e ∙ ap (λ (z : List Row). z ++ rows) one.rows ∙ append_assoc (rows_of_prices s.a s.b a b) (row ∷ []) rows
+      let rest = go more one e in
+      record {
+        long_a = rest.long_a ∙ one.long_a;
+        long_b = rest.long_b ∙ one.long_b;
+        small_a = λ small. rest.small_a (one.small_a small);
+        small_b = λ small. rest.small_b (one.small_b small);
+        rows = rest.rows ∙ ap (λ (z : List Row). z ++ rows) one.rows ∙ append_assoc (rows_of_prices s.a s.b a b) (row ∷ []) rows;
+      }
 
-  -- the rows of the prices that rows come to, after those so far
-  all_told : (number : ℕ) (s last : PricePair) (rows : List Row) → length s.a ≡ length a → length s.b ≡ length b → first_misfit 3 number rows ≡ None → prices_in a b number s rows ≡ Ok last
-      → rows_of_prices last.a last.b a b ≡ rows_of_prices s.a s.b a b ++ rows
+  -- what rows come to, after those so far
+  all_told : (number : ℕ) (s last : PricePair) (rows : List Row) → length s.a ≡ length a → length s.b ≡ length b → first_misfit 3 number rows ≡ None → prices_in a b number s rows ≡ Ok last → Told a b rows s last
   all_told number s last [] long_a long_b fits e =
-      ap (λ (p : PricePair). rows_of_prices p.a p.b a b) (sym (ok_is Refutation PricePair s last e)) ∙ sym (append-nil (rows_of_prices s.a s.b a b))
+      subst (Told a b [] s) (ok_is Refutation PricePair s last e) (record { long_a = refl; long_b = refl; small_a = λ h. h; small_b = λ h. h; rows = sym (append-nil (rows_of_prices s.a s.b a b)) })
   all_told number s last (row ∷ rows) long_a long_b fits e =
       let wide = fits_if 3 number row rows (length row == 3) refl fits in
       step_told number s last row rows (row_priced a b row s) (λ more is. row_told a b row s more wide.0 long_a long_b is)
@@ -258,12 +243,29 @@ module _ (a b : List Record) where
       ap (λ (z : List Row). z ++ side_rows (codes "B") (no_prices a b).b b) (none_told (codes "A") (no_prices a b).a a (none_of_none (length a)))
       ∙ none_told (codes "B") (no_prices a b).b b (none_of_none (length b))
 
-  price_rows : (text : List ℕ) (prices : PricePair) → prices_verified a b text ≡ Ok prices → rows_under prices_header (records_in 44 text) ≡ Ok (rows_of_prices prices.a prices.b a b)
-  price_rows text prices e =
-      let read = came (rows_of_file refutation.Price prices_header text) (λ rows. prices_in a b 1 (no_prices a b) rows) prices e in
-      let rows : rows_under prices_header (records_in 44 text) ≡ Ok read.0 = rows_read (List Row) refutation.Price (rows_under prices_header (records_in 44 text)) read.0 read.1 in
-      let all = all_told 1 (no_prices a b) prices read.0 (length-replicate (length a) (pos 0)) (length-replicate (length b) (pos 0)) (fit prices_header (records_in 44 text) read.0 rows) read.2 in
-      rows ∙ ap (okay (List Row)) (sym (all ∙ ap (λ (z : List Row). z ++ read.0) no_rows))
+-- prices that are read are one for each record, at least 0 and at most the greatest that is allowed, and their rows are those of the text
+pub record PricesVerified (a b : List Record) (text : List ℕ) (prices : PricePair) : Type 0 where
+  pub rows_a : length prices.a ≡ length a
+  pub rows_b : length prices.b ≡ length b
+  pub small_a : ArePrices prices.a
+  pub small_b : ArePrices prices.b
+  pub rows : rows_under prices_header (records_in 44 text) ≡ Ok (rows_of_prices prices.a prices.b a b)
+
+zero_prices : (n : ℕ) → ArePrices (replicate n (pos 0))
+zero_prices n = All-replicate (λ p. (pos 0 ≤ℤ p) × (p ≤ℤ pos MOST_VALUE)) n (pos 0) (omega (arith, ints), omega (arith, ints))
+
+pub prices_are : (a b : List Record) (text : List ℕ) (prices : PricePair) → prices_verified a b text ≡ Ok prices → PricesVerified a b text prices
+prices_are a b text prices e =
+    let read = came (rows_of_file refutation.Price prices_header text) (λ rows. prices_in a b 1 (no_prices a b) rows) prices e in
+    let rows : rows_under prices_header (records_in 44 text) ≡ Ok read.0 = rows_read (List Row) refutation.Price (rows_under prices_header (records_in 44 text)) read.0 read.1 in
+    let all = all_told a b 1 (no_prices a b) prices read.0 (length-replicate (length a) (pos 0)) (length-replicate (length b) (pos 0)) (under_fit prices_header (records_in 44 text) read.0 rows) read.2 in
+    record {
+      rows_a = all.long_a ∙ length-replicate (length a) (pos 0);
+      rows_b = all.long_b ∙ length-replicate (length b) (pos 0);
+      small_a = all.small_a (zero_prices (length a));
+      small_b = all.small_b (zero_prices (length b));
+      rows = rows ∙ ap (okay (List Row)) (sym (all.rows ∙ ap (λ (z : List Row). z ++ read.0) (no_rows a b)));
+    }
 
 -- ---- the sums
 
@@ -305,7 +307,7 @@ verified_rows = λ rares cells cs a b texts last e.
     (record {
       prices_a = prices.a;
       prices_b = prices.b;
-      rows = record { of_rule = rule_rows rares cells texts.rule of_rule.0 of_rule.1; of_links = read.rows; of_prices = price_rows a b texts.prices prices of_prices.1 };
+      rows = record { of_rule = rule_rows rares cells texts.rule of_rule.0 of_rule.1; of_links = read.rows; of_prices = priced.rows };
       one_to_one = record { among = read.taken.among; rising = read.taken.rising; apart = apart_links links (apart_if links of_apart.0 (first_reused [] links) of_apart.1) };
       certified = record {
         floor_a = λ k d lt. (priced.small_a k d lt).0;
@@ -316,12 +318,6 @@ verified_rows = λ rares cells cs a b texts last e.
       priced_a = priced.rows_a;
       priced_b = priced.rows_b;
     })
-
-sums_ok : (cs links : List Candidate) (prices : PricePair) → Certifies cs links prices.a prices.b → sums_verified cs links prices ≡ Ok links
-sums_ok cs links prices certified =
-    let sum : ℤ = price_sum prices.a +ℤ price_sum prices.b in
-    ap (λ o. covered_then o (balanced links (worth links) sum)) (all_covered cs prices certified.covered)
-    ∙ ap (λ (t : Bool). if t then Ok links else Err (refutation.Sum (worth links) sum)) ((Decides-int_eq (worth links) sum).1 (sym certified.balanced))
 
 pub rows_verified : DecimalsRead → PricesAreBoundedByCandidates → GreatestValueIsLeast → RowsAreVerified
 rows_verified decimals bounded least = λ rares cells cs a b texts links are h.
@@ -344,4 +340,4 @@ rows_verified decimals bounded least = λ rares cells cs a b texts links are h.
     ∙ ap (λ r. and_then r (λ ls. and_then (apart_verified ls) (λ _. and_then (prices_verified a b texts.prices) (λ p. sums_verified cs ls p)))) of_links
     ∙ ap (λ r. and_then r (λ _. and_then (prices_verified a b texts.prices) (λ p. sums_verified cs links p))) of_apart
     ∙ ap (λ r. and_then r (λ p. sums_verified cs links p)) of_prices
-    ∙ sums_ok cs links prices h.certified
+    ∙ sums_ok cs links prices h.certified.covered (sym h.certified.balanced)

@@ -1,6 +1,6 @@
 use Rattle.written_check.proofs.WrittenLemmas.{DecimalsRead}
-use Rattle.link_shell.proofs.RowFacts.{rows_verified, verified_rows}
-use Rattle.link_shell.proofs.meaning.verified_means.Goals as goal
+use Rattle.written_check.proofs.RowFacts.{rows_verified, verified_rows}
+use Rattle.written_check.proofs.laws.verified_means.Goals as goal
 
 pub returns-clause-rows : goal.returns-clause-rows
 returns-clause-rows c = verified_rows
