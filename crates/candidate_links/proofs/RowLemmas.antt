@@ -5,7 +5,7 @@ use Rattle.link_base.specs.Answers.{and_then}
 use Rattle.link_base.specs.Fault.{Refuses}
 use Rattle.link_base.specs.Standard.{Record, position_of_id}
 use Rattle.link_base.specs.declared.fault.Fault.{Fault}
-use Rattle.link_base.proofs.AnswerFacts.{refuses_then}
+use Rattle.link_base.specs.AnswerLaws.{refuses_then}
 use Rattle.link_limits.specs.declared.TheConstants.{MOST_CAPACITY}
 use Rattle.file_reader.specs.Known.{or_fault}
 use Rattle.file_reader.specs.Rows.{TableRow, no_row}

@@ -1,4 +1,3 @@
-pub mod AnswerFacts
 pub mod CellFacts
 pub mod IdFacts
 pub mod RecordFacts

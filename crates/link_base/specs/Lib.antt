@@ -1,4 +1,5 @@
 pub mod Answers
+pub mod AnswerLaws
 pub mod Canons
 pub mod Fault
 pub mod Ids

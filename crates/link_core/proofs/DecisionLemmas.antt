@@ -2,7 +2,7 @@
 use Rattle.std.proofs.Common.{◌≡◌, ◌∙◌, Bool, true, List, length, Result, Ok, Err, ap, subst, sym}
 use Rattle.std.specs.Prelude.{All, IfOk}
 use Rattle.comparators.specs.declared.ids.IdValue.{IdValue}
-use Rattle.link_base.proofs.AnswerFacts.{refuses_then}
+use Rattle.link_base.specs.AnswerLaws.{refuses_then}
 use Rattle.link_base.specs.Answers.{and_then}
 use Rattle.link_base.specs.Fault.{Gives}
 use Rattle.link_base.specs.declared.fault.Fault.{Fault}

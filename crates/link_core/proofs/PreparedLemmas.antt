@@ -4,7 +4,7 @@ use Rattle.link_base.specs.Answers.{and_then}
 use Rattle.link_base.specs.Fault.{Gives, Refuses}
 use Rattle.link_base.specs.Standard.{Record}
 use Rattle.link_base.specs.declared.fault.Fault.{Fault}
-use Rattle.link_base.proofs.AnswerFacts.{refuses_then}
+use Rattle.link_base.specs.AnswerLaws.{refuses_then}
 use Rattle.standard_files.specs.Sides.{pooled_values, PooledView}
 use Rattle.standard_files.specs.Texts.{pooled_texts}
 use Rattle.value_pool.specs.declared.pool.PoolFault.{PoolFault}

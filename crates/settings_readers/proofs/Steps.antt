@@ -7,7 +7,7 @@ use Rattle.std.proofs.lemmas.List.{drop_more}
 use Rattle.toml.specs.Data.{Data, as_array}
 use Rattle.toml.specs.View.{items_view, view}
 use Rattle.toml.specs.declared.value.Value.{Value}
-use Rattle.link_base.proofs.AnswerFacts.{refuses_then}
+use Rattle.link_base.specs.AnswerLaws.{refuses_then}
 use Rattle.link_base.specs.Answers.{RefusesBut}
 use Rattle.link_base.specs.Fault.{Gives, IsAnswer, is_want}
 use Rattle.link_base.specs.declared.fault.Fault.{Fault}

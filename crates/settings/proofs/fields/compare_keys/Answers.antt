@@ -1,5 +1,5 @@
 use Rattle.std.proofs.Common.{refl}
-use Rattle.link_base.proofs.AnswerFacts.{refuses_then}
+use Rattle.link_base.specs.AnswerLaws.{refuses_then}
 use Rattle.settings.specs.Field.{compare_keys}
 use Rattle.settings.proofs.Chains.{then_given, then_refused}
 use Rattle.settings.proofs.NamedSteps.{by_comparison, no_comparison}

@@ -1,7 +1,7 @@
 use Rattle.std.proofs.Common.{refl}
 use Rattle.std.specs.Prelude.{is_some}
 use Rattle.toml.specs.View.{table_view}
-use Rattle.link_base.proofs.AnswerFacts.{refuses_then}
+use Rattle.link_base.specs.AnswerLaws.{refuses_then}
 use Rattle.settings.specs.Field.{compare_keys, field, field_shares}
 use Rattle.settings.specs.PlanParts.{measure_keys}
 use Rattle.settings.proofs.Chains.{both_given, both_refused, handed_on, then_given, then_refused}

@@ -1,6 +1,6 @@
 use Rattle.std.proofs.Common.{◌∙◌, Bool, ap, refl, sym}
 use Rattle.toml.specs.View.{table_view}
-use Rattle.link_base.proofs.AnswerFacts.{refuses_then}
+use Rattle.link_base.specs.AnswerLaws.{refuses_then}
 use Rattle.settings.specs.Field.{field_shares}
 use Rattle.settings.specs.PlanParts.{measure_keys}
 use Rattle.settings.proofs.Chains.{refused_same, then_given, then_refused}

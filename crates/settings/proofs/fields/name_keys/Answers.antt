@@ -1,6 +1,6 @@
 use Rattle.std.proofs.Common.{◌∙◌, ap, codes, refl, sym}
 use Rattle.toml.specs.View.{table_view}
-use Rattle.link_base.proofs.AnswerFacts.{refuses_then}
+use Rattle.link_base.specs.AnswerLaws.{refuses_then}
 use Rattle.settings_readers.specs.Parts.{defaulted_both}
 use Rattle.settings.specs.Field.{name_keys}
 use Rattle.settings.specs.Values.{text}

@@ -1,4 +1,4 @@
-use Rattle.link_base.proofs.AnswerFacts.{refuses_then}
+use Rattle.link_base.specs.AnswerLaws.{refuses_then}
 use Rattle.settings.specs.Pass.{part}
 use Rattle.settings.proofs.Chains.{handed_on, then_given, then_refused}
 use Rattle.settings.proofs.NamedSteps.{by_key, no_key}

@@ -1,5 +1,5 @@
 use Rattle.std.proofs.Common.{◌∙◌, sym}
-use Rattle.link_base.proofs.AnswerFacts.{refuses_then}
+use Rattle.link_base.specs.AnswerLaws.{refuses_then}
 use Rattle.settings_readers.proofs.Steps.{refused_as}
 use Rattle.settings.specs.Settings.{journal_of}
 use Rattle.settings.proofs.Chains.{handed_on, inside, outside, then_given}

@@ -1,6 +1,6 @@
 use Rattle.std.proofs.Common.{codes, false, refl}
 use Rattle.toml.specs.View.{table_view}
-use Rattle.link_base.proofs.AnswerFacts.{refuses_then}
+use Rattle.link_base.specs.AnswerLaws.{refuses_then}
 use Rattle.link_limits.specs.declared.TheConstants.{PER_MILLION}
 use Rattle.settings_readers.specs.Values.{truth, whole}
 use Rattle.settings.specs.Settings.{numbers}

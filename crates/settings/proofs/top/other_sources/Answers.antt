@@ -1,6 +1,6 @@
 use Rattle.std.proofs.Common.{codes, refl}
 use Rattle.toml.specs.View.{table_view}
-use Rattle.link_base.proofs.AnswerFacts.{refuses_then}
+use Rattle.link_base.specs.AnswerLaws.{refuses_then}
 use Rattle.settings_readers.specs.Values.{choice}
 use Rattle.settings.specs.PlanParts.{other_sources}
 use Rattle.settings.specs.Words.{delimiter_named}

@@ -1,6 +1,6 @@
 use Rattle.std.proofs.Common.{◌∙◌, Bool, Ok, ap, sym}
 use Rattle.toml.specs.View.{table_view}
-use Rattle.link_base.proofs.AnswerFacts.{refuses_then}
+use Rattle.link_base.specs.AnswerLaws.{refuses_then}
 use Rattle.settings.specs.PlanParts.{link_keys, plan_in_parts}
 use Rattle.settings.proofs.Chains.{handed_on, refused_same, then_given, then_refused}
 use Rattle.settings.proofs.top.plan_of.Goals as goal

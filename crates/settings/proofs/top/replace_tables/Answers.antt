@@ -1,5 +1,5 @@
 use Rattle.std.proofs.Common.{refl}
-use Rattle.link_base.proofs.AnswerFacts.{refuses_then}
+use Rattle.link_base.specs.AnswerLaws.{refuses_then}
 use Rattle.settings.specs.PlanParts.{tables_over}
 use Rattle.settings.proofs.Chains.{handed_on, last_gives, then_gives, then_refused}
 use Rattle.settings.proofs.top.replace_tables.Goals as goal

@@ -1,5 +1,5 @@
 use Rattle.std.proofs.Common.{refl}
-use Rattle.link_base.proofs.AnswerFacts.{refuses_then}
+use Rattle.link_base.specs.AnswerLaws.{refuses_then}
 use Rattle.settings.specs.PlanParts.{sources_in_parts}
 use Rattle.settings.proofs.Chains.{then_given, then_refused}
 use Rattle.settings.proofs.top.sources.Goals as goal

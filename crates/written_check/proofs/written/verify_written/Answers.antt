@@ -4,7 +4,7 @@ use Rattle.std.proofs.lemmas.List.Elements.{All-contains}
 use Rattle.price_check.specs.Assignment.{IsBefore, IsWithin}
 use Rattle.link_base.specs.declared.rule.Candidate.{Candidate}
 use Rattle.written_check.specs.Certified.{AreTaken}
-use Rattle.link_base.proofs.AnswerFacts.{refuses-then}
+use Rattle.link_base.specs.AnswerLaws.{refuses-then}
 use Rattle.written_check.specs.Refuted.{is_want}
 use Rattle.written_check.proofs.StepLemmas.{after_apart, after_links, after_prices, after_rule, refuses_whole}
 use Rattle.written_check.proofs.VerifiedLemmas.{links_are}

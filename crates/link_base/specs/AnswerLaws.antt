@@ -1,4 +1,5 @@
--- Steps that were refused.
+-- Laws of steps that may be refused: where the first is, all are, by the same fault. They are said over all results, which no clause of a
+-- call can range over, so they stand beside the definitions, and the proofs of every crate cite them.
 use Rattle.std.proofs.Common.{◌≡◌, Bool, true, false, Result, Err, ap}
 use Rattle.std.specs.Prelude.{MatchBool, ⊤}
 use Rattle.link_base.specs.Answers.{and_then, RefusesBut}
