@@ -37,6 +37,7 @@ pub fn read_decimal(text: &[u8], most: u32) -> Option<u32>
 }
 
 /// Law: the decimal digits of a number are read as this number.
+#[tactic(auto, using(crate::specs::NumberLaws::decimal_is_decimal, crate::specs::NumberLaws::number_in_decimal))]
 pub fn decimals_are_read()
     ensures digits { (n : ℕ) → n < 2 ^ 64 → is_decimal (decimal n) ≡ true }
     ensures value { (n : ℕ) → n < 2 ^ 64 → number_in (decimal n) ≡ n }

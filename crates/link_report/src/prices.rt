@@ -10,6 +10,7 @@ use link_base::{NoMemory, StdFile, Text};
 use std::alloc::Global;
 
 // Appends a row of a side, an id and digits.
+#[tactic(auto, using(crate::proofs::PlainLemmas::priced_written))]
 fn push_priced(text: &mut Vec<u8>, side: &[u8], id: &[u8], digits: &[u8]) -> Result<(), NoMemory>
     requires side { needs_quotes default_writer side.now ≡ false }
     requires digits { needs_quotes default_writer digits.now ≡ false }
