@@ -92,11 +92,10 @@ def command(crate: str, functions: list[str], libraries: Path) -> list[str]:
     """The words that check these functions of a crate, over the built libraries of the checkout `libraries`."""
     uses, home = crates(), kit()
     rlib = {it: libraries / f"crates/{it}/out/rlib/{it}.rlib" for it in below(crate, uses)}
-    for path in rlib.values():
-        if not path.is_dir():
-            raise CannotRun(f"{path} is not built: rt ci")
-        if is_older(path):
-            raise CannotRun(f"{path} is older than the text of its crate: rm -r crates/*/out/rlib, and rt ci")
+    for name, path in rlib.items():
+        if not path.is_dir() or is_older(path):
+            what = "is older than the text of its crate" if path.is_dir() else "is not built"
+            raise CannotRun(f"{path} {what}: (cd crates/{name} && rt lib); all of them are built by rm -rf crates/*/out/rlib, and rt ci")
     words = [f"{home}/bin/rattle", "check", "--crate-name", crate, "src/lib.rt"]
     for name in ["std", *(it for it in uses[crate] if it not in uses)]:
         words += ["--extern", f"{name}={home}/rlibs/{name}.rlib"]

@@ -6,6 +6,7 @@ import shutil
 import subprocess
 import sys
 import tempfile
+from collections import Counter
 from dataclasses import dataclass, field
 from pathlib import Path
 
@@ -85,12 +86,14 @@ def agrees(shown: list[str], given: list[str]) -> bool:
 
 
 class Runner:
-    """Runs the examples of the pages, each page's in folders of its own below `top`."""
+    """Runs the examples of the pages, each page's in folders of its own below `top`. Without a program only those are tried that look at
+    the sources: what runs at the top of the repository, and what must stand in a file of it; the others are counted by their page."""
 
-    def __init__(self, tally: Tally, program: Path, top: Path):
+    def __init__(self, tally: Tally, program: Path | None, top: Path):
         (top / "bin").mkdir()
-        (top / "bin" / "linkage").symlink_to(program)
-        self.tally, self.top, self.folder = tally, top, top
+        if program:
+            (top / "bin" / "linkage").symlink_to(program)
+        self.tally, self.program, self.top, self.folder, self.left_out = tally, program, top, top, Counter()
         self.environment = dict(os.environ, LC_ALL="C.UTF-8", HOME=str(top), PATH=f"{top / 'bin'}:{ROOT / 'tools'}:{os.environ['PATH']}")
 
     def fresh(self, source: str) -> None:
@@ -108,6 +111,12 @@ class Runner:
             return ["(it had not ended after two minutes)"]
         return done.stdout.decode("utf-8", "replace").splitlines()
 
+    def leaves_out(self, place: str) -> bool:
+        """Whether an example, whose place begins with its page, is left out since it needs the program."""
+        lacks = self.program is None and self.folder != ROOT
+        self.left_out[place.partition(":")[0]] += lacks
+        return lacks
+
     def judge(self, part: str, given: list[str], shown: list[str]) -> None:
         """Passes an example that prints what stands below it."""
         if not self.tally.wants(part):
@@ -122,7 +131,7 @@ class Runner:
             name = command.split()[0]
             if name in MAY_LACK and not shutil.which(name):
                 print(f"left out: {block.place}: {command} (there is no {name})")
-            else:
+            elif not self.leaves_out(block.place):
                 self.judge(f"{block.place} $ {command}", self.run(command), shown)
 
     def held(self, name: str) -> list[str]:
@@ -134,6 +143,8 @@ class Runner:
         word, rest = (note.word, note.rest) if note else ("", "")
         if word == "write":
             (self.folder / rest).write_text(block.text(), encoding="utf-8")
+        elif word in ("holds", "certifies") and self.leaves_out(block.place):
+            return
         elif word == "holds":
             self.judge(f"{block.place} {rest}", self.held(rest), block.lines)
         elif word == "is":
@@ -168,14 +179,16 @@ class Runner:
 
     def draws(self, name: str, command: str) -> None:
         """Draws a picture by a command in the folder; it must be that of docs/pictures, byte for byte."""
-        self.judge(f"docs/pictures/{name} $ {command}", self.run(command), read(f"docs/pictures/{name}").splitlines())
+        if not self.leaves_out("docs/pictures"):
+            self.judge(f"docs/pictures/{name} $ {command}", self.run(command), read(f"docs/pictures/{name}").splitlines())
 
     def provoked(self, rows: list[list[str]]) -> list[str]:
         """Runs each example of a fault on a fresh copy of the worked example, and gives the lines that were provoked."""
         lines = []
         for cells in rows:
             change, command, line = (cell.strip("`").replace("\\|", "|") if cell.startswith("`") else "" for cell in cells)
-            self.fresh(str(EXAMPLE.relative_to(ROOT)))
-            self.judge(f"docs/FAULTS.md {change or 'no change'}; {command}", self.run(f"{change}\n{command}"), [f"linkage: {line}"])
             lines.append(line)
+            self.fresh(str(EXAMPLE.relative_to(ROOT)))
+            if not self.leaves_out("docs/FAULTS.md"):
+                self.judge(f"docs/FAULTS.md {change or 'no change'}; {command}", self.run(f"{change}\n{command}"), [f"linkage: {line}"])
         return lines

@@ -8,7 +8,7 @@ from functools import lru_cache
 
 from settings import DELIMITERS, Keys
 from tables import load, refuse_if, table
-from values import Value, date_value, form_of, name_value
+from values import Value, canon_of, date_value, name_value
 
 MOST_PAIRS = 2_000_000
 AGREE, DISAGREE, MISSING, RARE = range(4)
@@ -79,7 +79,7 @@ def joined(keys_a: list[list[Hashable]], keys_b: list[list[Hashable]]) -> list[P
 def compared(plan: Keys, a: People, b: People) -> list[Pair]:
     """The pairs that share a key in some pass of a plan; a key is present where all its parts are."""
     at = {field["name"]: place for place, field in enumerate(plan["field"])}
-    parts = lambda row, one: tuple(form_of(it["key"], row[at[it["field"]]], it["n"]) for it in one)
+    parts = lambda row, one: tuple(canon_of(it["key"], row[at[it["field"]]], it["n"]) for it in one)
     keys = lambda row: [None if None in it else it for it in (parts(row, one) for one in plan["pass"])]
     return joined(list(map(keys, a.rows)), list(map(keys, b.rows)))
 
@@ -88,7 +88,7 @@ def compared(plan: Keys, a: People, b: People) -> list[Pair]:
 def comparison(plan: Keys, a: People, b: People) -> Callable[[int, int], tuple[int, ...]]:
     """What gives the outcomes of two records. A value is rare where at most as many records of both files as the rare number have it."""
     fields = plan["field"]
-    sides = [[[form_of(it["compare"], value, it["n"]) for it, value in zip(fields, row)] for row in file.rows] for file in (a, b)]
+    sides = [[[canon_of(it["compare"], value, it["n"]) for it, value in zip(fields, row)] for row in file.rows] for file in (a, b)]
     counts = [Counter(row[at] for rows in sides for row in rows) for at in range(len(fields))]
 
     def outcome(at: int, x: Value | int, y: Value | int) -> int:

@@ -9,7 +9,7 @@ Value = str | date | None
 Listed = tuple[str, ...]
 MARKS, TITLES, SUFFIXES = ("", "-", "?", "N/A"), ("MR", "MRS", "MS", "MISS", "DR", "PROF", "REV", "SIR"), ("JR", "SR", "II", "III", "IV")
 # The words of comparisons and of keys: of names and places, and of dates; those that take a number of letters, and those that take how far
-# two values may be apart, with its limit. What a word makes of a value stands in FORMS below.
+# two values may be apart, with its limit. What a word makes of a value stands in CANONS below.
 COMPARES = {False: ("exact", "soundex", "nysiis", "first", "initials"), True: ("exact", "days", "years")}
 KEYS = {False: ("whole", "soundex", "nysiis", "first"), True: ("whole", "year")}
 LETTERED = ("first",)
@@ -112,7 +112,7 @@ def rewritten(before: str, rest: str) -> str:
 
 
 # By the word of a comparison or a key what it makes of a value that is there, and of a number of letters; none where there is nothing.
-FORMS = {
+CANONS = {
     **dict.fromkeys(("exact", "whole"), lambda it, _: it),
     "soundex": lambda it, _: soundex(it),
     "nysiis": lambda it, _: nysiis(it),
@@ -123,6 +123,6 @@ FORMS = {
 }
 
 
-def form_of(kind: str, value: Value, n: int | None) -> Value | int:
+def canon_of(kind: str, value: Value, n: int | None) -> Value | int:
     """What a value is compared or blocked by; none where it has nothing of the kind. Days and years are numbers."""
-    return None if value is None else FORMS[kind](value, n)
+    return None if value is None else CANONS[kind](value, n)
