@@ -13,6 +13,7 @@ use Rattle.link_report.specs.LinksText.{link_fields, links_header}
 use Rattle.link_report.specs.PricesText.{prices_header}
 use Rattle.link_report.specs.Reading.{first_misfit, rows_begun, rows_under, same_row, unless_at}
 use Rattle.link_report.specs.RuleText.{cell_fields, rule_header}
+use Rattle.written_check.proofs.ListLemmas.{Row, some_is}
 use Rattle.written_check.proofs.VerifiedLemmas.{links_of}
 use Rattle.written_check.specs.LinkRows.{links_in, links_verified}
 use Rattle.written_check.specs.PriceRows.{no_prices, PricePair, prices_in, prices_verified}
@@ -20,15 +21,9 @@ use Rattle.written_check.specs.Refuted.{refuted_by, unless_row}
 use Rattle.written_check.specs.RuleRows.{first_difference, rule_verified}
 use Rattle.written_check.specs.declared.refutation.Refutation.TheVariants as refutation
 
-abbrev Row : Type 0
-Row = List (List ℕ)
-
-rows_are : (x y : List Row) → Some x ≡ Some y → x ≡ y
-rows_are x y e = cc e
-
 under_if : (width : ℕ) (rows got : List Row) (t : Bool) → Some got ≡ (if t then Some rows else None) → first_misfit width 1 got ≡ None
     → (if t then unless_at rows (first_misfit width 1 rows) else Err 0) ≡ Ok got
-under_if width rows got true is fit = subst (λ (r : List Row). unless_at r (first_misfit width 1 r) ≡ Ok got) (rows_are got rows is) (ap (unless_at got) fit)
+under_if width rows got true is fit = subst (λ (r : List Row). unless_at r (first_misfit width 1 r) ≡ Ok got) (some_is got rows is) (ap (unless_at got) fit)
 under_if width rows got false is fit = absurd (cc is)
 
 -- rows after a header that have no misfit are the rows under it

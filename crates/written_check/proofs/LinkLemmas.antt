@@ -21,11 +21,9 @@ use Rattle.link_report.specs.ReadingLaws.{row_same, same_itself}
 use Rattle.link_report.specs.LinksText.{link_fields}
 use Rattle.link_report.specs.Reading.{same_row}
 use Rattle.price_check.specs.Verdict.{IsCandidate, IsCandidateAt}
+use Rattle.written_check.proofs.ListLemmas.{Row, some_is}
 use Rattle.written_check.specs.LinkRows.{after_all, candidate_in, HasRowIds, goes_before, IsPlaceOf, IsPlaceWithIds, links_in, taken_more}
 use Rattle.written_check.specs.declared.refutation.Refutation.TheVariants as refutation
-
-abbrev Row : Type 0
-Row = List (List ℕ)
 
 pub found_none : {X : Type 0} (p : X → Bool) (xs : List X) → All (λ x. p x ≡ false) xs → find p xs ≡ None
 found_none p [] all = refl
@@ -36,10 +34,7 @@ pub record IsFound {X : Type 0} (p : X → Bool) (xs : List X) (x : X) : Type 0 
   pub among : Contains xs x
 
 some_same : {X : Type 0} (x y : X) (P : X → Type 0) → Some x ≡ Some y → P x → P y
-some_same x y P e h = subst P (some_is e) h
-  where
-    some_is : Some x ≡ Some y → x ≡ y
-    some_is e = cc e
+some_same x y P e h = subst P (some_is x y e) h
 
 no_some : {X : Type 0} {P : Type 0} (x : X) → None ≡ Some x → P
 no_some x e = absurd (cc e)
@@ -91,13 +86,10 @@ known_again file at distinct within =
     let test : nat_lt at (length file) ≡ true = grind (arith, nat_tests) in
     rw (here, test) refl
 
-some_number : (x y : ℕ) → Some x ≡ Some y → x ≡ y
-some_number x y e = cc e
-
 -- a record whose id is found stands where it was found
 pub stands_there : (file : List Record) (id : List ℕ) (at found : ℕ) → HaveDistinctIds file → at < length file → id_at file at ≡ id → Some found ≡ position_of_id id file → at ≡ found
 stands_there file id at found distinct within is place =
-    some_number at found (sym (known_again file at distinct within) ∙ ap (λ (t : List ℕ). position_of_id t file) is ∙ sym place)
+    some_is at found (sym (known_again file at distinct within) ∙ ap (λ (t : List ℕ). position_of_id t file) is ∙ sym place)
 
 module _ (cs : List Candidate) (a b : List Record) (row : Row) (within : All (IsWithin (length a) (length b)) cs) where
   module _ (distinct_a : HaveDistinctIds a) (distinct_b : HaveDistinctIds b) (of_a of_b : ℕ) (is_a : Some of_a ≡ position_of_id (get_or row 0 []) a) (is_b : Some of_b ≡ position_of_id (get_or row 1 []) b) where

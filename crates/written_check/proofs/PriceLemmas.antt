@@ -10,6 +10,7 @@ use Rattle.std.proofs.lemmas.List.Sums.{AllPass-from_list_all, list_all-from_All
 use Rattle.csv_rows.specs.Numbers.{is_decimal, number_in}
 use Rattle.link_base.specs.Standard.{position_of_id, Record}
 use Rattle.link_limits.specs.declared.TheConstants.{MOST_VALUE}
+use Rattle.written_check.proofs.ListLemmas.{some_is}
 use Rattle.written_check.specs.PriceRows.{have_none, IsReadTo, price_in, priced_at, side_priced}
 
 pub none_of_none : (n : ℕ) → have_none (replicate n (pos 0)) ≡ true
@@ -62,10 +63,7 @@ read_more prices next at price read later within some = record {
     is_some_price p some = grind (arith, ints)
 
 price_by : (t : Bool) (n price : ℕ) → (t ≡ true → (1 ≤ n) × (n ≤ MOST_VALUE)) → Some price ≡ (if t then Some n else None) → (1 ≤ price) × (price ≤ MOST_VALUE)
-price_by true n price h is = subst (λ m. (1 ≤ m) × (m ≤ MOST_VALUE)) (some_number n price (sym is)) (h refl)
-  where
-    some_number : (x y : ℕ) → Some x ≡ Some y → x ≡ y
-    some_number x y e = cc e
+price_by true n price h is = subst (λ m. (1 ≤ m) × (m ≤ MOST_VALUE)) (some_is n price (sym is)) (h refl)
 price_by false n price h is = absurd (cc is)
 
 -- a price is from 1 to the greatest that is allowed

@@ -1,6 +1,6 @@
 -- The rows of written files that are verified, and written files with such rows.
 use Rattle.std.proofs.Common.{◌≡◌, ◌<◌, ◌≤◌, ◌≤ℤ◌, ◌+ℤ◌, ◌+◌, ◌==◌, ◌∷◌, ◌++◌, ◌∙◌, ℕ, ℤ, pos, zero, suc, Bool, true, false, List, [], All, length, drop, get_or, if◌then◌else◌, map, Option, Some, None, Result, Ok, Err, refl, sym, ap, subst, arith}
-use Rattle.std.specs.Prelude.{◌&&◌, ◌||◌, bytes_eq, codes, decimal, filter, nat_le, not, replicate, slice_set, zip}
+use Rattle.std.specs.Prelude.{◌&&◌, bytes_eq, codes, decimal, filter, nat_le, not, replicate, slice_set, zip}
 use Rattle.std.specs.Ordering.{int_eq}
 use Rattle.std.proofs.lemmas.Bool.{and_parts, eqb-true, leb-true}
 use Rattle.std.proofs.lemmas.Bool.Decides.{Decides-int_eq}
@@ -22,6 +22,7 @@ use Rattle.link_report.specs.Reading.{first_misfit, rows_of_prices, rows_under, 
 use Rattle.link_report.specs.RuleText.{cell_fields, rule_header}
 use Rattle.price_check.specs.Assignment.{IsCovered, price_sum, worth}
 use Rattle.price_check.specs.Law.{GreatestValueIsLeast, PricesAreBoundedByCandidates}
+use Rattle.written_check.proofs.ListLemmas.{Row, some_is}
 use Rattle.written_check.proofs.ApartLemmas.{apart_none}
 use Rattle.written_check.proofs.FormLemmas.{same_rows}
 use Rattle.written_check.proofs.LinkLemmas.{all_fail}
@@ -38,9 +39,6 @@ use Rattle.written_check.specs.Refuted.{refuted_by, rows_of_file, unless_row}
 use Rattle.written_check.specs.RuleRows.{first_difference, rule_verified}
 use Rattle.written_check.specs.declared.refutation.Refutation.{Refutation}
 use Rattle.written_check.specs.declared.refutation.Refutation.TheVariants as refutation
-
-abbrev Row : Type 0
-Row = List (List ℕ)
 
 abbrev okay : (T : Type 0) → T → Result T ℕ
 okay T x = Ok x
@@ -74,11 +72,8 @@ three (x ∷ y ∷ z ∷ w ∷ rest) e = absurd (omega (arith, e))
 
 -- ---- the text of a price is that of its number
 
-some_number : (x y : ℕ) → Some x ≡ Some y → x ≡ y
-some_number x y e = cc e
-
 text_by : (text : List ℕ) (n : ℕ) (t : Bool) → (t ≡ true → decimal (number_in text) ≡ text) → (if t then Some (number_in text) else None) ≡ Some n → decimal n ≡ text
-text_by text n true go e = ap decimal (sym (some_number (number_in text) n e)) ∙ go refl
+text_by text n true go e = ap decimal (sym (some_is (number_in text) n e)) ∙ go refl
 text_by text n false go e = absurd (cc e)
 
 price_text : (text : List ℕ) (n : ℕ) → price_in text ≡ Some n → decimal n ≡ text
@@ -148,11 +143,8 @@ module _ (side : List ℕ) (file : List Record) (row : Row) (prices qs : List �
       let bounds = price_within (get_or row 2 []) n (sym is_price) in
       let put = put_told side prices file at n bounds.0 (omega (arith, there.0, long)) long none in
       let id : id_at file at ≡ get_or row 1 [] = there.1 in
-      subst (SideTold side file row prices) (list_is (slice_set prices at (pos n)) qs e)
+      subst (SideTold side file row prices) (some_is (slice_set prices at (pos n)) qs e)
       (record { long = length-set prices at (pos n); small = All-set (λ p. (pos 0 ≤ℤ p) × (p ≤ℤ pos MOST_VALUE)) prices at (pos n) (omega (arith, ints), omega (arith, ints, bounds.1)); rows = put ∙ (λ i. side_rows side prices file ++ (side ∷ id i ∷ text i ∷ []) ∷ []) })
-    where
-      list_is : (x y : List ℤ) → Some x ≡ Some y → x ≡ y
-      list_is x y e = cc e
   side_if at n is_at is_price false none e = absurd (cc e)
 
   side_by : (place price : Option ℕ) → position_of_id (get_or row 1 []) file ≡ place → price_in (get_or row 2 []) ≡ price → priced_at prices place price ≡ Some qs → SideTold side file row prices qs
@@ -180,9 +172,6 @@ before_none xs ys none row is e =
 whole_row : (side : List ℕ) (row : Row) → length row ≡ 3 → get_or row 0 [] ≡ side → side ∷ get_or row 1 [] ∷ get_or row 2 [] ∷ [] ≡ row
 whole_row side row wide is = ap (λ (x : List ℕ). x ∷ get_or row 1 [] ∷ get_or row 2 [] ∷ []) (sym is) ∙ sym (three row wide)
 
-pair_is : (x y : PricePair) → Some x ≡ Some y → x ≡ y
-pair_is x y e = cc e
-
 module _ (a b : List Record) (row : Row) (s more : PricePair) (wide : length row ≡ 3) (long_a : length s.a ≡ length a) (long_b : length s.b ≡ length b) where
   a_told : (o : Option (List ℤ)) → side_priced a row s.a ≡ o → get_or row 0 [] ≡ codes "A" → have_none s.b ≡ true → with_a s o ≡ Some more → Told a b (row ∷ []) s more
   a_told None is side none e = absurd (cc e)
@@ -190,7 +179,7 @@ module _ (a b : List Record) (row : Row) (s more : PricePair) (wide : length row
       let one = side_told (codes "A") a row s.a qs long_a is in
       let last : side_rows (codes "A") qs a ≡ side_rows (codes "A") s.a a ++ row ∷ [] =
       one.rows ∙ ap (λ (r : Row). side_rows (codes "A") s.a a ++ r ∷ []) (whole_row (codes "A") row wide side) in
-      subst (Told a b (row ∷ []) s) (pair_is (record { a = qs; b = s.b }) more e)
+      subst (Told a b (row ∷ []) s) (some_is (record { a = qs; b = s.b }) more e)
       (record { long_a = one.long; long_b = refl; small_a = one.small; small_b = λ h. h; rows = before_none (side_rows (codes "A") s.a a) (side_rows (codes "A") qs a) (side_rows (codes "B") s.b b) row (none_told (codes "B") s.b b none) last })
 
   b_told : (o : Option (List ℤ)) → side_priced b row s.b ≡ o → get_or row 0 [] ≡ codes "B" → with_b s o ≡ Some more → Told a b (row ∷ []) s more
@@ -200,7 +189,7 @@ module _ (a b : List Record) (row : Row) (s more : PricePair) (wide : length row
       let of_a = side_rows (codes "A") s.a a in
       let last : side_rows (codes "B") qs b ≡ side_rows (codes "B") s.b b ++ row ∷ [] =
       one.rows ∙ ap (λ (r : Row). side_rows (codes "B") s.b b ++ r ∷ []) (whole_row (codes "B") row wide side) in
-      subst (Told a b (row ∷ []) s) (pair_is (record { a = s.a; b = qs }) more e)
+      subst (Told a b (row ∷ []) s) (some_is (record { a = s.a; b = qs }) more e)
       (record { long_a = refl; long_b = one.long; small_a = λ h. h; small_b = one.small; rows = ap (λ (rows : List Row). of_a ++ rows) last ∙ sym (append_assoc of_a (side_rows (codes "B") s.b b) (row ∷ [])) })
 
   choice_told : (in_a none in_b : Bool) → bytes_eq (get_or row 0 []) (codes "A") ≡ in_a → have_none s.b ≡ none → bytes_eq (get_or row 0 []) (codes "B") ≡ in_b

@@ -12,15 +12,13 @@ use Rattle.file_reader.specs.LeftLaws.{records_few}
 use Rattle.link_report.specs.ReadingLaws.{row_same}
 use Rattle.link_report.specs.LinksText.{link_fields, links_header}
 use Rattle.link_report.specs.Reading.{first_misfit, rows_under, same_row, unless_at}
+use Rattle.written_check.proofs.ListLemmas.{Row}
 use Rattle.written_check.proofs.LinkLemmas.{found_some, taken_rising}
 use Rattle.written_check.specs.Certified.{AreTaken}
 use Rattle.written_check.specs.LinkRows.{after_all, candidate_in, links_in, links_verified, taken_more}
 use Rattle.written_check.specs.Refuted.{refuted_by, rows_of_file}
 use Rattle.written_check.specs.declared.refutation.Refutation.{Refutation}
 use Rattle.written_check.specs.declared.refutation.Refutation.TheVariants as refutation
-
-abbrev Row : Type 0
-Row = List (List ℕ)
 
 -- a chain that came to a value came to one at its first step
 pub came : {A B : Type 0} (r : Result A Refutation) (f : A → Result B Refutation) (y : B) → and_then r f ≡ Ok y → (x : A) × (r ≡ Ok x) × (f x ≡ Ok y)

@@ -20,14 +20,12 @@ use Rattle.link_report.specs.ReadingLaws.{same_itself, row_same}
 use Rattle.link_report.specs.LinksText.{link_fields}
 use Rattle.link_report.specs.PricesText.{is_priced, price_fields}
 use Rattle.link_report.specs.Reading.{rows_of_prices, same_row, side_rows}
+use Rattle.written_check.proofs.ListLemmas.{Row, some_is}
 use Rattle.written_check.proofs.LinkLemmas.{before_so, found_only, IsFound, known_again}
 use Rattle.written_check.proofs.PriceLemmas.{none_of_none}
 use Rattle.written_check.specs.LinkRows.{after_all, candidate_in, goes_before, links_in, taken_more}
 use Rattle.written_check.specs.PriceRows.{ArePrices, have_none, no_prices, price_in, priced_at, priced_more, PricePair, prices_in, row_priced, side_priced, with_a, with_b}
 use Rattle.written_check.specs.RuleRows.{first_difference}
-
-abbrev Row : Type 0
-Row = List (List ℕ)
 
 -- rows do not differ from themselves
 pub no_difference : (number : ℕ) (rows : List Row) → first_difference number rows rows ≡ None
@@ -36,10 +34,7 @@ no_difference number (row ∷ rows) = rw (same_itself row) (no_difference (numbe
 
 -- a record is known by its id
 known_at : (file : List Record) (i j : ℕ) → HaveDistinctIds file → i < length file → j < length file → id_at file i ≡ id_at file j → i ≡ j
-known_at file i j distinct in_i in_j e = some_number i j (sym (known_again file i distinct in_i) ∙ ap (λ (t : List ℕ). position_of_id t file) e ∙ known_again file j distinct in_j)
-  where
-    some_number : (x y : ℕ) → Some x ≡ Some y → x ≡ y
-    some_number x y e = cc e
+known_at file i j distinct in_i in_j e = some_is i j (sym (known_again file i distinct in_i) ∙ ap (λ (t : List ℕ). position_of_id t file) e ∙ known_again file j distinct in_j)
 
 module _ (cs : List Candidate) (a b : List Record) (distinct_a : HaveDistinctIds a) (distinct_b : HaveDistinctIds b) (rising : AllPairs IsBefore cs) (within : All (IsWithin (length a) (length b)) cs) where
   -- the row of a candidate is its own
@@ -146,9 +141,6 @@ record ReadsOn (a b : List Record) (number : ℕ) (prices : PricePair) (rows : L
   pub last : ℕ
   pub same : prices_in a b number prices (rows ++ rest) ≡ prices_in a b last after rest
 
-list_is : (x y : List ℤ) → Some x ≡ Some y → x ≡ y
-list_is x y e = cc e
-
 module _ (a b : List Record) (rest : List Row) where
   a_step : (number : ℕ) (s : PricePair) (x : ℤ × Record) (xs : List (ℤ × Record)) (qs : List ℤ) (o : Option (List ℤ)) → have_none s.b ≡ true → side_priced a (price_fields (codes "A") x) s.a ≡ o
       → ((ps : List ℤ) → side_all a (map (price_fields (codes "A")) xs) ps ≡ Some qs
@@ -162,7 +154,7 @@ module _ (a b : List Record) (rest : List Row) where
 
   a_rows : (number : ℕ) (s : PricePair) (xs : List (ℤ × Record)) (qs : List ℤ) → have_none s.b ≡ true → side_all a (map (price_fields (codes "A")) xs) s.a ≡ Some qs
       → ReadsOn a b number s (map (price_fields (codes "A")) xs) (record { a = qs; b = s.b }) rest
-  a_rows number s [] qs none e = record { last = number; same = ap (λ (ps : List ℤ). prices_in a b number (record { a = ps; b = s.b }) rest) (list_is s.a qs e) }
+  a_rows number s [] qs none e = record { last = number; same = ap (λ (ps : List ℤ). prices_in a b number (record { a = ps; b = s.b }) rest) (some_is s.a qs e) }
   a_rows number s (x ∷ xs) qs none e =
       a_step number s x xs qs (side_priced a (price_fields (codes "A") x) s.a) none refl (λ ps f. a_rows (number + 1) (record { a = ps; b = s.b }) xs qs none f) e
 
@@ -178,7 +170,7 @@ module _ (a b : List Record) (rest : List Row) where
 
   b_rows : (number : ℕ) (s : PricePair) (xs : List (ℤ × Record)) (qs : List ℤ) → side_all b (map (price_fields (codes "B")) xs) s.b ≡ Some qs
       → ReadsOn a b number s (map (price_fields (codes "B")) xs) (record { a = s.a; b = qs }) rest
-  b_rows number s [] qs e = record { last = number; same = ap (λ (ps : List ℤ). prices_in a b number (record { a = s.a; b = ps }) rest) (list_is s.b qs e) }
+  b_rows number s [] qs e = record { last = number; same = ap (λ (ps : List ℤ). prices_in a b number (record { a = s.a; b = ps }) rest) (some_is s.b qs e) }
   b_rows number s (x ∷ xs) qs e =
       b_step number s x xs qs (side_priced b (price_fields (codes "B") x) s.b) refl (λ ps f. b_rows (number + 1) (record { a = s.a; b = ps }) xs qs f) e
 
