@@ -19,15 +19,20 @@ SPEC_PIECES = [
     (r"(\w+)", None),
 ]
 HEADS = {"top_keys": "Keys of the file", "field_keys": "Keys of a field", "pass_keys": "Keys of a pass", "part_keys": "Keys of a part"}
-WORDS = ["delimiters", "kind_named", "form_named", "name_comparisons", "date_comparisons", "name_key_words", "date_key_words"]
+WORDS = ["delimiters", "kind_named", "form_named", "comparisons", "key_words"]
 # Limits that no user meets.
 INNER_LIMITS = ["MOST_POOL_LIMIT", "MOST_PATTERNS"]
 
 
 def codes_of(name: str, text: str) -> list[str]:
-    """The texts of a definition `NAME = codes ".." ∷ ..` of a specification."""
-    body = re.search(rf"^{name} =(.*?)(?=^\S)", text + "\n#", flags=re.S | re.M)
-    return re.findall(r'codes "([^"]*)"', body.group(1)) if body else []
+    """The texts of a definition `NAME .. = codes ".." ∷ ..` of a specification, in all of its equations."""
+    bodies = re.findall(rf"^{name}(?: [^=\n]*)? =(.*?)(?=^\S)", text + "\n#", flags=re.S | re.M)
+    return re.findall(r'codes "([^"]*)"', "".join(bodies))
+
+
+def settings_specs() -> str:
+    """The definitions of the settings' keys and words."""
+    return "\n".join(read(f"crates/settings/specs/{name}.antt") for name in ("Settings", "Field", "Pass", "Words"))
 
 
 def commands_of() -> set[str]:
@@ -94,7 +99,7 @@ def key_examples() -> list[str]:
 def unexplained_words() -> list[str]:
     """The words that a key may have as its value, and that no code span of SETTINGS shows."""
     page = set(re.findall(r"`([^`\n]*)`", read("docs/SETTINGS.md")))
-    words = read("crates/settings/specs/Words.antt")
+    words = settings_specs()
     return [word for name in WORDS for word in codes_of(name, words) if word not in page]
 
 
@@ -139,7 +144,7 @@ def unwritten_limits() -> list[str]:
 
 def lists() -> dict[str, tuple[list, list]]:
     """Each list by its name: what is shown, and what is wanted, both in order."""
-    words = read("crates/settings/specs/Words.antt")
+    words = settings_specs()
     found = {f"docs/SETTINGS.md: {head}": (first_codes("docs/SETTINGS.md", head), codes_of(name, words)) for name, head in HEADS.items()}
     shown = [(row[1], code) for row in table_rows("docs/FAULTS.md", "The lines") for code in re.findall(r"^`([^`]*)`", row[0])]
     found["docs/FAULTS.md: The lines"] = shown, list(faults_of_specs().values())

@@ -1,17 +1,12 @@
 pub mod Documents
-pub mod InParts
 pub mod Sharing
 pub mod GivenShares
 pub mod TextRanges
 pub mod WordTables
-pub mod KeyFaults
 pub mod CanonRanges
-pub mod KindRanges
 pub mod FieldRanges
 pub mod PassRanges
 pub mod TableRanges
 pub mod Ranges
 pub mod Answered
-pub mod Chains
-pub mod NamedSteps
 pub mod Loops

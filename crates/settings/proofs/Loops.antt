@@ -1,20 +1,20 @@
 -- Lists that are walked: one more item.
 use Rattle.std.proofs.Common.{◌≡◌, ◌<◌, ◌+◌, ◌++◌, ◌∷◌, ◌∙◌, ℕ, ℤ, List, [], Bool, true, false, Option, Some, None, Result, Ok, length, get_or, drop, is_some, ap, sym, refl, string_bytes}
-use Rattle.std.specs.List.{list_all}
+use Rattle.std.specs.List.{list_all, list_any}
 use Rattle.std.specs.Option.{option_and_then, option_map}
 use Rattle.std.specs.Str.{bytes_eq}
 use Rattle.std.proofs.lemmas.List.{drop_more}
-use Rattle.toml.proofs.Views.{Entry}
 use Rattle.toml.specs.Data.{as_integer}
 use Rattle.toml.specs.View.{items_view, members_view, view}
 use Rattle.toml.specs.declared.value.Value.{Value}
-use Rattle.link_base.specs.declared.fault.Fault.{Fault}
+use Rattle.settings_readers.specs.declared.fault.KeyFault.{KeyFault}
 use Rattle.link_base.specs.declared.plan.FieldSort.{FieldSort}
 use Rattle.link_base.specs.declared.tables.WordPair.{WordPair}
 use Rattle.settings.specs.Field.{wholes}
 use Rattle.settings.specs.Pass.{field_named}
 use Rattle.link_plan.specs.Plan.{FieldKeys}
 use Rattle.settings.specs.WordTables.{pairs, word_pair}
+use Rattle.settings.proofs.WordTables.{Entry}
 
 -- an item that passes a test which all may pass, and one that does not
 pub all_more : {E : Type 0} (test : E → Bool) (all : List E) (i : ℕ) (none : E) (total : Bool) → i < length all → test (get_or all i none) ≡ true
@@ -27,6 +27,19 @@ pub all_stops : {E : Type 0} (test : E → Bool) (all : List E) (i : ℕ) (none 
     → list_all test (drop i all) ≡ total → false ≡ total
 all_stops test all i none total lt off so_far =
     let here : list_all test (drop i all) ≡ false = rw (drop_more all i none lt, off) refl in
+    sym here ∙ so_far
+
+-- the same of a test which one of all may pass
+pub any_more : {E : Type 0} (test : E → Bool) (all : List E) (i : ℕ) (none : E) (total : Bool) → i < length all → test (get_or all i none) ≡ false
+    → list_any test (drop i all) ≡ total → list_any test (drop (i + 1) all) ≡ total
+any_more test all i none total lt off so_far =
+    let here : list_any test (drop i all) ≡ list_any test (drop (i + 1) all) = rw (drop_more all i none lt, off) refl in
+    sym here ∙ so_far
+
+pub any_found : {E : Type 0} (test : E → Bool) (all : List E) (i : ℕ) (none : E) (total : Bool) → i < length all → test (get_or all i none) ≡ true
+    → list_any test (drop i all) ≡ total → true ≡ total
+any_found test all i none total lt on so_far =
+    let here : list_any test (drop i all) ≡ true = rw (drop_more all i none lt, on) refl in
     sym here ∙ so_far
 
 left_from : {E : Type 0} (all : List E) (i : ℕ) (e : E) → i < length all → e ≡ get_or all i e → drop i all ≡ e ∷ drop (i + 1) all
@@ -53,7 +66,7 @@ wholes_more vs i v total lt is whole so_far =
     sym here ∙ so_far
 
 -- an entry of a word table
-pub pairs_more : (above place key : List ℕ) (all rest : List Entry) (e : Entry) (before more : List WordPair) (p : WordPair) (total : Result (List WordPair) Fault) → all ≡ e ∷ rest
+pub pairs_more : (above place key : List ℕ) (all rest : List Entry) (e : Entry) (before more : List WordPair) (p : WordPair) (total : Result (List WordPair) KeyFault) → all ≡ e ∷ rest
     → place ≡ above ++ string_bytes e.0 → key ≡ string_bytes e.0 → word_pair place key (view e.1) ≡ Ok p → more ≡ before ++ p ∷ []
     → pairs above (members_view all) before ≡ total → pairs above (members_view rest) more ≡ total
 pairs_more above place key all rest e before more p total parts at same reads grown so_far =

@@ -1,5 +1,5 @@
 -- What the pairs of a word table are: words, in the order of the keys.
-use Rattle.std.proofs.Common.{◌≡◌, ℕ, List, [], ◌∷◌, ◌++◌, length, true, Some, Ok, refl, ap, codes, ◌≤◌, ◌∙◌, sym, append_assoc, arith, inl, inr}
+use Rattle.std.proofs.Common.{String, Global, ◌≡◌, ℕ, List, [], ◌∷◌, ◌++◌, length, true, Some, Ok, refl, ap, codes, ◌≤◌, ◌∙◌, sym, append_assoc, arith, inl, inr}
 use Rattle.std.specs.Prelude.{All, AllPairs, nat_le}
 use Rattle.std.proofs.lemmas.Bool.{and_parts, leb-true}
 use Rattle.std.proofs.lemmas.List.{append-nil}
@@ -7,18 +7,21 @@ use Rattle.std.proofs.lemmas.List.Elements.{All-nil, All-cons}
 use Rattle.std.proofs.lemmas.List.Kept.{AllPairs-cons}
 use Rattle.toml.specs.Data.{Data, Members, no_members, member, as_table, is_before}
 use Rattle.toml.specs.View.{members_view}
-use Rattle.toml.proofs.Views.{Entry}
+use Rattle.toml.specs.declared.value.Value.{Value}
 use Rattle.link_base.specs.declared.tables.WordPair.{WordPair}
 use Rattle.link_base.specs.Tables.{AreWordPairs, is_word, StandsBefore}
 use Rattle.settings_readers.specs.Parts.{typed, in_range}
-use Rattle.settings_readers.specs.Laws.{IsKeyOf, keys_ascend}
-use Rattle.settings_readers.proofs.Ascending.{above}
+use Rattle.settings_readers.specs.KeptLaws.{in_range_keeps, Keeps, keeps_so, keeps_value, kept, next_keeps, Reads, then_keeps}
+use Rattle.settings_readers.specs.Laws.{above, IsKeyOf, keys_ascend}
 use Rattle.link_plan.specs.declared.limits.TheConstants.{MOST_WORD_PAIRS}
 use Rattle.settings.specs.declared.texts.TextRule.TheVariants as rule
 use Rattle.settings.specs.Values.{text}
 use Rattle.settings.specs.WordTables.{members_len, word_pair, pairs, small_table, word_table}
 use Rattle.settings.proofs.TextRanges.{text_keeps}
-use Rattle.settings_readers.proofs.Kept.{in_range_ok, Reads, then_ok}
+
+-- an entry of a table's map
+abbrev pub Entry : Type 0
+Entry = String Global × Value
 
 members_len-view : (es : List Entry) → members_len (members_view es) ≡ length es
 members_len-view [] = refl
@@ -47,22 +50,22 @@ ArePairsOf no_members (p ∷ ps) = ⊥
 ArePairsOf (member k d ms) [] = ⊥
 ArePairsOf (member k d ms) (p ∷ ps) = (p.from ≡ k) × (is_word p.from ≡ true) × (is_word p.to ≡ true) × ArePairsOf ms ps
 
-word_pair_is : (at key : List ℕ) (d : Data) (x : WordPair) → word_pair at key d ≡ Ok x → (x.from ≡ key) × (is_word x.from ≡ true) × (is_word x.to ≡ true)
-word_pair_is at key d x h =
-    let a = then_ok (in_range at (is_word key) key) _ x h in
-    let r = in_range_ok at (is_word key) key a.0 a.1 in
-    let b = then_ok (text rule.Word at d) _ x a.2 in
-    let made : Ok (record { from = a.0; to = b.0 }) ≡ Ok x = b.2 in
-    let same : record { from = a.0; to = b.0 } ≡ x = cc in
-    (rw (← same) (sym r.1), rw (← same, ← r.1) r.0, rw (← same) (text_keeps rule.Word at d b.0 b.1))
+abbrev IsPairOf : List ℕ → WordPair → Type 0
+IsPairOf key x = (x.from ≡ key) × (is_word x.from ≡ true) × (is_word x.to ≡ true)
 
-pairs_are : (path : List ℕ) (ms : Members) (before all : List WordPair) → pairs path ms before ≡ Ok all → (ps : List WordPair) × (all ≡ before ++ ps) × ArePairsOf ms ps
-pairs_are path no_members before all h = let same : before ≡ all = cc in ([], sym same ∙ sym (append-nil before), tt)
-pairs_are path (member k d ms) before all h =
-    let a = then_ok (word_pair (path ++ k) k d) _ all h in
-    let w = word_pair_is (path ++ k) k d a.0 a.1 in
-    let r = pairs_are path ms (before ++ a.0 ∷ []) all a.2 in
-    (a.0 ∷ r.0, r.1 ∙ append_assoc before (a.0 ∷ []) r.0, (w.0, w.1, w.2, r.2))
+word_pair_is : (at key : List ℕ) (d : Data) → Keeps (word_pair at key d) (IsPairOf key)
+word_pair_is at key d =
+    then_keeps (λ (from : List ℕ). (from ≡ key) × (is_word from ≡ true)) _ (in_range at (is_word key) key) _ (in_range_keeps _ at (is_word key) key (λ is. (refl, is))) (λ from is.
+    then_keeps _ _ (text rule.Word at d) _ (text_keeps rule.Word at d) (λ to also. keeps_value _ _ (is.0, is.1, also)))
+
+abbrev StandFor : Members → List WordPair → List WordPair → Type 0
+StandFor ms before all = (ps : List WordPair) × (all ≡ before ++ ps) × ArePairsOf ms ps
+
+pairs_are : (path : List ℕ) (ms : Members) (before : List WordPair) → Keeps (pairs path ms before) (StandFor ms before)
+pairs_are path no_members before = keeps_value _ before ([], sym (append-nil before), tt)
+pairs_are path (member k d ms) before =
+    then_keeps _ _ (word_pair (path ++ k) k d) _ (word_pair_is (path ++ k) k d) (λ p is.
+    keeps_so _ _ (pairs path ms (before ++ p ∷ [])) (pairs_are path ms (before ++ p ∷ [])) (λ all r. (p ∷ r.0, r.1 ∙ append_assoc before (p ∷ []) r.0, (is.0, is.1, is.2, r.2))))
 
 all_after : (k : List ℕ) (ms : Members) (ps : List WordPair) → ((q : List ℕ) → IsKeyOf ms q → StandsBefore k q) → ArePairsOf ms ps → All (IsAfter k) ps
 all_after k no_members [] h are = All-nil (IsAfter k)
@@ -91,7 +94,7 @@ pairs_sound (member k d ms) (p ∷ ps) sorted are =
 -- the pairs of a table whose keys ascend
 pub pairs_are_word_pairs : (path : List ℕ) (ms : Members) (all : List WordPair) → keys_ascend ms ≡ true → pairs path ms [] ≡ Ok all → AreWordPairs all
 pairs_are_word_pairs path ms all sorted h =
-    let r = pairs_are path ms [] all h in
+    let r = kept _ (pairs path ms []) all (pairs_are path ms []) h in
     rw r.1 (pairs_sound ms r.0 sorted r.2)
 
 -- as many pairs as members
@@ -102,16 +105,10 @@ as_many (member k d ms) [] are = absurd are
 as_many (member k d ms) (p ∷ ps) are = omega (arith, as_many ms ps are.3)
 
 small_table_keeps : Reads small_table (λ ms. members_len ms ≤ MOST_WORD_PAIRS)
-small_table_keeps at d x e =
-    let a = then_ok (typed at (as_table d)) _ x e in
-    let b = in_range_ok at (nat_le (members_len a.0) MOST_WORD_PAIRS) a.0 x a.2 in
-    rw (← b.1) (leb-true (members_len a.0) MOST_WORD_PAIRS b.0)
+small_table_keeps at d = next_keeps _ (typed at (as_table d)) _ (λ ms. in_range_keeps _ at (nat_le (members_len ms) MOST_WORD_PAIRS) ms (leb-true (members_len ms) MOST_WORD_PAIRS))
 
 -- a table that was read is small
 pub word_table_keeps : Reads word_table (λ (ps : List WordPair). length ps ≤ MOST_WORD_PAIRS)
-word_table_keeps at d x e =
-    let a = then_ok (small_table at d) _ x e in
-    let few = small_table_keeps at d a.0 a.1 in
-    let r = pairs_are (at ++ codes ".") a.0 [] x a.2 in
-    let same : length x ≡ length r.0 = ap length r.1 in
-    omega (arith, few, same, as_many a.0 r.0 r.2)
+word_table_keeps at d =
+    then_keeps _ _ (small_table at d) _ (small_table_keeps at d) (λ ms few.
+    keeps_so _ _ (pairs (at ++ codes ".") ms []) (pairs_are (at ++ codes ".") ms []) (λ ps r. omega (arith, few, ap (λ (xs : List WordPair). length xs) r.1, as_many ms r.0 r.2)))

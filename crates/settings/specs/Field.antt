@@ -7,21 +7,21 @@ use Rattle.std.specs.Str.{bytes_eq}
 use Rattle.toml.specs.Data.{Data, Items, no_items, item, Members, as_array, as_integer}
 use Rattle.link_limits.specs.declared.TheConstants.{MOST_FIELDS, WHOLE_FIELD}
 use Rattle.link_texts.specs.Texts.{stands_among}
-use Rattle.link_base.specs.declared.fault.Fault.{Fault}
+use Rattle.settings_readers.specs.declared.fault.KeyFault.{KeyFault}
 use Rattle.link_base.specs.declared.plan.FieldSort.{FieldSort}
 use Rattle.link_base.specs.declared.plan.FieldSort.TheVariants as sort
 use Rattle.link_base.specs.declared.plan.Canon.{Canon}
 use Rattle.link_base.specs.declared.plan.CompareKind.{CompareKind}
 use Rattle.link_base.specs.declared.plan.CompareKind.TheVariants as by
 use Rattle.link_base.specs.Shares.{outcomes_of}
-use Rattle.settings_readers.specs.Parts.{◌>>=◌, typed, ranged, in_range, needed, optional, defaulted, absent, known}
+use Rattle.settings_readers.specs.Parts.{◌>>=◌, typed, ranged, in_range, needed, needed_both, optional, defaulted_both, absent, without, without_both, known}
 use Rattle.settings_readers.specs.Values.{choice, whole, magnitude}
 use Rattle.settings_readers.specs.Lists.{array_of, on_table}
 use Rattle.link_plan.specs.Plan.{FieldKeys, PlainShares}
 use Rattle.link_plan.specs.Ranges.{may_be_rare}
 use Rattle.settings.specs.Values.{text}
 use Rattle.settings.specs.CanonKeys.{numbered}
-use Rattle.settings.specs.Words.{field_keys, kind_named, form_named, compare_named}
+use Rattle.settings.specs.Words.{kind_named, form_named, compare_named}
 use Rattle.settings.specs.declared.fields.CompareKeys.{CompareKeys}
 use Rattle.settings.specs.declared.fields.NameKeys.{NameKeys}
 use Rattle.link_plan.specs.declared.limits.TheConstants.{LEAST_RARE, MOST_DAYS, MOST_RARE, MOST_YEARS}
@@ -29,64 +29,48 @@ use Rattle.settings.specs.declared.texts.TextRule.TheVariants as rule
 use Rattle.settings.specs.declared.words.Kind.{Kind}
 use Rattle.settings.specs.declared.words.Kind.TheVariants as kind
 
+-- the keys of a field
+abbrev pub field_keys : List (List ℕ)
+field_keys = codes "name" ∷ codes "column_a" ∷ codes "column_b" ∷ codes "kind" ∷ codes "form_a" ∷ codes "form_b" ∷ codes "compare" ∷ codes "n" ∷ codes "t" ∷ codes "rare" ∷ codes "m" ∷ codes "u" ∷ []
+
 -- a name that no earlier field has
-unfoldable pub new_name : List FieldKeys → Members → List ℕ → Result (List ℕ) Fault
+unfoldable pub new_name : List FieldKeys → Members → List ℕ → Result (List ℕ) KeyFault
 new_name before t above = do
   name ← needed (text rule.FieldName) t above (codes "name")
   in_range (above ++ codes "name") (not (list_any (λ f. bytes_eq name f.name) before)) name
 
 -- both forms of a date; no forms for another kind
-unfoldable pub date_sort : Members → List ℕ → Result FieldSort Fault
-date_sort t above = do
-  a ← needed (choice form_named) t above (codes "form_a")
-  b ← needed (choice form_named) t above (codes "form_b")
-  Ok (sort.Date a b)
+unfoldable pub date_sort : Members → List ℕ → Result FieldSort KeyFault
+date_sort t above = needed_both (choice form_named) t above (codes "form_a") (codes "form_b") >>= λ forms. Ok (sort.Date forms.0 forms.1)
 
-unfoldable pub plain_sort : FieldSort → Members → List ℕ → Result FieldSort Fault
-plain_sort s t above = do
-  no_a ← absent t above (codes "form_a")
-  no_b ← absent t above (codes "form_b")
-  Ok s
-
-abbrev pub sort_of : Kind → Members → List ℕ → Result FieldSort Fault
-sort_of kind.Name = plain_sort sort.Name
-sort_of kind.Place = plain_sort sort.Place
-sort_of kind.Date = date_sort
+abbrev pub sort_of : Kind → Members → List ℕ → Result FieldSort KeyFault
+sort_of kind.Name t above = without_both sort.Name t above (codes "form_a") (codes "form_b")
+sort_of kind.Place t above = without_both sort.Place t above (codes "form_a") (codes "form_b")
+sort_of kind.Date t above = date_sort t above
 
 -- n for a canon of a number of letters alone, and t for `days` and `years` alone
-unfoldable pub by_canon : Canon → Members → List ℕ → Result CompareKind Fault
-by_canon c t above = do
-  canon ← numbered c t above
-  no_t ← absent t above (codes "t")
-  Ok (by.Same canon)
+unfoldable pub by_canon : Canon → Members → List ℕ → Result CompareKind KeyFault
+by_canon c t above = numbered c t above >>= λ canon. without (by.Same canon) t above (codes "t")
 
-unfoldable pub by_days : Members → List ℕ → Result CompareKind Fault
-by_days t above = do
-  no_n ← absent t above (codes "n")
-  days ← needed (whole 0 MOST_DAYS) t above (codes "t")
-  Ok (by.DaysWithin days)
+-- how far apart two values that agree may be; letters are not counted beside it
+abbrev pub span : ℕ → Members → List ℕ → Result ℕ KeyFault
+span most t above = absent t above (codes "n") >>= λ no_n. needed (whole 0 most) t above (codes "t")
 
-unfoldable pub by_years : Members → List ℕ → Result CompareKind Fault
-by_years t above = do
-  no_n ← absent t above (codes "n")
-  years ← needed (whole 0 MOST_YEARS) t above (codes "t")
-  Ok (by.YearsWithin years)
+unfoldable pub by_days : Members → List ℕ → Result CompareKind KeyFault
+by_days t above = span MOST_DAYS t above >>= λ days. Ok (by.DaysWithin days)
 
-unfoldable pub plain_compare : CompareKind → Members → List ℕ → Result CompareKind Fault
-plain_compare c t above = do
-  no_n ← absent t above (codes "n")
-  no_t ← absent t above (codes "t")
-  Ok c
+unfoldable pub by_years : Members → List ℕ → Result CompareKind KeyFault
+by_years t above = span MOST_YEARS t above >>= λ years. Ok (by.YearsWithin years)
 
-abbrev pub compare_by : CompareKind → Members → List ℕ → Result CompareKind Fault
-compare_by (by.Same c) = by_canon c
-compare_by by.Initials = plain_compare by.Initials
-compare_by (by.DaysWithin least) = by_days
-compare_by (by.YearsWithin least) = by_years
+abbrev pub compare_by : CompareKind → Members → List ℕ → Result CompareKind KeyFault
+compare_by (by.Same c) t above = by_canon c t above
+compare_by by.Initials t above = without_both by.Initials t above (codes "n") (codes "t")
+compare_by (by.DaysWithin least) t above = by_days t above
+compare_by (by.YearsWithin least) t above = by_years t above
 
 -- a rare number, where values are compared by a canon
-abbrev pub rare_number : CompareKind → Members → List ℕ → Result (Option ℕ) Fault
-rare_number c t above = if may_be_rare c then optional (whole LEAST_RARE MOST_RARE) t above (codes "rare") else (absent t above (codes "rare") >>= λ no_rare. Ok None)
+abbrev pub rare_number : CompareKind → Members → List ℕ → Result (Option ℕ) KeyFault
+rare_number c t above = if may_be_rare c then optional (whole LEAST_RARE MOST_RARE) t above (codes "rare") else without None t above (codes "rare")
 
 -- the whole numbers of an array of nothing else
 abbrev pub wholes : Items → Option (List ℤ)
@@ -104,55 +88,70 @@ four rare xs = if rare then xs else xs ++ 0 ∷ []
 abbrev pub shares_or_none : Bool → List ℕ → Option (List ℕ)
 shares_or_none rare xs = if are_shares rare xs then Some (four rare xs) else None
 
-abbrev pub shares : Bool → List ℕ → Data → Result (List ℕ) Fault
+abbrev pub shares : Bool → List ℕ → Data → Result (List ℕ) KeyFault
 shares rare at d = typed at (as_array d) >>= λ ds. typed at (wholes ds) >>= λ zs. ranged at (shares_or_none rare (map magnitude zs))
 
 -- a whole number, or 0 where there is none or it is negative
 abbrev pub share_at : Data → ℕ
 share_at d = option_map_or magnitude (as_integer d) 0
 
-unfoldable pub given_shares : Bool → Members → List ℕ → Result (Option PlainShares) Fault
+unfoldable pub given_shares : Bool → Members → List ℕ → Result (Option PlainShares) KeyFault
 given_shares rare t above = do
   m ← needed (shares rare) t above (codes "m")
   u ← needed (shares rare) t above (codes "u")
   Ok (Some (record { rare = rare; m = m; u = u }))
 
-unfoldable pub no_shares : Members → List ℕ → Result (Option PlainShares) Fault
+unfoldable pub no_shares : Members → List ℕ → Result (Option PlainShares) KeyFault
 no_shares t above = do
   no_m ← absent t above (codes "m")
   no_u ← absent t above (codes "u")
   Ok None
 
-abbrev pub field_shares : Bool → Bool → Members → List ℕ → Result (Option PlainShares) Fault
+abbrev pub field_shares : Bool → Bool → Members → List ℕ → Result (Option PlainShares) KeyFault
 field_shares sampled rare t above = if sampled then no_shares t above else given_shares rare t above
 
 -- the name of a field, after those before it, and its columns, which have that name where their keys are not there
-unfoldable pub name_keys : List FieldKeys → Members → List ℕ → Result NameKeys Fault
+unfoldable pub name_keys : List FieldKeys → Members → List ℕ → Result NameKeys KeyFault
 name_keys before t above = do
   name ← new_name before t above
-  column_a ← defaulted (text rule.Label) name t above (codes "column_a")
-  column_b ← defaulted (text rule.Label) name t above (codes "column_b")
-  Ok (record { name = name; column_a = column_a; column_b = column_b })
+  columns ← defaulted_both (text rule.Label) name t above (codes "column_a") (codes "column_b")
+  Ok (record { name = name; column_a = columns.0; column_b = columns.1 })
+
+-- the comparison of a field of a sort, and its rare number
+unfoldable pub comparison : FieldSort → Members → List ℕ → Result (CompareKind × Option ℕ) KeyFault
+comparison sort t above = do
+  word ← needed (choice (compare_named sort)) t above (codes "compare")
+  compare ← compare_by word t above
+  rare ← rare_number compare t above
+  Ok (compare, rare)
 
 -- what a field holds, how it is compared, and its rare number
-unfoldable pub compare_keys : Members → List ℕ → Result CompareKeys Fault
+unfoldable pub compare_keys : Members → List ℕ → Result CompareKeys KeyFault
 compare_keys t above = do
   kind ← needed (choice kind_named) t above (codes "kind")
   sort ← sort_of kind t above
-  word ← needed (choice (compare_named kind)) t above (codes "compare")
-  compare ← compare_by word t above
-  rare ← rare_number compare t above
-  Ok (record { sort = sort; compare = compare; rare = rare })
+  compared ← comparison sort t above
+  Ok (record { sort = sort; compare = compared.0; rare = compared.1 })
 
--- a field, after those before it; sampled says that the settings name a sample
-unfoldable pub field : Bool → List FieldKeys → Members → List ℕ → Result FieldKeys Fault
+-- how a field is compared, and its shares; sampled says that the settings name a sample
+unfoldable pub measure_keys : Bool → Members → List ℕ → Result (CompareKeys × Option PlainShares) KeyFault
+measure_keys sampled t above = do
+  compared ← compare_keys t above
+  shares ← field_shares sampled (is_some compared.rare) t above
+  Ok (compared, shares)
+
+-- the keys of a field in one
+abbrev pub field_of : NameKeys → CompareKeys → Option PlainShares → FieldKeys
+field_of named compared shares = record { name = named.name; column_a = named.column_a; column_b = named.column_b; sort = compared.sort; compare = compared.compare; rare = compared.rare; shares = shares }
+
+-- a field, after those before it
+unfoldable pub field : Bool → List FieldKeys → Members → List ℕ → Result FieldKeys KeyFault
 field sampled before t above = do
   listed ← known (stands_among field_keys) t above
   named ← name_keys before t above
-  compared ← compare_keys t above
-  shares ← field_shares sampled (is_some compared.rare) t above
-  Ok (record { name = named.name; column_a = named.column_a; column_b = named.column_b; sort = compared.sort; compare = compared.compare; rare = compared.rare; shares = shares })
+  measured ← measure_keys sampled t above
+  Ok (field_of named measured.0 measured.1)
 
 -- an array of fields
-abbrev pub fields : Bool → List ℕ → Data → Result (List FieldKeys) Fault
+abbrev pub fields : Bool → List ℕ → Data → Result (List FieldKeys) KeyFault
 fields sampled at d = array_of 1 MOST_FIELDS (λ before. on_table (field sampled before)) at d

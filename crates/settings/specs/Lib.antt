@@ -5,4 +5,3 @@ pub mod CanonKeys
 pub mod Field
 pub mod Pass
 pub mod Settings
-pub mod PlanParts

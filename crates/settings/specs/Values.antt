@@ -2,7 +2,7 @@
 use Rattle.std.specs.Prelude.{List, ℕ, Bool, not, length, Result, ◌&&◌, nat_le}
 use Rattle.std.specs.List.{list_all}
 use Rattle.toml.specs.Data.{Data, as_str}
-use Rattle.link_base.specs.declared.fault.Fault.{Fault}
+use Rattle.settings_readers.specs.declared.fault.KeyFault.{KeyFault}
 use Rattle.link_base.specs.Tables.{is_word}
 use Rattle.settings_readers.specs.Parts.{◌>>=◌, typed, in_range}
 use Rattle.link_limits.specs.declared.TheConstants.{MOST_NAME_BYTES}
@@ -21,5 +21,5 @@ fits rule.Mark s = has_len 0 MOST_MARK_BYTES s
 fits rule.Word s = is_word s
 fits rule.FieldName s = has_len 1 MOST_FIELD_NAME_BYTES s && list_all is_name_byte s
 
-abbrev pub text : TextRule → List ℕ → Data → Result (List ℕ) Fault
+abbrev pub text : TextRule → List ℕ → Data → Result (List ℕ) KeyFault
 text rule at d = typed at (as_str d) >>= λ s. in_range at (fits rule s) s

@@ -1,16 +1,16 @@
 // The canons that words name, with their numbers.
 ghost use Rattle.std.specs.Prelude.{◌≡◌};
 ghost use Rattle.toml.specs.View.{table_view};
-ghost use Rattle.link_base.specs.Fault.{IsAnswer};
-ghost use Rattle.settings.specs.CanonKeys.{lettered, numbered, plain};
+ghost use Rattle.settings_readers.specs.KeyFaults.{IsAnswer};
+ghost use Rattle.settings.specs.CanonKeys.{lettered, numbered};
 
 use crate::texts::Letters;
-use link_base::{Canon, Fault};
-use settings_readers::Keys;
+use link_base::Canon;
+use settings_readers::{KeyFault, Keys};
 use std::alloc::Global;
 
 #[tactic(auto, unfolding(crate::specs::CanonKeys::lettered))]
-fn lettered(alloc: Global, canon: Canon, keys: &Keys) -> Result<Canon, Fault>
+fn lettered(alloc: Global, canon: Canon, keys: &Keys) -> Result<Canon, KeyFault>
     ensures { IsAnswer (lettered canon (table_view keys.now.table.now) keys.now.above.now) result }
 {
     match keys.needed(alloc, &Letters, "n") {
@@ -19,19 +19,12 @@ fn lettered(alloc: Global, canon: Canon, keys: &Keys) -> Result<Canon, Fault>
     }
 }
 
-#[tactic(auto, unfolding(crate::specs::CanonKeys::plain))]
-fn plain(alloc: Global, canon: Canon, keys: &Keys) -> Result<Canon, Fault>
-    ensures { IsAnswer (plain canon (table_view keys.now.table.now) keys.now.above.now) result }
-{
-    keys.without(alloc, "n", canon)
-}
-
 /// The canon that a word names, with its number where it has one.
-pub(crate) fn numbered(alloc: Global, canon: Canon, keys: &Keys) -> Result<Canon, Fault>
+pub(crate) fn numbered(alloc: Global, canon: Canon, keys: &Keys) -> Result<Canon, KeyFault>
     ensures { IsAnswer (numbered canon (table_view keys.now.table.now) keys.now.above.now) result }
 {
     if canon.letters().is_some() {
         return lettered(alloc, canon, keys);
     }
-    plain(alloc, canon, keys)
+    keys.without(alloc, "n", canon)
 }

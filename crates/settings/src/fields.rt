@@ -3,19 +3,18 @@ ghost use Rattle.std.specs.Prelude.{◌≡◌, option_map};
 ghost use Rattle.std.specs.List.{list_any};
 ghost use Rattle.std.specs.Str.{bytes_eq};
 ghost use Rattle.toml.specs.View.{table_view};
-ghost use Rattle.link_base.specs.Fault.{Gives, IsAnswer};
+ghost use Rattle.settings_readers.specs.KeyFaults.{Gives, IsAnswer};
 ghost use Rattle.link_plan.specs.Plan.{plain_shares};
-ghost use Rattle.settings.specs.Field.{new_name, name_keys, compare_keys, given_shares, no_shares, field_shares, field, fields};
-ghost use Rattle.settings.specs.PlanParts.{measure_keys};
+ghost use Rattle.settings.specs.Field.{compare_keys, field, field_of, field_shares, fields, given_shares, measure_keys, name_keys, new_name, no_shares};
 
 use crate::kinds::{comparison, sort_of};
 use crate::shares::Shares;
 use crate::texts::{TextRule, labels};
 use crate::words::Kinds;
-use link_base::{CompareKind, Fault, FieldShares, FieldSort, Text};
+use link_base::{CompareKind, FieldShares, FieldSort, Text};
 use link_limits::MOST_FIELDS;
 use link_plan::{FieldList, FieldPlan};
-use settings_readers::{Choice, Items, Keys, Place, Reader, Row, Rows};
+use settings_readers::{Choice, Items, KeyFault, Keys, Place, Reader, Row, Rows};
 use std::alloc::Global;
 use toml::Value;
 
@@ -52,7 +51,7 @@ fn is_taken(before: &[FieldPlan], name: &Text) -> bool
 }
 
 #[tactic(auto, unfolding(crate::specs::Field::new_name))]
-fn new_name(alloc: Global, before: &[FieldPlan], keys: &Keys) -> Result<Text, Fault>
+fn new_name(alloc: Global, before: &[FieldPlan], keys: &Keys) -> Result<Text, KeyFault>
     ensures { IsAnswer (new_name before.now (table_view keys.now.table.now) keys.now.above.now) result }
 {
     match keys.needed(alloc, &TextRule::FieldName, "name") {
@@ -68,7 +67,7 @@ fn new_name(alloc: Global, before: &[FieldPlan], keys: &Keys) -> Result<Text, Fa
 }
 
 #[tactic(auto, unfolding(crate::specs::Field::name_keys))]
-fn name_keys(alloc: Global, before: &[FieldPlan], keys: &Keys) -> Result<NameKeys, Fault>
+fn name_keys(alloc: Global, before: &[FieldPlan], keys: &Keys) -> Result<NameKeys, KeyFault>
     ensures { IsAnswer (name_keys before.now (table_view keys.now.table.now) keys.now.above.now) result }
 {
     match new_name(alloc, before, keys) {
@@ -88,12 +87,12 @@ fn name_keys(alloc: Global, before: &[FieldPlan], keys: &Keys) -> Result<NameKey
 }
 
 #[tactic(auto, unfolding(crate::specs::Field::compare_keys))]
-fn compare_keys(alloc: Global, keys: &Keys) -> Result<CompareKeys, Fault>
+fn compare_keys(alloc: Global, keys: &Keys) -> Result<CompareKeys, KeyFault>
     ensures { IsAnswer (compare_keys (table_view keys.now.table.now) keys.now.above.now) result }
 {
     match keys.needed(alloc, &Choice(Kinds), "kind") {
         Ok(kind) => match sort_of(alloc, kind, keys) {
-            Ok(sort) => match comparison(alloc, kind, keys) {
+            Ok(sort) => match comparison(alloc, sort, keys) {
                 Ok((compare, rare)) => Ok(CompareKeys {
                     sort,
                     compare,
@@ -108,7 +107,7 @@ fn compare_keys(alloc: Global, keys: &Keys) -> Result<CompareKeys, Fault>
 }
 
 #[tactic(auto, unfolding(crate::specs::Field::given_shares))]
-fn given_shares(alloc: Global, rare: bool, keys: &Keys) -> Result<Option<FieldShares>, Fault>
+fn given_shares(alloc: Global, rare: bool, keys: &Keys) -> Result<Option<FieldShares>, KeyFault>
     ensures { Gives (λ s. option_map plain_shares s) (given_shares rare (table_view keys.now.table.now) keys.now.above.now) result }
 {
     let m = keys.needed(alloc, &Shares { rare }, "m")?;
@@ -117,10 +116,12 @@ fn given_shares(alloc: Global, rare: bool, keys: &Keys) -> Result<Option<FieldSh
 }
 
 #[tactic(auto, unfolding(crate::specs::Field::no_shares))]
-fn no_shares(alloc: Global, keys: &Keys) -> Result<Option<FieldShares>, Fault>
+fn no_shares(alloc: Global, keys: &Keys) -> Result<Option<FieldShares>, KeyFault>
     ensures { Gives (λ s. option_map plain_shares s) (no_shares (table_view keys.now.table.now) keys.now.above.now) result }
 {
-    keys.without_both(alloc, "m", "u", None)
+    keys.absent(alloc, "m")?;
+    keys.absent(alloc, "u")?;
+    Ok(None)
 }
 
 fn field_shares(
@@ -128,7 +129,7 @@ fn field_shares(
     sampled: bool,
     rare: bool,
     keys: &Keys,
-) -> Result<Option<FieldShares>, Fault>
+) -> Result<Option<FieldShares>, KeyFault>
     ensures { Gives (λ s. option_map plain_shares s) (field_shares sampled rare (table_view keys.now.table.now) keys.now.above.now) result }
 {
     if sampled {
@@ -143,7 +144,7 @@ fn measure_keys(
     alloc: Global,
     sampled: bool,
     keys: &Keys,
-) -> Result<(CompareKeys, Option<FieldShares>), Fault>
+) -> Result<(CompareKeys, Option<FieldShares>), KeyFault>
     ensures { Gives (λ m. (m.0, option_map plain_shares m.1)) (measure_keys sampled (table_view keys.now.table.now) keys.now.above.now) result }
 {
     match compare_keys(alloc, keys) {
@@ -157,27 +158,34 @@ fn measure_keys(
     }
 }
 
+// The keys of a field in one.
+fn field_of(named: NameKeys, compared: CompareKeys, shares: Option<FieldShares>) -> FieldPlan
+    ensures { result ≡ field_of named compared (option_map plain_shares shares) }
+{
+    FieldPlan {
+        name: named.name,
+        column_a: named.column_a,
+        column_b: named.column_b,
+        sort: compared.sort,
+        compare: compared.compare,
+        rare: compared.rare,
+        shares,
+    }
+}
+
 #[tactic(auto, unfolding(crate::specs::Field::field))]
 fn field(
     alloc: Global,
     sampled: bool,
     before: &[FieldPlan],
     keys: &Keys,
-) -> Result<FieldPlan, Fault>
+) -> Result<FieldPlan, KeyFault>
     ensures { IsAnswer (field sampled before.now (table_view keys.now.table.now) keys.now.above.now) result }
 {
     keys.known(alloc, &FIELD_KEYS)?;
     match name_keys(alloc, before, keys) {
         Ok(named) => match measure_keys(alloc, sampled, keys) {
-            Ok((compared, shares)) => Ok(FieldPlan {
-                name: named.name,
-                column_a: named.column_a,
-                column_b: named.column_b,
-                sort: compared.sort,
-                compare: compared.compare,
-                rare: compared.rare,
-                shares,
-            }),
+            Ok((compared, shares)) => Ok(field_of(named, compared, shares)),
             Err(fault) => {
                 drop(named);
                 Err(fault)
@@ -198,7 +206,12 @@ impl Row for FieldTable {
 
     ghost gives = { λ f. field f.sampled };
 
-    fn read(&self, alloc: Global, before: &[FieldPlan], keys: &Keys) -> Result<FieldPlan, Fault> {
+    fn read(
+        &self,
+        alloc: Global,
+        before: &[FieldPlan],
+        keys: &Keys,
+    ) -> Result<FieldPlan, KeyFault> {
         field(alloc, self.sampled, before, keys)
     }
 }
@@ -214,7 +227,7 @@ impl Reader for Fields {
 
     ghost gives = { λ f. fields f.sampled };
 
-    fn read(&self, alloc: Global, place: &Place, value: &Value) -> Result<FieldList, Fault> {
+    fn read(&self, alloc: Global, place: &Place, value: &Value) -> Result<FieldList, KeyFault> {
         let rows = Items {
             low: 1,
             high: MOST_FIELDS as usize,

@@ -1,20 +1,19 @@
 // What a field holds, and how it is compared.
 ghost use Rattle.std.specs.Prelude.{◌≡◌};
 ghost use Rattle.toml.specs.View.{table_view};
-ghost use Rattle.link_base.specs.Fault.{IsAnswer};
-ghost use Rattle.settings.specs.Field.{date_sort, plain_sort, sort_of, by_canon, by_days, by_years, plain_compare, compare_by, rare_number};
+ghost use Rattle.settings_readers.specs.KeyFaults.{IsAnswer};
+ghost use Rattle.settings.specs.Field.{by_canon, by_days, by_years, compare_by, comparison, date_sort, rare_number, sort_of, span};
 ghost use Rattle.link_plan.specs.Ranges.{may_be_rare};
-ghost use Rattle.settings.specs.PlanParts.{comparison, span};
 
 use crate::canons::numbered;
-use crate::words::{Forms, Kind};
-use link_base::{Canon, CompareKind, Fault, FieldSort};
+use crate::words::{ComparisonsOf, Forms, Kind};
+use link_base::{Canon, CompareKind, FieldSort};
 use link_plan::{LEAST_RARE, MOST_DAYS, MOST_RARE, MOST_YEARS};
-use settings_readers::{Choice, Keys, Whole};
+use settings_readers::{Choice, KeyFault, Keys, Whole};
 use std::alloc::Global;
 
 #[tactic(auto, unfolding(crate::specs::Field::date_sort))]
-fn date_sort(alloc: Global, keys: &Keys) -> Result<FieldSort, Fault>
+fn date_sort(alloc: Global, keys: &Keys) -> Result<FieldSort, KeyFault>
     ensures { IsAnswer (date_sort (table_view keys.now.table.now) keys.now.above.now) result }
 {
     match keys.needed_both(alloc, &Choice(Forms), "form_a", "form_b") {
@@ -23,26 +22,19 @@ fn date_sort(alloc: Global, keys: &Keys) -> Result<FieldSort, Fault>
     }
 }
 
-#[tactic(auto, unfolding(crate::specs::Field::plain_sort))]
-fn plain_sort(alloc: Global, sort: FieldSort, keys: &Keys) -> Result<FieldSort, Fault>
-    ensures { IsAnswer (plain_sort sort (table_view keys.now.table.now) keys.now.above.now) result }
-{
-    keys.without_both(alloc, "form_a", "form_b", sort)
-}
-
 /// The sort of a field of a kind. A date has two forms, and nothing else has one.
-pub(crate) fn sort_of(alloc: Global, kind: Kind, keys: &Keys) -> Result<FieldSort, Fault>
+pub(crate) fn sort_of(alloc: Global, kind: Kind, keys: &Keys) -> Result<FieldSort, KeyFault>
     ensures { IsAnswer (sort_of kind (table_view keys.now.table.now) keys.now.above.now) result }
 {
     match kind {
-        Kind::Name => plain_sort(alloc, FieldSort::Name, keys),
-        Kind::Place => plain_sort(alloc, FieldSort::Place, keys),
+        Kind::Name => keys.without_both(alloc, "form_a", "form_b", FieldSort::Name),
+        Kind::Place => keys.without_both(alloc, "form_a", "form_b", FieldSort::Place),
         Kind::Date => date_sort(alloc, keys),
     }
 }
 
 #[tactic(auto, unfolding(crate::specs::Field::by_canon))]
-fn by_canon(alloc: Global, canon: Canon, keys: &Keys) -> Result<CompareKind, Fault>
+fn by_canon(alloc: Global, canon: Canon, keys: &Keys) -> Result<CompareKind, KeyFault>
     ensures { IsAnswer (by_canon canon (table_view keys.now.table.now) keys.now.above.now) result }
 {
     match numbered(alloc, canon, keys) {
@@ -52,7 +44,7 @@ fn by_canon(alloc: Global, canon: Canon, keys: &Keys) -> Result<CompareKind, Fau
 }
 
 // How far apart two values that agree may be; letters are not counted beside it.
-fn span(alloc: Global, most: u32, keys: &Keys) -> Result<u32, Fault>
+fn span(alloc: Global, most: u32, keys: &Keys) -> Result<u32, KeyFault>
     ensures { IsAnswer (span most (table_view keys.now.table.now) keys.now.above.now) result }
 {
     match keys.absent(alloc, "n") {
@@ -65,7 +57,7 @@ fn span(alloc: Global, most: u32, keys: &Keys) -> Result<u32, Fault>
 }
 
 #[tactic(auto, unfolding(crate::specs::Field::by_days))]
-fn by_days(alloc: Global, keys: &Keys) -> Result<CompareKind, Fault>
+fn by_days(alloc: Global, keys: &Keys) -> Result<CompareKind, KeyFault>
     ensures { IsAnswer (by_days (table_view keys.now.table.now) keys.now.above.now) result }
 {
     match span(alloc, MOST_DAYS, keys) {
@@ -75,7 +67,7 @@ fn by_days(alloc: Global, keys: &Keys) -> Result<CompareKind, Fault>
 }
 
 #[tactic(auto, unfolding(crate::specs::Field::by_years))]
-fn by_years(alloc: Global, keys: &Keys) -> Result<CompareKind, Fault>
+fn by_years(alloc: Global, keys: &Keys) -> Result<CompareKind, KeyFault>
     ensures { IsAnswer (by_years (table_view keys.now.table.now) keys.now.above.now) result }
 {
     match span(alloc, MOST_YEARS, keys) {
@@ -84,20 +76,13 @@ fn by_years(alloc: Global, keys: &Keys) -> Result<CompareKind, Fault>
     }
 }
 
-#[tactic(auto, unfolding(crate::specs::Field::plain_compare))]
-fn plain_compare(alloc: Global, compare: CompareKind, keys: &Keys) -> Result<CompareKind, Fault>
-    ensures { IsAnswer (plain_compare compare (table_view keys.now.table.now) keys.now.above.now) result }
-{
-    keys.without_both(alloc, "n", "t", compare)
-}
-
 // The comparison that a word names, with its number where it has one.
-fn compare_by(alloc: Global, named: CompareKind, keys: &Keys) -> Result<CompareKind, Fault>
+fn compare_by(alloc: Global, named: CompareKind, keys: &Keys) -> Result<CompareKind, KeyFault>
     ensures { IsAnswer (compare_by named (table_view keys.now.table.now) keys.now.above.now) result }
 {
     match named {
         CompareKind::Same(canon) => by_canon(alloc, canon, keys),
-        CompareKind::Initials => plain_compare(alloc, CompareKind::Initials, keys),
+        CompareKind::Initials => keys.without_both(alloc, "n", "t", CompareKind::Initials),
         CompareKind::DaysWithin(_) => by_days(alloc, keys),
         CompareKind::YearsWithin(_) => by_years(alloc, keys),
     }
@@ -113,7 +98,7 @@ fn may_be_rare(compare: CompareKind) -> bool
 }
 
 // The rare number of a field that is compared so.
-fn rare_number(alloc: Global, compare: CompareKind, keys: &Keys) -> Result<Option<u32>, Fault>
+fn rare_number(alloc: Global, compare: CompareKind, keys: &Keys) -> Result<Option<u32>, KeyFault>
     ensures { IsAnswer (rare_number compare (table_view keys.now.table.now) keys.now.above.now) result }
 {
     if may_be_rare(compare) {
@@ -126,16 +111,16 @@ fn rare_number(alloc: Global, compare: CompareKind, keys: &Keys) -> Result<Optio
     keys.without(alloc, "rare", None)
 }
 
-/// The comparison of a field of a kind, and its rare number.
-#[tactic(auto, unfolding(crate::specs::PlanParts::comparison))]
+/// The comparison of a field of a sort, and its rare number.
+#[tactic(auto, unfolding(crate::specs::Field::comparison))]
 pub(crate) fn comparison(
     alloc: Global,
-    kind: Kind,
+    sort: FieldSort,
     keys: &Keys,
-) -> Result<(CompareKind, Option<u32>), Fault>
-    ensures { IsAnswer (comparison kind (table_view keys.now.table.now) keys.now.above.now) result }
+) -> Result<(CompareKind, Option<u32>), KeyFault>
+    ensures { IsAnswer (comparison sort (table_view keys.now.table.now) keys.now.above.now) result }
 {
-    match keys.needed(alloc, &Choice(kind), "compare") {
+    match keys.needed(alloc, &Choice(ComparisonsOf(sort)), "compare") {
         Ok(named) => match compare_by(alloc, named, keys) {
             Ok(compare) => match rare_number(alloc, compare, keys) {
                 Ok(rare) => Ok((compare, rare)),

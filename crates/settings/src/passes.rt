@@ -1,15 +1,14 @@
 // A pass's table, and its parts.
 ghost use Rattle.std.specs.Prelude.{◌≡◌};
 ghost use Rattle.toml.specs.View.{table_view};
-ghost use Rattle.link_base.specs.Fault.{IsAnswer};
-ghost use Rattle.settings.specs.Pass.{field_named, part, parts, pass, passes};
-ghost use Rattle.settings.specs.PlanParts.{key_of};
+ghost use Rattle.settings_readers.specs.KeyFaults.{IsAnswer};
+ghost use Rattle.settings.specs.Pass.{field_named, key_of, part, parts, pass, passes};
 
 use crate::canons::numbered;
 use crate::words::KeysOf;
-use link_base::{Canon, Fault, FieldSort, Part, Pass, PassList};
+use link_base::{Canon, FieldSort, Part, Pass, PassList};
 use link_plan::{FieldList, MOST_PARTS, MOST_PASSES};
-use settings_readers::{Choice, Choices, Items, Keys, Place, Reader, Row, Rows};
+use settings_readers::{Choice, Choices, Items, KeyFault, Keys, Place, Reader, Row, Rows};
 use std::alloc::Global;
 use toml::Value;
 
@@ -47,8 +46,8 @@ impl Choices for FieldNames<'_> {
 }
 
 // The key of a field of a sort.
-#[tactic(auto, unfolding(crate::specs::PlanParts::key_of))]
-fn key_of(alloc: Global, sort: FieldSort, keys: &Keys) -> Result<Canon, Fault>
+#[tactic(auto, unfolding(crate::specs::Pass::key_of))]
+fn key_of(alloc: Global, sort: FieldSort, keys: &Keys) -> Result<Canon, KeyFault>
     ensures { IsAnswer (key_of sort (table_view keys.now.table.now) keys.now.above.now) result }
 {
     match keys.needed(alloc, &Choice(KeysOf(sort)), "key") {
@@ -58,7 +57,7 @@ fn key_of(alloc: Global, sort: FieldSort, keys: &Keys) -> Result<Canon, Fault>
 }
 
 #[tactic(auto, unfolding(crate::specs::Pass::part))]
-fn part(alloc: Global, fields: &FieldList, keys: &Keys) -> Result<Part, Fault>
+fn part(alloc: Global, fields: &FieldList, keys: &Keys) -> Result<Part, KeyFault>
     ensures { IsAnswer (part fields.now (table_view keys.now.table.now) keys.now.above.now) result }
 {
     keys.known(alloc, &PART_KEYS)?;
@@ -80,7 +79,7 @@ impl Row for PartTable<'_> {
 
     ghost gives = { λ p before. part p.fields.now };
 
-    fn read(&self, alloc: Global, _before: &[Part], keys: &Keys) -> Result<Part, Fault> {
+    fn read(&self, alloc: Global, _before: &[Part], keys: &Keys) -> Result<Part, KeyFault> {
         part(alloc, self.fields, keys)
     }
 }
@@ -96,7 +95,7 @@ impl Reader for Parts<'_> {
 
     ghost gives = { λ p. parts p.fields.now };
 
-    fn read(&self, alloc: Global, place: &Place, value: &Value) -> Result<Pass, Fault> {
+    fn read(&self, alloc: Global, place: &Place, value: &Value) -> Result<Pass, KeyFault> {
         let rows = Items {
             low: 1,
             high: MOST_PARTS,
@@ -112,7 +111,7 @@ impl Reader for Parts<'_> {
 }
 
 #[tactic(auto, unfolding(crate::specs::Pass::pass))]
-fn pass(alloc: Global, fields: &FieldList, keys: &Keys) -> Result<Pass, Fault>
+fn pass(alloc: Global, fields: &FieldList, keys: &Keys) -> Result<Pass, KeyFault>
     ensures { IsAnswer (pass fields.now (table_view keys.now.table.now) keys.now.above.now) result }
 {
     keys.known(alloc, &PASS_KEYS)?;
@@ -130,7 +129,7 @@ impl Row for PassTable<'_> {
 
     ghost gives = { λ p before. pass p.fields.now };
 
-    fn read(&self, alloc: Global, _before: &[Pass], keys: &Keys) -> Result<Pass, Fault> {
+    fn read(&self, alloc: Global, _before: &[Pass], keys: &Keys) -> Result<Pass, KeyFault> {
         pass(alloc, self.fields, keys)
     }
 }
@@ -146,7 +145,7 @@ impl Reader for Passes<'_> {
 
     ghost gives = { λ p. passes p.fields.now };
 
-    fn read(&self, alloc: Global, place: &Place, value: &Value) -> Result<PassList, Fault> {
+    fn read(&self, alloc: Global, place: &Place, value: &Value) -> Result<PassList, KeyFault> {
         let rows = Items {
             low: 1,
             high: MOST_PASSES,

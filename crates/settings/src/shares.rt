@@ -4,9 +4,8 @@ ghost use Rattle.toml.specs.View.{view, items_view};
 ghost use Rattle.settings_readers.specs.Values.{magnitude};
 ghost use Rattle.settings.specs.Field.{wholes, share_at, shares_or_none, shares};
 
-use link_base::Fault;
 use link_limits::WHOLE_FIELD;
-use settings_readers::{Place, Reader};
+use settings_readers::{KeyFault, Place, Reader};
 use std::alloc::Global;
 use toml::Value;
 
@@ -21,7 +20,7 @@ impl Reader for Shares {
 
     ghost gives = { λ s. shares s.rare };
 
-    fn read(&self, alloc: Global, place: &Place, value: &Value) -> Result<[u16; 4], Fault> {
+    fn read(&self, alloc: Global, place: &Place, value: &Value) -> Result<[u16; 4], KeyFault> {
         match value.as_array() {
             None => place.wrong_type(alloc),
             Some(items) => {

@@ -2,7 +2,7 @@
 ghost use Rattle.std.specs.Prelude.{◌≡◌, IsUtf8, Ok};
 ghost use Rattle.std.specs.List.{list_all};
 ghost use Rattle.toml.specs.View.{table_view, view};
-ghost use Rattle.link_base.specs.Fault.{Gives, IsAnswer};
+ghost use Rattle.settings_readers.specs.KeyFaults.{Gives, IsAnswer};
 ghost use Rattle.link_base.specs.Tables.{is_word_byte};
 ghost use Rattle.settings_readers.specs.Parts.{defaulted, defaulted_both};
 ghost use Rattle.settings_readers.specs.Values.{whole};
@@ -10,12 +10,12 @@ ghost use Rattle.settings.specs.declared.texts.TextRule.TheVariants as rule;
 ghost use Rattle.link_plan.specs.Names.{is_output, is_name_byte};
 ghost use Rattle.settings.specs.Values.{fits, text};
 
-use link_base::{Fault, NoMemory, Text};
+use link_base::{NoMemory, Text};
 use link_limits::{MOST_NAME_BYTES, MOST_WORD_BYTES};
 use link_plan::{
     MOST_FIELD_NAME_BYTES, MOST_LABEL_BYTES, MOST_LETTERS, MOST_MARK_BYTES, MOST_SEED,
 };
-use settings_readers::{Keys, Place, Reader, is_listed, whole_number};
+use settings_readers::{KeyFault, Keys, Place, Reader, is_listed, whole_number};
 use std::alloc::Global;
 use std::marker::Model;
 use toml::Value;
@@ -106,7 +106,7 @@ fn text_in<'a>(
     rule: TextRule,
     place: &Place,
     value: &'a Value,
-) -> Result<&'a str, Fault>
+) -> Result<&'a str, KeyFault>
     ensures { Gives (λ text. text.now) (text rule place.now (view value.now)) result }
 {
     match value.as_str() {
@@ -121,17 +121,17 @@ fn text_in<'a>(
 }
 
 // The text of these bytes, where there is memory.
-fn text_of(alloc: Global, bytes: &[u8]) -> Result<Text, Fault>
+fn text_of(alloc: Global, bytes: &[u8]) -> Result<Text, KeyFault>
     ensures { IsAnswer (Ok bytes.now) result }
 {
     match Text::new(alloc, bytes) {
         Ok(text) => Ok(text),
-        Err(NoMemory) => Err(Fault::NoMemory),
+        Err(NoMemory) => Err(KeyFault::NoMemory),
     }
 }
 
 // The label at a key; it is this one where the key is not there.
-fn label(alloc: Global, default: &[u8], keys: &Keys, key: &str) -> Result<Text, Fault>
+fn label(alloc: Global, default: &[u8], keys: &Keys, key: &str) -> Result<Text, KeyFault>
     ensures { IsAnswer (defaulted (text rule.Label) default.now (table_view keys.now.table.now) keys.now.above.now key.now) result }
 {
     match text_of(alloc, default) {
@@ -147,7 +147,7 @@ pub(crate) fn labels(
     keys: &Keys,
     key: &str,
     other: &str,
-) -> Result<(Text, Text), Fault>
+) -> Result<(Text, Text), KeyFault>
     ensures { IsAnswer (defaulted_both (text rule.Label) default.now (table_view keys.now.table.now) keys.now.above.now key.now other.now) result }
 {
     match label(alloc, default, keys, key) {
@@ -167,7 +167,7 @@ impl Reader for TextRule {
 
     ghost gives = { text };
 
-    fn read(&self, alloc: Global, place: &Place, value: &Value) -> Result<Text, Fault> {
+    fn read(&self, alloc: Global, place: &Place, value: &Value) -> Result<Text, KeyFault> {
         match text_in(alloc, *self, place, value) {
             Ok(text) => text_of(alloc, text.as_bytes()),
             Err(fault) => Err(fault),
@@ -192,12 +192,12 @@ impl Model for FileName {
 }
 
 impl FileName {
-    fn new(alloc: Global, name: &str) -> Result<FileName, Fault>
+    fn new(alloc: Global, name: &str) -> Result<FileName, KeyFault>
         ensures { IsAnswer (Ok name.now) result }
     {
         match Text::new(alloc, name.as_bytes()) {
             Ok(name) => Ok(FileName { name }),
-            Err(NoMemory) => Err(Fault::NoMemory),
+            Err(NoMemory) => Err(KeyFault::NoMemory),
         }
     }
 
@@ -226,7 +226,7 @@ impl Reader for File {
 
     ghost gives = { λ _. text rule.File };
 
-    fn read(&self, alloc: Global, place: &Place, value: &Value) -> Result<FileName, Fault> {
+    fn read(&self, alloc: Global, place: &Place, value: &Value) -> Result<FileName, KeyFault> {
         match text_in(alloc, TextRule::File, place, value) {
             Ok(name) => FileName::new(alloc, name),
             Err(fault) => Err(fault),
@@ -245,7 +245,7 @@ impl Reader for Letters {
 
     ghost gives = { λ _. whole 1 MOST_LETTERS };
 
-    fn read(&self, alloc: Global, place: &Place, value: &Value) -> Result<u8, Fault> {
+    fn read(&self, alloc: Global, place: &Place, value: &Value) -> Result<u8, KeyFault> {
         match whole_number(alloc, 1, u64::from(MOST_LETTERS), place, value) {
             Ok(letters) => Ok(letters as u8),
             Err(fault) => Err(fault),
@@ -264,7 +264,7 @@ impl Reader for Seed {
 
     ghost gives = { λ _. whole 0 MOST_SEED };
 
-    fn read(&self, alloc: Global, place: &Place, value: &Value) -> Result<u64, Fault> {
+    fn read(&self, alloc: Global, place: &Place, value: &Value) -> Result<u64, KeyFault> {
         whole_number(alloc, 0, MOST_SEED, place, value)
     }
 }

@@ -1,13 +1,12 @@
 // The keys of the top table.
-ghost use Rattle.std.specs.Prelude.{◌≡◌, ◌∷◌, IfErr, IfOk, IfSome, IsUtf8, option_to_list, not};
+ghost use Rattle.std.specs.Prelude.{◌≡◌, ◌≢◌, [], ◌∷◌, Err, IfErr, IfOk, IfSome, IsUtf8, option_to_list, not};
 ghost use Rattle.toml.specs.View.{table_view};
 ghost use Rattle.link_texts.specs.Texts.{stands_among};
 ghost use Rattle.link_base.specs.declared.fault.Fault.TheVariants as fault;
-ghost use Rattle.link_base.specs.Fault.{Gives, IsAnswer};
-ghost use Rattle.link_base.specs.Tables.{AreWordPairs};
+ghost use Rattle.link_base.specs.Fault as run_fault;
+ghost use Rattle.settings_readers.specs.KeyFaults.{Gives, IsAnswer};
 ghost use Rattle.settings_readers.specs.Parts.{defaulted};
-ghost use Rattle.settings.specs.Settings.{document, file_keys, is_free, IsSettingsFault, journal_of, numbers, plan_from, settings, tables};
-ghost use Rattle.settings.specs.PlanParts.{link_keys, matching_keys, other_sources, plan_in_parts, sources_in_parts, tables_over};
+ghost use Rattle.settings.specs.Settings.{document, file_keys, is_free, IsSettingsFault, journal_of, link_keys, matching_keys, numbers, of_keys, other_sources, plan_from, plan_of, settings, sources, standard_tables, tables_over};
 ghost use Rattle.link_plan.specs.Ranges.{KeepsRanges, NamesFiles};
 
 use crate::fields::Fields;
@@ -15,11 +14,12 @@ use crate::passes::Passes;
 use crate::texts::{File, FileName, Seed, TextRule, labels};
 use crate::word_tables::{Texts, WordTable};
 use crate::words::Delimiters;
-use link_base::{Fault, PassList, Tables, Text};
+use link_base::{Fault, NoMemory, PassList, Tables, Text};
 use link_limits::PER_MILLION;
 use link_plan::{FieldList, MOST_AWARD, MOST_LISTED_WORDS, MOST_MARKS, Plan};
-use settings_readers::{Choice, Keys, Place, Reader, Truth, Whole};
+use settings_readers::{Choice, KeyFault, Keys, Place, Reader, Truth, Whole};
 use std::alloc::Global;
+use toml::Table;
 
 const TOP_KEYS: [&str; 21] = [
     "file_a",
@@ -67,10 +67,7 @@ pub(crate) struct OtherSources {
 #[derive(Drop)]
 pub(crate) struct SourceKeys {
     files: FileKeys,
-    delimiter_a: u8,
-    delimiter_b: u8,
-    sample: Option<FileName>,
-    journal: Option<FileName>,
+    others: OtherSources,
 }
 
 /// The keys that are numbers and truth values.
@@ -122,7 +119,7 @@ fn journal_of(
     files: &FileKeys,
     sample: &Option<FileName>,
     keys: &Keys,
-) -> Result<Option<FileName>, Fault>
+) -> Result<Option<FileName>, KeyFault>
     ensures { IsAnswer (journal_of (files.now.file_a ∷ files.now.file_b ∷ option_to_list sample.now) (table_view keys.now.table.now) keys.now.above.now) result }
 {
     let journal = keys.optional(alloc, &File, "journal")?;
@@ -134,7 +131,7 @@ fn journal_of(
 }
 
 #[tactic(auto, unfolding(crate::specs::Settings::file_keys))]
-fn file_keys(alloc: Global, keys: &Keys) -> Result<FileKeys, Fault>
+fn file_keys(alloc: Global, keys: &Keys) -> Result<FileKeys, KeyFault>
     ensures { IsAnswer (file_keys (table_view keys.now.table.now) keys.now.above.now) result }
 {
     match keys.needed_both(alloc, &File, "file_a", "file_b") {
@@ -155,8 +152,8 @@ fn file_keys(alloc: Global, keys: &Keys) -> Result<FileKeys, Fault>
     }
 }
 
-#[tactic(auto, unfolding(crate::specs::PlanParts::other_sources))]
-fn other_sources(alloc: Global, files: &FileKeys, keys: &Keys) -> Result<OtherSources, Fault>
+#[tactic(auto, unfolding(crate::specs::Settings::other_sources))]
+fn other_sources(alloc: Global, files: &FileKeys, keys: &Keys) -> Result<OtherSources, KeyFault>
     ensures { IsAnswer (other_sources files.now (table_view keys.now.table.now) keys.now.above.now) result }
 {
     let delimiter = Choice(Delimiters);
@@ -184,19 +181,13 @@ fn other_sources(alloc: Global, files: &FileKeys, keys: &Keys) -> Result<OtherSo
     }
 }
 
-#[tactic(auto, unfolding(crate::specs::PlanParts::sources_in_parts))]
-fn sources(alloc: Global, keys: &Keys) -> Result<SourceKeys, Fault>
-    ensures { IsAnswer (sources_in_parts (table_view keys.now.table.now) keys.now.above.now) result }
+#[tactic(auto, unfolding(crate::specs::Settings::sources))]
+fn sources(alloc: Global, keys: &Keys) -> Result<SourceKeys, KeyFault>
+    ensures { IsAnswer (sources (table_view keys.now.table.now) keys.now.above.now) result }
 {
     match file_keys(alloc, keys) {
         Ok(files) => match other_sources(alloc, &files, keys) {
-            Ok(others) => Ok(SourceKeys {
-                files,
-                delimiter_a: others.delimiter_a,
-                delimiter_b: others.delimiter_b,
-                sample: others.sample,
-                journal: others.journal,
-            }),
+            Ok(others) => Ok(SourceKeys { files, others }),
             Err(fault) => {
                 drop(files);
                 Err(fault)
@@ -207,7 +198,7 @@ fn sources(alloc: Global, keys: &Keys) -> Result<SourceKeys, Fault>
 }
 
 #[tactic(auto, unfolding(crate::specs::Settings::numbers))]
-fn numbers(alloc: Global, keys: &Keys) -> Result<NumberKeys, Fault>
+fn numbers(alloc: Global, keys: &Keys) -> Result<NumberKeys, KeyFault>
     ensures { IsAnswer (numbers (table_view keys.now.table.now) keys.now.above.now) result }
 {
     let level = Whole {
@@ -239,7 +230,7 @@ fn replace<R: Reader>(
     reader: &R,
     keys: &Keys,
     key: &str,
-) -> Result<(), Fault>
+) -> Result<(), KeyFault>
     ensures { Gives (λ _. item.new) (defaulted (R.gives reader.now) item.old (table_view keys.now.table.now) keys.now.above.now key.now) result }
 {
     match keys.optional(alloc, reader, key) {
@@ -252,8 +243,8 @@ fn replace<R: Reader>(
     }
 }
 
-#[tactic(auto, unfolding(crate::specs::PlanParts::tables_over))]
-fn replace_tables(alloc: Global, tables: &mut Tables, keys: &Keys) -> Result<(), Fault>
+#[tactic(auto, unfolding(crate::specs::Settings::tables_over))]
+fn replace_tables(alloc: Global, tables: &mut Tables, keys: &Keys) -> Result<(), KeyFault>
     ensures { Gives (λ _. tables.new) (tables_over tables.old (table_view keys.now.table.now) keys.now.above.now) result }
 {
     let marks = Texts {
@@ -271,20 +262,19 @@ fn replace_tables(alloc: Global, tables: &mut Tables, keys: &Keys) -> Result<(),
     replace(alloc, &mut tables.places, &WordTable, keys, "places")
 }
 
-#[tactic(auto, unfolding(crate::specs::Settings::tables, crate::specs::PlanParts::tables_over))]
-fn tables(alloc: Global, keys: &Keys) -> Result<Tables, Fault>
-    ensures gives { IsAnswer (tables (table_view keys.now.table.now) keys.now.above.now) result }
-    ensures names { IfOk result (λ tables. AreWordPairs tables.names) }
-    ensures places { IfOk result (λ tables. AreWordPairs tables.places) }
+// The tables of a settings file that names none.
+fn standard_tables(alloc: Global) -> Result<Tables, NoMemory>
+    ensures { IfOk result (λ tables. tables ≡ standard_tables) }
 {
-    let mut tables = Tables::standard(alloc)?;
+    Tables::standard(alloc)
+}
+
+fn tables(alloc: Global, keys: &Keys) -> Result<Tables, KeyFault>
+    ensures { IsAnswer (tables_over standard_tables (table_view keys.now.table.now) keys.now.above.now) result }
+{
+    let mut tables = standard_tables(alloc)?;
     match replace_tables(alloc, &mut tables, keys) {
-        Ok(()) => {
-            // That pairs are words and rise is a fact of their type, which the clauses repeat.
-            let _ = tables.names.pairs();
-            let _ = tables.places.pairs();
-            Ok(tables)
-        }
+        Ok(()) => Ok(tables),
         Err(fault) => {
             drop(tables);
             Err(fault)
@@ -303,43 +293,40 @@ fn optional_text(name: Option<FileName>) -> Option<Text>
 }
 
 // The plan of the parts of the top table.
-fn plan_from(
-    sources: SourceKeys,
-    numbers: NumberKeys,
-    tables: Tables,
-    fields: FieldList,
-    passes: PassList,
-) -> Plan
-    requires names { AreWordPairs tables.names }
-    requires places { AreWordPairs tables.places }
-    ensures gives { result ≡ plan_from sources numbers tables fields passes }
+fn plan_from(sources: SourceKeys, links: LinkKeys) -> Plan
+    ensures gives { result ≡ plan_from sources links }
     ensures files { NamesFiles result }
-    ensures names { AreWordPairs result.tables.names }
-    ensures places { AreWordPairs result.tables.places }
 {
+    let numbers = links.numbers;
+    let files = sources.files;
+    let others = sources.others;
     Plan {
-        file_a: sources.files.file_a.into_text(),
-        file_b: sources.files.file_b.into_text(),
-        id_a: sources.files.id_a,
-        id_b: sources.files.id_b,
-        delimiter_a: sources.delimiter_a,
-        delimiter_b: sources.delimiter_b,
-        sample: optional_text(sources.sample),
-        journal: optional_text(sources.journal),
+        file_a: files.file_a.into_text(),
+        file_b: files.file_b.into_text(),
+        id_a: files.id_a,
+        id_b: files.id_b,
+        delimiter_a: others.delimiter_a,
+        delimiter_b: others.delimiter_b,
+        sample: optional_text(others.sample),
+        journal: optional_text(others.journal),
         mu_ppm: numbers.mu_ppm,
         lambda_ppm: numbers.lambda_ppm,
         seed: numbers.seed,
         award: numbers.award,
         strict: numbers.strict,
         double: numbers.double,
-        tables,
-        fields,
-        passes,
+        tables: links.tables,
+        fields: links.fields,
+        passes: links.passes,
     }
 }
 
-#[tactic(auto, unfolding(crate::specs::PlanParts::matching_keys))]
-fn matching_keys(alloc: Global, sampled: bool, keys: &Keys) -> Result<(FieldList, PassList), Fault>
+#[tactic(auto, unfolding(crate::specs::Settings::matching_keys))]
+fn matching_keys(
+    alloc: Global,
+    sampled: bool,
+    keys: &Keys,
+) -> Result<(FieldList, PassList), KeyFault>
     ensures { IsAnswer (matching_keys sampled (table_view keys.now.table.now) keys.now.above.now) result }
 {
     match keys.needed(alloc, &Fields { sampled }, "field") {
@@ -354,11 +341,9 @@ fn matching_keys(alloc: Global, sampled: bool, keys: &Keys) -> Result<(FieldList
     }
 }
 
-#[tactic(auto, unfolding(crate::specs::PlanParts::link_keys))]
-fn link_keys(alloc: Global, sampled: bool, keys: &Keys) -> Result<LinkKeys, Fault>
-    ensures gives { IsAnswer (link_keys sampled (table_view keys.now.table.now) keys.now.above.now) result }
-    ensures names { IfOk result (λ links. AreWordPairs links.tables.names) }
-    ensures places { IfOk result (λ links. AreWordPairs links.tables.places) }
+#[tactic(auto, unfolding(crate::specs::Settings::link_keys))]
+fn link_keys(alloc: Global, sampled: bool, keys: &Keys) -> Result<LinkKeys, KeyFault>
+    ensures { IsAnswer (link_keys sampled (table_view keys.now.table.now) keys.now.above.now) result }
 {
     let numbers = numbers(alloc, keys)?;
     match tables(alloc, keys) {
@@ -378,23 +363,15 @@ fn link_keys(alloc: Global, sampled: bool, keys: &Keys) -> Result<LinkKeys, Faul
     }
 }
 
-#[tactic(auto, unfolding(crate::specs::PlanParts::plan_in_parts))]
-fn plan_of(alloc: Global, keys: &Keys) -> Result<Plan, Fault>
-    ensures gives { IsAnswer (plan_in_parts (table_view keys.now.table.now) keys.now.above.now) result }
+#[tactic(auto, unfolding(crate::specs::Settings::plan_of))]
+fn plan_of(alloc: Global, keys: &Keys) -> Result<Plan, KeyFault>
+    ensures gives { IsAnswer (plan_of (table_view keys.now.table.now) keys.now.above.now) result }
     ensures files { IfOk result NamesFiles }
-    ensures names { IfOk result (λ plan. AreWordPairs plan.tables.names) }
-    ensures places { IfOk result (λ plan. AreWordPairs plan.tables.places) }
 {
     keys.known(alloc, &TOP_KEYS)?;
     match sources(alloc, keys) {
-        Ok(sources) => match link_keys(alloc, sources.sample.is_some(), keys) {
-            Ok(links) => Ok(plan_from(
-                sources,
-                links.numbers,
-                links.tables,
-                links.fields,
-                links.passes,
-            )),
+        Ok(sources) => match link_keys(alloc, sources.others.sample.is_some(), keys) {
+            Ok(links) => Ok(plan_from(sources, links)),
             Err(fault) => {
                 drop(sources);
                 Err(fault)
@@ -404,24 +381,36 @@ fn plan_of(alloc: Global, keys: &Keys) -> Result<Plan, Fault>
     }
 }
 
+// The plan of the top table; its fault is that of the file.
+fn plan_of_table(alloc: Global, table: &Table) -> Result<Plan, Fault>
+    ensures gives { run_fault.IsAnswer (of_keys (plan_of (table_view table.now) [])) result }
+    ensures kind { IfErr result IsSettingsFault }
+    ensures no_other { result ≢ Err fault.NotToml }
+    ensures ranges { IfOk result KeepsRanges }
+    ensures files { IfOk result NamesFiles }
+{
+    let keys = Keys { table, above: b"" };
+    match plan_of(alloc, &keys) {
+        Ok(plan) => {
+            // That pairs of words rise is a fact of their type.
+            let _ = plan.tables.names.pairs();
+            let _ = plan.tables.places.pairs();
+            Ok(plan)
+        }
+        Err(fault) => Err(fault.into_fault()),
+    }
+}
+
 /// The plan of a settings file, or its first key at fault. Bytes that are not UTF-8 are not TOML.
 pub fn read_settings(alloc: Global, bytes: &[u8]) -> Result<Plan, Fault>
-    ensures gives { IsAnswer (settings bytes.now) result }
+    ensures gives { run_fault.IsAnswer (settings bytes.now) result }
     ensures not_toml { result ≡ Err fault.NotToml → document bytes.now ≡ None }
     ensures kind { IfErr result IsSettingsFault }
     ensures ranges { IfOk result KeepsRanges }
     ensures files { IfOk result NamesFiles }
-    ensures names { IfOk result (λ plan. AreWordPairs plan.tables.names) }
-    ensures places { IfOk result (λ plan. AreWordPairs plan.tables.places) }
 {
     match toml::table_from_slice(alloc, bytes) {
-        Ok(table) => {
-            let keys = Keys {
-                table: &table,
-                above: b"",
-            };
-            plan_of(alloc, &keys)
-        }
+        Ok(table) => plan_of_table(alloc, &table),
         Err(e) => {
             if e.is_memory() {
                 Err(Fault::NoMemory)

@@ -1,15 +1,15 @@
 // Lists of texts, and tables from word to word.
 ghost use Rattle.std.specs.Prelude.{◌≡◌, [], IfOk, true};
 ghost use Rattle.toml.specs.View.{view, table_view};
-ghost use Rattle.link_base.specs.Fault.{Gives, IsAnswer};
+ghost use Rattle.settings_readers.specs.KeyFaults.{Gives, IsAnswer};
 ghost use Rattle.settings_readers.specs.Laws.{keys_ascend};
 ghost use Rattle.settings.specs.Values.{text};
 ghost use Rattle.settings.specs.WordTables.{texts, word_pair, pairs, small_table, word_table};
 
 use crate::texts::{TextRule, fits};
-use link_base::{Fault, NoMemory, Text, TextList, WordPair, WordPairs};
+use link_base::{NoMemory, Text, TextList, WordPair, WordPairs};
 use link_plan::MOST_WORD_PAIRS;
-use settings_readers::{Element, Items, Place, Reader};
+use settings_readers::{Element, Items, KeyFault, Place, Reader, keys_ascend};
 use std::alloc::Global;
 use toml::{Table, Value};
 
@@ -24,7 +24,7 @@ impl Element for TextRule {
         _before: &[Text],
         place: &Place,
         value: &Value,
-    ) -> Result<Text, Fault> {
+    ) -> Result<Text, KeyFault> {
         Reader::read(self, alloc, place, value)
     }
 }
@@ -41,7 +41,7 @@ impl Reader for Texts {
 
     ghost gives = { λ t. texts t.most t.rule };
 
-    fn read(&self, alloc: Global, place: &Place, value: &Value) -> Result<TextList, Fault> {
+    fn read(&self, alloc: Global, place: &Place, value: &Value) -> Result<TextList, KeyFault> {
         let items = Items {
             low: 0,
             high: self.most,
@@ -54,7 +54,7 @@ impl Reader for Texts {
     }
 }
 
-fn word_pair(alloc: Global, place: &Place, key: &str, value: &Value) -> Result<WordPair, Fault>
+fn word_pair(alloc: Global, place: &Place, key: &str, value: &Value) -> Result<WordPair, KeyFault>
     ensures { IsAnswer (word_pair place.now key.now (view value.now)) result }
 {
     if !fits(TextRule::Word, key) {
@@ -65,7 +65,7 @@ fn word_pair(alloc: Global, place: &Place, key: &str, value: &Value) -> Result<W
             Ok(from) => Ok(WordPair { from, to }),
             Err(NoMemory) => {
                 drop(to);
-                Err(Fault::NoMemory)
+                Err(KeyFault::NoMemory)
             }
         },
         Err(fault) => Err(fault),
@@ -73,7 +73,7 @@ fn word_pair(alloc: Global, place: &Place, key: &str, value: &Value) -> Result<W
 }
 
 /// The entries of a word table, in the order of their keys.
-fn pairs(alloc: Global, table: &Table, above: &[u8]) -> Result<Vec<WordPair>, Fault>
+fn pairs(alloc: Global, table: &Table, above: &[u8]) -> Result<Vec<WordPair>, KeyFault>
     ensures { Gives (λ v. v.items) (pairs above.now (table_view table.now) []) result }
 {
     let mut before = Vec::new(alloc);
@@ -90,7 +90,7 @@ fn pairs(alloc: Global, table: &Table, above: &[u8]) -> Result<Vec<WordPair>, Fa
     Ok(before)
 }
 
-fn small_table<'a>(alloc: Global, place: &Place, value: &'a Value) -> Result<&'a Table, Fault>
+fn small_table<'a>(alloc: Global, place: &Place, value: &'a Value) -> Result<&'a Table, KeyFault>
     ensures gives { Gives (λ t. table_view t.now) (small_table place.now (view value.now)) result }
     ensures ascending { IfOk result (λ t. keys_ascend (table_view t.now) ≡ true) }
 {
@@ -100,6 +100,7 @@ fn small_table<'a>(alloc: Global, place: &Place, value: &'a Value) -> Result<&'a
             if MOST_WORD_PAIRS < table.len() {
                 return place.out_of_range(alloc);
             }
+            keys_ascend(table);
             Ok(table)
         }
     }
@@ -114,7 +115,7 @@ impl Reader for WordTable {
 
     ghost gives = { λ _. word_table };
 
-    fn read(&self, alloc: Global, place: &Place, value: &Value) -> Result<WordPairs, Fault> {
+    fn read(&self, alloc: Global, place: &Place, value: &Value) -> Result<WordPairs, KeyFault> {
         let table = small_table(alloc, place, value)?;
         let above = place.below(alloc)?;
         let pairs = pairs(alloc, table, &above);

@@ -92,16 +92,19 @@ impl Choices for Forms {
     }
 }
 
-/// The comparisons of a kind, before their numbers.
-impl Choices for Kind {
+/// The comparisons of a sort of field, before their numbers.
+#[derive(Drop)]
+pub(crate) struct ComparisonsOf(pub(crate) FieldSort);
+
+impl Choices for ComparisonsOf {
     type Item = CompareKind;
 
-    ghost gives = { compare_named };
+    ghost gives = { λ c. compare_named c.0 };
 
     fn named(&self, text: &str) -> Option<CompareKind> {
-        match self {
-            Kind::Name | Kind::Place => named_in(&NAME_COMPARES, text),
-            Kind::Date => named_in(&DATE_COMPARES, text),
+        match self.0 {
+            FieldSort::Name | FieldSort::Place => named_in(&NAME_COMPARES, text),
+            FieldSort::Date(_, _) => named_in(&DATE_COMPARES, text),
         }
     }
 }

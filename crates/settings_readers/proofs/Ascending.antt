@@ -1,34 +1,19 @@
 -- The first unknown key of keys that ascend is the least.
-use Rattle.std.proofs.Common.{◌≡◌, ◌⊎◌, ℕ, List, [], ◌∷◌, ◌++◌, Bool, true, false, Err, Ordering, Less, Equal, Greater, nat_cmp, refl, sym, ap, ◌∙◌, inl, inr}
+use Rattle.std.proofs.Common.{◌≡◌, ◌⊎◌, ℕ, List, [], ◌∷◌, ◌++◌, Bool, true, false, Err, Less, nat_cmp, refl, sym, ap, ◌∙◌, inl, inr}
 use Rattle.std.proofs.lemmas.Bool.{and_parts, cases_Bool, false≢true}
-use Rattle.std.proofs.lemmas.Cmp.{nat_list_cmp_total}
 use Rattle.std.specs.Cmp.Lexicographic.{slice_cmp}
 use Rattle.std.specs.List.Sorted.{IsStrictlySortedBy}
 use Rattle.std.specs.Map.{keys_of}
-use Rattle.std.specs.Ordering.{is_lt}
 use Rattle.std.specs.String.{string_cmp}
 use Rattle.toml.specs.Data.{Members, no_members, member, is_before}
 use Rattle.toml.specs.View.{members_view}
 use Rattle.toml.proofs.Views.{Entry, is_before-sorted}
-use Rattle.link_base.specs.declared.fault.Fault.{Fault}
-use Rattle.link_base.specs.declared.fault.Fault.TheVariants.{UnknownKey}
+use Rattle.settings_readers.specs.declared.fault.KeyFault.{KeyFault}
+use Rattle.settings_readers.specs.declared.fault.KeyFault.TheVariants.{UnknownKey}
 use Rattle.settings_readers.specs.Parts.{known}
-use Rattle.settings_readers.specs.Laws.{IsKeyOf, keys_ascend, IsLeastUnknown}
+use Rattle.settings_readers.specs.Laws.{above, IsKeyOf, keys_ascend, IsLeastUnknown}
 
-less_from : (o : Ordering) → is_lt o ≡ true → o ≡ Less
-less_from Less h = refl
-less_from Equal h = absurd (false≢true h)
-less_from Greater h = absurd (false≢true h)
-
--- a key before the others is below each of them
-pub above : (k : List ℕ) (ms : Members) → is_before k ms ≡ true → keys_ascend ms ≡ true → (q : List ℕ) → IsKeyOf ms q → slice_cmp nat_cmp k q ≡ Less
-above k no_members front sorted q here = absurd here
-above k (member l d ms) front sorted q (inl same) = rw same (less_from _ front)
-above k (member l d ms) front sorted q (inr later) =
-    let (next, more) = and_parts (is_before l ms) (keys_ascend ms) sorted in
-    nat_list_cmp_total.trans k l q (less_from _ front) (above l ms next more q later)
-
-abbrev pub NamesLeast : (List ℕ → Bool) → Members → List ℕ → Fault → Type 0
+abbrev pub NamesLeast : (List ℕ → Bool) → Members → List ℕ → KeyFault → Type 0
 NamesLeast is_known t path f = (key : List ℕ) × (f ≡ UnknownKey (path ++ key)) × IsLeastUnknown is_known t key
 
 least_later : (is_known : List ℕ → Bool) (k : List ℕ) (ms : Members) (key : List ℕ) → is_known k ≡ true → IsLeastUnknown is_known ms key
@@ -41,7 +26,7 @@ least_here : (is_known : List ℕ → Bool) (k : List ℕ) (ms : Members) → is
 least_here is_known k ms front sorted q (inl same) unknown = inl same
 least_here is_known k ms front sorted q (inr later) unknown = inr (above k ms front sorted q later)
 
-pub names_least : (is_known : List ℕ → Bool) (t : Members) (path : List ℕ) (f : Fault) → keys_ascend t ≡ true → known is_known t path ≡ Err f → NamesLeast is_known t path f
+pub names_least : (is_known : List ℕ → Bool) (t : Members) (path : List ℕ) (f : KeyFault) → keys_ascend t ≡ true → known is_known t path ≡ Err f → NamesLeast is_known t path f
 names_least is_known no_members path f sorted h = absurd cc
 names_least is_known (member k d ms) path f sorted h =
     let (front, more) = and_parts (is_before k ms) (keys_ascend ms) sorted in

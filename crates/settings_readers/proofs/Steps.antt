@@ -1,16 +1,15 @@
 -- The length of an array, its items and choices one by one, and refusals.
-use Rattle.std.proofs.Common.{◌≡◌, ◌<◌, ◌+◌, ◌++◌, ◌∙◌, ℕ, List, [], ◌∷◌, Bool, true, false, Result, Ok, Err, length, length-append, drop, map, get_or, Option, Some, ap, refl, subst, sym, arith}
-use Rattle.std.specs.Prelude.{MatchBool, ⊤, decimal, nat_le, ◌&&◌, ◌||◌}
+use Rattle.std.proofs.Common.{◌≡◌, ◌<◌, ◌+◌, ◌++◌, ◌∙◌, ℕ, List, [], ◌∷◌, Bool, true, false, Result, Ok, length, length-append, drop, map, get_or, Option, Some, ap, refl, subst, sym, arith}
+use Rattle.std.specs.Prelude.{decimal, nat_le, ◌&&◌, ◌||◌}
 use Rattle.std.specs.List.{list_any}
 use Rattle.std.specs.Str.{bytes_eq}
 use Rattle.std.proofs.lemmas.List.{drop_more}
 use Rattle.toml.specs.Data.{Data, as_array}
 use Rattle.toml.specs.View.{items_view, view}
 use Rattle.toml.specs.declared.value.Value.{Value}
-use Rattle.link_base.specs.AnswerLaws.{refuses_then}
-use Rattle.link_base.specs.Answers.{RefusesBut}
-use Rattle.link_base.specs.Fault.{Gives, IsAnswer, is_want}
-use Rattle.link_base.specs.declared.fault.Fault.{Fault}
+use Rattle.settings_readers.specs.KeyFaults.{Refuses}
+use Rattle.settings_readers.specs.StepLaws.{refuses_then}
+use Rattle.settings_readers.specs.declared.fault.KeyFault.{KeyFault}
 use Rattle.settings_readers.specs.Parts.{◌>>=◌, in_range}
 use Rattle.settings_readers.specs.Lists.{each, items_len, sized}
 use Rattle.settings_readers.specs.Values.{named_in}
@@ -24,19 +23,19 @@ pub sized_is : (low high n : ℕ) (at : List ℕ) (d : Data) (vs : List Value) �
 sized_is low high n at d vs is len = rw (← is, items_len-view, ← len)
 
 -- the items from one on, by that item
-each_from : {A : Type 0} (read : List A → List ℕ → Data → Result A Fault) (above : List ℕ) (vs : List Value) (i : ℕ) (v : Value) (before : List A) → i < length vs → v ≡ get_or vs i v
+each_from : {A : Type 0} (read : List A → List ℕ → Data → Result A KeyFault) (above : List ℕ) (vs : List Value) (i : ℕ) (v : Value) (before : List A) → i < length vs → v ≡ get_or vs i v
     → each read above (items_view (drop i vs)) before (i + 1) ≡ (read before (above ++ decimal (i + 1)) (view v) >>= λ x. each read above (items_view (drop (i + 1) vs)) (before ++ x ∷ []) (i + 1 + 1))
 each_from read above vs i v before lt is =
     let left : drop i vs ≡ v ∷ drop (i + 1) vs = drop_more vs i v lt ∙ ap (λ w. w ∷ drop (i + 1) vs) (sym is) in
     ap (λ ws. each read above (items_view ws) before (i + 1)) left
 
 -- an item that is read
-pub each_more : {A : Type 0} (read : List A → List ℕ → Data → Result A Fault) (above : List ℕ) (vs : List Value) (i : ℕ) (v : Value) (before seen more : List A) (x : A) (total : Result (List A) Fault) → i < length vs → v ≡ get_or vs i v
+pub each_more : {A : Type 0} (read : List A → List ℕ → Data → Result A KeyFault) (above : List ℕ) (vs : List Value) (i : ℕ) (v : Value) (before seen more : List A) (x : A) (total : Result (List A) KeyFault) → i < length vs → v ≡ get_or vs i v
     → seen ≡ before → read seen (above ++ decimal (i + 1)) (view v) ≡ Ok x → more ≡ before ++ x ∷ [] → each read above (items_view (drop i vs)) before (i + 1) ≡ total
     → each read above (items_view (drop (i + 1) vs)) more (i + 1 + 1) ≡ total
 each_more {A = A} read above vs i v before seen more x total lt is same reads grown so_far =
     let here : read before (above ++ decimal (i + 1)) (view v) ≡ Ok x = ap (λ b. read b (above ++ decimal (i + 1)) (view v)) (sym same) ∙ reads in
-    let next : Result (List A) Fault = each read above (items_view (drop (i + 1) vs)) (before ++ x ∷ []) (i + 1 + 1) in
+    let next : Result (List A) KeyFault = each read above (items_view (drop (i + 1) vs)) (before ++ x ∷ []) (i + 1 + 1) in
     let taken : each read above (items_view (drop i vs)) before (i + 1) ≡ next = each_from read above vs i v before lt is ∙ ap (λ r. r >>= λ y. each read above (items_view (drop (i + 1) vs)) (before ++ y ∷ []) (i + 1 + 1)) here in
     ap (λ b. each read above (items_view (drop (i + 1) vs)) b (i + 1 + 1)) grown ∙ sym taken ∙ so_far
 
@@ -44,22 +43,13 @@ pub one_longer : {A : Type 0} (before more : List A) (x : A) (i : ℕ) → more 
 one_longer before more x i grown len = omega (arith, ap length grown, length-append before (x ∷ []), len)
 
 -- an item that is refused
-pub each_refused : {A : Type 0} (read : List A → List ℕ → Data → Result A Fault) (above : List ℕ) (vs : List Value) (i : ℕ) (v : Value) (before seen : List A) (f : Fault) (total : Result (List A) Fault) → i < length vs → v ≡ get_or vs i v
-    → seen ≡ before → RefusesBut is_want (read seen (above ++ decimal (i + 1)) (view v)) f → each read above (items_view (drop i vs)) before (i + 1) ≡ total
-    → RefusesBut is_want total f
+pub each_refused : {A : Type 0} (read : List A → List ℕ → Data → Result A KeyFault) (above : List ℕ) (vs : List Value) (i : ℕ) (v : Value) (before seen : List A) (f : KeyFault) (total : Result (List A) KeyFault) → i < length vs → v ≡ get_or vs i v
+    → seen ≡ before → Refuses (read seen (above ++ decimal (i + 1)) (view v)) f → each read above (items_view (drop i vs)) before (i + 1) ≡ total
+    → Refuses total f
 each_refused read above vs i v before seen f total lt is same refused so_far =
-    let here : RefusesBut is_want (read before (above ++ decimal (i + 1)) (view v)) f = subst (λ b. RefusesBut is_want (read b (above ++ decimal (i + 1)) (view v)) f) same refused in
+    let here : Refuses (read before (above ++ decimal (i + 1)) (view v)) f = subst (λ b. Refuses (read b (above ++ decimal (i + 1)) (view v)) f) same refused in
     let all = refuses_then (read before (above ++ decimal (i + 1)) (view v)) (λ y. each read above (items_view (drop (i + 1) vs)) (before ++ y ∷ []) (i + 1 + 1)) f here in
-    subst (λ r. RefusesBut is_want r f) (sym (each_from read above vs i v before lt is) ∙ so_far) all
-
-refused_same : {X T : Type 0} (b : Bool) (f g : Fault) (given : Result X Fault) (expected : Result T Fault) → given ≡ Err f → expected ≡ Err f → MatchBool b ⊤ (given ≡ Err g) → MatchBool b ⊤ (expected ≡ Err g)
-refused_same true f g given expected is same h = tt
-refused_same false f g given expected is same h = cc
-
--- a refusal by the fault that is defined
-pub refused_as : {X T : Type 0} (view : X → T) (f : Fault) (expected : Result T Fault) (r : Result X Fault) → expected ≡ Err f → IsAnswer (Err f) r → Gives view expected r
-refused_as view f expected (Ok x) is h = absurd cc
-refused_as view f expected (Err g) is h = refused_same (is_want g) f g _ expected refl is h
+    subst (λ r. Refuses r f) (sym (each_from read above vs i v before lt is) ∙ so_far) all
 
 -- a choice that is passed by
 pub named_more : {E X : Type 0} (f : E → List ℕ × X) (all : List E) (i : ℕ) (e : E) (text : List ℕ) (total : Option X) → i < length all → e ≡ get_or all i e

@@ -3,3 +3,5 @@ pub mod Values
 pub mod Lists
 pub mod Laws
 pub mod KeyFaults
+pub mod StepLaws
+pub mod KeptLaws

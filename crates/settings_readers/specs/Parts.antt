@@ -4,72 +4,72 @@
 use Rattle.std.specs.Prelude.{List, ℕ, Bool, ◌++◌, Option, Some, None, unwrap_or, Result, Ok, Err, if◌then◌else◌}
 use Rattle.toml.specs.Data.{Data, Members, no_members, member, get_member}
 use Rattle.link_base.specs.Answers.{and_then}
-use Rattle.link_base.specs.declared.fault.Fault.{Fault}
-use Rattle.link_base.specs.declared.fault.Fault.TheVariants.{UnknownKey, MissingKey, WrongType, OutOfRange}
+use Rattle.settings_readers.specs.declared.fault.KeyFault.{KeyFault}
+use Rattle.settings_readers.specs.declared.fault.KeyFault.TheVariants.{UnknownKey, MissingKey, WrongType, OutOfRange}
 
 -- a part, and where it gives a value the next part
 infixl 10 ◌>>=◌
-abbrev pub ◌>>=◌ : {A B : Type 0} → Result A Fault → (A → Result B Fault) → Result B Fault
+abbrev pub ◌>>=◌ : {A B : Type 0} → Result A KeyFault → (A → Result B KeyFault) → Result B KeyFault
 r >>= next = and_then r next
 
 -- what stands at a path, where it has its type
-abbrev pub typed : {A : Type 0} → List ℕ → Option A → Result A Fault
+abbrev pub typed : {A : Type 0} → List ℕ → Option A → Result A KeyFault
 typed at None = Err (WrongType at)
 typed at (Some x) = Ok x
 
 -- what stands at a path, where it is in its range
-abbrev pub ranged : {A : Type 0} → List ℕ → Option A → Result A Fault
+abbrev pub ranged : {A : Type 0} → List ℕ → Option A → Result A KeyFault
 ranged at None = Err (OutOfRange at)
 ranged at (Some x) = Ok x
 
-abbrev pub in_range : {A : Type 0} → List ℕ → Bool → A → Result A Fault
+abbrev pub in_range : {A : Type 0} → List ℕ → Bool → A → Result A KeyFault
 in_range at ok x = if ok then Ok x else Err (OutOfRange at)
 
 -- a key that has to be there, read at its path
-abbrev pub read_needed : {A : Type 0} → (List ℕ → Data → Result A Fault) → List ℕ → Option Data → Result A Fault
+abbrev pub read_needed : {A : Type 0} → (List ℕ → Data → Result A KeyFault) → List ℕ → Option Data → Result A KeyFault
 read_needed read at None = Err (MissingKey at)
 read_needed read at (Some d) = read at d
 
 -- a key that may be there
-abbrev pub read_optional : {A : Type 0} → (List ℕ → Data → Result A Fault) → List ℕ → Option Data → Result (Option A) Fault
+abbrev pub read_optional : {A : Type 0} → (List ℕ → Data → Result A KeyFault) → List ℕ → Option Data → Result (Option A) KeyFault
 read_optional read at None = Ok None
 read_optional read at (Some d) = read at d >>= λ x. Ok (Some x)
 
 -- a key that does not belong
-abbrev pub read_absent : List ℕ → Option Data → Result (Unit {0}) Fault
+abbrev pub read_absent : List ℕ → Option Data → Result (Unit {0}) KeyFault
 read_absent at None = Ok tt
 read_absent at (Some d) = Err (UnknownKey at)
 
 -- the same at a key of a table; what stands above is empty, or a path and a point
-abbrev pub needed : {A : Type 0} → (List ℕ → Data → Result A Fault) → Members → List ℕ → List ℕ → Result A Fault
+abbrev pub needed : {A : Type 0} → (List ℕ → Data → Result A KeyFault) → Members → List ℕ → List ℕ → Result A KeyFault
 needed read t above key = read_needed read (above ++ key) (get_member key t)
 
-abbrev pub optional : {A : Type 0} → (List ℕ → Data → Result A Fault) → Members → List ℕ → List ℕ → Result (Option A) Fault
+abbrev pub optional : {A : Type 0} → (List ℕ → Data → Result A KeyFault) → Members → List ℕ → List ℕ → Result (Option A) KeyFault
 optional read t above key = read_optional read (above ++ key) (get_member key t)
 
-abbrev pub absent : Members → List ℕ → List ℕ → Result (Unit {0}) Fault
+abbrev pub absent : Members → List ℕ → List ℕ → Result (Unit {0}) KeyFault
 absent t above key = read_absent (above ++ key) (get_member key t)
 
 -- a value beside which a key does not belong, or neither of two
-abbrev pub without : {A : Type 0} → A → Members → List ℕ → List ℕ → Result A Fault
+abbrev pub without : {A : Type 0} → A → Members → List ℕ → List ℕ → Result A KeyFault
 without x t above key = absent t above key >>= λ no_key. Ok x
 
-abbrev pub without_both : {A : Type 0} → A → Members → List ℕ → List ℕ → List ℕ → Result A Fault
+abbrev pub without_both : {A : Type 0} → A → Members → List ℕ → List ℕ → List ℕ → Result A KeyFault
 without_both x t above key other = absent t above key >>= λ no_key. without x t above other
 
 -- two keys that have to be there, read alike
-abbrev pub needed_both : {A : Type 0} → (List ℕ → Data → Result A Fault) → Members → List ℕ → List ℕ → List ℕ → Result (A × A) Fault
+abbrev pub needed_both : {A : Type 0} → (List ℕ → Data → Result A KeyFault) → Members → List ℕ → List ℕ → List ℕ → Result (A × A) KeyFault
 needed_both read t above key other = needed read t above key >>= λ x. needed read t above other >>= λ y. Ok (x, y)
 
 -- a key that may be there, with its default
-abbrev pub defaulted : {A : Type 0} → (List ℕ → Data → Result A Fault) → A → Members → List ℕ → List ℕ → Result A Fault
+abbrev pub defaulted : {A : Type 0} → (List ℕ → Data → Result A KeyFault) → A → Members → List ℕ → List ℕ → Result A KeyFault
 defaulted read default t above key = optional read t above key >>= λ o. Ok (unwrap_or o default)
 
 -- two keys that may be there, with one default
-abbrev pub defaulted_both : {A : Type 0} → (List ℕ → Data → Result A Fault) → A → Members → List ℕ → List ℕ → List ℕ → Result (A × A) Fault
+abbrev pub defaulted_both : {A : Type 0} → (List ℕ → Data → Result A KeyFault) → A → Members → List ℕ → List ℕ → List ℕ → Result (A × A) KeyFault
 defaulted_both read default t above key other = defaulted read default t above key >>= λ x. defaulted read default t above other >>= λ y. Ok (x, y)
 
 -- every key of a table is known; else the fault names the first that is not, and keys ascend
-abbrev pub known : (List ℕ → Bool) → Members → List ℕ → Result (Unit {0}) Fault
+abbrev pub known : (List ℕ → Bool) → Members → List ℕ → Result (Unit {0}) KeyFault
 known is_known no_members above = Ok tt
 known is_known (member key d ms) above = if is_known key then known is_known ms above else Err (UnknownKey (above ++ key))

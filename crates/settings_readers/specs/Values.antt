@@ -3,11 +3,11 @@
 use Rattle.std.specs.Prelude.{List, [], ◌∷◌, ℕ, ℤ, pos, negsuc, Bool, false, Option, Some, None, Result, ◌&&◌, nat_le, if◌then◌else◌}
 use Rattle.std.specs.Str.{bytes_eq}
 use Rattle.toml.specs.Data.{Data, as_str, as_integer, as_bool}
-use Rattle.link_base.specs.declared.fault.Fault.{Fault}
+use Rattle.settings_readers.specs.declared.fault.KeyFault.{KeyFault}
 use Rattle.settings_readers.specs.Parts.{◌>>=◌, typed, ranged, in_range}
 
 -- a text that names one of several choices
-abbrev pub choice : {A : Type 0} → (List ℕ → Option A) → List ℕ → Data → Result A Fault
+abbrev pub choice : {A : Type 0} → (List ℕ → Option A) → List ℕ → Data → Result A KeyFault
 choice named at d = typed at (as_str d) >>= λ s. ranged at (named s)
 
 -- the first choice whose word it is
@@ -25,8 +25,8 @@ magnitude (pos n) = n
 magnitude (negsuc n) = 0
 
 -- a whole number from low to high
-abbrev pub whole : ℕ → ℕ → List ℕ → Data → Result ℕ Fault
+abbrev pub whole : ℕ → ℕ → List ℕ → Data → Result ℕ KeyFault
 whole low high at d = typed at (as_integer d) >>= λ z. in_range at (is_within low high z) (magnitude z)
 
-abbrev pub truth : List ℕ → Data → Result Bool Fault
+abbrev pub truth : List ℕ → Data → Result Bool KeyFault
 truth at d = typed at (as_bool d)

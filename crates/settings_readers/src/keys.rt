@@ -3,12 +3,12 @@ ghost use Rattle.std.specs.Prelude.{◌≡◌, map, option_map};
 ghost use Rattle.toml.specs.Data.{get_member};
 ghost use Rattle.toml.specs.View.{view, table_view};
 ghost use Rattle.link_texts.specs.Texts.{stands_among};
-ghost use Rattle.link_base.specs.Fault.{IsAnswer};
+ghost use Rattle.settings_readers.specs.KeyFaults.{IsAnswer};
 ghost use Rattle.settings_readers.specs.Parts.{absent, defaulted, defaulted_both, known, needed, needed_both, optional, without, without_both};
 
+use crate::fault::KeyFault;
 use crate::place::Place;
 use crate::readers::Reader;
-use link_base::Fault;
 use std::alloc::Global;
 use toml::{Table, Value};
 
@@ -40,7 +40,7 @@ pub fn is_listed(listed: &[&str], key: &str) -> bool
 
 impl Keys<'_> {
     /// Refuses a table that has a key that is not listed: the fault names the least such key by its bytes.
-    pub fn known(&self, alloc: Global, listed: &[&str]) -> Result<(), Fault>
+    pub fn known(&self, alloc: Global, listed: &[&str]) -> Result<(), KeyFault>
         ensures { IsAnswer (known (stands_among (map (λ k. k.now) listed.now)) (table_view self.now.table.now) self.now.above.now) result }
     {
         let above = self.above;
@@ -54,7 +54,7 @@ impl Keys<'_> {
     }
 
     /// Refuses a key that does not belong.
-    pub fn absent(&self, alloc: Global, key: &str) -> Result<(), Fault>
+    pub fn absent(&self, alloc: Global, key: &str) -> Result<(), KeyFault>
         ensures { IsAnswer (absent (table_view self.now.table.now) self.now.above.now key.now) result }
     {
         match find(self.table, key) {
@@ -64,7 +64,7 @@ impl Keys<'_> {
     }
 
     /// An item, where a key does not belong beside it.
-    pub fn without<X: Copy>(&self, alloc: Global, key: &str, item: X) -> Result<X, Fault>
+    pub fn without<X: Copy>(&self, alloc: Global, key: &str, item: X) -> Result<X, KeyFault>
         ensures { IsAnswer (without item (table_view self.now.table.now) self.now.above.now key.now) result }
     {
         match self.absent(alloc, key) {
@@ -80,7 +80,7 @@ impl Keys<'_> {
         key: &str,
         other: &str,
         item: X,
-    ) -> Result<X, Fault>
+    ) -> Result<X, KeyFault>
         ensures { IsAnswer (without_both item (table_view self.now.table.now) self.now.above.now key.now other.now) result }
     {
         match self.absent(alloc, key) {
@@ -90,7 +90,12 @@ impl Keys<'_> {
     }
 
     /// What a reader gives at a key that has to be there.
-    pub fn needed<R: Reader>(&self, alloc: Global, reader: &R, key: &str) -> Result<R::Item, Fault>
+    pub fn needed<R: Reader>(
+        &self,
+        alloc: Global,
+        reader: &R,
+        key: &str,
+    ) -> Result<R::Item, KeyFault>
         ensures { IsAnswer (needed (R.gives reader.now) (table_view self.now.table.now) self.now.above.now key.now) result }
     {
         let place = Place::new(self.above, key.as_bytes());
@@ -107,7 +112,7 @@ impl Keys<'_> {
         reader: &R,
         key: &str,
         other: &str,
-    ) -> Result<(R::Item, R::Item), Fault>
+    ) -> Result<(R::Item, R::Item), KeyFault>
         ensures { IsAnswer (needed_both (R.gives reader.now) (table_view self.now.table.now) self.now.above.now key.now other.now) result }
     {
         match self.needed(alloc, reader, key) {
@@ -128,7 +133,7 @@ impl Keys<'_> {
         alloc: Global,
         reader: &R,
         key: &str,
-    ) -> Result<Option<R::Item>, Fault>
+    ) -> Result<Option<R::Item>, KeyFault>
         ensures { IsAnswer (optional (R.gives reader.now) (table_view self.now.table.now) self.now.above.now key.now) result }
     {
         let place = Place::new(self.above, key.as_bytes());
@@ -148,7 +153,7 @@ impl Keys<'_> {
         reader: &R,
         default: R::Item,
         key: &str,
-    ) -> Result<R::Item, Fault>
+    ) -> Result<R::Item, KeyFault>
         ensures { IsAnswer (defaulted (R.gives reader.now) default (table_view self.now.table.now) self.now.above.now key.now) result }
     {
         match self.optional(alloc, reader, key) {
@@ -168,7 +173,7 @@ impl Keys<'_> {
         default: X,
         key: &str,
         other: &str,
-    ) -> Result<(X, X), Fault>
+    ) -> Result<(X, X), KeyFault>
         ensures { IsAnswer (defaulted_both (R.gives reader.now) default (table_view self.now.table.now) self.now.above.now key.now other.now) result }
     {
         match self.defaulted(alloc, reader, default, key) {

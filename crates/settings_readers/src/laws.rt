@@ -2,8 +2,8 @@
 ghost use Rattle.std.specs.Prelude.{◌≡◌, ◌++◌, List, ℕ, Bool, true, Err};
 ghost use Rattle.toml.specs.Data.{Members};
 ghost use Rattle.toml.specs.View.{table_view};
-ghost use Rattle.link_base.specs.declared.fault.Fault.{Fault};
-ghost use Rattle.link_base.specs.declared.fault.Fault.TheVariants as fault;
+ghost use Rattle.settings_readers.specs.declared.fault.KeyFault.{KeyFault};
+ghost use Rattle.settings_readers.specs.declared.fault.KeyFault.TheVariants as fault;
 ghost use Rattle.settings_readers.specs.Parts.{known};
 ghost use Rattle.settings_readers.specs.Laws.{keys_ascend, IsLeastUnknown};
 
@@ -18,7 +18,7 @@ pub fn keys_ascend(table: &Table)
 
 /// Where keys ascend, the key that is refused as unknown is the least of those that are not known.
 pub fn least_unknown_key()
-    ensures { (is_known : List ℕ → Bool) (t : Members) (above : List ℕ) (f : Fault)
+    ensures { (is_known : List ℕ → Bool) (t : Members) (above : List ℕ) (f : KeyFault)
         → keys_ascend t ≡ true → known is_known t above ≡ Err f
         → (key : List ℕ) × (f ≡ fault.UnknownKey (above ++ key)) × IsLeastUnknown is_known t key }
 {}

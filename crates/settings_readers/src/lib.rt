@@ -1,6 +1,7 @@
 //! Readers of the keys of a TOML table: each gives a value, or the first fault with the path of its key.
 #![tactic(auto)]
 
+mod fault;
 mod keys;
 mod laws;
 mod lists;
@@ -8,6 +9,7 @@ mod place;
 mod readers;
 mod values;
 
+pub use fault::KeyFault;
 pub use keys::{Keys, is_listed};
 pub use laws::{keys_ascend, least_unknown_key};
 pub use lists::{Items, Rows, is_sized};

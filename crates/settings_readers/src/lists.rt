@@ -1,13 +1,13 @@
 // Arrays.
 ghost use Rattle.std.specs.Prelude.{◌≡◌, ◌≤◌, ◌++◌, [], IfOk, decimal, length, ◌&&◌, nat_le};
 ghost use Rattle.toml.specs.View.{view, items_view};
-ghost use Rattle.link_base.specs.Fault.{Gives, IsAnswer};
+ghost use Rattle.settings_readers.specs.KeyFaults.{Gives, IsAnswer};
 ghost use Rattle.settings_readers.specs.Lists.{array_of, each, on_table, sized};
 
+use crate::fault::KeyFault;
 use crate::keys::Keys;
 use crate::place::Place;
 use crate::readers::{Element, Row};
-use link_base::Fault;
 use std::alloc::Global;
 use toml::Value;
 
@@ -19,7 +19,7 @@ fn numbered<E: Element>(
     value: &Value,
     above: &[u8],
     number: usize,
-) -> Result<E::Item, Fault>
+) -> Result<E::Item, KeyFault>
     ensures { IsAnswer (E.gives element.now before.now (above.now ++ decimal number) (view value.now)) result }
 {
     let number = format!(in alloc; "{}", number)?;
@@ -35,7 +35,7 @@ fn each<E: Element>(
     element: &E,
     array: &[Value],
     above: &[u8],
-) -> Result<Vec<E::Item>, Fault>
+) -> Result<Vec<E::Item>, KeyFault>
     ensures gives { Gives (λ v. v.items) (each (E.gives element.now) above.now (items_view array.now) [] 1) result }
     ensures len { IfOk result (λ v. length v.items ≡ length array.now) }
 {
@@ -65,7 +65,7 @@ fn sized<'a>(
     high: usize,
     place: &Place,
     value: &'a Value,
-) -> Result<&'a [Value], Fault>
+) -> Result<&'a [Value], KeyFault>
     ensures gives { Gives (λ a. items_view a.now) (sized low high place.now (view value.now)) result }
     ensures least { IfOk result (λ a. low ≤ length a.now) }
     ensures most { IfOk result (λ a. length a.now ≤ high) }
@@ -91,7 +91,12 @@ pub struct Items<E> {
 
 impl<E: Element> Items<E> {
     /// The items, each read in turn. The length of the array is tested first.
-    pub fn read(&self, alloc: Global, place: &Place, value: &Value) -> Result<Vec<E::Item>, Fault>
+    pub fn read(
+        &self,
+        alloc: Global,
+        place: &Place,
+        value: &Value,
+    ) -> Result<Vec<E::Item>, KeyFault>
         ensures gives { Gives (λ v. v.items) (array_of self.now.low self.now.high (E.gives self.now.element) place.now (view value.now)) result }
         ensures least { IfOk result (λ v. self.now.low ≤ length v.items) }
         ensures most { IfOk result (λ v. length v.items ≤ self.now.high) }
@@ -119,7 +124,7 @@ impl<R: Row> Element for Rows<R> {
         before: &[R::Item],
         place: &Place,
         value: &Value,
-    ) -> Result<R::Item, Fault> {
+    ) -> Result<R::Item, KeyFault> {
         match value.as_table() {
             None => place.wrong_type(alloc),
             Some(table) => {

@@ -1,9 +1,10 @@
 // Where a value stands.
 ghost use Rattle.std.specs.Prelude.{◌≡◌, ◌++◌, Err, IfOk, codes};
-ghost use Rattle.link_base.specs.Fault.{IsAnswer};
-ghost use Rattle.link_base.specs.declared.fault.Fault.TheVariants as fault;
+ghost use Rattle.settings_readers.specs.KeyFaults.{IsAnswer};
+ghost use Rattle.settings_readers.specs.declared.fault.KeyFault.TheVariants as fault;
 
-use link_base::{Fault, NoMemory, Text};
+use crate::fault::KeyFault;
+use link_base::{NoMemory, Text};
 use std::alloc::Global;
 use std::marker::Model;
 
@@ -41,43 +42,39 @@ impl<'a> Place<'a> {
     }
 
     /// Refuses a key that is not known, or does not belong.
-    pub fn unknown_key<T>(&self, alloc: Global) -> Result<T, Fault>
+    pub fn unknown_key<T>(&self, alloc: Global) -> Result<T, KeyFault>
         ensures { IsAnswer (Err (fault.UnknownKey self.now)) result }
     {
-        match self.text(alloc) {
-            Ok(key) => Err(Fault::UnknownKey { key }),
-            Err(NoMemory) => Err(Fault::NoMemory),
-        }
+        Err(KeyFault::UnknownKey {
+            key: self.text(alloc)?,
+        })
     }
 
     /// Refuses a table without a key that has to be there.
-    pub fn missing_key<T>(&self, alloc: Global) -> Result<T, Fault>
+    pub fn missing_key<T>(&self, alloc: Global) -> Result<T, KeyFault>
         ensures { IsAnswer (Err (fault.MissingKey self.now)) result }
     {
-        match self.text(alloc) {
-            Ok(key) => Err(Fault::MissingKey { key }),
-            Err(NoMemory) => Err(Fault::NoMemory),
-        }
+        Err(KeyFault::MissingKey {
+            key: self.text(alloc)?,
+        })
     }
 
     /// Refuses a value that has another type.
-    pub fn wrong_type<T>(&self, alloc: Global) -> Result<T, Fault>
+    pub fn wrong_type<T>(&self, alloc: Global) -> Result<T, KeyFault>
         ensures { IsAnswer (Err (fault.WrongType self.now)) result }
     {
-        match self.text(alloc) {
-            Ok(key) => Err(Fault::WrongType { key }),
-            Err(NoMemory) => Err(Fault::NoMemory),
-        }
+        Err(KeyFault::WrongType {
+            key: self.text(alloc)?,
+        })
     }
 
     /// Refuses a value that is out of its range.
-    pub fn out_of_range<T>(&self, alloc: Global) -> Result<T, Fault>
+    pub fn out_of_range<T>(&self, alloc: Global) -> Result<T, KeyFault>
         ensures { IsAnswer (Err (fault.OutOfRange self.now)) result }
     {
-        match self.text(alloc) {
-            Ok(key) => Err(Fault::OutOfRange { key }),
-            Err(NoMemory) => Err(Fault::NoMemory),
-        }
+        Err(KeyFault::OutOfRange {
+            key: self.text(alloc)?,
+        })
     }
 
     /// What stands before the keys and the items of the value here: the path and a point.

@@ -2,12 +2,12 @@
 ghost use Rattle.std.specs.Prelude.{◌≡◌, List, ℕ, Option, Result};
 ghost use Rattle.toml.specs.Data.{Data, Members};
 ghost use Rattle.toml.specs.View.{view, table_view};
-ghost use Rattle.link_base.specs.declared.fault.Fault.{Fault};
-ghost use Rattle.link_base.specs.Fault.{IsAnswer};
+ghost use Rattle.settings_readers.specs.declared.fault.KeyFault.{KeyFault};
+ghost use Rattle.settings_readers.specs.KeyFaults.{IsAnswer};
 
+use crate::fault::KeyFault;
 use crate::keys::Keys;
 use crate::place::Place;
-use link_base::Fault;
 use std::alloc::Global;
 use toml::Value;
 
@@ -15,9 +15,9 @@ use toml::Value;
 pub trait Reader {
     type Item: Drop;
 
-    ghost gives: { Self → List ℕ → Data → Result Self.Item Fault };
+    ghost gives: { Self → List ℕ → Data → Result Self.Item KeyFault };
 
-    fn read(&self, alloc: Global, place: &Place, value: &Value) -> Result<Self::Item, Fault>
+    fn read(&self, alloc: Global, place: &Place, value: &Value) -> Result<Self::Item, KeyFault>
         ensures { IsAnswer (gives self.now place.now (view value.now)) result };
 }
 
@@ -25,7 +25,7 @@ pub trait Reader {
 pub trait Element {
     type Item: Drop;
 
-    ghost gives: { Self → List Self.Item → List ℕ → Data → Result Self.Item Fault };
+    ghost gives: { Self → List Self.Item → List ℕ → Data → Result Self.Item KeyFault };
 
     fn read(
         &self,
@@ -33,7 +33,7 @@ pub trait Element {
         before: &[Self::Item],
         place: &Place,
         value: &Value,
-    ) -> Result<Self::Item, Fault>
+    ) -> Result<Self::Item, KeyFault>
         ensures { IsAnswer (gives self.now before.now place.now (view value.now)) result };
 }
 
@@ -41,9 +41,14 @@ pub trait Element {
 pub trait Row {
     type Item: Drop;
 
-    ghost gives: { Self → List Self.Item → Members → List ℕ → Result Self.Item Fault };
+    ghost gives: { Self → List Self.Item → Members → List ℕ → Result Self.Item KeyFault };
 
-    fn read(&self, alloc: Global, before: &[Self::Item], keys: &Keys) -> Result<Self::Item, Fault>
+    fn read(
+        &self,
+        alloc: Global,
+        before: &[Self::Item],
+        keys: &Keys,
+    ) -> Result<Self::Item, KeyFault>
         ensures { IsAnswer (gives self.now before.now (table_view keys.now.table.now) keys.now.above.now) result };
 }
 

@@ -1,12 +1,12 @@
 // Single values.
 ghost use Rattle.std.specs.Prelude.{◌≡◌, ◌≤◌, IfOk, map};
 ghost use Rattle.toml.specs.View.{view};
-ghost use Rattle.link_base.specs.Fault.{IsAnswer};
+ghost use Rattle.settings_readers.specs.KeyFaults.{IsAnswer};
 ghost use Rattle.settings_readers.specs.Values.{choice, is_within, named_in, truth, whole};
 
+use crate::fault::KeyFault;
 use crate::place::Place;
 use crate::readers::{Choices, Reader};
-use link_base::Fault;
 use std::alloc::Global;
 use toml::Value;
 
@@ -19,7 +19,7 @@ impl<C: Choices> Reader for Choice<C> {
 
     ghost gives = { λ c. choice (C.gives c.0) };
 
-    fn read(&self, alloc: Global, place: &Place, value: &Value) -> Result<C::Item, Fault> {
+    fn read(&self, alloc: Global, place: &Place, value: &Value) -> Result<C::Item, KeyFault> {
         match value.as_str() {
             None => place.wrong_type(alloc),
             Some(text) => match self.0.named(text) {
@@ -55,7 +55,7 @@ pub fn whole_number(
     high: u64,
     place: &Place,
     value: &Value,
-) -> Result<u64, Fault>
+) -> Result<u64, KeyFault>
     ensures gives { IsAnswer (whole low high place.now (view value.now)) result }
     ensures most { IfOk result (λ number. number ≤ high) }
 {
@@ -82,7 +82,7 @@ impl Reader for Whole {
 
     ghost gives = { λ w. whole w.low w.high };
 
-    fn read(&self, alloc: Global, place: &Place, value: &Value) -> Result<u32, Fault> {
+    fn read(&self, alloc: Global, place: &Place, value: &Value) -> Result<u32, KeyFault> {
         let low = u64::from(self.low);
         let high = u64::from(self.high);
         match whole_number(alloc, low, high, place, value) {
@@ -101,7 +101,7 @@ impl Reader for Truth {
 
     ghost gives = { λ _. truth };
 
-    fn read(&self, alloc: Global, place: &Place, value: &Value) -> Result<bool, Fault> {
+    fn read(&self, alloc: Global, place: &Place, value: &Value) -> Result<bool, KeyFault> {
         match value.as_bool() {
             None => place.wrong_type(alloc),
             Some(holds) => Ok(holds),

@@ -1,6 +1,6 @@
 use Rattle.std.proofs.Common.{◌∙◌, ap, sym}
 use Rattle.std.specs.Str.{bytes_eq}
-use Rattle.settings_readers.proofs.Steps.{any_found, any_more}
+use Rattle.settings.proofs.Loops.{any_found, any_more}
 use Rattle.settings.proofs.fields.is_taken.Goals as goal
 
 pub returns-then-is_named : goal.returns-then-is_named

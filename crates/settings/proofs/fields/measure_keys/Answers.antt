@@ -1,9 +1,7 @@
 use Rattle.std.proofs.Common.{◌∙◌, Bool, ap, refl, sym}
 use Rattle.toml.specs.View.{table_view}
-use Rattle.link_base.specs.AnswerLaws.{refuses_then}
-use Rattle.settings.specs.Field.{field_shares}
-use Rattle.settings.specs.PlanParts.{measure_keys}
-use Rattle.settings.proofs.Chains.{refused_same, then_given, then_refused}
+use Rattle.settings_readers.specs.StepLaws.{refused_same, refuses_then, then_given, then_refused}
+use Rattle.settings.specs.Field.{field_shares, measure_keys}
 use Rattle.settings.proofs.fields.measure_keys.Goals as goal
 
 pub returns-in-Err : goal.returns-in-Err

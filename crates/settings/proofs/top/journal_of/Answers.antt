@@ -1,8 +1,6 @@
 use Rattle.std.proofs.Common.{◌∙◌, sym}
-use Rattle.link_base.specs.AnswerLaws.{refuses_then}
-use Rattle.settings_readers.proofs.Steps.{refused_as}
+use Rattle.settings_readers.specs.StepLaws.{handed_on, inside, outside, refused_as, refuses_then, then_given}
 use Rattle.settings.specs.Settings.{journal_of}
-use Rattle.settings.proofs.Chains.{handed_on, inside, outside, then_given}
 use Rattle.settings.proofs.top.journal_of.Goals as goal
 
 pub returns-in_err-journal : goal.returns-in_err-journal

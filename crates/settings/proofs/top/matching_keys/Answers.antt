@@ -1,7 +1,6 @@
 use Rattle.std.proofs.Common.{refl}
-use Rattle.link_base.specs.AnswerLaws.{refuses_then}
-use Rattle.settings.specs.PlanParts.{matching_keys}
-use Rattle.settings.proofs.Chains.{then_given, then_refused}
+use Rattle.settings_readers.specs.StepLaws.{refuses_then, then_given, then_refused}
+use Rattle.settings.specs.Settings.{matching_keys}
 use Rattle.settings.proofs.top.matching_keys.Goals as goal
 
 pub returns-in-Err : goal.returns-in-Err

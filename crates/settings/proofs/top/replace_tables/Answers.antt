@@ -1,7 +1,6 @@
 use Rattle.std.proofs.Common.{refl}
-use Rattle.link_base.specs.AnswerLaws.{refuses_then}
-use Rattle.settings.specs.PlanParts.{tables_over}
-use Rattle.settings.proofs.Chains.{handed_on, last_gives, then_gives, then_refused}
+use Rattle.settings.specs.Settings.{tables_over}
+use Rattle.settings_readers.specs.StepLaws.{handed_on, last_gives, refuses_then, then_gives, then_refused}
 use Rattle.settings.proofs.top.replace_tables.Goals as goal
 
 pub returns-in_err-replace : goal.returns-in_err-replace

@@ -1,13 +1,14 @@
-use Rattle.std.proofs.Common.{Err, Result, subst}
+use Rattle.std.proofs.Common.{◌∙◌, ap, sym}
 use Rattle.toml.specs.View.{table_view}
-use Rattle.link_base.specs.declared.fault.Fault.{Fault}
 use Rattle.link_base.specs.declared.tables.Tables.{Tables}
-use Rattle.link_base.specs.Fault.{IsAnswer}
-use Rattle.settings.proofs.InParts.{tables_same}
+use Rattle.settings_readers.specs.StepLaws.{refused_same}
+use Rattle.settings.specs.Settings.{tables_over}
 use Rattle.settings.proofs.top.tables.Goals as goal
 
-pub returns-in-Err-clause-gives : goal.returns-in-Err-clause-gives
-returns-in-Err-clause-gives c =
-    let standard = c.in_ok-tables.ensures in
-    let same = tables_same c.in_ok-tables.tables (table_view c.args.keys.now.table.now) c.args.keys.now.above.now standard.missing standard.titles standard.suffixes standard.names standard.places in
-    subst (λ (r : Result Tables Fault). IsAnswer r (Err c.in-Err.fault)) same c.in-Err.ensures
+pub returns-in-Err : goal.returns-in-Err
+returns-in-Err c =
+    refused_same _ _ _ (ap (λ (default : Tables). tables_over default (table_view c.args.keys.now.table.now) c.args.keys.now.above.now) c.in_ok-tables.ensures) c.in-Err.ensures
+
+pub returns-in-Ok : goal.returns-in-Ok
+returns-in-Ok c =
+    sym (ap (λ (default : Tables). tables_over default (table_view c.args.keys.now.table.now) c.args.keys.now.above.now) c.in_ok-tables.ensures) ∙ c.in-Ok.ensures

@@ -1,7 +1,6 @@
 use Rattle.std.proofs.Common.{◌∙◌}
 use Rattle.std.proofs.lemmas.Bool.{lt-leb, le-leb}
-use Rattle.settings_readers.proofs.Ascending.{keys_ascend-sorted}
-use Rattle.settings_readers.proofs.Steps.{refused_as}
+use Rattle.settings_readers.specs.StepLaws.{refused_as}
 use Rattle.link_plan.specs.declared.limits.TheConstants.{MOST_WORD_PAIRS}
 use Rattle.settings.proofs.WordTables.{small_table_is}
 use Rattle.settings.proofs.word_tables.small_table.Goals as goal
@@ -14,6 +13,3 @@ returns-then-len-gt-MOST_WORD_PAIRS-clause-gives c =
 pub returns-else-len-gt-MOST_WORD_PAIRS-clause-gives : goal.returns-else-len-gt-MOST_WORD_PAIRS-clause-gives
 returns-else-len-gt-MOST_WORD_PAIRS-clause-gives c =
     small_table_is c.len.result c.args.place.now _ c.in-Some.table.now.entries c.in-Some.ensures c.len.ensures.len ∙ rw (le-leb c.len.result MOST_WORD_PAIRS c.if-len-gt-MOST_WORD_PAIRS.false)
-
-pub returns-else-len-gt-MOST_WORD_PAIRS-clause-ascending : goal.returns-else-len-gt-MOST_WORD_PAIRS-clause-ascending
-returns-else-len-gt-MOST_WORD_PAIRS-clause-ascending c = keys_ascend-sorted c.in-Some.table.now.entries c.len.ensures.ordered

@@ -1,6 +1,7 @@
 use Rattle.std.proofs.Common.{◌≡◌, true, false, sym, ◌∙◌, arith}
 use Rattle.std.specs.Prelude.{nat_le, ◌&&◌}
-use Rattle.settings_readers.proofs.Steps.{refused_as, sized_is}
+use Rattle.settings_readers.proofs.Steps.{sized_is}
+use Rattle.settings_readers.specs.StepLaws.{refused_as}
 use Rattle.settings_readers.proofs.lists.sized.Goals as goal
 
 pub returns-then-not-is_sized-clause-gives : goal.returns-then-not-is_sized-clause-gives
