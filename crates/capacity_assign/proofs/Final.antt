@@ -11,7 +11,7 @@ use Rattle.link_base.specs.declared.rule.Candidate.{Candidate}
 use Rattle.price_check.specs.Assignment.{price_sum, price_of, worth, IsBefore, IsWithin}
 use Rattle.price_check.specs.Capacities.{CertifiesWithin, IsWithinCapacities, capacity_of, links_at, place_sum}
 use Rattle.price_check.proofs.Duality.{without, absent-without, IsTight, price_sum-without, price_sum-zero, AllPairs-head, AllPairs-tail}
-use Rattle.price_check.proofs.Members.{Contains-later}
+use Rattle.assignment_steps.specs.QueueLaws.{Contains-later}
 use Rattle.price_check.proofs.PlaceFacts.{AreApart, fits-tail, links_at-here, links_at-other, one_less, place_sum-one_less, place_there}
 use Rattle.assignment_steps.specs.declared.market.Edge.{Edge}
 use Rattle.assignment_steps.specs.Market.{edge, link, number}
@@ -22,9 +22,9 @@ use Rattle.capacity_assign.specs.Final.{AreClosed, AreEmpty}
 use Rattle.assignment_steps.specs.Between.{ReachAll}
 use Rattle.assignment_steps.specs.Candidates.{edges_of, is_linked, prices_of}
 use Rattle.capacity_assign.proofs.Links.{counted_link, linked_at-set, tick}
-use Rattle.assignment_steps.proofs.Links.{link_there, link-set}
-use Rattle.assignment_steps.proofs.EdgesOf.{floored, none_linked, price_of-prices, range_edges}
-use Rattle.assignment_steps.proofs.Certified.{absent_a, all_among, all_covered, all_tight, apart_a, link_member, links_rising, member_link}
+use Rattle.assignment_steps.specs.LinkLaws.{link_there, link-set, none_linked}
+use Rattle.assignment_steps.specs.CandidatesLaws.{floored, price_of-prices, range_edges}
+use Rattle.assignment_steps.specs.CertifiedLaws.{absent_a, all_among, all_covered, all_tight, apart_a, link_member, links_rising, member_link}
 
 -- Tight members, no price where no member stands, and none at a record of B with a place left: the prices add up
 -- to the worth.

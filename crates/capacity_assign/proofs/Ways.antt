@@ -7,11 +7,10 @@ use Rattle.capacity_assign.specs.Core.{Reseats, linked_at}
 use Rattle.assignment_steps.specs.Ways.{IsHop, above, Leads}
 use Rattle.assignment_steps.specs.Market.{AreLinked, AreTight, link, edge, number}
 use Rattle.capacity_assign.specs.Seating.{AreAllSeated, HasHole, free_records}
-use Rattle.assignment_steps.proofs.Links.{link-set}
+use Rattle.assignment_steps.specs.LinkLaws.{link-set, linked_joined, tight_joined}
 use Rattle.capacity_assign.proofs.Links.{linked_at-set, free_records-set}
 use Rattle.capacity_assign.proofs.Seating.{all_taken, seat_left}
-use Rattle.assignment_steps.proofs.Leading.{leads_below, reached_by, goes_on, ends_at}
-use Rattle.assignment_steps.proofs.Taken.{linked_joined, tight_joined}
+use Rattle.assignment_steps.specs.WaysLaws.{leads_below, reached_by, goes_on, ends_at}
 
 -- a place that is missing at a record of B
 abbrev pub one_at : ℕ → ℕ → ℕ

@@ -1,5 +1,5 @@
 use Rattle.std.proofs.Common.{◌<◌, length, refl, ap, arith}
-use Rattle.assignment_steps.proofs.Count.{left_few}
+use Rattle.assignment_steps.specs.RelaxedLaws.{left_few}
 use Rattle.assignment.specs.Growth.{growth}
 use Rattle.assignment.proofs.Growing.{tree_planted}
 use Rattle.assignment.proofs.grow.plant.Goals as goal

@@ -6,7 +6,7 @@ use Rattle.assignment.specs.Growth.{Growth, IsReady, IsTree, growth}
 use Rattle.assignment_steps.specs.Spread.{IsRelaxed, edge_of}
 use Rattle.assignment_steps.specs.Reached.{work}
 use Rattle.assignment_steps.specs.Distances.{distance}
-use Rattle.assignment_steps.proofs.Count.{left_later}
+use Rattle.assignment_steps.specs.RelaxedLaws.{left_later}
 use Rattle.assignment.proofs.Growing.{tree_ended, tree_passed_to, tree_skip}
 use Rattle.assignment.proofs.grow.relax_from.Goals as goal
 

@@ -2,7 +2,7 @@ use Rattle.std.proofs.Common.{length, arith}
 use Rattle.assignment.specs.Growth.{growth, with_waiting}
 use Rattle.assignment_steps.specs.Between.{HasNoLink}
 use Rattle.assignment_steps.specs.Spread.{spread, waits_for}
-use Rattle.assignment_steps.proofs.Arrived.{done_kept, falls_within, root_done, searchable, stop_free, stop_within, ways_after}
+use Rattle.assignment_steps.specs.StoppedLaws.{done_kept, falls_within, root_done, searchable, stop_free, stop_within, ways_after}
 use Rattle.assignment.proofs.Rounds.{between_after, between_kept, tight_after}
 use Rattle.assignment.proofs.round.search_from.Goals as goal
 

@@ -1,7 +1,7 @@
 use Rattle.std.proofs.Common.{ap, sym, ◌∙◌}
 use Rattle.std.specs.Option.{is_some}
 use Rattle.std.proofs.lemmas.Bool.{false≢true}
-use Rattle.assignment_steps.proofs.Taken.{not_linked}
+use Rattle.assignment_steps.specs.LinkLaws.{not_linked}
 use Rattle.assignment.proofs.round.take_up.Goals.{else-bounded-via-then-bounded+else-tree-eq0, else-bounded-via-else-bounded, then-is_some-via-then-is_some, then-is_some-via-else-is_some+then-price_a-root-eq0}
 use Rattle.assignment.proofs.round.take_up.Goals as goal
 

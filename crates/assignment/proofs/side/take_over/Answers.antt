@@ -1,5 +1,5 @@
 use Rattle.std.proofs.Common.{◌∙◌, ap, sym, length}
-use Rattle.assignment_steps.proofs.Links.{none_matched}
+use Rattle.assignment_steps.specs.LinkLaws.{none_matched}
 use Rattle.assignment.proofs.side.take_over.Goals as goal
 
 pub join_as_turned-requires-clause-matched : goal.join_as_turned-requires-clause-matched

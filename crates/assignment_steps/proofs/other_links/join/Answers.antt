@@ -2,8 +2,7 @@ use Rattle.std.proofs.Common.{◌≡◌, None, Some, ap, sym, ◌∙◌, get_or-
 use Rattle.std.specs.Option.{is_some}
 use Rattle.std.proofs.lemmas.Bool.{false≢true}
 use Rattle.assignment_steps.specs.Market.{link, edge}
-use Rattle.assignment_steps.proofs.Links.{matched_joined}
-use Rattle.assignment_steps.proofs.Taken.{none_before, not_linked}
+use Rattle.assignment_steps.specs.LinkLaws.{matched_joined, none_before, not_linked}
 use Rattle.assignment_steps.proofs.other_links.join.Goals as goal
 
 pub returns : goal.returns

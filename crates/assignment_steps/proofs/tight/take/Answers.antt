@@ -2,7 +2,8 @@ use Rattle.std.proofs.Common.{◌≡◌, None, Some, ap, sym, ◌∙◌, length,
 use Rattle.std.specs.Option.{is_some}
 use Rattle.std.proofs.lemmas.Bool.{false≢true}
 use Rattle.assignment_steps.specs.Market.{link, edge, IsTight}
-use Rattle.assignment_steps.proofs.Taken.{between_joined, none_before, not_linked}
+use Rattle.assignment_steps.specs.BetweenLaws.{between_joined}
+use Rattle.assignment_steps.specs.LinkLaws.{none_before, not_linked}
 use Rattle.assignment_steps.proofs.tight.take.Goals as goal
 
 pub returns : goal.returns

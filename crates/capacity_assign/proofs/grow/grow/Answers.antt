@@ -3,9 +3,9 @@ use Rattle.std.proofs.lemmas.List.{get_or_read}
 use Rattle.capacity_assign.specs.Growth.{growth, places_left}
 use Rattle.assignment_steps.specs.Distances.{distance, far}
 use Rattle.capacity_assign.proofs.Growing.{grown_best, tree_dropped, tree_taken}
-use Rattle.assignment_steps.proofs.Spreading.{cons_first, nearest_taken}
-use Rattle.assignment_steps.proofs.Noted.{room_queued}
-use Rattle.assignment_steps.proofs.Members.{Contains-cons_cases}
+use Rattle.assignment_steps.specs.QueueLaws.{cons_first, Contains-cons_cases}
+use Rattle.assignment_steps.specs.SpreadLaws.{nearest_taken}
+use Rattle.assignment_steps.specs.ReachedLaws.{room_queued}
 use Rattle.capacity_assign.proofs.grow.grow.Goals as goal
 
 pub returns-then-tree-near-clause-grown : goal.returns-then-tree-near-clause-grown

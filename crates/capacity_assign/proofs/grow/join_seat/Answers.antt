@@ -5,7 +5,7 @@ use Rattle.assignment_steps.specs.Spread.{edge_of}
 use Rattle.assignment_steps.specs.Distances.{distance, far}
 use Rattle.assignment_steps.specs.Relaxed.{left}
 use Rattle.capacity_assign.proofs.Growing.{at_seat, joins_stays, tree_joining, tree_any}
-use Rattle.assignment_steps.proofs.Count.{left_joined, left_any}
+use Rattle.assignment_steps.specs.RelaxedLaws.{left_joined, left_any}
 use Rattle.capacity_assign.proofs.grow.join_seat.Goals as goal
 
 pub index-position-requires : goal.index-position-requires

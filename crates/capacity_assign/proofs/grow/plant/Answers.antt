@@ -1,6 +1,6 @@
 use Rattle.std.proofs.Common.{◌<◌, ◌∙◌, length, refl, ap, arith, get_or-set_same}
 use Rattle.assignment_steps.specs.Distances.{far}
-use Rattle.assignment_steps.proofs.Count.{left_few}
+use Rattle.assignment_steps.specs.RelaxedLaws.{left_few}
 use Rattle.capacity_assign.specs.Growth.{growth}
 use Rattle.capacity_assign.proofs.Growing.{tree_planted}
 use Rattle.capacity_assign.proofs.grow.plant.Goals as goal

@@ -3,7 +3,7 @@ use Rattle.std.proofs.lemmas.Bool.{cases_lt}
 use Rattle.assignment_steps.specs.Market.{number}
 use Rattle.capacity_assign.specs.Growth.{growth}
 use Rattle.assignment_steps.specs.Reached.{work}
-use Rattle.assignment_steps.proofs.Count.{left_later}
+use Rattle.assignment_steps.specs.RelaxedLaws.{left_later}
 use Rattle.capacity_assign.proofs.Growing.{tree_skip}
 use Rattle.capacity_assign.proofs.grow.relax_record.Goals as goal
 

@@ -1,5 +1,5 @@
 use Rattle.std.proofs.Common.{arith}
-use Rattle.assignment_steps.proofs.Count.{left_any}
+use Rattle.assignment_steps.specs.RelaxedLaws.{left_any}
 use Rattle.capacity_assign.proofs.Growing.{tree_any}
 use Rattle.capacity_assign.proofs.grow.search.Goals as goal
 

@@ -2,8 +2,8 @@ use Rattle.std.proofs.Common.{◌+◌, refl, ap, sym, ◌∙◌, arith}
 use Rattle.std.proofs.lemmas.Bool.{false≢true}
 use Rattle.std.specs.Option.{is_some}
 use Rattle.assignment_steps.specs.Market.{link}
-use Rattle.assignment_steps.proofs.Taken.{not_linked}
-use Rattle.assignment_steps.proofs.Settled.{one_more_done}
+use Rattle.assignment_steps.specs.LinkLaws.{not_linked}
+use Rattle.assignment_steps.specs.BetweenLaws.{one_more_done}
 use Rattle.capacity_assign.proofs.Rounds.{between_any}
 use Rattle.capacity_assign.proofs.round.round.Goals as goal
 

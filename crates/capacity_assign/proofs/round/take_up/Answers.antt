@@ -1,7 +1,7 @@
 use Rattle.std.proofs.Common.{length, arith}
 use Rattle.capacity_assign.specs.Growth.{growth, with_waiting}
 use Rattle.capacity_assign.specs.Seating.{HasPlace, seating}
-use Rattle.assignment_steps.proofs.Arrived.{done_kept, falls_within, root_done, searchable, stop_free, stop_within, ways_after}
+use Rattle.assignment_steps.specs.StoppedLaws.{done_kept, falls_within, root_done, searchable, stop_free, stop_within, ways_after}
 use Rattle.assignment_steps.specs.Spread.{spread}
 use Rattle.capacity_assign.proofs.Rounds.{between_after, tight_after}
 use Rattle.capacity_assign.proofs.round.take_up.Goals as goal

@@ -5,9 +5,9 @@ use Rattle.price_check.proofs.PlaceFacts.{place_there}
 use Rattle.assignment_steps.specs.Market.{edge, number}
 use Rattle.capacity_assign.specs.Seating.{HasHole, seating}
 use Rattle.capacity_assign.proofs.Links.{free_record_counts, linked_parted}
-use Rattle.assignment_steps.proofs.Links.{link-set}
+use Rattle.assignment_steps.specs.LinkLaws.{link-set}
 use Rattle.capacity_assign.proofs.Seating.{hole_parted, places_after_added, places_after_parted, free_records_after_parted, seats_after_added, seats_after_parted, vacant_after_added}
-use Rattle.assignment_steps.proofs.Leading.{leads_parted}
+use Rattle.assignment_steps.specs.WaysLaws.{leads_parted}
 use Rattle.capacity_assign.proofs.round.turn.Goals as goal
 
 pub add_seat-seat-requires : goal.add_seat-seat-requires

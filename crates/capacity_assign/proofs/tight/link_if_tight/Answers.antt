@@ -5,7 +5,7 @@ use Rattle.std.specs.Option.{is_some}
 use Rattle.assignment_steps.specs.Market.{edge, link, number}
 use Rattle.capacity_assign.specs.Seating.{seating}
 use Rattle.capacity_assign.proofs.FirstLinks.{between_linked, places_linked, still_none}
-use Rattle.assignment_steps.proofs.Taken.{none_before, not_linked}
+use Rattle.assignment_steps.specs.LinkLaws.{none_before, not_linked}
 use Rattle.capacity_assign.proofs.Links.{free_record_counts}
 use Rattle.capacity_assign.proofs.tight.link_if_tight.Goals as goal
 

@@ -1,8 +1,8 @@
 use Rattle.std.proofs.Common.{◌≡◌, ◌<◌, length, set, ap, inl, inr, arith}
 use Rattle.std.specs.Prelude.{vec_len}
 use Rattle.assignment_steps.specs.Distances.{far}
-use Rattle.assignment_steps.proofs.Noted.{noted_count, noted_in}
-use Rattle.assignment_steps.proofs.OneWrite.{distance-set}
+use Rattle.assignment_steps.specs.ReachedLaws.{noted_count, noted_in}
+use Rattle.assignment_steps.specs.DistanceLaws.{distance-set}
 use Rattle.assignment_steps.proofs.reaching.Reached.reach.Goals as goal
 
 pub returns-clause-shortens : goal.returns-clause-shortens

@@ -1,4 +1,5 @@
--- The records that are noted where they are reached for the first time, and the room for them.
+-- Laws of the records that a search notes where it reaches them for the first time (`noted`), and of the room for them (`HasRoomForRecords`). Both
+-- assigners cite them.
 use Rattle.std.proofs.Common.{◌≡◌, ◌≢◌, ◌⊎◌, ℕ, ◌+◌, ◌<◌, List, [], ◌∷◌, ◌++◌, length, set, refl, ap, inl, inr, arith}
 use Rattle.std.specs.Prelude.{All, Contains, vec_len}
 use Rattle.std.proofs.lemmas.Bool.{cases_eq, eq-eqb, ne_eqb}
@@ -8,7 +9,7 @@ use Rattle.assignment_steps.specs.declared.reaching.Reached.{Reached}
 use Rattle.assignment_steps.specs.Queue.{Queue}
 use Rattle.assignment_steps.specs.Distances.{distance, far, unreached}
 use Rattle.assignment_steps.specs.Reached.{HasRoomForRecords, noted}
-use Rattle.assignment_steps.proofs.Count.{unreached-again, unreached-set}
+use Rattle.assignment_steps.specs.DistanceLaws.{unreached-again, unreached-set}
 
 module _ (dist touched : List ℕ) (b : ℕ) where
   -- a record of B is noted, or was reached before
