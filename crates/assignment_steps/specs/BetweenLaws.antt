@@ -1,5 +1,5 @@
--- Laws of what holds between two steps (`IsPriced`, `IsBetween`, `IsDone`) and of settled edges (`AreSettled`), one step after the other. Both
--- assigners cite them.
+-- Laws of what holds between two steps (`IsPriced`, `IsBetween`, `IsDone`) and of settled edges (`AreSettled`), one step after the
+-- other. Both assigners cite them.
 use Rattle.std.proofs.Common.{◌≡◌, ℕ, ◌<◌, List, length, set, Option, Some, None, inl, inr, arith, ◌+◌}
 use Rattle.std.proofs.lemmas.Bool.{cases_eq}
 use Rattle.std.proofs.lemmas.List.{length-set}

@@ -1,5 +1,5 @@
--- Laws of links (`link`, `IsMatched`, `AreLinked`, `AreTight`): what one link that is taken or given up does to them. Both assigners cite
--- them.
+-- Laws of links (`link`, `IsMatched`, `AreLinked`, `AreTight`): what one link that is taken or given up does to them. Both
+-- assigners cite them.
 use Rattle.std.proofs.Common.{◌≡◌, ◌≢◌, ◌⊎◌, ℕ, ◌<◌, List, length, set, Option, Some, None, refl, ap, sym, ◌∙◌, inl, inr, get_or-set_other, get_or-set_same, false, arith, true}
 use Rattle.std.proofs.lemmas.Bool.{cases_eq, cases_lt, false≢true}
 use Rattle.std.proofs.lemmas.List.{get_or_past, get_or-replicate, length-replicate}

@@ -5,8 +5,8 @@ use Rattle.std.proofs.lemmas.List.{length-set}
 use Rattle.price_check.proofs.PlaceFacts.{place_there}
 use Rattle.assignment_steps.specs.declared.market.Edge.{Edge}
 use Rattle.assignment_steps.specs.Market.{IsTight, edge, link, number}
-use Rattle.capacity_assign.specs.Core.{linked_at}
-use Rattle.capacity_assign.specs.Round.{IsBetweenRounds, KeepsCapacities}
+use Rattle.capacity_assign.specs.Core.{KeepsCapacities, linked_at}
+use Rattle.capacity_assign.specs.Round.{IsBetweenRounds}
 use Rattle.capacity_assign.specs.Seating.{AddsSeat, HasPlace, Seating, free_records}
 use Rattle.capacity_assign.proofs.Links.{free_record_counts, free_records-set, linked_at-set, tick}
 use Rattle.capacity_assign.proofs.Seating.{places_after_added, all_taken, seats_after_added, vacant_after_added}

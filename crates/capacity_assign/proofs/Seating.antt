@@ -6,8 +6,7 @@ use Rattle.std.proofs.lemmas.List.{length-set}
 use Rattle.assignment_steps.specs.declared.market.Edge.{Edge}
 use Rattle.price_check.proofs.PlaceFacts.{place_there}
 use Rattle.assignment_steps.specs.Market.{edge, link, number}
-use Rattle.capacity_assign.specs.Core.{linked_at}
-use Rattle.capacity_assign.specs.Round.{KeepsCapacities}
+use Rattle.capacity_assign.specs.Core.{KeepsCapacities, linked_at}
 use Rattle.capacity_assign.specs.Seating.{AddsSeat, AreAllSeated, AreSeated, AreSeats, HasSitters, HangTogether, HasHole, IsLastSeat, Seating, free_records}
 use Rattle.capacity_assign.proofs.Links.{free_records-set, linked_at-set, tick}
 use Rattle.assignment_steps.specs.LinkLaws.{link-set, link_there}

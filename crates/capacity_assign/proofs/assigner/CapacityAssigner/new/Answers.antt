@@ -36,8 +36,5 @@ invariant_of-result c =
       places = λ b. rw (made, start.links, places) (places_first cs c.args.rows_a ns (seating s.seats) b start.seats);
       rows_a = reach.records;
       rows_b = rw places closed.records;
-      tree = record {
-        clean = rw (reach.records, closed.records) start.clean;
-        queue = rw made start.queue;
-      };
+      tree = rw (reach.records, closed.records, made) start.rest;
     }
