@@ -12,9 +12,9 @@ use Rattle.assignment_steps.specs.declared.market.Edge.{Edge}
 use Rattle.assignment_steps.specs.Market.{link, edge, number, IsInRange}
 use Rattle.assignment_steps.specs.Between.{HasNoLink, IsBetween, ReachAll}
 use Rattle.assignment_steps.specs.Candidates.{edges_of, is_linked, prices_of}
-use Rattle.assignment_steps.proofs.Links.{link_cases, none_matched}
-use Rattle.assignment_steps.proofs.Certified.{absent_a, all_among, all_covered, all_tight, apart_a, link_member, links_rising, member_link}
-use Rattle.assignment_steps.proofs.EdgesOf.{IsLinkedBy, floored, none_linked, price_of-prices}
+use Rattle.assignment_steps.specs.LinkLaws.{link_cases, none_matched, none_linked}
+use Rattle.assignment_steps.specs.CertifiedLaws.{absent_a, all_among, all_covered, all_tight, apart_a, link_member, links_rising, member_link}
+use Rattle.assignment_steps.specs.CandidatesLaws.{IsLinkedBy, floored, price_of-prices}
 
 -- Tight members, and no price elsewhere: the prices add up to the worth.
 

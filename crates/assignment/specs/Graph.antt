@@ -1,9 +1,9 @@
 -- Machinery of `Assigner`: the edges of candidates from both sides, and the sides that search over them.
-use Rattle.std.specs.Prelude.{◌≡◌, ℕ, length, MatchOption}
+use Rattle.std.specs.Prelude.{ℕ, MatchOption}
 use Rattle.assignment_steps.specs.Market.{IsInRange, AreListed}
 use Rattle.assignment.specs.declared.graph.Graph.{Graph}
 use Rattle.assignment.specs.declared.graph.Sides.{Sides}
-use Rattle.assignment.specs.Sides.{IsOther, IsSide}
+use Rattle.assignment.specs.Sides.{IsOther, IsSideOf}
 
 -- the edges and the turned edges are in range, and their starts are told
 pub record IsGraph (rows_a rows_b : ℕ) (g : Graph) : Type 0 where
@@ -14,7 +14,5 @@ pub record IsGraph (rows_a rows_b : ℕ) (g : Graph) : Type 0 where
 
 -- the sides stand over the edges and the turned edges, for so many records
 pub record AreTwoSides (rows_a rows_b : ℕ) (g : Graph) (s : Sides) : Type 0 where
-  pub own : IsSide g.edges.items s.own
-  pub count_a : length s.own.price_a.items ≡ rows_a
-  pub count_b : length s.own.price_b.items ≡ rows_b
+  pub own : IsSideOf g.edges.items rows_a rows_b s.own
   pub other : MatchOption s.other (Unit {0}) (IsOther g.turned.items rows_a rows_b)

@@ -1,9 +1,9 @@
 // The edges from both sides, and the sides that search over them.
 ghost use Rattle.std.specs.Prelude.{◌≡◌, All, AllPairs, IfOk, length};
 ghost use Rattle.price_check.specs.Assignment.{IsBefore, IsWithin};
-ghost use Rattle.assignment_steps.specs.Between.{IsBetween};
 ghost use Rattle.assignment_steps.specs.Candidates.{edges_of};
 ghost use Rattle.assignment.specs.Graph.{AreTwoSides, IsGraph};
+ghost use Rattle.assignment.specs.Sides.{HasRun};
 ghost use Rattle.assignment.specs.Solution.{HasSmallValue};
 
 use crate::side::{Other, Side, first_side, other_if_less, run, run_other};
@@ -80,9 +80,7 @@ pub fn first_sides(
 pub fn run_sides(graph: &Graph, sides: Sides) -> Side
     requires graph { IsGraph (length sides.own.price_a.items) (length sides.own.price_b.items) graph.now }
     requires sides { AreTwoSides (length sides.own.price_a.items) (length sides.own.price_b.items) graph.now sides }
-    ensures between { IsBetween graph.now.edges.items result.price_a.items result.price_b.items result.link_a.items result.link_b.items (length result.price_a.items) }
-    ensures rows_a { length result.price_a.items ≡ length sides.own.price_a.items }
-    ensures rows_b { length result.price_b.items ≡ length sides.own.price_b.items }
+    ensures { HasRun graph.now.edges.items sides.own result }
 {
     let Sides { mut own, other } = sides;
     let board = Board {

@@ -1,6 +1,6 @@
 // Room for all that a side does.
-ghost use Rattle.std.specs.Prelude.{◌≤◌, IfOk, length};
-ghost use Rattle.assignment_steps.specs.Reached.{IsClean};
+ghost use Rattle.std.specs.Prelude.{IfOk, length};
+ghost use Rattle.assignment_steps.specs.Reached.{IsAtRest};
 
 use crate::market::Tree;
 use crate::solve::clean_tree;
@@ -38,8 +38,7 @@ pub(crate) fn room_for_side(
     rows_a: usize,
     rows_b: usize,
 ) -> Result<SideRoom, NoMemory>
-    ensures clean { IfOk result (λ r. IsClean rows_a rows_b r.tree.reached) }
-    ensures queue { IfOk result (λ r. length edges.now ≤ r.tree.reached.frontier.room) }
+    ensures { IfOk result (λ r. IsAtRest rows_a rows_b (length edges.now) r.tree.reached) }
 {
     let is_needed = !have_one_each(edges);
     let tree = clean_tree(alloc, rows_a, rows_b, edges.len())?;

@@ -1,11 +1,10 @@
 // Prices, links and room of the side that searches.
-ghost use Rattle.std.specs.Prelude.{◌≡◌, ◌*◌, ◌/◌, ◌≤◌, ℕ, IfOk, MatchOption, None, is_some, length, nat_lt};
+ghost use Rattle.std.specs.Prelude.{◌≡◌, ◌*◌, ◌/◌, ℕ, IfOk, MatchOption, None, is_some, length, nat_lt};
 ghost use Rattle.std.specs.List.{sum};
 ghost use Rattle.assignment_steps.specs.Market.{link, number, AreListed, IsInRange};
 ghost use Rattle.assignment_steps.specs.Between.{IsBetween, ReachAll};
-ghost use Rattle.assignment_steps.specs.Joined.{AreJoinedAs};
-ghost use Rattle.assignment_steps.specs.Reached.{IsClean};
-ghost use Rattle.assignment.specs.Sides.{IsOther, IsSide, IsTakenOver};
+ghost use Rattle.assignment_steps.specs.Reached.{IsAtRest};
+ghost use Rattle.assignment.specs.Sides.{HasRun, IsOther, IsSide, IsSideOf, IsTakenOver, TakesOver};
 
 use crate::market::Tree;
 use crate::room::room_for_side;
@@ -49,9 +48,7 @@ pub fn first_side(
     requires reach { ReachAll edges.now (length price_a.items) price_a.items price_b.items }
     requires none { (b : ℕ) → number price_b.items b ≡ 0 }
     requires in_range { IsInRange edges.now (length price_a.items) (length price_b.items) }
-    ensures side { IfOk result (IsSide edges.now) }
-    ensures rows_a { IfOk result (λ s. length s.price_a.items ≡ length price_a.items) }
-    ensures rows_b { IfOk result (λ s. length s.price_b.items ≡ length price_b.items) }
+    ensures { IfOk result (IsSideOf edges.now (length price_a.items) (length price_b.items)) }
 {
     let rows_a = price_a.len();
     let rows_b = price_b.len();
@@ -135,8 +132,7 @@ fn settle(
 )
     requires listed { AreListed board.edges.now (length price_a.old) board.starts.now }
     requires between { IsBetween board.edges.now price_a.old price_b.old link_a.old link_b.old 0 }
-    requires clean { IsClean (length price_a.old) (length price_b.old) tree.old.reached }
-    requires queue { length board.edges.now ≤ tree.old.reached.frontier.room }
+    requires rest { IsAtRest (length price_a.old) (length price_b.old) (length board.edges.now) tree.old.reached }
     ensures { IsBetween board.entry.edges.now price_a.new price_b.new link_a.new link_b.new (length price_a.new) }
 {
     let net = Net {
@@ -176,9 +172,7 @@ fn settle(
 pub fn run(board: Board<'_>, side: &mut Side)
     requires listed { AreListed board.edges.now (length side.old.price_a.items) board.starts.now }
     requires side { IsSide board.edges.now side.old }
-    ensures between { IsBetween board.entry.edges.now side.new.price_a.items side.new.price_b.items side.new.link_a.items side.new.link_b.items (length side.new.price_a.items) }
-    ensures rows_a { length side.new.price_a.items ≡ length side.old.price_a.items }
-    ensures rows_b { length side.new.price_b.items ≡ length side.old.price_b.items }
+    ensures { HasRun board.entry.edges.now side.old side.new }
 {
     settle(
         board,
@@ -210,8 +204,7 @@ fn take_over(
     requires none_a { (a : ℕ) → link new_a.old a ≡ None }
     requires none_b { (b : ℕ) → link new_b.old b ≡ None }
     ensures between { IsBetween board.entry.edges.now price_a.new price_b.new link_a.new link_b.new 0 }
-    ensures joined { AreJoinedAs board.entry new_a.new new_b.new side.now.link_a.items (length side.now.link_a.items) }
-    ensures adopted { IsBetween board.entry.edges.now side.now.price_b.items side.now.price_a.items new_a.new new_b.new 0 → (price_a.new ≡ side.now.price_b.items) × (price_b.new ≡ side.now.price_a.items) × (link_a.new ≡ new_a.new) × (link_b.new ≡ new_b.new) }
+    ensures taken { TakesOver board.entry side.now price_a.new price_b.new link_a.new link_b.new new_a.new new_b.new }
 {
     join_as_turned(board, new_a, new_b, &side.link_a);
     let net = Net {
@@ -227,9 +220,7 @@ pub fn run_other(board: Board<'_>, side: &mut Side, other: Option<Other>)
     requires listed { AreListed board.turned.now (length side.old.price_b.items) board.turned_starts.now }
     requires side { IsSide board.edges.now side.old }
     requires other { MatchOption other (Unit {0}) (IsOther board.turned.now (length side.old.price_a.items) (length side.old.price_b.items)) }
-    ensures side { IsSide board.entry.edges.now side.new }
-    ensures rows_a { length side.new.price_a.items ≡ length side.old.price_a.items }
-    ensures rows_b { length side.new.price_b.items ≡ length side.old.price_b.items }
+    ensures side { IsSideOf board.entry.edges.now (length side.old.price_a.items) (length side.old.price_b.items) side.new }
     ensures taken { MatchOption other (Unit {0}) (λ _. IsTakenOver board.entry side.new) }
 {
     let Some(mut other) = other else {

@@ -1,6 +1,6 @@
 // A tree and links at first.
-ghost use Rattle.std.specs.Prelude.{◌≡◌, ◌≤◌, None, IfOk, replicate};
-ghost use Rattle.assignment_steps.specs.Reached.{IsClean};
+ghost use Rattle.std.specs.Prelude.{◌≡◌, None, IfOk, replicate};
+ghost use Rattle.assignment_steps.specs.Reached.{IsAtRest};
 
 use crate::market::Tree;
 use assignment_steps::{Reached, no_links};
@@ -14,8 +14,7 @@ pub fn clean_tree(
     rows_b: usize,
     edges: usize,
 ) -> Result<Tree, NoMemory>
-    ensures clean { IfOk result (λ t. IsClean rows_a rows_b t.reached) }
-    ensures queue { IfOk result (λ t. edges ≤ t.reached.frontier.room) }
+    ensures { IfOk result (λ t. IsAtRest rows_a rows_b edges t.reached) }
 {
     let reached = Reached::new(alloc, rows_a, rows_b, edges)?;
     Ok(Tree {

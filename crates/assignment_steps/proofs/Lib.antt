@@ -1,17 +1,5 @@
-pub mod Links
-pub mod OtherSide
-pub mod Taken
 pub mod Joined
 pub mod StartFacts
 pub mod Members
-pub mod OneWrite
 pub mod Shifts
-pub mod Count
-pub mod Noted
-pub mod Spreading
-pub mod Arrived
-pub mod Leading
-pub mod EdgesOf
-pub mod Settled
-pub mod Certified
 pub mod Chained

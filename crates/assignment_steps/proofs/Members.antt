@@ -1,15 +1,10 @@
+-- Members of a list after a push and after a pop, and of a mapped list.
 use Rattle.std.proofs.Common.{◌≡◌, ◌⊎◌, ℕ, zero, suc, ◌-◌, ◌*◌, ◌/◌, ◌<◌, ◌≤◌, List, [], ◌∷◌, length, get_or, map, refl, sym, ap, ◌∙◌, inl, inr, arith}
 use Rattle.std.specs.Prelude.{Contains, IsPermutation}
 use Rattle.assignment_steps.specs.declared.queue.TheConstants.{LAST, TURNS}
 use Rattle.std.proofs.lemmas.List.Sorted.{Contains-permutation, IsPermutation-sym}
+use Rattle.assignment_steps.specs.QueueLaws.{Contains-cons_cases}
 use Rattle.price_check.specs.CandidateLaws.{Contains-later}
-
-at_cons : {X : Type 0} (y : X) (ys : List X) (x : X) (k : ℕ) → k < length (y ∷ ys) → get_or (y ∷ ys) k x ≡ x → Contains ys x ⊎ (x ≡ y)
-at_cons y ys x zero lt e = inr (sym e)
-at_cons y ys x (suc k) lt e = inl (k, omega arith, e)
-
-pub Contains-cons_cases : {X : Type 0} (y : X) (ys : List X) (x : X) → Contains (y ∷ ys) x → Contains ys x ⊎ (x ≡ y)
-Contains-cons_cases y ys x h = at_cons y ys x h.0 h.1 h.2
 
 -- after a pop
 pub popped_stays : {X : Type 0} (xs ys : List X) (e : X) → IsPermutation xs (e ∷ ys) → (x : X) → Contains xs x → Contains ys x ⊎ (x ≡ e)

@@ -3,8 +3,8 @@ use Rattle.std.proofs.Common.{◌≡◌, ℕ, ◌+◌, ◌-◌, ◌<◌, ◌≤�
 use Rattle.std.specs.Prelude.{Contains}
 use Rattle.assignment_steps.specs.Market.{number}
 use Rattle.assignment_steps.specs.Distances.{distance, far}
-use Rattle.assignment_steps.proofs.OneWrite.{distance-set, number-set}
-use Rattle.assignment_steps.proofs.Members.{Contains-cons_cases}
+use Rattle.assignment_steps.specs.DistanceLaws.{distance-set, number-set}
+use Rattle.assignment_steps.specs.QueueLaws.{Contains-cons_cases}
 
 module _ (prices dist : List ℕ) (end t change : ℕ) (in_prices : t < length prices) (in_dist : t < length dist) (low : end ≤ far) where
   pub price_raised : change ≡ number prices t + (end - distance dist t) → (r : ℕ) → number (set prices t change) r + (end - distance (set dist t far) r) ≡ number prices r + (end - distance dist r)

@@ -1,6 +1,6 @@
 -- What holds between two steps of an assignment: kept by `link_tight`, `adopt_all` and `adopt_proposal` (clause
 -- `between` of each).
-use Rattle.std.specs.Prelude.{◌≡◌, ℕ, ◌<◌, ◌≤◌, List, length, Option, None}
+use Rattle.std.specs.Prelude.{◌≡◌, ◌≢◌, ◌⊎◌, ℕ, ◌<◌, ◌≤◌, List, length, Option, None}
 use Rattle.link_limits.specs.declared.TheConstants.{MOST_VALUE}
 use Rattle.assignment_steps.specs.declared.market.Edge.{Edge}
 use Rattle.assignment_steps.specs.Market.{link, number, AreCovered, AreLinked, AreTight, IsInRange, IsMatched}
@@ -37,3 +37,11 @@ pub record ReachAll (es : List Edge) (rows_a : ℕ) (pa pb : List ℕ) : Type 0 
   pub records : length pa ≡ rows_a
   pub covered : AreCovered es pa pb
   pub small : (a : ℕ) → number pa a ≤ MOST_VALUE
+
+-- one price is at least a value, and no other changes
+pub record RaisesTo (old new : List ℕ) (position value : ℕ) : Type 0 where
+  pub here : value ≤ number new position
+  pub kept : (r : ℕ) → number old r ≤ number new r
+  pub only : (number new position ≡ value) ⊎ (new ≡ old)
+  pub others : (r : ℕ) → r ≢ position → number new r ≡ number old r
+  pub small : value ≤ MOST_VALUE → ((r : ℕ) → number old r ≤ MOST_VALUE) → (r : ℕ) → number new r ≤ MOST_VALUE

@@ -2,7 +2,7 @@
 use Rattle.std.specs.Prelude.{◌≡◌, ◌≢◌, ℕ, ◌+◌, ◌<◌, ◌≤◌, ◌⊎◌, List, length, Option, Some, None}
 use Rattle.assignment_steps.specs.declared.market.Edge.{Edge}
 use Rattle.assignment_steps.specs.declared.market.Board.{Board}
-use Rattle.assignment_steps.specs.Market.{edge, link, number}
+use Rattle.assignment_steps.specs.Market.{edge, link, number, IsMatched}
 
 -- the edges of a record of A, as its starts tell
 pub record IsOf (board : Board) (a k : ℕ) : Type 0 where
@@ -25,6 +25,12 @@ AreJoinedAs board la lb links count = (i : ℕ) → i < count → (j : ℕ) → 
 -- and the first `count` records of A, each with the record of B beside it
 abbrev pub AreJoinedWith : Board → List (Option ℕ) → List (Option ℕ) → List ℕ → ℕ → Type 0
 AreJoinedWith board la lb mates count = (a : ℕ) → a < count → AreJoined board la lb a (number mates a)
+
+-- links agree still, and none was taken away
+pub record KeepsLinks (es : List Edge) (la lb la' lb' : List (Option ℕ)) : Type 0 where
+  pub matched : IsMatched es la' lb'
+  pub kept_a : (a : ℕ) → link la' a ≡ None → link la a ≡ None
+  pub kept_b : (b : ℕ) → link lb' b ≡ None → link lb b ≡ None
 
 -- proposed prices, and room for the proposed links, of so many records
 pub record IsFor (rows_a rows_b : ℕ) (pa pb : List ℕ) (room_a room_b : List (Option ℕ)) : Type 0 where

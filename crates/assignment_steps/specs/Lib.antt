@@ -12,3 +12,15 @@ pub mod Relaxed
 pub mod Reached
 pub mod Spread
 pub mod Ways
+pub mod LinkLaws
+pub mod BetweenLaws
+pub mod DistanceLaws
+pub mod RelaxedLaws
+pub mod ReachedLaws
+pub mod QueueLaws
+pub mod SpreadLaws
+pub mod StoppedLaws
+pub mod WaysLaws
+pub mod CandidatesLaws
+pub mod CertifiedLaws
+pub mod TurnedLaws

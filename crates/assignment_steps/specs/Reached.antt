@@ -30,6 +30,11 @@ pub record IsClean (rows_a rows_b : ℕ) (r : Reached) : Type 0 where
   pub records : r.records.items ≡ []
   pub touched : r.touched.items ≡ []
 
+-- nothing is reached, and there is room for so many entries
+pub record IsAtRest (rows_a rows_b entries : ℕ) (r : Reached) : Type 0 where
+  pub clean : IsClean rows_a rows_b r
+  pub queue : entries ≤ r.frontier.room
+
 -- the noted records of B once one is reached: it is noted where it was not reached before
 abbrev pub noted : List ℕ → List ℕ → ℕ → List ℕ
 noted dist touched b = if distance dist b == far then touched ++ b ∷ [] else touched

@@ -1,7 +1,7 @@
 -- An alternating tree as it grows from a record of A without a link, over candidates with positive values as edges
 -- (Edmonds and Karp 1972): what holds of all that the search has reached, whatever it may end at.
--- `Reached::join` and `Reached::reach` carry it (clauses `joins` and `shortens`).
-use Rattle.std.specs.Prelude.{◌≡◌, ◌⊎◌, ℕ, ◌+◌, ◌<◌, ◌≤◌, Bool, true, false, List, [], ◌∷◌, ◌++◌, length, slice_set, Option, Some, None, MatchOption, IsNone, Contains}
+-- `Reached::join`, `Reached::reach` and `Reached::shift` carry it.
+use Rattle.std.specs.Prelude.{◌≡◌, ◌⊎◌, ℕ, ◌+◌, ◌-◌, ◌<◌, ◌≤◌, Bool, true, false, List, [], ◌∷◌, ◌++◌, length, slice_set, Option, Some, None, MatchOption, IsNone, Contains, vec_len, vec_capacity}
 use Rattle.std.proofs.Common.{min}
 use Rattle.link_limits.specs.declared.TheConstants.{MOST_VALUE}
 use Rattle.assignment_steps.specs.declared.market.Edge.{Edge}
@@ -10,7 +10,8 @@ use Rattle.assignment_steps.specs.declared.queue.Near.{Near}
 use Rattle.assignment_steps.specs.declared.reaching.Reached.{Reached}
 use Rattle.assignment_steps.specs.Market.{link, edge, number, AreLinked, AreStarts, IsInRange}
 use Rattle.assignment_steps.specs.Distances.{distance, far}
-use Rattle.assignment_steps.specs.Reached.{Waits, noted}
+use Rattle.assignment_steps.specs.Queue.{Enters, rank_of, turn_after}
+use Rattle.assignment_steps.specs.Reached.{HasRoomForRecords, Waits, noted}
 
 -- the lists of what a search has reached
 pub record Spread : Type 0 where
@@ -112,6 +113,30 @@ pub record Shortens (old new : Spread) (b k dist : ℕ) : Type 0 where
   pub waits : Waits old.frontier new.frontier (dist, b)
   pub current : new.current ≡ old.current
 
+-- a record of B is put at a shorter distance and into the queue, where nothing else of what is reached changes
+pub record Reaches (old new : Reached) (b k dist : ℕ) (first : Bool) : Type 0 where
+  pub shortens : Shortens (spread old) (spread new) b k dist
+  pub ranked : Enters old.frontier.ranked new.frontier.ranked (rank_of dist first old.frontier.turn) b
+  pub turn : new.frontier.turn ≡ turn_after old.frontier.turn
+  pub count : new.frontier.count ≡ old.frontier.count + 1
+  pub queue : old.frontier.room ≤ new.frontier.room
+  pub rest : new ≡ record old { dist_b = new.dist_b; from = new.from; touched = new.touched; frontier = new.frontier }
+  pub room : HasRoomForRecords (vec_len old.dist_a) (vec_len old.dist_b) new
+
+-- a record of B is noted, where it is reached for the first time
+pub record Notes (old new : Reached) (b : ℕ) : Type 0 where
+  pub touched : new.touched.items ≡ noted old.dist_b.items old.touched.items b
+  pub rest : new ≡ record old { touched = new.touched }
+  pub room : vec_capacity old.touched ≤ vec_capacity new.touched
+
+-- a record of A is noted at a distance, which is the newest
+pub record Adds (old new : Reached) (position dist : ℕ) : Type 0 where
+  pub dist_a : new.dist_a.items ≡ slice_set old.dist_a.items position dist
+  pub rank : new.rank.items ≡ slice_set old.rank.items position (length old.records.items)
+  pub records : new.records.items ≡ old.records.items ++ position ∷ []
+  pub rest : new ≡ record old { dist_a = new.dist_a; rank = new.rank; records = new.records; current = dist }
+  pub room : HasRoomForRecords (vec_len old.dist_a) (vec_len old.dist_b) new
+
 -- the nearest end is at this record of A where it is nearer than each before, and else where it was
 abbrev pub EndsAgain : Spread → Spread → ℕ → ℕ → Bool → Type 0
 EndsAgain old new position end nearer =
@@ -129,6 +154,27 @@ pub record Joins (old new : Spread) (position dist end : ℕ) (nearer : Bool) : 
   pub current : new.current ≡ dist
   pub best : new.best ≡ min old.best end
   pub ends : EndsAgain old new position end nearer
+
+-- the nearest end is the nearer of two, where nothing else of what is reached changes
+pub record Ends (old new : Reached) (position end : ℕ) (nearer : Bool) : Type 0 where
+  pub best : new.best ≡ min old.best end
+  pub ends : EndsAgain (spread old) (spread new) position end nearer
+  pub rest : new ≡ record old { best = new.best; best_record = new.best_record }
+
+-- a record of A joins, where nothing else of what is reached changes
+pub record JoinsReached (old new : Reached) (position dist price : ℕ) (nearer : Bool) : Type 0 where
+  pub joins : Joins (spread old) (spread new) position dist (dist + price) nearer
+  pub rest : new ≡ record old { dist_a = new.dist_a; rank = new.rank; records = new.records; current = new.current; best = new.best; best_record = new.best_record }
+  pub room : HasRoomForRecords (vec_len old.dist_a) (vec_len old.dist_b) new
+
+-- prices change by what the distances lack to an end
+pub record Shifts (pa pb pa' pb' : List ℕ) (end : ℕ) (old new : Reached) : Type 0 where
+  pub price_a : (a : ℕ) → number pa' a + (end - distance old.dist_a.items a) ≡ number pa a
+  pub price_b : (b : ℕ) → number pb' b ≡ number pb b + (end - distance old.dist_b.items b)
+  pub queue : new.frontier.room ≡ old.frontier.room
+  pub from : new.from.items ≡ old.from.items
+  pub rank : new.rank.items ≡ old.rank.items
+  pub current : new.current ≡ old.current
 
 -- an entry that waits, before which none comes
 pub record IsNearest (waiting : List (ℕ × ℕ)) (n : Near) : Type 0 where

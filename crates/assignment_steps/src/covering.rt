@@ -1,5 +1,5 @@
 // Prices of A that cover the edges.
-ghost use Rattle.std.specs.Prelude.{◌-◌, ◌≤◌, IfOk, length};
+ghost use Rattle.std.specs.Prelude.{◌-◌, IfOk, length};
 ghost use Rattle.assignment_steps.specs.Market.{AreSmall, IsInRange};
 ghost use Rattle.assignment_steps.specs.Between.{ReachAll};
 

@@ -1,7 +1,7 @@
 // Links as links of the edges: of turned edges, and of records side by side.
-ghost use Rattle.std.specs.Prelude.{◌≡◌, ◌≢◌, ◌<◌, ℕ, length, MatchOption, None, Some};
-ghost use Rattle.assignment_steps.specs.Market.{edge, link, IsMatched, IsInRange};
-ghost use Rattle.assignment_steps.specs.Joined.{AreJoined, AreJoinedAs, AreJoinedWith, IsTakenUp, IsOf};
+ghost use Rattle.std.specs.Prelude.{◌≡◌, ◌≢◌, ◌<◌, ℕ, length, MatchOption, Some};
+ghost use Rattle.assignment_steps.specs.Market.{edge, IsMatched, IsInRange};
+ghost use Rattle.assignment_steps.specs.Joined.{AreJoined, AreJoinedAs, AreJoinedWith, IsTakenUp, IsOf, KeepsLinks};
 
 use crate::market::{Board, Edge};
 
@@ -26,10 +26,8 @@ fn join(edges: &[Edge], link_a: &mut [Option<usize>], link_b: &mut [Option<usize
     requires place { k < length edges.now }
     requires in_range { IsInRange edges.now (length link_a.old) (length link_b.old) }
     requires matched { IsMatched edges.now link_a.old link_b.old }
-    ensures matched { IsMatched edges.now link_a.new link_b.new }
+    ensures keeps { KeepsLinks edges.now link_a.old link_b.old link_a.new link_b.new }
     ensures joined { IsTakenUp edges.now link_a.new link_b.new k }
-    ensures kept_a { (a : ℕ) → link link_a.new a ≡ None → link link_a.old a ≡ None }
-    ensures kept_b { (b : ℕ) → link link_b.new b ≡ None → link link_b.old b ≡ None }
 {
     let edge = edges[k];
     let a = edge.a as usize;
@@ -53,10 +51,8 @@ fn join_turned(
 )
     requires in_range { IsInRange board.edges.now (length link_a.old) (length link_b.old) }
     requires matched { IsMatched board.edges.now link_a.old link_b.old }
-    ensures matched { IsMatched board.entry.edges.now link_a.new link_b.new }
+    ensures keeps { KeepsLinks board.entry.edges.now link_a.old link_b.old link_a.new link_b.new }
     ensures joined { (j : ℕ) → place ≡ Some j → j < length board.entry.turned.now → AreJoined board.entry link_a.new link_b.new (edge board.entry.turned.now j).b (edge board.entry.turned.now j).a }
-    ensures kept_a { (a : ℕ) → link link_a.new a ≡ None → link link_a.old a ≡ None }
-    ensures kept_b { (b : ℕ) → link link_b.new b ≡ None → link link_b.old b ≡ None }
 {
     let Some(j) = place else {
         return;
@@ -98,10 +94,8 @@ fn join_mate(
 )
     requires in_range { IsInRange board.edges.now (length link_a.old) (length link_b.old) }
     requires matched { IsMatched board.edges.now link_a.old link_b.old }
-    ensures matched { IsMatched board.entry.edges.now link_a.new link_b.new }
+    ensures keeps { KeepsLinks board.entry.edges.now link_a.old link_b.old link_a.new link_b.new }
     ensures joined { AreJoined board.entry link_a.new link_b.new a mate }
-    ensures kept_a { (a : ℕ) → link link_a.new a ≡ None → link link_a.old a ≡ None }
-    ensures kept_b { (b : ℕ) → link link_b.new b ≡ None → link link_b.old b ≡ None }
 {
     let Some(k) = place_of(board, a, mate) else {
         return;

@@ -1,6 +1,6 @@
 // A queue of records by distance, over a heap (Knuth vol. 3, section 5.2.3) of fixed room.
-ghost use Rattle.std.specs.Prelude.{◌≡◌, ◌+◌, ◌*◌, ◌/◌, ◌<◌, ◌≤◌, ◌⊎◌, ℕ, [], Contains, All, MatchOption, IfOk};
-ghost use Rattle.assignment_steps.specs.Queue.{Enters, Leaves, rank_of, turn_after};
+ghost use Rattle.std.specs.Prelude.{◌≡◌, ◌*◌, ◌/◌, ◌<◌, ◌≤◌, IfOk};
+ghost use Rattle.assignment_steps.specs.Queue.{IsEmptyQueue, Puts, Takes, rank_of, turn_after};
 
 use link_base::NoMemory;
 use std::alloc::Global;
@@ -73,11 +73,7 @@ fn turn_after(turn: u64) -> u64
 impl DistanceQueue {
     /// An empty queue with room for so many.
     pub fn new(alloc: Global, room: usize) -> Result<DistanceQueue, NoMemory>
-        ensures waiting { IfOk result (λ q. q.waiting ≡ []) }
-        ensures ranked { IfOk result (λ q. q.ranked ≡ []) }
-        ensures turn { IfOk result (λ q. q.turn ≡ 0) }
-        ensures count { IfOk result (λ q. q.count ≡ 0) }
-        ensures room { IfOk result (λ q. room ≤ q.room) }
+        ensures { IfOk result (IsEmptyQueue room) }
     {
         let heap = BinaryHeap::with_capacity(alloc, room)?;
         Ok(DistanceQueue { heap, turn: 0 })
@@ -87,13 +83,7 @@ impl DistanceQueue {
     pub fn put(&mut self, distance: u64, first: bool, position: usize)
         requires near { distance ≤ FARTHEST }
         requires room { self.old.count < self.old.room }
-        ensures count { self.new.count ≡ self.old.count + 1 }
-        ensures room { self.old.room ≤ self.new.room }
-        ensures stays { (x : ℕ × ℕ) → Contains self.old.waiting x → Contains self.new.waiting x }
-        ensures added { Contains self.new.waiting (distance, position) }
-        ensures only { (x : ℕ × ℕ) → Contains self.new.waiting x → Contains self.old.waiting x ⊎ (x ≡ (distance, position)) }
-        ensures ranked { Enters self.old.ranked self.new.ranked (rank_of distance first self.old.turn) position }
-        ensures turn { self.new.turn ≡ turn_after self.old.turn }
+        ensures { Puts self.old self.new distance first position }
     {
         let rank = rank_of(distance, first, self.turn);
         self.turn = turn_after(self.turn);
@@ -104,14 +94,7 @@ impl DistanceQueue {
 
     /// Takes a record with the least rank, and so with the least distance, and none where the queue is empty.
     pub fn take(&mut self) -> Option<Near>
-        ensures room { self.new.room ≡ self.old.room }
-        ensures count { MatchOption result (self.old.count ≡ 0) (λ n. self.new.count + 1 ≡ self.old.count) }
-        ensures inside { MatchOption result ((x : ℕ × ℕ) → Contains self.old.waiting x → ⊥) (λ n. Contains self.old.waiting (n.distance, n.position)) }
-        ensures least { MatchOption result (self.old.count ≡ 0) (λ n. All (λ x. n.distance ≤ x.0) self.new.waiting) }
-        ensures stays { MatchOption result (self.old.count ≡ 0) (λ n. (x : ℕ × ℕ) → Contains self.old.waiting x → Contains self.new.waiting x ⊎ (x ≡ (n.distance, n.position))) }
-        ensures only { (x : ℕ × ℕ) → Contains self.new.waiting x → Contains self.old.waiting x }
-        ensures ranked { MatchOption result (self.old.count ≡ 0) (λ n. Leaves self.old.ranked self.new.ranked n.distance n.position) }
-        ensures turn { self.new.turn ≡ self.old.turn }
+        ensures { Takes self.old self.new result }
     {
         let (left, position) = self.heap.pop()?;
         let rank = LAST.saturating_sub(left);
@@ -121,10 +104,7 @@ impl DistanceQueue {
 
     /// Takes all out.
     pub fn clear(&mut self)
-        ensures waiting { self.new.waiting ≡ [] }
-        ensures ranked { self.new.ranked ≡ [] }
-        ensures turn { self.new.turn ≡ 0 }
-        ensures count { self.new.count ≡ 0 }
+        ensures empty { IsEmptyQueue self.old.room self.new }
         ensures room { self.new.room ≡ self.old.room }
     {
         self.heap.clear();

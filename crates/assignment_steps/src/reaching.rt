@@ -1,11 +1,10 @@
 // What a search has reached from its root.
-ghost use Rattle.std.specs.Prelude.{◌≡◌, ◌+◌, ◌-◌, ◌<◌, ◌≤◌, ℕ, length, [], ◌∷◌, ◌++◌, vec_len, vec_capacity, Contains, IfOk, MatchOption, min, slice_set};
+ghost use Rattle.std.specs.Prelude.{◌≡◌, ◌+◌, ◌-◌, ◌<◌, ◌≤◌, ℕ, length, [], ◌∷◌, ◌++◌, vec_len, vec_capacity, Contains, IfOk, MatchOption};
 ghost use Rattle.link_limits.specs.declared.TheConstants.{MOST_VALUE};
 ghost use Rattle.assignment_steps.specs.Market.{edge, number};
 ghost use Rattle.assignment_steps.specs.Distances.{distance, far};
-ghost use Rattle.assignment_steps.specs.Queue.{Enters, rank_of, turn_after};
-ghost use Rattle.assignment_steps.specs.Reached.{HasRoomForRecords, IsClean, noted};
-ghost use Rattle.assignment_steps.specs.Spread.{EndsAgain, IsNearer, IsRelaxed, IsSearchable, Joins, Shortens, edge_of, paid, spread};
+ghost use Rattle.assignment_steps.specs.Reached.{HasRoomForRecords, IsAtRest, IsClean};
+ghost use Rattle.assignment_steps.specs.Spread.{Adds, Ends, IsNearer, IsRelaxed, IsSearchable, JoinsReached, Notes, Reaches, Shifts, edge_of, paid, spread};
 
 use crate::market::{Field, Grown};
 use crate::queue::{DistanceQueue, FARTHEST};
@@ -64,8 +63,7 @@ impl Reached {
         rows_b: usize,
         entries: usize,
     ) -> Result<Reached, NoMemory>
-        ensures clean { IfOk result (λ r. IsClean rows_a rows_b r) }
-        ensures queue { IfOk result (λ r. entries ≤ r.frontier.room) }
+        ensures rest { IfOk result (IsAtRest rows_a rows_b entries) }
         ensures current { IfOk result (λ r. r.current ≡ 0) }
     {
         let of_a = no_distances(alloc, rows_a)?;
@@ -115,11 +113,7 @@ impl Reached {
         requires near { dist ≤ MOST_VALUE }
         requires new { distance self.old.dist_a.items position ≡ far }
         requires room { HasRoomForRecords (vec_len self.old.dist_a) (vec_len self.old.dist_b) self.old }
-        ensures dist_a { self.new.dist_a.items ≡ slice_set self.old.dist_a.items position dist }
-        ensures rank { self.new.rank.items ≡ slice_set self.old.rank.items position (length self.old.records.items) }
-        ensures records { self.new.records.items ≡ self.old.records.items ++ position ∷ [] }
-        ensures rest { self.new ≡ record self.old { dist_a = self.new.dist_a; rank = self.new.rank; records = self.new.records; current = dist } }
-        ensures room { HasRoomForRecords (vec_len self.old.dist_a) (vec_len self.old.dist_b) self.new }
+        ensures { Adds self.old self.new position dist }
     {
         self.dist_a[position] = dist;
         self.rank[position] = self.records.len();
@@ -129,9 +123,7 @@ impl Reached {
 
     // The nearest end is at a record of A where that is nearer than each before. Says whether it is.
     fn end_at(&mut self, position: usize, end: u64) -> bool
-        ensures best { self.new.best ≡ min self.old.best end }
-        ensures ends { EndsAgain (spread self.old) (spread self.new) position end result }
-        ensures rest { self.new ≡ record self.old { best = self.new.best; best_record = self.new.best_record } }
+        ensures { Ends self.old self.new position end result }
     {
         if self.best <= end {
             return false;
@@ -149,9 +141,7 @@ impl Reached {
         requires price { price ≤ MOST_VALUE }
         requires new { distance self.old.dist_a.items position ≡ far }
         requires room { HasRoomForRecords (vec_len self.old.dist_a) (vec_len self.old.dist_b) self.old }
-        ensures joins { Joins (spread self.old) (spread self.new) position dist (dist + price) result }
-        ensures rest { self.new ≡ record self.old { dist_a = self.new.dist_a; rank = self.new.rank; records = self.new.records; current = self.new.current; best = self.new.best; best_record = self.new.best_record } }
-        ensures room { HasRoomForRecords (vec_len self.old.dist_a) (vec_len self.old.dist_b) self.new }
+        ensures { JoinsReached self.old self.new position dist price result }
     {
         self.add(position, dist);
         self.end_at(position, dist + price)
@@ -159,9 +149,7 @@ impl Reached {
 
     /// The nearest end, which is at the record of B `free`, if at one.
     pub fn nearest_end(&self, free: Option<usize>) -> Grown
-        ensures end { result.end ≡ self.now.best }
-        ensures free { result.free ≡ free }
-        ensures last { result.last ≡ self.now.best_record }
+        ensures { result ≡ record { end = self.now.best; free = free; last = self.now.best_record } }
     {
         Grown {
             end: self.best,
@@ -174,9 +162,7 @@ impl Reached {
     fn note_first(&mut self, b: usize)
         requires within { b < vec_len self.old.dist_b }
         requires room { HasRoomForRecords (vec_len self.old.dist_a) (vec_len self.old.dist_b) self.old }
-        ensures touched { self.new.touched.items ≡ noted self.old.dist_b.items self.old.touched.items b }
-        ensures rest { self.new ≡ record self.old { touched = self.new.touched } }
-        ensures room { vec_capacity self.old.touched ≤ vec_capacity self.new.touched }
+        ensures { Notes self.old self.new b }
     {
         if self.dist_b[b] != FARTHEST {
             return;
@@ -191,13 +177,7 @@ impl Reached {
         requires near { dist < distance self.old.dist_b.items b }
         requires queue { self.old.frontier.count < self.old.frontier.room }
         requires room { HasRoomForRecords (vec_len self.old.dist_a) (vec_len self.old.dist_b) self.old }
-        ensures shortens { Shortens (spread self.old) (spread self.new) b k dist }
-        ensures ranked { Enters self.old.frontier.ranked self.new.frontier.ranked (rank_of dist first self.old.frontier.turn) b }
-        ensures turn { self.new.frontier.turn ≡ turn_after self.old.frontier.turn }
-        ensures count { self.new.frontier.count ≡ self.old.frontier.count + 1 }
-        ensures queue { self.old.frontier.room ≤ self.new.frontier.room }
-        ensures rest { self.new ≡ record self.old { dist_b = self.new.dist_b; from = self.new.from; touched = self.new.touched; frontier = self.new.frontier } }
-        ensures room { HasRoomForRecords (vec_len self.old.dist_a) (vec_len self.old.dist_b) self.new }
+        ensures { Reaches self.old self.new b k dist first }
     {
         self.note_first(b);
         self.dist_b[b] = dist;
@@ -214,13 +194,8 @@ impl Reached {
         requires noted_b { (b : ℕ) → distance self.old.dist_b.items b < far → Contains self.old.touched.items b }
         requires falls { (a : ℕ) → end - distance self.old.dist_a.items a ≤ number price_a.old a }
         requires small { (b : ℕ) → number price_b.old b ≤ MOST_VALUE }
-        ensures price_a { (a : ℕ) → number price_a.new a + (end - distance self.old.dist_a.items a) ≡ number price_a.old a }
-        ensures price_b { (b : ℕ) → number price_b.new b ≡ number price_b.old b + (end - distance self.old.dist_b.items b) }
+        ensures shifts { Shifts price_a.old price_b.old price_a.new price_b.new end self.old self.new }
         ensures clean { IsClean (length price_a.old) (length price_b.old) self.new }
-        ensures queue { self.new.frontier.room ≡ self.old.frontier.room }
-        ensures from { self.new.from.items ≡ self.old.from.items }
-        ensures rank { self.new.rank.items ≡ self.old.rank.items }
-        ensures current { self.new.current ≡ self.old.current }
     {
         lower(price_a, &mut self.dist_a, &self.records, end);
         raise(price_b, &mut self.dist_b, &self.touched, end);

@@ -1,6 +1,6 @@
 // Prices that are changed: up to a value, or by distances.
-ghost use Rattle.std.specs.Prelude.{◌≡◌, ◌≢◌, ◌+◌, ◌-◌, ◌<◌, ◌≤◌, ◌^◌, ◌⊎◌, ℕ, All, Contains, length};
-ghost use Rattle.link_limits.specs.declared.TheConstants.{MOST_VALUE};
+ghost use Rattle.std.specs.Prelude.{◌≡◌, ◌+◌, ◌-◌, ◌<◌, ◌≤◌, ◌^◌, ℕ, All, Contains, length};
+ghost use Rattle.assignment_steps.specs.Between.{RaisesTo};
 ghost use Rattle.assignment_steps.specs.Market.{number};
 ghost use Rattle.assignment_steps.specs.Distances.{distance};
 
@@ -9,11 +9,7 @@ use crate::queue::FARTHEST;
 /// A price that is at least this value.
 pub fn raise_to(prices: &mut [u64], position: usize, value: u64)
     requires { position < length prices.old }
-    ensures here { value ≤ number prices.new position }
-    ensures kept { (r : ℕ) → number prices.old r ≤ number prices.new r }
-    ensures only { (number prices.new position ≡ value) ⊎ (prices.new ≡ prices.old) }
-    ensures others { (r : ℕ) → r ≢ position → number prices.new r ≡ number prices.old r }
-    ensures small { value ≤ MOST_VALUE → ((r : ℕ) → number prices.old r ≤ MOST_VALUE) → (r : ℕ) → number prices.new r ≤ MOST_VALUE }
+    ensures { RaisesTo prices.old prices.new position value }
 {
     if prices[position] < value {
         prices[position] = value;

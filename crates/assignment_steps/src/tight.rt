@@ -1,8 +1,7 @@
 // Links that are taken over tight edges.
-ghost use Rattle.std.specs.Prelude.{◌≡◌, ◌<◌, ℕ, None, length};
+ghost use Rattle.std.specs.Prelude.{◌<◌, length};
 ghost use Rattle.assignment_steps.specs.Between.{IsBetween};
-ghost use Rattle.assignment_steps.specs.Market.{link};
-ghost use Rattle.assignment_steps.specs.Free.{AreSettled, HasLink, IsSettled};
+ghost use Rattle.assignment_steps.specs.Free.{AreSettled, HasLink, TriesEdge};
 
 use crate::market::Net;
 
@@ -10,10 +9,7 @@ use crate::market::Net;
 fn take(net: Net<'_>, link_a: &mut [Option<usize>], link_b: &mut [Option<usize>], k: usize)
     requires place { k < length net.edges.now }
     requires between { IsBetween net.edges.now net.price_a.now net.price_b.now link_a.old link_b.old 0 }
-    ensures between { IsBetween net.entry.edges.now net.entry.price_a.now net.entry.price_b.now link_a.new link_b.new 0 }
-    ensures settled { IsSettled net.entry.edges.now net.entry.price_a.now net.entry.price_b.now link_a.new (HasLink link_b.new) k }
-    ensures kept_a { (a : ℕ) → link link_a.new a ≡ None → link link_a.old a ≡ None }
-    ensures kept_b { (b : ℕ) → link link_b.new b ≡ None → link link_b.old b ≡ None }
+    ensures { TriesEdge net.entry.edges.now net.entry.price_a.now net.entry.price_b.now k link_a.old link_b.old link_a.new link_b.new }
 {
     let edge = net.edges[k];
     let a = edge.a as usize;

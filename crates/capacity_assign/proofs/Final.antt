@@ -22,9 +22,9 @@ use Rattle.capacity_assign.specs.Final.{AreClosed, AreEmpty}
 use Rattle.assignment_steps.specs.Between.{ReachAll}
 use Rattle.assignment_steps.specs.Candidates.{edges_of, is_linked, prices_of}
 use Rattle.capacity_assign.proofs.Links.{counted_link, linked_at-set, tick}
-use Rattle.assignment_steps.proofs.Links.{link_there, link-set}
-use Rattle.assignment_steps.proofs.EdgesOf.{floored, none_linked, price_of-prices, range_edges}
-use Rattle.assignment_steps.proofs.Certified.{absent_a, all_among, all_covered, all_tight, apart_a, link_member, links_rising, member_link}
+use Rattle.assignment_steps.specs.LinkLaws.{link_there, link-set, none_linked}
+use Rattle.assignment_steps.specs.CandidatesLaws.{floored, price_of-prices, range_edges}
+use Rattle.assignment_steps.specs.CertifiedLaws.{absent_a, all_among, all_covered, all_tight, apart_a, link_member, links_rising, member_link}
 
 -- Tight members, no price where no member stands, and none at a record of B with a place left: the prices add up
 -- to the worth.

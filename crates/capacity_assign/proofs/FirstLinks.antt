@@ -5,12 +5,12 @@ use Rattle.std.proofs.lemmas.List.{length-set}
 use Rattle.price_check.specs.PlaceLaws.{place_there}
 use Rattle.assignment_steps.specs.declared.market.Edge.{Edge}
 use Rattle.assignment_steps.specs.Market.{IsTight, edge, link, number}
-use Rattle.capacity_assign.specs.Core.{linked_at}
-use Rattle.capacity_assign.specs.Round.{IsBetweenRounds, KeepsCapacities}
+use Rattle.capacity_assign.specs.Core.{KeepsCapacities, linked_at}
+use Rattle.capacity_assign.specs.Round.{IsBetweenRounds}
 use Rattle.capacity_assign.specs.Seating.{AddsSeat, HasPlace, Seating, free_records}
 use Rattle.capacity_assign.proofs.Links.{free_record_counts, free_records-set, linked_at-set, tick}
 use Rattle.capacity_assign.proofs.Seating.{places_after_added, all_taken, seats_after_added, vacant_after_added}
-use Rattle.assignment_steps.proofs.Taken.{priced_joined}
+use Rattle.assignment_steps.specs.BetweenLaws.{priced_joined}
 
 module _ (es : List Edge) (pa pb : List ℕ) (la : List (Option ℕ)) (s t : Seating) (k : ℕ) (w : IsBetweenRounds es pa pb la s 0) (lt : k < length es) (none : link la (edge es k).a ≡ None) (some : 0 < number s.left (edge es k).b) (adds : AddsSeat s t (edge es k).b) where
   abbrev a : ℕ

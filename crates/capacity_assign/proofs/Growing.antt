@@ -4,9 +4,9 @@ use Rattle.std.specs.Prelude.{Contains}
 use Rattle.std.proofs.lemmas.Bool.{cases_lt}
 use Rattle.std.proofs.lemmas.List.{get_or_default}
 use Rattle.assignment_steps.specs.declared.queue.Near.{Near}
-use Rattle.assignment_steps.proofs.Members.{Contains-cons_cases}
+use Rattle.assignment_steps.specs.QueueLaws.{Contains-cons_cases, cons_first}
 use Rattle.price_check.specs.CandidateLaws.{Contains-later}
-use Rattle.assignment_steps.proofs.Links.{link_there}
+use Rattle.assignment_steps.specs.LinkLaws.{link_there}
 use Rattle.capacity_assign.specs.declared.market.Ground.{Ground}
 use Rattle.assignment_steps.specs.Market.{link, number}
 use Rattle.assignment_steps.specs.Distances.{distance, far}
@@ -15,8 +15,8 @@ use Rattle.assignment_steps.specs.declared.market.Edge.{Edge}
 use Rattle.capacity_assign.specs.Alike.{AreAlike, HasCopies}
 use Rattle.capacity_assign.specs.Seating.{HasPlace, IsLastSeat}
 use Rattle.capacity_assign.specs.Growth.{Growth, IsGrown, IsHeldAt, IsPending, IsReady, IsExhausted, IsTree, IsTwin, Joins, places_left, with_waiting}
-use Rattle.assignment_steps.proofs.OneWrite.{distance-set}
-use Rattle.assignment_steps.proofs.Spreading.{cons_first, joins_here, joins_keeps, spread_any, spread_joined, spread_passed, spread_passed_to, spread_planted, spread_shortened, spread_skip, spread_waiting}
+use Rattle.assignment_steps.specs.DistanceLaws.{distance-set}
+use Rattle.assignment_steps.specs.SpreadLaws.{joins_here, joins_keeps, spread_any, spread_joined, spread_passed, spread_passed_to, spread_planted, spread_shortened, spread_skip, spread_waiting}
 
 -- where the tree ends, and which records of B wait, does not speak of the edges that are relaxed
 pub tree_marked : (f : Ground) (position next position' next' : ℕ) (g : Growth) → IsTree f position next g → IsSpread f.field position' next' g.spread → IsTree f position' next' g

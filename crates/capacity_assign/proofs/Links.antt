@@ -8,7 +8,7 @@ use Rattle.assignment_steps.specs.declared.market.Edge.{Edge}
 use Rattle.capacity_assign.specs.Core.{leads_to, linked_at}
 use Rattle.assignment_steps.specs.Market.{AreLinked, edge, link}
 use Rattle.capacity_assign.specs.Seating.{free_records}
-use Rattle.assignment_steps.proofs.Links.{link-set}
+use Rattle.assignment_steps.specs.LinkLaws.{link-set}
 
 -- a record of A gives its link up
 pub linked_parted : (es : List Edge) (la : List (Option ℕ)) (r : ℕ) → AreLinked es la → r < length la → AreLinked es (set la r None)

@@ -4,15 +4,15 @@ use Rattle.std.proofs.lemmas.Bool.{cases_lt}
 use Rattle.link_limits.specs.declared.TheConstants.{MOST_VALUE}
 use Rattle.assignment_steps.specs.declared.market.Edge.{Edge}
 use Rattle.capacity_assign.specs.declared.market.Ground.{Ground}
-use Rattle.capacity_assign.specs.Core.{linked_at}
+use Rattle.capacity_assign.specs.Core.{KeepsCapacities, linked_at}
 use Rattle.assignment_steps.specs.Market.{AreLinked, AreTight, link, number, AreSmall}
 use Rattle.capacity_assign.specs.Growth.{Growth, IsGrown, IsReady, IsExhausted, places_left}
 use Rattle.assignment_steps.specs.Spread.{edge_of}
-use Rattle.assignment_steps.proofs.Arrived.{priced_after, tight_kept}
-use Rattle.assignment_steps.proofs.Settled.{priced_done}
+use Rattle.assignment_steps.specs.StoppedLaws.{priced_after, tight_kept}
+use Rattle.assignment_steps.specs.BetweenLaws.{priced_done}
 use Rattle.assignment_steps.specs.Between.{IsDone}
 use Rattle.assignment_steps.specs.Distances.{distance, far}
-use Rattle.capacity_assign.specs.Round.{IsBetweenRounds, KeepsCapacities}
+use Rattle.capacity_assign.specs.Round.{IsBetweenRounds}
 use Rattle.capacity_assign.specs.Seating.{AreSeats, HasPlace, Seating, seating}
 use Rattle.capacity_assign.proofs.Links.{counted_link}
 

@@ -6,11 +6,10 @@ use Rattle.std.proofs.lemmas.List.{length-set}
 use Rattle.assignment_steps.specs.declared.market.Edge.{Edge}
 use Rattle.price_check.specs.PlaceLaws.{place_there}
 use Rattle.assignment_steps.specs.Market.{edge, link, number}
-use Rattle.capacity_assign.specs.Core.{linked_at}
-use Rattle.capacity_assign.specs.Round.{KeepsCapacities}
+use Rattle.capacity_assign.specs.Core.{KeepsCapacities, linked_at}
 use Rattle.capacity_assign.specs.Seating.{AddsSeat, AreAllSeated, AreSeated, AreSeats, HasSitters, HangTogether, HasHole, IsLastSeat, Seating, free_records}
 use Rattle.capacity_assign.proofs.Links.{free_records-set, linked_at-set, tick}
-use Rattle.assignment_steps.proofs.Links.{link-set, link_there}
+use Rattle.assignment_steps.specs.LinkLaws.{link-set, link_there}
 
 -- the record of A of edge k takes the seat that is nobody's
 pub seat_taken : (es : List Edge) (la : List (Option ℕ)) (seat sitter owner : List ℕ) (count b free k : ℕ) → HasHole es la seat sitter owner count b free → (edge es k).b ≡ b → (edge es k).a < length la → length seat ≡ length la → free < length sitter → AreSeated es (set la (edge es k).a (Some k)) (set seat (edge es k).a free) (set sitter free (edge es k).a) owner count

@@ -1,21 +1,16 @@
 -- Ways to a root, and what turning one link round leaves of them.
-use Rattle.std.proofs.Common.{◌≡◌, ℕ, ◌==◌, ◌+◌, ◌<◌, cond, List, length, set, Option, Some, None, MatchOption, refl, sym, ◌∙◌, inl, inr, arith, get_or-set_other, get_or-set_same}
+use Rattle.std.proofs.Common.{◌≡◌, ℕ, ◌+◌, ◌<◌, List, length, set, Option, Some, None, MatchOption, refl, sym, ◌∙◌, inl, inr, arith, get_or-set_other, get_or-set_same}
 use Rattle.std.proofs.lemmas.List.{length-set}
 use Rattle.assignment_steps.specs.declared.market.Edge.{Edge}
 use Rattle.capacity_assign.specs.declared.market.Hole.{Hole}
-use Rattle.capacity_assign.specs.Core.{Reseats, linked_at}
+use Rattle.capacity_assign.specs.Core.{Reseats, WalksBack, linked_at, one_at}
 use Rattle.assignment_steps.specs.Ways.{IsHop, above, Leads}
 use Rattle.assignment_steps.specs.Market.{AreLinked, AreTight, link, edge, number}
 use Rattle.capacity_assign.specs.Seating.{AreAllSeated, HasHole, free_records}
-use Rattle.assignment_steps.proofs.Links.{link-set}
+use Rattle.assignment_steps.specs.LinkLaws.{link-set, linked_joined, tight_joined}
 use Rattle.capacity_assign.proofs.Links.{linked_at-set, free_records-set}
 use Rattle.capacity_assign.proofs.Seating.{all_taken, seat_left}
-use Rattle.assignment_steps.proofs.Leading.{leads_below, reached_by, goes_on, ends_at}
-use Rattle.assignment_steps.proofs.Taken.{linked_joined, tight_joined}
-
--- a place that is missing at a record of B
-abbrev pub one_at : ℕ → ℕ → ℕ
-one_at missing b = cond (missing == b) 1 0
+use Rattle.assignment_steps.specs.WaysLaws.{leads_below, reached_by, goes_on, ends_at}
 
 -- What the walk keeps, from the links and seats as they were when it began.
 pub record IsWalking (es : List Edge) (pa pb : List ℕ) (from rank : List ℕ) (root : ℕ) (hole : Hole) (la0 : List (Option ℕ)) (seat0 sitter0 : List ℕ) (la : List (Option ℕ)) (seat sitter : List ℕ) (free : Hole) : Type 0 where
@@ -121,21 +116,10 @@ ends_none es seat k x (Some j) hole e n h = absurd (let g : hole ≡ Some (recor
 pub not_left : (es : List Edge) (la : List (Option ℕ)) (seat sitter : List ℕ) (la' : List (Option ℕ)) (seat' sitter' : List ℕ) (k free : ℕ) → Reseats es la seat sitter la' seat' sitter' k free None → link la (edge es k).a ≡ None
 not_left es la seat sitter la' seat' sitter' k free h = ends_none es seat k (link la (edge es k).a) (link la (edge es k).a) None refl refl h.leaves
 
--- what holds when the walk ends
-pub record HasWalked (es : List Edge) (pa pb : List ℕ) (root : ℕ) (hole : Hole) (la0 : List (Option ℕ)) (seat0 sitter0 : List ℕ) (la : List (Option ℕ)) (seat sitter : List ℕ) : Type 0 where
-  pub rows_a : length la ≡ length la0
-  pub linked : AreLinked es la
-  pub tight : AreTight es pa pb la
-  pub root_linked : link la root ≡ None → ⊥
-  pub still_a : (a : ℕ) → link la a ≡ None → link la0 a ≡ None
-  pub places : (b : ℕ) → linked_at es la b ≡ linked_at es la0 b + one_at hole.b b
-  pub room : free_records la + 1 ≡ free_records la0
-  pub seated : (owner : List ℕ) (count : ℕ) → HasHole es la0 seat0 sitter0 owner count hole.b hole.seat → AreAllSeated es la seat sitter owner count
-
-pub walked : (es : List Edge) (pa pb : List ℕ) (from rank : List ℕ) (root : ℕ) (hole : Hole) (la0 : List (Option ℕ)) (seat0 sitter0 : List ℕ) (la la' : List (Option ℕ)) (seat seat' sitter sitter' : List ℕ) (free : Hole) → ((k : ℕ) → k < length es → (edge es k).a < length la0) → IsWalking es pa pb from rank root hole la0 seat0 sitter0 la seat sitter free → Reseats es la seat sitter la' seat' sitter' (number from free.b) free.seat None → HasWalked es pa pb root hole la0 seat0 sitter0 la' seat' sitter'
+pub walked : (es : List Edge) (pa pb : List ℕ) (from rank : List ℕ) (root : ℕ) (hole : Hole) (la0 : List (Option ℕ)) (seat0 sitter0 : List ℕ) (la la' : List (Option ℕ)) (seat seat' sitter sitter' : List ℕ) (free : Hole) → ((k : ℕ) → k < length es → (edge es k).a < length la0) → IsWalking es pa pb from rank root hole la0 seat0 sitter0 la seat sitter free → Reseats es la seat sitter la' seat' sitter' (number from free.b) free.seat None → WalksBack es pa pb root hole la0 seat0 sitter0 la' seat' sitter'
 walked es pa pb from rank root hole la0 seat0 sitter0 la la' seat seat' sitter sitter' free range w h =
     let none = not_left es la seat sitter la' seat' sitter' (number from free.b) free.seat h in
-    let made : HasWalked es pa pb root hole la0 seat0 sitter0 (set la (edge es (number from free.b)).a (Some (number from free.b))) (set seat (edge es (number from free.b)).a free.seat) (set sitter free.seat (edge es (number from free.b)).a) = record {
+    let made : WalksBack es pa pb root hole la0 seat0 sitter0 (set la (edge es (number from free.b)).a (Some (number from free.b))) (set seat (edge es (number from free.b)).a free.seat) (set sitter free.seat (edge es (number from free.b)).a) = record {
       rows_a = rw length-set w.rows_a;
       linked = linked_ended es pa pb from rank root hole la0 seat0 sitter0 la seat sitter free range w;
       tight = tight_ended es pa pb from rank root hole la0 seat0 sitter0 la seat sitter free range w;

@@ -13,6 +13,13 @@ pub record AreClosed (es : List Edge) (capacities pb : List ℕ) : Type 0 where
   pub vacant : (b : ℕ) → 0 < capacity_of capacities b → number pb b ≡ 0
   pub small : (b : ℕ) → number pb b ≤ MOST_VALUE
 
+-- the price of an edge's record of B reaches its value where the record has no place, and no other price changes
+pub record Closes (capacities : List ℕ) (e : Edge) (old new : List ℕ) : Type 0 where
+  pub here : capacity_of capacities e.b ≡ 0 → e.value ≤ number new e.b
+  pub kept : (r : ℕ) → number old r ≤ number new r
+  pub vacant : (r : ℕ) → 0 < capacity_of capacities r → number new r ≡ number old r
+  pub small : e.value ≤ MOST_VALUE → ((r : ℕ) → number old r ≤ MOST_VALUE) → (r : ℕ) → number new r ≤ MOST_VALUE
+
 -- seats before any is taken
 pub record AreEmpty (rows_a : ℕ) (capacities : List ℕ) (s : Seating) : Type 0 where
   pub seats : length s.seat ≡ rows_a

@@ -8,7 +8,7 @@ use Rattle.capacity_assign.specs.declared.assigner.CapacityAssigner.TheInside.{I
 use Rattle.capacity_assign.specs.Alike.{AreAlike}
 use Rattle.capacity_assign.specs.Core.{linked_at}
 use Rattle.assignment_steps.specs.Market.{number, AreListed}
-use Rattle.capacity_assign.specs.Growth.{IsAtRest}
+use Rattle.assignment_steps.specs.Reached.{IsAtRest}
 use Rattle.capacity_assign.specs.Round.{IsBetweenRounds}
 use Rattle.capacity_assign.specs.Seating.{seating}
 use Rattle.assignment_steps.specs.Candidates.{edges_of}
@@ -23,7 +23,7 @@ pub record IsPrepared (s : Inside) : Type 0 where
   pub places : (b : ℕ) → number s.seats.left.items b + linked_at s.edges.items s.link_a.items b ≡ capacity_of s.capacity.items b
   pub rows_a : length s.price_a.items ≡ s.rows_a
   pub rows_b : length s.price_b.items ≡ length s.capacity.items
-  pub tree : IsAtRest s.edges.items (length s.price_a.items) (length s.price_b.items) s.tree
+  pub tree : IsAtRest (length s.price_a.items) (length s.price_b.items) (length s.edges.items) s.tree.reached
 
 -- no price is above the greatest size of a value
 abbrev pub AreSmallPrices : List ℕ → Type 0

@@ -1,10 +1,13 @@
--- Machinery of `round`: what holds of prices and links between two rounds.
-use Rattle.std.specs.Prelude.{◌≡◌, ℕ, ◌+◌, ◌<◌, ◌≤◌, List, length, Option}
+-- Machinery of `round` and `link_tight`: what holds of prices and links between two rounds, and what a step leaves.
+use Rattle.std.specs.Prelude.{◌≡◌, ℕ, ◌+◌, ◌<◌, ◌≤◌, List, length, Option, None}
 use Rattle.assignment_steps.specs.declared.market.Edge.{Edge}
-use Rattle.assignment_steps.specs.Market.{edge, number}
-use Rattle.assignment_steps.specs.Between.{IsPriced}
-use Rattle.capacity_assign.specs.Core.{linked_at}
-use Rattle.capacity_assign.specs.Seating.{AreSeats, HasPlace, Seating}
+use Rattle.assignment_steps.specs.Market.{edge, link, number}
+use Rattle.assignment_steps.specs.Between.{IsDone, IsPriced}
+use Rattle.assignment_steps.specs.Free.{AreSettled, IsSettled}
+use Rattle.assignment_steps.specs.Reached.{IsAtRest}
+use Rattle.capacity_assign.specs.declared.market.Tree.{Tree}
+use Rattle.capacity_assign.specs.Core.{KeepsCapacities, linked_at}
+use Rattle.capacity_assign.specs.Seating.{AreSeats, HasPlace, IsFull, Seating}
 
 -- prices, links and seats between two rounds: the records of A below `done` were taken up
 pub record IsBetweenRounds (es : List Edge) (pa pb : List ℕ) (la : List (Option ℕ)) (s : Seating) (done : ℕ) : Type 0 where
@@ -13,6 +16,29 @@ pub record IsBetweenRounds (es : List Edge) (pa pb : List ℕ) (la : List (Optio
   pub seated : AreSeats es la s
   pub closed : (b k : ℕ) → number s.left b + linked_at es la b ≡ 0 → k < length es → (edge es k).b ≡ b → (edge es k).value ≤ number pb b
 
--- each record of B has as many places as before, linked or left
-abbrev pub KeepsCapacities : List Edge → List (Option ℕ) → List ℕ → List (Option ℕ) → List ℕ → Type 0
-KeepsCapacities es la left la' left' = (b : ℕ) → number left' b + linked_at es la' b ≡ number left b + linked_at es la b
+-- and the capacities are as they were
+pub record Advances (es : List Edge) (la : List (Option ℕ)) (left : List ℕ) (pa' pb' : List ℕ) (la' : List (Option ℕ)) (s' : Seating) (done : ℕ) : Type 0 where
+  pub between : IsBetweenRounds es pa' pb' la' s' done
+  pub places : KeepsCapacities es la left la' s'.left
+
+-- a record of A was taken up: it is done, as are those that were
+pub record TakesUp (es : List Edge) (root : ℕ) (pa : List ℕ) (la : List (Option ℕ)) (left pa' pb' : List ℕ) (la' : List (Option ℕ)) (s' : Seating) (t : Tree) : Type 0 where
+  pub between : IsBetweenRounds es pa' pb' la' s' 0
+  pub places : KeepsCapacities es la left la' s'.left
+  pub kept : (a : ℕ) → IsDone pa la a → IsDone pa' la' a
+  pub done : IsDone pa' la' root
+  pub tree : IsAtRest (length pa') (length pb') (length es) t.reached
+
+-- edge k was tried: it is settled, and what was linked or full stays so
+pub record TriesEdge (es : List Edge) (pa pb : List ℕ) (k : ℕ) (la : List (Option ℕ)) (left : List ℕ) (la' : List (Option ℕ)) (s' : Seating) : Type 0 where
+  pub between : IsBetweenRounds es pa pb la' s' 0
+  pub places : KeepsCapacities es la left la' s'.left
+  pub settled : IsSettled es pa pb la' (IsFull s'.left) k
+  pub kept : (a : ℕ) → link la' a ≡ None → link la a ≡ None
+  pub fewer : (b : ℕ) → IsFull left b → IsFull s'.left b
+
+-- the first `count` edges were tried
+pub record AreTried (es : List Edge) (pa pb : List ℕ) (count : ℕ) (la : List (Option ℕ)) (left : List ℕ) (la' : List (Option ℕ)) (s' : Seating) : Type 0 where
+  pub between : IsBetweenRounds es pa pb la' s' 0
+  pub places : KeepsCapacities es la left la' s'.left
+  pub settled : AreSettled es pa pb la' (IsFull s'.left) count

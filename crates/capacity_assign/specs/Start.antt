@@ -1,11 +1,11 @@
 -- Machinery of `CapacityAssigner::new`: what is there before any record of A is taken up.
-use Rattle.std.specs.Prelude.{◌≡◌, ◌≤◌, ℕ, List, length, None, replicate}
+use Rattle.std.specs.Prelude.{◌≡◌, ℕ, List, length, None, replicate}
 use Rattle.assignment_steps.specs.declared.market.Edge.{Edge}
 use Rattle.capacity_assign.specs.declared.start.Prices.{Prices}
 use Rattle.capacity_assign.specs.declared.start.Start.{Start}
 use Rattle.capacity_assign.specs.Final.{AreClosed, AreEmpty}
 use Rattle.assignment_steps.specs.Between.{ReachAll}
-use Rattle.assignment_steps.specs.Reached.{IsClean}
+use Rattle.assignment_steps.specs.Reached.{IsAtRest}
 use Rattle.capacity_assign.specs.Seating.{seating}
 
 -- prices of both sides that cover the edges
@@ -18,5 +18,4 @@ pub record IsAtStart (es : List Edge) (rows_a : ℕ) (capacities : List ℕ) (s 
   pub prices : AreFirstPrices es rows_a capacities s.prices
   pub links : s.link_a.items ≡ replicate rows_a None
   pub seats : AreEmpty rows_a capacities (seating s.seats)
-  pub clean : IsClean rows_a (length capacities) s.tree.reached
-  pub queue : length es ≤ s.tree.reached.frontier.room
+  pub rest : IsAtRest rows_a (length capacities) (length es) s.tree.reached

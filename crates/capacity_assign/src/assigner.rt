@@ -5,8 +5,8 @@ ghost use Rattle.price_check.specs.Capacities.{CertifiesWithin, IsGreatestWithin
 ghost use Rattle.capacity_assign.specs.Solution.{HasSmallValue, IsAllowedCapacity};
 ghost use Rattle.assignment_steps.specs.Market.{AreListed};
 ghost use Rattle.capacity_assign.specs.Alike.{AreAlike};
-ghost use Rattle.capacity_assign.specs.Growth.{IsAtRest};
-ghost use Rattle.capacity_assign.specs.Round.{IsBetweenRounds, KeepsCapacities};
+ghost use Rattle.assignment_steps.specs.Reached.{IsAtRest};
+ghost use Rattle.capacity_assign.specs.Round.{Advances, IsBetweenRounds};
 ghost use Rattle.capacity_assign.specs.Seating.{seating};
 ghost use Rattle.link_limits.specs.declared.TheConstants.{MOST_VALUE};
 
@@ -83,11 +83,9 @@ fn run(
     requires listed { AreListed edges.now.items (length price_a.old.items) starts.now.items }
     requires between { IsBetweenRounds edges.now.items price_a.old.items price_b.old.items link_a.old.items (seating seats.old) 0 }
     requires alike { AreAlike edges.now.items (length price_a.old.items) like.now.items }
-    requires tree { IsAtRest edges.now.items (length price_a.old.items) (length price_b.old.items) tree.old }
-    ensures between { IsBetweenRounds edges.now.items price_a.new.items price_b.new.items link_a.new.items (seating seats.new) (length price_a.new.items) }
-    ensures places { KeepsCapacities edges.now.items link_a.old.items seats.old.left.items link_a.new.items seats.new.left.items }
-    ensures rows_a { length price_a.new.items ≡ length price_a.old.items }
-    ensures rows_b { length price_b.new.items ≡ length price_b.old.items }
+    requires tree { IsAtRest (length price_a.old.items) (length price_b.old.items) (length edges.now.items) tree.old.reached }
+    ensures advances { Advances edges.now.items link_a.old.items seats.old.left.items price_a.new.items price_b.new.items link_a.new.items (seating seats.new) (length price_a.new.items) }
+    ensures rows { (length price_a.new.items ≡ length price_a.old.items) × (length price_b.new.items ≡ length price_b.old.items) }
 {
     all_rounds(edges, starts, price_a, price_b, link_a, seats, like, tree);
 }

@@ -1,10 +1,10 @@
 // The growth of a tree.
-ghost use Rattle.std.specs.Prelude.{◌≡◌, ◌+◌, ◌-◌, ◌<◌, ◌≤◌, ℕ, length, ◌∷◌, None, Some, MatchBool, IsTrue, false};
+ghost use Rattle.std.specs.Prelude.{◌≡◌, ◌+◌, ◌<◌, ◌≤◌, ℕ, length, ◌∷◌, None, Some, IsTrue};
 ghost use Rattle.link_limits.specs.declared.TheConstants.{MOST_VALUE};
-ghost use Rattle.assignment_steps.specs.Market.{number, IsRising};
-ghost use Rattle.capacity_assign.specs.Growth.{IsTree, growth, IsReady, Joins, HasGrown, with_waiting, places_left, IsGrown, IsTwin};
+ghost use Rattle.assignment_steps.specs.Market.{number};
+ghost use Rattle.capacity_assign.specs.Growth.{Grows, HasSearched, IsReady, IsTree, IsTwin, JoinsSeat, JoinsTree, Relaxes, Settles, growth, places_left, with_waiting};
 ghost use Rattle.assignment_steps.specs.Spread.{IsNearest, edge_of, spread};
-ghost use Rattle.assignment_steps.specs.Reached.{HasRoomForRecords, work, FitsQueue, IsClean};
+ghost use Rattle.assignment_steps.specs.Reached.{FitsQueue, HasRoomForRecords, IsAtRest};
 ghost use Rattle.assignment_steps.specs.Distances.{distance, far};
 
 use crate::market::{Ground, Tree};
@@ -13,18 +13,9 @@ use assignment_steps::{FARTHEST, Grown, Near};
 /// Notes a shorter way over the edge `k` from its record of A, which joined the tree last.
 fn relax(ground: Ground<'_>, tree: &mut Tree, k: usize)
     requires place { k < length ground.field.edges.now }
-    requires ready { IsReady ground }
     requires last { distance tree.old.reached.dist_a.items (edge_of ground.field k).a ≡ tree.old.reached.current }
-    requires tree { IsTree ground (edge_of ground.field k).a k (growth tree.old) }
-    requires room { HasRoomForRecords (length ground.field.price_a.now) (length ground.field.price_b.now) tree.old.reached }
-    requires queue { FitsQueue ground.field.edges.now (edge_of ground.field k).a k tree.old.reached }
-    ensures tree { IsTree ground.entry (edge_of ground.entry.field k).a (k + 1) (growth tree.new) }
-    ensures room { HasRoomForRecords (length ground.entry.field.price_a.now) (length ground.entry.field.price_b.now) tree.new.reached }
-    ensures work { work ground.entry.field.edges.now (edge_of ground.entry.field k).a (k + 1) tree.new.reached ≤ work ground.entry.field.edges.now (edge_of ground.entry.field k).a k tree.old.reached }
-    ensures queue { tree.old.reached.frontier.room ≤ tree.new.reached.frontier.room }
-    ensures current { tree.new.reached.current ≡ tree.old.reached.current }
-    ensures held { tree.new.held ≡ tree.old.held }
-    ensures dist_a { tree.new.reached.dist_a.items ≡ tree.old.reached.dist_a.items }
+    requires grows { Grows ground (edge_of ground.field k).a k tree.old }
+    ensures { Relaxes ground.entry (edge_of ground.entry.field k).a k (k + 1) tree.old tree.new }
 {
     let Some(far) = tree.reached.nearer_over(ground.field, k) else {
         return;
@@ -41,9 +32,7 @@ fn join(ground: Ground<'_>, tree: &mut Tree, position: usize, dist: u64)
     requires small { dist ≤ MOST_VALUE }
     requires room { HasRoomForRecords (length ground.field.price_a.now) (length ground.field.price_b.now) tree.old.reached }
     requires new { distance tree.old.reached.dist_a.items position ≡ far }
-    ensures joins { Joins ground.entry (growth tree.old) (growth tree.new) position dist }
-    ensures room { HasRoomForRecords (length ground.entry.field.price_a.now) (length ground.entry.field.price_b.now) tree.new.reached }
-    ensures queue { tree.new.reached.frontier ≡ tree.old.reached.frontier }
+    ensures { JoinsTree ground.entry tree.old tree.new position dist }
 {
     let price = ground.field.price_a[position];
     let _ = tree.reached.join(position, dist, price);
@@ -52,19 +41,9 @@ fn join(ground: Ground<'_>, tree: &mut Tree, position: usize, dist: u64)
 /// Relaxes the edges of the record of A that joined last.
 fn relax_record(ground: Ground<'_>, tree: &mut Tree, position: usize)
     requires inside { position < length ground.field.price_a.now }
-    requires ready { IsReady ground }
-    requires rising { IsRising ground.field.edges.now }
     requires last { distance tree.old.reached.dist_a.items position ≡ tree.old.reached.current }
-    requires tree { IsTree ground position 0 (growth tree.old) }
-    requires room { HasRoomForRecords (length ground.field.price_a.now) (length ground.field.price_b.now) tree.old.reached }
-    requires queue { FitsQueue ground.field.edges.now position 0 tree.old.reached }
-    ensures tree { IsTree ground.entry position (length ground.entry.field.edges.now) (growth tree.new) }
-    ensures room { HasRoomForRecords (length ground.entry.field.price_a.now) (length ground.entry.field.price_b.now) tree.new.reached }
-    ensures work { work ground.entry.field.edges.now position (length ground.entry.field.edges.now) tree.new.reached ≤ work ground.entry.field.edges.now position 0 tree.old.reached }
-    ensures queue { tree.old.reached.frontier.room ≤ tree.new.reached.frontier.room }
-    ensures held { tree.new.held ≡ tree.old.held }
-    ensures current { tree.new.reached.current ≡ tree.old.reached.current }
-    ensures dist_a { tree.new.reached.dist_a.items ≡ tree.old.reached.dist_a.items }
+    requires grows { Grows ground position 0 tree.old }
+    ensures { Relaxes ground.entry position 0 (length ground.entry.field.edges.now) tree.old tree.new }
 {
     let mut k = ground.field.starts[position];
     while k < ground.field.edges.len() && ground.field.edges[k].a as usize == position {
@@ -108,19 +87,9 @@ fn note_twin(ground: Ground<'_>, tree: &mut Tree, position: usize)
 /// Relaxes the edges of the record of A that joined last, where those of no record that is like it are.
 fn relax_joined(ground: Ground<'_>, tree: &mut Tree, position: usize)
     requires inside { position < length ground.field.price_a.now }
-    requires ready { IsReady ground }
-    requires rising { IsRising ground.field.edges.now }
     requires last { distance tree.old.reached.dist_a.items position ≡ tree.old.reached.current }
-    requires tree { IsTree ground position 0 (growth tree.old) }
-    requires room { HasRoomForRecords (length ground.field.price_a.now) (length ground.field.price_b.now) tree.old.reached }
-    requires queue { FitsQueue ground.field.edges.now position 0 tree.old.reached }
-    ensures tree { IsTree ground.entry position (length ground.entry.field.edges.now) (growth tree.new) }
-    ensures room { HasRoomForRecords (length ground.entry.field.price_a.now) (length ground.entry.field.price_b.now) tree.new.reached }
-    ensures work { work ground.entry.field.edges.now position (length ground.entry.field.edges.now) tree.new.reached ≤ work ground.entry.field.edges.now position 0 tree.old.reached }
-    ensures queue { tree.old.reached.frontier.room ≤ tree.new.reached.frontier.room }
-    ensures held { tree.new.held ≡ tree.old.held }
-    ensures current { tree.new.reached.current ≡ tree.old.reached.current }
-    ensures dist_a { tree.new.reached.dist_a.items ≡ tree.old.reached.dist_a.items }
+    requires grows { Grows ground position 0 tree.old }
+    ensures { Relaxes ground.entry position 0 (length ground.entry.field.edges.now) tree.old tree.new }
 {
     if has_twin(ground, tree, position) {
         return;
@@ -132,21 +101,10 @@ fn relax_joined(ground: Ground<'_>, tree: &mut Tree, position: usize)
 /// The record of A at the seat `n` of the record of B that is held joins the tree, at the distance of its newest
 /// record, where it has not joined yet, and its edges are relaxed.
 fn join_seat(ground: Ground<'_>, tree: &mut Tree, n: usize)
-    requires ready { IsReady ground }
-    requires rising { IsRising ground.field.edges.now }
     requires seat { n < ground.seats.now.count }
     requires owned { tree.old.held ≡ Some (number ground.seats.now.owner.items n) }
-    requires tree { IsTree ground 0 (length ground.field.edges.now) (growth tree.old) }
-    requires room { HasRoomForRecords (length ground.field.price_a.now) (length ground.field.price_b.now) tree.old.reached }
-    requires queue { FitsQueue ground.field.edges.now 0 (length ground.field.edges.now) tree.old.reached }
-    ensures held { tree.new.held ≡ tree.old.held }
-    ensures current { tree.new.reached.current ≡ tree.old.reached.current }
-    ensures tree { IsTree ground.entry 0 (length ground.entry.field.edges.now) (growth tree.new) }
-    ensures room { HasRoomForRecords (length ground.entry.field.price_a.now) (length ground.entry.field.price_b.now) tree.new.reached }
-    ensures work { work ground.entry.field.edges.now 0 (length ground.entry.field.edges.now) tree.new.reached ≤ work ground.entry.field.edges.now 0 (length ground.entry.field.edges.now) tree.old.reached }
-    ensures queue { tree.old.reached.frontier.room ≤ tree.new.reached.frontier.room }
-    ensures stays { (a : ℕ) → distance tree.old.reached.dist_a.items a < far → distance tree.new.reached.dist_a.items a < far }
-    ensures joined { distance tree.new.reached.dist_a.items (number ground.entry.seats.now.sitter.items n) < far }
+    requires grows { Grows ground 0 (length ground.field.edges.now) tree.old }
+    ensures { JoinsSeat ground.entry n tree.old tree.new }
 {
     let position = ground.seats.sitter[n];
     if tree.reached.dist_a[position] != FARTHEST {
@@ -176,7 +134,6 @@ fn hold(ground: Ground<'_>, tree: &mut Tree, near: Near)
 /// tree one after the other; false where an end that is as near comes first.
 fn settle(ground: Ground<'_>, tree: &mut Tree, near: Near) -> bool
     requires ready { IsReady ground }
-    requires rising { IsRising ground.field.edges.now }
     requires inside { near.position < length ground.field.price_b.now }
     requires full { places_left ground near.position ≡ 0 }
     requires useful { near.distance < tree.old.reached.best }
@@ -186,11 +143,7 @@ fn settle(ground: Ground<'_>, tree: &mut Tree, near: Near) -> bool
     requires tree { IsTree ground 0 (length ground.field.edges.now) (with_waiting ((near.distance, near.position) ∷ tree.old.reached.frontier.waiting) (growth tree.old)) }
     requires room { HasRoomForRecords (length ground.field.price_a.now) (length ground.field.price_b.now) tree.old.reached }
     requires queue { FitsQueue ground.field.edges.now 0 (length ground.field.edges.now) tree.old.reached }
-    ensures tree { MatchBool result (IsTree ground.entry 0 (length ground.entry.field.edges.now) (growth tree.new)) (IsGrown ground.entry (growth tree.new) tree.new.reached.best None tree.new.reached.best_record) }
-    ensures held { MatchBool result (tree.new.held ≡ None) (Unit {0}) }
-    ensures room { HasRoomForRecords (length ground.entry.field.price_a.now) (length ground.entry.field.price_b.now) tree.new.reached }
-    ensures work { work ground.entry.field.edges.now 0 (length ground.entry.field.edges.now) tree.new.reached ≤ work ground.entry.field.edges.now 0 (length ground.entry.field.edges.now) tree.old.reached }
-    ensures queue { tree.old.reached.frontier.room ≤ tree.new.reached.frontier.room }
+    ensures { Settles ground.entry result tree.old tree.new }
 {
     hold(ground, tree, near);
     let mut next = ground.seats.last[near.position];
@@ -208,15 +161,9 @@ fn settle(ground: Ground<'_>, tree: &mut Tree, near: Near) -> bool
 /// Grows the tree until a record of B with a place left is the nearest, or no record of B is nearer than an end
 /// at a record of A.
 pub fn grow(ground: Ground<'_>, tree: &mut Tree) -> Grown
-    requires ready { IsReady ground }
-    requires rising { IsRising ground.field.edges.now }
     requires held { tree.old.held ≡ None }
-    requires tree { IsTree ground 0 (length ground.field.edges.now) (growth tree.old) }
-    requires room { HasRoomForRecords (length ground.field.price_a.now) (length ground.field.price_b.now) tree.old.reached }
-    requires queue { FitsQueue ground.field.edges.now 0 (length ground.field.edges.now) tree.old.reached }
-    ensures grown { HasGrown ground.entry (growth tree.new) result.end result.free result.last }
-    ensures room { HasRoomForRecords (length ground.entry.field.price_a.now) (length ground.entry.field.price_b.now) tree.new.reached }
-    ensures queue { tree.old.reached.frontier.room ≤ tree.new.reached.frontier.room }
+    requires grows { Grows ground 0 (length ground.field.edges.now) tree.old }
+    ensures { HasSearched ground.entry tree.old tree.new result }
 {
     while let Some(near) = tree.reached.frontier.take() {
         if tree.reached.best <= near.distance {
@@ -239,35 +186,15 @@ pub fn grow(ground: Ground<'_>, tree: &mut Tree) -> Grown
     tree.reached.nearest_end(None)
 }
 
-/// Begins a tree with its root.
-fn plant(ground: Ground<'_>, tree: &mut Tree)
+/// The whole growth of a tree from its root.
+pub fn search(ground: Ground<'_>, tree: &mut Tree) -> Grown
     requires ready { IsReady ground }
-    requires rising { IsRising ground.field.edges.now }
-    requires clean { IsClean (length ground.field.price_a.now) (length ground.field.price_b.now) tree.old.reached }
-    requires queue { length ground.field.edges.now ≤ tree.old.reached.frontier.room }
-    ensures tree { IsTree ground.entry ground.entry.field.root (length ground.entry.field.edges.now) (growth tree.new) }
-    ensures room { HasRoomForRecords (length ground.entry.field.price_a.now) (length ground.entry.field.price_b.now) tree.new.reached }
-    ensures fits { FitsQueue ground.entry.field.edges.now ground.entry.field.root (length ground.entry.field.edges.now) tree.new.reached }
-    ensures queue { tree.old.reached.frontier.room ≤ tree.new.reached.frontier.room }
-    ensures held { tree.new.held ≡ None }
+    requires rest { IsAtRest (length ground.field.price_a.now) (length ground.field.price_b.now) (length ground.field.edges.now) tree.old.reached }
+    ensures { HasSearched ground.entry tree.old tree.new result }
 {
     tree.reached.best = FARTHEST;
     tree.held = None;
     join(ground, tree, ground.field.root, 0);
     relax_record(ground, tree, ground.field.root);
-}
-
-/// The whole growth of a tree.
-pub fn search(ground: Ground<'_>, tree: &mut Tree) -> Grown
-    requires ready { IsReady ground }
-    requires rising { IsRising ground.field.edges.now }
-    requires clean { IsClean (length ground.field.price_a.now) (length ground.field.price_b.now) tree.old.reached }
-    requires queue { length ground.field.edges.now ≤ tree.old.reached.frontier.room }
-    ensures ready { IsReady ground.entry }
-    ensures grown { HasGrown ground.entry (growth tree.new) result.end result.free result.last }
-    ensures room { HasRoomForRecords (length ground.entry.field.price_a.now) (length ground.entry.field.price_b.now) tree.new.reached }
-    ensures queue { tree.old.reached.frontier.room ≤ tree.new.reached.frontier.room }
-{
-    plant(ground, tree);
     grow(ground, tree)
 }

@@ -2,8 +2,8 @@
 ghost use Rattle.std.specs.Prelude.{length};
 ghost use Rattle.assignment_steps.specs.Market.{AreListed};
 ghost use Rattle.capacity_assign.specs.Alike.{AreAlike};
-ghost use Rattle.capacity_assign.specs.Growth.{IsAtRest};
-ghost use Rattle.capacity_assign.specs.Round.{IsBetweenRounds, KeepsCapacities};
+ghost use Rattle.assignment_steps.specs.Reached.{IsAtRest};
+ghost use Rattle.capacity_assign.specs.Round.{Advances, IsBetweenRounds};
 ghost use Rattle.capacity_assign.specs.Seating.{seating};
 
 use crate::market::{Seats, Tree};
@@ -25,9 +25,8 @@ pub fn all_rounds(
     requires listed { AreListed edges.now (length price_a.old) starts.now }
     requires between { IsBetweenRounds edges.now price_a.old price_b.old link_a.old (seating seats.old) 0 }
     requires alike { AreAlike edges.now (length price_a.old) like.now }
-    requires tree { IsAtRest edges.now (length price_a.old) (length price_b.old) tree.old }
-    ensures between { IsBetweenRounds edges.now price_a.new price_b.new link_a.new (seating seats.new) (length price_a.new) }
-    ensures places { KeepsCapacities edges.now link_a.old seats.old.left.items link_a.new seats.new.left.items }
+    requires tree { IsAtRest (length price_a.old) (length price_b.old) (length edges.now) tree.old.reached }
+    ensures { Advances edges.now link_a.old seats.old.left.items price_a.new price_b.new link_a.new (seating seats.new) (length price_a.new) }
 {
     let net = Net {
         edges,

@@ -1,11 +1,11 @@
 // One round: a record of A is taken up, prices change, and links are turned round.
-ghost use Rattle.std.specs.Prelude.{◌≡◌, ◌+◌, ◌<◌, ℕ, length, None, MatchOption};
+ghost use Rattle.std.specs.Prelude.{◌≡◌, ◌+◌, ◌<◌, length, None, MatchOption};
 ghost use Rattle.assignment_steps.specs.Market.{AreLinked, IsInRange, link, AreTight, AreListed};
-ghost use Rattle.assignment_steps.specs.Between.{IsDone};
 ghost use Rattle.capacity_assign.specs.Alike.{AreAlike};
-ghost use Rattle.capacity_assign.specs.Growth.{IsAtRest};
-ghost use Rattle.assignment_steps.specs.Ways.{AreTurnedFrom, LeadsFromEnd};
-ghost use Rattle.capacity_assign.specs.Round.{IsBetweenRounds, KeepsCapacities};
+ghost use Rattle.assignment_steps.specs.Reached.{IsAtRest};
+ghost use Rattle.assignment_steps.specs.Ways.{LeadsFromEnd};
+ghost use Rattle.capacity_assign.specs.Core.{TurnsRound};
+ghost use Rattle.capacity_assign.specs.Round.{Advances, IsBetweenRounds, TakesUp};
 ghost use Rattle.capacity_assign.specs.Seating.{AreSeats, HasPlace, seating};
 
 use crate::grow::search;
@@ -32,13 +32,7 @@ fn turn(
     requires last { MatchOption free (last < length link_a.old) (λ _. Unit {0}) }
     requires free { MatchOption free (Unit {0}) (HasPlace seats.old.left.items) }
     requires leads { LeadsFromEnd net ways link_a.old free last }
-    ensures rows_b { length seats.new.left.items ≡ length seats.old.left.items }
-    ensures linked { AreLinked net.entry.edges.now link_a.new }
-    ensures tight { AreTight net.entry.edges.now net.entry.price_a.now net.entry.price_b.now link_a.new }
-    ensures seats { AreSeats net.entry.edges.now link_a.new (seating seats.new) }
-    ensures turned { AreTurnedFrom link_a.old link_a.new ways.entry.root free last }
-    ensures vacant { (b : ℕ) → HasPlace seats.new.left.items b → HasPlace seats.old.left.items b }
-    ensures places { KeepsCapacities net.entry.edges.now link_a.old seats.old.left.items link_a.new seats.new.left.items }
+    ensures { TurnsRound net.entry.edges.now net.entry.price_a.now net.entry.price_b.now ways.entry.root free last link_a.old seats.old.left.items link_a.new (seating seats.new) }
 {
     if let Some(b) = free {
         let seat = add_seat(seats, b);
@@ -75,12 +69,8 @@ pub fn take_up<'a>(
     requires alike { AreAlike edges.now (length price_a.old) like.now }
     requires free { link link_a.old root ≡ None }
     requires between { IsBetweenRounds edges.now price_a.old price_b.old link_a.old (seating seats.old) 0 }
-    requires tree { IsAtRest edges.now (length price_a.old) (length price_b.old) tree.old }
-    ensures between { IsBetweenRounds edges.now price_a.new price_b.new link_a.new (seating seats.new) 0 }
-    ensures places { KeepsCapacities edges.now link_a.old seats.old.left.items link_a.new seats.new.left.items }
-    ensures kept { (a : ℕ) → IsDone price_a.old link_a.old a → IsDone price_a.new link_a.new a }
-    ensures done { IsDone price_a.new link_a.new root }
-    ensures tree { IsAtRest edges.now (length price_a.new) (length price_b.new) tree.new }
+    requires tree { IsAtRest (length price_a.old) (length price_b.old) (length edges.now) tree.old.reached }
+    ensures { TakesUp edges.now root price_a.old link_a.old seats.old.left.items price_a.new price_b.new link_a.new (seating seats.new) tree.new }
 {
     let field = Field {
         edges,
@@ -122,10 +112,9 @@ pub fn round<'a>(
     requires root { root < length price_a.old }
     requires alike { AreAlike edges.now (length price_a.old) like.now }
     requires between { IsBetweenRounds edges.now price_a.old price_b.old link_a.old (seating seats.old) root }
-    requires tree { IsAtRest edges.now (length price_a.old) (length price_b.old) tree.old }
-    ensures between { IsBetweenRounds edges.now price_a.new price_b.new link_a.new (seating seats.new) (root + 1) }
-    ensures places { KeepsCapacities edges.now link_a.old seats.old.left.items link_a.new seats.new.left.items }
-    ensures tree { IsAtRest edges.now (length price_a.new) (length price_b.new) tree.new }
+    requires tree { IsAtRest (length price_a.old) (length price_b.old) (length edges.now) tree.old.reached }
+    ensures advances { Advances edges.now link_a.old seats.old.left.items price_a.new price_b.new link_a.new (seating seats.new) (root + 1) }
+    ensures tree { IsAtRest (length price_a.new) (length price_b.new) (length edges.now) tree.new.reached }
 {
     if link_a[root].is_some() {
         return;

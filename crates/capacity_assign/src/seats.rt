@@ -40,7 +40,7 @@ pub fn reseat(
     requires linked { AreLinked edges.now link_a.old }
     requires records { length seat.old ≡ length link_a.old }
     requires free { free < length sitter.old }
-    ensures reseats { Reseats edges.now link_a.old seat.old sitter.old link_a.new seat.new sitter.new k free result }
+    ensures { Reseats edges.now link_a.old seat.old sitter.old link_a.new seat.new sitter.new k free result }
 {
     let edge = edges[k];
     let a = edge.a as usize;

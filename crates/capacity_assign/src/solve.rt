@@ -1,11 +1,9 @@
 // From candidates to a greatest list with its prices.
-ghost use Rattle.std.specs.Prelude.{◌≡◌, ◌<◌, ◌≤◌, ℕ, length, IfOk};
-ghost use Rattle.price_check.specs.Capacities.{capacity_of};
-ghost use Rattle.assignment_steps.specs.Market.{number, edge, AreSmall};
-ghost use Rattle.capacity_assign.specs.Final.{AreClosed, AreEmpty};
+ghost use Rattle.std.specs.Prelude.{◌≡◌, ◌<◌, ℕ, length, IfOk};
+ghost use Rattle.assignment_steps.specs.Market.{edge, AreSmall};
+ghost use Rattle.capacity_assign.specs.Final.{AreClosed, AreEmpty, Closes};
 ghost use Rattle.capacity_assign.specs.Seating.{seating};
-ghost use Rattle.link_limits.specs.declared.TheConstants.{MOST_VALUE};
-ghost use Rattle.assignment_steps.specs.Reached.{IsClean};
+ghost use Rattle.assignment_steps.specs.Reached.{IsAtRest};
 
 use crate::market::{Seats, Tree};
 use assignment_steps::{Edge, Reached, raise_to};
@@ -29,10 +27,7 @@ pub fn closed_prices(alloc: Global, edges: &[Edge], capacity: &[u32]) -> Result<
 fn close(prices: &mut [u64], capacity: &[u32], edge: Edge)
     requires within { edge.b < length capacity.now }
     requires records { length prices.old ≡ length capacity.now }
-    ensures here { capacity_of capacity.now edge.b ≡ 0 → edge.value ≤ number prices.new edge.b }
-    ensures kept { (r : ℕ) → number prices.old r ≤ number prices.new r }
-    ensures vacant { (r : ℕ) → 0 < capacity_of capacity.now r → number prices.new r ≡ number prices.old r }
-    ensures small { edge.value ≤ MOST_VALUE → ((r : ℕ) → number prices.old r ≤ MOST_VALUE) → (r : ℕ) → number prices.new r ≤ MOST_VALUE }
+    ensures { Closes capacity.now edge prices.old prices.new }
 {
     if capacity[edge.b as usize] > 0 {
         return;
@@ -68,8 +63,7 @@ pub fn clean_tree(
     rows_b: usize,
     edges: usize,
 ) -> Result<Tree, NoMemory>
-    ensures clean { IfOk result (λ t. IsClean rows_a rows_b t.reached) }
-    ensures queue { IfOk result (λ t. edges ≤ t.reached.frontier.room) }
+    ensures { IfOk result (λ t. IsAtRest rows_a rows_b edges t.reached) }
 {
     // The lists of `reached` last, so that where memory is wanting none of them is to be given back.
     let twin = vec![in alloc; rows_a; rows_a]?;

@@ -1,9 +1,7 @@
 // Links over tight edges, before any tree is grown.
-ghost use Rattle.std.specs.Prelude.{◌≡◌, ◌<◌, ℕ, None, length};
-ghost use Rattle.assignment_steps.specs.Market.{link};
-ghost use Rattle.assignment_steps.specs.Free.{AreSettled, IsSettled};
-ghost use Rattle.capacity_assign.specs.Seating.{IsFull, seating};
-ghost use Rattle.capacity_assign.specs.Round.{IsBetweenRounds, KeepsCapacities};
+ghost use Rattle.std.specs.Prelude.{◌<◌, length};
+ghost use Rattle.capacity_assign.specs.Seating.{seating};
+ghost use Rattle.capacity_assign.specs.Round.{AreTried, IsBetweenRounds, TriesEdge};
 
 use crate::market::Seats;
 use crate::seats::{add_seat, reseat};
@@ -14,11 +12,7 @@ use assignment_steps::Net;
 fn link_if_tight(net: Net<'_>, link_a: &mut [Option<usize>], seats: &mut Seats, k: usize)
     requires place { k < length net.edges.now }
     requires between { IsBetweenRounds net.edges.now net.price_a.now net.price_b.now link_a.old (seating seats.old) 0 }
-    ensures between { IsBetweenRounds net.entry.edges.now net.entry.price_a.now net.entry.price_b.now link_a.new (seating seats.new) 0 }
-    ensures places { KeepsCapacities net.entry.edges.now link_a.old seats.old.left.items link_a.new seats.new.left.items }
-    ensures settled { IsSettled net.entry.edges.now net.entry.price_a.now net.entry.price_b.now link_a.new (IsFull seats.new.left.items) k }
-    ensures kept { (a : ℕ) → link link_a.new a ≡ None → link link_a.old a ≡ None }
-    ensures fewer { (b : ℕ) → IsFull seats.old.left.items b → IsFull seats.new.left.items b }
+    ensures { TriesEdge net.entry.edges.now net.entry.price_a.now net.entry.price_b.now k link_a.old seats.old.left.items link_a.new (seating seats.new) }
 {
     let edge = net.edges[k];
     let a = edge.a as usize;
@@ -47,9 +41,7 @@ fn link_if_tight(net: Net<'_>, link_a: &mut [Option<usize>], seats: &mut Seats, 
 /// link to a record of B with a place left.
 pub fn link_tight(net: Net<'_>, link_a: &mut [Option<usize>], seats: &mut Seats)
     requires { IsBetweenRounds net.edges.now net.price_a.now net.price_b.now link_a.old (seating seats.old) 0 }
-    ensures between { IsBetweenRounds net.entry.edges.now net.entry.price_a.now net.entry.price_b.now link_a.new (seating seats.new) 0 }
-    ensures places { KeepsCapacities net.entry.edges.now link_a.old seats.old.left.items link_a.new seats.new.left.items }
-    ensures settled { AreSettled net.entry.edges.now net.entry.price_a.now net.entry.price_b.now link_a.new (IsFull seats.new.left.items) (length net.entry.edges.now) }
+    ensures { AreTried net.entry.edges.now net.entry.price_a.now net.entry.price_b.now (length net.entry.edges.now) link_a.old seats.old.left.items link_a.new (seating seats.new) }
 {
     for k in 0..net.edges.len() {
         link_if_tight(net, link_a, seats, k);

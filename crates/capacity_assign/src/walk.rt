@@ -1,9 +1,8 @@
 // Links turned round along the way to the root.
-ghost use Rattle.std.specs.Prelude.{◌≡◌, ◌+◌, ◌<◌, ◌==◌, ℕ, length, List, None, Some, if◌then◌else◌};
-ghost use Rattle.capacity_assign.specs.Core.{linked_at};
+ghost use Rattle.std.specs.Prelude.{◌≡◌, ◌<◌, ℕ, length, Some};
+ghost use Rattle.capacity_assign.specs.Core.{WalksBack};
 ghost use Rattle.assignment_steps.specs.Market.{AreLinked, link, edge, AreTight, number};
 ghost use Rattle.assignment_steps.specs.Ways.{Leads};
-ghost use Rattle.capacity_assign.specs.Seating.{AreAllSeated, HasHole, free_records};
 
 use crate::market::Hole;
 use crate::seats::reseat;
@@ -25,14 +24,7 @@ pub fn walk(
     requires seats { (a k : ℕ) → link link_a.old a ≡ Some k → number seat.old a < length sitter.old }
     requires there { hole.seat < length sitter.old }
     requires leads { (n : ℕ) × Leads net.edges.now net.price_a.now net.price_b.now link_a.old ways.from.now ways.rank.now ways.root n hole.b }
-    ensures rows_a { length link_a.new ≡ length link_a.old }
-    ensures linked { AreLinked net.entry.edges.now link_a.new }
-    ensures tight { AreTight net.entry.edges.now net.entry.price_a.now net.entry.price_b.now link_a.new }
-    ensures root { link link_a.new ways.entry.root ≡ None → ⊥ }
-    ensures still_a { (a : ℕ) → link link_a.new a ≡ None → link link_a.old a ≡ None }
-    ensures places { (b : ℕ) → linked_at net.entry.edges.now link_a.new b ≡ linked_at net.entry.edges.now link_a.old b + (if hole.b == b then 1 else 0) }
-    ensures room { free_records link_a.new + 1 ≡ free_records link_a.old }
-    ensures seated { (owner : List ℕ) (count : ℕ) → HasHole net.entry.edges.now link_a.old seat.old sitter.old owner count hole.b hole.seat → AreAllSeated net.entry.edges.now link_a.new seat.new sitter.new owner count }
+    ensures { WalksBack net.entry.edges.now net.entry.price_a.now net.entry.price_b.now ways.entry.root hole link_a.old seat.old sitter.old link_a.new seat.new sitter.new }
 {
     let mut free = hole;
     while let Some(left) = reseat(

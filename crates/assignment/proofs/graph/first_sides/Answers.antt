@@ -1,7 +1,7 @@
 use Rattle.std.proofs.Common.{ℕ, ◌∙◌, ap, length}
 use Rattle.std.proofs.lemmas.List.{length-replicate}
 use Rattle.assignment_steps.specs.Between.{ReachAll}
-use Rattle.assignment_steps.proofs.EdgesOf.{all_zero}
+use Rattle.assignment_steps.specs.DistanceLaws.{all_zero}
 use Rattle.assignment.proofs.graph.first_sides.Goals as goal
 
 pub first_prices-requires-clause-small : goal.first_prices-requires-clause-small
@@ -43,8 +43,10 @@ first_side-requires-clause-in_range c = rw (c.deref-7.ensures.value, c.in_ok-pri
 
 pub returns-in-Ok : goal.returns-in-Ok
 returns-in-Ok c = record {
-  own = rw c.deref-7.ensures.value at c.in-Ok.ensures.side;
-  count_a = c.in-Ok.ensures.rows_a ∙ c.in_ok-price_a.ensures.records;
-  count_b = c.in-Ok.ensures.rows_b ∙ (ap length c.in_ok-price_b.ensures ∙ length-replicate {A = ℕ} c.args.rows_b 0);
+  own = record {
+    side = rw c.deref-7.ensures.value at c.in-Ok.ensures.side;
+    count_a = c.in-Ok.ensures.count_a ∙ c.in_ok-price_a.ensures.records;
+    count_b = c.in-Ok.ensures.count_b ∙ (ap length c.in_ok-price_b.ensures ∙ length-replicate {A = ℕ} c.args.rows_b 0);
+  };
   other = rw (c.deref-5.ensures.value, c.deref-6.ensures.value, c.in_ok-price_a.ensures.records, c.in_ok-other_a.ensures.records) at c.in_ok-other.ensures.other;
 }

@@ -1,8 +1,8 @@
 use Rattle.assignment_steps.specs.Market.{AreStarts}
 use Rattle.assignment_steps.specs.Turned.{AreTurned}
-use Rattle.assignment_steps.proofs.OtherSide.{turned_in_range, turned_small}
+use Rattle.assignment_steps.specs.TurnedLaws.{turned_in_range, turned_small}
 use Rattle.assignment_steps.specs.Candidates.{edges_of}
-use Rattle.assignment_steps.proofs.EdgesOf.{range_edges, small_edges, rising_edges}
+use Rattle.assignment_steps.specs.CandidatesLaws.{range_edges, small_edges, rising_edges}
 use Rattle.assignment.proofs.graph.graph_of.Goals as goal
 
 pub starts_of-requires-clause-rising : goal.starts_of-requires-clause-rising

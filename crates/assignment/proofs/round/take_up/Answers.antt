@@ -1,18 +1,26 @@
 use Rattle.std.proofs.Common.{ap, sym, ◌∙◌}
 use Rattle.std.specs.Option.{is_some}
 use Rattle.std.proofs.lemmas.Bool.{false≢true}
-use Rattle.assignment_steps.proofs.Taken.{not_linked}
+use Rattle.assignment_steps.specs.LinkLaws.{not_linked}
 use Rattle.assignment.proofs.round.take_up.Goals.{else-bounded-via-then-bounded+else-tree-eq0, else-bounded-via-else-bounded, then-is_some-via-then-is_some, then-is_some-via-else-is_some+then-price_a-root-eq0}
 use Rattle.assignment.proofs.round.take_up.Goals as goal
 
-pub returns-then-tree-eq0-clause-done : goal.returns-then-tree-eq0-clause-done
-returns-then-tree-eq0-clause-done c left = absurd (left c.if-bounded.true c.if-tree-eq0.true)
+pub returns-then-tree-eq0-clause-takes : goal.returns-then-tree-eq0-clause-takes
+returns-then-tree-eq0-clause-takes c = record { between = c.requires.between; kept = λ a old. old; done = λ left. absurd (left c.if-bounded.true c.if-tree-eq0.true); rest = c.requires.rest }
 
-pub returns-then-is_some-clause-done : goal.returns-then-is_some-clause-done
-returns-then-is_some-clause-done c _ none = elim c.then-is_some.branch [
-  | then-is_some-via-then-is_some w ↦ absurd (false≢true (sym (ap is_some none) ∙ (sym c.is_some.ensures ∙ w.if-is_some.true)))
-  | then-is_some-via-else-is_some+then-price_a-root-eq0 w ↦ w.if-price_a-root-eq0.true
-]
+pub returns-then-is_some-clause-takes : goal.returns-then-is_some-clause-takes
+returns-then-is_some-clause-takes c = record {
+  between = c.requires.between;
+  kept = λ a old. old;
+  done = λ _ none. elim c.then-is_some.branch [
+    | then-is_some-via-then-is_some w ↦ absurd (false≢true (sym (ap is_some none) ∙ (sym c.is_some.ensures ∙ w.if-is_some.true)))
+    | then-is_some-via-else-is_some+then-price_a-root-eq0 w ↦ w.if-price_a-root-eq0.true
+  ];
+  rest = c.requires.rest;
+}
+
+pub returns-clause-takes : goal.returns-clause-takes
+returns-clause-takes c = c.search_from.ensures
 
 pub returns-clause-before : goal.returns-clause-before
 returns-clause-before c _ on spent = elim c.else-bounded.branch [

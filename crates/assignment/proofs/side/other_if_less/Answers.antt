@@ -1,7 +1,7 @@
 use Rattle.std.proofs.Common.{◌≡◌, None, length, sym, ap, ◌∙◌, arith}
 use Rattle.std.proofs.lemmas.Bool.{le-ltb, lt-ltb}
 use Rattle.std.proofs.lemmas.List.{length-replicate}
-use Rattle.assignment_steps.proofs.EdgesOf.{none_linked}
+use Rattle.assignment_steps.specs.LinkLaws.{none_linked}
 use Rattle.assignment.proofs.side.other_if_less.Goals as goal
 
 pub first_side-requires : goal.first_side-requires
@@ -20,9 +20,7 @@ returns-in-Ok-clause-other c =
     let same : rows_b ≡ length c.args.other_a.items = omega (arith, c.len-rows_b.ensures, c.args.other_a.ok.0) in
     let free = c.in-Ok.ensures in
     record {
-      side = c.in_ok-side.ensures.side;
-      count_a = c.in_ok-side.ensures.rows_b ∙ c.requires.rows;
-      count_b = c.in_ok-side.ensures.rows_a;
+      side = record { side = c.in_ok-side.ensures.side; count_a = c.in_ok-side.ensures.count_a; count_b = c.in_ok-side.ensures.count_b ∙ c.requires.rows };
       links_a = ap length free.a ∙ length-replicate rows_a None;
       links_b = ap length free.b ∙ (length-replicate rows_b None ∙ same);
       none_a = rw free.a (none_linked rows_a);

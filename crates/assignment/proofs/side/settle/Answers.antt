@@ -14,19 +14,12 @@ returns-then-waiting-eq0 c = between_done _ _ _ _ _ _ c.search_each.ensures.betw
 pub take_proposal-requires : goal.take_proposal-requires
 take_proposal-requires c = record { between = c.search_each.ensures.between }
 
-pub search_each-requires-2-clause-listed : goal.search_each-requires-2-clause-listed
-search_each-requires-2-clause-listed c = rw (c.take_proposal.auto.price_a, c.search_each.auto.price_a) c.requires.listed
-
-pub search_each-requires-2-clause-clean : goal.search_each-requires-2-clause-clean
-search_each-requires-2-clause-clean c = rw (c.take_proposal.auto.price_a, c.take_proposal.auto.price_b) c.search_each.ensures.clean
-
-pub search_each-requires-2-clause-queue : goal.search_each-requires-2-clause-queue
-search_each-requires-2-clause-queue c = c.search_each.ensures.queue
-
-pub search_each-requires-2-clause-between : goal.search_each-requires-2-clause-between
-search_each-requires-2-clause-between c = c.take_proposal.ensures.between
+pub search_each-requires-2 : goal.search_each-requires-2
+search_each-requires-2 c = record {
+  listed = rw (c.take_proposal.auto.price_a, c.search_each.auto.price_a) c.requires.listed;
+  rest = rw (c.take_proposal.auto.price_a, c.take_proposal.auto.price_b) c.search_each.ensures.rest;
+  between = c.take_proposal.ensures.between;
+}
 
 pub returns : goal.returns
-returns c =
-    let s = c.search_each-2.ensures in
-    between_done _ _ _ _ _ _ s.between (s.done (λ on. absurd (false≢true on)))
+returns c = (let s = c.search_each-2.ensures in between_done _ _ _ _ _ _ s.between (s.done (λ on. absurd (false≢true on))))

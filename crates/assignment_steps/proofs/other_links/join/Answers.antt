@@ -2,8 +2,7 @@ use Rattle.std.proofs.Common.{◌≡◌, None, Some, ap, sym, ◌∙◌, get_or-
 use Rattle.std.specs.Option.{is_some}
 use Rattle.std.proofs.lemmas.Bool.{false≢true}
 use Rattle.assignment_steps.specs.Market.{link, edge}
-use Rattle.assignment_steps.proofs.Links.{matched_joined}
-use Rattle.assignment_steps.proofs.Taken.{none_before, not_linked}
+use Rattle.assignment_steps.specs.LinkLaws.{matched_joined, none_before, not_linked}
 use Rattle.assignment_steps.proofs.other_links.join.Goals as goal
 
 pub returns : goal.returns
@@ -17,10 +16,12 @@ returns c =
     let free_a : link la (edge es k).a ≡ None = not_linked (link la (edge es k).a) (sym c.is_some.ensures ∙ c.if-is_some.false) in
     let free_b : link lb (edge es k).b ≡ None = not_linked (link lb (edge es k).b) (sym c.is_some-2.ensures ∙ c.if-is_some-2.false) in
     record {
-      matched = matched_joined es _ _ k c.requires.matched c.requires.place ra rb free_a free_b;
+      keeps = record {
+        matched = matched_joined es _ _ k c.requires.matched c.requires.place ra rb free_a free_b;
+        kept_a = λ a none. none_before la (edge es k).a a k ra none;
+        kept_b = λ b none. none_before lb (edge es k).b b k rb none;
+      };
       joined = λ none _. (let clash : Some k ≡ None = sym (get_or-set_same la (edge es k).a (Some k) None ra) ∙ none in cc);
-      kept_a = λ a none. none_before la (edge es k).a a k ra none;
-      kept_b = λ b none. none_before lb (edge es k).b b k rb none;
     }
 
 pub returns-then-is_some-clause-joined : goal.returns-then-is_some-clause-joined

@@ -4,8 +4,8 @@ use Rattle.assignment_steps.proofs.other_links.join_as_turned.Goals as goal
 
 pub loop-i-preserved : goal.loop-i-preserved
 loop-i-preserved c = record {
-  matched = c.join_turned.ensures.matched;
-  joined = one_more_as c.args.board _ _ _ _ c.join_turned.ensures.kept_a c.join_turned.ensures.kept_b c.args.links.now c.loop-i.i c.loop-i.invariant.joined c.join_turned.ensures.joined;
+  matched = c.join_turned.ensures.keeps.matched;
+  joined = one_more_as c.args.board _ _ _ _ c.join_turned.ensures.keeps.kept_a c.join_turned.ensures.keeps.kept_b c.args.links.now c.loop-i.i c.loop-i.invariant.joined c.join_turned.ensures.joined;
 }
 
 pub returns-clause-joined : goal.returns-clause-joined

@@ -4,8 +4,8 @@ use Rattle.assignment_steps.proofs.other_links.join_mates.Goals as goal
 
 pub loop-a-preserved : goal.loop-a-preserved
 loop-a-preserved c = record {
-  matched = c.join_mate.ensures.matched;
-  joined = one_more_with c.args.board _ _ _ _ c.join_mate.ensures.kept_a c.join_mate.ensures.kept_b c.args.mates.now c.loop-a.a c.loop-a.invariant.joined c.join_mate.ensures.joined;
+  matched = c.join_mate.ensures.keeps.matched;
+  joined = one_more_with c.args.board _ _ _ _ c.join_mate.ensures.keeps.kept_a c.join_mate.ensures.keeps.kept_b c.args.mates.now c.loop-a.a c.loop-a.invariant.joined c.join_mate.ensures.joined;
 }
 
 pub returns-clause-joined : goal.returns-clause-joined

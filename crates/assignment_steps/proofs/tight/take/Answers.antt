@@ -2,7 +2,8 @@ use Rattle.std.proofs.Common.{◌≡◌, None, Some, ap, sym, ◌∙◌, length,
 use Rattle.std.specs.Option.{is_some}
 use Rattle.std.proofs.lemmas.Bool.{false≢true}
 use Rattle.assignment_steps.specs.Market.{link, edge, IsTight}
-use Rattle.assignment_steps.proofs.Taken.{between_joined, none_before, not_linked}
+use Rattle.assignment_steps.specs.BetweenLaws.{between_joined}
+use Rattle.assignment_steps.specs.LinkLaws.{none_before, not_linked}
 use Rattle.assignment_steps.proofs.tight.take.Goals as goal
 
 pub returns : goal.returns
@@ -24,11 +25,11 @@ returns c =
       kept_b = λ b none. none_before lb (edge es k).b b k rb none;
     }
 
-pub returns-then-is_some-clause-settled : goal.returns-then-is_some-clause-settled
-returns-then-is_some-clause-settled c _ none = absurd (false≢true (sym (ap is_some none) ∙ (sym c.is_some.ensures ∙ c.if-is_some.true)))
+pub returns-then-is_some : goal.returns-then-is_some
+returns-then-is_some c = record { between = c.requires.between; settled = λ _ none. absurd (false≢true (sym (ap is_some none) ∙ (sym c.is_some.ensures ∙ c.if-is_some.true))); kept_a = λ a none. none; kept_b = λ b none. none }
 
-pub returns-then-is_some-2-clause-settled : goal.returns-then-is_some-2-clause-settled
-returns-then-is_some-2-clause-settled c _ _ none = false≢true (sym (ap is_some none) ∙ (sym c.is_some-2.ensures ∙ c.if-is_some-2.true))
+pub returns-then-is_some-2 : goal.returns-then-is_some-2
+returns-then-is_some-2 c = record { between = c.requires.between; settled = λ _ _ none. false≢true (sym (ap is_some none) ∙ (sym c.is_some-2.ensures ∙ c.if-is_some-2.true)); kept_a = λ a none. none; kept_b = λ b none. none }
 
-pub returns-then-net-a-clause-settled : goal.returns-then-net-a-clause-settled
-returns-then-net-a-clause-settled c tight = absurd (c.if-net-a.true tight)
+pub returns-then-net-a : goal.returns-then-net-a
+returns-then-net-a c = record { between = c.requires.between; settled = λ tight. absurd (c.if-net-a.true tight); kept_a = λ a none. none; kept_b = λ b none. none }

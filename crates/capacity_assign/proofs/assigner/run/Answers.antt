@@ -21,8 +21,6 @@ returns c =
     let b_is = with_items_is c.args.price_b.now r.new.price_b (omega (arith, r.auto.price_b, c.deref_mut-2.ensures.len)) in
     let link_is = with_items_is c.args.link_a.now r.new.link_a (omega (arith, r.auto.link_a, c.deref_mut-3.ensures.len)) in
     record {
-      between = rw (a_is, b_is, link_is) (rw c.deref.ensures.value at r.ensures.between);
-      places = rw link_is (rw (c.deref.ensures.value, c.deref_mut-3.ensures.value) at r.ensures.places);
-      rows_a = rw a_is (r.auto.price_a ∙ ap length c.deref_mut.ensures.value);
-      rows_b = rw b_is (r.auto.price_b ∙ ap length c.deref_mut-2.ensures.value);
+      advances = rw (a_is, b_is, link_is) (rw (c.deref.ensures.value, c.deref_mut-3.ensures.value) at r.ensures);
+      rows = (rw a_is (r.auto.price_a ∙ ap length c.deref_mut.ensures.value), rw b_is (r.auto.price_b ∙ ap length c.deref_mut-2.ensures.value));
     }

@@ -1,6 +1,7 @@
 use Rattle.std.proofs.Common.{Some, ◌≡◌, ◌<◌, None, length, refl, ap, sym, ◌∙◌, arith}
 use Rattle.std.proofs.lemmas.List.{get_or_default}
 use Rattle.assignment_steps.specs.Market.{link, number}
+use Rattle.assignment_steps.specs.ReachedLaws.{room_kept}
 use Rattle.capacity_assign.specs.Growth.{growth}
 use Rattle.capacity_assign.specs.Seating.{IsLastSeat}
 use Rattle.capacity_assign.proofs.Growing.{grown_holding, last_past, last_within, past_more, steps_fewer, tree_let_go}
@@ -19,7 +20,7 @@ loop-next-init c =
       held = ap (λ t. t.held) rest;
       current = ap (λ t. t.reached.current) rest;
       tree = c.hold.ensures.tree;
-      room = rw rest (record { of_a = r.of_a; of_rank = r.of_rank; of_b = r.of_b; of_from = r.of_from; touched = r.touched; touched_room = r.touched_room; top = r.top; records = r.records; records_room = r.records_room; top_a = r.top_a; records_in = r.records_in; touched_in = r.touched_in });
+      room = rw rest (room_kept _ _ c.args.tree.now.reached _ _ _ _ r);
       fits = rw rest c.requires.queue;
       work = rw rest (omega arith);
       queue = rw rest (omega arith);
@@ -45,13 +46,9 @@ join_seat-requires c =
     let i = c.loop-next.invariant in
     let w = i.within c.in-Some.n c.in-Some.is in
     record {
-      ready = c.requires.ready;
-      rising = c.requires.rising;
       seat = w.0;
       owned = i.held ∙ ap Some (sym w.1);
-      tree = i.tree;
-      room = i.room;
-      queue = i.fits;
+      grows = record { ready = c.requires.ready; tree = i.tree; room = i.room; queue = i.fits };
     }
 
 pub index-next-requires-in-Some : goal.index-next-requires-in-Some
@@ -75,18 +72,19 @@ loop-next-preserved c =
     let n = c.in-Some.n in
     let i = c.loop-next.invariant in
     let e = c.join_seat.ensures in
+    let g = e.grows in
     let w = i.within n c.in-Some.is in
     let there : n < length s.earlier.items = omega (arith, w.0, c.requires.ready.seated.room, c.requires.ready.seated.earliers) in
     let is : link s.earlier.items n ≡ c.index-next-in-Some.result.now = get_or_default s.earlier.items n None c.index-next-in-Some.result.now there ∙ sym c.index-next-in-Some.ensures in
     let last : IsLastSeat s.owner.items n c.args.near.position c.index-next-in-Some.result.now = rw (is, w.1) at (c.requires.ready.seated.chains.earlier n w.0) in
     record {
-      held = e.held ∙ i.held;
+      held = g.held ∙ i.held;
       current = e.current ∙ i.current;
-      tree = e.tree;
-      room = e.room;
-      fits = omega (arith, e.work, e.queue, i.fits);
-      work = omega (arith, e.work, i.work);
-      queue = omega (arith, e.queue, i.queue);
+      tree = g.tree;
+      room = g.room;
+      fits = omega (arith, g.work, g.queue, i.fits);
+      work = omega (arith, g.work, i.work);
+      queue = omega (arith, g.queue, i.queue);
       within = λ m q. (let p = last_within s.owner.items n c.args.near.position c.index-next-in-Some.result.now m last q in (omega (arith, p.0, w.0), p.1));
       done = past_more c.args.ground c.loop-next.tree.reached.dist_a.items c.join_seat.new.tree.reached.dist_a.items c.args.near.position n c.index-next-in-Some.result.now c.requires.ready last (rw c.in-Some.is at i.done) e.stays e.joined;
     }
@@ -109,7 +107,7 @@ returns c =
     record {
       tree = tree_let_go c.args.ground 0 (length c.args.ground.field.edges.now) (growth c.loop-next.tree) c.args.near.position i.tree i.held (λ k on ends. rw c.in_default.is at i.done k on ends tt);
       held = refl;
-      room = record { of_a = r.of_a; of_rank = r.of_rank; of_b = r.of_b; of_from = r.of_from; touched = r.touched; touched_room = r.touched_room; top = r.top; records = r.records; records_room = r.records_room; top_a = r.top_a; records_in = r.records_in; touched_in = r.touched_in };
+      room = r;
       work = i.work;
       queue = i.queue;
     }

@@ -4,7 +4,7 @@ use Rattle.capacity_assign.proofs.phases.all_rounds.Goals as goal
 pub loop-root-init : goal.loop-root-init
 loop-root-init c =
     let tight = c.link_tight.ensures in
-    record { between = tight.between; places = tight.places; tree = c.requires.tree }
+    record { advances = record { between = tight.between; places = tight.places }; tree = c.requires.tree }
 
 pub round-requires : goal.round-requires
 round-requires c =
@@ -13,7 +13,7 @@ round-requires c =
       listed = rw c.loop-root.auto.price_a c.requires.listed;
       root = rw c.loop-root.auto.price_a c.loop-root-test.true;
       alike = rw c.loop-root.auto.price_a c.requires.alike;
-      between = i.between;
+      between = i.advances.between;
       tree = i.tree;
     }
 
@@ -21,12 +21,11 @@ pub loop-root-preserved : goal.loop-root-preserved
 loop-root-preserved c =
     let after = c.round.ensures in
     record {
-      between = after.between;
-      places = λ b. after.places b ∙ c.loop-root.invariant.places b;
+      advances = record { between = after.advances.between; places = λ b. after.advances.places b ∙ c.loop-root.invariant.advances.places b };
       tree = after.tree;
     }
 
 pub returns : goal.returns
 returns c =
     let all : c.loop-root.root ≡ length c.loop-root.price_a = omega (arith, c.loop-root-test.false, c.loop-root.auto.root-end, c.loop-root.auto.price_a) in
-    record { between = rw all at c.loop-root.invariant.between; places = c.loop-root.invariant.places }
+    rw all at c.loop-root.invariant.advances

@@ -2,8 +2,8 @@ use Rattle.std.proofs.Common.{◌+◌, refl, ap, sym, ◌∙◌, arith}
 use Rattle.std.proofs.lemmas.Bool.{false≢true}
 use Rattle.std.specs.Option.{is_some}
 use Rattle.assignment_steps.specs.Market.{link}
-use Rattle.assignment_steps.proofs.Taken.{not_linked}
-use Rattle.assignment_steps.proofs.Settled.{one_more_done}
+use Rattle.assignment_steps.specs.LinkLaws.{not_linked}
+use Rattle.assignment_steps.specs.BetweenLaws.{one_more_done}
 use Rattle.capacity_assign.proofs.Rounds.{between_any}
 use Rattle.capacity_assign.proofs.round.round.Goals as goal
 
@@ -12,8 +12,10 @@ returns-then-is_some c =
     let w = c.requires.between in
     let root = c.args.root in
     record {
-      between = between_any _ _ _ _ _ root (root + 1) w (one_more_done _ _ _ _ root (λ a done. done) w.priced.free_a (λ none. absurd (false≢true (sym (ap is_some none) ∙ sym c.if-is_some.ensures))));
-      places = λ b. refl;
+      advances = record {
+        between = between_any _ _ _ _ _ root (root + 1) w (one_more_done _ _ _ _ root (λ a done. done) w.priced.free_a (λ none. absurd (false≢true (sym (ap is_some none) ∙ sym c.if-is_some.ensures))));
+        places = λ b. refl;
+      };
       tree = c.requires.tree;
     }
 
@@ -31,7 +33,6 @@ pub returns : goal.returns
 returns c =
     let t = c.take_up.ensures in
     record {
-      between = between_any _ _ _ _ _ 0 _ t.between (one_more_done _ _ _ _ c.args.root t.kept c.requires.between.priced.free_a t.done);
-      places = t.places;
+      advances = record { between = between_any _ _ _ _ _ 0 _ t.between (one_more_done _ _ _ _ c.args.root t.kept c.requires.between.priced.free_a t.done); places = t.places };
       tree = t.tree;
     }

@@ -1,7 +1,7 @@
 use Rattle.std.proofs.Common.{length, arith}
 use Rattle.capacity_assign.specs.Growth.{growth, with_waiting}
 use Rattle.capacity_assign.specs.Seating.{HasPlace, seating}
-use Rattle.assignment_steps.proofs.Arrived.{done_kept, falls_within, root_done, searchable, stop_free, stop_within, ways_after}
+use Rattle.assignment_steps.specs.StoppedLaws.{done_kept, falls_within, root_done, searchable, stop_free, stop_within, ways_after}
 use Rattle.assignment_steps.specs.Spread.{spread}
 use Rattle.capacity_assign.proofs.Rounds.{between_after, tight_after}
 use Rattle.capacity_assign.proofs.round.take_up.Goals as goal
@@ -13,6 +13,7 @@ search-grown-requires c =
     record {
       ready = record {
         field = searchable _ _ _ w.priced c.requires.listed.begins c.requires.root c.requires.free;
+        rising = c.requires.listed.rising;
         rows_b = omega (arith, w.rows_b, s.left.ok.0);
         lasts = omega (arith, w.seated.lasts, w.rows_b, s.last.ok.0);
         seats = omega (arith, w.seated.sitters, w.priced.rows_a, s.sitter.ok.0);
@@ -20,9 +21,7 @@ search-grown-requires c =
         seated = w.seated;
         alike = c.requires.alike;
       };
-      rising = c.requires.listed.rising;
-      clean = c.requires.tree.clean;
-      queue = c.requires.tree.queue;
+      rest = c.requires.tree;
     }
 
 pub shift-requires : goal.shift-requires
@@ -42,8 +41,8 @@ turn-requires c =
     let s = c.search-grown in
     let w = c.requires.between in
     let g = with_waiting s.ensures.grown.0 (growth s.new.tree) in
-    let falls = c.shift.ensures.price_a in
-    let rises = c.shift.ensures.price_b in
+    let falls = c.shift.ensures.shifts.price_a in
+    let rises = c.shift.ensures.shifts.price_b in
     record {
       in_range = rw (w.priced.rows_a, w.rows_b) w.priced.in_range;
       linked = w.priced.linked;
@@ -52,7 +51,7 @@ turn-requires c =
       root = (omega (arith, c.requires.root, w.priced.rows_a), c.requires.free);
       last = stop_within (spread s.new.tree.reached) (HasPlace c.args.seats.now.left.items) s.result.end s.result.free s.result.last (length c.args.link_a.now) (omega (arith, s.ensures.room.of_a, s.new.tree.reached.dist_a.ok.0, w.priced.rows_a)) s.ensures.grown.1.stopped.stop;
       free = stop_free (spread s.new.tree.reached) (HasPlace c.args.seats.now.left.items) s.result.end s.result.free s.result.last s.ensures.grown.1.stopped.stop;
-      leads = rw (c.deref.ensures.value, c.deref-2.ensures.value, c.shift.ensures.from, c.shift.ensures.rank)
+      leads = rw (c.deref.ensures.value, c.deref-2.ensures.value, c.shift.ensures.shifts.from, c.shift.ensures.shifts.rank)
           (ways_after _ g.spread _ s.result.end s.result.free s.result.last c.shift.new.price_a c.shift.new.price_b s.ensures.ready.field s.ensures.grown.1.tree.spread s.ensures.grown.1.stopped falls rises);
     }
 
@@ -61,8 +60,8 @@ returns c =
     let s = c.search-grown in
     let t = c.turn.ensures in
     let g = with_waiting s.ensures.grown.0 (growth s.new.tree) in
-    let falls = c.shift.ensures.price_a in
-    let rises = c.shift.ensures.price_b in
+    let falls = c.shift.ensures.shifts.price_a in
+    let rises = c.shift.ensures.shifts.price_b in
     record {
       between = between_after _ g s.result.end s.result.free s.result.last c.shift.new.price_a c.shift.new.price_b s.ensures.ready s.ensures.grown.1 falls rises
           c.turn.new.link_a (seating c.turn.new.seats) c.requires.listed.small c.requires.between c.shift.auto.price_a c.shift.auto.price_b t.turned.count t.rows_b t.linked t.tight t.seats t.vacant t.places;
@@ -71,6 +70,6 @@ returns c =
       done = root_done _ g.spread _ s.result.end s.result.free s.result.last c.shift.new.price_a c.shift.new.price_b s.ensures.ready.field s.ensures.grown.1.tree.spread s.ensures.grown.1.stopped falls rises c.turn.new.link_a t.turned;
       tree = record {
         clean = rw (c.shift.auto.price_a, c.shift.auto.price_b) c.shift.ensures.clean;
-        queue = omega (arith, c.requires.tree.queue, s.ensures.queue, c.shift.ensures.queue);
+        queue = omega (arith, c.requires.tree.queue, s.ensures.queue, c.shift.ensures.shifts.queue);
       };
     }

@@ -5,9 +5,9 @@ use Rattle.price_check.specs.PlaceLaws.{place_there}
 use Rattle.assignment_steps.specs.Market.{edge, number}
 use Rattle.capacity_assign.specs.Seating.{HasHole, seating}
 use Rattle.capacity_assign.proofs.Links.{free_record_counts, linked_parted}
-use Rattle.assignment_steps.proofs.Links.{link-set}
+use Rattle.assignment_steps.specs.LinkLaws.{link-set}
 use Rattle.capacity_assign.proofs.Seating.{hole_parted, places_after_added, places_after_parted, free_records_after_parted, seats_after_added, seats_after_parted, vacant_after_added}
-use Rattle.assignment_steps.proofs.Leading.{leads_parted}
+use Rattle.assignment_steps.specs.WaysLaws.{leads_parted}
 use Rattle.capacity_assign.proofs.round.turn.Goals as goal
 
 pub add_seat-seat-requires : goal.add_seat-seat-requires
@@ -57,7 +57,7 @@ returns-in-Some c =
       seats = rw (with_items_is t.seat c.walk.new.seat (omega (arith, c.walk.auto.seat, c.deref_mut.ensures.len)), with_items_is t.sitter c.walk.new.sitter (omega (arith, c.walk.auto.sitter, c.deref_mut-in-Some.ensures.len))) (seats_after_added es la c.walk.new.link_a (seating c.args.seats.now) (seating t) b c.walk.new.seat c.walk.new.sitter c.requires.seats adds (place_there left b some) (free_record_counts la c.args.ways.root c.requires.root.0 c.requires.root.1) w.rows_a w.room
           (rw c.deref_mut.ensures.value at c.walk.auto.seat) (rw c.deref_mut-in-Some.ensures.value at c.walk.auto.sitter)
           (λ h. w.seated t.owner.items t.count (rw (c.deref_mut.ensures.value, c.deref_mut-in-Some.ensures.value, c.add_seat-seat.ensures.next) h)));
-      turned = record { count = w.rows_a; of_root = λ none. absurd (w.root none); still = λ a none. inl (w.still_a a none) };
+      turned = record { count = w.rows_a; of_root = λ none. absurd (w.root_linked none); still = λ a none. inl (w.still_a a none) };
       vacant = λ x more. vacant_after_added left b some x (rw adds.left at more);
       places = rw adds.left (places_after_added es la c.walk.new.link_a left b some w.places);
     }
@@ -138,7 +138,7 @@ returns c =
           (w.seated s.owner.items s.count (rw (c.deref_mut-2.ensures.value, c.deref_mut-3.ensures.value) h)));
       turned = record {
         count = w.rows_a ∙ length-set la last None;
-        of_root = λ none. absurd (w.root none);
+        of_root = λ none. absurd (w.root_linked none);
         still = λ a none. elim (link-set la last a None inside) [
           | inl p ↦ inr (ap is_some c.in_default.is, p.0)
           | inr p ↦ inl (sym p.1 ∙ w.still_a a none)

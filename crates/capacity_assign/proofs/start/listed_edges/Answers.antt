@@ -1,4 +1,4 @@
-use Rattle.assignment_steps.proofs.EdgesOf.{rising_edges}
+use Rattle.assignment_steps.specs.CandidatesLaws.{rising_edges}
 use Rattle.capacity_assign.proofs.start.listed_edges.Goals as goal
 
 pub starts_of-requires-clause-rising : goal.starts_of-requires-clause-rising

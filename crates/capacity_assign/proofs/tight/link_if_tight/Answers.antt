@@ -5,7 +5,7 @@ use Rattle.std.specs.Option.{is_some}
 use Rattle.assignment_steps.specs.Market.{edge, link, number}
 use Rattle.capacity_assign.specs.Seating.{seating}
 use Rattle.capacity_assign.proofs.FirstLinks.{between_linked, places_linked, still_none}
-use Rattle.assignment_steps.proofs.Taken.{none_before, not_linked}
+use Rattle.assignment_steps.specs.LinkLaws.{none_before, not_linked}
 use Rattle.capacity_assign.proofs.Links.{free_record_counts}
 use Rattle.capacity_assign.proofs.tight.link_if_tight.Goals as goal
 
@@ -94,7 +94,7 @@ returns c =
     let old = c.args.seats.now in
     let t = c.add_seat-free.new.seats in
     let adds = c.add_seat-free.ensures.adds in
-    let r = c.reseat.ensures.reseats in
+    let r = c.reseat.ensures in
     let none : link la e.a ≡ None = not_linked (link la e.a) (sym c.if-is_some.ensures) in
     let ra : e.a < length la = omega (arith, w.priced.in_range.record_a k c.requires.place, w.priced.rows_a) in
     let there : e.b < length old.left.items = omega (arith, w.priced.in_range.record_b k c.requires.place, w.rows_b) in

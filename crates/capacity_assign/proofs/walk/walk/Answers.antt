@@ -38,12 +38,10 @@ reseat-requires c =
     }
 
 pub loop-left-smaller : goal.loop-left-smaller
-loop-left-smaller c = walking_smaller _ _ _ _ _ _ _ _ _ _ _ _ _ _ _ _ _ _ c.requires.in_range c.loop-left.invariant c.in-Some.ensures.reseats
+loop-left-smaller c = walking_smaller _ _ _ _ _ _ _ _ _ _ _ _ _ _ _ _ _ _ c.requires.in_range c.loop-left.invariant c.in-Some.ensures
 
 pub loop-left-preserved : goal.loop-left-preserved
-loop-left-preserved c = walking_more _ _ _ _ _ _ _ _ _ _ _ _ _ _ _ _ _ _ c.requires.in_range c.loop-left.invariant c.in-Some.ensures.reseats
+loop-left-preserved c = walking_more _ _ _ _ _ _ _ _ _ _ _ _ _ _ _ _ _ _ c.requires.in_range c.loop-left.invariant c.in-Some.ensures
 
 pub returns : goal.returns
-returns c =
-    let e = walked _ _ _ _ _ _ _ _ _ _ _ _ _ _ _ _ _ c.requires.in_range c.loop-left.invariant c.in_default.ensures.reseats in
-    record { rows_a = e.rows_a; linked = e.linked; tight = e.tight; root = e.root_linked; still_a = e.still_a; places = e.places; room = e.room; seated = e.seated }
+returns c = walked _ _ _ _ _ _ _ _ _ _ _ _ _ _ _ _ _ c.requires.in_range c.loop-left.invariant c.in_default.ensures

@@ -2,7 +2,7 @@ use Rattle.std.proofs.Common.{length, sym, ap, ◌∙◌}
 use Rattle.assignment_steps.specs.Candidates.{edges_of}
 use Rattle.capacity_assign.specs.Seating.{seating}
 use Rattle.capacity_assign.specs.Start.{IsAtStart}
-use Rattle.assignment_steps.proofs.EdgesOf.{range_edges, small_edges, rising_edges}
+use Rattle.assignment_steps.specs.CandidatesLaws.{range_edges, small_edges, rising_edges}
 use Rattle.capacity_assign.proofs.Final.{between_first, places_first}
 use Rattle.capacity_assign.proofs.assigner.CapacityAssigner.new.Goals as goal
 
@@ -36,8 +36,5 @@ invariant_of-result c =
       places = λ b. rw (made, start.links, places) (places_first cs c.args.rows_a ns (seating s.seats) b start.seats);
       rows_a = reach.records;
       rows_b = rw places closed.records;
-      tree = record {
-        clean = rw (reach.records, closed.records) start.clean;
-        queue = rw made start.queue;
-      };
+      tree = rw (reach.records, closed.records, made) start.rest;
     }

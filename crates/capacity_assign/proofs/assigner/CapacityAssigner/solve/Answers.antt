@@ -14,13 +14,13 @@ pub run-requires : goal.run-requires
 run-requires c = (let i = c.self.invariant in record { listed = i.listed; between = i.between; alike = i.alike; tree = i.tree })
 
 pub linked-links-requires : goal.linked-links-requires
-linked-links-requires c = rw (c.deref.ensures.value, c.deref-2.ensures.value) (record { links = λ a k h. (c.run.ensures.between.priced.linked a k h).0 })
+linked-links-requires c = rw (c.deref.ensures.value, c.deref-2.ensures.value) (record { links = λ a k h. (c.run.ensures.advances.between.priced.linked a k h).0 })
 
 pub invariant_of-result : goal.invariant_of-result
 invariant_of-result c =
     let r = c.run.new in (
-      λ k d lt. omega (arith, get_or_default r.price_a.items k d 0 lt, c.run.ensures.between.priced.small_a k),
-      λ k d lt. omega (arith, get_or_default r.price_b.items k d 0 lt, c.run.ensures.between.priced.small_b k),
+      λ k d lt. omega (arith, get_or_default r.price_a.items k d 0 lt, c.run.ensures.advances.between.priced.small_a k),
+      λ k d lt. omega (arith, get_or_default r.price_b.items k d 0 lt, c.run.ensures.advances.between.priced.small_b k),
     )
 
 pub returns-clause-certified : goal.returns-clause-certified
@@ -28,8 +28,8 @@ returns-clause-certified c =
     let cs = c.self.inside.candidates.items in
     let ns = c.self.inside.capacity.items in
     let r = c.run.new in
-    let w : IsBetweenRounds (edges_of cs) r.price_a.items r.price_b.items r.link_a.items (seating r.seats) (length r.price_a.items) = rw c.self.invariant.edges at c.run.ensures.between in
-    let places : (b : ℕ) → number r.seats.left.items b + linked_at (edges_of cs) r.link_a.items b ≡ capacity_of ns b = rw c.self.invariant.edges at (λ (b : ℕ). c.run.ensures.places b ∙ c.self.invariant.places b) in
+    let w : IsBetweenRounds (edges_of cs) r.price_a.items r.price_b.items r.link_a.items (seating r.seats) (length r.price_a.items) = rw c.self.invariant.edges at c.run.ensures.advances.between in
+    let places : (b : ℕ) → number r.seats.left.items b + linked_at (edges_of cs) r.link_a.items b ≡ capacity_of ns b = rw c.self.invariant.edges at (λ (b : ℕ). c.run.ensures.advances.places b ∙ c.self.invariant.places b) in
     let e : c.linked-links.result.items ≡ filter (is_linked (edges_of cs) r.link_a.items) cs = rw (c.deref.ensures.value, c.deref-2.ensures.value, c.self.invariant.edges) at c.linked-links.ensures in
     let view : c.args.self.candidates ≡ cs = ap (λ (v : Problem). v.candidates) (sym c.self.view_is) in
     let view_n : c.args.self.capacities ≡ ns = ap (λ (v : Problem). v.capacities) (sym c.self.view_is) in
@@ -40,15 +40,15 @@ returns-clause-greatest c =
     let cs = c.self.inside.candidates.items in
     let ns = c.self.inside.capacity.items in
     let r = c.run.new in
-    let w : IsBetweenRounds (edges_of cs) r.price_a.items r.price_b.items r.link_a.items (seating r.seats) (length r.price_a.items) = rw c.self.invariant.edges at c.run.ensures.between in
-    let places : (b : ℕ) → number r.seats.left.items b + linked_at (edges_of cs) r.link_a.items b ≡ capacity_of ns b = rw c.self.invariant.edges at (λ (b : ℕ). c.run.ensures.places b ∙ c.self.invariant.places b) in
+    let w : IsBetweenRounds (edges_of cs) r.price_a.items r.price_b.items r.link_a.items (seating r.seats) (length r.price_a.items) = rw c.self.invariant.edges at c.run.ensures.advances.between in
+    let places : (b : ℕ) → number r.seats.left.items b + linked_at (edges_of cs) r.link_a.items b ≡ capacity_of ns b = rw c.self.invariant.edges at (λ (b : ℕ). c.run.ensures.advances.places b ∙ c.self.invariant.places b) in
     let e : c.linked-links.result.items ≡ filter (is_linked (edges_of cs) r.link_a.items) cs = rw (c.deref.ensures.value, c.deref-2.ensures.value, c.self.invariant.edges) at c.linked-links.ensures in
     let view : c.args.self.candidates ≡ cs = ap (λ (v : Problem). v.candidates) (sym c.self.view_is) in
     let view_n : c.args.self.capacities ≡ ns = ap (λ (v : Problem). v.capacities) (sym c.self.view_is) in
     rw (view, view_n, e) (c.certified_within_is_greatest.ensures cs ns _ _ _ (within cs ns r.price_a.items r.price_b.items r.link_a.items (seating r.seats) c.self.invariant.order w places) (certifies cs ns r.price_a.items r.price_b.items r.link_a.items (seating r.seats) c.self.invariant.order w places))
 
 pub returns-clause-rows_a : goal.returns-clause-rows_a
-returns-clause-rows_a c = length-map c.run.new.price_a.items pos ∙ (c.run.ensures.rows_a ∙ (c.self.invariant.rows_a ∙ ap (λ (v : Problem). v.rows_a) c.self.view_is))
+returns-clause-rows_a c = length-map c.run.new.price_a.items pos ∙ (c.run.ensures.rows.0 ∙ (c.self.invariant.rows_a ∙ ap (λ (v : Problem). v.rows_a) c.self.view_is))
 
 pub returns-clause-rows_b : goal.returns-clause-rows_b
-returns-clause-rows_b c = length-map c.run.new.price_b.items pos ∙ (c.run.ensures.rows_b ∙ (c.self.invariant.rows_b ∙ ap (λ (v : Problem). length v.capacities) c.self.view_is))
+returns-clause-rows_b c = length-map c.run.new.price_b.items pos ∙ (c.run.ensures.rows.1 ∙ (c.self.invariant.rows_b ∙ ap (λ (v : Problem). length v.capacities) c.self.view_is))

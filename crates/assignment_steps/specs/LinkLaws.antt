@@ -1,9 +1,12 @@
--- What turning one link round does to a matching.
-use Rattle.std.proofs.Common.{◌≡◌, ◌≢◌, ◌⊎◌, ℕ, ◌<◌, List, length, set, Option, Some, None, refl, ap, sym, ◌∙◌, inl, inr, get_or-set_other, get_or-set_same}
-use Rattle.std.proofs.lemmas.Bool.{cases_eq, cases_lt}
-use Rattle.std.proofs.lemmas.List.{get_or_past}
+-- Laws of links (`link`, `IsMatched`, `AreLinked`, `AreTight`): what one link that is taken or given up does to them. Both
+-- assigners cite them.
+use Rattle.std.proofs.Common.{◌≡◌, ◌≢◌, ◌⊎◌, ℕ, ◌<◌, List, length, set, Option, Some, None, refl, ap, sym, ◌∙◌, inl, inr, get_or-set_other, get_or-set_same, false, arith, true}
+use Rattle.std.proofs.lemmas.Bool.{cases_eq, cases_lt, false≢true}
+use Rattle.std.proofs.lemmas.List.{get_or_past, get_or-replicate, length-replicate}
 use Rattle.assignment_steps.specs.declared.market.Edge.{Edge}
-use Rattle.assignment_steps.specs.Market.{IsMatched, link, edge}
+use Rattle.assignment_steps.specs.Market.{IsMatched, link, edge, AreLinked, AreTight, IsTight}
+use Rattle.std.specs.Option.{is_some}
+use Rattle.std.specs.Prelude.{replicate}
 
 -- a link, or none
 pub link_cases : (l : List (Option ℕ)) (r : ℕ) → (link l r ≡ None) ⊎ ((k : ℕ) × (link l r ≡ Some k))
@@ -78,3 +81,29 @@ matched_parted es la lb j m ra rb on = record {
 -- no link agrees with no link
 pub none_matched : (es : List Edge) (la lb : List (Option ℕ)) → ((a : ℕ) → link la a ≡ None) → ((b : ℕ) → link lb b ≡ None) → IsMatched es la lb
 none_matched es la lb none_a none_b = record { of_a = λ a k h. absurd (let clash : None ≡ Some k = sym (none_a a) ∙ h in cc); of_b = λ b k h. absurd (let clash : None ≡ Some k = sym (none_b b) ∙ h in cc) }
+
+pub none_linked : (n r : ℕ) → link (replicate n None) r ≡ None
+none_linked n r = elim (cases_lt r n) [ inl lt ↦ get_or-replicate n r None None lt | inr past ↦ get_or_past (replicate n None) r None (omega (arith, length-replicate {A = Option ℕ} n None)) ]
+
+-- what is tight stays so where a record takes a tight edge
+pub tight_joined : (es : List Edge) (pa pb : List ℕ) (la : List (Option ℕ)) (k : ℕ) → (edge es k).a < length la → AreTight es pa pb la → IsTight es pa pb k → AreTight es pa pb (set la (edge es k).a (Some k))
+tight_joined es pa pb la k ra tight here i h =
+    elim (link-set la (edge es k).a (edge es i).a (Some k) ra) [
+      | inl p ↦ (let same : k ≡ i = cc in rw (← same) here)
+      | inr p ↦ tight i (sym p.1 ∙ h)
+    ]
+
+-- a record without a link after one write of a link had none before
+pub none_before : (l : List (Option ℕ)) (i r k : ℕ) → i < length l → link (set l i (Some k)) r ≡ None → link l r ≡ None
+none_before l i r k lt none = elim (link-set l i r (Some k) lt) [ inl p ↦ absurd (let clash : Some k ≡ None = sym p.1 ∙ none in cc) | inr p ↦ sym p.1 ∙ none ]
+
+-- the record of A of edge k takes it
+pub linked_joined : (es : List Edge) (la : List (Option ℕ)) (k : ℕ) → AreLinked es la → k < length es → (edge es k).a < length la → AreLinked es (set la (edge es k).a (Some k))
+linked_joined es la k h lt ra a j on = elim (link-set la (edge es k).a a (Some k) ra) [
+  | inl p ↦ (let same : k ≡ j = cc in rw (← same) (lt, sym p.0))
+  | inr p ↦ h a j (sym p.1 ∙ on)
+]
+
+pub not_linked : (x : Option ℕ) → is_some x ≡ false → x ≡ None
+not_linked None h = refl
+not_linked (Some k) h = absurd (false≢true (sym h))

@@ -1,11 +1,12 @@
--- Candidates as edges, and the candidates that are linked.
+-- Laws of candidates as edges (`edges_of`), of those that are linked (`is_linked`) and of prices as integers (`prices_of`). Both
+-- assigners cite them.
 use Rattle.std.proofs.Common.{◌≡◌, ℕ, zero, suc, ◌<◌, ◌≤◌, ℤ, pos, negsuc, ◌≤ℤ◌, List, [], ◌∷◌, length, get_or, Option, Some, None, true, refl, ap, ◌∙◌, inl, inr, arith}
-use Rattle.std.specs.Prelude.{replicate, All, AllPairs, Contains}
+use Rattle.std.specs.Prelude.{All, AllPairs, Contains}
 use Rattle.std.specs.List.{cons_option}
 use Rattle.std.proofs.lemmas.Bool.{cases_lt, false≢true}
 use Rattle.std.proofs.lemmas.Bool.Decides.{nat_tests}
 use Rattle.std.proofs.lemmas.Int.{ints}
-use Rattle.std.proofs.lemmas.List.{get_or_past, get_or-replicate, length-replicate}
+use Rattle.std.proofs.lemmas.List.{get_or_past}
 use Rattle.std.proofs.lemmas.List.Elements.{All-cons, All-nil, All-contains}
 use Rattle.link_base.specs.declared.rule.Candidate.{Candidate}
 use Rattle.assignment_steps.specs.declared.market.Edge.{Edge}
@@ -106,9 +107,3 @@ rising_edges [] h = λ i j le lt. absurd (omega (arith, lt))
 rising_edges (c ∷ cs) h = rising_head c (edges_of cs)
     (λ j lt. (let d = edge_kept cs j lt in rw (← d.1.1.record_a) (before_le c d.0 (All-contains (IsBefore c) cs d.0 (λ k e l. h zero (suc k) e (omega arith) (omega arith)) d.1.0))))
     (rising_edges cs (λ i j e l m. h (suc i) (suc j) e (omega arith) (omega arith))) (edge_from c) refl
-
-pub none_linked : (n r : ℕ) → link (replicate n None) r ≡ None
-none_linked n r = elim (cases_lt r n) [ inl lt ↦ get_or-replicate n r None None lt | inr past ↦ get_or_past (replicate n None) r None (omega (arith, length-replicate {A = Option ℕ} n None)) ]
-
-pub all_zero : (n r : ℕ) → number (replicate n 0) r ≡ 0
-all_zero n r = elim (cases_lt r n) [ inl lt ↦ get_or-replicate n r 0 0 lt | inr past ↦ get_or_past (replicate n 0) r 0 (omega (arith, length-replicate {A = ℕ} n 0)) ]

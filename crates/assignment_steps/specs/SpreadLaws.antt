@@ -1,5 +1,5 @@
--- What a step of a search keeps of all that it has reached.
-use Rattle.std.proofs.Common.{◌≡◌, ◌≢◌, ◌⊎◌, ℕ, zero, ◌+◌, ◌<◌, ◌≤◌, min, Bool, List, [], ◌∷◌, ◌++◌, length, set, Some, refl, ap, sym, ◌∙◌, inl, inr, arith, get_or-set_other, get_or-set_same}
+-- Laws of all that a search has reached (`IsSpread`): what a step of the search keeps of it. Both assigners cite them.
+use Rattle.std.proofs.Common.{◌≡◌, ◌≢◌, ◌⊎◌, ℕ, ◌+◌, ◌<◌, ◌≤◌, min, Bool, List, [], ◌∷◌, ◌++◌, length, set, Some, refl, ap, sym, ◌∙◌, inl, inr, arith, get_or-set_other, get_or-set_same}
 use Rattle.std.specs.Prelude.{All, Contains}
 use Rattle.std.proofs.lemmas.Bool.{cases_eq, cases_lt}
 use Rattle.std.proofs.lemmas.List.{length-set, length_push}
@@ -10,8 +10,8 @@ use Rattle.assignment_steps.specs.Market.{link, number}
 use Rattle.assignment_steps.specs.Distances.{distance, far}
 use Rattle.assignment_steps.specs.Reached.{Waits, noted}
 use Rattle.assignment_steps.specs.Spread.{Spread, IsNearer, IsNearest, IsReached, IsRelaxed, IsSearchable, IsSpread, Joins, Shortens, edge_of, paid, rank_above, waits_for}
-use Rattle.assignment_steps.proofs.Noted.{noted_first, noted_stays}
-use Rattle.assignment_steps.proofs.OneWrite.{distance-set}
+use Rattle.assignment_steps.specs.ReachedLaws.{noted_first, noted_stays}
+use Rattle.assignment_steps.specs.DistanceLaws.{distance-set}
 
 -- only what is relaxed speaks of the record whose edges are not relaxed yet, and of the place
 pub spread_marked : (f : Field) (position next position' next' : ℕ) (s : Spread) → IsSpread f position next s → ((k : ℕ) → k < length f.edges.now → distance s.da (edge_of f k).a < far → ((edge_of f k).a ≡ position' → k < next') → IsRelaxed f s k) → IsSpread f position' next' s
@@ -78,9 +78,6 @@ spread_waiting f position next s waiting current t now low late = record {
   noted_a = t.noted_a;
   noted_b = t.noted_b;
 }
-
-pub cons_first : (y : ℕ × ℕ) (ys : List (ℕ × ℕ)) → Contains (y ∷ ys) y
-cons_first y ys = (zero, omega arith, refl)
 
 -- an entry that was taken as a nearest one
 pub nearest_taken : (old : List (ℕ × ℕ)) (n : Near) (waiting : List (ℕ × ℕ)) → Contains old (n.distance, n.position) → All (λ (x : ℕ × ℕ). n.distance ≤ x.0) waiting → ((x : ℕ × ℕ) → Contains old x → Contains waiting x ⊎ (x ≡ (n.distance, n.position))) → IsNearest old n

@@ -1,5 +1,5 @@
--- From edges back to candidates: prices of edges cover the candidates, the linked ones are tight, and they are those of
--- the links.
+-- Laws from edges back to candidates: prices of edges cover the candidates, the linked ones are tight, and they are those of
+-- the links. Both assigners cite them.
 use Rattle.std.proofs.Common.{◌≡◌, ◌≢◌, ℕ, zero, suc, ◌+◌, ◌≤◌, ℤ, pos, negsuc, ◌+ℤ◌, ◌≤ℤ◌, List, length, get_or, Option, Some, Bool, true, filter, refl, ap, sym, ◌∙◌, inl, inr, arith}
 use Rattle.std.specs.Prelude.{All, AllPairs, Contains}
 use Rattle.std.proofs.lemmas.Bool.{cases_lt}
@@ -15,8 +15,8 @@ use Rattle.assignment_steps.specs.declared.market.Edge.{Edge}
 use Rattle.assignment_steps.specs.Market.{link, edge, number}
 use Rattle.assignment_steps.specs.Between.{IsPriced}
 use Rattle.assignment_steps.specs.Candidates.{edges_of, is_linked, prices_of}
-use Rattle.assignment_steps.proofs.Links.{link_cases}
-use Rattle.assignment_steps.proofs.EdgesOf.{IsLinkedBy, edge_kept, edge_made, is_linked_from, linked_by, price_of-prices}
+use Rattle.assignment_steps.specs.LinkLaws.{link_cases}
+use Rattle.assignment_steps.specs.CandidatesLaws.{IsLinkedBy, edge_kept, edge_made, is_linked_from, linked_by, price_of-prices}
 
 module _ (cs : List Candidate) (pa pb : List ℕ) (la : List (Option ℕ)) (IsFree : ℕ → Type 0) (rising : AllPairs IsBefore cs) (w : IsPriced (edges_of cs) pa pb la IsFree (length pa)) where
   abbrev es : List Edge

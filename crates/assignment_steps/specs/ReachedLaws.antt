@@ -1,4 +1,5 @@
--- The records that are noted where they are reached for the first time, and the room for them.
+-- Laws of the records that a search notes where it reaches them for the first time (`noted`), and of the room for them
+-- (`HasRoomForRecords`). Both assigners cite them.
 use Rattle.std.proofs.Common.{◌≡◌, ◌≢◌, ◌⊎◌, ℕ, ◌+◌, ◌<◌, List, [], ◌∷◌, ◌++◌, length, set, refl, ap, inl, inr, arith}
 use Rattle.std.specs.Prelude.{All, Contains, vec_len}
 use Rattle.std.proofs.lemmas.Bool.{cases_eq, eq-eqb, ne_eqb}
@@ -8,7 +9,7 @@ use Rattle.assignment_steps.specs.declared.reaching.Reached.{Reached}
 use Rattle.assignment_steps.specs.Queue.{Queue}
 use Rattle.assignment_steps.specs.Distances.{distance, far, unreached}
 use Rattle.assignment_steps.specs.Reached.{HasRoomForRecords, noted}
-use Rattle.assignment_steps.proofs.Count.{unreached-again, unreached-set}
+use Rattle.assignment_steps.specs.DistanceLaws.{unreached-again, unreached-set}
 
 module _ (dist touched : List ℕ) (b : ℕ) where
   -- a record of B is noted, or was reached before
@@ -40,9 +41,9 @@ room_at rows_a rows_b a b r same_a same_b room = rw (same_a, same_b) room
 pub room_own : (rows_a rows_b : ℕ) (r : Reached) → HasRoomForRecords rows_a rows_b r → HasRoomForRecords (vec_len r.dist_a) (vec_len r.dist_b) r
 room_own rows_a rows_b r room = room_at rows_a rows_b (vec_len r.dist_a) (vec_len r.dist_b) r room.of_a room.of_b room
 
--- room for records is not that of the queue
-pub room_queued : (rows_a rows_b : ℕ) (r : Reached) (q : Queue) → HasRoomForRecords rows_a rows_b r → HasRoomForRecords rows_a rows_b (record r { frontier = q })
-room_queued rows_a rows_b r q room = record {
+-- room for records is not that of the queue, and does not speak of ends
+pub room_kept : (rows_a rows_b : ℕ) (r : Reached) (q : Queue) (current best best_record : ℕ) → HasRoomForRecords rows_a rows_b r → HasRoomForRecords rows_a rows_b (record r { frontier = q; current = current; best = best; best_record = best_record })
+room_kept rows_a rows_b r q current best best_record room = record {
   of_a = room.of_a;
   of_rank = room.of_rank;
   of_b = room.of_b;

@@ -1,4 +1,4 @@
--- Ways to a root.
+-- Laws of ways to a root (`Leads`, `LeadsFrom`). Both assigners cite them.
 use Rattle.std.proofs.Common.{◌≡◌, ◌≢◌, ℕ, zero, suc, ◌<◌, List, set, Option, Some, None, ap, sym, ◌∙◌, inl, inr, arith, get_or-set_other}
 use Rattle.assignment_steps.specs.declared.market.Edge.{Edge}
 use Rattle.assignment_steps.specs.Market.{link, edge, number}

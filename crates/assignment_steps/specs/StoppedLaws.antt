@@ -1,4 +1,4 @@
--- What the change of prices at the end of a search does, whatever it ended at.
+-- Laws of a search that has stopped (`HasStopped`): what the change of prices does at its end. Both assigners cite them.
 use Rattle.std.proofs.Common.{◌≡◌, ℕ, zero, suc, ◌+◌, ◌-◌, ◌<◌, ◌≤◌, List, length, Option, Some, None, MatchOption, ap, sym, ◌∙◌, inl, inr, arith}
 use Rattle.std.specs.Prelude.{IsNone}
 use Rattle.std.proofs.lemmas.Bool.{cases_lt}

@@ -1,16 +1,11 @@
--- How many edges are not relaxed yet.
+-- Laws of how many edges are not relaxed yet (`left`), by which a search ends. Both assigners cite them.
 use Rattle.std.proofs.Common.{◌≡◌, ◌≢◌, ◌⊎◌, ℕ, zero, suc, ◌+◌, ◌<◌, ◌≤◌, Bool, true, false, cond, List, [], ◌∷◌, length, set, refl, inl, inr, arith, get_or-set_other, get_or-set_same}
-use Rattle.std.specs.Prelude.{◌==◌}
-use Rattle.std.proofs.lemmas.Bool.{cases_eq, eq-eqb, ne_eqb}
-use Rattle.std.proofs.lemmas.List.Sums.{sum_by-set}
+use Rattle.std.proofs.lemmas.Bool.{cases_eq}
 use Rattle.std.proofs.lemmas.Bool.Decides.{nat_tests}
 use Rattle.assignment_steps.specs.declared.market.Edge.{Edge}
 use Rattle.assignment_steps.specs.Market.{edge}
-use Rattle.assignment_steps.specs.Distances.{far, distance, unreached}
+use Rattle.assignment_steps.specs.Distances.{far, distance}
 use Rattle.assignment_steps.specs.Relaxed.{count_at, is_left, left}
-
-abbrev tick : Bool → ℕ
-tick b = cond b 1 0
 
 pub count_same : (t u : Edge → ℕ → Bool) (xs : List Edge) (i : ℕ) → ((k : ℕ) → k < length xs → t (edge xs k) (i + k) ≡ u (edge xs k) (i + k)) → count_at t xs i ≡ count_at u xs i
 count_same t u [] i h = refl
@@ -80,21 +75,3 @@ left_joined es da position last dist lt new near =
       | inl e ↦ rw (e, get_or-set_same da position dist far lt) (grind (arith, nat_tests))
       | inr ne ↦ rw (get_or-set_other da position (edge es k).a dist far ne) (grind (arith, nat_tests))
     ])
-
--- one write of a distance: one record fewer is not reached yet, or as many where it was reached before
-module _ (ds : List ℕ) (position dist : ℕ) (lt : position < length ds) (near : dist < far) where
-  parted : unreached (set ds position dist) + tick (distance ds position == far) ≡ unreached ds
-  parted =
-      let e : unreached (set ds position dist) + tick (distance ds position == far) ≡ unreached ds + tick (dist == far) = sum_by-set (λ (d : ℕ). cond (d == far) 1 0) ds position dist far lt in
-      let off : tick (dist == far) ≡ 0 = rw (ne_eqb dist far (λ e. absurd (omega (arith, e)))) refl in
-      omega (arith, e, off)
-
-  pub unreached-set : distance ds position ≡ far → unreached (set ds position dist) + 1 ≡ unreached ds
-  unreached-set new =
-      let on : tick (distance ds position == far) ≡ 1 = rw (eq-eqb (distance ds position) far new) refl in
-      omega (arith, parted, on)
-
-  pub unreached-again : distance ds position ≢ far → unreached (set ds position dist) ≡ unreached ds
-  unreached-again old =
-      let off : tick (distance ds position == far) ≡ 0 = rw (ne_eqb (distance ds position) far old) refl in
-      omega (arith, parted, off)
