@@ -1,6 +1,7 @@
 pub mod Answers
 pub mod Canons
 pub mod Fault
+pub mod Pieces
 pub mod Ids
 pub mod Region
 pub mod RisingIds
