@@ -2,6 +2,7 @@ pub mod Answers
 pub mod AnswerLaws
 pub mod Canons
 pub mod Fault
+pub mod Pieces
 pub mod Ids
 pub mod Region
 pub mod RisingIds

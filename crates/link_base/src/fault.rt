@@ -1,9 +1,12 @@
 // The faults of a run, with their statuses.
-ghost use Rattle.std.specs.Prelude.{◌≡◌};
-ghost use Rattle.link_base.specs.Fault.{fault_status};
+ghost use Rattle.std.specs.Prelude.{◌≡◌, ◌++◌, OnOk};
+ghost use Rattle.link_base.specs.Fault.{fault_status, fault_text};
+ghost use Rattle.link_base.specs.Pieces.{pieces_text};
 
+use crate::piece::Piece::{File, Name, Number, Row, Words};
+use crate::piece::{Pieces, four, one, push_pieces, three, two};
 use link_texts::{NoMemory, Text};
-use std::alloc::{AllocError, AllocFailed};
+use std::alloc::{AllocError, AllocFailed, Global};
 
 /// Which file a fault is of.
 #[derive(Clone, Copy, PartialEq, Eq)]
@@ -238,4 +241,105 @@ pub fn status_of(fault: &Fault) -> u8
         Fault::SinkFault => 7,
         Fault::NoMemory => 8,
     }
+}
+
+// What is said of a fault.
+fn pieces_of(fault: &Fault) -> Pieces<'_>
+    ensures { pieces_text result ≡ fault_text fault.now }
+{
+    match fault {
+        Fault::Usage => one(Words(b"usage")),
+        Fault::NotToml => one(Words(b"settings: not TOML")),
+        Fault::UnknownKey { key } => two(Words(b"settings: unknown key "), Name(key)),
+        Fault::MissingKey { key } => two(Words(b"settings: missing key "), Name(key)),
+        Fault::WrongType { key } => two(Words(b"settings: wrong type at "), Name(key)),
+        Fault::OutOfRange { key } => two(Words(b"settings: out of range at "), Name(key)),
+        Fault::NoHeader { role } => two(File(*role), Words(b": no header")),
+        Fault::RepeatedColumn { role, column } => four(
+            File(*role),
+            Words(b": column "),
+            Name(column),
+            Words(b" stands twice"),
+        ),
+        Fault::NoColumn { role, column } => {
+            three(File(*role), Words(b": no column "), Name(column))
+        }
+        Fault::TooManyColumns { role, count, limit } => Pieces {
+            first: File(*role),
+            second: Words(b": "),
+            third: Number(u64::from(*count)),
+            fourth: Words(b" columns, limit "),
+            fifth: Number(*limit),
+        },
+        Fault::TooManyRows { role, limit } => four(
+            File(*role),
+            Words(b": more than "),
+            Number(*limit),
+            Words(b" rows"),
+        ),
+        Fault::Ragged { role, row } => two(Row(*role, *row), Words(b"number of fields")),
+        Fault::NotUtf8 { role, row, column } => {
+            three(Row(*role, *row), Name(column), Words(b" is not UTF-8"))
+        }
+        Fault::FieldTooLong { role, row, column } => {
+            three(Row(*role, *row), Name(column), Words(b" is over 255 bytes"))
+        }
+        Fault::EmptyId { role, row } => two(Row(*role, *row), Words(b"empty id")),
+        Fault::RepeatedId { role, row, first } => three(
+            Row(*role, *row),
+            Words(b"id of row "),
+            Number(u64::from(*first)),
+        ),
+        Fault::BadValue { role, row, field } => {
+            three(Row(*role, *row), Name(field), Words(b" is no date"))
+        }
+        Fault::PoolFull { used, limit } => four(
+            Words(b"values: "),
+            Number(*used),
+            Words(b" bytes, limit "),
+            Number(*limit),
+        ),
+        Fault::BadStatus { row } => two(Row(FileRole::Sample, *row), Words(b"status")),
+        Fault::UnknownId { role, row, column } => {
+            three(Row(*role, *row), Words(b"unknown "), Name(column))
+        }
+        Fault::RepeatedPair { row, first } => {
+            let earlier = Number(u64::from(*first));
+            three(Row(FileRole::Sample, *row), Words(b"pair of row "), earlier)
+        }
+        Fault::NoMatched => one(Words(b"sample: no matched pair")),
+        Fault::NoUnmatched => one(Words(b"sample: no unmatched pair")),
+        Fault::TooManyPairs { limit } => two(Words(b"pairs: more than "), Number(*limit)),
+        Fault::BadNumber { row } => two(Row(FileRole::Journal, *row), Words(b"number")),
+        Fault::BadDate { row } => two(Row(FileRole::Journal, *row), Words(b"date")),
+        Fault::DateBack { role, row } => two(Row(*role, *row), Words(b"date goes back")),
+        Fault::EmptyReviewer { row } => two(Row(FileRole::Journal, *row), Words(b"no reviewer")),
+        Fault::BadVerdict { role, row } => two(Row(*role, *row), Words(b"verdict")),
+        Fault::BadStep { row } => two(Row(FileRole::Journal, *row), Words(b"step")),
+        Fault::BadCapacity { row } => two(Row(FileRole::Capacities, *row), Words(b"capacity")),
+        Fault::TooManyEntries { limit } => three(
+            Words(b"journal: more than "),
+            Number(*limit),
+            Words(b" entries"),
+        ),
+        Fault::NotPossible { row } => {
+            two(Row(FileRole::Verdicts, *row), Words(b"not a possible pair"))
+        }
+        Fault::FileTooLong { role, limit } => four(
+            File(*role),
+            Words(b": more than "),
+            Number(*limit),
+            Words(b" bytes"),
+        ),
+        Fault::StoreFault { name } => two(Words(b"store: "), Name(name)),
+        Fault::SinkFault => one(Words(b"output")),
+        Fault::NoMemory => one(Words(b"want of memory")),
+    }
+}
+
+/// Appends the text of a fault: where it is, and what is wrong there.
+pub fn push_fault(alloc: Global, text: &mut Vec<u8>, fault: &Fault) -> Result<(), NoMemory>
+    ensures { OnOk result (text.new.items ≡ text.old.items ++ fault_text fault.now) }
+{
+    push_pieces(alloc, text, pieces_of(fault))
 }

@@ -4,6 +4,7 @@
 
 mod fault;
 mod ids;
+mod piece;
 mod plan;
 mod region;
 mod rising_ids;
@@ -16,7 +17,7 @@ mod sides;
 mod standard;
 mod tables;
 
-pub use fault::{Fault, FileRole, status_of};
+pub use fault::{Fault, FileRole, push_fault, status_of};
 pub use ids::IdSet;
 pub use link_texts::{NoMemory, Text, TextList, push_number};
 pub use plan::{Canon, CompareKind, DateForm, FieldSort, Part, Pass, PassList};

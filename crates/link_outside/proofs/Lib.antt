@@ -1,2 +1,1 @@
 pub mod HeldFacts
-pub mod PartLemmas

@@ -2,5 +2,3 @@ pub mod Outside
 pub mod Holdings
 pub mod Planned
 pub mod Fakes
-pub mod Parts
-pub mod Place

@@ -7,7 +7,6 @@ mod line;
 mod memory_sink;
 mod memory_store;
 mod outside;
-mod piece;
 mod sure;
 
 pub use line::write_fault;
