@@ -3,4 +3,3 @@ pub mod Names
 pub mod Ranges
 pub mod Shape
 pub mod Within
-pub mod WithinParts
