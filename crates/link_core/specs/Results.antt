@@ -1,17 +1,14 @@
 -- What a run comes to: the pairs, the rule, links and prices, and the report, each as its text (`finish`, its lone clause), and the
 -- candidates (`candidates`). Links and prices are a relation: any greatest one-to-one list serves, with any prices that certify it.
-use Rattle.std.specs.Prelude.{◌≡◌, ◌*◌, ◌^◌, ℕ, ℤ, List, length}
-use Rattle.link_limits.specs.declared.TheConstants.{WHOLE_FIELD, WHOLE_RULE}
+use Rattle.std.specs.Prelude.{◌≡◌, ℕ, ℤ, List, length}
 use Rattle.price_check.specs.Assignment.{Certifies, IsGreatest, worth}
 use Rattle.candidate_links.specs.Candidates.{candidates_of}
 use Rattle.candidate_links.specs.Choice.{dropped_of}
-use Rattle.decision_rule.specs.Rule.{lambda_of, mu_of, possible_m_of, possible_u_of}
+use Rattle.decision_rule.specs.Rule.{AreLevelsOf}
 use Rattle.link_base.specs.declared.rule.Candidate.{Candidate}
 use Rattle.link_base.specs.declared.rule.Decision.{Decision}
 use Rattle.link_base.specs.declared.rule.Decision.TheVariants.{Link, NonLink, Possible}
-use Rattle.link_base.specs.declared.rule.Levels.{Levels}
 use Rattle.link_base.specs.declared.rule.PairAt.{PairAt}
-use Rattle.link_base.specs.declared.rule.RuleCell.{RuleCell}
 use Rattle.link_report.specs.LinksText.{text_of_links}
 use Rattle.link_report.specs.PairsText.{text_of_pairs}
 use Rattle.link_report.specs.PricesText.{text_of_prices}
@@ -59,14 +56,6 @@ pub record IsDecidedFor (plan : Plan) (p : PreparedView) (d : DecidedView) : Typ
 -- machinery: decisions keep the row of each compared pair, for those who write them
 abbrev pub KeepsRows : Plan → PreparedView → DecidedView → Type 0
 KeepsRows plan p d = d.rows ≡ decided_rows (rule_in p d) (compared_in plan p.files)
-
--- the attained levels of a rule and its chances of a possible link, as sums over one denominator
-pub record AreLevelsOf (fields : ℕ) (cells : List RuleCell) (levels : Levels) : Type 0 where
-  pub denominator : levels.denominator ≡ WHOLE_FIELD ^ fields * WHOLE_RULE
-  pub mu : levels.mu ≡ mu_of cells
-  pub lambda : levels.lambda ≡ lambda_of cells
-  pub possible_m : levels.possible_m ≡ possible_m_of cells
-  pub possible_u : levels.possible_u ≡ possible_u_of cells
 
 -- the numbers of a report, and the candidates that are not among the links
 pub record IsReportOf (plan : Plan) (files : StandardPair) (rule : FileRule) (entries : List Entry) (links : List Candidate) (r : Report) : Type 0 where
