@@ -8,7 +8,7 @@ use Rattle.std.proofs.lemmas.Slice.Eq.{bytes_eq-Decides}
 use Rattle.value_pool.specs.Texts.{place_among}
 use Rattle.block_passes.specs.IdCodes.{IsIdCode, bytes_of_ids, id_bytes, ids_in_bytes}
 use Rattle.block_passes.specs.Numbering.{with_code}
-use Rattle.block_passes.proofs.TestLemmas.{same-test}
+use Rattle.block_passes.specs.FilterLaws.{same-test}
 
 -- the bytes of each, joined, are those of all
 pub joined-bytes : (ids : List ℕ) → flat_map (λ bytes. bytes) (map id_bytes ids) ≡ bytes_of_ids ids

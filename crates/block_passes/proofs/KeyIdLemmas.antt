@@ -19,7 +19,7 @@ use Rattle.block_passes.specs.PassIds.{all_ids, AreByPart, AreFew, AreFirstIds, 
 use Rattle.block_passes.proofs.IdLemmas.{rows-by-four}
 use Rattle.block_passes.proofs.PartLemmas.{rows-by-part}
 use Rattle.block_passes.proofs.RowLemmas.{mapped-at}
-use Rattle.block_passes.proofs.TestLemmas.{filter-agree}
+use Rattle.block_passes.specs.FilterLaws.{filter-agree}
 use Rattle.link_base.specs.Standard.{no_record, Record}
 use Rattle.link_base.specs.declared.plan.Part.{Part}
 use Rattle.link_base.specs.declared.standard.Value.{Value}
@@ -207,12 +207,3 @@ pub id-step : (ids : List (Option ℕ)) (k : ℕ) (front : List ℕ) (place : �
     → extended_code (front ++ place ∷ []) (all_ids (drop (k + 1) ids)) ≡ extended_code front (all_ids (drop k ids))
 id-step ids k front place lt is =
     joined-step (get_or ids k None) (all_ids (drop (k + 1) ids)) front place is ∙ ap (λ l. extended_code front (all_ids l)) (sym (drop_more ids k None lt))
-
-missing : (id : Option ℕ) (ids : Option (List ℕ)) (front : List ℕ) → None ≡ id → extended_code front (joined_id id ids) ≡ None
-missing None ids front e = refl
-missing (Some n) ids front e = cc
-
--- an id that is missing
-pub id-none : (ids : List (Option ℕ)) (k : ℕ) (front : List ℕ) → k < length ids → None ≡ get_or ids k None → extended_code front (all_ids (drop k ids)) ≡ None
-id-none ids k front lt is =
-    ap (λ l. extended_code front (all_ids l)) (drop_more ids k None lt) ∙ missing (get_or ids k None) (all_ids (drop (k + 1) ids)) front is

@@ -7,4 +7,3 @@ pub mod NumberLemmas
 pub mod PartLemmas
 pub mod RowLemmas
 pub mod StepLemmas
-pub mod TestLemmas

@@ -6,7 +6,7 @@ use Rattle.block_passes.specs.Keys.{key_in_pass, same_key, same_text}
 use Rattle.block_passes.specs.Index.{row_at, rows_with_key}
 use Rattle.block_passes.specs.CodedRows.{code_of_row}
 use Rattle.block_passes.proofs.CodeLemmas.{code-same}
-use Rattle.block_passes.proofs.TestLemmas.{filter-agree}
+use Rattle.block_passes.specs.FilterLaws.{filter-agree}
 use Rattle.link_base.specs.declared.plan.Part.{Part}
 use Rattle.link_base.specs.Standard.{Record}
 

@@ -1,4 +1,4 @@
--- One step more: of numbers in a row, of bytes that are coded, and of the parts of a key.
+-- One step more: of bytes that are coded, and of the parts of a key.
 use Rattle.std.proofs.Common.{◌≡◌, ◌<◌, ◌+◌, List, [], ◌∷◌, ◌++◌, ℕ, Option, Some, None, refl, sym, ◌∙◌, ap, subst, length, length-append, get_or, drop, arith, inl, inr, append_assoc}
 use Rattle.std.proofs.Math.ListN.{get_or-append}
 use Rattle.std.proofs.Math.Seq.{get_or-append_seam}
@@ -9,37 +9,6 @@ use Rattle.link_base.specs.declared.plan.Part.{Part}
 use Rattle.block_passes.specs.Codes.{coded_text, coded_texts, extended_code, key_code}
 use Rattle.block_passes.specs.Keys.{extended_key, joined_key, key_in_pass, no_part, part_key}
 use Rattle.block_passes.specs.Numbering.{AreNumbered, AreNumbers, IsNumbered, KeepNumbers, number_among}
-
--- one number more
-pub told_more : (f : ℕ → ℕ) (at : ℕ) (numbers more : List ℕ) (n : ℕ) → length numbers ≡ at → ((j : ℕ) → j < at → get_or numbers j 0 ≡ f j) → more ≡ numbers ++ n ∷ [] → n ≡ f at
-    → (length more ≡ at + 1) × ((j : ℕ) → j < at + 1 → get_or more j 0 ≡ f j)
-told_more f at numbers more n len told grown is = (
-  ap length grown ∙ length-append numbers (n ∷ []) ∙ omega (arith, len),
-  λ j lt. ap (λ l. get_or l j 0) grown ∙ elim (cases_lt j at) [
-    | inl old ↦ get_or-append numbers (n ∷ []) 0 j (omega (arith, len)) ∙ told j old
-    | inr new ↦
-        let last : j ≡ at = omega (arith, lt) in
-        let seam : j ≡ length numbers = last ∙ sym len in
-        ap (λ k. get_or (numbers ++ n ∷ []) k 0) seam ∙ get_or-append_seam numbers n [] 0 ∙ is ∙ ap f (sym last)
-  ],
-)
-
--- one number that is found
-pub found_more : (codes : List (List ℕ)) (code_of : ℕ → Option (List ℕ)) (at : ℕ) (numbers more : List ℕ) (n : ℕ) → AreNumbers codes code_of at numbers
-    → more ≡ numbers ++ n ∷ [] → n ≡ number_among codes (code_of at) → AreNumbers codes code_of (at + 1) more
-found_more codes code_of at numbers more n told grown is = told_more (λ j. number_among codes (code_of j)) at numbers more n told.0 told.1 grown is
-
--- one number that is given
-pub given_more : (codes new : List (List ℕ)) (code_of : ℕ → Option (List ℕ)) (at : ℕ) (numbers more : List ℕ) (n : ℕ) → KeepNumbers codes new → AreNumbered codes code_of at → AreNumbers codes code_of at numbers
-    → more ≡ numbers ++ n ∷ [] → n ≡ number_among new (code_of at) → AreNumbers new code_of (at + 1) more
-given_more codes new code_of at numbers more n kept numbered told grown is =
-    told_more (λ j. number_among new (code_of j)) at numbers more n told.0 (λ j lt. told.1 j lt ∙ sym (kept (code_of j) (numbered j lt)).0) grown is
-
-pub numbered_more : (codes new : List (List ℕ)) (code_of : ℕ → Option (List ℕ)) (at : ℕ) → KeepNumbers codes new → AreNumbered codes code_of at → IsNumbered new (code_of at) → AreNumbered new code_of (at + 1)
-numbered_more codes new code_of at kept numbered one = λ j lt. elim (cases_lt j at) [
-  | inl old ↦ (kept (code_of j) (numbered j old)).1
-  | inr le ↦ let last : j ≡ at = omega (arith, lt) in subst (λ k. IsNumbered new (code_of k)) (sym last) one
-]
 
 -- what one item more gives
 pub joined_more : {A B : Type 0} (f : A → List B) (join : List A → List B) → ((x : A) (xs : List A) → join (x ∷ xs) ≡ f x ++ join xs)

@@ -1,6 +1,8 @@
 pub mod Keys
 pub mod Codes
 pub mod Numbering
+pub mod NumberingLaws
+pub mod FilterLaws
 pub mod Groups
 pub mod Index
 pub mod CodedRows

@@ -1,2 +1,1 @@
-pub mod IdLemmas
 pub mod RowLemmas

@@ -1,18 +1,22 @@
-use Rattle.std.proofs.Common.{◌≡◌, ℕ, ℤ, zero, suc, ◌+◌, ◌*◌, ◌/◌, ◌%◌, ◌^◌, ◌<◌, ◌≤◌, List, [], ◌∷◌, length, refl, ap, arith, sym, ◌∙◌, get_or, drop, map}
+use Rattle.std.proofs.Common.{◌≡◌, ℕ, ℤ, suc, ◌∷◌, drop-cons, ◌+◌, ◌*◌, ◌/◌, ◌%◌, ◌^◌, ◌<◌, ◌≤◌, List, length, refl, ap, arith, sym, ◌∙◌, get_or, drop, map}
 use Rattle.std.specs.Prelude.{◌+ℤ◌}
 use Rattle.std.proofs.Math.Nat.{mul-div_cancel_left, pow-le-pow_right}
-use Rattle.std.proofs.lemmas.Int.{ints}
 use Rattle.std.proofs.lemmas.Nat.{div_below}
 use Rattle.patterns.specs.Weight.{eighth_weight_of}
 use Rattle.patterns.specs.Chances.{base_of, pattern_count_of, m_of, u_of, weight_of}
 use Rattle.link_base.specs.declared.shares.FieldShares.{FieldShares}
-use Rattle.std.specs.List.{range_with_len}
 use Rattle.std.proofs.lemmas.List.{get_or-map, length-map}
 use Rattle.std.proofs.lemmas.List.FromFn.{fill_by_all}
-use Rattle.decision_rule.specs.Filled.{chances_of, chances_at}
+use Rattle.decision_rule.specs.Filled.{all_chances, chances_of, chances_at}
 use Rattle.link_base.specs.declared.rule.RuleCell.{RuleCell}
 use Rattle.link_base.specs.Rule.{empty_cell}
-use Rattle.patterns.proofs.PatternLemmas.{pattern_count_pos, base_some, drop_step, product_small, share_bounds}
+use Rattle.patterns.specs.ShapeLaws.{outcomes_bounds}
+use Rattle.patterns.specs.ChanceLaws.{pattern_count_pos, product_small, share_bounds}
+
+drop_step : (shares : List FieldShares) (i : ℕ) (field : FieldShares) → i < length shares → field ≡ get_or shares i field → drop i shares ≡ field ∷ drop (i + 1) shares
+drop_step shares i field lt e =
+    let one : suc i ≡ i + 1 = omega arith in
+    drop-cons shares i field lt ∙ ap (λ f. f ∷ drop (suc i) shares) (sym e) ∙ ap (λ n. field ∷ drop n shares) one
 
 -- a loop's step: the first field that is left
 pub record Step (shares : List FieldShares) (i below rest base : ℕ) (field : FieldShares) : Type 0 where
@@ -28,7 +32,7 @@ pub record Step (shares : List FieldShares) (i below rest base : ℕ) (field : F
 pub step : (shares : List FieldShares) (i below rest base : ℕ) (field : FieldShares) → base ≡ base_of field → i < length shares → field ≡ get_or shares i field → below ≡ pattern_count_of (drop i shares) → rest < below → Step shares i below rest base field
 step shares i below rest base field eb lt e b r =
     let d = drop_step shares i field lt e in
-    let pos : 0 < base = omega (arith, eb, (base_some field).0) in
+    let pos : 0 < base = omega (arith, eb, (outcomes_bounds field.rare).0) in
     let is : below ≡ base * pattern_count_of (drop (i + 1) shares) = b ∙ ap pattern_count_of d ∙ ap (λ n. n * pattern_count_of (drop (i + 1) shares)) (sym eb) in
     let third : below / base ≡ pattern_count_of (drop (i + 1) shares) = ap (λ n. n / base) is ∙ mul-div_cancel_left (pattern_count_of (drop (i + 1) shares)) pos in
     let some : 0 < below / base = omega (arith, third, pattern_count_pos (drop (i + 1) shares)) in
@@ -51,19 +55,10 @@ product_fits m share i h k lt =
     let most : 1024 ^ (i + 1) ≤ 1024 ^ 6 = pow-le-pow_right (omega arith) more in
     omega (arith, product_small share m i k h, most)
 
--- a read past no end is the same at each default
-same_default : (shares : List FieldShares) (i : ℕ) (d e : FieldShares) → i < length shares → get_or shares i d ≡ get_or shares i e
-same_default [] i d e lt = absurd (omega (arith, lt))
-same_default (field ∷ fields) zero d e lt = refl
-same_default (field ∷ fields) (suc i) d e lt = same_default fields i d e (omega (arith, lt))
-
 pub product_step : (m share same total old new : ℕ) → m * old ≡ total → old ≡ same * new → share ≡ same → m * share * new ≡ total
 product_step m share same total old new e f g = let h : m * (same * new) ≡ total = rw f at e in rw g (omega (arith, h))
 
-pub weight_step : (w e new total old w' : ℤ) → w +ℤ old ≡ total → old ≡ e +ℤ new → w' ≡ w +ℤ e → w' +ℤ new ≡ total
-weight_step w e new total old w' h k f = omega (arith, ints, h, k, f)
-
-pub filled_all : (shares : List FieldShares) (cells : List RuleCell) → length cells ≡ pattern_count_of shares → ((k : ℕ) (d : RuleCell) → k < length cells → chances_of (get_or cells k d) ≡ chances_at shares k) → map chances_of cells ≡ map (chances_at shares) (range_with_len 0 (pattern_count_of shares))
+pub filled_all : (shares : List FieldShares) (cells : List RuleCell) → length cells ≡ pattern_count_of shares → ((k : ℕ) (d : RuleCell) → k < length cells → chances_of (get_or cells k d) ≡ chances_at shares k) → map chances_of cells ≡ all_chances shares
 filled_all shares cells size h =
     fill_by_all (chances_at shares) (map chances_of cells) (pattern_count_of shares) (chances_of empty_cell) (omega (arith, size, length-map cells chances_of))
     (λ k lt. let there : k < length cells = omega (arith, size, lt) in rw (get_or-map chances_of cells k empty_cell (chances_of empty_cell) there) (h k empty_cell there))

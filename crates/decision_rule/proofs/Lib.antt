@@ -1,10 +1,3 @@
-pub mod ExchangeLemmas
-pub mod CutForm
-pub mod CutLemmas
-pub mod FilledLemmas
-pub mod OneFilled
-pub mod OrderLemmas
 pub mod FillLemmas
 pub mod CutSteps
-pub mod RuleLemmas
 pub mod SumLemmas

@@ -22,6 +22,10 @@ chances_of c = record { pattern = c.pattern; m = c.m; u = c.u; weight = c.weight
 abbrev pub chances_at : List FieldShares → ℕ → Chances
 chances_at shares pattern = record { pattern = pattern; m = m_of shares pattern; u = u_of shares pattern; weight = weight_of shares pattern }
 
+-- those of all patterns, by number
+abbrev pub all_chances : List FieldShares → List Chances
+all_chances shares = map (chances_at shares) (range_with_len 0 (pattern_count_of shares))
+
 -- an asked level, over 1,024 to the number of fields times 65,536, in millionths
 abbrev pub asked_of : List FieldShares → ℕ → ℕ
 asked_of shares ppm = ppm * WHOLE_FIELD ^ length shares * WHOLE_RULE
@@ -37,7 +41,7 @@ NonlinksAreCut = IsCut (λ (c : RuleCell). c.nonlink) (λ (c : RuleCell). WHOLE_
 -- each pattern stands in one cell, the greater m/u first; the links are cut from the first cell on, the non-links from
 -- the last cell back
 pub record IsFilled (shares : List FieldShares) (mu_ppm lambda_ppm : ℕ) (cells : List RuleCell) : Type 0 where
-  pub patterns : IsPermutation (map (chances_at shares) (range_with_len 0 (pattern_count_of shares))) (map chances_of cells)
+  pub patterns : IsPermutation (all_chances shares) (map chances_of cells)
   pub in_order : AllPairs RanksBefore cells
   pub rule : All (λ c. c.link + c.nonlink ≤ WHOLE_RULE) cells
   pub links : LinksAreCut (asked_of shares mu_ppm) cells

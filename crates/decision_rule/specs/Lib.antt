@@ -1,11 +1,16 @@
 pub mod Rule
+pub mod RuleLaws
 pub mod Order
 pub mod Exchange
+pub mod ExchangeLaws
 pub mod Cut
+pub mod CutLaws
 pub mod Filled
+pub mod FilledLaws
 pub mod Least
 pub mod Border
 pub mod Decide
 pub mod Sorting
+pub mod SortingLaws
 pub mod Walk
 pub mod Block

@@ -1,8 +1,8 @@
 -- Randomised decision rules (Fellegi and Sunter 1969, section 2), and the two error levels and two chances of a possible
--- link of a table and of a rule. `attained` carries those of a table by its clauses `mu`, `lambda`, `possible_m` and
--- `possible_u`; the laws `exchange` and `filled_is_least` set them against those of every rule.
-use Rattle.std.specs.Prelude.{◌≡◌, ℕ, ◌+◌, ◌-◌, ◌*◌, ◌<◌, List, sum_by, All}
-use Rattle.link_limits.specs.declared.TheConstants.{WHOLE_RULE}
+-- link of a table and of a rule. `attained` carries those of a table by its clause `levels`; the laws `exchange` and `filled_is_least` set them against those of every rule.
+use Rattle.std.specs.Prelude.{◌≡◌, ℕ, ◌+◌, ◌-◌, ◌*◌, ◌^◌, ◌<◌, List, sum_by, All}
+use Rattle.link_limits.specs.declared.TheConstants.{WHOLE_FIELD, WHOLE_RULE}
+use Rattle.link_base.specs.declared.rule.Levels.{Levels}
 use Rattle.link_base.specs.declared.rule.RuleCell.{RuleCell}
 
 -- the share of a possible link in a cell, in 65,536ths
@@ -21,6 +21,14 @@ possible_m_of cells = sum_by (λ c. c.m * possible_of c) cells
 
 abbrev pub possible_u_of : List RuleCell → ℕ
 possible_u_of cells = sum_by (λ c. c.u * possible_of c) cells
+
+-- the attained levels of a table of so many fields, as sums over one denominator
+pub record AreLevelsOf (fields : ℕ) (cells : List RuleCell) (levels : Levels) : Type 0 where
+  pub denominator : levels.denominator ≡ WHOLE_FIELD ^ fields * WHOLE_RULE
+  pub mu : levels.mu ≡ mu_of cells
+  pub lambda : levels.lambda ≡ lambda_of cells
+  pub possible_m : levels.possible_m ≡ possible_m_of cells
+  pub possible_u : levels.possible_u ≡ possible_u_of cells
 
 -- a randomised rule gives each pattern three shares
 pub record Rule : Type 0 where

@@ -1,5 +1,5 @@
 // The cuts of the links and the non-links.
-ghost use Rattle.std.specs.Prelude.{◌≡◌, ℕ, ◌+◌, ◌-◌, ◌*◌, ◌/◌, ◌≤◌, ◌<◌, map, length, reverse, min, All};
+ghost use Rattle.std.specs.Prelude.{◌≡◌, ◌+◌, ◌-◌, ◌*◌, ◌/◌, ◌≤◌, ◌<◌, map, reverse, min, All};
 ghost use Rattle.decision_rule.specs.Filled.{chances_of, LinksAreCut, NonlinksAreCut};
 ghost use Rattle.decision_rule.specs.Walk.{room_after};
 ghost use Rattle.link_base.specs.declared.rule.RuleCell.{RuleCell};

@@ -1,8 +1,7 @@
 // The cells of all patterns, in the order of their numbers.
-ghost use Rattle.std.specs.Prelude.{◌≡◌, ℕ, ◌+◌, ◌≤◌, ◌<◌, map, length};
-ghost use Rattle.std.specs.List.{range_with_len};
+ghost use Rattle.std.specs.Prelude.{◌≡◌, ◌+◌, ◌≤◌, ◌<◌, map, length};
 ghost use Rattle.patterns.specs.Chances.{pattern_count_of};
-ghost use Rattle.decision_rule.specs.Filled.{chances_of, chances_at};
+ghost use Rattle.decision_rule.specs.Filled.{all_chances, chances_at, chances_of};
 
 use link_base::{FieldShares, RuleCell};
 use link_limits::MOST_FIELDS;
@@ -43,8 +42,7 @@ fn cell_of(shares: &[FieldShares], pattern: u16) -> RuleCell
 pub fn fill(shares: &[FieldShares], cells: &mut [RuleCell])
     requires fields { length shares.now ≤ MOST_FIELDS }
     requires size { length cells.old ≡ pattern_count_of shares.now }
-    ensures { map chances_of cells.new
-        ≡ map (chances_at shares.now) (range_with_len 0 (pattern_count_of shares.now)) }
+    ensures { map chances_of cells.new ≡ all_chances shares.now }
 {
     for i in 0..cells.len() {
         cells[i] = cell_of(shares, i as u16);

@@ -1,22 +1,18 @@
 // The attained levels of a rule.
-ghost use Rattle.std.specs.Prelude.{◌≡◌, ◌*◌, ◌^◌, ◌≤◌, ◌<◌, vec_len, length};
+ghost use Rattle.std.specs.Prelude.{◌≤◌, vec_len};
 ghost use Rattle.link_base.specs.Rule.{HasBoundedSums};
-ghost use Rattle.decision_rule.specs.Rule.{mu_of, lambda_of, possible_m_of, possible_u_of};
+ghost use Rattle.decision_rule.specs.Rule.{AreLevelsOf};
 
 use crate::unit::denominator;
 use link_base::{Levels, RuleTable};
-use link_limits::{MOST_FIELDS, MOST_PATTERNS, WHOLE_FIELD, WHOLE_RULE};
+use link_limits::{MOST_FIELDS, MOST_PATTERNS, WHOLE_RULE};
 
 /// The attained levels of a table of so many fields and its chances of a possible link, as sums over one denominator:
 /// 1,024 to the number of fields times 65,536.
 pub fn attained(fields: u8, table: &RuleTable) -> Levels
     requires fields { fields ≤ MOST_FIELDS }
     requires size { vec_len table.now.cells ≤ MOST_PATTERNS }
-    ensures denominator { result.denominator ≡ WHOLE_FIELD ^ fields * WHOLE_RULE }
-    ensures mu { result.mu ≡ mu_of table.now.cells.items }
-    ensures lambda { result.lambda ≡ lambda_of table.now.cells.items }
-    ensures possible_m { result.possible_m ≡ possible_m_of table.now.cells.items }
-    ensures possible_u { result.possible_u ≡ possible_u_of table.now.cells.items }
+    ensures levels { AreLevelsOf fields table.now.cells.items result }
     ensures bounded { HasBoundedSums result }
 {
     let mut levels = Levels {

@@ -7,16 +7,14 @@ use Rattle.std.proofs.lemmas.List.{length-reverse, get_or-reverse}
 use Rattle.std.proofs.lemmas.List.Elements.{recursion_from_All, AllZip-get_or}
 use Rattle.std.proofs.lemmas.List.Sorted.{IsPermutation-reverse, All-permutation}
 use Rattle.decision_rule.specs.Rule.{possible_of, possible_m_of, possible_u_of}
-use Rattle.decision_rule.proofs.ExchangeLemmas.{total, total-sum_by}
+use Rattle.decision_rule.specs.ExchangeLaws.{total, total-sum_by}
 use Rattle.decision_rule.specs.Walk.{CutBy, room_after}
 use Rattle.decision_rule.specs.Filled.{chances_of, IsFilled, asked_of}
 use Rattle.link_base.specs.declared.rule.RuleCell.{RuleCell}
 use Rattle.link_base.specs.declared.shares.FieldShares.{FieldShares}
-use Rattle.decision_rule.proofs.CutLemmas.{walk_from_IsCut, room_after_full, room_after_less, taken_fits, taken_bound}
-use Rattle.decision_rule.proofs.FilledLemmas.{positive_cells, turned}
-use Rattle.decision_rule.proofs.OneFilled.{same_chances, same_by_map, map_turned}
+use Rattle.decision_rule.specs.CutLaws.{walk_from_IsCut, room_after_full, room_after_less, taken_fits, taken_bound}
+use Rattle.decision_rule.specs.FilledLaws.{positive_cells, turned, same_chances, same_by_map, map_turned, same_length}
 use Rattle.link_base.specs.Rule.{empty_cell}
-use Rattle.decision_rule.proofs.CutSteps.{same_length}
 
 -- with more room, a cell of no higher bound keeps back no more
 record Kept (s t b c w room more : ℕ) : Type 0 where

@@ -17,10 +17,9 @@ use Rattle.patterns.specs.Chances.{m_of, u_of}
 use Rattle.level_frontier.specs.Borders.{border_m, border_u, link_border_of, nonlink_border_of, slack_m_of, slack_u_of}
 use Rattle.link_base.specs.declared.rule.RuleCell.{RuleCell}
 use Rattle.link_base.specs.declared.shares.FieldShares.{FieldShares}
-use Rattle.decision_rule.proofs.CutForm.{possible_bound_m, possible_bound_u}
-use Rattle.decision_rule.proofs.ExchangeLemmas.{total, total-sum_by}
-use Rattle.decision_rule.proofs.FilledLemmas.{turned, positive_cells}
-use Rattle.decision_rule.proofs.RuleLemmas.{over_patterns, rule_over}
+use Rattle.decision_rule.specs.ExchangeLaws.{possible_bound_m, possible_bound_u, total, total-sum_by}
+use Rattle.decision_rule.specs.FilledLaws.{turned, positive_cells}
+use Rattle.decision_rule.specs.RuleLaws.{over_patterns, rule_over}
 
 no_total : (f : RuleCell → ℕ) (g : RuleCell → ℕ) (cells : List RuleCell) → AllByRecursion (λ c. g c ≡ 0) cells → total (λ c. f c * g c) cells ≡ 0
 no_total f g [] h = refl

@@ -1,19 +1,16 @@
 -- The rows of the frontier.
-use Rattle.std.proofs.Common.{ℕ, ◌+◌, ◌^◌, ◌<◌, ◌≤◌, List, Bool, [], ◌∷◌, reverse, length, map, ltb, set, arith, get_or, inl, inr}
+use Rattle.std.proofs.Common.{ℕ, ◌+◌, ◌^◌, ◌<◌, ◌≤◌, List, Bool, [], ◌∷◌, reverse, length, ltb, set, arith, get_or, inl, inr}
 use Rattle.std.proofs.Math.Nat.{pow-le-pow_right}
 use Rattle.std.specs.List.{All, AllByRecursion, find}
-use Rattle.std.proofs.lemmas.List.{get_or-map, length-map, get_or-set_same, get_or-set_other}
-use Rattle.std.proofs.lemmas.List.FromFn.{get_or-map-range_with_len, length-map-range_with_len}
-use Rattle.std.proofs.lemmas.List.Elements.{All-from_get_or, recursion_from_All}
+use Rattle.std.proofs.lemmas.List.{get_or-set_same, get_or-set_other}
+use Rattle.std.proofs.lemmas.List.Elements.{recursion_from_All}
 use Rattle.std.proofs.lemmas.List.Sorted.{All-permutation, IsPermutation-reverse}
 use Rattle.std.proofs.lemmas.Bool.{cases_Bool, cases_eq}
-use Rattle.link_base.specs.Rule.{empty_cell}
 use Rattle.link_base.specs.declared.rule.RuleCell.{RuleCell}
 use Rattle.link_base.specs.declared.shares.FieldShares.{FieldShares}
-use Rattle.patterns.specs.Chances.{pattern_count_of}
-use Rattle.patterns.proofs.PatternLemmas.{m_of_small, u_of_small}
-use Rattle.decision_rule.specs.Filled.{Chances, chances_of, chances_at, IsFilled}
-use Rattle.decision_rule.proofs.FilledLemmas.{all_chances}
+use Rattle.patterns.specs.ChanceLaws.{m_of_small, u_of_small}
+use Rattle.decision_rule.specs.Filled.{Chances, IsFilled}
+use Rattle.decision_rule.specs.FilledLaws.{cells_hold}
 use Rattle.level_frontier.specs.Borders.{border_m, border_u, slack_m_of, slack_u_of}
 use Rattle.level_frontier.specs.Frontier.{FallsTo, IsFrontierRow, IsNearLeast}
 use Rattle.level_frontier.specs.declared.levels.FrontierRow.{FrontierRow}
@@ -23,24 +20,14 @@ use Rattle.level_frontier.proofs.FallLemmas.{sums_fall}
 abbrev HasSmallChances : Chances → Type 0
 HasSmallChances ch = (ch.m ≤ 2 ^ 60) × (ch.u ≤ 2 ^ 60)
 
-all_small : (shares : List FieldShares) → length shares ≤ 6 → All HasSmallChances (all_chances shares)
-all_small shares few =
-    let whole : 1024 ^ length shares ≤ 1024 ^ 6 = pow-le-pow_right (omega arith) few in
-    All-from_get_or HasSmallChances (all_chances shares) (chances_of empty_cell)
-    (λ k lt. let n = pattern_count_of shares in
-    let in_range : k < n = omega (arith, lt, length-map-range_with_len (chances_at shares) 0 n) in
-    rw (get_or-map-range_with_len (chances_at shares) 0 n k k (chances_of empty_cell) in_range (omega arith))
-    (omega (arith, whole, m_of_small shares k in_range), omega (arith, whole, u_of_small shares k in_range)))
-
 -- the chances of the cells are at most the whole
 abbrev pub IsSmall : RuleCell → Type 0
 IsSmall c = (c.m ≤ 2 ^ 60) × (c.u ≤ 2 ^ 60)
 
 pub small_cells : (shares : List FieldShares) (mu_ppm lambda_ppm : ℕ) (cells : List RuleCell) → length shares ≤ 6 → IsFilled shares mu_ppm lambda_ppm cells → All IsSmall cells
 small_cells shares mu_ppm lambda_ppm cells few filled =
-    let all = All-permutation HasSmallChances _ _ filled.patterns (all_small shares few) in
-    λ k d lt. let there : k < length (map chances_of cells) = omega (arith, lt, length-map cells chances_of) in
-    rw (get_or-map chances_of cells k d (chances_of d) lt) at (all k (chances_of d) there)
+    let whole : 1024 ^ length shares ≤ 1024 ^ 6 = pow-le-pow_right (omega arith) few in
+    cells_hold HasSmallChances shares cells filled.patterns (λ k lt. (omega (arith, whole, m_of_small shares k lt), omega (arith, whole, u_of_small shares k lt)))
 
 found_small : (test : RuleCell → Bool) (cells : List RuleCell) → AllByRecursion IsSmall cells → (border_m (find test cells) ≤ 2 ^ 60) × (border_u (find test cells) ≤ 2 ^ 60)
 found_small test [] h = (omega arith, omega arith)
@@ -63,14 +50,14 @@ pub rows_fall : (shares : List FieldShares) (mu_ppm more_ppm lambda_ppm : ℕ) (
 rows_fall shares mu_ppm more_ppm lambda_ppm x y le hx hy =
     let falls = sums_fall shares mu_ppm more_ppm lambda_ppm hx.0 hy.0 le hx.1 hy.1 in
     record {
-      matched = omega (arith, falls.0, hx.2.possible_m, hy.2.possible_m);
-      unmatched = omega (arith, falls.1, hx.2.possible_u, hy.2.possible_u);
+      matched = omega (arith, falls.0, hx.2.levels.possible_m, hy.2.levels.possible_m);
+      unmatched = omega (arith, falls.1, hx.2.levels.possible_u, hy.2.levels.possible_u);
     }
 
 pub row_near : (shares : List FieldShares) (mu_ppm lambda_ppm : ℕ) (row : FrontierRow) → IsFrontierRow shares mu_ppm lambda_ppm row → IsNearLeast shares mu_ppm lambda_ppm row
 row_near shares mu_ppm lambda_ppm row h = record {
-  matched = λ d r w. rw (h.2.possible_m, h.2.slack_m) (near_m shares mu_ppm lambda_ppm h.0 h.1 d r w);
-  unmatched = λ d r w. rw (h.2.possible_u, h.2.slack_u) (near_u shares mu_ppm lambda_ppm h.0 h.1 d r w);
+  matched = λ d r w. rw (h.2.levels.possible_m, h.2.slack_m) (near_m shares mu_ppm lambda_ppm h.0 h.1 d r w);
+  unmatched = λ d r w. rw (h.2.levels.possible_u, h.2.slack_u) (near_u shares mu_ppm lambda_ppm h.0 h.1 d r w);
 }
 
 -- one row more

@@ -1,11 +1,11 @@
 -- The rows of the frontier: `frontier` carries them by its clauses `rows`, `falling` and `near_least`.
-use Rattle.std.specs.Prelude.{◌≡◌, ℕ, ◌+◌, ◌*◌, ◌^◌, ◌≤◌, List, length}
-use Rattle.link_limits.specs.declared.TheConstants.{WHOLE_FIELD, WHOLE_RULE}
+use Rattle.std.specs.Prelude.{◌≡◌, ℕ, ◌+◌, ◌*◌, ◌≤◌, List, length}
+use Rattle.link_limits.specs.declared.TheConstants.{WHOLE_RULE}
 use Rattle.link_base.specs.declared.rule.RuleCell.{RuleCell}
 use Rattle.link_base.specs.declared.shares.FieldShares.{FieldShares}
 use Rattle.patterns.specs.Chances.{m_of, u_of}
 use Rattle.decision_rule.specs.Least.{sum_over}
-use Rattle.decision_rule.specs.Rule.{Rule, mu_of, lambda_of, possible_m_of, possible_u_of}
+use Rattle.decision_rule.specs.Rule.{AreLevelsOf, Rule}
 use Rattle.decision_rule.specs.Filled.{IsFilled}
 use Rattle.level_frontier.specs.declared.levels.FrontierRow.{FrontierRow}
 use Rattle.level_frontier.specs.Asked.{IsWithinAsked}
@@ -13,11 +13,7 @@ use Rattle.level_frontier.specs.Borders.{slack_m_of, slack_u_of}
 
 -- the four sums and the slack of a table
 pub record HasLevelsOf (shares : List FieldShares) (cells : List RuleCell) (row : FrontierRow) : Type 0 where
-  pub denominator : row.levels.denominator ≡ WHOLE_FIELD ^ length shares * WHOLE_RULE
-  pub mu : row.levels.mu ≡ mu_of cells
-  pub lambda : row.levels.lambda ≡ lambda_of cells
-  pub possible_m : row.levels.possible_m ≡ possible_m_of cells
-  pub possible_u : row.levels.possible_u ≡ possible_u_of cells
+  pub levels : AreLevelsOf (length shares) cells row.levels
   pub slack_m : row.slack_m ≡ slack_m_of cells
   pub slack_u : row.slack_u ≡ slack_u_of cells
 

@@ -2,9 +2,9 @@
 use Rattle.std.proofs.Common.{◌≡◌, ◌∙◌, ℕ, List, length, ap, subst}
 use Rattle.std.specs.Prelude.{All, AllPairs}
 use Rattle.link_base.specs.Rule.{IsPairBefore}
-use Rattle.pair_decisions.proofs.PairLemmas.{compared_inside, compared_rise}
+use Rattle.pair_decisions.specs.PairLaws.{compared_inside, compared_rise}
 use Rattle.pair_decisions.specs.Pairs.{IsInside}
-use Rattle.pair_walk.proofs.PairLemmas.{all-pairs}
+use Rattle.pair_walk.specs.PairLaws.{all-pairs}
 use Rattle.pair_walk.specs.Pairs.{pairs_of_rows}
 use Rattle.pair_walk.specs.Rows.{RowAt, all_rows}
 use Rattle.link_plan.specs.declared.plan.Plan.{Plan}

@@ -4,11 +4,11 @@ use Rattle.std.proofs.lemmas.List.{append-nil, drop_all, drop_more, length-appen
 use Rattle.link_base.specs.declared.fault.Fault.TheVariants as fault
 use Rattle.link_base.specs.declared.rule.PairAt.{PairAt}
 use Rattle.link_limits.specs.declared.TheConstants.{MOST_PAIRS}
-use Rattle.pair_decisions.proofs.PairLemmas.{past_limit, within_limit}
+use Rattle.pair_decisions.specs.PairLaws.{past_limit, within_limit}
 use Rattle.pair_decisions.specs.Pairs.{pairs_within}
 use Rattle.std.proofs.lemmas.List.Elements.{filter-append}
 use Rattle.pair_walk.specs.Pairs.{pair, pairs_of_row, product_from}
-use Rattle.pair_walk.proofs.PairLemmas.{row-pairs}
+use Rattle.pair_walk.specs.PairLaws.{row-pairs}
 use Rattle.link_core.specs.ColumnPairs.{column_pairs, is_column_pair}
 use Rattle.link_core.specs.ColumnRows.{matched_rows, pairs_from, rows_with_field}
 

@@ -6,13 +6,12 @@ use Rattle.link_base.specs.AnswerLaws.{refuses_then}
 use Rattle.link_base.specs.Answers.{and_then}
 use Rattle.link_base.specs.Fault.{Gives}
 use Rattle.link_base.specs.declared.fault.Fault.{Fault}
-use Rattle.link_base.specs.declared.rule.Decision.{Decision}
 use Rattle.link_base.specs.declared.rule.PairAt.{PairAt}
-use Rattle.pair_decisions.specs.Decisions.{AreDecisionsOn, AreListsIn, count_with, DecidedView, pairs_with}
-use Rattle.pair_decisions.specs.PairRows.{AreRowsIn, decided_rows, kept_rows}
+use Rattle.pair_decisions.specs.Decisions.{DecidedView, pairs_with}
+use Rattle.pair_decisions.specs.PairRows.{AreRowsIn, decided_rows, IsDecidedOn, kept_rows}
 use Rattle.pair_decisions.specs.PairRule.{AreCellsOf, AreSidesFor, FileRule, PairRuleView, side_rule}
 use Rattle.pair_decisions.specs.Pairs.{IsInside, pairs_within}
-use Rattle.pair_walk.proofs.PairLemmas.{all-pairs}
+use Rattle.pair_walk.specs.PairLaws.{all-pairs}
 use Rattle.pair_walk.specs.Pairs.{pairs_of_rows}
 use Rattle.pair_walk.specs.Rows.{RowAt, all_rows}
 use Rattle.patterns.specs.Shapes.{pattern_count_by}
@@ -28,12 +27,7 @@ use Rattle.link_core.specs.Rules.{IsPreparedFor}
 -- a result is that of a rule on these pairs, over these sides
 pub record IsTold (rule : PairRuleView) (with_rows : Bool) (result : Result DecidedView Fault) (pairs : List PairAt) (rows_a rows_b : List (List IdValue)) : Type 0 where
   pub answer : Gives (λ _. pairs) (pairs_within pairs) result
-  pub rule_is : IfOk result (λ d. d.rule ≡ rule)
-  pub rows_are : IfOk result (λ d. d.rows ≡ kept_rows with_rows (decided_rows (side_rule rule rows_a rows_b) pairs))
-  pub rows_in : IfOk result (λ d. AreRowsIn (length rows_a) (length rows_b) (length d.rule.cells) d.rows)
-  pub counts : IfOk result (λ d. (kind : Decision) → count_with d kind ≡ length (pairs_with kind (side_rule rule rows_a rows_b) pairs))
-  pub lists : IfOk result (AreListsIn (length rows_a) (length rows_b))
-  pub decisions : IfOk result (AreDecisionsOn rows_a rows_b pairs)
+  pub decided : IfOk result (IsDecidedOn rule with_rows rows_a rows_b pairs)
 
 -- the same of the compared pairs of the files that the blocks are those of
 pub told_of : (plan : Plan) (rule : PairRuleView) (with_rows : Bool) (result : Result DecidedView Fault) (p : PreparedView) (blocks : List RowAt) (rows_a rows_b : List (List IdValue))
@@ -58,9 +52,9 @@ module _ (plan : Plan) (p : PreparedView) (shares : List PlainShares) (rule : Pa
   pub answered : (result : Result DecidedView Fault) → side_rule rule p.values.a.rows p.values.b.rows ≡ rule_over plan p.files shares → Told result → Gives (decisions_of p) (decided plan p.files shares) result
   answered (Err f) of told = refuses_then (pairs_within (compared_in plan p.files)) (λ pairs. Ok (decided_by (rule_over plan p.files shares) pairs)) f told.answer
   answered (Ok d) of told =
-      let same : rule_in p d ≡ rule_over plan p.files shares = ap (λ (r : PairRuleView). side_rule r p.values.a.rows p.values.b.rows) told.rule_is ∙ of in
+      let same : rule_in p d ≡ rule_over plan p.files shares = ap (λ (r : PairRuleView). side_rule r p.values.a.rows p.values.b.rows) told.decided.by_rule ∙ of in
       let made : decisions_of p d ≡ decided_by (rule_in p d) (compared_in plan p.files) =
-      λ i. record { rule = rule_in p d; compared = told.decisions.compared i; links = told.decisions.links i; possible = told.decisions.possible i } in
+      λ i. record { rule = rule_in p d; compared = told.decided.decisions.compared i; links = told.decided.decisions.links i; possible = told.decided.decisions.possible i } in
       let whole : decisions_of p d ≡ decided_by (rule_over plan p.files shares) (compared_in plan p.files) = made ∙ ap (λ (r : FileRule). decided_by r (compared_in plan p.files)) same in
       let ok : Decisions → Result Decisions Fault = λ x. Ok x in
       let next : List PairAt → Result Decisions Fault = λ pairs. Ok (decided_by (rule_over plan p.files shares) pairs) in
@@ -71,30 +65,30 @@ module _ (plan : Plan) (p : PreparedView) (shares : List PlainShares) (rule : Pa
   decided_in_files (Ok d) ready sides_a sides_b told = record {
     rows_a = ready.pooled.a.sides.as_many;
     rows_b = ready.pooled.b.sides.as_many;
-    sides_a = subst (λ (r : PairRuleView). All (AreSidesFor r) p.values.a.rows) (sym told.rule_is) sides_a;
-    sides_b = subst (λ (r : PairRuleView). All (AreSidesFor r) p.values.b.rows) (sym told.rule_is) sides_b;
-    links = inside_files plan p d.links ready told.lists.links;
-    possible = inside_files plan p d.possible ready told.lists.possible;
-    rising = told.lists.possible_rise;
+    sides_a = subst (λ (r : PairRuleView). All (AreSidesFor r) p.values.a.rows) (sym told.decided.by_rule) sides_a;
+    sides_b = subst (λ (r : PairRuleView). All (AreSidesFor r) p.values.b.rows) (sym told.decided.by_rule) sides_b;
+    links = inside_files plan p d.links ready told.decided.lists.links;
+    possible = inside_files plan p d.possible ready told.decided.lists.possible;
+    rising = told.decided.lists.possible_rise;
     rows =
         subst (λ n. AreRowsIn (length p.files.a.records) n (length d.rule.cells) d.rows) ready.pooled.b.sides.as_many
-        (subst (λ n. AreRowsIn n (length p.values.b.rows) (length d.rule.cells) d.rows) ready.pooled.a.sides.as_many told.rows_in);
+        (subst (λ n. AreRowsIn n (length p.values.b.rows) (length d.rule.cells) d.rows) ready.pooled.a.sides.as_many told.decided.rows_in);
   }
 
   pub decided_for_plan : (result : Result DecidedView Fault) → AreCellsOf (pattern_count_by (rares_of plan.fields)) rule.cells → Told result → IfOk result (IsDecidedFor plan p)
   decided_for_plan (Err f) cells told = tt
   decided_for_plan (Ok d) cells told = record {
-    decisions = told.decisions;
-    counts = λ kind. told.counts kind ∙ ap (λ (r : PairRuleView). length (pairs_with kind (side_rule r p.values.a.rows p.values.b.rows) (compared_in plan p.files))) (sym told.rule_is);
-    cells = subst (λ (r : PairRuleView). AreCellsOf (pattern_count_by (rares_of plan.fields)) r.cells) (sym told.rule_is) cells;
+    decisions = told.decided.decisions;
+    counts = λ kind. told.decided.counts kind ∙ ap (λ (r : PairRuleView). length (pairs_with kind (side_rule r p.values.a.rows p.values.b.rows) (compared_in plan p.files))) (sym told.decided.by_rule);
+    cells = subst (λ (r : PairRuleView). AreCellsOf (pattern_count_by (rares_of plan.fields)) r.cells) (sym told.decided.by_rule) cells;
   }
 
   pub rule_of_plan : (result : Result DecidedView Fault) → IsRuleOf plan shares rule.cells → Told result → IfOk result (λ d. IsRuleOf plan shares d.rule.cells)
   rule_of_plan (Err f) filled told = tt
-  rule_of_plan (Ok d) filled told = subst (λ (r : PairRuleView). IsRuleOf plan shares r.cells) (sym told.rule_is) filled
+  rule_of_plan (Ok d) filled told = subst (λ (r : PairRuleView). IsRuleOf plan shares r.cells) (sym told.decided.by_rule) filled
 
   pub rows_kept : (result : Result DecidedView Fault) → Told result → IfOk result (λ d. with_rows ≡ true → KeepsRows plan p d)
   rows_kept (Err f) told = tt
   rows_kept (Ok d) told = λ asked.
-      told.rows_are ∙ (λ i. kept_rows (asked i) (decided_rows (side_rule rule p.values.a.rows p.values.b.rows) (compared_in plan p.files)))
-      ∙ ap (λ (r : PairRuleView). decided_rows (side_rule r p.values.a.rows p.values.b.rows) (compared_in plan p.files)) (sym told.rule_is)
+      told.decided.rows ∙ (λ i. kept_rows (asked i) (decided_rows (side_rule rule p.values.a.rows p.values.b.rows) (compared_in plan p.files)))
+      ∙ ap (λ (r : PairRuleView). decided_rows (side_rule r p.values.a.rows p.values.b.rows) (compared_in plan p.files)) (sym told.decided.by_rule)

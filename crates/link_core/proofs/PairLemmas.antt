@@ -5,7 +5,7 @@ use Rattle.std.specs.List.{flat_map}
 use Rattle.std.proofs.lemmas.Grind.{flat_map-append}
 use Rattle.std.proofs.lemmas.List.{get_or_default}
 use Rattle.link_base.specs.declared.rule.PairAt.{PairAt}
-use Rattle.pair_decisions.proofs.WalkLemmas.{pair_holds}
+use Rattle.pair_walk.specs.RowLaws.{pair_holds}
 use Rattle.pair_decisions.specs.Pairs.{IsInside}
 use Rattle.pair_walk.specs.Pairs.{pair, pairs_of_rows}
 use Rattle.pair_walk.specs.Rows.{RowAt}

@@ -6,7 +6,7 @@ use Rattle.std.proofs.lemmas.List.{length-map}
 use Rattle.std.proofs.lemmas.Option.{slice_get-get_or}
 use Rattle.block_passes.specs.Index.{rows_with_number}
 use Rattle.block_passes.specs.Numbering.{AreNumbered, AreNumbers, KeepNumbers, no_number, number_among}
-use Rattle.block_passes.proofs.NumberLemmas.{kept-with, numbered-rows, place-within}
+use Rattle.block_passes.specs.NumberingLaws.{numbered-rows, place-within}
 use Rattle.file_reader.specs.Rows.{no_row, TableRow}
 use Rattle.file_reader.specs.Table.{HasTexts}
 use Rattle.link_limits.specs.declared.TheConstants.{MOST_FIELD_BYTES}
@@ -21,11 +21,7 @@ pub present_is : (field : List ℕ) → (length field ≡ 0 → ⊥) → present
 present_is [] some = absurd (some refl)
 present_is (byte ∷ bytes) some = refl
 
--- a text that is taken leaves the numbers of the others
-pub taken_kept : (old : PoolState) (new : List (List ℕ)) (text : List ℕ) → new ≡ with_text old text → KeepNumbers old.texts new
-taken_kept old new text is = rw (is, held-turned text old.texts) (kept-with old.texts text)
-
--- and stands among them
+-- a text that is taken stands among the others
 pub taken_within : (old : PoolState) (new : List (List ℕ)) (text : List ℕ) → new ≡ with_text old text → place_among new text < length new
 taken_within old new text is = rw (is, held-turned text old.texts) (place-within old.texts text)
 
@@ -36,9 +32,6 @@ taken_place old new text id is same found =
     let within = taken_within old new text is in
     let reads : slice_get new (place_among new text) ≡ Some text = slice_get-get_or new (place_among new text) [] within ∙ ap Some (sym (at-place new text within)) in
     sym (same (place_among new text) id within (reads ∙ sym found))
-
-pub kept_same : (texts : List (List ℕ)) → KeepNumbers texts texts
-kept_same texts code h = (refl, h)
 
 pub kept_on : (old mid new : List (List ℕ)) → KeepNumbers old mid → KeepNumbers mid new → KeepNumbers old new
 kept_on old mid new first second code h =

@@ -1,5 +1,5 @@
 -- The sides of prepared files are those that the comparators of a plan take.
-use Rattle.std.proofs.Common.{◌≡◌, ◌<◌, ◌≤◌, ◌∙◌, ◌++◌, ℕ, Bool, List, [], length, map, get_or, take, Result, Ok, Err, sym, ap, subst, arith}
+use Rattle.std.proofs.Common.{◌≡◌, ◌<◌, ◌≤◌, ◌∙◌, ◌++◌, ℕ, Bool, List, [], ◌∷◌, length, map, get_or, take, Result, Ok, Err, sym, ap, refl, subst, arith}
 use Rattle.std.specs.List.{All}
 use Rattle.std.specs.Prelude.{IfOk, slice_index}
 use Rattle.std.proofs.Math.Seq.{take-append_seam}
@@ -15,11 +15,10 @@ use Rattle.level_frontier.specs.declared.levels.FrontierRow.{FrontierRow}
 use Rattle.link_report.specs.FrontierText.{text_of_frontier}
 use Rattle.link_report.specs.RuleText.{text_of_rule}
 use Rattle.patterns.specs.Chances.{rare_in}
-use Rattle.link_plan.specs.Plan.{FieldKeys, plain_shares, PlainShares}
+use Rattle.link_plan.specs.Plan.{FieldKeys, PlainShares}
 use Rattle.link_plan.specs.declared.plan.Plan.{Plan}
 use Rattle.standard_files.specs.Ready.{AreFileSides}
-use Rattle.pair_decisions.proofs.ComparatorLemmas.{map_via}
-use Rattle.pair_decisions.proofs.RuleSideLemmas.{sides_of_fields}
+use Rattle.pair_decisions.specs.SideLaws.{sides_of_fields}
 use Rattle.pair_decisions.specs.Comparators.{rares_of}
 use Rattle.pair_decisions.specs.PlanShares.{plain_all}
 use Rattle.pair_decisions.specs.Sides.{AreSidesOf}
@@ -35,7 +34,8 @@ sides_of_plan texts n fields file rows many h k d within =
 
 -- what is seen of shares tells in which fields a rare value is an outcome
 pub rares_seen : (all : List FieldShares) → shared_rares (plain_all all) ≡ rare_in all
-rares_seen all = map_via plain_shares (λ (s : PlainShares). s.rare) all
+rares_seen [] = refl
+rares_seen (s ∷ all) = ap (λ rares. s.rare ∷ rares) (rares_seen all)
 
 -- a text of these cells is the text of the plan's rule
 pub rule_text_is : {E : Type 0} (result : Result (List ℕ) E) (plan : Plan) (shares : List PlainShares) (by_shares : List FieldShares) (cells : List RuleCell) (rares : List Bool)

@@ -10,15 +10,15 @@ use Rattle.std.proofs.lemmas.List.FromFn.{get_or-map-range_with_len, length-enum
 use Rattle.std.proofs.lemmas.List.Sorted.{All-permutation}
 use Rattle.candidate_links.proofs.CandidateLemmas.{candidate_stands, given_rise, given_within}
 use Rattle.candidate_links.specs.Candidates.{candidate_of, HasBounds}
-use Rattle.decision_rule.proofs.FilledLemmas.{length_filled}
+use Rattle.decision_rule.specs.FilledLaws.{length_filled}
 use Rattle.decision_rule.specs.Filled.{Chances, chances_at, chances_of, IsFilled}
 use Rattle.link_base.specs.Rule.{empty_cell}
 use Rattle.link_base.specs.declared.rule.RuleCell.{RuleCell}
 use Rattle.link_base.specs.declared.shares.FieldShares.{FieldShares}
 use Rattle.link_limits.specs.declared.TheConstants.{GREATEST_WEIGHT, LEAST_WEIGHT, MOST_FIELDS, MOST_PATTERNS}
-use Rattle.pair_decisions.proofs.PairLemmas.{compared_inside, compared_rise}
+use Rattle.pair_decisions.specs.PairLaws.{compared_inside, compared_rise}
 use Rattle.pair_decisions.specs.PairRule.{FileRule}
-use Rattle.patterns.proofs.PatternLemmas.{m_of_small, pattern_count_small, u_of_small, weight_range}
+use Rattle.patterns.specs.ChanceLaws.{m_of_small, pattern_count_small, u_of_small, weight_range}
 use Rattle.patterns.specs.Chances.{pattern_count_of}
 use Rattle.pair_decisions.specs.Comparators.{rares_of}
 use Rattle.pair_decisions.specs.FieldComparators.{pattern_of_pair}

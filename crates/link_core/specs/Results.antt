@@ -1,18 +1,16 @@
 -- What a run comes to: the pairs, the rule, links and prices, and the report, each as its text (`finish`, its lone clause), and the
 -- candidates (`candidates`). Links and prices are a relation: any greatest one-to-one list serves, with any prices that certify it.
-use Rattle.std.specs.Prelude.{◌≡◌, ◌<◌, ◌≤◌, ◌*◌, ◌^◌, All, ℕ, ℤ, List, length}
-use Rattle.link_limits.specs.declared.TheConstants.{MOST_PAIRS, WHOLE_FIELD, WHOLE_RULE}
+use Rattle.std.specs.Prelude.{◌≡◌, ◌<◌, ◌≤◌, All, ℕ, ℤ, List, length}
+use Rattle.link_limits.specs.declared.TheConstants.{MOST_PAIRS}
 use Rattle.price_check.specs.Assignment.{Certifies, IsGreatest, worth}
 use Rattle.candidate_links.specs.Candidates.{candidates_of}
 use Rattle.candidate_links.specs.Choice.{dropped_of}
 use Rattle.candidate_links.specs.declared.choice.ChosenLinks.{ChosenLinks}
-use Rattle.decision_rule.specs.Rule.{lambda_of, mu_of, possible_m_of, possible_u_of}
+use Rattle.decision_rule.specs.Rule.{AreLevelsOf}
 use Rattle.link_base.specs.declared.rule.Candidate.{Candidate}
 use Rattle.link_base.specs.declared.rule.Decision.{Decision}
 use Rattle.link_base.specs.declared.rule.Decision.TheVariants.{Link, NonLink, Possible}
-use Rattle.link_base.specs.declared.rule.Levels.{Levels}
 use Rattle.link_base.specs.declared.rule.PairAt.{PairAt}
-use Rattle.link_base.specs.declared.rule.RuleCell.{RuleCell}
 use Rattle.link_report.specs.LinksText.{text_of_links}
 use Rattle.link_report.specs.PairsText.{text_of_pairs}
 use Rattle.link_report.specs.PricesText.{text_of_prices}
@@ -69,14 +67,6 @@ pub record IsPlaced (rows_a rows_b : ℕ) (c : ChosenLinks) : Type 0 where
   pub in_b : All (λ (l : Candidate). l.b < rows_b) c.links.items
   pub left_a : All (λ (d : Dropped). d.at.a < rows_a) c.dropped.items
   pub left_b : All (λ (d : Dropped). d.at.b < rows_b) c.dropped.items
-
--- the attained levels of a rule and its chances of a possible link, as sums over one denominator
-pub record AreLevelsOf (fields : ℕ) (cells : List RuleCell) (levels : Levels) : Type 0 where
-  pub denominator : levels.denominator ≡ WHOLE_FIELD ^ fields * WHOLE_RULE
-  pub mu : levels.mu ≡ mu_of cells
-  pub lambda : levels.lambda ≡ lambda_of cells
-  pub possible_m : levels.possible_m ≡ possible_m_of cells
-  pub possible_u : levels.possible_u ≡ possible_u_of cells
 
 -- the numbers of a report, and the candidates that are not among the links
 pub record IsReportOf (plan : Plan) (files : StandardPair) (rule : FileRule) (entries : List Entry) (links : List Candidate) (r : Report) : Type 0 where

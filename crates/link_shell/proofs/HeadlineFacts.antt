@@ -4,7 +4,7 @@ use Rattle.std.specs.Prelude.{All, Contains}
 use Rattle.std.proofs.lemmas.List.Elements.{All-contains, All-weaker}
 use Rattle.candidate_links.proofs.CandidateLemmas.{all_if, some_same}
 use Rattle.candidate_links.specs.Candidates.{by_decision, candidate_by_verdict, candidate_of, candidates_of, linked, weight_of_pair}
-use Rattle.decision_rule.proofs.RuleLemmas.{least}
+use Rattle.decision_rule.specs.RuleLaws.{least}
 use Rattle.link_base.specs.Answers.{and_then}
 use Rattle.link_base.specs.Fault.{fault_status}
 use Rattle.link_base.specs.declared.fault.Fault.{Fault}
@@ -22,7 +22,7 @@ use Rattle.link_outside.specs.Outside.{Held}
 use Rattle.link_outside.specs.declared.outside.SinkError.{SinkError}
 use Rattle.link_outside.specs.declared.outside.SinkError.TheVariants as sink
 use Rattle.price_check.specs.Assignment.{Certifies, IsGreatest}
-use Rattle.pair_decisions.proofs.PairLemmas.{compared_rise}
+use Rattle.pair_decisions.specs.PairLaws.{compared_rise}
 use Rattle.pair_decisions.specs.Decisions.{decision_at}
 use Rattle.pair_decisions.specs.PairRule.{FileRule}
 use Rattle.review_journal.specs.Verdict.{verdict_on}

@@ -4,7 +4,7 @@ use Rattle.std.specs.Prelude.{All, nat_le}
 use Rattle.std.proofs.lemmas.Bool.{le-leb, leb-true, true≢false}
 use Rattle.std.proofs.lemmas.List.Elements.{All-weaker}
 use Rattle.candidate_links.specs.Candidates.{HasBounds}
-use Rattle.decision_rule.proofs.RuleLemmas.{least}
+use Rattle.decision_rule.specs.RuleLaws.{least}
 use Rattle.link_base.specs.Answers.{and_then}
 use Rattle.link_base.specs.Fault.{fault_status}
 use Rattle.link_base.specs.Rule.{IsWithinRanges}

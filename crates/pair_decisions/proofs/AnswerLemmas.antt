@@ -1,51 +1,35 @@
 -- The counts of a sample by comparators are those by the patterns that their answers give, and so are its faults.
-use Rattle.std.proofs.Common.{◌≡◌, Bool, true, false, List, [], ◌∷◌, map, get_or, refl, ap, sym, ◌∙◌}
+use Rattle.std.proofs.Common.{◌≡◌, Bool, true, false, List, [], map, get_or, ap, sym, ◌∙◌}
 use Rattle.std.specs.Prelude.{MatchBool, Result, Ok, Err, ⊤}
 use Rattle.link_base.specs.Answers.{and_then, RefusesBut}
 use Rattle.link_base.specs.Fault.{is_want}
 use Rattle.link_base.specs.declared.fault.Fault.{Fault}
-use Rattle.link_base.specs.declared.rule.Outcome.{Outcome}
 use Rattle.comparators.specs.Fields.{field_outcome, field_rare}
 use Rattle.comparators.specs.declared.ids.FieldById.{FieldById}
 use Rattle.comparators.specs.declared.ids.IdValue.{IdValue}
-use Rattle.patterns.specs.Patterns.{number_of, outcomes}
+use Rattle.patterns.specs.Patterns.{number_of}
 use Rattle.sample_counts.specs.Counts.{counts_by, judged_by}
 use Rattle.sample_counts.specs.declared.reviewed.Reviewed.{Reviewed}
 use Rattle.pair_decisions.specs.Comparators.{SideComparator, answers_of}
-use Rattle.pair_decisions.specs.PairRule.{pattern_over}
+use Rattle.pair_decisions.specs.PairRule.{pattern_over, rares_in}
 use Rattle.pair_decisions.specs.PlanShares.{counts_by_pattern}
-use Rattle.pair_decisions.proofs.ComparatorLemmas.{map_via}
-
-abbrev rare_in_answers : SideComparator IdValue → Bool
-rare_in_answers c = c.rare
-
-abbrev outcome_in_answers : SideComparator IdValue → IdValue → IdValue → Outcome
-outcome_in_answers c = c.outcome
-
-same_outcomes : (kinds : List FieldById) (xs ys : List IdValue) → outcomes field_outcome kinds xs ys ≡ outcomes outcome_in_answers (map answers_of kinds) xs ys
-same_outcomes [] xs ys = refl
-same_outcomes (c ∷ cs) [] ys = refl
-same_outcomes (c ∷ cs) (x ∷ xs) [] = refl
-same_outcomes (c ∷ cs) (x ∷ xs) (y ∷ ys) = ap (λ os. field_outcome c x y ∷ os) (same_outcomes cs xs ys)
+use Rattle.pair_decisions.proofs.SideLemmas.{outcome_in, outcomes_seen, rares_seen}
 
 module _ (kinds : List FieldById) (rows_a rows_b : List (List IdValue)) where
-  same_rares : map field_rare kinds ≡ map rare_in_answers (map answers_of kinds)
-  same_rares = sym (map_via answers_of rare_in_answers kinds)
-
-  same_judged : (r : Reviewed) → judged_by field_rare field_outcome kinds rows_a rows_b r ≡ judged_by rare_in_answers outcome_in_answers (map answers_of kinds) rows_a rows_b r
+  same_judged : (r : Reviewed) → judged_by field_rare field_outcome kinds rows_a rows_b r ≡ judged_by (λ (c : SideComparator IdValue). c.rare) outcome_in (map answers_of kinds) rows_a rows_b r
   same_judged r = λ i. record {
     matched = r.matched;
-    pattern = number_of (same_rares i) (same_outcomes kinds (get_or rows_a r.a []) (get_or rows_b r.b []) i);
+    pattern = number_of (rares_seen kinds i) (outcomes_seen kinds (get_or rows_a r.a []) (get_or rows_b r.b []) i);
   }
 
   counts_answered : (sample : List Reviewed) → counts_by field_rare field_outcome kinds rows_a rows_b sample
-      ≡ counts_by_pattern (map rare_in_answers (map answers_of kinds)) (pattern_over (map answers_of kinds) rows_a rows_b) sample
-  counts_answered sample = λ i. record { rares = same_rares i; rows = map (λ r. same_judged r i) sample }
+      ≡ counts_by_pattern (rares_in (map answers_of kinds)) (pattern_over (map answers_of kinds) rows_a rows_b) sample
+  counts_answered sample = λ i. record { rares = rares_seen kinds i; rows = map (λ r. same_judged r i) sample }
 
   pub counts_by_answers : (cs : List (SideComparator IdValue)) (rares : List Bool) → map answers_of kinds ≡ cs → map field_rare kinds ≡ rares → (sample : List Reviewed)
       → counts_by field_rare field_outcome kinds rows_a rows_b sample ≡ counts_by_pattern rares (pattern_over cs rows_a rows_b) sample
   counts_by_answers cs rares e r sample =
-      counts_answered sample ∙ ap (λ bs. counts_by_pattern bs (pattern_over (map answers_of kinds) rows_a rows_b) sample) (sym same_rares ∙ r)
+      counts_answered sample ∙ ap (λ bs. counts_by_pattern bs (pattern_over (map answers_of kinds) rows_a rows_b) sample) (sym (rares_seen kinds) ∙ r)
       ∙ ap (λ all. counts_by_pattern rares (pattern_over all rows_a rows_b) sample) e
 
 -- what is given of what is given

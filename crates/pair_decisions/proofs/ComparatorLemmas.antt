@@ -17,6 +17,7 @@ use Rattle.comparators.specs.declared.ids.IdValue.TheVariants as id
 use Rattle.patterns.specs.Patterns.{AreSides}
 use Rattle.link_plan.specs.Ranges.{IsRareNumber, may_be_rare}
 use Rattle.link_plan.specs.Plan.{FieldKeys}
+use Rattle.pair_decisions.specs.CellLaws.{map_via}
 use Rattle.pair_decisions.specs.Comparators.{SideComparator, answers_of, comparator_at, comparator_by, id_counts, rares_of}
 use Rattle.pair_decisions.specs.Sides.{AreSidesOf, IsOfTexts}
 
@@ -46,10 +47,6 @@ kind_not_rare (by.YearsWithin t) = refl
 rare_by : (kind : CompareKind) (counts : List ℕ) (rare : Option ℕ) → (comparator_by kind counts rare).rare ≡ is_some rare
 rare_by kind counts None = kind_not_rare kind
 rare_by kind counts (Some most) = refl
-
-pub map_via : {X Y Z : Type 0} (f : X → Y) (g : Y → Z) (xs : List X) → map g (map f xs) ≡ map (λ x. g (f x)) xs
-map_via f g [] = refl
-map_via f g (x ∷ xs) = ap (λ ys. g (f x) ∷ ys) (map_via f g xs)
 
 module _ (texts : ℕ) (rows_a rows_b : List (List IdValue)) where
   pub rares_from : (n : ℕ) (fields : List FieldKeys) → map (λ (c : SideComparator IdValue). c.rare) (map (comparator_at texts rows_a rows_b) (enumerate_from n fields)) ≡ rares_of fields

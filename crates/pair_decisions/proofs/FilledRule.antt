@@ -1,4 +1,4 @@
--- The rule as a function is a filled table.
+-- The rule as a function is a filled table, and so the only one.
 use Rattle.std.proofs.Common.{◌≡◌, ◌+◌, ◌-◌, ◌/◌, ◌<◌, ◌≤◌, ◌∙◌, ℕ, List, map, ap, arith, refl, reverse, subst, sym}
 use Rattle.std.specs.List.{All, AllPairs}
 use Rattle.std.specs.List.Sorted.{IsPermutation}
@@ -8,14 +8,13 @@ use Rattle.std.proofs.lemmas.List.Sorted.{All-permutation, IsPermutation-reverse
 use Rattle.link_base.specs.declared.rule.RuleCell.{RuleCell}
 use Rattle.link_base.specs.declared.shares.FieldShares.{FieldShares}
 use Rattle.link_limits.specs.declared.TheConstants.{PER_MILLION, WHOLE_RULE}
-use Rattle.decision_rule.specs.Filled.{IsFilled, LinksAreCut, NonlinksAreCut, asked_of, chances_of}
+use Rattle.decision_rule.specs.Filled.{IsFilled, LinksAreCut, NonlinksAreCut, asked_of, chances_of, all_chances}
 use Rattle.decision_rule.specs.Order.{RanksBefore}
 use Rattle.decision_rule.specs.Walk.{CutBy}
-use Rattle.decision_rule.proofs.CutLemmas.{IsCut-from_walk}
-use Rattle.decision_rule.proofs.CutSteps.{links_kept}
-use Rattle.decision_rule.proofs.FilledLemmas.{all_chances, positive_cells}
-use Rattle.decision_rule.proofs.OneFilled.{map_turned}
-use Rattle.decision_rule.proofs.RuleLemmas.{in_order, order_kept, permuted}
+use Rattle.decision_rule.specs.CutLaws.{IsCut-from_walk}
+use Rattle.decision_rule.specs.FilledLaws.{links_kept, one_filled, positive_cells, map_turned}
+use Rattle.decision_rule.specs.RuleLaws.{in_order, order_kept, permuted}
+use Rattle.link_plan.specs.Plan.{PlainShares}
 use Rattle.link_plan.specs.declared.plan.Plan.{Plan}
 use Rattle.pair_decisions.specs.PlanRule.{IsRuleOf}
 use Rattle.pair_decisions.specs.PlanShares.{plain_all}
@@ -138,3 +137,11 @@ the_rule_of_plan plan xs = record {
   same = refl;
   filled = the_rule_is_filled xs plan.mu_ppm plan.lambda_ppm;
 }
+
+pub is_the_rule : (plan : Plan) (shares : List PlainShares) (cells : List RuleCell) → IsRuleOf plan shares cells → cells ≡ the_rule plan.mu_ppm plan.lambda_ppm shares
+is_the_rule plan shares cells rule =
+    one_filled rule.by_shares plan.mu_ppm plan.lambda_ppm cells _ rule.filled (the_rule_is_filled rule.by_shares plan.mu_ppm plan.lambda_ppm)
+    ∙ ap (the_rule plan.mu_ppm plan.lambda_ppm) rule.same
+
+pub one_rule : (plan : Plan) (shares : List PlainShares) (xs ys : List RuleCell) → IsRuleOf plan shares xs → IsRuleOf plan shares ys → xs ≡ ys
+one_rule plan shares xs ys of_xs of_ys = is_the_rule plan shares xs of_xs ∙ sym (is_the_rule plan shares ys of_ys)

@@ -1,13 +1,9 @@
 -- The lines of rows, row by row.
-use Rattle.std.proofs.Common.{◌≡◌, ◌+◌, ◌<◌, ◌∙◌, ℕ, Bool, List, [], ◌∷◌, ◌++◌, length, map, take, get_or, ap, append_assoc, refl, sym}
+use Rattle.std.proofs.Common.{◌≡◌, ◌+◌, ◌<◌, ◌∙◌, ℕ, Bool, List, [], ◌∷◌, ◌++◌, length, map, take, get_or, ap, append_assoc, sym}
 use Rattle.std.specs.List.{flat_map}
 use Rattle.std.proofs.lemmas.Grind.{flat_map-append}
 use Rattle.std.proofs.lemmas.List.{append-nil, map-append, take_more}
-use Rattle.link_base.specs.declared.rule.PairAt.{PairAt}
 use Rattle.link_report.specs.declared.open.PairRow.{PairRow}
-use Rattle.pair_decisions.specs.PairRows.{decided_rows, pair_row_of, pair_rows_of, shown_rows}
-use Rattle.pair_decisions.specs.PairRule.{FileRule}
-use Rattle.review_journal.specs.declared.entry.Entry.{Entry}
 
 -- a line by the fields that may be rare, which stay the same
 pub line_by : (line : List Bool → PairRow → List ℕ) (now start : List Bool) (row : PairRow) (old new : List ℕ) → now ≡ start → new ≡ old ++ line now row → new ≡ old ++ line start row
@@ -23,9 +19,3 @@ line_more line shown rows i d start old new lt told more =
     let all : flat_map line (map shown (take (i + 1) rows)) ≡ flat_map line before ++ line row =
     ap (flat_map line) step ∙ flat_map-append line before (row ∷ []) ∙ ap (λ t. flat_map line before ++ t) (append-nil (line row)) in
     more ∙ ap (λ t. t ++ line row) told ∙ append_assoc start (flat_map line before) (line row) ∙ ap (λ t. start ++ t) (sym all)
-
--- the rows of pairs with the verdicts that are shown at them
-pub rows_shown : (rule : FileRule) (entries : List Entry) (pairs : List PairAt)
-    → shown_rows entries (decided_rows rule pairs) ≡ pair_rows_of rule entries pairs
-rows_shown rule entries [] = refl
-rows_shown rule entries (at ∷ pairs) = ap (λ rows. pair_row_of rule entries at ∷ rows) (rows_shown rule entries pairs)

@@ -5,15 +5,14 @@ use Rattle.std.specs.List.{range_with_len}
 use Rattle.std.proofs.lemmas.List.{length-map}
 use Rattle.link_base.specs.declared.shares.FieldShares.{FieldShares}
 use Rattle.link_limits.specs.declared.TheConstants.{PER_MILLION, WHOLE_FIELD, WHOLE_RULE}
-use Rattle.decision_rule.specs.Filled.{asked_of, chances_at, chances_of}
-use Rattle.decision_rule.proofs.FilledLemmas.{all_chances}
+use Rattle.decision_rule.specs.Filled.{asked_of, chances_at, chances_of, all_chances}
 use Rattle.patterns.specs.Chances.{chance_of, pattern_count_of, weight_of}
 use Rattle.patterns.specs.Shapes.{pattern_count_by}
 use Rattle.patterns.specs.Weight.{eighth_weight_of}
 use Rattle.link_plan.specs.Plan.{PlainShares, plain_shares}
 use Rattle.pair_decisions.specs.PlanShares.{plain_all}
 use Rattle.pair_decisions.specs.TheRule.{cells_of_patterns, cell_of_pattern, plain_chance, plain_count, plain_weight, room_for}
-use Rattle.pair_decisions.proofs.ComparatorLemmas.{map_via}
+use Rattle.pair_decisions.specs.CellLaws.{map_via}
 
 count_is : (xs : List FieldShares) → plain_count (plain_all xs) ≡ pattern_count_of xs
 count_is xs = ap pattern_count_by (map_via plain_shares (λ (s : PlainShares). s.rare) xs)

@@ -1,5 +1,5 @@
--- Ranked cells are a permutation, in order, and their shares are not read.
-use Rattle.std.proofs.Common.{◌≡◌, ◌∙◌, Bool, true, false, List, [], ◌∷◌, map, get_or, suc, ap, arith, refl}
+-- Ranked cells are a permutation, in order.
+use Rattle.std.proofs.Common.{◌≡◌, Bool, true, false, List, [], ◌∷◌, get_or, suc, arith, refl}
 use Rattle.std.specs.Prelude.{if◌then◌else◌}
 use Rattle.std.specs.List.{All, AllPairs}
 use Rattle.std.specs.List.Sorted.{IsPermutation}
@@ -8,7 +8,7 @@ use Rattle.std.proofs.lemmas.List.Kept.{AllPairs-cons}
 use Rattle.std.proofs.lemmas.List.Sorted.{All-permutation, IsPermutation-cons, IsPermutation-middle, IsPermutation-refl, IsPermutation-sym, IsPermutation-trans}
 use Rattle.link_base.specs.declared.rule.RuleCell.{RuleCell}
 use Rattle.decision_rule.specs.Sorting.{ranks_before}
-use Rattle.decision_rule.proofs.OrderLemmas.{ranks_before-IsStrictWeakOrder}
+use Rattle.decision_rule.specs.SortingLaws.{ranks_before-IsStrictWeakOrder}
 use Rattle.pair_decisions.specs.TheRule.{ranked, ranked_with}
 
 -- ---- a permutation
@@ -54,21 +54,3 @@ ordered_with c (d ∷ cells) h =
 pub ranked_in_order : (cells : List RuleCell) → AllPairs Stands (ranked cells)
 ranked_in_order [] = λ i j e lt there. absurd (omega arith)
 ranked_in_order (c ∷ cells) = ordered_with c (ranked cells) (ranked_in_order cells)
-
--- ---- the shares are not read
-
-abbrev pub bare : RuleCell → RuleCell
-bare c = record c { link = 0; nonlink = 0 }
-
-bare_at : (b : Bool) (c d : RuleCell) (cells with_c : List RuleCell) → map bare (if b then c ∷ d ∷ cells else (d ∷ with_c)) ≡ (if b then bare c ∷ bare d ∷ map bare cells else (bare d ∷ map bare with_c))
-bare_at true c d cells with_c = refl
-bare_at false c d cells with_c = refl
-
-bare_with : (c : RuleCell) (cells : List RuleCell) → map bare (ranked_with c cells) ≡ ranked_with (bare c) (map bare cells)
-bare_with c [] = refl
-bare_with c (d ∷ cells) =
-    bare_at (ranks_before c d) c d cells (ranked_with c cells) ∙ ap (λ rest. if ranks_before c d then bare c ∷ bare d ∷ map bare cells else (bare d ∷ rest)) (bare_with c cells)
-
-pub bare_ranked : (cells : List RuleCell) → map bare (ranked cells) ≡ ranked (map bare cells)
-bare_ranked [] = refl
-bare_ranked (c ∷ cells) = bare_with c (ranked cells) ∙ ap (ranked_with (bare c)) (bare_ranked cells)

@@ -8,7 +8,7 @@ use Rattle.comparators.specs.declared.ids.IdValue.{IdValue}
 use Rattle.link_base.specs.Rule.{IsPairBefore}
 use Rattle.link_base.specs.declared.rule.PairAt.{PairAt}
 use Rattle.link_report.specs.declared.open.PairRow.{PairRow}
-use Rattle.patterns.proofs.PatternNumbers.{pattern-lt}
+use Rattle.patterns.specs.ShapeLaws.{pattern-lt}
 use Rattle.patterns.specs.Shapes.{pattern_count_by}
 use Rattle.pair_decisions.proofs.SideLemmas.{pattern_seen}
 use Rattle.pair_decisions.specs.Comparators.{answers_of}

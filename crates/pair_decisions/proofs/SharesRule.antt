@@ -15,8 +15,7 @@ use Rattle.link_base.specs.Standard.{Record}
 use Rattle.link_base.specs.declared.fault.Fault.{Fault}
 use Rattle.link_base.specs.declared.fault.FileRole.TheVariants as role
 use Rattle.link_base.specs.declared.plan.CompareKind.{CompareKind}
-use Rattle.link_base.specs.declared.rule.Outcome.{Outcome}
-use Rattle.link_base.specs.declared.rule.Outcome.TheVariants.{Agree, Disagree, Missing, Rare}
+use Rattle.link_base.specs.declared.rule.Outcome.TheVariants.{Rare}
 use Rattle.link_base.specs.declared.rule.PairAt.{PairAt}
 use Rattle.link_base.specs.declared.shares.FieldShares.{FieldShares}
 use Rattle.link_base.specs.declared.standard.Value.{Value}
@@ -26,8 +25,7 @@ use Rattle.link_plan.specs.Ranges.{AreShares}
 use Rattle.link_plan.specs.declared.plan.Plan.{Plan}
 use Rattle.patterns.specs.Patterns.{number_of, outcomes}
 use Rattle.patterns.specs.Shapes.{digit_of, pattern_count_by}
-use Rattle.patterns.proofs.Digits.{count-pos}
-use Rattle.patterns.proofs.PatternNumbers.{digit-lt}
+use Rattle.patterns.specs.ShapeLaws.{count-pos, digit-lt}
 use Rattle.sample_counts.specs.Counts.{CountsState, count_of, has_status}
 use Rattle.sample_counts.specs.Sample.{reviewed_rows, sample_of, sample_under, sample_wanted, with_both}
 use Rattle.sample_counts.specs.declared.counts.Judged.{Judged}

@@ -5,17 +5,17 @@ use Rattle.comparators.specs.declared.ids.FieldById.{FieldById}
 use Rattle.comparators.specs.declared.ids.IdValue.{IdValue}
 use Rattle.link_base.specs.declared.rule.Outcome.{Outcome}
 use Rattle.patterns.specs.Patterns.{number_of, outcomes}
-use Rattle.pair_decisions.proofs.ComparatorLemmas.{map_via}
+use Rattle.pair_decisions.specs.CellLaws.{map_via}
 use Rattle.pair_decisions.specs.Comparators.{SideComparator, answers_of}
 use Rattle.pair_decisions.specs.PairRule.{pattern_by, rares_in}
 
-rares_seen : (all : List FieldById) → map field_rare all ≡ rares_in (map answers_of all)
+pub rares_seen : (all : List FieldById) → map field_rare all ≡ rares_in (map answers_of all)
 rares_seen all = sym (map_via answers_of (λ (c : SideComparator IdValue). c.rare) all)
 
-abbrev outcome_in : SideComparator IdValue → IdValue → IdValue → Outcome
+abbrev pub outcome_in : SideComparator IdValue → IdValue → IdValue → Outcome
 outcome_in c = c.outcome
 
-outcomes_seen : (all : List FieldById) (a b : List IdValue) → outcomes field_outcome all a b ≡ outcomes outcome_in (map answers_of all) a b
+pub outcomes_seen : (all : List FieldById) (a b : List IdValue) → outcomes field_outcome all a b ≡ outcomes outcome_in (map answers_of all) a b
 outcomes_seen [] a b = refl
 outcomes_seen (c ∷ cs) [] b = refl
 outcomes_seen (c ∷ cs) (x ∷ xs) [] = refl

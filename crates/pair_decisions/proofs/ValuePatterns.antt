@@ -1,13 +1,13 @@
 -- The comparison pattern of two rows of ids and days that stand for the values of two records is that of the records.
 use Rattle.std.proofs.Common.{◌≡◌, ◌+◌, ◌<◌, ◌≤◌, ℕ, suc, Bool, true, false, List, [], ◌∷◌, length, map, get_or, Option, Some, None, ap, arith, refl, subst, sym, ◌∙◌, inl, inr, nat_le}
 use Rattle.std.specs.Prelude.{MatchBool, is_some, slice_get, slice_index}
-use Rattle.std.specs.List.{enumerate_from, range_with_len}
+use Rattle.std.specs.List.{enumerate_from}
 use Rattle.std.proofs.lemmas.Bool.{cases_lt}
 use Rattle.std.proofs.lemmas.List.{get_or-map, get_or_past, length-map}
 use Rattle.std.proofs.lemmas.List.FromFn.{get_or-map-range_with_len}
 use Rattle.std.proofs.lemmas.Option.{slice_get_within}
-use Rattle.comparators.proofs.IdLemmas.{outcomes_alike, rare_alike}
-use Rattle.comparators.specs.Fields.{field_of, field_outcome, id_in, kind_of, kind_outcome}
+use Rattle.comparators.specs.OfPoolLaws.{outcomes_alike, rare_alike}
+use Rattle.comparators.specs.Fields.{id_in, kind_of, kind_outcome}
 use Rattle.comparators.specs.Laws.{outcome_by, outcome_of_counted, outcome_of_texts}
 use Rattle.comparators.specs.OfPool.{IsDayItself, NamesCanon, rare_where, StandsFor}
 use Rattle.comparators.specs.declared.ids.IdValue.{IdValue}
@@ -17,7 +17,6 @@ use Rattle.link_base.specs.declared.plan.CompareKind.{CompareKind}
 use Rattle.link_base.specs.declared.plan.CompareKind.TheVariants as by
 use Rattle.link_base.specs.declared.rule.Outcome.{Outcome}
 use Rattle.link_base.specs.declared.rule.Outcome.TheVariants.{Missing}
-use Rattle.link_base.specs.declared.rule.PairAt.{PairAt}
 use Rattle.link_base.specs.declared.standard.Value.{Value}
 use Rattle.link_plan.specs.Plan.{FieldKeys}
 use Rattle.link_plan.specs.Ranges.{KeepsRanges, may_be_rare}

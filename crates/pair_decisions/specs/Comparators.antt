@@ -1,6 +1,6 @@
 -- The comparators of a plan's fields over ids of canons and over days. A field with a rare number tells agreement on a
 -- value that stands in at most so many rows of both files together from other agreement (Newcombe et al. 1959).
--- `comparisons_of` carries it (clause `comparators`).
+-- `comparisons_of` carries it (part `answers` of its lone clause).
 use Rattle.std.specs.Prelude.{◌+◌, ◌==◌, ℕ, Bool, true, false, List, map, filter, length, Option, Some, None, slice_index_or, is_some}
 use Rattle.std.specs.List.{enumerate_from, range_with_len}
 use Rattle.link_base.specs.declared.plan.CompareKind.{CompareKind}

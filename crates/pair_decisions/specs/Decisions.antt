@@ -1,5 +1,5 @@
--- The decisions of a rule on pairs of two files (Fellegi and Sunter 1969, section 2). `decide_pairs` carries them (clauses
--- `decisions`, `counts` and `lists`); the decision on one pair is by `decide_in_cell`.
+-- The decisions of a rule on pairs of two files (Fellegi and Sunter 1969, section 2). `decide_pairs` carries them (clause
+-- `decided`); the decision on one pair is by `decide_in_cell`.
 use Rattle.std.specs.Prelude.{◌≡◌, ◌+◌, ◌-◌, ◌≤◌, ℕ, Bool, true, false, List, All, AllPairs, filter, length}
 use Rattle.link_limits.specs.declared.TheConstants.{MOST_PAIRS}
 use Rattle.comparators.specs.declared.ids.IdValue.{IdValue}

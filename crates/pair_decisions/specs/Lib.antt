@@ -10,3 +10,7 @@ pub mod TheRule
 pub mod RareValues
 pub mod FieldComparators
 pub mod PairRows
+pub mod CellLaws
+pub mod SideLaws
+pub mod PairLaws
+pub mod Found

@@ -1,15 +1,16 @@
 -- The rows of compared pairs: each with its comparison pattern, the weight and the decision of the pattern's cell (Fellegi and
--- Sunter 1969, section 2), and the verdict of clerical review. `decide_pairs` finds them before review (clause `rows`), and
+-- Sunter 1969, section 2), and the verdict of clerical review. `decide_pairs` finds them before review (clause `decided`), and
 -- `pair_lines` writes them with their verdicts (its lone clause).
-use Rattle.std.specs.Prelude.{◌<◌, ℕ, Bool, true, false, List, [], All, AllPairs, map, Option, None}
+use Rattle.std.specs.Prelude.{◌≡◌, ◌<◌, ℕ, Bool, true, false, List, [], All, AllPairs, length, map, Option, None}
+use Rattle.comparators.specs.declared.ids.IdValue.{IdValue}
 use Rattle.link_base.specs.declared.rule.Decision.{Decision}
 use Rattle.link_base.specs.declared.rule.Decision.TheVariants.{Possible}
 use Rattle.link_base.specs.declared.rule.PairAt.{PairAt}
 use Rattle.link_base.specs.declared.rule.Verdict.{Verdict}
 use Rattle.link_base.specs.Rule.{IsPairBefore}
 use Rattle.link_report.specs.declared.open.PairRow.{PairRow}
-use Rattle.pair_decisions.specs.Decisions.{decision_at}
-use Rattle.pair_decisions.specs.PairRule.{cell_of, FileRule}
+use Rattle.pair_decisions.specs.Decisions.{AreDecisionsOn, AreListsIn, count_with, DecidedView, decision_at, pairs_with}
+use Rattle.pair_decisions.specs.PairRule.{cell_of, FileRule, PairRuleView, side_rule}
 use Rattle.review_journal.specs.Verdict.{verdict_on}
 use Rattle.review_journal.specs.declared.entry.Entry.{Entry}
 
@@ -17,22 +18,6 @@ use Rattle.review_journal.specs.declared.entry.Entry.{Entry}
 abbrev pub shown_verdict : List Entry → PairAt → Decision → Option Verdict
 shown_verdict entries at Possible = verdict_on entries at.a at.b
 shown_verdict entries at decision = None
-
--- the row of a pair
-abbrev pub pair_row_of : FileRule → List Entry → PairAt → PairRow
-pair_row_of rule entries at =
-    let pattern = rule.pattern at in
-    let decision = decision_at rule at in
-    record {
-      at = at;
-      pattern = pattern;
-      weight = (cell_of rule.cells pattern).weight;
-      decision = decision;
-      verdict = shown_verdict entries at decision;
-    }
-
-abbrev pub pair_rows_of : FileRule → List Entry → List PairAt → List PairRow
-pair_rows_of rule entries pairs = map (pair_row_of rule entries) pairs
 
 -- the row of a pair before review, and those of pairs
 abbrev pub decided_row : FileRule → PairAt → PairRow
@@ -61,9 +46,23 @@ shown_row entries row = record row { verdict = shown_verdict entries row.at row.
 abbrev pub shown_rows : List Entry → List PairRow → List PairRow
 shown_rows entries rows = map (shown_row entries) rows
 
+-- the rows of pairs with the verdicts that are shown at them
+abbrev pub pair_rows_of : FileRule → List Entry → List PairAt → List PairRow
+pair_rows_of rule entries pairs = shown_rows entries (decided_rows rule pairs)
+
 -- rows that can be written: they rise, stand in files of so many records, and have some of so many patterns
 pub record AreRowsIn (rows_a rows_b patterns : ℕ) (rows : List PairRow) : Type 0 where
   pub in_a : All (λ (r : PairRow). r.at.a < rows_a) rows
   pub in_b : All (λ (r : PairRow). r.at.b < rows_b) rows
   pub patterns_in : All (λ (r : PairRow). r.pattern < patterns) rows
   pub rising : AllPairs (λ (r s : PairRow). IsPairBefore r.at s.at) rows
+
+-- decided pairs are those of a rule on these pairs, over these rows of sides: its decisions, how many pairs have each, and the rows of the
+-- pairs where they are kept, all within the files
+pub record IsDecidedOn (rule : PairRuleView) (with_rows : Bool) (rows_a rows_b : List (List IdValue)) (pairs : List PairAt) (d : DecidedView) : Type 0 where
+  pub by_rule : d.rule ≡ rule
+  pub decisions : AreDecisionsOn rows_a rows_b pairs d
+  pub counts : (kind : Decision) → count_with d kind ≡ length (pairs_with kind (side_rule rule rows_a rows_b) pairs)
+  pub lists : AreListsIn (length rows_a) (length rows_b) d
+  pub rows : d.rows ≡ kept_rows with_rows (decided_rows (side_rule rule rows_a rows_b) pairs)
+  pub rows_in : AreRowsIn (length rows_a) (length rows_b) (length d.rule.cells) d.rows

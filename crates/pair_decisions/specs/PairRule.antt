@@ -1,7 +1,7 @@
 -- A decision rule over two files (Fellegi and Sunter 1969, section 2), and the one that a `PairRule` is seen as (`PairRule::new`,
--- clauses `comparators`, `cells` and `seed`): the pattern of two rows by it (`PairRule::pattern`, clause `number`), and the cell
+-- its lone clause): the pattern of two rows by it (`PairRule::pattern`, clause `number`), and the cell
 -- of a pattern (`PairRule::cell`, clause `found`).
-use Rattle.std.specs.Prelude.{ℕ, ◌==◌, Bool, List, [], map, find, slice_index_or, unwrap_or, IsPermutation}
+use Rattle.std.specs.Prelude.{◌≡◌, All, ℕ, ◌==◌, Bool, List, [], map, find, slice_index_or, unwrap_or, IsPermutation}
 use Rattle.std.specs.List.{range_with_len}
 use Rattle.comparators.specs.Fields.{IsFieldSide}
 use Rattle.comparators.specs.declared.ids.FieldById.{FieldById}
@@ -10,7 +10,8 @@ use Rattle.link_base.specs.Rule.{empty_cell}
 use Rattle.link_base.specs.declared.rule.PairAt.{PairAt}
 use Rattle.link_base.specs.declared.rule.RuleCell.{RuleCell}
 use Rattle.patterns.specs.Patterns.{AreSides, number_of, outcomes}
-use Rattle.pair_decisions.specs.Comparators.{answers_of, SideComparator}
+use Rattle.link_plan.specs.declared.plan.Plan.{Plan}
+use Rattle.pair_decisions.specs.Comparators.{answers_of, comparators_of, SideComparator}
 
 -- the comparators, the cells of the filled table, and the seed of the border words
 pub record PairRuleView : Type 0 where
@@ -59,3 +60,11 @@ cell_of cells pattern = unwrap_or (find (has_pattern pattern) cells) empty_cell
 -- each of so many patterns stands in one cell
 abbrev pub AreCellsOf : ℕ → List RuleCell → Type 0
 AreCellsOf patterns cells = IsPermutation (range_with_len 0 patterns) (map (λ (c : RuleCell). c.pattern) cells)
+
+-- the rule of a plan over these rows of sides, which name so many texts, by the cells of its table
+pub record IsRuleOver (plan : Plan) (texts : ℕ) (table : List RuleCell) (rows_a rows_b : List (List IdValue)) (rule : PairRuleView) : Type 0 where
+  pub comparators : map answers_of rule.comparators ≡ comparators_of texts plan.fields rows_a rows_b
+  pub cells : rule.cells ≡ table
+  pub seed : rule.seed ≡ plan.seed
+  pub sides_a : All (AreSidesFor rule) rows_a
+  pub sides_b : All (AreSidesFor rule) rows_b

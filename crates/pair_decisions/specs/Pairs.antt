@@ -1,5 +1,5 @@
 -- Lists of pairs: the compared pairs where they are not too many (`decide_pairs`, clause `answer`), and pairs that stand in two files (clause
--- `lists`).
+-- `decided`).
 use Rattle.std.specs.Prelude.{◌<◌, ℕ, List, length, nat_le, if◌then◌else◌, Result, Ok, Err}
 use Rattle.link_limits.specs.declared.TheConstants.{MOST_PAIRS}
 use Rattle.link_base.specs.declared.fault.Fault.{Fault}

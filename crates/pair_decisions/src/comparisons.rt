@@ -1,17 +1,16 @@
 // The comparators of a plan's fields.
-ghost use Rattle.std.specs.Prelude.{◌≡◌, ◌<◌, ◌≤◌, ℕ, List, All, IfOk, IfSome, length, map, slice_index_or};
-ghost use Rattle.comparators.specs.Fields.{IsFieldSide, field_of, field_rare};
+ghost use Rattle.std.specs.Prelude.{◌≡◌, ◌<◌, ◌≤◌, List, All, IfOk, IfSome, length, slice_index_or};
+ghost use Rattle.comparators.specs.Fields.{IsFieldSide, field_of};
 ghost use Rattle.comparators.specs.declared.ids.IdValue.{IdValue as SideValue};
 ghost use Rattle.comparators.specs.declared.ids.IdValue.TheVariants as id;
-ghost use Rattle.patterns.specs.Patterns.{AreSides};
-ghost use Rattle.pair_decisions.specs.Comparators.{answers_of, comparator_by, comparators_of, id_counts, rares_of};
-ghost use Rattle.pair_decisions.specs.Sides.{AreSidesOf, IsOfTexts};
+ghost use Rattle.pair_decisions.specs.Comparators.{answers_of, comparator_by, id_counts};
+ghost use Rattle.pair_decisions.specs.Sides.{AreComparatorsOver, AreSidesOf, IsOfTexts};
 ghost use Rattle.link_plan.specs.Ranges.{IsRareNumber, KeepsRanges};
 
 use crate::id_counts::counts_in;
 use comparators::{FieldById, IdTable};
 use link_base::NoMemory;
-use link_limits::{MOST_FIELDS, MOST_ROWS};
+use link_limits::MOST_ROWS;
 use link_plan::{FieldPlan, Plan};
 use std::alloc::Global;
 
@@ -55,12 +54,7 @@ pub fn comparisons_of(
     requires few_b { length sides_b.now.rows ≤ MOST_ROWS }
     requires sides_a { All (AreSidesOf texts plan.now.fields) sides_a.now.rows }
     requires sides_b { All (AreSidesOf texts plan.now.fields) sides_b.now.rows }
-    ensures comparators { IfOk result (λ all. map answers_of all.items ≡ comparators_of texts plan.now.fields sides_a.now.rows sides_b.now.rows) }
-    ensures rares { IfOk result (λ all. map field_rare all.items ≡ rares_of plan.now.fields) }
-    ensures some { IfOk result (λ all. 1 ≤ length all.items) }
-    ensures few { IfOk result (λ all. length all.items ≤ MOST_FIELDS) }
-    ensures valid_a { IfOk result (λ all. All (AreSides IsFieldSide all.items) sides_a.now.rows) }
-    ensures valid_b { IfOk result (λ all. All (AreSides IsFieldSide all.items) sides_b.now.rows) }
+    ensures { IfOk result (λ all. AreComparatorsOver texts plan.now.fields sides_a.now.rows sides_b.now.rows all.items) }
 {
     let fields = plan.fields.fields();
     let mut all = Vec::new(alloc);

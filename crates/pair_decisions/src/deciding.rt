@@ -1,11 +1,10 @@
 // The decisions on the pairs of blocks.
 ghost use Rattle.std.specs.Prelude.{◌≡◌, ◌≤◌, All, AllPairs, IfErr, IfOk, length};
 ghost use Rattle.link_base.specs.Fault.{Gives, IsInputFault};
-ghost use Rattle.link_base.specs.declared.rule.Decision.{Decision};
 ghost use Rattle.link_base.specs.Rule.{IsPairBefore};
-ghost use Rattle.pair_decisions.specs.Decisions.{AreDecisionsOn, AreListsIn, count_with, pairs_with};
-ghost use Rattle.pair_decisions.specs.PairRule.{AreSidesFor, side_rule};
-ghost use Rattle.pair_decisions.specs.PairRows.{AreRowsIn, decided_rows, kept_rows};
+ghost use Rattle.pair_decisions.specs.Decisions.{count_with};
+ghost use Rattle.pair_decisions.specs.PairRule.{AreSidesFor};
+ghost use Rattle.pair_decisions.specs.PairRows.{IsDecidedOn};
 ghost use Rattle.pair_decisions.specs.Pairs.{IsInside, pairs_within};
 ghost use Rattle.pair_walk.specs.Pairs.{pairs_of_rows};
 
@@ -111,12 +110,7 @@ pub fn decide_pairs(
     requires rising { AllPairs IsPairBefore (pairs_of_rows blocks.now) }
     ensures kind { IfErr result IsInputFault }
     ensures answer { Gives (λ _. pairs_of_rows blocks.now) (pairs_within (pairs_of_rows blocks.now)) result }
-    ensures rule { IfOk result (λ d. d.rule ≡ rule) }
-    ensures rows { IfOk result (λ d. d.rows ≡ kept_rows with_rows (decided_rows (side_rule rule sides_a.now.rows sides_b.now.rows) (pairs_of_rows blocks.now))) }
-    ensures rows_in { IfOk result (λ d. AreRowsIn (length sides_a.now.rows) (length sides_b.now.rows) (length d.rule.cells) d.rows) }
-    ensures counts { IfOk result (λ d. (kind : Decision) → count_with d kind ≡ length (pairs_with kind (side_rule rule sides_a.now.rows sides_b.now.rows) (pairs_of_rows blocks.now))) }
-    ensures lists { IfOk result (AreListsIn (length sides_a.now.rows) (length sides_b.now.rows)) }
-    ensures decisions { IfOk result (AreDecisionsOn sides_a.now.rows sides_b.now.rows (pairs_of_rows blocks.now)) }
+    ensures decided { IfOk result (IsDecidedOn rule with_rows sides_a.now.rows sides_b.now.rows (pairs_of_rows blocks.now)) }
 {
     rule.has_cells();
     match decide_rows(alloc, blocks.walk(), &rule, sides_a, sides_b, with_rows) {

@@ -2,9 +2,9 @@
 ghost use Rattle.std.specs.Prelude.{◌≡◌, ◌<◌, ◌≤◌, All, IfOk, Some, find, length, map};
 ghost use Rattle.comparators.specs.Fields.{field_rare};
 ghost use Rattle.link_base.specs.Rule.{IsWithinRanges};
-ghost use Rattle.pair_decisions.specs.PairRule.{AreCellsOf, AreSidesFor, has_pattern, pattern_by};
+ghost use Rattle.pair_decisions.specs.PairRule.{AreCellsOf, AreSidesFor, has_pattern, IsRuleOver, pattern_by};
 ghost use Rattle.patterns.specs.Shapes.{pattern_count_by};
-ghost use Rattle.pair_decisions.specs.Comparators.{answers_of, comparators_of, rares_of};
+ghost use Rattle.pair_decisions.specs.Comparators.{answers_of, rares_of};
 ghost use Rattle.pair_decisions.specs.Sides.{AreSidesOf};
 ghost use Rattle.link_plan.specs.Ranges.{KeepsRanges};
 
@@ -57,11 +57,7 @@ impl PairRule {
         requires sides_a { All (AreSidesOf texts plan.now.fields) sides_a.now.rows }
         requires sides_b { All (AreSidesOf texts plan.now.fields) sides_b.now.rows }
         requires cells { AreCellsOf (pattern_count_by (rares_of plan.now.fields)) table.cells.items }
-        ensures comparators { IfOk result (λ rule. map answers_of rule.comparators ≡ comparators_of texts plan.now.fields sides_a.now.rows sides_b.now.rows) }
-        ensures cells { IfOk result (λ rule. rule.cells ≡ table.cells.items) }
-        ensures seed { IfOk result (λ rule. rule.seed ≡ plan.now.seed) }
-        ensures sides_a { IfOk result (λ rule. All (AreSidesFor rule) sides_a.now.rows) }
-        ensures sides_b { IfOk result (λ rule. All (AreSidesFor rule) sides_b.now.rows) }
+        ensures { IfOk result (IsRuleOver plan.now texts table.cells.items sides_a.now.rows sides_b.now.rows) }
     {
         let comparators = comparisons_of(alloc, plan, texts, sides_a, sides_b)?;
         let places = places_of(alloc, table.cells())?;

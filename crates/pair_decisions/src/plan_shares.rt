@@ -1,11 +1,11 @@
 // The shares of a plan's fields.
-ghost use Rattle.std.specs.Prelude.{◌≡◌, ◌<◌, ◌≤◌, ℕ, All, None, false, IfErr, IfOk, length, slice_index_or, true};
+ghost use Rattle.std.specs.Prelude.{◌≡◌, ◌<◌, ◌≤◌, All, None, false, IfErr, IfOk, length, slice_index_or, true};
 ghost use Rattle.link_base.specs.Fault.{Gives, IsInputFault};
-ghost use Rattle.link_base.specs.Shares.{IsShares, outcomes_of};
+ghost use Rattle.link_base.specs.Shares.{IsShares};
 ghost use Rattle.patterns.specs.Chances.{rare_in};
 ghost use Rattle.pair_decisions.specs.Comparators.{comparators_of, rares_of};
 ghost use Rattle.pair_decisions.specs.PairRule.{pattern_over};
-ghost use Rattle.pair_decisions.specs.PlanShares.{counted_in, given_in, outcome_counts, plain_all, remainder_shares, shares_at, shares_in, status_shares};
+ghost use Rattle.pair_decisions.specs.PlanShares.{counted_in, given_in, plain_all, shares_at, shares_in, status_shares};
 ghost use Rattle.pair_decisions.specs.Sides.{AreSidesOf};
 ghost use Rattle.link_plan.specs.Plan.{plain_shares};
 ghost use Rattle.link_plan.specs.Ranges.{KeepsRanges};

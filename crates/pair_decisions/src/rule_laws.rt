@@ -1,5 +1,5 @@
 // What holds of every rule of a plan, and what its rare numbers count.
-ghost use Rattle.std.specs.Prelude.{◌≡◌, ◌+◌, ◌<◌, List, None, Ok, Some, false, length, slice_get, ℕ};
+ghost use Rattle.std.specs.Prelude.{◌≡◌, ◌+◌, ◌<◌, List, Ok, Some, false, length, slice_get, ℕ};
 ghost use Rattle.comparators.specs.declared.ids.IdValue.{IdValue};
 ghost use Rattle.link_base.specs.Standard.{Record};
 ghost use Rattle.link_base.specs.declared.plan.CompareKind.{CompareKind};

@@ -1,8 +1,9 @@
 // The decisions on the pairs of a walk.
 ghost use Rattle.std.specs.Prelude.{◌≡◌, ◌<◌, ◌≤◌, ◌+◌, ◌++◌, ◌∷◌, [], All, IfErr, IfOk, OnOk, if◌then◌else◌, length, map};
 ghost use Rattle.link_base.specs.declared.rule.Decision.TheVariants.{Link, Possible};
-ghost use Rattle.pair_decisions.specs.Decisions.{is_same, pairs_with};
-ghost use Rattle.pair_decisions.specs.PairRows.{decided_rows, kept_rows};
+ghost use Rattle.pair_decisions.specs.Decisions.{is_same};
+ghost use Rattle.pair_decisions.specs.Found.{AddsDecisions, IsFoundOf};
+ghost use Rattle.pair_decisions.specs.PairRows.{kept_rows};
 ghost use Rattle.pair_decisions.specs.PairRule.{AreSidesFor, side_rule};
 ghost use Rattle.pair_decisions.specs.Pairs.{IsInside};
 ghost use Rattle.pair_walk.specs.Pairs.{pair, pairs_of_rows};
@@ -89,9 +90,7 @@ fn decide_row(
     requires inside { All (IsInside (length sides_a.now.rows) (length sides_b.now.rows)) (map (pair row.now.a) row.now.bs.items) }
     requires few { found.old.compared + length row.now.bs.items ≤ MOST_PAIRS }
     ensures same { words.new ≡ words.old }
-    ensures rows { OnOk result (found.new.rows.items ≡ found.old.rows.items ++ kept_rows with_rows (decided_rows (side_rule rule.now sides_a.now.rows sides_b.now.rows) (map (pair row.now.a) row.now.bs.items))) }
-    ensures links { OnOk result (found.new.links.items ≡ found.old.links.items ++ pairs_with Link (side_rule rule.now sides_a.now.rows sides_b.now.rows) (map (pair row.now.a) row.now.bs.items)) }
-    ensures possible { OnOk result (found.new.possible.items ≡ found.old.possible.items ++ pairs_with Possible (side_rule rule.now sides_a.now.rows sides_b.now.rows) (map (pair row.now.a) row.now.bs.items)) }
+    ensures found { OnOk result (AddsDecisions (side_rule rule.now sides_a.now.rows sides_b.now.rows) with_rows (map (pair row.now.a) row.now.bs.items) found.old found.new) }
     ensures compared { found.new.compared ≡ found.old.compared + length row.now.bs.items }
 {
     found.compared += row.bs.len() as u32;
@@ -121,10 +120,7 @@ pub(crate) fn decide_rows(
     requires inside { All (IsInside (length sides_a.now.rows) (length sides_b.now.rows)) (pairs_of_rows walker.left) }
     ensures refused { IfErr result (RefusesPairs (pairs_of_rows walker.entry.left)) }
     ensures few { IfOk result (λ _. length (pairs_of_rows walker.entry.left) ≤ MOST_PAIRS) }
-    ensures compared { IfOk result (λ found. found.compared ≡ length (pairs_of_rows walker.entry.left)) }
-    ensures rows { IfOk result (λ found. found.rows.items ≡ kept_rows with_rows (decided_rows (side_rule rule.now sides_a.now.rows sides_b.now.rows) (pairs_of_rows walker.entry.left))) }
-    ensures links { IfOk result (λ found. found.links.items ≡ pairs_with Link (side_rule rule.now sides_a.now.rows sides_b.now.rows) (pairs_of_rows walker.entry.left)) }
-    ensures possible { IfOk result (λ found. found.possible.items ≡ pairs_with Possible (side_rule rule.now sides_a.now.rows sides_b.now.rows) (pairs_of_rows walker.entry.left)) }
+    ensures found { IfOk result (IsFoundOf (side_rule rule.now sides_a.now.rows sides_b.now.rows) with_rows (pairs_of_rows walker.entry.left)) }
 {
     let mut words = BorderWords::new(rule.seed());
     let kept = match room_for_rows(alloc, &walker, with_rows) {

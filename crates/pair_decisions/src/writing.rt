@@ -1,5 +1,5 @@
 // The lines of the rows of pairs.
-ghost use Rattle.std.specs.Prelude.{◌≡◌, ◌<◌, ◌++◌, IfOk, IfSome, List, None, OnOk, Some, length};
+ghost use Rattle.std.specs.Prelude.{◌≡◌, ◌<◌, ◌++◌, IfSome, List, None, OnOk, Some, length};
 ghost use Rattle.std.specs.List.{flat_map};
 ghost use Rattle.link_base.specs.Standard.{id_at, Record};
 ghost use Rattle.link_report.specs.Lines.{front_of, id_fields};

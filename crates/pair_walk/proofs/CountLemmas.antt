@@ -4,7 +4,7 @@ use Rattle.std.proofs.lemmas.List.{length-map}
 use Rattle.std.specs.List.{range_with_len, sum_by}
 use Rattle.std.proofs.lemmas.Bool.{cases_Bool}
 use Rattle.std.proofs.lemmas.List.Sums.{sum_by-cons, sum_by_more}
-use Rattle.block_passes.proofs.TestLemmas.{filter-agree, filter-empty}
+use Rattle.block_passes.specs.FilterLaws.{filter-agree, filter-empty}
 use Rattle.pair_walk.specs.Joining.{AreAsLong, either, gathered, joined_from, joined_rows, stands_in}
 use Rattle.pair_walk.specs.Pairs.{pair, pairs_of_rows}
 use Rattle.pair_walk.specs.Rows.{RowAt}

@@ -1,17 +1,13 @@
 -- The members of filters.
-use Rattle.std.proofs.Common.{◌≡◌, ◌+◌, ◌<◌, ◌≤◌, ◌==◌, ◌∷◌, ◌++◌, ℕ, zero, suc, List, [], filter, Bool, true, false, ◌||◌, refl, sym, ap, ◌∙◌, arith, inl, inr}
+use Rattle.std.proofs.Common.{◌≡◌, ◌+◌, ◌<◌, ◌≤◌, ◌==◌, ◌∷◌, ◌++◌, ℕ, zero, suc, List, [], filter, Bool, true, false, ◌||◌, refl, sym, ap, ◌∙◌, arith, inl, inr, eq-eqb}
 use Rattle.std.specs.List.{range_with_len}
 use Rattle.std.proofs.lemmas.Bool.{cases_Bool, cases_eq}
-use Rattle.block_passes.proofs.TestLemmas.{filter-agree, true-eq}
+use Rattle.block_passes.specs.FilterLaws.{apart, filter-agree}
 use Rattle.pair_walk.specs.Joining.{IsRisingBelow, stands_in}
 
 or-assoc : (p q r : Bool) → ((p || q) || r) ≡ (p || (q || r))
 or-assoc true q r = refl
 or-assoc false q r = refl
-
-pub or-false : (p : Bool) → (p || false) ≡ p
-or-false true = refl
-or-false false = refl
 
 pub stands-append : (xs ys : List ℕ) (n : ℕ) → stands_in (xs ++ ys) n ≡ (stands_in xs n || stands_in ys n)
 stands-append [] ys n = refl
@@ -19,12 +15,6 @@ stands-append (x ∷ xs) ys n = ap (λ b. (x == n) || b) (stands-append xs ys n)
 
 differ : (s n : ℕ) → n < s → (s == n) ≡ false
 differ s n lt = grind arith
-
-apart : (s n : ℕ) → (s ≡ n → ⊥) → (s == n) ≡ false
-apart s n ne = elim (cases_Bool (s == n)) [
-  | inl same ↦ absurd (ne (grind arith))
-  | inr other ↦ other
-]
 
 stands-below : (p : ℕ → Bool) (s c n : ℕ) → n < s → stands_in (filter p (range_with_len s c)) n ≡ false
 stands-below p s zero n lt = refl
@@ -40,7 +30,7 @@ stands-within p s zero n le lt = absurd (omega arith)
 stands-within p s (suc c) n le lt =
     elim (cases_eq s n) [
       | inl e ↦ elim (cases_Bool (p n)) [
-        | inl keep ↦ rw (e, keep, true-eq n n refl) refl
+        | inl keep ↦ rw (e, keep, eq-eqb n n refl) refl
         | inr skip ↦ rw (e, skip) (stands-below p (n + 1) c n (omega arith))
       ]
       | inr ne ↦

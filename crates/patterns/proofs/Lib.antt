@@ -1,6 +1,3 @@
-pub mod PatternNumbers
 pub mod PowerLemmas
 pub mod WeightLemmas
-pub mod PatternLemmas
-pub mod Digits
-pub mod WholeLemmas
+pub mod Steps

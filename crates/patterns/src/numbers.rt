@@ -1,20 +1,13 @@
 // The number of a comparison pattern, and its shape.
 ghost use Rattle.std.specs.Prelude.{◌≡◌, ◌<◌, ◌≤◌, ℕ, false, length, map, slice_index_or, take};
-ghost use Rattle.link_base.specs.Shares.{outcomes_of};
 ghost use Rattle.link_base.specs.declared.rule.Outcome.{Outcome};
 ghost use Rattle.patterns.specs.Shapes.{digit_of, outcome_at, pattern_count_by, rare_of};
 ghost use Rattle.patterns.specs.Patterns.{AreSides, number_of, outcomes};
 
+use crate::shapes::base;
 use comparators::Comparator;
 use link_base::{Outcome, Shape};
 use link_limits::MOST_FIELDS;
-
-/// How many outcomes a field has.
-fn base(rare: bool) -> u16
-    ensures { result ≡ outcomes_of rare }
-{
-    if rare { 4 } else { 3 }
-}
 
 /// The digit of an outcome in a comparison pattern.
 pub fn digit(outcome: Outcome) -> u16

@@ -51,7 +51,7 @@ pub fn patterns_of(shares: &[FieldShares]) -> u16
 }
 
 /// How many outcomes a field has.
-fn base(rare: bool) -> u16
+pub(crate) fn base(rare: bool) -> u16
     ensures { result ≡ outcomes_of rare }
 {
     if rare { 4 } else { 3 }

@@ -1,4 +1,4 @@
-ghost use Rattle.std.specs.Prelude.{◌≡◌, ℕ, ℤ, pos, ◌-ℤ◌, ◌≤ℤ◌, ◌+◌, ◌-◌, ◌*◌, ◌^◌, ◌<◌, ◌≤◌};
+ghost use Rattle.std.specs.Prelude.{◌≡◌, ℤ, pos, ◌-ℤ◌, ◌≤ℤ◌, ◌+◌, ◌-◌, ◌*◌, ◌^◌, ◌<◌, ◌≤◌};
 ghost use Rattle.patterns.specs.Weight.{IsEighthWeight, eighth_weight_of};
 
 /// The base-2 logarithm of `m` over `u`, in whole eighths, rounded down.
@@ -7,8 +7,7 @@ pub fn eighth_weight(m: u16, u: u16) -> i16
     requires u_in { (1 ≤ u) × (u ≤ 1022) }
     ensures greatest { IsEighthWeight m u result }
     ensures value { result ≡ eighth_weight_of m u }
-    ensures low { (pos 0 -ℤ pos 80) ≤ℤ result }
-    ensures high { result ≤ℤ pos 79 }
+    ensures range { ((pos 0 -ℤ pos 80) ≤ℤ result) × (result ≤ℤ pos 79) }
 {
     let high = eighth_power(m);
     let low = eighth_power(u);

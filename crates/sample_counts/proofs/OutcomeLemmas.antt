@@ -6,7 +6,7 @@ use Rattle.link_base.specs.declared.rule.Outcome.{Outcome}
 use Rattle.link_base.specs.declared.rule.Outcome.TheVariants.{Missing, Rare}
 use Rattle.patterns.specs.Shapes.{digit_of}
 use Rattle.patterns.specs.Patterns.{AreSides}
-use Rattle.patterns.proofs.PatternNumbers.{outcome-pattern}
+use Rattle.patterns.specs.ShapeLaws.{outcome-pattern}
 use Rattle.sample_counts.specs.declared.counts.Judged.{Judged}
 use Rattle.sample_counts.specs.declared.reviewed.Reviewed.{Reviewed}
 use Rattle.sample_counts.specs.Counts.{AreOutcomeCounts, CountsState, digit_in, is_digit, is_reviewed_as, judged_by, outcome_in, same_outcome}

@@ -7,7 +7,7 @@ use Rattle.link_base.specs.Shares.{outcomes_of}
 use Rattle.link_base.specs.declared.rule.Outcome.{Outcome}
 use Rattle.link_base.specs.declared.rule.Outcome.TheVariants.{Agree, Disagree, Missing, Rare}
 use Rattle.patterns.specs.Shapes.{digit_of, outcome_at, outcome_with, pattern_count_by}
-use Rattle.patterns.proofs.Digits.{count-pos}
+use Rattle.patterns.specs.ShapeLaws.{count-pos}
 use Rattle.sample_counts.specs.declared.counts.Judged.{Judged}
 use Rattle.sample_counts.specs.declared.reviewed.Reviewed.{Reviewed}
 use Rattle.sample_counts.specs.Counts.{digit_in, has_status, is_digit}

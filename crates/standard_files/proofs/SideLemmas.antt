@@ -12,7 +12,7 @@ use Rattle.comparators.specs.declared.ids.IdValue.{IdValue}
 use Rattle.comparators.specs.declared.ids.IdValue.TheVariants as id
 use Rattle.link_base.specs.Standard.{absent_value, IsValid, no_record, Record}
 use Rattle.std.specs.Prelude.{Bool, true, false, MatchBool, if◌then◌else◌}
-use Rattle.comparators.proofs.IdLemmas.{side-valid}
+use Rattle.comparators.specs.OfPoolLaws.{side-valid}
 use Rattle.value_pool.proofs.PlaceLemmas.{place-reads}
 use Rattle.link_base.specs.declared.plan.CompareKind.{CompareKind}
 use Rattle.link_base.specs.Canons.{exact}

@@ -1,6 +1,6 @@
 use Rattle.std.proofs.Common.{◌≡◌, ◌∷◌, ◌++◌, [], rules}
 use Rattle.block_passes.specs.PassIds.{four_at}
-use Rattle.block_passes.proofs.StepLemmas.{found_more}
+use Rattle.block_passes.specs.NumberingLaws.{found_more}
 use Rattle.block_passes.proofs.id_index.find_ids.Goals as goal
 
 pub loop-at-preserved : goal.loop-at-preserved

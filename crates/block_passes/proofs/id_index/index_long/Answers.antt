@@ -1,6 +1,6 @@
 use Rattle.std.proofs.Common.{length, arith}
 use Rattle.block_passes.specs.IdCodes.{long_ids_at}
-use Rattle.block_passes.proofs.NumberLemmas.{group-is}
+use Rattle.block_passes.specs.NumberingLaws.{group-is}
 use Rattle.block_passes.proofs.id_index.index_long.Goals as goal
 
 pub new-requires-2 : goal.new-requires-2

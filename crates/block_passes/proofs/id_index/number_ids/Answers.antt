@@ -1,6 +1,6 @@
 use Rattle.std.proofs.Common.{◌≡◌, ◌∷◌, ◌++◌, [], rules}
 use Rattle.block_passes.specs.PassIds.{four_at}
-use Rattle.block_passes.proofs.StepLemmas.{given_more, numbered_more}
+use Rattle.block_passes.specs.NumberingLaws.{given_more, numbered_more}
 use Rattle.block_passes.proofs.id_index.number_ids.Goals as goal
 
 pub loop-at-preserved : goal.loop-at-preserved

@@ -1,6 +1,6 @@
 use Rattle.std.proofs.Common.{◌≡◌, ◌∷◌, ◌++◌, [], rules}
 use Rattle.block_passes.specs.IdCodes.{long_ids_at}
-use Rattle.block_passes.proofs.StepLemmas.{given_more, numbered_more}
+use Rattle.block_passes.specs.NumberingLaws.{given_more, numbered_more}
 use Rattle.block_passes.proofs.id_index.number_long.Goals as goal
 
 pub long_code-requires-clause-in_range : goal.long_code-requires-clause-in_range

@@ -1,6 +1,6 @@
 use Rattle.std.proofs.Common.{length, arith}
 use Rattle.block_passes.specs.CodedRows.{code_of_row}
-use Rattle.block_passes.proofs.NumberLemmas.{group-is}
+use Rattle.block_passes.specs.NumberingLaws.{group-is}
 use Rattle.block_passes.proofs.index.index_file.Goals as goal
 
 pub new-requires-2 : goal.new-requires-2

@@ -1,6 +1,6 @@
 use Rattle.std.proofs.Common.{◌≡◌, ◌∷◌, ◌++◌, [], rules}
 use Rattle.block_passes.specs.CodedRows.{code_of_row}
-use Rattle.block_passes.proofs.StepLemmas.{given_more, numbered_more}
+use Rattle.block_passes.specs.NumberingLaws.{given_more, numbered_more}
 use Rattle.block_passes.proofs.index.number_rows.Goals as goal
 
 pub row_code-requires-clause-in_range : goal.row_code-requires-clause-in_range

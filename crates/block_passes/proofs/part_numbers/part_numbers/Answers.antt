@@ -1,6 +1,6 @@
 use Rattle.std.proofs.Common.{◌≡◌, ◌∷◌, ◌++◌, [], get_or, rules}
 use Rattle.block_passes.specs.PassIds.{first_number}
-use Rattle.block_passes.proofs.StepLemmas.{told_more}
+use Rattle.block_passes.specs.NumberingLaws.{told_more}
 use Rattle.block_passes.proofs.part_numbers.part_numbers.Goals as goal
 
 pub loop-at-preserved : goal.loop-at-preserved

@@ -1,6 +1,6 @@
 use Rattle.std.proofs.Common.{ap}
 use Rattle.comparators.specs.Laws.{agree_where}
-use Rattle.comparators.proofs.IdLemmas.{ids_alike, outcomes_alike, rare_alike}
+use Rattle.comparators.specs.OfPoolLaws.{ids_alike, outcomes_alike, rare_alike}
 use Rattle.comparators.proofs.laws.same_outcomes.Goals as goal
 
 pub returns-clause-by_id : goal.returns-clause-by_id

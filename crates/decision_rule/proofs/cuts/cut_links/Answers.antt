@@ -4,7 +4,8 @@ use Rattle.std.proofs.lemmas.List.{take_more_set}
 use Rattle.decision_rule.specs.Filled.{chances_of}
 use Rattle.link_base.specs.declared.rule.RuleCell.{RuleCell}
 use Rattle.link_base.specs.Rule.{empty_cell}
-use Rattle.decision_rule.proofs.CutSteps.{same_length, same_at, walk_step, bound_step, links_cut}
+use Rattle.decision_rule.specs.FilledLaws.{same_length, same_at}
+use Rattle.decision_rule.proofs.CutSteps.{walk_step, bound_step, links_cut}
 use Rattle.decision_rule.proofs.cuts.cut_links.Goals as goal
 
 pub give-share-requires : goal.give-share-requires

@@ -4,7 +4,8 @@ use Rattle.std.proofs.lemmas.List.{drop-set, length-set}
 use Rattle.decision_rule.specs.Filled.{chances_of}
 use Rattle.link_base.specs.declared.rule.RuleCell.{RuleCell}
 use Rattle.link_base.specs.Rule.{empty_cell}
-use Rattle.decision_rule.proofs.CutSteps.{same_length, same_at, walk_step, bound_step_down, nonlinks_cut, reverse-cons}
+use Rattle.decision_rule.specs.FilledLaws.{same_length, same_at}
+use Rattle.decision_rule.proofs.CutSteps.{walk_step, bound_step_down, nonlinks_cut, reverse-cons}
 use Rattle.decision_rule.proofs.cuts.cut_nonlinks.Goals as goal
 
 pub overflow_sub-cell : goal.overflow_sub-cell

@@ -2,7 +2,7 @@ use Rattle.std.proofs.Common.{◌≡◌, ◌/◌, get_or, arith, rules, ap, ◌�
 use Rattle.std.proofs.lemmas.Int.{ints}
 use Rattle.std.proofs.lemmas.Nat.{mod_below}
 use Rattle.patterns.specs.Weight.{eighth_weight_of}
-use Rattle.patterns.proofs.PatternLemmas.{product_small}
+use Rattle.patterns.specs.ChanceLaws.{product_small}
 use Rattle.decision_rule.proofs.FillLemmas.{step, product_step, product_fits}
 use Rattle.decision_rule.proofs.fill.cell_of.Goals as goal
 
@@ -48,9 +48,9 @@ loop-field-preserved c =
       rest_below = mod_below c.loop-field.rest (c.loop-field.below / c.outcome_count-below.result) s.some;
       m_is = product_step c.loop-field.m _ _ _ _ _ inv.m_is s.m_is em;
       u_is = product_step c.loop-field.u _ _ _ _ _ inv.u_is s.u_is eu;
-      weight_is = omega (arith, ints, c.from-weight.ensures, inv.weight_low, inv.weight_high, c.eighth_weight.ensures.low, c.eighth_weight.ensures.high, value, s.weight_is, inv.weight_is);
+      weight_is = omega (arith, ints, c.from-weight.ensures, inv.weight_low, inv.weight_high, c.eighth_weight.ensures.range.0, c.eighth_weight.ensures.range.1, value, s.weight_is, inv.weight_is);
       m_small = omega (arith, product_small c.from-m.result c.loop-field.m i (omega (arith, em, s.m_share.1)) inv.m_small);
       u_small = omega (arith, product_small c.from-u.result c.loop-field.u i (omega (arith, eu, s.u_share.1)) inv.u_small);
-      weight_low = omega (arith, ints, c.from-weight.ensures, inv.weight_low, inv.weight_high, c.eighth_weight.ensures.low, c.eighth_weight.ensures.high);
-      weight_high = omega (arith, ints, c.from-weight.ensures, inv.weight_low, inv.weight_high, c.eighth_weight.ensures.low, c.eighth_weight.ensures.high);
+      weight_low = omega (arith, ints, c.from-weight.ensures, inv.weight_low, inv.weight_high, c.eighth_weight.ensures.range.0, c.eighth_weight.ensures.range.1);
+      weight_high = omega (arith, ints, c.from-weight.ensures, inv.weight_low, inv.weight_high, c.eighth_weight.ensures.range.0, c.eighth_weight.ensures.range.1);
     }

@@ -1,5 +1,5 @@
 use Rattle.std.proofs.Common.{arith, rules}
-use Rattle.patterns.proofs.PatternLemmas.{pattern_count_small}
+use Rattle.patterns.specs.ChanceLaws.{pattern_count_small}
 use Rattle.decision_rule.proofs.FillLemmas.{filled_all}
 use Rattle.decision_rule.proofs.fill.fill.Goals as goal
 

@@ -1,5 +1,5 @@
 use Rattle.std.proofs.Common.{arith}
-use Rattle.decision_rule.proofs.CutForm.{possible_bound_m, possible_bound_u, LinksEndAt-from_cut_form, NonlinksStartAt-from_cut_form}
+use Rattle.decision_rule.specs.ExchangeLaws.{possible_bound_m, possible_bound_u, LinksEndAt-from_cut_form, NonlinksStartAt-from_cut_form}
 use Rattle.decision_rule.proofs.laws.exchange.Goals as goal
 
 pub returns-clause-matched : goal.returns-clause-matched

@@ -1,8 +1,7 @@
-use Rattle.decision_rule.proofs.CutSteps.{links_kept}
+use Rattle.decision_rule.specs.FilledLaws.{links_kept, positive_cells}
 use Rattle.std.proofs.Common.{◌≡◌, ℕ, ◌∙◌, map, reverse, subst}
 use Rattle.decision_rule.specs.Filled.{chances_of, LinksAreCut, NonlinksAreCut}
-use Rattle.decision_rule.proofs.RuleLemmas.{permuted, in_order, order_kept, least, within_ranges}
-use Rattle.decision_rule.proofs.FilledLemmas.{positive_cells}
+use Rattle.decision_rule.specs.RuleLaws.{permuted, in_order, order_kept, least, within_ranges}
 use Rattle.decision_rule.proofs.rule.cut_cells.Goals as goal
 
 pub cut_links-requires : goal.cut_links-requires

@@ -1,6 +1,6 @@
 use Rattle.std.proofs.Common.{◌≡◌, ◌∷◌, ◌++◌, ◌∙◌, [], ap, arith, length, map, rules, sym}
 use Rattle.std.proofs.lemmas.List.{get_or-map}
-use Rattle.block_passes.proofs.StepLemmas.{given_more, numbered_more}
+use Rattle.block_passes.specs.NumberingLaws.{given_more, numbered_more}
 use Rattle.file_reader.specs.Rows.{no_row}
 use Rattle.link_core.specs.ColumnPairs.{first_field, present}
 use Rattle.link_core.specs.ColumnRows.{compared_field}

@@ -43,15 +43,7 @@ returns c =
     let rule = c.in_ok-rule.rule in
     let r = c.decide_pairs.result in
     let facts = c.decide_pairs.ensures in
-    let told = told_of plan rule c.args.with_rows r p c.in_ok-blocks.blocks c.sides.result.now.rows c.sides-2.result.now.rows c.in_ok-blocks.ensures (ap (λ t. t.rows) c.sides.ensures) (ap (λ t. t.rows) c.sides-2.ensures) (record {
-      answer = facts.answer;
-      rule_is = facts.rule;
-      rows_are = facts.rows;
-      rows_in = facts.rows_in;
-      counts = facts.counts;
-      lists = facts.lists;
-      decisions = facts.decisions;
-    }) in
+    let told = told_of plan rule c.args.with_rows r p c.in_ok-blocks.blocks c.sides.result.now.rows c.sides-2.result.now.rows c.in_ok-blocks.ensures (ap (λ t. t.rows) c.sides.ensures) (ap (λ t. t.rows) c.sides-2.ensures) (record { answer = facts.answer; decided = facts.decided }) in
     record {
       kind = facts.kind;
       answer = answered plan p shares rule c.args.with_rows r c.in_ok-rule.ensures.rule told;

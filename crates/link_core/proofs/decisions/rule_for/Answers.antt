@@ -1,5 +1,5 @@
-use Rattle.std.proofs.Common.{◌≡◌, ◌≤◌, ◌∙◌, ℕ, ap, List, map, Result, Ok, Err, subst, sym, length}
-use Rattle.std.specs.Prelude.{All, IfOk}
+use Rattle.std.proofs.Common.{◌≡◌, ◌≤◌, ◌∙◌, ℕ, ap, List, map, subst, sym, length}
+use Rattle.std.specs.Prelude.{All}
 use Rattle.comparators.specs.declared.ids.IdValue.{IdValue}
 use Rattle.link_limits.specs.declared.TheConstants.{MOST_ROWS}
 use Rattle.standard_files.specs.Ready.{AreFileSides}
@@ -10,9 +10,9 @@ use Rattle.link_core.specs.Rules.{shared_rares}
 use Rattle.link_base.specs.declared.rule.RuleCell.{RuleCell}
 use Rattle.link_core.proofs.ValueLemmas.{patterns_are}
 use Rattle.pair_decisions.specs.FieldComparators.{pattern_of_pair}
-use Rattle.pair_decisions.specs.PairRule.{AreCellsOf, AreSidesFor, PairRuleView, pattern_over, side_rule}
+use Rattle.pair_decisions.specs.PairRule.{AreCellsOf, AreSidesFor, IsRuleOver, PairRuleView, pattern_over, side_rule}
 use Rattle.patterns.specs.Shapes.{pattern_count_by}
-use Rattle.pair_decisions.specs.Comparators.{answers_of, comparators_of, rares_of}
+use Rattle.pair_decisions.specs.Comparators.{answers_of, rares_of}
 use Rattle.pair_decisions.specs.PlanRule.{IsRuleOf}
 use Rattle.pair_decisions.specs.PlanShares.{plain_all}
 use Rattle.pair_decisions.specs.TheRule.{the_rule}
@@ -51,11 +51,6 @@ new-requires c =
           (ap shared_rares c.fields.ensures.shares ∙ c.requires.rares);
     }
 
--- two facts of one answer
-both : {T E : Type 0} (P Q R : T → Type 0) (r : Result T E) → ((x : T) → P x → Q x → R x) → IfOk r P → IfOk r Q → IfOk r R
-both P Q R (Ok x) h p q = h x p q
-both P Q R (Err e) h p q = tt
-
 pub returns : goal.returns
 returns c =
     let plan = c.args.plan.now in
@@ -71,23 +66,19 @@ returns c =
     patterns_are plan p c.pool.result.now.texts c.len.result c.sides.result.now.rows c.sides-2.result.now.rows c.requires.ranges c.requires.ready c.same_patterns.ensures
     c.pool.ensures.texts (c.len.ensures ∙ ap length c.pool-2.ensures.texts) rows_a rows_b in
     let of_table : AreCellsOf n all = c.rule_has_patterns.ensures plan (plain_all c.fields.result.now) all c.in_ok-table.ensures.rule (ap shared_rares c.fields.ensures.shares ∙ c.requires.rares) in
-    let Compares : PairRuleView → Type 0 = λ rule. map answers_of rule.comparators ≡ comparators_of c.len.result plan.fields c.sides.result.now.rows c.sides-2.result.now.rows in
-    let HasCells : PairRuleView → Type 0 = λ rule. rule.cells ≡ all in
-    let HasSeed : PairRuleView → Type 0 = λ rule. rule.seed ≡ plan.seed in
+    let Made : PairRuleView → Type 0 = IsRuleOver plan c.len.result all c.sides.result.now.rows c.sides-2.result.now.rows in
     let IsMade : PairRuleView → Type 0 = λ rule. side_rule rule p.values.a.rows p.values.b.rows ≡ rule_over plan p.files c.args.shares.now in
-    let same : (rule : PairRuleView) → Compares rule → HasCells rule → HasSeed rule → IsMade rule = λ rule compares cells seed.
+    let same : (rule : PairRuleView) → Made rule → IsMade rule = λ rule made.
     let pattern : pattern_over (map answers_of rule.comparators) p.values.a.rows p.values.b.rows ≡ pattern_of_pair plan.fields p.files.a.records p.files.b.records =
-    (λ i. pattern_over (compares i) (sym rows_a i) (sym rows_b i)) ∙ patterns in
-    λ i. record { pattern = pattern i; cells = (cells ∙ the) i; seed = seed i } in
+    (λ i. pattern_over (made.comparators i) (sym rows_a i) (sym rows_b i)) ∙ patterns in
+    λ i. record { pattern = pattern i; cells = (made.cells ∙ the) i; seed = made.seed i } in
     record {
-      rule =
-          both Compares (λ rule. HasCells rule × HasSeed rule) IsMade c.new.result (λ rule compares has. same rule compares has.0 has.1) c.new.ensures.comparators
-          (both HasCells HasSeed (λ rule. HasCells rule × HasSeed rule) c.new.result (λ rule cells seed. (cells, seed)) c.new.ensures.cells c.new.ensures.seed);
-      filled = if_ok HasCells (λ (rule : PairRuleView). IsRuleOf plan c.args.shares.now rule.cells) c.new.result
-          (λ rule is. subst (λ (cs : List RuleCell). IsRuleOf plan c.args.shares.now cs) (sym is) filled) c.new.ensures.cells;
-      cells = if_ok HasCells (λ (rule : PairRuleView). AreCellsOf n rule.cells) c.new.result (λ rule is. subst (λ (cs : List RuleCell). AreCellsOf n cs) (sym is) of_table) c.new.ensures.cells;
-      sides_a = if_ok (λ (rule : PairRuleView). All (AreSidesFor rule) c.sides.result.now.rows) (λ (rule : PairRuleView). All (AreSidesFor rule) p.values.a.rows) c.new.result
-          (λ rule. subst (λ (rows : List (List IdValue)). All (AreSidesFor rule) rows) rows_a) c.new.ensures.sides_a;
-      sides_b = if_ok (λ (rule : PairRuleView). All (AreSidesFor rule) c.sides-2.result.now.rows) (λ (rule : PairRuleView). All (AreSidesFor rule) p.values.b.rows) c.new.result
-          (λ rule. subst (λ (rows : List (List IdValue)). All (AreSidesFor rule) rows) rows_b) c.new.ensures.sides_b;
+      rule = if_ok Made IsMade c.new.result same c.new.ensures;
+      filled = if_ok Made (λ (rule : PairRuleView). IsRuleOf plan c.args.shares.now rule.cells) c.new.result
+          (λ rule made. subst (λ (cs : List RuleCell). IsRuleOf plan c.args.shares.now cs) (sym made.cells) filled) c.new.ensures;
+      cells = if_ok Made (λ (rule : PairRuleView). AreCellsOf n rule.cells) c.new.result (λ rule made. subst (λ (cs : List RuleCell). AreCellsOf n cs) (sym made.cells) of_table) c.new.ensures;
+      sides_a = if_ok Made (λ (rule : PairRuleView). All (AreSidesFor rule) p.values.a.rows) c.new.result
+          (λ rule made. subst (λ (rows : List (List IdValue)). All (AreSidesFor rule) rows) rows_a made.sides_a) c.new.ensures;
+      sides_b = if_ok Made (λ (rule : PairRuleView). All (AreSidesFor rule) p.values.b.rows) c.new.result
+          (λ rule made. subst (λ (rows : List (List IdValue)). All (AreSidesFor rule) rows) rows_b made.sides_b) c.new.ensures;
     }

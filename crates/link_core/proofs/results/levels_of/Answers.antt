@@ -1,5 +1,5 @@
 use Rattle.std.proofs.Common.{◌≡◌, ◌∙◌, ap, arith, length}
-use Rattle.pair_decisions.proofs.CellLemmas.{cells_many, few_patterns}
+use Rattle.pair_decisions.specs.CellLaws.{cells_many, few_patterns}
 use Rattle.pair_decisions.specs.PairRule.{PairRuleView}
 use Rattle.patterns.specs.Shapes.{pattern_count_by}
 use Rattle.pair_decisions.specs.Comparators.{rares_of}

@@ -2,13 +2,12 @@ use Rattle.std.proofs.Common.{◌≡◌, ◌∙◌, ℕ, List, ap, length, subst
 use Rattle.link_base.specs.Standard.{Record}
 use Rattle.link_report.specs.PairsText.{text_of_pairs}
 use Rattle.link_report.specs.declared.open.PairRow.{PairRow}
-use Rattle.pair_decisions.proofs.CellLemmas.{cells_many}
-use Rattle.pair_decisions.proofs.LineLemmas.{rows_shown}
+use Rattle.pair_decisions.specs.CellLaws.{cells_many}
 use Rattle.pair_decisions.specs.Comparators.{rares_of}
 use Rattle.pair_decisions.specs.PairRows.{AreRowsIn, shown_rows}
 use Rattle.link_core.specs.Decisions.{rule_in}
 use Rattle.patterns.specs.Shapes.{pattern_count_by}
-use Rattle.link_core.specs.Results.{compared_in, pair_rows_in}
+use Rattle.link_core.specs.Results.{pair_rows_in}
 use Rattle.link_core.proofs.ResultLemmas.{if_ok}
 use Rattle.link_core.proofs.results.pairs_of.Goals as goal
 
@@ -31,7 +30,7 @@ returns c =
     let entries = c.args.journal.now in
     let rares = rares_of plan.fields in
     let shown : shown_rows entries c.rows.result.now ≡ pair_rows_in plan p.files (rule_in p d) entries =
-    ap (shown_rows entries) (c.rows.ensures ∙ c.requires.rows) ∙ rows_shown (rule_in p d) entries (compared_in plan p.files) in
+    ap (shown_rows entries) (c.rows.ensures ∙ c.requires.rows) in
     if_ok (λ text. text ≡ text_of_pairs rares c.a.result.now c.b.result.now (shown_rows entries c.rows.result.now))
     (λ text. text ≡ text_of_pairs rares p.files.a.records p.files.b.records (pair_rows_in plan p.files (rule_in p d) entries)) c.pair_lines.result
     (λ text e. e ∙ (λ i. text_of_pairs rares (c.a.ensures i) (c.b.ensures i) (shown i))) c.pair_lines.ensures

@@ -1,8 +1,8 @@
 use Rattle.std.proofs.Common.{ap, arith, length}
+use Rattle.std.proofs.lemmas.List.Sums.{length-filter, count_by-le-length}
 use Rattle.link_base.specs.declared.rule.Decision.TheVariants.{Possible}
 use Rattle.pair_decisions.specs.Decisions.{decision_at, is_same}
 use Rattle.link_core.specs.Decisions.{rule_in}
-use Rattle.pair_decisions.proofs.CountLemmas.{filter_all}
 use Rattle.link_core.specs.Results.{compared_in}
 use Rattle.link_core.proofs.results.report_of.Goals as goal
 
@@ -11,5 +11,6 @@ open_count-requires c =
     let p = c.args.prepared.now in
     let d = c.args.decided.now in
     let decisions = c.requires.decided.decisions in
-    let fewer = filter_all (λ at. is_same Possible (decision_at (rule_in p d) at)) (compared_in c.args.plan.now p.files) in
-    omega (arith, ap length decisions.possible, fewer, decisions.few)
+    let has = λ at. is_same Possible (decision_at (rule_in p d) at) in
+    let pairs = compared_in c.args.plan.now p.files in
+    omega (arith, ap length decisions.possible, length-filter has pairs, count_by-le-length has pairs, decisions.few)

@@ -11,10 +11,10 @@ use Rattle.link_core.specs.Decisions.{rule_in}
 use Rattle.link_core.specs.Results.{candidates_in, compared_in}
 use Rattle.link_core.specs.Verify.{line_of, is_proved, verified_in}
 use Rattle.link_limits.specs.declared.TheConstants.{MOST_PAIRS}
-use Rattle.pair_decisions.proofs.CellLemmas.{cells_below}
+use Rattle.pair_decisions.specs.CellLaws.{cells_below}
 use Rattle.pair_decisions.specs.PairRule.{PairRuleView}
 use Rattle.patterns.specs.Shapes.{pattern_count_by, rare_of}
-use Rattle.pair_decisions.proofs.RuleSideLemmas.{shape_rares}
+use Rattle.pair_decisions.specs.SideLaws.{shape_rares}
 use Rattle.pair_decisions.specs.Comparators.{rares_of}
 use Rattle.price_check.specs.Verdict.{HasAllowedValue}
 use Rattle.written_check.specs.Verified.{texts_in, verified, WrittenTexts}

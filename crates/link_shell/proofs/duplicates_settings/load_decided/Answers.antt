@@ -1,9 +1,9 @@
 use Rattle.std.proofs.Common.{ap, arith, length, refl}
+use Rattle.std.proofs.lemmas.List.Sums.{length-filter, count_by-le-length}
 use Rattle.link_base.specs.declared.rule.Decision.TheVariants.{Link}
 use Rattle.link_core.specs.Decisions.{rule_in}
 use Rattle.link_core.specs.Results.{compared_in}
 use Rattle.pair_decisions.specs.Decisions.{decision_at, is_same}
-use Rattle.pair_decisions.proofs.CountLemmas.{filter_all}
 use Rattle.command_scripts.specs.StepLaws.{seen_err, takes_go, takes_stop, takes_value}
 use Rattle.link_shell.specs.DuplicatesSettings.{within_of}
 use Rattle.link_shell.proofs.duplicates_settings.load_decided.Goals as goal
@@ -28,8 +28,9 @@ returns-in-Ok-clause-few_links g c =
     let p = c.in_ok-files.files in
     let d = c.in-Ok.found.decided in
     let decisions = c.in-Ok.ensures.of_plan.decisions in
-    let fewer = filter_all (λ at. is_same Link (decision_at (rule_in p d) at)) (compared_in c.args.plan.now p.files) in
-    omega (arith, ap length decisions.links, fewer, decisions.few)
+    let has = λ at. is_same Link (decision_at (rule_in p d) at) in
+    let pairs = compared_in c.args.plan.now p.files in
+    omega (arith, ap length decisions.links, length-filter has pairs, count_by-le-length has pairs, decisions.few)
 
 pub returns-in-Ok-clause-of_file : goal.returns-in-Ok-clause-of_file
 returns-in-Ok-clause-of_file g c = c.in-Ok.ensures.of_files

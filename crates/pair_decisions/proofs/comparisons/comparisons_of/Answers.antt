@@ -18,24 +18,22 @@ loop-at-preserved c =
       valid = asked_more c.args.texts fields c.loop-at.all.items c.loop-at.at field c.in_ok-comparison_at.field-0 c.loop-at.invariant.as_many within is c.in_ok-comparison_at.ensures.valid c.loop-at.invariant.valid;
     })
 
-pub returns-clause-rares : goal.returns-clause-rares
-returns-clause-rares c =
+pub returns : goal.returns
+returns c =
     let fields = c.args.plan.now.fields in
-    let comparator = comparator_at c.args.texts c.args.sides_a.now.rows c.args.sides_b.now.rows in
-    let all : take c.loop-at.at fields ≡ fields = take_all c.loop-at.at fields (omega (arith, ap length c.fields-fields.ensures.all)) in
-    rares_answered c.args.texts c.args.sides_a.now.rows c.args.sides_b.now.rows fields c.loop-at.all.items
-    (c.loop-at.invariant.answers ∙ ap (λ xs. map comparator (enumerate_from 0 xs)) all)
-
-pub returns-clause-valid_a : goal.returns-clause-valid_a
-returns-clause-valid_a c = λ k d lt.
-    let fields = c.args.plan.now.fields in
-    let all : c.loop-at.at ≡ length fields = omega (arith, ap length c.fields-fields.ensures.all) in
-    sides_valid c.args.texts fields c.loop-at.all.items (get_or c.args.sides_a.now.rows k d) (c.requires.sides_a k d lt) (c.loop-at.invariant.as_many ∙ all)
-    (subst (AskedOf c.args.texts fields c.loop-at.all.items) all c.loop-at.invariant.valid)
-
-pub returns-clause-valid_b : goal.returns-clause-valid_b
-returns-clause-valid_b c = λ k d lt.
-    let fields = c.args.plan.now.fields in
-    let all : c.loop-at.at ≡ length fields = omega (arith, ap length c.fields-fields.ensures.all) in
-    sides_valid c.args.texts fields c.loop-at.all.items (get_or c.args.sides_b.now.rows k d) (c.requires.sides_b k d lt) (c.loop-at.invariant.as_many ∙ all)
-    (subst (AskedOf c.args.texts fields c.loop-at.all.items) all c.loop-at.invariant.valid)
+    let rows_a = c.args.sides_a.now.rows in
+    let rows_b = c.args.sides_b.now.rows in
+    let found = c.loop-at.all.items in
+    let ends : c.loop-at.at ≡ length fields = omega (arith, ap length c.fields-fields.ensures.all) in
+    let all : take c.loop-at.at fields ≡ fields = take_all c.loop-at.at fields (omega arith) in
+    let answers = c.loop-at.invariant.answers ∙ ap (λ xs. map (comparator_at c.args.texts rows_a rows_b) (enumerate_from 0 xs)) all in
+    let as_many = c.loop-at.invariant.as_many ∙ ends in
+    let asked = subst (AskedOf c.args.texts fields found) ends c.loop-at.invariant.valid in
+    record {
+      answers = answers;
+      rares = rares_answered c.args.texts rows_a rows_b fields found answers;
+      some = omega (arith, as_many, c.requires.ranges.some_fields);
+      few = omega (arith, as_many, c.requires.ranges.few_fields);
+      valid_a = λ k d lt. sides_valid c.args.texts fields found (get_or rows_a k d) (c.requires.sides_a k d lt) as_many asked;
+      valid_b = λ k d lt. sides_valid c.args.texts fields found (get_or rows_b k d) (c.requires.sides_b k d lt) as_many asked;
+    }

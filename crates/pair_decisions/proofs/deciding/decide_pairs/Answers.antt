@@ -1,11 +1,12 @@
-use Rattle.std.proofs.Common.{◌≡◌, ◌≤◌, ◌<◌, ◌∙◌, Bool, List, Err, ap, length, subst, sym}
+use Rattle.std.proofs.Common.{◌≡◌, ◌≤◌, ◌<◌, ◌∙◌, Bool, List, Err, ap, length, refl, subst, sym}
 use Rattle.std.specs.Prelude.{All}
 use Rattle.link_base.specs.declared.fault.Fault.TheVariants as fault
 use Rattle.link_base.specs.declared.rule.Decision.{Decision}
 use Rattle.link_base.specs.declared.rule.Decision.TheVariants.{Link, Possible}
 use Rattle.link_base.specs.declared.rule.PairAt.{PairAt}
 use Rattle.link_limits.specs.declared.TheConstants.{MOST_PAIRS}
-use Rattle.pair_decisions.proofs.PairLemmas.{counted, found_inside, found_rise, not_more, past_limit, within_limit}
+use Rattle.pair_decisions.proofs.PairLemmas.{counted, found_inside, found_rise, not_more}
+use Rattle.pair_decisions.specs.PairLaws.{past_limit, within_limit}
 use Rattle.pair_decisions.proofs.RowLemmas.{kept_in}
 use Rattle.pair_decisions.specs.PairRows.{decided_rows, kept_rows}
 use Rattle.pair_decisions.specs.Decisions.{DecidedView, decision_at, is_same, pairs_with}
@@ -33,13 +34,13 @@ few : (c : In-Ok) → length (all_of c) ≤ MOST_PAIRS
 few c = subst (λ (ps : List PairAt). length ps ≤ MOST_PAIRS) (walked c) c.in-Ok.ensures.few
 
 compared : (c : In-Ok) → c.in-Ok.found.compared ≡ length (all_of c)
-compared c = c.in-Ok.ensures.compared ∙ ap length (walked c)
+compared c = c.in-Ok.ensures.found.compared ∙ ap length (walked c)
 
 links : (c : In-Ok) → c.in-Ok.found.links.items ≡ pairs_with Link (side_rule c.args.rule c.args.sides_a.now.rows c.args.sides_b.now.rows) (all_of c)
-links c = c.in-Ok.ensures.links ∙ ap (pairs_with Link (side_rule c.args.rule c.args.sides_a.now.rows c.args.sides_b.now.rows)) (walked c)
+links c = c.in-Ok.ensures.found.links ∙ ap (pairs_with Link (side_rule c.args.rule c.args.sides_a.now.rows c.args.sides_b.now.rows)) (walked c)
 
 possible : (c : In-Ok) → c.in-Ok.found.possible.items ≡ pairs_with Possible (side_rule c.args.rule c.args.sides_a.now.rows c.args.sides_b.now.rows) (all_of c)
-possible c = c.in-Ok.ensures.possible ∙ ap (pairs_with Possible (side_rule c.args.rule c.args.sides_a.now.rows c.args.sides_b.now.rows)) (walked c)
+possible c = c.in-Ok.ensures.found.possible ∙ ap (pairs_with Possible (side_rule c.args.rule c.args.sides_a.now.rows c.args.sides_b.now.rows)) (walked c)
 
 abbrev view_of : In-Ok → DecidedView
 view_of c = record { rule = c.args.rule; rows = c.in-Ok.found.rows.items; compared = c.in-Ok.found.compared; links = c.in-Ok.found.links.items; possible = c.in-Ok.found.possible.items }
@@ -52,42 +53,36 @@ returns-in-Ok-clause-answer c = within_limit (all_of c) (few c)
 
 rows : (c : In-Ok) → c.in-Ok.found.rows.items ≡ kept_rows c.args.with_rows (decided_rows (side_rule c.args.rule c.args.sides_a.now.rows c.args.sides_b.now.rows) (all_of c))
 rows c =
-    c.in-Ok.ensures.rows ∙ ap (λ ps. kept_rows c.args.with_rows (decided_rows (side_rule c.args.rule c.args.sides_a.now.rows c.args.sides_b.now.rows) ps)) (walked c)
-
-pub returns-in-Ok-clause-rows : goal.returns-in-Ok-clause-rows
-returns-in-Ok-clause-rows c = rows c
-
-pub returns-in-Ok-clause-rows_in : goal.returns-in-Ok-clause-rows_in
-returns-in-Ok-clause-rows_in c =
-    kept_in c.args.rule c.args.sides_a.now.rows c.args.sides_b.now.rows (all_of c) c.requires.sides_a c.requires.sides_b c.has_cells.ensures c.requires.inside c.requires.rising
-    c.args.with_rows c.in-Ok.found.rows.items (rows c)
-
-pub returns-in-Ok-clause-counts : goal.returns-in-Ok-clause-counts
-returns-in-Ok-clause-counts c = counted (side_rule c.args.rule c.args.sides_a.now.rows c.args.sides_b.now.rows) (all_of c) (view_of c) (compared c) (links c) (possible c)
+    c.in-Ok.ensures.found.rows ∙ ap (λ ps. kept_rows c.args.with_rows (decided_rows (side_rule c.args.rule c.args.sides_a.now.rows c.args.sides_b.now.rows) ps)) (walked c)
 
 abbrev has : In-Ok → Decision → PairAt → Bool
 has c kind at = is_same kind (decision_at (side_rule c.args.rule c.args.sides_a.now.rows c.args.sides_b.now.rows) at)
 
-pub returns-in-Ok-clause-lists : goal.returns-in-Ok-clause-lists
-returns-in-Ok-clause-lists c =
+pub returns-in-Ok-clause-decided : goal.returns-in-Ok-clause-decided
+returns-in-Ok-clause-decided c =
     let rows_a = length c.args.sides_a.now.rows in
     let rows_b = length c.args.sides_b.now.rows in
     record {
-      links = found_inside (has c Link) (all_of c) _ (links c) rows_a rows_b c.requires.inside;
-      possible = found_inside (has c Possible) (all_of c) _ (possible c) rows_a rows_b c.requires.inside;
-      links_rise = found_rise (has c Link) (all_of c) _ (links c) c.requires.rising;
-      possible_rise = found_rise (has c Possible) (all_of c) _ (possible c) c.requires.rising;
+      by_rule = refl;
+      decisions = record {
+        few = few c;
+        rising = c.requires.rising;
+        inside = c.requires.inside;
+        compared = compared c;
+        links = links c;
+        possible = possible c;
+      };
+      counts = counted (side_rule c.args.rule c.args.sides_a.now.rows c.args.sides_b.now.rows) (all_of c) (view_of c) (compared c) (links c) (possible c);
+      lists = record {
+        links = found_inside (has c Link) (all_of c) _ (links c) rows_a rows_b c.requires.inside;
+        possible = found_inside (has c Possible) (all_of c) _ (possible c) rows_a rows_b c.requires.inside;
+        links_rise = found_rise (has c Link) (all_of c) _ (links c) c.requires.rising;
+        possible_rise = found_rise (has c Possible) (all_of c) _ (possible c) c.requires.rising;
+      };
+      rows = rows c;
+      rows_in = kept_in c.args.rule c.args.sides_a.now.rows c.args.sides_b.now.rows (all_of c) c.requires.sides_a c.requires.sides_b c.has_cells.ensures c.requires.inside c.requires.rising
+          c.args.with_rows c.in-Ok.found.rows.items (rows c);
     }
-
-pub returns-in-Ok-clause-decisions : goal.returns-in-Ok-clause-decisions
-returns-in-Ok-clause-decisions c = record {
-  few = few c;
-  rising = c.requires.rising;
-  inside = c.requires.inside;
-  compared = compared c;
-  links = links c;
-  possible = possible c;
-}
 
 pub returns-in-Err-TooManyPairs-clause-answer : goal.returns-in-Err-TooManyPairs-clause-answer
 returns-in-Err-TooManyPairs-clause-answer c =

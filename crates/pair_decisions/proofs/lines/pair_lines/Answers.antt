@@ -2,7 +2,7 @@ use Rattle.std.proofs.Common.{◌≡◌, ◌++◌, ◌∙◌, Bool, List, length
 use Rattle.std.specs.List.{flat_map}
 use Rattle.link_report.specs.PairsText.{pair_row}
 use Rattle.patterns.specs.Shapes.{pattern_count_by}
-use Rattle.pair_decisions.proofs.RuleSideLemmas.{shape_rares}
+use Rattle.pair_decisions.specs.SideLaws.{shape_rares}
 use Rattle.pair_decisions.specs.Comparators.{rares_of}
 use Rattle.pair_decisions.specs.PairRows.{AreRowsIn, shown_rows}
 use Rattle.pair_decisions.proofs.lines.pair_lines.Goals as goal

@@ -19,7 +19,7 @@ returns-in-Ok-clause-answer c =
     let comparators = comparators_of c.args.texts fields a b in
     let sample = sample_of c.args.a.now c.args.b.now (records_in 44 c.args.sample.now) in
     let counted : and_then sample (λ pairs. Ok (counts_by field_rare field_outcome kinds a b pairs)) ≡ Ok c.in-Ok.counts = rw c.deref.ensures.value at c.in-Ok.ensures.answer in
-    given_then sample (counts_by field_rare field_outcome kinds a b) (counts_by_pattern (rares_of fields) (pattern_over comparators a b)) shares_in c.in-Ok.counts (counts_by_answers kinds a b comparators (rares_of fields) c.in_ok-kinds.ensures.comparators c.in_ok-kinds.ensures.rares) counted
+    given_then sample (counts_by field_rare field_outcome kinds a b) (counts_by_pattern (rares_of fields) (pattern_over comparators a b)) shares_in c.in-Ok.counts (counts_by_answers kinds a b comparators (rares_of fields) c.in_ok-kinds.ensures.answers c.in_ok-kinds.ensures.rares) counted
     ∙ ap Ok (sym c.in_ok-shares_by-in-Ok.ensures.shares)
 
 pub returns-clause-answer : goal.returns-clause-answer

@@ -1,4 +1,4 @@
-use Rattle.pair_decisions.proofs.TheRule.{is_the_rule}
+use Rattle.pair_decisions.proofs.FilledRule.{is_the_rule}
 use Rattle.pair_decisions.proofs.rule_laws.is_the_rule.Goals as goal
 
 pub returns : goal.returns

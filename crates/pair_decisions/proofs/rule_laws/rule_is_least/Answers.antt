@@ -1,4 +1,4 @@
-use Rattle.decision_rule.proofs.RuleLemmas.{least}
+use Rattle.decision_rule.specs.RuleLaws.{least}
 use Rattle.pair_decisions.proofs.rule_laws.rule_is_least.Goals as goal
 
 pub returns : goal.returns

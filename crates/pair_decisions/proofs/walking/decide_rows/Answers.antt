@@ -3,7 +3,7 @@ use Rattle.std.proofs.lemmas.List.Elements.{filter-append}
 use Rattle.link_base.specs.declared.rule.Decision.{Decision}
 use Rattle.link_base.specs.declared.rule.Decision.TheVariants.{Link, Possible}
 use Rattle.link_base.specs.declared.rule.PairAt.{PairAt}
-use Rattle.pair_decisions.proofs.WalkLemmas.{count_more, rest_holds, row_holds, row_more}
+use Rattle.pair_walk.specs.RowLaws.{count_more, rest_holds, row_holds, row_more}
 use Rattle.pair_decisions.proofs.RowLemmas.{kept_joined}
 use Rattle.pair_decisions.specs.Decisions.{decision_at, is_same, pairs_with}
 use Rattle.pair_decisions.specs.PairRows.{decided_row, decided_rows, kept_rows}
@@ -37,8 +37,8 @@ rows-preserved c =
       given = omega (arith, next.1, c.decide_row.ensures.compared);
       few = omega (arith, next.1, next.2, c.decide_row.ensures.compared);
       compared = omega (arith, c.decide_row.ensures.compared);
-      rows = row_more (λ ps. kept_rows c.args.with_rows (decided_rows rule ps)) (kept_joined c.args.with_rows (decided_row rule)) old rest a bs _ _ _ next.0 c.in-Ok-decide_row.ensures.rows c.rows.invariant.rows;
-      links = row_more (pairs_with Link rule) (filter-append (has Link)) old rest a bs _ _ _ next.0 c.in-Ok-decide_row.ensures.links c.rows.invariant.links;
-      possible = row_more (pairs_with Possible rule) (filter-append (has Possible)) old rest a bs _ _ _ next.0 c.in-Ok-decide_row.ensures.possible c.rows.invariant.possible;
+      rows = row_more (λ ps. kept_rows c.args.with_rows (decided_rows rule ps)) (kept_joined c.args.with_rows (decided_row rule)) old rest a bs _ _ _ next.0 c.in-Ok-decide_row.ensures.found.rows c.rows.invariant.rows;
+      links = row_more (pairs_with Link rule) (filter-append (has Link)) old rest a bs _ _ _ next.0 c.in-Ok-decide_row.ensures.found.links c.rows.invariant.links;
+      possible = row_more (pairs_with Possible rule) (filter-append (has Possible)) old rest a bs _ _ _ next.0 c.in-Ok-decide_row.ensures.found.possible c.rows.invariant.possible;
       inside = rest_holds (IsInside (length c.args.sides_a.now.rows) (length c.args.sides_b.now.rows)) old rest a bs next.0 c.rows.invariant.inside;
     }

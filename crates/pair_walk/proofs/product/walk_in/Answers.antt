@@ -1,5 +1,5 @@
 use Rattle.std.proofs.Common.{◌∙◌}
-use Rattle.pair_walk.proofs.PairLemmas.{all-pairs}
+use Rattle.pair_walk.specs.PairLaws.{all-pairs}
 use Rattle.pair_walk.proofs.product.walk_in.Goals as goal
 
 pub returns-in-Ok : goal.returns-in-Ok

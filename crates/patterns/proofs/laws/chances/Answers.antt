@@ -1,5 +1,4 @@
-use Rattle.patterns.proofs.PatternLemmas.{m_of_pos, u_of_pos}
-use Rattle.patterns.proofs.WholeLemmas.{m_whole, u_whole}
+use Rattle.patterns.specs.ChanceLaws.{m_of_pos, u_of_pos, m_whole, u_whole}
 use Rattle.patterns.proofs.laws.chances.Goals as goal
 
 pub returns-clause-matched_some : goal.returns-clause-matched_some

@@ -1,5 +1,6 @@
 use Rattle.std.proofs.Common.{◌*◌, arith, ap}
-use Rattle.patterns.proofs.PatternNumbers.{digit-le, front-lt, next-le}
+use Rattle.patterns.specs.ShapeLaws.{digit-le}
+use Rattle.patterns.proofs.Steps.{front-lt, next-le}
 use Rattle.patterns.proofs.numbers.number_over.Goals as goal
 
 pub overflow_mul-number : goal.overflow_mul-number

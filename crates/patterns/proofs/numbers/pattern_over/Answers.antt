@@ -1,6 +1,6 @@
 use Rattle.std.proofs.Common.{ap, map, ◌∙◌}
 use Rattle.patterns.specs.Patterns.{number_of}
-use Rattle.patterns.proofs.PatternNumbers.{outcome-pattern, outcomes-swap, pattern-lt}
+use Rattle.patterns.specs.ShapeLaws.{outcome-pattern, outcomes-swap, pattern-lt}
 use Rattle.patterns.proofs.numbers.pattern_over.Goals as goal
 
 pub returns-clause-range : goal.returns-clause-range

@@ -1,5 +1,5 @@
 use Rattle.std.proofs.Common.{◌*◌, arith, ap, false, get_or}
-use Rattle.patterns.proofs.Digits.{count-next}
+use Rattle.patterns.proofs.Steps.{count-next}
 use Rattle.patterns.proofs.shapes.count.Goals as goal
 
 pub overflow_mul-count : goal.overflow_mul-count

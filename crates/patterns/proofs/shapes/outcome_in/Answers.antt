@@ -1,5 +1,5 @@
 use Rattle.std.proofs.Common.{◌≡◌, arith, sym, ◌∙◌}
-use Rattle.patterns.proofs.Digits.{outcome-last, outcome-step}
+use Rattle.patterns.proofs.Steps.{outcome-last, outcome-step}
 use Rattle.patterns.proofs.shapes.outcome_in.Goals as goal
 
 pub loop-i-preserved : goal.loop-i-preserved

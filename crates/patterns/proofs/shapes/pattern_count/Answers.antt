@@ -1,6 +1,6 @@
 use Rattle.std.proofs.Common.{take, arith}
 use Rattle.std.proofs.lemmas.List.{length-take}
-use Rattle.patterns.proofs.Digits.{count-le, count-some}
+use Rattle.patterns.specs.ShapeLaws.{count-le, count-some}
 use Rattle.patterns.proofs.shapes.pattern_count.Goals as goal
 
 pub returns-clause-some : goal.returns-clause-some

@@ -2,8 +2,9 @@ use Rattle.std.proofs.Common.{◌≡◌, arith}
 use Rattle.std.proofs.lemmas.Grind.{common_steps}
 use Rattle.std.proofs.lemmas.List.{length-map}
 use Rattle.patterns.specs.Chances.{pattern_count_of, rare_in}
-use Rattle.patterns.proofs.Digits.{count-some}
-use Rattle.patterns.proofs.PatternLemmas.{count_step, pattern_count_small}
+use Rattle.patterns.specs.ShapeLaws.{count-some}
+use Rattle.patterns.proofs.Steps.{count_step}
+use Rattle.patterns.specs.ChanceLaws.{pattern_count_small}
 use Rattle.patterns.proofs.shapes.patterns_of.Goals as goal
 
 pub overflow_mul-count : goal.overflow_mul-count

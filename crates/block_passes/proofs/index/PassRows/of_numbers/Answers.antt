@@ -1,5 +1,5 @@
 use Rattle.std.proofs.Common.{ap, map, ◌∙◌}
-use Rattle.block_passes.proofs.NumberLemmas.{group-read}
+use Rattle.block_passes.specs.NumberingLaws.{group-read}
 use Rattle.block_passes.proofs.index.PassRows.of_numbers.Goals as goal
 
 pub returns : goal.returns

@@ -1,5 +1,5 @@
 use Rattle.std.proofs.lemmas.Result.{on_ok_weaker}
-use Rattle.block_passes.proofs.NumberLemmas.{place-within}
+use Rattle.block_passes.specs.NumberingLaws.{place-within}
 use Rattle.block_passes.proofs.numbering.Numbering.number.Goals as goal
 
 pub returns-in-Some-clause-numbered : goal.returns-in-Some-clause-numbered

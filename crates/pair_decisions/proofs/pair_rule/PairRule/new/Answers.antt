@@ -3,7 +3,7 @@ use Rattle.std.specs.Prelude.{All, slice_index}
 use Rattle.link_base.specs.declared.rule.RuleCell.{RuleCell}
 use Rattle.patterns.specs.Shapes.{pattern_count_by}
 use Rattle.pair_decisions.specs.Comparators.{rares_of}
-use Rattle.pair_decisions.proofs.CellLemmas.{cells_below, cells_many, cells_stand, few_patterns}
+use Rattle.pair_decisions.specs.CellLaws.{cells_below, cells_many, cells_stand, few_patterns}
 use Rattle.pair_decisions.specs.Places.{place_of}
 use Rattle.pair_decisions.proofs.pair_rule.PairRule.new.Goals as goal
 

@@ -1,31 +1,29 @@
--- The cells of a rule against its patterns.
-use Rattle.std.proofs.Common.{◌≡◌, ℕ, Bool, false, eqb, ◌+◌, ◌*◌, ◌^◌, ◌<◌, ◌≤◌, List, [], ◌∷◌, length, map, refl, ap, arith, sym, ◌∙◌, get_or}
+-- Laws of the rule: sums over the cells of a filled table are sums over the patterns, the sort gives its order, its cells keep their ranges, and
+-- no randomised rule with levels at most its own has a lower chance of a possible link (Fellegi and Sunter 1969, section 2).
+use Rattle.std.proofs.Common.{◌≡◌, ℕ, Bool, false, eqb, ◌+◌, ◌*◌, ◌<◌, ◌≤◌, List, [], ◌∷◌, length, map, refl, ap, arith, sym, ◌∙◌, get_or}
 use Rattle.std.specs.Prelude.{ℤ, pos, ◌-ℤ◌, ◌≤ℤ◌}
-use Rattle.std.proofs.Math.Nat.{pow-le-pow_right}
 use Rattle.std.proofs.lemmas.Int.{ints}
 use Rattle.std.proofs.lemmas.Bool.Decides.{nat_tests}
 use Rattle.std.specs.List.{sum_by, All, AllPairs, range_with_len, IsDistinct}
 use Rattle.std.specs.List.Sorted.{IsPermutation}
 use Rattle.std.proofs.lemmas.List.{get_or-map, length-map}
 use Rattle.std.proofs.lemmas.List.FromFn.{get_or-map-range_with_len, length-map-range_with_len}
-use Rattle.std.proofs.lemmas.List.Sorted.{IsPermutation-map, All-permutation, sum_by-IsPermutation}
+use Rattle.std.proofs.lemmas.List.Sorted.{IsPermutation-map, sum_by-IsPermutation}
 use Rattle.std.proofs.lemmas.List.Sums.{sum_by-cons}
-use Rattle.std.proofs.lemmas.List.Elements.{All-from_get_or}
 use Rattle.std.proofs.lemmas.Map.Keys.{IsDistinct-from_apart, IsDistinct-IsPermutation, apart_from_distinct}
 use Rattle.decision_rule.specs.Rule.{Rule, IsRule, IsRuleOver}
 use Rattle.decision_rule.specs.Order.{RanksBefore}
 use Rattle.decision_rule.specs.Sorting.{ranks_before}
 use Rattle.decision_rule.specs.Least.{IsLeast}
 use Rattle.patterns.specs.Chances.{pattern_count_of}
-use Rattle.decision_rule.specs.Filled.{Chances, chances_of, chances_at, IsFilled}
+use Rattle.decision_rule.specs.Filled.{Chances, chances_of, chances_at, IsFilled, all_chances}
 use Rattle.link_base.specs.declared.rule.RuleCell.{RuleCell}
 use Rattle.link_base.specs.declared.shares.FieldShares.{FieldShares}
-use Rattle.link_base.specs.Rule.{IsWithinRanges, empty_cell}
-use Rattle.patterns.proofs.PatternLemmas.{weight_range}
-use Rattle.decision_rule.proofs.CutForm.{possible_bound_m, possible_bound_u, LinksEndAt-from_cut_form, NonlinksStartAt-from_cut_form}
-use Rattle.decision_rule.proofs.FilledLemmas.{all_chances, positive_cells, cut_form_from_filled}
-use Rattle.decision_rule.proofs.OrderLemmas.{ranks_from_test}
-use Rattle.decision_rule.proofs.OneFilled.{Ranks, ranked_chances, ranked_cells}
+use Rattle.link_base.specs.Rule.{IsWithinRanges}
+use Rattle.patterns.specs.ChanceLaws.{weight_range}
+use Rattle.decision_rule.specs.ExchangeLaws.{possible_bound_m, possible_bound_u, LinksEndAt-from_cut_form, NonlinksStartAt-from_cut_form}
+use Rattle.decision_rule.specs.FilledLaws.{cells_hold, positive_cells, cut_form_from_filled, Ranks, ranked_chances, ranked_cells}
+use Rattle.decision_rule.specs.SortingLaws.{ranks_from_test}
 
 -- the patterns of the cells before a sort, and after
 pub permuted : (shares : List FieldShares) (filled ordered : List RuleCell) → map chances_of filled ≡ all_chances shares → IsPermutation filled ordered → IsPermutation (all_chances shares) (map chances_of ordered)
@@ -73,19 +71,9 @@ pub over_patterns : (shares : List FieldShares) (cells : List RuleCell) → IsPe
 over_patterns shares cells p g =
     sym (sum_by-map chances_of g cells) ∙ sum_by-IsPermutation g (all_chances shares) (map chances_of cells) p ∙ sum_by-map (chances_at shares) g (range_with_len 0 (pattern_count_of shares))
 
--- the patterns of the cells are in range
-abbrev IsNumbered : ℕ → Chances → Type 0
-IsNumbered n ch = ch.pattern < n
-
-patterns_in_range : (shares : List FieldShares) (cells : List RuleCell) → IsPermutation (all_chances shares) (map chances_of cells) → All (λ (c : RuleCell). c.pattern < pattern_count_of shares) cells
-patterns_in_range shares cells perm =
-    let n = pattern_count_of shares in
-    let before : All (IsNumbered n) (all_chances shares) = All-from_get_or (IsNumbered n) (all_chances shares) (chances_of empty_cell)
-    (λ k lt. let in_range : k < n = omega (arith, lt, length-map-range_with_len (chances_at shares) 0 n) in
-    rw (get_or-map-range_with_len (chances_at shares) 0 n k k (chances_of empty_cell) in_range (omega arith)) in_range) in
-    let all = All-permutation (IsNumbered n) _ _ perm before in
-    λ k d lt. let there : k < length (map chances_of cells) = omega (arith, lt, length-map cells chances_of) in
-    rw (get_or-map chances_of cells k d (chances_of d) lt) at (all k (chances_of d) there)
+-- each cell of a filled table has one of the patterns
+pub patterns_in_range : (shares : List FieldShares) (cells : List RuleCell) → IsPermutation (all_chances shares) (map chances_of cells) → All (λ (c : RuleCell). c.pattern < pattern_count_of shares) cells
+patterns_in_range shares cells perm = cells_hold (λ ch. ch.pattern < pattern_count_of shares) shares cells perm (λ k lt. lt)
 
 pub rule_over : (shares : List FieldShares) (cells : List RuleCell) (d : ℕ) (r : Rule) → IsPermutation (all_chances shares) (map chances_of cells) → IsRule d (pattern_count_of shares) r → IsRuleOver d cells r
 rule_over shares cells d r perm h k e lt = h _ (patterns_in_range shares cells perm k e lt)
@@ -109,9 +97,6 @@ least shares mu lambda cells filled =
           rw (← p) (omega (arith, possible_bound_u cells w.0 w.1 0 0 d r links nonlinks (rule_over shares cells d r filled.patterns h.is_rule) (omega (arith, m, h.mu)) (omega (arith, l, h.lambda))));
     }
 
-pub total_small : (k : ℕ) → k ≤ 6 → 1024 ^ k ≤ 2 ^ 60
-total_small k h = pow-le-pow_right (omega arith) h
-
 abbrev IsWeightOf : ℕ → ℤ → Type 0
 IsWeightOf k w = ((pos 0 -ℤ pos (80 * k)) ≤ℤ w) × (w ≤ℤ pos (79 * k))
 
@@ -125,10 +110,5 @@ of_six k c few h shares = record {
 -- the cells are within their ranges
 pub within_ranges : (shares : List FieldShares) (mu lambda : ℕ) (cells : List RuleCell) → length shares ≤ 6 → IsFilled shares mu lambda cells → All IsWithinRanges cells
 within_ranges shares mu lambda cells few filled =
-    let n = pattern_count_of shares in
-    let before : All (λ (ch : Chances). IsWeightOf (length shares) ch.weight) (all_chances shares) = All-from_get_or (λ (ch : Chances). IsWeightOf (length shares) ch.weight) (all_chances shares) (chances_of empty_cell)
-    (λ k lt. let in_range : k < n = omega (arith, lt, length-map-range_with_len (chances_at shares) 0 n) in
-    rw (get_or-map-range_with_len (chances_at shares) 0 n k k (chances_of empty_cell) in_range (omega arith)) (weight_range shares k in_range)) in
-    let all = All-permutation (λ (ch : Chances). IsWeightOf (length shares) ch.weight) _ _ filled.patterns before in
-    λ k d lt. let there : k < length (map chances_of cells) = omega (arith, lt, length-map cells chances_of) in
-    of_six (length shares) (get_or cells k d) few (rw (get_or-map chances_of cells k d (chances_of d) lt) at (all k (chances_of d) there)) (filled.rule k d lt)
+    let weights = cells_hold (λ ch. IsWeightOf (length shares) ch.weight) shares cells filled.patterns (weight_range shares) in
+    λ k d lt. of_six (length shares) (get_or cells k d) few (weights k d lt) (filled.rule k d lt)

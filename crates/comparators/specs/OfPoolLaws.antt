@@ -1,4 +1,5 @@
--- Ids of distinct texts are equal where the texts are.
+-- Laws of ids that stand for values: ids of distinct texts are equal exactly where the texts are, so the outcome of two ids or days is that
+-- of the values that they stand for.
 use Rattle.std.proofs.Common.{if◌then◌else◌, ◌≡◌, ◌<◌, ◌==◌, ℕ, zero, suc, Bool, true, false, List, [], ◌∷◌, length, Option, Some, None, refl, ap, sym, ◌∙◌, arith, eqb-true, eq-eqb, nat_le, slice_index}
 use Rattle.std.specs.Prelude.{MatchBool, slice_get, ℤ, pos}
 use Rattle.std.specs.Str.{bytes_eq}

@@ -1,4 +1,4 @@
--- The pairs of the rows are the filter of the product.
+-- Laws of the pairs of rows: joined, they are the compared pairs, which are a filter of the product of both files.
 use Rattle.std.proofs.Common.{◌≡◌, ◌+◌, ◌∷◌, ◌++◌, ℕ, zero, suc, List, length, filter, map, Bool, refl, sym, ap, ◌∙◌, inl, inr}
 use Rattle.std.specs.List.{range_with_len}
 use Rattle.std.proofs.lemmas.Bool.{cases_Bool}

@@ -1,5 +1,5 @@
--- For crates that prepare a plan's files: the sides that stand for a row's values are sides of the plan's fields, and the
--- shape of the plan's patterns has its rare fields.
+-- Laws of what the comparators of a plan are asked of: the sides that stand for a row's values are sides of the plan's fields, and the shape of
+-- the plan's patterns has its rare fields.
 use Rattle.std.proofs.Common.{◌≡◌, ◌<◌, ◌-◌, ◌∙◌, ℕ, ℤ, Bool, true, false, List, length, map, get_or, take, Option, Some, None, arith, subst}
 use Rattle.std.specs.Prelude.{MatchBool, is_some, replicate}
 use Rattle.std.proofs.lemmas.List.{get_or-map, length-map, take-append-le, take_all}

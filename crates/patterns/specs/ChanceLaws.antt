@@ -1,44 +1,26 @@
--- The chances and the weight of a pattern, field by field.
-use Rattle.std.proofs.Common.{ℕ, Bool, true, cond, leb, zero, suc, ◌≡◌, ◌+◌, ◌*◌, ◌/◌, ◌%◌, ◌^◌, ◌<◌, ◌≤◌, List, [], ◌∷◌, length, arith, get_or, drop, drop-cons, ap, sym, ◌∙◌}
+-- Laws of the chances and the weight of a pattern: each chance is positive and at most the whole, those of all patterns add up to the whole,
+-- and a weight is within 80 eighths of a bit a field below, and 79 above.
+use Rattle.std.proofs.Common.{ℕ, Bool, true, cond, leb, zero, suc, ◌≡◌, ◌+◌, ◌*◌, ◌/◌, ◌%◌, ◌^◌, ◌<◌, ◌≤◌, List, [], ◌∷◌, length, arith, get_or, ap, ◌∙◌, false, ◌++◌, refl}
 use Rattle.std.specs.Prelude.{pos, ◌-ℤ◌, ◌≤ℤ◌}
-use Rattle.std.specs.List.{count_by, range_with_len}
-use Rattle.std.proofs.Math.Nat.{mul-le-mul_left, pow-le-pow_left}
+use Rattle.std.specs.List.{count_by, range_with_len, sum_by}
+use Rattle.std.proofs.Math.Nat.{pow-le-pow_left}
 use Rattle.std.proofs.lemmas.Int.{ints}
 use Rattle.std.proofs.lemmas.Bool.{le-leb}
-use Rattle.std.proofs.lemmas.Nat.{div_below, mod_below, mul-le, pow-add}
+use Rattle.std.proofs.lemmas.Nat.{div_below, mod_below, mul-le, pow-add, div-mul-add, mod-mul-add}
 use Rattle.std.proofs.lemmas.List.{length-map}
 use Rattle.std.proofs.lemmas.List.FromFn.{length-range_with_len}
-use Rattle.std.proofs.lemmas.List.Sums.{sum_by-cons, count_by-le-length}
+use Rattle.std.proofs.lemmas.List.Sums.{sum_by-cons, count_by-le-length, sum_by-append}
 use Rattle.link_base.specs.Shares.{IsShares, outcomes_of}
 use Rattle.link_base.specs.declared.shares.FieldShares.{FieldShares}
 use Rattle.patterns.specs.Weight.{eighth_weight_of}
 use Rattle.patterns.specs.Chances.{base_of, pattern_count_of, rare_in, chance_of, m_of, u_of, weight_of}
-use Rattle.patterns.proofs.Digits.{count-pos, count-le, outcomes_bounds}
-
-pub base_some : (field : FieldShares) → (1 ≤ base_of field) × (base_of field ≤ 4)
-base_some field = let base = outcomes_bounds field.rare in (omega (arith, base.0), base.1)
+use Rattle.patterns.specs.ShapeLaws.{outcomes_bounds, count-pos, count-le}
 
 pub pattern_count_pos : (shares : List FieldShares) → 0 < pattern_count_of shares
 pattern_count_pos shares = omega (arith, count-pos (rare_in shares))
 
 pub pattern_count_small : (shares : List FieldShares) → length shares ≤ 6 → pattern_count_of shares ≤ 4096
 pattern_count_small shares few = omega (arith, count-le (rare_in shares) 6 (simp length-map few))
-
--- the fields from a place on
-pub drop_step : (shares : List FieldShares) (i : ℕ) (field : FieldShares) → i < length shares → field ≡ get_or shares i field → drop i shares ≡ field ∷ drop (i + 1) shares
-drop_step shares i field lt e =
-    let d : drop i shares ≡ get_or shares i field ∷ drop (suc i) shares = drop-cons shares i field lt in
-    let one : suc i ≡ i + 1 = omega arith in
-    d ∙ ap (λ f. f ∷ drop (suc i) shares) (sym e) ∙ ap (λ n. field ∷ drop n shares) one
-
--- one field further in a count
-pub count_step : (shares : List FieldShares) (i count base : ℕ) (field : FieldShares) → base ≡ base_of field → i < length shares → field ≡ get_or shares i field → length shares ≤ 6 → count * pattern_count_of (drop i shares) ≡ pattern_count_of shares → (count * base ≤ 4096) × ((count * base) * pattern_count_of (drop (i + 1) shares) ≡ pattern_count_of shares)
-count_step shares i count base field eb lt ef few e =
-    let more : pattern_count_of (drop i shares) ≡ base * pattern_count_of (drop (i + 1) shares) = ap pattern_count_of (drop_step shares i field lt ef) ∙ ap (λ n. n * pattern_count_of (drop (i + 1) shares)) (sym eb) in
-    let is : count * (base * pattern_count_of (drop (i + 1) shares)) ≡ pattern_count_of shares = rw more at e in
-    let one : 1 ≤ pattern_count_of (drop (i + 1) shares) = omega (arith, pattern_count_pos (drop (i + 1) shares)) in
-    let le : (count * base) * 1 ≤ (count * base) * pattern_count_of (drop (i + 1) shares) = mul-le-mul_left (count * base) one in
-    (omega (arith, is, le, pattern_count_small shares few), omega (arith, is))
 
 pub share_bounds : (rare : Bool) (xs : List ℕ) (k : ℕ) → IsShares (outcomes_of rare) xs → k < outcomes_of rare → (1 ≤ get_or xs k 0) × (get_or xs k 0 ≤ 1022)
 share_bounds rare (a ∷ b ∷ c ∷ d ∷ []) zero h lt = let n = (outcomes_bounds rare).0 in (h.1 0 lt, omega (arith, h.3, h.1 1 (omega (arith, n)), h.1 2 (omega (arith, n))))
@@ -126,3 +108,68 @@ weight_range (field ∷ fields) pattern lt =
     let first = eighth_range _ _ m.0 u.1 in
     let rest = weight_range fields (pattern % pattern_count_of fields) (later_in fields pattern) in
     (omega (arith, ints, first.0, rest.0), omega (arith, ints, first.1, rest.1))
+
+range_split : (a n k : ℕ) → range_with_len a (n + k) ≡ range_with_len a n ++ range_with_len (a + n) k
+range_split a zero k =
+    let none : 0 + k ≡ k = omega arith in
+    let here : a + 0 ≡ a = omega arith in
+    rw (none, here) refl
+range_split a (suc n) k =
+    let more : suc n + k ≡ suc (n + k) = omega arith in
+    let there : a + suc n ≡ a + 1 + n = omega arith in
+    rw (more, there) (ap (λ l. a ∷ l) (range_split (a + 1) n k))
+
+block_sum : (h g : ℕ → ℕ) (c s t n : ℕ) → ((k : ℕ) → k < n → h (s + k) ≡ c * g (t + k)) → sum_by h (range_with_len s n) ≡ c * sum_by g (range_with_len t n)
+block_sum h g c s t zero same = omega arith
+block_sum h g c s t (suc n) same =
+    let s_here : s + 0 ≡ s = omega arith in
+    let t_here : t + 0 ≡ t = omega arith in
+    let first : h s ≡ c * g t = rw (s_here, t_here) at (same 0 (omega arith)) in
+    let rest = block_sum h g c (s + 1) (t + 1) n (λ k lt. let s_next : s + 1 + k ≡ s + suc k = omega arith in
+    let t_next : t + 1 + k ≡ t + suc k = omega arith in
+    rw (s_next, t_next) (same (suc k) (omega arith))) in
+    omega (arith, sum_by-cons h s (range_with_len (s + 1) n), sum_by-cons g t (range_with_len (t + 1) n), ap (λ x. c * x) (sum_by-cons g t (range_with_len (t + 1) n)), first, rest)
+
+-- a sum over numbers of two digits is the product of the sums over each
+digits_sum : (f g : ℕ → ℕ) (d a n : ℕ) → sum_by (λ p. f (p / n) * g (p % n)) (range_with_len (d * n) (a * n)) ≡ sum_by f (range_with_len d a) * sum_by g (range_with_len 0 n)
+digits_sum f g d zero n = let none : 0 * n ≡ 0 = omega arith in rw none (omega arith)
+digits_sum f g d (suc a) n =
+    let h : ℕ → ℕ = λ p. f (p / n) * g (p % n) in
+    let more : suc a * n ≡ n + a * n = omega arith in
+    let next : d * n + n ≡ (d + 1) * n = omega arith in
+    let one : suc d ≡ d + 1 = omega arith in
+    let first = block_sum h g (f d) (d * n) 0 n (λ k lt. let here : 0 + k ≡ k = omega arith in rw (div-mul-add d n k lt, mod-mul-add d n k lt, here) refl) in
+    let rest = digits_sum f g (d + 1) a n in
+    let parts = sum_by-append h (range_with_len (d * n) n) (range_with_len (d * n + n) (a * n)) in
+    let whole = ap (sum_by h) (range_split (d * n) n (a * n)) in
+    let placed = ap (λ x. sum_by h (range_with_len x (a * n))) next in
+    let split = ap (λ x. x * sum_by g (range_with_len 0 n)) (sum_by-cons f d (range_with_len (d + 1) a)) in
+    rw more (omega (arith, whole, parts, placed, first, rest, split))
+
+-- the shares of a field add up to 1,024
+shares_sum : (rare : Bool) (xs : List ℕ) → IsShares (outcomes_of rare) xs → sum_by (λ k. get_or xs k 0) (range_with_len 0 (outcomes_of rare)) ≡ 1024
+shares_sum true (a ∷ b ∷ c ∷ d ∷ []) h = omega (arith, h.3)
+shares_sum false (a ∷ b ∷ c ∷ d ∷ []) h = omega (arith, h.3, h.2 3 (omega arith))
+shares_sum rare [] h = absurd (omega (arith, h.0))
+shares_sum rare (a ∷ []) h = absurd (omega (arith, h.0))
+shares_sum rare (a ∷ b ∷ []) h = absurd (omega (arith, h.0))
+shares_sum rare (a ∷ b ∷ c ∷ []) h = absurd (omega (arith, h.0))
+shares_sum rare (a ∷ b ∷ c ∷ d ∷ e ∷ xs) h = absurd (omega (arith, h.0))
+
+whole_step : (fields : List FieldShares) (one rest : ℕ) → one ≡ 1024 → rest ≡ 1024 ^ length fields → one * rest ≡ 1024 ^ (length fields + 1)
+whole_step fields one rest e f = let p : 1024 ^ (length fields + 1) ≡ 1024 ^ length fields * 1024 ^ 1 = pow-add 1024 (length fields) 1 in rw (e, f, p) (omega arith)
+
+chance_whole : (shares : FieldShares → List ℕ) → AreShares shares → (fields : List FieldShares) → sum_by (chance_of shares fields) (range_with_len 0 (pattern_count_of fields)) ≡ 1024 ^ length fields
+chance_whole shares h [] = omega arith
+chance_whole shares h (field ∷ fields) =
+    let n = pattern_count_of fields in
+    let start : 0 * n ≡ 0 = omega arith in
+    let longer : length (field ∷ fields) ≡ length fields + 1 = omega arith in
+    let both = digits_sum (λ k. get_or (shares field) k 0) (chance_of shares fields) 0 (base_of field) n in
+    rw longer (rw start at both ∙ whole_step fields _ _ (shares_sum field.rare (shares field) (h field)) (chance_whole shares h fields))
+
+pub m_whole : (shares : List FieldShares) → sum_by (m_of shares) (range_with_len 0 (pattern_count_of shares)) ≡ 1024 ^ length shares
+m_whole = chance_whole (λ field. field.m) (λ field. field.of_matched)
+
+pub u_whole : (shares : List FieldShares) → sum_by (u_of shares) (range_with_len 0 (pattern_count_of shares)) ≡ 1024 ^ length shares
+u_whole = chance_whole (λ field. field.u) (λ field. field.of_unmatched)

@@ -1,15 +1,43 @@
--- On the number of a pattern.
-use Rattle.std.proofs.Common.{◌≡◌, ◌<◌, ◌≤◌, ◌+◌, ◌*◌, ℕ, zero, suc, Bool, true, false, List, [], ◌∷◌, length, map, get_or, refl, arith, mul_comm}
+-- Laws of the numbers of patterns: there are as many as the product of the outcomes, each number is below that, its digits are the outcomes,
+-- and it does not change when the two rows change places, by the laws of the comparators alone.
+use Rattle.std.proofs.Common.{◌≡◌, ◌<◌, ◌≤◌, ◌-◌, ℕ, zero, suc, ◌^◌, Bool, true, false, List, [], ◌∷◌, length, refl, arith, map, get_or, mul_comm}
+use Rattle.std.proofs.Math.Nat.{one-le-pow, pow-succ'}
+use Rattle.std.proofs.lemmas.Nat.{mul-le, div-mul-add, mod-mul-add, mul-add-lt}
+use Rattle.link_base.specs.Shares.{outcomes_of}
+use Rattle.patterns.specs.Shapes.{outcome_at, outcome_with, pattern_count_by, digit_of}
 use Rattle.std.specs.Prelude.{⊤}
 use Rattle.std.proofs.lemmas.List.{length-map}
-use Rattle.std.proofs.lemmas.Nat.{div-mul-add, mod-mul-add, mul-add-lt, mul-le}
-use Rattle.link_limits.specs.declared.TheConstants.{MOST_FIELDS, MOST_PATTERNS}
 use Rattle.link_base.specs.declared.rule.Outcome.{Outcome}
 use Rattle.link_base.specs.declared.rule.Outcome.TheVariants.{Agree, Disagree, Missing, Rare}
-use Rattle.link_base.specs.Shares.{outcomes_of}
-use Rattle.patterns.specs.Shapes.{digit_of, outcome_at, outcome_with, pattern_count_by}
-use Rattle.patterns.proofs.Digits.{count-le, count-pos, outcomes_bounds, total-bound}
 use Rattle.patterns.specs.Patterns.{number_of, outcomes}
+
+pub outcomes_bounds : (rare : Bool) → (3 ≤ outcomes_of rare) × (outcomes_of rare ≤ 4)
+outcomes_bounds true = (omega arith, omega arith)
+outcomes_bounds false = (omega arith, omega arith)
+
+pub count-pos : (rares : List Bool) → 1 ≤ pattern_count_by rares
+count-pos [] = omega arith
+count-pos (rare ∷ rares) =
+    let base = outcomes_bounds rare in
+    let product = mul-le 1 1 (outcomes_of rare) (pattern_count_by rares) (omega arith) (count-pos rares) in
+    omega arith
+
+-- one field or more have at least three patterns
+pub count-some : (rares : List Bool) → 1 ≤ length rares → 3 ≤ pattern_count_by rares
+count-some [] some = absurd (omega arith)
+count-some (rare ∷ rares) some =
+    let base = outcomes_bounds rare in
+    let product = mul-le 3 1 (outcomes_of rare) (pattern_count_by rares) base.0 (count-pos rares) in
+    omega arith
+
+pub count-le : (rares : List Bool) (n : ℕ) → length rares ≤ n → pattern_count_by rares ≤ 4 ^ n
+count-le [] n h = one-le-pow n 4 (omega arith)
+count-le (rare ∷ rares) zero h = absurd (omega arith)
+count-le (rare ∷ rares) (suc n) h =
+    let base = outcomes_bounds rare in
+    let product = mul-le (outcomes_of rare) (pattern_count_by rares) 4 (4 ^ n) base.1 (count-le rares n (omega arith)) in
+    let power = pow-succ' 4 n in
+    omega (arith, product, power)
 
 -- one outcome for each field, rare only where the field may be
 abbrev pub FitsShape : List Bool → List Outcome → Type 0
@@ -68,19 +96,9 @@ module _ {C S : Type 0} {rare : C → Bool} {outcome : C → S → S → Outcome
   outcomes_fit law (c ∷ cs) (x ∷ xs) [] h k = absurd (omega arith)
   outcomes_fit law (c ∷ cs) (x ∷ xs) (y ∷ ys) h k = (law c x y, outcomes_fit law cs xs ys (omega arith) (omega arith))
 
-pub next-le : (n : ℕ) (r : Bool) → n < MOST_PATTERNS → n * outcomes_of r ≤ 16380
-next-le n r h = let base = outcomes_bounds r in let product = mul-le n (outcomes_of r) 4095 4 (omega arith) base.1 in omega arith
-
 module _ {C S : Type 0} {rare : C → Bool} {outcome : C → S → S → Outcome} (only_rare : (c : C) (x y : S) → outcome c x y ≡ Rare → rare c ≡ true) where
   pub pattern-lt : (cs : List C) (xs ys : List S) → length xs ≡ length cs → length ys ≡ length cs → number_of (map rare cs) (outcomes outcome cs xs ys) < pattern_count_by (map rare cs)
   pattern-lt cs xs ys h k = number-lt (map rare cs) (outcomes outcome cs xs ys) (outcomes_fit only_rare cs xs ys h k)
-
-  pub front-lt : (cs : List C) (xs ys : List S) (rest : List Bool) (n m : ℕ) → length cs ≤ MOST_FIELDS → length xs ≡ length cs → length ys ≡ length cs → n * pattern_count_by rest + m ≡ number_of (map rare cs) (outcomes outcome cs xs ys) → n < MOST_PATTERNS
-  front-lt cs xs ys rest n m few h k e =
-      let whole = pattern-lt cs xs ys h k in
-      let count = count-le (map rare cs) 6 (simp length-map few) in
-      let front = total-bound n (pattern_count_by rest) m _ (count-pos rest) e in
-      omega arith
 
   pub outcome-pattern : (cs : List C) (xs ys : List S) → length xs ≡ length cs → length ys ≡ length cs → (k : ℕ) (d : Outcome) → k < length cs → outcome_at (map rare cs) (number_of (map rare cs) (outcomes outcome cs xs ys)) k ≡ get_or (outcomes outcome cs xs ys) k d
   outcome-pattern cs xs ys h l k d within = outcome-number (map rare cs) (outcomes outcome cs xs ys) k d (outcomes_fit only_rare cs xs ys h l) (simp length-map within)

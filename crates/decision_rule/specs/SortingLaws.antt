@@ -1,3 +1,5 @@
+-- Machinery of the sort in `order`: laws of the order of the cells as a test. It is a strict weak order, and where it puts a cell no later
+-- than another, the cell ranks before it.
 use Rattle.std.proofs.Common.{◌≡◌, ℕ, true, false, ◌&&◌, ◌||◌, eqb, ltb, max, ◌*◌, ◌<◌, ◌≤◌, arith, inl, inr, sym}
 use Rattle.std.proofs.Math.Nat.{mul-le-mul_right, le_of_mul-le-mul_right}
 use Rattle.std.proofs.lemmas.Bool.{cases_lt, cases_eq}

@@ -1,15 +1,82 @@
--- The exchange at the two borders of a table.
-use Rattle.std.proofs.Common.{◌≡◌, ℕ, ◌+◌, ◌*◌, ◌<◌, ◌≤◌, List, length, arith, inl, inr, subst}
-use Rattle.std.proofs.Math.Nat.{mul-le-mul_left}
+-- Laws of the exchange: of two ways to give shares in the order of m over u, the one that gives from the front takes more of the matched pairs
+-- for the same unmatched ones (Fellegi and Sunter 1969, section 2), and what that leaves to a possible link.
+use Rattle.std.proofs.Common.{◌≡◌, ℕ, ◌+◌, ◌-◌, ◌*◌, ◌<◌, ◌≤◌, ◌⊎◌, List, [], ◌∷◌, refl, ap, arith, inl, inr, length, subst}
+use Rattle.std.proofs.Math.Nat.{mul-le-mul_left, le_of_mul-le-mul_left}
+use Rattle.std.specs.List.{sum_by, All, AllByRecursion}
+use Rattle.std.proofs.lemmas.List.Sums.{sum_by-cons}
+use Rattle.std.proofs.lemmas.List.Elements.{recursion_from_All, All-from_get_or, All-weaker}
 use Rattle.std.proofs.lemmas.Bool.{cases_order, cases_lt}
-use Rattle.std.specs.List.{sum_by, All}
-use Rattle.std.proofs.lemmas.List.Elements.{All-from_get_or, All-weaker}
 use Rattle.decision_rule.specs.Exchange.{IsCutForm, IsCell, LinksEndAt, NonlinksStartAt, cell_at, matched_links_of, rule_matched_links, unmatched_nonlinks_of, rule_unmatched_nonlinks}
 use Rattle.link_base.specs.Rule.{empty_cell}
 use Rattle.decision_rule.specs.Rule.{Rule, IsRuleOver, possible_of, mu_of, lambda_of, possible_m_of, possible_u_of, rule_mu, rule_lambda, rule_possible_m, rule_possible_u}
 use Rattle.decision_rule.specs.Order.{RanksBefore}
 use Rattle.link_base.specs.declared.rule.RuleCell.{RuleCell}
-use Rattle.decision_rule.proofs.ExchangeLemmas.{Favours, exchange_bound, split_sum, third_share}
+
+-- a sum by recursion
+abbrev pub total : {X : Type 0} → (X → ℕ) → List X → ℕ
+total f [] = 0
+total f (x ∷ xs) = f x + total f xs
+
+pub total-sum_by : {X : Type 0} (f : X → ℕ) (xs : List X) → sum_by f xs ≡ total f xs
+total-sum_by f [] = refl
+total-sum_by f (x ∷ xs) = rw (sum_by-cons f x xs) (omega (arith, total-sum_by f xs))
+
+-- two rows in order, times two columns in order
+rearranged_parts : (p q v w : ℕ) → (p + q) * v + p * (v + w) ≤ p * v + (p + q) * (v + w)
+rearranged_parts p q v w = omega arith
+
+pub rearranged : (p q v w : ℕ) → p ≤ q → v ≤ w → q * v + p * w ≤ p * v + q * w
+rearranged p q v w h k =
+    let eq : q ≡ p + (q - p) = omega arith in
+    let ew : w ≡ v + (w - v) = omega arith in
+    let r = rearranged_parts p (q - p) v (w - v) in
+    rw (← eq, ← ew) at r
+
+-- the share x of one rule, in s-ths, against the share y of another, in d-ths, at a cell of chances a and b
+abbrev pub Favours : (s d a b x y ak bk : ℕ) → Type 0
+Favours s d a b x y ak bk = ((s * x ≤ d * y) × (b * ak ≤ a * bk)) ⊎ ((d * y ≤ s * x) × (a * bk ≤ b * ak))
+
+exchange_cell : (s d a b x y ak bk : ℕ) → Favours s d a b x y ak bk → bk * (s * (a * x)) + ak * (d * (b * y)) ≤ ak * (s * (b * x)) + bk * (d * (a * y))
+exchange_cell s d a b x y ak bk h =
+    elim h [
+      | inl w ↦ omega (arith, rearranged (b * ak) (a * bk) (s * x) (d * y) w.1 w.0)
+      | inr w ↦ omega (arith, rearranged (a * bk) (b * ak) (d * y) (s * x) w.1 w.0)
+    ]
+
+exchange_total : {X : Type 0} (s d ak bk : ℕ) (a b x y : X → ℕ) (cells : List X) → AllByRecursion (λ c. Favours s d (a c) (b c) (x c) (y c) ak bk) cells → bk * (s * total (λ c. a c * x c) cells) + ak * (d * total (λ c. b c * y c) cells) ≤ ak * (s * total (λ c. b c * x c) cells) + bk * (d * total (λ c. a c * y c) cells)
+exchange_total s d ak bk a b x y [] h = omega arith
+exchange_total s d ak bk a b x y (c ∷ cs) h =
+    omega (arith, exchange_cell s d (a c) (b c) (x c) (y c) ak bk h.0, exchange_total s d ak bk a b x y cs h.1)
+
+-- where the one rule takes t units of the border more of b, it takes at most t units of the border more of a
+pub exchange_bound : {X : Type 0} (s d ak bk t : ℕ) (a b x y : X → ℕ) (cells : List X) → All (λ c. Favours s d (a c) (b c) (x c) (y c) ak bk) cells → 0 < bk → s * sum_by (λ c. b c * x c) cells ≤ d * (sum_by (λ c. b c * y c) cells + t * bk) → s * sum_by (λ c. a c * x c) cells ≤ d * (sum_by (λ c. a c * y c) cells + t * ak)
+exchange_bound s d ak bk t a b x y cells h pos_bk le =
+    let ax = sum_by (λ c. a c * x c) cells in
+    let by = sum_by (λ c. b c * y c) cells in
+    let bx = sum_by (λ c. b c * x c) cells in
+    let ay = sum_by (λ c. a c * y c) cells in
+    let parts : bk * (s * ax) + ak * (d * by) ≤ ak * (s * bx) + bk * (d * ay) =
+    rw (total-sum_by (λ c. a c * x c) cells, total-sum_by (λ c. b c * y c) cells, total-sum_by (λ c. b c * x c) cells, total-sum_by (λ c. a c * y c) cells)
+    (exchange_total s d ak bk a b x y cells (recursion_from_All _ cells h)) in
+    let scaled : ak * (s * bx) ≤ ak * (d * (by + t * bk)) = mul-le-mul_left ak le in
+    let whole : bk * (s * ax) ≤ bk * (d * (ay + t * ak)) = omega arith in
+    le_of_mul-le-mul_left whole pos_bk
+
+split_total : {X : Type 0} (k : ℕ) (a f g h : X → ℕ) (cells : List X) → AllByRecursion (λ c. f c + g c + h c ≡ k) cells → total (λ c. a c * f c) cells + total (λ c. a c * g c) cells + total (λ c. a c * h c) cells ≡ k * total a cells
+split_total k a f g h [] e = omega arith
+split_total k a f g h (c ∷ cs) e =
+    omega (arith, ap (λ n. a c * n) e.0, split_total k a f g h cs e.1)
+
+-- three shares of sum k
+pub split_sum : {X : Type 0} (k : ℕ) (a f g h : X → ℕ) (cells : List X) → All (λ c. f c + g c + h c ≡ k) cells → sum_by (λ c. a c * f c) cells + sum_by (λ c. a c * g c) cells + sum_by (λ c. a c * h c) cells ≡ k * sum_by a cells
+split_sum k a f g h cells e =
+    rw (total-sum_by (λ c. a c * f c) cells, total-sum_by (λ c. a c * g c) cells, total-sum_by (λ c. a c * h c) cells, total-sum_by a cells)
+    (split_total k a f g h cells (recursion_from_All _ cells e))
+
+-- what two shares do not take more, the third does not take less
+pub third_share : (s d a lx px nx ly py ny t : ℕ) → lx + px + nx ≡ d * a → ly + py + ny ≡ s * a → s * lx + s * nx ≤ d * (ly + ny + t) → d * py ≤ s * px + d * t
+third_share s d a lx px nx ly py ny t e f h =
+    omega (arith, ap (λ n. s * n) e, ap (λ n. d * n) f)
 
 crossed : (c d : RuleCell) → RanksBefore c d → d.m * c.u ≤ c.m * d.u
 crossed c d h = elim h [ inl w ↦ omega (arith, w) | inr w ↦ omega (arith, w.0) ]

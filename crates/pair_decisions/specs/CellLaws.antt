@@ -1,5 +1,5 @@
--- Each pattern of a plan stands in one cell of its rule.
-use Rattle.std.proofs.Common.{◌≡◌, ◌<◌, ◌≤◌, ℕ, Bool, true, false, List, [], ◌∷◌, length, map, get_or, ap, arith, inl, inr, refl, subst, sym, ◌∙◌}
+-- Laws of the cells of a rule: each pattern of a plan stands in one cell, there are as many cells as patterns, and each is of one of them.
+use Rattle.std.proofs.Common.{◌≡◌, ◌<◌, ◌≤◌, ℕ, Bool, true, false, List, [], ◌∷◌, length, map, get_or, ap, arith, inl, inr, refl, subst, sym, ◌∙◌, eq-eqb}
 use Rattle.std.specs.Prelude.{All, is_some}
 use Rattle.std.specs.List.{range_with_len}
 use Rattle.std.specs.List.Sorted.{IsPermutation}
@@ -8,21 +8,23 @@ use Rattle.std.proofs.lemmas.List.{get_or-map, length-map}
 use Rattle.std.proofs.lemmas.List.FromFn.{get_or-range_with_len, length-range_with_len}
 use Rattle.std.proofs.lemmas.List.Sorted.{All-permutation, Contains-permutation, IsPermutation-map, length_permutation}
 use Rattle.std.proofs.lemmas.List.Sums.{fails_before_first}
-use Rattle.block_passes.proofs.TestLemmas.{true-eq}
 use Rattle.decision_rule.specs.Filled.{Chances, chances_at, chances_of}
 use Rattle.link_base.specs.Rule.{empty_cell}
 use Rattle.link_base.specs.declared.rule.RuleCell.{RuleCell}
 use Rattle.link_limits.specs.declared.TheConstants.{MOST_FIELDS, MOST_PATTERNS}
-use Rattle.patterns.proofs.Digits.{count-le}
+use Rattle.patterns.specs.ShapeLaws.{count-le}
 use Rattle.patterns.specs.Chances.{pattern_count_of, rare_in}
 use Rattle.patterns.specs.Shapes.{pattern_count_by}
-use Rattle.pair_decisions.proofs.ComparatorLemmas.{map_via}
 use Rattle.pair_decisions.specs.Comparators.{rares_of}
 use Rattle.pair_decisions.specs.PlanRule.{IsRuleOf}
 use Rattle.link_plan.specs.Plan.{FieldKeys, PlainShares, plain_shares}
 use Rattle.link_plan.specs.declared.plan.Plan.{Plan}
 use Rattle.pair_decisions.specs.PairRule.{AreCellsOf, has_pattern}
 use Rattle.pair_decisions.specs.Places.{place_of}
+
+pub map_via : {X Y Z : Type 0} (f : X → Y) (g : Y → Z) (xs : List X) → map g (map f xs) ≡ map (λ x. g (f x)) xs
+map_via f g [] = refl
+map_via f g (x ∷ xs) = ap (λ ys. g (f x) ∷ ys) (map_via f g xs)
 
 map_same : (xs : List ℕ) → map (λ x. x) xs ≡ xs
 map_same [] = refl
@@ -72,7 +74,7 @@ module _ (n : ℕ) (cells : List RuleCell) (all : AreCellsOf n cells) where
         | inl found ↦ found
         | inr past ↦
             let fails : has_pattern pattern (get_or cells at.0 empty_cell) ≡ false = fails_before_first (has_pattern pattern) cells at.0 empty_cell (omega arith) in
-            let holds : has_pattern pattern (get_or cells at.0 empty_cell) ≡ true = true-eq _ _ same in
+            let holds : has_pattern pattern (get_or cells at.0 empty_cell) ≡ true = eq-eqb _ _ same in
             absurd (cc)
       ]
 
