@@ -1,6 +1,6 @@
 // The groups of records.
 ghost use Rattle.std.specs.Prelude.{◌≡◌, ◌<◌, ◌≤◌, ◌^◌, IfSome, length};
-ghost use Rattle.dedup_groups.specs.Groups.{group_lists, leader_of, via_of};
+ghost use Rattle.dedup_groups.specs.Groups.{depth_of, group_lists, leader_of, via_of};
 ghost use Rattle.dedup_groups.specs.Forest.{KeepsRows};
 
 use std::marker::Model;
@@ -61,5 +61,13 @@ impl Groups {
         ensures within { IfSome result (λ from. from < length self.now.leaders) }
     {
         self.vias[at as usize]
+    }
+
+    /// How many links a position was reached by from its leader.
+    pub fn depth(&self, at: u32) -> u32
+        requires { at < length self.now.leaders }
+        ensures { result ≡ depth_of self.now at }
+    {
+        self.depths[at as usize]
     }
 }

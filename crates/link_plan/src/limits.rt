@@ -24,7 +24,7 @@ pub const MOST_PASSES: usize = 8;
 /// The most parts of a pass.
 pub const MOST_PARTS: usize = 4;
 
-/// The most first letters that are compared or blocked by.
+/// The most letters of a canon that has a number of them.
 pub const MOST_LETTERS: u8 = 20;
 
 /// The most days that two dates that agree may be apart.

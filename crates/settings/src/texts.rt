@@ -234,7 +234,7 @@ impl Reader for File {
     }
 }
 
-/// How many first letters are taken, at least 1.
+/// How many letters a canon takes that has a number of them, at least 1.
 #[derive(Drop)]
 pub(crate) struct Letters;
 
