@@ -4,11 +4,10 @@ use Rattle.std.specs.Prelude.{◌≡◌, ◌≤◌, ◌==◌, ◌&&◌, ℕ, Lis
 use Rattle.link_limits.specs.declared.TheConstants.{MOST_DISTINCT_BYTES, MOST_ROWS}
 use Rattle.link_base.specs.Answers.{and_then}
 use Rattle.link_base.specs.declared.fault.Fault.{Fault}
-use Rattle.link_core.specs.Decisions.{decided, IsDecidedIn}
-use Rattle.link_core.specs.Prepared.{prepared, PreparedView}
-use Rattle.link_core.specs.Results.{AreRunTexts, IsDecidedFor, KeepsRows, RunTexts}
+use Rattle.link_core.specs.Decisions.{decided}
+use Rattle.link_core.specs.Prepared.{prepared}
+use Rattle.link_core.specs.Results.{AreRunTexts, RunTexts}
 use Rattle.link_core.specs.Rules.{counted_by}
-use Rattle.pair_decisions.specs.PlanRule.{IsRuleOf}
 use Rattle.link_report.specs.FirstLines.{first_lines_of}
 use Rattle.settings.specs.Settings.{settings}
 use Rattle.link_plan.specs.declared.plan.Plan.{Plan}
@@ -19,7 +18,6 @@ use Rattle.command_scripts.specs.Does.{Script}
 use Rattle.command_scripts.specs.Due.{Due, prints}
 use Rattle.csv_rows.specs.Numbers.{is_decimal, number_in}
 use Rattle.command_steps.specs.Reviewed.{ReviewedPlan, SharedDecisions}
-use Rattle.command_steps.specs.declared.reviewed.DecidedPlan.{DecidedPlan}
 use Rattle.command_scripts.specs.Steps.{gives}
 use Rattle.command_scripts.specs.declared.ends.Ended.TheVariants.{Done}
 use Rattle.link_shell.specs.Words.{word}
@@ -46,13 +44,6 @@ decided_sample plan files sample =
     and_then (counted_by plan files sample) (λ shares.
     and_then (decided plan files shares) (λ decisions.
     Ok (record { shares = shares; decided = decisions })))
-
--- machinery: decisions are those of a plan over its files, by its rule, and have the rows of the compared pairs
-pub record IsDecidedPlan (plan : Plan) (files : PreparedView) (d : DecidedPlan) : Type 0 where
-  pub of_files : IsDecidedIn files d.decided
-  pub of_plan : IsDecidedFor plan files d.decided
-  pub rule : IsRuleOf plan d.shares d.decided.rule.cells
-  pub rows : KeepsRows plan files d.decided
 
 -- the plan of these settings with the decisions of its rule on the compared pairs of two files, by this sample, and no journal
 abbrev pub decided_input : List ℕ → List ℕ → List ℕ → List ℕ → Result ReviewedPlan Fault

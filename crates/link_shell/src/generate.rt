@@ -1,13 +1,13 @@
 // The command `generate NUMBER`.
-ghost use Rattle.std.specs.Prelude.{◌≡◌, IfErr, IfOk, IfSome, is_some, map, string_bytes};
+ghost use Rattle.std.specs.Prelude.{◌≡◌, IfErr, IfOk, IfSome, is_some, map, string_bytes, true};
 ghost use Rattle.command_scripts.specs.Does.{Does};
-ghost use Rattle.command_steps.specs.Reviewed.{found_of, IsReviewed, shared_decisions_of};
+ghost use Rattle.command_steps.specs.Reviewed.{found_of, IsDecidedPlan, IsReviewed, shared_decisions_of};
 ghost use Rattle.command_scripts.specs.Seen.{sink_seen, store_seen};
 ghost use Rattle.csv_rows.specs.Numbers.{number_in};
 ghost use Rattle.link_base.specs.Fault.{Gives, IsInputFault};
 ghost use Rattle.link_core.specs.Results.{KeepsRows};
 ghost use Rattle.link_core.specs.Rules.{IsPreparedFor};
-ghost use Rattle.link_shell.specs.Generate.{are_generate_words, decided_input, decided_sample, generate_script, IsDecidedPlan, IsMadeNumber, is_rows_word, rows_asked};
+ghost use Rattle.link_shell.specs.Generate.{are_generate_words, decided_input, decided_sample, generate_script, IsMadeNumber, is_rows_word, rows_asked};
 ghost use Rattle.link_plan.specs.Ranges.{KeepsRanges};
 ghost use Rattle.workload.specs.Made.{text_of_a, text_of_b, text_of_sample};
 ghost use Rattle.workload.specs.MadeSettings.{text_of_settings};
@@ -65,7 +65,7 @@ fn decide_sample(
     requires ready { IsPreparedFor plan.now files.now }
     ensures kind { IfErr result IsInputFault }
     ensures answer { Gives (shared_decisions_of files.now) (decided_sample plan.now files.now.files sample.now) result }
-    ensures decided { IfOk result (IsDecidedPlan plan.now files.now) }
+    ensures decided { IfOk result (IsDecidedPlan plan.now files.now true) }
 {
     let shares = counted(alloc, plan, files, sample)?;
     match decide_all(alloc, plan, files, &shares, true) {

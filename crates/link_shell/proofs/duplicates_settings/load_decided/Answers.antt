@@ -22,12 +22,12 @@ pub returns-in-Ok-clause-found : goal.returns-in-Ok-clause-found
 returns-in-Ok-clause-found g c =
     let p = c.in_ok-files.files in
     let d = c.in-Ok.found.decided in
-    let decisions = c.in-Ok.ensures.of_plan.decisions in
+    let decisions = c.in-Ok.ensures.decided.of_plan.decisions in
     let rows = compared_in c.args.plan.now p.files in
     let is_link : PairAt → Bool = λ at. is_same Link (decision_at (rule_in p d) at) in
     record {
       same = c.in_ok-files.ensures.same;
       few = c.in_ok-files.ensures.ready.of_a.few;
       few_links = omega (arith, ap length decisions.links, length-filter is_link rows, count_by-le-length is_link rows, decisions.few);
-      of_file = c.in-Ok.ensures.of_files;
+      of_file = c.in-Ok.ensures.decided.of_files;
     }

@@ -1,4 +1,4 @@
-use Rattle.std.proofs.Common.{◌≡◌, List, ℕ, Result, Ok, Err, ap, subst, sym}
+use Rattle.std.proofs.Common.{◌≡◌, List, ℕ, Result, Ok, Err, ap, refl, subst, sym}
 use Rattle.link_base.specs.Fault.{Gives, IsAnswer}
 use Rattle.link_base.specs.declared.fault.Fault.{Fault}
 use Rattle.link_limits.specs.declared.TheConstants.{MOST_DISTINCT_BYTES}
@@ -60,4 +60,4 @@ returns-in-Ok-decide_sample-clause-found c =
     record { ranges = c.in_ok-plan.ensures.ranges; ready = c.in-Ok.ensures.ready; of_files = d.of_files; of_plan = d.of_plan; rule = d.rule }
 
 pub returns-in-Ok-decide_sample-clause-rows : goal.returns-in-Ok-decide_sample-clause-rows
-returns-in-Ok-decide_sample-clause-rows c = c.in-Ok-decide_sample.ensures.decided.rows
+returns-in-Ok-decide_sample-clause-rows c = c.in-Ok-decide_sample.ensures.decided.rows refl
