@@ -12,21 +12,9 @@ from dataclasses import dataclass, field
 from case_files import DATA, Files, listed_commands
 
 from answers import faults_of_answer
-from commands import Ended, perform
+from commands import LOADS, Ended, perform
 
 LONGEST, SHOWN = 4_096, 64
-LOADS = {
-    "pairs": "a b",
-    "rule": "a b sample",
-    "frontier": "a b sample",
-    "open": "a b sample journal",
-    "review": "a b sample journal verdicts",
-    "migrate": "a b journal",
-    "run": "a b sample journal",
-    "verify": "a b sample journal rule links prices",
-    "many": "a b sample journal capacities",
-    "duplicates": "a sample",
-}
 
 
 @dataclass

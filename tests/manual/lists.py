@@ -36,12 +36,9 @@ def settings_specs() -> str:
 
 
 def commands_of() -> set[str]:
-    """The commands' words, as the specifications of the shell name them."""
-    found: set[str] = set()
-    for path in (ROOT / "crates/link_shell/specs").glob("*.antt"):
-        for body in re.findall(r"^are_\w+_words(?: words)? =(.*?)(?=^\S|\Z)", path.read_text(encoding="utf-8"), flags=re.S | re.M):
-            found.update(re.findall(r'codes "([^"]*)"', body))
-    return found
+    """The commands' verbs, as the specifications of the shell name them."""
+    tables = {"SettingsCommands": "settings_verbs", "Commands": "forms"}
+    return {verb for module, table in tables.items() for verb in codes_of(table, read(f"crates/link_shell/specs/{module}.antt"))}
 
 
 def spec_piece(piece: str) -> str:

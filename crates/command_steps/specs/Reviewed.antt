@@ -1,6 +1,6 @@
 -- What several commands find of a plan that clerical review goes on with, the decisions of its rule and its journal, first steps of their
 -- scripts: the clause `Takes` of `load_decisions`, `load_journal`, `load_reviewed`, `load_reviewed_settings` and `load_journal_plan`.
-use Rattle.std.specs.Prelude.{ℕ, List, [], codes, is_some, unwrap_or, Option, Some, None, Result, Ok, Err, if◌then◌else◌}
+use Rattle.std.specs.Prelude.{◌≡◌, ℕ, List, [], Bool, true, codes, is_some, unwrap_or, Option, Some, None, Result, Ok, Err, if◌then◌else◌}
 use Rattle.link_base.specs.declared.fault.Fault.{Fault}
 use Rattle.link_base.specs.declared.fault.Fault.TheVariants as fault
 use Rattle.link_base.specs.declared.fault.FileRole.TheVariants as role
@@ -12,8 +12,8 @@ use Rattle.review_journal.specs.declared.entry.Entry.{Entry}
 use Rattle.standard_files.specs.Files.{StandardPair}
 use Rattle.link_core.specs.Decisions.{decided, Decisions, decisions_of, IsDecidedIn}
 use Rattle.link_core.specs.Prepared.{files_of, PreparedView}
-use Rattle.link_core.specs.Results.{IsDecidedFor}
-use Rattle.link_core.specs.Review.{journal_in_files}
+use Rattle.link_core.specs.Results.{IsDecidedFor, KeepsRows}
+use Rattle.link_core.specs.Review.{IsJournalOf, journal_in_files}
 use Rattle.link_core.specs.Rules.{IsPreparedFor}
 use Rattle.command_scripts.specs.Due.{Put}
 use Rattle.command_steps.specs.Front.{plan_file, prepared_files, shares_over}
@@ -55,6 +55,23 @@ decided_plan plan files = do
   shares ← shares_over plan files plan.sample
   decided ← gives (decided plan files shares)
   gives (Ok (record { shares = shares; decided = decided }))
+
+-- machinery: decisions are those of a plan over its files, by the rule of the plan and of the shares, and have the rows of the compared pairs
+-- where they are asked for
+pub record IsDecidedPlan (plan : Plan) (files : PreparedView) (with_rows : Bool) (d : DecidedPlan) : Type 0 where
+  pub of_files : IsDecidedIn files d.decided
+  pub of_plan : IsDecidedFor plan files d.decided
+  pub rule : IsRuleOf plan d.shares d.decided.rule.cells
+  pub rows : with_rows ≡ true → KeepsRows plan files d.decided
+
+-- machinery: the same with the files, and with the journal, whose entries are of them
+pub record IsReviewedFor (plan : Plan) (with_rows : Bool) (r : Reviewed) : Type 0 where
+  pub ready : IsPreparedFor plan r.files
+  pub of_files : IsDecidedIn r.files r.decided
+  pub of_plan : IsDecidedFor plan r.files r.decided
+  pub rule : IsRuleOf plan r.shares r.decided.rule.cells
+  pub rows : with_rows ≡ true → KeepsRows plan r.files r.decided
+  pub journal : IsJournalOf r.files.files r.journal
 
 -- the files of a plan with the decisions of its rule on the compared pairs, and the entries of its journal, whose faults come last
 abbrev pub reviewed_plan : Plan → Steps Review

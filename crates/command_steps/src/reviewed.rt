@@ -1,16 +1,14 @@
 // What the decisions and the journal of a plan come to.
 ghost use Rattle.std.specs.Prelude.{◌≡◌, ◌∷◌, [], codes, Err, IfOk, IsSome, Some, true};
-ghost use Rattle.command_steps.specs.Reviewed.{decided_plan, found_of, IsReviewed, journal_file, journal_plan, put_of_journal, review_of, reviewed_plan, reviewed_settings, shared_decisions_of};
+ghost use Rattle.command_steps.specs.Reviewed.{decided_plan, found_of, IsDecidedPlan, IsReviewed, IsReviewedFor, journal_file, journal_plan, put_of_journal, review_of, reviewed_plan, reviewed_settings, shared_decisions_of};
 ghost use Rattle.command_scripts.specs.Seen.{store_seen};
 ghost use Rattle.command_scripts.specs.Steps.{seen_by, Takes};
 ghost use Rattle.command_scripts.specs.Ways.{PutsAll};
 ghost use Rattle.link_base.specs.Fault.{IsInputFault, Refuses};
 ghost use Rattle.link_base.specs.declared.fault.Fault.TheVariants as fault;
-ghost use Rattle.link_core.specs.Decisions.{IsDecidedIn};
-ghost use Rattle.link_core.specs.Results.{IsDecidedFor, KeepsRows};
+ghost use Rattle.link_core.specs.Results.{KeepsRows};
 ghost use Rattle.link_core.specs.Review.{IsJournalOf};
 ghost use Rattle.link_core.specs.Rules.{IsPreparedFor};
-ghost use Rattle.pair_decisions.specs.PlanRule.{IsRuleOf};
 ghost use Rattle.link_plan.specs.Ranges.{KeepsRanges, NamesFiles};
 ghost use Rattle.link_plan.specs.declared.plan.Plan.{Plan as AnyPlan};
 
@@ -92,10 +90,7 @@ pub fn load_decisions<S: Store>(
     requires names { NamesFiles plan.now }
     requires ready { IsPreparedFor plan.now files.now }
     ensures takes { Takes (decided_plan plan.now files.now.files) (store_seen S.tells S.held S.faults store.old store.new) (seen_by (shared_decisions_of files.now) result) }
-    ensures of_files { IfOk result (λ d. IsDecidedIn files.now d.decided) }
-    ensures of_plan { IfOk result (λ d. IsDecidedFor plan.now files.now d.decided) }
-    ensures rule { IfOk result (λ d. IsRuleOf plan.now d.shares d.decided.rule.cells) }
-    ensures rows { IfOk result (λ d. with_rows ≡ true → KeepsRows plan.now files.now d.decided) }
+    ensures decided { IfOk result (IsDecidedPlan plan.now files.now with_rows) }
 {
     let shares = load_shares_over(alloc, store, plan, files)?;
     match decide_all(alloc, plan, files, &shares, with_rows) {
@@ -117,12 +112,7 @@ pub fn load_reviewed<S: Store>(
     requires ranges { KeepsRanges plan.now }
     requires names { NamesFiles plan.now }
     ensures takes { Takes (reviewed_plan plan.now) (store_seen S.tells S.held S.faults store.old store.new) (seen_by review_of result) }
-    ensures ready { IfOk result (λ r. IsPreparedFor plan.now r.files) }
-    ensures of_files { IfOk result (λ r. IsDecidedIn r.files r.decided) }
-    ensures of_plan { IfOk result (λ r. IsDecidedFor plan.now r.files r.decided) }
-    ensures rule { IfOk result (λ r. IsRuleOf plan.now r.shares r.decided.rule.cells) }
-    ensures rows { IfOk result (λ r. with_rows ≡ true → KeepsRows plan.now r.files r.decided) }
-    ensures journal { IfOk result (λ r. IsJournalOf r.files.files r.journal) }
+    ensures reviewed { IfOk result (IsReviewedFor plan.now with_rows) }
 {
     let files = load_prepared(alloc, store, plan)?;
     let found = match load_decisions(alloc, store, plan, &files, with_rows) {

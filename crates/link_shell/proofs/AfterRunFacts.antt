@@ -1,7 +1,7 @@
 -- What a run leaves is verified.
 use Rattle.std.proofs.Common.{◌≡◌, ◌≤◌, ◌∙◌, inl, inr, ℕ, List, length, codes, Bool, true, false, if◌then◌else◌, nat_le, Option, Some, None, Result, Ok, Err, refl, sym, ap, subst, arith}
-use Rattle.std.specs.Prelude.{◌==◌, ◌&&◌, bytes_eq, drop, not, IfSome, ⊤}
-use Rattle.std.proofs.lemmas.Bool.{and_parts, le-leb, not-true, or_parts, true≢false}
+use Rattle.std.specs.Prelude.{bytes_eq, IfSome, ⊤}
+use Rattle.std.proofs.lemmas.Bool.{le-leb, or_parts, true≢false}
 use Rattle.std.proofs.lemmas.Slice.Eq.{bytes_eq-Decides}
 use Rattle.link_base.specs.Answers.{and_then}
 use Rattle.link_base.specs.declared.fault.Fault.{Fault}
@@ -37,24 +37,13 @@ use Rattle.command_scripts.specs.Seen.{IsUncalled, SinkSeen, StoreSeen}
 use Rattle.command_scripts.specs.Steps.{◌>>=◌, ComesTo, file, file_within, gives, load, outcome, Steps}
 use Rattle.command_scripts.specs.declared.ends.Ended.{Ended}
 use Rattle.command_scripts.specs.declared.ends.Ended.TheVariants.{Done, Refuted}
+use Rattle.link_shell.proofs.CommandFacts.{KeepsSettings, keeps_settings}
 use Rattle.link_shell.proofs.HeadlineFacts.{came, FoundBy, settings_found, told_above}
 use Rattle.link_shell.specs.AfterRun.{HoldsProof, ProvedByRun, SaysYes, YesAfterRun, YesWhereProved}
-use Rattle.link_shell.specs.Commands.{Command, command_of, duplicates_of_settings, frontier_of_settings, generation, keys, many_of_settings, migration_of_settings, open_of_settings, or_command, pairs_of_columns, pairs_of_settings, review_of_settings, rule_of_settings, run_of_settings, settings_command_of, verification_of_settings}
-use Rattle.link_shell.specs.DuplicatesSettings.{are_duplicates_words}
-use Rattle.link_shell.specs.FrontierSettings.{are_frontier_words, asked_in}
-use Rattle.link_shell.specs.Generate.{are_generate_words, rows_asked}
-use Rattle.link_shell.specs.Keys.{are_keys_words}
-use Rattle.link_shell.specs.ManySettings.{are_many_words, many_in}
-use Rattle.link_shell.specs.MigrateSettings.{are_migrate_words}
-use Rattle.link_shell.specs.OpenSettings.{are_open_words}
-use Rattle.link_shell.specs.PairsColumns.{are_column_words, columns_in}
-use Rattle.link_shell.specs.PairsSettings.{are_settings_words}
-use Rattle.link_shell.specs.ReviewSettings.{are_review_words, review_in}
-use Rattle.link_shell.specs.RuleSettings.{are_rule_words}
+use Rattle.link_shell.specs.Commands.{command_of, run_of_settings, verification_of_settings}
 use Rattle.link_shell.specs.Linked.{Follows, IsComplete, Performed, Reported, status_after}
-use Rattle.link_shell.specs.RunSettings.{are_run_words, run_puts, run_script}
-use Rattle.link_shell.specs.VerifySettings.{are_verify_words, ended_by, proved_by, verified_settings, verify_script, written_files, WrittenPlan}
-use Rattle.link_shell.specs.Words.{are_verb_and_settings, is_settings_word, is_short_word, word}
+use Rattle.link_shell.specs.RunSettings.{run_puts, run_script}
+use Rattle.link_shell.specs.VerifySettings.{ended_by, proved_by, verified_settings, verify_script, written_files, WrittenPlan}
 
 -- each name that steps load has a property
 abbrev pub AllLoads : {T : Type 0} → (List ℕ → Type 0) → Steps T → Type 0
@@ -220,68 +209,9 @@ module _ (law : RunIsVerified) (name : List ℕ) (kept : IsKept name) (store : S
       let holds : HoldsAll (puts (run_puts put.texts)) store = subst (λ d. HoldsAll d store) put.so e.held in
       subst (HoldsProof name) (sym (holds told)) (record { found = w; loaded = whole; links = made.links; proved = proved })
 
--- the settings file of a run is none of the outputs
-record KeepsSettings (command : Option Command) : Type 0 where
-  keeps : (name : List ℕ) → command ≡ Some (run_of_settings name) → IsKept name
-
-abbrev is_run : Command → Bool
-is_run (run_of_settings name) = true
-is_run command = false
-
-some_command : (x y : Command) → Some x ≡ Some y → x ≡ y
-some_command x y e = cc e
-
-no_run : (command : Command) → is_run command ≡ false → KeepsSettings (Some command)
-no_run command other = record { keeps = λ name e. absurd (true≢false (sym (ap is_run (some_command command (run_of_settings name) e)) ∙ other)) }
-
-a_run : (name : List ℕ) → IsKept name → KeepsSettings (Some (run_of_settings name))
-a_run name kept = record { keeps = λ other e. subst IsKept (same_name name other (some_command (run_of_settings name) (run_of_settings other) e)) kept }
-  where
-    same_name : (x y : List ℕ) → run_of_settings x ≡ run_of_settings y → x ≡ y
-    same_name x y e = cc e
-
-no_form : KeepsSettings None
-no_form = record { keeps = λ name e. absurd (cc e) }
-
-if_command : (test : Bool) (command : Command) (rest : Option Command) → (test ≡ true → KeepsSettings (Some command)) → KeepsSettings rest → KeepsSettings (if test then Some command else rest)
-if_command true command rest here later = here refl
-if_command false command rest here later = later
-
-settings_kept : (verb : List ℕ) (words : List (List ℕ)) → are_verb_and_settings verb words ≡ true → IsKept (word words 1)
-settings_kept verb words e =
-    let named = and_parts ((length words == 2) && bytes_eq (word words 0) verb) (is_settings_word (word words 1)) e in
-    let settings = and_parts (is_short_word (word words 1)) (not (is_output (word words 1))) named.1 in
-    not-true (is_output (word words 1)) settings.1
-
-or_kept : (first next : Option Command) → KeepsSettings first → KeepsSettings next → KeepsSettings (or_command first next)
-or_kept None next f n = n
-or_kept (Some command) next f n = f
-
-settings_keep : (words : List (List ℕ)) → KeepsSettings (settings_command_of words)
-unfolding settings_command_of
-settings_keep words =
-    if_command (are_settings_words words) (pairs_of_settings (word words 1)) _ (λ e. no_run _ refl)
-    (if_command (are_rule_words words) (rule_of_settings (word words 1)) _ (λ e. no_run _ refl)
-    (if_command (are_open_words words) (open_of_settings (word words 1)) _ (λ e. no_run _ refl)
-    (if_command (are_migrate_words words) (migration_of_settings (word words 1)) _ (λ e. no_run _ refl)
-    (if_command (are_run_words words) (run_of_settings (word words 1)) _ (λ e. a_run (word words 1) (settings_kept (codes "run") words e))
-    (if_command (are_verify_words words) (verification_of_settings (word words 1)) _ (λ e. no_run _ refl)
-    (if_command (are_duplicates_words words) (duplicates_of_settings (word words 1)) _ (λ e. no_run _ refl) no_form))))))
-
-keeps_settings : (words : List (List ℕ)) → KeepsSettings (command_of words)
-unfolding command_of
-keeps_settings words =
-    or_kept (settings_command_of words) _ (settings_keep words)
-    (if_command (are_column_words words) (pairs_of_columns (columns_in words)) _ (λ e. no_run _ refl)
-    (if_command (are_keys_words words) (keys (drop 1 words)) _ (λ e. no_run _ refl)
-    (if_command (are_frontier_words words) (frontier_of_settings (asked_in words)) _ (λ e. no_run _ refl)
-    (if_command (are_review_words words) (review_of_settings (review_in words)) _ (λ e. no_run _ refl)
-    (if_command (are_many_words words) (many_of_settings (many_in words)) _ (λ e. no_run _ refl)
-    (if_command (are_generate_words words) (generation (rows_asked words)) _ (λ e. no_run _ refl) no_form))))))
-
 pub proved_by_run : RunIsVerified → (words : List (List ℕ)) (store : StoreSeen) (out err : SinkSeen) (answer : Result Ended Fault) (status : ℕ) → Performed words store out answer → Reported err answer status → ProvedByRun words store status
 proved_by_run law words store out err (Ok Done) status p r =
-    λ name is zero told. proves law name ((keeps_settings words).keeps name is) store out told (subst (λ command. Follows command store out (Ok Done)) is p.follows).answers
+    λ name is zero told. proves law name (subst (λ command. IfSome command KeepsSettings) is (keeps_settings words)) store out told (subst (λ command. Follows command store out (Ok Done)) is p.follows).answers
 proved_by_run law words store out err (Ok Refuted) status p r = λ name is zero told. absurd (omega (arith, r.0, zero))
 proved_by_run law words store out err (Err f) status p r = λ name is zero told. absurd (told_above f r.written (sym r.status_is ∙ zero))
 

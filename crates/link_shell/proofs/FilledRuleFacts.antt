@@ -1,5 +1,5 @@
 -- What steps come to decides by the filled table of the plan and the shares.
-use Rattle.std.proofs.Common.{◌≡◌, ◌∙◌, ℕ, List, Option, Some, None, Result, Ok, Err, Bool, true, false, refl, subst, sym}
+use Rattle.std.proofs.Common.{◌≡◌, ℕ, List, Option, Some, None, Result, Ok, Err, Bool, true, false, refl, subst, sym}
 use Rattle.std.specs.Prelude.{codes, IfSome, is_some, if◌then◌else◌}
 use Rattle.std.proofs.lemmas.List.Elements.{All-map, All-weaker}
 use Rattle.link_base.specs.Answers.{and_then}
@@ -27,7 +27,7 @@ use Rattle.settings.specs.Settings.{settings}
 use Rattle.standard_files.specs.Files.{StandardPair}
 use Rattle.command_scripts.specs.StepLaws.{no_ok, ok_same}
 use Rattle.command_steps.specs.Front.{plan_file, shares_over}
-use Rattle.command_steps.specs.Reviewed.{decided_plan, journal_plan, Review, reviewed_plan, ReviewedPlan, SharedDecisions, with_journal}
+use Rattle.command_steps.specs.Reviewed.{decided_plan, Review, reviewed_plan, ReviewedPlan, SharedDecisions}
 use Rattle.command_scripts.specs.Steps.{file, gives, outcome}
 use Rattle.link_shell.specs.DuplicatesSettings.{decided_within, prepared_within, Within}
 use Rattle.link_shell.specs.FilledRule.{AreByFilledRule, FilledRule}

@@ -1,8 +1,8 @@
 -- The headline follows of what the words do, and of the status that is told.
 use Rattle.std.proofs.Common.{◌≡◌, ◌⊎◌, ◌∙◌, inl, inr, ◌∷◌, ℕ, ℤ, List, [], length, Option, Some, None, Result, Ok, Err, refl, sym, ap, subst, arith}
 use Rattle.std.specs.Prelude.{All, Contains}
-use Rattle.std.proofs.lemmas.List.Elements.{All-contains, All-weaker}
-use Rattle.candidate_links.proofs.CandidateLemmas.{all_if, some_same}
+use Rattle.std.specs.List.{cons_option}
+use Rattle.std.proofs.lemmas.List.Elements.{All-cons, All-contains, All-weaker}
 use Rattle.candidate_links.specs.Candidates.{by_decision, candidate_by_verdict, candidate_of, candidates_of, linked, weight_of_pair}
 use Rattle.decision_rule.specs.RuleLaws.{least}
 use Rattle.link_base.specs.Answers.{and_then}
@@ -55,6 +55,11 @@ came (load r limit name step) next held y e =
 came (gives (Ok x)) next held y e = (x, refl, e)
 came (gives (Err f)) next held y e = no_ok f y e
 
+-- and results
+pub step_came : (A B : Type 0) (r : Result A Fault) (f : A → Result B Fault) (y : B) → and_then r f ≡ Ok y → (x : A) × (r ≡ Ok x) × (f x ≡ Ok y)
+step_came A B (Ok x) f y e = (x, refl, e)
+step_came A B (Err g) f y e = no_ok g y e
+
 -- what a review was found by
 pub record FoundBy (plan : Plan) (held : Held) (review : Review) : Type 0 where
   pub of_files : outcome (prepared_files plan) held ≡ Ok review.files
@@ -88,6 +93,13 @@ settings_found name held found e =
 pub rule_is : (r : Result (List PairAt) Fault) (rule : FileRule) (d : Decisions) → and_then r (λ pairs. Ok (decided_by rule pairs)) ≡ Ok d → d.rule ≡ rule
 rule_is (Ok pairs) rule d e = ap (λ (x : Decisions). x.rule) (sym (ok_same _ _ e))
 rule_is (Err f) rule d e = no_ok f d e
+
+some_same : (x y : Candidate) → Some x ≡ Some y → x ≡ y
+some_same x y e = cc
+
+all_if : (Q : Candidate → Type 0) (cs : List Candidate) (o : Option Candidate) → ((c : Candidate) → o ≡ Some c → Q c) → All Q cs → All Q (cons_option o cs)
+all_if Q cs None here rest = rest
+all_if Q cs (Some c) here rest = All-cons Q c cs (here c refl) rest
 
 -- a candidate is a link by the rule, or by review
 abbrev IsBy : Decision → Option Verdict → PairAt → Candidate → Type 0

@@ -1,6 +1,6 @@
 -- No verdict is lost: what `review` and `migrate` put loads again.
 use Rattle.std.proofs.Common.{◌≡◌, ◌≢◌, ◌⊎◌, ◌≤◌, ◌∷◌, ◌∙◌, inl, inr, ℕ, ℤ, pos, zero, suc, List, [], All, length, codes, get_or, Bool, true, false, if◌then◌else◌, nat_le, Option, Some, None, Result, Ok, Err, refl, sym, ap, subst, arith}
-use Rattle.std.specs.Prelude.{◌==◌, ◌&&◌, bytes_eq, drop, IfSome, is_some, IsUtf8, unwrap_or, ⊤}
+use Rattle.std.specs.Prelude.{◌==◌, ◌&&◌, bytes_eq, IfSome, is_some, IsUtf8, unwrap_or, ⊤}
 use Rattle.std.proofs.lemmas.Bool.{and_parts, false_from_ne_true}
 use Rattle.std.proofs.lemmas.Bool.Decides.{nat_tests}
 use Rattle.std.proofs.lemmas.List.Elements.{All-tail}
@@ -10,7 +10,6 @@ use Rattle.link_base.specs.Standard.{IsDay, Record}
 use Rattle.link_base.specs.declared.fault.Fault.{Fault}
 use Rattle.link_base.specs.declared.fault.Fault.TheVariants as fault
 use Rattle.link_base.specs.declared.fault.FileRole.TheVariants as role
-use Rattle.link_core.proofs.DuplicateLemmas.{came as step_came}
 use Rattle.link_core.proofs.FileLemmas.{AreReadFiles, IsReadFile, read_files}
 use Rattle.standard_files.specs.Files.{StandardPair}
 use Rattle.link_core.specs.Review.{journal_in_files, text_within}
@@ -36,25 +35,17 @@ use Rattle.command_scripts.specs.Seen.{SinkSeen, StoreSeen}
 use Rattle.command_scripts.specs.Steps.{◌>>=◌, file, outcome, Steps}
 use Rattle.command_scripts.specs.declared.ends.Ended.{Ended}
 use Rattle.link_shell.proofs.AfterRunFacts.{AllLoads, file_held, kept_if, loads_then, same_outcome}
-use Rattle.link_shell.proofs.HeadlineFacts.{came, found_by}
+use Rattle.link_shell.proofs.CommandFacts.{of_each}
+use Rattle.link_shell.proofs.HeadlineFacts.{came, found_by, step_came}
 use Rattle.link_shell.proofs.OnePutFacts.{IsMade, made_at_zero, made_or_kept}
-use Rattle.link_shell.specs.Commands.{Command, command_of, duplicates_of_settings, frontier_of_settings, generation, keys, many_of_settings, migration_of_settings, open_of_settings, or_command, pairs_of_columns, pairs_of_settings, review_of_settings, rule_of_settings, run_of_settings, settings_command_of, verification_of_settings}
-use Rattle.link_shell.specs.DuplicatesSettings.{are_duplicates_words}
-use Rattle.link_shell.specs.FrontierSettings.{are_frontier_words, asked_in}
-use Rattle.link_shell.specs.Generate.{are_generate_words, rows_asked}
-use Rattle.link_shell.specs.Keys.{are_keys_words}
+use Rattle.link_shell.specs.Commands.{are_words, Command, command_in, command_of, migration_of_settings, review_of_settings}
 use Rattle.link_shell.specs.KeptVerdicts.{LoadsAs, MigrateKeeps, NoVerdictLost, ReviewKeeps, StillGives}
 use Rattle.link_shell.specs.Linked.{Follows, Performed, Reported}
-use Rattle.link_shell.specs.ManySettings.{are_many_words, many_in}
-use Rattle.link_shell.specs.MigrateSettings.{are_migrate_words, migrate_script, written_journal}
-use Rattle.link_shell.specs.OpenSettings.{are_open_words}
-use Rattle.link_shell.specs.PairsColumns.{are_column_words, columns_in}
-use Rattle.link_shell.specs.PairsSettings.{are_settings_words}
-use Rattle.link_shell.specs.ReviewSettings.{are_review_words, NewReview, review_in, review_script, reviewed_journal}
-use Rattle.link_shell.specs.RuleSettings.{are_rule_words}
-use Rattle.link_shell.specs.RunSettings.{are_run_words}
-use Rattle.link_shell.specs.VerifySettings.{are_verify_words}
+use Rattle.link_shell.specs.MigrateSettings.{migrate_script, written_journal}
+use Rattle.link_shell.specs.ReviewSettings.{NewReview, review_script, reviewed_journal}
 use Rattle.link_shell.specs.Words.{is_settings_word, is_short_word, word}
+use Rattle.link_shell.specs.declared.command.Form.{Form}
+use Rattle.link_shell.specs.declared.command.Form.TheVariants as form
 
 -- a plan that names a journal
 with_is : (p plan : Plan) → with_journal p ≡ Ok plan → (is_some p.journal ≡ true) × (p ≡ plan)
@@ -234,14 +225,6 @@ abbrev IsSound : Command → Type 0
 IsSound (review_of_settings w) = IsDay w.date × IsReviewer w.reviewer
 IsSound command = ⊤
 
-if_sound : (test : Bool) (command : Command) (rest : Option Command) → (test ≡ true → IsSound command) → IfSome rest IsSound → IfSome (if test then Some command else rest) IsSound
-if_sound true command rest here later = here refl
-if_sound false command rest here later = later
-
-or_sound : (first next : Option Command) → IfSome first IsSound → IfSome next IsSound → IfSome (or_command first next) IsSound
-or_sound None next f n = n
-or_sound (Some command) next f n = f
-
 word_text : (words : List (List ℕ)) (at : ℕ) → All IsUtf8 words → IsUtf8 (get_or words at [])
 word_text [] at texts = IsUtf8-nil
 word_text (w ∷ ws) zero texts = texts 0 [] (omega arith)
@@ -254,34 +237,13 @@ day_read text (Some day) is e = iso_is_day text day is
 reviewer_read : (name : List ℕ) → IsUtf8 name → is_short_word name ≡ true → IsReviewer name
 reviewer_read name text e = record { some = grind (arith, nat_tests); few = grind (arith, nat_tests); text = text }
 
-review_sound : (words : List (List ℕ)) → All IsUtf8 words → are_review_words words ≡ true → IsSound (review_of_settings (review_in words))
-review_sound words texts e =
-    let front : Bool = (length words == 5) && bytes_eq (word words 0) (codes "review") && is_settings_word (word words 1) && is_short_word (word words 2) in
+sound_form : (words : List (List ℕ)) → All IsUtf8 words → (f : Form) → are_words f words ≡ true → IsSound (command_in f words)
+sound_form words texts form.Review e =
+    let front : Bool = (length words == 5) && is_settings_word (word words 1) && is_short_word (word words 2) in
     let last = and_parts (front && is_some (iso_day (word words 3))) (is_short_word (word words 4)) e in
     let day = and_parts front (is_some (iso_day (word words 3))) last.0 in
     (day_read (word words 3) (iso_day (word words 3)) refl day.1, reviewer_read (word words 4) (word_text words 4 texts) last.1)
-
-settings_sound : (words : List (List ℕ)) → IfSome (settings_command_of words) IsSound
-unfolding settings_command_of
-settings_sound words =
-    if_sound (are_settings_words words) (pairs_of_settings (word words 1)) _ (λ e. tt)
-    (if_sound (are_rule_words words) (rule_of_settings (word words 1)) _ (λ e. tt)
-    (if_sound (are_open_words words) (open_of_settings (word words 1)) _ (λ e. tt)
-    (if_sound (are_migrate_words words) (migration_of_settings (word words 1)) _ (λ e. tt)
-    (if_sound (are_run_words words) (run_of_settings (word words 1)) _ (λ e. tt)
-    (if_sound (are_verify_words words) (verification_of_settings (word words 1)) _ (λ e. tt)
-    (if_sound (are_duplicates_words words) (duplicates_of_settings (word words 1)) _ (λ e. tt) tt))))))
-
-all_sound : (words : List (List ℕ)) → All IsUtf8 words → IfSome (command_of words) IsSound
-unfolding command_of
-all_sound words texts =
-    or_sound (settings_command_of words) _ (settings_sound words)
-    (if_sound (are_column_words words) (pairs_of_columns (columns_in words)) _ (λ e. tt)
-    (if_sound (are_keys_words words) (keys (drop 1 words)) _ (λ e. tt)
-    (if_sound (are_frontier_words words) (frontier_of_settings (asked_in words)) _ (λ e. tt)
-    (if_sound (are_review_words words) (review_of_settings (review_in words)) _ (review_sound words texts)
-    (if_sound (are_many_words words) (many_of_settings (many_in words)) _ (λ e. tt)
-    (if_sound (are_generate_words words) (generation (rows_asked words)) _ (λ e. tt) tt))))))
+sound_form words texts f e = tt
 
 either : {A B C : Type 0} → (B → C) → A ⊎ B → A ⊎ C
 either f (inl x) = inl x
@@ -290,7 +252,7 @@ either f (inr y) = inr (f y)
 module _ (reviewed : ReviewKeepsAll) (migrated : MigrationKeepsAll) (words : List (List ℕ)) (store : StoreSeen) (out err : SinkSeen) (answer : Result Ended Fault) (status : ℕ) (texts : All IsUtf8 words)
     (performed : Performed words store out answer) (reported : Reported err answer status) where
   sound_of : (w : NewReview) → command_of words ≡ Some (review_of_settings w) → IsDay w.date × IsReviewer w.reviewer
-  sound_of w is = subst (λ command. IfSome command IsSound) is (all_sound words texts)
+  sound_of w is = subst (λ command. IfSome command IsSound) is (of_each IsSound words (λ e v. tt) (sound_form words texts))
 
   follows_of : (command : Command) → command_of words ≡ Some command → Follows (Some command) store out answer
   follows_of command is = subst (λ c. Follows c store out answer) is performed.follows

@@ -1,6 +1,5 @@
 -- What follows of each command.
-use Rattle.std.proofs.Common.{◌≡◌, ◌≢◌, ◌≤◌, ◌⊎◌, inl, inr, ◌+◌, ◌++◌, ◌∷◌, ℕ, List, [], length, length-append, Bool, true, false, if◌then◌else◌, Option, Some, None, Result, Ok, Err, ap, ◌∙◌, arith, subst, sym}
-use Rattle.std.proofs.lemmas.Bool.{true≢false}
+use Rattle.std.proofs.Common.{◌≡◌, ◌≢◌, ◌≤◌, ◌⊎◌, inl, inr, ◌+◌, ◌++◌, ◌∷◌, ℕ, List, [], length, length-append, Option, Some, None, Result, Ok, Err, ap, ◌∙◌, arith, subst}
 use Rattle.link_base.specs.declared.fault.Fault.{Fault}
 use Rattle.link_base.specs.declared.fault.Fault.TheVariants as fault
 use Rattle.link_outside.specs.Outside.{Rose}
@@ -10,8 +9,10 @@ use Rattle.command_scripts.specs.Does.{Answers, Does, DoesPart, FailsAt, FailsBy
 use Rattle.command_scripts.specs.Due.{Due, HoldsAll, HoldsSome, prints, Prints, PutFails, puts, puts_of, TakesAll, TakesSome}
 use Rattle.command_scripts.specs.Seen.{IsUncalled, SinkSeen, StoreSeen}
 use Rattle.command_scripts.specs.declared.ends.Ended.{Ended}
-use Rattle.link_shell.specs.Commands.{Command, command_of, or_command, script_of}
+use Rattle.link_shell.specs.Commands.{Command, command_of, form_command, or_form, script_of}
 use Rattle.link_shell.specs.Linked.{Follows, IsComplete, IsExactUsage, IsSilent, IsStill, NeverPrints, NeverPuts, Performed, RefusesBy}
+use Rattle.link_shell.specs.SettingsCommands.{OfFile, settings_script}
+use Rattle.link_shell.specs.declared.command.Form.{Form}
 
 gained : (old new : List StoreCall) (call : StoreCall) → new ≡ old ++ call ∷ [] → new ≡ old → ⊥
 gained old new call e same =
@@ -138,31 +139,13 @@ performs words store out answer d = record {
   complete = completes (command_of words) store out answer d;
 }
 
--- the words are a form of the command of a test that holds, or of one of those after it
+-- the words are of a settings file alone, or of a form
 module _ (store : StoreSeen) (out : SinkSeen) (answer : Result Ended Fault) where
-  pub follows_here : {X : Type 0} (make : X → Command) (test : Bool) (rest : Option Command) {x y : X} → true ≡ test → x ≡ y → Does (script_of (make x)) store out answer
-      → Follows (if test then Some (make y) else rest) store out answer
-  follows_here make true rest e same d = subst (λ z. Does (script_of (make z)) store out answer) same d
-  follows_here make false rest e same d = absurd (true≢false e)
+  pub follows_file : (file : OfFile) (named : Option OfFile) (next : Option Command) → Some file ≡ named → Does (settings_script file.verb file.name) store out answer
+      → Follows (or_form named next) store out answer
+  follows_file file named next e d = subst (λ n. Follows (or_form n next) store out answer) e d
 
-  pub follows_later : (test : Bool) (here : Command) (rest : Option Command) → false ≡ test → Follows rest store out answer → Follows (if test then Some here else rest) store out answer
-  follows_later true here rest e d = absurd (true≢false (sym e))
-  follows_later false here rest e d = d
-
-  -- the same of the first of two commands
-  pub first_here : {X : Type 0} (make : X → Command) (test : Bool) (rest next : Option Command) {x y : X} → true ≡ test → x ≡ y → Does (script_of (make x)) store out answer
-      → Follows (or_command (if test then Some (make y) else rest) next) store out answer
-  first_here make true rest next e same d = subst (λ z. Does (script_of (make z)) store out answer) same d
-  first_here make false rest next e same d = absurd (true≢false e)
-
-  pub first_later : (test : Bool) (here : Command) (rest next : Option Command) → false ≡ test → Follows (or_command rest next) store out answer
-      → Follows (or_command (if test then Some here else rest) next) store out answer
-  first_later true here rest next e d = absurd (true≢false (sym e))
-  first_later false here rest next e d = d
-
-  pub second : (first next : Option Command) → first ≡ None → Follows next store out answer → Follows (or_command first next) store out answer
-  second first next e d = subst (λ (z : Option Command). Follows (or_command z next) store out answer) (sym e) d
-
-pub none_if : (test : Bool) (here : Command) (rest : Option Command) → false ≡ test → rest ≡ None → (if test then Some here else rest) ≡ None
-none_if true here rest e same = absurd (true≢false (sym e))
-none_if false here rest e same = same
+  pub follows_form : (named : Option OfFile) (form first : Option Form) (words : List (List ℕ)) → None ≡ named → form ≡ first → Follows (form_command form words) store out answer
+      → Follows (or_form named (form_command first words)) store out answer
+  follows_form named form first words e same d =
+      subst (λ n. Follows (or_form n (form_command first words)) store out answer) e (subst (λ f. Follows (form_command f words) store out answer) same d)

@@ -3,6 +3,7 @@ pub mod Laws
 pub mod LevelFacts
 pub mod HeadlineFacts
 pub mod InputFacts
+pub mod CommandFacts
 pub mod AfterRunFacts
 pub mod OnePutFacts
 pub mod KeptVerdictFacts

@@ -1,12 +1,12 @@
--- The command `duplicates SETTINGS`: its words, its steps and what is due, by the clause `follows` of `perform`. A is read as both files of
+-- The command `duplicates SETTINGS`: its steps and what is due, by the clause `follows` of `perform`. A is read as both files of
 -- the plan of A with itself; no step is a load of B or of the journal.
-use Rattle.std.specs.Prelude.{◌≡◌, ℕ, List, length, Bool, codes, Ok}
+use Rattle.std.specs.Prelude.{◌≡◌, ◌≤◌, ℕ, List, length, Ok}
 use Rattle.dedup_groups.specs.Groups.{AreLeaders}
 use Rattle.link_base.specs.declared.fault.FileRole.TheVariants as role
-use Rattle.link_core.specs.Decisions.{Decisions, decisions_of}
+use Rattle.link_core.specs.Decisions.{Decisions, decisions_of, IsDecidedIn}
 use Rattle.link_core.specs.Duplicates.{IsGroupsText, links_within}
 use Rattle.link_core.specs.Prepared.{files_of, prepared}
-use Rattle.link_limits.specs.declared.TheConstants.{MOST_DISTINCT_BYTES}
+use Rattle.link_limits.specs.declared.TheConstants.{MOST_DISTINCT_BYTES, MOST_PAIRS, MOST_ROWS}
 use Rattle.link_plan.specs.Plan.{PlainShares}
 use Rattle.link_plan.specs.Within.{plan_within}
 use Rattle.link_plan.specs.declared.plan.Plan.{Plan}
@@ -17,11 +17,7 @@ use Rattle.command_steps.specs.Front.{plan_file}
 use Rattle.command_steps.specs.Reviewed.{decided_plan}
 use Rattle.command_scripts.specs.Steps.{◌>>=◌, file, gives, Steps}
 use Rattle.command_scripts.specs.declared.ends.Ended.TheVariants.{Done}
-use Rattle.link_shell.specs.Words.{are_verb_and_settings}
 use Rattle.link_shell.specs.declared.duplicates_settings.DecidedWithin.{DecidedWithin}
-
-abbrev pub are_duplicates_words : List (List ℕ) → Bool
-are_duplicates_words = are_verb_and_settings (codes "duplicates")
 
 -- machinery: a plan is that of a file with itself
 abbrev pub IsOfOneFile : Plan → Type 0
@@ -36,6 +32,13 @@ pub record Within : Type 0 where
 -- machinery: as a body holds it
 abbrev pub within_of : DecidedWithin → Within
 within_of d = record { files = files_of d.files; shares = d.shares; decided = decisions_of d.files d.decided }
+
+-- machinery: the decisions are those of the files, which are one file of few records, and the links are few
+pub record IsDecidedWithin (d : DecidedWithin) : Type 0 where
+  pub same : length d.files.files.b.records ≡ length d.files.files.a.records
+  pub few : length d.files.files.a.records ≤ MOST_ROWS
+  pub few_links : length d.decided.links ≤ MOST_PAIRS
+  pub of_file : IsDecidedIn d.files d.decided
 
 -- one step loads A, and its bytes stand as both files: the faults of A come first, then unreadable dates of a strict plan, and want of room for
 -- its texts

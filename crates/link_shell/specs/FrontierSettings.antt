@@ -1,5 +1,5 @@
 -- The command `frontier SETTINGS MU..`: its words, its steps and what is due, by the clause `follows` of `perform`.
-use Rattle.std.specs.Prelude.{◌≡◌, ◌+◌, ℕ, List, [], ◌∷◌, length, drop, map, Bool, true, ◌&&◌, nat_le, bytes_eq, codes, string_bytes}
+use Rattle.std.specs.Prelude.{◌≡◌, ◌+◌, ℕ, List, [], ◌∷◌, length, drop, map, Bool, true, ◌&&◌, nat_le, string_bytes}
 use Rattle.link_limits.specs.declared.TheConstants.{PER_MILLION}
 use Rattle.link_core.specs.Rules.{IsFrontierText}
 use Rattle.command_scripts.specs.Does.{Script}
@@ -24,8 +24,7 @@ are_levels_from least (w ∷ ws) = is_level_word w && nat_le least (number_in w)
 -- a verb, a settings file, and 1 to 100 levels that rise
 abbrev pub are_frontier_words : List (List ℕ) → Bool
 are_frontier_words words =
-    nat_le 3 (length words) && nat_le (length words) (MOST_LISTED + 2) && bytes_eq (word words 0) (codes "frontier") && is_settings_word (word words 1)
-    && are_levels_from 0 (drop 2 words)
+    nat_le 3 (length words) && nat_le (length words) (MOST_LISTED + 2) && is_settings_word (word words 1) && are_levels_from 0 (drop 2 words)
 
 -- the settings file, and the asked levels of links
 pub record Asked : Type 0 where

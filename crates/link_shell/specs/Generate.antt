@@ -1,6 +1,6 @@
 -- The command `generate NUMBER`: its words, its steps and what is due, by the clause `follows` of `perform`. A made input of so many rows in each
 -- file is run in memory, and the first lines of its report are printed.
-use Rattle.std.specs.Prelude.{◌≡◌, ◌≤◌, ◌==◌, ◌&&◌, ℕ, List, [], Bool, bytes_eq, codes, length, nat_le, Result, Ok}
+use Rattle.std.specs.Prelude.{◌≡◌, ◌≤◌, ◌==◌, ◌&&◌, ℕ, List, [], Bool, length, nat_le, Result, Ok}
 use Rattle.link_limits.specs.declared.TheConstants.{MOST_DISTINCT_BYTES, MOST_ROWS}
 use Rattle.link_base.specs.Answers.{and_then}
 use Rattle.link_base.specs.declared.fault.Fault.{Fault}
@@ -28,7 +28,7 @@ abbrev pub is_rows_word : List ℕ → Bool
 is_rows_word w = is_decimal w && nat_le 2 (number_in w) && nat_le (number_in w) MOST_ROWS
 
 abbrev pub are_generate_words : List (List ℕ) → Bool
-are_generate_words words = (length words == 2) && bytes_eq (word words 0) (codes "generate") && is_rows_word (word words 1)
+are_generate_words words = (length words == 2) && is_rows_word (word words 1)
 
 abbrev pub rows_asked : List (List ℕ) → ℕ
 rows_asked words = number_in (word words 1)

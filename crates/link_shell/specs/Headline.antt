@@ -12,7 +12,7 @@ use Rattle.link_base.specs.declared.rule.Decision.TheVariants.{Link, Possible}
 use Rattle.link_base.specs.declared.rule.PairAt.{PairAt}
 use Rattle.link_base.specs.declared.rule.Verdict.TheVariants as verdict
 use Rattle.link_core.specs.Decisions.{rule_over}
-use Rattle.link_core.specs.Results.{candidates_in, IsReportOf}
+use Rattle.link_core.specs.Results.{candidates_in, IsReportOf, RunTexts}
 use Rattle.link_outside.specs.Outside.{Held}
 use Rattle.link_report.specs.LinksText.{text_of_links}
 use Rattle.link_report.specs.PairsText.{text_of_pairs}
@@ -78,6 +78,16 @@ pub record AreGreatestLinks (plan : Plan) (files : StandardPair) (rule : FileRul
   pub priced_a : length prices_a ≡ length files.a.records
   pub priced_b : length prices_b ≡ length files.b.records
 
+-- the texts of the five files of a run
+abbrev pub written_texts : Plan → StandardPair → FileRule → List Entry → List PairAt → List Candidate → List ℤ → List ℤ → Report → RunTexts
+written_texts plan files rule journal pairs links prices_a prices_b report = record {
+  pairs = text_of_pairs (rares_of plan.fields) files.a.records files.b.records (pair_rows_of rule journal pairs);
+  rule = text_of_rule (rares_of plan.fields) rule.cells;
+  links = text_of_links files.a.records files.b.records links;
+  prices = text_of_prices prices_a prices_b files.a.records files.b.records;
+  report = text_of_report files.a.records files.b.records report;
+}
+
 -- what `run` has written
 pub record RunWrites (name : List ℕ) (store : StoreSeen) (out err : SinkSeen) : Type 0 where
   pub input : Accepted name store.held_before
@@ -92,13 +102,8 @@ pub record RunWrites (name : List ℕ) (store : StoreSeen) (out err : SinkSeen) 
   pub a_least_rule : IsLeastRule input.plan input.shares rule
   pub greatest_links : AreGreatestLinks input.plan input.files rule input.journal links prices_a prices_b
   pub reported : IsReportOf input.plan input.files rule input.journal links report
-  pub writes : store.held_after ≡ after_puts (run_puts (record {
-    pairs = text_of_pairs (rares_of input.plan.fields) input.files.a.records input.files.b.records (pair_rows_of rule input.journal pairs);
-    rule = text_of_rule (rares_of input.plan.fields) rule.cells;
-    links = text_of_links input.files.a.records input.files.b.records links;
-    prices = text_of_prices prices_a prices_b input.files.a.records input.files.b.records;
-    report = text_of_report input.files.a.records input.files.b.records report;
-  })) store.held_before
+  pub writes : store.held_after
+      ≡ after_puts (run_puts (written_texts input.plan input.files rule input.journal pairs links prices_a prices_b report)) store.held_before
   pub nothing_out : IsUncalled out
   pub nothing_said : IsUncalled err
 

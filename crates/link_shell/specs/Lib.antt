@@ -1,15 +1,13 @@
 pub mod Words
 pub mod PairsColumns
-pub mod PairsSettings
 pub mod Keys
 pub mod FrontierSettings
 pub mod RunSettings
 pub mod Generate
+pub mod SettingsCommands
 pub mod Commands
 pub mod Headline
 pub mod Linked
-pub mod RuleSettings
-pub mod OpenSettings
 pub mod MigrateSettings
 pub mod ReviewSettings
 pub mod VerifySettings

@@ -1,6 +1,6 @@
 -- The command `many SETTINGS CAPACITIES`: its words, its steps and what is due, by the clause `follows` of `perform`. Links are of greatest total
 -- within the capacities of the records of B; which list of that total is printed is not said.
-use Rattle.std.specs.Prelude.{◌≡◌, ℕ, List, length, Bool, ◌==◌, ◌&&◌, bytes_eq, codes, Ok}
+use Rattle.std.specs.Prelude.{◌≡◌, ℕ, List, length, Bool, ◌==◌, ◌&&◌, Ok}
 use Rattle.link_base.specs.declared.fault.FileRole.TheVariants as role
 use Rattle.link_core.specs.Many.{capacities_in_file, IsManyText}
 use Rattle.standard_files.specs.Files.{StandardPair}
@@ -15,7 +15,7 @@ use Rattle.link_shell.specs.declared.many_settings.ManyRequest.{ManyRequest}
 -- a settings file, and a file of capacities
 abbrev pub are_many_words : List (List ℕ) → Bool
 are_many_words words =
-    (length words == 3) && bytes_eq (word words 0) (codes "many") && is_settings_word (word words 1) && is_short_word (word words 2)
+    (length words == 3) && is_settings_word (word words 1) && is_short_word (word words 2)
 
 -- the files
 pub record ManyFiles : Type 0 where

@@ -1,6 +1,6 @@
--- The command `migrate SETTINGS`: its words, its steps and what is due, by the clause `follows` of `perform`: the journal as it is read, written
+-- The command `migrate SETTINGS`: its steps and what is due, by the clause `follows` of `perform`: the journal as it is read, written
 -- in the newest version.
-use Rattle.std.specs.Prelude.{◌≡◌, ◌∷◌, [], ℕ, List, Bool, codes, Ok}
+use Rattle.std.specs.Prelude.{◌≡◌, ◌∷◌, [], ℕ, List, Ok}
 use Rattle.link_core.specs.Review.{journal_lines_of}
 use Rattle.link_plan.specs.declared.plan.Plan.{Plan}
 use Rattle.standard_files.specs.Files.{StandardPair}
@@ -9,10 +9,6 @@ use Rattle.command_scripts.specs.Due.{Due, Put, puts}
 use Rattle.command_steps.specs.Front.{prepared_files}
 use Rattle.command_steps.specs.Reviewed.{journal_file, journal_plan, put_of_journal}
 use Rattle.command_scripts.specs.Steps.{◌>>=◌, gives, Steps}
-use Rattle.link_shell.specs.Words.{are_verb_and_settings}
-
-abbrev pub are_migrate_words : List (List ℕ) → Bool
-are_migrate_words = are_verb_and_settings (codes "migrate")
 
 -- the bytes that were found are put under their name
 abbrev pub is_one_put : Put → Due → Type 0

@@ -1,5 +1,5 @@
 -- The command `pairs A B COLUMN`: its words, its steps and what is due, by the clause `follows` of `perform`.
-use Rattle.std.specs.Prelude.{ℕ, List, length, Bool, ◌==◌, ◌&&◌, bytes_eq, codes}
+use Rattle.std.specs.Prelude.{ℕ, List, length, Bool, ◌==◌, ◌&&◌}
 use Rattle.link_core.specs.ColumnPairs.{rows_of_pairs}
 use Rattle.command_scripts.specs.Does.{Script}
 use Rattle.command_scripts.specs.Due.{is_printed}
@@ -16,8 +16,7 @@ pub record Columns : Type 0 where
 
 abbrev pub are_column_words : List (List ℕ) → Bool
 are_column_words words =
-    (length words == 4) && bytes_eq (word words 0) (codes "pairs")
-    && is_short_word (word words 1) && is_short_word (word words 2) && is_short_word (word words 3)
+    (length words == 4) && is_short_word (word words 1) && is_short_word (word words 2) && is_short_word (word words 3)
 
 abbrev pub columns_in : List (List ℕ) → Columns
 columns_in words = record { a = word words 1; b = word words 2; column = word words 3 }

@@ -1,6 +1,6 @@
 -- The command `review SETTINGS VERDICTS DATE REVIEWER`: its words, its steps and what is due, by the clause `follows` of `perform`: new verdicts
 -- on possible links, added to the journal.
-use Rattle.std.specs.Prelude.{ℕ, ℤ, pos, List, length, Bool, ◌==◌, ◌&&◌, bytes_eq, codes, is_some, unwrap_or, Ok}
+use Rattle.std.specs.Prelude.{ℕ, ℤ, pos, List, length, Bool, ◌==◌, ◌&&◌, is_some, unwrap_or, Ok}
 use Rattle.link_base.specs.Standard.{IsDay}
 use Rattle.review_journal.specs.Journal.{IsReviewer}
 use Rattle.link_plan.specs.declared.plan.Plan.{Plan}
@@ -18,8 +18,8 @@ use Rattle.link_shell.specs.declared.review_settings.ReviewRequest.{ReviewReques
 -- a settings file, a file of verdicts, a civil date as YYYY-MM-DD, and a reviewer
 abbrev pub are_review_words : List (List ℕ) → Bool
 are_review_words words =
-    (length words == 5) && bytes_eq (word words 0) (codes "review") && is_settings_word (word words 1) && is_short_word (word words 2)
-    && is_some (iso_day (word words 3)) && is_short_word (word words 4)
+    (length words == 5) && is_settings_word (word words 1) && is_short_word (word words 2) && is_some (iso_day (word words 3))
+    && is_short_word (word words 4)
 
 -- the files, the day, and the reviewer
 pub record NewReview : Type 0 where

@@ -1,15 +1,11 @@
--- The command `run SETTINGS`: its words, its steps, and the five files that it writes, by the clause `follows` of `perform`. `Headline` says what
+-- The command `run SETTINGS`: its steps, and the five files that it writes, by the clause `follows` of `perform`. `Headline` says what
 -- they are.
-use Rattle.std.specs.Prelude.{◌≡◌, ◌∷◌, [], ℕ, List, Bool, codes}
+use Rattle.std.specs.Prelude.{◌≡◌, ◌∷◌, [], ℕ, List, codes}
 use Rattle.pair_decisions.specs.PlanRule.{IsRuleOf}
 use Rattle.link_core.specs.Results.{AreRunTexts, RunTexts}
 use Rattle.command_scripts.specs.Does.{Script}
 use Rattle.command_scripts.specs.Due.{a_put, Due, Put, puts}
 use Rattle.command_steps.specs.Reviewed.{reviewed_settings, ReviewedPlan}
-use Rattle.link_shell.specs.Words.{are_verb_and_settings}
-
-abbrev pub are_run_words : List (List ℕ) → Bool
-are_run_words = are_verb_and_settings (codes "run")
 
 -- the five files with their texts, in the order in which they are put
 abbrev pub run_puts : RunTexts → List Put

@@ -1,4 +1,4 @@
--- The command `verify SETTINGS`: its words, its steps and what is due, by the clause `follows` of `perform`. What the three files come to
+-- The command `verify SETTINGS`: its steps and what is due, by the clause `follows` of `perform`. What the three files come to
 -- is a function of what the names hold.
 use Rattle.std.specs.Prelude.{◌≡◌, ℕ, List, Bool, true, false, codes, Result, Ok}
 use Rattle.link_base.specs.declared.fault.FileRole.TheVariants as role
@@ -15,10 +15,6 @@ use Rattle.command_steps.specs.Reviewed.{reviewed_settings, ReviewedPlan}
 use Rattle.command_scripts.specs.Steps.{◌>>=◌, file_within, gives, Steps}
 use Rattle.command_scripts.specs.declared.ends.Ended.{Ended}
 use Rattle.command_scripts.specs.declared.ends.Ended.TheVariants.{Done, Refuted}
-use Rattle.link_shell.specs.Words.{are_verb_and_settings}
-
-abbrev pub are_verify_words : List (List ℕ) → Bool
-are_verify_words = are_verb_and_settings (codes "verify")
 
 -- the three files that are verified, of at most 128 MiB each
 abbrev pub written_files : Steps WrittenTexts

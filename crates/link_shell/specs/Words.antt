@@ -1,5 +1,5 @@
 -- The words of a command: which are in their place, by the clause `usage` of `perform`.
-use Rattle.std.specs.Prelude.{ℕ, List, length, Bool, ◌==◌, ◌&&◌, not, nat_le, bytes_eq, slice_index_or, []}
+use Rattle.std.specs.Prelude.{ℕ, List, length, Bool, ◌&&◌, not, nat_le, slice_index_or, []}
 use Rattle.link_limits.specs.declared.TheConstants.{MOST_NAME_BYTES}
 use Rattle.link_plan.specs.Names.{is_output}
 
@@ -14,11 +14,3 @@ is_settings_word word = is_short_word word && not (is_output word)
 -- the word at a place
 abbrev pub word : List (List ℕ) → ℕ → List ℕ
 word words at = slice_index_or words at []
-
--- so many words, of which the first is a verb
-abbrev pub is_form : List ℕ → ℕ → List (List ℕ) → Bool
-is_form verb count words = (length words == count) && bytes_eq (word words 0) verb
-
--- a verb, and the settings file that is all it takes
-abbrev pub are_verb_and_settings : List ℕ → List (List ℕ) → Bool
-are_verb_and_settings verb words = (length words == 2) && bytes_eq (word words 0) verb && is_settings_word (word words 1)

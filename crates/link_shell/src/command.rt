@@ -1,66 +1,100 @@
 // The top calls.
-ghost use Rattle.std.specs.Prelude.{◌≡◌, map, None, Result, string_bytes};
+ghost use Rattle.std.specs.Prelude.{◌≡◌, map, Result, Some, string_bytes};
 ghost use Rattle.command_scripts.specs.Seen.{sink_seen, store_seen};
 ghost use Rattle.command_scripts.specs.declared.ends.Ended.{Ended as AnyEnded};
 ghost use Rattle.link_base.specs.declared.fault.Fault.{Fault as AnyFault};
 ghost use Rattle.link_shell.specs.AfterRun.{ProvedByRun, YesWhereProved};
 ghost use Rattle.link_shell.specs.Always.{Always};
 ghost use Rattle.link_shell.specs.Carried.{Carried};
-ghost use Rattle.link_shell.specs.Commands.{command_of, settings_command_of};
+ghost use Rattle.link_shell.specs.Commands.{command_of, form_command, forms};
 ghost use Rattle.link_shell.specs.Headline.{Headline};
 ghost use Rattle.link_shell.specs.KeptVerdicts.{NoVerdictLost};
 ghost use Rattle.link_shell.specs.Linked.{Follows, Performed, Reported};
 ghost use Rattle.link_shell.specs.Meaning.{RowsSayYes, YesMeans};
+ghost use Rattle.link_shell.specs.Words.{word};
+ghost use Rattle.settings_readers.specs.Values.{named_in};
 
 use crate::filled_rule::commands_go_by_filled_rule;
 use crate::limits::limits_are_these;
 use crate::meaning::verify_tells;
-use crate::words::settings_after;
+use crate::words::word_at;
 use crate::{
-    duplicates_settings, frontier_settings, generate, keys, many_settings, migrate_settings,
-    open_settings, pairs_columns, pairs_settings, review_settings, rule_settings, run_settings,
-    verify_settings,
+    frontier_settings, generate, keys, many_settings, pairs_columns, review_settings,
+    settings_commands,
 };
 use command_scripts::Ended;
 use link_base::{Fault, status_of};
 use link_core::run_is_verified;
 use link_outside::{Sink, SinkError, Store, write_fault};
 use review_journal::no_verdict_is_lost;
+use settings_readers::named_in;
 use std::alloc::Global;
 
-// Follows the script of the command that the words name, which is none of a settings file alone.
-fn follow_request<S: Store, O: Sink>(
+// What words ask for that are more than a verb and a settings file.
+#[derive(Clone, Copy)]
+pub(crate) enum Form {
+    Columns,
+    Keys,
+    Frontier,
+    Review,
+    Many,
+    Generate,
+}
+
+const FORMS: [(&str, Form); 6] = [
+    ("pairs", Form::Columns),
+    ("keys", Form::Keys),
+    ("frontier", Form::Frontier),
+    ("review", Form::Review),
+    ("many", Form::Many),
+    ("generate", Form::Generate),
+];
+
+// The form of which the first word is the verb.
+fn form_of(words: &[String]) -> Option<Form>
+    ensures { result ≡ named_in forms (word (map string_bytes words.now) 0) }
+{
+    if words.is_empty() {
+        return None;
+    }
+    named_in(&FORMS, word_at(words, 0))
+}
+
+// Follows the script of the command of a form.
+fn follow_form<S: Store, O: Sink>(
     alloc: Global,
+    form: Form,
     words: &[String],
     store: &mut S,
     out: &mut O,
 ) -> Result<Ended, Fault>
-    requires { settings_command_of (map string_bytes words.now) ≡ None }
-    ensures { Follows (command_of (map string_bytes words.now)) (store_seen S.tells S.held S.faults store.old store.new) (sink_seen O.tells O.taken O.faults out.old out.new) result }
+    ensures { Follows (form_command (Some form) (map string_bytes words.now)) (store_seen S.tells S.held S.faults store.old store.new) (sink_seen O.tells O.taken O.faults out.old out.new) result }
 {
-    match pairs_columns::read(words) {
-        Some(request) => return pairs_columns::perform(alloc, &request, store, out),
-        None => {}
-    }
-    match keys::read(words) {
-        Some(rest) => return keys::perform(alloc, rest, store, out),
-        None => {}
-    }
-    match frontier_settings::read(words) {
-        Some(request) => return frontier_settings::perform(alloc, &request, store, out),
-        None => {}
-    }
-    match review_settings::read(words) {
-        Some(request) => return review_settings::perform(alloc, &request, store, out),
-        None => {}
-    }
-    match many_settings::read(words) {
-        Some(request) => return many_settings::perform(alloc, &request, store, out),
-        None => {}
-    }
-    match generate::read(words) {
-        Some(rows) => generate::perform(alloc, rows, store, out),
-        None => Err(Fault::Usage),
+    match form {
+        Form::Columns => match pairs_columns::read(words) {
+            Some(request) => pairs_columns::perform(alloc, &request, store, out),
+            None => Err(Fault::Usage),
+        },
+        Form::Keys => match keys::read(words) {
+            Some(rest) => keys::perform(alloc, rest, store, out),
+            None => Err(Fault::Usage),
+        },
+        Form::Frontier => match frontier_settings::read(words) {
+            Some(request) => frontier_settings::perform(alloc, &request, store, out),
+            None => Err(Fault::Usage),
+        },
+        Form::Review => match review_settings::read(words) {
+            Some(request) => review_settings::perform(alloc, &request, store, out),
+            None => Err(Fault::Usage),
+        },
+        Form::Many => match many_settings::read(words) {
+            Some(request) => many_settings::perform(alloc, &request, store, out),
+            None => Err(Fault::Usage),
+        },
+        Form::Generate => match generate::read(words) {
+            Some(rows) => generate::perform(alloc, rows, store, out),
+            None => Err(Fault::Usage),
+        },
     }
 }
 
@@ -73,35 +107,16 @@ fn follow<S: Store, O: Sink>(
 ) -> Result<Ended, Fault>
     ensures { Follows (command_of (map string_bytes words.now)) (store_seen S.tells S.held S.faults store.old store.new) (sink_seen O.tells O.taken O.faults out.old out.new) result }
 {
-    match settings_after(words, "pairs") {
-        Some(name) => return pairs_settings::perform(alloc, name, store, out),
+    match settings_commands::read(words) {
+        Some(asked) => {
+            return settings_commands::perform(alloc, asked.verb, asked.name, store, out);
+        }
         None => {}
     }
-    match settings_after(words, "rule") {
-        Some(name) => return rule_settings::perform(alloc, name, store, out),
-        None => {}
+    match form_of(words) {
+        Some(form) => follow_form(alloc, form, words, store, out),
+        None => Err(Fault::Usage),
     }
-    match settings_after(words, "open") {
-        Some(name) => return open_settings::perform(alloc, name, store, out),
-        None => {}
-    }
-    match settings_after(words, "migrate") {
-        Some(name) => return migrate_settings::perform(alloc, name, store, out),
-        None => {}
-    }
-    match settings_after(words, "run") {
-        Some(name) => return run_settings::perform(alloc, name, store, out),
-        None => {}
-    }
-    match settings_after(words, "verify") {
-        Some(name) => return verify_settings::perform(alloc, name, store, out),
-        None => {}
-    }
-    match settings_after(words, "duplicates") {
-        Some(name) => return duplicates_settings::perform(alloc, name, store, out),
-        None => {}
-    }
-    follow_request(alloc, words, store, out)
 }
 
 /// Does the command that the words name, all but the line of a fault: it goes through the steps of the

@@ -1,13 +1,11 @@
 // The command `duplicates SETTINGS`.
-ghost use Rattle.std.specs.Prelude.{◌≡◌, ◌≤◌, IfOk, length};
+ghost use Rattle.std.specs.Prelude.{◌≡◌, IfOk, length};
 ghost use Rattle.command_scripts.specs.Does.{Does};
 ghost use Rattle.command_scripts.specs.Seen.{sink_seen, store_seen};
 ghost use Rattle.command_scripts.specs.Steps.{seen_by, Takes};
-ghost use Rattle.link_core.specs.Decisions.{IsDecidedIn};
 ghost use Rattle.link_core.specs.Prepared.{files_of};
 ghost use Rattle.link_core.specs.Rules.{IsPreparedFor};
-ghost use Rattle.link_limits.specs.declared.TheConstants.{MOST_PAIRS, MOST_ROWS};
-ghost use Rattle.link_shell.specs.DuplicatesSettings.{decided_within, duplicates_script, prepared_within, IsOfOneFile, within_of};
+ghost use Rattle.link_shell.specs.DuplicatesSettings.{decided_within, duplicates_script, IsDecidedWithin, prepared_within, IsOfOneFile, within_of};
 ghost use Rattle.link_plan.specs.Ranges.{KeepsRanges, NamesFiles};
 
 use command_scripts::{Ended, load_file, print_lines};
@@ -48,10 +46,7 @@ fn load_decided<S: Store>(alloc: Global, store: &mut S, plan: &Plan) -> Result<D
     requires ranges { KeepsRanges plan.now }
     requires names { NamesFiles plan.now }
     ensures takes { Takes (decided_within plan.now) (store_seen S.tells S.held S.faults store.old store.new) (seen_by within_of result) }
-    ensures same { IfOk result (λ d. length d.files.files.b.records ≡ length d.files.files.a.records) }
-    ensures few { IfOk result (λ d. length d.files.files.a.records ≤ MOST_ROWS) }
-    ensures few_links { IfOk result (λ d. length d.decided.links ≤ MOST_PAIRS) }
-    ensures of_file { IfOk result (λ d. IsDecidedIn d.files d.decided) }
+    ensures found { IfOk result IsDecidedWithin }
 {
     let files = load_within(alloc, store, plan)?;
     match load_decisions(alloc, store, plan, &files, false) {

@@ -46,7 +46,7 @@ pub(crate) fn read(words: &[String]) -> Option<FrontierRequest<'_>>
     ensures asked { IfSome result (λ r. asked_of_request r ≡ asked_in (map string_bytes words.now)) }
     ensures levels { IfSome result (λ r. list_all is_level_word (map string_bytes r.levels.now) ≡ true) }
 {
-    if words.len() < 3 || words.len() > MOST_LISTED + 2 || word_at(words, 0) != "frontier" {
+    if words.len() < 3 || words.len() > MOST_LISTED + 2 {
         return None;
     }
     let name = word_at(words, 1);

@@ -1,19 +1,18 @@
 // The command `generate NUMBER`.
-ghost use Rattle.std.specs.Prelude.{◌≡◌, IfErr, IfOk, IfSome, is_some, map, string_bytes};
+ghost use Rattle.std.specs.Prelude.{◌≡◌, IfErr, IfOk, IfSome, is_some, map, string_bytes, true};
 ghost use Rattle.command_scripts.specs.Does.{Does};
-ghost use Rattle.command_steps.specs.Reviewed.{found_of, shared_decisions_of};
+ghost use Rattle.command_steps.specs.Reviewed.{found_of, IsDecidedPlan, IsReviewed, shared_decisions_of};
 ghost use Rattle.command_scripts.specs.Seen.{sink_seen, store_seen};
 ghost use Rattle.csv_rows.specs.Numbers.{number_in};
 ghost use Rattle.link_base.specs.Fault.{Gives, IsInputFault};
-ghost use Rattle.link_core.specs.Decisions.{IsDecidedIn};
-ghost use Rattle.link_core.specs.Results.{IsDecidedFor, KeepsRows};
+ghost use Rattle.link_core.specs.Results.{KeepsRows};
 ghost use Rattle.link_core.specs.Rules.{IsPreparedFor};
 ghost use Rattle.link_shell.specs.Generate.{are_generate_words, decided_input, decided_sample, generate_script, IsMadeNumber, is_rows_word, rows_asked};
 ghost use Rattle.link_plan.specs.Ranges.{KeepsRanges};
 ghost use Rattle.workload.specs.Made.{text_of_a, text_of_b, text_of_sample};
 ghost use Rattle.workload.specs.MadeSettings.{text_of_settings};
 
-use crate::words::{are_form, word_at};
+use crate::words::word_at;
 use command_scripts::{Ended, print};
 use command_steps::{DecidedPlan, Reviewed, ReviewedSettings, prepare_files};
 use csv_rows::read_decimal;
@@ -49,7 +48,7 @@ pub(crate) fn read(words: &[String]) -> Option<u32>
     ensures rows { IfSome result (λ rows. rows ≡ rows_asked (map string_bytes words.now)) }
     ensures range { IfSome result IsMadeNumber }
 {
-    if !are_form(words, "generate", 2) {
+    if words.len() != 2 {
         return None;
     }
     rows_of(word_at(words, 1))
@@ -66,9 +65,7 @@ fn decide_sample(
     requires ready { IsPreparedFor plan.now files.now }
     ensures kind { IfErr result IsInputFault }
     ensures answer { Gives (shared_decisions_of files.now) (decided_sample plan.now files.now.files sample.now) result }
-    ensures of_files { IfOk result (λ d. IsDecidedIn files.now d.decided) }
-    ensures of_plan { IfOk result (λ d. IsDecidedFor plan.now files.now d.decided) }
-    ensures rows { IfOk result (λ d. KeepsRows plan.now files.now d.decided) }
+    ensures decided { IfOk result (IsDecidedPlan plan.now files.now true) }
 {
     let shares = counted(alloc, plan, files, sample)?;
     match decide_all(alloc, plan, files, &shares, true) {
@@ -84,10 +81,7 @@ fn decide_sample(
 fn decide_input(alloc: Global, input: &MadeInput) -> Result<ReviewedSettings, Fault>
     ensures kind { IfErr result IsInputFault }
     ensures answer { Gives found_of (decided_input input.now.settings input.now.a input.now.b input.now.sample) result }
-    ensures ranges { IfOk result (λ s. KeepsRanges s.plan) }
-    ensures ready { IfOk result (λ s. IsPreparedFor s.plan s.reviewed.files) }
-    ensures of_files { IfOk result (λ s. IsDecidedIn s.reviewed.files s.reviewed.decided) }
-    ensures of_plan { IfOk result (λ s. IsDecidedFor s.plan s.reviewed.files s.reviewed.decided) }
+    ensures found { IfOk result IsReviewed }
     ensures rows { IfOk result (λ s. KeepsRows s.plan s.reviewed.files s.reviewed.decided) }
 {
     let plan = read_settings(alloc, input.settings.bytes())?;
@@ -121,10 +115,7 @@ fn decide_made(alloc: Global, rows: u32) -> Result<ReviewedSettings, Fault>
     requires { IsMadeNumber rows }
     ensures kind { IfErr result IsInputFault }
     ensures answer { Gives found_of (decided_input (text_of_settings rows) (text_of_a rows) (text_of_b rows) (text_of_sample rows)) result }
-    ensures ranges { IfOk result (λ s. KeepsRanges s.plan) }
-    ensures ready { IfOk result (λ s. IsPreparedFor s.plan s.reviewed.files) }
-    ensures of_files { IfOk result (λ s. IsDecidedIn s.reviewed.files s.reviewed.decided) }
-    ensures of_plan { IfOk result (λ s. IsDecidedFor s.plan s.reviewed.files s.reviewed.decided) }
+    ensures found { IfOk result IsReviewed }
     ensures rows { IfOk result (λ s. KeepsRows s.plan s.reviewed.files s.reviewed.decided) }
 {
     let input = make_input(alloc, rows)?;

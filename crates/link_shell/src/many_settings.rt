@@ -7,7 +7,7 @@ ghost use Rattle.command_scripts.specs.Steps.{Makes, Takes};
 ghost use Rattle.link_core.specs.Many.{AreCapacitiesOf};
 ghost use Rattle.link_shell.specs.ManySettings.{are_many_words, capacity_file, capacity_plan, IsLinksText, many_in, many_of_request, many_script};
 
-use crate::words::{are_form, is_settings, is_short, word_at};
+use crate::words::{is_settings, is_short, word_at};
 use command_scripts::{Ended, load_file, print_text};
 use command_steps::{ReviewedSettings, load_reviewed_settings};
 use link_base::{Fault, FileRole, Text};
@@ -27,7 +27,7 @@ pub(crate) fn read(words: &[String]) -> Option<ManyRequest<'_>>
     ensures some { is_some result ≡ are_many_words (map string_bytes words.now) }
     ensures request { IfSome result (λ r. many_of_request r ≡ many_in (map string_bytes words.now)) }
 {
-    if !are_form(words, "many", 3) {
+    if words.len() != 3 {
         return None;
     }
     let name = word_at(words, 1);

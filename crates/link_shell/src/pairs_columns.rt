@@ -4,7 +4,7 @@ ghost use Rattle.command_scripts.specs.Does.{Does};
 ghost use Rattle.command_scripts.specs.Seen.{sink_seen, store_seen};
 ghost use Rattle.link_shell.specs.PairsColumns.{are_column_words, columns_in, columns_of_request, columns_script};
 
-use crate::words::{are_form, is_short, word_at};
+use crate::words::{is_short, word_at};
 use command_scripts::{Ended, print_text};
 use command_steps::load_both;
 use link_base::Fault;
@@ -25,7 +25,7 @@ pub(crate) fn read(words: &[String]) -> Option<ColumnRequest<'_>>
     ensures some { is_some result ≡ are_column_words (map string_bytes words.now) }
     ensures request { IfSome result (λ r. columns_of_request r ≡ columns_in (map string_bytes words.now)) }
 {
-    if !are_form(words, "pairs", 4) {
+    if words.len() != 4 {
         return None;
     }
     let a = word_at(words, 1);

@@ -9,7 +9,7 @@ ghost use Rattle.link_core.specs.Review.{IsJournalOf};
 ghost use Rattle.link_shell.specs.ReviewSettings.{added_verdicts, are_review_words, IsReviewRequest, review_in, review_of_request, review_script, reviewed_journal};
 ghost use Rattle.link_plan.specs.Ranges.{KeepsRanges, NamesFiles};
 
-use crate::words::{are_form, is_settings, is_short, word_at};
+use crate::words::{is_settings, is_short, word_at};
 use command_scripts::{Ended, load_file};
 use command_steps::{Reviewed, load_journal_plan, load_reviewed, put_journal};
 use link_base::{Fault, FileRole, Text};
@@ -34,7 +34,7 @@ pub(crate) fn read(words: &[String]) -> Option<ReviewRequest<'_>>
     ensures review { IfSome result (λ r. review_of_request r ≡ review_in (map string_bytes words.now)) }
     ensures valid { IfSome result IsReviewRequest }
 {
-    if !are_form(words, "review", 5) {
+    if words.len() != 5 {
         return None;
     }
     let name = word_at(words, 1);

@@ -1,7 +1,7 @@
 // The words of a command.
-ghost use Rattle.std.specs.Prelude.{◌≡◌, ◌<◌, [], IfSome, is_some, length, map, nat_le, slice_index_or, string_bytes, true};
+ghost use Rattle.std.specs.Prelude.{◌≡◌, ◌<◌, [], length, map, nat_le, slice_index_or, string_bytes};
 ghost use Rattle.std.specs.List.{list_all};
-ghost use Rattle.link_shell.specs.Words.{are_verb_and_settings, is_form, is_settings_word, is_short_word};
+ghost use Rattle.link_shell.specs.Words.{is_settings_word, is_short_word};
 
 use link_limits::MOST_NAME_BYTES;
 use settings::is_output;
@@ -30,27 +30,6 @@ pub(crate) fn is_settings(word: &str) -> bool
     ensures { result ≡ is_settings_word word.now }
 {
     is_short(word) && !is_output(word)
-}
-
-// Whether words are so many, and the first of them is a verb.
-pub(crate) fn are_form(words: &[String], verb: &str, count: usize) -> bool
-    requires { 0 < count }
-    ensures form { result ≡ is_form verb.now count (map string_bytes words.now) }
-    ensures count { result ≡ true → length words.now ≡ count }
-{
-    words.len() == count && word_at(words, 0) == verb
-}
-
-// The settings file of words that are a verb and its name.
-pub(crate) fn settings_after<'w>(words: &'w [String], verb: &str) -> Option<&'w str>
-    ensures some { is_some result ≡ are_verb_and_settings verb.now (map string_bytes words.now) }
-    ensures name { IfSome result (λ name. name.now ≡ slice_index_or (map string_bytes words.now) 1 []) }
-{
-    if !are_form(words, verb, 2) {
-        return None;
-    }
-    let name = word_at(words, 1);
-    if is_settings(name) { Some(name) } else { None }
 }
 
 // Whether each word has at most 255 bytes.

@@ -195,6 +195,21 @@ def command_of(words: list[str]):
     return others.get(kind) if len(rest) == 1 else None
 
 
+# What a command loads where nothing is refused, in this order, after its settings.
+LOADS = {
+    "pairs": "a b",
+    "rule": "a b sample",
+    "frontier": "a b sample",
+    "open": "a b sample journal",
+    "review": "a b sample journal verdicts",
+    "migrate": "a b journal",
+    "run": "a b sample journal",
+    "verify": "a b sample journal rule links prices",
+    "many": "a b sample journal capacities",
+    "duplicates": "a sample",
+}
+
+
 def perform(words: list[str], held: Held) -> Ended:
     """How a command must end over what names hold."""
     command = command_of(words)

@@ -13,3 +13,6 @@ returns-in-Err-clause-takes g c =
 
 pub returns-in-Ok-clause-takes : goal.returns-in-Ok-clause-takes
 returns-in-Ok-clause-takes g c = takes_go _ _ c.in_ok-shares.ensures.takes (takes_go _ _ (takes_ok (decisions_of c.args.files.now c.in-Ok.decided) c.in-Ok.ensures.answer) (takes_value tt refl))
+
+pub returns-in-Ok-clause-decided : goal.returns-in-Ok-clause-decided
+returns-in-Ok-clause-decided g c = let d = c.in-Ok.ensures in record { of_files = d.of_files; of_plan = d.of_plan; rule = d.rule; rows = d.rows }

@@ -16,3 +16,8 @@ returns-in-Err-load_journal-clause-takes g c =
 pub returns-in-Ok-load_journal-clause-takes : goal.returns-in-Ok-load_journal-clause-takes
 returns-in-Ok-load_journal-clause-takes g c =
     takes_go _ _ c.in_ok-files.ensures.takes (takes_go _ _ c.in-Ok.ensures.takes (takes_go _ _ c.in-Ok-load_journal.ensures.takes (takes_value tt refl)))
+
+pub returns-in-Ok-load_journal-clause-reviewed : goal.returns-in-Ok-load_journal-clause-reviewed
+returns-in-Ok-load_journal-clause-reviewed g c =
+    let d = c.in-Ok.ensures.decided in
+    record { ready = c.in_ok-files.ensures.ready; of_files = d.of_files; of_plan = d.of_plan; rule = d.rule; rows = d.rows; journal = c.in-Ok-load_journal.ensures.of_files }

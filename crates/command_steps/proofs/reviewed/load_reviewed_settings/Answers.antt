@@ -11,3 +11,11 @@ returns-in-Err-clause-takes g c = takes_go _ _ c.in_ok-plan.ensures.takes (takes
 
 pub returns-in-Ok-clause-takes : goal.returns-in-Ok-clause-takes
 returns-in-Ok-clause-takes g c = takes_go _ _ c.in_ok-plan.ensures.takes (takes_go _ _ c.in-Ok.ensures.takes (takes_value tt refl))
+
+pub returns-in-Ok-clause-found : goal.returns-in-Ok-clause-found
+returns-in-Ok-clause-found g c =
+    let r = c.in-Ok.ensures.reviewed in
+    record { ranges = c.in_ok-plan.ensures.ranges; ready = r.ready; of_files = r.of_files; of_plan = r.of_plan; rule = r.rule }
+
+pub returns-in-Ok-clause-rows : goal.returns-in-Ok-clause-rows
+returns-in-Ok-clause-rows g c = c.in-Ok.ensures.reviewed.rows

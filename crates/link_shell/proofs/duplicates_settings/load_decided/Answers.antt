@@ -1,6 +1,7 @@
-use Rattle.std.proofs.Common.{ap, arith, length, refl}
-use Rattle.std.proofs.lemmas.List.Sums.{length-filter, count_by-le-length}
+use Rattle.std.proofs.Common.{Bool, ap, arith, length, refl}
+use Rattle.std.proofs.lemmas.List.Sums.{count_by-le-length, length-filter}
 use Rattle.link_base.specs.declared.rule.Decision.TheVariants.{Link}
+use Rattle.link_base.specs.declared.rule.PairAt.{PairAt}
 use Rattle.link_core.specs.Decisions.{rule_in}
 use Rattle.link_core.specs.Results.{compared_in}
 use Rattle.pair_decisions.specs.Decisions.{decision_at, is_same}
@@ -17,20 +18,16 @@ returns-in-Err-clause-takes g c = takes_go _ _ c.in_ok-files.ensures.takes (take
 pub returns-in-Ok-clause-takes : goal.returns-in-Ok-clause-takes
 returns-in-Ok-clause-takes g c = takes_go _ _ c.in_ok-files.ensures.takes (takes_go _ _ c.in-Ok.ensures.takes (takes_value tt refl))
 
-pub returns-in-Ok-clause-same : goal.returns-in-Ok-clause-same
-returns-in-Ok-clause-same g c = c.in_ok-files.ensures.same
-
-pub returns-in-Ok-clause-few : goal.returns-in-Ok-clause-few
-returns-in-Ok-clause-few g c = c.in_ok-files.ensures.ready.of_a.few
-
-pub returns-in-Ok-clause-few_links : goal.returns-in-Ok-clause-few_links
-returns-in-Ok-clause-few_links g c =
+pub returns-in-Ok-clause-found : goal.returns-in-Ok-clause-found
+returns-in-Ok-clause-found g c =
     let p = c.in_ok-files.files in
     let d = c.in-Ok.found.decided in
-    let decisions = c.in-Ok.ensures.of_plan.decisions in
-    let has = λ at. is_same Link (decision_at (rule_in p d) at) in
-    let pairs = compared_in c.args.plan.now p.files in
-    omega (arith, ap length decisions.links, length-filter has pairs, count_by-le-length has pairs, decisions.few)
-
-pub returns-in-Ok-clause-of_file : goal.returns-in-Ok-clause-of_file
-returns-in-Ok-clause-of_file g c = c.in-Ok.ensures.of_files
+    let decisions = c.in-Ok.ensures.decided.of_plan.decisions in
+    let rows = compared_in c.args.plan.now p.files in
+    let is_link : PairAt → Bool = λ at. is_same Link (decision_at (rule_in p d) at) in
+    record {
+      same = c.in_ok-files.ensures.same;
+      few = c.in_ok-files.ensures.ready.of_a.few;
+      few_links = omega (arith, ap length decisions.links, length-filter is_link rows, count_by-le-length is_link rows, decisions.few);
+      of_file = c.in-Ok.ensures.decided.of_files;
+    }

@@ -48,16 +48,16 @@ pub load_decided-decided-requires-clause-names : goal.load_decided-decided-requi
 load_decided-decided-requires-clause-names g c = c.in_ok-within.ensures.files c.in_ok-plan.ensures.files
 
 pub duplicate_lines-lines-requires-clause-same : goal.duplicate_lines-lines-requires-clause-same
-duplicate_lines-lines-requires-clause-same g c = c.in_ok-found.ensures.same
+duplicate_lines-lines-requires-clause-same g c = c.in_ok-found.ensures.found.same
 
 pub duplicate_lines-lines-requires-clause-few : goal.duplicate_lines-lines-requires-clause-few
-duplicate_lines-lines-requires-clause-few g c = c.in_ok-found.ensures.few
+duplicate_lines-lines-requires-clause-few g c = c.in_ok-found.ensures.found.few
 
 pub duplicate_lines-lines-requires-clause-few_links : goal.duplicate_lines-lines-requires-clause-few_links
-duplicate_lines-lines-requires-clause-few_links g c = c.in_ok-found.ensures.few_links
+duplicate_lines-lines-requires-clause-few_links g c = c.in_ok-found.ensures.found.few_links
 
 pub duplicate_lines-lines-requires-clause-of_files : goal.duplicate_lines-lines-requires-clause-of_files
-duplicate_lines-lines-requires-clause-of_files g c = c.in_ok-found.ensures.of_file
+duplicate_lines-lines-requires-clause-of_files g c = c.in_ok-found.ensures.found.of_file
 
 pub returns-in_err-found : goal.returns-in_err-found
 returns-in_err-found g c =
@@ -70,7 +70,7 @@ returns g c =
     let gives = c.in_ok-within.ensures.gives in
     let found = within_of c.in_ok-found.found in
     let records = found.files.a.records in
-    let links = two_records (length records) (length found.files.b.records) found.decided.links c.in_ok-found.ensures.same c.in_ok-found.ensures.of_file.links in
+    let links = two_records (length records) (length found.files.b.records) found.decided.links c.in_ok-found.ensures.found.same c.in_ok-found.ensures.found.of_file.links in
     let printed : (text : List ℕ) → IsGroupsText records found.decided.links text → AreGroupsPrinted found (prints Done text) =
     λ text groups. record { text = text; groups = groups; leaders = c.forest_leaders.ensures (length records) (links_within found.decided.links) groups.lists links groups.forest; so = refl } in
     does_go _ _ _ c.in_ok-plan.ensures.takes

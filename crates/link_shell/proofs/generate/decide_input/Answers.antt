@@ -1,4 +1,4 @@
-use Rattle.std.proofs.Common.{◌≡◌, List, ℕ, Result, Ok, Err, ap, subst, sym}
+use Rattle.std.proofs.Common.{◌≡◌, List, ℕ, Result, Ok, Err, ap, refl, subst, sym}
 use Rattle.link_base.specs.Fault.{Gives, IsAnswer}
 use Rattle.link_base.specs.declared.fault.Fault.{Fault}
 use Rattle.link_limits.specs.declared.TheConstants.{MOST_DISTINCT_BYTES}
@@ -54,17 +54,10 @@ returns-in-Ok-decide_sample-clause-answer c =
     goes_on Given (settings input.settings) _ plan of_plan (goes_on Given (prepared plan MOST_DISTINCT_BYTES input.a input.b) _ files of_files
     (goes_on Given (decided_sample plan files input.sample) _ found here (ap of_journal (sym c.new.ensures))))
 
-pub returns-in-Ok-decide_sample-clause-ranges : goal.returns-in-Ok-decide_sample-clause-ranges
-returns-in-Ok-decide_sample-clause-ranges c = c.in_ok-plan.ensures.ranges
-
-pub returns-in-Ok-decide_sample-clause-ready : goal.returns-in-Ok-decide_sample-clause-ready
-returns-in-Ok-decide_sample-clause-ready c = c.in-Ok.ensures.ready
-
-pub returns-in-Ok-decide_sample-clause-of_files : goal.returns-in-Ok-decide_sample-clause-of_files
-returns-in-Ok-decide_sample-clause-of_files c = c.in-Ok-decide_sample.ensures.of_files
-
-pub returns-in-Ok-decide_sample-clause-of_plan : goal.returns-in-Ok-decide_sample-clause-of_plan
-returns-in-Ok-decide_sample-clause-of_plan c = c.in-Ok-decide_sample.ensures.of_plan
+pub returns-in-Ok-decide_sample-clause-found : goal.returns-in-Ok-decide_sample-clause-found
+returns-in-Ok-decide_sample-clause-found c =
+    let d = c.in-Ok-decide_sample.ensures.decided in
+    record { ranges = c.in_ok-plan.ensures.ranges; ready = c.in-Ok.ensures.ready; of_files = d.of_files; of_plan = d.of_plan; rule = d.rule }
 
 pub returns-in-Ok-decide_sample-clause-rows : goal.returns-in-Ok-decide_sample-clause-rows
-returns-in-Ok-decide_sample-clause-rows c = c.in-Ok-decide_sample.ensures.rows
+returns-in-Ok-decide_sample-clause-rows c = c.in-Ok-decide_sample.ensures.decided.rows refl

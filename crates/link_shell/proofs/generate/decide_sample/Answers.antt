@@ -1,4 +1,4 @@
-use Rattle.std.proofs.Common.{Result, Err, refl}
+use Rattle.std.proofs.Common.{Result, Err}
 use Rattle.link_base.specs.Fault.{Gives}
 use Rattle.link_base.specs.declared.fault.Fault.{Fault}
 use Rattle.link_core.specs.Decisions.{decided}
@@ -25,5 +25,5 @@ returns-in-Err-clause-answer c =
     let Refused : Result SharedDecisions Fault → Type 0 = λ r. Gives (shared_decisions_of c.args.files.now) r (Err f) in
     goes_on Refused (counted_by plan files c.args.sample.now) _ shares c.in_ok-shares.ensures.answer (refuses_here (shared_decisions_of c.args.files.now) (decided plan files shares) _ f c.in-Err.ensures.answer)
 
-pub returns-in-Ok-clause-rows : goal.returns-in-Ok-clause-rows
-returns-in-Ok-clause-rows c = c.in-Ok.ensures.rows refl
+pub returns-in-Ok-clause-decided : goal.returns-in-Ok-clause-decided
+returns-in-Ok-clause-decided c = let d = c.in-Ok.ensures in record { of_files = d.of_files; of_plan = d.of_plan; rule = d.rule; rows = d.rows }

@@ -4,7 +4,7 @@ use Rattle.command_scripts.specs.Due.{is_printed, prints}
 use Rattle.command_steps.specs.Reviewed.{found_of, ReviewedPlan}
 use Rattle.command_scripts.specs.declared.ends.Ended.TheVariants.{Done}
 use Rattle.command_scripts.specs.DoesLaws.{does_fail, does_lines}
-use Rattle.link_shell.proofs.open_settings.perform.Goals as goal
+use Rattle.link_shell.proofs.settings_commands.print_open.Goals as goal
 
 pub returns-in_err-found : goal.returns-in_err-found
 returns-in_err-found g c = does_fail _ _ c.in_err-found.ensures.takes c.from_residual.ensures.1

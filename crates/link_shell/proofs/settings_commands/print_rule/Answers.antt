@@ -1,8 +1,8 @@
 use Rattle.std.proofs.Common.{refl}
 use Rattle.link_core.specs.Rules.{IsRuleText}
 use Rattle.command_scripts.specs.DoesLaws.{does_fail, does_lines}
-use Rattle.link_shell.specs.RuleSettings.{rule_is_printed}
-use Rattle.link_shell.proofs.rule_settings.perform.Goals as goal
+use Rattle.link_shell.specs.SettingsCommands.{rule_is_printed}
+use Rattle.link_shell.proofs.settings_commands.print_rule.Goals as goal
 
 pub returns-in_err-shared : goal.returns-in_err-shared
 returns-in_err-shared g c = does_fail _ _ c.in_err-shared.ensures.takes c.from_residual.ensures.1

@@ -2,7 +2,7 @@ use Rattle.std.proofs.Common.{refl}
 use Rattle.command_scripts.specs.Due.{is_printed}
 use Rattle.command_scripts.specs.DoesLaws.{does_fail, does_go, does_print, does_stop}
 use Rattle.command_scripts.specs.StepLaws.{takes_ok, takes_value}
-use Rattle.link_shell.proofs.pairs_settings.perform.Goals as goal
+use Rattle.link_shell.proofs.settings_commands.print_pairs.Goals as goal
 
 pub returns-in_err-described : goal.returns-in_err-described
 returns-in_err-described g c = does_stop _ _ is_printed c.in_err-described.ensures.takes c.from_residual.ensures.1
