@@ -108,8 +108,11 @@ def words_of_key(head: str, key: str) -> list[str]:
 
 
 def words_of_tables(words: str, name: str) -> list[str]:
-    """The same of the tables of the definitions, NAME being what the name of both has behind `name_` and `date_`."""
-    return [f"{sort} {word}" for sort in ("name", "date") for word in codes_of(f"{sort}_{name}", words)]
+    """The same of a table of the definitions, which has an equation for dates, and one for names and places."""
+    found = {"date": [], "name": []}
+    for head, body in re.findall(rf"^{name} ([^=\n]*)=(.*?)(?=^\S)", words + "\n#", flags=re.S | re.M):
+        found["date" if "sort.Date" in head else "name"] += re.findall(r'codes "([^"]*)"', body)
+    return [f"{sort} {word}" for sort in ("name", "date") for word in found[sort]]
 
 
 def comparisons(words: str) -> dict[str, tuple[list, list]]:
