@@ -1,8 +1,9 @@
-use Rattle.std.proofs.Common.{ap, arith, length, refl}
+use Rattle.std.proofs.Common.{Bool, ap, arith, length, refl}
 use Rattle.std.proofs.lemmas.List.Sums.{length-filter, count_by-le-length}
 use Rattle.link_base.specs.declared.rule.Decision.TheVariants.{Link}
 use Rattle.link_core.specs.Decisions.{rule_in}
 use Rattle.link_core.specs.Results.{compared_in}
+use Rattle.link_base.specs.declared.rule.PairAt.{PairAt}
 use Rattle.pair_decisions.specs.Decisions.{decision_at, is_same}
 use Rattle.command_scripts.specs.StepLaws.{seen_err, takes_go, takes_stop, takes_value}
 use Rattle.link_shell.specs.DuplicatesSettings.{within_of}
@@ -28,7 +29,7 @@ returns-in-Ok-clause-few_links g c =
     let p = c.in_ok-files.files in
     let d = c.in-Ok.found.decided in
     let decisions = c.in-Ok.ensures.of_plan.decisions in
-    let has = λ at. is_same Link (decision_at (rule_in p d) at) in
+    let has : PairAt → Bool = λ at. is_same Link (decision_at (rule_in p d) at) in
     let pairs = compared_in c.args.plan.now p.files in
     omega (arith, ap length decisions.links, length-filter has pairs, count_by-le-length has pairs, decisions.few)
 
