@@ -1,6 +1,3 @@
-pub mod MergeLemmas
-pub mod CandidateLemmas
-pub mod PassLemmas
 pub mod ValueLemmas
 pub mod ListedLemmas
 pub mod PriceLemmas

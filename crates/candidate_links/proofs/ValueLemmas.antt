@@ -18,7 +18,7 @@ use Rattle.pair_decisions.specs.Decisions.{decision_at}
 use Rattle.pair_decisions.specs.PairRule.{cell_of, has_pattern, FileRule}
 use Rattle.review_journal.specs.Verdict.{verdict_on}
 use Rattle.review_journal.specs.declared.entry.Entry.{Entry}
-use Rattle.candidate_links.proofs.CandidateLemmas.{all_if, some_same}
+use Rattle.candidate_links.specs.CandidateLaws.{all_if, some_same}
 use Rattle.candidate_links.specs.Candidates.{by_decision, candidate_by_verdict, candidate_of, candidates_of, HasBounds, linked, most_value, weight_of_pair}
 
 -- the weight of a cell that is found, or of none

@@ -9,7 +9,4 @@ pub mod RuleLemmas
 pub mod DecisionLemmas
 pub mod ResultLemmas
 pub mod ReviewLemmas
-pub mod DuplicateLemmas
-pub mod FileLemmas
-pub mod RunLemmas
 pub mod ValueLemmas

@@ -3,7 +3,7 @@ use Rattle.std.proofs.Common.{◌≡◌, ◌<◌, ℕ, List, length, Result, Ok,
 use Rattle.std.specs.Prelude.{All, Contains, IfOk, not}
 use Rattle.std.proofs.lemmas.List.Elements.{All-contains, All-filter, All-map, All-weaker}
 use Rattle.price_check.specs.Assignment.{IsWithin}
-use Rattle.candidate_links.proofs.PassLemmas.{not_more}
+use Rattle.candidate_links.specs.PassLaws.{not_more}
 use Rattle.candidate_links.specs.Candidates.{AreCandidates, candidates_of}
 use Rattle.candidate_links.specs.Choice.{dropped, dropped_of, is_chosen, IsChoice}
 use Rattle.candidate_links.specs.declared.choice.ChosenLinks.{ChosenLinks}

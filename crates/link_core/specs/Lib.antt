@@ -10,3 +10,6 @@ pub mod Results
 pub mod Verify
 pub mod Duplicates
 pub mod Many
+pub mod ReadLaws
+pub mod FileLaws
+pub mod RunLaws

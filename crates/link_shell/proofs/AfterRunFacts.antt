@@ -9,7 +9,7 @@ use Rattle.link_base.specs.declared.fault.Fault.TheVariants as fault
 use Rattle.link_base.specs.declared.fault.FileRole.{FileRole}
 use Rattle.link_base.specs.declared.fault.FileRole.TheVariants as role
 use Rattle.link_base.specs.declared.rule.Candidate.{Candidate}
-use Rattle.link_core.proofs.RunLemmas.{counted_few, given_few}
+use Rattle.link_core.specs.RunLaws.{counted_few, given_few}
 use Rattle.link_core.specs.Decisions.{decided}
 use Rattle.standard_files.specs.Files.{StandardPair}
 use Rattle.link_core.specs.Results.{RunTexts}

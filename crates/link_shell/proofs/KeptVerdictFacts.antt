@@ -10,7 +10,7 @@ use Rattle.link_base.specs.Standard.{IsDay, Record}
 use Rattle.link_base.specs.declared.fault.Fault.{Fault}
 use Rattle.link_base.specs.declared.fault.Fault.TheVariants as fault
 use Rattle.link_base.specs.declared.fault.FileRole.TheVariants as role
-use Rattle.link_core.proofs.FileLemmas.{AreReadFiles, IsReadFile, read_files}
+use Rattle.link_core.specs.FileLaws.{AreReadFiles, IsReadFile, read_files}
 use Rattle.standard_files.specs.Files.{StandardPair}
 use Rattle.link_core.specs.Review.{journal_in_files, text_within}
 use Rattle.link_limits.specs.declared.TheConstants.{MOST_FILE_BYTES, MOST_DISTINCT_BYTES}

@@ -14,8 +14,8 @@ use Rattle.link_base.specs.declared.fault.FileRole.TheVariants as role
 use Rattle.link_base.specs.declared.rule.Candidate.{Candidate}
 use Rattle.link_base.specs.declared.rule.PairAt.{PairAt}
 use Rattle.link_base.specs.declared.rule.RuleCell.{RuleCell}
-use Rattle.link_core.proofs.FileLemmas.{read_files}
-use Rattle.link_core.proofs.RunLemmas.{candidates_are, small_cells}
+use Rattle.link_core.specs.FileLaws.{read_files}
+use Rattle.link_core.specs.RunLaws.{candidates_are, small_cells}
 use Rattle.link_core.specs.Decisions.{decided, decided_by, Decisions, rule_over}
 use Rattle.link_core.specs.Pairs.{plan_pairs}
 use Rattle.standard_files.specs.Files.{StandardPair}

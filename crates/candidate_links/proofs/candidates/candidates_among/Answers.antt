@@ -1,5 +1,5 @@
 use Rattle.std.proofs.Common.{◌≡◌, ◌∙◌}
-use Rattle.candidate_links.proofs.CandidateLemmas.{are_candidates}
+use Rattle.candidate_links.specs.CandidateLaws.{are_candidates}
 use Rattle.candidate_links.specs.Candidates.{of_link, of_possible}
 use Rattle.candidate_links.specs.Merging.{merged}
 use Rattle.pair_decisions.specs.PairRule.{side_rule}

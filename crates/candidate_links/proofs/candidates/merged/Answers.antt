@@ -7,7 +7,7 @@ use Rattle.link_base.specs.declared.rule.PairAt.{PairAt}
 use Rattle.pair_decisions.specs.PairRule.{side_rule}
 use Rattle.pair_decisions.specs.Pairs.{IsInside}
 use Rattle.candidate_links.specs.Candidates.{most_value, of_link, of_possible}
-use Rattle.candidate_links.proofs.MergeLemmas.{all_kept, all_told, link_told, possible_told}
+use Rattle.candidate_links.specs.MergeLaws.{all_kept, all_told, link_told, possible_told}
 use Rattle.candidate_links.specs.Merging.{merged, next_of}
 use Rattle.candidate_links.specs.declared.merging.Next.TheVariants as next
 use Rattle.candidate_links.proofs.candidates.merged.Goals as goal

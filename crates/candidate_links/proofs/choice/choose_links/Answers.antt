@@ -3,7 +3,7 @@ use Rattle.std.specs.Prelude.{All, Contains, IfOk, ◌≤ℤ◌}
 use Rattle.std.proofs.lemmas.List.{get_or_default}
 use Rattle.price_check.specs.Assignment.{Certifies, IsGreatest, greatest_value, price_of, worth}
 use Rattle.link_base.specs.declared.rule.Candidate.{Candidate}
-use Rattle.candidate_links.proofs.PassLemmas.{not_more}
+use Rattle.candidate_links.specs.PassLaws.{not_more}
 use Rattle.candidate_links.specs.Choice.{dropped_of, IsChoice}
 use Rattle.candidate_links.specs.declared.choice.ChosenLinks.{ChosenLinks}
 use Rattle.candidate_links.proofs.choice.choose_links.Goals as goal

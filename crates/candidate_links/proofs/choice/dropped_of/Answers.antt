@@ -1,7 +1,7 @@
 use Rattle.std.proofs.Common.{◌≡◌, ◌∙◌, ◌++◌, ◌∷◌, [], ◌+◌, List, true, false, sym, ap, arith, drop, map, get_or}
 use Rattle.price_check.specs.Assignment.{no_candidate}
 use Rattle.link_base.specs.declared.rule.Candidate.{Candidate}
-use Rattle.candidate_links.proofs.PassLemmas.{all_passed, link_passed, one_dropped}
+use Rattle.candidate_links.specs.PassLaws.{all_passed, link_passed, one_dropped}
 use Rattle.candidate_links.specs.Choice.{dropped}
 use Rattle.link_report.specs.declared.report.Dropped.{Dropped}
 use Rattle.candidate_links.specs.Passing.{is_next, unlinked}

@@ -2,7 +2,7 @@ use Rattle.std.proofs.Common.{arith}
 use Rattle.std.proofs.lemmas.Int.{ints}
 use Rattle.price_check.specs.Assignment.{no_candidate}
 use Rattle.link_base.specs.declared.rule.Candidate.{Candidate}
-use Rattle.candidate_links.proofs.PassLemmas.{total_more}
+use Rattle.candidate_links.specs.PassLaws.{total_more}
 use Rattle.candidate_links.proofs.choice.worth.Goals as goal
 
 pub loop-link-preserved : goal.loop-link-preserved

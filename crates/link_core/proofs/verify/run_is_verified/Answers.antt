@@ -4,8 +4,8 @@ use Rattle.candidate_links.specs.Candidates.{HasBounds}
 use Rattle.link_base.specs.Rule.{IsWithinRanges}
 use Rattle.pair_decisions.specs.Comparators.{rares_of}
 use Rattle.written_check.specs.Short.{IsSmallCell}
-use Rattle.link_core.proofs.FileLemmas.{read_files}
-use Rattle.link_core.proofs.RunLemmas.{candidates_are, small_cells, weights_are}
+use Rattle.link_core.specs.FileLaws.{read_files}
+use Rattle.link_core.specs.RunLaws.{candidates_are, small_cells, weights_are}
 use Rattle.link_core.specs.Results.{candidates_in, compared_in}
 use Rattle.settings.proofs.Ranges.{read_plan}
 use Rattle.link_core.proofs.verify.run_is_verified.Goals as goal

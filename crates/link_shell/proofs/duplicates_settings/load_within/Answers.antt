@@ -2,7 +2,7 @@ use Rattle.std.proofs.Common.{◌≡◌, ℕ, List, Result, Ok, Err, IfOk, lengt
 use Rattle.link_base.specs.Fault.{Gives}
 use Rattle.link_base.specs.declared.fault.Fault.{Fault}
 use Rattle.link_base.specs.declared.fault.FileRole.TheVariants as role
-use Rattle.link_core.proofs.DuplicateLemmas.{same_rows}
+use Rattle.link_core.specs.ReadLaws.{same_rows}
 use Rattle.link_core.specs.Prepared.{files_of, prepared, PreparedView}
 use Rattle.link_limits.specs.declared.TheConstants.{MOST_DISTINCT_BYTES}
 use Rattle.link_plan.specs.Within.{plan_within}

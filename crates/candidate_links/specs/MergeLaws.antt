@@ -1,4 +1,5 @@
--- Two rising lists taken together, and the filters of one rising list that together give what the whole list gives.
+-- Machinery of `candidates_among`: two rising lists taken together, and the filters of one rising list that together give what the whole list
+-- gives. No public clause names it.
 use Rattle.std.proofs.Common.{◌≡◌, ◌<◌, zero, suc, Bool, true, false, List, [], ◌∷◌, ◌++◌, Option, Some, None, cond, filter, length, drop, append_assoc, append-nil, refl, subst, sym, ap, ◌∙◌, inl, inr, arith}
 use Rattle.std.specs.Prelude.{All, AllPairs, IfSome, filter_map, option_to_list}
 use Rattle.std.specs.List.{cons_option}

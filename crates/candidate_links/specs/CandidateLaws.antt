@@ -1,4 +1,4 @@
--- What the pairs of decided lists give as candidates: few, rising, between records that are there.
+-- Laws of the candidates of decided pairs (`candidates_of`): they are few, rise, and are between records that are there.
 use Rattle.std.proofs.Common.{◌≡◌, ◌≤◌, ℕ, suc, List, [], ◌∷◌, Option, Some, None, length, refl, sym, ap, ◌∙◌, inl, inr, arith, subst}
 use Rattle.std.specs.Prelude.{ℤ, pos, ◌≤ℤ◌, All, AllPairs, filter_map}
 use Rattle.std.specs.List.{cons_option}
@@ -20,7 +20,7 @@ use Rattle.pair_decisions.specs.Pairs.{IsInside}
 use Rattle.review_journal.specs.Verdict.{verdict_on}
 use Rattle.review_journal.specs.declared.entry.Entry.{Entry}
 use Rattle.link_limits.specs.declared.TheConstants.{MOST_VALUE}
-use Rattle.candidate_links.proofs.MergeLemmas.{GivesBy, by_link, by_none, by_possible, merged_filters}
+use Rattle.candidate_links.specs.MergeLaws.{GivesBy, by_link, by_none, by_possible, merged_filters}
 use Rattle.assignment.specs.Solution.{HasSmallValue}
 use Rattle.candidate_links.specs.Candidates.{AreCandidates, by_decision, candidate_by_verdict, candidate_of, candidates_of, most_value, of_link, of_possible}
 use Rattle.candidate_links.specs.Merging.{merged}

@@ -1,4 +1,4 @@
--- A file that is read as both files of a plan has as many records as itself.
+-- Laws of a file that is read as both files of a plan: it has as many records as itself.
 use Rattle.std.proofs.Common.{◌≡◌, ◌∷◌, ◌∙◌, ℕ, List, [], length, Option, Some, None, Result, Ok, Err, ap, sym, refl}
 use Rattle.std.proofs.lemmas.List.{length-map}
 use Rattle.file_reader.specs.Left.{records_in}

@@ -1,5 +1,5 @@
--- What the records of prepared files keep, by their bytes alone: they are not too many, and their ids are distinct texts as tables have
--- them.
+-- Laws of the records of prepared files (`prepared`), by their bytes alone: they are not too many, and their ids are distinct texts as tables
+-- have them.
 use Rattle.std.proofs.Common.{◌≡◌, ◌≤◌, ◌∷◌, ◌∙◌, ℕ, List, [], length, get_or, Ok, refl, sym, ap, subst, arith}
 use Rattle.std.specs.Prelude.{All, AllPairs, ◌≢◌, IsTrue, is_some}
 use Rattle.std.proofs.lemmas.List.{get_or-map, length-map}
@@ -20,7 +20,7 @@ use Rattle.standard_files.specs.Values.{standard_record, standard_records}
 use Rattle.standard_files.specs.declared.sorts.TextSort.{TextSort}
 use Rattle.review_journal.specs.Text.{IsIdText}
 use Rattle.written_check.specs.Short.{HasShortId, IsSmallFile}
-use Rattle.link_core.proofs.DuplicateLemmas.{came, ok_is, unless_is}
+use Rattle.link_core.specs.ReadLaws.{came, ok_is, unless_is}
 use Rattle.standard_files.specs.Texts.{pooled_texts}
 use Rattle.link_core.specs.Prepared.{kinds_of, prepared, with_fault}
 

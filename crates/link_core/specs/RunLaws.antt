@@ -1,4 +1,4 @@
--- What a run writes is small enough to be verified, and its candidates stand in its files.
+-- Laws of what a run writes: it is small enough to be verified, and its candidates stand in its files.
 use Rattle.std.proofs.Common.{◌≡◌, ◌<◌, ◌≤◌, ◌+◌, ◌∷◌, ◌^◌, ◌∙◌, ℕ, List, [], All, length, map, get_or, Ok, Option, Some, None, sym, ap, subst, arith}
 use Rattle.std.specs.Prelude.{◌≤ℤ◌, is_some}
 use Rattle.std.specs.List.{cons_option, enumerate_from, range_with_len}
@@ -8,7 +8,7 @@ use Rattle.std.proofs.lemmas.List.{get_or-map, length-map}
 use Rattle.std.proofs.lemmas.List.Elements.{All-from_get_or, All-weaker}
 use Rattle.std.proofs.lemmas.List.FromFn.{get_or-map-range_with_len, length-enumerate_from, length-map-range_with_len}
 use Rattle.std.proofs.lemmas.List.Sorted.{All-permutation}
-use Rattle.candidate_links.proofs.CandidateLemmas.{candidate_stands, given_rise, given_within}
+use Rattle.candidate_links.specs.CandidateLaws.{candidate_stands, given_rise, given_within}
 use Rattle.candidate_links.specs.Candidates.{candidate_of, HasBounds}
 use Rattle.decision_rule.specs.FilledLaws.{length_filled}
 use Rattle.decision_rule.specs.Filled.{Chances, chances_at, chances_of, IsFilled}
@@ -32,8 +32,8 @@ use Rattle.link_plan.specs.Plan.{FieldKeys, plain_shares, PlainShares}
 use Rattle.link_plan.specs.declared.plan.Plan.{Plan}
 use Rattle.written_check.specs.Laws.{AreCandidatesOf}
 use Rattle.written_check.specs.Short.{AreSmallCells, HasAllowedWeight, IsSmallCell}
-use Rattle.link_core.proofs.DuplicateLemmas.{came, ok_is}
-use Rattle.link_core.proofs.FileLemmas.{AreReadFiles}
+use Rattle.link_core.specs.ReadLaws.{came, ok_is}
+use Rattle.link_core.specs.FileLaws.{AreReadFiles}
 use Rattle.standard_files.specs.Files.{StandardPair}
 use Rattle.link_core.specs.Results.{candidates_in, compared_in}
 use Rattle.link_core.specs.Rules.{counted_by}
