@@ -47,5 +47,7 @@ returns c =
     let certified : CertifiesWithin cs ns solved.links solved.prices_a solved.prices_b = rw (made.candidates, made.capacities) at s.certified in
     let a_within : All (λ (l : Candidate). l.a < c.args.rows_a) cs = All-weaker (IsWithin c.args.rows_a c.args.rows_b) (λ l. l.a < c.args.rows_a) (λ l h. h.0) cs c.requires.within in
     let b_within : All (λ (l : Candidate). l.b < c.args.rows_b) cs = All-weaker (IsWithin c.args.rows_a c.args.rows_b) (λ l. l.b < c.args.rows_b) (λ l h. h.1) cs c.requires.within in
-    choice_of c.args.rows_a c.args.rows_b ns cs solved.links solved.prices_a solved.prices_b r e.links e.prices_a e.prices_b greatest certified (s.rows_a ∙ made.rows_a) (s.rows_b ∙ (ap length made.capacities ∙ c.requires.for_each))
-    (of_links (λ l. l.a < c.args.rows_a) cs solved.links a_within greatest.within.among) (of_links (λ l. l.b < c.args.rows_b) cs solved.links b_within greatest.within.among)
+    record {
+      chosen = choice_of c.args.rows_a c.args.rows_b ns cs solved.links solved.prices_a solved.prices_b r e.links e.prices_a e.prices_b greatest certified (s.rows_a ∙ made.rows_a) (s.rows_b ∙ (ap length made.capacities ∙ c.requires.for_each))
+          (of_links (λ l. l.a < c.args.rows_a) cs solved.links a_within greatest.within.among) (of_links (λ l. l.b < c.args.rows_b) cs solved.links b_within greatest.within.among);
+    }
