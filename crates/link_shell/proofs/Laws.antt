@@ -1,5 +1,5 @@
 -- What follows of each command.
-use Rattle.std.proofs.Common.{◌≡◌, ◌≢◌, ◌≤◌, ◌⊎◌, inl, inr, ◌+◌, ◌++◌, ◌∷◌, ℕ, List, [], length, length-append, Option, Some, None, Result, Ok, Err, ap, ◌∙◌, arith, subst}
+use Rattle.std.proofs.Common.{◌≡◌, ◌≢◌, ◌≤◌, ◌⊎◌, inl, inr, ◌+◌, ◌++◌, ◌∷◌, ℕ, List, [], length, length-append, Bool, true, if◌then◌else◌, Option, Some, None, Result, Ok, Err, ap, ◌∙◌, arith, subst, sym}
 use Rattle.link_base.specs.declared.fault.Fault.{Fault}
 use Rattle.link_base.specs.declared.fault.Fault.TheVariants as fault
 use Rattle.link_outside.specs.Outside.{Rose}
@@ -9,7 +9,7 @@ use Rattle.command_scripts.specs.Does.{Answers, Does, DoesPart, FailsAt, FailsBy
 use Rattle.command_scripts.specs.Due.{Due, HoldsAll, HoldsSome, prints, Prints, PutFails, puts, puts_of, TakesAll, TakesSome}
 use Rattle.command_scripts.specs.Seen.{IsUncalled, SinkSeen, StoreSeen}
 use Rattle.command_scripts.specs.declared.ends.Ended.{Ended}
-use Rattle.link_shell.specs.Commands.{Command, command_of, form_command, or_form, script_of}
+use Rattle.link_shell.specs.Commands.{are_words, Command, command_in, command_of, form_command, or_form, script_of}
 use Rattle.link_shell.specs.Linked.{Follows, IsComplete, IsExactUsage, IsSilent, IsStill, NeverPrints, NeverPuts, Performed, RefusesBy}
 use Rattle.link_shell.specs.SettingsCommands.{OfFile, settings_script}
 use Rattle.link_shell.specs.declared.command.Form.{Form}
@@ -149,3 +149,11 @@ module _ (store : StoreSeen) (out : SinkSeen) (answer : Result Ended Fault) wher
       → Follows (or_form named (form_command first words)) store out answer
   follows_form named form first words e same d =
       subst (λ n. Follows (or_form n (form_command first words)) store out answer) e (subst (λ f. Follows (form_command f words) store out answer) same d)
+
+  -- the words of a form name its command
+  pub follows_words : (form given : Form) (words : List (List ℕ)) (command : Command) → given ≡ form → true ≡ are_words form words → command ≡ command_in form words → Does (script_of command) store out answer
+      → Follows (form_command (Some given) words) store out answer
+  follows_words form given words command is said asked d =
+      let At : Form → Type 0 = λ f. Follows (form_command (Some f) words) store out answer in
+      let Told : Bool → Type 0 = λ t. Follows (if t then Some (command_in form words) else None) store out answer in
+      subst At (sym is) (subst Told said (subst (λ k. Does (script_of k) store out answer) asked d))

@@ -1,5 +1,5 @@
-use Rattle.std.proofs.Common.{◌≡◌, ◌+◌, ◌-◌, ◌∙◌, ◌∷◌, [], Bool, List, ap, arith, codes, drop, false, length, map, nat_le, refl, rules, suc, sym, take, true}
-use Rattle.std.specs.Prelude.{◌&&◌, bytes_eq, string_bytes}
+use Rattle.std.proofs.Common.{◌≡◌, ◌+◌, ◌-◌, ◌∙◌, ◌∷◌, [], Bool, List, ap, arith, drop, false, length, map, nat_le, refl, suc, sym, take, true}
+use Rattle.std.specs.Prelude.{◌&&◌, string_bytes}
 use Rattle.std.proofs.lemmas.Bool.{le-leb}
 use Rattle.std.proofs.lemmas.List.{length-map, take_all}
 use Rattle.csv_rows.specs.Numbers.{number_in}
@@ -18,9 +18,9 @@ after_second f (x ∷ y ∷ xs) =
     let count : suc (suc (length xs)) - 2 ≡ length xs = omega arith in
     ap (λ n. map f (take n xs)) count ∙ ap (map f) (take_all (length xs) xs (omega arith))
 
--- five tests hold
-all_five : (a b c d e : Bool) → a ≡ true → b ≡ true → c ≡ true → d ≡ true → e ≡ true → true ≡ (a && b && c && d && e)
-all_five a b c d e ha hb hc hd he = λ i. sym ha i && sym hb i && sym hc i && sym hd i && sym he i
+-- four tests hold
+all_four : (a b c d : Bool) → a ≡ true → b ≡ true → c ≡ true → d ≡ true → true ≡ (a && b && c && d)
+all_four a b c d ha hb hc hd = λ i. sym ha i && sym hb i && sym hc i && sym hd i
 
 pub returns-then-are_levels-clause-some : goal.returns-then-are_levels-clause-some
 returns-then-are_levels-clause-some c =
@@ -29,10 +29,9 @@ returns-then-are_levels-clause-some c =
     let same : length all ≡ length words = length-map words string_bytes in
     let many : nat_le 3 (length all) ≡ true = le-leb 3 (length all) (omega (arith, same, c.if-words-lt3.false)) in
     let few : nat_le (length all) (MOST_LISTED + 2) ≡ true = le-leb (length all) (MOST_LISTED + 2) (omega (arith, same, c.if-words.false)) in
-    let verb : bytes_eq (word all 0) (codes "frontier") ≡ true = search (rules, c.if-ne.ensures, c.word_at.ensures) in
     let name : is_settings_word (word all 1) ≡ true = ap is_settings_word (sym c.word_at-name.ensures) ∙ sym c.is_settings.ensures ∙ c.if-is_settings.true in
     let rising : are_levels_from 0 (drop 2 all) ≡ true = ap (are_levels_from 0) (sym (after_second string_bytes words)) ∙ sym c.are_levels.ensures ∙ c.if-are_levels.true in
-    all_five _ _ _ _ _ many few verb name rising
+    all_four _ _ _ _ many few name rising
 
 pub returns-then-are_levels-clause-asked : goal.returns-then-are_levels-clause-asked
 returns-then-are_levels-clause-asked c =
@@ -53,7 +52,7 @@ pub returns-else-is_settings-clause-some : goal.returns-else-is_settings-clause-
 returns-else-is_settings-clause-some c =
     let words = c.args.words.now in
     let all = map string_bytes words in
-    let front : Bool = nat_le 3 (length all) && nat_le (length all) (MOST_LISTED + 2) && bytes_eq (word all 0) (codes "frontier") in
+    let front : Bool = nat_le 3 (length all) && nat_le (length all) (MOST_LISTED + 2) in
     let rising : Bool = are_levels_from 0 (drop 2 all) in
     let fails : (front && is_settings_word (word all 1) && rising) ≡ false = elim c.else-is_settings.branch [
       | else-is_settings-via-then-is_settings+else-are_levels w ↦
