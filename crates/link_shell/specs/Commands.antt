@@ -1,5 +1,5 @@
--- The commands: which one the words are a form of, by the clause `usage` of `perform`, and its script, which the clause `follows` says is
--- followed.
+-- The commands: which one the words are a form of, by the part `usage` of the clause `performed` of `perform`, and its script, which the part
+-- `follows` says is followed.
 use Rattle.std.specs.Prelude.{◌∷◌, [], ℕ, List, Bool, drop, if◌then◌else◌, codes, Option, Some, None}
 use Rattle.settings_readers.specs.Values.{named_in}
 use Rattle.command_scripts.specs.Does.{Script}

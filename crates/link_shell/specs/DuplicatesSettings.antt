@@ -1,5 +1,5 @@
--- The command `duplicates SETTINGS`: its steps and what is due, by the clause `follows` of `perform`. A is read as both files of
--- the plan of A with itself; no step is a load of B or of the journal.
+-- The command `duplicates SETTINGS`: its steps and what is due, by the part `follows` of the clause `performed` of `perform`. A is read as both
+-- files of the plan of A with itself; no step is a load of B or of the journal.
 use Rattle.std.specs.Prelude.{◌≡◌, ◌≤◌, ℕ, List, length, Ok}
 use Rattle.dedup_groups.specs.Groups.{AreLeaders}
 use Rattle.link_base.specs.declared.fault.FileRole.TheVariants as role

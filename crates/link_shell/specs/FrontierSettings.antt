@@ -1,4 +1,4 @@
--- The command `frontier SETTINGS MU..`: its words, its steps and what is due, by the clause `follows` of `perform`.
+-- The command `frontier SETTINGS MU..`: its words, its steps and what is due, by the part `follows` of the clause `performed` of `perform`.
 use Rattle.std.specs.Prelude.{◌≡◌, ◌+◌, ℕ, List, [], ◌∷◌, length, drop, map, Bool, true, ◌&&◌, nat_le, string_bytes}
 use Rattle.link_limits.specs.declared.TheConstants.{PER_MILLION}
 use Rattle.link_core.specs.Rules.{IsFrontierText}

@@ -1,5 +1,5 @@
--- The command `generate NUMBER`: its words, its steps and what is due, by the clause `follows` of `perform`. A made input of so many rows in each
--- file is run in memory, and the first lines of its report are printed.
+-- The command `generate NUMBER`: its words, its steps and what is due, by the part `follows` of the clause `performed` of `perform`. A made input
+-- of so many rows in each file is run in memory, and the first lines of its report are printed.
 use Rattle.std.specs.Prelude.{◌≡◌, ◌≤◌, ◌==◌, ◌&&◌, ℕ, List, [], Bool, length, nat_le, Result, Ok}
 use Rattle.link_limits.specs.declared.TheConstants.{MOST_DISTINCT_BYTES, MOST_ROWS}
 use Rattle.link_base.specs.Answers.{and_then}

@@ -1,4 +1,4 @@
--- The command `keys WORD..`: its words, its steps and what is due, by the clause `follows` of `perform`.
+-- The command `keys WORD..`: its words, its steps and what is due, by the part `follows` of the clause `performed` of `perform`.
 use Rattle.std.specs.Prelude.{◌+◌, ℕ, List, drop, length, Bool, ◌&&◌, nat_le, Ok}
 use Rattle.std.specs.List.{list_all}
 use Rattle.link_limits.specs.declared.TheConstants.{MOST_NAME_BYTES}

@@ -1,5 +1,5 @@
--- The command `many SETTINGS CAPACITIES`: its words, its steps and what is due, by the clause `follows` of `perform`. Links are of greatest total
--- within the capacities of the records of B; which list of that total is printed is not said.
+-- The command `many SETTINGS CAPACITIES`: its words, its steps and what is due, by the part `follows` of the clause `performed` of `perform`. Links
+-- are of greatest total within the capacities of the records of B; which list of that total is printed is not said.
 use Rattle.std.specs.Prelude.{◌≡◌, ℕ, List, length, Bool, ◌==◌, ◌&&◌, Ok}
 use Rattle.link_base.specs.declared.fault.FileRole.TheVariants as role
 use Rattle.link_core.specs.Many.{capacities_in_file, IsManyText}

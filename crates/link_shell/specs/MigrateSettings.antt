@@ -1,5 +1,5 @@
--- The command `migrate SETTINGS`: its steps and what is due, by the clause `follows` of `perform`: the journal as it is read, written
--- in the newest version.
+-- The command `migrate SETTINGS`: its steps and what is due, by the part `follows` of the clause `performed` of `perform`: the journal as it is
+-- read, written in the newest version.
 use Rattle.std.specs.Prelude.{◌≡◌, ◌∷◌, [], ℕ, List, Ok}
 use Rattle.link_core.specs.Review.{journal_lines_of}
 use Rattle.link_plan.specs.declared.plan.Plan.{Plan}

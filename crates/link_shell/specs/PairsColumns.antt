@@ -1,4 +1,4 @@
--- The command `pairs A B COLUMN`: its words, its steps and what is due, by the clause `follows` of `perform`.
+-- The command `pairs A B COLUMN`: its words, its steps and what is due, by the part `follows` of the clause `performed` of `perform`.
 use Rattle.std.specs.Prelude.{ℕ, List, length, Bool, ◌==◌, ◌&&◌}
 use Rattle.link_core.specs.ColumnPairs.{rows_of_pairs}
 use Rattle.command_scripts.specs.Does.{Script}

@@ -1,5 +1,5 @@
--- The command `review SETTINGS VERDICTS DATE REVIEWER`: its words, its steps and what is due, by the clause `follows` of `perform`: new verdicts
--- on possible links, added to the journal.
+-- The command `review SETTINGS VERDICTS DATE REVIEWER`: its words, its steps and what is due, by the part `follows` of the clause `performed` of
+-- `perform`: new verdicts on possible links, added to the journal.
 use Rattle.std.specs.Prelude.{ℕ, ℤ, pos, List, length, Bool, ◌==◌, ◌&&◌, is_some, unwrap_or, Ok}
 use Rattle.link_base.specs.Standard.{IsDay}
 use Rattle.review_journal.specs.Journal.{IsReviewer}

@@ -1,5 +1,5 @@
--- The command `run SETTINGS`: its steps, and the five files that it writes, by the clause `follows` of `perform`. `Headline` says what
--- they are.
+-- The command `run SETTINGS`: its steps, and the five files that it writes, by the part `follows` of the clause `performed` of `perform`.
+-- `Headline` says what they are.
 use Rattle.std.specs.Prelude.{◌≡◌, ◌∷◌, [], ℕ, List, codes}
 use Rattle.pair_decisions.specs.PlanRule.{IsRuleOf}
 use Rattle.link_core.specs.Results.{AreRunTexts, RunTexts}

@@ -1,5 +1,5 @@
--- The commands of a settings file alone, `VERB SETTINGS`: which verb the words name, and the script of each, by the clause `follows` of
--- `perform`; of those that print one text of the settings, `pairs`, `rule` and `open`, their steps and what is due too. The law
+-- The commands of a settings file alone, `VERB SETTINGS`: which verb the words name, and the script of each, by the part `follows` of the clause
+-- `performed` of `perform`; of those that print one text of the settings, `pairs`, `rule` and `open`, their steps and what is due too. The law
 -- `printed_rule_is_least` says that what `rule` prints is least.
 use Rattle.std.specs.Prelude.{◌≡◌, ◌∷◌, [], ℕ, List, length, Bool, ◌==◌, ◌&&◌, if◌then◌else◌, codes, Option, None}
 use Rattle.std.specs.Option.{option_map}

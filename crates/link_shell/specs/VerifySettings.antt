@@ -1,5 +1,5 @@
--- The command `verify SETTINGS`: its steps and what is due, by the clause `follows` of `perform`. What the three files come to
--- is a function of what the names hold.
+-- The command `verify SETTINGS`: its steps and what is due, by the part `follows` of the clause `performed` of `perform`. What the three files come
+-- to is a function of what the names hold.
 use Rattle.std.specs.Prelude.{◌≡◌, ℕ, List, Bool, true, false, codes, Result, Ok}
 use Rattle.link_base.specs.declared.fault.FileRole.TheVariants as role
 use Rattle.link_base.specs.declared.rule.Candidate.{Candidate}
