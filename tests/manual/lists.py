@@ -51,11 +51,11 @@ def spec_piece(piece: str) -> str:
 
 
 def faults_of_specs() -> dict[str, tuple[str, str]]:
-    """Each fault's status and text, with its parts in capitals, by the specification."""
-    text = read("crates/link_base/specs/Fault.antt")
-    status = dict(re.findall(r"^fault_status \(?fault\.(\w+)[^=]*= (\d)$", text, flags=re.M))
+    """Each fault's status and text, and each other refusal's, with its parts in capitals, by the specification."""
+    text = read("crates/link_base/specs/Fault.antt") + read("crates/link_outside/specs/Refusal.antt").replace("(refusal.Fault f)", "f")
+    status = dict(re.findall(r"^(?:fault|refusal)_status \(?(?:fault|refusal)\.(\w+)[^=]*= (\d)$", text, flags=re.M))
     found = {}
-    for name, body in re.findall(r"^fault_text \(?fault\.(\w+)[^=]*=(.*?)(?=^\S|^$)", text, flags=re.S | re.M):
+    for name, body in re.findall(r"^(?:fault|refusal)_text \(?(?:fault|refusal)\.(\w+)[^=]*=(.*?)(?=^\S|^$)", text, flags=re.S | re.M):
         found[name] = (status[name], "".join(spec_piece(piece.strip()) for piece in body.split("++")))
     return found
 

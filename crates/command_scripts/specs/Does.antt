@@ -1,9 +1,9 @@
 -- A command as its script, and what it does to the store and to `out`, by each of its answers: the clause of each call that follows a script to
 -- its end.
 use Rattle.std.specs.Prelude.{◌≡◌, ◌⊎◌, ◌≤◌, ◌++◌, ◌∷◌, [], ℕ, List, Result, Ok, Err}
-use Rattle.link_base.specs.declared.fault.Fault.{Fault}
 use Rattle.link_outside.specs.Outside.{Rose}
 use Rattle.link_outside.specs.declared.outside.StoreCall.{StoreCall}
+use Rattle.link_outside.specs.declared.refusal.Refusal.{Refusal}
 use Rattle.command_scripts.specs.Causes.{Cause, cause_of, the_input, the_memory, the_output, the_store, the_words}
 use Rattle.command_scripts.specs.Seen.{IsUncalled, IsUntouched, SinkSeen, StoreSeen}
 use Rattle.command_scripts.specs.Steps.{ComesTo, Reaches, Steps}
@@ -68,23 +68,23 @@ pub record WantsMemory (script : Script) (store : StoreSeen) (out : SinkSeen) : 
   pub part : ((store.held_after ≡ store.held_before) × IsUncalled out) ⊎ DoesPart script store out
 
 -- the steps come to this fault, and nothing was done
-pub record IsRefused (script : Script) (store : StoreSeen) (out : SinkSeen) (f : Fault) : Type 0 where
+pub record IsRefused (script : Script) (store : StoreSeen) (out : SinkSeen) (f : Refusal) : Type 0 where
   pub first : ComesTo script.steps store (Err f)
   pub untouched : IsUntouched store
   pub quiet : IsUncalled out
 
-abbrev pub FailsBy : Cause → Script → StoreSeen → SinkSeen → Fault → Type 0
+abbrev pub FailsBy : Cause → Script → StoreSeen → SinkSeen → Refusal → Type 0
 FailsBy the_words script store out f = ⊥
 FailsBy (the_store name) script store out f = StoreFails script store out name
 FailsBy the_output script store out f = SinkFails script store out
 FailsBy the_memory script store out f = WantsMemory script store out
 FailsBy the_input script store out f = IsRefused script store out f
 
-abbrev pub Answers : Script → StoreSeen → SinkSeen → Result Ended Fault → Type 0
+abbrev pub Answers : Script → StoreSeen → SinkSeen → Result Ended Refusal → Type 0
 Answers script store out (Ok ended) = Ends script store out ended
 Answers script store out (Err f) = FailsBy (cause_of f) script store out f
 
 -- a command is done, or refused for its cause; the count of `out` never falls
-pub record Does (script : Script) (store : StoreSeen) (out : SinkSeen) (answer : Result Ended Fault) : Type 0 where
+pub record Does (script : Script) (store : StoreSeen) (out : SinkSeen) (answer : Result Ended Refusal) : Type 0 where
   pub answers : Answers script store out answer
   pub later : out.faults_before ≤ out.faults_after

@@ -1,9 +1,10 @@
 -- Laws of a command that goes on with what its first steps gave, and of the two ends of a command: the proofs of commands cite them.
 use Rattle.std.proofs.Common.{◌≡◌, ◌⊎◌, inl, inr, ℕ, List, Result, Ok, Err, IsErrAnd, IfErr, IfOk, refl, sym, subst, arith}
-use Rattle.link_base.specs.declared.fault.Fault.{Fault}
 use Rattle.link_base.specs.declared.fault.Fault.TheVariants as fault
 use Rattle.link_outside.specs.Outside.{Held}
 use Rattle.link_outside.specs.declared.outside.StoreCall.{StoreCall}
+use Rattle.link_outside.specs.declared.refusal.Refusal.{Refusal}
+use Rattle.link_outside.specs.declared.refusal.Refusal.TheVariants as refusal
 use Rattle.command_scripts.specs.Causes.{Cause, cause_of, the_input, the_memory, the_output, the_store, the_words}
 use Rattle.command_scripts.specs.Loads.{load_of}
 use Rattle.command_scripts.specs.Seen.{IsUncalled, SinkSeen, StoreSeen}
@@ -23,7 +24,7 @@ uncalled : (tells : Type 0) (taken : List ℕ) (count : ℕ) → IsUncalled (tak
 uncalled tells taken count = record { taken = refl; faults = refl }
 
 -- what is said of steps is said of those that lead to them
-module _ {B : Type 0} (d : B → Due → Type 0) (s t : Steps B) (store : StoreSeen) (comes : (r : Result B Fault) → ComesTo s store r → ComesTo t store r)
+module _ {B : Type 0} (d : B → Due → Type 0) (s t : Steps B) (store : StoreSeen) (comes : (r : Result B Refusal) → ComesTo s store r → ComesTo t store r)
     (reaches : (call : StoreCall) → Reaches s store call → Reaches t store call) where
   abbrev from : Script
   from = record { Found = B; steps = s; due = d }
@@ -42,19 +43,19 @@ module _ {B : Type 0} (d : B → Due → Type 0) (s t : Steps B) (store : StoreS
   part_as out (inl h) = inl h
   part_as out (inr h) = inr (record { due = h.due; is_due = due_as h.due h.is_due; held = h.held; taken = h.taken })
 
-  fails_as : (cause : Cause) (out : SinkSeen) (f : Fault) → FailsBy cause from store out f → FailsBy cause to store out f
+  fails_as : (cause : Cause) (out : SinkSeen) (f : Refusal) → FailsBy cause from store out f → FailsBy cause to store out f
   fails_as the_words out f a = a
   fails_as (the_store name) out f a = record { call = a.call; named = a.named; logged = a.logged; place = place_as a.call a.place; quiet = a.quiet }
   fails_as the_output out f a = record { due = a.due; is_due = due_as a.due a.is_due; printed = a.printed; rose = a.rose; taken = a.taken; untouched = a.untouched }
   fails_as the_memory out f a = record { faults = a.faults; counted = a.counted; part = part_as out a.part }
   fails_as the_input out f a = record { first = comes (Err f) a.first; untouched = a.untouched; quiet = a.quiet }
 
-  answers_as : (out : SinkSeen) (answer : Result Ended Fault) → Answers from store out answer → Answers to store out answer
+  answers_as : (out : SinkSeen) (answer : Result Ended Refusal) → Answers from store out answer → Answers to store out answer
   answers_as out (Ok ended) a = record { due = a.due; is_due = due_as a.due a.is_due; as_due = a.as_due; held = a.held; taken = a.taken; faults = a.faults }
   answers_as out (Err f) a = fails_as (cause_of f) out f a
 
 -- what follows the first steps follows all
-pub does_go : {A B : Type 0} (s : Steps A) (next : A → Steps B) (d : B → Due → Type 0) {x : A} {answer : Result Ended Fault} {tells : Type 0} {h0 h1 h2 : Held} {f0 f1 f2 : List StoreCall} {out : SinkSeen}
+pub does_go : {A B : Type 0} (s : Steps A) (next : A → Steps B) (d : B → Due → Type 0) {x : A} {answer : Result Ended Refusal} {tells : Type 0} {h0 h1 h2 : Held} {f0 f1 f2 : List StoreCall} {out : SinkSeen}
     → Takes s (record { tells = tells; held_before = h0; held_after = h1; faults_before = f0; faults_after = f1 }) (Ok x)
     → Does (record { Found = B; steps = next x; due = d }) (record { tells = tells; held_before = h1; held_after = h2; faults_before = f1; faults_after = f2 }) out answer
     → Does (record { Found = B; steps = s >>= next; due = d }) (record { tells = tells; held_before = h0; held_after = h2; faults_before = f0; faults_after = f2 }) out answer
@@ -69,7 +70,7 @@ does_go {B = B} s next d {x = x} {answer = answer} {tells = tells} {h0 = h0} {h1
     }
 
 -- a command stops at a fault of its steps
-stops : {A : Type 0} (cause : Cause) (s : Steps A) (script : Script) (f : Fault) (store : StoreSeen) (tells : Type 0) (taken : List ℕ) (count : ℕ)
+stops : {A : Type 0} (cause : Cause) (s : Steps A) (script : Script) (f : Refusal) (store : StoreSeen) (tells : Type 0) (taken : List ℕ) (count : ℕ)
     → (ComesTo s store (Err f) → ComesTo script.steps store (Err f)) → ((call : StoreCall) → Reaches s store call → Reaches script.steps store call)
     → StopsBy cause s store f → store.held_after ≡ store.held_before → FailsBy cause script store (taken_from_to tells taken taken count count) f
 stops the_words s script f store tells taken count c r k held = absurd k
@@ -81,20 +82,20 @@ stops the_input s script f store tells taken count c r k held =
     record { first = c k.to; untouched = record { held = held; faults = k.faults }; quiet = uncalled tells taken count }
 
 -- a fault of the first steps ends the command
-pub does_stop : {A B : Type 0} (s : Steps A) (next : A → Steps B) (d : B → Due → Type 0) {f : Fault} {tells told_out : Type 0} {h0 h2 : Held} {f0 f2 : List StoreCall} {taken : List ℕ} {count : ℕ} {answer : Result Ended Fault}
+pub does_stop : {A B : Type 0} (s : Steps A) (next : A → Steps B) (d : B → Due → Type 0) {f : Refusal} {tells told_out : Type 0} {h0 h2 : Held} {f0 f2 : List StoreCall} {taken : List ℕ} {count : ℕ} {answer : Result Ended Refusal}
     → Takes s (record { tells = tells; held_before = h0; held_after = h2; faults_before = f0; faults_after = f2 }) (Err f) → IsErrAnd answer (λ e. e ≡ f)
     → Does (record { Found = B; steps = s >>= next; due = d }) (record { tells = tells; held_before = h0; held_after = h2; faults_before = f0; faults_after = f2 })
     (record { tells = told_out; taken_before = taken; taken_after = taken; faults_before = count; faults_after = count }) answer
 does_stop {B = B} s next d {f = f} {tells = tells} {told_out = told_out} {h0 = h0} {h2 = h2} {f0 = f0} {f2 = f2} {taken = taken} {count = count} {answer = answer} t e =
     let to : Script = record { Found = B; steps = s >>= next; due = d } in
-    let P : Result Ended Fault → Type 0 = λ r. Does to (from_to tells h0 h2 f0 f2) (taken_from_to told_out taken taken count count) r in
+    let P : Result Ended Refusal → Type 0 = λ r. Does to (from_to tells h0 h2 f0 f2) (taken_from_to told_out taken taken count count) r in
     at_err P answer f e (record {
       answers = stops (cause_of f) s to f (from_to tells h0 h2 f0 f2) told_out taken count (comes_stop s next f (from_to tells h0 h2 f0 f2)) (reaches_first s next (from_to tells h0 h2 f0 f2)) t.goes t.held;
       later = omega arith;
     })
 
 -- a fault of the steps ends the command
-pub does_fail : {T : Type 0} (s : Steps T) (d : T → Due → Type 0) {f : Fault} {tells told_out : Type 0} {h0 h2 : Held} {f0 f2 : List StoreCall} {taken : List ℕ} {count : ℕ} {answer : Result Ended Fault}
+pub does_fail : {T : Type 0} (s : Steps T) (d : T → Due → Type 0) {f : Refusal} {tells told_out : Type 0} {h0 h2 : Held} {f0 f2 : List StoreCall} {taken : List ℕ} {count : ℕ} {answer : Result Ended Refusal}
     → Takes s (record { tells = tells; held_before = h0; held_after = h2; faults_before = f0; faults_after = f2 }) (Err f) → IsErrAnd answer (λ e. e ≡ f)
     → Does (record { Found = T; steps = s; due = d }) (record { tells = tells; held_before = h0; held_after = h2; faults_before = f0; faults_after = f2 })
     (record { tells = told_out; taken_before = taken; taken_after = taken; faults_before = count; faults_after = count }) answer
@@ -103,17 +104,17 @@ does_fail {T = T} s d {f = f} {tells = tells} {told_out = told_out} {h0 = h0} {h
     subst P (whole s) (does_stop s (λ x. gives (Ok x)) d t e)
 
 -- memory was wanted before anything was done
-pub does_want : (to : Script) {tells told_out : Type 0} {held : Held} {faults : List StoreCall} {taken : List ℕ} {count : ℕ} {answer : Result Ended Fault}
-    → IsErrAnd answer (λ e. e ≡ fault.NoMemory)
+pub does_want : (to : Script) {tells told_out : Type 0} {held : Held} {faults : List StoreCall} {taken : List ℕ} {count : ℕ} {answer : Result Ended Refusal}
+    → IsErrAnd answer (λ e. e ≡ (refusal.Fault fault.NoMemory))
     → Does to (record { tells = tells; held_before = held; held_after = held; faults_before = faults; faults_after = faults })
     (record { tells = told_out; taken_before = taken; taken_after = taken; faults_before = count; faults_after = count }) answer
 does_want to {tells = tells} {told_out = told_out} {held = held} {faults = faults} {taken = taken} {count = count} {answer = answer} e =
-    let P : Result Ended Fault → Type 0 = λ r. Does to (from_to tells held held faults faults) (taken_from_to told_out taken taken count count) r in
-    at_err P answer fault.NoMemory e (record { answers = record { faults = refl; counted = refl; part = inl (refl, uncalled told_out taken count) }; later = omega arith })
+    let P : Result Ended Refusal → Type 0 = λ r. Does to (from_to tells held held faults faults) (taken_from_to told_out taken taken count count) r in
+    at_err P answer (refusal.Fault fault.NoMemory) e (record { answers = record { faults = refl; counted = refl; part = inl (refl, uncalled told_out taken count) }; later = omega arith })
 
 -- memory was wanted after the steps
-pub does_want_after : {T : Type 0} (s : Steps T) (d : T → Due → Type 0) {x : T} {tells told_out : Type 0} {h0 h2 : Held} {f0 f2 : List StoreCall} {taken : List ℕ} {count : ℕ} {answer : Result Ended Fault}
-    → Takes s (record { tells = tells; held_before = h0; held_after = h2; faults_before = f0; faults_after = f2 }) (Ok x) → IsErrAnd answer (λ e. e ≡ fault.NoMemory)
+pub does_want_after : {T : Type 0} (s : Steps T) (d : T → Due → Type 0) {x : T} {tells told_out : Type 0} {h0 h2 : Held} {f0 f2 : List StoreCall} {taken : List ℕ} {count : ℕ} {answer : Result Ended Refusal}
+    → Takes s (record { tells = tells; held_before = h0; held_after = h2; faults_before = f0; faults_after = f2 }) (Ok x) → IsErrAnd answer (λ e. e ≡ (refusal.Fault fault.NoMemory))
     → Does (record { Found = T; steps = s; due = d }) (record { tells = tells; held_before = h0; held_after = h2; faults_before = f0; faults_after = f2 })
     (record { tells = told_out; taken_before = taken; taken_after = taken; faults_before = count; faults_after = count }) answer
 does_want_after {T = T} s d {x = x} {tells = tells} {told_out = told_out} {h0 = h0} {h2 = h2} {f0 = f0} {f2 = f2} {taken = taken} {count = count} {answer = answer} t e =
@@ -124,7 +125,7 @@ does_want_after {T = T} s d {x = x} {tells = tells} {told_out = told_out} {h0 = 
 found_due : {T : Type 0} (x : T) (d : T → Due → Type 0) (store : StoreSeen) (due : Due) → d x due → IsDue (record { Found = T; steps = gives (Ok x); due = d }) store due
 found_due x d store due is = record { found = x; steps = record { possible = refl; told = λ t. refl }; so = is }
 
-hand_fails : {T : Type 0} (cause : Cause) (x : T) (d : T → Due → Type 0) (ended : Ended) (text : List ℕ) (f : Fault) (tells : Type 0) (held : Held) (faults : List StoreCall) (out : SinkSeen)
+hand_fails : {T : Type 0} (cause : Cause) (x : T) (d : T → Due → Type 0) (ended : Ended) (text : List ℕ) (f : Refusal) (tells : Type 0) (held : Held) (faults : List StoreCall) (out : SinkSeen)
     → d x (prints ended text) → HandFails cause text out → FailsBy cause (record { Found = T; steps = gives (Ok x); due = d }) (from_to tells held held faults faults) out f
 hand_fails the_output x d ended text f tells held faults out is w = record {
   due = prints ended text;
@@ -141,7 +142,7 @@ hand_fails the_memory x d ended text f tells held faults out is w = record {
 }
 hand_fails cause x d ended text f tells held faults out is w = absurd w
 
-prints_so : {T : Type 0} (x : T) (d : T → Due → Type 0) (ended : Ended) (text : List ℕ) (answer : Result Ended Fault) (tells : Type 0) (held : Held) (faults : List StoreCall) (out : SinkSeen)
+prints_so : {T : Type 0} (x : T) (d : T → Due → Type 0) (ended : Ended) (text : List ℕ) (answer : Result Ended Refusal) (tells : Type 0) (held : Held) (faults : List StoreCall) (out : SinkSeen)
     → d x (prints ended text) → Hands ended text out answer
     → Answers (record { Found = T; steps = gives (Ok x); due = d }) (from_to tells held held faults faults) out answer
 prints_so x d ended text (Ok e) tells held faults out is w = record {
@@ -155,7 +156,7 @@ prints_so x d ended text (Ok e) tells held faults out is w = record {
 prints_so x d ended text (Err f) tells held faults out is w = hand_fails (cause_of f) x d ended text f tells held faults out is w
 
 -- a command ends with a text for `out`
-pub does_print : {T : Type 0} (s : Steps T) (d : T → Due → Type 0) {x : T} {ended : Ended} {text : List ℕ} {answer : Result Ended Fault} {tells : Type 0} {h0 h2 : Held} {f0 f2 : List StoreCall} {out : SinkSeen}
+pub does_print : {T : Type 0} (s : Steps T) (d : T → Due → Type 0) {x : T} {ended : Ended} {text : List ℕ} {answer : Result Ended Refusal} {tells : Type 0} {h0 h2 : Held} {f0 f2 : List StoreCall} {out : SinkSeen}
     → Takes s (record { tells = tells; held_before = h0; held_after = h2; faults_before = f0; faults_after = f2 }) (Ok x) → HandsOver ended text out answer → d x (prints ended text)
     → Does (record { Found = T; steps = s; due = d }) (record { tells = tells; held_before = h0; held_after = h2; faults_before = f0; faults_after = f2 }) out answer
 does_print {T = T} s d {x = x} {ended = ended} {text = text} {answer = answer} {tells = tells} {h0 = h0} {h2 = h2} {f0 = f0} {f2 = f2} {out = out} t w is =
@@ -165,23 +166,23 @@ does_print {T = T} s d {x = x} {ended = ended} {text = text} {answer = answer} {
     subst P (whole s) (does_go s (λ y. gives (Ok y)) d t here)
 
 -- memory was wanted for a text after the steps
-does_wanted : {T : Type 0} (s : Steps T) (d : T → Due → Type 0) {x : T} {store : StoreSeen} {out : SinkSeen} {answer : Result Ended Fault}
+does_wanted : {T : Type 0} (s : Steps T) (d : T → Due → Type 0) {x : T} {store : StoreSeen} {out : SinkSeen} {answer : Result Ended Refusal}
     → Takes s store (Ok x) → IsWanted out answer → Does (record { Found = T; steps = s; due = d }) store out answer
 does_wanted {T = T} s d {store = store} {out = out} {answer = answer} t w =
     let to : Script = record { Found = T; steps = s; due = d } in
-    let P : Result Ended Fault → Type 0 = λ r. Does to store out r in
+    let P : Result Ended Refusal → Type 0 = λ r. Does to store out r in
     let same = w.quiet.faults in
     subst P (sym w.wants) (record { answers = record { faults = t.goes.faults; counted = same; part = inl (t.held, w.quiet) }; later = omega arith })
 
 -- a command ends with a text for `out`, where there was the memory to make it
-pub does_lines : {T E : Type 0} (s : Steps T) (d : T → Due → Type 0) (P : List ℕ → Type 0) (lines : Result (List ℕ) E) {x : T} {answer : Result Ended Fault} {tells : Type 0} {h0 h2 : Held} {f0 f2 : List StoreCall} {out : SinkSeen}
+pub does_lines : {T E : Type 0} (s : Steps T) (d : T → Due → Type 0) (P : List ℕ → Type 0) (lines : Result (List ℕ) E) {x : T} {answer : Result Ended Refusal} {tells : Type 0} {h0 h2 : Held} {f0 f2 : List StoreCall} {out : SinkSeen}
     → Takes s (record { tells = tells; held_before = h0; held_after = h2; faults_before = f0; faults_after = f2 }) (Ok x) → ((text : List ℕ) → P text → d x (prints Done text)) → IfOk lines P
     → IfOk lines (λ text. HandsOver Done text out answer) → IfErr lines (λ e. IsWanted out answer)
     → Does (record { Found = T; steps = s; due = d }) (record { tells = tells; held_before = h0; held_after = h2; faults_before = f0; faults_after = f2 }) out answer
 does_lines s d P (Ok text) t is made printed wanted = does_print s d t printed (is text made)
 does_lines s d P (Err e) t is made printed wanted = does_wanted s d t wanted
 
-each_fails : {T : Type 0} (cause : Cause) (x : T) (d : T → Due → Type 0) (all : List Put) (f : Fault) (store : StoreSeen) (told_out : Type 0) (taken : List ℕ) (count : ℕ)
+each_fails : {T : Type 0} (cause : Cause) (x : T) (d : T → Due → Type 0) (all : List Put) (f : Refusal) (store : StoreSeen) (told_out : Type 0) (taken : List ℕ) (count : ℕ)
     → d x (puts all) → EachFails cause all store → FailsBy cause (record { Found = T; steps = gives (Ok x); due = d }) store (taken_from_to told_out taken taken count count) f
 each_fails (the_store name) x d all f store told_out taken count is w = record {
   call = w.0;
@@ -197,7 +198,7 @@ each_fails the_memory x d all f store told_out taken count is w = record {
 }
 each_fails cause x d all f store told_out taken count is w = absurd w
 
-puts_so : {T : Type 0} (x : T) (d : T → Due → Type 0) (all : List Put) (answer : Result Ended Fault) (store : StoreSeen) (told_out : Type 0) (taken : List ℕ) (count : ℕ)
+puts_so : {T : Type 0} (x : T) (d : T → Due → Type 0) (all : List Put) (answer : Result Ended Refusal) (store : StoreSeen) (told_out : Type 0) (taken : List ℕ) (count : ℕ)
     → d x (puts all) → PutsEach all store answer
     → Answers (record { Found = T; steps = gives (Ok x); due = d }) store (taken_from_to told_out taken taken count count) answer
 puts_so x d all (Ok e) store told_out taken count is w = record {
@@ -211,7 +212,7 @@ puts_so x d all (Ok e) store told_out taken count is w = record {
 puts_so x d all (Err f) store told_out taken count is w = each_fails (cause_of f) x d all f store told_out taken count is w
 
 -- a command ends with puts
-pub does_puts : {T : Type 0} (s : Steps T) (d : T → Due → Type 0) {x : T} {all : List Put} {answer : Result Ended Fault} {tells told_out : Type 0} {h0 h1 h2 : Held} {f0 f1 f2 : List StoreCall} {taken : List ℕ} {count : ℕ}
+pub does_puts : {T : Type 0} (s : Steps T) (d : T → Due → Type 0) {x : T} {all : List Put} {answer : Result Ended Refusal} {tells told_out : Type 0} {h0 h1 h2 : Held} {f0 f1 f2 : List StoreCall} {taken : List ℕ} {count : ℕ}
     → Takes s (record { tells = tells; held_before = h0; held_after = h1; faults_before = f0; faults_after = f1 }) (Ok x)
     → PutsAll all (record { tells = tells; held_before = h1; held_after = h2; faults_before = f1; faults_after = f2 }) answer → d x (puts all)
     → Does (record { Found = T; steps = s; due = d }) (record { tells = tells; held_before = h0; held_after = h2; faults_before = f0; faults_after = f2 })

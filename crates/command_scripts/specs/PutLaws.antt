@@ -1,9 +1,9 @@
 -- Laws of puts one after the other: the proofs of calls that put cite them.
 use Rattle.std.proofs.Common.{◌≡◌, ◌⊎◌, ◌≤◌, ◌<◌, ◌+◌, inl, inr, ◌++◌, ◌∷◌, ℕ, zero, suc, List, [], Result, Err, get_or, refl, sym, ap, subst, ◌∙◌, arith, take, length, add-one, Option, Some}
 use Rattle.std.specs.Prelude.{unwrap_or}
-use Rattle.link_base.specs.declared.fault.Fault.{Fault}
 use Rattle.link_outside.specs.Outside.{Held, held_with}
 use Rattle.link_outside.specs.declared.outside.StoreCall.{StoreCall}
+use Rattle.link_outside.specs.declared.refusal.Refusal.{Refusal}
 use Rattle.command_scripts.specs.Causes.{Cause, cause_of, the_memory, the_store}
 use Rattle.command_scripts.specs.Due.{a_put, after_puts, no_put, Put, put_of}
 use Rattle.command_scripts.specs.Seen.{StoreSeen}
@@ -48,7 +48,7 @@ fails_each the_memory all n put tells h0 h1 h2 f0 f1 f2 lt e same told_held v =
     (v.0 ∙ same, λ told. some_of all n h0 h2 lt (one_of all n h0 h1 h2 lt (told_held told) (subst Q (sym e) (v.1 told))))
 fails_each cause all n put tells h0 h1 h2 f0 f1 f2 lt e same told_held v = absurd v
 
-pub puts_stop : (all : List Put) (n : ℕ) (put : Put) (f : Fault) (tells : Type 0) (h0 h1 h2 : Held) (f0 f1 f2 : List StoreCall) → n < length all → get_or all n no_put ≡ put
+pub puts_stop : (all : List Put) (n : ℕ) (put : Put) (f : Refusal) (tells : Type 0) (h0 h1 h2 : Held) (f0 f1 f2 : List StoreCall) → n < length all → get_or all n no_put ≡ put
     → f1 ≡ f0 → (tells → h1 ≡ after_puts (take n all) h0)
     → PutsOne {T = Unit {0}} put (record { tells = tells; held_before = h1; held_after = h2; faults_before = f1; faults_after = f2 }) (Err f)
     → PutsEach all (record { tells = tells; held_before = h0; held_after = h2; faults_before = f0; faults_after = f2 }) (Err f)
@@ -67,5 +67,5 @@ pub journal_put : (name : List ℕ) (journal : Option (List ℕ)) (b bytes : Lis
 journal_put name journal b bytes of_name of_bytes = λ i. a_put (unwrap_or (of_name i) []) (of_bytes i) ∷ []
 
 -- puts that were made are these, where both are the same
-pub puts_as : {store : StoreSeen} {answer : Result Ended Fault} (all same : List Put) → all ≡ same → PutsAll all store answer → PutsAll same store answer
+pub puts_as : {store : StoreSeen} {answer : Result Ended Refusal} (all same : List Put) → all ≡ same → PutsAll all store answer → PutsAll same store answer
 puts_as {store = store} {answer = answer} all same e h = subst (λ (ps : List Put). PutsAll ps store answer) e h

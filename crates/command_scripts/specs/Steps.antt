@@ -1,5 +1,5 @@
 -- The steps of a command up to its end: loads one after the other, and what is computed of the loaded bytes. Every call
--- that goes through steps has the clause `Takes`.
+-- that goes through steps says so by `Takes`, in its clause `takes` or its lone clause.
 use Rattle.std.specs.Prelude.{◌≡◌, ◌⊎◌, ◌++◌, ◌∷◌, [], ℕ, List, Result, Ok, Err, IsOkAnd}
 use Rattle.link_base.specs.Answers.{and_then}
 use Rattle.link_base.specs.declared.fault.Fault.{Fault}
@@ -8,11 +8,13 @@ use Rattle.link_base.specs.declared.fault.FileRole.{FileRole}
 use Rattle.link_limits.specs.declared.TheConstants.{MOST_FILE_BYTES}
 use Rattle.link_outside.specs.Outside.{Held}
 use Rattle.link_outside.specs.declared.outside.StoreCall.{StoreCall}
+use Rattle.link_outside.specs.declared.refusal.Refusal.{Refusal}
+use Rattle.link_outside.specs.declared.refusal.Refusal.TheVariants as refusal
 use Rattle.command_scripts.specs.Causes.{Cause, cause_of, the_input, the_memory, the_output, the_store, the_words}
 use Rattle.command_scripts.specs.Seen.{StoreSeen}
 use Rattle.command_scripts.specs.Loads.{load_of, loaded}
 
--- a load of a name up to a limit, with the steps that its bytes lead to; or the end, with a value or a fault
+-- a load of a name up to a limit, with the steps that its bytes lead to; or the end, with a value or a fault of what was loaded
 pub data Steps (T : Type 0) : Type 0 where
   load : FileRole → ℕ → List ℕ → (List ℕ → Steps T) → Steps T
   gives : Result T Fault → Steps T
@@ -32,18 +34,23 @@ file_within limit r name = load r limit name (λ bytes. gives (Ok bytes))
 abbrev pub file : FileRole → List ℕ → Steps (List ℕ)
 file r name = file_within MOST_FILE_BYTES r name
 
+-- a result whose fault refuses a command
+abbrev pub refused_by : {T : Type 0} → Result T Fault → Result T Refusal
+refused_by (Ok x) = Ok x
+refused_by (Err f) = Err (refusal.Fault f)
+
 -- what the steps come to over what names hold: their value, or the first refusal
-abbrev pub outcome : {T : Type 0} → Steps T → Held → Result T Fault
+abbrev pub outcome : {T : Type 0} → Steps T → Held → Result T Refusal
 outcome (load r limit name step) held = and_then (loaded r limit name (held name)) (λ bytes. outcome (step bytes) held)
-outcome (gives result) held = result
+outcome (gives result) held = refused_by result
 
 -- what the steps come to for some loaded bytes
-abbrev pub Might : {T : Type 0} → Steps T → (Result T Fault → Type 0) → Type 0
-Might (load r limit name step) P = P (Err (fault.FileTooLong r limit)) ⊎ ((bytes : List ℕ) × Might (step bytes) P)
-Might (gives result) P = P result
+abbrev pub Might : {T : Type 0} → Steps T → (Result T Refusal → Type 0) → Type 0
+Might (load r limit name step) P = P (Err (refusal.Fault (fault.FileTooLong r limit))) ⊎ ((bytes : List ℕ) × Might (step bytes) P)
+Might (gives result) P = P (refused_by result)
 
 -- the steps come to a result: for some loaded bytes, and where the store tells, by what names hold
-pub record ComesTo {T : Type 0} (steps : Steps T) (store : StoreSeen) (result : Result T Fault) : Type 0 where
+pub record ComesTo {T : Type 0} (steps : Steps T) (store : StoreSeen) (result : Result T Refusal) : Type 0 where
   pub possible : Might steps (λ r. r ≡ result)
   pub told : store.tells → outcome steps store.held_before ≡ result
 
@@ -69,33 +76,33 @@ pub record LoadFails {T : Type 0} (steps : Steps T) (store : StoreSeen) (name : 
   pub reached : Reaches steps store (load_of name)
 
 -- the steps came to this with no call that failed
-pub record Came {T : Type 0} (steps : Steps T) (store : StoreSeen) (result : Result T Fault) : Type 0 where
+pub record Came {T : Type 0} (steps : Steps T) (store : StoreSeen) (result : Result T Refusal) : Type 0 where
   pub to : ComesTo steps store result
   pub faults : store.faults_after ≡ store.faults_before
 
 -- the steps end at a fault: a load failed, memory was wanted, or the steps come to that fault
-abbrev pub StopsBy : {T : Type 0} → Cause → Steps T → StoreSeen → Fault → Type 0
+abbrev pub StopsBy : {T : Type 0} → Cause → Steps T → StoreSeen → Refusal → Type 0
 StopsBy the_words steps store f = ⊥
 StopsBy (the_store name) steps store f = LoadFails steps store name
 StopsBy the_output steps store f = ⊥
 StopsBy the_memory steps store f = store.faults_after ≡ store.faults_before
 StopsBy the_input steps store f = Came steps store (Err f)
 
-abbrev pub Goes : {T : Type 0} → Steps T → StoreSeen → Result T Fault → Type 0
+abbrev pub Goes : {T : Type 0} → Steps T → StoreSeen → Result T Refusal → Type 0
 Goes steps store (Ok x) = Came steps store (Ok x)
 Goes steps store (Err f) = StopsBy (cause_of f) steps store f
 
 -- a result, its value seen by a view
-abbrev pub seen_by : {X T : Type 0} → (X → T) → Result X Fault → Result T Fault
+abbrev pub seen_by : {X T : Type 0} → (X → T) → Result X Refusal → Result T Refusal
 seen_by view (Ok x) = Ok (view x)
 seen_by view (Err f) = Err f
 
 -- a call goes through these steps, and gives what they come to; no name holds anything else than it did
-pub record Takes {T : Type 0} (steps : Steps T) (store : StoreSeen) (result : Result T Fault) : Type 0 where
+pub record Takes {T : Type 0} (steps : Steps T) (store : StoreSeen) (result : Result T Refusal) : Type 0 where
   pub goes : Goes steps store result
   pub held : store.held_after ≡ store.held_before
 
 -- a call goes through these steps and makes something of which this holds; or memory was wanted, or it ends at a fault of the steps
-abbrev pub Makes : {T X : Type 0} → Steps T → (T → X → Type 0) → StoreSeen → Result X Fault → Type 0
+abbrev pub Makes : {T X : Type 0} → Steps T → (T → X → Type 0) → StoreSeen → Result X Refusal → Type 0
 Makes {T = T} steps P store (Ok made) = (x : T) × Takes steps store (Ok x) × P x made
 Makes steps P store (Err f) = Takes steps store (Err f)

@@ -6,7 +6,7 @@ ghost use Rattle.command_scripts.specs.declared.ends.Ended.TheVariants.{Done};
 ghost use Rattle.command_scripts.specs.Ways.{HandsOver, IsWanted, PutsAll, PutsOne};
 
 use link_base::{Fault, NoMemory, Text};
-use link_outside::{Sink, SinkError, Store, StoreError};
+use link_outside::{Refusal, Sink, SinkError, Store, StoreError};
 use std::alloc::Global;
 
 /// How a command ended that was not refused.
@@ -26,13 +26,13 @@ pub struct Output<'n, 'b> {
 }
 
 /// Hands bytes to `out`.
-pub fn print<O: Sink>(alloc: Global, ended: Ended, text: &[u8], out: &mut O) -> Result<Ended, Fault>
+pub fn print<O: Sink>(alloc: Global, ended: Ended, text: &[u8], out: &mut O) -> Result<Ended, Refusal>
     ensures { HandsOver ended text.now (sink_seen O.tells O.taken O.faults out.old out.new) result }
 {
     match out.put_all(alloc, text) {
         Ok(()) => Ok(ended),
-        Err(SinkError::Failed) => Err(Fault::SinkFault),
-        Err(SinkError::NoMemory) => Err(Fault::NoMemory),
+        Err(SinkError::Failed) => Err(Refusal::Output),
+        Err(SinkError::NoMemory) => Err(Refusal::Fault(Fault::NoMemory)),
     }
 }
 
@@ -42,7 +42,7 @@ pub fn print_text<O: Sink>(
     ended: Ended,
     text: Text,
     out: &mut O,
-) -> Result<Ended, Fault>
+) -> Result<Ended, Refusal>
     ensures { HandsOver ended text (sink_seen O.tells O.taken O.faults out.old out.new) result }
 {
     let printed = print(alloc, ended, text.bytes(), out);
@@ -55,18 +55,18 @@ pub fn print_lines<O: Sink>(
     alloc: Global,
     lines: Result<Text, NoMemory>,
     out: &mut O,
-) -> Result<Ended, Fault>
+) -> Result<Ended, Refusal>
     ensures printed { IfOk lines (λ text. HandsOver Done text (sink_seen O.tells O.taken O.faults out.old out.new) result) }
     ensures wanted { IfErr lines (λ e. IsWanted (sink_seen O.tells O.taken O.faults out.old out.new) result) }
 {
     match lines {
         Ok(text) => print_text(alloc, Ended::Done, text, out),
-        Err(NoMemory) => Err(Fault::NoMemory),
+        Err(NoMemory) => Err(Refusal::Fault(Fault::NoMemory)),
     }
 }
 
 // Puts bytes under a name. A failure of the store is refused under the name.
-fn put_one<S: Store>(alloc: Global, output: &Output<'_, '_>, store: &mut S) -> Result<(), Fault>
+fn put_one<S: Store>(alloc: Global, output: &Output<'_, '_>, store: &mut S) -> Result<(), Refusal>
     ensures { PutsOne (put_in output.now) (store_seen S.tells S.held S.faults store.old store.new) result }
 {
     let failed = Text::new(alloc, output.name.as_bytes())?;
@@ -75,10 +75,10 @@ fn put_one<S: Store>(alloc: Global, output: &Output<'_, '_>, store: &mut S) -> R
             drop(failed);
             Ok(())
         }
-        Err(StoreError::Failed) => Err(Fault::StoreFault { name: failed }),
+        Err(StoreError::Failed) => Err(Refusal::Store { name: failed }),
         Err(StoreError::NoMemory) => {
             drop(failed);
-            Err(Fault::NoMemory)
+            Err(Refusal::Fault(Fault::NoMemory))
         }
     }
 }
@@ -88,7 +88,7 @@ pub fn put_each<S: Store>(
     alloc: Global,
     outputs: &[Output<'_, '_>],
     store: &mut S,
-) -> Result<Ended, Fault>
+) -> Result<Ended, Refusal>
     ensures { PutsAll (puts_in outputs.now) (store_seen S.tells S.held S.faults store.old store.new) result }
 {
     for output in outputs {

@@ -7,7 +7,7 @@ ghost use Rattle.link_limits.specs.declared.TheConstants.{MOST_WRITTEN_BYTES};
 
 use link_base::{Fault, FileRole, Text};
 use link_limits::{MOST_FILE_BYTES, MOST_WRITTEN_BYTES};
-use link_outside::{Load, Store, StoreError};
+use link_outside::{Load, Refusal, Store, StoreError};
 use std::alloc::Global;
 
 /// Loads all that a name holds. A file of more bytes than the limit is refused as too long,
@@ -18,7 +18,7 @@ pub fn load_whole<S: Store>(
     name: &str,
     role: FileRole,
     limit: u64,
-) -> Result<Text, Fault>
+) -> Result<Text, Refusal>
     requires { limit + 1 < 2 ^ 64 }
     ensures within { IfOk result (λ text. length text ≤ limit) }
     ensures kind { IfErr result (IsLoadFault role limit name.now) }
@@ -34,12 +34,12 @@ pub fn load_whole<S: Store>(
         }
         Ok(Load::Over(_)) => {
             drop(failed);
-            Err(Fault::FileTooLong { role, limit })
+            Err(Refusal::Fault(Fault::FileTooLong { role, limit }))
         }
-        Err(StoreError::Failed) => Err(Fault::StoreFault { name: failed }),
+        Err(StoreError::Failed) => Err(Refusal::Store { name: failed }),
         Err(StoreError::NoMemory) => {
             drop(failed);
-            Err(Fault::NoMemory)
+            Err(Refusal::Fault(Fault::NoMemory))
         }
     }
 }
@@ -50,7 +50,7 @@ pub fn load_written<S: Store>(
     store: &mut S,
     name: &str,
     role: FileRole,
-) -> Result<Text, Fault>
+) -> Result<Text, Refusal>
     ensures takes { Takes (file_within MOST_WRITTEN_BYTES role name.now) (store_seen S.tells S.held S.faults store.old store.new) result }
     ensures within { IfOk result (λ text. length text ≤ MOST_WRITTEN_BYTES) }
 {
@@ -63,7 +63,7 @@ pub fn load_file<S: Store>(
     store: &mut S,
     name: &str,
     role: FileRole,
-) -> Result<Text, Fault>
+) -> Result<Text, Refusal>
     ensures { Takes (file role name.now) (store_seen S.tells S.held S.faults store.old store.new) result }
 {
     load_whole(alloc, store, name, role, MOST_FILE_BYTES)

@@ -1,5 +1,5 @@
--- What several commands load at their front, first steps of their scripts: the clause `Takes` of `load_both`, `load_plan`, `load_prepared`,
--- `load_described` and `load_shared`.
+-- What several commands load at their front, first steps of their scripts: `load_both`, `load_plan`, `load_prepared`, `load_described` and
+-- `load_shared` go through them (their clauses by `Takes`).
 use Rattle.std.specs.Prelude.{ℕ, List, Option, Some, None, Ok}
 use Rattle.link_base.specs.declared.fault.FileRole.TheVariants as role
 use Rattle.settings.specs.Settings.{settings}

@@ -1,5 +1,5 @@
 -- What several commands find of a plan that clerical review goes on with, the decisions of its rule and its journal, first steps of their
--- scripts: the clause `Takes` of `load_decisions`, `load_journal`, `load_reviewed`, `load_reviewed_settings` and `load_journal_plan`.
+-- scripts: `load_decisions`, `load_journal`, `load_reviewed`, `load_reviewed_settings` and `load_journal_plan` go through them (`Takes`).
 use Rattle.std.specs.Prelude.{◌≡◌, ℕ, List, [], Bool, true, codes, is_some, unwrap_or, Option, Some, None, Result, Ok, Err, if◌then◌else◌}
 use Rattle.link_base.specs.declared.fault.Fault.{Fault}
 use Rattle.link_base.specs.declared.fault.Fault.TheVariants as fault

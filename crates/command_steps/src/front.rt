@@ -1,21 +1,20 @@
 // What several commands load at their front.
-ghost use Rattle.std.specs.Prelude.{◌≡◌, IfErr, IfOk, IsUtf8, None, Ok, Some};
+ghost use Rattle.std.specs.Prelude.{◌≡◌, IfOk, IsUtf8, Some};
 ghost use Rattle.command_steps.specs.Front.{both_files, described_files, described_of, plan_file, prepared_files, shared_plan, shares_of, shares_over};
 ghost use Rattle.command_scripts.specs.Seen.{store_seen};
 ghost use Rattle.command_scripts.specs.Steps.{seen_by, Takes};
-ghost use Rattle.link_base.specs.Fault.{Gives, IsAnswer, IsInputFault};
+ghost use Rattle.link_base.specs.Fault.{Gives};
 ghost use Rattle.link_core.specs.Prepared.{files_of, prepared};
 ghost use Rattle.link_core.specs.Rules.{IsPreparedFor, shared_rares};
 ghost use Rattle.link_limits.specs.declared.TheConstants.{MOST_DISTINCT_BYTES};
 ghost use Rattle.pair_decisions.specs.Comparators.{rares_of};
-ghost use Rattle.pair_decisions.specs.PlanShares.{given_in};
 ghost use Rattle.link_plan.specs.Ranges.{KeepsRanges, NamesFiles};
 
 use command_scripts::load_file;
-use link_base::{Fault, FileRole, NoMemory, Text};
+use link_base::{Fault, FileRole, Text};
 use link_core::{PlanShares, Prepared, counted, prepare, prepare_texts};
 use link_limits::MOST_DISTINCT_BYTES;
-use link_outside::Store;
+use link_outside::{Refusal, Store};
 use link_plan::Plan;
 use settings::read_settings;
 use std::alloc::Global;
@@ -33,21 +32,21 @@ pub fn load_both<S: Store>(
     store: &mut S,
     name_a: &str,
     name_b: &str,
-) -> Result<Inputs, Fault>
+) -> Result<Inputs, Refusal>
     ensures { Takes (both_files name_a.now name_b.now) (store_seen S.tells S.held S.faults store.old store.new) result }
 {
     let a = load_file(alloc, store, name_a, FileRole::A)?;
     match load_file(alloc, store, name_b, FileRole::B) {
         Ok(b) => Ok(Inputs { a, b }),
-        Err(fault) => {
+        Err(refusal) => {
             drop(a);
-            Err(fault)
+            Err(refusal)
         }
     }
 }
 
 /// Loads a settings file and reads its plan.
-pub fn load_plan<S: Store>(alloc: Global, store: &mut S, name: &str) -> Result<Plan, Fault>
+pub fn load_plan<S: Store>(alloc: Global, store: &mut S, name: &str) -> Result<Plan, Refusal>
     ensures takes { Takes (plan_file name.now) (store_seen S.tells S.held S.faults store.old store.new) result }
     ensures ranges { IfOk result KeepsRanges }
     ensures files { IfOk result NamesFiles }
@@ -55,7 +54,7 @@ pub fn load_plan<S: Store>(alloc: Global, store: &mut S, name: &str) -> Result<P
     let bytes = load_file(alloc, store, name, FileRole::Settings)?;
     let plan = read_settings(alloc, bytes.bytes());
     drop(bytes);
-    plan
+    Ok(plan?)
 }
 
 /// The name of a file, which is UTF-8.
@@ -70,7 +69,7 @@ pub fn file_name(name: &Text) -> &str
 }
 
 // Loads the two files of a plan.
-fn load_files<S: Store>(alloc: Global, store: &mut S, plan: &Plan) -> Result<Inputs, Fault>
+fn load_files<S: Store>(alloc: Global, store: &mut S, plan: &Plan) -> Result<Inputs, Refusal>
     requires { NamesFiles plan.now }
     ensures { Takes (both_files plan.now.file_a plan.now.file_b) (store_seen S.tells S.held S.faults store.old store.new) result }
 {
@@ -85,7 +84,6 @@ fn load_files<S: Store>(alloc: Global, store: &mut S, plan: &Plan) -> Result<Inp
 /// Makes two files of a plan ready to be compared.
 pub fn prepare_files(alloc: Global, plan: &Plan, a: &[u8], b: &[u8]) -> Result<Prepared, Fault>
     requires { KeepsRanges plan.now }
-    ensures kind { IfErr result IsInputFault }
     ensures answer { Gives files_of (prepared plan.now MOST_DISTINCT_BYTES a.now b.now) result }
     ensures ready { IfOk result (IsPreparedFor plan.now) }
 {
@@ -93,14 +91,19 @@ pub fn prepare_files(alloc: Global, plan: &Plan, a: &[u8], b: &[u8]) -> Result<P
 }
 
 /// Loads the two files of a plan, and makes them ready to be compared.
-pub fn load_prepared<S: Store>(alloc: Global, store: &mut S, plan: &Plan) -> Result<Prepared, Fault>
+pub fn load_prepared<S: Store>(
+    alloc: Global,
+    store: &mut S,
+    plan: &Plan,
+) -> Result<Prepared, Refusal>
     requires ranges { KeepsRanges plan.now }
     requires files { NamesFiles plan.now }
     ensures takes { Takes (prepared_files plan.now) (store_seen S.tells S.held S.faults store.old store.new) (seen_by files_of result) }
     ensures ready { IfOk result (IsPreparedFor plan.now) }
 {
     let inputs = load_files(alloc, store, plan)?;
-    prepare_texts(alloc, plan, inputs.a, inputs.b, MOST_DISTINCT_BYTES)
+    let files = prepare_texts(alloc, plan, inputs.a, inputs.b, MOST_DISTINCT_BYTES)?;
+    Ok(files)
 }
 
 /// The plan of a settings file, and the two files that it names, ready to be compared.
@@ -115,16 +118,16 @@ pub fn load_described<S: Store>(
     alloc: Global,
     store: &mut S,
     name: &str,
-) -> Result<Described, Fault>
+) -> Result<Described, Refusal>
     ensures takes { Takes (described_files name.now) (store_seen S.tells S.held S.faults store.old store.new) (seen_by described_of result) }
     ensures ready { IfOk result (λ d. IsPreparedFor d.plan d.files) }
 {
     let plan = load_plan(alloc, store, name)?;
     match load_prepared(alloc, store, &plan) {
         Ok(files) => Ok(Described { plan, files }),
-        Err(fault) => {
+        Err(refusal) => {
             drop(plan);
-            Err(fault)
+            Err(refusal)
         }
     }
 }
@@ -136,7 +139,7 @@ fn count_named<S: Store>(
     plan: &Plan,
     files: &Prepared,
     name: &str,
-) -> Result<PlanShares, Fault>
+) -> Result<PlanShares, Refusal>
     requires ranges { KeepsRanges plan.now }
     requires ready { IsPreparedFor plan.now files.now }
     ensures takes { Takes (shares_over plan.now files.now.files (Some name.now)) (store_seen S.tells S.held S.faults store.old store.new) result }
@@ -145,7 +148,7 @@ fn count_named<S: Store>(
     let sample = load_file(alloc, store, name, FileRole::Sample)?;
     let shares = counted(alloc, plan, files, sample.bytes());
     drop(sample);
-    shares
+    Ok(shares?)
 }
 
 // Counts the sample of a plan, which has this name, over the two files of the plan.
@@ -154,7 +157,7 @@ fn count_loaded<S: Store>(
     store: &mut S,
     plan: &Plan,
     name: &str,
-) -> Result<PlanShares, Fault>
+) -> Result<PlanShares, Refusal>
     requires ranges { KeepsRanges plan.now }
     requires files { NamesFiles plan.now }
     ensures takes { Takes (shares_of plan.now (Some name.now)) (store_seen S.tells S.held S.faults store.old store.new) result }
@@ -166,22 +169,8 @@ fn count_loaded<S: Store>(
     shares
 }
 
-// Loads no file: the shares are those of the settings.
-fn shares_given(alloc: Global, plan: &Plan) -> Result<PlanShares, Fault>
-    requires ranges { KeepsRanges plan.now }
-    requires no_sample { plan.now.sample ≡ None }
-    ensures kind { IfErr result IsInputFault }
-    ensures answer { IsAnswer (Ok (given_in plan.now.fields)) result }
-    ensures rares { IfOk result (λ shares. shared_rares shares ≡ rares_of plan.now.fields) }
-{
-    match PlanShares::given(alloc, plan) {
-        Ok(shares) => Ok(shares),
-        Err(NoMemory) => Err(Fault::NoMemory),
-    }
-}
-
 // The shares of a plan's fields; only for a sample are its files loaded.
-fn load_shares<S: Store>(alloc: Global, store: &mut S, plan: &Plan) -> Result<PlanShares, Fault>
+fn load_shares<S: Store>(alloc: Global, store: &mut S, plan: &Plan) -> Result<PlanShares, Refusal>
     requires ranges { KeepsRanges plan.now }
     requires files { NamesFiles plan.now }
     ensures takes { Takes (shares_of plan.now plan.now.sample) (store_seen S.tells S.held S.faults store.old store.new) result }
@@ -189,7 +178,7 @@ fn load_shares<S: Store>(alloc: Global, store: &mut S, plan: &Plan) -> Result<Pl
 {
     match &plan.sample {
         Some(name) => count_loaded(alloc, store, plan, file_name(name)),
-        None => shares_given(alloc, plan),
+        None => Ok(PlanShares::given(alloc, plan)?),
     }
 }
 
@@ -199,7 +188,7 @@ pub(crate) fn load_shares_over<S: Store>(
     store: &mut S,
     plan: &Plan,
     files: &Prepared,
-) -> Result<PlanShares, Fault>
+) -> Result<PlanShares, Refusal>
     requires ranges { KeepsRanges plan.now }
     requires names { NamesFiles plan.now }
     requires ready { IsPreparedFor plan.now files.now }
@@ -208,7 +197,7 @@ pub(crate) fn load_shares_over<S: Store>(
 {
     match &plan.sample {
         Some(name) => count_named(alloc, store, plan, files, file_name(name)),
-        None => shares_given(alloc, plan),
+        None => Ok(PlanShares::given(alloc, plan)?),
     }
 }
 
@@ -220,7 +209,7 @@ pub struct Shared {
 }
 
 /// Loads a settings file, and finds the shares of its fields.
-pub fn load_shared<S: Store>(alloc: Global, store: &mut S, name: &str) -> Result<Shared, Fault>
+pub fn load_shared<S: Store>(alloc: Global, store: &mut S, name: &str) -> Result<Shared, Refusal>
     ensures takes { Takes (shared_plan name.now) (store_seen S.tells S.held S.faults store.old store.new) result }
     ensures ranges { IfOk result (λ s. KeepsRanges s.plan) }
     ensures rares { IfOk result (λ s. shared_rares s.shares ≡ rares_of s.plan.fields) }
@@ -228,9 +217,9 @@ pub fn load_shared<S: Store>(alloc: Global, store: &mut S, name: &str) -> Result
     let plan = load_plan(alloc, store, name)?;
     match load_shares(alloc, store, &plan) {
         Ok(shares) => Ok(Shared { plan, shares }),
-        Err(fault) => {
+        Err(refusal) => {
             drop(plan);
-            Err(fault)
+            Err(refusal)
         }
     }
 }

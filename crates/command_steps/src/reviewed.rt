@@ -4,7 +4,7 @@ ghost use Rattle.command_steps.specs.Reviewed.{decided_plan, found_of, IsDecided
 ghost use Rattle.command_scripts.specs.Seen.{store_seen};
 ghost use Rattle.command_scripts.specs.Steps.{seen_by, Takes};
 ghost use Rattle.command_scripts.specs.Ways.{PutsAll};
-ghost use Rattle.link_base.specs.Fault.{IsInputFault, Refuses};
+ghost use Rattle.link_base.specs.Fault.{Refuses};
 ghost use Rattle.link_base.specs.declared.fault.Fault.TheVariants as fault;
 ghost use Rattle.link_core.specs.Results.{KeepsRows};
 ghost use Rattle.link_core.specs.Review.{IsJournalOf};
@@ -16,7 +16,7 @@ use crate::front::{file_name, load_plan, load_prepared, load_shares_over};
 use command_scripts::{Ended, Output, load_file, put_each};
 use link_base::{Fault, FileRole, NoMemory, Text};
 use link_core::{Decided, PlanShares, Prepared, decide_all, journal_in_files};
-use link_outside::Store;
+use link_outside::{Refusal, Store};
 use link_plan::Plan;
 use review_journal::Journal;
 use std::alloc::Global;
@@ -50,14 +50,14 @@ fn load_named<S: Store>(
     store: &mut S,
     files: &Prepared,
     name: &str,
-) -> Result<Journal, Fault>
+) -> Result<Journal, Refusal>
     ensures takes { Takes (journal_file files.now.files (Some name.now)) (store_seen S.tells S.held S.faults store.old store.new) result }
     ensures of_files { IfOk result (IsJournalOf files.now.files) }
 {
     let bytes = load_file(alloc, store, name, FileRole::Journal)?;
     let journal = journal_in_files(alloc, files, bytes.bytes());
     drop(bytes);
-    journal
+    Ok(journal?)
 }
 
 /// Loads the journal that a plan names, over its prepared files.
@@ -66,7 +66,7 @@ pub fn load_journal<S: Store>(
     store: &mut S,
     plan: &Plan,
     files: &Prepared,
-) -> Result<Journal, Fault>
+) -> Result<Journal, Refusal>
     requires names { NamesFiles plan.now }
     ensures takes { Takes (journal_file files.now.files plan.now.journal) (store_seen S.tells S.held S.faults store.old store.new) result }
     ensures of_files { IfOk result (IsJournalOf files.now.files) }
@@ -85,7 +85,7 @@ pub fn load_decisions<S: Store>(
     plan: &Plan,
     files: &Prepared,
     with_rows: bool,
-) -> Result<DecidedPlan, Fault>
+) -> Result<DecidedPlan, Refusal>
     requires ranges { KeepsRanges plan.now }
     requires names { NamesFiles plan.now }
     requires ready { IsPreparedFor plan.now files.now }
@@ -97,7 +97,7 @@ pub fn load_decisions<S: Store>(
         Ok(decided) => Ok(DecidedPlan { shares, decided }),
         Err(fault) => {
             drop(shares);
-            Err(fault)
+            Err(Refusal::Fault(fault))
         }
     }
 }
@@ -108,7 +108,7 @@ pub fn load_reviewed<S: Store>(
     store: &mut S,
     plan: &Plan,
     with_rows: bool,
-) -> Result<Reviewed, Fault>
+) -> Result<Reviewed, Refusal>
     requires ranges { KeepsRanges plan.now }
     requires names { NamesFiles plan.now }
     ensures takes { Takes (reviewed_plan plan.now) (store_seen S.tells S.held S.faults store.old store.new) (seen_by review_of result) }
@@ -117,9 +117,9 @@ pub fn load_reviewed<S: Store>(
     let files = load_prepared(alloc, store, plan)?;
     let found = match load_decisions(alloc, store, plan, &files, with_rows) {
         Ok(found) => found,
-        Err(fault) => {
+        Err(refusal) => {
             drop(files);
-            return Err(fault);
+            return Err(refusal);
         }
     };
     match load_journal(alloc, store, plan, &files) {
@@ -129,10 +129,10 @@ pub fn load_reviewed<S: Store>(
             decided: found.decided,
             journal,
         }),
-        Err(fault) => {
+        Err(refusal) => {
             drop(found);
             drop(files);
-            Err(fault)
+            Err(refusal)
         }
     }
 }
@@ -143,7 +143,7 @@ pub fn load_reviewed_settings<S: Store>(
     store: &mut S,
     name: &str,
     with_rows: bool,
-) -> Result<ReviewedSettings, Fault>
+) -> Result<ReviewedSettings, Refusal>
     ensures takes { Takes (reviewed_settings name.now) (store_seen S.tells S.held S.faults store.old store.new) (seen_by found_of result) }
     ensures found { IfOk result IsReviewed }
     ensures rows { IfOk result (λ s. with_rows ≡ true → KeepsRows s.plan s.reviewed.files s.reviewed.decided) }
@@ -151,16 +151,15 @@ pub fn load_reviewed_settings<S: Store>(
     let plan = load_plan(alloc, store, name)?;
     match load_reviewed(alloc, store, &plan, with_rows) {
         Ok(reviewed) => Ok(ReviewedSettings { plan, reviewed }),
-        Err(fault) => {
+        Err(refusal) => {
             drop(plan);
-            Err(fault)
+            Err(refusal)
         }
     }
 }
 
 // The fault of a plan that must name a journal, and names none.
 fn missing_journal(alloc: Global) -> Fault
-    ensures kind { IsInputFault result }
     ensures answer { Refuses {T = AnyPlan} (Err (fault.MissingKey (codes "journal"))) result }
 {
     match Text::new(alloc, b"journal") {
@@ -170,7 +169,7 @@ fn missing_journal(alloc: Global) -> Fault
 }
 
 /// Loads a settings file and reads its plan, which must name a journal.
-pub fn load_journal_plan<S: Store>(alloc: Global, store: &mut S, name: &str) -> Result<Plan, Fault>
+pub fn load_journal_plan<S: Store>(alloc: Global, store: &mut S, name: &str) -> Result<Plan, Refusal>
     ensures takes { Takes (journal_plan name.now) (store_seen S.tells S.held S.faults store.old store.new) result }
     ensures ranges { IfOk result KeepsRanges }
     ensures files { IfOk result NamesFiles }
@@ -181,7 +180,7 @@ pub fn load_journal_plan<S: Store>(alloc: Global, store: &mut S, name: &str) -> 
         return Ok(plan);
     }
     drop(plan);
-    Err(missing_journal(alloc))
+    Err(Refusal::Fault(missing_journal(alloc)))
 }
 
 // The name of the journal of a plan that has one.
@@ -202,7 +201,7 @@ pub fn put_journal<S: Store>(
     plan: &Plan,
     text: &Text,
     store: &mut S,
-) -> Result<Ended, Fault>
+) -> Result<Ended, Refusal>
     requires named { IsSome plan.now.journal }
     requires names { NamesFiles plan.now }
     ensures { PutsAll (put_of_journal plan.now text.now ∷ []) (store_seen S.tells S.held S.faults store.old store.new) result }

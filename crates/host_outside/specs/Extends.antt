@@ -1,4 +1,4 @@
--- Lists that only grow.
+-- Lists that only grow: the files and folders that a store of the host keeps (clauses of `HostFiles` and `LockedFolders`).
 use Rattle.std.specs.Prelude.{◌≡◌, ◌++◌, List}
 
 -- all of the old stay, in front of what is new

@@ -1,4 +1,5 @@
--- Names of the host, as POSIX has them (IEEE 1003.1, 4.13 Pathname Resolution): the folder of a name, and where links lead.
+-- Names of the host, as POSIX has them (IEEE 1003.1, 4.13 Pathname Resolution): the folder of a name, and where links lead
+-- (`folder_of`, `led_to` of `places.rt`).
 use Rattle.std.specs.Prelude.{◌++◌, ◌∷◌, [], ◌==◌, ℕ, List, Option, None, Some, length, slice_index, if◌then◌else◌}
 use Rattle.std.specs.Path.{slash, dot, rsplit_once}
 

@@ -1,6 +1,6 @@
 // A store and a sink in memory of which no call fails; the worked inputs run over those whose planned calls do.
 use link_base::Fault;
-use link_outside::{Store, SureSink, SureStore, write_fault};
+use link_outside::{Refusal, Store, SureSink, SureStore, write_refusal};
 use std::test::Fail;
 
 #[test]
@@ -12,7 +12,8 @@ fn every_name_is_held_and_a_line_is_taken_where_nothing_fails(rt: HostRuntime) -
     assert!(rt; store.load(alloc, "z", 0).is_ok());
     drop(store);
     let mut sure = SureSink::new(alloc)?;
-    assert!(rt; write_fault(alloc, &Fault::TooManyPairs { limit: 2 }, &mut sure).is_ok());
+    let refusal = Refusal::Fault(Fault::TooManyPairs { limit: 2 });
+    assert!(rt; write_refusal(alloc, &refusal, &mut sure).is_ok());
     assert!(rt; sure.bytes() == b"linkage: pairs: more than 2\n".as_slice());
     Ok(())
 }

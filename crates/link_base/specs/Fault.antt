@@ -8,7 +8,6 @@ use Rattle.link_base.specs.declared.fault.FileRole.TheVariants as role
 
 -- the exit status of a fault
 abbrev pub fault_status : Fault → ℕ
-fault_status fault.Usage = 2
 fault_status fault.NotToml = 3
 fault_status (fault.UnknownKey key) = 3
 fault_status (fault.MissingKey key) = 3
@@ -42,8 +41,6 @@ fault_status (fault.PoolFull used limit) = 5
 fault_status (fault.TooManyPairs limit) = 5
 fault_status (fault.TooManyEntries limit) = 5
 fault_status (fault.FileTooLong r limit) = 5
-fault_status (fault.StoreFault name) = 6
-fault_status fault.SinkFault = 7
 fault_status fault.NoMemory = 8
 
 -- a file, as the line of a fault names it
@@ -65,7 +62,6 @@ row_name file row = file ++ codes ": row " ++ decimal row ++ codes ": "
 
 -- the text of a fault
 abbrev pub fault_text : Fault → List ℕ
-fault_text fault.Usage = codes "usage"
 fault_text fault.NotToml = codes "settings: not TOML"
 fault_text (fault.UnknownKey key) = codes "settings: unknown key " ++ key
 fault_text (fault.MissingKey key) = codes "settings: missing key " ++ key
@@ -100,13 +96,7 @@ fault_text (fault.BadCapacity row) = row_name (codes "capacities") row ++ codes 
 fault_text (fault.TooManyEntries limit) = codes "journal: more than " ++ decimal limit ++ codes " entries"
 fault_text (fault.NotPossible row) = row_name (codes "verdicts") row ++ codes "not a possible pair"
 fault_text (fault.FileTooLong r limit) = role_name r ++ codes ": more than " ++ decimal limit ++ codes " bytes"
-fault_text (fault.StoreFault name) = codes "store: " ++ name
-fault_text fault.SinkFault = codes "output"
 fault_text fault.NoMemory = codes "want of memory"
-
--- the line of a fault
-abbrev pub fault_line : Fault → List ℕ
-fault_line f = codes "linkage: " ++ fault_text f ++ codes "\n"
 
 -- the first of two faults, where there is one
 abbrev pub or_else : Option Fault → Option Fault → Option Fault
@@ -129,10 +119,3 @@ Gives view expected result = GivesBut is_want view expected result
 -- an answer is the one that is defined, but for want of memory
 abbrev pub IsAnswer : {T : Type 0} → Result T Fault → Result T Fault → Type 0
 IsAnswer expected result = Gives (λ x. x) expected result
-
--- a fault of the input's bytes or of a limit, or want of memory: neither of the words nor of the outside
-abbrev pub IsInputFault : Fault → Type 0
-IsInputFault fault.Usage = ⊥
-IsInputFault (fault.StoreFault name) = ⊥
-IsInputFault fault.SinkFault = ⊥
-IsInputFault f = ⊤

@@ -1,4 +1,4 @@
-// The faults of a run, with their statuses.
+// The faults of inputs and limits, with their statuses.
 ghost use Rattle.std.specs.Prelude.{◌≡◌, ◌++◌, OnOk};
 ghost use Rattle.link_base.specs.Fault.{fault_status, fault_text};
 ghost use Rattle.link_base.specs.Pieces.{pieces_text};
@@ -30,11 +30,10 @@ pub enum FileRole {
     Capacities,
 }
 
-/// Why a command was refused. Rows are numbered from 1 after the header; `first` is the earlier row.
+/// What is wrong with the bytes of an input, which limit is passed, or that memory is wanted. Rows are numbered from 1 after the
+/// header; `first` is the earlier row.
 #[derive(Drop)]
 pub enum Fault {
-    /// The words are no form of a command.
-    Usage,
     NotToml,
     UnknownKey {
         key: Text,
@@ -155,12 +154,6 @@ pub enum Fault {
         role: FileRole,
         limit: u64,
     },
-    /// A load or put of this name failed.
-    StoreFault {
-        name: Text,
-    },
-    /// The output did not take what it was handed.
-    SinkFault,
     NoMemory,
 }
 
@@ -197,13 +190,12 @@ impl<T: Drop> From<AllocFailed<T>> for Fault {
     }
 }
 
-/// The exit status of a command that ends with a fault: 2 for the words, 3 for the settings, 4 for a
-/// row or file of the input, 5 for a limit, 6 for the store, 7 for the output, 8 for want of memory.
+/// The exit status of a command that ends with a fault: 3 for the settings, 4 for a row or file of the input, 5 for a limit,
+/// 8 for want of memory.
 pub fn status_of(fault: &Fault) -> u8
     ensures { result ≡ fault_status fault.now }
 {
     match fault {
-        Fault::Usage => 2,
         Fault::NotToml
         | Fault::UnknownKey { .. }
         | Fault::MissingKey { .. }
@@ -237,8 +229,6 @@ pub fn status_of(fault: &Fault) -> u8
         | Fault::TooManyPairs { .. }
         | Fault::TooManyEntries { .. }
         | Fault::FileTooLong { .. } => 5,
-        Fault::StoreFault { .. } => 6,
-        Fault::SinkFault => 7,
         Fault::NoMemory => 8,
     }
 }
@@ -248,7 +238,6 @@ fn pieces_of(fault: &Fault) -> Pieces<'_>
     ensures { pieces_text result ≡ fault_text fault.now }
 {
     match fault {
-        Fault::Usage => one(Words(b"usage")),
         Fault::NotToml => one(Words(b"settings: not TOML")),
         Fault::UnknownKey { key } => two(Words(b"settings: unknown key "), Name(key)),
         Fault::MissingKey { key } => two(Words(b"settings: missing key "), Name(key)),
@@ -331,8 +320,6 @@ fn pieces_of(fault: &Fault) -> Pieces<'_>
             Number(*limit),
             Words(b" bytes"),
         ),
-        Fault::StoreFault { name } => two(Words(b"store: "), Name(name)),
-        Fault::SinkFault => one(Words(b"output")),
         Fault::NoMemory => one(Words(b"want of memory")),
     }
 }

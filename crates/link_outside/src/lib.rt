@@ -1,5 +1,5 @@
-//! The outside of a run: a store of named texts, a sink of bytes, their forms in memory, and the line
-//! of a fault.
+//! The outside of a run: a store of named texts, a sink of bytes, their forms in memory, and why a
+//! command is refused, with its line.
 #![tactic(auto)]
 
 mod holdings;
@@ -7,10 +7,12 @@ mod line;
 mod memory_sink;
 mod memory_store;
 mod outside;
+mod refusal;
 mod sure;
 
-pub use line::write_fault;
+pub use line::write_refusal;
 pub use memory_sink::MemorySink;
 pub use memory_store::{Failure, MemoryStore};
 pub use outside::{Load, Sink, SinkError, Store, StoreCall, StoreError, entry_of_call};
+pub use refusal::Refusal;
 pub use sure::{SureSink, SureStore};

@@ -1,28 +1,29 @@
-// The line of a fault.
+// The line of a refusal.
 ghost use Rattle.std.specs.Prelude.{◌≡◌, IfOk};
-ghost use Rattle.link_base.specs.Fault.{fault_line};
 ghost use Rattle.link_outside.specs.Outside.{Appends, HasCause};
+ghost use Rattle.link_outside.specs.Refusal.{refusal_line};
 
 use crate::outside::{Sink, SinkError};
-use link_base::{Fault, NoMemory, push_fault};
+use crate::refusal::{Refusal, push_refusal};
+use link_base::NoMemory;
 use std::alloc::Global;
 
-fn line_of(alloc: Global, fault: &Fault) -> Result<Vec<u8>, NoMemory>
-    ensures { IfOk result (λ line. line.items ≡ fault_line fault.now) }
+fn line_of(alloc: Global, refusal: &Refusal) -> Result<Vec<u8>, NoMemory>
+    ensures { IfOk result (λ line. line.items ≡ refusal_line refusal.now) }
 {
     let mut line = Vec::new(alloc);
     line.extend_from_slice(b"linkage: ")?;
-    push_fault(alloc, &mut line, fault)?;
+    push_refusal(alloc, &mut line, refusal)?;
     line.push(b'\n')?;
     Ok(line)
 }
 
-/// Hands the line of a fault to `err`: `linkage: `, what is wrong and where, and a line feed.
-pub fn write_fault<E: Sink>(alloc: Global, fault: &Fault, err: &mut E) -> Result<(), SinkError>
-    ensures content { E.tells → Appends (fault_line fault.now) (E.taken err.old) (E.taken err.new) result }
+/// Hands the line of a refusal to `err`: `linkage: `, what is wrong and where, and a line feed.
+pub fn write_refusal<E: Sink>(alloc: Global, refusal: &Refusal, err: &mut E) -> Result<(), SinkError>
+    ensures content { E.tells → Appends (refusal_line refusal.now) (E.taken err.old) (E.taken err.new) result }
     ensures cause { HasCause (E.faults err.old) (E.faults err.new) result }
 {
-    match line_of(alloc, fault) {
+    match line_of(alloc, refusal) {
         Ok(line) => err.put_all(alloc, &line),
         Err(NoMemory) => Err(SinkError::NoMemory),
     }

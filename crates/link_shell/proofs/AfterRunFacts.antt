@@ -4,7 +4,6 @@ use Rattle.std.specs.Prelude.{bytes_eq, IfSome, ⊤}
 use Rattle.std.proofs.lemmas.Bool.{le-leb, or_parts, true≢false}
 use Rattle.std.proofs.lemmas.Slice.Eq.{bytes_eq-Decides}
 use Rattle.link_base.specs.Answers.{and_then}
-use Rattle.link_base.specs.declared.fault.Fault.{Fault}
 use Rattle.link_base.specs.declared.fault.Fault.TheVariants as fault
 use Rattle.link_base.specs.declared.fault.FileRole.{FileRole}
 use Rattle.link_base.specs.declared.fault.FileRole.TheVariants as role
@@ -19,6 +18,8 @@ use Rattle.link_outside.specs.Outside.{Held, Rose}
 use Rattle.link_outside.specs.declared.outside.SinkError.{SinkError}
 use Rattle.link_outside.specs.declared.outside.SinkError.TheVariants as sink
 use Rattle.link_outside.specs.declared.outside.StoreCall.{StoreCall}
+use Rattle.link_outside.specs.declared.refusal.Refusal.{Refusal}
+use Rattle.link_outside.specs.declared.refusal.Refusal.TheVariants as refusal
 use Rattle.settings.proofs.Ranges.{read_plan}
 use Rattle.link_plan.specs.Plan.{PlainShares}
 use Rattle.link_plan.specs.Ranges.{AreFiles, IsFileName}
@@ -57,7 +58,7 @@ loads_then P (gives (Ok x)) next h k = k x
 loads_then P (gives (Err f)) next h k = tt
 
 -- what steps come to is by what the loaded names hold alone
-then_same : {B : Type 0} (r : Result (List ℕ) Fault) (f g : List ℕ → Result B Fault) → ((bytes : List ℕ) → f bytes ≡ g bytes) → and_then r f ≡ and_then r g
+then_same : {B : Type 0} (r : Result (List ℕ) Refusal) (f g : List ℕ → Result B Refusal) → ((bytes : List ℕ) → f bytes ≡ g bytes) → and_then r f ≡ and_then r g
 then_same (Ok bytes) f g h = h bytes
 then_same (Err e) f g h = refl
 
@@ -209,7 +210,7 @@ module _ (law : RunIsVerified) (name : List ℕ) (kept : IsKept name) (store : S
       let holds : HoldsAll (puts (run_puts put.texts)) store = subst (λ d. HoldsAll d store) put.so e.held in
       subst (HoldsProof name) (sym (holds told)) (record { found = w; loaded = whole; links = made.links; proved = proved })
 
-pub proved_by_run : RunIsVerified → (words : List (List ℕ)) (store : StoreSeen) (out err : SinkSeen) (answer : Result Ended Fault) (status : ℕ) → Performed words store out answer → Reported err answer status → ProvedByRun words store status
+pub proved_by_run : RunIsVerified → (words : List (List ℕ)) (store : StoreSeen) (out err : SinkSeen) (answer : Result Ended Refusal) (status : ℕ) → Performed words store out answer → Reported err answer status → ProvedByRun words store status
 proved_by_run law words store out err (Ok Done) status p r =
     λ name is zero told. proves law name (subst (λ command. IfSome command KeepsSettings) is (keeps_settings words)) store out told (subst (λ command. Follows command store out (Ok Done)) is p.follows).answers
 proved_by_run law words store out err (Ok Refuted) status p r = λ name is zero told. absurd (omega (arith, r.0, zero))
@@ -226,19 +227,19 @@ module _ (name : List ℕ) (store : StoreSeen) (out : SinkSeen) (told : store.te
       let proved : proved_by e.is_due.found ≡ Ok proof.links = subst (λ w. proved_by w ≡ Ok proof.links) same proof.proved in
       e.is_due.so.line ∙ is_yes e.is_due.found proof.links (proved_by e.is_due.found) proved
 
-  no_refusal : (f : Fault) → ComesTo (verified_settings name) store (Err f) → ⊥
+  no_refusal : (f : Refusal) → ComesTo (verified_settings name) store (Err f) → ⊥
   no_refusal f c = no_err proof.found f (sym proof.loaded ∙ c.told told)
 
-  at_fault : (f : Fault) {T : Type 0} (written : Result T SinkError) → IsComplete (Some (verification_of_settings name)) store (Err f) → status_after f written ≡ 8
+  at_fault : (f : Refusal) {T : Type 0} (written : Result T SinkError) → IsComplete (Some (verification_of_settings name)) store (Err f) → status_after f written ≡ 8
   at_fault fault.NoMemory (Ok x) h = refl
   at_fault fault.NoMemory (Err sink.Failed) h = refl
   at_fault fault.NoMemory (Err sink.NoMemory) h = refl
-  at_fault fault.Usage written h = absurd (no_refusal fault.Usage h)
-  at_fault (fault.StoreFault n) written h = absurd (no_refusal (fault.StoreFault n) h)
-  at_fault fault.SinkFault written h = absurd (no_refusal fault.SinkFault h)
+  at_fault refusal.Usage written h = absurd (no_refusal refusal.Usage h)
+  at_fault (refusal.Store n) written h = absurd (no_refusal (refusal.Store n) h)
+  at_fault refusal.Output written h = absurd (no_refusal refusal.Output h)
   at_fault f written h = absurd (no_refusal f h)
 
-  says_yes : (err : SinkSeen) (answer : Result Ended Fault) (status : ℕ) → Follows (Some (verification_of_settings name)) store out answer → IsComplete (Some (verification_of_settings name)) store answer
+  says_yes : (err : SinkSeen) (answer : Result Ended Refusal) (status : ℕ) → Follows (Some (verification_of_settings name)) store out answer → IsComplete (Some (verification_of_settings name)) store answer
       → Reported err answer status → SaysYes out status
   says_yes err (Ok ended) status d complete r =
       let due = yes_of ended d.answers in
@@ -248,7 +249,7 @@ module _ (name : List ℕ) (store : StoreSeen) (out : SinkSeen) (told : store.te
       inl (reported.0, taken.0)
   says_yes err (Err f) status d complete r = inr (r.status_is ∙ at_fault f r.written complete)
 
-pub yes_where_proved : (words : List (List ℕ)) (store : StoreSeen) (out err : SinkSeen) (answer : Result Ended Fault) (status : ℕ) → Performed words store out answer → Reported err answer status → YesWhereProved words store out status
+pub yes_where_proved : (words : List (List ℕ)) (store : StoreSeen) (out err : SinkSeen) (answer : Result Ended Refusal) (status : ℕ) → Performed words store out answer → Reported err answer status → YesWhereProved words store out status
 yes_where_proved words store out err answer status p r = λ name is told proof same still.
     says_yes name store out told proof err answer status (subst (λ command. Follows command store out answer) is p.follows)
     (subst (λ command. IsComplete command store answer) is (p.complete same still)) r
@@ -261,14 +262,14 @@ record WasQuiet (store : StoreSeen) (out : SinkSeen) : Type 0 where
 ran_quiet : (name : List ℕ) (store : StoreSeen) (out : SinkSeen) → Ends (run_script name) store out Done → WasQuiet store out
 ran_quiet name store out e = record { faults = e.faults; uncalled = subst (λ d. TakesAll d out) e.is_due.so.so e.taken }
 
-run_quiet : (words : List (List ℕ)) (store : StoreSeen) (out err : SinkSeen) (answer : Result Ended Fault) (status : ℕ) → Performed words store out answer → Reported err answer status
+run_quiet : (words : List (List ℕ)) (store : StoreSeen) (out err : SinkSeen) (answer : Result Ended Refusal) (status : ℕ) → Performed words store out answer → Reported err answer status
     → (name : List ℕ) → command_of words ≡ Some (run_of_settings name) → status ≡ 0 → WasQuiet store out
 run_quiet words store out err (Ok Done) status p r name is zero = ran_quiet name store out (subst (λ command. Follows command store out (Ok Done)) is p.follows).answers
 run_quiet words store out err (Ok Refuted) status p r name is zero = absurd (omega (arith, r.0, zero))
 run_quiet words store out err (Err f) status p r name is zero = absurd (told_above f r.written (sym r.status_is ∙ zero))
 
 -- the run, and then `verify`
-pub yes_after_run : (run verify : List (List ℕ)) (tells told_out : Type 0) (h0 h1 h2 : Held) (f0 f1 f2 : List StoreCall) (t0 t1 t2 : List ℕ) (n0 n1 n2 : ℕ) (err : SinkSeen) (answer : Result Ended Fault) (ran verified : ℕ)
+pub yes_after_run : (run verify : List (List ℕ)) (tells told_out : Type 0) (h0 h1 h2 : Held) (f0 f1 f2 : List StoreCall) (t0 t1 t2 : List ℕ) (n0 n1 n2 : ℕ) (err : SinkSeen) (answer : Result Ended Refusal) (ran verified : ℕ)
     → Performed run (record { tells = tells; held_before = h0; held_after = h1; faults_before = f0; faults_after = f1 })
     (record { tells = told_out; taken_before = t0; taken_after = t1; faults_before = n0; faults_after = n1 }) answer
     → Reported err answer ran

@@ -4,7 +4,6 @@ use Rattle.std.specs.Prelude.{codes, IfSome, is_some, if◌then◌else◌}
 use Rattle.std.proofs.lemmas.List.Elements.{All-map, All-weaker}
 use Rattle.link_base.specs.Answers.{and_then}
 use Rattle.link_base.specs.Standard.{Record}
-use Rattle.link_base.specs.declared.fault.Fault.{Fault}
 use Rattle.link_base.specs.declared.fault.Fault.TheVariants as fault
 use Rattle.link_base.specs.declared.fault.FileRole.TheVariants as role
 use Rattle.link_core.specs.Decisions.{decided, Decisions, rule_over}
@@ -13,6 +12,7 @@ use Rattle.link_core.specs.Prepared.{prepared}
 use Rattle.link_core.specs.Rules.{counted_by}
 use Rattle.link_limits.specs.declared.TheConstants.{MOST_DISTINCT_BYTES}
 use Rattle.link_outside.specs.Outside.{Held}
+use Rattle.link_outside.specs.declared.refusal.Refusal.{Refusal}
 use Rattle.link_plan.specs.Plan.{FieldKeys, PlainShares}
 use Rattle.link_plan.specs.Ranges.{AreShares, IsField}
 use Rattle.link_plan.specs.Within.{field_within, plan_within}
@@ -46,7 +46,7 @@ abbrev HasValidShares : FieldKeys → Type 0
 HasValidShares f = IfSome f.shares (AreShares (is_some f.rare))
 
 -- a step of a result that came to a value
-came_of : {A B : Type 0} (r : Result A Fault) (next : A → Result B Fault) (y : B) → and_then r next ≡ Ok y → (x : A) × (r ≡ Ok x) × (next x ≡ Ok y)
+came_of : {A B : Type 0} (r : Result A Refusal) (next : A → Result B Refusal) (y : B) → and_then r next ≡ Ok y → (x : A) × (r ≡ Ok x) × (next x ≡ Ok y)
 came_of (Ok x) next y e = (x, refl, e)
 came_of (Err f) next y e = no_ok f y e
 

@@ -6,8 +6,7 @@ use Rattle.std.proofs.lemmas.List.Elements.{All-cons, All-contains, All-weaker}
 use Rattle.candidate_links.specs.Candidates.{by_decision, candidate_by_verdict, candidate_of, candidates_of, linked, weight_of_pair}
 use Rattle.decision_rule.specs.RuleLaws.{least}
 use Rattle.link_base.specs.Answers.{and_then}
-use Rattle.link_base.specs.Fault.{fault_status}
-use Rattle.link_base.specs.declared.fault.Fault.{Fault}
+use Rattle.link_outside.specs.Refusal.{refusal_status}
 use Rattle.link_base.specs.declared.rule.Candidate.{Candidate}
 use Rattle.link_base.specs.declared.rule.Decision.{Decision}
 use Rattle.link_base.specs.declared.rule.Decision.TheVariants as decision
@@ -21,6 +20,7 @@ use Rattle.link_core.specs.Results.{candidates_in, compared_in}
 use Rattle.link_outside.specs.Outside.{Held}
 use Rattle.link_outside.specs.declared.outside.SinkError.{SinkError}
 use Rattle.link_outside.specs.declared.outside.SinkError.TheVariants as sink
+use Rattle.link_outside.specs.declared.refusal.Refusal.{Refusal}
 use Rattle.price_check.specs.Assignment.{Certifies, IsGreatest}
 use Rattle.pair_decisions.specs.PairLaws.{compared_rise}
 use Rattle.pair_decisions.specs.Decisions.{decision_at}
@@ -43,7 +43,7 @@ use Rattle.link_shell.specs.Linked.{Follows, Performed, Reported, status_after}
 use Rattle.link_shell.specs.RunSettings.{run_puts, run_script}
 
 -- steps that came to a value were passed, one after the other
-came_read : {A B : Type 0} (read : Result (List ℕ) Fault) (p : List ℕ → Result A Fault) (q : List ℕ → Result B Fault) (Q : A → Type 0) (y : B)
+came_read : {A B : Type 0} (read : Result (List ℕ) Refusal) (p : List ℕ → Result A Refusal) (q : List ℕ → Result B Refusal) (Q : A → Type 0) (y : B)
     → ((bytes : List ℕ) → q bytes ≡ Ok y → (x : A) × (p bytes ≡ Ok x) × Q x) → and_then read q ≡ Ok y → (x : A) × (and_then read p ≡ Ok x) × Q x
 came_read (Ok bytes) p q Q y h e = h bytes e
 came_read (Err f) p q Q y h e = no_ok f y e
@@ -56,7 +56,7 @@ came (gives (Ok x)) next held y e = (x, refl, e)
 came (gives (Err f)) next held y e = no_ok f y e
 
 -- and results
-pub step_came : (A B : Type 0) (r : Result A Fault) (f : A → Result B Fault) (y : B) → and_then r f ≡ Ok y → (x : A) × (r ≡ Ok x) × (f x ≡ Ok y)
+pub step_came : (A B : Type 0) (r : Result A Refusal) (f : A → Result B Refusal) (y : B) → and_then r f ≡ Ok y → (x : A) × (r ≡ Ok x) × (f x ≡ Ok y)
 step_came A B (Ok x) f y e = (x, refl, e)
 step_came A B (Err g) f y e = no_ok g y e
 
@@ -90,7 +90,7 @@ settings_found name held found e =
     subst (λ f. SettingsFound name held f) (ok_same _ _ review.2) (record { of_settings = plan.1; by = found_by plan.0 held review.0 review.1 })
 
 -- the rule of decisions is that of the plan and its shares
-pub rule_is : (r : Result (List PairAt) Fault) (rule : FileRule) (d : Decisions) → and_then r (λ pairs. Ok (decided_by rule pairs)) ≡ Ok d → d.rule ≡ rule
+pub rule_is : (r : Result (List PairAt) Refusal) (rule : FileRule) (d : Decisions) → and_then r (λ pairs. Ok (decided_by rule pairs)) ≡ Ok d → d.rule ≡ rule
 rule_is (Ok pairs) rule d e = ap (λ (x : Decisions). x.rule) (sym (ok_same _ _ e))
 rule_is (Err f) rule d e = no_ok f d e
 
@@ -146,10 +146,10 @@ are_greatest plan files rule journal links prices_a prices_b greatest certified 
     }
 
 -- a fault has a status above 0
-status_above : (f : Fault) → fault_status f ≡ 0 → ⊥
+status_above : (f : Refusal) → refusal_status f ≡ 0 → ⊥
 status_above f e = grind (arith)
 
-pub told_above : {T : Type 0} (f : Fault) (written : Result T SinkError) → status_after f written ≡ 0 → ⊥
+pub told_above : {T : Type 0} (f : Refusal) (written : Result T SinkError) → status_after f written ≡ 0 → ⊥
 told_above f (Ok x) e = status_above f e
 told_above f (Err sink.Failed) e = status_above f e
 told_above f (Err sink.NoMemory) e = absurd (omega arith)
@@ -191,7 +191,7 @@ module _ (name : List ℕ) (store : StoreSeen) (out err : SinkSeen) (told : stor
         nothing_said = quiet;
       }
 
-pub headline : (words : List (List ℕ)) (store : StoreSeen) (out err : SinkSeen) (answer : Result Ended Fault) (status : ℕ) → Performed words store out answer → Reported err answer status → Headline words store out err status
+pub headline : (words : List (List ℕ)) (store : StoreSeen) (out err : SinkSeen) (answer : Result Ended Refusal) (status : ℕ) → Performed words store out answer → Reported err answer status → Headline words store out err status
 headline words store out err (Ok Done) status p r =
     λ name is zero told. done name store out err told (subst (λ command. Follows command store out (Ok Done)) is p.follows).answers r.1
 headline words store out err (Ok Refuted) status p r = λ name is zero told. absurd (omega (arith, r.0, zero))

@@ -1,8 +1,8 @@
 -- Answers that are composed of steps, where one of them refuses.
-use Rattle.std.proofs.Common.{◌≡◌, Bool, true, false, Result, Ok, Err, IsErrAnd, IfErr, ap, subst, sym}
+use Rattle.std.proofs.Common.{◌≡◌, Bool, true, false, Result, Ok, Err, IsErrAnd, ap, subst, sym}
 use Rattle.std.specs.Prelude.{MatchBool, ⊤}
 use Rattle.link_base.specs.Answers.{and_then}
-use Rattle.link_base.specs.Fault.{Gives, IsAnswer, IsInputFault, is_want}
+use Rattle.link_base.specs.Fault.{Gives, IsAnswer, is_want}
 use Rattle.link_base.specs.declared.fault.Fault.{Fault}
 use Rattle.command_scripts.specs.StepLaws.{at_err}
 
@@ -17,10 +17,6 @@ refuses_here view r next f h = refused (is_want f) r next f h
 -- the step went on
 pub goes_on : {A B : Type 0} (P : Result B Fault → Type 0) (r : Result A Fault) (next : A → Result B Fault) (x : A) → r ≡ Ok x → P (next x) → P (and_then r next)
 goes_on P r next x e h = subst (λ y. P (and_then y next)) (sym e) h
-
--- what is returned is the fault
-pub fault_as : {X : Type 0} (result : Result X Fault) (f : Fault) → IsErrAnd result (λ e. e ≡ f) → IsInputFault f → IfErr result IsInputFault
-fault_as result f e kind = at_err (λ r. IfErr r IsInputFault) result f e kind
 
 pub answer_as : {X T : Type 0} (view : X → T) (expected : Result T Fault) (result : Result X Fault) (f : Fault) → IsErrAnd result (λ e. e ≡ f) → Gives view expected (Err f) → Gives view expected result
 answer_as view expected result f e h = at_err (λ r. Gives view expected r) result f e h

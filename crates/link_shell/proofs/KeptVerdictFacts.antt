@@ -7,7 +7,6 @@ use Rattle.std.proofs.lemmas.List.Elements.{All-tail}
 use Rattle.std.proofs.lemmas.Slice.Eq.{bytes_eq-Decides}
 use Rattle.std.proofs.lemmas.Str.{IsUtf8-nil}
 use Rattle.link_base.specs.Standard.{IsDay, Record}
-use Rattle.link_base.specs.declared.fault.Fault.{Fault}
 use Rattle.link_base.specs.declared.fault.Fault.TheVariants as fault
 use Rattle.link_base.specs.declared.fault.FileRole.TheVariants as role
 use Rattle.link_core.specs.FileLaws.{AreReadFiles, IsReadFile, read_files}
@@ -15,6 +14,7 @@ use Rattle.standard_files.specs.Files.{StandardPair}
 use Rattle.link_core.specs.Review.{journal_in_files, text_within}
 use Rattle.link_limits.specs.declared.TheConstants.{MOST_FILE_BYTES, MOST_DISTINCT_BYTES}
 use Rattle.link_outside.specs.Outside.{Held, held_with}
+use Rattle.link_outside.specs.declared.refusal.Refusal.{Refusal}
 use Rattle.link_plan.specs.Ranges.{AreFiles, files_read}
 use Rattle.link_plan.specs.declared.plan.Plan.{Plan}
 use Rattle.review_journal.specs.DayLaws.{iso_is_day}
@@ -249,7 +249,7 @@ either : {A B C : Type 0} → (B → C) → A ⊎ B → A ⊎ C
 either f (inl x) = inl x
 either f (inr y) = inr (f y)
 
-module _ (reviewed : ReviewKeepsAll) (migrated : MigrationKeepsAll) (words : List (List ℕ)) (store : StoreSeen) (out err : SinkSeen) (answer : Result Ended Fault) (status : ℕ) (texts : All IsUtf8 words)
+module _ (reviewed : ReviewKeepsAll) (migrated : MigrationKeepsAll) (words : List (List ℕ)) (store : StoreSeen) (out err : SinkSeen) (answer : Result Ended Refusal) (status : ℕ) (texts : All IsUtf8 words)
     (performed : Performed words store out answer) (reported : Reported err answer status) where
   sound_of : (w : NewReview) → command_of words ≡ Some (review_of_settings w) → IsDay w.date × IsReviewer w.reviewer
   sound_of w is = subst (λ command. IfSome command IsSound) is (of_each IsSound words (λ e v. tt) (sound_form words texts))

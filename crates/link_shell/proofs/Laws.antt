@@ -1,9 +1,9 @@
 -- What follows of each command.
 use Rattle.std.proofs.Common.{◌≡◌, ◌≢◌, ◌≤◌, ◌⊎◌, inl, inr, ◌+◌, ◌++◌, ◌∷◌, ℕ, List, [], length, length-append, Bool, true, if◌then◌else◌, Option, Some, None, Result, Ok, Err, ap, ◌∙◌, arith, subst, sym}
-use Rattle.link_base.specs.declared.fault.Fault.{Fault}
-use Rattle.link_base.specs.declared.fault.Fault.TheVariants as fault
 use Rattle.link_outside.specs.Outside.{Rose}
 use Rattle.link_outside.specs.declared.outside.StoreCall.{StoreCall}
+use Rattle.link_outside.specs.declared.refusal.Refusal.{Refusal}
+use Rattle.link_outside.specs.declared.refusal.Refusal.TheVariants as refusal
 use Rattle.command_scripts.specs.Causes.{Cause, cause_of, the_input, the_memory, the_output, the_store, the_words}
 use Rattle.command_scripts.specs.Does.{Answers, Does, DoesPart, FailsAt, FailsBy, IsDue, Script}
 use Rattle.command_scripts.specs.Due.{Due, HoldsAll, HoldsSome, prints, Prints, PutFails, puts, puts_of, TakesAll, TakesSome}
@@ -20,13 +20,13 @@ gained old new call e same =
     let equal : length new ≡ length old = ap length same in
     omega arith
 
-no_usage : (script : Script) (store : StoreSeen) (out : SinkSeen) (answer : Result Ended Fault) → Answers script store out answer → answer ≢ Err fault.Usage
+no_usage : (script : Script) (store : StoreSeen) (out : SinkSeen) (answer : Result Ended Refusal) → Answers script store out answer → answer ≢ Err refusal.Usage
 no_usage script store out answer a e =
-    let P : Result Ended Fault → Type 0 = λ r. Answers script store out r in
+    let P : Result Ended Refusal → Type 0 = λ r. Answers script store out r in
     subst P e a
 
 -- where nothing of the outside failed
-complete_err : (cause : Cause) (script : Script) (store : StoreSeen) (out : SinkSeen) (f : Fault) → store.faults_after ≡ store.faults_before
+complete_err : (cause : Cause) (script : Script) (store : StoreSeen) (out : SinkSeen) (f : Refusal) → store.faults_after ≡ store.faults_before
     → ¬ (Rose out.faults_before out.faults_after) → FailsBy cause script store out f → RefusesBy cause script store f
 complete_err the_words script store out f same still a = absurd a
 complete_err (the_store name) script store out f same still a = absurd (gained store.faults_before store.faults_after a.call a.logged same)
@@ -34,7 +34,7 @@ complete_err the_output script store out f same still a = absurd (still a.rose)
 complete_err the_memory script store out f same still a = tt
 complete_err the_input script store out f same still a = a.first
 
-complete_for : (command : Command) (store : StoreSeen) (out : SinkSeen) (answer : Result Ended Fault) → store.faults_after ≡ store.faults_before
+complete_for : (command : Command) (store : StoreSeen) (out : SinkSeen) (answer : Result Ended Refusal) → store.faults_after ≡ store.faults_before
     → ¬ (Rose out.faults_before out.faults_after) → Answers (script_of command) store out answer → IsComplete (Some command) store answer
 complete_for command store out (Ok ended) same still a = (a.due, a.is_due, a.as_due)
 complete_for command store out (Err f) same still a = complete_err (cause_of f) (script_of command) store out f same still a
@@ -53,20 +53,20 @@ module _ (script : Script) (store : StoreSeen) (out : SinkSeen) (none : NeverPri
   silent_part (inl h) = h.1
   silent_part (inr h) = silent_some h.due h.is_due h.taken
 
-  silent_err : (cause : Cause) (f : Fault) → FailsBy cause script store out f → IsUncalled out
+  silent_err : (cause : Cause) (f : Refusal) → FailsBy cause script store out f → IsUncalled out
   silent_err the_words f a = absurd a
   silent_err (the_store name) f a = a.quiet
   silent_err the_output f a = absurd (none a.is_due.found a.due a.is_due.so a.printed)
   silent_err the_memory f a = silent_part a.part
   silent_err the_input f a = a.quiet
 
-  silent_by : (answer : Result Ended Fault) → Answers script store out answer → IsUncalled out
+  silent_by : (answer : Result Ended Refusal) → Answers script store out answer → IsUncalled out
   silent_by (Ok ended) a = silent_all a.due a.is_due a.taken
   silent_by (Err f) a = silent_err (cause_of f) f a
 
-  no_sink_fault : (answer : Result Ended Fault) → Answers script store out answer → answer ≢ Err fault.SinkFault
+  no_sink_fault : (answer : Result Ended Refusal) → Answers script store out answer → answer ≢ Err refusal.Output
   no_sink_fault answer a e =
-      let P : Result Ended Fault → Type 0 = λ r. Answers script store out r in
+      let P : Result Ended Refusal → Type 0 = λ r. Answers script store out r in
       let h = subst P e a in
       none h.is_due.found h.due h.is_due.so h.printed
 
@@ -95,41 +95,41 @@ module _ (script : Script) (store : StoreSeen) (out : SinkSeen) (none : NeverPut
   still_part (inl h) = h.0
   still_part (inr h) = still_some h.due (none h.is_due.found h.due h.is_due.so) h.held
 
-  still_err : (cause : Cause) (f : Fault) → FailsBy cause script store out f → Same
+  still_err : (cause : Cause) (f : Refusal) → FailsBy cause script store out f → Same
   still_err the_words f a = absurd a
   still_err (the_store name) f a = still_place a.call a.place
   still_err the_output f a = a.untouched.held
   still_err the_memory f a = still_part a.part
   still_err the_input f a = a.untouched.held
 
-  still_by : (answer : Result Ended Fault) → Answers script store out answer → Same
+  still_by : (answer : Result Ended Refusal) → Answers script store out answer → Same
   still_by (Ok ended) a = still_all a.due (none a.is_due.found a.due a.is_due.so) a.held
   still_by (Err f) a = still_err (cause_of f) f a
 
 -- each fact of what words do
-usage_for : (command : Option Command) (store : StoreSeen) (out : SinkSeen) (answer : Result Ended Fault) → Follows command store out answer → IsExactUsage command answer
+usage_for : (command : Option Command) (store : StoreSeen) (out : SinkSeen) (answer : Result Ended Refusal) → Follows command store out answer → IsExactUsage command answer
 usage_for None store out answer d = d.usage
 usage_for (Some command) store out answer d = no_usage (script_of command) store out answer d.answers
 
-silent_for : (command : Option Command) (store : StoreSeen) (out : SinkSeen) (answer : Result Ended Fault) → Follows command store out answer → IsSilent command out answer
+silent_for : (command : Option Command) (store : StoreSeen) (out : SinkSeen) (answer : Result Ended Refusal) → Follows command store out answer → IsSilent command out answer
 silent_for None store out answer d = d.quiet
 silent_for (Some command) store out answer d =
     λ none. (silent_by (script_of command) store out none answer d.answers, no_sink_fault (script_of command) store out none answer d.answers)
 
-still_for : (command : Option Command) (store : StoreSeen) (out : SinkSeen) (answer : Result Ended Fault) → Follows command store out answer → IsStill command store
+still_for : (command : Option Command) (store : StoreSeen) (out : SinkSeen) (answer : Result Ended Refusal) → Follows command store out answer → IsStill command store
 still_for None store out answer d = d.untouched.held
 still_for (Some command) store out answer d = λ none. still_by (script_of command) store out none answer d.answers
 
-later_for : (command : Option Command) (store : StoreSeen) (out : SinkSeen) (answer : Result Ended Fault) → Follows command store out answer → out.faults_before ≤ out.faults_after
+later_for : (command : Option Command) (store : StoreSeen) (out : SinkSeen) (answer : Result Ended Refusal) → Follows command store out answer → out.faults_before ≤ out.faults_after
 later_for None store out answer d = let same = d.quiet.faults in omega arith
 later_for (Some command) store out answer d = d.later
 
-completes : (command : Option Command) (store : StoreSeen) (out : SinkSeen) (answer : Result Ended Fault) → Follows command store out answer
+completes : (command : Option Command) (store : StoreSeen) (out : SinkSeen) (answer : Result Ended Refusal) → Follows command store out answer
     → store.faults_after ≡ store.faults_before → ¬ (Rose out.faults_before out.faults_after) → IsComplete command store answer
 completes None store out answer d same still = d.usage
 completes (Some command) store out answer d same still = complete_for command store out answer same still d.answers
 
-pub performs : (words : List (List ℕ)) (store : StoreSeen) (out : SinkSeen) (answer : Result Ended Fault) → Follows (command_of words) store out answer → Performed words store out answer
+pub performs : (words : List (List ℕ)) (store : StoreSeen) (out : SinkSeen) (answer : Result Ended Refusal) → Follows (command_of words) store out answer → Performed words store out answer
 performs words store out answer d = record {
   usage = usage_for (command_of words) store out answer d;
   follows = d;
@@ -140,7 +140,7 @@ performs words store out answer d = record {
 }
 
 -- the words are of a settings file alone, or of a form
-module _ (store : StoreSeen) (out : SinkSeen) (answer : Result Ended Fault) where
+module _ (store : StoreSeen) (out : SinkSeen) (answer : Result Ended Refusal) where
   pub follows_file : (file : OfFile) (named : Option OfFile) (next : Option Command) → Some file ≡ named → Does (settings_script file.verb file.name) store out answer
       → Follows (or_form named next) store out answer
   follows_file file named next e d = subst (λ n. Follows (or_form n next) store out answer) e d

@@ -6,9 +6,8 @@ use Rattle.std.proofs.lemmas.List.Elements.{All-weaker}
 use Rattle.candidate_links.specs.Candidates.{HasBounds}
 use Rattle.decision_rule.specs.RuleLaws.{least}
 use Rattle.link_base.specs.Answers.{and_then}
-use Rattle.link_base.specs.Fault.{fault_status}
+use Rattle.link_outside.specs.Refusal.{refusal_status}
 use Rattle.link_base.specs.Rule.{IsWithinRanges}
-use Rattle.link_base.specs.declared.fault.Fault.{Fault}
 use Rattle.link_base.specs.declared.fault.Fault.TheVariants as fault
 use Rattle.link_base.specs.declared.fault.FileRole.TheVariants as role
 use Rattle.link_base.specs.declared.rule.Candidate.{Candidate}
@@ -25,6 +24,7 @@ use Rattle.link_limits.specs.declared.TheConstants.{MOST_FIELDS, MOST_PAIRS, MOS
 use Rattle.link_outside.specs.Outside.{Held}
 use Rattle.link_outside.specs.declared.outside.SinkError.{SinkError}
 use Rattle.link_outside.specs.declared.outside.SinkError.TheVariants as sink
+use Rattle.link_outside.specs.declared.refusal.Refusal.{Refusal}
 use Rattle.link_plan.specs.Plan.{PlainShares}
 use Rattle.link_plan.specs.declared.plan.Plan.{Plan}
 use Rattle.pair_decisions.specs.Comparators.{rares_of}
@@ -58,7 +58,7 @@ few_if : (pairs got : List PairAt) (t : Bool) → nat_le (length pairs) MOST_PAI
 few_if pairs got true is e = leb-true (length pairs) MOST_PAIRS is
 few_if pairs got false is e = no_ok (fault.TooManyPairs MOST_PAIRS) got e
 
-found_pairs : (r : Result (List PairAt) Fault) (rule : FileRule) (d : Decisions) → and_then r (λ pairs. Ok (decided_by rule pairs)) ≡ Ok d → (pairs : List PairAt) × (r ≡ Ok pairs)
+found_pairs : (r : Result (List PairAt) Refusal) (rule : FileRule) (d : Decisions) → and_then r (λ pairs. Ok (decided_by rule pairs)) ≡ Ok d → (pairs : List PairAt) × (r ≡ Ok pairs)
 found_pairs (Ok pairs) rule d e = (pairs, refl)
 found_pairs (Err f) rule d e = no_ok f d e
 
@@ -216,10 +216,10 @@ verify_tells rows duality proof = λ name held w due loaded told. tells_by rows 
 
 -- ---- what the top call answers
 
-status_below : (f : Fault) → fault_status f ≡ 9 → ⊥
+status_below : (f : Refusal) → refusal_status f ≡ 9 → ⊥
 status_below f e = grind (arith)
 
-told_below : {T : Type 0} (f : Fault) (written : Result T SinkError) → status_after f written ≡ 9 → ⊥
+told_below : {T : Type 0} (f : Refusal) (written : Result T SinkError) → status_after f written ≡ 9 → ⊥
 told_below f (Ok x) e = status_below f e
 told_below f (Err sink.Failed) e = status_below f e
 told_below f (Err sink.NoMemory) e = absurd (omega arith)
@@ -235,7 +235,7 @@ module _ (law : VerifyTells) (name : List ℕ) (store : StoreSeen) (out : SinkSe
   said_no : Ends (verify_script name) store out Refuted → HoldsRows name store.held_before → ⊥
   said_no e hold = (law name store.held_before e.is_due.found e.due (e.is_due.steps.told told) e.is_due.so).refuted e.as_due hold
 
-pub yes_means : VerifyTells → (words : List (List ℕ)) (store : StoreSeen) (out err : SinkSeen) (answer : Result Ended Fault) (status : ℕ) → Performed words store out answer → Reported err answer status → YesMeans words store out status
+pub yes_means : VerifyTells → (words : List (List ℕ)) (store : StoreSeen) (out err : SinkSeen) (answer : Result Ended Refusal) (status : ℕ) → Performed words store out answer → Reported err answer status → YesMeans words store out status
 yes_means law words store out err (Ok Done) status p r = λ name is told.
     (λ at_0. said_yes law name store out told (subst (λ command. Follows command store out (Ok Done)) is p.follows).answers, λ at_9. absurd (omega (arith, r.0, at_9)))
 yes_means law words store out err (Ok Refuted) status p r = λ name is told.
@@ -243,6 +243,6 @@ yes_means law words store out err (Ok Refuted) status p r = λ name is told.
 yes_means law words store out err (Err f) status p r = λ name is told.
     (λ at_0. absurd (told_above f r.written (sym r.status_is ∙ at_0)), λ at_9. absurd (told_below f r.written (sym r.status_is ∙ at_9)))
 
-pub rows_say_yes : RowsAreProof → (words : List (List ℕ)) (store : StoreSeen) (out err : SinkSeen) (answer : Result Ended Fault) (status : ℕ) → Performed words store out answer → Reported err answer status → RowsSayYes words store out status
+pub rows_say_yes : RowsAreProof → (words : List (List ℕ)) (store : StoreSeen) (out err : SinkSeen) (answer : Result Ended Refusal) (status : ℕ) → Performed words store out answer → Reported err answer status → RowsSayYes words store out status
 rows_say_yes proof words store out err answer status p r = λ name is told hold same still.
     yes_where_proved words store out err answer status p r name is told (proof name store.held_before hold) same still

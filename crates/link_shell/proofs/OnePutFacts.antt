@@ -1,6 +1,5 @@
 -- A command of which one put is due: the put was made, or no name holds anything else than it did.
 use Rattle.std.proofs.Common.{◌≡◌, ◌⊎◌, ◌≤◌, ◌<◌, ◌+◌, ◌∷◌, ◌∙◌, inl, inr, ℕ, zero, suc, [], take, Result, Ok, Err, sym, subst, arith}
-use Rattle.link_base.specs.declared.fault.Fault.{Fault}
 use Rattle.command_scripts.specs.Causes.{Cause, cause_of, the_input, the_memory, the_output, the_store, the_words}
 use Rattle.command_scripts.specs.Does.{Answers, DoesPart, Ends, FailsAt, FailsBy, IsDue, Script}
 use Rattle.command_scripts.specs.Due.{after_puts, Due, HoldsAll, HoldsSome, Put, PutFails, puts, puts_of, PutsSome}
@@ -8,6 +7,7 @@ use Rattle.command_scripts.specs.Seen.{IsUncalled, SinkSeen, StoreSeen}
 use Rattle.command_scripts.specs.Steps.{outcome, Steps}
 use Rattle.command_scripts.specs.declared.ends.Ended.{Ended}
 use Rattle.link_outside.specs.declared.outside.StoreCall.{StoreCall}
+use Rattle.link_outside.specs.declared.refusal.Refusal.{Refusal}
 use Rattle.link_shell.proofs.HeadlineFacts.{told_above}
 use Rattle.link_shell.specs.Linked.{Reported}
 use Rattle.link_shell.specs.MigrateSettings.{is_one_put}
@@ -62,17 +62,17 @@ module _ (s : Steps Put) (store : StoreSeen) (out : SinkSeen) (told : store.tell
   for_memory (inl nothing) = inl nothing.0
   for_memory (inr part) = in_part part.due part.is_due part.held
 
-  by_cause : (cause : Cause) (f : Fault) → FailsBy cause (one_put s) store out f → IsMadeOrKept s store
+  by_cause : (cause : Cause) (f : Refusal) → FailsBy cause (one_put s) store out f → IsMadeOrKept s store
   by_cause the_words f h = absurd h
   by_cause (the_store name) f h = at_call h.call h.place
   by_cause the_output f h = inl h.untouched.held
   by_cause the_memory f h = for_memory h.part
   by_cause the_input f h = inl h.untouched.held
 
-  pub made_or_kept : (answer : Result Ended Fault) → Answers (one_put s) store out answer → IsMadeOrKept s store
+  pub made_or_kept : (answer : Result Ended Refusal) → Answers (one_put s) store out answer → IsMadeOrKept s store
   made_or_kept (Ok e) h = inr (ended e h)
   made_or_kept (Err f) h = by_cause (cause_of f) f h
 
-  pub made_at_zero : (err : SinkSeen) (answer : Result Ended Fault) (status : ℕ) → Answers (one_put s) store out answer → Reported err answer status → status ≡ 0 → IsMade s store
+  pub made_at_zero : (err : SinkSeen) (answer : Result Ended Refusal) (status : ℕ) → Answers (one_put s) store out answer → Reported err answer status → status ≡ 0 → IsMade s store
   made_at_zero err (Ok e) status h r none = ended e h
   made_at_zero err (Err f) status h r none = absurd (told_above f r.written (sym r.status_is ∙ none))

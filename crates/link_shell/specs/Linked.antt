@@ -1,11 +1,11 @@
 -- What the top calls do: the clauses of `perform` and `linkage`.
 use Rattle.std.specs.Prelude.{◌≡◌, ◌≢◌, ◌≤◌, ℕ, List, Option, Some, None, Result, Ok, Err, ⊤}
-use Rattle.link_base.specs.Fault.{fault_line, fault_status}
-use Rattle.link_base.specs.declared.fault.Fault.{Fault}
-use Rattle.link_base.specs.declared.fault.Fault.TheVariants as fault
+use Rattle.link_outside.specs.Refusal.{refusal_line, refusal_status}
 use Rattle.link_outside.specs.Outside.{Appends, HasCause, Rose}
 use Rattle.link_outside.specs.declared.outside.SinkError.{SinkError}
 use Rattle.link_outside.specs.declared.outside.SinkError.TheVariants as sink
+use Rattle.link_outside.specs.declared.refusal.Refusal.{Refusal}
+use Rattle.link_outside.specs.declared.refusal.Refusal.TheVariants as refusal
 use Rattle.command_scripts.specs.Causes.{Cause, cause_of, the_memory}
 use Rattle.command_scripts.specs.Does.{Does, IsDue, Script}
 use Rattle.command_scripts.specs.Due.{Due, ended_of, Prints}
@@ -16,19 +16,19 @@ use Rattle.command_scripts.specs.declared.ends.Ended.TheVariants.{Done, Refuted}
 use Rattle.link_shell.specs.Commands.{Command, command_of, script_of}
 
 -- words that are no form of a command: `Usage` is answered, and nothing is done
-pub record IsNoForm (store : StoreSeen) (out : SinkSeen) (answer : Result Ended Fault) : Type 0 where
-  pub usage : answer ≡ Err fault.Usage
+pub record IsNoForm (store : StoreSeen) (out : SinkSeen) (answer : Result Ended Refusal) : Type 0 where
+  pub usage : answer ≡ Err refusal.Usage
   pub untouched : IsUntouched store
   pub quiet : IsUncalled out
 
-abbrev pub Follows : Option Command → StoreSeen → SinkSeen → Result Ended Fault → Type 0
+abbrev pub Follows : Option Command → StoreSeen → SinkSeen → Result Ended Refusal → Type 0
 Follows None store out answer = IsNoForm store out answer
 Follows (Some command) store out answer = Does (script_of command) store out answer
 
 -- `Usage` is answered exactly to words that are no form of a command
-abbrev pub IsExactUsage : Option Command → Result Ended Fault → Type 0
-IsExactUsage None answer = answer ≡ Err fault.Usage
-IsExactUsage (Some command) answer = answer ≢ Err fault.Usage
+abbrev pub IsExactUsage : Option Command → Result Ended Refusal → Type 0
+IsExactUsage None answer = answer ≡ Err refusal.Usage
+IsExactUsage (Some command) answer = answer ≢ Err refusal.Usage
 
 -- no text is ever due of a command; no put is
 abbrev pub NeverPrints : Script → Type 0
@@ -38,9 +38,9 @@ abbrev pub NeverPuts : Script → Type 0
 NeverPuts script = (found : script.Found) (due : Due) → script.due found due → Prints due
 
 -- where no text is ever due `out` is not called, and so is never at fault
-abbrev pub IsSilent : Option Command → SinkSeen → Result Ended Fault → Type 0
+abbrev pub IsSilent : Option Command → SinkSeen → Result Ended Refusal → Type 0
 IsSilent None out answer = IsUncalled out
-IsSilent (Some command) out answer = NeverPrints (script_of command) → IsUncalled out × (answer ≢ Err fault.SinkFault)
+IsSilent (Some command) out answer = NeverPrints (script_of command) → IsUncalled out × (answer ≢ Err refusal.Output)
 
 -- where no put is ever due no name holds anything else than it did
 abbrev pub IsStill : Option Command → StoreSeen → Type 0
@@ -48,18 +48,18 @@ IsStill None store = store.held_after ≡ store.held_before
 IsStill (Some command) store = NeverPuts (script_of command) → store.held_after ≡ store.held_before
 
 -- a refusal is that of the steps, but for want of memory
-abbrev pub RefusesBy : Cause → Script → StoreSeen → Fault → Type 0
+abbrev pub RefusesBy : Cause → Script → StoreSeen → Refusal → Type 0
 RefusesBy the_memory script store f = ⊤
 RefusesBy cause script store f = ComesTo script.steps store (Err f)
 
 -- a command is done or refused as is defined, but for want of memory
-abbrev pub IsComplete : Option Command → StoreSeen → Result Ended Fault → Type 0
-IsComplete None store answer = answer ≡ Err fault.Usage
+abbrev pub IsComplete : Option Command → StoreSeen → Result Ended Refusal → Type 0
+IsComplete None store answer = answer ≡ Err refusal.Usage
 IsComplete (Some command) store (Ok ended) = (due : Due) × IsDue (script_of command) store due × (ended_of due ≡ ended)
 IsComplete (Some command) store (Err f) = RefusesBy (cause_of f) (script_of command) store f
 
 -- what words do to the store and to `out`, with the answer; it is complete where nothing of the outside failed
-pub record Performed (words : List (List ℕ)) (store : StoreSeen) (out : SinkSeen) (answer : Result Ended Fault) : Type 0 where
+pub record Performed (words : List (List ℕ)) (store : StoreSeen) (out : SinkSeen) (answer : Result Ended Refusal) : Type 0 where
   pub usage : IsExactUsage (command_of words) answer
   pub follows : Follows (command_of words) store out answer
   pub silent : IsSilent (command_of words) out answer
@@ -69,20 +69,20 @@ pub record Performed (words : List (List ℕ)) (store : StoreSeen) (out : SinkSe
       → IsComplete (command_of words) store answer
 
 -- the status after a fault whose line was handed to `err`
-abbrev pub status_after : {T : Type 0} → Fault → Result T SinkError → ℕ
-status_after f (Ok x) = fault_status f
-status_after f (Err sink.Failed) = fault_status f
+abbrev pub status_after : {T : Type 0} → Refusal → Result T SinkError → ℕ
+status_after f (Ok x) = refusal_status f
+status_after f (Err sink.Failed) = refusal_status f
 status_after f (Err sink.NoMemory) = 8
 
 -- the line of a fault was handed to `err`, and the status is that of the fault
-pub record Told (err : SinkSeen) (f : Fault) (status : ℕ) : Type 0 where
+pub record Told (err : SinkSeen) (f : Refusal) (status : ℕ) : Type 0 where
   pub written : Result (Unit {0}) SinkError
   pub status_is : status ≡ status_after f written
-  pub line : err.tells → Appends (fault_line f) err.taken_before err.taken_after written
+  pub line : err.tells → Appends (refusal_line f) err.taken_before err.taken_after written
   pub cause : HasCause err.faults_before err.faults_after written
 
 -- what `err` takes, and the status: nothing at 0 and 9, and else the line of the fault or a front of it
-abbrev pub Reported : SinkSeen → Result Ended Fault → ℕ → Type 0
+abbrev pub Reported : SinkSeen → Result Ended Refusal → ℕ → Type 0
 Reported err (Ok Done) status = (status ≡ 0) × IsUncalled err
 Reported err (Ok Refuted) status = (status ≡ 9) × IsUncalled err
 Reported err (Err f) status = Told err f status

@@ -4,7 +4,7 @@ ghost use Rattle.command_scripts.specs.Seen.{sink_seen, store_seen};
 ghost use Rattle.link_shell.specs.AfterRun.{YesAfterRun};
 
 use crate::command::linkage;
-use link_outside::{Sink, Store};
+use link_outside::{Refusal, Sink, Store};
 use std::alloc::Global;
 
 /// Makes the call of a run and then that of `verify`, and answers both statuses: after a run that is done, `verify` with the same

@@ -2,7 +2,7 @@
 ghost use Rattle.std.specs.Prelude.{◌≡◌, map, Result, Some, string_bytes};
 ghost use Rattle.command_scripts.specs.Seen.{sink_seen, store_seen};
 ghost use Rattle.command_scripts.specs.declared.ends.Ended.{Ended as AnyEnded};
-ghost use Rattle.link_base.specs.declared.fault.Fault.{Fault as AnyFault};
+ghost use Rattle.link_outside.specs.declared.refusal.Refusal.{Refusal as AnyRefusal};
 ghost use Rattle.link_shell.specs.AfterRun.{ProvedByRun, YesWhereProved};
 ghost use Rattle.link_shell.specs.Always.{Always};
 ghost use Rattle.link_shell.specs.Carried.{Carried};
@@ -23,9 +23,8 @@ use crate::{
     settings_commands,
 };
 use command_scripts::Ended;
-use link_base::{Fault, status_of};
 use link_core::run_is_verified;
-use link_outside::{Sink, SinkError, Store, write_fault};
+use link_outside::{Refusal, Sink, SinkError, Store, write_refusal};
 use review_journal::no_verdict_is_lost;
 use settings_readers::named_in;
 use std::alloc::Global;
@@ -67,33 +66,33 @@ fn follow_form<S: Store, O: Sink>(
     words: &[String],
     store: &mut S,
     out: &mut O,
-) -> Result<Ended, Fault>
+) -> Result<Ended, Refusal>
     ensures { Follows (form_command (Some form) (map string_bytes words.now)) (store_seen S.tells S.held S.faults store.old store.new) (sink_seen O.tells O.taken O.faults out.old out.new) result }
 {
     match form {
         Form::Columns => match pairs_columns::read(words) {
             Some(request) => pairs_columns::perform(alloc, &request, store, out),
-            None => Err(Fault::Usage),
+            None => Err(Refusal::Usage),
         },
         Form::Keys => match keys::read(words) {
             Some(rest) => keys::perform(alloc, rest, store, out),
-            None => Err(Fault::Usage),
+            None => Err(Refusal::Usage),
         },
         Form::Frontier => match frontier_settings::read(words) {
             Some(request) => frontier_settings::perform(alloc, &request, store, out),
-            None => Err(Fault::Usage),
+            None => Err(Refusal::Usage),
         },
         Form::Review => match review_settings::read(words) {
             Some(request) => review_settings::perform(alloc, &request, store, out),
-            None => Err(Fault::Usage),
+            None => Err(Refusal::Usage),
         },
         Form::Many => match many_settings::read(words) {
             Some(request) => many_settings::perform(alloc, &request, store, out),
-            None => Err(Fault::Usage),
+            None => Err(Refusal::Usage),
         },
         Form::Generate => match generate::read(words) {
             Some(rows) => generate::perform(alloc, rows, store, out),
-            None => Err(Fault::Usage),
+            None => Err(Refusal::Usage),
         },
     }
 }
@@ -104,7 +103,7 @@ fn follow<S: Store, O: Sink>(
     words: &[String],
     store: &mut S,
     out: &mut O,
-) -> Result<Ended, Fault>
+) -> Result<Ended, Refusal>
     ensures { Follows (command_of (map string_bytes words.now)) (store_seen S.tells S.held S.faults store.old store.new) (sink_seen O.tells O.taken O.faults out.old out.new) result }
 {
     match settings_commands::read(words) {
@@ -115,11 +114,11 @@ fn follow<S: Store, O: Sink>(
     }
     match form_of(words) {
         Some(form) => follow_form(alloc, form, words, store, out),
-        None => Err(Fault::Usage),
+        None => Err(Refusal::Usage),
     }
 }
 
-/// Does the command that the words name, all but the line of a fault: it goes through the steps of the
+/// Does the command that the words name, all but the line of a refusal: it goes through the steps of the
 /// command, and hands its text to `out` or makes its puts (clause `performed`). All that `linkage` says of the store, of `out` and of
 /// the status holds of its answer (clause `carried`).
 pub fn perform<S: Store, O: Sink>(
@@ -127,7 +126,7 @@ pub fn perform<S: Store, O: Sink>(
     words: &[String],
     store: &mut S,
     out: &mut O,
-) -> Result<Ended, Fault>
+) -> Result<Ended, Refusal>
     ensures performed { Performed (map string_bytes words.now) (store_seen S.tells S.held S.faults store.old store.new) (sink_seen O.tells O.taken O.faults out.old out.new) result }
     ensures carried { Carried (map string_bytes words.now) (store_seen S.tells S.held S.faults store.old store.new) (sink_seen O.tells O.taken O.faults out.old out.new) result }
 {
@@ -137,23 +136,23 @@ pub fn perform<S: Store, O: Sink>(
     follow(alloc, words, store, out)
 }
 
-// Hands the line of a fault to `err`, and says the status.
-fn report<E: Sink>(alloc: Global, answer: &Result<Ended, Fault>, err: &mut E) -> u8
+// Hands the line of a refusal to `err`, and says the status.
+fn report<E: Sink>(alloc: Global, answer: &Result<Ended, Refusal>, err: &mut E) -> u8
     ensures { Reported (sink_seen E.tells E.taken E.faults err.old err.new) answer.now result }
 {
     match answer {
         Ok(Ended::Done) => 0,
         Ok(Ended::Refuted) => 9,
-        Err(fault) => match write_fault(alloc, fault, err) {
-            Ok(()) => status_of(fault),
-            Err(SinkError::Failed) => status_of(fault),
+        Err(refusal) => match write_refusal(alloc, refusal, err) {
+            Ok(()) => refusal.status(),
+            Err(SinkError::Failed) => refusal.status(),
             Err(SinkError::NoMemory) => 8,
         },
     }
 }
 
 /// Does the command that the words name over the store, hands what it prints to `out` and the line of a
-/// fault to `err`, and answers its exit status: 0 done, 9 refuted, and else that of the fault.
+/// fault to `err`, and answers its exit status: 0 done, 9 refuted, and else that of the refusal.
 ///
 /// For every accepted input, `run` writes exactly the pairs that share a key in some pass, each once; a rule that, among all
 /// randomised rules whose error levels are at most its own, has the least chance of 'possible link' for matched and for unmatched
@@ -177,7 +176,7 @@ pub fn linkage<S: Store, O: Sink, E: Sink>(
     out: &mut O,
     err: &mut E,
 ) -> u8
-    ensures performed { (answer : Result AnyEnded AnyFault)
+    ensures performed { (answer : Result AnyEnded AnyRefusal)
         × Performed (map string_bytes words.now) (store_seen S.tells S.held S.faults store.old store.new) (sink_seen O.tells O.taken O.faults out.old out.new) answer
         × Reported (sink_seen E.tells E.taken E.faults err.old err.new) answer result }
     ensures headline { Headline (map string_bytes words.now) (store_seen S.tells S.held S.faults store.old store.new) (sink_seen O.tells O.taken O.faults out.old out.new) (sink_seen E.tells E.taken E.faults err.old err.new) result }

@@ -11,9 +11,9 @@ ghost use Rattle.link_plan.specs.Ranges.{KeepsRanges, NamesFiles};
 use command_scripts::{Ended, load_file, print_lines};
 use command_steps::{file_name, load_decisions, load_plan, prepare_files};
 use dedup_groups::forest_leaders;
-use link_base::{Fault, FileRole};
+use link_base::FileRole;
 use link_core::{Decided, PlanShares, Prepared, duplicate_lines};
-use link_outside::{Sink, Store};
+use link_outside::{Refusal, Sink, Store};
 use link_plan::Plan;
 use std::alloc::Global;
 
@@ -26,7 +26,7 @@ pub(crate) struct DecidedWithin {
 }
 
 // Loads the file of a plan of a file with itself, and makes it ready to be compared.
-fn load_within<S: Store>(alloc: Global, store: &mut S, plan: &Plan) -> Result<Prepared, Fault>
+fn load_within<S: Store>(alloc: Global, store: &mut S, plan: &Plan) -> Result<Prepared, Refusal>
     requires within { IsOfOneFile plan.now }
     requires ranges { KeepsRanges plan.now }
     requires names { NamesFiles plan.now }
@@ -37,11 +37,11 @@ fn load_within<S: Store>(alloc: Global, store: &mut S, plan: &Plan) -> Result<Pr
     let a = load_file(alloc, store, file_name(&plan.file_a), FileRole::A)?;
     let files = prepare_files(alloc, plan, a.bytes(), a.bytes());
     drop(a);
-    files
+    Ok(files?)
 }
 
 // Loads the file of a plan of a file with itself, and its sample, and decides on the compared pairs.
-fn load_decided<S: Store>(alloc: Global, store: &mut S, plan: &Plan) -> Result<DecidedWithin, Fault>
+fn load_decided<S: Store>(alloc: Global, store: &mut S, plan: &Plan) -> Result<DecidedWithin, Refusal>
     requires within { IsOfOneFile plan.now }
     requires ranges { KeepsRanges plan.now }
     requires names { NamesFiles plan.now }
@@ -55,9 +55,9 @@ fn load_decided<S: Store>(alloc: Global, store: &mut S, plan: &Plan) -> Result<D
             shares: found.shares,
             decided: found.decided,
         }),
-        Err(fault) => {
+        Err(refusal) => {
             drop(files);
-            Err(fault)
+            Err(refusal)
         }
     }
 }
@@ -68,7 +68,7 @@ pub(crate) fn perform<S: Store, O: Sink>(
     name: &str,
     store: &mut S,
     out: &mut O,
-) -> Result<Ended, Fault>
+) -> Result<Ended, Refusal>
     ensures { Does (duplicates_script name.now) (store_seen S.tells S.held S.faults store.old store.new) (sink_seen O.tells O.taken O.faults out.old out.new) result }
 {
     let plan = load_plan(alloc, store, name)?;

@@ -13,10 +13,10 @@ use crate::words::{MOST_LISTED, is_settings, word_at};
 use command_scripts::{Ended, print_lines};
 use command_steps::{Shared, load_shared};
 use csv_rows::read_decimal;
-use link_base::{Fault, NoMemory, Text};
+use link_base::{NoMemory, Text};
 use link_core::frontier_lines;
 use link_limits::PER_MILLION;
-use link_outside::{Sink, Store};
+use link_outside::{Refusal, Sink, Store};
 use std::alloc::Global;
 
 /// A settings file, and the words of the asked levels of links.
@@ -92,7 +92,7 @@ pub(crate) fn perform<S: Store, O: Sink>(
     request: &FrontierRequest<'_>,
     store: &mut S,
     out: &mut O,
-) -> Result<Ended, Fault>
+) -> Result<Ended, Refusal>
     requires { list_all is_level_word (map string_bytes request.now.levels.now) ≡ true }
     ensures { Does (frontier_script (asked_of_request request.now)) (store_seen S.tells S.held S.faults store.old store.new) (sink_seen O.tells O.taken O.faults out.old out.new) result }
 {

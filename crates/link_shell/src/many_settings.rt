@@ -10,9 +10,9 @@ ghost use Rattle.link_shell.specs.ManySettings.{are_many_words, capacity_file, c
 use crate::words::{is_settings, is_short, word_at};
 use command_scripts::{Ended, load_file, print_text};
 use command_steps::{ReviewedSettings, load_reviewed_settings};
-use link_base::{Fault, FileRole, Text};
+use link_base::{FileRole, Text};
 use link_core::{Capacities, capacities_in_file, many_lines};
-use link_outside::{Sink, Store};
+use link_outside::{Refusal, Sink, Store};
 use std::alloc::Global;
 
 /// A settings file, and a file of the capacities of the records of B.
@@ -45,14 +45,14 @@ fn load_capacities<S: Store>(
     store: &mut S,
     found: &ReviewedSettings,
     name: &str,
-) -> Result<Capacities, Fault>
+) -> Result<Capacities, Refusal>
     ensures takes { Takes (capacity_file found.now.reviewed.files.files name.now) (store_seen S.tells S.held S.faults store.old store.new) result }
     ensures of_files { IfOk result (AreCapacitiesOf found.now.reviewed.files.files) }
 {
     let bytes = load_file(alloc, store, name, FileRole::Capacities)?;
     let capacities = capacities_in_file(alloc, &found.reviewed.files, bytes.bytes());
     drop(bytes);
-    capacities
+    Ok(capacities?)
 }
 
 // Loads the capacities, and makes the text of links within them, and of their prices.
@@ -61,7 +61,7 @@ fn text_of_found<S: Store>(
     store: &mut S,
     found: &ReviewedSettings,
     name: &str,
-) -> Result<Text, Fault>
+) -> Result<Text, Refusal>
     requires { IsReviewed found.now }
     ensures { Makes (capacity_plan (found_of found.now) name.now) IsLinksText (store_seen S.tells S.held S.faults store.old store.new) result }
 {
@@ -86,7 +86,7 @@ pub(crate) fn perform<S: Store, O: Sink>(
     request: &ManyRequest<'_>,
     store: &mut S,
     out: &mut O,
-) -> Result<Ended, Fault>
+) -> Result<Ended, Refusal>
     ensures { Does (many_script (many_of_request request.now)) (store_seen S.tells S.held S.faults store.old store.new) (sink_seen O.tells O.taken O.faults out.old out.new) result }
 {
     let found = load_reviewed_settings(alloc, store, request.name, false)?;

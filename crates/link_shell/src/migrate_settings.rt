@@ -7,9 +7,9 @@ ghost use Rattle.link_plan.specs.Ranges.{KeepsRanges, NamesFiles};
 
 use command_scripts::Ended;
 use command_steps::{load_journal, load_journal_plan, load_prepared, put_journal};
-use link_base::{Fault, Text};
+use link_base::Text;
 use link_core::{Prepared, journal_lines};
-use link_outside::{Sink, Store};
+use link_outside::{Refusal, Sink, Store};
 use link_plan::Plan;
 use std::alloc::Global;
 
@@ -19,18 +19,18 @@ fn text_over<S: Store>(
     store: &mut S,
     plan: &Plan,
     files: &Prepared,
-) -> Result<Text, Fault>
+) -> Result<Text, Refusal>
     requires { NamesFiles plan.now }
     ensures { Takes (journal_text plan.now files.now.files) (store_seen S.tells S.held S.faults store.old store.new) result }
 {
     let journal = load_journal(alloc, store, plan, files)?;
     let lines = journal_lines(alloc, files, &journal);
     drop(journal);
-    lines
+    Ok(lines?)
 }
 
 // Loads the files of a plan and its journal, and makes its text.
-fn load_text<S: Store>(alloc: Global, store: &mut S, plan: &Plan) -> Result<Text, Fault>
+fn load_text<S: Store>(alloc: Global, store: &mut S, plan: &Plan) -> Result<Text, Refusal>
     requires ranges { KeepsRanges plan.now }
     requires names { NamesFiles plan.now }
     ensures { Takes (written_journal plan.now) (store_seen S.tells S.held S.faults store.old store.new) result }
@@ -47,7 +47,7 @@ pub(crate) fn perform<S: Store, O: Sink>(
     name: &str,
     store: &mut S,
     out: &mut O,
-) -> Result<Ended, Fault>
+) -> Result<Ended, Refusal>
     ensures { Does (migrate_script name.now) (store_seen S.tells S.held S.faults store.old store.new) (sink_seen O.tells O.taken O.faults out.old out.new) result }
 {
     let plan = load_journal_plan(alloc, store, name)?;
@@ -57,9 +57,9 @@ pub(crate) fn perform<S: Store, O: Sink>(
             drop(plan);
             ended
         }
-        Err(fault) => {
+        Err(refusal) => {
             drop(plan);
-            Err(fault)
+            Err(refusal)
         }
     }
 }

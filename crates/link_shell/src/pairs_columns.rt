@@ -7,9 +7,8 @@ ghost use Rattle.link_shell.specs.PairsColumns.{are_column_words, columns_in, co
 use crate::words::{is_short, word_at};
 use command_scripts::{Ended, print_text};
 use command_steps::load_both;
-use link_base::Fault;
 use link_core::pair_rows;
-use link_outside::{Sink, Store};
+use link_outside::{Refusal, Sink, Store};
 use std::alloc::Global;
 
 /// The files and the column.
@@ -44,7 +43,7 @@ pub(crate) fn perform<S: Store, O: Sink>(
     request: &ColumnRequest<'_>,
     store: &mut S,
     out: &mut O,
-) -> Result<Ended, Fault>
+) -> Result<Ended, Refusal>
     ensures { Does (columns_script (columns_of_request request.now)) (store_seen S.tells S.held S.faults store.old store.new) (sink_seen O.tells O.taken O.faults out.old out.new) result }
 {
     let inputs = load_both(alloc, store, request.a, request.b)?;

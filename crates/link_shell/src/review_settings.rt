@@ -12,9 +12,9 @@ ghost use Rattle.link_plan.specs.Ranges.{KeepsRanges, NamesFiles};
 use crate::words::{is_settings, is_short, word_at};
 use command_scripts::{Ended, load_file};
 use command_steps::{Reviewed, load_journal_plan, load_reviewed, put_journal};
-use link_base::{Fault, FileRole, Text};
+use link_base::{FileRole, Text};
 use link_core::add_verdicts;
-use link_outside::{Sink, Store};
+use link_outside::{Refusal, Sink, Store};
 use link_plan::Plan;
 use std::alloc::Global;
 use value_forms::read_iso;
@@ -61,7 +61,7 @@ fn add_loaded<S: Store>(
     request: &ReviewRequest<'_>,
     double: bool,
     reviewed: &mut Reviewed,
-) -> Result<Text, Fault>
+) -> Result<Text, Refusal>
     requires request { IsReviewRequest request.now }
     requires of_files { IsDecidedIn reviewed.old.files reviewed.old.decided }
     requires journal { IsJournalOf reviewed.old.files.files reviewed.old.journal }
@@ -79,7 +79,7 @@ fn add_loaded<S: Store>(
         double,
     );
     drop(verdicts);
-    added
+    Ok(added?)
 }
 
 // Loads the files of a plan and new verdicts, adds these to the journal, and makes its text.
@@ -88,7 +88,7 @@ fn load_text<S: Store>(
     store: &mut S,
     request: &ReviewRequest<'_>,
     plan: &Plan,
-) -> Result<Text, Fault>
+) -> Result<Text, Refusal>
     requires request { IsReviewRequest request.now }
     requires ranges { KeepsRanges plan.now }
     requires names { NamesFiles plan.now }
@@ -106,7 +106,7 @@ pub(crate) fn perform<S: Store, O: Sink>(
     request: &ReviewRequest<'_>,
     store: &mut S,
     out: &mut O,
-) -> Result<Ended, Fault>
+) -> Result<Ended, Refusal>
     requires { IsReviewRequest request.now }
     ensures { Does (review_script (review_of_request request.now)) (store_seen S.tells S.held S.faults store.old store.new) (sink_seen O.tells O.taken O.faults out.old out.new) result }
 {
@@ -117,9 +117,9 @@ pub(crate) fn perform<S: Store, O: Sink>(
             drop(plan);
             ended
         }
-        Err(fault) => {
+        Err(refusal) => {
             drop(plan);
-            Err(fault)
+            Err(refusal)
         }
     }
 }

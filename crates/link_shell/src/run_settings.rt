@@ -7,13 +7,12 @@ ghost use Rattle.link_shell.specs.RunSettings.{run_puts, run_script};
 
 use command_scripts::{Ended, Output, put_each};
 use command_steps::load_reviewed_settings;
-use link_base::Fault;
 use link_core::{RunResult, finish};
-use link_outside::{Sink, Store};
+use link_outside::{Refusal, Sink, Store};
 use std::alloc::Global;
 
 // Puts the five texts, in their order.
-fn put_results<S: Store>(alloc: Global, made: &RunResult, store: &mut S) -> Result<Ended, Fault>
+fn put_results<S: Store>(alloc: Global, made: &RunResult, store: &mut S) -> Result<Ended, Refusal>
     ensures { PutsAll (run_puts (five_texts made.now)) (store_seen S.tells S.held S.faults store.old store.new) result }
 {
     let outputs = [
@@ -47,7 +46,7 @@ pub(crate) fn perform<S: Store, O: Sink>(
     name: &str,
     store: &mut S,
     out: &mut O,
-) -> Result<Ended, Fault>
+) -> Result<Ended, Refusal>
     ensures { Does (run_script name.now) (store_seen S.tells S.held S.faults store.old store.new) (sink_seen O.tells O.taken O.faults out.old out.new) result }
 {
     let found = load_reviewed_settings(alloc, store, name, true)?;

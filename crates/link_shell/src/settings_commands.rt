@@ -11,9 +11,8 @@ use crate::words::{is_settings, word_at};
 use crate::{duplicates_settings, migrate_settings, run_settings, verify_settings};
 use command_scripts::{Ended, print_lines, print_text};
 use command_steps::{load_described, load_reviewed_settings, load_shared};
-use link_base::Fault;
 use link_core::{open_lines, pair_ids, rule_lines};
-use link_outside::{Sink, Store};
+use link_outside::{Refusal, Sink, Store};
 use settings_readers::named_in;
 use std::alloc::Global;
 
@@ -74,7 +73,7 @@ fn print_pairs<S: Store, O: Sink>(
     name: &str,
     store: &mut S,
     out: &mut O,
-) -> Result<Ended, Fault>
+) -> Result<Ended, Refusal>
     ensures { Does (pairs_script name.now) (store_seen S.tells S.held S.faults store.old store.new) (sink_seen O.tells O.taken O.faults out.old out.new) result }
 {
     let described = load_described(alloc, store, name)?;
@@ -90,7 +89,7 @@ fn print_rule<S: Store, O: Sink>(
     name: &str,
     store: &mut S,
     out: &mut O,
-) -> Result<Ended, Fault>
+) -> Result<Ended, Refusal>
     ensures { Does (rule_script name.now) (store_seen S.tells S.held S.faults store.old store.new) (sink_seen O.tells O.taken O.faults out.old out.new) result }
 {
     let shared = load_shared(alloc, store, name)?;
@@ -105,7 +104,7 @@ fn print_open<S: Store, O: Sink>(
     name: &str,
     store: &mut S,
     out: &mut O,
-) -> Result<Ended, Fault>
+) -> Result<Ended, Refusal>
     ensures { Does (open_script name.now) (store_seen S.tells S.held S.faults store.old store.new) (sink_seen O.tells O.taken O.faults out.old out.new) result }
 {
     let found = load_reviewed_settings(alloc, store, name, false)?;
@@ -122,7 +121,7 @@ pub(crate) fn perform<S: Store, O: Sink>(
     name: &str,
     store: &mut S,
     out: &mut O,
-) -> Result<Ended, Fault>
+) -> Result<Ended, Refusal>
     ensures { Does (settings_script verb name.now) (store_seen S.tells S.held S.faults store.old store.new) (sink_seen O.tells O.taken O.faults out.old out.new) result }
 {
     match verb {

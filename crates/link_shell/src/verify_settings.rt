@@ -10,13 +10,13 @@ ghost use Rattle.written_check.specs.Verified.{texts_in};
 
 use command_scripts::{Ended, load_written, print_text};
 use command_steps::{ReviewedSettings, load_reviewed_settings};
-use link_base::{Fault, FileRole};
+use link_base::FileRole;
 use link_core::{Verification, Written, verify_files};
-use link_outside::{Sink, Store};
+use link_outside::{Refusal, Sink, Store};
 use std::alloc::Global;
 
 // Loads the three files that are verified.
-fn load_files<S: Store>(alloc: Global, store: &mut S) -> Result<Written, Fault>
+fn load_files<S: Store>(alloc: Global, store: &mut S) -> Result<Written, Refusal>
     ensures takes { Takes written_files (store_seen S.tells S.held S.faults store.old store.new) (seen_by texts_in result) }
     ensures rule { IfOk result (λ w. length w.rule ≤ MOST_WRITTEN_BYTES) }
     ensures links { IfOk result (λ w. length w.links ≤ MOST_WRITTEN_BYTES) }
@@ -25,9 +25,9 @@ fn load_files<S: Store>(alloc: Global, store: &mut S) -> Result<Written, Fault>
     let rule = load_written(alloc, store, "rule.csv", FileRole::Rule)?;
     let links = match load_written(alloc, store, "links.csv", FileRole::Links) {
         Ok(links) => links,
-        Err(fault) => {
+        Err(refusal) => {
             drop(rule);
-            return Err(fault);
+            return Err(refusal);
         }
     };
     match load_written(alloc, store, "prices.csv", FileRole::Prices) {
@@ -36,10 +36,10 @@ fn load_files<S: Store>(alloc: Global, store: &mut S) -> Result<Written, Fault>
             links,
             prices,
         }),
-        Err(fault) => {
+        Err(refusal) => {
             drop(links);
             drop(rule);
-            Err(fault)
+            Err(refusal)
         }
     }
 }
@@ -49,7 +49,7 @@ fn verify_found<S: Store>(
     alloc: Global,
     store: &mut S,
     found: &ReviewedSettings,
-) -> Result<Verification, Fault>
+) -> Result<Verification, Refusal>
     requires { IsReviewed found.now }
     ensures { Makes (written_plan (found_of found.now)) TellsOf (store_seen S.tells S.held S.faults store.old store.new) result }
 {
@@ -81,7 +81,7 @@ pub(crate) fn perform<S: Store, O: Sink>(
     name: &str,
     store: &mut S,
     out: &mut O,
-) -> Result<Ended, Fault>
+) -> Result<Ended, Refusal>
     ensures { Does (verify_script name.now) (store_seen S.tells S.held S.faults store.old store.new) (sink_seen O.tells O.taken O.faults out.old out.new) result }
 {
     let found = load_reviewed_settings(alloc, store, name, false)?;

@@ -1,3 +1,4 @@
+// The weight of an outcome: a logarithm in whole eighths.
 ghost use Rattle.std.specs.Prelude.{◌≡◌, ℤ, pos, ◌-ℤ◌, ◌≤ℤ◌, ◌+◌, ◌-◌, ◌*◌, ◌^◌, ◌<◌, ◌≤◌};
 ghost use Rattle.patterns.specs.Weight.{IsEighthWeight, eighth_weight_of};
 

@@ -1,5 +1,5 @@
 -- The people of the made files: row by row the same in A and in B, but for one change in three rows out of ten of B
--- (`person_of`, `changed_of`, their lone clauses).
+-- (`person_of`, `changed_of`, clause `person`).
 use Rattle.std.specs.Prelude.{ℕ, ◌+◌, ◌*◌, ◌%◌, ◌==◌, if◌then◌else◌, Some, None, pos, ◌-ℤ◌}
 use Rattle.workload.specs.declared.people.Person.{Person}
 

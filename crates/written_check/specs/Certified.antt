@@ -1,5 +1,5 @@
 -- What refutes links and prices that are read: the first candidate that the prices do not cover, and else two sums that differ
--- (`verify_sums`, its lone clause).
+-- (`verify_sums`, clause `answer`).
 use Rattle.std.specs.Prelude.{◌+ℤ◌, ℤ, All, AllPairs, Bool, Contains, List, find, if◌then◌else◌, int_le, not, Option, Some, None, Result, Ok, Err}
 use Rattle.std.specs.Ordering.{int_eq}
 use Rattle.price_check.specs.Assignment.{IsBefore, price_of, price_sum, worth}

@@ -1,5 +1,5 @@
--- What refutes written links: the first row that is not that of a candidate after those before it (`verify_links`, its lone clause), and
--- then the first link with a record of an earlier one (`verify_apart`, its lone clause).
+-- What refutes written links: the first row that is not that of a candidate after those before it (`verify_links`, clause `answer`), and
+-- then the first link with a record of an earlier one (`verify_apart`, clause `answer`).
 use Rattle.std.specs.Prelude.{◌≡◌, ◌==◌, ◌&&◌, ◌||◌, ◌+◌, ◌<◌, ℕ, All, Bool, true, List, [], ◌∷◌, ◌++◌, bytes_eq, find, if◌then◌else◌, length, MatchOption, nat_lt, Option, Some, None, Result, Ok, Err, slice_index_or}
 use Rattle.std.specs.List.{list_all, list_any}
 use Rattle.price_check.specs.Assignment.{no_candidate}

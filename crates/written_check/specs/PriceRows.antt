@@ -1,4 +1,4 @@
--- What refutes written prices: the first row that is not a price of a record after those before it (`verify_prices`, its lone clause).
+-- What refutes written prices: the first row that is not a price of a record after those before it (`verify_prices`, clause `answer`).
 use Rattle.std.specs.Prelude.{◌≡◌, ◌≤◌, ◌≤ℤ◌, ◌-◌, ◌&&◌, ◌+◌, ℕ, ℤ, pos, All, Bool, true, false, List, [], ◌∷◌, bytes_eq, codes, drop, if◌then◌else◌, length, nat_le, replicate, slice_index_or, slice_set, Option, Some, None, Result, Ok, Err}
 use Rattle.std.specs.List.{list_all}
 use Rattle.std.specs.Ordering.{int_eq}

@@ -1,4 +1,4 @@
--- What refutes a written rule: its first row that is not the row of its cell (`verify_rule`, its lone clause).
+-- What refutes a written rule: its first row that is not the row of its cell (`verify_rule`, clause `answer`).
 use Rattle.std.specs.Prelude.{◌≡◌, ◌+◌, ℕ, Bool, false, List, [], ◌∷◌, if◌then◌else◌, map, Option, Some, None, Result}
 use Rattle.link_base.specs.Answers.{and_then}
 use Rattle.link_base.specs.declared.rule.RuleCell.{RuleCell}

@@ -1,5 +1,5 @@
 use Rattle.std.proofs.Common.{refl}
-use Rattle.command_scripts.specs.StepLaws.{takes_go, takes_stop, takes_value}
+use Rattle.command_scripts.specs.StepLaws.{takes_go, takes_ok, takes_stop}
 use Rattle.command_steps.proofs.front.load_both.Goals as goal
 
 pub returns-in_err-a : goal.returns-in_err-a
@@ -9,4 +9,4 @@ pub returns-in-Err : goal.returns-in-Err
 returns-in-Err g c = takes_go _ _ c.in_ok-a.ensures (takes_stop _ _ c.in-Err.ensures refl)
 
 pub returns-in-Ok : goal.returns-in-Ok
-returns-in-Ok g c = takes_go _ _ c.in_ok-a.ensures (takes_go _ _ c.in-Ok.ensures (takes_value tt refl))
+returns-in-Ok g c = takes_go _ _ c.in_ok-a.ensures (takes_go _ _ c.in-Ok.ensures (takes_ok _ refl))

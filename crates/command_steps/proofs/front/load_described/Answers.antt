@@ -1,6 +1,6 @@
 use Rattle.std.proofs.Common.{refl}
 use Rattle.command_steps.specs.Front.{described_of}
-use Rattle.command_scripts.specs.StepLaws.{seen_err, takes_go, takes_stop, takes_value}
+use Rattle.command_scripts.specs.StepLaws.{seen_err, takes_go, takes_ok, takes_stop}
 use Rattle.command_steps.proofs.front.load_described.Goals as goal
 
 pub returns-in_err-plan-clause-takes : goal.returns-in_err-plan-clause-takes
@@ -10,4 +10,4 @@ pub returns-in-Err-clause-takes : goal.returns-in-Err-clause-takes
 returns-in-Err-clause-takes g c = takes_go _ _ c.in_ok-plan.ensures.takes (takes_stop _ _ c.in-Err.ensures.takes refl)
 
 pub returns-in-Ok-clause-takes : goal.returns-in-Ok-clause-takes
-returns-in-Ok-clause-takes g c = takes_go _ _ c.in_ok-plan.ensures.takes (takes_go _ _ c.in-Ok.ensures.takes (takes_value tt refl))
+returns-in-Ok-clause-takes g c = takes_go _ _ c.in_ok-plan.ensures.takes (takes_go _ _ c.in-Ok.ensures.takes (takes_ok _ refl))

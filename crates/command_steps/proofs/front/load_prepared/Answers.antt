@@ -6,4 +6,4 @@ pub returns-in_err-inputs-clause-takes : goal.returns-in_err-inputs-clause-takes
 returns-in_err-inputs-clause-takes g c = takes_stop _ _ c.in_err-inputs.ensures (seen_err files_of c.from_residual.result _ c.from_residual.ensures.1)
 
 pub returns-clause-takes : goal.returns-clause-takes
-returns-clause-takes g c = takes_go _ _ c.in_ok-inputs.ensures (takes_seen files_of c.prepare_texts.result c.prepare_texts.ensures.kind c.prepare_texts.ensures.answer)
+returns-clause-takes g c = takes_go _ _ c.in_ok-inputs.ensures (takes_seen files_of c.prepare_texts.result c.prepare_texts.ensures.answer)

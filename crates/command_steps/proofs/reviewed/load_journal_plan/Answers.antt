@@ -4,7 +4,7 @@ use Rattle.link_base.specs.Fault.{Refuses}
 use Rattle.link_base.specs.declared.fault.Fault.{Fault}
 use Rattle.link_base.specs.declared.fault.Fault.TheVariants as fault
 use Rattle.link_plan.specs.declared.plan.Plan.{Plan}
-use Rattle.command_scripts.specs.StepLaws.{takes_go, takes_stop, takes_value}
+use Rattle.command_scripts.specs.StepLaws.{takes_fault, takes_go, takes_ok, takes_stop}
 use Rattle.command_steps.proofs.reviewed.load_journal_plan.Goals as goal
 
 -- a plan that names a journal, and one that names none
@@ -24,9 +24,9 @@ returns-in_err-plan-clause-takes g c = takes_stop _ _ c.in_err-plan.ensures.take
 
 pub returns-then-is_some-clause-takes : goal.returns-then-is_some-clause-takes
 returns-then-is_some-clause-takes g c =
-    takes_go _ _ c.in_ok-plan.ensures.takes (takes_value {result = Ok c.in_ok-plan.plan} tt (named c.in_ok-plan.plan _ (sym c.is_some.ensures ∙ c.if-is_some.true)))
+    takes_go _ _ c.in_ok-plan.ensures.takes (takes_ok _ (named c.in_ok-plan.plan _ (sym c.is_some.ensures ∙ c.if-is_some.true)))
 
 pub returns-clause-takes : goal.returns-clause-takes
 returns-clause-takes g c =
     let f = c.missing_journal.result in
-    takes_go _ _ c.in_ok-plan.ensures.takes (takes_value {result = Err f} c.missing_journal.ensures.kind (unnamed c.in_ok-plan.plan _ f (sym c.is_some.ensures ∙ c.if-is_some.false) c.missing_journal.ensures.answer))
+    takes_go _ _ c.in_ok-plan.ensures.takes (takes_fault (unnamed c.in_ok-plan.plan _ f (sym c.is_some.ensures ∙ c.if-is_some.false) c.missing_journal.ensures.answer))

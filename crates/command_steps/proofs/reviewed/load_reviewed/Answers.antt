@@ -1,6 +1,6 @@
 use Rattle.std.proofs.Common.{refl}
 use Rattle.command_steps.specs.Reviewed.{review_of}
-use Rattle.command_scripts.specs.StepLaws.{seen_err, takes_go, takes_stop, takes_value}
+use Rattle.command_scripts.specs.StepLaws.{seen_err, takes_go, takes_ok, takes_stop}
 use Rattle.command_steps.proofs.reviewed.load_reviewed.Goals as goal
 
 pub returns-in_err-files-clause-takes : goal.returns-in_err-files-clause-takes
@@ -15,7 +15,7 @@ returns-in-Err-load_journal-clause-takes g c =
 
 pub returns-in-Ok-load_journal-clause-takes : goal.returns-in-Ok-load_journal-clause-takes
 returns-in-Ok-load_journal-clause-takes g c =
-    takes_go _ _ c.in_ok-files.ensures.takes (takes_go _ _ c.in-Ok.ensures.takes (takes_go _ _ c.in-Ok-load_journal.ensures.takes (takes_value tt refl)))
+    takes_go _ _ c.in_ok-files.ensures.takes (takes_go _ _ c.in-Ok.ensures.takes (takes_go _ _ c.in-Ok-load_journal.ensures.takes (takes_ok _ refl)))
 
 pub returns-in-Ok-load_journal-clause-reviewed : goal.returns-in-Ok-load_journal-clause-reviewed
 returns-in-Ok-load_journal-clause-reviewed g c =

@@ -3,6 +3,6 @@ use Rattle.link_core.specs.ColumnPairs.{first_field}
 use Rattle.link_core.proofs.ColumnLemmas.{columns_paired}
 use Rattle.link_core.proofs.column_pairs.compare_columns.Goals as goal
 
-pub returns-clause-answer : goal.returns-clause-answer
-returns-clause-answer c =
-    rw (← columns_paired (map first_field c.args.a) (map first_field c.args.b), ← c.in_ok-rows.ensures) c.list_pairs.ensures.answer
+pub returns : goal.returns
+returns c =
+    record { answer = rw (← columns_paired (map first_field c.args.a) (map first_field c.args.b), ← c.in_ok-rows.ensures) c.list_pairs.ensures.answer }

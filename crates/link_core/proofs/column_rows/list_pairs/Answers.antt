@@ -16,10 +16,10 @@ loop-at-preserved c =
       few = omega (arith, ap length kept, length-append c.loop-at.pairs.items (map (pair at) bs), length-map bs (pair at), c.len.ensures, c.if-len-bs-gt-MOST_PAIRS.false);
     }
 
-pub returns-then-len-bs-gt-MOST_PAIRS-clause-answer : goal.returns-then-len-bs-gt-MOST_PAIRS-clause-answer
-returns-then-len-bs-gt-MOST_PAIRS-clause-answer c =
+pub returns-then-len-bs-gt-MOST_PAIRS : goal.returns-then-len-bs-gt-MOST_PAIRS
+returns-then-len-bs-gt-MOST_PAIRS c =
     let within : c.loop-at.at < length c.args.rows.now = omega (arith, c.loop-at-test.true, c.len-at-end.ensures) in
-    too_many_told c.args.rows.now c.loop-at.at c.rows-bs.result.now c.loop-at.pairs.items within c.rows-bs.ensures (omega (arith, c.len.ensures, c.if-len-bs-gt-MOST_PAIRS.true)) c.loop-at.invariant.told
+    record { answer = too_many_told c.args.rows.now c.loop-at.at c.rows-bs.result.now c.loop-at.pairs.items within c.rows-bs.ensures (omega (arith, c.len.ensures, c.if-len-bs-gt-MOST_PAIRS.true)) c.loop-at.invariant.told }
 
 pub returns : goal.returns
 returns c =

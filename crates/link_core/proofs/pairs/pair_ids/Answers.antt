@@ -17,9 +17,9 @@ ids_of_rows-requires-clause-inside c =
     let b = ap (λ (file : List Record). length file) (sym c.b.ensures) in
     subst (λ (pairs : List PairAt). All (IsInside (length c.a.result.now) (length c.b.result.now)) pairs) (sym walked) (pairs_inside plan p (length c.a.result.now) (length c.b.result.now) a b)
 
-pub returns-clause-answer : goal.returns-clause-answer
-returns-clause-answer c =
+pub returns : goal.returns
+returns c =
     let plan = c.args.plan.now in
     let p = c.args.prepared.now in
     let walked : pairs_of_rows c.walk.result.left ≡ compared_in plan p.files = walked_pairs plan p c.walk.result.left (c.walk.ensures.left ∙ c.in_ok-blocks.ensures) in
-    rw (← walked, ← c.a.ensures, ← c.b.ensures) c.ids_of_rows.ensures.answer
+    record { answer = rw (← walked, ← c.a.ensures, ← c.b.ensures) c.ids_of_rows.ensures.answer }

@@ -36,32 +36,26 @@ journal_lines-requires c =
           c.in-Ok-add.ensures.answer c.requires.of_files placed;
     }
 
-pub returns-in-Ok-add-clause-answer : goal.returns-in-Ok-add-clause-answer
-returns-in-Ok-add-clause-answer c =
+pub returns-in-Ok-add : goal.returns-in-Ok-add
+returns-in-Ok-add c =
     let p = c.args.prepared.now in
     let read = of_records (λ a b. verdicts_of a b c.args.verdicts.now) p.files.a.records p.files.b.records c.a.result.now c.b.result.now (Ok c.in-Ok.batch) c.a.ensures c.b.ensures c.in-Ok.ensures.answer in
     let all : ℤ → List PairAt → Result (List Entry) Fault = λ date possible. added c.args.double date c.args.reviewer.now possible c.args.journal.now c.in-Ok.batch in
     let fits : FitsSigned w32 c.args.date = search rules in
     let new = as_handed all (λ r. r ≡ Ok c.add.new.self) c.args.date _ c.args.decided.now.possible c.possible.result.now (to_z-of_z w32 c.args.date fits) c.possible.ensures c.in-Ok-add.ensures.answer in
-    answer_next (verdicts_of p.files.a.records p.files.b.records c.args.verdicts.now) _ c.in-Ok.batch c.journal_lines.result read
-    (answer_next (all c.args.date c.args.decided.now.possible) (λ es. journal_lines_of p.files es) c.add.new.self c.journal_lines.result new c.journal_lines.ensures.answer)
+    record { answer = answer_next (verdicts_of p.files.a.records p.files.b.records c.args.verdicts.now) _ c.in-Ok.batch c.journal_lines.result read
+    (answer_next (all c.args.date c.args.decided.now.possible) (λ es. journal_lines_of p.files es) c.add.new.self c.journal_lines.result new c.journal_lines.ensures.answer) }
 
-pub returns-clause-answer : goal.returns-clause-answer
-returns-clause-answer c =
+pub returns : goal.returns
+returns c =
     let p = c.args.prepared.now in
     let f = c.in-Err-add.fault in
     let read = of_records (λ a b. verdicts_of a b c.args.verdicts.now) p.files.a.records p.files.b.records c.a.result.now c.b.result.now (Ok c.in-Ok.batch) c.a.ensures c.b.ensures c.in-Ok.ensures.answer in
     let all : ℤ → List PairAt → Result (List Entry) Fault = λ date possible. added c.args.double date c.args.reviewer.now possible c.args.journal.now c.in-Ok.batch in
     let fits : FitsSigned w32 c.args.date = search rules in
     let refused = as_handed all (λ r. Refuses r f) c.args.date _ c.args.decided.now.possible c.possible.result.now (to_z-of_z w32 c.args.date fits) c.possible.ensures c.in-Err-add.ensures.answer.0 in
-    refuses_next (verdicts_of p.files.a.records p.files.b.records c.args.verdicts.now) _ c.in-Ok.batch f read
-    (refuses_then (all c.args.date c.args.decided.now.possible) (λ es. journal_lines_of p.files es) f refused)
+    record { answer = refuses_next (verdicts_of p.files.a.records p.files.b.records c.args.verdicts.now) _ c.in-Ok.batch f read
+    (refuses_then (all c.args.date c.args.decided.now.possible) (λ es. journal_lines_of p.files es) f refused) }
 
 pub add-requires-clause-rising : goal.add-requires-clause-rising
 add-requires-clause-rising c = subst (λ (ps : List PairAt). AllPairs IsPairBefore ps) (sym c.possible.ensures) c.requires.decided.rising
-
-pub returns-in-Ok-add-clause-kind : goal.returns-in-Ok-add-clause-kind
-returns-in-Ok-add-clause-kind c = c.journal_lines.ensures.kind
-
-pub returns-clause-kind : goal.returns-clause-kind
-returns-clause-kind c = c.in-Err-add.ensures.kind

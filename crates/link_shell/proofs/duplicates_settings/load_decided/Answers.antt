@@ -5,7 +5,7 @@ use Rattle.link_base.specs.declared.rule.PairAt.{PairAt}
 use Rattle.link_core.specs.Decisions.{rule_in}
 use Rattle.link_core.specs.Results.{compared_in}
 use Rattle.pair_decisions.specs.Decisions.{decision_at, is_same}
-use Rattle.command_scripts.specs.StepLaws.{seen_err, takes_go, takes_stop, takes_value}
+use Rattle.command_scripts.specs.StepLaws.{seen_err, takes_go, takes_ok, takes_stop}
 use Rattle.link_shell.specs.DuplicatesSettings.{within_of}
 use Rattle.link_shell.proofs.duplicates_settings.load_decided.Goals as goal
 
@@ -16,7 +16,7 @@ pub returns-in-Err-clause-takes : goal.returns-in-Err-clause-takes
 returns-in-Err-clause-takes g c = takes_go _ _ c.in_ok-files.ensures.takes (takes_stop _ _ c.in-Err.ensures.takes refl)
 
 pub returns-in-Ok-clause-takes : goal.returns-in-Ok-clause-takes
-returns-in-Ok-clause-takes g c = takes_go _ _ c.in_ok-files.ensures.takes (takes_go _ _ c.in-Ok.ensures.takes (takes_value tt refl))
+returns-in-Ok-clause-takes g c = takes_go _ _ c.in_ok-files.ensures.takes (takes_go _ _ c.in-Ok.ensures.takes (takes_ok _ refl))
 
 pub returns-in-Ok-clause-found : goal.returns-in-Ok-clause-found
 returns-in-Ok-clause-found g c =

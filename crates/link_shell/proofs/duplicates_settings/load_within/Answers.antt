@@ -1,7 +1,7 @@
 use Rattle.std.proofs.Common.{◌≡◌, ℕ, List, Result, Ok, Err, IfOk, length, subst}
 use Rattle.link_base.specs.Fault.{Gives}
-use Rattle.link_base.specs.declared.fault.Fault.{Fault}
 use Rattle.link_base.specs.declared.fault.FileRole.TheVariants as role
+use Rattle.link_outside.specs.declared.refusal.Refusal.{Refusal}
 use Rattle.link_core.specs.ReadLaws.{same_rows}
 use Rattle.link_core.specs.Prepared.{files_of, prepared, PreparedView}
 use Rattle.link_limits.specs.declared.TheConstants.{MOST_DISTINCT_BYTES}
@@ -13,11 +13,11 @@ use Rattle.command_scripts.specs.StepLaws.{of_bytes, seen_err, takes_go, takes_s
 use Rattle.link_shell.proofs.duplicates_settings.load_within.Goals as goal
 
 -- the load of a file by its name
-by_name : (n m : List ℕ) {store : StoreSeen} {result : Result (List ℕ) Fault} → n ≡ m → Takes (file role.A n) store result → Takes (file role.A m) store result
+by_name : (n m : List ℕ) {store : StoreSeen} {result : Result (List ℕ) Refusal} → n ≡ m → Takes (file role.A n) store result → Takes (file role.A m) store result
 by_name n m {store = store} {result = result} e h = subst (λ x. Takes (file role.A x) store result) e h
 
 -- both files have as many records where the plan is that of a file with itself
-same_if : (plan whole : Plan) (limit : ℕ) (bytes : List ℕ) (result : Result PreparedView Fault) → plan ≡ plan_within whole → Gives files_of (prepared plan limit bytes bytes) result
+same_if : (plan whole : Plan) (limit : ℕ) (bytes : List ℕ) (result : Result PreparedView Refusal) → plan ≡ plan_within whole → Gives files_of (prepared plan limit bytes bytes) result
     → IfOk result (λ p. length p.files.b.records ≡ length p.files.a.records)
 same_if plan whole limit bytes (Ok p) e h = same_rows whole limit bytes (files_of p) (subst (λ q. prepared q limit bytes bytes ≡ Ok (files_of p)) e h)
 same_if plan whole limit bytes (Err f) e h = tt
@@ -31,7 +31,7 @@ returns-clause-takes g c =
     let a = c.in_ok-a.a in
     let answer = of_bytes (λ x y. Gives files_of (prepared c.args.plan.now MOST_DISTINCT_BYTES x y) c.prepare_files-files.result) {a = a} {b = a} c.bytes.ensures c.bytes-2.ensures c.prepare_files-files.ensures.answer in
     takes_go _ _ (by_name c.file_name.result.now c.args.plan.now.file_a c.file_name.ensures c.in_ok-a.ensures)
-    (takes_seen files_of c.prepare_files-files.result c.prepare_files-files.ensures.kind answer)
+    (takes_seen files_of c.prepare_files-files.result answer)
 
 pub returns-clause-same : goal.returns-clause-same
 returns-clause-same g c =

@@ -3,8 +3,8 @@ use Rattle.std.specs.Prelude.{All, nat_lt}
 use Rattle.std.proofs.lemmas.Bool.Decides.{nat_tests}
 use Rattle.std.proofs.lemmas.List.Elements.{All-filter, filter_passes}
 use Rattle.dedup_groups.specs.Groups.{IsLinkWithin}
-use Rattle.link_base.specs.declared.fault.Fault.{Fault}
 use Rattle.link_base.specs.declared.rule.PairAt.{PairAt}
+use Rattle.link_outside.specs.declared.refusal.Refusal.{Refusal}
 use Rattle.link_core.specs.Duplicates.{IsGroupsText, links_within}
 use Rattle.pair_decisions.specs.Pairs.{IsInside}
 use Rattle.link_plan.specs.Within.{plan_within}
@@ -18,7 +18,7 @@ use Rattle.link_shell.specs.DuplicatesSettings.{AreGroupsPrinted, decided_within
 use Rattle.link_shell.proofs.duplicates_settings.perform.Goals as goal
 
 -- the decisions of the same plan
-by_plan : (p q : Plan) {store : StoreSeen} {result : Result Within Fault} → p ≡ q → Takes (decided_within p) store result → Takes (decided_within q) store result
+by_plan : (p q : Plan) {store : StoreSeen} {result : Result Within Refusal} → p ≡ q → Takes (decided_within p) store result → Takes (decided_within q) store result
 by_plan p q {store = store} {result = result} e h = subst (λ x. Takes (decided_within x) store result) e h
 
 below : (x y : ℕ) → nat_lt x y ≡ true → x < y

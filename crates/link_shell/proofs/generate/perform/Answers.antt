@@ -10,7 +10,7 @@ use Rattle.link_shell.proofs.generate.perform.Goals as goal
 
 pub returns-in_err-found : goal.returns-in_err-found
 returns-in_err-found g c =
-    does_fail _ _ (takes_seen found_of (Err c.in_err-found.field-0.0) c.in_err-found.ensures.kind c.in_err-found.ensures.answer) c.from_residual.ensures.1
+    does_fail _ _ (takes_seen found_of (Err c.in_err-found.field-0.0) c.in_err-found.ensures.answer) c.from_residual.ensures.1
 
 pub returns-in_err-results : goal.returns-in_err-results
 returns-in_err-results g c =

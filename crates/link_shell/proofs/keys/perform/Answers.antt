@@ -4,10 +4,10 @@ use Rattle.link_core.specs.NameKeys.{keys_text}
 use Rattle.command_scripts.specs.Due.{is_printed, prints}
 use Rattle.command_scripts.specs.declared.ends.Ended.TheVariants.{Done}
 use Rattle.command_scripts.specs.DoesLaws.{does_lines}
-use Rattle.command_scripts.specs.StepLaws.{takes_value}
+use Rattle.command_scripts.specs.StepLaws.{takes_ok}
 use Rattle.link_shell.proofs.keys.perform.Goals as goal
 
 pub returns : goal.returns
 returns g c =
     let keys = keys_text (map string_bytes c.args.words.now) in
-    does_lines _ is_printed (λ text. text ≡ keys) c.key_lines-lines.result {x = keys} (takes_value tt refl) (λ text is. ap (λ t. prints Done t) is) c.key_lines-lines.ensures c.print_lines.ensures.printed c.print_lines.ensures.wanted
+    does_lines _ is_printed (λ text. text ≡ keys) c.key_lines-lines.result {x = keys} (takes_ok _ refl) (λ text is. ap (λ t. prints Done t) is) c.key_lines-lines.ensures c.print_lines.ensures.printed c.print_lines.ensures.wanted

@@ -3,7 +3,7 @@ use Rattle.command_scripts.specs.Due.{Put}
 use Rattle.command_steps.specs.Reviewed.{put_of_journal}
 use Rattle.command_scripts.specs.Steps.{gives}
 use Rattle.command_scripts.specs.DoesLaws.{does_go, does_puts, does_stop}
-use Rattle.command_scripts.specs.StepLaws.{takes_value}
+use Rattle.command_scripts.specs.StepLaws.{takes_ok}
 use Rattle.link_shell.specs.MigrateSettings.{is_one_put}
 use Rattle.link_shell.proofs.migrate_settings.perform.Goals as goal
 
@@ -16,4 +16,4 @@ returns-in-Err g c = does_go _ _ _ c.in_ok-plan.ensures.takes (does_stop _ _ _ c
 pub returns-in-Ok : goal.returns-in-Ok
 returns-in-Ok g c =
     let put : Put = put_of_journal c.in_ok-plan.plan c.in-Ok.text in
-    does_go _ _ _ c.in_ok-plan.ensures.takes (does_go _ _ _ c.in-Ok.ensures (does_puts (gives (Ok put)) is_one_put {x = put} (takes_value tt refl) c.put_journal-ended.ensures refl))
+    does_go _ _ _ c.in_ok-plan.ensures.takes (does_go _ _ _ c.in-Ok.ensures (does_puts (gives (Ok put)) is_one_put {x = put} (takes_ok _ refl) c.put_journal-ended.ensures refl))

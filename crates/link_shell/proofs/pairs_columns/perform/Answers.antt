@@ -1,7 +1,7 @@
 use Rattle.std.proofs.Common.{refl}
 use Rattle.command_scripts.specs.Due.{is_printed}
 use Rattle.command_scripts.specs.DoesLaws.{does_fail, does_go, does_print, does_stop}
-use Rattle.command_scripts.specs.StepLaws.{takes_ok, takes_value}
+use Rattle.command_scripts.specs.StepLaws.{takes_fault, takes_ok}
 use Rattle.link_shell.proofs.pairs_columns.perform.Goals as goal
 
 pub returns-in_err-inputs : goal.returns-in_err-inputs
@@ -9,7 +9,7 @@ returns-in_err-inputs g c = does_stop _ _ is_printed c.in_err-inputs.ensures c.f
 
 pub returns-in_err-text : goal.returns-in_err-text
 returns-in_err-text g c =
-    does_go _ _ is_printed c.in_ok-inputs.ensures (does_fail _ is_printed (takes_value c.in_err-text.ensures.kind c.in_err-text.ensures.answer) c.from_residual-in_err-text.ensures.1)
+    does_go _ _ is_printed c.in_ok-inputs.ensures (does_fail _ is_printed (takes_fault c.in_err-text.ensures.answer) c.from_residual-in_err-text.ensures.1)
 
 pub returns : goal.returns
 returns g c =

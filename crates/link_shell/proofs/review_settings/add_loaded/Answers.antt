@@ -4,7 +4,7 @@ use Rattle.std.proofs.lemmas.Int.{to_z-of_z}
 use Rattle.link_base.specs.Fault.{IsAnswer}
 use Rattle.link_base.specs.declared.fault.Fault.{Fault}
 use Rattle.link_core.specs.Review.{reviewed_lines_of}
-use Rattle.command_scripts.specs.StepLaws.{takes_go, takes_stop, takes_value}
+use Rattle.command_scripts.specs.StepLaws.{takes_fault, takes_go, takes_stop}
 use Rattle.link_shell.proofs.review_settings.add_loaded.Goals as goal
 
 -- the text of the day and of the bytes that are handed on
@@ -21,4 +21,4 @@ returns g c =
     let lines : ℤ → List ℕ → Result (List ℕ) Fault = λ date bytes. reviewed_lines_of c.args.double date w.reviewer.now r.files.files r.decided.possible r.journal bytes in
     let fits : FitsSigned w32 w.date = search rules in
     let answer = as_handed lines c.add_verdicts-added.result w.date _ c.in_ok-verdicts.verdicts c.bytes.result.now (to_z-of_z w32 w.date fits) c.bytes.ensures c.add_verdicts-added.ensures.answer in
-    takes_go _ _ c.in_ok-verdicts.ensures (takes_value c.add_verdicts-added.ensures.kind answer)
+    takes_go _ _ c.in_ok-verdicts.ensures (takes_fault answer)

@@ -1,6 +1,6 @@
 use Rattle.std.proofs.Common.{refl}
 use Rattle.written_check.specs.Verified.{texts_in}
-use Rattle.command_scripts.specs.StepLaws.{seen_err, takes_go, takes_stop, takes_value}
+use Rattle.command_scripts.specs.StepLaws.{seen_err, takes_go, takes_ok, takes_stop}
 use Rattle.link_shell.proofs.verify_settings.load_files.Goals as goal
 
 pub returns-in_err-rule-clause-takes : goal.returns-in_err-rule-clause-takes
@@ -15,4 +15,4 @@ returns-in-Err-load_written-clause-takes g c =
 
 pub returns-in-Ok-load_written-clause-takes : goal.returns-in-Ok-load_written-clause-takes
 returns-in-Ok-load_written-clause-takes g c =
-    takes_go _ _ c.in_ok-rule.ensures.takes (takes_go _ _ c.in-Ok.ensures.takes (takes_go _ _ c.in-Ok-load_written.ensures.takes (takes_value tt refl)))
+    takes_go _ _ c.in_ok-rule.ensures.takes (takes_go _ _ c.in-Ok.ensures.takes (takes_go _ _ c.in-Ok-load_written.ensures.takes (takes_ok _ refl)))

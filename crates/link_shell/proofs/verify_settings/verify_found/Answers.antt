@@ -1,7 +1,7 @@
 use Rattle.std.proofs.Common.{Ok, refl}
 use Rattle.command_steps.specs.Reviewed.{found_of, ReviewedPlan}
 use Rattle.command_scripts.specs.Steps.{gives}
-use Rattle.command_scripts.specs.StepLaws.{makes_end, makes_go, makes_want, takes_go, takes_value}
+use Rattle.command_scripts.specs.StepLaws.{makes_end, makes_go, makes_want, takes_go, takes_ok}
 use Rattle.written_check.specs.Verified.{texts_in}
 use Rattle.written_check.specs.declared.written.Written.{Written}
 use Rattle.link_shell.specs.VerifySettings.{TellsOf, WrittenPlan}
@@ -17,9 +17,9 @@ returns-in_err-written g c = makes_end _ _ TellsOf _ c.in_err-written.ensures.ta
 pub returns-in_err-told : goal.returns-in_err-told
 returns-in_err-told g c =
     let w = written_of (found_of c.args.found.now) c.in_ok-written.written in
-    makes_go _ _ TellsOf _ _ _ c.in_ok-written.ensures.takes (makes_want (gives (Ok w)) TellsOf _ {x = w} (takes_value tt refl) c.from_residual-in_err-told.ensures.1)
+    makes_go _ _ TellsOf _ _ _ c.in_ok-written.ensures.takes (makes_want (gives (Ok w)) TellsOf _ {x = w} (takes_ok _ refl) c.from_residual-in_err-told.ensures.1)
 
 pub returns : goal.returns
 returns g c =
     let w = written_of (found_of c.args.found.now) c.in_ok-written.written in
-    (w, takes_go _ _ c.in_ok-written.ensures.takes (takes_value {expected = Ok w} {result = Ok w} tt refl), record { rule = c.requires.rule; verdict = c.in_ok-told.ensures })
+    (w, takes_go _ _ c.in_ok-written.ensures.takes (takes_ok {expected = Ok w} w refl), record { rule = c.requires.rule; verdict = c.in_ok-told.ensures })
