@@ -4,8 +4,8 @@ ghost use Rattle.link_outside.specs.Outside.{Appends, HasCause};
 ghost use Rattle.link_outside.specs.Refusal.{refusal_line};
 
 use crate::outside::{Sink, SinkError};
-use crate::refusal::{Refusal, push_refusal};
-use link_base::NoMemory;
+use crate::refusal::Refusal;
+use link_base::{NoMemory, push_fault};
 use std::alloc::Global;
 
 fn line_of(alloc: Global, refusal: &Refusal) -> Result<Vec<u8>, NoMemory>
@@ -13,7 +13,15 @@ fn line_of(alloc: Global, refusal: &Refusal) -> Result<Vec<u8>, NoMemory>
 {
     let mut line = Vec::new(alloc);
     line.extend_from_slice(b"linkage: ")?;
-    push_refusal(alloc, &mut line, refusal)?;
+    match refusal {
+        Refusal::Usage => line.extend_from_slice(b"usage")?,
+        Refusal::Store { name } => {
+            line.extend_from_slice(b"store: ")?;
+            line.extend_from_slice(name.bytes())?;
+        }
+        Refusal::Output => line.extend_from_slice(b"output")?,
+        Refusal::Fault(fault) => push_fault(alloc, &mut line, fault)?,
+    }
     line.push(b'\n')?;
     Ok(line)
 }

@@ -1,9 +1,8 @@
 // Why commands are refused.
-ghost use Rattle.std.specs.Prelude.{◌≡◌, ◌++◌, OnOk};
-ghost use Rattle.link_outside.specs.Refusal.{refusal_status, refusal_text};
+ghost use Rattle.std.specs.Prelude.{◌≡◌};
+ghost use Rattle.link_outside.specs.Refusal.{refusal_status};
 
-use link_base::{Fault, NoMemory, Text, push_fault, status_of};
-use std::alloc::{AllocError, AllocFailed, Global};
+use link_base::{Fault, NoMemory, Text, status_of};
 
 /// Why a command was refused.
 #[derive(Drop)]
@@ -56,24 +55,4 @@ impl Refusal {
             Refusal::Fault(fault) => status_of(fault),
         }
     }
-}
-
-// Appends the text of a refusal.
-pub(crate) fn push_refusal(
-    alloc: Global,
-    text: &mut Vec<u8>,
-    refusal: &Refusal,
-) -> Result<(), NoMemory>
-    ensures { OnOk result (text.new.items ≡ text.old.items ++ refusal_text refusal.now) }
-{
-    match refusal {
-        Refusal::Usage => text.extend_from_slice(b"usage")?,
-        Refusal::Store { name } => {
-            text.extend_from_slice(b"store: ")?;
-            text.extend_from_slice(name.bytes())?;
-        }
-        Refusal::Output => text.extend_from_slice(b"output")?,
-        Refusal::Fault(fault) => push_fault(alloc, text, fault)?,
-    }
-    Ok(())
 }
