@@ -96,7 +96,7 @@ fn pairs_of(
     pair_lines(
         alloc,
         plan,
-        decided.rows(),
+        decided,
         journal,
         prepared.a(),
         prepared.b(),

@@ -9,9 +9,9 @@ use Rattle.link_base.specs.declared.rule.Decision.{Decision}
 use Rattle.link_base.specs.declared.rule.Decision.TheVariants.{Link, NonLink, Possible}
 use Rattle.link_base.specs.declared.rule.PairAt.{PairAt}
 use Rattle.link_base.specs.Rule.{IsPairBefore}
-use Rattle.link_report.specs.declared.open.PairRow.{PairRow}
 use Rattle.pair_decisions.specs.PairRule.{cell_of, FileRule, PairRuleView, side_rule}
 use Rattle.pair_decisions.specs.Pairs.{IsInside}
+use Rattle.pair_decisions.specs.declared.rows.DecidedRow.{DecidedRow}
 
 -- the decision on the pair at positions, by the cell of its comparison pattern and its border word
 unfoldable pub decision_at : FileRule → PairAt → Decision
@@ -31,7 +31,7 @@ pairs_with kind rule pairs = filter (λ at. is_same kind (decision_at rule at)) 
 -- the possible links
 pub record DecidedView : Type 0 where
   pub rule : PairRuleView
-  pub rows : List PairRow
+  pub rows : List DecidedRow
   pub compared : ℕ
   pub links : List PairAt
   pub possible : List PairAt

@@ -1,16 +1,18 @@
--- The rows of compared pairs: each with its comparison pattern, the weight and the decision of the pattern's cell (Fellegi and
--- Sunter 1969, section 2), and the verdict of clerical review. `decide_pairs` finds them before review (clause `decided`), and
--- `pair_lines` writes them with their verdicts (its lone clause).
+-- The rows of compared pairs: each with its comparison pattern and the decision of the pattern's cell (Fellegi and Sunter 1969,
+-- section 2), as `decide_pairs` finds them before review (clause `decided`), and with the weight of the cell and the verdict of
+-- clerical review, as `pair_lines` writes them (its lone clause).
 use Rattle.std.specs.Prelude.{◌≡◌, ◌<◌, ℕ, Bool, true, false, List, [], All, AllPairs, length, map, Option, None}
 use Rattle.comparators.specs.declared.ids.IdValue.{IdValue}
 use Rattle.link_base.specs.declared.rule.Decision.{Decision}
 use Rattle.link_base.specs.declared.rule.Decision.TheVariants.{Possible}
 use Rattle.link_base.specs.declared.rule.PairAt.{PairAt}
+use Rattle.link_base.specs.declared.rule.RuleCell.{RuleCell}
 use Rattle.link_base.specs.declared.rule.Verdict.{Verdict}
 use Rattle.link_base.specs.Rule.{IsPairBefore}
 use Rattle.link_report.specs.declared.open.PairRow.{PairRow}
 use Rattle.pair_decisions.specs.Decisions.{AreDecisionsOn, AreListsIn, count_with, DecidedView, decision_at, pairs_with}
 use Rattle.pair_decisions.specs.PairRule.{cell_of, FileRule, PairRuleView, side_rule}
+use Rattle.pair_decisions.specs.declared.rows.DecidedRow.{DecidedRow}
 use Rattle.review_journal.specs.Verdict.{verdict_on}
 use Rattle.review_journal.specs.declared.entry.Entry.{Entry}
 
@@ -20,42 +22,40 @@ shown_verdict entries at Possible = verdict_on entries at.a at.b
 shown_verdict entries at decision = None
 
 -- the row of a pair before review, and those of pairs
-abbrev pub decided_row : FileRule → PairAt → PairRow
-decided_row rule at =
-    let pattern = rule.pattern at in
-    record {
-      at = at;
-      pattern = pattern;
-      weight = (cell_of rule.cells pattern).weight;
-      decision = decision_at rule at;
-      verdict = None;
-    }
+abbrev pub decided_row : FileRule → PairAt → DecidedRow
+decided_row rule at = record { at = at; pattern = rule.pattern at; decision = decision_at rule at }
 
-abbrev pub decided_rows : FileRule → List PairAt → List PairRow
+abbrev pub decided_rows : FileRule → List PairAt → List DecidedRow
 decided_rows rule pairs = map (decided_row rule) pairs
 
 -- rows where they are kept: all of them, or none
-abbrev pub kept_rows : Bool → List PairRow → List PairRow
+abbrev pub kept_rows : Bool → List DecidedRow → List DecidedRow
 kept_rows true rows = rows
 kept_rows false rows = []
 
--- a row with the verdict that is shown at it
-abbrev pub shown_row : List Entry → PairRow → PairRow
-shown_row entries row = record row { verdict = shown_verdict entries row.at row.decision }
+-- a row with the weight of its pattern's cell, and the verdict that is shown at it
+abbrev pub shown_row : List RuleCell → List Entry → DecidedRow → PairRow
+shown_row cells entries row = record {
+  at = row.at;
+  pattern = row.pattern;
+  weight = (cell_of cells row.pattern).weight;
+  decision = row.decision;
+  verdict = shown_verdict entries row.at row.decision;
+}
 
-abbrev pub shown_rows : List Entry → List PairRow → List PairRow
-shown_rows entries rows = map (shown_row entries) rows
+abbrev pub shown_rows : List RuleCell → List Entry → List DecidedRow → List PairRow
+shown_rows cells entries rows = map (shown_row cells entries) rows
 
--- the rows of pairs with the verdicts that are shown at them
+-- the rows of pairs with their weights, and the verdicts that are shown at them
 abbrev pub pair_rows_of : FileRule → List Entry → List PairAt → List PairRow
-pair_rows_of rule entries pairs = shown_rows entries (decided_rows rule pairs)
+pair_rows_of rule entries pairs = shown_rows rule.cells entries (decided_rows rule pairs)
 
 -- rows that can be written: they rise, stand in files of so many records, and have some of so many patterns
-pub record AreRowsIn (rows_a rows_b patterns : ℕ) (rows : List PairRow) : Type 0 where
-  pub in_a : All (λ (r : PairRow). r.at.a < rows_a) rows
-  pub in_b : All (λ (r : PairRow). r.at.b < rows_b) rows
-  pub patterns_in : All (λ (r : PairRow). r.pattern < patterns) rows
-  pub rising : AllPairs (λ (r s : PairRow). IsPairBefore r.at s.at) rows
+pub record AreRowsIn (rows_a rows_b patterns : ℕ) (rows : List DecidedRow) : Type 0 where
+  pub in_a : All (λ (r : DecidedRow). r.at.a < rows_a) rows
+  pub in_b : All (λ (r : DecidedRow). r.at.b < rows_b) rows
+  pub patterns_in : All (λ (r : DecidedRow). r.pattern < patterns) rows
+  pub rising : AllPairs (λ (r s : DecidedRow). IsPairBefore r.at s.at) rows
 
 -- decided pairs are those of a rule on these pairs, over these rows of sides: its decisions, how many pairs have each, and the rows of the
 -- pairs where they are kept, all within the files

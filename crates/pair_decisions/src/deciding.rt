@@ -9,11 +9,11 @@ ghost use Rattle.pair_decisions.specs.Pairs.{IsInside, pairs_within};
 ghost use Rattle.pair_walk.specs.Pairs.{pairs_of_rows};
 
 use crate::pair_rule::PairRule;
+use crate::rows::DecidedRow;
 use crate::walking::decide_rows;
 use comparators::IdTable;
 use link_base::{Decision, Fault, PairAt};
 use link_limits::MOST_ROWS;
-use link_report::PairRow;
 use pair_walk::{Blocks, WalkFault};
 use std::alloc::Global;
 use std::marker::Model;
@@ -23,7 +23,7 @@ use std::marker::Model;
 #[derive(Drop)]
 pub struct Decided {
     rule: PairRule,
-    rows: Vec<PairRow>,
+    rows: Vec<DecidedRow>,
     compared: u32,
     links: Vec<PairAt>,
     possible: Vec<PairAt>,
@@ -49,7 +49,7 @@ impl Decided {
     }
 
     /// The rows of the compared pairs before review, rising by the positions in A and then in B, where they are kept.
-    pub fn rows(&self) -> &[PairRow]
+    pub fn rows(&self) -> &[DecidedRow]
         ensures { result.now ≡ self.now.rows }
     {
         &self.rows

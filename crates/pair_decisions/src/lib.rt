@@ -24,6 +24,7 @@ pub use laws::rule_has_patterns;
 pub use lines::pair_lines;
 pub use pair_rule::PairRule;
 pub use plan_shares::{counted_shares, given_shares, shares_of_counts};
+pub use rows::DecidedRow;
 pub use rule_laws::{
     is_the_rule, one_rule, rare_counts, rule_is_least, same_patterns, shares_have_a_rule,
     the_rule_is_filled,

@@ -2,34 +2,49 @@
 ghost use Rattle.std.specs.Prelude.{◌≡◌, IfOk, length};
 ghost use Rattle.link_report.specs.PairsText.{text_of_pairs};
 ghost use Rattle.pair_decisions.specs.PairRows.{AreRowsIn, shown_rows};
+ghost use Rattle.pair_decisions.specs.PairRule.{AreCellsOf};
 ghost use Rattle.patterns.specs.Shapes.{pattern_count_by};
 ghost use Rattle.pair_decisions.specs.Comparators.{rares_of};
 
+use crate::deciding::Decided;
 use crate::writing::write_rows;
 use link_base::{NoMemory, StdFile, Text};
 use link_plan::Plan;
-use link_report::{PairRow, PairsWriter, usual_id_bytes};
+use link_report::{PairsWriter, usual_id_bytes};
 use review_journal::Journal;
 use std::alloc::Global;
 
 // How many bytes may follow the two ids of a line, for which room is made beforehand.
 const USUAL_END: usize = 24;
 
-/// The text of the rows of pairs of two files, which rise by position and have patterns of the plan: each with the verdict of
-/// the journal where the pair is a possible link.
+/// The text of the rows that decisions on two files keep, whose rule has a cell for each pattern of the plan: each row with the
+/// weight of its cell, and with the verdict of the journal where the pair is a possible link.
 pub fn pair_lines(
     alloc: Global,
     plan: &Plan,
-    rows: &[PairRow],
+    decided: &Decided,
     journal: &Journal,
     a: &StdFile,
     b: &StdFile,
 ) -> Result<Text, NoMemory>
-    requires { AreRowsIn (length a.now) (length b.now) (pattern_count_by (rares_of plan.now.fields)) rows.now }
-    ensures { IfOk result (λ text. text ≡ text_of_pairs (rares_of plan.now.fields) a.now b.now (shown_rows journal.now rows.now)) }
+    requires cells { AreCellsOf (pattern_count_by (rares_of plan.now.fields)) decided.now.rule.cells }
+    requires rows { AreRowsIn (length a.now) (length b.now) (length decided.now.rule.cells) decided.now.rows }
+    ensures { IfOk result (λ text. text ≡ text_of_pairs (rares_of plan.now.fields) a.now b.now (shown_rows decided.now.rule.cells journal.now decided.now.rows)) }
 {
     let line = usual_id_bytes(a, b).saturating_add(USUAL_END);
-    let mut writer = PairsWriter::with_room(alloc, &plan.shape(), rows.len().saturating_mul(line))?;
-    write_rows(alloc, &mut writer, journal, rows, a, b)?;
+    let mut writer = PairsWriter::with_room(
+        alloc,
+        &plan.shape(),
+        decided.rows().len().saturating_mul(line),
+    )?;
+    write_rows(
+        alloc,
+        &mut writer,
+        decided.rule(),
+        decided.rows(),
+        journal,
+        a,
+        b,
+    )?;
     Ok(writer.finish())
 }

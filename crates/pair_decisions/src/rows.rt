@@ -1,4 +1,4 @@
-// The row of a compared pair.
+// The row of a compared pair, as it is kept and as it is shown.
 ghost use Rattle.std.specs.Prelude.{◌≡◌, ◌<◌, ◌≤◌, All, length};
 ghost use Rattle.pair_decisions.specs.PairRule.{AreSidesFor, side_rule};
 ghost use Rattle.pair_decisions.specs.Pairs.{IsInside};
@@ -13,15 +13,23 @@ use link_limits::MOST_ROWS;
 use link_report::PairRow;
 use review_journal::Journal;
 
-/// The row of the pair at positions, before review: its comparison pattern, and the weight and the decision of the pattern's
-/// cell.
+/// A compared pair: the positions of its records, its comparison pattern, and the decision of the rule. The weight is that of the
+/// pattern's cell.
+#[derive(Clone, Copy)]
+pub struct DecidedRow {
+    pub at: PairAt,
+    pub pattern: u16,
+    pub decision: Decision,
+}
+
+/// The row of the pair at positions: its comparison pattern, and the decision of the pattern's cell.
 pub(crate) fn row_at(
     rule: &PairRule,
     words: &mut BorderWords,
     sides_a: &IdTable,
     sides_b: &IdTable,
     at: PairAt,
-) -> PairRow
+) -> DecidedRow
     requires words { words.old ≡ rule.now.seed }
     requires few_a { length sides_a.now.rows ≤ MOST_ROWS }
     requires few_b { length sides_b.now.rows ≤ MOST_ROWS }
@@ -32,13 +40,10 @@ pub(crate) fn row_at(
     ensures row { result ≡ decided_row (side_rule rule.now sides_a.now.rows sides_b.now.rows) at }
 {
     let pattern = rule.pattern(sides_a.sides(at.a), sides_b.sides(at.b));
-    let cell = rule.cell(pattern);
-    PairRow {
+    DecidedRow {
         at,
         pattern,
-        weight: cell.weight,
-        decision: decide_in_cell(cell, words, at),
-        verdict: None,
+        decision: decide_in_cell(rule.cell(pattern), words, at),
     }
 }
 
@@ -52,14 +57,15 @@ fn verdict_at(journal: &Journal, at: PairAt, decision: Decision) -> Option<Verdi
     }
 }
 
-/// A row with the verdict of the journal, where the pair is a possible link.
-pub(crate) fn shown(journal: &Journal, row: &PairRow) -> PairRow
-    ensures { result ≡ shown_row journal.now row.now }
+/// A row with the weight of its pattern, and with the verdict of the journal where the pair is a possible link.
+pub(crate) fn shown(rule: &PairRule, journal: &Journal, row: &DecidedRow) -> PairRow
+    requires { row.now.pattern < length rule.now.cells }
+    ensures { result ≡ shown_row rule.now.cells journal.now row.now }
 {
     PairRow {
         at: row.at,
         pattern: row.pattern,
-        weight: row.weight,
+        weight: rule.cell(row.pattern).weight,
         decision: row.decision,
         verdict: verdict_at(journal, row.at, row.decision),
     }

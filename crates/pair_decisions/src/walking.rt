@@ -10,12 +10,11 @@ ghost use Rattle.pair_walk.specs.Pairs.{pair, pairs_of_rows};
 ghost use Rattle.pair_walk.specs.Walk.{RefusesPairs};
 
 use crate::pair_rule::PairRule;
-use crate::rows::row_at;
+use crate::rows::{DecidedRow, row_at};
 use comparators::IdTable;
 use decision_rule::BorderWords;
 use link_base::{Decision, NoMemory, PairAt};
 use link_limits::{MOST_PAIRS, MOST_ROWS};
-use link_report::PairRow;
 use pair_walk::{RowPairs, WalkFault, Walker};
 use std::alloc::Global;
 
@@ -23,7 +22,7 @@ use std::alloc::Global;
 /// compared.
 #[derive(Drop)]
 pub(crate) struct Found {
-    pub(crate) rows: Vec<PairRow>,
+    pub(crate) rows: Vec<DecidedRow>,
     pub(crate) links: Vec<PairAt>,
     pub(crate) possible: Vec<PairAt>,
     pub(crate) compared: u32,
@@ -34,7 +33,7 @@ fn room_for_rows(
     alloc: Global,
     walker: &Walker<'_>,
     with_rows: bool,
-) -> Result<Vec<PairRow>, NoMemory>
+) -> Result<Vec<DecidedRow>, NoMemory>
     ensures { IfOk result (λ rows. rows.items ≡ []) }
 {
     if !with_rows {
@@ -60,7 +59,7 @@ fn keep_pair(found: &mut Found, at: PairAt, decision: Decision) -> Result<(), No
 }
 
 // Keeps the row of a pair, where rows are kept.
-fn keep_row(found: &mut Found, row: PairRow, with_rows: bool) -> Result<(), NoMemory>
+fn keep_row(found: &mut Found, row: DecidedRow, with_rows: bool) -> Result<(), NoMemory>
     ensures rows { OnOk result (found.new.rows.items ≡ found.old.rows.items ++ kept_rows with_rows (row ∷ [])) }
     ensures links { found.new.links.items ≡ found.old.links.items }
     ensures possible { found.new.possible.items ≡ found.old.possible.items }

@@ -7,9 +7,10 @@ ghost use Rattle.link_report.specs.PairsText.{IsAfter, pair_row};
 ghost use Rattle.pair_decisions.specs.PairRows.{AreRowsIn, shown_row, shown_rows};
 ghost use Rattle.patterns.specs.Shapes.{pattern_count_by};
 
-use crate::rows::shown;
+use crate::pair_rule::PairRule;
+use crate::rows::{DecidedRow, shown};
 use link_base::{NoMemory, StdFile};
-use link_report::{IdFields, LineFront, PairRow, PairsWriter};
+use link_report::{IdFields, LineFront, PairsWriter};
 use review_journal::Journal;
 use std::alloc::Global;
 
@@ -29,39 +30,43 @@ fn turn(front: &mut LineFront, before: Option<u32>, a: &StdFile, at: u32) -> Res
 fn write_line(
     writer: &mut PairsWriter,
     front: &LineFront,
+    rule: &PairRule,
     journal: &Journal,
-    row: &PairRow,
+    row: &DecidedRow,
     ids: &IdFields,
 ) -> Result<(), NoMemory>
+    requires cells { length rule.now.cells ≡ pattern_count_by writer.old.rares }
     requires in_b { row.now.at.b < length ids.now }
-    requires pattern { row.now.pattern < pattern_count_by writer.old.rares }
+    requires pattern { row.now.pattern < length rule.now.cells }
     requires after { IsAfter writer.old.last row.now.at }
     ensures rares { writer.new.rares ≡ writer.old.rares }
     ensures text { (a : List Record) → front.now ≡ front_of (id_at a row.now.at.a) → (b : List Record) → ids.now ≡ id_fields b
-        → OnOk result (writer.new.text ≡ writer.old.text ++ pair_row writer.old.rares a b (shown_row journal.now row.now)) }
+        → OnOk result (writer.new.text ≡ writer.old.text ++ pair_row writer.old.rares a b (shown_row rule.now.cells journal.now row.now)) }
     ensures last { OnOk result (writer.new.last ≡ Some row.now.at) }
 {
-    writer.push_behind(front, &shown(journal, row), ids)
+    writer.push_behind(front, &shown(rule, journal, row), ids)
 }
 
 // Writes the lines of rows, where `ids` are the ids of B as fields.
 fn write_lines(
     writer: &mut PairsWriter,
     front: &mut LineFront,
+    rule: &PairRule,
+    rows: &[DecidedRow],
     journal: &Journal,
-    rows: &[PairRow],
     a: &StdFile,
     ids: &IdFields,
 ) -> Result<(), NoMemory>
     requires first { writer.old.last ≡ None }
-    requires rows { AreRowsIn (length a.now) (length ids.now) (pattern_count_by writer.old.rares) rows.now }
+    requires cells { length rule.now.cells ≡ pattern_count_by writer.old.rares }
+    requires rows { AreRowsIn (length a.now) (length ids.now) (length rule.now.cells) rows.now }
     ensures { (b : List Record) → ids.now ≡ id_fields b
-        → OnOk result (writer.new.text ≡ writer.old.text ++ flat_map (pair_row writer.old.rares a.now b) (shown_rows journal.now rows.now)) }
+        → OnOk result (writer.new.text ≡ writer.old.text ++ flat_map (pair_row writer.old.rares a.now b) (shown_rows rule.now.cells journal.now rows.now)) }
 {
     let mut before = None;
     for row in rows {
         turn(front, before, a, row.at.a)?;
-        write_line(writer, front, journal, row, ids)?;
+        write_line(writer, front, rule, journal, row, ids)?;
         before = Some(row.at.a);
     }
     Ok(())
@@ -71,16 +76,18 @@ fn write_lines(
 pub(crate) fn write_rows(
     alloc: Global,
     writer: &mut PairsWriter,
+    rule: &PairRule,
+    rows: &[DecidedRow],
     journal: &Journal,
-    rows: &[PairRow],
     a: &StdFile,
     b: &StdFile,
 ) -> Result<(), NoMemory>
     requires first { writer.old.last ≡ None }
-    requires rows { AreRowsIn (length a.now) (length b.now) (pattern_count_by writer.old.rares) rows.now }
-    ensures { OnOk result (writer.new.text ≡ writer.old.text ++ flat_map (pair_row writer.old.rares a.now b.now) (shown_rows journal.now rows.now)) }
+    requires cells { length rule.now.cells ≡ pattern_count_by writer.old.rares }
+    requires rows { AreRowsIn (length a.now) (length b.now) (length rule.now.cells) rows.now }
+    ensures { OnOk result (writer.new.text ≡ writer.old.text ++ flat_map (pair_row writer.old.rares a.now b.now) (shown_rows rule.now.cells journal.now rows.now)) }
 {
     let ids = IdFields::of(alloc, b)?;
     let mut front = LineFront::new(alloc);
-    write_lines(writer, &mut front, journal, rows, a, &ids)
+    write_lines(writer, &mut front, rule, rows, journal, a, &ids)
 }

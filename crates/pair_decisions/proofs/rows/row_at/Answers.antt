@@ -1,17 +1,12 @@
-use Rattle.std.proofs.Common.{◌≡◌, ◌∙◌, None, ap, map, rules, sym, to_z, of_z, w32}
-use Rattle.std.specs.Prelude.{FitsSigned, unwrap_or}
-use Rattle.std.proofs.lemmas.Int.{to_z-of_z}
+use Rattle.std.proofs.Common.{◌≡◌, ◌∙◌, ap, map, sym}
+use Rattle.std.specs.Prelude.{unwrap_or}
 use Rattle.decision_rule.specs.Border.{border_word}
 use Rattle.decision_rule.specs.Decide.{decision_of}
 use Rattle.link_base.specs.Rule.{empty_cell}
 use Rattle.pair_decisions.specs.Comparators.{answers_of}
 use Rattle.pair_decisions.specs.Decisions.{decision_at}
 use Rattle.pair_decisions.specs.PairRule.{cell_of, pattern_by, side_rule}
-use Rattle.pair_decisions.proofs.rows.row_at.Goals.{After-decide_in_cell}
 use Rattle.pair_decisions.proofs.rows.row_at.Goals as goal
-
-fits : (c : After-decide_in_cell) → FitsSigned w32 c.cell-cell.result.now.weight
-fits c = search rules
 
 pub returns-clause-row : goal.returns-clause-row
 unfolding decision_at
@@ -21,7 +16,6 @@ returns-clause-row c =
     let at = c.args.at in
     let rows : pattern_by by c.sides.result.now c.sides-2.result.now ≡ rule.pattern at = λ i. pattern_by by (c.sides.ensures i) (c.sides-2.ensures i) in
     let pattern : c.pattern-pattern.result ≡ rule.pattern at = c.pattern-pattern.ensures.number ∙ rows in
-    let cell : c.cell-cell.result.now ≡ cell_of rule.cells (rule.pattern at) = sym (ap (λ o. unwrap_or o empty_cell) c.cell-cell.ensures.found) ∙ ap (cell_of rule.cells) pattern in
+    let cell : c.cell.result.now ≡ cell_of rule.cells (rule.pattern at) = sym (ap (λ o. unwrap_or o empty_cell) c.cell.ensures.found) ∙ ap (cell_of rule.cells) pattern in
     let decision : c.decide_in_cell.result ≡ decision_at rule at = c.decide_in_cell.ensures.decision ∙ (λ i. decision_of (cell i) (border_word (c.requires.words i) at.a at.b)) in
-    let weight : to_z w32 (of_z w32 c.cell-cell.result.now.weight) ≡ (cell_of rule.cells (rule.pattern at)).weight = to_z-of_z w32 c.cell-cell.result.now.weight (fits c) ∙ (λ i. (cell i).weight) in
-    λ i. record { at = at; pattern = pattern i; weight = weight i; decision = decision i; verdict = None }
+    λ i. record { at = at; pattern = pattern i; decision = decision i }

@@ -4,13 +4,13 @@ use Rattle.std.proofs.lemmas.List.Elements.{filter-append}
 use Rattle.link_base.specs.declared.rule.Decision.{Decision}
 use Rattle.link_base.specs.declared.rule.Decision.TheVariants.{Link, Possible}
 use Rattle.link_base.specs.declared.rule.PairAt.{PairAt}
-use Rattle.link_report.specs.declared.open.PairRow.{PairRow}
 use Rattle.pair_decisions.proofs.RowLemmas.{kept_joined}
 use Rattle.pair_walk.specs.RowLaws.{pair_holds, pair_more}
 use Rattle.pair_decisions.specs.Decisions.{decision_at, is_same, pairs_with}
 use Rattle.pair_decisions.specs.PairRows.{decided_row, decided_rows, kept_rows}
 use Rattle.pair_decisions.specs.PairRule.{side_rule}
 use Rattle.pair_decisions.specs.Pairs.{IsInside}
+use Rattle.pair_decisions.specs.declared.rows.DecidedRow.{DecidedRow}
 use Rattle.pair_walk.specs.Pairs.{pair}
 use Rattle.pair_decisions.proofs.walking.decide_row.Goals as goal
 
@@ -30,7 +30,7 @@ loop-b-preserved c =
     let found = c.args.found.now in
     let keep = c.args.with_rows in
     let row : c.row_at-decided.result ≡ decided_row rule at = c.row_at-decided.ensures.row in
-    let decision : c.row_at-decided.result.decision ≡ decision_at rule at = ap (λ (r : PairRow). r.decision) row in
+    let decision : c.row_at-decided.result.decision ≡ decision_at rule at = ap (λ (r : DecidedRow). r.decision) row in
     let has = λ (kind : Decision) (p : PairAt). is_same kind (decision_at rule p) in
     let old = c.loop-b.found in
     record {
