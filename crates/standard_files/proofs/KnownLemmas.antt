@@ -103,8 +103,8 @@ module _ (held : List (List ℕ)) where
   ids-at (v ∷ vs) (i ∷ is) zero d e lt h = h.0
   ids-at (v ∷ vs) (i ∷ is) (suc k) d e lt h = ids-at vs is k d e (omega arith) h.1
 
-  pub ids-read : (vs : List Value) (is : List (Option ℕ)) (k : ℕ) (v : Value) (i : Option ℕ) → k < length vs → v ≡ get_or vs k absent_value → i ≡ get_or is k i → AreTextIds held vs is → IsIdOf held (standard_text v) i
-  ids-read vs is k v i lt of_value of_id h = subst (λ x. IsIdOf held (standard_text x) i) (sym of_value) (subst (λ x. IsIdOf held (standard_text (get_or vs k absent_value)) x) (sym of_id) (ids-at vs is k absent_value i lt h))
+  pub ids-read : (vs : List Value) (is : List (Option ℕ)) (k : ℕ) (i : Option ℕ) → k < length vs → i ≡ get_or is k i → AreTextIds held vs is → IsIdOf held (standard_text (get_or vs k absent_value)) i
+  ids-read vs is k i lt of_id h = subst (IsIdOf held (standard_text (get_or vs k absent_value))) (sym of_id) (ids-at vs is k absent_value i lt h)
 
 -- the ids of the rows of a file that are left
 module _ (held : List (List ℕ)) (file : List Record) (at : ℕ) (row : List Value) (left : List (Option ℕ)) (width : ℕ) where

@@ -7,7 +7,7 @@ ghost use Rattle.link_base.specs.Standard.{IsValid};
 ghost use Rattle.link_base.specs.declared.plan.Part.{Part as KeyPart};
 ghost use Rattle.link_base.specs.declared.standard.Value.{Value as FieldValue};
 ghost use Rattle.standard_files.specs.Known.{IsIdOf, IsKnownFile, IsKnownRow};
-ghost use Rattle.standard_files.specs.Ready.{AreInRange, HasParts, IsRowFor};
+ghost use Rattle.standard_files.specs.Ready.{AreInRange, IsRowFor};
 ghost use Rattle.standard_files.specs.Taking.{InLater, TakesTexts};
 ghost use Rattle.standard_files.specs.Texts.{both_texts, file_texts, parts_in_pass, parts_of_row, standard_text};
 ghost use Rattle.value_forms.specs.Canons.{canon_of, compares_days, canon_by};
@@ -95,7 +95,7 @@ fn take_key(
     sides: &[IdValue],
     ids: &mut Vec<MaybeId>,
 ) -> Result<(), PoolFault>
-    requires in_range { All (λ (p : KeyPart). p.field < length row.now) pass.now }
+    requires in_range { All (λ (p : KeyPart). p.field < length kinds.now) pass.now }
     requires as_many { length row.now ≡ length kinds.now }
     requires valid { All IsValid row.now }
     requires known { IsKnownRow pool.old.texts kinds.now row.now texts.now sides.now }
@@ -121,7 +121,7 @@ fn take_row(
     sides: &[IdValue],
     ids: &mut Vec<MaybeId>,
 ) -> Result<(), PoolFault>
-    requires in_range { AreInRange (length row.now) passes.now }
+    requires in_range { AreInRange (length kinds.now) passes.now }
     requires as_many { length row.now ≡ length kinds.now }
     requires valid { All IsValid row.now }
     requires known { IsKnownRow pool.old.texts kinds.now row.now texts.now sides.now }
@@ -153,7 +153,7 @@ fn take_file(
     texts: &[MaybeId],
     table: &IdTable,
 ) -> Result<Vec<MaybeId>, PoolFault>
-    requires parts { All (HasParts passes.now) file.now }
+    requires parts { AreInRange (length kinds.now) passes.now }
     requires rows { All (IsRowFor kinds.now) file.now }
     requires known { IsKnownFile pool.old.texts kinds.now file.now texts.now table.now.rows }
     ensures { TakesTexts pool.old pool.new (file_texts (parts_of_row passes.now) file.now) (λ ids. InLater pool.new.texts (λ final. key_ids final passes.now file.now ≡ ids.items)) result }
@@ -194,8 +194,7 @@ pub(crate) fn take_keys(
     texts: TextIds,
     tables: &(IdTable, IdTable),
 ) -> Result<KeyIds, PoolFault>
-    requires parts_a { All (HasParts passes.now) a.now }
-    requires parts_b { All (HasParts passes.now) b.now }
+    requires parts { AreInRange (length kinds.now) passes.now }
     requires rows_a { All (IsRowFor kinds.now) a.now }
     requires rows_b { All (IsRowFor kinds.now) b.now }
     requires known_a { IsKnownFile pool.old.texts kinds.now a.now texts.a.items tables.now.0.rows }

@@ -1,4 +1,4 @@
-use Rattle.std.proofs.Common.{◌≡◌, ◌+◌, ◌++◌, ◌∷◌, [], Err, drop, get_or, option_to_list, refl, arith, rules, length-append}
+use Rattle.std.proofs.Common.{◌≡◌, ◌+◌, ◌++◌, ◌∷◌, [], Err, drop, option_to_list, arith, rules, length-append}
 use Rattle.link_base.specs.Standard.{absent_value}
 use Rattle.standard_files.specs.Known.{canon_at, side_at}
 use Rattle.standard_files.specs.Sides.{sides_of_row}
@@ -14,19 +14,17 @@ loop-field-preserved c =
     let kinds = c.args.kinds.now in
     let row = c.args.row.now in
     let at = c.loop-field.field in
-    let v = get_or row at absent_value in
-    let is_value : v ≡ get_or row at absent_value = refl in
     let taken = c.in_ok-side.ensures in
     let pushed : c.push.new.self.items ≡ c.loop-field.sides.items ++ c.in_ok-side.side ∷ [] = search rules in
     record {
-      goes = goes-on (canons_of_row (drop (at + 1) kinds) (drop (at + 1) row)) c.loop-field.invariant.goes taken (canons-at kinds row at v (omega arith) c.requires.as_many is_value);
+      goes = goes-on (canons_of_row (drop (at + 1) kinds) (drop (at + 1) row)) c.loop-field.invariant.goes taken (canons-at kinds row at (omega arith) c.requires.as_many);
       ids = ids-kept c.loop-field.pool.texts c.take_side.new.pool.texts (kept taken) row c.args.ids.now c.loop-field.invariant.ids;
       known = taken.holds.1;
       width = rw pushed (omega (arith, length-append c.loop-field.sides.items (c.in_ok-side.side ∷ []), c.loop-field.invariant.width));
       sides = λ final e.
           rw pushed (push-sides c.loop-field.sides.items (sides_of_row final (drop (at + 1) kinds) (drop (at + 1) row)) (c.args.sides.now.items ++ sides_of_row final kinds row) (sides_of_row final (drop at kinds) (drop at row))
           (side_at final kinds row at) c.in_ok-side.side (c.loop-field.invariant.sides final (before taken final e))
-          (sides-at final kinds row at v (omega arith) c.requires.as_many is_value) (taken.holds.0 final e));
+          (sides-at kinds row at (omega arith) c.requires.as_many final) (taken.holds.0 final e));
     }
 
 pub bounds-ids-field : goal.bounds-ids-field
@@ -35,13 +33,11 @@ bounds-ids-field c = omega (arith, ids-many c.loop-field.pool.texts c.args.row.n
 pub take_side-requires : goal.take_side-requires
 take_side-requires c =
     let row = c.args.row.now in
-    let v = get_or row c.loop-field.field absent_value in
-    let is_value : v ≡ get_or row c.loop-field.field absent_value = refl in
     record {
       field = omega arith;
       within = omega (arith, c.requires.as_many);
       valid = c.requires.valid c.loop-field.field absent_value (omega (arith, c.requires.as_many));
-      text = rw c.get.ensures (ids-read c.loop-field.pool.texts row c.args.ids.now c.loop-field.field v c.index-ids-field.result (omega (arith, c.requires.as_many)) is_value c.index-ids-field.is c.loop-field.invariant.ids);
+      text = rw c.get.ensures (ids-read c.loop-field.pool.texts row c.args.ids.now c.loop-field.field c.index-ids-field.result (omega (arith, c.requires.as_many)) c.index-ids-field.is c.loop-field.invariant.ids);
       all = c.loop-field.invariant.known;
     }
 
@@ -50,8 +46,6 @@ returns-in_err-side c =
     let kinds = c.args.kinds.now in
     let row = c.args.row.now in
     let at = c.loop-field.field in
-    let v = get_or row at absent_value in
-    let is_value : v ≡ get_or row at absent_value = refl in
     let f = c.in_err-side.field-0.0 in
     let is : c.from_residual.result ≡ Err f = search rules in
-    rw is (goes-refused (option_to_list (canon_at kinds row at)) (canons_of_row (drop (at + 1) kinds) (drop (at + 1) row)) f c.loop-field.invariant.goes (canons-at kinds row at v (omega arith) c.requires.as_many is_value) c.in_err-side.ensures)
+    rw is (goes-refused (option_to_list (canon_at kinds row at)) (canons_of_row (drop (at + 1) kinds) (drop (at + 1) row)) f c.loop-field.invariant.goes (canons-at kinds row at (omega arith) c.requires.as_many) c.in_err-side.ensures)
