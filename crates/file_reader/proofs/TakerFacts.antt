@@ -50,12 +50,13 @@ underway_more x took new heading count ids ids2 all left rest row fields u el fe
 
 -- none is left
 pub all_taken : (took : Records → Type 0) (heading : Heading) (count : ℕ) (ids : List (List ℕ)) (all left : Records) → IsUnderway took heading count ids all left → left ≡ []
-    → IsTaken heading.has_id took (rows_read heading [] all) ids count
+    → IsTaken heading.has_id heading.most took (rows_read heading [] all) ids count
 all_taken took heading count ids all left u none =
     record {
       rows = u.rows;
       taken = u.taken;
       as_many = u.as_many;
+      few = u.few;
       known = u.known;
       table = u.told ∙ ap (rows_read heading (with_ids u.rows ids)) none;
     }
@@ -70,9 +71,9 @@ cells_more width cells new row rows h many is =
     }
 
 -- the table of rows that are kept so
-pub table_taken : (has_id : Bool) (width count : ℕ) (cells ids : List (List ℕ)) (expected : Result (List TableRow) Fault) → IsTaken has_id (HasCells width cells) expected ids count → expected ≡ Ok (table_rows count width cells ids)
-table_taken has_id width count cells ids expected k =
+pub table_taken : (has_id : Bool) (most width count : ℕ) (cells ids : List (List ℕ)) (expected : Result (List TableRow) Fault) → IsTaken has_id most (HasCells width cells) expected ids count → expected ≡ Ok (table_rows count width cells ids)
+table_taken has_id most width count cells ids expected k =
     k.table ∙ ap (λ (rows : Records). Ok (with_ids rows ids)) (sym k.taken.rows_of ∙ ap (λ (n : ℕ). rows_in n width cells) k.as_many)
 
-pub taken_ids : (has_id : Bool) (took : Records → Type 0) (count : ℕ) (ids : List (List ℕ)) (expected : Result (List TableRow) Fault) → IsTaken has_id took expected ids count → AreIdsFor count ids
-taken_ids has_id took count ids expected k = ids_for has_id (with_ids k.rows ids) count ids (length_with k.rows ids ∙ k.as_many) k.known
+pub taken_ids : (has_id : Bool) (most : ℕ) (took : Records → Type 0) (count : ℕ) (ids : List (List ℕ)) (expected : Result (List TableRow) Fault) → IsTaken has_id most took expected ids count → AreIdsFor count ids
+taken_ids has_id most took count ids expected k = ids_for has_id (with_ids k.rows ids) count ids (length_with k.rows ids ∙ k.as_many) k.known

@@ -1,5 +1,6 @@
 -- What the rows of a table give one by one, each by its number and after those before it, and its laws: a row that was read, and one at
--- fault. The readers of a sample, of a journal and of new verdicts are such (`read_journal` and `read_verdicts`, clause `answer`).
+-- fault. The readers of a sample, of a journal and of new verdicts are such (`count_sample_over`, `read_journal` and `read_verdicts`, clause
+-- `answer`).
 use Rattle.std.proofs.Common.{◌≡◌, ◌<◌, ◌+◌, ◌∷◌, ◌++◌, ◌∙◌, ℕ, suc, List, [], length, drop, get_or, Result, Ok, sym, ap, arith, drop-cons}
 use Rattle.link_base.specs.Answers.{and_then}
 use Rattle.link_base.specs.Fault.{Refuses}

@@ -26,9 +26,9 @@ TakesTableRow expected heading row old new (Err fault.NoMemory) = ⊤
 TakesTableRow expected heading row old new (Err f) = expected ≡ Some f
 
 -- the rows of a table were taken beside these ids and counted, or its fault is told
-abbrev pub FillsRows : Bool → (List (List (List ℕ)) → Type 0) → Result (List TableRow) Fault → List (List ℕ) → Result ℕ Fault → Type 0
-FillsRows has_id took expected ids (Ok count) = IsTaken has_id took expected ids count
-FillsRows has_id took expected ids (Err f) = Refuses expected f
+abbrev pub FillsRows : Bool → ℕ → (List (List (List ℕ)) → Type 0) → Result (List TableRow) Fault → List (List ℕ) → Result ℕ Fault → Type 0
+FillsRows has_id most took expected ids (Ok count) = IsTaken has_id most took expected ids count
+FillsRows has_id most took expected ids (Err f) = Refuses expected f
 
 -- the rows that were read were taken, so many beside these ids, and those that are left come after them
 pub record IsUnderway (took : List (List (List ℕ)) → Type 0) (heading : Heading) (count : ℕ) (ids : List (List ℕ)) (all left : List (List (List ℕ))) : Type 0 where

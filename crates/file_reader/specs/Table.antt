@@ -1,5 +1,4 @@
--- The table of a file, or its first fault (`read_table`, clause `answer`; what every table keeps: `width`, `texts`, `ids`
--- and `distinct`).
+-- The table of a file, or its first fault (`read_table`, clause `answer`; what every table keeps: clause `sound`).
 use Rattle.std.specs.Prelude.{◌≡◌, ◌≢◌, ◌≤◌, ◌+◌, ℕ, List, [], ◌∷◌, ◌++◌, All, AllPairs, IsTrue, length, find, min, position, ◌==◌, not, nat_lt, bytes_eq, if◌then◌else◌, Option, Some, None, Result, Ok, Err, ⊤, is_some}
 use Rattle.std.specs.Str.{is_utf8, IsUtf8}
 use Rattle.link_base.specs.Fault.{or_else}

@@ -12,18 +12,19 @@ use Rattle.file_reader.specs.declared.taker.TableIds.{TableIds}
 abbrev pub HasRoom : (List (List (List ℕ)) → Type 0) → ℕ → Type 0
 HasRoom took most = (rows : List (List (List ℕ))) × took rows × (length rows < most)
 
--- rows were taken, as many as are told, and with the ids that are told they are the table; a file without ids has none
-pub record IsTaken (has_id : Bool) (took : List (List (List ℕ)) → Type 0) (expected : Result (List TableRow) Fault) (ids : List (List ℕ)) (count : ℕ) : Type 0 where
+-- rows were taken, as many as are told and no more than are wanted, and with the ids that are told they are the table; a file without ids has none
+pub record IsTaken (has_id : Bool) (most : ℕ) (took : List (List (List ℕ)) → Type 0) (expected : Result (List TableRow) Fault) (ids : List (List ℕ)) (count : ℕ) : Type 0 where
   pub rows : List (List (List ℕ))
   pub taken : took rows
   pub as_many : length rows ≡ count
+  pub few : count ≤ most
   pub known : ids ≡ known_ids has_id (with_ids rows ids)
   pub table : expected ≡ Ok (with_ids rows ids)
 
 -- the rows of the table that is defined were taken, or its fault is told, but for want of memory
-abbrev pub ReadsInto : Bool → (List (List (List ℕ)) → Type 0) → Result (List TableRow) Fault → Result TableIds Fault → Type 0
-ReadsInto has_id took expected (Ok told) = IsTaken has_id took expected told.ids told.rows
-ReadsInto has_id took expected (Err f) = Refuses expected f
+abbrev pub ReadsInto : Bool → ℕ → (List (List (List ℕ)) → Type 0) → Result (List TableRow) Fault → Result TableIds Fault → Type 0
+ReadsInto has_id most took expected (Ok told) = IsTaken has_id most took expected told.ids told.rows
+ReadsInto has_id most took expected (Err f) = Refuses expected f
 
 -- what holds of each table that is read: as many texts in each row as columns are wanted, and where an id is wanted,
 -- one for each row, and no two the same

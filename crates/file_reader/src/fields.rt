@@ -7,6 +7,7 @@ ghost use Rattle.csv.specs.Records.{fields_of};
 use csv::ByteRecord;
 
 /// The field of a record at a place, or nothing past the last.
+#[inline(always)]
 pub fn field_of(row: &ByteRecord, at: usize) -> &[u8]
     ensures { result.now ≡ slice_index_or (fields_of row.now) at [] }
 {

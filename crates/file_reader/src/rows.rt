@@ -7,8 +7,8 @@ ghost use Rattle.file_reader.specs.Layout.{cell, field_columns, heading_of, head
 ghost use Rattle.file_reader.specs.Plain.{IsPlain};
 ghost use Rattle.file_reader.specs.declared.layout.Column.{Column as Needed};
 ghost use Rattle.file_reader.specs.Steps.{FillsRows, KeepsId, TakesTableRow};
-ghost use Rattle.file_reader.specs.Takers.{ReadsInto};
-ghost use Rattle.file_reader.specs.Table.{HasDistinctIds, HasTexts, HasWantedIds, HasWidth, header_fault, id_fault, length_fault, row_fault, rows_read, table_of, taken, Tests, text_fault, under_header, utf8_fault};
+ghost use Rattle.file_reader.specs.Takers.{IsTableFor, ReadsInto};
+ghost use Rattle.file_reader.specs.Table.{header_fault, id_fault, length_fault, row_fault, rows_read, table_of, taken, Tests, text_fault, under_header, utf8_fault};
 
 use crate::fields::{field_of, is_plain, is_text};
 use crate::header::{find_columns, needed_names, test_header};
@@ -182,8 +182,7 @@ fn fill_rows<T: RowTaker>(
     requires width { T.width taker.old ≡ length (field_columns (heading_of head.now)) }
     requires most { head.now.most_rows ≤ T.most taker.old }
     requires none { T.took taker.old [] taker.old }
-    ensures few { IfOk result (λ rows. rows ≤ head.now.most_rows) }
-    ensures answer { FillsRows head.now.has_id (λ rows. T.took taker.old rows taker.new) (rows_read (heading_of head.now) [] left.old) ids.new result }
+    ensures answer { FillsRows head.now.has_id head.now.most_rows (λ rows. T.took taker.old rows taker.new) (rows_read (heading_of head.now) [] left.old) ids.new result }
 {
     taker.make_room(alloc, room.rows, room.bytes)?;
     let columns = columns_after_id(head);
@@ -217,8 +216,7 @@ fn read_left<T: RowTaker>(
     requires width { T.width taker.old ≡ length (field_columns (heading_of head.now)) }
     requires most { head.now.most_rows ≤ T.most taker.old }
     requires none { T.took taker.old [] taker.old }
-    ensures few { IfOk result (λ told. told.rows ≤ head.now.most_rows) }
-    ensures answer { ReadsInto head.now.has_id (λ rows. T.took taker.old rows taker.new) (rows_read (heading_of head.now) [] left.old) result }
+    ensures answer { ReadsInto head.now.has_id head.now.most_rows (λ rows. T.took taker.old rows taker.new) (rows_read (heading_of head.now) [] left.old) result }
 {
     let mut ids = room.for_ids(alloc, head)?;
     match fill_rows(alloc, left, row, head, room, &mut ids, taker) {
@@ -266,8 +264,7 @@ fn read_under<T: RowTaker>(
     requires width { T.width taker.old ≡ length layout.now.columns.items }
     requires most { layout.now.most_rows ≤ T.most taker.old }
     requires none { T.took taker.old [] taker.old }
-    ensures few { IfOk result (λ told. told.rows ≤ layout.now.most_rows) }
-    ensures answer { ReadsInto (is_some layout.now.id) (λ rows. T.took taker.old rows taker.new) (under_header role (wanted_of layout.now) (fields_of row.old) left.old) result }
+    ensures answer { ReadsInto (is_some layout.now.id) layout.now.most_rows (λ rows. T.took taker.old rows taker.new) (under_header role (wanted_of layout.now) (fields_of row.old) left.old) result }
 {
     let names = needed_names(alloc, layout)?;
     match head_of(alloc, role, layout, &names, row) {
@@ -289,8 +286,7 @@ fn read_records<T: RowTaker>(
     requires width { T.width taker.old ≡ length layout.now.columns.items }
     requires most { layout.now.most_rows ≤ T.most taker.old }
     requires none { T.took taker.old [] taker.old }
-    ensures few { IfOk result (λ told. told.rows ≤ layout.now.most_rows) }
-    ensures answer { ReadsInto (is_some layout.now.id) (λ rows. T.took taker.old rows taker.new) (table_of role (wanted_of layout.now) left.old) result }
+    ensures answer { ReadsInto (is_some layout.now.id) layout.now.most_rows (λ rows. T.took taker.old rows taker.new) (table_of role (wanted_of layout.now) left.old) result }
 {
     match left.next(row) {
         Ok(true) => read_under(alloc, left, row, role, layout, room, taker),
@@ -312,8 +308,7 @@ pub fn read_rows<T: RowTaker>(
     requires width { T.width taker.old ≡ length layout.now.columns.items }
     requires most { layout.now.most_rows ≤ T.most taker.old }
     requires none { T.took taker.old [] taker.old }
-    ensures few { IfOk result (λ told. told.rows ≤ layout.now.most_rows) }
-    ensures answer { ReadsInto (is_some layout.now.id) (λ rows. T.took taker.old rows taker.new) (table_of role (wanted_of layout.now) (records_in layout.now.delimiter bytes.now)) result }
+    ensures answer { ReadsInto (is_some layout.now.id) layout.now.most_rows (λ rows. T.took taker.old rows taker.new) (table_of role (wanted_of layout.now) (records_in layout.now.delimiter bytes.now)) result }
 {
     let mut left = Records::new(alloc, bytes, layout.delimiter);
     let mut row = ByteRecord::new(alloc);
@@ -329,11 +324,7 @@ pub fn read_table(
     role: FileRole,
     layout: &Layout,
 ) -> Result<Table, Fault>
-    ensures few { IfOk result (λ table. length table ≤ layout.now.most_rows) }
-    ensures width { IfOk result (HasWidth (wanted_of layout.now)) }
-    ensures texts { IfOk result HasTexts }
-    ensures ids { IfOk result (HasWantedIds (wanted_of layout.now)) }
-    ensures distinct { IfOk result (HasDistinctIds (wanted_of layout.now)) }
+    ensures sound { IfOk result (IsTableFor (wanted_of layout.now)) }
     ensures answer { IsAnswer (table_of role (wanted_of layout.now) (records_in layout.now.delimiter bytes.now)) result }
 {
     let mut cells = Cells::of(alloc, layout)?;

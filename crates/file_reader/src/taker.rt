@@ -45,6 +45,7 @@ impl<'a> RowFields<'a> {
     }
 
     /// The number of fields.
+    #[inline(always)]
     pub fn len(&self) -> usize
         ensures { result ≡ length self.now }
     {
@@ -52,6 +53,7 @@ impl<'a> RowFields<'a> {
     }
 
     /// The field at a place, from 0.
+    #[inline(always)]
     pub fn field(&self, at: usize) -> &'a [u8]
         requires { at < length self.now }
         ensures { result.now ≡ slice_index_or self.now at [] }

@@ -3,16 +3,15 @@ use Rattle.std.proofs.Common.{◌≡◌, ◌<◌, ◌+◌, ℕ, List, [], ◌∷
 use Rattle.std.proofs.lemmas.List.{at_drop_more, drop_more, take_more}
 use Rattle.std.proofs.lemmas.Grind.{flat_map-append}
 use Rattle.std.specs.List.{All}
-use Rattle.value_forms.specs.Canons.{canon_of}
 use Rattle.link_base.specs.Standard.{absent_value, IsValid, no_record, Record}
 use Rattle.link_base.specs.declared.plan.CompareKind.{CompareKind}
 use Rattle.link_base.specs.Canons.{exact}
 use Rattle.link_base.specs.declared.plan.Part.{Part}
 use Rattle.link_base.specs.declared.standard.Value.{Value}
 use Rattle.block_passes.specs.Keys.{no_part, part_key}
-use Rattle.standard_files.specs.Known.{file_values, flat_sides}
-use Rattle.standard_files.specs.Ready.{AreInRange, HasParts, IsRowFor}
-use Rattle.standard_files.specs.Sides.{side_of, sides_of_row}
+use Rattle.standard_files.specs.Known.{canon_at, file_values, flat_sides, side_at}
+use Rattle.standard_files.specs.Ready.{IsRowFor}
+use Rattle.standard_files.specs.Sides.{sides_of_row}
 use Rattle.standard_files.specs.Texts.{canons_of_row, file_texts, parts_in_pass, parts_of_row, standard_text, texts_of_row}
 
 pub file-row : (texts : List Value → List (List ℕ)) (file : List Record) (at : ℕ) (row : List Value) → at < length file → row ≡ (get_or file at no_record).row → file_texts texts (drop at file) ≡ texts row ++ file_texts texts (drop (at + 1) file)
@@ -46,21 +45,18 @@ values-row file at row lt e =
     at_drop_more file_values file at no_record lt ∙ ap (λ r. r ++ file_values (drop (at + 1) file)) (sym e)
 
 -- a row and the kinds of its fields, field by field
-kinds-at : (kinds : List CompareKind) (at : ℕ) → at < length kinds → drop at kinds ≡ get_or kinds at exact ∷ drop (at + 1) kinds
-kinds-at kinds at lt = drop_more kinds at exact lt
+module _ (kinds : List CompareKind) (row : List Value) (at : ℕ) (lt : at < length kinds) (many : length row ≡ length kinds) where
+  kinds-left : drop at kinds ≡ get_or kinds at exact ∷ drop (at + 1) kinds
+  kinds-left = drop_more kinds at exact lt
 
-values-at : (row : List Value) (at : ℕ) (v : Value) → at < length row → v ≡ get_or row at absent_value → drop at row ≡ v ∷ drop (at + 1) row
-values-at row at v lt e = drop_more row at absent_value lt ∙ ap (λ x. x ∷ drop (at + 1) row) (sym e)
+  values-left : drop at row ≡ get_or row at absent_value ∷ drop (at + 1) row
+  values-left = drop_more row at absent_value (omega arith)
 
-pub canons-at : (kinds : List CompareKind) (row : List Value) (at : ℕ) (v : Value) → at < length kinds → length row ≡ length kinds → v ≡ get_or row at absent_value
-    → canons_of_row (drop at kinds) (drop at row) ≡ option_to_list (canon_of (get_or kinds at exact) v) ++ canons_of_row (drop (at + 1) kinds) (drop (at + 1) row)
-canons-at kinds row at v lt many e =
-    λ i. canons_of_row (kinds-at kinds at lt i) (values-at row at v (omega arith) e i)
+  pub canons-at : canons_of_row (drop at kinds) (drop at row) ≡ option_to_list (canon_at kinds row at) ++ canons_of_row (drop (at + 1) kinds) (drop (at + 1) row)
+  canons-at = λ i. canons_of_row (kinds-left i) (values-left i)
 
-pub sides-at : (texts : List (List ℕ)) (kinds : List CompareKind) (row : List Value) (at : ℕ) (v : Value) → at < length kinds → length row ≡ length kinds → v ≡ get_or row at absent_value
-    → sides_of_row texts (drop at kinds) (drop at row) ≡ side_of texts (get_or kinds at exact) v ∷ sides_of_row texts (drop (at + 1) kinds) (drop (at + 1) row)
-sides-at texts kinds row at v lt many e =
-    λ i. sides_of_row texts (kinds-at kinds at lt i) (values-at row at v (omega arith) e i)
+  pub sides-at : (texts : List (List ℕ)) → sides_of_row texts (drop at kinds) (drop at row) ≡ side_at texts kinds row at ∷ sides_of_row texts (drop (at + 1) kinds) (drop (at + 1) row)
+  sides-at texts = λ i. sides_of_row texts (kinds-left i) (values-left i)
 
 pub flat-sides-at : (texts : List (List ℕ)) (kinds : List CompareKind) (file : List Record) (at : ℕ) (row : List Value) → at < length file → row ≡ (get_or file at no_record).row
     → flat_sides texts kinds (drop at file) ≡ sides_of_row texts kinds row ++ flat_sides texts kinds (drop (at + 1) file)
@@ -77,15 +73,9 @@ pub push-ids : {X : Type 0} (before rest whole left more after : List X) → bef
 push-ids before rest whole left more after e f g =
     ap (λ l. l ++ rest) (sym g) ∙ append_assoc before more rest ∙ ap (λ l. before ++ l) (sym f) ∙ e
 
--- the parts of a row are at hand, where those of each row are
-pub record RowParts (passes : List (List Part)) (row : List Value) : Type 0 where
-  pub in_range : AreInRange (length row) passes
-  pub valid : All IsValid row
-
-pub row-at : (passes : List (List Part)) (file : List Record) (at : ℕ) (row : List Value) → at < length file → row ≡ (get_or file at no_record).row → All (HasParts passes) file → RowParts passes row
-row-at passes file at row lt e h =
-    let here = h at no_record lt in
-    rw e (record { in_range = here.in_range; valid = here.valid })
-
+-- a row of a file for kinds of comparison
 pub row-many : (kinds : List CompareKind) (file : List Record) (at : ℕ) (row : List Value) → at < length file → row ≡ (get_or file at no_record).row → All (IsRowFor kinds) file → length row ≡ length kinds
 row-many kinds file at row lt e h = rw e (h at no_record lt).as_many
+
+pub row-valid : (kinds : List CompareKind) (file : List Record) (at : ℕ) (row : List Value) → at < length file → row ≡ (get_or file at no_record).row → All (IsRowFor kinds) file → All IsValid row
+row-valid kinds file at row lt e h = rw e (h at no_record lt).valid

@@ -14,7 +14,7 @@ use Rattle.link_base.specs.declared.fault.FileRole.{FileRole}
 use Rattle.link_base.specs.declared.fault.FileRole.TheVariants as role
 use Rattle.link_base.specs.declared.standard.Value.{Value}
 use Rattle.link_base.specs.declared.tables.Tables.{Tables}
-use Rattle.link_limits.specs.declared.TheConstants.{MOST_FIELDS}
+use Rattle.link_limits.specs.declared.TheConstants.{MOST_FIELDS, MOST_ROWS}
 use Rattle.file_reader.specs.Layout.{Wanted}
 use Rattle.file_reader.specs.Left.{records_in}
 use Rattle.file_reader.specs.Rows.{ids_of, known_ids, TableRow, with_ids}
@@ -24,7 +24,7 @@ use Rattle.file_reader.specs.RowLaws.{fields_with, length_ids, length_with}
 use Rattle.file_reader.specs.TableLaws.{table_sound}
 use Rattle.link_plan.specs.declared.plan.Plan.{Plan}
 use Rattle.standard_files.specs.Files.{date_fault, dates_fault, delimiter_in, sorts_a, sorts_b, sorts_in, StandardFile, standard_files, StandardPair, standard_pair, table_a, table_b, table_in, wanted_in}
-use Rattle.standard_files.specs.Kept.{date_in_row, dated_file, dated_pair, dated_table, first_unreadable, HasTaken, HasValues, place_fault}
+use Rattle.standard_files.specs.Kept.{date_in_row, dated_file, dated_pair, dated_table, first_unreadable, HasTaken, HasValues, IsMade, place_fault}
 use Rattle.standard_files.specs.Values.{standard_record, standard_records, standard_values, unreadable_from, unreadable_in, unreadable_in_row}
 use Rattle.standard_files.specs.declared.file_values.DatedFile.{DatedFile}
 use Rattle.standard_files.specs.declared.file_values.DatePlace.{DatePlace}
@@ -70,17 +70,7 @@ within_more None number many None h k = tt
 within_more None number many (Some x) h k = k
 within_more (Some d) number many first h k = h
 
--- what is made of one row more
-pub record IsMade (t : Tables) (sorts : List TextSort) (texts : Texts) (row : List Value) (count : ℕ) (date : Option ℕ) : Type 0 where
-  pub values : row ≡ standard_values t sorts texts
-  pub unreadable : count ≡ unreadable_in_row t sorts texts
-  pub first : date ≡ unreadable_from t 0 sorts texts
-  pub few : count ≤ MOST_FIELDS
-  pub many : length row ≡ length sorts
-  pub within : IfSome date (λ place. place < length sorts)
-  pub valid : All IsValid row
-
--- the values with it
+-- the values with one row more
 pub record IsNext (old new : FileValues) (row : List Value) (count : ℕ) (date : Option ℕ) : Type 0 where
   pub closed : new.rows.row ≡ []
   pub rows : new.rows.rows ≡ old.rows.rows ++ row ∷ []
@@ -156,7 +146,7 @@ pub record IsWholeFile (r : FileRole) (plan : Plan) (bytes : List ℕ) (v : File
   pub answer : dated_file r plan bytes ≡ Ok (record { file = record { records = records_of ids v.rows.rows; unreadable = v.unreadable }; first = v.first })
 
 pub whole_file : (r : FileRole) (plan : Plan) (bytes : List ℕ) (tables : Tables) (v : FileValues) (ids : List (List ℕ)) (count : ℕ)
-    → IsTaken true (HasTaken plan.tables (sorts_in r plan) tables v) (table_in r plan bytes) ids count → IsWholeFile r plan bytes v ids
+    → IsTaken true MOST_ROWS (HasTaken plan.tables (sorts_in r plan) tables v) (table_in r plan bytes) ids count → IsWholeFile r plan bytes v ids
 whole_file r plan bytes tables v ids count k =
     let sorts = sorts_in r plan in
     let table = with_ids k.rows ids in
@@ -182,7 +172,7 @@ whole_file r plan bytes tables v ids count k =
 
 pub whole_read : (r : FileRole) (plan : Plan) (bytes : List ℕ) (t : Tables) (sorts : List TextSort) (wanted : Wanted) (delimiter : ℕ) (tables : Tables) (v : FileValues) (ids : List (List ℕ)) (count : ℕ)
     → t ≡ plan.tables → sorts ≡ sorts_in r plan → wanted ≡ wanted_in r plan → delimiter ≡ delimiter_in r plan
-    → IsTaken (is_some wanted.id) (λ rows. HasTaken t sorts tables v rows) (table_of r wanted (records_in delimiter bytes)) ids count → IsWholeFile r plan bytes v ids
+    → IsTaken (is_some wanted.id) wanted.most (λ rows. HasTaken t sorts tables v rows) (table_of r wanted (records_in delimiter bytes)) ids count → IsWholeFile r plan bytes v ids
 whole_read r plan bytes t sorts wanted delimiter tables v ids count et es ew ed k =
     whole_file r plan bytes tables v ids count (record {
       rows = k.rows;
@@ -192,6 +182,7 @@ whole_read r plan bytes t sorts wanted delimiter tables v ids count et es ew ed 
         values = subst (λ (s : List TextSort). HasValues plan.tables s v k.rows) es (subst (λ (x : Tables). HasValues x sorts v k.rows) et k.taken.values);
       };
       as_many = k.as_many;
+      few = subst (λ (w : Wanted). count ≤ w.most) ew k.few;
       known = subst (λ (w : Wanted). ids ≡ known_ids (is_some w.id) (with_ids k.rows ids)) ew k.known;
       table = (λ i. table_of r (sym ew i) (records_in (sym ed i) bytes)) ∙ k.table;
     })

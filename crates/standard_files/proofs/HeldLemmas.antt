@@ -6,8 +6,9 @@ use Rattle.link_base.specs.Canons.{exact}
 use Rattle.link_base.specs.declared.plan.Canon.{Canon}
 use Rattle.link_base.specs.declared.standard.Value.{Value}
 use Rattle.value_forms.specs.Canons.{canon_of, canon_by}
-use Rattle.value_pool.specs.Texts.{IsHeld}
+use Rattle.value_pool.specs.Texts.{IsHeld, PoolState}
 use Rattle.standard_files.specs.Held.{HoldsTexts}
+use Rattle.standard_files.specs.Taking.{HasTakenTexts}
 use Rattle.standard_files.specs.Texts.{canons_of_row, file_texts, texts_taken}
 use Rattle.standard_files.proofs.StandLemmas.{held-by, stands-canons, stands-flat, stands-left, stands-right, taken-more, taken-stands}
 
@@ -17,12 +18,12 @@ takes-held limit held None h = refl
 takes-held limit held (Some text) h = rw h refl
 
 -- texts that are held, after more of them were taken
-pub held-more : (limit : ℕ) (texts held new whole : List (List ℕ)) → texts_taken limit held texts ≡ Ok new → HoldsTexts held whole → HoldsTexts new whole
-held-more limit texts held new whole taken h text stands = taken-more limit texts held new text taken (h text stands)
+pub held-more : {old new : PoolState} {texts : List (List ℕ)} {told : Type 0} (whole : List (List ℕ)) → HasTakenTexts old new texts told → HoldsTexts old.texts whole → HoldsTexts new.texts whole
+held-more {old = old} {new = new} {texts = texts} whole t h text stands = taken-more old.limit texts old.texts new.texts text t.taken (h text stands)
 
 -- texts that were taken
-pub held-taken : (limit : ℕ) (texts held new : List (List ℕ)) → texts_taken limit held texts ≡ Ok new → HoldsTexts new texts
-held-taken limit texts held new taken text stands = taken-stands limit texts held new text taken stands
+pub held-taken : {old new : PoolState} {texts : List (List ℕ)} {told : Type 0} → HasTakenTexts old new texts told → HoldsTexts new.texts texts
+held-taken {old = old} {new = new} {texts = texts} t text stands = taken-stands old.limit texts old.texts new.texts text t.taken stands
 
 -- the texts of one row of a file, and of one of two files
 pub held-row : (texts : List Value → List (List ℕ)) (file : List Record) (at : ℕ) (row : List Value) (held : List (List ℕ)) → at < length file → row ≡ (get_or file at no_record).row → HoldsTexts held (file_texts texts file) → HoldsTexts held (texts row)

@@ -1,6 +1,6 @@
 -- The ids of the parts of keys, one by one, and what is known of the rows that they are of.
 use Rattle.std.proofs.Common.{◌≡◌, ◌≢◌, ◌<◌, ◌+◌, ℕ, false, List, [], ◌∷◌, ◌++◌, length, get_or, take, drop, Option, Some, None, Ok, refl, ap, sym, subst, ◌∙◌}
-use Rattle.std.specs.Prelude.{IfOk, Result, Err, option_map}
+use Rattle.std.specs.Prelude.{Result, Err, option_map}
 use Rattle.std.specs.List.{All, AllPairs}
 use Rattle.std.proofs.lemmas.List.{at_drop_more, get_or-map}
 use Rattle.block_passes.specs.KeyIds.{ids_in_pass, ids_of_row, key_ids, part_id}
@@ -14,18 +14,18 @@ use Rattle.link_base.specs.Canons.{exact}
 use Rattle.link_base.specs.declared.plan.Part.{Part}
 use Rattle.link_base.specs.declared.standard.Value.{Value}
 use Rattle.value_forms.specs.Canons.{canon_of, compares_days, canon_by}
-use Rattle.value_pool.specs.Texts.{place_among}
+use Rattle.value_pool.specs.Texts.{place_among, PoolState}
 use Rattle.value_pool.specs.declared.pool.PoolFault.{PoolFault}
 use Rattle.standard_files.specs.Held.{HoldsTexts}
 use Rattle.standard_files.specs.Known.{AreTextIds, IsIdOf, IsKnownFile, IsKnownRow, file_values}
 use Rattle.standard_files.specs.Ready.{IsRowFor}
 use Rattle.standard_files.specs.Sides.{id_side, side_of, sides_of_file, sides_of_row}
-use Rattle.standard_files.specs.Taking.{Extends}
-use Rattle.standard_files.specs.Texts.{canons_of_row, file_texts, texts_taken}
+use Rattle.standard_files.specs.Taking.{Extends, HasTakenTexts, TakesTexts}
+use Rattle.standard_files.specs.Texts.{canons_of_row, file_texts}
 use Rattle.standard_files.proofs.FileLemmas.{row-many}
 use Rattle.standard_files.proofs.HeldLemmas.{held-more, held-row}
 use Rattle.standard_files.proofs.KnownLemmas.{ids-kept, ids-next}
-use Rattle.standard_files.proofs.PlaceLemmas.{extends-before, extends-self, kept-taken, place-in}
+use Rattle.standard_files.proofs.PlaceLemmas.{before, extends-self, kept, place-in}
 use Rattle.standard_files.proofs.SideLemmas.{length-sides, side-at, sides-many}
 
 -- a text whose id is known, and one by whose id a value is compared
@@ -35,9 +35,10 @@ id-part held final None (Some i) e h = absurd h
 id-part held final (Some text) None e h = absurd h
 id-part held final (Some text) (Some i) e h = ap Some (place-in i text e h)
 
-pub parts-named : (held : List (List ℕ)) (o : Option (List ℕ)) (r : Result (Option ℕ) PoolFault) → IfOk r (IsIdOf held o) → IfOk r (λ i. (final : List (List ℕ)) → Extends held final → option_map (place_among final) o ≡ i)
-parts-named held o (Ok i) h = λ final e. id-part held final o i e h
-parts-named held o (Err f) h = tt
+-- what is told of a pool that took texts, said anew
+pub holds-more : {T : Type 0} (old new : PoolState) (texts : List (List ℕ)) (told more : T → Type 0) (r : Result T PoolFault) → ((x : T) → told x → more x) → TakesTexts old new texts told r → TakesTexts old new texts more r
+holds-more old new texts told more (Ok x) goes h = record { limit = h.limit; taken = h.taken; holds = goes x h.holds }
+holds-more old new texts told more (Err f) goes h = h
 
 side-part : (final : List (List ℕ)) (o : Option (List ℕ)) → option_map (place_among final) o ≡ id_in (id_side final o)
 side-part final None = refl
@@ -71,20 +72,20 @@ ids-row final passes file at row lt e =
     at_drop_more (key_ids final passes) file at no_record lt ∙ ap (λ r. ids_of_row final passes r ++ key_ids final passes (drop (at + 1) file)) (sym e)
 
 -- what is known of rows stays known while texts are taken
-module _ (limit : ℕ) (more held new : List (List ℕ)) (kinds : List CompareKind) (taken : texts_taken limit held more ≡ Ok new) where
-  pub row-kept : (row : List Value) (texts : List (Option ℕ)) (sides : List IdValue) → IsKnownRow held kinds row texts sides → IsKnownRow new kinds row texts sides
+module _ {old new : PoolState} {more : List (List ℕ)} {told : Type 0} (kinds : List CompareKind) (t : HasTakenTexts old new more told) where
+  pub row-kept : (row : List Value) (texts : List (Option ℕ)) (sides : List IdValue) → IsKnownRow old.texts kinds row texts sides → IsKnownRow new.texts kinds row texts sides
   row-kept row texts sides h = record {
-    texts = ids-kept held new (kept-taken limit more held new taken) row texts h.texts;
-    canons = held-more limit more held new (canons_of_row kinds row) taken h.canons;
+    texts = ids-kept old.texts new.texts (kept t) row texts h.texts;
+    canons = held-more (canons_of_row kinds row) t h.canons;
     width = h.width;
-    sides = λ final e. h.sides final (extends-before limit more held new final taken e);
+    sides = λ final e. h.sides final (before t final e);
   }
 
-  pub file-kept : (file : List Record) (texts : List (Option ℕ)) (rows : List (List IdValue)) → IsKnownFile held kinds file texts rows → IsKnownFile new kinds file texts rows
+  pub file-kept : (file : List Record) (texts : List (Option ℕ)) (rows : List (List IdValue)) → IsKnownFile old.texts kinds file texts rows → IsKnownFile new.texts kinds file texts rows
   file-kept file texts rows h = record {
-    texts = ids-kept held new (kept-taken limit more held new taken) (file_values file) texts h.texts;
-    canons = held-more limit more held new (file_texts (canons_of_row kinds) file) taken h.canons;
-    sides = λ final e. h.sides final (extends-before limit more held new final taken e);
+    texts = ids-kept old.texts new.texts (kept t) (file_values file) texts h.texts;
+    canons = held-more (file_texts (canons_of_row kinds) file) t h.canons;
+    sides = λ final e. h.sides final (before t final e);
   }
 
 -- one row of a file

@@ -1,5 +1,5 @@
 -- Texts by their ids, and canons that are known.
-use Rattle.std.proofs.Common.{◌≡◌, ◌<◌, ◌≤◌, ◌+◌, ℕ, zero, suc, true, List, [], ◌∷◌, ◌++◌, length, get_or, take, drop, Option, Some, None, Result, Ok, Err, OnOk, IfSome, option_to_list, refl, ap, sym, subst, arith, length-append}
+use Rattle.std.proofs.Common.{◌≡◌, ◌<◌, ◌≤◌, ◌+◌, ℕ, zero, suc, true, List, [], ◌∷◌, ◌++◌, length, get_or, take, drop, Option, Some, None, Ok, IfSome, option_to_list, refl, ap, sym, subst, arith, length-append}
 use Rattle.std.specs.List.{slice_get}
 use Rattle.std.specs.Str.{bytes_eq}
 use Rattle.link_base.specs.Standard.{absent_value, no_record, Record}
@@ -8,20 +8,17 @@ use Rattle.link_base.specs.Canons.{exact}
 use Rattle.link_base.specs.declared.standard.Value.{Value}
 use Rattle.link_base.specs.declared.standard.Value.TheVariants as value
 use Rattle.value_forms.specs.Canons.{canon_of, exact_canon}
-use Rattle.value_pool.specs.Texts.{PoolState, stands_among}
-use Rattle.value_pool.specs.declared.pool.PoolFault.{PoolFault}
-use Rattle.standard_files.specs.Known.{AreKnown, AreKnownCanons, AreKnownDays, AreTextIds, IsCanonAt, IsIdOf, IsKnownAt, IsKnownDay, file_values, no_day, side_by_id}
+use Rattle.value_pool.specs.Texts.{stands_among}
+use Rattle.standard_files.specs.Known.{AreKnown, AreKnownCanons, AreKnownDays, AreTextIds, IsIdOf, IsKnownAt, IsKnownDay, file_values, no_day, side_by_id}
 use Rattle.standard_files.specs.Sides.{id_side}
-use Rattle.standard_files.specs.Taking.{Extends, TakesTexts}
+use Rattle.standard_files.specs.Taking.{Extends}
 use Rattle.standard_files.specs.Texts.{standard_text, texts_taken}
 use Rattle.standard_files.specs.declared.known.Known.{Known}
 use Rattle.standard_files.specs.declared.known.KnownCanon.{KnownCanon}
-use Rattle.standard_files.specs.declared.known.KnownCanons.{KnownCanons}
 use Rattle.standard_files.specs.declared.known.KnownDay.{KnownDay}
-use Rattle.standard_files.specs.declared.known.KnownDays.{KnownDays}
 use Rattle.standard_files.proofs.FileLemmas.{values-row}
 use Rattle.standard_files.proofs.HeldLemmas.{takes-held}
-use Rattle.standard_files.proofs.PlaceLemmas.{kept-taken, side-in}
+use Rattle.standard_files.proofs.PlaceLemmas.{side-in}
 use Rattle.standard_files.proofs.StandLemmas.{itself, or-left, or-right}
 
 -- a text at a place stands among the texts
@@ -106,8 +103,8 @@ module _ (held : List (List ℕ)) where
   ids-at (v ∷ vs) (i ∷ is) zero d e lt h = h.0
   ids-at (v ∷ vs) (i ∷ is) (suc k) d e lt h = ids-at vs is k d e (omega arith) h.1
 
-  pub ids-read : (vs : List Value) (is : List (Option ℕ)) (k : ℕ) (v : Value) (i : Option ℕ) → k < length vs → v ≡ get_or vs k absent_value → i ≡ get_or is k i → AreTextIds held vs is → IsIdOf held (standard_text v) i
-  ids-read vs is k v i lt of_value of_id h = subst (λ x. IsIdOf held (standard_text x) i) (sym of_value) (subst (λ x. IsIdOf held (standard_text (get_or vs k absent_value)) x) (sym of_id) (ids-at vs is k absent_value i lt h))
+  pub ids-read : (vs : List Value) (is : List (Option ℕ)) (k : ℕ) (i : Option ℕ) → k < length vs → i ≡ get_or is k i → AreTextIds held vs is → IsIdOf held (standard_text (get_or vs k absent_value)) i
+  ids-read vs is k i lt of_id h = subst (IsIdOf held (standard_text (get_or vs k absent_value))) (sym of_id) (ids-at vs is k absent_value i lt h)
 
 -- the ids of the rows of a file that are left
 module _ (held : List (List ℕ)) (file : List Record) (at : ℕ) (row : List Value) (left : List (Option ℕ)) (width : ℕ) where
@@ -126,33 +123,6 @@ module _ (held : List (List ℕ)) (file : List Record) (at : ℕ) (row : List Va
 pub ids-push : (held new : List (List ℕ)) (vs : List Value) (v : Value) (is : List (Option ℕ)) (i : Option ℕ) → Keeps held new → AreTextIds held vs is → IsIdOf new (standard_text v) i → AreTextIds new (vs ++ v ∷ []) (is ++ i ∷ [])
 ids-push held new vs v is i keeps h k = ids-append new vs (v ∷ []) is (i ∷ []) (ids-kept held new keeps vs is h) (k, tt)
 
--- a word by the id of its standard text
-same-text : (a b : List ℕ) (o : Option (List ℕ)) → o ≡ Some a → o ≡ Some b → a ≡ b
-same-text a b o h k = cc
-
-module _ (held : List (List ℕ)) (kinds : List CompareKind) where
-  exact-id : (v : Value) (i : ℕ) → IsIdOf held (standard_text v) (Some i) → IsIdOf held (canon_of exact v) (Some i)
-  exact-id value.Absent i h = absurd h
-  exact-id (value.Word text) i h = h
-  exact-id (value.Day day) i h = absurd h
-
-  pub itself-id : (kind : CompareKind) (v : Value) (i : ℕ) → kind ≡ exact → IsIdOf held (standard_text v) (Some i) → IsIdOf held (canon_of kind v) (Some i)
-  itself-id kind v i e h = rw e (exact-id v i h)
-
-  pub known-at : (place : ℕ) (known : List (Option KnownCanon)) (canon : KnownCanon) → get_or known place None ≡ Some canon → AreKnownCanons held kinds known → IsCanonAt held kinds place canon
-  known-at place known canon e h = subst (IsKnownAt held kinds place) e (h place)
-
-  pub known-id : (v : Value) (i : ℕ) (known : KnownCanon) → IsIdOf held (standard_text v) (Some i) → IsCanonAt held kinds i known → IsIdOf held (canon_of (get_or kinds known.field exact) v) (Some known.canon)
-  known-id value.Absent i known h k = absurd h
-  known-id (value.Word text) i known h k = rw (same-text text k.text (slice_get held i) h k.stands) k.canon
-  known-id (value.Day day) i known h k = absurd h
-
-  pub new-known : (v : Value) (i : ℕ) (known : KnownCanon) → IsIdOf held (standard_text v) (Some i) → IsIdOf held (canon_of (get_or kinds known.field exact) v) (Some known.canon) → IsCanonAt held kinds i known
-  new-known value.Absent i known h k = absurd h
-  new-known (value.Word text) i known h k = record { text = text; stands = h; canon = k }
-  new-known (value.Day day) i known h k = absurd h
-
--- the canons that are known stay so while the text of a day is taken
 -- the text of a day, read from its slot
 pub day-at : (days : List KnownDay) (slot : ℕ) (known : KnownDay) (i : Option ℕ) (o : Option (List ℕ)) → get_or days slot no_day ≡ known → i ≡ known.text → exact_canon (value.Day known.day) ≡ o
     → IfSome i (λ (text : ℕ). (held : List (List ℕ)) → AreKnownDays held days → IsIdOf held o (Some text))
@@ -162,9 +132,3 @@ day-at days slot known (Some text) o is_known is_text is_day = λ held h.
     let of_text : IsIdOf held (exact_canon (value.Day known.day)) (Some text) =
     subst (λ (j : Option ℕ). IfSome j (λ (t : ℕ). IsIdOf held (exact_canon (value.Day known.day)) (Some t))) (sym is_text) at in
     subst (λ (p : Option (List ℕ)). IsIdOf held p (Some text)) is_day of_text
-
-pub known-after : {T : Type 0} (old new : PoolState) (texts : List (List ℕ)) (kinds : List CompareKind) (canons : KnownCanons) (r : Result T PoolFault) (days : KnownDays)
-    → TakesTexts old new texts r → AreKnownCanons old.texts kinds canons.at.items → OnOk r (AreKnownDays new.texts days.at.items) → OnOk r (AreKnown new.texts kinds (record { canons = canons; days = days }))
-known-after old new texts kinds canons (Ok x) days taken h k =
-    record { canons = canons-kept old.texts new.texts (kept-taken old.limit texts old.texts new.texts taken) kinds canons.at.items h; days = k }
-known-after old new texts kinds canons (Err f) days taken h k = tt

@@ -8,6 +8,5 @@ pub mod StandLemmas
 pub mod HeldLemmas
 pub mod SideLemmas
 pub mod DistinctLemmas
-pub mod ExampleLemmas
 pub mod KnownLemmas
 pub mod KeyLemmas

@@ -7,10 +7,10 @@ use Rattle.std.proofs.lemmas.Slice.Eq.{bytes_eq-Decides}
 use Rattle.std.proofs.lemmas.List.{get_or_append_left}
 use Rattle.std.proofs.lemmas.List.Sums.{position_or_len_is}
 use Rattle.std.proofs.lemmas.Option.{get_or_from_slice_get, slice_get-get_or, slice_get_within}
-use Rattle.value_pool.specs.Texts.{place_among}
+use Rattle.value_pool.specs.Texts.{place_among, PoolState}
 use Rattle.comparators.specs.declared.ids.IdValue.TheVariants as id
 use Rattle.standard_files.specs.Sides.{id_side}
-use Rattle.standard_files.specs.Taking.{Extends}
+use Rattle.standard_files.specs.Taking.{Extends, HasTakenTexts}
 use Rattle.standard_files.specs.Texts.{texts_taken}
 use Rattle.standard_files.proofs.TakingLemmas.{taken-cases}
 
@@ -20,7 +20,7 @@ kept-append xs ys i text h =
     slice_get-get_or (xs ++ ys) i text (omega (arith, length-append xs ys)) ∙ ap Some (get_or_append_left xs ys text i within ∙ get_or_from_slice_get xs i text text h)
 
 -- a text keeps its place
-pub kept-taken : (limit : ℕ) (texts held new : List (List ℕ)) → texts_taken limit held texts ≡ Ok new → (i : ℕ) (text : List ℕ) → slice_get held i ≡ Some text → slice_get new i ≡ Some text
+kept-taken : (limit : ℕ) (texts held new : List (List ℕ)) → texts_taken limit held texts ≡ Ok new → (i : ℕ) (text : List ℕ) → slice_get held i ≡ Some text → slice_get new i ≡ Some text
 kept-taken limit [] held new h i text e = let same : held ≡ new = cc in rw (← same) e
 kept-taken limit (t ∷ ts) held new h i text e =
     elim (taken-cases limit held ts new t h) [
@@ -28,9 +28,12 @@ kept-taken limit (t ∷ ts) held new h i text e =
       | inr x ↦ kept-taken limit ts (held ++ t ∷ []) new x.1 i text (kept-append held (t ∷ []) i text e)
     ]
 
-pub extends-before : (limit : ℕ) (texts held new final : List (List ℕ)) → texts_taken limit held texts ≡ Ok new → Extends new final → Extends held final
-extends-before limit texts held new final h e =
-    record { distinct = e.distinct; kept = λ i text at. e.kept i text (kept-taken limit texts held new h i text at) }
+module _ {old new : PoolState} {texts : List (List ℕ)} {told : Type 0} (h : HasTakenTexts old new texts told) where
+  pub kept : (i : ℕ) (text : List ℕ) → slice_get old.texts i ≡ Some text → slice_get new.texts i ≡ Some text
+  kept = kept-taken old.limit texts old.texts new.texts h.taken
+
+  pub before : (final : List (List ℕ)) → Extends new.texts final → Extends old.texts final
+  before final e = record { distinct = e.distinct; kept = λ i text at. e.kept i text (kept i text at) }
 
 pub extends-self : (texts : List (List ℕ)) → AllPairs (λ a b. a ≢ b) texts → Extends texts texts
 extends-self texts h = record { distinct = h; kept = λ i text at. at }

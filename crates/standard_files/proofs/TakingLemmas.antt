@@ -1,12 +1,12 @@
 -- Texts taken one after the other.
-use Rattle.std.proofs.Common.{◌≡◌, ◌+◌, ℕ, Bool, true, false, not, ◌&&◌, List, [], ◌∷◌, ◌++◌, length, Result, Ok, Err, OnOk, ◌⊎◌, inl, inr, nat_lt, if◌then◌else◌, refl, ap, sym, subst, ◌∙◌}
-use Rattle.std.specs.List.{sum_by}
+use Rattle.std.proofs.Common.{◌≡◌, ◌+◌, ℕ, Bool, true, false, not, ◌&&◌, List, [], ◌∷◌, ◌++◌, length, Some, Result, Ok, Err, IfOk, OnOk, ◌⊎◌, inl, inr, nat_lt, if◌then◌else◌, refl, ap, sym, subst, ◌∙◌}
+use Rattle.std.specs.List.{slice_get, sum_by}
 use Rattle.link_base.specs.Answers.{RefusesBut, and_then}
 use Rattle.value_pool.specs.Pool.{FullExactly, HasTaken, is_want_of_pool}
 use Rattle.value_pool.specs.Texts.{PoolState, stands_among}
 use Rattle.value_pool.specs.declared.pool.PoolFault.{PoolFault}
 use Rattle.value_pool.specs.declared.pool.PoolFault.TheVariants as fault
-use Rattle.standard_files.specs.Taking.{TakesTexts}
+use Rattle.standard_files.specs.Taking.{HasTakenTexts, TakesTexts}
 use Rattle.standard_files.specs.Texts.{text_taken, texts_taken}
 
 then-then : {A B C : Type 0} (r : Result A PoolFault) (f : A → Result B PoolFault) (g : B → Result C PoolFault) → and_then (and_then r f) g ≡ and_then r (λ x. and_then (f x) g)
@@ -33,19 +33,16 @@ pub record Goes (start now : PoolState) (rest whole : List (List ℕ)) : Type 0 
 pub goes-start : (p : PoolState) (whole : List (List ℕ)) → Goes p p whole whole
 goes-start p whole = record { limit = refl; texts = refl }
 
-pub goes-on : {start now new : PoolState} {rest whole : List (List ℕ)} (xs next : List (List ℕ)) → Goes start now rest whole → rest ≡ xs ++ next → new.limit ≡ now.limit → texts_taken now.limit now.texts xs ≡ Ok new.texts → Goes start new next whole
-goes-on {start = start} {now = now} {new = new} xs next g e limit taken =
-    let front = ap (λ r. and_then r (λ more. texts_taken now.limit more next)) taken in
+pub goes-on : {start now new : PoolState} {rest whole xs : List (List ℕ)} {told : Type 0} (next : List (List ℕ)) → Goes start now rest whole → HasTakenTexts now new xs told → rest ≡ xs ++ next → Goes start new next whole
+goes-on {now = now} {new = new} {xs = xs} next g h e =
+    let front = ap (λ r. and_then r (λ more. texts_taken now.limit more next)) h.taken in
     record {
-      limit = limit ∙ g.limit;
-      texts = ap (λ n. texts_taken n new.texts next) limit ∙ sym front ∙ sym (taken-append now.limit xs now.texts next) ∙ ap (texts_taken now.limit now.texts) (sym e) ∙ g.texts;
+      limit = h.limit ∙ g.limit;
+      texts = ap (λ n. texts_taken n new.texts next) h.limit ∙ sym front ∙ sym (taken-append now.limit xs now.texts next) ∙ ap (texts_taken now.limit now.texts) (sym e) ∙ g.texts;
     }
 
 pub whole-is : {start now : PoolState} {rest whole other : List (List ℕ)} → whole ≡ other → Goes start now rest whole → Goes start now rest other
 whole-is {start = start} e g = record { limit = g.limit; texts = g.texts ∙ ap (texts_taken start.limit start.texts) e }
-
-pub goes-end : {start now : PoolState} {whole : List (List ℕ)} → Goes start now [] whole → texts_taken start.limit start.texts whole ≡ Ok now.texts
-goes-end g = sym g.texts
 
 pub goes-refused : {start now : PoolState} {rest whole : List (List ℕ)} (xs next : List (List ℕ)) (f : PoolFault) → Goes start now rest whole → rest ≡ xs ++ next → RefusesBut is_want_of_pool (texts_taken now.limit now.texts xs) f → RefusesBut is_want_of_pool (texts_taken start.limit start.texts whole) f
 goes-refused {now = now} xs next f g e h =
@@ -62,15 +59,20 @@ full-one held more f true c h = cc
 full-one held more f false true h = refl
 full-one held more f false false h = cc
 
-pub takes-interned : (old new : PoolState) (text : List ℕ) (r : Result ℕ PoolFault) → old.used ≡ sum_by length old.texts → OnOk r (HasTaken text old new) → FullExactly old text r → TakesTexts old new (text ∷ []) r
-takes-interned old new text (Ok id) used is h =
+pub takes-interned : (old new : PoolState) (text : List ℕ) (r : Result ℕ PoolFault) → old.used ≡ sum_by length old.texts → new.limit ≡ old.limit
+    → IfOk r (λ id. slice_get new.texts id ≡ Some text) → OnOk r (HasTaken text old new) → FullExactly old text r → TakesTexts old new (text ∷ []) (λ id. slice_get new.texts id ≡ Some text) r
+takes-interned old new text (Ok id) used limit found is h =
     let f : PoolFault = fault.Full (sum_by length old.texts + length text) old.limit in
-    ok-one old.texts (old.texts ++ text ∷ []) f (stands_among old.texts text) (nat_lt old.limit (sum_by length old.texts + length text)) (rw used at h) ∙ ap Ok (sym is.texts)
-takes-interned old new text (Err (fault.Full sum most)) used is h =
+    record {
+      limit = limit;
+      taken = ok-one old.texts (old.texts ++ text ∷ []) f (stands_among old.texts text) (nat_lt old.limit (sum_by length old.texts + length text)) (rw used at h) ∙ ap Ok (sym is.texts);
+      holds = found;
+    }
+takes-interned old new text (Err (fault.Full sum most)) used limit found is h =
     let f : PoolFault = fault.Full (sum_by length old.texts + length text) old.limit in
     let e : f ≡ fault.Full sum most = rw (h.1, h.2, used) refl in
     full-one old.texts (old.texts ++ text ∷ []) f (stands_among old.texts text) (nat_lt old.limit (sum_by length old.texts + length text)) (rw used at h.0) ∙ ap Err e
-takes-interned old new text (Err fault.NoMemory) used is h = tt
+takes-interned old new text (Err fault.NoMemory) used limit found is h = tt
 
 -- a text that is taken was held, or is the last of those that are held next
 pub taken-split : (limit : ℕ) (held texts new : List (List ℕ)) (text : List ℕ) (f : PoolFault) (b c : Bool)
@@ -85,21 +87,12 @@ pub taken-cases : (limit : ℕ) (held texts new : List (List ℕ)) (text : List 
 taken-cases limit held texts new text h =
     taken-split limit held texts new text (fault.Full (sum_by length held + length text) limit) (stands_among held text) (nat_lt limit (sum_by length held + length text)) h
 
-pub takes-refused : {T : Type 0} {start now : PoolState} {rest whole : List (List ℕ)} (xs next : List (List ℕ)) (f : PoolFault) (new : PoolState) (r : Result T PoolFault) → Goes start now rest whole → rest ≡ xs ++ next → RefusesBut is_want_of_pool (texts_taken now.limit now.texts xs) f → r ≡ Err f → TakesTexts start new whole r
-takes-refused {start = start} {whole = whole} xs next f new r g e h is =
-    subst (λ (x : Result _ PoolFault). TakesTexts start new whole x) (sym is) (goes-refused xs next f g e h)
-
-pub takes-err : {T : Type 0} (old new : PoolState) (xs : List (List ℕ)) (f : PoolFault) (r : Result T PoolFault) → RefusesBut is_want_of_pool (texts_taken old.limit old.texts xs) f → r ≡ Err f → TakesTexts old new xs r
-takes-err old new xs f r h is = subst (λ (x : Result _ PoolFault). TakesTexts old new xs x) (sym is) h
-
 -- texts after texts
-pub takes-then : {T : Type 0} (old mid new : PoolState) (xs ys : List (List ℕ)) (r : Result T PoolFault) → mid.limit ≡ old.limit → texts_taken old.limit old.texts xs ≡ Ok mid.texts → TakesTexts mid new ys r → TakesTexts old new (xs ++ ys) r
-takes-then old mid new xs ys (Ok x) limit taken h =
-    sym (goes-on {new = mid} xs ys (goes-start old (xs ++ ys)) refl limit taken).texts ∙ h
-takes-then old mid new xs ys (Err f) limit taken h =
-    subst (λ (e : Result (List (List ℕ)) PoolFault). RefusesBut is_want_of_pool e f) (goes-on {new = mid} xs ys (goes-start old (xs ++ ys)) refl limit taken).texts h
+pub taken-then : {old mid new : PoolState} {xs ys : List (List ℕ)} {s t told : Type 0} → HasTakenTexts old mid xs s → HasTakenTexts mid new ys t → told → HasTakenTexts old new (xs ++ ys) told
+taken-then {old = old} {xs = xs} {ys = ys} h k holds =
+    record { limit = k.limit ∙ h.limit; taken = sym (goes-on ys (goes-start old (xs ++ ys)) h refl).texts ∙ k.taken; holds = holds }
 
-pub takes-three : {T : Type 0} (old one two new : PoolState) (xs ys zs : List (List ℕ)) (r : Result T PoolFault) → one.limit ≡ old.limit → texts_taken old.limit old.texts xs ≡ Ok one.texts → two.limit ≡ one.limit → texts_taken one.limit one.texts ys ≡ Ok two.texts → TakesTexts two new zs r → TakesTexts old new (xs ++ ys ++ zs) r
-takes-three old one two new xs ys zs r limit_one taken_one limit_two taken_two h =
-    let taken : Result ℕ PoolFault = Ok 0 in
-    takes-then old two new (xs ++ ys) zs r (limit_two ∙ limit_one) (takes-then old one two xs ys taken limit_one taken_one taken_two) h
+pub refused-then : {old mid : PoolState} {xs : List (List ℕ)} {s : Type 0} (ys : List (List ℕ)) (f : PoolFault) → HasTakenTexts old mid xs s → RefusesBut is_want_of_pool (texts_taken mid.limit mid.texts ys) f
+    → RefusesBut is_want_of_pool (texts_taken old.limit old.texts (xs ++ ys)) f
+refused-then {old = old} {xs = xs} ys f h k =
+    subst (λ (e : Result (List (List ℕ)) PoolFault). RefusesBut is_want_of_pool e f) (goes-on ys (goes-start old (xs ++ ys)) h refl).texts k

@@ -1,8 +1,9 @@
 -- Machinery of `read_files`: the standard values of the rows of a file as they are read, and its first unreadable date, which
 -- is told after both files were read. No public clause names it.
-use Rattle.std.specs.Prelude.{◌≡◌, ◌<◌, ◌≤◌, ◌*◌, ◌+◌, ℕ, List, [], ◌∷◌, All, length, map, sum_by, Option, Some, None, Result, Ok, IfSome, if◌then◌else◌}
+use Rattle.std.specs.Prelude.{◌≡◌, ◌<◌, ◌≤◌, ◌*◌, ◌+◌, ℕ, Bool, List, [], ◌∷◌, All, length, map, sum_by, Option, Some, None, Result, Ok, IfSome, if◌then◌else◌}
 use Rattle.std.specs.Option.{option_or}
 use Rattle.link_base.specs.Answers.{and_then}
+use Rattle.link_base.specs.RowsWriter.{with_value, WrittenRows}
 use Rattle.link_base.specs.Standard.{IsValid}
 use Rattle.link_base.specs.declared.fault.Fault.{Fault}
 use Rattle.link_base.specs.declared.fault.FileRole.{FileRole}
@@ -14,11 +15,27 @@ use Rattle.file_reader.specs.Rows.{TableRow}
 use Rattle.file_reader.specs.Table.{unless_fault}
 use Rattle.link_plan.specs.declared.plan.Plan.{Plan}
 use Rattle.standard_files.specs.Files.{date_fault, sorts_in, StandardPair, table_in}
-use Rattle.standard_files.specs.Values.{standard_records, standard_values, unreadable_from, unreadable_in, unreadable_in_row}
+use Rattle.standard_files.specs.Values.{is_unreadable, standard_records, standard_value, standard_values, unreadable_from, unreadable_in, unreadable_in_row}
 use Rattle.standard_files.specs.declared.file_values.DatedFile.{DatedFile}
 use Rattle.standard_files.specs.declared.file_values.DatePlace.{DatePlace}
 use Rattle.standard_files.specs.declared.file_values.FileValues.{FileValues}
 use Rattle.standard_files.specs.declared.sorts.TextSort.{TextSort}
+
+-- the standard value of a text was appended to a row, and it was told whether it is a date that cannot be read
+pub record AddsValue (t : Tables) (sort : TextSort) (text : List ℕ) (old new : WrittenRows) (told : Bool) : Type 0 where
+  pub value : new ≡ with_value old (standard_value t sort text)
+  pub unreadable : told ≡ is_unreadable t sort text
+  pub valid : IsValid (standard_value t sort text)
+
+-- what is made of the texts of a row: its values, the number of its unreadable dates, and the field of the first
+pub record IsMade (t : Tables) (sorts : List TextSort) (texts : List (List ℕ)) (row : List Value) (count : ℕ) (date : Option ℕ) : Type 0 where
+  pub values : row ≡ standard_values t sorts texts
+  pub unreadable : count ≡ unreadable_in_row t sorts texts
+  pub first : date ≡ unreadable_from t 0 sorts texts
+  pub few : count ≤ MOST_FIELDS
+  pub many : length row ≡ length sorts
+  pub within : IfSome date (λ place. place < length sorts)
+  pub valid : All IsValid row
 
 -- a date of a row by its field
 abbrev pub date_in_row : ℕ → Option ℕ → Option DatePlace

@@ -1,18 +1,18 @@
 -- Machinery of `pool_values`: texts by their ids in a pool, canons that are known by them, and what is known of a row when its
 -- keys are taken. No public clause names it.
-use Rattle.std.specs.Prelude.{◌≡◌, ℕ, List, [], ◌∷◌, length, Option, Some, None, slice_get, slice_index_or, ⊤, IfSome, pos}
+use Rattle.std.specs.Prelude.{◌≡◌, ◌<◌, ℕ, List, [], ◌∷◌, length, Option, Some, None, slice_get, slice_index_or, ⊤, IfSome, pos}
 use Rattle.std.specs.List.{flat_map}
 use Rattle.comparators.specs.declared.ids.IdValue.{IdValue}
 use Rattle.comparators.specs.declared.ids.IdValue.TheVariants as id
-use Rattle.link_base.specs.Standard.{Record}
+use Rattle.link_base.specs.Standard.{absent_value, IsValid, Record}
 use Rattle.link_base.specs.declared.plan.CompareKind.{CompareKind}
 use Rattle.link_base.specs.Canons.{exact}
 use Rattle.link_base.specs.declared.standard.Value.{Value}
 use Rattle.link_base.specs.declared.standard.Value.TheVariants as value
 use Rattle.value_forms.specs.Canons.{canon_of, exact_canon}
 use Rattle.standard_files.specs.Held.{HoldsTexts}
-use Rattle.standard_files.specs.Sides.{sides_of_file, sides_of_row}
-use Rattle.standard_files.specs.Taking.{Extends}
+use Rattle.standard_files.specs.Sides.{side_of, sides_of_file, sides_of_row}
+use Rattle.standard_files.specs.Taking.{InLater}
 use Rattle.standard_files.specs.Texts.{canons_of_row, file_texts, standard_text}
 use Rattle.standard_files.specs.declared.known.Known.{Known}
 use Rattle.standard_files.specs.declared.known.KnownCanon.{KnownCanon}
@@ -75,15 +75,31 @@ pub record AreKnown (held : List (List ℕ)) (kinds : List CompareKind) (known :
   pub canons : AreKnownCanons held kinds known.canons.at.items
   pub days : AreKnownDays held known.days.at.items
 
+-- the canon of the value of a row in a field
+abbrev pub canon_at : List CompareKind → List Value → ℕ → Option (List ℕ)
+canon_at kinds row at = canon_of (slice_index_or kinds at exact) (slice_index_or row at absent_value)
+
+-- what it is compared by
+abbrev pub side_at : List (List ℕ) → List CompareKind → List Value → ℕ → IdValue
+side_at texts kinds row at = side_of texts (slice_index_or kinds at exact) (slice_index_or row at absent_value)
+
+-- a valid value in a field of a row, the id of its standard text, and what is known of the texts of a pool
+pub record IsKnownField (held : List (List ℕ)) (kinds : List CompareKind) (known : Known) (row : List Value) (at : ℕ) (id : Option ℕ) : Type 0 where
+  pub field : at < length kinds
+  pub within : at < length row
+  pub valid : IsValid (slice_index_or row at absent_value)
+  pub text : IsIdOf held (standard_text (slice_index_or row at absent_value)) id
+  pub all : AreKnown held kinds known
+
 -- a row whose standard texts and canons are held: the ids of the texts, and what its values are compared by
 pub record IsKnownRow (held : List (List ℕ)) (kinds : List CompareKind) (row : List Value) (ids : List (Option ℕ)) (compared : List IdValue) : Type 0 where
   pub texts : AreTextIds held row ids
   pub canons : HoldsTexts held (canons_of_row kinds row)
   pub width : length compared ≡ length kinds
-  pub sides : (final : List (List ℕ)) → Extends held final → sides_of_row final kinds row ≡ compared
+  pub sides : InLater held (λ final. sides_of_row final kinds row ≡ compared)
 
 -- the same of the rows of a file
 pub record IsKnownFile (held : List (List ℕ)) (kinds : List CompareKind) (file : List Record) (ids : List (Option ℕ)) (compared : List (List IdValue)) : Type 0 where
   pub texts : AreTextIds held (file_values file) ids
   pub canons : HoldsTexts held (file_texts (canons_of_row kinds) file)
-  pub sides : (final : List (List ℕ)) → Extends held final → sides_of_file final kinds file ≡ compared
+  pub sides : InLater held (λ final. sides_of_file final kinds file ≡ compared)

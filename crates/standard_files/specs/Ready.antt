@@ -24,11 +24,6 @@ pub record IsRowFor (kinds : List CompareKind) (r : Record) : Type 0 where
 abbrev pub AreInRange : ℕ → List (List Part) → Type 0
 AreInRange fields passes = All (λ pass. All (λ (p : Part). p.field < fields) pass) passes
 
--- a valid value for each part of the passes
-pub record HasParts (passes : List (List Part)) (r : Record) : Type 0 where
-  pub in_range : AreInRange (length r.row) passes
-  pub valid : All IsValid r.row
-
 -- each side of a row stands for its value, and is a valid side of its kind of comparison
 pub record AreRowSides (texts : List (List ℕ)) (kinds : List CompareKind) (row : List Value) (sides : List IdValue) : Type 0 where
   pub as_many : length sides ≡ length kinds

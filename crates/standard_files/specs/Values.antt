@@ -85,10 +85,6 @@ unreadable_from t at (s ∷ ss) (x ∷ xs) = if is_unreadable t s x then Some at
 abbrev pub standard_record : Tables → List TextSort → TableRow → Record
 standard_record t sorts row = record { id = row.id; row = standard_values t sorts row.fields }
 
--- its rows alone
-abbrev pub standard_rows : Tables → List TextSort → List TableRow → List (List Value)
-standard_rows t sorts table = map (λ (row : TableRow). standard_values t sorts row.fields) table
-
 abbrev pub standard_records : Tables → List TextSort → List TableRow → List Record
 standard_records t sorts table = map (standard_record t sorts) table
 

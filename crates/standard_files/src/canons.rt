@@ -1,14 +1,13 @@
 // What values are compared by, and their canons taken into a pool.
-ghost use Rattle.std.specs.Prelude.{◌≡◌, ◌<◌, ◌≤◌, ◌++◌, ◌+◌, ◌*◌, All, IfOk, List, [], OnOk, ℕ, length, option_to_list, slice_index_or};
+ghost use Rattle.std.specs.Prelude.{◌≡◌, ◌≤◌, ◌*◌, All, length, option_to_list};
 ghost use Rattle.value_forms.specs.Canons.{IsReadable, canon_by, canon_of, initials_canon};
 ghost use Rattle.link_base.specs.Rows.{value_seen};
-ghost use Rattle.link_base.specs.Standard.{IsValid, absent_value};
-ghost use Rattle.link_base.specs.Canons.{exact};
-ghost use Rattle.standard_files.specs.Known.{AreKnown, AreTextIds, IsIdOf, file_values, flat_sides, side_by_id};
+ghost use Rattle.link_base.specs.Standard.{IsValid};
+ghost use Rattle.standard_files.specs.Known.{AreKnown, AreTextIds, IsIdOf, IsKnownField, canon_at, file_values, flat_sides, side_at, side_by_id};
 ghost use Rattle.standard_files.specs.Ready.{IsRowFor};
-ghost use Rattle.standard_files.specs.Sides.{day_side, side_of, sides_of_file, sides_of_row};
-ghost use Rattle.standard_files.specs.Taking.{Extends, TakesTexts};
-ghost use Rattle.standard_files.specs.Texts.{both_texts, canons_of_row, file_texts, standard_text};
+ghost use Rattle.standard_files.specs.Sides.{day_side, sides_of_row};
+ghost use Rattle.standard_files.specs.Taking.{GoesOn, InLater, IsCompared, TakesTexts};
+ghost use Rattle.standard_files.specs.Texts.{both_texts, canons_of_row, file_texts};
 
 use crate::known::Known;
 use crate::texts::{TextIds, take_text};
@@ -27,9 +26,7 @@ pub(crate) fn take_part(
     value: &ValueRef<'_>,
 ) -> Result<Option<Id>, PoolFault>
     requires { IsReadable canon (value_seen value.now) }
-    ensures limit { pool.new.limit ≡ pool.old.limit }
-    ensures texts { TakesTexts pool.old pool.new (option_to_list (canon_by canon (value_seen value.now))) result }
-    ensures id { IfOk result (IsIdOf pool.new.texts (canon_by canon (value_seen value.now))) }
+    ensures { TakesTexts pool.old pool.new (option_to_list (canon_by canon (value_seen value.now))) (IsIdOf pool.new.texts (canon_by canon (value_seen value.now))) result }
 {
     match canon_text(canon, value) {
         None => Ok(None),
@@ -64,9 +61,7 @@ fn take_initials(
     value: &ValueRef<'_>,
 ) -> Result<Option<Id>, PoolFault>
     requires { IsValid (value_seen value.now) }
-    ensures limit { pool.new.limit ≡ pool.old.limit }
-    ensures texts { TakesTexts pool.old pool.new (option_to_list (initials_canon (value_seen value.now))) result }
-    ensures id { IfOk result (IsIdOf pool.new.texts (initials_canon (value_seen value.now))) }
+    ensures { TakesTexts pool.old pool.new (option_to_list (initials_canon (value_seen value.now))) (IsIdOf pool.new.texts (initials_canon (value_seen value.now))) result }
 {
     let ValueRef::Word(text) = *value else {
         return Ok(None);
@@ -86,9 +81,7 @@ fn take_canon(
     value: &ValueRef<'_>,
 ) -> Result<Option<Id>, PoolFault>
     requires { IsValid (value_seen value.now) }
-    ensures limit { pool.new.limit ≡ pool.old.limit }
-    ensures texts { TakesTexts pool.old pool.new (option_to_list (canon_of kind (value_seen value.now))) result }
-    ensures id { IfOk result (IsIdOf pool.new.texts (canon_of kind (value_seen value.now))) }
+    ensures { TakesTexts pool.old pool.new (option_to_list (canon_of kind (value_seen value.now))) (IsIdOf pool.new.texts (canon_of kind (value_seen value.now))) result }
 {
     match kind {
         CompareKind::Same(canon) => take_part(alloc, pool, canon, value),
@@ -108,15 +101,8 @@ fn take_new(
     text: &Option<Id>,
     row: &Row<'_>,
 ) -> Result<Option<Id>, PoolFault>
-    requires field { field < length kinds.now }
-    requires within { field < length row.now }
-    requires valid { IsValid (slice_index_or row.now field absent_value) }
-    requires text { IsIdOf pool.old.texts (standard_text (slice_index_or row.now field absent_value)) text.now }
-    requires known { AreKnown pool.old.texts kinds.now known.old }
-    ensures limit { pool.new.limit ≡ pool.old.limit }
-    ensures texts { TakesTexts pool.old pool.new (option_to_list (canon_of (slice_index_or kinds.now field exact) (slice_index_or row.now field absent_value))) result }
-    ensures id { IfOk result (IsIdOf pool.new.texts (canon_of (slice_index_or kinds.now field exact) (slice_index_or row.now field absent_value))) }
-    ensures known { OnOk result (AreKnown pool.new.texts kinds.now known.new) }
+    requires { IsKnownField pool.old.texts kinds.now known.old row.now field text.now }
+    ensures { TakesTexts pool.old pool.new (option_to_list (canon_at kinds.now row.now field)) (λ canon. IsIdOf pool.new.texts (canon_at kinds.now row.now field) canon × AreKnown pool.new.texts kinds.now known.new) result }
 {
     let kind = kinds[field as usize];
     let value = row.value(field as usize);
@@ -137,15 +123,8 @@ fn take_known(
     text: &Option<Id>,
     row: &Row<'_>,
 ) -> Result<Option<Id>, PoolFault>
-    requires field { field < length kinds.now }
-    requires within { field < length row.now }
-    requires valid { IsValid (slice_index_or row.now field absent_value) }
-    requires text { IsIdOf pool.old.texts (standard_text (slice_index_or row.now field absent_value)) text.now }
-    requires known { AreKnown pool.old.texts kinds.now known.old }
-    ensures limit { pool.new.limit ≡ pool.old.limit }
-    ensures texts { TakesTexts pool.old pool.new (option_to_list (canon_of (slice_index_or kinds.now field exact) (slice_index_or row.now field absent_value))) result }
-    ensures id { IfOk result (IsIdOf pool.new.texts (canon_of (slice_index_or kinds.now field exact) (slice_index_or row.now field absent_value))) }
-    ensures known { OnOk result (AreKnown pool.new.texts kinds.now known.new) }
+    requires { IsKnownField pool.old.texts kinds.now known.old row.now field text.now }
+    ensures { TakesTexts pool.old pool.new (option_to_list (canon_at kinds.now row.now field)) (λ canon. IsIdOf pool.new.texts (canon_at kinds.now row.now field) canon × AreKnown pool.new.texts kinds.now known.new) result }
 {
     let kind = kinds[field as usize];
     if let Some(canon) = known.find(kind, field, text, row) {
@@ -164,15 +143,8 @@ fn take_side(
     text: Option<Id>,
     row: &Row<'_>,
 ) -> Result<IdValue, PoolFault>
-    requires field { field < length kinds.now }
-    requires within { field < length row.now }
-    requires valid { IsValid (slice_index_or row.now field absent_value) }
-    requires text { IsIdOf pool.old.texts (standard_text (slice_index_or row.now field absent_value)) text }
-    requires known { AreKnown pool.old.texts kinds.now known.old }
-    ensures limit { pool.new.limit ≡ pool.old.limit }
-    ensures texts { TakesTexts pool.old pool.new (option_to_list (canon_of (slice_index_or kinds.now field exact) (slice_index_or row.now field absent_value))) result }
-    ensures side { IfOk result (λ side. (final : List (List ℕ)) → Extends pool.new.texts final → side_of final (slice_index_or kinds.now field exact) (slice_index_or row.now field absent_value) ≡ side) }
-    ensures known { OnOk result (AreKnown pool.new.texts kinds.now known.new) }
+    requires { IsKnownField pool.old.texts kinds.now known.old row.now field text }
+    ensures { TakesTexts pool.old pool.new (option_to_list (canon_at kinds.now row.now field)) (λ side. InLater pool.new.texts (λ final. side_at final kinds.now row.now field ≡ side) × AreKnown pool.new.texts kinds.now known.new) result }
 {
     let kind = kinds[field as usize];
     if compares_days(kind) {
@@ -197,11 +169,7 @@ fn take_row(
     requires valid { All IsValid row.now }
     requires ids { AreTextIds pool.old.texts row.now ids.now }
     requires known { AreKnown pool.old.texts kinds.now known.old }
-    ensures limit { pool.new.limit ≡ pool.old.limit }
-    ensures texts { TakesTexts pool.old pool.new (canons_of_row kinds.now row.now) result }
-    ensures sides { OnOk result ((final : List (List ℕ)) → Extends pool.new.texts final → sides.old.items ++ sides_of_row final kinds.now row.now ≡ sides.new.items) }
-    ensures width { OnOk result (length sides.new.items ≡ length sides.old.items + length kinds.now) }
-    ensures known { OnOk result (AreKnown pool.new.texts kinds.now known.new) }
+    ensures { TakesTexts pool.old pool.new (canons_of_row kinds.now row.now) (λ _. GoesOn pool.new.texts sides.old.items sides.new.items (length kinds.now) (λ final. sides_of_row final kinds.now row.now) × AreKnown pool.new.texts kinds.now known.new) result }
 {
     for field in 0..kinds.len() {
         let side = take_side(
@@ -234,12 +202,7 @@ fn take_rows(
     requires rows { All (IsRowFor kinds.now) file.now }
     requires ids { AreTextIds pool.old.texts (file_values file.now) ids.now }
     requires known { AreKnown pool.old.texts kinds.now known.old }
-    requires empty { sides.old.items ≡ [] }
-    ensures limit { pool.new.limit ≡ pool.old.limit }
-    ensures texts { TakesTexts pool.old pool.new (file_texts (canons_of_row kinds.now) file.now) result }
-    ensures sides { OnOk result ((final : List (List ℕ)) → Extends pool.new.texts final → flat_sides final kinds.now file.now ≡ sides.new.items) }
-    ensures width { OnOk result (length sides.new.items ≡ length file.now * length kinds.now) }
-    ensures known { OnOk result (AreKnown pool.new.texts kinds.now known.new) }
+    ensures { TakesTexts pool.old pool.new (file_texts (canons_of_row kinds.now) file.now) (λ _. GoesOn pool.new.texts sides.old.items sides.new.items (length file.now * length kinds.now) (λ final. flat_sides final kinds.now file.now) × AreKnown pool.new.texts kinds.now known.new) result }
 {
     let mut left = ids;
     for at in 0..file.rows() {
@@ -263,11 +226,7 @@ fn take_file(
     requires rows { All (IsRowFor kinds.now) file.now }
     requires ids { AreTextIds pool.old.texts (file_values file.now) ids.now }
     requires known { AreKnown pool.old.texts kinds.now known.old }
-    ensures limit { pool.new.limit ≡ pool.old.limit }
-    ensures texts { TakesTexts pool.old pool.new (file_texts (canons_of_row kinds.now) file.now) result }
-    ensures fields { IfOk result (λ table. table.fields ≡ length kinds.now) }
-    ensures sides { IfOk result (λ table. (final : List (List ℕ)) → Extends pool.new.texts final → sides_of_file final kinds.now file.now ≡ table.rows) }
-    ensures known { OnOk result (AreKnown pool.new.texts kinds.now known.new) }
+    ensures { TakesTexts pool.old pool.new (file_texts (canons_of_row kinds.now) file.now) (λ table. IsCompared pool.new.texts kinds.now file.now table × AreKnown pool.new.texts kinds.now known.new) result }
 {
     let room = (file.rows() as usize).saturating_mul(kinds.len());
     let Ok(mut sides) = Vec::with_capacity(alloc, room) else {
@@ -291,12 +250,7 @@ pub(crate) fn take_canons(
     requires rows_b { All (IsRowFor kinds.now) b.now }
     requires ids_a { AreTextIds pool.old.texts (file_values a.now) ids.now.a.items }
     requires ids_b { AreTextIds pool.old.texts (file_values b.now) ids.now.b.items }
-    ensures limit { pool.new.limit ≡ pool.old.limit }
-    ensures texts { TakesTexts pool.old pool.new (both_texts (canons_of_row kinds.now) a.now b.now) result }
-    ensures fields_a { IfOk result (λ t. t.0.fields ≡ length kinds.now) }
-    ensures fields_b { IfOk result (λ t. t.1.fields ≡ length kinds.now) }
-    ensures a { IfOk result (λ t. (final : List (List ℕ)) → Extends pool.new.texts final → sides_of_file final kinds.now a.now ≡ t.0.rows) }
-    ensures b { IfOk result (λ t. (final : List (List ℕ)) → Extends pool.new.texts final → sides_of_file final kinds.now b.now ≡ t.1.rows) }
+    ensures { TakesTexts pool.old pool.new (both_texts (canons_of_row kinds.now) a.now b.now) (λ t. IsCompared pool.new.texts kinds.now a.now t.0 × IsCompared pool.new.texts kinds.now b.now t.1) result }
 {
     let rows = a.rows().saturating_add(b.rows());
     let mut known = match Known::new(alloc, pool.len(), rows) {

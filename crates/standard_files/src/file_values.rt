@@ -1,8 +1,7 @@
 // The standard values of a file, as its rows are read.
-ghost use Rattle.std.specs.Prelude.{◌≡◌, ◌++◌, ◌∷◌, [], ℕ, All, List, length, IfOk, OnOk, None};
-ghost use Rattle.std.specs.Option.{option_or};
-ghost use Rattle.link_base.specs.RowsWriter.{no_rows};
+ghost use Rattle.std.specs.Prelude.{◌≡◌, ◌≤◌, ◌++◌, ◌∷◌, [], ℕ, All, List, length, IfOk, OnOk};
 ghost use Rattle.link_base.specs.Standard.{HaveDistinctIds, records_of};
+ghost use Rattle.link_base.specs.declared.tables.Tables.{Tables as PlanTables};
 ghost use Rattle.link_limits.specs.declared.TheConstants.{MOST_FIELDS, MOST_ROWS};
 ghost use Rattle.file_reader.specs.Table.{IsFieldText};
 ghost use Rattle.file_reader.specs.Takers.{HasRoom};
@@ -45,11 +44,9 @@ pub(crate) struct FileValues {
 impl FileValues {
     // Of no rows, whose fields hold these.
     pub(crate) fn new(alloc: Global, sorts: Vec<TextSort>) -> Result<FileValues, NoMemory>
-        ensures none { IfOk result (λ made. made.rows ≡ no_rows) }
+        requires { length sorts.items ≤ MOST_FIELDS }
         ensures sorts { IfOk result (λ made. made.sorts.items ≡ sorts.items) }
-        ensures count { IfOk result (λ made. made.count ≡ 0) }
-        ensures unreadable { IfOk result (λ made. made.unreadable ≡ 0) }
-        ensures first { IfOk result (λ made. made.first ≡ None) }
+        ensures none { IfOk result (λ made. (t : PlanTables) → HasValues t made.sorts.items made []) }
     {
         let rows = RowsWriter::with_capacity(alloc, 0, 0)?;
         Ok(FileValues {
@@ -88,9 +85,7 @@ impl FileValues {
     pub(crate) fn finish(self, ids: IdSet) -> DatedFile
         requires closed { self.rows.row ≡ [] }
         requires as_many { length ids ≡ length self.rows.rows }
-        ensures records { result.file.records ≡ records_of ids self.rows.rows }
-        ensures unreadable { result.file.unreadable ≡ self.unreadable }
-        ensures first { result.first ≡ self.first }
+        ensures file { result ≡ record { file = record { records = records_of ids self.rows.rows; unreadable = self.unreadable }; first = self.first } }
         ensures distinct { HaveDistinctIds result.file.records }
     {
         let file = StdFile::of(ids, self.rows.finish());

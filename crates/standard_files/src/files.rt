@@ -93,8 +93,7 @@ fn pair_of(alloc: Global, plan: &Plan, a: DatedFile, b: DatedFile) -> Result<Sta
     requires within_a { IfSome a.first (λ (d : DatePlace). d.field < length plan.now.fields) }
     requires within_b { IfSome b.first (λ (d : DatePlace). d.field < length plan.now.fields) }
     ensures answer { IsAnswer (dated_pair plan.now a b) result }
-    ensures a { IfOk result (λ pair. pair.a ≡ a.file) }
-    ensures b { IfOk result (λ pair. pair.b ≡ b.file) }
+    ensures parts { IfOk result (λ pair. pair ≡ record { a = a.file; b = b.file }) }
 {
     match test_both(alloc, plan, a.first, b.first) {
         Ok(()) => Ok(StandardPair {

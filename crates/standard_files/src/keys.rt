@@ -1,5 +1,5 @@
 // The parts of the keys of blocking passes taken into a pool, and their ids.
-ghost use Rattle.std.specs.Prelude.{◌≡◌, ◌≤◌, ◌<◌, ◌++◌, ◌*◌, ◌-◌, ◌^◌, [], All, IfOk, IfSome, IsTrue, List, OnOk, Some, false, length, min, option_to_list, vec_capacity, ℕ};
+ghost use Rattle.std.specs.Prelude.{◌≡◌, ◌≤◌, ◌<◌, ◌++◌, ◌*◌, ◌-◌, ◌^◌, [], All, IfOk, IfSome, IsTrue, List, Some, false, length, min, option_to_list, vec_capacity, ℕ};
 ghost use Rattle.block_passes.specs.KeyIds.{ids_in_pass, ids_of_row, key_ids, part_id, parts_in};
 ghost use Rattle.block_passes.specs.Keys.{IsPartReadable, part_key};
 ghost use Rattle.comparators.specs.Fields.{id_in};
@@ -7,8 +7,8 @@ ghost use Rattle.link_base.specs.Standard.{IsValid};
 ghost use Rattle.link_base.specs.declared.plan.Part.{Part as KeyPart};
 ghost use Rattle.link_base.specs.declared.standard.Value.{Value as FieldValue};
 ghost use Rattle.standard_files.specs.Known.{IsIdOf, IsKnownFile, IsKnownRow};
-ghost use Rattle.standard_files.specs.Ready.{AreInRange, HasParts, IsRowFor};
-ghost use Rattle.standard_files.specs.Taking.{Extends, TakesTexts};
+ghost use Rattle.standard_files.specs.Ready.{AreInRange, IsRowFor};
+ghost use Rattle.standard_files.specs.Taking.{InLater, TakesTexts};
 ghost use Rattle.standard_files.specs.Texts.{both_texts, file_texts, parts_in_pass, parts_of_row, standard_text};
 ghost use Rattle.value_forms.specs.Canons.{canon_of, compares_days, canon_by};
 
@@ -72,9 +72,7 @@ fn take_row_part(
     requires as_many { length row.now ≡ length kinds.now }
     requires readable { IsPartReadable row.now part }
     requires known { IsKnownRow pool.old.texts kinds.now row.now texts.now sides.now }
-    ensures limit { pool.new.limit ≡ pool.old.limit }
-    ensures texts { TakesTexts pool.old pool.new (option_to_list (part_key row.now part)) result }
-    ensures id { IfOk result (λ id. (final : List (List ℕ)) → Extends pool.new.texts final → part_id final row.now part ≡ id) }
+    ensures { TakesTexts pool.old pool.new (option_to_list (part_key row.now part)) (λ id. InLater pool.new.texts (λ final. part_id final row.now part ≡ id)) result }
 {
     let field = part.field as usize;
     if let Some(text) = id_of_text(part.key, texts[field].get()) {
@@ -97,13 +95,11 @@ fn take_key(
     sides: &[IdValue],
     ids: &mut Vec<MaybeId>,
 ) -> Result<(), PoolFault>
-    requires in_range { All (λ (p : KeyPart). p.field < length row.now) pass.now }
+    requires in_range { All (λ (p : KeyPart). p.field < length kinds.now) pass.now }
     requires as_many { length row.now ≡ length kinds.now }
     requires valid { All IsValid row.now }
     requires known { IsKnownRow pool.old.texts kinds.now row.now texts.now sides.now }
-    ensures limit { pool.new.limit ≡ pool.old.limit }
-    ensures texts { TakesTexts pool.old pool.new (parts_in_pass row.now pass.now) result }
-    ensures ids { OnOk result ((final : List (List ℕ)) → Extends pool.new.texts final → ids.old.items ++ ids_in_pass final row.now pass.now ≡ ids.new.items) }
+    ensures { TakesTexts pool.old pool.new (parts_in_pass row.now pass.now) (λ _. InLater pool.new.texts (λ final. ids.old.items ++ ids_in_pass final row.now pass.now ≡ ids.new.items)) result }
 {
     for part in pass.parts() {
         let id = take_row_part(alloc, pool, kinds, *part, row, texts, sides)?;
@@ -125,13 +121,11 @@ fn take_row(
     sides: &[IdValue],
     ids: &mut Vec<MaybeId>,
 ) -> Result<(), PoolFault>
-    requires in_range { AreInRange (length row.now) passes.now }
+    requires in_range { AreInRange (length kinds.now) passes.now }
     requires as_many { length row.now ≡ length kinds.now }
     requires valid { All IsValid row.now }
     requires known { IsKnownRow pool.old.texts kinds.now row.now texts.now sides.now }
-    ensures limit { pool.new.limit ≡ pool.old.limit }
-    ensures texts { TakesTexts pool.old pool.new (parts_of_row passes.now row.now) result }
-    ensures ids { OnOk result ((final : List (List ℕ)) → Extends pool.new.texts final → ids.old.items ++ ids_of_row final passes.now row.now ≡ ids.new.items) }
+    ensures { TakesTexts pool.old pool.new (parts_of_row passes.now row.now) (λ _. InLater pool.new.texts (λ final. ids.old.items ++ ids_of_row final passes.now row.now ≡ ids.new.items)) result }
 {
     for pass in passes.passes() {
         take_key(alloc, pool, kinds, pass, row, texts, sides, ids)?;
@@ -159,12 +153,10 @@ fn take_file(
     texts: &[MaybeId],
     table: &IdTable,
 ) -> Result<Vec<MaybeId>, PoolFault>
-    requires parts { All (HasParts passes.now) file.now }
+    requires parts { AreInRange (length kinds.now) passes.now }
     requires rows { All (IsRowFor kinds.now) file.now }
     requires known { IsKnownFile pool.old.texts kinds.now file.now texts.now table.now.rows }
-    ensures limit { pool.new.limit ≡ pool.old.limit }
-    ensures texts { TakesTexts pool.old pool.new (file_texts (parts_of_row passes.now) file.now) result }
-    ensures ids { IfOk result (λ ids. (final : List (List ℕ)) → Extends pool.new.texts final → key_ids final passes.now file.now ≡ ids.items) }
+    ensures { TakesTexts pool.old pool.new (file_texts (parts_of_row passes.now) file.now) (λ ids. InLater pool.new.texts (λ final. key_ids final passes.now file.now ≡ ids.items)) result }
 {
     let mut ids = match room_for_ids(alloc, passes, file) {
         Ok(ids) => ids,
@@ -202,16 +194,12 @@ pub(crate) fn take_keys(
     texts: TextIds,
     tables: &(IdTable, IdTable),
 ) -> Result<KeyIds, PoolFault>
-    requires parts_a { All (HasParts passes.now) a.now }
-    requires parts_b { All (HasParts passes.now) b.now }
+    requires parts { AreInRange (length kinds.now) passes.now }
     requires rows_a { All (IsRowFor kinds.now) a.now }
     requires rows_b { All (IsRowFor kinds.now) b.now }
     requires known_a { IsKnownFile pool.old.texts kinds.now a.now texts.a.items tables.now.0.rows }
     requires known_b { IsKnownFile pool.old.texts kinds.now b.now texts.b.items tables.now.1.rows }
-    ensures limit { pool.new.limit ≡ pool.old.limit }
-    ensures texts { TakesTexts pool.old pool.new (both_texts (parts_of_row passes.now) a.now b.now) result }
-    ensures a { IfOk result (λ ids. (final : List (List ℕ)) → Extends pool.new.texts final → key_ids final passes.now a.now ≡ ids.a.items) }
-    ensures b { IfOk result (λ ids. (final : List (List ℕ)) → Extends pool.new.texts final → key_ids final passes.now b.now ≡ ids.b.items) }
+    ensures { TakesTexts pool.old pool.new (both_texts (parts_of_row passes.now) a.now b.now) (λ ids. InLater pool.new.texts (λ final. key_ids final passes.now a.now ≡ ids.a.items) × InLater pool.new.texts (λ final. key_ids final passes.now b.now ≡ ids.b.items)) result }
 {
     let TextIds {
         a: texts_a,

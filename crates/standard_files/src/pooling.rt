@@ -84,10 +84,7 @@ fn take_values(
     requires rows_a { All (IsRowFor kinds.now) a.now }
     requires rows_b { All (IsRowFor kinds.now) b.now }
     requires parts { AreInRange (length kinds.now) passes.now }
-    ensures limit { pool.new.limit ≡ pool.old.limit }
-    ensures texts { TakesTexts pool.old pool.new (all_texts kinds.now passes.now a.now b.now) result }
-    ensures a { IfOk result (λ t. IsTaken pool.new.texts kinds.now passes.now a.now t.a t.keys.a.items) }
-    ensures b { IfOk result (λ t. IsTaken pool.new.texts kinds.now passes.now b.now t.b t.keys.b.items) }
+    ensures { TakesTexts pool.old pool.new (all_texts kinds.now passes.now a.now b.now) (λ t. IsTaken pool.new.texts kinds.now passes.now a.now t.a t.keys.a.items × IsTaken pool.new.texts kinds.now passes.now b.now t.b t.keys.b.items) result }
 {
     let texts = take_texts(alloc, pool, a, b)?;
     let tables = take_canons(alloc, pool, kinds, a, b, &texts)?;

@@ -1,10 +1,9 @@
 // A row in standard values.
-ghost use Rattle.std.specs.Prelude.{◌≡◌, ◌+◌, ◌^◌, ◌<◌, ◌≤◌, [], All, length, sum_by, IfSome, IsUtf8, OnOk, Some, None, if◌then◌else◌};
+ghost use Rattle.std.specs.Prelude.{◌≡◌, ◌+◌, ◌^◌, ◌<◌, ◌≤◌, [], All, length, sum_by, IsUtf8, OnOk, Some, None, if◌then◌else◌};
 ghost use Rattle.std.specs.Option.{option_or};
-ghost use Rattle.link_base.specs.Standard.{IsValid};
 ghost use Rattle.link_limits.specs.declared.TheConstants.{MOST_FIELDS};
 ghost use Rattle.file_reader.specs.Table.{IsFieldText};
-ghost use Rattle.standard_files.specs.Values.{standard_values, unreadable_from, unreadable_in_row};
+ghost use Rattle.standard_files.specs.Kept.{IsMade};
 
 use crate::sorts::TextSort;
 use crate::values::ValueTables;
@@ -60,13 +59,7 @@ impl StandardRow {
         requires empty { rows.old.row ≡ [] }
         requires room { sum_by length rows.old.rows + length sorts.now < 2 ^ 32 }
         ensures rows { OnOk result (rows.new.rows ≡ rows.old.rows) }
-        ensures values { OnOk result (rows.new.row ≡ standard_values tables.now sorts.now row.now) }
-        ensures unreadable { OnOk result (self.new.unreadable ≡ unreadable_in_row tables.now sorts.now row.now) }
-        ensures first { OnOk result (self.new.first ≡ unreadable_from tables.now 0 sorts.now row.now) }
-        ensures few { OnOk result (self.new.unreadable ≤ MOST_FIELDS) }
-        ensures many { OnOk result (length rows.new.row ≡ length sorts.now) }
-        ensures within { OnOk result (IfSome self.new.first (λ place. place < length sorts.now)) }
-        ensures valid { OnOk result (All IsValid rows.new.row) }
+        ensures made { OnOk result (IsMade tables.now sorts.now row.now rows.new.row self.new.unreadable self.new.first) }
     {
         self.unreadable = 0;
         self.first = None;

@@ -77,7 +77,6 @@ fn layout_of(
     requires { columns.items ≡ map (field_column role) plan.now.fields }
     ensures wanted { IfOk result (λ layout. wanted_of layout ≡ wanted_in role plan.now) }
     ensures delimiter { IfOk result (λ layout. layout.delimiter ≡ delimiter_in role plan.now) }
-    ensures most { IfOk result (λ layout. layout.most_rows ≡ MOST_ROWS) }
 {
     let (id, delimiter) = match role {
         FileRole::B => (&plan.id_b, plan.delimiter_b),

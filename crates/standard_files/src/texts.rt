@@ -1,5 +1,5 @@
 // Texts taken into a pool.
-ghost use Rattle.std.specs.Prelude.{◌≡◌, ◌≤◌, ◌++◌, ◌∷◌, ◌*◌, ◌-◌, ◌^◌, [], IfOk, List, OnOk, Some, length, min, option_to_list, slice_get, vec_capacity};
+ghost use Rattle.std.specs.Prelude.{◌≡◌, ◌≤◌, ◌++◌, ◌∷◌, ◌*◌, ◌-◌, ◌^◌, [], IfOk, List, Some, length, min, option_to_list, slice_get, vec_capacity};
 ghost use Rattle.block_passes.specs.Index.{row_at};
 ghost use Rattle.link_base.specs.Rows.{value_seen};
 ghost use Rattle.link_base.specs.declared.standard.Value.{Value as FieldValue};
@@ -20,9 +20,7 @@ pub(crate) struct TextIds {
 
 /// Takes a text.
 pub(crate) fn take_text(alloc: Global, pool: &mut Pool, text: &[u8]) -> Result<Id, PoolFault>
-    ensures limit { pool.new.limit ≡ pool.old.limit }
-    ensures texts { TakesTexts pool.old pool.new (text.now ∷ []) result }
-    ensures id { IfOk result (λ id. slice_get pool.new.texts id ≡ Some text.now) }
+    ensures { TakesTexts pool.old pool.new (text.now ∷ []) (λ id. slice_get pool.new.texts id ≡ Some text.now) result }
 {
     pool.are_distinct();
     pool.intern(alloc, text)
@@ -30,9 +28,7 @@ pub(crate) fn take_text(alloc: Global, pool: &mut Pool, text: &[u8]) -> Result<I
 
 // Takes the standard text of a value.
 fn take_value(alloc: Global, pool: &mut Pool, value: &ValueRef<'_>) -> Result<Option<Id>, PoolFault>
-    ensures limit { pool.new.limit ≡ pool.old.limit }
-    ensures texts { TakesTexts pool.old pool.new (option_to_list (standard_text (value_seen value.now))) result }
-    ensures id { IfOk result (IsIdOf pool.new.texts (standard_text (value_seen value.now))) }
+    ensures { TakesTexts pool.old pool.new (option_to_list (standard_text (value_seen value.now))) (IsIdOf pool.new.texts (standard_text (value_seen value.now))) result }
 {
     match value {
         ValueRef::Word(text) => Ok(Some(take_text(alloc, pool, *text)?)),
@@ -47,9 +43,7 @@ fn take_row(
     row: &Row<'_>,
     ids: &mut Vec<MaybeId>,
 ) -> Result<(), PoolFault>
-    ensures limit { pool.new.limit ≡ pool.old.limit }
-    ensures texts { TakesTexts pool.old pool.new (texts_of_row row.now) result }
-    ensures ids { OnOk result ((before : List FieldValue) → AreTextIds pool.old.texts before ids.old.items → AreTextIds pool.new.texts (before ++ row.now) ids.new.items) }
+    ensures { TakesTexts pool.old pool.new (texts_of_row row.now) (λ _. (before : List FieldValue) → AreTextIds pool.old.texts before ids.old.items → AreTextIds pool.new.texts (before ++ row.now) ids.new.items) result }
 {
     for at in 0..row.len() {
         let id = take_value(alloc, pool, &row.value(at))?;
@@ -72,9 +66,7 @@ fn room_for_ids(alloc: Global, file: &StdFile) -> Result<Vec<MaybeId>, NoMemory>
 
 // Takes the standard texts of a file, and gives their ids.
 fn take_file(alloc: Global, pool: &mut Pool, file: &StdFile) -> Result<Vec<MaybeId>, PoolFault>
-    ensures limit { pool.new.limit ≡ pool.old.limit }
-    ensures texts { TakesTexts pool.old pool.new (file_texts texts_of_row file.now) result }
-    ensures ids { IfOk result (λ ids. AreTextIds pool.new.texts (file_values file.now) ids.items) }
+    ensures { TakesTexts pool.old pool.new (file_texts texts_of_row file.now) (λ ids. AreTextIds pool.new.texts (file_values file.now) ids.items) result }
 {
     let mut ids = match room_for_ids(alloc, file) {
         Ok(ids) => ids,
@@ -93,10 +85,7 @@ pub(crate) fn take_texts(
     a: &StdFile,
     b: &StdFile,
 ) -> Result<TextIds, PoolFault>
-    ensures limit { pool.new.limit ≡ pool.old.limit }
-    ensures texts { TakesTexts pool.old pool.new (both_texts texts_of_row a.now b.now) result }
-    ensures a { IfOk result (λ ids. AreTextIds pool.new.texts (file_values a.now) ids.a.items) }
-    ensures b { IfOk result (λ ids. AreTextIds pool.new.texts (file_values b.now) ids.b.items) }
+    ensures { TakesTexts pool.old pool.new (both_texts texts_of_row a.now b.now) (λ ids. AreTextIds pool.new.texts (file_values a.now) ids.a.items × AreTextIds pool.new.texts (file_values b.now) ids.b.items) result }
 {
     let ids_a = take_file(alloc, pool, a)?;
     let ids_b = take_file(alloc, pool, b)?;

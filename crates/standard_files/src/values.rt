@@ -1,9 +1,9 @@
 // Texts in standard values.
 ghost use Rattle.std.specs.Prelude.{◌≡◌, ◌+◌, ◌^◌, ◌<◌, false, IfOk, OnOk, length, option_map, sum_by};
 ghost use Rattle.link_base.specs.RowsWriter.{with_value};
-ghost use Rattle.link_base.specs.Standard.{IsValid};
 ghost use Rattle.standardise.specs.Names.{found_value};
-ghost use Rattle.standard_files.specs.Values.{cannot_be_read, is_unreadable, standard_value, value_of_read};
+ghost use Rattle.standard_files.specs.Kept.{AddsValue};
+ghost use Rattle.standard_files.specs.Values.{cannot_be_read, value_of_read};
 
 use crate::sorts::TextSort;
 use link_base::{NoMemory, RowsWriter, Tables};
@@ -51,9 +51,7 @@ impl ValueTables {
         rows: &mut RowsWriter,
     ) -> Result<bool, NoMemory>
         requires room { sum_by length rows.old.rows + length rows.old.row < 2 ^ 32 }
-        ensures value { OnOk result (rows.new ≡ with_value rows.old (standard_value self.now sort text.now)) }
-        ensures unreadable { IfOk result (λ told. told ≡ is_unreadable self.now sort text.now) }
-        ensures valid { OnOk result (IsValid (standard_value self.now sort text.now)) }
+        ensures { IfOk result (AddsValue self.now sort text.now rows.old rows.new) }
     {
         match sort {
             TextSort::Name => add_text(rows, std_name_in(alloc, text, &self.names, room)?),

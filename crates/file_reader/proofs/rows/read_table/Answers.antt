@@ -3,36 +3,20 @@ use Rattle.std.proofs.Common.{◌∙◌, ap, sym, Ok}
 use Rattle.file_reader.specs.Left.{records_in}
 use Rattle.file_reader.specs.Layout.{wanted_of}
 use Rattle.file_reader.specs.Table.{table_of}
-use Rattle.file_reader.specs.Takers.{HasCells, IsTableFor}
+use Rattle.file_reader.specs.Takers.{HasCells}
 use Rattle.file_reader.proofs.TakerFacts.{table_taken, taken_ids}
 use Rattle.file_reader.specs.TableLaws.{table_sound}
-use Rattle.file_reader.proofs.rows.read_table.Goals.{After-new}
 use Rattle.file_reader.proofs.rows.read_table.Goals as goal
-
-sound : (c : After-new) → IsTableFor (wanted_of c.args.layout.now) c.new.result
-sound c =
-    let records = records_in c.args.layout.now.delimiter c.args.bytes.now in
-    let wanted = wanted_of c.args.layout.now in
-    table_sound c.args.role wanted records c.new.result
-    (table_taken (is_some c.args.layout.now.id) c.read_rows.new.taker.width c.in-Ok.told.rows c.read_rows.new.taker.cells c.in-Ok.told.ids (table_of c.args.role wanted records) c.in-Ok.ensures.answer
-    ∙ ap Ok (sym c.new.ensures))
 
 pub new-requires-clause-ids : goal.new-requires-clause-ids
 new-requires-clause-ids c =
-    taken_ids (is_some c.args.layout.now.id) (HasCells c.read_rows.new.taker.width c.read_rows.new.taker.cells) c.in-Ok.told.rows c.in-Ok.told.ids
+    taken_ids (is_some c.args.layout.now.id) c.args.layout.now.most_rows (HasCells c.read_rows.new.taker.width c.read_rows.new.taker.cells) c.in-Ok.told.rows c.in-Ok.told.ids
     (table_of c.args.role (wanted_of c.args.layout.now) (records_in c.args.layout.now.delimiter c.args.bytes.now)) c.in-Ok.ensures.answer
 
-pub returns-in-Ok-clause-few : goal.returns-in-Ok-clause-few
-returns-in-Ok-clause-few c = (sound c).few
-
-pub returns-in-Ok-clause-width : goal.returns-in-Ok-clause-width
-returns-in-Ok-clause-width c = (sound c).width
-
-pub returns-in-Ok-clause-texts : goal.returns-in-Ok-clause-texts
-returns-in-Ok-clause-texts c = (sound c).texts
-
-pub returns-in-Ok-clause-ids : goal.returns-in-Ok-clause-ids
-returns-in-Ok-clause-ids c = (sound c).ids
-
-pub returns-in-Ok-clause-distinct : goal.returns-in-Ok-clause-distinct
-returns-in-Ok-clause-distinct c = (sound c).distinct
+pub returns-in-Ok-clause-sound : goal.returns-in-Ok-clause-sound
+returns-in-Ok-clause-sound c =
+    let records = records_in c.args.layout.now.delimiter c.args.bytes.now in
+    let wanted = wanted_of c.args.layout.now in
+    table_sound c.args.role wanted records c.new.result
+    (table_taken (is_some c.args.layout.now.id) c.args.layout.now.most_rows c.read_rows.new.taker.width c.in-Ok.told.rows c.read_rows.new.taker.cells c.in-Ok.told.ids (table_of c.args.role wanted records) c.in-Ok.ensures.answer
+    ∙ ap Ok (sym c.new.ensures))

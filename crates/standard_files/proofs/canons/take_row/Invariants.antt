@@ -1,7 +1,7 @@
-use Rattle.std.proofs.Common.{◌≡◌, ◌+◌, ℕ, List, ◌++◌, drop, length}
+use Rattle.std.proofs.Common.{◌≡◌, ◌+◌, ◌++◌, drop, length}
 use Rattle.standard_files.specs.Known.{AreKnown, AreTextIds}
 use Rattle.standard_files.specs.Sides.{sides_of_row}
-use Rattle.standard_files.specs.Taking.{Extends}
+use Rattle.standard_files.specs.Taking.{InLater}
 use Rattle.standard_files.specs.Texts.{canons_of_row}
 use Rattle.standard_files.proofs.TakingLemmas.{Goes}
 use Rattle.standard_files.proofs.canons.take_row.Given as goal
@@ -12,5 +12,5 @@ invariant-loop-field l = record {
   ids : AreTextIds l.pool.texts l.row l.ids;
   known : AreKnown l.pool.texts l.kinds l.known;
   width : length l.sides.items ≡ length l.fn.sides.items + l.field;
-  sides : (final : List (List ℕ)) → Extends l.pool.texts final → l.sides.items ++ sides_of_row final (drop l.field l.kinds) (drop l.field l.row) ≡ l.fn.sides.items ++ sides_of_row final l.kinds l.row;
+  sides : InLater l.pool.texts (λ final. l.sides.items ++ sides_of_row final (drop l.field l.kinds) (drop l.field l.row) ≡ l.fn.sides.items ++ sides_of_row final l.kinds l.row);
 }

@@ -1,19 +1,21 @@
-use Rattle.std.proofs.Common.{◌+◌, drop, get_or, length, refl, sym, subst, arith, rules}
+use Rattle.std.proofs.Common.{◌≡◌, ◌+◌, ◌++◌, Err, drop, get_or, length, refl, sym, subst, arith, rules}
 use Rattle.link_base.specs.Standard.{no_record}
 use Rattle.standard_files.specs.Known.{AreTextIds, file_values, flat_sides}
 use Rattle.standard_files.specs.Sides.{sides_of_row}
 use Rattle.standard_files.specs.Texts.{canons_of_row, file_texts}
 use Rattle.standard_files.proofs.FileLemmas.{file-row, flat-sides-at, push-ids, row-many}
 use Rattle.standard_files.proofs.KnownLemmas.{ids-kept, ids-next, ids-room}
-use Rattle.standard_files.proofs.PlaceLemmas.{extends-before, kept-taken}
-use Rattle.standard_files.proofs.TakingLemmas.{goes-on, takes-refused}
+use Rattle.standard_files.proofs.PlaceLemmas.{before, kept}
+use Rattle.standard_files.proofs.TakingLemmas.{goes-on, goes-refused}
 use Rattle.standard_files.proofs.canons.take_rows.Goals as goal
 
-pub returns-in_err-take_row-clause-texts : goal.returns-in_err-take_row-clause-texts
-returns-in_err-take_row-clause-texts c =
+pub returns-in_err-take_row : goal.returns-in_err-take_row
+returns-in_err-take_row c =
     let texts = canons_of_row c.args.kinds.now in
-    takes-refused (texts c.row.result) (file_texts texts (drop (c.loop-at.at + 1) c.args.file.now)) c.in_err-take_row.field-0.0 c.take_row.new.pool c.from_residual.result c.loop-at.invariant.goes
-    (file-row texts c.args.file.now c.loop-at.at c.row.result (omega arith) c.row.ensures) c.in_err-take_row.ensures.texts (search rules)
+    let f = c.in_err-take_row.field-0.0 in
+    let is : c.from_residual.result ≡ Err f = search rules in
+    rw is (goes-refused (texts c.row.result) (file_texts texts (drop (c.loop-at.at + 1) c.args.file.now)) f c.loop-at.invariant.goes
+    (file-row texts c.args.file.now c.loop-at.at c.row.result (omega arith) c.row.ensures) c.in_err-take_row.ensures)
 
 pub loop-at-preserved : goal.loop-at-preserved
 loop-at-preserved c =
@@ -25,21 +27,19 @@ loop-at-preserved c =
     let pool = c.loop-at.pool in
     let new = c.take_row.new.pool in
     let left = c.loop-at.left.now in
-    let kept = kept-taken pool.limit (texts row) pool.texts new.texts c.in_ok-take_row.ensures.texts in
-    let sides = c.take_row.new.sides.items in
+    let taken = c.in_ok-take_row.ensures in
+    let more = taken.holds.0 in
     record {
-      goes = goes-on (texts row) (file_texts texts (drop (at + 1) file)) c.loop-at.invariant.goes
-          (file-row texts file at row (omega arith) c.row.ensures) c.take_row.ensures.limit c.in_ok-take_row.ensures.texts;
+      goes = goes-on (file_texts texts (drop (at + 1) file)) c.loop-at.invariant.goes taken (file-row texts file at row (omega arith) c.row.ensures);
       left = subst (AreTextIds new.texts (file_values (drop (at + 1) file))) (sym c.split_at.ensures.back)
-          (ids-kept pool.texts new.texts kept (file_values (drop (at + 1) file)) (drop (length kinds) left)
+          (ids-kept pool.texts new.texts (kept taken) (file_values (drop (at + 1) file)) (drop (length kinds) left)
           (ids-next pool.texts file at row left (length kinds) (omega arith) c.row.ensures (row-many kinds file at row (omega arith) c.row.ensures c.requires.rows) c.loop-at.invariant.left).1);
-      known = c.in_ok-take_row.ensures.known;
-      width = omega (arith, c.in_ok-take_row.ensures.width, c.loop-at.invariant.width);
+      known = taken.holds.1;
+      width = omega (arith, more.many, c.loop-at.invariant.width);
       sides = λ final e.
-          let before = extends-before pool.limit (texts row) pool.texts new.texts final c.in_ok-take_row.ensures.texts e in
-          push-ids c.loop-at.sides.items (flat_sides final kinds (drop (at + 1) file)) (flat_sides final kinds file) (flat_sides final kinds (drop at file))
-          (sides_of_row final kinds row) sides (c.loop-at.invariant.sides final before)
-          (flat-sides-at final kinds file at row (omega arith) c.row.ensures) (c.in_ok-take_row.ensures.sides final e);
+          push-ids c.loop-at.sides.items (flat_sides final kinds (drop (at + 1) file)) (c.args.sides.now.items ++ flat_sides final kinds file) (flat_sides final kinds (drop at file))
+          (sides_of_row final kinds row) c.take_row.new.sides.items (c.loop-at.invariant.sides final (before taken final e))
+          (flat-sides-at final kinds file at row (omega arith) c.row.ensures) (more.later final e);
     }
 
 pub split_at-requires : goal.split_at-requires

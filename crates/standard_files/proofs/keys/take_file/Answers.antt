@@ -1,14 +1,14 @@
-use Rattle.std.proofs.Common.{◌+◌, drop, get_or, length, arith, refl, rules, subst, sym}
+use Rattle.std.proofs.Common.{◌≡◌, ◌+◌, Err, drop, get_or, length, arith, refl, rules, subst, sym}
 use Rattle.block_passes.specs.KeyIds.{ids_of_row, key_ids}
 use Rattle.link_base.specs.Standard.{no_record}
 use Rattle.standard_files.specs.Known.{AreTextIds, file_values}
 use Rattle.standard_files.specs.Texts.{canons_of_row, file_texts, parts_of_row}
-use Rattle.standard_files.proofs.FileLemmas.{file-row, push-ids, row-at, row-many}
+use Rattle.standard_files.proofs.FileLemmas.{file-row, push-ids, row-many, row-valid}
 use Rattle.standard_files.proofs.HeldLemmas.{held-more}
 use Rattle.standard_files.proofs.KeyLemmas.{ids-row, row-known, rows-many}
 use Rattle.standard_files.proofs.KnownLemmas.{ids-kept, ids-next, ids-room}
-use Rattle.standard_files.proofs.PlaceLemmas.{extends-before, kept-taken}
-use Rattle.standard_files.proofs.TakingLemmas.{goes-on, takes-refused}
+use Rattle.standard_files.proofs.PlaceLemmas.{before, kept}
+use Rattle.standard_files.proofs.TakingLemmas.{goes-on, goes-refused}
 use Rattle.standard_files.proofs.keys.take_file.Goals as goal
 
 pub loop-at-preserved : goal.loop-at-preserved
@@ -20,29 +20,29 @@ loop-at-preserved c =
     let at = c.loop-at.at in
     let row = c.row.result in
     let pool = c.loop-at.pool in
-    let taken = texts row in
+    let taken = c.in_ok-take_row.ensures in
     let new = c.take_row.new.pool.texts in
     let left = c.loop-at.left.now in
     let later = file_values (drop (at + 1) file) in
     record {
-      goes = goes-on taken (file_texts texts (drop (at + 1) file)) c.loop-at.invariant.goes
-          (file-row texts file at row (omega arith) c.row.ensures) c.take_row.ensures.limit c.in_ok-take_row.ensures.texts;
+      goes = goes-on (file_texts texts (drop (at + 1) file)) c.loop-at.invariant.goes taken (file-row texts file at row (omega arith) c.row.ensures);
       left = subst (AreTextIds new later) (sym c.split_at.ensures.back)
-          (ids-kept pool.texts new (kept-taken pool.limit taken pool.texts new c.in_ok-take_row.ensures.texts) later (drop (length kinds) left)
+          (ids-kept pool.texts new (kept taken) later (drop (length kinds) left)
           (ids-next pool.texts file at row left (length kinds) (omega arith) c.row.ensures (row-many kinds file at row (omega arith) c.row.ensures c.requires.rows) c.loop-at.invariant.left).1);
-      canons = held-more pool.limit taken pool.texts new (file_texts (canons_of_row kinds) file) c.in_ok-take_row.ensures.texts c.loop-at.invariant.canons;
-      sides = λ final e. c.loop-at.invariant.sides final (extends-before pool.limit taken pool.texts new final c.in_ok-take_row.ensures.texts e);
+      canons = held-more (file_texts (canons_of_row kinds) file) taken c.loop-at.invariant.canons;
+      sides = λ final e. c.loop-at.invariant.sides final (before taken final e);
       ids = λ final e.
-          let before = extends-before pool.limit taken pool.texts new final c.in_ok-take_row.ensures.texts e in
           push-ids c.loop-at.ids.items (key_ids final passes (drop (at + 1) file)) (key_ids final passes file) (key_ids final passes (drop at file))
-          (ids_of_row final passes row) c.take_row.new.ids.items (c.loop-at.invariant.ids final before) (ids-row final passes file at row (omega arith) c.row.ensures) (c.in_ok-take_row.ensures.ids final e);
+          (ids_of_row final passes row) c.take_row.new.ids.items (c.loop-at.invariant.ids final (before taken final e)) (ids-row final passes file at row (omega arith) c.row.ensures) (taken.holds final e);
     }
 
-pub returns-in_err-take_row-clause-texts : goal.returns-in_err-take_row-clause-texts
-returns-in_err-take_row-clause-texts c =
+pub returns-in_err-take_row : goal.returns-in_err-take_row
+returns-in_err-take_row c =
     let texts = parts_of_row c.args.passes.now in
-    takes-refused (texts c.row.result) (file_texts texts (drop (c.loop-at.at + 1) c.args.file.now)) c.in_err-take_row.field-0.0 c.take_row.new.pool c.from_residual.result c.loop-at.invariant.goes
-    (file-row texts c.args.file.now c.loop-at.at c.row.result (omega arith) c.row.ensures) c.in_err-take_row.ensures.texts (search rules)
+    let f = c.in_err-take_row.field-0.0 in
+    let is : c.from_residual.result ≡ Err f = search rules in
+    rw is (goes-refused (texts c.row.result) (file_texts texts (drop (c.loop-at.at + 1) c.args.file.now)) f c.loop-at.invariant.goes
+    (file-row texts c.args.file.now c.loop-at.at c.row.result (omega arith) c.row.ensures) c.in_err-take_row.ensures)
 
 pub split_at-requires : goal.split_at-requires
 split_at-requires c =
@@ -57,11 +57,8 @@ sides-sides-requires c =
     let many = rows-many c.loop-at.pool.texts c.args.kinds.now c.args.file.now c.args.table.now.rows c.are_distinct.ensures.distinct c.loop-at.invariant.sides in
     omega (arith, many)
 
-pub take_row-requires-clause-in_range : goal.take_row-requires-clause-in_range
-take_row-requires-clause-in_range c = (row-at c.args.passes.now c.args.file.now c.loop-at.at c.row.result (omega arith) c.row.ensures c.requires.parts).in_range
-
 pub take_row-requires-clause-valid : goal.take_row-requires-clause-valid
-take_row-requires-clause-valid c = (row-at c.args.passes.now c.args.file.now c.loop-at.at c.row.result (omega arith) c.row.ensures c.requires.parts).valid
+take_row-requires-clause-valid c = row-valid c.args.kinds.now c.args.file.now c.loop-at.at c.row.result (omega arith) c.row.ensures c.requires.rows
 
 pub take_row-requires-clause-as_many : goal.take_row-requires-clause-as_many
 take_row-requires-clause-as_many c = row-many c.args.kinds.now c.args.file.now c.loop-at.at c.row.result (omega arith) c.row.ensures c.requires.rows

@@ -1,9 +1,9 @@
-use Rattle.std.proofs.Common.{◌≡◌, ◌++◌, ℕ, List, drop}
+use Rattle.std.proofs.Common.{◌≡◌, ◌++◌, drop}
 use Rattle.block_passes.specs.KeyIds.{key_ids}
 use Rattle.standard_files.specs.Held.{HoldsTexts}
 use Rattle.standard_files.specs.Known.{AreTextIds, file_values}
 use Rattle.standard_files.specs.Sides.{sides_of_file}
-use Rattle.standard_files.specs.Taking.{Extends}
+use Rattle.standard_files.specs.Taking.{InLater}
 use Rattle.standard_files.specs.Texts.{canons_of_row, file_texts, parts_of_row}
 use Rattle.standard_files.proofs.TakingLemmas.{Goes}
 use Rattle.standard_files.proofs.keys.take_file.Given as goal
@@ -13,6 +13,6 @@ invariant-loop-at l = record {
   goes : Goes l.fn.pool l.pool (file_texts (parts_of_row l.passes) (drop l.at l.file)) (file_texts (parts_of_row l.passes) l.file);
   left : AreTextIds l.pool.texts (file_values (drop l.at l.file)) l.left;
   canons : HoldsTexts l.pool.texts (file_texts (canons_of_row l.kinds) l.file);
-  sides : (final : List (List ℕ)) → Extends l.pool.texts final → sides_of_file final l.kinds l.file ≡ l.table.rows;
-  ids : (final : List (List ℕ)) → Extends l.pool.texts final → l.ids.items ++ key_ids final l.passes (drop l.at l.file) ≡ key_ids final l.passes l.file;
+  sides : InLater l.pool.texts (λ final. sides_of_file final l.kinds l.file ≡ l.table.rows);
+  ids : InLater l.pool.texts (λ final. l.ids.items ++ key_ids final l.passes (drop l.at l.file) ≡ key_ids final l.passes l.file);
 }

@@ -1,7 +1,7 @@
-use Rattle.std.proofs.Common.{◌≡◌, ◌++◌, ℕ, List, drop}
+use Rattle.std.proofs.Common.{◌≡◌, ◌++◌, drop}
 use Rattle.block_passes.specs.KeyIds.{ids_in_pass}
 use Rattle.standard_files.specs.Known.{IsKnownRow}
-use Rattle.standard_files.specs.Taking.{Extends}
+use Rattle.standard_files.specs.Taking.{InLater}
 use Rattle.standard_files.specs.Texts.{parts_in_pass}
 use Rattle.standard_files.proofs.TakingLemmas.{Goes}
 use Rattle.standard_files.proofs.keys.take_key.Given as goal
@@ -10,5 +10,5 @@ abbrev pub invariant-loop-part : goal.invariant-loop-part
 invariant-loop-part l = record {
   goes : Goes l.fn.pool l.pool (parts_in_pass l.row (drop l.part-index l.part-items)) (parts_in_pass l.row l.part-items);
   known : IsKnownRow l.pool.texts l.kinds l.row l.texts l.sides;
-  ids : (final : List (List ℕ)) → Extends l.pool.texts final → l.ids.items ++ ids_in_pass final l.row (drop l.part-index l.part-items) ≡ l.fn.ids.items ++ ids_in_pass final l.row l.part-items;
+  ids : InLater l.pool.texts (λ final. l.ids.items ++ ids_in_pass final l.row (drop l.part-index l.part-items) ≡ l.fn.ids.items ++ ids_in_pass final l.row l.part-items);
 }

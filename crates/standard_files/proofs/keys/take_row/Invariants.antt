@@ -1,7 +1,7 @@
-use Rattle.std.proofs.Common.{◌≡◌, ◌++◌, ℕ, List, drop}
+use Rattle.std.proofs.Common.{◌≡◌, ◌++◌, drop}
 use Rattle.block_passes.specs.KeyIds.{ids_of_row}
 use Rattle.standard_files.specs.Known.{IsKnownRow}
-use Rattle.standard_files.specs.Taking.{Extends}
+use Rattle.standard_files.specs.Taking.{InLater}
 use Rattle.standard_files.specs.Texts.{parts_of_row}
 use Rattle.standard_files.proofs.TakingLemmas.{Goes}
 use Rattle.standard_files.proofs.keys.take_row.Given as goal
@@ -10,5 +10,5 @@ abbrev pub invariant-loop-pass : goal.invariant-loop-pass
 invariant-loop-pass l = record {
   goes : Goes l.fn.pool l.pool (parts_of_row (drop l.pass-index l.pass-items) l.row) (parts_of_row l.pass-items l.row);
   known : IsKnownRow l.pool.texts l.kinds l.row l.texts l.sides;
-  ids : (final : List (List ℕ)) → Extends l.pool.texts final → l.ids.items ++ ids_of_row final (drop l.pass-index l.pass-items) l.row ≡ l.fn.ids.items ++ ids_of_row final l.pass-items l.row;
+  ids : InLater l.pool.texts (λ final. l.ids.items ++ ids_of_row final (drop l.pass-index l.pass-items) l.row ≡ l.fn.ids.items ++ ids_of_row final l.pass-items l.row);
 }

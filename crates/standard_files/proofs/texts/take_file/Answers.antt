@@ -1,8 +1,8 @@
-use Rattle.std.proofs.Common.{◌+◌, ◌++◌, drop, take, arith, rules}
+use Rattle.std.proofs.Common.{◌≡◌, ◌+◌, ◌++◌, Err, drop, take, arith, rules}
 use Rattle.standard_files.specs.Known.{AreTextIds, file_values}
 use Rattle.standard_files.specs.Texts.{file_texts, texts_of_row}
 use Rattle.standard_files.proofs.FileLemmas.{file-row, values-more}
-use Rattle.standard_files.proofs.TakingLemmas.{goes-on, takes-refused}
+use Rattle.standard_files.proofs.TakingLemmas.{goes-on, goes-refused}
 use Rattle.standard_files.proofs.texts.take_file.Goals as goal
 
 pub loop-at-preserved : goal.loop-at-preserved
@@ -10,14 +10,16 @@ loop-at-preserved c =
     let file = c.args.file.now in
     let at = c.loop-at.at in
     let row = c.row.result in
-    let ids : AreTextIds c.take_row.new.pool.texts (file_values (take at file) ++ row) c.take_row.new.ids.items = c.in_ok-take_row.ensures.ids (file_values (take at file)) c.loop-at.invariant.ids in
+    let taken = c.in_ok-take_row.ensures in
+    let ids : AreTextIds c.take_row.new.pool.texts (file_values (take at file) ++ row) c.take_row.new.ids.items = taken.holds (file_values (take at file)) c.loop-at.invariant.ids in
     record {
-      goes = goes-on (texts_of_row row) (file_texts texts_of_row (drop (at + 1) file)) c.loop-at.invariant.goes
-          (file-row texts_of_row file at row (omega arith) c.row.ensures) c.take_row.ensures.limit c.in_ok-take_row.ensures.texts;
+      goes = goes-on (file_texts texts_of_row (drop (at + 1) file)) c.loop-at.invariant.goes taken (file-row texts_of_row file at row (omega arith) c.row.ensures);
       ids = rw (values-more file at row (omega arith) c.row.ensures) ids;
     }
 
-pub returns-in_err-take_row-clause-texts : goal.returns-in_err-take_row-clause-texts
-returns-in_err-take_row-clause-texts c =
-    takes-refused (texts_of_row c.row.result) (file_texts texts_of_row (drop (c.loop-at.at + 1) c.args.file.now)) c.in_err-take_row.field-0.0 c.take_row.new.pool c.from_residual.result c.loop-at.invariant.goes
-    (file-row texts_of_row c.args.file.now c.loop-at.at c.row.result (omega arith) c.row.ensures) c.in_err-take_row.ensures.texts (search rules)
+pub returns-in_err-take_row : goal.returns-in_err-take_row
+returns-in_err-take_row c =
+    let f = c.in_err-take_row.field-0.0 in
+    let is : c.from_residual.result ≡ Err f = search rules in
+    rw is (goes-refused (texts_of_row c.row.result) (file_texts texts_of_row (drop (c.loop-at.at + 1) c.args.file.now)) f c.loop-at.invariant.goes
+    (file-row texts_of_row c.args.file.now c.loop-at.at c.row.result (omega arith) c.row.ensures) c.in_err-take_row.ensures)

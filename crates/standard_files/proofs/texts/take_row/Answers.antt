@@ -1,10 +1,10 @@
-use Rattle.std.proofs.Common.{◌≡◌, ◌+◌, ◌++◌, ◌∷◌, [], drop, take, option_to_list, arith, rules}
+use Rattle.std.proofs.Common.{◌≡◌, ◌+◌, ◌++◌, ◌∷◌, [], Err, drop, take, option_to_list, arith, rules}
 use Rattle.link_base.specs.Rows.{value_seen}
 use Rattle.standard_files.specs.Texts.{standard_text, texts_of_row}
 use Rattle.standard_files.proofs.FileLemmas.{row-texts, values-push}
 use Rattle.standard_files.proofs.KnownLemmas.{ids-push}
-use Rattle.standard_files.proofs.PlaceLemmas.{kept-taken}
-use Rattle.standard_files.proofs.TakingLemmas.{goes-on, takes-refused}
+use Rattle.standard_files.proofs.PlaceLemmas.{kept}
+use Rattle.standard_files.proofs.TakingLemmas.{goes-on, goes-refused}
 use Rattle.standard_files.proofs.texts.take_row.Goals as goal
 
 pub loop-at-preserved : goal.loop-at-preserved
@@ -13,23 +13,20 @@ loop-at-preserved c =
     let at = c.loop-at.at in
     let v = value_seen c.value.result in
     let ids = c.loop-at.ids.items in
-    let taken = option_to_list (standard_text v) in
-    let pool = c.loop-at.pool in
-    let new = c.take_value.new.pool in
+    let taken = c.in_ok-id.ensures in
     let pushed : c.push.new.self.items ≡ ids ++ c.in_ok-id.id ∷ [] = search rules in
     record {
-      goes = goes-on taken (texts_of_row (drop (at + 1) row)) c.loop-at.invariant.goes
-          (row-texts row at v (omega arith) c.value.ensures) c.take_value.ensures.limit c.in_ok-id.ensures.texts;
+      goes = goes-on (texts_of_row (drop (at + 1) row)) c.loop-at.invariant.goes taken (row-texts row at v (omega arith) c.value.ensures);
       ids = λ before h.
           rw (pushed, values-push before row at v (omega arith) c.value.ensures)
-          (ids-push pool.texts new.texts (before ++ take at row) v ids c.in_ok-id.id (kept-taken pool.limit taken pool.texts new.texts c.in_ok-id.ensures.texts) (c.loop-at.invariant.ids before h) c.in_ok-id.ensures.id);
+          (ids-push c.loop-at.pool.texts c.take_value.new.pool.texts (before ++ take at row) v ids c.in_ok-id.id (kept taken) (c.loop-at.invariant.ids before h) taken.holds);
     }
 
-pub returns-in_err-id-clause-texts : goal.returns-in_err-id-clause-texts
-returns-in_err-id-clause-texts c =
+pub returns-in_err-id : goal.returns-in_err-id
+returns-in_err-id c =
     let row = c.args.row.now in
     let at = c.loop-at.at in
     let v = value_seen c.value.result in
-    takes-refused (option_to_list (standard_text v)) (texts_of_row (drop (at + 1) row)) c.in_err-id.field-0.0 c.take_value.new.pool c.from_residual.result
-    c.loop-at.invariant.goes
-    (row-texts row at v (omega arith) c.value.ensures) c.in_err-id.ensures.texts (search rules)
+    let f = c.in_err-id.field-0.0 in
+    let is : c.from_residual.result ≡ Err f = search rules in
+    rw is (goes-refused (option_to_list (standard_text v)) (texts_of_row (drop (at + 1) row)) f c.loop-at.invariant.goes (row-texts row at v (omega arith) c.value.ensures) c.in_err-id.ensures)

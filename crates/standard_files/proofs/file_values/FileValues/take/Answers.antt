@@ -12,15 +12,7 @@ returns-clause-kept c rows h =
     let grown = c.in_ok-close.ensures in
     let same = c.deref.ensures.value in
     has_more c.args.tables.now c.args.self.now.sorts.items c.args.self.now _ rows c.args.row.now row c.take_in.new.self.unreadable c.take_in.new.self.first h
-    (record {
-      values = rw same at told.values;
-      unreadable = rw same at told.unreadable;
-      first = rw same at told.first;
-      few = told.few;
-      many = rw same at told.many;
-      within = rw same at told.within;
-      valid = told.valid;
-    })
+    (rw same at told.made)
     (record {
       closed = ap (λ (w : WrittenRows). w.row) grown;
       rows = ap (λ (w : WrittenRows). w.rows) grown ∙ ap (λ (l : List (List Value)). l ++ row ∷ []) told.rows;
