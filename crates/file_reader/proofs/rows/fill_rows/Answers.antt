@@ -9,11 +9,11 @@ use Rattle.file_reader.specs.RowLaws.{length_with}
 use Rattle.file_reader.proofs.TakerFacts.{all_taken, fields_texts, underway_more}
 use Rattle.file_reader.proofs.rows.fill_rows.Goals as goal
 
-pub returns-then-rows-head-clause-answer : goal.returns-then-rows-head-clause-answer
-returns-then-rows-head-clause-answer g c =
+pub returns-then-rows-head : goal.returns-then-rows-head
+returns-then-rows-head g c =
     let took : c.rows.left ≡ fields_of c.next.new.row ∷ c.next.new.self = search rules in
     let u = c.rows.invariant.underway in
-    rw c.from.ensures (one_too_many (heading_of c.args.head.now) (with_ids u.rows c.rows.ids) c.rows.left c.next.new.self c.args.left.now (fields_of c.next.new.row) u.told took (omega (arith, length_with u.rows c.rows.ids, u.as_many)))
+    record { answer = rw c.from.ensures (one_too_many (heading_of c.args.head.now) (with_ids u.rows c.rows.ids) c.rows.left c.next.new.self c.args.left.now (fields_of c.next.new.row) u.told took (omega (arith, length_with u.rows c.rows.ids, u.as_many))) }
 
 pub take-requires-clause-texts : goal.take-requires-clause-texts
 take-requires-clause-texts g c =
@@ -32,13 +32,13 @@ rows-preserved g c =
           c.rows.invariant.underway took (omega (arith, c.if-rows-head.false)) fields c.in-Ok.ensures.fault (c.in_ok-take-in-Ok.ensures.one_more c.args.taker.now);
     }
 
-pub returns-in-Err-clause-answer : goal.returns-in-Err-clause-answer
-returns-in-Err-clause-answer g c =
+pub returns-in-Err : goal.returns-in-Err
+returns-in-Err g c =
     let took : c.rows.left ≡ fields_of c.next.new.row ∷ c.next.new.self = search rules in
     let u = c.rows.invariant.underway in
-    refuses (heading_of c.args.head.now) (with_ids u.rows c.rows.ids) c.rows.left c.next.new.self c.args.left.now (fields_of c.next.new.row) (c.rows.rows + 1) c.rows.ids c.take_row.new.ids c.in-Err.fault u.told took (omega (arith, length_with u.rows c.rows.ids, u.as_many)) u.known c.in-Err.ensures.fault
+    record { answer = refuses (heading_of c.args.head.now) (with_ids u.rows c.rows.ids) c.rows.left c.next.new.self c.args.left.now (fields_of c.next.new.row) (c.rows.rows + 1) c.rows.ids c.take_row.new.ids c.in-Err.fault u.told took (omega (arith, length_with u.rows c.rows.ids, u.as_many)) u.known c.in-Err.ensures.fault }
 
-pub returns-clause-answer : goal.returns-clause-answer
-returns-clause-answer g c =
+pub returns : goal.returns
+returns g c =
     let none : c.rows.left ≡ [] = search rules in
-    all_taken (λ rows. g.T.RowTaker.took c.args.taker.now rows c.rows.taker) (heading_of c.args.head.now) c.rows.rows c.rows.ids c.args.left.now c.rows.left c.rows.invariant.underway none
+    record { answer = all_taken (λ rows. g.T.RowTaker.took c.args.taker.now rows c.rows.taker) (heading_of c.args.head.now) c.rows.rows c.rows.ids c.args.left.now c.rows.left c.rows.invariant.underway none }
