@@ -14,6 +14,7 @@ use crate::results::{candidates, link_texts};
 use candidate_links::{Capacities, LinksWithin, choose_within, read_capacities};
 use link_base::{Fault, NoMemory, Text};
 use link_plan::Plan;
+use link_report::IdFields;
 use pair_decisions::Decided;
 use review_journal::Journal;
 use std::alloc::Global;
@@ -38,12 +39,15 @@ fn many_text(alloc: Global, prepared: &Prepared, chosen: &LinksWithin) -> Result
     requires priced_b { length chosen.now.prices_b.items ≡ length prepared.now.files.b.records }
     ensures { IfOk result (λ text. text ≡ text_of_links prepared.now.files.a.records prepared.now.files.b.records chosen.now.links.items ++ text_of_prices chosen.now.prices_a.items chosen.now.prices_b.items prepared.now.files.a.records prepared.now.files.b.records) }
 {
+    let a = IdFields::of(alloc, prepared.a())?;
+    let b = IdFields::of(alloc, prepared.b())?;
     let (links, prices) = link_texts(
         alloc,
-        prepared,
         &chosen.links,
         &chosen.prices_a,
         &chosen.prices_b,
+        &a,
+        &b,
     )?;
     let mut text = links.into_bytes(alloc)?;
     text.extend_from_slice(prices.bytes())?;

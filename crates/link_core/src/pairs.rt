@@ -1,10 +1,9 @@
 // The compared pairs of a plan.
-ghost use Rattle.std.specs.Prelude.{◌≡◌, ◌++◌, All, IfErr, IfOk, List, Ok, OnOk, length};
+ghost use Rattle.std.specs.Prelude.{◌≡◌, ◌++◌, All, IfErr, IfOk, Ok, OnOk, length};
 ghost use Rattle.std.specs.List.{flat_map};
 ghost use Rattle.link_base.specs.Answers.{and_then};
 ghost use Rattle.link_base.specs.Fault.{IsAnswer, Refuses};
-ghost use Rattle.link_base.specs.Standard.{Record};
-ghost use Rattle.link_report.specs.Lines.{id_fields, ids_line, ids_text};
+ghost use Rattle.link_report.specs.Lines.{ids_line, ids_text};
 ghost use Rattle.pair_decisions.specs.Pairs.{IsInside, pairs_within};
 ghost use Rattle.link_core.specs.Pairs.{ids_of_prepared};
 ghost use Rattle.link_core.specs.Rules.{IsPreparedFor};
@@ -19,25 +18,24 @@ use pair_walk::{RowPairs, WalkFault, Walker};
 use std::alloc::Global;
 
 // About how many bytes the lines of the pairs of a walk have: two ids, a comma and a line feed each.
-fn usual_bytes(walker: &Walker<'_>, a: &StdFile, b: &StdFile) -> usize {
+fn usual_bytes(walker: &Walker<'_>, a: &IdFields<'_>, b: &IdFields<'_>) -> usize {
     let pairs = walker.most_pairs().min(MOST_PAIRS as usize);
     pairs.saturating_mul(usual_id_bytes(a, b).saturating_add(2))
 }
 
-// Appends the ids of the pairs of the rows that a new walker gives, where `ids` are the ids of B as fields.
+// Appends the ids of the pairs of the rows that a new walker gives.
 fn push_rows(
     alloc: Global,
     mut walker: Walker<'_>,
     writer: &mut IdsWriter,
-    a: &StdFile,
-    ids: &IdFields,
+    a: &IdFields<'_>,
+    b: &IdFields<'_>,
 ) -> Result<(), Fault>
     requires given { walker.given ≡ 0 }
-    requires inside { All (IsInside (length a.now) (length ids.now)) (pairs_of_rows walker.left) }
+    requires inside { All (IsInside (length a.now) (length b.now)) (pairs_of_rows walker.left) }
     ensures refused { IfErr result (Refuses (pairs_within (pairs_of_rows walker.entry.left))) }
     ensures within { IfOk result (λ _. pairs_within (pairs_of_rows walker.entry.left) ≡ Ok (pairs_of_rows walker.entry.left)) }
-    ensures text { (b : List Record) → ids.now ≡ id_fields b
-        → OnOk result (writer.new ≡ writer.old ++ flat_map (ids_line a.now b) (pairs_of_rows walker.entry.left)) }
+    ensures text { OnOk result (writer.new ≡ writer.old ++ flat_map (ids_line a.now b.now) (pairs_of_rows walker.entry.left)) }
 {
     let mut row = RowPairs::new(alloc);
     'rows: loop {
@@ -45,7 +43,7 @@ fn push_rows(
             Err(WalkFault::TooManyPairs { limit }) => return Err(Fault::TooManyPairs { limit }),
             Err(WalkFault::NoMemory) => return Err(Fault::NoMemory),
             Ok(false) => return Ok(()),
-            Ok(true) => writer.push_row(row.a, &row.bs, a, ids)?,
+            Ok(true) => writer.push_row(row.a, &row.bs, a, b)?,
         }
     }
 }
@@ -56,9 +54,10 @@ fn ids_of_rows(alloc: Global, walker: Walker<'_>, a: &StdFile, b: &StdFile) -> R
     requires inside { All (IsInside (length a.now) (length b.now)) (pairs_of_rows walker.left) }
     ensures answer { IsAnswer (and_then (pairs_within (pairs_of_rows walker.entry.left)) (λ pairs. Ok (ids_text a.now b.now pairs))) result }
 {
-    let ids = IdFields::of(alloc, b)?;
-    let mut writer = IdsWriter::with_room(alloc, usual_bytes(&walker, a, b))?;
-    match push_rows(alloc, walker, &mut writer, a, &ids) {
+    let ids_a = IdFields::of(alloc, a)?;
+    let ids_b = IdFields::of(alloc, b)?;
+    let mut writer = IdsWriter::with_room(alloc, usual_bytes(&walker, &ids_a, &ids_b))?;
+    match push_rows(alloc, walker, &mut writer, &ids_a, &ids_b) {
         Ok(()) => Ok(writer.finish()),
         Err(fault) => Err(fault),
     }

@@ -23,7 +23,7 @@ use candidate_links::{ChosenLinks, candidates_among, choose_links};
 use decision_rule::attained;
 use link_base::{Candidate, Decision, FileRole, Levels, NoMemory, Text};
 use link_plan::Plan;
-use link_report::{Report, links_text, prices_text, report_text, rule_text};
+use link_report::{IdFields, Report, links_text, prices_text, report_text, rule_text};
 use pair_decisions::{Decided, pair_lines};
 use review_journal::{Journal, idle_entries};
 use std::alloc::Global;
@@ -87,20 +87,17 @@ fn pairs_of(
     prepared: &Prepared,
     decided: &Decided,
     journal: &Journal,
+    a: &IdFields<'_>,
+    b: &IdFields<'_>,
 ) -> Result<Text, NoMemory>
     requires of_files { IsDecidedIn prepared.now decided.now }
     requires decided { IsDecidedFor plan.now prepared.now decided.now }
     requires rows { KeepsRows plan.now prepared.now decided.now }
+    requires a { a.now ≡ prepared.now.files.a.records }
+    requires b { b.now ≡ prepared.now.files.b.records }
     ensures { IfOk result (λ text. text ≡ text_of_pairs (rares_of plan.now.fields) prepared.now.files.a.records prepared.now.files.b.records (pair_rows_in plan.now prepared.now.files (rule_in prepared.now decided.now) journal.now)) }
 {
-    pair_lines(
-        alloc,
-        plan,
-        decided,
-        journal,
-        prepared.a(),
-        prepared.b(),
-    )
+    pair_lines(alloc, plan, decided, journal, a, b)
 }
 
 // The text of the rule.
@@ -179,20 +176,19 @@ fn report_of(
 // The text of links and that of their prices.
 pub(crate) fn link_texts(
     alloc: Global,
-    prepared: &Prepared,
     links: &[Candidate],
     prices_a: &[i64],
     prices_b: &[i64],
+    a: &IdFields<'_>,
+    b: &IdFields<'_>,
 ) -> Result<(Text, Text), NoMemory>
-    requires in_a { All (λ (l : Link). l.a < length prepared.now.files.a.records) links.now }
-    requires in_b { All (λ (l : Link). l.b < length prepared.now.files.b.records) links.now }
-    requires priced_a { length prices_a.now ≡ length prepared.now.files.a.records }
-    requires priced_b { length prices_b.now ≡ length prepared.now.files.b.records }
-    ensures links { IfOk result (λ texts. texts.0 ≡ text_of_links prepared.now.files.a.records prepared.now.files.b.records links.now) }
-    ensures prices { IfOk result (λ texts. texts.1 ≡ text_of_prices prices_a.now prices_b.now prepared.now.files.a.records prepared.now.files.b.records) }
+    requires in_a { All (λ (l : Link). l.a < length a.now) links.now }
+    requires in_b { All (λ (l : Link). l.b < length b.now) links.now }
+    requires priced_a { length prices_a.now ≡ length a.now }
+    requires priced_b { length prices_b.now ≡ length b.now }
+    ensures links { IfOk result (λ texts. texts.0 ≡ text_of_links a.now b.now links.now) }
+    ensures prices { IfOk result (λ texts. texts.1 ≡ text_of_prices prices_a.now prices_b.now a.now b.now) }
 {
-    let a = prepared.a();
-    let b = prepared.b();
     let of_links = links_text(alloc, links, a, b)?;
     let of_prices = prices_text(alloc, prices_a, prices_b, a, b)?;
     Ok((of_links, of_prices))
@@ -214,18 +210,21 @@ pub fn finish(
     ensures { IfOk result (λ r. AreRunTexts plan.now prepared.now.files (rule_in prepared.now decided.now) journal.now (five_texts r)) }
 {
     let chosen = links_of(alloc, plan, prepared, decided, journal)?;
+    let a = IdFields::of(alloc, prepared.a())?;
+    let b = IdFields::of(alloc, prepared.b())?;
     let (links, prices) = link_texts(
         alloc,
-        prepared,
         &chosen.links,
         &chosen.prices_a,
         &chosen.prices_b,
+        &a,
+        &b,
     )?;
     let made = report_of(plan, prepared, decided, journal, chosen);
     let report = report_text(alloc, &made, prepared.a(), prepared.b());
     drop(made);
     let report = report?;
-    let pairs = pairs_of(alloc, plan, prepared, decided, journal)?;
+    let pairs = pairs_of(alloc, plan, prepared, decided, journal, &a, &b)?;
     let rule = rule_of(alloc, plan, prepared, decided)?;
     Ok(RunResult {
         pairs,

@@ -8,7 +8,6 @@ use Rattle.std.proofs.lemmas.Bool.{cases_Bool, false≢true}
 use Rattle.std.proofs.lemmas.Bool.Decides.{nat_tests}
 use Rattle.csv_rows.specs.NumberLaws.{decimal_is_decimal}
 use Rattle.csv.specs.Writing.{default_writer, field_text, fields_text, is_blank, needs_byte, needs_quotes, row_text}
-use Rattle.link_report.specs.Lines.{front_of}
 
 digit_plain : (b : ℕ) → is_ascii_digit b ≡ true → needs_byte default_writer b ≡ false
 digit_plain b h = grind (arith, nat_tests, h)
@@ -43,17 +42,17 @@ plain_row side id digits s d =
     rw (s, d) (append_assoc side (44 ∷ (f ++ (44 ∷ (digits ++ [])))) (10 ∷ []) ∙ ap (λ t. side ++ (44 ∷ t)) (append_assoc f (44 ∷ (digits ++ [])) (10 ∷ []) ∙ ap (λ t. f ++ (44 ∷ t)) (append_assoc digits [] (10 ∷ []))))
 
 -- its parts, one after the other
-pub priced_written : (start side id digits first second third fourth new : List ℕ) → needs_quotes default_writer side ≡ false → needs_quotes default_writer digits ≡ false
-    → first ≡ start ++ side → second ≡ first ++ 44 ∷ [] → third ≡ second ++ front_of id → fourth ≡ third ++ digits → new ≡ fourth ++ 10 ∷ []
+pub priced_written : (start side id digits first second third comma fourth new : List ℕ) → needs_quotes default_writer side ≡ false → needs_quotes default_writer digits ≡ false
+    → first ≡ start ++ side → second ≡ first ++ 44 ∷ [] → third ≡ second ++ field_text default_writer id → comma ≡ third ++ 44 ∷ [] → fourth ≡ comma ++ digits → new ≡ fourth ++ 10 ∷ []
     → new ≡ start ++ row_text default_writer (side ∷ id ∷ digits ∷ [])
-priced_written start side id digits first second third fourth new s d a b c e l =
+priced_written start side id digits first second third last fourth new s d a b c k e l =
     let f = field_text default_writer id in
     let comma : List ℕ = 44 ∷ [] in
     let rest : List ℕ = digits ++ 10 ∷ [] in
-    let whole : new ≡ ((((start ++ side) ++ comma) ++ front_of id) ++ digits) ++ 10 ∷ [] = rw (e, c, b, a) at l in
-    whole ∙ append_assoc (((start ++ side) ++ comma) ++ front_of id) digits (10 ∷ [])
-    ∙ append_assoc ((start ++ side) ++ comma) (f ++ comma) rest
-    ∙ append_assoc (start ++ side) comma ((f ++ comma) ++ rest)
-    ∙ append_assoc start side (44 ∷ ((f ++ comma) ++ rest))
-    ∙ ap (λ t. start ++ (side ++ (44 ∷ t))) (append_assoc f comma rest)
+    let whole : new ≡ (((((start ++ side) ++ comma) ++ f) ++ comma) ++ digits) ++ 10 ∷ [] = rw (e, k, c, b, a) at l in
+    whole ∙ append_assoc ((((start ++ side) ++ comma) ++ f) ++ comma) digits (10 ∷ [])
+    ∙ append_assoc (((start ++ side) ++ comma) ++ f) comma rest
+    ∙ append_assoc ((start ++ side) ++ comma) f (comma ++ rest)
+    ∙ append_assoc (start ++ side) comma (f ++ (comma ++ rest))
+    ∙ append_assoc start side (44 ∷ (f ++ (comma ++ rest)))
     ∙ ap (λ t. start ++ t) (sym (plain_row side id digits s d))

@@ -1,16 +1,35 @@
--- Machinery of the lines of pairs: a line behind its front, and the end of a line, which many lines share. No public
+-- Machinery of the lines of pairs: ids as fields of lines, the start of a line, and its end, which many lines share. No public
 -- clause names it.
-use Rattle.std.specs.Prelude.{◌≡◌, Bool, List, ℕ, [], ◌∷◌, ◌++◌, decimal}
+use Rattle.std.specs.Prelude.{◌≡◌, All, Bool, List, ℕ, [], ◌∷◌, ◌++◌, decimal, map, Option, Some, None}
 use Rattle.std.specs.Fmt.{signed_decimal}
-use Rattle.csv.specs.Writing.{default_writer, row_text}
+use Rattle.csv.specs.Writing.{default_writer, field_text, row_text}
+use Rattle.link_base.specs.Standard.{id_at, Record}
+use Rattle.link_base.specs.declared.rule.PairAt.{PairAt}
 use Rattle.link_report.specs.PairsText.{decision_word, printed_verdict}
 use Rattle.link_report.specs.RuleText.{outcome_letters}
 use Rattle.link_report.specs.declared.ends.LineEnd.{LineEnd}
 use Rattle.link_report.specs.declared.open.PairRow.{PairRow}
 
--- a line of ids: its front, the field of the other id and the line feed
-abbrev pub line_behind : List ℕ → List ℕ → List ℕ
-line_behind front field = (front ++ field) ++ 10 ∷ []
+-- the ids of records as fields of a line
+abbrev pub id_fields : List Record → List (List ℕ)
+id_fields records = map (λ (r : Record). field_text default_writer r.id) records
+
+-- the ids of records are fields as they are
+abbrev pub ArePlain : List Record → Type 0
+ArePlain records = All (λ (r : Record). field_text default_writer r.id ≡ r.id) records
+
+-- fields that are kept are the ids of records; where none are kept, the ids are fields as they are
+abbrev pub HasFields : List Record → Option (List (List ℕ)) → Type 0
+HasFields records None = ArePlain records
+HasFields records (Some fields) = fields ≡ id_fields records
+
+-- two fields, and the comma between them
+abbrev pub two_fields : List ℕ → List ℕ → List ℕ
+two_fields first second = (first ++ 44 ∷ []) ++ second
+
+-- the first two fields of a line: the ids of a pair
+abbrev pub line_start : List Record → List Record → PairAt → List ℕ
+line_start a b at = two_fields (field_text default_writer (id_at a at.a)) (field_text default_writer (id_at b at.b))
 
 -- the end of the line of a pair, from the comma behind its ids on: the row of an empty field and of those that follow the ids
 abbrev pub pair_end : List Bool → PairRow → List ℕ

@@ -3,8 +3,13 @@ use Rattle.std.specs.Prelude.{◌≡◌, List, ℕ, [], ◌∷◌}
 use Rattle.std.specs.Fmt.{signed_decimal}
 use Rattle.csv.specs.Writing.{default_writer, row_text}
 use Rattle.link_base.specs.declared.rule.Candidate.{Candidate}
+use Rattle.link_base.specs.declared.rule.PairAt.{PairAt}
 use Rattle.link_report.specs.LinksText.{source_of_link}
 use Rattle.link_report.specs.declared.links.LinkEnd.{LinkEnd}
+
+-- the pair of a link
+abbrev pub pair_of : Candidate → PairAt
+pair_of link = record { a = link.a; b = link.b }
 
 -- the end of the line of a link, from the comma behind its ids on: the row of an empty field and of those that follow the ids
 abbrev pub end_of_link : Candidate → List ℕ

@@ -1,14 +1,12 @@
 -- The text of the compared pairs: a header, and a row for each pair, as a `PairsWriter` writes it row by row
--- (`PairsWriter::push_behind`, clause `text`).
-use Rattle.std.specs.Prelude.{ℕ, Bool, List, [], ◌∷◌, ◌++◌, codes, decimal, Option, Some, None, ⊤}
+-- (`PairsWriter::push`, clause `text`).
+use Rattle.std.specs.Prelude.{ℕ, Bool, List, [], ◌∷◌, ◌++◌, codes, decimal, Option, Some, None}
 use Rattle.std.specs.Fmt.{signed_decimal}
 use Rattle.std.specs.List.{flat_map}
 use Rattle.csv.specs.Writing.{default_writer, row_text}
-use Rattle.link_base.specs.Rule.{IsPairBefore}
 use Rattle.link_base.specs.Standard.{id_at, Record}
 use Rattle.link_base.specs.declared.rule.Decision.{Decision}
 use Rattle.link_base.specs.declared.rule.Decision.TheVariants as decision
-use Rattle.link_base.specs.declared.rule.PairAt.{PairAt}
 use Rattle.link_base.specs.declared.rule.Verdict.{Verdict}
 use Rattle.link_base.specs.declared.rule.Verdict.TheVariants as verdict
 use Rattle.link_report.specs.RuleText.{outcome_letters}
@@ -43,13 +41,7 @@ pair_row rares a b row = row_text default_writer (pair_fields rares a b row)
 abbrev pub text_of_pairs : List Bool → List Record → List Record → List PairRow → List ℕ
 text_of_pairs rares a b rows = row_text default_writer pairs_header ++ flat_map (pair_row rares a b) rows
 
--- a pair comes after the last one, where there is one
-abbrev pub IsAfter : Option PairAt → PairAt → Type 0
-IsAfter None at = ⊤
-IsAfter (Some last) at = IsPairBefore last at
-
--- what is seen of a writer: which of its fields may be rare, its text so far, and the pair that was written last
+-- what is seen of a writer: which of its fields may be rare, and its text so far
 pub record PairsWritten : Type 0 where
   pub rares : List Bool
   pub text : List ℕ
-  pub last : Option PairAt

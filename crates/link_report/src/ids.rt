@@ -1,38 +1,37 @@
 // The ids of pairs.
-ghost use Rattle.std.specs.Prelude.{◌≡◌, ◌<◌, ◌++◌, [], All, List, OnOk, length, map, slice_index_or};
+ghost use Rattle.std.specs.Prelude.{◌≡◌, ◌<◌, ◌++◌, ◌∷◌, [], All, OnOk, length, map};
 ghost use Rattle.std.specs.List.{flat_map};
-ghost use Rattle.link_base.specs.Standard.{Record};
-ghost use Rattle.link_report.specs.LineParts.{line_behind};
-ghost use Rattle.link_report.specs.Lines.{id_fields, ids_header, ids_line, pair_with};
+ghost use Rattle.csv.specs.Writing.{default_writer, field_text};
+ghost use Rattle.link_base.specs.Standard.{id_at};
+ghost use Rattle.link_report.specs.LineParts.{two_fields};
+ghost use Rattle.link_report.specs.Lines.{ids_header, ids_line, pair_with};
 
-use crate::front::LineFront;
-use crate::id_fields::IdFields;
-use link_base::{NoMemory, StdFile, Text};
+use crate::id_fields::{IdFields, push_two};
+use link_base::{NoMemory, Text};
 use std::alloc::Global;
 use std::marker::Model;
 
-// Appends a line: its front, the field of an id and the line feed.
-fn push_line(text: &mut Vec<u8>, front: &[u8], field: &[u8]) -> Result<(), NoMemory>
-    ensures { OnOk result (text.new.items ≡ text.old.items ++ line_behind front.now field.now) }
+// Appends a line of two fields.
+fn push_line(text: &mut Vec<u8>, first: &[u8], second: &[u8]) -> Result<(), NoMemory>
+    ensures { OnOk result (text.new.items ≡ text.old.items ++ (two_fields first.now second.now ++ 10 ∷ [])) }
 {
-    text.extend_from_slice(front)?;
-    text.extend_from_slice(field)?;
+    push_two(text, first, second)?;
     text.push(b'\n')?;
     Ok(())
 }
 
-// Appends a line for each of these records behind the same front.
+// Appends a line for each of these records of B behind the field of a record of A.
 fn push_lines(
     text: &mut Vec<u8>,
-    front: &[u8],
+    first: &[u8],
     partners: &[u32],
-    ids: &IdFields,
+    b: &IdFields<'_>,
 ) -> Result<(), NoMemory>
-    requires { All (λ j. j < length ids.now) partners.now }
-    ensures { OnOk result (text.new.items ≡ text.old.items ++ flat_map (λ j. line_behind front.now (slice_index_or ids.now j [])) partners.now) }
+    requires { All (λ j. j < length b.now) partners.now }
+    ensures { OnOk result (text.new.items ≡ text.old.items ++ flat_map (λ j. two_fields first.now (field_text default_writer (id_at b.now j)) ++ 10 ∷ []) partners.now) }
 {
     for partner in partners {
-        push_line(text, front, ids.field(*partner))?;
+        push_line(text, first, b.field(*partner))?;
     }
     Ok(())
 }
@@ -42,7 +41,6 @@ fn push_lines(
 #[derive(Drop)]
 pub struct IdsWriter {
     text: Vec<u8>,
-    front: LineFront,
 }
 
 impl Model for IdsWriter {
@@ -63,31 +61,25 @@ impl IdsWriter {
     {
         let mut text = Vec::with_capacity(alloc, room)?;
         text.extend_from_slice(b"id_a,id_b\n")?;
-        Ok(IdsWriter {
-            text,
-            front: LineFront::new(alloc),
-        })
+        Ok(IdsWriter { text })
     }
 
-    /// Appends a line for each pair of a record of A with one of these records of B, by their positions, where `ids` are the ids
-    /// of B as fields.
+    /// Appends a line for each pair of a record of A with one of these records of B, by their positions.
     pub fn push_row(
         &mut self,
         at: u32,
         partners: &[u32],
-        a: &StdFile,
-        ids: &IdFields,
+        a: &IdFields<'_>,
+        b: &IdFields<'_>,
     ) -> Result<(), NoMemory>
         requires in_a { 0 < length partners.now → at < length a.now }
-        requires in_b { All (λ j. j < length ids.now) partners.now }
-        ensures { (b : List Record) → ids.now ≡ id_fields b
-            → OnOk result (self.new ≡ self.old ++ flat_map (ids_line a.now b) (map (pair_with at) partners.now)) }
+        requires in_b { All (λ j. j < length b.now) partners.now }
+        ensures { OnOk result (self.new ≡ self.old ++ flat_map (ids_line a.now b.now) (map (pair_with at) partners.now)) }
     {
         if partners.is_empty() {
             return Ok(());
         }
-        self.front.set(a.id(at))?;
-        push_lines(&mut self.text, self.front.bytes(), partners, ids)
+        push_lines(&mut self.text, a.field(at), partners, b)
     }
 
     /// The text.

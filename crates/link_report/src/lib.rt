@@ -3,7 +3,6 @@
 
 mod ends;
 mod first;
-mod front;
 mod frontier;
 mod head;
 mod id_fields;
@@ -17,7 +16,6 @@ mod report;
 mod rule;
 
 pub use first::{first_lines, head_of_report};
-pub use front::LineFront;
 pub use frontier::frontier_text;
 pub use id_fields::{IdFields, usual_id_bytes};
 pub use ids::IdsWriter;

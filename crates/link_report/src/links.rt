@@ -5,11 +5,10 @@ ghost use Rattle.link_report.specs.LinkEnds.{IsLinkEnd, end_of_link};
 ghost use Rattle.link_report.specs.declared.links.LinkEnd.{LinkEnd as End};
 ghost use Rattle.link_report.specs.LinksText.{link_row, source_of_link, text_of_links};
 
-use crate::front::push_front;
-use crate::id_fields::usual_id_bytes;
-use csv_rows::{push_field, push_row};
+use crate::id_fields::{IdFields, push_ids, usual_id_bytes};
+use csv_rows::push_row;
 use itoa::Buffer;
-use link_base::{Candidate, NoMemory, StdFile, Text};
+use link_base::{Candidate, NoMemory, PairAt, Text};
 use std::alloc::Global;
 
 // How many ends of lines are kept.
@@ -101,8 +100,8 @@ fn push_link(
     ends: &mut Vec<LinkEnd>,
     alloc: Global,
     link: Candidate,
-    a: &StdFile,
-    b: &StdFile,
+    a: &IdFields<'_>,
+    b: &IdFields<'_>,
 ) -> Result<(), NoMemory>
     requires in_a { link.a < length a.now }
     requires in_b { link.b < length b.now }
@@ -114,8 +113,11 @@ fn push_link(
 {
     let at = link.weight.unsigned_abs() as usize % KEPT_ENDS;
     renew(ends, alloc, at, link)?;
-    push_front(text, a.id(link.a))?;
-    push_field(text, b.id(link.b))?;
+    let pair = PairAt {
+        a: link.a,
+        b: link.b,
+    };
+    push_ids(text, pair, a, b)?;
     text.extend_from_slice(&ends[at].text)?;
     Ok(())
 }
@@ -126,8 +128,8 @@ fn push_link(
 pub fn links_text(
     alloc: Global,
     links: &[Candidate],
-    a: &StdFile,
-    b: &StdFile,
+    a: &IdFields<'_>,
+    b: &IdFields<'_>,
 ) -> Result<Text, NoMemory>
     requires in_a { All (λ (l : Link). l.a < length a.now) links.now }
     requires in_b { All (λ (l : Link). l.b < length b.now) links.now }

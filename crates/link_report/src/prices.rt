@@ -1,24 +1,32 @@
 // The dual prices of records.
 ghost use Rattle.std.specs.Prelude.{◌≡◌, ◌<◌, ◌++◌, ◌∷◌, [], IfOk, OnOk, codes, false, length, slice_index_or};
 ghost use Rattle.csv.specs.Writing.{default_writer, needs_quotes, row_text};
-ghost use Rattle.link_base.specs.Standard.{no_record};
+ghost use Rattle.link_base.specs.Standard.{id_at, no_record};
 ghost use Rattle.link_report.specs.PricesText.{price_rows, text_of_prices};
 
-use crate::front::push_front;
+use crate::id_fields::IdFields;
 use itoa::Buffer;
-use link_base::{NoMemory, StdFile, Text};
+use link_base::{NoMemory, Text};
 use std::alloc::Global;
 
-// Appends a row of a side, an id and digits.
+// Appends a row of a side, the id of a record and digits.
 #[tactic(auto, using(crate::proofs::PlainLemmas::priced_written))]
-fn push_priced(text: &mut Vec<u8>, side: &[u8], id: &[u8], digits: &[u8]) -> Result<(), NoMemory>
+fn push_priced(
+    text: &mut Vec<u8>,
+    side: &[u8],
+    digits: &[u8],
+    file: &IdFields<'_>,
+    at: u32,
+) -> Result<(), NoMemory>
+    requires within { at < length file.now }
     requires side { needs_quotes default_writer side.now ≡ false }
     requires digits { needs_quotes default_writer digits.now ≡ false }
-    ensures { OnOk result (text.new.items ≡ text.old.items ++ row_text default_writer (side.now ∷ id.now ∷ digits.now ∷ [])) }
+    ensures { OnOk result (text.new.items ≡ text.old.items ++ row_text default_writer (side.now ∷ id_at file.now at ∷ digits.now ∷ [])) }
 {
     text.extend_from_slice(side)?;
     text.push(b',')?;
-    push_front(text, id)?;
+    text.extend_from_slice(file.field(at))?;
+    text.push(b',')?;
     text.extend_from_slice(digits)?;
     text.push(b'\n')?;
     Ok(())
@@ -29,7 +37,7 @@ fn push_price(
     text: &mut Vec<u8>,
     side: &[u8],
     price: i64,
-    file: &StdFile,
+    file: &IdFields<'_>,
     at: u32,
 ) -> Result<(), NoMemory>
     requires within { at < length file.now }
@@ -40,7 +48,7 @@ fn push_price(
         return Ok(());
     }
     let mut digits = Buffer::new();
-    push_priced(text, side, file.id(at), digits.format(price).as_bytes())
+    push_priced(text, side, digits.format(price).as_bytes(), file, at)
 }
 
 // Appends the rows of a side.
@@ -48,7 +56,7 @@ fn push_side(
     text: &mut Vec<u8>,
     side: &[u8],
     prices: &[i64],
-    file: &StdFile,
+    file: &IdFields<'_>,
 ) -> Result<(), NoMemory>
     requires as_many { length prices.now ≡ length file.now }
     requires side { needs_quotes default_writer side.now ≡ false }
@@ -67,8 +75,8 @@ pub fn prices_text(
     alloc: Global,
     prices_a: &[i64],
     prices_b: &[i64],
-    a: &StdFile,
-    b: &StdFile,
+    a: &IdFields<'_>,
+    b: &IdFields<'_>,
 ) -> Result<Text, NoMemory>
     requires each_of_a { length prices_a.now ≡ length a.now }
     requires each_of_b { length prices_b.now ≡ length b.now }

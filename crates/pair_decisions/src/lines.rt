@@ -7,10 +7,10 @@ ghost use Rattle.patterns.specs.Shapes.{pattern_count_by};
 ghost use Rattle.pair_decisions.specs.Comparators.{rares_of};
 
 use crate::deciding::Decided;
-use crate::writing::write_rows;
-use link_base::{NoMemory, StdFile, Text};
+use crate::writing::write_lines;
+use link_base::{NoMemory, Text};
 use link_plan::Plan;
-use link_report::{PairsWriter, usual_id_bytes};
+use link_report::{IdFields, PairsWriter, usual_id_bytes};
 use review_journal::Journal;
 use std::alloc::Global;
 
@@ -24,8 +24,8 @@ pub fn pair_lines(
     plan: &Plan,
     decided: &Decided,
     journal: &Journal,
-    a: &StdFile,
-    b: &StdFile,
+    a: &IdFields<'_>,
+    b: &IdFields<'_>,
 ) -> Result<Text, NoMemory>
     requires cells { AreCellsOf (pattern_count_by (rares_of plan.now.fields)) decided.now.rule.cells }
     requires rows { AreRowsIn (length a.now) (length b.now) (length decided.now.rule.cells) decided.now.rows }
@@ -37,14 +37,6 @@ pub fn pair_lines(
         &plan.shape(),
         decided.rows().len().saturating_mul(line),
     )?;
-    write_rows(
-        alloc,
-        &mut writer,
-        decided.rule(),
-        decided.rows(),
-        journal,
-        a,
-        b,
-    )?;
+    write_lines(&mut writer, decided.rule(), decided.rows(), journal, a, b)?;
     Ok(writer.finish())
 }

@@ -1,9 +1,6 @@
 // The decisions on the pairs of a walk.
-ghost use Rattle.std.specs.Prelude.{◌≡◌, ◌<◌, ◌≤◌, ◌+◌, ◌++◌, ◌∷◌, [], All, IfErr, IfOk, OnOk, if◌then◌else◌, length, map};
-ghost use Rattle.link_base.specs.declared.rule.Decision.TheVariants.{Link, Possible};
-ghost use Rattle.pair_decisions.specs.Decisions.{is_same};
-ghost use Rattle.pair_decisions.specs.Found.{AddsDecisions, IsFoundOf};
-ghost use Rattle.pair_decisions.specs.PairRows.{kept_rows};
+ghost use Rattle.std.specs.Prelude.{◌≡◌, ◌<◌, ◌≤◌, ◌+◌, [], All, IfErr, IfOk, OnOk, length, map};
+ghost use Rattle.pair_decisions.specs.Found.{AddsDecisions, AddsRow, IsFoundOf};
 ghost use Rattle.pair_decisions.specs.PairRule.{AreSidesFor, side_rule};
 ghost use Rattle.pair_decisions.specs.Pairs.{IsInside};
 ghost use Rattle.pair_walk.specs.Pairs.{pair, pairs_of_rows};
@@ -43,30 +40,17 @@ fn room_for_rows(
     Ok(Vec::with_capacity(alloc, room)?)
 }
 
-// Keeps a pair that is a link or a possible link.
-fn keep_pair(found: &mut Found, at: PairAt, decision: Decision) -> Result<(), NoMemory>
-    ensures rows { found.new.rows.items ≡ found.old.rows.items }
-    ensures links { OnOk result (found.new.links.items ≡ found.old.links.items ++ (if is_same Link decision then at ∷ [] else [])) }
-    ensures possible { OnOk result (found.new.possible.items ≡ found.old.possible.items ++ (if is_same Possible decision then at ∷ [] else [])) }
-    ensures compared { found.new.compared ≡ found.old.compared }
-{
-    match decision {
-        Decision::Link => found.links.push(at)?,
-        Decision::Possible => found.possible.push(at)?,
-        Decision::NonLink => {}
-    }
-    Ok(())
-}
-
-// Keeps the row of a pair, where rows are kept.
-fn keep_row(found: &mut Found, row: DecidedRow, with_rows: bool) -> Result<(), NoMemory>
-    ensures rows { OnOk result (found.new.rows.items ≡ found.old.rows.items ++ kept_rows with_rows (row ∷ [])) }
-    ensures links { found.new.links.items ≡ found.old.links.items }
-    ensures possible { found.new.possible.items ≡ found.old.possible.items }
-    ensures compared { found.new.compared ≡ found.old.compared }
+// Keeps the row of a pair, where rows are kept, and the pair, where it is a link or a possible link.
+fn keep(found: &mut Found, row: DecidedRow, with_rows: bool) -> Result<(), NoMemory>
+    ensures { OnOk result (AddsRow with_rows row found.old found.new) }
 {
     if with_rows {
         found.rows.push(row)?;
+    }
+    match row.decision {
+        Decision::Link => found.links.push(row.at)?,
+        Decision::Possible => found.possible.push(row.at)?,
+        Decision::NonLink => {}
     }
     Ok(())
 }
@@ -90,14 +74,13 @@ fn decide_row(
     requires few { found.old.compared + length row.now.bs.items ≤ MOST_PAIRS }
     ensures same { words.new ≡ words.old }
     ensures found { OnOk result (AddsDecisions (side_rule rule.now sides_a.now.rows sides_b.now.rows) with_rows (map (pair row.now.a) row.now.bs.items) found.old found.new) }
-    ensures compared { found.new.compared ≡ found.old.compared + length row.now.bs.items }
+    ensures compared { OnOk result (found.new.compared ≡ found.old.compared + length row.now.bs.items) }
 {
     found.compared += row.bs.len() as u32;
     for b in &row.bs {
         let at = PairAt { a: row.a, b: *b };
         let decided = row_at(rule, words, sides_a, sides_b, at);
-        keep_pair(found, at, decided.decision)?;
-        keep_row(found, decided, with_rows)?;
+        keep(found, decided, with_rows)?;
     }
     Ok(())
 }

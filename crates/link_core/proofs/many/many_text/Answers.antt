@@ -1,14 +1,13 @@
-use Rattle.std.proofs.Common.{◌<◌, ◌∙◌, List, ap, length, subst, sym}
-use Rattle.std.specs.Prelude.{All, ℤ}
-use Rattle.link_base.specs.declared.rule.Candidate.{Candidate}
+use Rattle.std.proofs.Common.{◌∙◌}
 use Rattle.link_core.proofs.many.many_text.Goals as goal
 
 pub link_texts-requires : goal.link_texts-requires
 link_texts-requires c =
-    let p = c.args.prepared.now in
+    let of_a = c.in_ok-a.ensures ∙ c.a.ensures in
+    let of_b = c.in_ok-b.ensures ∙ c.b.ensures in
     record {
-      in_a = subst (λ (ls : List Candidate). All (λ (l : Candidate). l.a < length p.files.a.records) ls) (sym c.deref.ensures.value) c.requires.in_a;
-      in_b = subst (λ (ls : List Candidate). All (λ (l : Candidate). l.b < length p.files.b.records) ls) (sym c.deref.ensures.value) c.requires.in_b;
-      priced_a = ap (λ (ps : List ℤ). length ps) c.deref-2.ensures.value ∙ c.requires.priced_a;
-      priced_b = ap (λ (ps : List ℤ). length ps) c.deref-3.ensures.value ∙ c.requires.priced_b;
+      in_a = rw (c.deref.ensures.value, of_a) c.requires.in_a;
+      in_b = rw (c.deref.ensures.value, of_b) c.requires.in_b;
+      priced_a = rw (c.deref-2.ensures.value, of_a) c.requires.priced_a;
+      priced_b = rw (c.deref-3.ensures.value, of_b) c.requires.priced_b;
     }

@@ -13,10 +13,10 @@ push_row-requires c =
     let a = c.next_row.new.row.a in
     let bs = c.next_row.new.row.bs.items in
     let rows_a = length c.args.a.now in
-    let rows_b = length c.args.ids.now in
+    let rows_b = length c.args.b.now in
     let inside = row_holds (IsInside rows_a rows_b) c.rows.walker.left c.next_row.new.self.left a bs next.0 c.rows.invariant.inside in
     let in_a : List ℕ → Type 0 = λ js. 0 < length js → a < rows_a in
-    let in_b : List ℕ → Type 0 = λ js. All (λ j. j < length c.args.ids.now) js in
+    let in_b : List ℕ → Type 0 = λ js. All (λ j. j < rows_b) js in
     record {
       in_a = subst in_a (sym c.deref.ensures.value) (row_in_a rows_a rows_b a bs inside);
       in_b = subst in_b (sym c.deref.ensures.value) (row_in_b rows_a rows_b a bs inside);
@@ -34,6 +34,6 @@ rows-preserved c =
     record {
       given = omega (arith, next.1, more, c.rows.invariant.given);
       few = next.2;
-      text = λ b ids. lines_more (ids_line c.args.a.now b) old rest a bs c.rows.writer c.push_row.new.self _ next.0 (written b ids) (c.rows.invariant.text b ids);
-      inside = rest_holds (IsInside (length c.args.a.now) (length c.args.ids.now)) old rest a bs next.0 c.rows.invariant.inside;
+      text = lines_more (ids_line c.args.a.now c.args.b.now) old rest a bs c.rows.writer c.push_row.new.self _ next.0 written c.rows.invariant.text;
+      inside = rest_holds (IsInside (length c.args.a.now) (length c.args.b.now)) old rest a bs next.0 c.rows.invariant.inside;
     }

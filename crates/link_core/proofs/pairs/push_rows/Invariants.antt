@@ -1,9 +1,8 @@
-use Rattle.std.proofs.Common.{◌≡◌, ◌≤◌, ◌+◌, ◌++◌, List, length}
+use Rattle.std.proofs.Common.{◌≡◌, ◌≤◌, ◌+◌, ◌++◌, length}
 use Rattle.std.specs.Prelude.{All}
 use Rattle.std.specs.List.{flat_map}
-use Rattle.link_base.specs.Standard.{Record}
 use Rattle.link_limits.specs.declared.TheConstants.{MOST_PAIRS}
-use Rattle.link_report.specs.Lines.{id_fields, ids_line}
+use Rattle.link_report.specs.Lines.{ids_line}
 use Rattle.pair_decisions.specs.Pairs.{IsInside}
 use Rattle.pair_walk.specs.Pairs.{pairs_of_rows}
 use Rattle.link_core.proofs.pairs.push_rows.Given as goal
@@ -12,8 +11,8 @@ abbrev pub invariant-rows : goal.invariant-rows
 invariant-rows l = record {
   given : l.walker.given + length (pairs_of_rows l.walker.left) ≡ length (pairs_of_rows l.fn.walker.left);
   few : l.walker.given ≤ MOST_PAIRS;
-  text : (b : List Record) → l.ids ≡ id_fields b → l.writer ++ flat_map (ids_line l.a b) (pairs_of_rows l.walker.left) ≡ l.fn.writer ++ flat_map (ids_line l.a b) (pairs_of_rows l.fn.walker.left);
-  inside : All (IsInside (length l.a) (length l.ids)) (pairs_of_rows l.walker.left);
+  text : l.writer ++ flat_map (ids_line l.a l.b) (pairs_of_rows l.walker.left) ≡ l.fn.writer ++ flat_map (ids_line l.a l.b) (pairs_of_rows l.fn.walker.left);
+  inside : All (IsInside (length l.a) (length l.b)) (pairs_of_rows l.walker.left);
 }
 
 abbrev pub decreases-rows : goal.decreases-rows

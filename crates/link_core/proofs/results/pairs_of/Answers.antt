@@ -8,7 +8,7 @@ use Rattle.link_core.proofs.ResultLemmas.{if_ok}
 use Rattle.link_core.proofs.results.pairs_of.Goals as goal
 
 pub pair_lines-requires : goal.pair_lines-requires
-pair_lines-requires c = record { cells = c.requires.decided.cells; rows = rw (c.a.ensures, c.b.ensures) c.requires.of_files.rows }
+pair_lines-requires c = record { cells = c.requires.decided.cells; rows = rw (c.requires.a, c.requires.b) c.requires.of_files.rows }
 
 pub returns : goal.returns
 returns c =
@@ -18,6 +18,6 @@ returns c =
     let entries = c.args.journal.now in
     let rares = rares_of plan.fields in
     let shown : shown_rows d.rule.cells entries d.rows ≡ pair_rows_in plan p.files (rule_in p d) entries = ap (shown_rows d.rule.cells entries) c.requires.rows in
-    if_ok (λ text. text ≡ text_of_pairs rares c.a.result.now c.b.result.now (shown_rows d.rule.cells entries d.rows))
+    if_ok (λ text. text ≡ text_of_pairs rares c.args.a.now c.args.b.now (shown_rows d.rule.cells entries d.rows))
     (λ text. text ≡ text_of_pairs rares p.files.a.records p.files.b.records (pair_rows_in plan p.files (rule_in p d) entries)) c.pair_lines.result
-    (λ text e. e ∙ (λ i. text_of_pairs rares (c.a.ensures i) (c.b.ensures i) (shown i))) c.pair_lines.ensures
+    (λ text e. e ∙ (λ i. text_of_pairs rares (c.requires.a i) (c.requires.b i) (shown i))) c.pair_lines.ensures

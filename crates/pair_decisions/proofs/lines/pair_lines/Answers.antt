@@ -9,8 +9,8 @@ use Rattle.pair_decisions.specs.PairRule.{PairRuleView}
 use Rattle.pair_decisions.specs.SideLaws.{shape_rares}
 use Rattle.pair_decisions.proofs.lines.pair_lines.Goals as goal
 
-pub write_rows-requires-clause-cells : goal.write_rows-requires-clause-cells
-write_rows-requires-clause-cells c =
+pub write_lines-requires-clause-cells : goal.write_lines-requires-clause-cells
+write_lines-requires-clause-cells c =
     let fields = c.args.plan.now.fields in
     let rares : c.in_ok-writer.writer.rares ≡ rares_of fields = c.in_ok-writer.ensures.rares ∙ shape_rares fields c.shape.result c.shape.ensures.fields c.shape.ensures.rare in
     ap (λ (r : PairRuleView). length r.cells) c.rule.ensures ∙ cells_many (pattern_count_by (rares_of fields)) c.args.decided.now.rule.cells c.requires.cells ∙ ap pattern_count_by (sym rares)
@@ -19,5 +19,5 @@ pub returns : goal.returns
 returns c =
     let fields = c.args.plan.now.fields in
     let rares : c.in_ok-writer.writer.rares ≡ rares_of fields = c.in_ok-writer.ensures.rares ∙ shape_rares fields c.shape.result c.shape.ensures.fields c.shape.ensures.rare in
-    c.finish.ensures ∙ c.in_ok-write_rows.ensures
+    c.finish.ensures ∙ c.in_ok-write_lines.ensures
     ∙ (λ i. c.in_ok-writer.ensures.text i ++ flat_map (pair_row (rares i) c.args.a.now c.args.b.now) (shown_rows (c.rule.ensures i).cells c.args.journal.now (c.rows-2.ensures i)))

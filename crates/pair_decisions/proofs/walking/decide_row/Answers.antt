@@ -30,16 +30,16 @@ loop-b-preserved c =
     let found = c.args.found.now in
     let keep = c.args.with_rows in
     let row : c.row_at-decided.result ≡ decided_row rule at = c.row_at-decided.ensures.row in
-    let decision : c.row_at-decided.result.decision ≡ decision_at rule at = ap (λ (r : DecidedRow). r.decision) row in
+    let added = c.in_ok-keep.ensures in
     let has = λ (kind : Decision) (p : PairAt). is_same kind (decision_at rule p) in
     let old = c.loop-b.found in
     record {
       same = c.row_at-decided.ensures.same ∙ c.loop-b.invariant.same;
       rows = pair_more (λ ps. kept_rows keep (decided_rows rule ps)) (kept_joined keep (decided_row rule)) a bs i found.rows.items old.rows.items _ c.loop-b-test.true c.loop-b.invariant.rows
-          (c.in_ok-keep_row.ensures.rows ∙ (λ j. c.keep_pair.ensures.rows j ++ kept_rows keep (row j ∷ [])));
+          (added.rows ∙ ap (λ r. old.rows.items ++ kept_rows keep (r ∷ [])) row);
       links = pair_more (pairs_with Link rule) (filter-append (has Link)) a bs i found.links.items old.links.items _ c.loop-b-test.true c.loop-b.invariant.links
-          (c.keep_row.ensures.links ∙ c.in_ok-keep_pair.ensures.links ∙ ap (λ kind. old.links.items ++ (if is_same Link kind then at ∷ [] else [])) decision);
+          (added.links ∙ ap (λ (r : DecidedRow). old.links.items ++ (if is_same Link r.decision then r.at ∷ [] else [])) row);
       possible = pair_more (pairs_with Possible rule) (filter-append (has Possible)) a bs i found.possible.items old.possible.items _ c.loop-b-test.true c.loop-b.invariant.possible
-          (c.keep_row.ensures.possible ∙ c.in_ok-keep_pair.ensures.possible ∙ ap (λ kind. old.possible.items ++ (if is_same Possible kind then at ∷ [] else [])) decision);
-      compared = c.keep_row.ensures.compared ∙ c.keep_pair.ensures.compared ∙ c.loop-b.invariant.compared;
+          (added.possible ∙ ap (λ (r : DecidedRow). old.possible.items ++ (if is_same Possible r.decision then r.at ∷ [] else [])) row);
+      compared = added.compared ∙ c.loop-b.invariant.compared;
     }

@@ -34,9 +34,9 @@ rows-preserved c =
     let more = count_more old rest a bs next.0 in
     record {
       same = c.decide_row.ensures.same ∙ c.rows.invariant.same;
-      given = omega (arith, next.1, c.decide_row.ensures.compared);
-      few = omega (arith, next.1, next.2, c.decide_row.ensures.compared);
-      compared = omega (arith, c.decide_row.ensures.compared);
+      given = omega (arith, next.1, c.in-Ok-decide_row.ensures.compared);
+      few = omega (arith, next.1, next.2, c.in-Ok-decide_row.ensures.compared);
+      compared = omega (arith, c.in-Ok-decide_row.ensures.compared);
       rows = row_more (λ ps. kept_rows c.args.with_rows (decided_rows rule ps)) (kept_joined c.args.with_rows (decided_row rule)) old rest a bs _ _ _ next.0 c.in-Ok-decide_row.ensures.found.rows c.rows.invariant.rows;
       links = row_more (pairs_with Link rule) (filter-append (has Link)) old rest a bs _ _ _ next.0 c.in-Ok-decide_row.ensures.found.links c.rows.invariant.links;
       possible = row_more (pairs_with Possible rule) (filter-append (has Possible)) old rest a bs _ _ _ next.0 c.in-Ok-decide_row.ensures.found.possible c.rows.invariant.possible;

@@ -2,8 +2,8 @@ use Rattle.std.proofs.Common.{◌∙◌, ◌++◌, ◌∷◌, ℕ, List, [], ap,
 use Rattle.std.proofs.lemmas.List.{map_more, take_all}
 use Rattle.csv.specs.Writing.{default_writer, field_text}
 use Rattle.link_base.specs.Standard.{Record, no_record}
-use Rattle.link_report.specs.Lines.{id_fields}
-use Rattle.link_report.proofs.id_fields.IdFields.of.Goals as goal
+use Rattle.link_report.specs.LineParts.{id_fields}
+use Rattle.link_report.proofs.id_fields.quoted_ids.Goals as goal
 
 pub loop-at-preserved : goal.loop-at-preserved
 loop-at-preserved c =
