@@ -1,5 +1,5 @@
 -- The values of a file, row by row, and its first unreadable date.
-use Rattle.std.proofs.Common.{◌≡◌, ◌<◌, ◌≤◌, ◌+◌, ◌*◌, ◌∷◌, ◌++◌, ◌∙◌, ℕ, Bool, true, false, cond, List, [], length, map, Option, Some, None, Result, Ok, Err, refl, subst, sym, ap, arith, length-append}
+use Rattle.std.proofs.Common.{◌≡◌, ◌<◌, ◌≤◌, ◌+◌, ◌*◌, ◌∷◌, ◌++◌, ◌∙◌, ℕ, Bool, true, false, List, [], length, map, Option, Some, None, Result, Ok, Err, refl, subst, sym, ap, arith, length-append}
 use Rattle.std.specs.List.{All, sum_by}
 use Rattle.std.specs.Option.{option_or}
 use Rattle.std.specs.Prelude.{IfSome, is_some, MatchBool, ⊤}
@@ -7,7 +7,7 @@ use Rattle.std.proofs.lemmas.List.{length-map, map_push}
 use Rattle.std.proofs.lemmas.List.Elements.{All-cons, All-head, All-nil, All-push, All-tail}
 use Rattle.std.proofs.lemmas.List.Sums.{sum_by-cons, sum_by_push}
 use Rattle.link_base.specs.Answers.{and_then}
-use Rattle.link_base.specs.Fault.{is_want, or_else, Refuses}
+use Rattle.link_base.specs.Fault.{is_want, Refuses}
 use Rattle.link_base.specs.Standard.{IsValid, Record, records_of}
 use Rattle.link_base.specs.declared.fault.Fault.{Fault}
 use Rattle.link_base.specs.declared.fault.FileRole.{FileRole}
@@ -23,8 +23,8 @@ use Rattle.file_reader.specs.Takers.{IsTableFor, IsTaken}
 use Rattle.file_reader.specs.RowLaws.{fields_with, length_ids, length_with}
 use Rattle.file_reader.specs.TableLaws.{table_sound}
 use Rattle.link_plan.specs.declared.plan.Plan.{Plan}
-use Rattle.standard_files.specs.Files.{date_fault, dates_fault, delimiter_in, sorts_a, sorts_b, sorts_in, StandardFile, standard_files, StandardPair, standard_pair, table_a, table_b, table_in, wanted_in}
-use Rattle.standard_files.specs.Kept.{date_in_row, dated_file, dated_pair, dated_table, first_unreadable, HasTaken, HasValues, IsMade, place_fault}
+use Rattle.standard_files.specs.Files.{date_in_row, delimiter_in, first_unreadable, sorts_a, sorts_b, sorts_in, StandardFile, standard_files, StandardPair, standard_pair, strict_fault, table_a, table_b, table_in, wanted_in}
+use Rattle.standard_files.specs.Kept.{dated_file, dated_pair, dated_table, HasTaken, HasValues, IsMade}
 use Rattle.standard_files.specs.Values.{standard_record, standard_records, standard_values, unreadable_from, unreadable_in, unreadable_in_row}
 use Rattle.standard_files.specs.declared.file_values.DatedFile.{DatedFile}
 use Rattle.standard_files.specs.declared.file_values.DatePlace.{DatePlace}
@@ -187,18 +187,6 @@ whole_read r plan bytes t sorts wanted delimiter tables v ids count et es ew ed 
       table = (λ i. table_of r (sym ew i) (records_in (sym ed i) bytes)) ∙ k.table;
     })
 
--- the first unreadable date of a table is that of its rows
-place_or : (r : FileRole) (plan : Plan) (number : ℕ) (first : Option ℕ) (rest : Option DatePlace) → place_fault r plan (option_or (date_in_row number first) rest) ≡ or_else (date_fault r plan number first) (place_fault r plan rest)
-place_or r plan number None rest = refl
-place_or r plan number (Some at) rest = refl
-
-dates_are : (r : FileRole) (plan : Plan) (sorts : List TextSort) (number : ℕ) (table : List TableRow)
-    → place_fault r plan (first_unreadable plan.tables sorts number (map (λ (row : TableRow). row.fields) table)) ≡ dates_fault r plan sorts number table
-dates_are r plan sorts number [] = refl
-dates_are r plan sorts number (row ∷ table) =
-    place_or r plan number (unreadable_from plan.tables 0 sorts row.fields) (first_unreadable plan.tables sorts (number + 1) (map (λ (row : TableRow). row.fields) table))
-    ∙ ap (or_else (date_fault r plan number (unreadable_from plan.tables 0 sorts row.fields))) (dates_are r plan sorts (number + 1) table)
-
 -- both files
 abbrev pair_with : StandardFile → StandardFile → Result StandardPair Fault
 pair_with x y = Ok (record { a = x; b = y })
@@ -212,9 +200,7 @@ pair_is : (plan : Plan) (of_a of_b : List TableRow) → dated_pair plan (dated_t
 pair_is plan of_a of_b =
     let a = dated_table plan (sorts_a plan) of_a in
     let b = dated_table plan (sorts_b plan) of_b in
-    let fault_a = ap (λ (o : Option Fault). cond plan.strict o None) (dates_are role.A plan (sorts_a plan) 1 of_a) in
-    let fault_b = ap (λ (o : Option Fault). cond plan.strict o None) (dates_are role.B plan (sorts_b plan) 1 of_b) in
-    both _ _ a.file b.file ∙ (λ i. and_then (unless_fault (fault_a i) (Ok a.file)) (λ x. and_then (unless_fault (fault_b i) (Ok b.file)) (pair_with x)))
+    both (strict_fault role.A plan a.first) (strict_fault role.B plan b.first) a.file b.file
 
 pub files_are : (plan : Plan) (bytes_a bytes_b : List ℕ) → and_then (dated_file role.A plan bytes_a) (λ a. and_then (dated_file role.B plan bytes_b) (λ b. dated_pair plan a b)) ≡ standard_files plan bytes_a bytes_b
 files_are plan bytes_a bytes_b = by_tables (table_a plan bytes_a) (table_b plan bytes_b)

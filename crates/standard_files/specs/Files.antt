@@ -1,8 +1,8 @@
 -- The standard files of a plan: the tables of A and of B with each text as its standard value (`read_files`, clause
 -- `answer`; what their records keep: `of_a` and `of_b`).
 use Rattle.std.specs.Prelude.{◌+◌, ◌≤◌, ℕ, List, [], ◌∷◌, length, map, All, Option, Some, None, Result, Ok, if◌then◌else◌, slice_index_or}
+use Rattle.std.specs.Option.{option_or}
 use Rattle.link_base.specs.Answers.{and_then}
-use Rattle.link_base.specs.Fault.{or_else}
 use Rattle.link_limits.specs.declared.TheConstants.{MOST_ROWS}
 use Rattle.link_base.specs.Standard.{HaveDistinctIds, Record}
 use Rattle.link_base.specs.declared.fault.Fault.{Fault}
@@ -10,6 +10,7 @@ use Rattle.link_base.specs.declared.fault.Fault.TheVariants as fault
 use Rattle.link_base.specs.declared.fault.FileRole.{FileRole}
 use Rattle.link_base.specs.declared.fault.FileRole.TheVariants as role
 use Rattle.link_base.specs.declared.plan.FieldSort.{FieldSort}
+use Rattle.link_base.specs.declared.tables.Tables.{Tables}
 use Rattle.file_reader.specs.Left.{records_in}
 use Rattle.file_reader.specs.Layout.{Wanted}
 use Rattle.file_reader.specs.Rows.{TableRow}
@@ -17,6 +18,7 @@ use Rattle.file_reader.specs.Table.{table_of, unless_fault}
 use Rattle.link_plan.specs.Plan.{FieldKeys}
 use Rattle.link_plan.specs.declared.plan.Plan.{Plan}
 use Rattle.standard_files.specs.Values.{AreOfSorts, sort_in, standard_records, unreadable_from, unreadable_in}
+use Rattle.standard_files.specs.declared.file_values.DatePlace.{DatePlace}
 use Rattle.standard_files.specs.declared.sorts.TextSort.{TextSort}
 
 -- what a plan says of B, and else of A: the column of a field, the column of the ids, and the delimiter
@@ -70,16 +72,23 @@ sorts_of plan = map (λ (f : FieldKeys). f.sort) plan.fields
 abbrev pub field_name : Plan → ℕ → List ℕ
 field_name plan at = slice_index_or (map (λ (f : FieldKeys). f.name) plan.fields) at []
 
--- the fault of the first unreadable date of a row, by the row's number
-abbrev pub date_fault : FileRole → Plan → ℕ → Option ℕ → Option Fault
-date_fault r plan number None = None
-date_fault r plan number (Some at) = Some (fault.BadValue r number (field_name plan at))
+-- a date of a row by its field
+abbrev pub date_in_row : ℕ → Option ℕ → Option DatePlace
+date_in_row number None = None
+date_in_row number (Some field) = Some (record { row = number; field = field })
 
--- the fault of the first unreadable date of rows whose first has the number
-abbrev pub dates_fault : FileRole → Plan → List TextSort → ℕ → List TableRow → Option Fault
-dates_fault r plan sorts number [] = None
-dates_fault r plan sorts number (row ∷ rows) =
-    or_else (date_fault r plan number (unreadable_from plan.tables 0 sorts row.fields)) (dates_fault r plan sorts (number + 1) rows)
+-- the first unreadable date of rows, of which the first has the number
+abbrev pub first_unreadable : Tables → List TextSort → ℕ → List (List (List ℕ)) → Option DatePlace
+first_unreadable t sorts number [] = None
+first_unreadable t sorts number (row ∷ rows) = option_or (date_in_row number (unreadable_from t 0 sorts row)) (first_unreadable t sorts (number + 1) rows)
+
+-- the fault of an unreadable date, which a strict plan refuses
+abbrev pub date_fault : FileRole → Plan → Option DatePlace → Option Fault
+date_fault r plan None = None
+date_fault r plan (Some d) = Some (fault.BadValue r d.row (field_name plan d.field))
+
+abbrev pub strict_fault : FileRole → Plan → Option DatePlace → Option Fault
+strict_fault r plan first = if plan.strict then date_fault r plan first else None
 
 -- a file in standard values
 pub record StandardFile : Type 0 where
@@ -89,7 +98,7 @@ pub record StandardFile : Type 0 where
 -- the table of a file in standard values; a strict plan refuses the first unreadable date
 abbrev pub standard_file : FileRole → Plan → List TextSort → List TableRow → Result StandardFile Fault
 standard_file r plan sorts table =
-    unless_fault (if plan.strict then dates_fault r plan sorts 1 table else None)
+    unless_fault (strict_fault r plan (first_unreadable plan.tables sorts 1 (map (λ (row : TableRow). row.fields) table)))
     (Ok (record { records = standard_records plan.tables sorts table; unreadable = unreadable_in plan.tables sorts table }))
 
 -- both files

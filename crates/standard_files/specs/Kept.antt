@@ -1,7 +1,6 @@
 -- Machinery of `read_files`: the standard values of the rows of a file as they are read, and its first unreadable date, which
 -- is told after both files were read. No public clause names it.
-use Rattle.std.specs.Prelude.{◌≡◌, ◌<◌, ◌≤◌, ◌*◌, ◌+◌, ℕ, Bool, List, [], ◌∷◌, All, length, map, sum_by, Option, Some, None, Result, Ok, IfSome, if◌then◌else◌}
-use Rattle.std.specs.Option.{option_or}
+use Rattle.std.specs.Prelude.{◌≡◌, ◌<◌, ◌≤◌, ◌*◌, ℕ, Bool, List, [], All, length, map, sum_by, Option, Result, Ok, IfSome}
 use Rattle.link_base.specs.Answers.{and_then}
 use Rattle.link_base.specs.RowsWriter.{with_value, WrittenRows}
 use Rattle.link_base.specs.Standard.{IsValid}
@@ -14,7 +13,7 @@ use Rattle.link_limits.specs.declared.TheConstants.{MOST_FIELDS}
 use Rattle.file_reader.specs.Rows.{TableRow}
 use Rattle.file_reader.specs.Table.{unless_fault}
 use Rattle.link_plan.specs.declared.plan.Plan.{Plan}
-use Rattle.standard_files.specs.Files.{date_fault, sorts_in, StandardPair, table_in}
+use Rattle.standard_files.specs.Files.{first_unreadable, sorts_in, StandardPair, strict_fault, table_in}
 use Rattle.standard_files.specs.Values.{is_unreadable, standard_records, standard_value, standard_values, unreadable_from, unreadable_in, unreadable_in_row}
 use Rattle.standard_files.specs.declared.file_values.DatedFile.{DatedFile}
 use Rattle.standard_files.specs.declared.file_values.DatePlace.{DatePlace}
@@ -36,16 +35,6 @@ pub record IsMade (t : Tables) (sorts : List TextSort) (texts : List (List ℕ))
   pub many : length row ≡ length sorts
   pub within : IfSome date (λ place. place < length sorts)
   pub valid : All IsValid row
-
--- a date of a row by its field
-abbrev pub date_in_row : ℕ → Option ℕ → Option DatePlace
-date_in_row number None = None
-date_in_row number (Some field) = Some (record { row = number; field = field })
-
--- the first unreadable date of rows, of which the first has the number
-abbrev pub first_unreadable : Tables → List TextSort → ℕ → List (List (List ℕ)) → Option DatePlace
-first_unreadable t sorts number [] = None
-first_unreadable t sorts number (row ∷ rows) = option_or (date_in_row number (unreadable_from t 0 sorts row)) (first_unreadable t sorts (number + 1) rows)
 
 -- the values of these rows, as many, with their unreadable dates
 pub record HasValues (t : Tables) (sorts : List TextSort) (v : FileValues) (rows : List (List (List ℕ))) : Type 0 where
@@ -76,14 +65,6 @@ dated_table plan sorts table =
 
 abbrev pub dated_file : FileRole → Plan → List ℕ → Result DatedFile Fault
 dated_file r plan bytes = and_then (table_in r plan bytes) (λ table. Ok (dated_table plan (sorts_in r plan) table))
-
--- the fault of an unreadable date in a strict plan
-abbrev pub place_fault : FileRole → Plan → Option DatePlace → Option Fault
-place_fault r plan None = None
-place_fault r plan (Some d) = date_fault r plan d.row (Some d.field)
-
-abbrev pub strict_fault : FileRole → Plan → Option DatePlace → Option Fault
-strict_fault r plan first = if plan.strict then place_fault r plan first else None
 
 -- both files, unless a strict plan refuses a date, of A before one of B
 abbrev pub dated_pair : Plan → DatedFile → DatedFile → Result StandardPair Fault

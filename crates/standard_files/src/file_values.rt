@@ -5,7 +5,8 @@ ghost use Rattle.link_base.specs.declared.tables.Tables.{Tables as PlanTables};
 ghost use Rattle.link_limits.specs.declared.TheConstants.{MOST_FIELDS, MOST_ROWS};
 ghost use Rattle.file_reader.specs.Table.{IsFieldText};
 ghost use Rattle.file_reader.specs.Takers.{HasRoom};
-ghost use Rattle.standard_files.specs.Kept.{date_in_row, HasValues};
+ghost use Rattle.standard_files.specs.Files.{date_in_row};
+ghost use Rattle.standard_files.specs.Kept.{HasValues};
 
 use crate::files::StandardFile;
 use crate::row::StandardRow;

@@ -3,8 +3,8 @@ ghost use Rattle.std.specs.Prelude.{◌≡◌, ◌<◌, length, IfOk, IfSome};
 ghost use Rattle.link_base.specs.Fault.{IsAnswer, or_else};
 ghost use Rattle.link_base.specs.declared.fault.FileRole.TheVariants as role;
 ghost use Rattle.file_reader.specs.Table.{Tests};
-ghost use Rattle.standard_files.specs.Files.{AreOfPlan, standard_files};
-ghost use Rattle.standard_files.specs.Kept.{dated_pair, strict_fault};
+ghost use Rattle.standard_files.specs.Files.{AreOfPlan, standard_files, strict_fault};
+ghost use Rattle.standard_files.specs.Kept.{dated_pair};
 ghost use Rattle.standard_files.specs.declared.file_values.DatePlace.{DatePlace};
 
 use crate::file_values::{DatePlace, DatedFile};
