@@ -221,8 +221,8 @@ pair_is : (plan : Plan) (of_a of_b : List TableRow) → dated_pair plan (dated_t
 pair_is plan of_a of_b =
     let a = dated_table plan (sorts_a plan) of_a in
     let b = dated_table plan (sorts_b plan) of_b in
-    let fault_a = ap (λ (o : Option Fault). cond plan.strict o None) (dates_are role.A plan (sorts_a plan) 1 of_a) in
-    let fault_b = ap (λ (o : Option Fault). cond plan.strict o None) (dates_are role.B plan (sorts_b plan) 1 of_b) in
+    let fault_a = ap (λ (o : Option Fault). cond plan.terms.strict o None) (dates_are role.A plan (sorts_a plan) 1 of_a) in
+    let fault_b = ap (λ (o : Option Fault). cond plan.terms.strict o None) (dates_are role.B plan (sorts_b plan) 1 of_b) in
     both _ _ a.file b.file ∙ (λ i. and_then (unless_fault (fault_a i) (Ok a.file)) (λ x. and_then (unless_fault (fault_b i) (Ok b.file)) (pair_with x)))
 
 pub files_are : (plan : Plan) (bytes_a bytes_b : List ℕ) → and_then (dated_file role.A plan bytes_a) (λ a. and_then (dated_file role.B plan bytes_b) (λ b. dated_pair plan a b)) ≡ standard_files plan bytes_a bytes_b

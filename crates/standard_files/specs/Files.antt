@@ -89,7 +89,7 @@ pub record StandardFile : Type 0 where
 -- the table of a file in standard values; a strict plan refuses the first unreadable date
 abbrev pub standard_file : FileRole → Plan → List TextSort → List TableRow → Result StandardFile Fault
 standard_file r plan sorts table =
-    unless_fault (if plan.strict then dates_fault r plan sorts 1 table else None)
+    unless_fault (if plan.terms.strict then dates_fault r plan sorts 1 table else None)
     (Ok (record { records = standard_records plan.tables sorts table; unreadable = unreadable_in plan.tables sorts table }))
 
 -- both files

@@ -66,7 +66,7 @@ place_fault r plan None = None
 place_fault r plan (Some d) = date_fault r plan d.row (Some d.field)
 
 abbrev pub strict_fault : FileRole → Plan → Option DatePlace → Option Fault
-strict_fault r plan first = if plan.strict then place_fault r plan first else None
+strict_fault r plan first = if plan.terms.strict then place_fault r plan first else None
 
 -- both files, unless a strict plan refuses a date, of A before one of B
 abbrev pub dated_pair : Plan → DatedFile → DatedFile → Result StandardPair Fault
