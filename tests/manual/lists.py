@@ -18,7 +18,12 @@ SPEC_PIECES = [
     (r'codes "([^"]*)"', r"\1"),
     (r"(\w+)", None),
 ]
-HEADS = {"top_keys": "Keys of the file", "field_keys": "Keys of a field", "pass_keys": "Keys of a pass", "part_keys": "Keys of a part"}
+HEADS = {
+    "Keys of the file": ("top_keys", "term_keys"),
+    "Keys of a field": ("field_keys",),
+    "Keys of a pass": ("pass_keys",),
+    "Keys of a part": ("part_keys",),
+}
 WORDS = ["delimiters", "kind_named", "form_named", "comparisons", "key_words"]
 # Limits that no user meets.
 INNER_LIMITS = ["MOST_POOL_LIMIT", "MOST_PATTERNS"]
@@ -32,7 +37,20 @@ def codes_of(name: str, text: str) -> list[str]:
 
 def settings_specs() -> str:
     """The definitions of the settings' keys and words."""
-    return "\n".join(read(f"crates/settings/specs/{name}.antt") for name in ("Settings", "Field", "Pass", "Words"))
+    paths = [*(f"settings/specs/{name}" for name in ("Settings", "Field", "Pass", "Words")), "link_plan/specs/Terms"]
+    return "\n".join(read(f"crates/{path}.antt") for path in paths)
+
+
+def keys_under(head: str) -> list[str]:
+    """The keys that stand under a heading of SETTINGS, by the definitions."""
+    return [key for name in HEADS[head] for key in codes_of(name, settings_specs())]
+
+
+def keys_of_second() -> list[str]:
+    """The keys of the file that the second implementation reads."""
+    rules = re.search(r"^TOP = \{\n(.*?)^\}", read("tests/second_implementation/method/settings.py"), flags=re.S | re.M).group(1)
+    lines = [re.match(r'(\s*\*\*\{key: .* for key in \((.*)\)\}|\s*("\w+"):)', line) for line in rules.splitlines()]
+    return [key for line in lines if line for key in re.findall(r'"(\w+)"', line.group(2) or line.group(3))]
 
 
 def commands_of() -> set[str]:
@@ -83,7 +101,7 @@ def first_codes(path: str, heading: str) -> list[str]:
 def key_examples() -> list[str]:
     """The examples of SETTINGS that are no line of TOML which gives their own key a value."""
     wrong = []
-    for row in [it for head in HEADS.values() for it in table_rows("docs/SETTINGS.md", head)]:
+    for row in [it for head in HEADS for it in table_rows("docs/SETTINGS.md", head)]:
         key, example = re.findall(r"`([^`]*)`", row[0]), re.findall(r"^`(.*)`$", row[-1])
         try:
             if key and example and list(tomllib.loads(example[0])) != key:
@@ -128,24 +146,35 @@ def comparisons(words: str) -> dict[str, tuple[list, list]]:
     }
 
 
+def limits() -> dict[str, int]:
+    """The limits of the code, by their names."""
+    code = "".join(read(f"crates/{path}.rt") for path in ("link_limits/src/lib", "link_plan/src/limits", "link_plan/src/terms"))
+    return {name: int(number) for name, number in re.findall(r"const (MOST_\w+|LEAST_\w+): \w+ = ([\d_]+);", code)}
+
+
 def unwritten_limits() -> list[str]:
     """The limits whose numbers stand in no page."""
     page, lost = "".join(read(f"docs/{it}.md") for it in ("FILES", "SETTINGS", "FAULTS")), []
-    for path in ("crates/link_limits/src/lib.rt", "crates/link_plan/src/limits.rt"):
-        for name, number in re.findall(r"const (MOST_\w+|LEAST_\w+): \w+ = ([\d_]+);", read(path)):
-            value = int(number)
-            forms = {str(value), f"{value:,}"} | ({f"{value // 2**20} MiB"} if value % 2**20 == 0 else set())
-            forms |= {"2^63 - 1"} if value == 2**63 - 1 else set()
-            stands = any(re.search(rf"(?<![\d,]){re.escape(form)}(?![\d,]\d)", page) for form in forms)
-            if name not in INNER_LIMITS and not stands:
-                lost.append(f"{name} = {number}")
+    for name, value in limits().items():
+        forms = {str(value), f"{value:,}"} | ({f"{value // 2**20} MiB"} if value % 2**20 == 0 else set())
+        forms |= {"2^63 - 1"} if value == 2**63 - 1 else set()
+        stands = any(re.search(rf"(?<![\d,]){re.escape(form)}(?![\d,]\d)", page) for form in forms)
+        if name not in INNER_LIMITS and not stands:
+            lost.append(f"{name} = {value}")
     return lost
+
+
+def unproved_limits() -> list[str]:
+    """The limits that the law of limits does not give as numbers."""
+    law = read("crates/link_shell/specs/Limits.antt")
+    return [f"{name} ≡ {value}" for name, value in limits().items() if name != "MOST_POOL_LIMIT" and f"({name} ≡ {value})" not in law]
 
 
 def lists() -> dict[str, tuple[list, list]]:
     """Each list by its name: what is shown, and what is wanted, both in order."""
     words = settings_specs()
-    found = {f"docs/SETTINGS.md: {head}": (first_codes("docs/SETTINGS.md", head), codes_of(name, words)) for name, head in HEADS.items()}
+    found = {f"docs/SETTINGS.md: {head}": (first_codes("docs/SETTINGS.md", head), keys_under(head)) for head in HEADS}
+    found["tests/second_implementation: Keys of the file"] = keys_of_second(), keys_under("Keys of the file")
     shown = [(row[1], code) for row in table_rows("docs/FAULTS.md", "The lines") for code in re.findall(r"^`([^`]*)`", row[0])]
     found["docs/FAULTS.md: The lines"] = shown, list(faults_of_specs().values())
     roles = re.findall(r'^role_name role\.\w+ = codes "(\w+)"', read("crates/link_base/specs/Fault.antt"), flags=re.M)
@@ -159,6 +188,7 @@ def lists() -> dict[str, tuple[list, list]]:
     found["docs/SETTINGS.md: words that are not explained"] = unexplained_words(), []
     found |= comparisons(words)
     found["docs: limits that stand in no page"] = unwritten_limits(), []
+    found["link_shell/specs/Limits.antt: limits that it lacks"] = unproved_limits(), []
     found["docs/DEFINITIONS.md: files of definitions"] = sources.definitions()
     found["docs/ARCHITECTURE.md: crates"] = sources.crates()
     found["CONTRIBUTING.md, ARCHITECTURE, DECISIONS, SPEED: files and names that are gone"] = names.lost(), []

@@ -29,7 +29,7 @@ module _ (plan : Plan) (p : PreparedView) (d : DecidedView) (entries : List Entr
   Wanted = candidates_in plan p.files (rule_in p d) entries
 
   abbrev Over : List (List IdValue) → List (List IdValue) → List Candidate → Type 0
-  Over ra rb cs = (pairs : List PairAt) → AreDecisionsOn ra rb pairs d → AreCandidates (length ra) (length rb) (candidates_of (side_rule d.rule ra rb) entries plan.award pairs) cs
+  Over ra rb cs = (pairs : List PairAt) → AreDecisionsOn ra rb pairs d → AreCandidates (length ra) (length rb) (candidates_of (side_rule d.rule ra rb) entries plan.terms.award pairs) cs
 
   pub candidates_found : (ra rb : List (List IdValue)) (cs : List Candidate) → ra ≡ p.values.a.rows → rb ≡ p.values.b.rows → IsDecidedIn p d → IsDecidedFor plan p d → Over ra rb cs
       → AreCandidates (length p.files.a.records) (length p.files.b.records) Wanted cs

@@ -39,7 +39,7 @@ rares_seen (s ∷ all) = ap (λ rares. s.rare ∷ rares) (rares_seen all)
 
 -- a text of these cells is the text of the plan's rule
 pub rule_text_is : {E : Type 0} (result : Result (List ℕ) E) (plan : Plan) (shares : List PlainShares) (by_shares : List FieldShares) (cells : List RuleCell) (rares : List Bool)
-    → plain_all by_shares ≡ shares → IsFilled by_shares plan.mu_ppm plan.lambda_ppm cells → IsLeast by_shares cells → rares ≡ rares_of plan.fields
+    → plain_all by_shares ≡ shares → IsFilled by_shares plan.terms.mu_ppm plan.terms.lambda_ppm cells → IsLeast by_shares cells → rares ≡ rares_of plan.fields
     → IfOk result (λ text. text ≡ text_of_rule rares cells) → IfOk result (IsRuleText plan shares)
 rule_text_is (Ok text) plan shares by_shares cells rares same filled least flags told =
     record { cells = cells; rule = record { by_shares = by_shares; same = same; filled = filled }; least = least; lines = told ∙ ap (λ rs. text_of_rule rs cells) flags }
@@ -52,9 +52,9 @@ written_whole xs ys n e = rw e (take-append_seam xs ys)
 -- a text of these rows is the text of the plan's frontier
 pub frontier_text_is : {E : Type 0} (result : Result (List ℕ) E) (plan : Plan) (shares : List PlainShares) (by_shares : List FieldShares) (mus : List ℕ) (rows written : List FrontierRow)
     → plain_all by_shares ≡ shares → length rows ≡ length mus → written ≡ rows
-    → ((k : ℕ) (d : FrontierRow) → k < length mus → IsFrontierRow by_shares (slice_index mus k) plan.lambda_ppm (get_or rows k d))
+    → ((k : ℕ) (d : FrontierRow) → k < length mus → IsFrontierRow by_shares (slice_index mus k) plan.terms.lambda_ppm (get_or rows k d))
     → ((j k : ℕ) (d : FrontierRow) → j < length mus → k < length mus → slice_index mus j ≤ slice_index mus k → FallsTo (get_or rows j d) (get_or rows k d))
-    → ((k : ℕ) (d : FrontierRow) → k < length mus → IsNearLeast by_shares (slice_index mus k) plan.lambda_ppm (get_or rows k d))
+    → ((k : ℕ) (d : FrontierRow) → k < length mus → IsNearLeast by_shares (slice_index mus k) plan.terms.lambda_ppm (get_or rows k d))
     → IfOk result (λ text. text ≡ text_of_frontier mus written) → IfOk result (IsFrontierText plan shares mus)
 frontier_text_is (Ok text) plan shares by_shares mus rows written same many is each falling near told =
     record { by_shares = by_shares; same = same; rows = rows; as_many = many; each = each; falling = falling; near_least = near; lines = told ∙ ap (λ rs. text_of_frontier mus rs) is }

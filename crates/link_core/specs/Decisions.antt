@@ -20,7 +20,7 @@ use Rattle.link_core.specs.Prepared.{PreparedView}
 
 -- the rule of a plan for these shares, over its two files
 abbrev pub rule_over : Plan → StandardPair → List PlainShares → FileRule
-rule_over plan files shares = rule_of_plan plan files.a.records files.b.records (the_rule plan.mu_ppm plan.lambda_ppm shares)
+rule_over plan files shares = rule_of_plan plan files.a.records files.b.records (the_rule plan.terms.mu_ppm plan.terms.lambda_ppm shares)
 
 -- decisions: the rule, how many pairs were compared, the links and the possible links
 pub record Decisions : Type 0 where

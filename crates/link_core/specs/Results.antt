@@ -48,7 +48,7 @@ pair_rows_in plan files rule entries = pair_rows_of rule entries (compared_in pl
 
 -- the candidates for links: links by the rule, and possible links that review says are links, which have the award of the plan
 abbrev pub candidates_in : Plan → StandardPair → FileRule → List Entry → List Candidate
-candidates_in plan files rule entries = candidates_of rule entries plan.award (compared_in plan files)
+candidates_in plan files rule entries = candidates_of rule entries plan.terms.award (compared_in plan files)
 
 -- machinery: decisions are those of a plan's rule on the compared pairs of its files: they are not too many, and each pattern has a cell
 pub record IsDecidedFor (plan : Plan) (p : PreparedView) (d : DecidedView) : Type 0 where

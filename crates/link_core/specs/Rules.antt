@@ -53,8 +53,8 @@ pub record IsFrontierText (plan : Plan) (shares : List PlainShares) (mus : List 
   pub same : plain_all by_shares ≡ shares
   pub rows : List FrontierRow
   pub as_many : length rows ≡ length mus
-  pub each : (k : ℕ) (d : FrontierRow) → k < length mus → IsFrontierRow by_shares (slice_index mus k) plan.lambda_ppm (slice_index_or rows k d)
+  pub each : (k : ℕ) (d : FrontierRow) → k < length mus → IsFrontierRow by_shares (slice_index mus k) plan.terms.lambda_ppm (slice_index_or rows k d)
   pub falling : (j k : ℕ) (d : FrontierRow) → j < length mus → k < length mus → slice_index mus j ≤ slice_index mus k
       → FallsTo (slice_index_or rows j d) (slice_index_or rows k d)
-  pub near_least : (k : ℕ) (d : FrontierRow) → k < length mus → IsNearLeast by_shares (slice_index mus k) plan.lambda_ppm (slice_index_or rows k d)
+  pub near_least : (k : ℕ) (d : FrontierRow) → k < length mus → IsNearLeast by_shares (slice_index mus k) plan.terms.lambda_ppm (slice_index_or rows k d)
   pub lines : text ≡ text_of_frontier mus rows

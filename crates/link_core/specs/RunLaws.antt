@@ -87,26 +87,26 @@ small_cells plan shares cells few fields rule =
     record {
       fields = omega (arith, length-map plan.fields (λ (f : FieldKeys). is_some f.rare), fields);
       few = omega (arith, length_filled by cells rule.filled.patterns, pattern_count_small by by_few);
-      each = cells_small by by_few plan.mu_ppm plan.lambda_ppm cells rule.filled;
+      each = cells_small by by_few plan.terms.mu_ppm plan.terms.lambda_ppm cells rule.filled;
     }
 
 -- candidates stand in the files, and are worth no more than they may
 module _ (plan : Plan) (files : StandardPair) (rule : FileRule) (entries : List Entry) where
-  pub candidates_are : AreReadFiles files → plan.award ≤ 1000 → All (HasBounds plan.award) (candidates_in plan files rule entries) → AreCandidatesOf files.a.records files.b.records (candidates_in plan files rule entries)
+  pub candidates_are : AreReadFiles files → plan.terms.award ≤ 1000 → All (HasBounds plan.terms.award) (candidates_in plan files rule entries) → AreCandidatesOf files.a.records files.b.records (candidates_in plan files rule entries)
   candidates_are read award bounds =
-      let stands = candidate_stands rule entries plan.award in
+      let stands = candidate_stands rule entries plan.terms.award in
       record {
         distinct_a = read.of_a.distinct;
         distinct_b = read.of_b.distinct;
-        rising = given_rise (candidate_of rule entries plan.award) stands (compared_in plan files) (compared_rise files.a.records files.b.records plan.passes);
-        within = given_within (candidate_of rule entries plan.award) stands (length files.a.records) (length files.b.records) (compared_in plan files)
+        rising = given_rise (candidate_of rule entries plan.terms.award) stands (compared_in plan files) (compared_rise files.a.records files.b.records plan.passes);
+        within = given_within (candidate_of rule entries plan.terms.award) stands (length files.a.records) (length files.b.records) (compared_in plan files)
             (compared_inside files.a.records files.b.records plan.passes);
-        allowed = All-weaker (HasBounds plan.award) HasAllowedValue (λ c b. (omega (arith, ints, b.value_low), omega (arith, ints, b.value_high, award))) (candidates_in plan files rule entries) bounds;
+        allowed = All-weaker (HasBounds plan.terms.award) HasAllowedValue (λ c b. (omega (arith, ints, b.value_low), omega (arith, ints, b.value_high, award))) (candidates_in plan files rule entries) bounds;
       }
 
-  pub weights_are : All (HasBounds plan.award) (candidates_in plan files rule entries) → All HasAllowedWeight (candidates_in plan files rule entries)
+  pub weights_are : All (HasBounds plan.terms.award) (candidates_in plan files rule entries) → All HasAllowedWeight (candidates_in plan files rule entries)
   weights_are bounds =
-      All-weaker (HasBounds plan.award) HasAllowedWeight (λ c b. (omega (arith, ints, b.weight_low), omega (arith, ints, b.weight_high))) (candidates_in plan files rule entries) bounds
+      All-weaker (HasBounds plan.terms.award) HasAllowedWeight (λ c b. (omega (arith, ints, b.weight_low), omega (arith, ints, b.weight_high))) (candidates_in plan files rule entries) bounds
 
 -- a plan has no more shares than fields
 given_or : {Y : Type 0} (o : Option Y) (ys : List Y) (n : ℕ) → length ys ≤ n → length (cons_option o ys) ≤ n + 1

@@ -56,7 +56,7 @@ pub fn candidates(
         alloc,
         decided,
         journal,
-        plan.award,
+        plan.terms.award,
         prepared.sides(FileRole::A),
         prepared.sides(FileRole::B),
     )

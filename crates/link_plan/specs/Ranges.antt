@@ -16,10 +16,11 @@ use Rattle.link_base.specs.declared.plan.CompareKind.TheVariants as by
 use Rattle.link_base.specs.declared.plan.Part.{Part}
 use Rattle.link_base.specs.declared.tables.Tables.{Tables}
 use Rattle.link_base.specs.declared.tables.WordPair.{WordPair}
-use Rattle.link_limits.specs.declared.TheConstants.{MOST_FIELDS, MOST_NAME_BYTES, PER_MILLION}
+use Rattle.link_limits.specs.declared.TheConstants.{MOST_FIELDS, MOST_NAME_BYTES}
 use Rattle.link_plan.specs.Plan.{FieldKeys, PlainShares}
 use Rattle.link_plan.specs.Names.{is_name_byte, is_output}
-use Rattle.link_plan.specs.declared.limits.TheConstants.{LEAST_RARE, MOST_AWARD, MOST_DAYS, MOST_FIELD_NAME_BYTES, MOST_LABEL_BYTES, MOST_LETTERS, MOST_LISTED_WORDS, MOST_MARK_BYTES, MOST_MARKS, MOST_PARTS, MOST_PASSES, MOST_RARE, MOST_SEED, MOST_WORD_PAIRS, MOST_YEARS}
+use Rattle.link_plan.specs.Terms.{KeepsTerms}
+use Rattle.link_plan.specs.declared.limits.TheConstants.{LEAST_RARE, MOST_DAYS, MOST_FIELD_NAME_BYTES, MOST_LABEL_BYTES, MOST_LETTERS, MOST_LISTED_WORDS, MOST_MARK_BYTES, MOST_MARKS, MOST_PARTS, MOST_PASSES, MOST_RARE, MOST_WORD_PAIRS, MOST_YEARS}
 use Rattle.link_plan.specs.declared.plan.Plan.{Plan}
 
 -- the name of a file that is read: of none that a run writes
@@ -167,10 +168,7 @@ pub record KeepsRanges (plan : Plan) : Type 0 where
   pub id_b : IsLabel plan.id_b
   pub delimiter_a : is_delimiter plan.delimiter_a ≡ true
   pub delimiter_b : is_delimiter plan.delimiter_b ≡ true
-  pub mu : plan.mu_ppm ≤ PER_MILLION
-  pub lambda : plan.lambda_ppm ≤ PER_MILLION
-  pub seed : plan.seed ≤ MOST_SEED
-  pub award : plan.award ≤ MOST_AWARD
+  pub terms : KeepsTerms plan.terms
   pub tables : AreTables plan.tables
   pub some_fields : 1 ≤ length plan.fields
   pub few_fields : length plan.fields ≤ MOST_FIELDS

@@ -38,9 +38,3 @@ pub const LEAST_RARE: u32 = 2;
 
 /// The greatest rare number: the records of both files.
 pub const MOST_RARE: u32 = 200_000;
-
-/// The greatest award for a pair that is a link by review.
-pub const MOST_AWARD: u32 = 1000;
-
-/// The greatest seed, which is the greatest whole number of TOML.
-pub const MOST_SEED: u64 = 9_223_372_036_854_775_807;

@@ -1,6 +1,7 @@
 // What the settings say.
 ghost use Rattle.std.specs.Prelude.{◌≡◌, ◌≤◌, IfOk, length, is_some, bytes_eq};
 
+use crate::terms::Terms;
 use crate::within::plan_within;
 use link_base::{CompareKind, FieldShares, FieldSort, NoMemory, PassList, Shape, Tables, Text};
 use link_limits::MOST_FIELDS;
@@ -82,7 +83,7 @@ impl FieldList {
     }
 }
 
-/// What the settings say of a run. Levels are in millionths.
+/// What the settings say of a run.
 #[derive(Drop)]
 pub struct Plan {
     pub file_a: Text,
@@ -93,12 +94,7 @@ pub struct Plan {
     pub delimiter_b: u8,
     pub sample: Option<Text>,
     pub journal: Option<Text>,
-    pub mu_ppm: u32,
-    pub lambda_ppm: u32,
-    pub seed: u64,
-    pub award: u32,
-    pub strict: bool,
-    pub double: bool,
+    pub terms: Terms,
     pub tables: Tables,
     pub fields: FieldList,
     pub passes: PassList,

@@ -36,11 +36,11 @@ use Rattle.link_shell.proofs.HeadlineFacts.{came, found_by, rule_is, settings_fo
 
 -- what the law `shares_have_a_rule` says
 abbrev pub GivenHaveRule : Type 0
-GivenHaveRule = (plan : Plan) → HaveValidShares plan.fields → IsRuleOf plan (given_in plan.fields) (the_rule plan.mu_ppm plan.lambda_ppm (given_in plan.fields))
+GivenHaveRule = (plan : Plan) → HaveValidShares plan.fields → IsRuleOf plan (given_in plan.fields) (the_rule plan.terms.mu_ppm plan.terms.lambda_ppm (given_in plan.fields))
 
 abbrev pub CountedHaveRule : Type 0
 CountedHaveRule = (plan : Plan) (a b : List Record) (bytes : List ℕ) (shares : List PlainShares) → counted_in plan.fields (pattern_of_pair plan.fields a b) a b bytes ≡ Ok shares
-    → IsRuleOf plan shares (the_rule plan.mu_ppm plan.lambda_ppm shares)
+    → IsRuleOf plan shares (the_rule plan.terms.mu_ppm plan.terms.lambda_ppm shares)
 
 abbrev HasValidShares : FieldKeys → Type 0
 HasValidShares f = IfSome f.shares (AreShares (is_some f.rare))
@@ -65,16 +65,16 @@ named_same x plan true e = ok_same x plan e
 named_same x plan false e = no_ok (fault.MissingKey (codes "journal")) plan e
 
 -- decisions by the rule of shares that have one
-by_rule : (plan : Plan) (files : StandardPair) (shares : List PlainShares) (d : Decisions) → IsRuleOf plan shares (the_rule plan.mu_ppm plan.lambda_ppm shares) → decided plan files shares ≡ Ok d
+by_rule : (plan : Plan) (files : StandardPair) (shares : List PlainShares) (d : Decisions) → IsRuleOf plan shares (the_rule plan.terms.mu_ppm plan.terms.lambda_ppm shares) → decided plan files shares ≡ Ok d
     → AreByFilledRule plan shares d
 by_rule plan files shares d filled e =
     subst (λ (r : FileRule). IsRuleOf plan shares r.cells) (sym (rule_is (plan_pairs plan files) (rule_over plan files shares) d e)) filled
 
 module _ (given : GivenHaveRule) (counted : CountedHaveRule) where
   shares_rule : (plan : Plan) (files : StandardPair) (sample : Option (List ℕ)) (held : Held) (shares : List PlainShares) → HaveValidShares plan.fields
-      → outcome (shares_over plan files sample) held ≡ Ok shares → IsRuleOf plan shares (the_rule plan.mu_ppm plan.lambda_ppm shares)
+      → outcome (shares_over plan files sample) held ≡ Ok shares → IsRuleOf plan shares (the_rule plan.terms.mu_ppm plan.terms.lambda_ppm shares)
   shares_rule plan files None held shares valid e =
-      subst (λ (s : List PlainShares). IsRuleOf plan s (the_rule plan.mu_ppm plan.lambda_ppm s)) (ok_same _ shares e) (given plan valid)
+      subst (λ (s : List PlainShares). IsRuleOf plan s (the_rule plan.terms.mu_ppm plan.terms.lambda_ppm s)) (ok_same _ shares e) (given plan valid)
   shares_rule plan files (Some name) held shares valid e =
       let sample = came (file role.Sample name) _ held shares e in
       counted plan files.a.records files.b.records sample.0 shares sample.2

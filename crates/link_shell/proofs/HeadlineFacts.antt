@@ -138,7 +138,7 @@ are_greatest plan files rule journal links prices_a prices_b greatest certified 
     record {
       one_to_one = greatest.one_to_one;
       by_rule_or_review = All-weaker (Contains candidates) (IsByRuleOrReview rule journal)
-          (λ c among. All-contains (IsByRuleOrReview rule journal) candidates c (all_by rule journal plan.award (compared_in plan files)) among) links greatest.one_to_one.among;
+          (λ c among. All-contains (IsByRuleOrReview rule journal) candidates c (all_by rule journal plan.terms.award (compared_in plan files)) among) links greatest.one_to_one.among;
       greatest = greatest.most;
       certified = certified;
       priced_a = priced_a;
@@ -183,7 +183,7 @@ module _ (name : List ℕ) (store : StoreSeen) (out err : SinkSeen) (told : stor
         report = made.report;
         of_plan = rule_is (plan_pairs found.plan found.review.files) (rule_over found.plan found.review.files found.review.shares) found.review.decided from.by.of_decisions;
         exactly_the_pairs = record { exactly = refl; once = compared_rise found.review.files.a.records found.review.files.b.records found.plan.passes };
-        a_least_rule = record { filled = put.rule; least = least put.rule.by_shares found.plan.mu_ppm found.plan.lambda_ppm found.review.decided.rule.cells put.rule.filled };
+        a_least_rule = record { filled = put.rule; least = least put.rule.by_shares found.plan.terms.mu_ppm found.plan.terms.lambda_ppm found.review.decided.rule.cells put.rule.filled };
         greatest_links = are_greatest found.plan found.review.files found.review.decided.rule found.review.journal made.links made.prices_a made.prices_b made.greatest made.certified made.priced_a made.priced_b;
         reported = made.reported;
         writes = holds told ∙ (λ i. after_puts (run_puts (record { pairs = made.pairs_text i; rule = made.rule_text i; links = made.links_text i; prices = made.prices_text i; report = made.report_text i })) store.held_before);

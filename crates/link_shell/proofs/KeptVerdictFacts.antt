@@ -196,7 +196,7 @@ review_keeps law w store is_day is_name made =
     let b = files.b.records in
     let read = step_came (List NewVerdict) (List ℕ) (verdicts_of a b given.0) _ put.0 given.2 in
     let batch : List NewVerdict = read.0 in
-    let all = step_came (List Entry) (List ℕ) (added plan.double w.date w.reviewer review.decided.possible review.journal batch) _ put.0 read.2 in
+    let all = step_came (List Entry) (List ℕ) (added plan.terms.double w.date w.reviewer review.decided.possible review.journal batch) _ put.0 read.2 in
     let new : List Entry = all.0 in
     let of = of_settings w.name held plan found.1 in
     let names = settings_files w.name held plan of.of_plan in
@@ -204,7 +204,7 @@ review_keeps law w store is_day is_name made =
     let old = journal_read plan files review.journal held of.journal by.of_journal in
     let text = text_of_journal a b new in
     let line = within_is text put.0 all.2 in
-    let kept = law a b old.bytes review.journal given.0 batch plan.double w.date w.reviewer review.decided.possible new (ids_of_file a ids.of_a) (ids_of_file b ids.of_b) is_day is_name old.read read.1 all.1 in
+    let kept = law a b old.bytes review.journal given.0 batch plan.terms.double w.date w.reviewer review.decided.possible new (ids_of_file a ids.of_a) (ids_of_file b ids.of_b) is_day is_name old.read read.1 all.1 in
     let is = put_is plan text _ store made (ap (put_of_journal plan) line.1 ∙ ok_same _ _ put.2) in
     record {
       plan = plan;

@@ -108,7 +108,7 @@ module _ (rows : VerifiedHaveRows) (duality : CertifiedIsGreatest) (name : List 
           links = links;
           prices_a = h.prices_a;
           prices_b = h.prices_b;
-          a_least_rule = record { filled = filled; least = least filled.by_shares plan.mu_ppm plan.lambda_ppm rule.cells filled.filled };
+          a_least_rule = record { filled = filled; least = least filled.by_shares plan.terms.mu_ppm plan.terms.lambda_ppm rule.cells filled.filled };
           greatest_links = are_greatest plan files rule journal links h.prices_a h.prices_b (duality candidates links h.prices_a h.prices_b h.one_to_one h.certified) h.certified h.priced_a h.priced_b;
           rows = h.rows;
         };
@@ -125,11 +125,11 @@ module _ (rows : VerifiedHaveRows) (duality : CertifiedIsGreatest) (name : List 
 -- ---- rows that prove links are verified
 
 abbrev pub RuleIsFunction : Type 0
-RuleIsFunction = (plan : Plan) (shares : List PlainShares) (cells : List RuleCell) → IsRuleOf plan shares cells → cells ≡ the_rule plan.mu_ppm plan.lambda_ppm shares
+RuleIsFunction = (plan : Plan) (shares : List PlainShares) (cells : List RuleCell) → IsRuleOf plan shares cells → cells ≡ the_rule plan.terms.mu_ppm plan.terms.lambda_ppm shares
 
 abbrev pub CandidatesAreBounded : Type 0
 CandidatesAreBounded =
-    (plan : Plan) (p : StandardPair) (rule : FileRule) (entries : List Entry) → All IsWithinRanges rule.cells → All (HasBounds plan.award) (candidates_in plan p rule entries)
+    (plan : Plan) (p : StandardPair) (rule : FileRule) (entries : List Entry) → All IsWithinRanges rule.cells → All (HasBounds plan.terms.award) (candidates_in plan p rule entries)
 
 pub rows_are_proof : RowsAreVerified → RuleIsFunction → CandidatesAreBounded → RowsAreProof
 rows_are_proof verified one bounded = λ name held h.
@@ -147,8 +147,8 @@ rows_are_proof verified one bounded = λ name held h.
     let few_shares : length shares ≤ MOST_FIELDS = omega (arith, shares_few plan files held shares plan.sample h.input.of_shares, kept.few_fields) in
     let small = small_cells plan shares proof.cells few_shares kept.few_fields of_plan in
     let ranges : All IsWithinRanges rule.cells = All-weaker IsSmallCell IsWithinRanges (λ x s. s.ranges) proof.cells small.each in
-    let bounds : All (HasBounds plan.award) candidates = bounded plan files rule journal ranges in
-    let are = candidates_are plan files rule journal (read_files plan MOST_DISTINCT_BYTES inputs.0.a inputs.0.b files inputs.2) kept.award bounds in
+    let bounds : All (HasBounds plan.terms.award) candidates = bounded plan files rule journal ranges in
+    let are = candidates_are plan files rule journal (read_files plan MOST_DISTINCT_BYTES inputs.0.a inputs.0.b files inputs.2) kept.terms.award bounds in
     let certified : HaveCertifiedRows (rares_of plan.fields) proof.cells candidates files.a.records files.b.records h.texts proof.links = record {
       prices_a = proof.prices_a;
       prices_b = proof.prices_b;

@@ -45,7 +45,7 @@ pub record ReviewKeeps (w : NewReview) (store : StoreSeen) : Type 0 where
   pub of_verdicts : outcome (verdicts_file files w.verdicts) store.held_before ≡ Ok batch
   pub before : LoadsAs plan files old store.held_before
   pub after : LoadsAs plan files new store.held_after
-  pub kept : KeepsAll plan.double w.date w.reviewer old batch new
+  pub kept : KeepsAll plan.terms.double w.date w.reviewer old batch new
   pub again : StillGives w.name plan store.held_after
 
 -- what `migrate` keeps: the journal loads as the entries that it loaded as, so that each pair has the verdict that it had

@@ -2,7 +2,8 @@
 -- constants of the code, which are these numbers.
 use Rattle.std.specs.Prelude.{◌≡◌}
 use Rattle.link_limits.specs.declared.TheConstants.{MOST_CAPACITY, MOST_COLUMNS, MOST_ENTRIES, MOST_FIELD_BYTES, MOST_FIELDS, MOST_FILE_BYTES, MOST_NAME_BYTES, MOST_PAIRS, MOST_PATTERNS, MOST_DISTINCT_BYTES, MOST_ROWS, MOST_VALUE, MOST_WORD_BYTES, MOST_WRITTEN_BYTES, PER_MILLION, WHOLE_FIELD, WHOLE_RULE}
-use Rattle.link_plan.specs.declared.limits.TheConstants.{LEAST_RARE, MOST_AWARD, MOST_DAYS, MOST_FIELD_NAME_BYTES, MOST_LABEL_BYTES, MOST_LETTERS, MOST_LISTED_WORDS, MOST_MARK_BYTES, MOST_MARKS, MOST_PARTS, MOST_PASSES, MOST_RARE, MOST_SEED, MOST_WORD_PAIRS, MOST_YEARS}
+use Rattle.link_plan.specs.declared.limits.TheConstants.{LEAST_RARE, MOST_DAYS, MOST_FIELD_NAME_BYTES, MOST_LABEL_BYTES, MOST_LETTERS, MOST_LISTED_WORDS, MOST_MARK_BYTES, MOST_MARKS, MOST_PARTS, MOST_PASSES, MOST_RARE, MOST_WORD_PAIRS, MOST_YEARS}
+use Rattle.link_plan.specs.declared.terms.TheConstants.{MOST_AWARD, MOST_SEED}
 use Rattle.link_shell.specs.declared.generate.TheConstants.{HEAD_LINES}
 use Rattle.link_shell.specs.declared.words.TheConstants.{MOST_LISTED}
 

@@ -55,7 +55,7 @@ added_verdicts w double review = do
 abbrev pub reviewed_journal : NewReview → Plan → Steps (List ℕ)
 reviewed_journal w plan = do
   reviewed ← reviewed_plan plan
-  added_verdicts w plan.double reviewed
+  added_verdicts w plan.terms.double reviewed
 
 -- the plan, which names a journal, the decisions of its rule on the compared pairs, the journal, the new verdicts, and the text of
 -- both within the limit of a file

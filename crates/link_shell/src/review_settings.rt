@@ -95,7 +95,7 @@ fn load_text<S: Store>(
     ensures { Takes (reviewed_journal (review_of_request request.now) plan.now) (store_seen S.tells S.held S.faults store.old store.new) result }
 {
     let mut reviewed = load_reviewed(alloc, store, plan, false)?;
-    let added = add_loaded(alloc, store, request, plan.double, &mut reviewed);
+    let added = add_loaded(alloc, store, request, plan.terms.double, &mut reviewed);
     drop(reviewed);
     added
 }

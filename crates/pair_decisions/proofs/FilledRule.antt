@@ -131,17 +131,17 @@ the_rule_is_filled xs mu lambda =
     let order = in_order xs (ranked unranked) all (ranked_in_order unranked) in
     rw (room_is xs mu, room_is xs lambda) (given_to_ranked xs mu lambda (ranked unranked) all order)
 
-pub the_rule_of_plan : (plan : Plan) (xs : List FieldShares) → IsRuleOf plan (plain_all xs) (the_rule plan.mu_ppm plan.lambda_ppm (plain_all xs))
+pub the_rule_of_plan : (plan : Plan) (xs : List FieldShares) → IsRuleOf plan (plain_all xs) (the_rule plan.terms.mu_ppm plan.terms.lambda_ppm (plain_all xs))
 the_rule_of_plan plan xs = record {
   by_shares = xs;
   same = refl;
-  filled = the_rule_is_filled xs plan.mu_ppm plan.lambda_ppm;
+  filled = the_rule_is_filled xs plan.terms.mu_ppm plan.terms.lambda_ppm;
 }
 
-pub is_the_rule : (plan : Plan) (shares : List PlainShares) (cells : List RuleCell) → IsRuleOf plan shares cells → cells ≡ the_rule plan.mu_ppm plan.lambda_ppm shares
+pub is_the_rule : (plan : Plan) (shares : List PlainShares) (cells : List RuleCell) → IsRuleOf plan shares cells → cells ≡ the_rule plan.terms.mu_ppm plan.terms.lambda_ppm shares
 is_the_rule plan shares cells rule =
-    one_filled rule.by_shares plan.mu_ppm plan.lambda_ppm cells _ rule.filled (the_rule_is_filled rule.by_shares plan.mu_ppm plan.lambda_ppm)
-    ∙ ap (the_rule plan.mu_ppm plan.lambda_ppm) rule.same
+    one_filled rule.by_shares plan.terms.mu_ppm plan.terms.lambda_ppm cells _ rule.filled (the_rule_is_filled rule.by_shares plan.terms.mu_ppm plan.terms.lambda_ppm)
+    ∙ ap (the_rule plan.terms.mu_ppm plan.terms.lambda_ppm) rule.same
 
 pub one_rule : (plan : Plan) (shares : List PlainShares) (xs ys : List RuleCell) → IsRuleOf plan shares xs → IsRuleOf plan shares ys → xs ≡ ys
 one_rule plan shares xs ys of_xs of_ys = is_the_rule plan shares xs of_xs ∙ sym (is_the_rule plan shares ys of_ys)

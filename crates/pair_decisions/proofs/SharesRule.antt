@@ -59,8 +59,8 @@ same_plain : (xs : List PlainShares) (h : AllByRecursion AreOfField xs) → plai
 same_plain [] h = refl
 same_plain (s ∷ xs) h = ap (λ ys. s ∷ ys) (same_plain xs h.1)
 
-rule_of_plain : (plan : Plan) (xs : List PlainShares) → AllByRecursion AreOfField xs → IsRuleOf plan xs (the_rule plan.mu_ppm plan.lambda_ppm xs)
-rule_of_plain plan xs h = subst (λ ys. IsRuleOf plan ys (the_rule plan.mu_ppm plan.lambda_ppm ys)) (same_plain xs h) (the_rule_of_plan plan (fields_of_plain xs h))
+rule_of_plain : (plan : Plan) (xs : List PlainShares) → AllByRecursion AreOfField xs → IsRuleOf plan xs (the_rule plan.terms.mu_ppm plan.terms.lambda_ppm xs)
+rule_of_plain plan xs h = subst (λ ys. IsRuleOf plan ys (the_rule plan.terms.mu_ppm plan.terms.lambda_ppm ys)) (same_plain xs h) (the_rule_of_plan plan (fields_of_plain xs h))
 
 -- ---- the shares that settings give
 
@@ -81,7 +81,7 @@ given_of_fields (f ∷ fields) h = by_shares f.shares refl (given_of_fields fiel
     by_shares None e rest = rw e rest
     by_shares (Some s) e rest = rw e (given_of_field (is_some f.rare) s (subst (λ (o : Option PlainShares). IfSome o (AreShares (is_some f.rare))) e h.0), rest)
 
-pub given_rule : (plan : Plan) → HaveValidShares plan.fields → IsRuleOf plan (given_in plan.fields) (the_rule plan.mu_ppm plan.lambda_ppm (given_in plan.fields))
+pub given_rule : (plan : Plan) → HaveValidShares plan.fields → IsRuleOf plan (given_in plan.fields) (the_rule plan.terms.mu_ppm plan.terms.lambda_ppm (given_in plan.fields))
 given_rule plan valid = rule_of_plain plan (given_in plan.fields) (given_of_fields plan.fields (recursion_from_All HasValidShares plan.fields valid))
 
 -- ---- a sample has pairs of both statuses
@@ -187,7 +187,7 @@ counted_of_fields fields pattern a b bytes shares in_shape =
     subst (AllByRecursion AreOfField) same (shares_of_counts counts (are_counted (rares_of fields) pattern in_shape sample (sample_has_both a b (records_in 44 bytes) sample is))))
 
 pub counted_rule : (plan : Plan) (pattern : PairAt → ℕ) (a b : List Record) (bytes : List ℕ) (shares : List PlainShares) → ((at : PairAt) → pattern at < pattern_count_by (rares_of plan.fields))
-    → counted_in plan.fields pattern a b bytes ≡ Ok shares → IsRuleOf plan shares (the_rule plan.mu_ppm plan.lambda_ppm shares)
+    → counted_in plan.fields pattern a b bytes ≡ Ok shares → IsRuleOf plan shares (the_rule plan.terms.mu_ppm plan.terms.lambda_ppm shares)
 counted_rule plan pattern a b bytes shares in_shape e = rule_of_plain plan shares (counted_of_fields plan.fields pattern a b bytes shares in_shape e)
 
 -- ---- the pattern of two records is of the shape
@@ -225,5 +225,5 @@ module _ (a b : List Record) where
       (number_within (field_comparators fields a b) (all_told 0 fields) (get_or (values_of a) at.a []) (get_or (values_of b) at.b []))
 
 pub rule_by_values : (plan : Plan) (a b : List Record) (bytes : List ℕ) (shares : List PlainShares) → counted_in plan.fields (pattern_of_pair plan.fields a b) a b bytes ≡ Ok shares
-    → IsRuleOf plan shares (the_rule plan.mu_ppm plan.lambda_ppm shares)
+    → IsRuleOf plan shares (the_rule plan.terms.mu_ppm plan.terms.lambda_ppm shares)
 rule_by_values plan a b bytes shares = counted_rule plan (pattern_of_pair plan.fields a b) a b bytes shares (pair_in_shape a b plan.fields)

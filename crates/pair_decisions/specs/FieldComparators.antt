@@ -60,4 +60,4 @@ pattern_of_pair fields a b = pattern_over (field_comparators fields a b) (values
 
 -- the decision rule of a plan with these cells, over its two files
 abbrev pub rule_of_plan : Plan → List Record → List Record → List RuleCell → FileRule
-rule_of_plan plan a b cells = record { pattern = pattern_of_pair plan.fields a b; cells = cells; seed = plan.seed }
+rule_of_plan plan a b cells = record { pattern = pattern_of_pair plan.fields a b; cells = cells; seed = plan.terms.seed }

@@ -65,6 +65,6 @@ AreCellsOf patterns cells = IsPermutation (range_with_len 0 patterns) (map (λ (
 pub record IsRuleOver (plan : Plan) (texts : ℕ) (table : List RuleCell) (rows_a rows_b : List (List IdValue)) (rule : PairRuleView) : Type 0 where
   pub comparators : map answers_of rule.comparators ≡ comparators_of texts plan.fields rows_a rows_b
   pub cells : rule.cells ≡ table
-  pub seed : rule.seed ≡ plan.seed
+  pub seed : rule.seed ≡ plan.terms.seed
   pub sides_a : All (AreSidesFor rule) rows_a
   pub sides_b : All (AreSidesFor rule) rows_b

@@ -12,4 +12,4 @@ use Rattle.pair_decisions.specs.PlanShares.{plain_all}
 pub record IsRuleOf (plan : Plan) (shares : List PlainShares) (cells : List RuleCell) : Type 0 where
   pub by_shares : List FieldShares
   pub same : plain_all by_shares ≡ shares
-  pub filled : IsFilled by_shares plan.mu_ppm plan.lambda_ppm cells
+  pub filled : IsFilled by_shares plan.terms.mu_ppm plan.terms.lambda_ppm cells

@@ -65,7 +65,7 @@ impl PairRule {
             comparators,
             table,
             places,
-            seed: plan.seed,
+            seed: plan.terms.seed,
         })
     }
 

@@ -32,7 +32,7 @@ pub fn one_rule()
 /// The rule of a plan is the one that its asked levels and the shares of its fields determine.
 pub fn is_the_rule()
     ensures { (plan : Plan) (shares : List PlainShares) (cells : List RuleCell)
-        → IsRuleOf plan shares cells → cells ≡ the_rule plan.mu_ppm plan.lambda_ppm shares }
+        → IsRuleOf plan shares cells → cells ≡ the_rule plan.terms.mu_ppm plan.terms.lambda_ppm shares }
 {}
 
 /// The rule of a plan is least: among all randomised rules of every denominator whose levels are at most its own, none
@@ -72,7 +72,7 @@ pub fn the_rule_is_filled()
     ensures filled { (shares : List FieldShares) (mu_ppm lambda_ppm : ℕ)
         → IsFilled shares mu_ppm lambda_ppm (the_rule mu_ppm lambda_ppm (plain_all shares)) }
     ensures of_plan { (plan : Plan) (shares : List FieldShares)
-        → IsRuleOf plan (plain_all shares) (the_rule plan.mu_ppm plan.lambda_ppm (plain_all shares)) }
+        → IsRuleOf plan (plain_all shares) (the_rule plan.terms.mu_ppm plan.terms.lambda_ppm (plain_all shares)) }
 {}
 
 /// The shares of a plan's fields have a rule, and it is the one that they determine (Fellegi and Sunter 1969, section 2): those
@@ -81,12 +81,12 @@ pub fn the_rule_is_filled()
 /// the plan's fields, in which no outcome is rare where a field has no rare number, as have records by their values.
 pub fn shares_have_a_rule()
     ensures given { (plan : Plan) → HaveValidShares plan.fields
-        → IsRuleOf plan (given_in plan.fields) (the_rule plan.mu_ppm plan.lambda_ppm (given_in plan.fields)) }
+        → IsRuleOf plan (given_in plan.fields) (the_rule plan.terms.mu_ppm plan.terms.lambda_ppm (given_in plan.fields)) }
     ensures counted { (plan : Plan) (pattern : PairAt → ℕ) (a b : List Record) (bytes : List ℕ) (shares : List PlainShares)
         → ((at : PairAt) → pattern at < pattern_count_by (rares_of plan.fields))
         → counted_in plan.fields pattern a b bytes ≡ Ok shares
-        → IsRuleOf plan shares (the_rule plan.mu_ppm plan.lambda_ppm shares) }
+        → IsRuleOf plan shares (the_rule plan.terms.mu_ppm plan.terms.lambda_ppm shares) }
     ensures by_values { (plan : Plan) (a b : List Record) (bytes : List ℕ) (shares : List PlainShares)
         → counted_in plan.fields (pattern_of_pair plan.fields a b) a b bytes ≡ Ok shares
-        → IsRuleOf plan shares (the_rule plan.mu_ppm plan.lambda_ppm shares) }
+        → IsRuleOf plan shares (the_rule plan.terms.mu_ppm plan.terms.lambda_ppm shares) }
 {}

@@ -28,13 +28,13 @@ pub fn rule_of_shares(
     requires some { 1 ≤ length shares.now }
     requires few { length shares.now ≤ MOST_FIELDS }
     requires rares { rare_in shares.now ≡ rares_of plan.now.fields }
-    ensures filled { IfOk result (λ table. IsFilled shares.now plan.now.mu_ppm plan.now.lambda_ppm table.cells.items) }
+    ensures filled { IfOk result (λ table. IsFilled shares.now plan.now.terms.mu_ppm plan.now.terms.lambda_ppm table.cells.items) }
     ensures rule { IfOk result (λ table. IsRuleOf plan.now (plain_all shares.now) table.cells.items) }
     ensures least { IfOk result (λ table. IsLeast shares.now table.cells.items) }
     ensures size { IfOk result (λ table. length table.cells.items ≡ pattern_count_of shares.now) }
     ensures patterns { IfOk result (λ table. All (λ (c : RuleCell). c.pattern < pattern_count_by (rares_of plan.now.fields)) table.cells.items) }
 {
     let mut table = RuleTable::with_patterns(alloc, patterns_of(shares))?;
-    cut_rule(shares, plan.mu_ppm, plan.lambda_ppm, &mut table);
+    cut_rule(shares, plan.terms.mu_ppm, plan.terms.lambda_ppm, &mut table);
     Ok(table)
 }

@@ -1,6 +1,7 @@
 pub mod Documents
 pub mod Sharing
 pub mod GivenShares
+pub mod TermRanges
 pub mod TextRanges
 pub mod WordTables
 pub mod CanonRanges

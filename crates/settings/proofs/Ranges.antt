@@ -10,29 +10,29 @@ use Rattle.toml.specs.Data.{Members}
 use Rattle.link_texts.specs.Texts.{stands_among}
 use Rattle.link_base.specs.declared.plan.Part.{Part}
 use Rattle.link_base.specs.Tables.{AreWordPairs}
-use Rattle.link_limits.specs.declared.TheConstants.{MOST_FIELDS, PER_MILLION}
+use Rattle.link_limits.specs.declared.TheConstants.{MOST_FIELDS}
 use Rattle.settings_readers.specs.declared.fault.KeyFault.{KeyFault}
-use Rattle.settings_readers.specs.KeptLaws.{choice_keeps, defaulted_both_keep, defaulted_keeps, in_range_keeps, Keeps, keeps_value, kept, named_passes, needed_both_keep, needed_keeps, next_keeps, optional_keeps, Reads, then_keeps, whole_keeps}
-use Rattle.settings_readers.specs.Parts.{defaulted, defaulted_both, known, needed, needed_both, optional}
-use Rattle.settings_readers.specs.Values.{choice, whole, truth}
+use Rattle.settings_readers.specs.KeptLaws.{choice_keeps, defaulted_both_keep, in_range_keeps, Keeps, keeps_value, kept, named_passes, needed_both_keep, needed_keeps, next_keeps, optional_keeps, Reads, then_keeps}
+use Rattle.settings_readers.specs.Parts.{defaulted_both, known, needed, needed_both, optional}
+use Rattle.settings_readers.specs.Values.{choice}
 use Rattle.link_plan.specs.Plan.{FieldKeys}
 use Rattle.link_plan.specs.Ranges.{AreFiles, files_read, is_delimiter, IsField, IsFileName, IsLabel, KeepsRanges}
-use Rattle.link_plan.specs.declared.limits.TheConstants.{MOST_AWARD, MOST_SEED}
+use Rattle.link_plan.specs.Terms.{KeepsTerms, term_keys}
 use Rattle.link_plan.specs.declared.plan.Plan.{Plan}
 use Rattle.settings.specs.Words.{delimiters, delimiter_named}
 use Rattle.settings.specs.Field.{fields}
 use Rattle.settings.specs.Pass.{passes}
-use Rattle.settings.specs.Settings.{document, file_keys, is_free, journal_of, link_keys, matching_keys, numbers, of_keys, other_sources, plan_of, plan_or_not_toml, settings, sources, standard_tables, tables_over, top_keys}
+use Rattle.settings.specs.Settings.{document, file_keys, is_free, journal_of, link_keys, matching_keys, of_keys, other_sources, plan_of, plan_or_not_toml, settings, sources, standard_tables, tables_over, terms, top_keys}
 use Rattle.settings.specs.Values.{text}
 use Rattle.settings.specs.declared.texts.TextRule.TheVariants as rule
 use Rattle.settings.specs.declared.top.FileKeys.{FileKeys}
 use Rattle.settings.specs.declared.top.LinkKeys.{LinkKeys}
-use Rattle.settings.specs.declared.top.NumberKeys.{NumberKeys}
 use Rattle.settings.specs.declared.top.OtherSources.{OtherSources}
 use Rattle.settings.specs.declared.top.SourceKeys.{SourceKeys}
 use Rattle.settings.proofs.FieldRanges.{AreFields, fields_are}
 use Rattle.settings.proofs.PassRanges.{IsPasses, passes_are}
 use Rattle.settings.proofs.TableRanges.{AreTablesOfPairs, tables_are}
+use Rattle.settings.proofs.TermRanges.{terms_are}
 use Rattle.settings.proofs.TextRanges.{file_keeps, label_keeps}
 
 abbrev IsDelimiter : ℕ → Type 0
@@ -108,23 +108,8 @@ sources_are t above =
     then_keeps _ _ (file_keys t above) _ (file_keys_are t above) (λ files are.
     then_keeps _ _ (other_sources files t above) _ (others_are files t above) (λ others also. keeps_value _ _ (record { files = are; others = also })))
 
-record AreNumbers (x : NumberKeys) : Type 0 where
-  mu : x.mu_ppm ≤ PER_MILLION
-  lambda : x.lambda_ppm ≤ PER_MILLION
-  seed : x.seed ≤ MOST_SEED
-  award : x.award ≤ MOST_AWARD
-
-numbers_are : (t : Members) (above : List ℕ) → Keeps (numbers t above) AreNumbers
-unfolding numbers
-numbers_are t above =
-    then_keeps _ _ (needed_both (whole 0 PER_MILLION) t above (codes "mu_ppm") (codes "lambda_ppm")) _ (needed_both_keep _ (whole 0 PER_MILLION) t above (codes "mu_ppm") (codes "lambda_ppm") (whole_keeps 0 PER_MILLION)) (λ levels are.
-    then_keeps _ _ (defaulted (whole 0 MOST_SEED) 0 t above (codes "seed")) _ (defaulted_keeps _ (whole 0 MOST_SEED) 0 t above (codes "seed") (whole_keeps 0 MOST_SEED) (omega arith, omega arith)) (λ seed seeds.
-    then_keeps _ _ (defaulted (whole 0 MOST_AWARD) 500 t above (codes "award")) _ (defaulted_keeps _ (whole 0 MOST_AWARD) 500 t above (codes "award") (whole_keeps 0 MOST_AWARD) (omega arith, omega arith)) (λ award awards.
-    next_keeps _ (defaulted_both truth false t above (codes "strict") (codes "double")) _ (λ modes.
-    keeps_value _ _ (record { mu = are.0.1; lambda = are.1.1; seed = seeds.1; award = awards.1 })))))
-
 record AreLinks (sampled : Bool) (x : LinkKeys) : Type 0 where
-  numbers : AreNumbers x.numbers
+  terms : KeepsTerms x.terms
   tables : AreTablesOfPairs x.tables
   fields : AreFields sampled x.fields
   some : 1 ≤ length x.fields
@@ -143,15 +128,15 @@ matching_are sampled t above =
 links_are : (sampled : Bool) (t : Members) (above : List ℕ) → Keeps (link_keys sampled t above) (AreLinks sampled)
 unfolding link_keys
 links_are sampled t above =
-    then_keeps _ _ (numbers t above) _ (numbers_are t above) (λ n are_numbers.
+    then_keeps _ _ (terms t above) _ (terms_are t above) (λ run are_terms.
     then_keeps _ _ (tables_over standard_tables t above) _ (tables_are t above) (λ tables are_tables.
     then_keeps _ _ (matching_keys sampled t above) _ (matching_are sampled t above) (λ matching are.
-    keeps_value _ _ (record { numbers = are_numbers; tables = are_tables; fields = are.0.0; some = are.0.1; few = are.0.2; passes = are.1 }))))
+    keeps_value _ _ (record { terms = are_terms; tables = are_tables; fields = are.0.0; some = are.0.1; few = are.0.2; passes = are.1 }))))
 
 -- what a plan keeps by the settings alone; that the pairs of its word tables rise is a fact of their type
 pub record IsReadPlan (plan : Plan) : Type 0 where
   pub files : AreFiles plan.file_a plan.file_b plan.sample plan.journal
-  pub award : plan.award ≤ MOST_AWARD
+  pub terms : KeepsTerms plan.terms
   pub few_fields : length plan.fields ≤ MOST_FIELDS
   pub fields : All (IsField (is_some plan.sample)) plan.fields
   pub ranges : AreWordPairs plan.tables.names → AreWordPairs plan.tables.places → KeepsRanges plan
@@ -159,7 +144,7 @@ pub record IsReadPlan (plan : Plan) : Type 0 where
 pub plan_is : (t : Members) (above : List ℕ) → Keeps (plan_of t above) IsReadPlan
 unfolding plan_of
 plan_is t above =
-    next_keeps _ (known (stands_among top_keys) t above) _ (λ listed.
+    next_keeps _ (known (stands_among (top_keys ++ term_keys)) t above) _ (λ listed.
     then_keeps _ _ (sources t above) _ (sources_are t above) (λ s from.
     then_keeps _ _ (link_keys (is_some s.others.sample) t above) _ (links_are (is_some s.others.sample) t above) (λ l by.
     let files : AreFiles s.files.file_a s.files.file_b s.others.sample s.others.journal = record {
@@ -171,7 +156,7 @@ plan_is t above =
     } in
     keeps_value _ _ (record {
       files = files;
-      award = by.numbers.award;
+      terms = by.terms;
       few_fields = by.few;
       fields = by.fields.fields;
       ranges = λ in_names in_places. record {
@@ -180,10 +165,7 @@ plan_is t above =
         id_b = from.files.id_b;
         delimiter_a = from.others.delimiter_a;
         delimiter_b = from.others.delimiter_b;
-        mu = by.numbers.mu;
-        lambda = by.numbers.lambda;
-        seed = by.numbers.seed;
-        award = by.numbers.award;
+        terms = by.terms;
         tables = by.tables in_names in_places;
         some_fields = by.some;
         few_fields = by.few;

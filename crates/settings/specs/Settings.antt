@@ -1,10 +1,10 @@
 -- The settings: the bytes of a file to a plan, or the first key at fault (`read_settings`, clauses `gives`,
--- `not_toml` and `kind`; the parts, by the one clause of the function of their name).
+-- `not_toml` and `kind`). The parts are carried by the functions of their names: `plan_of` and `plan_from` by their clauses `gives`, the
+-- others by their one clause; the terms by `Terms::read` of `link_plan`, clause `gives`, over `TermKeys`.
 use Rattle.std.specs.Prelude.{List, ℕ, Bool, true, false, not, [], ◌∷◌, ◌++◌, codes, Option, Some, None, is_some, option_to_list, Result, Ok, Err, if◌then◌else◌, ⊤}
 use Rattle.std.specs.Str.{is_utf8}
 use Rattle.toml.specs.Data.{Members}
 use Rattle.toml.specs.Parse.{parse_document}
-use Rattle.link_limits.specs.declared.TheConstants.{PER_MILLION}
 use Rattle.link_texts.specs.Texts.{stands_among}
 use Rattle.link_base.specs.declared.fault.Fault.{Fault}
 use Rattle.link_base.specs.declared.fault.Fault.TheVariants as fault
@@ -21,19 +21,19 @@ use Rattle.settings.specs.WordTables.{texts, word_table}
 use Rattle.settings.specs.Field.{fields}
 use Rattle.link_plan.specs.Plan.{FieldKeys}
 use Rattle.settings.specs.Pass.{passes}
-use Rattle.link_plan.specs.declared.limits.TheConstants.{MOST_AWARD, MOST_LISTED_WORDS, MOST_MARKS, MOST_SEED}
+use Rattle.link_plan.specs.Terms.{term_keys, terms_by}
+use Rattle.link_plan.specs.declared.limits.TheConstants.{MOST_LISTED_WORDS, MOST_MARKS}
 use Rattle.link_plan.specs.declared.plan.Plan.{Plan}
+use Rattle.link_plan.specs.declared.terms.Terms.{Terms}
 use Rattle.settings.specs.declared.texts.TextRule.TheVariants as rule
 use Rattle.settings.specs.declared.top.FileKeys.{FileKeys}
 use Rattle.settings.specs.declared.top.LinkKeys.{LinkKeys}
-use Rattle.settings.specs.declared.top.NumberKeys.{NumberKeys}
 use Rattle.settings.specs.declared.top.OtherSources.{OtherSources}
 use Rattle.settings.specs.declared.top.SourceKeys.{SourceKeys}
 
--- the keys of the file
+-- the keys of the file but its terms
 abbrev pub top_keys : List (List ℕ)
 top_keys = codes "file_a" ∷ codes "file_b" ∷ codes "id_a" ∷ codes "id_b" ∷ codes "delimiter_a" ∷ codes "delimiter_b" ∷ codes "sample" ∷ codes "journal"
-    ∷ codes "mu_ppm" ∷ codes "lambda_ppm" ∷ codes "seed" ∷ codes "award" ∷ codes "strict" ∷ codes "double"
     ∷ codes "missing" ∷ codes "titles" ∷ codes "suffixes" ∷ codes "names" ∷ codes "places" ∷ codes "field" ∷ codes "pass" ∷ []
 
 -- the journal is none of the files that are read
@@ -67,13 +67,17 @@ sources t above = do
   others ← other_sources files t above
   Ok (record { files = files; others = others })
 
-unfoldable pub numbers : Members → List ℕ → Result NumberKeys KeyFault
-numbers t above = do
-  levels ← needed_both (whole 0 PER_MILLION) t above (codes "mu_ppm") (codes "lambda_ppm")
-  seed ← defaulted (whole 0 MOST_SEED) 0 t above (codes "seed")
-  award ← defaulted (whole 0 MOST_AWARD) 500 t above (codes "award")
-  modes ← defaulted_both truth false t above (codes "strict") (codes "double")
-  Ok (record { mu_ppm = levels.0; lambda_ppm = levels.1; seed = seed; award = award; strict = modes.0; double = modes.1 })
+-- the number at a key, and the truth value
+abbrev pub number_at : Members → List ℕ → List ℕ → ℕ → ℕ → Option ℕ → Result ℕ KeyFault
+number_at t above key low high None = needed (whole low high) t above key
+number_at t above key low high (Some default) = defaulted (whole low high) default t above key
+
+abbrev pub truth_at : Members → List ℕ → List ℕ → Result Bool KeyFault
+truth_at t above key = defaulted truth false t above key
+
+-- the terms of the run
+unfoldable pub terms : Members → List ℕ → Result Terms KeyFault
+terms t above = terms_by (number_at t above) (truth_at t above)
 
 -- the tables of words, where those of no key are these
 unfoldable pub tables_over : Tables → Members → List ℕ → Result Tables KeyFault
@@ -99,10 +103,10 @@ matching_keys sampled t above = do
 -- the keys after the sources: how the records are linked
 unfoldable pub link_keys : Bool → Members → List ℕ → Result LinkKeys KeyFault
 link_keys sampled t above = do
-  n ← numbers t above
+  terms ← terms t above
   tables ← tables_over standard_tables t above
   matching ← matching_keys sampled t above
-  Ok (record { numbers = n; tables = tables; fields = matching.0; passes = matching.1 })
+  Ok (record { terms = terms; tables = tables; fields = matching.0; passes = matching.1 })
 
 -- the plan of the parts of the top table
 abbrev pub plan_from : SourceKeys → LinkKeys → Plan
@@ -115,12 +119,7 @@ plan_from s l = record {
   delimiter_b = s.others.delimiter_b;
   sample = s.others.sample;
   journal = s.others.journal;
-  mu_ppm = l.numbers.mu_ppm;
-  lambda_ppm = l.numbers.lambda_ppm;
-  seed = l.numbers.seed;
-  award = l.numbers.award;
-  strict = l.numbers.strict;
-  double = l.numbers.double;
+  terms = l.terms;
   tables = l.tables;
   fields = l.fields;
   passes = l.passes;
@@ -129,7 +128,7 @@ plan_from s l = record {
 -- the parts of the top table in their order
 unfoldable pub plan_of : Members → List ℕ → Result Plan KeyFault
 plan_of t above = do
-  listed ← known (stands_among top_keys) t above
+  listed ← known (stands_among (top_keys ++ term_keys)) t above
   s ← sources t above
   l ← link_keys (is_some s.others.sample) t above
   Ok (plan_from s l)

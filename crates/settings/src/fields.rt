@@ -182,7 +182,7 @@ fn field(
 ) -> Result<FieldPlan, KeyFault>
     ensures { IsAnswer (field sampled before.now (table_view keys.now.table.now) keys.now.above.now) result }
 {
-    keys.known(alloc, &FIELD_KEYS)?;
+    keys.known(alloc, &FIELD_KEYS, &[])?;
     match name_keys(alloc, before, keys) {
         Ok(named) => match measure_keys(alloc, sampled, keys) {
             Ok((compared, shares)) => Ok(field_of(named, compared, shares)),

@@ -6,6 +6,7 @@ mod fields;
 mod kinds;
 mod passes;
 mod shares;
+mod terms;
 mod texts;
 mod top;
 mod word_tables;

@@ -60,7 +60,7 @@ fn key_of(alloc: Global, sort: FieldSort, keys: &Keys) -> Result<Canon, KeyFault
 fn part(alloc: Global, fields: &FieldList, keys: &Keys) -> Result<Part, KeyFault>
     ensures { IsAnswer (part fields.now (table_view keys.now.table.now) keys.now.above.now) result }
 {
-    keys.known(alloc, &PART_KEYS)?;
+    keys.known(alloc, &PART_KEYS, &[])?;
     let (field, sort) = keys.needed(alloc, &Choice(FieldNames { fields }), "field")?;
     match key_of(alloc, sort, keys) {
         Ok(key) => Ok(Part { field, key }),
@@ -114,7 +114,7 @@ impl Reader for Parts<'_> {
 fn pass(alloc: Global, fields: &FieldList, keys: &Keys) -> Result<Pass, KeyFault>
     ensures { IsAnswer (pass fields.now (table_view keys.now.table.now) keys.now.above.now) result }
 {
-    keys.known(alloc, &PASS_KEYS)?;
+    keys.known(alloc, &PASS_KEYS, &[])?;
     keys.needed(alloc, &Parts { fields }, "parts")
 }
 

@@ -12,9 +12,7 @@ ghost use Rattle.settings.specs.Values.{fits, text};
 
 use link_base::{NoMemory, Text};
 use link_limits::{MOST_NAME_BYTES, MOST_WORD_BYTES};
-use link_plan::{
-    MOST_FIELD_NAME_BYTES, MOST_LABEL_BYTES, MOST_LETTERS, MOST_MARK_BYTES, MOST_SEED,
-};
+use link_plan::{MOST_FIELD_NAME_BYTES, MOST_LABEL_BYTES, MOST_LETTERS, MOST_MARK_BYTES};
 use settings_readers::{KeyFault, Keys, Place, Reader, is_listed, whole_number};
 use std::alloc::Global;
 use std::marker::Model;
@@ -250,21 +248,5 @@ impl Reader for Letters {
             Ok(letters) => Ok(letters as u8),
             Err(fault) => Err(fault),
         }
-    }
-}
-
-/// The number that random words come from, 0 to 2^63 - 1.
-#[derive(Drop)]
-pub(crate) struct Seed;
-
-impl Reader for Seed {
-    ghost use Rattle.link_plan.specs.declared.limits.TheConstants.{MOST_SEED};
-
-    type Item = u64;
-
-    ghost gives = { λ _. whole 0 MOST_SEED };
-
-    fn read(&self, alloc: Global, place: &Place, value: &Value) -> Result<u64, KeyFault> {
-        whole_number(alloc, 0, MOST_SEED, place, value)
     }
 }

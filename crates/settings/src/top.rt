@@ -6,22 +6,23 @@ ghost use Rattle.link_base.specs.declared.fault.Fault.TheVariants as fault;
 ghost use Rattle.link_base.specs.Fault as run_fault;
 ghost use Rattle.settings_readers.specs.KeyFaults.{Gives, IsAnswer};
 ghost use Rattle.settings_readers.specs.Parts.{defaulted};
-ghost use Rattle.settings.specs.Settings.{document, file_keys, is_free, IsSettingsFault, journal_of, link_keys, matching_keys, numbers, of_keys, other_sources, plan_from, plan_of, settings, sources, standard_tables, tables_over};
+ghost use Rattle.settings.specs.Settings.{document, file_keys, is_free, IsSettingsFault, journal_of, link_keys, matching_keys, of_keys, other_sources, plan_from, plan_of, settings, sources, standard_tables, tables_over};
 ghost use Rattle.link_plan.specs.Ranges.{KeepsRanges, NamesFiles};
 
 use crate::fields::Fields;
 use crate::passes::Passes;
-use crate::texts::{File, FileName, Seed, TextRule, labels};
+use crate::terms::TermKeys;
+use crate::texts::{File, FileName, TextRule, labels};
 use crate::word_tables::{Texts, WordTable};
 use crate::words::Delimiters;
 use link_base::{Fault, NoMemory, PassList, Tables, Text};
-use link_limits::PER_MILLION;
-use link_plan::{FieldList, MOST_AWARD, MOST_LISTED_WORDS, MOST_MARKS, Plan};
-use settings_readers::{Choice, KeyFault, Keys, Place, Reader, Truth, Whole};
+use link_plan::{FieldList, MOST_LISTED_WORDS, MOST_MARKS, Plan, TERM_KEYS, Terms};
+use settings_readers::{Choice, KeyFault, Keys, Place, Reader};
 use std::alloc::Global;
 use toml::Table;
 
-const TOP_KEYS: [&str; 21] = [
+// The keys of the file but its terms.
+const TOP_KEYS: [&str; 15] = [
     "file_a",
     "file_b",
     "id_a",
@@ -30,12 +31,6 @@ const TOP_KEYS: [&str; 21] = [
     "delimiter_b",
     "sample",
     "journal",
-    "mu_ppm",
-    "lambda_ppm",
-    "seed",
-    "award",
-    "strict",
-    "double",
     "missing",
     "titles",
     "suffixes",
@@ -70,21 +65,10 @@ pub(crate) struct SourceKeys {
     others: OtherSources,
 }
 
-/// The keys that are numbers and truth values.
-#[derive(Clone, Copy)]
-pub(crate) struct NumberKeys {
-    mu_ppm: u32,
-    lambda_ppm: u32,
-    seed: u64,
-    award: u32,
-    strict: bool,
-    double: bool,
-}
-
 /// The keys after the sources: on how the records are linked.
 #[derive(Drop)]
 pub(crate) struct LinkKeys {
-    numbers: NumberKeys,
+    terms: Terms,
     tables: Tables,
     fields: FieldList,
     passes: PassList,
@@ -197,32 +181,6 @@ fn sources(alloc: Global, keys: &Keys) -> Result<SourceKeys, KeyFault>
     }
 }
 
-#[tactic(auto, unfolding(crate::specs::Settings::numbers))]
-fn numbers(alloc: Global, keys: &Keys) -> Result<NumberKeys, KeyFault>
-    ensures { IsAnswer (numbers (table_view keys.now.table.now) keys.now.above.now) result }
-{
-    let level = Whole {
-        low: 0,
-        high: PER_MILLION,
-    };
-    let points = Whole {
-        low: 0,
-        high: MOST_AWARD,
-    };
-    let (mu_ppm, lambda_ppm) = keys.needed_both(alloc, &level, "mu_ppm", "lambda_ppm")?;
-    let seed = keys.defaulted(alloc, &Seed, 0, "seed")?;
-    let award = keys.defaulted(alloc, &points, 500, "award")?;
-    let (strict, double) = keys.defaulted_both(alloc, &Truth, false, "strict", "double")?;
-    Ok(NumberKeys {
-        mu_ppm,
-        lambda_ppm,
-        seed,
-        award,
-        strict,
-        double,
-    })
-}
-
 // What stands at a key takes the place of the default, which stays where the key is not there.
 fn replace<R: Reader>(
     alloc: Global,
@@ -297,7 +255,6 @@ fn plan_from(sources: SourceKeys, links: LinkKeys) -> Plan
     ensures gives { result ≡ plan_from sources links }
     ensures files { NamesFiles result }
 {
-    let numbers = links.numbers;
     let files = sources.files;
     let others = sources.others;
     Plan {
@@ -309,12 +266,7 @@ fn plan_from(sources: SourceKeys, links: LinkKeys) -> Plan
         delimiter_b: others.delimiter_b,
         sample: optional_text(others.sample),
         journal: optional_text(others.journal),
-        mu_ppm: numbers.mu_ppm,
-        lambda_ppm: numbers.lambda_ppm,
-        seed: numbers.seed,
-        award: numbers.award,
-        strict: numbers.strict,
-        double: numbers.double,
+        terms: links.terms,
         tables: links.tables,
         fields: links.fields,
         passes: links.passes,
@@ -341,15 +293,15 @@ fn matching_keys(
     }
 }
 
-#[tactic(auto, unfolding(crate::specs::Settings::link_keys))]
+#[tactic(auto, unfolding(crate::specs::Settings::link_keys, crate::specs::Settings::terms))]
 fn link_keys(alloc: Global, sampled: bool, keys: &Keys) -> Result<LinkKeys, KeyFault>
     ensures { IsAnswer (link_keys sampled (table_view keys.now.table.now) keys.now.above.now) result }
 {
-    let numbers = numbers(alloc, keys)?;
+    let terms = Terms::read(alloc, &TermKeys(*keys))?;
     match tables(alloc, keys) {
         Ok(tables) => match matching_keys(alloc, sampled, keys) {
             Ok((fields, passes)) => Ok(LinkKeys {
-                numbers,
+                terms,
                 tables,
                 fields,
                 passes,
@@ -368,7 +320,7 @@ fn plan_of(alloc: Global, keys: &Keys) -> Result<Plan, KeyFault>
     ensures gives { IsAnswer (plan_of (table_view keys.now.table.now) keys.now.above.now) result }
     ensures files { IfOk result NamesFiles }
 {
-    keys.known(alloc, &TOP_KEYS)?;
+    keys.known(alloc, &TOP_KEYS, &TERM_KEYS)?;
     match sources(alloc, keys) {
         Ok(sources) => match link_keys(alloc, sources.others.sample.is_some(), keys) {
             Ok(links) => Ok(plan_from(sources, links)),

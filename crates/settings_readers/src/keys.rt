@@ -1,5 +1,5 @@
 // Keys of a table.
-ghost use Rattle.std.specs.Prelude.{◌≡◌, map, option_map};
+ghost use Rattle.std.specs.Prelude.{◌≡◌, ◌++◌, map, option_map};
 ghost use Rattle.toml.specs.Data.{get_member};
 ghost use Rattle.toml.specs.View.{view, table_view};
 ghost use Rattle.link_texts.specs.Texts.{stands_among};
@@ -38,15 +38,22 @@ pub fn is_listed(listed: &[&str], key: &str) -> bool
     false
 }
 
+// Whether a key is one of those of two lists.
+fn is_in_lists(listed: &[&str], others: &[&str], key: &str) -> bool
+    ensures { result ≡ stands_among (map (λ k. k.now) listed.now ++ map (λ k. k.now) others.now) key.now }
+{
+    is_listed(listed, key) || is_listed(others, key)
+}
+
 impl Keys<'_> {
-    /// Refuses a table that has a key that is not listed: the fault names the least such key by its bytes.
-    pub fn known(&self, alloc: Global, listed: &[&str]) -> Result<(), KeyFault>
-        ensures { IsAnswer (known (stands_among (map (λ k. k.now) listed.now)) (table_view self.now.table.now) self.now.above.now) result }
+    /// Refuses a table that has a key of neither list: the fault names the least such key by its bytes.
+    pub fn known(&self, alloc: Global, listed: &[&str], others: &[&str]) -> Result<(), KeyFault>
+        ensures { IsAnswer (known (stands_among (map (λ k. k.now) listed.now ++ map (λ k. k.now) others.now)) (table_view self.now.table.now) self.now.above.now) result }
     {
         let above = self.above;
         let table = self.table;
         for (key, _value) in table {
-            if !is_listed(listed, key.as_str()) {
+            if !is_in_lists(listed, others, key.as_str()) {
                 return Place::new(above, key.as_str().as_bytes()).unknown_key(alloc);
             }
         }

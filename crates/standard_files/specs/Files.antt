@@ -88,7 +88,7 @@ date_fault r plan None = None
 date_fault r plan (Some d) = Some (fault.BadValue r d.row (field_name plan d.field))
 
 abbrev pub strict_fault : FileRole → Plan → Option DatePlace → Option Fault
-strict_fault r plan first = if plan.strict then date_fault r plan first else None
+strict_fault r plan first = if plan.terms.strict then date_fault r plan first else None
 
 -- a file in standard values
 pub record StandardFile : Type 0 where

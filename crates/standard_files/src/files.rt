@@ -57,7 +57,7 @@ fn test_dates(
     ensures fault { Tests (strict_fault role plan.now first) result }
 {
     match first {
-        Some(date) if plan.strict => {
+        Some(date) if plan.terms.strict => {
             let named = &plan.fields.fields()[date.field];
             let field = named.name.copy(alloc)?;
             Err(Fault::BadValue {

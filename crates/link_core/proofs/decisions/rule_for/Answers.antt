@@ -61,7 +61,7 @@ returns c =
     let rows_b : c.sides-2.result.now.rows ≡ p.values.b.rows = ap (λ t. t.rows) c.sides-2.ensures in
     let Filled : List PlainShares → Type 0 = λ shares. IsRuleOf plan shares all in
     let filled : IsRuleOf plan c.args.shares.now all = subst Filled c.fields.ensures.shares c.in_ok-table.ensures.rule in
-    let the : all ≡ the_rule plan.mu_ppm plan.lambda_ppm c.args.shares.now = c.is_the_rule.ensures plan c.args.shares.now all filled in
+    let the : all ≡ the_rule plan.terms.mu_ppm plan.terms.lambda_ppm c.args.shares.now = c.is_the_rule.ensures plan c.args.shares.now all filled in
     let patterns =
     patterns_are plan p c.pool.result.now.texts c.len.result c.sides.result.now.rows c.sides-2.result.now.rows c.requires.ranges c.requires.ready c.same_patterns.ensures
     c.pool.ensures.texts (c.len.ensures ∙ ap length c.pool-2.ensures.texts) rows_a rows_b in

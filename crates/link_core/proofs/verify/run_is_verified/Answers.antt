@@ -17,9 +17,9 @@ returns c = λ plan files shares rule entries links ps qs of one certified long_
     let cells = small_cells plan shares rule.cells of.few_shares read.few_fields of.of_shares in
     let candidates = candidates_in plan files rule entries in
     let ranges : All IsWithinRanges rule.cells = All-weaker IsSmallCell IsWithinRanges (λ x h. h.ranges) rule.cells cells.each in
-    let bounds : All (HasBounds plan.award) candidates =
-    c.candidates_are_bounded.ensures rule entries plan.award (compared_in plan files) ranges in
-    let are = candidates_are plan files rule entries whole read.award bounds in
+    let bounds : All (HasBounds plan.terms.award) candidates =
+    c.candidates_are_bounded.ensures rule entries plan.terms.award (compared_in plan files) ranges in
+    let are = candidates_are plan files rule entries whole read.terms.award bounds in
     record {
       proved = c.written_is_verified.ensures (rares_of plan.fields) rule.cells candidates links ps qs files.a.records files.b.records are one certified long_a long_b;
       short = c.written_is_short.ensures (rares_of plan.fields) rule.cells candidates links ps qs files.a.records files.b.records cells are

@@ -37,7 +37,7 @@ verify_written-verified-requires c =
     let P : List Bool → Type 0 = λ rares. All (λ (x : RuleCell). x.pattern < pattern_count_by rares) all in
     let Q : List RuleCell → Type 0 = λ cs. All (λ (x : RuleCell). x.pattern < pattern_count_by (rare_of c.shape-shape.result)) cs in
     let ranges : All IsWithinRanges all = subst (λ (cs : List RuleCell). All IsWithinRanges cs) cells c.table-table.result.now.in_range in
-    let bounds : All (HasBounds plan.award) wanted = c.candidates_are_bounded.ensures (rule_in p c.args.decided.now) c.args.journal.now plan.award (compared_in plan p.files) ranges in
+    let bounds : All (HasBounds plan.terms.award) wanted = c.candidates_are_bounded.ensures (rule_in p c.args.decided.now) c.args.journal.now plan.terms.award (compared_in plan p.files) ranges in
     let of_both =
     handed (length p.files.a.records) (length p.files.b.records) (length c.a.result.now) (length c.b.result.now) wanted c.in_ok-found.found.items c.deref.result.now
     (ap (λ (file : List Record). length file) c.a.ensures) (ap (λ (file : List Record). length file) c.b.ensures) c.deref.ensures.value c.in_ok-found.ensures in
@@ -50,7 +50,7 @@ verify_written-verified-requires c =
       rising = of_both.rising;
       within = of_both.within;
       allowed = subst (λ (cs : List Candidate). All HasAllowedValue cs) (sym of_both.same)
-          (λ k d lt. let b = bounds k d lt in (omega (arith, ints, b.value_low), omega (arith, ints, b.value_high, c.requires.ranges.award)));
+          (λ k d lt. let b = bounds k d lt in (omega (arith, ints, b.value_low), omega (arith, ints, b.value_high, c.requires.ranges.terms.award)));
     }
 
 -- what was handed over is what the files hold
