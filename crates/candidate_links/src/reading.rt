@@ -1,6 +1,6 @@
 // The capacities in a file, row by row.
-ghost use Rattle.std.specs.Prelude.{◌≡◌, ◌≤◌, ◌<◌, ◌+◌, All, IfErr, IfOk, IfSome, Some, length, replicate, slice_index_or};
-ghost use Rattle.link_base.specs.Fault.{Gives, IsAnswer, IsInputFault};
+ghost use Rattle.std.specs.Prelude.{◌≡◌, ◌≤◌, ◌<◌, ◌+◌, All, IfOk, IfSome, Some, length, replicate, slice_index_or};
+ghost use Rattle.link_base.specs.Fault.{Gives, IsAnswer};
 ghost use Rattle.link_base.specs.Standard.{position_of_id};
 ghost use Rattle.link_limits.specs.declared.TheConstants.{MOST_CAPACITY, MOST_ROWS};
 ghost use Rattle.file_reader.specs.Layout.{wanted_of};
@@ -50,7 +50,6 @@ fn listed_at(alloc: Global, table: &Table, at: u32, b: &StdFile) -> Result<Liste
     requires within { at < length table.now }
     requires width { HasWidth capacities_wanted table.now }
     requires few { length table.now ≤ MOST_ROWS }
-    ensures kind { IfErr result IsInputFault }
     ensures answer { Gives (λ listed. listed.capacity) (capacity_in b.now (at + 1) (slice_index_or table.now at no_row)) result }
     ensures named { IfOk result (λ listed. position_of_id (slice_index_or table.now at no_row).id b.now ≡ Some listed.at) }
     ensures within { IfOk result (λ listed. listed.at < length b.now) }
@@ -80,7 +79,6 @@ fn capacities_of(alloc: Global, table: &Table, b: &StdFile) -> Result<Vec<u32>, 
     requires width { HasWidth capacities_wanted table.now }
     requires distinct { HasDistinctIds capacities_wanted table.now }
     requires few { length table.now ≤ MOST_ROWS }
-    ensures kind { IfErr result IsInputFault }
     ensures answer { Gives (λ each. each.items) (capacities_by b.now table.now) result }
     ensures for_each { IfOk result (λ each. length each.items ≡ length b.now) }
     ensures allowed { IfOk result (λ each. All (λ capacity. capacity ≤ MOST_CAPACITY) each.items) }
@@ -98,7 +96,6 @@ fn capacities_of(alloc: Global, table: &Table, b: &StdFile) -> Result<Vec<u32>, 
 
 // The table of a file of capacities.
 fn table_in(alloc: Global, bytes: &[u8]) -> Result<Table, Fault>
-    ensures kind { IfErr result IsInputFault }
     ensures few { IfOk result (λ table. length table ≤ MOST_ROWS) }
     ensures width { IfOk result (HasWidth capacities_wanted) }
     ensures distinct { IfOk result (HasDistinctIds capacities_wanted) }
@@ -114,7 +111,6 @@ fn table_in(alloc: Global, bytes: &[u8]) -> Result<Table, Fault>
 /// listed. A capacity is at most [`MOST_CAPACITY`], in decimal digits without a leading zero. Or the first fault of the file:
 /// that of its table, and else that of its first row that names no record of B, or has no capacity.
 pub fn read_capacities(alloc: Global, bytes: &[u8], b: &StdFile) -> Result<Capacities, Fault>
-    ensures kind { IfErr result IsInputFault }
     ensures answer { IsAnswer (capacities_in b.now bytes.now) result }
     ensures for_each { IfOk result (λ capacities. length capacities ≡ length b.now) }
     ensures allowed { IfOk result (λ capacities. All (λ capacity. capacity ≤ MOST_CAPACITY) capacities) }

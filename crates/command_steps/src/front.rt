@@ -1,9 +1,9 @@
 // What several commands load at their front.
-ghost use Rattle.std.specs.Prelude.{◌≡◌, IfErr, IfOk, IsUtf8, None, Ok, Some};
+ghost use Rattle.std.specs.Prelude.{◌≡◌, IfOk, IsUtf8, None, Ok, Some};
 ghost use Rattle.command_steps.specs.Front.{both_files, described_files, described_of, plan_file, prepared_files, shared_plan, shares_of, shares_over};
 ghost use Rattle.command_scripts.specs.Seen.{store_seen};
 ghost use Rattle.command_scripts.specs.Steps.{seen_by, Takes};
-ghost use Rattle.link_base.specs.Fault.{Gives, IsAnswer, IsInputFault};
+ghost use Rattle.link_base.specs.Fault.{Gives, IsAnswer};
 ghost use Rattle.link_core.specs.Prepared.{files_of, prepared};
 ghost use Rattle.link_core.specs.Rules.{IsPreparedFor, shared_rares};
 ghost use Rattle.link_limits.specs.declared.TheConstants.{MOST_DISTINCT_BYTES};
@@ -85,7 +85,6 @@ fn load_files<S: Store>(alloc: Global, store: &mut S, plan: &Plan) -> Result<Inp
 /// Makes two files of a plan ready to be compared.
 pub fn prepare_files(alloc: Global, plan: &Plan, a: &[u8], b: &[u8]) -> Result<Prepared, Fault>
     requires { KeepsRanges plan.now }
-    ensures kind { IfErr result IsInputFault }
     ensures answer { Gives files_of (prepared plan.now MOST_DISTINCT_BYTES a.now b.now) result }
     ensures ready { IfOk result (IsPreparedFor plan.now) }
 {
@@ -170,7 +169,6 @@ fn count_loaded<S: Store>(
 fn shares_given(alloc: Global, plan: &Plan) -> Result<PlanShares, Fault>
     requires ranges { KeepsRanges plan.now }
     requires no_sample { plan.now.sample ≡ None }
-    ensures kind { IfErr result IsInputFault }
     ensures answer { IsAnswer (Ok (given_in plan.now.fields)) result }
     ensures rares { IfOk result (λ shares. shared_rares shares ≡ rares_of plan.now.fields) }
 {

@@ -4,7 +4,7 @@ ghost use Rattle.command_steps.specs.Reviewed.{decided_plan, found_of, IsDecided
 ghost use Rattle.command_scripts.specs.Seen.{store_seen};
 ghost use Rattle.command_scripts.specs.Steps.{seen_by, Takes};
 ghost use Rattle.command_scripts.specs.Ways.{PutsAll};
-ghost use Rattle.link_base.specs.Fault.{IsInputFault, Refuses};
+ghost use Rattle.link_base.specs.Fault.{Refuses};
 ghost use Rattle.link_base.specs.declared.fault.Fault.TheVariants as fault;
 ghost use Rattle.link_core.specs.Results.{KeepsRows};
 ghost use Rattle.link_core.specs.Review.{IsJournalOf};
@@ -160,7 +160,6 @@ pub fn load_reviewed_settings<S: Store>(
 
 // The fault of a plan that must name a journal, and names none.
 fn missing_journal(alloc: Global) -> Fault
-    ensures kind { IsInputFault result }
     ensures answer { Refuses {T = AnyPlan} (Err (fault.MissingKey (codes "journal"))) result }
 {
     match Text::new(alloc, b"journal") {

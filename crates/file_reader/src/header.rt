@@ -1,7 +1,6 @@
 // The header of a table.
-ghost use Rattle.std.specs.Prelude.{◌≡◌, ◌++◌, ◌∷◌, [], IfErr, IfOk, OnOk};
+ghost use Rattle.std.specs.Prelude.{◌≡◌, ◌++◌, ◌∷◌, [], IfOk, OnOk};
 ghost use Rattle.csv.specs.Records.{fields_of};
-ghost use Rattle.link_base.specs.Fault.{IsInputFault};
 ghost use Rattle.file_reader.specs.Left.{records_in};
 ghost use Rattle.file_reader.specs.Header.{header_has};
 ghost use Rattle.file_reader.specs.Layout.{column_in, columns_of, needed_of, wanted_of};
@@ -53,7 +52,6 @@ fn test_repeated(
     names: &[Text],
     row: &ByteRecord,
 ) -> Result<(), Fault>
-    ensures kind { IfErr result IsInputFault }
     ensures fault { Tests (repeated_fault role names.now (fields_of row.now)) result }
 {
     for name in names {
@@ -72,7 +70,6 @@ fn test_missing(
     names: &[Text],
     row: &ByteRecord,
 ) -> Result<(), Fault>
-    ensures kind { IfErr result IsInputFault }
     ensures fault { Tests (missing_fault role names.now (fields_of row.now)) result }
 {
     for name in names {
@@ -91,7 +88,6 @@ pub(crate) fn test_header(
     names: &[Text],
     row: &ByteRecord,
 ) -> Result<(), Fault>
-    ensures kind { IfErr result IsInputFault }
     ensures fault { Tests (header_fault role names.now (fields_of row.now)) result }
 {
     match test_repeated(alloc, role, names, row) {

@@ -1,6 +1,6 @@
 // The records that the ids in a file name.
-ghost use Rattle.std.specs.Prelude.{◌<◌, IfErr, IfOk, length};
-ghost use Rattle.link_base.specs.Fault.{IsAnswer, IsInputFault};
+ghost use Rattle.std.specs.Prelude.{◌<◌, IfOk, length};
+ghost use Rattle.link_base.specs.Fault.{IsAnswer};
 ghost use Rattle.file_reader.specs.Known.{known_in, pair_in};
 
 use link_base::{Fault, FileRole, PairAt, StdFile, Text};
@@ -16,7 +16,6 @@ pub fn known_record(
     id: &[u8],
     file: &StdFile,
 ) -> Result<u32, Fault>
-    ensures kind { IfErr result IsInputFault }
     ensures answer { IsAnswer (known_in role row column.now id.now file.now) result }
     ensures within { IfOk result (λ at. at < length file.now) }
 {
@@ -39,7 +38,6 @@ pub fn known_pair(
     a: &StdFile,
     b: &StdFile,
 ) -> Result<PairAt, Fault>
-    ensures kind { IfErr result IsInputFault }
     ensures answer { IsAnswer (pair_in role row id_a.now id_b.now a.now b.now) result }
     ensures within { IfOk result (λ at. (at.a < length a.now) × (at.b < length b.now)) }
 {

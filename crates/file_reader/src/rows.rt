@@ -1,8 +1,8 @@
 // The rows of a table.
-ghost use Rattle.std.specs.Prelude.{◌≡◌, ◌↔◌, ◌≤◌, ◌<◌, [], All, IfOk, is_some, IsTrue, None, IfErr, length, ℕ};
+ghost use Rattle.std.specs.Prelude.{◌≡◌, ◌↔◌, ◌≤◌, ◌<◌, [], All, IfOk, is_some, IsTrue, None, length, ℕ};
 ghost use Rattle.csv.specs.Records.{fields_of, text_of};
 ghost use Rattle.file_reader.specs.Left.{records_in};
-ghost use Rattle.link_base.specs.Fault.{IsAnswer, IsInputFault};
+ghost use Rattle.link_base.specs.Fault.{IsAnswer};
 ghost use Rattle.file_reader.specs.Layout.{cell, field_columns, heading_of, heading_under, needed_of, wanted_of};
 ghost use Rattle.file_reader.specs.Plain.{IsPlain};
 ghost use Rattle.file_reader.specs.declared.layout.Column.{Column as Needed};
@@ -24,7 +24,6 @@ use std::alloc::Global;
 
 // Tests that the needed fields of a row are texts.
 fn test_utf8(alloc: Global, head: &Head, number: u32, row: &ByteRecord) -> Result<(), Fault>
-    ensures kind { IfErr result IsInputFault }
     ensures fault { Tests (utf8_fault (heading_of head.now) number (fields_of row.now)) result }
 {
     for needed in &head.columns {
@@ -42,7 +41,6 @@ fn test_utf8(alloc: Global, head: &Head, number: u32, row: &ByteRecord) -> Resul
 
 // Tests that the needed fields of a row are not too long.
 fn test_lengths(alloc: Global, head: &Head, number: u32, row: &ByteRecord) -> Result<(), Fault>
-    ensures kind { IfErr result IsInputFault }
     ensures fault { Tests (length_fault (heading_of head.now) number (fields_of row.now)) result }
 {
     for needed in &head.columns {
@@ -82,7 +80,6 @@ fn are_plain(head: &Head, row: &ByteRecord) -> bool
 
 // Tests the needed fields of a row.
 fn test_texts(alloc: Global, head: &Head, number: u32, row: &ByteRecord) -> Result<(), Fault>
-    ensures kind { IfErr result IsInputFault }
     ensures fault { Tests (text_fault (heading_of head.now) number (fields_of row.now)) result }
 {
     if is_plain_row(row) || are_plain(head, row) {
@@ -104,7 +101,6 @@ fn keep_id(
     ids: &mut IdSet,
 ) -> Result<(), Fault>
     requires { length ids.old < number }
-    ensures kind { IfErr result IsInputFault }
     ensures fault { KeepsId (id_fault role number id.now ids.old) id.now ids.old ids.new result }
 {
     if id.is_empty() {
@@ -141,7 +137,6 @@ fn take_row(
 ) -> Result<(), Fault>
     requires fresh { length ids.old < number }
     requires few { number ≤ head.now.most_rows }
-    ensures kind { IfErr result IsInputFault }
     ensures fault { TakesTableRow (row_fault (heading_of head.now) number ids.old (fields_of row.now)) (heading_of head.now) (fields_of row.now) ids.old ids.new result }
 {
     if row.len() != head.width {
@@ -187,7 +182,6 @@ fn fill_rows<T: RowTaker>(
     requires width { T.width taker.old ≡ length (field_columns (heading_of head.now)) }
     requires most { head.now.most_rows ≤ T.most taker.old }
     requires none { T.took taker.old [] taker.old }
-    ensures kind { IfErr result IsInputFault }
     ensures few { IfOk result (λ rows. rows ≤ head.now.most_rows) }
     ensures answer { FillsRows head.now.has_id (λ rows. T.took taker.old rows taker.new) (rows_read (heading_of head.now) [] left.old) ids.new result }
 {
@@ -223,7 +217,6 @@ fn read_left<T: RowTaker>(
     requires width { T.width taker.old ≡ length (field_columns (heading_of head.now)) }
     requires most { head.now.most_rows ≤ T.most taker.old }
     requires none { T.took taker.old [] taker.old }
-    ensures kind { IfErr result IsInputFault }
     ensures few { IfOk result (λ told. told.rows ≤ head.now.most_rows) }
     ensures answer { ReadsInto head.now.has_id (λ rows. T.took taker.old rows taker.new) (rows_read (heading_of head.now) [] left.old) result }
 {
@@ -243,7 +236,6 @@ fn head_of(
     row: &ByteRecord,
 ) -> Result<Head, Fault>
     requires { names.now ≡ needed_of (wanted_of layout.now) }
-    ensures kind { IfErr result IsInputFault }
     ensures fault { Tests (header_fault role (needed_of (wanted_of layout.now)) (fields_of row.now)) result }
     ensures heading { IfOk result (λ head. heading_of head ≡ heading_under role (wanted_of layout.now) (fields_of row.now)) }
 {
@@ -274,7 +266,6 @@ fn read_under<T: RowTaker>(
     requires width { T.width taker.old ≡ length layout.now.columns.items }
     requires most { layout.now.most_rows ≤ T.most taker.old }
     requires none { T.took taker.old [] taker.old }
-    ensures kind { IfErr result IsInputFault }
     ensures few { IfOk result (λ told. told.rows ≤ layout.now.most_rows) }
     ensures answer { ReadsInto (is_some layout.now.id) (λ rows. T.took taker.old rows taker.new) (under_header role (wanted_of layout.now) (fields_of row.old) left.old) result }
 {
@@ -298,7 +289,6 @@ fn read_records<T: RowTaker>(
     requires width { T.width taker.old ≡ length layout.now.columns.items }
     requires most { layout.now.most_rows ≤ T.most taker.old }
     requires none { T.took taker.old [] taker.old }
-    ensures kind { IfErr result IsInputFault }
     ensures few { IfOk result (λ told. told.rows ≤ layout.now.most_rows) }
     ensures answer { ReadsInto (is_some layout.now.id) (λ rows. T.took taker.old rows taker.new) (table_of role (wanted_of layout.now) left.old) result }
 {
@@ -322,7 +312,6 @@ pub fn read_rows<T: RowTaker>(
     requires width { T.width taker.old ≡ length layout.now.columns.items }
     requires most { layout.now.most_rows ≤ T.most taker.old }
     requires none { T.took taker.old [] taker.old }
-    ensures kind { IfErr result IsInputFault }
     ensures few { IfOk result (λ told. told.rows ≤ layout.now.most_rows) }
     ensures answer { ReadsInto (is_some layout.now.id) (λ rows. T.took taker.old rows taker.new) (table_of role (wanted_of layout.now) (records_in layout.now.delimiter bytes.now)) result }
 {
@@ -340,7 +329,6 @@ pub fn read_table(
     role: FileRole,
     layout: &Layout,
 ) -> Result<Table, Fault>
-    ensures kind { IfErr result IsInputFault }
     ensures few { IfOk result (λ table. length table ≤ layout.now.most_rows) }
     ensures width { IfOk result (HasWidth (wanted_of layout.now)) }
     ensures texts { IfOk result HasTexts }

@@ -1,6 +1,6 @@
 // The pairs of rows with the same field in one column.
-ghost use Rattle.std.specs.Prelude.{◌≡◌, IfErr, IfOk, map};
-ghost use Rattle.link_base.specs.Fault.{Gives, IsAnswer, IsInputFault};
+ghost use Rattle.std.specs.Prelude.{◌≡◌, IfOk, map};
+ghost use Rattle.link_base.specs.Fault.{Gives, IsAnswer};
 ghost use Rattle.file_reader.specs.Layout.{wanted_of};
 ghost use Rattle.file_reader.specs.Table.{table_of};
 ghost use Rattle.file_reader.specs.Left.{records_in};
@@ -30,7 +30,6 @@ fn column_layout(alloc: Global, column: &str) -> Result<Layout, NoMemory>
 }
 
 fn read_column(alloc: Global, role: FileRole, column: &str, bytes: &[u8]) -> Result<Table, Fault>
-    ensures kind { IfErr result IsInputFault }
     ensures column { IfOk result IsColumn }
     ensures answer { IsAnswer (table_of role (wanted_column column.now) (records_in 44 bytes.now)) result }
 {
@@ -42,7 +41,6 @@ fn read_column(alloc: Global, role: FileRole, column: &str, bytes: &[u8]) -> Res
 fn compare_columns(alloc: Global, a: Table, b: Table) -> Result<Vec<PairAt>, Fault>
     requires a { IsColumn a }
     requires b { IsColumn b }
-    ensures kind { IfErr result IsInputFault }
     ensures answer { Gives items_of (pairs_of_fields (map first_field a) (map first_field b)) result }
 {
     let rows = match_rows(alloc, a, b)?;
@@ -58,7 +56,6 @@ struct Columns {
 
 // A column of two files: the faults of A come before those of B.
 fn read_columns(alloc: Global, column: &str, a: &[u8], b: &[u8]) -> Result<Columns, Fault>
-    ensures kind { IfErr result IsInputFault }
     ensures a { IfOk result (λ c. IsColumn c.a) }
     ensures b { IfOk result (λ c. IsColumn c.b) }
     ensures answer { Gives (λ (c : Columns). (map first_field c.a, map first_field c.b)) (compared_columns column.now a.now b.now) result }
@@ -76,7 +73,6 @@ fn read_columns(alloc: Global, column: &str, a: &[u8], b: &[u8]) -> Result<Colum
 // The pairs of a column of two files. What is read is given back before the next step, so that no file stands in memory
 // twice.
 fn compare_files(alloc: Global, column: &str, a: Text, b: Text) -> Result<Vec<PairAt>, Fault>
-    ensures kind { IfErr result IsInputFault }
     ensures answer { Gives items_of (pairs_of_files column.now a b) result }
 {
     let columns = read_columns(alloc, column, a.bytes(), b.bytes());
@@ -92,7 +88,6 @@ fn compare_files(alloc: Global, column: &str, a: Text, b: Text) -> Result<Vec<Pa
 /// fields in the column are equal byte for byte and not empty, rising, with the numbers of both rows from 1 on. The first
 /// fault is that of A, then that of B, and then `TooManyPairs` exactly where there are more than 2,000,000 pairs.
 pub fn pair_rows(alloc: Global, column: &str, a: Text, b: Text) -> Result<Text, Fault>
-    ensures kind { IfErr result IsInputFault }
     ensures answer { IsAnswer (rows_of_pairs column.now a b) result }
 {
     match compare_files(alloc, column, a, b) {

@@ -1,8 +1,8 @@
 // The rows with the same field in one column, found by the places of the fields among their distinct texts.
-ghost use Rattle.std.specs.Prelude.{◌≡◌, ◌≤◌, ◌<◌, ◌+◌, ◌*◌, ◌++◌, ◌^◌, IfErr, IfOk, OnOk, length, map};
+ghost use Rattle.std.specs.Prelude.{◌≡◌, ◌≤◌, ◌<◌, ◌+◌, ◌*◌, ◌++◌, ◌^◌, IfOk, OnOk, length, map};
 ghost use Rattle.block_passes.specs.Index.{rows_with_number};
 ghost use Rattle.block_passes.specs.Numbering.{AreNumbered, AreNumbers, IsNumbered, KeepNumbers, number_among};
-ghost use Rattle.link_base.specs.Fault.{Gives, IsInputFault};
+ghost use Rattle.link_base.specs.Fault.{Gives};
 ghost use Rattle.link_core.specs.ColumnPairs.{first_field, present};
 ghost use Rattle.link_core.specs.ColumnRows.{compared_field, IsColumn, items_of, matched_rows, pairs_from};
 ghost use Rattle.pair_decisions.specs.Pairs.{pairs_within};
@@ -111,7 +111,6 @@ fn push_pairs(pairs: &mut Vec<PairAt>, a: u32, bs: &[u32]) -> Result<(), NoMemor
 /// The pairs of the rows, where they are at most `MOST_PAIRS`: more are never listed.
 pub(crate) fn list_pairs(alloc: Global, rows: &PassRows) -> Result<Vec<PairAt>, Fault>
     requires { length rows.now ≤ MOST_ROWS }
-    ensures kind { IfErr result IsInputFault }
     ensures answer { Gives items_of (pairs_within (pairs_from 0 rows.now)) result }
 {
     let mut pairs = Vec::new(alloc);

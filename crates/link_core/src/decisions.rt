@@ -1,6 +1,6 @@
 // The decisions on the compared pairs of a plan.
-ghost use Rattle.std.specs.Prelude.{◌≡◌, All, IfErr, IfOk, true};
-ghost use Rattle.link_base.specs.Fault.{Gives, IsInputFault};
+ghost use Rattle.std.specs.Prelude.{◌≡◌, All, IfOk, true};
+ghost use Rattle.link_base.specs.Fault.{Gives};
 ghost use Rattle.link_core.specs.Decisions.{decided, decisions_of, IsDecidedIn, rule_over};
 ghost use Rattle.link_core.specs.Results.{IsDecidedFor, KeepsRows};
 ghost use Rattle.link_core.specs.Rules.{IsPreparedFor, shared_rares};
@@ -63,7 +63,6 @@ pub fn decide_all(
     requires ranges { KeepsRanges plan.now }
     requires ready { IsPreparedFor plan.now prepared.now }
     requires rares { shared_rares shares.now ≡ rares_of plan.now.fields }
-    ensures kind { IfErr result IsInputFault }
     ensures answer { Gives (decisions_of prepared.now) (decided plan.now prepared.now.files shares.now) result }
     ensures of_files { IfOk result (IsDecidedIn prepared.now) }
     ensures of_plan { IfOk result (IsDecidedFor plan.now prepared.now) }

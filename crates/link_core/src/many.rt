@@ -1,6 +1,6 @@
 // Links within capacities.
-ghost use Rattle.std.specs.Prelude.{◌≡◌, ◌<◌, ◌++◌, All, IfErr, IfOk, length};
-ghost use Rattle.link_base.specs.Fault.{IsAnswer, IsInputFault};
+ghost use Rattle.std.specs.Prelude.{◌≡◌, ◌<◌, ◌++◌, All, IfOk, length};
+ghost use Rattle.link_base.specs.Fault.{IsAnswer};
 ghost use Rattle.link_base.specs.declared.rule.Candidate.{Candidate as Link};
 ghost use Rattle.link_core.specs.Decisions.{IsDecidedIn, rule_in};
 ghost use Rattle.link_core.specs.Many.{AreCapacitiesOf, capacities_in_file, IsManyText};
@@ -25,7 +25,6 @@ pub fn capacities_in_file(
     prepared: &Prepared,
     bytes: &[u8],
 ) -> Result<Capacities, Fault>
-    ensures kind { IfErr result IsInputFault }
     ensures answer { IsAnswer (capacities_in_file prepared.now.files bytes.now) result }
     ensures of_files { IfOk result (AreCapacitiesOf prepared.now.files) }
 {

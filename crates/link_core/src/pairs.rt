@@ -2,7 +2,7 @@
 ghost use Rattle.std.specs.Prelude.{◌≡◌, ◌++◌, All, IfErr, IfOk, Ok, OnOk, length};
 ghost use Rattle.std.specs.List.{flat_map};
 ghost use Rattle.link_base.specs.Answers.{and_then};
-ghost use Rattle.link_base.specs.Fault.{IsAnswer, IsInputFault, Refuses};
+ghost use Rattle.link_base.specs.Fault.{IsAnswer, Refuses};
 ghost use Rattle.link_report.specs.Lines.{ids_line, ids_text};
 ghost use Rattle.pair_decisions.specs.Pairs.{IsInside, pairs_within};
 ghost use Rattle.link_core.specs.Pairs.{ids_of_prepared};
@@ -33,7 +33,6 @@ fn push_rows(
 ) -> Result<(), Fault>
     requires given { walker.given ≡ 0 }
     requires inside { All (IsInside (length a.now) (length b.now)) (pairs_of_rows walker.left) }
-    ensures kind { IfErr result IsInputFault }
     ensures refused { IfErr result (Refuses (pairs_within (pairs_of_rows walker.entry.left))) }
     ensures within { IfOk result (λ _. pairs_within (pairs_of_rows walker.entry.left) ≡ Ok (pairs_of_rows walker.entry.left)) }
     ensures text { OnOk result (writer.new ≡ writer.old ++ flat_map (ids_line a.now b.now) (pairs_of_rows walker.entry.left)) }
@@ -53,7 +52,6 @@ fn push_rows(
 fn ids_of_rows(alloc: Global, walker: Walker<'_>, a: &StdFile, b: &StdFile) -> Result<Text, Fault>
     requires given { walker.given ≡ 0 }
     requires inside { All (IsInside (length a.now) (length b.now)) (pairs_of_rows walker.left) }
-    ensures kind { IfErr result IsInputFault }
     ensures answer { IsAnswer (and_then (pairs_within (pairs_of_rows walker.entry.left)) (λ pairs. Ok (ids_text a.now b.now pairs))) result }
 {
     let ids_a = IdFields::of(alloc, a)?;
@@ -70,7 +68,6 @@ fn ids_of_rows(alloc: Global, walker: Walker<'_>, a: &StdFile, b: &StdFile) -> R
 /// `MOST_PAIRS` pairs. The lines are written as the pairs come, and no list of the pairs is kept.
 pub fn pair_ids(alloc: Global, plan: &Plan, prepared: &Prepared) -> Result<Text, Fault>
     requires { IsPreparedFor plan.now prepared.now }
-    ensures kind { IfErr result IsInputFault }
     ensures answer { IsAnswer (ids_of_prepared plan.now.passes prepared.now.files) result }
 {
     let blocks = prepared.blocks(alloc, plan)?;

@@ -1,6 +1,6 @@
 // Two files ready to be compared.
-ghost use Rattle.std.specs.Prelude.{◌≡◌, ◌≤◌, All, IfErr, IfOk, Ok, length};
-ghost use Rattle.link_base.specs.Fault.{Gives, IsAnswer, IsInputFault};
+ghost use Rattle.std.specs.Prelude.{◌≡◌, ◌≤◌, All, IfOk, Ok, length};
+ghost use Rattle.link_base.specs.Fault.{Gives, IsAnswer};
 ghost use Rattle.link_core.specs.Prepared.{files_of, IsOneOfBoth, kinds_of, pooled, prepared, sides_in, unreadable_of, with_fault, with_room};
 ghost use Rattle.standard_files.specs.Ready.{AreInRange, ArePooled, IsRowFor};
 ghost use Rattle.standard_files.specs.Sides.{pooled_values};
@@ -124,7 +124,6 @@ fn pool_by(
     requires rows_a { All (IsRowFor kinds.now) a.now }
     requires rows_b { All (IsRowFor kinds.now) b.now }
     requires parts { AreInRange (length kinds.now) passes.now }
-    ensures kind { IfErr result IsInputFault }
     ensures answer { IsAnswer (with_fault (pooled_values pool_limit kinds.now passes.now a.now b.now)) result }
     ensures pooled { IfOk result (ArePooled kinds.now passes.now a.now b.now) }
 {
@@ -147,7 +146,6 @@ fn pool_files(
     requires limit { pool_limit ≤ MOST_POOL_LIMIT }
     requires of_a { AreOfPlan plan.now a.now }
     requires of_b { AreOfPlan plan.now b.now }
-    ensures kind { IfErr result IsInputFault }
     ensures answer { IsAnswer (with_fault (pooled_values pool_limit (kinds_of plan.now) plan.now.passes a.now b.now)) result }
     ensures pooled { IfOk result (ArePooled (kinds_of plan.now) plan.now.passes a.now b.now) }
 {
@@ -173,7 +171,6 @@ fn pool_pair(
     requires limit { pool_limit ≤ MOST_POOL_LIMIT }
     requires of_a { AreOfPlan plan.now files.a.records }
     requires of_b { AreOfPlan plan.now files.b.records }
-    ensures kind { IfErr result IsInputFault }
     ensures answer { Gives files_of (with_room plan.now pool_limit files) result }
     ensures pooled { IfOk result (λ p. pooled plan.now pool_limit p.files ≡ Ok p.values) }
     ensures ready { IfOk result (IsPreparedFor plan.now) }
@@ -205,7 +202,6 @@ pub fn prepare(
 ) -> Result<Prepared, Fault>
     requires ranges { KeepsRanges plan.now }
     requires limit { pool_limit ≤ MOST_POOL_LIMIT }
-    ensures kind { IfErr result IsInputFault }
     ensures answer { Gives files_of (prepared plan.now pool_limit a.now b.now) result }
     ensures pooled { IfOk result (λ p. pooled plan.now pool_limit p.files ≡ Ok p.values) }
     ensures ready { IfOk result (IsPreparedFor plan.now) }
@@ -226,7 +222,6 @@ pub fn prepare_texts(
 ) -> Result<Prepared, Fault>
     requires ranges { KeepsRanges plan.now }
     requires limit { pool_limit ≤ MOST_POOL_LIMIT }
-    ensures kind { IfErr result IsInputFault }
     ensures answer { Gives files_of (prepared plan.now pool_limit a b) result }
     ensures pooled { IfOk result (λ p. pooled plan.now pool_limit p.files ≡ Ok p.values) }
     ensures ready { IfOk result (IsPreparedFor plan.now) }

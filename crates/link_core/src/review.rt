@@ -1,6 +1,6 @@
 // Clerical review of prepared files.
-ghost use Rattle.std.specs.Prelude.{◌≡◌, ◌<◌, All, IfErr, IfOk, length};
-ghost use Rattle.link_base.specs.Fault.{IsAnswer, IsInputFault};
+ghost use Rattle.std.specs.Prelude.{◌≡◌, ◌<◌, All, IfOk, length};
+ghost use Rattle.link_base.specs.Fault.{IsAnswer};
 ghost use Rattle.link_base.specs.Standard.{IsDay};
 ghost use Rattle.link_core.specs.Decisions.{decisions_of, IsDecidedIn};
 ghost use Rattle.link_core.specs.Review.{IsJournalOf, is_open, journal_lines_of, journal_in_files, open_row_of, open_rows_of, open_text_of, reviewed_lines_of, text_within};
@@ -17,7 +17,6 @@ use std::alloc::Global;
 
 /// The journal in a file, over prepared files, or the first fault of the file.
 pub fn journal_in_files(alloc: Global, prepared: &Prepared, bytes: &[u8]) -> Result<Journal, Fault>
-    ensures kind { IfErr result IsInputFault }
     ensures answer { IsAnswer (journal_in_files prepared.now.files bytes.now) result }
     ensures of_files { IfOk result (IsJournalOf prepared.now.files) }
 {
@@ -26,7 +25,6 @@ pub fn journal_in_files(alloc: Global, prepared: &Prepared, bytes: &[u8]) -> Res
 
 // A text of a journal, where it is not too long to be loaded again.
 fn within_limit(text: Text) -> Result<Text, Fault>
-    ensures kind { IfErr result IsInputFault }
     ensures answer { IsAnswer (text_within text) result }
 {
     if text.bytes().len() as u64 > MOST_FILE_BYTES {
@@ -42,7 +40,6 @@ fn within_limit(text: Text) -> Result<Text, Fault>
 /// could load it.
 pub fn journal_lines(alloc: Global, prepared: &Prepared, journal: &Journal) -> Result<Text, Fault>
     requires of_files { IsJournalOf prepared.now.files journal.now }
-    ensures kind { IfErr result IsInputFault }
     ensures answer { IsAnswer (journal_lines_of prepared.now.files journal.now) result }
 {
     let text = journal_text(alloc, journal, prepared.a(), prepared.b())?;
@@ -66,7 +63,6 @@ pub fn add_verdicts(
     requires reviewer { IsReviewer reviewer.now }
     requires decided { IsDecidedIn prepared.now decided.now }
     requires of_files { IsJournalOf prepared.now.files journal.old }
-    ensures kind { IfErr result IsInputFault }
     ensures answer { IsAnswer (reviewed_lines_of double date reviewer.now prepared.now.files decided.now.possible journal.old verdicts.now) result }
 {
     let batch = match read_verdicts(alloc, verdicts, prepared.a(), prepared.b()) {

@@ -1,6 +1,6 @@
 // The decision rule of a plan, and its frontier of levels.
-ghost use Rattle.std.specs.Prelude.{◌≡◌, ◌≤◌, All, IfErr, IfOk, None, length};
-ghost use Rattle.link_base.specs.Fault.{Gives, IsAnswer, IsInputFault};
+ghost use Rattle.std.specs.Prelude.{◌≡◌, ◌≤◌, All, IfOk, None, length};
+ghost use Rattle.link_base.specs.Fault.{Gives, IsAnswer};
 ghost use Rattle.link_core.specs.Rules.{counted_by, IsFrontierText, IsPreparedFor, IsRuleText, shared_rares};
 ghost use Rattle.pair_decisions.specs.Comparators.{rares_of};
 ghost use Rattle.link_limits.specs.declared.TheConstants.{MOST_FIELDS};
@@ -69,7 +69,6 @@ fn counted_fields(
 ) -> Result<Vec<FieldShares>, Fault>
     requires ranges { KeepsRanges plan.now }
     requires files { IsPreparedFor plan.now prepared.now }
-    ensures kind { IfErr result IsInputFault }
     ensures answer { Gives (λ all. plain_all all.items) (counted_by plan.now prepared.now.files sample.now) result }
     ensures rares { IfOk result (λ all. rare_in all.items ≡ rares_of plan.now.fields) }
     ensures some { IfOk result (λ all. 1 ≤ length all.items) }
@@ -98,7 +97,6 @@ pub fn counted(
 ) -> Result<PlanShares, Fault>
     requires ranges { KeepsRanges plan.now }
     requires files { IsPreparedFor plan.now prepared.now }
-    ensures kind { IfErr result IsInputFault }
     ensures answer { IsAnswer (counted_by plan.now prepared.now.files sample.now) result }
     ensures rares { IfOk result (λ shares. shared_rares shares ≡ rares_of plan.now.fields) }
 {

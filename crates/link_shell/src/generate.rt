@@ -1,10 +1,10 @@
 // The command `generate NUMBER`.
-ghost use Rattle.std.specs.Prelude.{◌≡◌, IfErr, IfOk, IfSome, is_some, map, string_bytes, true};
+ghost use Rattle.std.specs.Prelude.{◌≡◌, IfOk, IfSome, is_some, map, string_bytes, true};
 ghost use Rattle.command_scripts.specs.Does.{Does};
 ghost use Rattle.command_steps.specs.Reviewed.{found_of, IsDecidedPlan, IsReviewed, shared_decisions_of};
 ghost use Rattle.command_scripts.specs.Seen.{sink_seen, store_seen};
 ghost use Rattle.csv_rows.specs.Numbers.{number_in};
-ghost use Rattle.link_base.specs.Fault.{Gives, IsInputFault};
+ghost use Rattle.link_base.specs.Fault.{Gives};
 ghost use Rattle.link_core.specs.Results.{KeepsRows};
 ghost use Rattle.link_core.specs.Rules.{IsPreparedFor};
 ghost use Rattle.link_shell.specs.Generate.{are_generate_words, decided_input, decided_sample, generate_script, IsMadeNumber, is_rows_word, rows_asked};
@@ -63,7 +63,6 @@ fn decide_sample(
 ) -> Result<DecidedPlan, Fault>
     requires ranges { KeepsRanges plan.now }
     requires ready { IsPreparedFor plan.now files.now }
-    ensures kind { IfErr result IsInputFault }
     ensures answer { Gives (shared_decisions_of files.now) (decided_sample plan.now files.now.files sample.now) result }
     ensures decided { IfOk result (IsDecidedPlan plan.now files.now true) }
 {
@@ -79,7 +78,6 @@ fn decide_sample(
 
 // Reads a made input, and decides on its compared pairs.
 fn decide_input(alloc: Global, input: &MadeInput) -> Result<ReviewedSettings, Fault>
-    ensures kind { IfErr result IsInputFault }
     ensures answer { Gives found_of (decided_input input.now.settings input.now.a input.now.b input.now.sample) result }
     ensures found { IfOk result IsReviewed }
     ensures rows { IfOk result (λ s. KeepsRows s.plan s.reviewed.files s.reviewed.decided) }
@@ -113,7 +111,6 @@ fn decide_input(alloc: Global, input: &MadeInput) -> Result<ReviewedSettings, Fa
 // Decides on the compared pairs of the made input of so many rows.
 fn decide_made(alloc: Global, rows: u32) -> Result<ReviewedSettings, Fault>
     requires { IsMadeNumber rows }
-    ensures kind { IfErr result IsInputFault }
     ensures answer { Gives found_of (decided_input (text_of_settings rows) (text_of_a rows) (text_of_b rows) (text_of_sample rows)) result }
     ensures found { IfOk result IsReviewed }
     ensures rows { IfOk result (λ s. KeepsRows s.plan s.reviewed.files s.reviewed.decided) }

@@ -1,6 +1,6 @@
 // The decisions on the pairs of blocks.
-ghost use Rattle.std.specs.Prelude.{◌≡◌, ◌≤◌, All, AllPairs, IfErr, IfOk, length};
-ghost use Rattle.link_base.specs.Fault.{Gives, IsInputFault};
+ghost use Rattle.std.specs.Prelude.{◌≡◌, ◌≤◌, All, AllPairs, IfOk, length};
+ghost use Rattle.link_base.specs.Fault.{Gives};
 ghost use Rattle.link_base.specs.Rule.{IsPairBefore};
 ghost use Rattle.pair_decisions.specs.Decisions.{count_with};
 ghost use Rattle.pair_decisions.specs.PairRule.{AreSidesFor};
@@ -108,7 +108,6 @@ pub fn decide_pairs(
     requires sides_b { All (AreSidesFor rule) sides_b.now.rows }
     requires inside { All (IsInside (length sides_a.now.rows) (length sides_b.now.rows)) (pairs_of_rows blocks.now) }
     requires rising { AllPairs IsPairBefore (pairs_of_rows blocks.now) }
-    ensures kind { IfErr result IsInputFault }
     ensures answer { Gives (λ _. pairs_of_rows blocks.now) (pairs_within (pairs_of_rows blocks.now)) result }
     ensures decided { IfOk result (IsDecidedOn rule with_rows sides_a.now.rows sides_b.now.rows (pairs_of_rows blocks.now)) }
 {

@@ -1,6 +1,6 @@
 // The shares of a plan's fields.
-ghost use Rattle.std.specs.Prelude.{◌≡◌, ◌<◌, ◌≤◌, All, None, false, IfErr, IfOk, length, slice_index_or, true};
-ghost use Rattle.link_base.specs.Fault.{Gives, IsInputFault};
+ghost use Rattle.std.specs.Prelude.{◌≡◌, ◌<◌, ◌≤◌, All, None, false, IfOk, length, slice_index_or, true};
+ghost use Rattle.link_base.specs.Fault.{Gives};
 ghost use Rattle.link_base.specs.Shares.{IsShares};
 ghost use Rattle.patterns.specs.Chances.{rare_in};
 ghost use Rattle.pair_decisions.specs.Comparators.{comparators_of, rares_of};
@@ -114,7 +114,6 @@ pub fn counted_shares(
     requires rows_b { length sides_b.now.rows ≡ length b.now }
     requires sides_a { All (AreSidesOf texts plan.now.fields) sides_a.now.rows }
     requires sides_b { All (AreSidesOf texts plan.now.fields) sides_b.now.rows }
-    ensures kind { IfErr result IsInputFault }
     ensures answer { Gives (λ all. plain_all all.items) (counted_in plan.now.fields (pattern_over (comparators_of texts plan.now.fields sides_a.now.rows sides_b.now.rows) sides_a.now.rows sides_b.now.rows) a.now b.now sample.now) result }
     ensures rares { IfOk result (λ all. rare_in all.items ≡ rares_of plan.now.fields) }
     ensures some { IfOk result (λ all. 1 ≤ length all.items) }

@@ -1,6 +1,6 @@
 // The entry of a row of a journal.
-ghost use Rattle.std.specs.Prelude.{◌≡◌, IfErr, IfOk, OnOk, length, true};
-ghost use Rattle.link_base.specs.Fault.{Gives, IsAnswer, IsInputFault};
+ghost use Rattle.std.specs.Prelude.{◌≡◌, IfOk, OnOk, length, true};
+ghost use Rattle.link_base.specs.Fault.{Gives, IsAnswer};
 ghost use Rattle.link_base.specs.Standard.{IsDay};
 ghost use Rattle.file_reader.specs.Table.{IsFieldText};
 ghost use Rattle.review_journal.specs.Adding.{is_not_before};
@@ -21,7 +21,6 @@ use value_forms::read_iso;
 
 // Tests that the number of a row is its own.
 fn test_number(row: u32, text: &[u8]) -> Result<(), Fault>
-    ensures kind { IfErr result IsInputFault }
     ensures answer { Gives (λ _. text.now) (numbered row text.now) result }
 {
     let mut digits = Buffer::new();
@@ -33,7 +32,6 @@ fn test_number(row: u32, text: &[u8]) -> Result<(), Fault>
 
 // The day of a row, which is not before that of the entry before.
 fn date_of(journal: &Journal, row: u32, text: &[u8]) -> Result<i32, Fault>
-    ensures kind { IfErr result IsInputFault }
     ensures answer { IsAnswer (dated journal.now row text.now) result }
     ensures day { IfOk result IsDay }
     ensures not_back { IfOk result (λ date. is_not_before journal.now date ≡ true) }
@@ -52,7 +50,6 @@ fn date_of(journal: &Journal, row: u32, text: &[u8]) -> Result<i32, Fault>
 // Tests that a row names a reviewer.
 fn test_reviewer(row: u32, text: &[u8]) -> Result<(), Fault>
     requires { IsFieldText text.now }
-    ensures kind { IfErr result IsInputFault }
     ensures answer { Gives (λ _. text.now) (signed row text.now) result }
     ensures named { OnOk result (IsReviewer text.now) }
 {
@@ -64,7 +61,6 @@ fn test_reviewer(row: u32, text: &[u8]) -> Result<(), Fault>
 
 // An entry whose step may stand after the entries before.
 fn fitting_entry(journal: &Journal, row: u32, entry: Entry) -> Result<Entry, Fault>
-    ensures kind { IfErr result IsInputFault }
     ensures answer { IsAnswer (fitting journal.now row entry) result }
     ensures same { IfOk result (λ e. e ≡ entry) }
     ensures fits { IfOk result (λ e. fits_after journal.now e ≡ true) }
@@ -85,7 +81,6 @@ pub(crate) fn entry_of(
     b: &StdFile,
 ) -> Result<Entry, Fault>
     requires { IsFieldText row.now.reviewer.now }
-    ensures kind { IfErr result IsInputFault }
     ensures answer { IsAnswer (entry_in a.now b.now journal.now number (written_of row.now)) result }
     ensures follows { IfOk result (CanFollow journal.now) }
     ensures within { IfOk result (IsWithinFiles (length a.now) (length b.now)) }

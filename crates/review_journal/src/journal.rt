@@ -1,7 +1,6 @@
 // The journal: its entries in order, and the last one on each pair.
-ghost use Rattle.std.specs.Prelude.{◌≡◌, ◌≤◌, ◌<◌, ◌+◌, ◌++◌, ◌∷◌, [], ℤ, int_le, AllPairs, IfErr, IfSome, OnErr, OnOk, length, take, option_copied, option_map, true};
+ghost use Rattle.std.specs.Prelude.{◌≡◌, ◌≤◌, ◌<◌, ◌+◌, ◌++◌, ◌∷◌, [], ℤ, int_le, AllPairs, OnErr, OnOk, length, take, option_copied, option_map, true};
 ghost use Rattle.std.specs.Option.{option_map_or};
-ghost use Rattle.link_base.specs.Fault.{IsInputFault};
 ghost use Rattle.link_base.specs.Standard.{IsDay};
 ghost use Rattle.link_limits.specs.declared.TheConstants.{MOST_ENTRIES};
 ghost use Rattle.link_base.specs.Rule.{IsPairBefore};
@@ -158,7 +157,6 @@ impl Journal {
     fn batch_fault(&self, rows: &[NewVerdict], date: i32, possible: &[PairAt]) -> Option<Fault>
         requires { AllPairs IsPairBefore possible.now }
         ensures first { result ≡ batch_fault self.now rows.now date possible.now }
-        ensures kind { IfSome result IsInputFault }
     {
         if rows.len() > MOST_ENTRIES as usize - self.entries.len() {
             return Some(Fault::TooManyEntries {
@@ -282,7 +280,6 @@ impl Journal {
         requires reviewer { IsReviewer reviewer.now }
         requires rising { AllPairs IsPairBefore possible.now }
         ensures answer { IsAdded (added double date reviewer.now possible.now self.old batch.now) self.old self.new result }
-        ensures kind { IfErr result IsInputFault }
     {
         match self.batch_fault(batch.rows(), date, possible) {
             Some(fault) => return Err(fault),

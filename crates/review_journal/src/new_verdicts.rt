@@ -1,7 +1,7 @@
 // The new verdicts in a file.
-ghost use Rattle.std.specs.Prelude.{◌≡◌, ◌≤◌, ◌<◌, ◌+◌, All, [], IfErr, IfOk, length, slice_index_or};
+ghost use Rattle.std.specs.Prelude.{◌≡◌, ◌≤◌, ◌<◌, ◌+◌, All, [], IfOk, length, slice_index_or};
 ghost use Rattle.file_reader.specs.Left.{records_in};
-ghost use Rattle.link_base.specs.Fault.{IsAnswer, IsInputFault};
+ghost use Rattle.link_base.specs.Fault.{IsAnswer};
 ghost use Rattle.link_limits.specs.declared.TheConstants.{MOST_ROWS};
 ghost use Rattle.file_reader.specs.Layout.{wanted_of};
 ghost use Rattle.file_reader.specs.Rows.{TableRow, no_row};
@@ -32,7 +32,6 @@ fn verdict_at(
     requires within { at < length table.now }
     requires width { length (slice_index_or table.now at no_row).fields ≡ 3 }
     requires few { length table.now ≤ MOST_ROWS }
-    ensures kind { IfErr result IsInputFault }
     ensures answer { IsAnswer (verdict_in a.now b.now (at + 1) (slice_index_or table.now at no_row).fields) result }
     ensures placed { IfOk result (NamesRecords (length a.now) (length b.now)) }
 {
@@ -64,7 +63,6 @@ fn verdict_at(
 fn verdicts_in(alloc: Global, table: &Table, a: &StdFile, b: &StdFile) -> Result<Verdicts, Fault>
     requires width { All (λ (r : TableRow). length r.fields ≡ 3) table.now }
     requires few { length table.now ≤ MOST_ROWS }
-    ensures kind { IfErr result IsInputFault }
     ensures answer { IsAnswer (verdicts_read a.now b.now [] table.now) result }
     ensures placed { IfOk result (λ batch. All (NamesRecords (length a.now) (length b.now)) batch) }
 {
@@ -85,7 +83,6 @@ pub fn read_verdicts(
     a: &StdFile,
     b: &StdFile,
 ) -> Result<Verdicts, Fault>
-    ensures kind { IfErr result IsInputFault }
     ensures answer { IsAnswer (verdicts_of a.now b.now bytes.now) result }
     ensures placed { IfOk result (λ batch. All (NamesRecords (length a.now) (length b.now)) batch) }
 {

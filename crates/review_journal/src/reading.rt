@@ -1,7 +1,7 @@
 // The journal in a file.
-ghost use Rattle.std.specs.Prelude.{◌≡◌, ◌≤◌, All, [], IfErr, IfOk, length};
+ghost use Rattle.std.specs.Prelude.{◌≡◌, ◌≤◌, All, [], IfOk, length};
 ghost use Rattle.file_reader.specs.Left.{records_in};
-ghost use Rattle.link_base.specs.Fault.{IsAnswer, IsInputFault};
+ghost use Rattle.link_base.specs.Fault.{IsAnswer};
 ghost use Rattle.link_limits.specs.declared.TheConstants.{MOST_ENTRIES};
 ghost use Rattle.file_reader.specs.Layout.{wanted_of};
 ghost use Rattle.file_reader.specs.Rows.{TableRow};
@@ -63,7 +63,6 @@ fn entries_in(
     requires width { All (λ (r : TableRow). length r.fields ≡ length (journal_columns second)) table.now }
     requires texts { HasTexts table.now }
     requires few { length table.now ≤ MOST_ENTRIES }
-    ensures kind { IfErr result IsInputFault }
     ensures answer { IsAnswer (entries_read second a.now b.now [] table.now) result }
     ensures within { IfOk result (λ j. All (IsWithinFiles (length a.now) (length b.now)) j) }
 {
@@ -86,7 +85,6 @@ fn read_version(
     a: &StdFile,
     b: &StdFile,
 ) -> Result<Journal, Fault>
-    ensures kind { IfErr result IsInputFault }
     ensures answer { IsAnswer (journal_under second a.now b.now (records_in 44 bytes.now)) result }
     ensures within { IfOk result (λ j. All (IsWithinFiles (length a.now) (length b.now)) j) }
 {
@@ -100,7 +98,6 @@ fn read_version(
 /// The journal in a file, or its first fault. A file of no bytes has no entries. The second version, whose entries say
 /// which step of review they are, is known by its column `step`; in the first each verdict stands alone.
 pub fn read_journal(alloc: Global, bytes: &[u8], a: &StdFile, b: &StdFile) -> Result<Journal, Fault>
-    ensures kind { IfErr result IsInputFault }
     ensures answer { IsAnswer (journal_in a.now b.now bytes.now) result }
     ensures within { IfOk result (λ j. All (IsWithinFiles (length a.now) (length b.now)) j) }
 {

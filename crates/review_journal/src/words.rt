@@ -1,6 +1,6 @@
 // The words of verdicts and of steps.
-ghost use Rattle.std.specs.Prelude.{◌≡◌, IfErr, option_map};
-ghost use Rattle.link_base.specs.Fault.{IsAnswer, IsInputFault};
+ghost use Rattle.std.specs.Prelude.{◌≡◌, option_map};
+ghost use Rattle.link_base.specs.Fault.{IsAnswer};
 ghost use Rattle.link_base.specs.declared.fault.Fault.TheVariants as fault;
 ghost use Rattle.file_reader.specs.Known.{or_fault};
 ghost use Rattle.review_journal.specs.Rows.{step_named, step_word, verdict_named, verdict_word};
@@ -59,7 +59,6 @@ fn step_by(word: &[u8]) -> Option<Step>
 
 // The verdict that a word in a row names.
 pub(crate) fn verdict_of(role: FileRole, row: u32, word: &[u8]) -> Result<Verdict, Fault>
-    ensures kind { IfErr result IsInputFault }
     ensures answer { IsAnswer (or_fault (fault.BadVerdict role row) (verdict_named word.now)) result }
 {
     match verdict_by(word) {
@@ -70,7 +69,6 @@ pub(crate) fn verdict_of(role: FileRole, row: u32, word: &[u8]) -> Result<Verdic
 
 // The step that a word in a row names. A verdict without a word stands alone.
 pub(crate) fn step_of(row: u32, word: Option<&[u8]>) -> Result<Step, Fault>
-    ensures kind { IfErr result IsInputFault }
     ensures answer { IsAnswer (or_fault (fault.BadStep row) (step_named (option_map (λ w. w.now) word.entry))) result }
 {
     let word = match word {

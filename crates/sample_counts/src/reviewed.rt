@@ -1,8 +1,8 @@
 // The reviewed pairs of a sample.
-ghost use Rattle.std.specs.Prelude.{◌≡◌, ◌≤◌, ◌<◌, ◌+◌, ◌++◌, ◌∷◌, [], All, IfErr, IfOk, OnOk, length, map, not, slice_index_or, true};
+ghost use Rattle.std.specs.Prelude.{◌≡◌, ◌≤◌, ◌<◌, ◌+◌, ◌++◌, ◌∷◌, [], All, IfOk, OnOk, length, map, not, slice_index_or, true};
 ghost use Rattle.std.specs.List.{list_any};
 ghost use Rattle.file_reader.specs.Left.{records_in};
-ghost use Rattle.link_base.specs.Fault.{Gives, IsAnswer, IsInputFault};
+ghost use Rattle.link_base.specs.Fault.{Gives, IsAnswer};
 ghost use Rattle.file_reader.specs.Layout.{wanted_of};
 ghost use Rattle.file_reader.specs.Rows.{TableRow, no_row};
 ghost use Rattle.sample_counts.specs.Sample.{IsInFiles, is_matched_by, reviewed_row, reviewed_rows, sample_of, sample_row, sample_under, sample_wanted, with_both, IsSample};
@@ -53,7 +53,6 @@ fn reviewed_at(
     requires within { at < length table.now }
     requires width { length (slice_index_or table.now at no_row).fields ≡ 3 }
     requires few { length table.now ≤ MOST_ROWS }
-    ensures kind { IfErr result IsInputFault }
     ensures answer { IsAnswer (reviewed_row a.now b.now (at + 1) (slice_index_or table.now at no_row).fields) result }
     ensures in_files { IfOk result (λ r. IsInFiles (length a.now) (length b.now) r) }
 {
@@ -95,7 +94,6 @@ fn sample_at(
     requires few { length table.now ≤ MOST_ROWS }
     requires done { length done.now ≡ at }
     requires places { HasPlaces places.old done.now }
-    ensures kind { IfErr result IsInputFault }
     ensures answer { IsAnswer (sample_row a.now b.now done.now (at + 1) (slice_index_or table.now at no_row).fields) result }
     ensures in_files { IfOk result (λ r. IsInFiles (length a.now) (length b.now) r) }
     ensures places { IfOk result (λ r. HasPlaces places.new (done.now ++ r ∷ [])) }
@@ -128,7 +126,6 @@ fn reviewed_in(
 ) -> Result<Vec<Reviewed>, Fault>
     requires width { All (λ (r : TableRow). length r.fields ≡ 3) table.now }
     requires few { length table.now ≤ MOST_ROWS }
-    ensures kind { IfErr result IsInputFault }
     ensures answer { Gives (λ sample. sample.items) (reviewed_rows a.now b.now [] table.now) result }
     ensures in_files { IfOk result (λ sample. All (IsInFiles (length a.now) (length b.now)) sample.items) }
     ensures rows { IfOk result (λ sample. length sample.items ≡ length table.now) }
@@ -158,7 +155,6 @@ fn has_unmatched(sample: &[Reviewed]) -> bool
 
 // The sample, where it has a matched and an unmatched pair.
 fn with_both_kinds(sample: Vec<Reviewed>) -> Result<Vec<Reviewed>, Fault>
-    ensures kind { IfErr result IsInputFault }
     ensures answer { Gives (λ sample. sample.items) (with_both sample.items) result }
     ensures same { IfOk result (λ kept. kept.items ≡ sample.items) }
     ensures matched { OnOk result (list_any (λ (r : Reviewed). r.matched) sample.items ≡ true) }
@@ -177,7 +173,6 @@ fn with_both_kinds(sample: Vec<Reviewed>) -> Result<Vec<Reviewed>, Fault>
 fn sample_in(alloc: Global, table: &Table, a: &StdFile, b: &StdFile) -> Result<Vec<Reviewed>, Fault>
     requires width { All (λ (r : TableRow). length r.fields ≡ 3) table.now }
     requires few { length table.now ≤ MOST_ROWS }
-    ensures kind { IfErr result IsInputFault }
     ensures answer { Gives (λ sample. sample.items) (sample_under a.now b.now table.now) result }
     ensures is { IfOk result (λ sample. IsSample (length a.now) (length b.now) sample.items) }
 {
@@ -194,7 +189,6 @@ pub(crate) fn read_sample(
     a: &StdFile,
     b: &StdFile,
 ) -> Result<Vec<Reviewed>, Fault>
-    ensures kind { IfErr result IsInputFault }
     ensures answer { Gives (λ sample. sample.items) (sample_of a.now b.now (records_in 44 bytes.now)) result }
     ensures is { IfOk result (λ sample. IsSample (length a.now) (length b.now) sample.items) }
 {

@@ -1,8 +1,8 @@
 // The counts of a sample.
-ghost use Rattle.std.specs.Prelude.{◌≡◌, ◌≤◌, ◌<◌, All, IfErr, IfOk, List, Ok, length, map};
+ghost use Rattle.std.specs.Prelude.{◌≡◌, ◌≤◌, ◌<◌, All, IfOk, List, Ok, length, map};
 ghost use Rattle.file_reader.specs.Left.{records_in};
 ghost use Rattle.link_base.specs.Answers.{and_then};
-ghost use Rattle.link_base.specs.Fault.{IsAnswer, IsInputFault};
+ghost use Rattle.link_base.specs.Fault.{IsAnswer};
 ghost use Rattle.patterns.specs.Shapes.{pattern_count_by};
 ghost use Rattle.patterns.specs.Patterns.{AreSides};
 ghost use Rattle.sample_counts.specs.Counts.{AreOutcomeCounts, counts_by, judged_by};
@@ -63,7 +63,6 @@ pub fn count_sample_over<C: Comparator, T: Sides<C::Side>>(
     requires rows_b { length (T.all sides_b.now) ≡ length b.now }
     requires sides_a { All (AreSides C.is_valid kinds.now) (T.all sides_a.now) }
     requires sides_b { All (AreSides C.is_valid kinds.now) (T.all sides_b.now) }
-    ensures kind { IfErr result IsInputFault }
     ensures fields { IfOk result (λ counts. counts.rares ≡ map C.is_rare kinds.now) }
     ensures answer { IsAnswer (and_then (sample_of a.now b.now (records_in 44 bytes.now))
         (λ sample. Ok (counts_by C.is_rare C.outcome_of kinds.now (T.all sides_a.now) (T.all sides_b.now) sample))) result }

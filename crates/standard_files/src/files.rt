@@ -1,6 +1,6 @@
 // The standard files of a plan.
-ghost use Rattle.std.specs.Prelude.{◌≡◌, ◌<◌, length, IfErr, IfOk, IfSome};
-ghost use Rattle.link_base.specs.Fault.{IsAnswer, IsInputFault, or_else};
+ghost use Rattle.std.specs.Prelude.{◌≡◌, ◌<◌, length, IfOk, IfSome};
+ghost use Rattle.link_base.specs.Fault.{IsAnswer, or_else};
 ghost use Rattle.link_base.specs.declared.fault.FileRole.TheVariants as role;
 ghost use Rattle.file_reader.specs.Table.{Tests};
 ghost use Rattle.standard_files.specs.Files.{AreOfPlan, standard_files};
@@ -54,7 +54,6 @@ fn test_dates(
     first: Option<DatePlace>,
 ) -> Result<(), Fault>
     requires { IfSome first (λ (d : DatePlace). d.field < length plan.now.fields) }
-    ensures kind { IfErr result IsInputFault }
     ensures fault { Tests (strict_fault role plan.now first) result }
 {
     match first {
@@ -80,7 +79,6 @@ fn test_both(
 ) -> Result<(), Fault>
     requires within_a { IfSome a (λ (d : DatePlace). d.field < length plan.now.fields) }
     requires within_b { IfSome b (λ (d : DatePlace). d.field < length plan.now.fields) }
-    ensures kind { IfErr result IsInputFault }
     ensures fault { Tests (or_else (strict_fault role.A plan.now a) (strict_fault role.B plan.now b)) result }
 {
     match test_dates(alloc, FileRole::A, plan, a) {
@@ -94,7 +92,6 @@ fn test_both(
 fn pair_of(alloc: Global, plan: &Plan, a: DatedFile, b: DatedFile) -> Result<StandardPair, Fault>
     requires within_a { IfSome a.first (λ (d : DatePlace). d.field < length plan.now.fields) }
     requires within_b { IfSome b.first (λ (d : DatePlace). d.field < length plan.now.fields) }
-    ensures kind { IfErr result IsInputFault }
     ensures answer { IsAnswer (dated_pair plan.now a b) result }
     ensures a { IfOk result (λ pair. pair.a ≡ a.file) }
     ensures b { IfOk result (λ pair. pair.b ≡ b.file) }
@@ -121,7 +118,6 @@ fn read_by(
     b: &[u8],
 ) -> Result<StandardPair, Fault>
     requires { tables.now ≡ plan.now.tables }
-    ensures kind { IfErr result IsInputFault }
     ensures answer { IsAnswer (standard_files plan.now a.now b.now) result }
     ensures of_a { IfOk result (λ pair. AreOfPlan plan.now pair.a.records) }
     ensures of_b { IfOk result (λ pair. AreOfPlan plan.now pair.b.records) }
@@ -143,7 +139,6 @@ fn read_by(
 /// then the values of A and of B. A date that cannot be read is absent and counted; a strict plan
 /// refuses the first one by file, row and field. Values are made as rows are read, and no table is kept.
 pub fn read_files(alloc: Global, plan: &Plan, a: &[u8], b: &[u8]) -> Result<StandardPair, Fault>
-    ensures kind { IfErr result IsInputFault }
     ensures answer { IsAnswer (standard_files plan.now a.now b.now) result }
     ensures of_a { IfOk result (λ pair. AreOfPlan plan.now pair.a.records) }
     ensures of_b { IfOk result (λ pair. AreOfPlan plan.now pair.b.records) }

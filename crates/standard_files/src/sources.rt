@@ -1,6 +1,6 @@
 // The files of a plan, read in standard values.
-ghost use Rattle.std.specs.Prelude.{◌≡◌, ◌<◌, ◌++◌, ◌∷◌, [], length, map, IfErr, IfOk, IfSome, OnOk};
-ghost use Rattle.link_base.specs.Fault.{IsAnswer, IsInputFault};
+ghost use Rattle.std.specs.Prelude.{◌≡◌, ◌<◌, ◌++◌, ◌∷◌, [], length, map, IfOk, IfSome, OnOk};
+ghost use Rattle.link_base.specs.Fault.{IsAnswer};
 ghost use Rattle.file_reader.specs.Layout.{wanted_of};
 ghost use Rattle.link_plan.specs.Plan.{FieldKeys};
 ghost use Rattle.standard_files.specs.Files.{AreOfPlan, field_column, delimiter_in, wanted_in};
@@ -100,7 +100,6 @@ pub(crate) fn read_file(
     bytes: &[u8],
 ) -> Result<DatedFile, Fault>
     requires tables { tables.now ≡ plan.now.tables }
-    ensures kind { IfErr result IsInputFault }
     ensures answer { IsAnswer (dated_file role plan.now bytes.now) result }
     ensures of_plan { IfOk result (λ dated. AreOfPlan plan.now dated.file.records) }
     ensures within { IfOk result (λ dated. IfSome dated.first (λ (d : DatePlace). d.field < length plan.now.fields)) }
