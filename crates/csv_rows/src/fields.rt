@@ -11,8 +11,8 @@ fn is_special(byte: u8) -> bool
     matches!(byte, b',' | b'"' | b'\r' | b'\n')
 }
 
-// Whether a field calls for quotes.
-fn has_special(field: &[u8]) -> bool
+/// Whether a field calls for quotes (RFC 4180).
+pub fn calls_for_quotes(field: &[u8]) -> bool
     ensures { result ≡ needs_quotes default_writer field.now }
 {
     field.iter().any(|byte| is_special(*byte))
@@ -36,7 +36,7 @@ fn push_escaped(line: &mut Vec<u8>, field: &[u8]) -> Result<(), NoMemory>
 pub fn push_field(line: &mut Vec<u8>, field: &[u8]) -> Result<(), NoMemory>
     ensures { OnOk result (line.new.items ≡ line.old.items ++ field_text default_writer field.now) }
 {
-    if !has_special(field) {
+    if !calls_for_quotes(field) {
         line.extend_from_slice(field)?;
         return Ok(());
     }

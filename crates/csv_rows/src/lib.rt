@@ -6,7 +6,7 @@ mod laws;
 mod numbers;
 mod rows;
 
-pub use fields::push_field;
+pub use fields::{calls_for_quotes, push_field};
 pub use laws::rows_read_again;
 pub use numbers::{decimals_are_read, read_decimal};
 pub use rows::{digits_of, push_row};

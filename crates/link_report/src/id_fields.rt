@@ -1,30 +1,16 @@
 // The ids of a file's records as fields of lines.
 ghost use Rattle.std.specs.Prelude.{◌≡◌, ◌<◌, ◌+◌, ◌-◌, ◌^◌, ◌++◌, ◌∷◌, [], IfOk, IsTrue, OnOk, length};
-ghost use Rattle.csv.specs.Writing.{default_writer, field_text, needs_byte, needs_quotes};
+ghost use Rattle.csv.specs.Writing.{default_writer, field_text};
 ghost use Rattle.link_base.specs.Standard.{id_at};
 ghost use Rattle.link_report.specs.LineParts.{ArePlain, id_fields, line_start, two_fields};
 
-use csv_rows::push_field;
+use csv_rows::{calls_for_quotes, push_field};
 use link_base::{NoMemory, PairAt, StdFile, TextRegion};
 use std::alloc::Global;
 use std::marker::Model;
 
 // How many bytes a field may have for which room is made beforehand.
 const USUAL_BYTES: usize = 8;
-
-// Whether a byte calls for quotes: a comma, a quote, or a byte that ends a line.
-fn is_special(byte: u8) -> bool
-    ensures { result ≡ needs_byte default_writer byte }
-{
-    matches!(byte, b',' | b'"' | b'\r' | b'\n')
-}
-
-// Whether a field calls for quotes.
-fn calls_for_quotes(field: &[u8]) -> bool
-    ensures { result ≡ needs_quotes default_writer field.now }
-{
-    field.iter().any(|byte| is_special(*byte))
-}
 
 // Whether no id of a file calls for quotes.
 fn are_plain(file: &StdFile) -> bool

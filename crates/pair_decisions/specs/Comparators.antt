@@ -1,7 +1,7 @@
 -- The comparators of a plan's fields over ids of canons and over days. A field with a rare number tells agreement on a
 -- value that stands in at most so many rows of both files together from other agreement (Newcombe et al. 1959).
 -- `comparisons_of` carries it (part `answers` of its lone clause).
-use Rattle.std.specs.Prelude.{◌+◌, ◌==◌, ℕ, Bool, true, false, List, map, filter, length, Option, Some, None, slice_index_or, is_some}
+use Rattle.std.specs.Prelude.{◌≡◌, ◌+◌, ◌<◌, ◌==◌, ℕ, Bool, true, false, List, map, filter, length, Option, Some, None, slice_index, slice_index_or, is_some}
 use Rattle.std.specs.List.{enumerate_from, range_with_len}
 use Rattle.link_base.specs.declared.plan.CompareKind.{CompareKind}
 use Rattle.link_base.specs.declared.rule.Outcome.{Outcome}
@@ -36,6 +36,11 @@ count_of_id rows_a rows_b field n = length (filter (has_id field n) rows_a) + le
 -- the counts of all ids in a field
 abbrev pub id_counts : ℕ → List (List IdValue) → List (List IdValue) → ℕ → List ℕ
 id_counts texts rows_a rows_b field = map (count_of_id rows_a rows_b field) (range_with_len 0 texts)
+
+-- machinery: to the count of each id a number is added
+pub record AddsCounts (more : ℕ → ℕ) (old new : List ℕ) : Type 0 where
+  pub as_many : length new ≡ length old
+  pub counts : (k : ℕ) → k < length old → slice_index new k ≡ slice_index old k + more k
 
 -- the comparator of a kind, and where there is a rare number the one that answers `Rare` by it and these counts
 abbrev pub comparator_by : CompareKind → List ℕ → Option ℕ → SideComparator IdValue

@@ -1,5 +1,6 @@
 -- Machinery of `decide_pairs`: what a walk over pairs finds. No public clause names it.
-use Rattle.std.specs.Prelude.{◌≡◌, ◌++◌, ◌∷◌, [], Bool, List, if◌then◌else◌, length}
+use Rattle.std.specs.Prelude.{◌≡◌, ◌≤◌, ◌++◌, ◌∷◌, [], Bool, List, if◌then◌else◌, length}
+use Rattle.link_limits.specs.declared.TheConstants.{MOST_PAIRS}
 use Rattle.link_base.specs.declared.rule.Decision.TheVariants.{Link, Possible}
 use Rattle.link_base.specs.declared.rule.PairAt.{PairAt}
 use Rattle.pair_decisions.specs.Decisions.{is_same, pairs_with}
@@ -21,9 +22,10 @@ pub record AddsDecisions (rule : FileRule) (with_rows : Bool) (pairs : List Pair
   pub links : new.links.items ≡ old.links.items ++ pairs_with Link rule pairs
   pub possible : new.possible.items ≡ old.possible.items ++ pairs_with Possible rule pairs
 
--- what is found of these pairs
+-- what is found of these pairs, which are not too many
 pub record IsFoundOf (rule : FileRule) (with_rows : Bool) (pairs : List PairAt) (found : Found) : Type 0 where
   pub rows : found.rows.items ≡ kept_rows with_rows (decided_rows rule pairs)
   pub links : found.links.items ≡ pairs_with Link rule pairs
   pub possible : found.possible.items ≡ pairs_with Possible rule pairs
   pub compared : found.compared ≡ length pairs
+  pub few : length pairs ≤ MOST_PAIRS

@@ -12,6 +12,11 @@ use Rattle.pair_decisions.specs.PairRule.{has_pattern}
 abbrev pub place_of : List RuleCell → ℕ → ℕ
 place_of cells pattern = position_or_len (has_pattern pattern) cells
 
+-- the place of each pattern that has a cell
+pub record ArePlaces (cells : List RuleCell) (places : List ℕ) : Type 0 where
+  pub as_many : length places ≡ length cells
+  pub told : (pattern : ℕ) → place_of cells pattern < length cells → slice_index places pattern ≡ place_of cells pattern
+
 -- each pattern has a cell, whose place is told
 pub record KeepsPlaces (comparators : List FieldById) (cells : List RuleCell) (places : List ℕ) : Type 0 where
   pub few : length comparators ≤ MOST_FIELDS

@@ -2,7 +2,7 @@
 ghost use Rattle.std.specs.Prelude.{◌≡◌, ◌+◌, ◌<◌, ◌≤◌, ◌^◌, ℕ, List, All, IfOk, length, filter, slice_index, slice_index_or, if◌then◌else◌};
 ghost use Rattle.comparators.specs.declared.ids.IdValue.{IdValue as SideValue};
 ghost use Rattle.comparators.specs.declared.ids.IdValue.TheVariants as id;
-ghost use Rattle.pair_decisions.specs.Comparators.{has_id, id_counts, is_id};
+ghost use Rattle.pair_decisions.specs.Comparators.{AddsCounts, has_id, id_counts, is_id};
 ghost use Rattle.pair_decisions.specs.Sides.{IsOfTexts};
 
 use comparators::{IdTable, IdValue};
@@ -14,9 +14,7 @@ use std::alloc::Global;
 fn count_side(counts: &mut [u32], side: &IdValue)
     requires of_texts { IsOfTexts (length counts.old) side.now }
     requires room { (k : ℕ) → k < length counts.old → slice_index counts.old k + 1 < 2 ^ 32 }
-    ensures as_many { length counts.new ≡ length counts.old }
-    ensures counts { (k : ℕ) → k < length counts.old
-        → slice_index counts.new k ≡ slice_index counts.old k + (if is_id k side.now then 1 else 0) }
+    ensures { AddsCounts (λ k. if is_id k side.now then 1 else 0) counts.old counts.new }
 {
     if let IdValue::Id(id) = side {
         counts[id.place() as usize] += 1;
@@ -28,9 +26,7 @@ fn count_rows(counts: &mut [u32], table: &IdTable, field: usize)
     requires width { All (λ (row : List SideValue). field < length row) table.now.rows }
     requires of_texts { All (λ (row : List SideValue). IsOfTexts (length counts.old) (slice_index_or row field id.Absent)) table.now.rows }
     requires room { (k : ℕ) → k < length counts.old → slice_index counts.old k + length table.now.rows < 2 ^ 32 }
-    ensures as_many { length counts.new ≡ length counts.old }
-    ensures counts { (k : ℕ) → k < length counts.old
-        → slice_index counts.new k ≡ slice_index counts.old k + length (filter (has_id field k) table.now.rows) }
+    ensures { AddsCounts (λ k. length (filter (has_id field k) table.now.rows)) counts.old counts.new }
 {
     for at in 0..table.count() {
         let sides = table.sides(at);

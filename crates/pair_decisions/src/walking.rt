@@ -101,7 +101,6 @@ pub(crate) fn decide_rows(
     requires sides_b { All (AreSidesFor rule.now) sides_b.now.rows }
     requires inside { All (IsInside (length sides_a.now.rows) (length sides_b.now.rows)) (pairs_of_rows walker.left) }
     ensures refused { IfErr result (RefusesPairs (pairs_of_rows walker.entry.left)) }
-    ensures few { IfOk result (λ _. length (pairs_of_rows walker.entry.left) ≤ MOST_PAIRS) }
     ensures found { IfOk result (IsFoundOf (side_rule rule.now sides_a.now.rows sides_b.now.rows) with_rows (pairs_of_rows walker.entry.left)) }
 {
     let mut words = BorderWords::new(rule.seed());

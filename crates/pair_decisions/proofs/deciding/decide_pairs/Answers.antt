@@ -31,7 +31,7 @@ walked : (c : In-Ok) → pairs_of_rows c.walk.result.left ≡ all_of c
 walked c = ap pairs_of_rows c.walk.ensures.left
 
 few : (c : In-Ok) → length (all_of c) ≤ MOST_PAIRS
-few c = subst (λ (ps : List PairAt). length ps ≤ MOST_PAIRS) (walked c) c.in-Ok.ensures.few
+few c = subst (λ (ps : List PairAt). length ps ≤ MOST_PAIRS) (walked c) c.in-Ok.ensures.found.few
 
 compared : (c : In-Ok) → c.in-Ok.found.compared ≡ length (all_of c)
 compared c = c.in-Ok.ensures.found.compared ∙ ap length (walked c)
