@@ -94,22 +94,6 @@ has_more t sorts old new rows texts row count date h m n =
       valid = rw n.rows (All-push (λ (values : List Value). All IsValid values) old.rows.rows row h.valid m.valid);
     }
 
--- a taker with it
-pub values_of : (t : Tables) (sorts : List TextSort) (tables : Tables) (v : FileValues) (rows : List Texts) → HasTaken t sorts tables v rows → HasValues tables v.sorts.items v rows
-values_of t sorts tables v rows h =
-    subst (λ (s : List TextSort). HasValues tables s v rows) (sym h.of_sorts) (subst (λ (x : Tables). HasValues x sorts v rows) (sym h.by_tables) h.values)
-
-pub taken_more : (t : Tables) (sorts : List TextSort) (tables : Tables) (old new : FileValues) (rows : List Texts) (texts : Texts)
-    → HasTaken t sorts tables old rows → new.sorts.items ≡ old.sorts.items → ((rows : List Texts) → HasValues tables old.sorts.items old rows → HasValues tables old.sorts.items new (rows ++ texts ∷ []))
-    → HasTaken t sorts tables new (rows ++ texts ∷ [])
-taken_more t sorts tables old new rows texts h same more =
-    record {
-      by_tables = h.by_tables;
-      of_sorts = same ∙ h.of_sorts;
-      values = subst (λ (x : Tables). HasValues x sorts new (rows ++ texts ∷ [])) h.by_tables
-          (subst (λ (s : List TextSort). HasValues tables s new (rows ++ texts ∷ [])) h.of_sorts (more rows (values_of t sorts tables old rows h)));
-    }
-
 -- the records with the ids of a table are the table in standard values
 with_rows : (t : Tables) (sorts : List TextSort) (table : List TableRow) → records_of (ids_of table) (map (standard_values t sorts) (map (λ (row : TableRow). row.fields) table)) ≡ standard_records t sorts table
 with_rows t sorts [] = refl
@@ -151,7 +135,8 @@ whole_file r plan bytes tables v ids count k =
     let sorts = sorts_in r plan in
     let table = with_ids k.rows ids in
     let sound = table_sound r (wanted_in r plan) (records_in (delimiter_in r plan) bytes) table k.table in
-    let h = k.taken.values in
+    let own_values : HasValues plan.tables v.sorts.items v k.rows = subst (λ (x : Tables). HasValues x v.sorts.items v k.rows) k.taken.by_tables k.taken.values in
+    let h = subst (λ (s : List TextSort). HasValues plan.tables s v k.rows) k.taken.of_sorts own_values in
     let fields : map (λ (row : TableRow). row.fields) table ≡ k.rows = fields_with k.rows ids in
     let own : ids ≡ ids_of table = k.known in
     let values : v.rows.rows ≡ map (standard_values plan.tables sorts) (map (λ (row : TableRow). row.fields) table) = rw fields h.values in
@@ -179,7 +164,7 @@ whole_read r plan bytes t sorts wanted delimiter tables v ids count et es ew ed 
       taken = record {
         by_tables = k.taken.by_tables ∙ et;
         of_sorts = k.taken.of_sorts ∙ es;
-        values = subst (λ (s : List TextSort). HasValues plan.tables s v k.rows) es (subst (λ (x : Tables). HasValues x sorts v k.rows) et k.taken.values);
+        values = k.taken.values;
       };
       as_many = k.as_many;
       few = subst (λ (w : Wanted). count ≤ w.most) ew k.few;

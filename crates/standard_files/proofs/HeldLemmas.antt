@@ -7,7 +7,7 @@ use Rattle.link_base.specs.declared.plan.Canon.{Canon}
 use Rattle.link_base.specs.declared.standard.Value.{Value}
 use Rattle.value_forms.specs.Canons.{canon_of, canon_by}
 use Rattle.value_pool.specs.Texts.{IsHeld, PoolState}
-use Rattle.standard_files.specs.Held.{HoldsTexts}
+use Rattle.standard_files.specs.Known.{HoldsTexts}
 use Rattle.standard_files.specs.Taking.{HasTakenTexts}
 use Rattle.standard_files.specs.Texts.{canons_of_row, file_texts, texts_taken}
 use Rattle.standard_files.proofs.StandLemmas.{held-by, stands-canons, stands-flat, stands-left, stands-right, taken-more, taken-stands}

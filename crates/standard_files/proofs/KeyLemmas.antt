@@ -16,13 +16,12 @@ use Rattle.link_base.specs.declared.standard.Value.{Value}
 use Rattle.value_forms.specs.Canons.{canon_of, compares_days, canon_by}
 use Rattle.value_pool.specs.Texts.{place_among, PoolState}
 use Rattle.value_pool.specs.declared.pool.PoolFault.{PoolFault}
-use Rattle.standard_files.specs.Held.{HoldsTexts}
-use Rattle.standard_files.specs.Known.{AreTextIds, IsIdOf, IsKnownFile, IsKnownRow, file_values}
+use Rattle.standard_files.specs.Known.{AreTextIds, HoldsTexts, IsIdOf, IsKnownFile, IsKnownRow, file_values}
 use Rattle.standard_files.specs.Ready.{IsRowFor}
 use Rattle.standard_files.specs.Sides.{id_side, side_of, sides_of_file, sides_of_row}
 use Rattle.standard_files.specs.Taking.{Extends, HasTakenTexts, TakesTexts}
 use Rattle.standard_files.specs.Texts.{canons_of_row, file_texts}
-use Rattle.standard_files.proofs.FileLemmas.{row-many}
+use Rattle.standard_files.proofs.FileLemmas.{row-many, row-valid}
 use Rattle.standard_files.proofs.HeldLemmas.{held-more, held-row}
 use Rattle.standard_files.proofs.KnownLemmas.{ids-kept, ids-next}
 use Rattle.standard_files.proofs.PlaceLemmas.{before, extends-self, kept, place-in}
@@ -48,12 +47,12 @@ canon-part : (final : List (List ℕ)) (kind : CompareKind) (v : Value) → comp
 canon-part final kind v e = rw e (side-part final (canon_of kind v))
 
 pub known-part : (held final : List (List ℕ)) (kinds : List CompareKind) (row : List Value) (texts : List (Option ℕ)) (sides : List IdValue) (part : Part)
-    → part.field < length kinds → length row ≡ length kinds → ((v : Value) → canon_by part.key v ≡ canon_of (get_or kinds part.field exact) v)
+    → part.field < length kinds → ((v : Value) → canon_by part.key v ≡ canon_of (get_or kinds part.field exact) v)
     → compares_days (get_or kinds part.field exact) ≡ false → Extends held final → IsKnownRow held kinds row texts sides → part_id final row part ≡ id_in (get_or sides part.field id.Absent)
-known-part held final kinds row texts sides part lt many canon by_id e known =
+known-part held final kinds row texts sides part lt canon by_id e known =
     let v = get_or row part.field absent_value in
     let kind = get_or kinds part.field exact in
-    ap (option_map (place_among final)) (canon v) ∙ canon-part final kind v by_id ∙ ap id_in (sym (side-at final kinds row part.field lt many))
+    ap (option_map (place_among final)) (canon v) ∙ canon-part final kind v by_id ∙ ap id_in (sym (side-at final kinds row part.field lt known.as_many))
     ∙ ap (λ xs. id_in (get_or xs part.field id.Absent)) (known.sides final e)
 
 -- the ids of a row in a pass, of a row and of a file, part by part, pass by pass and row by row
@@ -75,6 +74,8 @@ ids-row final passes file at row lt e =
 module _ {old new : PoolState} {more : List (List ℕ)} {told : Type 0} (kinds : List CompareKind) (t : HasTakenTexts old new more told) where
   pub row-kept : (row : List Value) (texts : List (Option ℕ)) (sides : List IdValue) → IsKnownRow old.texts kinds row texts sides → IsKnownRow new.texts kinds row texts sides
   row-kept row texts sides h = record {
+    as_many = h.as_many;
+    valid = h.valid;
     texts = ids-kept old.texts new.texts (kept t) row texts h.texts;
     canons = held-more (canons_of_row kinds row) t h.canons;
     width = h.width;
@@ -104,6 +105,8 @@ module _ (held : List (List ℕ)) (kinds : List CompareKind) (file : List Record
       let many = row-many kinds file at row lt is for_kinds in
       let same : (final : List (List ℕ)) → Extends held final → sides_of_row final kinds row ≡ side = λ final e. row-sides final at row e lt is ∙ sym side_is in
       record {
+        as_many = many;
+        valid = row-valid kinds file at row lt is for_kinds;
         texts = subst (AreTextIds held row) (sym front) (ids-next held file at row left (length kinds) lt is many texts).0;
         canons = held-row (canons_of_row kinds) file at row held lt is canons;
         width = ap length (sym (same held (extends-self held distinct))) ∙ sides-many held kinds row many;

@@ -53,7 +53,7 @@ pub record HasValues (t : Tables) (sorts : List TextSort) (v : FileValues) (rows
 pub record HasTaken (t : Tables) (sorts : List TextSort) (tables : Tables) (v : FileValues) (rows : List (List (List ℕ))) : Type 0 where
   pub by_tables : tables ≡ t
   pub of_sorts : v.sorts.items ≡ sorts
-  pub values : HasValues t sorts v rows
+  pub values : HasValues tables v.sorts.items v rows
 
 -- a table in standard values, with its first unreadable date
 abbrev pub dated_table : Plan → List TextSort → List TableRow → DatedFile

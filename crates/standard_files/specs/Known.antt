@@ -1,6 +1,6 @@
 -- Machinery of `pool_values`: texts by their ids in a pool, canons that are known by them, and what is known of a row when its
 -- keys are taken. No public clause names it.
-use Rattle.std.specs.Prelude.{◌≡◌, ◌<◌, ℕ, List, [], ◌∷◌, length, Option, Some, None, slice_get, slice_index_or, ⊤, IfSome, pos}
+use Rattle.std.specs.Prelude.{◌≡◌, ◌<◌, ℕ, List, [], ◌∷◌, All, length, Option, Some, None, slice_get, slice_index_or, true, ⊤, IfSome, pos}
 use Rattle.std.specs.List.{flat_map}
 use Rattle.comparators.specs.declared.ids.IdValue.{IdValue}
 use Rattle.comparators.specs.declared.ids.IdValue.TheVariants as id
@@ -10,13 +10,17 @@ use Rattle.link_base.specs.Canons.{exact}
 use Rattle.link_base.specs.declared.standard.Value.{Value}
 use Rattle.link_base.specs.declared.standard.Value.TheVariants as value
 use Rattle.value_forms.specs.Canons.{canon_of, exact_canon}
-use Rattle.standard_files.specs.Held.{HoldsTexts}
+use Rattle.value_pool.specs.Texts.{stands_among}
 use Rattle.standard_files.specs.Sides.{side_of, sides_of_file, sides_of_row}
 use Rattle.standard_files.specs.Taking.{InLater}
 use Rattle.standard_files.specs.Texts.{canons_of_row, file_texts, standard_text}
 use Rattle.standard_files.specs.declared.known.Known.{Known}
 use Rattle.standard_files.specs.declared.known.KnownCanon.{KnownCanon}
 use Rattle.standard_files.specs.declared.known.KnownDay.{KnownDay}
+
+-- each of some texts is held
+abbrev pub HoldsTexts : List (List ℕ) → List (List ℕ) → Type 0
+HoldsTexts held texts = (text : List ℕ) → stands_among texts text ≡ true → stands_among held text ≡ true
 
 -- the id of a text that is held, if there is a text
 abbrev pub IsIdOf : List (List ℕ) → Option (List ℕ) → Option ℕ → Type 0
@@ -91,8 +95,10 @@ pub record IsKnownField (held : List (List ℕ)) (kinds : List CompareKind) (kno
   pub text : IsIdOf held (standard_text (slice_index_or row at absent_value)) id
   pub all : AreKnown held kinds known
 
--- a row whose standard texts and canons are held: the ids of the texts, and what its values are compared by
+-- a row for these kinds whose standard texts and canons are held: the ids of the texts, and what its values are compared by
 pub record IsKnownRow (held : List (List ℕ)) (kinds : List CompareKind) (row : List Value) (ids : List (Option ℕ)) (compared : List IdValue) : Type 0 where
+  pub as_many : length row ≡ length kinds
+  pub valid : All IsValid row
   pub texts : AreTextIds held row ids
   pub canons : HoldsTexts held (canons_of_row kinds row)
   pub width : length compared ≡ length kinds

@@ -71,7 +71,7 @@ impl FileValues {
         requires fields { length row.now ≡ length self.old.sorts.items }
         requires texts { All IsFieldText row.now }
         ensures sorts { self.new.sorts.items ≡ self.old.sorts.items }
-        ensures kept { OnOk result ((rows : List (List (List ℕ))) → HasValues tables.now self.old.sorts.items self.old rows → HasValues tables.now self.old.sorts.items self.new (rows ++ row.now ∷ [])) }
+        ensures kept { OnOk result ((rows : List (List (List ℕ))) → HasValues tables.now self.old.sorts.items self.old rows → HasValues tables.now self.new.sorts.items self.new (rows ++ row.now ∷ [])) }
     {
         self.row
             .take_in(alloc, tables, &self.sorts, row, &mut self.rows)?;

@@ -3,7 +3,6 @@ ghost use Rattle.std.specs.Prelude.{◌≡◌, ◌≤◌, ◌<◌, ◌++◌, ◌
 ghost use Rattle.block_passes.specs.KeyIds.{ids_in_pass, ids_of_row, key_ids, part_id, parts_in};
 ghost use Rattle.block_passes.specs.Keys.{IsPartReadable, part_key};
 ghost use Rattle.comparators.specs.Fields.{id_in};
-ghost use Rattle.link_base.specs.Standard.{IsValid};
 ghost use Rattle.link_base.specs.declared.plan.Part.{Part as KeyPart};
 ghost use Rattle.link_base.specs.declared.standard.Value.{Value as FieldValue};
 ghost use Rattle.standard_files.specs.Known.{IsIdOf, IsKnownFile, IsKnownRow};
@@ -69,7 +68,6 @@ fn take_row_part(
     sides: &[IdValue],
 ) -> Result<Option<Id>, PoolFault>
     requires within { part.field < length kinds.now }
-    requires as_many { length row.now ≡ length kinds.now }
     requires readable { IsPartReadable row.now part }
     requires known { IsKnownRow pool.old.texts kinds.now row.now texts.now sides.now }
     ensures { TakesTexts pool.old pool.new (option_to_list (part_key row.now part)) (λ id. InLater pool.new.texts (λ final. part_id final row.now part ≡ id)) result }
@@ -96,8 +94,6 @@ fn take_key(
     ids: &mut Vec<MaybeId>,
 ) -> Result<(), PoolFault>
     requires in_range { All (λ (p : KeyPart). p.field < length kinds.now) pass.now }
-    requires as_many { length row.now ≡ length kinds.now }
-    requires valid { All IsValid row.now }
     requires known { IsKnownRow pool.old.texts kinds.now row.now texts.now sides.now }
     ensures { TakesTexts pool.old pool.new (parts_in_pass row.now pass.now) (λ _. InLater pool.new.texts (λ final. ids.old.items ++ ids_in_pass final row.now pass.now ≡ ids.new.items)) result }
 {
@@ -122,8 +118,6 @@ fn take_row(
     ids: &mut Vec<MaybeId>,
 ) -> Result<(), PoolFault>
     requires in_range { AreInRange (length kinds.now) passes.now }
-    requires as_many { length row.now ≡ length kinds.now }
-    requires valid { All IsValid row.now }
     requires known { IsKnownRow pool.old.texts kinds.now row.now texts.now sides.now }
     ensures { TakesTexts pool.old pool.new (parts_of_row passes.now row.now) (λ _. InLater pool.new.texts (λ final. ids.old.items ++ ids_of_row final passes.now row.now ≡ ids.new.items)) result }
 {

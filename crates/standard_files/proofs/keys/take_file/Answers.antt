@@ -3,7 +3,7 @@ use Rattle.block_passes.specs.KeyIds.{ids_of_row, key_ids}
 use Rattle.link_base.specs.Standard.{no_record}
 use Rattle.standard_files.specs.Known.{AreTextIds, file_values}
 use Rattle.standard_files.specs.Texts.{canons_of_row, file_texts, parts_of_row}
-use Rattle.standard_files.proofs.FileLemmas.{file-row, push-ids, row-many, row-valid}
+use Rattle.standard_files.proofs.FileLemmas.{file-row, push-ids, row-many}
 use Rattle.standard_files.proofs.HeldLemmas.{held-more}
 use Rattle.standard_files.proofs.KeyLemmas.{ids-row, row-known, rows-many}
 use Rattle.standard_files.proofs.KnownLemmas.{ids-kept, ids-next, ids-room}
@@ -56,12 +56,6 @@ pub sides-sides-requires : goal.sides-sides-requires
 sides-sides-requires c =
     let many = rows-many c.loop-at.pool.texts c.args.kinds.now c.args.file.now c.args.table.now.rows c.are_distinct.ensures.distinct c.loop-at.invariant.sides in
     omega (arith, many)
-
-pub take_row-requires-clause-valid : goal.take_row-requires-clause-valid
-take_row-requires-clause-valid c = row-valid c.args.kinds.now c.args.file.now c.loop-at.at c.row.result (omega arith) c.row.ensures c.requires.rows
-
-pub take_row-requires-clause-as_many : goal.take_row-requires-clause-as_many
-take_row-requires-clause-as_many c = row-many c.args.kinds.now c.args.file.now c.loop-at.at c.row.result (omega arith) c.row.ensures c.requires.rows
 
 pub take_row-requires-clause-known : goal.take_row-requires-clause-known
 take_row-requires-clause-known c =

@@ -1,7 +1,6 @@
 use Rattle.std.proofs.Common.{◌≡◌, ◌++◌, drop}
 use Rattle.block_passes.specs.KeyIds.{key_ids}
-use Rattle.standard_files.specs.Held.{HoldsTexts}
-use Rattle.standard_files.specs.Known.{AreTextIds, file_values}
+use Rattle.standard_files.specs.Known.{AreTextIds, HoldsTexts, file_values}
 use Rattle.standard_files.specs.Sides.{sides_of_file}
 use Rattle.standard_files.specs.Taking.{InLater}
 use Rattle.standard_files.specs.Texts.{canons_of_row, file_texts, parts_of_row}

@@ -16,7 +16,7 @@ use Rattle.standard_files.proofs.keys.take_row_part.Goals.{In-Some}
 use Rattle.standard_files.proofs.keys.take_row_part.Goals as goal
 
 pub bounds-texts-field : goal.bounds-texts-field
-bounds-texts-field c = omega (arith, c.requires.within, c.requires.as_many, ids-many c.args.pool.now.texts c.args.row.now c.args.texts.now c.requires.known.texts)
+bounds-texts-field c = omega (arith, c.requires.within, c.requires.known.as_many, ids-many c.args.pool.now.texts c.args.row.now c.args.texts.now c.requires.known.texts)
 
 -- the part that is a standard text has its id
 text-id : (c : In-Some) → IsIdOf c.args.pool.now.texts (part_key c.args.row.now c.args.part) (Some c.in-Some.text)
@@ -25,7 +25,7 @@ text-id c =
     let row = c.args.row.now in
     let v = get_or row c.args.part.field absent_value in
     let text = c.index-texts-field.result in
-    let within : c.args.part.field < length row = omega (arith, c.requires.within, c.requires.as_many) in
+    let within : c.args.part.field < length row = omega (arith, c.requires.within, c.requires.known.as_many) in
     c.in-Some.ensures held v (subst (IsIdOf held (standard_text v)) (sym (c.get.ensures ∙ c.index-texts-field.is)) (ids-at held row c.args.texts.now c.args.part.field absent_value text within c.requires.known.texts))
 
 pub returns-in-Some : goal.returns-in-Some
@@ -50,9 +50,9 @@ returns-then-is_canon c =
     record {
       limit = refl;
       taken = takes-held pool.limit pool.texts (part_key row part)
-          (canon-held kinds row part.field part.key pool.texts c.requires.within c.requires.as_many (canon (get_or row part.field absent_value)) c.requires.known.canons);
+          (canon-held kinds row part.field part.key pool.texts c.requires.within c.requires.known.as_many (canon (get_or row part.field absent_value)) c.requires.known.canons);
       holds = λ final e.
-          known-part pool.texts final kinds row c.args.texts.now sides part c.requires.within c.requires.as_many canon (c.is_canon.ensures.by_id c.if-is_canon.true) e c.requires.known
+          known-part pool.texts final kinds row c.args.texts.now sides part c.requires.within canon (c.is_canon.ensures.by_id c.if-is_canon.true) e c.requires.known
           ∙ ap id_in (sym side) ∙ sym c.id_of_side.ensures;
     }
 
