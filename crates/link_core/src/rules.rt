@@ -143,6 +143,12 @@ pub fn frontier_lines(
 {
     let mut table = RuleTable::with_patterns(alloc, patterns_of(&shares.all))?;
     let mut rows = vec![in alloc; no_row(); mus.len()]?;
-    frontier(&shares.all, plan.terms.lambda_ppm, mus, &mut table, &mut rows);
+    frontier(
+        &shares.all,
+        plan.terms.lambda_ppm,
+        mus,
+        &mut table,
+        &mut rows,
+    );
     frontier_text(alloc, mus, &rows)
 }

@@ -5,7 +5,7 @@ ghost use Rattle.std.specs.Str.{bytes_eq};
 ghost use Rattle.toml.specs.View.{table_view};
 ghost use Rattle.settings_readers.specs.KeyFaults.{Gives, IsAnswer};
 ghost use Rattle.link_plan.specs.Plan.{plain_shares};
-ghost use Rattle.settings.specs.Field.{compare_keys, field, field_of, field_shares, fields, given_shares, measure_keys, name_keys, new_name, no_shares};
+ghost use Rattle.settings.specs.Field.{compare_keys, field, field_shares, fields, given_shares, measure_keys, name_keys, new_name};
 
 use crate::kinds::{comparison, sort_of};
 use crate::shares::Shares;
@@ -116,14 +116,6 @@ fn given_shares(alloc: Global, rare: bool, keys: &Keys) -> Result<Option<FieldSh
 }
 
 #[tactic(auto, unfolding(crate::specs::Field::no_shares))]
-fn no_shares(alloc: Global, keys: &Keys) -> Result<Option<FieldShares>, KeyFault>
-    ensures { Gives (λ s. option_map plain_shares s) (no_shares (table_view keys.now.table.now) keys.now.above.now) result }
-{
-    keys.absent(alloc, "m")?;
-    keys.absent(alloc, "u")?;
-    Ok(None)
-}
-
 fn field_shares(
     alloc: Global,
     sampled: bool,
@@ -132,11 +124,12 @@ fn field_shares(
 ) -> Result<Option<FieldShares>, KeyFault>
     ensures { Gives (λ s. option_map plain_shares s) (field_shares sampled rare (table_view keys.now.table.now) keys.now.above.now) result }
 {
-    if sampled {
-        no_shares(alloc, keys)
-    } else {
-        given_shares(alloc, rare, keys)
+    if !sampled {
+        return given_shares(alloc, rare, keys);
     }
+    keys.absent(alloc, "m")?;
+    keys.absent(alloc, "u")?;
+    Ok(None)
 }
 
 // How a field is compared, and its shares.
@@ -158,43 +151,6 @@ fn measure_keys(
     }
 }
 
-// The keys of a field in one.
-fn field_of(named: NameKeys, compared: CompareKeys, shares: Option<FieldShares>) -> FieldPlan
-    ensures { result ≡ field_of named compared (option_map plain_shares shares) }
-{
-    FieldPlan {
-        name: named.name,
-        column_a: named.column_a,
-        column_b: named.column_b,
-        sort: compared.sort,
-        compare: compared.compare,
-        rare: compared.rare,
-        shares,
-    }
-}
-
-#[tactic(auto, unfolding(crate::specs::Field::field))]
-fn field(
-    alloc: Global,
-    sampled: bool,
-    before: &[FieldPlan],
-    keys: &Keys,
-) -> Result<FieldPlan, KeyFault>
-    ensures { IsAnswer (field sampled before.now (table_view keys.now.table.now) keys.now.above.now) result }
-{
-    keys.known(alloc, &FIELD_KEYS, &[])?;
-    match name_keys(alloc, before, keys) {
-        Ok(named) => match measure_keys(alloc, sampled, keys) {
-            Ok((compared, shares)) => Ok(field_of(named, compared, shares)),
-            Err(fault) => {
-                drop(named);
-                Err(fault)
-            }
-        },
-        Err(fault) => Err(fault),
-    }
-}
-
 /// A field's table; `sampled` says that the settings name a sample.
 #[derive(Drop)]
 struct FieldTable {
@@ -206,13 +162,32 @@ impl Row for FieldTable {
 
     ghost gives = { λ f. field f.sampled };
 
+    #[tactic(auto, unfolding(crate::specs::Field::field))]
     fn read(
         &self,
         alloc: Global,
         before: &[FieldPlan],
         keys: &Keys,
     ) -> Result<FieldPlan, KeyFault> {
-        field(alloc, self.sampled, before, keys)
+        keys.known(alloc, &FIELD_KEYS, &[])?;
+        match name_keys(alloc, before, keys) {
+            Ok(named) => match measure_keys(alloc, self.sampled, keys) {
+                Ok((compared, shares)) => Ok(FieldPlan {
+                    name: named.name,
+                    column_a: named.column_a,
+                    column_b: named.column_b,
+                    sort: compared.sort,
+                    compare: compared.compare,
+                    rare: compared.rare,
+                    shares,
+                }),
+                Err(fault) => {
+                    drop(named);
+                    Err(fault)
+                }
+            },
+            Err(fault) => Err(fault),
+        }
     }
 }
 

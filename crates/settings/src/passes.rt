@@ -56,18 +56,6 @@ fn key_of(alloc: Global, sort: FieldSort, keys: &Keys) -> Result<Canon, KeyFault
     }
 }
 
-#[tactic(auto, unfolding(crate::specs::Pass::part))]
-fn part(alloc: Global, fields: &FieldList, keys: &Keys) -> Result<Part, KeyFault>
-    ensures { IsAnswer (part fields.now (table_view keys.now.table.now) keys.now.above.now) result }
-{
-    keys.known(alloc, &PART_KEYS, &[])?;
-    let (field, sort) = keys.needed(alloc, &Choice(FieldNames { fields }), "field")?;
-    match key_of(alloc, sort, keys) {
-        Ok(key) => Ok(Part { field, key }),
-        Err(fault) => Err(fault),
-    }
-}
-
 /// A part's table, over these fields.
 #[derive(Drop)]
 struct PartTable<'a> {
@@ -79,8 +67,17 @@ impl Row for PartTable<'_> {
 
     ghost gives = { λ p before. part p.fields.now };
 
+    #[tactic(auto, unfolding(crate::specs::Pass::part))]
     fn read(&self, alloc: Global, _before: &[Part], keys: &Keys) -> Result<Part, KeyFault> {
-        part(alloc, self.fields, keys)
+        keys.known(alloc, &PART_KEYS, &[])?;
+        let names = Choice(FieldNames {
+            fields: self.fields,
+        });
+        let (field, sort) = keys.needed(alloc, &names, "field")?;
+        match key_of(alloc, sort, keys) {
+            Ok(key) => Ok(Part { field, key }),
+            Err(fault) => Err(fault),
+        }
     }
 }
 
@@ -110,14 +107,6 @@ impl Reader for Parts<'_> {
     }
 }
 
-#[tactic(auto, unfolding(crate::specs::Pass::pass))]
-fn pass(alloc: Global, fields: &FieldList, keys: &Keys) -> Result<Pass, KeyFault>
-    ensures { IsAnswer (pass fields.now (table_view keys.now.table.now) keys.now.above.now) result }
-{
-    keys.known(alloc, &PASS_KEYS, &[])?;
-    keys.needed(alloc, &Parts { fields }, "parts")
-}
-
 /// A pass's table, over these fields.
 #[derive(Drop)]
 struct PassTable<'a> {
@@ -129,8 +118,13 @@ impl Row for PassTable<'_> {
 
     ghost gives = { λ p before. pass p.fields.now };
 
+    #[tactic(auto, unfolding(crate::specs::Pass::pass))]
     fn read(&self, alloc: Global, _before: &[Pass], keys: &Keys) -> Result<Pass, KeyFault> {
-        pass(alloc, self.fields, keys)
+        keys.known(alloc, &PASS_KEYS, &[])?;
+        let parts = Parts {
+            fields: self.fields,
+        };
+        keys.needed(alloc, &parts, "parts")
     }
 }
 
