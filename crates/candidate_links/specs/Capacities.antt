@@ -1,18 +1,20 @@
 -- The capacities of the records of B as a file lists them, or its first fault: of the table, then row by row (`read_capacities`,
 -- clause `answer`).
-use Rattle.std.specs.Prelude.{ℕ, ◌+◌, ◌&&◌, List, [], ◌∷◌, bytes_eq, codes, find, if◌then◌else◌, map, nat_le, slice_index_or, Option, Some, None, Result, Ok}
+use Rattle.std.specs.Prelude.{◌≡◌, ◌<◌, ◌≤◌, ℕ, ◌+◌, ◌&&◌, All, length, List, [], ◌∷◌, bytes_eq, codes, find, if◌then◌else◌, map, nat_le, slice_index_or, Option, Some, None, Result, Ok}
 use Rattle.file_reader.specs.Left.{records_in}
 use Rattle.csv_rows.specs.Numbers.{is_decimal, number_in}
 use Rattle.link_limits.specs.declared.TheConstants.{MOST_CAPACITY, MOST_ROWS}
 use Rattle.link_base.specs.Answers.{and_then}
-use Rattle.link_base.specs.Standard.{Record}
+use Rattle.link_base.specs.Standard.{position_of_id, Record}
 use Rattle.link_base.specs.declared.fault.Fault.{Fault}
 use Rattle.link_base.specs.declared.fault.Fault.TheVariants as fault
 use Rattle.link_base.specs.declared.fault.FileRole.TheVariants as role
 use Rattle.file_reader.specs.Known.{known_in, or_fault}
-use Rattle.file_reader.specs.Layout.{Wanted}
+use Rattle.file_reader.specs.Layout.{Wanted, wanted_of}
+use Rattle.file_reader.specs.declared.layout.Layout.{Layout}
 use Rattle.file_reader.specs.Rows.{TableRow}
-use Rattle.file_reader.specs.Table.{table_of}
+use Rattle.file_reader.specs.Table.{HasDistinctIds, HasWidth, table_of}
+use Rattle.candidate_links.specs.declared.reading.Listed.{Listed}
 
 abbrev pub capacities_wanted : Wanted
 capacities_wanted = record { id = Some (codes "id_b"); columns = codes "capacity" ∷ []; most = MOST_ROWS }
@@ -50,6 +52,29 @@ capacities_by b rows = after_rows b (map (listed_capacity rows) b) 1 rows
 -- the rows of a file of capacities
 abbrev pub capacities_table : List ℕ → Result (List TableRow) Fault
 capacities_table bytes = table_of role.Capacities capacities_wanted (records_in 44 bytes)
+
+-- machinery: how a file of capacities is laid out
+pub record IsCapacityLayout (layout : Layout) : Type 0 where
+  pub wanted : wanted_of layout ≡ capacities_wanted
+  pub delimiter : layout.delimiter ≡ 44
+  pub most : layout.most_rows ≡ MOST_ROWS
+
+-- machinery: what is listed is of the record of B with this id, and no capacity is too great
+pub record IsListed (b : List Record) (id : List ℕ) (listed : Listed) : Type 0 where
+  pub named : position_of_id id b ≡ Some listed.at
+  pub within : listed.at < length b
+  pub allowed : listed.capacity ≤ MOST_CAPACITY
+
+-- machinery: a table of capacities: its ids are distinct, and it has some rows at most, each with one field
+pub record IsCapacityTable (rows : List TableRow) : Type 0 where
+  pub few : length rows ≤ MOST_ROWS
+  pub width : HasWidth capacities_wanted rows
+  pub distinct : HasDistinctIds capacities_wanted rows
+
+-- there is a capacity for each record of B, and none is too great
+pub record AreCapacities (b : List Record) (capacities : List ℕ) : Type 0 where
+  pub for_each : length capacities ≡ length b
+  pub allowed : All (λ capacity. capacity ≤ MOST_CAPACITY) capacities
 
 -- the capacities of the records of B by a file
 abbrev pub capacities_in : List Record → List ℕ → Result (List ℕ) Fault

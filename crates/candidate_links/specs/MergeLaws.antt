@@ -1,6 +1,6 @@
 -- Machinery of `candidates_among`: two rising lists taken together, and the filters of one rising list that together give what the whole list
 -- gives. No public clause names it.
-use Rattle.std.proofs.Common.{◌≡◌, ◌<◌, zero, suc, Bool, true, false, List, [], ◌∷◌, ◌++◌, Option, Some, None, cond, filter, length, drop, append_assoc, append-nil, refl, subst, sym, ap, ◌∙◌, inl, inr, arith}
+use Rattle.std.proofs.Common.{◌≡◌, ◌<◌, zero, suc, Bool, true, false, List, [], ◌∷◌, ◌++◌, Option, Some, None, cond, filter, drop, append_assoc, append-nil, refl, subst, sym, ap, ◌∙◌, inl, inr, arith}
 use Rattle.std.specs.Prelude.{All, AllPairs, IfSome, filter_map, option_to_list}
 use Rattle.std.specs.List.{cons_option}
 use Rattle.std.proofs.lemmas.Bool.Decides.{nat_tests}
@@ -100,27 +100,6 @@ module _ (f g : PairAt → Option Candidate) where
   possible_before : (y : PairAt) (xs ys : List PairAt) → All (IsPairBefore y) xs → merged f g xs (y ∷ ys) ≡ cons_option (g y) (merged f g xs ys)
   possible_before y [] ys before = possible_alone y ys
   possible_before y (x ∷ xs) ys before = possible_first x y xs ys (before_false y x (before 0 x (omega arith)))
-
--- the next pair stands first in its list
-pub link_there : (P : PairAt → Type 0) (xs ys : List PairAt) (at : PairAt) → next_of xs ys ≡ next.Link at → All P xs → (0 < length xs) × P at
-link_there P [] [] at is all = absurd (cc)
-link_there P [] (y ∷ ys) at is all = absurd (cc)
-link_there P (x ∷ xs) [] at is all = let same : x ≡ at = cc in (omega arith, subst P same (all 0 x (omega arith)))
-link_there P (x ∷ xs) (y ∷ ys) at is all = by_test (comes_first x y) is
-  where
-    by_test : (b : Bool) → cond b (next.Link x) (next.Possible y) ≡ next.Link at → (0 < length (x ∷ xs)) × P at
-    by_test true e = let same : x ≡ at = cc in (omega arith, subst P same (all 0 x (omega arith)))
-    by_test false e = absurd (cc)
-
-pub possible_there : (P : PairAt → Type 0) (xs ys : List PairAt) (at : PairAt) → next_of xs ys ≡ next.Possible at → All P ys → (0 < length ys) × P at
-possible_there P [] [] at is all = absurd (cc)
-possible_there P [] (y ∷ ys) at is all = let same : y ≡ at = cc in (omega arith, subst P same (all 0 y (omega arith)))
-possible_there P (x ∷ xs) [] at is all = absurd (cc)
-possible_there P (x ∷ xs) (y ∷ ys) at is all = by_test (comes_first x y) is
-  where
-    by_test : (b : Bool) → cond b (next.Link x) (next.Possible y) ≡ next.Possible at → (0 < length (y ∷ ys)) × P at
-    by_test true e = absurd (cc)
-    by_test false e = let same : y ≡ at = cc in (omega arith, subst P same (all 0 y (omega arith)))
 
 -- what holds of candidates and of one more, where there is one
 pub all_kept : (P : Candidate → Type 0) (cs : List Candidate) (o : Option Candidate) → All P cs → IfSome o P → All P (cs ++ option_to_list o)

@@ -1,8 +1,8 @@
 // The links chosen among candidates.
-ghost use Rattle.std.specs.Prelude.{◌≡◌, ◌≤◌, ◌≤ℤ◌, ◌^◌, All, AllPairs, Contains, IfOk, length};
+ghost use Rattle.std.specs.Prelude.{◌≡◌, ◌≤◌, ◌^◌, All, AllPairs, Contains, IfOk, length};
 ghost use Rattle.assignment.specs.Solution.{HasSmallValue};
-ghost use Rattle.price_check.specs.Assignment.{greatest_value, IsBefore, IsWithin, worth};
-ghost use Rattle.candidate_links.specs.Choice.{dropped, dropped_of, is_same_pair, IsChoice};
+ghost use Rattle.price_check.specs.Assignment.{IsBefore, IsWithin, worth};
+ghost use Rattle.candidate_links.specs.Choice.{dropped, dropped_of, is_same_pair, IsAnswerOf, IsChoice};
 ghost use Rattle.candidate_links.specs.Passing.{is_next};
 
 use crate::merging::after_first;
@@ -127,11 +127,7 @@ fn chosen_of(
     requires few { length solved.now.links ≤ MOST_PAIRS }
     requires rows_a { length solved.now.prices_a ≡ rows_a }
     requires rows_b { length solved.now.prices_b ≡ rows_b }
-    ensures links { IfOk result (λ c. c.links.items ≡ solved.now.links) }
-    ensures prices_a { IfOk result (λ c. c.prices_a.items ≡ solved.now.prices_a) }
-    ensures prices_b { IfOk result (λ c. c.prices_b.items ≡ solved.now.prices_b) }
-    ensures dropped { IfOk result (λ c. c.dropped.items ≡ dropped_of candidates.now solved.now.links) }
-    ensures total { IfOk result (λ c. c.total ≡ worth solved.now.links) }
+    ensures { IfOk result (IsAnswerOf candidates.now solved.now.links solved.now.prices_a solved.now.prices_b) }
 {
     let links = Vec::from_slice(alloc, solved.links())?;
     let prices_a = prices_of_a(alloc, solved, rows_a)?;
@@ -160,8 +156,6 @@ pub fn choose_links(
     requires within { All (IsWithin rows_a rows_b) candidates.now }
     requires small { All HasSmallValue candidates.now }
     ensures chosen { IfOk result (IsChoice rows_a rows_b candidates.now) }
-    ensures most_a { IfOk result (λ c. All (λ price. price ≤ℤ greatest_value candidates.now) c.prices_a.items) }
-    ensures most_b { IfOk result (λ c. All (λ price. price ≤ℤ greatest_value candidates.now) c.prices_b.items) }
 {
     prices_are_bounded();
     let assigner = Assigner::new(alloc, rows_a, rows_b, candidates)?;

@@ -2,7 +2,7 @@
 ghost use Rattle.std.specs.Prelude.{◌≡◌, ◌≤◌, All, AllPairs, IfOk, length};
 ghost use Rattle.price_check.specs.Assignment.{IsBefore, IsWithin};
 ghost use Rattle.capacity_assign.specs.Solution.{HasSmallValue, IsAllowedCapacity};
-ghost use Rattle.candidate_links.specs.Choice.{IsChoiceWithin};
+ghost use Rattle.candidate_links.specs.Choice.{IsChoiceWithin, IsCopyOf};
 
 use capacity_assign::{CapacityAssigner, CapacityAssignment};
 use link_base::{Candidate, NoMemory};
@@ -51,9 +51,7 @@ fn copied(
 ) -> Result<LinksWithin, NoMemory>
     requires rows_a { length solved.now.prices_a ≡ rows_a }
     requires rows_b { length solved.now.prices_b ≡ rows_b }
-    ensures links { IfOk result (λ c. c.links.items ≡ solved.now.links) }
-    ensures prices_a { IfOk result (λ c. c.prices_a.items ≡ solved.now.prices_a) }
-    ensures prices_b { IfOk result (λ c. c.prices_b.items ≡ solved.now.prices_b) }
+    ensures { IfOk result (IsCopyOf solved.now.links solved.now.prices_a solved.now.prices_b) }
 {
     let links = Vec::from_slice(alloc, solved.links())?;
     let prices_a = prices_of_a(alloc, solved, rows_a)?;

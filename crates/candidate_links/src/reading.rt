@@ -1,12 +1,10 @@
 // The capacities in a file, row by row.
-ghost use Rattle.std.specs.Prelude.{◌≡◌, ◌≤◌, ◌<◌, ◌+◌, All, IfOk, IfSome, Some, length, replicate, slice_index_or};
+ghost use Rattle.std.specs.Prelude.{◌≡◌, ◌≤◌, ◌<◌, ◌+◌, All, IfOk, IfSome, length, replicate, slice_index_or};
 ghost use Rattle.link_base.specs.Fault.{Gives, IsAnswer};
-ghost use Rattle.link_base.specs.Standard.{position_of_id};
 ghost use Rattle.link_limits.specs.declared.TheConstants.{MOST_CAPACITY, MOST_ROWS};
-ghost use Rattle.file_reader.specs.Layout.{wanted_of};
 ghost use Rattle.file_reader.specs.Rows.{no_row};
-ghost use Rattle.file_reader.specs.Table.{HasDistinctIds, HasWidth};
-ghost use Rattle.candidate_links.specs.Capacities.{capacities_by, capacities_in, capacities_table, capacities_wanted, capacity_in, capacity_named};
+ghost use Rattle.file_reader.specs.Table.{HasWidth};
+ghost use Rattle.candidate_links.specs.Capacities.{AreCapacities, IsCapacityLayout, IsCapacityTable, IsListed, capacities_by, capacities_in, capacities_table, capacities_wanted, capacity_in, capacity_named};
 
 use crate::capacities::Capacities;
 use csv_rows::read_decimal;
@@ -16,9 +14,7 @@ use link_limits::{MOST_CAPACITY, MOST_ROWS};
 use std::alloc::Global;
 
 fn layout(alloc: Global) -> Result<Layout, NoMemory>
-    ensures wanted { IfOk result (λ layout. wanted_of layout ≡ capacities_wanted) }
-    ensures delimiter { IfOk result (λ layout. layout.delimiter ≡ 44) }
-    ensures most { IfOk result (λ layout. layout.most_rows ≡ MOST_ROWS) }
+    ensures { IfOk result IsCapacityLayout }
 {
     let mut columns = Vec::new(alloc);
     columns.push(Text::new(alloc, b"capacity")?)?;
@@ -40,7 +36,7 @@ fn capacity_of(text: &[u8]) -> Option<u32>
 
 // The position of the record of B that a row names, and the capacity that it gives.
 #[derive(Drop)]
-struct Listed {
+pub(crate) struct Listed {
     at: u32,
     capacity: u32,
 }
@@ -51,9 +47,7 @@ fn listed_at(alloc: Global, table: &Table, at: u32, b: &StdFile) -> Result<Liste
     requires width { HasWidth capacities_wanted table.now }
     requires few { length table.now ≤ MOST_ROWS }
     ensures answer { Gives (λ listed. listed.capacity) (capacity_in b.now (at + 1) (slice_index_or table.now at no_row)) result }
-    ensures named { IfOk result (λ listed. position_of_id (slice_index_or table.now at no_row).id b.now ≡ Some listed.at) }
-    ensures within { IfOk result (λ listed. listed.at < length b.now) }
-    ensures allowed { IfOk result (λ listed. listed.capacity ≤ MOST_CAPACITY) }
+    ensures listed { IfOk result (IsListed b.now (slice_index_or table.now at no_row).id) }
 {
     let row = at + 1;
     let of_b = match known_record(alloc, FileRole::Capacities, row, b"id_b", table.id(at), b) {
@@ -76,12 +70,9 @@ fn none_listed(alloc: Global, rows: u32) -> Result<Vec<u32>, NoMemory>
 
 // The capacities of the records of B by the rows of a table: 1 where no row names the record.
 fn capacities_of(alloc: Global, table: &Table, b: &StdFile) -> Result<Vec<u32>, Fault>
-    requires width { HasWidth capacities_wanted table.now }
-    requires distinct { HasDistinctIds capacities_wanted table.now }
-    requires few { length table.now ≤ MOST_ROWS }
+    requires { IsCapacityTable table.now }
     ensures answer { Gives (λ each. each.items) (capacities_by b.now table.now) result }
-    ensures for_each { IfOk result (λ each. length each.items ≡ length b.now) }
-    ensures allowed { IfOk result (λ each. All (λ capacity. capacity ≤ MOST_CAPACITY) each.items) }
+    ensures capacities { IfOk result (λ each. AreCapacities b.now each.items) }
 {
     distinct_ids(b);
     let mut each = none_listed(alloc, b.rows())?;
@@ -96,10 +87,8 @@ fn capacities_of(alloc: Global, table: &Table, b: &StdFile) -> Result<Vec<u32>, 
 
 // The table of a file of capacities.
 fn table_in(alloc: Global, bytes: &[u8]) -> Result<Table, Fault>
-    ensures few { IfOk result (λ table. length table ≤ MOST_ROWS) }
-    ensures width { IfOk result (HasWidth capacities_wanted) }
-    ensures distinct { IfOk result (HasDistinctIds capacities_wanted) }
     ensures answer { IsAnswer (capacities_table bytes.now) result }
+    ensures table { IfOk result IsCapacityTable }
 {
     let layout = layout(alloc)?;
     let table = read_table(alloc, bytes, FileRole::Capacities, &layout);
@@ -112,8 +101,7 @@ fn table_in(alloc: Global, bytes: &[u8]) -> Result<Table, Fault>
 /// that of its table, and else that of its first row that names no record of B, or has no capacity.
 pub fn read_capacities(alloc: Global, bytes: &[u8], b: &StdFile) -> Result<Capacities, Fault>
     ensures answer { IsAnswer (capacities_in b.now bytes.now) result }
-    ensures for_each { IfOk result (λ capacities. length capacities ≡ length b.now) }
-    ensures allowed { IfOk result (λ capacities. All (λ capacity. capacity ≤ MOST_CAPACITY) capacities) }
+    ensures capacities { IfOk result (AreCapacities b.now) }
 {
     let table = match table_in(alloc, bytes) {
         Ok(table) => table,

@@ -1,10 +1,9 @@
 -- Links within capacities: the capacities that a file lists for the records of B (`capacities_in_file`, clause `answer`), and the text
 -- of links of greatest worth within them and of prices that certify it (`many_lines`, its lone clause). Which greatest list is printed
 -- is not said.
-use Rattle.std.specs.Prelude.{◌≡◌, ◌++◌, ℕ, ℤ, List, All, length, Result}
+use Rattle.std.specs.Prelude.{◌≡◌, ◌++◌, ℕ, ℤ, List, length, Result}
 use Rattle.price_check.specs.Capacities.{CertifiesWithin, IsGreatestWithin}
-use Rattle.capacity_assign.specs.Solution.{IsAllowedCapacity}
-use Rattle.candidate_links.specs.Capacities.{capacities_in}
+use Rattle.candidate_links.specs.Capacities.{AreCapacities, capacities_in}
 use Rattle.link_base.specs.declared.fault.Fault.{Fault}
 use Rattle.link_base.specs.declared.rule.Candidate.{Candidate}
 use Rattle.link_report.specs.LinksText.{text_of_links}
@@ -20,9 +19,8 @@ abbrev pub capacities_in_file : StandardPair → List ℕ → Result (List ℕ) 
 capacities_in_file files bytes = capacities_in files.b.records bytes
 
 -- there is a capacity for each record of B, and none is too great
-pub record AreCapacitiesOf (files : StandardPair) (capacities : List ℕ) : Type 0 where
-  pub for_each : length capacities ≡ length files.b.records
-  pub allowed : All IsAllowedCapacity capacities
+abbrev pub AreCapacitiesOf : StandardPair → List ℕ → Type 0
+AreCapacitiesOf files capacities = AreCapacities files.b.records capacities
 
 -- the text of a greatest list of the candidates within capacities, and after it that of prices that certify it, one for each record
 pub record IsManyText (plan : Plan) (files : StandardPair) (rule : FileRule) (entries : List Entry) (capacities text : List ℕ) : Type 0 where

@@ -4,8 +4,7 @@ ghost use Rattle.link_base.specs.Fault.{Gives, IsAnswer};
 ghost use Rattle.link_core.specs.Rules.{counted_by, IsFrontierText, IsPreparedFor, IsRuleText, shared_rares};
 ghost use Rattle.pair_decisions.specs.Comparators.{rares_of};
 ghost use Rattle.link_limits.specs.declared.TheConstants.{MOST_FIELDS};
-ghost use Rattle.patterns.specs.Chances.{rare_in};
-ghost use Rattle.pair_decisions.specs.PlanShares.{given_in, plain_all};
+ghost use Rattle.pair_decisions.specs.PlanShares.{AreFieldShares, given_in, plain_all};
 ghost use Rattle.link_plan.specs.Ranges.{KeepsRanges};
 
 use crate::preparing::Prepared;
@@ -70,9 +69,7 @@ fn counted_fields(
     requires ranges { KeepsRanges plan.now }
     requires files { IsPreparedFor plan.now prepared.now }
     ensures answer { Gives (λ all. plain_all all.items) (counted_by plan.now prepared.now.files sample.now) result }
-    ensures rares { IfOk result (λ all. rare_in all.items ≡ rares_of plan.now.fields) }
-    ensures some { IfOk result (λ all. 1 ≤ length all.items) }
-    ensures few { IfOk result (λ all. length all.items ≤ MOST_FIELDS) }
+    ensures fields { IfOk result (λ all. AreFieldShares plan.now.fields all.items) }
 {
     same_patterns(prepared.pool());
     let texts = prepared.pool().len();

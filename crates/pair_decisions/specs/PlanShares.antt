@@ -1,6 +1,6 @@
 -- The shares of a plan's fields: those of its settings (`given_shares`, clause `shares`), or those of the counts of its
 -- sample, by the comparison patterns of its pairs (`counted_shares`, clause `answer`).
-use Rattle.std.specs.Prelude.{ℕ, Bool, true, false, List, [], ◌∷◌, ◌++◌, All, IfSome, is_some, map, Result, Ok, if◌then◌else◌}
+use Rattle.std.specs.Prelude.{◌≡◌, ◌≤◌, ℕ, Bool, true, false, List, [], ◌∷◌, ◌++◌, All, IfSome, is_some, length, map, Result, Ok, if◌then◌else◌}
 use Rattle.std.specs.List.{enumerate_from, filter_map, range_with_len}
 use Rattle.file_reader.specs.Left.{records_in}
 use Rattle.link_base.specs.Answers.{and_then}
@@ -14,10 +14,18 @@ use Rattle.sample_counts.specs.declared.reviewed.Reviewed.{Reviewed}
 use Rattle.link_plan.specs.Plan.{FieldKeys, PlainShares, plain_shares}
 use Rattle.link_plan.specs.Ranges.{AreShares}
 use Rattle.sample_counts.specs.Remainders.{share_of}
+use Rattle.link_limits.specs.declared.TheConstants.{MOST_FIELDS}
+use Rattle.patterns.specs.Chances.{rare_in}
 use Rattle.pair_decisions.specs.Comparators.{rares_of}
 
 abbrev pub plain_all : List FieldShares → List PlainShares
 plain_all shares = map plain_shares shares
+
+-- shares are those of fields: one for each, rare where the field is, as many as a rule may have
+pub record AreFieldShares (fields : List FieldKeys) (all : List FieldShares) : Type 0 where
+  pub rares : rare_in all ≡ rares_of fields
+  pub some : 1 ≤ length all
+  pub few : length all ≤ MOST_FIELDS
 
 -- each field that has shares of its own has valid ones
 abbrev pub HaveValidShares : List FieldKeys → Type 0

@@ -2,10 +2,9 @@
 ghost use Rattle.std.specs.Prelude.{◌≡◌, ◌<◌, ◌≤◌, All, None, false, IfOk, length, slice_index_or, true};
 ghost use Rattle.link_base.specs.Fault.{Gives};
 ghost use Rattle.link_base.specs.Shares.{IsShares};
-ghost use Rattle.patterns.specs.Chances.{rare_in};
 ghost use Rattle.pair_decisions.specs.Comparators.{comparators_of, rares_of};
 ghost use Rattle.pair_decisions.specs.PairRule.{pattern_over};
-ghost use Rattle.pair_decisions.specs.PlanShares.{counted_in, given_in, plain_all, shares_at, shares_in, status_shares};
+ghost use Rattle.pair_decisions.specs.PlanShares.{AreFieldShares, counted_in, given_in, plain_all, shares_at, shares_in, status_shares};
 ghost use Rattle.pair_decisions.specs.Sides.{AreSidesOf};
 ghost use Rattle.link_plan.specs.Plan.{plain_shares};
 ghost use Rattle.link_plan.specs.Ranges.{KeepsRanges};
@@ -13,7 +12,7 @@ ghost use Rattle.link_plan.specs.Ranges.{KeepsRanges};
 use crate::comparisons::comparisons_of;
 use comparators::IdTable;
 use link_base::{Fault, FieldShares, NoMemory, StdFile};
-use link_limits::{MOST_FIELDS, MOST_ROWS};
+use link_limits::MOST_ROWS;
 use link_plan::Plan;
 use sample_counts::{Counts, count_sample_over, shares, shares4};
 use std::alloc::Global;
@@ -23,9 +22,7 @@ pub fn given_shares(alloc: Global, plan: &Plan) -> Result<Vec<FieldShares>, NoMe
     requires ranges { KeepsRanges plan.now }
     requires no_sample { plan.now.sample ≡ None }
     ensures shares { IfOk result (λ all. plain_all all.items ≡ given_in plan.now.fields) }
-    ensures rares { IfOk result (λ all. rare_in all.items ≡ rares_of plan.now.fields) }
-    ensures some { IfOk result (λ all. 1 ≤ length all.items) }
-    ensures few { IfOk result (λ all. length all.items ≤ MOST_FIELDS) }
+    ensures fields { IfOk result (λ all. AreFieldShares plan.now.fields all.items) }
 {
     let mut all = Vec::new(alloc);
     for field in plan.fields.fields() {
@@ -82,9 +79,7 @@ pub fn shares_of_counts(counts: &Counts, field: u8, rare: bool) -> FieldShares
 fn shares_by(alloc: Global, plan: &Plan, counts: &Counts) -> Result<Vec<FieldShares>, NoMemory>
     requires rares { counts.now.rares ≡ rares_of plan.now.fields }
     ensures shares { IfOk result (λ all. plain_all all.items ≡ shares_in counts.now) }
-    ensures rares { IfOk result (λ all. rare_in all.items ≡ rares_of plan.now.fields) }
-    ensures some { IfOk result (λ all. 1 ≤ length all.items) }
-    ensures few { IfOk result (λ all. length all.items ≤ MOST_FIELDS) }
+    ensures fields { IfOk result (λ all. AreFieldShares plan.now.fields all.items) }
 {
     let fields = plan.fields.fields();
     let mut all = Vec::new(alloc);
@@ -115,9 +110,7 @@ pub fn counted_shares(
     requires sides_a { All (AreSidesOf texts plan.now.fields) sides_a.now.rows }
     requires sides_b { All (AreSidesOf texts plan.now.fields) sides_b.now.rows }
     ensures answer { Gives (λ all. plain_all all.items) (counted_in plan.now.fields (pattern_over (comparators_of texts plan.now.fields sides_a.now.rows sides_b.now.rows) sides_a.now.rows sides_b.now.rows) a.now b.now sample.now) result }
-    ensures rares { IfOk result (λ all. rare_in all.items ≡ rares_of plan.now.fields) }
-    ensures some { IfOk result (λ all. 1 ≤ length all.items) }
-    ensures few { IfOk result (λ all. length all.items ≤ MOST_FIELDS) }
+    ensures fields { IfOk result (λ all. AreFieldShares plan.now.fields all.items) }
 {
     let kinds = comparisons_of(alloc, plan, texts, sides_a, sides_b)?;
     match count_sample_over(alloc, sample, a, b, &kinds, sides_a, sides_b) {

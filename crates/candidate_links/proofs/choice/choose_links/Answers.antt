@@ -4,28 +4,24 @@ use Rattle.std.proofs.lemmas.List.{get_or_default}
 use Rattle.price_check.specs.Assignment.{Certifies, IsGreatest, greatest_value, price_of, worth}
 use Rattle.link_base.specs.declared.rule.Candidate.{Candidate}
 use Rattle.candidate_links.specs.PassLaws.{not_more}
-use Rattle.candidate_links.specs.Choice.{dropped_of, IsChoice}
+use Rattle.candidate_links.specs.Choice.{dropped_of, IsAnswerOf, IsChoice}
 use Rattle.candidate_links.specs.declared.choice.ChosenLinks.{ChosenLinks}
 use Rattle.candidate_links.proofs.choice.choose_links.Goals as goal
 
--- what holds of links and prices holds of their copies
-of_chosen : {E : Type 0} (P : List Candidate → List ℤ → List ℤ → Type 0) (links : List Candidate) (ps qs : List ℤ) (r : Result ChosenLinks E) → IfOk r (λ c. c.links.items ≡ links)
-    → IfOk r (λ c. c.prices_a.items ≡ ps) → IfOk r (λ c. c.prices_b.items ≡ qs) → P links ps qs → IfOk r (λ c. P c.links.items c.prices_a.items c.prices_b.items)
-of_chosen P links ps qs (Ok c) l a b h = rw (l, a, b) h
-of_chosen P links ps qs (Err e) l a b h = tt
-
--- the copies are a choice where links and prices are
-choice_of : {E : Type 0} (m n : ℕ) (cs links : List Candidate) (ps qs : List ℤ) (r : Result ChosenLinks E) → IfOk r (λ c. c.links.items ≡ links) → IfOk r (λ c. c.prices_a.items ≡ ps) → IfOk r (λ c. c.prices_b.items ≡ qs)
-    → IfOk r (λ c. c.dropped.items ≡ dropped_of cs links) → IfOk r (λ c. c.total ≡ worth links) → IsGreatest cs links → Certifies cs links ps qs → length ps ≡ m → length qs ≡ n → IfOk r (IsChoice m n cs)
-choice_of m n cs links ps qs (Ok c) l a b dropped total greatest certified of_a of_b = record {
-  greatest = rw l greatest;
-  certified = rw (l, a, b) certified;
-  priced_a = ap (λ (xs : List ℤ). length xs) a ∙ of_a;
-  priced_b = ap (λ (xs : List ℤ). length xs) b ∙ of_b;
-  dropped = dropped ∙ ap (dropped_of cs) (sym l);
-  total = total ∙ ap worth (sym l);
+-- an answer's links and prices are a choice where they are greatest and certified
+choice_of : {E : Type 0} (m n : ℕ) (cs links : List Candidate) (ps qs : List ℤ) (r : Result ChosenLinks E) → IfOk r (IsAnswerOf cs links ps qs) → IsGreatest cs links → Certifies cs links ps qs → length ps ≡ m → length qs ≡ n
+    → All (λ price. price ≤ℤ greatest_value cs) ps → All (λ price. price ≤ℤ greatest_value cs) qs → IfOk r (IsChoice m n cs)
+choice_of m n cs links ps qs (Ok c) is greatest certified of_a of_b most_a most_b = record {
+  greatest = rw is.links greatest;
+  certified = rw (is.links, is.prices_a, is.prices_b) certified;
+  priced_a = ap (λ (xs : List ℤ). length xs) is.prices_a ∙ of_a;
+  priced_b = ap (λ (xs : List ℤ). length xs) is.prices_b ∙ of_b;
+  most_a = rw is.prices_a most_a;
+  most_b = rw is.prices_b most_b;
+  dropped = is.dropped ∙ ap (dropped_of cs) (sym is.links);
+  total = is.total ∙ ap worth (sym is.links);
 }
-choice_of m n cs links ps qs (Err e) l a b dropped total greatest certified of_a of_b = tt
+choice_of m n cs links ps qs (Err e) is greatest certified of_a of_b most_a most_b = tt
 
 -- no price is above the greatest value of the candidates
 priced : (prices : List ℤ) (most : ℤ) → ((position : ℕ) → price_of prices position ≤ℤ most) → All (λ price. price ≤ℤ most) prices
@@ -54,15 +50,10 @@ returns c =
     let made = c.in_ok-assigner.ensures in
     let s = c.solve-solved.ensures in
     let solved = c.solve-solved.result in
-    let r = c.chosen_of-chosen.result in
-    let e = c.chosen_of-chosen.ensures in
     let greatest : IsGreatest cs solved.links = subst (λ (all : List Candidate). IsGreatest all solved.links) made.candidates s.greatest in
     let certified : Certifies cs solved.links solved.prices_a solved.prices_b = subst (λ (all : List Candidate). Certifies all solved.links solved.prices_a solved.prices_b) made.candidates s.certified in
     let bound = c.prices_are_bounded.ensures.by_candidates cs solved.links solved.prices_a solved.prices_b greatest.one_to_one certified in
-    let most_a : All (λ price. price ≤ℤ greatest_value cs) solved.prices_a = priced solved.prices_a (greatest_value cs) (λ position. (bound position).0) in
-    let most_b : All (λ price. price ≤ℤ greatest_value cs) solved.prices_b = priced solved.prices_b (greatest_value cs) (λ position. (bound position).1) in
     record {
-      chosen = choice_of c.args.rows_a c.args.rows_b cs solved.links solved.prices_a solved.prices_b r e.links e.prices_a e.prices_b e.dropped e.total greatest certified (s.rows_a ∙ made.rows_a) (s.rows_b ∙ made.rows_b);
-      most_a = of_chosen (λ links ps qs. All (λ price. price ≤ℤ greatest_value cs) ps) _ _ _ r e.links e.prices_a e.prices_b most_a;
-      most_b = of_chosen (λ links ps qs. All (λ price. price ≤ℤ greatest_value cs) qs) _ _ _ r e.links e.prices_a e.prices_b most_b;
+      chosen = choice_of c.args.rows_a c.args.rows_b cs solved.links solved.prices_a solved.prices_b c.chosen_of-chosen.result c.chosen_of-chosen.ensures greatest certified (s.rows_a ∙ made.rows_a) (s.rows_b ∙ made.rows_b)
+          (priced solved.prices_a (greatest_value cs) (λ position. (bound position).0)) (priced solved.prices_b (greatest_value cs) (λ position. (bound position).1));
     }

@@ -44,7 +44,7 @@ loop-at-preserved c =
       listed =
           ap (λ ns. set ns listed.at listed.capacity) c.loop-at.invariant.listed
           ∙ ap (set so_far listed.at) given
-          ∙ listed_more b rows at listed.at within c.distinct_ids.ensures (c.requires.distinct refl) c.in-Ok.ensures.named;
+          ∙ listed_more b rows at listed.at within c.distinct_ids.ensures (c.requires.distinct refl) c.in-Ok.ensures.listed.named;
       for_each = length-set c.loop-at.each.items listed.at listed.capacity ∙ c.loop-at.invariant.for_each;
-      allowed = All-set (λ n. n ≤ MOST_CAPACITY) c.loop-at.each.items listed.at listed.capacity c.in-Ok.ensures.allowed c.loop-at.invariant.allowed;
+      allowed = All-set (λ n. n ≤ MOST_CAPACITY) c.loop-at.each.items listed.at listed.capacity c.in-Ok.ensures.listed.allowed c.loop-at.invariant.allowed;
     }

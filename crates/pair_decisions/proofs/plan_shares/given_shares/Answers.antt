@@ -40,7 +40,5 @@ returns c =
     let as_many = as_many_shares c.loop-field.all.items fields rares in
     record {
       shares = c.loop-field.invariant.shares ∙ ap given_in all;
-      rares = rares;
-      some = omega (arith, as_many, c.requires.ranges.some_fields);
-      few = omega (arith, as_many, c.requires.ranges.few_fields);
+      fields = record { rares = rares; some = omega (arith, as_many, c.requires.ranges.some_fields); few = omega (arith, as_many, c.requires.ranges.few_fields) };
     }

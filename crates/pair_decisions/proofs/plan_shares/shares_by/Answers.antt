@@ -37,7 +37,5 @@ returns c =
     let all = ap length c.fields-fields.ensures.all in
     record {
       shares = c.loop-at.invariant.shares ∙ ap (λ rs. map (shares_at c.args.counts.now) (enumerate_from 0 rs)) counted;
-      rares = rare;
-      some = omega (arith, as_many, all, c.fields-fields.ensures.some);
-      few = omega (arith, as_many, all, c.fields-fields.ensures.few);
+      fields = record { rares = rare; some = omega (arith, as_many, all, c.fields-fields.ensures.some); few = omega (arith, as_many, all, c.fields-fields.ensures.few) };
     }

@@ -3,4 +3,4 @@ use Rattle.link_core.proofs.RuleLemmas.{rares_seen}
 use Rattle.link_core.proofs.rules.PlanShares.given.Goals as goal
 
 pub returns-clause-rares : goal.returns-clause-rares
-returns-clause-rares c = rares_seen c.in_ok-all.all.items ∙ c.in_ok-all.ensures.rares
+returns-clause-rares c = rares_seen c.in_ok-all.all.items ∙ c.in_ok-all.ensures.fields.rares
