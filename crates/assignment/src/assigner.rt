@@ -40,8 +40,8 @@ impl Model for Assigner {
 #[derive(Drop)]
 pub struct Assignment {
     links: Vec<Candidate>,
-    price_a: Vec<u64>,
-    price_b: Vec<u64>,
+    price_a: Vec<u32>,
+    price_b: Vec<u32>,
 }
 
 impl Model for Assignment {

@@ -1,5 +1,5 @@
 // The edges from both sides, and the sides that search over them.
-ghost use Rattle.std.specs.Prelude.{◌≡◌, All, AllPairs, IfOk, length};
+ghost use Rattle.std.specs.Prelude.{◌≡◌, ◌≤◌, All, AllPairs, IfOk, length};
 ghost use Rattle.price_check.specs.Assignment.{IsBefore, IsWithin};
 ghost use Rattle.assignment_steps.specs.Candidates.{edges_of};
 ghost use Rattle.assignment.specs.Graph.{AreTwoSides, IsGraph};
@@ -9,15 +9,16 @@ ghost use Rattle.assignment.specs.Solution.{HasSmallValue};
 use crate::side::{Other, Side, first_side, other_if_less, run, run_other};
 use assignment_steps::{Board, Edge, edges_of, first_prices, starts_of, turned_edges, zeros};
 use link_base::{Candidate, NoMemory};
+use link_limits::MOST_PAIRS;
 use std::alloc::Global;
 
 /// The edges of candidates, by their records of A and turned, with the starts of the records.
 #[derive(Drop)]
 pub struct Graph {
     pub edges: Vec<Edge>,
-    pub starts: Vec<usize>,
+    pub starts: Vec<u32>,
     pub turned: Vec<Edge>,
-    pub turned_starts: Vec<usize>,
+    pub turned_starts: Vec<u32>,
 }
 
 /// The side that searches, and the other side where it may search first.
@@ -34,6 +35,7 @@ pub fn graph_of(
     rows_b: u32,
     candidates: &[Candidate],
 ) -> Result<Graph, NoMemory>
+    requires few { length candidates.now ≤ MOST_PAIRS }
     requires rising { AllPairs IsBefore candidates.now }
     requires within { All (IsWithin rows_a rows_b) candidates.now }
     requires small { All HasSmallValue candidates.now }

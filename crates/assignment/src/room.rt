@@ -20,8 +20,8 @@ fn have_one_each(edges: &[Edge]) -> bool {
 }
 
 /// So many records where room for them is needed.
-fn records_if(is_needed: bool, records: usize) -> usize {
-    if is_needed { records } else { 0 }
+fn records_if(is_needed: bool, records: u32) -> usize {
+    if is_needed { records as usize } else { 0 }
 }
 
 /// Room for searches and for a proposal.
@@ -35,8 +35,8 @@ pub(crate) struct SideRoom {
 pub(crate) fn room_for_side(
     alloc: Global,
     edges: &[Edge],
-    rows_a: usize,
-    rows_b: usize,
+    rows_a: u32,
+    rows_b: u32,
 ) -> Result<SideRoom, NoMemory>
     ensures { IfOk result (λ r. IsAtRest rows_a rows_b (length edges.now) r.tree.reached) }
 {

@@ -11,7 +11,9 @@ use crate::room::room_for_side;
 use crate::round::search_each;
 use crate::solve::free_links;
 use crate::spare::{Spare, take_proposal};
-use assignment_steps::{Board, Edge, Net, adopt_all, join_as_turned, link_tight, waiting};
+use assignment_steps::{
+    Board, Edge, MaybeEdge, Net, adopt_all, join_as_turned, link_tight, waiting,
+};
 use link_base::NoMemory;
 use std::alloc::Global;
 
@@ -21,10 +23,10 @@ const LOOKS: usize = 4;
 /// Prices, links and room of the side that searches, whose records are called those of A.
 #[derive(Drop)]
 pub struct Side {
-    pub price_a: Vec<u64>,
-    pub price_b: Vec<u64>,
-    pub link_a: Vec<Option<usize>>,
-    pub link_b: Vec<Option<usize>>,
+    pub price_a: Vec<u32>,
+    pub price_b: Vec<u32>,
+    pub link_a: Vec<MaybeEdge>,
+    pub link_b: Vec<MaybeEdge>,
     pub tree: Tree,
     pub spare: Spare,
 }
@@ -33,8 +35,8 @@ pub struct Side {
 #[derive(Drop)]
 pub struct Other {
     pub side: Side,
-    pub link_a: Vec<Option<usize>>,
-    pub link_b: Vec<Option<usize>>,
+    pub link_a: Vec<MaybeEdge>,
+    pub link_b: Vec<MaybeEdge>,
 }
 
 /// A side at first: each record of A has a price that reaches the values of its edges, no record of B has
@@ -42,8 +44,8 @@ pub struct Other {
 pub fn first_side(
     alloc: Global,
     edges: &[Edge],
-    price_a: Vec<u64>,
-    price_b: Vec<u64>,
+    price_a: Vec<u32>,
+    price_b: Vec<u32>,
 ) -> Result<Side, NoMemory>
     requires reach { ReachAll edges.now (length price_a.items) price_a.items price_b.items }
     requires none { (b : ℕ) → number price_b.items b ≡ 0 }
@@ -53,7 +55,7 @@ pub fn first_side(
     let rows_a = price_a.len();
     let rows_b = price_b.len();
     let links = free_links(alloc, rows_a, rows_b)?;
-    match room_for_side(alloc, edges, rows_a, rows_b) {
+    match room_for_side(alloc, edges, rows_a as u32, rows_b as u32) {
         Ok(room) => Ok(Side {
             price_a,
             price_b,
@@ -72,7 +74,7 @@ pub fn first_side(
 }
 
 /// The sum of prices.
-fn sum_of(prices: &[u64]) -> u128
+fn sum_of(prices: &[u32]) -> u128
     ensures { result ≡ sum prices.now }
 {
     let mut total = 0u128;
@@ -87,9 +89,9 @@ fn sum_of(prices: &[u64]) -> u128
 pub fn other_if_less(
     alloc: Global,
     turned: &[Edge],
-    other_a: Vec<u64>,
-    other_b: Vec<u64>,
-    price_a: &[u64],
+    other_a: Vec<u32>,
+    other_b: Vec<u32>,
+    price_a: &[u32],
 ) -> Result<Option<Other>, NoMemory>
     requires reach { ReachAll turned.now (length other_a.items) other_a.items other_b.items }
     requires none { (r : ℕ) → number other_b.items r ≡ 0 }
@@ -123,10 +125,10 @@ pub fn other_if_less(
 /// a proposal over if it serves, and takes every record of A up in turn.
 fn settle(
     board: Board<'_>,
-    price_a: &mut [u64],
-    price_b: &mut [u64],
-    link_a: &mut [Option<usize>],
-    link_b: &mut [Option<usize>],
+    price_a: &mut [u32],
+    price_b: &mut [u32],
+    link_a: &mut [MaybeEdge],
+    link_b: &mut [MaybeEdge],
     tree: &mut Tree,
     spare: &mut Spare,
 )
@@ -188,13 +190,13 @@ pub fn run(board: Board<'_>, side: &mut Side)
 /// Takes the prices and links of the other side over, where they serve.
 fn take_over(
     board: Board<'_>,
-    price_a: &mut [u64],
-    price_b: &mut [u64],
-    link_a: &mut [Option<usize>],
-    link_b: &mut [Option<usize>],
+    price_a: &mut [u32],
+    price_b: &mut [u32],
+    link_a: &mut [MaybeEdge],
+    link_b: &mut [MaybeEdge],
     side: &Side,
-    new_a: &mut [Option<usize>],
-    new_b: &mut [Option<usize>],
+    new_a: &mut [MaybeEdge],
+    new_b: &mut [MaybeEdge],
 )
     requires between { IsBetween board.edges.now price_a.old price_b.old link_a.old link_b.old 0 }
     requires rows_a { length side.now.price_b.items ≡ length price_a.old }

@@ -3,17 +3,12 @@ ghost use Rattle.std.specs.Prelude.{◌≡◌, None, IfOk, replicate};
 ghost use Rattle.assignment_steps.specs.Reached.{IsAtRest};
 
 use crate::market::Tree;
-use assignment_steps::{Reached, no_links};
+use assignment_steps::{MaybeEdge, Reached, no_links};
 use link_base::NoMemory;
 use std::alloc::Global;
 
 /// A tree with nothing in it.
-pub fn clean_tree(
-    alloc: Global,
-    rows_a: usize,
-    rows_b: usize,
-    edges: usize,
-) -> Result<Tree, NoMemory>
+pub fn clean_tree(alloc: Global, rows_a: u32, rows_b: u32, edges: usize) -> Result<Tree, NoMemory>
     ensures { IfOk result (λ t. IsAtRest rows_a rows_b edges t.reached) }
 {
     let reached = Reached::new(alloc, rows_a, rows_b, edges)?;
@@ -27,8 +22,8 @@ pub fn clean_tree(
 /// Links of the records of both sides.
 #[derive(Drop)]
 pub(crate) struct Links {
-    pub(crate) a: Vec<Option<usize>>,
-    pub(crate) b: Vec<Option<usize>>,
+    pub(crate) a: Vec<MaybeEdge>,
+    pub(crate) b: Vec<MaybeEdge>,
 }
 
 /// So many records of both sides without a link.

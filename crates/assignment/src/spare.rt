@@ -4,7 +4,7 @@ ghost use Rattle.assignment_steps.specs.Between.{IsBetween};
 ghost use Rattle.assignment_steps.specs.Joined.{IsFor};
 
 use assignment_levels::Proposer;
-use assignment_steps::{Board, adopt_proposal};
+use assignment_steps::{Board, MaybeEdge, adopt_proposal};
 use link_base::NoMemory;
 use std::alloc::Global;
 
@@ -12,8 +12,8 @@ use std::alloc::Global;
 #[derive(Drop)]
 pub struct Spare {
     proposer: Proposer,
-    link_a: Vec<Option<usize>>,
-    link_b: Vec<Option<usize>>,
+    link_a: Vec<MaybeEdge>,
+    link_b: Vec<MaybeEdge>,
 }
 
 impl Spare {
@@ -37,12 +37,12 @@ impl Spare {
 }
 
 /// Puts so many records without a link there, within the room that was taken.
-fn put_free(links: &mut Vec<Option<usize>>, records: usize) {
+fn put_free(links: &mut Vec<MaybeEdge>, records: usize) {
     for _ in links.len()..records {
         if links.len() >= links.capacity() {
             return;
         }
-        let Ok(()) = links.push(None) else {
+        let Ok(()) = links.push(MaybeEdge::none()) else {
             return;
         };
     }
@@ -51,10 +51,10 @@ fn put_free(links: &mut Vec<Option<usize>>, records: usize) {
 /// Lets prices and links be proposed, and takes them over where they serve.
 pub fn take_proposal(
     board: Board<'_>,
-    price_a: &mut [u64],
-    price_b: &mut [u64],
-    link_a: &mut [Option<usize>],
-    link_b: &mut [Option<usize>],
+    price_a: &mut [u32],
+    price_b: &mut [u32],
+    link_a: &mut [MaybeEdge],
+    link_b: &mut [MaybeEdge],
     spare: &mut Spare,
 )
     requires between { IsBetween board.edges.now price_a.old price_b.old link_a.old link_b.old 0 }

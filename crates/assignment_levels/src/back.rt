@@ -2,16 +2,14 @@
 
 use crate::level::{Level, edges_of, value_at};
 use crate::lists::Lists;
-use crate::numbers::{NONE, at, fill_up, put, rooms_for};
+use crate::numbers::{NONE, at, fill_up, put, room_for};
 use crate::side::{Side, let_fall};
 use link_base::NoMemory;
 use std::alloc::Global;
 
-/// How much nearer than its price each record is, the order in which records were reached, each one's place in it,
-/// and how many were.
+/// The order in which records were reached, each one's place in it, and how many were.
 #[derive(Drop)]
 pub struct ReachOrder {
-    nearer: Vec<u32>,
     order: Vec<u32>,
     place: Vec<u32>,
     count: u32,
@@ -20,9 +18,9 @@ pub struct ReachOrder {
 impl ReachOrder {
     /// Room for so many records.
     pub(crate) fn new(alloc: Global, records: u32) -> Result<ReachOrder, NoMemory> {
-        let (nearer, order, place) = rooms_for(alloc, records, records, records)?;
+        let order = room_for(alloc, records)?;
+        let place = room_for(alloc, records)?;
         Ok(ReachOrder {
-            nearer,
             order,
             place,
             count: 0,
@@ -31,7 +29,6 @@ impl ReachOrder {
 
     /// Puts so many records there.
     pub(crate) fn fill(&mut self, records: u32) {
-        fill_up(&mut self.nearer, records);
         fill_up(&mut self.order, records);
         fill_up(&mut self.place, records);
     }
@@ -53,7 +50,6 @@ impl ReachOrder {
 
     /// Forgets what was reached.
     fn clear(&mut self) {
-        self.nearer.fill(0);
         self.place.fill(NONE);
         self.count = 0;
     }
@@ -118,6 +114,7 @@ fn reach_waiting(
     other: &Side,
     lists: &mut Lists,
     reached: &mut ReachOrder,
+    nearer: &mut [u32],
     waiting: u32,
 ) -> u32 {
     let mut left = waiting;
@@ -132,7 +129,7 @@ fn reach_waiting(
         let mate = own.mate_of(record);
         if mate != NONE {
             let paid = other.price_of(mate).wrapping_add(last);
-            look_from(level, own, lists, &mut reached.nearer, mate, paid);
+            look_from(level, own, lists, nearer, mate, paid);
         } else if own.price_of(record) > 0 {
             left = left.saturating_sub(1);
         }
@@ -151,19 +148,21 @@ fn put_at_prices(own: &Side, lists: &mut Lists) {
 /// Looks back from all ends of paths at once, records of the other side without a link and records of this side at
 /// the distance of their price, until each record that waits is reached. Each price falls by its record's own
 /// distance, and at most by that of the record reached last: so each record that waited has a path of tight edges,
-/// or no price.
+/// or no price. `nearer` is room for how much nearer than its price each record is.
 pub(crate) fn look_back(
     level: Level<'_>,
     own: &mut Side,
     other: &mut Side,
     lists: &mut Lists,
     reached: &mut ReachOrder,
+    nearer: &mut [u32],
     waiting: u32,
 ) {
     reached.clear();
+    nearer.fill(0);
     put_at_prices(own, lists);
-    look_from_free(level, own, other, lists, &mut reached.nearer);
-    let last = reach_waiting(level, own, other, lists, reached, waiting);
+    look_from_free(level, own, other, lists, nearer);
+    let last = reach_waiting(level, own, other, lists, reached, nearer, waiting);
     for record in 0..own.records {
         let_fall(own, other, record, lists.distance(record).min(last));
     }

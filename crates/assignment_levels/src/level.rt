@@ -33,13 +33,13 @@ pub(crate) fn turned(level: Level<'_>) -> Level<'_> {
 
 /// The edges of a record, which stand together.
 #[inline(always)]
-pub(crate) fn edges_of<'a>(edges: &'a [Edge], starts: &[usize], record: u32) -> &'a [Edge] {
+pub(crate) fn edges_of<'a>(edges: &'a [Edge], starts: &[u32], record: u32) -> &'a [Edge] {
     let place = record as usize;
     if place + 1 >= starts.len() {
         return &edges[..0];
     }
-    let start = starts[place];
-    let end = starts[place + 1];
+    let start = starts[place] as usize;
+    let end = starts[place + 1] as usize;
     if start > end || end > edges.len() {
         return &edges[..0];
     }

@@ -5,7 +5,7 @@ use crate::level::{Level, cover, part_loose, turned};
 use crate::numbers::{at, count_of, put};
 use crate::rounds::{Room, begin, run_rounds};
 use crate::side::{Side, link};
-use assignment_steps::{Board, Edge, Proposal};
+use assignment_steps::{Board, Edge, MaybeEdge, Proposal, link_of};
 use link_base::NoMemory;
 use std::alloc::Global;
 use std::marker::Model;
@@ -29,14 +29,14 @@ impl Model for Proposer {
 
     ghost Value = { Proposed };
 
-    ghost view = { λ s. record { price_a = s.own.wide.items; price_b = s.other.wide.items; mates = s.own.mate.items } };
+    ghost view = { λ s. record { price_a = s.own.price.items; price_b = s.other.price.items; mates = s.own.mate.items } };
 }
 
-/// Copies prices, the least of each and the greatest number.
-fn copy_prices(to: &mut [u32], prices: &[u64]) {
+/// Copies prices.
+fn copy_prices(to: &mut [u32], prices: &[u32]) {
     let mut record = 0u32;
     for price in prices {
-        put(to, record, (*price).min(u64::from(u32::MAX)) as u32);
+        put(to, record, *price);
         record = record.saturating_add(1);
     }
 }
@@ -59,9 +59,9 @@ fn bits_of(edges: &[Edge]) -> u32 {
 }
 
 /// How many records have edges, which begin at these places.
-fn records_with_edges(starts: &[usize]) -> u32 {
+fn records_with_edges(starts: &[u32]) -> u32 {
     let mut count = 0u32;
-    let mut start = 0usize;
+    let mut start = 0u32;
     for end in starts {
         if *end > start {
             count = count.saturating_add(1);
@@ -72,7 +72,7 @@ fn records_with_edges(starts: &[usize]) -> u32 {
 }
 
 /// How many of the records with edges may still wait at a level: none at the last.
-fn most_left(starts: &[usize], shift: u32) -> u32 {
+fn most_left(starts: &[u32], shift: u32) -> u32 {
     if shift == 0 {
         0
     } else {
@@ -110,12 +110,12 @@ impl Proposer {
     }
 
     /// Takes prices and links as a start.
-    fn start(&mut self, edges: &[Edge], price_a: &[u64], price_b: &[u64], links: &[Option<usize>]) {
+    fn start(&mut self, edges: &[Edge], price_a: &[u32], price_b: &[u32], links: &[MaybeEdge]) {
         self.clear();
         copy_prices(&mut self.own.price, price_a);
         copy_prices(&mut self.other.price, price_b);
-        for place in links {
-            let k = place.unwrap_or(edges.len());
+        for position in 0..links.len() {
+            let k = link_of(links, position).unwrap_or(edges.len());
             if k < edges.len() {
                 let edge = edges[k];
                 link(&mut self.own, &mut self.other, edge.a, edge.b);
@@ -138,8 +138,8 @@ impl Proposer {
         );
     }
 
-    /// All levels, from the first.
-    fn run_levels(&mut self, board: Board<'_>) {
+    /// Proposes prices and links bit by bit of the values, from nothing.
+    pub fn propose_by_levels(&mut self, board: Board<'_>) {
         self.clear();
         let bits = bits_of(board.edges);
         let step = if bits > FEW_BITS { 2 } else { 1 };
@@ -155,26 +155,14 @@ impl Proposer {
         }
     }
 
-    /// Writes the prices as the caller's are.
-    fn widen(&mut self) {
-        self.own.widen();
-        self.other.widen();
-    }
-
-    /// Proposes prices and links bit by bit of the values, from nothing.
-    pub fn propose_by_levels(&mut self, board: Board<'_>) {
-        self.run_levels(board);
-        self.widen();
-    }
-
     /// Proposes prices and links, from those that are given on: first by rounds at the whole values, and where
     /// three of these are slow, bit by bit. What it gives is a proposal: nothing is proved of how good it is.
     pub fn propose(
         &mut self,
         board: Board<'_>,
-        price_a: &[u64],
-        price_b: &[u64],
-        links: &[Option<usize>],
+        price_a: &[u32],
+        price_b: &[u32],
+        links: &[MaybeEdge],
     ) {
         if self.own.records as usize != price_a.len()
             || self.other.records as usize != price_b.len()
@@ -191,9 +179,8 @@ impl Proposer {
             0,
             false,
         ) {
-            self.run_levels(board);
+            self.propose_by_levels(board);
         }
-        self.widen();
     }
 
     /// The proposal: prices, and beside each record of A the number of the record of B that it is linked to.
@@ -203,8 +190,8 @@ impl Proposer {
         ensures mates { result.mates.now ≡ self.now.mates }
     {
         Proposal {
-            price_a: &self.own.wide,
-            price_b: &self.other.wide,
+            price_a: &self.own.price,
+            price_b: &self.other.price,
             mates: &self.own.mate,
         }
     }

@@ -2,55 +2,32 @@
 
 use crate::back::ReachOrder;
 use crate::level::{Level, edges_of, is_tight};
-use crate::numbers::{NONE, at, fill_up, put, room_for, rooms_for};
+use crate::numbers::{NONE, at, put};
 use crate::side::{Side, link};
 use assignment_steps::Edge;
-use link_base::NoMemory;
-use std::alloc::Global;
 
 /// How many edges each record has tried, the record of the other side that it tried last, the records of the other
 /// side that were met, each by the number of the round, and a path.
 #[derive(Drop)]
-pub struct Paths {
-    tried: Vec<u32>,
-    chosen: Vec<u32>,
-    met: Vec<u32>,
-    round: u32,
-    path: Vec<u32>,
+pub struct Paths<'r> {
+    pub tried: &'r mut [u32],
+    pub chosen: &'r mut [u32],
+    pub met: &'r mut [u32],
+    pub round: u32,
+    pub path: &'r mut [u32],
 }
 
-impl Paths {
-    /// Room for so many records.
-    pub(crate) fn new(alloc: Global, records: u32) -> Result<Paths, NoMemory> {
-        let path = room_for(alloc, records)?;
-        let (tried, chosen, met) = rooms_for(alloc, records, records, records)?;
-        Ok(Paths {
-            tried,
-            chosen,
-            met,
-            round: 0,
-            path,
-        })
-    }
-
-    /// Puts so many records there.
-    pub(crate) fn fill(&mut self, records: u32) {
-        fill_up(&mut self.tried, records);
-        fill_up(&mut self.chosen, records);
-        fill_up(&mut self.met, records);
-        fill_up(&mut self.path, records);
-    }
-
+impl Paths<'_> {
     /// Whether a record of the other side was met in this round.
     #[inline(always)]
     fn has_met(&self, mate: u32) -> bool {
-        at(&self.met, mate) == self.round
+        at(self.met, mate) == self.round
     }
 
     /// Meets a record of the other side.
     #[inline(always)]
     fn meet(&mut self, mate: u32) {
-        put(&mut self.met, mate, self.round);
+        put(self.met, mate, self.round);
     }
 }
 
@@ -69,7 +46,7 @@ fn way_over(
     own: &Side,
     other: &Side,
     reached: &ReachOrder,
-    paths: &mut Paths,
+    paths: &mut Paths<'_>,
     edge: Edge,
 ) -> Way {
     if !is_tight(level, own, other, edge) || paths.has_met(edge.b) {
@@ -93,11 +70,11 @@ fn way_from(
     own: &Side,
     other: &Side,
     reached: &ReachOrder,
-    paths: &mut Paths,
+    paths: &mut Paths<'_>,
     record: u32,
 ) -> Way {
     let edges = edges_of(level.board.edges, level.board.starts, record);
-    let mut tried = at(&paths.tried, record);
+    let mut tried = at(paths.tried, record);
     if tried as usize > edges.len() {
         return Way::Nowhere;
     }
@@ -105,12 +82,12 @@ fn way_from(
         tried = tried.saturating_add(1);
         let way = way_over(level, own, other, reached, paths, *edge);
         if !matches!(way, Way::Nowhere) {
-            put(&mut paths.tried, record, tried);
-            put(&mut paths.chosen, record, edge.b);
+            put(paths.tried, record, tried);
+            put(paths.chosen, record, edge.b);
             return way;
         }
     }
-    put(&mut paths.tried, record, tried);
+    put(paths.tried, record, tried);
     Way::Nowhere
 }
 
@@ -120,7 +97,7 @@ fn seek(
     own: &Side,
     other: &Side,
     reached: &ReachOrder,
-    paths: &mut Paths,
+    paths: &mut Paths<'_>,
     root: u32,
 ) -> u32 {
     let mut record = root;
@@ -128,18 +105,18 @@ fn seek(
     for _ in 0..level.board.edges.len() {
         match way_from(level, own, other, reached, paths, record) {
             Way::Ends => {
-                put(&mut paths.path, above, record);
+                put(paths.path, above, record);
                 return above.saturating_add(1);
             }
             Way::Goes(mate) => {
-                put(&mut paths.path, above, record);
+                put(paths.path, above, record);
                 above = above.saturating_add(1);
                 record = mate;
             }
             Way::Nowhere if above == 0 => return 0,
             Way::Nowhere => {
                 above = above.saturating_sub(1);
-                record = at(&paths.path, above);
+                record = at(paths.path, above);
             }
         }
     }
@@ -147,10 +124,10 @@ fn seek(
 }
 
 /// Links the records of a path as it goes.
-fn turn(own: &mut Side, other: &mut Side, paths: &Paths, count: u32) {
+fn turn(own: &mut Side, other: &mut Side, paths: &Paths<'_>, count: u32) {
     for place in 0..count {
-        let record = at(&paths.path, place);
-        link(own, other, record, at(&paths.chosen, record));
+        let record = at(paths.path, place);
+        link(own, other, record, at(paths.chosen, record));
     }
 }
 
@@ -161,10 +138,9 @@ pub(crate) fn follow_paths(
     own: &mut Side,
     other: &mut Side,
     reached: &ReachOrder,
-    paths: &mut Paths,
+    paths: &mut Paths<'_>,
 ) {
     paths.tried.fill(0);
-    paths.round = paths.round.wrapping_add(1);
     for place in 0..reached.count() {
         let root = reached.record_at(place);
         if own.waits(root) {

@@ -3,7 +3,7 @@
 use crate::back::{ReachOrder, look_back};
 use crate::level::{Level, link_tight};
 use crate::lists::Lists;
-use crate::paths::{Paths, follow_paths};
+use crate::paths::follow_paths;
 use crate::search::{Tree, search};
 use crate::side::Side;
 use link_base::NoMemory;
@@ -20,7 +20,6 @@ const FEW: u32 = 16;
 pub struct Room {
     lists: Lists,
     reached: ReachOrder,
-    paths: Paths,
     tree: Tree,
 }
 
@@ -30,11 +29,9 @@ impl Room {
         let lists = Lists::new(alloc, records)?;
         let reached = ReachOrder::new(alloc, records)?;
         let tree = Tree::new(alloc, records)?;
-        let paths = Paths::new(alloc, records)?;
         Ok(Room {
             lists,
             reached,
-            paths,
             tree,
         })
     }
@@ -43,7 +40,6 @@ impl Room {
     pub(crate) fn fill(&mut self, records: u32) {
         self.lists.fill();
         self.reached.fill(records);
-        self.paths.fill(records);
         self.tree.fill(records);
     }
 }
@@ -79,8 +75,17 @@ fn run_round(
     count: u32,
     looks: usize,
 ) -> bool {
-    look_back(level, own, other, &mut room.lists, &mut room.reached, count);
-    follow_paths(level, own, other, &room.reached, &mut room.paths);
+    look_back(
+        level,
+        own,
+        other,
+        &mut room.lists,
+        &mut room.reached,
+        &mut room.tree.joined,
+        count,
+    );
+    let mut paths = room.tree.paths(&mut room.lists.dist);
+    follow_paths(level, own, other, &room.reached, &mut paths);
     let left = own.waiting();
     room.tree.allow(looks);
     search_in_order(level, own, other, room);

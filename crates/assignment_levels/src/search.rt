@@ -3,6 +3,7 @@
 use crate::level::{Level, edges_of, value_at};
 use crate::lists::Lists;
 use crate::numbers::{NONE, at, fill_up, put, rooms_for};
+use crate::paths::Paths;
 use crate::side::{Side, let_fall};
 use link_base::NoMemory;
 use std::alloc::Global;
@@ -10,13 +11,13 @@ use std::alloc::Global;
 /// A tree as it grows: by which search each record was reached last, from which record, the records in the order in
 /// which they joined and how many, the distance of the newest, and the nearest end so far. That end is the
 /// record `end`, over its record `free` of the other side, or, where that is none, by giving up its link. `looks`
-/// is how many edges may still be looked at.
+/// is how many edges may still be looked at. Between searches a look back and paths have its room.
 #[derive(Drop)]
 pub struct Tree {
     number: u32,
     mark: Vec<u32>,
     from: Vec<u32>,
-    joined: Vec<u32>,
+    pub(crate) joined: Vec<u32>,
     count: u32,
     current: u32,
     bound: u32,
@@ -48,6 +49,19 @@ impl Tree {
         fill_up(&mut self.mark, records);
         fill_up(&mut self.from, records);
         fill_up(&mut self.joined, records);
+    }
+
+    /// Paths of which nothing is followed yet, where `tried` is room for a number of each record.
+    pub(crate) fn paths<'r>(&'r mut self, tried: &'r mut [u32]) -> Paths<'r> {
+        let round = self.number.wrapping_add(1);
+        self.number = round;
+        Paths {
+            tried,
+            chosen: &mut self.from,
+            met: &mut self.mark,
+            round,
+            path: &mut self.joined,
+        }
     }
 
     /// Allows so many looks at edges.

@@ -4,20 +4,17 @@ use crate::numbers::{NONE, at, count_of, fill_up, put, room_for};
 use link_base::NoMemory;
 use std::alloc::Global;
 
-/// The prices of a side's records, and the record of the other side that each is linked to. `wide` are the prices as
-/// wider numbers, where they are handed out.
+/// The prices of a side's records, and the record of the other side that each is linked to.
 #[derive(Drop)]
 pub struct Side {
     pub records: u32,
     pub price: Vec<u32>,
     pub mate: Vec<u32>,
-    pub wide: Vec<u64>,
 }
 
 impl Side {
     /// Room for so many records.
     pub(crate) fn new(alloc: Global, records: usize) -> Result<Side, NoMemory> {
-        let wide = Vec::with_capacity(alloc, records)?;
         let records = count_of(records);
         let price = room_for(alloc, records)?;
         let mate = room_for(alloc, records)?;
@@ -25,7 +22,6 @@ impl Side {
             records,
             price,
             mate,
-            wide,
         })
     }
 
@@ -69,30 +65,12 @@ impl Side {
         count
     }
 
-    /// Writes the prices as wider numbers.
-    pub(crate) fn widen(&mut self) {
-        write_wide(&mut self.wide, &self.price);
-    }
-
     /// Puts the records there, without price or link.
     pub(crate) fn clear(&mut self) {
         fill_up(&mut self.price, self.records);
         fill_up(&mut self.mate, self.records);
         self.price.fill(0);
         self.mate.fill(NONE);
-    }
-}
-
-/// Writes prices as wider numbers, within the room that was taken.
-fn write_wide(to: &mut Vec<u64>, prices: &[u32]) {
-    to.clear();
-    for price in prices {
-        if to.len() >= to.capacity() {
-            return;
-        }
-        let Ok(()) = to.push(u64::from(*price)) else {
-            return;
-        };
     }
 }
 

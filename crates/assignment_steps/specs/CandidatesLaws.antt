@@ -1,6 +1,6 @@
 -- Laws of candidates as edges (`edges_of`), of those that are linked (`is_linked`) and of prices as integers (`prices_of`). Both
 -- assigners cite them.
-use Rattle.std.proofs.Common.{◌≡◌, ℕ, zero, suc, ◌<◌, ◌≤◌, ℤ, pos, negsuc, ◌≤ℤ◌, List, [], ◌∷◌, length, get_or, Option, Some, None, true, refl, ap, ◌∙◌, inl, inr, arith}
+use Rattle.std.proofs.Common.{◌≡◌, ℕ, zero, suc, ◌^◌, ◌<◌, ◌≤◌, ℤ, pos, negsuc, ◌≤ℤ◌, List, [], ◌∷◌, length, get_or, Option, Some, None, true, refl, ap, ◌∙◌, inl, inr, arith}
 use Rattle.std.specs.Prelude.{All, AllPairs, Contains}
 use Rattle.std.specs.List.{cons_option}
 use Rattle.std.proofs.lemmas.Bool.{cases_lt, false≢true}
@@ -8,6 +8,7 @@ use Rattle.std.proofs.lemmas.Bool.Decides.{nat_tests}
 use Rattle.std.proofs.lemmas.Int.{ints}
 use Rattle.std.proofs.lemmas.List.{get_or_past}
 use Rattle.std.proofs.lemmas.List.Elements.{All-cons, All-nil, All-contains}
+use Rattle.link_limits.specs.declared.TheConstants.{MOST_PAIRS}
 use Rattle.link_base.specs.declared.rule.Candidate.{Candidate}
 use Rattle.assignment_steps.specs.declared.market.Edge.{Edge}
 use Rattle.assignment_steps.specs.Market.{link, edge, number, no_edge, IsInRange, AreSmall, IsRising}
@@ -76,8 +77,19 @@ linked_by es la c h = linked_case es la c (link la c.a) refl h
 pub is_linked_from : (es : List Edge) (la : List (Option ℕ)) (c : Candidate) (k : ℕ) → link la c.a ≡ Some k → (edge es k).b ≡ c.b → is_positive c.value ≡ true → is_linked es la c ≡ true
 is_linked_from es la c k on b is = rw (on, is) (grind (arith, nat_tests))
 
-pub range_edges : (cs : List Candidate) (rows_a rows_b : ℕ) → All (IsWithin rows_a rows_b) cs → IsInRange (edges_of cs) rows_a rows_b
-range_edges cs rows_a rows_b within = record {
+few_head : (o : Option Edge) (es : List Edge) (n : ℕ) → length es ≤ n → length (cons_option o es) ≤ suc n
+few_head None es n le = omega (arith, le)
+few_head (Some y) es n le = omega (arith, le)
+
+pub few_edges : (cs : List Candidate) → length (edges_of cs) ≤ length cs
+few_edges [] = omega arith
+few_edges (c ∷ cs) = few_head (edge_from c) (edges_of cs) (length cs) (few_edges cs)
+
+pub range_edges : (cs : List Candidate) (rows_a rows_b : ℕ) → length cs ≤ MOST_PAIRS → rows_a < 2 ^ 32 → rows_b < 2 ^ 32 → All (IsWithin rows_a rows_b) cs → IsInRange (edges_of cs) rows_a rows_b
+range_edges cs rows_a rows_b few few_a few_b within = record {
+  few = omega (arith, few, few_edges cs);
+  few_a = few_a;
+  few_b = few_b;
   record_a = λ k lt. (let c = edge_kept cs k lt in rw (← c.1.1.record_a) (All-contains (IsWithin rows_a rows_b) cs c.0 within c.1.0).0);
   record_b = λ k lt. (let c = edge_kept cs k lt in rw (← c.1.1.record_b) (All-contains (IsWithin rows_a rows_b) cs c.0 within c.1.0).1);
 }

@@ -2,6 +2,7 @@ pub mod Between
 pub mod Free
 pub mod Joined
 pub mod Market
+pub mod MaybeEdges
 pub mod Turned
 pub mod Chains
 pub mod Entries

@@ -1,7 +1,7 @@
 -- Edges with prices and links, of which every step of an assignment speaks; `adopt_all` and `adopt_proposal` keep prices
 -- covering and links tight by their clause `between`.
-use Rattle.std.specs.Prelude.{◌≡◌, ℕ, ◌+◌, ◌<◌, ◌≤◌, List, length, slice_index_or, Option, Some, None}
-use Rattle.link_limits.specs.declared.TheConstants.{MOST_VALUE}
+use Rattle.std.specs.Prelude.{◌≡◌, ℕ, ◌+◌, ◌^◌, ◌<◌, ◌≤◌, List, length, slice_index_or, Option, Some, None}
+use Rattle.link_limits.specs.declared.TheConstants.{MOST_PAIRS, MOST_VALUE}
 use Rattle.assignment_steps.specs.declared.market.Edge.{Edge}
 
 abbrev pub no_edge : Edge
@@ -27,8 +27,11 @@ pub record IsMatched (es : List Edge) (la lb : List (Option ℕ)) : Type 0 where
 abbrev pub AreLinked : List Edge → List (Option ℕ) → Type 0
 AreLinked es la = (a k : ℕ) → link la a ≡ Some k → (k < length es) × ((edge es k).a ≡ a)
 
--- each edge stands within the records
+-- each edge stands within the records, and the places of both and of edges fit into four bytes
 pub record IsInRange (es : List Edge) (rows_a rows_b : ℕ) : Type 0 where
+  pub few : length es ≤ MOST_PAIRS
+  pub few_a : rows_a < 2 ^ 32
+  pub few_b : rows_b < 2 ^ 32
   pub record_a : (k : ℕ) → k < length es → (edge es k).a < rows_a
   pub record_b : (k : ℕ) → k < length es → (edge es k).b < rows_b
 

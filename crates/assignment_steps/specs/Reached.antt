@@ -1,5 +1,5 @@
 -- What a search has reached: what the calls of `Reached` need, change and leave.
-use Rattle.std.specs.Prelude.{◌≡◌, ◌⊎◌, ◌==◌, ℕ, ◌+◌, ◌<◌, ◌≤◌, List, [], ◌∷◌, ◌++◌, if◌then◌else◌, Contains, All, vec_len, vec_capacity}
+use Rattle.std.specs.Prelude.{◌≡◌, ◌⊎◌, ◌==◌, ℕ, ◌+◌, ◌^◌, ◌<◌, ◌≤◌, List, [], ◌∷◌, ◌++◌, if◌then◌else◌, Contains, All, vec_len, vec_capacity}
 use Rattle.assignment_steps.specs.declared.market.Edge.{Edge}
 use Rattle.assignment_steps.specs.declared.reaching.Reached.{Reached}
 use Rattle.assignment_steps.specs.Distances.{distance, far, unreached}
@@ -7,6 +7,8 @@ use Rattle.assignment_steps.specs.Relaxed.{left}
 
 -- room for each record that may still come
 pub record HasRoomForRecords (rows_a rows_b : ℕ) (r : Reached) : Type 0 where
+  pub few_a : rows_a < 2 ^ 32
+  pub few_b : rows_b < 2 ^ 32
   pub of_a : vec_len r.dist_a ≡ rows_a
   pub of_rank : vec_len r.rank ≡ rows_a
   pub of_b : vec_len r.dist_b ≡ rows_b

@@ -44,6 +44,8 @@ room_own rows_a rows_b r room = room_at rows_a rows_b (vec_len r.dist_a) (vec_le
 -- room for records is not that of the queue, and does not speak of ends
 pub room_kept : (rows_a rows_b : ℕ) (r : Reached) (q : Queue) (current best best_record : ℕ) → HasRoomForRecords rows_a rows_b r → HasRoomForRecords rows_a rows_b (record r { frontier = q; current = current; best = best; best_record = best_record })
 room_kept rows_a rows_b r q current best best_record room = record {
+  few_a = room.few_a;
+  few_b = room.few_b;
   of_a = room.of_a;
   of_rank = room.of_rank;
   of_b = room.of_b;

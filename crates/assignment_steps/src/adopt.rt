@@ -6,15 +6,16 @@ ghost use Rattle.assignment_steps.specs.Between.{IsBetween};
 ghost use Rattle.assignment_steps.specs.Joined.{AreJoinedWith, IsFor};
 
 use crate::market::{Board, Edge, Net, Proposal};
+use crate::maybe_edge::{MaybeEdge, has_link, link_of};
 use crate::other_links::join_mates;
 use link_limits::MOST_VALUE;
 
 /// Whether no price is too great.
-fn are_small(prices: &[u64]) -> bool
+fn are_small(prices: &[u32]) -> bool
     ensures { IsTrue result ↔ ((r : ℕ) → number prices.now r ≤ MOST_VALUE) }
 {
     for price in prices {
-        if *price > u64::from(MOST_VALUE) {
+        if *price > MOST_VALUE {
             return false;
         }
     }
@@ -30,7 +31,7 @@ fn cover(net: Net<'_>) -> bool
 {
     for k in 0..net.edges.len() {
         let edge = net.edges[k];
-        if net.price_a[edge.a as usize] + net.price_b[edge.b as usize] < edge.value as u64 {
+        if net.price_a[edge.a as usize] + net.price_b[edge.b as usize] < edge.value {
             return false;
         }
     }
@@ -38,7 +39,7 @@ fn cover(net: Net<'_>) -> bool
 }
 
 /// Whether a record of A has no link, or one that its prices add up to.
-fn is_tight(net: Net<'_>, link_a: &[Option<usize>], a: usize) -> bool
+fn is_tight(net: Net<'_>, link_a: &[MaybeEdge], a: usize) -> bool
     requires within { a < length link_a.now }
     requires in_range { IsInRange net.edges.now (length net.price_a.now) (length net.price_b.now) }
     requires small_a { (r : ℕ) → number net.price_a.now r ≤ MOST_VALUE }
@@ -46,15 +47,15 @@ fn is_tight(net: Net<'_>, link_a: &[Option<usize>], a: usize) -> bool
     requires places { (r k : ℕ) → link link_a.now r ≡ Some k → k < length net.edges.now }
     ensures { IsTrue result ↔ ((k : ℕ) → link link_a.now a ≡ Some k → IsTight net.entry.edges.now net.entry.price_a.now net.entry.price_b.now k) }
 {
-    let Some(k) = link_a[a] else {
+    let Some(k) = link_of(link_a, a) else {
         return true;
     };
     let edge = net.edges[k];
-    net.price_a[edge.a as usize] + net.price_b[edge.b as usize] == edge.value as u64
+    net.price_a[edge.a as usize] + net.price_b[edge.b as usize] == edge.value
 }
 
 /// Whether the prices of each link add up to its value.
-fn are_tight(net: Net<'_>, link_a: &[Option<usize>], link_b: &[Option<usize>]) -> bool
+fn are_tight(net: Net<'_>, link_a: &[MaybeEdge], link_b: &[MaybeEdge]) -> bool
     requires in_range { IsInRange net.edges.now (length net.price_a.now) (length net.price_b.now) }
     requires small_a { (r : ℕ) → number net.price_a.now r ≤ MOST_VALUE }
     requires small_b { (r : ℕ) → number net.price_b.now r ≤ MOST_VALUE }
@@ -70,12 +71,12 @@ fn are_tight(net: Net<'_>, link_a: &[Option<usize>], link_b: &[Option<usize>]) -
 }
 
 /// Whether no record without a link has a price.
-fn are_free_without_price(prices: &[u64], links: &[Option<usize>]) -> bool
+fn are_free_without_price(prices: &[u32], links: &[MaybeEdge]) -> bool
     requires { length prices.now ≡ length links.now }
     ensures { IsTrue result ↔ ((r : ℕ) → link links.now r ≡ None → number prices.now r ≡ 0) }
 {
     for r in 0..prices.len() {
-        if links[r].is_none() && prices[r] != 0 {
+        if !has_link(links, r) && prices[r] != 0 {
             return false;
         }
     }
@@ -83,7 +84,7 @@ fn are_free_without_price(prices: &[u64], links: &[Option<usize>]) -> bool
 }
 
 /// Whether prices cover each edge, hold each link tight and leave no price to a record of B without a link.
-fn serve(net: Net<'_>, link_a: &[Option<usize>], link_b: &[Option<usize>]) -> bool
+fn serve(net: Net<'_>, link_a: &[MaybeEdge], link_b: &[MaybeEdge]) -> bool
     requires in_range { IsInRange net.edges.now (length net.price_a.now) (length net.price_b.now) }
     requires matched { IsMatched net.edges.now link_a.now link_b.now }
     requires rows_a { length link_a.now ≡ length net.price_a.now }
@@ -102,12 +103,12 @@ fn serve(net: Net<'_>, link_a: &[Option<usize>], link_b: &[Option<usize>]) -> bo
 /// Takes new prices and links over where they serve; else all stays.
 pub fn adopt_all(
     net: Net<'_>,
-    new_link_a: &[Option<usize>],
-    new_link_b: &[Option<usize>],
-    price_a: &mut [u64],
-    price_b: &mut [u64],
-    link_a: &mut [Option<usize>],
-    link_b: &mut [Option<usize>],
+    new_link_a: &[MaybeEdge],
+    new_link_b: &[MaybeEdge],
+    price_a: &mut [u32],
+    price_b: &mut [u32],
+    link_a: &mut [MaybeEdge],
+    link_b: &mut [MaybeEdge],
 )
     requires between { IsBetween net.edges.now price_a.old price_b.old link_a.old link_b.old 0 }
     requires matched { IsMatched net.edges.now new_link_a.now new_link_b.now }
@@ -127,12 +128,12 @@ pub fn adopt_all(
 }
 
 /// Takes each link away.
-fn clear_links(links: &mut [Option<usize>])
+fn clear_links(links: &mut [MaybeEdge])
     ensures none { (r : ℕ) → link links.new r ≡ None }
     ensures count { length links.new ≡ length links.old }
 {
     for r in 0..links.len() {
-        links[r] = None;
+        links[r] = MaybeEdge::none();
     }
 }
 
@@ -141,12 +142,12 @@ fn clear_links(links: &mut [Option<usize>])
 pub fn adopt_proposal(
     board: Board<'_>,
     proposal: Proposal<'_>,
-    spare_a: &mut [Option<usize>],
-    spare_b: &mut [Option<usize>],
-    price_a: &mut [u64],
-    price_b: &mut [u64],
-    link_a: &mut [Option<usize>],
-    link_b: &mut [Option<usize>],
+    spare_a: &mut [MaybeEdge],
+    spare_b: &mut [MaybeEdge],
+    price_a: &mut [u32],
+    price_b: &mut [u32],
+    link_a: &mut [MaybeEdge],
+    link_b: &mut [MaybeEdge],
 )
     requires between { IsBetween board.edges.now price_a.old price_b.old link_a.old link_b.old 0 }
     ensures between { IsBetween board.entry.edges.now price_a.new price_b.new link_a.new link_b.new 0 }

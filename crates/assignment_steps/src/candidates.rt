@@ -3,6 +3,7 @@ ghost use Rattle.std.specs.Prelude.{◌≡◌, ◌<◌, ℕ, All, filter, length
 ghost use Rattle.assignment_steps.specs.Candidates.{edge_from, edges_of, is_linked, HasSmallValue};
 
 use crate::market::Edge;
+use crate::maybe_edge::{MaybeEdge, link_of};
 use link_base::{Candidate, NoMemory};
 use std::alloc::Global;
 
@@ -34,14 +35,14 @@ pub fn edges_of(alloc: Global, candidates: &[Candidate]) -> Result<Vec<Edge>, No
 }
 
 /// Whether a candidate is linked.
-fn is_linked(edges: &[Edge], link_a: &[Option<usize>], c: &Candidate) -> bool
+fn is_linked(edges: &[Edge], link_a: &[MaybeEdge], c: &Candidate) -> bool
     requires links { (a k : ℕ) → slice_index_or link_a.now a None ≡ Some k → k < length edges.now }
     ensures { result ≡ is_linked edges.now link_a.now c.now }
 {
     if c.a as usize >= link_a.len() {
         return false;
     }
-    match link_a[c.a as usize] {
+    match link_of(link_a, c.a as usize) {
         None => false,
         Some(k) => c.value > 0 && edges[k].b == c.b,
     }
@@ -51,7 +52,7 @@ fn is_linked(edges: &[Edge], link_a: &[Option<usize>], c: &Candidate) -> bool
 pub fn linked(
     mut candidates: Vec<Candidate>,
     edges: &[Edge],
-    link_a: &[Option<usize>],
+    link_a: &[MaybeEdge],
 ) -> Vec<Candidate>
     requires links { (a k : ℕ) → slice_index_or link_a.now a None ≡ Some k → k < length edges.now }
     ensures { result.items ≡ filter (is_linked edges.now link_a.now) candidates.items }

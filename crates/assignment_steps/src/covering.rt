@@ -12,17 +12,17 @@ use std::alloc::Global;
 pub fn first_prices(
     alloc: Global,
     edges: &[Edge],
-    price_b: &[u64],
+    price_b: &[u32],
     rows_a: usize,
-) -> Result<Vec<u64>, NoMemory>
+) -> Result<Vec<u32>, NoMemory>
     requires small { AreSmall edges.now }
     requires in_range { IsInRange edges.now rows_a (length price_b.now) }
     ensures { IfOk result (λ v. ReachAll edges.now rows_a v.items price_b.now) }
 {
-    let mut prices = vec![in alloc; 0u64; rows_a]?;
+    let mut prices = vec![in alloc; 0u32; rows_a]?;
     for k in 0..edges.len() {
         let edge = edges[k];
-        let lacks = (edge.value as u64).saturating_sub(price_b[edge.b as usize]);
+        let lacks = edge.value.saturating_sub(price_b[edge.b as usize]);
         raise_to(&mut prices, edge.a as usize, lacks);
     }
     Ok(prices)

@@ -1,5 +1,7 @@
 // Candidates with prices.
 
+use crate::maybe_edge::MaybeEdge;
+
 /// A candidate whose value is positive.
 #[derive(Clone, Copy)]
 pub struct Edge {
@@ -12,8 +14,8 @@ pub struct Edge {
 #[derive(Clone, Copy)]
 pub struct Net<'a> {
     pub edges: &'a [Edge],
-    pub price_a: &'a [u64],
-    pub price_b: &'a [u64],
+    pub price_a: &'a [u32],
+    pub price_b: &'a [u32],
 }
 
 /// What a search goes over: the edges, the places where those of each record of A begin, the prices, the links of the
@@ -21,10 +23,10 @@ pub struct Net<'a> {
 #[derive(Clone, Copy)]
 pub struct Field<'a> {
     pub edges: &'a [Edge],
-    pub starts: &'a [usize],
-    pub price_a: &'a [u64],
-    pub price_b: &'a [u64],
-    pub link_a: &'a [Option<usize>],
+    pub starts: &'a [u32],
+    pub price_a: &'a [u32],
+    pub price_b: &'a [u32],
+    pub link_a: &'a [MaybeEdge],
     pub root: usize,
 }
 
@@ -32,7 +34,7 @@ pub struct Field<'a> {
 /// its link up.
 #[derive(Clone, Copy)]
 pub struct Grown {
-    pub end: u64,
+    pub end: u32,
     pub free: Option<usize>,
     pub last: usize,
 }
@@ -41,8 +43,8 @@ pub struct Grown {
 #[derive(Clone, Copy)]
 pub struct Ways<'a> {
     pub root: usize,
-    pub from: &'a [usize],
-    pub rank: &'a [usize],
+    pub from: &'a [u32],
+    pub rank: &'a [u32],
 }
 
 /// The edges by their records of A, and turned by their records of B, as the other side sees them: there
@@ -50,16 +52,16 @@ pub struct Ways<'a> {
 #[derive(Clone, Copy)]
 pub struct Board<'a> {
     pub edges: &'a [Edge],
-    pub starts: &'a [usize],
+    pub starts: &'a [u32],
     pub turned: &'a [Edge],
-    pub turned_starts: &'a [usize],
+    pub turned_starts: &'a [u32],
 }
 
 /// Prices and links that are proposed: beside each record of A the number of the record of B that it is to be
 /// linked to.
 #[derive(Clone, Copy)]
 pub struct Proposal<'a> {
-    pub price_a: &'a [u64],
-    pub price_b: &'a [u64],
+    pub price_a: &'a [u32],
+    pub price_b: &'a [u32],
     pub mates: &'a [u32],
 }

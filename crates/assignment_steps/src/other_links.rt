@@ -4,6 +4,7 @@ ghost use Rattle.assignment_steps.specs.Market.{edge, IsMatched, IsInRange};
 ghost use Rattle.assignment_steps.specs.Joined.{AreJoined, AreJoinedAs, AreJoinedWith, IsTakenUp, IsOf, KeepsLinks};
 
 use crate::market::{Board, Edge};
+use crate::maybe_edge::{MaybeEdge, has_link, link_of};
 
 /// The place of the edge of two records.
 fn place_of(board: Board<'_>, a: usize, b: u32) -> Option<usize>
@@ -12,8 +13,8 @@ fn place_of(board: Board<'_>, a: usize, b: u32) -> Option<usize>
     if a >= board.starts.len() || a + 1 >= board.starts.len() {
         return None;
     }
-    let end = board.starts[a + 1].min(board.edges.len());
-    for k in board.starts[a]..end {
+    let end = (board.starts[a + 1] as usize).min(board.edges.len());
+    for k in board.starts[a] as usize..end {
         if board.edges[k].b == b {
             return Some(k);
         }
@@ -22,7 +23,7 @@ fn place_of(board: Board<'_>, a: usize, b: u32) -> Option<usize>
 }
 
 /// Links the records of the edge `k`, if neither has a link.
-fn join(edges: &[Edge], link_a: &mut [Option<usize>], link_b: &mut [Option<usize>], k: usize)
+fn join(edges: &[Edge], link_a: &mut [MaybeEdge], link_b: &mut [MaybeEdge], k: usize)
     requires place { k < length edges.now }
     requires in_range { IsInRange edges.now (length link_a.old) (length link_b.old) }
     requires matched { IsMatched edges.now link_a.old link_b.old }
@@ -32,21 +33,21 @@ fn join(edges: &[Edge], link_a: &mut [Option<usize>], link_b: &mut [Option<usize
     let edge = edges[k];
     let a = edge.a as usize;
     let b = edge.b as usize;
-    if link_a[a].is_some() {
+    if has_link(link_a, a) {
         return;
     }
-    if link_b[b].is_some() {
+    if has_link(link_b, b) {
         return;
     }
-    link_a[a] = Some(k);
-    link_b[b] = Some(k);
+    link_a[a] = MaybeEdge::at(k);
+    link_b[b] = MaybeEdge::at(k);
 }
 
 /// Links the records of the turned edge at a place, if there is one.
 fn join_turned(
     board: Board<'_>,
-    link_a: &mut [Option<usize>],
-    link_b: &mut [Option<usize>],
+    link_a: &mut [MaybeEdge],
+    link_b: &mut [MaybeEdge],
     place: Option<usize>,
 )
     requires in_range { IsInRange board.edges.now (length link_a.old) (length link_b.old) }
@@ -70,9 +71,9 @@ fn join_turned(
 /// Links records as the links of the turned edges do.
 pub fn join_as_turned(
     board: Board<'_>,
-    link_a: &mut [Option<usize>],
-    link_b: &mut [Option<usize>],
-    links: &[Option<usize>],
+    link_a: &mut [MaybeEdge],
+    link_b: &mut [MaybeEdge],
+    links: &[MaybeEdge],
 )
     requires in_range { IsInRange board.edges.now (length link_a.old) (length link_b.old) }
     requires matched { IsMatched board.edges.now link_a.old link_b.old }
@@ -80,15 +81,15 @@ pub fn join_as_turned(
     ensures joined { AreJoinedAs board.entry link_a.new link_b.new links.now (length links.now) }
 {
     for i in 0..links.len() {
-        join_turned(board, link_a, link_b, links[i]);
+        join_turned(board, link_a, link_b, link_of(links, i));
     }
 }
 
 /// Links a record of A with a record of B, if they have an edge.
 fn join_mate(
     board: Board<'_>,
-    link_a: &mut [Option<usize>],
-    link_b: &mut [Option<usize>],
+    link_a: &mut [MaybeEdge],
+    link_b: &mut [MaybeEdge],
     a: usize,
     mate: u32,
 )
@@ -106,8 +107,8 @@ fn join_mate(
 /// Links each record of A with the record of B beside it, where they have an edge.
 pub(crate) fn join_mates(
     board: Board<'_>,
-    link_a: &mut [Option<usize>],
-    link_b: &mut [Option<usize>],
+    link_a: &mut [MaybeEdge],
+    link_b: &mut [MaybeEdge],
     mates: &[u32],
 )
     requires in_range { IsInRange board.edges.now (length link_a.old) (length link_b.old) }

@@ -8,7 +8,7 @@ use std::collections::BinaryHeap;
 use std::marker::Model;
 
 /// No distance in a queue is greater.
-pub const FARTHEST: u64 = 1_000_000_000;
+pub const FARTHEST: u32 = 1_000_000_000;
 
 /// How many puts after a clear keep their order among equals.
 pub const TURNS: u64 = 4_294_967_296;
@@ -20,7 +20,7 @@ const LAST: u64 = 8_589_934_600_589_934_591;
 #[derive(Clone, Copy, Debug, PartialEq, Eq)]
 pub struct Near {
     pub position: usize,
-    pub distance: u64,
+    pub distance: u32,
 }
 
 /// A queue of records by distance, which contracts see as the pairs of a distance and a record that wait
@@ -50,7 +50,7 @@ impl Model for DistanceQueue {
 }
 
 // The rank of a record at a distance that is put in a turn.
-fn rank_of(distance: u64, first: bool, turn: u64) -> u64
+fn rank_of(distance: u32, first: bool, turn: u64) -> u64
     requires near { distance ≤ FARTHEST }
     requires turn { turn < TURNS }
     ensures rank { result ≡ rank_of distance first turn }
@@ -58,7 +58,7 @@ fn rank_of(distance: u64, first: bool, turn: u64) -> u64
     ensures distance { result / (2 * TURNS) ≡ distance }
 {
     let others = if first { 0 } else { 1 };
-    (2 * distance + others) * TURNS + turn
+    (2 * u64::from(distance) + others) * TURNS + turn
 }
 
 // The turn after another.
@@ -80,7 +80,7 @@ impl DistanceQueue {
     }
 
     /// Puts a record at a distance; `first` asks that it come before others at that distance.
-    pub fn put(&mut self, distance: u64, first: bool, position: usize)
+    pub fn put(&mut self, distance: u32, first: bool, position: usize)
         requires near { distance ≤ FARTHEST }
         requires room { self.old.count < self.old.room }
         ensures { Puts self.old self.new distance first position }
@@ -98,7 +98,7 @@ impl DistanceQueue {
     {
         let (left, position) = self.heap.pop()?;
         let rank = LAST.saturating_sub(left);
-        let distance = rank / (2 * TURNS);
+        let distance = (rank / (2 * TURNS)) as u32;
         Some(Near { position, distance })
     }
 

@@ -20,20 +20,20 @@ use std::alloc::Global;
 /// nearest record of A at which the search may end by giving its link up, or at a record of B, as the caller says.
 #[derive(Drop)]
 pub struct Reached {
-    pub dist_a: Vec<u64>,
-    pub rank: Vec<usize>,
-    pub dist_b: Vec<u64>,
-    pub from: Vec<usize>,
-    pub records: Vec<usize>,
-    pub touched: Vec<usize>,
+    pub dist_a: Vec<u32>,
+    pub rank: Vec<u32>,
+    pub dist_b: Vec<u32>,
+    pub from: Vec<u32>,
+    pub records: Vec<u32>,
+    pub touched: Vec<u32>,
     pub frontier: DistanceQueue,
-    pub current: u64,
-    pub best: u64,
+    pub current: u32,
+    pub best: u32,
     pub best_record: usize,
 }
 
 /// How far a record of B is over the edge `k`, by the distance of its record of A and what the prices leave.
-pub fn reach_over(field: Field<'_>, dist_a: &[u64], k: usize) -> u64
+pub fn reach_over(field: Field<'_>, dist_a: &[u32], k: usize) -> u32
     requires place { k < length field.edges.now }
     requires ready { IsSearchable field }
     requires records { length dist_a.now ≡ length field.price_a.now }
@@ -42,11 +42,11 @@ pub fn reach_over(field: Field<'_>, dist_a: &[u64], k: usize) -> u64
 {
     let edge = field.edges[k];
     let a = edge.a as usize;
-    dist_a[a] + (field.price_a[a] + field.price_b[edge.b as usize] - edge.value as u64)
+    dist_a[a] + (field.price_a[a] + field.price_b[edge.b as usize] - edge.value)
 }
 
 // Puts a record at the end of a list that has room.
-fn note(list: &mut Vec<usize>, position: usize)
+fn note(list: &mut Vec<u32>, position: u32)
     requires { vec_len list.old < vec_capacity list.old }
     ensures items { list.new.items ≡ list.old.items ++ position ∷ [] }
     ensures len { vec_len list.new ≡ vec_len list.old + 1 }
@@ -57,17 +57,12 @@ fn note(list: &mut Vec<usize>, position: usize)
 
 impl Reached {
     /// Nothing is reached; there is room for all records, and for so many entries in the queue.
-    pub fn new(
-        alloc: Global,
-        rows_a: usize,
-        rows_b: usize,
-        entries: usize,
-    ) -> Result<Reached, NoMemory>
+    pub fn new(alloc: Global, rows_a: u32, rows_b: u32, entries: usize) -> Result<Reached, NoMemory>
         ensures rest { IfOk result (IsAtRest rows_a rows_b entries) }
         ensures current { IfOk result (λ r. r.current ≡ 0) }
     {
-        let of_a = no_distances(alloc, rows_a)?;
-        let of_b = no_distances(alloc, rows_b)?;
+        let of_a = no_distances(alloc, rows_a as usize)?;
+        let of_b = no_distances(alloc, rows_b as usize)?;
         match DistanceQueue::new(alloc, entries) {
             Ok(frontier) => Ok(Reached {
                 dist_a: of_a.dist,
@@ -90,7 +85,7 @@ impl Reached {
     }
 
     /// How far a record of B is over the edge `k`, where that is nearer than it was reached and than the nearest end.
-    pub fn nearer_over(&self, field: Field<'_>, k: usize) -> Option<u64>
+    pub fn nearer_over(&self, field: Field<'_>, k: usize) -> Option<u32>
         requires place { k < length field.edges.now }
         requires ready { IsSearchable field }
         requires room { HasRoomForRecords (length field.price_a.now) (length field.price_b.now) self.now }
@@ -108,7 +103,7 @@ impl Reached {
     }
 
     // A record of A that was not reached is noted at a distance, which is the newest.
-    fn add(&mut self, position: usize, dist: u64)
+    fn add(&mut self, position: usize, dist: u32)
         requires within { position < vec_len self.old.dist_a }
         requires near { dist ≤ MOST_VALUE }
         requires new { distance self.old.dist_a.items position ≡ far }
@@ -116,13 +111,13 @@ impl Reached {
         ensures { Adds self.old self.new position dist }
     {
         self.dist_a[position] = dist;
-        self.rank[position] = self.records.len();
-        note(&mut self.records, position);
+        self.rank[position] = self.records.len() as u32;
+        note(&mut self.records, position as u32);
         self.current = dist;
     }
 
     // The nearest end is at a record of A where that is nearer than each before. Says whether it is.
-    fn end_at(&mut self, position: usize, end: u64) -> bool
+    fn end_at(&mut self, position: usize, end: u32) -> bool
         ensures { Ends self.old self.new position end result }
     {
         if self.best <= end {
@@ -135,7 +130,7 @@ impl Reached {
 
     /// A record of A that was not reached joins at a distance, which is the newest. Says whether it is a nearer end than
     /// each before, by its price, which then is the nearest.
-    pub fn join(&mut self, position: usize, dist: u64, price: u64) -> bool
+    pub fn join(&mut self, position: usize, dist: u32, price: u32) -> bool
         requires within { position < vec_len self.old.dist_a }
         requires near { dist ≤ MOST_VALUE }
         requires price { price ≤ MOST_VALUE }
@@ -167,12 +162,12 @@ impl Reached {
         if self.dist_b[b] != FARTHEST {
             return;
         }
-        note(&mut self.touched, b);
+        note(&mut self.touched, b as u32);
     }
 
     /// Puts a record of B at a shorter distance by the edge `k`, and into the queue; `first` asks that its turn come before
     /// others at that distance.
-    pub fn reach(&mut self, b: usize, k: usize, dist: u64, first: bool)
+    pub fn reach(&mut self, b: usize, k: u32, dist: u32, first: bool)
         requires within { b < vec_len self.old.dist_b }
         requires near { dist < distance self.old.dist_b.items b }
         requires queue { self.old.frontier.count < self.old.frontier.room }
@@ -187,7 +182,7 @@ impl Reached {
 
     /// Changes the prices by what the distances lack to `end`, and leaves nothing reached. The edges by which records of B
     /// were reached and when records of A joined can still be read.
-    pub fn shift(&mut self, price_a: &mut [u64], price_b: &mut [u64], end: u64)
+    pub fn shift(&mut self, price_a: &mut [u32], price_b: &mut [u32], end: u32)
         requires room { HasRoomForRecords (length price_a.old) (length price_b.old) self.old }
         requires end { end ≤ far }
         requires noted_a { (a : ℕ) → distance self.old.dist_a.items a < far → Contains self.old.records.items a }

@@ -21,8 +21,9 @@ fn start_from(edges: &[Edge], k: usize, a: usize) -> usize
 }
 
 /// For each record of A, and for one past the last, the place of its first edge.
-pub fn starts_of(alloc: Global, edges: &[Edge], rows: usize) -> Result<Vec<usize>, NoMemory>
+pub fn starts_of(alloc: Global, edges: &[Edge], rows: usize) -> Result<Vec<u32>, NoMemory>
     requires rising { IsRising edges.now }
+    requires few { length edges.now < 2 ^ 32 }
     requires small { rows + 1 < 2 ^ 64 }
     ensures { IfOk result (λ v. AreStarts edges.now rows v.items) }
 {
@@ -30,7 +31,7 @@ pub fn starts_of(alloc: Global, edges: &[Edge], rows: usize) -> Result<Vec<usize
     let mut start = 0;
     for a in 0..rows + 1 {
         start = start_from(edges, start, a);
-        starts.push(start)?;
+        starts.push(start as u32)?;
     }
     Ok(starts)
 }

@@ -8,13 +8,13 @@ use Rattle.std.proofs.lemmas.Int.{ints}
 use Rattle.std.proofs.lemmas.List.{get_or-set_other, get_or-set_same, length-replicate}
 use Rattle.std.proofs.lemmas.List.Elements.{All-head, All-tail, All-cons, All-nil, All-contains}
 use Rattle.link_base.specs.declared.rule.Candidate.{Candidate}
-use Rattle.price_check.specs.Assignment.{price_sum, price_of, worth, IsBefore, IsWithin}
+use Rattle.price_check.specs.Assignment.{price_sum, price_of, worth, IsBefore}
 use Rattle.price_check.specs.Capacities.{CertifiesWithin, IsWithinCapacities, capacity_of, links_at, place_sum}
 use Rattle.price_check.specs.PriceLaws.{without, absent-without, IsTight, price_sum-without, price_sum-zero, AllPairs-head, AllPairs-tail}
 use Rattle.price_check.specs.CandidateLaws.{Contains-later}
 use Rattle.price_check.specs.PlaceLaws.{AreApart, fits-tail, links_at-here, links_at-other, one_less, place_sum-one_less, place_there}
 use Rattle.assignment_steps.specs.declared.market.Edge.{Edge}
-use Rattle.assignment_steps.specs.Market.{edge, link, number}
+use Rattle.assignment_steps.specs.Market.{edge, link, number, IsInRange}
 use Rattle.capacity_assign.specs.Core.{linked_at}
 use Rattle.capacity_assign.specs.Round.{IsBetweenRounds}
 use Rattle.capacity_assign.specs.Seating.{HasPlace, Seating, free_records}
@@ -23,7 +23,7 @@ use Rattle.assignment_steps.specs.Between.{ReachAll}
 use Rattle.assignment_steps.specs.Candidates.{edges_of, is_linked, prices_of}
 use Rattle.capacity_assign.proofs.Links.{counted_link, linked_at-set, tick}
 use Rattle.assignment_steps.specs.LinkLaws.{link_there, link-set, none_linked}
-use Rattle.assignment_steps.specs.CandidatesLaws.{floored, price_of-prices, range_edges}
+use Rattle.assignment_steps.specs.CandidatesLaws.{floored, price_of-prices}
 use Rattle.assignment_steps.specs.CertifiedLaws.{absent_a, all_among, all_covered, all_tight, apart_a, link_member, links_rising, member_link}
 
 -- Tight members, no price where no member stands, and none at a record of B with a place left: the prices add up
@@ -151,11 +151,11 @@ none_at es n b = elim (cases_lt 0 (linked_at es (replicate n None) b)) [
   | inr none ↦ omega arith
 ]
 
-pub between_first : (cs : List Candidate) (rows_a : ℕ) (capacities pa pb : List ℕ) (s : Seating) → All (IsWithin rows_a (length capacities)) cs → AreClosed (edges_of cs) capacities pb → ReachAll (edges_of cs) rows_a pa pb → AreEmpty rows_a capacities s → IsBetweenRounds (edges_of cs) pa pb (replicate rows_a None) s 0
-between_first cs rows_a capacities pa pb s within closed r empty = record {
+pub between_first : (cs : List Candidate) (rows_a : ℕ) (capacities pa pb : List ℕ) (s : Seating) → IsInRange (edges_of cs) rows_a (length capacities) → AreClosed (edges_of cs) capacities pb → ReachAll (edges_of cs) rows_a pa pb → AreEmpty rows_a capacities s → IsBetweenRounds (edges_of cs) pa pb (replicate rows_a None) s 0
+between_first cs rows_a capacities pa pb s range closed r empty = record {
   priced = record {
     rows_a = length-replicate rows_a None ∙ sym r.records;
-    in_range = rw (r.records, closed.records) (range_edges cs rows_a (length capacities) within);
+    in_range = rw (r.records, closed.records) range;
     covered = r.covered;
     small_a = r.small;
     small_b = closed.small;

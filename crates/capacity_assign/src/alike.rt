@@ -24,7 +24,7 @@ fn are_equal(edges: &[Edge], one: usize, other: usize, count: usize) -> bool
 }
 
 /// Whether two records of A have edges to the same records of B, of the same values.
-fn are_alike(edges: &[Edge], starts: &[usize], a: usize, r: usize) -> bool
+fn are_alike(edges: &[Edge], starts: &[u32], a: usize, r: usize) -> bool
     requires starts { (i : ℕ) → i < length starts.now → IsStart edges.now i (number starts.now i) }
     requires one { a + 1 < length starts.now }
     requires other { r + 1 < length starts.now }
@@ -34,7 +34,8 @@ fn are_alike(edges: &[Edge], starts: &[usize], a: usize, r: usize) -> bool
     if starts[r + 1] - starts[r] != count {
         return false;
     }
-    are_equal(edges, starts[a], starts[r], count)
+    let (one, other) = (starts[a] as usize, starts[r] as usize);
+    are_equal(edges, one, other, count as usize)
 }
 
 /// A number of a record's edges, which is the same for equal edges and seldom for others.
@@ -56,14 +57,15 @@ fn mixed(edges: &[Edge], from: usize, to: usize) -> u64 {
 }
 
 /// A record of A of the same edges that is noted before `a`, or else `a`, which is noted then.
-fn like_at(edges: &[Edge], starts: &[usize], noted: &mut [usize], a: usize) -> usize
+fn like_at(edges: &[Edge], starts: &[u32], noted: &mut [usize], a: usize) -> usize
     requires starts { (i : ℕ) → i < length starts.now → IsStart edges.now i (number starts.now i) }
     requires inside { a + 1 < length starts.now }
     requires slots { a < length noted.old }
     ensures there { HasCopies edges.now a result }
     ensures back { HasCopies edges.now result a }
 {
-    let slot = (mixed(edges, starts[a], starts[a + 1]) % noted.len() as u64) as usize;
+    let slot = (mixed(edges, starts[a] as usize, starts[a + 1] as usize)
+        % noted.len() as u64) as usize;
     let first = noted[slot];
     if first < a && are_alike(edges, starts, a, first) {
         return first;
@@ -76,7 +78,7 @@ fn like_at(edges: &[Edge], starts: &[usize], noted: &mut [usize], a: usize) -> u
 pub fn like_of(
     alloc: Global,
     edges: &[Edge],
-    starts: &[usize],
+    starts: &[u32],
     rows: usize,
 ) -> Result<Vec<usize>, NoMemory>
     requires starts { AreStarts edges.now rows starts.now }

@@ -14,7 +14,7 @@ use crate::alike::like_of;
 use crate::market::{Seats, Tree};
 use crate::phases::all_rounds;
 use crate::start::{listed_edges, start_of};
-use assignment_steps::{Edge, linked};
+use assignment_steps::{Edge, MaybeEdge, linked};
 use link_base::{Candidate, NoMemory};
 use link_limits::MOST_PAIRS;
 use price_check::certified_within_is_greatest;
@@ -28,11 +28,11 @@ pub struct CapacityAssigner {
     capacity: Vec<u32>,
     candidates: Vec<Candidate>,
     edges: Vec<Edge>,
-    starts: Vec<usize>,
+    starts: Vec<u32>,
     like: Vec<usize>,
-    price_a: Vec<u64>,
-    price_b: Vec<u64>,
-    link_a: Vec<Option<usize>>,
+    price_a: Vec<u32>,
+    price_b: Vec<u32>,
+    link_a: Vec<MaybeEdge>,
     seats: Seats,
     tree: Tree,
 }
@@ -53,8 +53,8 @@ impl Model for CapacityAssigner {
 #[derive(Drop)]
 pub struct CapacityAssignment {
     links: Vec<Candidate>,
-    price_a: Vec<u64>,
-    price_b: Vec<u64>,
+    price_a: Vec<u32>,
+    price_b: Vec<u32>,
 }
 
 impl Model for CapacityAssignment {
@@ -72,10 +72,10 @@ impl Model for CapacityAssignment {
 /// Takes every record of A up in turn.
 fn run(
     edges: &Vec<Edge>,
-    starts: &Vec<usize>,
-    price_a: &mut Vec<u64>,
-    price_b: &mut Vec<u64>,
-    link_a: &mut Vec<Option<usize>>,
+    starts: &Vec<u32>,
+    price_a: &mut Vec<u32>,
+    price_b: &mut Vec<u32>,
+    link_a: &mut Vec<MaybeEdge>,
     seats: &mut Seats,
     like: &Vec<usize>,
     tree: &mut Tree,

@@ -22,11 +22,11 @@ fn relax(ground: Ground<'_>, tree: &mut Tree, k: usize)
     };
     let b = ground.field.edges[k].b as usize;
     let first = ground.seats.left[b] > 0;
-    tree.reached.reach(b, k, far, first);
+    tree.reached.reach(b, k as u32, far, first);
 }
 
 /// A record of A joins the tree at a distance, which is the newest.
-fn join(ground: Ground<'_>, tree: &mut Tree, position: usize, dist: u64)
+fn join(ground: Ground<'_>, tree: &mut Tree, position: usize, dist: u32)
     requires ready { IsReady ground }
     requires in_range { position < length ground.field.price_a.now }
     requires small { dist ≤ MOST_VALUE }
@@ -45,7 +45,7 @@ fn relax_record(ground: Ground<'_>, tree: &mut Tree, position: usize)
     requires grows { Grows ground position 0 tree.old }
     ensures { Relaxes ground.entry position 0 (length ground.entry.field.edges.now) tree.old tree.new }
 {
-    let mut k = ground.field.starts[position];
+    let mut k = ground.field.starts[position] as usize;
     while k < ground.field.edges.len() && ground.field.edges[k].a as usize == position {
         relax(ground, tree, k);
         k += 1;

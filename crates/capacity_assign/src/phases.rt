@@ -9,15 +9,15 @@ ghost use Rattle.capacity_assign.specs.Seating.{seating};
 use crate::market::{Seats, Tree};
 use crate::round::round;
 use crate::tight::link_tight;
-use assignment_steps::{Edge, Net};
+use assignment_steps::{Edge, MaybeEdge, Net};
 
 /// Links what is tight at first, and takes every record of A up in turn.
 pub fn all_rounds(
     edges: &[Edge],
-    starts: &[usize],
-    price_a: &mut [u64],
-    price_b: &mut [u64],
-    link_a: &mut [Option<usize>],
+    starts: &[u32],
+    price_a: &mut [u32],
+    price_b: &mut [u32],
+    link_a: &mut [MaybeEdge],
     seats: &mut Seats,
     like: &[usize],
     tree: &mut Tree,

@@ -12,14 +12,14 @@ use crate::grow::search;
 use crate::market::{Ground, Hole, Seats, Tree};
 use crate::seats::add_seat;
 use crate::walk::walk;
-use assignment_steps::{Edge, Field, Net, Ways};
+use assignment_steps::{Edge, Field, MaybeEdge, Net, Ways, has_link, link_of};
 
 /// Turns the links round from where a tree ended: at a record of B with a place left, or at a record of A that
 /// gives its link up.
 fn turn(
     net: Net<'_>,
     ways: Ways<'_>,
-    link_a: &mut [Option<usize>],
+    link_a: &mut [MaybeEdge],
     seats: &mut Seats,
     free: Option<usize>,
     last: usize,
@@ -40,14 +40,14 @@ fn turn(
         walk(net, ways, link_a, &mut seats.seat, &mut seats.sitter, hole);
         return;
     }
-    let Some(k) = link_a[last] else {
+    let Some(k) = link_of(link_a, last) else {
         return;
     };
     let hole = Hole {
         b: net.edges[k].b as usize,
         seat: seats.seat[last],
     };
-    link_a[last] = None;
+    link_a[last] = MaybeEdge::none();
     walk(net, ways, link_a, &mut seats.seat, &mut seats.sitter, hole);
 }
 
@@ -55,10 +55,10 @@ fn turn(
 /// round. The record is linked afterwards, or its price is 0.
 pub fn take_up<'a>(
     edges: &'a [Edge],
-    starts: &'a [usize],
-    price_a: &mut [u64],
-    price_b: &mut [u64],
-    link_a: &mut [Option<usize>],
+    starts: &'a [u32],
+    price_a: &mut [u32],
+    price_b: &mut [u32],
+    link_a: &mut [MaybeEdge],
     seats: &mut Seats,
     like: &'a [usize],
     tree: &mut Tree,
@@ -99,10 +99,10 @@ pub fn take_up<'a>(
 /// Takes a record of A up: afterwards it is linked, or its price is 0.
 pub fn round<'a>(
     edges: &'a [Edge],
-    starts: &'a [usize],
-    price_a: &mut [u64],
-    price_b: &mut [u64],
-    link_a: &mut [Option<usize>],
+    starts: &'a [u32],
+    price_a: &mut [u32],
+    price_b: &mut [u32],
+    link_a: &mut [MaybeEdge],
     seats: &mut Seats,
     like: &'a [usize],
     tree: &mut Tree,
@@ -116,7 +116,7 @@ pub fn round<'a>(
     ensures advances { Advances edges.now link_a.old seats.old.left.items price_a.new price_b.new link_a.new (seating seats.new) (root + 1) }
     ensures tree { IsAtRest (length price_a.new) (length price_b.new) (length edges.now) tree.new.reached }
 {
-    if link_a[root].is_some() {
+    if has_link(link_a, root) {
         return;
     }
     take_up(

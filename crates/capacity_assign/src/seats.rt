@@ -1,11 +1,12 @@
 // Seats that are added, and records of A that move from one to another.
-ghost use Rattle.std.specs.Prelude.{◌≡◌, ◌<◌, length, vec_len};
+ghost use Rattle.std.specs.Prelude.{◌≡◌, ◌<◌, ◌≤◌, length, vec_len};
 ghost use Rattle.capacity_assign.specs.Core.{Reseats};
 ghost use Rattle.assignment_steps.specs.Market.{AreLinked, number, edge};
 ghost use Rattle.capacity_assign.specs.Seating.{AddsSeat, seating};
 
 use crate::market::{Hole, Seats};
-use assignment_steps::Edge;
+use assignment_steps::{Edge, MaybeEdge, link_of};
+use link_limits::MOST_PAIRS;
 
 /// Adds a seat at a record of B that has a place left, and gives its number.
 pub fn add_seat(seats: &mut Seats, b: usize) -> usize
@@ -29,13 +30,14 @@ pub fn add_seat(seats: &mut Seats, b: usize) -> usize
 /// Links the record of A of the edge `k` by it, at a seat that nobody has, and gives the seat that it leaves.
 pub fn reseat(
     edges: &[Edge],
-    link_a: &mut [Option<usize>],
+    link_a: &mut [MaybeEdge],
     seat: &mut [usize],
     sitter: &mut [usize],
     k: usize,
     free: usize,
 ) -> Option<Hole>
     requires place { k < length edges.now }
+    requires few { length edges.now ≤ MOST_PAIRS }
     requires in_range { (edge edges.now k).a < length link_a.old }
     requires linked { AreLinked edges.now link_a.old }
     requires records { length seat.old ≡ length link_a.old }
@@ -44,9 +46,9 @@ pub fn reseat(
 {
     let edge = edges[k];
     let a = edge.a as usize;
-    let old = link_a[a];
+    let old = link_of(link_a, a);
     let left = seat[a];
-    link_a[a] = Some(k);
+    link_a[a] = MaybeEdge::at(k);
     seat[a] = free;
     sitter[free] = a;
     match old {

@@ -11,12 +11,12 @@ use link_base::NoMemory;
 use std::alloc::Global;
 
 /// For each record of B without a place the greatest value of its edges, and 0 for the others.
-pub fn closed_prices(alloc: Global, edges: &[Edge], capacity: &[u32]) -> Result<Vec<u64>, NoMemory>
+pub fn closed_prices(alloc: Global, edges: &[Edge], capacity: &[u32]) -> Result<Vec<u32>, NoMemory>
     requires small { AreSmall edges.now }
     requires within { (k : ℕ) → k < length edges.now → (edge edges.now k).b < length capacity.now }
     ensures { IfOk result (λ v. AreClosed edges.now capacity.now v.items) }
 {
-    let mut prices = vec![in alloc; 0u64; capacity.len()]?;
+    let mut prices = vec![in alloc; 0u32; capacity.len()]?;
     for k in 0..edges.len() {
         close(&mut prices, capacity, edges[k]);
     }
@@ -24,7 +24,7 @@ pub fn closed_prices(alloc: Global, edges: &[Edge], capacity: &[u32]) -> Result<
 }
 
 /// A price of the edge's record of B that reaches its value, where the record has no place.
-fn close(prices: &mut [u64], capacity: &[u32], edge: Edge)
+fn close(prices: &mut [u32], capacity: &[u32], edge: Edge)
     requires within { edge.b < length capacity.now }
     requires records { length prices.old ≡ length capacity.now }
     ensures { Closes capacity.now edge prices.old prices.new }
@@ -32,7 +32,7 @@ fn close(prices: &mut [u64], capacity: &[u32], edge: Edge)
     if capacity[edge.b as usize] > 0 {
         return;
     }
-    raise_to(prices, edge.b as usize, edge.value as u64);
+    raise_to(prices, edge.b as usize, edge.value);
 }
 
 /// Seats before any is taken.
@@ -57,16 +57,11 @@ pub fn no_seats(alloc: Global, rows_a: usize, capacity: &[u32]) -> Result<Seats,
 }
 
 /// A tree with nothing in it.
-pub fn clean_tree(
-    alloc: Global,
-    rows_a: usize,
-    rows_b: usize,
-    edges: usize,
-) -> Result<Tree, NoMemory>
+pub fn clean_tree(alloc: Global, rows_a: u32, rows_b: u32, edges: usize) -> Result<Tree, NoMemory>
     ensures { IfOk result (λ t. IsAtRest rows_a rows_b edges t.reached) }
 {
     // The lists of `reached` last, so that where memory is wanting none of them is to be given back.
-    let twin = vec![in alloc; rows_a; rows_a]?;
+    let twin = vec![in alloc; rows_a as usize; rows_a as usize]?;
     let reached = Reached::new(alloc, rows_a, rows_b, edges)?;
     Ok(Tree {
         reached,

@@ -1,5 +1,5 @@
 // Prices, links, seats and the tree before any record of A is taken up.
-ghost use Rattle.std.specs.Prelude.{◌≡◌, ◌+◌, ◌<◌, ◌^◌, All, AllPairs, IfOk, length};
+ghost use Rattle.std.specs.Prelude.{◌≡◌, ◌+◌, ◌<◌, ◌≤◌, ◌^◌, All, AllPairs, IfOk, length};
 ghost use Rattle.price_check.specs.Assignment.{IsBefore};
 ghost use Rattle.assignment_steps.specs.Market.{IsInRange, AreStarts, AreSmall};
 ghost use Rattle.assignment_steps.specs.Candidates.{edges_of};
@@ -8,29 +8,30 @@ ghost use Rattle.capacity_assign.specs.Start.{AreFirstPrices, IsAtStart};
 
 use crate::market::{Seats, Tree};
 use crate::solve::{clean_tree, closed_prices, no_seats};
-use assignment_steps::{Edge, edges_of, first_prices, no_links, starts_of};
+use assignment_steps::{Edge, MaybeEdge, edges_of, first_prices, no_links, starts_of};
 use link_base::{Candidate, NoMemory};
+use link_limits::MOST_PAIRS;
 use std::alloc::Global;
 
 /// The edges of candidates, with the places where those of each record of A begin.
 #[derive(Drop)]
 pub struct ListedEdges {
     pub edges: Vec<Edge>,
-    pub starts: Vec<usize>,
+    pub starts: Vec<u32>,
 }
 
 /// The prices of both sides.
 #[derive(Drop)]
 pub struct Prices {
-    pub a: Vec<u64>,
-    pub b: Vec<u64>,
+    pub a: Vec<u32>,
+    pub b: Vec<u32>,
 }
 
 /// Prices, links, seats and the tree.
 #[derive(Drop)]
 pub struct Start {
     pub prices: Prices,
-    pub link_a: Vec<Option<usize>>,
+    pub link_a: Vec<MaybeEdge>,
     pub seats: Seats,
     pub tree: Tree,
 }
@@ -41,6 +42,7 @@ pub fn listed_edges(
     rows_a: usize,
     candidates: &[Candidate],
 ) -> Result<ListedEdges, NoMemory>
+    requires few { length candidates.now ≤ MOST_PAIRS }
     requires rising { AllPairs IsBefore candidates.now }
     requires small { All HasSmallValue candidates.now }
     requires rows { rows_a + 1 < 2 ^ 64 }
@@ -82,7 +84,7 @@ pub fn start_of(
     let prices = covering_prices(alloc, edges, rows_a, capacity)?;
     let link_a = no_links(alloc, rows_a)?;
     let seats = no_seats(alloc, rows_a, capacity)?;
-    match clean_tree(alloc, rows_a, capacity.len(), edges.len()) {
+    match clean_tree(alloc, rows_a as u32, capacity.len() as u32, edges.len()) {
         Ok(tree) => Ok(Start {
             prices,
             link_a,

@@ -1,4 +1,5 @@
 // Proposals for small lists, which come to no level by themselves.
+ghost use Rattle.std.specs.Prelude.{◌<◌, ◌^◌, length};
 ghost use Rattle.assignment_steps.specs.Market.{IsRising};
 
 use assignment_levels::Proposer;
@@ -36,9 +37,9 @@ fn worth_of(edges: &[Edge], proposal: Proposal<'_>) -> Option<u64> {
     let mut worth = 0u64;
     for edge in edges {
         let value = u64::from(edge.value);
-        let price_a = proposal.price_a.get(edge.a as usize)?;
-        let price_b = proposal.price_b.get(edge.b as usize)?;
-        if price_a.saturating_add(*price_b) < value {
+        let price_a = u64::from(*proposal.price_a.get(edge.a as usize)?);
+        let price_b = u64::from(*proposal.price_b.get(edge.b as usize)?);
+        if price_a.saturating_add(price_b) < value {
             return None;
         }
         let mate = proposal.mates.get(edge.a as usize)?;
@@ -53,10 +54,10 @@ fn worth_of(edges: &[Edge], proposal: Proposal<'_>) -> Option<u64> {
 fn sum_of(proposal: Proposal<'_>) -> u64 {
     let mut sum = 0u64;
     for price in proposal.price_a {
-        sum = sum.saturating_add(*price);
+        sum = sum.saturating_add(u64::from(*price));
     }
     for price in proposal.price_b {
-        sum = sum.saturating_add(*price);
+        sum = sum.saturating_add(u64::from(*price));
     }
     sum
 }
@@ -71,6 +72,8 @@ fn certifies_on(alloc: Global, board: Board<'_>) -> Result<bool, NoMemory> {
 
 // The same over edges by the records of A and by those of B.
 fn certifies_by(alloc: Global, edges: &[Edge], turned: &[Edge]) -> Result<bool, NoMemory>
+    requires few { length edges.now < 2 ^ 32 }
+    requires few_turned { length turned.now < 2 ^ 32 }
     requires edges { IsRising edges.now }
     requires turned { IsRising turned.now }
 {
@@ -90,6 +93,10 @@ fn certifies(alloc: Global, first: u32, most: u32) -> Result<bool, NoMemory> {
     let drawn = drawn(alloc, first, most)?;
     let turned = turned_edges(alloc, &drawn)?;
     let edges = turned_edges(alloc, &turned)?;
+    let most = (ROWS * ROWS) as usize;
+    if edges.len() > most || turned.len() > most {
+        return Ok(false);
+    }
     certifies_by(alloc, &edges, &turned)
 }
 

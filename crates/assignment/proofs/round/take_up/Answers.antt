@@ -2,19 +2,19 @@ use Rattle.std.proofs.Common.{ap, sym, ◌∙◌}
 use Rattle.std.specs.Option.{is_some}
 use Rattle.std.proofs.lemmas.Bool.{false≢true}
 use Rattle.assignment_steps.specs.LinkLaws.{not_linked}
-use Rattle.assignment.proofs.round.take_up.Goals.{else-bounded-via-then-bounded+else-tree-eq0, else-bounded-via-else-bounded, then-is_some-via-then-is_some, then-is_some-via-else-is_some+then-price_a-root-eq0}
+use Rattle.assignment.proofs.round.take_up.Goals.{else-bounded-via-then-bounded+else-tree-eq0, else-bounded-via-else-bounded, then-has_link-via-then-has_link, then-has_link-via-else-has_link+then-price_a-root-eq0}
 use Rattle.assignment.proofs.round.take_up.Goals as goal
 
 pub returns-then-tree-eq0-clause-takes : goal.returns-then-tree-eq0-clause-takes
 returns-then-tree-eq0-clause-takes c = record { between = c.requires.between; kept = λ a old. old; done = λ left. absurd (left c.if-bounded.true c.if-tree-eq0.true); rest = c.requires.rest }
 
-pub returns-then-is_some-clause-takes : goal.returns-then-is_some-clause-takes
-returns-then-is_some-clause-takes c = record {
+pub returns-then-has_link-clause-takes : goal.returns-then-has_link-clause-takes
+returns-then-has_link-clause-takes c = record {
   between = c.requires.between;
   kept = λ a old. old;
-  done = λ _ none. elim c.then-is_some.branch [
-    | then-is_some-via-then-is_some w ↦ absurd (false≢true (sym (ap is_some none) ∙ (sym c.is_some.ensures ∙ w.if-is_some.true)))
-    | then-is_some-via-else-is_some+then-price_a-root-eq0 w ↦ w.if-price_a-root-eq0.true
+  done = λ _ none. elim c.then-has_link.branch [
+    | then-has_link-via-then-has_link w ↦ absurd (false≢true (sym (ap is_some none) ∙ (sym c.has_link.ensures ∙ w.if-has_link.true)))
+    | then-has_link-via-else-has_link+then-price_a-root-eq0 w ↦ w.if-price_a-root-eq0.true
   ];
   rest = c.requires.rest;
 }
@@ -29,4 +29,4 @@ returns-clause-before c _ on spent = elim c.else-bounded.branch [
 ]
 
 pub search_from-requires-clause-free : goal.search_from-requires-clause-free
-search_from-requires-clause-free c = not_linked _ (sym c.is_some.ensures ∙ c.if-is_some.false)
+search_from-requires-clause-free c = not_linked _ (sym c.has_link.ensures ∙ c.if-has_link.false)

@@ -7,13 +7,13 @@ use Rattle.assignment_steps.specs.BetweenLaws.{one_more_done}
 use Rattle.capacity_assign.proofs.Rounds.{between_any}
 use Rattle.capacity_assign.proofs.round.round.Goals as goal
 
-pub returns-then-is_some : goal.returns-then-is_some
-returns-then-is_some c =
+pub returns-then-has_link : goal.returns-then-has_link
+returns-then-has_link c =
     let w = c.requires.between in
     let root = c.args.root in
     record {
       advances = record {
-        between = between_any _ _ _ _ _ root (root + 1) w (one_more_done _ _ _ _ root (λ a done. done) w.priced.free_a (λ none. absurd (false≢true (sym (ap is_some none) ∙ sym c.if-is_some.ensures))));
+        between = between_any _ _ _ _ _ root (root + 1) w (one_more_done _ _ _ _ root (λ a done. done) w.priced.free_a (λ none. absurd (false≢true (sym (ap is_some none) ∙ sym c.if-has_link.ensures))));
         places = λ b. refl;
       };
       tree = c.requires.tree;
@@ -24,7 +24,7 @@ take_up-requires c = record {
   listed = c.requires.listed;
   root = c.requires.root;
   alike = c.requires.alike;
-  free = not_linked (link c.args.link_a.now c.args.root) (sym c.if-is_some.ensures);
+  free = not_linked (link c.args.link_a.now c.args.root) (sym c.if-has_link.ensures);
   between = between_any _ _ _ _ _ c.args.root 0 c.requires.between (λ a low none. absurd (omega (arith, low)));
   tree = c.requires.tree;
 }

@@ -1,8 +1,10 @@
-use Rattle.std.proofs.Common.{◌≡◌, ◌<◌, length, set, None, Some, refl, ap, sym, ◌∙◌, inl, inr, arith}
+use Rattle.std.proofs.Common.{◌≡◌, ℕ, ◌<◌, length, set, None, Some, refl, ap, sym, ◌∙◌, inl, inr, arith}
 use Rattle.std.specs.Option.{is_some}
 use Rattle.std.proofs.lemmas.List.{get_or_default, length-set, with_items_is}
 use Rattle.price_check.specs.PlaceLaws.{place_there}
-use Rattle.assignment_steps.specs.Market.{edge, number}
+use Rattle.assignment_steps.specs.Market.{edge, link, number, AreLinked, AreTight}
+use Rattle.assignment_steps.specs.Ways.{LeadsBy}
+use Rattle.capacity_assign.specs.Core.{WalksBack}
 use Rattle.capacity_assign.specs.Seating.{HasHole, seating}
 use Rattle.capacity_assign.proofs.Links.{free_record_counts, linked_parted}
 use Rattle.assignment_steps.specs.LinkLaws.{link-set}
@@ -31,6 +33,7 @@ walk-requires c =
     let adds = c.add_seat-seat.ensures.adds in
     let one = free_record_counts c.args.link_a.now c.args.ways.root c.requires.root.0 c.requires.root.1 in
     record {
+      few = c.requires.in_range.few;
       in_range = c.requires.in_range.record_a;
       linked = c.requires.linked;
       tight = c.requires.tight;
@@ -62,11 +65,11 @@ returns-in-Some c =
       places = rw adds.left (places_after_added es la c.walk.new.link_a left b some w.places);
     }
 
-pub bounds : goal.bounds
-bounds c = rw c.in_default.is at c.requires.last
+pub link_of-requires : goal.link_of-requires
+link_of-requires c = rw c.in_default.is at c.requires.last
 
-pub returns-in_default-link_a : goal.returns-in_default-link_a
-returns-in_default-link_a c =
+pub returns-in_default-link_of : goal.returns-in_default-link_of
+returns-in_default-link_of c =
     let leads = rw c.in_default.is at c.requires.leads in
     record {
       rows_b = refl;
@@ -75,7 +78,7 @@ returns-in_default-link_a c =
       seats = c.requires.seats;
       turned = record {
         count = refl;
-        of_root = λ _. (ap is_some c.in_default.is, elim leads [ inl p ↦ sym p.0 | inr p ↦ absurd (let clash : None ≡ Some p.0 = sym c.in_default-link_a.is ∙ p.1.0 in cc) ]);
+        of_root = λ _. (ap is_some c.in_default.is, elim leads [ inl p ↦ sym p.0 | inr p ↦ absurd (let clash : None ≡ Some p.0 = sym c.in_default-link_of.is ∙ (c.link_of.ensures ∙ p.1.0) in cc) ]);
         still = λ a none. inl none;
       };
       vacant = λ b left. left;
@@ -83,7 +86,7 @@ returns-in_default-link_a c =
     }
 
 pub bounds-net-k : goal.bounds-net-k
-bounds-net-k c = (c.requires.linked c.args.last c.in-Some-link_a.k c.in-Some-link_a.is).0
+bounds-net-k c = (c.requires.linked c.args.last c.in-Some-link_of.k (sym c.link_of.ensures ∙ c.in-Some-link_of.is)).0
 
 pub index-requires : goal.index-requires
 index-requires c =
@@ -96,24 +99,29 @@ walk-requires-2 c =
     let la = c.args.link_a.now in
     let s = c.requires.seats in
     let last = c.args.last in
-    let k = c.in-Some-link_a.k in
-    let on = c.in-Some-link_a.is in
+    let k = c.in-Some-link_of.k in
+    let on = (sym c.link_of.ensures ∙ c.in-Some-link_of.is) in
     let inside = rw c.in_default.is at c.requires.last in
     let seat = c.args.seats.now.seat.items in
     let there : last < length seat = omega (arith, inside, s.seats) in
     let is : number seat last ≡ c.index.result.now = get_or_default seat last 0 c.index.result.now there ∙ sym c.index.ensures in
     let h = hole_parted es la _ _ _ _ last k inside on s.seated s.filled in
+    let parted : AreLinked es (set la last c.none.result) = rw c.none.ensures (linked_parted es la last c.requires.linked inside) in
+    let still_tight : AreTight es c.args.net.price_a.now c.args.net.price_b.now (set la last c.none.result) = rw c.none.ensures (λ j here. elim (link-set la last (edge es j).a None inside) [
+      | inl p ↦ absurd (let clash : None ≡ Some j = sym p.1 ∙ here in cc)
+      | inr p ↦ c.requires.tight j (sym p.1 ∙ here)
+    ]) in
+    let sits : (a j : ℕ) → link (set la last c.none.result) a ≡ Some j → number seat a < length c.args.seats.now.sitter.items = rw c.none.ensures (λ a j here. omega (arith, (h.seated a j here).there, s.room, s.sitters)) in
+    let way : (n : ℕ) × LeadsBy c.args.net c.args.ways (set la last c.none.result) n (edge es k).b = rw c.none.ensures (leads_parted _ _ _ la _ _ _ last k on (rw c.in_default.is at c.requires.leads)) in
     record {
+      few = c.requires.in_range.few;
       in_range = rw length-set c.requires.in_range.record_a;
-      linked = linked_parted es la last c.requires.linked inside;
-      tight = λ j here. elim (link-set la last (edge es j).a None inside) [
-        | inl p ↦ absurd (let clash : None ≡ Some j = sym p.1 ∙ here in cc)
-        | inr p ↦ c.requires.tight j (sym p.1 ∙ here)
-      ];
+      linked = parted;
+      tight = still_tight;
       records = rw (c.deref_mut-2.ensures.value, length-set) s.seats;
-      seats = rw (c.deref_mut-2.ensures.value, c.deref_mut-3.ensures.value) (λ a j here. omega (arith, (h.seated a j here).there, s.room, s.sitters));
+      seats = rw (c.deref_mut-2.ensures.value, c.deref_mut-3.ensures.value) sits;
       there = rw c.deref_mut-3.ensures.value (omega (arith, is, h.there, s.room, s.sitters));
-      leads = leads_parted _ _ _ la _ _ _ last k on (rw c.in_default.is at c.requires.leads);
+      leads = way;
     }
 
 pub returns : goal.returns
@@ -121,10 +129,11 @@ returns c =
     let es = c.args.net.edges.now in
     let la = c.args.link_a.now in
     let s = c.args.seats.now in
-    let k = c.in-Some-link_a.k in
-    let on = c.in-Some-link_a.is in
+    let k = c.in-Some-link_of.k in
+    let on = (sym c.link_of.ensures ∙ c.in-Some-link_of.is) in
     let last = c.args.last in
-    let w = c.walk-2.ensures in
+    let walked : WalksBack es _ _ _ _ (set la last c.none.result) _ _ _ _ _ = c.walk-2.ensures in
+    let w = rw c.none.ensures at walked in
     let inside = rw c.in_default.is at c.requires.last in
     let there : last < length s.seat.items = omega (arith, inside, c.requires.seats.seats) in
     let is : number s.seat.items last ≡ c.index.result.now = get_or_default s.seat.items last 0 c.index.result.now there ∙ sym c.index.ensures in

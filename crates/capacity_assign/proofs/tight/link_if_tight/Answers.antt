@@ -14,11 +14,11 @@ index-requires c =
     let w = c.requires.between in
     omega (arith, w.priced.in_range.record_b c.args.k c.requires.place, w.rows_b, c.args.seats.now.left.ok.0)
 
-pub returns-then-is_some : goal.returns-then-is_some
-returns-then-is_some c = record {
+pub returns-then-has_link : goal.returns-then-has_link
+returns-then-has_link c = record {
   between = c.requires.between;
   places = λ b. refl;
-  settled = λ tight none. absurd (false≢true (sym (ap is_some none) ∙ sym c.if-is_some.ensures));
+  settled = λ tight none. absurd (false≢true (sym (ap is_some none) ∙ sym c.if-has_link.ensures));
   kept = λ a none. none;
   fewer = λ b none. none;
 }
@@ -54,7 +54,7 @@ add_seat-free-requires c =
     let seats = c.args.seats.now in
     let la = c.args.link_a.now in
     let e = edge c.args.net.edges.now c.args.k in
-    let none : link la e.a ≡ None = not_linked (link la e.a) (sym c.if-is_some.ensures) in
+    let none : link la e.a ≡ None = not_linked (link la e.a) (sym c.if-has_link.ensures) in
     let ra : e.a < length la = omega (arith, w.priced.in_range.record_a c.args.k c.requires.place, w.priced.rows_a) in
     let there : e.b < length seats.left.items = omega (arith, w.priced.in_range.record_b c.args.k c.requires.place, w.rows_b) in
     let read = get_or_read seats.left.items e.b c.index.result.now there c.index.ensures 0 in
@@ -75,9 +75,10 @@ reseat-requires c =
     let adds = c.add_seat-free.ensures.adds in
     let a = (edge c.args.net.edges.now c.args.k).a in
     let ra : a < length la = omega (arith, w.priced.in_range.record_a c.args.k c.requires.place, w.priced.rows_a) in
-    let one = free_record_counts la a ra (not_linked (link la a) (sym c.if-is_some.ensures)) in
+    let one = free_record_counts la a ra (not_linked (link la a) (sym c.if-has_link.ensures)) in
     record {
       place = c.requires.place;
+      few = w.priced.in_range.few;
       in_range = ra;
       linked = w.priced.linked;
       records = rw (c.deref_mut.ensures.value, adds.seat) s.seats;
@@ -95,7 +96,7 @@ returns c =
     let t = c.add_seat-free.new.seats in
     let adds = c.add_seat-free.ensures.adds in
     let r = c.reseat.ensures in
-    let none : link la e.a ≡ None = not_linked (link la e.a) (sym c.if-is_some.ensures) in
+    let none : link la e.a ≡ None = not_linked (link la e.a) (sym c.if-has_link.ensures) in
     let ra : e.a < length la = omega (arith, w.priced.in_range.record_a k c.requires.place, w.priced.rows_a) in
     let there : e.b < length old.left.items = omega (arith, w.priced.in_range.record_b k c.requires.place, w.rows_b) in
     let read = get_or_read old.left.items e.b c.index.result.now there c.index.ensures 0 in

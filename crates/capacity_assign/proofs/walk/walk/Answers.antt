@@ -1,4 +1,4 @@
-use Rattle.std.proofs.Common.{◌<◌, length, refl, rules}
+use Rattle.std.proofs.Common.{◌<◌, length, refl, rules, arith}
 use Rattle.capacity_assign.proofs.Ways.{hop, ra, walking_more, walking_smaller, walked}
 use Rattle.capacity_assign.proofs.walk.walk.Goals as goal
 
@@ -30,6 +30,7 @@ pub reseat-requires : goal.reseat-requires
 reseat-requires c =
     let w = c.loop-left.invariant in
     record {
+      few = c.requires.few;
       place = (hop _ _ _ _ _ _ _ _ _ _ _ _ _ _ c.requires.in_range w).place;
       in_range = ra _ _ _ _ _ _ _ _ _ _ _ _ _ _ c.requires.in_range w;
       linked = w.linked;
@@ -45,3 +46,6 @@ loop-left-preserved c = walking_more _ _ _ _ _ _ _ _ _ _ _ _ _ _ _ _ _ _ c.requi
 
 pub returns : goal.returns
 returns c = walked _ _ _ _ _ _ _ _ _ _ _ _ _ _ _ _ _ c.requires.in_range c.loop-left.invariant c.in_default.ensures
+
+pub overflow_cast-ways : goal.overflow_cast-ways
+overflow_cast-ways c = omega (arith, (hop _ _ _ _ _ _ _ _ _ _ _ _ _ _ c.requires.in_range c.loop-left.invariant).place, c.requires.few)

@@ -10,7 +10,7 @@ pub start_of-requires-clause-small : goal.start_of-requires-clause-small
 start_of-requires-clause-small c = rw (c.deref-3.ensures.value, c.in_ok-listed.ensures.edges) (small_edges c.args.candidates.now c.requires.small)
 
 pub start_of-requires-clause-in_range : goal.start_of-requires-clause-in_range
-start_of-requires-clause-in_range c = rw (c.deref-3.ensures.value, c.in_ok-listed.ensures.edges) (range_edges c.args.candidates.now c.args.rows_a (length c.args.capacity.now) c.requires.within)
+start_of-requires-clause-in_range c = rw (c.deref-3.ensures.value, c.in_ok-listed.ensures.edges) (range_edges c.args.candidates.now c.args.rows_a (length c.args.capacity.now) c.requires.count c.ranges.rows_a.fits c.requires.rows_b c.requires.within)
 
 pub invariant_of-result : goal.invariant_of-result
 invariant_of-result c =
@@ -21,6 +21,7 @@ invariant_of-result c =
     let made = c.in_ok-listed.ensures.edges in
     let s = c.in_ok-start.start in
     let start : IsAtStart (edges_of cs) c.args.rows_a ns s = rw (c.deref-3.ensures.value, made) at c.in_ok-start.ensures in
+    let range = range_edges cs c.args.rows_a (length ns) c.requires.count c.ranges.rows_a.fits c.requires.rows_b c.requires.within in
     let closed = start.prices.closed in
     let reach = start.prices.reach in
     record {
@@ -32,7 +33,7 @@ invariant_of-result c =
         small = rw made (small_edges cs c.requires.small);
         begins = rw reach.records c.in_ok-listed.ensures.starts;
       };
-      between = rw (made, start.links) (between_first cs c.args.rows_a ns s.prices.a.items s.prices.b.items (seating s.seats) c.requires.within closed reach start.seats);
+      between = rw (made, start.links) (between_first cs c.args.rows_a ns s.prices.a.items s.prices.b.items (seating s.seats) range closed reach start.seats);
       places = λ b. rw (made, start.links, places) (places_first cs c.args.rows_a ns (seating s.seats) b start.seats);
       rows_a = reach.records;
       rows_b = rw places closed.records;
