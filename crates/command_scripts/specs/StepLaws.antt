@@ -183,6 +183,12 @@ pub takes_fault : {T : Type 0} {expected : Result T Fault} {f : Fault} {tells : 
 takes_fault {expected = expected} {f = f} {tells = tells} {held = held} {faults = faults} refused =
     record { goes = computes_stop expected tells held faults f refused; held = refl }
 
+pub takes_refused : {T : Type 0} {expected : Result T Fault} (f : Fault) (result : Result T Refusal) {tells : Type 0} {held : Held} {faults : List StoreCall} → Refuses expected f
+    → IsErrAnd result (λ e. e ≡ refusal.Fault f)
+    → Takes (gives expected) (record { tells = tells; held_before = held; held_after = held; faults_before = faults; faults_after = faults }) result
+takes_refused {T = T} {expected = expected} f result {tells = tells} {held = held} {faults = faults} refused e =
+    let P : Result T Refusal → Type 0 = λ r. Takes (gives expected) (from_to tells held held faults faults) r in at_err P result (refusal.Fault f) e (takes_fault refused)
+
 pub takes_ok : {T : Type 0} {expected : Result T Fault} (x : T) {tells : Type 0} {held : Held} {faults : List StoreCall} → expected ≡ Ok x
     → Takes (gives expected) (record { tells = tells; held_before = held; held_after = held; faults_before = faults; faults_after = faults }) (Ok x)
 takes_ok x e = record { goes = record { to = record { possible = ap refused_by e; told = λ t. ap refused_by e }; faults = refl }; held = refl }

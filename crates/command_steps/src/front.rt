@@ -52,9 +52,10 @@ pub fn load_plan<S: Store>(alloc: Global, store: &mut S, name: &str) -> Result<P
     ensures files { IfOk result NamesFiles }
 {
     let bytes = load_file(alloc, store, name, FileRole::Settings)?;
-    let plan = read_settings(alloc, bytes.bytes());
+    let read = read_settings(alloc, bytes.bytes());
     drop(bytes);
-    Ok(plan?)
+    let plan = read?;
+    Ok(plan)
 }
 
 /// The name of a file, which is UTF-8.
@@ -146,9 +147,10 @@ fn count_named<S: Store>(
     ensures rares { IfOk result (λ shares. shared_rares shares ≡ rares_of plan.now.fields) }
 {
     let sample = load_file(alloc, store, name, FileRole::Sample)?;
-    let shares = counted(alloc, plan, files, sample.bytes());
+    let counts = counted(alloc, plan, files, sample.bytes());
     drop(sample);
-    Ok(shares?)
+    let shares = counts?;
+    Ok(shares)
 }
 
 // Counts the sample of a plan, which has this name, over the two files of the plan.
@@ -178,7 +180,10 @@ fn load_shares<S: Store>(alloc: Global, store: &mut S, plan: &Plan) -> Result<Pl
 {
     match &plan.sample {
         Some(name) => count_loaded(alloc, store, plan, file_name(name)),
-        None => Ok(PlanShares::given(alloc, plan)?),
+        None => {
+            let shares = PlanShares::given(alloc, plan)?;
+            Ok(shares)
+        }
     }
 }
 
@@ -197,7 +202,10 @@ pub(crate) fn load_shares_over<S: Store>(
 {
     match &plan.sample {
         Some(name) => count_named(alloc, store, plan, files, file_name(name)),
-        None => Ok(PlanShares::given(alloc, plan)?),
+        None => {
+            let shares = PlanShares::given(alloc, plan)?;
+            Ok(shares)
+        }
     }
 }
 

@@ -55,9 +55,10 @@ fn load_named<S: Store>(
     ensures of_files { IfOk result (IsJournalOf files.now.files) }
 {
     let bytes = load_file(alloc, store, name, FileRole::Journal)?;
-    let journal = journal_in_files(alloc, files, bytes.bytes());
+    let read = journal_in_files(alloc, files, bytes.bytes());
     drop(bytes);
-    Ok(journal?)
+    let journal = read?;
+    Ok(journal)
 }
 
 /// Loads the journal that a plan names, over its prepared files.

@@ -35,9 +35,10 @@ fn load_within<S: Store>(alloc: Global, store: &mut S, plan: &Plan) -> Result<Pr
     ensures same { IfOk result (λ p. length p.files.b.records ≡ length p.files.a.records) }
 {
     let a = load_file(alloc, store, file_name(&plan.file_a), FileRole::A)?;
-    let files = prepare_files(alloc, plan, a.bytes(), a.bytes());
+    let prepared = prepare_files(alloc, plan, a.bytes(), a.bytes());
     drop(a);
-    Ok(files?)
+    let files = prepared?;
+    Ok(files)
 }
 
 // Loads the file of a plan of a file with itself, and its sample, and decides on the compared pairs.

@@ -50,9 +50,10 @@ fn load_capacities<S: Store>(
     ensures of_files { IfOk result (AreCapacitiesOf found.now.reviewed.files.files) }
 {
     let bytes = load_file(alloc, store, name, FileRole::Capacities)?;
-    let capacities = capacities_in_file(alloc, &found.reviewed.files, bytes.bytes());
+    let read = capacities_in_file(alloc, &found.reviewed.files, bytes.bytes());
     drop(bytes);
-    Ok(capacities?)
+    let capacities = read?;
+    Ok(capacities)
 }
 
 // Loads the capacities, and makes the text of links within them, and of their prices.

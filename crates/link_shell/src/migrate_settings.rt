@@ -26,7 +26,8 @@ fn text_over<S: Store>(
     let journal = load_journal(alloc, store, plan, files)?;
     let lines = journal_lines(alloc, files, &journal);
     drop(journal);
-    Ok(lines?)
+    let text = lines?;
+    Ok(text)
 }
 
 // Loads the files of a plan and its journal, and makes its text.

@@ -79,7 +79,8 @@ fn add_loaded<S: Store>(
         double,
     );
     drop(verdicts);
-    Ok(added?)
+    let text = added?;
+    Ok(text)
 }
 
 // Loads the files of a plan and new verdicts, adds these to the journal, and makes its text.

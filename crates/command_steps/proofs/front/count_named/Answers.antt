@@ -1,13 +1,18 @@
-use Rattle.std.proofs.Common.{ℕ, List, subst}
-use Rattle.link_base.specs.Fault.{IsAnswer}
+use Rattle.std.proofs.Common.{◌≡◌, ℕ, List, Ok, subst}
+use Rattle.link_base.specs.Fault.{Refuses}
 use Rattle.link_core.specs.Rules.{counted_by}
-use Rattle.command_scripts.specs.StepLaws.{takes_fault, takes_go, takes_stop}
+use Rattle.command_scripts.specs.StepLaws.{takes_go, takes_ok, takes_refused, takes_stop}
 use Rattle.command_steps.proofs.front.count_named.Goals as goal
 
 pub returns-in_err-sample-clause-takes : goal.returns-in_err-sample-clause-takes
 returns-in_err-sample-clause-takes g c = takes_stop _ _ c.in_err-sample.ensures c.from_residual.ensures.1
 
+pub returns-in_err-shares-clause-takes : goal.returns-in_err-shares-clause-takes
+returns-in_err-shares-clause-takes g c =
+    let P : List ℕ → Type 0 = λ bytes. Refuses (counted_by c.args.plan.now c.args.files.now.files bytes) c.in_err-shares.field-0.0 in
+    takes_go _ _ c.in_ok-sample.ensures (takes_refused _ _ (subst P c.bytes.ensures c.in_err-shares.ensures.answer) c.from_residual-in_err-shares.ensures.1)
+
 pub returns-clause-takes : goal.returns-clause-takes
 returns-clause-takes g c =
-    let P : List ℕ → Type 0 = λ bytes. IsAnswer (counted_by c.args.plan.now c.args.files.now.files bytes) c.counted-shares.result in
-    takes_go _ _ c.in_ok-sample.ensures (takes_fault (subst P c.bytes.ensures c.counted-shares.ensures.answer))
+    let P : List ℕ → Type 0 = λ bytes. counted_by c.args.plan.now c.args.files.now.files bytes ≡ Ok c.in_ok-shares.shares in
+    takes_go _ _ c.in_ok-sample.ensures (takes_ok _ (subst P c.bytes.ensures c.in_ok-shares.ensures.answer))
