@@ -26,7 +26,12 @@ pub struct Output<'n, 'b> {
 }
 
 /// Hands bytes to `out`.
-pub fn print<O: Sink>(alloc: Global, ended: Ended, text: &[u8], out: &mut O) -> Result<Ended, Refusal>
+pub fn print<O: Sink>(
+    alloc: Global,
+    ended: Ended,
+    text: &[u8],
+    out: &mut O,
+) -> Result<Ended, Refusal>
     ensures { HandsOver ended text.now (sink_seen O.tells O.taken O.faults out.old out.new) result }
 {
     match out.put_all(alloc, text) {

@@ -170,7 +170,11 @@ fn missing_journal(alloc: Global) -> Fault
 }
 
 /// Loads a settings file and reads its plan, which must name a journal.
-pub fn load_journal_plan<S: Store>(alloc: Global, store: &mut S, name: &str) -> Result<Plan, Refusal>
+pub fn load_journal_plan<S: Store>(
+    alloc: Global,
+    store: &mut S,
+    name: &str,
+) -> Result<Plan, Refusal>
     ensures takes { Takes (journal_plan name.now) (store_seen S.tells S.held S.faults store.old store.new) result }
     ensures ranges { IfOk result KeepsRanges }
     ensures files { IfOk result NamesFiles }

@@ -27,7 +27,11 @@ fn line_of(alloc: Global, refusal: &Refusal) -> Result<Vec<u8>, NoMemory>
 }
 
 /// Hands the line of a refusal to `err`: `linkage: `, what is wrong and where, and a line feed.
-pub fn write_refusal<E: Sink>(alloc: Global, refusal: &Refusal, err: &mut E) -> Result<(), SinkError>
+pub fn write_refusal<E: Sink>(
+    alloc: Global,
+    refusal: &Refusal,
+    err: &mut E,
+) -> Result<(), SinkError>
     ensures content { E.tells → Appends (refusal_line refusal.now) (E.taken err.old) (E.taken err.new) result }
     ensures cause { HasCause (E.faults err.old) (E.faults err.new) result }
 {

@@ -10,9 +10,7 @@ pub enum Refusal {
     /// The words are no form of a command.
     Usage,
     /// A load or put of this name failed.
-    Store {
-        name: Text,
-    },
+    Store { name: Text },
     /// The output did not take what it was handed.
     Output,
     /// An input is at fault, a limit is passed, or memory is wanted.

@@ -42,7 +42,11 @@ fn load_within<S: Store>(alloc: Global, store: &mut S, plan: &Plan) -> Result<Pr
 }
 
 // Loads the file of a plan of a file with itself, and its sample, and decides on the compared pairs.
-fn load_decided<S: Store>(alloc: Global, store: &mut S, plan: &Plan) -> Result<DecidedWithin, Refusal>
+fn load_decided<S: Store>(
+    alloc: Global,
+    store: &mut S,
+    plan: &Plan,
+) -> Result<DecidedWithin, Refusal>
     requires within { IsOfOneFile plan.now }
     requires ranges { KeepsRanges plan.now }
     requires names { NamesFiles plan.now }

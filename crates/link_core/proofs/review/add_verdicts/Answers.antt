@@ -43,8 +43,10 @@ returns-in-Ok-add c =
     let all : ℤ → List PairAt → Result (List Entry) Fault = λ date possible. added c.args.double date c.args.reviewer.now possible c.args.journal.now c.in-Ok.batch in
     let fits : FitsSigned w32 c.args.date = search rules in
     let new = as_handed all (λ r. r ≡ Ok c.add.new.self) c.args.date _ c.args.decided.now.possible c.possible.result.now (to_z-of_z w32 c.args.date fits) c.possible.ensures c.in-Ok-add.ensures.answer in
-    record { answer = answer_next (verdicts_of p.files.a.records p.files.b.records c.args.verdicts.now) _ c.in-Ok.batch c.journal_lines.result read
-    (answer_next (all c.args.date c.args.decided.now.possible) (λ es. journal_lines_of p.files es) c.add.new.self c.journal_lines.result new c.journal_lines.ensures.answer) }
+    record {
+      answer = answer_next (verdicts_of p.files.a.records p.files.b.records c.args.verdicts.now) _ c.in-Ok.batch c.journal_lines.result read
+          (answer_next (all c.args.date c.args.decided.now.possible) (λ es. journal_lines_of p.files es) c.add.new.self c.journal_lines.result new c.journal_lines.ensures.answer);
+    }
 
 pub returns : goal.returns
 returns c =
@@ -54,8 +56,10 @@ returns c =
     let all : ℤ → List PairAt → Result (List Entry) Fault = λ date possible. added c.args.double date c.args.reviewer.now possible c.args.journal.now c.in-Ok.batch in
     let fits : FitsSigned w32 c.args.date = search rules in
     let refused = as_handed all (λ r. Refuses r f) c.args.date _ c.args.decided.now.possible c.possible.result.now (to_z-of_z w32 c.args.date fits) c.possible.ensures c.in-Err-add.ensures.answer.0 in
-    record { answer = refuses_next (verdicts_of p.files.a.records p.files.b.records c.args.verdicts.now) _ c.in-Ok.batch f read
-    (refuses_then (all c.args.date c.args.decided.now.possible) (λ es. journal_lines_of p.files es) f refused) }
+    record {
+      answer = refuses_next (verdicts_of p.files.a.records p.files.b.records c.args.verdicts.now) _ c.in-Ok.batch f read
+          (refuses_then (all c.args.date c.args.decided.now.possible) (λ es. journal_lines_of p.files es) f refused);
+    }
 
 pub add-requires-clause-rising : goal.add-requires-clause-rising
 add-requires-clause-rising c = subst (λ (ps : List PairAt). AllPairs IsPairBefore ps) (sym c.possible.ensures) c.requires.decided.rising
