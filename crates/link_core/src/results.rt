@@ -210,21 +210,21 @@ pub fn finish(
     ensures { IfOk result (λ r. AreRunTexts plan.now prepared.now.files (rule_in prepared.now decided.now) journal.now (five_texts r)) }
 {
     let chosen = links_of(alloc, plan, prepared, decided, journal)?;
-    let a = IdFields::of(alloc, prepared.a())?;
-    let b = IdFields::of(alloc, prepared.b())?;
+    let ids_a = IdFields::of(alloc, prepared.a())?;
+    let ids_b = IdFields::of(alloc, prepared.b())?;
     let (links, prices) = link_texts(
         alloc,
         &chosen.links,
         &chosen.prices_a,
         &chosen.prices_b,
-        &a,
-        &b,
+        &ids_a,
+        &ids_b,
     )?;
     let made = report_of(plan, prepared, decided, journal, chosen);
     let report = report_text(alloc, &made, prepared.a(), prepared.b());
     drop(made);
     let report = report?;
-    let pairs = pairs_of(alloc, plan, prepared, decided, journal, &a, &b)?;
+    let pairs = pairs_of(alloc, plan, prepared, decided, journal, &ids_a, &ids_b)?;
     let rule = rule_of(alloc, plan, prepared, decided)?;
     Ok(RunResult {
         pairs,

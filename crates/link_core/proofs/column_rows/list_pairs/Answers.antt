@@ -24,7 +24,4 @@ returns-then-len-bs-gt-MOST_PAIRS c =
 pub returns : goal.returns
 returns c =
     let rows = c.args.rows.now in
-    record {
-      kind = _;
-      answer = all_told rows c.loop-at.at c.loop-at.pairs.items (omega (arith, c.loop-at-test.false, c.len-at-end.ensures)) c.loop-at.invariant.few c.loop-at.invariant.told;
-    }
+    record { answer = all_told rows c.loop-at.at c.loop-at.pairs.items (omega (arith, c.loop-at-test.false, c.len-at-end.ensures)) c.loop-at.invariant.few c.loop-at.invariant.told }

@@ -45,7 +45,6 @@ returns c =
     let facts = c.decide_pairs.ensures in
     let told = told_of plan rule c.args.with_rows r p c.in_ok-blocks.blocks c.sides.result.now.rows c.sides-2.result.now.rows c.in_ok-blocks.ensures (ap (λ t. t.rows) c.sides.ensures) (ap (λ t. t.rows) c.sides-2.ensures) (record { answer = facts.answer; decided = facts.decided }) in
     record {
-      kind = facts.kind;
       answer = answered plan p shares rule c.args.with_rows r c.in_ok-rule.ensures.rule told;
       of_files = decided_in_files plan p shares rule c.args.with_rows r c.requires.ready c.in_ok-rule.ensures.sides_a c.in_ok-rule.ensures.sides_b told;
       of_plan = decided_for_plan plan p shares rule c.args.with_rows r c.in_ok-rule.ensures.cells told;

@@ -11,8 +11,8 @@ pub link_texts-requires : goal.link_texts-requires
 link_texts-requires c =
     let chosen = c.in_ok-chosen.ensures.chosen in
     let placed = c.in_ok-chosen.ensures.placed in
-    let of_a = c.in_ok-a.ensures ∙ c.a.ensures in
-    let of_b = c.in_ok-b.ensures ∙ c.b.ensures in
+    let of_a = c.in_ok-ids_a.ensures ∙ c.a.ensures in
+    let of_b = c.in_ok-ids_b.ensures ∙ c.b.ensures in
     record {
       in_a = rw (c.deref.ensures.value, of_a) placed.in_a;
       in_b = rw (c.deref.ensures.value, of_b) placed.in_b;
@@ -43,7 +43,7 @@ report_text-report-requires c =
     }
 
 pub pairs_of-requires : goal.pairs_of-requires
-pairs_of-requires c = record { of_files = c.requires.of_files; decided = c.requires.of_plan; rows = c.requires.rows; a = c.in_ok-a.ensures ∙ c.a.ensures; b = c.in_ok-b.ensures ∙ c.b.ensures }
+pairs_of-requires c = record { of_files = c.requires.of_files; decided = c.requires.of_plan; rows = c.requires.rows; a = c.in_ok-ids_a.ensures ∙ c.a.ensures; b = c.in_ok-ids_b.ensures ∙ c.b.ensures }
 
 pub rule_of-requires : goal.rule_of-requires
 rule_of-requires c = record { ranges = c.requires.ranges; decided = c.requires.of_plan }
@@ -52,8 +52,8 @@ pub returns : goal.returns
 returns c =
     let chosen = c.in_ok-chosen.chosen in
     let facts = c.in_ok-chosen.ensures.chosen in
-    let of_a = c.in_ok-a.ensures ∙ c.a.ensures in
-    let of_b = c.in_ok-b.ensures ∙ c.b.ensures in
+    let of_a = c.in_ok-ids_a.ensures ∙ c.a.ensures in
+    let of_b = c.in_ok-ids_b.ensures ∙ c.b.ensures in
     record {
       links = chosen.links.items;
       prices_a = chosen.prices_a.items;
