@@ -12,4 +12,4 @@ pub use limits::{
     MOST_WORD_PAIRS, MOST_YEARS,
 };
 pub use plan::{FieldList, FieldPlan, Plan};
-pub use terms::{TERM_KEYS, TermSource, Terms};
+pub use terms::{MOST_AWARD, MOST_SEED, TERM_KEYS, TermSource, Terms};

@@ -7,10 +7,10 @@ use link_limits::PER_MILLION;
 use std::alloc::Global;
 
 /// The greatest award for a pair that is a link by review.
-const MOST_AWARD: u32 = 1000;
+pub const MOST_AWARD: u32 = 1000;
 
 /// The greatest seed, which is the greatest whole number of TOML.
-const MOST_SEED: u64 = 9_223_372_036_854_775_807;
+pub const MOST_SEED: u64 = 9_223_372_036_854_775_807;
 
 /// The keys of the terms.
 pub const TERM_KEYS: [&str; 6] = ["mu_ppm", "lambda_ppm", "seed", "award", "strict", "double"];
