@@ -35,11 +35,11 @@ use Rattle.command_steps.specs.Front.{both_files, plan_file, prepared_files, sha
 use Rattle.command_scripts.specs.Loads.{loaded}
 use Rattle.command_steps.specs.Reviewed.{decided_plan, journal_file, Review, reviewed_plan, reviewed_settings, ReviewedPlan}
 use Rattle.command_scripts.specs.Seen.{IsUncalled, SinkSeen, StoreSeen}
-use Rattle.command_scripts.specs.Steps.{◌>>=◌, ComesTo, file, file_within, gives, load, outcome, Steps}
+use Rattle.command_scripts.specs.Steps.{◌>>=◌, ComesTo, file, file_within, gives, load, outcome, refused_by, Steps}
 use Rattle.command_scripts.specs.declared.ends.Ended.{Ended}
 use Rattle.command_scripts.specs.declared.ends.Ended.TheVariants.{Done, Refuted}
 use Rattle.link_shell.proofs.CommandFacts.{KeepsSettings, keeps_settings}
-use Rattle.link_shell.proofs.HeadlineFacts.{came, FoundBy, settings_found, told_above}
+use Rattle.link_shell.proofs.HeadlineFacts.{came, FoundBy, given_ok, settings_found, told_above}
 use Rattle.link_shell.specs.AfterRun.{HoldsProof, ProvedByRun, SaysYes, YesAfterRun, YesWhereProved}
 use Rattle.link_shell.specs.Commands.{command_of, run_of_settings, verification_of_settings}
 use Rattle.link_shell.specs.Linked.{Follows, IsComplete, Performed, Reported, status_after}
@@ -127,7 +127,7 @@ unfolding ◌>>=◌
 loads_plan name h = (h, λ bytes. tt)
 
 -- a written file that is held, and is not too long
-within_limit : (r : FileRole) (limit : ℕ) (name bytes : List ℕ) (t : Bool) → t ≡ true → (if t then Ok bytes else Err (fault.FileTooLong r limit)) ≡ Ok bytes
+within_limit : (r : FileRole) (limit : ℕ) (name bytes : List ℕ) (t : Bool) → t ≡ true → (if t then Ok bytes else Err (refusal.Fault (fault.FileTooLong r limit))) ≡ Ok bytes
 within_limit r limit name bytes true e = refl
 within_limit r limit name bytes false e = absurd (cc e)
 
@@ -154,14 +154,14 @@ shares_few plan files held shares None e =
     omega (arith, ap (λ (s : List PlainShares). length s) is, given_few plan.fields)
 shares_few plan files held shares (Some name) e =
     let read = came (file role.Sample name) _ held shares e in
-    counted_few plan files read.0 shares read.2
+    counted_few plan files read.0 shares (given_ok _ shares read.2)
 
 -- a plan's review is loaded by its parts, and all that `verify` loads
 pub review_loads : (plan : Plan) (review : Review) (held : Held) → FoundBy plan held review → outcome (reviewed_plan plan) held ≡ Ok review
 review_loads plan review held by =
     let decisions : outcome (decided_plan plan review.files) held ≡ Ok (record { shares = review.shares; decided = review.decided }) =
     outcome_go (shares_over plan review.files plan.sample) _ held review.shares by.of_shares
-    ∙ outcome_go (gives (decided plan review.files review.shares)) _ held review.decided by.of_decisions in
+    ∙ outcome_go (gives (decided plan review.files review.shares)) _ held review.decided (ap refused_by by.of_decisions) in
     outcome_go (prepared_files plan) _ held review.files by.of_files
     ∙ outcome_go (decided_plan plan review.files) _ held (record { shares = review.shares; decided = review.decided }) decisions
     ∙ outcome_go (journal_file review.files plan.journal) _ held review.journal by.of_journal
@@ -186,14 +186,15 @@ module _ (law : RunIsVerified) (name : List ℕ) (kept : IsKept name) (store : S
       let from = settings_found name held found (e.is_due.steps.told told) in
       let read = came (file role.Settings name) _ held plan from.of_settings in
       let inputs = came (both_files plan.file_a plan.file_b) _ held review.files from.by.of_files in
-      let kept_plan = read_plan read.0 plan read.2 in
+      let of_settings = given_ok _ plan read.2 in
+      let kept_plan = read_plan read.0 plan of_settings in
       let proof = law plan review.files review.shares review.decided.rule review.journal made.links made.prices_a made.prices_b (record {
         bytes = read.0;
         bytes_a = inputs.0.a;
         bytes_b = inputs.0.b;
         limit = MOST_DISTINCT_BYTES;
-        of_settings = read.2;
-        of_files = inputs.2;
+        of_settings = of_settings;
+        of_files = given_ok _ review.files inputs.2;
         few_shares = omega (arith, shares_few plan review.files held review.shares plan.sample from.by.of_shares, kept_plan.few_fields);
         of_shares = put.rule;
       }) made.greatest.one_to_one made.certified made.priced_a made.priced_b in
@@ -231,13 +232,13 @@ module _ (name : List ℕ) (store : StoreSeen) (out : SinkSeen) (told : store.te
   no_refusal f c = no_err proof.found f (sym proof.loaded ∙ c.told told)
 
   at_fault : (f : Refusal) {T : Type 0} (written : Result T SinkError) → IsComplete (Some (verification_of_settings name)) store (Err f) → status_after f written ≡ 8
-  at_fault fault.NoMemory (Ok x) h = refl
-  at_fault fault.NoMemory (Err sink.Failed) h = refl
-  at_fault fault.NoMemory (Err sink.NoMemory) h = refl
+  at_fault (refusal.Fault fault.NoMemory) (Ok x) h = refl
+  at_fault (refusal.Fault fault.NoMemory) (Err sink.Failed) h = refl
+  at_fault (refusal.Fault fault.NoMemory) (Err sink.NoMemory) h = refl
   at_fault refusal.Usage written h = absurd (no_refusal refusal.Usage h)
   at_fault (refusal.Store n) written h = absurd (no_refusal (refusal.Store n) h)
   at_fault refusal.Output written h = absurd (no_refusal refusal.Output h)
-  at_fault f written h = absurd (no_refusal f h)
+  at_fault (refusal.Fault f) written h = absurd (no_refusal (refusal.Fault f) h)
 
   says_yes : (err : SinkSeen) (answer : Result Ended Refusal) (status : ℕ) → Follows (Some (verification_of_settings name)) store out answer → IsComplete (Some (verification_of_settings name)) store answer
       → Reported err answer status → SaysYes out status

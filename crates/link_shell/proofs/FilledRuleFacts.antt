@@ -4,6 +4,7 @@ use Rattle.std.specs.Prelude.{codes, IfSome, is_some, if◌then◌else◌}
 use Rattle.std.proofs.lemmas.List.Elements.{All-map, All-weaker}
 use Rattle.link_base.specs.Answers.{and_then}
 use Rattle.link_base.specs.Standard.{Record}
+use Rattle.link_base.specs.declared.fault.Fault.{Fault}
 use Rattle.link_base.specs.declared.fault.Fault.TheVariants as fault
 use Rattle.link_base.specs.declared.fault.FileRole.TheVariants as role
 use Rattle.link_core.specs.Decisions.{decided, Decisions, rule_over}
@@ -12,7 +13,6 @@ use Rattle.link_core.specs.Prepared.{prepared}
 use Rattle.link_core.specs.Rules.{counted_by}
 use Rattle.link_limits.specs.declared.TheConstants.{MOST_DISTINCT_BYTES}
 use Rattle.link_outside.specs.Outside.{Held}
-use Rattle.link_outside.specs.declared.refusal.Refusal.{Refusal}
 use Rattle.link_plan.specs.Plan.{FieldKeys, PlainShares}
 use Rattle.link_plan.specs.Ranges.{AreShares, IsField}
 use Rattle.link_plan.specs.Within.{field_within, plan_within}
@@ -32,7 +32,7 @@ use Rattle.command_scripts.specs.Steps.{file, gives, outcome}
 use Rattle.link_shell.specs.DuplicatesSettings.{decided_within, prepared_within, Within}
 use Rattle.link_shell.specs.FilledRule.{AreByFilledRule, FilledRule}
 use Rattle.link_shell.specs.Generate.{decided_input, decided_sample}
-use Rattle.link_shell.proofs.HeadlineFacts.{came, found_by, rule_is, settings_found}
+use Rattle.link_shell.proofs.HeadlineFacts.{came, found_by, given_ok, rule_is, settings_found}
 
 -- what the law `shares_have_a_rule` says
 abbrev pub GivenHaveRule : Type 0
@@ -46,7 +46,7 @@ abbrev HasValidShares : FieldKeys → Type 0
 HasValidShares f = IfSome f.shares (AreShares (is_some f.rare))
 
 -- a step of a result that came to a value
-came_of : {A B : Type 0} (r : Result A Refusal) (next : A → Result B Refusal) (y : B) → and_then r next ≡ Ok y → (x : A) × (r ≡ Ok x) × (next x ≡ Ok y)
+came_of : {A B : Type 0} (r : Result A Fault) (next : A → Result B Fault) (y : B) → and_then r next ≡ Ok y → (x : A) × (r ≡ Ok x) × (next x ≡ Ok y)
 came_of (Ok x) next y e = (x, refl, e)
 came_of (Err f) next y e = no_ok f y e
 
@@ -54,7 +54,7 @@ came_of (Err f) next y e = no_ok f y e
 plan_valid : (name : List ℕ) (held : Held) (plan : Plan) → outcome (plan_file name) held ≡ Ok plan → HaveValidShares plan.fields
 plan_valid name held plan e =
     let read = came (file role.Settings name) _ held plan e in
-    All-weaker (IsField (is_some plan.sample)) HasValidShares (λ f h. h.shares) plan.fields (read_plan read.0 plan read.2).fields
+    All-weaker (IsField (is_some plan.sample)) HasValidShares (λ f h. h.shares) plan.fields (read_plan read.0 plan (given_ok _ plan read.2)).fields
 
 within_valid : (plan : Plan) → HaveValidShares plan.fields → HaveValidShares (plan_within plan).fields
 within_valid plan valid = All-map HasValidShares field_within plan.fields valid
@@ -77,7 +77,7 @@ module _ (given : GivenHaveRule) (counted : CountedHaveRule) where
       subst (λ (s : List PlainShares). IsRuleOf plan s (the_rule plan.terms.mu_ppm plan.terms.lambda_ppm s)) (ok_same _ shares e) (given plan valid)
   shares_rule plan files (Some name) held shares valid e =
       let sample = came (file role.Sample name) _ held shares e in
-      counted plan files.a.records files.b.records sample.0 shares sample.2
+      counted plan files.a.records files.b.records sample.0 shares (given_ok _ shares sample.2)
 
   of_review : (plan : Plan) (held : Held) (review : Review) → HaveValidShares plan.fields → outcome (reviewed_plan plan) held ≡ Ok review → AreByFilledRule plan review.shares review.decided
   of_review plan held review valid e =
@@ -97,7 +97,7 @@ module _ (given : GivenHaveRule) (counted : CountedHaveRule) where
       let decisions = came (gives (decided plan files.0 shares.0)) _ held shared.0 shares.2 in
       let own : SharedDecisions = record { shares = shares.0; decided = decisions.0 } in
       let is : own ≡ shared.0 = ok_same own shared.0 decisions.2 in
-      let here : AreByFilledRule plan own.shares own.decided = by_rule plan files.0 shares.0 decisions.0 (shares_rule plan files.0 plan.sample held shares.0 valid shares.1) decisions.1 in
+      let here : AreByFilledRule plan own.shares own.decided = by_rule plan files.0 shares.0 decisions.0 (shares_rule plan files.0 plan.sample held shares.0 valid shares.1) (given_ok _ decisions.0 decisions.1) in
       let of_shared : AreByFilledRule plan shared.0.shares shared.0.decided = subst (λ (d : SharedDecisions). AreByFilledRule plan d.shares d.decided) is here in
       let within : Within = record { files = files.0; shares = shared.0.shares; decided = shared.0.decided } in
       subst (λ (w : Within). AreByFilledRule plan w.shares w.decided) (ok_same within found shared.2) of_shared
@@ -122,7 +122,7 @@ module _ (given : GivenHaveRule) (counted : CountedHaveRule) where
         let from = settings_found name held found e in of_settings name held found (plan_valid name held found.plan from.of_settings) from.by.of_shares from.by.of_decisions;
     of_review = λ name held plan review of_plan e.
         let read = came (plan_file name) _ held plan of_plan in
-        let same : read.0 ≡ plan = named_same read.0 plan (is_some read.0.journal) read.2 in
+        let same : read.0 ≡ plan = named_same read.0 plan (is_some read.0.journal) (given_ok _ plan read.2) in
         of_review plan held review (subst (λ (p : Plan). HaveValidShares p.fields) same (plan_valid name held read.0 read.1)) e;
     of_one_file = λ name held plan found of_plan e. of_within (plan_within plan) held found (within_valid plan (plan_valid name held plan of_plan)) e;
     of_made_input = of_input;

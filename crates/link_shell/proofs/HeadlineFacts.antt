@@ -20,7 +20,9 @@ use Rattle.link_core.specs.Results.{candidates_in, compared_in}
 use Rattle.link_outside.specs.Outside.{Held}
 use Rattle.link_outside.specs.declared.outside.SinkError.{SinkError}
 use Rattle.link_outside.specs.declared.outside.SinkError.TheVariants as sink
+use Rattle.link_base.specs.declared.fault.Fault.{Fault}
 use Rattle.link_outside.specs.declared.refusal.Refusal.{Refusal}
+use Rattle.link_outside.specs.declared.refusal.Refusal.TheVariants as refusal
 use Rattle.price_check.specs.Assignment.{Certifies, IsGreatest}
 use Rattle.pair_decisions.specs.PairLaws.{compared_rise}
 use Rattle.pair_decisions.specs.Decisions.{decision_at}
@@ -35,7 +37,7 @@ use Rattle.command_steps.specs.Front.{plan_file, prepared_files, shares_over}
 use Rattle.command_scripts.specs.Loads.{loaded}
 use Rattle.command_steps.specs.Reviewed.{decided_plan, journal_file, Review, reviewed_plan, reviewed_settings, ReviewedPlan, SharedDecisions}
 use Rattle.command_scripts.specs.Seen.{IsUncalled, SinkSeen, StoreSeen}
-use Rattle.command_scripts.specs.Steps.{◌>>=◌, gives, load, outcome, Steps}
+use Rattle.command_scripts.specs.Steps.{◌>>=◌, gives, load, outcome, refused_by, Steps}
 use Rattle.command_scripts.specs.declared.ends.Ended.{Ended}
 use Rattle.command_scripts.specs.declared.ends.Ended.TheVariants.{Done, Refuted}
 use Rattle.link_shell.specs.Headline.{AreGreatestLinks, Headline, IsByRuleOrReview, RunWrites}
@@ -53,10 +55,15 @@ unfolding ◌>>=◌
 came (load r limit name step) next held y e =
     came_read (loaded r limit name (held name)) (λ bytes. outcome (step bytes) held) (λ bytes. outcome (step bytes >>= next) held) (λ x. outcome (next x) held ≡ Ok y) y (λ bytes. came (step bytes) next held y) e
 came (gives (Ok x)) next held y e = (x, refl, e)
-came (gives (Err f)) next held y e = no_ok f y e
+came (gives (Err f)) next held y e = no_ok (refusal.Fault f) y e
+
+-- a computed result that gave a value
+pub given_ok : {T : Type 0} (r : Result T Fault) (x : T) → refused_by r ≡ Ok x → r ≡ Ok x
+given_ok (Ok y) x e = ap (λ z. Ok z) (ok_same y x e)
+given_ok (Err f) x e = no_ok (refusal.Fault f) x e
 
 -- and results
-pub step_came : (A B : Type 0) (r : Result A Refusal) (f : A → Result B Refusal) (y : B) → and_then r f ≡ Ok y → (x : A) × (r ≡ Ok x) × (f x ≡ Ok y)
+pub step_came : (A B : Type 0) (r : Result A Fault) (f : A → Result B Fault) (y : B) → and_then r f ≡ Ok y → (x : A) × (r ≡ Ok x) × (f x ≡ Ok y)
 step_came A B (Ok x) f y e = (x, refl, e)
 step_came A B (Err g) f y e = no_ok g y e
 
@@ -76,7 +83,7 @@ found_by plan held review e =
     let decisions = came (gives (decided plan files.0 shares.0)) _ held found.0 shares.2 in
     let with_decisions : SharedDecisions → Review = λ d. record { files = files.0; shares = d.shares; decided = d.decided; journal = journal.0 } in
     let by : FoundBy plan held (with_decisions (record { shares = shares.0; decided = decisions.0 })) =
-    record { of_files = files.1; of_shares = shares.1; of_decisions = decisions.1; of_journal = journal.1 } in
+    record { of_files = files.1; of_shares = shares.1; of_decisions = given_ok (decided plan files.0 shares.0) decisions.0 decisions.1; of_journal = journal.1 } in
     subst (λ r. FoundBy plan held r) (ok_same _ _ journal.2) (subst (λ d. FoundBy plan held (with_decisions d)) (ok_same _ _ decisions.2) by)
 
 pub record SettingsFound (name : List ℕ) (held : Held) (found : ReviewedPlan) : Type 0 where
@@ -90,7 +97,7 @@ settings_found name held found e =
     subst (λ f. SettingsFound name held f) (ok_same _ _ review.2) (record { of_settings = plan.1; by = found_by plan.0 held review.0 review.1 })
 
 -- the rule of decisions is that of the plan and its shares
-pub rule_is : (r : Result (List PairAt) Refusal) (rule : FileRule) (d : Decisions) → and_then r (λ pairs. Ok (decided_by rule pairs)) ≡ Ok d → d.rule ≡ rule
+pub rule_is : (r : Result (List PairAt) Fault) (rule : FileRule) (d : Decisions) → and_then r (λ pairs. Ok (decided_by rule pairs)) ≡ Ok d → d.rule ≡ rule
 rule_is (Ok pairs) rule d e = ap (λ (x : Decisions). x.rule) (sym (ok_same _ _ e))
 rule_is (Err f) rule d e = no_ok f d e
 

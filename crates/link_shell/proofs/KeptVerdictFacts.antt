@@ -32,11 +32,11 @@ use Rattle.command_scripts.specs.Due.{Put}
 use Rattle.command_steps.specs.Front.{both_files, plan_file, prepared_files}
 use Rattle.command_steps.specs.Reviewed.{journal_file, journal_plan, named_journal, put_of_journal, reviewed_plan, with_journal}
 use Rattle.command_scripts.specs.Seen.{SinkSeen, StoreSeen}
-use Rattle.command_scripts.specs.Steps.{◌>>=◌, file, outcome, Steps}
+use Rattle.command_scripts.specs.Steps.{◌>>=◌, file, outcome, refused_by, Steps}
 use Rattle.command_scripts.specs.declared.ends.Ended.{Ended}
 use Rattle.link_shell.proofs.AfterRunFacts.{AllLoads, file_held, kept_if, loads_then, same_outcome}
 use Rattle.link_shell.proofs.CommandFacts.{of_each}
-use Rattle.link_shell.proofs.HeadlineFacts.{came, found_by, step_came}
+use Rattle.link_shell.proofs.HeadlineFacts.{came, found_by, given_ok, step_came}
 use Rattle.link_shell.proofs.OnePutFacts.{IsMade, made_at_zero, made_or_kept}
 use Rattle.link_shell.specs.Commands.{are_words, Command, command_in, command_of, migration_of_settings, review_of_settings}
 use Rattle.link_shell.specs.KeptVerdicts.{LoadsAs, MigrateKeeps, NoVerdictLost, ReviewKeeps, StillGives}
@@ -66,13 +66,13 @@ record OfSettings (name : List ℕ) (held : Held) (plan : Plan) : Type 0 where
 of_settings : (name : List ℕ) (held : Held) (plan : Plan) → outcome (journal_plan name) held ≡ Ok plan → OfSettings name held plan
 of_settings name held plan e =
     let read = came (plan_file name) _ held plan e in
-    let named = with_is read.0 plan read.2 in
+    let named = with_is read.0 plan (given_ok _ plan read.2) in
     subst (OfSettings name held) named.1 (record { of_plan = read.1; journal = some_named read.0.journal named.0 })
 
 settings_files : (name : List ℕ) (held : Held) (plan : Plan) → outcome (plan_file name) held ≡ Ok plan → AreFiles plan.file_a plan.file_b plan.sample plan.journal
 settings_files name held plan e =
     let read = came (file role.Settings name) _ held plan e in
-    (read_plan read.0 plan read.2).files
+    (read_plan read.0 plan (given_ok _ plan read.2)).files
 
 -- a text within the limit of a file
 within_is : (text line : List ℕ) → text_within text ≡ Ok line → (length text ≤ MOST_FILE_BYTES) × (text ≡ line)
@@ -117,7 +117,7 @@ module _ (plan : Plan) (named : plan.journal ≡ Some (named_journal plan)) (nam
         → LoadsAs plan files entries put_after
     loads_again files entries short of_files read =
         let there = file_held role.Journal MOST_FILE_BYTES (named_journal plan) text put_after (put_there (named_journal plan) text held) short in
-        let of_name : outcome (journal_file files (Some (named_journal plan))) put_after ≡ Ok entries = outcome_go (file role.Journal (named_journal plan)) _ put_after text there ∙ read in
+        let of_name : outcome (journal_file files (Some (named_journal plan))) put_after ≡ Ok entries = outcome_go (file role.Journal (named_journal plan)) _ put_after text there ∙ ap refused_by read in
         record {
           of_files = same_outcome (IsApart (named_journal plan)) held put_after (other_stays (named_journal plan) text held) (prepared_files plan) loads_both ∙ of_files;
           of_journal = subst (λ o. outcome (journal_file files o) put_after ≡ Ok entries) (sym named) of_name;
@@ -134,7 +134,7 @@ ids_of_file records is = record { texts = is.texts; distinct = is.distinct }
 files_ids : (plan : Plan) (files : StandardPair) (held : Held) → outcome (prepared_files plan) held ≡ Ok files → AreReadFiles files
 files_ids plan files held e =
     let inputs = came (both_files plan.file_a plan.file_b) _ held files e in
-    read_files plan MOST_DISTINCT_BYTES inputs.0.a inputs.0.b files inputs.2
+    read_files plan MOST_DISTINCT_BYTES inputs.0.a inputs.0.b files (given_ok _ files inputs.2)
 
 -- the entries of the journal that a plan names, in some bytes
 record HasRead (plan : Plan) (files : StandardPair) (entries : List Entry) : Type 0 where
@@ -145,7 +145,7 @@ journal_read : (plan : Plan) (files : StandardPair) (entries : List Entry) (held
 journal_read plan files entries held named e =
     let of_name : outcome (journal_file files (Some (named_journal plan))) held ≡ Ok entries = subst (λ o. outcome (journal_file files o) held ≡ Ok entries) named e in
     let read = came (file role.Journal (named_journal plan)) _ held entries of_name in
-    record { bytes = read.0; read = read.2 }
+    record { bytes = read.0; read = given_ok _ entries read.2 }
 
 -- what holds of what was put holds of what names hold after it
 put_is : (plan : Plan) (text : List ℕ) (s : Steps Put) (store : StoreSeen) (m : IsMade s store) → put_of_journal plan text ≡ m.put → held_with (named_journal plan) text store.held_before ≡ store.held_after
@@ -168,7 +168,7 @@ migrate_keeps law name store made =
     let a = files.a.records in
     let b = files.b.records in
     let text = text_of_journal a b entries in
-    let line = within_is text put.0 journal.2 in
+    let line = within_is text put.0 (given_ok _ put.0 journal.2) in
     let again = law a b old.bytes entries (ids_of_file a ids.of_a) (ids_of_file b ids.of_b) old.read in
     let is = put_is plan text _ store made (ap (put_of_journal plan) line.1 ∙ ok_same _ _ put.2) in
     record {
@@ -194,7 +194,7 @@ review_keeps law w store is_day is_name made =
     let given = came (file role.Verdicts w.verdicts) _ held put.0 reviewed.2 in
     let a = files.a.records in
     let b = files.b.records in
-    let read = step_came (List NewVerdict) (List ℕ) (verdicts_of a b given.0) _ put.0 given.2 in
+    let read = step_came (List NewVerdict) (List ℕ) (verdicts_of a b given.0) _ put.0 (given_ok _ put.0 given.2) in
     let batch : List NewVerdict = read.0 in
     let all = step_came (List Entry) (List ℕ) (added plan.terms.double w.date w.reviewer review.decided.possible review.journal batch) _ put.0 read.2 in
     let new : List Entry = all.0 in
@@ -213,7 +213,7 @@ review_keeps law w store is_day is_name made =
       batch = batch;
       new = new;
       of_settings = found.1;
-      of_verdicts = outcome_go (file role.Verdicts w.verdicts) _ held given.0 given.1 ∙ read.1;
+      of_verdicts = outcome_go (file role.Verdicts w.verdicts) _ held given.0 given.1 ∙ ap refused_by read.1;
       before = record { of_files = by.of_files; of_journal = by.of_journal };
       after = subst (LoadsAs plan files new) is (loads_again plan of.journal names text held files new line.0 by.of_files kept.0);
       kept = kept.1;

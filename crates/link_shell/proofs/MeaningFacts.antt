@@ -8,6 +8,7 @@ use Rattle.decision_rule.specs.RuleLaws.{least}
 use Rattle.link_base.specs.Answers.{and_then}
 use Rattle.link_outside.specs.Refusal.{refusal_status}
 use Rattle.link_base.specs.Rule.{IsWithinRanges}
+use Rattle.link_base.specs.declared.fault.Fault.{Fault}
 use Rattle.link_base.specs.declared.fault.Fault.TheVariants as fault
 use Rattle.link_base.specs.declared.fault.FileRole.TheVariants as role
 use Rattle.link_base.specs.declared.rule.Candidate.{Candidate}
@@ -47,7 +48,7 @@ use Rattle.command_scripts.specs.Steps.{file, outcome}
 use Rattle.command_scripts.specs.declared.ends.Ended.{Ended}
 use Rattle.command_scripts.specs.declared.ends.Ended.TheVariants.{Done, Refuted}
 use Rattle.link_shell.proofs.AfterRunFacts.{all_loads, review_loads, shares_few, yes_where_proved}
-use Rattle.link_shell.proofs.HeadlineFacts.{are_greatest, came, FoundBy, rule_is, settings_found, told_above}
+use Rattle.link_shell.proofs.HeadlineFacts.{are_greatest, came, FoundBy, given_ok, rule_is, settings_found, told_above}
 use Rattle.link_shell.specs.Linked.{Follows, Performed, Reported, status_after}
 use Rattle.written_check.specs.Laws.{HaveCertifiedRows, RowsAreVerified, VerifiedHaveRows}
 use Rattle.link_shell.specs.Meaning.{HoldsRows, rule_with, RowsAreProof, SaidYes, TellsRows, VerifyTells, YesMeans, RowsSayYes}
@@ -58,7 +59,7 @@ few_if : (pairs got : List PairAt) (t : Bool) → nat_le (length pairs) MOST_PAI
 few_if pairs got true is e = leb-true (length pairs) MOST_PAIRS is
 few_if pairs got false is e = no_ok (fault.TooManyPairs MOST_PAIRS) got e
 
-found_pairs : (r : Result (List PairAt) Refusal) (rule : FileRule) (d : Decisions) → and_then r (λ pairs. Ok (decided_by rule pairs)) ≡ Ok d → (pairs : List PairAt) × (r ≡ Ok pairs)
+found_pairs : (r : Result (List PairAt) Fault) (rule : FileRule) (d : Decisions) → and_then r (λ pairs. Ok (decided_by rule pairs)) ≡ Ok d → (pairs : List PairAt) × (r ≡ Ok pairs)
 found_pairs (Ok pairs) rule d e = (pairs, refl)
 found_pairs (Err f) rule d e = no_ok f d e
 
@@ -142,13 +143,13 @@ rows_are_proof verified one bounded = λ name held h.
     let rule : FileRule = rule_with plan files proof.cells in
     let candidates = candidates_in plan files rule journal in
     let read = came (file role.Settings name) _ held plan h.input.of_settings in
-    let kept = read_plan read.0 plan read.2 in
+    let kept = read_plan read.0 plan (given_ok _ plan read.2) in
     let inputs = came (both_files plan.file_a plan.file_b) _ held files h.input.of_files in
     let few_shares : length shares ≤ MOST_FIELDS = omega (arith, shares_few plan files held shares plan.sample h.input.of_shares, kept.few_fields) in
     let small = small_cells plan shares proof.cells few_shares kept.few_fields of_plan in
     let ranges : All IsWithinRanges rule.cells = All-weaker IsSmallCell IsWithinRanges (λ x s. s.ranges) proof.cells small.each in
     let bounds : All (HasBounds plan.terms.award) candidates = bounded plan files rule journal ranges in
-    let are = candidates_are plan files rule journal (read_files plan MOST_DISTINCT_BYTES inputs.0.a inputs.0.b files inputs.2) kept.terms.award bounds in
+    let are = candidates_are plan files rule journal (read_files plan MOST_DISTINCT_BYTES inputs.0.a inputs.0.b files (given_ok _ files inputs.2)) kept.terms.award bounds in
     let certified : HaveCertifiedRows (rares_of plan.fields) proof.cells candidates files.a.records files.b.records h.texts proof.links = record {
       prices_a = proof.prices_a;
       prices_b = proof.prices_b;
