@@ -1,5 +1,6 @@
 """The lists that stand in the manual and in the definitions: keys of the settings, faults, limits, commands. They must be the same."""
 
+import ast
 import re
 import tomllib
 
@@ -24,7 +25,18 @@ HEADS = {
     "Keys of a pass": ("pass_keys",),
     "Keys of a part": ("part_keys",),
 }
-WORDS = ["delimiters", "kind_named", "form_named", "comparisons", "key_words"]
+WORDS = ["delimiters", "kind_named", "form_named"]
+# The tables of words of the code, with those of the second implementation.
+TABLES = {"COMPARES": "compare", "KEYS": "key"}
+# The tables of pages that have each command in their first column, by its words.
+COMMANDS = {
+    "README.md": "Commands",
+    "docs/FILES.md": "What commands print",
+    "docs/OPERATORS.md": "What is read and what is written",
+    "docs/PROVED.md": "What is due of each command",
+    "packaging/linkage.1": None,
+    "packaging/completion": None,
+}
 # Limits that no user meets.
 INNER_LIMITS = ["MOST_POOL_LIMIT", "MOST_PATTERNS"]
 
@@ -84,6 +96,18 @@ def is_of(line: str, template: str) -> bool:
     return bool(re.fullmatch("".join(".+" if it.isupper() and it not in ("TOML", "UTF") else re.escape(it) for it in words), line))
 
 
+def commands_in(path: str, head: str | None) -> list[str]:
+    """The commands that a page has: in the first column of its tables under a heading, or as the man page and the completion name them."""
+    if head:
+        fronts = [re.match(r"(?:`[^`]*`(?:, )?)*", row[0]).group(0) for row in table_rows(path, head)]
+        found = re.findall(r"`([a-z]+)", " ".join(fronts))
+    elif path.endswith(".1"):
+        found = re.findall(r"^\.It Cm (\w+) ", read(path), flags=re.M)
+    else:
+        found = re.search(r'commands="(.*)"', read(path)).group(1).split()
+    return sorted(set(found))
+
+
 def table_rows(path: str, heading: str) -> list[list[str]]:
     """The rows of the tables under a heading of a page, each as a list of cells, their heads among them."""
     body = re.search(rf"^#+ {re.escape(heading)}\n(.*?)(?=^#|\Z)", read(path), flags=re.S | re.M)
@@ -114,8 +138,9 @@ def key_examples() -> list[str]:
 def unexplained_words() -> list[str]:
     """The words that a key may have as its value, and that no code span of SETTINGS shows."""
     page = set(re.findall(r"`([^`\n]*)`", read("docs/SETTINGS.md")))
-    words = settings_specs()
-    return [word for name in WORDS for word in codes_of(name, words) if word not in page]
+    words = [word for name in WORDS for word in codes_of(name, settings_specs())]
+    words += [it.split()[1] for name in TABLES for it in words_of_tables(name)]
+    return [word for word in words if word not in page]
 
 
 def words_of_key(head: str, key: str) -> list[str]:
@@ -125,20 +150,27 @@ def words_of_key(head: str, key: str) -> list[str]:
     return [f"{sort} {word}" for sort, part in parts for word in re.findall(r"`([^`]*)`", part)]
 
 
-def words_of_tables(words: str, name: str) -> list[str]:
-    """The same of a table of the definitions, which has an equation for dates, and one for names and places."""
-    found = {"date": [], "name": []}
-    for head, body in re.findall(rf"^{name} ([^=\n]*)=(.*?)(?=^\S)", words + "\n#", flags=re.S | re.M):
-        found["date" if "sort.Date" in head else "name"] += re.findall(r'codes "([^"]*)"', body)
-    return [f"{sort} {word}" for sort in ("name", "date") for word in found[sort]]
+def words_of_tables(name: str) -> list[str]:
+    """The same of the tables of the code, which the definitions cite."""
+    code = read("crates/settings/src/words.rt")
+    rows = lambda sort: re.search(rf"^const {sort.upper()}_{name}: .*? = \[(.*?)\];", code, flags=re.S | re.M).group(1)
+    return [f"{sort} {word}" for sort in ("name", "date") for word in re.findall(r'\("([^"]*)", ', rows(sort))]
 
 
-def comparisons(words: str) -> dict[str, tuple[list, list]]:
+def words_of_second(name: str) -> list[str]:
+    """The same of a table of the second implementation."""
+    found = re.search(rf"^{name} = (.*)$", read("tests/second_implementation/method/values.py"), flags=re.M).group(1)
+    table = ast.literal_eval(found)
+    return [f"{sort} {word}" for sort, is_date in (("name", False), ("date", True)) for word in table[is_date]]
+
+
+def comparisons() -> dict[str, tuple[list, list]]:
     """The lists of comparisons and of kinds of key, which stand in SETTINGS and in no other page."""
-    compared = words_of_tables(words, "comparisons")
+    compared = words_of_tables("COMPARES")
     return {
+        **{f"tests/second_implementation: words of {key}": (words_of_second(name), words_of_tables(name)) for name, key in TABLES.items()},
         "docs/SETTINGS.md: words of compare": (words_of_key("Keys of a field", "compare"), compared),
-        "docs/SETTINGS.md: words of key": (words_of_key("Keys of a part", "key"), words_of_tables(words, "key_words")),
+        "docs/SETTINGS.md: words of key": (words_of_key("Keys of a part", "key"), words_of_tables("KEYS")),
         "docs/SETTINGS.md: How two values compare": (
             [it for it in first_codes("docs/SETTINGS.md", "How two values compare") if it != "compare"],
             list(dict.fromkeys(it.split()[1] for it in compared)),
@@ -173,7 +205,6 @@ def limits_of_law() -> tuple[list[str], list[str]]:
 
 def lists() -> dict[str, tuple[list, list]]:
     """Each list by its name: what is shown, and what is wanted, both in order."""
-    words = settings_specs()
     found = {f"docs/SETTINGS.md: {head}": (first_codes("docs/SETTINGS.md", head), keys_under(head)) for head in HEADS}
     found["tests/second_implementation: Keys of the file"] = keys_of_second(), keys_under("Keys of the file")
     shown = [(row[1], code) for row in table_rows("docs/FAULTS.md", "The lines") for code in re.findall(r"^`([^`]*)`", row[0])]
@@ -183,11 +214,10 @@ def lists() -> dict[str, tuple[list, list]]:
     reasons = re.findall(r'^reason_text .*? = codes "(\w+) "', read("crates/link_core/specs/Verify.antt"), flags=re.M)
     said = [code.split()[1] for code in first_codes("docs/FAULTS.md", "What verify says") if code != "yes"]
     found["docs/FAULTS.md: What verify says"] = said, reasons
-    commands = [code.split()[0] for code in first_codes("README.md", "Commands")]
-    found["README.md: Commands"] = sorted(set(commands)), sorted(commands_of())
+    found |= {f"{path}: commands": (commands_in(path, head), sorted(commands_of())) for path, head in COMMANDS.items()}
     found["docs/SETTINGS.md: examples of other keys, or no TOML"] = key_examples(), []
     found["docs/SETTINGS.md: words that are not explained"] = unexplained_words(), []
-    found |= comparisons(words)
+    found |= comparisons()
     found["docs: limits that stand in no page"] = unwritten_limits(), []
     found["link_shell/specs/Limits.antt: limits"] = limits_of_law()
     found["docs/DEFINITIONS.md: files of definitions"] = sources.definitions()

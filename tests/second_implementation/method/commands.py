@@ -171,6 +171,10 @@ def generate(_: Held, number: str) -> Ended:
     return Ended(0, out=None)
 
 
+# The commands of a settings file alone.
+OF_SETTINGS = {it.__name__.strip("_"): it for it in (pairs, rule, open_, run, verify, migrate, duplicates)}
+
+
 def command_of(words: list[str]):
     """The command of which words are a form, if any."""
     kind, *rest = words or [""]
@@ -191,8 +195,7 @@ def command_of(words: list[str]):
         return review if len(rest) == 4 and is_name(rest[1]) and iso_date(rest[2]) and is_name(rest[3]) else None
     if kind == "many":
         return many if len(rest) == 2 and is_name(rest[1]) else None
-    others = {it.__name__.strip("_"): it for it in (pairs, rule, open_, run, verify, migrate, duplicates)}
-    return others.get(kind) if len(rest) == 1 else None
+    return OF_SETTINGS.get(kind) if len(rest) == 1 else None
 
 
 # What a command loads where nothing is refused, in this order, after its settings.
