@@ -2,6 +2,7 @@
 
 import ast
 import re
+import sys
 import tomllib
 
 import names
@@ -9,6 +10,10 @@ import sources
 from pages import ROOT, read
 from theorems import wrong_theorems
 from wrong_bodies import unrefused_bodies
+
+SECOND = ROOT / "tests/second_implementation"
+sys.path += [str(SECOND), str(SECOND / "method")]
+from mutations import FAULTS  # noqa: E402
 
 # What a piece of a fault's text is in the definitions, and in the manual.
 SPEC_PIECES = [
@@ -37,6 +42,8 @@ COMMANDS = {
     "packaging/linkage.1": None,
     "packaging/completion": None,
 }
+# The faults that no small input has: of a limit, of memory, of the output.
+OUT_OF_REACH = ["FileTooLong", "NoMemory", "Output", "PoolFull", "TooManyEntries", "TooManyPairs", "TooManyRows"]
 # Limits that no user meets.
 INNER_LIMITS = ["MOST_POOL_LIMIT", "MOST_PATTERNS"]
 
@@ -94,6 +101,11 @@ def is_of(line: str, template: str) -> bool:
     """Whether a line is a fault's text, whose words in capitals stand for anything."""
     words = re.split(r"(\W+)", template)
     return bool(re.fullmatch("".join(".+" if it.isupper() and it not in ("TOML", "UTF") else re.escape(it) for it in words), line))
+
+
+def unmade_faults() -> list[str]:
+    """The faults that no input of the second implementation is made to have."""
+    return sorted(name for name, (_, text) in faults_of_specs().items() if not any(is_of(made, text) for made in FAULTS))
 
 
 def commands_in(path: str, head: str | None) -> list[str]:
@@ -218,6 +230,7 @@ def lists() -> dict[str, tuple[list, list]]:
     found["docs/SETTINGS.md: examples of other keys, or no TOML"] = key_examples(), []
     found["docs/SETTINGS.md: words that are not explained"] = unexplained_words(), []
     found |= comparisons()
+    found["tests/second_implementation: faults that no input has"] = unmade_faults(), OUT_OF_REACH
     found["docs: limits that stand in no page"] = unwritten_limits(), []
     found["link_shell/specs/Limits.antt: limits"] = limits_of_law()
     found["docs/DEFINITIONS.md: files of definitions"] = sources.definitions()
