@@ -21,7 +21,7 @@ use Rattle.block_passes.proofs.PartLemmas.{rows-by-part}
 use Rattle.block_passes.proofs.RowLemmas.{mapped-at}
 use Rattle.block_passes.specs.FilterLaws.{filter-agree}
 use Rattle.link_base.specs.Standard.{no_record, Record}
-use Rattle.link_base.specs.declared.plan.Part.{Part}
+use Rattle.value_forms.specs.declared.passes.Part.{Part}
 use Rattle.link_base.specs.declared.standard.Value.{Value}
 
 pass-long : (texts : List (List ℕ)) (row : List Value) (pass : List Part) → length (ids_in_pass texts row pass) ≡ length pass

@@ -7,7 +7,7 @@ use Rattle.block_passes.specs.Index.{row_at, rows_with_key}
 use Rattle.block_passes.specs.CodedRows.{code_of_row}
 use Rattle.block_passes.proofs.CodeLemmas.{code-same}
 use Rattle.block_passes.specs.FilterLaws.{filter-agree}
-use Rattle.link_base.specs.declared.plan.Part.{Part}
+use Rattle.value_forms.specs.declared.passes.Part.{Part}
 use Rattle.link_base.specs.Standard.{Record}
 
 pub rows-are-keys : (parts : List Part) (file : List Record) (key : Option (List (List ℕ))) → filter (λ j. same_text (key_code key) (code_of_row parts file j)) (range_with_len 0 (length file)) ≡ rows_with_key parts file key

@@ -5,7 +5,7 @@ use Rattle.std.proofs.Math.Seq.{get_or-append_seam}
 use Rattle.std.proofs.lemmas.Bool.{cases_lt}
 use Rattle.std.proofs.lemmas.List.{drop_more}
 use Rattle.link_base.specs.declared.standard.Value.{Value}
-use Rattle.link_base.specs.declared.plan.Part.{Part}
+use Rattle.value_forms.specs.declared.passes.Part.{Part}
 use Rattle.block_passes.specs.Codes.{coded_text, coded_texts, extended_code, key_code}
 use Rattle.block_passes.specs.Keys.{extended_key, joined_key, key_in_pass, no_part, part_key}
 use Rattle.block_passes.specs.Numbering.{AreNumbered, AreNumbers, IsNumbered, KeepNumbers, number_among}

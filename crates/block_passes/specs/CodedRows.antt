@@ -5,7 +5,7 @@ use Rattle.block_passes.specs.Codes.{key_code}
 use Rattle.block_passes.specs.Index.{row_at}
 use Rattle.block_passes.specs.Keys.{key_in_pass, same_text}
 use Rattle.link_base.specs.Standard.{Record}
-use Rattle.link_base.specs.declared.plan.Part.{Part}
+use Rattle.value_forms.specs.declared.passes.Part.{Part}
 
 -- the code of the key of the row at a position
 abbrev pub code_of_row : List Part → List Record → ℕ → Option (List ℕ)

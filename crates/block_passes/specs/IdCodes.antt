@@ -6,7 +6,7 @@ use Rattle.block_passes.specs.Ids.{id_key_in}
 use Rattle.block_passes.specs.Index.{row_at}
 use Rattle.block_passes.specs.declared.id_codes.TheConstants.{MOST_IDS}
 use Rattle.link_base.specs.Standard.{Record}
-use Rattle.link_base.specs.declared.plan.Part.{Part}
+use Rattle.value_forms.specs.declared.passes.Part.{Part}
 
 -- the first ids, 0 past the last of them
 abbrev pub padded : ℕ → List ℕ → List ℕ

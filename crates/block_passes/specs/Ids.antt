@@ -6,7 +6,7 @@ use Rattle.value_pool.specs.Texts.{IsHeld, place_among}
 use Rattle.block_passes.specs.Keys.{key_in_pass, no_part, part_key, same_text}
 use Rattle.block_passes.specs.Index.{row_at}
 use Rattle.link_base.specs.Standard.{Record}
-use Rattle.link_base.specs.declared.plan.Part.{Part}
+use Rattle.value_forms.specs.declared.passes.Part.{Part}
 use Rattle.link_base.specs.declared.standard.Value.{Value}
 
 -- each part of the key of a row stands among the texts, if it is present

@@ -5,7 +5,7 @@ use Rattle.std.specs.List.{range_with_len}
 use Rattle.block_passes.specs.Groups.{rows_with}
 use Rattle.block_passes.specs.Keys.{AreReadable, InRange, key_in_pass, same_key}
 use Rattle.link_base.specs.Standard.{no_record, Record}
-use Rattle.link_base.specs.declared.plan.Part.{Part}
+use Rattle.value_forms.specs.declared.passes.Part.{Part}
 use Rattle.link_base.specs.declared.standard.Value.{Value}
 
 -- the row at a position

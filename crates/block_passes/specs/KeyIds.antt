@@ -6,7 +6,7 @@ use Rattle.std.specs.List.{flat_map}
 use Rattle.value_pool.specs.Texts.{place_among}
 use Rattle.block_passes.specs.Keys.{part_key}
 use Rattle.link_base.specs.Standard.{Record}
-use Rattle.link_base.specs.declared.plan.Part.{Part}
+use Rattle.value_forms.specs.declared.passes.Part.{Part}
 use Rattle.link_base.specs.declared.standard.Value.{Value}
 
 -- the id of the part of a key that a row has

@@ -3,8 +3,8 @@ use Rattle.std.specs.Prelude.{◌<◌, ℕ, List, [], ◌∷◌, ◌++◌, lengt
 use Rattle.std.specs.Cmp.Lexicographic.{pointwise}
 use Rattle.link_base.specs.Standard.{absent_value}
 use Rattle.link_base.specs.declared.standard.Value.{Value}
-use Rattle.link_base.specs.declared.plan.Part.{Part}
-use Rattle.link_base.specs.declared.plan.Canon.TheVariants.{Whole}
+use Rattle.value_forms.specs.declared.passes.Part.{Part}
+use Rattle.value_forms.specs.declared.canons.Canon.TheVariants.{Whole}
 pub use Rattle.value_forms.specs.Canons.{IsReadable, canon_by}
 
 -- the part of a key that a row has

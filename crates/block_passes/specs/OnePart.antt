@@ -3,7 +3,7 @@ use Rattle.std.specs.Prelude.{ℕ, List, Option, slice_index_or}
 use Rattle.block_passes.specs.Index.{row_at}
 use Rattle.block_passes.specs.Keys.{no_part, part_key}
 use Rattle.link_base.specs.Standard.{Record}
-use Rattle.link_base.specs.declared.plan.Part.{Part}
+use Rattle.value_forms.specs.declared.passes.Part.{Part}
 
 -- the first part of the key of the row at a position
 abbrev pub part_at : List Part → List Record → ℕ → Option (List ℕ)

@@ -9,7 +9,7 @@ use Rattle.block_passes.specs.KeyIds.{ids_in_pass}
 use Rattle.block_passes.specs.Numbering.{no_number}
 use Rattle.block_passes.specs.declared.id_codes.TheConstants.{MOST_IDS}
 use Rattle.link_base.specs.Standard.{Record}
-use Rattle.link_base.specs.declared.plan.Part.{Part}
+use Rattle.value_forms.specs.declared.passes.Part.{Part}
 
 -- so many ids of each row, the first of them `start` places after the row's first
 abbrev pub rows_in_pass : List (Option ℕ) → ℕ → ℕ → ℕ → ℕ → List (List (Option ℕ))

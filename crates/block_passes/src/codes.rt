@@ -4,9 +4,9 @@ ghost use Rattle.block_passes.specs.Codes.{coded_text, has_marked, is_marked, ke
 ghost use Rattle.block_passes.specs.Keys.{AreReadable, InRange, key_in_pass};
 
 use crate::parts::part_text;
-use link_base::{NoMemory, Pass, Row};
+use link_base::{NoMemory, Row};
 use std::alloc::Global;
-use value_forms::bytes_of;
+use value_forms::{Pass, bytes_of};
 
 // Whether a byte is marked.
 fn is_marked(byte: u8) -> bool

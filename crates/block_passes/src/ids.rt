@@ -4,15 +4,15 @@ ghost use Rattle.value_pool.specs.Texts.{IsHeld, place_among};
 ghost use Rattle.block_passes.specs.IdCodes.{coded_ids};
 ghost use Rattle.block_passes.specs.Ids.{AreHeld, id_key_in, same_ids};
 ghost use Rattle.block_passes.specs.Keys.{AreReadable, InRange, IsPartReadable, key_in_pass, part_key, same_key};
-ghost use Rattle.link_base.specs.declared.plan.Part.{Part as KeyPart};
+ghost use Rattle.value_forms.specs.declared.passes.Part.{Part as KeyPart};
 ghost use Rattle.link_base.specs.declared.standard.Value.{Value};
 
 use crate::id_codes::code_of_ids;
 use crate::parts::part_text;
-use link_base::{NoMemory, Part, Pass, Row};
+use link_base::{NoMemory, Row};
 use std::alloc::Global;
 use std::marker::Model;
-use value_forms::bytes_of;
+use value_forms::{Part, Pass, bytes_of};
 use value_pool::{Id, Pool};
 
 /// The key of a row in a pass as ids, which contracts see as the list of them, one a part.

@@ -18,7 +18,8 @@ use crate::numbering::Numbering;
 use crate::part_ids::KeyedPool;
 use crate::part_numbers::part_numbers;
 use crate::pass_ids::PassIds;
-use link_base::{NoMemory, Pass, PassList, StdFile};
+use link_base::{NoMemory, StdFile};
+use value_forms::{Pass, PassList};
 use std::alloc::Global;
 use std::marker::Model;
 

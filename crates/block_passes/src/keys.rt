@@ -5,10 +5,10 @@ ghost use Rattle.block_passes.specs.Keys.{AreReadable, InRange, IsPartReadable, 
 
 use crate::codes::push_text;
 use crate::parts::part_text;
-use link_base::{NoMemory, Part, Pass, Row, Text};
+use link_base::{NoMemory, Row, Text};
 use std::alloc::Global;
 use std::marker::Model;
-use value_forms::bytes_of;
+use value_forms::{Part, Pass, bytes_of};
 
 /// The key of a row in a pass, which contracts see as the list of its texts, one a part.
 #[derive(Drop)]

@@ -7,7 +7,8 @@ ghost use Rattle.block_passes.specs.Keys.{AreReadable, InRange};
 
 use crate::ids::part_id;
 use crate::pass_ids::count_parts;
-use link_base::{NoMemory, Pass, PassList, Row, StdFile};
+use link_base::{NoMemory, Row, StdFile};
+use value_forms::{Pass, PassList};
 use std::alloc::Global;
 use value_pool::{MaybeId, Pool};
 

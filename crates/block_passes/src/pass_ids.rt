@@ -3,7 +3,7 @@ ghost use Rattle.std.specs.Prelude.{◌≡◌, ◌<◌, ◌*◌, ◌^◌, ◌-�
 ghost use Rattle.block_passes.specs.KeyIds.{parts_in};
 ghost use Rattle.block_passes.specs.PassIds.{rows_in_pass};
 
-use link_base::Pass;
+use value_forms::Pass;
 use std::marker::Model;
 use value_pool::MaybeId;
 

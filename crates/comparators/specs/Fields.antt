@@ -2,8 +2,8 @@
 -- `Comparator` for both carry its outcome (member `outcome_of`).
 use Rattle.std.specs.Prelude.{Bool, true, false, Option, Some, None, is_some, ℕ, ℤ, pos, ◌<◌, length, ⊤}
 use Rattle.link_base.specs.declared.rule.Outcome.{Outcome}
-use Rattle.link_base.specs.declared.plan.CompareKind.{CompareKind}
-use Rattle.link_base.specs.declared.plan.CompareKind.TheVariants as compare
+use Rattle.value_forms.specs.declared.canons.CompareKind.{CompareKind}
+use Rattle.value_forms.specs.declared.canons.CompareKind.TheVariants as compare
 use Rattle.link_base.specs.declared.standard.Value.{Value}
 use Rattle.link_base.specs.Standard.{IsDay}
 use Rattle.value_forms.specs.Days.{year_of_day}

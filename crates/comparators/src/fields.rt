@@ -6,7 +6,8 @@ ghost use Rattle.comparators.specs.Fields.{kind_laws, kind_of, kind_outcome, kin
 use crate::comparator::Comparator;
 use crate::days::{DaysWithin, YearsWithin};
 use crate::words::{Initials, SameCanon};
-use link_base::{CompareKind, Outcome, Value};
+use link_base::{Outcome, Value};
+use value_forms::CompareKind;
 
 /// A kind of comparison of values.
 #[derive(Clone, Copy, PartialEq, Eq)]

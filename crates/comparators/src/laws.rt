@@ -1,6 +1,6 @@
 // What the outcomes of ids say of the values that they stand for.
 ghost use Rattle.std.specs.Prelude.{◌≡◌, List, ℕ, Some, slice_get, slice_index, nat_le};
-ghost use Rattle.link_base.specs.declared.plan.CompareKind.{CompareKind};
+ghost use Rattle.value_forms.specs.declared.canons.CompareKind.{CompareKind};
 ghost use Rattle.link_base.specs.declared.standard.Value.{Value};
 ghost use Rattle.comparators.specs.Fields.{field_of, field_outcome, kind_of, kind_outcome};
 ghost use Rattle.comparators.specs.Laws.{outcome_by, outcome_of_ids, outcome_of_counted, outcome_of_texts};

@@ -7,9 +7,9 @@ ghost use Rattle.value_forms.specs.CanonTexts.{canon_bytes};
 ghost use Rattle.value_forms.specs.Canons.{canon_by, initials_canon};
 
 use crate::comparator::{Comparator, KeyComparator};
-use link_base::{Canon, NoMemory, Outcome, Text, Value};
+use link_base::{NoMemory, Outcome, Text, Value};
 use std::alloc::Global;
-use value_forms::{CanonText, bytes_of, canon_text, initials_text, same_initials};
+use value_forms::{Canon, CanonText, bytes_of, canon_text, initials_text, same_initials};
 
 /// The outcome of two present sides.
 pub(crate) fn agree_if(alike: bool) -> Outcome

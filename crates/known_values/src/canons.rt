@@ -2,7 +2,8 @@
 ghost use Rattle.link_base.specs.Standard.{IsValid};
 
 use comparators::{Initials, KeyComparator, SameCanon};
-use link_base::{Canon, NoMemory, Text, Value};
+use link_base::{NoMemory, Text, Value};
+use value_forms::Canon;
 use std::alloc::Global;
 
 fn is_text(canon: Result<Option<Text>, NoMemory>, wanted: &[u8]) -> bool {
@@ -24,7 +25,7 @@ fn has_canons(alloc: Global, name: &Value) -> bool
     has_canon(alloc, name, Canon::Whole, b"KNUTH")
         && has_canon(alloc, name, Canon::Soundex, b"K530")
         && has_canon(alloc, name, Canon::Nysiis, b"NAT")
-        && has_canon(alloc, name, Canon::FirstLetters(3), b"KNU")
+        && has_canon(alloc, name, Canon::Letters(End::Front, 3), b"KNU")
         && is_text(Initials.canon(alloc, name), b"K")
 }
 

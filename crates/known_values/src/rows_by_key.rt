@@ -1,7 +1,8 @@
 // Indexes by keys, keys of rows and their ids, and lists of compared pairs have the memory that they want; the commands walk by
 // lists of rows.
 use block_passes::{build_index, build_index_in, id_key, key_ids, pass_key};
-use link_base::{IdSet, NoMemory, Pass, PassList, RowsWriter, StdFile};
+use link_base::{IdSet, NoMemory, RowsWriter, StdFile};
+use value_forms::{Pass, PassList};
 use pair_walk::{walk, walk_in};
 use std::alloc::Global;
 use value_pool::Pool;

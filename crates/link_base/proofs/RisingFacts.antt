@@ -4,7 +4,6 @@ use Rattle.std.specs.Prelude.{All, IsTrue, if◌then◌else◌, slice_get}
 use Rattle.std.proofs.lemmas.Bool.{cases_Bool, false≢true}
 use Rattle.std.proofs.lemmas.Bool.Decides.{nat_tests}
 use Rattle.std.proofs.lemmas.List.{ext_get_or, get_or-take, get_or_default, length-take, take_more}
-use Rattle.std.proofs.lemmas.List.Quantifiers.{all_pairs_push}
 use Rattle.std.proofs.lemmas.Option.{get_or_from_slice_get, slice_get-get_or, slice_get_within}
 use Rattle.link_base.specs.Ids.{AreDistinct, position_among}
 use Rattle.link_base.specs.RisingIds.{AreRising, comes_before, is_lesser}
@@ -152,10 +151,6 @@ after_last ids id rising some h k d within =
   where
     at_last : nat_lt k (length ids - 1) ≡ false → k ≡ length ids - 1
     at_last e = let past : length ids - 1 < k + 1 = grind (arith, nat_tests, e) in omega (arith, past, within)
-
--- what comes after each of them is put behind them
-pub still_rising : (ids : List (List ℕ)) (id : List ℕ) → AreRising ids → All (λ (held : List ℕ). IsTrue (comes_before held id)) ids → AreRising (ids ++ id ∷ [])
-still_rising ids id rising after = all_pairs_push (λ (x y : List ℕ). IsTrue (comes_before x y)) ids id rising after
 
 -- the next of them is not among the ones before it
 pub next_is_new : (ids : List (List ℕ)) (at : ℕ) → AreRising ids → at < length ids → stands_among (take at ids) (get_or ids at []) ≡ false

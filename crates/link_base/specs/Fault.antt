@@ -1,5 +1,5 @@
--- The statuses and lines of the faults (`status_of`), and answers that may be refused by one (every clause `answer`).
-use Rattle.std.specs.Prelude.{Bool, true, false, Option, Some, None, Result, ⊤, ℕ, List, ◌++◌, codes, decimal}
+-- The exit statuses and texts of the faults (`push_fault`, clause `text`), and answers that may be refused by one (every clause `answer`).
+use Rattle.std.specs.Prelude.{Bool, true, false, Option, Some, None, Result, ℕ, List, ◌++◌, codes, decimal}
 use Rattle.link_base.specs.Answers.{GivesBut, RefusesBut}
 use Rattle.link_base.specs.declared.fault.Fault.{Fault}
 use Rattle.link_base.specs.declared.fault.Fault.TheVariants as fault

@@ -1,6 +1,5 @@
 pub mod Answers
 pub mod AnswerLaws
-pub mod Canons
 pub mod Fault
 pub mod Pieces
 pub mod Ids

@@ -20,7 +20,7 @@ mod tables;
 pub use fault::{Fault, FileRole, push_fault, status_of};
 pub use ids::IdSet;
 pub use link_texts::{NoMemory, Text, TextList, push_number};
-pub use plan::{Canon, CompareKind, DateForm, FieldSort, Part, Pass, PassList};
+pub use plan::{DateForm, FieldSort};
 pub use region::TextRegion;
 pub use row::{Row, ValueRef};
 pub use rows::StdRows;

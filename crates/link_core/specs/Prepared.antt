@@ -7,7 +7,7 @@ use Rattle.link_base.specs.declared.fault.Fault.{Fault}
 use Rattle.link_base.specs.declared.fault.Fault.TheVariants as fault
 use Rattle.link_base.specs.declared.fault.FileRole.{FileRole}
 use Rattle.link_base.specs.declared.fault.FileRole.TheVariants as role
-use Rattle.link_base.specs.declared.plan.CompareKind.{CompareKind}
+use Rattle.value_forms.specs.declared.canons.CompareKind.{CompareKind}
 use Rattle.comparators.specs.Rows.{IdRows}
 use Rattle.value_pool.specs.declared.pool.PoolFault.{PoolFault}
 use Rattle.value_pool.specs.declared.pool.PoolFault.TheVariants as pool

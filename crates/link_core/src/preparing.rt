@@ -10,7 +10,8 @@ ghost use Rattle.link_plan.specs.Ranges.{KeepsRanges};
 ghost use Rattle.standard_files.specs.Files.{AreOfPlan};
 
 use comparators::IdTable;
-use link_base::{CompareKind, Fault, FileRole, NoMemory, PassList, StdFile, Text};
+use link_base::{Fault, FileRole, NoMemory, StdFile, Text};
+use value_forms::{CompareKind, PassList};
 use link_limits::{MOST_FIELDS, MOST_POOL_LIMIT};
 use link_plan::Plan;
 use pair_walk::Blocks;

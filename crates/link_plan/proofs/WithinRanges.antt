@@ -3,11 +3,11 @@ use Rattle.std.proofs.Common.{◌≡◌, ◌≢◌, ℕ, ◌<◌, List, ◌∷�
 use Rattle.std.specs.Prelude.{All, IfSome, Option, is_some, option_to_list}
 use Rattle.std.proofs.lemmas.List.{get_or-map, length-map}
 use Rattle.std.proofs.lemmas.List.Elements.{All-cons, All-head, All-map, All-tail, All-weaker}
-use Rattle.link_base.specs.declared.plan.Canon.{Canon}
-use Rattle.link_base.specs.declared.plan.CompareKind.{CompareKind}
+use Rattle.value_forms.specs.declared.canons.Canon.{Canon}
+use Rattle.value_forms.specs.declared.canons.CompareKind.{CompareKind}
 use Rattle.link_base.specs.declared.plan.FieldSort.{FieldSort}
 use Rattle.link_base.specs.declared.plan.FieldSort.TheVariants as sort
-use Rattle.link_base.specs.declared.plan.Part.{Part}
+use Rattle.value_forms.specs.declared.passes.Part.{Part}
 use Rattle.link_plan.specs.Plan.{FieldKeys}
 use Rattle.link_plan.specs.Ranges.{AreFiles, HaveDistinctNames, IsField, IsPart, IsPass, KeepsRanges, NamesFiles, files_read, has_comparison, is_keyed}
 use Rattle.link_plan.specs.Within.{field_within, plan_within, sort_within}

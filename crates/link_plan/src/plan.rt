@@ -3,7 +3,8 @@ ghost use Rattle.std.specs.Prelude.{◌≡◌, ◌≤◌, IfOk, length, is_some,
 
 use crate::terms::Terms;
 use crate::within::plan_within;
-use link_base::{CompareKind, FieldShares, FieldSort, NoMemory, PassList, Shape, Tables, Text};
+use link_base::{FieldShares, FieldSort, NoMemory, Shape, Tables, Text};
+use value_forms::{CompareKind, PassList};
 use link_limits::MOST_FIELDS;
 use std::alloc::Global;
 use std::marker::Model;

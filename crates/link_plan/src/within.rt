@@ -3,7 +3,8 @@ ghost use Rattle.std.specs.Prelude.{◌≡◌, IfOk, map};
 ghost use Rattle.link_plan.specs.Within.{field_within, plan_within, sort_within};
 
 use crate::plan::{FieldList, FieldPlan, Plan};
-use link_base::{FieldSort, NoMemory, Pass, PassList, Tables, Text, TextList, WordPair, WordPairs};
+use link_base::{FieldSort, NoMemory, Tables, Text, TextList, WordPair, WordPairs};
+use value_forms::{Pass, PassList};
 use std::alloc::Global;
 
 // Dates have the form of A on both sides.

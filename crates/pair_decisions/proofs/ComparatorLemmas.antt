@@ -6,9 +6,9 @@ use Rattle.std.proofs.Math.ListN.{get_or-append}
 use Rattle.std.proofs.Math.Seq.{get_or-append_seam}
 use Rattle.std.proofs.lemmas.Bool.{cases_lt}
 use Rattle.std.proofs.lemmas.List.{get_or_default}
-use Rattle.link_base.specs.Canons.{exact}
-use Rattle.link_base.specs.declared.plan.CompareKind.{CompareKind}
-use Rattle.link_base.specs.declared.plan.CompareKind.TheVariants as by
+use Rattle.value_forms.specs.Canons.{exact}
+use Rattle.value_forms.specs.declared.canons.CompareKind.{CompareKind}
+use Rattle.value_forms.specs.declared.canons.CompareKind.TheVariants as by
 use Rattle.link_base.specs.declared.plan.FieldSort.TheVariants as sort
 use Rattle.comparators.specs.Fields.{IsCounted, IsFieldSide, field_of, field_rare}
 use Rattle.comparators.specs.declared.ids.FieldById.{FieldById}

@@ -3,7 +3,7 @@ use Rattle.std.proofs.Common.{◌≡◌, ◌+◌, ◌<◌, ℕ, suc, Bool, true,
 use Rattle.std.specs.Prelude.{MatchBool, slice_get}
 use Rattle.std.specs.List.{filter}
 use Rattle.link_base.specs.Standard.{Record, absent_value, no_record}
-use Rattle.link_base.specs.declared.plan.CompareKind.{CompareKind}
+use Rattle.value_forms.specs.declared.canons.CompareKind.{CompareKind}
 use Rattle.comparators.specs.OfPoolLaws.{ids_alike}
 use Rattle.comparators.specs.OfPool.{IsDayItself, NamesCanon}
 use Rattle.comparators.specs.declared.ids.IdValue.{IdValue}

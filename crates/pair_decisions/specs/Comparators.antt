@@ -3,7 +3,7 @@
 -- `comparisons_of` carries it (part `answers` of its lone clause).
 use Rattle.std.specs.Prelude.{◌≡◌, ◌+◌, ◌<◌, ◌==◌, ℕ, Bool, true, false, List, map, filter, length, Option, Some, None, slice_index, slice_index_or, is_some}
 use Rattle.std.specs.List.{enumerate_from, range_with_len}
-use Rattle.link_base.specs.declared.plan.CompareKind.{CompareKind}
+use Rattle.value_forms.specs.declared.canons.CompareKind.{CompareKind}
 use Rattle.link_base.specs.declared.rule.Outcome.{Outcome}
 use Rattle.comparators.specs.Fields.{field_of, field_outcome, field_rare, id_in}
 use Rattle.comparators.specs.Laws.{outcome_by, outcome_of_counted}

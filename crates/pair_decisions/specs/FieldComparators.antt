@@ -5,7 +5,7 @@
 use Rattle.std.specs.Prelude.{◌+◌, ℕ, Bool, true, false, List, map, filter, length, Option, Some, None, bytes_eq, nat_le, slice_index_or}
 use Rattle.std.specs.List.{enumerate_from}
 use Rattle.link_base.specs.Standard.{Record, absent_value}
-use Rattle.link_base.specs.declared.plan.CompareKind.{CompareKind}
+use Rattle.value_forms.specs.declared.canons.CompareKind.{CompareKind}
 use Rattle.link_base.specs.declared.rule.PairAt.{PairAt}
 use Rattle.link_base.specs.declared.rule.RuleCell.{RuleCell}
 use Rattle.link_base.specs.declared.standard.Value.{Value}

@@ -1,7 +1,7 @@
 -- Ids that stand for the values of two files: what the laws `rare_counts` and `same_patterns` ask of them.
 use Rattle.std.specs.Prelude.{◌≡◌, ◌<◌, ℕ, List, [], length, slice_index_or}
 use Rattle.link_base.specs.Standard.{Record, absent_value, no_record}
-use Rattle.link_base.specs.declared.plan.CompareKind.{CompareKind}
+use Rattle.value_forms.specs.declared.canons.CompareKind.{CompareKind}
 use Rattle.comparators.specs.OfPool.{StandsFor}
 use Rattle.comparators.specs.declared.ids.IdValue.{IdValue}
 use Rattle.comparators.specs.declared.ids.IdValue.TheVariants as id

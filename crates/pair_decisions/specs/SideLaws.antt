@@ -5,8 +5,8 @@ use Rattle.std.specs.Prelude.{MatchBool, is_some, replicate}
 use Rattle.std.proofs.lemmas.List.{get_or-map, length-map, take-append-le, take_all}
 use Rattle.std.proofs.lemmas.Option.{slice_get_within}
 use Rattle.link_base.specs.Standard.{absent_value}
-use Rattle.link_base.specs.declared.plan.CompareKind.{CompareKind}
-use Rattle.link_base.specs.Canons.{exact}
+use Rattle.value_forms.specs.declared.canons.CompareKind.{CompareKind}
+use Rattle.value_forms.specs.Canons.{exact}
 use Rattle.link_base.specs.declared.shares.Shape.{Shape}
 use Rattle.link_base.specs.declared.standard.Value.{Value}
 use Rattle.comparators.specs.Fields.{IsFieldSide, field_of}

@@ -2,7 +2,7 @@
 ghost use Rattle.std.specs.Prelude.{◌≡◌, ◌+◌, ◌<◌, List, Ok, Some, false, length, slice_get, ℕ};
 ghost use Rattle.comparators.specs.declared.ids.IdValue.{IdValue};
 ghost use Rattle.link_base.specs.Standard.{Record};
-ghost use Rattle.link_base.specs.declared.plan.CompareKind.{CompareKind};
+ghost use Rattle.value_forms.specs.declared.canons.CompareKind.{CompareKind};
 ghost use Rattle.link_base.specs.declared.rule.PairAt.{PairAt};
 ghost use Rattle.link_base.specs.declared.rule.RuleCell.{RuleCell};
 ghost use Rattle.link_base.specs.declared.shares.FieldShares.{FieldShares};

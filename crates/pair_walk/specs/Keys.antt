@@ -3,7 +3,7 @@ pub use Rattle.block_passes.specs.Keys.{key_in_pass, same_key, same_text}
 use Rattle.std.specs.Prelude.{List, Bool}
 use Rattle.std.specs.List.{list_any}
 use Rattle.link_base.specs.declared.standard.Value.{Value}
-use Rattle.link_base.specs.declared.plan.Part.{Part}
+use Rattle.value_forms.specs.declared.passes.Part.{Part}
 
 -- in some pass both keys are present and equal
 abbrev pub share_key : List (List Part) → List Value → List Value → Bool

@@ -4,7 +4,7 @@ use Rattle.std.specs.List.{range_with_len}
 use Rattle.std.proofs.lemmas.Bool.{cases_Bool}
 use Rattle.std.proofs.lemmas.List.Elements.{filter-append}
 use Rattle.link_base.specs.Standard.{Record}
-use Rattle.link_base.specs.declared.plan.Part.{Part}
+use Rattle.value_forms.specs.declared.passes.Part.{Part}
 use Rattle.link_base.specs.declared.rule.PairAt.{PairAt}
 use Rattle.pair_walk.specs.Pairs.{compared_pairs, is_compared, pair, pairs_of_row, pairs_of_rows, product_from}
 use Rattle.pair_walk.specs.Rows.{all_rows, rows_from}

@@ -2,7 +2,7 @@
 -- `walk_in` carry it (their lone clauses), and `rows_joined` for the rows of a walker.
 use Rattle.std.specs.Prelude.{ℕ, zero, suc, ◌+◌, List, [], ◌∷◌, ◌++◌, length, filter, map, Bool}
 use Rattle.block_passes.specs.Index.{row_at}
-use Rattle.link_base.specs.declared.plan.Part.{Part}
+use Rattle.value_forms.specs.declared.passes.Part.{Part}
 use Rattle.link_base.specs.Standard.{Record}
 use Rattle.link_base.specs.declared.rule.PairAt.{PairAt}
 use Rattle.pair_walk.specs.Keys.{share_key}

@@ -6,7 +6,7 @@ pub use Rattle.block_passes.specs.Ids.{AreKeysHeld}
 pub use Rattle.block_passes.specs.Index.{AreAllReady}
 use Rattle.block_passes.specs.Index.{row_at}
 use Rattle.link_base.specs.Standard.{Record}
-use Rattle.link_base.specs.declared.plan.Part.{Part}
+use Rattle.value_forms.specs.declared.passes.Part.{Part}
 use Rattle.pair_walk.specs.Keys.{share_key}
 
 -- the positions of B that share a key with the row of A, rising

@@ -4,7 +4,8 @@ ghost use Rattle.pair_walk.specs.Rows.{AreAllReady};
 ghost use Rattle.pair_walk.specs.Joining.{AreFoundRows, AreKeyed, ArePassRows};
 
 use block_passes::{KeyedPool, PassRows};
-use link_base::{NoMemory, Part, Pass, PassList, StdFile};
+use link_base::{NoMemory, StdFile};
+use value_forms::{Part, Pass, PassList};
 use std::alloc::Global;
 
 fn same_parts(p: &[Part], q: &[Part]) -> bool

@@ -1,7 +1,7 @@
 // The list of the compared pairs.
 ghost use Rattle.std.specs.Prelude.{◌≡◌, ◌≤◌, ◌++◌, map, length, List, IfOk, OnOk};
 ghost use Rattle.link_base.specs.Standard.{Record};
-ghost use Rattle.link_base.specs.declared.plan.Part.{Part};
+ghost use Rattle.value_forms.specs.declared.passes.Part.{Part};
 ghost use Rattle.pair_walk.specs.Pairs.{compared_pairs, pair, pairs_of_rows};
 ghost use Rattle.pair_walk.specs.Rows.{AreAllReady, AreKeysHeld, all_rows};
 ghost use Rattle.pair_walk.specs.Walk.{GivesPairs};
@@ -10,7 +10,8 @@ use crate::blocks::Blocks;
 use crate::fault::WalkFault;
 use crate::walker::{RowPairs, Walker};
 use block_passes::key_ids;
-use link_base::{NoMemory, PairAt, PassList, StdFile};
+use link_base::{NoMemory, PairAt, StdFile};
+use value_forms::PassList;
 use std::alloc::Global;
 use std::marker::Model;
 use value_pool::Pool;

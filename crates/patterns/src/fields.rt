@@ -9,7 +9,8 @@ ghost use Rattle.patterns.specs.Patterns.{outcomes, pattern_of};
 
 use crate::numbers::pattern_over;
 use comparators::FieldKind;
-use link_base::{CompareKind, NoMemory, Value};
+use link_base::{NoMemory, Value};
+use value_forms::CompareKind;
 use link_limits::MOST_FIELDS;
 use std::alloc::Global;
 use std::marker::Model;

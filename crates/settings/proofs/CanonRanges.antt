@@ -4,11 +4,12 @@ use Rattle.std.specs.List.{list_all}
 use Rattle.std.specs.Prelude.{is_some, IfSome, None, Option}
 use Rattle.std.proofs.lemmas.Bool.{false≢true, le-leb}
 use Rattle.toml.specs.Data.{Members}
-use Rattle.link_base.specs.Canons.{letters_of, with_letters}
-use Rattle.link_base.specs.declared.plan.Canon.{Canon}
-use Rattle.link_base.specs.declared.plan.Canon.TheVariants as canon
-use Rattle.link_base.specs.declared.plan.CompareKind.{CompareKind}
-use Rattle.link_base.specs.declared.plan.CompareKind.TheVariants as by
+use Rattle.value_forms.specs.Canons.{letters_of, with_letters}
+use Rattle.value_forms.specs.declared.canons.Canon.{Canon}
+use Rattle.value_forms.specs.declared.canons.Canon.TheVariants as canon
+use Rattle.value_forms.specs.declared.canons.End.{End}
+use Rattle.value_forms.specs.declared.canons.CompareKind.{CompareKind}
+use Rattle.value_forms.specs.declared.canons.CompareKind.TheVariants as by
 use Rattle.link_base.specs.declared.plan.FieldSort.{FieldSort}
 use Rattle.link_base.specs.declared.plan.FieldSort.TheVariants as sort
 use Rattle.settings_readers.specs.KeptLaws.{choice_keeps, IsWithin, Keeps, keeps_so, keeps_value, named_passes, needed_keeps, next_keeps, optional_keeps, then_keeps, whole_keeps, without_both_keeps, without_keeps}
@@ -25,20 +26,20 @@ use Rattle.settings.specs.Words.{compare_named, comparisons, key_named, key_word
 abbrev Numbered : (Canon → Bool) → Canon → Type 0
 Numbered has c = (n : ℕ) → IsWithin 1 MOST_LETTERS n → has (with_letters n c) ≡ true
 
-letters_fit : (n : ℕ) → IsWithin 1 MOST_LETTERS n → is_of_words (canon.FirstLetters n) ≡ true
-letters_fit n r = rw (le-leb 1 n r.0, le-leb n MOST_LETTERS r.1)
+letters_fit : (end : End) (n : ℕ) → IsWithin 1 MOST_LETTERS n → is_of_words (canon.Letters end n) ≡ true
+letters_fit end n r = rw (le-leb 1 n r.0, le-leb n MOST_LETTERS r.1)
 
 words_numbered : (c : Canon) → is_of_words c ≡ true → Numbered is_of_words c
-words_numbered (canon.FirstLetters m) h n r = letters_fit n r
+words_numbered (canon.Letters end m) h n r = letters_fit end n r
 words_numbered c h n r = h
 
 keys_numbered : (s : FieldSort) (c : Canon) → is_keyed s c ≡ true → Numbered (is_keyed s) c
-keys_numbered (sort.Date a b) (canon.FirstLetters m) h n r = absurd (false≢true h)
+keys_numbered (sort.Date a b) (canon.Letters end m) h n r = absurd (false≢true h)
 keys_numbered (sort.Date a b) c h n r = h
 keys_numbered s c h n r = words_numbered c h n r
 
 compares_numbered : (s : FieldSort) (c : Canon) → has_comparison s (by.Same c) ≡ true → Numbered (λ d. has_comparison s (by.Same d)) c
-compares_numbered (sort.Date a b) (canon.FirstLetters m) h n r = absurd (false≢true h)
+compares_numbered (sort.Date a b) (canon.Letters end m) h n r = absurd (false≢true h)
 compares_numbered (sort.Date a b) c h n r = h
 compares_numbered s c h n r = words_numbered c h n r
 

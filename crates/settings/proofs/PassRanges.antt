@@ -8,7 +8,7 @@ use Rattle.std.proofs.lemmas.List.Elements.{All-nil, All-push}
 use Rattle.toml.specs.Data.{Members}
 use Rattle.link_texts.specs.Texts.{stands_among}
 use Rattle.link_base.specs.declared.plan.FieldSort.{FieldSort}
-use Rattle.link_base.specs.declared.plan.Part.{Part}
+use Rattle.value_forms.specs.declared.passes.Part.{Part}
 use Rattle.settings_readers.specs.KeptLaws.{array_keeps, choice_keeps, Keeps, keeps_so, keeps_value, needed_keeps, next_keeps, on_table_keeps, Reads, then_keeps}
 use Rattle.settings_readers.specs.Parts.{needed, known}
 use Rattle.settings_readers.specs.Values.{choice}

@@ -8,7 +8,7 @@ use Rattle.std.proofs.lemmas.List.Elements.{All-from_recursion}
 use Rattle.std.proofs.lemmas.Slice.Eq.{bytes_eq-Decides}
 use Rattle.toml.specs.Data.{Members}
 use Rattle.link_texts.specs.Texts.{stands_among}
-use Rattle.link_base.specs.declared.plan.Part.{Part}
+use Rattle.value_forms.specs.declared.passes.Part.{Part}
 use Rattle.link_base.specs.Tables.{AreWordPairs}
 use Rattle.link_limits.specs.declared.TheConstants.{MOST_FIELDS}
 use Rattle.settings_readers.specs.declared.fault.KeyFault.{KeyFault}

@@ -2,8 +2,8 @@
 use Rattle.std.specs.Prelude.{List, ℕ, codes, is_some, Result, Ok, if◌then◌else◌}
 use Rattle.toml.specs.Data.{Members}
 use Rattle.settings_readers.specs.declared.fault.KeyFault.{KeyFault}
-use Rattle.link_base.specs.declared.plan.Canon.{Canon}
-use Rattle.link_base.specs.Canons.{letters_of, with_letters}
+use Rattle.value_forms.specs.declared.canons.Canon.{Canon}
+use Rattle.value_forms.specs.Canons.{letters_of, with_letters}
 use Rattle.link_plan.specs.declared.limits.TheConstants.{MOST_LETTERS}
 use Rattle.settings_readers.specs.Parts.{◌>>=◌, needed, without}
 use Rattle.settings_readers.specs.Values.{whole}

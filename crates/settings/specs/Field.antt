@@ -10,9 +10,9 @@ use Rattle.link_texts.specs.Texts.{stands_among}
 use Rattle.settings_readers.specs.declared.fault.KeyFault.{KeyFault}
 use Rattle.link_base.specs.declared.plan.FieldSort.{FieldSort}
 use Rattle.link_base.specs.declared.plan.FieldSort.TheVariants as sort
-use Rattle.link_base.specs.declared.plan.Canon.{Canon}
-use Rattle.link_base.specs.declared.plan.CompareKind.{CompareKind}
-use Rattle.link_base.specs.declared.plan.CompareKind.TheVariants as by
+use Rattle.value_forms.specs.declared.canons.Canon.{Canon}
+use Rattle.value_forms.specs.declared.canons.CompareKind.{CompareKind}
+use Rattle.value_forms.specs.declared.canons.CompareKind.TheVariants as by
 use Rattle.link_base.specs.Shares.{outcomes_of}
 use Rattle.settings_readers.specs.Parts.{◌>>=◌, typed, ranged, in_range, needed, needed_both, optional, defaulted_both, absent, without, without_both, known}
 use Rattle.settings_readers.specs.Values.{choice, whole, magnitude}

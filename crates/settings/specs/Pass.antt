@@ -5,9 +5,9 @@ use Rattle.std.specs.Str.{bytes_eq}
 use Rattle.toml.specs.Data.{Data, Members}
 use Rattle.link_texts.specs.Texts.{stands_among}
 use Rattle.settings_readers.specs.declared.fault.KeyFault.{KeyFault}
-use Rattle.link_base.specs.declared.plan.Canon.{Canon}
+use Rattle.value_forms.specs.declared.canons.Canon.{Canon}
 use Rattle.link_base.specs.declared.plan.FieldSort.{FieldSort}
-use Rattle.link_base.specs.declared.plan.Part.{Part}
+use Rattle.value_forms.specs.declared.passes.Part.{Part}
 use Rattle.link_plan.specs.Plan.{FieldKeys}
 use Rattle.link_plan.specs.declared.limits.TheConstants.{MOST_PARTS, MOST_PASSES}
 use Rattle.settings_readers.specs.Parts.{◌>>=◌, needed, known}

@@ -8,7 +8,7 @@ use Rattle.toml.specs.Parse.{parse_document}
 use Rattle.link_texts.specs.Texts.{stands_among}
 use Rattle.link_base.specs.declared.fault.Fault.{Fault}
 use Rattle.link_base.specs.declared.fault.Fault.TheVariants as fault
-use Rattle.link_base.specs.declared.plan.Part.{Part}
+use Rattle.value_forms.specs.declared.passes.Part.{Part}
 use Rattle.link_base.specs.declared.tables.Tables.{Tables}
 use Rattle.link_base.specs.Tables.{missing_marks, name_titles, name_suffixes}
 use Rattle.settings_readers.specs.declared.fault.KeyFault.{KeyFault}

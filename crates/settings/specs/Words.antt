@@ -1,9 +1,9 @@
 -- The words that name choices (the `Choices` of src/words.rt, by the clause of `Choices::named`).
 use Rattle.std.specs.Prelude.{List, ℕ, [], ◌∷◌, codes, Option}
-use Rattle.link_base.specs.declared.plan.Canon.{Canon}
-use Rattle.link_base.specs.declared.plan.Canon.TheVariants as canon
-use Rattle.link_base.specs.declared.plan.CompareKind.{CompareKind}
-use Rattle.link_base.specs.declared.plan.CompareKind.TheVariants as by
+use Rattle.value_forms.specs.declared.canons.Canon.{Canon}
+use Rattle.value_forms.specs.declared.canons.Canon.TheVariants as canon
+use Rattle.value_forms.specs.declared.canons.CompareKind.{CompareKind}
+use Rattle.value_forms.specs.declared.canons.CompareKind.TheVariants as by
 use Rattle.link_base.specs.declared.plan.DateForm.{DateForm}
 use Rattle.link_base.specs.declared.plan.DateForm.TheVariants as form
 use Rattle.link_base.specs.declared.plan.FieldSort.{FieldSort}

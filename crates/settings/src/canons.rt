@@ -5,7 +5,7 @@ ghost use Rattle.settings_readers.specs.KeyFaults.{IsAnswer};
 ghost use Rattle.settings.specs.CanonKeys.{lettered, numbered};
 
 use crate::texts::Letters;
-use link_base::Canon;
+use value_forms::Canon;
 use settings_readers::{KeyFault, Keys};
 use std::alloc::Global;
 

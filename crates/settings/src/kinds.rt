@@ -7,7 +7,8 @@ ghost use Rattle.link_plan.specs.Ranges.{may_be_rare};
 
 use crate::canons::numbered;
 use crate::words::{ComparisonsOf, Forms, Kind};
-use link_base::{Canon, CompareKind, FieldSort};
+use link_base::FieldSort;
+use value_forms::{Canon, CompareKind};
 use link_plan::{LEAST_RARE, MOST_DAYS, MOST_RARE, MOST_YEARS};
 use settings_readers::{Choice, KeyFault, Keys, Whole};
 use std::alloc::Global;

@@ -1,7 +1,8 @@
 // The words that name choices.
 ghost use Rattle.settings.specs.Words.{delimiter_named, kind_named, form_named, compare_named, key_named};
 
-use link_base::{Canon, CompareKind, DateForm, FieldSort};
+use link_base::{DateForm, FieldSort};
+use value_forms::{Canon, CompareKind, End};
 use settings_readers::{Choices, named_in};
 
 /// What a field holds, before its forms.
@@ -31,7 +32,7 @@ const NAME_COMPARES: [(&str, CompareKind); 5] = [
     ("exact", CompareKind::Same(Canon::Whole)),
     ("soundex", CompareKind::Same(Canon::Soundex)),
     ("nysiis", CompareKind::Same(Canon::Nysiis)),
-    ("first", CompareKind::Same(Canon::FirstLetters(1))),
+    ("first", CompareKind::Same(Canon::Letters(End::Front, 1))),
     ("initials", CompareKind::Initials),
 ];
 
@@ -45,7 +46,7 @@ const NAME_KEYS: [(&str, Canon); 4] = [
     ("whole", Canon::Whole),
     ("soundex", Canon::Soundex),
     ("nysiis", Canon::Nysiis),
-    ("first", Canon::FirstLetters(1)),
+    ("first", Canon::Letters(End::Front, 1)),
 ];
 
 const DATE_KEYS: [(&str, Canon); 2] = [("whole", Canon::Whole), ("year", Canon::Year)];

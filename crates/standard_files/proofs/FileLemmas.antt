@@ -4,9 +4,9 @@ use Rattle.std.proofs.lemmas.List.{at_drop_more, drop_more, take_more}
 use Rattle.std.proofs.lemmas.Grind.{flat_map-append}
 use Rattle.std.specs.List.{All}
 use Rattle.link_base.specs.Standard.{absent_value, IsValid, no_record, Record}
-use Rattle.link_base.specs.declared.plan.CompareKind.{CompareKind}
-use Rattle.link_base.specs.Canons.{exact}
-use Rattle.link_base.specs.declared.plan.Part.{Part}
+use Rattle.value_forms.specs.declared.canons.CompareKind.{CompareKind}
+use Rattle.value_forms.specs.Canons.{exact}
+use Rattle.value_forms.specs.declared.passes.Part.{Part}
 use Rattle.link_base.specs.declared.standard.Value.{Value}
 use Rattle.block_passes.specs.Keys.{no_part, part_key}
 use Rattle.standard_files.specs.Known.{canon_at, file_values, flat_sides, side_at}

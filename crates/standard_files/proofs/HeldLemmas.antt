@@ -1,9 +1,9 @@
 -- What is held stays held, and is not taken again.
 use Rattle.std.proofs.Common.{◌≡◌, ◌<◌, ◌++◌, ℕ, List, length, get_or, Option, Some, None, Ok, option_to_list, refl}
 use Rattle.link_base.specs.Standard.{absent_value, no_record, Record}
-use Rattle.link_base.specs.declared.plan.CompareKind.{CompareKind}
-use Rattle.link_base.specs.Canons.{exact}
-use Rattle.link_base.specs.declared.plan.Canon.{Canon}
+use Rattle.value_forms.specs.declared.canons.CompareKind.{CompareKind}
+use Rattle.value_forms.specs.Canons.{exact}
+use Rattle.value_forms.specs.declared.canons.Canon.{Canon}
 use Rattle.link_base.specs.declared.standard.Value.{Value}
 use Rattle.value_forms.specs.Canons.{canon_of, canon_by}
 use Rattle.value_pool.specs.Texts.{IsHeld, PoolState}

@@ -14,8 +14,8 @@ use Rattle.link_base.specs.Standard.{absent_value, IsValid, no_record, Record}
 use Rattle.std.specs.Prelude.{Bool, true, false, MatchBool, if◌then◌else◌}
 use Rattle.comparators.specs.OfPoolLaws.{side-valid}
 use Rattle.value_pool.proofs.PlaceLemmas.{place-reads}
-use Rattle.link_base.specs.declared.plan.CompareKind.{CompareKind}
-use Rattle.link_base.specs.Canons.{exact}
+use Rattle.value_forms.specs.declared.canons.CompareKind.{CompareKind}
+use Rattle.value_forms.specs.Canons.{exact}
 use Rattle.link_base.specs.declared.standard.Value.{Value}
 use Rattle.link_base.specs.declared.standard.Value.TheVariants as value
 use Rattle.standard_files.specs.Known.{flat_sides}

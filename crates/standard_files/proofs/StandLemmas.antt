@@ -11,9 +11,9 @@ use Rattle.block_passes.specs.Ids.{AreKeysHeld}
 use Rattle.block_passes.specs.Index.{row_at}
 use Rattle.block_passes.specs.Keys.{no_part, part_key}
 use Rattle.link_base.specs.Standard.{absent_value, no_record, Record}
-use Rattle.link_base.specs.declared.plan.CompareKind.{CompareKind}
-use Rattle.link_base.specs.Canons.{exact}
-use Rattle.link_base.specs.declared.plan.Part.{Part}
+use Rattle.value_forms.specs.declared.canons.CompareKind.{CompareKind}
+use Rattle.value_forms.specs.Canons.{exact}
+use Rattle.value_forms.specs.declared.passes.Part.{Part}
 use Rattle.link_base.specs.declared.standard.Value.{Value}
 use Rattle.standard_files.specs.Texts.{all_texts, both_texts, canons_of_row, file_texts, parts_in_pass, parts_of_row, texts_of_row, texts_taken}
 use Rattle.standard_files.proofs.TakingLemmas.{taken-cases}

@@ -9,9 +9,9 @@ use Rattle.comparators.specs.OfPool.{StandsFor}
 use Rattle.comparators.specs.declared.ids.IdValue.{IdValue}
 use Rattle.comparators.specs.declared.ids.IdValue.TheVariants as id
 use Rattle.link_base.specs.Standard.{absent_value, IsValid, Record}
-use Rattle.link_base.specs.declared.plan.CompareKind.{CompareKind}
-use Rattle.link_base.specs.Canons.{exact}
-use Rattle.link_base.specs.declared.plan.Part.{Part}
+use Rattle.value_forms.specs.declared.canons.CompareKind.{CompareKind}
+use Rattle.value_forms.specs.Canons.{exact}
+use Rattle.value_forms.specs.declared.passes.Part.{Part}
 use Rattle.link_base.specs.declared.standard.Value.{Value}
 use Rattle.standard_files.specs.Sides.{PooledView}
 

@@ -6,8 +6,8 @@ use Rattle.value_pool.specs.Texts.{PoolState}
 use Rattle.value_pool.specs.declared.pool.PoolFault.{PoolFault}
 use Rattle.link_base.specs.Answers.{RefusesBut}
 use Rattle.link_base.specs.Standard.{Record}
-use Rattle.link_base.specs.declared.plan.CompareKind.{CompareKind}
-use Rattle.link_base.specs.declared.plan.Part.{Part}
+use Rattle.value_forms.specs.declared.canons.CompareKind.{CompareKind}
+use Rattle.value_forms.specs.declared.passes.Part.{Part}
 use Rattle.value_pool.specs.Pool.{is_want_of_pool}
 use Rattle.standard_files.specs.Sides.{sides_of_file}
 use Rattle.standard_files.specs.Texts.{texts_taken}

@@ -12,10 +12,10 @@ ghost use Rattle.standard_files.specs.Texts.{both_texts, canons_of_row, file_tex
 use crate::known::Known;
 use crate::texts::{TextIds, take_text};
 use comparators::{IdTable, IdValue};
-use link_base::{Canon, CompareKind, NoMemory, Row, StdFile, ValueRef};
+use link_base::{NoMemory, Row, StdFile, ValueRef};
 use link_limits::MOST_FIELDS;
 use std::alloc::Global;
-use value_forms::{bytes_of, canon_text, compares_days, initials_text};
+use value_forms::{Canon, CompareKind, bytes_of, canon_text, compares_days, initials_text};
 use value_pool::{Id, MaybeId, Pool, PoolFault};
 
 /// Takes the canon of a value, and gives its id, `None` exactly where it has none.

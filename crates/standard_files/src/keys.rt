@@ -3,7 +3,7 @@ ghost use Rattle.std.specs.Prelude.{◌≡◌, ◌≤◌, ◌<◌, ◌++◌, ◌
 ghost use Rattle.block_passes.specs.KeyIds.{ids_in_pass, ids_of_row, key_ids, part_id, parts_in};
 ghost use Rattle.block_passes.specs.Keys.{IsPartReadable, part_key};
 ghost use Rattle.comparators.specs.Fields.{id_in};
-ghost use Rattle.link_base.specs.declared.plan.Part.{Part as KeyPart};
+ghost use Rattle.value_forms.specs.declared.passes.Part.{Part as KeyPart};
 ghost use Rattle.link_base.specs.declared.standard.Value.{Value as FieldValue};
 ghost use Rattle.standard_files.specs.Known.{IsIdOf, IsKnownFile, IsKnownRow};
 ghost use Rattle.standard_files.specs.Ready.{AreInRange, IsRowFor};
@@ -15,7 +15,8 @@ use crate::canons::take_part;
 use crate::texts::TextIds;
 use block_passes::count_parts;
 use comparators::{IdTable, IdValue};
-use link_base::{Canon, CompareKind, NoMemory, Part, Pass, PassList, Row, Sides, StdFile};
+use link_base::{NoMemory, Row, Sides, StdFile};
+use value_forms::{Canon, CompareKind, Part, Pass, PassList};
 use std::alloc::Global;
 use value_pool::{Id, MaybeId, Pool, PoolFault};
 

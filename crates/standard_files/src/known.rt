@@ -2,13 +2,14 @@
 ghost use Rattle.std.specs.Prelude.{◌≡◌, ◌<◌, IsTrue, length, List, ℕ, IfOk, IfSome, Some, None, slice_index_or};
 ghost use Rattle.link_base.specs.Rows.{value_seen};
 ghost use Rattle.link_base.specs.Standard.{absent_value};
-ghost use Rattle.link_base.specs.declared.plan.CompareKind.{CompareKind as Kind};
-ghost use Rattle.link_base.specs.Canons.{exact};
+ghost use Rattle.value_forms.specs.declared.canons.CompareKind.{CompareKind as Kind};
+ghost use Rattle.value_forms.specs.Canons.{exact};
 ghost use Rattle.standard_files.specs.Known.{AreKnown, AreKnownCanons, AreKnownDays, IsCanonAt, IsIdOf};
 ghost use Rattle.standard_files.specs.Texts.{standard_text};
 ghost use Rattle.value_forms.specs.Canons.{canon_of, exact_canon};
 
-use link_base::{Canon, CompareKind, NoMemory, Row, ValueRef};
+use link_base::{NoMemory, Row, ValueRef};
+use value_forms::{Canon, CompareKind};
 use std::alloc::Global;
 use value_pool::{Id, MaybeId};
 

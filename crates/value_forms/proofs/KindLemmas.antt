@@ -1,8 +1,8 @@
 -- Kinds that compare days.
 use Rattle.std.proofs.Common.{◌≡◌, true, None, refl}
 use Rattle.link_base.specs.declared.standard.Value.{Value}
-use Rattle.link_base.specs.declared.plan.CompareKind.{CompareKind}
-use Rattle.link_base.specs.declared.plan.CompareKind.TheVariants as by
+use Rattle.value_forms.specs.declared.canons.CompareKind.{CompareKind}
+use Rattle.value_forms.specs.declared.canons.CompareKind.TheVariants as by
 use Rattle.value_forms.specs.Canons.{canon_of, compares_days}
 
 -- a value has no canon for a kind that compares days

@@ -2,7 +2,7 @@
 use Rattle.link_base.specs.Standard.{IsValid}
 use Rattle.link_base.specs.declared.standard.Value.{Value}
 use Rattle.link_base.specs.declared.standard.Value.TheVariants.{Absent, Word, Day}
-use Rattle.link_base.specs.declared.plan.Canon.{Canon}
+use Rattle.value_forms.specs.declared.canons.Canon.{Canon}
 use Rattle.value_forms.specs.Canons.{IsReadable}
 
 pub readable_valid : (canon : Canon) (value : Value) → IsValid value → IsReadable canon value

@@ -1,19 +1,33 @@
--- What a value is compared or blocked by: its canon of each kind (`canon_text`), and its initials (`initials_text`). Comparators
--- and blocking passes cite these definitions, so that both speak of the same canons.
+-- What a value is compared or blocked by: its canon of each kind (`canon_text`; `Canon::letters`, `Canon::with_letters`), and its
+-- initials (`initials_text`). Comparators and blocking passes cite these definitions, so that both speak of the same canons.
 use Rattle.std.specs.Prelude.{◌≡◌, Bool, true, false, Option, Some, None, List, ℕ, ℤ, pos, ⊤}
 use Rattle.std.specs.Str.{IsUtf8}
 use Rattle.link_base.specs.Standard.{IsDay}
 use Rattle.link_base.specs.declared.standard.Value.{Value}
 use Rattle.link_base.specs.declared.standard.Value.TheVariants.{Absent, Word, Day}
-use Rattle.link_base.specs.declared.plan.Canon.{Canon}
-use Rattle.link_base.specs.declared.plan.Canon.TheVariants as canon
-use Rattle.link_base.specs.declared.plan.CompareKind.{CompareKind}
-use Rattle.link_base.specs.declared.plan.CompareKind.TheVariants as by
+use Rattle.value_forms.specs.declared.canons.Canon.{Canon}
+use Rattle.value_forms.specs.declared.canons.Canon.TheVariants as canon
+use Rattle.value_forms.specs.declared.canons.End.{End}
+use Rattle.value_forms.specs.declared.canons.End.TheVariants as end
+use Rattle.value_forms.specs.declared.canons.CompareKind.{CompareKind}
+use Rattle.value_forms.specs.declared.canons.CompareKind.TheVariants as by
 use Rattle.value_forms.specs.Days.{four_digits, text_of_day, year_of_day}
 use Rattle.value_forms.specs.Firsts.{first_characters}
 use Rattle.value_forms.specs.Initials.{initials_of}
 use Rattle.phonetic_keys.specs.Soundex.{soundex_of}
 use Rattle.phonetic_keys.specs.Nysiis.{nysiis_of}
+
+-- the comparison by whole values, and the kind past the end of a list
+abbrev pub exact : CompareKind
+exact = by.Same canon.Whole
+
+abbrev pub letters_of : Canon → Option ℕ
+letters_of (canon.Letters end n) = Some n
+letters_of c = None
+
+abbrev pub with_letters : ℕ → Canon → Canon
+with_letters n (canon.Letters end m) = canon.Letters end n
+with_letters n c = c
 
 -- the text of a word, and YYYY-MM-DD of a day
 abbrev pub exact_canon : Value → Option (List ℕ)
@@ -33,11 +47,15 @@ nysiis_canon Absent = None
 nysiis_canon (Word text) = nysiis_of text
 nysiis_canon (Day day) = None
 
--- the first n characters of a word
-abbrev pub first_letters_canon : ℕ → Value → Option (List ℕ)
-first_letters_canon n Absent = None
-first_letters_canon n (Word text) = Some (first_characters n text)
-first_letters_canon n (Day day) = None
+-- n characters at an end of a text, or all where it has fewer
+abbrev pub characters_at : End → ℕ → List ℕ → List ℕ
+characters_at end.Front = first_characters
+
+-- n characters at an end of a word
+abbrev pub letters_canon : End → ℕ → Value → Option (List ℕ)
+letters_canon at n Absent = None
+letters_canon at n (Word text) = Some (characters_at at n text)
+letters_canon at n (Day day) = None
 
 -- the four digits of the year of a day
 abbrev pub year_digits : Value → Option (List ℕ)
@@ -50,12 +68,12 @@ abbrev pub canon_by : Canon → Value → Option (List ℕ)
 canon_by canon.Whole v = exact_canon v
 canon_by canon.Soundex v = soundex_canon v
 canon_by canon.Nysiis v = nysiis_canon v
-canon_by (canon.FirstLetters n) v = first_letters_canon n v
+canon_by (canon.Letters at n) v = letters_canon at n v
 canon_by canon.Year v = year_digits v
 
 -- whether the canon of a word is of its characters, and not of its bytes
 abbrev pub reads_characters : Canon → Bool
-reads_characters (canon.FirstLetters n) = true
+reads_characters (canon.Letters at n) = true
 reads_characters c = false
 
 -- a valid value, as far as its canon reads it: a word whose characters are read is text

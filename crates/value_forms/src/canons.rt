@@ -1,16 +1,74 @@
-// The canon of a value of each kind.
+// What values are compared and blocked by: canons, how two values are compared, and the canon of a value.
 ghost use Rattle.std.specs.Prelude.{◌≡◌, option_map};
 ghost use Rattle.link_base.specs.Rows.{value_seen};
 ghost use Rattle.link_base.specs.Standard.{IsDay};
 ghost use Rattle.value_forms.specs.CanonTexts.{canon_bytes};
-ghost use Rattle.value_forms.specs.Canons.{IsReadable, canon_by, exact_canon, first_letters_canon, nysiis_canon, soundex_canon};
+ghost use Rattle.value_forms.specs.Canons.{IsReadable, canon_by, exact_canon, letters_canon, letters_of, nysiis_canon, soundex_canon, with_letters};
 ghost use Rattle.value_forms.specs.Canons.{compares_days as is_of_days, year_digits as year_canon};
 ghost use Rattle.value_forms.specs.Days.{four_digits, year_of_day};
 
 use crate::days::{civil_of, day_text};
 use crate::first::first_chars;
-use link_base::{Canon, CompareKind, ValueRef};
+use link_base::ValueRef;
 use phonetic_keys::{Nysiis, nysiis, soundex};
+
+/// At which end of a word letters stand.
+#[derive(Clone, Copy, PartialEq, Eq)]
+pub enum End {
+    /// The first letters.
+    Front,
+}
+
+/// A canon of a value, which takes no memory: what values of a field are compared by, or the part of a key of a blocking pass
+/// that a value makes.
+#[derive(Clone, Copy, PartialEq, Eq)]
+pub enum Canon {
+    /// The whole value.
+    Whole,
+    /// The Soundex key.
+    Soundex,
+    /// The NYSIIS key.
+    Nysiis,
+    /// The characters at an end, 1 to 20 of them.
+    Letters(End, u8),
+    /// The year of a day.
+    Year,
+}
+
+impl Canon {
+    /// The number of its letters, where it has one.
+    pub fn letters(self) -> Option<u8>
+        ensures { result ≡ letters_of self }
+    {
+        match self {
+            Canon::Letters(_, n) => Some(n),
+            _ => None,
+        }
+    }
+
+    /// The same canon of so many letters, where it has a number of letters.
+    pub fn with_letters(self, n: u8) -> Canon
+        ensures { result ≡ with_letters n self }
+    {
+        match self {
+            Canon::Letters(end, _) => Canon::Letters(end, n),
+            other => other,
+        }
+    }
+}
+
+/// How the two values of a field are compared.
+#[derive(Clone, Copy)]
+pub enum CompareKind {
+    /// Equal canons agree.
+    Same(Canon),
+    /// Equal initials agree.
+    Initials,
+    /// Days at most so many days apart agree, at most 36,500.
+    DaysWithin(u32),
+    /// Days whose years differ by at most so many agree, at most 100.
+    YearsWithin(u32),
+}
 
 /// The bytes of a canon that takes no memory.
 #[derive(Drop)]
@@ -75,14 +133,16 @@ fn nysiis_key<'v>(value: &ValueRef<'v>) -> Option<CanonText<'v>>
     }
 }
 
-// The first `n` characters of a word, or all where there are fewer.
-fn first_letters<'v>(n: u8, value: &ValueRef<'v>) -> Option<CanonText<'v>>
-    requires { IsReadable (Canon.FirstLetters n) (value_seen value.now) }
-    ensures { option_map canon_bytes result ≡ first_letters_canon n (value_seen value.now) }
+// The `n` characters at an end of a word, or all where there are fewer.
+fn letters<'v>(end: End, n: u8, value: &ValueRef<'v>) -> Option<CanonText<'v>>
+    requires { IsReadable (Canon.Letters end n) (value_seen value.now) }
+    ensures { option_map canon_bytes result ≡ letters_canon end n (value_seen value.now) }
 {
-    match *value {
-        ValueRef::Word(text) => Some(CanonText::Slice(first_chars(text, n))),
-        _ => None,
+    let ValueRef::Word(text) = *value else {
+        return None;
+    };
+    match end {
+        End::Front => Some(CanonText::Slice(first_chars(text, n))),
     }
 }
 
@@ -131,7 +191,7 @@ pub fn canon_text<'v>(canon: Canon, value: &ValueRef<'v>) -> Option<CanonText<'v
         Canon::Whole => exact(value),
         Canon::Soundex => soundex_key(value),
         Canon::Nysiis => nysiis_key(value),
-        Canon::FirstLetters(n) => first_letters(n, value),
+        Canon::Letters(end, n) => letters(end, n, value),
         Canon::Year => year_digits(value),
     }
 }

@@ -2,7 +2,7 @@ use Rattle.std.proofs.Common.{◌≡◌, ◌∷◌, ◌<◌, [], ℕ, List, leng
 use Rattle.block_passes.specs.Index.{AreReady}
 use Rattle.block_passes.specs.KeyIds.{key_ids}
 use Rattle.block_passes.proofs.KeyIdLemmas.{coded-rows, few-ids, told-ids, told-long}
-use Rattle.link_base.specs.declared.plan.Part.{Part}
+use Rattle.value_forms.specs.declared.passes.Part.{Part}
 use Rattle.block_passes.proofs.id_index.index_four.Goals as goal
 
 -- what holds of one pass holds of each in a list of it

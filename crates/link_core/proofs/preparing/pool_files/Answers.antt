@@ -1,7 +1,7 @@
 use Rattle.std.proofs.Common.{◌≡◌, All, List, rules, subst, sym}
 use Rattle.std.specs.Prelude.{IfOk}
 use Rattle.link_base.specs.Fault.{IsAnswer}
-use Rattle.link_base.specs.declared.plan.CompareKind.{CompareKind}
+use Rattle.value_forms.specs.declared.canons.CompareKind.{CompareKind}
 use Rattle.standard_files.specs.Ready.{ArePooled, IsRowFor}
 use Rattle.standard_files.specs.Sides.{pooled_values}
 use Rattle.link_core.specs.Prepared.{kinds_of, with_fault}

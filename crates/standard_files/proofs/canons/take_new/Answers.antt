@@ -1,5 +1,5 @@
 use Rattle.std.proofs.Common.{Some, get_or, refl, rules, sym, subst}
-use Rattle.link_base.specs.Canons.{exact}
+use Rattle.value_forms.specs.Canons.{exact}
 use Rattle.link_base.specs.Rows.{value_seen}
 use Rattle.value_forms.specs.Canons.{canon_of}
 use Rattle.standard_files.specs.Known.{IsIdOf}

@@ -1,5 +1,5 @@
 use Rattle.std.proofs.Common.{◌≡◌, false, get_or, sym, ◌∙◌}
-use Rattle.link_base.specs.Canons.{exact}
+use Rattle.value_forms.specs.Canons.{exact}
 use Rattle.value_forms.specs.Canons.{compares_days}
 use Rattle.standard_files.specs.Known.{canon_at}
 use Rattle.standard_files.proofs.KnownLemmas.{id-sides}

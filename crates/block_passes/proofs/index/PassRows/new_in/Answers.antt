@@ -3,7 +3,7 @@ use Rattle.std.proofs.lemmas.List.{get_or_read, length-map}
 use Rattle.block_passes.specs.PassIds.{four_at}
 use Rattle.block_passes.proofs.KeyIdLemmas.{by-four-rows, by-part-long, by-part-rows, few-ids, told-ids, told-long}
 use Rattle.block_passes.proofs.RowLemmas.{mapped-at}
-use Rattle.link_base.specs.declared.plan.Part.{Part}
+use Rattle.value_forms.specs.declared.passes.Part.{Part}
 use Rattle.block_passes.proofs.index.PassRows.new_in.Goals as goal
 
 pass_is : (passes same : List (List Part)) (at : ℕ) (pass : List Part) → at < length passes → same ≡ passes → pass ≡ get_or same at pass → pass ≡ get_or passes at []
