@@ -10,15 +10,15 @@ pub fn first_chars(text: &[u8], n: u8) -> &[u8]
 {
     match str::from_utf8(text) {
         Ok(whole) => {
-            let later = without_first(whole, n);
+            let later = without_first(whole, usize::from(n));
             &text[..text.len() - later.len()]
         }
         Err(_) => text,
     }
 }
 
-// What follows the first `n` characters, nothing where there are no more.
-fn without_first(text: &str, n: u8) -> &str
+/// What follows the first `n` characters, nothing where there are no more.
+pub(crate) fn without_first(text: &str, n: usize) -> &str
     ensures later { result.now ≡ later_characters n text.now }
     ensures whole { text.now ≡ first_characters n text.now ++ result.now }
 {
