@@ -2,6 +2,7 @@
 use Rattle.std.specs.Prelude.{List, ℕ, [], ◌∷◌, codes, Option}
 use Rattle.value_forms.specs.declared.canons.Canon.{Canon}
 use Rattle.value_forms.specs.declared.canons.Canon.TheVariants as canon
+use Rattle.value_forms.specs.declared.canons.End.TheVariants as end
 use Rattle.value_forms.specs.declared.canons.CompareKind.{CompareKind}
 use Rattle.value_forms.specs.declared.canons.CompareKind.TheVariants as by
 use Rattle.link_base.specs.declared.plan.DateForm.{DateForm}
@@ -28,7 +29,7 @@ form_named = named_in ((codes "ymd", form.Ymd) ∷ (codes "dmy", form.Dmy) ∷ (
 abbrev pub comparisons : FieldSort → List (List ℕ × CompareKind)
 comparisons (sort.Date a b) = (codes "exact", by.Same canon.Whole) ∷ (codes "days", by.DaysWithin 0) ∷ (codes "years", by.YearsWithin 0) ∷ []
 comparisons s = (codes "exact", by.Same canon.Whole) ∷ (codes "soundex", by.Same canon.Soundex) ∷ (codes "nysiis", by.Same canon.Nysiis)
-    ∷ (codes "first", by.Same (canon.FirstLetters 1)) ∷ (codes "initials", by.Initials) ∷ []
+    ∷ (codes "first", by.Same (canon.Letters end.Front 1)) ∷ (codes "initials", by.Initials) ∷ []
 
 abbrev pub compare_named : FieldSort → List ℕ → Option CompareKind
 compare_named sort = named_in (comparisons sort)
@@ -36,7 +37,7 @@ compare_named sort = named_in (comparisons sort)
 -- the keys of a sort of field, with numbers as above
 abbrev pub key_words : FieldSort → List (List ℕ × Canon)
 key_words (sort.Date a b) = (codes "whole", canon.Whole) ∷ (codes "year", canon.Year) ∷ []
-key_words s = (codes "whole", canon.Whole) ∷ (codes "soundex", canon.Soundex) ∷ (codes "nysiis", canon.Nysiis) ∷ (codes "first", canon.FirstLetters 1) ∷ []
+key_words s = (codes "whole", canon.Whole) ∷ (codes "soundex", canon.Soundex) ∷ (codes "nysiis", canon.Nysiis) ∷ (codes "first", canon.Letters end.Front 1) ∷ []
 
 abbrev pub key_named : FieldSort → List ℕ → Option Canon
 key_named sort = named_in (key_words sort)
