@@ -1,5 +1,5 @@
 -- The order of ids that rise: that it is one, what an id that comes last comes after, and where one stands that is found by halving.
-use Rattle.std.proofs.Common.{◌≡◌, ◌≢◌, ◌<◌, ◌≤◌, ◌+◌, ◌-◌, ◌==◌, ◌∷◌, ◌++◌, ◌∙◌, ◌⊎◌, ℕ, zero, suc, Bool, true, false, List, [], Some, None, arith, ap, inl, inr, length, get_or, nat_lt, refl, sym, subst, eqb-true, eq-eqb, ltb-true, take}
+use Rattle.std.proofs.Common.{◌≡◌, ◌≢◌, ◌<◌, ◌≤◌, ◌+◌, ◌-◌, ◌==◌, ◌∷◌, ◌∙◌, ◌⊎◌, ℕ, zero, suc, Bool, true, false, List, [], Some, None, arith, ap, inl, inr, length, get_or, nat_lt, refl, sym, subst, eqb-true, eq-eqb, ltb-true, take}
 use Rattle.std.specs.Prelude.{All, IsTrue, if◌then◌else◌, slice_get}
 use Rattle.std.proofs.lemmas.Bool.{cases_Bool, false≢true}
 use Rattle.std.proofs.lemmas.Bool.Decides.{nat_tests}
