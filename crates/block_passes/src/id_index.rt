@@ -19,9 +19,9 @@ use crate::numbering::Numbering;
 use crate::part_ids::ids_in_passes;
 use crate::pass_ids::PassIds;
 use link_base::{NoMemory, Row, StdFile};
-use value_forms::Pass;
 use std::alloc::Global;
 use std::slice::from_ref;
+use value_forms::Pass;
 use value_pool::Pool;
 
 // Gives each row the number of its ids, or the next number.

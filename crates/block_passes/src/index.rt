@@ -19,9 +19,9 @@ use crate::part_ids::KeyedPool;
 use crate::part_numbers::part_numbers;
 use crate::pass_ids::PassIds;
 use link_base::{NoMemory, StdFile};
-use value_forms::{Pass, PassList};
 use std::alloc::Global;
 use std::marker::Model;
+use value_forms::{Pass, PassList};
 
 // Gives each row of a file the number of its code, or the next number.
 fn number_rows(

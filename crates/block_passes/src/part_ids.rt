@@ -8,8 +8,8 @@ ghost use Rattle.block_passes.specs.Keys.{AreReadable, InRange};
 use crate::ids::part_id;
 use crate::pass_ids::count_parts;
 use link_base::{NoMemory, Row, StdFile};
-use value_forms::{Pass, PassList};
 use std::alloc::Global;
+use value_forms::{Pass, PassList};
 use value_pool::{MaybeId, Pool};
 
 /// A pool with the ids of the parts of the keys of two files, each list as `key_ids` gives it.

@@ -3,8 +3,8 @@ ghost use Rattle.std.specs.Prelude.{◌≡◌, ◌<◌, ◌*◌, ◌^◌, ◌-�
 ghost use Rattle.block_passes.specs.KeyIds.{parts_in};
 ghost use Rattle.block_passes.specs.PassIds.{rows_in_pass};
 
-use value_forms::Pass;
 use std::marker::Model;
+use value_forms::Pass;
 use value_pool::MaybeId;
 
 /// How many parts passes have together, at most the most that a `usize` holds.

@@ -3,8 +3,8 @@ ghost use Rattle.link_base.specs.Standard.{IsValid};
 
 use comparators::{Initials, KeyComparator, SameCanon};
 use link_base::{NoMemory, Text, Value};
-use value_forms::Canon;
 use std::alloc::Global;
+use value_forms::Canon;
 
 fn is_text(canon: Result<Option<Text>, NoMemory>, wanted: &[u8]) -> bool {
     match canon {

@@ -2,9 +2,9 @@
 // lists of rows.
 use block_passes::{build_index, build_index_in, id_key, key_ids, pass_key};
 use link_base::{IdSet, NoMemory, RowsWriter, StdFile};
-use value_forms::{Pass, PassList};
 use pair_walk::{walk, walk_in};
 use std::alloc::Global;
+use value_forms::{Pass, PassList};
 use value_pool::Pool;
 
 // The indexes of a file of records in a pass without parts, and the key of its first record, by texts and by ids.

@@ -11,13 +11,13 @@ ghost use Rattle.standard_files.specs.Files.{AreOfPlan};
 
 use comparators::IdTable;
 use link_base::{Fault, FileRole, NoMemory, StdFile, Text};
-use value_forms::{CompareKind, PassList};
 use link_limits::{MOST_FIELDS, MOST_POOL_LIMIT};
 use link_plan::Plan;
 use pair_walk::Blocks;
 use standard_files::{PooledValues, StandardFile, StandardPair, pool_values, read_files};
 use std::alloc::Global;
 use std::marker::Model;
+use value_forms::{CompareKind, PassList};
 use value_pool::{Pool, PoolFault};
 
 /// Two files in standard values, with their texts in a pool. Contracts see the records of both files, how many of their dates

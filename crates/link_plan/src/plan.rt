@@ -4,10 +4,10 @@ ghost use Rattle.std.specs.Prelude.{◌≡◌, ◌≤◌, IfOk, length, is_some,
 use crate::terms::Terms;
 use crate::within::plan_within;
 use link_base::{FieldShares, FieldSort, NoMemory, Shape, Tables, Text};
-use value_forms::{CompareKind, PassList};
 use link_limits::MOST_FIELDS;
 use std::alloc::Global;
 use std::marker::Model;
+use value_forms::{CompareKind, PassList};
 
 /// What the settings say of a field. Contracts see the values of its keys, with plain shares. A rare
 /// number is from 2 to 200,000; shares are given where the settings name no sample.

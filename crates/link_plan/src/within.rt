@@ -4,8 +4,8 @@ ghost use Rattle.link_plan.specs.Within.{field_within, plan_within, sort_within}
 
 use crate::plan::{FieldList, FieldPlan, Plan};
 use link_base::{FieldSort, NoMemory, Tables, Text, TextList, WordPair, WordPairs};
-use value_forms::{Pass, PassList};
 use std::alloc::Global;
+use value_forms::{Pass, PassList};
 
 // Dates have the form of A on both sides.
 fn sort_within(sort: FieldSort) -> FieldSort

@@ -11,9 +11,9 @@ use crate::passes::find_passes;
 use crate::walker::Walker;
 use block_passes::{KeyedPool, PassRows};
 use link_base::{NoMemory, StdFile};
-use value_forms::PassList;
 use std::alloc::Global;
 use std::marker::Model;
+use value_forms::PassList;
 use value_pool::{MaybeId, Pool};
 
 // How many rows of B the first rows of a pass list, or all that can be counted.

@@ -5,8 +5,8 @@ ghost use Rattle.pair_walk.specs.Joining.{AreFoundRows, AreKeyed, ArePassRows};
 
 use block_passes::{KeyedPool, PassRows};
 use link_base::{NoMemory, StdFile};
-use value_forms::{Part, Pass, PassList};
 use std::alloc::Global;
+use value_forms::{Part, Pass, PassList};
 
 fn same_parts(p: &[Part], q: &[Part]) -> bool
     ensures { IsTrue result ↔ (p.now ≡ q.now) }

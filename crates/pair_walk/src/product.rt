@@ -11,9 +11,9 @@ use crate::fault::WalkFault;
 use crate::walker::{RowPairs, Walker};
 use block_passes::key_ids;
 use link_base::{NoMemory, PairAt, StdFile};
-use value_forms::PassList;
 use std::alloc::Global;
 use std::marker::Model;
+use value_forms::PassList;
 use value_pool::Pool;
 
 /// The compared pairs, rising, which contracts see as the list of them.

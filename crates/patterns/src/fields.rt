@@ -10,10 +10,10 @@ ghost use Rattle.patterns.specs.Patterns.{outcomes, pattern_of};
 use crate::numbers::pattern_over;
 use comparators::FieldKind;
 use link_base::{NoMemory, Value};
-use value_forms::CompareKind;
 use link_limits::MOST_FIELDS;
 use std::alloc::Global;
 use std::marker::Model;
+use value_forms::CompareKind;
 
 /// From 1 to `MOST_FIELDS` fields, which contracts see as the list of their kinds.
 #[derive(Drop)]

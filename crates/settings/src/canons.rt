@@ -5,9 +5,9 @@ ghost use Rattle.settings_readers.specs.KeyFaults.{IsAnswer};
 ghost use Rattle.settings.specs.CanonKeys.{lettered, numbered};
 
 use crate::texts::Letters;
-use value_forms::Canon;
 use settings_readers::{KeyFault, Keys};
 use std::alloc::Global;
+use value_forms::Canon;
 
 #[tactic(auto, unfolding(crate::specs::CanonKeys::lettered))]
 fn lettered(alloc: Global, canon: Canon, keys: &Keys) -> Result<Canon, KeyFault>

@@ -12,12 +12,12 @@ use crate::shares::Shares;
 use crate::texts::{TextRule, labels};
 use crate::words::Kinds;
 use link_base::{FieldShares, FieldSort, Text};
-use value_forms::CompareKind;
 use link_limits::MOST_FIELDS;
 use link_plan::{FieldList, FieldPlan};
 use settings_readers::{Choice, Items, KeyFault, Keys, Place, Reader, Row, Rows};
 use std::alloc::Global;
 use toml::Value;
+use value_forms::CompareKind;
 
 const FIELD_KEYS: [&str; 12] = [
     "name", "column_a", "column_b", "kind", "form_a", "form_b", "compare", "n", "t", "rare", "m",

@@ -8,10 +8,10 @@ ghost use Rattle.link_plan.specs.Ranges.{may_be_rare};
 use crate::canons::numbered;
 use crate::words::{ComparisonsOf, Forms, Kind};
 use link_base::FieldSort;
-use value_forms::{Canon, CompareKind};
 use link_plan::{LEAST_RARE, MOST_DAYS, MOST_RARE, MOST_YEARS};
 use settings_readers::{Choice, KeyFault, Keys, Whole};
 use std::alloc::Global;
+use value_forms::{Canon, CompareKind};
 
 #[tactic(auto, unfolding(crate::specs::Field::date_sort))]
 fn date_sort(alloc: Global, keys: &Keys) -> Result<FieldSort, KeyFault>

@@ -7,11 +7,11 @@ ghost use Rattle.settings.specs.Pass.{field_named, key_of, part, parts, pass, pa
 use crate::canons::numbered;
 use crate::words::KeysOf;
 use link_base::FieldSort;
-use value_forms::{Canon, Part, Pass, PassList};
 use link_plan::{FieldList, MOST_PARTS, MOST_PASSES};
 use settings_readers::{Choice, Choices, Items, KeyFault, Keys, Place, Reader, Row, Rows};
 use std::alloc::Global;
 use toml::Value;
+use value_forms::{Canon, Part, Pass, PassList};
 
 const PASS_KEYS: [&str; 1] = ["parts"];
 

@@ -16,11 +16,11 @@ use crate::texts::{File, FileName, TextRule, labels};
 use crate::word_tables::{Texts, WordTable};
 use crate::words::Delimiters;
 use link_base::{Fault, NoMemory, Tables, Text};
-use value_forms::PassList;
 use link_plan::{FieldList, MOST_LISTED_WORDS, MOST_MARKS, Plan, TERM_KEYS, Terms};
 use settings_readers::{Choice, KeyFault, Keys, Place, Reader};
 use std::alloc::Global;
 use toml::Table;
+use value_forms::PassList;
 
 // The keys of the file but its terms.
 const TOP_KEYS: [&str; 15] = [

@@ -2,8 +2,8 @@
 ghost use Rattle.settings.specs.Words.{delimiter_named, kind_named, form_named, compare_named, key_named};
 
 use link_base::{DateForm, FieldSort};
-use value_forms::{Canon, CompareKind, End};
 use settings_readers::{Choices, named_in};
+use value_forms::{Canon, CompareKind, End};
 
 /// What a field holds, before its forms.
 #[derive(Clone, Copy)]

@@ -16,8 +16,8 @@ use crate::texts::TextIds;
 use block_passes::count_parts;
 use comparators::{IdTable, IdValue};
 use link_base::{NoMemory, Row, Sides, StdFile};
-use value_forms::{Canon, CompareKind, Part, Pass, PassList};
 use std::alloc::Global;
+use value_forms::{Canon, CompareKind, Part, Pass, PassList};
 use value_pool::{Id, MaybeId, Pool, PoolFault};
 
 /// The ids of the parts of the keys of two files, record by record and pass by pass, `None` where a part is missing.

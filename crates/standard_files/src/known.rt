@@ -9,8 +9,8 @@ ghost use Rattle.standard_files.specs.Texts.{standard_text};
 ghost use Rattle.value_forms.specs.Canons.{canon_of, exact_canon};
 
 use link_base::{NoMemory, Row, ValueRef};
-use value_forms::{Canon, CompareKind};
 use std::alloc::Global;
+use value_forms::{Canon, CompareKind};
 use value_pool::{Id, MaybeId};
 
 /// A canon of a text: the field by whose kind it is one, and its id.

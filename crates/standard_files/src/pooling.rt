@@ -12,10 +12,10 @@ use crate::keys::{KeyIds, take_keys};
 use crate::texts::take_texts;
 use comparators::IdTable;
 use link_base::{NoMemory, StdFile};
-use value_forms::{CompareKind, PassList};
 use link_limits::{MOST_FIELDS, MOST_POOL_LIMIT};
 use std::alloc::Global;
 use std::marker::Model;
+use value_forms::{CompareKind, PassList};
 use value_pool::{MaybeId, Pool, PoolFault};
 
 /// The values of two files in a pool. Contracts see the texts of the pool, its limit, the tables of what the rows of each
