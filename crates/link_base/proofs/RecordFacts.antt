@@ -1,9 +1,10 @@
 -- Records by their ids and their rows.
 use Rattle.std.proofs.Common.{◌≡◌, ◌+◌, ◌<◌, ◌∷◌, ◌∙◌, ℕ, zero, suc, List, [], length, get_or, not, cond, Option, Some, None, refl, sym, ap, arith}
 use Rattle.std.specs.List.{position_or_len}
-use Rattle.std.specs.Prelude.{IfNone}
+use Rattle.std.specs.Prelude.{IfNone, replicate}
 use Rattle.std.specs.Str.{bytes_eq}
 use Rattle.link_base.specs.declared.standard.Value.{Value}
+use Rattle.link_base.specs.IdsAlone.{ids_alone}
 use Rattle.link_base.specs.Ids.{AreDistinct, IsNewId, position_among}
 use Rattle.link_base.specs.Standard.{HaveDistinctIds, IsFreshId, position_of_id, Record, records_of}
 
@@ -53,3 +54,9 @@ distinct_of ids rows e distinct i j d lt within same =
     let last : j < length ids = omega (arith, within, length_records ids rows e) in
     let first : i < length ids = omega (arith, last, lt) in
     distinct i j [] lt last (sym (record_at ids rows i d e first).id ∙ same ∙ (record_at ids rows j d e last).id)
+
+-- records with empty rows are those whose values are left out
+pub without_rows : (ids : List (List ℕ)) (rows : Rows) → length ids ≡ length rows → records_of ids (replicate (length rows) []) ≡ ids_alone (records_of ids rows)
+without_rows [] rows e = refl
+without_rows (id ∷ ids) [] e = absurd (omega (arith, e))
+without_rows (id ∷ ids) (row ∷ rows) e = ap (λ (rest : List Record). record { id = id; row = [] } ∷ rest) (without_rows ids rows (omega (arith, e)))

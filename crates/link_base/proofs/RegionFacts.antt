@@ -1,6 +1,6 @@
 -- One piece more in a list, fewer pieces, and a piece at a place.
 use Rattle.std.proofs.Common.{◌≡◌, ◌<◌, ◌≤◌, ◌+◌, ◌-◌, ◌∷◌, ◌++◌, ◌∙◌, ℕ, zero, suc, List, [], length, get_or, map, take, drop, refl, ap, arith, length-drop, length-append}
-use Rattle.std.specs.Prelude.{slice_range, sum_by}
+use Rattle.std.specs.Prelude.{replicate, slice_range, sum_by}
 use Rattle.std.proofs.lemmas.List.{drop-append-le, drop-map, length-take-le, take-append-le, take-map}
 use Rattle.std.proofs.lemmas.List.Sums.{sum_by-cons}
 use Rattle.std.proofs.lemmas.Grind.{common_steps}
@@ -114,3 +114,12 @@ rest_closed {T = T} items last start end [] le h e =
     let all : take (end - start) (drop start items) ≡ drop start items = grind (arith, common_steps) in
     ap (λ (t : List T). t ∷ []) (all ∙ ap (λ n. drop n items) h)
 rest_closed {T = T} items last start end (first ∷ ends) le h e = ap (λ (t : List (List T)). slice_range items start first ∷ t) (rest_closed items last first end ends le h.1 e)
+
+-- pieces of nothing
+pub no_ends : (n : ℕ) → EndsAt 0 0 (replicate n 0)
+no_ends zero = refl
+no_ends (suc n) = (omega arith, no_ends n)
+
+pub no_pieces : {T : Type 0} (n : ℕ) → pieces_from {T = T} [] 0 (replicate n 0) ≡ replicate n []
+no_pieces zero = refl
+no_pieces {T = T} (suc n) = ap (λ (rest : List (List T)). [] ∷ rest) (no_pieces n)

@@ -3,6 +3,7 @@ pub mod AnswerLaws
 pub mod Fault
 pub mod Pieces
 pub mod Ids
+pub mod IdsAlone
 pub mod Region
 pub mod RisingIds
 pub mod Rows

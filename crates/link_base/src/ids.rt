@@ -124,6 +124,18 @@ impl IdSet {
         }
     }
 
+    // The same ids; those that rise are copied, into as much memory as they need.
+    pub(crate) fn copied(self, alloc: Global) -> Result<IdSet, NoMemory>
+        ensures { IfOk result (λ ids. ids ≡ self) }
+    {
+        let rising = self.rising.copied(alloc)?;
+        Ok(IdSet {
+            rising,
+            pooled: self.pooled,
+            expected: self.expected,
+        })
+    }
+
     /// The number of ids.
     pub fn len(&self) -> u32
         ensures { result ≡ length self.now }

@@ -46,6 +46,16 @@ impl TextRegion {
         })
     }
 
+    // The same texts in as much memory as they need.
+    pub(crate) fn copied(&self, alloc: Global) -> Result<TextRegion, NoMemory>
+        ensures { IfOk result (λ made. made ≡ self.now) }
+    {
+        Ok(TextRegion {
+            bytes: Vec::from_slice(alloc, &self.bytes)?,
+            ends: Vec::from_slice(alloc, &self.ends)?,
+        })
+    }
+
     /// The number of texts.
     pub fn len(&self) -> usize
         ensures { result ≡ length self.now }

@@ -1,10 +1,11 @@
 // The values of records, row by row.
-ghost use Rattle.std.specs.Prelude.{◌≡◌, ◌<◌, [], length, slice_index_or};
+ghost use Rattle.std.specs.Prelude.{◌≡◌, ◌<◌, [], IfOk, length, replicate, slice_index_or};
 ghost use Rattle.link_base.specs.Region.{EndsAt, pieces_from};
 ghost use Rattle.link_base.specs.Rows.{AreCells, values_in};
 
 use crate::region::{TextRegion, piece_in};
 use crate::row::Row;
+use link_texts::NoMemory;
 use std::alloc::Global;
 use std::marker::Model;
 
@@ -48,6 +49,17 @@ impl StdRows {
         ensures { result ≡ pieces_from (values_in words cells.items) 0 ends.items }
     {
         StdRows { words, cells, ends }
+    }
+
+    // So many rows of no values.
+    pub(crate) fn empty(alloc: Global, count: usize) -> Result<StdRows, NoMemory>
+        ensures { IfOk result (λ rows. rows ≡ replicate count []) }
+    {
+        Ok(StdRows {
+            words: TextRegion::new(alloc),
+            cells: Vec::new(alloc),
+            ends: vec![in alloc; 0; count]?,
+        })
     }
 
     /// The number of rows.

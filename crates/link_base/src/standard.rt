@@ -1,5 +1,6 @@
 // Standard values, rows and files.
 ghost use Rattle.std.specs.Prelude.{◌≡◌, ◌<◌, [], IfNone, IfOk, IfSome, length, slice_index_or};
+ghost use Rattle.link_base.specs.IdsAlone.{ids_alone};
 ghost use Rattle.link_base.specs.Standard.{HaveDistinctIds, IsFreshId, no_record, position_of_id, records_of};
 
 use crate::ids::IdSet;
@@ -45,6 +46,17 @@ impl StdFile {
         ensures { result ≡ records_of ids rows }
     {
         StdFile { ids, rows }
+    }
+
+    /// The file of the same ids without any values, whose ids take as much memory as they need where they rise.
+    pub fn ids_alone(self, alloc: Global) -> Result<StdFile, NoMemory>
+        ensures { IfOk result (λ file. file ≡ ids_alone self) }
+    {
+        let count = self.rows.len();
+        drop(self.rows);
+        let ids = self.ids.copied(alloc)?;
+        let rows = StdRows::empty(alloc, count)?;
+        Ok(StdFile { ids, rows })
     }
 
     /// The number of records.
