@@ -1,20 +1,26 @@
 -- A key by the rules has one to six letters A to Z.
-use Rattle.std.proofs.Common.{◌≡◌, ℕ, zero, suc, ◌-◌, ◌<◌, ◌≤◌, ◌⊎◌, inl, inr, List, [], ◌∷◌, ◌++◌, Bool, true, false, cond, ◌&&◌, ◌||◌, not, ◌==◌, nat_lt, IsTrue, take, length, slice_index, get_or, refl, sym, subst, arith}
+use Rattle.std.proofs.Common.{◌≡◌, ℕ, zero, suc, ◌-◌, ◌<◌, ◌≤◌, ◌⊎◌, inl, inr, List, [], ◌∷◌, ◌++◌, Bool, true, false, cond, ◌&&◌, ◌||◌, not, ◌==◌, nat_lt, IsTrue, take, length, slice_index, refl, arith}
+use Rattle.std.specs.List.{AllByRecursion}
 use Rattle.std.proofs.lemmas.Grind.{common_steps}
+use Rattle.std.proofs.lemmas.List.Elements.{All-from_recursion}
 use Rattle.std.proofs.lemmas.Bool.Decides.{nat_tests}
-use Rattle.phonetic_keys.specs.Alphabet.{A, C, D, E, F, G, H, K, M, N, P, Q, S, V, W, Y, Z, in_vowels}
+use Rattle.phonetic_keys.specs.Alphabet.{A, C, D, E, F, G, H, I, K, M, N, P, Q, R, S, T, V, W, Y, Z, in_vowels}
 use Rattle.phonetic_keys.specs.Letters.{in_alphabet, letters_of}
 use Rattle.phonetic_keys.specs.Keys.{IsKey}
 use Rattle.phonetic_keys.specs.Nysiis.{body, body_over, body_rule, end_rule, ended, front, front_rule, last_of, rewritten_behind, spelled_on, tail_of, three_letters, with_ay_joined, without_last_letter}
 use Rattle.phonetic_keys.specs.declared.rewriting.Three.{Three}
+
+-- what holds of both results of a test holds of the result
+either : {X : Type 0} (P : X → Type 0) (b : Bool) (x y : X) → (b ≡ true → P x) → (b ≡ false → P y) → P (cond b x y)
+either P true x y h g = h refl
+either P false x y h g = g refl
 
 record IsLetter (c : ℕ) : Type 0 where
   pub low : 65 ≤ c
   pub high : c ≤ 90
 
 abbrev AreLetters : List ℕ → Type 0
-AreLetters [] = Unit {0}
-AreLetters (c ∷ cs) = IsLetter c × AreLetters cs
+AreLetters = AllByRecursion IsLetter
 
 letter : (c : ℕ) → 65 ≤ c → c ≤ 90 → IsLetter c
 letter c low high = record { low = low; high = high }
@@ -24,10 +30,6 @@ record AreThree (q r : ℕ) (t : Three) : Type 0 where
   pub here : IsLetter t.here
   pub next : IsLetter q → IsLetter t.next
   pub later : IsLetter r → IsLetter t.later
-
-one_of : (q r : ℕ) (b : Bool) (x y : Three) → AreThree q r x → AreThree q r y → AreThree q r (cond b x y)
-one_of q r true x y h g = h
-one_of q r false x y h g = g
 
 here_alone : (q r p : ℕ) → IsLetter p → AreThree q r (three_letters p q r)
 here_alone q r p h = record { here = h; next = λ g. g; later = λ g. g }
@@ -41,41 +43,37 @@ all_three q r p n l h g k = record { here = h; next = λ _. g; later = λ _. k }
 front_letters : (p q r : ℕ) → IsLetter p → AreThree q r (front_rule p q r)
 unfolding front_rule
 front_letters p q r h =
-    one_of q r _ _ _ (all_three q r M C C (letter M (omega arith) (omega arith)) (letter C (omega arith) (omega arith)) (letter C (omega arith) (omega arith)))
-    (one_of q r _ _ _ (here_and_next q r N N (letter N (omega arith) (omega arith)) (letter N (omega arith) (omega arith)))
-    (one_of q r _ _ _ (here_alone q r C (letter C (omega arith) (omega arith)))
-    (one_of q r _ _ _ (here_and_next q r F F (letter F (omega arith) (omega arith)) (letter F (omega arith) (omega arith)))
-    (one_of q r _ _ _ (all_three q r S S S (letter S (omega arith) (omega arith)) (letter S (omega arith) (omega arith)) (letter S (omega arith) (omega arith)))
-    (here_alone q r p h)))))
-
-first_letters : (p q r : ℕ) → IsLetter p → AreThree q r (body_rule 0 p q r)
-unfolding body_rule
-first_letters p q r h = here_alone q r p h
-
-later_letters : (before p q r : ℕ) → IsLetter before → IsLetter p → AreThree q r (body_rule before p q r)
-unfolding body_rule
-later_letters before p q r b h =
-    one_of q r (before == 0) _ _ (here_alone q r p h)
-    (one_of q r (p == E && q == V) _ _ (here_and_next q r A F (letter A (omega arith) (omega arith)) (letter F (omega arith) (omega arith)))
-    (one_of q r (in_vowels p) _ _ (here_alone q r A (letter A (omega arith) (omega arith)))
-    (one_of q r (p == Q) _ _ (here_alone q r G (letter G (omega arith) (omega arith)))
-    (one_of q r (p == Z) _ _ (here_alone q r S (letter S (omega arith) (omega arith)))
-    (one_of q r (p == M) _ _ (here_alone q r N (letter N (omega arith) (omega arith)))
-    (one_of q r (p == K && q == N) _ _ (here_alone q r N (letter N (omega arith) (omega arith)))
-    (one_of q r (p == K) _ _ (here_alone q r C (letter C (omega arith) (omega arith)))
-    (one_of q r (p == S && q == C && r == H) _ _ (all_three q r S S S (letter S (omega arith) (omega arith)) (letter S (omega arith) (omega arith)) (letter S (omega arith) (omega arith)))
-    (one_of q r (p == P && q == H) _ _ (here_and_next q r F F (letter F (omega arith) (omega arith)) (letter F (omega arith) (omega arith)))
-    (one_of q r (p == H && (not (in_vowels before) || not (in_vowels q))) _ _ (here_alone q r before b)
-    (one_of q r (p == W && in_vowels before) _ _ (here_alone q r before b)
-    (here_alone q r p h))))))))))))
+    either (AreThree q r) (p == M && q == A && r == C) _ _ (λ _. all_three q r M C C (letter M (omega arith) (omega arith)) (letter C (omega arith) (omega arith)) (letter C (omega arith) (omega arith)))
+    (λ _. either (AreThree q r) (p == K && q == N) _ _ (λ _. here_and_next q r N N (letter N (omega arith) (omega arith)) (letter N (omega arith) (omega arith)))
+    (λ _. either (AreThree q r) (p == K) _ _ (λ _. here_alone q r C (letter C (omega arith) (omega arith)))
+    (λ _. either (AreThree q r) (p == P && (q == H || q == F)) _ _ (λ _. here_and_next q r F F (letter F (omega arith) (omega arith)) (letter F (omega arith) (omega arith)))
+    (λ _. either (AreThree q r) (p == S && q == C && r == H) _ _ (λ _. all_three q r S S S (letter S (omega arith) (omega arith)) (letter S (omega arith) (omega arith)) (letter S (omega arith) (omega arith)))
+    (λ _. here_alone q r p h)))))
 
 -- nothing before, or a letter
 abbrev IsBefore : ℕ → Type 0
 IsBefore before = (before ≡ 0) ⊎ IsLetter before
 
+not_none : (e : ℕ) → IsBefore e → (e == 0) ≡ false → IsLetter e
+not_none e (inl none) h = absurd (grind (arith, nat_tests))
+not_none e (inr is) h = is
+
 rule_letters : (before p q r : ℕ) → IsBefore before → IsLetter p → AreThree q r (body_rule before p q r)
-rule_letters before p q r (inl none) h = subst (λ b. AreThree q r (body_rule b p q r)) (sym none) (first_letters p q r h)
-rule_letters before p q r (inr b) h = later_letters before p q r b h
+unfolding body_rule
+rule_letters before p q r b h =
+    either (AreThree q r) (before == 0) _ _ (λ _. here_alone q r p h)
+    (λ some. either (AreThree q r) (p == E && q == V) _ _ (λ _. here_and_next q r A F (letter A (omega arith) (omega arith)) (letter F (omega arith) (omega arith)))
+    (λ _. either (AreThree q r) (in_vowels p) _ _ (λ _. here_alone q r A (letter A (omega arith) (omega arith)))
+    (λ _. either (AreThree q r) (p == Q) _ _ (λ _. here_alone q r G (letter G (omega arith) (omega arith)))
+    (λ _. either (AreThree q r) (p == Z) _ _ (λ _. here_alone q r S (letter S (omega arith) (omega arith)))
+    (λ _. either (AreThree q r) (p == M) _ _ (λ _. here_alone q r N (letter N (omega arith) (omega arith)))
+    (λ _. either (AreThree q r) (p == K && q == N) _ _ (λ _. here_alone q r N (letter N (omega arith) (omega arith)))
+    (λ _. either (AreThree q r) (p == K) _ _ (λ _. here_alone q r C (letter C (omega arith) (omega arith)))
+    (λ _. either (AreThree q r) (p == S && q == C && r == H) _ _ (λ _. all_three q r S S S (letter S (omega arith) (omega arith)) (letter S (omega arith) (omega arith)) (letter S (omega arith) (omega arith)))
+    (λ _. either (AreThree q r) (p == P && q == H) _ _ (λ _. here_and_next q r F F (letter F (omega arith) (omega arith)) (letter F (omega arith) (omega arith)))
+    (λ _. either (AreThree q r) (p == H && (not (in_vowels before) || not (in_vowels q))) _ _ (λ _. here_alone q r before (not_none before b some))
+    (λ _. either (AreThree q r) (p == W && in_vowels before) _ _ (λ _. here_alone q r before (not_none before b some))
+    (λ _. here_alone q r p h))))))))))))
 
 behind_letters : (cs : List ℕ) (t : Three) → AreLetters cs → AreThree (slice_index cs 0) (slice_index cs 1) t → AreLetters (rewritten_behind cs t)
 behind_letters [] t are three = tt
@@ -88,48 +86,28 @@ front_are (p ∷ cs) are =
     let three = front_letters p (slice_index cs 0) (slice_index cs 1) are.0 in
     (three.here, behind_letters cs (front_rule p (slice_index cs 0) (slice_index cs 1)) are.1 three)
 
-none_or_letter : (b : Bool) (x y : ℕ) → IsLetter x → IsBefore y → IsBefore (cond b x y)
-none_or_letter true x y h g = inr h
-none_or_letter false x y h g = g
-
 end_letter : (x y : ℕ) → IsBefore (end_rule x y)
 unfolding end_rule
 end_letter x y =
-    none_or_letter _ Y _ (letter Y (omega arith) (omega arith))
-    (none_or_letter _ D _ (letter D (omega arith) (omega arith))
-    (none_or_letter _ D 0 (letter D (omega arith) (omega arith)) (inl refl)))
-
-last_two : (b : Bool) (x y e : ℕ) → (b ≡ false → IsLetter e) → IsLetter x → IsLetter y → AreLetters (cond b (x ∷ y ∷ []) (e ∷ []))
-last_two true x y e is h g = (h, (g, tt))
-last_two false x y e is h g = (is refl, tt)
-
-not_none : (e : ℕ) → IsBefore e → (e == 0) ≡ false → IsLetter e
-not_none e (inl none) h = absurd (grind (arith, nat_tests))
-not_none e (inr is) h = is
+    either IsBefore ((x == E || x == I) && y == E) Y _ (λ _. inr (letter Y (omega arith) (omega arith)))
+    (λ _. either IsBefore ((x == D || x == R || x == N) && y == T) D _ (λ _. inr (letter D (omega arith) (omega arith)))
+    (λ _. either IsBefore ((x == R || x == N) && y == D) D 0 (λ _. inr (letter D (omega arith) (omega arith))) (λ _. inl refl)))
 
 ended_are : (cs : List ℕ) → AreLetters cs → AreLetters (ended cs)
 ended_are [] are = tt
 ended_are (x ∷ []) are = are
-ended_are (x ∷ y ∷ []) are = last_two (end_rule x y == 0) x y (end_rule x y) (not_none (end_rule x y) (end_letter x y)) are.0 are.1.0
+ended_are (x ∷ y ∷ []) are = either AreLetters (end_rule x y == 0) (x ∷ y ∷ []) (end_rule x y ∷ []) (λ _. are) (λ other. (not_none (end_rule x y) (end_letter x y) other, tt))
 ended_are (x ∷ y ∷ z ∷ zs) are = (are.0, ended_are (y ∷ z ∷ zs) are.1)
-
-either_some : (b : Bool) (xs ys : List ℕ) → 0 < length xs → 0 < length ys → 0 < length (cond b xs ys)
-either_some true xs ys h g = h
-either_some false xs ys h g = g
 
 ended_some : (cs : List ℕ) → 0 < length cs → 0 < length (ended cs)
 ended_some [] some = some
 ended_some (x ∷ []) some = some
-ended_some (x ∷ y ∷ []) some = either_some (end_rule x y == 0) (x ∷ y ∷ []) (end_rule x y ∷ []) (omega arith) (omega arith)
+ended_some (x ∷ y ∷ []) some = either (λ cs. 0 < length cs) (end_rule x y == 0) (x ∷ y ∷ []) (end_rule x y ∷ []) (λ _. omega arith) (λ _. omega arith)
 ended_some (x ∷ y ∷ z ∷ zs) some = omega arith
 
 front_some : (cs : List ℕ) → 0 < length cs → 0 < length (front cs)
 front_some [] some = some
 front_some (p ∷ cs) some = omega arith
-
-either_are : (b : Bool) (xs ys : List ℕ) → AreLetters xs → AreLetters ys → AreLetters (cond b xs ys)
-either_are true xs ys h g = h
-either_are false xs ys h g = g
 
 append_are : (xs ys : List ℕ) → AreLetters xs → AreLetters ys → AreLetters (xs ++ ys)
 append_are [] ys h g = g
@@ -143,14 +121,10 @@ take_are (suc n) (x ∷ xs) h = (h.0, take_are n xs h.1)
 
 -- what is spelled of letters
 spelled_are : (key : List ℕ) (c : ℕ) → AreLetters key → IsLetter c → AreLetters (spelled_on key c)
-spelled_are key c are h = either_are (last_of key == c) key (key ++ c ∷ []) are (append_are key (c ∷ []) are (h, tt))
-
-either_long : (b : Bool) (n : ℕ) (xs ys : List ℕ) → n ≤ length xs → n ≤ length ys → n ≤ length (cond b xs ys)
-either_long true n xs ys h g = h
-either_long false n xs ys h g = g
+spelled_are key c are h = either AreLetters (last_of key == c) key (key ++ c ∷ []) (λ _. are) (λ _. append_are key (c ∷ []) are (h, tt))
 
 spelled_long : (key : List ℕ) (c : ℕ) → length key ≤ length (spelled_on key c)
-spelled_long key c = either_long (last_of key == c) (length key) key (key ++ c ∷ []) (omega arith) (grind (arith, common_steps))
+spelled_long key c = either (λ xs. length key ≤ length xs) (last_of key == c) key (key ++ c ∷ []) (λ _. omega arith) (λ _. grind (arith, common_steps))
 
 body_are : (n before : ℕ) (cs key : List ℕ) → IsBefore before → AreLetters cs → AreLetters key → AreLetters (body_over n before cs key)
 body_are zero before cs key b are k = k
@@ -169,12 +143,8 @@ body_long (suc n) before (p ∷ cs) key =
     let b = body_long n t.here (rewritten_behind cs t) (spelled_on key t.here) in
     omega arith
 
-one_letter : (b : Bool) (c : ℕ) → b ≡ false → 0 < length (cond b [] (c ∷ []))
-one_letter true c h = absurd (let e : true ≡ false = h in cc)
-one_letter false c h = omega arith
-
 first_spelled : (c : ℕ) → IsLetter c → 0 < length (spelled_on [] c)
-first_spelled c h = let low = h.low in one_letter (last_of [] == c) c (grind (arith, nat_tests))
+first_spelled c h = let low = h.low in either (λ cs. 0 < length cs) (last_of [] == c) [] (c ∷ []) (λ same. absurd (grind (arith, nat_tests))) (λ _. omega arith)
 
 body_some : (before : ℕ) (cs : List ℕ) → IsBefore before → AreLetters cs → 0 < length cs → 0 < length (body before cs [])
 unfolding body
@@ -192,11 +162,7 @@ whole_are cs are = body_are (length (ended (front cs))) 0 (ended (front cs)) [] 
 
 -- the end of a key
 last_are : (c : ℕ) (key : List ℕ) → AreLetters key → AreLetters (without_last_letter c key)
-last_are c key are = either_are (nat_lt 1 (length key) && last_of key == c) (take (length key - 1) key) key (take_are (length key - 1) key are) are
-
-guarded_some : (b : Bool) (xs ys : List ℕ) → (b ≡ true → 0 < length xs) → 0 < length ys → 0 < length (cond b xs ys)
-guarded_some true xs ys h g = h refl
-guarded_some false xs ys h g = g
+last_are c key are = either AreLetters (nat_lt 1 (length key) && last_of key == c) (take (length key - 1) key) key (λ _. take_are (length key - 1) key are) (λ _. are)
 
 room : (n : ℕ) (b : Bool) → (nat_lt 1 n && b) ≡ true → 1 < n
 room n b h = grind (arith, nat_tests)
@@ -205,13 +171,13 @@ shorter_some : (key : List ℕ) → 1 < length key → 0 < length (take (length 
 shorter_some key h = grind (arith, common_steps)
 
 last_some : (c : ℕ) (key : List ℕ) → 0 < length key → 0 < length (without_last_letter c key)
-last_some c key some = guarded_some (nat_lt 1 (length key) && last_of key == c) (take (length key - 1) key) key (λ h. shorter_some key (room (length key) (last_of key == c) h)) some
+last_some c key some = either (λ xs. 0 < length xs) (nat_lt 1 (length key) && last_of key == c) (take (length key - 1) key) key (λ h. shorter_some key (room (length key) (last_of key == c) h)) (λ _. some)
 
 joined_are : (key : List ℕ) → AreLetters key → AreLetters (with_ay_joined key)
-joined_are key are = either_are _ (take (length key - 2) key ++ Y ∷ []) key (append_are (take (length key - 2) key) (Y ∷ []) (take_are (length key - 2) key are) (letter Y (omega arith) (omega arith), tt)) are
+joined_are key are = either AreLetters _ (take (length key - 2) key ++ Y ∷ []) key (λ _. append_are (take (length key - 2) key) (Y ∷ []) (take_are (length key - 2) key are) (letter Y (omega arith) (omega arith), tt)) (λ _. are)
 
 joined_some : (key : List ℕ) → 0 < length key → 0 < length (with_ay_joined key)
-joined_some key some = either_some _ (take (length key - 2) key ++ Y ∷ []) key (grind (arith, common_steps)) some
+joined_some key some = either (λ xs. 0 < length xs) _ (take (length key - 2) key ++ Y ∷ []) key (λ _. grind (arith, common_steps)) (λ _. some)
 
 cut_some : (most : ℕ) (key : List ℕ) → 0 < most → 0 < length key → 0 < length (take most key)
 cut_some most key h some = grind (arith, common_steps)
@@ -223,11 +189,6 @@ cut_few most key = grind (arith, common_steps)
 is_in : (c : ℕ) → IsLetter c → IsTrue (in_alphabet c)
 is_in c is = let low = is.low in let high = is.high in grind (arith, nat_tests)
 
-all_letters : (key : List ℕ) → AreLetters key → (k d : ℕ) → k < length key → IsTrue (in_alphabet (get_or key k d))
-all_letters [] are k d lt = absurd (omega arith)
-all_letters (c ∷ cs) are zero d lt = is_in c are.0
-all_letters (c ∷ cs) are (suc k) d lt = all_letters cs are.1 k d (omega arith)
-
 tail_key : (key : List ℕ) → AreLetters key → 0 < length key → IsKey (tail_of key)
 unfolding tail_of
 tail_key key are some =
@@ -237,17 +198,13 @@ tail_key key are some =
     record {
       some = cut_some 6 c (omega arith) (last_some A b (joined_some a (last_some S key some)));
       few = cut_few 6 c;
-      letters = λ k d lt. all_letters (take 6 c) (take_are 6 c (last_are A b (joined_are a (last_are S key are)))) k d lt;
+      letters = λ k d lt. is_in _ (All-from_recursion IsLetter (take 6 c) (take_are 6 c (last_are A b (joined_are a (last_are S key are)))) k d lt);
     }
 
 -- the letters of a text
-kept : (c : ℕ) (b : Bool) (cs : List ℕ) → in_alphabet c ≡ b → AreLetters cs → AreLetters (cond b (c ∷ cs) cs)
-kept c true cs is are = (letter c (grind (arith, nat_tests)) (grind (arith, nat_tests)), are)
-kept c false cs is are = are
-
 text_letters : (text : List ℕ) → AreLetters (letters_of text)
 text_letters [] = tt
-text_letters (c ∷ cs) = kept c (in_alphabet c) (letters_of cs) refl (text_letters cs)
+text_letters (c ∷ cs) = either AreLetters (in_alphabet c) (c ∷ letters_of cs) (letters_of cs) (λ is. (letter c (grind (arith, nat_tests)) (grind (arith, nat_tests)), text_letters cs)) (λ _. text_letters cs)
 
 pub text_key : (text : List ℕ) → 0 < length (letters_of text) → IsKey (tail_of (body 0 (ended (front (letters_of text))) []))
 text_key text some =

@@ -15,16 +15,13 @@ shown_none zero cs h = refl
 shown_none (suc c) cs h = absurd (omega arith)
 
 zero_by : (a b : ℕ) → (0 < a) ↔ (0 < b) → a ≡ 0 → b ≡ 0
-zero_by a zero e h = refl
-zero_by a (suc b) e h = let x : 0 < a = e.1 (omega arith) in absurd (omega arith)
+zero_by a b e h = grind arith
 
 zero_back : (a b : ℕ) → (0 < a) ↔ (0 < b) → b ≡ 0 → a ≡ 0
-zero_back zero b e h = refl
-zero_back (suc a) b e h = let x : 0 < b = e.0 (omega arith) in absurd (omega arith)
+zero_back a b e h = grind arith
 
 one_each : (a b : ℕ) → (0 < a) ↔ (0 < b) → min 1 a ≡ min 1 b
-one_each zero b e = let z : b ≡ 0 = zero_by zero b e refl in omega arith
-one_each (suc a) b e = let x : 0 < b = e.0 (omega arith) in omega arith
+one_each a b e = grind arith
 
 length_behind : (cs : List ℕ) (t : Three) → length (rewritten_behind cs t) ≡ length cs
 length_behind [] t = refl
@@ -128,8 +125,6 @@ full w c more filled =
 
 pub filled_more : (w v : Walk) (c : ℕ) (more : List ℕ) → 0 < c → IsFull w → StepsOverPlace w v c → HasNoGaps v more
 filled_more w v c more some is steps =
-    let x = steps.p.0 is.q in let y = steps.q.0 is.r in
-    let sr = steps.r in let ss = steps.s in let ws = is.s in
     record { p = λ h. absurd (omega arith); q = λ h. absurd (omega arith); r = λ h. absurd (omega arith); s = λ h. absurd (omega arith) }
 
 ended_far : (p q r s c : ℕ) (more : List ℕ) → 0 < p → 0 < q → 0 < r → 0 < s → ended (shown p (shown q (shown r (shown s (c ∷ more))))) ≡ p ∷ shown q (shown r (ended (s ∷ c ∷ more)))

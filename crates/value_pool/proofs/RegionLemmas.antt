@@ -1,12 +1,14 @@
 -- One text more in a region of bytes.
-use Rattle.std.proofs.Common.{◌≡◌, ◌<◌, ◌≤◌, ◌+◌, ◌-◌, ℕ, zero, suc, Bool, true, false, ◌||◌, ◌≢◌, List, [], ◌∷◌, ◌++◌, length, get_or, take, drop, refl, ap, sym, ◌∙◌, arith, length-append, length-drop}
+use Rattle.std.proofs.Common.{◌≡◌, ◌<◌, ◌≤◌, ◌+◌, ◌-◌, ℕ, suc, Bool, true, false, ◌||◌, ◌≢◌, List, [], ◌∷◌, ◌++◌, length, get_or, take, drop, refl, ap, sym, ◌∙◌, arith, length-append, length-drop}
 use Rattle.std.specs.Prelude.{Some, slice_get, slice_range, if◌then◌else◌}
 use Rattle.std.specs.Str.{bytes_eq}
 use Rattle.std.specs.List.{All, AllPairs, list_any, sum_by}
 use Rattle.std.proofs.lemmas.List.Sums.{sum_by_push}
-use Rattle.std.proofs.lemmas.List.{take-append-le, drop-append-le}
+use Rattle.std.proofs.lemmas.Bool.{false≢true}
+use Rattle.std.proofs.lemmas.List.{drop-append-le, get_or-map, length-map, map-append, take-append-le}
 use Rattle.std.proofs.lemmas.List.Quantifiers.{all_pairs_push}
-use Rattle.std.proofs.lemmas.List.Folds.{list_any-append}
+use Rattle.std.proofs.lemmas.List.Folds.{list_any-append, list_any_at}
+use Rattle.std.proofs.lemmas.Option.{slice_get-get_or}
 use Rattle.std.proofs.lemmas.List.Elements.{All-push}
 use Rattle.std.proofs.lemmas.Slice.Eq.{bytes_eq-Decides}
 use Rattle.std.proofs.lemmas.Grind.{common_steps}
@@ -14,11 +16,12 @@ use Rattle.value_pool.specs.declared.chains.Slot.{Slot}
 use Rattle.value_pool.specs.Texts.{stands_among}
 use Rattle.value_pool.specs.Hashes.{last_word}
 use Rattle.value_pool.specs.Region.{IsSlotWithin, most_texts, texts_at}
+use Rattle.value_pool.proofs.ChainLemmas.{slot_at}
 
 pub found_at : (bytes : List ℕ) (slots : List Slot) (i : ℕ) (s : Slot) (text : List ℕ) → i < length slots → s ≡ get_or slots i s → slice_range bytes s.start s.end ≡ text → slice_get (texts_at bytes slots) i ≡ Some text
-found_at bytes [] i s text h e r = absurd (omega arith)
-found_at bytes (x ∷ xs) zero s text h e r = ap (λ (y : Slot). Some (slice_range bytes y.start y.end)) (sym e) ∙ ap Some r
-found_at bytes (x ∷ xs) (suc i) s text h e r = found_at bytes xs i s text (omega arith) e r
+found_at bytes slots i s text h e r =
+    let read = λ (y : Slot). slice_range bytes y.start y.end in
+    slice_get-get_or (texts_at bytes slots) i [] (omega (arith, length-map slots read)) ∙ ap Some (sym (slot_at read slots i s [] h e) ∙ r)
 
 read-append : (bytes more : List ℕ) (a b : ℕ) → a ≤ b → b ≤ length bytes → slice_range (bytes ++ more) a b ≡ slice_range bytes a b
 read-append bytes more a b h k =
@@ -32,29 +35,15 @@ texts-append bytes more (s ∷ ss) h =
     let rest = texts-append bytes more ss (λ k d within. h (suc k) d (omega arith)) in
     λ i. read-append bytes more s.start s.end here.ordered here.within i ∷ rest i
 
-pub map-push : (bytes : List ℕ) (slots : List Slot) (s : Slot) → texts_at bytes (slots ++ s ∷ []) ≡ texts_at bytes slots ++ slice_range bytes s.start s.end ∷ []
-map-push bytes [] s = refl
-map-push bytes (x ∷ xs) s = ap (λ ts. slice_range bytes x.start x.end ∷ ts) (map-push bytes xs s)
-
 read-last : (bytes text : List ℕ) (a b : ℕ) → a ≡ length bytes → b ≡ a + length text → slice_range (bytes ++ text) a b ≡ text
 read-last bytes text a b e f = grind (arith, common_steps)
 
 pub texts-push : (bytes text : List ℕ) (slots : List Slot) (s : Slot) → All (IsSlotWithin bytes) slots → s.start ≡ length bytes → s.end ≡ length bytes + length text → texts_at (bytes ++ text) (slots ++ s ∷ []) ≡ texts_at bytes slots ++ text ∷ []
 texts-push bytes text slots s h e f =
-    map-push (bytes ++ text) slots s ∙ (λ i. texts-append bytes text slots h i ++ read-last bytes text s.start s.end e (f ∙ ap (λ n. n + length text) (sym e)) i ∷ [])
-
-first_false : (a b : Bool) → (a || b) ≡ false → a ≡ false
-first_false true b h = cc
-first_false false b h = refl
-
-second_false : (a b : Bool) → (a || b) ≡ false → b ≡ false
-second_false true b h = cc
-second_false false b h = h
+    map-append (λ (x : Slot). slice_range (bytes ++ text) x.start x.end) slots (s ∷ []) ∙ (λ i. texts-append bytes text slots h i ++ read-last bytes text s.start s.end e (f ∙ ap (λ n. n + length text) (sym e)) i ∷ [])
 
 pub differs_at : (texts : List (List ℕ)) (text : List ℕ) → stands_among texts text ≡ false → (k : ℕ) (d : List ℕ) → k < length texts → get_or texts k d ≢ text
-differs_at [] text h k d within = absurd (omega arith)
-differs_at (t ∷ ts) text h zero d within = λ same. let yes_ = (bytes_eq-Decides t text).1 same in let no_ = first_false (bytes_eq t text) _ h in cc
-differs_at (t ∷ ts) text h (suc k) d within = differs_at ts text (second_false (bytes_eq t text) _ h) k d (omega arith)
+differs_at texts text h k d within = λ same. false≢true (sym h ∙ list_any_at (λ t. bytes_eq t text) texts k d within ((bytes_eq-Decides (get_or texts k d) text).1 same))
 
 pub distinct-push : (texts : List (List ℕ)) (text : List ℕ) → AllPairs (λ a b. a ≢ b) texts → stands_among texts text ≡ false → AllPairs (λ a b. a ≢ b) (texts ++ text ∷ [])
 distinct-push texts text h fresh = all_pairs_push (λ a b. a ≢ b) texts text h (differs_at texts text fresh)
@@ -107,6 +96,4 @@ appended bytes text slots s bytes' slots' h distinct most fresh e f g is_bytes i
     }
 
 pub text_at : (bytes : List ℕ) (slots : List Slot) (p : ℕ) (d : Slot) → p < length slots → slice_range bytes (get_or slots p d).start (get_or slots p d).end ≡ get_or (texts_at bytes slots) p []
-text_at bytes [] p d h = absurd (omega arith)
-text_at bytes (x ∷ xs) zero d h = refl
-text_at bytes (x ∷ xs) (suc p) d h = text_at bytes xs p d (omega arith)
+text_at bytes slots p d h = sym (get_or-map (λ (s : Slot). slice_range bytes s.start s.end) slots p d [] h)

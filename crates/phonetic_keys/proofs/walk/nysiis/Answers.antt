@@ -1,4 +1,4 @@
-use Rattle.std.proofs.Common.{◌≡◌, ℕ, ◌+◌, ◌<◌, ◌≤◌, List, [], ◌∷◌, Some, cond, true, false, drop, length, get_or, refl, ap, sym, ◌∙◌, subst, arith}
+use Rattle.std.proofs.Common.{◌≡◌, ℕ, ◌+◌, ◌<◌, ◌≤◌, List, [], ◌∷◌, Bool, Some, cond, true, false, drop, length, get_or, refl, ap, sym, ◌∙◌, subst, arith}
 use Rattle.std.proofs.lemmas.List.{at_drop_all, at_drop_more}
 use Rattle.std.proofs.lemmas.Bool.Decides.{nat_tests}
 use Rattle.phonetic_keys.specs.Letters.{in_alphabet, letters_of}
@@ -12,12 +12,9 @@ use Rattle.phonetic_keys.proofs.WalkLemmas.{full, filled_more, step_over}
 use Rattle.phonetic_keys.proofs.walk.nysiis.Goals as goal
 use Rattle.phonetic_keys.proofs.walk.nysiis.Goals.{then-is_letter, else-is_letter}
 
--- the letters from a place on, where a letter stands there, and where none does
-letter_here : (xs : List ℕ) (i : ℕ) → i < length xs → in_alphabet (get_or xs i 0) ≡ true → letters_of (drop i xs) ≡ get_or xs i 0 ∷ letters_of (drop (i + 1) xs)
-letter_here xs i lt letter = at_drop_more letters_of xs i 0 lt ∙ ap (λ b. cond b (get_or xs i 0 ∷ letters_of (drop (i + 1) xs)) (letters_of (drop (i + 1) xs))) letter
-
-none_here : (xs : List ℕ) (i : ℕ) → i < length xs → in_alphabet (get_or xs i 0) ≡ false → letters_of (drop i xs) ≡ letters_of (drop (i + 1) xs)
-none_here xs i lt letter = at_drop_more letters_of xs i 0 lt ∙ ap (λ b. cond b (get_or xs i 0 ∷ letters_of (drop (i + 1) xs)) (letters_of (drop (i + 1) xs))) letter
+-- the letters from a place on, by whether a letter stands there
+letters_here : (xs : List ℕ) (i : ℕ) (test : Bool) → i < length xs → in_alphabet (get_or xs i 0) ≡ test → letters_of (drop i xs) ≡ cond test (get_or xs i 0 ∷ letters_of (drop (i + 1) xs)) (letters_of (drop (i + 1) xs))
+letters_here xs i test lt is = at_drop_more letters_of xs i 0 lt ∙ ap (λ b. cond b (get_or xs i 0 ∷ letters_of (drop (i + 1) xs)) (letters_of (drop (i + 1) xs))) is
 
 positive : (c : ℕ) → in_alphabet c ≡ true → 0 < c
 positive c letter = grind (arith, nat_tests)
@@ -39,7 +36,7 @@ pub step-requires : goal.step-requires
 step-requires c =
     let xs = c.in_ok-walk.rest.now in
     let i = c.loop-byte.byte-index in
-    let here = letter_here xs i c.loop-byte-test.true (sym c.is_letter.ensures ∙ c.if-is_letter.true) in
+    let here = letters_here xs i true c.loop-byte-test.true (sym c.is_letter.ensures ∙ c.if-is_letter.true) in
     (full c.loop-byte.walk (get_or xs i 0) (letters_of (drop (i + 1) xs)) (subst (λ ls. HasNoGaps c.loop-byte.walk ls) here c.loop-byte.invariant.filled)).p
 
 pub loop-byte-preserved : goal.loop-byte-preserved
@@ -51,7 +48,7 @@ loop-byte-preserved c =
     elim c.if-is_letter.branch [
       | then-is_letter w ↦
           let letter = sym c.is_letter.ensures ∙ w.if-is_letter.true in
-          let here = letter_here xs i c.loop-byte-test.true letter in
+          let here = letters_here xs i true c.loop-byte-test.true letter in
           let filled = subst (λ ls. HasNoGaps c.loop-byte.walk ls) here c.loop-byte.invariant.filled in
           let is = full c.loop-byte.walk (get_or xs i 0) more filled in
           let some = positive (get_or xs i 0) letter in
@@ -67,7 +64,7 @@ loop-byte-preserved c =
             );
           }
       | else-is_letter w ↦
-          let none = none_here xs i c.loop-byte-test.true (sym c.is_letter.ensures ∙ w.if-is_letter.false) in
+          let none = letters_here xs i false c.loop-byte-test.true (sym c.is_letter.ensures ∙ w.if-is_letter.false) in
           let kept = c.loop-byte.invariant in
           subst (λ v. record { filled : HasNoGaps v more; key : (all : List ℕ) × KeepsKey all v.key × (body v.before (ended (text_of v more)) all ≡ body 0 (ended (front (letters_of c.args.text.now))) []) }) (sym w.walk-is) (record {
             filled = subst (λ ls. HasNoGaps c.loop-byte.walk ls) none kept.filled;

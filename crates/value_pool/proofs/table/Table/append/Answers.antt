@@ -2,9 +2,9 @@ use Rattle.std.proofs.Common.{◌≡◌, ◌≤◌, ◌+◌, ◌-◌, ◌++◌, 
 use Rattle.value_pool.specs.declared.chains.Slot.{Slot}
 use Rattle.value_pool.specs.Region.{hashes_of, nexts_of, texts_at}
 use Rattle.value_pool.specs.Table.{texts_of}
-use Rattle.std.proofs.lemmas.List.{length-map}
+use Rattle.std.proofs.lemmas.List.{length-map, map-append}
 use Rattle.value_pool.proofs.RegionLemmas.{appended, texts-push}
-use Rattle.value_pool.proofs.ChainLemmas.{chained-push, hashes-push, nexts-push}
+use Rattle.value_pool.proofs.ChainLemmas.{chained-push}
 use Rattle.value_pool.proofs.HashLemmas.{hashed-push}
 use Rattle.value_pool.proofs.SearchLemmas.{as_many}
 use Rattle.value_pool.proofs.table.Table.append.Goals as goal
@@ -21,8 +21,8 @@ returns-clause-table c =
     let grown : c.push.new.self.items ≡ table.slots.items ++ slot ∷ [] = search rules in
     let longer : c.extend_from_slice.new.self.items ≡ table.bytes.items ++ c.args.text.now = search rules in
     let all = appended table.bytes.items c.args.text.now table.slots.items slot _ _ c.requires.table.within c.requires.table.distinct c.requires.table.few c.requires.fresh start (ap (λ n. n + length c.args.text.now) start) c.requires.last longer grown in
-    let nexts = ap nexts_of grown ∙ nexts-push table.slots.items slot in
-    let hashes = ap hashes_of grown ∙ hashes-push table.slots.items slot in
+    let nexts = ap nexts_of grown ∙ map-append (λ (s : Slot). s.next) table.slots.items (slot ∷ []) in
+    let hashes = ap hashes_of grown ∙ map-append (λ (s : Slot). s.hash) table.slots.items (slot ∷ []) in
     let many = length-map table.slots.items (λ (s : Slot). s.hash) in
     let place : c.len-place.result ≡ length table.slots.items = search rules in
     record {
