@@ -1,11 +1,10 @@
 // Room for all that a side does.
-ghost use Rattle.std.specs.Prelude.{IfOk, length};
+ghost use Rattle.std.specs.Prelude.{◌≡◌, IfOk, None, length, replicate};
 ghost use Rattle.assignment_steps.specs.Reached.{IsAtRest};
 
 use crate::market::Tree;
-use crate::solve::clean_tree;
 use crate::spare::Spare;
-use assignment_steps::Edge;
+use assignment_steps::{Edge, MaybeEdge, Reached, no_links};
 use link_base::NoMemory;
 use std::alloc::Global;
 
@@ -41,7 +40,12 @@ pub(crate) fn room_for_side(
     ensures { IfOk result (λ r. IsAtRest rows_a rows_b (length edges.now) r.tree.reached) }
 {
     let is_needed = !have_one_each(edges);
-    let tree = clean_tree(alloc, rows_a, rows_b, edges.len())?;
+    let reached = Reached::new(alloc, rows_a, rows_b, edges.len())?;
+    let tree = Tree {
+        reached,
+        best_free: None,
+        looks: 0,
+    };
     match Spare::new(
         alloc,
         records_if(is_needed, rows_a),
@@ -53,4 +57,21 @@ pub(crate) fn room_for_side(
             Err(error)
         }
     }
+}
+
+/// Links of the records of both sides.
+#[derive(Drop)]
+pub(crate) struct Links {
+    pub(crate) a: Vec<MaybeEdge>,
+    pub(crate) b: Vec<MaybeEdge>,
+}
+
+/// So many records of both sides without a link.
+pub(crate) fn free_links(alloc: Global, rows_a: usize, rows_b: usize) -> Result<Links, NoMemory>
+    ensures a { IfOk result (λ l. l.a.items ≡ replicate rows_a None) }
+    ensures b { IfOk result (λ l. l.b.items ≡ replicate rows_b None) }
+{
+    let a = no_links(alloc, rows_a)?;
+    let b = no_links(alloc, rows_b)?;
+    Ok(Links { a, b })
 }

@@ -7,9 +7,8 @@ ghost use Rattle.assignment_steps.specs.Reached.{IsAtRest};
 ghost use Rattle.assignment.specs.Sides.{HasRun, IsOther, IsSide, IsSideOf, IsTakenOver, TakesOver};
 
 use crate::market::Tree;
-use crate::room::room_for_side;
+use crate::room::{free_links, room_for_side};
 use crate::round::search_each;
-use crate::solve::free_links;
 use crate::spare::{Spare, take_proposal};
 use assignment_steps::{
     Board, Edge, MaybeEdge, Net, adopt_all, join_as_turned, link_tight, waiting,

@@ -62,10 +62,7 @@ fn join_turned(
         return;
     }
     let turned = board.turned[j];
-    let Some(k) = place_of(board, turned.b as usize, turned.a) else {
-        return;
-    };
-    join(board.edges, link_a, link_b, k);
+    join_mate(board, link_a, link_b, turned.b as usize, turned.a);
 }
 
 /// Links records as the links of the turned edges do.

@@ -2,10 +2,8 @@
 use Rattle.std.specs.Prelude.{◌≡◌, ℕ, ◌+◌, ◌<◌, ◌≤◌, List, length, Option, None}
 use Rattle.assignment_steps.specs.declared.market.Edge.{Edge}
 use Rattle.assignment_steps.specs.Market.{edge, link, number}
-use Rattle.assignment_steps.specs.Between.{IsDone, IsPriced}
+use Rattle.assignment_steps.specs.Between.{IsPriced}
 use Rattle.assignment_steps.specs.Free.{AreSettled, IsSettled}
-use Rattle.assignment_steps.specs.Reached.{IsAtRest}
-use Rattle.capacity_assign.specs.declared.market.Tree.{Tree}
 use Rattle.capacity_assign.specs.Core.{KeepsCapacities, linked_at}
 use Rattle.capacity_assign.specs.Seating.{AreSeats, HasPlace, IsFull, Seating}
 
@@ -20,14 +18,6 @@ pub record IsBetweenRounds (es : List Edge) (pa pb : List ℕ) (la : List (Optio
 pub record Advances (es : List Edge) (la : List (Option ℕ)) (left : List ℕ) (pa' pb' : List ℕ) (la' : List (Option ℕ)) (s' : Seating) (done : ℕ) : Type 0 where
   pub between : IsBetweenRounds es pa' pb' la' s' done
   pub places : KeepsCapacities es la left la' s'.left
-
--- a record of A was taken up: it is done, as are those that were
-pub record TakesUp (es : List Edge) (root : ℕ) (pa : List ℕ) (la : List (Option ℕ)) (left pa' pb' : List ℕ) (la' : List (Option ℕ)) (s' : Seating) (t : Tree) : Type 0 where
-  pub between : IsBetweenRounds es pa' pb' la' s' 0
-  pub places : KeepsCapacities es la left la' s'.left
-  pub kept : (a : ℕ) → IsDone pa la a → IsDone pa' la' a
-  pub done : IsDone pa' la' root
-  pub tree : IsAtRest (length pa') (length pb') (length es) t.reached
 
 -- edge k was tried: it is settled, and what was linked or full stays so
 pub record TriesEdge (es : List Edge) (pa pb : List ℕ) (k : ℕ) (la : List (Option ℕ)) (left : List ℕ) (la' : List (Option ℕ)) (s' : Seating) : Type 0 where

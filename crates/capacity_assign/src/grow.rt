@@ -115,23 +115,8 @@ fn join_seat(ground: Ground<'_>, tree: &mut Tree, n: usize)
     relax_joined(ground, tree, position);
 }
 
-/// The record of B that is the nearest, and has no place left, is held.
-fn hold(ground: Ground<'_>, tree: &mut Tree, near: Near)
-    requires full { places_left ground near.position ≡ 0 }
-    requires useful { near.distance < tree.old.reached.best }
-    requires exact { distance tree.old.reached.dist_b.items near.position ≡ near.distance }
-    requires nearest { IsNearest ((near.distance, near.position) ∷ tree.old.reached.frontier.waiting) near }
-    requires held { tree.old.held ≡ None }
-    requires tree { IsTree ground 0 (length ground.field.edges.now) (with_waiting ((near.distance, near.position) ∷ tree.old.reached.frontier.waiting) (growth tree.old)) }
-    ensures tree { IsTree ground.entry 0 (length ground.entry.field.edges.now) (growth tree.new) }
-    ensures rest { tree.new ≡ record tree.old { reached = record tree.old.reached { current = near.distance }; held = Some near.position } }
-{
-    tree.reached.current = near.distance;
-    tree.held = Some(near.position);
-}
-
-/// The records of A that are linked to the record of B that is the nearest, and has no place left, join the
-/// tree one after the other; false where an end that is as near comes first.
+/// The record of B that is the nearest, and has no place left, is held until the records of A that are linked to it have joined
+/// the tree one after the other; false where an end that is as near comes first.
 fn settle(ground: Ground<'_>, tree: &mut Tree, near: Near) -> bool
     requires ready { IsReady ground }
     requires inside { near.position < length ground.field.price_b.now }
@@ -145,7 +130,8 @@ fn settle(ground: Ground<'_>, tree: &mut Tree, near: Near) -> bool
     requires queue { FitsQueue ground.field.edges.now 0 (length ground.field.edges.now) tree.old.reached }
     ensures { Settles ground.entry result tree.old tree.new }
 {
-    hold(ground, tree, near);
+    tree.reached.current = near.distance;
+    tree.held = Some(near.position);
     let mut next = ground.seats.last[near.position];
     while let Some(n) = next {
         if tree.reached.best <= near.distance {

@@ -7,7 +7,7 @@ ghost use Rattle.capacity_assign.specs.Round.{Advances, IsBetweenRounds};
 ghost use Rattle.capacity_assign.specs.Seating.{seating};
 
 use crate::market::{Seats, Tree};
-use crate::round::round;
+use crate::round::take_up;
 use crate::tight::link_tight;
 use assignment_steps::{Edge, MaybeEdge, Net};
 
@@ -35,7 +35,7 @@ pub fn all_rounds(
     };
     link_tight(net, link_a, seats);
     for root in 0..price_a.len() {
-        round(
+        take_up(
             edges, starts, price_a, price_b, link_a, seats, like, tree, root,
         );
     }

@@ -5,7 +5,7 @@ ghost use Rattle.capacity_assign.specs.Alike.{AreAlike};
 ghost use Rattle.assignment_steps.specs.Reached.{IsAtRest};
 ghost use Rattle.assignment_steps.specs.Ways.{LeadsFromEnd};
 ghost use Rattle.capacity_assign.specs.Core.{TurnsRound};
-ghost use Rattle.capacity_assign.specs.Round.{Advances, IsBetweenRounds, TakesUp};
+ghost use Rattle.capacity_assign.specs.Round.{Advances, IsBetweenRounds};
 ghost use Rattle.capacity_assign.specs.Seating.{AreSeats, HasPlace, seating};
 
 use crate::grow::search;
@@ -51,8 +51,8 @@ fn turn(
     walk(net, ways, link_a, &mut seats.seat, &mut seats.sitter, hole);
 }
 
-/// Takes a record of A up that has no link: a tree grows from it, prices change by it, and links are turned
-/// round. The record is linked afterwards, or its price is 0.
+/// Takes a record of A up. If it has no link, a tree grows from it, prices change by it, and links are turned round: afterwards
+/// it is linked, or its price is 0.
 pub fn take_up<'a>(
     edges: &'a [Edge],
     starts: &'a [u32],
@@ -67,11 +67,14 @@ pub fn take_up<'a>(
     requires listed { AreListed edges.now (length price_a.old) starts.now }
     requires root { root < length price_a.old }
     requires alike { AreAlike edges.now (length price_a.old) like.now }
-    requires free { link link_a.old root ≡ None }
-    requires between { IsBetweenRounds edges.now price_a.old price_b.old link_a.old (seating seats.old) 0 }
+    requires between { IsBetweenRounds edges.now price_a.old price_b.old link_a.old (seating seats.old) root }
     requires tree { IsAtRest (length price_a.old) (length price_b.old) (length edges.now) tree.old.reached }
-    ensures { TakesUp edges.now root price_a.old link_a.old seats.old.left.items price_a.new price_b.new link_a.new (seating seats.new) tree.new }
+    ensures advances { Advances edges.now link_a.old seats.old.left.items price_a.new price_b.new link_a.new (seating seats.new) (root + 1) }
+    ensures tree { IsAtRest (length price_a.new) (length price_b.new) (length edges.now) tree.new.reached }
 {
+    if has_link(link_a, root) {
+        return;
+    }
     let field = Field {
         edges,
         starts,
@@ -94,32 +97,4 @@ pub fn take_up<'a>(
         rank: &tree.reached.rank,
     };
     turn(net, ways, link_a, seats, grown.free, grown.last);
-}
-
-/// Takes a record of A up: afterwards it is linked, or its price is 0.
-pub fn round<'a>(
-    edges: &'a [Edge],
-    starts: &'a [u32],
-    price_a: &mut [u32],
-    price_b: &mut [u32],
-    link_a: &mut [MaybeEdge],
-    seats: &mut Seats,
-    like: &'a [usize],
-    tree: &mut Tree,
-    root: usize,
-)
-    requires listed { AreListed edges.now (length price_a.old) starts.now }
-    requires root { root < length price_a.old }
-    requires alike { AreAlike edges.now (length price_a.old) like.now }
-    requires between { IsBetweenRounds edges.now price_a.old price_b.old link_a.old (seating seats.old) root }
-    requires tree { IsAtRest (length price_a.old) (length price_b.old) (length edges.now) tree.old.reached }
-    ensures advances { Advances edges.now link_a.old seats.old.left.items price_a.new price_b.new link_a.new (seating seats.new) (root + 1) }
-    ensures tree { IsAtRest (length price_a.new) (length price_b.new) (length edges.now) tree.new.reached }
-{
-    if has_link(link_a, root) {
-        return;
-    }
-    take_up(
-        edges, starts, price_a, price_b, link_a, seats, like, tree, root,
-    );
 }

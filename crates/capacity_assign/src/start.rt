@@ -4,7 +4,7 @@ ghost use Rattle.price_check.specs.Assignment.{IsBefore};
 ghost use Rattle.assignment_steps.specs.Market.{IsInRange, AreStarts, AreSmall};
 ghost use Rattle.assignment_steps.specs.Candidates.{edges_of};
 ghost use Rattle.capacity_assign.specs.Solution.{HasSmallValue};
-ghost use Rattle.capacity_assign.specs.Start.{AreFirstPrices, IsAtStart};
+ghost use Rattle.capacity_assign.specs.Start.{IsAtStart};
 
 use crate::market::{Seats, Tree};
 use crate::solve::{clean_tree, closed_prices, no_seats};
@@ -20,17 +20,11 @@ pub struct ListedEdges {
     pub starts: Vec<u32>,
 }
 
-/// The prices of both sides.
-#[derive(Drop)]
-pub struct Prices {
-    pub a: Vec<u32>,
-    pub b: Vec<u32>,
-}
-
 /// Prices, links, seats and the tree.
 #[derive(Drop)]
 pub struct Start {
-    pub prices: Prices,
+    pub price_a: Vec<u32>,
+    pub price_b: Vec<u32>,
     pub link_a: Vec<MaybeEdge>,
     pub seats: Seats,
     pub tree: Tree,
@@ -54,23 +48,8 @@ pub fn listed_edges(
     Ok(ListedEdges { edges, starts })
 }
 
-/// Prices that cover the edges: those of the records of B that have no place, and those of A.
-fn covering_prices(
-    alloc: Global,
-    edges: &[Edge],
-    rows_a: usize,
-    capacity: &[u32],
-) -> Result<Prices, NoMemory>
-    requires small { AreSmall edges.now }
-    requires in_range { IsInRange edges.now rows_a (length capacity.now) }
-    ensures { IfOk result (AreFirstPrices edges.now rows_a capacity.now) }
-{
-    let b = closed_prices(alloc, edges, capacity)?;
-    let a = first_prices(alloc, edges, &b, rows_a)?;
-    Ok(Prices { a, b })
-}
-
-/// Prices that cover the edges, no links, no seats, and a tree with nothing in it.
+/// Prices that cover the edges, where those of B are those of the records that have no place; no links, no seats, and a tree
+/// with nothing in it.
 pub fn start_of(
     alloc: Global,
     edges: &[Edge],
@@ -81,12 +60,14 @@ pub fn start_of(
     requires in_range { IsInRange edges.now rows_a (length capacity.now) }
     ensures { IfOk result (IsAtStart edges.now rows_a capacity.now) }
 {
-    let prices = covering_prices(alloc, edges, rows_a, capacity)?;
+    let price_b = closed_prices(alloc, edges, capacity)?;
+    let price_a = first_prices(alloc, edges, &price_b, rows_a)?;
     let link_a = no_links(alloc, rows_a)?;
     let seats = no_seats(alloc, rows_a, capacity)?;
     match clean_tree(alloc, rows_a as u32, capacity.len() as u32, edges.len()) {
         Ok(tree) => Ok(Start {
-            prices,
+            price_a,
+            price_b,
             link_a,
             seats,
             tree,

@@ -75,17 +75,6 @@ fn unite_all(candidates: &[Candidate], up: &mut [usize], last: &mut [Option<usiz
     }
 }
 
-/// Unites all candidates that share a record.
-fn united(candidates: &[Candidate], up: &mut Vec<usize>, last: &mut Vec<Option<usize>>)
-    requires rising { AllPairs IsBefore candidates.now }
-    requires within { All (λ c. c.b < length last.old.items) candidates.now }
-    requires united { AreUnited candidates.now up.old.items 0 }
-    requires last { AreLast candidates.now last.old.items 0 }
-    ensures { AreUnited candidates.now up.new.items (length candidates.now) }
-{
-    unite_all(candidates, up, last);
-}
-
 /// So many places, of which each points to itself.
 fn single_places(alloc: Global, count: usize) -> Result<Vec<usize>, NoMemory>
     ensures count { IfOk result (λ up. length up.items ≡ count) }
@@ -139,17 +128,6 @@ fn number(up: &[usize], numbers: &mut [u32]) -> u32
     parts
 }
 
-/// Numbers all places.
-fn numbered(up: &Vec<usize>, numbers: &mut Vec<u32>) -> u32
-    requires earlier { PointsUp up.now.items }
-    requires count { length numbers.old.items ≡ length up.now.items }
-    requires few { length up.now.items < 2 ^ 32 }
-    ensures count { length numbers.new.items ≡ length up.now.items }
-    ensures by_top { AreByTop up.now.items numbers.new.items (length up.now.items) result }
-{
-    number(up, numbers)
-}
-
 /// The parts of candidates that rise strictly by record of A, then of B: two candidates are of one part exactly
 /// where a chain of candidates leads from one to the other in which each shares a record with the next.
 /// Parts are numbered from 0 in the order of their first candidates.
@@ -165,8 +143,8 @@ pub fn part_numbers(
 {
     let mut up = single_places(alloc, candidates.len())?;
     let mut last = no_places(alloc, rows_b as usize)?;
-    united(candidates, &mut up, &mut last);
+    unite_all(candidates, &mut up, &mut last);
     let mut numbers = vec![in alloc; 0u32; candidates.len()]?;
-    let parts = numbered(&up, &mut numbers);
+    let parts = number(&up, &mut numbers);
     Ok(PartNumbers { numbers, parts })
 }

@@ -1,4 +1,4 @@
-use Rattle.std.proofs.Common.{◌≡◌, Some, None, sym, ◌∙◌, inl, inr, arith}
+use Rattle.std.proofs.Common.{◌≡◌, Some, None, sym, ◌∙◌, arith}
 use Rattle.assignment_steps.proofs.other_links.join_turned.Goals as goal
 
 pub returns-in_default-clause-joined : goal.returns-in_default-clause-joined
@@ -7,13 +7,5 @@ returns-in_default-clause-joined c j is = absurd (let clash : None ≡ Some j = 
 pub returns-then-j-board-clause-joined : goal.returns-then-j-board-clause-joined
 returns-then-j-board-clause-joined c j is lt = (let same : c.in-Some.j ≡ j = cc in absurd (omega (arith, same, lt, c.if-j-board.true)))
 
-pub returns-in_default-place_of-clause-joined : goal.returns-in_default-place_of-clause-joined
-returns-in_default-place_of-clause-joined c j is lt = (let same : c.in-Some.j ≡ j = cc in rw (← same) (inl c.in_default-place_of.ensures))
-
-pub join-requires-clause-place : goal.join-requires-clause-place
-join-requires-clause-place c = c.in-Some-place_of.ensures.0.within
-
 pub returns-clause-joined : goal.returns-clause-joined
-returns-clause-joined c j is lt =
-    let same : c.in-Some.j ≡ j = cc in
-    rw (← same) (inr (c.in-Some-place_of.k, (c.in-Some-place_of.ensures.0, c.in-Some-place_of.ensures.1, c.join.ensures.joined)))
+returns-clause-joined c j is lt = (let same : c.in-Some.j ≡ j = cc in rw (← same) c.join_mate.ensures.joined)

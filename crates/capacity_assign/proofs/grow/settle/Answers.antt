@@ -4,39 +4,28 @@ use Rattle.assignment_steps.specs.Market.{link, number}
 use Rattle.assignment_steps.specs.ReachedLaws.{room_kept}
 use Rattle.capacity_assign.specs.Growth.{growth}
 use Rattle.capacity_assign.specs.Seating.{IsLastSeat}
-use Rattle.capacity_assign.proofs.Growing.{grown_holding, last_past, last_within, past_more, steps_fewer, tree_let_go}
+use Rattle.capacity_assign.proofs.Growing.{grown_holding, last_past, last_within, past_more, steps_fewer, tree_held, tree_let_go}
 use Rattle.capacity_assign.proofs.grow.settle.Goals as goal
 
 pub loop-next-init : goal.loop-next-init
 loop-next-init c =
     let s = c.args.ground.seats.now in
     let b = c.args.near.position in
-    let rest = c.hold.ensures.rest in
-    let r = c.requires.room in
+    let r = c.requires in
     let there : b < length s.last.items = omega (arith, c.requires.inside, c.requires.ready.lasts, s.last.ok.0) in
     let is : link s.last.items b ≡ c.index-next.result.now = get_or_default s.last.items b None c.index-next.result.now there ∙ sym c.index-next.ensures in
     let last : IsLastSeat s.owner.items s.count b c.index-next.result.now = rw is at (c.requires.ready.seated.chains.last b) in
     record {
-      held = ap (λ t. t.held) rest;
-      current = ap (λ t. t.reached.current) rest;
-      tree = c.hold.ensures.tree;
-      room = rw rest (room_kept _ _ c.args.tree.now.reached _ _ _ _ r);
-      fits = rw rest c.requires.queue;
-      work = rw rest (omega arith);
-      queue = rw rest (omega arith);
+      held = refl;
+      current = refl;
+      tree = tree_held c.args.ground 0 (length c.args.ground.field.edges.now) (growth c.args.tree.now) c.args.near r.tree r.held r.nearest r.useful r.exact r.full;
+      room = room_kept _ _ c.args.tree.now.reached _ _ _ _ r.room;
+      fits = r.queue;
+      work = omega arith;
+      queue = omega arith;
       within = λ n e. last_within s.owner.items s.count b c.index-next.result.now n last e;
       done = λ k on ends past. (let mine = c.requires.ready.seated.seated _ k on in absurd (last_past s.owner.items s.count b c.index-next.result.now _ last mine.there (mine.owned ∙ ends) past));
     }
-
-pub hold-requires : goal.hold-requires
-hold-requires c = record {
-  full = c.requires.full;
-  useful = c.requires.useful;
-  exact = c.requires.exact;
-  nearest = c.requires.nearest;
-  held = c.requires.held;
-  tree = c.requires.tree;
-}
 
 pub index-next-requires : goal.index-next-requires
 index-next-requires c = omega (arith, c.requires.inside, c.requires.ready.lasts)

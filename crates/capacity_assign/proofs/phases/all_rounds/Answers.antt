@@ -6,8 +6,8 @@ loop-root-init c =
     let tight = c.link_tight.ensures in
     record { advances = record { between = tight.between; places = tight.places }; tree = c.requires.tree }
 
-pub round-requires : goal.round-requires
-round-requires c =
+pub take_up-requires : goal.take_up-requires
+take_up-requires c =
     let i = c.loop-root.invariant in
     record {
       listed = rw c.loop-root.auto.price_a c.requires.listed;
@@ -19,7 +19,7 @@ round-requires c =
 
 pub loop-root-preserved : goal.loop-root-preserved
 loop-root-preserved c =
-    let after = c.round.ensures in
+    let after = c.take_up.ensures in
     record {
       advances = record { between = after.advances.between; places = λ b. after.advances.places b ∙ c.loop-root.invariant.advances.places b };
       tree = after.tree;

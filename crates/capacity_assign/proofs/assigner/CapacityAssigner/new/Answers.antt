@@ -22,8 +22,8 @@ invariant_of-result c =
     let s = c.in_ok-start.start in
     let start : IsAtStart (edges_of cs) c.args.rows_a ns s = rw (c.deref-3.ensures.value, made) at c.in_ok-start.ensures in
     let range = range_edges cs c.args.rows_a (length ns) c.requires.count c.ranges.rows_a.fits c.requires.rows_b c.requires.within in
-    let closed = start.prices.closed in
-    let reach = start.prices.reach in
+    let closed = start.closed in
+    let reach = start.reach in
     record {
       order = rw kept c.requires.rising;
       edges = made ∙ ap edges_of (sym kept);
@@ -33,7 +33,7 @@ invariant_of-result c =
         small = rw made (small_edges cs c.requires.small);
         begins = rw reach.records c.in_ok-listed.ensures.starts;
       };
-      between = rw (made, start.links) (between_first cs c.args.rows_a ns s.prices.a.items s.prices.b.items (seating s.seats) range closed reach start.seats);
+      between = rw (made, start.links) (between_first cs c.args.rows_a ns s.price_a.items s.price_b.items (seating s.seats) range closed reach start.seats);
       places = λ b. rw (made, start.links, places) (places_first cs c.args.rows_a ns (seating s.seats) b start.seats);
       rows_a = reach.records;
       rows_b = rw places closed.records;

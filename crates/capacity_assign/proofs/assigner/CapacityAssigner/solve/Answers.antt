@@ -23,32 +23,22 @@ invariant_of-result c =
       λ k d lt. omega (arith, get_or_default r.price_b.items k d 0 lt, c.run.ensures.advances.between.priced.small_b k),
     )
 
-pub returns-clause-certified : goal.returns-clause-certified
-returns-clause-certified c =
+pub returns : goal.returns
+returns c =
     let cs = c.self.inside.candidates.items in
     let ns = c.self.inside.capacity.items in
     let r = c.run.new in
-    let w : IsBetweenRounds (edges_of cs) r.price_a.items r.price_b.items r.link_a.items (seating r.seats) (length r.price_a.items) = rw c.self.invariant.edges at c.run.ensures.advances.between in
-    let places : (b : ℕ) → number r.seats.left.items b + linked_at (edges_of cs) r.link_a.items b ≡ capacity_of ns b = rw c.self.invariant.edges at (λ (b : ℕ). c.run.ensures.advances.places b ∙ c.self.invariant.places b) in
-    let e : c.linked-links.result.items ≡ filter (is_linked (edges_of cs) r.link_a.items) cs = rw (c.deref.ensures.value, c.deref-2.ensures.value, c.self.invariant.edges) at c.linked-links.ensures in
+    let ran = c.run.ensures in
+    let before = c.self.invariant in
+    let w : IsBetweenRounds (edges_of cs) r.price_a.items r.price_b.items r.link_a.items (seating r.seats) (length r.price_a.items) = rw before.edges at ran.advances.between in
+    let places : (b : ℕ) → number r.seats.left.items b + linked_at (edges_of cs) r.link_a.items b ≡ capacity_of ns b = rw before.edges at (λ (b : ℕ). ran.advances.places b ∙ before.places b) in
+    let e : c.linked-links.result.items ≡ filter (is_linked (edges_of cs) r.link_a.items) cs = rw (c.deref.ensures.value, c.deref-2.ensures.value, before.edges) at c.linked-links.ensures in
     let view : c.args.self.candidates ≡ cs = ap (λ (v : Problem). v.candidates) (sym c.self.view_is) in
     let view_n : c.args.self.capacities ≡ ns = ap (λ (v : Problem). v.capacities) (sym c.self.view_is) in
-    rw (view, view_n, e) (certifies cs ns r.price_a.items r.price_b.items r.link_a.items (seating r.seats) c.self.invariant.order w places)
-
-pub returns-clause-greatest : goal.returns-clause-greatest
-returns-clause-greatest c =
-    let cs = c.self.inside.candidates.items in
-    let ns = c.self.inside.capacity.items in
-    let r = c.run.new in
-    let w : IsBetweenRounds (edges_of cs) r.price_a.items r.price_b.items r.link_a.items (seating r.seats) (length r.price_a.items) = rw c.self.invariant.edges at c.run.ensures.advances.between in
-    let places : (b : ℕ) → number r.seats.left.items b + linked_at (edges_of cs) r.link_a.items b ≡ capacity_of ns b = rw c.self.invariant.edges at (λ (b : ℕ). c.run.ensures.advances.places b ∙ c.self.invariant.places b) in
-    let e : c.linked-links.result.items ≡ filter (is_linked (edges_of cs) r.link_a.items) cs = rw (c.deref.ensures.value, c.deref-2.ensures.value, c.self.invariant.edges) at c.linked-links.ensures in
-    let view : c.args.self.candidates ≡ cs = ap (λ (v : Problem). v.candidates) (sym c.self.view_is) in
-    let view_n : c.args.self.capacities ≡ ns = ap (λ (v : Problem). v.capacities) (sym c.self.view_is) in
-    rw (view, view_n, e) (c.certified_within_is_greatest.ensures cs ns _ _ _ (within cs ns r.price_a.items r.price_b.items r.link_a.items (seating r.seats) c.self.invariant.order w places) (certifies cs ns r.price_a.items r.price_b.items r.link_a.items (seating r.seats) c.self.invariant.order w places))
-
-pub returns-clause-rows_a : goal.returns-clause-rows_a
-returns-clause-rows_a c = length-map c.run.new.price_a.items pos ∙ (c.run.ensures.rows.0 ∙ (c.self.invariant.rows_a ∙ ap (λ (v : Problem). v.rows_a) c.self.view_is))
-
-pub returns-clause-rows_b : goal.returns-clause-rows_b
-returns-clause-rows_b c = length-map c.run.new.price_b.items pos ∙ (c.run.ensures.rows.1 ∙ (c.self.invariant.rows_b ∙ ap (λ (v : Problem). length v.capacities) c.self.view_is))
+    let sure = certifies cs ns r.price_a.items r.price_b.items r.link_a.items (seating r.seats) before.order w places in
+    record {
+      rows_a = length-map r.price_a.items pos ∙ (ran.rows.0 ∙ (before.rows_a ∙ ap (λ (v : Problem). v.rows_a) c.self.view_is));
+      rows_b = length-map r.price_b.items pos ∙ (ran.rows.1 ∙ (before.rows_b ∙ ap (λ (v : Problem). length v.capacities) c.self.view_is));
+      greatest = rw (view, view_n, e) (c.certified_within_is_greatest.ensures cs ns _ _ _ (within cs ns r.price_a.items r.price_b.items r.link_a.items (seating r.seats) before.order w places) sure);
+      certified = rw (view, view_n, e) sure;
+    }
