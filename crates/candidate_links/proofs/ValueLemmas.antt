@@ -21,25 +21,15 @@ use Rattle.review_journal.specs.declared.entry.Entry.{Entry}
 use Rattle.candidate_links.specs.CandidateLaws.{all_if, some_same}
 use Rattle.candidate_links.specs.Candidates.{by_decision, candidate_by_verdict, candidate_of, candidates_of, HasBounds, linked, most_value, weight_of_pair}
 
--- the weight of a cell that is found, or of none
-found_first : (x : RuleCell) (rest : Option RuleCell) (b : Bool) → x.weight ≤ℤ GREATEST_WEIGHT → (unwrap_or rest empty_cell).weight ≤ℤ GREATEST_WEIGHT → (unwrap_or (if b then Some x else rest) empty_cell).weight ≤ℤ GREATEST_WEIGHT
-found_first x rest true here later = here
-found_first x rest false here later = later
+-- what holds of each cell, and of the one that stands for none, holds of the cell of a pattern
+found_holds : (P : RuleCell → Type 0) (x : RuleCell) (rest : Option RuleCell) (t : Bool) → P x → P (unwrap_or rest empty_cell) → P (unwrap_or (if t then Some x else rest) empty_cell)
+found_holds P x rest true here later = here
+found_holds P x rest false here later = later
 
-weight_most : (cells : List RuleCell) (pattern : ℕ) → All IsWithinRanges cells → (cell_of cells pattern).weight ≤ℤ GREATEST_WEIGHT
-weight_most [] pattern all = omega (arith, ints)
-weight_most (x ∷ xs) pattern all =
-    found_first x (find (has_pattern pattern) xs) (has_pattern pattern x) (All-head IsWithinRanges x xs all).weight_high (weight_most xs pattern (All-tail IsWithinRanges x xs all))
-
--- the weight of a cell that is found, or of none
-least_first : (x : RuleCell) (rest : Option RuleCell) (b : Bool) → LEAST_WEIGHT ≤ℤ x.weight → LEAST_WEIGHT ≤ℤ (unwrap_or rest empty_cell).weight → LEAST_WEIGHT ≤ℤ (unwrap_or (if b then Some x else rest) empty_cell).weight
-least_first x rest true here later = here
-least_first x rest false here later = later
-
-weight_least : (cells : List RuleCell) (pattern : ℕ) → All IsWithinRanges cells → LEAST_WEIGHT ≤ℤ (cell_of cells pattern).weight
-weight_least [] pattern all = omega (arith, ints)
-weight_least (x ∷ xs) pattern all =
-    least_first x (find (has_pattern pattern) xs) (has_pattern pattern x) (All-head IsWithinRanges x xs all).weight_low (weight_least xs pattern (All-tail IsWithinRanges x xs all))
+cell_holds : (P : RuleCell → Type 0) (cells : List RuleCell) (pattern : ℕ) → P empty_cell → All P cells → P (cell_of cells pattern)
+cell_holds P [] pattern none all = none
+cell_holds P (x ∷ xs) pattern none all =
+    found_holds P x (find (has_pattern pattern) xs) (has_pattern pattern x) (All-head P x xs all) (cell_holds P xs pattern none (All-tail P x xs all))
 
 bounds_by : (w : ℤ) (award : ℕ) (x c : Candidate) → HasBounds award x → Some x ≡ Some c → HasBounds award c
 bounds_by w award x c h e = subst (HasBounds award) (some_same x c e) h
@@ -60,8 +50,9 @@ decision_bounds decision.NonLink v at w award c low high e = absurd (cc)
 module _ (rule : FileRule) (entries : List Entry) (award : ℕ) (ranges : All IsWithinRanges rule.cells) where
   candidate_bounds : (at : PairAt) (c : Candidate) → candidate_of rule entries award at ≡ Some c → HasBounds award c
   candidate_bounds at c e =
-      decision_bounds (decision_at rule at) (verdict_on entries at.a at.b) at (weight_of_pair rule at) award c
-      (weight_least rule.cells (rule.pattern at) ranges) (weight_most rule.cells (rule.pattern at) ranges) e
+      let w = cell_holds (λ (x : RuleCell). (LEAST_WEIGHT ≤ℤ x.weight) × (x.weight ≤ℤ GREATEST_WEIGHT)) rule.cells (rule.pattern at) (omega (arith, ints), omega (arith, ints))
+      (λ k d lt. ((ranges k d lt).weight_low, (ranges k d lt).weight_high)) in
+      decision_bounds (decision_at rule at) (verdict_on entries at.a at.b) at (weight_of_pair rule at) award c w.0 w.1 e
 
   pub all_bounds : (pairs : List PairAt) → All (HasBounds award) (candidates_of rule entries award pairs)
   all_bounds [] = All-nil (HasBounds award)

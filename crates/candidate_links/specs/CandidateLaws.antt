@@ -1,5 +1,5 @@
 -- Laws of the candidates of decided pairs (`candidates_of`): they are few, rise, and are between records that are there.
-use Rattle.std.proofs.Common.{◌≡◌, ◌≤◌, ℕ, suc, List, [], ◌∷◌, Option, Some, None, length, refl, sym, ap, ◌∙◌, inl, inr, arith, subst}
+use Rattle.std.proofs.Common.{◌≡◌, ◌≤◌, ℕ, List, [], ◌∷◌, Option, Some, None, length, refl, sym, ap, ◌∙◌, inl, inr, arith, subst}
 use Rattle.std.specs.Prelude.{ℤ, pos, ◌≤ℤ◌, All, AllPairs, filter_map}
 use Rattle.std.specs.List.{cons_option}
 use Rattle.std.proofs.lemmas.List.Elements.{All-cons, All-nil, All-tail, All-head, All-weaker}
@@ -20,7 +20,7 @@ use Rattle.pair_decisions.specs.Pairs.{IsInside}
 use Rattle.review_journal.specs.Verdict.{verdict_on}
 use Rattle.review_journal.specs.declared.entry.Entry.{Entry}
 use Rattle.link_limits.specs.declared.TheConstants.{MOST_VALUE}
-use Rattle.candidate_links.specs.MergeLaws.{GivesBy, by_link, by_none, by_possible, merged_filters}
+use Rattle.candidate_links.specs.MergeLaws.{GivesBy, all_after, by_link, by_none, by_possible, merged_filters, rest_rises}
 use Rattle.assignment.specs.Solution.{HasSmallValue}
 use Rattle.candidate_links.specs.Candidates.{AreCandidates, by_decision, candidate_by_verdict, candidate_of, candidates_of, most_value, of_link, of_possible}
 use Rattle.candidate_links.specs.Merging.{merged}
@@ -71,10 +71,10 @@ module _ (h : PairAt → Option Candidate) (stands : StandsAt h) where
   pub given_rise : (pairs : List PairAt) → AllPairs IsPairBefore pairs → AllPairs IsBefore (filter_map h pairs)
   given_rise [] rising = λ i j d lt within. absurd (omega arith)
   given_rise (x ∷ xs) rising =
-      let after : All (IsPairBefore x) xs = λ k d lt. rising 0 (suc k) d (omega arith) (omega arith) in
+      let after = all_after IsPairBefore x xs rising in
       rise_if (filter_map h xs) (h x)
       (λ c is. given_all (IsPairBefore x) (IsBefore c) (λ at d lt of_d. before_as x at c d (stands x c is) of_d lt) xs after)
-      (given_rise xs (λ i j d lt within. rising (suc i) (suc j) d (omega arith) (omega arith)))
+      (given_rise xs (rest_rises IsPairBefore x xs rising))
 
 module _ (rule : FileRule) (entries : List Entry) (award : ℕ) where
   abbrev links : PairAt → Option Candidate

@@ -112,11 +112,12 @@ pub data GivesBy (f g h : PairAt → Option Candidate) (p q : PairAt → Bool) (
   by_possible : p at ≡ false → q at ≡ true → h at ≡ g at → GivesBy f g h p q at
   by_none : p at ≡ false → q at ≡ false → h at ≡ None → GivesBy f g h p q at
 
-all_after : (x : PairAt) (xs : List PairAt) → AllPairs IsPairBefore (x ∷ xs) → All (IsPairBefore x) xs
-all_after x xs rising k d lt = rising zero (suc k) d (omega arith) (omega arith)
+-- the first of a rising list stands before the rest, which rises
+pub all_after : {X : Type 0} (R : X → X → Type 0) (x : X) (xs : List X) → AllPairs R (x ∷ xs) → All (R x) xs
+all_after R x xs rising k d lt = rising zero (suc k) d (omega arith) (omega arith)
 
-rest_rises : (x : PairAt) (xs : List PairAt) → AllPairs IsPairBefore (x ∷ xs) → AllPairs IsPairBefore xs
-rest_rises x xs rising i j d lt within = rising (suc i) (suc j) d (omega arith) (omega arith)
+pub rest_rises : {X : Type 0} (R : X → X → Type 0) (x : X) (xs : List X) → AllPairs R (x ∷ xs) → AllPairs R xs
+rest_rises R x xs rising i j d lt within = rising (suc i) (suc j) d (omega arith) (omega arith)
 
 -- the filters of a rising list by both tests, taken together, give what the list gives
 module _ (f g h : PairAt → Option Candidate) (p q : PairAt → Bool) where
@@ -133,4 +134,4 @@ module _ (f g h : PairAt → Option Candidate) (p q : PairAt → Bool) where
   pub merged_filters : ((at : PairAt) → GivesBy f g h p q at) → (pairs : List PairAt) → AllPairs IsPairBefore pairs → merged f g (filter p pairs) (filter q pairs) ≡ filter_map h pairs
   unfolding merged
   merged_filters gives [] rising = refl
-  merged_filters gives (x ∷ xs) rising = one_more x xs (all_after x xs rising) (gives x) (merged_filters gives xs (rest_rises x xs rising))
+  merged_filters gives (x ∷ xs) rising = one_more x xs (all_after IsPairBefore x xs rising) (gives x) (merged_filters gives xs (rest_rises IsPairBefore x xs rising))

@@ -7,11 +7,13 @@ use Rattle.std.proofs.lemmas.Bool.{or_from}
 use Rattle.std.proofs.lemmas.Int.{ints}
 use Rattle.std.proofs.lemmas.List.{drop_more, drop_all}
 use Rattle.std.proofs.lemmas.List.Elements.{All-tail, All-head, All-contains}
+use Rattle.std.proofs.lemmas.Map.Made.{Contains-tail}
 use Rattle.price_check.specs.CandidateLaws.{clash}
 use Rattle.price_check.specs.Assignment.{IsBefore, total}
 use Rattle.link_base.specs.declared.rule.Candidate.{Candidate}
 use Rattle.candidate_links.specs.Choice.{dropped, dropped_of, is_chosen, is_same_pair}
 use Rattle.link_report.specs.declared.report.Dropped.{Dropped}
+use Rattle.candidate_links.specs.MergeLaws.{all_after, rest_rises}
 use Rattle.candidate_links.specs.Passing.{is_next, unlinked}
 
 -- rising links among rising candidates
@@ -40,24 +42,9 @@ before_on x y z (inl p) (inr q) = inl (omega (arith, p, q.0))
 before_on x y z (inr p) (inl q) = inl (omega (arith, p.0, q))
 before_on x y z (inr p) (inr q) = inr (omega (arith, p.0, q.0), omega (arith, p.1, q.1))
 
--- the first of a rising list stands before the rest, which rises
-all_after : (c : Candidate) (cs : List Candidate) → AllPairs IsBefore (c ∷ cs) → All (IsBefore c) cs
-all_after c cs rising k d lt = rising zero (suc k) d (omega arith) (omega arith)
-
-rest_rises : (c : Candidate) (cs : List Candidate) → AllPairs IsBefore (c ∷ cs) → AllPairs IsBefore cs
-rest_rises c cs rising i j d lt within = rising (suc i) (suc j) d (omega arith) (omega arith)
-
--- a member that is not the first stands in the rest
-member_at : (c x : Candidate) (cs : List Candidate) (k : ℕ) → k < length (c ∷ cs) → get_or (c ∷ cs) k x ≡ x → (c ≡ x → ⊥) → Contains cs x
-member_at c x cs zero lt is other = absurd (other is)
-member_at c x cs (suc k) lt is other = (k, omega arith, is)
-
-later_member : (c x : Candidate) (cs : List Candidate) → Contains (c ∷ cs) x → (c ≡ x → ⊥) → Contains cs x
-later_member c x cs h other = member_at c x cs h.0 h.1 h.2 other
-
 -- members that are not the first stand in the rest
 all_later : (c : Candidate) (cs xs : List Candidate) → All (Contains (c ∷ cs)) xs → All (λ x. c ≡ x → ⊥) xs → All (Contains cs) xs
-all_later c cs xs among others k d lt = later_member c (get_or xs k d) cs (among k d lt) (others k d lt)
+all_later c cs xs among others k d lt = Contains-tail c cs (get_or xs k d) (others k d lt) (among k d lt)
 
 not_itself : (x y : Candidate) → IsBefore x y → x ≡ y → ⊥
 not_itself x y before is = clash x y before (ap (λ (c : Candidate). c.a) is) (ap (λ (c : Candidate). c.b) is)
@@ -67,27 +54,27 @@ pub passed : (c : Candidate) (cs links : List Candidate) → AreAmong (c ∷ cs)
 passed c cs [] are is = absurd (cc)
 passed c cs (l ∷ ls) are is =
     let same = same_records l c is in
-    let after = all_after l ls are.links_rise in
+    let after = all_after IsBefore l ls are.links_rise in
     record {
-      rising = rest_rises c cs are.rising;
-      links_rise = rest_rises l ls are.links_rise;
+      rising = rest_rises IsBefore c cs are.rising;
+      links_rise = rest_rises IsBefore l ls are.links_rise;
       among = all_later c cs ls (All-tail (Contains (c ∷ cs)) l ls are.among) (λ k d lt e. clash l (get_or ls k d) (after k d lt) (same.0 ∙ ap (λ (x : Candidate). x.a) e) (same.1 ∙ ap (λ (x : Candidate). x.b) e));
     }
 
 -- the first candidate is not the first link: it stands before all links
 first_later : (c l : Candidate) (cs ls : List Candidate) → AreAmong (c ∷ cs) (l ∷ ls) → is_same_pair l c ≡ false → IsBefore c l
 first_later c l cs ls are other =
-    let in_rest : Contains cs l = later_member c l cs (All-head (Contains (c ∷ cs)) l ls are.among) (λ e. let same = itself c l e in absurd (cc)) in
-    All-contains (IsBefore c) cs l (all_after c cs are.rising) in_rest
+    let in_rest : Contains cs l = Contains-tail c cs l (λ e. let same = itself c l e in absurd (cc)) (All-head (Contains (c ∷ cs)) l ls are.among) in
+    All-contains (IsBefore c) cs l (all_after IsBefore c cs are.rising) in_rest
 
 links_later : (c : Candidate) (cs links : List Candidate) → AreAmong (c ∷ cs) links → is_next links c ≡ false → All (IsBefore c) links
 links_later c cs [] are other k d lt = absurd (omega arith)
 links_later c cs (l ∷ ls) are other zero d lt = first_later c l cs ls are other
-links_later c cs (l ∷ ls) are other (suc k) d lt = before_on c l (get_or ls k d) (first_later c l cs ls are other) (all_after l ls are.links_rise k d (omega arith))
+links_later c cs (l ∷ ls) are other (suc k) d lt = before_on c l (get_or ls k d) (first_later c l cs ls are other) (all_after IsBefore l ls are.links_rise k d (omega arith))
 
 pub kept : (c : Candidate) (cs links : List Candidate) → AreAmong (c ∷ cs) links → is_next links c ≡ false → AreAmong cs links
 kept c cs links are other = record {
-  rising = rest_rises c cs are.rising;
+  rising = rest_rises IsBefore c cs are.rising;
   links_rise = are.links_rise;
   among = all_later c cs links are.among (λ k d lt. not_itself c (get_or links k d) (links_later c cs links are other k d lt));
 }
@@ -125,7 +112,7 @@ first_linked : (c : Candidate) (cs links : List Candidate) → AreAmong (c ∷ c
 first_linked c cs [] are is = absurd (cc)
 first_linked c cs (l ∷ ls) are is =
     let same = same_records l c is in
-    let others : All (λ x. is_same_pair l x ≡ false) cs = λ k d lt. other_after l c (get_or cs k d) same.0 same.1 (all_after c cs are.rising k d lt) in
+    let others : All (λ x. is_same_pair l x ≡ false) cs = λ k d lt. other_after l c (get_or cs k d) same.0 same.1 (all_after IsBefore c cs are.rising k d lt) in
     rw is (filter_less l ls cs others)
 
 -- what is left are the candidates that are not among the links

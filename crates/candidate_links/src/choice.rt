@@ -6,6 +6,7 @@ ghost use Rattle.candidate_links.specs.Choice.{dropped, dropped_of, is_same_pair
 ghost use Rattle.candidate_links.specs.Passing.{is_next};
 
 use crate::merging::after_first;
+use crate::prices::prices_of;
 use assignment::{Assigner, Assignment};
 use link_base::{Candidate, NoMemory, PairAt};
 use link_limits::MOST_PAIRS;
@@ -89,30 +90,6 @@ fn worth(links: &[Candidate]) -> i64
     sum
 }
 
-// The prices of the records of A.
-fn prices_of_a(alloc: Global, solved: &Assignment, rows: u32) -> Result<Vec<i64>, NoMemory>
-    requires { length solved.now.prices_a ≡ rows }
-    ensures { IfOk result (λ prices. prices.items ≡ solved.now.prices_a) }
-{
-    let mut prices = Vec::with_capacity(alloc, rows as usize)?;
-    for a in 0..rows {
-        prices.push(solved.price_a(a))?;
-    }
-    Ok(prices)
-}
-
-// The prices of the records of B.
-fn prices_of_b(alloc: Global, solved: &Assignment, rows: u32) -> Result<Vec<i64>, NoMemory>
-    requires { length solved.now.prices_b ≡ rows }
-    ensures { IfOk result (λ prices. prices.items ≡ solved.now.prices_b) }
-{
-    let mut prices = Vec::with_capacity(alloc, rows as usize)?;
-    for b in 0..rows {
-        prices.push(solved.price_b(b))?;
-    }
-    Ok(prices)
-}
-
 // The links and the prices of an answer, the candidates that are not among the links, and what the links are worth.
 fn chosen_of(
     alloc: Global,
@@ -130,8 +107,8 @@ fn chosen_of(
     ensures { IfOk result (IsAnswerOf candidates.now solved.now.links solved.now.prices_a solved.now.prices_b) }
 {
     let links = Vec::from_slice(alloc, solved.links())?;
-    let prices_a = prices_of_a(alloc, solved, rows_a)?;
-    let prices_b = prices_of_b(alloc, solved, rows_b)?;
+    let prices_a = prices_of(alloc, rows_a, |at| solved.price_a(at))?;
+    let prices_b = prices_of(alloc, rows_b, |at| solved.price_b(at))?;
     let dropped = dropped_of(alloc, candidates, solved.links())?;
     let total = worth(solved.links());
     Ok(ChosenLinks {

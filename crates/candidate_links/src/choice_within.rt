@@ -4,6 +4,7 @@ ghost use Rattle.price_check.specs.Assignment.{IsBefore, IsWithin};
 ghost use Rattle.capacity_assign.specs.Solution.{HasSmallValue, IsAllowedCapacity};
 ghost use Rattle.candidate_links.specs.Choice.{IsChoiceWithin, IsCopyOf};
 
+use crate::prices::prices_of;
 use capacity_assign::{CapacityAssigner, CapacityAssignment};
 use link_base::{Candidate, NoMemory};
 use link_limits::MOST_PAIRS;
@@ -18,30 +19,6 @@ pub struct LinksWithin {
     pub prices_b: Vec<i64>,
 }
 
-// The prices of the records of A.
-fn prices_of_a(alloc: Global, solved: &CapacityAssignment, rows: u32) -> Result<Vec<i64>, NoMemory>
-    requires { length solved.now.prices_a ≡ rows }
-    ensures { IfOk result (λ prices. prices.items ≡ solved.now.prices_a) }
-{
-    let mut prices = Vec::with_capacity(alloc, rows as usize)?;
-    for a in 0..rows {
-        prices.push(solved.price_a(a))?;
-    }
-    Ok(prices)
-}
-
-// The prices of a place at each record of B.
-fn prices_of_b(alloc: Global, solved: &CapacityAssignment, rows: u32) -> Result<Vec<i64>, NoMemory>
-    requires { length solved.now.prices_b ≡ rows }
-    ensures { IfOk result (λ prices. prices.items ≡ solved.now.prices_b) }
-{
-    let mut prices = Vec::with_capacity(alloc, rows as usize)?;
-    for b in 0..rows {
-        prices.push(solved.price_b(b))?;
-    }
-    Ok(prices)
-}
-
 // The links and the prices of an answer.
 fn copied(
     alloc: Global,
@@ -54,8 +31,8 @@ fn copied(
     ensures { IfOk result (IsCopyOf solved.now.links solved.now.prices_a solved.now.prices_b) }
 {
     let links = Vec::from_slice(alloc, solved.links())?;
-    let prices_a = prices_of_a(alloc, solved, rows_a)?;
-    let prices_b = prices_of_b(alloc, solved, rows_b)?;
+    let prices_a = prices_of(alloc, rows_a, |at| solved.price_a(at))?;
+    let prices_b = prices_of(alloc, rows_b, |at| solved.price_b(at))?;
     Ok(LinksWithin {
         links,
         prices_a,

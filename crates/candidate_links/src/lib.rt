@@ -9,6 +9,7 @@ mod choice;
 mod choice_within;
 mod laws;
 mod merging;
+mod prices;
 mod reading;
 
 pub use candidates::candidates_among;

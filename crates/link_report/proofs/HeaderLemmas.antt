@@ -8,30 +8,12 @@ use Rattle.link_report.specs.PricesText.{prices_header}
 use Rattle.link_report.specs.PairsText.{pairs_header}
 use Rattle.link_report.specs.RuleText.{rule_header}
 
-pub rule_header_text : row_text default_writer rule_header ≡ codes "pattern,outcomes,m,u,weight,link,possible,nonlink\n"
+pub header_texts : (row_text default_writer rule_header ≡ codes "pattern,outcomes,m,u,weight,link,possible,nonlink\n")
+    × (row_text default_writer frontier_header ≡ codes "mu_ppm,mu,lambda,possible_m,possible_u,denominator,slack_m,slack_u\n")
+    × (row_text default_writer open_header ≡ codes "id_a,id_b,pattern,weight\n")
+    × (row_text default_writer links_header ≡ codes "id_a,id_b,weight,value,by\n")
+    × (row_text default_writer prices_header ≡ codes "side,id,price\n")
+    × (row_text default_writer pairs_header ≡ codes "id_a,id_b,pattern,outcomes,weight,decision,verdict\n")
+    × (row_text default_writer (codes "id_a" ∷ codes "id_b" ∷ []) ≡ codes "id_a,id_b\n")
 unfolding fields_text is_blank
-rule_header_text = refl
-
-pub frontier_header_text : row_text default_writer frontier_header ≡ codes "mu_ppm,mu,lambda,possible_m,possible_u,denominator,slack_m,slack_u\n"
-unfolding fields_text is_blank
-frontier_header_text = refl
-
-pub open_header_text : row_text default_writer open_header ≡ codes "id_a,id_b,pattern,weight\n"
-unfolding fields_text is_blank
-open_header_text = refl
-
-pub links_header_text : row_text default_writer links_header ≡ codes "id_a,id_b,weight,value,by\n"
-unfolding fields_text is_blank
-links_header_text = refl
-
-pub prices_header_text : row_text default_writer prices_header ≡ codes "side,id,price\n"
-unfolding fields_text is_blank
-prices_header_text = refl
-
-pub pairs_header_text : row_text default_writer pairs_header ≡ codes "id_a,id_b,pattern,outcomes,weight,decision,verdict\n"
-unfolding fields_text is_blank
-pairs_header_text = refl
-
-pub ids_header_text : row_text default_writer (codes "id_a" ∷ codes "id_b" ∷ []) ≡ codes "id_a,id_b\n"
-unfolding fields_text is_blank
-ids_header_text = refl
+header_texts = (refl, refl, refl, refl, refl, refl, refl)

@@ -1,8 +1,6 @@
 pub mod FirstLineLemmas
-pub mod FrontierLemmas
 pub mod HeaderLemmas
 pub mod JoinLemmas
-pub mod PriceLemmas
 pub mod ReadLineLemmas
 pub mod ReadingLemmas
 pub mod RowLemmas

@@ -1,5 +1,5 @@
 -- The lines of pairs, as their ids and ends.
-use Rattle.std.proofs.Common.{◌≡◌, ◌∙◌, ◌++◌, ◌∷◌, ℕ, Bool, List, [], ap, append_assoc, decimal, map, sym}
+use Rattle.std.proofs.Common.{◌≡◌, ◌∙◌, ◌++◌, ◌∷◌, ℕ, Bool, List, [], append_assoc, decimal, map, sym}
 use Rattle.std.proofs.lemmas.List.Folds.{flat_map-map}
 use Rattle.std.specs.Fmt.{signed_decimal}
 use Rattle.std.specs.List.{flat_map}
@@ -18,14 +18,7 @@ use Rattle.link_report.specs.declared.open.PairRow.{PairRow}
 -- the ids of a pair, other fields and the line feed
 parts : (a b : List Record) (at : PairAt) (start rest : List ℕ)
     → (start ++ line_start a b at) ++ (rest ++ 10 ∷ []) ≡ start ++ ((field_text default_writer (id_at a at.a) ++ (44 ∷ (field_text default_writer (id_at b at.b) ++ rest))) ++ 10 ∷ [])
-parts a b at start rest =
-    let id_a = field_text default_writer (id_at a at.a) in
-    let id_b = field_text default_writer (id_at b at.b) in
-    let whole = (id_a ++ 44 ∷ []) ++ id_b in
-    append_assoc start whole (rest ++ 10 ∷ [])
-    ∙ ap (λ t. start ++ t) (
-    sym (append_assoc whole rest (10 ∷ []))
-    ∙ ap (λ t. t ++ 10 ∷ []) (append_assoc (id_a ++ 44 ∷ []) id_b rest ∙ append_assoc id_a (44 ∷ []) (id_b ++ rest)))
+parts a b at start rest = simp append_assoc
 
 -- the ids and the end are the line of a pair
 pub pair_written : (rares : List Bool) (a b : List Record) (row : PairRow) (start mid new : List ℕ)
@@ -33,7 +26,7 @@ pub pair_written : (rares : List Bool) (a b : List Record) (row : PairRow) (star
 unfolding fields_text is_blank
 pair_written rares a b row start mid new ids end =
     let rest = fields_text default_writer (decimal row.pattern ∷ outcome_letters rares row.pattern ∷ signed_decimal row.weight ∷ decision_word row.decision ∷ printed_verdict row.verdict ∷ []) in
-    end ∙ ap (λ t. t ++ pair_end rares row) ids ∙ parts a b row.at start rest
+    rw (end, ids) (parts a b row.at start rest)
 
 -- the ids and the line feed are the line of ids
 line_of_ids : (a b : List Record) (at : PairAt) → line_start a b at ++ 10 ∷ [] ≡ ids_line a b at
@@ -53,4 +46,4 @@ pub link_written : (a b : List Record) (link : Candidate) (start mid new : List 
 unfolding fields_text is_blank
 link_written a b link start mid new ids end =
     let rest = fields_text default_writer (signed_decimal link.weight ∷ signed_decimal link.value ∷ source_of_link link.reviewed ∷ []) in
-    end ∙ ap (λ t. t ++ end_of_link link) ids ∙ parts a b (pair_of link) start rest
+    rw (end, ids) (parts a b (pair_of link) start rest)

@@ -1,5 +1,5 @@
 -- Fields that call for no quotes: decimal digits, and the name of a side.
-use Rattle.std.proofs.Common.{◌≡◌, ◌<◌, ◌&&◌, ◌++◌, ◌∷◌, ◌∙◌, ◌^◌, ℕ, suc, ℤ, pos, negsuc, Bool, true, false, List, [], ap, arith, append_assoc, decimal, inl, inr, refl, sym, w64}
+use Rattle.std.proofs.Common.{◌≡◌, ◌<◌, ◌&&◌, ◌++◌, ◌∷◌, ◌^◌, ℕ, suc, ℤ, pos, negsuc, Bool, true, false, List, [], arith, append_assoc, decimal, inl, inr, refl, w64}
 use Rattle.std.specs.Char.{is_ascii_digit}
 use Rattle.std.specs.Fmt.{signed_decimal}
 use Rattle.std.specs.List.{list_all}
@@ -37,22 +37,11 @@ signed_plain (negsuc n) fits = decimal_plain (suc n) (omega (arith, fits))
 pub plain_row : (side id digits : List ℕ) → needs_quotes default_writer side ≡ false → needs_quotes default_writer digits ≡ false
     → row_text default_writer (side ∷ id ∷ digits ∷ []) ≡ side ++ (44 ∷ (field_text default_writer id ++ (44 ∷ (digits ++ 10 ∷ []))))
 unfolding fields_text is_blank
-plain_row side id digits s d =
-    let f = field_text default_writer id in
-    rw (s, d) (append_assoc side (44 ∷ (f ++ (44 ∷ (digits ++ [])))) (10 ∷ []) ∙ ap (λ t. side ++ (44 ∷ t)) (append_assoc f (44 ∷ (digits ++ [])) (10 ∷ []) ∙ ap (λ t. f ++ (44 ∷ t)) (append_assoc digits [] (10 ∷ []))))
+plain_row side id digits s d = rw (s, d) (simp append_assoc)
 
 -- its parts, one after the other
 pub priced_written : (start side id digits first second third comma fourth new : List ℕ) → needs_quotes default_writer side ≡ false → needs_quotes default_writer digits ≡ false
     → first ≡ start ++ side → second ≡ first ++ 44 ∷ [] → third ≡ second ++ field_text default_writer id → comma ≡ third ++ 44 ∷ [] → fourth ≡ comma ++ digits → new ≡ fourth ++ 10 ∷ []
     → new ≡ start ++ row_text default_writer (side ∷ id ∷ digits ∷ [])
 priced_written start side id digits first second third last fourth new s d a b c k e l =
-    let f = field_text default_writer id in
-    let comma : List ℕ = 44 ∷ [] in
-    let rest : List ℕ = digits ++ 10 ∷ [] in
-    let whole : new ≡ (((((start ++ side) ++ comma) ++ f) ++ comma) ++ digits) ++ 10 ∷ [] = rw (e, k, c, b, a) at l in
-    whole ∙ append_assoc ((((start ++ side) ++ comma) ++ f) ++ comma) digits (10 ∷ [])
-    ∙ append_assoc (((start ++ side) ++ comma) ++ f) comma rest
-    ∙ append_assoc ((start ++ side) ++ comma) f (comma ++ rest)
-    ∙ append_assoc (start ++ side) comma (f ++ (comma ++ rest))
-    ∙ append_assoc start side (44 ∷ (f ++ (comma ++ rest)))
-    ∙ ap (λ t. start ++ t) (sym (plain_row side id digits s d))
+    rw (l, e, k, c, b, a, plain_row side id digits s d) (simp append_assoc)

@@ -1,12 +1,13 @@
 -- The rows of a text under its header.
-use Rattle.std.proofs.Common.{◌≡◌, ◌≢◌, ◌<◌, ◌≤◌, ◌+◌, ◌++◌, ◌∷◌, ◌∙◌, ℕ, ℤ, suc, Bool, true, false, List, [], All, length, drop, get_or, if◌then◌else◌, Some, None, Ok, map, sym, ap, add-one, arith, refl}
+use Rattle.std.proofs.Common.{◌≡◌, ◌≢◌, ◌<◌, ◌≤◌, ◌+◌, ◌++◌, ◌∷◌, ◌∙◌, ℕ, ℤ, suc, Bool, true, false, List, [], All, length, drop, get_or, Some, None, Ok, map, sym, ap, add-one, arith, refl}
 use Rattle.std.specs.Prelude.{◌&&◌, bytes_eq, codes, filter, zip}
 use Rattle.std.specs.List.{flat_map}
 use Rattle.std.proofs.Math.Seq.{drop-cons}
 use Rattle.std.proofs.lemmas.List.Elements.{All-append, All-cons, All-map}
 use Rattle.std.proofs.lemmas.List.Folds.{flat_map-map}
 use Rattle.std.proofs.lemmas.Grind.{flat_map-append}
-use Rattle.std.proofs.lemmas.Bool.{true≢false}
+use Rattle.std.proofs.lemmas.Bool.{false_from_ne_true, true≢false}
+use Rattle.std.proofs.lemmas.Option.{cond_some}
 use Rattle.std.proofs.lemmas.Slice.Eq.{bytes_eq-Decides}
 use Rattle.csv.specs.Writing.{default_writer, row_text}
 use Rattle.file_reader.specs.Left.{records_in}
@@ -26,11 +27,7 @@ Row = List (List ℕ)
 -- the rows after a header are one fewer than the records
 pub begun_few : (header : List (List ℕ)) (records rows : List Row) → rows_begun header records ≡ Some rows → length rows < length records
 begun_few header [] rows e = absurd (let none : None ≡ Some rows = e in cc)
-begun_few header (first ∷ rest) rows e = by_test (same_row first header) e
-  where
-    by_test : (t : Bool) → (if t then Some rest else None) ≡ Some rows → length rows < suc (length rest)
-    by_test true is = grind (arith)
-    by_test false is = absurd (let none : None ≡ Some rows = is in cc)
+begun_few header (first ∷ rest) rows e = omega (arith, ap (λ (r : List Row). length r) (cond_some (same_row first header) rest rows e).1)
 
 -- a field more is compared
 both : (s t : Bool) → s ≡ true → (s && t) ≡ t
@@ -48,18 +45,11 @@ same_more xs ys i d in_x in_y e =
 
 -- rows that differ in a field are not the same
 pub differ_at : (xs ys : Row) (i : ℕ) (d : List ℕ) → bytes_eq (get_or xs i d) (get_or ys i d) ≡ false → same_row xs ys ≡ false
-differ_at xs ys i d ne = by_test (same_row xs ys) refl
-  where
-    by_test : (t : Bool) → same_row xs ys ≡ t → t ≡ false
-    by_test true e = absurd (true≢false (sym ((bytes_eq-Decides (get_or xs i d) (get_or ys i d)).1 (ap (λ (r : Row). get_or r i d) (row_same xs ys e))) ∙ ne))
-    by_test false e = refl
+differ_at xs ys i d ne =
+    false_from_ne_true (same_row xs ys) (λ e. true≢false (sym ((bytes_eq-Decides (get_or xs i d) (get_or ys i d)).1 (ap (λ (r : Row). get_or r i d) (row_same xs ys e))) ∙ ne))
 
 pub differ_length : (xs ys : Row) → length xs ≢ length ys → same_row xs ys ≡ false
-differ_length xs ys ne = by_test (same_row xs ys) refl
-  where
-    by_test : (t : Bool) → same_row xs ys ≡ t → t ≡ false
-    by_test true e = absurd (ne (ap (λ (r : Row). length r) (row_same xs ys e)))
-    by_test false e = refl
+differ_length xs ys ne = false_from_ne_true (same_row xs ys) (λ e. ne (ap (λ (r : Row). length r) (row_same xs ys e)))
 
 pub whole : (header : Row) (rows : List Row) → All (λ (r : Row). length r ≡ length header) rows → rows_under header (header ∷ rows) ≡ Ok rows
 whole header rows all = rw (same_itself header) (rw (fits (length header) 1 rows all) refl)

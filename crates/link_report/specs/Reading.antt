@@ -1,4 +1,4 @@
--- The rows of a written file, read again: what `read_rule`, `read_links` and `read_prices` give (clause `rows` of each). The law
+-- The rows of a written file, read again: what `read_rows` gives (clause `rows`). The law
 -- `texts_read_again` says that they give the rows of the texts that are written.
 use Rattle.std.specs.Prelude.{◌==◌, ◌+◌, ◌<◌, ◌^◌, ℕ, Bool, List, [], ◌∷◌, ◌++◌, ℤ, bytes_eq, codes, filter, if◌then◌else◌, IfSome, length, map, Option, Some, None, Result, Ok, Err, zip, ⊤}
 use Rattle.std.specs.Cmp.Lexicographic.{pointwise}
@@ -27,7 +27,7 @@ abbrev pub rows_under : List (List ℕ) → List (List (List ℕ)) → Result (L
 rows_under header [] = Err 0
 rows_under header (first ∷ rows) = if same_row first header then unless_at rows (first_misfit (length header) 1 rows) else Err 0
 
--- the rows after a header, whatever their form, where the first record is that header (`rule_begun`, `links_begun` and `prices_begun`)
+-- the rows after a header, whatever their form, where the first record is that header (`rows_begun`)
 abbrev pub rows_begun : List (List ℕ) → List (List (List ℕ)) → Option (List (List (List ℕ)))
 rows_begun header [] = None
 rows_begun header (first ∷ rows) = if same_row first header then Some rows else None

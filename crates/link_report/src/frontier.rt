@@ -37,7 +37,7 @@ fn push_level(text: &mut Vec<u8>, asked: u32, row: &FrontierRow) -> Result<(), N
 
 /// The text of the frontier of levels: the header
 /// `mu_ppm,mu,lambda,possible_m,possible_u,denominator,slack_m,slack_u`, and a row for each asked level in order.
-#[tactic(auto, using(crate::proofs::HeaderLemmas::frontier_header_text))]
+#[tactic(auto, using(crate::proofs::HeaderLemmas::header_texts))]
 pub fn frontier_text(alloc: Global, mus: &[u32], rows: &[FrontierRow]) -> Result<Text, NoMemory>
     requires { length mus.now ≡ length rows.now }
     ensures { IfOk result (λ text. text ≡ text_of_frontier mus.now rows.now) }

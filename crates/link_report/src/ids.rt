@@ -55,7 +55,7 @@ impl IdsWriter {
     ghost use Rattle.std.specs.Prelude.{IfOk};
 
     /// The header, with room for a text of so many bytes.
-    #[tactic(auto, using(crate::proofs::HeaderLemmas::ids_header_text))]
+    #[tactic(auto, using(crate::proofs::HeaderLemmas::header_texts))]
     pub fn with_room(alloc: Global, room: usize) -> Result<IdsWriter, NoMemory>
         ensures { IfOk result (λ writer. writer ≡ ids_header) }
     {

@@ -24,8 +24,8 @@ pub use open::{PairRow, open_text};
 pub use pairs::PairsWriter;
 pub use prices::prices_text;
 pub use reading::{
-    ReadRows, has_fields, links_begun, prices_begun, read_links, read_prices, read_rule,
-    rule_begun, texts_read_again,
+    LINKS_HEADER, PRICES_HEADER, RULE_HEADER, ReadRows, has_fields, read_rows, rows_begun,
+    texts_read_again,
 };
 pub use report::{Dropped, Report, report_text};
 pub use rule::{letters_of, rule_text};

@@ -124,7 +124,7 @@ fn push_link(
 
 /// The text of the final links: the header `id_a,id_b,weight,value,by`, and a row for each link in order, by `review` where
 /// clerical review made it a link, and else by `rule`. Weights and values are eighths of a bit.
-#[tactic(auto, using(crate::proofs::HeaderLemmas::links_header_text))]
+#[tactic(auto, using(crate::proofs::HeaderLemmas::header_texts))]
 pub fn links_text(
     alloc: Global,
     links: &[Candidate],

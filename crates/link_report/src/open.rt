@@ -39,7 +39,7 @@ fn push_open(text: &mut Vec<u8>, row: &PairRow, a: &StdFile, b: &StdFile) -> Res
 }
 
 /// The text of pairs that wait for a verdict: the header `id_a,id_b,pattern,weight`, and a line for each pair.
-#[tactic(auto, using(crate::proofs::HeaderLemmas::open_header_text))]
+#[tactic(auto, using(crate::proofs::HeaderLemmas::header_texts))]
 pub fn open_text(
     alloc: Global,
     rows: &[PairRow],

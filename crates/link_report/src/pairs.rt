@@ -30,7 +30,7 @@ impl Model for PairsWriter {
 impl PairsWriter {
     /// A writer of pairs with patterns of this shape: its text is the header
     /// `id_a,id_b,pattern,outcomes,weight,decision,verdict`, with room for so many bytes.
-    #[tactic(auto, using(crate::proofs::HeaderLemmas::pairs_header_text))]
+    #[tactic(auto, using(crate::proofs::HeaderLemmas::header_texts))]
     pub fn with_room(alloc: Global, shape: &Shape, room: usize) -> Result<PairsWriter, NoMemory>
         ensures rares { IfOk result (λ writer. writer.rares ≡ rare_of shape.now) }
         ensures text { IfOk result (λ writer. writer.text ≡ row_text default_writer pairs_header) }

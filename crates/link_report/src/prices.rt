@@ -70,7 +70,7 @@ fn push_side(
 
 /// The text of dual prices: the header `side,id,price`, and a row for each record whose price is not 0, those of A in order
 /// as side `A`, and then those of B as side `B`. Prices are eighths of a bit, one for each record.
-#[tactic(auto, using(crate::proofs::HeaderLemmas::prices_header_text))]
+#[tactic(auto, using(crate::proofs::HeaderLemmas::header_texts))]
 pub fn prices_text(
     alloc: Global,
     prices_a: &[i64],

@@ -1,5 +1,5 @@
 // The rows of written files, read again.
-ghost use Rattle.std.specs.Prelude.{◌≡◌, ◌<◌, ◌≤◌, ◌+◌, ◌^◌, Bool, IfOk, List, None, Ok, Some, if◌then◌else◌, length, map, ℤ};
+ghost use Rattle.std.specs.Prelude.{◌≡◌, ◌<◌, ◌≤◌, ◌+◌, ◌^◌, Bool, IfOk, List, Ok, length, map, ℤ};
 ghost use Rattle.csv.specs.Records.{fields_of};
 ghost use Rattle.file_reader.specs.Left.{records_in};
 ghost use Rattle.link_base.specs.Standard.{Record};
@@ -16,7 +16,8 @@ use file_reader::{Records, field_of};
 use link_base::NoMemory;
 use std::alloc::Global;
 
-const RULE_HEADER: [&[u8]; 8] = [
+/// The header of `rule_text`.
+pub const RULE_HEADER: [&[u8]; 8] = [
     b"pattern",
     b"outcomes",
     b"m",
@@ -27,9 +28,11 @@ const RULE_HEADER: [&[u8]; 8] = [
     b"nonlink",
 ];
 
-const LINKS_HEADER: [&[u8]; 5] = [b"id_a", b"id_b", b"weight", b"value", b"by"];
+/// The header of `links_text`.
+pub const LINKS_HEADER: [&[u8]; 5] = [b"id_a", b"id_b", b"weight", b"value", b"by"];
 
-const PRICES_HEADER: [&[u8]; 3] = [b"side", b"id", b"price"];
+/// The header of `prices_text`.
+pub const PRICES_HEADER: [&[u8]; 3] = [b"side", b"id", b"price"];
 
 /// The rows of a written file.
 #[derive(Drop)]
@@ -71,16 +74,9 @@ fn misfit_in(alloc: Global, rows: &mut Records<'_>, width: usize) -> Result<Opti
     Ok(None)
 }
 
-// Takes the first record, and says whether it is a header.
-fn begins_with(alloc: Global, records: &mut Records<'_>, header: &[&[u8]]) -> Result<bool, NoMemory>
-    ensures { IfOk result (λ is_header. rows_begun (map (λ name. name.now) header.now) records.old ≡ (if is_header then Some records.new else None)) }
-{
-    let mut row = ByteRecord::new(alloc);
-    Ok(records.next(&mut row)? && has_fields(&row, header))
-}
-
-// The rows after a header, where the first record is that header.
-fn rows_begun<'a>(
+/// The rows after a header, whatever their form, to be taken one by one: those of a text of fewer than 4,294,967,295 bytes, or none
+/// where another record is the first.
+pub fn rows_begun<'a>(
     alloc: Global,
     bytes: &'a [u8],
     header: &[&[u8]],
@@ -90,14 +86,20 @@ fn rows_begun<'a>(
     ensures few { IfOk result HaveFewBegun }
 {
     let mut records = Records::new(alloc, bytes, b',');
-    if begins_with(alloc, &mut records, header)? {
-        return Ok(Some(records));
+    let mut row = ByteRecord::new(alloc);
+    if !records.next(&mut row)? || !has_fields(&row, header) {
+        return Ok(None);
     }
-    Ok(None)
+    Ok(Some(records))
 }
 
-// The rows under a header. They are read twice, once for their form and then one by one, so that none is held.
-fn read_rows<'a>(alloc: Global, bytes: &'a [u8], header: &[&[u8]]) -> Result<ReadRows<'a>, NoMemory>
+/// The rows under a header of a text of fewer than 4,294,967,295 bytes. They are read twice, once for their form and then one by one,
+/// so that none is held.
+pub fn read_rows<'a>(
+    alloc: Global,
+    bytes: &'a [u8],
+    header: &[&[u8]],
+) -> Result<ReadRows<'a>, NoMemory>
     requires { length bytes.now + 1 < 2 ^ 32 }
     ensures rows { IfOk result (λ read. shown_rows read ≡ rows_under (map (λ name. name.now) header.now) (records_in 44 bytes.now)) }
     ensures few { IfOk result HasFewRows }
@@ -114,63 +116,6 @@ fn read_rows<'a>(alloc: Global, bytes: &'a [u8], header: &[&[u8]]) -> Result<Rea
         unreachable!();
     };
     Ok(ReadRows::Rows(rows))
-}
-
-/// The rows of `rule.csv`: those of a text of fewer than 4,294,967,295 bytes under the header of `rule_text`.
-pub fn read_rule(alloc: Global, bytes: &[u8]) -> Result<ReadRows<'_>, NoMemory>
-    requires { length bytes.now + 1 < 2 ^ 32 }
-    ensures rows { IfOk result (λ read. shown_rows read ≡ rows_under rule_header (records_in 44 bytes.now)) }
-    ensures few { IfOk result HasFewRows }
-{
-    read_rows(alloc, bytes, &RULE_HEADER)
-}
-
-/// The rows of `rule.csv`, whatever their form, to be taken one by one: those of a text of fewer than 4,294,967,295 bytes after the
-/// header of `rule_text`, or none where another record is the first.
-pub fn rule_begun(alloc: Global, bytes: &[u8]) -> Result<Option<Records<'_>>, NoMemory>
-    requires { length bytes.now + 1 < 2 ^ 32 }
-    ensures rows { IfOk result (λ begun. begun ≡ rows_begun rule_header (records_in 44 bytes.now)) }
-    ensures few { IfOk result HaveFewBegun }
-{
-    rows_begun(alloc, bytes, &RULE_HEADER)
-}
-
-/// The rows of `links.csv`: those of a text of fewer than 4,294,967,295 bytes under the header of `links_text`.
-pub fn read_links(alloc: Global, bytes: &[u8]) -> Result<ReadRows<'_>, NoMemory>
-    requires { length bytes.now + 1 < 2 ^ 32 }
-    ensures rows { IfOk result (λ read. shown_rows read ≡ rows_under links_header (records_in 44 bytes.now)) }
-    ensures few { IfOk result HasFewRows }
-{
-    read_rows(alloc, bytes, &LINKS_HEADER)
-}
-
-/// The rows of `links.csv`, whatever their form, to be taken one by one: those of a text of fewer than 4,294,967,295 bytes after the
-/// header of `links_text`, or none where another record is the first.
-pub fn links_begun(alloc: Global, bytes: &[u8]) -> Result<Option<Records<'_>>, NoMemory>
-    requires { length bytes.now + 1 < 2 ^ 32 }
-    ensures rows { IfOk result (λ begun. begun ≡ rows_begun links_header (records_in 44 bytes.now)) }
-    ensures few { IfOk result HaveFewBegun }
-{
-    rows_begun(alloc, bytes, &LINKS_HEADER)
-}
-
-/// The rows of `prices.csv`: those of a text of fewer than 4,294,967,295 bytes under the header of `prices_text`.
-pub fn read_prices(alloc: Global, bytes: &[u8]) -> Result<ReadRows<'_>, NoMemory>
-    requires { length bytes.now + 1 < 2 ^ 32 }
-    ensures rows { IfOk result (λ read. shown_rows read ≡ rows_under prices_header (records_in 44 bytes.now)) }
-    ensures few { IfOk result HasFewRows }
-{
-    read_rows(alloc, bytes, &PRICES_HEADER)
-}
-
-/// The rows of `prices.csv`, whatever their form, to be taken one by one: those of a text of fewer than 4,294,967,295 bytes after the
-/// header of `prices_text`, or none where another record is the first.
-pub fn prices_begun(alloc: Global, bytes: &[u8]) -> Result<Option<Records<'_>>, NoMemory>
-    requires { length bytes.now + 1 < 2 ^ 32 }
-    ensures rows { IfOk result (λ begun. begun ≡ rows_begun prices_header (records_in 44 bytes.now)) }
-    ensures few { IfOk result HaveFewBegun }
-{
-    rows_begun(alloc, bytes, &PRICES_HEADER)
 }
 
 /// Law: the texts of a rule, of links and of prices read as their rows.

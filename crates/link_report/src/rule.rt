@@ -84,7 +84,7 @@ fn push_cell(
 
 /// The text of a decision rule: the header `pattern,outcomes,m,u,weight,link,possible,nonlink`, and a row for each cell
 /// in the order of the table. Outcomes are a letter a field: A agree, D disagree, M missing, R rare.
-#[tactic(auto, using(crate::proofs::HeaderLemmas::rule_header_text))]
+#[tactic(auto, using(crate::proofs::HeaderLemmas::header_texts))]
 pub fn rule_text(alloc: Global, table: &RuleTable, shape: &Shape) -> Result<Text, NoMemory>
     requires { All (λ (c : Cell). c.pattern < pattern_count_by (rare_of shape.now)) table.now.cells.items }
     ensures { IfOk result (λ text. text ≡ text_of_rule (rare_of shape.now) table.now.cells.items) }

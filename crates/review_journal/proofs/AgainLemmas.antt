@@ -1,5 +1,5 @@
 -- The text of a journal reads as this journal.
-use Rattle.std.proofs.Common.{◌≡◌, ◌<◌, ◌≤◌, ◌+◌, ◌∷◌, ◌++◌, ◌∙◌, ◌≤ℤ◌, ℕ, ℤ, true, false, List, [], All, length, map, get_or, Result, Ok, Some, refl, sym, ap, subst, arith, append_assoc, length-append, nat_lt, ◌≢◌, inl, inr}
+use Rattle.std.proofs.Common.{◌≡◌, ◌<◌, ◌≤◌, ◌+◌, ◌∷◌, ◌++◌, ◌∙◌, ◌≤ℤ◌, ℕ, ℤ, true, false, List, [], All, length, map, get_or, Result, Ok, Some, refl, sym, ap, subst, arith, append_assoc, length-append, nat_lt, ◌≢◌}
 use Rattle.std.specs.Prelude.{codes, decimal, int_le}
 use Rattle.std.specs.List.{AllPairs, enumerate_from, flat_map, list_all, position_or_len}
 use Rattle.std.specs.Str.{IsAscii, bytes_eq}
@@ -36,7 +36,7 @@ use Rattle.review_journal.specs.Reading.{entries_read, entry_in, journal_in, jou
 use Rattle.review_journal.specs.Rows.{journal_columns, step_word, verdict_word, written_in, step_named, verdict_named}
 use Rattle.review_journal.specs.Text.{entry_fields, entry_line, HasIds, IsIdText, text_of_journal}
 use Rattle.file_reader.specs.TableLaws.{IsRowOf, rows_whole}
-use Rattle.std.proofs.lemmas.Bool.{and_parts, cases_Bool}
+use Rattle.std.proofs.lemmas.Bool.{and_parts, false_from_ne_true}
 use Rattle.std.proofs.lemmas.Int.{ints}
 use Rattle.std.proofs.lemmas.Slice.Eq.{bytes_eq-Decides}
 use Rattle.std.proofs.Math.Seq.{get_or-append_seam}
@@ -46,11 +46,7 @@ same_bytes : (text : List ℕ) → bytes_eq text text ≡ true
 same_bytes text = (bytes_eq-Decides text text).1 refl
 
 other_bytes : (x y : List ℕ) → x ≢ y → bytes_eq x y ≡ false
-other_bytes x y apart =
-    elim (cases_Bool (bytes_eq x y)) [
-      | inl same ↦ absurd (apart ((bytes_eq-Decides x y).0 same))
-      | inr other ↦ other
-    ]
+other_bytes x y apart = false_from_ne_true (bytes_eq x y) (λ same. apart ((bytes_eq-Decides x y).0 same))
 
 -- the record at a position is the one that its id names
 pub found_again : (file : List Record) (at : ℕ) → HaveDistinctIds file → at < length file → position_of_id (id_at file at) file ≡ Some at

@@ -1,4 +1,4 @@
-// The laws of journal files.
+// The laws of verdicts and of journal files.
 ghost use Rattle.std.specs.Prelude.{◌≡◌, All, List, Ok, codes, false, length, option_map, ℕ};
 ghost use Rattle.file_reader.specs.Left.{records_in};
 ghost use Rattle.link_base.specs.Standard.{Record};
@@ -11,9 +11,15 @@ ghost use Rattle.review_journal.specs.declared.entry.Entry.{Entry as JournalEntr
 ghost use Rattle.review_journal.specs.Reading.{journal_in};
 ghost use Rattle.review_journal.specs.Text.{HasIds, text_of_journal};
 
-use crate::laws::single_verdicts_stand;
 use csv_rows::rows_read_again;
 use value_forms::day_read_again;
+
+/// Law: where every entry stands alone, the verdict on a pair is that of the last entry that names it.
+#[tactic(auto, using(crate::proofs::VerdictLemmas::verdict_stands))]
+pub fn single_verdicts_stand()
+    ensures { (entries : List JournalEntry) (a b : ℕ) → All (λ (e : JournalEntry). e.step ≡ Single) entries
+        → verdict_on entries a b ≡ option_map (λ (e : JournalEntry). e.verdict) (last_on entries a b) }
+{}
 
 /// Law: the text of a journal reads as this journal, for files whose ids are such as tables have.
 pub fn read_again()

@@ -8,7 +8,6 @@ mod entry;
 mod file_laws;
 mod idle;
 mod journal;
-mod laws;
 mod new_verdicts;
 mod possible;
 mod reading;
@@ -19,10 +18,11 @@ mod words;
 
 pub use batch::{NewVerdict, Verdicts};
 pub use entry::Entry;
-pub use file_laws::{first_version_is_single, no_verdict_is_lost, read_again};
+pub use file_laws::{
+    first_version_is_single, no_verdict_is_lost, read_again, single_verdicts_stand,
+};
 pub use idle::idle_entries;
 pub use journal::Journal;
-pub use laws::single_verdicts_stand;
 pub use new_verdicts::read_verdicts;
 pub use reading::read_journal;
 pub use text::journal_text;

@@ -1,9 +1,8 @@
 // The text of a journal.
-ghost use Rattle.std.specs.Prelude.{◌≡◌, ◌<◌, ◌+◌, ◌^◌, ◌++◌, All, IfOk, OnOk, length, true};
+ghost use Rattle.std.specs.Prelude.{◌≡◌, ◌<◌, ◌+◌, ◌^◌, ◌++◌, All, IfOk, OnOk, length};
 ghost use Rattle.csv.specs.Writing.{default_writer, row_text};
 ghost use Rattle.link_base.specs.Standard.{IsDay};
 ghost use Rattle.review_journal.specs.Journal.{IsWithinFiles};
-ghost use Rattle.review_journal.specs.Rows.{journal_columns};
 ghost use Rattle.review_journal.specs.Text.{entry_line, fields_with, text_of_journal};
 
 use crate::entry::Entry;
@@ -14,23 +13,6 @@ use itoa::Buffer;
 use link_base::{NoMemory, StdFile, Text};
 use std::alloc::Global;
 use value_forms::day_text;
-
-fn push_header(text: &mut Vec<u8>) -> Result<(), NoMemory>
-    ensures { OnOk result (text.new.items ≡ text.old.items ++ row_text default_writer (journal_columns true)) }
-{
-    push_row(
-        text,
-        &[
-            b"number",
-            b"date",
-            b"reviewer",
-            b"step",
-            b"id_a",
-            b"id_b",
-            b"verdict",
-        ],
-    )
-}
 
 // Appends the line of an entry with this number and this date.
 fn push_line<'t>(
@@ -89,7 +71,18 @@ pub fn journal_text(
 {
     let entries = journal.entries();
     let mut text = Vec::new(alloc);
-    push_header(&mut text)?;
+    push_row(
+        &mut text,
+        &[
+            b"number",
+            b"date",
+            b"reviewer",
+            b"step",
+            b"id_a",
+            b"id_b",
+            b"verdict",
+        ],
+    )?;
     for at in 0..entries.len() {
         push_entry(&mut text, at as u32, &entries[at], a, b)?;
     }

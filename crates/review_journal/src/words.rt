@@ -27,44 +27,20 @@ pub(crate) fn word_of_step<'t>(step: Step) -> &'t [u8]
     }
 }
 
-fn verdict_by(word: &[u8]) -> Option<Verdict>
-    ensures { result ≡ verdict_named word.now }
-{
-    if word == b"link".as_slice() {
-        return Some(Verdict::Link);
-    }
-    if word == b"nonlink".as_slice() {
-        return Some(Verdict::NonLink);
-    }
-    if word == b"open".as_slice() {
-        return Some(Verdict::Undecided);
-    }
-    None
-}
-
-fn step_by(word: &[u8]) -> Option<Step>
-    ensures { result ≡ step_named (Some word.now) }
-{
-    if word == b"single".as_slice() {
-        return Some(Step::Single);
-    }
-    if word == b"first".as_slice() {
-        return Some(Step::First);
-    }
-    if word == b"confirm".as_slice() {
-        return Some(Step::Confirm);
-    }
-    None
-}
-
 // The verdict that a word in a row names.
 pub(crate) fn verdict_of(role: FileRole, row: u32, word: &[u8]) -> Result<Verdict, Fault>
     ensures answer { IsAnswer (or_fault (fault.BadVerdict role row) (verdict_named word.now)) result }
 {
-    match verdict_by(word) {
-        Some(verdict) => Ok(verdict),
-        None => Err(Fault::BadVerdict { role, row }),
+    if word == b"link".as_slice() {
+        return Ok(Verdict::Link);
     }
+    if word == b"nonlink".as_slice() {
+        return Ok(Verdict::NonLink);
+    }
+    if word == b"open".as_slice() {
+        return Ok(Verdict::Undecided);
+    }
+    Err(Fault::BadVerdict { role, row })
 }
 
 // The step that a word in a row names. A verdict without a word stands alone.
@@ -75,8 +51,14 @@ pub(crate) fn step_of(row: u32, word: Option<&[u8]>) -> Result<Step, Fault>
         Some(word) => word,
         None => return Ok(Step::Single),
     };
-    match step_by(word) {
-        Some(step) => Ok(step),
-        None => Err(Fault::BadStep { row }),
+    if word == b"single".as_slice() {
+        return Ok(Step::Single);
     }
+    if word == b"first".as_slice() {
+        return Ok(Step::First);
+    }
+    if word == b"confirm".as_slice() {
+        return Ok(Step::Confirm);
+    }
+    Err(Fault::BadStep { row })
 }

@@ -3,7 +3,7 @@ use Rattle.std.proofs.Common.{◌≡◌, ◌<◌, ◌≤◌, ◌+◌, ◌∷◌,
 use Rattle.std.specs.Prelude.{AllPairs, option_map}
 use Rattle.std.specs.List.{list_any}
 use Rattle.std.proofs.Math.Seq.{get_or-append_seam}
-use Rattle.std.proofs.lemmas.Bool.{cases_lt, true≢false}
+use Rattle.std.proofs.lemmas.Bool.{cases_lt, false_from_ne_true, true≢false}
 use Rattle.std.proofs.lemmas.Bool.Decides.{nat_tests}
 use Rattle.std.proofs.lemmas.List.{append_assoc, append-nil, get_or_append_left, get_or-map, length-map}
 use Rattle.std.proofs.lemmas.List.Elements.{All-map}
@@ -34,11 +34,7 @@ pub pairs_within : (links : List Candidate) (rows_b : ℕ) → All (λ (l : Cand
 pairs_within links rows_b within = All-map (IsPairWithin rows_b) pair_of links within
 
 not_shared : (c d : Candidate) → SharesNoRecord d c → shares_record c d ≡ false
-not_shared c d apart = by_test (shares_record c d) refl
-  where
-    by_test : (t : Bool) → shares_record c d ≡ t → t ≡ false
-    by_test true e = absurd (apart.0 (grind (arith, nat_tests, e, apart.1)))
-    by_test false e = refl
+not_shared c d apart = false_from_ne_true (shares_record c d) (λ e. apart.0 (grind (arith, nat_tests, e, apart.1)))
 
 shared_so : (c d : Candidate) → shares_record c d ≡ false → SharesNoRecord d c
 shared_so c d e = (λ same. grind (arith, nat_tests), λ same. grind (arith, nat_tests))

@@ -1,8 +1,9 @@
 -- Rows that are all taken are of the form of their file.
-use Rattle.std.proofs.Common.{◌≡◌, ◌==◌, ◌+◌, ◌∙◌, ◌∷◌, ℕ, Bool, true, false, List, [], length, if◌then◌else◌, map, Option, Some, None, Result, Ok, Err, not, refl, sym, ap, arith, subst}
+use Rattle.std.proofs.Common.{◌≡◌, ◌==◌, ◌+◌, ◌∙◌, ◌∷◌, ℕ, Bool, true, false, List, [], length, if◌then◌else◌, map, Option, Some, None, Result, Ok, not, refl, sym, ap, arith, subst}
 use Rattle.std.specs.Prelude.{is_some, IsTrue}
 use Rattle.std.proofs.lemmas.Bool.{true≢false}
 use Rattle.std.proofs.lemmas.List.Elements.{All-map}
+use Rattle.std.proofs.lemmas.Option.{cond_some}
 use Rattle.file_reader.specs.Left.{records_in}
 use Rattle.link_base.specs.Answers.{and_then}
 use Rattle.link_base.specs.Standard.{Record}
@@ -13,7 +14,7 @@ use Rattle.link_report.specs.LinksText.{link_fields, links_header}
 use Rattle.link_report.specs.PricesText.{prices_header}
 use Rattle.link_report.specs.Reading.{first_misfit, rows_begun, rows_under, same_row, unless_at}
 use Rattle.link_report.specs.RuleText.{cell_fields, rule_header}
-use Rattle.written_check.proofs.ListLemmas.{Row, some_is}
+use Rattle.written_check.proofs.ListLemmas.{Row}
 use Rattle.written_check.proofs.VerifiedLemmas.{links_of}
 use Rattle.written_check.specs.LinkRows.{links_in, links_verified}
 use Rattle.written_check.specs.PriceRows.{no_prices, PricePair, prices_in, prices_verified}
@@ -21,15 +22,12 @@ use Rattle.written_check.specs.Refuted.{refuted_by, unless_row}
 use Rattle.written_check.specs.RuleRows.{first_difference, rule_verified}
 use Rattle.written_check.specs.declared.refutation.Refutation.TheVariants as refutation
 
-under_if : (width : ℕ) (rows got : List Row) (t : Bool) → Some got ≡ (if t then Some rows else None) → first_misfit width 1 got ≡ None
-    → (if t then unless_at rows (first_misfit width 1 rows) else Err 0) ≡ Ok got
-under_if width rows got true is fit = subst (λ (r : List Row). unless_at r (first_misfit width 1 r) ≡ Ok got) (some_is got rows is) (ap (unless_at got) fit)
-under_if width rows got false is fit = absurd (cc is)
-
 -- rows after a header that have no misfit are the rows under it
 pub begun_under : (header : Row) (records rows : List Row) → Some rows ≡ rows_begun header records → first_misfit (length header) 1 rows ≡ None → rows_under header records ≡ Ok rows
 begun_under header [] rows is fit = absurd (cc is)
-begun_under header (first ∷ more) rows is fit = under_if (length header) more rows (same_row first header) is fit
+begun_under header (first ∷ more) rows is fit =
+    let begun = cond_some (same_row first header) more rows (sym is) in
+    rw begun.0 (subst (λ (r : List Row). unless_at r (first_misfit (length header) 1 r) ≡ Ok rows) (sym begun.1) (ap (unless_at rows) fit))
 
 -- a row that fits is passed
 pub fit_passed : (width n : ℕ) (row : Row) (rows : List Row) → length row ≡ width → first_misfit width n (row ∷ rows) ≡ first_misfit width (n + 1) rows

@@ -3,14 +3,14 @@ use Rattle.std.proofs.Common.{◌≡◌, ◌≢◌, ◌<◌, ◌+◌, ◌-◌, �
 use Rattle.std.specs.Prelude.{◌&&◌, AllPairs, Contains, find, MatchOption}
 use Rattle.std.specs.List.{list_all, position_or_len, slice_get}
 use Rattle.std.specs.Str.{bytes_eq}
-use Rattle.std.proofs.lemmas.Bool.{cases_Bool, true≢false}
+use Rattle.std.proofs.lemmas.Bool.{and_parts, cases_Bool, false_from_ne_true, true≢false}
 use Rattle.std.proofs.lemmas.Bool.Decides.{nat_tests}
 use Rattle.std.proofs.lemmas.List.{get_or_default}
 use Rattle.std.proofs.lemmas.List.Elements.{All-cons, All-contains, All-nil, Contains-get_or}
 use Rattle.std.proofs.lemmas.List.Folds.{list_all_at}
 use Rattle.std.proofs.lemmas.List.Quantifiers.{all_pairs_push}
 use Rattle.std.proofs.lemmas.List.Sums.{AllPass-from_list_all, list_all-from_AllPass, position_or_len_is}
-use Rattle.std.proofs.lemmas.Option.{get_or_from_slice_get, slice_get_cases}
+use Rattle.std.proofs.lemmas.Option.{cond_some, get_or_from_slice_get, slice_get_cases}
 use Rattle.std.proofs.lemmas.Slice.Eq.{bytes_eq-Decides}
 use Rattle.price_check.specs.CandidateLaws.{Contains-later, same_member}
 use Rattle.price_check.specs.Assignment.{IsBefore, IsWithin, no_candidate}
@@ -23,7 +23,6 @@ use Rattle.link_report.specs.Reading.{same_row}
 use Rattle.price_check.specs.Verdict.{IsCandidate, IsCandidateAt}
 use Rattle.written_check.proofs.ListLemmas.{Row, some_is}
 use Rattle.written_check.specs.LinkRows.{after_all, candidate_in, HasRowIds, goes_before, IsPlaceOf, IsPlaceWithIds, links_in, taken_more}
-use Rattle.written_check.specs.declared.refutation.Refutation.TheVariants as refutation
 
 pub found_none : {X : Type 0} (p : X → Bool) (xs : List X) → All (λ x. p x ≡ false) xs → find p xs ≡ None
 found_none p [] all = refl
@@ -56,10 +55,7 @@ found_some p [] x is = no_some x is
 found_some p (y ∷ ys) x is = found_if p y ys x (p y) refl (found_some p ys x) is
 
 found_is : {X : Type 0} (p : X → Bool) (xs : List X) (x : X) (o : Option X) → find p xs ≡ o → Contains xs x → p x ≡ true → ((y : X) → IsFound p xs y → y ≡ x) → o ≡ Some x
-found_is p xs x None is among passes only = absurd (true≢false (sym passes ∙ none_passes p xs x is among))
-  where
-    none_passes : {X : Type 0} (p : X → Bool) (xs : List X) (x : X) → find p xs ≡ None → Contains xs x → p x ≡ false
-    none_passes p xs x is among = All-contains (λ y. p y ≡ false) xs x (all_fail p xs is) among
+found_is p xs x None is among passes only = absurd (true≢false (sym passes ∙ All-contains (λ y. p y ≡ false) xs x (all_fail p xs is) among))
 found_is p xs x (Some y) is among passes only = ap Some (only y (found_some p xs y is))
 
 -- a member that passes, and is the only one that does, is found
@@ -70,11 +66,7 @@ same_bytes : (text : List ℕ) → bytes_eq text text ≡ true
 same_bytes text = (bytes_eq-Decides text text).1 refl
 
 other_bytes : (x y : List ℕ) → x ≢ y → bytes_eq x y ≡ false
-other_bytes x y apart =
-    elim (cases_Bool (bytes_eq x y)) [
-      | inl same ↦ absurd (apart ((bytes_eq-Decides x y).0 same))
-      | inr other ↦ other
-    ]
+other_bytes x y apart = false_from_ne_true (bytes_eq x y) (λ same. apart ((bytes_eq-Decides x y).0 same))
 
 -- the record at a position is the one that its id names
 pub known_again : (file : List Record) (at : ℕ) → HaveDistinctIds file → at < length file → position_of_id (id_at file at) file ≡ Some at
@@ -118,21 +110,15 @@ ids_of_row a b c row same =
     (ap (λ (r : Row). get_or r 0 []) is, ap (λ (r : Row). get_or r 1 []) is)
 
 pub same_turned : (x y : Row) → same_row x y ≡ same_row y x
-same_turned x y = by_test (same_row x y) (same_row y x) refl refl
-  where
-    by_test : (s t : Bool) → same_row x y ≡ s → same_row y x ≡ t → s ≡ t
-    by_test true true e f = refl
-    by_test false false e f = refl
-    by_test true false e f = absurd (true≢false (sym (same_itself x) ∙ ap (λ (r : Row). same_row r x) (row_same x y e) ∙ f))
-    by_test false true e f = absurd (true≢false (sym (same_itself y) ∙ ap (λ (r : Row). same_row r y) (row_same y x f) ∙ e))
+same_turned x y =
+    elim (cases_Bool (same_row x y)) [
+      | inl e ↦ (let is : x ≡ y = row_same x y e in λ i. same_row (is i) (sym is i))
+      | inr e ↦ e ∙ sym (false_from_ne_true (same_row y x) (λ f. true≢false (sym (same_itself x) ∙ ap (λ (r : Row). same_row x r) (sym (row_same y x f)) ∙ e)))
+    ]
 
 module _ (cs : List Candidate) (a b : List Record) (row : Row) where
   pub no_candidate_in : All (λ (c : Candidate). HasRowIds a b row c → ⊥) cs → candidate_in cs a b row ≡ None
-  no_candidate_in none = found_none (λ c. same_row (link_fields a b c) row) cs (λ k d lt. fails (get_or cs k d) (none k d lt) (same_row (link_fields a b (get_or cs k d)) row) refl)
-    where
-      fails : (c : Candidate) → (HasRowIds a b row c → ⊥) → (t : Bool) → same_row (link_fields a b c) row ≡ t → t ≡ false
-      fails c none true e = absurd (none (ids_of_row a b c row e))
-      fails c none false e = refl
+  no_candidate_in none = found_none (λ c. same_row (link_fields a b c) row) cs (λ k d lt. false_from_ne_true (same_row (link_fields a b (get_or cs k d)) row) (λ e. none k d lt (ids_of_row a b (get_or cs k d) row e)))
 
   module _ (place : ℕ) (lt : place < length cs) (only : All (λ (c : Candidate). HasRowIds a b row c → c ≡ get_or cs place no_candidate) cs) where
     abbrev there : Candidate
@@ -144,11 +130,8 @@ module _ (cs : List Candidate) (a b : List Record) (row : Row) where
         (λ y found. All-contains (λ (c : Candidate). HasRowIds a b row c → c ≡ there) cs y only found.among (ids_of_row a b y row found.passes))
 
     pub another_row : same_row row (link_fields a b there) ≡ false → candidate_in cs a b row ≡ None
-    another_row other = found_none (λ c. same_row (link_fields a b c) row) cs (λ k d within. fails (get_or cs k d) (only k d within) (same_row (link_fields a b (get_or cs k d)) row) refl)
-      where
-        fails : (c : Candidate) → (HasRowIds a b row c → c ≡ there) → (t : Bool) → same_row (link_fields a b c) row ≡ t → t ≡ false
-        fails c is true e = absurd (true≢false (sym (ap (λ (x : Candidate). same_row (link_fields a b x) row) (sym (is (ids_of_row a b c row e))) ∙ e) ∙ same_turned (link_fields a b there) row ∙ other))
-        fails c is false e = refl
+    another_row other = found_none (λ c. same_row (link_fields a b c) row) cs (λ k d within. false_from_ne_true (same_row (link_fields a b (get_or cs k d)) row) (λ e.
+        true≢false (sym (ap (λ (x : Candidate). same_row (link_fields a b x) row) (sym (only k d within (ids_of_row a b (get_or cs k d) row e))) ∙ e) ∙ same_turned (link_fields a b there) row ∙ other)))
 
 -- one stands before another exactly where the test says so
 pub before_so : (x y : Candidate) → IsBefore x y → goes_before x y ≡ true
@@ -159,7 +142,7 @@ pub so_before : (x y : Candidate) → goes_before x y ≡ true → IsBefore x y
 so_before x y e = grind (arith, nat_tests)
 
 pub not_so : (x y : Candidate) → (IsBefore x y → ⊥) → goes_before x y ≡ false
-not_so x y not = elim (cases_Bool (goes_before x y)) [ inl e ↦ absurd (not (so_before x y e)) | inr e ↦ e ]
+not_so x y not = false_from_ne_true (goes_before x y) (λ e. not (so_before x y e))
 
 before_trans : (x y z : Candidate) → IsBefore x y → IsBefore y z → IsBefore x z
 before_trans x y z (inl p) (inl q) = inl (omega arith)
@@ -200,12 +183,7 @@ last_decides taken d c rising is = by_length (length taken) refl
     by_length (suc last) e = by_test last (omega arith) (goes_before d c) refl
 
 has_both : (x y v w : List ℕ) → (bytes_eq x y && bytes_eq v w) ≡ true → (x ≡ y) × (v ≡ w)
-has_both x y v w e = by_tests (bytes_eq x y) (bytes_eq v w) refl refl e
-  where
-    by_tests : (s t : Bool) → bytes_eq x y ≡ s → bytes_eq v w ≡ t → (s && t) ≡ true → (x ≡ y) × (v ≡ w)
-    by_tests true true is also e = ((bytes_eq-Decides x y).0 is, (bytes_eq-Decides v w).0 also)
-    by_tests true false is also e = absurd (true≢false (sym e))
-    by_tests false t is also e = absurd (true≢false (sym e))
+has_both x y v w e = let parts = and_parts (bytes_eq x y) (bytes_eq v w) e in ((bytes_eq-Decides x y).0 parts.0, (bytes_eq-Decides v w).0 parts.1)
 
 module _ (cs : List Candidate) (a b : List Record) (row : Row) (within : All (IsWithin (length a) (length b)) cs) (rising : AllPairs IsBefore cs) (distinct_a : HaveDistinctIds a) (distinct_b : HaveDistinctIds b) where
   pub place_is : (of_a of_b : ℕ) (place : Option ℕ) → Some of_a ≡ position_of_id (get_or row 0 []) a → Some of_b ≡ position_of_id (get_or row 1 []) b
@@ -227,11 +205,9 @@ module _ (cs : List Candidate) (a b : List Record) (row : Row) (within : All (Is
 module _ (taken : List Candidate) where
   pub taken_rising : (found : Option Candidate) (c : Candidate) → AllPairs IsBefore taken → Some c ≡ after_all taken found → AllPairs IsBefore (taken ++ c ∷ [])
   taken_rising None c rising is = no_some c (sym is)
-  taken_rising (Some d) c rising is = by_test (list_all (λ x. goes_before x d) taken) refl is
-    where
-      by_test : (t : Bool) → list_all (λ x. goes_before x d) taken ≡ t → Some c ≡ (if t then Some d else None) → AllPairs IsBefore (taken ++ c ∷ [])
-      by_test true e is = some_same d c (λ x. AllPairs IsBefore (taken ++ x ∷ [])) (sym is) (all_pairs_push IsBefore taken d rising (λ k y lt. so_before (get_or taken k y) d (AllPass-from_list_all (λ x. goes_before x d) taken e k y lt)))
-      by_test false e is = no_some c (sym is)
+  taken_rising (Some d) c rising is =
+      let passed = cond_some (list_all (λ x. goes_before x d) taken) d c (sym is) in
+      subst (λ (x : Candidate). AllPairs IsBefore (taken ++ x ∷ [])) passed.1 (all_pairs_push IsBefore taken d rising (λ k y lt. so_before (get_or taken k y) d (AllPass-from_list_all (λ x. goes_before x d) taken passed.0 k y lt)))
 
   pub link_taken : (cs : List Candidate) (a b : List Record) (row : Row) (rows : List Row) (c : Candidate) → Some c ≡ after_all taken (candidate_in cs a b row) → links_in cs a b taken (row ∷ rows) ≡ links_in cs a b (taken ++ c ∷ []) rows
   link_taken cs a b row rows c is = ap (taken_more (λ more. links_in cs a b more rows) taken) (sym is)

@@ -1,16 +1,17 @@
 -- The prices of a side, record by record.
 use Rattle.std.proofs.Common.{◌≡◌, ◌<◌, ◌≤◌, ◌+◌, ◌-◌, ◌∙◌, ℕ, ℤ, pos, zero, suc, Bool, true, false, List, [], length, drop, get_or, if◌then◌else◌, Some, None, refl, sym, ap, subst, arith}
-use Rattle.std.specs.Prelude.{◌&&◌, nat_le, replicate, slice_set}
+use Rattle.std.specs.Prelude.{◌&&◌, decimal, nat_le, replicate, slice_set}
 use Rattle.std.specs.Ordering.{int_eq}
-use Rattle.std.proofs.lemmas.Bool.Decides.{nat_tests}
+use Rattle.std.proofs.lemmas.Bool.{and_parts, leb-true}
 use Rattle.std.proofs.lemmas.Int.{ints}
 use Rattle.std.proofs.lemmas.List.{drop-set-lt, get_or-drop, get_or-set_same, length-drop, length-set}
 use Rattle.std.proofs.lemmas.List.Folds.{list_all_at}
 use Rattle.std.proofs.lemmas.List.Sums.{AllPass-from_list_all, list_all-from_AllPass}
+use Rattle.std.proofs.lemmas.Option.{cond_some}
+use Rattle.csv_rows.specs.NumberLaws.{decimal_of_read}
 use Rattle.csv_rows.specs.Numbers.{is_decimal, number_in}
 use Rattle.link_base.specs.Standard.{position_of_id, Record}
 use Rattle.link_limits.specs.declared.TheConstants.{MOST_VALUE}
-use Rattle.written_check.proofs.ListLemmas.{some_is}
 use Rattle.written_check.specs.PriceRows.{have_none, IsReadTo, price_in, priced_at, side_priced}
 
 pub none_of_none : (n : ℕ) → have_none (replicate n (pos 0)) ≡ true
@@ -62,14 +63,16 @@ read_more prices next at price read later within some = record {
     is_some_price : (p : ℕ) → 1 ≤ p → int_eq (pos p) (pos 0) ≡ false
     is_some_price p some = grind (arith, ints)
 
-price_by : (t : Bool) (n price : ℕ) → (t ≡ true → (1 ≤ n) × (n ≤ MOST_VALUE)) → Some price ≡ (if t then Some n else None) → (1 ≤ price) × (price ≤ MOST_VALUE)
-price_by true n price h is = subst (λ m. (1 ≤ m) × (m ≤ MOST_VALUE)) (some_is n price (sym is)) (h refl)
-price_by false n price h is = absurd (cc is)
-
--- a price is from 1 to the greatest that is allowed
-pub price_within : (text : List ℕ) (price : ℕ) → Some price ≡ price_in text → (1 ≤ price) × (price ≤ MOST_VALUE)
-price_within text price is =
-    price_by (is_decimal text && nat_le 1 (number_in text) && nat_le (number_in text) MOST_VALUE) (number_in text) price (λ e. grind (arith, nat_tests)) is
+-- a price is from 1 to the greatest that is allowed, and its text is that of its number
+pub price_is : (text : List ℕ) (n : ℕ) → price_in text ≡ Some n → (1 ≤ n) × (n ≤ MOST_VALUE) × (decimal n ≡ text)
+price_is text n e =
+    let is = cond_some (is_decimal text && nat_le 1 (number_in text) && nat_le (number_in text) MOST_VALUE) (number_in text) n e in
+    let few = and_parts (is_decimal text && nat_le 1 (number_in text)) (nat_le (number_in text) MOST_VALUE) is.0 in
+    let some = and_parts (is_decimal text) (nat_le 1 (number_in text)) few.0 in
+    let least : 1 ≤ number_in text = leb-true 1 (number_in text) some.1 in
+    let most : number_in text ≤ MOST_VALUE = leb-true (number_in text) MOST_VALUE few.1 in
+    let same : number_in text ≡ n = is.1 in
+    (omega arith, omega arith, ap decimal (sym same) ∙ decimal_of_read text some.0 (omega (arith, most)))
 
 -- the price of a row is stored
 module _ (file : List Record) (row : List (List ℕ)) (self items : List ℤ) (at price next : ℕ) (v : ℤ) (is : Some at ≡ position_of_id (get_or row 1 []) file) (is_price : Some price ≡ price_in (get_or row 2 []))
@@ -84,4 +87,4 @@ module _ (file : List Record) (row : List (List ℕ)) (self items : List ℤ) (a
         (subst (λ (ps : List ℤ). side_priced file row ps ≡ Some (slice_set items at (pos price))) seen (price_taken file row items at price is is_price next read later))
 
     pub stored_read : at < length items → IsReadTo (slice_set items at v) (at + 1)
-    stored_read within = subst (λ (z : ℤ). IsReadTo (slice_set items at z) (at + 1)) (sym value) (read_more items next at price read later within (price_within (get_or row 2 []) price is_price).0)
+    stored_read within = subst (λ (z : ℤ). IsReadTo (slice_set items at z) (at + 1)) (sym value) (read_more items next at price read later within (price_is (get_or row 2 []) price (sym is_price)).0)

@@ -1,16 +1,15 @@
 -- The rows of written files that are verified, and written files with such rows.
-use Rattle.std.proofs.Common.{◌≡◌, ◌<◌, ◌≤◌, ◌≤ℤ◌, ◌+ℤ◌, ◌+◌, ◌==◌, ◌∷◌, ◌++◌, ◌∙◌, ℕ, ℤ, pos, zero, suc, Bool, true, false, List, [], All, length, drop, get_or, if◌then◌else◌, map, Option, Some, None, Result, Ok, Err, refl, sym, ap, subst, arith}
-use Rattle.std.specs.Prelude.{◌&&◌, bytes_eq, codes, decimal, filter, nat_le, not, replicate, slice_set, zip}
+use Rattle.std.proofs.Common.{◌≡◌, ◌<◌, ◌≤◌, ◌≤ℤ◌, ◌+ℤ◌, ◌+◌, ◌==◌, ◌∷◌, ◌++◌, ◌∙◌, ℕ, ℤ, pos, zero, suc, Bool, true, false, List, [], All, length, drop, get_or, if◌then◌else◌, map, Option, Some, None, Ok, Err, refl, sym, ap, subst, arith}
+use Rattle.std.specs.Prelude.{bytes_eq, codes, decimal, filter, not, replicate, slice_set, zip}
 use Rattle.std.specs.Ordering.{int_eq}
-use Rattle.std.proofs.lemmas.Bool.{and_parts, eqb-true, leb-true}
+use Rattle.std.proofs.lemmas.Bool.{and_parts, eqb-true, not-false}
 use Rattle.std.proofs.lemmas.Bool.Decides.{Decides-int_eq}
 use Rattle.std.proofs.lemmas.Int.{ints}
 use Rattle.std.proofs.lemmas.List.{append_assoc, append-nil, length-replicate, length-set}
 use Rattle.std.proofs.lemmas.List.Elements.{All-replicate, All-set}
 use Rattle.std.proofs.lemmas.List.Quantifiers.{position-Some}
+use Rattle.std.proofs.lemmas.Option.{cond_some}
 use Rattle.std.proofs.lemmas.Slice.Eq.{bytes_eq-Decides}
-use Rattle.csv_rows.specs.NumberLaws.{decimal_of_read}
-use Rattle.csv_rows.specs.Numbers.{is_decimal, number_in}
 use Rattle.file_reader.specs.Left.{records_in}
 use Rattle.link_base.specs.Answers.{and_then}
 use Rattle.link_base.specs.Standard.{id_at, no_record, position_of_id, Record}
@@ -26,35 +25,29 @@ use Rattle.written_check.proofs.ListLemmas.{Row, some_is}
 use Rattle.written_check.proofs.ApartLemmas.{apart_none}
 use Rattle.written_check.proofs.FormLemmas.{same_rows}
 use Rattle.written_check.proofs.LinkLemmas.{all_fail}
-use Rattle.written_check.proofs.PriceLemmas.{none_of_none, price_within}
+use Rattle.written_check.proofs.PriceLemmas.{none_of_none, price_is}
 use Rattle.written_check.proofs.SmallPrices.{small_a, small_b}
-use Rattle.written_check.proofs.SumLemmas.{apart_links, covered_so, of_not, sums_ok}
-use Rattle.written_check.proofs.VerifiedLemmas.{came, links_are, ok_is, rows_read, under_fit}
+use Rattle.written_check.proofs.StepLemmas.{after_prices}
+use Rattle.written_check.proofs.SumLemmas.{apart_links, covered_so, sums_ok, unless_none}
+use Rattle.written_check.proofs.VerifiedLemmas.{came, links_are, ok_is, okay, rows_read, under_fit}
 use Rattle.written_check.proofs.WrittenLemmas.{DecimalsRead, links_read, no_difference, prices_read}
-use Rattle.written_check.specs.Certified.{balanced, covered_then, first_uncovered, is_covered, sums_verified}
+use Rattle.written_check.specs.Certified.{balanced, covered_then, first_uncovered, is_covered}
 use Rattle.written_check.specs.Laws.{HaveCertifiedRows, RowsAreVerified, VerifiedHaveRows}
-use Rattle.written_check.specs.LinkRows.{apart_verified, first_reused, links_in, links_verified}
+use Rattle.written_check.specs.LinkRows.{apart_verified, links_in, links_verified}
 use Rattle.written_check.specs.PriceRows.{ArePrices, have_none, no_prices, price_in, priced_at, priced_more, PricePair, prices_in, prices_verified, row_priced, side_priced, with_a, with_b}
 use Rattle.written_check.specs.Refuted.{refuted_by, rows_of_file, unless_row}
 use Rattle.written_check.specs.RuleRows.{first_difference, rule_verified}
 use Rattle.written_check.specs.declared.refutation.Refutation.{Refutation}
 use Rattle.written_check.specs.declared.refutation.Refutation.TheVariants as refutation
 
-abbrev okay : (T : Type 0) → T → Result T ℕ
-okay T x = Ok x
-
 -- ---- the rows of a rule
-
-none_if : (text last : List ℕ) (o : Option ℕ) → unless_row refutation.Rule text o ≡ Ok last → o ≡ None
-none_if text last None e = refl
-none_if text last (Some n) e = absurd (cc e)
 
 rule_rows : (rares : List Bool) (cells : List RuleCell) (text last : List ℕ) → rule_verified rares cells text ≡ Ok last → rows_under rule_header (records_in 44 text) ≡ Ok (map (cell_fields rares) cells)
 rule_rows rares cells text last e =
     let wanted = map (cell_fields rares) cells in
     let read = came (rows_of_file refutation.Rule rule_header text) (λ rows. unless_row refutation.Rule text (first_difference 1 rows wanted)) last e in
     let rows : rows_under rule_header (records_in 44 text) ≡ Ok read.0 = rows_read (List Row) refutation.Rule (rows_under rule_header (records_in 44 text)) read.0 read.1 in
-    rows ∙ ap (okay (List Row)) (same_rows 1 read.0 wanted (none_if text last (first_difference 1 read.0 wanted) read.2))
+    rows ∙ ap (okay ℕ (List Row)) (same_rows 1 read.0 wanted (unless_none refutation.Rule text last (first_difference 1 read.0 wanted) read.2))
 
 -- ---- rows that are read are as wide as their header
 
@@ -69,22 +62,6 @@ three (x ∷ []) e = absurd (omega (arith, e))
 three (x ∷ y ∷ []) e = absurd (omega (arith, e))
 three (x ∷ y ∷ z ∷ []) e = refl
 three (x ∷ y ∷ z ∷ w ∷ rest) e = absurd (omega (arith, e))
-
--- ---- the text of a price is that of its number
-
-text_by : (text : List ℕ) (n : ℕ) (t : Bool) → (t ≡ true → decimal (number_in text) ≡ text) → (if t then Some (number_in text) else None) ≡ Some n → decimal n ≡ text
-text_by text n true go e = ap decimal (sym (some_is (number_in text) n e)) ∙ go refl
-text_by text n false go e = absurd (cc e)
-
-price_text : (text : List ℕ) (n : ℕ) → price_in text ≡ Some n → decimal n ≡ text
-price_text text n e = text_by text n (is_decimal text && nat_le 1 (number_in text) && nat_le (number_in text) MOST_VALUE) of_test e
-  where
-    of_test : (is_decimal text && nat_le 1 (number_in text) && nat_le (number_in text) MOST_VALUE) ≡ true → decimal (number_in text) ≡ text
-    of_test so =
-        let few = and_parts (is_decimal text && nat_le 1 (number_in text)) (nat_le (number_in text) MOST_VALUE) so in
-        let digits = and_parts (is_decimal text) (nat_le 1 (number_in text)) few.0 in
-        let least : number_in text ≤ MOST_VALUE = leb-true (number_in text) MOST_VALUE few.1 in
-        decimal_of_read text digits.0 (omega (arith, least))
 
 -- ---- the rows of the prices of a side
 
@@ -135,22 +112,18 @@ known_there file id at e =
     (found.0, sym ((bytes_eq-Decides id (id_at file at)).0 found.1))
 
 module _ (side : List ℕ) (file : List Record) (row : Row) (prices qs : List ℤ) (long : length prices ≡ length file) where
-  side_if : (at n : ℕ) → position_of_id (get_or row 1 []) file ≡ Some at → price_in (get_or row 2 []) ≡ Some n → (t : Bool) → have_none (drop at prices) ≡ t
-      → (if t then Some (slice_set prices at (pos n)) else None) ≡ Some qs → SideTold side file row prices qs
-  side_if at n is_at is_price true none e =
-      let there = known_there file (get_or row 1 []) at is_at in
-      let text : decimal n ≡ get_or row 2 [] = price_text (get_or row 2 []) n is_price in
-      let bounds = price_within (get_or row 2 []) n (sym is_price) in
-      let put = put_told side prices file at n bounds.0 (omega (arith, there.0, long)) long none in
-      let id : id_at file at ≡ get_or row 1 [] = there.1 in
-      subst (SideTold side file row prices) (some_is (slice_set prices at (pos n)) qs e)
-      (record { long = length-set prices at (pos n); small = All-set (λ p. (pos 0 ≤ℤ p) × (p ≤ℤ pos MOST_VALUE)) prices at (pos n) (omega (arith, ints), omega (arith, ints, bounds.1)); rows = put ∙ (λ i. side_rows side prices file ++ (side ∷ id i ∷ text i ∷ []) ∷ []) })
-  side_if at n is_at is_price false none e = absurd (cc e)
-
   side_by : (place price : Option ℕ) → position_of_id (get_or row 1 []) file ≡ place → price_in (get_or row 2 []) ≡ price → priced_at prices place price ≡ Some qs → SideTold side file row prices qs
   side_by None price is_at is_price e = absurd (cc e)
   side_by (Some at) None is_at is_price e = absurd (cc e)
-  side_by (Some at) (Some n) is_at is_price e = side_if at n is_at is_price (have_none (drop at prices)) refl e
+  side_by (Some at) (Some n) is_at is_price e =
+      let set = cond_some (have_none (drop at prices)) (slice_set prices at (pos n)) qs e in
+      let there = known_there file (get_or row 1 []) at is_at in
+      let price = price_is (get_or row 2 []) n is_price in
+      let put = put_told side prices file at n price.0 (omega (arith, there.0, long)) long set.0 in
+      let id : id_at file at ≡ get_or row 1 [] = there.1 in
+      let text : decimal n ≡ get_or row 2 [] = price.2 in
+      subst (SideTold side file row prices) set.1
+      (record { long = length-set prices at (pos n); small = All-set (λ p. (pos 0 ≤ℤ p) × (p ≤ℤ pos MOST_VALUE)) prices at (pos n) (omega (arith, ints), omega (arith, ints, price.1)); rows = put ∙ (λ i. side_rows side prices file ++ (side ∷ id i ∷ text i ∷ []) ∷ []) })
 
   side_told : side_priced file row prices ≡ Some qs → SideTold side file row prices qs
   side_told e = side_by (position_of_id (get_or row 1 []) file) (price_in (get_or row 2 [])) refl refl e
@@ -253,7 +226,7 @@ prices_are a b text prices e =
       rows_b = all.long_b ∙ length-replicate (length b) (pos 0);
       small_a = all.small_a (zero_prices (length a));
       small_b = all.small_b (zero_prices (length b));
-      rows = rows ∙ ap (okay (List Row)) (sym (all.rows ∙ ap (λ (z : List Row). z ++ read.0) (no_rows a b)));
+      rows = rows ∙ ap (okay ℕ (List Row)) (sym (all.rows ∙ ap (λ (z : List Row). z ++ read.0) (no_rows a b)));
     }
 
 -- ---- the sums
@@ -273,11 +246,7 @@ sums_if cs links last prices (Some c) is e = absurd (cc e)
 sums_if cs links last prices None is e =
     let sums = balanced_if links last (worth links) (price_sum prices.a +ℤ price_sum prices.b) _ refl e in
     let none = all_fail (λ c. not (is_covered prices.a prices.b c)) cs is in
-    record { same = sums.0; covered = λ k d lt. covered_so prices.a prices.b (get_or cs k d) (of_not (is_covered prices.a prices.b (get_or cs k d)) (none k d lt)); balanced_ = sums.1 }
-
-apart_if : (links last : List Candidate) (o : Option ℕ) → unless_row refutation.Reused links o ≡ Ok last → unless_row refutation.Reused links o ≡ Ok links
-apart_if links last None e = refl
-apart_if links last (Some n) e = absurd (cc e)
+    record { same = sums.0; covered = λ k d lt. covered_so prices.a prices.b (get_or cs k d) (not-false (is_covered prices.a prices.b (get_or cs k d)) (none k d lt)); balanced_ = sums.1 }
 
 -- ---- verified files, and files with such rows
 
@@ -297,7 +266,7 @@ verified_rows = λ rares cells cs a b texts last e.
       prices_a = prices.a;
       prices_b = prices.b;
       rows = record { of_rule = rule_rows rares cells texts.rule of_rule.0 of_rule.1; of_links = read.rows; of_prices = priced.rows };
-      one_to_one = record { among = read.taken.among; rising = read.taken.rising; apart = apart_links links (apart_if links of_apart.0 (first_reused [] links) of_apart.1) };
+      one_to_one = record { among = read.taken.among; rising = read.taken.rising; apart = apart_links links of_apart.0 of_apart.1 };
       certified = record {
         floor_a = λ k d lt. (priced.small_a k d lt).0;
         floor_b = λ k d lt. (priced.small_b k d lt).0;
@@ -325,8 +294,5 @@ rows_verified decimals bounded least = λ rares cells cs a b texts links are h.
     ap (λ r. and_then (refuted_by refutation.Price r) (λ read. prices_in a b 1 (no_prices a b) read)) h.rows.of_prices
     ∙ prices_read decimals a b ps qs are.distinct_a are.distinct_b h.priced_a h.priced_b
     (small_a bounded least cs links are.allowed h.one_to_one ps qs h.certified) (small_b bounded least cs links are.allowed h.one_to_one ps qs h.certified) in
-    ap (λ r. and_then r (λ _. and_then (links_verified cs a b texts.links) (λ ls. and_then (apart_verified ls) (λ _. and_then (prices_verified a b texts.prices) (λ p. sums_verified cs ls p))))) of_rule
-    ∙ ap (λ r. and_then r (λ ls. and_then (apart_verified ls) (λ _. and_then (prices_verified a b texts.prices) (λ p. sums_verified cs ls p)))) of_links
-    ∙ ap (λ r. and_then r (λ _. and_then (prices_verified a b texts.prices) (λ p. sums_verified cs links p))) of_apart
-    ∙ ap (λ r. and_then r (λ p. sums_verified cs links p)) of_prices
+    after_prices rares cells cs a b texts texts.rule links links prices of_rule of_links of_apart of_prices
     ∙ sums_ok cs links prices h.certified.covered (sym h.certified.balanced)

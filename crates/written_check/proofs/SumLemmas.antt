@@ -2,6 +2,7 @@
 use Rattle.std.proofs.Common.{◌≡◌, ◌<◌, ◌+ℤ◌, ◌∷◌, ◌∙◌, ℕ, ℤ, zero, suc, Bool, true, false, List, [], All, length, get_or, if◌then◌else◌, Option, Some, None, Ok, Err, refl, sym, ap, arith}
 use Rattle.std.specs.Prelude.{AllPairs, find, not}
 use Rattle.std.specs.Ordering.{int_eq}
+use Rattle.std.proofs.lemmas.Bool.{false_from_ne_true}
 use Rattle.std.proofs.lemmas.Bool.Decides.{Decides-int_eq}
 use Rattle.std.proofs.lemmas.Int.{ints}
 use Rattle.price_check.specs.Assignment.{IsCovered, price_sum, SharesNoRecord, worth}
@@ -13,6 +14,7 @@ use Rattle.written_check.specs.Certified.{balanced, covered_then, first_uncovere
 use Rattle.written_check.specs.LinkRows.{apart_verified, first_reused}
 use Rattle.written_check.specs.PriceRows.{PricePair}
 use Rattle.written_check.specs.Refuted.{unless_row}
+use Rattle.written_check.specs.declared.refutation.Refutation.{Refutation}
 use Rattle.written_check.specs.declared.refutation.Refutation.TheVariants as refutation
 
 -- the test of a candidate says whether the prices cover it
@@ -22,16 +24,8 @@ covered_so ps qs c e = grind (arith, ints)
 so_covered : (ps qs : List ℤ) (c : Candidate) → IsCovered ps qs c → is_covered ps qs c ≡ true
 so_covered ps qs c e = grind (arith, ints)
 
-not_of : (b : Bool) → b ≡ true → not b ≡ false
-not_of true e = refl
-not_of false e = cc e
-
-pub of_not : (b : Bool) → not b ≡ false → b ≡ true
-of_not true e = refl
-of_not false e = cc e
-
 all_covered : (cs : List Candidate) (prices : PricePair) → All (IsCovered prices.a prices.b) cs → first_uncovered cs prices ≡ None
-all_covered cs prices all = found_none (λ c. not (is_covered prices.a prices.b c)) cs (λ k d lt. not_of (is_covered prices.a prices.b (get_or cs k d)) (so_covered prices.a prices.b (get_or cs k d) (all k d lt)))
+all_covered cs prices all = found_none (λ c. not (is_covered prices.a prices.b c)) cs (λ k d lt. ap not (so_covered prices.a prices.b (get_or cs k d) (all k d lt)))
 
 -- the first that passes
 first_if : {X : Type 0} (p : X → Bool) (x : X) (xs : List X) (i : ℕ) (d : X) → i < length (x ∷ xs) → ((k : ℕ) → k < i → p (get_or (x ∷ xs) k d) ≡ false) → p (get_or (x ∷ xs) i d) ≡ true
@@ -44,26 +38,19 @@ first_found : {X : Type 0} (p : X → Bool) (xs : List X) (i : ℕ) (d : X) → 
 first_found p [] i d lt below here = absurd (omega (arith, lt))
 first_found p (x ∷ xs) i d lt below here = first_if p x xs i d lt below here (λ j. first_found p xs j d)
 
-not_equal : (x y : ℤ) → (x ≡ y → ⊥) → (t : Bool) → int_eq x y ≡ t → t ≡ false
-not_equal x y apart true e = absurd (apart ((Decides-int_eq x y).0 e))
-not_equal x y apart false e = refl
-
-not_so : (ps qs : List ℤ) (c : Candidate) → (IsCovered ps qs c → ⊥) → (t : Bool) → is_covered ps qs c ≡ t → not t ≡ true
-not_so ps qs c none true e = absurd (none (covered_so ps qs c e))
-not_so ps qs c none false e = refl
-
 first_not_covered : (cs : List Candidate) (prices : PricePair) (i : ℕ) (d : Candidate) → IsFirstBad (IsCovered prices.a prices.b) cs (Some i) → first_uncovered cs prices ≡ Some (get_or cs i d)
 first_not_covered cs prices i d h =
     first_found (λ c. not (is_covered prices.a prices.b c)) cs i d h.0
-    (λ k lt. not_of (is_covered prices.a prices.b (get_or cs k d)) (so_covered prices.a prices.b (get_or cs k d) (h.1 k d lt)))
-    (not_so prices.a prices.b (get_or cs i d) (h.2 d) (is_covered prices.a prices.b (get_or cs i d)) refl)
+    (λ k lt. ap not (so_covered prices.a prices.b (get_or cs k d) (h.1 k d lt)))
+    (ap not (false_from_ne_true (is_covered prices.a prices.b (get_or cs i d)) (λ e. h.2 d (covered_so prices.a prices.b (get_or cs i d) e))))
 
-ok_is : (links : List Candidate) (o : Option ℕ) → unless_row refutation.Reused links o ≡ Ok links → o ≡ None
-ok_is links None e = refl
-ok_is links (Some n) e = absurd (cc e)
+-- no row is refuted
+pub unless_none : {T : Type 0} (refutes : ℕ → Refutation) (x y : T) (o : Option ℕ) → unless_row refutes x o ≡ Ok y → o ≡ None
+unless_none refutes x y None e = refl
+unless_none refutes x y (Some n) e = absurd (cc e)
 
-pub apart_links : (links : List Candidate) → apart_verified links ≡ Ok links → AllPairs SharesNoRecord links
-apart_links links e = apart_all [] links (λ i j d lt within. absurd (omega (arith, within))) (ok_is links (first_reused [] links) e)
+pub apart_links : (links same : List Candidate) → apart_verified links ≡ Ok same → AllPairs SharesNoRecord links
+apart_links links same e = apart_all [] links (λ i j d lt within. absurd (omega (arith, within))) (unless_none refutation.Reused links same (first_reused [] links) e)
 
 abbrev sum_of : PricePair → ℤ
 sum_of prices = price_sum prices.a +ℤ price_sum prices.b
@@ -79,7 +66,7 @@ sums_ok cs links prices covered sums =
 pub sums_differ : (cs links : List Candidate) (prices : PricePair) (l p : ℤ) → All (IsCovered prices.a prices.b) cs → l ≡ worth links → p ≡ price_sum prices.a +ℤ price_sum prices.b → (l ≡ p → ⊥)
     → sums_verified cs links prices ≡ Err (refutation.Sum l p)
 sums_differ cs links prices l p covered is_l is_p apart =
-    let differ : int_eq (worth links) (sum_of prices) ≡ false = not_equal (worth links) (sum_of prices) (λ e. apart (is_l ∙ e ∙ sym is_p)) (int_eq (worth links) (sum_of prices)) refl in
+    let differ : int_eq (worth links) (sum_of prices) ≡ false = false_from_ne_true (int_eq (worth links) (sum_of prices)) (λ e. apart (is_l ∙ (Decides-int_eq (worth links) (sum_of prices)).0 e ∙ sym is_p)) in
     after_covered cs links prices covered ∙ ap (λ (t : Bool). if t then Ok links else Err (refutation.Sum (worth links) (sum_of prices))) differ
     ∙ ap (λ (x : ℤ). Err (refutation.Sum x (sum_of prices))) (sym is_l) ∙ ap (λ (y : ℤ). Err (refutation.Sum l y)) (sym is_p)
 

@@ -3,6 +3,7 @@ use Rattle.std.proofs.Common.{◌≡◌, ◌≤◌, ◌+◌, ◌∷◌, ◌++◌
 use Rattle.std.specs.Prelude.{AllPairs, Contains}
 use Rattle.std.proofs.lemmas.List.{append_assoc, append-nil, length-map, map-append}
 use Rattle.std.proofs.lemmas.List.Elements.{All-nil, All-push}
+use Rattle.std.proofs.lemmas.Option.{cond_some}
 use Rattle.price_check.specs.Assignment.{IsBefore}
 use Rattle.file_reader.specs.Left.{records_in}
 use Rattle.link_base.specs.Answers.{and_then}
@@ -25,20 +26,16 @@ pub came : {A B : Type 0} (r : Result A Refutation) (f : A → Result B Refutati
 came (Ok x) f y e = (x, refl, e)
 came (Err g) f y e = absurd (cc e)
 
-abbrev okay : (E T : Type 0) → T → Result T E
+abbrev pub okay : (E T : Type 0) → T → Result T E
 okay E T x = Ok x
 
 pub ok_is : (E T : Type 0) (x y : T) → okay E T x ≡ okay E T y → x ≡ y
 ok_is E T x y e = cc e
 
 -- a candidate after all that were taken is the one that was found
-after_by : (taken : List Candidate) (d c : Candidate) (t : Bool) → (if t then Some d else None) ≡ Some c → Some d ≡ Some c
-after_by taken d c true e = e
-after_by taken d c false e = absurd (cc e)
-
 after_is : (taken : List Candidate) (found : Option Candidate) (c : Candidate) → after_all taken found ≡ Some c → found ≡ Some c
 after_is taken None c e = e
-after_is taken (Some d) c e = after_by taken d c _ e
+after_is taken (Some d) c e = ap Some (cond_some _ d c e).1
 
 -- what the links of rows are, after those that were taken
 pub record LinksOf (cs : List Candidate) (a b : List Record) (taken : List Candidate) (rows : List Row) (links : List Candidate) : Type 0 where

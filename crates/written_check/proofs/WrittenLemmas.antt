@@ -141,38 +141,21 @@ record ReadsOn (a b : List Record) (number : ℕ) (prices : PricePair) (rows : L
   pub last : ℕ
   pub same : prices_in a b number prices (rows ++ rest) ≡ prices_in a b last after rest
 
-module _ (a b : List Record) (rest : List Row) where
-  a_step : (number : ℕ) (s : PricePair) (x : ℤ × Record) (xs : List (ℤ × Record)) (qs : List ℤ) (o : Option (List ℤ)) → have_none s.b ≡ true → side_priced a (price_fields (codes "A") x) s.a ≡ o
-      → ((ps : List ℤ) → side_all a (map (price_fields (codes "A")) xs) ps ≡ Some qs
-      → ReadsOn a b (number + 1) (record { a = ps; b = s.b }) (map (price_fields (codes "A")) xs) (record { a = qs; b = s.b }) rest)
-      → side_more (side_all a (map (price_fields (codes "A")) xs)) o ≡ Some qs → ReadsOn a b number s (map (price_fields (codes "A")) (x ∷ xs)) (record { a = qs; b = s.b }) rest
-  a_step number s x xs qs None none is go e = absurd (cc e)
-  a_step number s x xs qs (Some ps) none is go e =
-      let on = go ps e in
-      let row : row_priced a b (price_fields (codes "A") x) s ≡ Some (record { a = ps; b = s.b }) = ap (λ (t : Bool). if t then with_a s (side_priced a (price_fields (codes "A") x) s.a) else None) none ∙ ap (with_a s) is in
-      record { last = on.last; same = ap (priced_more (λ more. prices_in a b (number + 1) more (map (price_fields (codes "A")) xs ++ rest)) number) row ∙ on.same }
+-- where a row of a side is taken as its price is
+module _ (a b : List Record) (rest : List Row) (side : List ℕ) (file : List Record) (put : List ℤ → PricePair)
+    (takes : (x : ℤ × Record) (ps qs : List ℤ) → side_priced file (price_fields side x) ps ≡ Some qs → row_priced a b (price_fields side x) (put ps) ≡ Some (put qs)) where
+  row_read : (number : ℕ) (ps : List ℤ) (x : ℤ × Record) (xs : List (ℤ × Record)) (qs : List ℤ) (o : Option (List ℤ)) → side_priced file (price_fields side x) ps ≡ o
+      → ((more : List ℤ) → side_all file (map (price_fields side) xs) more ≡ Some qs → ReadsOn a b (number + 1) (put more) (map (price_fields side) xs) (put qs) rest)
+      → side_more (side_all file (map (price_fields side) xs)) o ≡ Some qs → ReadsOn a b number (put ps) (map (price_fields side) (x ∷ xs)) (put qs) rest
+  row_read number ps x xs qs None is go e = absurd (cc e)
+  row_read number ps x xs qs (Some more) is go e =
+      let on = go more e in
+      record { last = on.last; same = ap (priced_more (λ next. prices_in a b (number + 1) next (map (price_fields side) xs ++ rest)) number) (takes x ps more is) ∙ on.same }
 
-  a_rows : (number : ℕ) (s : PricePair) (xs : List (ℤ × Record)) (qs : List ℤ) → have_none s.b ≡ true → side_all a (map (price_fields (codes "A")) xs) s.a ≡ Some qs
-      → ReadsOn a b number s (map (price_fields (codes "A")) xs) (record { a = qs; b = s.b }) rest
-  a_rows number s [] qs none e = record { last = number; same = ap (λ (ps : List ℤ). prices_in a b number (record { a = ps; b = s.b }) rest) (some_is s.a qs e) }
-  a_rows number s (x ∷ xs) qs none e =
-      a_step number s x xs qs (side_priced a (price_fields (codes "A") x) s.a) none refl (λ ps f. a_rows (number + 1) (record { a = ps; b = s.b }) xs qs none f) e
-
-  b_step : (number : ℕ) (s : PricePair) (x : ℤ × Record) (xs : List (ℤ × Record)) (qs : List ℤ) (o : Option (List ℤ)) → side_priced b (price_fields (codes "B") x) s.b ≡ o
-      → ((ps : List ℤ) → side_all b (map (price_fields (codes "B")) xs) ps ≡ Some qs
-      → ReadsOn a b (number + 1) (record { a = s.a; b = ps }) (map (price_fields (codes "B")) xs) (record { a = s.a; b = qs }) rest)
-      → side_more (side_all b (map (price_fields (codes "B")) xs)) o ≡ Some qs → ReadsOn a b number s (map (price_fields (codes "B")) (x ∷ xs)) (record { a = s.a; b = qs }) rest
-  b_step number s x xs qs None is go e = absurd (cc e)
-  b_step number s x xs qs (Some ps) is go e =
-      let on = go ps e in
-      let row : row_priced a b (price_fields (codes "B") x) s ≡ Some (record { a = s.a; b = ps }) = ap (with_b s) is in
-      record { last = on.last; same = ap (priced_more (λ more. prices_in a b (number + 1) more (map (price_fields (codes "B")) xs ++ rest)) number) row ∙ on.same }
-
-  b_rows : (number : ℕ) (s : PricePair) (xs : List (ℤ × Record)) (qs : List ℤ) → side_all b (map (price_fields (codes "B")) xs) s.b ≡ Some qs
-      → ReadsOn a b number s (map (price_fields (codes "B")) xs) (record { a = s.a; b = qs }) rest
-  b_rows number s [] qs e = record { last = number; same = ap (λ (ps : List ℤ). prices_in a b number (record { a = s.a; b = ps }) rest) (some_is s.b qs e) }
-  b_rows number s (x ∷ xs) qs e =
-      b_step number s x xs qs (side_priced b (price_fields (codes "B") x) s.b) refl (λ ps f. b_rows (number + 1) (record { a = s.a; b = ps }) xs qs f) e
+  rows_read : (number : ℕ) (ps : List ℤ) (xs : List (ℤ × Record)) (qs : List ℤ) → side_all file (map (price_fields side) xs) ps ≡ Some qs
+      → ReadsOn a b number (put ps) (map (price_fields side) xs) (put qs) rest
+  rows_read number ps [] qs e = record { last = number; same = ap (λ (more : List ℤ). prices_in a b number (put more) rest) (some_is ps qs e) }
+  rows_read number ps (x ∷ xs) qs e = row_read number ps x xs qs (side_priced file (price_fields side x) ps) refl (λ more f. rows_read (number + 1) more xs qs f) e
 
 -- the rows of prices are read as these prices
 pub prices_read : DecimalsRead → (a b : List Record) (prices_a prices_b : List ℤ) → HaveDistinctIds a → HaveDistinctIds b → length prices_a ≡ length a → length prices_b ≡ length b
@@ -183,6 +166,10 @@ prices_read read a b prices_a prices_b distinct_a distinct_b long_a long_b small
     ap (λ n. side_all a (side_rows (codes "A") prices_a a) (replicate n (pos 0))) (sym long_a) ∙ side_read read a distinct_a (codes "A") [] prices_a [] a refl refl long_a small_a in
     let of_b : side_all b rows_b (replicate (length b) (pos 0)) ≡ Some prices_b =
     ap (λ n. side_all b rows_b (replicate n (pos 0))) (sym long_b) ∙ side_read read b distinct_b (codes "B") [] prices_b [] b refl refl long_b small_b in
-    let first = a_rows a b rows_b 1 (no_prices a b) (filter is_priced (zip prices_a a)) prices_a (none_of_none (length b)) of_a in
-    let second = b_rows a b [] first.last (record { a = prices_a; b = replicate (length b) (pos 0) }) (filter is_priced (zip prices_b b)) prices_b of_b in
-    first.same ∙ ap (prices_in a b first.last (record { a = prices_a; b = replicate (length b) (pos 0) })) (sym (append-nil rows_b)) ∙ second.same
+    let of_zeros : List ℤ → PricePair = λ ps. record { a = ps; b = replicate (length b) (pos 0) } in
+    let of_read : List ℤ → PricePair = λ qs. record { a = prices_a; b = qs } in
+    let first = rows_read a b rows_b (codes "A") a of_zeros
+    (λ x ps qs e. ap (λ (t : Bool). if t then with_a (of_zeros ps) (side_priced a (price_fields (codes "A") x) ps) else None) (none_of_none (length b)) ∙ ap (with_a (of_zeros ps)) e)
+    1 (replicate (length a) (pos 0)) (filter is_priced (zip prices_a a)) prices_a of_a in
+    let second = rows_read a b [] (codes "B") b of_read (λ x ps qs e. ap (with_b (of_read ps)) e) first.last (replicate (length b) (pos 0)) (filter is_priced (zip prices_b b)) prices_b of_b in
+    first.same ∙ ap (prices_in a b first.last (of_read (replicate (length b) (pos 0)))) (sym (append-nil rows_b)) ∙ second.same

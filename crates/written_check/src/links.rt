@@ -13,7 +13,7 @@ use csv::ByteRecord;
 use file_reader::{Records, field_of};
 use itoa::Buffer;
 use link_base::{Candidate, NoMemory, PairAt, StdFile, distinct_ids};
-use link_report::{ReadRows, has_fields, links_begun, read_links, source_of};
+use link_report::{LINKS_HEADER, ReadRows, has_fields, read_rows, rows_begun, source_of};
 use price_check::{candidate_at, end_of_near};
 use std::alloc::Global;
 
@@ -187,7 +187,7 @@ fn links_in_order(
     requires within { All (IsWithin (length a.now) (length b.now)) candidates.now }
     ensures { IfOk result (λ links. IfSome links (λ taken. links_verified candidates.now a.now b.now text.now ≡ Ok taken.items)) }
 {
-    let Some(mut rows) = links_begun(alloc, text)? else {
+    let Some(mut rows) = rows_begun(alloc, text, &LINKS_HEADER)? else {
         return Ok(None);
     };
     unless_refuted(links_of_rows(alloc, &mut rows, candidates, a, b))
@@ -207,7 +207,7 @@ fn links_by_form(
     ensures kind { IfErr result IsOfRows }
     ensures answer { Verifies (λ links. links.items) (links_verified candidates.now a.now b.now text.now) result }
 {
-    match read_links(alloc, text)? {
+    match read_rows(alloc, text, &LINKS_HEADER)? {
         ReadRows::Rows(mut rows) => links_of_rows(alloc, &mut rows, candidates, a, b),
         ReadRows::Bad { row } => Err(Refutation::Link { row }),
     }

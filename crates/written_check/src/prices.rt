@@ -13,7 +13,7 @@ use csv_rows::read_decimal;
 use file_reader::{Records, field_of};
 use link_base::{NoMemory, StdFile};
 use link_limits::MOST_VALUE;
-use link_report::{ReadRows, prices_begun, read_prices};
+use link_report::{PRICES_HEADER, ReadRows, read_rows, rows_begun};
 use std::alloc::Global;
 use std::marker::Model;
 
@@ -179,7 +179,7 @@ fn prices_in_order(
     requires { length text.now + 1 < 2 ^ 32 }
     ensures { IfOk result (λ prices. IfSome prices (λ taken. prices_verified a.now b.now text.now ≡ Ok (prices_seen taken))) }
 {
-    let Some(mut rows) = prices_begun(alloc, text)? else {
+    let Some(mut rows) = rows_begun(alloc, text, &PRICES_HEADER)? else {
         return Ok(None);
     };
     unless_refuted(prices_of_rows(alloc, &mut rows, a, b))
@@ -196,7 +196,7 @@ fn prices_by_form(
     ensures kind { IfErr result IsOfRows }
     ensures answer { Verifies prices_seen (prices_verified a.now b.now text.now) result }
 {
-    match read_prices(alloc, text)? {
+    match read_rows(alloc, text, &PRICES_HEADER)? {
         ReadRows::Rows(mut rows) => prices_of_rows(alloc, &mut rows, a, b),
         ReadRows::Bad { row } => Err(Refutation::Price { row }),
     }

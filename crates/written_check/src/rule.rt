@@ -16,7 +16,7 @@ use file_reader::Records;
 use itoa::Buffer;
 use link_base::{NoMemory, RuleCell, RuleTable, Shape};
 use link_limits::WHOLE_RULE;
-use link_report::{ReadRows, has_fields, letters_of, read_rule, rule_begun};
+use link_report::{RULE_HEADER, ReadRows, has_fields, letters_of, read_rows, rows_begun};
 use std::alloc::Global;
 
 // Whether a row is that of a cell whose pattern has these letters.
@@ -118,7 +118,7 @@ fn is_rule_in_order(
     requires shape { All (λ (c : Cell). c.pattern < pattern_count_by (rare_of shape.now)) table.now.cells.items }
     ensures { IfOk result (λ is. IsTrue is → rule_verified (rare_of shape.now) table.now.cells.items text.now ≡ Ok text.now) }
 {
-    match rule_begun(alloc, text)? {
+    match rows_begun(alloc, text, &RULE_HEADER)? {
         Some(mut rows) => Ok(difference_in(alloc, &mut rows, table, shape)?.is_none()),
         None => Ok(false),
     }
@@ -136,7 +136,7 @@ fn difference_by_form(
     requires shape { All (λ (c : Cell). c.pattern < pattern_count_by (rare_of shape.now)) table.now.cells.items }
     ensures { IfOk result (λ number. unless_row refutation.Rule text.now number ≡ rule_verified (rare_of shape.now) table.now.cells.items text.now) }
 {
-    match read_rule(alloc, text)? {
+    match read_rows(alloc, text, &RULE_HEADER)? {
         ReadRows::Rows(mut rows) => difference_in(alloc, &mut rows, table, shape),
         ReadRows::Bad { row } => Ok(Some(row)),
     }

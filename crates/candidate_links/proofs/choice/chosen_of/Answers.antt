@@ -21,8 +21,8 @@ returns c =
     let fits : FitsSigned w64 c.worth-total.result = search rules in
     record {
       links = c.in_ok-links.ensures.items ∙ c.links.ensures;
-      prices_a = c.in_ok-prices_a.ensures;
-      prices_b = c.in_ok-prices_b.ensures;
+      prices_a = c.in_ok-prices_a.ensures c.args.solved.now.prices_a c.requires.rows_a (λ at p lt post. search rules);
+      prices_b = c.in_ok-prices_b.ensures c.args.solved.now.prices_b c.requires.rows_b (λ at p lt post. search rules);
       dropped = c.in_ok-dropped.ensures ∙ ap (dropped_of c.args.candidates.now) c.links-2.ensures;
       total = to_z-of_z w64 c.worth-total.result fits ∙ c.worth-total.ensures ∙ ap worth c.links-3.ensures;
     }

@@ -1,6 +1,9 @@
-use Rattle.std.proofs.Common.{◌≡◌, take}
-use Rattle.link_report.specs.FrontierText.{text_of_frontier}
+use Rattle.std.proofs.Common.{◌≡◌, ◌++◌, take}
+use Rattle.std.specs.Prelude.{zip}
+use Rattle.std.specs.List.{flat_map}
+use Rattle.csv.specs.Writing.{default_writer, row_text}
+use Rattle.link_report.specs.FrontierText.{frontier_header, level_row}
 use Rattle.link_report.proofs.frontier.frontier_text.Given as goal
 
 abbrev pub invariant-loop-at : goal.invariant-loop-at
-invariant-loop-at l = l.text.items ≡ text_of_frontier (take l.at l.mus) (take l.at l.rows)
+invariant-loop-at l = l.text.items ≡ row_text default_writer frontier_header ++ flat_map level_row (take l.at (zip l.mus l.rows))

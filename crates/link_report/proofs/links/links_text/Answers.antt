@@ -1,7 +1,7 @@
-use Rattle.std.proofs.Common.{◌≡◌, ◌∙◌, ap, arith, take}
+use Rattle.std.proofs.Common.{◌∙◌, arith}
 use Rattle.std.proofs.lemmas.List.{take_all}
 use Rattle.csv.specs.Writing.{default_writer, row_text}
-use Rattle.link_report.specs.LinksText.{link_row, links_header, text_of_links}
+use Rattle.link_report.specs.LinksText.{link_row, links_header}
 use Rattle.link_report.proofs.RowLemmas.{rows_more}
 use Rattle.link_report.proofs.links.links_text.Goals as goal
 
@@ -13,6 +13,4 @@ loop-link-preserved c = record {
 }
 
 pub returns : goal.returns
-returns c =
-    let all : take c.loop-link.link-index c.args.links.now ≡ c.args.links.now = take_all c.loop-link.link-index c.args.links.now c.loop-link-test.false in
-    c.of.ensures ∙ c.loop-link.invariant.text ∙ ap (text_of_links c.args.a.now c.args.b.now) all
+returns c = c.of.ensures ∙ (rw (take_all c.loop-link.link-index c.args.links.now c.loop-link-test.false) at c.loop-link.invariant.text)

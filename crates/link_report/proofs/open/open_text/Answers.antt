@@ -1,7 +1,7 @@
-use Rattle.std.proofs.Common.{◌∙◌, ◌≡◌, ap, arith, take}
+use Rattle.std.proofs.Common.{◌∙◌, arith}
 use Rattle.std.proofs.lemmas.List.{take_all}
 use Rattle.csv.specs.Writing.{default_writer, row_text}
-use Rattle.link_report.specs.OpenText.{open_header, open_row, text_of_open}
+use Rattle.link_report.specs.OpenText.{open_header, open_row}
 use Rattle.link_report.proofs.RowLemmas.{rows_more}
 use Rattle.link_report.proofs.open.open_text.Goals as goal
 
@@ -10,6 +10,4 @@ loop-row-preserved c =
     rows_more (open_row c.args.a.now c.args.b.now) (row_text default_writer open_header) c.loop-row.text.items c.push_open.new.text.items c.args.rows.now c.loop-row.row-index _ (omega arith) c.loop-row.invariant c.in_ok-push_open.ensures
 
 pub returns : goal.returns
-returns c =
-    let all : take c.loop-row.row-index c.args.rows.now ≡ c.args.rows.now = take_all c.loop-row.row-index c.args.rows.now c.loop-row-test.false in
-    c.of.ensures ∙ c.loop-row.invariant ∙ ap (text_of_open c.args.a.now c.args.b.now) all
+returns c = c.of.ensures ∙ (rw (take_all c.loop-row.row-index c.args.rows.now c.loop-row-test.false) at c.loop-row.invariant)

@@ -1,6 +1,9 @@
-use Rattle.std.proofs.Common.{◌≡◌, ◌++◌, take}
-use Rattle.link_report.specs.PricesText.{price_rows}
+use Rattle.std.proofs.Common.{◌≡◌, ◌++◌, ◌∷◌, [], filter, take}
+use Rattle.std.specs.Prelude.{zip}
+use Rattle.std.specs.List.{flat_map}
+use Rattle.link_report.specs.PricesText.{is_priced, price_row}
 use Rattle.link_report.proofs.prices.push_side.Given as goal
 
 abbrev pub invariant-loop-at : goal.invariant-loop-at
-invariant-loop-at l = l.text.items ≡ l.initial.text.items ++ price_rows l.side (take l.at l.prices) (take l.at l.file)
+invariant-loop-at l =
+    l.text.items ≡ l.initial.text.items ++ flat_map (λ priced. flat_map (price_row l.side) (filter is_priced (priced ∷ []))) (take l.at (zip l.prices l.file))

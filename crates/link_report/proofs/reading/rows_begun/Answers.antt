@@ -5,7 +5,7 @@ use Rattle.file_reader.specs.LeftLaws.{records_few}
 use Rattle.link_report.proofs.ReadingLemmas.{begun_few}
 use Rattle.link_report.proofs.reading.rows_begun.Goals as goal
 
-pub returns-then-branch-clause-few : goal.returns-then-branch-clause-few
-returns-then-branch-clause-few c =
-    let begun : rows_begun (map (λ name. name.now) c.args.header.now) (records_in 44 c.args.bytes.now) ≡ Some c.begins_with.new.records = search rules in
-    omega (arith, records_few 44 c.args.bytes.now, begun_few (map (λ name. name.now) c.args.header.now) (records_in 44 c.args.bytes.now) c.begins_with.new.records begun, c.requires)
+pub returns-clause-few : goal.returns-clause-few
+returns-clause-few c =
+    let begun : rows_begun (map (λ name. name.now) c.args.header.now) (records_in 44 c.args.bytes.now) ≡ Some c.next.new.self = search rules in
+    omega (arith, records_few 44 c.args.bytes.now, begun_few (map (λ name. name.now) c.args.header.now) (records_in 44 c.args.bytes.now) c.next.new.self begun, c.requires)

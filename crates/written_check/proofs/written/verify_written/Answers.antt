@@ -1,4 +1,4 @@
-use Rattle.std.proofs.Common.{◌∙◌, ◌<◌, List, ap, arith, length, subst, sym, ℕ}
+use Rattle.std.proofs.Common.{◌∙◌, ◌<◌, List, ap, arith, length, rules, subst, sym, ℕ}
 use Rattle.std.specs.Prelude.{All, AllPairs}
 use Rattle.std.proofs.lemmas.List.Elements.{All-contains}
 use Rattle.price_check.specs.Assignment.{IsBefore, IsWithin}
@@ -15,48 +15,32 @@ use Rattle.written_check.proofs.written.verify_written.Goals as goal
 within_b : (rows_a rows_b : ℕ) (cs links : List Candidate) → All (IsWithin rows_a rows_b) cs → AreTaken cs links → All (λ (l : Candidate). l.b < rows_b) links
 within_b rows_a rows_b cs links within taken k d lt = (All-contains (IsWithin rows_a rows_b) cs _ within (taken.among k d lt)).1
 
-pub verify_apart-requires-clause-few : goal.verify_apart-requires-clause-few
-verify_apart-requires-clause-few c =
-    let links = links_are c.args.candidates.now c.args.a.now c.args.b.now c.bytes-2.result.now c.in-Ok-verify_links.links.items c.in-Ok-verify_links.ensures.answer in
-    omega (arith, links.few, ap (λ (l : List Candidate). length l) c.deref.ensures.value, ap (λ (t : List ℕ). length t) c.bytes-2.ensures, c.requires.links)
-
-pub verify_apart-requires-clause-rising : goal.verify_apart-requires-clause-rising
-verify_apart-requires-clause-rising c =
-    let links = links_are c.args.candidates.now c.args.a.now c.args.b.now c.bytes-2.result.now c.in-Ok-verify_links.links.items c.in-Ok-verify_links.ensures.answer in
-    subst (λ (l : List Candidate). AllPairs IsBefore l) (sym c.deref.ensures.value) links.taken.rising
-
-pub verify_apart-requires-clause-within : goal.verify_apart-requires-clause-within
-verify_apart-requires-clause-within c =
+pub verify_apart-requires : goal.verify_apart-requires
+verify_apart-requires c =
     let links = links_are c.args.candidates.now c.args.a.now c.args.b.now c.bytes-2.result.now c.in-Ok-verify_links.links.items c.in-Ok-verify_links.ensures.answer in
     let within = within_b (length c.args.a.now) (length c.args.b.now) c.args.candidates.now c.in-Ok-verify_links.links.items c.requires.within links.taken in
-    subst (λ (l : List Candidate). All (λ (x : Candidate). x.b < c.rows.result) l) (sym c.deref.ensures.value)
-    (subst (λ n. All (λ (x : Candidate). x.b < n) c.in-Ok-verify_links.links.items) (sym c.rows.ensures) within)
+    record {
+      few = omega (arith, links.few, ap (λ (l : List Candidate). length l) c.deref.ensures.value, ap (λ (t : List ℕ). length t) c.bytes-2.ensures, c.requires.links);
+      rising = subst (λ (l : List Candidate). AllPairs IsBefore l) (sym c.deref.ensures.value) links.taken.rising;
+      within = subst (λ (l : List Candidate). All (λ (x : Candidate). x.b < c.rows.result) l) (sym c.deref.ensures.value)
+          (subst (λ n. All (λ (x : Candidate). x.b < n) c.in-Ok-verify_links.links.items) (sym c.rows.ensures) within);
+    }
 
-pub verify_sums-requires-clause-taken : goal.verify_sums-requires-clause-taken
-verify_sums-requires-clause-taken c =
+pub verify_sums-requires : goal.verify_sums-requires
+verify_sums-requires c =
     let links = links_are c.args.candidates.now c.args.a.now c.args.b.now c.bytes-2.result.now c.in-Ok-verify_links.links.items c.in-Ok-verify_links.ensures.answer in
-    subst (λ (l : List Candidate). AreTaken c.args.candidates.now l) (sym c.deref-2.ensures.value) links.taken
-
-pub verify_sums-requires-clause-few : goal.verify_sums-requires-clause-few
-verify_sums-requires-clause-few c =
-    let links = links_are c.args.candidates.now c.args.a.now c.args.b.now c.bytes-2.result.now c.in-Ok-verify_links.links.items c.in-Ok-verify_links.ensures.answer in
-    omega (arith, links.few, ap (λ (l : List Candidate). length l) c.deref-2.ensures.value, ap (λ (t : List ℕ). length t) c.bytes-2.ensures, c.requires.links)
-
-pub verify_sums-requires-clause-rows_a : goal.verify_sums-requires-clause-rows_a
-verify_sums-requires-clause-rows_a c =
     let prices = prices_are c.args.a.now c.args.b.now c.bytes-3.result.now _ c.in-Ok-verify_prices.ensures.answer in
-    omega (arith, prices.rows_a, c.rows-2.ensures)
-
-pub verify_sums-requires-clause-rows_b : goal.verify_sums-requires-clause-rows_b
-verify_sums-requires-clause-rows_b c =
-    let prices = prices_are c.args.a.now c.args.b.now c.bytes-3.result.now _ c.in-Ok-verify_prices.ensures.answer in
-    omega (arith, prices.rows_b, c.rows-3.ensures)
-
-pub verify_sums-requires-clause-small_a : goal.verify_sums-requires-clause-small_a
-verify_sums-requires-clause-small_a c = (prices_are c.args.a.now c.args.b.now c.bytes-3.result.now _ c.in-Ok-verify_prices.ensures.answer).small_a
-
-pub verify_sums-requires-clause-small_b : goal.verify_sums-requires-clause-small_b
-verify_sums-requires-clause-small_b c = (prices_are c.args.a.now c.args.b.now c.bytes-3.result.now _ c.in-Ok-verify_prices.ensures.answer).small_b
+    record {
+      count = search rules;
+      within = search rules;
+      allowed = search rules;
+      taken = subst (λ (l : List Candidate). AreTaken c.args.candidates.now l) (sym c.deref-2.ensures.value) links.taken;
+      few = omega (arith, links.few, ap (λ (l : List Candidate). length l) c.deref-2.ensures.value, ap (λ (t : List ℕ). length t) c.bytes-2.ensures, c.requires.links);
+      rows_a = omega (arith, prices.rows_a, c.rows-2.ensures);
+      rows_b = omega (arith, prices.rows_b, c.rows-3.ensures);
+      small_a = prices.small_a;
+      small_b = prices.small_b;
+    }
 
 pub returns-in-Err-clause-answer : goal.returns-in-Err-clause-answer
 returns-in-Err-clause-answer c = refuses-then is_want _ _ c.in-Err.refutation (rw c.bytes.ensures at c.in-Err.ensures.answer)
