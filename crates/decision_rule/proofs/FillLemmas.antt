@@ -1,4 +1,4 @@
-use Rattle.std.proofs.Common.{◌≡◌, ℕ, ℤ, suc, ◌∷◌, drop-cons, ◌+◌, ◌*◌, ◌/◌, ◌%◌, ◌^◌, ◌<◌, ◌≤◌, List, length, refl, ap, arith, sym, ◌∙◌, get_or, drop, map}
+use Rattle.std.proofs.Common.{◌≡◌, ℕ, ℤ, ◌+◌, ◌*◌, ◌/◌, ◌%◌, ◌^◌, ◌<◌, ◌≤◌, List, length, refl, ap, arith, sym, ◌∙◌, get_or, drop, map}
 use Rattle.std.specs.Prelude.{◌+ℤ◌}
 use Rattle.std.proofs.Math.Nat.{mul-div_cancel_left, pow-le-pow_right}
 use Rattle.std.proofs.lemmas.Nat.{div_below}
@@ -11,12 +11,7 @@ use Rattle.decision_rule.specs.Filled.{all_chances, chances_of, chances_at}
 use Rattle.link_base.specs.declared.rule.RuleCell.{RuleCell}
 use Rattle.link_base.specs.Rule.{empty_cell}
 use Rattle.patterns.specs.ShapeLaws.{outcomes_bounds}
-use Rattle.patterns.specs.ChanceLaws.{pattern_count_pos, product_small, share_bounds}
-
-drop_step : (shares : List FieldShares) (i : ℕ) (field : FieldShares) → i < length shares → field ≡ get_or shares i field → drop i shares ≡ field ∷ drop (i + 1) shares
-drop_step shares i field lt e =
-    let one : suc i ≡ i + 1 = omega arith in
-    drop-cons shares i field lt ∙ ap (λ f. f ∷ drop (suc i) shares) (sym e) ∙ ap (λ n. field ∷ drop n shares) one
+use Rattle.patterns.specs.ChanceLaws.{drop_step, pattern_count_pos, product_small, share_bounds}
 
 -- a loop's step: the first field that is left
 pub record Step (shares : List FieldShares) (i below rest base : ℕ) (field : FieldShares) : Type 0 where

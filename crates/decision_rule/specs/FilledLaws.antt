@@ -5,6 +5,7 @@ use Rattle.std.proofs.lemmas.Bool.{cases_lt}
 use Rattle.std.specs.List.{All, AllPairs, Contains}
 use Rattle.std.specs.List.Sorted.{IsPermutation}
 use Rattle.std.proofs.lemmas.List.{get_or-reverse, length-reverse, get_or-map, length-map, reverse-append, reverse-reverse, map-append}
+use Rattle.std.proofs.lemmas.Simd.{map-map}
 use Rattle.std.proofs.lemmas.List.FromFn.{get_or-map-range_with_len, length-map-range_with_len}
 use Rattle.std.proofs.lemmas.List.Elements.{All-from_get_or, recursion_from_All}
 use Rattle.std.proofs.lemmas.List.Sorted.{All-permutation, length_permutation, Contains-permutation, IsPermutation-sym, IsPermutation-trans, IsPermutation-reverse}
@@ -19,9 +20,6 @@ use Rattle.decision_rule.specs.Order.{RanksBefore}
 use Rattle.decision_rule.specs.Walk.{room_after, CutBy}
 use Rattle.decision_rule.specs.CutLaws.{same_shares, walk_from_IsCut, IsCut-from_walk}
 
-abbrev pub ArePositive : Chances → Type 0
-ArePositive ch = (0 < ch.m) × (0 < ch.u)
-
 -- what holds of the chances of each pattern holds of the cells
 pub cells_hold : (P : Chances → Type 0) (shares : List FieldShares) (cells : List RuleCell) → IsPermutation (all_chances shares) (map chances_of cells)
     → ((k : ℕ) → k < pattern_count_of shares → P (chances_at shares k)) → All (λ c. P (chances_of c)) cells
@@ -35,7 +33,7 @@ cells_hold P shares cells perm h =
     rw (get_or-map chances_of cells k d (chances_of d) lt) at (all k (chances_of d) there)
 
 pub positive_cells : (shares : List FieldShares) (cells : List RuleCell) → IsPermutation (all_chances shares) (map chances_of cells) → All (λ c. (0 < c.m) × (0 < c.u)) cells
-positive_cells shares cells perm = cells_hold ArePositive shares cells perm (λ k lt. (m_of_pos shares k lt, u_of_pos shares k lt))
+positive_cells shares cells perm = cells_hold (λ ch. (0 < ch.m) × (0 < ch.u)) shares cells perm (λ k lt. (m_of_pos shares k lt, u_of_pos shares k lt))
 
 pub length_filled : (shares : List FieldShares) (cells : List RuleCell) → IsPermutation (all_chances shares) (map chances_of cells) → length cells ≡ pattern_count_of shares
 length_filled shares cells perm =
@@ -212,15 +210,7 @@ map_turned_back f xs ys e =
     sym (reverse-reverse (map f xs)) ∙ ap reverse (sym (map-reverse f xs) ∙ e ∙ map-reverse f ys) ∙ reverse-reverse (map f ys)
 
 pub same_by_map : {X Y Z : Type 0} (f : X → Y) (g : Y → Z) (xs ys : List X) → map f xs ≡ map f ys → map (λ x. g (f x)) xs ≡ map (λ x. g (f x)) ys
-same_by_map f g [] [] e = refl
-same_by_map f g [] (y ∷ ys) e = cc
-same_by_map f g (x ∷ xs) [] e = cc
-same_by_map f g (x ∷ xs) (y ∷ ys) e =
-    let heads : f x ≡ f y = cc in
-    let firsts : g (f x) ≡ g (f y) = ap g heads in
-    let rest : map f xs ≡ map f ys = cc in
-    let tails = same_by_map f g xs ys rest in
-    cc
+same_by_map f g xs ys e = sym (map-map g f xs) ∙ ap (map g) e ∙ map-map g f ys
 
 abbrev cell_from : Chances → ℕ → ℕ → RuleCell
 cell_from ch link nonlink = record { pattern = ch.pattern; m = ch.m; u = ch.u; weight = ch.weight; link = link; nonlink = nonlink }

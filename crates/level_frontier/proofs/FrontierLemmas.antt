@@ -2,12 +2,12 @@
 use Rattle.std.proofs.Common.{◌≡◌, ℕ, zero, suc, Bool, true, false, ◌+◌, ◌-◌, ◌*◌, ◌^◌, ◌<◌, ◌≤◌, ◌⊎◌, inl, inr, List, [], ◌∷◌, length, reverse, refl, ap, arith, ltb, Some, ◌∙◌, get_or}
 use Rattle.std.proofs.Math.Nat.{mul-le-mul_left, le_of_mul-le-mul_right}
 use Rattle.std.proofs.lemmas.Bool.{cases_lt, lt-ltb, le-ltb}
-use Rattle.std.specs.List.{sum_by, All, AllByRecursion, find}
+use Rattle.std.specs.List.{sum_by, All, find}
 use Rattle.std.proofs.lemmas.List.{length-reverse, get_or-reverse}
 use Rattle.std.proofs.lemmas.List.Sorted.{IsPermutation-reverse, sum_by-IsPermutation}
-use Rattle.std.proofs.lemmas.List.Elements.{recursion_from_All}
+use Rattle.std.proofs.lemmas.List.Sums.{sum_by-le}
 use Rattle.link_base.specs.Rule.{empty_cell}
-use Rattle.decision_rule.specs.Rule.{Rule, possible_of, mu_of, lambda_of, possible_m_of, possible_u_of}
+use Rattle.decision_rule.specs.Rule.{Rule, possible_of, mu_of, lambda_of, possible_m_of, possible_u_of, rule_mu, rule_lambda}
 use Rattle.decision_rule.specs.Exchange.{IsCell, LinksEndAt, NonlinksStartAt, cell_at}
 use Rattle.decision_rule.specs.Cut.{IsBorder, level_of}
 use Rattle.decision_rule.specs.Filled.{IsFilled, asked_of}
@@ -17,16 +17,12 @@ use Rattle.patterns.specs.Chances.{m_of, u_of}
 use Rattle.level_frontier.specs.Borders.{border_m, border_u, link_border_of, nonlink_border_of, slack_m_of, slack_u_of}
 use Rattle.link_base.specs.declared.rule.RuleCell.{RuleCell}
 use Rattle.link_base.specs.declared.shares.FieldShares.{FieldShares}
-use Rattle.decision_rule.specs.ExchangeLaws.{possible_bound_m, possible_bound_u, total, total-sum_by}
+use Rattle.decision_rule.specs.ExchangeLaws.{possible_bound_m, possible_bound_u}
 use Rattle.decision_rule.specs.FilledLaws.{turned, positive_cells}
 use Rattle.decision_rule.specs.RuleLaws.{over_patterns, rule_over}
 
-no_total : (f : RuleCell → ℕ) (g : RuleCell → ℕ) (cells : List RuleCell) → AllByRecursion (λ c. g c ≡ 0) cells → total (λ c. f c * g c) cells ≡ 0
-no_total f g [] h = refl
-no_total f g (c ∷ cells) h = omega (arith, ap (λ n. f c * n) h.0, no_total f g cells h.1)
-
 no_sum : (f : RuleCell → ℕ) (g : RuleCell → ℕ) (cells : List RuleCell) → All (λ c. g c ≡ 0) cells → sum_by (λ c. f c * g c) cells ≡ 0
-no_sum f g cells h = total-sum_by (λ c. f c * g c) cells ∙ no_total f g cells (recursion_from_All (λ c. g c ≡ 0) cells h)
+no_sum f g cells h = omega (arith, sum_by-le (λ c. f c * g c) 0 cells (λ k d lt. omega (arith, ap (λ n. f (get_or cells k d) * n) (h k d lt))))
 
 -- the first cell that passes a test
 find_first : (test : RuleCell → Bool) (cells : List RuleCell) (i : ℕ) → i < length cells → ((k : ℕ) → k < i → test (cell_at cells k) ≡ false) → test (cell_at cells i) ≡ true → find test cells ≡ Some (cell_at cells i)
@@ -96,38 +92,20 @@ within level total ppm d limit h k =
     let whole : 65536 * level * 1000000 ≤ d * limit * 1000000 = omega arith in
     le_of_mul-le-mul_right whole (omega arith)
 
-pub near_m : (shares : List FieldShares) (mu_ppm lambda_ppm : ℕ) (cells : List RuleCell) → IsFilled shares mu_ppm lambda_ppm cells → (d : ℕ) (r : Rule) → IsWithinAsked shares mu_ppm lambda_ppm d r → d * possible_m_of cells ≤ 65536 * sum_over shares (λ p. m_of shares p) r.possible + d * slack_m_of cells
-near_m shares mu_ppm lambda_ppm cells filled d r h =
+pub near : (shares : List FieldShares) (mu_ppm lambda_ppm : ℕ) (cells : List RuleCell) → IsFilled shares mu_ppm lambda_ppm cells → (d : ℕ) (r : Rule) → IsWithinAsked shares mu_ppm lambda_ppm d r
+    → (d * possible_m_of cells ≤ 65536 * sum_over shares (λ p. m_of shares p) r.possible + d * slack_m_of cells) × (d * possible_u_of cells ≤ 65536 * sum_over shares (λ p. u_of shares p) r.possible + d * slack_u_of cells)
+near shares mu_ppm lambda_ppm cells filled d r h =
     elim (borders shares mu_ppm lambda_ppm cells filled) [
-      | inl none ↦ omega (arith, ap (λ n. d * n) (no_sum (λ c. c.m) possible_of cells none))
+      | inl none ↦ (omega (arith, ap (λ n. d * n) (no_sum (λ c. c.m) possible_of cells none)), omega (arith, ap (λ n. d * n) (no_sum (λ c. c.u) possible_of cells none)))
       | inr w ↦
           let b = w.2 in
-          let i = w.0 in
-          let j = w.1 in
           let over = over_patterns shares cells filled.patterns in
-          let m = over (λ ch. ch.u * r.link ch.pattern) in
-          let l = over (λ ch. ch.m * r.nonlink ch.pattern) in
-          let p = over (λ ch. ch.m * r.possible ch.pattern) in
-          let mu = within _ (1024 ^ length shares) mu_ppm d _ h.mu b.mu in
-          let lambda = within _ (1024 ^ length shares) lambda_ppm d _ h.lambda b.lambda in
-          let bound = possible_bound_m cells i j 1 1 d r b.links b.nonlinks (rule_over shares cells d r filled.patterns h.is_rule) (omega (arith, m, mu)) (omega (arith, l, lambda)) in
-          rw (← p) (omega (arith, bound, ap (λ n. d * n) b.slack_m))
-    ]
-
-pub near_u : (shares : List FieldShares) (mu_ppm lambda_ppm : ℕ) (cells : List RuleCell) → IsFilled shares mu_ppm lambda_ppm cells → (d : ℕ) (r : Rule) → IsWithinAsked shares mu_ppm lambda_ppm d r → d * possible_u_of cells ≤ 65536 * sum_over shares (λ p. u_of shares p) r.possible + d * slack_u_of cells
-near_u shares mu_ppm lambda_ppm cells filled d r h =
-    elim (borders shares mu_ppm lambda_ppm cells filled) [
-      | inl none ↦ omega (arith, ap (λ n. d * n) (no_sum (λ c. c.u) possible_of cells none))
-      | inr w ↦
-          let b = w.2 in
-          let i = w.0 in
-          let j = w.1 in
-          let over = over_patterns shares cells filled.patterns in
-          let m = over (λ ch. ch.u * r.link ch.pattern) in
-          let l = over (λ ch. ch.m * r.nonlink ch.pattern) in
-          let p = over (λ ch. ch.u * r.possible ch.pattern) in
-          let mu = within _ (1024 ^ length shares) mu_ppm d _ h.mu b.mu in
-          let lambda = within _ (1024 ^ length shares) lambda_ppm d _ h.lambda b.lambda in
-          let bound = possible_bound_u cells i j 1 1 d r b.links b.nonlinks (rule_over shares cells d r filled.patterns h.is_rule) (omega (arith, m, mu)) (omega (arith, l, lambda)) in
-          rw (← p) (omega (arith, bound, ap (λ n. d * n) b.slack_u))
+          let mu : 65536 * rule_mu r cells ≤ d * (mu_of cells + 1 * (cell_at cells w.0).u) = omega (arith, over (λ ch. ch.u * r.link ch.pattern), within _ (1024 ^ length shares) mu_ppm d _ h.mu b.mu) in
+          let lambda : 65536 * rule_lambda r cells ≤ d * (lambda_of cells + 1 * (cell_at cells w.1).m) = omega (arith, over (λ ch. ch.m * r.nonlink ch.pattern), within _ (1024 ^ length shares) lambda_ppm d _ h.lambda b.lambda) in
+          let rules = rule_over shares cells d r filled.patterns h.is_rule in
+          let bound_m = possible_bound_m cells w.0 w.1 1 1 d r b.links b.nonlinks rules mu lambda in
+          let bound_u = possible_bound_u cells w.0 w.1 1 1 d r b.links b.nonlinks rules mu lambda in (
+            rw (← over (λ ch. ch.m * r.possible ch.pattern)) (omega (arith, bound_m, ap (λ n. d * n) b.slack_m)),
+            rw (← over (λ ch. ch.u * r.possible ch.pattern)) (omega (arith, bound_u, ap (λ n. d * n) b.slack_u)),
+          )
     ]

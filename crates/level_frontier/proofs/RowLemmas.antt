@@ -9,16 +9,13 @@ use Rattle.std.proofs.lemmas.Bool.{cases_Bool, cases_eq}
 use Rattle.link_base.specs.declared.rule.RuleCell.{RuleCell}
 use Rattle.link_base.specs.declared.shares.FieldShares.{FieldShares}
 use Rattle.patterns.specs.ChanceLaws.{m_of_small, u_of_small}
-use Rattle.decision_rule.specs.Filled.{Chances, IsFilled}
+use Rattle.decision_rule.specs.Filled.{IsFilled}
 use Rattle.decision_rule.specs.FilledLaws.{cells_hold}
 use Rattle.level_frontier.specs.Borders.{border_m, border_u, slack_m_of, slack_u_of}
 use Rattle.level_frontier.specs.Frontier.{FallsTo, IsFrontierRow, IsNearLeast}
 use Rattle.level_frontier.specs.declared.levels.FrontierRow.{FrontierRow}
-use Rattle.level_frontier.proofs.FrontierLemmas.{near_m, near_u}
+use Rattle.level_frontier.proofs.FrontierLemmas.{near}
 use Rattle.level_frontier.proofs.FallLemmas.{sums_fall}
-
-abbrev HasSmallChances : Chances → Type 0
-HasSmallChances ch = (ch.m ≤ 2 ^ 60) × (ch.u ≤ 2 ^ 60)
 
 -- the chances of the cells are at most the whole
 abbrev pub IsSmall : RuleCell → Type 0
@@ -27,7 +24,7 @@ IsSmall c = (c.m ≤ 2 ^ 60) × (c.u ≤ 2 ^ 60)
 pub small_cells : (shares : List FieldShares) (mu_ppm lambda_ppm : ℕ) (cells : List RuleCell) → length shares ≤ 6 → IsFilled shares mu_ppm lambda_ppm cells → All IsSmall cells
 small_cells shares mu_ppm lambda_ppm cells few filled =
     let whole : 1024 ^ length shares ≤ 1024 ^ 6 = pow-le-pow_right (omega arith) few in
-    cells_hold HasSmallChances shares cells filled.patterns (λ k lt. (omega (arith, whole, m_of_small shares k lt), omega (arith, whole, u_of_small shares k lt)))
+    cells_hold (λ ch. (ch.m ≤ 2 ^ 60) × (ch.u ≤ 2 ^ 60)) shares cells filled.patterns (λ k lt. (omega (arith, whole, m_of_small shares k lt), omega (arith, whole, u_of_small shares k lt)))
 
 found_small : (test : RuleCell → Bool) (cells : List RuleCell) → AllByRecursion IsSmall cells → (border_m (find test cells) ≤ 2 ^ 60) × (border_u (find test cells) ≤ 2 ^ 60)
 found_small test [] h = (omega arith, omega arith)
@@ -56,8 +53,8 @@ rows_fall shares mu_ppm more_ppm lambda_ppm x y le hx hy =
 
 pub row_near : (shares : List FieldShares) (mu_ppm lambda_ppm : ℕ) (row : FrontierRow) → IsFrontierRow shares mu_ppm lambda_ppm row → IsNearLeast shares mu_ppm lambda_ppm row
 row_near shares mu_ppm lambda_ppm row h = record {
-  matched = λ d r w. rw (h.2.levels.possible_m, h.2.slack_m) (near_m shares mu_ppm lambda_ppm h.0 h.1 d r w);
-  unmatched = λ d r w. rw (h.2.levels.possible_u, h.2.slack_u) (near_u shares mu_ppm lambda_ppm h.0 h.1 d r w);
+  matched = λ d r w. rw (h.2.levels.possible_m, h.2.slack_m) (near shares mu_ppm lambda_ppm h.0 h.1 d r w).0;
+  unmatched = λ d r w. rw (h.2.levels.possible_u, h.2.slack_u) (near shares mu_ppm lambda_ppm h.0 h.1 d r w).1;
 }
 
 -- one row more

@@ -26,22 +26,13 @@ fn leaves_possible(cell: &RuleCell) -> bool
     u64::from(cell.link) + u64::from(cell.nonlink) < u64::from(WHOLE_RULE)
 }
 
-/// The chance of a border among matched pairs, 0 where it is missing.
-pub fn matched_chance(border: Option<RuleCell>) -> u64
-    ensures { result ≡ border_m border }
+/// The chances of a border among matched and among unmatched pairs, 0 where it is missing.
+pub fn chances(border: Option<RuleCell>) -> (u64, u64)
+    ensures matched { result.0 ≡ border_m border }
+    ensures unmatched { result.1 ≡ border_u border }
 {
     match border {
-        Some(c) => c.m,
-        None => 0,
-    }
-}
-
-/// The chance of a border among unmatched pairs, 0 where it is missing.
-pub fn unmatched_chance(border: Option<RuleCell>) -> u64
-    ensures { result ≡ border_u border }
-{
-    match border {
-        Some(c) => c.u,
-        None => 0,
+        Some(c) => (c.m, c.u),
+        None => (0, 0),
     }
 }

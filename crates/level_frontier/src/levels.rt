@@ -2,7 +2,7 @@
 ghost use Rattle.std.specs.Prelude.{◌≡◌, ℕ, ◌<◌, ◌≤◌, length, slice_index, slice_index_or, vec_len, All};
 ghost use Rattle.patterns.specs.Chances.{pattern_count_of};
 
-use crate::borders::{link_border, matched_chance, nonlink_border, unmatched_chance};
+use crate::borders::{chances, link_border, nonlink_border};
 use decision_rule::{attained, cut_rule};
 use link_base::{FieldShares, Levels, RuleTable};
 use link_limits::{MOST_FIELDS, PER_MILLION};
@@ -66,11 +66,11 @@ fn row_of(
     ensures row { IsFrontierRow shares.now mu_ppm lambda_ppm result }
 {
     cut_rule(shares, mu_ppm, lambda_ppm, table);
-    let link = link_border(table.cells());
-    let nonlink = nonlink_border(table.cells());
+    let (link_m, link_u) = chances(link_border(table.cells()));
+    let (nonlink_m, nonlink_u) = chances(nonlink_border(table.cells()));
     FrontierRow {
         levels: attained(shares.len() as u8, table),
-        slack_m: matched_chance(link) + matched_chance(nonlink),
-        slack_u: unmatched_chance(link) + unmatched_chance(nonlink),
+        slack_m: link_m + nonlink_m,
+        slack_u: link_u + nonlink_u,
     }
 }

@@ -1,5 +1,5 @@
 -- Steps of the loops over the fields.
-use Rattle.std.proofs.Common.{◌≡◌, ◌<◌, ◌≤◌, ◌+◌, ◌-◌, ◌*◌, ◌/◌, ◌%◌, ℕ, suc, Bool, true, false, List, ◌∷◌, length, drop, refl, arith, drop-cons, add-one, map, get_or, ap, sym, ◌∙◌}
+use Rattle.std.proofs.Common.{◌≡◌, ◌<◌, ◌≤◌, ◌+◌, ◌-◌, ◌*◌, ◌/◌, ◌%◌, ℕ, suc, Bool, true, false, List, length, drop, refl, arith, drop-cons, add-one, map, get_or, ap, sym, ◌∙◌}
 use Rattle.std.proofs.Math.Nat.{mul-one, mul-le-mul_left}
 use Rattle.std.proofs.lemmas.Nat.{mul-le}
 use Rattle.link_base.specs.Shares.{outcomes_of}
@@ -12,7 +12,7 @@ use Rattle.patterns.specs.Patterns.{number_of, outcomes}
 use Rattle.link_base.specs.declared.shares.FieldShares.{FieldShares}
 use Rattle.patterns.specs.Chances.{base_of, pattern_count_of}
 use Rattle.patterns.specs.ShapeLaws.{outcomes_bounds, count-pos, count-le, pattern-lt}
-use Rattle.patterns.specs.ChanceLaws.{pattern_count_pos, pattern_count_small}
+use Rattle.patterns.specs.ChanceLaws.{drop_step, pattern_count_pos, pattern_count_small}
 
 -- what the front of a pattern adds up to
 pub total-bound : (n c k w : ℕ) → 1 ≤ c → n * c + k ≡ w → n ≤ w
@@ -47,13 +47,6 @@ module _ {C S : Type 0} {rare : C → Bool} {outcome : C → S → S → Outcome
       let count = count-le (map rare cs) 6 (simp length-map few) in
       let front = total-bound n (pattern_count_by rest) m _ (count-pos rest) e in
       omega arith
-
--- the fields from a place on
-pub drop_step : (shares : List FieldShares) (i : ℕ) (field : FieldShares) → i < length shares → field ≡ get_or shares i field → drop i shares ≡ field ∷ drop (i + 1) shares
-drop_step shares i field lt e =
-    let d : drop i shares ≡ get_or shares i field ∷ drop (suc i) shares = drop-cons shares i field lt in
-    let one : suc i ≡ i + 1 = omega arith in
-    d ∙ ap (λ f. f ∷ drop (suc i) shares) (sym e) ∙ ap (λ n. field ∷ drop n shares) one
 
 -- one field further in a count
 pub count_step : (shares : List FieldShares) (i count base : ℕ) (field : FieldShares) → base ≡ base_of field → i < length shares → field ≡ get_or shares i field → length shares ≤ 6 → count * pattern_count_of (drop i shares) ≡ pattern_count_of shares → (count * base ≤ 4096) × ((count * base) * pattern_count_of (drop (i + 1) shares) ≡ pattern_count_of shares)

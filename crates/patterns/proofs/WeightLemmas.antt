@@ -81,19 +81,16 @@ value_down m u n small fits under =
     ∙ negative n small
 
 -- the two results of the search, where low and high are the eighth powers
-pub result_up : (m u n low high : ℕ) (w : ℤ) → w ≡ pos n → high ≡ m ^ 8 → low ≡ u ^ 8 → n < 80 → low * 2 ^ n ≤ high → high < low * 2 ^ (n + 1) → IsEighthWeight m u w × (w ≡ eighth_weight_of m u)
-result_up m u n low high w e eh el small fits over =
-    let fits' : u ^ 8 * 2 ^ n ≤ m ^ 8 = rw (eh, el) at fits in
-    let over' : m ^ 8 < u ^ 8 * 2 ^ (n + 1) = rw (eh, el) at over in
-    (rw e (weight_up m u n fits' over'), e ∙ sym (value_up m u n small fits' over'))
+module _ (m u n low high : ℕ) (w : ℤ) (eh : high ≡ m ^ 8) (el : low ≡ u ^ 8) (small : n < 80) where
+  pub result_up : w ≡ pos n → low * 2 ^ n ≤ high → high < low * 2 ^ (n + 1) → IsEighthWeight m u w × (w ≡ eighth_weight_of m u)
+  result_up e fits over =
+      let fits' : u ^ 8 * 2 ^ n ≤ m ^ 8 = rw (eh, el) at fits in
+      let over' : m ^ 8 < u ^ 8 * 2 ^ (n + 1) = rw (eh, el) at over in
+      (rw e (weight_up m u n fits' over'), e ∙ sym (value_up m u n small fits' over'))
 
-pub result_down : (m u n low high : ℕ) (w : ℤ) → w ≡ pos 0 -ℤ pos n → high ≡ m ^ 8 → low ≡ u ^ 8 → 1 ≤ n → n ≤ 80 → high < low → low ≤ high * 2 ^ n → high * 2 ^ (n - 1) < low → IsEighthWeight m u w × (w ≡ eighth_weight_of m u)
-result_down m u zero low high w e eh el some small less fits under = absurd (omega arith)
-result_down m u (suc n) low high w e eh el some small less fits under =
-    let is : w ≡ negsuc n = omega (arith, ints, e) in
-    let one : suc n ≡ n + 1 = omega arith in
-    let back : suc n - 1 ≡ n = omega arith in
-    let fits' : u ^ 8 ≤ m ^ 8 * 2 ^ (n + 1) = rw (eh, el, one) at fits in
-    let under' : m ^ 8 * 2 ^ n < u ^ 8 = rw (eh, el, back) at under in
-    let less' : m ^ 8 < u ^ 8 = rw (eh, el) at less in
-    (rw is (weight_down m u n fits' under' less'), is ∙ sym (value_down m u n (omega arith) fits' under'))
+  pub result_down : w ≡ negsuc n → high * 2 ^ n < low → low ≤ high * 2 ^ (n + 1) → IsEighthWeight m u w × (w ≡ eighth_weight_of m u)
+  result_down e under fits =
+      let fits' : u ^ 8 ≤ m ^ 8 * 2 ^ (n + 1) = rw (eh, el) at fits in
+      let under' : m ^ 8 * 2 ^ n < u ^ 8 = rw (eh, el) at under in
+      let less : m ^ 8 < u ^ 8 = omega (arith, under', powers_up (m ^ 8) 0 n (omega arith)) in
+      (rw e (weight_down m u n fits' under' less), e ∙ sym (value_down m u n small fits' under'))

@@ -1,6 +1,6 @@
 -- Laws of the chances and the weight of a pattern: each chance is positive and at most the whole, those of all patterns add up to the whole,
 -- and a weight is within 80 eighths of a bit a field below, and 79 above.
-use Rattle.std.proofs.Common.{ℕ, Bool, true, cond, leb, zero, suc, ◌≡◌, ◌+◌, ◌*◌, ◌/◌, ◌%◌, ◌^◌, ◌<◌, ◌≤◌, List, [], ◌∷◌, length, arith, get_or, ap, ◌∙◌, false, ◌++◌, refl}
+use Rattle.std.proofs.Common.{ℕ, Bool, true, cond, leb, zero, suc, ◌≡◌, ◌+◌, ◌*◌, ◌/◌, ◌%◌, ◌^◌, ◌<◌, ◌≤◌, List, [], ◌∷◌, length, arith, drop, drop-cons, get_or, ap, sym, ◌∙◌, false, ◌++◌, refl}
 use Rattle.std.specs.Prelude.{pos, ◌-ℤ◌, ◌≤ℤ◌}
 use Rattle.std.specs.List.{count_by, range_with_len, sum_by}
 use Rattle.std.proofs.Math.Nat.{pow-le-pow_left}
@@ -21,6 +21,12 @@ pattern_count_pos shares = omega (arith, count-pos (rare_in shares))
 
 pub pattern_count_small : (shares : List FieldShares) → length shares ≤ 6 → pattern_count_of shares ≤ 4096
 pattern_count_small shares few = omega (arith, count-le (rare_in shares) 6 (simp length-map few))
+
+-- the fields from a place on
+pub drop_step : (shares : List FieldShares) (i : ℕ) (field : FieldShares) → i < length shares → field ≡ get_or shares i field → drop i shares ≡ field ∷ drop (i + 1) shares
+drop_step shares i field lt e =
+    let one : suc i ≡ i + 1 = omega arith in
+    drop-cons shares i field lt ∙ ap (λ f. f ∷ drop (suc i) shares) (sym e) ∙ ap (λ n. field ∷ drop n shares) one
 
 pub share_bounds : (rare : Bool) (xs : List ℕ) (k : ℕ) → IsShares (outcomes_of rare) xs → k < outcomes_of rare → (1 ≤ get_or xs k 0) × (get_or xs k 0 ≤ 1022)
 share_bounds rare (a ∷ b ∷ c ∷ d ∷ []) zero h lt = let n = (outcomes_bounds rare).0 in (h.1 0 lt, omega (arith, h.3, h.1 1 (omega (arith, n)), h.1 2 (omega (arith, n))))

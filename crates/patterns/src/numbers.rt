@@ -1,5 +1,5 @@
 // The number of a comparison pattern, and its shape.
-ghost use Rattle.std.specs.Prelude.{◌≡◌, ◌<◌, ◌≤◌, ℕ, false, length, map, slice_index_or, take};
+ghost use Rattle.std.specs.Prelude.{◌≡◌, ◌<◌, ◌≤◌, ℕ, false, length, map, slice_index_or};
 ghost use Rattle.link_base.specs.declared.rule.Outcome.{Outcome};
 ghost use Rattle.patterns.specs.Shapes.{digit_of, outcome_at, pattern_count_by, rare_of};
 ghost use Rattle.patterns.specs.Patterns.{AreSides, number_of, outcomes};
@@ -21,22 +21,6 @@ pub fn digit(outcome: Outcome) -> u16
     }
 }
 
-// The number itself. What the laws of the comparator say of it stands below.
-fn number_over<C: Comparator>(kinds: &[C], a: &[C::Side], b: &[C::Side]) -> u16
-    requires few { length kinds.now ≤ MOST_FIELDS }
-    requires sides_a { AreSides C.is_valid kinds.now a.now }
-    requires sides_b { AreSides C.is_valid kinds.now b.now }
-    ensures { result ≡ number_of (map C.is_rare kinds.now) (outcomes C.outcome_of kinds.now a.now b.now) }
-{
-    let mut number = 0;
-    for i in 0..kinds.len() {
-        let kind = &kinds[i];
-        let outcome = kind.outcome(&a[i], &b[i]);
-        number = number * base(kind.rare()) + digit(outcome);
-    }
-    number
-}
-
 /// The pattern of two rows of sides, of at most `MOST_FIELDS` fields: the number whose digits are the outcomes in the order agree 0,
 /// disagree 1, missing 2, rare 3, the first field most significant. The base of a digit is 4 where the field's comparator
 /// can answer `Rare`, else 3. The pattern does not change when the two rows change places.
@@ -50,7 +34,13 @@ pub fn pattern_over<C: Comparator>(kinds: &[C], a: &[C::Side], b: &[C::Side]) ->
     ensures digits { (k : ℕ) (d : Outcome) → k < length kinds.now
         → outcome_at (map C.is_rare kinds.now) result k ≡ slice_index_or (outcomes C.outcome_of kinds.now a.now b.now) k d }
 {
-    number_over(kinds, a, b)
+    let mut number = 0;
+    for i in 0..kinds.len() {
+        let kind = &kinds[i];
+        let outcome = kind.outcome(&a[i], &b[i]);
+        number = number * base(kind.rare()) + digit(outcome);
+    }
+    number
 }
 
 /// The shape of the patterns of 1 to `MOST_FIELDS` comparators, with which `outcome_of` reads the outcomes of a pattern.
@@ -60,23 +50,13 @@ pub fn shape_of<C: Comparator>(kinds: &[C]) -> Shape
     ensures fields { result.fields ≡ length kinds.now }
     ensures rare { rare_of result ≡ map C.is_rare kinds.now }
 {
-    let rare = rare_fields(kinds);
-    Shape {
-        fields: kinds.len() as u8,
-        rare,
-    }
-}
-
-// Which fields may be rare.
-fn rare_fields<C: Comparator>(kinds: &[C]) -> [bool; 6]
-    requires few { length kinds.now ≤ MOST_FIELDS }
-    ensures front { take (length kinds.now) result ≡ map C.is_rare kinds.now }
-    ensures unused { (k : ℕ) → length kinds.now ≤ k → slice_index_or result k false ≡ false }
-{
     let mut rare = [false; 6];
     for i in 0..kinds.len() {
         let kind = &kinds[i];
         rare[i] = kind.rare();
     }
-    rare
+    Shape {
+        fields: kinds.len() as u8,
+        rare,
+    }
 }

@@ -15,7 +15,7 @@ pub fn eighth_weight(m: u16, u: u16) -> i16
     if low <= high {
         i16::from(doublings_within(low, high))
     } else {
-        -i16::from(doublings_needed(high, low))
+        -1 - i16::from(doublings_within(high, low - 1))
     }
 }
 
@@ -44,24 +44,6 @@ fn doublings_within(low: u128, high: u128) -> u8
     let mut raised = low;
     let mut count: u8 = 0;
     while raised <= high - raised {
-        raised += raised;
-        count += 1;
-    }
-    count
-}
-
-/// How often `low` must be doubled to reach `high`.
-fn doublings_needed(low: u128, high: u128) -> u8
-    requires some { 1 ≤ low }
-    requires ordered { low < high }
-    requires small { high < 2 ^ 80 }
-    ensures reaches { high ≤ low * 2 ^ result }
-    ensures under { low * 2 ^ (result - 1) < high }
-    ensures bound { (1 ≤ result) × (result ≤ 80) }
-{
-    let mut raised = low;
-    let mut count: u8 = 0;
-    while raised < high {
         raised += raised;
         count += 1;
     }

@@ -1,7 +1,7 @@
 use Rattle.std.proofs.Common.{◌≡◌, ◌+◌, ◌*◌, map, drop}
 use Rattle.patterns.specs.Shapes.{pattern_count_by}
 use Rattle.patterns.specs.Patterns.{number_of, outcomes}
-use Rattle.patterns.proofs.numbers.number_over.Given as goal
+use Rattle.patterns.proofs.numbers.pattern_over.Given as goal
 
 abbrev pub invariant-loop-i : goal.invariant-loop-i
 invariant-loop-i g l =

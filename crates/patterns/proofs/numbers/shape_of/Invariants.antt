@@ -1,5 +1,5 @@
 use Rattle.std.proofs.Common.{◌≡◌, ◌≤◌, ℕ, false, length, map, take, get_or}
-use Rattle.patterns.proofs.numbers.rare_fields.Given as goal
+use Rattle.patterns.proofs.numbers.shape_of.Given as goal
 
 abbrev pub invariant-loop-i : goal.invariant-loop-i
 invariant-loop-i g l = record {
