@@ -2,23 +2,20 @@
 use Rattle.std.proofs.Common.{◌≡◌, ◌<◌, ◌≤◌, ◌+◌, ◌-◌, ◌*◌, ◌^◌, List, [], ◌∷◌, ◌++◌, ℕ, zero, suc, Option, Some, None, refl, sym, ◌∙◌, ap, subst, length, length-append, take, drop, get_or, arith, append_assoc}
 use Rattle.std.specs.Prelude.{min, option_map}
 use Rattle.std.proofs.Math.Nat.{suc-mul}
-use Rattle.std.proofs.lemmas.List.{drop-drop, drop_at, drop_more, length-map, take_at}
+use Rattle.std.proofs.lemmas.List.{drop-drop, drop_at, drop_more, get_or-map, length-map, take_at}
 use Rattle.std.proofs.lemmas.List.FromFn.{get_or-map-range_with_len, length-map-range_with_len}
 use Rattle.std.proofs.lemmas.Nat.{row_fits}
 use Rattle.value_pool.specs.Texts.{place_among}
 use Rattle.block_passes.specs.CodedRows.{rows_of_code}
-use Rattle.block_passes.specs.Codes.{extended_code}
-use Rattle.block_passes.specs.IdCodes.{four_ids, four_ids_at}
-use Rattle.block_passes.specs.Ids.{AreAllHeld, id_key_in, ids_of_key}
+use Rattle.block_passes.specs.IdCodes.{bytes_of_ids}
+use Rattle.block_passes.specs.Ids.{AreAllHeld, id_key_in}
 use Rattle.block_passes.specs.Index.{row_at, rows_with_key}
 use Rattle.block_passes.specs.KeyIds.{ids_in_pass, ids_of_row, key_ids, part_id, parts_in}
-use Rattle.block_passes.specs.Keys.{joined_key, key_in_pass, no_part, part_key, same_text}
+use Rattle.block_passes.specs.Keys.{joined, key_in_pass, no_part, part_key, same_key, same_text}
 use Rattle.block_passes.specs.Numbering.{AreNumbers, no_number, number_among}
-use Rattle.block_passes.specs.OnePart.{part_at}
-use Rattle.block_passes.specs.PassIds.{all_ids, AreByPart, AreFew, AreFirstIds, AreIdsInPass, first_number, four_at, joined_id, rows_in_pass}
-use Rattle.block_passes.proofs.IdLemmas.{rows-by-four}
+use Rattle.block_passes.specs.PassIds.{all_ids, AreByPart, AreFirstIds, AreIdsInPass, code_at, first_number, part_at, rows_in_pass}
+use Rattle.block_passes.proofs.IdLemmas.{codes-same, ids-joined, ids-tell}
 use Rattle.block_passes.proofs.PartLemmas.{rows-by-part}
-use Rattle.block_passes.proofs.RowLemmas.{mapped-at}
 use Rattle.block_passes.specs.FilterLaws.{filter-agree}
 use Rattle.link_base.specs.Standard.{no_record, Record}
 use Rattle.value_forms.specs.declared.passes.Part.{Part}
@@ -133,28 +130,14 @@ rows-counted ids width start parts (suc rows) le is few =
     let s : min start (2 ^ 64 - 1) ≡ start = omega arith in
     ap (λ n. rows_in_pass ids n (min start (2 ^ 64 - 1)) parts (suc rows)) w ∙ ap (λ n. rows_in_pass ids width n parts (suc rows)) s
 
-joined-ids : (texts : List (List ℕ)) (part : Option (List ℕ)) (key : Option (List (List ℕ))) → joined_id (option_map (place_among texts) part) (ids_of_key texts key) ≡ ids_of_key texts (joined_key part key)
-joined-ids texts None key = refl
-joined-ids texts (Some text) None = refl
-joined-ids texts (Some text) (Some key) = refl
-
 -- the ids of all parts are the key as ids
 all-parts : (texts : List (List ℕ)) (row : List Value) (pass : List Part) → all_ids (ids_in_pass texts row pass) ≡ id_key_in texts row pass
 all-parts texts row [] = refl
-all-parts texts row (part ∷ pass) = ap (joined_id (part_id texts row part)) (all-parts texts row pass) ∙ joined-ids texts (part_key row part) (key_in_pass row pass)
+all-parts texts row (part ∷ pass) = ap (joined (part_id texts row part)) (all-parts texts row pass) ∙ sym (ids-joined texts row part pass)
 
-pub four-told : (texts : List (List ℕ)) (pass : List Part) (file : List Record) (rows : List (List (Option ℕ))) (at : ℕ) → AreIdsInPass texts pass file rows → at < length file → four_at rows at ≡ four_ids_at texts pass file at
-four-told texts pass file rows at told lt = ap (λ ids. four_ids (all_ids ids)) (told.1 at lt) ∙ ap four_ids (all-parts texts (row_at file at) pass)
-
-pub coded-rows : (texts : List (List ℕ)) (pass : List Part) (file : List Record) (rows : List (List (Option ℕ))) (code : Option (List ℕ)) → AreIdsInPass texts pass file rows
-    → rows_of_code (four_at rows) (length rows) code ≡ rows_of_code (four_ids_at texts pass file) (length file) code
-coded-rows texts pass file rows code told =
-    rw told.0 (filter-agree (λ j. same_text code (four_at rows j)) (λ j. same_text code (four_ids_at texts pass file j)) 0 (length file) (λ j lt. ap (same_text code) (four-told texts pass file rows j told (omega arith))))
-
-pub few-ids : (texts : List (List ℕ)) (pass : List Part) (file : List Record) (rows : List (List (Option ℕ))) → AreIdsInPass texts pass file rows → length pass ≤ 4 → AreFew rows
-few-ids texts pass file rows told le at lt =
-    let long = ap length (told.1 at (rw told.0 at lt)) ∙ pass-long texts (row_at file at) pass in
-    rw long le
+code-told : (texts : List (List ℕ)) (pass : List Part) (file : List Record) (rows : List (List (Option ℕ))) (at : ℕ) → AreIdsInPass texts pass file rows → at < length file
+    → code_at rows at ≡ option_map bytes_of_ids (id_key_in texts (row_at file at) pass)
+code-told texts pass file rows at told lt = ap (option_map bytes_of_ids) (ap all_ids (told.1 at lt) ∙ all-parts texts (row_at file at) pass)
 
 first-id : (texts : List (List ℕ)) (row : List Value) (pass : List Part) → length pass ≡ 1 → first_number (ids_in_pass texts row pass) ≡ number_among texts (part_key row (get_or pass 0 no_part))
 first-id texts row [] one = absurd (omega arith)
@@ -183,27 +166,15 @@ by-part-rows texts pass file_a file_b a b rows at one few held told_a told_b mad
     let of_a = first-told texts pass file_a a made.0 told_a one made.3 in
     let of_b = first-told texts pass file_b b made.1 told_b one made.4 in
     ap (λ l. get_or l at []) made.6
-    ∙ mapped-at (λ n. get_or made.2 n []) made.0 at (rw of_a.0 lt)
+    ∙ get_or-map (λ n. get_or made.2 n []) made.0 at 0 [] (rw of_a.0 lt)
     ∙ ap (λ n. get_or made.2 n []) (of_a.1 at lt)
     ∙ rows-by-part texts pass file_b (row_at file_a at) made.1 made.2 one few held of_b made.5
 
--- the rows by four ids are those by the keys
-pub by-four-rows : (texts : List (List ℕ)) (pass : List Part) (file_a file_b : List Record) (a b : List (List (Option ℕ))) (at : ℕ) → length pass ≤ 4 → AreAllHeld texts pass file_a → AreAllHeld texts pass file_b
-    → AreIdsInPass texts pass file_a a → AreIdsInPass texts pass file_b b → at < length file_a → rows_of_code (four_at b) (length b) (four_at a at) ≡ rows_with_key pass file_b (key_in_pass (row_at file_a at) pass)
-by-four-rows texts pass file_a file_b a b at few held_a held_b told_a told_b lt =
-    coded-rows texts pass file_b b (four_at a at) told_b
-    ∙ ap (rows_of_code (four_ids_at texts pass file_b) (length file_b)) (four-told texts pass file_a a at told_a lt)
-    ∙ rows-by-four texts pass file_b (row_at file_a at) few (held_a at lt) held_b
-
-joined-step : (id : Option ℕ) (ids : Option (List ℕ)) (front : List ℕ) (place : ℕ) → Some place ≡ id → extended_code (front ++ place ∷ []) ids ≡ extended_code front (joined_id id ids)
-joined-step None ids front place e = cc
-joined-step (Some n) None front place e = refl
-joined-step (Some n) (Some ids) front place e =
-    let same : place ≡ n = cc in
-    ap Some (append_assoc front (place ∷ []) ids ∙ ap (λ i. front ++ i ∷ ids) same)
-
--- one id more
-pub id-step : (ids : List (Option ℕ)) (k : ℕ) (front : List ℕ) (place : ℕ) → k < length ids → Some place ≡ get_or ids k None
-    → extended_code (front ++ place ∷ []) (all_ids (drop (k + 1) ids)) ≡ extended_code front (all_ids (drop k ids))
-id-step ids k front place lt is =
-    joined-step (get_or ids k None) (all_ids (drop (k + 1) ids)) front place is ∙ ap (λ l. extended_code front (all_ids l)) (sym (drop_more ids k None lt))
+-- the rows by the bytes of ids are those by the keys
+pub by-code-rows : (texts : List (List ℕ)) (pass : List Part) (file_a file_b : List Record) (a b : List (List (Option ℕ))) (at : ℕ) → AreAllHeld texts pass file_a → AreAllHeld texts pass file_b
+    → AreIdsInPass texts pass file_a a → AreIdsInPass texts pass file_b b → at < length file_a → rows_of_code (code_at b) (length b) (code_at a at) ≡ rows_with_key pass file_b (key_in_pass (row_at file_a at) pass)
+by-code-rows texts pass file_a file_b a b at held_a held_b told_a told_b lt =
+    rw told_b.0 (filter-agree (λ j. same_text (code_at a at) (code_at b j)) (λ j. same_key (key_in_pass (row_at file_a at) pass) (key_in_pass (row_at file_b j) pass)) 0 (length file_b) (λ j below.
+    let in_b : j < length file_b = omega arith in
+    rw (code-told texts pass file_a a at told_a lt, code-told texts pass file_b b j told_b in_b)
+    (codes-same (id_key_in texts (row_at file_a at) pass) (id_key_in texts (row_at file_b j) pass) ∙ ids-tell texts (row_at file_a at) (row_at file_b j) pass pass (held_a at lt) (held_b j in_b))))

@@ -1,9 +1,7 @@
 pub mod ChainLemmas
 pub mod CodeLemmas
-pub mod IdByteLemmas
 pub mod IdLemmas
 pub mod KeyIdLemmas
 pub mod NumberLemmas
 pub mod PartLemmas
-pub mod RowLemmas
 pub mod StepLemmas

@@ -11,15 +11,16 @@ pub use Rattle.value_forms.specs.Canons.{IsReadable, canon_by}
 abbrev pub part_key : List Value → Part → Option (List ℕ)
 part_key row part = canon_by part.key (slice_index_or row part.field absent_value)
 
-abbrev pub joined_key : Option (List ℕ) → Option (List (List ℕ)) → Option (List (List ℕ))
-joined_key None keys = None
-joined_key (Some key) None = None
-joined_key (Some key) (Some keys) = Some (key ∷ keys)
+-- an item and the rest of a list, present where both are
+abbrev pub joined : {T : Type 0} → Option T → Option (List T) → Option (List T)
+joined None rest = None
+joined (Some item) None = None
+joined (Some item) (Some rest) = Some (item ∷ rest)
 
 -- the key of a row in a pass: that of each part, present where each is
 abbrev pub key_in_pass : List Value → List Part → Option (List (List ℕ))
 key_in_pass row [] = Some []
-key_in_pass row (part ∷ parts) = joined_key (part_key row part) (key_in_pass row parts)
+key_in_pass row (part ∷ parts) = joined (part_key row part) (key_in_pass row parts)
 
 -- both keys are present, and they are equal
 abbrev pub same_key : Option (List (List ℕ)) → Option (List (List ℕ)) → Bool
@@ -48,7 +49,7 @@ IsPartReadable row part = IsReadable part.key (slice_index_or row part.field abs
 abbrev pub AreReadable : List Value → List Part → Type 0
 AreReadable row parts = (k : ℕ) → k < length parts → IsPartReadable row (slice_index_or parts k no_part)
 
--- machinery of `pass_key`: the key that starts with these texts
-abbrev pub extended_key : List (List ℕ) → Option (List (List ℕ)) → Option (List (List ℕ))
-extended_key front None = None
-extended_key front (Some rest) = Some (front ++ rest)
+-- machinery of keys: the list that starts with these items
+abbrev pub extended : {T : Type 0} → List T → Option (List T) → Option (List T)
+extended front None = None
+extended front (Some rest) = Some (front ++ rest)

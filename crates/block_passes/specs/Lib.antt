@@ -9,6 +9,5 @@ pub mod CodedRows
 pub mod IndexRows
 pub mod Ids
 pub mod IdCodes
-pub mod OnePart
 pub mod KeyIds
 pub mod PassIds

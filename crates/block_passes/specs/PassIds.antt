@@ -1,13 +1,13 @@
 -- Machinery of the walk by ids: the ids of one pass row by row, where they stand among those of all passes, and what is read
 -- from them. No public clause names it.
-use Rattle.std.specs.Prelude.{◌≡◌, ◌<◌, ◌≤◌, ◌+◌, ◌*◌, ℕ, List, [], ◌∷◌, length, map, take, drop, slice_index_or, Option, Some, None}
+use Rattle.std.specs.Prelude.{◌≡◌, ◌<◌, ◌+◌, ◌*◌, ℕ, List, [], ◌∷◌, length, map, take, drop, slice_index_or, Option, Some, None, option_map}
 use Rattle.std.specs.List.{range_with_len}
 use Rattle.block_passes.specs.Groups.{AreGroups}
-use Rattle.block_passes.specs.IdCodes.{four_ids}
+use Rattle.block_passes.specs.IdCodes.{bytes_of_ids}
 use Rattle.block_passes.specs.Index.{row_at}
 use Rattle.block_passes.specs.KeyIds.{ids_in_pass}
+use Rattle.block_passes.specs.Keys.{joined, no_part, part_key}
 use Rattle.block_passes.specs.Numbering.{no_number}
-use Rattle.block_passes.specs.declared.id_codes.TheConstants.{MOST_IDS}
 use Rattle.link_base.specs.Standard.{Record}
 use Rattle.value_forms.specs.declared.passes.Part.{Part}
 
@@ -19,23 +19,18 @@ rows_in_pass ids width start parts rows = map (λ at. take parts (drop (at * wid
 abbrev pub AreIdsInPass : List (List ℕ) → List Part → List Record → List (List (Option ℕ)) → Type 0
 AreIdsInPass texts pass file rows = (length rows ≡ length file) × ((at : ℕ) → at < length file → slice_index_or rows at [] ≡ ids_in_pass texts (row_at file at) pass)
 
--- no row has more ids than stand side by side
-abbrev pub AreFew : List (List (Option ℕ)) → Type 0
-AreFew rows = (at : ℕ) → at < length rows → length (slice_index_or rows at []) ≤ MOST_IDS
-
 -- the ids, present where each is
-abbrev pub joined_id : Option ℕ → Option (List ℕ) → Option (List ℕ)
-joined_id None ids = None
-joined_id (Some id) None = None
-joined_id (Some id) (Some ids) = Some (id ∷ ids)
-
 abbrev pub all_ids : List (Option ℕ) → Option (List ℕ)
 all_ids [] = Some []
-all_ids (id ∷ ids) = joined_id id (all_ids ids)
+all_ids (id ∷ ids) = joined id (all_ids ids)
 
--- the four ids of the row at a position
-abbrev pub four_at : List (List (Option ℕ)) → ℕ → Option (List ℕ)
-four_at rows at = four_ids (all_ids (slice_index_or rows at []))
+-- the bytes of the ids of the row at a position
+abbrev pub code_at : List (List (Option ℕ)) → ℕ → Option (List ℕ)
+code_at rows at = option_map bytes_of_ids (all_ids (slice_index_or rows at []))
+
+-- the first part of the key of the row at a position
+abbrev pub part_at : List Part → List Record → ℕ → Option (List ℕ)
+part_at parts file at = part_key (row_at file at) (slice_index_or parts 0 no_part)
 
 -- the first id as the number of a key
 abbrev pub first_number : List (Option ℕ) → ℕ

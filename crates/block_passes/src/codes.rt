@@ -1,11 +1,12 @@
 // The code of a key: its texts as one list of bytes.
-ghost use Rattle.std.specs.Prelude.{◌≡◌, ◌++◌, IfOk, OnOk, option_map};
-ghost use Rattle.block_passes.specs.Codes.{coded_text, has_marked, is_marked, key_code, marked};
-ghost use Rattle.block_passes.specs.Keys.{AreReadable, InRange, key_in_pass};
+ghost use Rattle.std.specs.Prelude.{◌≡◌, ◌++◌, OnOk, length};
+ghost use Rattle.block_passes.specs.CodedRows.{code_of_row};
+ghost use Rattle.block_passes.specs.Codes.{coded_text, has_marked, is_marked, marked};
+ghost use Rattle.block_passes.specs.Index.{AreReady};
 
+use crate::coded_rows::CodedRows;
 use crate::parts::part_text;
-use link_base::{NoMemory, Row};
-use std::alloc::Global;
+use link_base::{NoMemory, StdFile};
 use value_forms::{Pass, bytes_of};
 
 // Whether a byte is marked.
@@ -58,22 +59,33 @@ pub(crate) fn push_text(code: &mut Vec<u8>, text: &[u8]) -> Result<(), NoMemory>
     Ok(())
 }
 
-/// The code of the key of a row in a pass.
-pub(crate) fn row_code(
-    alloc: Global,
-    row: &Row<'_>,
-    pass: &Pass,
-) -> Result<Option<Vec<u8>>, NoMemory>
-    requires in_range { InRange row.now pass.now }
-    requires readable { AreReadable row.now pass.now }
-    ensures { IfOk result (λ code. option_map (λ bytes. bytes.items) code ≡ key_code (key_in_pass row.now pass.now)) }
-{
-    let mut code = Vec::new(alloc);
-    for part in pass.parts() {
-        match part_text(row, *part) {
-            None => return Ok(None),
-            Some(text) => push_text(&mut code, bytes_of(&text))?,
-        }
+/// The keys of the rows of a file in a pass.
+#[derive(Drop)]
+pub(crate) struct FileKeys<'f> {
+    pub(crate) file: &'f StdFile,
+    pub(crate) pass: &'f Pass,
+}
+
+impl<'f> CodedRows for FileKeys<'f> {
+    ghost count = { λ k. length k.file.now };
+
+    ghost code_of = { λ k. code_of_row k.pass.now k.file.now };
+
+    ghost are_ready = { λ k. AreReady k.pass.now k.file.now };
+
+    fn rows(&self) -> u32 {
+        self.file.rows()
     }
-    Ok(Some(code))
+
+    fn put_code(&self, at: u32, code: &mut Vec<u8>) -> Result<bool, NoMemory> {
+        let row = self.file.row(at);
+        code.clear();
+        for part in self.pass.parts() {
+            match part_text(&row, *part) {
+                None => return Ok(false),
+                Some(text) => push_text(code, bytes_of(&text))?,
+            }
+        }
+        Ok(true)
+    }
 }

@@ -1,13 +1,12 @@
 // The key of a row in a pass as ids of a pool.
-ghost use Rattle.std.specs.Prelude.{◌≡◌, ◌<◌, ℕ, List, length, option_map, IfOk};
+ghost use Rattle.std.specs.Prelude.{◌≡◌, ◌<◌, ◌++◌, ℕ, List, length, option_map, IfOk, OnOk};
 ghost use Rattle.value_pool.specs.Texts.{IsHeld, place_among};
-ghost use Rattle.block_passes.specs.IdCodes.{coded_ids};
+ghost use Rattle.block_passes.specs.IdCodes.{bytes_of_ids, id_bytes};
 ghost use Rattle.block_passes.specs.Ids.{AreHeld, id_key_in, same_ids};
 ghost use Rattle.block_passes.specs.Keys.{AreReadable, InRange, IsPartReadable, key_in_pass, part_key, same_key};
 ghost use Rattle.value_forms.specs.declared.passes.Part.{Part as KeyPart};
 ghost use Rattle.link_base.specs.declared.standard.Value.{Value};
 
-use crate::id_codes::code_of_ids;
 use crate::parts::part_text;
 use link_base::{NoMemory, Row};
 use std::alloc::Global;
@@ -24,24 +23,16 @@ pub struct IdKey {
 
 impl Model for IdKey {
     ghost use Rattle.std.specs.Prelude.{◌≡◌, ℕ, List};
-    ghost use Rattle.block_passes.specs.IdCodes.{coded_ids};
+    ghost use Rattle.block_passes.specs.IdCodes.{bytes_of_ids};
 
     ghost Value = { List ℕ };
 
     ghost view = { λ k. k.ids.items };
 
-    ghost invariant = { λ k. k.code.items ≡ coded_ids k.ids.items };
+    ghost invariant = { λ k. k.code.items ≡ bytes_of_ids k.ids.items };
 }
 
 impl IdKey {
-    // The key of these ids.
-    fn of(alloc: Global, ids: Vec<Id>) -> Result<IdKey, NoMemory>
-        ensures { IfOk result (λ key. key ≡ ids.items) }
-    {
-        let code = code_of_ids(alloc, &ids)?;
-        Ok(IdKey { ids, code })
-    }
-
     /// The ids of the parts.
     pub fn ids(&self) -> &[Id]
         ensures { result.now ≡ self.now }
@@ -51,16 +42,23 @@ impl IdKey {
 
     // The ids as bytes.
     pub(crate) fn code(&self) -> &[u8]
-        ensures { result.now ≡ coded_ids self.now }
+        ensures { result.now ≡ bytes_of_ids self.now }
     {
         &self.code
     }
+}
 
-    pub(crate) fn into_code(self) -> Vec<u8>
-        ensures { result.items ≡ coded_ids self }
-    {
-        self.code
-    }
+/// Appends the bytes of an id.
+pub(crate) fn push_id(code: &mut Vec<u8>, id: Id) -> Result<(), NoMemory>
+    ensures { OnOk result (code.new.items ≡ code.old.items ++ id_bytes id) }
+{
+    let bytes = id.place().to_le_bytes();
+    code.reserve(bytes.len())?;
+    code.push_reserved(bytes[0]);
+    code.push_reserved(bytes[1]);
+    code.push_reserved(bytes[2]);
+    code.push_reserved(bytes[3]);
+    Ok(())
 }
 
 /// The id of the part of a key that a row has, which the pool holds.
@@ -91,13 +89,17 @@ pub fn id_key(
     ensures { IfOk result (λ key. key ≡ id_key_in pool.now.texts row.now pass.now) }
 {
     let mut ids = Vec::new(alloc);
+    let mut code = Vec::new(alloc);
     for part in pass.parts() {
         match part_id(row, *part, pool) {
             None => return Ok(None),
-            Some(id) => ids.push(id)?,
+            Some(id) => {
+                push_id(&mut code, id)?;
+                ids.push(id)?;
+            }
         }
     }
-    Ok(Some(IdKey::of(alloc, ids)?))
+    Ok(Some(IdKey { ids, code }))
 }
 
 /// Two keys of ids over one list of texts are present and equal exactly where the keys of texts are.

@@ -1,20 +1,17 @@
 // The rows of a file by their keys.
-ghost use Rattle.std.specs.Prelude.{◌≡◌, ◌<◌, ◌≤◌, ◌^◌, ℕ, List, [], length, map, slice_index_or, IfOk, Option, Some};
+ghost use Rattle.std.specs.Prelude.{◌≡◌, ◌<◌, ◌^◌, ℕ, List, [], length, map, slice_index_or, IfOk, Some};
 ghost use Rattle.block_passes.specs.Ids.{AreAllHeld};
 ghost use Rattle.block_passes.specs.IndexRows.{index_rows};
 ghost use Rattle.block_passes.specs.Index.{AreReady, row_at, rows_with_key, rows_with_number};
-ghost use Rattle.block_passes.specs.CodedRows.{code_of_row, rows_with_code};
-ghost use Rattle.block_passes.specs.Numbering.{AreNumbered, AreNumbers, number_among};
+ghost use Rattle.block_passes.specs.CodedRows.{AreByCode};
 ghost use Rattle.block_passes.specs.KeyIds.{key_ids};
 ghost use Rattle.block_passes.specs.Keys.{key_in_pass};
 ghost use Rattle.block_passes.specs.PassIds.{AreByPart};
 
-use crate::codes::row_code;
+use crate::coded_rows::{CodedRows, RowsByCode};
+use crate::codes::FileKeys;
 use crate::groups::Groups;
-use crate::id_codes::MOST_IDS;
-use crate::id_index::{find_ids, index_ids};
 use crate::keys::PassKey;
-use crate::numbering::Numbering;
 use crate::part_ids::KeyedPool;
 use crate::part_numbers::part_numbers;
 use crate::pass_ids::PassIds;
@@ -22,52 +19,6 @@ use link_base::{NoMemory, StdFile};
 use std::alloc::Global;
 use std::marker::Model;
 use value_forms::{Pass, PassList};
-
-// Gives each row of a file the number of its code, or the next number.
-fn number_rows(
-    alloc: Global,
-    file: &StdFile,
-    pass: &Pass,
-    numbering: &mut Numbering,
-) -> Result<Vec<u32>, NoMemory>
-    requires ready { AreReady pass.now file.now }
-    requires empty { numbering.old ≡ [] }
-    ensures few { IfOk result (λ numbers. length numbers.items < 2 ^ 32) }
-    ensures numbers { IfOk result (λ numbers. AreNumbers numbering.new (code_of_row pass.now file.now) (length file.now) numbers.items) }
-    ensures numbered { IfOk result (λ _. AreNumbered numbering.new (code_of_row pass.now file.now) (length file.now)) }
-{
-    let mut numbers = Vec::new(alloc);
-    for at in 0..file.rows() {
-        let number = numbering.number(alloc, row_code(alloc, &file.row(at), pass)?)?;
-        numbers.push(number)?;
-    }
-    Ok(numbers)
-}
-
-// The number of each row of a file.
-fn find_rows(
-    alloc: Global,
-    file: &StdFile,
-    pass: &Pass,
-    numbering: &Numbering,
-) -> Result<Vec<u32>, NoMemory>
-    requires { AreReady pass.now file.now }
-    ensures { IfOk result (λ numbers. AreNumbers numbering.now (code_of_row pass.now file.now) (length file.now) numbers.items) }
-{
-    let mut numbers = Vec::new(alloc);
-    for at in 0..file.rows() {
-        let number = numbering.find(row_code(alloc, &file.row(at), pass)?);
-        numbers.push(number)?;
-    }
-    Ok(numbers)
-}
-
-// The rows of a file by the numbers of codes.
-#[derive(Drop)]
-pub(crate) struct RowsByCode {
-    pub(crate) numbering: Numbering,
-    pub(crate) groups: Groups,
-}
 
 /// The rows of a file by their keys in a blocking pass. What it gives for a key is the
 /// word `index_rows`.
@@ -93,19 +44,8 @@ pub fn build_index(alloc: Global, file: &StdFile, pass: &Pass) -> Result<Index, 
     requires { AreReady pass.now file.now }
     ensures { IfOk result (λ index. (key : List (List ℕ)) → index_rows index key ≡ rows_with_key pass.now file.now (Some key)) }
 {
-    let rows = index_file(alloc, file, pass)?;
+    let rows = RowsByCode::of(alloc, &FileKeys { file, pass })?;
     Ok(Index { rows })
-}
-
-// The index, as the codes of keys tell it.
-fn index_file(alloc: Global, file: &StdFile, pass: &Pass) -> Result<RowsByCode, NoMemory>
-    requires { AreReady pass.now file.now }
-    ensures { IfOk result (λ rows. (code : Option (List ℕ)) → slice_index_or rows.groups (number_among rows.numbering code) [] ≡ rows_with_code pass.now file.now code) }
-{
-    let mut numbering = Numbering::new(alloc)?;
-    let numbers = number_rows(alloc, file, pass, &mut numbering)?;
-    let groups = Groups::new(alloc, &numbers, numbering.count())?;
-    Ok(RowsByCode { numbering, groups })
 }
 
 /// For each row of a file the rows of another that have its key in a pass, or its number, which contracts see as
@@ -138,13 +78,29 @@ impl PassRows {
         ensures len { IfOk result (λ rows. length rows ≡ length a.now) }
         ensures rows { IfOk result (λ rows. (at : ℕ) → at < length a.now → slice_index_or rows at [] ≡ rows_with_key pass.now b.now (key_in_pass (row_at a.now at) pass.now)) }
     {
-        let index = index_file(alloc, b, pass)?;
-        let numbers = find_rows(alloc, a, pass, &index.numbering)?;
+        let keys_a = FileKeys { file: a, pass };
+        let keys_b = FileKeys { file: b, pass };
+        let rows = PassRows::by_code(alloc, &keys_a, &keys_b)?;
+        Ok(rows)
+    }
+
+    // The rows of `b` with the code of each row of `a`.
+    fn by_code<K: CodedRows>(alloc: Global, a: &K, b: &K) -> Result<PassRows, NoMemory>
+        requires ready_a { K.are_ready a.now }
+        requires ready_b { K.are_ready b.now }
+        ensures { IfOk result (AreByCode (K.code_of a.now) (K.count a.now) (K.code_of b.now) (K.count b.now)) }
+    {
+        let index = RowsByCode::of(alloc, b)?;
+        let mut numbers = Vec::with_capacity(alloc, a.rows() as usize)?;
+        let mut code = Vec::new(alloc);
+        for at in 0..a.rows() {
+            let has_code = a.put_code(at, &mut code)?;
+            numbers.push(index.numbering.find(has_code, &code))?;
+        }
         Ok(PassRows::of(numbers, index.groups))
     }
 
-    /// The same rows in the pass `at`, by the ids of the parts of the keys in a pool: no text is made or sought, but for a pass
-    /// of more than four parts.
+    /// The same rows in the pass `at`, by the ids of the parts of the keys in a pool: no text is made or sought.
     pub fn new_in(
         alloc: Global,
         a: &StdFile,
@@ -164,20 +120,15 @@ impl PassRows {
         ensures rows { IfOk result (λ rows. (j : ℕ) → j < length a.now → slice_index_or rows j [] ≡ rows_with_key (slice_index_or passes.now at []) b.now (key_in_pass (row_at a.now j) (slice_index_or passes.now at []))) }
     {
         let passes = passes.passes();
-        let pass = &passes[at];
-        let parts = pass.parts().len();
-        if parts > MOST_IDS {
-            return PassRows::new(alloc, a, b, pass);
-        }
         let of_a = PassIds::of(keyed.a, passes, at, a.rows());
         let of_b = PassIds::of(keyed.b, passes, at, b.rows());
+        let parts = passes[at].parts().len();
         if parts == 1 {
             let rows = PassRows::by_part(alloc, &of_a, &of_b, keyed.pool.len())?;
             return Ok(rows);
         }
-        let index = index_ids(alloc, &of_b)?;
-        let numbers = find_ids(alloc, &of_a, &index.numbering)?;
-        Ok(PassRows::of(numbers, index.groups))
+        let found = PassRows::by_code(alloc, &of_a, &of_b)?;
+        Ok(found)
     }
 
     // The rows in a pass of one part: the place of its text among those of the pool is the number of a key, so that no key is

@@ -1,11 +1,10 @@
 //! Blocking passes: the key of a row in a pass, and the rows of a file by their keys.
 #![tactic(auto)]
 
+mod coded_rows;
 mod codes;
 mod groups;
-mod id_codes;
 mod id_index;
-mod id_numbering;
 mod ids;
 mod index;
 mod keys;

@@ -1,7 +1,7 @@
 // Codes with their numbers.
-ghost use Rattle.std.specs.Prelude.{◌≡◌, ◌<◌, ◌≤◌, ◌+◌, ◌^◌, [], length, IfOk, OnErr, OnOk, option_map};
+ghost use Rattle.std.specs.Prelude.{◌≡◌, ◌<◌, ◌≤◌, ◌+◌, ◌^◌, [], length, IfOk, OnOk};
 ghost use Rattle.value_pool.specs.Texts.{place_among};
-ghost use Rattle.block_passes.specs.Numbering.{IsNumbered, KeepNumbers, number_among, with_code};
+ghost use Rattle.block_passes.specs.Numbering.{code_if, IsNumbered, KeepNumbers, number_among, with_code};
 
 use link_base::NoMemory;
 use link_limits::MOST_POOL_LIMIT;
@@ -57,34 +57,38 @@ impl Numbering {
         }
     }
 
-    /// The number of a code.
-    pub(crate) fn find(&self, code: Option<Vec<u8>>) -> u32
-        ensures { result ≡ number_among self.now (option_map (λ bytes. bytes.items) code) }
+    /// The number of a code, if there is one.
+    pub(crate) fn find(&self, has_code: bool, code: &[u8]) -> u32
+        ensures { result ≡ number_among self.now (code_if has_code code.now) }
     {
-        match code {
-            None => NO_NUMBER,
-            Some(code) => self.place(&code),
+        if !has_code {
+            return NO_NUMBER;
         }
+        self.place(code)
     }
 
-    /// The number of a code, the next one if it had none.
-    pub(crate) fn number(&mut self, alloc: Global, code: Option<Vec<u8>>) -> Result<u32, NoMemory>
-        ensures number { IfOk result (λ n. n ≡ number_among self.new (option_map (λ bytes. bytes.items) code)) }
-        ensures numbered { OnOk result (IsNumbered self.new (option_map (λ bytes. bytes.items) code)) }
+    /// The number of a code, if there is one, the next number if it had none.
+    pub(crate) fn number(
+        &mut self,
+        alloc: Global,
+        has_code: bool,
+        code: &[u8],
+    ) -> Result<u32, NoMemory>
+        ensures number { IfOk result (λ n. n ≡ number_among self.new (code_if has_code code.now)) }
+        ensures numbered { OnOk result (IsNumbered self.new (code_if has_code code.now)) }
         ensures kept { OnOk result (KeepNumbers self.old self.new) }
         ensures count { OnOk result (length self.new ≤ length self.old + 1) }
     {
-        match code {
-            None => Ok(NO_NUMBER),
-            Some(code) => self.take(alloc, &code),
+        if !has_code {
+            return Ok(NO_NUMBER);
         }
+        self.take(alloc, code)
     }
 
-    /// The place of a code, which goes last if it is new. A refusal changes nothing.
-    pub(crate) fn take(&mut self, alloc: Global, code: &[u8]) -> Result<u32, NoMemory>
+    // The place of a code, which goes last if it is new.
+    fn take(&mut self, alloc: Global, code: &[u8]) -> Result<u32, NoMemory>
         ensures number { IfOk result (λ n. n ≡ place_among self.new code.now) }
         ensures codes { OnOk result (self.new ≡ with_code self.old code.now) }
-        ensures refused { OnErr result (self.new ≡ self.old) }
     {
         match self.codes.intern(alloc, code) {
             Ok(id) => {

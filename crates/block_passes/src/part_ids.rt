@@ -56,25 +56,6 @@ fn push_row(
     Ok(())
 }
 
-/// The ids of the parts of the keys of a file in some passes.
-pub(crate) fn ids_in_passes(
-    alloc: Global,
-    file: &StdFile,
-    passes: &[Pass],
-    pool: &Pool,
-) -> Result<Vec<MaybeId>, NoMemory>
-    requires ready { AreAllReady passes.now file.now }
-    requires held { AreKeysHeld pool.now.texts passes.now file.now }
-    ensures { IfOk result (λ ids. ids.items ≡ key_ids pool.now.texts passes.now file.now) }
-{
-    let room = (file.rows() as usize).saturating_mul(count_parts(passes));
-    let mut ids = Vec::with_capacity(alloc, room)?;
-    for at in 0..file.rows() {
-        push_row(&mut ids, &file.row(at), passes, pool)?;
-    }
-    Ok(ids)
-}
-
 /// The ids of the parts of the keys of a file in a pool that holds them: for each record, for each pass, for each part, and
 /// `None` where the part is missing.
 pub fn key_ids(
@@ -87,5 +68,11 @@ pub fn key_ids(
     requires held { AreKeysHeld pool.now.texts passes.now file.now }
     ensures { IfOk result (λ ids. ids.items ≡ key_ids pool.now.texts passes.now file.now) }
 {
-    ids_in_passes(alloc, file, passes.passes(), pool)
+    let passes = passes.passes();
+    let room = (file.rows() as usize).saturating_mul(count_parts(passes));
+    let mut ids = Vec::with_capacity(alloc, room)?;
+    for at in 0..file.rows() {
+        push_row(&mut ids, &file.row(at), passes, pool)?;
+    }
+    Ok(ids)
 }

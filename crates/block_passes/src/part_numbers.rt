@@ -2,6 +2,7 @@
 ghost use Rattle.std.specs.Prelude.{◌≡◌, ◌<◌, ◌^◌, IfOk, length};
 ghost use Rattle.block_passes.specs.PassIds.{AreFirstIds, first_number};
 
+use crate::coded_rows::CodedRows;
 use crate::numbering::NO_NUMBER;
 use crate::pass_ids::PassIds;
 use link_base::NoMemory;

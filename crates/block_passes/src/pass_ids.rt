@@ -1,8 +1,11 @@
 // The ids of one pass, among those of all passes.
-ghost use Rattle.std.specs.Prelude.{◌≡◌, ◌<◌, ◌*◌, ◌^◌, ◌-◌, [], length, min, slice_index_or, take};
+ghost use Rattle.std.specs.Prelude.{◌≡◌, ◌<◌, ◌*◌, ◌^◌, ◌-◌, [], length, min, slice_index_or, take, ⊤};
 ghost use Rattle.block_passes.specs.KeyIds.{parts_in};
-ghost use Rattle.block_passes.specs.PassIds.{rows_in_pass};
+ghost use Rattle.block_passes.specs.PassIds.{code_at, rows_in_pass};
 
+use crate::coded_rows::CodedRows;
+use crate::ids::push_id;
+use link_base::NoMemory;
 use std::marker::Model;
 use value_forms::Pass;
 use value_pool::MaybeId;
@@ -58,13 +61,6 @@ impl<'k> PassIds<'k> {
         }
     }
 
-    /// How many rows there are.
-    pub(crate) fn rows(&self) -> u32
-        ensures { result ≡ length self.now }
-    {
-        self.rows
-    }
-
     /// The ids of a row.
     pub(crate) fn row(&self, at: u32) -> &[MaybeId]
         requires { at < length self.now }
@@ -72,5 +68,28 @@ impl<'k> PassIds<'k> {
     {
         let start = at as usize * self.width + self.start;
         &self.ids[start..start + self.parts]
+    }
+}
+
+impl<'k> CodedRows for PassIds<'k> {
+    ghost count = { λ rows. length rows };
+
+    ghost code_of = { λ rows. code_at rows };
+
+    ghost are_ready = { λ rows. ⊤ };
+
+    fn rows(&self) -> u32 {
+        self.rows
+    }
+
+    fn put_code(&self, at: u32, code: &mut Vec<u8>) -> Result<bool, NoMemory> {
+        code.clear();
+        for id in self.row(at) {
+            match id.get() {
+                None => return Ok(false),
+                Some(id) => push_id(code, id)?,
+            }
+        }
+        Ok(true)
     }
 }
