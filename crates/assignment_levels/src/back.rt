@@ -2,7 +2,7 @@
 
 use crate::level::{Level, edges_of, value_at};
 use crate::lists::Lists;
-use crate::numbers::{NONE, at, fill_up, put, room_for};
+use crate::numbers::{NONE, at, fill_up, put};
 use crate::side::{Side, let_fall};
 use link_base::NoMemory;
 use std::alloc::Global;
@@ -10,19 +10,17 @@ use std::alloc::Global;
 /// The order in which records were reached, each one's place in it, and how many were.
 #[derive(Drop)]
 pub struct ReachOrder {
-    order: Vec<u32>,
-    place: Vec<u32>,
-    count: u32,
+    pub(crate) order: Vec<u32>,
+    pub(crate) place: Vec<u32>,
+    pub(crate) count: u32,
 }
 
 impl ReachOrder {
     /// Room for so many records.
     pub(crate) fn new(alloc: Global, records: u32) -> Result<ReachOrder, NoMemory> {
-        let order = room_for(alloc, records)?;
-        let place = room_for(alloc, records)?;
         Ok(ReachOrder {
-            order,
-            place,
+            order: Vec::with_capacity(alloc, records as usize)?,
+            place: Vec::with_capacity(alloc, records as usize)?,
             count: 0,
         })
     }
@@ -31,21 +29,6 @@ impl ReachOrder {
     pub(crate) fn fill(&mut self, records: u32) {
         fill_up(&mut self.order, records);
         fill_up(&mut self.place, records);
-    }
-
-    /// How many records were reached.
-    pub(crate) fn count(&self) -> u32 {
-        self.count
-    }
-
-    /// The record that was reached at a place of the order.
-    pub(crate) fn record_at(&self, place: u32) -> u32 {
-        at(&self.order, place)
-    }
-
-    /// The place of a record in the order.
-    pub(crate) fn place_of(&self, record: u32) -> u32 {
-        at(&self.place, record)
     }
 
     /// Forgets what was reached.
@@ -86,7 +69,7 @@ fn look_from(
             let gain = value.wrapping_sub(paid);
             put(nearer, edge.b, gain);
             lists.take_out(edge.b);
-            lists.put_at(edge.b, own.price_of(edge.b).saturating_sub(gain));
+            lists.put_at(edge.b, at(&own.price, edge.b).saturating_sub(gain));
         }
     }
 }
@@ -100,8 +83,8 @@ fn look_from_free(
     nearer: &mut [u32],
 ) {
     for record in 0..other.records {
-        if other.mate_of(record) == NONE {
-            look_from(level, own, lists, nearer, record, other.price_of(record));
+        if at(&other.mate, record) == NONE {
+            look_from(level, own, lists, nearer, record, at(&other.price, record));
         }
     }
 }
@@ -125,12 +108,12 @@ fn reach_waiting(
             return last;
         }
         reached.note(record);
-        last = lists.distance(record);
-        let mate = own.mate_of(record);
+        last = at(&lists.dist, record);
+        let mate = at(&own.mate, record);
         if mate != NONE {
-            let paid = other.price_of(mate).wrapping_add(last);
+            let paid = at(&other.price, mate).wrapping_add(last);
             look_from(level, own, lists, nearer, mate, paid);
-        } else if own.price_of(record) > 0 {
+        } else if at(&own.price, record) > 0 {
             left = left.saturating_sub(1);
         }
     }
@@ -141,7 +124,7 @@ fn reach_waiting(
 fn put_at_prices(own: &Side, lists: &mut Lists) {
     lists.clear();
     for record in 0..own.records {
-        lists.put_at(record, own.price_of(record));
+        lists.put_at(record, at(&own.price, record));
     }
 }
 
@@ -164,6 +147,6 @@ pub(crate) fn look_back(
     look_from_free(level, own, other, lists, nearer);
     let last = reach_waiting(level, own, other, lists, reached, nearer, waiting);
     for record in 0..own.records {
-        let_fall(own, other, record, lists.distance(record).min(last));
+        let_fall(own, other, record, at(&lists.dist, record).min(last));
     }
 }

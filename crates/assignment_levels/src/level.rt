@@ -1,6 +1,6 @@
 // The edges at a level: with so many last bits of their values left out.
 
-use crate::numbers::NONE;
+use crate::numbers::{NONE, at, put};
 use crate::side::{Side, link};
 use assignment_steps::{Board, Edge};
 
@@ -46,36 +46,31 @@ pub(crate) fn edges_of<'a>(edges: &'a [Edge], starts: &[u32], record: u32) -> &'
     &edges[start..end]
 }
 
-/// The least price of a record that covers its edges.
-fn covering_price(level: Level<'_>, other: &Side, record: u32) -> u32 {
-    let mut price = 0u32;
-    for edge in edges_of(level.board.edges, level.board.starts, record) {
-        let paid = other.price_of(edge.b);
-        price = price.max(value_at(*edge, level.shift).saturating_sub(paid));
-    }
-    price
-}
-
 /// Gives each record the least price that covers its edges.
 pub(crate) fn cover(level: Level<'_>, own: &mut Side, other: &Side) {
     for record in 0..own.records {
-        own.set_price(record, covering_price(level, other, record));
+        let edges = edges_of(level.board.edges, level.board.starts, record);
+        let price = edges.iter().fold(0u32, |price, edge| {
+            let paid = at(&other.price, edge.b);
+            price.max(value_at(*edge, level.shift).saturating_sub(paid))
+        });
+        put(&mut own.price, record, price);
     }
 }
 
 /// Whether the prices of an edge's records add up to its value.
 #[inline(always)]
 pub(crate) fn is_tight(level: Level<'_>, own: &Side, other: &Side, edge: Edge) -> bool {
-    let paid = own.price_of(edge.a).wrapping_add(other.price_of(edge.b));
+    let paid = at(&own.price, edge.a).wrapping_add(at(&other.price, edge.b));
     paid == value_at(edge, level.shift)
 }
 
 /// Takes the links away that are not tight.
 pub(crate) fn part_loose(level: Level<'_>, own: &mut Side, other: &mut Side) {
     for edge in level.board.edges {
-        if own.mate_of(edge.a) == edge.b && !is_tight(level, own, other, *edge) {
-            own.set_mate(edge.a, NONE);
-            other.set_mate(edge.b, NONE);
+        if at(&own.mate, edge.a) == edge.b && !is_tight(level, own, other, *edge) {
+            put(&mut own.mate, edge.a, NONE);
+            put(&mut other.mate, edge.b, NONE);
         }
     }
 }
@@ -83,7 +78,7 @@ pub(crate) fn part_loose(level: Level<'_>, own: &mut Side, other: &mut Side) {
 /// Links records without links over tight edges, in the order of the edges.
 pub(crate) fn link_tight(level: Level<'_>, own: &mut Side, other: &mut Side) {
     for edge in level.board.edges {
-        let is_free = own.mate_of(edge.a) == NONE && other.mate_of(edge.b) == NONE;
+        let is_free = at(&own.mate, edge.a) == NONE && at(&other.mate, edge.b) == NONE;
         if is_free && is_tight(level, own, other, *edge) {
             link(own, other, edge.a, edge.b);
         }

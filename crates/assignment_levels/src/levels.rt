@@ -2,10 +2,9 @@
 ghost use Rattle.std.specs.Prelude.{◌≡◌};
 
 use crate::level::{Level, cover, part_loose, turned};
-use crate::numbers::{at, count_of, put};
-use crate::rounds::{Room, begin, run_rounds};
+use crate::rounds::{Room, run_rounds, settle};
 use crate::side::{Side, link};
-use assignment_steps::{Board, Edge, MaybeEdge, Proposal, link_of};
+use assignment_steps::{Board, MaybeEdge, Proposal, link_of};
 use link_base::NoMemory;
 use std::alloc::Global;
 use std::marker::Model;
@@ -34,57 +33,19 @@ impl Model for Proposer {
 
 /// Copies prices.
 fn copy_prices(to: &mut [u32], prices: &[u32]) {
-    let mut record = 0u32;
-    for price in prices {
-        put(to, record, *price);
-        record = record.saturating_add(1);
+    for (kept, price) in to.iter_mut().zip(prices) {
+        *kept = *price;
     }
 }
 
-/// Doubles prices so many times.
-fn double(prices: &mut [u32], times: u32) {
-    for record in 0..count_of(prices.len()) {
-        let price = at(prices, record);
-        put(prices, record, price.wrapping_shl(times));
-    }
-}
-
-/// How many bits the greatest value has.
-fn bits_of(edges: &[Edge]) -> u32 {
-    let mut greatest = 0u32;
-    for edge in edges {
-        greatest = greatest.max(edge.value);
-    }
-    32u32.saturating_sub(greatest.leading_zeros())
-}
-
-/// How many records have edges, which begin at these places.
-fn records_with_edges(starts: &[u32]) -> u32 {
-    let mut count = 0u32;
-    let mut start = 0u32;
-    for end in starts {
-        if *end > start {
-            count = count.saturating_add(1);
-        }
-        start = *end;
-    }
-    count
-}
-
-/// How many of the records with edges may still wait at a level: none at the last.
+/// How many of the records with edges, which begin at these places, may still wait at a level: none at the last.
 fn most_left(starts: &[u32], shift: u32) -> u32 {
     if shift == 0 {
-        0
-    } else {
-        records_with_edges(starts) / 32
+        return 0;
     }
-}
-
-/// Settles the records of a side, where at a level with bits left out a few may still wait.
-fn settle_records(level: Level<'_>, own: &mut Side, other: &mut Side, room: &mut Room) {
-    begin(level, own, other, room);
-    let most = most_left(level.board.starts, level.shift);
-    run_rounds(level, own, other, room, most, true);
+    let ends = starts.iter().skip(1);
+    let with_edges = starts.iter().zip(ends).filter(|(start, end)| start < end);
+    u32::try_from(with_edges.count() / 32).unwrap_or(u32::MAX)
 }
 
 impl Proposer {
@@ -92,14 +53,8 @@ impl Proposer {
     pub fn new(alloc: Global, rows_a: usize, rows_b: usize) -> Result<Proposer, NoMemory> {
         let own = Side::new(alloc, rows_a)?;
         let other = Side::new(alloc, rows_b)?;
-        match Room::new(alloc, own.records.max(other.records)) {
-            Ok(room) => Ok(Proposer { own, other, room }),
-            Err(error) => {
-                drop(own);
-                drop(other);
-                Err(error)
-            }
-        }
+        let room = Room::new(alloc, own.records.max(other.records))?;
+        Ok(Proposer { own, other, room })
     }
 
     /// Puts the records there, without prices and links.
@@ -109,39 +64,25 @@ impl Proposer {
         self.room.fill(self.own.records.max(self.other.records));
     }
 
-    /// Takes prices and links as a start.
-    fn start(&mut self, edges: &[Edge], price_a: &[u32], price_b: &[u32], links: &[MaybeEdge]) {
-        self.clear();
-        copy_prices(&mut self.own.price, price_a);
-        copy_prices(&mut self.other.price, price_b);
-        for position in 0..links.len() {
-            let k = link_of(links, position).unwrap_or(edges.len());
-            if k < edges.len() {
-                let edge = edges[k];
-                link(&mut self.own, &mut self.other, edge.a, edge.b);
-            }
-        }
-    }
-
     /// Settles the records of one side and then those of the other, where at a level with bits left out a few of
     /// each may still wait.
     fn settle(&mut self, level: Level<'_>) {
-        cover(level, &mut self.own, &self.other);
-        cover(turned(level), &mut self.other, &self.own);
-        part_loose(level, &mut self.own, &mut self.other);
-        settle_records(level, &mut self.own, &mut self.other, &mut self.room);
-        settle_records(
-            turned(level),
-            &mut self.other,
-            &mut self.own,
-            &mut self.room,
-        );
+        let Proposer { own, other, room } = self;
+        let turned = turned(level);
+        cover(level, own, other);
+        cover(turned, other, own);
+        part_loose(level, own, other);
+        let most = most_left(level.board.starts, level.shift);
+        settle(level, own, other, room, most);
+        let most = most_left(turned.board.starts, level.shift);
+        settle(turned, other, own, room, most);
     }
 
     /// Proposes prices and links bit by bit of the values, from nothing.
     pub fn propose_by_levels(&mut self, board: Board<'_>) {
         self.clear();
-        let bits = bits_of(board.edges);
+        let greatest = board.edges.iter().map(|edge| edge.value).max();
+        let bits = 32u32.saturating_sub(greatest.unwrap_or(0).leading_zeros());
         let step = if bits > FEW_BITS { 2 } else { 1 };
         let mut shift = bits.saturating_sub(FIRST_BITS);
         for _ in 0..32 {
@@ -150,7 +91,8 @@ impl Proposer {
                 return;
             }
             let next = shift.saturating_sub(step);
-            double(&mut self.other.price, shift.saturating_sub(next));
+            let prices = self.other.price.iter_mut();
+            prices.for_each(|price| *price = price.wrapping_shl(shift.saturating_sub(next)));
             shift = next;
         }
     }
@@ -169,16 +111,18 @@ impl Proposer {
         {
             return;
         }
-        self.start(board.edges, price_a, price_b, links);
-        let level = Level { board, shift: 0 };
-        if !run_rounds(
-            level,
-            &mut self.own,
-            &mut self.other,
-            &mut self.room,
-            0,
-            false,
-        ) {
+        self.clear();
+        let Proposer { own, other, room } = self;
+        copy_prices(&mut own.price, price_a);
+        copy_prices(&mut other.price, price_b);
+        for position in 0..links.len() {
+            let k = link_of(links, position).unwrap_or(board.edges.len());
+            if k < board.edges.len() {
+                let edge = board.edges[k];
+                link(own, other, edge.a, edge.b);
+            }
+        }
+        if !run_rounds(Level { board, shift: 0 }, own, other, room, 0, false) {
             self.propose_by_levels(board);
         }
     }

@@ -1,8 +1,5 @@
 // Numbers by record, read and written wherever the record is there.
 
-use link_base::NoMemory;
-use std::alloc::Global;
-
 /// No record.
 pub const NONE: u32 = u32::MAX;
 
@@ -23,26 +20,8 @@ pub(crate) fn put(numbers: &mut [u32], record: u32, number: u32) {
     }
 }
 
-/// Room for so many numbers, none of them there yet: where no proposal is asked for, the memory is not touched.
-pub(crate) fn room_for(alloc: Global, count: u32) -> Result<Vec<u32>, NoMemory> {
-    let numbers = Vec::with_capacity(alloc, count as usize)?;
-    Ok(numbers)
-}
-
-/// Three rooms, each for so many numbers.
-pub(crate) fn rooms_for(
-    alloc: Global,
-    first: u32,
-    second: u32,
-    third: u32,
-) -> Result<(Vec<u32>, Vec<u32>, Vec<u32>), NoMemory> {
-    let first = room_for(alloc, first)?;
-    let second = room_for(alloc, second)?;
-    let third = room_for(alloc, third)?;
-    Ok((first, second, third))
-}
-
-/// Puts zeros at the end until there are so many numbers, within the room that was taken.
+/// Puts zeros at the end until there are so many numbers, within the room that was taken: where no proposal is asked for, that
+/// memory is not touched.
 pub(crate) fn fill_up(numbers: &mut Vec<u32>, count: u32) {
     for _ in numbers.len()..count as usize {
         if numbers.len() >= numbers.capacity() {
@@ -52,9 +31,4 @@ pub(crate) fn fill_up(numbers: &mut Vec<u32>, count: u32) {
             return;
         };
     }
-}
-
-/// So many records as a number, or as many as a number can say.
-pub(crate) fn count_of(records: usize) -> u32 {
-    records.min(u32::MAX as usize) as u32
 }

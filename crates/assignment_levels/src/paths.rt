@@ -17,20 +17,6 @@ pub struct Paths<'r> {
     pub path: &'r mut [u32],
 }
 
-impl Paths<'_> {
-    /// Whether a record of the other side was met in this round.
-    #[inline(always)]
-    fn has_met(&self, mate: u32) -> bool {
-        at(self.met, mate) == self.round
-    }
-
-    /// Meets a record of the other side.
-    #[inline(always)]
-    fn meet(&mut self, mate: u32) {
-        put(self.met, mate, self.round);
-    }
-}
-
 /// Where a path goes from a record: to its end, to another record, or nowhere.
 #[derive(Clone, Copy)]
 enum Way {
@@ -39,32 +25,9 @@ enum Way {
     Nowhere,
 }
 
-/// Where a path goes over an edge: to its end where the record of the other side has no link, or one that is
-/// given up by a record of price 0; else to the record of the link, if that one was reached earlier.
-fn way_over(
-    level: Level<'_>,
-    own: &Side,
-    other: &Side,
-    reached: &ReachOrder,
-    paths: &mut Paths<'_>,
-    edge: Edge,
-) -> Way {
-    if !is_tight(level, own, other, edge) || paths.has_met(edge.b) {
-        return Way::Nowhere;
-    }
-    let mate = other.mate_of(edge.b);
-    if mate == NONE || own.price_of(mate) == 0 {
-        paths.meet(edge.b);
-        return Way::Ends;
-    }
-    if reached.place_of(mate) >= reached.place_of(edge.a) {
-        return Way::Nowhere;
-    }
-    paths.meet(edge.b);
-    Way::Goes(mate)
-}
-
-/// Where a path goes from a record, over the edges that it has not tried.
+/// Where a path goes from a record, over the first tight edge that it has not tried to a record of the other side that was not met:
+/// to its end where that has no link, or one that is given up by a record of price 0; else to the record of the link, if that one
+/// was reached earlier.
 fn way_from(
     level: Level<'_>,
     own: &Side,
@@ -75,16 +38,18 @@ fn way_from(
 ) -> Way {
     let edges = edges_of(level.board.edges, level.board.starts, record);
     let mut tried = at(paths.tried, record);
-    if tried as usize > edges.len() {
-        return Way::Nowhere;
-    }
-    for edge in &edges[tried as usize..] {
+    for edge in edges.get(tried as usize..).unwrap_or_default() {
         tried = tried.saturating_add(1);
-        let way = way_over(level, own, other, reached, paths, *edge);
-        if !matches!(way, Way::Nowhere) {
+        if !is_tight(level, own, other, *edge) || at(paths.met, edge.b) == paths.round {
+            continue;
+        }
+        let mate = at(&other.mate, edge.b);
+        let is_end = mate == NONE || at(&own.price, mate) == 0;
+        if is_end || at(&reached.place, mate) < at(&reached.place, record) {
+            put(paths.met, edge.b, paths.round);
             put(paths.tried, record, tried);
             put(paths.chosen, record, edge.b);
-            return way;
+            return if is_end { Way::Ends } else { Way::Goes(mate) };
         }
     }
     put(paths.tried, record, tried);
@@ -141,8 +106,8 @@ pub(crate) fn follow_paths(
     paths: &mut Paths<'_>,
 ) {
     paths.tried.fill(0);
-    for place in 0..reached.count() {
-        let root = reached.record_at(place);
+    for place in 0..reached.count {
+        let root = at(&reached.order, place);
         if own.waits(root) {
             let count = seek(level, own, other, reached, paths, root);
             turn(own, other, paths, count);

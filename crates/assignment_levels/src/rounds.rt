@@ -3,6 +3,7 @@
 use crate::back::{ReachOrder, look_back};
 use crate::level::{Level, link_tight};
 use crate::lists::Lists;
+use crate::numbers::at;
 use crate::paths::follow_paths;
 use crate::search::{Tree, search};
 use crate::side::Side;
@@ -26,13 +27,10 @@ pub struct Room {
 impl Room {
     /// Room for so many records.
     pub(crate) fn new(alloc: Global, records: u32) -> Result<Room, NoMemory> {
-        let lists = Lists::new(alloc, records)?;
-        let reached = ReachOrder::new(alloc, records)?;
-        let tree = Tree::new(alloc, records)?;
         Ok(Room {
-            lists,
-            reached,
-            tree,
+            lists: Lists::new(alloc, records)?,
+            reached: ReachOrder::new(alloc, records)?,
+            tree: Tree::new(alloc, records)?,
         })
     }
 
@@ -46,23 +44,31 @@ impl Room {
 
 /// Searches from those records that wait, in the order in which they were reached, as long as looks are left.
 fn search_in_order(level: Level<'_>, own: &mut Side, other: &mut Side, room: &mut Room) {
-    for place in 0..room.reached.count() {
-        if room.tree.is_spent() {
+    for place in 0..room.reached.count {
+        if room.tree.looks == 0 {
             return;
         }
-        let root = room.reached.record_at(place);
+        let root = at(&room.reached.order, place);
         if own.waits(root) {
             search(level, own, other, &mut room.lists, &mut room.tree, root);
         }
     }
 }
 
-/// Links over tight edges, and searches from the records in their order.
-pub(crate) fn begin(level: Level<'_>, own: &mut Side, other: &mut Side, room: &mut Room) {
+/// Settles the records of a side: links over tight edges, searches from the records in their order, and rounds until at most so
+/// many still wait.
+pub(crate) fn settle(
+    level: Level<'_>,
+    own: &mut Side,
+    other: &mut Side,
+    room: &mut Room,
+    most: u32,
+) {
     link_tight(level, own, other);
     room.reached.reach_each(own.records);
-    room.tree.allow(level.board.edges.len() / 2);
+    room.tree.looks = level.board.edges.len() / 2;
     search_in_order(level, own, other, room);
+    run_rounds(level, own, other, room, most, true);
 }
 
 /// One round, with so many records that wait and so many looks. Says whether its searches settled few records
@@ -87,7 +93,7 @@ fn run_round(
     let mut paths = room.tree.paths(&mut room.lists.dist);
     follow_paths(level, own, other, &room.reached, &mut paths);
     let left = own.waiting();
-    room.tree.allow(looks);
+    room.tree.looks = looks;
     search_in_order(level, own, other, room);
     let searched = left.saturating_sub(own.waiting());
     searched.saturating_mul(32) < count.saturating_sub(left)

@@ -2,7 +2,7 @@
 
 use crate::level::{Level, edges_of, value_at};
 use crate::lists::Lists;
-use crate::numbers::{NONE, at, fill_up, put, rooms_for};
+use crate::numbers::{NONE, at, fill_up, put};
 use crate::paths::Paths;
 use crate::side::{Side, let_fall};
 use link_base::NoMemory;
@@ -23,18 +23,17 @@ pub struct Tree {
     bound: u32,
     end: u32,
     free: u32,
-    looks: usize,
+    pub(crate) looks: usize,
 }
 
 impl Tree {
     /// Room for so many records.
     pub(crate) fn new(alloc: Global, records: u32) -> Result<Tree, NoMemory> {
-        let (mark, from, joined) = rooms_for(alloc, records, records, records)?;
         Ok(Tree {
             number: 0,
-            mark,
-            from,
-            joined,
+            mark: Vec::with_capacity(alloc, records as usize)?,
+            from: Vec::with_capacity(alloc, records as usize)?,
+            joined: Vec::with_capacity(alloc, records as usize)?,
             count: 0,
             current: 0,
             bound: 0,
@@ -64,16 +63,6 @@ impl Tree {
         }
     }
 
-    /// Allows so many looks at edges.
-    pub(crate) fn allow(&mut self, looks: usize) {
-        self.looks = looks;
-    }
-
-    /// Whether no looks are left.
-    pub(crate) fn is_spent(&self) -> bool {
-        self.looks == 0
-    }
-
     /// Notes a record that joins at the distance `current`.
     fn join(&mut self, record: u32) {
         put(&mut self.joined, self.count, record);
@@ -83,7 +72,7 @@ impl Tree {
     /// Begins a tree with a record of a price.
     fn plant(&mut self, lists: &mut Lists, root: u32, price: u32) {
         lists.clear();
-        lists.note(root, 0);
+        put(&mut lists.dist, root, 0);
         self.number = self.number.wrapping_add(1);
         put(&mut self.mark, root, self.number);
         self.count = 0;
@@ -106,7 +95,7 @@ impl Tree {
     /// Reaches a record at a distance, from another; at the distance `current` it joins at once.
     fn reach(&mut self, lists: &mut Lists, record: u32, from: u32, distance: u32) {
         if at(&self.mark, record) == self.number {
-            if lists.distance(record) <= distance {
+            if at(&lists.dist, record) <= distance {
                 return;
             }
             lists.take_out(record);
@@ -114,7 +103,7 @@ impl Tree {
         put(&mut self.mark, record, self.number);
         put(&mut self.from, record, from);
         if distance == self.current {
-            lists.note(record, distance);
+            put(&mut lists.dist, record, distance);
             self.join(record);
         } else {
             lists.put_at(record, distance);
@@ -124,10 +113,10 @@ impl Tree {
     /// Takes the nearest record that is nearer than the bound, and says whether there was one.
     fn join_nearest(&mut self, lists: &mut Lists) -> bool {
         let record = lists.take_nearest();
-        if record == NONE || lists.distance(record) >= self.bound {
+        if record == NONE || at(&lists.dist, record) >= self.bound {
             return false;
         }
-        self.current = lists.distance(record);
+        self.current = at(&lists.dist, record);
         self.join(record);
         true
     }
@@ -143,13 +132,13 @@ fn scan(
     record: u32,
 ) {
     let edges = edges_of(level.board.edges, level.board.starts, record);
-    let base = tree.current.wrapping_add(own.price_of(record));
+    let base = tree.current.wrapping_add(at(&own.price, record));
     tree.looks = tree.looks.saturating_sub(edges.len());
     for edge in edges {
-        let paid = base.wrapping_add(other.price_of(edge.b));
+        let paid = base.wrapping_add(at(&other.price, edge.b));
         let distance = paid.wrapping_sub(value_at(*edge, level.shift));
         if distance < tree.bound {
-            let mate = other.mate_of(edge.b);
+            let mate = at(&other.mate, edge.b);
             if mate == NONE {
                 tree.offer(record, distance);
                 tree.free = edge.b;
@@ -172,7 +161,7 @@ fn grow(
     tree: &mut Tree,
     root: u32,
 ) -> bool {
-    tree.plant(lists, root, own.price_of(root));
+    tree.plant(lists, root, at(&own.price, root));
     for place in 0..own.records {
         if place == tree.count && !tree.join_nearest(lists) {
             return true;
@@ -181,7 +170,8 @@ fn grow(
             return false;
         }
         let record = at(&tree.joined, place);
-        tree.offer(record, tree.current.wrapping_add(own.price_of(record)));
+        let distance = tree.current.wrapping_add(at(&own.price, record));
+        tree.offer(record, distance);
         scan(level, own, other, lists, tree, record);
         if tree.bound <= tree.current {
             return true;
@@ -190,30 +180,23 @@ fn grow(
     true
 }
 
-/// The record of the other side at the end of a tree: one without a link, or the one that is given up.
-fn end_of(own: &mut Side, tree: &Tree) -> u32 {
-    if tree.free != NONE {
-        return tree.free;
-    }
-    let given_up = own.mate_of(tree.end);
-    own.set_mate(tree.end, NONE);
-    given_up
-}
-
-/// Turns the links round along the way from the end of a tree to its root.
+/// Turns the links round along the way from the end of a tree to its root. The record of the other side at the end is one without
+/// a link, or the one that is given up.
 fn turn(own: &mut Side, other: &mut Side, tree: &Tree, root: u32) {
-    let mut mate = end_of(own, tree);
+    let mut record = tree.end;
+    let mut mate = tree.free;
+    if mate == NONE {
+        mate = at(&own.mate, record);
+        put(&mut own.mate, record, NONE);
+        record = at(&tree.from, record);
+    }
     if mate == NONE {
         return;
     }
-    let mut record = tree.end;
-    if tree.free == NONE {
-        record = at(&tree.from, record);
-    }
     for _ in 0..tree.count {
-        let before = own.mate_of(record);
-        own.set_mate(record, mate);
-        other.set_mate(mate, record);
+        let before = at(&own.mate, record);
+        put(&mut own.mate, record, mate);
+        put(&mut other.mate, mate, record);
         if record == root {
             return;
         }
@@ -237,7 +220,7 @@ pub(crate) fn search(
     }
     for place in 0..tree.count {
         let record = at(&tree.joined, place);
-        let fall = tree.bound.saturating_sub(lists.distance(record));
+        let fall = tree.bound.saturating_sub(at(&lists.dist, record));
         let_fall(own, other, record, fall);
     }
     turn(own, other, tree, root);

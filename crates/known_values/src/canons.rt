@@ -4,7 +4,15 @@ ghost use Rattle.link_base.specs.Standard.{IsValid};
 use comparators::{Initials, KeyComparator, SameCanon};
 use link_base::{NoMemory, Text, Value};
 use std::alloc::Global;
-use value_forms::Canon;
+use value_forms::{Canon, End};
+
+/// What each comparator makes of the name.
+const CANONS: [(Canon, &[u8]); 4] = [
+    (Canon::Whole, b"KNUTH"),
+    (Canon::Soundex, b"K530"),
+    (Canon::Nysiis, b"NAT"),
+    (Canon::Letters(End::Front, 3), b"KNU"),
+];
 
 fn is_text(canon: Result<Option<Text>, NoMemory>, wanted: &[u8]) -> bool {
     match canon {
@@ -13,28 +21,21 @@ fn is_text(canon: Result<Option<Text>, NoMemory>, wanted: &[u8]) -> bool {
     }
 }
 
-fn has_canon(alloc: Global, name: &Value, canon: Canon, wanted: &[u8]) -> bool
-    requires { IsValid name.now }
-{
-    is_text(SameCanon { canon }.canon(alloc, name), wanted)
-}
-
 fn has_canons(alloc: Global, name: &Value) -> bool
     requires { IsValid name.now }
 {
-    has_canon(alloc, name, Canon::Whole, b"KNUTH")
-        && has_canon(alloc, name, Canon::Soundex, b"K530")
-        && has_canon(alloc, name, Canon::Nysiis, b"NAT")
-        && has_canon(alloc, name, Canon::Letters(End::Front, 3), b"KNU")
-        && is_text(Initials.canon(alloc, name), b"K")
-}
-
-fn are_known(alloc: Global) -> Result<bool, NoMemory> {
-    let name = Value::Word(Text::new(alloc, "KNUTH".as_bytes())?);
-    Ok(has_canons(alloc, &name))
+    for (canon, wanted) in CANONS {
+        if !is_text(SameCanon { canon }.canon(alloc, name), wanted) {
+            return false;
+        }
+    }
+    is_text(Initials.canon(alloc, name), b"K")
 }
 
 #[test]
-fn known_canons(rt: HostRuntime) {
-    assert!(rt; are_known(rt.alloc()) == Ok(true));
+fn known_canons(rt: HostRuntime) -> Result<(), NoMemory> {
+    let alloc = rt.alloc();
+    let name = Value::Word(Text::new(alloc, "KNUTH".as_bytes())?);
+    assert!(rt; has_canons(alloc, &name));
+    Ok(())
 }

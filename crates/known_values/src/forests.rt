@@ -1,15 +1,12 @@
 // A check of groups; no command makes one.
 use dedup_groups::check_groups;
 use link_base::NoMemory;
-use std::alloc::Global;
-
-// Whether one record is a forest by itself, with this leader.
-fn is_forest(alloc: Global, leader: u32, depth: u32) -> Result<bool, NoMemory> {
-    check_groups(alloc, 1, &[], &[leader], &[None], &[depth])
-}
 
 #[test]
-fn a_record_by_itself(rt: HostRuntime) {
-    assert!(rt; is_forest(rt.alloc(), 0, 0) == Ok(true));
-    assert!(rt; is_forest(rt.alloc(), 0, 1) == Ok(false));
+fn a_record_by_itself_is_a_forest_of_no_depth(rt: HostRuntime) -> Result<(), NoMemory> {
+    for depth in 0..2u32 {
+        let is_forest = check_groups(rt.alloc(), 1, &[], &[0], &[None], &[depth])?;
+        assert!(rt; is_forest == (depth == 0), "of depth {depth}");
+    }
+    Ok(())
 }

@@ -7,18 +7,12 @@ use std::test::Fail;
 use std::{env, fs, io};
 
 // Whether a load gave this text, whole or not.
-fn gives(load: Result<Load, StoreError>, whole: bool, want: &[u8]) -> bool {
+fn gives(load: Result<Load, StoreError>, is_whole: bool, want: &[u8]) -> bool {
     match load {
-        Ok(Load::Whole(text)) => whole && text.bytes() == want,
-        Ok(Load::Over(text)) => !whole && text.bytes() == want,
+        Ok(Load::Whole(text)) => is_whole && text.bytes() == want,
+        Ok(Load::Over(text)) => !is_whole && text.bytes() == want,
         Err(_) => false,
     }
-}
-
-// The name of a file of the host's folder for such.
-fn name_in_folder(rt: HostRuntime, name: &str) -> Result<String, Fail> {
-    let folder = env::temp_dir(&rt)?;
-    Ok(format!(in rt.alloc(); "{}/{}", folder.as_path().display(), name)?)
 }
 
 // Whether a text that is put is loaded whole.
@@ -27,37 +21,28 @@ fn is_kept<S: Store>(alloc: Global, files: &mut S, name: &str, text: &[u8]) -> b
         && gives(files.load(alloc, name, text.len() as u64), true, text)
 }
 
-// The same of a long text.
-fn is_long_kept<S: Store>(alloc: Global, files: &mut S, name: &str) -> bool {
-    match vec![in alloc; b'x'; 200_000] {
-        Ok(long) => is_kept(alloc, files, name, &long),
-        Err(_) => false,
-    }
-}
-
-// Whether a short text is put over a long one, and loaded up to a limit.
-fn is_put_over<S: Store>(alloc: Global, files: &mut S, name: &str) -> bool {
-    is_long_kept(alloc, files, name)
-        && is_kept(alloc, files, name, b"abc")
-        && gives(files.load(alloc, name, 2), false, b"abc")
-        && gives(files.load(alloc, name, 1), false, b"ab")
-}
-
-// Whether neither a file that is not there is loaded nor one put into a folder that is not there.
-fn are_refused<S: Store>(alloc: Global, files: &mut S, name: &str) -> bool {
-    let is_loaded = !matches!(files.load(alloc, name, 3), Err(StoreError::Failed));
-    let put = files.put(alloc, "linkage-no-folder/a.csv", b"x");
-    !is_loaded && put == Err(StoreError::Failed)
-}
-
 #[test]
 fn files_are_put_whole_and_loaded_up_to_a_limit(rt: HostRuntime) -> Result<(), Fail> {
     let alloc = rt.alloc();
-    let name = name_in_folder(rt, "linkage-adapter-test.csv")?;
+    let folder = env::temp_dir(&rt)?;
+    let name = format!(in alloc; "{}/linkage-adapter-test.csv", folder.as_path().display())?;
     let mut files = HostFiles::new(alloc, &rt);
-    assert!(rt; is_put_over(alloc, &mut files, &name));
+    for text in [
+        vec![in alloc; b'x'; 200_000]?,
+        vec![in alloc; b'a', b'b', b'c']?,
+    ] {
+        assert!(rt;
+            is_kept(alloc, &mut files, &name, &text),
+            "{} bytes",
+            text.len()
+        );
+    }
+    assert!(rt; gives(files.load(alloc, &name, 2), false, b"abc"));
+    assert!(rt; gives(files.load(alloc, &name, 1), false, b"ab"));
     assert!(rt; fs::remove_file(&rt, name.as_str()).is_ok());
-    assert!(rt; are_refused(alloc, &mut files, &name));
+    assert!(rt; matches!(files.load(alloc, &name, 3), Err(StoreError::Failed)));
+    let put = files.put(alloc, "linkage-no-folder/a.csv", b"x");
+    assert!(rt; put == Err(StoreError::Failed));
     Ok(())
 }
 
@@ -87,6 +72,7 @@ fn a_stream_that_takes_nothing_or_hands_nothing_on_has_failed(rt: HostRuntime) {
     let failed = Err(SinkError::Failed);
     for (takes, flushes, done) in [(1, true, Ok(())), (0, true, failed), (1, false, failed)] {
         let mut stream = HostStream::new(Narrow { takes, flushes });
-        assert!(rt; stream.put_all(rt.alloc(), b"xy") == done);
+        let put = stream.put_all(rt.alloc(), b"xy");
+        assert!(rt; put == done, "takes {takes}, flushes: {flushes}");
     }
 }
