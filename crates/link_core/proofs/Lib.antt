@@ -10,3 +10,4 @@ pub mod DecisionLemmas
 pub mod ResultLemmas
 pub mod ReviewLemmas
 pub mod ValueLemmas
+pub mod IdsAloneLemmas

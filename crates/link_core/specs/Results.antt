@@ -4,9 +4,10 @@ use Rattle.std.specs.Prelude.{◌≡◌, ◌<◌, ◌≤◌, All, ℕ, ℤ, List
 use Rattle.link_limits.specs.declared.TheConstants.{MOST_PAIRS}
 use Rattle.price_check.specs.Assignment.{Certifies, IsGreatest, worth}
 use Rattle.candidate_links.specs.Candidates.{candidates_of}
-use Rattle.candidate_links.specs.Choice.{dropped_of}
+use Rattle.candidate_links.specs.Choice.{dropped_of, IsChoice}
 use Rattle.candidate_links.specs.declared.choice.ChosenLinks.{ChosenLinks}
 use Rattle.decision_rule.specs.Rule.{AreLevelsOf}
+use Rattle.link_base.specs.Standard.{Record}
 use Rattle.link_base.specs.declared.rule.Candidate.{Candidate}
 use Rattle.link_base.specs.declared.rule.Decision.{Decision}
 use Rattle.link_base.specs.declared.rule.Decision.TheVariants.{Link, NonLink, Possible}
@@ -21,7 +22,7 @@ use Rattle.link_report.specs.declared.report.Dropped.{Dropped}
 use Rattle.link_report.specs.declared.report.Report.{Report}
 use Rattle.pair_decisions.specs.Decisions.{AreDecisionsOn, count_with, DecidedView, pairs_with}
 use Rattle.pair_decisions.specs.PairRule.{AreCellsOf, FileRule}
-use Rattle.pair_decisions.specs.PairRows.{decided_rows, pair_rows_of}
+use Rattle.pair_decisions.specs.PairRows.{decided_rows, pair_rows_of, shown_rows}
 use Rattle.pair_walk.specs.Pairs.{compared_pairs}
 use Rattle.patterns.specs.Shapes.{pattern_count_by}
 use Rattle.pair_decisions.specs.Comparators.{rares_of}
@@ -68,6 +69,23 @@ pub record IsPlaced (rows_a rows_b : ℕ) (c : ChosenLinks) : Type 0 where
   pub left_a : All (λ (d : Dropped). d.at.a < rows_a) c.dropped.items
   pub left_b : All (λ (d : Dropped). d.at.b < rows_b) c.dropped.items
 
+-- machinery: the numbers of a report that are there before links are chosen
+pub record IsBegun (plan : Plan) (files : StandardPair) (rule : FileRule) (entries : List Entry) (r : Report) : Type 0 where
+  pub unreadable_a : r.unreadable_a ≡ files.a.unreadable
+  pub unreadable_b : r.unreadable_b ≡ files.b.unreadable
+  pub pairs : r.pairs ≡ length (compared_in plan files)
+  pub link : r.link ≡ length (decided_in Link plan files rule)
+  pub possible : r.possible ≡ length (decided_in Possible plan files rule)
+  pub nonlink : r.nonlink ≡ length (decided_in NonLink plan files rule)
+  pub undecided : r.undecided ≡ length (open_pairs entries (decided_in Possible plan files rule))
+  pub entries_ : r.entries ≡ length entries
+  pub idle : r.idle ≡ idle_count (decided_in Possible plan files rule) entries
+  pub levels : AreLevelsOf (length plan.fields) rule.cells r.levels
+
+-- machinery: a report with chosen links
+abbrev pub with_links : Report → ChosenLinks → Report
+with_links r c = record r { links = length c.links.items; total = c.total; dropped = c.dropped }
+
 -- the numbers of a report, and the candidates that are not among the links
 pub record IsReportOf (plan : Plan) (files : StandardPair) (rule : FileRule) (entries : List Entry) (links : List Candidate) (r : Report) : Type 0 where
   pub unreadable_a : r.unreadable_a ≡ files.a.unreadable
@@ -112,3 +130,13 @@ pub record AreRunTexts (plan : Plan) (files : StandardPair) (rule : FileRule) (e
   pub links_text : texts.links ≡ text_of_links files.a.records files.b.records links
   pub prices_text : texts.prices ≡ text_of_prices prices_a prices_b files.a.records files.b.records
   pub report_text : texts.report ≡ text_of_report files.a.records files.b.records report
+
+-- machinery: texts are those of decisions and of links that are chosen among these candidates, over records of which the ids are left
+pub record AreTextsBy (plan : Plan) (a b : List Record) (found : List Candidate) (d : DecidedView) (entries : List Entry) (begun : Report) (texts : RunTexts) : Type 0 where
+  pub chosen : ChosenLinks
+  pub choice : IsChoice (length a) (length b) found chosen
+  pub pairs_text : texts.pairs ≡ text_of_pairs (rares_of plan.fields) a b (shown_rows d.rule.cells entries d.rows)
+  pub rule_text : texts.rule ≡ text_of_rule (rares_of plan.fields) d.rule.cells
+  pub links_text : texts.links ≡ text_of_links a b chosen.links.items
+  pub prices_text : texts.prices ≡ text_of_prices chosen.prices_a.items chosen.prices_b.items a b
+  pub report_text : texts.report ≡ text_of_report a b (with_links begun chosen)

@@ -1,6 +1,7 @@
 // Two files ready to be compared.
 ghost use Rattle.std.specs.Prelude.{◌≡◌, ◌≤◌, All, IfOk, Ok, length};
 ghost use Rattle.link_base.specs.Fault.{Gives, IsAnswer};
+ghost use Rattle.link_base.specs.IdsAlone.{ids_alone};
 ghost use Rattle.link_core.specs.Prepared.{files_of, IsOneOfBoth, kinds_of, pooled, prepared, sides_in, unreadable_of, with_fault, with_room};
 ghost use Rattle.standard_files.specs.Ready.{AreInRange, ArePooled, IsRowFor};
 ghost use Rattle.standard_files.specs.Sides.{pooled_values};
@@ -36,7 +37,27 @@ impl Model for Prepared {
     ghost view = { λ p. record { files = p.files; values = p.values } };
 }
 
+/// The ids of the records of two files, without their values.
+#[derive(Drop)]
+pub(crate) struct FileIds {
+    pub(crate) a: StdFile,
+    pub(crate) b: StdFile,
+}
+
 impl Prepared {
+    // The ids of both files; their values, and all that is pooled of them, are given back.
+    pub(crate) fn ids_alone(self, alloc: Global) -> Result<FileIds, NoMemory>
+        ensures a { IfOk result (λ ids. ids.a ≡ ids_alone self.files.a.records) }
+        ensures b { IfOk result (λ ids. ids.b ≡ ids_alone self.files.b.records) }
+    {
+        let Prepared { files, values } = self;
+        drop(values);
+        let StandardPair { a, b } = files;
+        let a = a.file.ids_alone(alloc)?;
+        let b = b.file.ids_alone(alloc)?;
+        Ok(FileIds { a, b })
+    }
+
     /// The file A.
     pub fn a(&self) -> &StdFile
         ensures { result.now ≡ self.now.files.a.records }

@@ -1,13 +1,12 @@
 // What a run comes to.
 ghost use Rattle.std.specs.Prelude.{◌≡◌, ◌<◌, ◌≤◌, All, IfOk, length};
-ghost use Rattle.price_check.specs.Assignment.{worth};
 ghost use Rattle.candidate_links.specs.Candidates.{AreCandidates};
-ghost use Rattle.candidate_links.specs.Choice.{dropped_of, IsChoice};
+ghost use Rattle.candidate_links.specs.Choice.{IsChoice};
 ghost use Rattle.link_core.specs.Decisions.{IsDecidedIn, rule_in};
 ghost use Rattle.link_base.specs.Rule.{HasBoundedSums};
 ghost use Rattle.link_limits.specs.declared.TheConstants.{MOST_PAIRS};
 ghost use Rattle.decision_rule.specs.Rule.{AreLevelsOf};
-ghost use Rattle.link_core.specs.Results.{AreRunTexts, candidates_in, IsDecidedFor, IsPlaced, IsReportOf, KeepsRows, pair_rows_in, five_texts};
+ghost use Rattle.link_core.specs.Results.{AreRunTexts, AreTextsBy, candidates_in, IsBegun, IsDecidedFor, IsPlaced, KeepsRows, five_texts, with_links};
 ghost use Rattle.link_core.specs.Review.{open_pairs};
 ghost use Rattle.link_base.specs.declared.rule.Candidate.{Candidate as Link};
 ghost use Rattle.link_report.specs.LinksText.{text_of_links};
@@ -15,9 +14,12 @@ ghost use Rattle.link_report.specs.PairsText.{text_of_pairs};
 ghost use Rattle.link_report.specs.PricesText.{text_of_prices};
 ghost use Rattle.link_report.specs.RuleText.{text_of_rule};
 ghost use Rattle.pair_decisions.specs.Comparators.{rares_of};
+ghost use Rattle.pair_decisions.specs.PairRows.{AreRowsIn, shown_rows};
+ghost use Rattle.pair_decisions.specs.PairRule.{AreCellsOf};
+ghost use Rattle.patterns.specs.Shapes.{pattern_count_by};
 ghost use Rattle.link_plan.specs.Ranges.{KeepsRanges};
 
-use crate::preparing::Prepared;
+use crate::preparing::{FileIds, Prepared};
 use crate::review::awaits;
 use candidate_links::{ChosenLinks, candidates_among, choose_links};
 use decision_rule::attained;
@@ -65,59 +67,32 @@ pub fn candidates(
 // A greatest one-to-one list of the candidates with prices that certify it, and the candidates that are not in it.
 fn links_of(
     alloc: Global,
-    plan: &Plan,
-    prepared: &Prepared,
-    decided: &Decided,
-    journal: &Journal,
+    rows_a: u32,
+    rows_b: u32,
+    found: Vec<Candidate>,
 ) -> Result<ChosenLinks, NoMemory>
-    requires ranges { KeepsRanges plan.now }
-    requires of_files { IsDecidedIn prepared.now decided.now }
-    requires decided { IsDecidedFor plan.now prepared.now decided.now }
-    ensures chosen { IfOk result (IsChoice (length prepared.now.files.a.records) (length prepared.now.files.b.records) (candidates_in plan.now prepared.now.files (rule_in prepared.now decided.now) journal.now)) }
-    ensures placed { IfOk result (IsPlaced (length prepared.now.files.a.records) (length prepared.now.files.b.records)) }
+    requires { AreCandidates rows_a rows_b found.items found.items }
+    ensures chosen { IfOk result (IsChoice rows_a rows_b found.items) }
+    ensures placed { IfOk result (IsPlaced rows_a rows_b) }
 {
-    let found = candidates(alloc, plan, prepared, decided, journal)?;
-    choose_links(alloc, prepared.a().rows(), prepared.b().rows(), &found)
-}
-
-// The line of each compared pair, by its row.
-fn pairs_of(
-    alloc: Global,
-    plan: &Plan,
-    prepared: &Prepared,
-    decided: &Decided,
-    journal: &Journal,
-    a: &IdFields<'_>,
-    b: &IdFields<'_>,
-) -> Result<Text, NoMemory>
-    requires of_files { IsDecidedIn prepared.now decided.now }
-    requires decided { IsDecidedFor plan.now prepared.now decided.now }
-    requires rows { KeepsRows plan.now prepared.now decided.now }
-    requires a { a.now ≡ prepared.now.files.a.records }
-    requires b { b.now ≡ prepared.now.files.b.records }
-    ensures { IfOk result (λ text. text ≡ text_of_pairs (rares_of plan.now.fields) prepared.now.files.a.records prepared.now.files.b.records (pair_rows_in plan.now prepared.now.files (rule_in prepared.now decided.now) journal.now)) }
-{
-    pair_lines(alloc, plan, decided, journal, a, b)
+    let chosen = choose_links(alloc, rows_a, rows_b, &found);
+    drop(found);
+    chosen
 }
 
 // The text of the rule.
-fn rule_of(
-    alloc: Global,
-    plan: &Plan,
-    prepared: &Prepared,
-    decided: &Decided,
-) -> Result<Text, NoMemory>
+fn rule_of(alloc: Global, plan: &Plan, decided: &Decided) -> Result<Text, NoMemory>
     requires ranges { KeepsRanges plan.now }
-    requires decided { IsDecidedFor plan.now prepared.now decided.now }
+    requires cells { AreCellsOf (pattern_count_by (rares_of plan.now.fields)) decided.now.rule.cells }
     ensures { IfOk result (λ text. text ≡ text_of_rule (rares_of plan.now.fields) decided.now.rule.cells) }
 {
     rule_text(alloc, decided.rule().table(), &plan.shape())
 }
 
 // The attained levels of the rule.
-fn levels_of(plan: &Plan, prepared: &Prepared, decided: &Decided) -> Levels
+fn levels_of(plan: &Plan, decided: &Decided) -> Levels
     requires ranges { KeepsRanges plan.now }
-    requires decided { IsDecidedFor plan.now prepared.now decided.now }
+    requires cells { AreCellsOf (pattern_count_by (rares_of plan.now.fields)) decided.now.rule.cells }
     ensures levels { AreLevelsOf (length plan.now.fields) decided.now.rule.cells result }
     ensures bounded { HasBoundedSums result }
 {
@@ -138,22 +113,18 @@ fn open_count(decided: &Decided, journal: &Journal) -> u32
     open
 }
 
-// The report of a run with these links.
-fn report_of(
+// The report of a run before its links are chosen.
+fn begun_report(
+    alloc: Global,
     plan: &Plan,
     prepared: &Prepared,
     decided: &Decided,
     journal: &Journal,
-    chosen: ChosenLinks,
 ) -> Report
     requires ranges { KeepsRanges plan.now }
     requires of_files { IsDecidedIn prepared.now decided.now }
     requires decided { IsDecidedFor plan.now prepared.now decided.now }
-    requires dropped { chosen.dropped.items ≡ dropped_of (candidates_in plan.now prepared.now.files (rule_in prepared.now decided.now) journal.now) chosen.links.items }
-    requires total { chosen.total ≡ worth chosen.links.items }
-    requires few { length chosen.links.items ≤ MOST_PAIRS }
-    ensures numbers { IsReportOf plan.now prepared.now.files (rule_in prepared.now decided.now) journal.now chosen.links.items result }
-    ensures dropped { result.dropped.items ≡ chosen.dropped.items }
+    ensures numbers { IsBegun plan.now prepared.now.files (rule_in prepared.now decided.now) journal.now result }
     ensures bounded { HasBoundedSums result.levels }
 {
     Report {
@@ -166,10 +137,23 @@ fn report_of(
         undecided: open_count(decided, journal),
         entries: journal.entries().len() as u32,
         idle: idle_entries(journal, decided.possible()),
-        levels: levels_of(plan, prepared, decided),
+        levels: levels_of(plan, decided),
+        links: 0,
+        total: 0,
+        dropped: Vec::new(alloc),
+    }
+}
+
+// A report with the links that were chosen.
+fn with_links(begun: Report, chosen: ChosenLinks) -> Report
+    requires { length chosen.links.items ≤ MOST_PAIRS }
+    ensures { result ≡ with_links begun chosen }
+{
+    Report {
         links: chosen.links.len() as u32,
         total: chosen.total,
         dropped: chosen.dropped,
+        ..begun
     }
 }
 
@@ -194,38 +178,61 @@ pub(crate) fn link_texts(
     Ok((of_links, of_prices))
 }
 
-/// The five texts of a run over prepared files: a greatest one-to-one list of the candidates; prices that certify it; the report; the
-/// compared pairs, by the rows that the decisions keep; and the rule.
-pub fn finish(
+// The text of the compared pairs, by the rows that the decisions keep, and that of the rule.
+fn decided_texts(
     alloc: Global,
     plan: &Plan,
-    prepared: &Prepared,
-    decided: &Decided,
+    decided: Decided,
     journal: &Journal,
+    a: &IdFields<'_>,
+    b: &IdFields<'_>,
+) -> Result<(Text, Text), NoMemory>
+    requires ranges { KeepsRanges plan.now }
+    requires cells { AreCellsOf (pattern_count_by (rares_of plan.now.fields)) decided.rule.cells }
+    requires rows { AreRowsIn (length a.now) (length b.now) (length decided.rule.cells) decided.rows }
+    ensures pairs { IfOk result (λ texts. texts.0 ≡ text_of_pairs (rares_of plan.now.fields) a.now b.now (shown_rows decided.rule.cells journal.now decided.rows)) }
+    ensures rule { IfOk result (λ texts. texts.1 ≡ text_of_rule (rares_of plan.now.fields) decided.rule.cells) }
+{
+    let pairs = pair_lines(alloc, plan, &decided, journal, a, b);
+    let rule = rule_of(alloc, plan, &decided);
+    drop(decided);
+    let pairs = pairs?;
+    let rule = rule?;
+    Ok((pairs, rule))
+}
+
+// The five texts of a run by the ids of its files. The text of the pairs, the longest, is made where the values of the files were,
+// before links are chosen, so that its rows can go.
+fn texts_by_ids(
+    alloc: Global,
+    plan: &Plan,
+    ids: &FileIds,
+    found: Vec<Candidate>,
+    decided: Decided,
+    journal: &Journal,
+    begun: Report,
 ) -> Result<RunResult, NoMemory>
     requires ranges { KeepsRanges plan.now }
-    requires of_files { IsDecidedIn prepared.now decided.now }
-    requires of_plan { IsDecidedFor plan.now prepared.now decided.now }
-    requires rows { KeepsRows plan.now prepared.now decided.now }
-    ensures { IfOk result (λ r. AreRunTexts plan.now prepared.now.files (rule_in prepared.now decided.now) journal.now (five_texts r)) }
+    requires cells { AreCellsOf (pattern_count_by (rares_of plan.now.fields)) decided.rule.cells }
+    requires rows { AreRowsIn (length ids.now.a) (length ids.now.b) (length decided.rule.cells) decided.rows }
+    requires found { AreCandidates (length ids.now.a) (length ids.now.b) found.items found.items }
+    requires bounded { HasBoundedSums begun.levels }
+    ensures { IfOk result (λ r. AreTextsBy plan.now ids.now.a ids.now.b found.items decided journal.now begun (five_texts r)) }
 {
-    let chosen = links_of(alloc, plan, prepared, decided, journal)?;
-    let ids_a = IdFields::of(alloc, prepared.a())?;
-    let ids_b = IdFields::of(alloc, prepared.b())?;
+    let a = IdFields::of(alloc, &ids.a)?;
+    let b = IdFields::of(alloc, &ids.b)?;
+    let (pairs, rule) = decided_texts(alloc, plan, decided, journal, &a, &b)?;
+    let chosen = links_of(alloc, ids.a.rows(), ids.b.rows(), found)?;
     let (links, prices) = link_texts(
         alloc,
         &chosen.links,
         &chosen.prices_a,
         &chosen.prices_b,
-        &ids_a,
-        &ids_b,
+        &a,
+        &b,
     )?;
-    let made = report_of(plan, prepared, decided, journal, chosen);
-    let report = report_text(alloc, &made, prepared.a(), prepared.b());
-    drop(made);
-    let report = report?;
-    let pairs = pairs_of(alloc, plan, prepared, decided, journal, &ids_a, &ids_b)?;
-    let rule = rule_of(alloc, plan, prepared, decided)?;
+    let made = with_links(begun, chosen);
+    let report = report_text(alloc, &made, &ids.a, &ids.b)?;
     Ok(RunResult {
         pairs,
         rule,
@@ -233,4 +240,30 @@ pub fn finish(
         prices,
         report,
     })
+}
+
+/// The five texts of a run over prepared files, of which it needs no more than the ids once the candidates are found: a greatest
+/// one-to-one list of the candidates; prices that certify it; the report; the compared pairs, by the rows that the decisions keep;
+/// and the rule.
+pub fn finish(
+    alloc: Global,
+    plan: &Plan,
+    prepared: Prepared,
+    decided: Decided,
+    journal: &Journal,
+) -> Result<RunResult, NoMemory>
+    requires ranges { KeepsRanges plan.now }
+    requires of_files { IsDecidedIn prepared decided }
+    requires of_plan { IsDecidedFor plan.now prepared decided }
+    requires rows { KeepsRows plan.now prepared decided }
+    ensures { IfOk result (λ r. AreRunTexts plan.now prepared.files (rule_in prepared decided) journal.now (five_texts r)) }
+{
+    let found = candidates(alloc, plan, &prepared, &decided, journal);
+    let begun = begun_report(alloc, plan, &prepared, &decided, journal);
+    let ids = prepared.ids_alone(alloc);
+    let found = found?;
+    let ids = ids?;
+    let made = texts_by_ids(alloc, plan, &ids, found, decided, journal, begun);
+    drop(ids);
+    made
 }

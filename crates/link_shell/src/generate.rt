@@ -12,12 +12,13 @@ ghost use Rattle.link_plan.specs.Ranges.{KeepsRanges};
 ghost use Rattle.workload.specs.Made.{text_of_a, text_of_b, text_of_sample};
 ghost use Rattle.workload.specs.MadeSettings.{text_of_settings};
 
+use crate::run_settings::finish_found;
 use crate::words::word_at;
 use command_scripts::{Ended, print};
 use command_steps::{DecidedPlan, Reviewed, ReviewedSettings, prepare_files};
 use csv_rows::read_decimal;
 use link_base::Fault;
-use link_core::{Prepared, counted, decide_all, finish};
+use link_core::{Prepared, counted, decide_all};
 use link_limits::MOST_ROWS;
 use link_outside::{Refusal, Sink, Store};
 use link_plan::Plan;
@@ -132,16 +133,7 @@ pub(crate) fn perform<S: Store, O: Sink>(
     ensures { Does (generate_script rows) (store_seen S.tells S.held S.faults store.old store.new) (sink_seen O.tells O.taken O.faults out.old out.new) result }
 {
     let found = decide_made(alloc, rows)?;
-    let reviewed = &found.reviewed;
-    let finished = finish(
-        alloc,
-        &found.plan,
-        &reviewed.files,
-        &reviewed.decided,
-        &reviewed.journal,
-    );
-    drop(found);
-    let results = finished?;
+    let results = finish_found(alloc, found)?;
     let head = first_lines(results.report.bytes(), HEAD_LINES);
     let ended = print(alloc, Ended::Done, head, out);
     drop(results);

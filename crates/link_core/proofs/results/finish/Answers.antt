@@ -1,72 +1,40 @@
-use Rattle.std.proofs.Common.{◌<◌, ◌∙◌, List, length, subst, sym}
-use Rattle.std.specs.Prelude.{All}
+use Rattle.std.proofs.Common.{◌≡◌, ◌∙◌, List, ap, length, refl, subst, sym}
 use Rattle.link_base.specs.Standard.{Record}
-use Rattle.link_report.specs.LinksText.{text_of_links}
-use Rattle.link_report.specs.PricesText.{text_of_prices}
-use Rattle.link_report.specs.ReportText.{text_of_report}
-use Rattle.link_report.specs.declared.report.Dropped.{Dropped}
+use Rattle.pair_decisions.specs.PairRows.{AreRowsIn}
+use Rattle.link_core.specs.Decisions.{rule_in}
+use Rattle.link_core.specs.Results.{AreRunTexts, AreTextsBy, candidates_in, five_texts}
+use Rattle.link_core.proofs.IdsAloneLemmas.{length_alone}
+use Rattle.link_core.proofs.ResultLemmas.{as_they_are, handed, if_ok, run_texts}
 use Rattle.link_core.proofs.results.finish.Goals as goal
 
-pub link_texts-requires : goal.link_texts-requires
-link_texts-requires c =
-    let chosen = c.in_ok-chosen.ensures.chosen in
-    let placed = c.in_ok-chosen.ensures.placed in
-    let of_a = c.in_ok-ids_a.ensures ∙ c.a.ensures in
-    let of_b = c.in_ok-ids_b.ensures ∙ c.b.ensures in
+pub texts_by_ids-made-requires : goal.texts_by_ids-made-requires
+texts_by_ids-made-requires c =
+    let p = c.args.prepared in
+    let d = c.args.decided in
+    let ids = c.in_ok-ids.ids in
+    let found = c.in_ok-found.found in
+    let wanted = candidates_in c.args.plan.now p.files (rule_in p d) c.args.journal.now in
+    let of_a : length ids.a ≡ length p.files.a.records = ap (λ (file : List Record). length file) c.in_ok-ids.ensures.a ∙ length_alone p.files.a.records in
+    let of_b : length ids.b ≡ length p.files.b.records = ap (λ (file : List Record). length file) c.in_ok-ids.ensures.b ∙ length_alone p.files.b.records in
     record {
-      in_a = rw (c.deref.ensures.value, of_a) placed.in_a;
-      in_b = rw (c.deref.ensures.value, of_b) placed.in_b;
-      priced_a = rw (c.deref-2.ensures.value, of_a) chosen.priced_a;
-      priced_b = rw (c.deref-3.ensures.value, of_b) chosen.priced_b;
+      ranges = c.requires.ranges;
+      cells = c.requires.of_plan.cells;
+      rows = subst (λ n. AreRowsIn n (length ids.b) (length d.rule.cells) d.rows) (sym of_a)
+          (subst (λ n. AreRowsIn (length p.files.a.records) n (length d.rule.cells) d.rows) (sym of_b) c.requires.of_files.rows);
+      found = as_they_are (length ids.a) (length ids.b) wanted found.items
+          (handed (length p.files.a.records) (length p.files.b.records) (length ids.a) (length ids.b) wanted found.items found.items of_a of_b refl c.in_ok-found.ensures);
+      bounded = c.begun_report-begun.ensures.bounded;
     }
-
-pub report_of-made-requires : goal.report_of-made-requires
-report_of-made-requires c = record {
-  ranges = c.requires.ranges;
-  of_files = c.requires.of_files;
-  decided = c.requires.of_plan;
-  dropped = c.in_ok-chosen.ensures.chosen.dropped;
-  total = c.in_ok-chosen.ensures.chosen.total;
-  few = c.in_ok-chosen.ensures.placed.few;
-}
-
-pub report_text-report-requires : goal.report_text-report-requires
-report_text-report-requires c =
-    let facts = c.in_ok-chosen.ensures.placed in
-    let made = sym c.report_of-made.ensures.dropped in
-    record {
-      levels = c.report_of-made.ensures.bounded;
-      in_a = subst (λ (file : List Record). All (λ (d : Dropped). d.at.a < length file) c.report_of-made.result.dropped.items) (sym c.a-2.ensures)
-          (subst (λ (ds : List Dropped). All (λ (d : Dropped). d.at.a < length c.args.prepared.now.files.a.records) ds) made facts.left_a);
-      in_b = subst (λ (file : List Record). All (λ (d : Dropped). d.at.b < length file) c.report_of-made.result.dropped.items) (sym c.b-2.ensures)
-          (subst (λ (ds : List Dropped). All (λ (d : Dropped). d.at.b < length c.args.prepared.now.files.b.records) ds) made facts.left_b);
-    }
-
-pub pairs_of-requires : goal.pairs_of-requires
-pairs_of-requires c = record { of_files = c.requires.of_files; decided = c.requires.of_plan; rows = c.requires.rows; a = c.in_ok-ids_a.ensures ∙ c.a.ensures; b = c.in_ok-ids_b.ensures ∙ c.b.ensures }
-
-pub rule_of-requires : goal.rule_of-requires
-rule_of-requires c = record { ranges = c.requires.ranges; decided = c.requires.of_plan }
 
 pub returns : goal.returns
 returns c =
-    let chosen = c.in_ok-chosen.chosen in
-    let facts = c.in_ok-chosen.ensures.chosen in
-    let of_a = c.in_ok-ids_a.ensures ∙ c.a.ensures in
-    let of_b = c.in_ok-ids_b.ensures ∙ c.b.ensures in
-    record {
-      links = chosen.links.items;
-      prices_a = chosen.prices_a.items;
-      prices_b = chosen.prices_b.items;
-      report = c.report_of-made.result;
-      greatest = facts.greatest;
-      certified = facts.certified;
-      priced_a = facts.priced_a;
-      priced_b = facts.priced_b;
-      reported = c.report_of-made.ensures.numbers;
-      pairs_text = c.in_ok-pairs.ensures;
-      rule_text = c.in_ok-rule.ensures;
-      links_text = c.in_ok-links.ensures.links ∙ (λ i. text_of_links (of_a i) (of_b i) (c.deref.ensures.value i));
-      prices_text = c.in_ok-links.ensures.prices ∙ (λ i. text_of_prices (c.deref-2.ensures.value i) (c.deref-3.ensures.value i) (of_a i) (of_b i));
-      report_text = c.in_ok-report.ensures ∙ (λ i. text_of_report (c.a-2.ensures i) (c.b-2.ensures i) c.report_of-made.result);
-    }
+    let plan = c.args.plan.now in
+    let p = c.args.prepared in
+    let d = c.args.decided in
+    let entries = c.args.journal.now in
+    let ids = c.in_ok-ids.ids in
+    let found = c.in_ok-found.found in
+    let begun = c.begun_report-begun.result in
+    if_ok (λ r. AreTextsBy plan ids.a ids.b found.items d entries begun (five_texts r)) (λ r. AreRunTexts plan p.files (rule_in p d) entries (five_texts r)) c.texts_by_ids-made.result
+    (λ r told. run_texts plan p d entries ids.a ids.b found.items begun (five_texts r) c.in_ok-ids.ensures.a c.in_ok-ids.ensures.b c.in_ok-found.ensures.same c.begun_report-begun.ensures.numbers c.requires.rows told)
+    c.texts_by_ids-made.ensures

@@ -10,6 +10,6 @@ attained-requires-clause-size c =
     let fields = c.args.plan.now.fields in
     let all = c.args.decided.now.rule.cells in
     let cells : c.table.result.now.cells.items ≡ all = c.table.ensures ∙ ap (λ (r : PairRuleView). r.cells) c.rule.ensures in
-    let many = cells_many (pattern_count_by (rares_of fields)) all c.requires.decided.cells in
+    let many = cells_many (pattern_count_by (rares_of fields)) all c.requires.cells in
     let few = few_patterns fields c.requires.ranges.few_fields in
     omega (arith, ap length cells, many, few)

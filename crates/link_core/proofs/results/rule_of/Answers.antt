@@ -16,7 +16,7 @@ rule_text-requires c =
     let all = c.args.decided.now.rule.cells in
     let flags : rare_of c.shape.result ≡ rares_of fields = shape_rares fields c.shape.result c.shape.ensures.fields c.shape.ensures.rare in
     let cells : c.table.result.now.cells.items ≡ all = c.table.ensures ∙ ap (λ (r : PairRuleView). r.cells) c.rule.ensures in
-    let below = cells_below (pattern_count_by (rares_of fields)) all c.requires.decided.cells in
+    let below = cells_below (pattern_count_by (rares_of fields)) all c.requires.cells in
     let P : List Bool → Type 0 = λ rares. All (λ (x : RuleCell). x.pattern < pattern_count_by rares) all in
     let Q : List RuleCell → Type 0 = λ cs. All (λ (x : RuleCell). x.pattern < pattern_count_by (rare_of c.shape.result)) cs in
     subst Q (sym cells) (subst P (sym flags) below)

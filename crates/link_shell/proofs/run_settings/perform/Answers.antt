@@ -17,5 +17,5 @@ returns g c =
     let put : ArePut found _ = record { texts = five_texts c.in_ok-made.made; made = c.in_ok-made.ensures; rule = c.in_ok-found.ensures.found.rule; so = refl } in
     does_puts _ ArePut {x = found} c.in_ok-found.ensures.takes c.put_results-ended.ensures put
 
-pub finish-finished-requires-clause-rows : goal.finish-finished-requires-clause-rows
-finish-finished-requires-clause-rows g c = c.in_ok-found.ensures.rows refl
+pub finish_found-requires-clause-rows : goal.finish_found-requires-clause-rows
+finish_found-requires-clause-rows g c = c.in_ok-found.ensures.rows refl

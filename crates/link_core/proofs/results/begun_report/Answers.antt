@@ -5,7 +5,7 @@ use Rattle.link_base.specs.declared.rule.PairAt.{PairAt}
 use Rattle.pair_decisions.specs.Decisions.{decision_at, is_same}
 use Rattle.link_core.specs.Decisions.{rule_in}
 use Rattle.link_core.specs.Results.{compared_in}
-use Rattle.link_core.proofs.results.report_of.Goals as goal
+use Rattle.link_core.proofs.results.begun_report.Goals as goal
 
 pub open_count-requires : goal.open_count-requires
 open_count-requires c =
