@@ -15,9 +15,9 @@ SECOND = TESTS / "second_implementation"
 sys.path[:0] = [str(it) for it in (TESTS, SECOND, SECOND / "method")]
 
 from answers import made_input
-from tally import ROOT, CannotRun
+from tally import CannotRun
 
-DATA = ROOT / "crates/linkage_cases/data"
+DATA = TESTS / "cases/data"
 OUTPUTS = ("pairs.csv", "rule.csv", "links.csv", "prices.csv", "report.txt")
 Files = dict[str, bytes | None]
 

@@ -9,10 +9,13 @@ import re
 import tomllib
 from dataclasses import dataclass, field
 
-from case_files import DATA, Files, listed_commands
+from case_files import Files, listed_commands
 
 from answers import faults_of_answer
 from commands import LOADS, Ended, perform
+from pairs import prepared
+from settings import settings
+from values import canon_of
 
 LONGEST, SHOWN = 4_096, 64
 
@@ -194,6 +197,18 @@ def each_cut(command: dict, files: Files, shown: dict) -> list[str]:
     return lines
 
 
+def pooled(run: dict, files: Files) -> bytes:
+    """The bytes of the distinct texts of the two files of a plan, where a pool is of less; else 0."""
+    plan = settings(files[run["words"][0]])
+    at = {field["name"]: place for place, field in enumerate(plan["field"])}
+    asked = [(place, it["compare"], it["n"]) for place, it in enumerate(plan["field"])]
+    asked += [(at[it["field"]], it["key"], it["n"]) for one in plan["pass"] for it in one]
+    rows = [row for file in prepared(plan, held_in(files)) for row in file.rows]
+    texts = {str(it) for row in rows for it in [*row, *(canon_of(kind, row[place], n) for place, kind, n in asked)] if it is not None}
+    bytes_ = sum(len(it.encode()) for it in texts)
+    return b"%d\n" % (bytes_ if bytes_ > run["pool"] else 0)
+
+
 # A run
 
 
@@ -209,6 +224,8 @@ def wanted(run: dict, files: Files) -> tuple[bytes, list[str]]:
     """What is wanted of a run over files as its own changes have left them, and what is wrong with what the case chooses; the files
     are changed."""
     wants, shown = run["wants"].encode(), {}
+    if "pool" in run:
+        return pooled(run, files), []
     if not run.get("each_command"):
         return of_command(run, files, run, wants, shown)
     text, faults = b"", []
@@ -220,15 +237,7 @@ def wanted(run: dict, files: Files) -> tuple[bytes, list[str]]:
     return text, faults
 
 
-def difference(wants: bytes, text: bytes) -> str:
-    """The lines that a case wants (`-`) and those that the second implementation wants (`+`), where they differ."""
+def difference(wants: bytes, text: bytes, other: str = "the second implementation") -> str:
+    """The lines that a case wants (`-`) and those that another says (`+`), where they differ."""
     sides = [it.decode("utf-8", "replace").splitlines() for it in (wants, text)]
-    return "\n".join(list(difflib.unified_diff(*sides, "the case", "the second implementation", n=0, lineterm=""))[:40])
-
-
-def partners() -> list[str]:
-    """The partners of each record of A in the worked example, by positions from 0, as the pairs that are compared give them."""
-    held = {path.name: path.read_bytes() for path in DATA.iterdir()}
-    pairs = [line.split(",") for line in (perform(["pairs", "s.toml"], held).out or b"").decode().splitlines()[1:]]
-    numbers = [(int(a[1:]) - 1, int(b[1:]) - 1) for a, b in pairs]
-    return [f"{a}: " + " ".join(str(j) for i, j in numbers if i == a) for a in sorted({i for i, _ in numbers})]
+    return "\n".join(list(difflib.unified_diff(*sides, "the case", other, n=0, lineterm=""))[:40])

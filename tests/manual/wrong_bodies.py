@@ -14,7 +14,7 @@ from pages import ROOT, read
 from sources import cells_of
 
 HEAD = "| Wrong body | Refused by |"
-CASES = "crates/linkage_cases/data"
+CASES = "tests/cases/data"
 LEAST_LETTERS = 8  # of a part with pieces that are filled in
 
 

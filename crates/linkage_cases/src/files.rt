@@ -1,92 +1,70 @@
-// What the files of a case hold.
-use crate::buffer::{Buffer, Fault, copied};
+// What names hold.
+use crate::Stop;
+use csv_rows::push_field;
 use link_base::NoMemory;
 use link_outside::MemoryStore;
-use std::alloc::{AllocError, Global};
+use std::alloc::Global;
 
 /// A name, and what it holds, if anything.
 #[derive(Drop)]
 pub(crate) struct Named {
-    pub(crate) name: String,
-    pub(crate) bytes: Option<Vec<u8>>,
+    name: String,
+    bytes: Option<Vec<u8>>,
 }
 
-/// Names, each once.
+/// Names, each once, in the order in which they came.
 #[derive(Drop)]
 pub(crate) struct Files {
-    pub(crate) all: Vec<Named>,
+    all: Vec<Named>,
 }
 
-/// The files that a run writes.
-const OUTPUTS: [&str; 5] = [
-    "pairs.csv",
-    "rule.csv",
-    "links.csv",
-    "prices.csv",
-    "report.txt",
-];
+impl Named {
+    // Takes what a store holds at the name, and appends it where it is another than before.
+    fn take(&mut self, alloc: Global, row: &mut Vec<u8>, store: &MemoryStore) -> Result<(), Stop> {
+        let held = store.held(&self.name);
+        if held == self.bytes.as_deref() {
+            return Ok(());
+        }
+        let held = held.unwrap_or_default();
+        push_cell(row, self.name.as_bytes())?;
+        push_cell(row, held)?;
+        self.bytes = Some(Vec::from_slice(alloc, held)?);
+        Ok(())
+    }
+}
 
 impl Files {
     /// No names.
-    pub(crate) fn none(alloc: Global) -> Files {
+    pub(crate) fn new(alloc: Global) -> Files {
         Files {
             all: Vec::new(alloc),
         }
     }
 
-    /// The names of the files that a run writes, which hold nothing.
-    pub(crate) fn outputs(alloc: Global, page: &mut Buffer) -> Files {
-        let mut files = Files::none(alloc);
-        for name in OUTPUTS {
-            files.set(alloc, page, name, None);
-        }
-        files
+    /// Forgets all names.
+    pub(crate) fn clear(&mut self) {
+        self.all.clear();
     }
 
-    // The place of a name; behind the last where there is none.
-    fn place_of(&self, name: &str) -> usize {
-        let mut place = 0usize;
-        for named in &self.all {
-            if named.name.as_str() == name {
-                return place;
-            }
-            place = place.saturating_add(1);
-        }
-        place
-    }
-
-    /// What a name holds, if anything.
-    pub(crate) fn held(&self, name: &str) -> Option<&[u8]> {
-        match self.all.get(self.place_of(name)) {
-            Some(named) => named.bytes.as_deref(),
-            None => None,
-        }
-    }
-
-    // Adds a name.
-    fn add(&mut self, alloc: Global, name: &str, bytes: Option<Vec<u8>>) -> Result<(), AllocError> {
-        let name = String::from_str(alloc, name)?;
-        self.all.push(Named { name, bytes })?;
-        Ok(())
+    // What a name holds.
+    fn named(&mut self, name: &str) -> Option<&mut Named> {
+        self.all.iter_mut().find(|it| it.name.as_str() == name)
     }
 
     /// Has a name hold bytes, or nothing.
     pub(crate) fn set(
         &mut self,
         alloc: Global,
-        page: &mut Buffer,
         name: &str,
         bytes: Option<Vec<u8>>,
-    ) {
-        let place = self.place_of(name);
-        match self.all.get_mut(place) {
-            Some(named) => named.bytes = bytes,
-            None => {
-                if self.add(alloc, name, bytes).is_err() {
-                    page.fail(Fault::NoMemory);
-                }
-            }
+    ) -> Result<(), Stop> {
+        if let Some(named) = self.named(name) {
+            named.bytes = bytes;
+            return Ok(());
         }
+        let name = String::from_str(alloc, name)?;
+        self.all.push(Named { name, bytes })?;
+        Ok(())
     }
 
     /// Has a store hold what the names hold.
@@ -99,30 +77,22 @@ impl Files {
         Ok(())
     }
 
-    /// Has the names hold what a store holds, and shows each that changed.
-    pub(crate) fn take_from(&mut self, alloc: Global, page: &mut Buffer, store: &MemoryStore) {
+    /// Takes what a store holds, and appends each name that holds other bytes than before, and these.
+    pub(crate) fn take_from(
+        &mut self,
+        alloc: Global,
+        row: &mut Vec<u8>,
+        store: &MemoryStore,
+    ) -> Result<(), Stop> {
         for named in &mut self.all {
-            named.take(alloc, page, store);
+            named.take(alloc, row, store)?;
         }
+        Ok(())
     }
 }
 
-impl Named {
-    /// Whether a store holds the same.
-    pub(crate) fn is_held_in(&self, store: &MemoryStore) -> bool {
-        store.held(&self.name) == self.bytes.as_deref()
-    }
-
-    // Has the name hold what a store holds, and shows that where it is another than before.
-    fn take(&mut self, alloc: Global, page: &mut Buffer, store: &MemoryStore) {
-        if self.is_held_in(store) {
-            return;
-        }
-        let held = store.held(&self.name);
-        page.push(b"-- ");
-        page.push(self.name.as_bytes());
-        page.push(b"\n");
-        page.push_shortened(alloc, held.unwrap_or_default());
-        self.bytes = copied(alloc, page, held);
-    }
+/// Appends a field after a comma.
+pub(crate) fn push_cell(row: &mut Vec<u8>, field: &[u8]) -> Result<(), NoMemory> {
+    row.push(b',')?;
+    push_field(row, field)
 }
