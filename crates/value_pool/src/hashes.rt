@@ -61,7 +61,7 @@ pub(crate) fn last_word(text: &[u8]) -> u64
 
 /// The hash of a text.
 #[tactic(auto, unfolding(crate::specs::Hashes::hash_of))]
-pub(crate) fn hash(text: &[u8]) -> u32
+pub fn hash(text: &[u8]) -> u32
     ensures { result ≡ hash_of text.now }
 {
     let mut hash = START ^ text.len() as u64;

@@ -10,6 +10,7 @@ mod pool;
 mod same_text;
 mod table;
 
+pub use hashes::hash;
 pub use id::{Id, MaybeId};
 pub use laws::reserved_room;
 pub use pool::{Pool, PoolFault};
