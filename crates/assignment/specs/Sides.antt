@@ -45,8 +45,3 @@ pub record IsTakenOver (board : Board) (s : Side) : Type 0 where
   pub solved : IsBetween board.turned.now price_b price_a link_b link_a (length price_b)
   pub joined : AreJoinedAs board new_a new_b link_b (length link_b)
   pub adopted : IsBetween board.edges.now price_a price_b new_a new_b 0 → (s.price_a.items ≡ price_a) × (s.price_b.items ≡ price_b) × (s.link_a.items ≡ new_a) × (s.link_b.items ≡ new_b)
-
--- links are those of the other side, and are taken over with its prices where they serve
-pub record TakesOver (board : Board) (side : Side) (pa pb : List ℕ) (la lb new_a new_b : List (Option ℕ)) : Type 0 where
-  pub joined : AreJoinedAs board new_a new_b side.link_a.items (length side.link_a.items)
-  pub adopted : IsBetween board.edges.now side.price_b.items side.price_a.items new_a new_b 0 → (pa ≡ side.price_b.items) × (pb ≡ side.price_a.items) × (la ≡ new_a) × (lb ≡ new_b)

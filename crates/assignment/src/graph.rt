@@ -7,7 +7,7 @@ ghost use Rattle.assignment.specs.Sides.{HasRun};
 ghost use Rattle.assignment.specs.Solution.{HasSmallValue};
 
 use crate::side::{Other, Side, first_side, other_if_less, run, run_other};
-use assignment_steps::{Board, Edge, edges_of, first_prices, starts_of, turned_edges, zeros};
+use assignment_steps::{Board, Edge, edges_of, first_prices, starts_of, turned_edges};
 use link_base::{Candidate, NoMemory};
 use link_limits::MOST_PAIRS;
 use std::alloc::Global;
@@ -64,9 +64,9 @@ pub fn first_sides(
     requires { IsGraph rows_a rows_b graph.now }
     ensures { IfOk result (AreTwoSides rows_a rows_b graph.now) }
 {
-    let price_b = zeros(alloc, rows_b as usize)?;
+    let price_b = vec![in alloc; 0u32; rows_b as usize]?;
     let price_a = first_prices(alloc, &graph.edges, &price_b, rows_a as usize)?;
-    let other_b = zeros(alloc, rows_a as usize)?;
+    let other_b = vec![in alloc; 0u32; rows_a as usize]?;
     let other_a = first_prices(alloc, &graph.turned, &other_b, rows_b as usize)?;
     let other = other_if_less(alloc, &graph.turned, other_a, other_b, &price_a)?;
     match first_side(alloc, &graph.edges, price_a, price_b) {

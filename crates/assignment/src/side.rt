@@ -1,15 +1,14 @@
 // Prices, links and room of the side that searches.
 ghost use Rattle.std.specs.Prelude.{◌≡◌, ◌*◌, ◌/◌, ℕ, IfOk, MatchOption, None, is_some, length, nat_lt};
 ghost use Rattle.std.specs.List.{sum};
-ghost use Rattle.assignment_steps.specs.Market.{link, number, AreListed, IsInRange};
+ghost use Rattle.assignment_steps.specs.Market.{number, AreListed, IsInRange};
 ghost use Rattle.assignment_steps.specs.Between.{IsBetween, ReachAll};
 ghost use Rattle.assignment_steps.specs.Reached.{IsAtRest};
-ghost use Rattle.assignment.specs.Sides.{HasRun, IsOther, IsSide, IsSideOf, IsTakenOver, TakesOver};
+ghost use Rattle.assignment.specs.Sides.{HasRun, IsOther, IsSide, IsSideOf, IsTakenOver};
 
 use crate::market::Tree;
-use crate::room::{free_links, room_for_side};
+use crate::room::{Spare, free_links, room_for_side, take_proposal};
 use crate::round::search_each;
-use crate::spare::{Spare, take_proposal};
 use assignment_steps::{
     Board, Edge, MaybeEdge, Net, adopt_all, join_as_turned, link_tight, waiting,
 };
@@ -186,36 +185,6 @@ pub fn run(board: Board<'_>, side: &mut Side)
     );
 }
 
-/// Takes the prices and links of the other side over, where they serve.
-fn take_over(
-    board: Board<'_>,
-    price_a: &mut [u32],
-    price_b: &mut [u32],
-    link_a: &mut [MaybeEdge],
-    link_b: &mut [MaybeEdge],
-    side: &Side,
-    new_a: &mut [MaybeEdge],
-    new_b: &mut [MaybeEdge],
-)
-    requires between { IsBetween board.edges.now price_a.old price_b.old link_a.old link_b.old 0 }
-    requires rows_a { length side.now.price_b.items ≡ length price_a.old }
-    requires rows_b { length side.now.price_a.items ≡ length price_b.old }
-    requires new_a { length new_a.old ≡ length price_a.old }
-    requires new_b { length new_b.old ≡ length price_b.old }
-    requires none_a { (a : ℕ) → link new_a.old a ≡ None }
-    requires none_b { (b : ℕ) → link new_b.old b ≡ None }
-    ensures between { IsBetween board.entry.edges.now price_a.new price_b.new link_a.new link_b.new 0 }
-    ensures taken { TakesOver board.entry side.now price_a.new price_b.new link_a.new link_b.new new_a.new new_b.new }
-{
-    join_as_turned(board, new_a, new_b, &side.link_a);
-    let net = Net {
-        edges: board.edges,
-        price_a: &side.price_b,
-        price_b: &side.price_a,
-    };
-    adopt_all(net, new_a, new_b, price_a, price_b, link_a, link_b);
-}
-
 /// Lets the other side search first, if it is there, and takes its prices and links over.
 pub fn run_other(board: Board<'_>, side: &mut Side, other: Option<Other>)
     requires listed { AreListed board.turned.now (length side.old.price_b.items) board.turned_starts.now }
@@ -234,15 +203,25 @@ pub fn run_other(board: Board<'_>, side: &mut Side, other: Option<Other>)
         turned_starts: board.starts,
     };
     run(turned, &mut other.side);
-    take_over(
+    join_as_turned(
         board,
+        &mut other.link_a,
+        &mut other.link_b,
+        &other.side.link_a,
+    );
+    let net = Net {
+        edges: board.edges,
+        price_a: &other.side.price_b,
+        price_b: &other.side.price_a,
+    };
+    adopt_all(
+        net,
+        &other.link_a,
+        &other.link_b,
         &mut side.price_a,
         &mut side.price_b,
         &mut side.link_a,
         &mut side.link_b,
-        &other.side,
-        &mut other.link_a,
-        &mut other.link_b,
     );
     drop(other);
 }

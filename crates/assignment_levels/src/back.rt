@@ -1,11 +1,9 @@
 // A look back from all ends of paths at once, and the fall of each price by its record's own distance.
 
-use crate::level::{Level, edges_of, value_at};
+use crate::level::{Level, edges_of};
 use crate::lists::Lists;
-use crate::numbers::{NONE, at, fill_up, put};
+use crate::numbers::{NONE, at, put};
 use crate::side::{Side, let_fall};
-use link_base::NoMemory;
-use std::alloc::Global;
 
 /// The order in which records were reached, each one's place in it, and how many were.
 #[derive(Drop)]
@@ -16,27 +14,6 @@ pub struct ReachOrder {
 }
 
 impl ReachOrder {
-    /// Room for so many records.
-    pub(crate) fn new(alloc: Global, records: u32) -> Result<ReachOrder, NoMemory> {
-        Ok(ReachOrder {
-            order: Vec::with_capacity(alloc, records as usize)?,
-            place: Vec::with_capacity(alloc, records as usize)?,
-            count: 0,
-        })
-    }
-
-    /// Puts so many records there.
-    pub(crate) fn fill(&mut self, records: u32) {
-        fill_up(&mut self.order, records);
-        fill_up(&mut self.place, records);
-    }
-
-    /// Forgets what was reached.
-    fn clear(&mut self) {
-        self.place.fill(NONE);
-        self.count = 0;
-    }
-
     /// Notes that a record was reached.
     fn note(&mut self, record: u32) {
         put(&mut self.order, self.count, record);
@@ -46,7 +23,8 @@ impl ReachOrder {
 
     /// Reaches so many records, in the order of their numbers.
     pub(crate) fn reach_each(&mut self, records: u32) {
-        self.clear();
+        self.place.fill(NONE);
+        self.count = 0;
         for record in 0..records {
             self.note(record);
         }
@@ -64,7 +42,7 @@ fn look_from(
     paid: u32,
 ) {
     for edge in edges_of(level.board.turned, level.board.turned_starts, record) {
-        let value = value_at(*edge, level.shift);
+        let value = edge.value.wrapping_shr(level.shift);
         if paid.wrapping_add(at(nearer, edge.b)) < value {
             let gain = value.wrapping_sub(paid);
             put(nearer, edge.b, gain);
@@ -141,7 +119,8 @@ pub(crate) fn look_back(
     nearer: &mut [u32],
     waiting: u32,
 ) {
-    reached.clear();
+    reached.place.fill(NONE);
+    reached.count = 0;
     nearer.fill(0);
     put_at_prices(own, lists);
     look_from_free(level, own, other, lists, nearer);

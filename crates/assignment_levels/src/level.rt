@@ -11,26 +11,6 @@ pub struct Level<'a> {
     pub shift: u32,
 }
 
-/// The value of an edge at a level.
-#[inline(always)]
-pub(crate) fn value_at(edge: Edge, shift: u32) -> u32 {
-    edge.value.wrapping_shr(shift)
-}
-
-/// A level as the other side sees it.
-pub(crate) fn turned(level: Level<'_>) -> Level<'_> {
-    let board = level.board;
-    Level {
-        board: Board {
-            edges: board.turned,
-            starts: board.turned_starts,
-            turned: board.edges,
-            turned_starts: board.starts,
-        },
-        shift: level.shift,
-    }
-}
-
 /// The edges of a record, which stand together.
 #[inline(always)]
 pub(crate) fn edges_of<'a>(edges: &'a [Edge], starts: &[u32], record: u32) -> &'a [Edge] {
@@ -52,7 +32,7 @@ pub(crate) fn cover(level: Level<'_>, own: &mut Side, other: &Side) {
         let edges = edges_of(level.board.edges, level.board.starts, record);
         let price = edges.iter().fold(0u32, |price, edge| {
             let paid = at(&other.price, edge.b);
-            price.max(value_at(*edge, level.shift).saturating_sub(paid))
+            price.max(edge.value.wrapping_shr(level.shift).saturating_sub(paid))
         });
         put(&mut own.price, record, price);
     }
@@ -62,7 +42,7 @@ pub(crate) fn cover(level: Level<'_>, own: &mut Side, other: &Side) {
 #[inline(always)]
 pub(crate) fn is_tight(level: Level<'_>, own: &Side, other: &Side, edge: Edge) -> bool {
     let paid = at(&own.price, edge.a).wrapping_add(at(&other.price, edge.b));
-    paid == value_at(edge, level.shift)
+    paid == edge.value.wrapping_shr(level.shift)
 }
 
 /// Takes the links away that are not tight.

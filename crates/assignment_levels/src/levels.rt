@@ -1,7 +1,7 @@
 // The levels, from few bits of the values to all.
 ghost use Rattle.std.specs.Prelude.{◌≡◌};
 
-use crate::level::{Level, cover, part_loose, turned};
+use crate::level::{Level, cover, part_loose};
 use crate::rounds::{Room, run_rounds, settle};
 use crate::side::{Side, link};
 use assignment_steps::{Board, MaybeEdge, Proposal, link_of};
@@ -68,13 +68,22 @@ impl Proposer {
     /// each may still wait.
     fn settle(&mut self, level: Level<'_>) {
         let Proposer { own, other, room } = self;
-        let turned = turned(level);
+        let board = level.board;
+        let turned = Level {
+            board: Board {
+                edges: board.turned,
+                starts: board.turned_starts,
+                turned: board.edges,
+                turned_starts: board.starts,
+            },
+            shift: level.shift,
+        };
         cover(level, own, other);
         cover(turned, other, own);
         part_loose(level, own, other);
-        let most = most_left(level.board.starts, level.shift);
+        let most = most_left(board.starts, level.shift);
         settle(level, own, other, room, most);
-        let most = most_left(turned.board.starts, level.shift);
+        let most = most_left(board.turned_starts, level.shift);
         settle(turned, other, own, room, most);
     }
 

@@ -3,8 +3,8 @@
 use crate::back::{ReachOrder, look_back};
 use crate::level::{Level, link_tight};
 use crate::lists::Lists;
-use crate::numbers::at;
-use crate::paths::follow_paths;
+use crate::numbers::{at, fill_up};
+use crate::paths::{Paths, follow_paths};
 use crate::search::{Tree, search};
 use crate::side::Side;
 use link_base::NoMemory;
@@ -29,7 +29,11 @@ impl Room {
     pub(crate) fn new(alloc: Global, records: u32) -> Result<Room, NoMemory> {
         Ok(Room {
             lists: Lists::new(alloc, records)?,
-            reached: ReachOrder::new(alloc, records)?,
+            reached: ReachOrder {
+                order: Vec::with_capacity(alloc, records as usize)?,
+                place: Vec::with_capacity(alloc, records as usize)?,
+                count: 0,
+            },
             tree: Tree::new(alloc, records)?,
         })
     }
@@ -37,8 +41,11 @@ impl Room {
     /// Puts so many records there.
     pub(crate) fn fill(&mut self, records: u32) {
         self.lists.fill();
-        self.reached.fill(records);
-        self.tree.fill(records);
+        fill_up(&mut self.reached.order, records);
+        fill_up(&mut self.reached.place, records);
+        fill_up(&mut self.tree.mark, records);
+        fill_up(&mut self.tree.from, records);
+        fill_up(&mut self.tree.joined, records);
     }
 }
 
@@ -90,7 +97,14 @@ fn run_round(
         &mut room.tree.joined,
         count,
     );
-    let mut paths = room.tree.paths(&mut room.lists.dist);
+    room.tree.number = room.tree.number.wrapping_add(1);
+    let mut paths = Paths {
+        tried: &mut room.lists.dist,
+        chosen: &mut room.tree.from,
+        met: &mut room.tree.mark,
+        round: room.tree.number,
+        path: &mut room.tree.joined,
+    };
     follow_paths(level, own, other, &room.reached, &mut paths);
     let left = own.waiting();
     room.tree.looks = looks;

@@ -1,9 +1,8 @@
 // A search from one record for the nearest end of a path.
 
-use crate::level::{Level, edges_of, value_at};
+use crate::level::{Level, edges_of};
 use crate::lists::Lists;
-use crate::numbers::{NONE, at, fill_up, put};
-use crate::paths::Paths;
+use crate::numbers::{NONE, at, put};
 use crate::side::{Side, let_fall};
 use link_base::NoMemory;
 use std::alloc::Global;
@@ -14,9 +13,9 @@ use std::alloc::Global;
 /// is how many edges may still be looked at. Between searches a look back and paths have its room.
 #[derive(Drop)]
 pub struct Tree {
-    number: u32,
-    mark: Vec<u32>,
-    from: Vec<u32>,
+    pub(crate) number: u32,
+    pub(crate) mark: Vec<u32>,
+    pub(crate) from: Vec<u32>,
     pub(crate) joined: Vec<u32>,
     count: u32,
     current: u32,
@@ -43,44 +42,10 @@ impl Tree {
         })
     }
 
-    /// Puts so many records there.
-    pub(crate) fn fill(&mut self, records: u32) {
-        fill_up(&mut self.mark, records);
-        fill_up(&mut self.from, records);
-        fill_up(&mut self.joined, records);
-    }
-
-    /// Paths of which nothing is followed yet, where `tried` is room for a number of each record.
-    pub(crate) fn paths<'r>(&'r mut self, tried: &'r mut [u32]) -> Paths<'r> {
-        let round = self.number.wrapping_add(1);
-        self.number = round;
-        Paths {
-            tried,
-            chosen: &mut self.from,
-            met: &mut self.mark,
-            round,
-            path: &mut self.joined,
-        }
-    }
-
     /// Notes a record that joins at the distance `current`.
     fn join(&mut self, record: u32) {
         put(&mut self.joined, self.count, record);
         self.count = self.count.saturating_add(1);
-    }
-
-    /// Begins a tree with a record of a price.
-    fn plant(&mut self, lists: &mut Lists, root: u32, price: u32) {
-        lists.clear();
-        put(&mut lists.dist, root, 0);
-        self.number = self.number.wrapping_add(1);
-        put(&mut self.mark, root, self.number);
-        self.count = 0;
-        self.current = 0;
-        self.bound = price;
-        self.end = root;
-        self.free = NONE;
-        self.join(root);
     }
 
     /// Keeps the nearer end: a record that gives its link up.
@@ -136,7 +101,7 @@ fn scan(
     tree.looks = tree.looks.saturating_sub(edges.len());
     for edge in edges {
         let paid = base.wrapping_add(at(&other.price, edge.b));
-        let distance = paid.wrapping_sub(value_at(*edge, level.shift));
+        let distance = paid.wrapping_sub(edge.value.wrapping_shr(level.shift));
         if distance < tree.bound {
             let mate = at(&other.mate, edge.b);
             if mate == NONE {
@@ -152,7 +117,7 @@ fn scan(
     }
 }
 
-/// Grows a tree until no record is nearer than the nearest end. Says whether it did, before no looks were left.
+/// Grows a tree from a record until no record is nearer than the nearest end. Says whether it did, before no looks were left.
 fn grow(
     level: Level<'_>,
     own: &Side,
@@ -161,7 +126,16 @@ fn grow(
     tree: &mut Tree,
     root: u32,
 ) -> bool {
-    tree.plant(lists, root, at(&own.price, root));
+    lists.clear();
+    put(&mut lists.dist, root, 0);
+    tree.number = tree.number.wrapping_add(1);
+    put(&mut tree.mark, root, tree.number);
+    tree.count = 0;
+    tree.current = 0;
+    tree.bound = at(&own.price, root);
+    tree.end = root;
+    tree.free = NONE;
+    tree.join(root);
     for place in 0..own.records {
         if place == tree.count && !tree.join_nearest(lists) {
             return true;

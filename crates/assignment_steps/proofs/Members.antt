@@ -1,10 +1,51 @@
--- Members of a list after a push and after a pop, and of a mapped list.
-use Rattle.std.proofs.Common.{◌≡◌, ◌⊎◌, ℕ, zero, suc, ◌-◌, ◌*◌, ◌/◌, ◌<◌, ◌≤◌, List, [], ◌∷◌, length, get_or, map, refl, sym, ap, ◌∙◌, inl, inr, arith}
-use Rattle.std.specs.Prelude.{Contains, IsPermutation}
+-- What was joined stays so as long as no link is taken away.
+use Rattle.std.proofs.Common.{◌≡◌, ℕ, ◌<◌, ◌+◌, List, Option, None, inl, inr, arith, length, Some, ◌++◌, ◌∷◌, [], ◌⊎◌, zero, ◌-◌, ◌*◌, ◌/◌, ◌≤◌, get_or, map, refl, sym, ap, ◌∙◌, Contains, IsPermutation, set, drop, add-one, drop-cons, get_or-set_same}
+use Rattle.std.proofs.lemmas.Bool.{cases_eq}
+use Rattle.assignment_steps.specs.declared.market.Board.{Board}
+use Rattle.assignment_steps.specs.Market.{edge, link, number, IsStart}
+use Rattle.assignment_steps.specs.Joined.{AreJoined, AreJoinedAs, AreJoinedWith}
+use Rattle.std.proofs.lemmas.List.{get_or_push, get_or_append_left, get_or-map, length-map}
+use Rattle.assignment_steps.specs.declared.market.Edge.{Edge}
 use Rattle.assignment_steps.specs.declared.queue.TheConstants.{LAST, TURNS}
+use Rattle.std.proofs.lemmas.List.Elements.{All-contains, All-contains_itself, All-map}
 use Rattle.std.proofs.lemmas.List.Sorted.{Contains-permutation, IsPermutation-sym}
 use Rattle.assignment_steps.specs.QueueLaws.{Contains-cons_cases}
 use Rattle.price_check.specs.CandidateLaws.{Contains-later}
+use Rattle.assignment_steps.specs.Distances.{distance, far}
+use Rattle.assignment_steps.specs.DistanceLaws.{distance-set, number-set}
+
+-- links of the two sides, and later ones that keep each record's link or give it another
+module _ (board : Board) (la lb la' lb' : List (Option ℕ)) (kept_a : (a : ℕ) → link la' a ≡ None → link la a ≡ None) (kept_b : (b : ℕ) → link lb' b ≡ None → link lb b ≡ None) where
+  still : (a b : ℕ) → AreJoined board la lb a b → AreJoined board la' lb' a b
+  still a b was = elim was [ inl none ↦ inl none | inr there ↦ inr (there.0, (there.1.0, there.1.1, λ free_a free_b. there.1.2 (kept_a _ free_a) (kept_b _ free_b))) ]
+
+  pub one_more_as : (links : List (Option ℕ)) (i : ℕ) → AreJoinedAs board la lb links i → ((j : ℕ) → link links i ≡ Some j → j < length board.turned.now → AreJoined board la' lb' (edge board.turned.now j).b (edge board.turned.now j).a) → AreJoinedAs board la' lb' links (i + 1)
+  one_more_as links i before here n less j is within =
+      elim (cases_eq n i) [
+        | inl same ↦ here j (rw (← same) is) within
+        | inr other ↦ still _ _ (before n (omega (arith, less, other)) j is within)
+      ]
+
+  pub one_more_with : (mates : List ℕ) (a : ℕ) → AreJoinedWith board la lb mates a → AreJoined board la' lb' a (number mates a) → AreJoinedWith board la' lb' mates (a + 1)
+  one_more_with mates a before here n less =
+      elim (cases_eq n a) [
+        | inl same ↦ rw same here
+        | inr other ↦ still _ _ (before n (omega (arith, less, other)))
+      ]
+
+-- Places where the edges of records begin.
+
+-- one more place after those of the records below `a`
+pub one_more_start : (es : List Edge) (starts : List ℕ) (a start : ℕ) → length starts ≡ a → ((i : ℕ) → i < a → IsStart es i (number starts i)) → IsStart es a start → (i : ℕ) → i < a + 1 → IsStart es i (number (starts ++ start ∷ []) i)
+one_more_start es starts a start count before here i less =
+    elim (cases_eq i a) [
+      | inl same ↦ rw (same, get_or_push starts start 0 a count) here
+      | inr other ↦
+          (let low : i < a = omega (arith, less, other) in
+          rw (get_or_append_left starts (start ∷ []) 0 i (omega (arith, low, count))) (before i low))
+    ]
+
+-- Members of a list after a push and after a pop, and of a mapped list.
 
 -- after a pop
 pub popped_stays : {X : Type 0} (xs ys : List X) (e : X) → IsPermutation xs (e ∷ ys) → (x : X) → Contains xs x → Contains ys x ⊎ (x ≡ e)
@@ -29,20 +70,11 @@ pushed_only xs ys e p x h = Contains-cons_cases e xs x (Contains-permutation ys 
 -- Members of a mapped list.
 
 pub Contains-map : {X Y : Type 0} (f : X → Y) (xs : List X) (x : X) → Contains xs x → Contains (map f xs) (f x)
-Contains-map f xs x h = at f xs x h.0 h.1 h.2
-  where
-    at : {X Y : Type 0} (f : X → Y) (zs : List X) (x : X) (j : ℕ) → j < length zs → get_or zs j x ≡ x → Contains (map f zs) (f x)
-    at f [] x j lt e = absurd (omega arith)
-    at f (z ∷ zs) x zero lt e = (zero, omega arith, ap f e)
-    at f (z ∷ zs) x (suc j) lt e = Contains-later (f z) (map f zs) (f x) (at f zs x j (omega arith) e)
+Contains-map f xs x h = (h.0, rw length-map h.1, get_or-map f xs h.0 x (f x) h.1 ∙ ap f h.2)
 
 pub Contains-unmap : {X Y : Type 0} (f : X → Y) (xs : List X) (y : Y) → Contains (map f xs) y → (x : X) × (Contains xs x × (f x ≡ y))
-Contains-unmap f xs y h = at f xs y h.0 h.1 h.2
-  where
-    at : {X Y : Type 0} (f : X → Y) (zs : List X) (y : Y) (j : ℕ) → j < length (map f zs) → get_or (map f zs) j y ≡ y → (x : X) × (Contains zs x × (f x ≡ y))
-    at f [] y j lt e = absurd (omega arith)
-    at f (z ∷ zs) y zero lt e = (z, ((zero, omega arith, refl), e))
-    at f (z ∷ zs) y (suc j) lt e = (let r = at f zs y j (omega arith) e in (r.0, (Contains-later z zs r.0 r.1.0, r.1.1)))
+Contains-unmap {X} f xs y h =
+    All-contains (λ y. (x : X) × (Contains xs x × (f x ≡ y))) (map f xs) y (All-map (λ y. (x : X) × (Contains xs x × (f x ≡ y))) f xs (λ k d lt. (get_or xs k d, (All-contains_itself xs k d lt, refl)))) h
 
 -- after a push of e
 pub mapped_stays : {X Y : Type 0} (f : X → Y) (xs ys : List X) (e : X) → IsPermutation (e ∷ xs) ys → (y : Y) → Contains (map f xs) y → Contains (map f ys) y
@@ -79,3 +111,31 @@ falls_with_entry x y le = omega arith
 
 pub distances_rise : (x y : ℕ) → x ≤ y → x / (2 * TURNS) ≤ y / (2 * TURNS)
 distances_rise x y le = omega arith
+
+-- A record's price changes by what its distance lacks to the end, and its distance is put back.
+
+module _ (prices dist : List ℕ) (end t change : ℕ) (in_prices : t < length prices) (in_dist : t < length dist) (low : end ≤ far) where
+  pub price_raised : change ≡ number prices t + (end - distance dist t) → (r : ℕ) → number (set prices t change) r + (end - distance (set dist t far) r) ≡ number prices r + (end - distance dist r)
+  price_raised is r = elim (number-set prices t r change in_prices) [
+    | inl p ↦ rw p.0 (omega (arith, is, get_or-set_same prices t change 0 in_prices, get_or-set_same dist t far far in_dist))
+    | inr p ↦ elim (distance-set dist t r far in_dist) [ inl q ↦ absurd (p.0 q.0) | inr q ↦ omega (arith, p.1, q.1) ]
+  ]
+
+  pub price_lowered : (fp fd : List ℕ) → ((r : ℕ) → number prices r + (end - distance fd r) ≡ number fp r + (end - distance dist r)) → change + (end - distance dist t) ≡ number prices t → (r : ℕ) → number (set prices t change) r + (end - distance fd r) ≡ number fp r + (end - distance (set dist t far) r)
+  price_lowered fp fd kept is r = elim (number-set prices t r change in_prices) [
+    | inl p ↦ rw p.0 (omega (arith, is, kept t, get_or-set_same prices t change 0 in_prices, get_or-set_same dist t far far in_dist))
+    | inr p ↦ elim (distance-set dist t r far in_dist) [ inl q ↦ absurd (p.0 q.0) | inr q ↦ omega (arith, p.1, q.1, kept r) ]
+  ]
+
+-- no distance is above that of what is far
+pub top_put_back : (dist : List ℕ) (t : ℕ) → t < length dist → ((r : ℕ) → distance dist r ≤ far) → (r : ℕ) → distance (set dist t far) r ≤ far
+top_put_back dist t lt top r = elim (distance-set dist t r far lt) [ inl p ↦ omega (arith, p.1) | inr p ↦ omega (arith, p.1, top r) ]
+
+-- those that are left are near, but for the one that was put back
+pub left_put_back : (dist touched : List ℕ) (i t : ℕ) → t < length dist → i < length touched → number touched i ≡ t → ((r : ℕ) → distance dist r < far → Contains (drop i touched) r) → (r : ℕ) → distance (set dist t far) r < far → Contains (drop (i + 1) touched) r
+left_put_back dist touched i t lt here is whole r near = elim (distance-set dist t r far lt) [
+  | inl p ↦ absurd (omega (arith, p.1, near))
+  | inr p ↦
+      (let cut : drop i touched ≡ number touched i ∷ drop (i + 1) touched = rw add-one (drop-cons touched i 0 here) in
+      elim (Contains-cons_cases (number touched i) (drop (i + 1) touched) r (rw cut at (whole r (omega (arith, p.1, near))))) [ inl q ↦ q | inr q ↦ absurd (p.0 (q ∙ is)) ])
+]

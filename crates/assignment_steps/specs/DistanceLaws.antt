@@ -1,9 +1,8 @@
 -- Laws of distances and prices (`distance`, `unreached`, `number`): of one write, and of zeros. Both assigners cite them.
-use Rattle.std.proofs.Common.{◌≡◌, ◌≢◌, ◌⊎◌, ℕ, ◌<◌, List, length, set, inl, inr, get_or-set_other, get_or-set_same, ◌+◌, Bool, cond, refl, arith}
+use Rattle.std.proofs.Common.{◌≡◌, ◌≢◌, ◌⊎◌, ℕ, ◌<◌, List, length, set, inl, inr, get_or-set_other, get_or-set_same, ◌+◌, Bool, cond, refl, arith, ◌==◌, replicate}
 use Rattle.std.proofs.lemmas.Bool.{cases_eq, eq-eqb, ne_eqb, cases_lt}
 use Rattle.assignment_steps.specs.Market.{number}
 use Rattle.assignment_steps.specs.Distances.{distance, far, unreached}
-use Rattle.std.specs.Prelude.{◌==◌, replicate}
 use Rattle.std.proofs.lemmas.List.Sums.{sum_by-set}
 use Rattle.std.proofs.lemmas.List.{get_or_past, get_or-replicate, length-replicate}
 

@@ -1,12 +1,11 @@
 -- Laws of links (`link`, `IsMatched`, `AreLinked`, `AreTight`): what one link that is taken or given up does to them. Both
 -- assigners cite them.
-use Rattle.std.proofs.Common.{◌≡◌, ◌≢◌, ◌⊎◌, ℕ, ◌<◌, List, length, set, Option, Some, None, refl, ap, sym, ◌∙◌, inl, inr, get_or-set_other, get_or-set_same, false, arith, true}
+use Rattle.std.proofs.Common.{◌≡◌, ◌≢◌, ◌⊎◌, ℕ, ◌<◌, List, length, set, Option, Some, None, refl, ap, sym, ◌∙◌, inl, inr, get_or-set_other, get_or-set_same, false, arith, replicate}
 use Rattle.std.proofs.lemmas.Bool.{cases_eq, cases_lt, false≢true}
 use Rattle.std.proofs.lemmas.List.{get_or_past, get_or-replicate, length-replicate}
 use Rattle.assignment_steps.specs.declared.market.Edge.{Edge}
 use Rattle.assignment_steps.specs.Market.{IsMatched, link, edge, AreLinked, AreTight, IsTight}
 use Rattle.std.specs.Option.{is_some}
-use Rattle.std.specs.Prelude.{replicate}
 
 -- a link, or none
 pub link_cases : (l : List (Option ℕ)) (r : ℕ) → (link l r ≡ None) ⊎ ((k : ℕ) × (link l r ≡ Some k))

@@ -1,8 +1,7 @@
 -- An alternating tree as it grows from a record of A without a link, over candidates with positive values as edges
 -- (Edmonds and Karp 1972): what holds of all that the search has reached, whatever it may end at.
 -- `Reached::join`, `Reached::reach` and `Reached::shift` carry it.
-use Rattle.std.specs.Prelude.{◌≡◌, ◌⊎◌, ℕ, ◌+◌, ◌-◌, ◌<◌, ◌≤◌, Bool, true, false, List, [], ◌∷◌, ◌++◌, length, slice_set, Option, Some, None, MatchOption, IsNone, Contains, vec_len, vec_capacity}
-use Rattle.std.proofs.Common.{min}
+use Rattle.std.proofs.Common.{min, ◌≡◌, ◌⊎◌, ℕ, ◌+◌, ◌-◌, ◌<◌, ◌≤◌, Bool, true, false, List, [], ◌∷◌, ◌++◌, length, slice_set, Option, Some, None, MatchOption, IsNone, Contains, vec_len, vec_capacity}
 use Rattle.link_limits.specs.declared.TheConstants.{MOST_VALUE}
 use Rattle.assignment_steps.specs.declared.market.Edge.{Edge}
 use Rattle.assignment_steps.specs.declared.market.Field.{Field}
@@ -129,14 +128,6 @@ pub record Notes (old new : Reached) (b : ℕ) : Type 0 where
   pub rest : new ≡ record old { touched = new.touched }
   pub room : vec_capacity old.touched ≤ vec_capacity new.touched
 
--- a record of A is noted at a distance, which is the newest
-pub record Adds (old new : Reached) (position dist : ℕ) : Type 0 where
-  pub dist_a : new.dist_a.items ≡ slice_set old.dist_a.items position dist
-  pub rank : new.rank.items ≡ slice_set old.rank.items position (length old.records.items)
-  pub records : new.records.items ≡ old.records.items ++ position ∷ []
-  pub rest : new ≡ record old { dist_a = new.dist_a; rank = new.rank; records = new.records; current = dist }
-  pub room : HasRoomForRecords (vec_len old.dist_a) (vec_len old.dist_b) new
-
 -- the nearest end is at this record of A where it is nearer than each before, and else where it was
 abbrev pub EndsAgain : Spread → Spread → ℕ → ℕ → Bool → Type 0
 EndsAgain old new position end nearer =
@@ -154,12 +145,6 @@ pub record Joins (old new : Spread) (position dist end : ℕ) (nearer : Bool) : 
   pub current : new.current ≡ dist
   pub best : new.best ≡ min old.best end
   pub ends : EndsAgain old new position end nearer
-
--- the nearest end is the nearer of two, where nothing else of what is reached changes
-pub record Ends (old new : Reached) (position end : ℕ) (nearer : Bool) : Type 0 where
-  pub best : new.best ≡ min old.best end
-  pub ends : EndsAgain (spread old) (spread new) position end nearer
-  pub rest : new ≡ record old { best = new.best; best_record = new.best_record }
 
 -- a record of A joins, where nothing else of what is reached changes
 pub record JoinsReached (old new : Reached) (position dist price : ℕ) (nearer : Bool) : Type 0 where

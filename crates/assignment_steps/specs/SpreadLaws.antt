@@ -1,6 +1,5 @@
 -- Laws of all that a search has reached (`IsSpread`): what a step of the search keeps of it. Both assigners cite them.
-use Rattle.std.proofs.Common.{◌≡◌, ◌≢◌, ◌⊎◌, ℕ, ◌+◌, ◌<◌, ◌≤◌, min, Bool, List, [], ◌∷◌, ◌++◌, length, set, Some, refl, ap, sym, ◌∙◌, inl, inr, arith, get_or-set_other, get_or-set_same}
-use Rattle.std.specs.Prelude.{All, Contains}
+use Rattle.std.proofs.Common.{◌≡◌, ◌≢◌, ◌⊎◌, ℕ, ◌+◌, ◌<◌, ◌≤◌, min, Bool, List, [], ◌∷◌, ◌++◌, length, set, Some, refl, ap, sym, ◌∙◌, inl, inr, arith, get_or-set_other, get_or-set_same, All, Contains}
 use Rattle.std.proofs.lemmas.Bool.{cases_eq, cases_lt}
 use Rattle.std.proofs.lemmas.List.{length-set, length_push}
 use Rattle.std.proofs.lemmas.List.Elements.{All-contains, Contains-push, Contains-append_left}

@@ -12,14 +12,12 @@
 
 mod adopt;
 mod candidates;
-mod covering;
 mod left;
 mod market;
 mod maybe_edge;
 mod other_links;
 mod queue;
 mod reaching;
-mod room;
 mod shift;
 mod starts;
 mod tight;
@@ -27,15 +25,13 @@ mod turned;
 
 pub use adopt::{adopt_all, adopt_proposal};
 pub use candidates::{edges_of, linked};
-pub use covering::first_prices;
 pub use left::waiting;
 pub use market::{Board, Edge, Field, Grown, Net, Proposal, Ways};
 pub use maybe_edge::{MaybeEdge, has_link, link_of};
 pub use other_links::join_as_turned;
 pub use queue::{DistanceQueue, FARTHEST, Near};
-pub use reaching::{Reached, reach_over};
-pub use room::{Distances, no_distances, no_links, zeros};
-pub use shift::{lower, raise, raise_to};
+pub use reaching::Reached;
+pub use shift::{first_prices, raise_to};
 pub use starts::starts_of;
 pub use tight::link_tight;
 pub use turned::turned_edges;

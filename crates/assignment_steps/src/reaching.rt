@@ -1,14 +1,13 @@
 // What a search has reached from its root.
-ghost use Rattle.std.specs.Prelude.{◌≡◌, ◌+◌, ◌-◌, ◌<◌, ◌≤◌, ℕ, length, [], ◌∷◌, ◌++◌, vec_len, vec_capacity, Contains, IfOk, MatchOption};
+ghost use Rattle.std.specs.Prelude.{◌≡◌, ◌+◌, ◌-◌, ◌<◌, ◌≤◌, ℕ, length, vec_len, Contains, IfOk, MatchOption};
 ghost use Rattle.link_limits.specs.declared.TheConstants.{MOST_VALUE};
 ghost use Rattle.assignment_steps.specs.Market.{edge, number};
 ghost use Rattle.assignment_steps.specs.Distances.{distance, far};
 ghost use Rattle.assignment_steps.specs.Reached.{HasRoomForRecords, IsAtRest, IsClean};
-ghost use Rattle.assignment_steps.specs.Spread.{Adds, Ends, IsNearer, IsRelaxed, IsSearchable, JoinsReached, Notes, Reaches, Shifts, edge_of, paid, spread};
+ghost use Rattle.assignment_steps.specs.Spread.{IsNearer, IsRelaxed, IsSearchable, JoinsReached, Notes, Reaches, Shifts, edge_of, paid, spread};
 
 use crate::market::{Field, Grown};
 use crate::queue::{DistanceQueue, FARTHEST};
-use crate::room::no_distances;
 use crate::shift::{lower, raise};
 use link_base::NoMemory;
 use std::alloc::Global;
@@ -33,7 +32,7 @@ pub struct Reached {
 }
 
 /// How far a record of B is over the edge `k`, by the distance of its record of A and what the prices leave.
-pub fn reach_over(field: Field<'_>, dist_a: &[u32], k: usize) -> u32
+fn reach_over(field: Field<'_>, dist_a: &[u32], k: usize) -> u32
     requires place { k < length field.edges.now }
     requires ready { IsSearchable field }
     requires records { length dist_a.now ≡ length field.price_a.now }
@@ -45,43 +44,31 @@ pub fn reach_over(field: Field<'_>, dist_a: &[u32], k: usize) -> u32
     dist_a[a] + (field.price_a[a] + field.price_b[edge.b as usize] - edge.value)
 }
 
-// Puts a record at the end of a list that has room.
-fn note(list: &mut Vec<u32>, position: u32)
-    requires { vec_len list.old < vec_capacity list.old }
-    ensures items { list.new.items ≡ list.old.items ++ position ∷ [] }
-    ensures len { vec_len list.new ≡ vec_len list.old + 1 }
-    ensures capacity { vec_capacity list.old ≤ vec_capacity list.new }
-{
-    let _ = list.push(position);
-}
-
 impl Reached {
     /// Nothing is reached; there is room for all records, and for so many entries in the queue.
     pub fn new(alloc: Global, rows_a: u32, rows_b: u32, entries: usize) -> Result<Reached, NoMemory>
         ensures rest { IfOk result (IsAtRest rows_a rows_b entries) }
         ensures current { IfOk result (λ r. r.current ≡ 0) }
     {
-        let of_a = no_distances(alloc, rows_a as usize)?;
-        let of_b = no_distances(alloc, rows_b as usize)?;
-        match DistanceQueue::new(alloc, entries) {
-            Ok(frontier) => Ok(Reached {
-                dist_a: of_a.dist,
-                rank: of_a.number,
-                dist_b: of_b.dist,
-                from: of_b.number,
-                records: of_a.reached,
-                touched: of_b.reached,
-                frontier,
-                current: 0,
-                best: 0,
-                best_record: 0,
-            }),
-            Err(error) => {
-                drop(of_a);
-                drop(of_b);
-                Err(error)
-            }
-        }
+        let dist_a = vec![in alloc; FARTHEST; rows_a as usize]?;
+        let rank = vec![in alloc; 0u32; rows_a as usize]?;
+        let records = Vec::with_capacity(alloc, rows_a as usize)?;
+        let dist_b = vec![in alloc; FARTHEST; rows_b as usize]?;
+        let from = vec![in alloc; 0u32; rows_b as usize]?;
+        let touched = Vec::with_capacity(alloc, rows_b as usize)?;
+        let frontier = DistanceQueue::new(alloc, entries)?;
+        Ok(Reached {
+            dist_a,
+            rank,
+            dist_b,
+            from,
+            records,
+            touched,
+            frontier,
+            current: 0,
+            best: 0,
+            best_record: 0,
+        })
     }
 
     /// How far a record of B is over the edge `k`, where that is nearer than it was reached and than the nearest end.
@@ -102,32 +89,6 @@ impl Reached {
         Some(far)
     }
 
-    // A record of A that was not reached is noted at a distance, which is the newest.
-    fn add(&mut self, position: usize, dist: u32)
-        requires within { position < vec_len self.old.dist_a }
-        requires near { dist ≤ MOST_VALUE }
-        requires new { distance self.old.dist_a.items position ≡ far }
-        requires room { HasRoomForRecords (vec_len self.old.dist_a) (vec_len self.old.dist_b) self.old }
-        ensures { Adds self.old self.new position dist }
-    {
-        self.dist_a[position] = dist;
-        self.rank[position] = self.records.len() as u32;
-        note(&mut self.records, position as u32);
-        self.current = dist;
-    }
-
-    // The nearest end is at a record of A where that is nearer than each before. Says whether it is.
-    fn end_at(&mut self, position: usize, end: u32) -> bool
-        ensures { Ends self.old self.new position end result }
-    {
-        if self.best <= end {
-            return false;
-        }
-        self.best = end;
-        self.best_record = position;
-        true
-    }
-
     /// A record of A that was not reached joins at a distance, which is the newest. Says whether it is a nearer end than
     /// each before, by its price, which then is the nearest.
     pub fn join(&mut self, position: usize, dist: u32, price: u32) -> bool
@@ -138,8 +99,17 @@ impl Reached {
         requires room { HasRoomForRecords (vec_len self.old.dist_a) (vec_len self.old.dist_b) self.old }
         ensures { JoinsReached self.old self.new position dist price result }
     {
-        self.add(position, dist);
-        self.end_at(position, dist + price)
+        self.dist_a[position] = dist;
+        self.rank[position] = self.records.len() as u32;
+        self.records.push_reserved(position as u32);
+        self.current = dist;
+        let end = dist + price;
+        if self.best <= end {
+            return false;
+        }
+        self.best = end;
+        self.best_record = position;
+        true
     }
 
     /// The nearest end, which is at the record of B `free`, if at one.
@@ -162,7 +132,7 @@ impl Reached {
         if self.dist_b[b] != FARTHEST {
             return;
         }
-        note(&mut self.touched, b as u32);
+        self.touched.push_reserved(b as u32);
     }
 
     /// Puts a record of B at a shorter distance by the edge `k`, and into the queue; `first` asks that its turn come before

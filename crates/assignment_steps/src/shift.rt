@@ -1,10 +1,13 @@
-// Prices that are changed: up to a value, or by distances.
-ghost use Rattle.std.specs.Prelude.{◌≡◌, ◌+◌, ◌-◌, ◌<◌, ◌≤◌, ◌^◌, ℕ, All, Contains, length};
-ghost use Rattle.assignment_steps.specs.Between.{RaisesTo};
-ghost use Rattle.assignment_steps.specs.Market.{number};
+// Prices that cover the edges, and prices that are changed by distances.
+ghost use Rattle.std.specs.Prelude.{◌≡◌, ◌+◌, ◌-◌, ◌<◌, ◌≤◌, ◌^◌, ℕ, All, Contains, IfOk, length};
+ghost use Rattle.assignment_steps.specs.Between.{RaisesTo, ReachAll};
+ghost use Rattle.assignment_steps.specs.Market.{number, AreSmall, IsInRange};
 ghost use Rattle.assignment_steps.specs.Distances.{distance};
 
+use crate::market::Edge;
 use crate::queue::FARTHEST;
+use link_base::NoMemory;
+use std::alloc::Global;
 
 /// A price that is at least this value.
 pub fn raise_to(prices: &mut [u32], position: usize, value: u32)
@@ -16,8 +19,28 @@ pub fn raise_to(prices: &mut [u32], position: usize, value: u32)
     }
 }
 
+/// For each record of A the most by which the value of one of its edges passes the price of B, or 0.
+pub fn first_prices(
+    alloc: Global,
+    edges: &[Edge],
+    price_b: &[u32],
+    rows_a: usize,
+) -> Result<Vec<u32>, NoMemory>
+    requires small { AreSmall edges.now }
+    requires in_range { IsInRange edges.now rows_a (length price_b.now) }
+    ensures { IfOk result (λ v. ReachAll edges.now rows_a v.items price_b.now) }
+{
+    let mut prices = vec![in alloc; 0u32; rows_a]?;
+    for k in 0..edges.len() {
+        let edge = edges[k];
+        let lacks = edge.value.saturating_sub(price_b[edge.b as usize]);
+        raise_to(&mut prices, edge.a as usize, lacks);
+    }
+    Ok(prices)
+}
+
 /// Each touched record's price rises by what its distance lacks to `end`, and the distances are put back.
-pub fn raise(prices: &mut [u32], dist: &mut [u32], touched: &[u32], end: u32)
+pub(crate) fn raise(prices: &mut [u32], dist: &mut [u32], touched: &[u32], end: u32)
     requires same { length prices.old ≡ length dist.old }
     requires end { end ≤ FARTHEST }
     requires in_range { All (λ r. r < length dist.old) touched.now }
@@ -35,7 +58,7 @@ pub fn raise(prices: &mut [u32], dist: &mut [u32], touched: &[u32], end: u32)
 }
 
 /// The same, with prices that fall.
-pub fn lower(prices: &mut [u32], dist: &mut [u32], touched: &[u32], end: u32)
+pub(crate) fn lower(prices: &mut [u32], dist: &mut [u32], touched: &[u32], end: u32)
     requires same { length prices.old ≡ length dist.old }
     requires end { end ≤ FARTHEST }
     requires in_range { All (λ r. r < length dist.old) touched.now }

@@ -1,5 +1,5 @@
 -- Machinery of the index and of walks: laws of filters of positions. Those whose tests agree below the end are one list.
-use Rattle.std.proofs.Common.{◌≡◌, ◌<◌, ◌+◌, ◌==◌, [], ℕ, zero, suc, Bool, true, false, refl, sym, filter, arith, eqb-true}
+use Rattle.std.proofs.Common.{◌≡◌, ◌<◌, ◌+◌, [], ℕ, zero, suc, Bool, true, false, refl, sym, filter, arith}
 use Rattle.std.specs.List.{range_with_len}
 
 -- a test that is true just where another is
@@ -8,9 +8,6 @@ same-test true true f g = refl
 same-test true false f g = sym (f refl)
 same-test false true f g = g refl
 same-test false false f g = refl
-
-pub apart : (a b : ℕ) → (a ≡ b → ⊥) → (a == b) ≡ false
-apart a b ne = same-test (a == b) false (λ h. absurd (ne (eqb-true a b h))) (λ h. cc)
 
 -- filters of one list that agree below a bound are equal
 pub filter-agree : (p q : ℕ → Bool) (n count : ℕ) → ((j : ℕ) → j < n + count → p j ≡ q j) → filter p (range_with_len n count) ≡ filter q (range_with_len n count)

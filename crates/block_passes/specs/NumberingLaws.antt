@@ -1,8 +1,7 @@
 -- Machinery of the index: laws of numbers that stand for codes. A code that is taken has a number, the rows with the number of a code are those
 -- with the code, and what one number more adds.
-use Rattle.std.proofs.Common.{◌≡◌, ◌<◌, ◌≤◌, ◌==◌, List, [], ◌∷◌, ◌++◌, ℕ, Bool, true, false, Option, Some, None, refl, sym, ◌∙◌, ap, length, length-append, filter, get_or, arith, inl, inr, bytes_eq, nat_lt, ◌+◌, subst, eq-eqb, eqb-true}
+use Rattle.std.proofs.Common.{◌≡◌, ◌<◌, ◌≤◌, ◌==◌, List, [], ◌∷◌, ◌++◌, ℕ, Bool, true, false, Option, Some, None, refl, sym, ◌∙◌, ap, length, length-append, filter, get_or, arith, inl, inr, bytes_eq, nat_lt, ◌+◌, subst, eq-eqb, eqb-true, slice_get}
 use Rattle.std.specs.List.{list_any, position_or_len, range_with_len}
-use Rattle.std.specs.Prelude.{slice_get}
 use Rattle.value_pool.specs.Texts.{place_among}
 use Rattle.std.proofs.lemmas.Bool.{cases_Bool, cases_lt, false≢true}
 use Rattle.std.proofs.lemmas.List.{get_or_past}

@@ -5,7 +5,7 @@ ghost use Rattle.block_passes.specs.Codes.{coded_text, has_marked, is_marked, ma
 ghost use Rattle.block_passes.specs.Index.{AreReady};
 
 use crate::coded_rows::CodedRows;
-use crate::parts::part_text;
+use crate::keys::part_text;
 use link_base::{NoMemory, StdFile};
 use value_forms::{Pass, bytes_of};
 

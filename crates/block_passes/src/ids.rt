@@ -7,7 +7,7 @@ ghost use Rattle.block_passes.specs.Keys.{AreReadable, InRange, IsPartReadable, 
 ghost use Rattle.value_forms.specs.declared.passes.Part.{Part as KeyPart};
 ghost use Rattle.link_base.specs.declared.standard.Value.{Value};
 
-use crate::parts::part_text;
+use crate::keys::part_text;
 use link_base::{NoMemory, Row};
 use std::alloc::Global;
 use std::marker::Model;

@@ -1,14 +1,23 @@
 // The key of a row in a pass.
-ghost use Rattle.std.specs.Prelude.{◌≡◌, IfOk};
+ghost use Rattle.std.specs.Prelude.{◌≡◌, ◌<◌, IfOk, length, option_map};
 ghost use Rattle.block_passes.specs.Codes.{coded_texts};
-ghost use Rattle.block_passes.specs.Keys.{AreReadable, InRange, key_in_pass};
+ghost use Rattle.block_passes.specs.Keys.{AreReadable, InRange, IsPartReadable, key_in_pass, part_key};
+ghost use Rattle.value_forms.specs.CanonTexts.{canon_bytes};
 
 use crate::codes::push_text;
-use crate::parts::part_text;
 use link_base::{NoMemory, Row, Text};
 use std::alloc::Global;
 use std::marker::Model;
-use value_forms::{Pass, bytes_of};
+use value_forms::{CanonText, Part, Pass, bytes_of, canon_text};
+
+/// The part of a key that a row has, `None` exactly where its value makes none.
+pub fn part_text<'r>(row: &Row<'r>, part: Part) -> Option<CanonText<'r>>
+    requires within { part.field < length row.now }
+    requires readable { IsPartReadable row.now part }
+    ensures { option_map canon_bytes result ≡ part_key row.now part }
+{
+    canon_text(part.key, &row.value(part.field as usize))
+}
 
 /// The key of a row in a pass, which contracts see as the list of its texts, one a part.
 #[derive(Drop)]

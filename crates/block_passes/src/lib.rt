@@ -10,14 +10,11 @@ mod index;
 mod keys;
 mod numbering;
 mod part_ids;
-mod part_numbers;
-mod parts;
 mod pass_ids;
 
 pub use id_index::{IdIndex, build_index_in};
 pub use ids::{IdKey, id_key, ids_tell_keys};
 pub use index::{Index, PassRows, build_index};
-pub use keys::{PassKey, pass_key};
+pub use keys::{PassKey, part_text, pass_key};
 pub use part_ids::{KeyedPool, key_ids};
-pub use parts::part_text;
 pub use pass_ids::count_parts;

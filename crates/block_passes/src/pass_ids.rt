@@ -1,11 +1,13 @@
 // The ids of one pass, among those of all passes.
-ghost use Rattle.std.specs.Prelude.{◌≡◌, ◌<◌, ◌*◌, ◌^◌, ◌-◌, [], length, min, slice_index_or, take, ⊤};
+ghost use Rattle.std.specs.Prelude.{◌≡◌, ◌<◌, ◌*◌, ◌^◌, ◌-◌, [], IfOk, length, min, slice_index_or, take, ⊤};
 ghost use Rattle.block_passes.specs.KeyIds.{parts_in};
-ghost use Rattle.block_passes.specs.PassIds.{code_at, rows_in_pass};
+ghost use Rattle.block_passes.specs.PassIds.{AreFirstIds, code_at, first_number, rows_in_pass};
 
 use crate::coded_rows::CodedRows;
 use crate::ids::push_id;
+use crate::numbering::NO_NUMBER;
 use link_base::NoMemory;
+use std::alloc::Global;
 use std::marker::Model;
 use value_forms::Pass;
 use value_pool::MaybeId;
@@ -92,4 +94,29 @@ impl<'k> CodedRows for PassIds<'k> {
         }
         Ok(true)
     }
+}
+
+// The place of the first of some ids.
+fn first_number(ids: &[MaybeId]) -> u32
+    ensures { result ≡ first_number ids.now }
+{
+    let Some(first) = ids.first() else {
+        return NO_NUMBER;
+    };
+    match first.get() {
+        None => NO_NUMBER,
+        Some(id) => id.place(),
+    }
+}
+
+/// The places of the first ids, row by row.
+pub(crate) fn part_numbers(alloc: Global, keys: &PassIds<'_>) -> Result<Vec<u32>, NoMemory>
+    ensures few { IfOk result (λ numbers. length numbers.items < 2 ^ 32) }
+    ensures numbers { IfOk result (λ numbers. AreFirstIds keys.now (length keys.now) numbers.items) }
+{
+    let mut numbers = Vec::with_capacity(alloc, keys.rows() as usize)?;
+    for at in 0..keys.rows() {
+        numbers.push(first_number(keys.row(at)))?;
+    }
+    Ok(numbers)
 }

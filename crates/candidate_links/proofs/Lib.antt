@@ -1,4 +1,2 @@
 pub mod ValueLemmas
 pub mod ListedLemmas
-pub mod PriceLemmas
-pub mod RowLemmas

@@ -1,16 +1,22 @@
 -- The capacities after one more row: the record that it names has the row's capacity, and every other record what it had.
-use Rattle.std.proofs.Common.{◌≡◌, ◌≢◌, ◌<◌, AllPairs, ◌+◌, ◌∷◌, ◌∙◌, ℕ, List, [], length, map, replicate, set, take, get_or, Bool, true, false, Some, cond, ◌⊎◌, inl, inr, refl, sym, ap, arith, subst}
-use Rattle.std.specs.Prelude.{bytes_eq}
+use Rattle.std.proofs.Common.{◌≡◌, ◌≢◌, ◌<◌, AllPairs, ◌+◌, ◌∷◌, ◌∙◌, ℕ, List, [], length, map, replicate, set, take, get_or, Bool, true, false, Some, cond, ◌⊎◌, inl, inr, refl, sym, ap, arith, subst, bytes_eq, ◌≤◌, ◌++◌, ℤ, pos, ◌&&◌, suc, drop, if◌then◌else◌, Option, None, Result, Ok, drop-cons, nat_le}
 use Rattle.std.specs.List.{find}
 use Rattle.std.proofs.lemmas.Bool.{cases_eq, cases_order, false_from_ne_true}
-use Rattle.std.proofs.lemmas.List.{ext_get_or, get_or-map, get_or-set_other, get_or-set_same, get_or-take, length-map, length-set, length-take-le, take_more}
+use Rattle.std.proofs.lemmas.List.{ext_get_or, get_or-map, get_or-set_other, get_or-set_same, get_or-take, length-map, length-set, length-take-le, take_more, take_all}
 use Rattle.std.proofs.lemmas.List.Quantifiers.{position-Some}
 use Rattle.std.proofs.lemmas.List.Recursion.{found_at, found_push_other}
 use Rattle.std.proofs.lemmas.Slice.Eq.{bytes_eq-Decides}
-use Rattle.csv_rows.specs.Numbers.{number_in}
+use Rattle.csv_rows.specs.Numbers.{number_in, is_decimal}
 use Rattle.link_base.specs.Standard.{HaveDistinctIds, Record, no_record, position_of_id}
 use Rattle.file_reader.specs.Rows.{TableRow, no_row}
-use Rattle.candidate_links.specs.Capacities.{capacity_by, listed_capacity, capacity_text}
+use Rattle.candidate_links.specs.Capacities.{capacity_by, listed_capacity, capacity_text, after_rows, capacity_in, capacity_named}
+use Rattle.price_check.specs.Assignment.{price_of}
+use Rattle.link_base.specs.Answers.{and_then}
+use Rattle.link_base.specs.Fault.{Refuses}
+use Rattle.link_base.specs.declared.fault.Fault.{Fault}
+use Rattle.link_base.specs.AnswerLaws.{refuses_then}
+use Rattle.link_limits.specs.declared.TheConstants.{MOST_CAPACITY}
+use Rattle.file_reader.specs.Known.{or_fault}
 
 -- no row names a record, and each has one place
 pub unlisted : (b : List Record) → replicate (length b) 1 ≡ map (listed_capacity []) b
@@ -102,3 +108,45 @@ module _ (b : List Record) (rows : List TableRow) (at p : ℕ) (within : at < le
       at_each k lt =
           let within_b : k < length b = omega (arith, lt, length-set (map before b) p (number_in (capacity_text row)), length-map b before) in
           at_place k within_b (cases_eq k p) ∙ sym (get_or-map after b k no_record 0 within_b)
+
+-- Prices that are copied one by one.
+
+-- one more price
+pub price_next : (prices : List ℤ) (n : ℕ) (price : ℤ) (before after : List ℤ) → n < length prices → price ≡ price_of prices n → before ≡ take n prices → after ≡ before ++ price ∷ [] → after ≡ take (n + 1) prices
+price_next prices n price before after lt is so_far more = rw (more, so_far, is) (sym (take_more prices n (pos 0) lt))
+
+-- all prices
+pub all_prices : (prices : List ℤ) (n : ℕ) (copied : List ℤ) → length prices ≤ n → copied ≡ take n prices → copied ≡ prices
+all_prices prices n copied le so_far = so_far ∙ take_all n prices le
+
+-- Rows that are read one by one, and the capacity that a row gives.
+
+-- the number that a capacity is, where there is one
+is_number : (t : Bool) (f : Fault) (m n : ℕ) → or_fault f (if t then Some m else None) ≡ Ok n → n ≡ m
+is_number true f m n e = sym (ok_is m n e)
+  where
+    ok_is : (x y : ℕ) → or_fault f (Some x) ≡ Ok y → x ≡ y
+    ok_is x y e = cc e
+is_number false f m n e = absurd (cc e)
+
+given_number : (o : Option ℕ) (f g : Fault) (text : List ℕ) (n : ℕ) → and_then (or_fault f o) (λ at. or_fault g (capacity_named text)) ≡ Ok n → n ≡ number_in text
+given_number None f g text n e = absurd (cc e)
+given_number (Some at) f g text n e = is_number (is_decimal text && nat_le (number_in text) MOST_CAPACITY) g (number_in text) n e
+
+pub capacity_is : (b : List Record) (number : ℕ) (row : TableRow) (n : ℕ) → capacity_in b number row ≡ Ok n → n ≡ number_in (capacity_text row)
+capacity_is b number row n e = given_number (position_of_id row.id b) _ _ (capacity_text row) n e
+
+module _ (b : List Record) (given : List ℕ) (rows : List TableRow) (at : ℕ) (within : at < length rows) where
+  -- a row without a fault
+  pub row_told : (n : ℕ) → capacity_in b (at + 1) (get_or rows at no_row) ≡ Ok n
+      → after_rows b given (at + 1) (drop at rows) ≡ after_rows b given (at + 1 + 1) (drop (at + 1) rows)
+  row_told n told =
+      let one_more : suc at ≡ at + 1 = omega arith in
+      ap (after_rows b given (at + 1)) (drop-cons rows at no_row within)
+      ∙ ap (λ (r : Result ℕ Fault). and_then r (λ x. after_rows b given (at + 1 + 1) (drop (suc at) rows))) told
+      ∙ ap (λ k. after_rows b given (at + 1 + 1) (drop k rows)) one_more
+
+  -- a row at fault
+  pub row_refused : (f : Fault) → Refuses (capacity_in b (at + 1) (get_or rows at no_row)) f → Refuses (after_rows b given (at + 1) (drop at rows)) f
+  row_refused f h =
+      rw (drop-cons rows at no_row within) (refuses_then (capacity_in b (at + 1) (get_or rows at no_row)) (λ n. after_rows b given (at + 1 + 1) (drop (suc at) rows)) f h)

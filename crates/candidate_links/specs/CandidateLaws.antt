@@ -1,6 +1,5 @@
 -- Laws of the candidates of decided pairs (`candidates_of`): they are few, rise, and are between records that are there.
-use Rattle.std.proofs.Common.{◌≡◌, ◌≤◌, ℕ, List, [], ◌∷◌, Option, Some, None, length, refl, sym, ap, ◌∙◌, inl, inr, arith, subst}
-use Rattle.std.specs.Prelude.{ℤ, pos, ◌≤ℤ◌, All, AllPairs, filter_map}
+use Rattle.std.proofs.Common.{◌≡◌, ◌≤◌, ℕ, List, [], ◌∷◌, Option, Some, None, length, refl, sym, ap, ◌∙◌, inl, inr, arith, subst, ℤ, pos, ◌≤ℤ◌, All, AllPairs, filter_map}
 use Rattle.std.specs.List.{cons_option}
 use Rattle.std.proofs.lemmas.List.Elements.{All-cons, All-nil, All-tail, All-head, All-weaker}
 use Rattle.std.proofs.lemmas.Int.{ints}

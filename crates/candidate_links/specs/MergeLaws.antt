@@ -1,7 +1,6 @@
 -- Machinery of `candidates_among`: two rising lists taken together, and the filters of one rising list that together give what the whole list
 -- gives. No public clause names it.
-use Rattle.std.proofs.Common.{◌≡◌, ◌<◌, zero, suc, Bool, true, false, List, [], ◌∷◌, ◌++◌, Option, Some, None, cond, filter, drop, append_assoc, append-nil, refl, subst, sym, ap, ◌∙◌, inl, inr, arith}
-use Rattle.std.specs.Prelude.{All, AllPairs, IfSome, filter_map, option_to_list}
+use Rattle.std.proofs.Common.{◌≡◌, ◌<◌, zero, suc, Bool, true, false, List, [], ◌∷◌, ◌++◌, Option, Some, None, cond, filter, drop, append_assoc, append-nil, refl, subst, sym, ap, ◌∙◌, inl, inr, arith, All, AllPairs, IfSome, filter_map, option_to_list}
 use Rattle.std.specs.List.{cons_option}
 use Rattle.std.proofs.lemmas.Bool.Decides.{nat_tests}
 use Rattle.std.proofs.lemmas.List.Elements.{All-filter, All-push}

@@ -1,7 +1,6 @@
 -- Machinery of `choose_links`: rising candidates and links passed together leave the candidates that are not among the links. No public clause
 -- names it.
-use Rattle.std.proofs.Common.{◌≡◌, ◌<◌, ◌≤◌, ◌+◌, ℕ, zero, suc, Bool, true, false, List, [], ◌∷◌, ◌++◌, cond, filter, get_or, length, map, take, drop, ℤ, ◌+ℤ◌, append_assoc, append-nil, refl, sym, ap, ◌∙◌, inl, inr, arith, not}
-use Rattle.std.specs.Prelude.{All, AllPairs, Contains}
+use Rattle.std.proofs.Common.{◌≡◌, ◌<◌, ◌≤◌, ◌+◌, ℕ, zero, suc, Bool, true, false, List, [], ◌∷◌, ◌++◌, cond, filter, get_or, length, map, take, drop, ℤ, ◌+ℤ◌, append_assoc, append-nil, refl, sym, ap, ◌∙◌, inl, inr, arith, not, All, AllPairs, Contains}
 use Rattle.std.proofs.lemmas.Bool.Decides.{nat_tests}
 use Rattle.std.proofs.lemmas.Bool.{or_from}
 use Rattle.std.proofs.lemmas.Int.{ints}

@@ -1,5 +1,5 @@
 // The capacities in a file, row by row.
-ghost use Rattle.std.specs.Prelude.{◌≡◌, ◌≤◌, ◌<◌, ◌+◌, All, IfOk, IfSome, length, replicate, slice_index_or};
+ghost use Rattle.std.specs.Prelude.{◌≡◌, ◌≤◌, ◌<◌, ◌+◌, IfOk, IfSome, length, replicate, slice_index_or};
 ghost use Rattle.link_base.specs.Fault.{Gives, IsAnswer};
 ghost use Rattle.link_limits.specs.declared.TheConstants.{MOST_CAPACITY, MOST_ROWS};
 ghost use Rattle.file_reader.specs.Rows.{no_row};

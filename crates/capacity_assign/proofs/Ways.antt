@@ -8,8 +8,7 @@ use Rattle.assignment_steps.specs.Ways.{IsHop, above, Leads}
 use Rattle.assignment_steps.specs.Market.{AreLinked, AreTight, link, edge, number}
 use Rattle.capacity_assign.specs.Seating.{AreAllSeated, HasHole, free_records}
 use Rattle.assignment_steps.specs.LinkLaws.{link-set, linked_joined, tight_joined}
-use Rattle.capacity_assign.proofs.Links.{linked_at-set, free_records-set}
-use Rattle.capacity_assign.proofs.Seating.{all_taken, seat_left}
+use Rattle.capacity_assign.proofs.Links.{linked_at-set, free_records-set, all_taken, seat_left}
 use Rattle.assignment_steps.specs.WaysLaws.{leads_below, reached_by, goes_on, ends_at}
 
 -- What the walk keeps, from the links and seats as they were when it began.

@@ -12,7 +12,7 @@ ghost use Rattle.link_limits.specs.declared.TheConstants.{MOST_VALUE};
 
 use crate::alike::like_of;
 use crate::market::{Seats, Tree};
-use crate::phases::all_rounds;
+use crate::round::all_rounds;
 use crate::start::{listed_edges, start_of};
 use assignment_steps::{Edge, MaybeEdge, linked};
 use link_base::{Candidate, NoMemory};

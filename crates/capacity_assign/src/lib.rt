@@ -7,12 +7,8 @@ mod alike;
 mod assigner;
 mod grow;
 mod market;
-mod phases;
 mod round;
 mod seats;
-mod solve;
 mod start;
-mod tight;
-mod walk;
 
 pub use assigner::{CapacityAssigner, CapacityAssignment};

@@ -1,4 +1,5 @@
-// One round: a record of A is taken up, prices change, and links are turned round.
+// All of a solution: links over tight edges, and every record of A taken up in turn, by which prices change and links are turned
+// round.
 ghost use Rattle.std.specs.Prelude.{◌≡◌, ◌+◌, ◌<◌, length, None, MatchOption};
 ghost use Rattle.assignment_steps.specs.Market.{AreLinked, IsInRange, link, AreTight, AreListed};
 ghost use Rattle.capacity_assign.specs.Alike.{AreAlike};
@@ -10,8 +11,7 @@ ghost use Rattle.capacity_assign.specs.Seating.{AreSeats, HasPlace, seating};
 
 use crate::grow::search;
 use crate::market::{Ground, Hole, Seats, Tree};
-use crate::seats::add_seat;
-use crate::walk::walk;
+use crate::seats::{add_seat, link_tight, walk};
 use assignment_steps::{Edge, Field, MaybeEdge, Net, Ways, has_link, link_of};
 
 /// Turns the links round from where a tree ended: at a record of B with a place left, or at a record of A that
@@ -53,7 +53,7 @@ fn turn(
 
 /// Takes a record of A up. If it has no link, a tree grows from it, prices change by it, and links are turned round: afterwards
 /// it is linked, or its price is 0.
-pub fn take_up<'a>(
+fn take_up<'a>(
     edges: &'a [Edge],
     starts: &'a [u32],
     price_a: &mut [u32],
@@ -97,4 +97,34 @@ pub fn take_up<'a>(
         rank: &tree.reached.rank,
     };
     turn(net, ways, link_a, seats, grown.free, grown.last);
+}
+
+/// Links what is tight at first, and takes every record of A up in turn.
+pub fn all_rounds(
+    edges: &[Edge],
+    starts: &[u32],
+    price_a: &mut [u32],
+    price_b: &mut [u32],
+    link_a: &mut [MaybeEdge],
+    seats: &mut Seats,
+    like: &[usize],
+    tree: &mut Tree,
+)
+    requires listed { AreListed edges.now (length price_a.old) starts.now }
+    requires between { IsBetweenRounds edges.now price_a.old price_b.old link_a.old (seating seats.old) 0 }
+    requires alike { AreAlike edges.now (length price_a.old) like.now }
+    requires tree { IsAtRest (length price_a.old) (length price_b.old) (length edges.now) tree.old.reached }
+    ensures { Advances edges.now link_a.old seats.old.left.items price_a.new price_b.new link_a.new (seating seats.new) (length price_a.new) }
+{
+    let net = Net {
+        edges,
+        price_a,
+        price_b,
+    };
+    link_tight(net, link_a, seats);
+    for root in 0..price_a.len() {
+        take_up(
+            edges, starts, price_a, price_b, link_a, seats, like, tree, root,
+        );
+    }
 }

@@ -1,5 +1,5 @@
 // The ends of a command: a text for `out`, or puts one after the other.
-ghost use Rattle.std.specs.Prelude.{◌≡◌, IfErr, IfOk, map};
+ghost use Rattle.std.specs.Prelude.{◌≡◌, IfErr, IfOk};
 ghost use Rattle.command_scripts.specs.Due.{put_in, puts_in};
 ghost use Rattle.command_scripts.specs.Seen.{sink_seen, store_seen};
 ghost use Rattle.command_scripts.specs.declared.ends.Ended.TheVariants.{Done};

@@ -1,46 +1,44 @@
--- What the enums over the kinds answer: `FieldKind::of` and `FieldById::of` give the comparator of a kind, and the impls of
--- `Comparator` for both carry its outcome (member `outcome_of`).
-use Rattle.std.specs.Prelude.{Bool, true, false, Option, Some, None, is_some, ℕ, ℤ, pos, ◌<◌, length, ⊤}
+-- What values, and the ids and days that stand for them, are compared by: the outcomes of a kind keep the laws of a comparator
+-- (`value_laws`); `FieldById::of` gives the comparator of a kind over ids, and its impl of `Comparator` carries its outcome (member
+-- `outcome_of`).
+use Rattle.std.specs.Prelude.{◌≡◌, Bool, true, false, Option, Some, None, is_some, ℕ, ℤ, pos, ◌<◌, length, option_map, ⊤}
 use Rattle.link_base.specs.declared.rule.Outcome.{Outcome}
 use Rattle.value_forms.specs.declared.canons.CompareKind.{CompareKind}
 use Rattle.value_forms.specs.declared.canons.CompareKind.TheVariants as compare
 use Rattle.link_base.specs.declared.standard.Value.{Value}
 use Rattle.link_base.specs.Standard.{IsDay}
 use Rattle.value_forms.specs.Days.{year_of_day}
-use Rattle.comparators.specs.declared.fields.FieldKind.{FieldKind}
-use Rattle.comparators.specs.declared.fields.FieldKind.TheVariants as kind
 use Rattle.comparators.specs.declared.ids.IdValue.{IdValue}
 use Rattle.comparators.specs.declared.ids.IdValue.TheVariants as id
 use Rattle.comparators.specs.declared.ids.FieldById.{FieldById}
 use Rattle.comparators.specs.declared.ids.FieldById.TheVariants as field
-use Rattle.value_forms.specs.Canons.{canon_by, initials_canon, day_in, year_in}
-use Rattle.comparators.specs.Laws.{ComparatorLaws, outcome_by, outcome_of_texts, outcome_of_ids, outcome_of_counted, near}
-use Rattle.comparators.specs.LawsBy.{laws_by, text_laws, id_laws, rare_id_laws, near_laws}
+use Rattle.value_forms.specs.Canons.{canon_by, canon_of, compares_days, initials_canon, day_in, year_in}
+use Rattle.comparators.specs.Laws.{CanonLaws, ComparatorLaws, outcome_by, outcome_of_texts, outcome_of_ids, outcome_of_counted, near}
+use Rattle.comparators.specs.LawsBy.{canon_laws_by, laws_by, text_laws, id_laws, rare_id_laws, near_laws}
 
-abbrev pub kind_present : FieldKind → Value → Bool
-kind_present (kind.Same c) x = is_some (canon_by c.canon x)
-kind_present (kind.Initials c) x = is_some (initials_canon x)
-kind_present (kind.DaysWithin c) x = is_some (day_in x)
-kind_present (kind.YearsWithin c) x = is_some (year_in x)
+abbrev pub kind_present : CompareKind → Value → Bool
+kind_present (compare.Same canon) x = is_some (canon_by canon x)
+kind_present compare.Initials x = is_some (initials_canon x)
+kind_present (compare.DaysWithin t) x = is_some (day_in x)
+kind_present (compare.YearsWithin t) x = is_some (year_in x)
 
-abbrev pub kind_outcome : FieldKind → Value → Value → Outcome
-kind_outcome (kind.Same c) x y = outcome_by outcome_of_texts (canon_by c.canon x) (canon_by c.canon y)
-kind_outcome (kind.Initials c) x y = outcome_by outcome_of_texts (initials_canon x) (initials_canon y)
-kind_outcome (kind.DaysWithin c) x y = outcome_by (near c.t) (day_in x) (day_in y)
-kind_outcome (kind.YearsWithin c) x y = outcome_by (near c.t) (year_in x) (year_in y)
+abbrev pub kind_outcome : CompareKind → Value → Value → Outcome
+kind_outcome (compare.Same canon) x y = outcome_by outcome_of_texts (canon_by canon x) (canon_by canon y)
+kind_outcome compare.Initials x y = outcome_by outcome_of_texts (initials_canon x) (initials_canon y)
+kind_outcome (compare.DaysWithin t) x y = outcome_by (near t) (day_in x) (day_in y)
+kind_outcome (compare.YearsWithin t) x y = outcome_by (near t) (year_in x) (year_in y)
 
--- the comparator of a kind
-abbrev pub kind_of : CompareKind → FieldKind
-kind_of (compare.Same canon) = kind.Same (record { canon = canon })
-kind_of compare.Initials = kind.Initials (record {})
-kind_of (compare.DaysWithin t) = kind.DaysWithin (record { t = t })
-kind_of (compare.YearsWithin t) = kind.YearsWithin (record { t = t })
+pub kind_laws : (kind : CompareKind) → ComparatorLaws false (kind_present kind) (kind_outcome kind)
+kind_laws (compare.Same canon) = laws_by text_laws (canon_by canon)
+kind_laws compare.Initials = laws_by text_laws initials_canon
+kind_laws (compare.DaysWithin t) = laws_by (near_laws t) day_in
+kind_laws (compare.YearsWithin t) = laws_by (near_laws t) year_in
 
-pub kind_laws : (c : FieldKind) → ComparatorLaws false (kind_present c) (kind_outcome c)
-kind_laws (kind.Same c) = laws_by text_laws (canon_by c.canon)
-kind_laws (kind.Initials c) = laws_by text_laws initials_canon
-kind_laws (kind.DaysWithin c) = laws_by (near_laws c.t) day_in
-kind_laws (kind.YearsWithin c) = laws_by (near_laws c.t) year_in
+pub kind_canons : (kind : CompareKind) → compares_days kind ≡ false → CanonLaws (kind_present kind) (kind_outcome kind) (canon_of kind)
+kind_canons (compare.Same canon) h = canon_laws_by (canon_by canon)
+kind_canons compare.Initials h = canon_laws_by initials_canon
+kind_canons (compare.DaysWithin t) h = absurd (cc)
+kind_canons (compare.YearsWithin t) h = absurd (cc)
 
 abbrev pub id_in : IdValue → Option ℕ
 id_in id.Absent = None
@@ -53,14 +51,7 @@ day_of_id (id.Id place) = None
 day_of_id (id.Day day) = Some day
 
 abbrev pub year_of_id : IdValue → Option ℤ
-year_of_id id.Absent = None
-year_of_id (id.Id place) = None
-year_of_id (id.Day day) = Some (pos (year_of_day day))
-
--- an id that has a count, or none
-abbrev pub HasCount : Option ℕ → ℕ → Type 0
-HasCount None rows = ⊤
-HasCount (Some place) rows = place < rows
+year_of_id x = option_map (λ (day : ℤ). pos (year_of_day day)) (day_of_id x)
 
 abbrev pub IsIdOrAbsent : IdValue → Type 0
 IsIdOrAbsent id.Absent = ⊤
@@ -78,38 +69,38 @@ IsDayOrAbsent (id.Id place) = ⊥
 IsDayOrAbsent (id.Day day) = IsDay day
 
 abbrev pub IsFieldSide : FieldById → IdValue → Type 0
-IsFieldSide (field.Same c) x = IsIdOrAbsent x
-IsFieldSide (field.Rare c) x = IsCounted (length c.counts.items) x
-IsFieldSide (field.Days c) x = IsDayOrAbsent x
-IsFieldSide (field.Years c) x = IsDayOrAbsent x
+IsFieldSide field.Same x = IsIdOrAbsent x
+IsFieldSide (field.Rare most counts) x = IsCounted (length counts.items) x
+IsFieldSide (field.Days t) x = IsDayOrAbsent x
+IsFieldSide (field.Years t) x = IsDayOrAbsent x
 
 abbrev pub field_rare : FieldById → Bool
-field_rare (field.Same c) = false
-field_rare (field.Rare c) = true
-field_rare (field.Days c) = false
-field_rare (field.Years c) = false
+field_rare field.Same = false
+field_rare (field.Rare most counts) = true
+field_rare (field.Days t) = false
+field_rare (field.Years t) = false
 
 abbrev pub field_present : FieldById → IdValue → Bool
-field_present (field.Same c) x = is_some (id_in x)
-field_present (field.Rare c) x = is_some (id_in x)
-field_present (field.Days c) x = is_some (day_of_id x)
-field_present (field.Years c) x = is_some (year_of_id x)
+field_present field.Same x = is_some (id_in x)
+field_present (field.Rare most counts) x = is_some (id_in x)
+field_present (field.Days t) x = is_some (day_of_id x)
+field_present (field.Years t) x = is_some (year_of_id x)
 
 abbrev pub field_outcome : FieldById → IdValue → IdValue → Outcome
-field_outcome (field.Same c) x y = outcome_by outcome_of_ids (id_in x) (id_in y)
-field_outcome (field.Rare c) x y = outcome_by (outcome_of_counted c.most c.counts.items) (id_in x) (id_in y)
-field_outcome (field.Days c) x y = outcome_by (near c.t) (day_of_id x) (day_of_id y)
-field_outcome (field.Years c) x y = outcome_by (near c.t) (year_of_id x) (year_of_id y)
+field_outcome field.Same x y = outcome_by outcome_of_ids (id_in x) (id_in y)
+field_outcome (field.Rare most counts) x y = outcome_by (outcome_of_counted most counts.items) (id_in x) (id_in y)
+field_outcome (field.Days t) x y = outcome_by (near t) (day_of_id x) (day_of_id y)
+field_outcome (field.Years t) x y = outcome_by (near t) (year_of_id x) (year_of_id y)
 
 pub field_laws : (c : FieldById) → ComparatorLaws (field_rare c) (field_present c) (field_outcome c)
-field_laws (field.Same c) = laws_by id_laws id_in
-field_laws (field.Rare c) = laws_by (rare_id_laws c.most c.counts.items) id_in
-field_laws (field.Days c) = laws_by (near_laws c.t) day_of_id
-field_laws (field.Years c) = laws_by (near_laws c.t) year_of_id
+field_laws field.Same = laws_by id_laws id_in
+field_laws (field.Rare most counts) = laws_by (rare_id_laws most counts.items) id_in
+field_laws (field.Days t) = laws_by (near_laws t) day_of_id
+field_laws (field.Years t) = laws_by (near_laws t) year_of_id
 
 -- the comparator of a kind, over ids of canons or over days
 abbrev pub field_of : CompareKind → FieldById
-field_of (compare.Same canon) = field.Same (record {})
-field_of compare.Initials = field.Same (record {})
-field_of (compare.DaysWithin t) = field.Days (record { t = t })
-field_of (compare.YearsWithin t) = field.Years (record { t = t })
+field_of (compare.Same canon) = field.Same
+field_of compare.Initials = field.Same
+field_of (compare.DaysWithin t) = field.Days t
+field_of (compare.YearsWithin t) = field.Years t

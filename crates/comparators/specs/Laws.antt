@@ -1,5 +1,5 @@
--- What the answers of a comparator keep, and outcomes made from what is read of each side. The traits carry the laws
--- (`Comparator`, member `laws`; `KeyComparator`, member `canon_laws`), and each impl's `outcome_of` its outcome.
+-- What the answers of a comparator keep, and outcomes made from what is read of each side. The trait carries the laws
+-- (`Comparator`, member `laws`) and the impl's `outcome_of` its outcome; `value_laws` says them of values.
 use Rattle.std.specs.Prelude.{◌≡◌, Bool, true, false, not, ◌&&◌, Option, Some, None, is_some, List, ℕ, ◌==◌, nat_le, if◌then◌else◌, slice_index, ℤ, ◌-ℤ◌, unsigned_abs, bytes_eq}
 use Rattle.link_base.specs.declared.rule.Outcome.{Outcome}
 use Rattle.link_base.specs.declared.rule.Outcome.TheVariants.{Agree, Disagree, Missing, Rare}
@@ -23,7 +23,7 @@ pub record ComparatorLaws {S : Type 0} (rare : Bool) (present : S → Bool) (out
   pub missing : (x y : S) → is_missing (outcome x y) ≡ not (present x && present y)
   pub only_rare : (x y : S) → outcome x y ≡ Rare → rare ≡ true
 
--- the law of a comparator with a canon
+-- the laws of a comparison of canons
 pub record CanonLaws {S K : Type 0} (present : S → Bool) (outcome : S → S → Outcome) (canon : S → Option K) : Type 0 where
   pub present_at : (x : S) → is_some (canon x) ≡ present x
   pub alike : (x y : S) → present x ≡ true → present y ≡ true → canon x ≡ canon y → is_agreement (outcome x y) ≡ true

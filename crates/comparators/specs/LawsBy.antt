@@ -1,5 +1,4 @@
--- The laws of outcomes that are made from what is read of each side: proofs that the impls give as their members `laws`
--- and `canon_laws`.
+-- The laws of outcomes that are made from what is read of each side: the proofs of member `laws` and of `value_laws`.
 use Rattle.std.specs.Cmp.{nat_eq_equiv}
 use Rattle.std.proofs.Common.{◌≡◌, ℕ, ℤ, ◌-ℤ◌, nat_le, ◌==◌, slice_index, if◌then◌else◌, unsigned_abs, eqb-true, Bool, true, false, not, ◌&&◌, Option, Some, None, is_some, List, refl, ap, sym, ◌∙◌, arith}
 use Rattle.std.specs.Str.{bytes_eq}

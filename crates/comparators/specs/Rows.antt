@@ -1,5 +1,4 @@
--- Rows that stand one behind the other: what `IdTable` is seen as. `IdTable::push` carries it (clauses `fields`, `ok`), and
--- `IdTable::of` (clause `rows`).
+-- Rows that stand one behind the other: what `IdTable` is seen as. `IdTable::of` carries it (clause `rows`).
 use Rattle.std.specs.Prelude.{ℕ, zero, suc, List, [], ◌∷◌, take, drop}
 use Rattle.comparators.specs.declared.ids.IdValue.{IdValue}
 

@@ -1,10 +1,9 @@
 // Tables of ids, one row of them per record.
-ghost use Rattle.std.specs.Prelude.{◌≡◌, ◌+◌, ◌*◌, ◌<◌, ◌^◌, ◌++◌, ◌∷◌, [], IfOk, OnErr, OnOk, length};
+ghost use Rattle.std.specs.Prelude.{◌≡◌, ◌*◌, length};
 ghost use Rattle.comparators.specs.Rows.{rows_of_width};
 
 use crate::ids::IdValue;
-use link_base::{NoMemory, Sides};
-use std::alloc::Global;
+use link_base::Sides;
 use std::marker::Model;
 
 /// A table of ids, row by row. Contracts see it as the number of values of a row and the list of its rows.
@@ -28,18 +27,6 @@ impl Model for IdTable {
 }
 
 impl IdTable {
-    /// The table of no rows, for rows of so many values.
-    pub fn new(alloc: Global, fields: u8) -> Result<IdTable, NoMemory>
-        ensures fields { IfOk result (λ table. table.fields ≡ fields) }
-        ensures rows { IfOk result (λ table. table.rows ≡ []) }
-    {
-        Ok(IdTable {
-            values: Vec::new(alloc),
-            rows: 0,
-            fields,
-        })
-    }
-
     /// The table of so many rows of so many values, which stand one behind the other.
     pub fn of(fields: u8, rows: u32, values: Vec<IdValue>) -> IdTable
         requires { length values.items ≡ rows * fields }
@@ -51,21 +38,6 @@ impl IdTable {
             rows,
             fields,
         }
-    }
-
-    /// Appends a row. A table has at most 4,294,967,295 rows.
-    pub fn push(&mut self, row: &[IdValue]) -> Result<(), NoMemory>
-        requires width { length row.now ≡ self.old.fields }
-        requires room { length self.old.rows + 1 < 2 ^ 32 }
-        ensures fields { self.new.fields ≡ self.old.fields }
-        ensures ok { OnOk result (self.new.rows ≡ self.old.rows ++ row.now ∷ []) }
-        ensures err { OnErr result (self.new.rows ≡ self.old.rows) }
-    {
-        if self.values.extend_from_slice(row).is_err() {
-            return Err(NoMemory);
-        }
-        self.rows += 1;
-        Ok(())
     }
 }
 

@@ -1,3 +1,1 @@
-pub mod NumberLemmas
-pub mod RowLemmas
-pub mod ReadAgainFacts
+pub mod Lemmas

@@ -1,7 +1,6 @@
 -- Laws of the numbers that texts write in decimal digits: the digits of a number are read as it, and digits that are read are those of
 -- their number. The first is law `decimals_are_read`; the proofs of the crates above cite both here.
-use Rattle.std.proofs.Common.{◌≡◌, ◌<◌, ◌^◌, ◌∷◌, ℕ, zero, suc, List, [], Bool, true, false, get_or, length, ap, refl, arith}
-use Rattle.std.specs.Prelude.{◌==◌, ◌&&◌, ◌||◌, decimal, nat_le, not}
+use Rattle.std.proofs.Common.{◌≡◌, ◌<◌, ◌^◌, ◌∷◌, ℕ, zero, suc, List, [], Bool, true, false, get_or, length, ap, refl, arith, ◌==◌, ◌&&◌, ◌||◌, decimal, nat_le, not}
 use Rattle.std.specs.Char.{is_ascii_digit}
 use Rattle.std.specs.List.{list_all}
 use Rattle.std.proofs.lemmas.Bool.{and_parts, leb-true}

@@ -6,7 +6,7 @@ ghost use Rattle.file_reader.specs.Left.{records_in};
 ghost use Rattle.csv_rows.specs.ReadAgain.{HasNoMark};
 
 /// Law: the text of rows, each of some fields, reads as these rows, if it does not begin with a byte order mark.
-#[tactic(auto, using(crate::proofs::ReadAgainFacts::read_again))]
+#[tactic(auto, using(crate::proofs::Lemmas::read_again))]
 pub fn rows_read_again()
     ensures { (rows : List (List (List ℕ))) → All (λ row. 1 ≤ length row) rows
         → HasNoMark (flat_map (row_text default_writer) rows)

@@ -1,3 +1,1 @@
-pub mod FillLemmas
-pub mod CutSteps
-pub mod SumLemmas
+pub mod Lemmas

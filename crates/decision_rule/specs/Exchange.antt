@@ -1,6 +1,6 @@
 -- Tables whose links stand before their non-links, and what such a table and another rule have of the links among
 -- matched pairs and of the non-links among unmatched pairs (Fellegi and Sunter 1969, section 2): the law `exchange` and
--- `ExchangeLaws` speak of them, and `cut_form` says that a filled table is one.
+-- `ExchangeLaws` speak of them, and the law `filled` says that a filled table is one (clause `cut_form`).
 use Rattle.std.specs.Prelude.{◌≡◌, ℕ, ◌+◌, ◌*◌, ◌<◌, ◌≤◌, List, length, slice_index_or, sum_by, All, AllPairs}
 use Rattle.link_base.specs.Rule.{empty_cell}
 use Rattle.link_limits.specs.declared.TheConstants.{WHOLE_RULE}

@@ -1,5 +1,5 @@
 -- The filled rule of given shares and asked levels (Fellegi and Sunter 1969, section 2): `cut_rule` carries it by its
--- clause `filled`, and the law `one_filled` says that there is one at most.
+-- clause `filled`, and the law `filled` says that there is one at most (clause `one`).
 use Rattle.std.specs.Prelude.{ℕ, ℤ, ◌+◌, ◌-◌, ◌*◌, ◌^◌, ◌≤◌, List, map, reverse, length, All, AllPairs, IsPermutation}
 use Rattle.std.specs.List.{range_with_len}
 use Rattle.link_limits.specs.declared.TheConstants.{WHOLE_FIELD, WHOLE_RULE}

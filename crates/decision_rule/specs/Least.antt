@@ -1,5 +1,5 @@
 -- The least chance of a possible link (the theorem of Fellegi and Sunter 1969, section 2): `cut_rule` carries it by its
--- clause `least`, and the law `filled_is_least` says it of every filled table.
+-- clause `least`, and the law `filled` says it of every filled table (clause `least`).
 use Rattle.std.specs.Prelude.{ℕ, ◌*◌, ◌≤◌, List, sum_by}
 use Rattle.std.specs.List.{range_with_len}
 use Rattle.link_limits.specs.declared.TheConstants.{WHOLE_RULE}

@@ -1,5 +1,5 @@
 -- Randomised decision rules (Fellegi and Sunter 1969, section 2), and the two error levels and two chances of a possible
--- link of a table and of a rule. `attained` carries those of a table by its clause `levels`; the laws `exchange` and `filled_is_least` set them against those of every rule.
+-- link of a table and of a rule. `attained` carries those of a table by its clause `levels`; the laws `exchange` and `filled` set them against those of every rule.
 use Rattle.std.specs.Prelude.{◌≡◌, ℕ, ◌+◌, ◌-◌, ◌*◌, ◌^◌, ◌<◌, List, sum_by, All}
 use Rattle.link_limits.specs.declared.TheConstants.{WHOLE_FIELD, WHOLE_RULE}
 use Rattle.link_base.specs.declared.rule.Levels.{Levels}

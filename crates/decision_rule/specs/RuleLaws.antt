@@ -1,7 +1,6 @@
 -- Laws of the rule: sums over the cells of a filled table are sums over the patterns, the sort gives its order, its cells keep their ranges, and
 -- no randomised rule with levels at most its own has a lower chance of a possible link (Fellegi and Sunter 1969, section 2).
-use Rattle.std.proofs.Common.{◌≡◌, ℕ, Bool, false, eqb, ◌+◌, ◌*◌, ◌<◌, ◌≤◌, List, [], ◌∷◌, length, map, refl, ap, arith, sym, ◌∙◌, get_or}
-use Rattle.std.specs.Prelude.{ℤ, pos, ◌-ℤ◌, ◌≤ℤ◌}
+use Rattle.std.proofs.Common.{◌≡◌, ℕ, Bool, false, eqb, ◌+◌, ◌*◌, ◌<◌, ◌≤◌, List, [], ◌∷◌, length, map, refl, ap, arith, sym, ◌∙◌, get_or, ℤ, pos, ◌-ℤ◌, ◌≤ℤ◌}
 use Rattle.std.proofs.lemmas.Int.{ints}
 use Rattle.std.proofs.lemmas.Bool.Decides.{nat_tests}
 use Rattle.std.specs.List.{sum_by, All, AllPairs, range_with_len, IsDistinct}

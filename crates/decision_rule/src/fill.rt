@@ -19,7 +19,7 @@ fn cell_of(shares: &[FieldShares], pattern: u16) -> RuleCell
     let mut u: u64 = 1;
     let mut weight: i32 = 0;
     for field in shares {
-        below /= outcome_count(field);
+        below /= outcome_count(field.rare);
         let outcome = usize::from(rest / below);
         rest %= below;
         let share_m = field.m[outcome];

@@ -23,20 +23,13 @@ pub fn exchange()
 {}
 
 /// A filled table is least: among all randomised rules of every denominator whose levels are at most its own, none has
-/// a lower chance of a possible link, among matched or among unmatched pairs.
-pub fn filled_is_least()
-    ensures { (shares : List FieldShares) (mu_ppm lambda_ppm : ℕ) (cells : List RuleCell)
+/// a lower chance of a possible link, among matched or among unmatched pairs. At most one table is filled for given shares
+/// and levels, and it is in cut form.
+pub fn filled()
+    ensures least { (shares : List FieldShares) (mu_ppm lambda_ppm : ℕ) (cells : List RuleCell)
         → IsFilled shares mu_ppm lambda_ppm cells → IsLeast shares cells }
-{}
-
-/// A filled table is in cut form.
-pub fn cut_form()
-    ensures { (shares : List FieldShares) (mu_ppm lambda_ppm : ℕ) (cells : List RuleCell)
-        → IsFilled shares mu_ppm lambda_ppm cells → (i : ℕ) × (j : ℕ) × IsCutForm cells i j }
-{}
-
-/// At most one table is filled for given shares and levels.
-pub fn one_filled()
-    ensures { (shares : List FieldShares) (mu_ppm lambda_ppm : ℕ) (xs ys : List RuleCell)
+    ensures one { (shares : List FieldShares) (mu_ppm lambda_ppm : ℕ) (xs ys : List RuleCell)
         → IsFilled shares mu_ppm lambda_ppm xs → IsFilled shares mu_ppm lambda_ppm ys → xs ≡ ys }
+    ensures cut_form { (shares : List FieldShares) (mu_ppm lambda_ppm : ℕ) (cells : List RuleCell)
+        → IsFilled shares mu_ppm lambda_ppm cells → (i : ℕ) × (j : ℕ) × IsCutForm cells i j }
 {}

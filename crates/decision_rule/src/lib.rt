@@ -14,6 +14,6 @@ mod unit;
 
 pub use border::BorderWords;
 pub use choice::decide;
-pub use laws::{cut_form, exchange, filled_is_least, one_filled};
+pub use laws::{exchange, filled};
 pub use rule::cut_rule;
 pub use sums::attained;

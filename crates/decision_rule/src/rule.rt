@@ -2,7 +2,7 @@
 ghost use Rattle.std.specs.Prelude.{◌≡◌, ◌≤◌, length, vec_len, All};
 ghost use Rattle.patterns.specs.Chances.{pattern_count_of};
 ghost use Rattle.link_base.specs.Rule.{IsWithinRanges};
-ghost use Rattle.decision_rule.specs.Filled.{IsFilled, asked_of};
+ghost use Rattle.decision_rule.specs.Filled.{IsFilled};
 ghost use Rattle.decision_rule.specs.Least.{IsLeast};
 
 use crate::cuts::{cut_links, cut_nonlinks};
@@ -29,7 +29,7 @@ pub fn cut_rule(shares: &[FieldShares], mu_ppm: u32, lambda_ppm: u32, table: &mu
     cut_cells(shares, mu_ppm, lambda_ppm, cells);
 }
 
-/// The same on the cells.
+// The same on the cells.
 fn cut_cells(shares: &[FieldShares], mu_ppm: u32, lambda_ppm: u32, cells: &mut [RuleCell])
     requires fields { length shares.now ≤ MOST_FIELDS }
     requires mu { mu_ppm ≤ PER_MILLION }
@@ -39,17 +39,9 @@ fn cut_cells(shares: &[FieldShares], mu_ppm: u32, lambda_ppm: u32, cells: &mut [
     ensures in_range { All IsWithinRanges cells.new }
     ensures least { IsLeast shares.now cells.new }
 {
+    let whole = denominator(shares.len() as u8);
     fill(shares, cells);
     order(cells);
-    cut_links(cells, asked(shares, mu_ppm));
-    cut_nonlinks(cells, asked(shares, lambda_ppm));
-}
-
-/// An asked level in millionths of the unit that levels are counted in.
-fn asked(shares: &[FieldShares], ppm: u32) -> u128
-    requires fields { length shares.now ≤ MOST_FIELDS }
-    requires ppm { ppm ≤ PER_MILLION }
-    ensures { result ≡ asked_of shares.now ppm }
-{
-    u128::from(ppm) * denominator(shares.len() as u8)
+    cut_links(cells, u128::from(mu_ppm) * whole);
+    cut_nonlinks(cells, u128::from(lambda_ppm) * whole);
 }

@@ -3,11 +3,6 @@ ghost use Rattle.std.specs.Prelude.{◌≡◌, ◌*◌, ◌^◌, ◌≤◌};
 
 use link_limits::{MOST_FIELDS, WHOLE_FIELD, WHOLE_RULE};
 
-// The wholes as numbers of the width of a level.
-const FIELD: u128 = WHOLE_FIELD as u128;
-
-const RULE: u128 = WHOLE_RULE as u128;
-
 /// The denominator of the levels of a rule over so many fields: a pattern's chance is over 1,024 to the number of fields,
 /// and a cell's share over 65,536.
 pub fn denominator(fields: u8) -> u128
@@ -16,5 +11,5 @@ pub fn denominator(fields: u8) -> u128
     ensures some { 1 ≤ result }
     ensures small { result ≤ 2 ^ 76 }
 {
-    FIELD.pow(u32::from(fields)) * RULE
+    (WHOLE_FIELD as u128).pow(u32::from(fields)) * WHOLE_RULE as u128
 }

@@ -1,16 +1,16 @@
 -- What each step of a search keeps.
-use Rattle.std.proofs.Common.{◌≡◌, ◌≢◌, ℕ, zero, suc, ◌<◌, ◌≤◌, ◌+◌, cond, ltb, List, [], ◌∷◌, ◌++◌, length, set, get_or, refl, ap, sym, ◌∙◌, inl, inr, arith, None, Some}
-use Rattle.std.specs.Prelude.{All, count_by, nat_lt, slice_index}
+use Rattle.std.proofs.Common.{◌≡◌, ◌≢◌, ℕ, zero, suc, ◌<◌, ◌≤◌, ◌+◌, below_more, cond, ltb, List, [], ◌∷◌, ◌++◌, length, set, get_or, refl, ap, sym, ◌∙◌, inl, inr, arith, None, Some, All, count_by, nat_lt, slice_index, slice_index_or, ◌==◌, true, false, take}
 use Rattle.std.proofs.lemmas.Bool.{cases_eq, cases_lt, le-ltb, lt-ltb}
-use Rattle.std.proofs.lemmas.List.{get_or-set_other, get_or-set_same, get_or_append_left, get_or_default, get_or_push, length-set, length_push}
+use Rattle.std.proofs.lemmas.List.{get_or-set_other, get_or-set_same, get_or_append_left, get_or_default, get_or_push, length-set, length_push, append_assoc, flat_map_more, take_more}
 use Rattle.std.proofs.lemmas.List.Elements.{Contains-append_left, Contains-push}
-use Rattle.std.proofs.lemmas.List.Sums.{count_by-le-length, sum_by-set}
+use Rattle.std.proofs.lemmas.List.Sums.{count_by-le-length, sum_by-set, sum_by_more}
 use Rattle.link_base.specs.declared.rule.PairAt.{PairAt}
-use Rattle.dedup_groups.specs.Adjacency.{adjacency_of, both_ways}
+use Rattle.dedup_groups.specs.Adjacency.{adjacency_of, both_ways, arcs_from}
 use Rattle.dedup_groups.specs.Groups.{ShareALink, GroupLists, HaveRows, IsForest, IsLinkWithin, IsRooted, depth_of, leader_of, via_of}
 use Rattle.dedup_groups.specs.Search.{AreFound, AreNeighbours, AreAlone, IsNear, IsGathered, IsSearch, StandAlone, reached_lists, waiting_room}
-use Rattle.dedup_groups.proofs.ForestLemmas.{rooted_by}
-use Rattle.dedup_groups.proofs.NearLemmas.{length_near, linked_near, near_linked}
+use Rattle.dedup_groups.proofs.ForestLemmas.{rooted_by, length_near, linked_near, near_linked}
+use Rattle.std.specs.List.{flat_map}
+use Rattle.std.proofs.lemmas.Bool.Decides.{nat_tests}
 
 pub alone_later : (near : List (List ℕ)) (lists : GroupLists) (leader : ℕ) → StandAlone near lists leader → StandAlone near lists (leader + 1)
 alone_later near lists leader alone x lt le = alone x lt (omega arith)
@@ -133,7 +133,7 @@ module _ (near : List (List ℕ)) (lists : GroupLists) (queue : List ℕ) (done 
   same_depth : (x : ℕ) → x ≢ at → depth_of next x ≡ depth_of lists x
   same_depth x ne = get_or-set_other lists.depths at x (depth_of lists from + 1) 0 ne
 
-  new_leader : leader_of next at ≡ leader
+  pub new_leader : leader_of next at ≡ leader
   new_leader = get_or-set_same lists.leaders at leader 0 (rw s.rows.leaders at_low)
 
   new_via : via_of next at ≡ Some from
@@ -231,9 +231,6 @@ module _ (near : List (List ℕ)) (lists : GroupLists) (queue : List ℕ) (done 
   pub leader_kept : (x : ℕ) → leader_of lists x ≡ leader → leader_of next x ≡ leader
   leader_kept x e = same_leader x (not_at x (omega arith)) ∙ e
 
-  pub leader_reached : leader_of next at ≡ leader
-  leader_reached = new_leader
-
 -- one record fewer has a later leader
 pub fewer_later : (leaders : List ℕ) (at leader : ℕ) → at < length leaders → leader < slice_index leaders at
     → count_by (nat_lt leader) (set leaders at leader) + 1 ≡ count_by (nat_lt leader) leaders
@@ -270,3 +267,104 @@ room_first lists rows leader h = omega (arith, count_by-le-length (nat_lt leader
 pub room_kept : (lists : GroupLists) (queue : List ℕ) (leader at from : ℕ) → at < length lists.leaders → leader < leader_of lists at
     → waiting_room (reached_lists lists at from leader) (queue ++ at ∷ []) leader ≡ waiting_room lists queue leader
 room_kept lists queue leader at from lt later = omega (arith, fewer_later lists.leaders at leader lt later, length_push queue at)
+
+-- a search whose next record has so many neighbours with the leader
+pub record IsVisit (near : List (List ℕ)) (lists : GroupLists) (queue heads : List ℕ) (done leader from i room : ℕ) : Type 0 where
+  pub search : IsSearch near lists queue done leader
+  pub within : done < length queue
+  pub first : slice_index queue done ≡ from
+  pub told : (k : ℕ) → k < i → leader_of lists (slice_index heads k) ≡ leader
+  pub kept : waiting_room lists queue leader ≡ room
+
+module _ (near : List (List ℕ)) (lists : GroupLists) (queue heads : List ℕ) (done leader from i room : ℕ) (n : AreNeighbours near) (v : IsVisit near lists queue heads done leader from i room) (are : heads ≡ slice_index_or near from []) where
+  -- all neighbours have the leader
+  pub all_visited : length heads ≤ i → IsSearch near lists queue (done + 1) leader
+  all_visited past = search_more near lists queue done leader v.search (λ y h.
+      let h2 = rw (v.first, ← are) at h in
+      let is : slice_index heads h2.0 ≡ y = get_or_default heads h2.0 0 y h2.1 ∙ h2.2 in
+      ap (leader_of lists) (sym is) ∙ v.told h2.0 (omega (arith, h2.1)))
+
+  module _ (lt : i < length heads) where
+    abbrev head : ℕ
+    head = slice_index heads i
+
+    near_head : IsNear near (slice_index queue done) head
+    near_head = rw (v.first, ← are) (i, lt, get_or_default heads i head 0 lt)
+
+    pub head_within : head < length lists.leaders
+    head_within = (let inside = n.within (slice_index queue done) head near_head in omega (arith, inside, v.search.rows.leaders))
+
+    -- a neighbour that was reached before has the leader
+    pub visit_passed : leader_of lists head ≤ leader → IsVisit near lists queue heads done leader from (i + 1) room
+    visit_passed low =
+        let least = not_earlier near lists queue done leader n v.search (slice_index queue done) head (v.search.reached done v.within).1 near_head in
+        record {
+          search = v.search;
+          within = v.within;
+          first = v.first;
+          told = below_more (λ k. leader_of lists (slice_index heads k) ≡ leader) i v.told (omega (arith, low, least));
+          kept = v.kept;
+        }
+
+    -- another one is reached
+    pub visit_reached : (new : GroupLists) (more : List ℕ) → leader < leader_of lists head → new ≡ reached_lists lists head from leader → more ≡ queue ++ head ∷ [] → IsVisit near new more heads done leader from (i + 1) room
+    visit_reached new more later is pushed =
+        let at : ℕ = slice_index queue done in
+        let next : GroupLists = reached_lists lists head at leader in
+        let same : new ≡ next = is ∙ ap (λ f. reached_lists lists head f leader) (sym v.first) in
+        rw (same, pushed) (record {
+          search = search_reached near lists queue done leader head n v.search v.within near_head later;
+          within = omega (arith, v.within, length_push queue head);
+          first = get_or_append_left queue (head ∷ []) 0 done v.within ∙ v.first;
+          told = below_more (λ k. leader_of next (slice_index heads k) ≡ leader) i
+              (λ k low. leader_kept near lists queue done leader head n v.search v.within near_head later (slice_index heads k) (v.told k low))
+              (new_leader near lists queue done leader head n v.search v.within near_head later);
+          kept = room_kept lists queue leader head at head_within later ∙ v.kept;
+        })
+
+-- One step of a loop over arcs, records or positions.
+
+-- an item more of a list that is made item by item
+pub text_more : {A B : Type 0} (f : A → List B) (before now new : List B) (xs : List A) (i : ℕ) (none : A) → i < length xs → now ≡ before ++ flat_map f (take i xs) → new ≡ now ++ f (get_or xs i none)
+    → new ≡ before ++ flat_map f (take (i + 1) xs)
+text_more f before now new xs i none lt told grown =
+    let x = get_or xs i none in
+    grown ∙ ap (λ l. l ++ f x) told ∙ flat_map_more f before (take i xs) x ∙ ap (λ l. before ++ flat_map f l) (sym (take_more xs i none lt))
+
+-- a link more, in both orders
+pub ways_more : (now once new links : List PairAt) (i : ℕ) (none : PairAt) → i < length links → now ≡ both_ways (take i links) → once ≡ now ++ get_or links i none ∷ []
+    → new ≡ once ++ record { a = (get_or links i none).b; b = (get_or links i none).a } ∷ [] → new ≡ both_ways (take (i + 1) links)
+ways_more now once new links i none lt told first second =
+    let turned : PairAt → PairAt = λ l. record { a = l.b; b = l.a } in
+    let link = get_or links i none in
+    text_more (λ (l : PairAt). l ∷ turned l ∷ []) [] now new links i none lt told (second ∙ ap (λ (l : List PairAt). l ++ turned link ∷ []) first ∙ append_assoc now (link ∷ []) (turned link ∷ []))
+
+from_more : (arcs : List PairAt) (i : ℕ) (none : PairAt) (x : ℕ) → i < length arcs → arcs_from (take (i + 1) arcs) x ≡ arcs_from (take i arcs) x + cond ((get_or arcs i none).a == x) 1 0
+from_more arcs i none x lt = sum_by_more (λ (arc : PairAt). cond (arc.a == x) 1 0) arcs i none lt
+
+-- an arc more that is counted
+pub counted_more : (counts : List ℕ) (arcs : List PairAt) (i : ℕ) (none : PairAt) → i < length arcs → (get_or arcs i none).a < length counts
+    → ((x : ℕ) → x < length counts → get_or counts x 0 ≡ arcs_from (take i arcs) x)
+    → (x : ℕ) → x < length (set counts (get_or arcs i none).a (get_or counts (get_or arcs i none).a 0 + 1))
+    → get_or (set counts (get_or arcs i none).a (get_or counts (get_or arcs i none).a 0 + 1)) x 0 ≡ arcs_from (take (i + 1) arcs) x
+counted_more counts arcs i none lt within told x below =
+    let at = (get_or arcs i none).a in
+    let within2 : x < length counts = omega (arith, length-set counts at (get_or counts at 0 + 1)) in
+    elim (cases_eq x at) [
+      | inl e ↦
+          let here : (at == x) ≡ true = grind (arith, nat_tests) in
+          ap (λ k. get_or (set counts at (get_or counts at 0 + 1)) k 0) e ∙ get_or-set_same counts at (get_or counts at 0 + 1) 0 within
+          ∙ ap (λ n. n + 1) (ap (λ k. get_or counts k 0) (sym e) ∙ told x within2) ∙ sym (from_more arcs i none x lt ∙ ap (λ b. arcs_from (take i arcs) x + cond b 1 0) here)
+      | inr ne ↦
+          let other : (at == x) ≡ false = grind (arith, nat_tests) in
+          let same : arcs_from (take i arcs) x + 0 ≡ arcs_from (take i arcs) x = omega arith in
+          get_or-set_other counts at x (get_or counts at 0 + 1) 0 ne ∙ told x within2 ∙ sym (from_more arcs i none x lt ∙ ap (λ b. arcs_from (take i arcs) x + cond b 1 0) other ∙ same)
+    ]
+
+-- a position that is its own leader
+pub own_more : (leaders : List ℕ) (at : ℕ) → at < length leaders → ((x : ℕ) → x < at → get_or leaders x 0 ≡ x) → (x : ℕ) → x < at + 1 → get_or (set leaders at at) x 0 ≡ x
+own_more leaders at within told x lt =
+    elim (cases_eq x at) [
+      | inl e ↦ ap (λ k. get_or (set leaders at at) k 0) e ∙ get_or-set_same leaders at at 0 within ∙ sym e
+      | inr ne ↦ get_or-set_other leaders at x at 0 ne ∙ told x (omega (arith, lt))
+    ]

@@ -1,6 +1,5 @@
 -- The rows of groups, one group more.
-use Rattle.std.proofs.Common.{◌≡◌, ℕ, ◌<◌, ◌≤◌, ◌+◌, ◌++◌, ◌==◌, Bool, true, false, cond, List, [], ◌∷◌, length, map, filter, refl, ap, sym, ◌∙◌, arith, codes}
-use Rattle.std.specs.Prelude.{All, Option, if◌then◌else◌, nat_le, slice_index}
+use Rattle.std.proofs.Common.{◌≡◌, ℕ, ◌<◌, ◌≤◌, ◌+◌, ◌++◌, ◌==◌, Bool, true, false, cond, List, [], ◌∷◌, length, map, filter, refl, ap, sym, ◌∙◌, arith, codes, All, Option, if◌then◌else◌, nat_le, slice_index}
 use Rattle.std.specs.List.{enumerate_from, flat_map, range_with_len}
 use Rattle.std.proofs.lemmas.List.{append-nil, append_assoc, length-append, map-id}
 use Rattle.std.proofs.lemmas.List.Concat.{flat_map-append}

@@ -1,5 +1,5 @@
 // The groups of records.
-ghost use Rattle.std.specs.Prelude.{◌≡◌, ◌<◌, ◌≤◌, ◌^◌, IfSome, length};
+ghost use Rattle.std.specs.Prelude.{◌≡◌, ◌<◌, ◌≤◌, IfSome, length};
 ghost use Rattle.dedup_groups.specs.Groups.{depth_of, group_lists, leader_of, via_of};
 ghost use Rattle.dedup_groups.specs.Forest.{KeepsRows};
 

@@ -7,9 +7,10 @@ use crate::adjacency::Adjacency;
 use link_base::{NoMemory, PairAt};
 use std::alloc::Global;
 
-// Each link in both orders.
-fn arcs_of(alloc: Global, links: &[PairAt]) -> Result<Vec<PairAt>, NoMemory>
-    ensures { IfOk result (λ arcs. arcs.items ≡ both_ways links.now) }
+// The records that each record is linked with.
+pub(crate) fn neighbours(alloc: Global, rows: u32, links: &[PairAt]) -> Result<Adjacency, NoMemory>
+    requires { All (IsLinkWithin rows) links.now }
+    ensures { IfOk result (λ near. near ≡ adjacency_of rows (both_ways links.now)) }
 {
     let mut arcs = Vec::with_capacity(alloc, 2 * links.len())?;
     for link in links {
@@ -19,14 +20,5 @@ fn arcs_of(alloc: Global, links: &[PairAt]) -> Result<Vec<PairAt>, NoMemory>
             b: link.a,
         })?;
     }
-    Ok(arcs)
-}
-
-// The records that each record is linked with.
-pub(crate) fn neighbours(alloc: Global, rows: u32, links: &[PairAt]) -> Result<Adjacency, NoMemory>
-    requires { All (IsLinkWithin rows) links.now }
-    ensures { IfOk result (λ near. near ≡ adjacency_of rows (both_ways links.now)) }
-{
-    let arcs = arcs_of(alloc, links)?;
     Adjacency::new(alloc, rows, &arcs)
 }

@@ -1,8 +1,7 @@
 // The search in breadth for the groups.
-ghost use Rattle.std.specs.Prelude.{◌≡◌, ◌+◌, ◌<◌, ◌≤◌, ◌^◌, ◌++◌, ◌∷◌, [], ℕ, All, IfOk, OnOk, length, slice_index};
-ghost use Rattle.dedup_groups.specs.Forest.{KeepsRows};
+ghost use Rattle.std.specs.Prelude.{◌≡◌, ◌+◌, ◌<◌, ◌≤◌, ◌^◌, ◌++◌, ◌∷◌, [], All, IfOk, OnOk, length};
 ghost use Rattle.dedup_groups.specs.Groups.{AreLeaders, depth_of, HaveRows, IsForest, IsLinkWithin, leader_of};
-ghost use Rattle.dedup_groups.specs.Search.{AreFound, AreNeighbours, AreAlone, IsNear, IsSearch, reached_lists, waiting_room};
+ghost use Rattle.dedup_groups.specs.Search.{AreFound, AreNeighbours, AreAlone, IsSearch, reached_lists, waiting_room};
 ghost use Rattle.dedup_groups.specs.Trees.{lists_of};
 ghost use Rattle.link_limits.specs.declared.TheConstants.{MOST_PAIRS, MOST_ROWS};
 
@@ -22,24 +21,16 @@ struct Trees {
     queue: Vec<u32>,
 }
 
-// So many positions, each its own leader.
-fn single_leaders(alloc: Global, rows: u32) -> Result<Vec<u32>, NoMemory>
-    ensures count { IfOk result (λ leaders. length leaders.items ≡ rows) }
-    ensures single { IfOk result (λ leaders. (x : ℕ) → x < rows → slice_index leaders.items x ≡ x) }
+// So many records, each alone.
+fn single_trees(alloc: Global, rows: u32) -> Result<Trees, NoMemory>
+    ensures { IfOk result (λ trees. AreAlone rows (lists_of trees)) }
 {
     let mut leaders = vec![in alloc; 0u32; rows as usize]?;
     for at in 0..rows {
         leaders[at as usize] = at;
     }
-    Ok(leaders)
-}
-
-// So many records, each alone.
-fn single_trees(alloc: Global, rows: u32) -> Result<Trees, NoMemory>
-    ensures { IfOk result (λ trees. AreAlone rows (lists_of trees)) }
-{
     Ok(Trees {
-        leaders: single_leaders(alloc, rows)?,
+        leaders,
         vias: vec![in alloc; None; rows as usize]?,
         depths: vec![in alloc; 0u32; rows as usize]?,
         queue: Vec::new(alloc),
@@ -63,35 +54,7 @@ fn reach(trees: &mut Trees, at: u32, from: u32, leader: u32) -> Result<(), NoMem
     Ok(())
 }
 
-// Reaches a neighbour of a record in the queue, unless it was reached before.
-fn visit(
-    trees: &mut Trees,
-    near: &Adjacency,
-    at: u32,
-    done: usize,
-    leader: u32,
-) -> Result<(), NoMemory>
-    requires neighbours { AreNeighbours near.now }
-    requires search { IsSearch near.now (lists_of trees.old) trees.old.queue.items done leader }
-    requires done { done < length trees.old.queue.items }
-    requires near_at { IsNear near.now (slice_index trees.old.queue.items done) at }
-    requires room { waiting_room (lists_of trees.old) trees.old.queue.items leader < 2 ^ 32 }
-    ensures search { OnOk result (IsSearch near.now (lists_of trees.new) trees.new.queue.items done leader) }
-    ensures reached { OnOk result (leader_of (lists_of trees.new) at ≡ leader) }
-    ensures kept { OnOk result ((x : ℕ) → leader_of (lists_of trees.old) x ≡ leader → leader_of (lists_of trees.new) x ≡ leader) }
-    ensures queue { OnOk result ((k : ℕ) → k < length trees.old.queue.items → slice_index trees.new.queue.items k ≡ slice_index trees.old.queue.items k) }
-    ensures longer { OnOk result (length trees.old.queue.items ≤ length trees.new.queue.items) }
-    ensures room { OnOk result (waiting_room (lists_of trees.new) trees.new.queue.items leader ≡ waiting_room (lists_of trees.old) trees.old.queue.items leader) }
-{
-    if trees.leaders[at as usize] <= leader {
-        return Ok(());
-    }
-    let from = trees.queue[done];
-    reach(trees, at, from, leader)?;
-    Ok(())
-}
-
-// Reaches the neighbours of the next record in the queue.
+// Reaches the neighbours of the next record in the queue that were not reached before.
 fn visit_all(trees: &mut Trees, near: &Adjacency, done: usize, leader: u32) -> Result<(), NoMemory>
     requires neighbours { AreNeighbours near.now }
     requires search { IsSearch near.now (lists_of trees.old) trees.old.queue.items done leader }
@@ -101,20 +64,13 @@ fn visit_all(trees: &mut Trees, near: &Adjacency, done: usize, leader: u32) -> R
     ensures done { OnOk result (done < length trees.new.queue.items) }
     ensures room { OnOk result (waiting_room (lists_of trees.new) trees.new.queue.items leader ≡ waiting_room (lists_of trees.old) trees.old.queue.items leader) }
 {
-    let heads = near.heads(trees.queue[done]);
+    let from = trees.queue[done];
+    let heads = near.heads(from);
     for at in heads {
-        visit(trees, near, *at, done, leader)?;
+        if trees.leaders[*at as usize] > leader {
+            reach(trees, *at, from, leader)?;
+        }
     }
-    Ok(())
-}
-
-// Puts a leader into the queue, alone.
-fn begin(trees: &mut Trees, leader: u32) -> Result<(), NoMemory>
-    ensures lists { OnOk result (lists_of trees.new ≡ lists_of trees.old) }
-    ensures queue { OnOk result (trees.new.queue.items ≡ leader ∷ []) }
-{
-    trees.queue.clear();
-    trees.queue.push(leader)?;
     Ok(())
 }
 
@@ -127,7 +83,8 @@ fn search_from(trees: &mut Trees, near: &Adjacency, leader: u32) -> Result<(), N
     requires alone { leader_of (lists_of trees.old) leader ≡ leader }
     ensures { OnOk result (AreFound near.now (lists_of trees.new) (leader + 1)) }
 {
-    begin(trees, leader)?;
+    trees.queue.clear();
+    trees.queue.push(leader)?;
     let mut done = 0;
     'search: while done < trees.queue.len() {
         visit_all(trees, near, done, leader)?;
@@ -136,23 +93,7 @@ fn search_from(trees: &mut Trees, near: &Adjacency, leader: u32) -> Result<(), N
     Ok(())
 }
 
-// Searches from each leader in turn.
-fn search_all(trees: &mut Trees, near: &Adjacency, rows: u32) -> Result<(), NoMemory>
-    requires neighbours { AreNeighbours near.now }
-    requires rows { length near.now ≡ rows }
-    requires few { rows ≤ MOST_ROWS }
-    requires single { AreAlone rows (lists_of trees.old) }
-    ensures { OnOk result (AreFound near.now (lists_of trees.new) rows) }
-{
-    for leader in 0..rows {
-        if trees.leaders[leader as usize] == leader {
-            search_from(trees, near, leader)?;
-        }
-    }
-    Ok(())
-}
-
-// What the searches from all leaders reach.
+// What the searches from all leaders in turn reach.
 fn trees_of(alloc: Global, near: &Adjacency, rows: u32) -> Result<Trees, NoMemory>
     requires neighbours { AreNeighbours near.now }
     requires rows { length near.now ≡ rows }
@@ -160,28 +101,12 @@ fn trees_of(alloc: Global, near: &Adjacency, rows: u32) -> Result<Trees, NoMemor
     ensures { IfOk result (λ trees. AreFound near.now (lists_of trees) rows) }
 {
     let mut trees = single_trees(alloc, rows)?;
-    match search_all(&mut trees, near, rows) {
-        Ok(()) => Ok(trees),
-        Err(error) => {
-            drop(trees);
-            Err(error)
+    for leader in 0..rows {
+        if trees.leaders[leader as usize] == leader {
+            search_from(&mut trees, near, leader)?;
         }
     }
-}
-
-// The groups that a search has reached.
-fn groups_in(trees: Trees) -> Groups
-    requires { KeepsRows (lists_of trees) }
-    ensures { result ≡ lists_of trees }
-{
-    let Trees {
-        leaders,
-        vias,
-        depths,
-        queue,
-    } = trees;
-    drop(queue);
-    Groups::of(leaders, vias, depths)
+    Ok(trees)
 }
 
 /// The groups of so many records that chains of links join, as a forest: a search in breadth from the least position of each group
@@ -194,10 +119,13 @@ pub fn groups(alloc: Global, rows: u32, links: &[PairAt]) -> Result<Groups, NoMe
     ensures leaders { IfOk result (λ groups. AreLeaders rows links.now groups.leaders) }
 {
     let near = neighbours(alloc, rows, links)?;
-    let trees = trees_of(alloc, &near, rows);
-    drop(near);
-    match trees {
-        Ok(trees) => Ok(groups_in(trees)),
-        Err(error) => Err(error),
-    }
+    let trees = trees_of(alloc, &near, rows)?;
+    let Trees {
+        leaders,
+        vias,
+        depths,
+        queue,
+    } = trees;
+    drop(queue);
+    Ok(Groups::of(leaders, vias, depths))
 }

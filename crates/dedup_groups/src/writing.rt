@@ -3,7 +3,6 @@ ghost use Rattle.std.specs.Prelude.{◌≡◌, ◌+◌, ◌<◌, ◌^◌, ◌++�
 ghost use Rattle.std.specs.List.{enumerate_from, flat_map};
 ghost use Rattle.dedup_groups.specs.Adjacency.{adjacency_of, arcs_of_leaders};
 ghost use Rattle.dedup_groups.specs.GroupsText.{group_row, group_rows, id_of_via, printed_leaders, text_of_groups};
-ghost use Rattle.link_base.specs.declared.rule.PairAt.{PairAt as Pair};
 
 use crate::adjacency::Adjacency;
 use crate::forest::Groups;
@@ -11,10 +10,9 @@ use csv_rows::{digits_of, push_row};
 use link_base::{NoMemory, PairAt, StdFile, Text};
 use std::alloc::Global;
 
-// An arc from each record's leader to the record.
-fn arcs_of_leaders(alloc: Global, groups: &Groups) -> Result<Vec<PairAt>, NoMemory>
-    ensures arcs { IfOk result (λ arcs. arcs.items ≡ arcs_of_leaders (length groups.now.leaders) groups.now.leaders) }
-    ensures within { IfOk result (λ arcs. All (λ (arc : Pair). arc.a < length groups.now.leaders) arcs.items) }
+// Where the arcs from each leader to its records lead.
+fn members_by_leader(alloc: Global, groups: &Groups) -> Result<Adjacency, NoMemory>
+    ensures { IfOk result (λ near. near ≡ adjacency_of (length groups.now.leaders) (arcs_of_leaders (length groups.now.leaders) groups.now.leaders)) }
 {
     let mut arcs = Vec::with_capacity(alloc, groups.rows() as usize)?;
     for at in 0..groups.rows() {
@@ -23,7 +21,7 @@ fn arcs_of_leaders(alloc: Global, groups: &Groups) -> Result<Vec<PairAt>, NoMemo
             b: at,
         })?;
     }
-    Ok(arcs)
+    Adjacency::new(alloc, groups.rows(), &arcs)
 }
 
 // The id of the record that a record was reached from, empty for a leader.
@@ -35,27 +33,6 @@ fn id_of_via(file: &StdFile, via: Option<u32>) -> &[u8]
         Some(from) => file.id(from),
         None => b"",
     }
-}
-
-// Appends the rows of a group.
-fn push_group(
-    alloc: Global,
-    text: &mut Vec<u8>,
-    groups: &Groups,
-    file: &StdFile,
-    number: u32,
-    group: &[u32],
-) -> Result<(), NoMemory>
-    requires rows { length groups.now.leaders ≡ length file.now }
-    requires within { All (λ at. at < length file.now) group.now }
-    ensures { OnOk result (text.new.items ≡ text.old.items ++ flat_map (group_row groups.now.vias file.now number) group.now) }
-{
-    let number = digits_of(alloc, u128::from(number))?;
-    for at in group {
-        let via = id_of_via(file, groups.via(*at));
-        push_row(text, &[number.as_bytes(), file.id(*at), via])?;
-    }
-    Ok(())
 }
 
 // Appends the rows of a group of at least two under the next number, and gives the last number.
@@ -76,8 +53,13 @@ fn push_next(
     if group.len() < 2 {
         return Ok(number);
     }
-    push_group(alloc, text, groups, file, number + 1, group)?;
-    Ok(number + 1)
+    let last = number + 1;
+    let digits = digits_of(alloc, u128::from(last))?;
+    for at in group {
+        let via = id_of_via(file, groups.via(*at));
+        push_row(text, &[digits.as_bytes(), file.id(*at), via])?;
+    }
+    Ok(last)
 }
 
 // Appends the rows of the groups of at least two.
@@ -99,43 +81,17 @@ fn push_groups(
     Ok(())
 }
 
-// Where the arcs from each leader lead.
-fn members_by_leader(alloc: Global, groups: &Groups) -> Result<Adjacency, NoMemory>
-    ensures { IfOk result (λ near. near ≡ adjacency_of (length groups.now.leaders) (arcs_of_leaders (length groups.now.leaders) groups.now.leaders)) }
-{
-    let arcs = arcs_of_leaders(alloc, groups)?;
-    let by_leader = Adjacency::new(alloc, groups.rows(), &arcs);
-    drop(arcs);
-    by_leader
-}
-
-// The text of groups, by the members of each.
-#[tactic(auto, using(crate::proofs::TextLemmas::header_text))]
-fn text_by(
-    alloc: Global,
-    groups: &Groups,
-    file: &StdFile,
-    by_leader: &Adjacency,
-) -> Result<Text, NoMemory>
-    requires rows { length groups.now.leaders ≡ length file.now }
-    requires by_leader { by_leader.now ≡ adjacency_of (length groups.now.leaders) (arcs_of_leaders (length groups.now.leaders) groups.now.leaders) }
-    ensures { IfOk result (λ text. text ≡ text_of_groups groups.now.leaders groups.now.vias file.now) }
-{
-    let mut text = Vec::new(alloc);
-    text.extend_from_slice(b"group,id,via\n")?;
-    push_groups(alloc, &mut text, groups, file, by_leader)?;
-    Ok(Text::of(text))
-}
-
 /// The text of the groups of a file's records: the header `group,id,via`, and a row for each record of a group of at least two,
 /// group by group as they rise by their leaders, from 1, and in each group by position. `via` is the id of the record that the
 /// record was reached from, and empty for a leader.
+#[tactic(auto, using(crate::proofs::TextLemmas::header_text))]
 pub fn groups_text(alloc: Global, groups: &Groups, file: &StdFile) -> Result<Text, NoMemory>
     requires { length groups.now.leaders ≡ length file.now }
     ensures { IfOk result (λ text. text ≡ text_of_groups groups.now.leaders groups.now.vias file.now) }
 {
     let by_leader = members_by_leader(alloc, groups)?;
-    let text = text_by(alloc, groups, file, &by_leader);
-    drop(by_leader);
-    text
+    let mut text = Vec::new(alloc);
+    text.extend_from_slice(b"group,id,via\n")?;
+    push_groups(alloc, &mut text, groups, file, &by_leader)?;
+    Ok(Text::of(text))
 }

@@ -1,7 +1,6 @@
 -- The first item that passes a test, sought from the front.
-use Rattle.std.proofs.Common.{◌≡◌, ◌≢◌, ◌<◌, ◌≤◌, ◌+◌, ◌==◌, ◌∷◌, ◌∙◌, ℕ, nat_lt, Bool, true, false, List, length, get_or, drop, None, Some, ap, refl, sym, arith, zero, suc, []}
-use Rattle.std.specs.Prelude.{find}
-use Rattle.std.proofs.lemmas.List.{drop_all, drop_more}
+use Rattle.std.proofs.Common.{◌≡◌, ◌≢◌, ◌<◌, ◌≤◌, ◌+◌, ◌==◌, ◌∷◌, ◌∙◌, ℕ, nat_lt, Bool, true, false, List, length, get_or, drop, None, Some, ap, refl, sym, arith, zero, suc, [], find, ◌++◌, map, take}
+use Rattle.std.proofs.lemmas.List.{drop_all, drop_more, append_assoc, map-append, take_more}
 use Rattle.std.proofs.lemmas.Bool.Decides.{nat_tests}
 use Rattle.file_reader.specs.Table.{fault_by}
 use Rattle.link_base.specs.declared.fault.Fault.{Fault}
@@ -46,3 +45,19 @@ unfolding field_at
 field-none [] at e = refl
 field-none (f ∷ fs) zero e = cc e
 field-none (f ∷ fs) (suc at) e = field-none fs at e
+
+-- A list that grows by what is made of one item more.
+
+one_more : {B : Type 0} (before now new made more : List B) (x : B) → now ≡ before ++ made → new ≡ now ++ x ∷ [] → more ≡ made ++ x ∷ [] → new ≡ before ++ more
+one_more {B = B} before now new made more x told grown is =
+    grown ∙ ap (λ (l : List B). l ++ x ∷ []) told ∙ append_assoc before made (x ∷ []) ∙ ap (λ (l : List B). before ++ l) (sym is)
+
+pub taken_more : {A : Type 0} (before now new xs : List A) (i : ℕ) (none : A) → i < length xs
+    → now ≡ before ++ take i xs → new ≡ now ++ get_or xs i none ∷ [] → new ≡ before ++ take (i + 1) xs
+taken_more before now new xs i none lt told grown =
+    one_more before now new (take i xs) (take (i + 1) xs) (get_or xs i none) told grown (take_more xs i none lt)
+
+pub made_more : {A B : Type 0} (f : A → B) (before now new : List B) (xs : List A) (i : ℕ) (none : A) → i < length xs
+    → now ≡ before ++ map f (take i xs) → new ≡ now ++ f (get_or xs i none) ∷ [] → new ≡ before ++ map f (take (i + 1) xs)
+made_more f before now new xs i none lt told grown =
+    one_more before now new (map f (take i xs)) (map f (take (i + 1) xs)) (f (get_or xs i none)) told grown (ap (map f) (take_more xs i none lt) ∙ map-append f (take i xs) (get_or xs i none ∷ []))

@@ -1,8 +1,7 @@
 -- What holds of each table that is read (law `sound_table`): no more rows than are wanted, as many texts in each as columns, and ids that
 -- are there and differ; and that rows of texts are the rows of a table. Proofs of the crates above cite both here.
-use Rattle.std.proofs.Common.{◌≡◌, ◌≢◌, ◌<◌, ◌≤◌, ◌+◌, ◌∷◌, ◌++◌, ◌∙◌, ℕ, zero, suc, Bool, true, false, cond, not, List, [], length, map, take, get_or, Option, Some, None, Ok, refl, sym, subst, ap, arith, nat_lt, inl, inr, append_assoc, length-append}
+use Rattle.std.proofs.Common.{◌≡◌, ◌≢◌, ◌<◌, ◌≤◌, ◌+◌, ◌∷◌, ◌++◌, ◌∙◌, ℕ, zero, suc, Bool, true, false, cond, not, List, [], length, map, take, get_or, Option, Some, None, Ok, refl, sym, subst, ap, arith, nat_lt, inl, inr, append_assoc, length-append, ◌==◌, IsTrue}
 use Rattle.std.specs.List.{All, AllPairs, find, position, position_or_len}
-use Rattle.std.specs.Prelude.{◌==◌, IsTrue}
 use Rattle.std.specs.Str.{bytes_eq, is_utf8}
 use Rattle.std.proofs.lemmas.Bool.{cases_Bool}
 use Rattle.std.proofs.lemmas.Bool.Decides.{nat_tests}

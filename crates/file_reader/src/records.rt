@@ -1,5 +1,5 @@
 // The records of a CSV text, one by one.
-ghost use Rattle.std.specs.Prelude.{◌≡◌, [], ◌∷◌, IfOk, MatchBool};
+ghost use Rattle.std.specs.Prelude.{◌≡◌, [], ◌∷◌};
 ghost use Rattle.csv.specs.Records.{fields_of};
 ghost use Rattle.csv.specs.Reading.{error_kind};
 ghost use Rattle.file_reader.specs.Left.{records_in, Took};

@@ -1,3 +1,1 @@
-pub mod Names
-pub mod Pushed
-pub mod States
+pub mod Lemmas

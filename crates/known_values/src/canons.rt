@@ -1,12 +1,11 @@
-// The canons of a name; no command makes one by its comparator.
+// The canons of a name.
 ghost use Rattle.link_base.specs.Standard.{IsValid};
 
-use comparators::{Initials, KeyComparator, SameCanon};
 use link_base::{NoMemory, Text, Value};
 use std::alloc::Global;
-use value_forms::{Canon, End};
+use value_forms::{Canon, End, bytes_of, canon_text, initials_text};
 
-/// What each comparator makes of the name.
+/// The canons of the name.
 const CANONS: [(Canon, &[u8]); 4] = [
     (Canon::Whole, b"KNUTH"),
     (Canon::Soundex, b"K530"),
@@ -14,28 +13,32 @@ const CANONS: [(Canon, &[u8]); 4] = [
     (Canon::Letters(End::Front, 3), b"KNU"),
 ];
 
-fn is_text(canon: Result<Option<Text>, NoMemory>, wanted: &[u8]) -> bool {
-    match canon {
-        Ok(Some(text)) => text.bytes() == wanted,
-        _ => false,
+#[tactic(auto, using(value_forms::proofs::ReadableLemmas::readable_valid))]
+fn has_canon(canon: Canon, name: &Value, wanted: &[u8]) -> bool
+    requires { IsValid name.now }
+{
+    match canon_text(canon, &name.as_ref()) {
+        Some(text) => bytes_of(&text) == wanted,
+        None => false,
     }
 }
 
-fn has_canons(alloc: Global, name: &Value) -> bool
+fn has_canons(name: &Value) -> bool
     requires { IsValid name.now }
 {
     for (canon, wanted) in CANONS {
-        if !is_text(SameCanon { canon }.canon(alloc, name), wanted) {
+        if !has_canon(canon, name, wanted) {
             return false;
         }
     }
-    is_text(Initials.canon(alloc, name), b"K")
+    true
 }
 
 #[test]
 fn known_canons(rt: HostRuntime) -> Result<(), NoMemory> {
     let alloc = rt.alloc();
     let name = Value::Word(Text::new(alloc, "KNUTH".as_bytes())?);
-    assert!(rt; has_canons(alloc, &name));
+    assert!(rt; has_canons(&name));
+    assert!(rt; initials_text(alloc, "KNUTH".as_bytes())?.bytes() == "K".as_bytes());
     Ok(())
 }

@@ -1,3 +1,1 @@
-pub mod FrontierLemmas
-pub mod FallLemmas
-pub mod RowLemmas
+pub mod Lemmas

@@ -1,5 +1,5 @@
 -- Randomised rules at asked levels (Fellegi and Sunter 1969, section 2), among which the clause `near_least` of `frontier`
--- and the law of that name speak.
+-- and the law `filled_levels` speak.
 use Rattle.std.specs.Prelude.{ℕ, ◌*◌, ◌^◌, ◌≤◌, List, length}
 use Rattle.link_limits.specs.declared.TheConstants.{PER_MILLION, WHOLE_FIELD}
 use Rattle.link_base.specs.declared.shares.FieldShares.{FieldShares}

@@ -1,5 +1,5 @@
 -- The borders of a filled rule, and what one 65,536th of each is worth: `frontier` carries it by its clause `rows`, and the
--- law `near_least` says what it is good for.
+-- law `filled_levels` says what it is good for.
 use Rattle.std.specs.Prelude.{ℕ, ◌+◌, nat_lt, List, reverse, find, Option, Some, None}
 use Rattle.link_limits.specs.declared.TheConstants.{WHOLE_RULE}
 use Rattle.link_base.specs.declared.rule.RuleCell.{RuleCell}

@@ -11,8 +11,9 @@ ghost use Rattle.level_frontier.specs.Asked.{IsWithinAsked};
 ghost use Rattle.level_frontier.specs.Borders.{slack_m_of, slack_u_of};
 
 /// No randomised rule at the asked levels has a chance of a possible link that is lower than that of the filled table
-/// by more than one 65,536th of each border pattern.
-pub fn near_least()
+/// by more than one 65,536th of each border pattern, and a higher asked level of links leaves no cell a greater possible
+/// share.
+pub fn filled_levels()
     ensures matched { (shares : List FieldShares) (mu_ppm lambda_ppm : ℕ) (cells : List RuleCell)
         → IsFilled shares mu_ppm lambda_ppm cells
         → (denominator : ℕ) (rule : Rule) → IsWithinAsked shares mu_ppm lambda_ppm denominator rule
@@ -23,11 +24,7 @@ pub fn near_least()
         → (denominator : ℕ) (rule : Rule) → IsWithinAsked shares mu_ppm lambda_ppm denominator rule
         → denominator * possible_u_of cells
         ≤ WHOLE_RULE * sum_over shares (u_of shares) rule.possible + denominator * slack_u_of cells }
-{}
-
-/// A higher asked level of links leaves no cell a greater possible share.
-pub fn possible_falls()
-    ensures { (shares : List FieldShares) (mu_ppm more_ppm lambda_ppm : ℕ) (cells others : List RuleCell)
+    ensures falling { (shares : List FieldShares) (mu_ppm more_ppm lambda_ppm : ℕ) (cells others : List RuleCell)
         → mu_ppm ≤ more_ppm
         → IsFilled shares mu_ppm lambda_ppm cells → IsFilled shares more_ppm lambda_ppm others
         → (k : ℕ) (d : RuleCell) → k < length cells

@@ -5,5 +5,5 @@ mod borders;
 mod laws;
 mod levels;
 
-pub use laws::{near_least, possible_falls};
+pub use laws::filled_levels;
 pub use levels::{FrontierRow, frontier};

@@ -1,6 +1,2 @@
-pub mod CellFacts
-pub mod IdFacts
-pub mod RecordFacts
 pub mod RegionFacts
 pub mod RisingFacts
-pub mod WriterFacts

@@ -1,17 +1,81 @@
--- The order of ids that rise: that it is one, what an id that comes last comes after, and where one stands that is found by halving.
-use Rattle.std.proofs.Common.{◌≡◌, ◌≢◌, ◌<◌, ◌≤◌, ◌+◌, ◌-◌, ◌==◌, ◌∷◌, ◌∙◌, ◌⊎◌, ℕ, zero, suc, Bool, true, false, List, [], Some, None, arith, ap, inl, inr, length, get_or, nat_lt, refl, sym, subst, eqb-true, eq-eqb, ltb-true, take}
-use Rattle.std.specs.Prelude.{All, IsTrue, if◌then◌else◌, slice_get}
+-- Records by their ids and their rows.
+use Rattle.std.proofs.Common.{◌≡◌, ◌+◌, ◌<◌, ◌∷◌, ◌∙◌, ℕ, zero, suc, List, [], length, get_or, not, cond, Option, Some, None, refl, sym, ap, arith, IfNone, replicate, ◌≢◌, ◌≤◌, ◌-◌, ◌==◌, ◌⊎◌, Bool, true, false, inl, inr, nat_lt, subst, eqb-true, eq-eqb, ltb-true, take, All, IsTrue, if◌then◌else◌, slice_get, ◌++◌, drop, length-drop, sum_by}
+use Rattle.std.specs.List.{position_or_len}
+use Rattle.std.specs.Str.{bytes_eq}
+use Rattle.link_base.specs.declared.standard.Value.{Value}
+use Rattle.link_base.specs.IdsAlone.{ids_alone}
+use Rattle.link_base.specs.Ids.{AreDistinct, IsNewId, position_among}
+use Rattle.link_base.specs.Standard.{HaveDistinctIds, IsFreshId, position_of_id, Record, records_of}
 use Rattle.std.proofs.lemmas.Bool.{cases_Bool, false≢true}
 use Rattle.std.proofs.lemmas.Bool.Decides.{nat_tests}
-use Rattle.std.proofs.lemmas.List.{ext_get_or, get_or-take, get_or_default, length-take, take_more}
+use Rattle.std.proofs.lemmas.List.{ext_get_or, get_or-take, get_or_default, length-take, take_more, drop-append-le, length_push}
 use Rattle.std.proofs.lemmas.Option.{get_or_from_slice_get, slice_get-get_or, slice_get_within}
-use Rattle.link_base.specs.Ids.{AreDistinct, position_among}
 use Rattle.link_base.specs.RisingIds.{AreRising, comes_before, is_lesser}
-use Rattle.link_base.proofs.IdFacts.{found_at_place}
+use Rattle.link_base.proofs.RegionFacts.{found_at_place, length_values, none_added, one_added, among_first, count_items, ends_push, rest_closed}
 use Rattle.link_texts.specs.Texts.{stands_among}
 use Rattle.value_pool.proofs.SearchLemmas.{held_where, none-held}
 use Rattle.value_pool.specs.Pool.{with_text}
 use Rattle.value_pool.specs.Texts.{PoolState}
+use Rattle.std.proofs.Math.Seq.{drop-length}
+use Rattle.link_base.specs.declared.rows.Cell.{Cell}
+use Rattle.link_base.specs.Region.{EndsAt, pieces_from}
+use Rattle.link_base.specs.Rows.{BeginsAs, IsPlaced, value_in, values_in}
+use Rattle.link_base.specs.RowsWriter.{AreOpen, WrittenRows, with_row, with_value, written_rows}
+
+abbrev Rows : Type 0
+Rows = List (List Value)
+
+pub length_records : (ids : List (List ℕ)) (rows : Rows) → length ids ≡ length rows → length (records_of ids rows) ≡ length ids
+length_records [] rows e = refl
+length_records (id ∷ ids) [] e = absurd (omega (arith, e))
+length_records (id ∷ ids) (row ∷ rows) e = ap suc (length_records ids rows (omega (arith, e)))
+
+-- the record at a position
+pub record IsRecordAt (ids : List (List ℕ)) (rows : Rows) (at : ℕ) (r : Record) : Type 0 where
+  pub id : r.id ≡ get_or ids at []
+  pub row : r.row ≡ get_or rows at []
+
+pub record_at : (ids : List (List ℕ)) (rows : Rows) (at : ℕ) (none : Record) → length ids ≡ length rows → at < length ids → IsRecordAt ids rows at (get_or (records_of ids rows) at none)
+record_at [] rows at none e lt = absurd (omega arith)
+record_at (id ∷ ids) [] at none e lt = absurd (omega (arith, e))
+record_at (id ∷ ids) (row ∷ rows) zero none e lt = record { id = refl; row = refl }
+record_at (id ∷ ids) (row ∷ rows) (suc at) none e lt =
+    let rest = record_at ids rows at none (omega (arith, e)) (omega (arith, lt)) in
+    record { id = rest.id; row = rest.row }
+
+or_len_ids : (id : List ℕ) (ids : List (List ℕ)) (rows : Rows) → length ids ≡ length rows → position_or_len (bytes_eq id) ids ≡ position_or_len (λ (r : Record). bytes_eq id r.id) (records_of ids rows)
+or_len_ids id [] rows e = refl
+or_len_ids id (i ∷ ids) [] e = absurd (omega (arith, e))
+or_len_ids id (i ∷ ids) (row ∷ rows) e = ap (λ n. cond (not (bytes_eq id i)) (1 + n) 0) (or_len_ids id ids rows (omega (arith, e)))
+
+-- the place of an id is the position of the record with it
+pub position_of : (id : List ℕ) (ids : List (List ℕ)) (rows : Rows) → length ids ≡ length rows → position_among id ids ≡ position_of_id id (records_of ids rows)
+position_of id ids rows e = rw (or_len_ids id ids rows e, ← length_records ids rows e) refl
+
+-- an id that is not among the ids is that of no record
+fresh_of : (id : List ℕ) (ids : List (List ℕ)) (rows : Rows) → length ids ≡ length rows → IsNewId id ids → IsFreshId id (records_of ids rows)
+fresh_of id ids rows e new k d lt is =
+    let within : k < length ids = omega (arith, lt, length_records ids rows e) in
+    new k [] within (sym (record_at ids rows k d e within).id ∙ is)
+
+pub found_fresh : (id : List ℕ) (ids : List (List ℕ)) (rows : Rows) (found : Option ℕ) → length ids ≡ length rows → IfNone found (IsNewId id ids) → IfNone found (IsFreshId id (records_of ids rows))
+found_fresh id ids rows None e new = fresh_of id ids rows e new
+found_fresh id ids rows (Some at) e new = tt
+
+-- records with distinct ids
+pub distinct_of : (ids : List (List ℕ)) (rows : Rows) → length ids ≡ length rows → AreDistinct ids → HaveDistinctIds (records_of ids rows)
+distinct_of ids rows e distinct i j d lt within same =
+    let last : j < length ids = omega (arith, within, length_records ids rows e) in
+    let first : i < length ids = omega (arith, last, lt) in
+    distinct i j [] lt last (sym (record_at ids rows i d e first).id ∙ same ∙ (record_at ids rows j d e last).id)
+
+-- records with empty rows are those whose values are left out
+pub without_rows : (ids : List (List ℕ)) (rows : Rows) → length ids ≡ length rows → records_of ids (replicate (length rows) []) ≡ ids_alone (records_of ids rows)
+without_rows [] rows e = refl
+without_rows (id ∷ ids) [] e = absurd (omega (arith, e))
+without_rows (id ∷ ids) (row ∷ rows) e = ap (λ (rest : List Record). record { id = id; row = [] } ∷ rest) (without_rows ids rows (omega (arith, e)))
+
+-- The order of ids that rise: that it is one, what an id that comes last comes after, and where one stands that is found by halving.
 
 -- what comes first by a number, or of equal ones by another test
 abbrev by_number : ℕ → ℕ → Bool → Bool
@@ -211,3 +275,60 @@ module _ (ids : List (List ℕ)) (id : List ℕ) (rising : AreRising ids) where
 pub none_before : (ids : List (List ℕ)) (id : List ℕ) → AreRising ids → All (λ (held : List ℕ). IsTrue (comes_before held id)) ids → None ≡ position_among id ids
 none_before ids id rising after =
     place_none ids id rising (length ids) (length ids) (omega arith) (λ k lt. after k [] lt) (λ k le lt. absurd (omega (arith, le, lt)))
+
+-- Rows that are being made: one value more, a row closed, and no row open.
+
+abbrev Words : Type 0
+Words = List (List ℕ)
+
+-- how the rows stand, and as what they are seen
+pub record IsWritten (words : Words) (cells : List Cell) (ends : List ℕ) (begun : ℕ) (rows : WrittenRows) : Type 0 where
+  pub stands : AreOpen words cells ends begun
+  pub seen : written_rows words cells ends begun ≡ rows
+
+abbrev seen_as : List (List Value) → List Value → WrittenRows
+seen_as rows row = record { rows = rows; row = row }
+
+same : (rows rows2 : List (List Value)) (row row2 : List Value) → rows ≡ rows2 → row ≡ row2 → seen_as rows row ≡ seen_as rows2 row2
+same rows rows2 row row2 e f = λ i. seen_as (e i) (f i)
+
+-- one value more
+pub value_added : (words words2 : Words) (cells cells2 : List Cell) (ends : List ℕ) (begun : ℕ) (c : Cell) (v : Value) → AreOpen words cells ends begun
+    → BeginsAs words words2 → length words2 ≤ length words + 1 → IsPlaced (length words2) c → value_in words2 c ≡ v → cells2 ≡ cells ++ c ∷ []
+    → IsWritten words2 cells2 ends begun (with_value (written_rows words cells ends begun) v)
+value_added words words2 cells cells2 ends begun c v h words_begun few placed is grown =
+    let more = one_added words words words2 cells cells cells2 (v ∷ []) 0 v c (none_added words cells (v ∷ []) h.placed) (omega arith) words_begun few placed is grown in
+    let old = values_in words cells in
+    let within : begun ≤ length old = omega (arith, h.within, length_values words cells) in
+    record {
+      stands = record { rising = h.rising; within = omega (arith, h.within, ap length grown ∙ length_push cells c); placed = more.cells };
+      seen = same _ _ _ _ (ap (λ (l : List Value). pieces_from l 0 ends) more.values ∙ among_first old (v ∷ []) begun 0 ends within h.rising)
+          (ap (λ (l : List Value). drop begun l) more.values ∙ drop-append-le begun old (v ∷ []) within);
+    }
+
+-- a row closed
+pub row_closed : (words : Words) (cells : List Cell) (ends ends2 : List ℕ) (begun begun2 : ℕ) → AreOpen words cells ends begun → begun2 ≡ length cells → ends2 ≡ ends ++ begun2 ∷ []
+    → IsWritten words cells ends2 begun2 (with_row (written_rows words cells ends begun))
+row_closed words cells ends ends2 begun begun2 h is grown =
+    let values = values_in words cells in
+    let long : begun2 ≡ length values = is ∙ sym (length_values words cells) in
+    let within : begun ≤ length values = omega (arith, h.within, length_values words cells) in
+    record {
+      stands = record { rising = rw grown (ends_push begun begun2 0 ends h.rising (omega (arith, h.within, is))); within = omega (arith, is); placed = h.placed };
+      seen = same _ _ _ _ (ap (pieces_from values 0) grown ∙ rest_closed values begun 0 begun2 ends within h.rising long)
+          (ap (λ n. drop n values) long ∙ drop-length values);
+    }
+
+-- where no row is open, the closed ones have all cells
+pub none_open : (words : Words) (cells : List Cell) (ends : List ℕ) (begun : ℕ) → AreOpen words cells ends begun → (written_rows words cells ends begun).row ≡ [] → EndsAt (length cells) 0 ends
+none_open words cells ends begun h none =
+    let rest : length cells ≡ begun = omega (arith, h.within, sym (length-drop begun (values_in words cells)) ∙ ap length none, length_values words cells) in
+    rw rest h.rising
+
+-- the values of the rows are as many as the cells
+pub values_written : (words : Words) (cells : List Cell) (ends : List ℕ) (begun : ℕ) → AreOpen words cells ends begun
+    → sum_by length (written_rows words cells ends begun).rows + length (written_rows words cells ends begun).row ≡ length cells
+values_written words cells ends begun h =
+    let values = values_in words cells in
+    let long = length_values words cells in
+    omega (arith, long, h.within, length-drop begun values, count_items values begun 0 ends (omega (arith, h.within, long)) h.rising)

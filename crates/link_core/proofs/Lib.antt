@@ -1,13 +1,3 @@
-pub mod BlockLemmas
 pub mod StepLemmas
-pub mod ReadyLemmas
-pub mod PreparedLemmas
-pub mod PairLemmas
-pub mod ColumnLemmas
-pub mod PlaceLemmas
 pub mod RuleLemmas
-pub mod DecisionLemmas
 pub mod ResultLemmas
-pub mod ReviewLemmas
-pub mod ValueLemmas
-pub mod IdsAloneLemmas

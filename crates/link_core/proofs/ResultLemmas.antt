@@ -1,7 +1,6 @@
 -- What the steps of a run give, over the prepared files of a plan.
-use Rattle.std.proofs.Common.{◌≡◌, ◌<◌, ◌∙◌, ℕ, List, length, Result, Ok, Err, ap, arith, refl, subst, sym, filter}
-use Rattle.std.specs.Prelude.{All, Contains, IfOk, not}
-use Rattle.std.proofs.lemmas.List.Elements.{All-contains, All-filter, All-map, All-weaker}
+use Rattle.std.proofs.Common.{◌≡◌, ◌<◌, ◌∙◌, ℕ, List, length, Result, Ok, Err, ap, arith, refl, subst, sym, filter, All, Contains, IfOk, not, ◌++◌, ◌∷◌, [], suc, Bool, Option, Some, None, ℤ, map, get_or}
+use Rattle.std.proofs.lemmas.List.Elements.{All-contains, All-filter, All-map, All-weaker, All-push}
 use Rattle.price_check.specs.Assignment.{Certifies, IsGreatest, IsWithin}
 use Rattle.candidate_links.specs.PassLaws.{not_more}
 use Rattle.candidate_links.specs.Candidates.{AreCandidates, candidates_of}
@@ -9,7 +8,7 @@ use Rattle.candidate_links.specs.Choice.{dropped, dropped_of, is_chosen, IsChoic
 use Rattle.candidate_links.specs.declared.choice.ChosenLinks.{ChosenLinks}
 use Rattle.comparators.specs.declared.ids.IdValue.{IdValue}
 use Rattle.link_base.specs.IdsAlone.{ids_alone}
-use Rattle.link_base.specs.Standard.{Record}
+use Rattle.link_base.specs.Standard.{Record, absent_value, no_record}
 use Rattle.link_base.specs.declared.rule.Candidate.{Candidate}
 use Rattle.link_base.specs.declared.rule.PairAt.{PairAt}
 use Rattle.link_report.specs.LinksText.{text_of_links}
@@ -18,16 +17,36 @@ use Rattle.link_report.specs.PricesText.{text_of_prices}
 use Rattle.link_report.specs.ReportText.{text_of_report}
 use Rattle.link_report.specs.declared.report.Dropped.{Dropped}
 use Rattle.link_report.specs.declared.report.Report.{Report}
-use Rattle.pair_decisions.specs.Comparators.{rares_of}
+use Rattle.pair_decisions.specs.Comparators.{rares_of, comparators_of}
 use Rattle.pair_decisions.specs.Decisions.{AreDecisionsOn, DecidedView}
 use Rattle.pair_decisions.specs.PairRows.{shown_rows}
-use Rattle.pair_decisions.specs.PairRule.{side_rule}
+use Rattle.pair_decisions.specs.PairRule.{side_rule, pattern_over}
 use Rattle.review_journal.specs.declared.entry.Entry.{Entry}
 use Rattle.link_plan.specs.declared.plan.Plan.{Plan}
 use Rattle.link_core.specs.Decisions.{IsDecidedIn, rule_in}
-use Rattle.link_core.specs.Prepared.{PreparedView}
+use Rattle.link_core.specs.Prepared.{PreparedView, kinds_of}
 use Rattle.link_core.specs.Results.{AreRunTexts, AreTextsBy, candidates_in, compared_in, IsBegun, IsDecidedFor, IsPlaced, KeepsRows, pair_rows_in, RunTexts, with_links}
-use Rattle.link_core.proofs.IdsAloneLemmas.{length_alone, links_stay, pairs_stay, prices_stay, report_stays}
+use Rattle.link_core.proofs.RuleLemmas.{length_alone, links_stay, pairs_stay, prices_stay, report_stays}
+use Rattle.link_base.specs.Answers.{and_then}
+use Rattle.link_base.specs.Fault.{IsAnswer, Refuses}
+use Rattle.link_base.specs.declared.fault.Fault.{Fault}
+use Rattle.review_journal.specs.Adding.{added, batch_fault, entry_after, ok_unless, with_verdicts}
+use Rattle.review_journal.specs.Journal.{IsWithinFiles}
+use Rattle.review_journal.specs.declared.batch.NewVerdict.{NewVerdict}
+use Rattle.review_journal.specs.Batch.{NamesRecords}
+use Rattle.std.proofs.lemmas.List.{get_or-map, length-map}
+use Rattle.comparators.specs.OfPool.{StandsFor}
+use Rattle.comparators.specs.declared.ids.IdValue.TheVariants as id
+use Rattle.value_forms.specs.Canons.{exact}
+use Rattle.value_forms.specs.declared.canons.CompareKind.{CompareKind}
+use Rattle.link_plan.specs.Plan.{FieldKeys}
+use Rattle.link_plan.specs.Ranges.{KeepsRanges}
+use Rattle.standard_files.specs.Files.{AreOfPlan}
+use Rattle.standard_files.specs.Ready.{AreFileSides}
+use Rattle.pair_decisions.specs.FieldComparators.{pattern_of_pair}
+use Rattle.pair_decisions.specs.RareValues.{StandForFile}
+use Rattle.link_core.proofs.StepLemmas.{plan_rows}
+use Rattle.link_core.specs.Rules.{IsPreparedFor}
 
 pub if_ok : {T E : Type 0} (P Q : T → Type 0) (r : Result T E) → ((x : T) → P x → Q x) → IfOk r P → IfOk r Q
 if_ok P Q (Ok x) h p = h x p
@@ -125,3 +144,73 @@ run_texts plan p d entries a b found begun texts of_a of_b same is_begun rows to
 -- candidates as they are wanted are so among themselves
 pub as_they_are : (rows_a rows_b : ℕ) (wanted cs : List Candidate) → AreCandidates rows_a rows_b wanted cs → AreCandidates rows_a rows_b cs cs
 as_they_are rows_a rows_b wanted cs found = record { same = refl; few = found.few; rising = found.rising; within = found.within; small = found.small }
+
+-- A journal with new verdicts, and its text.
+
+ok_is : {A : Type 0} (f : Option Fault) (x y : A) → ok_unless f x ≡ Ok y → x ≡ y
+ok_is None x y e = cc
+ok_is (Some f) x y e = absurd (cc)
+
+-- verdicts on pairs of two files leave entries on pairs of them
+verdicts_within : (double : Bool) (date : ℤ) (reviewer : List ℕ) (rows_a rows_b : ℕ) (entries : List Entry) (batch : List NewVerdict)
+    → All (IsWithinFiles rows_a rows_b) entries → All (NamesRecords rows_a rows_b) batch
+    → All (IsWithinFiles rows_a rows_b) (with_verdicts double date reviewer entries batch)
+verdicts_within double date reviewer rows_a rows_b entries [] h placed = h
+verdicts_within double date reviewer rows_a rows_b entries (v ∷ vs) h placed =
+    let first = placed 0 v (omega arith) in
+    verdicts_within double date reviewer rows_a rows_b (entries ++ entry_after double date reviewer entries v ∷ []) vs
+    (All-push (IsWithinFiles rows_a rows_b) entries (entry_after double date reviewer entries v) h (record { of_a = first.in_a; of_b = first.in_b }))
+    (λ k d within. placed (suc k) d (omega arith))
+
+pub added_within : (double : Bool) (date : ℤ) (reviewer : List ℕ) (possible : List PairAt) (rows_a rows_b : ℕ) (entries new : List Entry) (batch : List NewVerdict)
+    → added double date reviewer possible entries batch ≡ Ok new → All (IsWithinFiles rows_a rows_b) entries → All (NamesRecords rows_a rows_b) batch
+    → All (IsWithinFiles rows_a rows_b) new
+added_within double date reviewer possible rows_a rows_b entries new batch is h placed =
+    let P : List Entry → Type 0 = λ es. All (IsWithinFiles rows_a rows_b) es in
+    subst P (ok_is (batch_fault entries batch date possible) _ new is) (verdicts_within double date reviewer rows_a rows_b entries batch h placed)
+
+-- after a step that gave a value, the answer is that of the next, and the fault likewise
+pub answer_next : {A B : Type 0} (x : Result A Fault) (next : A → Result B Fault) (value : A) (result : Result B Fault) → x ≡ Ok value → IsAnswer (next value) result → IsAnswer (and_then x next) result
+answer_next {B = B} x next value result is h =
+    let P : Result _ Fault → Type 0 = λ r. IsAnswer (and_then r next) result in
+    subst P (sym is) h
+
+pub refuses_next : {A B : Type 0} (x : Result A Fault) (next : A → Result B Fault) (value : A) (f : Fault) → x ≡ Ok value → Refuses (next value) f → Refuses (and_then x next) f
+refuses_next x next value f is h =
+    let P : Result _ Fault → Type 0 = λ r. Refuses (and_then r next) f in
+    subst P (sym is) h
+
+-- The sides of prepared files stand for the values of their records, so that the comparison patterns by ids are those of the records.
+
+-- the sides of a file of a plan
+stand_for : (plan : Plan) (texts : List (List ℕ)) (file : List Record) (rows : List (List IdValue)) → AreOfPlan plan file → AreFileSides texts (kinds_of plan) file rows → StandForFile texts plan.fields file rows
+stand_for plan texts file rows of sides =
+    let many : length (kinds_of plan) ≡ length plan.fields = length-map plan.fields (λ (f : FieldKeys). f.compare) in
+    record {
+      as_many = sides.as_many;
+      values = λ at within. (plan_rows plan file of at no_record within).as_many ∙ many;
+      sides = λ at within. (sides.of_row at within).as_many ∙ many;
+      stand = λ k f lt. record {
+        as_many = sides.as_many;
+        stand = λ at within.
+            subst (λ (kind : CompareKind). StandsFor texts kind (get_or (get_or file at no_record).row k absent_value) (get_or (get_or rows at []) k id.Absent))
+            (get_or-map (λ (g : FieldKeys). g.compare) plan.fields k f exact lt)
+            ((sides.of_row at within).stand k (omega (arith, many, lt)));
+      };
+    }
+
+-- what the law `same_patterns` says of the texts of a pool
+abbrev pub SamePatterns : List (List ℕ) → Type 0
+SamePatterns texts =
+    (plan : Plan) (a b : List Record) (rows_a rows_b : List (List IdValue)) → KeepsRanges plan → StandForFile texts plan.fields a rows_a → StandForFile texts plan.fields b rows_b
+    → pattern_over (comparators_of (length texts) plan.fields rows_a rows_b) rows_a rows_b ≡ pattern_of_pair plan.fields a b
+
+-- the patterns of prepared files are those of their records
+pub patterns_are : (plan : Plan) (p : PreparedView) (texts : List (List ℕ)) (n : ℕ) (rows_a rows_b : List (List IdValue)) → KeepsRanges plan → IsPreparedFor plan p → SamePatterns texts
+    → texts ≡ p.values.texts → n ≡ length p.values.texts → rows_a ≡ p.values.a.rows → rows_b ≡ p.values.b.rows
+    → pattern_over (comparators_of n plan.fields rows_a rows_b) rows_a rows_b ≡ pattern_of_pair plan.fields p.files.a.records p.files.b.records
+patterns_are plan p texts n rows_a rows_b ranges ready law of_texts many of_a of_b =
+    let here : SamePatterns p.values.texts = subst SamePatterns of_texts law in
+    (λ i. pattern_over (comparators_of (many i) plan.fields (of_a i) (of_b i)) (of_a i) (of_b i))
+    ∙ here plan p.files.a.records p.files.b.records p.values.a.rows p.values.b.rows ranges
+    (stand_for plan p.values.texts p.files.a.records p.values.a.rows ready.of_a ready.pooled.a.sides) (stand_for plan p.values.texts p.files.b.records p.values.b.rows ready.of_b ready.pooled.b.sides)

@@ -1,7 +1,6 @@
 -- Laws of the records of prepared files (`prepared`), by their bytes alone: they are not too many, and their ids are distinct texts as tables
 -- have them.
-use Rattle.std.proofs.Common.{◌≡◌, ◌≤◌, ◌∷◌, ◌∙◌, ℕ, List, [], length, get_or, Ok, refl, sym, ap, subst, arith}
-use Rattle.std.specs.Prelude.{All, AllPairs, ◌≢◌, IsTrue, is_some}
+use Rattle.std.proofs.Common.{◌≡◌, ◌≤◌, ◌∷◌, ◌∙◌, ℕ, List, [], length, get_or, Ok, refl, sym, ap, subst, arith, All, AllPairs, ◌≢◌, IsTrue, is_some}
 use Rattle.std.proofs.lemmas.List.{get_or-map, length-map}
 use Rattle.std.proofs.lemmas.List.Elements.{All-map, All-weaker}
 use Rattle.file_reader.specs.Left.{records_in}

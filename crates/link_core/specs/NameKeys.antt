@@ -6,11 +6,11 @@ use Rattle.link_base.specs.declared.standard.Value.{Value}
 use Rattle.link_base.specs.declared.standard.Value.TheVariants as value
 use Rattle.phonetic_keys.specs.Nysiis.{nysiis_of}
 use Rattle.phonetic_keys.specs.Soundex.{soundex_of}
-use Rattle.standardise.specs.Names.{name_value}
-use Rattle.standardise.specs.Tables.{NameView}
+use Rattle.standardise.specs.Names.{text_value}
+use Rattle.standardise.specs.Tables.{TextView}
 
 -- the tables of a settings file that names none
-abbrev pub standard_names : NameView
+abbrev pub standard_names : TextView
 standard_names = record { marks = missing_marks; titles = name_titles; suffixes = name_suffixes; words = [] }
 
 -- the text of a value, and nothing where it has none
@@ -25,7 +25,7 @@ line_of_text text = text ++ codes "," ++ unwrap_or (soundex_of text) [] ++ codes
 
 -- the line of a word, taken as a name
 abbrev pub keys_line : List ℕ → List ℕ
-keys_line word = line_of_text (text_or_nothing (name_value standard_names word))
+keys_line word = line_of_text (text_or_nothing (text_value standard_names word))
 
 abbrev pub keys_text : List (List ℕ) → List ℕ
 keys_text words = flat_map keys_line words

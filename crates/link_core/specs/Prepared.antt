@@ -1,8 +1,7 @@
 -- What is prepared of the two files of a plan: their standard values, whose distinct texts have room. `prepare` and `prepare_texts`
 -- carry it (clause `answer`, by `prepared`), and say of the pool of these texts what later steps need (clauses `pooled` and `ready`).
-use Rattle.std.specs.Prelude.{◌≡◌, ℕ, List, length, map, Result, Ok, Err, ⊤}
+use Rattle.std.specs.Prelude.{◌≡◌, ℕ, List, map, Result, Ok, Err, ⊤}
 use Rattle.link_base.specs.Answers.{and_then}
-use Rattle.link_base.specs.Standard.{Record}
 use Rattle.link_base.specs.declared.fault.Fault.{Fault}
 use Rattle.link_base.specs.declared.fault.Fault.TheVariants as fault
 use Rattle.link_base.specs.declared.fault.FileRole.{FileRole}

@@ -1,6 +1,5 @@
 -- Laws of what a run writes: it is small enough to be verified, and its candidates stand in its files.
-use Rattle.std.proofs.Common.{◌≡◌, ◌<◌, ◌≤◌, ◌+◌, ◌∷◌, ◌^◌, ◌∙◌, ℕ, List, [], All, length, map, get_or, Ok, Option, Some, None, sym, ap, subst, arith}
-use Rattle.std.specs.Prelude.{◌≤ℤ◌, is_some}
+use Rattle.std.proofs.Common.{◌≡◌, ◌<◌, ◌≤◌, ◌+◌, ◌∷◌, ◌^◌, ◌∙◌, ℕ, List, [], All, length, map, get_or, Ok, Option, Some, None, sym, ap, subst, arith, ◌≤ℤ◌, is_some}
 use Rattle.std.specs.List.{cons_option, enumerate_from, range_with_len}
 use Rattle.std.proofs.Math.Nat.{pow-le-pow_right}
 use Rattle.std.proofs.lemmas.Int.{ints}

@@ -5,7 +5,6 @@ ghost use Rattle.link_base.specs.declared.rule.PairAt.{PairAt as Pair};
 ghost use Rattle.link_core.specs.Decisions.{IsDecidedIn};
 ghost use Rattle.link_core.specs.Duplicates.{IsGroupsText, links_within};
 ghost use Rattle.link_limits.specs.declared.TheConstants.{MOST_PAIRS, MOST_ROWS};
-ghost use Rattle.pair_decisions.specs.Pairs.{IsInside};
 
 use crate::preparing::Prepared;
 use dedup_groups::{groups, groups_text};

@@ -6,15 +6,15 @@ ghost use Rattle.link_core.specs.NameKeys.{keys_line, keys_text, line_of_text, s
 
 use link_base::{NoMemory, Tables, Text, Value};
 use phonetic_keys::{nysiis, soundex};
-use standardise::{NameTables, std_name};
+use standardise::{TextTables, std_text};
 use std::alloc::Global;
 
 // The tables of a settings file that names none.
-fn standard_tables(alloc: Global) -> Result<NameTables, NoMemory>
+fn standard_tables(alloc: Global) -> Result<TextTables, NoMemory>
     ensures { IfOk result (λ tables. tables ≡ standard_names) }
 {
     let plan = Tables::standard(alloc)?;
-    NameTables::new(alloc, &plan)
+    TextTables::of_names(alloc, &plan)
 }
 
 fn text_of(value: &Value) -> &[u8]
@@ -63,17 +63,17 @@ fn push_word(
     alloc: Global,
     lines: &mut Vec<u8>,
     word: &str,
-    tables: &NameTables,
+    tables: &TextTables,
 ) -> Result<(), NoMemory>
     requires { tables.now ≡ standard_names }
     ensures { OnOk result (lines.new.items ≡ lines.old.items ++ keys_line word.now) }
 {
-    let value = std_name(alloc, word, tables)?;
+    let value = std_text(alloc, word, tables)?;
     push_line(lines, text_of(&value))
 }
 
 // A line for each word.
-fn lines_of(alloc: Global, words: &[String], tables: &NameTables) -> Result<Vec<u8>, NoMemory>
+fn lines_of(alloc: Global, words: &[String], tables: &TextTables) -> Result<Vec<u8>, NoMemory>
     requires { tables.now ≡ standard_names }
     ensures { IfOk result (λ lines. lines.items ≡ keys_text (map string_bytes words.now)) }
 {

@@ -1,7 +1,6 @@
 -- Law of terms: they keep their ranges where each number that is read is in its own. It is said over all that may give them, which no
 -- clause of a call can range over, so it stands here; that the plan of a settings file keeps its ranges follows by it.
-use Rattle.std.proofs.Common.{ℕ, List, Bool, Option, Result, arith}
-use Rattle.std.specs.Prelude.{IfOk, IfSome}
+use Rattle.std.proofs.Common.{ℕ, List, Bool, Option, Result, arith, IfOk, IfSome}
 use Rattle.link_plan.specs.Terms.{IsIn, KeepsTerms, terms_by}
 
 -- each number that is given is in its range

@@ -1,5 +1,5 @@
 // What the settings say.
-ghost use Rattle.std.specs.Prelude.{◌≡◌, ◌≤◌, IfOk, length, is_some, bytes_eq};
+ghost use Rattle.std.specs.Prelude.{◌≡◌, ◌≤◌, IfOk, length, bytes_eq};
 
 use crate::terms::Terms;
 use crate::within::plan_within;
@@ -37,12 +37,6 @@ impl FieldPlan {
         ensures { result ≡ bytes_eq name.now self.now.name }
     {
         name == self.name.bytes()
-    }
-
-    fn has_rare_number(&self) -> bool
-        ensures { result ≡ is_some self.now.rare }
-    {
-        self.rare.is_some()
     }
 }
 
@@ -115,7 +109,7 @@ impl Plan {
         let fields = self.fields.fields();
         let mut rare = [false; MOST_FIELDS as usize];
         for (i, field) in fields.iter().enumerate() {
-            rare[i] = field.has_rare_number();
+            rare[i] = field.rare.is_some();
         }
         Shape {
             fields: fields.len() as u8,

@@ -45,10 +45,7 @@ impl<T: Copied + Drop> Copied for Option<T> {
     fn copied(&self, alloc: Global) -> Result<Option<T>, NoMemory> {
         match self {
             None => Ok(None),
-            Some(item) => match item.copied(alloc) {
-                Ok(copy) => Ok(Some(copy)),
-                Err(want) => Err(want),
-            },
+            Some(item) => Ok(Some(item.copied(alloc)?)),
         }
     }
 }
@@ -76,8 +73,7 @@ impl Copied for WordPairs {
 
 impl Copied for Pass {
     fn copied(&self, alloc: Global) -> Result<Pass, NoMemory> {
-        let parts = Vec::from_slice(alloc, self.parts())?;
-        Ok(Pass::new(parts))
+        Ok(Pass::new(Vec::from_slice(alloc, self.parts())?))
     }
 }
 

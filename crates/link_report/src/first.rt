@@ -30,7 +30,7 @@ pub fn first_lines(text: &[u8], count: u32) -> &[u8]
 }
 
 /// Law: the first sixteen lines of the text of a report are its head.
-#[tactic(auto, using(crate::proofs::FirstLineLemmas::head_first))]
+#[tactic(auto, using(crate::proofs::HeaderLemmas::head_first))]
 pub fn head_of_report()
     ensures { (a b : List Record) (report : Report) → first_lines_of 16 (text_of_report a b report) ≡ report_head a b report }
 {}

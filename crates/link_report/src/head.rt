@@ -74,7 +74,7 @@ fn push_files(text: &mut Vec<u8>, report: &Report, a: &StdFile, b: &StdFile) -> 
 }
 
 // Appends the lines of the compared pairs.
-#[tactic(auto, using(crate::proofs::JoinLemmas::seven_lines))]
+#[tactic(auto, using(crate::proofs::HeaderLemmas::seven_lines))]
 fn push_pairs(text: &mut Vec<u8>, report: &Report) -> Result<(), NoMemory>
     ensures { OnOk result (text.new.items ≡ text.old.items ++ concat (pair_lines report.now)) }
 {

@@ -1,5 +1,5 @@
 // The dual prices of records.
-ghost use Rattle.std.specs.Prelude.{◌≡◌, ◌<◌, ◌++◌, ◌∷◌, [], IfOk, OnOk, codes, false, length, slice_index_or};
+ghost use Rattle.std.specs.Prelude.{◌≡◌, ◌<◌, ◌++◌, ◌∷◌, [], IfOk, OnOk, false, length, slice_index_or};
 ghost use Rattle.csv.specs.Writing.{default_writer, needs_quotes, row_text};
 ghost use Rattle.link_base.specs.Standard.{id_at, no_record};
 ghost use Rattle.link_report.specs.PricesText.{price_rows, text_of_prices};
@@ -10,7 +10,7 @@ use link_base::{NoMemory, Text};
 use std::alloc::Global;
 
 // Appends a row of a side, the id of a record and digits.
-#[tactic(auto, using(crate::proofs::PlainLemmas::priced_written))]
+#[tactic(auto, using(crate::proofs::LineLemmas::priced_written))]
 fn push_priced(
     text: &mut Vec<u8>,
     side: &[u8],

@@ -1,5 +1,5 @@
 -- What a run leaves is verified.
-use Rattle.std.proofs.Common.{◌≡◌, ◌≤◌, ◌∙◌, inl, inr, ℕ, List, length, codes, Bool, true, false, if◌then◌else◌, nat_le, Option, Some, None, Result, Ok, Err, refl, sym, ap, subst, arith}
+use Rattle.std.proofs.Common.{◌≡◌, ◌≤◌, ◌∙◌, inl, inr, ℕ, List, length, codes, Bool, true, false, if◌then◌else◌, nat_le, Option, Some, None, Result, Ok, Err, refl, sym, ap, subst, arith, ◌⊎◌, ◌<◌, ◌+◌, ◌∷◌, zero, suc, [], take}
 use Rattle.std.specs.Prelude.{bytes_eq, IfSome, ⊤}
 use Rattle.std.proofs.lemmas.Bool.{le-leb, or_parts, true≢false}
 use Rattle.std.proofs.lemmas.Slice.Eq.{bytes_eq-Decides}
@@ -29,8 +29,8 @@ use Rattle.written_check.specs.Short.{AreShort}
 use Rattle.written_check.specs.Verified.{WrittenTexts}
 use Rattle.written_check.specs.declared.refutation.Refutation.{Refutation}
 use Rattle.command_scripts.specs.StepLaws.{no_err, ok_same, outcome_go}
-use Rattle.command_scripts.specs.Does.{Ends}
-use Rattle.command_scripts.specs.Due.{after_puts, ended_of, HoldsAll, prints, puts, TakesAll}
+use Rattle.command_scripts.specs.Does.{Ends, Answers, DoesPart, FailsAt, FailsBy, IsDue, Script}
+use Rattle.command_scripts.specs.Due.{after_puts, ended_of, HoldsAll, prints, puts, TakesAll, Due, HoldsSome, Put, PutFails, puts_of, PutsSome}
 use Rattle.command_steps.specs.Front.{both_files, plan_file, prepared_files, shares_over}
 use Rattle.command_scripts.specs.Loads.{loaded}
 use Rattle.command_steps.specs.Reviewed.{decided_plan, journal_file, Review, reviewed_plan, reviewed_settings, ReviewedPlan}
@@ -38,13 +38,15 @@ use Rattle.command_scripts.specs.Seen.{IsUncalled, SinkSeen, StoreSeen}
 use Rattle.command_scripts.specs.Steps.{◌>>=◌, ComesTo, file, file_within, gives, load, outcome, refused_by, Steps}
 use Rattle.command_scripts.specs.declared.ends.Ended.{Ended}
 use Rattle.command_scripts.specs.declared.ends.Ended.TheVariants.{Done, Refuted}
-use Rattle.link_shell.proofs.CommandFacts.{KeepsSettings, keeps_settings}
+use Rattle.link_shell.proofs.Laws.{KeepsSettings, keeps_settings}
 use Rattle.link_shell.proofs.HeadlineFacts.{came, FoundBy, given_ok, settings_found, told_above}
 use Rattle.link_shell.specs.AfterRun.{HoldsProof, ProvedByRun, SaysYes, YesAfterRun, YesWhereProved}
 use Rattle.link_shell.specs.Commands.{command_of, run_of_settings, verification_of_settings}
 use Rattle.link_shell.specs.Linked.{Follows, IsComplete, Performed, Reported, status_after}
 use Rattle.link_shell.specs.RunSettings.{run_puts, run_script}
 use Rattle.link_shell.specs.VerifySettings.{ended_by, proved_by, verified_settings, verify_script, written_files, WrittenPlan}
+use Rattle.command_scripts.specs.Causes.{Cause, cause_of, the_input, the_memory, the_output, the_store, the_words}
+use Rattle.link_shell.specs.MigrateSettings.{is_one_put}
 
 -- each name that steps load has a property
 abbrev pub AllLoads : {T : Type 0} → (List ℕ → Type 0) → Steps T → Type 0
@@ -213,9 +215,9 @@ module _ (law : RunIsVerified) (name : List ℕ) (kept : IsKept name) (store : S
 
 pub proved_by_run : RunIsVerified → (words : List (List ℕ)) (store : StoreSeen) (out err : SinkSeen) (answer : Result Ended Refusal) (status : ℕ) → Performed words store out answer → Reported err answer status → ProvedByRun words store status
 proved_by_run law words store out err (Ok Done) status p r =
-    λ name is zero told. proves law name (subst (λ command. IfSome command KeepsSettings) is (keeps_settings words)) store out told (subst (λ command. Follows command store out (Ok Done)) is p.follows).answers
-proved_by_run law words store out err (Ok Refuted) status p r = λ name is zero told. absurd (omega (arith, r.0, zero))
-proved_by_run law words store out err (Err f) status p r = λ name is zero told. absurd (told_above f r.written (sym r.status_is ∙ zero))
+    λ name is is_zero told. proves law name (subst (λ command. IfSome command KeepsSettings) is (keeps_settings words)) store out told (subst (λ command. Follows command store out (Ok Done)) is p.follows).answers
+proved_by_run law words store out err (Ok Refuted) status p r = λ name is is_zero told. absurd (omega (arith, r.0, is_zero))
+proved_by_run law words store out err (Err f) status p r = λ name is is_zero told. absurd (told_above f r.written (sym r.status_is ∙ is_zero))
 
 -- `verify` says yes of what proves its links
 module _ (name : List ℕ) (store : StoreSeen) (out : SinkSeen) (told : store.tells) (proof : HoldsProof name store.held_before) where
@@ -265,9 +267,9 @@ ran_quiet name store out e = record { faults = e.faults; uncalled = subst (λ d.
 
 run_quiet : (words : List (List ℕ)) (store : StoreSeen) (out err : SinkSeen) (answer : Result Ended Refusal) (status : ℕ) → Performed words store out answer → Reported err answer status
     → (name : List ℕ) → command_of words ≡ Some (run_of_settings name) → status ≡ 0 → WasQuiet store out
-run_quiet words store out err (Ok Done) status p r name is zero = ran_quiet name store out (subst (λ command. Follows command store out (Ok Done)) is p.follows).answers
-run_quiet words store out err (Ok Refuted) status p r name is zero = absurd (omega (arith, r.0, zero))
-run_quiet words store out err (Err f) status p r name is zero = absurd (told_above f r.written (sym r.status_is ∙ zero))
+run_quiet words store out err (Ok Done) status p r name is is_zero = ran_quiet name store out (subst (λ command. Follows command store out (Ok Done)) is p.follows).answers
+run_quiet words store out err (Ok Refuted) status p r name is is_zero = absurd (omega (arith, r.0, is_zero))
+run_quiet words store out err (Err f) status p r name is is_zero = absurd (told_above f r.written (sym r.status_is ∙ is_zero))
 
 -- the run, and then `verify`
 pub yes_after_run : (run verify : List (List ℕ)) (tells told_out : Type 0) (h0 h1 h2 : Held) (f0 f1 f2 : List StoreCall) (t0 t1 t2 : List ℕ) (n0 n1 n2 : ℕ) (err : SinkSeen) (answer : Result Ended Refusal) (ran verified : ℕ)
@@ -279,9 +281,76 @@ pub yes_after_run : (run verify : List (List ℕ)) (tells told_out : Type 0) (h0
     (record { tells = told_out; taken_before = t1; taken_after = t2; faults_before = n1; faults_after = n2 }) verified
     → YesAfterRun run verify (record { tells = tells; held_before = h0; held_after = h2; faults_before = f0; faults_after = f2 })
     (record { tells = told_out; taken_before = t0; taken_after = t2; faults_before = n0; faults_after = n2 }) ran verified
-yes_after_run run verify tells told_out h0 h1 h2 f0 f1 f2 t0 t1 t2 n0 n1 n2 err answer ran verified p r proved where_proved = λ name is_run is_verify zero tell same still.
-    let quiet = run_quiet run _ _ err answer ran p r name is_run zero in
+yes_after_run run verify tells told_out h0 h1 h2 f0 f1 f2 t0 t1 t2 n0 n1 n2 err answer ran verified p r proved where_proved = λ name is_run is_verify is_zero tell same still.
+    let quiet = run_quiet run _ _ err answer ran p r name is_run is_zero in
     let calm : Rose n1 n2 → ⊥ = subst (λ n. Rose n n2 → ⊥) (sym quiet.uncalled.faults) still in
-    let says = where_proved name is_verify tell (proved name is_run zero tell) (same ∙ sym quiet.faults) calm in
+    let says = where_proved name is_verify tell (proved name is_run is_zero tell) (same ∙ sym quiet.faults) calm in
     let P : List ℕ → Type 0 = λ t. SaysYes (record { tells = told_out; taken_before = t; taken_after = t2; faults_before = n1; faults_after = n2 }) verified in
     subst P quiet.uncalled.taken says
+
+-- A command of which one put is due: the put was made, or no name holds anything else than it did.
+
+abbrev pub one_put : Steps Put → Script
+one_put s = record { Found = Put; steps = s; due = is_one_put }
+
+-- the put that the steps come to was made
+pub record IsMade (s : Steps Put) (store : StoreSeen) : Type 0 where
+  pub put : Put
+  pub found : outcome s store.held_before ≡ Ok put
+  pub held : store.held_after ≡ after_puts (put ∷ []) store.held_before
+
+abbrev pub IsMadeOrKept : Steps Put → StoreSeen → Type 0
+IsMadeOrKept s store = (store.held_after ≡ store.held_before) ⊎ IsMade s store
+
+module _ (s : Steps Put) (store : StoreSeen) (out : SinkSeen) (told : store.tells) where
+  ended : (e : Ended) → Ends (one_put s) store out e → IsMade s store
+  ended e h =
+      let found : Put = h.is_due.found in
+      let holds : HoldsAll (puts (found ∷ [])) store = subst (λ d. HoldsAll d store) h.is_due.so h.held in
+      record { put = found; found = h.is_due.steps.told told; held = holds told }
+
+  by_count : (put : Put) → outcome s store.held_before ≡ Ok put → (count : ℕ) → count ≤ 1 → store.held_after ≡ after_puts (take count (put ∷ [])) store.held_before → IsMadeOrKept s store
+  by_count put found zero le held = inl held
+  by_count put found (suc zero) le held = inr (record { put = put; found = found; held = held })
+  by_count put found (suc (suc n)) le held = absurd (omega (arith, le))
+
+  in_part : (due : Due) → IsDue (one_put s) store due → HoldsSome due store → IsMadeOrKept s store
+  in_part due is some =
+      let holds : HoldsSome (puts (is.found ∷ [])) store = subst (λ d. HoldsSome d store) is.so some in
+      let part : PutsSome (is.found ∷ []) store = holds told in
+      by_count is.found (is.steps.told told) part.0 part.1 part.2
+
+  by_failed : (put : Put) → outcome s store.held_before ≡ Ok put → (count : ℕ) → count < 1
+      → (store.held_after ≡ after_puts (take count (put ∷ [])) store.held_before) ⊎ (store.held_after ≡ after_puts (take (count + 1) (put ∷ [])) store.held_before)
+      → IsMadeOrKept s store
+  by_failed put found zero lt (inl held) = inl held
+  by_failed put found zero lt (inr held) = inr (record { put = put; found = found; held = held })
+  by_failed put found (suc n) lt h = absurd (omega (arith, lt))
+
+  put_failed : (due : Due) → IsDue (one_put s) store due → (call : StoreCall) → PutFails (puts_of due) store call → IsMadeOrKept s store
+  put_failed due is call fails =
+      let part : PutFails (is.found ∷ []) store call = subst (λ d. PutFails (puts_of d) store call) is.so fails in
+      by_failed is.found (is.steps.told told) part.0 part.1 (part.3 told)
+
+  at_call : (call : StoreCall) → FailsAt (one_put s) store call → IsMadeOrKept s store
+  at_call call (inl reached) = inl reached.1
+  at_call call (inr h) = put_failed h.0 h.1 call h.2
+
+  for_memory : ((store.held_after ≡ store.held_before) × IsUncalled out) ⊎ DoesPart (one_put s) store out → IsMadeOrKept s store
+  for_memory (inl nothing) = inl nothing.0
+  for_memory (inr part) = in_part part.due part.is_due part.held
+
+  by_cause : (cause : Cause) (f : Refusal) → FailsBy cause (one_put s) store out f → IsMadeOrKept s store
+  by_cause the_words f h = absurd h
+  by_cause (the_store name) f h = at_call h.call h.place
+  by_cause the_output f h = inl h.untouched.held
+  by_cause the_memory f h = for_memory h.part
+  by_cause the_input f h = inl h.untouched.held
+
+  pub made_or_kept : (answer : Result Ended Refusal) → Answers (one_put s) store out answer → IsMadeOrKept s store
+  made_or_kept (Ok e) h = inr (ended e h)
+  made_or_kept (Err f) h = by_cause (cause_of f) f h
+
+  pub made_at_zero : (err : SinkSeen) (answer : Result Ended Refusal) (status : ℕ) → Answers (one_put s) store out answer → Reported err answer status → status ≡ 0 → IsMade s store
+  made_at_zero err (Ok e) status h r none = ended e h
+  made_at_zero err (Err f) status h r none = absurd (told_above f r.written (sym r.status_is ∙ none))

@@ -1,6 +1,5 @@
 -- The headline follows of what the words do, and of the status that is told.
-use Rattle.std.proofs.Common.{◌≡◌, ◌⊎◌, ◌∙◌, inl, inr, ◌∷◌, ℕ, ℤ, List, [], length, Option, Some, None, Result, Ok, Err, refl, sym, ap, subst, arith}
-use Rattle.std.specs.Prelude.{All, Contains}
+use Rattle.std.proofs.Common.{◌≡◌, ◌⊎◌, ◌∙◌, inl, inr, ◌∷◌, ℕ, ℤ, List, [], length, Option, Some, None, Result, Ok, Err, refl, sym, ap, subst, arith, All, Contains, Bool, true, false, IsErrAnd}
 use Rattle.std.specs.List.{cons_option}
 use Rattle.std.proofs.lemmas.List.Elements.{All-cons, All-contains, All-weaker}
 use Rattle.candidate_links.specs.Candidates.{by_decision, candidate_by_verdict, candidate_of, candidates_of, linked, weight_of_pair}
@@ -30,7 +29,7 @@ use Rattle.pair_decisions.specs.PairRule.{FileRule}
 use Rattle.review_journal.specs.Verdict.{verdict_on}
 use Rattle.review_journal.specs.declared.entry.Entry.{Entry}
 use Rattle.link_plan.specs.declared.plan.Plan.{Plan}
-use Rattle.command_scripts.specs.StepLaws.{no_ok, ok_same}
+use Rattle.command_scripts.specs.StepLaws.{no_ok, ok_same, at_err}
 use Rattle.command_scripts.specs.Does.{Ends}
 use Rattle.command_scripts.specs.Due.{after_puts, HoldsAll, puts, TakesAll}
 use Rattle.command_steps.specs.Front.{plan_file, prepared_files, shares_over}
@@ -43,6 +42,8 @@ use Rattle.command_scripts.specs.declared.ends.Ended.TheVariants.{Done, Refuted}
 use Rattle.link_shell.specs.Headline.{AreGreatestLinks, Headline, IsByRuleOrReview, RunWrites}
 use Rattle.link_shell.specs.Linked.{Follows, Performed, Reported, status_after}
 use Rattle.link_shell.specs.RunSettings.{run_puts, run_script}
+use Rattle.std.specs.Prelude.{MatchBool, ⊤}
+use Rattle.link_base.specs.Fault.{Gives, IsAnswer, is_want}
 
 -- steps that came to a value were passed, one after the other
 came_read : {A B : Type 0} (read : Result (List ℕ) Refusal) (p : List ℕ → Result A Refusal) (q : List ℕ → Result B Refusal) (Q : A → Type 0) (y : B)
@@ -203,3 +204,20 @@ headline words store out err (Ok Done) status p r =
     λ name is zero told. done name store out err told (subst (λ command. Follows command store out (Ok Done)) is p.follows).answers r.1
 headline words store out err (Ok Refuted) status p r = λ name is zero told. absurd (omega (arith, r.0, zero))
 headline words store out err (Err f) status p r = λ name is zero told. absurd (told_above f r.written (sym r.status_is ∙ zero))
+
+-- Answers that are composed of steps, where one of them refuses.
+
+refused : {A B : Type 0} (b : Bool) (r : Result A Fault) (next : A → Result B Fault) (f : Fault) → MatchBool b ⊤ (r ≡ Err f) → MatchBool b ⊤ (and_then r next ≡ Err f)
+refused true r next f h = tt
+refused false r next f h = ap (λ x. and_then x next) h
+
+-- the step refuses, and so does what goes on with it
+pub refuses_here : {A B X : Type 0} (view : X → B) (r : Result A Fault) (next : A → Result B Fault) (f : Fault) → IsAnswer r (Err f) → Gives view (and_then r next) (Err f)
+refuses_here view r next f h = refused (is_want f) r next f h
+
+-- the step went on
+pub goes_on : {A B : Type 0} (P : Result B Fault → Type 0) (r : Result A Fault) (next : A → Result B Fault) (x : A) → r ≡ Ok x → P (next x) → P (and_then r next)
+goes_on P r next x e h = subst (λ y. P (and_then y next)) (sym e) h
+
+pub answer_as : {X T : Type 0} (view : X → T) (expected : Result T Fault) (result : Result X Fault) (f : Fault) → IsErrAnd result (λ e. e ≡ f) → Gives view expected (Err f) → Gives view expected result
+answer_as view expected result f e h = at_err (λ r. Gives view expected r) result f e h

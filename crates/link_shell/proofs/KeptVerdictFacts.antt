@@ -34,10 +34,9 @@ use Rattle.command_steps.specs.Reviewed.{journal_file, journal_plan, named_journ
 use Rattle.command_scripts.specs.Seen.{SinkSeen, StoreSeen}
 use Rattle.command_scripts.specs.Steps.{◌>>=◌, file, outcome, refused_by, Steps}
 use Rattle.command_scripts.specs.declared.ends.Ended.{Ended}
-use Rattle.link_shell.proofs.AfterRunFacts.{AllLoads, file_held, kept_if, loads_then, same_outcome}
-use Rattle.link_shell.proofs.CommandFacts.{of_each}
+use Rattle.link_shell.proofs.AfterRunFacts.{AllLoads, file_held, kept_if, loads_then, same_outcome, IsMade, made_at_zero, made_or_kept}
+use Rattle.link_shell.proofs.Laws.{of_each}
 use Rattle.link_shell.proofs.HeadlineFacts.{came, found_by, given_ok, step_came}
-use Rattle.link_shell.proofs.OnePutFacts.{IsMade, made_at_zero, made_or_kept}
 use Rattle.link_shell.specs.Commands.{are_words, Command, command_in, command_of, migration_of_settings, review_of_settings}
 use Rattle.link_shell.specs.KeptVerdicts.{LoadsAs, MigrateKeeps, NoVerdictLost, ReviewKeeps, StillGives}
 use Rattle.link_shell.specs.Linked.{Follows, Performed, Reported}

@@ -1,11 +1,5 @@
-pub mod WordFacts
 pub mod Laws
-pub mod LevelFacts
 pub mod HeadlineFacts
-pub mod InputFacts
-pub mod CommandFacts
 pub mod AfterRunFacts
-pub mod OnePutFacts
 pub mod KeptVerdictFacts
 pub mod MeaningFacts
-pub mod FilledRuleFacts

@@ -10,7 +10,7 @@ use settings::is_output;
 pub(crate) const MOST_LISTED: usize = 100;
 
 // The word at a place.
-#[tactic(auto, using(crate::proofs::WordFacts::word_there))]
+#[tactic(auto, using(crate::proofs::Laws::word_there))]
 pub(crate) fn word_at(words: &[String], at: usize) -> &str
     requires { at < length words.now }
     ensures { result.now ≡ slice_index_or (map string_bytes words.now) at [] }

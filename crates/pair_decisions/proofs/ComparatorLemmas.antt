@@ -1,25 +1,150 @@
--- The comparators of a plan's fields, and the sides that they may be asked of.
-use Rattle.std.proofs.Common.{◌≡◌, ◌+◌, ◌<◌, ℕ, true, false, List, [], ◌∷◌, ◌++◌, length, map, get_or, inl, inr, refl, ap, sym, subst, ◌∙◌, arith}
-use Rattle.std.specs.Prelude.{Option, Some, None, IfSome, is_some}
+-- What is decided of pairs that stand in both files and rise.
+use Rattle.std.proofs.Common.{◌≡◌, ◌≤◌, ◌+◌, ℕ, Bool, List, [], ◌∷◌, length, filter, ap, arith, cond, refl, subst, sym, All, AllPairs, ◌<◌, Some, get_or, drop, ◌∙◌, find, map, true, false, ◌++◌, inl, inr, Option, None, IfSome, is_some}
+use Rattle.std.proofs.lemmas.List.Elements.{All-filter, All-map, All-nil, All-weaker}
+use Rattle.std.proofs.lemmas.List.Kept.{AllPairs-filter}
+use Rattle.link_base.specs.declared.rule.Decision.{Decision}
+use Rattle.link_base.specs.declared.rule.Decision.TheVariants.{Link, NonLink, Possible}
+use Rattle.link_base.specs.declared.rule.PairAt.{PairAt}
+use Rattle.link_base.specs.Rule.{IsPairBefore}
+use Rattle.pair_decisions.specs.Decisions.{DecidedView, count_with, decision_at, is_same, pairs_with}
+use Rattle.pair_decisions.specs.PairRule.{FileRule, has_pattern, pattern_by, rares_in, pattern_over, AreSidesFor, PairRuleView, side_rule}
+use Rattle.pair_decisions.specs.Pairs.{IsInside}
+use Rattle.std.proofs.lemmas.List.Folds.{find_at}
+use Rattle.std.proofs.lemmas.Option.{slice_get-get_or}
+use Rattle.link_base.specs.declared.rule.RuleCell.{RuleCell}
+use Rattle.pair_decisions.specs.Places.{place_of}
+use Rattle.comparators.specs.Fields.{field_outcome, field_rare, IsCounted, IsFieldSide, field_of, field_laws}
+use Rattle.comparators.specs.declared.ids.FieldById.{FieldById}
+use Rattle.comparators.specs.declared.ids.IdValue.{IdValue}
+use Rattle.link_base.specs.declared.rule.Outcome.{Outcome}
+use Rattle.patterns.specs.Patterns.{number_of, outcomes, AreSides}
+use Rattle.pair_decisions.specs.CellLaws.{map_via}
+use Rattle.pair_decisions.specs.Comparators.{SideComparator, answers_of, comparator_at, comparator_by, id_counts, rares_of}
+use Rattle.std.specs.Prelude.{MatchBool, Result, Ok, Err, ⊤}
+use Rattle.link_base.specs.Answers.{and_then, RefusesBut}
+use Rattle.link_base.specs.Fault.{is_want}
+use Rattle.link_base.specs.declared.fault.Fault.{Fault}
+use Rattle.sample_counts.specs.Counts.{counts_by, judged_by}
+use Rattle.sample_counts.specs.declared.reviewed.Reviewed.{Reviewed}
+use Rattle.pair_decisions.specs.PlanShares.{counts_by_pattern}
 use Rattle.std.specs.List.{enumerate_from}
 use Rattle.std.proofs.Math.ListN.{get_or-append}
 use Rattle.std.proofs.Math.Seq.{get_or-append_seam}
 use Rattle.std.proofs.lemmas.Bool.{cases_lt}
-use Rattle.std.proofs.lemmas.List.{get_or_default}
+use Rattle.std.proofs.lemmas.List.{get_or_default, get_or-map, length-map, map-append}
 use Rattle.value_forms.specs.Canons.{exact}
 use Rattle.value_forms.specs.declared.canons.CompareKind.{CompareKind}
 use Rattle.value_forms.specs.declared.canons.CompareKind.TheVariants as by
 use Rattle.link_base.specs.declared.plan.FieldSort.TheVariants as sort
-use Rattle.comparators.specs.Fields.{IsCounted, IsFieldSide, field_of, field_rare}
-use Rattle.comparators.specs.declared.ids.FieldById.{FieldById}
-use Rattle.comparators.specs.declared.ids.IdValue.{IdValue}
 use Rattle.comparators.specs.declared.ids.IdValue.TheVariants as id
-use Rattle.patterns.specs.Patterns.{AreSides}
 use Rattle.link_plan.specs.Ranges.{IsRareNumber, may_be_rare}
 use Rattle.link_plan.specs.Plan.{FieldKeys}
-use Rattle.pair_decisions.specs.CellLaws.{map_via}
-use Rattle.pair_decisions.specs.Comparators.{SideComparator, answers_of, comparator_at, comparator_by, id_counts, rares_of}
 use Rattle.pair_decisions.specs.Sides.{AreSidesOf, IsOfTexts}
+use Rattle.patterns.specs.ShapeLaws.{pattern-lt}
+use Rattle.patterns.specs.Shapes.{pattern_count_by}
+use Rattle.pair_decisions.specs.PairRows.{AreRowsIn, decided_row, decided_rows, kept_rows}
+use Rattle.pair_decisions.specs.declared.rows.DecidedRow.{DecidedRow}
+
+-- a list that is a filter of pairs lies in the files, and rises
+module _ (p : PairAt → Bool) (pairs found : List PairAt) (is : found ≡ filter p pairs) where
+  pub found_inside : (rows_a rows_b : ℕ) → All (IsInside rows_a rows_b) pairs → All (IsInside rows_a rows_b) found
+  found_inside rows_a rows_b h = subst (λ (ps : List PairAt). All (IsInside rows_a rows_b) ps) (sym is) (All-filter p (IsInside rows_a rows_b) pairs h)
+
+  pub found_rise : AllPairs IsPairBefore pairs → AllPairs IsPairBefore found
+  found_rise h = subst (λ (ps : List PairAt). AllPairs IsPairBefore ps) (sym is) (AllPairs-filter IsPairBefore p pairs h)
+
+-- each pair has one of three decisions
+pub three_kinds : (decided : PairAt → Decision) (pairs : List PairAt)
+    → length (filter (λ at. is_same Link (decided at)) pairs) + length (filter (λ at. is_same Possible (decided at)) pairs) + length (filter (λ at. is_same NonLink (decided at)) pairs) ≡ length pairs
+three_kinds decided [] = refl
+three_kinds decided (at ∷ pairs) = one_more (decided at) (three_kinds decided pairs)
+  where
+    one_more : (kind : Decision)
+        → length (filter (λ at. is_same Link (decided at)) pairs) + length (filter (λ at. is_same Possible (decided at)) pairs) + length (filter (λ at. is_same NonLink (decided at)) pairs) ≡ length pairs
+        → length (cond (is_same Link kind) (at ∷ filter (λ at. is_same Link (decided at)) pairs) (filter (λ at. is_same Link (decided at)) pairs))
+        + length (cond (is_same Possible kind) (at ∷ filter (λ at. is_same Possible (decided at)) pairs) (filter (λ at. is_same Possible (decided at)) pairs))
+        + length (cond (is_same NonLink kind) (at ∷ filter (λ at. is_same NonLink (decided at)) pairs) (filter (λ at. is_same NonLink (decided at)) pairs))
+        ≡ length (at ∷ pairs)
+    one_more Link rest = omega arith
+    one_more Possible rest = omega arith
+    one_more NonLink rest = omega arith
+
+-- what is counted of decided pairs
+module _ (rule : FileRule) (pairs : List PairAt) (d : DecidedView) (all : d.compared ≡ length pairs)
+    (links : d.links ≡ pairs_with Link rule pairs) (possible : d.possible ≡ pairs_with Possible rule pairs) where
+  pub counted : (kind : Decision) → count_with d kind ≡ length (pairs_with kind rule pairs)
+  counted Link = ap length links
+  counted Possible = ap length possible
+  counted NonLink = omega (arith, three_kinds (decision_at rule) pairs, ap length links, ap length possible)
+
+  pub not_more : length d.links + length d.possible ≤ d.compared
+  not_more = omega (arith, three_kinds (decision_at rule) pairs, ap length links, ap length possible)
+
+-- The places of cells, told from the last on.
+
+-- the cells from a place on are told
+abbrev pub AreToldFrom : List RuleCell → List ℕ → ℕ → Type 0
+AreToldFrom cells places at = (pattern : ℕ) → place_of (drop at cells) pattern < length (drop at cells) → get_or places pattern 0 ≡ at + place_of (drop at cells) pattern
+
+-- the cell at the place of a pattern is the one that is found
+pub found_at : (cells : List RuleCell) (pattern place : ℕ) (d : RuleCell) → place ≡ place_of cells pattern → place_of cells pattern < length cells → find (has_pattern pattern) cells ≡ Some (get_or cells place d)
+found_at cells pattern place d e lt = find_at (has_pattern pattern) cells ∙ slice_get-get_or cells (place_of cells pattern) d lt ∙ ap (λ k. Some (get_or cells k d)) (sym e)
+
+-- What the comparators of a rule answer.
+
+pub rares_seen : (all : List FieldById) → map field_rare all ≡ rares_in (map answers_of all)
+rares_seen all = sym (map_via answers_of (λ (c : SideComparator IdValue). c.rare) all)
+
+abbrev pub outcome_in : SideComparator IdValue → IdValue → IdValue → Outcome
+outcome_in c = c.outcome
+
+pub outcomes_seen : (all : List FieldById) (a b : List IdValue) → outcomes field_outcome all a b ≡ outcomes outcome_in (map answers_of all) a b
+outcomes_seen [] a b = refl
+outcomes_seen (c ∷ cs) [] b = refl
+outcomes_seen (c ∷ cs) (x ∷ xs) [] = refl
+outcomes_seen (c ∷ cs) (x ∷ xs) (y ∷ ys) = ap (λ os. field_outcome c x y ∷ os) (outcomes_seen cs xs ys)
+
+-- the pattern by comparators is that by their answers
+pub pattern_seen : (all : List FieldById) (a b : List IdValue) → number_of (map field_rare all) (outcomes field_outcome all a b) ≡ pattern_by (map answers_of all) a b
+pattern_seen all a b = λ i. number_of (rares_seen all i) (outcomes_seen all a b i)
+
+-- The counts of a sample by comparators are those by the patterns that their answers give, and so are its faults.
+
+module _ (kinds : List FieldById) (rows_a rows_b : List (List IdValue)) where
+  same_judged : (r : Reviewed) → judged_by field_rare field_outcome kinds rows_a rows_b r ≡ judged_by (λ (c : SideComparator IdValue). c.rare) outcome_in (map answers_of kinds) rows_a rows_b r
+  same_judged r = λ i. record {
+    matched = r.matched;
+    pattern = number_of (rares_seen kinds i) (outcomes_seen kinds (get_or rows_a r.a []) (get_or rows_b r.b []) i);
+  }
+
+  counts_answered : (sample : List Reviewed) → counts_by field_rare field_outcome kinds rows_a rows_b sample
+      ≡ counts_by_pattern (rares_in (map answers_of kinds)) (pattern_over (map answers_of kinds) rows_a rows_b) sample
+  counts_answered sample = λ i. record { rares = rares_seen kinds i; rows = map (λ r. same_judged r i) sample }
+
+  pub counts_by_answers : (cs : List (SideComparator IdValue)) (rares : List Bool) → map answers_of kinds ≡ cs → map field_rare kinds ≡ rares → (sample : List Reviewed)
+      → counts_by field_rare field_outcome kinds rows_a rows_b sample ≡ counts_by_pattern rares (pattern_over cs rows_a rows_b) sample
+  counts_by_answers cs rares e r sample =
+      counts_answered sample ∙ ap (λ bs. counts_by_pattern bs (pattern_over (map answers_of kinds) rows_a rows_b) sample) (sym (rares_seen kinds) ∙ r)
+      ∙ ap (λ all. counts_by_pattern rares (pattern_over all rows_a rows_b) sample) e
+
+-- what is given of what is given
+pub given_then : {A B C : Type 0} (step : Result A Fault) (f g : A → B) (h : B → C) (v : B) → ((x : A) → f x ≡ g x) → and_then step (λ x. Ok (f x)) ≡ Ok v → and_then step (λ x. Ok (h (g x))) ≡ Ok (h v)
+given_then (Ok x) f g h v same e = let found : f x ≡ v = cc in ap (λ y. Ok (h y)) (sym (same x) ∙ found)
+given_then (Err fault) f g h v same e = absurd (cc)
+
+refused_then : {A B C : Type 0} (step : Result A Fault) (f : A → B) (g : A → C) (e : Fault) → and_then step (λ x. Ok (f x)) ≡ Err e → and_then step (λ x. Ok (g x)) ≡ Err e
+refused_then (Ok x) f g e h = absurd (cc)
+refused_then (Err fault) f g e h = let same : fault ≡ e = cc in ap Err same
+
+match_weaker : (b : Bool) (P Q : Type 0) → (P → Q) → MatchBool b ⊤ P → MatchBool b ⊤ Q
+match_weaker true P Q f h = h
+match_weaker false P Q f h = f h
+
+-- a fault of the first step is one of the whole
+pub refuses_as : {A B C : Type 0} (step : Result A Fault) (f : A → B) (g : A → C) (e : Fault) → RefusesBut is_want (and_then step (λ x. Ok (f x))) e → RefusesBut is_want (and_then step (λ x. Ok (g x))) e
+refuses_as step f g e h = match_weaker (is_want e) _ _ (refused_then step f g e) h
+
+-- The comparators of a plan's fields, and the sides that they may be asked of.
 
 -- a side of a kind that is compared by a canon has a count
 counted_id : (texts : ℕ) (side : IdValue) → IsFieldSide (field_of exact) side → IsOfTexts texts side → IsCounted texts side
@@ -88,3 +213,58 @@ sides_valid texts fields all sides of len asked = record {
       let f = no_field in
       subst (λ x. IsFieldSide (get_or all k c) x) (get_or_default sides k id.Absent s there) (asked k c f (get_or sides k id.Absent) within (of.valid k f within) (of.of_texts k within));
 }
+
+-- The rows of pairs before review: as they are kept, and that they can be written where the pairs rise and stand in two files.
+
+kept_append : (keep : Bool) (rows more : List DecidedRow) → kept_rows keep (rows ++ more) ≡ kept_rows keep rows ++ kept_rows keep more
+kept_append true rows more = refl
+kept_append false rows more = refl
+
+-- the rows of joined pairs that are kept
+pub kept_joined : (keep : Bool) (row : PairAt → DecidedRow) (ps qs : List PairAt) → kept_rows keep (map row (ps ++ qs)) ≡ kept_rows keep (map row ps) ++ kept_rows keep (map row qs)
+kept_joined keep row ps qs = ap (kept_rows keep) (map-append row ps qs) ∙ kept_append keep (map row ps) (map row qs)
+
+-- the pattern of two rows of sides is one of those of the rule
+pattern_below : (rule : PairRuleView) (a b : List IdValue) → AreSidesFor rule a → AreSidesFor rule b
+    → pattern_by (map answers_of rule.comparators) a b < pattern_count_by (map field_rare rule.comparators)
+pattern_below rule a b of_a of_b =
+    subst (λ (n : ℕ). n < pattern_count_by (map field_rare rule.comparators)) (pattern_seen rule.comparators a b)
+    (pattern-lt (λ c. (field_laws c).only_rare) rule.comparators a b of_a.as_many of_b.as_many)
+
+module _ (rule : PairRuleView) (rows_a rows_b : List (List IdValue)) (pairs : List PairAt) (sides_a : All (AreSidesFor rule) rows_a) (sides_b : All (AreSidesFor rule) rows_b)
+    (many : length rule.cells ≡ pattern_count_by (map field_rare rule.comparators))
+    (inside : All (IsInside (length rows_a) (length rows_b)) pairs) (rise : AllPairs IsPairBefore pairs) where
+  abbrev rows : List DecidedRow
+  rows = decided_rows (side_rule rule rows_a rows_b) pairs
+
+  below : (at : PairAt) → IsInside (length rows_a) (length rows_b) at → (side_rule rule rows_a rows_b).pattern at < length rule.cells
+  below at within =
+      subst (λ (n : ℕ). (side_rule rule rows_a rows_b).pattern at < n) (sym many)
+      (pattern_below rule (get_or rows_a at.a []) (get_or rows_b at.b []) (sides_a at.a [] within.0) (sides_b at.b [] within.1))
+
+  all_in : AreRowsIn (length rows_a) (length rows_b) (length rule.cells) rows
+  all_in =
+      let row = decided_row (side_rule rule rows_a rows_b) in
+      record {
+        in_a = All-map (λ (r : DecidedRow). r.at.a < length rows_a) row pairs (All-weaker (IsInside (length rows_a) (length rows_b)) (λ at. at.a < length rows_a) (λ at h. h.0) pairs inside);
+        in_b = All-map (λ (r : DecidedRow). r.at.b < length rows_b) row pairs (All-weaker (IsInside (length rows_a) (length rows_b)) (λ at. at.b < length rows_b) (λ at h. h.1) pairs inside);
+        patterns_in = All-map (λ (r : DecidedRow). r.pattern < length rule.cells) row pairs (All-weaker (IsInside (length rows_a) (length rows_b)) (λ at. (row at).pattern < length rule.cells) below pairs inside);
+        rising = λ i j d lt within.
+            let many : length rows ≡ length pairs = length-map pairs row in
+            let first : (get_or rows i d).at ≡ get_or pairs i d.at = ap (λ (r : DecidedRow). r.at) (get_or-map row pairs i d.at d (omega arith)) in
+            let second : (get_or rows j d).at ≡ get_or pairs j d.at = ap (λ (r : DecidedRow). r.at) (get_or-map row pairs j d.at d (omega arith)) in
+            subst (λ (x : PairAt). IsPairBefore x (get_or rows j d).at) (sym first) (subst (λ (y : PairAt). IsPairBefore (get_or pairs i d.at) y) (sym second) (rise i j d.at lt (omega arith)));
+      }
+
+  none_in : AreRowsIn (length rows_a) (length rows_b) (length rule.cells) []
+  none_in = record {
+    in_a = All-nil (λ (r : DecidedRow). r.at.a < length rows_a);
+    in_b = All-nil (λ (r : DecidedRow). r.at.b < length rows_b);
+    patterns_in = All-nil (λ (r : DecidedRow). r.pattern < length rule.cells);
+    rising = λ i j d lt within. absurd (omega arith);
+  }
+
+  -- the rows that are kept can be written
+  pub kept_in : (keep : Bool) (found : List DecidedRow) → found ≡ kept_rows keep rows → AreRowsIn (length rows_a) (length rows_b) (length rule.cells) found
+  kept_in true found is = subst (λ (rs : List DecidedRow). AreRowsIn (length rows_a) (length rows_b) (length rule.cells) rs) (sym is) all_in
+  kept_in false found is = subst (λ (rs : List DecidedRow). AreRowsIn (length rows_a) (length rows_b) (length rule.cells) rs) (sym is) none_in

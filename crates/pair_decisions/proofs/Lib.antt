@@ -1,17 +1,4 @@
-pub mod PairLemmas
-pub mod PlaceLemmas
-pub mod SideLemmas
-pub mod AnswerLemmas
 pub mod ComparatorLemmas
-pub mod CountLemmas
 pub mod ListSteps
-pub mod PlainPatterns
-pub mod RankedCells
-pub mod RareLemmas
-pub mod ShareLemmas
-pub mod FilledGive
 pub mod FilledRule
-pub mod SharesRule
 pub mod LineLemmas
-pub mod RowLemmas
-pub mod ValuePatterns

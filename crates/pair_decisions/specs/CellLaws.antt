@@ -1,6 +1,5 @@
 -- Laws of the cells of a rule: each pattern of a plan stands in one cell, there are as many cells as patterns, and each is of one of them.
-use Rattle.std.proofs.Common.{◌≡◌, ◌<◌, ◌≤◌, ℕ, Bool, true, false, List, [], ◌∷◌, length, map, get_or, ap, arith, inl, inr, refl, subst, sym, ◌∙◌, eq-eqb}
-use Rattle.std.specs.Prelude.{All, is_some}
+use Rattle.std.proofs.Common.{◌≡◌, ◌<◌, ◌≤◌, ℕ, Bool, true, false, List, [], ◌∷◌, length, map, get_or, ap, arith, inl, inr, refl, subst, sym, ◌∙◌, eq-eqb, All, is_some}
 use Rattle.std.specs.List.{range_with_len}
 use Rattle.std.specs.List.Sorted.{IsPermutation}
 use Rattle.std.proofs.lemmas.Bool.{cases_lt}

@@ -9,7 +9,7 @@ use Rattle.value_forms.specs.declared.canons.CompareKind.{CompareKind}
 use Rattle.link_base.specs.declared.rule.PairAt.{PairAt}
 use Rattle.link_base.specs.declared.rule.RuleCell.{RuleCell}
 use Rattle.link_base.specs.declared.standard.Value.{Value}
-use Rattle.comparators.specs.Fields.{kind_of, kind_outcome}
+use Rattle.comparators.specs.Fields.{kind_outcome}
 use Rattle.comparators.specs.OfPool.{rare_where}
 use Rattle.link_plan.specs.Plan.{FieldKeys}
 use Rattle.link_plan.specs.declared.plan.Plan.{Plan}
@@ -37,10 +37,10 @@ is_rare_canon most holders (Some canon) = nat_le (holders canon) most
 
 -- the comparator of a kind, and where there is a rare number the one that tells rare agreement from other agreement
 abbrev pub field_comparator : CompareKind → Option ℕ → (List ℕ → ℕ) → SideComparator Value
-field_comparator kind None holders = record { rare = false; outcome = kind_outcome (kind_of kind) }
+field_comparator kind None holders = record { rare = false; outcome = kind_outcome kind }
 field_comparator kind (Some most) holders = record {
   rare = true;
-  outcome = λ x y. rare_where (is_rare_canon most holders (canon_of kind x)) (kind_outcome (kind_of kind) x y);
+  outcome = λ x y. rare_where (is_rare_canon most holders (canon_of kind x)) (kind_outcome kind x y);
 }
 
 -- the comparator of the field at a place, and those of all fields

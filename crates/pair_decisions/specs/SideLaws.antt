@@ -1,12 +1,11 @@
 -- Laws of what the comparators of a plan are asked of: the sides that stand for a row's values are sides of the plan's fields, and the shape of
 -- the plan's patterns has its rare fields.
-use Rattle.std.proofs.Common.{◌≡◌, ◌<◌, ◌-◌, ◌∙◌, ℕ, ℤ, Bool, true, false, List, length, map, get_or, take, Option, Some, None, arith, subst}
-use Rattle.std.specs.Prelude.{MatchBool, is_some, replicate}
+use Rattle.std.proofs.Common.{◌≡◌, ◌<◌, ◌-◌, ◌∙◌, ℕ, ℤ, Bool, true, false, List, length, map, get_or, take, Option, Some, None, arith, subst, MatchBool, is_some, replicate}
 use Rattle.std.proofs.lemmas.List.{get_or-map, length-map, take-append-le, take_all}
 use Rattle.std.proofs.lemmas.Option.{slice_get_within}
 use Rattle.link_base.specs.Standard.{absent_value}
 use Rattle.value_forms.specs.declared.canons.CompareKind.{CompareKind}
-use Rattle.value_forms.specs.Canons.{exact}
+use Rattle.value_forms.specs.Canons.{exact, canon_of, compares_days, day_in}
 use Rattle.link_base.specs.declared.shares.Shape.{Shape}
 use Rattle.link_base.specs.declared.standard.Value.{Value}
 use Rattle.comparators.specs.Fields.{IsFieldSide, field_of}
@@ -16,7 +15,6 @@ use Rattle.comparators.specs.declared.ids.IdValue.TheVariants as id
 use Rattle.patterns.specs.Shapes.{rare_of}
 use Rattle.link_plan.specs.Plan.{FieldKeys}
 use Rattle.link_plan.specs.Shape.{rare_flags}
-use Rattle.value_forms.specs.Canons.{canon_of, compares_days, day_in}
 use Rattle.pair_decisions.specs.Comparators.{rares_of}
 use Rattle.pair_decisions.specs.Sides.{AreSidesOf, IsOfTexts}
 

@@ -34,7 +34,7 @@ fn comparison_at(
     ensures valid { IfOk result (λ c. (side : SideValue) → IsFieldSide (field_of field.now.compare) side → IsOfTexts texts side → IsFieldSide c side) }
 {
     match field.rare {
-        Some(most) => Ok(FieldById::rare(most, counts_in(alloc, texts, at, a, b)?)),
+        Some(most) => Ok(FieldById::Rare(most, counts_in(alloc, texts, at, a, b)?)),
         None => Ok(FieldById::of(field.compare)),
     }
 }

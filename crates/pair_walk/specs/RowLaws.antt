@@ -1,7 +1,6 @@
 -- Laws of the pairs of a walk, row by row: what holds of the pairs of all rows holds of those of each, and what is made of them is made row by
 -- row.
-use Rattle.std.proofs.Common.{◌≡◌, ◌+◌, ◌<◌, ℕ, List, [], ◌∷◌, ◌++◌, length, map, take, get_or, ap, append_assoc, arith, length-append, subst, sym, ◌∙◌}
-use Rattle.std.specs.Prelude.{All}
+use Rattle.std.proofs.Common.{◌≡◌, ◌+◌, ◌<◌, ℕ, List, [], ◌∷◌, ◌++◌, length, map, take, get_or, ap, append_assoc, arith, length-append, subst, sym, ◌∙◌, All}
 use Rattle.std.proofs.lemmas.List.{get_or-append-add, get_or-map, get_or_append_left, length-map, map-append, take_more}
 use Rattle.link_base.specs.declared.rule.PairAt.{PairAt}
 use Rattle.pair_walk.specs.Pairs.{pair, pairs_of_rows}

@@ -144,6 +144,10 @@ impl Blocks {
         ensures left { result.left ≡ self.now }
         ensures given { result.given ≡ 0 }
     {
-        Walker::over(self)
+        Walker {
+            blocks: self,
+            at: 0,
+            given: 0,
+        }
     }
 }

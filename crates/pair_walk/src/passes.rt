@@ -1,5 +1,5 @@
 // The rows of each pass.
-ghost use Rattle.std.specs.Prelude.{◌≡◌, ◌<◌, ℕ, Bool, [], length, slice_index_or, IfOk, IfSome, IsTrue, ◌↔◌};
+ghost use Rattle.std.specs.Prelude.{◌≡◌, ◌<◌, ℕ, [], length, slice_index_or, IfOk, IfSome, IsTrue, ◌↔◌};
 ghost use Rattle.pair_walk.specs.Rows.{AreAllReady};
 ghost use Rattle.pair_walk.specs.Joining.{AreFoundRows, AreKeyed, ArePassRows};
 

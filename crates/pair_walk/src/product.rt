@@ -1,5 +1,5 @@
 // The list of the compared pairs.
-ghost use Rattle.std.specs.Prelude.{◌≡◌, ◌≤◌, ◌++◌, map, length, List, IfOk, OnOk};
+ghost use Rattle.std.specs.Prelude.{◌≡◌, ◌++◌, map, List, IfOk, OnOk};
 ghost use Rattle.link_base.specs.Standard.{Record};
 ghost use Rattle.value_forms.specs.declared.passes.Part.{Part};
 ghost use Rattle.pair_walk.specs.Pairs.{compared_pairs, pair, pairs_of_rows};

@@ -33,9 +33,9 @@ impl RowPairs {
 /// the number of pairs given so far.
 #[derive(Drop)]
 pub struct Walker<'b> {
-    blocks: &'b Blocks,
-    at: u32,
-    given: u64,
+    pub(crate) blocks: &'b Blocks,
+    pub(crate) at: u32,
+    pub(crate) given: u64,
 }
 
 impl<'b> Model for Walker<'b> {
@@ -52,18 +52,6 @@ impl<'b> Model for Walker<'b> {
 
 impl<'b> Walker<'b> {
     ghost use Rattle.pair_walk.specs.Next.{NextRow};
-
-    // A walk that has given no row.
-    pub(crate) fn over(blocks: &'b Blocks) -> Walker<'b>
-        ensures left { result.left ≡ blocks.now }
-        ensures given { result.given ≡ 0 }
-    {
-        Walker {
-            blocks,
-            at: 0,
-            given: 0,
-        }
-    }
 
     /// At most how many pairs are still to come, for the making of room, or 2^64 - 1 where they are too many to count: a pair
     /// that shares a key in two passes is counted in both, and what was given is counted too.

@@ -1,3 +1,1 @@
-pub mod PowerLemmas
-pub mod WeightLemmas
-pub mod Steps
+pub mod Lemmas

@@ -1,7 +1,6 @@
 -- Laws of the chances and the weight of a pattern: each chance is positive and at most the whole, those of all patterns add up to the whole,
 -- and a weight is within 80 eighths of a bit a field below, and 79 above.
-use Rattle.std.proofs.Common.{ℕ, Bool, true, cond, leb, zero, suc, ◌≡◌, ◌+◌, ◌*◌, ◌/◌, ◌%◌, ◌^◌, ◌<◌, ◌≤◌, List, [], ◌∷◌, length, arith, drop, drop-cons, get_or, ap, sym, ◌∙◌, false, ◌++◌, refl}
-use Rattle.std.specs.Prelude.{pos, ◌-ℤ◌, ◌≤ℤ◌}
+use Rattle.std.proofs.Common.{ℕ, Bool, true, cond, leb, zero, suc, ◌≡◌, ◌+◌, ◌*◌, ◌/◌, ◌%◌, ◌^◌, ◌<◌, ◌≤◌, List, [], ◌∷◌, length, arith, drop, drop-cons, get_or, ap, sym, ◌∙◌, false, ◌++◌, refl, pos, ◌-ℤ◌, ◌≤ℤ◌}
 use Rattle.std.specs.List.{count_by, range_with_len, sum_by}
 use Rattle.std.proofs.Math.Nat.{pow-le-pow_left}
 use Rattle.std.proofs.lemmas.Int.{ints}

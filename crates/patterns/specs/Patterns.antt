@@ -1,11 +1,8 @@
 -- Comparison patterns (Fellegi and Sunter 1969, section 2): the outcomes of all fields, and their number. `pattern_over`
--- and `pattern` carry it (clauses `number`, `range`, `symmetric` and `digits`).
-use Rattle.std.specs.Prelude.{◌≡◌, ◌<◌, ◌+◌, ◌*◌, ℕ, Bool, false, List, [], ◌∷◌, length, map, slice_index_or}
+-- carries it (clauses `number`, `range`, `symmetric` and `digits`).
+use Rattle.std.specs.Prelude.{◌≡◌, ◌<◌, ◌+◌, ◌*◌, ℕ, Bool, List, [], ◌∷◌, length, slice_index_or}
 use Rattle.link_base.specs.declared.rule.Outcome.{Outcome}
-use Rattle.link_base.specs.declared.standard.Value.{Value}
 use Rattle.patterns.specs.Shapes.{digit_of, pattern_count_by}
-use Rattle.comparators.specs.declared.fields.FieldKind.{FieldKind}
-use Rattle.comparators.specs.Fields.{kind_outcome}
 
 -- the number with these digits in mixed base, the digit of the first field most significant
 abbrev pub number_of : List Bool → List Outcome → ℕ
@@ -24,7 +21,3 @@ outcomes outcome (c ∷ cs) (x ∷ xs) (y ∷ ys) = outcome c x y ∷ outcomes o
 pub record AreSides {C S : Type 0} (valid : C → S → Type 0) (kinds : List C) (sides : List S) : Type 0 where
   pub as_many : length sides ≡ length kinds
   pub valid_at : (k : ℕ) (c : C) (s : S) → k < length kinds → valid (slice_index_or kinds k c) (slice_index_or sides k s)
-
--- the pattern of two rows of standard values, of which none is rare
-abbrev pub pattern_of : List FieldKind → List Value → List Value → ℕ
-pattern_of kinds a b = number_of (map (λ (_ : FieldKind). false) kinds) (outcomes kind_outcome kinds a b)

@@ -4,7 +4,7 @@ ghost use Rattle.link_base.specs.declared.rule.Outcome.{Outcome};
 ghost use Rattle.patterns.specs.Shapes.{digit_of, outcome_at, pattern_count_by, rare_of};
 ghost use Rattle.patterns.specs.Patterns.{AreSides, number_of, outcomes};
 
-use crate::shapes::base;
+use crate::shapes::outcome_count;
 use comparators::Comparator;
 use link_base::{Outcome, Shape};
 use link_limits::MOST_FIELDS;
@@ -38,7 +38,7 @@ pub fn pattern_over<C: Comparator>(kinds: &[C], a: &[C::Side], b: &[C::Side]) ->
     for i in 0..kinds.len() {
         let kind = &kinds[i];
         let outcome = kind.outcome(&a[i], &b[i]);
-        number = number * base(kind.rare()) + digit(outcome);
+        number = number * outcome_count(kind.rare()) + digit(outcome);
     }
     number
 }
@@ -52,8 +52,7 @@ pub fn shape_of<C: Comparator>(kinds: &[C]) -> Shape
 {
     let mut rare = [false; 6];
     for i in 0..kinds.len() {
-        let kind = &kinds[i];
-        rare[i] = kind.rare();
+        rare[i] = kinds[i].rare();
     }
     Shape {
         fields: kinds.len() as u8,

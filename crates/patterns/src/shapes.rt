@@ -1,7 +1,7 @@
 // How many comparison patterns there are, and the outcomes of one.
-ghost use Rattle.std.specs.Prelude.{◌≡◌, ◌*◌, ◌<◌, ◌≤◌, drop, length};
+ghost use Rattle.std.specs.Prelude.{◌≡◌, ◌<◌, ◌≤◌, length};
 ghost use Rattle.link_base.specs.Shares.{outcomes_of};
-ghost use Rattle.patterns.specs.Chances.{base_of, pattern_count_of};
+ghost use Rattle.patterns.specs.Chances.{pattern_count_of};
 ghost use Rattle.patterns.specs.Shapes.{outcome_at, outcome_with, pattern_count_by, rare_of};
 
 use link_base::{FieldShares, Outcome, Shape};
@@ -22,18 +22,13 @@ pub fn outcome_of(shape: &Shape, pattern: u16, field: u8) -> Outcome
     requires field { field < shape.now.fields }
     ensures { result ≡ outcome_at (rare_of shape.now) pattern field }
 {
-    outcome_in(
-        &shape.rare[..usize::from(shape.fields)],
-        pattern,
-        usize::from(field),
-    )
-}
-
-/// How many outcomes a field with these shares has, 3 or 4.
-pub fn outcome_count(field: &FieldShares) -> u16
-    ensures { result ≡ base_of field.now }
-{
-    base(field.rare)
+    let fields = &shape.rare[..usize::from(shape.fields)];
+    let place = usize::from(field);
+    let mut rest = pattern;
+    for i in 0..place {
+        rest %= count(&fields[i + 1..]);
+    }
+    outcome_by(rest / count(&fields[place + 1..]))
 }
 
 /// How many comparison patterns fields with these shares have: 1 without a field, else 3 to 4,096.
@@ -43,43 +38,36 @@ pub fn patterns_of(shares: &[FieldShares]) -> u16
     ensures some { 1 ≤ length shares.now → 3 ≤ result }
     ensures few { result ≤ MOST_PATTERNS }
 {
-    let mut count = 1;
-    for field in shares {
-        count *= outcome_count(field);
+    let mut rare = [false; 6];
+    for i in 0..shares.len() {
+        rare[i] = shares[i].rare;
     }
-    count
+    count(&rare[..shares.len()])
 }
 
-/// How many outcomes a field has.
-pub(crate) fn base(rare: bool) -> u16
+/// How many outcomes a field has, 4 where agreement on a rare value is one of its own, else 3.
+pub fn outcome_count(rare: bool) -> u16
     ensures { result ≡ outcomes_of rare }
 {
     if rare { 4 } else { 3 }
 }
 
-/// How many patterns these fields have.
+// How many patterns these fields have.
 fn count(fields: &[bool]) -> u16
     requires { length fields.now ≤ MOST_FIELDS }
-    ensures { result ≡ pattern_count_by fields.now }
+    ensures value { result ≡ pattern_count_by fields.now }
+    ensures positive { 1 ≤ result }
+    ensures some { 1 ≤ length fields.now → 3 ≤ result }
+    ensures few { result ≤ MOST_PATTERNS }
 {
     let mut count = 1;
     for rare in fields {
-        count *= base(*rare);
+        count *= outcome_count(*rare);
     }
     count
 }
 
-/// How many patterns the fields from a place on have.
-fn count_from(fields: &[bool], from: usize) -> u16
-    requires few { length fields.now ≤ MOST_FIELDS }
-    requires within { from ≤ length fields.now }
-    ensures value { result ≡ pattern_count_by (drop from fields.now) }
-    ensures some { 1 ≤ result }
-{
-    count(&fields[from..])
-}
-
-/// The outcome that a digit stands for.
+// The outcome that a digit stands for.
 fn outcome_by(digit: u16) -> Outcome
     ensures { result ≡ outcome_with digit }
 {
@@ -89,17 +77,4 @@ fn outcome_by(digit: u16) -> Outcome
         2 => Outcome::Missing,
         _ => Outcome::Rare,
     }
-}
-
-/// The outcome of the field at a place.
-fn outcome_in(fields: &[bool], pattern: u16, place: usize) -> Outcome
-    requires few { length fields.now ≤ MOST_FIELDS }
-    requires within { place < length fields.now }
-    ensures { result ≡ outcome_at fields.now pattern place }
-{
-    let mut rest = pattern;
-    for i in 0..place {
-        rest %= count_from(fields, i + 1);
-    }
-    outcome_by(rest / count_from(fields, place + 1))
 }

@@ -10,8 +10,8 @@ pub fn eighth_weight(m: u16, u: u16) -> i16
     ensures value { result ≡ eighth_weight_of m u }
     ensures range { ((pos 0 -ℤ pos 80) ≤ℤ result) × (result ≤ℤ pos 79) }
 {
-    let high = eighth_power(m);
-    let low = eighth_power(u);
+    let high = u128::from(m).pow(8);
+    let low = u128::from(u).pow(8);
     if low <= high {
         i16::from(doublings_within(low, high))
     } else {
@@ -19,20 +19,7 @@ pub fn eighth_weight(m: u16, u: u16) -> i16
     }
 }
 
-/// The eighth power of a share.
-fn eighth_power(n: u16) -> u128
-    requires { (1 ≤ n) × (n ≤ 1022) }
-    ensures value { result ≡ n ^ 8 }
-    ensures some { 1 ≤ result }
-    ensures small { result < 2 ^ 80 }
-{
-    let one = u128::from(n);
-    let two = one * one;
-    let four = two * two;
-    four * four
-}
-
-/// How often `low` can be doubled within `high`.
+// How often `low` can be doubled within `high`.
 fn doublings_within(low: u128, high: u128) -> u8
     requires some { 1 ≤ low }
     requires ordered { low ≤ high }

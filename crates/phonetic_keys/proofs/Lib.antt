@@ -1,4 +1,2 @@
 pub mod CarryingLaw
-pub mod KeyLemmas
-pub mod TailLemmas
 pub mod WalkLemmas

@@ -1,10 +1,50 @@
--- A step of a walk, on letters.
-use Rattle.std.proofs.Common.{◌≡◌, ◌↔◌, ℕ, zero, suc, ◌+◌, ◌<◌, List, [], ◌∷◌, length, min, slice_index, refl, ap, sym, ◌∙◌, arith}
+-- The tail of a long key is its front.
+use Rattle.std.proofs.Common.{◌≡◌, ℕ, ◌+◌, ◌-◌, ◌≤◌, List, [], ◌∷◌, ◌++◌, Bool, true, false, cond, take, length, refl, ap, sym, ◌∙◌, arith, ◌↔◌, zero, suc, ◌<◌, min, slice_index}
+use Rattle.std.proofs.lemmas.Grind.{common_steps}
+use Rattle.std.proofs.lemmas.List.{take-take}
+use Rattle.phonetic_keys.specs.Alphabet.{A, S, Y}
+use Rattle.phonetic_keys.specs.Nysiis.{tail_to, without_last_letter, with_ay_joined, body, body_over, ended, rewritten_behind, body_rule, spelled_on}
 use Rattle.phonetic_keys.specs.declared.rewriting.Three.{Three}
-use Rattle.phonetic_keys.specs.Nysiis.{body, body_over, ended, rewritten_behind, body_rule, spelled_on}
 use Rattle.phonetic_keys.specs.Window.{KeepsLetters}
 use Rattle.phonetic_keys.specs.Walks.{HasNoGaps, StepsOverPlace, shown, text_of}
 use Rattle.phonetic_keys.specs.declared.walk.Walk.{Walk}
+
+-- the first n letters are the same, and there are at least k
+record SameFront (n k : ℕ) (xs ys : List ℕ) : Type 0 where
+  pub front : take n xs ≡ take n ys
+  pub room : k ≤ length xs
+
+chosen : (n k : ℕ) (b : Bool) (xs ys zs : List ℕ) → SameFront n k xs zs → SameFront n k ys zs → SameFront n k (cond b xs ys) zs
+chosen n k true xs ys zs p q = p
+chosen n k false xs ys zs p q = q
+
+shorter : (n m : ℕ) (key : List ℕ) → n ≤ m → m ≤ length key → SameFront n n (take m key) key
+shorter n m key le inside = record { front = grind (arith, common_steps); room = grind (arith, common_steps) }
+
+joined : (n m y : ℕ) (key : List ℕ) → n ≤ m → m ≤ length key → SameFront n (n + 1) (take m key ++ y ∷ []) key
+joined n m y key le inside = record { front = grind (arith, common_steps); room = grind (arith, common_steps) }
+
+without_last_front : (n c : ℕ) (key : List ℕ) → n + 1 ≤ length key → SameFront n n (without_last_letter c key) key
+without_last_front n c key room = chosen n n _ _ _ _ (shorter n (length key - 1) key (omega arith) (omega arith)) (record { front = refl; room = omega arith })
+
+joined_front : (n : ℕ) (key : List ℕ) → n + 2 ≤ length key → SameFront n (n + 1) (with_ay_joined key) key
+joined_front n key room = chosen n (n + 1) _ _ _ _ (joined n (length key - 2) Y key (omega arith) (omega arith)) (record { front = refl; room = omega arith })
+
+lower : (n m k : ℕ) (xs ys : List ℕ) → n ≤ m → SameFront m k xs ys → take n xs ≡ take n ys
+lower n m k xs ys le s = sym (take-take n m xs le) ∙ ap (λ zs. take n zs) s.front ∙ take-take n m ys le
+
+pub long_tail : (n : ℕ) (key : List ℕ) → n + 3 ≤ length key → tail_to n key ≡ take n key
+long_tail n key room =
+    let a = without_last_front (n + 2) S key (omega arith) in
+    let b = joined_front n (without_last_letter S key) a.room in
+    let d = without_last_front n A (with_ay_joined (without_last_letter S key)) b.room in
+    d.front ∙ b.front ∙ lower n (n + 2) (n + 2) (without_last_letter S key) key (omega arith) a
+
+-- a buffer that is full holds the front of the key
+pub full_front : (letters all : List ℕ) (count m n : ℕ) → take count letters ≡ take (length letters) all → length letters ≡ m → m ≤ count → n ≤ m → take n (take m letters) ≡ take n all
+full_front letters all count m n front size full le = grind (arith, common_steps)
+
+-- A step of a walk, on letters.
 
 pub shown_some : (c : ℕ) (cs : List ℕ) → 0 < c → shown c cs ≡ c ∷ cs
 shown_some zero cs h = absurd (omega arith)

@@ -1,5 +1,5 @@
 // The rules of NYSIIS on a few letters in a row, 0 where there is none.
-ghost use Rattle.std.specs.Prelude.{◌≡◌, ◌<◌, ◌↔◌};
+ghost use Rattle.std.specs.Prelude.{◌≡◌, ◌<◌};
 ghost use Rattle.phonetic_keys.specs.Alphabet.{in_vowels};
 ghost use Rattle.phonetic_keys.specs.Nysiis.{body_rule, end_rule, front_rule, three_letters};
 ghost use Rattle.phonetic_keys.specs.Window.{KeepsLetters};

@@ -2,7 +2,7 @@
 ghost use Rattle.std.specs.Prelude.{◌≡◌, ◌↔◌, IsNone, [], ◌∷◌, ◌++◌, ℕ, List, IsTrue, map, take, codes};
 ghost use Rattle.phonetic_keys.specs.Letters.{in_alphabet, letters_of};
 ghost use Rattle.phonetic_keys.specs.Carry.{IsCarry, key_to_come, key_with};
-ghost use Rattle.phonetic_keys.specs.Soundex.{code_at, letter_code, carried, code_behind, counted_places, is_new_behind, soundex_of};
+ghost use Rattle.phonetic_keys.specs.Soundex.{code_at, letter_code, carried, code_behind, counted_places, soundex_of};
 
 use crate::letters::{is_letter, next_letter};
 
@@ -27,15 +27,6 @@ fn carried_behind(last: u8, letter: u8) -> u8
     } else {
         code_of(letter)
     }
-}
-
-// Whether a letter counts.
-fn counts_behind(last: u8, letter: u8) -> bool
-    requires { IsTrue (in_alphabet letter) }
-    ensures { result ≡ is_new_behind last letter }
-{
-    let code = code_of(letter);
-    code != b'0' && code != last
 }
 
 // The key so far, and the code of the nearest letter but H and W.
@@ -80,18 +71,11 @@ impl Carry {
         ensures carry { IsCarry self.new }
         ensures key { (cs : List ℕ) → key_to_come self.new cs ≡ key_to_come self.old (letter ∷ cs) }
     {
-        if counts_behind(self.last, letter) {
-            self.push(code_of(letter));
+        let code = code_of(letter);
+        if code != b'0' && code != self.last {
+            self.push(code);
         }
         self.last = carried_behind(self.last, letter);
-    }
-
-    // The key, where no letter is still to come.
-    fn finish(self) -> [u8; 4]
-        requires { IsCarry self }
-        ensures { result ≡ key_with self [] }
-    {
-        self.key
     }
 }
 
@@ -110,7 +94,7 @@ pub fn soundex(text: &[u8]) -> Option<[u8; 4]>
             carry.take(*byte);
         }
     }
-    Some(carry.finish())
+    Some(carry.key)
 }
 
 /// Looking back from each place and carrying a code give the same codes.

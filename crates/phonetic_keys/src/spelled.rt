@@ -1,5 +1,5 @@
 // A key as it is spelled letter by letter: its first letters, its length as far as it matters, its last letter.
-ghost use Rattle.std.specs.Prelude.{◌≡◌, ℕ, List, [], ◌++◌, ◌<◌, ◌≤◌, take, length};
+ghost use Rattle.std.specs.Prelude.{◌≡◌, ◌≤◌, ℕ, List, take};
 ghost use Rattle.phonetic_keys.specs.Keys.{IsKey};
 ghost use Rattle.phonetic_keys.specs.Nysiis.{spelled_on, tail_of, with_ay_joined, without_last_letter};
 ghost use Rattle.phonetic_keys.specs.Window.{KeepsKey};
@@ -101,16 +101,6 @@ pub(crate) struct Spelled {
 }
 
 impl Spelled {
-    pub(crate) fn new() -> Spelled
-        ensures { KeepsKey [] result }
-    {
-        Spelled {
-            letters: [0; 8],
-            count: 0,
-            last: 0,
-        }
-    }
-
     // Appends a letter, if it differs from the last.
     pub(crate) fn spell(&mut self, letter: u8)
         ensures { (all : List ℕ) → KeepsKey all self.old → KeepsKey (spelled_on all letter) self.new }

@@ -1,7 +1,7 @@
 // NYSIIS: the code goes once over the letters, with the letter before and four letters at hand.
-ghost use Rattle.std.specs.Prelude.{◌≡◌, ◌↔◌, IsNone, ◌≢◌, ◌<◌, ◌∷◌, [], ℕ, List, MatchOption, IsTrue};
-ghost use Rattle.phonetic_keys.specs.Letters.{in_alphabet, letters_of};
-ghost use Rattle.phonetic_keys.specs.Nysiis.{body, ended, front, nysiis_of, spelled_on, tail_of};
+ghost use Rattle.std.specs.Prelude.{◌≡◌, ◌↔◌, IsNone, ◌<◌, [], ℕ, List, MatchOption};
+ghost use Rattle.phonetic_keys.specs.Letters.{letters_of};
+ghost use Rattle.phonetic_keys.specs.Nysiis.{body, ended, front, nysiis_of, tail_of};
 ghost use Rattle.phonetic_keys.specs.Window.{KeepsKey};
 ghost use Rattle.phonetic_keys.specs.Walks.{HasNoGaps, StepsOverPlace, Starts, shown, text_of};
 
@@ -47,7 +47,11 @@ impl Walk {
             q: front.next,
             r: front.later,
             s,
-            key: Spelled::new(),
+            key: Spelled {
+                letters: [0; 8],
+                count: 0,
+                last: 0,
+            },
         };
         Some((walk, rest))
     }

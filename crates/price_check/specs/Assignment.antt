@@ -1,6 +1,6 @@
 -- One-to-one lists of candidates, greatest lists, and certificates by dual prices (Kuhn 1955).
--- Promised by `Assigner::solve` of `assignment` (clauses `greatest` and `certified`) and decided by `check`
--- of `price_check` (clauses `certified` and `greatest`).
+-- Promised by `Assigner::solve` of `assignment` (clauses `greatest` and `certified`) and decided by `check_capacity`
+-- of `price_check` (clause `one_to_one`).
 use Rattle.std.specs.Prelude.{◌≡◌, ◌≢◌, ◌⊎◌, ℕ, ◌<◌, ℤ, pos, ◌+ℤ◌, ◌≤ℤ◌, false, List, [], ◌∷◌, All, AllPairs, Contains, fold, map, slice_index_or}
 use Rattle.std.specs.Int.{int_max}
 use Rattle.link_base.specs.declared.rule.Candidate.{Candidate}

@@ -1,7 +1,6 @@
 -- Machinery of `part_numbers`: sets of places as trees, each place below an earlier one (Tarjan 1975), and the
 -- numbers that the tops take.
-use Rattle.std.specs.Prelude.{◌≡◌, ◌≢◌, ℕ, zero, suc, ◌<◌, ◌≤◌, ◌||◌, ◌==◌, if◌then◌else◌, List, length, slice_index, slice_index_or, Option, None, MatchOption}
-use Rattle.std.proofs.Common.{min}
+use Rattle.std.proofs.Common.{min, ◌≡◌, ◌≢◌, ℕ, zero, suc, ◌<◌, ◌≤◌, ◌||◌, ◌==◌, if◌then◌else◌, List, length, slice_index, slice_index_or, Option, None, MatchOption}
 use Rattle.link_base.specs.declared.rule.Candidate.{Candidate}
 use Rattle.price_check.specs.PartNumbers.{ShareRecord, AreInOnePart, candidate}
 

@@ -1,7 +1,6 @@
 -- Laws of prices, which the proofs of the crates above cite: what prices add up to where a record's price is put to 0, and members whose two
 -- prices add up to their value. They are said of every list of prices, which no clause of a call can range over, so they stand here.
-use Rattle.std.proofs.Common.{◌≡◌, ◌≢◌, ℕ, zero, suc, ℤ, pos, ◌+ℤ◌, ◌≤ℤ◌, List, [], ◌∷◌, set, refl, ◌∙◌, inl, inr, arith}
-use Rattle.std.specs.Prelude.{All, AllPairs}
+use Rattle.std.proofs.Common.{◌≡◌, ◌≢◌, ℕ, zero, suc, ℤ, pos, ◌+ℤ◌, ◌≤ℤ◌, List, [], ◌∷◌, set, refl, ◌∙◌, inl, inr, arith, All, AllPairs}
 use Rattle.std.proofs.lemmas.Bool.{cases_eq}
 use Rattle.std.proofs.lemmas.Int.{ints}
 use Rattle.std.proofs.lemmas.List.{get_or-set_other}

@@ -1,6 +1,6 @@
--- What a check needs and what it answers: clauses `first_reason`, `certified` and `greatest` of `check`. The reasons
--- are tried in the order in which `IsFirstReasonBy` lists them.
-use Rattle.std.specs.Prelude.{◌≡◌, ◌≢◌, ℕ, ◌<◌, ℤ, pos, ◌+ℤ◌, ◌≤ℤ◌, neg_ℤ, List, All, Contains, slice_index_or, length, Option, Some, None, MatchOption}
+-- What a check of one-to-one links answers: clause `one_to_one` of `check_capacity`. The reasons are tried in the order in
+-- which `IsFirstReasonBy` lists them.
+use Rattle.std.specs.Prelude.{◌≡◌, ◌≢◌, ◌↔◌, ℕ, ◌<◌, ℤ, pos, ◌+ℤ◌, ◌≤ℤ◌, neg_ℤ, List, All, Contains, slice_index_or, length, Option, Some, None, MatchOption}
 use Rattle.link_limits.specs.declared.TheConstants.{MOST_VALUE}
 use Rattle.link_base.specs.declared.rule.Candidate.{Candidate}
 use Rattle.price_check.specs.Assignment.{IsOneToOne, IsGreatest, Certifies, IsCovered, worth, price_sum}
@@ -86,3 +86,9 @@ IsFirstReason cs ls ps qs reason = IsFirstReasonBy (IsFresh ls) (price_sum ps +�
 abbrev pub IsVerdict : List Candidate → List PairAt → List ℤ → List ℤ → Verified → Type 0
 IsVerdict cs ls ps qs Yes = AreCertified cs ls ps qs
 IsVerdict cs ls ps qs (No reason) = IsFirstReason cs ls ps qs reason
+
+-- yes exactly where the links are one-to-one candidates that the prices certify, which are then greatest, and else the first reason
+pub record IsChecked (cs : List Candidate) (ls : List PairAt) (ps qs : List ℤ) (v : Verified) : Type 0 where
+  pub first_reason : IsVerdict cs ls ps qs v
+  pub certified : (v ≡ Yes) ↔ AreCertified cs ls ps qs
+  pub greatest : v ≡ Yes → AreGreatest cs ls

@@ -1,5 +1,5 @@
 // Sets of places as trees (Tarjan 1975; the halving of paths after van Leeuwen and van der Weide).
-ghost use Rattle.std.specs.Prelude.{◌≡◌, ◌<◌, ◌≤◌, ℕ, length, slice_index};
+ghost use Rattle.std.specs.Prelude.{◌≡◌, ◌<◌, ◌≤◌, ℕ, length};
 ghost use Rattle.price_check.specs.Forest.{PointsUp, merged, top};
 
 /// The top of a place; places on the way point further up afterwards.

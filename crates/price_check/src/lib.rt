@@ -15,7 +15,7 @@ mod verdict;
 
 pub use capacity::check_capacity;
 pub use capacity_laws::{certified_within_is_greatest, single_capacities};
-pub use certificate::{check, price_total, value_total};
+pub use certificate::{price_total, value_total};
 pub use first::{candidate_at, end_of_near, first_uncovered};
 pub use laws::{
     certificate_is_tight, certified_is_greatest, greatest_value_is_least,

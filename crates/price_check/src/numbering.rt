@@ -1,5 +1,5 @@
 // The numbers of the parts.
-ghost use Rattle.std.specs.Prelude.{◌≡◌, ◌+◌, ◌-◌, ◌<◌, ◌≤◌, ◌^◌, ℕ, All, AllPairs, IfOk, List, None, length, replicate, slice_index, slice_index_or};
+ghost use Rattle.std.specs.Prelude.{◌≡◌, ◌+◌, ◌<◌, ◌^◌, ℕ, All, AllPairs, IfOk, length, slice_index};
 ghost use Rattle.price_check.specs.Assignment.{IsBefore};
 ghost use Rattle.price_check.specs.PartNumbers.{ArePartNumbers, candidate};
 ghost use Rattle.price_check.specs.Forest.{AreByTop, AreLast, AreUnited, IsLast, PointsUp, top};
@@ -87,33 +87,6 @@ fn single_places(alloc: Global, count: usize) -> Result<Vec<usize>, NoMemory>
     Ok(up)
 }
 
-/// No last place, for so many records of B.
-fn no_places(alloc: Global, rows_b: usize) -> Result<Vec<Option<usize>>, NoMemory>
-    ensures { IfOk result (λ last. last.items ≡ replicate rows_b None) }
-{
-    let last = vec![in alloc; None; rows_b]?;
-    Ok(last)
-}
-
-/// Numbers a place: a top by the next number, any other as its top.
-fn number_at(up: &[usize], numbers: &mut [u32], i: usize, parts: u32) -> u32
-    requires earlier { PointsUp up.now }
-    requires count { length numbers.old ≡ length up.now }
-    requires place { i < length up.now }
-    requires few { parts ≤ i }
-    requires fits { i < 2 ^ 32 - 1 }
-    requires by_top { AreByTop up.now numbers.old i parts }
-    ensures few { result ≤ i + 1 }
-    ensures by_top { AreByTop up.now numbers.new (i + 1) result }
-{
-    if up[i] == i {
-        numbers[i] = parts;
-        return parts + 1;
-    }
-    numbers[i] = numbers[up[i]];
-    parts
-}
-
 /// Numbers the tops in their order, and each place as its top.
 fn number(up: &[usize], numbers: &mut [u32]) -> u32
     requires earlier { PointsUp up.now }
@@ -123,7 +96,12 @@ fn number(up: &[usize], numbers: &mut [u32]) -> u32
 {
     let mut parts = 0;
     for i in 0..up.len() {
-        parts = number_at(up, numbers, i, parts);
+        if up[i] == i {
+            numbers[i] = parts;
+            parts += 1;
+            continue;
+        }
+        numbers[i] = numbers[up[i]];
     }
     parts
 }
@@ -142,7 +120,7 @@ pub fn part_numbers(
     ensures { IfOk result (λ p. ArePartNumbers candidates.now p.numbers.items p.parts) }
 {
     let mut up = single_places(alloc, candidates.len())?;
-    let mut last = no_places(alloc, rows_b as usize)?;
+    let mut last: Vec<Option<usize>> = vec![in alloc; None; rows_b as usize]?;
     unite_all(candidates, &mut up, &mut last);
     let mut numbers = vec![in alloc; 0u32; candidates.len()]?;
     let parts = number(&up, &mut numbers);

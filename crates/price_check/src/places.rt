@@ -1,5 +1,5 @@
 // The first link that finds no place, and what prices of B add up to where each counts once for a place.
-ghost use Rattle.std.specs.Prelude.{◌≡◌, ◌*◌, ◌<◌, ◌≤◌, ◌^◌, ℕ, ℤ, pos, ◌*ℤ◌, ◌≤ℤ◌, neg_ℤ, length, All, AllPairs, IfOk, MatchBool, slice_index};
+ghost use Rattle.std.specs.Prelude.{◌≡◌, ◌*◌, ◌<◌, ◌≤◌, ◌^◌, pos, ◌*ℤ◌, ◌≤ℤ◌, neg_ℤ, length, All, AllPairs, IfOk, MatchBool};
 ghost use Rattle.link_limits.specs.declared.TheConstants.{MOST_CAPACITY, MOST_VALUE};
 ghost use Rattle.link_base.specs.Rule.{IsPairBefore};
 ghost use Rattle.price_check.specs.Capacities.{place_sum};
@@ -45,28 +45,16 @@ pub fn first_unplaced(
     ensures { IfOk result (λ place. IsFirstUnplaced capacity.now links.now place) }
 {
     let mut used = vec![in alloc; 0u32; capacity.len()]?;
-    Ok(unplaced_in(capacity, &mut used, links))
-}
-
-/// The same, over a list of counts that begin at 0.
-fn unplaced_in(capacity: &[u32], used: &mut [u32], links: &[PairAt]) -> Option<u32>
-    requires count { length links.now < 2 ^ 32 }
-    requires rising { AllPairs IsPairBefore links.now }
-    requires records { length used.old ≡ length capacity.now }
-    requires in_range { All (IsPairWithin (length capacity.now)) links.now }
-    requires unused { (b : ℕ) → slice_index used.old b ≡ 0 }
-    ensures { IsFirstUnplaced capacity.now links.now result }
-{
     for i in 0..links.len() {
-        if is_unplaced(capacity, used, links, i) {
-            return Some(i as u32);
+        if is_unplaced(capacity, &used, links, i) {
+            return Ok(Some(i as u32));
         }
         used[links[i].b as usize] += 1;
     }
-    None
+    Ok(None)
 }
 
-//// The first link with a position that an earlier link has: each record of B has one place.
+/// The first link with a position that an earlier link has: each record of B has one place.
 pub fn first_reused(alloc: Global, rows_b: u32, links: &[PairAt]) -> Result<Option<u32>, NoMemory>
     requires count { length links.now < 2 ^ 32 }
     requires rising { AllPairs IsPairBefore links.now }

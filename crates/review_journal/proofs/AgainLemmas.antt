@@ -1,6 +1,5 @@
 -- The text of a journal reads as this journal.
-use Rattle.std.proofs.Common.{◌≡◌, ◌<◌, ◌≤◌, ◌+◌, ◌∷◌, ◌++◌, ◌∙◌, ◌≤ℤ◌, ℕ, ℤ, true, false, List, [], All, length, map, get_or, Result, Ok, Some, refl, sym, ap, subst, arith, append_assoc, length-append, nat_lt, ◌≢◌}
-use Rattle.std.specs.Prelude.{codes, decimal, int_le}
+use Rattle.std.proofs.Common.{◌≡◌, ◌<◌, ◌≤◌, ◌+◌, ◌∷◌, ◌++◌, ◌∙◌, ◌≤ℤ◌, ℕ, ℤ, true, List, [], All, length, map, get_or, Result, Ok, Some, refl, sym, ap, subst, arith, append_assoc, length-append, nat_lt, codes, decimal, int_le}
 use Rattle.std.specs.List.{AllPairs, enumerate_from, flat_map, list_all, position_or_len}
 use Rattle.std.specs.Str.{IsAscii, bytes_eq}
 use Rattle.std.proofs.lemmas.Bool.Decides.{nat_tests}
@@ -45,15 +44,12 @@ use Rattle.review_journal.specs.Adding.{is_not_before}
 same_bytes : (text : List ℕ) → bytes_eq text text ≡ true
 same_bytes text = (bytes_eq-Decides text text).1 refl
 
-other_bytes : (x y : List ℕ) → x ≢ y → bytes_eq x y ≡ false
-other_bytes x y apart = false_from_ne_true (bytes_eq x y) (λ same. apart ((bytes_eq-Decides x y).0 same))
-
 -- the record at a position is the one that its id names
 pub found_again : (file : List Record) (at : ℕ) → HaveDistinctIds file → at < length file → position_of_id (id_at file at) file ≡ Some at
 found_again file at distinct within =
     let here : position_or_len (λ (r : Record). bytes_eq (id_at file at) r.id) file ≡ at =
     position_or_len_is (λ (r : Record). bytes_eq (id_at file at) r.id) file at no_record (omega arith)
-    (λ k lt. other_bytes (id_at file at) (get_or file k no_record).id (λ e. distinct k at no_record lt within (sym e)))
+    (λ k lt. false_from_ne_true (bytes_eq (id_at file at) (id_at file k)) (λ same. distinct k at no_record lt within (sym ((bytes_eq-Decides (id_at file at) (id_at file k)).0 same))))
     (λ lt. same_bytes (id_at file at)) in
     let test : nat_lt at (length file) ≡ true = grind (arith, nat_tests) in
     rw (here, test)

@@ -1,6 +1,5 @@
 -- New verdicts after the entries of a journal: what is kept.
-use Rattle.std.proofs.Common.{◌≡◌, ◌≤◌, ◌+◌, ◌∷◌, ◌++◌, ◌∙◌, ℕ, ℤ, Bool, true, false, cond, List, [], All, length, map, Option, Some, None, Ok, refl, sym, ap, arith, append_assoc, length-append, nat_lt, subst}
-use Rattle.std.specs.Prelude.{◌&&◌, ◌==◌, int_le, if◌then◌else◌, option_map}
+use Rattle.std.proofs.Common.{◌≡◌, ◌≤◌, ◌+◌, ◌∷◌, ◌++◌, ◌∙◌, ℕ, ℤ, Bool, true, false, cond, List, [], All, length, map, Option, Some, None, Ok, refl, sym, ap, arith, append_assoc, length-append, nat_lt, subst, ◌&&◌, ◌==◌, int_le, if◌then◌else◌, option_map}
 use Rattle.std.proofs.lemmas.Bool.{false_from_ne_true}
 use Rattle.std.proofs.lemmas.Bool.Decides.{nat_tests}
 use Rattle.std.proofs.lemmas.Int.{ints}
@@ -25,7 +24,7 @@ use Rattle.review_journal.specs.Verdict.{is_on, last_on, standing_verdict, verdi
 use Rattle.review_journal.specs.declared.batch.NewVerdict.{NewVerdict}
 use Rattle.review_journal.specs.declared.entry.Entry.{Entry}
 use Rattle.review_journal.proofs.PlaceLemmas.{last_on-push}
-use Rattle.review_journal.proofs.ReadFacts.{IsJournalOver, one_over}
+use Rattle.review_journal.proofs.ListLemmas.{IsJournalOver, one_over}
 
 -- a batch without a fault
 ok_unless_is : {A : Type 0} (f : Option Fault) (x y : A) → ok_unless f x ≡ Ok y → (f ≡ None) × (x ≡ y)

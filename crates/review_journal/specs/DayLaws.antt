@@ -9,8 +9,7 @@ use Rattle.jiff_core.proofs.DateLemmas.{epoch_day_range}
 use Rattle.jiff_core.proofs.SignedLemmas.{signed_arith}
 use Rattle.link_base.specs.Standard.{IsDay}
 use Rattle.value_forms.specs.Days.{civil_day, is_civil, iso_day}
-use Rattle.value_forms.proofs.BegunLemmas.{near_year}
-use Rattle.value_forms.proofs.DayLemmas.{from_first_day}
+use Rattle.value_forms.proofs.DayLemmas.{near_year, from_first_day}
 use Rattle.value_forms.proofs.TextLemmas.{iso_to_text}
 
 -- what the test of a civil date says

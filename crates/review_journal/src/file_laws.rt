@@ -15,7 +15,7 @@ use csv_rows::rows_read_again;
 use value_forms::day_read_again;
 
 /// Law: where every entry stands alone, the verdict on a pair is that of the last entry that names it.
-#[tactic(auto, using(crate::proofs::VerdictLemmas::verdict_stands))]
+#[tactic(auto, using(crate::proofs::PlaceLemmas::verdict_stands))]
 pub fn single_verdicts_stand()
     ensures { (entries : List JournalEntry) (a b : ℕ) → All (λ (e : JournalEntry). e.step ≡ Single) entries
         → verdict_on entries a b ≡ option_map (λ (e : JournalEntry). e.verdict) (last_on entries a b) }

@@ -1,5 +1,5 @@
 // The journal: its entries in order, and the last one on each pair.
-ghost use Rattle.std.specs.Prelude.{◌≡◌, ◌≤◌, ◌<◌, ◌+◌, ◌++◌, ◌∷◌, [], ℤ, int_le, AllPairs, OnErr, OnOk, length, take, option_copied, option_map, true};
+ghost use Rattle.std.specs.Prelude.{◌≡◌, ◌≤◌, ◌<◌, ◌+◌, ◌++◌, ◌∷◌, [], ℤ, int_le, AllPairs, OnErr, OnOk, length, take, option_copied, true};
 ghost use Rattle.std.specs.Option.{option_map_or};
 ghost use Rattle.link_base.specs.Standard.{IsDay};
 ghost use Rattle.link_limits.specs.declared.TheConstants.{MOST_ENTRIES};
@@ -7,12 +7,12 @@ ghost use Rattle.link_base.specs.Rule.{IsPairBefore};
 ghost use Rattle.review_journal.specs.Verdict.{last_on, verdict_on};
 ghost use Rattle.review_journal.specs.Steps.{confirms_in, fits_after};
 ghost use Rattle.review_journal.specs.Journal.{IsJournal, IsReviewer};
-ghost use Rattle.review_journal.specs.Adding.{added, batch_fault, entry_after, IsAdded, is_not_before, last_date, with_verdicts};
+ghost use Rattle.review_journal.specs.Adding.{added, batch_fault, IsAdded, is_not_before, last_date, with_verdicts};
 
 use crate::batch::{NewVerdict, Verdicts};
 use crate::entry::Entry;
 use crate::possible::first_not_among;
-use crate::steps::{confirms_entry, is_decided, standing_verdict, step_by};
+use crate::steps::{is_decided, step_by};
 use link_base::{Fault, FileRole, NoMemory, PairAt, Step, Text, Verdict};
 use link_limits::MOST_ENTRIES;
 use std::alloc::Global;
@@ -79,7 +79,10 @@ impl Journal {
         ensures { result ≡ verdict_on self.now a b }
     {
         match self.last_on(a, b) {
-            Some(entry) => Some(standing_verdict(entry.step, entry.verdict)),
+            Some(entry) => match entry.step {
+                Step::First => Some(Verdict::Undecided),
+                Step::Single | Step::Confirm => Some(entry.verdict),
+            },
             None => None,
         }
     }
@@ -89,7 +92,11 @@ impl Journal {
         ensures { result ≡ confirms_in self.now reviewer.now a b verdict }
     {
         match self.last_on(a, b) {
-            Some(entry) => confirms_entry(entry, reviewer, verdict),
+            Some(entry) => {
+                entry.step == Step::First
+                    && entry.verdict == verdict
+                    && entry.reviewer.bytes() != reviewer
+            }
             None => false,
         }
     }
@@ -177,37 +184,6 @@ impl Journal {
         }
     }
 
-    // Appends the entry of a new verdict.
-    fn push_verdict(
-        &mut self,
-        alloc: Global,
-        row: NewVerdict,
-        date: i32,
-        reviewer: &str,
-        double: bool,
-    ) -> Result<(), NoMemory>
-        requires room { length self.old < MOST_ENTRIES }
-        requires day { IsDay date }
-        requires not_back { is_not_before self.old date ≡ true }
-        requires reviewer { IsReviewer reviewer.now }
-        ensures added { OnOk result (self.new ≡ self.old ++ entry_after double date reviewer.now self.old row ∷ []) }
-        ensures unchanged { OnErr result (self.new ≡ self.old) }
-    {
-        let confirming = self.confirms(reviewer.as_bytes(), row.a, row.b, row.verdict);
-        let reviewer = match Text::new(alloc, reviewer.as_bytes()) {
-            Ok(reviewer) => reviewer,
-            Err(NoMemory) => return Err(NoMemory),
-        };
-        self.push(Entry {
-            date,
-            reviewer,
-            step: step_by(double, row.verdict, confirming),
-            a: row.a,
-            b: row.b,
-            verdict: row.verdict,
-        })
-    }
-
     // Appends an entry for each new verdict, in order. Without memory for all of them there may be some.
     fn push_verdicts(
         &mut self,
@@ -225,43 +201,25 @@ impl Journal {
         ensures kept { take (length self.old) self.new ≡ self.old }
     {
         for row in rows {
-            match self.push_verdict(alloc, *row, date, reviewer, double) {
+            let confirming = self.confirms(reviewer.as_bytes(), row.a, row.b, row.verdict);
+            let name = match Text::new(alloc, reviewer.as_bytes()) {
+                Ok(name) => name,
+                Err(NoMemory) => return Err(NoMemory),
+            };
+            let entry = Entry {
+                date,
+                reviewer: name,
+                step: step_by(double, row.verdict, confirming),
+                a: row.a,
+                b: row.b,
+                verdict: row.verdict,
+            };
+            match self.push(entry) {
                 Ok(()) => {}
                 Err(NoMemory) => return Err(NoMemory),
             }
         }
         Ok(())
-    }
-
-    // Appends an entry for each new verdict, in order, or changes nothing.
-    fn append(
-        &mut self,
-        alloc: Global,
-        rows: &[NewVerdict],
-        date: i32,
-        reviewer: &str,
-        double: bool,
-    ) -> Result<(), NoMemory>
-        requires room { length self.old + length rows.now ≤ MOST_ENTRIES }
-        requires day { IsDay date }
-        requires not_back { 0 < length rows.now → is_not_before self.old date ≡ true }
-        requires reviewer { IsReviewer reviewer.now }
-        ensures added { OnOk result (self.new ≡ with_verdicts double date reviewer.now self.old rows.now) }
-        ensures unchanged { OnErr result (self.new ≡ self.old) }
-    {
-        let entries = self.entries.len();
-        let places = match self.places.clone() {
-            Ok(places) => places,
-            Err(_) => return Err(NoMemory),
-        };
-        match self.push_verdicts(alloc, rows, date, reviewer, double) {
-            Ok(()) => return Ok(()),
-            Err(NoMemory) => {
-                self.entries.truncate(entries);
-                self.places = places;
-                return Err(NoMemory);
-            }
-        }
     }
 
     /// Adds a batch of new verdicts of a reviewer on a day: an entry for each, in order. Where `double` asks for two
@@ -281,13 +239,23 @@ impl Journal {
         requires rising { AllPairs IsPairBefore possible.now }
         ensures answer { IsAdded (added double date reviewer.now possible.now self.old batch.now) self.old self.new result }
     {
-        match self.batch_fault(batch.rows(), date, possible) {
+        let rows = batch.rows();
+        match self.batch_fault(rows, date, possible) {
             Some(fault) => return Err(fault),
             None => {}
         }
-        match self.append(alloc, batch.rows(), date, reviewer, double) {
-            Ok(()) => Ok(()),
-            Err(NoMemory) => Err(Fault::NoMemory),
+        let entries = self.entries.len();
+        let places = match self.places.clone() {
+            Ok(places) => places,
+            Err(_) => return Err(Fault::NoMemory),
+        };
+        match self.push_verdicts(alloc, rows, date, reviewer, double) {
+            Ok(()) => return Ok(()),
+            Err(NoMemory) => {
+                self.entries.truncate(entries);
+                self.places = places;
+                return Err(Fault::NoMemory);
+            }
         }
     }
 }

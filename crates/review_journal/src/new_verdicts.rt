@@ -1,6 +1,5 @@
 // The new verdicts in a file.
 ghost use Rattle.std.specs.Prelude.{◌≡◌, ◌≤◌, ◌<◌, ◌+◌, All, [], IfOk, length, slice_index_or};
-ghost use Rattle.file_reader.specs.Left.{records_in};
 ghost use Rattle.link_base.specs.Fault.{IsAnswer};
 ghost use Rattle.link_limits.specs.declared.TheConstants.{MOST_ROWS};
 ghost use Rattle.file_reader.specs.Layout.{wanted_of};

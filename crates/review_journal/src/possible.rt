@@ -1,6 +1,5 @@
 // New verdicts whose pairs are possible links.
-ghost use Rattle.std.specs.Prelude.{◌≡◌, AllPairs, length, not, position};
-ghost use Rattle.std.specs.List.Sorted.{IsBinarySearchResult, IsSearchInRange};
+ghost use Rattle.std.specs.Prelude.{◌≡◌, AllPairs, not, position};
 ghost use Rattle.link_base.specs.Rule.{IsPairBefore};
 ghost use Rattle.review_journal.specs.Adding.{is_among};
 ghost use Rattle.review_journal.specs.Search.{order_of};
@@ -15,20 +14,12 @@ fn order(at: &PairAt, row: NewVerdict) -> Ordering
     (at.a, at.b).cmp(&(row.a, row.b))
 }
 
-// Where the pair of a new verdict stands in a list, or where it would stand.
-fn place_in(possible: &[PairAt], row: NewVerdict) -> Result<usize, usize>
-    ensures bound { IsSearchInRange result (length possible.now) }
-    ensures place { IsBinarySearchResult (λ at. order_of at row) possible.now result }
-{
-    possible.binary_search_by(|at| order(at, row))
-}
-
 /// Whether the pair of a new verdict stands in a rising list.
 pub(crate) fn is_among(possible: &[PairAt], row: NewVerdict) -> bool
     requires { AllPairs IsPairBefore possible.now }
     ensures { result ≡ is_among possible.now row }
 {
-    match place_in(possible, row) {
+    match possible.binary_search_by(|at| order(at, row)) {
         Ok(_) => true,
         Err(_) => false,
     }
@@ -39,10 +30,5 @@ pub(crate) fn first_not_among(rows: &[NewVerdict], possible: &[PairAt]) -> Optio
     requires { AllPairs IsPairBefore possible.now }
     ensures { result ≡ position (λ v. not (is_among possible.now v)) rows.now }
 {
-    for place in 0..rows.len() {
-        if !is_among(possible, rows[place]) {
-            return Some(place);
-        }
-    }
-    None
+    rows.iter().position(|row| !is_among(possible, *row))
 }

@@ -1,4 +1,1 @@
-pub mod CountLemmas
-pub mod OutcomeLemmas
-pub mod SampleLemmas
-pub mod RemainderLemmas
+pub mod Lemmas

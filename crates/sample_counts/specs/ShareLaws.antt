@@ -1,6 +1,6 @@
 -- Laws of shares by largest remainders: they add up to what is shared out, so that those of three or four counted outcomes are shares of
 -- a field (`shares` and `shares4`, clause `valid`). Proofs of the crates above cite them for the shares that are defined.
-use Rattle.std.proofs.Common.{◌≡◌, ℕ, zero, suc, Bool, true, false, cond, ltb, eqb, ◌||◌, ◌&&◌, ◌+◌, ◌-◌, ◌*◌, ◌/◌, ◌%◌, ◌<◌, ◌≤◌, List, [], ◌∷◌, length, arith, get_or, refl, sum}
+use Rattle.std.proofs.Common.{◌≡◌, ℕ, zero, suc, Bool, true, false, cond, ltb, eqb, ◌||◌, ◌&&◌, ◌+◌, ◌*◌, ◌/◌, ◌%◌, ◌<◌, ◌≤◌, List, [], ◌∷◌, length, arith, get_or, refl, sum}
 use Rattle.std.specs.List.{sum_by}
 use Rattle.std.proofs.Math.Nat.{div-mul-le_self, le_of_mul-le-mul_right, lt_of_mul-lt-mul_right}
 use Rattle.std.proofs.lemmas.Nat.{div-add-mod', mod_below}
@@ -62,17 +62,18 @@ earlier_ahead x y i k h = grind (arith, nat_tests)
 never_ahead : (x i : ℕ) → (ltb x x || (eqb x x && ltb i i)) ≡ false
 never_ahead x i = grind (arith, nat_tests)
 
-lefts_total : (s n a b c : ℕ) → 0 < n → n ≡ a + b + c → s - (s * a / n + s * b / n + s * c / n) ≤ 2
-lefts_total s n a b c pos e =
-    let da = div-add-mod' (s * a) n in
-    let db = div-add-mod' (s * b) n in
-    let dc = div-add-mod' (s * c) n in
-    let ra : s * a % n < n = mod_below (s * a) n pos in
-    let rb : s * b % n < n = mod_below (s * b) n pos in
-    let rc : s * c % n < n = mod_below (s * c) n pos in
-    let whole : s * n ≡ s * a + s * b + s * c = rw e (omega arith) in
-    let lt : s * n < (s * a / n + s * b / n + s * c / n + 3) * n = omega arith in
-    let less : s < s * a / n + s * b / n + s * c / n + 3 = lt_of_mul-lt-mul_right n lt in
+-- the whole parts and one for each outcome are more than what is spread
+quotas_over : (spread n : ℕ) (xs : List ℕ) → 0 < n → spread * sum xs + length xs ≤ (sum_by (λ c. spread * c / n) xs + length xs) * n
+quotas_over spread n [] pos = omega arith
+quotas_over spread n (x ∷ xs) pos =
+    let e = sum_by-cons (λ c. spread * c / n) x xs in
+    let f = sum_by-cons (λ (c : ℕ). c) x xs in
+    rw (e, f) (omega (arith, div-add-mod' (spread * x) n, mod_below (spread * x) n pos, quotas_over spread n xs pos))
+
+-- so fewer are left than there are outcomes
+few_left : (counts : List ℕ) → 1 ≤ sum counts → 1 ≤ length counts → left_of counts < length counts
+few_left counts some long =
+    let less : spread_of counts < sum_by (quota_of counts) counts + length counts = lt_of_mul-lt-mul_right (sum counts) (omega (arith, quotas_over (spread_of counts) (sum counts) counts some)) in
     omega arith
 
 -- three shares by largest remainders add up to 1,024
@@ -84,7 +85,7 @@ valid_three a b c s0 s1 s2 some e0 e1 e2 =
     let r1 = 1021 * b % n in
     let r2 = 1021 * c % n in
     let left = left_of counts in
-    let few : left ≤ 2 = omega (arith, lefts_total 1021 n a b c some (omega arith)) in
+    let few : left ≤ 2 = omega (arith, few_left counts some (omega arith)) in
     let whole : 1021 * a / n + 1021 * b / n + 1021 * c / n ≤ 1021 = omega (arith, quotas_le counts some) in
     let ranks = rank_three r0 r1 r2 left few in
     let a0 : ahead_of counts 0 ≡ cond (ltb r0 r1) 1 0 + cond (ltb r0 r2) 1 0 = rw (never_ahead r0 0, later_ahead r0 r1 0 1 (omega arith), later_ahead r0 r2 0 2 (omega arith)) (omega arith) in
@@ -92,21 +93,6 @@ valid_three a b c s0 s1 s2 some e0 e1 e2 =
     let a2 : ahead_of counts 2 ≡ cond (ltb r0 r2) 0 1 + cond (ltb r1 r2) 0 1 = rw (never_ahead r2 2, earlier_ahead r0 r2 0 2 (omega arith), earlier_ahead r1 r2 1 2 (omega arith)) (omega arith) in
     let given = rw (← a0, ← a1, ← a2) at ranks in
     omega (arith, e0, e1, e2, given, whole)
-
-lefts_of_four : (s n a b c d : ℕ) → 0 < n → n ≡ a + b + c + d → s - (s * a / n + s * b / n + s * c / n + s * d / n) ≤ 3
-lefts_of_four s n a b c d pos e =
-    let da = div-add-mod' (s * a) n in
-    let db = div-add-mod' (s * b) n in
-    let dc = div-add-mod' (s * c) n in
-    let dd = div-add-mod' (s * d) n in
-    let ra : s * a % n < n = mod_below (s * a) n pos in
-    let rb : s * b % n < n = mod_below (s * b) n pos in
-    let rc : s * c % n < n = mod_below (s * c) n pos in
-    let rd : s * d % n < n = mod_below (s * d) n pos in
-    let whole : s * n ≡ s * a + s * b + s * c + s * d = rw e (omega arith) in
-    let lt : s * n < (s * a / n + s * b / n + s * c / n + s * d / n + 4) * n = omega arith in
-    let less : s < s * a / n + s * b / n + s * c / n + s * d / n + 4 = lt_of_mul-lt-mul_right n lt in
-    omega arith
 
 -- four shares by largest remainders add up to 1,024
 valid_four : (a b c d s0 s1 s2 s3 : ℕ) → 1 ≤ sum (a ∷ b ∷ c ∷ d ∷ []) → s0 ≡ share_of (a ∷ b ∷ c ∷ d ∷ []) 0 → s1 ≡ share_of (a ∷ b ∷ c ∷ d ∷ []) 1 → s2 ≡ share_of (a ∷ b ∷ c ∷ d ∷ []) 2 → s3 ≡ share_of (a ∷ b ∷ c ∷ d ∷ []) 3 → s0 + s1 + s2 + s3 ≡ 1024
@@ -118,7 +104,7 @@ valid_four a b c d s0 s1 s2 s3 some e0 e1 e2 e3 =
     let r2 = 1020 * c % n in
     let r3 = 1020 * d % n in
     let left = left_of counts in
-    let few : left ≤ 3 = omega (arith, lefts_of_four 1020 n a b c d some (omega arith)) in
+    let few : left ≤ 3 = omega (arith, few_left counts some (omega arith)) in
     let whole : 1020 * a / n + 1020 * b / n + 1020 * c / n + 1020 * d / n ≤ 1020 = omega (arith, quotas_le counts some) in
     let ranks = rank_four r0 r1 r2 r3 left few in
     let a0 : ahead_of counts 0 ≡ cond (ltb r0 r1) 1 0 + cond (ltb r0 r2) 1 0 + cond (ltb r0 r3) 1 0 = rw (never_ahead r0 0, later_ahead r0 r1 0 1 (omega arith), later_ahead r0 r2 0 2 (omega arith), later_ahead r0 r3 0 3 (omega arith)) (omega arith) in

@@ -2,7 +2,7 @@
 ghost use Rattle.std.specs.Prelude.{◌≡◌, ◌≤◌, ◌<◌, [], ◌∷◌, ◌++◌, length, sum, map, nat_lt, ◌==◌, ◌||◌, ◌&&◌};
 ghost use Rattle.std.specs.List.{range_with_len};
 ghost use Rattle.link_base.specs.Shares.{IsShares};
-ghost use Rattle.sample_counts.specs.Remainders.{share_of, quota_of, rest_of, left_of, ahead_of, spread_of};
+ghost use Rattle.sample_counts.specs.Remainders.{share_of, left_of, ahead_of, spread_of};
 
 use link_limits::{MOST_ROWS, WHOLE_FIELD};
 
@@ -34,14 +34,6 @@ pub fn shares4(counts: &[u64; 4]) -> [u16; 4]
         share_at(counts, 2),
         share_at(counts, 3),
     ]
-}
-
-/// The sum of the counts.
-fn total(counts: &[u64]) -> u64
-    requires { sum counts.now ≤ MOST_ROWS }
-    ensures { result ≡ sum counts.now }
-{
-    counts.iter().sum()
 }
 
 /// What is given in proportion: the whole less 1 for each outcome.
@@ -102,7 +94,7 @@ fn share_at(counts: &[u64], i: usize) -> u16
     requires place { i < length counts.now }
     ensures { result ≡ share_of counts.now i }
 {
-    let n = total(counts);
+    let n: u64 = counts.iter().sum();
     let quota = spread(counts) * counts[i] / n;
     let more = u64::from(ahead(counts, n, i) < left_over(counts, n));
     (1 + quota + more) as u16

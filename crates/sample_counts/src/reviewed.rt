@@ -1,15 +1,13 @@
 // The reviewed pairs of a sample.
-ghost use Rattle.std.specs.Prelude.{◌≡◌, ◌≤◌, ◌<◌, ◌+◌, ◌++◌, ◌∷◌, [], All, IfOk, OnOk, length, map, not, slice_index_or, true};
-ghost use Rattle.std.specs.List.{list_any};
+ghost use Rattle.std.specs.Prelude.{◌≡◌, ◌≤◌, ◌<◌, ◌+◌, ◌++◌, ◌∷◌, [], All, IfOk, length, slice_index_or};
 ghost use Rattle.file_reader.specs.Left.{records_in};
 ghost use Rattle.link_base.specs.Fault.{Gives, IsAnswer};
-ghost use Rattle.file_reader.specs.Layout.{wanted_of};
 ghost use Rattle.file_reader.specs.Rows.{TableRow, no_row};
-ghost use Rattle.sample_counts.specs.Sample.{IsInFiles, is_matched_by, reviewed_row, reviewed_rows, sample_of, sample_row, sample_under, sample_wanted, with_both, IsSample};
+ghost use Rattle.sample_counts.specs.Sample.{IsInFiles, is_matched_by, reviewed_row, reviewed_rows, sample_of, sample_row, sample_under, IsSample};
 ghost use Rattle.sample_counts.specs.Places.{HasPlaces};
 
 use file_reader::{Layout, Table, known_pair, read_table};
-use link_base::{Fault, FileRole, NoMemory, StdFile};
+use link_base::{Fault, FileRole, StdFile};
 use link_limits::MOST_ROWS;
 use std::alloc::Global;
 use std::collections::BTreeMap;
@@ -20,13 +18,6 @@ pub struct Reviewed {
     pub(crate) a: u32,
     pub(crate) b: u32,
     pub(crate) matched: bool,
-}
-
-fn layout(alloc: Global) -> Result<Layout, NoMemory>
-    ensures wanted { IfOk result (λ layout. wanted_of layout ≡ sample_wanted) }
-    ensures delimiter { IfOk result (λ layout. layout.delimiter ≡ 44) }
-{
-    Layout::of(alloc, &[b"id_a", b"id_b", b"status"], MOST_ROWS)
 }
 
 // Whether a status says that the pair is matched.
@@ -141,45 +132,24 @@ fn reviewed_in(
     Ok(done)
 }
 
-fn has_matched(sample: &[Reviewed]) -> bool
-    ensures { result ≡ list_any (λ (r : Reviewed). r.matched) sample.now }
-{
-    sample.iter().any(|pair| pair.matched)
-}
-
-fn has_unmatched(sample: &[Reviewed]) -> bool
-    ensures { result ≡ list_any (λ (r : Reviewed). not r.matched) sample.now }
-{
-    sample.iter().any(|pair| !pair.matched)
-}
-
-// The sample, where it has a matched and an unmatched pair.
-fn with_both_kinds(sample: Vec<Reviewed>) -> Result<Vec<Reviewed>, Fault>
-    ensures answer { Gives (λ sample. sample.items) (with_both sample.items) result }
-    ensures same { IfOk result (λ kept. kept.items ≡ sample.items) }
-    ensures matched { OnOk result (list_any (λ (r : Reviewed). r.matched) sample.items ≡ true) }
-    ensures unmatched { OnOk result (list_any (λ (r : Reviewed). not r.matched) sample.items ≡ true) }
-{
-    if !has_matched(&sample) {
-        return Err(Fault::NoMatched);
-    }
-    if !has_unmatched(&sample) {
-        return Err(Fault::NoUnmatched);
-    }
-    Ok(sample)
-}
-
-// The sample in a table.
+// The sample in a table, where it has a matched and an unmatched pair.
 fn sample_in(alloc: Global, table: &Table, a: &StdFile, b: &StdFile) -> Result<Vec<Reviewed>, Fault>
     requires width { All (λ (r : TableRow). length r.fields ≡ 3) table.now }
     requires few { length table.now ≤ MOST_ROWS }
     ensures answer { Gives (λ sample. sample.items) (sample_under a.now b.now table.now) result }
     ensures is { IfOk result (λ sample. IsSample (length a.now) (length b.now) sample.items) }
 {
-    match reviewed_in(alloc, table, a, b) {
-        Ok(sample) => with_both_kinds(sample),
-        Err(fault) => Err(fault),
+    let sample = match reviewed_in(alloc, table, a, b) {
+        Ok(sample) => sample,
+        Err(fault) => return Err(fault),
+    };
+    if !sample.iter().any(|pair| pair.matched) {
+        return Err(Fault::NoMatched);
     }
+    if !sample.iter().any(|pair| !pair.matched) {
+        return Err(Fault::NoUnmatched);
+    }
+    Ok(sample)
 }
 
 /// The reviewed pairs of a sample file, or its first fault.
@@ -192,7 +162,7 @@ pub(crate) fn read_sample(
     ensures answer { Gives (λ sample. sample.items) (sample_of a.now b.now (records_in 44 bytes.now)) result }
     ensures is { IfOk result (λ sample. IsSample (length a.now) (length b.now) sample.items) }
 {
-    let layout = layout(alloc)?;
+    let layout = Layout::of(alloc, &[b"id_a", b"id_b", b"status"], MOST_ROWS)?;
     match read_table(alloc, bytes, FileRole::Sample, &layout) {
         Ok(table) => sample_in(alloc, &table, a, b),
         Err(fault) => Err(fault),

@@ -1,13 +1,4 @@
-pub mod Documents
-pub mod Sharing
-pub mod GivenShares
-pub mod TermRanges
 pub mod TextRanges
 pub mod WordTables
-pub mod CanonRanges
 pub mod FieldRanges
-pub mod PassRanges
-pub mod TableRanges
 pub mod Ranges
-pub mod Answered
-pub mod Loops

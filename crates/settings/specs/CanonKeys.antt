@@ -8,8 +8,5 @@ use Rattle.link_plan.specs.declared.limits.TheConstants.{MOST_LETTERS}
 use Rattle.settings_readers.specs.Parts.{◌>>=◌, needed, without}
 use Rattle.settings_readers.specs.Values.{whole}
 
-unfoldable pub lettered : Canon → Members → List ℕ → Result Canon KeyFault
-lettered c t above = needed (whole 1 MOST_LETTERS) t above (codes "n") >>= λ n. Ok (with_letters n c)
-
-abbrev pub numbered : Canon → Members → List ℕ → Result Canon KeyFault
-numbered c t above = if is_some (letters_of c) then lettered c t above else without c t above (codes "n")
+unfoldable pub numbered : Canon → Members → List ℕ → Result Canon KeyFault
+numbered c t above = if is_some (letters_of c) then (needed (whole 1 MOST_LETTERS) t above (codes "n") >>= λ n. Ok (with_letters n c)) else without c t above (codes "n")

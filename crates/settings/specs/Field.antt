@@ -10,11 +10,10 @@ use Rattle.link_texts.specs.Texts.{stands_among}
 use Rattle.settings_readers.specs.declared.fault.KeyFault.{KeyFault}
 use Rattle.link_base.specs.declared.plan.FieldSort.{FieldSort}
 use Rattle.link_base.specs.declared.plan.FieldSort.TheVariants as sort
-use Rattle.value_forms.specs.declared.canons.Canon.{Canon}
 use Rattle.value_forms.specs.declared.canons.CompareKind.{CompareKind}
 use Rattle.value_forms.specs.declared.canons.CompareKind.TheVariants as by
 use Rattle.link_base.specs.Shares.{outcomes_of}
-use Rattle.settings_readers.specs.Parts.{◌>>=◌, typed, ranged, in_range, needed, needed_both, optional, defaulted_both, absent, without, without_both, known}
+use Rattle.settings_readers.specs.Parts.{◌>>=◌, typed, ranged, in_range, needed, optional, defaulted, without, without_both, known}
 use Rattle.settings_readers.specs.Values.{choice, whole, magnitude}
 use Rattle.settings_readers.specs.Lists.{array_of, on_table}
 use Rattle.link_plan.specs.Plan.{FieldKeys, PlainShares}
@@ -33,40 +32,22 @@ use Rattle.settings.specs.declared.words.Kind.TheVariants as kind
 abbrev pub field_keys : List (List ℕ)
 field_keys = codes "name" ∷ codes "column_a" ∷ codes "column_b" ∷ codes "kind" ∷ codes "form_a" ∷ codes "form_b" ∷ codes "compare" ∷ codes "n" ∷ codes "t" ∷ codes "rare" ∷ codes "m" ∷ codes "u" ∷ []
 
--- a name that no earlier field has
-unfoldable pub new_name : List FieldKeys → Members → List ℕ → Result (List ℕ) KeyFault
-new_name before t above = do
-  name ← needed (text rule.FieldName) t above (codes "name")
-  in_range (above ++ codes "name") (not (list_any (λ f. bytes_eq name f.name) before)) name
-
 -- both forms of a date; no forms for another kind
-unfoldable pub date_sort : Members → List ℕ → Result FieldSort KeyFault
-date_sort t above = needed_both (choice form_named) t above (codes "form_a") (codes "form_b") >>= λ forms. Ok (sort.Date forms.0 forms.1)
-
 abbrev pub sort_of : Kind → Members → List ℕ → Result FieldSort KeyFault
 sort_of kind.Name t above = without_both sort.Name t above (codes "form_a") (codes "form_b")
 sort_of kind.Place t above = without_both sort.Place t above (codes "form_a") (codes "form_b")
-sort_of kind.Date t above = date_sort t above
-
--- n for a canon of a number of letters alone, and t for `days` and `years` alone
-unfoldable pub by_canon : Canon → Members → List ℕ → Result CompareKind KeyFault
-by_canon c t above = numbered c t above >>= λ canon. without (by.Same canon) t above (codes "t")
+sort_of kind.Date t above = needed (choice form_named) t above (codes "form_a") >>= λ a. needed (choice form_named) t above (codes "form_b") >>= λ b. Ok (sort.Date a b)
 
 -- how far apart two values that agree may be; letters are not counted beside it
 abbrev pub span : ℕ → Members → List ℕ → Result ℕ KeyFault
-span most t above = absent t above (codes "n") >>= λ no_n. needed (whole 0 most) t above (codes "t")
+span most t above = without {A = Unit {0}} tt t above (codes "n") >>= λ no_n. needed (whole 0 most) t above (codes "t")
 
-unfoldable pub by_days : Members → List ℕ → Result CompareKind KeyFault
-by_days t above = span MOST_DAYS t above >>= λ days. Ok (by.DaysWithin days)
-
-unfoldable pub by_years : Members → List ℕ → Result CompareKind KeyFault
-by_years t above = span MOST_YEARS t above >>= λ years. Ok (by.YearsWithin years)
-
+-- n for a canon of a number of letters alone, and t for `days` and `years` alone
 abbrev pub compare_by : CompareKind → Members → List ℕ → Result CompareKind KeyFault
-compare_by (by.Same c) t above = by_canon c t above
+compare_by (by.Same c) t above = numbered c t above >>= λ canon. without (by.Same canon) t above (codes "t")
 compare_by by.Initials t above = without_both by.Initials t above (codes "n") (codes "t")
-compare_by (by.DaysWithin least) t above = by_days t above
-compare_by (by.YearsWithin least) t above = by_years t above
+compare_by (by.DaysWithin least) t above = span MOST_DAYS t above >>= λ days. Ok (by.DaysWithin days)
+compare_by (by.YearsWithin least) t above = span MOST_YEARS t above >>= λ years. Ok (by.YearsWithin years)
 
 -- a rare number, where values are compared by a canon
 abbrev pub rare_number : CompareKind → Members → List ℕ → Result (Option ℕ) KeyFault
@@ -101,37 +82,27 @@ given_shares rare t above = do
   u ← needed (shares rare) t above (codes "u")
   Ok (Some (record { rare = rare; m = m; u = u }))
 
-unfoldable pub no_shares : Members → List ℕ → Result (Option PlainShares) KeyFault
-no_shares t above = do
-  no_m ← absent t above (codes "m")
-  no_u ← absent t above (codes "u")
-  Ok None
-
 abbrev pub field_shares : Bool → Bool → Members → List ℕ → Result (Option PlainShares) KeyFault
-field_shares sampled rare t above = if sampled then no_shares t above else given_shares rare t above
+field_shares sampled rare t above = if sampled then (without_both {A = Unit {0}} tt t above (codes "m") (codes "u") >>= λ neither. Ok None) else given_shares rare t above
 
--- the name of a field, after those before it, and its columns, which have that name where their keys are not there
+-- the name of a field, which no field before it has, and its columns, which have that name where their keys are not there
 unfoldable pub name_keys : List FieldKeys → Members → List ℕ → Result NameKeys KeyFault
 name_keys before t above = do
-  name ← new_name before t above
-  columns ← defaulted_both (text rule.Label) name t above (codes "column_a") (codes "column_b")
-  Ok (record { name = name; column_a = columns.0; column_b = columns.1 })
-
--- the comparison of a field of a sort, and its rare number
-unfoldable pub comparison : FieldSort → Members → List ℕ → Result (CompareKind × Option ℕ) KeyFault
-comparison sort t above = do
-  word ← needed (choice (compare_named sort)) t above (codes "compare")
-  compare ← compare_by word t above
-  rare ← rare_number compare t above
-  Ok (compare, rare)
+  name ← needed (text rule.FieldName) t above (codes "name")
+  fresh ← in_range (above ++ codes "name") (not (list_any (λ f. bytes_eq name f.name) before)) name
+  column_a ← defaulted (text rule.Label) fresh t above (codes "column_a")
+  column_b ← defaulted (text rule.Label) fresh t above (codes "column_b")
+  Ok (record { name = fresh; column_a = column_a; column_b = column_b })
 
 -- what a field holds, how it is compared, and its rare number
 unfoldable pub compare_keys : Members → List ℕ → Result CompareKeys KeyFault
 compare_keys t above = do
   kind ← needed (choice kind_named) t above (codes "kind")
   sort ← sort_of kind t above
-  compared ← comparison sort t above
-  Ok (record { sort = sort; compare = compared.0; rare = compared.1 })
+  word ← needed (choice (compare_named sort)) t above (codes "compare")
+  compare ← compare_by word t above
+  rare ← rare_number compare t above
+  Ok (record { sort = sort; compare = compare; rare = rare })
 
 -- how a field is compared, and its shares; sampled says that the settings name a sample
 unfoldable pub measure_keys : Bool → Members → List ℕ → Result (CompareKeys × Option PlainShares) KeyFault
@@ -140,17 +111,13 @@ measure_keys sampled t above = do
   shares ← field_shares sampled (is_some compared.rare) t above
   Ok (compared, shares)
 
--- the keys of a field in one
-abbrev pub field_of : NameKeys → CompareKeys → Option PlainShares → FieldKeys
-field_of named compared shares = record { name = named.name; column_a = named.column_a; column_b = named.column_b; sort = compared.sort; compare = compared.compare; rare = compared.rare; shares = shares }
-
 -- a field, after those before it
 unfoldable pub field : Bool → List FieldKeys → Members → List ℕ → Result FieldKeys KeyFault
 field sampled before t above = do
   listed ← known (stands_among field_keys) t above
   named ← name_keys before t above
   measured ← measure_keys sampled t above
-  Ok (field_of named measured.0 measured.1)
+  Ok (record { name = named.name; column_a = named.column_a; column_b = named.column_b; sort = measured.0.sort; compare = measured.0.compare; rare = measured.0.rare; shares = measured.1 })
 
 -- an array of fields
 abbrev pub fields : Bool → List ℕ → Data → Result (List FieldKeys) KeyFault

@@ -5,7 +5,6 @@ use Rattle.std.specs.Str.{bytes_eq}
 use Rattle.toml.specs.Data.{Data, Members}
 use Rattle.link_texts.specs.Texts.{stands_among}
 use Rattle.settings_readers.specs.declared.fault.KeyFault.{KeyFault}
-use Rattle.value_forms.specs.declared.canons.Canon.{Canon}
 use Rattle.link_base.specs.declared.plan.FieldSort.{FieldSort}
 use Rattle.value_forms.specs.declared.passes.Part.{Part}
 use Rattle.link_plan.specs.Plan.{FieldKeys}
@@ -28,15 +27,12 @@ abbrev pub field_named : List FieldKeys → ℕ → List ℕ → Option (ℕ × 
 field_named [] n name = None
 field_named (f ∷ fs) n name = if bytes_eq name f.name then Some (n, f.sort) else field_named fs (n + 1) name
 
--- the key of a field of a sort
-unfoldable pub key_of : FieldSort → Members → List ℕ → Result Canon KeyFault
-key_of sort t above = needed (choice (key_named sort)) t above (codes "key") >>= λ word. numbered word t above
-
 unfoldable pub part : List FieldKeys → Members → List ℕ → Result Part KeyFault
 part fields t above = do
   listed ← known (stands_among part_keys) t above
   field ← needed (choice (field_named fields 0)) t above (codes "field")
-  key ← key_of field.1 t above
+  word ← needed (choice (key_named field.1)) t above (codes "key")
+  key ← numbered word t above
   Ok (record { field = field.0; key = key })
 
 -- an array of one to four parts

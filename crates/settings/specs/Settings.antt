@@ -8,18 +8,16 @@ use Rattle.toml.specs.Parse.{parse_document}
 use Rattle.link_texts.specs.Texts.{stands_among}
 use Rattle.link_base.specs.declared.fault.Fault.{Fault}
 use Rattle.link_base.specs.declared.fault.Fault.TheVariants as fault
-use Rattle.value_forms.specs.declared.passes.Part.{Part}
 use Rattle.link_base.specs.declared.tables.Tables.{Tables}
 use Rattle.link_base.specs.Tables.{missing_marks, name_titles, name_suffixes}
 use Rattle.settings_readers.specs.declared.fault.KeyFault.{KeyFault}
 use Rattle.settings_readers.specs.KeyFaults.{fault_of}
-use Rattle.settings_readers.specs.Parts.{◌>>=◌, in_range, needed, needed_both, optional, defaulted, defaulted_both, known}
+use Rattle.settings_readers.specs.Parts.{◌>>=◌, in_range, needed, optional, defaulted, known}
 use Rattle.settings_readers.specs.Values.{choice, whole, truth}
 use Rattle.settings.specs.Values.{text}
 use Rattle.settings.specs.Words.{delimiter_named}
 use Rattle.settings.specs.WordTables.{texts, word_table}
 use Rattle.settings.specs.Field.{fields}
-use Rattle.link_plan.specs.Plan.{FieldKeys}
 use Rattle.settings.specs.Pass.{passes}
 use Rattle.link_plan.specs.Terms.{term_keys, terms_by}
 use Rattle.link_plan.specs.declared.limits.TheConstants.{MOST_LISTED_WORDS, MOST_MARKS}
@@ -29,7 +27,6 @@ use Rattle.settings.specs.declared.texts.TextRule.TheVariants as rule
 use Rattle.settings.specs.declared.top.FileKeys.{FileKeys}
 use Rattle.settings.specs.declared.top.LinkKeys.{LinkKeys}
 use Rattle.settings.specs.declared.top.OtherSources.{OtherSources}
-use Rattle.settings.specs.declared.top.SourceKeys.{SourceKeys}
 
 -- the keys of the file but its terms
 abbrev pub top_keys : List (List ℕ)
@@ -49,23 +46,20 @@ journal_of taken t above = do
 -- the two files, and the columns of their ids
 unfoldable pub file_keys : Members → List ℕ → Result FileKeys KeyFault
 file_keys t above = do
-  files ← needed_both (text rule.File) t above (codes "file_a") (codes "file_b")
-  ids ← defaulted_both (text rule.Label) (codes "id") t above (codes "id_a") (codes "id_b")
-  Ok (record { file_a = files.0; file_b = files.1; id_a = ids.0; id_b = ids.1 })
+  file_a ← needed (text rule.File) t above (codes "file_a")
+  file_b ← needed (text rule.File) t above (codes "file_b")
+  id_a ← defaulted (text rule.Label) (codes "id") t above (codes "id_a")
+  id_b ← defaulted (text rule.Label) (codes "id") t above (codes "id_b")
+  Ok (record { file_a = file_a; file_b = file_b; id_a = id_a; id_b = id_b })
 
 -- the keys on files after the two and their ids
 unfoldable pub other_sources : FileKeys → Members → List ℕ → Result OtherSources KeyFault
 other_sources files t above = do
-  delimiters ← defaulted_both (choice delimiter_named) 44 t above (codes "delimiter_a") (codes "delimiter_b")
+  delimiter_a ← defaulted (choice delimiter_named) 44 t above (codes "delimiter_a")
+  delimiter_b ← defaulted (choice delimiter_named) 44 t above (codes "delimiter_b")
   sample ← optional (text rule.File) t above (codes "sample")
   journal ← journal_of (files.file_a ∷ files.file_b ∷ option_to_list sample) t above
-  Ok (record { delimiter_a = delimiters.0; delimiter_b = delimiters.1; sample = sample; journal = journal })
-
-unfoldable pub sources : Members → List ℕ → Result SourceKeys KeyFault
-sources t above = do
-  files ← file_keys t above
-  others ← other_sources files t above
-  Ok (record { files = files; others = others })
+  Ok (record { delimiter_a = delimiter_a; delimiter_b = delimiter_b; sample = sample; journal = journal })
 
 -- the number at a key, and the truth value
 abbrev pub number_at : Members → List ℕ → List ℕ → ℕ → ℕ → Option ℕ → Result ℕ KeyFault
@@ -93,32 +87,26 @@ tables_over default t above = do
 abbrev pub standard_tables : Tables
 standard_tables = record { missing = missing_marks; titles = name_titles; suffixes = name_suffixes; names = []; places = [] }
 
--- the fields and the passes over them; sampled says that the sources name a sample
-unfoldable pub matching_keys : Bool → Members → List ℕ → Result (List FieldKeys × List (List Part)) KeyFault
-matching_keys sampled t above = do
-  fields ← needed (fields sampled) t above (codes "field")
-  passes ← needed (passes fields) t above (codes "pass")
-  Ok (fields, passes)
-
--- the keys after the sources: how the records are linked
+-- the keys after the sources: how the records are linked; sampled says that the sources name a sample
 unfoldable pub link_keys : Bool → Members → List ℕ → Result LinkKeys KeyFault
 link_keys sampled t above = do
   terms ← terms t above
   tables ← tables_over standard_tables t above
-  matching ← matching_keys sampled t above
-  Ok (record { terms = terms; tables = tables; fields = matching.0; passes = matching.1 })
+  fields ← needed (fields sampled) t above (codes "field")
+  passes ← needed (passes fields) t above (codes "pass")
+  Ok (record { terms = terms; tables = tables; fields = fields; passes = passes })
 
 -- the plan of the parts of the top table
-abbrev pub plan_from : SourceKeys → LinkKeys → Plan
-plan_from s l = record {
-  file_a = s.files.file_a;
-  file_b = s.files.file_b;
-  id_a = s.files.id_a;
-  id_b = s.files.id_b;
-  delimiter_a = s.others.delimiter_a;
-  delimiter_b = s.others.delimiter_b;
-  sample = s.others.sample;
-  journal = s.others.journal;
+abbrev pub plan_from : FileKeys → OtherSources → LinkKeys → Plan
+plan_from f o l = record {
+  file_a = f.file_a;
+  file_b = f.file_b;
+  id_a = f.id_a;
+  id_b = f.id_b;
+  delimiter_a = o.delimiter_a;
+  delimiter_b = o.delimiter_b;
+  sample = o.sample;
+  journal = o.journal;
   terms = l.terms;
   tables = l.tables;
   fields = l.fields;
@@ -129,9 +117,10 @@ plan_from s l = record {
 unfoldable pub plan_of : Members → List ℕ → Result Plan KeyFault
 plan_of t above = do
   listed ← known (stands_among (top_keys ++ term_keys)) t above
-  s ← sources t above
-  l ← link_keys (is_some s.others.sample) t above
-  Ok (plan_from s l)
+  files ← file_keys t above
+  others ← other_sources files t above
+  links ← link_keys (is_some others.sample) t above
+  Ok (plan_from files others links)
 
 -- the table of a file
 abbrev pub document : List ℕ → Option Members

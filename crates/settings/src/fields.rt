@@ -5,12 +5,12 @@ ghost use Rattle.std.specs.Str.{bytes_eq};
 ghost use Rattle.toml.specs.View.{table_view};
 ghost use Rattle.settings_readers.specs.KeyFaults.{Gives, IsAnswer};
 ghost use Rattle.link_plan.specs.Plan.{plain_shares};
-ghost use Rattle.settings.specs.Field.{compare_keys, field, field_shares, fields, given_shares, measure_keys, name_keys, new_name};
+ghost use Rattle.settings.specs.Field.{compare_keys, field, field_shares, fields, measure_keys, name_keys};
 
-use crate::kinds::{comparison, sort_of};
+use crate::kinds::{compare_by, rare_number, sort_of};
 use crate::shares::Shares;
-use crate::texts::{TextRule, labels};
-use crate::words::Kinds;
+use crate::texts::{TextRule, label};
+use crate::words::{ComparisonsOf, Kinds};
 use link_base::{FieldShares, FieldSort, Text};
 use link_limits::MOST_FIELDS;
 use link_plan::{FieldList, FieldPlan};
@@ -43,80 +43,44 @@ pub(crate) struct CompareKeys {
 fn is_taken(before: &[FieldPlan], name: &Text) -> bool
     ensures { result ≡ list_any (λ f. bytes_eq name.now f.name) before.now }
 {
-    for field in before {
-        if field.is_named(name.bytes()) {
-            return true;
-        }
-    }
-    false
-}
-
-#[tactic(auto, unfolding(crate::specs::Field::new_name))]
-fn new_name(alloc: Global, before: &[FieldPlan], keys: &Keys) -> Result<Text, KeyFault>
-    ensures { IsAnswer (new_name before.now (table_view keys.now.table.now) keys.now.above.now) result }
-{
-    match keys.needed(alloc, &TextRule::FieldName, "name") {
-        Ok(name) => {
-            if is_taken(before, &name) {
-                drop(name);
-                return Place::new(keys.above, b"name").out_of_range(alloc);
-            }
-            Ok(name)
-        }
-        Err(fault) => Err(fault),
-    }
+    before.iter().any(|field| field.is_named(name.bytes()))
 }
 
 #[tactic(auto, unfolding(crate::specs::Field::name_keys))]
 fn name_keys(alloc: Global, before: &[FieldPlan], keys: &Keys) -> Result<NameKeys, KeyFault>
     ensures { IsAnswer (name_keys before.now (table_view keys.now.table.now) keys.now.above.now) result }
 {
-    match new_name(alloc, before, keys) {
-        Ok(name) => match labels(alloc, name.bytes(), keys, "column_a", "column_b") {
-            Ok((column_a, column_b)) => Ok(NameKeys {
-                name,
-                column_a,
-                column_b,
-            }),
-            Err(fault) => {
-                drop(name);
-                Err(fault)
-            }
-        },
-        Err(fault) => Err(fault),
+    let name = keys.needed(alloc, &TextRule::FieldName, "name")?;
+    if is_taken(before, &name) {
+        return Place::new(keys.above, b"name").out_of_range(alloc);
     }
+    let column_a = label(alloc, name.bytes(), keys, "column_a")?;
+    let column_b = label(alloc, name.bytes(), keys, "column_b")?;
+    Ok(NameKeys {
+        name,
+        column_a,
+        column_b,
+    })
 }
 
 #[tactic(auto, unfolding(crate::specs::Field::compare_keys))]
 fn compare_keys(alloc: Global, keys: &Keys) -> Result<CompareKeys, KeyFault>
     ensures { IsAnswer (compare_keys (table_view keys.now.table.now) keys.now.above.now) result }
 {
-    match keys.needed(alloc, &Choice(Kinds), "kind") {
-        Ok(kind) => match sort_of(alloc, kind, keys) {
-            Ok(sort) => match comparison(alloc, sort, keys) {
-                Ok((compare, rare)) => Ok(CompareKeys {
-                    sort,
-                    compare,
-                    rare,
-                }),
-                Err(fault) => Err(fault),
-            },
-            Err(fault) => Err(fault),
-        },
-        Err(fault) => Err(fault),
-    }
+    let kind = keys.needed(alloc, &Choice(Kinds), "kind")?;
+    let sort = sort_of(alloc, kind, keys)?;
+    let named = keys.needed(alloc, &Choice(ComparisonsOf(sort)), "compare")?;
+    let compare = compare_by(alloc, named, keys)?;
+    let rare = rare_number(alloc, compare, keys)?;
+    Ok(CompareKeys {
+        sort,
+        compare,
+        rare,
+    })
 }
 
+// The shares of a field's outcomes, which are given where the settings name no sample.
 #[tactic(auto, unfolding(crate::specs::Field::given_shares))]
-fn given_shares(alloc: Global, rare: bool, keys: &Keys) -> Result<Option<FieldShares>, KeyFault>
-    ensures { Gives (λ s. option_map plain_shares s) (given_shares rare (table_view keys.now.table.now) keys.now.above.now) result }
-{
-    let m = keys.needed(alloc, &Shares { rare }, "m")?;
-    let u = keys.needed(alloc, &Shares { rare }, "u")?;
-    Ok(Some(FieldShares { rare, m, u }))
-}
-
-#[tactic(auto, unfolding(crate::specs::Field::no_shares))]
 fn field_shares(
     alloc: Global,
     sampled: bool,
@@ -125,12 +89,13 @@ fn field_shares(
 ) -> Result<Option<FieldShares>, KeyFault>
     ensures { Gives (λ s. option_map plain_shares s) (field_shares sampled rare (table_view keys.now.table.now) keys.now.above.now) result }
 {
-    if !sampled {
-        return given_shares(alloc, rare, keys);
+    if sampled {
+        keys.without_both(alloc, "m", "u", ())?;
+        return Ok(None);
     }
-    keys.absent(alloc, "m")?;
-    keys.absent(alloc, "u")?;
-    Ok(None)
+    let m = keys.needed(alloc, &Shares { rare }, "m")?;
+    let u = keys.needed(alloc, &Shares { rare }, "u")?;
+    Ok(Some(FieldShares { rare, m, u }))
 }
 
 // How a field is compared, and its shares.
@@ -152,13 +117,13 @@ fn measure_keys(
     }
 }
 
-/// A field's table; `sampled` says that the settings name a sample.
-#[derive(Drop)]
-struct FieldTable {
-    sampled: bool,
+/// One to six fields; `sampled` says that the settings name a sample.
+#[derive(Clone, Copy)]
+pub(crate) struct Fields {
+    pub(crate) sampled: bool,
 }
 
-impl Row for FieldTable {
+impl Row for Fields {
     type Item = FieldPlan;
 
     ghost gives = { λ f. field f.sampled };
@@ -171,31 +136,18 @@ impl Row for FieldTable {
         keys: &Keys,
     ) -> Result<FieldPlan, KeyFault> {
         keys.known(alloc, &FIELD_KEYS, &[])?;
-        match name_keys(alloc, before, keys) {
-            Ok(named) => match measure_keys(alloc, self.sampled, keys) {
-                Ok((compared, shares)) => Ok(FieldPlan {
-                    name: named.name,
-                    column_a: named.column_a,
-                    column_b: named.column_b,
-                    sort: compared.sort,
-                    compare: compared.compare,
-                    rare: compared.rare,
-                    shares,
-                }),
-                Err(fault) => {
-                    drop(named);
-                    Err(fault)
-                }
-            },
-            Err(fault) => Err(fault),
-        }
+        let named = name_keys(alloc, before, keys)?;
+        let (compared, shares) = measure_keys(alloc, self.sampled, keys)?;
+        Ok(FieldPlan {
+            name: named.name,
+            column_a: named.column_a,
+            column_b: named.column_b,
+            sort: compared.sort,
+            compare: compared.compare,
+            rare: compared.rare,
+            shares,
+        })
     }
-}
-
-/// One to six fields; `sampled` says that the settings name a sample.
-#[derive(Drop)]
-pub(crate) struct Fields {
-    pub(crate) sampled: bool,
 }
 
 impl Reader for Fields {
@@ -207,13 +159,8 @@ impl Reader for Fields {
         let rows = Items {
             low: 1,
             high: MOST_FIELDS as usize,
-            element: Rows(FieldTable {
-                sampled: self.sampled,
-            }),
+            element: Rows(*self),
         };
-        match rows.read(alloc, place, value) {
-            Ok(fields) => Ok(FieldList::new(fields)),
-            Err(fault) => Err(fault),
-        }
+        Ok(FieldList::new(rows.read(alloc, place, value)?))
     }
 }

@@ -39,12 +39,7 @@ impl Reader for Shares {
 fn are_whole(items: &[Value]) -> bool
     ensures { result ≡ is_some (wholes (items_view items.now)) }
 {
-    for item in items {
-        if !item.is_integer() {
-            return false;
-        }
-    }
-    true
+    items.iter().all(|item| item.is_integer())
 }
 
 /// A whole number, or 0 where it is negative.

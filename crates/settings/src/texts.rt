@@ -4,16 +4,15 @@ ghost use Rattle.std.specs.List.{list_all};
 ghost use Rattle.toml.specs.View.{table_view, view};
 ghost use Rattle.settings_readers.specs.KeyFaults.{Gives, IsAnswer};
 ghost use Rattle.link_base.specs.Tables.{is_word_byte};
-ghost use Rattle.settings_readers.specs.Parts.{defaulted, defaulted_both};
-ghost use Rattle.settings_readers.specs.Values.{whole};
+ghost use Rattle.settings_readers.specs.Parts.{defaulted};
 ghost use Rattle.settings.specs.declared.texts.TextRule.TheVariants as rule;
 ghost use Rattle.link_plan.specs.Names.{is_output, is_name_byte};
 ghost use Rattle.settings.specs.Values.{fits, text};
 
-use link_base::{NoMemory, Text};
+use link_base::Text;
 use link_limits::{MOST_NAME_BYTES, MOST_WORD_BYTES};
-use link_plan::{MOST_FIELD_NAME_BYTES, MOST_LABEL_BYTES, MOST_LETTERS, MOST_MARK_BYTES};
-use settings_readers::{KeyFault, Keys, Place, Reader, is_listed, whole_number};
+use link_plan::{MOST_FIELD_NAME_BYTES, MOST_LABEL_BYTES, MOST_MARK_BYTES};
+use settings_readers::{KeyFault, Keys, Place, Reader, is_listed};
 use std::alloc::Global;
 use std::marker::Model;
 use toml::Value;
@@ -63,23 +62,13 @@ fn is_name_byte(byte: u8) -> bool
 fn has_word_bytes(text: &[u8]) -> bool
     ensures { result ≡ list_all is_word_byte text.now }
 {
-    for byte in text {
-        if !is_word_byte(*byte) {
-            return false;
-        }
-    }
-    true
+    text.iter().all(|byte| is_word_byte(*byte))
 }
 
 fn has_name_bytes(text: &[u8]) -> bool
     ensures { result ≡ list_all is_name_byte text.now }
 {
-    for byte in text {
-        if !is_name_byte(*byte) {
-            return false;
-        }
-    }
-    true
+    text.iter().all(|byte| is_name_byte(*byte))
 }
 
 /// Whether a text is in range.
@@ -118,46 +107,12 @@ fn text_in<'a>(
     }
 }
 
-// The text of these bytes, where there is memory.
-fn text_of(alloc: Global, bytes: &[u8]) -> Result<Text, KeyFault>
-    ensures { IsAnswer (Ok bytes.now) result }
-{
-    match Text::new(alloc, bytes) {
-        Ok(text) => Ok(text),
-        Err(NoMemory) => Err(KeyFault::NoMemory),
-    }
-}
-
-// The label at a key; it is this one where the key is not there.
-fn label(alloc: Global, default: &[u8], keys: &Keys, key: &str) -> Result<Text, KeyFault>
+/// The label at a key; it is this one where the key is not there.
+pub(crate) fn label(alloc: Global, default: &[u8], keys: &Keys, key: &str) -> Result<Text, KeyFault>
     ensures { IsAnswer (defaulted (text rule.Label) default.now (table_view keys.now.table.now) keys.now.above.now key.now) result }
 {
-    match text_of(alloc, default) {
-        Ok(text) => keys.defaulted(alloc, &TextRule::Label, text, key),
-        Err(fault) => Err(fault),
-    }
-}
-
-/// The labels at two keys; each is this one where its key is not there.
-pub(crate) fn labels(
-    alloc: Global,
-    default: &[u8],
-    keys: &Keys,
-    key: &str,
-    other: &str,
-) -> Result<(Text, Text), KeyFault>
-    ensures { IsAnswer (defaulted_both (text rule.Label) default.now (table_view keys.now.table.now) keys.now.above.now key.now other.now) result }
-{
-    match label(alloc, default, keys, key) {
-        Ok(first) => match label(alloc, default, keys, other) {
-            Ok(second) => Ok((first, second)),
-            Err(fault) => {
-                drop(first);
-                Err(fault)
-            }
-        },
-        Err(fault) => Err(fault),
-    }
+    let default = Text::new(alloc, default)?;
+    keys.defaulted(alloc, &TextRule::Label, default, key)
 }
 
 impl Reader for TextRule {
@@ -167,7 +122,7 @@ impl Reader for TextRule {
 
     fn read(&self, alloc: Global, place: &Place, value: &Value) -> Result<Text, KeyFault> {
         match text_in(alloc, *self, place, value) {
-            Ok(text) => text_of(alloc, text.as_bytes()),
+            Ok(text) => Ok(Text::new(alloc, text.as_bytes())?),
             Err(fault) => Err(fault),
         }
     }
@@ -193,10 +148,8 @@ impl FileName {
     fn new(alloc: Global, name: &str) -> Result<FileName, KeyFault>
         ensures { IsAnswer (Ok name.now) result }
     {
-        match Text::new(alloc, name.as_bytes()) {
-            Ok(name) => Ok(FileName { name }),
-            Err(NoMemory) => Err(KeyFault::NoMemory),
-        }
+        let name = Text::new(alloc, name.as_bytes())?;
+        Ok(FileName { name })
     }
 
     /// The bytes.
@@ -227,25 +180,6 @@ impl Reader for File {
     fn read(&self, alloc: Global, place: &Place, value: &Value) -> Result<FileName, KeyFault> {
         match text_in(alloc, TextRule::File, place, value) {
             Ok(name) => FileName::new(alloc, name),
-            Err(fault) => Err(fault),
-        }
-    }
-}
-
-/// How many letters a canon takes that has a number of them, at least 1.
-#[derive(Drop)]
-pub(crate) struct Letters;
-
-impl Reader for Letters {
-    ghost use Rattle.link_plan.specs.declared.limits.TheConstants.{MOST_LETTERS};
-
-    type Item = u8;
-
-    ghost gives = { λ _. whole 1 MOST_LETTERS };
-
-    fn read(&self, alloc: Global, place: &Place, value: &Value) -> Result<u8, KeyFault> {
-        match whole_number(alloc, 1, u64::from(MOST_LETTERS), place, value) {
-            Ok(letters) => Ok(letters as u8),
             Err(fault) => Err(fault),
         }
     }

@@ -6,13 +6,13 @@ ghost use Rattle.link_base.specs.declared.fault.Fault.TheVariants as fault;
 ghost use Rattle.link_base.specs.Fault as run_fault;
 ghost use Rattle.settings_readers.specs.KeyFaults.{Gives, IsAnswer};
 ghost use Rattle.settings_readers.specs.Parts.{defaulted};
-ghost use Rattle.settings.specs.Settings.{document, file_keys, is_free, IsSettingsFault, journal_of, link_keys, matching_keys, of_keys, other_sources, plan_from, plan_of, settings, sources, standard_tables, tables_over};
+ghost use Rattle.settings.specs.Settings.{document, file_keys, is_free, IsSettingsFault, journal_of, link_keys, of_keys, other_sources, plan_from, plan_of, settings, standard_tables, tables_over};
 ghost use Rattle.link_plan.specs.Ranges.{KeepsRanges, NamesFiles};
 
 use crate::fields::Fields;
 use crate::passes::Passes;
 use crate::terms::TermKeys;
-use crate::texts::{File, FileName, TextRule, labels};
+use crate::texts::{File, FileName, TextRule, label};
 use crate::word_tables::{Texts, WordTable};
 use crate::words::Delimiters;
 use link_base::{Fault, NoMemory, Tables, Text};
@@ -59,13 +59,6 @@ pub(crate) struct OtherSources {
     journal: Option<FileName>,
 }
 
-/// The keys on all files.
-#[derive(Drop)]
-pub(crate) struct SourceKeys {
-    files: FileKeys,
-    others: OtherSources,
-}
-
 /// The keys after the sources: on how the records are linked.
 #[derive(Drop)]
 pub(crate) struct LinkKeys {
@@ -109,7 +102,6 @@ fn journal_of(
 {
     let journal = keys.optional(alloc, &File, "journal")?;
     if !is_free(files, sample, &journal) {
-        drop(journal);
         return Place::new(keys.above, b"journal").out_of_range(alloc);
     }
     Ok(journal)
@@ -119,22 +111,16 @@ fn journal_of(
 fn file_keys(alloc: Global, keys: &Keys) -> Result<FileKeys, KeyFault>
     ensures { IsAnswer (file_keys (table_view keys.now.table.now) keys.now.above.now) result }
 {
-    match keys.needed_both(alloc, &File, "file_a", "file_b") {
-        Ok((file_a, file_b)) => match labels(alloc, b"id", keys, "id_a", "id_b") {
-            Ok((id_a, id_b)) => Ok(FileKeys {
-                file_a,
-                file_b,
-                id_a,
-                id_b,
-            }),
-            Err(fault) => {
-                drop(file_a);
-                drop(file_b);
-                Err(fault)
-            }
-        },
-        Err(fault) => Err(fault),
-    }
+    let file_a = keys.needed(alloc, &File, "file_a")?;
+    let file_b = keys.needed(alloc, &File, "file_b")?;
+    let id_a = label(alloc, b"id", keys, "id_a")?;
+    let id_b = label(alloc, b"id", keys, "id_b")?;
+    Ok(FileKeys {
+        file_a,
+        file_b,
+        id_a,
+        id_b,
+    })
 }
 
 #[tactic(auto, unfolding(crate::specs::Settings::other_sources))]
@@ -142,44 +128,16 @@ fn other_sources(alloc: Global, files: &FileKeys, keys: &Keys) -> Result<OtherSo
     ensures { IsAnswer (other_sources files.now (table_view keys.now.table.now) keys.now.above.now) result }
 {
     let delimiter = Choice(Delimiters);
-    let (delimiter_a, delimiter_b) = keys.defaulted_both(
-        alloc,
-        &delimiter,
-        b',',
-        "delimiter_a",
-        "delimiter_b",
-    )?;
-    match keys.optional(alloc, &File, "sample") {
-        Ok(sample) => match journal_of(alloc, files, &sample, keys) {
-            Ok(journal) => Ok(OtherSources {
-                delimiter_a,
-                delimiter_b,
-                sample,
-                journal,
-            }),
-            Err(fault) => {
-                drop(sample);
-                Err(fault)
-            }
-        },
-        Err(fault) => Err(fault),
-    }
-}
-
-#[tactic(auto, unfolding(crate::specs::Settings::sources))]
-fn sources(alloc: Global, keys: &Keys) -> Result<SourceKeys, KeyFault>
-    ensures { IsAnswer (sources (table_view keys.now.table.now) keys.now.above.now) result }
-{
-    match file_keys(alloc, keys) {
-        Ok(files) => match other_sources(alloc, &files, keys) {
-            Ok(others) => Ok(SourceKeys { files, others }),
-            Err(fault) => {
-                drop(files);
-                Err(fault)
-            }
-        },
-        Err(fault) => Err(fault),
-    }
+    let delimiter_a = keys.defaulted(alloc, &delimiter, b',', "delimiter_a")?;
+    let delimiter_b = keys.defaulted(alloc, &delimiter, b',', "delimiter_b")?;
+    let sample = keys.optional(alloc, &File, "sample")?;
+    let journal = journal_of(alloc, files, &sample, keys)?;
+    Ok(OtherSources {
+        delimiter_a,
+        delimiter_b,
+        sample,
+        journal,
+    })
 }
 
 // What stands at a key takes the place of the default, which stays where the key is not there.
@@ -232,13 +190,8 @@ fn tables(alloc: Global, keys: &Keys) -> Result<Tables, KeyFault>
     ensures { IsAnswer (tables_over standard_tables (table_view keys.now.table.now) keys.now.above.now) result }
 {
     let mut tables = standard_tables(alloc)?;
-    match replace_tables(alloc, &mut tables, keys) {
-        Ok(()) => Ok(tables),
-        Err(fault) => {
-            drop(tables);
-            Err(fault)
-        }
-    }
+    replace_tables(alloc, &mut tables, keys)?;
+    Ok(tables)
 }
 
 fn optional_text(name: Option<FileName>) -> Option<Text>
@@ -252,12 +205,10 @@ fn optional_text(name: Option<FileName>) -> Option<Text>
 }
 
 // The plan of the parts of the top table.
-fn plan_from(sources: SourceKeys, links: LinkKeys) -> Plan
-    ensures gives { result ≡ plan_from sources links }
+fn plan_from(files: FileKeys, others: OtherSources, links: LinkKeys) -> Plan
+    ensures gives { result ≡ plan_from files others links }
     ensures files { NamesFiles result }
 {
-    let files = sources.files;
-    let others = sources.others;
     Plan {
         file_a: files.file_a.into_text(),
         file_b: files.file_b.into_text(),
@@ -274,46 +225,20 @@ fn plan_from(sources: SourceKeys, links: LinkKeys) -> Plan
     }
 }
 
-#[tactic(auto, unfolding(crate::specs::Settings::matching_keys))]
-fn matching_keys(
-    alloc: Global,
-    sampled: bool,
-    keys: &Keys,
-) -> Result<(FieldList, PassList), KeyFault>
-    ensures { IsAnswer (matching_keys sampled (table_view keys.now.table.now) keys.now.above.now) result }
-{
-    match keys.needed(alloc, &Fields { sampled }, "field") {
-        Ok(fields) => match keys.needed(alloc, &Passes { fields: &fields }, "pass") {
-            Ok(passes) => Ok((fields, passes)),
-            Err(fault) => {
-                drop(fields);
-                Err(fault)
-            }
-        },
-        Err(fault) => Err(fault),
-    }
-}
-
 #[tactic(auto, unfolding(crate::specs::Settings::link_keys, crate::specs::Settings::terms))]
 fn link_keys(alloc: Global, sampled: bool, keys: &Keys) -> Result<LinkKeys, KeyFault>
     ensures { IsAnswer (link_keys sampled (table_view keys.now.table.now) keys.now.above.now) result }
 {
     let terms = Terms::read(alloc, &TermKeys(*keys))?;
-    match tables(alloc, keys) {
-        Ok(tables) => match matching_keys(alloc, sampled, keys) {
-            Ok((fields, passes)) => Ok(LinkKeys {
-                terms,
-                tables,
-                fields,
-                passes,
-            }),
-            Err(fault) => {
-                drop(tables);
-                Err(fault)
-            }
-        },
-        Err(fault) => Err(fault),
-    }
+    let tables = tables(alloc, keys)?;
+    let fields = keys.needed(alloc, &Fields { sampled }, "field")?;
+    let passes = keys.needed(alloc, &Passes { fields: &fields }, "pass")?;
+    Ok(LinkKeys {
+        terms,
+        tables,
+        fields,
+        passes,
+    })
 }
 
 #[tactic(auto, unfolding(crate::specs::Settings::plan_of))]
@@ -322,16 +247,10 @@ fn plan_of(alloc: Global, keys: &Keys) -> Result<Plan, KeyFault>
     ensures files { IfOk result NamesFiles }
 {
     keys.known(alloc, &TOP_KEYS, &TERM_KEYS)?;
-    match sources(alloc, keys) {
-        Ok(sources) => match link_keys(alloc, sources.others.sample.is_some(), keys) {
-            Ok(links) => Ok(plan_from(sources, links)),
-            Err(fault) => {
-                drop(sources);
-                Err(fault)
-            }
-        },
-        Err(fault) => Err(fault),
-    }
+    let files = file_keys(alloc, keys)?;
+    let others = other_sources(alloc, &files, keys)?;
+    let links = link_keys(alloc, others.sample.is_some(), keys)?;
+    Ok(plan_from(files, others, links))
 }
 
 // The plan of the top table; its fault is that of the file.

@@ -7,7 +7,7 @@ ghost use Rattle.settings.specs.Values.{text};
 ghost use Rattle.settings.specs.WordTables.{texts, word_pair, pairs, small_table, word_table};
 
 use crate::texts::{TextRule, fits};
-use link_base::{NoMemory, Text, TextList, WordPair, WordPairs};
+use link_base::{Text, TextList, WordPair, WordPairs};
 use link_plan::MOST_WORD_PAIRS;
 use settings_readers::{Element, Items, KeyFault, Place, Reader, keys_ascend};
 use std::alloc::Global;
@@ -47,10 +47,7 @@ impl Reader for Texts {
             high: self.most,
             element: self.rule,
         };
-        match items.read(alloc, place, value) {
-            Ok(texts) => Ok(TextList::of(texts)),
-            Err(fault) => Err(fault),
-        }
+        Ok(TextList::of(items.read(alloc, place, value)?))
     }
 }
 
@@ -60,16 +57,9 @@ fn word_pair(alloc: Global, place: &Place, key: &str, value: &Value) -> Result<W
     if !fits(TextRule::Word, key) {
         return place.out_of_range(alloc);
     }
-    match Reader::read(&TextRule::Word, alloc, place, value) {
-        Ok(to) => match Text::new(alloc, key.as_bytes()) {
-            Ok(from) => Ok(WordPair { from, to }),
-            Err(NoMemory) => {
-                drop(to);
-                Err(KeyFault::NoMemory)
-            }
-        },
-        Err(fault) => Err(fault),
-    }
+    let to = Reader::read(&TextRule::Word, alloc, place, value)?;
+    let from = Text::new(alloc, key.as_bytes())?;
+    Ok(WordPair { from, to })
 }
 
 /// The entries of a word table, in the order of their keys.
@@ -81,10 +71,7 @@ fn pairs(alloc: Global, table: &Table, above: &[u8]) -> Result<Vec<WordPair>, Ke
         let place = Place::new(above, key.as_str().as_bytes());
         match word_pair(alloc, &place, key.as_str(), value) {
             Ok(pair) => before.push(pair)?,
-            Err(fault) => {
-                drop(before);
-                return Err(fault);
-            }
+            Err(fault) => return Err(fault),
         }
     }
     Ok(before)
@@ -118,8 +105,7 @@ impl Reader for WordTable {
     fn read(&self, alloc: Global, place: &Place, value: &Value) -> Result<WordPairs, KeyFault> {
         let table = small_table(alloc, place, value)?;
         let above = place.below(alloc)?;
-        let pairs = pairs(alloc, table, &above);
-        drop(above);
-        Ok(WordPairs::of(pairs?))
+        let pairs = pairs(alloc, table, &above)?;
+        Ok(WordPairs::of(pairs))
     }
 }

@@ -1,3 +1,1 @@
-pub mod Walks
-pub mod Steps
-pub mod Ascending
+pub mod Lemmas

@@ -7,7 +7,7 @@ use Rattle.std.specs.Str.{bytes_eq}
 use Rattle.std.proofs.lemmas.Bool.{and_parts, cases_Bool, leb-true}
 use Rattle.toml.specs.Data.{Data, Items, no_items, item, Members, get_member, as_str, as_integer, as_array, as_table}
 use Rattle.settings_readers.specs.declared.fault.KeyFault.{KeyFault}
-use Rattle.settings_readers.specs.Parts.{◌>>=◌, typed, ranged, in_range, read_needed, read_optional, needed, needed_both, optional, absent, without, without_both, defaulted, defaulted_both}
+use Rattle.settings_readers.specs.Parts.{◌>>=◌, typed, ranged, in_range, read_needed, read_optional, read_without, needed, optional, without, without_both, defaulted}
 use Rattle.settings_readers.specs.Values.{choice, is_within, magnitude, named_in, whole}
 use Rattle.settings_readers.specs.Lists.{items_len, each, sized, array_of, on_table}
 
@@ -65,11 +65,6 @@ at_needed P read at (Some d) h = h at d
 pub needed_keeps : {A : Type 0} (P : A → Type 0) (read : List ℕ → Data → Result A KeyFault) (t : Members) (above key : List ℕ) → Reads read P → Keeps (needed read t above key) P
 needed_keeps P read t above key h = at_needed _ read (above ++ key) (get_member key t) h
 
-pub needed_both_keep : {A : Type 0} (P : A → Type 0) (read : List ℕ → Data → Result A KeyFault) (t : Members) (above key other : List ℕ) → Reads read P
-    → Keeps (needed_both read t above key other) (λ (both : A × A). (P both.0) × (P both.1))
-needed_both_keep P read t above key other h =
-    then_keeps _ _ (needed read t above key) _ (needed_keeps _ read t above key h) (λ x is. then_keeps _ _ (needed read t above other) _ (needed_keeps _ read t above other h) (λ y also. keeps_value _ (x, y) (is, also)))
-
 at_optional : {A : Type 0} (P : A → Type 0) (read : List ℕ → Data → Result A KeyFault) (at : List ℕ) (o : Option Data) → Reads read P → Keeps (read_optional read at o) (λ given. IfSome given P)
 at_optional P read at None h = keeps_value _ None tt
 at_optional P read at (Some d) h = then_keeps _ _ (read at d) _ (h at d) (λ x is. keeps_value _ (Some x) is)
@@ -84,12 +79,6 @@ or_default P (Some x) default d h = h
 pub defaulted_keeps : {A : Type 0} (P : A → Type 0) (read : List ℕ → Data → Result A KeyFault) (default : A) (t : Members) (above key : List ℕ) → Reads read P → P default → Keeps (defaulted read default t above key) P
 defaulted_keeps P read default t above key h d =
     then_keeps _ _ (optional read t above key) _ (optional_keeps _ read t above key h) (λ given is. keeps_value _ (unwrap_or given default) (or_default P given default d is))
-
-pub defaulted_both_keep : {A : Type 0} (P : A → Type 0) (read : List ℕ → Data → Result A KeyFault) (default : A) (t : Members) (above key other : List ℕ) → Reads read P → P default
-    → Keeps (defaulted_both read default t above key other) (λ (both : A × A). (P both.0) × (P both.1))
-defaulted_both_keep P read default t above key other h d =
-    then_keeps _ _ (defaulted read default t above key) _ (defaulted_keeps _ read default t above key h d) (λ x is.
-    then_keeps _ _ (defaulted read default t above other) _ (defaulted_keeps _ read default t above other h d) (λ y also. keeps_value _ (x, y) (is, also)))
 
 -- an array keeps what each item keeps in the light of those before it
 abbrev pub ReadsNext : {A : Type 0} → (List A → List ℕ → Data → Result A KeyFault) → (List A → Type 0) → Type 0
@@ -140,8 +129,13 @@ named_passes {A = A} test (row ∷ rows) all s =
     elim (cases_Bool (bytes_eq s row.0)) [ inl is ↦ rw is here | inr other ↦ rw other (named_passes test rows later s) ]
 
 -- a value beside which a key does not belong, or neither of two
+at_without : {A : Type 0} (P : A → Type 0) (x : A) (at : List ℕ) (o : Option Data) → P x → Keeps (read_without x at o) P
+unfolding Keeps
+at_without P x at None h = h
+at_without P x at (Some d) h = tt
+
 pub without_keeps : {A : Type 0} (P : A → Type 0) (x : A) (t : Members) (above key : List ℕ) → P x → Keeps (without x t above key) P
-without_keeps P x t above key h = next_keeps _ (absent t above key) _ (λ no_key. keeps_value _ x h)
+without_keeps P x t above key h = at_without P x (above ++ key) (get_member key t) h
 
 pub without_both_keeps : {A : Type 0} (P : A → Type 0) (x : A) (t : Members) (above key other : List ℕ) → P x → Keeps (without_both x t above key other) P
-without_both_keeps P x t above key other h = next_keeps _ (absent t above key) _ (λ no_key. without_keeps _ x t above other h)
+without_both_keeps P x t above key other h = next_keeps _ (without {A = Unit {0}} tt t above key) _ (λ no_key. without_keeps _ x t above other h)

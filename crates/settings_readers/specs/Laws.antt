@@ -1,6 +1,5 @@
 -- Which unknown key a fault names: the least (`least_unknown_key`, over tables that `keys_ascend` speaks of).
-use Rattle.std.proofs.Common.{◌≡◌, ◌⊎◌, ℕ, List, Bool, true, false, Ordering, Less, Equal, Greater, nat_cmp, refl, inl, inr}
-use Rattle.std.specs.Prelude.{◌&&◌}
+use Rattle.std.proofs.Common.{◌≡◌, ◌⊎◌, ℕ, List, Bool, true, false, Ordering, Less, Equal, Greater, nat_cmp, refl, inl, inr, ◌&&◌}
 use Rattle.std.specs.Ordering.{is_lt}
 use Rattle.std.proofs.lemmas.Bool.{and_parts, false≢true}
 use Rattle.std.proofs.lemmas.Cmp.{nat_list_cmp_total}

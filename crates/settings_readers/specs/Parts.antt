@@ -1,6 +1,5 @@
--- Parts of a settings file, one after the other: each gives a value or its first fault (`Keys::known`, `Keys::absent`,
--- `Keys::without`, `Keys::without_both`, `Keys::needed`, `Keys::needed_both`, `Keys::optional`,
--- `Keys::defaulted` and `Keys::defaulted_both`, each by its one clause).
+-- Parts of a settings file, one after the other: each gives a value or its first fault (`Keys::known`, `Keys::without`,
+-- `Keys::without_both`, `Keys::needed`, `Keys::optional` and `Keys::defaulted`, each by its one clause).
 use Rattle.std.specs.Prelude.{List, ℕ, Bool, ◌++◌, Option, Some, None, unwrap_or, Result, Ok, Err, if◌then◌else◌}
 use Rattle.toml.specs.Data.{Data, Members, no_members, member, get_member}
 use Rattle.link_base.specs.Answers.{and_then}
@@ -35,10 +34,10 @@ abbrev pub read_optional : {A : Type 0} → (List ℕ → Data → Result A KeyF
 read_optional read at None = Ok None
 read_optional read at (Some d) = read at d >>= λ x. Ok (Some x)
 
--- a key that does not belong
-abbrev pub read_absent : List ℕ → Option Data → Result (Unit {0}) KeyFault
-read_absent at None = Ok tt
-read_absent at (Some d) = Err (UnknownKey at)
+-- a value beside which a key does not belong
+abbrev pub read_without : {A : Type 0} → A → List ℕ → Option Data → Result A KeyFault
+read_without x at None = Ok x
+read_without x at (Some d) = Err (UnknownKey at)
 
 -- the same at a key of a table; what stands above is empty, or a path and a point
 abbrev pub needed : {A : Type 0} → (List ℕ → Data → Result A KeyFault) → Members → List ℕ → List ℕ → Result A KeyFault
@@ -47,27 +46,16 @@ needed read t above key = read_needed read (above ++ key) (get_member key t)
 abbrev pub optional : {A : Type 0} → (List ℕ → Data → Result A KeyFault) → Members → List ℕ → List ℕ → Result (Option A) KeyFault
 optional read t above key = read_optional read (above ++ key) (get_member key t)
 
-abbrev pub absent : Members → List ℕ → List ℕ → Result (Unit {0}) KeyFault
-absent t above key = read_absent (above ++ key) (get_member key t)
-
--- a value beside which a key does not belong, or neither of two
 abbrev pub without : {A : Type 0} → A → Members → List ℕ → List ℕ → Result A KeyFault
-without x t above key = absent t above key >>= λ no_key. Ok x
+without x t above key = read_without x (above ++ key) (get_member key t)
 
+-- a value beside which neither of two keys belongs
 abbrev pub without_both : {A : Type 0} → A → Members → List ℕ → List ℕ → List ℕ → Result A KeyFault
-without_both x t above key other = absent t above key >>= λ no_key. without x t above other
-
--- two keys that have to be there, read alike
-abbrev pub needed_both : {A : Type 0} → (List ℕ → Data → Result A KeyFault) → Members → List ℕ → List ℕ → List ℕ → Result (A × A) KeyFault
-needed_both read t above key other = needed read t above key >>= λ x. needed read t above other >>= λ y. Ok (x, y)
+without_both x t above key other = without {A = Unit {0}} tt t above key >>= λ no_key. without x t above other
 
 -- a key that may be there, with its default
 abbrev pub defaulted : {A : Type 0} → (List ℕ → Data → Result A KeyFault) → A → Members → List ℕ → List ℕ → Result A KeyFault
 defaulted read default t above key = optional read t above key >>= λ o. Ok (unwrap_or o default)
-
--- two keys that may be there, with one default
-abbrev pub defaulted_both : {A : Type 0} → (List ℕ → Data → Result A KeyFault) → A → Members → List ℕ → List ℕ → List ℕ → Result (A × A) KeyFault
-defaulted_both read default t above key other = defaulted read default t above key >>= λ x. defaulted read default t above other >>= λ y. Ok (x, y)
 
 -- every key of a table is known; else the fault names the first that is not, and keys ascend
 abbrev pub known : (List ℕ → Bool) → Members → List ℕ → Result (Unit {0}) KeyFault

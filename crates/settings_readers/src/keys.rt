@@ -4,7 +4,7 @@ ghost use Rattle.toml.specs.Data.{get_member};
 ghost use Rattle.toml.specs.View.{view, table_view};
 ghost use Rattle.link_texts.specs.Texts.{stands_among};
 ghost use Rattle.settings_readers.specs.KeyFaults.{IsAnswer};
-ghost use Rattle.settings_readers.specs.Parts.{absent, defaulted, defaulted_both, known, needed, needed_both, optional, without, without_both};
+ghost use Rattle.settings_readers.specs.Parts.{defaulted, known, needed, optional, without, without_both};
 
 use crate::fault::KeyFault;
 use crate::place::Place;
@@ -30,12 +30,7 @@ fn find<'a>(table: &'a Table, key: &str) -> Option<&'a Value>
 pub fn is_listed(listed: &[&str], key: &str) -> bool
     ensures { result ≡ stands_among (map (λ k. k.now) listed.now) key.now }
 {
-    for other in listed {
-        if *other == key {
-            return true;
-        }
-    }
-    false
+    listed.iter().any(|other| *other == key)
 }
 
 // Whether a key is one of those of two lists.
@@ -60,23 +55,13 @@ impl Keys<'_> {
         Ok(())
     }
 
-    /// Refuses a key that does not belong.
-    pub fn absent(&self, alloc: Global, key: &str) -> Result<(), KeyFault>
-        ensures { IsAnswer (absent (table_view self.now.table.now) self.now.above.now key.now) result }
-    {
-        match find(self.table, key) {
-            None => Ok(()),
-            Some(_) => Place::new(self.above, key.as_bytes()).unknown_key(alloc),
-        }
-    }
-
     /// An item, where a key does not belong beside it.
     pub fn without<X: Copy>(&self, alloc: Global, key: &str, item: X) -> Result<X, KeyFault>
         ensures { IsAnswer (without item (table_view self.now.table.now) self.now.above.now key.now) result }
     {
-        match self.absent(alloc, key) {
-            Ok(()) => Ok(item),
-            Err(fault) => Err(fault),
+        match find(self.table, key) {
+            None => Ok(item),
+            Some(_) => Place::new(self.above, key.as_bytes()).unknown_key(alloc),
         }
     }
 
@@ -90,10 +75,8 @@ impl Keys<'_> {
     ) -> Result<X, KeyFault>
         ensures { IsAnswer (without_both item (table_view self.now.table.now) self.now.above.now key.now other.now) result }
     {
-        match self.absent(alloc, key) {
-            Ok(()) => self.without(alloc, other, item),
-            Err(fault) => Err(fault),
-        }
+        self.without(alloc, key, ())?;
+        self.without(alloc, other, item)
     }
 
     /// What a reader gives at a key that has to be there.
@@ -112,28 +95,6 @@ impl Keys<'_> {
         }
     }
 
-    /// What a reader gives at two keys that have to be there.
-    pub fn needed_both<R: Reader>(
-        &self,
-        alloc: Global,
-        reader: &R,
-        key: &str,
-        other: &str,
-    ) -> Result<(R::Item, R::Item), KeyFault>
-        ensures { IsAnswer (needed_both (R.gives reader.now) (table_view self.now.table.now) self.now.above.now key.now other.now) result }
-    {
-        match self.needed(alloc, reader, key) {
-            Ok(first) => match self.needed(alloc, reader, other) {
-                Ok(second) => Ok((first, second)),
-                Err(fault) => {
-                    drop(first);
-                    Err(fault)
-                }
-            },
-            Err(fault) => Err(fault),
-        }
-    }
-
     /// What a reader gives at a key that may be there.
     pub fn optional<R: Reader>(
         &self,
@@ -146,10 +107,7 @@ impl Keys<'_> {
         let place = Place::new(self.above, key.as_bytes());
         match find(self.table, key) {
             None => Ok(None),
-            Some(value) => match reader.read(alloc, &place, value) {
-                Ok(item) => Ok(Some(item)),
-                Err(fault) => Err(fault),
-            },
+            Some(value) => Ok(Some(reader.read(alloc, &place, value)?)),
         }
     }
 
@@ -163,32 +121,7 @@ impl Keys<'_> {
     ) -> Result<R::Item, KeyFault>
         ensures { IsAnswer (defaulted (R.gives reader.now) default (table_view self.now.table.now) self.now.above.now key.now) result }
     {
-        match self.optional(alloc, reader, key) {
-            Ok(given) => Ok(given.unwrap_or(default)),
-            Err(fault) => {
-                drop(default);
-                Err(fault)
-            }
-        }
-    }
-
-    /// The same at two keys.
-    pub fn defaulted_both<X: Copy, R: Reader<Item = X>>(
-        &self,
-        alloc: Global,
-        reader: &R,
-        default: X,
-        key: &str,
-        other: &str,
-    ) -> Result<(X, X), KeyFault>
-        ensures { IsAnswer (defaulted_both (R.gives reader.now) default (table_view self.now.table.now) self.now.above.now key.now other.now) result }
-    {
-        match self.defaulted(alloc, reader, default, key) {
-            Ok(first) => match self.defaulted(alloc, reader, default, other) {
-                Ok(second) => Ok((first, second)),
-                Err(fault) => Err(fault),
-            },
-            Err(fault) => Err(fault),
-        }
+        let given = self.optional(alloc, reader, key)?;
+        Ok(given.unwrap_or(default))
     }
 }

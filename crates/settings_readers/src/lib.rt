@@ -12,7 +12,7 @@ mod values;
 pub use fault::KeyFault;
 pub use keys::{Keys, is_listed};
 pub use laws::{keys_ascend, least_unknown_key};
-pub use lists::{Items, Rows, is_sized};
+pub use lists::{Items, Rows};
 pub use place::Place;
 pub use readers::{Choices, Element, Reader, Row};
 pub use values::{Choice, Truth, Whole, named_in, whole_number};

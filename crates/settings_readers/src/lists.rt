@@ -23,10 +23,7 @@ fn numbered<E: Element>(
     ensures { IsAnswer (E.gives element.now before.now (above.now ++ decimal number) (view value.now)) result }
 {
     let number = format!(in alloc; "{}", number)?;
-    let place = Place::new(above, number.as_bytes());
-    let item = element.read(alloc, before, &place, value);
-    drop(number);
-    item
+    element.read(alloc, before, &Place::new(above, number.as_bytes()), value)
 }
 
 /// The items of an array, each read in turn.
@@ -43,17 +40,14 @@ fn each<E: Element>(
     for (i, value) in array.iter().enumerate() {
         match numbered(alloc, element, &before, value, above, i + 1) {
             Ok(item) => before.push(item)?,
-            Err(fault) => {
-                drop(before);
-                return Err(fault);
-            }
+            Err(fault) => return Err(fault),
         }
     }
     Ok(before)
 }
 
-/// Whether a length is from `low` to `high`.
-pub fn is_sized(low: usize, high: usize, len: usize) -> bool
+// Whether a length is from `low` to `high`.
+fn is_sized(low: usize, high: usize, len: usize) -> bool
     ensures { result ≡ (nat_le low len && nat_le len high) }
 {
     low <= len && len <= high
@@ -103,9 +97,7 @@ impl<E: Element> Items<E> {
     {
         let array = sized(alloc, self.low, self.high, place, value)?;
         let above = place.below(alloc)?;
-        let items = each(alloc, &self.element, array, &above);
-        drop(above);
-        items
+        each(alloc, &self.element, array, &above)
     }
 }
 
@@ -133,9 +125,7 @@ impl<R: Row> Element for Rows<R> {
                     table,
                     above: &above,
                 };
-                let item = self.0.read(alloc, before, &keys);
-                drop(above);
-                item
+                self.0.read(alloc, before, &keys)
             }
         }
     }

@@ -85,10 +85,7 @@ impl Reader for Whole {
     fn read(&self, alloc: Global, place: &Place, value: &Value) -> Result<u32, KeyFault> {
         let low = u64::from(self.low);
         let high = u64::from(self.high);
-        match whole_number(alloc, low, high, place, value) {
-            Ok(number) => Ok(number as u32),
-            Err(fault) => Err(fault),
-        }
+        Ok(whole_number(alloc, low, high, place, value)? as u32)
     }
 }
 

@@ -1,12 +1,5 @@
 pub mod FileSteps
-pub mod RowSteps
 pub mod SortFacts
 pub mod TakingLemmas
-pub mod PlaceLemmas
-pub mod FileLemmas
-pub mod StandLemmas
-pub mod HeldLemmas
 pub mod SideLemmas
-pub mod DistinctLemmas
 pub mod KnownLemmas
-pub mod KeyLemmas

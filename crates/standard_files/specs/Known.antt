@@ -6,10 +6,9 @@ use Rattle.comparators.specs.declared.ids.IdValue.{IdValue}
 use Rattle.comparators.specs.declared.ids.IdValue.TheVariants as id
 use Rattle.link_base.specs.Standard.{absent_value, IsValid, Record}
 use Rattle.value_forms.specs.declared.canons.CompareKind.{CompareKind}
-use Rattle.value_forms.specs.Canons.{exact}
+use Rattle.value_forms.specs.Canons.{exact, canon_of, exact_canon}
 use Rattle.link_base.specs.declared.standard.Value.{Value}
 use Rattle.link_base.specs.declared.standard.Value.TheVariants as value
-use Rattle.value_forms.specs.Canons.{canon_of, exact_canon}
 use Rattle.value_pool.specs.Texts.{stands_among}
 use Rattle.standard_files.specs.Sides.{side_of, sides_of_file, sides_of_row}
 use Rattle.standard_files.specs.Taking.{InLater}

@@ -3,42 +3,31 @@ use Rattle.std.specs.Prelude.{◌+◌, ℕ, List, [], ◌∷◌, map, Bool, true
 use Rattle.link_base.specs.Standard.{IsDay, Record}
 use Rattle.link_base.specs.declared.fault.FileRole.{FileRole}
 use Rattle.link_base.specs.declared.fault.FileRole.TheVariants as role
+use Rattle.link_base.specs.declared.plan.DateForm.{DateForm}
 use Rattle.link_base.specs.declared.plan.FieldSort.{FieldSort}
 use Rattle.link_base.specs.declared.plan.FieldSort.TheVariants as sort
 use Rattle.link_base.specs.declared.standard.Value.{Value}
 use Rattle.link_base.specs.declared.standard.Value.TheVariants as value
 use Rattle.link_base.specs.declared.tables.Tables.{Tables}
 use Rattle.file_reader.specs.Rows.{TableRow}
-use Rattle.standardise.specs.Names.{name_value, place_value}
+use Rattle.standardise.specs.Names.{text_value}
 use Rattle.standardise.specs.DateReads.{date_read}
-use Rattle.standardise.specs.Tables.{NameView, PlaceView}
+use Rattle.standardise.specs.Tables.{names_of, places_of}
 use Rattle.standardise.specs.declared.date_read.DateRead.{DateRead}
 use Rattle.standardise.specs.declared.date_read.DateRead.TheVariants as read
 use Rattle.standard_files.specs.declared.sorts.TextSort.{TextSort}
 use Rattle.standard_files.specs.declared.sorts.TextSort.TheVariants as text
 
--- what a field holds as the first file writes it, and as the second does
-abbrev pub sort_in_a : FieldSort → TextSort
-sort_in_a sort.Name = text.Name
-sort_in_a sort.Place = text.Place
-sort_in_a (sort.Date of_a of_b) = text.Date of_a
+-- the form of a date as B writes it, and else as A does
+abbrev pub form_in : FileRole → DateForm → DateForm → DateForm
+form_in role.B of_a of_b = of_b
+form_in other of_a of_b = of_a
 
-abbrev pub sort_in_b : FieldSort → TextSort
-sort_in_b sort.Name = text.Name
-sort_in_b sort.Place = text.Place
-sort_in_b (sort.Date of_a of_b) = text.Date of_b
-
--- what a field holds as B writes it, and else as A does
+-- what a field holds
 abbrev pub sort_in : FileRole → FieldSort → TextSort
-sort_in role.B sort = sort_in_b sort
-sort_in other sort = sort_in_a sort
-
--- the tables that names and places go by
-abbrev pub names_of : Tables → NameView
-names_of t = record { marks = t.missing; titles = t.titles; suffixes = t.suffixes; words = t.names }
-
-abbrev pub places_of : Tables → PlaceView
-places_of t = record { marks = t.missing; words = t.places }
+sort_in r sort.Name = text.Name
+sort_in r sort.Place = text.Place
+sort_in r (sort.Date of_a of_b) = text.Date (form_in r of_a of_b)
 
 -- a date as a value: one that cannot be read is absent
 abbrev pub value_of_read : DateRead → Value
@@ -53,8 +42,8 @@ cannot_be_read read.Unreadable = true
 
 -- the standard value of a text
 abbrev pub standard_value : Tables → TextSort → List ℕ → Value
-standard_value t text.Name x = name_value (names_of t) x
-standard_value t text.Place x = place_value (places_of t) x
+standard_value t text.Name x = text_value (names_of t) x
+standard_value t text.Place x = text_value (places_of t) x
 standard_value t (text.Date form) x = value_of_read (date_read form t.missing x)
 
 -- a text that is to be a date and cannot be read as one

@@ -113,27 +113,8 @@ fn take_new(
     Ok(Some(canon))
 }
 
-// Takes the canon of the value of a row in a field, and gives its id. One that is known is not looked for again.
-fn take_known(
-    alloc: Global,
-    pool: &mut Pool,
-    kinds: &[CompareKind],
-    known: &mut Known,
-    field: u8,
-    text: &Option<Id>,
-    row: &Row<'_>,
-) -> Result<Option<Id>, PoolFault>
-    requires { IsKnownField pool.old.texts kinds.now known.old row.now field text.now }
-    ensures { TakesTexts pool.old pool.new (option_to_list (canon_at kinds.now row.now field)) (λ canon. IsIdOf pool.new.texts (canon_at kinds.now row.now field) canon × AreKnown pool.new.texts kinds.now known.new) result }
-{
-    let kind = kinds[field as usize];
-    if let Some(canon) = known.find(kind, field, text, row) {
-        return Ok(Some(canon));
-    }
-    take_new(alloc, pool, kinds, known, field, text, row)
-}
-
-// Takes the canon of the value of a row in a field, and gives what the value is compared by.
+// Takes the canon of the value of a row in a field, and gives what the value is compared by. A canon that is known is not looked
+// for again.
 fn take_side(
     alloc: Global,
     pool: &mut Pool,
@@ -150,7 +131,10 @@ fn take_side(
     if compares_days(kind) {
         return Ok(day_of(&row.value(field as usize)));
     }
-    let canon = take_known(alloc, pool, kinds, known, field, &text, row)?;
+    if let Some(canon) = known.find(kind, field, &text, row) {
+        return Ok(IdValue::Id(canon));
+    }
+    let canon = take_new(alloc, pool, kinds, known, field, &text, row)?;
     Ok(side_by_id(canon))
 }
 

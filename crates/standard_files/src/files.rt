@@ -1,7 +1,6 @@
 // The standard files of a plan.
 ghost use Rattle.std.specs.Prelude.{◌≡◌, ◌<◌, length, IfOk, IfSome};
-ghost use Rattle.link_base.specs.Fault.{IsAnswer, or_else};
-ghost use Rattle.link_base.specs.declared.fault.FileRole.TheVariants as role;
+ghost use Rattle.link_base.specs.Fault.{IsAnswer};
 ghost use Rattle.file_reader.specs.Table.{Tests};
 ghost use Rattle.standard_files.specs.Files.{AreOfPlan, standard_files, strict_fault};
 ghost use Rattle.standard_files.specs.Kept.{dated_pair};
@@ -70,24 +69,6 @@ fn test_dates(
     }
 }
 
-// Refuses the first unreadable date of A, and then that of B, where the plan is strict.
-fn test_both(
-    alloc: Global,
-    plan: &Plan,
-    a: Option<DatePlace>,
-    b: Option<DatePlace>,
-) -> Result<(), Fault>
-    requires within_a { IfSome a (λ (d : DatePlace). d.field < length plan.now.fields) }
-    requires within_b { IfSome b (λ (d : DatePlace). d.field < length plan.now.fields) }
-    ensures fault { Tests (or_else (strict_fault role.A plan.now a) (strict_fault role.B plan.now b)) result }
-{
-    match test_dates(alloc, FileRole::A, plan, a) {
-        Ok(()) => {}
-        Err(fault) => return Err(fault),
-    }
-    test_dates(alloc, FileRole::B, plan, b)
-}
-
 // Both files, unless a strict plan refuses a date, of A before one of B.
 fn pair_of(alloc: Global, plan: &Plan, a: DatedFile, b: DatedFile) -> Result<StandardPair, Fault>
     requires within_a { IfSome a.first (λ (d : DatePlace). d.field < length plan.now.fields) }
@@ -95,16 +76,17 @@ fn pair_of(alloc: Global, plan: &Plan, a: DatedFile, b: DatedFile) -> Result<Sta
     ensures answer { IsAnswer (dated_pair plan.now a b) result }
     ensures parts { IfOk result (λ pair. pair ≡ record { a = a.file; b = b.file }) }
 {
-    match test_both(alloc, plan, a.first, b.first) {
+    match test_dates(alloc, FileRole::A, plan, a.first) {
+        Ok(()) => {}
+        Err(fault) => return Err(fault),
+    }
+    let of_b = test_dates(alloc, FileRole::B, plan, b.first);
+    match of_b {
         Ok(()) => Ok(StandardPair {
             a: a.file,
             b: b.file,
         }),
-        Err(fault) => {
-            drop(a);
-            drop(b);
-            Err(fault)
-        }
+        Err(fault) => Err(fault),
     }
 }
 

@@ -1,6 +1,6 @@
 // The parts of the keys of blocking passes taken into a pool, and their ids.
-ghost use Rattle.std.specs.Prelude.{◌≡◌, ◌≤◌, ◌<◌, ◌++◌, ◌*◌, ◌-◌, ◌^◌, [], All, IfOk, IfSome, IsTrue, List, Some, false, length, min, option_to_list, vec_capacity, ℕ};
-ghost use Rattle.block_passes.specs.KeyIds.{ids_in_pass, ids_of_row, key_ids, part_id, parts_in};
+ghost use Rattle.std.specs.Prelude.{◌≡◌, ◌≤◌, ◌<◌, ◌++◌, [], All, IfSome, IsTrue, List, Some, false, length, option_to_list, ℕ};
+ghost use Rattle.block_passes.specs.KeyIds.{ids_in_pass, ids_of_row, key_ids, part_id};
 ghost use Rattle.block_passes.specs.Keys.{IsPartReadable, part_key};
 ghost use Rattle.comparators.specs.Fields.{id_in};
 ghost use Rattle.value_forms.specs.declared.passes.Part.{Part as KeyPart};
@@ -12,7 +12,7 @@ ghost use Rattle.standard_files.specs.Texts.{both_texts, file_texts, parts_in_pa
 ghost use Rattle.value_forms.specs.Canons.{canon_of, compares_days, canon_by};
 
 use crate::canons::take_part;
-use crate::texts::TextIds;
+use crate::texts::{TextIds, room_for_ids};
 use block_passes::count_parts;
 use comparators::{IdTable, IdValue};
 use link_base::{NoMemory, Row, Sides, StdFile};
@@ -128,16 +128,6 @@ fn take_row(
     Ok(())
 }
 
-// Room for an id of each part of the keys of a file.
-fn room_for_ids(alloc: Global, passes: &PassList, file: &StdFile) -> Result<Vec<MaybeId>, NoMemory>
-    ensures none { IfOk result (λ ids. ids.items ≡ []) }
-    ensures room { IfOk result (λ ids. min (length file.now * parts_in passes.now) (2 ^ 64 - 1) ≤ vec_capacity ids) }
-{
-    let rows = file.rows() as usize;
-    let parts = count_parts(passes.passes());
-    Ok(Vec::with_capacity(alloc, rows.saturating_mul(parts))?)
-}
-
 // Takes the parts of the keys of a file, and gives their ids.
 fn take_file(
     alloc: Global,
@@ -153,7 +143,7 @@ fn take_file(
     requires known { IsKnownFile pool.old.texts kinds.now file.now texts.now table.now.rows }
     ensures { TakesTexts pool.old pool.new (file_texts (parts_of_row passes.now) file.now) (λ ids. InLater pool.new.texts (λ final. key_ids final passes.now file.now ≡ ids.items)) result }
 {
-    let mut ids = match room_for_ids(alloc, passes, file) {
+    let mut ids = match room_for_ids(alloc, file.rows(), count_parts(passes.passes())) {
         Ok(ids) => ids,
         Err(NoMemory) => return Err(PoolFault::NoMemory),
     };

@@ -1,5 +1,5 @@
 // The files of a plan, read in standard values.
-ghost use Rattle.std.specs.Prelude.{◌≡◌, ◌<◌, ◌++◌, ◌∷◌, [], length, map, IfOk, IfSome, OnOk};
+ghost use Rattle.std.specs.Prelude.{◌≡◌, ◌<◌, length, map, IfOk, IfSome};
 ghost use Rattle.link_base.specs.Fault.{IsAnswer};
 ghost use Rattle.file_reader.specs.Layout.{wanted_of};
 ghost use Rattle.link_plan.specs.Plan.{FieldKeys};
@@ -25,22 +25,6 @@ struct Columns {
     sorts: Vec<TextSort>,
 }
 
-// Appends the column of a field, and what it holds.
-fn push_column(
-    alloc: Global,
-    columns: &mut Columns,
-    name: &Text,
-    sort: TextSort,
-) -> Result<(), NoMemory>
-    ensures names { OnOk result (columns.new.names.items ≡ columns.old.names.items ++ name.now ∷ []) }
-    ensures sorts { OnOk result (columns.new.sorts.items ≡ columns.old.sorts.items ++ sort ∷ []) }
-{
-    let name = name.copy(alloc)?;
-    columns.names.push(name)?;
-    columns.sorts.push(sort)?;
-    Ok(())
-}
-
 // The column of a field in A or in B.
 fn column_of(field: &FieldPlan, role: FileRole) -> &Text
     ensures { result.now ≡ field_column role field.now }
@@ -61,8 +45,9 @@ fn columns_of(alloc: Global, fields: &[FieldPlan], role: FileRole) -> Result<Col
         sorts: Vec::new(alloc),
     };
     for field in fields {
-        let sort = TextSort::of(field.sort, role);
-        push_column(alloc, &mut columns, column_of(field, role), sort)?;
+        let name = column_of(field, role).copy(alloc)?;
+        columns.names.push(name)?;
+        columns.sorts.push(TextSort::of(field.sort, role))?;
     }
     Ok(columns)
 }

@@ -1,6 +1,5 @@
 // Texts taken into a pool.
-ghost use Rattle.std.specs.Prelude.{◌≡◌, ◌≤◌, ◌++◌, ◌∷◌, ◌*◌, ◌-◌, ◌^◌, [], IfOk, List, Some, length, min, option_to_list, slice_get, vec_capacity};
-ghost use Rattle.block_passes.specs.Index.{row_at};
+ghost use Rattle.std.specs.Prelude.{◌≡◌, ◌≤◌, ◌++◌, ◌∷◌, ◌*◌, ◌-◌, ◌^◌, [], IfOk, List, Some, min, option_to_list, slice_get, vec_capacity};
 ghost use Rattle.link_base.specs.Rows.{value_seen};
 ghost use Rattle.link_base.specs.declared.standard.Value.{Value as FieldValue};
 ghost use Rattle.standard_files.specs.Known.{AreTextIds, IsIdOf, file_values};
@@ -54,25 +53,25 @@ fn take_row(
     Ok(())
 }
 
-// Room for an id of each value of a file, where each record has as many values as the first.
-fn room_for_ids(alloc: Global, file: &StdFile) -> Result<Vec<MaybeId>, NoMemory>
+/// Room for so many ids of each of so many rows.
+pub(crate) fn room_for_ids(alloc: Global, rows: u32, each: usize) -> Result<Vec<MaybeId>, NoMemory>
     ensures none { IfOk result (λ ids. ids.items ≡ []) }
-    ensures room { IfOk result (λ ids. min (length file.now * length (row_at file.now 0)) (2 ^ 64 - 1) ≤ vec_capacity ids) }
+    ensures room { IfOk result (λ ids. min (rows * each) (2 ^ 64 - 1) ≤ vec_capacity ids) }
 {
-    let rows = file.rows() as usize;
-    let width = if rows == 0 { 0 } else { file.row(0).len() };
-    Ok(Vec::with_capacity(alloc, rows.saturating_mul(width))?)
+    Ok(Vec::with_capacity(alloc, (rows as usize).saturating_mul(each))?)
 }
 
 // Takes the standard texts of a file, and gives their ids.
 fn take_file(alloc: Global, pool: &mut Pool, file: &StdFile) -> Result<Vec<MaybeId>, PoolFault>
     ensures { TakesTexts pool.old pool.new (file_texts texts_of_row file.now) (λ ids. AreTextIds pool.new.texts (file_values file.now) ids.items) result }
 {
-    let mut ids = match room_for_ids(alloc, file) {
+    let rows = file.rows();
+    let width = if rows == 0 { 0 } else { file.row(0).len() };
+    let mut ids = match room_for_ids(alloc, rows, width) {
         Ok(ids) => ids,
         Err(NoMemory) => return Err(PoolFault::NoMemory),
     };
-    for at in 0..file.rows() {
+    for at in 0..rows {
         take_row(alloc, pool, &file.row(at), &mut ids)?;
     }
     Ok(ids)

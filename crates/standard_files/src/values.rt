@@ -7,36 +7,34 @@ ghost use Rattle.standard_files.specs.Values.{cannot_be_read, value_of_read};
 
 use crate::sorts::TextSort;
 use link_base::{NoMemory, RowsWriter, Tables};
-use standardise::{
-    DateRead, NameTables, PlaceTables, TextRoom, std_date, std_name_in, std_place_in,
-};
+use standardise::{DateRead, TextRoom, TextTables, std_date, std_text_in};
 use std::alloc::Global;
 use std::marker::Model;
 
 // The tables that names, places and dates go by, which contracts see as the plan's tables.
 #[derive(Drop)]
 pub(crate) struct ValueTables {
-    names: NameTables,
-    places: PlaceTables,
+    names: TextTables,
+    places: TextTables,
 }
 
 impl Model for ValueTables {
-    ghost use Rattle.std.specs.Prelude.{◌≡◌};
+    ghost use Rattle.std.specs.Prelude.{◌≡◌, []};
     ghost use Rattle.link_base.specs.declared.tables.Tables.{Tables};
 
     ghost Value = { Tables };
 
     ghost view = { λ t. record { missing = t.names.marks; titles = t.names.titles; suffixes = t.names.suffixes; names = t.names.words; places = t.places.words } };
 
-    ghost invariant = { λ t. t.places.marks ≡ t.names.marks };
+    ghost invariant = { λ t. t.places ≡ record { marks = t.names.marks; titles = []; suffixes = []; words = t.places.words } };
 }
 
 impl ValueTables {
     pub(crate) fn new(alloc: Global, tables: &Tables) -> Result<ValueTables, NoMemory>
         ensures { IfOk result (λ t. t ≡ tables.now) }
     {
-        let names = NameTables::new(alloc, tables)?;
-        let places = PlaceTables::new(alloc, tables)?;
+        let names = TextTables::of_names(alloc, tables)?;
+        let places = TextTables::of_places(alloc, tables)?;
         Ok(ValueTables { names, places })
     }
 
@@ -54,9 +52,9 @@ impl ValueTables {
         ensures { IfOk result (AddsValue self.now sort text.now rows.old rows.new) }
     {
         match sort {
-            TextSort::Name => add_text(rows, std_name_in(alloc, text, &self.names, room)?),
-            TextSort::Place => add_text(rows, std_place_in(alloc, text, &self.places, room)?),
-            TextSort::Date(form) => add_date(rows, std_date(text, form, &self.places)),
+            TextSort::Name => add_text(rows, std_text_in(alloc, text, &self.names, room)?),
+            TextSort::Place => add_text(rows, std_text_in(alloc, text, &self.places, room)?),
+            TextSort::Date(form) => add_date(rows, std_date(text, form, &self.names)),
         }
     }
 }

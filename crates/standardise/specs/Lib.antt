@@ -1,7 +1,7 @@
 pub mod Cleaning
 pub mod DateReads
-pub mod FirstBytes
 pub mod Names
+pub mod Outlines
 pub mod Tables
 pub mod WordSets
 pub mod Words

@@ -1,5 +1,5 @@
--- The standard values of names and places: the steps in turn (`std_name_in` and `std_place_in`, clause
--- `value`, by `found_value`; `std_name` and `std_place`, clause `value`).
+-- The standard values of names and places: the steps in turn (`std_text_in`, clause `value`, by `found_value`; `std_text`,
+-- clause `value`).
 use Rattle.std.specs.Prelude.{ℕ, List, [], ◌∷◌, if◌then◌else◌, map, chars, encode_utf8_all, Option, None, Some}
 use Rattle.std.specs.Str.{trim}
 use Rattle.unicode_normalization.specs.Forms.{nfd}
@@ -8,7 +8,7 @@ use Rattle.link_base.specs.declared.standard.Value.TheVariants as value
 use Rattle.link_base.specs.declared.tables.WordPair.{WordPair}
 use Rattle.standardise.specs.Cleaning.{cleaned}
 use Rattle.link_texts.specs.Texts.{stands_among}
-use Rattle.standardise.specs.Tables.{NameView, PlaceView}
+use Rattle.standardise.specs.Tables.{TextView}
 use Rattle.standardise.specs.Words.{joined, replaced, without_titles, words}
 
 -- the characters of a text after the canonical decomposition and the five steps behind it
@@ -29,14 +29,8 @@ abbrev pub found_value : Option (List ℕ) → Value
 found_value None = value.Absent
 found_value (Some text) = value.Word text
 
--- the standard value of a name
-abbrev pub name_value : NameView → List ℕ → Value
-name_value t text =
+-- the standard value of a name or a place, by its tables
+abbrev pub text_value : TextView → List ℕ → Value
+text_value t text =
     if stands_among t.marks (trim text) then value.Absent
     else word_or_absent t.words (without_titles t.titles t.suffixes (words_of_text (trim text)))
-
--- the standard value of a place
-abbrev pub place_value : PlaceView → List ℕ → Value
-place_value t text =
-    if stands_among t.marks (trim text) then value.Absent
-    else word_or_absent t.words (words_of_text (trim text))

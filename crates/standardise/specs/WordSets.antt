@@ -1,5 +1,5 @@
--- How a `WordSet` holds its texts for an ordered search (`in_order` and `longest_of`).
-use Rattle.std.specs.Prelude.{ℕ, List, ◌≤◌, All, length}
+-- How a `WordSet` holds its texts for an ordered search (`in_order`).
+use Rattle.std.specs.Prelude.{ℕ, List}
 use Rattle.std.specs.Ordering.{ordering_index}
 use Rattle.std.specs.List.Sorted.{IsNonDecreasingBy, IsPermutation}
 use Rattle.standardise.specs.Tables.{text_cmp}
@@ -8,7 +8,3 @@ use Rattle.standardise.specs.Tables.{text_cmp}
 pub record IsOrdered (texts ordered : List (List ℕ)) : Type 0 where
   pub same : IsPermutation texts ordered
   pub rising : (text : List ℕ) → IsNonDecreasingBy (λ t. ordering_index (text_cmp t text)) ordered
-
--- no text is longer
-abbrev pub AreNoLonger : ℕ → List (List ℕ) → Type 0
-AreNoLonger most texts = All (λ t. length t ≤ most) texts

@@ -1,4 +1,4 @@
--- The words of a text, which titles are dropped from and words are replaced in (`NameTables::untitled`, clause `words`;
+-- The words of a text, which titles are dropped from and words are replaced in (`TextTables::untitled`, clause `words`;
 -- `in_place`, clause `value`).
 use Rattle.std.specs.Prelude.{ℕ, List, [], ◌∷◌, ◌++◌, if◌then◌else◌, reverse, unwrap_or}
 pub use Rattle.value_forms.specs.Words.{run_words, words, words_after}

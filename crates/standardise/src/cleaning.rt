@@ -4,22 +4,15 @@ ghost use Rattle.std.specs.List.{flat_map};
 ghost use Rattle.std.specs.Option.{option_to_list};
 ghost use Rattle.std.specs.Str.{IsAscii, IsUtf8};
 ghost use Rattle.std.specs.String.{string_bytes};
-ghost use Rattle.unicode_normalization.specs.Forms.{nfd};
-ghost use Rattle.standardise.specs.Cleaning.{ascii_cleaned, cleaned_char, in_apostrophes, in_capitals, is_combining, letter_of, spaced, stays_in_words, with_spaces, without_apostrophes};
+ghost use Rattle.standardise.specs.Cleaning.{ascii_cleaned, cleaned_char, in_apostrophes, in_capitals, letter_of, stays_in_words, with_spaces, without_apostrophes};
 ghost use Rattle.standardise.specs.Names.{characters_of};
 ghost use Rattle.standardise.specs.Words.{words};
 
-use crate::words::{is_one_word, put};
+use crate::words::is_one_word;
 use link_base::NoMemory;
 use std::alloc::Global;
 use ucd_category::{GeneralCategory, GeneralCategoryGroup};
 use unicode_normalization::slice::extend_nfd;
-
-fn is_mark(c: char) -> bool
-    ensures { result ≡ is_combining c }
-{
-    GeneralCategoryGroup::Mark.contains(GeneralCategory::for_char(c))
-}
 
 fn is_apostrophe(c: char) -> bool
     ensures { result ≡ in_apostrophes c }
@@ -33,12 +26,6 @@ fn is_word_char(c: char) -> bool
     c.is_ascii_uppercase()
         || c.is_ascii_digit()
         || (c >= '\u{80}' && GeneralCategoryGroup::Letter.contains(GeneralCategory::for_char(c)))
-}
-
-fn spaced_char(c: char) -> char
-    ensures { result ≡ spaced c }
-{
-    if is_word_char(c) { c } else { ' ' }
 }
 
 // The letters that stand for a letter.
@@ -66,16 +53,16 @@ fn push_letter(out: &mut String, c: char) -> Result<(), NoMemory>
     if is_apostrophe(capital) {
         return Ok(());
     }
-    out.push(spaced_char(capital))?;
+    out.push(if is_word_char(capital) { capital } else { ' ' })?;
     Ok(())
 }
 
 // Appends what becomes of a character.
-#[tactic(auto, using(crate::proofs::CleaningLemmas::two_letters))]
+#[tactic(auto, using(crate::proofs::WordLemmas::two_letters))]
 fn push_cleaned(out: &mut String, c: char) -> Result<(), NoMemory>
     ensures { OnOk result (string_bytes out.new ≡ string_bytes out.old ++ encode_utf8_all (cleaned_char c)) }
 {
-    if is_mark(c) {
+    if GeneralCategoryGroup::Mark.contains(GeneralCategory::for_char(c)) {
         return Ok(());
     }
     let (first, second) = letters(c);
@@ -104,7 +91,7 @@ fn chars_of(alloc: Global, text: &str) -> Result<Vec<char>, NoMemory>
 }
 
 // The text after the canonical decomposition and the five steps behind it.
-#[tactic(auto, using(crate::proofs::CleaningLemmas::cleaned_by_char), unfolding(crate::specs::Names::characters_of))]
+#[tactic(auto, using(crate::proofs::WordLemmas::cleaned_by_char), unfolding(crate::specs::Names::characters_of))]
 fn clean_chars(alloc: Global, text: &str) -> Result<String, NoMemory>
     ensures { IfOk result (λ v. string_bytes v ≡ encode_utf8_all (characters_of text.now)) }
 {
@@ -155,37 +142,18 @@ fn clean_ascii(text: &[u8], word: &mut Vec<u8>) -> Result<Option<bool>, NoMemory
     Ok(Some(is_word))
 }
 
-// Puts a text that is not of ASCII alone after the steps in place of what stood in `word`, and says whether it is one word.
-fn clean_other(alloc: Global, text: &str, word: &mut Vec<u8>) -> Result<bool, NoMemory>
-    ensures text { OnOk result (word.new.items ≡ encode_utf8_all (characters_of text.now)) }
-    ensures utf8 { OnOk result (IsUtf8 word.new.items) }
-    ensures word { IfOk result (λ is_word. IsTrue is_word → words word.new.items ≡ word.new.items ∷ []) }
-{
-    let cleaned = clean_chars(alloc, text)?;
-    put(word, cleaned.as_bytes())?;
-    Ok(is_one_word(word))
-}
-
-// Whether a text is one word of A to Z and 0 to 9, which stays as it is.
-fn is_clean_word(text: &[u8]) -> bool
-    ensures ascii { IsTrue result → IsAscii text.now }
-    ensures text { IsTrue result → flat_map (λ c. option_to_list (ascii_cleaned c)) text.now ≡ text.now }
-    ensures word { IsTrue result → words text.now ≡ text.now ∷ [] }
-{
-    for byte in text {
-        if !byte.is_ascii_uppercase() && !byte.is_ascii_digit() {
-            return false;
-        }
-    }
-    !text.is_empty()
-}
-
-/// Whether a text is known to be one word that the steps leave as it is.
+/// Whether a text is known to be one word that the steps leave as it is: one of A to Z and 0 to 9.
 pub(crate) fn is_clean(text: &str) -> bool
     ensures text { IsTrue result → text.now ≡ encode_utf8_all (characters_of text.now) }
     ensures word { IsTrue result → words text.now ≡ text.now ∷ [] }
 {
-    is_clean_word(text.as_bytes())
+    let bytes = text.as_bytes();
+    for byte in bytes {
+        if !byte.is_ascii_uppercase() && !byte.is_ascii_digit() {
+            return false;
+        }
+    }
+    !bytes.is_empty()
 }
 
 /// Puts the text after the canonical decomposition and the five steps behind it in place of what stood in `word`, and says
@@ -196,8 +164,11 @@ pub(crate) fn clean(alloc: Global, text: &str, word: &mut Vec<u8>) -> Result<boo
     ensures utf8 { OnOk result (IsUtf8 word.new.items) }
     ensures word { IfOk result (λ is_word. IsTrue is_word → words word.new.items ≡ word.new.items ∷ []) }
 {
-    match clean_ascii(text.as_bytes(), word)? {
-        Some(is_word) => Ok(is_word),
-        None => clean_other(alloc, text, word),
+    if let Some(is_word) = clean_ascii(text.as_bytes(), word)? {
+        return Ok(is_word);
     }
+    let cleaned = clean_chars(alloc, text)?;
+    word.clear();
+    word.extend_from_slice(cleaned.as_bytes())?;
+    Ok(is_one_word(word))
 }

@@ -2,7 +2,7 @@
 ghost use Rattle.std.specs.Prelude.{◌≡◌};
 ghost use Rattle.standardise.specs.DateReads.{date_read, IsValidRead};
 
-use crate::tables::PlaceTables;
+use crate::tables::TextTables;
 use crate::white_space::trimmed;
 use link_base::DateForm;
 use value_forms::read_date;
@@ -22,7 +22,7 @@ pub enum DateRead {
 /// ends, is neither a missing mark nor a civil date of the years 0001 to 9999 in one of the two shapes:
 /// three runs of digits in the order of the form with two equal signs out of `-`, `/` and `.` between
 /// them, the year of four digits, month and day of one or two; or eight digits without signs.
-pub fn std_date(text: &str, form: DateForm, tables: &PlaceTables) -> DateRead
+pub fn std_date(text: &str, form: DateForm, tables: &TextTables) -> DateRead
     ensures read { result ≡ date_read form tables.now.marks text.now }
     ensures valid { IsValidRead result }
 {

@@ -5,8 +5,8 @@
 
 mod cleaning;
 mod date_read;
-mod first_bytes;
 mod names;
+mod outline;
 mod pairs;
 mod tables;
 mod white_space;
@@ -14,5 +14,5 @@ mod word_set;
 mod words;
 
 pub use date_read::{DateRead, std_date};
-pub use names::{TextRoom, std_name, std_name_in, std_place, std_place_in};
-pub use tables::{NameTables, PlaceTables};
+pub use names::{TextRoom, std_text, std_text_in};
+pub use tables::TextTables;

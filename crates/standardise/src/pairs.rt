@@ -2,11 +2,10 @@
 ghost use Rattle.std.specs.Prelude.{◌≡◌, ◌++◌, length, map, IfOk, IfSome, OnOk, option_map};
 ghost use Rattle.std.specs.List.Sorted.{IsBinarySearchResult, IsSearchInRange};
 ghost use Rattle.std.specs.Str.{IsUtf8};
-ghost use Rattle.link_base.specs.Tables.{AreWordPairs};
 ghost use Rattle.standardise.specs.Tables.{text_cmp, word_for};
 ghost use Rattle.standardise.specs.Words.{replaced, spaced_words, words};
 
-use crate::first_bytes::FirstBytes;
+use crate::outline::Outline;
 use crate::words::next_word;
 use link_base::{NoMemory, WordPair, WordPairs};
 use std::alloc::Global;
@@ -27,23 +26,23 @@ fn place_in(pairs: &[WordPair], word: &[u8]) -> Result<usize, usize>
     pairs.binary_search_by(|pair| order(pair, word))
 }
 
-/// Pairs of words, which contracts see as the list of them, and what the words begin with that are replaced.
+/// Pairs of words, which contracts see as the list of them, and the outline of the words that are replaced.
 #[derive(Drop)]
 pub(crate) struct WordTable {
     pairs: WordPairs,
-    firsts: FirstBytes,
+    outline: Outline,
 }
 
 impl Model for WordTable {
     ghost use Rattle.std.specs.Prelude.{List};
     ghost use Rattle.link_base.specs.declared.tables.WordPair.{WordPair};
-    ghost use Rattle.standardise.specs.FirstBytes.{AreMarkedWords};
+    ghost use Rattle.standardise.specs.Outlines.{AreWithin};
 
     ghost Value = { List WordPair };
 
     ghost view = { λ t. t.pairs };
 
-    ghost invariant = { λ t. AreMarkedWords t.firsts.marked t.pairs };
+    ghost invariant = { λ t. AreWithin t.outline (λ (p : WordPair). p.from) t.pairs };
 }
 
 impl WordTable {
@@ -51,10 +50,16 @@ impl WordTable {
     pub(crate) fn new(alloc: Global, pairs: &WordPairs) -> Result<WordTable, NoMemory>
         ensures { IfOk result (λ v. v ≡ pairs.now) }
     {
-        let copies = copied_each(alloc, pairs.pairs())?;
-        let firsts = FirstBytes::of_pairs(&copies);
+        let mut copies = Vec::new(alloc);
+        let mut outline = Outline::none();
+        for pair in pairs.pairs() {
+            outline.add(pair.from.bytes());
+            let from = pair.from.copy(alloc)?;
+            let to = pair.to.copy(alloc)?;
+            copies.push(WordPair { from, to })?;
+        }
         let pairs = WordPairs::of(copies);
-        Ok(WordTable { pairs, firsts })
+        Ok(WordTable { pairs, outline })
     }
 
     /// The word that stands in the place of a word.
@@ -62,34 +67,14 @@ impl WordTable {
         ensures word { option_map (λ s. s.now) result ≡ word_for self.now word.now }
         ensures utf8 { IfSome result (λ s. IsUtf8 s.now) }
     {
-        if !self.firsts.may_begin(word) {
+        if !self.outline.may_be(word) {
             return None;
         }
-        found_in(self.pairs.pairs(), word)
-    }
-}
-
-fn copied_each(alloc: Global, pairs: &[WordPair]) -> Result<Vec<WordPair>, NoMemory>
-    ensures { IfOk result (λ v. v.items ≡ pairs.now) }
-{
-    let mut out = Vec::new(alloc);
-    for pair in pairs {
-        let from = pair.from.copy(alloc)?;
-        let to = pair.to.copy(alloc)?;
-        out.push(WordPair { from, to })?;
-    }
-    Ok(out)
-}
-
-// The word that pairs have for a word.
-fn found_in<'a>(pairs: &'a [WordPair], word: &[u8]) -> Option<&'a [u8]>
-    requires { AreWordPairs pairs.now }
-    ensures word { option_map (λ s. s.now) result ≡ word_for pairs.now word.now }
-    ensures utf8 { IfSome result (λ s. IsUtf8 s.now) }
-{
-    match place_in(pairs, word) {
-        Ok(at) => Some(pairs[at].to.bytes()),
-        Err(_) => None,
+        let pairs = self.pairs.pairs();
+        match place_in(pairs, word) {
+            Ok(at) => Some(pairs[at].to.bytes()),
+            Err(_) => None,
+        }
     }
 }
 

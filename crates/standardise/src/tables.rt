@@ -2,89 +2,65 @@
 ghost use Rattle.std.specs.Prelude.{◌≡◌, IfOk};
 ghost use Rattle.std.specs.Str.{IsUtf8};
 ghost use Rattle.link_texts.specs.Texts.{stands_among};
+ghost use Rattle.standardise.specs.Tables.{names_of, places_of};
 ghost use Rattle.standardise.specs.Words.{without_titles, words};
 
 use crate::pairs::WordTable;
 use crate::word_set::WordSet;
 use crate::words::{dropped_at_end, dropped_at_front};
-use link_base::{NoMemory, Tables};
+use link_base::{NoMemory, Tables, Text, WordPairs};
 use std::alloc::Global;
 use std::marker::Model;
 
-/// The marks of a missing value and the words of places.
+/// The marks of a missing value, the titles, the suffixes and the words that names go by, or places.
 #[derive(Drop)]
-pub struct PlaceTables {
-    marks: WordSet,
-    words: WordTable,
-}
-
-impl Model for PlaceTables {
-    ghost use Rattle.standardise.specs.Tables.{PlaceView};
-
-    ghost Value = { PlaceView };
-
-    ghost view = { λ t. record { marks = t.marks; words = t.words } };
-}
-
-impl PlaceTables {
-    /// The tables of places of a plan.
-    pub fn new(alloc: Global, plan: &Tables) -> Result<PlaceTables, NoMemory>
-        ensures marks { IfOk result (λ t. t.marks ≡ plan.now.missing) }
-        ensures words { IfOk result (λ t. t.words ≡ plan.now.places) }
-    {
-        let marks = WordSet::new(alloc, &plan.missing)?;
-        let words = WordTable::new(alloc, &plan.places)?;
-        Ok(PlaceTables { marks, words })
-    }
-
-    /// Whether a text is one of the missing marks.
-    pub(crate) fn is_missing(&self, text: &[u8]) -> bool
-        ensures { result ≡ stands_among self.now.marks text.now }
-    {
-        self.marks.contains(text)
-    }
-
-    pub(crate) fn pairs(&self) -> &WordTable
-        ensures { result.now ≡ self.now.words }
-    {
-        &self.words
-    }
-}
-
-/// The marks of a missing value, the titles, the suffixes and the words of names.
-#[derive(Drop)]
-pub struct NameTables {
+pub struct TextTables {
     marks: WordSet,
     titles: WordSet,
     suffixes: WordSet,
     words: WordTable,
 }
 
-impl Model for NameTables {
-    ghost use Rattle.standardise.specs.Tables.{NameView};
+impl Model for TextTables {
+    ghost use Rattle.standardise.specs.Tables.{TextView};
 
-    ghost Value = { NameView };
+    ghost Value = { TextView };
 
     ghost view = { λ t. record { marks = t.marks; titles = t.titles; suffixes = t.suffixes; words = t.words } };
 }
 
-impl NameTables {
+impl TextTables {
     /// The tables of names of a plan.
-    pub fn new(alloc: Global, plan: &Tables) -> Result<NameTables, NoMemory>
-        ensures marks { IfOk result (λ t. t.marks ≡ plan.now.missing) }
-        ensures titles { IfOk result (λ t. t.titles ≡ plan.now.titles) }
-        ensures suffixes { IfOk result (λ t. t.suffixes ≡ plan.now.suffixes) }
-        ensures words { IfOk result (λ t. t.words ≡ plan.now.names) }
+    pub fn of_names(alloc: Global, plan: &Tables) -> Result<TextTables, NoMemory>
+        ensures { IfOk result (λ t. t ≡ names_of plan.now) }
     {
-        let marks = WordSet::new(alloc, &plan.missing)?;
-        let titles = WordSet::new(alloc, &plan.titles)?;
-        let suffixes = WordSet::new(alloc, &plan.suffixes)?;
-        let words = WordTable::new(alloc, &plan.names)?;
-        Ok(NameTables {
-            marks,
-            titles,
-            suffixes,
-            words,
+        let titles = plan.titles.texts();
+        let suffixes = plan.suffixes.texts();
+        TextTables::new(alloc, plan, titles, suffixes, &plan.names)
+    }
+
+    /// The tables of places of a plan, which have no titles and no suffixes.
+    pub fn of_places(alloc: Global, plan: &Tables) -> Result<TextTables, NoMemory>
+        ensures { IfOk result (λ t. t ≡ places_of plan.now) }
+    {
+        TextTables::new(alloc, plan, &[], &[], &plan.places)
+    }
+
+    // The tables of these, with the marks of a plan.
+    fn new(
+        alloc: Global,
+        plan: &Tables,
+        titles: &[Text],
+        suffixes: &[Text],
+        words: &WordPairs,
+    ) -> Result<TextTables, NoMemory>
+        ensures { IfOk result (λ t. t ≡ record { marks = plan.now.missing; titles = titles.now; suffixes = suffixes.now; words = words.now }) }
+    {
+        Ok(TextTables {
+            marks: WordSet::new(alloc, plan.missing.texts())?,
+            titles: WordSet::new(alloc, titles)?,
+            suffixes: WordSet::new(alloc, suffixes)?,
+            words: WordTable::new(alloc, words)?,
         })
     }
 

@@ -1,52 +1,50 @@
 // Texts that are found by an ordered search.
-ghost use Rattle.std.specs.Prelude.{◌≡◌, ◌≤◌, IfOk, length};
+ghost use Rattle.std.specs.Prelude.{◌≡◌, IfOk, length};
 ghost use Rattle.std.specs.List.Sorted.{IsBinarySearchResult, IsSearchInRange};
 ghost use Rattle.link_texts.specs.Texts.{stands_among};
 ghost use Rattle.standardise.specs.Tables.{text_cmp};
-ghost use Rattle.standardise.specs.WordSets.{AreNoLonger, IsOrdered};
+ghost use Rattle.standardise.specs.Outlines.{AreWithin};
+ghost use Rattle.standardise.specs.WordSets.{IsOrdered};
 
-use crate::first_bytes::FirstBytes;
-use link_base::{NoMemory, Text, TextList};
+use crate::outline::Outline;
+use link_base::{NoMemory, Text};
 use std::alloc::Global;
 use std::cmp::Ordering;
 use std::marker::Model;
 
 /// Texts, which contracts see as the list of them. They are held a second time in the order of their
-/// bytes, for the search; none is longer than `longest` bytes, and `firsts` has what each begins with.
+/// bytes, for the search, and their outline tells most texts that are none of them.
 #[derive(Drop)]
 pub(crate) struct WordSet {
     texts: Vec<Text>,
     ordered: Vec<Text>,
-    longest: usize,
-    firsts: FirstBytes,
+    outline: Outline,
 }
 
 impl Model for WordSet {
     ghost use Rattle.std.specs.Prelude.{List, ℕ};
-    ghost use Rattle.standardise.specs.FirstBytes.{AreMarked};
-    ghost use Rattle.standardise.specs.WordSets.{AreNoLonger, IsOrdered};
+    ghost use Rattle.standardise.specs.Outlines.{AreWithin};
+    ghost use Rattle.standardise.specs.WordSets.{IsOrdered};
 
     ghost Value = { List (List ℕ) };
 
     ghost view = { λ s. s.texts.items };
 
-    ghost invariant = { λ s. IsOrdered s.texts.items s.ordered.items × AreNoLonger s.longest s.texts.items × AreMarked s.firsts.marked s.texts.items };
+    ghost invariant = { λ s. IsOrdered s.texts.items s.ordered.items × AreWithin s.outline (λ t. t) s.texts.items };
 }
 
 impl WordSet {
     /// The set of these texts.
-    pub(crate) fn new(alloc: Global, texts: &TextList) -> Result<WordSet, NoMemory>
+    pub(crate) fn new(alloc: Global, texts: &[Text]) -> Result<WordSet, NoMemory>
         ensures { IfOk result (λ set. set ≡ texts.now) }
     {
-        let ordered = in_order(copied(alloc, texts.texts())?);
-        let texts = copied(alloc, texts.texts())?;
-        let longest = longest_of(&texts);
-        let firsts = FirstBytes::of(&texts);
+        let ordered = in_order(copied(alloc, texts)?);
+        let texts = copied(alloc, texts)?;
+        let outline = outline_of(&texts);
         Ok(WordSet {
             texts,
             ordered,
-            longest,
-            firsts,
+            outline,
         })
     }
 
@@ -54,10 +52,7 @@ impl WordSet {
     pub(crate) fn contains(&self, text: &[u8]) -> bool
         ensures { result ≡ stands_among self.now text.now }
     {
-        if text.len() > self.longest {
-            return false;
-        }
-        if !self.firsts.may_begin(text) {
+        if !self.outline.may_be(text) {
             return false;
         }
         match place_in(&self.ordered, text) {
@@ -93,22 +88,15 @@ fn copied(alloc: Global, texts: &[Text]) -> Result<Vec<Text>, NoMemory>
     Ok(out)
 }
 
-fn greater_of(x: usize, y: usize) -> usize
-    ensures first { x ≤ result }
-    ensures second { y ≤ result }
+// The outline of these texts.
+fn outline_of(texts: &[Text]) -> Outline
+    ensures { AreWithin result (λ t. t) texts.now }
 {
-    if x < y { y } else { x }
-}
-
-// The greatest length of the texts, or 0.
-fn longest_of(texts: &[Text]) -> usize
-    ensures { AreNoLonger result texts.now }
-{
-    let mut longest = 0;
+    let mut outline = Outline::none();
     for text in texts {
-        longest = greater_of(longest, text.bytes().len());
+        outline.add(text.bytes());
     }
-    longest
+    outline
 }
 
 // The texts in the order of their bytes.

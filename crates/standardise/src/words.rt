@@ -1,11 +1,10 @@
 // The words of a text: the longest runs without a space.
-ghost use Rattle.std.specs.Prelude.{◌≡◌, ◌+◌, ◌++◌, ◌∷◌, [], ◌<◌, take, drop, length, IfSome, OnOk, MatchOption, IsTrue, ◌↔◌, ◌≢◌};
+ghost use Rattle.std.specs.Prelude.{◌≡◌, ◌+◌, ◌++◌, ◌∷◌, [], ◌<◌, take, drop, length, IfSome, MatchOption, IsTrue, ◌↔◌, ◌≢◌};
 ghost use Rattle.std.specs.Str.{IsUtf8};
 ghost use Rattle.link_texts.specs.Texts.{stands_among};
 ghost use Rattle.standardise.specs.Words.{run_words, without_first, without_last, words};
 
 use crate::word_set::WordSet;
-use link_base::NoMemory;
 
 // The place of the first space.
 fn first_space(text: &[u8]) -> Option<usize>
@@ -46,25 +45,13 @@ fn parted(text: &[u8], at: usize) -> (&[u8], &[u8])
     (&text[..at], &text[at + 1..])
 }
 
-/// Puts a text in place of what stood in `word`.
-pub(crate) fn put(word: &mut Vec<u8>, text: &[u8]) -> Result<(), NoMemory>
-    ensures { OnOk result (word.new.items ≡ text.now) }
-{
-    word.clear();
-    word.extend_from_slice(text)?;
-    Ok(())
-}
-
 /// Whether a text is one word, with nothing beside it.
 pub(crate) fn is_one_word(text: &[u8]) -> bool
     ensures { IsTrue result → words text.now ≡ text.now ∷ [] }
 {
-    if text.is_empty() {
-        return false;
-    }
     match first_space(text) {
         Some(_) => false,
-        None => true,
+        None => !text.is_empty(),
     }
 }
 

@@ -3,11 +3,10 @@ ghost use Rattle.std.specs.Prelude.{◌≡◌, option_map};
 ghost use Rattle.link_base.specs.Rows.{value_seen};
 ghost use Rattle.link_base.specs.Standard.{IsDay};
 ghost use Rattle.value_forms.specs.CanonTexts.{canon_bytes};
-ghost use Rattle.value_forms.specs.Canons.{IsReadable, canon_by, exact_canon, letters_canon, letters_of, nysiis_canon, soundex_canon, with_letters};
-ghost use Rattle.value_forms.specs.Canons.{compares_days as is_of_days, year_digits as year_canon};
-ghost use Rattle.value_forms.specs.Days.{four_digits, year_of_day};
+ghost use Rattle.link_base.specs.declared.standard.Value.TheVariants.{Day, Word};
+ghost use Rattle.value_forms.specs.Canons.{IsReadable, canon_by, compares_days as is_of_days, letters_of, with_letters};
 
-use crate::days::{civil_of, day_text};
+use crate::days::day_text;
 use crate::first::first_chars;
 use link_base::ValueRef;
 use phonetic_keys::{Nysiis, nysiis, soundex};
@@ -95,79 +94,30 @@ pub fn bytes_of<'t>(canon: &'t CanonText) -> &'t [u8]
     }
 }
 
-// The text of a word, and `YYYY-MM-DD` of a day.
-fn exact<'v>(value: &ValueRef<'v>) -> Option<CanonText<'v>>
-    requires { IsReadable Canon.Whole (value_seen value.now) }
-    ensures { option_map canon_bytes result ≡ exact_canon (value_seen value.now) }
+// The canon of a word.
+fn word_canon(canon: Canon, text: &[u8]) -> Option<CanonText<'_>>
+    requires { IsReadable canon (Word text.now) }
+    ensures { option_map canon_bytes result ≡ canon_by canon (Word text.now) }
 {
-    match *value {
-        ValueRef::Absent => None,
-        ValueRef::Word(text) => Some(CanonText::Slice(text)),
-        ValueRef::Day(day) => Some(CanonText::Date(day_text(day))),
+    match canon {
+        Canon::Whole => Some(CanonText::Slice(text)),
+        Canon::Soundex => Some(CanonText::Short(soundex(text)?)),
+        Canon::Nysiis => Some(CanonText::Letters(nysiis(text)?)),
+        Canon::Letters(End::Front, n) => Some(CanonText::Slice(first_chars(text, n))),
+        Canon::Year => None,
     }
 }
 
-// The Soundex key of a word, `None` where it has no letter.
-fn soundex_key<'v>(value: &ValueRef<'v>) -> Option<CanonText<'v>>
-    ensures { option_map canon_bytes result ≡ soundex_canon (value_seen value.now) }
-{
-    let ValueRef::Word(text) = *value else {
-        return None;
-    };
-    match soundex(text) {
-        Some(key) => Some(CanonText::Short(key)),
-        None => None,
-    }
-}
-
-// The NYSIIS key of a word, `None` where it has no letter.
-fn nysiis_key<'v>(value: &ValueRef<'v>) -> Option<CanonText<'v>>
-    ensures { option_map canon_bytes result ≡ nysiis_canon (value_seen value.now) }
-{
-    let ValueRef::Word(text) = *value else {
-        return None;
-    };
-    match nysiis(text) {
-        Some(key) => Some(CanonText::Letters(key)),
-        None => None,
-    }
-}
-
-// The `n` characters at an end of a word, or all where there are fewer.
-fn letters<'v>(end: End, n: u8, value: &ValueRef<'v>) -> Option<CanonText<'v>>
-    requires { IsReadable (Canon.Letters end n) (value_seen value.now) }
-    ensures { option_map canon_bytes result ≡ letters_canon end n (value_seen value.now) }
-{
-    let ValueRef::Word(text) = *value else {
-        return None;
-    };
-    match end {
-        End::Front => Some(CanonText::Slice(first_chars(text, n))),
-    }
-}
-
-fn digits_of_year(day: i32) -> [u8; 4]
+// The canon of a day.
+#[tactic(auto, unfolding(crate::specs::Days::text_of_day))]
+fn day_canon<'v>(canon: Canon, day: i32) -> Option<CanonText<'v>>
     requires { IsDay day }
-    ensures { result ≡ four_digits (year_of_day day) }
+    ensures { option_map canon_bytes result ≡ canon_by canon (Day day) }
 {
-    let year = civil_of(day).year;
-    let high = (year / 100) as u8;
-    let low = (year % 100) as u8;
-    [
-        b'0' + high / 10,
-        b'0' + high % 10,
-        b'0' + low / 10,
-        b'0' + low % 10,
-    ]
-}
-
-// The four digits of the year of a day.
-fn year_digits<'v>(value: &ValueRef<'v>) -> Option<CanonText<'v>>
-    requires { IsReadable Canon.Year (value_seen value.now) }
-    ensures { option_map canon_bytes result ≡ year_canon (value_seen value.now) }
-{
-    match *value {
-        ValueRef::Day(day) => Some(CanonText::Short(digits_of_year(day))),
+    let text = day_text(day);
+    match canon {
+        Canon::Whole => Some(CanonText::Date(text)),
+        Canon::Year => Some(CanonText::Short([text[0], text[1], text[2], text[3]])),
         _ => None,
     }
 }
@@ -187,11 +137,9 @@ pub fn canon_text<'v>(canon: Canon, value: &ValueRef<'v>) -> Option<CanonText<'v
     requires { IsReadable canon (value_seen value.now) }
     ensures { option_map canon_bytes result ≡ canon_by canon (value_seen value.now) }
 {
-    match canon {
-        Canon::Whole => exact(value),
-        Canon::Soundex => soundex_key(value),
-        Canon::Nysiis => nysiis_key(value),
-        Canon::Letters(end, n) => letters(end, n, value),
-        Canon::Year => year_digits(value),
+    match *value {
+        ValueRef::Absent => None,
+        ValueRef::Word(text) => word_canon(canon, text),
+        ValueRef::Day(day) => day_canon(canon, day),
     }
 }

@@ -1,23 +1,17 @@
 // The initials of a text, byte by byte and without memory.
 ghost use Rattle.std.specs.Prelude.{◌≡◌, ◌∷◌, [], IfOk, MatchOption, bytes_eq};
 ghost use Rattle.std.specs.Str.{IsUtf8};
-ghost use Rattle.value_forms.specs.InitialBytes.{goes_on, is_initial};
+ghost use Rattle.value_forms.specs.InitialBytes.{is_initial};
 ghost use Rattle.value_forms.specs.Initials.{initials_of};
 
 use link_base::{NoMemory, Text};
 use std::alloc::Global;
 use std::marker::Model;
 
-fn continues(byte: u8) -> bool
-    ensures { result ≡ goes_on byte }
-{
-    byte >= 128 && byte <= 191
-}
-
 fn is_first(starts: bool, follows: bool, byte: u8) -> bool
     ensures { result ≡ is_initial starts follows byte }
 {
-    byte != b' ' && (starts || (follows && continues(byte)))
+    byte != b' ' && (starts || (follows && byte >= 128 && byte <= 191))
 }
 
 // The initials of a text that are left, which contracts see as the list of their bytes.

@@ -133,17 +133,6 @@ fn plain(form: DateForm, text: &[u8]) -> Option<i32>
     arranged(form, first, second, third)
 }
 
-#[tactic(auto, unfolding(crate::specs::Written::date_day))]
-fn of_either_shape(form: DateForm, text: &[u8]) -> Option<i32>
-    ensures value { result ≡ date_day form text.now }
-    ensures valid { IfSome result (λ day. IsDay day) }
-{
-    match signed(form, text) {
-        Some(day) => Some(day),
-        None => plain(form, text),
-    }
-}
-
 /// The day that a text writes in this form: three runs of digits in the order of the form with two
 /// equal signs out of `-`, `/` and `.` between them, the year of four digits, month and day of one or
 /// two; or eight digits without signs. `None` for every other text, and where there is no such date.
@@ -152,8 +141,11 @@ pub fn read_date(form: DateForm, text: &[u8]) -> Option<i32>
     ensures value { result ≡ date_day form text.now }
     ensures valid { IfSome result (λ day. IsDay day) }
 {
-    match placed(form, text) {
+    if let Some(day) = placed(form, text) {
+        return Some(day);
+    }
+    match signed(form, text) {
         Some(day) => Some(day),
-        None => of_either_shape(form, text),
+        None => plain(form, text),
     }
 }

@@ -1,10 +1,3 @@
 pub mod ChainLemmas
-pub mod EqualLemmas
-pub mod WordLemmas
-pub mod HashLemmas
-pub mod OrderLemmas
 pub mod PlaceLemmas
-pub mod RegionLemmas
 pub mod SearchLemmas
-pub mod TableLemmas
-pub mod TakenLemmas

@@ -1,19 +1,20 @@
 -- What a search along a chain has still to look at.
-use Rattle.std.proofs.Common.{◌≡◌, ◌<◌, ◌≤◌, ◌+◌, ◌-◌, ◌==◌, ℕ, suc, true, false, ◌≢◌, List, [], length, get_or, ap, sym, ◌∙◌, arith, eq-eqb, inl, inr}
+use Rattle.std.proofs.Common.{◌≡◌, ◌<◌, ◌≤◌, ◌+◌, ◌-◌, ◌==◌, ℕ, suc, true, false, ◌≢◌, List, [], length, get_or, ap, sym, ◌∙◌, arith, eq-eqb, inl, inr, slice_range, All, subst, ◌++◌, ◌∷◌, if◌then◌else◌, refl}
 use Rattle.std.specs.Str.{bytes_eq}
 use Rattle.std.proofs.lemmas.Slice.Eq.{bytes_eq-Decides}
 use Rattle.std.proofs.lemmas.Bool.{and_from, and_parts, cases_order, false_from_ne_true, false≢true}
-use Rattle.std.specs.Prelude.{slice_range}
 use Rattle.std.proofs.lemmas.List.{get_or_read, length-map}
 use Rattle.std.proofs.lemmas.List.Elements.{All-from_get_or}
 use Rattle.std.proofs.lemmas.List.Folds.{list_any_at, list_any_none}
 use Rattle.value_pool.specs.declared.chains.Slot.{Slot}
-use Rattle.value_pool.specs.Texts.{stands_among}
-use Rattle.value_pool.specs.Region.{hashes_of, nexts_of, texts_at}
+use Rattle.value_pool.specs.Texts.{stands_among, PoolState}
+use Rattle.value_pool.specs.Region.{hashes_of, nexts_of, texts_at, IsSlotWithin}
 use Rattle.value_pool.specs.Chains.{IsChained, bucket_of, last_in}
 use Rattle.value_pool.specs.Hashes.{hash_of}
-use Rattle.value_pool.specs.Table.{IsHashed, has_text}
+use Rattle.value_pool.specs.Table.{IsHashed, has_text, IsTable, texts_of, HasAppended, state_of}
 use Rattle.value_pool.proofs.ChainLemmas.{at-bucket, last-le, last-same, last-skip, slot_at}
+use Rattle.value_pool.specs.declared.table.Table.{Table}
+use Rattle.value_pool.specs.Pool.{HasTaken, KeepsRoom, with_text}
 
 pub none-held : (texts : List (List ℕ)) (text : List ℕ) → ((q : ℕ) → q < length texts → get_or texts q [] ≢ text) → stands_among texts text ≡ false
 none-held texts text h =
@@ -87,3 +88,56 @@ next_left bytes slots heads text hash b at s h hashed is_hash is_b left some is_
 
 pub text_by_hash : (bytes : List ℕ) (s : Slot) (hash : ℕ) (text : List ℕ) → has_text bytes s hash text ≡ true → slice_range bytes s.start s.end ≡ text
 text_by_hash bytes s hash text h = (bytes_eq-Decides (slice_range bytes s.start s.end) text).0 (and_parts (s.hash == hash) (bytes_eq (slice_range bytes s.start s.end) text) h).1
+
+-- Tables whose chains are made anew, or whose texts are put in order.
+
+texts_count : (bytes : List ℕ) (slots : List Slot) → length (texts_at bytes slots) ≡ length slots
+texts_count bytes slots = length-map slots (λ (s : Slot). slice_range bytes s.start s.end)
+
+-- the same texts in other chains
+pub anew : (old new : Table) (slots : List Slot) (heads : List ℕ) → IsTable old → new.bytes.items ≡ old.bytes.items → new.slots.items ≡ slots → new.heads.items ≡ heads → new.order ≡ old.order
+    → texts_at old.bytes.items slots ≡ texts_of old → All (IsSlotWithin old.bytes.items) slots
+    → IsHashed (texts_at old.bytes.items slots) (hashes_of slots) → IsChained heads (hashes_of slots) (nexts_of slots) → IsTable new
+anew old new slots heads h bytes is_slots is_heads is_order same within hashed chained =
+    let texts : texts_of new ≡ texts_of old = (λ i. texts_at (bytes i) (is_slots i)) ∙ same in
+    let count : length new.slots.items ≡ length old.slots.items = ap length is_slots ∙ sym (texts_count old.bytes.items slots) ∙ ap length same ∙ texts_count old.bytes.items old.slots.items in
+    record {
+      within = rw (bytes, is_slots) within;
+      distinct = rw texts h.distinct;
+      few = rw (texts, count, bytes) h.few;
+      chained = rw (is_slots, is_heads) chained;
+      hashed = rw (texts, is_slots) (subst (λ (ts : List (List ℕ)). IsHashed ts (hashes_of slots)) same hashed);
+      ordered = rw (texts, is_order) h.ordered;
+      short = rw bytes h.short;
+      whole = rw (texts, bytes) h.whole;
+    }
+
+-- What a pool is after it has taken a text: its table may have changed its order and its chains since.
+
+module _ (limit : ℕ) (old made new : Table) (pool : PoolState) (text : List ℕ) (view : pool ≡ state_of limit old) (same : state_of 0 new ≡ state_of 0 made) (fresh : stands_among (texts_of old) text ≡ false) where
+  taken_texts : with_text pool text ≡ texts_of old ++ text ∷ []
+  taken_texts = rw (view, fresh) refl
+
+  new_texts : texts_of made ≡ texts_of old ++ text ∷ [] → texts_of new ≡ with_text pool text
+  new_texts made_is = ap (λ (s : PoolState). s.texts) same ∙ made_is ∙ sym taken_texts
+
+  taken_bytes : pool.used + (if stands_among pool.texts text then 0 else length text) ≡ length old.bytes.items + length text
+  taken_bytes = rw (view, fresh) refl
+
+  new_used : length made.bytes.items ≡ length old.bytes.items + length text → length new.bytes.items ≡ pool.used + (if stands_among pool.texts text then 0 else length text)
+  new_used made_is = ap (λ (s : PoolState). s.used) same ∙ made_is ∙ sym taken_bytes
+
+  new_room : KeepsRoom (state_of 0 old) (state_of 0 made) 1 (length text) → KeepsRoom pool (state_of limit new) 1 (length text)
+  new_room made_room =
+      record {
+        of_texts = omega (arith, ap (λ (s : PoolState). s.spare_texts) view, ap (λ (s : PoolState). s.spare_texts) same, made_room.of_texts);
+        of_bytes = omega (arith, ap (λ (s : PoolState). s.spare_bytes) view, ap (λ (s : PoolState). s.spare_bytes) same, made_room.of_bytes);
+      }
+
+  pub new_taken : HasAppended text old made → HasTaken text pool (state_of limit new)
+  new_taken appended = record {
+    texts = new_texts appended.texts;
+    used = new_used appended.used;
+    room = new_room appended.room;
+    room_held = λ held. let other : stands_among (texts_of old) text ≡ true = subst (λ (s : PoolState). stands_among s.texts text ≡ true) view held in absurd (cc);
+  }

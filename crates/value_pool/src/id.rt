@@ -10,7 +10,7 @@ pub struct Id {
 }
 
 impl Model for Id {
-    ghost use Rattle.std.specs.Prelude.{◌-◌, ◌<◌, ◌^◌, ℕ, refl};
+    ghost use Rattle.std.specs.Prelude.{◌-◌, ◌<◌, ◌^◌, ℕ};
 
     ghost Value = { ℕ };
 

@@ -1,5 +1,5 @@
 // Distinct texts, a limit of their bytes, and room for more of them.
-ghost use Rattle.std.specs.Prelude.{◌≡◌, ◌≤◌, ◌↔◌, IsTrue, ◌≢◌, AllPairs, ◌<◌, ◌+◌, ◌++◌, ◌∷◌, [], ℕ, true, false, is_some, IfOk, IfSome, OnErr, OnOk, length, slice_get, slice_index_or, sum_by, if◌then◌else◌};
+ghost use Rattle.std.specs.Prelude.{◌≡◌, ◌≤◌, ◌↔◌, IsTrue, ◌≢◌, AllPairs, ◌<◌, ◌+◌, [], ℕ, is_some, IfOk, IfSome, OnErr, OnOk, length, slice_get, sum_by};
 ghost use Rattle.value_pool.specs.Pool.{FullExactly, HasRoom, HasTaken, IsAsBefore, KeepsRoom};
 ghost use Rattle.value_pool.specs.Texts.{stands_among};
 

@@ -1,5 +1,5 @@
 // A table of distinct texts in one region of bytes, with a look-up that takes few comparisons whichever texts they are.
-ghost use Rattle.std.specs.Prelude.{◌≡◌, ◌≤◌, ◌<◌, ◌+◌, ◌-◌, ◌^◌, ◌++◌, ◌∷◌, [], bytes_eq, false, is_some, IfOk, IfSome, OnErr, OnOk, length, slice_get};
+ghost use Rattle.std.specs.Prelude.{◌≡◌, ◌≤◌, ◌<◌, ◌+◌, ◌-◌, ◌^◌, [], false, is_some, IfOk, IfSome, OnErr, OnOk, length, slice_get};
 ghost use Rattle.link_limits.specs.declared.TheConstants.{MOST_POOL_LIMIT};
 ghost use Rattle.value_pool.specs.Hashes.{hash_of, last_word};
 ghost use Rattle.value_pool.specs.Pool.{HasRoom, IsAsBefore};

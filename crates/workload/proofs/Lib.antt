@@ -1,4 +1,1 @@
-pub mod HeaderLemmas
-pub mod RowLemmas
-pub mod SettingsLemmas
-pub mod WordLemmas
+pub mod Lemmas

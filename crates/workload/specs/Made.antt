@@ -50,14 +50,11 @@ sample_header = codes "id_a" ∷ codes "id_b" ∷ codes "status" ∷ []
 abbrev pub made_row : ℕ → ℕ → List ℕ → List (List ℕ)
 made_row a b status = id_a a ∷ id_b b ∷ status ∷ []
 
--- a record of A with its own copy, and with the copy of the next
-abbrev pub matched_row : ℕ → List (List ℕ)
-matched_row row = made_row row row (codes "matched")
+-- a record of A with the copy of that so many rows on
+abbrev pub paired_row : ℕ → List ℕ → ℕ → List (List ℕ)
+paired_row on status row = made_row row (row + on) status
 
-abbrev pub unmatched_row : ℕ → List (List ℕ)
-unmatched_row row = made_row row (row + 1) (codes "unmatched")
-
--- at most `MOST_OF_STATUS` pairs of each status
+-- at most `MOST_OF_STATUS` pairs of each status: a record with its own copy is matched, and with the copy of the next unmatched
 abbrev pub text_of_sample : ℕ → List ℕ
 text_of_sample rows =
-    rows_text (sample_header ∷ map matched_row (range_with_len 0 (min rows MOST_OF_STATUS)) ++ map unmatched_row (range_with_len 0 (min (rows - 1) MOST_OF_STATUS)))
+    rows_text (sample_header ∷ map (paired_row 0 (codes "matched")) (range_with_len 0 (min rows MOST_OF_STATUS)) ++ map (paired_row 1 (codes "unmatched")) (range_with_len 0 (min (rows - 1) MOST_OF_STATUS)))

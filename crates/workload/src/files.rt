@@ -43,7 +43,7 @@ fn push_person(
 }
 
 /// The text of A.
-#[tactic(auto, using(crate::proofs::HeaderLemmas::file_header_text))]
+#[tactic(auto, using(crate::proofs::Lemmas::file_header_text))]
 pub fn a_text(alloc: Global, rows: u32) -> Result<Text, NoMemory>
     requires { rows ≤ MOST_ROWS }
     ensures { IfOk result (λ text. text ≡ text_of_a rows) }
@@ -57,7 +57,7 @@ pub fn a_text(alloc: Global, rows: u32) -> Result<Text, NoMemory>
 }
 
 /// The text of B.
-#[tactic(auto, using(crate::proofs::HeaderLemmas::file_header_text))]
+#[tactic(auto, using(crate::proofs::Lemmas::file_header_text))]
 pub fn b_text(alloc: Global, rows: u32) -> Result<Text, NoMemory>
     requires { rows ≤ MOST_ROWS }
     ensures { IfOk result (λ text. text ≡ text_of_b rows) }

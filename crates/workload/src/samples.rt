@@ -3,7 +3,7 @@ ghost use Rattle.std.specs.Prelude.{◌≡◌, ◌≤◌, ◌<◌, ◌++◌, IfO
 ghost use Rattle.std.specs.List.{range_with_len};
 ghost use Rattle.csv.specs.Writing.{default_writer, row_text};
 ghost use Rattle.link_limits.specs.declared.TheConstants.{MOST_ROWS};
-ghost use Rattle.workload.specs.Made.{matched_row, rows_text, made_row, text_of_sample, unmatched_row};
+ghost use Rattle.workload.specs.Made.{rows_text, made_row, paired_row, text_of_sample};
 
 use crate::files::id_of;
 use csv_rows::push_row;
@@ -28,36 +28,39 @@ fn push_pair(
     push_row(text, &[&a, &b, status])
 }
 
-// Appends the rows of matched pairs: each record with its own copy.
-fn push_matched(alloc: Global, text: &mut Vec<u8>, count: u32) -> Result<(), NoMemory>
-    ensures { OnOk result (text.new.items ≡ text.old.items ++ rows_text (map matched_row (range_with_len 0 count))) }
+// Appends the rows of pairs of a status: each record with the copy of that so many rows on.
+fn push_pairs(
+    alloc: Global,
+    text: &mut Vec<u8>,
+    count: u32,
+    on: u32,
+    status: &[u8],
+) -> Result<(), NoMemory>
+    requires count { count ≤ MOST_ROWS }
+    requires on { on ≤ 1 }
+    ensures { OnOk result (text.new.items ≡ text.old.items ++ rows_text (map (paired_row on status.now) (range_with_len 0 count))) }
 {
     for row in 0..count {
-        push_pair(alloc, text, row, row, b"matched")?;
-    }
-    Ok(())
-}
-
-// Appends the rows of unmatched pairs: each record with the copy of the next.
-fn push_unmatched(alloc: Global, text: &mut Vec<u8>, count: u32) -> Result<(), NoMemory>
-    requires { count ≤ MOST_ROWS }
-    ensures { OnOk result (text.new.items ≡ text.old.items ++ rows_text (map unmatched_row (range_with_len 0 count))) }
-{
-    for row in 0..count {
-        push_pair(alloc, text, row, row + 1, b"unmatched")?;
+        push_pair(alloc, text, row, row + on, status)?;
     }
     Ok(())
 }
 
 /// The text of the sample.
-#[tactic(auto, using(crate::proofs::HeaderLemmas::sample_header_text))]
+#[tactic(auto, using(crate::proofs::Lemmas::sample_header_text))]
 pub fn sample_text(alloc: Global, rows: u32) -> Result<Text, NoMemory>
     requires { 1 ≤ rows }
     ensures { IfOk result (λ text. text ≡ text_of_sample rows) }
 {
     let mut text = Vec::new(alloc);
     text.extend_from_slice(b"id_a,id_b,status\n")?;
-    push_matched(alloc, &mut text, rows.min(MOST_OF_STATUS))?;
-    push_unmatched(alloc, &mut text, (rows - 1).min(MOST_OF_STATUS))?;
+    push_pairs(alloc, &mut text, rows.min(MOST_OF_STATUS), 0, b"matched")?;
+    push_pairs(
+        alloc,
+        &mut text,
+        (rows - 1).min(MOST_OF_STATUS),
+        1,
+        b"unmatched",
+    )?;
     Ok(Text::of(text))
 }

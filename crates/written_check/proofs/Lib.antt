@@ -1,12 +1,5 @@
-pub mod ApartLemmas
 pub mod FormLemmas
 pub mod LinkLemmas
-pub mod ListLemmas
-pub mod PriceLemmas
-pub mod ShortLemmas
-pub mod SmallPrices
 pub mod StepLemmas
-pub mod SumLemmas
-pub mod VerifiedLemmas
 pub mod WrittenLemmas
 pub mod RowFacts

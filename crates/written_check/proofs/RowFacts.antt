@@ -1,6 +1,5 @@
 -- The rows of written files that are verified, and written files with such rows.
-use Rattle.std.proofs.Common.{◌≡◌, ◌<◌, ◌≤◌, ◌≤ℤ◌, ◌+ℤ◌, ◌+◌, ◌==◌, ◌∷◌, ◌++◌, ◌∙◌, ℕ, ℤ, pos, zero, suc, Bool, true, false, List, [], All, length, drop, get_or, if◌then◌else◌, map, Option, Some, None, Ok, Err, refl, sym, ap, subst, arith}
-use Rattle.std.specs.Prelude.{bytes_eq, codes, decimal, filter, not, replicate, slice_set, zip}
+use Rattle.std.proofs.Common.{◌≡◌, ◌<◌, ◌≤◌, ◌≤ℤ◌, ◌+ℤ◌, ◌+◌, ◌==◌, ◌∷◌, ◌++◌, ◌∙◌, ℕ, ℤ, pos, zero, suc, Bool, true, false, List, [], All, length, drop, get_or, if◌then◌else◌, map, Option, Some, None, Ok, Err, refl, sym, ap, subst, arith, bytes_eq, codes, decimal, filter, not, replicate, slice_set, zip}
 use Rattle.std.specs.Ordering.{int_eq}
 use Rattle.std.proofs.lemmas.Bool.{and_parts, eqb-true, not-false}
 use Rattle.std.proofs.lemmas.Bool.Decides.{Decides-int_eq}
@@ -21,15 +20,9 @@ use Rattle.link_report.specs.Reading.{first_misfit, rows_of_prices, rows_under, 
 use Rattle.link_report.specs.RuleText.{cell_fields, rule_header}
 use Rattle.price_check.specs.Assignment.{IsCovered, price_sum, worth}
 use Rattle.price_check.specs.Law.{GreatestValueIsLeast, PricesAreBoundedByCandidates}
-use Rattle.written_check.proofs.ListLemmas.{Row, some_is}
-use Rattle.written_check.proofs.ApartLemmas.{apart_none}
-use Rattle.written_check.proofs.FormLemmas.{same_rows}
-use Rattle.written_check.proofs.LinkLemmas.{all_fail}
-use Rattle.written_check.proofs.PriceLemmas.{none_of_none, price_is}
-use Rattle.written_check.proofs.SmallPrices.{small_a, small_b}
-use Rattle.written_check.proofs.StepLemmas.{after_prices}
-use Rattle.written_check.proofs.SumLemmas.{apart_links, covered_so, sums_ok, unless_none}
-use Rattle.written_check.proofs.VerifiedLemmas.{came, links_are, ok_is, okay, rows_read, under_fit}
+use Rattle.written_check.proofs.LinkLemmas.{Row, some_is, apart_none, all_fail}
+use Rattle.written_check.proofs.FormLemmas.{same_rows, none_of_none, price_is, came, links_are, ok_is, okay, rows_read, under_fit}
+use Rattle.written_check.proofs.StepLemmas.{small_a, small_b, after_prices, apart_links, covered_so, sums_ok, unless_none}
 use Rattle.written_check.proofs.WrittenLemmas.{DecimalsRead, links_read, no_difference, prices_read}
 use Rattle.written_check.specs.Certified.{balanced, covered_then, first_uncovered, is_covered}
 use Rattle.written_check.specs.Laws.{HaveCertifiedRows, RowsAreVerified, VerifiedHaveRows}

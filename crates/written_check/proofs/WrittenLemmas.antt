@@ -1,6 +1,5 @@
 -- What a run writes is verified.
-use Rattle.std.proofs.Common.{◌≡◌, ◌<◌, ◌≤◌, ◌≤ℤ◌, ◌+◌, ◌^◌, ◌∷◌, ◌++◌, ◌∙◌, ℕ, ℤ, pos, negsuc, zero, suc, Bool, true, false, List, [], All, length, drop, get_or, if◌then◌else◌, map, Option, Some, None, Ok, refl, sym, ap, subst, arith, length-append}
-use Rattle.std.specs.Prelude.{◌&&◌, AllPairs, codes, Contains, decimal, filter, nat_le, not, replicate, slice_set, zip}
+use Rattle.std.proofs.Common.{◌≡◌, ◌<◌, ◌≤◌, ◌≤ℤ◌, ◌+◌, ◌^◌, ◌∷◌, ◌++◌, ◌∙◌, ℕ, ℤ, pos, negsuc, zero, suc, Bool, true, false, List, [], All, length, drop, get_or, if◌then◌else◌, map, Option, Some, None, Ok, refl, sym, ap, subst, arith, length-append, ◌&&◌, AllPairs, codes, Contains, decimal, filter, nat_le, not, replicate, slice_set, zip}
 use Rattle.std.specs.Fmt.{signed_decimal}
 use Rattle.std.specs.List.{list_all}
 use Rattle.std.specs.Ordering.{int_eq}
@@ -20,9 +19,8 @@ use Rattle.link_report.specs.ReadingLaws.{same_itself, row_same}
 use Rattle.link_report.specs.LinksText.{link_fields}
 use Rattle.link_report.specs.PricesText.{is_priced, price_fields}
 use Rattle.link_report.specs.Reading.{rows_of_prices, same_row, side_rows}
-use Rattle.written_check.proofs.ListLemmas.{Row, some_is}
-use Rattle.written_check.proofs.LinkLemmas.{before_so, found_only, IsFound, known_again}
-use Rattle.written_check.proofs.PriceLemmas.{none_of_none}
+use Rattle.written_check.proofs.LinkLemmas.{Row, some_is, before_so, found_only, IsFound, known_again}
+use Rattle.written_check.proofs.FormLemmas.{none_of_none}
 use Rattle.written_check.specs.LinkRows.{after_all, candidate_in, goes_before, links_in, taken_more}
 use Rattle.written_check.specs.PriceRows.{ArePrices, have_none, no_prices, price_in, priced_at, priced_more, PricePair, prices_in, row_priced, side_priced, with_a, with_b}
 use Rattle.written_check.specs.RuleRows.{first_difference}

@@ -1,5 +1,5 @@
 // Written links, row by row.
-ghost use Rattle.std.specs.Prelude.{◌≡◌, ◌+◌, ◌<◌, ◌^◌, [], All, AllPairs, IfErr, IfOk, IfSome, Ok, length, map};
+ghost use Rattle.std.specs.Prelude.{◌≡◌, ◌+◌, ◌<◌, ◌^◌, [], All, AllPairs, IfErr, IfOk, IfSome, Ok, length};
 ghost use Rattle.std.specs.List.{list_all};
 ghost use Rattle.price_check.specs.Assignment.{IsBefore, IsWithin};
 ghost use Rattle.csv.specs.Records.{fields_of};

@@ -1,5 +1,5 @@
 use Rattle.std.proofs.lemmas.Bool.{false≢true}
-use Rattle.assignment.proofs.Rounds.{between_done}
+use Rattle.assignment.proofs.Growing.{between_done}
 use Rattle.assignment.proofs.side.settle.Goals as goal
 
 pub search_each-requires-clause-between : goal.search_each-requires-clause-between

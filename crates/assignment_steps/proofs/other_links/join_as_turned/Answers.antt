@@ -1,5 +1,5 @@
 use Rattle.std.proofs.Common.{◌∙◌, arith}
-use Rattle.assignment_steps.proofs.Joined.{one_more_as}
+use Rattle.assignment_steps.proofs.Members.{one_more_as}
 use Rattle.assignment_steps.proofs.other_links.join_as_turned.Goals as goal
 
 pub loop-i-preserved : goal.loop-i-preserved

@@ -1,5 +1,5 @@
 use Rattle.std.proofs.Common.{arith}
-use Rattle.assignment_steps.proofs.Joined.{one_more_with}
+use Rattle.assignment_steps.proofs.Members.{one_more_with}
 use Rattle.assignment_steps.proofs.other_links.join_mates.Goals as goal
 
 pub loop-a-preserved : goal.loop-a-preserved

@@ -1,5 +1,5 @@
 use Rattle.std.proofs.Common.{◌≡◌, ◌+◌, ◌∙◌, rules, arith}
-use Rattle.assignment_steps.proofs.StartFacts.{one_more_start}
+use Rattle.assignment_steps.proofs.Members.{one_more_start}
 use Rattle.assignment_steps.proofs.starts.starts_of.Goals as goal
 
 pub loop-a-preserved : goal.loop-a-preserved

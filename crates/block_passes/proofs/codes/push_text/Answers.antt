@@ -1,5 +1,5 @@
 use Rattle.std.proofs.Common.{◌++◌, ◌∙◌, [], ◌∷◌, ap, append_assoc, sym}
-use Rattle.block_passes.proofs.CodeLemmas.{unmarked}
+use Rattle.block_passes.proofs.ChainLemmas.{unmarked}
 use Rattle.block_passes.proofs.codes.push_text.Goals as goal
 
 pub returns : goal.returns

@@ -1,5 +1,4 @@
-use Rattle.std.proofs.Common.{◌≡◌, ◌++◌, ◌+◌, length}
-use Rattle.std.specs.Prelude.{All, ◌≤ℤ◌}
+use Rattle.std.proofs.Common.{◌≡◌, ◌++◌, ◌+◌, length, All, ◌≤ℤ◌}
 use Rattle.link_base.specs.declared.rule.Candidate.{Candidate}
 use Rattle.pair_decisions.specs.PairRule.{side_rule}
 use Rattle.pair_decisions.specs.Pairs.{IsInside}

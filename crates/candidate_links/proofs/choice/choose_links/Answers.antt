@@ -1,5 +1,4 @@
-use Rattle.std.proofs.Common.{◌≡◌, ◌∙◌, ℕ, List, ℤ, Result, Ok, Err, subst, ap, arith, length, pos, sym}
-use Rattle.std.specs.Prelude.{All, Contains, IfOk, ◌≤ℤ◌}
+use Rattle.std.proofs.Common.{◌≡◌, ◌∙◌, ℕ, List, ℤ, Result, Ok, Err, subst, ap, arith, length, pos, sym, All, Contains, IfOk, ◌≤ℤ◌}
 use Rattle.std.proofs.lemmas.List.{get_or_default}
 use Rattle.price_check.specs.Assignment.{Certifies, IsGreatest, greatest_value, price_of, worth}
 use Rattle.link_base.specs.declared.rule.Candidate.{Candidate}

@@ -1,5 +1,4 @@
-use Rattle.std.proofs.Common.{◌∙◌, List, ap, arith, length, rules, subst, sym, w64}
-use Rattle.std.specs.Prelude.{All, AllPairs, Contains, FitsSigned}
+use Rattle.std.proofs.Common.{◌∙◌, List, ap, arith, length, rules, subst, sym, w64, All, AllPairs, Contains, FitsSigned}
 use Rattle.std.proofs.lemmas.Int.{to_z-of_z}
 use Rattle.price_check.specs.Assignment.{IsBefore, worth}
 use Rattle.link_base.specs.declared.rule.Candidate.{Candidate}

@@ -1,5 +1,4 @@
-use Rattle.std.proofs.Common.{◌≡◌, ◌<◌, ◌∙◌, ℕ, ℤ, List, Result, Ok, Err, ap, length}
-use Rattle.std.specs.Prelude.{All, Contains, IfOk}
+use Rattle.std.proofs.Common.{◌≡◌, ◌<◌, ◌∙◌, ℕ, ℤ, List, Result, Ok, Err, ap, length, All, Contains, IfOk}
 use Rattle.std.proofs.lemmas.List.Elements.{All-contains, All-weaker}
 use Rattle.price_check.specs.Assignment.{IsWithin}
 use Rattle.price_check.specs.Capacities.{CertifiesWithin, IsGreatestWithin}

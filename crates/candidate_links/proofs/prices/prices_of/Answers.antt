@@ -1,7 +1,6 @@
-use Rattle.std.proofs.Common.{arith, rules, w64}
+use Rattle.std.proofs.Common.{arith, rules, w64, FitsSigned}
 use Rattle.std.proofs.lemmas.Int.{to_z-of_z}
-use Rattle.std.specs.Prelude.{FitsSigned}
-use Rattle.candidate_links.proofs.PriceLemmas.{all_prices, price_next}
+use Rattle.candidate_links.proofs.ListedLemmas.{all_prices, price_next}
 use Rattle.candidate_links.proofs.prices.prices_of.Goals as goal
 
 pub loop-at-preserved : goal.loop-at-preserved

@@ -6,8 +6,7 @@ use Rattle.link_base.specs.declared.fault.Fault.{Fault}
 use Rattle.file_reader.specs.Rows.{no_row}
 use Rattle.link_limits.specs.declared.TheConstants.{MOST_CAPACITY}
 use Rattle.candidate_links.specs.Capacities.{listed_capacity}
-use Rattle.candidate_links.proofs.ListedLemmas.{listed_more, unlisted}
-use Rattle.candidate_links.proofs.RowLemmas.{capacity_is, row_refused, row_told}
+use Rattle.candidate_links.proofs.ListedLemmas.{listed_more, unlisted, capacity_is, row_refused, row_told}
 use Rattle.candidate_links.proofs.reading.capacities_of.Goals as goal
 
 pub loop-at-init : goal.loop-at-init

@@ -1,6 +1,6 @@
 use Rattle.std.proofs.Common.{◌≡◌, ◌+◌, ◌-◌, sym, arith}
 use Rattle.assignment_steps.specs.Market.{IsStart, number}
-use Rattle.capacity_assign.proofs.Copies.{copies_of_equal, equal_back, starts_rise}
+use Rattle.capacity_assign.proofs.Final.{copies_of_equal, equal_back, starts_rise}
 use Rattle.capacity_assign.proofs.alike.are_alike.Goals as goal
 
 pub overflow_sub-starts : goal.overflow_sub-starts

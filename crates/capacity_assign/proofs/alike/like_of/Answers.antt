@@ -1,6 +1,6 @@
 use Rattle.std.proofs.Common.{◌≡◌, length, ap, ◌∙◌, arith}
 use Rattle.std.proofs.lemmas.List.{with_items_is}
-use Rattle.capacity_assign.proofs.Copies.{one_more_alike}
+use Rattle.capacity_assign.proofs.Final.{one_more_alike}
 use Rattle.capacity_assign.proofs.alike.like_of.Goals as goal
 
 pub loop-a-preserved : goal.loop-a-preserved

@@ -8,7 +8,7 @@ use Rattle.assignment_steps.specs.StoppedLaws.{done_kept, falls_within, root_don
 use Rattle.assignment_steps.specs.Spread.{spread}
 use Rattle.capacity_assign.specs.Growth.{growth, with_waiting}
 use Rattle.capacity_assign.specs.Seating.{HasPlace, seating}
-use Rattle.capacity_assign.proofs.Rounds.{between_after, between_any, tight_after}
+use Rattle.capacity_assign.proofs.Growing.{between_after, between_any, tight_after}
 use Rattle.capacity_assign.proofs.round.take_up.Goals as goal
 
 pub returns-then-has_link : goal.returns-then-has_link

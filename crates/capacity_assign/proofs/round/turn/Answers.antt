@@ -6,9 +6,8 @@ use Rattle.assignment_steps.specs.Market.{edge, link, number, AreLinked, AreTigh
 use Rattle.assignment_steps.specs.Ways.{LeadsBy}
 use Rattle.capacity_assign.specs.Core.{WalksBack}
 use Rattle.capacity_assign.specs.Seating.{HasHole, seating}
-use Rattle.capacity_assign.proofs.Links.{free_record_counts, linked_parted}
+use Rattle.capacity_assign.proofs.Links.{free_record_counts, linked_parted, hole_parted, places_after_added, places_after_parted, free_records_after_parted, seats_after_added, seats_after_parted, vacant_after_added}
 use Rattle.assignment_steps.specs.LinkLaws.{link-set}
-use Rattle.capacity_assign.proofs.Seating.{hole_parted, places_after_added, places_after_parted, free_records_after_parted, seats_after_added, seats_after_parted, vacant_after_added}
 use Rattle.assignment_steps.specs.WaysLaws.{leads_parted}
 use Rattle.capacity_assign.proofs.round.turn.Goals as goal
 

@@ -3,7 +3,7 @@ use Rattle.std.proofs.Math.Seq.{drop-cons}
 use Rattle.std.specs.Char.{is_ascii_digit}
 use Rattle.std.specs.List.{list_all}
 use Rattle.csv_rows.specs.Numbers.{number_after, number_in}
-use Rattle.csv_rows.proofs.NumberLemmas.{beyond, number_after_least}
+use Rattle.csv_rows.proofs.Lemmas.{beyond, number_after_least}
 use Rattle.csv_rows.proofs.numbers.number_in_digits.Goals as goal
 
 pub returns-then-number-most-clause-some : goal.returns-then-number-most-clause-some

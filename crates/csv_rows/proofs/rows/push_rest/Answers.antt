@@ -1,4 +1,4 @@
-use Rattle.csv_rows.proofs.RowLemmas.{at_end, rest_more}
+use Rattle.csv_rows.proofs.Lemmas.{at_end, rest_more}
 use Rattle.csv_rows.proofs.rows.push_rest.Goals as goal
 
 pub loop-field-preserved : goal.loop-field-preserved

@@ -1,4 +1,4 @@
-use Rattle.csv_rows.proofs.RowLemmas.{row_written}
+use Rattle.csv_rows.proofs.Lemmas.{row_written}
 use Rattle.csv_rows.proofs.rows.push_row.Goals as goal
 
 pub returns : goal.returns

@@ -1,11 +1,12 @@
 use Rattle.std.proofs.Common.{◌/◌, ◌<◌, ◌≤◌, arith, refl, ap, ◌∙◌, get_or, take, length}
 use Rattle.std.proofs.Math.Seq.{map-set_same}
 use Rattle.std.proofs.lemmas.List.{take_more_set}
+use Rattle.std.proofs.lemmas.List.Elements.{AllWithin-more_set}
 use Rattle.decision_rule.specs.Filled.{chances_of}
 use Rattle.link_base.specs.declared.rule.RuleCell.{RuleCell}
 use Rattle.link_base.specs.Rule.{empty_cell}
 use Rattle.decision_rule.specs.FilledLaws.{same_length, same_at}
-use Rattle.decision_rule.proofs.CutSteps.{walk_step, bound_step, links_cut}
+use Rattle.decision_rule.proofs.Lemmas.{walk_step, links_cut}
 use Rattle.decision_rule.proofs.cuts.cut_links.Goals as goal
 
 pub give-share-requires : goal.give-share-requires
@@ -25,7 +26,7 @@ loop-i-preserved c =
     let w = walk_step (λ (c : RuleCell). c.link) (λ (c : RuleCell). 65536) (λ (c : RuleCell). c.u) (take i cells) new (c.args.asked / 1000000) c.loop-i.room c.give-share.result.1 c.loop-i.invariant.cut c.loop-i.invariant.room c.give-share.ensures.share c.give-share.ensures.left in
     record {
       chances = map-set_same chances_of cells i new empty_cell refl ∙ c.loop-i.invariant.chances;
-      bound = bound_step (λ (c : RuleCell). c.link ≤ 65536) cells i new there c.loop-i.invariant.bound (omega (arith, c.give-share.ensures.share));
+      bound = AllWithin-more_set cells i new there (λ (c : RuleCell). c.link ≤ 65536) c.loop-i.invariant.bound (omega (arith, c.give-share.ensures.share));
       cut = rw (take_more_set cells i new there) w.0;
       room = rw (take_more_set cells i new there) w.1;
     }

@@ -1,11 +1,11 @@
 use Rattle.std.proofs.Common.{◌≡◌, ◌+◌, ◌-◌, ◌/◌, ◌<◌, ◌≤◌, arith, refl, ap, ◌∙◌, get_or, drop, set, length, reverse, [], ◌∷◌, ◌++◌}
 use Rattle.std.proofs.Math.Seq.{map-set_same}
-use Rattle.std.proofs.lemmas.List.{drop-set, length-set}
+use Rattle.std.proofs.lemmas.List.{drop-set, length-set, reverse-append}
 use Rattle.decision_rule.specs.Filled.{chances_of}
 use Rattle.link_base.specs.declared.rule.RuleCell.{RuleCell}
 use Rattle.link_base.specs.Rule.{empty_cell}
 use Rattle.decision_rule.specs.FilledLaws.{same_length, same_at}
-use Rattle.decision_rule.proofs.CutSteps.{walk_step, bound_step_down, nonlinks_cut, reverse-cons}
+use Rattle.decision_rule.proofs.Lemmas.{walk_step, bound_step_down, nonlinks_cut}
 use Rattle.decision_rule.proofs.cuts.cut_nonlinks.Goals as goal
 
 pub overflow_sub-cell : goal.overflow_sub-cell
@@ -36,7 +36,7 @@ loop-i-preserved c =
     let links = c.requires.links i empty_cell (omega (arith, there, same_length chances_of cells c.args.cells.now c.loop-i.invariant.chances)) in
     let w = walk_step (λ (c : RuleCell). c.nonlink) (λ (c : RuleCell). 65536 - c.link) (λ (c : RuleCell). c.m) (reverse (drop c.loop-i.i cells)) new (c.args.asked / 1000000) c.loop-i.room c.give-share.result.1 c.loop-i.invariant.cut c.loop-i.invariant.room c.give-share.ensures.share c.give-share.ensures.left in
     let done : reverse (drop i (set cells i new)) ≡ reverse (drop c.loop-i.i cells) ++ new ∷ [] =
-    ap reverse (drop-set cells i new there) ∙ reverse-cons new (drop (i + 1) cells) ∙ ap (λ n. reverse (drop n cells) ++ new ∷ []) one in
+    ap reverse (drop-set cells i new there) ∙ reverse-append (new ∷ []) (drop (i + 1) cells) ∙ ap (λ n. reverse (drop n cells) ++ new ∷ []) one in
     record {
       in_table = omega (arith, length-set cells i new);
       chances = map-set_same chances_of cells i new empty_cell refl ∙ c.loop-i.invariant.chances;

@@ -1,5 +1,4 @@
-use Rattle.std.proofs.Common.{◌≡◌, ◌*◌, ◌^◌, ◌≤◌, ◌<◌, drop}
-use Rattle.std.specs.Prelude.{◌+ℤ◌, ◌-ℤ◌, ◌≤ℤ◌, pos}
+use Rattle.std.proofs.Common.{◌≡◌, ◌*◌, ◌^◌, ◌≤◌, ◌<◌, drop, ◌+ℤ◌, ◌-ℤ◌, ◌≤ℤ◌, pos}
 use Rattle.patterns.specs.Chances.{pattern_count_of, m_of, u_of, weight_of}
 use Rattle.decision_rule.proofs.fill.cell_of.Given as goal
 

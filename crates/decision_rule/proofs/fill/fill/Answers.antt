@@ -1,6 +1,6 @@
 use Rattle.std.proofs.Common.{arith, rules}
 use Rattle.patterns.specs.ChanceLaws.{pattern_count_small}
-use Rattle.decision_rule.proofs.FillLemmas.{filled_all}
+use Rattle.decision_rule.proofs.Lemmas.{filled_all}
 use Rattle.decision_rule.proofs.fill.fill.Goals as goal
 
 pub overflow_cast-i : goal.overflow_cast-i

@@ -1,6 +1,6 @@
 use Rattle.std.proofs.Common.{arith}
 use Rattle.std.proofs.Math.Nat.{one-le-pow}
-use Rattle.decision_rule.proofs.SumLemmas.{total_small}
+use Rattle.decision_rule.proofs.Lemmas.{total_small}
 use Rattle.decision_rule.proofs.unit.denominator.Goals as goal
 
 pub pow-requires : goal.pow-requires

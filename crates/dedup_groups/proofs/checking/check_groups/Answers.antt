@@ -1,8 +1,7 @@
 use Rattle.std.proofs.Common.{length, ap, ◌∙◌}
 use Rattle.dedup_groups.specs.Adjacency.{both_ways}
 use Rattle.dedup_groups.specs.Groups.{group_lists}
-use Rattle.dedup_groups.proofs.CheckLemmas.{forest_from, rooted_near}
-use Rattle.dedup_groups.proofs.NearLemmas.{length_near}
+use Rattle.dedup_groups.proofs.ForestLemmas.{forest_from, rooted_near, length_near}
 use Rattle.dedup_groups.proofs.checking.check_groups.Goals as goal
 
 pub are_rooted-requires-clause-near : goal.are_rooted-requires-clause-near

@@ -3,9 +3,6 @@ use Rattle.std.proofs.lemmas.Bool.{cases_eq, false≢true}
 use Rattle.std.proofs.lemmas.List.{get_or_default}
 use Rattle.dedup_groups.proofs.checking.have_one_leader.Goals as goal
 
-pub loop-link-init : goal.loop-link-init
-loop-link-init c = λ k d lt. absurd (omega (arith, lt))
-
 pub returns-then-leader-link : goal.returns-then-leader-link
 returns-then-leader-link c = (λ yes. absurd (false≢true yes), λ all. absurd (c.if-leader-link.true (all c.loop-link.link-index (record { a = 0; b = 0 }) c.loop-link-test.true)))
 

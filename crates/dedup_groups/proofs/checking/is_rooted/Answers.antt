@@ -1,8 +1,7 @@
-use Rattle.std.proofs.Common.{◌≡◌, ◌<◌, None, Some, eqb, sym, ◌∙◌, arith}
-use Rattle.std.specs.Prelude.{slice_index}
+use Rattle.std.proofs.Common.{◌≡◌, ◌<◌, None, Some, eqb, sym, ◌∙◌, arith, slice_index}
 use Rattle.std.proofs.lemmas.Bool.{eq-eqb, eqb-true, false≢true}
 use Rattle.std.proofs.lemmas.List.Folds.{Any-from_list_any, list_any_at}
-use Rattle.dedup_groups.proofs.CheckLemmas.{named_deep, reached_from}
+use Rattle.dedup_groups.proofs.ForestLemmas.{named_deep, reached_from}
 use Rattle.dedup_groups.proofs.checking.is_rooted.Goals as goal
 
 pub returns-then-leader-at : goal.returns-then-leader-at

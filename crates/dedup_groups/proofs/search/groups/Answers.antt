@@ -1,27 +1,26 @@
 use Rattle.std.proofs.Common.{length, ap, ◌∙◌, arith}
 use Rattle.dedup_groups.specs.Adjacency.{both_ways}
 use Rattle.dedup_groups.specs.Trees.{lists_of}
-use Rattle.dedup_groups.proofs.ForestLemmas.{leaders_of_forest, rows_kept}
-use Rattle.dedup_groups.proofs.NearLemmas.{are_neighbours, length_near}
+use Rattle.dedup_groups.proofs.ForestLemmas.{leaders_of_forest, rows_kept, are_neighbours, length_near}
 use Rattle.dedup_groups.proofs.SearchLemmas.{forest_found}
 use Rattle.dedup_groups.proofs.search.groups.Goals as goal
 
-pub trees_of-trees-requires : goal.trees_of-trees-requires
-trees_of-trees-requires c = record {
+pub trees_of-requires : goal.trees_of-requires
+trees_of-requires c = record {
   neighbours = rw c.in_ok-near.ensures (are_neighbours c.args.rows c.args.links.now c.requires.within);
   rows = ap length c.in_ok-near.ensures ∙ length_near c.args.rows (both_ways c.args.links.now);
   few = c.requires.few_rows;
 }
 
-pub groups_in-requires : goal.groups_in-requires
-groups_in-requires c =
-    let forest = forest_found c.args.rows c.args.links.now (lists_of c.in-Ok.trees) c.requires.within (rw c.in_ok-near.ensures at c.in-Ok.ensures) in
-    rows_kept c.args.rows c.args.links.now (lists_of c.in-Ok.trees) c.requires.within forest (omega arith)
+pub of-requires : goal.of-requires
+of-requires c =
+    let forest = forest_found c.args.rows c.args.links.now (lists_of c.in_ok-trees.trees) c.requires.within (rw c.in_ok-near.ensures at c.in_ok-trees.ensures) in
+    rows_kept c.args.rows c.args.links.now (lists_of c.in_ok-trees.trees) c.requires.within forest (omega arith)
 
-pub returns-in-Ok : goal.returns-in-Ok
-returns-in-Ok c =
-    let forest = forest_found c.args.rows c.args.links.now (lists_of c.in-Ok.trees) c.requires.within (rw c.in_ok-near.ensures at c.in-Ok.ensures) in
+pub returns : goal.returns
+returns c =
+    let forest = forest_found c.args.rows c.args.links.now (lists_of c.in_ok-trees.trees) c.requires.within (rw c.in_ok-near.ensures at c.in_ok-trees.ensures) in
     record {
-      forest = rw c.groups_in.ensures forest;
-      leaders = rw c.groups_in.ensures (leaders_of_forest c.args.rows c.args.links.now (lists_of c.in-Ok.trees) c.requires.within forest);
+      forest = rw c.of.ensures forest;
+      leaders = rw c.of.ensures (leaders_of_forest c.args.rows c.args.links.now (lists_of c.in_ok-trees.trees) c.requires.within forest);
     }

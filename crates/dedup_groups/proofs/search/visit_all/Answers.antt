@@ -1,62 +1,50 @@
-use Rattle.std.proofs.Common.{◌≡◌, ◌∙◌, refl, sym, ap, inl, inr, arith, []}
-use Rattle.std.proofs.lemmas.Bool.{cases_eq}
-use Rattle.std.specs.Prelude.{slice_index, slice_index_or}
-use Rattle.std.proofs.lemmas.List.{get_or_default, get_or_read}
-use Rattle.dedup_groups.specs.Groups.{leader_of}
+use Rattle.std.proofs.Common.{◌∙◌, refl, sym, ap, arith, slice_index}
+use Rattle.std.proofs.lemmas.List.{get_or_read}
+use Rattle.dedup_groups.specs.Groups.{depth_of}
 use Rattle.dedup_groups.specs.Trees.{lists_of}
-use Rattle.dedup_groups.proofs.SearchLemmas.{search_more}
+use Rattle.dedup_groups.proofs.SearchLemmas.{all_visited, head_within, visit_passed, visit_reached}
 use Rattle.dedup_groups.proofs.search.visit_all.Goals as goal
-
-pub returns-clause-search : goal.returns-clause-search
-returns-clause-search c =
-    let queue = c.args.trees.now.queue.items in
-    let from = get_or_read queue c.args.done c.index.result.now c.requires.done c.index.ensures 0 in
-    let heads = c.heads-heads.ensures ∙ ap (λ x. slice_index_or c.args.near.now x []) (from ∙ sym c.loop-at.invariant.from) in
-    search_more c.args.near.now (lists_of c.loop-at.trees) c.loop-at.trees.queue.items c.args.done c.args.leader c.loop-at.invariant.search
-    (λ y h.
-    let near = rw (← heads) at h in
-    let is : slice_index c.heads-heads.result.now near.0 ≡ y = get_or_default c.heads-heads.result.now near.0 0 y near.1 ∙ near.2 in
-    let told = c.loop-at.invariant.told near.0 (omega (arith, near.1, c.loop-at-test.false)) in
-    ap (leader_of (lists_of c.loop-at.trees)) (sym is) ∙ told)
+use Rattle.dedup_groups.proofs.search.visit_all.Goals.{then-index-leader+in_ok-reach, else-index-leader}
 
 pub heads-heads-requires : goal.heads-heads-requires
 heads-heads-requires c =
-    let from = get_or_read c.args.trees.now.queue.items c.args.done c.index.result.now c.requires.done c.index.ensures 0 in
+    let from = get_or_read c.args.trees.now.queue.items c.args.done c.index-from.result.now c.requires.done c.index-from.ensures 0 in
     rw from (c.requires.search.reached c.args.done c.requires.done).0
 
 pub loop-at-init : goal.loop-at-init
-loop-at-init c = record { search = c.requires.search; done = c.requires.done; from = refl; told = λ k lt. absurd (omega (arith, lt)); room = refl }
+loop-at-init c = record {
+  search = c.requires.search;
+  within = c.requires.done;
+  first = sym (get_or_read c.args.trees.now.queue.items c.args.done c.index-from.result.now c.requires.done c.index-from.ensures 0);
+  told = λ k lt. absurd (omega (arith, lt));
+  kept = refl;
+}
 
-pub visit-requires : goal.visit-requires
-visit-requires c =
-    let i = c.loop-at.invariant in
-    let from = get_or_read c.args.trees.now.queue.items c.args.done c.index.result.now c.requires.done c.index.ensures 0 in
-    let heads = c.heads-heads.ensures ∙ ap (λ x. slice_index_or c.args.near.now x []) (from ∙ sym i.from) in
+pub index-requires : goal.index-requires
+index-requires c = (let within = head_within _ _ _ _ _ _ _ _ _ c.requires.neighbours c.loop-at.invariant c.heads-heads.ensures c.loop-at-test.true in omega arith)
+
+pub reach-requires : goal.reach-requires
+reach-requires c =
+    let v = c.loop-at.invariant in
+    let rows = v.search.rows in
+    let first = v.search.reached c.args.done v.within in
     record {
-      neighbours = c.requires.neighbours;
-      search = i.search;
-      done = i.done;
-      near_at = rw (← heads) (c.loop-at.at-index, c.loop-at-test.true, get_or_default c.heads-heads.result.now c.loop-at.at-index _ 0 c.loop-at-test.true);
-      room = rw i.room c.requires.room;
+      rows = record { leaders = refl; vias = rows.vias ∙ sym rows.leaders; depths = rows.depths ∙ sym rows.leaders };
+      at = head_within _ _ _ _ _ _ _ _ _ c.requires.neighbours v c.heads-heads.ensures c.loop-at-test.true;
+      from = rw (← v.first) (omega (arith, first.0, rows.leaders));
+      depth = omega (arith, ap (depth_of (lists_of c.loop-at.trees)) v.first, first.2, v.within, v.kept, c.requires.room);
     }
 
 pub loop-at-preserved : goal.loop-at-preserved
 loop-at-preserved c =
-    let i = c.loop-at.invariant in
-    let e = c.in_ok-visit.ensures in
-    record {
-      search = e.search;
-      done = omega (arith, i.done, e.longer);
-      from = e.queue c.args.done i.done ∙ i.from;
-      told = λ k low. elim (cases_eq k c.loop-at.at-index) [
-        | inl same ↦ rw same e.reached
-        | inr other ↦ e.kept (slice_index c.heads-heads.result.now k) (i.told k (omega (arith, low, other)))
-      ];
-      room = e.room ∙ i.room;
-    }
+    let v = c.loop-at.invariant in
+    let leaders = c.loop-at.trees.leaders.items in
+    let within = head_within _ _ _ _ _ _ _ _ _ c.requires.neighbours v c.heads-heads.ensures c.loop-at-test.true in
+    let is = get_or_read leaders (slice_index c.heads-heads.result.now c.loop-at.at-index) c.index.result.now within c.index.ensures 0 in
+    elim c.if-index-leader.branch [
+      | then-index-leader+in_ok-reach w ↦ rw w.trees-is (visit_reached _ _ _ _ _ _ _ _ _ c.requires.neighbours v c.heads-heads.ensures c.loop-at-test.true _ _ (omega (arith, is, w.if-index-leader.true)) w.in_ok-reach.ensures.lists w.in_ok-reach.ensures.queue)
+      | else-index-leader w ↦ rw w.trees-is (visit_passed _ _ _ _ _ _ _ _ _ c.requires.neighbours v c.heads-heads.ensures c.loop-at-test.true (omega (arith, is, w.if-index-leader.false)))
+    ]
 
-pub returns-clause-done : goal.returns-clause-done
-returns-clause-done c = c.loop-at.invariant.done
-
-pub returns-clause-room : goal.returns-clause-room
-returns-clause-room c = c.loop-at.invariant.room
+pub returns-clause-search : goal.returns-clause-search
+returns-clause-search c = all_visited _ _ _ _ _ _ _ _ _ c.requires.neighbours c.loop-at.invariant c.heads-heads.ensures c.loop-at-test.false

@@ -1,8 +1,7 @@
-use Rattle.std.proofs.Common.{◌≡◌, ℕ, ◌<◌, ◌∙◌, List, [], ap, length, arith}
-use Rattle.std.specs.Prelude.{slice_index_or}
+use Rattle.std.proofs.Common.{◌≡◌, ℕ, ◌<◌, ◌∙◌, List, [], ap, length, arith, slice_index_or}
 use Rattle.dedup_groups.specs.Adjacency.{adjacency_of, arcs_of_leaders}
 use Rattle.dedup_groups.specs.GroupsText.{members}
-use Rattle.dedup_groups.proofs.NearLemmas.{length_near, near_is}
+use Rattle.dedup_groups.proofs.ForestLemmas.{length_near, near_is}
 use Rattle.dedup_groups.proofs.TextLemmas.{few_printed, heads_are_members, members_within, number_next, rows_next}
 use Rattle.dedup_groups.proofs.writing.push_groups.Goals as goal
 

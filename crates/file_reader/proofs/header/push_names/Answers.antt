@@ -1,5 +1,5 @@
 use Rattle.std.proofs.Common.{arith}
-use Rattle.file_reader.proofs.MoreFacts.{taken_more}
+use Rattle.file_reader.proofs.FindFacts.{taken_more}
 use Rattle.file_reader.proofs.header.push_names.Goals as goal
 
 pub loop-name-preserved : goal.loop-name-preserved

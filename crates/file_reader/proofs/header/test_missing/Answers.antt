@@ -1,5 +1,4 @@
-use Rattle.std.proofs.Common.{◌∙◌, ap, arith, sym}
-use Rattle.std.specs.Prelude.{◌==◌}
+use Rattle.std.proofs.Common.{◌∙◌, ap, arith, sym, ◌==◌}
 use Rattle.csv.specs.Records.{fields_of}
 use Rattle.link_base.specs.declared.fault.Fault.TheVariants as fault
 use Rattle.file_reader.specs.Layout.{count_in}

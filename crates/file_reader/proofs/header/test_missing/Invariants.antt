@@ -1,5 +1,4 @@
-use Rattle.std.proofs.Common.{◌≡◌, drop}
-use Rattle.std.specs.Prelude.{find, ◌==◌}
+use Rattle.std.proofs.Common.{◌≡◌, drop, find, ◌==◌}
 use Rattle.csv.specs.Records.{fields_of}
 use Rattle.file_reader.specs.Layout.{count_in}
 use Rattle.file_reader.proofs.header.test_missing.Given as goal

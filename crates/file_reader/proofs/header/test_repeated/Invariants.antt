@@ -1,5 +1,4 @@
-use Rattle.std.proofs.Common.{◌≡◌, drop}
-use Rattle.std.specs.Prelude.{find, nat_lt}
+use Rattle.std.proofs.Common.{◌≡◌, drop, find, nat_lt}
 use Rattle.csv.specs.Records.{fields_of}
 use Rattle.file_reader.specs.Layout.{count_in}
 use Rattle.file_reader.proofs.header.test_repeated.Given as goal

@@ -1,5 +1,5 @@
 use Rattle.std.proofs.Common.{[], arith}
-use Rattle.file_reader.proofs.MoreFacts.{made_more}
+use Rattle.file_reader.proofs.FindFacts.{made_more}
 use Rattle.file_reader.proofs.layout.columns_of.Goals as goal
 
 pub loop-name-preserved : goal.loop-name-preserved

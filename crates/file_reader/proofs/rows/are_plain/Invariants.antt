@@ -1,5 +1,4 @@
-use Rattle.std.proofs.Common.{◌≡◌, drop, length}
-use Rattle.std.specs.Prelude.{find, nat_lt, not}
+use Rattle.std.proofs.Common.{◌≡◌, drop, length, find, nat_lt, not}
 use Rattle.std.specs.Str.{is_utf8}
 use Rattle.csv.specs.Records.{fields_of}
 use Rattle.link_limits.specs.declared.TheConstants.{MOST_FIELD_BYTES}

@@ -6,7 +6,7 @@ use Rattle.file_reader.specs.Rows.{with_ids}
 use Rattle.file_reader.specs.Table.{IsFieldText}
 use Rattle.file_reader.proofs.ReadFacts.{one_too_many, refuses}
 use Rattle.file_reader.specs.RowLaws.{length_with}
-use Rattle.file_reader.proofs.TakerFacts.{all_taken, fields_texts, underway_more}
+use Rattle.file_reader.proofs.RowFacts.{all_taken, fields_texts, underway_more}
 use Rattle.file_reader.proofs.rows.fill_rows.Goals as goal
 
 pub returns-then-rows-head : goal.returns-then-rows-head

@@ -1,10 +1,9 @@
-use Rattle.std.specs.Prelude.{is_some}
-use Rattle.std.proofs.Common.{◌∙◌, ap, sym, Ok}
+use Rattle.std.proofs.Common.{◌∙◌, ap, sym, Ok, is_some}
 use Rattle.file_reader.specs.Left.{records_in}
 use Rattle.file_reader.specs.Layout.{wanted_of}
 use Rattle.file_reader.specs.Table.{table_of}
 use Rattle.file_reader.specs.Takers.{HasCells}
-use Rattle.file_reader.proofs.TakerFacts.{table_taken, taken_ids}
+use Rattle.file_reader.proofs.RowFacts.{table_taken, taken_ids}
 use Rattle.file_reader.specs.TableLaws.{table_sound}
 use Rattle.file_reader.proofs.rows.read_table.Goals as goal
 

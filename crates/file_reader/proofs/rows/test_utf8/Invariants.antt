@@ -1,5 +1,4 @@
-use Rattle.std.proofs.Common.{◌≡◌, drop}
-use Rattle.std.specs.Prelude.{find, not}
+use Rattle.std.proofs.Common.{◌≡◌, drop, find, not}
 use Rattle.std.specs.Str.{is_utf8}
 use Rattle.csv.specs.Records.{fields_of}
 use Rattle.file_reader.specs.Layout.{cell}

@@ -1,5 +1,5 @@
 use Rattle.std.proofs.Common.{refl, sym, ◌∙◌}
-use Rattle.host_outside.proofs.States.{on_false, on_true, other_state, same_state}
+use Rattle.host_outside.proofs.Lemmas.{on_false, on_true, other_state, same_state}
 use Rattle.host_outside.proofs.loads.fits.Goals as goal
 
 pub returns-then-is_of-clause-fits : goal.returns-then-is_of-clause-fits

@@ -1,5 +1,4 @@
-use Rattle.std.proofs.Common.{◌≢◌, take}
-use Rattle.std.specs.Prelude.{All}
+use Rattle.std.proofs.Common.{◌≢◌, take, All}
 use Rattle.host_outside.specs.declared.loads.Loaded.{Loaded}
 use Rattle.host_outside.proofs.loads.is_loaded.Given as goal
 

@@ -1,7 +1,6 @@
 use Rattle.std.proofs.Common.{get_or, refl, rules}
 use Rattle.host_outside.specs.HostFile.{IsFolderOf}
-use Rattle.host_outside.proofs.Pushed.{holds_pushed}
-use Rattle.host_outside.proofs.States.{folder_of_state}
+use Rattle.host_outside.proofs.Lemmas.{holds_pushed, folder_of_state}
 use Rattle.host_outside.proofs.locked_folders.locked.Goals as goal
 
 pub returns-in-Some-clause-same : goal.returns-in-Some-clause-same

@@ -1,5 +1,5 @@
 use Rattle.std.proofs.Common.{arith, rules}
-use Rattle.host_outside.proofs.Names.{split_at_last}
+use Rattle.host_outside.proofs.Lemmas.{split_at_last}
 use Rattle.host_outside.proofs.places.folder_of.Goals as goal
 
 pub returns-in-None : goal.returns-in-None

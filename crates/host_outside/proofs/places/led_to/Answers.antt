@@ -1,5 +1,5 @@
 use Rattle.std.proofs.Common.{arith, rules}
-use Rattle.host_outside.proofs.Names.{split_at_last}
+use Rattle.host_outside.proofs.Lemmas.{split_at_last}
 use Rattle.host_outside.proofs.places.led_to.Goals as goal
 
 pub returns-in-Some : goal.returns-in-Some

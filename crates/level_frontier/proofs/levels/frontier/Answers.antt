@@ -1,6 +1,6 @@
 use Rattle.std.proofs.Common.{arith}
 use Rattle.std.proofs.lemmas.List.{length-set}
-use Rattle.level_frontier.proofs.RowLemmas.{row_step, rows_fall, row_near}
+use Rattle.level_frontier.proofs.Lemmas.{row_step, rows_fall, row_near}
 use Rattle.level_frontier.proofs.levels.frontier.Goals as goal
 
 pub loop-k-preserved : goal.loop-k-preserved

@@ -1,6 +1,6 @@
 use Rattle.std.proofs.Common.{Some, None}
 use Rattle.std.proofs.lemmas.Option.{slice_get_within}
-use Rattle.link_base.proofs.IdFacts.{found_at_place, new_if_none}
+use Rattle.link_base.proofs.RegionFacts.{found_at_place, new_if_none}
 use Rattle.link_base.proofs.ids.find_in_pool.Goals as goal
 
 pub returns-in-Some-clause-position : goal.returns-in-Some-clause-position

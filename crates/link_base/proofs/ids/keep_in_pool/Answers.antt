@@ -1,5 +1,5 @@
 use Rattle.std.proofs.Common.{arith}
-use Rattle.link_base.proofs.IdFacts.{kept_last, kept_there}
+use Rattle.link_base.proofs.RegionFacts.{kept_last, kept_there}
 use Rattle.link_base.proofs.ids.keep_in_pool.Goals as goal
 
 pub returns-then-place-held-clause-keeps : goal.returns-then-place-held-clause-keeps

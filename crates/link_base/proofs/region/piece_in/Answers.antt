@@ -1,5 +1,4 @@
-use Rattle.std.proofs.Common.{◌∙◌, ap, sym}
-use Rattle.std.specs.Prelude.{slice_index, slice_range}
+use Rattle.std.proofs.Common.{◌∙◌, ap, sym, slice_index, slice_range}
 use Rattle.link_base.proofs.RegionFacts.{piece_at}
 use Rattle.link_base.proofs.region.piece_in.Goals as goal
 

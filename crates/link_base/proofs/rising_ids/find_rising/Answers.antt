@@ -1,5 +1,5 @@
 use Rattle.std.proofs.Common.{◌∙◌, ◌+◌, ◌-◌, ◌/◌, ap, arith, sym}
-use Rattle.link_base.proofs.IdFacts.{new_if_none}
+use Rattle.link_base.proofs.RegionFacts.{new_if_none}
 use Rattle.link_base.proofs.RisingFacts.{above_middle, below_middle, place_found, place_none}
 use Rattle.link_base.specs.RisingIds.{comes_before}
 use Rattle.link_base.proofs.rising_ids.find_rising.Goals as goal

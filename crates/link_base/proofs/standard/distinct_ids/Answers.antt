@@ -1,4 +1,4 @@
-use Rattle.link_base.proofs.RecordFacts.{distinct_of}
+use Rattle.link_base.proofs.RisingFacts.{distinct_of}
 use Rattle.link_base.proofs.standard.distinct_ids.Goals as goal
 
 pub returns : goal.returns

@@ -4,7 +4,7 @@ use Rattle.block_passes.specs.NumberingLaws.{given_more, numbered_more}
 use Rattle.file_reader.specs.Rows.{no_row}
 use Rattle.link_core.specs.ColumnPairs.{first_field, present}
 use Rattle.link_core.specs.ColumnRows.{compared_field}
-use Rattle.link_core.proofs.PlaceLemmas.{field_short, kept_on}
+use Rattle.link_core.proofs.RuleLemmas.{field_short, kept_on}
 use Rattle.link_core.proofs.column_rows.number_column.Goals as goal
 
 pub loop-at-preserved : goal.loop-at-preserved

@@ -1,5 +1,4 @@
-use Rattle.std.proofs.Common.{◌≡◌, ◌≤◌, ◌∙◌, ℕ, ap, List, map, subst, sym, length}
-use Rattle.std.specs.Prelude.{All}
+use Rattle.std.proofs.Common.{◌≡◌, ◌≤◌, ◌∙◌, ℕ, ap, List, map, subst, sym, length, All}
 use Rattle.comparators.specs.declared.ids.IdValue.{IdValue}
 use Rattle.link_limits.specs.declared.TheConstants.{MOST_ROWS}
 use Rattle.standard_files.specs.Ready.{AreFileSides}
@@ -8,7 +7,7 @@ use Rattle.link_core.specs.Decisions.{rule_over}
 use Rattle.link_core.specs.Prepared.{kinds_of}
 use Rattle.link_core.specs.Rules.{shared_rares}
 use Rattle.link_base.specs.declared.rule.RuleCell.{RuleCell}
-use Rattle.link_core.proofs.ValueLemmas.{patterns_are}
+use Rattle.link_core.proofs.ResultLemmas.{patterns_are, if_ok}
 use Rattle.pair_decisions.specs.FieldComparators.{pattern_of_pair}
 use Rattle.pair_decisions.specs.PairRule.{AreCellsOf, AreSidesFor, IsRuleOver, PairRuleView, pattern_over, side_rule}
 use Rattle.patterns.specs.Shapes.{pattern_count_by}
@@ -17,7 +16,6 @@ use Rattle.pair_decisions.specs.PlanRule.{IsRuleOf}
 use Rattle.pair_decisions.specs.PlanShares.{plain_all}
 use Rattle.pair_decisions.specs.TheRule.{the_rule}
 use Rattle.link_plan.specs.Plan.{PlainShares}
-use Rattle.link_core.proofs.ResultLemmas.{if_ok}
 use Rattle.link_core.proofs.decisions.rule_for.Goals as goal
 
 pub rule_of_shares-requires : goal.rule_of_shares-requires

@@ -1,5 +1,4 @@
-use Rattle.std.proofs.Common.{◌≡◌, ◌≤◌, length, take}
-use Rattle.std.specs.Prelude.{All}
+use Rattle.std.proofs.Common.{◌≡◌, ◌≤◌, length, take, All}
 use Rattle.dedup_groups.specs.Groups.{IsLinkWithin}
 use Rattle.link_core.specs.Duplicates.{links_within}
 use Rattle.link_core.proofs.duplicates.links_within.Given as goal

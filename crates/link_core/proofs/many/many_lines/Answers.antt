@@ -1,5 +1,4 @@
-use Rattle.std.proofs.Common.{◌<◌, ◌≡◌, ◌++◌, ◌∙◌, ℕ, List, ap, length, subst, sym}
-use Rattle.std.specs.Prelude.{All}
+use Rattle.std.proofs.Common.{◌<◌, ◌≡◌, ◌++◌, ◌∙◌, ℕ, List, ap, length, subst, sym, All}
 use Rattle.price_check.specs.Capacities.{CertifiesWithin, IsGreatestWithin}
 use Rattle.capacity_assign.specs.Solution.{IsAllowedCapacity}
 use Rattle.link_base.specs.Standard.{Record}

@@ -1,5 +1,4 @@
-use Rattle.std.proofs.Common.{◌++◌, ◌∙◌, ap, map, refl}
-use Rattle.std.specs.Prelude.{string_bytes}
+use Rattle.std.proofs.Common.{◌++◌, ◌∙◌, ap, map, refl, string_bytes}
 use Rattle.link_core.specs.NameKeys.{keys_line, keys_text}
 use Rattle.link_core.proofs.StepLemmas.{line_more, line_none}
 use Rattle.link_core.proofs.name_keys.lines_of.Goals as goal

@@ -1,11 +1,10 @@
-use Rattle.std.proofs.Common.{◌≡◌, ◌∙◌, List, ap, length, subst, sym}
-use Rattle.std.specs.Prelude.{All}
+use Rattle.std.proofs.Common.{◌≡◌, ◌∙◌, List, ap, length, subst, sym, All}
 use Rattle.link_base.specs.Standard.{Record}
 use Rattle.link_base.specs.declared.rule.PairAt.{PairAt}
 use Rattle.pair_decisions.specs.Pairs.{IsInside}
 use Rattle.pair_walk.specs.Pairs.{pairs_of_rows}
 use Rattle.link_core.specs.Results.{compared_in}
-use Rattle.link_core.proofs.BlockLemmas.{pairs_inside, walked_pairs}
+use Rattle.link_core.proofs.StepLemmas.{pairs_inside, walked_pairs}
 use Rattle.link_core.proofs.pairs.pair_ids.Goals as goal
 
 pub ids_of_rows-requires-clause-inside : goal.ids_of_rows-requires-clause-inside

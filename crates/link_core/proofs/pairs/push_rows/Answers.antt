@@ -1,7 +1,6 @@
-use Rattle.std.proofs.Common.{◌<◌, ℕ, List, arith, length, subst, sym}
-use Rattle.std.specs.Prelude.{All}
+use Rattle.std.proofs.Common.{◌<◌, ℕ, List, arith, length, subst, sym, All}
 use Rattle.link_report.specs.Lines.{ids_line}
-use Rattle.link_core.proofs.PairLemmas.{lines_more, row_in_a, row_in_b}
+use Rattle.link_core.proofs.StepLemmas.{lines_more, row_in_a, row_in_b}
 use Rattle.pair_walk.specs.RowLaws.{count_more, rest_holds, row_holds}
 use Rattle.pair_decisions.specs.Pairs.{IsInside}
 use Rattle.pair_walk.specs.Next.{GivesRow}

@@ -1,11 +1,10 @@
-use Rattle.std.proofs.Common.{◌≡◌, All, List, rules, subst, sym}
-use Rattle.std.specs.Prelude.{IfOk}
+use Rattle.std.proofs.Common.{◌≡◌, All, List, rules, subst, sym, IfOk}
 use Rattle.link_base.specs.Fault.{IsAnswer}
 use Rattle.value_forms.specs.declared.canons.CompareKind.{CompareKind}
 use Rattle.standard_files.specs.Ready.{ArePooled, IsRowFor}
 use Rattle.standard_files.specs.Sides.{pooled_values}
 use Rattle.link_core.specs.Prepared.{kinds_of, with_fault}
-use Rattle.link_core.proofs.ReadyLemmas.{plan_rows}
+use Rattle.link_core.proofs.StepLemmas.{plan_rows}
 use Rattle.link_core.proofs.preparing.pool_files.Goals as goal
 
 pub pool_by-requires-clause-rows_a : goal.pool_by-requires-clause-rows_a

@@ -2,8 +2,7 @@ use Rattle.std.proofs.Common.{◌≡◌, ◌∙◌, ap, subst}
 use Rattle.standard_files.specs.Ready.{ArePooled}
 use Rattle.standard_files.specs.Files.{StandardPair}
 use Rattle.link_core.specs.Prepared.{kinds_of}
-use Rattle.link_core.proofs.PreparedLemmas.{has_room, refused_values, values_are}
-use Rattle.link_core.proofs.ReadyLemmas.{plan_ready}
+use Rattle.link_core.proofs.StepLemmas.{has_room, refused_values, values_are, plan_ready}
 use Rattle.link_core.proofs.preparing.pool_pair.Goals as goal
 
 pub returns-in-Err-clause-answer : goal.returns-in-Err-clause-answer

@@ -1,4 +1,4 @@
-use Rattle.link_core.proofs.PreparedLemmas.{prepared_by}
+use Rattle.link_core.proofs.StepLemmas.{prepared_by}
 use Rattle.link_core.proofs.preparing.prepare.Goals as goal
 
 pub returns-in-Ok-clause-answer : goal.returns-in-Ok-clause-answer

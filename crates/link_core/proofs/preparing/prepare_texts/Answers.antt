@@ -1,6 +1,6 @@
 use Rattle.std.proofs.Common.{◌≡◌, Ok}
 use Rattle.standard_files.specs.Files.{standard_files}
-use Rattle.link_core.proofs.PreparedLemmas.{prepared_by}
+use Rattle.link_core.proofs.StepLemmas.{prepared_by}
 use Rattle.link_core.proofs.preparing.prepare_texts.Goals as goal
 
 pub returns-in-Ok-clause-answer : goal.returns-in-Ok-clause-answer

@@ -3,7 +3,7 @@ use Rattle.link_base.specs.Standard.{Record}
 use Rattle.pair_decisions.specs.PairRows.{AreRowsIn}
 use Rattle.link_core.specs.Decisions.{rule_in}
 use Rattle.link_core.specs.Results.{AreRunTexts, AreTextsBy, candidates_in, five_texts}
-use Rattle.link_core.proofs.IdsAloneLemmas.{length_alone}
+use Rattle.link_core.proofs.RuleLemmas.{length_alone}
 use Rattle.link_core.proofs.ResultLemmas.{as_they_are, handed, if_ok, run_texts}
 use Rattle.link_core.proofs.results.finish.Goals as goal
 

@@ -1,6 +1,4 @@
-use Rattle.std.proofs.Common.{◌≡◌, ◌∙◌, All, List, Result, Ok, ap, sym, subst, length, w32, ℤ, to_z, of_z}
-use Rattle.std.specs.Prelude.{AllPairs, FitsSigned}
-use Rattle.std.proofs.Common.{rules}
+use Rattle.std.proofs.Common.{◌≡◌, ◌∙◌, All, List, Result, Ok, ap, sym, subst, length, w32, ℤ, to_z, of_z, AllPairs, FitsSigned, rules}
 use Rattle.std.proofs.lemmas.Int.{to_z-of_z}
 use Rattle.link_base.specs.AnswerLaws.{refuses_then}
 use Rattle.link_base.specs.Fault.{Refuses}
@@ -12,7 +10,7 @@ use Rattle.link_base.specs.declared.rule.PairAt.{PairAt}
 use Rattle.review_journal.specs.Adding.{added}
 use Rattle.review_journal.specs.Batch.{NamesRecords, verdicts_of}
 use Rattle.link_core.specs.Review.{journal_lines_of}
-use Rattle.link_core.proofs.ReviewLemmas.{added_within, answer_next, refuses_next}
+use Rattle.link_core.proofs.ResultLemmas.{added_within, answer_next, refuses_next}
 use Rattle.link_core.proofs.review.add_verdicts.Goals as goal
 
 -- a batch of the records that are seen

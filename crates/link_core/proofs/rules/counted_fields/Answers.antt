@@ -7,7 +7,7 @@ use Rattle.link_base.specs.Standard.{Record}
 use Rattle.link_base.specs.declared.fault.Fault.{Fault}
 use Rattle.link_base.specs.declared.rule.PairAt.{PairAt}
 use Rattle.link_plan.specs.Plan.{FieldKeys, PlainShares}
-use Rattle.link_core.proofs.ValueLemmas.{patterns_are}
+use Rattle.link_core.proofs.ResultLemmas.{patterns_are}
 use Rattle.link_core.specs.Prepared.{kinds_of}
 use Rattle.pair_decisions.specs.PlanShares.{counted_in}
 use Rattle.link_core.proofs.rules.counted_fields.Goals as goal

@@ -1,5 +1,4 @@
-use Rattle.std.proofs.Common.{◌≡◌, ◌<◌, ◌≤◌, ◌^◌, ◌∙◌, ℕ, Bool, List, Result, Ok, ap, arith, length, subst, sym}
-use Rattle.std.specs.Prelude.{All}
+use Rattle.std.proofs.Common.{◌≡◌, ◌<◌, ◌≤◌, ◌^◌, ◌∙◌, ℕ, Bool, List, Result, Ok, ap, arith, length, subst, sym, All}
 use Rattle.std.proofs.lemmas.Int.{ints}
 use Rattle.candidate_links.specs.Candidates.{HasBounds}
 use Rattle.link_base.specs.Rule.{IsWithinRanges}

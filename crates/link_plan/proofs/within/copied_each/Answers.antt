@@ -1,4 +1,4 @@
-use Rattle.link_plan.proofs.Loops.{copied_more}
+use Rattle.link_plan.proofs.Lemmas.{copied_more}
 use Rattle.link_plan.proofs.within.copied_each.Goals as goal
 
 pub loop-item-preserved : goal.loop-item-preserved

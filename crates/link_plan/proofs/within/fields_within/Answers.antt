@@ -1,5 +1,5 @@
 use Rattle.link_plan.specs.Within.{field_within}
-use Rattle.link_plan.proofs.Loops.{mapped_more}
+use Rattle.link_plan.proofs.Lemmas.{mapped_more}
 use Rattle.link_plan.proofs.within.fields_within.Goals as goal
 
 pub loop-field-preserved : goal.loop-field-preserved

@@ -1,5 +1,4 @@
-use Rattle.std.proofs.Common.{◌≡◌, length}
-use Rattle.std.specs.Prelude.{All}
+use Rattle.std.proofs.Common.{◌≡◌, length, All}
 use Rattle.link_report.specs.LineParts.{IsEnd}
 use Rattle.patterns.specs.Shapes.{rare_of}
 use Rattle.link_report.proofs.ends.ends_by_pattern.Given as goal

@@ -1,5 +1,5 @@
 use Rattle.std.proofs.Common.{◌≡◌, ◌-◌, ◌==◌, ℕ, arith, get_or, if◌then◌else◌}
-use Rattle.link_report.proofs.ReadLineLemmas.{after_feed, after_other, byte_more, text_read}
+use Rattle.link_report.proofs.HeaderLemmas.{after_feed, after_other, byte_more, text_read}
 use Rattle.link_report.proofs.first.end_of_lines.Goals as goal
 use Rattle.link_report.proofs.first.end_of_lines.Goals.{then-text-at-eq10, else-text-at-eq10}
 

@@ -1,7 +1,7 @@
 use Rattle.std.proofs.Common.{◌∙◌, arith}
 use Rattle.csv.specs.Writing.{default_writer, row_text}
 use Rattle.link_report.specs.FrontierText.{frontier_header, level_row}
-use Rattle.link_report.proofs.RowLemmas.{zip_all, zip_more}
+use Rattle.link_report.proofs.HeaderLemmas.{zip_all, zip_more}
 use Rattle.link_report.proofs.frontier.frontier_text.Goals as goal
 
 pub loop-at-preserved : goal.loop-at-preserved

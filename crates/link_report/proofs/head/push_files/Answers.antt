@@ -1,4 +1,4 @@
-use Rattle.link_report.proofs.JoinLemmas.{two_lines}
+use Rattle.link_report.proofs.HeaderLemmas.{two_lines}
 use Rattle.link_report.proofs.head.push_files.Goals as goal
 
 pub returns : goal.returns

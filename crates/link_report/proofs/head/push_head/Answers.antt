@@ -1,5 +1,5 @@
 use Rattle.std.proofs.Common.{◌++◌}
-use Rattle.link_report.proofs.JoinLemmas.{lists_then}
+use Rattle.link_report.proofs.HeaderLemmas.{lists_then}
 use Rattle.link_report.specs.ReportText.{file_lines, level_lines, link_lines, pair_lines}
 use Rattle.link_report.proofs.head.push_head.Goals as goal
 

@@ -1,4 +1,4 @@
-use Rattle.link_report.proofs.JoinLemmas.{four_lines}
+use Rattle.link_report.proofs.HeaderLemmas.{four_lines}
 use Rattle.link_report.proofs.head.push_levels.Goals as goal
 
 pub returns : goal.returns

@@ -4,7 +4,7 @@ use Rattle.std.specs.List.{flat_map}
 use Rattle.csv.specs.Writing.{default_writer, field_text}
 use Rattle.link_base.specs.Standard.{id_at}
 use Rattle.link_report.specs.LineParts.{two_fields}
-use Rattle.link_report.proofs.RowLemmas.{rows_more}
+use Rattle.link_report.proofs.HeaderLemmas.{rows_more}
 use Rattle.link_report.proofs.ids.push_lines.Goals as goal
 
 pub loop-partner-preserved : goal.loop-partner-preserved

@@ -2,7 +2,7 @@ use Rattle.std.proofs.Common.{◌∙◌, arith}
 use Rattle.std.proofs.lemmas.List.{take_all}
 use Rattle.csv.specs.Writing.{default_writer, row_text}
 use Rattle.link_report.specs.LinksText.{link_row, links_header}
-use Rattle.link_report.proofs.RowLemmas.{rows_more}
+use Rattle.link_report.proofs.HeaderLemmas.{rows_more}
 use Rattle.link_report.proofs.links.links_text.Goals as goal
 
 pub loop-link-preserved : goal.loop-link-preserved

@@ -1,5 +1,4 @@
-use Rattle.std.proofs.Common.{◌≡◌, length, take}
-use Rattle.std.specs.Prelude.{All}
+use Rattle.std.proofs.Common.{◌≡◌, length, take, All}
 use Rattle.link_report.specs.LinkEnds.{IsLinkEnd}
 use Rattle.link_report.specs.LinksText.{text_of_links}
 use Rattle.link_report.specs.declared.links.TheConstants.{KEPT_ENDS}

@@ -1,5 +1,4 @@
-use Rattle.std.proofs.Common.{◌≡◌, length}
-use Rattle.std.specs.Prelude.{All}
+use Rattle.std.proofs.Common.{◌≡◌, length, All}
 use Rattle.link_report.specs.LinkEnds.{IsLinkEnd}
 use Rattle.link_report.proofs.links.some_ends.Given as goal
 

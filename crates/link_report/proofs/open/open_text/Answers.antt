@@ -2,7 +2,7 @@ use Rattle.std.proofs.Common.{◌∙◌, arith}
 use Rattle.std.proofs.lemmas.List.{take_all}
 use Rattle.csv.specs.Writing.{default_writer, row_text}
 use Rattle.link_report.specs.OpenText.{open_header, open_row}
-use Rattle.link_report.proofs.RowLemmas.{rows_more}
+use Rattle.link_report.proofs.HeaderLemmas.{rows_more}
 use Rattle.link_report.proofs.open.open_text.Goals as goal
 
 pub loop-row-preserved : goal.loop-row-preserved

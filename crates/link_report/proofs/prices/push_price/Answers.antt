@@ -1,9 +1,8 @@
-use Rattle.std.proofs.Common.{◌∙◌, ap, rules, w64}
+use Rattle.std.proofs.Common.{◌∙◌, ap, rules, w64, FitsSigned}
 use Rattle.std.proofs.lemmas.Int.{to_z-of_z}
 use Rattle.std.specs.Fmt.{signed_decimal}
-use Rattle.std.specs.Prelude.{FitsSigned}
 use Rattle.csv.specs.Writing.{default_writer, needs_quotes}
-use Rattle.link_report.proofs.PlainLemmas.{signed_plain}
+use Rattle.link_report.proofs.LineLemmas.{signed_plain}
 use Rattle.link_report.proofs.prices.push_price.Goals as goal
 
 pub push_priced-requires-clause-digits : goal.push_priced-requires-clause-digits

@@ -1,10 +1,9 @@
-use Rattle.std.proofs.Common.{◌∷◌, ◌∙◌, ◌++◌, [], ap, arith, filter, get_or, pos, rules, ℤ, w64}
-use Rattle.std.specs.Prelude.{FitsSigned, zip}
+use Rattle.std.proofs.Common.{◌∷◌, ◌∙◌, ◌++◌, [], ap, arith, filter, get_or, pos, rules, ℤ, w64, FitsSigned, zip}
 use Rattle.std.specs.List.{flat_map}
 use Rattle.std.proofs.lemmas.Int.{to_z-of_z}
 use Rattle.link_base.specs.Standard.{no_record, Record}
 use Rattle.link_report.specs.PricesText.{is_priced, price_row, price_rows}
-use Rattle.link_report.proofs.RowLemmas.{rows_of_passed, zip_all, zip_more}
+use Rattle.link_report.proofs.HeaderLemmas.{rows_of_passed, zip_all, zip_more}
 use Rattle.link_report.proofs.prices.push_side.Goals as goal
 
 pub loop-at-preserved : goal.loop-at-preserved

@@ -1,5 +1,4 @@
-use Rattle.std.proofs.Common.{◌≡◌, ◌++◌, ◌∷◌, [], filter, take}
-use Rattle.std.specs.Prelude.{zip}
+use Rattle.std.proofs.Common.{◌≡◌, ◌++◌, ◌∷◌, [], filter, take, zip}
 use Rattle.std.specs.List.{flat_map}
 use Rattle.link_report.specs.PricesText.{is_priced, price_row}
 use Rattle.link_report.proofs.prices.push_side.Given as goal

@@ -1,8 +1,7 @@
-use Rattle.std.proofs.Common.{◌≡◌, ◌∙◌, [], Bool, true, false, List, ap, arith, get_or, map, not, refl, sym, ℕ}
-use Rattle.std.specs.Prelude.{bytes_eq}
+use Rattle.std.proofs.Common.{◌≡◌, ◌∙◌, [], Bool, true, false, List, ap, arith, get_or, map, not, refl, sym, ℕ, bytes_eq}
 use Rattle.std.proofs.lemmas.List.{get_or-map, length-map}
 use Rattle.csv.specs.Records.{fields_of}
-use Rattle.link_report.proofs.ReadingLemmas.{differ_at, differ_length, same_more}
+use Rattle.link_report.proofs.HeaderLemmas.{differ_at, differ_length, same_more}
 use Rattle.link_report.proofs.reading.has_fields.Goals as goal
 
 is_true : (t u : Bool) → u ≡ false → u ≡ not t → t ≡ true

@@ -1,4 +1,4 @@
-use Rattle.link_report.proofs.ReadingLemmas.{links_again, prices_again, rule_again}
+use Rattle.link_report.proofs.HeaderLemmas.{links_again, prices_again, rule_again}
 use Rattle.link_report.proofs.reading.texts_read_again.Goals as goal
 
 pub returns-clause-rule : goal.returns-clause-rule

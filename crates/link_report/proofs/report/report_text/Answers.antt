@@ -3,7 +3,7 @@ use Rattle.std.specs.List.{flat_map}
 use Rattle.std.proofs.lemmas.List.{take_all}
 use Rattle.link_report.specs.declared.report.Dropped.{Dropped}
 use Rattle.link_report.specs.ReportText.{dropped_row, report_head}
-use Rattle.link_report.proofs.RowLemmas.{rows_more}
+use Rattle.link_report.proofs.HeaderLemmas.{rows_more}
 use Rattle.link_report.proofs.report.report_text.Goals as goal
 
 pub loop-dropped-preserved : goal.loop-dropped-preserved

@@ -1,4 +1,4 @@
-use Rattle.link_shell.proofs.FilledRuleFacts.{filled_rule}
+use Rattle.link_shell.proofs.MeaningFacts.{filled_rule}
 use Rattle.link_shell.proofs.filled_rule.commands_go_by_filled_rule.Goals as goal
 
 pub returns : goal.returns

@@ -1,8 +1,7 @@
-use Rattle.std.proofs.Common.{◌≡◌, ◌≤◌, ◌++◌, ◌∷◌, [], List, ℕ, arith, map, rules, subst, sym}
-use Rattle.std.specs.Prelude.{All, string_bytes}
+use Rattle.std.proofs.Common.{◌≡◌, ◌≤◌, ◌++◌, ◌∷◌, [], List, ℕ, arith, map, rules, subst, sym, All, string_bytes}
 use Rattle.link_limits.specs.declared.TheConstants.{PER_MILLION}
 use Rattle.csv_rows.specs.Numbers.{number_in}
-use Rattle.link_shell.proofs.LevelFacts.{levels_done, levels_left, levels_more, levels_within}
+use Rattle.link_shell.proofs.Laws.{levels_done, levels_left, levels_more, levels_within}
 use Rattle.link_shell.proofs.frontier_settings.levels_of.Goals as goal
 
 pub loop-word-preserved : goal.loop-word-preserved

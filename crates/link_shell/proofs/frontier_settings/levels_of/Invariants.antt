@@ -1,5 +1,4 @@
-use Rattle.std.proofs.Common.{◌≡◌, ◌++◌, drop, map}
-use Rattle.std.specs.Prelude.{string_bytes, true}
+use Rattle.std.proofs.Common.{◌≡◌, ◌++◌, drop, map, string_bytes, true}
 use Rattle.std.specs.List.{list_all}
 use Rattle.link_shell.specs.FrontierSettings.{is_level_word}
 use Rattle.csv_rows.specs.Numbers.{number_in}

@@ -1,5 +1,4 @@
-use Rattle.std.proofs.Common.{map, refl}
-use Rattle.std.specs.Prelude.{string_bytes}
+use Rattle.std.proofs.Common.{map, refl, string_bytes}
 use Rattle.csv_rows.specs.Numbers.{number_in}
 use Rattle.link_core.specs.Rules.{IsFrontierText}
 use Rattle.command_scripts.specs.DoesLaws.{does_fail, does_lines}

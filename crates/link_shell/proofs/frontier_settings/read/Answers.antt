@@ -1,12 +1,11 @@
-use Rattle.std.proofs.Common.{◌≡◌, ◌+◌, ◌-◌, ◌∙◌, ◌∷◌, [], Bool, List, ap, arith, drop, false, length, map, nat_le, refl, suc, sym, take, true}
-use Rattle.std.specs.Prelude.{◌&&◌, string_bytes}
+use Rattle.std.proofs.Common.{◌≡◌, ◌+◌, ◌-◌, ◌∙◌, ◌∷◌, [], Bool, List, ap, arith, drop, false, length, map, nat_le, refl, suc, sym, take, true, ◌&&◌, string_bytes}
 use Rattle.std.proofs.lemmas.Bool.{le-leb}
 use Rattle.std.proofs.lemmas.List.{length-map, take_all}
 use Rattle.csv_rows.specs.Numbers.{number_in}
 use Rattle.link_shell.specs.FrontierSettings.{are_levels_from}
 use Rattle.link_shell.specs.Words.{is_settings_word, word}
 use Rattle.link_shell.specs.declared.words.TheConstants.{MOST_LISTED}
-use Rattle.link_shell.proofs.LevelFacts.{rising_are_levels}
+use Rattle.link_shell.proofs.Laws.{rising_are_levels}
 use Rattle.link_shell.proofs.frontier_settings.read.Goals.{else-is_settings-via-then-is_settings+else-are_levels, else-is_settings-via-else-is_settings}
 use Rattle.link_shell.proofs.frontier_settings.read.Goals as goal
 

@@ -7,7 +7,7 @@ use Rattle.settings.specs.Settings.{settings}
 use Rattle.command_steps.specs.Reviewed.{found_of, ReviewedPlan, shared_decisions_of}
 use Rattle.review_journal.specs.declared.entry.Entry.{Entry}
 use Rattle.link_shell.specs.Generate.{decided_sample}
-use Rattle.link_shell.proofs.InputFacts.{goes_on, refuses_here}
+use Rattle.link_shell.proofs.HeadlineFacts.{goes_on, refuses_here}
 use Rattle.link_shell.proofs.generate.decide_input.Goals as goal
 
 pub returns-in-Err-clause-answer : goal.returns-in-Err-clause-answer

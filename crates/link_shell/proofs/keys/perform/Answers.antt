@@ -1,5 +1,4 @@
-use Rattle.std.proofs.Common.{◌≡◌, ap, refl}
-use Rattle.std.specs.Prelude.{map, string_bytes}
+use Rattle.std.proofs.Common.{◌≡◌, ap, refl, map, string_bytes}
 use Rattle.link_core.specs.NameKeys.{keys_text}
 use Rattle.command_scripts.specs.Due.{is_printed, prints}
 use Rattle.command_scripts.specs.declared.ends.Ended.TheVariants.{Done}

@@ -1,5 +1,4 @@
-use Rattle.std.proofs.Common.{◌∷◌, []}
-use Rattle.std.specs.Prelude.{codes}
+use Rattle.std.proofs.Common.{◌∷◌, [], codes}
 use Rattle.command_scripts.specs.PutLaws.{puts_as}
 use Rattle.command_scripts.specs.Due.{a_put}
 use Rattle.link_shell.proofs.run_settings.put_results.Goals as goal

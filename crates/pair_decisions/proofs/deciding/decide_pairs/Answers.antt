@@ -1,13 +1,11 @@
-use Rattle.std.proofs.Common.{◌≡◌, ◌≤◌, ◌<◌, ◌∙◌, Bool, List, Err, ap, length, refl, subst, sym}
-use Rattle.std.specs.Prelude.{All}
+use Rattle.std.proofs.Common.{◌≡◌, ◌≤◌, ◌<◌, ◌∙◌, Bool, List, Err, ap, length, refl, subst, sym, All}
 use Rattle.link_base.specs.declared.fault.Fault.TheVariants as fault
 use Rattle.link_base.specs.declared.rule.Decision.{Decision}
 use Rattle.link_base.specs.declared.rule.Decision.TheVariants.{Link, Possible}
 use Rattle.link_base.specs.declared.rule.PairAt.{PairAt}
 use Rattle.link_limits.specs.declared.TheConstants.{MOST_PAIRS}
-use Rattle.pair_decisions.proofs.PairLemmas.{counted, found_inside, found_rise, not_more}
+use Rattle.pair_decisions.proofs.ComparatorLemmas.{counted, found_inside, found_rise, not_more, kept_in}
 use Rattle.pair_decisions.specs.PairLaws.{past_limit, within_limit}
-use Rattle.pair_decisions.proofs.RowLemmas.{kept_in}
 use Rattle.pair_decisions.specs.PairRows.{decided_rows, kept_rows}
 use Rattle.pair_decisions.specs.Decisions.{DecidedView, decision_at, is_same, pairs_with}
 use Rattle.pair_decisions.specs.PairRule.{side_rule}

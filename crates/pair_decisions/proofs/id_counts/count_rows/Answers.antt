@@ -1,7 +1,6 @@
-use Rattle.std.proofs.Common.{◌<◌, arith}
-use Rattle.std.proofs.Common.{length}
+use Rattle.std.proofs.Common.{◌<◌, arith, length}
 use Rattle.pair_decisions.specs.Comparators.{has_id}
-use Rattle.pair_decisions.proofs.CountLemmas.{filter_taken}
+use Rattle.pair_decisions.proofs.ListSteps.{filter_taken}
 use Rattle.pair_decisions.proofs.id_counts.count_rows.Goals as goal
 
 pub count_side-requires-clause-room : goal.count_side-requires-clause-room

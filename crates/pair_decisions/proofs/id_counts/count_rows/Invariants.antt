@@ -1,5 +1,4 @@
-use Rattle.std.proofs.Common.{◌≡◌, ◌+◌, ◌<◌, ℕ, length, take}
-use Rattle.std.specs.Prelude.{filter, slice_index}
+use Rattle.std.proofs.Common.{◌≡◌, ◌+◌, ◌<◌, ℕ, length, take, filter, slice_index}
 use Rattle.pair_decisions.specs.Comparators.{has_id}
 use Rattle.pair_decisions.proofs.id_counts.count_rows.Given as goal
 

@@ -1,8 +1,6 @@
-use Rattle.std.proofs.Common.{◌≡◌, ◌<◌, ◌∙◌, ap, arith, get_or, length, rules}
-use Rattle.std.specs.Prelude.{replicate}
+use Rattle.std.proofs.Common.{◌≡◌, ◌<◌, ◌∙◌, ap, arith, get_or, length, rules, replicate}
 use Rattle.pair_decisions.specs.Comparators.{count_of_id, has_id}
-use Rattle.pair_decisions.proofs.CountLemmas.{filter_all, front_is, zeros}
-use Rattle.pair_decisions.proofs.ListSteps.{known_by}
+use Rattle.pair_decisions.proofs.ListSteps.{filter_all, front_is, zeros, known_by}
 use Rattle.pair_decisions.proofs.id_counts.counts_in.Goals as goal
 
 pub count_rows-requires-2-clause-room : goal.count_rows-requires-2-clause-room

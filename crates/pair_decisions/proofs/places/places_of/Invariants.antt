@@ -1,5 +1,5 @@
 use Rattle.std.proofs.Common.{◌≡◌, length}
-use Rattle.pair_decisions.proofs.PlaceLemmas.{AreToldFrom}
+use Rattle.pair_decisions.proofs.ComparatorLemmas.{AreToldFrom}
 use Rattle.pair_decisions.proofs.places.places_of.Given as goal
 
 abbrev pub invariant-loop-at : goal.invariant-loop-at

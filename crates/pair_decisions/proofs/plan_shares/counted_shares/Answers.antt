@@ -7,7 +7,7 @@ use Rattle.sample_counts.specs.Sample.{sample_of}
 use Rattle.pair_decisions.specs.Comparators.{comparators_of, rares_of}
 use Rattle.pair_decisions.specs.PairRule.{pattern_over}
 use Rattle.pair_decisions.specs.PlanShares.{counts_by_pattern, shares_in}
-use Rattle.pair_decisions.proofs.AnswerLemmas.{counts_by_answers, given_then, refuses_as}
+use Rattle.pair_decisions.proofs.ComparatorLemmas.{counts_by_answers, given_then, refuses_as}
 use Rattle.pair_decisions.proofs.plan_shares.counted_shares.Goals as goal
 
 pub returns-in-Ok-clause-answer : goal.returns-in-Ok-clause-answer

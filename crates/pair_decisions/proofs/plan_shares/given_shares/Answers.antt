@@ -1,5 +1,4 @@
-use Rattle.std.proofs.Common.{◌≡◌, ◌<◌, ◌∙◌, Option, Some, None, ap, arith, get_or, length, subst, sym, take}
-use Rattle.std.specs.Prelude.{is_some, option_map}
+use Rattle.std.proofs.Common.{◌≡◌, ◌<◌, ◌∙◌, Option, Some, None, ap, arith, get_or, length, subst, sym, take, is_some, option_map}
 use Rattle.std.proofs.lemmas.List.{take_all}
 use Rattle.link_base.specs.declared.shares.FieldShares.{FieldShares}
 use Rattle.link_plan.specs.Plan.{FieldKeys, plain_shares}
@@ -7,8 +6,7 @@ use Rattle.link_plan.specs.Ranges.{IsField}
 use Rattle.patterns.specs.Chances.{rare_in}
 use Rattle.pair_decisions.specs.Comparators.{rares_of}
 use Rattle.pair_decisions.specs.PlanShares.{given_in}
-use Rattle.pair_decisions.proofs.ListSteps.{made_more}
-use Rattle.pair_decisions.proofs.ShareLemmas.{as_many_shares, is_given, kept_more, rare_given}
+use Rattle.pair_decisions.proofs.ListSteps.{made_more, as_many_shares, is_given, kept_more, rare_given}
 use Rattle.pair_decisions.proofs.plan_shares.given_shares.Goals.{in-Some+in_ok-push, in_default}
 use Rattle.pair_decisions.proofs.plan_shares.given_shares.Goals as goal
 

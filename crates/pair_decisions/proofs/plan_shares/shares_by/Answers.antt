@@ -1,14 +1,12 @@
-use Rattle.std.proofs.Common.{◌≡◌, ◌<◌, ◌≤◌, ◌∙◌, ap, arith, get_or, length, map, take}
+use Rattle.std.proofs.Common.{◌≡◌, ◌<◌, ◌≤◌, ◌∙◌, ap, arith, get_or, length, map, take, is_some}
 use Rattle.std.specs.List.{enumerate_from}
-use Rattle.std.specs.Prelude.{is_some}
 use Rattle.std.proofs.lemmas.List.{length-map, take_all}
 use Rattle.link_base.specs.declared.shares.FieldShares.{FieldShares}
 use Rattle.link_plan.specs.Plan.{FieldKeys, PlainShares, plain_shares}
 use Rattle.patterns.specs.Chances.{rare_in}
 use Rattle.pair_decisions.specs.Comparators.{rares_of}
 use Rattle.pair_decisions.specs.PlanShares.{shares_at}
-use Rattle.pair_decisions.proofs.ListSteps.{made_more, placed_more}
-use Rattle.pair_decisions.proofs.ShareLemmas.{as_many_shares, rare_at}
+use Rattle.pair_decisions.proofs.ListSteps.{made_more, placed_more, as_many_shares, rare_at}
 use Rattle.pair_decisions.proofs.plan_shares.shares_by.Goals as goal
 
 pub loop-at-preserved : goal.loop-at-preserved

@@ -1,4 +1,4 @@
-use Rattle.pair_decisions.proofs.RareLemmas.{rare_counted}
+use Rattle.pair_decisions.proofs.ListSteps.{rare_counted}
 use Rattle.pair_decisions.proofs.rule_laws.rare_counts.Goals as goal
 
 pub returns : goal.returns

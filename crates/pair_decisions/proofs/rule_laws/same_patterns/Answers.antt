@@ -1,4 +1,4 @@
-use Rattle.pair_decisions.proofs.ValuePatterns.{same_patterns}
+use Rattle.pair_decisions.proofs.FilledRule.{same_patterns}
 use Rattle.pair_decisions.proofs.rule_laws.same_patterns.Goals as goal
 
 pub returns : goal.returns

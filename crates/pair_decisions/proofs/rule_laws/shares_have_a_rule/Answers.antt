@@ -1,4 +1,4 @@
-use Rattle.pair_decisions.proofs.SharesRule.{counted_rule, given_rule, rule_by_values}
+use Rattle.pair_decisions.proofs.LineLemmas.{counted_rule, given_rule, rule_by_values}
 use Rattle.pair_decisions.proofs.rule_laws.shares_have_a_rule.Goals as goal
 
 pub returns-clause-given : goal.returns-clause-given

@@ -1,10 +1,9 @@
-use Rattle.std.proofs.Common.{◌≡◌, ◌∙◌, ◌++◌, ◌∷◌, [], List, ℕ, ap, get_or, map, if◌then◌else◌, length, subst, sym}
-use Rattle.std.specs.Prelude.{All}
+use Rattle.std.proofs.Common.{◌≡◌, ◌∙◌, ◌++◌, ◌∷◌, [], List, ℕ, ap, get_or, map, if◌then◌else◌, length, subst, sym, All}
 use Rattle.std.proofs.lemmas.List.Elements.{filter-append}
 use Rattle.link_base.specs.declared.rule.Decision.{Decision}
 use Rattle.link_base.specs.declared.rule.Decision.TheVariants.{Link, Possible}
 use Rattle.link_base.specs.declared.rule.PairAt.{PairAt}
-use Rattle.pair_decisions.proofs.RowLemmas.{kept_joined}
+use Rattle.pair_decisions.proofs.ComparatorLemmas.{kept_joined}
 use Rattle.pair_walk.specs.RowLaws.{pair_holds, pair_more}
 use Rattle.pair_decisions.specs.Decisions.{decision_at, is_same, pairs_with}
 use Rattle.pair_decisions.specs.PairRows.{decided_row, decided_rows, kept_rows}

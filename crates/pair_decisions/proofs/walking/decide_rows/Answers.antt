@@ -4,7 +4,7 @@ use Rattle.link_base.specs.declared.rule.Decision.{Decision}
 use Rattle.link_base.specs.declared.rule.Decision.TheVariants.{Link, Possible}
 use Rattle.link_base.specs.declared.rule.PairAt.{PairAt}
 use Rattle.pair_walk.specs.RowLaws.{count_more, rest_holds, row_holds, row_more}
-use Rattle.pair_decisions.proofs.RowLemmas.{kept_joined}
+use Rattle.pair_decisions.proofs.ComparatorLemmas.{kept_joined}
 use Rattle.pair_decisions.specs.Decisions.{decision_at, is_same, pairs_with}
 use Rattle.pair_decisions.specs.PairRows.{decided_row, decided_rows, kept_rows}
 use Rattle.pair_decisions.specs.PairRule.{side_rule}

@@ -1,5 +1,4 @@
-use Rattle.std.proofs.Common.{◌≡◌, ◌≤◌, ◌+◌, ◌++◌, length}
-use Rattle.std.specs.Prelude.{All}
+use Rattle.std.proofs.Common.{◌≡◌, ◌≤◌, ◌+◌, ◌++◌, length, All}
 use Rattle.link_base.specs.declared.rule.Decision.TheVariants.{Link, Possible}
 use Rattle.link_limits.specs.declared.TheConstants.{MOST_PAIRS}
 use Rattle.pair_decisions.specs.Decisions.{pairs_with}

@@ -1,5 +1,5 @@
 use Rattle.std.proofs.Common.{ap, arith, length}
-use Rattle.pair_walk.proofs.CountLemmas.{listed_more}
+use Rattle.pair_walk.proofs.JoinLemmas.{listed_more}
 use Rattle.pair_walk.proofs.blocks.listed_in.Goals as goal
 
 pub loop-at-preserved : goal.loop-at-preserved

@@ -1,6 +1,6 @@
-use Rattle.std.proofs.Common.{◌≡◌, ◌*◌, drop}
-use Rattle.patterns.specs.Chances.{pattern_count_of}
+use Rattle.std.proofs.Common.{◌≡◌, length, take}
+use Rattle.patterns.specs.Chances.{rare_in}
 use Rattle.patterns.proofs.shapes.patterns_of.Given as goal
 
-abbrev pub invariant-loop-field : goal.invariant-loop-field
-invariant-loop-field l = l.count * pattern_count_of (drop l.field-index l.shares) ≡ pattern_count_of l.shares
+abbrev pub invariant-loop-i : goal.invariant-loop-i
+invariant-loop-i l = (length l.rare ≡ 6) × (take l.i l.rare ≡ rare_in (take l.i l.shares))

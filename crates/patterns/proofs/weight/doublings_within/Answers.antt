@@ -1,5 +1,5 @@
 use Rattle.std.proofs.Common.{arith}
-use Rattle.patterns.proofs.PowerLemmas.{exponent_below, doubled}
+use Rattle.patterns.proofs.Lemmas.{exponent_below, doubled}
 use Rattle.patterns.proofs.weight.doublings_within.Goals as goal
 
 pub loop-raised-preserved : goal.loop-raised-preserved

@@ -6,7 +6,7 @@ use Rattle.phonetic_keys.specs.Nysiis.{body, ended, front, nysiis_key, spelled_o
 use Rattle.phonetic_keys.specs.Keys.{IsKey}
 use Rattle.phonetic_keys.specs.Window.{KeepsKey}
 use Rattle.phonetic_keys.specs.declared.walk.Walk.{Walk}
-use Rattle.phonetic_keys.proofs.KeyLemmas.{text_key}
+use Rattle.phonetic_keys.proofs.CarryingLaw.{text_key}
 use Rattle.phonetic_keys.specs.Walks.{HasNoGaps, StepsOverPlace, text_of}
 use Rattle.phonetic_keys.proofs.WalkLemmas.{full, filled_more, step_over}
 use Rattle.phonetic_keys.proofs.walk.nysiis.Goals as goal

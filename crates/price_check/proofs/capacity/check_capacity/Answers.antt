@@ -1,4 +1,5 @@
-use Rattle.price_check.proofs.Within.{verdict_exact_within}
+use Rattle.price_check.proofs.Tops.{check_single}
+use Rattle.price_check.proofs.Order.{verdict_exact_within}
 use Rattle.price_check.proofs.capacity.check_capacity.Goals as goal
 
 pub returns : goal.returns
@@ -12,4 +13,5 @@ returns c =
       first_reason = c.in_ok-answer.ensures;
       certified = exact;
       greatest = λ e. (let t = exact.0 e in (t.0, (t.1.0, c.certified_within_is_greatest.ensures cs ns t.0 ps qs t.1.1 t.1.2)));
+      one_to_one = λ single. check_single cs ns c.args.links.now ps qs single (λ k d lt. (c.requires.in_range k d lt).1) c.requires.priced_b c.in_ok-answer.answer c.certified_is_greatest.ensures c.in_ok-answer.ensures;
     }

@@ -1,8 +1,7 @@
 use Rattle.std.proofs.Common.{arith}
 use Rattle.std.proofs.lemmas.Int.{ints}
 use Rattle.price_check.specs.Assignment.{no_candidate}
-use Rattle.price_check.proofs.Order.{choose}
-use Rattle.price_check.proofs.Within.{within_links}
+use Rattle.price_check.proofs.Order.{choose, within_links}
 use Rattle.price_check.proofs.capacity.verdict.Goals as goal
 
 pub first_unplaced-requires-clause-in_range : goal.first_unplaced-requires-clause-in_range

@@ -1,4 +1,4 @@
-use Rattle.price_check.proofs.Single.{certifies_single, one_to_one_within, within_one_to_one}
+use Rattle.price_check.proofs.Tops.{certifies_single, one_to_one_within, within_one_to_one}
 use Rattle.price_check.proofs.capacity_laws.single_capacities.Goals as goal
 
 pub returns-clause-lists : goal.returns-clause-lists

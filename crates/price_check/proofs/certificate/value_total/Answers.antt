@@ -1,4 +1,4 @@
-use Rattle.std.proofs.Common.{ℤ, arith}
+use Rattle.std.proofs.Common.{arith}
 use Rattle.std.proofs.lemmas.Int.{ints}
 use Rattle.link_base.specs.declared.rule.Candidate.{Candidate}
 use Rattle.price_check.specs.Assignment.{no_candidate}

@@ -1,6 +1,6 @@
 use Rattle.std.proofs.Common.{arith}
 use Rattle.std.proofs.lemmas.Int.{ints}
-use Rattle.price_check.proofs.Duality.{unlinked_a, unlinked_b, covered_links, IsTight-from_sums}
+use Rattle.price_check.proofs.Order.{unlinked_a, unlinked_b, covered_links, IsTight-from_sums}
 use Rattle.price_check.proofs.laws.certificate_is_tight.Goals as goal
 
 pub returns-clause-unlinked : goal.returns-clause-unlinked

@@ -2,7 +2,7 @@ use Rattle.std.proofs.Common.{arith}
 use Rattle.std.proofs.lemmas.Int.{ints}
 use Rattle.std.proofs.lemmas.List.Elements.{All-contains}
 use Rattle.price_check.specs.Assignment.{IsCovered}
-use Rattle.price_check.proofs.Duality.{worth-le-price_sum}
+use Rattle.price_check.proofs.Order.{worth-le-price_sum}
 use Rattle.price_check.proofs.laws.certified_is_greatest.Goals as goal
 
 pub returns : goal.returns

@@ -1,4 +1,4 @@
-use Rattle.price_check.proofs.Together.{together_one_to_one, together_certifies}
+use Rattle.price_check.proofs.Bounds.{together_one_to_one, together_certifies}
 use Rattle.price_check.proofs.laws.parts_together_are_certified.Goals as goal
 
 pub returns : goal.returns

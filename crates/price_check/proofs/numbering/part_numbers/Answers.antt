@@ -1,8 +1,7 @@
 use Rattle.std.proofs.Common.{◌≡◌, ap, length, ◌∙◌, arith}
 use Rattle.std.proofs.lemmas.List.{length-replicate, with_items_is}
 use Rattle.price_check.specs.Forest.{AreByTop, AreUnited}
-use Rattle.price_check.proofs.Chains.{united_first}
-use Rattle.price_check.proofs.Numbers.{part_numbers_are}
+use Rattle.price_check.proofs.Chains.{united_first, part_numbers_are}
 use Rattle.price_check.proofs.numbering.part_numbers.Goals as goal
 
 pub unite_all-requires-clause-united : goal.unite_all-requires-clause-united

@@ -1,5 +1,5 @@
 use Rattle.std.proofs.Common.{arith}
-use Rattle.price_check.proofs.Within.{placed_last}
+use Rattle.price_check.proofs.Order.{placed_last}
 use Rattle.price_check.proofs.places.is_unplaced.Goals as goal
 
 pub returns : goal.returns

@@ -1,6 +1,6 @@
 use Rattle.std.proofs.Common.{◌≡◌, ◌*ℤ◌, get_or, pos, to_z, of_z, w64, arith, ◌∙◌, ap, sym}
 use Rattle.std.proofs.lemmas.Int.{ints}
-use Rattle.price_check.proofs.Within.{place_sum_more}
+use Rattle.price_check.proofs.Order.{place_sum_more}
 use Rattle.price_check.proofs.places.place_total.Goals as goal
 
 pub loop-i-preserved : goal.loop-i-preserved

@@ -1,7 +1,7 @@
 use Rattle.std.proofs.Common.{◌≡◌, pos, to_z, of_z, w64, arith}
 use Rattle.std.proofs.lemmas.Int.{ints}
 use Rattle.link_limits.specs.declared.TheConstants.{MOST_CAPACITY, MOST_VALUE}
-use Rattle.price_check.proofs.Within.{multiple_bounded}
+use Rattle.price_check.proofs.Order.{multiple_bounded}
 use Rattle.price_check.proofs.places.price_of_places.Goals as goal
 
 pub overflow_mul-result : goal.overflow_mul-result

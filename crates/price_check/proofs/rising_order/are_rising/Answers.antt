@@ -1,6 +1,6 @@
 use Rattle.std.proofs.Common.{refl, arith}
 use Rattle.price_check.specs.Assignment.{no_candidate}
-use Rattle.price_check.proofs.Rising.{rising_more, rising_at}
+use Rattle.price_check.proofs.Bounds.{rising_more, rising_at}
 use Rattle.price_check.proofs.rising_order.are_rising.Goals as goal
 
 pub loop-k-preserved : goal.loop-k-preserved

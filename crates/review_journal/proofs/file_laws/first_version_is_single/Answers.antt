@@ -1,4 +1,4 @@
-use Rattle.review_journal.proofs.ReadFacts.{all_single}
+use Rattle.review_journal.proofs.ListLemmas.{all_single}
 use Rattle.review_journal.proofs.file_laws.first_version_is_single.Goals as goal
 
 pub returns : goal.returns

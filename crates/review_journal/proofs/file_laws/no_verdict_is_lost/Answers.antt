@@ -1,5 +1,5 @@
 use Rattle.review_journal.proofs.KeptFacts.{added_keeps, added_over}
-use Rattle.review_journal.proofs.ReadFacts.{batch_names, journal_over}
+use Rattle.review_journal.proofs.ListLemmas.{batch_names, journal_over}
 use Rattle.review_journal.proofs.file_laws.no_verdict_is_lost.Goals as goal
 
 pub returns : goal.returns

@@ -1,12 +1,18 @@
-use Rattle.std.proofs.Common.{sym}
+use Rattle.std.proofs.Common.{rules, sym}
+use Rattle.std.proofs.lemmas.Fn.{always_returns_same}
 use Rattle.link_base.specs.declared.rule.PairAt.{PairAt}
-use Rattle.review_journal.proofs.SearchLemmas.{found_pair, missed_pair}
+use Rattle.review_journal.specs.Search.{order_of}
+use Rattle.review_journal.proofs.PlaceLemmas.{found_pair, missed_pair}
 use Rattle.review_journal.proofs.possible.is_among.Goals as goal
 
+-- the closure gives the order of what is held and the pair, and stays as it is
 pub returns-in-Ok : goal.returns-in-Ok
 returns-in-Ok c =
     let d : PairAt = record { a = 0; b = 0 } in
-    sym (found_pair c.args.possible.now c.args.row c.in-Ok.field-0 d c.in-Ok.ensures.bound (c.in-Ok.ensures.place d))
+    let place = c.in-Ok.ensures.position (λ at. order_of at c.args.row) (always_returns_same _ _ _ (λ a r g called. (search rules, search rules))) in
+    sym (found_pair c.args.possible.now c.args.row c.in-Ok.field-0 d c.in-Ok.ensures.bound (place d))
 
 pub returns-in-Err : goal.returns-in-Err
-returns-in-Err c = sym (missed_pair c.args.possible.now c.args.row c.in-Err.field-0 c.requires c.in-Err.ensures.place)
+returns-in-Err c =
+    let place = c.in-Err.ensures.position (λ at. order_of at c.args.row) (always_returns_same _ _ _ (λ a r g called. (search rules, search rules))) in
+    sym (missed_pair c.args.possible.now c.args.row c.in-Err.field-0 c.requires place)

@@ -1,5 +1,4 @@
-use Rattle.std.proofs.Common.{◌≡◌, ◌∷◌, ◌==◌, ℕ, List, [], Bool, false, length, subst, Result}
-use Rattle.std.specs.Prelude.{codes}
+use Rattle.std.proofs.Common.{◌≡◌, ◌∷◌, ◌==◌, ℕ, List, [], Bool, false, length, subst, Result, codes}
 use Rattle.file_reader.specs.Left.{records_in}
 use Rattle.file_reader.specs.Header.{header_has}
 use Rattle.link_base.specs.Fault.{IsAnswer}

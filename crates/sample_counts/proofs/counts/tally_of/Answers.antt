@@ -6,7 +6,7 @@ use Rattle.patterns.specs.Shapes.{rare_of}
 use Rattle.sample_counts.specs.declared.counts.Judged.{Judged}
 use Rattle.sample_counts.specs.Counts.{digit_in, is_digit}
 use Rattle.sample_counts.specs.Tallies.{counted_at}
-use Rattle.sample_counts.proofs.CountLemmas.{front-le, tally-step}
+use Rattle.sample_counts.proofs.Lemmas.{front-le, tally-step}
 use Rattle.sample_counts.proofs.counts.tally_of.Goals as goal
 
 pub more_at-counts-requires : goal.more_at-counts-requires

@@ -1,4 +1,4 @@
-use Rattle.sample_counts.proofs.RemainderLemmas.{ahead_step}
+use Rattle.sample_counts.proofs.Lemmas.{ahead_step}
 use Rattle.sample_counts.proofs.remainders.ahead.Goals as goal
 
 pub loop-k-preserved : goal.loop-k-preserved

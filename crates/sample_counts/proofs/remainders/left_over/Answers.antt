@@ -1,5 +1,5 @@
 use Rattle.std.proofs.Common.{arith}
-use Rattle.sample_counts.proofs.RemainderLemmas.{left_step}
+use Rattle.sample_counts.proofs.Lemmas.{left_step}
 use Rattle.sample_counts.proofs.remainders.left_over.Goals as goal
 
 pub overflow_sub-left : goal.overflow_sub-left

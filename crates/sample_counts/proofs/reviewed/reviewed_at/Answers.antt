@@ -1,6 +1,6 @@
 use Rattle.std.proofs.Common.{◌+◌, get_or}
 use Rattle.file_reader.specs.Rows.{no_row}
-use Rattle.sample_counts.proofs.SampleLemmas.{pair_refused}
+use Rattle.sample_counts.proofs.Lemmas.{pair_refused}
 use Rattle.sample_counts.proofs.reviewed.reviewed_at.Goals as goal
 
 pub returns-in-Err-clause-answer : goal.returns-in-Err-clause-answer

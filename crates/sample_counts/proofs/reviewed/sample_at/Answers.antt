@@ -1,5 +1,5 @@
 use Rattle.std.proofs.Common.{arith, sym}
-use Rattle.sample_counts.proofs.SampleLemmas.{place_within, places_push}
+use Rattle.sample_counts.proofs.Lemmas.{place_within, places_push}
 use Rattle.sample_counts.proofs.reviewed.sample_at.Goals as goal
 
 pub overflow_add-result-in-Some : goal.overflow_add-result-in-Some

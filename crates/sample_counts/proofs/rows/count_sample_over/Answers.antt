@@ -2,8 +2,7 @@ use Rattle.std.proofs.Common.{◌∙◌, ap, map, refl}
 use Rattle.sample_counts.specs.declared.reviewed.Reviewed.{Reviewed}
 use Rattle.sample_counts.specs.declared.counts.Judged.{Judged}
 use Rattle.sample_counts.specs.Counts.{judged_by}
-use Rattle.sample_counts.proofs.CountLemmas.{are-judged}
-use Rattle.sample_counts.proofs.OutcomeLemmas.{inside_sides, read_outcomes}
+use Rattle.sample_counts.proofs.Lemmas.{are-judged, inside_sides, read_outcomes}
 use Rattle.sample_counts.proofs.rows.count_sample_over.Goals as goal
 
 pub new-requires : goal.new-requires

@@ -1,7 +1,9 @@
-use Rattle.std.proofs.Common.{◌∙◌, sym}
-use Rattle.settings.proofs.Loops.{wholes_more}
+use Rattle.std.proofs.Common.{◌∙◌, rules, sym, tests}
+use Rattle.std.proofs.lemmas.Iterator.{YieldsList-from_slice}
+use Rattle.std.proofs.lemmas.Iterator.Search.{all_from_yields_List}
+use Rattle.settings.proofs.Ranges.{wholes_by_all}
 use Rattle.settings.proofs.shares.are_whole.Goals as goal
 
-pub loop-item-preserved : goal.loop-item-preserved
-loop-item-preserved c =
-    wholes_more c.args.items.now c.loop-item.item-index c.item-item.result _ c.loop-item-test.true c.item-item.is (sym c.is_integer.ensures ∙ c.if-not-is_integer.false) c.loop-item.invariant
+pub returns : goal.returns
+returns c =
+    all_from_yields_List _ _ _ _ c.all.ensures.ran (YieldsList-from_slice c.args.items.now cc) (λ x b q k. search (rules, tests)) ∙ sym (wholes_by_all c.args.items.now)

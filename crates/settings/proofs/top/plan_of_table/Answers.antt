@@ -4,8 +4,7 @@ use Rattle.link_plan.specs.declared.plan.Plan.{Plan}
 use Rattle.settings_readers.specs.declared.fault.KeyFault.{KeyFault}
 use Rattle.settings_readers.specs.KeptLaws.{kept}
 use Rattle.settings.specs.Settings.{of_keys, plan_of}
-use Rattle.settings.proofs.Answered.{is_settings_fault, never_not_toml, of_keys_refuse}
-use Rattle.settings.proofs.Ranges.{IsReadPlan, plan_is}
+use Rattle.settings.proofs.Ranges.{is_settings_fault, never_not_toml, of_keys_refuse, IsReadPlan, plan_is}
 use Rattle.settings.proofs.top.plan_of_table.Goals as goal
 
 pub returns-in-Ok-clause-gives : goal.returns-in-Ok-clause-gives

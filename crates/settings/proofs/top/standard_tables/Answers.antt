@@ -1,5 +1,4 @@
-use Rattle.std.proofs.Common.{◌≡◌, [], Result, Ok, Err}
-use Rattle.std.specs.Prelude.{IfOk}
+use Rattle.std.proofs.Common.{◌≡◌, [], Result, Ok, Err, IfOk}
 use Rattle.link_base.specs.declared.tables.Tables.{Tables}
 use Rattle.link_base.specs.Tables.{missing_marks, name_suffixes, name_titles}
 use Rattle.settings.specs.Settings.{standard_tables}

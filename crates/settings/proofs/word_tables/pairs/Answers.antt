@@ -1,7 +1,7 @@
 use Rattle.std.proofs.Common.{◌++◌, ◌∙◌, ap}
 use Rattle.std.specs.Map.Iter.{deref_pair}
 use Rattle.std.proofs.lemmas.Map.Iter.{rest_more}
-use Rattle.settings.proofs.Loops.{pairs_more}
+use Rattle.settings.proofs.Ranges.{pairs_more}
 use Rattle.settings.proofs.word_tables.pairs.Goals as goal
 
 pub loop-key-preserved : goal.loop-key-preserved

@@ -1,4 +1,4 @@
-use Rattle.settings_readers.proofs.Ascending.{keys_ascend-sorted}
+use Rattle.settings_readers.proofs.Lemmas.{keys_ascend-sorted}
 use Rattle.settings_readers.proofs.laws.keys_ascend.Goals as goal
 
 pub returns : goal.returns

@@ -1,4 +1,4 @@
-use Rattle.settings_readers.proofs.Ascending.{names_least}
+use Rattle.settings_readers.proofs.Lemmas.{names_least}
 use Rattle.settings_readers.proofs.laws.least_unknown_key.Goals as goal
 
 pub returns : goal.returns

@@ -1,7 +1,7 @@
 use Rattle.std.proofs.Common.{[], arith}
 use Rattle.toml.specs.View.{items_view}
 use Rattle.settings_readers.specs.Lists.{each}
-use Rattle.settings_readers.proofs.Steps.{each_more, each_refused, one_longer}
+use Rattle.settings_readers.proofs.Lemmas.{each_more, each_refused, one_longer}
 use Rattle.settings_readers.proofs.lists.each.Goals as goal
 
 pub loop-i-preserved : goal.loop-i-preserved

@@ -1,6 +1,5 @@
-use Rattle.std.proofs.Common.{◌≡◌, true, false, sym, ◌∙◌, arith}
-use Rattle.std.specs.Prelude.{nat_le, ◌&&◌}
-use Rattle.settings_readers.proofs.Steps.{sized_is}
+use Rattle.std.proofs.Common.{◌≡◌, true, false, sym, ◌∙◌, arith, nat_le, ◌&&◌}
+use Rattle.settings_readers.proofs.Lemmas.{sized_is}
 use Rattle.settings_readers.specs.StepLaws.{refused_as}
 use Rattle.settings_readers.proofs.lists.sized.Goals as goal
 

@@ -1,5 +1,5 @@
 use Rattle.std.proofs.Common.{◌∙◌, sym}
-use Rattle.settings_readers.proofs.Steps.{named_more}
+use Rattle.settings_readers.proofs.Lemmas.{named_more}
 use Rattle.settings_readers.proofs.values.named_in.Goals as goal
 
 pub loop-word-preserved : goal.loop-word-preserved

@@ -2,8 +2,7 @@ use Rattle.std.proofs.Common.{◌≡◌, Err, subst, sym, rules}
 use Rattle.standard_files.specs.Known.{AreTextIds, file_values}
 use Rattle.standard_files.specs.Texts.{canons_of_row, file_texts}
 use Rattle.standard_files.proofs.KnownLemmas.{ids-kept}
-use Rattle.standard_files.proofs.PlaceLemmas.{before, kept}
-use Rattle.standard_files.proofs.TakingLemmas.{refused-append, refused-then, taken-then}
+use Rattle.standard_files.proofs.TakingLemmas.{before, kept, refused-append, refused-then, taken-then}
 use Rattle.standard_files.proofs.canons.take_canons.Goals as goal
 
 pub returns-in_err-a : goal.returns-in_err-a

@@ -1,11 +1,10 @@
 use Rattle.std.proofs.Common.{Some, get_or, refl, rules, sym, subst}
-use Rattle.value_forms.specs.Canons.{exact}
+use Rattle.value_forms.specs.Canons.{exact, canon_of}
 use Rattle.link_base.specs.Rows.{value_seen}
-use Rattle.value_forms.specs.Canons.{canon_of}
 use Rattle.standard_files.specs.Known.{IsIdOf}
 use Rattle.standard_files.specs.Texts.{standard_text}
 use Rattle.standard_files.proofs.KnownLemmas.{id-kept, known-kept}
-use Rattle.standard_files.proofs.PlaceLemmas.{kept}
+use Rattle.standard_files.proofs.TakingLemmas.{kept}
 use Rattle.standard_files.proofs.canons.take_new.Goals as goal
 
 pub returns : goal.returns

@@ -3,10 +3,8 @@ use Rattle.link_base.specs.Standard.{absent_value}
 use Rattle.standard_files.specs.Known.{canon_at, side_at}
 use Rattle.standard_files.specs.Sides.{sides_of_row}
 use Rattle.standard_files.specs.Texts.{canons_of_row}
-use Rattle.standard_files.proofs.FileLemmas.{canons-at, push-sides, sides-at}
+use Rattle.standard_files.proofs.TakingLemmas.{canons-at, push-sides, sides-at, before, kept, goes-on, goes-refused}
 use Rattle.standard_files.proofs.KnownLemmas.{ids-kept, ids-many, ids-read}
-use Rattle.standard_files.proofs.PlaceLemmas.{before, kept}
-use Rattle.standard_files.proofs.TakingLemmas.{goes-on, goes-refused}
 use Rattle.standard_files.proofs.canons.take_row.Goals as goal
 
 pub loop-field-preserved : goal.loop-field-preserved

@@ -3,10 +3,8 @@ use Rattle.link_base.specs.Standard.{no_record}
 use Rattle.standard_files.specs.Known.{AreTextIds, file_values, flat_sides}
 use Rattle.standard_files.specs.Sides.{sides_of_row}
 use Rattle.standard_files.specs.Texts.{canons_of_row, file_texts}
-use Rattle.standard_files.proofs.FileLemmas.{file-row, flat-sides-at, push-ids, row-many}
+use Rattle.standard_files.proofs.TakingLemmas.{file-row, flat-sides-at, push-ids, row-many, before, kept, goes-on, goes-refused}
 use Rattle.standard_files.proofs.KnownLemmas.{ids-kept, ids-next, ids-room}
-use Rattle.standard_files.proofs.PlaceLemmas.{before, kept}
-use Rattle.standard_files.proofs.TakingLemmas.{goes-on, goes-refused}
 use Rattle.standard_files.proofs.canons.take_rows.Goals as goal
 
 pub returns-in_err-take_row : goal.returns-in_err-take_row

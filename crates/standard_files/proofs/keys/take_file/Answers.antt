@@ -3,12 +3,8 @@ use Rattle.block_passes.specs.KeyIds.{ids_of_row, key_ids}
 use Rattle.link_base.specs.Standard.{no_record}
 use Rattle.standard_files.specs.Known.{AreTextIds, file_values}
 use Rattle.standard_files.specs.Texts.{canons_of_row, file_texts, parts_of_row}
-use Rattle.standard_files.proofs.FileLemmas.{file-row, push-ids, row-many}
-use Rattle.standard_files.proofs.HeldLemmas.{held-more}
-use Rattle.standard_files.proofs.KeyLemmas.{ids-row, row-known, rows-many}
-use Rattle.standard_files.proofs.KnownLemmas.{ids-kept, ids-next, ids-room}
-use Rattle.standard_files.proofs.PlaceLemmas.{before, kept}
-use Rattle.standard_files.proofs.TakingLemmas.{goes-on, goes-refused}
+use Rattle.standard_files.proofs.TakingLemmas.{file-row, push-ids, row-many, held-more, before, kept, goes-on, goes-refused}
+use Rattle.standard_files.proofs.KnownLemmas.{ids-row, row-known, rows-many, ids-kept, ids-next, ids-room}
 use Rattle.standard_files.proofs.keys.take_file.Goals as goal
 
 pub loop-at-preserved : goal.loop-at-preserved

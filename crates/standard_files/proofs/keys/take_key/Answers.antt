@@ -2,10 +2,8 @@ use Rattle.std.proofs.Common.{◌≡◌, ◌+◌, ◌++◌, ◌∷◌, [], Err, 
 use Rattle.block_passes.specs.KeyIds.{ids_in_pass, part_id}
 use Rattle.block_passes.specs.Keys.{no_part, part_key}
 use Rattle.standard_files.specs.Texts.{parts_in_pass}
-use Rattle.standard_files.proofs.FileLemmas.{part-texts, push-sides}
-use Rattle.standard_files.proofs.KeyLemmas.{ids-part, row-kept}
-use Rattle.standard_files.proofs.PlaceLemmas.{before}
-use Rattle.standard_files.proofs.TakingLemmas.{goes-on, goes-refused, whole-is}
+use Rattle.standard_files.proofs.TakingLemmas.{part-texts, push-sides, before, goes-on, goes-refused, whole-is}
+use Rattle.standard_files.proofs.KnownLemmas.{ids-part, row-kept}
 use Rattle.standard_files.proofs.keys.take_key.Goals as goal
 
 pub loop-part-preserved : goal.loop-part-preserved

@@ -1,9 +1,8 @@
 use Rattle.std.proofs.Common.{◌≡◌, Err, sym, subst, rules}
 use Rattle.standard_files.specs.Known.{IsKnownFile}
 use Rattle.standard_files.specs.Texts.{file_texts, parts_of_row}
-use Rattle.standard_files.proofs.KeyLemmas.{file-kept}
-use Rattle.standard_files.proofs.PlaceLemmas.{before}
-use Rattle.standard_files.proofs.TakingLemmas.{refused-append, refused-then, taken-then}
+use Rattle.standard_files.proofs.KnownLemmas.{file-kept}
+use Rattle.standard_files.proofs.TakingLemmas.{before, refused-append, refused-then, taken-then}
 use Rattle.standard_files.proofs.keys.take_keys.Goals as goal
 
 pub returns-in_err-ids_a : goal.returns-in_err-ids_a

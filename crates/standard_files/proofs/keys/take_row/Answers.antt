@@ -1,10 +1,8 @@
 use Rattle.std.proofs.Common.{◌≡◌, ◌+◌, ◌++◌, Err, drop, arith, rules, ap}
 use Rattle.block_passes.specs.KeyIds.{ids_in_pass, ids_of_row}
 use Rattle.standard_files.specs.Texts.{parts_in_pass, parts_of_row}
-use Rattle.standard_files.proofs.FileLemmas.{pass-parts, push-ids}
-use Rattle.standard_files.proofs.KeyLemmas.{ids-pass, row-kept}
-use Rattle.standard_files.proofs.PlaceLemmas.{before}
-use Rattle.standard_files.proofs.TakingLemmas.{goes-on, goes-refused, whole-is}
+use Rattle.standard_files.proofs.TakingLemmas.{pass-parts, push-ids, before, goes-on, goes-refused, whole-is}
+use Rattle.standard_files.proofs.KnownLemmas.{ids-pass, row-kept}
 use Rattle.standard_files.proofs.keys.take_row.Goals as goal
 
 pub loop-pass-preserved : goal.loop-pass-preserved

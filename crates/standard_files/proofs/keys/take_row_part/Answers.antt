@@ -9,9 +9,8 @@ use Rattle.value_forms.specs.Canons.{canon_by}
 use Rattle.standard_files.specs.Known.{IsIdOf}
 use Rattle.standard_files.specs.Taking.{InLater, TakesTexts}
 use Rattle.standard_files.specs.Texts.{standard_text}
-use Rattle.standard_files.proofs.HeldLemmas.{canon-held, takes-held}
-use Rattle.standard_files.proofs.KeyLemmas.{holds-more, id-part, known-part}
-use Rattle.standard_files.proofs.KnownLemmas.{id-taken, ids-at, ids-many}
+use Rattle.standard_files.proofs.TakingLemmas.{canon-held, takes-held}
+use Rattle.standard_files.proofs.KnownLemmas.{holds-more, id-part, known-part, id-taken, ids-at, ids-many}
 use Rattle.standard_files.proofs.keys.take_row_part.Goals.{In-Some}
 use Rattle.standard_files.proofs.keys.take_row_part.Goals as goal
 

@@ -1,4 +1,4 @@
-use Rattle.standard_files.proofs.DistinctLemmas.{among, full, once, taken}
+use Rattle.standard_files.proofs.SideLemmas.{among, full, once, taken}
 use Rattle.standard_files.proofs.pool_laws.distinct_taken.Goals as goal
 
 pub returns-clause-among : goal.returns-clause-among

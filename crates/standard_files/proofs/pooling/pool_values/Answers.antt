@@ -1,9 +1,8 @@
 use Rattle.std.proofs.Common.{◌≡◌, List, true, ℕ, sym}
 use Rattle.value_pool.specs.Texts.{stands_among}
 use Rattle.standard_files.specs.Texts.{all_texts}
-use Rattle.standard_files.proofs.PlaceLemmas.{extends-self}
+use Rattle.standard_files.proofs.TakingLemmas.{extends-self, holds-parts, in-canons-a, in-canons-b, in-parts-a, in-parts-b, taken-stands}
 use Rattle.standard_files.proofs.SideLemmas.{file-sides}
-use Rattle.standard_files.proofs.StandLemmas.{holds-parts, in-canons-a, in-canons-b, in-parts-a, in-parts-b, taken-stands}
 use Rattle.standard_files.proofs.pooling.pool_values.Goals as goal
 
 pub returns-clause-pooled : goal.returns-clause-pooled

@@ -1,10 +1,8 @@
 use Rattle.std.proofs.Common.{◌≡◌, ◌++◌, Err, rules}
 use Rattle.standard_files.specs.Known.{file_values}
 use Rattle.standard_files.specs.Texts.{both_texts, canons_of_row, file_texts, parts_of_row, texts_of_row}
-use Rattle.standard_files.proofs.HeldLemmas.{held-left, held-right, held-taken}
+use Rattle.standard_files.proofs.TakingLemmas.{held-left, held-right, held-taken, before, kept, refused-append, refused-then, taken-then}
 use Rattle.standard_files.proofs.KnownLemmas.{ids-kept}
-use Rattle.standard_files.proofs.PlaceLemmas.{before, kept}
-use Rattle.standard_files.proofs.TakingLemmas.{refused-append, refused-then, taken-then}
 use Rattle.standard_files.proofs.pooling.take_values.Goals as goal
 
 pub returns-in_err-texts : goal.returns-in_err-texts

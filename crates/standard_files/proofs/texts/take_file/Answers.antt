@@ -1,25 +1,24 @@
 use Rattle.std.proofs.Common.{◌≡◌, ◌+◌, ◌++◌, Err, drop, take, arith, rules}
 use Rattle.standard_files.specs.Known.{AreTextIds, file_values}
 use Rattle.standard_files.specs.Texts.{file_texts, texts_of_row}
-use Rattle.standard_files.proofs.FileLemmas.{file-row, values-more}
-use Rattle.standard_files.proofs.TakingLemmas.{goes-on, goes-refused}
+use Rattle.standard_files.proofs.TakingLemmas.{file-row, values-more, goes-on, goes-refused}
 use Rattle.standard_files.proofs.texts.take_file.Goals as goal
 
 pub loop-at-preserved : goal.loop-at-preserved
 loop-at-preserved c =
     let file = c.args.file.now in
     let at = c.loop-at.at in
-    let row = c.row.result in
+    let row = c.row-in-loop-at.result in
     let taken = c.in_ok-take_row.ensures in
     let ids : AreTextIds c.take_row.new.pool.texts (file_values (take at file) ++ row) c.take_row.new.ids.items = taken.holds (file_values (take at file)) c.loop-at.invariant.ids in
     record {
-      goes = goes-on (file_texts texts_of_row (drop (at + 1) file)) c.loop-at.invariant.goes taken (file-row texts_of_row file at row (omega arith) c.row.ensures);
-      ids = rw (values-more file at row (omega arith) c.row.ensures) ids;
+      goes = goes-on (file_texts texts_of_row (drop (at + 1) file)) c.loop-at.invariant.goes taken (file-row texts_of_row file at row (omega arith) c.row-in-loop-at.ensures);
+      ids = rw (values-more file at row (omega arith) c.row-in-loop-at.ensures) ids;
     }
 
 pub returns-in_err-take_row : goal.returns-in_err-take_row
 returns-in_err-take_row c =
     let f = c.in_err-take_row.field-0.0 in
     let is : c.from_residual.result ≡ Err f = search rules in
-    rw is (goes-refused (texts_of_row c.row.result) (file_texts texts_of_row (drop (c.loop-at.at + 1) c.args.file.now)) f c.loop-at.invariant.goes
-    (file-row texts_of_row c.args.file.now c.loop-at.at c.row.result (omega arith) c.row.ensures) c.in_err-take_row.ensures)
+    rw is (goes-refused (texts_of_row c.row-in-loop-at.result) (file_texts texts_of_row (drop (c.loop-at.at + 1) c.args.file.now)) f c.loop-at.invariant.goes
+    (file-row texts_of_row c.args.file.now c.loop-at.at c.row-in-loop-at.result (omega arith) c.row-in-loop-at.ensures) c.in_err-take_row.ensures)

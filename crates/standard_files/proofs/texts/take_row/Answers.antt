@@ -1,10 +1,8 @@
 use Rattle.std.proofs.Common.{◌≡◌, ◌+◌, ◌++◌, ◌∷◌, [], Err, drop, take, option_to_list, arith, rules}
 use Rattle.link_base.specs.Rows.{value_seen}
 use Rattle.standard_files.specs.Texts.{standard_text, texts_of_row}
-use Rattle.standard_files.proofs.FileLemmas.{row-texts, values-push}
+use Rattle.standard_files.proofs.TakingLemmas.{row-texts, values-push, kept, goes-on, goes-refused}
 use Rattle.standard_files.proofs.KnownLemmas.{ids-push}
-use Rattle.standard_files.proofs.PlaceLemmas.{kept}
-use Rattle.standard_files.proofs.TakingLemmas.{goes-on, goes-refused}
 use Rattle.standard_files.proofs.texts.take_row.Goals as goal
 
 pub loop-at-preserved : goal.loop-at-preserved

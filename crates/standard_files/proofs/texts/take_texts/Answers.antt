@@ -2,8 +2,7 @@ use Rattle.std.proofs.Common.{◌≡◌, Err, rules}
 use Rattle.standard_files.specs.Known.{file_values}
 use Rattle.standard_files.specs.Texts.{file_texts, texts_of_row}
 use Rattle.standard_files.proofs.KnownLemmas.{ids-kept}
-use Rattle.standard_files.proofs.PlaceLemmas.{kept}
-use Rattle.standard_files.proofs.TakingLemmas.{refused-append, refused-then, taken-then}
+use Rattle.standard_files.proofs.TakingLemmas.{kept, refused-append, refused-then, taken-then}
 use Rattle.standard_files.proofs.texts.take_texts.Goals as goal
 
 pub returns-in_err-ids_a : goal.returns-in_err-ids_a

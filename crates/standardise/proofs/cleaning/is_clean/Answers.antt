@@ -1,10 +1,19 @@
-use Rattle.std.proofs.Common.{sym, ◌∙◌}
-use Rattle.standardise.proofs.CleaningLemmas.{ascii_text}
+use Rattle.std.proofs.Common.{◌≡◌, ◌<◌, ◌∙◌, ℕ, arith, get_or, length, sym, true}
+use Rattle.std.proofs.lemmas.Bool.Decides.{nat_tests}
+use Rattle.link_base.specs.Tables.{is_word_byte}
+use Rattle.standardise.proofs.WordLemmas.{ascii_text, stays_as_is, one_word}
 use Rattle.standardise.proofs.cleaning.is_clean.Goals as goal
 
 pub returns-clause-text : goal.returns-clause-text
 returns-clause-text c = λ told.
-    let bytes = c.as_bytes.result.now in
-    let plain = c.is_clean_word.ensures.ascii told in
-    let same = c.is_clean_word.ensures.text told in
-    rw (← c.as_bytes.ensures.value) (sym same ∙ ascii_text bytes plain)
+    let bytes = c.as_bytes-bytes.result.now in
+    let all : (k : ℕ) → k < length bytes → is_word_byte (get_or bytes k 0) ≡ true = λ k lt. c.loop-byte.invariant k (omega (arith, lt, c.loop-byte-test.false)) in
+    let is = stays_as_is bytes all in
+    rw (← c.as_bytes-bytes.ensures.value) (sym is.text ∙ ascii_text bytes is.ascii)
+
+pub returns-clause-word : goal.returns-clause-word
+returns-clause-word c = λ told.
+    let bytes = c.as_bytes-bytes.result.now in
+    let all : (k : ℕ) → k < length bytes → is_word_byte (get_or bytes k 0) ≡ true = λ k lt. c.loop-byte.invariant k (omega (arith, lt, c.loop-byte-test.false)) in
+    let some : 0 < length bytes = grind (arith, nat_tests) in
+    rw (← c.as_bytes-bytes.ensures.value) (one_word bytes some (stays_as_is bytes all).spaced)

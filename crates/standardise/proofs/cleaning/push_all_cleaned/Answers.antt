@@ -2,7 +2,7 @@ use Rattle.std.proofs.Common.{◌++◌, encode_utf8_all, take, append_assoc, ap,
 use Rattle.std.specs.List.{flat_map}
 use Rattle.std.specs.String.{string_bytes}
 use Rattle.standardise.specs.Cleaning.{cleaned_char}
-use Rattle.standardise.proofs.CleaningLemmas.{cleaned_more}
+use Rattle.standardise.proofs.WordLemmas.{cleaned_more}
 use Rattle.standardise.proofs.cleaning.push_all_cleaned.Goals as goal
 
 pub loop-c-preserved : goal.loop-c-preserved

@@ -1,6 +1,6 @@
 use Rattle.std.proofs.Common.{get_or, length, ◌-◌, subst, sym}
 use Rattle.std.specs.Char.{IsAsciiGraphic}
-use Rattle.standardise.proofs.TrimLemmas.{trim_visible}
+use Rattle.standardise.proofs.StepLemmas.{trim_visible}
 use Rattle.standardise.proofs.white_space.trimmed.Goals as goal
 
 pub returns-then-has_visible_ends : goal.returns-then-has_visible_ends

@@ -4,7 +4,7 @@ use Rattle.std.proofs.lemmas.Cmp.{nat_list_cmp_total}
 use Rattle.std.proofs.lemmas.List.Sorted.{ranks_by}
 use Rattle.std.proofs.lemmas.Fn.{always_returns_same}
 use Rattle.standardise.specs.Tables.{text_cmp}
-use Rattle.standardise.proofs.OrderLemmas.{sorted_rises}
+use Rattle.standardise.proofs.StepLemmas.{sorted_rises}
 use Rattle.standardise.proofs.word_set.in_order.Goals as goal
 
 pub returns : goal.returns

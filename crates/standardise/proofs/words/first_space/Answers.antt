@@ -1,6 +1,7 @@
 use Rattle.std.proofs.Common.{◌≡◌, ◌∙◌, drop, get_or, take}
+use Rattle.std.proofs.lemmas.List.{get_or_default}
 use Rattle.standardise.specs.Words.{words, words_after}
-use Rattle.standardise.proofs.StepLemmas.{no_space_here, same_byte}
+use Rattle.standardise.proofs.StepLemmas.{no_space_here}
 use Rattle.standardise.proofs.WordLemmas.{past_letter, utf8_parted}
 use Rattle.standardise.proofs.words.first_space.Goals as goal
 
@@ -11,4 +12,4 @@ pub loop-i-preserved : goal.loop-i-preserved
 loop-i-preserved c =
     let text = c.args.text.now in
     let told : words_after (take c.loop-i.i text) (drop c.loop-i.i text) ≡ words text = c.loop-i.invariant in
-    past_letter text c.loop-i.i (get_or text c.loop-i.i 0) c.loop-i-test.true (same_byte text c.loop-i.i 0 _ c.loop-i-test.true) (no_space_here _ c.if-byte-eq32.false) ∙ told
+    past_letter text c.loop-i.i (get_or text c.loop-i.i 0) c.loop-i-test.true (get_or_default text c.loop-i.i 0 _ c.loop-i-test.true) (no_space_here _ c.if-byte-eq32.false) ∙ told

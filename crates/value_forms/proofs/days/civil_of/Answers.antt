@@ -2,8 +2,7 @@ use Rattle.std.proofs.Common.{◌≡◌, Some, ap, sym, ◌∙◌, arith}
 use Rattle.std.proofs.lemmas.Int.{ints}
 use Rattle.jiff_core.specs.Date.{epoch_day}
 use Rattle.value_forms.specs.Days.{civil_day, month_day_of_day, month_of_day, year_of_day}
-use Rattle.value_forms.proofs.BegunLemmas.{month_day_is, month_is, year_is}
-use Rattle.value_forms.proofs.DayLemmas.{late_year, natural_year, civil_day_of, year_bits}
+use Rattle.value_forms.proofs.DayLemmas.{month_day_is, month_is, year_is, late_year, natural_year, civil_day_of, year_bits}
 use Rattle.value_forms.proofs.days.civil_of.Goals as goal
 
 pub overflow_cast-result : goal.overflow_cast-result

@@ -1,4 +1,4 @@
-use Rattle.value_forms.proofs.CivilLemmas.{in_ascii, read_again, ten_bytes}
+use Rattle.value_forms.proofs.TextLemmas.{in_ascii, read_again, ten_bytes}
 use Rattle.value_forms.proofs.days.day_read_again.Goals as goal
 
 pub returns : goal.returns

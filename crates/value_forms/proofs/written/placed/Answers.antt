@@ -1,6 +1,6 @@
 use Rattle.std.proofs.Common.{◌+◌, ◌∙◌, ap, arith, length, length-drop, sym}
 use Rattle.value_forms.specs.Written.{in_form}
-use Rattle.value_forms.proofs.WrittenLemmas.{if_some, placed}
+use Rattle.value_forms.proofs.ReadableLemmas.{if_some, placed}
 use Rattle.value_forms.proofs.written.placed.Goals as goal
 
 pub returns-clause-value : goal.returns-clause-value

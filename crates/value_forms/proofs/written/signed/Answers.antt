@@ -1,5 +1,5 @@
 use Rattle.std.proofs.Common.{◌∙◌}
-use Rattle.value_forms.proofs.WrittenLemmas.{signed_at}
+use Rattle.value_forms.proofs.ReadableLemmas.{signed_at}
 use Rattle.value_forms.proofs.written.signed.Goals as goal
 
 pub returns-clause-value : goal.returns-clause-value

@@ -1,5 +1,4 @@
-use Rattle.std.proofs.Common.{◌≡◌, drop, length}
-use Rattle.std.specs.Prelude.{bit_xor}
+use Rattle.std.proofs.Common.{◌≡◌, drop, length, bit_xor}
 use Rattle.value_pool.specs.Hashes.{hash_from}
 use Rattle.value_pool.specs.declared.hashes.TheConstants.{START}
 use Rattle.value_pool.proofs.hashes.hash.Given as goal

@@ -1,6 +1,6 @@
 use Rattle.std.proofs.Common.{rules}
 use Rattle.value_pool.specs.declared.chains.Slot.{Slot}
-use Rattle.value_pool.proofs.OrderLemmas.{next-placed, none-placed}
+use Rattle.value_pool.proofs.PlaceLemmas.{next-placed, none-placed}
 use Rattle.value_pool.proofs.order.places_of.Goals as goal
 
 pub loop-place-init : goal.loop-place-init

@@ -1,4 +1,4 @@
-use Rattle.value_pool.proofs.OrderLemmas.{put-places}
+use Rattle.value_pool.proofs.PlaceLemmas.{put-places}
 use Rattle.value_pool.proofs.order.put.Goals as goal
 
 pub returns-in-Ok : goal.returns-in-Ok

@@ -1,5 +1,5 @@
 use Rattle.std.proofs.Common.{arith}
-use Rattle.value_pool.proofs.EqualLemmas.{alike}
+use Rattle.value_pool.proofs.ChainLemmas.{alike}
 use Rattle.value_pool.proofs.same_text.same_bytes.Goals as goal
 
 pub returns : goal.returns

@@ -1,6 +1,6 @@
 use Rattle.std.proofs.Common.{◌≡◌, ◌∙◌, arith, length, nat_le, rules, sym, true}
 use Rattle.std.proofs.lemmas.Slice.Eq.{bytes_eq-Decides}
-use Rattle.value_pool.proofs.WordLemmas.{word_whole}
+use Rattle.value_pool.proofs.ChainLemmas.{word_whole}
 use Rattle.value_pool.proofs.same_text.same_text.Goals as goal
 
 pub returns-then-held-le-WORD_BYTES : goal.returns-then-held-le-WORD_BYTES

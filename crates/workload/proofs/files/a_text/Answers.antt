@@ -1,7 +1,7 @@
 use Rattle.std.proofs.Common.{ap}
 use Rattle.csv.specs.Writing.{default_writer, row_text}
 use Rattle.workload.specs.Made.{file_header, id_a, person_row, row_a}
-use Rattle.workload.proofs.RowLemmas.{text_more}
+use Rattle.workload.proofs.Lemmas.{text_more}
 use Rattle.workload.proofs.files.a_text.Goals as goal
 
 pub loop-row-preserved : goal.loop-row-preserved

@@ -1,5 +1,5 @@
 use Rattle.std.proofs.Common.{arith, rules}
-use Rattle.workload.proofs.WordLemmas.{of_words}
+use Rattle.workload.proofs.Lemmas.{of_words}
 use Rattle.workload.proofs.words.word_of_four.Goals as goal
 
 pub returns : goal.returns

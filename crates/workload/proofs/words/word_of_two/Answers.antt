@@ -1,5 +1,5 @@
 use Rattle.std.proofs.Common.{arith, rules}
-use Rattle.workload.proofs.WordLemmas.{of_syllables}
+use Rattle.workload.proofs.Lemmas.{of_syllables}
 use Rattle.workload.proofs.words.word_of_two.Goals as goal
 
 pub returns : goal.returns

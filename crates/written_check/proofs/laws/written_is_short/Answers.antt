@@ -1,5 +1,4 @@
-use Rattle.written_check.proofs.ShortLemmas.{links_short, prices_short, rule_short}
-use Rattle.written_check.proofs.SmallPrices.{small_a, small_b}
+use Rattle.written_check.proofs.StepLemmas.{links_short, prices_short, rule_short, small_a, small_b}
 use Rattle.written_check.proofs.laws.written_is_short.Goals as goal
 
 pub returns : goal.returns

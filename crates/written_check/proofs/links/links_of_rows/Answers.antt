@@ -1,5 +1,4 @@
-use Rattle.std.proofs.Common.{◌≡◌, ◌∙◌, ◌∷◌, ◌++◌, [], List, Some, ap, arith, get_or, length, length-append, rules, subst, sym, ℕ}
-use Rattle.std.specs.Prelude.{AllPairs}
+use Rattle.std.proofs.Common.{◌≡◌, ◌∙◌, ◌∷◌, ◌++◌, [], List, Some, ap, arith, get_or, length, length-append, rules, subst, sym, ℕ, AllPairs}
 use Rattle.price_check.specs.Assignment.{IsBefore, no_candidate}
 use Rattle.csv.specs.Records.{fields_of}
 use Rattle.link_base.specs.declared.rule.Candidate.{Candidate}

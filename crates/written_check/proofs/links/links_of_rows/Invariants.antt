@@ -1,5 +1,4 @@
-use Rattle.std.proofs.Common.{◌≡◌, ◌≤◌, ◌+◌, [], length}
-use Rattle.std.specs.Prelude.{AllPairs}
+use Rattle.std.proofs.Common.{◌≡◌, ◌≤◌, ◌+◌, [], length, AllPairs}
 use Rattle.price_check.specs.Assignment.{IsBefore}
 use Rattle.written_check.specs.LinkRows.{links_in}
 use Rattle.written_check.proofs.links.links_of_rows.Given as goal

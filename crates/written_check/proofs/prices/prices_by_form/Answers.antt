@@ -6,8 +6,7 @@ use Rattle.written_check.specs.PriceRows.{PricePair}
 use Rattle.written_check.specs.PricesSeen.{prices_seen}
 use Rattle.written_check.specs.Refuted.{Verifies}
 use Rattle.written_check.specs.declared.refutation.Refutation.{Refutation}
-use Rattle.written_check.proofs.FormLemmas.{prices_under}
-use Rattle.written_check.proofs.VerifiedLemmas.{under_fit}
+use Rattle.written_check.proofs.FormLemmas.{prices_under, under_fit}
 use Rattle.written_check.proofs.prices.prices_by_form.Goals as goal
 
 pub returns-in-Rows-clause-answer : goal.returns-in-Rows-clause-answer

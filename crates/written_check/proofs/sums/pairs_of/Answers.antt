@@ -1,7 +1,7 @@
 use Rattle.std.proofs.Common.{◌≡◌, ◌∙◌, ap, arith, map, take}
 use Rattle.std.proofs.lemmas.List.{take_all}
 use Rattle.written_check.specs.Certified.{pair_of}
-use Rattle.written_check.proofs.ListLemmas.{map_more}
+use Rattle.written_check.proofs.LinkLemmas.{map_more}
 use Rattle.written_check.proofs.sums.pairs_of.Goals as goal
 
 pub loop-link-preserved : goal.loop-link-preserved

@@ -1,12 +1,11 @@
-use Rattle.std.proofs.Common.{◌+◌, ◌∙◌, List, ap, subst, sym}
-use Rattle.std.specs.Prelude.{All, AllPairs, option_map}
+use Rattle.std.proofs.Common.{◌+◌, ◌∙◌, List, ap, subst, sym, All, AllPairs, option_map}
 use Rattle.link_base.specs.Rule.{IsPairBefore}
 use Rattle.link_base.specs.declared.rule.PairAt.{PairAt}
 use Rattle.price_check.specs.Search.{IsPairWithin}
 use Rattle.price_check.specs.Verdict.{IsFirstReused}
 use Rattle.written_check.specs.Refuted.{unless_row}
 use Rattle.written_check.specs.declared.refutation.Refutation.TheVariants as refutation
-use Rattle.written_check.proofs.ApartLemmas.{apart_reused, pairs_rise, pairs_within}
+use Rattle.written_check.proofs.LinkLemmas.{apart_reused, pairs_rise, pairs_within}
 use Rattle.written_check.proofs.sums.verify_apart.Goals as goal
 
 pub first_reused-requires-clause-rising : goal.first_reused-requires-clause-rising

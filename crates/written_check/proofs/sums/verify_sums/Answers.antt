@@ -1,11 +1,10 @@
-use Rattle.std.proofs.Common.{List, ap, arith, length, ℤ}
-use Rattle.std.specs.Prelude.{All}
+use Rattle.std.proofs.Common.{List, ap, arith, length, ℤ, All}
 use Rattle.std.proofs.lemmas.Int.{ints}
 use Rattle.std.proofs.lemmas.List.Elements.{All-contains}
 use Rattle.price_check.specs.Assignment.{IsCovered, price_sum}
 use Rattle.price_check.specs.Verdict.{HasAllowedValue}
 use Rattle.written_check.specs.PricesSeen.{prices_seen}
-use Rattle.written_check.proofs.SumLemmas.{sums_differ, sums_ok, sums_uncovered}
+use Rattle.written_check.proofs.StepLemmas.{sums_differ, sums_ok, sums_uncovered}
 use Rattle.written_check.proofs.sums.verify_sums.Goals as goal
 
 pub first_uncovered-requires-clause-in_range : goal.first_uncovered-requires-clause-in_range

@@ -1,5 +1,4 @@
-use Rattle.std.proofs.Common.{◌∙◌, ◌<◌, List, ap, arith, length, rules, subst, sym, ℕ}
-use Rattle.std.specs.Prelude.{All, AllPairs}
+use Rattle.std.proofs.Common.{◌∙◌, ◌<◌, List, ap, arith, length, rules, subst, sym, ℕ, All, AllPairs}
 use Rattle.std.proofs.lemmas.List.Elements.{All-contains}
 use Rattle.price_check.specs.Assignment.{IsBefore, IsWithin}
 use Rattle.link_base.specs.declared.rule.Candidate.{Candidate}
@@ -7,7 +6,7 @@ use Rattle.written_check.specs.Certified.{AreTaken}
 use Rattle.link_base.specs.AnswerLaws.{refuses-then}
 use Rattle.written_check.specs.Refuted.{is_want}
 use Rattle.written_check.proofs.StepLemmas.{after_apart, after_links, after_prices, after_rule, refuses_whole}
-use Rattle.written_check.proofs.VerifiedLemmas.{links_are}
+use Rattle.written_check.proofs.FormLemmas.{links_are}
 use Rattle.written_check.proofs.RowFacts.{prices_are}
 use Rattle.written_check.proofs.written.verify_written.Goals as goal
 

@@ -1,5 +1,4 @@
-use Rattle.std.proofs.Common.{◌*◌, ◌/◌, ℕ, ◌≤◌, ap, sym, refl, heap_items, rules}
-use Rattle.std.specs.Prelude.{All}
+use Rattle.std.proofs.Common.{◌*◌, ◌/◌, ℕ, ◌≤◌, ap, sym, refl, heap_items, rules, All}
 use Rattle.std.specs.Ordering.{nat_cmp}
 use Rattle.std.proofs.lemmas.List.Sorted.{first_le_from_greatest}
 use Rattle.std.proofs.lemmas.List.Elements.{All-map}

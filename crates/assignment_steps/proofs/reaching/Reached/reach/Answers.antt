@@ -1,5 +1,4 @@
-use Rattle.std.proofs.Common.{◌≡◌, ◌<◌, length, set, ap, inl, inr, arith, rules}
-use Rattle.std.specs.Prelude.{vec_len}
+use Rattle.std.proofs.Common.{◌≡◌, ◌<◌, length, set, ap, inl, inr, arith, rules, vec_len}
 use Rattle.assignment_steps.specs.Distances.{far}
 use Rattle.assignment_steps.specs.ReachedLaws.{noted_count, noted_in}
 use Rattle.assignment_steps.specs.DistanceLaws.{distance-set}

@@ -1,5 +1,4 @@
-use Rattle.std.proofs.Common.{◌<◌, length, arith, rules}
-use Rattle.std.specs.Prelude.{All}
+use Rattle.std.proofs.Common.{◌<◌, length, arith, rules, All}
 use Rattle.assignment_steps.proofs.reaching.Reached.shift.Goals as goal
 
 pub lower-requires : goal.lower-requires

@@ -1,5 +1,4 @@
-use Rattle.std.proofs.Common.{◌∷◌, ◌++◌, ◌∙◌, [], Some, refl, ap, rules}
-use Rattle.std.specs.Prelude.{option_map}
+use Rattle.std.proofs.Common.{◌∷◌, ◌++◌, ◌∙◌, [], Some, refl, ap, rules, option_map}
 use Rattle.std.proofs.lemmas.List.{flat_map_more}
 use Rattle.block_passes.specs.Codes.{coded_text, coded_texts}
 use Rattle.block_passes.specs.Keys.{key_in_pass, no_part, part_key}

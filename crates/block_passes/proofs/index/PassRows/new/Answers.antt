@@ -1,7 +1,7 @@
 use Rattle.std.proofs.Common.{◌∙◌}
 use Rattle.block_passes.specs.Index.{row_at}
 use Rattle.block_passes.specs.Keys.{key_in_pass}
-use Rattle.block_passes.proofs.CodeLemmas.{rows-are-keys}
+use Rattle.block_passes.proofs.ChainLemmas.{rows-are-keys}
 use Rattle.block_passes.proofs.index.PassRows.new.Goals as goal
 
 pub returns-clause-rows : goal.returns-clause-rows

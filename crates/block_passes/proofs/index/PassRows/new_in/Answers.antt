@@ -1,7 +1,7 @@
 use Rattle.std.proofs.Common.{[], length, get_or, ap, sym, ◌∙◌, arith}
 use Rattle.std.proofs.lemmas.List.{get_or_read}
 use Rattle.block_passes.specs.PassIds.{AreIdsInPass}
-use Rattle.block_passes.proofs.KeyIdLemmas.{by-code-rows, by-part-long, by-part-rows, told-ids, told-long}
+use Rattle.block_passes.proofs.StepLemmas.{by-code-rows, by-part-long, by-part-rows, told-ids, told-long}
 use Rattle.block_passes.proofs.index.PassRows.new_in.Goals.{After-of-of_b}
 use Rattle.block_passes.proofs.index.PassRows.new_in.Goals as goal
 

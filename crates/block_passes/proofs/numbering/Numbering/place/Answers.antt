@@ -1,6 +1,6 @@
 use Rattle.std.proofs.Common.{◌∙◌, sym}
 use Rattle.value_pool.proofs.PlaceLemmas.{held-place}
-use Rattle.block_passes.proofs.NumberLemmas.{place-missed}
+use Rattle.block_passes.proofs.StepLemmas.{place-missed}
 use Rattle.block_passes.specs.NumberingLaws.{place-read}
 use Rattle.block_passes.proofs.numbering.Numbering.place.Goals as goal
 

@@ -1,5 +1,4 @@
-use Rattle.std.proofs.Common.{◌∷◌, ◌++◌, ◌∙◌, [], None, Some, refl, sym, ap, rules}
-use Rattle.std.specs.Prelude.{option_map}
+use Rattle.std.proofs.Common.{◌∷◌, ◌++◌, ◌∙◌, [], None, Some, refl, sym, ap, rules, option_map}
 use Rattle.std.proofs.lemmas.List.{flat_map_more, get_or_read}
 use Rattle.block_passes.specs.IdCodes.{bytes_of_ids, id_bytes}
 use Rattle.block_passes.specs.PassIds.{all_ids}

@@ -1,5 +1,5 @@
 use Rattle.std.proofs.Common.{refl, ◌∙◌, sym, inr}
-use Rattle.file_reader.proofs.Steps.{going, goes_on, ends, of_memory}
+use Rattle.file_reader.proofs.RowFacts.{going, goes_on, ends, of_memory}
 use Rattle.file_reader.proofs.records.Records.next.Goals as goal
 
 pub invariant_of-self : goal.invariant_of-self

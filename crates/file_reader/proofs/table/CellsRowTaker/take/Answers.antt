@@ -1,4 +1,4 @@
-use Rattle.file_reader.proofs.TakerFacts.{cells_more}
+use Rattle.file_reader.proofs.RowFacts.{cells_more}
 use Rattle.file_reader.proofs.table.CellsRowTaker.take.Goals as goal
 
 pub returns-clause-one_more : goal.returns-clause-one_more

@@ -1,7 +1,6 @@
 use Rattle.std.proofs.Common.{◌<◌, ◌∙◌, ap, length, sym}
 use Rattle.link_base.specs.Rows.{IsPlaced, values_in}
-use Rattle.link_base.proofs.CellFacts.{row_at, row_placed}
-use Rattle.link_base.proofs.RegionFacts.{length_pieces}
+use Rattle.link_base.proofs.RegionFacts.{row_at, row_placed, length_pieces}
 use Rattle.link_base.proofs.rows.StdRows.row.Goals as goal
 
 pub piece_in-requires-clause-within : goal.piece_in-requires-clause-within

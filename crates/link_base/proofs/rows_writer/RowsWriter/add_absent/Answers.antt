@@ -1,8 +1,8 @@
 use Rattle.std.proofs.Common.{◌≡◌, ◌++◌, ◌∷◌, [], arith, refl, rules}
 use Rattle.link_base.specs.declared.rows.Cell.TheVariants as cell
 use Rattle.link_base.specs.declared.standard.Value.TheVariants as value
-use Rattle.link_base.proofs.CellFacts.{begun_same}
-use Rattle.link_base.proofs.WriterFacts.{value_added}
+use Rattle.link_base.proofs.RegionFacts.{begun_same}
+use Rattle.link_base.proofs.RisingFacts.{value_added}
 use Rattle.link_base.proofs.rows_writer.RowsWriter.add_absent.Goals as goal
 
 pub returns : goal.returns

@@ -1,6 +1,6 @@
 use Rattle.std.proofs.Common.{◌≡◌, ◌++◌, ◌∷◌, [], arith, rules}
 use Rattle.link_base.specs.declared.standard.Value.TheVariants as value
-use Rattle.link_base.proofs.WriterFacts.{value_added, values_written}
+use Rattle.link_base.proofs.RisingFacts.{value_added, values_written}
 use Rattle.link_base.proofs.rows_writer.RowsWriter.add_word.Goals as goal
 
 pub word_cell-requires : goal.word_cell-requires

@@ -1,5 +1,5 @@
 use Rattle.std.proofs.Common.{◌≡◌, ◌++◌, ◌∷◌, [], arith, length, rules}
-use Rattle.link_base.proofs.WriterFacts.{row_closed}
+use Rattle.link_base.proofs.RisingFacts.{row_closed}
 use Rattle.link_base.proofs.rows_writer.RowsWriter.close.Goals as goal
 
 pub invariant_of-self-2 : goal.invariant_of-self-2

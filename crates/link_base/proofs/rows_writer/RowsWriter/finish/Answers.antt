@@ -1,4 +1,4 @@
-use Rattle.link_base.proofs.WriterFacts.{none_open}
+use Rattle.link_base.proofs.RisingFacts.{none_open}
 use Rattle.link_base.proofs.rows_writer.RowsWriter.finish.Goals as goal
 
 pub of-requires-clause-rising : goal.of-requires-clause-rising

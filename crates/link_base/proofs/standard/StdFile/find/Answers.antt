@@ -1,5 +1,5 @@
 use Rattle.std.proofs.Common.{◌∙◌}
-use Rattle.link_base.proofs.RecordFacts.{found_fresh, length_records, position_of}
+use Rattle.link_base.proofs.RisingFacts.{found_fresh, length_records, position_of}
 use Rattle.link_base.proofs.standard.StdFile.find.Goals as goal
 
 pub returns-clause-position : goal.returns-clause-position

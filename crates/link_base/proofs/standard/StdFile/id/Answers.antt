@@ -1,6 +1,6 @@
 use Rattle.std.proofs.Common.{◌<◌, ◌∙◌, length, sym}
 use Rattle.link_base.specs.Standard.{no_record}
-use Rattle.link_base.proofs.RecordFacts.{length_records, record_at}
+use Rattle.link_base.proofs.RisingFacts.{length_records, record_at}
 use Rattle.link_base.proofs.standard.StdFile.id.Goals as goal
 
 pub id-requires : goal.id-requires

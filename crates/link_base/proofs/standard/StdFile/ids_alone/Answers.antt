@@ -1,4 +1,4 @@
-use Rattle.link_base.proofs.RecordFacts.{without_rows}
+use Rattle.link_base.proofs.RisingFacts.{without_rows}
 use Rattle.link_base.proofs.standard.StdFile.ids_alone.Goals as goal
 
 pub returns : goal.returns

@@ -1,5 +1,5 @@
 use Rattle.std.proofs.Common.{◌∙◌, sym}
-use Rattle.link_base.proofs.RecordFacts.{length_records}
+use Rattle.link_base.proofs.RisingFacts.{length_records}
 use Rattle.link_base.proofs.standard.StdFile.rows.Goals as goal
 
 pub returns : goal.returns

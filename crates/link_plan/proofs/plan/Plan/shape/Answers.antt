@@ -1,5 +1,4 @@
-use Rattle.std.proofs.Common.{◌≡◌, ℕ, suc, ◌+◌, ◌-◌, ◌<◌, ◌≤◌, List, ◌∷◌, [], ◌++◌, length, get_or, take, set, map, Bool, false, sym, ap, ◌∙◌, append_assoc, arith}
-use Rattle.std.specs.Prelude.{replicate, is_some}
+use Rattle.std.proofs.Common.{◌≡◌, ℕ, suc, ◌+◌, ◌-◌, ◌<◌, ◌≤◌, List, ◌∷◌, [], ◌++◌, length, get_or, take, set, map, Bool, false, sym, ap, ◌∙◌, append_assoc, arith, replicate, is_some}
 use Rattle.std.proofs.lemmas.List.{take_more, map_push, length-map, length-take-le}
 use Rattle.std.proofs.Math.Seq.{set-append_seam}
 use Rattle.link_plan.specs.Plan.{FieldKeys}
@@ -19,4 +18,4 @@ rare_more g fs i f rare b few lt is said so_far =
 
 pub loop-i-preserved : goal.loop-i-preserved
 loop-i-preserved c =
-    (c.loop-i.invariant.0, rare_more (λ f. is_some f.rare) c.fields-fields.result.now c.loop-i.i c.index-fields-i.result c.loop-i.rare c.has_rare_number.result c.loop-i.invariant.0 (omega arith) c.index-fields-i.is c.has_rare_number.ensures c.loop-i.invariant.1)
+    (c.loop-i.invariant.0, rare_more (λ f. is_some f.rare) c.fields-fields.result.now c.loop-i.i c.index-fields-i.result c.loop-i.rare c.is_some.result c.loop-i.invariant.0 (omega arith) c.index-fields-i.is (c.is_some.ensures ∙ ap (λ (f : FieldKeys). is_some f.rare) c.field.view_is) c.loop-i.invariant.1)

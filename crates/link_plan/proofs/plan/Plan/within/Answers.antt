@@ -1,4 +1,4 @@
-use Rattle.link_plan.proofs.WithinRanges.{names_within, ranges_within}
+use Rattle.link_plan.proofs.Lemmas.{names_within, ranges_within}
 use Rattle.link_plan.proofs.plan.Plan.within.Goals as goal
 
 pub returns-clause-ranges : goal.returns-clause-ranges

@@ -1,5 +1,4 @@
-use Rattle.std.proofs.Common.{◌≡◌, ◌<◌, ℕ, List, length, ap, arith, subst, sym, ◌∙◌}
-use Rattle.std.specs.Prelude.{All, slice_index}
+use Rattle.std.proofs.Common.{◌≡◌, ◌<◌, ℕ, List, length, ap, arith, subst, sym, ◌∙◌, All, slice_index}
 use Rattle.link_base.specs.declared.rule.RuleCell.{RuleCell}
 use Rattle.patterns.specs.Shapes.{pattern_count_by}
 use Rattle.pair_decisions.specs.Comparators.{rares_of}

@@ -1,5 +1,5 @@
 use Rattle.std.proofs.Common.{◌≡◌, ◌∙◌, arith, take, take_all}
-use Rattle.pair_walk.proofs.CountLemmas.{pairs_counted}
+use Rattle.pair_walk.proofs.JoinLemmas.{pairs_counted}
 use Rattle.pair_walk.proofs.blocks.Blocks.most_pairs.Goals as goal
 
 pub returns : goal.returns

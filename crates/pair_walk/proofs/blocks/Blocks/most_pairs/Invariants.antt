@@ -1,5 +1,5 @@
 use Rattle.std.proofs.Common.{◌-◌, ◌^◌, ◌<◌, ◌≤◌, take}
-use Rattle.pair_walk.proofs.CountLemmas.{in_passes}
+use Rattle.pair_walk.proofs.JoinLemmas.{in_passes}
 use Rattle.pair_walk.proofs.blocks.Blocks.most_pairs.Given as goal
 
 abbrev pub invariant-loop-pass : goal.invariant-loop-pass

@@ -1,5 +1,5 @@
 use Rattle.std.proofs.Common.{ap, arith, length}
-use Rattle.pair_walk.proofs.CountLemmas.{pairs_left}
+use Rattle.pair_walk.proofs.JoinLemmas.{pairs_left}
 use Rattle.pair_walk.specs.Pairs.{pairs_of_rows}
 use Rattle.pair_walk.proofs.walker.Walker.most_pairs.Goals as goal
 

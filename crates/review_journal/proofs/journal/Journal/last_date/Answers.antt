@@ -1,9 +1,8 @@
-use Rattle.std.proofs.Common.{◌≡◌, ◌-◌, ◌∙◌, ap, arith, length, rules, slice_get, Some, sym, w32}
-use Rattle.std.specs.Prelude.{FitsSigned, int_le, option_map}
+use Rattle.std.proofs.Common.{◌≡◌, ◌-◌, ◌∙◌, ap, arith, length, rules, slice_get, Some, sym, w32, FitsSigned, int_le, option_map}
 use Rattle.std.proofs.lemmas.Int.{to_z-of_z}
 use Rattle.std.proofs.lemmas.Option.{slice_get_within}
 use Rattle.review_journal.specs.declared.entry.Entry.{Entry}
-use Rattle.review_journal.proofs.EntryLemmas.{latest}
+use Rattle.review_journal.proofs.PlaceLemmas.{latest}
 use Rattle.review_journal.proofs.journal.Journal.last_date.Goals as goal
 
 at_end : (c : goal.After-result-1) → slice_get c.self.inside.entries.items (length c.self.inside.entries.items - 1) ≡ Some c.in-Some.entry.now

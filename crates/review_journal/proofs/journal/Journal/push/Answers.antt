@@ -1,6 +1,5 @@
 use Rattle.std.proofs.Common.{◌≡◌, ◌∷◌, ◌++◌, [], arith, rules}
-use Rattle.review_journal.proofs.EntryLemmas.{journal_push}
-use Rattle.review_journal.proofs.PlaceLemmas.{indexed_push}
+use Rattle.review_journal.proofs.PlaceLemmas.{journal_push, indexed_push}
 use Rattle.review_journal.proofs.journal.Journal.push.Goals as goal
 
 pub invariant_of-self-in-Ok : goal.invariant_of-self-in-Ok

@@ -3,7 +3,7 @@ use Rattle.std.specs.List.{filter}
 use Rattle.link_limits.specs.declared.TheConstants.{MOST_ROWS}
 use Rattle.patterns.specs.Shapes.{rare_of}
 use Rattle.sample_counts.specs.Counts.{has_status}
-use Rattle.sample_counts.proofs.CountLemmas.{filter-le, some-of, total-of}
+use Rattle.sample_counts.proofs.Lemmas.{filter-le, some-of, total-of}
 use Rattle.sample_counts.specs.CountLaws.{none-rare}
 use Rattle.sample_counts.proofs.counts.Counts.of.Goals as goal
 

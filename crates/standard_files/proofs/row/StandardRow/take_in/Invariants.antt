@@ -1,6 +1,5 @@
-use Rattle.std.proofs.Common.{◌≡◌, ◌<◌, ◌≤◌, ◌+◌, ◌++◌, drop, length}
+use Rattle.std.proofs.Common.{◌≡◌, ◌<◌, ◌≤◌, ◌+◌, ◌++◌, drop, length, IfSome}
 use Rattle.std.specs.List.{All}
-use Rattle.std.specs.Prelude.{IfSome}
 use Rattle.std.specs.Option.{option_or}
 use Rattle.link_base.specs.Standard.{IsValid}
 use Rattle.standard_files.specs.Values.{standard_values, unreadable_from, unreadable_in_row}

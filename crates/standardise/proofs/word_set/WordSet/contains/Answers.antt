@@ -1,10 +1,11 @@
-use Rattle.std.proofs.Common.{[], bytes_eq, subst, ap, sym, ◌∙◌, arith}
+use Rattle.std.proofs.Common.{[], bytes_eq, subst, ap, sym, ◌∙◌}
 use Rattle.std.specs.Ordering.{ordering_index}
 use Rattle.std.specs.List.Sorted.{IsNonDecreasingBy}
 use Rattle.std.proofs.lemmas.List.Sorted.{list_any-IsPermutation}
 use Rattle.link_texts.specs.Texts.{stands_among}
+use Rattle.standardise.specs.Outlines.{may_be}
 use Rattle.standardise.specs.Tables.{text_cmp}
-use Rattle.standardise.proofs.OrderLemmas.{found_text, longer_text, missed_text, unmarked_text}
+use Rattle.standardise.proofs.StepLemmas.{found_text, missed_text, unlike_text}
 use Rattle.standardise.proofs.word_set.WordSet.contains.Goals as goal
 
 pub returns-in-Ok : goal.returns-in-Ok
@@ -23,14 +24,8 @@ returns-in-Err c =
     ∙ ap (λ ts. stands_among ts text) (sym c.deref.ensures.value)
     ∙ missed_text c.deref.result.now text c.in-Err.field-0 (subst (IsNonDecreasingBy (λ t. ordering_index (text_cmp t text))) (sym c.deref.ensures.value) (c.self.invariant.0.rising text)) c.in-Err.ensures.place)
 
-pub returns-then-text-self : goal.returns-then-text-self
-returns-then-text-self c =
+pub returns-then-not-may_be : goal.returns-then-not-may_be
+returns-then-not-may_be c =
     let text = c.args.text.now in
     sym (ap (λ ts. stands_among ts text) (sym c.self.view_is)
-    ∙ longer_text c.self.inside.texts.items text c.self.inside.longest c.self.invariant.1 (omega arith))
-
-pub returns-then-not-may_begin : goal.returns-then-not-may_begin
-returns-then-not-may_begin c =
-    let text = c.args.text.now in
-    sym (ap (λ ts. stands_among ts text) (sym c.self.view_is)
-    ∙ unmarked_text c.self.inside.texts.items text c.self.inside.firsts.marked c.self.invariant.2 (sym c.may_begin.ensures ∙ c.if-not-may_begin.true))
+    ∙ unlike_text (may_be c.self.inside.outline) c.self.inside.texts.items text c.self.invariant.1 (sym c.may_be.ensures ∙ c.if-not-may_be.true))

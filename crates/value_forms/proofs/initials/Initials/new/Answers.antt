@@ -1,4 +1,4 @@
-use Rattle.value_forms.proofs.InitialLemmas.{initials-bytes}
+use Rattle.value_forms.proofs.DayLemmas.{initials-bytes}
 use Rattle.value_forms.proofs.initials.Initials.new.Goals as goal
 
 pub returns : goal.returns

@@ -1,5 +1,5 @@
 use Rattle.std.proofs.Common.{◌∙◌, ap, is_some, sym}
-use Rattle.value_pool.proofs.TakenLemmas.{new_taken}
+use Rattle.value_pool.proofs.SearchLemmas.{new_taken}
 use Rattle.value_pool.proofs.pool.Pool.intern.Goals as goal
 
 pub returns-in-Ok-clause-taken : goal.returns-in-Ok-clause-taken

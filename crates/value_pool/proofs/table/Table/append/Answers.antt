@@ -3,9 +3,7 @@ use Rattle.value_pool.specs.declared.chains.Slot.{Slot}
 use Rattle.value_pool.specs.Region.{hashes_of, nexts_of, texts_at}
 use Rattle.value_pool.specs.Table.{texts_of}
 use Rattle.std.proofs.lemmas.List.{length-map, map-append}
-use Rattle.value_pool.proofs.RegionLemmas.{appended, texts-push}
-use Rattle.value_pool.proofs.ChainLemmas.{chained-push}
-use Rattle.value_pool.proofs.HashLemmas.{hashed-push}
+use Rattle.value_pool.proofs.ChainLemmas.{appended, texts-push, chained-push, hashed-push}
 use Rattle.value_pool.proofs.SearchLemmas.{as_many}
 use Rattle.value_pool.proofs.table.Table.append.Goals as goal
 

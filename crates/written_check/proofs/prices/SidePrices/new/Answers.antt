@@ -1,6 +1,6 @@
 use Rattle.std.proofs.Common.{◌≡◌, pos, replicate, rules, subst, sym}
 use Rattle.written_check.specs.PriceRows.{IsReadTo}
-use Rattle.written_check.proofs.PriceLemmas.{no_price_read}
+use Rattle.written_check.proofs.FormLemmas.{no_price_read}
 use Rattle.written_check.proofs.prices.SidePrices.new.Goals as goal
 
 pub invariant_of-result : goal.invariant_of-result

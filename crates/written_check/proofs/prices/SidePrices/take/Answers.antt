@@ -3,7 +3,7 @@ use Rattle.std.proofs.lemmas.Int.{to_z-of_z}
 use Rattle.csv.specs.Records.{fields_of}
 use Rattle.link_base.specs.Standard.{position_of_id}
 use Rattle.written_check.specs.PriceRows.{price_in}
-use Rattle.written_check.proofs.PriceLemmas.{stored_read, stored_refused, stored_taken}
+use Rattle.written_check.proofs.FormLemmas.{stored_read, stored_refused, stored_taken}
 use Rattle.written_check.proofs.prices.SidePrices.take.Goals as goal
 
 pub returns-then-at-self-clause-taken : goal.returns-then-at-self-clause-taken

@@ -1,6 +1,0 @@
-use Rattle.dedup_groups.specs.Search.{AreFound}
-use Rattle.dedup_groups.specs.Trees.{lists_of}
-use Rattle.dedup_groups.proofs.search.search_all.Given as goal
-
-abbrev pub invariant-loop-leader : goal.invariant-loop-leader
-invariant-loop-leader l = AreFound l.near (lists_of l.trees) l.leader

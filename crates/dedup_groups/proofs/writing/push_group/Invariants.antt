@@ -1,7 +1,0 @@
-use Rattle.std.proofs.Common.{◌≡◌, ◌++◌, take}
-use Rattle.std.specs.List.{flat_map}
-use Rattle.dedup_groups.specs.GroupsText.{group_row}
-use Rattle.dedup_groups.proofs.writing.push_group.Given as goal
-
-abbrev pub invariant-loop-at : goal.invariant-loop-at
-invariant-loop-at l = l.text.items ≡ l.fn.text.items ++ flat_map (group_row l.groups.vias l.file l.fn.number) (take l.at-index l.group)

@@ -1,8 +1,0 @@
-use Rattle.std.proofs.Common.{refl}
-use Rattle.workload.specs.Made.{unmatched_row}
-use Rattle.workload.proofs.RowLemmas.{text_more}
-use Rattle.workload.proofs.samples.push_unmatched.Goals as goal
-
-pub loop-row-preserved : goal.loop-row-preserved
-loop-row-preserved c =
-    text_more unmatched_row c.loop-row.row (unmatched_row c.loop-row.row) c.args.text.now.items c.loop-row.text.items c.push_pair.new.text.items c.loop-row.invariant c.in_ok-push_pair.ensures refl
