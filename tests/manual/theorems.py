@@ -16,7 +16,7 @@ HEAD = "| Theorem | Call | Clause | Definition |"
 # Crates of constants or of tests alone.
 NO_THEOREM = ["known_values", "link_limits"]
 TOP = "link_shell::command::linkage"
-USE = re.compile(r"^\s*(?:ghost )?use Rattle\.(\w+)\.specs\.([\w.]+?)(?:\.\{([^}]*)\}| as (\w+))", flags=re.M)
+USE = re.compile(r"^\s*(?:ghost |pub )?use Rattle\.(\w+)\.specs\.([\w.]+?)(?:\.\{([^}]*)\}| as (\w+))", flags=re.M)
 
 
 @dataclass(frozen=True)
@@ -111,6 +111,13 @@ def definitions_in(file: str) -> dict[str, str]:
     return found
 
 
+def declared_in(file: str, word: str) -> tuple[str, str]:
+    """Where a name is defined that a file has, or hands on from another."""
+    while file and word not in definitions_in(file) and word in imports(f"crates/{file}"):
+        file, word = imports(f"crates/{file}")[word]
+    return file, word
+
+
 @functools.cache
 def reached(file: str, text: str) -> set[tuple[str, str]]:
     """The definitions, each with its file, that a text in a file speaks of, and all that these stand on."""
@@ -119,7 +126,7 @@ def reached(file: str, text: str) -> set[tuple[str, str]]:
     while left:
         file, word = left.pop()
         if not (file.endswith(".antt") and word in definitions_in(file)):
-            file, word = imports(f"crates/{file}").get(word, ("", ""))
+            file, word = declared_in(*imports(f"crates/{file}").get(word, ("", "")))
         if file and (file, word) not in found:
             found.add((file, word))
             left += [(file, it) for it in re.findall(r"[\w-]+", definitions_in(file).get(word, ""))]

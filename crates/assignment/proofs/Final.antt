@@ -5,15 +5,10 @@ use Rattle.std.proofs.lemmas.List.{get_or-set_other, length-replicate}
 use Rattle.std.proofs.lemmas.List.Elements.{All-head, All-tail, All-cons, All-contains_itself, All-nil, All-contains}
 use Rattle.link_base.specs.declared.rule.Candidate.{Candidate}
 use Rattle.price_check.specs.Assignment.{price_sum, price_of, worth, greatest_value, IsBefore, SharesNoRecord, IsOneToOne, Certifies}
-use Rattle.price_check.specs.PriceLaws.{without, absent-without, IsTight, price_sum-without, price_sum-zero, AllPairs-head, AllPairs-tail}
+use Rattle.price_check.specs.PlaceLaws.{without, absent-without, IsTight, price_sum-without, price_sum-zero, AllPairs-head, AllPairs-tail}
 use Rattle.price_check.specs.Law.{PricesAreBoundedByLinks}
 use Rattle.assignment_steps.specs.declared.market.Edge.{Edge}
-use Rattle.assignment_steps.specs.Market.{link, edge, number, IsInRange}
-use Rattle.assignment_steps.specs.Between.{HasNoLink, IsBetween, ReachAll}
-use Rattle.assignment_steps.specs.Candidates.{edges_of, is_linked, prices_of}
-use Rattle.assignment_steps.specs.LinkLaws.{link_cases, none_matched, none_linked}
-use Rattle.assignment_steps.specs.CertifiedLaws.{absent_a, all_among, all_covered, all_tight, apart_a, link_member, links_rising, member_link}
-use Rattle.assignment_steps.specs.CandidatesLaws.{IsLinkedBy, floored, price_of-prices}
+use Rattle.assignment_steps.specs.Words.{link, edge, number, IsInRange, HasNoLink, IsBetween, ReachAll, edges_of, is_linked, prices_of, link_cases, none_matched, none_linked, absent_a, all_among, all_covered, all_tight, apart_a, link_member, links_rising, member_link, IsLinkedBy, floored, price_of-prices}
 
 -- Tight members, and no price elsewhere: the prices add up to the worth.
 

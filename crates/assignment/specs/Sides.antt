@@ -1,13 +1,17 @@
 -- Machinery of `Assigner`: the side that searches, and the other side over the turned edges.
-use Rattle.std.specs.Prelude.{◌≡◌, ℕ, List, length, Option, None}
+use Rattle.std.specs.Prelude.{◌≡◌, ℕ, List, length, Option, None, MatchOption, ◌≤◌, pos, ◌≤ℤ◌, All, AllPairs}
 use Rattle.assignment_steps.specs.declared.market.Edge.{Edge}
 use Rattle.assignment_steps.specs.declared.market.Board.{Board}
-use Rattle.assignment_steps.specs.Market.{link}
-use Rattle.assignment_steps.specs.Between.{IsBetween}
-use Rattle.assignment_steps.specs.Joined.{AreJoinedAs}
+use Rattle.assignment_steps.specs.Words.{link, IsInRange, AreListed, IsBetween, AreJoinedAs, IsAtRest, edges_of}
 use Rattle.assignment.specs.declared.side.Side.{Side}
 use Rattle.assignment.specs.declared.side.Other.{Other}
-use Rattle.assignment_steps.specs.Reached.{IsAtRest}
+use Rattle.assignment.specs.declared.graph.Graph.{Graph}
+use Rattle.assignment.specs.declared.graph.Sides.{Sides}
+use Rattle.link_limits.specs.declared.TheConstants.{MOST_VALUE}
+use Rattle.link_base.specs.declared.rule.Candidate.{Candidate}
+use Rattle.price_check.specs.Assignment.{IsBefore, greatest_value}
+use Rattle.price_check.specs.PartNumbers.{ArePartNumbers}
+use Rattle.assignment.specs.declared.assigner.Assigner.TheInside.{Inside}
 
 -- prices and links between two steps, with room
 pub record IsSide (es : List Edge) (s : Side) : Type 0 where
@@ -45,3 +49,31 @@ pub record IsTakenOver (board : Board) (s : Side) : Type 0 where
   pub solved : IsBetween board.turned.now price_b price_a link_b link_a (length price_b)
   pub joined : AreJoinedAs board new_a new_b link_b (length link_b)
   pub adopted : IsBetween board.edges.now price_a price_b new_a new_b 0 → (s.price_a.items ≡ price_a) × (s.price_b.items ≡ price_b) × (s.link_a.items ≡ new_a) × (s.link_b.items ≡ new_b)
+
+-- Machinery of `Assigner`: the edges of candidates from both sides, and the sides that search over them.
+
+-- the edges and the turned edges are in range, and their starts are told
+pub record IsGraph (rows_a rows_b : ℕ) (g : Graph) : Type 0 where
+  pub in_range : IsInRange g.edges.items rows_a rows_b
+  pub listed : AreListed g.edges.items rows_a g.starts.items
+  pub turned : IsInRange g.turned.items rows_b rows_a
+  pub turned_listed : AreListed g.turned.items rows_b g.turned_starts.items
+
+-- the sides stand over the edges and the turned edges, for so many records
+pub record AreTwoSides (rows_a rows_b : ℕ) (g : Graph) (s : Sides) : Type 0 where
+  pub own : IsSideOf g.edges.items rows_a rows_b s.own
+  pub other : MatchOption s.other (Unit {0}) (IsOther g.turned.items rows_a rows_b)
+
+-- Machinery of `Assigner`: what holds of its parts from `new` to `solve`, and of those of `Assignment`.
+
+-- all is ready for the first step
+pub record IsPrepared (s : Inside) : Type 0 where
+  pub order : AllPairs IsBefore s.candidates.items
+  pub edges : s.graph.edges.items ≡ edges_of s.candidates.items
+  pub graph : IsGraph s.rows_a s.rows_b s.graph
+  pub sides : AreTwoSides s.rows_a s.rows_b s.graph s.sides
+  pub parts : ArePartNumbers s.candidates.items s.part_numbers.numbers.items s.part_numbers.parts
+
+-- no price is above the greatest of 0 and the links' values, nor above the greatest size of a value
+abbrev pub AreBounded : List Candidate → List ℕ → Type 0
+AreBounded links prices = All (λ p. (pos p ≤ℤ greatest_value links) × (p ≤ MOST_VALUE)) prices

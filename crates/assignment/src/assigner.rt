@@ -29,7 +29,7 @@ impl Model for Assigner {
 
     ghost Value = { Problem };
 
-    ghost use Rattle.assignment.specs.Prepared.{IsPrepared};
+    ghost use Rattle.assignment.specs.Sides.{IsPrepared};
 
     ghost view = { λ s. record { rows_a = s.rows_a; rows_b = s.rows_b; candidates = s.candidates.items; part_numbers = s.part_numbers.numbers.items; parts = s.part_numbers.parts } };
 
@@ -46,7 +46,7 @@ pub struct Assignment {
 
 impl Model for Assignment {
     ghost use Rattle.assignment_steps.specs.Candidates.{prices_of};
-    ghost use Rattle.assignment.specs.Prepared.{AreBounded};
+    ghost use Rattle.assignment.specs.Sides.{AreBounded};
     ghost use Rattle.assignment.specs.Solution.{Solution};
 
     ghost Value = { Solution };

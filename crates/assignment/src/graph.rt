@@ -2,8 +2,7 @@
 ghost use Rattle.std.specs.Prelude.{◌≡◌, ◌≤◌, All, AllPairs, IfOk, length};
 ghost use Rattle.price_check.specs.Assignment.{IsBefore, IsWithin};
 ghost use Rattle.assignment_steps.specs.Candidates.{edges_of};
-ghost use Rattle.assignment.specs.Graph.{AreTwoSides, IsGraph};
-ghost use Rattle.assignment.specs.Sides.{HasRun};
+ghost use Rattle.assignment.specs.Sides.{AreTwoSides, IsGraph, HasRun};
 ghost use Rattle.assignment.specs.Solution.{HasSmallValue};
 
 use crate::side::{Other, Side, first_side, other_if_less, run, run_other};

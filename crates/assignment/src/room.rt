@@ -1,7 +1,6 @@
 // Room for all that a side does, and prices and links that are proposed.
 ghost use Rattle.std.specs.Prelude.{◌≡◌, IfOk, None, length, replicate};
-ghost use Rattle.assignment_steps.specs.Between.{IsBetween};
-ghost use Rattle.assignment_steps.specs.Joined.{IsFor};
+ghost use Rattle.assignment_steps.specs.Between.{IsBetween, IsFor};
 ghost use Rattle.assignment_steps.specs.Reached.{IsAtRest};
 
 use crate::market::Tree;

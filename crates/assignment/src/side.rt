@@ -1,6 +1,5 @@
 // Prices, links and room of the side that searches.
-ghost use Rattle.std.specs.Prelude.{◌≡◌, ◌*◌, ◌/◌, ℕ, IfOk, MatchOption, None, is_some, length, nat_lt};
-ghost use Rattle.std.specs.List.{sum};
+ghost use Rattle.std.specs.Prelude.{◌≡◌, ◌*◌, ◌/◌, ℕ, IfOk, MatchOption, None, is_some, length, nat_lt, sum};
 ghost use Rattle.assignment_steps.specs.Market.{number, AreListed, IsInRange};
 ghost use Rattle.assignment_steps.specs.Between.{IsBetween, ReachAll};
 ghost use Rattle.assignment_steps.specs.Reached.{IsAtRest};

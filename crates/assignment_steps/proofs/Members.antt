@@ -2,17 +2,13 @@
 use Rattle.std.proofs.Common.{◌≡◌, ℕ, ◌<◌, ◌+◌, List, Option, None, inl, inr, arith, length, Some, ◌++◌, ◌∷◌, [], ◌⊎◌, zero, ◌-◌, ◌*◌, ◌/◌, ◌≤◌, get_or, map, refl, sym, ap, ◌∙◌, Contains, IsPermutation, set, drop, add-one, drop-cons, get_or-set_same}
 use Rattle.std.proofs.lemmas.Bool.{cases_eq}
 use Rattle.assignment_steps.specs.declared.market.Board.{Board}
-use Rattle.assignment_steps.specs.Market.{edge, link, number, IsStart}
-use Rattle.assignment_steps.specs.Joined.{AreJoined, AreJoinedAs, AreJoinedWith}
+use Rattle.assignment_steps.specs.Words.{edge, link, number, IsStart, distance, far, AreJoined, AreJoinedAs, AreJoinedWith, Contains-cons_cases, distance-set, number-set}
 use Rattle.std.proofs.lemmas.List.{get_or_push, get_or_append_left, get_or-map, length-map}
 use Rattle.assignment_steps.specs.declared.market.Edge.{Edge}
 use Rattle.assignment_steps.specs.declared.queue.TheConstants.{LAST, TURNS}
 use Rattle.std.proofs.lemmas.List.Elements.{All-contains, All-contains_itself, All-map}
 use Rattle.std.proofs.lemmas.List.Sorted.{Contains-permutation, IsPermutation-sym}
-use Rattle.assignment_steps.specs.QueueLaws.{Contains-cons_cases}
-use Rattle.price_check.specs.CandidateLaws.{Contains-later}
-use Rattle.assignment_steps.specs.Distances.{distance, far}
-use Rattle.assignment_steps.specs.DistanceLaws.{distance-set, number-set}
+use Rattle.price_check.specs.PlaceLaws.{Contains-later}
 
 -- links of the two sides, and later ones that keep each record's link or give it another
 module _ (board : Board) (la lb la' lb' : List (Option ℕ)) (kept_a : (a : ℕ) → link la' a ≡ None → link la a ≡ None) (kept_b : (b : ℕ) → link lb' b ≡ None → link lb b ≡ None) where

@@ -1,9 +1,9 @@
 -- Candidates as edges, and links and prices as they are handed out: `edges_of`, `linked`, and the calls of both assigners.
-use Rattle.std.specs.Prelude.{ℕ, zero, suc, ℤ, pos, negsuc, ◌≤ℤ◌, List, Option, Some, None, Bool, true, false, ◌&&◌, ◌==◌, filter_map, map}
+use Rattle.std.specs.Prelude.{ℕ, zero, suc, ℤ, pos, negsuc, ◌≤ℤ◌, List, Option, Some, None, Bool, true, false, ◌&&◌, ◌==◌, filter_map, map, IsPermutation}
 use Rattle.link_limits.specs.declared.TheConstants.{MOST_VALUE}
 use Rattle.link_base.specs.declared.rule.Candidate.{Candidate}
 use Rattle.assignment_steps.specs.declared.market.Edge.{Edge}
-use Rattle.assignment_steps.specs.Market.{link, edge}
+use Rattle.assignment_steps.specs.Market.{link, edge, IsRising}
 
 -- a value that is not too great
 abbrev pub HasSmallValue : Candidate → Type 0
@@ -50,3 +50,18 @@ pub record Solution : Type 0 where
   pub links : List Candidate
   pub prices_a : List ℤ
   pub prices_b : List ℤ
+
+-- Edges as the other side sees them: `turned_edges`.
+
+-- an edge with its records changed over
+abbrev pub turned_edge : Edge → Edge
+turned_edge e = record { a = e.b; b = e.a; value = e.value }
+
+-- the edges as the other side sees them, in whichever order
+abbrev pub AreTurned : List Edge → List Edge → Type 0
+AreTurned es turned = IsPermutation (map turned_edge es) turned
+
+-- and by their records there
+pub record AreTurnedInOrder (es other : List Edge) : Type 0 where
+  pub turned : AreTurned es other
+  pub rising : IsRising other

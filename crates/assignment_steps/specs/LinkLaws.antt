@@ -1,11 +1,13 @@
 -- Laws of links (`link`, `IsMatched`, `AreLinked`, `AreTight`): what one link that is taken or given up does to them. Both
 -- assigners cite them.
-use Rattle.std.proofs.Common.{◌≡◌, ◌≢◌, ◌⊎◌, ℕ, ◌<◌, List, length, set, Option, Some, None, refl, ap, sym, ◌∙◌, inl, inr, get_or-set_other, get_or-set_same, false, arith, replicate}
-use Rattle.std.proofs.lemmas.Bool.{cases_eq, cases_lt, false≢true}
-use Rattle.std.proofs.lemmas.List.{get_or_past, get_or-replicate, length-replicate}
+use Rattle.std.proofs.Common.{◌≡◌, ◌≢◌, ◌⊎◌, ℕ, ◌<◌, List, length, set, Option, Some, None, refl, ap, sym, ◌∙◌, inl, inr, get_or-set_other, get_or-set_same, false, arith, replicate, ◌+◌, Bool, cond, ◌==◌, zero, suc, is_some}
+use Rattle.std.proofs.lemmas.Bool.{cases_eq, cases_lt, false≢true, eq-eqb, ne_eqb}
+use Rattle.std.proofs.lemmas.List.{get_or_past, get_or-replicate, length-replicate, length-set}
 use Rattle.assignment_steps.specs.declared.market.Edge.{Edge}
-use Rattle.assignment_steps.specs.Market.{IsMatched, link, edge, AreLinked, AreTight, IsTight}
-use Rattle.std.specs.Option.{is_some}
+use Rattle.assignment_steps.specs.Market.{IsMatched, link, edge, AreLinked, AreTight, IsTight, number, distance, far, unreached}
+use Rattle.assignment_steps.specs.Between.{HasNoLink, IsBetween, IsPriced, IsDone, AreSettled, IsSettled}
+use Rattle.std.proofs.lemmas.List.Sums.{sum_by-set}
+use Rattle.assignment_steps.specs.Ways.{IsHop, Leads, LeadsFrom, above}
 
 -- a link, or none
 pub link_cases : (l : List (Option ℕ)) (r : ℕ) → (link l r ≡ None) ⊎ ((k : ℕ) × (link l r ≡ Some k))
@@ -106,3 +108,134 @@ linked_joined es la k h lt ra a j on = elim (link-set la (edge es k).a a (Some k
 pub not_linked : (x : Option ℕ) → is_some x ≡ false → x ≡ None
 not_linked None h = refl
 not_linked (Some k) h = absurd (false≢true (sym h))
+
+-- Laws of what holds between two steps (`IsPriced`, `IsBetween`, `IsDone`) and of settled edges (`AreSettled`), one step after the
+-- other. Both assigners cite them.
+
+-- the record of A of a tight edge takes it, where what is free was free before
+pub priced_joined : (es : List Edge) (pa pb : List ℕ) (la : List (Option ℕ)) (k : ℕ) (IsFree IsFree' : ℕ → Type 0) → IsPriced es pa pb la IsFree 0 → k < length es → (edge es k).a < length la → IsTight es pa pb k → ((b : ℕ) → IsFree' b → IsFree b) → IsPriced es pa pb (set la (edge es k).a (Some k)) IsFree' 0
+priced_joined es pa pb la k IsFree IsFree' w lt ra tight before = record {
+  rows_a = rw length-set w.rows_a;
+  in_range = w.in_range;
+  covered = w.covered;
+  small_a = w.small_a;
+  small_b = w.small_b;
+  linked = linked_joined es la k w.linked lt ra;
+  tight = tight_joined es pa pb la k ra w.tight tight;
+  free_a = λ a low none. absurd (omega arith);
+  free_b = λ b free. w.free_b b (before b free);
+}
+
+-- neither record has a link
+pub between_joined : (es : List Edge) (pa pb : List ℕ) (la lb : List (Option ℕ)) (k : ℕ) → IsBetween es pa pb la lb 0 → k < length es → link la (edge es k).a ≡ None → link lb (edge es k).b ≡ None → IsTight es pa pb k → IsBetween es pa pb (set la (edge es k).a (Some k)) (set lb (edge es k).b (Some k)) 0
+between_joined es pa pb la lb k w lt free_a free_b tight =
+    let ra : (edge es k).a < length la = omega (arith, w.priced.in_range.record_a k lt, w.priced.rows_a) in
+    let rb : (edge es k).b < length lb = omega (arith, w.priced.in_range.record_b k lt, w.rows_b) in
+    record {
+      priced = priced_joined es pa pb la k (HasNoLink lb) (HasNoLink (set lb (edge es k).b (Some k))) w.priced lt ra tight (λ b none. none_before lb (edge es k).b b k rb none);
+      rows_b = rw length-set w.rows_b;
+      matched = matched_joined es la lb k w.matched lt ra rb free_a free_b;
+    }
+
+-- one more edge is settled, where each link stays or becomes another and what is taken stays so
+pub one_more_settled : (es : List Edge) (pa pb : List ℕ) (la la' : List (Option ℕ)) (IsTaken IsTaken' : ℕ → Type 0) (k : ℕ) → ((a : ℕ) → link la' a ≡ None → link la a ≡ None) → ((b : ℕ) → IsTaken b → IsTaken' b) → AreSettled es pa pb la IsTaken k → IsSettled es pa pb la' IsTaken' k → AreSettled es pa pb la' IsTaken' (k + 1)
+one_more_settled es pa pb la la' IsTaken IsTaken' k kept stays before here j low tight none =
+    elim (cases_eq j k) [
+      | inl same ↦ (let at : IsSettled es pa pb la' IsTaken' j = rw same here in at tight none)
+      | inr other ↦ stays _ (before j (omega (arith, low, other)) tight (kept _ none))
+    ]
+
+-- one more record of A is done
+pub one_more_done : (pa pa' : List ℕ) (la la' : List (Option ℕ)) (root : ℕ) → ((a : ℕ) → IsDone pa la a → IsDone pa' la' a) → ((a : ℕ) → a < root → IsDone pa la a) → IsDone pa' la' root → (a : ℕ) → a < root + 1 → IsDone pa' la' a
+one_more_done pa pa' la la' root kept before here a low =
+    elim (cases_eq a root) [
+      | inl same ↦ rw same here
+      | inr other ↦ kept a (before a (omega (arith, low, other)))
+    ]
+
+-- what holds of prices holds however many records of A are done
+pub priced_done : (es : List Edge) (pa pb : List ℕ) (la : List (Option ℕ)) (IsFree : ℕ → Type 0) (done now : ℕ) → IsPriced es pa pb la IsFree done → ((a : ℕ) → a < now → IsDone pa la a) → IsPriced es pa pb la IsFree now
+priced_done es pa pb la IsFree done now w free = record {
+  rows_a = w.rows_a;
+  in_range = w.in_range;
+  covered = w.covered;
+  small_a = w.small_a;
+  small_b = w.small_b;
+  linked = w.linked;
+  tight = w.tight;
+  free_a = free;
+  free_b = w.free_b;
+}
+
+-- Laws of distances and prices (`distance`, `unreached`, `number`): of one write, and of zeros. Both assigners cite them.
+
+-- a distance after one write
+pub distance-set : (xs : List ℕ) (i j x : ℕ) → i < length xs → ((j ≡ i) × (distance (set xs i x) j ≡ x)) ⊎ ((j ≢ i) × (distance (set xs i x) j ≡ distance xs j))
+distance-set xs i j x lt = elim (cases_eq j i) [ inl e ↦ inl (e, rw e (get_or-set_same xs i x far lt)) | inr n ↦ inr (n, get_or-set_other xs i j x far n) ]
+
+-- the number at a place after one write
+pub number-set : (xs : List ℕ) (i j x : ℕ) → i < length xs → ((j ≡ i) × (number (set xs i x) j ≡ x)) ⊎ ((j ≢ i) × (number (set xs i x) j ≡ number xs j))
+number-set xs i j x lt = elim (cases_eq j i) [ inl e ↦ inl (e, rw e (get_or-set_same xs i x 0 lt)) | inr n ↦ inr (n, get_or-set_other xs i j x 0 n) ]
+
+pub all_zero : (n r : ℕ) → number (replicate n 0) r ≡ 0
+all_zero n r = elim (cases_lt r n) [ inl lt ↦ get_or-replicate n r 0 0 lt | inr past ↦ get_or_past (replicate n 0) r 0 (omega (arith, length-replicate {A = ℕ} n 0)) ]
+
+abbrev tick : Bool → ℕ
+tick b = cond b 1 0
+
+-- one write of a distance: one record fewer is not reached yet, or as many where it was reached before
+module _ (ds : List ℕ) (position dist : ℕ) (lt : position < length ds) (near : dist < far) where
+  parted : unreached (set ds position dist) + tick (distance ds position == far) ≡ unreached ds
+  parted =
+      let e : unreached (set ds position dist) + tick (distance ds position == far) ≡ unreached ds + tick (dist == far) = sum_by-set (λ (d : ℕ). cond (d == far) 1 0) ds position dist far lt in
+      let off : tick (dist == far) ≡ 0 = rw (ne_eqb dist far (λ e. absurd (omega (arith, e)))) refl in
+      omega (arith, e, off)
+
+  pub unreached-set : distance ds position ≡ far → unreached (set ds position dist) + 1 ≡ unreached ds
+  unreached-set new =
+      let on : tick (distance ds position == far) ≡ 1 = rw (eq-eqb (distance ds position) far new) refl in
+      omega (arith, parted, on)
+
+  pub unreached-again : distance ds position ≢ far → unreached (set ds position dist) ≡ unreached ds
+  unreached-again old =
+      let off : tick (distance ds position == far) ≡ 0 = rw (ne_eqb (distance ds position) far old) refl in
+      omega (arith, parted, off)
+
+-- Laws of ways to a root (`Leads`, `LeadsFrom`). Both assigners cite them.
+
+-- a way that stands below a record is not touched by a change of that record's link
+pub leads_below : (es : List Edge) (pa pb : List ℕ) (la : List (Option ℕ)) (from rank : List ℕ) (root : ℕ) (a : ℕ) (x : Option ℕ) (n b : ℕ) → number rank (above es from b) < number rank a → Leads es pa pb la from rank root n b → Leads es pa pb (set la a x) from rank root n b
+leads_below es pa pb la from rank root a x zero b low h = h
+leads_below es pa pb la from rank root a x (suc n) b low h =
+    let other : above es from b ≢ a = λ e. (let same : number rank (above es from b) ≡ number rank a = ap (number rank) e in omega (arith, same)) in
+    let keeps = get_or-set_other la a (above es from b) x None other in (
+      h.0,
+      elim h.1 [
+        | inl p ↦ inl (p.0, keeps ∙ p.1)
+        | inr p ↦ inr (p.0, (keeps ∙ p.1.0, p.1.1, leads_below es pa pb la from rank root a x n (edge es p.0).b (omega (arith, p.1.1)) p.1.2))
+      ],
+    )
+
+pub reached_by : (es : List Edge) (pa pb : List ℕ) (la : List (Option ℕ)) (from rank : List ℕ) (root n b : ℕ) → Leads es pa pb la from rank root n b → IsHop es pa pb from b
+reached_by es pa pb la from rank root zero b h = absurd h
+reached_by es pa pb la from rank root (suc n) b h = h.0
+
+-- a way whose first record of A is linked goes on from the record of B of that link
+pub goes_on : (es : List Edge) (pa pb : List ℕ) (la : List (Option ℕ)) (from rank : List ℕ) (root n b j : ℕ) → link la (above es from b) ≡ Some j → Leads es pa pb la from rank root n b → (number rank (above es from (edge es j).b) < number rank (above es from b)) × ((m : ℕ) × Leads es pa pb la from rank root m (edge es j).b)
+goes_on es pa pb la from rank root zero b j on h = absurd h
+goes_on es pa pb la from rank root (suc n) b j on h = elim h.1 [
+  | inl p ↦ cc
+  | inr p ↦ (let same : p.0 ≡ j = cc in rw (← same) (p.1.1, (n, p.1.2)))
+]
+
+-- a way whose first record of A is not linked ends there, at the root
+pub ends_at : (es : List Edge) (pa pb : List ℕ) (la : List (Option ℕ)) (from rank : List ℕ) (root n b : ℕ) → link la (above es from b) ≡ None → Leads es pa pb la from rank root n b → above es from b ≡ root
+ends_at es pa pb la from rank root zero b none h = absurd h
+ends_at es pa pb la from rank root (suc n) b none h = elim h.1 [ inl p ↦ p.0 | inr p ↦ cc ]
+
+-- a linked record of A gives its link up: the way from its record of B stays
+pub leads_parted : (es : List Edge) (pa pb : List ℕ) (la : List (Option ℕ)) (from rank : List ℕ) (root last k : ℕ) → link la last ≡ Some k → LeadsFrom es pa pb la from rank root last → (n : ℕ) × Leads es pa pb (set la last None) from rank root n (edge es k).b
+leads_parted es pa pb la from rank root last k on h = elim h [
+  | inl p ↦ absurd (let clash : None ≡ Some k = sym p.1 ∙ on in cc)
+  | inr p ↦ (let same : p.0 ≡ k = cc in rw (← same) (p.1.2.0, leads_below es pa pb la from rank root last None p.1.2.0 (edge es p.0).b p.1.1 p.1.2.1))
+]

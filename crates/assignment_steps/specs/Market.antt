@@ -1,8 +1,9 @@
 -- Edges with prices and links, of which every step of an assignment speaks; `adopt_all` and `adopt_proposal` keep prices
 -- covering and links tight by their clause `between`.
-use Rattle.std.specs.Prelude.{◌≡◌, ℕ, ◌+◌, ◌^◌, ◌<◌, ◌≤◌, List, length, slice_index_or, Option, Some, None}
+use Rattle.std.specs.Prelude.{◌≡◌, ℕ, ◌+◌, ◌^◌, ◌<◌, ◌≤◌, List, length, slice_index_or, Option, Some, None, ◌==◌, count_by}
 use Rattle.link_limits.specs.declared.TheConstants.{MOST_PAIRS, MOST_VALUE}
 use Rattle.assignment_steps.specs.declared.market.Edge.{Edge}
+use Rattle.assignment_steps.specs.declared.queue.TheConstants.{FARTHEST}
 
 abbrev pub no_edge : Edge
 no_edge = record { a = 0; b = 0; value = 0 }
@@ -71,3 +72,16 @@ pub record AreListed (es : List Edge) (rows : ℕ) (starts : List ℕ) : Type 0 
   pub rising : IsRising es
   pub small : AreSmall es
   pub begins : AreStarts es rows starts
+
+-- Distances of the records of a side from a root: `raise` and `lower`.
+
+-- a distance, far where there is none
+abbrev pub far : ℕ
+far = FARTHEST
+
+abbrev pub distance : List ℕ → ℕ → ℕ
+distance xs position = slice_index_or xs position far
+
+-- how many records are not reached yet
+abbrev pub unreached : List ℕ → ℕ
+unreached ds = count_by (λ d. d == far) ds

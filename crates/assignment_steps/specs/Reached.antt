@@ -2,8 +2,8 @@
 use Rattle.std.specs.Prelude.{◌≡◌, ◌⊎◌, ◌==◌, ℕ, ◌+◌, ◌^◌, ◌<◌, ◌≤◌, List, [], ◌∷◌, ◌++◌, if◌then◌else◌, Contains, All, vec_len, vec_capacity}
 use Rattle.assignment_steps.specs.declared.market.Edge.{Edge}
 use Rattle.assignment_steps.specs.declared.reaching.Reached.{Reached}
-use Rattle.assignment_steps.specs.Distances.{distance, far, unreached}
-use Rattle.assignment_steps.specs.Relaxed.{left}
+use Rattle.assignment_steps.specs.Market.{distance, far, unreached}
+use Rattle.assignment_steps.specs.Ways.{left}
 
 -- room for each record that may still come
 pub record HasRoomForRecords (rows_a rows_b : ℕ) (r : Reached) : Type 0 where

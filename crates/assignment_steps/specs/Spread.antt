@@ -7,8 +7,7 @@ use Rattle.assignment_steps.specs.declared.market.Edge.{Edge}
 use Rattle.assignment_steps.specs.declared.market.Field.{Field}
 use Rattle.assignment_steps.specs.declared.queue.Near.{Near}
 use Rattle.assignment_steps.specs.declared.reaching.Reached.{Reached}
-use Rattle.assignment_steps.specs.Market.{link, edge, number, AreLinked, AreStarts, IsInRange}
-use Rattle.assignment_steps.specs.Distances.{distance, far}
+use Rattle.assignment_steps.specs.Market.{link, edge, number, AreLinked, AreStarts, IsInRange, distance, far}
 use Rattle.assignment_steps.specs.Queue.{Enters, rank_of, turn_after}
 use Rattle.assignment_steps.specs.Reached.{HasRoomForRecords, Waits, noted}
 

@@ -5,12 +5,11 @@ use Rattle.std.proofs.lemmas.List.{length-set, length_push}
 use Rattle.std.proofs.lemmas.List.Elements.{All-contains, Contains-push, Contains-append_left}
 use Rattle.assignment_steps.specs.declared.market.Field.{Field}
 use Rattle.assignment_steps.specs.declared.queue.Near.{Near}
-use Rattle.assignment_steps.specs.Market.{link, number}
-use Rattle.assignment_steps.specs.Distances.{distance, far}
+use Rattle.assignment_steps.specs.Market.{link, number, distance, far}
 use Rattle.assignment_steps.specs.Reached.{Waits, noted}
 use Rattle.assignment_steps.specs.Spread.{Spread, IsNearer, IsNearest, IsReached, IsRelaxed, IsSearchable, IsSpread, Joins, Shortens, edge_of, paid, rank_above, waits_for}
 use Rattle.assignment_steps.specs.ReachedLaws.{noted_first, noted_stays}
-use Rattle.assignment_steps.specs.DistanceLaws.{distance-set}
+use Rattle.assignment_steps.specs.LinkLaws.{distance-set}
 
 -- only what is relaxed speaks of the record whose edges are not relaxed yet, and of the place
 pub spread_marked : (f : Field) (position next position' next' : ℕ) (s : Spread) → IsSpread f position next s → ((k : ℕ) → k < length f.edges.now → distance s.da (edge_of f k).a < far → ((edge_of f k).a ≡ position' → k < next') → IsRelaxed f s k) → IsSpread f position' next' s

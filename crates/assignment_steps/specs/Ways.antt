@@ -1,10 +1,10 @@
 -- Machinery of the assigners above (`turn` of each): the ways along which links are turned round, from a record that a search has reached
 -- back to the record that it began at.
-use Rattle.std.specs.Prelude.{◌≡◌, ◌⊎◌, ℕ, zero, suc, ◌<◌, List, length, Option, Some, None, MatchOption, IsNone}
+use Rattle.std.specs.Prelude.{◌≡◌, ◌⊎◌, ℕ, zero, suc, ◌<◌, List, length, Option, Some, None, MatchOption, IsNone, ◌+◌, Bool, ◌||◌, ◌&&◌, ◌==◌, nat_le, if◌then◌else◌, [], ◌∷◌}
 use Rattle.assignment_steps.specs.declared.market.Edge.{Edge}
 use Rattle.assignment_steps.specs.declared.market.Net.{Net}
 use Rattle.assignment_steps.specs.declared.market.Ways.{Ways}
-use Rattle.assignment_steps.specs.Market.{edge, link, number, IsTight}
+use Rattle.assignment_steps.specs.Market.{edge, link, number, IsTight, distance, far}
 
 -- the edge by which a record of B was reached is tight
 pub record IsHop (es : List Edge) (pa pb from : List ℕ) (b : ℕ) : Type 0 where
@@ -48,3 +48,18 @@ pub record AreTurnedFrom (la la' : List (Option ℕ)) (root : ℕ) (free : Optio
   pub count : length la' ≡ length la
   pub of_root : link la' root ≡ None → IsNone free × (root ≡ last)
   pub still : (a : ℕ) → link la' a ≡ None → (link la a ≡ None) ⊎ (IsNone free × (a ≡ last))
+
+-- Machinery of a search, a measure by which it ends: the edges that are not relaxed yet in the growth of a tree.
+
+-- how many edges pass a test of the edge and its place
+abbrev pub count_at : (Edge → ℕ → Bool) → List Edge → ℕ → ℕ
+count_at t [] i = 0
+count_at t (e ∷ es) i = (if t e i then 1 else 0) + count_at t es (suc i)
+
+-- an edge at place i is not relaxed yet
+abbrev pub is_left : List ℕ → ℕ → ℕ → Edge → ℕ → Bool
+is_left da position next e i = (distance da e.a == far) || ((e.a == position) && nat_le next i)
+
+-- how many edges are not relaxed yet, those of `position` from place `next` on among them
+abbrev pub left : List Edge → List ℕ → ℕ → ℕ → ℕ
+left es da position next = count_at (is_left da position next) es 0

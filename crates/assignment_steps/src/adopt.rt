@@ -2,8 +2,7 @@
 ghost use Rattle.std.specs.Prelude.{◌≡◌, ◌<◌, ◌≤◌, ◌↔◌, ℕ, length, None, Some, IsTrue};
 ghost use Rattle.link_limits.specs.declared.TheConstants.{MOST_VALUE};
 ghost use Rattle.assignment_steps.specs.Market.{link, number, AreCovered, AreTight, IsInRange, IsMatched, IsTight};
-ghost use Rattle.assignment_steps.specs.Between.{IsBetween};
-ghost use Rattle.assignment_steps.specs.Joined.{AreJoinedWith, IsFor};
+ghost use Rattle.assignment_steps.specs.Between.{IsBetween, AreJoinedWith, IsFor};
 
 use crate::market::{Board, Edge, Net, Proposal};
 use crate::maybe_edge::{MaybeEdge, has_link, link_of};

@@ -13,7 +13,7 @@ pub struct MaybeEdge {
 
 impl Model for MaybeEdge {
     ghost use Rattle.std.specs.Prelude.{ℕ, Option};
-    ghost use Rattle.assignment_steps.specs.MaybeEdges.{code_again, code_of_edge, edge_in_code};
+    ghost use Rattle.assignment_steps.specs.Kept.{code_again, code_of_edge, edge_in_code};
 
     ghost Value = { Option ℕ };
 

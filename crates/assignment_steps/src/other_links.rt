@@ -1,7 +1,7 @@
 // Links as links of the edges: of turned edges, and of records side by side.
 ghost use Rattle.std.specs.Prelude.{◌≡◌, ◌≢◌, ◌<◌, ℕ, length, MatchOption, Some};
 ghost use Rattle.assignment_steps.specs.Market.{edge, IsMatched, IsInRange};
-ghost use Rattle.assignment_steps.specs.Joined.{AreJoined, AreJoinedAs, AreJoinedWith, IsTakenUp, IsOf, KeepsLinks};
+ghost use Rattle.assignment_steps.specs.Between.{AreJoined, AreJoinedAs, AreJoinedWith, IsTakenUp, IsOf, KeepsLinks};
 
 use crate::market::{Board, Edge};
 use crate::maybe_edge::{MaybeEdge, has_link, link_of};

@@ -39,7 +39,7 @@ impl Model for DistanceQueue {
     ghost use Rattle.std.specs.Ordering.{nat_cmp, ordering_then};
     ghost use Rattle.std.specs.BinaryHeap.{IsHeap, heap_items, heap_len, heap_capacity};
     ghost use Rattle.assignment_steps.specs.declared.queue.TheConstants.{TURNS};
-    ghost use Rattle.assignment_steps.specs.Entries.{ranked_of, waiting_of};
+    ghost use Rattle.assignment_steps.specs.Kept.{ranked_of, waiting_of};
     ghost use Rattle.assignment_steps.specs.Queue.{Queue};
 
     ghost Value = { Queue };

@@ -1,8 +1,7 @@
 // What a search has reached from its root.
 ghost use Rattle.std.specs.Prelude.{◌≡◌, ◌+◌, ◌-◌, ◌<◌, ◌≤◌, ℕ, length, vec_len, Contains, IfOk, MatchOption};
 ghost use Rattle.link_limits.specs.declared.TheConstants.{MOST_VALUE};
-ghost use Rattle.assignment_steps.specs.Market.{edge, number};
-ghost use Rattle.assignment_steps.specs.Distances.{distance, far};
+ghost use Rattle.assignment_steps.specs.Market.{edge, number, distance, far};
 ghost use Rattle.assignment_steps.specs.Reached.{HasRoomForRecords, IsAtRest, IsClean};
 ghost use Rattle.assignment_steps.specs.Spread.{IsNearer, IsRelaxed, IsSearchable, JoinsReached, Notes, Reaches, Shifts, edge_of, paid, spread};
 

@@ -1,8 +1,7 @@
 // Prices that cover the edges, and prices that are changed by distances.
 ghost use Rattle.std.specs.Prelude.{◌≡◌, ◌+◌, ◌-◌, ◌<◌, ◌≤◌, ◌^◌, ℕ, All, Contains, IfOk, length};
 ghost use Rattle.assignment_steps.specs.Between.{RaisesTo, ReachAll};
-ghost use Rattle.assignment_steps.specs.Market.{number, AreSmall, IsInRange};
-ghost use Rattle.assignment_steps.specs.Distances.{distance};
+ghost use Rattle.assignment_steps.specs.Market.{number, AreSmall, IsInRange, distance};
 
 use crate::market::Edge;
 use crate::queue::FARTHEST;

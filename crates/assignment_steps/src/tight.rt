@@ -1,7 +1,6 @@
 // Links that are taken over tight edges.
 ghost use Rattle.std.specs.Prelude.{◌<◌, length};
-ghost use Rattle.assignment_steps.specs.Between.{IsBetween};
-ghost use Rattle.assignment_steps.specs.Free.{AreSettled, HasLink, TriesEdge};
+ghost use Rattle.assignment_steps.specs.Between.{IsBetween, AreSettled, HasLink, TriesEdge};
 
 use crate::market::Net;
 use crate::maybe_edge::{MaybeEdge, has_link};

@@ -1,26 +1,20 @@
 -- The ids of one pass among those of all passes, and what is read from them.
-use Rattle.std.proofs.Common.{◌≡◌, ◌<◌, ◌≤◌, ◌+◌, ◌-◌, ◌*◌, ◌^◌, List, [], ◌∷◌, ◌++◌, ℕ, zero, suc, Option, Some, None, refl, sym, ◌∙◌, ap, subst, length, length-append, take, drop, get_or, arith, append_assoc, min, option_map, false, bytes_eq}
-use Rattle.std.proofs.Math.Nat.{suc-mul}
+use Rattle.std.proofs.Common.{◌≡◌, ◌<◌, ◌≤◌, ◌+◌, ◌-◌, ◌*◌, ◌^◌, List, [], ◌∷◌, ◌++◌, ℕ, zero, suc, Option, Some, None, refl, sym, ◌∙◌, ap, subst, length, length-append, take, drop, get_or, arith, append_assoc, min, option_map, false, bytes_eq, suc-mul}
 use Rattle.std.proofs.lemmas.List.{drop-drop, drop_at, drop_more, get_or-map, length-map, take_at, append-nil, drop_all}
 use Rattle.std.proofs.lemmas.List.FromFn.{get_or-map-range_with_len, length-map-range_with_len}
 use Rattle.std.proofs.lemmas.Nat.{row_fits}
-use Rattle.value_pool.specs.Texts.{place_among, PoolState, stands_among}
+use Rattle.value_pool.specs.Pool.{place_among, PoolState, stands_among, with_text}
 use Rattle.block_passes.specs.CodedRows.{rows_of_code}
-use Rattle.block_passes.specs.IdCodes.{bytes_of_ids}
+use Rattle.block_passes.specs.Numbering.{bytes_of_ids, AreNumbers, no_number, number_among, with_code}
 use Rattle.block_passes.specs.Ids.{AreAllHeld, id_key_in}
-use Rattle.block_passes.specs.Index.{row_at, rows_with_key}
-use Rattle.block_passes.specs.KeyIds.{ids_in_pass, ids_of_row, key_ids, part_id, parts_in}
-use Rattle.block_passes.specs.Keys.{joined, key_in_pass, no_part, part_key, same_key, same_text, extended}
-use Rattle.block_passes.specs.Numbering.{AreNumbers, no_number, number_among, with_code}
+use Rattle.block_passes.specs.Keys.{row_at, rows_with_key, ids_in_pass, ids_of_row, key_ids, part_id, parts_in, joined, key_in_pass, no_part, part_key, same_key, same_text, extended}
 use Rattle.block_passes.specs.PassIds.{all_ids, AreByPart, AreFirstIds, AreIdsInPass, code_at, first_number, part_at, rows_in_pass}
 use Rattle.block_passes.proofs.ChainLemmas.{codes-same, ids-joined, ids-tell, rows-by-part}
-use Rattle.block_passes.specs.FilterLaws.{filter-agree}
-use Rattle.link_base.specs.Standard.{no_record, Record}
+use Rattle.block_passes.specs.NumberingLaws.{filter-agree, none-place}
+use Rattle.link_base.specs.Words.{no_record, Record}
 use Rattle.value_forms.specs.declared.passes.Part.{Part}
 use Rattle.link_base.specs.declared.standard.Value.{Value}
-use Rattle.value_pool.specs.Pool.{with_text}
 use Rattle.value_pool.proofs.PlaceLemmas.{held-turned}
-use Rattle.block_passes.specs.NumberingLaws.{none-place}
 
 pass-long : (texts : List (List ℕ)) (row : List Value) (pass : List Part) → length (ids_in_pass texts row pass) ≡ length pass
 pass-long texts row pass = length-map pass (part_id texts row)

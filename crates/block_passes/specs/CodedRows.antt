@@ -1,10 +1,9 @@
 -- Machinery of the index: the rows of a file by the codes of their keys. No public clause names them.
 use Rattle.std.specs.Prelude.{◌≡◌, ◌<◌, ℕ, List, [], filter, length, slice_index_or, Option}
 use Rattle.std.specs.List.{range_with_len}
-use Rattle.block_passes.specs.Codes.{key_code}
-use Rattle.block_passes.specs.Index.{row_at}
-use Rattle.block_passes.specs.Keys.{key_in_pass, same_text}
-use Rattle.link_base.specs.Standard.{Record}
+use Rattle.block_passes.specs.Numbering.{key_code}
+use Rattle.block_passes.specs.Keys.{row_at, key_in_pass, same_text}
+use Rattle.link_base.specs.Words.{Record}
 use Rattle.value_forms.specs.declared.passes.Part.{Part}
 
 -- the code of the key of the row at a position

@@ -2,10 +2,9 @@
 -- `ids_tell_keys` what they are worth.
 use Rattle.std.specs.Prelude.{◌<◌, ℕ, List, [], map, filter, length, slice_index_or, Bool, Option, option_map}
 use Rattle.std.specs.List.{range_with_len}
-use Rattle.value_pool.specs.Texts.{IsHeld, place_among}
-use Rattle.block_passes.specs.Keys.{key_in_pass, no_part, part_key, same_text}
-use Rattle.block_passes.specs.Index.{row_at}
-use Rattle.link_base.specs.Standard.{Record}
+use Rattle.value_pool.specs.Pool.{IsHeld, place_among}
+use Rattle.block_passes.specs.Keys.{key_in_pass, no_part, part_key, same_text, row_at}
+use Rattle.link_base.specs.Words.{Record}
 use Rattle.value_forms.specs.declared.passes.Part.{Part}
 use Rattle.link_base.specs.declared.standard.Value.{Value}
 

@@ -1,9 +1,7 @@
 -- What an index gives for a key. `build_index` carries `index_rows` and `build_index_in` carries `id_index_rows`, each by its
 -- clause; the two words are closed, so that no caller sees what an index keeps. The rest is machinery of the index.
 use Rattle.std.specs.Prelude.{ℕ, List, [], Some, slice_index_or}
-use Rattle.block_passes.specs.Codes.{coded_texts}
-use Rattle.block_passes.specs.IdCodes.{bytes_of_ids}
-use Rattle.block_passes.specs.Numbering.{number_among}
+use Rattle.block_passes.specs.Numbering.{coded_texts, bytes_of_ids, number_among}
 use Rattle.block_passes.specs.declared.coded_rows.RowsByCode.{RowsByCode}
 use Rattle.block_passes.specs.declared.id_index.IdIndex.{IdIndex}
 use Rattle.block_passes.specs.declared.index.Index.{Index}

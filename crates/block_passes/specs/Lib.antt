@@ -1,13 +1,7 @@
-pub mod Keys
-pub mod Codes
-pub mod Numbering
 pub mod NumberingLaws
-pub mod FilterLaws
-pub mod Groups
-pub mod Index
 pub mod CodedRows
 pub mod IndexRows
 pub mod Ids
-pub mod IdCodes
-pub mod KeyIds
+pub mod Numbering
+pub mod Keys
 pub mod PassIds

@@ -1,21 +1,40 @@
 -- Machinery of the index: laws of numbers that stand for codes. A code that is taken has a number, the rows with the number of a code are those
 -- with the code, and what one number more adds.
-use Rattle.std.proofs.Common.{◌≡◌, ◌<◌, ◌≤◌, ◌==◌, List, [], ◌∷◌, ◌++◌, ℕ, Bool, true, false, Option, Some, None, refl, sym, ◌∙◌, ap, length, length-append, filter, get_or, arith, inl, inr, bytes_eq, nat_lt, ◌+◌, subst, eq-eqb, eqb-true, slice_get}
-use Rattle.std.specs.List.{list_any, position_or_len, range_with_len}
-use Rattle.value_pool.specs.Texts.{place_among}
+use Rattle.std.proofs.Common.{◌≡◌, ◌<◌, ◌+◌, [], ℕ, zero, suc, Bool, true, false, refl, sym, filter, arith, ◌≤◌, ◌==◌, List, ◌∷◌, ◌++◌, Option, Some, None, ◌∙◌, ap, length, length-append, get_or, inl, inr, bytes_eq, nat_lt, subst, eq-eqb, eqb-true, slice_get}
+use Rattle.std.specs.List.{range_with_len, list_any, position_or_len}
+use Rattle.value_pool.specs.Pool.{place_among}
 use Rattle.std.proofs.lemmas.Bool.{cases_Bool, cases_lt, false≢true}
 use Rattle.std.proofs.lemmas.List.{get_or_past}
 use Rattle.std.proofs.lemmas.Option.{slice_get-get_or}
 use Rattle.std.proofs.lemmas.List.Folds.{position_or_len_push}
 use Rattle.std.proofs.lemmas.Slice.Eq.{bytes_eq-Decides}
 use Rattle.value_pool.proofs.PlaceLemmas.{any-place, at-place}
-use Rattle.block_passes.specs.Keys.{same_text}
-use Rattle.block_passes.specs.Groups.{AreGroups}
-use Rattle.block_passes.specs.Index.{rows_with_number}
-use Rattle.block_passes.specs.Numbering.{IsNumbered, no_number, number_among, with_code, AreNumbered, AreNumbers, KeepNumbers}
-use Rattle.block_passes.specs.FilterLaws.{same-test, filter-agree, filter-empty}
+use Rattle.block_passes.specs.Keys.{same_text, rows_with_number}
+use Rattle.block_passes.specs.Numbering.{AreGroups, IsNumbered, no_number, number_among, with_code, AreNumbered, AreNumbers, KeepNumbers}
 use Rattle.std.proofs.Math.ListN.{get_or-append}
 use Rattle.std.proofs.Math.Seq.{get_or-append_seam}
+
+-- Machinery of the index and of walks: laws of filters of positions. Those whose tests agree below the end are one list.
+
+-- a test that is true just where another is
+pub same-test : (p q : Bool) → (p ≡ true → q ≡ true) → (q ≡ true → p ≡ true) → p ≡ q
+same-test true true f g = refl
+same-test true false f g = sym (f refl)
+same-test false true f g = g refl
+same-test false false f g = refl
+
+-- filters of one list that agree below a bound are equal
+pub filter-agree : (p q : ℕ → Bool) (n count : ℕ) → ((j : ℕ) → j < n + count → p j ≡ q j) → filter p (range_with_len n count) ≡ filter q (range_with_len n count)
+filter-agree p q n zero h = refl
+filter-agree p q n (suc count) h =
+    let rest = filter-agree p q (n + 1) count (λ j lt. h j (omega arith)) in
+    rw (h n (omega arith), rest) refl
+
+pub filter-empty : (p : ℕ → Bool) (n count : ℕ) → ((j : ℕ) → j < n + count → p j ≡ false) → filter p (range_with_len n count) ≡ []
+filter-empty p n zero h = refl
+filter-empty p n (suc count) h =
+    let rest = filter-empty p (n + 1) count (λ j lt. h j (omega arith)) in
+    rw (h n (omega arith)) rest
 
 pub none-place : {T : Type 0} (p : T → Bool) (xs : List T) → list_any p xs ≡ false → position_or_len p xs ≡ length xs
 none-place p [] h = refl
@@ -112,11 +131,6 @@ told_more f at numbers more n len told grown is = (
         ap (λ k. get_or (numbers ++ n ∷ []) k 0) seam ∙ get_or-append_seam numbers n [] 0 ∙ is ∙ ap f (sym last)
   ],
 )
-
--- one number that is found
-pub found_more : (codes : List (List ℕ)) (code_of : ℕ → Option (List ℕ)) (at : ℕ) (numbers more : List ℕ) (n : ℕ) → AreNumbers codes code_of at numbers
-    → more ≡ numbers ++ n ∷ [] → n ≡ number_among codes (code_of at) → AreNumbers codes code_of (at + 1) more
-found_more codes code_of at numbers more n told grown is = told_more (λ j. number_among codes (code_of j)) at numbers more n told.0 told.1 grown is
 
 -- one number that is given
 pub given_more : (codes new : List (List ℕ)) (code_of : ℕ → Option (List ℕ)) (at : ℕ) (numbers more : List ℕ) (n : ℕ) → KeepNumbers codes new → AreNumbered codes code_of at → AreNumbers codes code_of at numbers

@@ -2,13 +2,9 @@
 -- from them. No public clause names it.
 use Rattle.std.specs.Prelude.{◌≡◌, ◌<◌, ◌+◌, ◌*◌, ℕ, List, [], ◌∷◌, length, map, take, drop, slice_index_or, Option, Some, None, option_map}
 use Rattle.std.specs.List.{range_with_len}
-use Rattle.block_passes.specs.Groups.{AreGroups}
-use Rattle.block_passes.specs.IdCodes.{bytes_of_ids}
-use Rattle.block_passes.specs.Index.{row_at}
-use Rattle.block_passes.specs.KeyIds.{ids_in_pass}
-use Rattle.block_passes.specs.Keys.{joined, no_part, part_key}
-use Rattle.block_passes.specs.Numbering.{no_number}
-use Rattle.link_base.specs.Standard.{Record}
+use Rattle.block_passes.specs.Numbering.{AreGroups, bytes_of_ids, no_number}
+use Rattle.block_passes.specs.Keys.{row_at, ids_in_pass, joined, no_part, part_key}
+use Rattle.link_base.specs.Words.{Record}
 use Rattle.value_forms.specs.declared.passes.Part.{Part}
 
 -- so many ids of each row, the first of them `start` places after the row's first

@@ -1,8 +1,8 @@
 // The code of a key: its texts as one list of bytes.
 ghost use Rattle.std.specs.Prelude.{◌≡◌, ◌++◌, OnOk, length};
 ghost use Rattle.block_passes.specs.CodedRows.{code_of_row};
-ghost use Rattle.block_passes.specs.Codes.{coded_text, has_marked, is_marked, marked};
-ghost use Rattle.block_passes.specs.Index.{AreReady};
+ghost use Rattle.block_passes.specs.Numbering.{coded_text, has_marked, is_marked, marked};
+ghost use Rattle.block_passes.specs.Keys.{AreReady};
 
 use crate::coded_rows::CodedRows;
 use crate::keys::part_text;

@@ -1,9 +1,9 @@
 // The rows of a file by the ids of their keys.
 ghost use Rattle.std.specs.Prelude.{◌≡◌, ℕ, List, length, option_map, IfOk, Some};
 ghost use Rattle.block_passes.specs.Ids.{AreAllHeld, id_key_in, rows_with_ids};
-ghost use Rattle.block_passes.specs.IdCodes.{bytes_of_ids};
+ghost use Rattle.block_passes.specs.Numbering.{bytes_of_ids};
 ghost use Rattle.block_passes.specs.IndexRows.{id_index_rows};
-ghost use Rattle.block_passes.specs.Index.{AreReady, row_at};
+ghost use Rattle.block_passes.specs.Keys.{AreReady, row_at};
 
 use crate::coded_rows::{CodedRows, RowsByCode};
 use crate::ids::{IdKey, id_key};

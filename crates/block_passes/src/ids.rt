@@ -1,7 +1,7 @@
 // The key of a row in a pass as ids of a pool.
 ghost use Rattle.std.specs.Prelude.{◌≡◌, ◌<◌, ◌++◌, ℕ, List, length, option_map, IfOk, OnOk};
-ghost use Rattle.value_pool.specs.Texts.{IsHeld, place_among};
-ghost use Rattle.block_passes.specs.IdCodes.{bytes_of_ids, id_bytes};
+ghost use Rattle.value_pool.specs.Pool.{IsHeld, place_among};
+ghost use Rattle.block_passes.specs.Numbering.{bytes_of_ids, id_bytes};
 ghost use Rattle.block_passes.specs.Ids.{AreHeld, id_key_in, same_ids};
 ghost use Rattle.block_passes.specs.Keys.{AreReadable, InRange, IsPartReadable, key_in_pass, part_key, same_key};
 ghost use Rattle.value_forms.specs.declared.passes.Part.{Part as KeyPart};
@@ -23,7 +23,7 @@ pub struct IdKey {
 
 impl Model for IdKey {
     ghost use Rattle.std.specs.Prelude.{◌≡◌, ℕ, List};
-    ghost use Rattle.block_passes.specs.IdCodes.{bytes_of_ids};
+    ghost use Rattle.block_passes.specs.Numbering.{bytes_of_ids};
 
     ghost Value = { List ℕ };
 

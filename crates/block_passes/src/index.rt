@@ -2,10 +2,8 @@
 ghost use Rattle.std.specs.Prelude.{◌≡◌, ◌<◌, ◌^◌, ℕ, List, [], length, map, slice_index_or, IfOk, Some};
 ghost use Rattle.block_passes.specs.Ids.{AreAllHeld};
 ghost use Rattle.block_passes.specs.IndexRows.{index_rows};
-ghost use Rattle.block_passes.specs.Index.{AreReady, row_at, rows_with_key, rows_with_number};
+ghost use Rattle.block_passes.specs.Keys.{AreReady, row_at, rows_with_key, rows_with_number, key_ids, key_in_pass};
 ghost use Rattle.block_passes.specs.CodedRows.{AreByCode};
-ghost use Rattle.block_passes.specs.KeyIds.{key_ids};
-ghost use Rattle.block_passes.specs.Keys.{key_in_pass};
 ghost use Rattle.block_passes.specs.PassIds.{AreByPart};
 
 use crate::coded_rows::{CodedRows, RowsByCode};

@@ -1,6 +1,6 @@
 // The key of a row in a pass.
 ghost use Rattle.std.specs.Prelude.{◌≡◌, ◌<◌, IfOk, length, option_map};
-ghost use Rattle.block_passes.specs.Codes.{coded_texts};
+ghost use Rattle.block_passes.specs.Numbering.{coded_texts};
 ghost use Rattle.block_passes.specs.Keys.{AreReadable, InRange, IsPartReadable, key_in_pass, part_key};
 ghost use Rattle.value_forms.specs.CanonTexts.{canon_bytes};
 
@@ -28,7 +28,7 @@ pub struct PassKey {
 
 impl Model for PassKey {
     ghost use Rattle.std.specs.Prelude.{◌≡◌, ℕ, List};
-    ghost use Rattle.block_passes.specs.Codes.{coded_texts};
+    ghost use Rattle.block_passes.specs.Numbering.{coded_texts};
 
     ghost Value = { List (List ℕ) };
 

@@ -12,6 +12,7 @@ mod numbering;
 mod part_ids;
 mod pass_ids;
 
+pub use groups::Groups;
 pub use id_index::{IdIndex, build_index_in};
 pub use ids::{IdKey, id_key, ids_tell_keys};
 pub use index::{Index, PassRows, build_index};

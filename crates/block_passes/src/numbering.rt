@@ -1,6 +1,6 @@
 // Codes with their numbers.
 ghost use Rattle.std.specs.Prelude.{◌≡◌, ◌<◌, ◌≤◌, ◌+◌, ◌^◌, [], length, IfOk, OnOk};
-ghost use Rattle.value_pool.specs.Texts.{place_among};
+ghost use Rattle.value_pool.specs.Pool.{place_among};
 ghost use Rattle.block_passes.specs.Numbering.{code_if, IsNumbered, KeepNumbers, number_among, with_code};
 
 use link_base::NoMemory;

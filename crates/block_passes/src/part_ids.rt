@@ -1,9 +1,7 @@
 // The ids of the parts of the keys of a file.
 ghost use Rattle.std.specs.Prelude.{◌≡◌, ◌<◌, ◌++◌, [], ℕ, length, slice_index_or, IfOk, OnOk};
 ghost use Rattle.block_passes.specs.Ids.{AreHeld, AreKeysHeld};
-ghost use Rattle.block_passes.specs.Index.{AreAllReady};
-ghost use Rattle.block_passes.specs.KeyIds.{ids_in_pass, ids_of_row, key_ids};
-ghost use Rattle.block_passes.specs.Keys.{AreReadable, InRange};
+ghost use Rattle.block_passes.specs.Keys.{AreAllReady, ids_in_pass, ids_of_row, key_ids, AreReadable, InRange};
 
 use crate::ids::part_id;
 use crate::pass_ids::count_parts;

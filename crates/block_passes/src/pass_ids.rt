@@ -1,6 +1,6 @@
 // The ids of one pass, among those of all passes.
 ghost use Rattle.std.specs.Prelude.{◌≡◌, ◌<◌, ◌*◌, ◌^◌, ◌-◌, [], IfOk, length, min, slice_index_or, take, ⊤};
-ghost use Rattle.block_passes.specs.KeyIds.{parts_in};
+ghost use Rattle.block_passes.specs.Keys.{parts_in};
 ghost use Rattle.block_passes.specs.PassIds.{AreFirstIds, code_at, first_number, rows_in_pass};
 
 use crate::coded_rows::CodedRows;

@@ -1,22 +1,17 @@
 -- The capacities after one more row: the record that it names has the row's capacity, and every other record what it had.
-use Rattle.std.proofs.Common.{◌≡◌, ◌≢◌, ◌<◌, AllPairs, ◌+◌, ◌∷◌, ◌∙◌, ℕ, List, [], length, map, replicate, set, take, get_or, Bool, true, false, Some, cond, ◌⊎◌, inl, inr, refl, sym, ap, arith, subst, bytes_eq, ◌≤◌, ◌++◌, ℤ, pos, ◌&&◌, suc, drop, if◌then◌else◌, Option, None, Result, Ok, drop-cons, nat_le}
-use Rattle.std.specs.List.{find}
+use Rattle.std.proofs.Common.{◌≡◌, ◌≢◌, ◌<◌, AllPairs, ◌+◌, ◌∷◌, ◌∙◌, ℕ, List, [], length, map, replicate, set, take, get_or, Bool, true, false, Some, cond, ◌⊎◌, inl, inr, refl, sym, ap, arith, subst, bytes_eq, ◌≤◌, ◌++◌, ℤ, pos, ◌&&◌, suc, drop, if◌then◌else◌, Option, None, Result, Ok, drop-cons, nat_le, find}
 use Rattle.std.proofs.lemmas.Bool.{cases_eq, cases_order, false_from_ne_true}
 use Rattle.std.proofs.lemmas.List.{ext_get_or, get_or-map, get_or-set_other, get_or-set_same, get_or-take, length-map, length-set, length-take-le, take_more, take_all}
 use Rattle.std.proofs.lemmas.List.Quantifiers.{position-Some}
 use Rattle.std.proofs.lemmas.List.Recursion.{found_at, found_push_other}
 use Rattle.std.proofs.lemmas.Slice.Eq.{bytes_eq-Decides}
 use Rattle.csv_rows.specs.Numbers.{number_in, is_decimal}
-use Rattle.link_base.specs.Standard.{HaveDistinctIds, Record, no_record, position_of_id}
-use Rattle.file_reader.specs.Rows.{TableRow, no_row}
+use Rattle.link_base.specs.Words.{HaveDistinctIds, Record, no_record, position_of_id, and_then, Refuses, refuses_then}
+use Rattle.file_reader.specs.Words.{TableRow, no_row, or_fault}
 use Rattle.candidate_links.specs.Capacities.{capacity_by, listed_capacity, capacity_text, after_rows, capacity_in, capacity_named}
 use Rattle.price_check.specs.Assignment.{price_of}
-use Rattle.link_base.specs.Answers.{and_then}
-use Rattle.link_base.specs.Fault.{Refuses}
 use Rattle.link_base.specs.declared.fault.Fault.{Fault}
-use Rattle.link_base.specs.AnswerLaws.{refuses_then}
 use Rattle.link_limits.specs.declared.TheConstants.{MOST_CAPACITY}
-use Rattle.file_reader.specs.Known.{or_fault}
 
 -- no row names a record, and each has one place
 pub unlisted : (b : List Record) → replicate (length b) 1 ≡ map (listed_capacity []) b

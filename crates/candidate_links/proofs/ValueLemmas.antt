@@ -1,11 +1,10 @@
 -- No candidate is worth more than the greatest weight and the award.
-use Rattle.std.proofs.Common.{◌≡◌, ◌∷◌, ℕ, ℤ, List, [], Bool, true, false, Option, Some, None, arith, subst}
-use Rattle.std.specs.Prelude.{◌≤ℤ◌, All, find, if◌then◌else◌, unwrap_or}
+use Rattle.std.proofs.Common.{◌≡◌, ◌∷◌, ℕ, ℤ, List, [], Bool, true, false, Option, Some, None, arith, subst, ◌≤ℤ◌, All, find, if◌then◌else◌, unwrap_or}
 use Rattle.std.proofs.lemmas.Int.{ints}
 use Rattle.std.proofs.lemmas.List.Elements.{All-contains_itself, All-head, All-nil, All-tail}
 use Rattle.price_check.specs.Law.{GreatestValueIsLeast, PricesAreBoundedByCandidates}
 use Rattle.price_check.specs.Assignment.{Certifies, IsOneToOne, price_of}
-use Rattle.link_base.specs.Rule.{empty_cell, IsWithinRanges}
+use Rattle.link_base.specs.Words.{empty_cell, IsWithinRanges}
 use Rattle.link_base.specs.declared.rule.Candidate.{Candidate}
 use Rattle.link_base.specs.declared.rule.Decision.{Decision}
 use Rattle.link_base.specs.declared.rule.Decision.TheVariants as decision
@@ -14,8 +13,7 @@ use Rattle.link_base.specs.declared.rule.RuleCell.{RuleCell}
 use Rattle.link_base.specs.declared.rule.Verdict.{Verdict}
 use Rattle.link_base.specs.declared.rule.Verdict.TheVariants as verdict
 use Rattle.link_limits.specs.declared.TheConstants.{GREATEST_WEIGHT, LEAST_WEIGHT}
-use Rattle.pair_decisions.specs.Decisions.{decision_at}
-use Rattle.pair_decisions.specs.PairRule.{cell_of, has_pattern, FileRule}
+use Rattle.pair_decisions.specs.Words.{decision_at, cell_of, has_pattern, FileRule}
 use Rattle.review_journal.specs.Verdict.{verdict_on}
 use Rattle.review_journal.specs.declared.entry.Entry.{Entry}
 use Rattle.candidate_links.specs.CandidateLaws.{all_if, some_same}

@@ -1,20 +1,23 @@
 -- The candidates for links among decided pairs: the links by rule, and the possible links that clerical review calls links,
 -- each with what it is worth (Fellegi and Sunter 1969, section 2). `candidates_among` carries it (clauses
 -- `candidates` and `most`).
-use Rattle.std.specs.Prelude.{◌≡◌, ◌≤◌, ◌+ℤ◌, ◌≤ℤ◌, ℕ, ℤ, pos, true, false, List, All, AllPairs, filter_map, length, Option, Some, None}
+use Rattle.std.specs.Prelude.{◌≡◌, ◌≤◌, ◌+ℤ◌, ◌≤ℤ◌, ℕ, ℤ, pos, true, false, List, All, AllPairs, filter_map, length, Option, Some, None, ◌==◌, ◌&&◌, ◌<◌, Bool, filter, int_lt, map, not}
 use Rattle.link_limits.specs.declared.TheConstants.{GREATEST_WEIGHT, LEAST_WEIGHT, MOST_PAIRS}
 use Rattle.assignment.specs.Solution.{HasSmallValue}
-use Rattle.price_check.specs.Assignment.{IsBefore, IsWithin}
+use Rattle.price_check.specs.Assignment.{IsBefore, IsWithin, Certifies, greatest_value, IsGreatest, worth, CertifiesWithin, IsGreatestWithin}
 use Rattle.link_base.specs.declared.rule.Candidate.{Candidate}
 use Rattle.link_base.specs.declared.rule.Decision.{Decision}
-use Rattle.link_base.specs.declared.rule.Decision.TheVariants as decision
 use Rattle.link_base.specs.declared.rule.PairAt.{PairAt}
 use Rattle.link_base.specs.declared.rule.Verdict.{Verdict}
-use Rattle.link_base.specs.declared.rule.Verdict.TheVariants as verdict
-use Rattle.pair_decisions.specs.Decisions.{decision_at}
-use Rattle.pair_decisions.specs.PairRule.{cell_of, FileRule}
+use Rattle.pair_decisions.specs.Words.{decision_at, cell_of, FileRule}
 use Rattle.review_journal.specs.Verdict.{verdict_on}
 use Rattle.review_journal.specs.declared.entry.Entry.{Entry}
+use Rattle.std.specs.List.{list_any}
+use Rattle.candidate_links.specs.declared.choice.ChosenLinks.{ChosenLinks}
+use Rattle.candidate_links.specs.declared.choice_within.LinksWithin.{LinksWithin}
+use Rattle.link_report.specs.declared.report.Dropped.{Dropped}
+use Rattle.link_base.specs.declared.rule.Decision.TheVariants as decision
+use Rattle.link_base.specs.declared.rule.Verdict.TheVariants as verdict
 
 -- the weight of the comparison pattern of a pair, in eighths of a bit
 abbrev pub weight_of_pair : FileRule → PairAt → ℤ
@@ -74,3 +77,43 @@ pub record AreCandidates (rows_a rows_b : ℕ) (wanted cs : List Candidate) : Ty
   pub rising : AllPairs IsBefore cs
   pub within : All (IsWithin rows_a rows_b) cs
   pub small : All HasSmallValue cs
+
+-- The links chosen among candidates, their prices, and the candidates that are not among them, each with the cause (`choose_links`,
+-- clause `chosen`), and the links chosen within capacities (`choose_within`, clause `chosen`).
+
+-- two candidates are of the same records
+abbrev pub is_same_pair : Candidate → Candidate → Bool
+is_same_pair x y = (x.a == y.a) && (x.b == y.b)
+
+-- the records of a candidate are those of a link
+abbrev pub is_chosen : List Candidate → Candidate → Bool
+is_chosen links c = list_any (λ link. is_same_pair link c) links
+
+-- a candidate that is no link: for a conflict with links, or for its weight where its value is at most 0
+abbrev pub dropped : Candidate → Dropped
+dropped c = record { at = record { a = c.a; b = c.b }; conflict = int_lt (pos 0) c.value }
+
+-- the candidates that are not among the links, in their order
+abbrev pub dropped_of : List Candidate → List Candidate → List Dropped
+dropped_of candidates links = map dropped (filter (λ c. not (is_chosen links c)) candidates)
+
+-- the choice among candidates of files of so many records: a greatest one-to-one list, a price for each record, which certify it and are
+-- at most the greatest value of the candidates, the candidates that are not in it, and what it is worth
+pub record IsChoice (rows_a rows_b : ℕ) (candidates : List Candidate) (c : ChosenLinks) : Type 0 where
+  pub greatest : IsGreatest candidates c.links.items
+  pub certified : Certifies candidates c.links.items c.prices_a.items c.prices_b.items
+  pub priced_a : length c.prices_a.items ≡ rows_a
+  pub priced_b : length c.prices_b.items ≡ rows_b
+  pub most_a : All (λ price. price ≤ℤ greatest_value candidates) c.prices_a.items
+  pub most_b : All (λ price. price ≤ℤ greatest_value candidates) c.prices_b.items
+  pub dropped : c.dropped.items ≡ dropped_of candidates c.links.items
+  pub total : c.total ≡ worth c.links.items
+
+-- the choice within capacities: a greatest list within them, whose links stand in the files, and a price for each record, which certify it
+pub record IsChoiceWithin (rows_a rows_b : ℕ) (capacities : List ℕ) (candidates : List Candidate) (c : LinksWithin) : Type 0 where
+  pub greatest : IsGreatestWithin candidates capacities c.links.items
+  pub certified : CertifiesWithin candidates capacities c.links.items c.prices_a.items c.prices_b.items
+  pub priced_a : length c.prices_a.items ≡ rows_a
+  pub priced_b : length c.prices_b.items ≡ rows_b
+  pub in_a : All (λ (l : Candidate). l.a < rows_a) c.links.items
+  pub in_b : All (λ (l : Candidate). l.b < rows_b) c.links.items

@@ -1,19 +1,14 @@
 -- The capacities of the records of B as a file lists them, or its first fault: of the table, then row by row (`read_capacities`,
 -- clause `answer`).
 use Rattle.std.specs.Prelude.{◌≡◌, ◌<◌, ◌≤◌, ℕ, ◌+◌, ◌&&◌, All, length, List, [], ◌∷◌, bytes_eq, codes, find, if◌then◌else◌, map, nat_le, slice_index_or, Option, Some, None, Result, Ok}
-use Rattle.file_reader.specs.Left.{records_in}
+use Rattle.file_reader.specs.Words.{records_in, HasDistinctIds, HasWidth, table_of, known_in, or_fault, Wanted, wanted_of, TableRow}
 use Rattle.csv_rows.specs.Numbers.{is_decimal, number_in}
 use Rattle.link_limits.specs.declared.TheConstants.{MOST_CAPACITY, MOST_ROWS}
-use Rattle.link_base.specs.Answers.{and_then}
-use Rattle.link_base.specs.Standard.{position_of_id, Record}
+use Rattle.link_base.specs.Words.{and_then, position_of_id, Record}
 use Rattle.link_base.specs.declared.fault.Fault.{Fault}
 use Rattle.link_base.specs.declared.fault.Fault.TheVariants as fault
 use Rattle.link_base.specs.declared.fault.FileRole.TheVariants as role
-use Rattle.file_reader.specs.Known.{known_in, or_fault}
-use Rattle.file_reader.specs.Layout.{Wanted, wanted_of}
 use Rattle.file_reader.specs.declared.layout.Layout.{Layout}
-use Rattle.file_reader.specs.Rows.{TableRow}
-use Rattle.file_reader.specs.Table.{HasDistinctIds, HasWidth, table_of}
 use Rattle.candidate_links.specs.declared.reading.Listed.{Listed}
 
 abbrev pub capacities_wanted : Wanted
@@ -48,10 +43,6 @@ listed_capacity rows r = capacity_by (find (λ (row : TableRow). bytes_eq row.id
 -- the capacities of the records of B by the rows of a table
 abbrev pub capacities_by : List Record → List TableRow → Result (List ℕ) Fault
 capacities_by b rows = after_rows b (map (listed_capacity rows) b) 1 rows
-
--- the rows of a file of capacities
-abbrev pub capacities_table : List ℕ → Result (List TableRow) Fault
-capacities_table bytes = table_of role.Capacities capacities_wanted (records_in 44 bytes)
 
 -- machinery: how a file of capacities is laid out
 pub record IsCapacityLayout (layout : Layout) : Type 0 where

@@ -1,9 +1,10 @@
 -- Machinery of `candidates_among`: the candidates of two lists of pairs, taken together by position. No public clause names it.
-use Rattle.std.specs.Prelude.{◌==◌, ◌&&◌, ◌||◌, Bool, List, [], ◌∷◌, Option, filter_map, if◌then◌else◌, nat_lt}
+use Rattle.std.specs.Prelude.{◌==◌, ◌&&◌, ◌||◌, Bool, List, [], ◌∷◌, Option, filter_map, if◌then◌else◌, nat_lt, false, drop}
 use Rattle.std.specs.List.{cons_option}
 use Rattle.link_base.specs.declared.rule.Candidate.{Candidate}
 use Rattle.link_base.specs.declared.rule.PairAt.{PairAt}
 use Rattle.candidate_links.specs.declared.merging.Next.{Next}
+use Rattle.candidate_links.specs.Candidates.{is_same_pair}
 use Rattle.candidate_links.specs.declared.merging.Next.TheVariants as next
 
 -- one pair stands before another by its positions
@@ -27,3 +28,16 @@ merged_from of_possible x own rest (y ∷ ys) =
 unfoldable pub merged : (PairAt → Option Candidate) → (PairAt → Option Candidate) → List PairAt → List PairAt → List Candidate
 merged of_link of_possible [] ys = filter_map of_possible ys
 merged of_link of_possible (x ∷ xs) ys = merged_from of_possible x (of_link x) (merged of_link of_possible xs) ys
+
+-- Machinery of `choose_links`: rising candidates and links passed together, which leaves the candidates that are no links. No
+-- public clause names it.
+
+-- a candidate is the first of the links that are left
+abbrev pub is_next : List Candidate → Candidate → Bool
+is_next [] c = false
+is_next (link ∷ links) c = is_same_pair link c
+
+-- the candidates that are not the next link, which a link is passed with
+unfoldable pub unlinked : List Candidate → List Candidate → List Candidate
+unlinked [] links = []
+unlinked (c ∷ cs) links = if is_next links c then unlinked cs (drop 1 links) else c ∷ unlinked cs links

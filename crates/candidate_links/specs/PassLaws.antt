@@ -7,13 +7,12 @@ use Rattle.std.proofs.lemmas.Int.{ints}
 use Rattle.std.proofs.lemmas.List.{drop_more, drop_all}
 use Rattle.std.proofs.lemmas.List.Elements.{All-tail, All-head, All-contains}
 use Rattle.std.proofs.lemmas.Map.Made.{Contains-tail}
-use Rattle.price_check.specs.CandidateLaws.{clash}
+use Rattle.price_check.specs.PlaceLaws.{clash, AllPairs-head, AllPairs-tail}
 use Rattle.price_check.specs.Assignment.{IsBefore, total}
 use Rattle.link_base.specs.declared.rule.Candidate.{Candidate}
-use Rattle.candidate_links.specs.Choice.{dropped, dropped_of, is_chosen, is_same_pair}
+use Rattle.candidate_links.specs.Candidates.{dropped, dropped_of, is_chosen, is_same_pair}
 use Rattle.link_report.specs.declared.report.Dropped.{Dropped}
-use Rattle.candidate_links.specs.MergeLaws.{all_after, rest_rises}
-use Rattle.candidate_links.specs.Passing.{is_next, unlinked}
+use Rattle.candidate_links.specs.Merging.{is_next, unlinked}
 
 -- rising links among rising candidates
 pub record AreAmong (cs links : List Candidate) : Type 0 where
@@ -53,10 +52,10 @@ pub passed : (c : Candidate) (cs links : List Candidate) → AreAmong (c ∷ cs)
 passed c cs [] are is = absurd (cc)
 passed c cs (l ∷ ls) are is =
     let same = same_records l c is in
-    let after = all_after IsBefore l ls are.links_rise in
+    let after = AllPairs-head IsBefore l ls are.links_rise in
     record {
-      rising = rest_rises IsBefore c cs are.rising;
-      links_rise = rest_rises IsBefore l ls are.links_rise;
+      rising = AllPairs-tail IsBefore c cs are.rising;
+      links_rise = AllPairs-tail IsBefore l ls are.links_rise;
       among = all_later c cs ls (All-tail (Contains (c ∷ cs)) l ls are.among) (λ k d lt e. clash l (get_or ls k d) (after k d lt) (same.0 ∙ ap (λ (x : Candidate). x.a) e) (same.1 ∙ ap (λ (x : Candidate). x.b) e));
     }
 
@@ -64,16 +63,16 @@ passed c cs (l ∷ ls) are is =
 first_later : (c l : Candidate) (cs ls : List Candidate) → AreAmong (c ∷ cs) (l ∷ ls) → is_same_pair l c ≡ false → IsBefore c l
 first_later c l cs ls are other =
     let in_rest : Contains cs l = Contains-tail c cs l (λ e. let same = itself c l e in absurd (cc)) (All-head (Contains (c ∷ cs)) l ls are.among) in
-    All-contains (IsBefore c) cs l (all_after IsBefore c cs are.rising) in_rest
+    All-contains (IsBefore c) cs l (AllPairs-head IsBefore c cs are.rising) in_rest
 
 links_later : (c : Candidate) (cs links : List Candidate) → AreAmong (c ∷ cs) links → is_next links c ≡ false → All (IsBefore c) links
 links_later c cs [] are other k d lt = absurd (omega arith)
 links_later c cs (l ∷ ls) are other zero d lt = first_later c l cs ls are other
-links_later c cs (l ∷ ls) are other (suc k) d lt = before_on c l (get_or ls k d) (first_later c l cs ls are other) (all_after IsBefore l ls are.links_rise k d (omega arith))
+links_later c cs (l ∷ ls) are other (suc k) d lt = before_on c l (get_or ls k d) (first_later c l cs ls are other) (AllPairs-head IsBefore l ls are.links_rise k d (omega arith))
 
 pub kept : (c : Candidate) (cs links : List Candidate) → AreAmong (c ∷ cs) links → is_next links c ≡ false → AreAmong cs links
 kept c cs links are other = record {
-  rising = rest_rises IsBefore c cs are.rising;
+  rising = AllPairs-tail IsBefore c cs are.rising;
   links_rise = are.links_rise;
   among = all_later c cs links are.among (λ k d lt. not_itself c (get_or links k d) (links_later c cs links are other k d lt));
 }
@@ -111,7 +110,7 @@ first_linked : (c : Candidate) (cs links : List Candidate) → AreAmong (c ∷ c
 first_linked c cs [] are is = absurd (cc)
 first_linked c cs (l ∷ ls) are is =
     let same = same_records l c is in
-    let others : All (λ x. is_same_pair l x ≡ false) cs = λ k d lt. other_after l c (get_or cs k d) same.0 same.1 (all_after IsBefore c cs are.rising k d lt) in
+    let others : All (λ x. is_same_pair l x ≡ false) cs = λ k d lt. other_after l c (get_or cs k d) same.0 same.1 (AllPairs-head IsBefore c cs are.rising k d lt) in
     rw is (filter_less l ls cs others)
 
 -- what is left are the candidates that are not among the links

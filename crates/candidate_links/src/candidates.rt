@@ -1,12 +1,10 @@
 // The candidates among decided pairs.
 ghost use Rattle.std.specs.Prelude.{◌≡◌, ◌≤◌, ◌≤ℤ◌, ◌++◌, pos, List, All, IfOk, IfSome, OnOk, Some, length, option_to_list};
-ghost use Rattle.candidate_links.specs.Candidates.{AreCandidates, candidates_of, linked, most_value, of_link, of_possible, reviewed, weight_of_pair};
-ghost use Rattle.candidate_links.specs.Merging.{merged};
+ghost use Rattle.candidate_links.specs.Candidates.{AreCandidates, candidates_of, most_value, of_link, of_possible, weight_of_pair};
 ghost use Rattle.link_base.specs.declared.rule.Candidate.{Candidate as ACandidate};
 ghost use Rattle.link_base.specs.declared.rule.PairAt.{PairAt as Pair};
-ghost use Rattle.pair_decisions.specs.Decisions.{AreDecisionsOn};
+ghost use Rattle.pair_decisions.specs.Decisions.{AreDecisionsOn, IsInside};
 ghost use Rattle.pair_decisions.specs.PairRule.{AreSidesFor, side_rule};
-ghost use Rattle.pair_decisions.specs.Pairs.{IsInside};
 ghost use Rattle.link_limits.specs.declared.TheConstants.{GREATEST_WEIGHT, LEAST_WEIGHT, MOST_VALUE};
 
 use crate::merging::{Next, after_first, next_of};
@@ -29,10 +27,15 @@ fn weight_of_pair(rule: &PairRule, sides_a: &IdTable, sides_b: &IdTable, at: Pai
     rule.cell(pattern).weight
 }
 
-// A link by rule, which is worth its weight.
-fn linked(at: PairAt, weight: i32) -> Candidate
-    ensures { result ≡ linked at weight }
+// The candidate of a link by rule, which is worth its weight.
+fn of_link(rule: &PairRule, sides_a: &IdTable, sides_b: &IdTable, at: PairAt) -> Candidate
+    requires sides_a { All (AreSidesFor rule.now) sides_a.now.rows }
+    requires sides_b { All (AreSidesFor rule.now) sides_b.now.rows }
+    requires inside { IsInside (length sides_a.now.rows) (length sides_b.now.rows) at }
+    ensures candidate { Some result ≡ of_link (side_rule rule.now sides_a.now.rows sides_b.now.rows) at }
+    ensures most { result.value ≤ℤ GREATEST_WEIGHT }
 {
+    let weight = weight_of_pair(rule, sides_a, sides_b, at);
     Candidate {
         a: at.a,
         b: at.b,
@@ -42,35 +45,7 @@ fn linked(at: PairAt, weight: i32) -> Candidate
     }
 }
 
-// A link by review, which is worth its weight and the award.
-fn reviewed(at: PairAt, weight: i32, award: u32) -> Candidate
-    requires least { LEAST_WEIGHT ≤ℤ weight }
-    requires most { weight ≤ℤ GREATEST_WEIGHT }
-    requires award { most_value award ≤ℤ pos MOST_VALUE }
-    ensures candidate { result ≡ reviewed at weight award }
-    ensures most { result.value ≤ℤ most_value award }
-{
-    Candidate {
-        a: at.a,
-        b: at.b,
-        weight,
-        value: weight + award as i32,
-        reviewed: true,
-    }
-}
-
-// The candidate of a link by rule.
-fn of_link(rule: &PairRule, sides_a: &IdTable, sides_b: &IdTable, at: PairAt) -> Candidate
-    requires sides_a { All (AreSidesFor rule.now) sides_a.now.rows }
-    requires sides_b { All (AreSidesFor rule.now) sides_b.now.rows }
-    requires inside { IsInside (length sides_a.now.rows) (length sides_b.now.rows) at }
-    ensures candidate { Some result ≡ of_link (side_rule rule.now sides_a.now.rows sides_b.now.rows) at }
-    ensures most { result.value ≤ℤ GREATEST_WEIGHT }
-{
-    linked(at, weight_of_pair(rule, sides_a, sides_b, at))
-}
-
-// The candidate of a possible link, where its verdict is that it is a link.
+// The candidate of a possible link, where its verdict is that it is a link: it is worth its weight and the award.
 fn of_possible(
     rule: &PairRule,
     journal: &Journal,
@@ -89,7 +64,13 @@ fn of_possible(
     match journal.verdict(at.a, at.b) {
         Some(Verdict::Link) => {
             let weight = weight_of_pair(rule, sides_a, sides_b, at);
-            Some(reviewed(at, weight, award))
+            Some(Candidate {
+                a: at.a,
+                b: at.b,
+                weight,
+                value: weight + award as i32,
+                reviewed: true,
+            })
         }
         _ => None,
     }
@@ -103,44 +84,6 @@ fn keep(candidates: &mut Vec<Candidate>, candidate: Option<Candidate>) -> Result
         candidates.push(candidate)?;
     }
     Ok(())
-}
-
-// The candidates of rising lists of links and possible links, by position.
-fn merged(
-    alloc: Global,
-    rule: &PairRule,
-    journal: &Journal,
-    award: u32,
-    sides_a: &IdTable,
-    sides_b: &IdTable,
-    mut links: &[PairAt],
-    mut possible: &[PairAt],
-) -> Result<Vec<Candidate>, NoMemory>
-    requires award { most_value award ≤ℤ pos MOST_VALUE }
-    requires sides_a { All (AreSidesFor rule.now) sides_a.now.rows }
-    requires sides_b { All (AreSidesFor rule.now) sides_b.now.rows }
-    requires links { All (IsInside (length sides_a.now.rows) (length sides_b.now.rows)) links.now }
-    requires possible { All (IsInside (length sides_a.now.rows) (length sides_b.now.rows)) possible.now }
-    ensures merged { IfOk result (λ cs. cs.items ≡ merged (of_link (side_rule rule.now sides_a.now.rows sides_b.now.rows)) (of_possible (side_rule rule.now sides_a.now.rows sides_b.now.rows) journal.now award) links.now possible.now) }
-    ensures most { IfOk result (λ cs. All (λ (c : ACandidate). c.value ≤ℤ most_value award) cs.items) }
-{
-    let mut candidates = Vec::with_capacity(alloc, links.len())?;
-    'pairs: loop {
-        match next_of(links, possible) {
-            Next::End => return Ok(candidates),
-            Next::Link(at) => {
-                candidates.push(of_link(rule, sides_a, sides_b, at))?;
-                links = after_first(links);
-                continue 'pairs;
-            }
-            Next::Possible(at) => {
-                let candidate = of_possible(rule, journal, award, sides_a, sides_b, at);
-                keep(&mut candidates, candidate)?;
-                possible = after_first(possible);
-                continue 'pairs;
-            }
-        }
-    }
 }
 
 /// The candidates among decided pairs, rising by position: the links by rule, each worth its weight, and the possible links whose
@@ -162,15 +105,24 @@ pub fn candidates_among(
         → AreCandidates (length sides_a.now.rows) (length sides_b.now.rows) (candidates_of (side_rule decided.now.rule sides_a.now.rows sides_b.now.rows) journal.now award pairs) cs.items) }
     ensures most { IfOk result (λ cs. All (λ (c : ACandidate). c.value ≤ℤ most_value award) cs.items) }
 {
-    let candidates = merged(
-        alloc,
-        decided.rule(),
-        journal,
-        award,
-        sides_a,
-        sides_b,
-        decided.links(),
-        decided.possible(),
-    )?;
-    Ok(candidates)
+    let rule = decided.rule();
+    let mut links = decided.links();
+    let mut possible = decided.possible();
+    let mut candidates = Vec::with_capacity(alloc, links.len())?;
+    'pairs: loop {
+        match next_of(links, possible) {
+            Next::End => return Ok(candidates),
+            Next::Link(at) => {
+                candidates.push(of_link(rule, sides_a, sides_b, at))?;
+                links = after_first(links);
+                continue 'pairs;
+            }
+            Next::Possible(at) => {
+                let candidate = of_possible(rule, journal, award, sides_a, sides_b, at);
+                keep(&mut candidates, candidate)?;
+                possible = after_first(possible);
+                continue 'pairs;
+            }
+        }
+    }
 }

@@ -2,12 +2,12 @@
 ghost use Rattle.std.specs.Prelude.{◌≡◌, ◌≤◌, ◌^◌, All, AllPairs, Contains, IfOk, length};
 ghost use Rattle.assignment.specs.Solution.{HasSmallValue};
 ghost use Rattle.price_check.specs.Assignment.{IsBefore, IsWithin, worth};
-ghost use Rattle.candidate_links.specs.Choice.{dropped, dropped_of, is_same_pair, IsAnswerOf, IsChoice};
-ghost use Rattle.candidate_links.specs.Passing.{is_next};
+ghost use Rattle.candidate_links.specs.Candidates.{dropped, dropped_of, is_same_pair, IsChoice};
+ghost use Rattle.candidate_links.specs.Merging.{is_next};
 
 use crate::merging::after_first;
 use crate::prices::prices_of;
-use assignment::{Assigner, Assignment};
+use assignment::Assigner;
 use link_base::{Candidate, NoMemory, PairAt};
 use link_limits::MOST_PAIRS;
 use link_report::Dropped;
@@ -90,36 +90,6 @@ fn worth(links: &[Candidate]) -> i64
     sum
 }
 
-// The links and the prices of an answer, the candidates that are not among the links, and what the links are worth.
-fn chosen_of(
-    alloc: Global,
-    candidates: &[Candidate],
-    solved: &Assignment,
-    rows_a: u32,
-    rows_b: u32,
-) -> Result<ChosenLinks, NoMemory>
-    requires rising { AllPairs IsBefore candidates.now }
-    requires links_rise { AllPairs IsBefore solved.now.links }
-    requires among { All (Contains candidates.now) solved.now.links }
-    requires few { length solved.now.links ≤ MOST_PAIRS }
-    requires rows_a { length solved.now.prices_a ≡ rows_a }
-    requires rows_b { length solved.now.prices_b ≡ rows_b }
-    ensures { IfOk result (IsAnswerOf candidates.now solved.now.links solved.now.prices_a solved.now.prices_b) }
-{
-    let links = Vec::from_slice(alloc, solved.links())?;
-    let prices_a = prices_of(alloc, rows_a, |at| solved.price_a(at))?;
-    let prices_b = prices_of(alloc, rows_b, |at| solved.price_b(at))?;
-    let dropped = dropped_of(alloc, candidates, solved.links())?;
-    let total = worth(solved.links());
-    Ok(ChosenLinks {
-        links,
-        prices_a,
-        prices_b,
-        dropped,
-        total,
-    })
-}
-
 /// The greatest one-to-one links among at most [`MOST_PAIRS`] candidates that rise strictly by record of A, then of B, with the
 /// prices that certify them. Each price is at least 0 and at most the greatest of 0 and the candidates' values.
 pub fn choose_links(
@@ -137,7 +107,17 @@ pub fn choose_links(
     prices_are_bounded();
     let assigner = Assigner::new(alloc, rows_a, rows_b, candidates)?;
     let solved = assigner.solve();
-    let chosen = chosen_of(alloc, candidates, &solved, rows_a, rows_b);
-    drop(solved);
-    chosen
+    let found = solved.links();
+    let links = Vec::from_slice(alloc, found)?;
+    let prices_a = prices_of(alloc, rows_a, |at| solved.price_a(at))?;
+    let prices_b = prices_of(alloc, rows_b, |at| solved.price_b(at))?;
+    let dropped = dropped_of(alloc, candidates, found)?;
+    let total = worth(found);
+    Ok(ChosenLinks {
+        links,
+        prices_a,
+        prices_b,
+        dropped,
+        total,
+    })
 }

@@ -2,10 +2,10 @@
 ghost use Rattle.std.specs.Prelude.{◌≡◌, ◌≤◌, All, AllPairs, IfOk, length};
 ghost use Rattle.price_check.specs.Assignment.{IsBefore, IsWithin};
 ghost use Rattle.capacity_assign.specs.Solution.{HasSmallValue, IsAllowedCapacity};
-ghost use Rattle.candidate_links.specs.Choice.{IsChoiceWithin, IsCopyOf};
+ghost use Rattle.candidate_links.specs.Candidates.{IsChoiceWithin};
 
 use crate::prices::prices_of;
-use capacity_assign::{CapacityAssigner, CapacityAssignment};
+use capacity_assign::CapacityAssigner;
 use link_base::{Candidate, NoMemory};
 use link_limits::MOST_PAIRS;
 use std::alloc::Global;
@@ -17,27 +17,6 @@ pub struct LinksWithin {
     pub links: Vec<Candidate>,
     pub prices_a: Vec<i64>,
     pub prices_b: Vec<i64>,
-}
-
-// The links and the prices of an answer.
-fn copied(
-    alloc: Global,
-    solved: &CapacityAssignment,
-    rows_a: u32,
-    rows_b: u32,
-) -> Result<LinksWithin, NoMemory>
-    requires rows_a { length solved.now.prices_a ≡ rows_a }
-    requires rows_b { length solved.now.prices_b ≡ rows_b }
-    ensures { IfOk result (IsCopyOf solved.now.links solved.now.prices_a solved.now.prices_b) }
-{
-    let links = Vec::from_slice(alloc, solved.links())?;
-    let prices_a = prices_of(alloc, rows_a, |at| solved.price_a(at))?;
-    let prices_b = prices_of(alloc, rows_b, |at| solved.price_b(at))?;
-    Ok(LinksWithin {
-        links,
-        prices_a,
-        prices_b,
-    })
 }
 
 /// The greatest links within capacities, among at most [`MOST_PAIRS`] candidates that rise strictly by record of A, then of B, with
@@ -59,7 +38,12 @@ pub fn choose_within(
 {
     let assigner = CapacityAssigner::new(alloc, rows_a, capacities, candidates)?;
     let solved = assigner.solve();
-    let chosen = copied(alloc, &solved, rows_a, rows_b);
-    drop(solved);
-    chosen
+    let links = Vec::from_slice(alloc, solved.links())?;
+    let prices_a = prices_of(alloc, rows_a, |at| solved.price_a(at))?;
+    let prices_b = prices_of(alloc, rows_b, |at| solved.price_b(at))?;
+    Ok(LinksWithin {
+        links,
+        prices_a,
+        prices_b,
+    })
 }

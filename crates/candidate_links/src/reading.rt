@@ -1,10 +1,10 @@
 // The capacities in a file, row by row.
-ghost use Rattle.std.specs.Prelude.{◌≡◌, ◌≤◌, ◌<◌, ◌+◌, IfOk, IfSome, length, replicate, slice_index_or};
+ghost use Rattle.std.specs.Prelude.{◌≡◌, ◌≤◌, ◌<◌, ◌+◌, IfOk, IfSome, length, slice_index_or};
 ghost use Rattle.link_base.specs.Fault.{Gives, IsAnswer};
 ghost use Rattle.link_limits.specs.declared.TheConstants.{MOST_CAPACITY, MOST_ROWS};
 ghost use Rattle.file_reader.specs.Rows.{no_row};
 ghost use Rattle.file_reader.specs.Table.{HasWidth};
-ghost use Rattle.candidate_links.specs.Capacities.{AreCapacities, IsCapacityLayout, IsCapacityTable, IsListed, capacities_by, capacities_in, capacities_table, capacities_wanted, capacity_in, capacity_named};
+ghost use Rattle.candidate_links.specs.Capacities.{AreCapacities, IsCapacityLayout, IsCapacityTable, IsListed, capacities_by, capacities_in, capacities_wanted, capacity_in, capacity_named};
 
 use crate::capacities::Capacities;
 use csv_rows::read_decimal;
@@ -60,14 +60,6 @@ fn listed_at(alloc: Global, table: &Table, at: u32, b: &StdFile) -> Result<Liste
     }
 }
 
-// The capacities of so many records before a row is read.
-fn none_listed(alloc: Global, rows: u32) -> Result<Vec<u32>, NoMemory>
-    ensures { IfOk result (λ each. each.items ≡ replicate rows 1) }
-{
-    let each = vec![in alloc; 1u32; rows as usize]?;
-    Ok(each)
-}
-
 // The capacities of the records of B by the rows of a table: 1 where no row names the record.
 fn capacities_of(alloc: Global, table: &Table, b: &StdFile) -> Result<Vec<u32>, Fault>
     requires { IsCapacityTable table.now }
@@ -75,7 +67,7 @@ fn capacities_of(alloc: Global, table: &Table, b: &StdFile) -> Result<Vec<u32>, 
     ensures capacities { IfOk result (λ each. AreCapacities b.now each.items) }
 {
     distinct_ids(b);
-    let mut each = none_listed(alloc, b.rows())?;
+    let mut each = vec![in alloc; 1u32; b.rows() as usize]?;
     for at in 0..table.rows() {
         match listed_at(alloc, table, at, b) {
             Ok(listed) => each[listed.at as usize] = listed.capacity,
@@ -85,17 +77,6 @@ fn capacities_of(alloc: Global, table: &Table, b: &StdFile) -> Result<Vec<u32>, 
     Ok(each)
 }
 
-// The table of a file of capacities.
-fn table_in(alloc: Global, bytes: &[u8]) -> Result<Table, Fault>
-    ensures answer { IsAnswer (capacities_table bytes.now) result }
-    ensures table { IfOk result IsCapacityTable }
-{
-    let layout = layout(alloc)?;
-    let table = read_table(alloc, bytes, FileRole::Capacities, &layout);
-    drop(layout);
-    table
-}
-
 /// The capacities of the records of B, as a file lists them: `id_b,capacity` in a row for a record, 1 for a record that is not
 /// listed. A capacity is at most [`MOST_CAPACITY`], in decimal digits without a leading zero. Or the first fault of the file:
 /// that of its table, and else that of its first row that names no record of B, or has no capacity.
@@ -103,14 +84,12 @@ pub fn read_capacities(alloc: Global, bytes: &[u8], b: &StdFile) -> Result<Capac
     ensures answer { IsAnswer (capacities_in b.now bytes.now) result }
     ensures capacities { IfOk result (AreCapacities b.now) }
 {
-    let table = match table_in(alloc, bytes) {
-        Ok(table) => table,
-        Err(fault) => return Err(fault),
-    };
-    let each = capacities_of(alloc, &table, b);
-    drop(table);
-    match each {
-        Ok(each) => Ok(Capacities::new(each)),
+    let layout = layout(alloc)?;
+    match read_table(alloc, bytes, FileRole::Capacities, &layout) {
+        Ok(table) => match capacities_of(alloc, &table, b) {
+            Ok(each) => Ok(Capacities::new(each)),
+            Err(fault) => Err(fault),
+        },
         Err(fault) => Err(fault),
     }
 }

@@ -7,24 +7,14 @@ use Rattle.std.proofs.lemmas.Int.{ints}
 use Rattle.std.proofs.lemmas.List.{get_or-set_other, get_or-set_same, length-replicate, get_or_push, get_or_append_left, length-append}
 use Rattle.std.proofs.lemmas.List.Elements.{All-head, All-tail, All-cons, All-nil, All-contains}
 use Rattle.link_base.specs.declared.rule.Candidate.{Candidate}
-use Rattle.price_check.specs.Assignment.{price_sum, price_of, worth, IsBefore}
-use Rattle.price_check.specs.Capacities.{CertifiesWithin, IsWithinCapacities, capacity_of, links_at, place_sum}
-use Rattle.price_check.specs.PriceLaws.{without, absent-without, IsTight, price_sum-without, price_sum-zero, AllPairs-head, AllPairs-tail}
-use Rattle.price_check.specs.CandidateLaws.{Contains-later}
-use Rattle.price_check.specs.PlaceLaws.{AreApart, fits-tail, links_at-here, links_at-other, one_less, place_sum-one_less, place_there}
+use Rattle.price_check.specs.Assignment.{price_sum, price_of, worth, IsBefore, CertifiesWithin, IsWithinCapacities, capacity_of, links_at, place_sum}
+use Rattle.price_check.specs.PlaceLaws.{without, absent-without, IsTight, price_sum-without, price_sum-zero, AllPairs-head, AllPairs-tail, Contains-later, AreApart, fits-tail, links_at-here, links_at-other, one_less, place_sum-one_less, place_there}
 use Rattle.assignment_steps.specs.declared.market.Edge.{Edge}
-use Rattle.assignment_steps.specs.Market.{edge, link, number, IsInRange, IsStart}
-use Rattle.capacity_assign.specs.Core.{linked_at}
+use Rattle.assignment_steps.specs.Words.{edge, link, number, IsInRange, IsStart, ReachAll, edges_of, is_linked, prices_of, link_there, link-set, none_linked, floored, price_of-prices, absent_a, all_among, all_covered, all_tight, apart_a, link_member, links_rising, member_link}
+use Rattle.capacity_assign.specs.Seating.{linked_at, HasPlace, Seating, free_records, AreAlike, AreEqual, HasCopies}
 use Rattle.capacity_assign.specs.Round.{IsBetweenRounds}
-use Rattle.capacity_assign.specs.Seating.{HasPlace, Seating, free_records}
-use Rattle.capacity_assign.specs.Final.{AreClosed, AreEmpty}
-use Rattle.assignment_steps.specs.Between.{ReachAll}
-use Rattle.assignment_steps.specs.Candidates.{edges_of, is_linked, prices_of}
+use Rattle.capacity_assign.specs.Prepared.{AreClosed, AreEmpty}
 use Rattle.capacity_assign.proofs.Links.{counted_link, linked_at-set, tick}
-use Rattle.assignment_steps.specs.LinkLaws.{link_there, link-set, none_linked}
-use Rattle.assignment_steps.specs.CandidatesLaws.{floored, price_of-prices}
-use Rattle.assignment_steps.specs.CertifiedLaws.{absent_a, all_among, all_covered, all_tight, apart_a, link_member, links_rising, member_link}
-use Rattle.capacity_assign.specs.Alike.{AreAlike, AreEqual, HasCopies}
 
 -- Tight members, no price where no member stands, and none at a record of B with a place left: the prices add up
 -- to the worth.

@@ -3,24 +3,13 @@ use Rattle.std.proofs.Common.{◌≡◌, ◌⊎◌, ℕ, suc, ◌+◌, ◌<◌, 
 use Rattle.std.proofs.lemmas.Bool.{cases_lt}
 use Rattle.std.proofs.lemmas.List.{get_or_default}
 use Rattle.assignment_steps.specs.declared.queue.Near.{Near}
-use Rattle.assignment_steps.specs.QueueLaws.{Contains-cons_cases, cons_first}
-use Rattle.price_check.specs.CandidateLaws.{Contains-later}
-use Rattle.assignment_steps.specs.LinkLaws.{link_there}
+use Rattle.assignment_steps.specs.Words.{Contains-cons_cases, cons_first, priced_after, tight_kept, link_there, distance-set, priced_done, link, number, AreLinked, AreTight, AreSmall, distance, far, EndsAt, HasStopped, IsNearer, IsNearest, IsRelaxed, IsSpread, Shortens, edge_of, joins_here, joins_keeps, spread_any, spread_joined, spread_passed, spread_passed_to, spread_planted, spread_shortened, spread_skip, spread_waiting, IsDone}
+use Rattle.price_check.specs.PlaceLaws.{Contains-later}
 use Rattle.capacity_assign.specs.declared.market.Ground.{Ground}
-use Rattle.assignment_steps.specs.Market.{link, number, AreLinked, AreTight, AreSmall}
-use Rattle.assignment_steps.specs.Distances.{distance, far}
-use Rattle.assignment_steps.specs.Spread.{EndsAt, HasStopped, IsNearer, IsNearest, IsRelaxed, IsSpread, Shortens, edge_of}
 use Rattle.assignment_steps.specs.declared.market.Edge.{Edge}
-use Rattle.capacity_assign.specs.Alike.{AreAlike, HasCopies}
-use Rattle.capacity_assign.specs.Seating.{HasPlace, IsLastSeat, AreSeats, Seating, seating}
+use Rattle.capacity_assign.specs.Seating.{AreAlike, HasCopies, HasPlace, IsLastSeat, AreSeats, Seating, seating, KeepsCapacities, linked_at}
 use Rattle.capacity_assign.specs.Growth.{Growth, IsGrown, IsHeldAt, IsPending, IsReady, IsExhausted, IsTree, IsTwin, Joins, places_left, with_waiting}
-use Rattle.assignment_steps.specs.DistanceLaws.{distance-set}
-use Rattle.assignment_steps.specs.SpreadLaws.{joins_here, joins_keeps, spread_any, spread_joined, spread_passed, spread_passed_to, spread_planted, spread_shortened, spread_skip, spread_waiting}
 use Rattle.link_limits.specs.declared.TheConstants.{MOST_VALUE}
-use Rattle.capacity_assign.specs.Core.{KeepsCapacities, linked_at}
-use Rattle.assignment_steps.specs.StoppedLaws.{priced_after, tight_kept}
-use Rattle.assignment_steps.specs.BetweenLaws.{priced_done}
-use Rattle.assignment_steps.specs.Between.{IsDone}
 use Rattle.capacity_assign.specs.Round.{IsBetweenRounds}
 use Rattle.capacity_assign.proofs.Links.{counted_link}
 

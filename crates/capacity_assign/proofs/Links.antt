@@ -1,17 +1,13 @@
 -- What one write of a link does to the links, and to how many there are.
-use Rattle.std.proofs.Common.{◌≡◌, ◌==◌, ℕ, zero, suc, ◌+◌, ◌<◌, List, [], ◌∷◌, length, set, Bool, false, cond, Option, Some, None, refl, sym, ◌∙◌, inl, inr, arith, is_none, ◌≢◌, ◌-◌, ◌≤◌, true, ap, get_or-set_other, get_or-set_same}
+use Rattle.std.proofs.Common.{◌≡◌, ◌==◌, ℕ, zero, suc, ◌+◌, ◌<◌, List, [], ◌∷◌, length, set, Bool, false, cond, Option, Some, None, refl, sym, ◌∙◌, inl, inr, arith, is_none, ◌≢◌, ◌-◌, ◌≤◌, true, ap, get_or-set_other, get_or-set_same, length-set}
 use Rattle.std.proofs.lemmas.Bool.{cases_eq, cases_lt}
 use Rattle.std.proofs.lemmas.Bool.Decides.{nat_tests}
 use Rattle.std.proofs.lemmas.List.Sums.{sum_by-cons, sum_by-set}
 use Rattle.assignment_steps.specs.declared.market.Edge.{Edge}
-use Rattle.capacity_assign.specs.Core.{leads_to, linked_at, KeepsCapacities}
-use Rattle.assignment_steps.specs.Market.{AreLinked, edge, link, number, IsTight}
-use Rattle.capacity_assign.specs.Seating.{free_records, AddsSeat, AreAllSeated, AreSeated, AreSeats, HasSitters, HangTogether, HasHole, IsLastSeat, Seating, HasPlace}
-use Rattle.assignment_steps.specs.LinkLaws.{link-set, link_there}
-use Rattle.std.proofs.lemmas.List.{length-set}
+use Rattle.capacity_assign.specs.Seating.{leads_to, linked_at, KeepsCapacities, free_records, AddsSeat, AreAllSeated, AreSeated, AreSeats, HasSitters, HangTogether, HasHole, IsLastSeat, Seating, HasPlace}
+use Rattle.assignment_steps.specs.Words.{AreLinked, edge, link, number, IsTight, link-set, link_there, priced_joined}
 use Rattle.price_check.specs.PlaceLaws.{place_there}
 use Rattle.capacity_assign.specs.Round.{IsBetweenRounds}
-use Rattle.assignment_steps.specs.BetweenLaws.{priced_joined}
 
 -- a record of A gives its link up
 pub linked_parted : (es : List Edge) (la : List (Option ℕ)) (r : ℕ) → AreLinked es la → r < length la → AreLinked es (set la r None)

@@ -1,15 +1,10 @@
 -- Ways to a root, and what turning one link round leaves of them.
-use Rattle.std.proofs.Common.{◌≡◌, ℕ, ◌+◌, ◌<◌, List, length, set, Option, Some, None, MatchOption, refl, sym, ◌∙◌, inl, inr, arith, get_or-set_other, get_or-set_same}
-use Rattle.std.proofs.lemmas.List.{length-set}
+use Rattle.std.proofs.Common.{◌≡◌, ℕ, ◌+◌, ◌<◌, List, length, set, Option, Some, None, MatchOption, refl, sym, ◌∙◌, inl, inr, arith, get_or-set_other, get_or-set_same, length-set}
 use Rattle.assignment_steps.specs.declared.market.Edge.{Edge}
 use Rattle.capacity_assign.specs.declared.market.Hole.{Hole}
-use Rattle.capacity_assign.specs.Core.{Reseats, WalksBack, linked_at, one_at}
-use Rattle.assignment_steps.specs.Ways.{IsHop, above, Leads}
-use Rattle.assignment_steps.specs.Market.{AreLinked, AreTight, link, edge, number}
-use Rattle.capacity_assign.specs.Seating.{AreAllSeated, HasHole, free_records}
-use Rattle.assignment_steps.specs.LinkLaws.{link-set, linked_joined, tight_joined}
+use Rattle.capacity_assign.specs.Seating.{Reseats, WalksBack, linked_at, one_at, AreAllSeated, HasHole, free_records}
+use Rattle.assignment_steps.specs.Words.{IsHop, above, Leads, AreLinked, AreTight, link, edge, number, link-set, linked_joined, tight_joined, leads_below, reached_by, goes_on, ends_at}
 use Rattle.capacity_assign.proofs.Links.{linked_at-set, free_records-set, all_taken, seat_left}
-use Rattle.assignment_steps.specs.WaysLaws.{leads_below, reached_by, goes_on, ends_at}
 
 -- What the walk keeps, from the links and seats as they were when it began.
 pub record IsWalking (es : List Edge) (pa pb : List ℕ) (from rank : List ℕ) (root : ℕ) (hole : Hole) (la0 : List (Option ℕ)) (seat0 sitter0 : List ℕ) (la : List (Option ℕ)) (seat sitter : List ℕ) (free : Hole) : Type 0 where

@@ -4,12 +4,9 @@ use Rattle.std.specs.Prelude.{◌≡◌, ◌≢◌, ◌⊎◌, ℕ, ◌+◌, ◌
 use Rattle.assignment_steps.specs.declared.market.Grown.{Grown}
 use Rattle.capacity_assign.specs.declared.market.Tree.{Tree}
 use Rattle.capacity_assign.specs.declared.market.Ground.{Ground}
-use Rattle.assignment_steps.specs.Market.{link, number, IsRising}
-use Rattle.capacity_assign.specs.Alike.{AreAlike, HasCopies}
-use Rattle.capacity_assign.specs.Seating.{AreSeats, HasPlace, seating}
-use Rattle.assignment_steps.specs.Distances.{distance, far}
-use Rattle.assignment_steps.specs.Reached.{FitsQueue, HasRoomForRecords, work}
-use Rattle.assignment_steps.specs.Spread.{Spread, EndsAt, HasStopped, IsSearchable, IsSpread, Joins as JoinsSpread, edge_of, spread, waits_for}
+use Rattle.assignment_steps.specs.Words.{link, number, IsRising, distance, far, FitsQueue, HasRoomForRecords, work, Spread, EndsAt, HasStopped, IsSearchable, IsSpread, edge_of, spread, waits_for}
+use Rattle.capacity_assign.specs.Seating.{AreAlike, HasCopies, AreSeats, HasPlace, seating}
+use Rattle.assignment_steps.specs.Spread.{Joins as JoinsSpread}
 
 -- what a tree has reached, and the record of B that is held
 pub record Growth : Type 0 where

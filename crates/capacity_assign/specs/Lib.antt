@@ -1,9 +1,5 @@
 pub mod Solution
-pub mod Core
 pub mod Seating
-pub mod Alike
 pub mod Growth
 pub mod Round
-pub mod Final
-pub mod Start
 pub mod Prepared

@@ -1,11 +1,8 @@
 -- Machinery of `round` and `link_tight`: what holds of prices and links between two rounds, and what a step leaves.
 use Rattle.std.specs.Prelude.{◌≡◌, ℕ, ◌+◌, ◌<◌, ◌≤◌, List, length, Option, None}
 use Rattle.assignment_steps.specs.declared.market.Edge.{Edge}
-use Rattle.assignment_steps.specs.Market.{edge, link, number}
-use Rattle.assignment_steps.specs.Between.{IsPriced}
-use Rattle.assignment_steps.specs.Free.{AreSettled, IsSettled}
-use Rattle.capacity_assign.specs.Core.{KeepsCapacities, linked_at}
-use Rattle.capacity_assign.specs.Seating.{AreSeats, HasPlace, IsFull, Seating}
+use Rattle.assignment_steps.specs.Words.{edge, link, number, IsPriced, AreSettled, IsSettled}
+use Rattle.capacity_assign.specs.Seating.{KeepsCapacities, linked_at, AreSeats, HasPlace, IsFull, Seating}
 
 -- prices, links and seats between two rounds: the records of A below `done` were taken up
 pub record IsBetweenRounds (es : List Edge) (pa pb : List ℕ) (la : List (Option ℕ)) (s : Seating) (done : ℕ) : Type 0 where

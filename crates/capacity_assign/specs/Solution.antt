@@ -2,7 +2,7 @@
 -- `CapacityAssigner::solve` and of the calls of `CapacityAssignment`).
 use Rattle.std.specs.Prelude.{ℕ, List}
 use Rattle.link_base.specs.declared.rule.Candidate.{Candidate}
-pub use Rattle.price_check.specs.CapacityVerdict.{IsAllowedCapacity}
+pub use Rattle.price_check.specs.Verdict.{IsAllowedCapacity}
 pub use Rattle.assignment_steps.specs.Candidates.{HasSmallValue, Solution}
 
 -- what an assigner is made from

@@ -1,7 +1,7 @@
 // Records of A of equal edges.
 ghost use Rattle.std.specs.Prelude.{ℕ, ◌+◌, ◌<◌, ◌≤◌, length, IfOk, IsTrue};
 ghost use Rattle.assignment_steps.specs.Market.{AreStarts, IsStart, number};
-ghost use Rattle.capacity_assign.specs.Alike.{AreAlike, AreEqual, HasCopies};
+ghost use Rattle.capacity_assign.specs.Seating.{AreAlike, AreEqual, HasCopies};
 
 use assignment_steps::Edge;
 use link_base::NoMemory;

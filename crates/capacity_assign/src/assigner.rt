@@ -1,13 +1,11 @@
 // The assigner and its answer.
 ghost use Rattle.std.specs.Prelude.{◌≡◌, ◌<◌, ◌≤◌, ◌^◌, length, All, AllPairs, IfOk, pos, ◌≤ℤ◌};
-ghost use Rattle.price_check.specs.Assignment.{IsBefore, IsWithin, price_of};
-ghost use Rattle.price_check.specs.Capacities.{CertifiesWithin, IsGreatestWithin};
+ghost use Rattle.price_check.specs.Assignment.{IsBefore, IsWithin, price_of, CertifiesWithin, IsGreatestWithin};
 ghost use Rattle.capacity_assign.specs.Solution.{HasSmallValue, IsAllowedCapacity};
 ghost use Rattle.assignment_steps.specs.Market.{AreListed};
-ghost use Rattle.capacity_assign.specs.Alike.{AreAlike};
+ghost use Rattle.capacity_assign.specs.Seating.{AreAlike, seating};
 ghost use Rattle.assignment_steps.specs.Reached.{IsAtRest};
 ghost use Rattle.capacity_assign.specs.Round.{Advances, IsBetweenRounds};
-ghost use Rattle.capacity_assign.specs.Seating.{seating};
 ghost use Rattle.link_limits.specs.declared.TheConstants.{MOST_VALUE};
 
 use crate::alike::like_of;

@@ -1,11 +1,10 @@
 // The growth of a tree.
 ghost use Rattle.std.specs.Prelude.{◌≡◌, ◌+◌, ◌<◌, ◌≤◌, ℕ, length, ◌∷◌, None, Some, IsTrue};
 ghost use Rattle.link_limits.specs.declared.TheConstants.{MOST_VALUE};
-ghost use Rattle.assignment_steps.specs.Market.{number};
+ghost use Rattle.assignment_steps.specs.Market.{number, distance, far};
 ghost use Rattle.capacity_assign.specs.Growth.{Grows, HasSearched, IsReady, IsTree, IsTwin, JoinsSeat, JoinsTree, Relaxes, Settles, growth, places_left, with_waiting};
 ghost use Rattle.assignment_steps.specs.Spread.{IsNearest, edge_of, spread};
 ghost use Rattle.assignment_steps.specs.Reached.{FitsQueue, HasRoomForRecords, IsAtRest};
-ghost use Rattle.assignment_steps.specs.Distances.{distance, far};
 
 use crate::market::{Ground, Tree};
 use assignment_steps::{FARTHEST, Grown, Near};

@@ -2,12 +2,10 @@
 // round.
 ghost use Rattle.std.specs.Prelude.{◌≡◌, ◌+◌, ◌<◌, length, None, MatchOption};
 ghost use Rattle.assignment_steps.specs.Market.{AreLinked, IsInRange, link, AreTight, AreListed};
-ghost use Rattle.capacity_assign.specs.Alike.{AreAlike};
+ghost use Rattle.capacity_assign.specs.Seating.{AreAlike, TurnsRound, AreSeats, HasPlace, seating};
 ghost use Rattle.assignment_steps.specs.Reached.{IsAtRest};
 ghost use Rattle.assignment_steps.specs.Ways.{LeadsFromEnd};
-ghost use Rattle.capacity_assign.specs.Core.{TurnsRound};
 ghost use Rattle.capacity_assign.specs.Round.{Advances, IsBetweenRounds};
-ghost use Rattle.capacity_assign.specs.Seating.{AreSeats, HasPlace, seating};
 
 use crate::grow::search;
 use crate::market::{Ground, Hole, Seats, Tree};

@@ -2,9 +2,8 @@
 ghost use Rattle.std.specs.Prelude.{◌≡◌, ◌<◌, ◌≤◌, ℕ, length, Some, vec_len};
 ghost use Rattle.assignment_steps.specs.Market.{AreLinked, AreTight, edge, link, number};
 ghost use Rattle.assignment_steps.specs.Ways.{Leads};
-ghost use Rattle.capacity_assign.specs.Core.{Reseats, WalksBack};
+ghost use Rattle.capacity_assign.specs.Seating.{Reseats, WalksBack, AddsSeat, seating};
 ghost use Rattle.capacity_assign.specs.Round.{AreTried, IsBetweenRounds, TriesEdge};
-ghost use Rattle.capacity_assign.specs.Seating.{AddsSeat, seating};
 
 use crate::market::{Hole, Seats};
 use assignment_steps::{Edge, MaybeEdge, Net, Ways, has_link, link_of};

@@ -3,10 +3,9 @@ ghost use Rattle.std.specs.Prelude.{◌≡◌, ◌+◌, ◌<◌, ◌≤◌, ◌^
 ghost use Rattle.price_check.specs.Assignment.{IsBefore};
 ghost use Rattle.assignment_steps.specs.Market.{AreSmall, AreStarts, IsInRange, edge};
 ghost use Rattle.assignment_steps.specs.Candidates.{edges_of};
-ghost use Rattle.capacity_assign.specs.Final.{AreClosed, AreEmpty, Closes};
+ghost use Rattle.capacity_assign.specs.Prepared.{AreClosed, AreEmpty, Closes, IsAtStart};
 ghost use Rattle.capacity_assign.specs.Seating.{seating};
 ghost use Rattle.capacity_assign.specs.Solution.{HasSmallValue};
-ghost use Rattle.capacity_assign.specs.Start.{IsAtStart};
 
 use crate::market::{Seats, Tree};
 use assignment_steps::{Edge, MaybeEdge, Reached, edges_of, first_prices, raise_to, starts_of};

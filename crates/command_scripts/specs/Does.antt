@@ -5,8 +5,7 @@ use Rattle.link_outside.specs.Outside.{Rose}
 use Rattle.link_outside.specs.declared.outside.StoreCall.{StoreCall}
 use Rattle.link_outside.specs.declared.refusal.Refusal.{Refusal}
 use Rattle.command_scripts.specs.Causes.{Cause, cause_of, the_input, the_memory, the_output, the_store, the_words}
-use Rattle.command_scripts.specs.Seen.{IsUncalled, IsUntouched, SinkSeen, StoreSeen}
-use Rattle.command_scripts.specs.Steps.{ComesTo, Reaches, Steps}
+use Rattle.command_scripts.specs.Steps.{IsUncalled, IsUntouched, SinkSeen, StoreSeen, ComesTo, Reaches, Steps}
 use Rattle.command_scripts.specs.Due.{Due, ended_of, HoldsAll, HoldsSome, Prints, PutFails, puts_of, TakesAll, TakesSome}
 use Rattle.command_scripts.specs.declared.ends.Ended.{Ended}
 

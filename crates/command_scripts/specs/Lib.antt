@@ -1,10 +1,7 @@
-pub mod Loads
-pub mod Seen
 pub mod Steps
 pub mod Causes
 pub mod Due
-pub mod Ways
 pub mod Does
 pub mod StepLaws
 pub mod DoesLaws
-pub mod PutLaws
+pub mod Words

@@ -1,8 +1,7 @@
 -- Laws of steps, and then those that their value leads to: the proofs of calls cite them. They are said over every store and sink, which no
 -- clause of a call can range over, so they stand here.
 use Rattle.std.proofs.Common.{◌≡◌, inl, inr, ◌++◌, ◌∷◌, [], ℕ, List, Result, Ok, Err, IsErrAnd, IsOkAnd, IfErr, refl, sym, ap, subst, ◌∙◌}
-use Rattle.link_base.specs.Answers.{and_then}
-use Rattle.link_base.specs.Fault.{Gives, Refuses}
+use Rattle.link_base.specs.Words.{and_then, Gives, Refuses}
 use Rattle.link_base.specs.declared.fault.Fault.{Fault}
 use Rattle.link_base.specs.declared.fault.Fault.TheVariants as fault
 use Rattle.link_base.specs.declared.fault.FileRole.{FileRole}
@@ -11,9 +10,7 @@ use Rattle.link_outside.specs.declared.outside.StoreCall.{StoreCall}
 use Rattle.link_outside.specs.declared.refusal.Refusal.{Refusal}
 use Rattle.link_outside.specs.declared.refusal.Refusal.TheVariants as refusal
 use Rattle.command_scripts.specs.Causes.{Cause, cause_of, the_input, the_memory, the_output, the_store, the_words}
-use Rattle.command_scripts.specs.Loads.{HasLoadCause, IsLoadFault, load_of, loaded, LoadGives}
-use Rattle.command_scripts.specs.Seen.{StoreSeen}
-use Rattle.command_scripts.specs.Steps.{◌>>=◌, ComesTo, file_within, gives, IsLoadIn, load, Makes, Might, MightLoad, outcome, Reaches, refused_by, seen_by, Steps, StopsBy, Takes}
+use Rattle.command_scripts.specs.Steps.{HasLoadCause, IsLoadFault, load_of, loaded, LoadGives, StoreSeen, ◌>>=◌, ComesTo, file_within, gives, IsLoadIn, load, Makes, Might, MightLoad, outcome, Reaches, refused_by, seen_by, Steps, StopsBy, Takes}
 
 abbrev pub ok : {T E : Type 0} → T → Result T E
 ok x = Ok x

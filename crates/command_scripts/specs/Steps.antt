@@ -1,18 +1,87 @@
 -- The steps of a command up to its end: loads one after the other, and what is computed of the loaded bytes. Every call
 -- that goes through steps says so by `Takes`, in its clause `takes` or its lone clause.
-use Rattle.std.specs.Prelude.{◌≡◌, ◌⊎◌, ◌++◌, ◌∷◌, [], ℕ, List, Result, Ok, Err, IsOkAnd}
-use Rattle.link_base.specs.Answers.{and_then}
-use Rattle.link_base.specs.declared.fault.Fault.{Fault}
-use Rattle.link_base.specs.declared.fault.Fault.TheVariants as fault
-use Rattle.link_base.specs.declared.fault.FileRole.{FileRole}
-use Rattle.link_limits.specs.declared.TheConstants.{MOST_FILE_BYTES}
+use Rattle.std.specs.Prelude.{◌≡◌, ℕ, List, false, ◌++◌, ◌∷◌, [], length, nat_le, if◌then◌else◌, Option, Some, None, Result, Ok, Err, ⊤, ◌⊎◌, IsOkAnd}
 use Rattle.link_outside.specs.Outside.{Held}
 use Rattle.link_outside.specs.declared.outside.StoreCall.{StoreCall}
+use Rattle.link_base.specs.declared.fault.FileRole.{FileRole}
 use Rattle.link_outside.specs.declared.refusal.Refusal.{Refusal}
-use Rattle.link_outside.specs.declared.refusal.Refusal.TheVariants as refusal
+use Rattle.link_base.specs.Words.{and_then}
+use Rattle.link_base.specs.declared.fault.Fault.{Fault}
+use Rattle.link_limits.specs.declared.TheConstants.{MOST_FILE_BYTES}
 use Rattle.command_scripts.specs.Causes.{Cause, cause_of, the_input, the_memory, the_output, the_store, the_words}
-use Rattle.command_scripts.specs.Seen.{StoreSeen}
-use Rattle.command_scripts.specs.Loads.{load_of, loaded}
+use Rattle.link_base.specs.declared.fault.Fault.TheVariants as fault
+use Rattle.link_outside.specs.declared.refusal.Refusal.TheVariants as refusal
+
+-- A store and a sink as the clauses on a call (`Takes`, `HandsOver`, `PutsAll`, `Does`) see them, before and after.
+
+pub record StoreSeen : Type 1 where
+  pub tells : Type 0
+  pub held_before : Held
+  pub held_after : Held
+  pub faults_before : List StoreCall
+  pub faults_after : List StoreCall
+
+pub record SinkSeen : Type 1 where
+  pub tells : Type 0
+  pub taken_before : List ℕ
+  pub taken_after : List ℕ
+  pub faults_before : ℕ
+  pub faults_after : ℕ
+
+-- what clauses see of a store by its own words
+abbrev pub store_seen : {S : Type 0} → Type 0 → (S → Held) → (S → List StoreCall) → S → S → StoreSeen
+store_seen tells held faults old new =
+    record { tells = tells; held_before = held old; held_after = held new; faults_before = faults old; faults_after = faults new }
+
+-- what clauses see of a sink by its own words
+abbrev pub sink_seen : {S : Type 0} → Type 0 → (S → List ℕ) → (S → ℕ) → S → S → SinkSeen
+sink_seen tells taken faults old new =
+    record { tells = tells; taken_before = taken old; taken_after = taken new; faults_before = faults old; faults_after = faults new }
+
+-- no name holds anything else than it did, and no call failed
+pub record IsUntouched (store : StoreSeen) : Type 0 where
+  pub held : store.held_after ≡ store.held_before
+  pub faults : store.faults_after ≡ store.faults_before
+
+-- a sink as if it was not called: it took nothing, and its count stands
+pub record IsUncalled (out : SinkSeen) : Type 0 where
+  pub taken : out.taken_after ≡ out.taken_before
+  pub faults : out.faults_after ≡ out.faults_before
+
+-- What a load of an input gives, by what its name holds: the clauses of `load_whole`.
+
+-- the bytes of an input, where its name is held and they are within the limit
+abbrev pub loaded : FileRole → ℕ → List ℕ → Option (List ℕ) → Result (List ℕ) Refusal
+loaded r limit name None = Err (refusal.Store name)
+loaded r limit name (Some bytes) = if nat_le (length bytes) limit then Ok bytes else Err (refusal.Fault (fault.FileTooLong r limit))
+
+-- the call that loads a name
+abbrev pub load_of : List ℕ → StoreCall
+load_of name = record { put = false; name = name }
+
+-- a refusal is the one that is defined, but for want of memory and the store, whose causes stand apart
+abbrev pub LoadRefuses : Result (List ℕ) Refusal → Refusal → Type 0
+LoadRefuses expected (refusal.Fault fault.NoMemory) = ⊤
+LoadRefuses expected (refusal.Store name) = ⊤
+LoadRefuses expected f = expected ≡ Err f
+
+-- a load gives the bytes that are defined, or a refusal
+abbrev pub LoadGives : Result (List ℕ) Refusal → Result (List ℕ) Refusal → Type 0
+LoadGives expected (Ok bytes) = expected ≡ Ok bytes
+LoadGives expected (Err f) = LoadRefuses expected f
+
+-- a fault of a load: the file is too long, the store failed, or memory is wanted
+abbrev pub IsLoadFault : FileRole → ℕ → List ℕ → Refusal → Type 0
+IsLoadFault r limit name (refusal.Fault (fault.FileTooLong file most)) = (file ≡ r) × (most ≡ limit)
+IsLoadFault r limit name (refusal.Store failed) = failed ≡ name
+IsLoadFault r limit name (refusal.Fault fault.NoMemory) = ⊤
+IsLoadFault r limit name f = ⊥
+
+-- a store fault names the call that failed, which the list of faults has gained; no other answer changes the list
+abbrev pub HasLoadCause : List StoreCall → List StoreCall → List ℕ → Result (List ℕ) Refusal → Type 0
+HasLoadCause old new name (Ok bytes) = new ≡ old
+HasLoadCause old new name (Err (refusal.Store failed)) = new ≡ old ++ load_of name ∷ []
+HasLoadCause old new name (Err f) = new ≡ old
 
 -- a load of a name up to a limit, with the steps that its bytes lead to; or the end, with a value or a fault of what was loaded
 pub data Steps (T : Type 0) : Type 0 where

@@ -1,9 +1,8 @@
 // The ends of a command: a text for `out`, or puts one after the other.
 ghost use Rattle.std.specs.Prelude.{◌≡◌, IfErr, IfOk};
-ghost use Rattle.command_scripts.specs.Due.{put_in, puts_in};
-ghost use Rattle.command_scripts.specs.Seen.{sink_seen, store_seen};
+ghost use Rattle.command_scripts.specs.Due.{put_in, puts_in, HandsOver, IsWanted, PutsAll, PutsOne};
+ghost use Rattle.command_scripts.specs.Steps.{sink_seen, store_seen};
 ghost use Rattle.command_scripts.specs.declared.ends.Ended.TheVariants.{Done};
-ghost use Rattle.command_scripts.specs.Ways.{HandsOver, IsWanted, PutsAll, PutsOne};
 
 use link_base::{Fault, NoMemory, Text};
 use link_outside::{Refusal, Sink, SinkError, Store, StoreError};

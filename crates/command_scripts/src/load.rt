@@ -1,8 +1,6 @@
 // Loads of inputs.
 ghost use Rattle.std.specs.Prelude.{◌≡◌, ◌≤◌, ◌<◌, ◌+◌, ◌^◌, IfErr, IfOk, length};
-ghost use Rattle.command_scripts.specs.Loads.{HasLoadCause, IsLoadFault, loaded, LoadGives};
-ghost use Rattle.command_scripts.specs.Seen.{store_seen};
-ghost use Rattle.command_scripts.specs.Steps.{file, file_within, Takes};
+ghost use Rattle.command_scripts.specs.Steps.{HasLoadCause, IsLoadFault, loaded, LoadGives, store_seen, file, file_within, Takes};
 ghost use Rattle.link_limits.specs.declared.TheConstants.{MOST_WRITTEN_BYTES};
 
 use link_base::{Fault, FileRole, Text};

@@ -7,10 +7,10 @@ use Rattle.link_plan.specs.declared.plan.Plan.{Plan}
 use Rattle.link_limits.specs.declared.TheConstants.{MOST_DISTINCT_BYTES}
 use Rattle.link_core.specs.Prepared.{files_of, prepared}
 use Rattle.link_core.specs.Rules.{counted_by}
-use Rattle.pair_decisions.specs.PlanShares.{given_in}
+use Rattle.pair_decisions.specs.Words.{given_in}
 use Rattle.link_plan.specs.Plan.{PlainShares}
 use Rattle.standard_files.specs.Files.{StandardPair}
-use Rattle.command_scripts.specs.Steps.{◌>>=◌, file, gives, Steps}
+use Rattle.command_scripts.specs.Words.{◌>>=◌, file, gives, Steps}
 use Rattle.command_steps.specs.declared.front.Described.{Described}
 use Rattle.command_steps.specs.declared.front.Inputs.{Inputs}
 use Rattle.command_steps.specs.declared.front.Shared.{Shared}

@@ -4,20 +4,18 @@ use Rattle.std.specs.Prelude.{◌≡◌, ℕ, List, [], Bool, true, codes, is_so
 use Rattle.link_base.specs.declared.fault.Fault.{Fault}
 use Rattle.link_base.specs.declared.fault.Fault.TheVariants as fault
 use Rattle.link_base.specs.declared.fault.FileRole.TheVariants as role
-use Rattle.pair_decisions.specs.PlanRule.{IsRuleOf}
+use Rattle.pair_decisions.specs.Words.{IsRuleOf}
 use Rattle.link_plan.specs.Plan.{PlainShares}
 use Rattle.link_plan.specs.Ranges.{KeepsRanges}
 use Rattle.link_plan.specs.declared.plan.Plan.{Plan}
 use Rattle.review_journal.specs.declared.entry.Entry.{Entry}
 use Rattle.standard_files.specs.Files.{StandardPair}
-use Rattle.link_core.specs.Decisions.{decided, Decisions, decisions_of, IsDecidedIn}
+use Rattle.link_core.specs.Rules.{decided, Decisions, decisions_of, IsDecidedIn, IsPreparedFor}
 use Rattle.link_core.specs.Prepared.{files_of, PreparedView}
 use Rattle.link_core.specs.Results.{IsDecidedFor, KeepsRows}
 use Rattle.link_core.specs.Review.{IsJournalOf, journal_in_files}
-use Rattle.link_core.specs.Rules.{IsPreparedFor}
-use Rattle.command_scripts.specs.Due.{Put}
+use Rattle.command_scripts.specs.Words.{Put, ◌>>=◌, file, gives, Steps}
 use Rattle.command_steps.specs.Front.{plan_file, prepared_files, shares_over}
-use Rattle.command_scripts.specs.Steps.{◌>>=◌, file, gives, Steps}
 use Rattle.command_steps.specs.declared.reviewed.DecidedPlan.{DecidedPlan}
 use Rattle.command_steps.specs.declared.reviewed.Reviewed.{Reviewed}
 use Rattle.command_steps.specs.declared.reviewed.ReviewedSettings.{ReviewedSettings}

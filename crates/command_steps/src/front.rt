@@ -1,8 +1,7 @@
 // What several commands load at their front.
 ghost use Rattle.std.specs.Prelude.{◌≡◌, IfOk, IsUtf8, Some};
 ghost use Rattle.command_steps.specs.Front.{both_files, described_files, described_of, plan_file, prepared_files, shared_plan, shares_of, shares_over};
-ghost use Rattle.command_scripts.specs.Seen.{store_seen};
-ghost use Rattle.command_scripts.specs.Steps.{seen_by, Takes};
+ghost use Rattle.command_scripts.specs.Steps.{store_seen, seen_by, Takes};
 ghost use Rattle.link_base.specs.Fault.{Gives};
 ghost use Rattle.link_core.specs.Prepared.{files_of, prepared};
 ghost use Rattle.link_core.specs.Rules.{IsPreparedFor, shared_rares};

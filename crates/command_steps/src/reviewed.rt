@@ -1,9 +1,8 @@
 // What the decisions and the journal of a plan come to.
 ghost use Rattle.std.specs.Prelude.{◌≡◌, ◌∷◌, [], codes, Err, IfOk, IsSome, Some, true};
 ghost use Rattle.command_steps.specs.Reviewed.{decided_plan, found_of, IsDecidedPlan, IsReviewed, IsReviewedFor, journal_file, journal_plan, put_of_journal, review_of, reviewed_plan, reviewed_settings, shared_decisions_of};
-ghost use Rattle.command_scripts.specs.Seen.{store_seen};
-ghost use Rattle.command_scripts.specs.Steps.{seen_by, Takes};
-ghost use Rattle.command_scripts.specs.Ways.{PutsAll};
+ghost use Rattle.command_scripts.specs.Steps.{store_seen, seen_by, Takes};
+ghost use Rattle.command_scripts.specs.Due.{PutsAll};
 ghost use Rattle.link_base.specs.Fault.{Refuses};
 ghost use Rattle.link_base.specs.declared.fault.Fault.TheVariants as fault;
 ghost use Rattle.link_core.specs.Results.{KeepsRows};

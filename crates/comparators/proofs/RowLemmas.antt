@@ -1,8 +1,7 @@
 -- Rows that stand one behind the other.
-use Rattle.std.proofs.Common.{◌≡◌, ◌<◌, ◌≤◌, ◌+◌, ◌-◌, ◌*◌, ℕ, zero, suc, List, [], length, get_or, take, drop, refl, ap, ◌∙◌, arith, slice_range}
-use Rattle.std.proofs.lemmas.List.{drop-drop}
+use Rattle.std.proofs.Common.{◌≡◌, ◌<◌, ◌≤◌, ◌+◌, ◌-◌, ◌*◌, ℕ, zero, suc, List, [], length, get_or, take, drop, refl, ap, ◌∙◌, arith, slice_range, drop-drop}
 use Rattle.std.proofs.lemmas.Nat.{mul-le}
-use Rattle.comparators.specs.Rows.{rows_of_width}
+use Rattle.comparators.specs.Fields.{rows_of_width}
 
 module _ {X : Type 0} (w : ℕ) where
   pub length-rows : (n : ℕ) (xs : List X) → length (rows_of_width w n xs) ≡ n

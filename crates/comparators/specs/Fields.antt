@@ -1,20 +1,20 @@
 -- What values, and the ids and days that stand for them, are compared by: the outcomes of a kind keep the laws of a comparator
 -- (`value_laws`); `FieldById::of` gives the comparator of a kind over ids, and its impl of `Comparator` carries its outcome (member
 -- `outcome_of`).
-use Rattle.std.specs.Prelude.{◌≡◌, Bool, true, false, Option, Some, None, is_some, ℕ, ℤ, pos, ◌<◌, length, option_map, ⊤}
+use Rattle.std.specs.Prelude.{◌≡◌, Bool, true, false, Option, Some, None, is_some, ℕ, ℤ, pos, ◌<◌, length, option_map, ⊤, MatchBool, List, slice_get, zero, suc, [], ◌∷◌, take, drop}
 use Rattle.link_base.specs.declared.rule.Outcome.{Outcome}
 use Rattle.value_forms.specs.declared.canons.CompareKind.{CompareKind}
-use Rattle.value_forms.specs.declared.canons.CompareKind.TheVariants as compare
 use Rattle.link_base.specs.declared.standard.Value.{Value}
-use Rattle.link_base.specs.Standard.{IsDay}
+use Rattle.link_base.specs.Words.{IsDay}
 use Rattle.value_forms.specs.Days.{year_of_day}
 use Rattle.comparators.specs.declared.ids.IdValue.{IdValue}
-use Rattle.comparators.specs.declared.ids.IdValue.TheVariants as id
 use Rattle.comparators.specs.declared.ids.FieldById.{FieldById}
-use Rattle.comparators.specs.declared.ids.FieldById.TheVariants as field
 use Rattle.value_forms.specs.Canons.{canon_by, canon_of, compares_days, initials_canon, day_in, year_in}
-use Rattle.comparators.specs.Laws.{CanonLaws, ComparatorLaws, outcome_by, outcome_of_texts, outcome_of_ids, outcome_of_counted, near}
-use Rattle.comparators.specs.LawsBy.{canon_laws_by, laws_by, text_laws, id_laws, rare_id_laws, near_laws}
+use Rattle.comparators.specs.Laws.{CanonLaws, ComparatorLaws, outcome_by, outcome_of_texts, outcome_of_ids, outcome_of_counted, near, canon_laws_by, laws_by, text_laws, id_laws, rare_id_laws, near_laws}
+use Rattle.link_base.specs.declared.rule.Outcome.TheVariants.{Agree, Rare}
+use Rattle.value_forms.specs.declared.canons.CompareKind.TheVariants as compare
+use Rattle.comparators.specs.declared.ids.IdValue.TheVariants as id
+use Rattle.comparators.specs.declared.ids.FieldById.TheVariants as field
 
 abbrev pub kind_present : CompareKind → Value → Bool
 kind_present (compare.Same canon) x = is_some (canon_by canon x)
@@ -104,3 +104,45 @@ field_of (compare.Same canon) = field.Same
 field_of compare.Initials = field.Same
 field_of (compare.DaysWithin t) = field.Days t
 field_of (compare.YearsWithin t) = field.Years t
+
+-- Ids that stand for values. `same_outcomes` carries what they are worth (clause `fields`).
+
+-- the id of a canon among these texts, and none where there is no canon
+abbrev pub NamesCanon : List (List ℕ) → Option (List ℕ) → IdValue → Type 0
+NamesCanon texts None id.Absent = ⊤
+NamesCanon texts None (id.Id place) = ⊥
+NamesCanon texts None (id.Day day) = ⊥
+NamesCanon texts (Some canon) id.Absent = ⊥
+NamesCanon texts (Some canon) (id.Id place) = slice_get texts place ≡ Some canon
+NamesCanon texts (Some canon) (id.Day day) = ⊥
+
+-- a day itself
+abbrev pub IsDayItself : Option ℤ → IdValue → Type 0
+IsDayItself None id.Absent = ⊤
+IsDayItself None (id.Id place) = ⊥
+IsDayItself None (id.Day day) = ⊥
+IsDayItself (Some day) id.Absent = ⊥
+IsDayItself (Some day) (id.Id place) = ⊥
+IsDayItself (Some day) (id.Day other) = other ≡ day
+
+-- what stands for a value that is compared by a kind: its day, where the kind compares days, and else the id of its canon
+abbrev pub StandsFor : List (List ℕ) → CompareKind → Value → IdValue → Type 0
+StandsFor texts kind x side = MatchBool (compares_days kind) (IsDayItself (day_in x) side) (NamesCanon texts (canon_of kind x) side)
+
+-- an outcome whose agreement is rare
+abbrev pub rare_where : Bool → Outcome → Outcome
+rare_where true Agree = Rare
+rare_where true other = other
+rare_where false outcome = outcome
+
+-- Rows that stand one behind the other: what `IdTable` is seen as. `IdTable::of` carries it (clause `rows`).
+
+-- so many rows of the same width
+abbrev pub rows_of_width : {X : Type 0} → ℕ → ℕ → List X → List (List X)
+rows_of_width width zero xs = []
+rows_of_width width (suc count) xs = take width xs ∷ rows_of_width width count (drop width xs)
+
+-- what is seen of a table of ids: how many values a row has, and its rows
+pub record IdRows : Type 0 where
+  pub fields : ℕ
+  pub rows : List (List IdValue)

@@ -1,6 +1,3 @@
-pub mod Fields
 pub mod Laws
-pub mod LawsBy
-pub mod OfPool
 pub mod OfPoolLaws
-pub mod Rows
+pub mod Fields

@@ -1,9 +1,8 @@
 -- Laws of ids that stand for values: ids of distinct texts are equal exactly where the texts are, so the outcome of two ids or days is that
 -- of the values that they stand for.
-use Rattle.std.proofs.Common.{if◌then◌else◌, ◌≡◌, ◌<◌, ◌==◌, ℕ, Bool, true, false, List, length, Option, Some, None, refl, ap, sym, ◌∙◌, nat_le, slice_index, MatchBool, option_map, slice_get, ℤ, pos}
+use Rattle.std.proofs.Common.{if◌then◌else◌, ◌≡◌, ◌<◌, ◌==◌, ℕ, Bool, true, false, List, length, Option, Some, None, refl, ap, sym, ◌∙◌, nat_le, slice_index, MatchBool, option_map, slice_get, ℤ, pos, bytes_eq}
 use Rattle.std.proofs.lemmas.Bool.Decides.{Decides-eqb, same_from_decides}
 use Rattle.std.proofs.lemmas.Option.{slice_get_within}
-use Rattle.std.specs.Str.{bytes_eq}
 use Rattle.std.proofs.lemmas.Slice.Eq.{bytes_eq-Decides}
 use Rattle.link_base.specs.declared.rule.Outcome.TheVariants.{Agree, Disagree, Rare}
 use Rattle.value_forms.specs.declared.canons.CompareKind.{CompareKind}
@@ -14,9 +13,8 @@ use Rattle.value_forms.specs.Days.{year_of_day}
 use Rattle.comparators.specs.declared.ids.IdValue.{IdValue}
 use Rattle.comparators.specs.declared.ids.IdValue.TheVariants as id
 use Rattle.value_forms.specs.Canons.{compares_days, canon_by, initials_canon, day_in, year_in}
-use Rattle.comparators.specs.Fields.{day_of_id, field_of, field_outcome, id_in, IsDayOrAbsent, IsFieldSide, IsIdOrAbsent, kind_outcome, year_of_id}
+use Rattle.comparators.specs.Fields.{day_of_id, field_of, field_outcome, id_in, IsDayOrAbsent, IsFieldSide, IsIdOrAbsent, kind_outcome, year_of_id, IsDayItself, NamesCanon, StandsFor, rare_where}
 use Rattle.comparators.specs.Laws.{agree_where, near, outcome_by, outcome_of_ids, outcome_of_counted, outcome_of_texts}
-use Rattle.comparators.specs.OfPool.{IsDayItself, NamesCanon, StandsFor, rare_where}
 
 module _ (texts : List (List ℕ)) (distinct : (a b : ℕ) → a < length texts → slice_get texts a ≡ slice_get texts b → a ≡ b) where
   pub ids_alike : (m n : ℕ) (c d : List ℕ) → slice_get texts m ≡ Some c → slice_get texts n ≡ Some d → (m == n) ≡ bytes_eq c d

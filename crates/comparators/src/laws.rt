@@ -3,9 +3,8 @@ ghost use Rattle.std.specs.Prelude.{◌≡◌, false, List, ℕ, Some, slice_get
 ghost use Rattle.value_forms.specs.Canons.{canon_of, compares_days};
 ghost use Rattle.value_forms.specs.declared.canons.CompareKind.{CompareKind};
 ghost use Rattle.link_base.specs.declared.standard.Value.{Value};
-ghost use Rattle.comparators.specs.Fields.{field_of, field_outcome, kind_outcome, kind_present};
+ghost use Rattle.comparators.specs.Fields.{field_of, field_outcome, kind_outcome, kind_present, StandsFor, rare_where};
 ghost use Rattle.comparators.specs.Laws.{CanonLaws, ComparatorLaws, outcome_by, outcome_of_ids, outcome_of_counted, outcome_of_texts};
-ghost use Rattle.comparators.specs.OfPool.{StandsFor, rare_where};
 ghost use Rattle.comparators.specs.declared.ids.IdValue.{IdValue};
 
 use value_pool::Pool;

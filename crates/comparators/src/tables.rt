@@ -1,6 +1,6 @@
 // Tables of ids, one row of them per record.
 ghost use Rattle.std.specs.Prelude.{◌≡◌, ◌*◌, length};
-ghost use Rattle.comparators.specs.Rows.{rows_of_width};
+ghost use Rattle.comparators.specs.Fields.{rows_of_width};
 
 use crate::ids::IdValue;
 use link_base::Sides;
@@ -17,7 +17,7 @@ pub struct IdTable {
 
 impl Model for IdTable {
     ghost use Rattle.std.specs.Prelude.{◌≡◌, ◌*◌, length};
-    ghost use Rattle.comparators.specs.Rows.{IdRows, rows_of_width};
+    ghost use Rattle.comparators.specs.Fields.{IdRows, rows_of_width};
 
     ghost Value = { IdRows };
 

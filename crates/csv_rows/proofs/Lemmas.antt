@@ -1,17 +1,14 @@
 -- A number past its limit stays past it, whatever digits follow.
-use Rattle.std.proofs.Common.{◌≡◌, ◌<◌, ◌≤◌, ◌+◌, ◌*◌, ◌-◌, ◌∷◌, ℕ, List, [], Bool, false, arith, ◌&&◌, nat_le, ◌++◌, ◌∙◌, suc, length, map, get_or, drop, take, sym, ap, add-one, Bor, zero, All, refl, length-append}
+use Rattle.std.proofs.Common.{◌≡◌, ◌<◌, ◌≤◌, ◌+◌, ◌*◌, ◌-◌, ◌∷◌, ℕ, List, [], Bool, false, arith, ◌&&◌, nat_le, ◌++◌, ◌∙◌, suc, length, map, get_or, drop, take, sym, ap, add-one, Bor, zero, All, refl, length-append, drop-cons, flat_map}
 use Rattle.std.proofs.lemmas.Bool.Decides.{nat_tests}
-use Rattle.csv_rows.specs.Numbers.{number_after}
+use Rattle.csv_rows.specs.Numbers.{number_after, HasNoMark}
 use Rattle.std.proofs.lemmas.List.{append_assoc, append-nil, drop_all, length-map, take_all}
-use Rattle.std.proofs.Math.Seq.{drop-cons}
 use Rattle.csv.specs.Writing.{default_writer, field_text, fields_text, is_blank, row_text, read_back}
-use Rattle.std.specs.List.{flat_map}
 use Rattle.csv.proofs.RoundTrip.{read-write}
 use Rattle.csv.specs.Machine.{next_record}
 use Rattle.csv.specs.Reading.{default_config, records_from}
 use Rattle.csv.specs.declared.parser.State.TheVariants as st
-use Rattle.file_reader.specs.Left.{records_in}
-use Rattle.csv_rows.specs.ReadAgain.{HasNoMark}
+use Rattle.file_reader.specs.Words.{records_in}
 
 pub number_after_least : (n : ℕ) (digits : List ℕ) → n ≤ number_after n digits
 number_after_least n [] = omega arith

@@ -1,9 +1,8 @@
 // The law of what is written and read again.
-ghost use Rattle.std.specs.Prelude.{◌≡◌, ◌≤◌, All, List, length, ℕ};
-ghost use Rattle.std.specs.List.{flat_map};
+ghost use Rattle.std.specs.Prelude.{◌≡◌, ◌≤◌, All, List, length, ℕ, flat_map};
 ghost use Rattle.csv.specs.Writing.{default_writer, row_text};
-ghost use Rattle.file_reader.specs.Left.{records_in};
-ghost use Rattle.csv_rows.specs.ReadAgain.{HasNoMark};
+ghost use Rattle.file_reader.specs.Table.{records_in};
+ghost use Rattle.csv_rows.specs.Numbers.{HasNoMark};
 
 /// Law: the text of rows, each of some fields, reads as these rows, if it does not begin with a byte order mark.
 #[tactic(auto, using(crate::proofs::Lemmas::read_again))]

@@ -1,18 +1,15 @@
-use Rattle.std.proofs.Common.{◌≡◌, ℕ, ℤ, ◌+◌, ◌*◌, ◌/◌, ◌%◌, ◌^◌, ◌<◌, ◌≤◌, List, length, refl, ap, arith, sym, ◌∙◌, get_or, drop, map, ◌+ℤ◌, ◌-◌, min, [], ◌∷◌, ◌++◌, reverse, take, set, inl, inr}
+use Rattle.std.proofs.Common.{◌≡◌, ℕ, ℤ, ◌+◌, ◌*◌, ◌/◌, ◌%◌, ◌^◌, ◌<◌, ◌≤◌, List, length, refl, ap, arith, sym, ◌∙◌, get_or, drop, map, ◌+ℤ◌, ◌-◌, min, [], ◌∷◌, ◌++◌, reverse, take, set, inl, inr, All, sum_by}
 use Rattle.std.proofs.Math.Nat.{mul-div_cancel_left, pow-le-pow_right}
 use Rattle.std.proofs.lemmas.Nat.{div_below, mul-le}
-use Rattle.patterns.specs.Weight.{eighth_weight_of}
-use Rattle.patterns.specs.Chances.{base_of, pattern_count_of, m_of, u_of, weight_of}
+use Rattle.patterns.specs.Patterns.{eighth_weight_of, base_of, pattern_count_of, m_of, u_of, weight_of}
 use Rattle.link_base.specs.declared.shares.FieldShares.{FieldShares}
 use Rattle.std.proofs.lemmas.List.{get_or-map, length-map, get_or-set_same, get_or-set_other, length-set, take_all}
 use Rattle.std.proofs.lemmas.List.FromFn.{fill_by_all}
 use Rattle.decision_rule.specs.Filled.{all_chances, chances_of, chances_at, LinksAreCut, NonlinksAreCut}
 use Rattle.link_base.specs.declared.rule.RuleCell.{RuleCell}
-use Rattle.link_base.specs.Rule.{empty_cell}
-use Rattle.patterns.specs.ShapeLaws.{outcomes_bounds}
-use Rattle.patterns.specs.ChanceLaws.{drop_step, pattern_count_pos, product_small, share_bounds}
+use Rattle.link_base.specs.Words.{empty_cell}
+use Rattle.patterns.specs.PatternLaws.{outcomes_bounds, drop_step, pattern_count_pos, product_small, share_bounds}
 use Rattle.std.proofs.lemmas.Bool.{cases_eq}
-use Rattle.std.specs.List.{All, sum_by}
 use Rattle.std.proofs.lemmas.List.Elements.{recursion_from_All}
 use Rattle.std.proofs.lemmas.List.Sorted.{All-permutation, IsPermutation-reverse}
 use Rattle.decision_rule.specs.Walk.{room_after, CutBy, room_left}

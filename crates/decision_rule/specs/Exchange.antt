@@ -2,11 +2,10 @@
 -- matched pairs and of the non-links among unmatched pairs (Fellegi and Sunter 1969, section 2): the law `exchange` and
 -- `ExchangeLaws` speak of them, and the law `filled` says that a filled table is one (clause `cut_form`).
 use Rattle.std.specs.Prelude.{◌≡◌, ℕ, ◌+◌, ◌*◌, ◌<◌, ◌≤◌, List, length, slice_index_or, sum_by, All, AllPairs}
-use Rattle.link_base.specs.Rule.{empty_cell}
+use Rattle.link_base.specs.Words.{empty_cell}
 use Rattle.link_limits.specs.declared.TheConstants.{WHOLE_RULE}
 use Rattle.link_base.specs.declared.rule.RuleCell.{RuleCell}
-use Rattle.decision_rule.specs.Rule.{Rule}
-use Rattle.decision_rule.specs.Order.{RanksBefore}
+use Rattle.decision_rule.specs.Rule.{Rule, RanksBefore}
 
 -- the cell at a place
 abbrev pub cell_at : List RuleCell → ℕ → RuleCell

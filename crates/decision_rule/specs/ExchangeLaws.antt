@@ -7,9 +7,8 @@ use Rattle.std.proofs.lemmas.List.Sums.{sum_by-cons}
 use Rattle.std.proofs.lemmas.List.Elements.{recursion_from_All, All-from_get_or, All-weaker}
 use Rattle.std.proofs.lemmas.Bool.{cases_order, cases_lt}
 use Rattle.decision_rule.specs.Exchange.{IsCutForm, IsCell, LinksEndAt, NonlinksStartAt, cell_at, matched_links_of, rule_matched_links, unmatched_nonlinks_of, rule_unmatched_nonlinks}
-use Rattle.link_base.specs.Rule.{empty_cell}
-use Rattle.decision_rule.specs.Rule.{Rule, IsRuleOver, possible_of, mu_of, lambda_of, possible_m_of, possible_u_of, rule_mu, rule_lambda, rule_possible_m, rule_possible_u}
-use Rattle.decision_rule.specs.Order.{RanksBefore}
+use Rattle.link_base.specs.Words.{empty_cell}
+use Rattle.decision_rule.specs.Rule.{Rule, IsRuleOver, possible_of, mu_of, lambda_of, possible_m_of, possible_u_of, rule_mu, rule_lambda, rule_possible_m, rule_possible_u, RanksBefore}
 use Rattle.link_base.specs.declared.rule.RuleCell.{RuleCell}
 
 -- a sum by recursion

@@ -1,9 +1,11 @@
 -- Randomised decision rules (Fellegi and Sunter 1969, section 2), and the two error levels and two chances of a possible
 -- link of a table and of a rule. `attained` carries those of a table by its clause `levels`; the laws `exchange` and `filled` set them against those of every rule.
-use Rattle.std.specs.Prelude.{◌≡◌, ℕ, ◌+◌, ◌-◌, ◌*◌, ◌^◌, ◌<◌, List, sum_by, All}
+use Rattle.std.specs.Prelude.{◌≡◌, ℕ, ◌+◌, ◌-◌, ◌*◌, ◌^◌, ◌<◌, List, sum_by, All, ◌%◌, nat_lt, nat_le, if◌then◌else◌, ◌⊎◌}
 use Rattle.link_limits.specs.declared.TheConstants.{WHOLE_FIELD, WHOLE_RULE}
 use Rattle.link_base.specs.declared.rule.Levels.{Levels}
 use Rattle.link_base.specs.declared.rule.RuleCell.{RuleCell}
+use Rattle.link_base.specs.declared.rule.Decision.{Decision}
+use Rattle.link_base.specs.declared.rule.Decision.TheVariants.{Link, Possible, NonLink}
 
 -- the share of a possible link in a cell, in 65,536ths
 abbrev pub possible_of : RuleCell → ℕ
@@ -56,3 +58,19 @@ rule_possible_m r cells = sum_by (λ c. c.m * r.possible c.pattern) cells
 
 abbrev pub rule_possible_u : Rule → List RuleCell → ℕ
 rule_possible_u r cells = sum_by (λ c. c.u * r.possible c.pattern) cells
+
+-- The decision on a pair (Fellegi and Sunter 1969, section 2), which `decide` carries by its one clause.
+
+-- by the low 16 bits of the border word: a link below the cell's share of links, a non-link in the last part, as long as
+-- its share of non-links, and else a possible link
+abbrev pub decision_of : RuleCell → ℕ → Decision
+decision_of cell word =
+    if nat_lt (word % WHOLE_RULE) cell.link then Link
+    else (if nat_le (WHOLE_RULE - cell.nonlink) (word % WHOLE_RULE) then NonLink else Possible)
+
+-- The order of the cells of a rule (Fellegi and Sunter 1969, section 2): `cut_rule` carries it by the part `in_order` of
+-- its clause `filled`.
+
+-- the first cell has the greater m/u, or an equal one and the smaller pattern
+abbrev pub RanksBefore : RuleCell → RuleCell → Type 0
+RanksBefore c d = (d.m * c.u < c.m * d.u) ⊎ ((c.m * d.u ≡ d.m * c.u) × (c.pattern < d.pattern))

@@ -27,8 +27,7 @@ pub struct BorderWords {
 
 impl Model for BorderWords {
     ghost use Rattle.std.specs.Prelude.{◌≡◌, ℕ};
-    ghost use Rattle.decision_rule.specs.Block.{IsBlock};
-    ghost use Rattle.decision_rule.specs.Border.{border_key};
+    ghost use Rattle.decision_rule.specs.Border.{IsBlock, border_key};
 
     ghost Value = { ℕ };
 

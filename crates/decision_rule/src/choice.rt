@@ -1,7 +1,7 @@
 // The decision on a pair.
 ghost use Rattle.std.specs.Prelude.{◌≡◌};
 ghost use Rattle.link_base.specs.Rule.{IsWithinRanges};
-ghost use Rattle.decision_rule.specs.Decide.{decision_of};
+ghost use Rattle.decision_rule.specs.Rule.{decision_of};
 
 use link_base::{Decision, RuleCell};
 use link_limits::WHOLE_RULE;

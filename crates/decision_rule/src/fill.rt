@@ -1,6 +1,6 @@
 // The cells of all patterns, in the order of their numbers.
 ghost use Rattle.std.specs.Prelude.{◌≡◌, ◌+◌, ◌≤◌, ◌<◌, map, length};
-ghost use Rattle.patterns.specs.Chances.{pattern_count_of};
+ghost use Rattle.patterns.specs.Patterns.{pattern_count_of};
 ghost use Rattle.decision_rule.specs.Filled.{all_chances, chances_at, chances_of};
 
 use link_base::{FieldShares, RuleCell};

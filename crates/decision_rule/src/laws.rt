@@ -5,8 +5,7 @@ ghost use Rattle.link_base.specs.declared.rule.RuleCell.{RuleCell};
 ghost use Rattle.link_base.specs.declared.shares.FieldShares.{FieldShares};
 ghost use Rattle.decision_rule.specs.Rule.{Rule, IsRuleOver, mu_of, lambda_of, possible_m_of, possible_u_of, rule_mu, rule_lambda, rule_possible_m, rule_possible_u};
 ghost use Rattle.decision_rule.specs.Exchange.{IsCutForm};
-ghost use Rattle.decision_rule.specs.Filled.{IsFilled};
-ghost use Rattle.decision_rule.specs.Least.{IsLeast};
+ghost use Rattle.decision_rule.specs.Filled.{IsFilled, IsLeast};
 
 /// No rule whose levels are at most those of a table in cut form has a lower chance of a possible link.
 pub fn exchange()

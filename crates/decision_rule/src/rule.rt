@@ -1,9 +1,8 @@
 // The rule of given shares and asked levels.
 ghost use Rattle.std.specs.Prelude.{◌≡◌, ◌≤◌, length, vec_len, All};
-ghost use Rattle.patterns.specs.Chances.{pattern_count_of};
+ghost use Rattle.patterns.specs.Patterns.{pattern_count_of};
 ghost use Rattle.link_base.specs.Rule.{IsWithinRanges};
-ghost use Rattle.decision_rule.specs.Filled.{IsFilled};
-ghost use Rattle.decision_rule.specs.Least.{IsLeast};
+ghost use Rattle.decision_rule.specs.Filled.{IsFilled, IsLeast};
 
 use crate::cuts::{cut_links, cut_nonlinks};
 use crate::fill::fill;

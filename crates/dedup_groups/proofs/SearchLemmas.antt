@@ -1,16 +1,13 @@
 -- What each step of a search keeps.
-use Rattle.std.proofs.Common.{◌≡◌, ◌≢◌, ℕ, zero, suc, ◌<◌, ◌≤◌, ◌+◌, below_more, cond, ltb, List, [], ◌∷◌, ◌++◌, length, set, get_or, refl, ap, sym, ◌∙◌, inl, inr, arith, None, Some, All, count_by, nat_lt, slice_index, slice_index_or, ◌==◌, true, false, take}
+use Rattle.std.proofs.Common.{◌≡◌, ◌≢◌, ℕ, zero, suc, ◌<◌, ◌≤◌, ◌+◌, below_more, cond, ltb, List, [], ◌∷◌, ◌++◌, length, set, get_or, refl, ap, sym, ◌∙◌, inl, inr, arith, None, Some, All, count_by, nat_lt, slice_index, slice_index_or, take, flat_map}
 use Rattle.std.proofs.lemmas.Bool.{cases_eq, cases_lt, le-ltb, lt-ltb}
 use Rattle.std.proofs.lemmas.List.{get_or-set_other, get_or-set_same, get_or_append_left, get_or_default, get_or_push, length-set, length_push, append_assoc, flat_map_more, take_more}
 use Rattle.std.proofs.lemmas.List.Elements.{Contains-append_left, Contains-push}
-use Rattle.std.proofs.lemmas.List.Sums.{count_by-le-length, sum_by-set, sum_by_more}
+use Rattle.std.proofs.lemmas.List.Sums.{count_by-le-length, sum_by-set}
 use Rattle.link_base.specs.declared.rule.PairAt.{PairAt}
-use Rattle.dedup_groups.specs.Adjacency.{adjacency_of, both_ways, arcs_from}
 use Rattle.dedup_groups.specs.Groups.{ShareALink, GroupLists, HaveRows, IsForest, IsLinkWithin, IsRooted, depth_of, leader_of, via_of}
-use Rattle.dedup_groups.specs.Search.{AreFound, AreNeighbours, AreAlone, IsNear, IsGathered, IsSearch, StandAlone, reached_lists, waiting_room}
-use Rattle.dedup_groups.proofs.ForestLemmas.{rooted_by, length_near, linked_near, near_linked}
-use Rattle.std.specs.List.{flat_map}
-use Rattle.std.proofs.lemmas.Bool.Decides.{nat_tests}
+use Rattle.dedup_groups.specs.Forest.{AreFound, AreLinked, AreNeighbours, AreAlone, IsNear, IsGathered, IsSearch, StandAlone, reached_lists, waiting_room}
+use Rattle.dedup_groups.proofs.ForestLemmas.{rooted_by}
 
 pub alone_later : (near : List (List ℕ)) (lists : GroupLists) (leader : ℕ) → StandAlone near lists leader → StandAlone near lists (leader + 1)
 alone_later near lists leader alone x lt le = alone x lt (omega arith)
@@ -241,10 +238,9 @@ fewer_later leaders at leader lt later =
     omega (arith, sums, new, old)
 
 -- all searches are done
-pub forest_found : (rows : ℕ) (links : List PairAt) (lists : GroupLists) → All (IsLinkWithin rows) links → AreFound (adjacency_of rows (both_ways links)) lists rows → IsForest rows links lists
-forest_found rows links lists within found =
-    let near : List (List ℕ) = adjacency_of rows (both_ways links) in
-    let long : length near ≡ rows = length_near rows (both_ways links) in
+pub forest_found : (rows : ℕ) (links : List PairAt) (near : List (List ℕ)) (lists : GroupLists) → All (IsLinkWithin rows) links → AreLinked rows links near → AreFound near lists rows → IsForest rows links lists
+forest_found rows links near lists within l found =
+    let long : length near ≡ rows = l.many in
     let rooted : (x : ℕ) → x < rows → IsRooted (IsNear near) lists x = λ x lt. found.rooted x (rw long lt) in
     record {
       complete = rw long at found.rows;
@@ -253,8 +249,8 @@ forest_found rows links lists within found =
           let both = within k d lt in
           let linked : ShareALink links link.a link.b = inl (k, lt, here links k d link lt refl) in
           let low : leader_of lists link.a < rows = (let r = (rooted link.a (omega arith)).low in omega arith) in
-          sym (found.settled link.a link.b (rw long (omega arith)) low (near_linked rows links link.a link.b (omega arith) linked));
-      rooted = λ x lt. rooted_by (IsNear near) (ShareALink links) lists x (λ from h. linked_near rows links x from h) (rooted x lt);
+          sym (found.settled link.a link.b (rw long (omega arith)) low (l.all link.a link.b (omega arith) linked));
+      rooted = λ x lt. rooted_by (IsNear near) (ShareALink links) lists x (l.linked x) (rooted x lt);
     }
   where
     here : (links : List PairAt) (k : ℕ) (d link : PairAt) → k < length links → link ≡ get_or links k d → get_or links k link ≡ link
@@ -322,7 +318,7 @@ module _ (near : List (List ℕ)) (lists : GroupLists) (queue heads : List ℕ) 
           kept = room_kept lists queue leader head at head_within later ∙ v.kept;
         })
 
--- One step of a loop over arcs, records or positions.
+-- One step of a loop over items.
 
 -- an item more of a list that is made item by item
 pub text_more : {A B : Type 0} (f : A → List B) (before now new : List B) (xs : List A) (i : ℕ) (none : A) → i < length xs → now ≡ before ++ flat_map f (take i xs) → new ≡ now ++ f (get_or xs i none)
@@ -331,40 +327,9 @@ text_more f before now new xs i none lt told grown =
     let x = get_or xs i none in
     grown ∙ ap (λ l. l ++ f x) told ∙ flat_map_more f before (take i xs) x ∙ ap (λ l. before ++ flat_map f l) (sym (take_more xs i none lt))
 
--- a link more, in both orders
-pub ways_more : (now once new links : List PairAt) (i : ℕ) (none : PairAt) → i < length links → now ≡ both_ways (take i links) → once ≡ now ++ get_or links i none ∷ []
-    → new ≡ once ++ record { a = (get_or links i none).b; b = (get_or links i none).a } ∷ [] → new ≡ both_ways (take (i + 1) links)
-ways_more now once new links i none lt told first second =
-    let turned : PairAt → PairAt = λ l. record { a = l.b; b = l.a } in
-    let link = get_or links i none in
-    text_more (λ (l : PairAt). l ∷ turned l ∷ []) [] now new links i none lt told (second ∙ ap (λ (l : List PairAt). l ++ turned link ∷ []) first ∙ append_assoc now (link ∷ []) (turned link ∷ []))
-
-from_more : (arcs : List PairAt) (i : ℕ) (none : PairAt) (x : ℕ) → i < length arcs → arcs_from (take (i + 1) arcs) x ≡ arcs_from (take i arcs) x + cond ((get_or arcs i none).a == x) 1 0
-from_more arcs i none x lt = sum_by_more (λ (arc : PairAt). cond (arc.a == x) 1 0) arcs i none lt
-
--- an arc more that is counted
-pub counted_more : (counts : List ℕ) (arcs : List PairAt) (i : ℕ) (none : PairAt) → i < length arcs → (get_or arcs i none).a < length counts
-    → ((x : ℕ) → x < length counts → get_or counts x 0 ≡ arcs_from (take i arcs) x)
-    → (x : ℕ) → x < length (set counts (get_or arcs i none).a (get_or counts (get_or arcs i none).a 0 + 1))
-    → get_or (set counts (get_or arcs i none).a (get_or counts (get_or arcs i none).a 0 + 1)) x 0 ≡ arcs_from (take (i + 1) arcs) x
-counted_more counts arcs i none lt within told x below =
-    let at = (get_or arcs i none).a in
-    let within2 : x < length counts = omega (arith, length-set counts at (get_or counts at 0 + 1)) in
-    elim (cases_eq x at) [
-      | inl e ↦
-          let here : (at == x) ≡ true = grind (arith, nat_tests) in
-          ap (λ k. get_or (set counts at (get_or counts at 0 + 1)) k 0) e ∙ get_or-set_same counts at (get_or counts at 0 + 1) 0 within
-          ∙ ap (λ n. n + 1) (ap (λ k. get_or counts k 0) (sym e) ∙ told x within2) ∙ sym (from_more arcs i none x lt ∙ ap (λ b. arcs_from (take i arcs) x + cond b 1 0) here)
-      | inr ne ↦
-          let other : (at == x) ≡ false = grind (arith, nat_tests) in
-          let same : arcs_from (take i arcs) x + 0 ≡ arcs_from (take i arcs) x = omega arith in
-          get_or-set_other counts at x (get_or counts at 0 + 1) 0 ne ∙ told x within2 ∙ sym (from_more arcs i none x lt ∙ ap (λ b. arcs_from (take i arcs) x + cond b 1 0) other ∙ same)
-    ]
-
--- a position that is its own leader
-pub own_more : (leaders : List ℕ) (at : ℕ) → at < length leaders → ((x : ℕ) → x < at → get_or leaders x 0 ≡ x) → (x : ℕ) → x < at + 1 → get_or (set leaders at at) x 0 ≡ x
-own_more leaders at within told x lt =
-    elim (cases_eq x at) [
-      | inl e ↦ ap (λ k. get_or (set leaders at at) k 0) e ∙ get_or-set_same leaders at at 0 within ∙ sym e
-      | inr ne ↦ get_or-set_other leaders at x at 0 ne ∙ told x (omega (arith, lt))
-    ]
+-- two items more for each item
+pub two_more : {A : Type 0} (f g : A → ℕ) (now once new : List ℕ) (xs : List A) (i : ℕ) (none : A) → i < length xs → now ≡ flat_map (λ x. f x ∷ g x ∷ []) (take i xs) → once ≡ now ++ f (get_or xs i none) ∷ []
+    → new ≡ once ++ g (get_or xs i none) ∷ [] → new ≡ flat_map (λ x. f x ∷ g x ∷ []) (take (i + 1) xs)
+two_more f g now once new xs i none lt told first second =
+    let x = get_or xs i none in
+    text_more (λ x. f x ∷ g x ∷ []) [] now new xs i none lt told (second ∙ ap (λ (l : List ℕ). l ++ g x ∷ []) first ∙ append_assoc now (f x ∷ []) (g x ∷ []))

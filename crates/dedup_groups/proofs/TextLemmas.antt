@@ -1,48 +1,21 @@
 -- The rows of groups, one group more.
-use Rattle.std.proofs.Common.{◌≡◌, ℕ, ◌<◌, ◌≤◌, ◌+◌, ◌++◌, ◌==◌, Bool, true, false, cond, List, [], ◌∷◌, length, map, filter, refl, ap, sym, ◌∙◌, arith, codes, All, Option, if◌then◌else◌, nat_le, slice_index}
+use Rattle.std.proofs.Common.{◌≡◌, ℕ, ◌<◌, ◌≤◌, ◌+◌, ◌++◌, ◌==◌, Bool, true, false, List, [], ◌∷◌, length, filter, refl, ap, sym, ◌∙◌, arith, codes, All, Option, if◌then◌else◌, nat_le, slice_index, append-nil, append_assoc, length-append, map-id}
 use Rattle.std.specs.List.{enumerate_from, flat_map, range_with_len}
-use Rattle.std.proofs.lemmas.List.{append-nil, append_assoc, length-append, map-id}
 use Rattle.std.proofs.lemmas.List.Concat.{flat_map-append}
 use Rattle.std.proofs.lemmas.List.Elements.{All-filter, filter-append}
-use Rattle.std.proofs.lemmas.List.FromFn.{get_or-range_with_len, length-range_with_len, map-range_with_len_more}
+use Rattle.std.proofs.lemmas.List.FromFn.{length-range_with_len, map-range_with_len_more}
 use Rattle.std.proofs.lemmas.List.Sums.{count_by-le-length, length-filter}
 use Rattle.csv.specs.Writing.{default_writer, fields_text, is_blank, row_text}
-use Rattle.link_base.specs.Standard.{Record}
-use Rattle.link_base.specs.declared.rule.PairAt.{PairAt}
-use Rattle.dedup_groups.specs.Adjacency.{arcs_of_leaders, heads_from}
+use Rattle.link_base.specs.Words.{Record}
+use Rattle.dedup_groups.proofs.ForestLemmas.{below}
 use Rattle.dedup_groups.specs.GroupsText.{group_row, group_rows, groups_header, is_shown, members}
 
 pub header_text : row_text default_writer groups_header ≡ codes "group,id,via\n"
 unfolding fields_text is_blank
 header_text = refl
 
--- where the arcs from a leader lead
-one_arc : (at : ℕ) (hs : List PairAt) (ms : List ℕ) (leader : ℕ) → map (λ (arc : PairAt). arc.b) hs ≡ ms → (t : Bool)
-    → map (λ (arc : PairAt). arc.b) (cond t (record { a = leader; b = at } ∷ hs) hs) ≡ cond t (at ∷ ms) ms
-one_arc at hs ms leader e true = ap (λ xs. at ∷ xs) e
-one_arc at hs ms leader e false = e
-
-heads_of : (leaders : List ℕ) (leader : ℕ) (ats : List ℕ) → heads_from (map (λ at. record { a = slice_index leaders at; b = at }) ats) leader ≡ filter (λ at. slice_index leaders at == leader) ats
-heads_of leaders leader [] = refl
-heads_of leaders leader (at ∷ ats) = one_arc at _ _ (slice_index leaders at) (heads_of leaders leader ats) (slice_index leaders at == leader)
-
-pub heads_are_members : (leaders : List ℕ) (leader : ℕ) → heads_from (arcs_of_leaders (length leaders) leaders) leader ≡ members leaders leader
-heads_are_members leaders leader = heads_of leaders leader (range_with_len 0 (length leaders))
-
-below : (n : ℕ) → All (λ at. at < n) (range_with_len 0 n)
-below n k d lt = (let is = get_or-range_with_len 0 n k d (omega (arith, length-range_with_len 0 n)) in omega (arith, is, length-range_with_len 0 n))
-
 pub members_within : (leaders : List ℕ) (leader : ℕ) → All (λ at. at < length leaders) (members leaders leader)
 members_within leaders leader = All-filter (λ at. slice_index leaders at == leader) (λ at. at < length leaders) (range_with_len 0 (length leaders)) (below (length leaders))
-
--- one arc more
-arcs_more : (leaders : List ℕ) (at : ℕ) → arcs_of_leaders (at + 1) leaders ≡ arcs_of_leaders at leaders ++ record { a = slice_index leaders at; b = at } ∷ []
-arcs_more leaders at = map-range_with_len_more (λ at. record { a = slice_index leaders at; b = at }) 0 at at (omega arith)
-
-pub arcs_next : (leaders : List ℕ) (at leader : ℕ) (arcs new : List PairAt) → leader ≡ slice_index leaders at → arcs ≡ arcs_of_leaders at leaders → new ≡ arcs ++ record { a = leader; b = at } ∷ []
-    → new ≡ arcs_of_leaders (at + 1) leaders
-arcs_next leaders at leader arcs new is told e =
-    e ∙ (ap (λ l. arcs ++ record { a = l; b = at } ∷ []) is ∙ (ap (λ bs. bs ++ record { a = slice_index leaders at; b = at } ∷ []) told ∙ sym (arcs_more leaders at)))
 
 range_more : (n : ℕ) → range_with_len 0 (n + 1) ≡ range_with_len 0 n ++ n ∷ []
 range_more n =

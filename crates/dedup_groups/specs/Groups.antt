@@ -1,6 +1,6 @@
 -- Groups of records that chains of links join, their leaders, and forests that show them: the clauses of `groups` and of
 -- `check_groups`. Connected components and the forests that span them are those of graphs (Tarjan 1975).
-use Rattle.std.specs.Prelude.{◌≡◌, ◌⊎◌, ℕ, zero, suc, ◌+◌, ◌<◌, ◌≤◌, List, All, Contains, length, slice_index, slice_index_or, Option, Some, None}
+use Rattle.std.specs.Prelude.{◌≡◌, ◌⊎◌, ℕ, zero, suc, ◌+◌, ◌<◌, ◌≤◌, List, All, Contains, length, slice_index, slice_index_or, Option, Some, None, ◌↔◌}
 use Rattle.link_base.specs.declared.rule.PairAt.{PairAt}
 
 -- a link names two positions, the lesser first
@@ -76,3 +76,15 @@ pub record IsForest (rows : ℕ) (links : List PairAt) (lists : GroupLists) : Ty
   pub complete : HaveRows rows lists
   pub ends : All (HasOneLeader lists.leaders) links
   pub rooted : (x : ℕ) → x < rows → IsRooted (ShareALink links) lists x
+
+-- The laws of leaders, each the contract of a function that does nothing: `forest_leaders` and `leaders_tell_groups`.
+
+-- the leaders of a forest are those of the groups, whatever the forest: `forest_leaders`
+abbrev pub ForestHasLeaders : Type 0
+ForestHasLeaders =
+    (rows : ℕ) (links : List PairAt) (lists : GroupLists) → All (IsLinkWithin rows) links → IsForest rows links lists → AreLeaders rows links lists.leaders
+
+-- two positions have one leader exactly where a chain of links joins them: `leaders_tell_groups`
+abbrev pub LeadersTellGroups : Type 0
+LeadersTellGroups =
+    (rows : ℕ) (links : List PairAt) (leaders : List ℕ) → AreLeaders rows links leaders → (x y : ℕ) → x < rows → y < rows → (slice_index leaders x ≡ slice_index leaders y) ↔ AreChained links x y

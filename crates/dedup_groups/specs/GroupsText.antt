@@ -2,7 +2,7 @@
 use Rattle.std.specs.Prelude.{◌==◌, nat_le, ℕ, Bool, List, [], ◌∷◌, ◌++◌, codes, decimal, filter, length, slice_index, slice_index_or, Option, Some, None}
 use Rattle.std.specs.List.{enumerate_from, flat_map, range_with_len}
 use Rattle.csv.specs.Writing.{default_writer, row_text}
-use Rattle.link_base.specs.Standard.{id_at, Record}
+use Rattle.link_base.specs.Words.{id_at, Record}
 
 abbrev pub groups_header : List (List ℕ)
 groups_header = codes "group" ∷ codes "id" ∷ codes "via" ∷ []

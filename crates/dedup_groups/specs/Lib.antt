@@ -1,7 +1,3 @@
 pub mod Groups
-pub mod Forest
-pub mod Law
 pub mod GroupsText
-pub mod Adjacency
-pub mod Search
-pub mod Trees
+pub mod Forest

@@ -1,12 +1,12 @@
 // The check of a forest.
-ghost use Rattle.std.specs.Prelude.{◌≡◌, ◌↔◌, ◌<◌, ◌≤◌, ℕ, All, Contains, IfOk, IfSome, IsTrue, length};
+ghost use Rattle.std.specs.Prelude.{◌↔◌, ◌<◌, ◌≤◌, ℕ, All, Contains, IfOk, IfSome, IsTrue, length};
 ghost use Rattle.dedup_groups.specs.Groups.{group_lists, HasOneLeader, HaveRows, IsForest, IsLinkWithin, IsRooted};
-ghost use Rattle.dedup_groups.specs.Search.{IsNear};
+ghost use Rattle.dedup_groups.specs.Forest.{IsNear};
 ghost use Rattle.link_base.specs.declared.rule.PairAt.{PairAt as Pair};
 ghost use Rattle.link_limits.specs.declared.TheConstants.{MOST_PAIRS, MOST_ROWS};
 
-use crate::adjacency::Adjacency;
 use crate::neighbours::neighbours;
+use block_passes::Groups as Rows;
 use link_base::{NoMemory, PairAt};
 use std::alloc::Global;
 
@@ -49,20 +49,13 @@ fn is_rooted(near: &[u32], leader: &[u32], via: &[Option<u32>], depth: &[u32], a
 }
 
 // Whether each of so many positions is rooted.
-fn are_rooted(
-    near: &Adjacency,
-    rows: u32,
-    leader: &[u32],
-    via: &[Option<u32>],
-    depth: &[u32],
-) -> bool
-    requires near { length near.now ≡ rows }
+fn are_rooted(near: &Rows, rows: u32, leader: &[u32], via: &[Option<u32>], depth: &[u32]) -> bool
     requires rows { HaveRows rows (group_lists leader.now via.now depth.now) }
     requires vias { All (λ from. IfSome from (λ x. x < rows)) via.now }
     ensures { IsTrue result ↔ ((x : ℕ) → x < rows → IsRooted (IsNear near.now) (group_lists leader.now via.now depth.now) x) }
 {
     for at in 0..rows {
-        if !is_rooted(near.heads(at), leader, via, depth, at as usize) {
+        if !is_rooted(near.rows(at), leader, via, depth, at as usize) {
             return false;
         }
     }

@@ -1,7 +1,6 @@
 // The groups of records.
-ghost use Rattle.std.specs.Prelude.{◌≡◌, ◌<◌, ◌≤◌, IfSome, length};
-ghost use Rattle.dedup_groups.specs.Groups.{depth_of, group_lists, leader_of, via_of};
-ghost use Rattle.dedup_groups.specs.Forest.{KeepsRows};
+ghost use Rattle.std.specs.Prelude.{◌≡◌, ◌<◌, ◌≤◌, ◌^◌, IfSome, length};
+ghost use Rattle.dedup_groups.specs.Groups.{depth_of, leader_of, via_of};
 
 use std::marker::Model;
 
@@ -9,9 +8,9 @@ use std::marker::Model;
 /// the position that it was reached from, and how many links that is from the leader.
 #[derive(Drop)]
 pub struct Groups {
-    leaders: Vec<u32>,
-    vias: Vec<Option<u32>>,
-    depths: Vec<u32>,
+    pub(crate) leaders: Vec<u32>,
+    pub(crate) vias: Vec<Option<u32>>,
+    pub(crate) depths: Vec<u32>,
 }
 
 impl Model for Groups {
@@ -26,23 +25,19 @@ impl Model for Groups {
 }
 
 impl Groups {
-    /// The groups of these lists, which takes no memory.
-    pub(crate) fn of(leaders: Vec<u32>, vias: Vec<Option<u32>>, depths: Vec<u32>) -> Groups
-        requires { KeepsRows (group_lists leaders.items vias.items depths.items) }
-        ensures { result ≡ group_lists leaders.items vias.items depths.items }
-    {
-        Groups {
-            leaders,
-            vias,
-            depths,
-        }
-    }
-
     /// The number of records.
     pub fn rows(&self) -> u32
         ensures { result ≡ length self.now.leaders }
     {
         self.leaders.len() as u32
+    }
+
+    // The leaders of all positions.
+    pub(crate) fn leaders(&self) -> &[u32]
+        ensures value { result.now ≡ self.now.leaders }
+        ensures few { length result.now < 2 ^ 32 }
+    {
+        &self.leaders
     }
 
     /// The leader of a position: the least position of its group.

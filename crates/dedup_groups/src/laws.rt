@@ -1,5 +1,5 @@
 // The laws of leaders, each the contract of a function that does nothing.
-ghost use Rattle.dedup_groups.specs.Law.{ForestHasLeaders, LeadersTellGroups};
+ghost use Rattle.dedup_groups.specs.Groups.{ForestHasLeaders, LeadersTellGroups};
 
 /// The leaders of a forest are those of the groups, whatever the forest: each is the least position that a chain of links joins
 /// with its position.

@@ -2,7 +2,6 @@
 //! with the one that it was reached from (connected components; Tarjan 1975).
 #![tactic(auto)]
 
-mod adjacency;
 mod checking;
 mod forest;
 mod laws;

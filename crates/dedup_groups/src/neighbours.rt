@@ -1,24 +1,25 @@
 // The neighbours of each record.
-ghost use Rattle.std.specs.Prelude.{◌≡◌, All, IfOk};
-ghost use Rattle.dedup_groups.specs.Adjacency.{adjacency_of, both_ways};
-ghost use Rattle.dedup_groups.specs.Groups.{IsLinkWithin};
+ghost use Rattle.std.specs.Prelude.{◌≤◌, IfOk, length};
+ghost use Rattle.dedup_groups.specs.Forest.{AreLinked};
+ghost use Rattle.link_limits.specs.declared.TheConstants.{MOST_PAIRS};
 
-use crate::adjacency::Adjacency;
+use block_passes::Groups as Rows;
 use link_base::{NoMemory, PairAt};
 use std::alloc::Global;
 
 // The records that each record is linked with.
-pub(crate) fn neighbours(alloc: Global, rows: u32, links: &[PairAt]) -> Result<Adjacency, NoMemory>
-    requires { All (IsLinkWithin rows) links.now }
-    ensures { IfOk result (λ near. near ≡ adjacency_of rows (both_ways links.now)) }
+pub(crate) fn neighbours(alloc: Global, rows: u32, links: &[PairAt]) -> Result<Rows, NoMemory>
+    requires { length links.now ≤ MOST_PAIRS }
+    ensures { IfOk result (AreLinked rows links.now) }
 {
-    let mut arcs = Vec::with_capacity(alloc, 2 * links.len())?;
+    let mut tails = Vec::with_capacity(alloc, 2 * links.len())?;
+    let mut heads = Vec::with_capacity(alloc, 2 * links.len())?;
     for link in links {
-        arcs.push(*link)?;
-        arcs.push(PairAt {
-            a: link.b,
-            b: link.a,
-        })?;
+        tails.push(link.a)?;
+        tails.push(link.b)?;
+        heads.push(link.b)?;
+        heads.push(link.a)?;
     }
-    Adjacency::new(alloc, rows, &arcs)
+    let arcs = Rows::new(alloc, &tails, rows)?;
+    Ok(arcs.read(&heads))
 }

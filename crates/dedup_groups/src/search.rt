@@ -1,13 +1,12 @@
 // The search in breadth for the groups.
 ghost use Rattle.std.specs.Prelude.{◌≡◌, ◌+◌, ◌<◌, ◌≤◌, ◌^◌, ◌++◌, ◌∷◌, [], All, IfOk, OnOk, length};
 ghost use Rattle.dedup_groups.specs.Groups.{AreLeaders, depth_of, HaveRows, IsForest, IsLinkWithin, leader_of};
-ghost use Rattle.dedup_groups.specs.Search.{AreFound, AreNeighbours, AreAlone, IsSearch, reached_lists, waiting_room};
-ghost use Rattle.dedup_groups.specs.Trees.{lists_of};
+ghost use Rattle.dedup_groups.specs.Forest.{AreFound, AreNeighbours, AreAlone, IsSearch, reached_lists, waiting_room, lists_of};
 ghost use Rattle.link_limits.specs.declared.TheConstants.{MOST_PAIRS, MOST_ROWS};
 
-use crate::adjacency::Adjacency;
 use crate::forest::Groups;
 use crate::neighbours::neighbours;
+use block_passes::Groups as Rows;
 use link_base::{NoMemory, PairAt};
 use std::alloc::Global;
 
@@ -55,7 +54,7 @@ fn reach(trees: &mut Trees, at: u32, from: u32, leader: u32) -> Result<(), NoMem
 }
 
 // Reaches the neighbours of the next record in the queue that were not reached before.
-fn visit_all(trees: &mut Trees, near: &Adjacency, done: usize, leader: u32) -> Result<(), NoMemory>
+fn visit_all(trees: &mut Trees, near: &Rows, done: usize, leader: u32) -> Result<(), NoMemory>
     requires neighbours { AreNeighbours near.now }
     requires search { IsSearch near.now (lists_of trees.old) trees.old.queue.items done leader }
     requires done { done < length trees.old.queue.items }
@@ -65,7 +64,7 @@ fn visit_all(trees: &mut Trees, near: &Adjacency, done: usize, leader: u32) -> R
     ensures room { OnOk result (waiting_room (lists_of trees.new) trees.new.queue.items leader ≡ waiting_room (lists_of trees.old) trees.old.queue.items leader) }
 {
     let from = trees.queue[done];
-    let heads = near.heads(from);
+    let heads = near.rows(from);
     for at in heads {
         if trees.leaders[*at as usize] > leader {
             reach(trees, *at, from, leader)?;
@@ -75,7 +74,7 @@ fn visit_all(trees: &mut Trees, near: &Adjacency, done: usize, leader: u32) -> R
 }
 
 // Reaches all records of the group of a leader, from the nearest on.
-fn search_from(trees: &mut Trees, near: &Adjacency, leader: u32) -> Result<(), NoMemory>
+fn search_from(trees: &mut Trees, near: &Rows, leader: u32) -> Result<(), NoMemory>
     requires neighbours { AreNeighbours near.now }
     requires few { length near.now ≤ MOST_ROWS }
     requires found { AreFound near.now (lists_of trees.old) leader }
@@ -94,7 +93,7 @@ fn search_from(trees: &mut Trees, near: &Adjacency, leader: u32) -> Result<(), N
 }
 
 // What the searches from all leaders in turn reach.
-fn trees_of(alloc: Global, near: &Adjacency, rows: u32) -> Result<Trees, NoMemory>
+fn trees_of(alloc: Global, near: &Rows, rows: u32) -> Result<Trees, NoMemory>
     requires neighbours { AreNeighbours near.now }
     requires rows { length near.now ≡ rows }
     requires few { rows ≤ MOST_ROWS }
@@ -127,5 +126,9 @@ pub fn groups(alloc: Global, rows: u32, links: &[PairAt]) -> Result<Groups, NoMe
         queue,
     } = trees;
     drop(queue);
-    Ok(Groups::of(leaders, vias, depths))
+    Ok(Groups {
+        leaders,
+        vias,
+        depths,
+    })
 }

@@ -1,28 +1,14 @@
 // The text of groups.
 ghost use Rattle.std.specs.Prelude.{◌≡◌, ◌+◌, ◌<◌, ◌^◌, ◌++◌, [], All, IfOk, IfSome, OnOk, length, nat_le, if◌then◌else◌};
 ghost use Rattle.std.specs.List.{enumerate_from, flat_map};
-ghost use Rattle.dedup_groups.specs.Adjacency.{adjacency_of, arcs_of_leaders};
+ghost use Rattle.block_passes.specs.Numbering.{AreGroups};
 ghost use Rattle.dedup_groups.specs.GroupsText.{group_row, group_rows, id_of_via, printed_leaders, text_of_groups};
 
-use crate::adjacency::Adjacency;
 use crate::forest::Groups;
+use block_passes::Groups as Rows;
 use csv_rows::{digits_of, push_row};
-use link_base::{NoMemory, PairAt, StdFile, Text};
+use link_base::{NoMemory, StdFile, Text};
 use std::alloc::Global;
-
-// Where the arcs from each leader to its records lead.
-fn members_by_leader(alloc: Global, groups: &Groups) -> Result<Adjacency, NoMemory>
-    ensures { IfOk result (λ near. near ≡ adjacency_of (length groups.now.leaders) (arcs_of_leaders (length groups.now.leaders) groups.now.leaders)) }
-{
-    let mut arcs = Vec::with_capacity(alloc, groups.rows() as usize)?;
-    for at in 0..groups.rows() {
-        arcs.push(PairAt {
-            a: groups.leader(at),
-            b: at,
-        })?;
-    }
-    Adjacency::new(alloc, groups.rows(), &arcs)
-}
 
 // The id of the record that a record was reached from, empty for a leader.
 fn id_of_via(file: &StdFile, via: Option<u32>) -> &[u8]
@@ -68,15 +54,15 @@ fn push_groups(
     text: &mut Vec<u8>,
     groups: &Groups,
     file: &StdFile,
-    by_leader: &Adjacency,
+    by_leader: &Rows,
 ) -> Result<(), NoMemory>
     requires rows { length groups.now.leaders ≡ length file.now }
-    requires by_leader { by_leader.now ≡ adjacency_of (length groups.now.leaders) (arcs_of_leaders (length groups.now.leaders) groups.now.leaders) }
+    requires by_leader { AreGroups groups.now.leaders (length groups.now.leaders) by_leader.now }
     ensures { OnOk result (text.new.items ≡ text.old.items ++ flat_map (group_rows groups.now.leaders groups.now.vias file.now) (enumerate_from 1 (printed_leaders groups.now.leaders))) }
 {
     let mut number = 0;
     for leader in 0..groups.rows() {
-        number = push_next(alloc, text, groups, file, number, by_leader.heads(leader))?;
+        number = push_next(alloc, text, groups, file, number, by_leader.rows(leader))?;
     }
     Ok(())
 }
@@ -89,7 +75,7 @@ pub fn groups_text(alloc: Global, groups: &Groups, file: &StdFile) -> Result<Tex
     requires { length groups.now.leaders ≡ length file.now }
     ensures { IfOk result (λ text. text ≡ text_of_groups groups.now.leaders groups.now.vias file.now) }
 {
-    let by_leader = members_by_leader(alloc, groups)?;
+    let by_leader = Rows::new(alloc, groups.leaders(), groups.rows())?;
     let mut text = Vec::new(alloc);
     text.extend_from_slice(b"group,id,via\n")?;
     push_groups(alloc, &mut text, groups, file, &by_leader)?;

@@ -2,7 +2,7 @@
 use Rattle.std.proofs.Common.{◌≡◌, ◌≢◌, ◌<◌, ◌≤◌, ◌+◌, ◌==◌, ◌∷◌, ◌∙◌, ℕ, nat_lt, Bool, true, false, List, length, get_or, drop, None, Some, ap, refl, sym, arith, zero, suc, [], find, ◌++◌, map, take}
 use Rattle.std.proofs.lemmas.List.{drop_all, drop_more, append_assoc, map-append, take_more}
 use Rattle.std.proofs.lemmas.Bool.Decides.{nat_tests}
-use Rattle.file_reader.specs.Table.{fault_by}
+use Rattle.file_reader.specs.Words.{fault_by}
 use Rattle.link_base.specs.declared.fault.Fault.{Fault}
 use Rattle.csv.specs.Records.{field_at}
 

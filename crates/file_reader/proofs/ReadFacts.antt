@@ -1,24 +1,17 @@
 -- A row whose bytes together are ASCII and not too long.
-use Rattle.std.proofs.Common.{◌≡◌, ◌-◌, ◌∷◌, ℕ, zero, suc, List, [], length, get_or, take, drop, None, ap, arith, nat_lt, refl, not, ◌≤◌, ◌+◌, ◌++◌, ◌∙◌, Bool, true, false, Some, Ok, Err, sym}
+use Rattle.std.proofs.Common.{◌≡◌, ◌-◌, ◌∷◌, ℕ, zero, suc, List, [], length, get_or, take, drop, None, ap, arith, nat_lt, refl, not, ◌≤◌, ◌+◌, ◌++◌, ◌∙◌, Bool, true, false, Some, Ok, Err, sym, length-drop, length-take}
 use Rattle.std.specs.Str.{is_utf8}
-use Rattle.std.proofs.lemmas.List.{length-drop, length-take}
 use Rattle.std.proofs.lemmas.Str.{is_utf8-from_IsUtf8, IsAscii-drop, IsAscii-take, IsUtf8-from_ascii}
 use Rattle.std.proofs.lemmas.Str.Ascii.{IsAscii-nil}
 use Rattle.csv.specs.Records.{cut_from, fields_of, Row, text_of}
 use Rattle.link_limits.specs.declared.TheConstants.{MOST_FIELD_BYTES}
-use Rattle.file_reader.specs.Layout.{cell, Heading}
-use Rattle.file_reader.specs.Plain.{IsPlain}
-use Rattle.file_reader.specs.Table.{text_fault, row_fault, rows_read, taken}
-use Rattle.file_reader.specs.TableLaws.{none_found}
+use Rattle.file_reader.specs.Words.{cell, Heading, ids_of, known_ids, TableRow, IsPlain, ids_after, TakesTableRow, text_fault, row_fault, rows_read, taken, none_found, length_ids}
 use Rattle.file_reader.specs.declared.layout.Column.{Column}
 use Rattle.file_reader.proofs.FindFacts.{no_more}
 use Rattle.std.proofs.lemmas.Bool.Decides.{nat_tests}
-use Rattle.link_base.specs.Fault.{Refuses}
+use Rattle.link_base.specs.Words.{Refuses}
 use Rattle.link_base.specs.declared.fault.Fault.{Fault}
 use Rattle.link_base.specs.declared.fault.Fault.TheVariants as fault
-use Rattle.file_reader.specs.Rows.{ids_of, known_ids, TableRow}
-use Rattle.file_reader.specs.Steps.{ids_after, TakesTableRow}
-use Rattle.file_reader.specs.RowLaws.{length_ids}
 
 -- a part of such bytes
 part_plain : (bytes : List ℕ) (start count : ℕ) → IsPlain bytes → IsPlain (take count (drop start bytes))

@@ -1,19 +1,11 @@
 -- Rows of cells side by side, with their ids.
-use Rattle.std.proofs.Common.{◌≡◌, ◌<◌, ◌≤◌, ◌+◌, ◌*◌, ◌∷◌, ◌++◌, ◌∙◌, ℕ, zero, suc, Bool, true, false, List, [], length, get_or, take, drop, refl, sym, ap, arith, length-drop, None, Result, Ok, subst, length-append, ◌⊎◌, ◌-◌, Option, Some, add-one, inl, inr, if◌then◌else◌, Bor, IsSome}
+use Rattle.std.proofs.Common.{◌≡◌, ◌<◌, ◌≤◌, ◌+◌, ◌*◌, ◌∷◌, ◌++◌, ◌∙◌, ℕ, zero, suc, Bool, true, false, List, [], length, get_or, take, drop, refl, sym, ap, arith, length-drop, None, Result, Ok, subst, length-append, ◌⊎◌, ◌-◌, Option, Some, add-one, inl, inr, if◌then◌else◌, Bor, IsSome, All, true≢false}
 use Rattle.std.proofs.lemmas.List.{take-append-le, drop-append-le, get_or-take, get_or-drop, get_or_past, length-take-le, drop-map}
 use Rattle.std.proofs.Math.Seq.{take-length}
-use Rattle.file_reader.specs.Rows.{AreIdsFor, known_ids, no_row, row_of_cells, rows_in, skipped, table_rows, TableRow, with_ids}
-use Rattle.file_reader.specs.RowLaws.{length_ids, length_with}
-use Rattle.file_reader.specs.Steps.{ids_after, IsUnderway, TakesTableRow}
-use Rattle.std.specs.List.{All}
+use Rattle.file_reader.specs.Words.{AreIdsFor, known_ids, no_row, row_of_cells, rows_in, skipped, table_rows, TableRow, with_ids, cell, cells_of, field_columns, Heading, length_ids, length_with, taken_text, ids_after, IsUnderway, TakesTableRow, IsBetweenRecords, IsGoing, IsOfMemory, IsReading, records_left, records_unread, IsFieldText, row_fault, rows_read, taken, HasCells, IsTaken}
 use Rattle.link_base.specs.declared.fault.Fault.{Fault}
-use Rattle.file_reader.specs.Layout.{cell, cells_of, field_columns, Heading}
-use Rattle.file_reader.specs.Table.{IsFieldText, row_fault, rows_read, taken}
-use Rattle.file_reader.specs.Takers.{HasCells, IsTaken}
 use Rattle.file_reader.proofs.ReadFacts.{known_short, read}
-use Rattle.file_reader.specs.TableLaws.{taken_text}
 use Rattle.csv.specs.Machine.{Read, next_record, step, in_field, start_field, start_record, is_end, ends_at_end, field_after, fields_after}
-use Rattle.std.proofs.lemmas.Bool.{true≢false}
 use Rattle.csv.proofs.ReadFacts.{rows-more, rows-end}
 use Rattle.csv.specs.Reading.{ReadRecord, Reached, records_from, records_next, source_of, took_first, ExplainsRead, is_flexible}
 use Rattle.csv.specs.declared.reader.Reader.{Reader}
@@ -23,7 +15,6 @@ use Rattle.csv.specs.declared.parser.State.{State}
 use Rattle.csv.specs.declared.parser.State.TheVariants as st
 use Rattle.csv.specs.declared.error.ErrorKind.{ErrorKind}
 use Rattle.csv.specs.declared.error.ErrorKind.TheVariants as kind
-use Rattle.file_reader.specs.Reader.{IsBetweenRecords, IsGoing, IsOfMemory, IsReading, records_left, records_unread}
 
 abbrev Cells : Type 0
 Cells = List (List ℕ)

@@ -1,7 +1,6 @@
 -- The records that ids in a row of some file name, or the fault of the row (`known_record` and `known_pair`, clause `answer`).
 use Rattle.std.specs.Prelude.{ℕ, List, Option, Some, None, Result, Ok, Err, codes}
-use Rattle.link_base.specs.Answers.{and_then}
-use Rattle.link_base.specs.Standard.{position_of_id, Record}
+use Rattle.link_base.specs.Words.{and_then, position_of_id, Record}
 use Rattle.link_base.specs.declared.fault.Fault.{Fault}
 use Rattle.link_base.specs.declared.fault.Fault.TheVariants as fault
 use Rattle.link_base.specs.declared.fault.FileRole.{FileRole}

@@ -1,14 +1,31 @@
 -- The table of a file, or its first fault (`read_table`, clause `answer`; what every table keeps: clause `sound`).
-use Rattle.std.specs.Prelude.{◌≡◌, ◌≢◌, ◌≤◌, ◌+◌, ℕ, List, [], ◌∷◌, ◌++◌, All, AllPairs, IsTrue, length, find, min, position, ◌==◌, not, nat_lt, bytes_eq, if◌then◌else◌, Option, Some, None, Result, Ok, Err, ⊤, is_some}
+use Rattle.std.specs.Prelude.{◌≡◌, ◌∷◌, ℕ, List, [], Bool, true, false, Result, Ok, Err, ◌≢◌, ◌≤◌, ◌+◌, ◌++◌, All, AllPairs, IsTrue, length, find, min, position, ◌==◌, not, nat_lt, bytes_eq, if◌then◌else◌, Option, Some, None, ⊤, is_some, ◌<◌, map, take, slice_index_or, MatchOption}
+use Rattle.csv.specs.Reading.{default_config, records, strip_bom}
+use Rattle.csv.specs.declared.parser.Config.{Config}
 use Rattle.std.specs.Str.{is_utf8, IsUtf8}
-use Rattle.link_base.specs.Fault.{or_else}
+use Rattle.link_base.specs.Words.{or_else}
 use Rattle.link_base.specs.declared.fault.Fault.{Fault}
-use Rattle.link_base.specs.declared.fault.Fault.TheVariants as fault
 use Rattle.link_base.specs.declared.fault.FileRole.{FileRole}
 use Rattle.link_limits.specs.declared.TheConstants.{MOST_COLUMNS, MOST_FIELD_BYTES}
-use Rattle.file_reader.specs.Layout.{cell, cells_of, count_in, Heading, heading_under, needed_of, Wanted}
-use Rattle.file_reader.specs.Rows.{HaveIds, known_ids, row_of_cells, TableRow}
+use Rattle.file_reader.specs.Rows.{cell, cells_of, count_in, Heading, heading_under, needed_of, Wanted, HaveIds, known_ids, row_of_cells, TableRow}
 use Rattle.file_reader.specs.declared.layout.Column.{Column}
+use Rattle.link_base.specs.declared.fault.Fault.TheVariants as fault
+
+-- The records that are left of a text (`Records::new` and `Records::next`, each by its one clause).
+
+-- commas, or another byte, between fields; a quote is doubled inside quotes
+abbrev pub config_of : ℕ → Config
+config_of delimiter = record default_config { delimiter = delimiter }
+
+-- every record of a text, after one byte order mark
+abbrev pub records_in : ℕ → List ℕ → List (List (List ℕ))
+records_in delimiter bytes = records (config_of delimiter) (strip_bom bytes)
+
+-- a read takes the first record, or finds that there is none
+abbrev pub Took : {E : Type 0} → List (List (List ℕ)) → List (List (List ℕ)) → List (List ℕ) → Result Bool E → Type 0
+Took old new fields (Ok true) = old ≡ fields ∷ new
+Took old new fields (Ok false) = (old ≡ []) × (new ≡ [])
+Took old new fields (Err e) = new ≡ []
 
 -- the fault that is made of what was found
 abbrev pub fault_by : {A : Type 0} → (A → Fault) → Option A → Option Fault
@@ -118,3 +135,31 @@ HasWantedIds wanted table = IsTrue (is_some wanted.id) → HaveIds table
 -- where an id is wanted, no two rows have the same
 abbrev pub HasDistinctIds : Wanted → List TableRow → Type 0
 HasDistinctIds wanted table = IsTrue (is_some wanted.id) → AllPairs (λ (x y : TableRow). x.id ≢ y.id) table
+
+-- The fault of a file: the first of its header, else that of its least faulty row; and the table of a file that has none
+-- (laws `first_fault` and `whole_table`, of what `read_table` gives by its clause `answer`).
+
+-- the fault of the row at a place, after the rows before it
+abbrev pub row_fault_at : Heading → List (List (List ℕ)) → ℕ → Option Fault
+row_fault_at heading rows at = row_fault heading (at + 1) (known_ids heading.has_id (map (taken heading) (take at rows))) (slice_index_or rows at [])
+
+-- the least faulty row, and its fault
+pub record IsLeastFaulty (heading : Heading) (rows : List (List (List ℕ))) (f : Fault) (at : ℕ) : Type 0 where
+  pub within : at < length rows
+  pub faulty : row_fault_at heading rows at ≡ Some f
+  pub least : (k : ℕ) → k < at → row_fault_at heading rows k ≡ None
+
+-- the fault of a file
+abbrev pub IsFirstFault : FileRole → Wanted → List (List (List ℕ)) → Fault → Type 0
+IsFirstFault role wanted [] f = f ≡ fault.NoHeader role
+IsFirstFault role wanted (header ∷ rows) f = MatchOption (header_fault role (needed_of wanted) header) ((at : ℕ) × IsLeastFaulty (heading_under role wanted header) rows f at) (λ g. f ≡ g)
+
+-- the rows of a file without a fault
+pub record AreWhole (heading : Heading) (rows : List (List (List ℕ))) (table : List TableRow) : Type 0 where
+  pub all : table ≡ map (taken heading) rows
+  pub sound : (k : ℕ) → k < length rows → row_fault_at heading rows k ≡ None
+
+-- the table of a file without a fault
+abbrev pub IsWholeTable : FileRole → Wanted → List (List (List ℕ)) → List TableRow → Type 0
+IsWholeTable _ wanted [] table = ⊥
+IsWholeTable role wanted (header ∷ rows) table = (header_fault role (needed_of wanted) header ≡ None) × AreWhole (heading_under role wanted header) rows table

@@ -1,30 +1,121 @@
 -- What holds of each table that is read (law `sound_table`): no more rows than are wanted, as many texts in each as columns, and ids that
 -- are there and differ; and that rows of texts are the rows of a table. Proofs of the crates above cite both here.
-use Rattle.std.proofs.Common.{◌≡◌, ◌≢◌, ◌<◌, ◌≤◌, ◌+◌, ◌∷◌, ◌++◌, ◌∙◌, ℕ, zero, suc, Bool, true, false, cond, not, List, [], length, map, take, get_or, Option, Some, None, Ok, refl, sym, subst, ap, arith, nat_lt, inl, inr, append_assoc, length-append, ◌==◌, IsTrue}
+use Rattle.std.proofs.Common.{◌≡◌, ◌<◌, ◌+◌, ◌∷◌, ◌++◌, ◌∙◌, ℕ, zero, suc, List, [], length, map, take, get_or, MatchOption, Option, Some, None, Result, Ok, Err, refl, sym, subst, arith, append_assoc, length-append, ◌≢◌, ◌≤◌, Bool, true, false, cond, not, ap, nat_lt, inl, inr, ◌==◌, IsTrue, if◌then◌else◌}
+use Rattle.std.proofs.lemmas.List.{append-nil, get_or-map, get_or-take, length-map, length-take-le}
+use Rattle.link_base.specs.declared.fault.Fault.{Fault}
+use Rattle.link_base.specs.declared.fault.FileRole.{FileRole}
+use Rattle.file_reader.specs.Table.{AreWhole, IsFirstFault, IsLeastFaulty, IsWholeTable, row_fault_at, header_fault, row_fault, rows_read, table_of, taken, unless_fault, fault_by, fields_fault, id_fault, IsFieldText, IsTextRow, key_fault, text_fault, config_of, records_in}
+use Rattle.file_reader.specs.Rows.{Heading, heading_under, needed_of, Wanted, cell, cells_of, columns_of, place_in, known_ids, TableRow, ids_of, row_of_cells, with_ids}
 use Rattle.std.specs.List.{All, AllPairs, find, position, position_or_len}
 use Rattle.std.specs.Str.{bytes_eq, is_utf8}
 use Rattle.std.proofs.lemmas.Bool.{cases_Bool}
 use Rattle.std.proofs.lemmas.Bool.Decides.{nat_tests}
-use Rattle.std.proofs.lemmas.List.{append-nil, get_or-map, get_or-take, length-map, length-take-le}
 use Rattle.std.proofs.lemmas.List.Elements.{All-cons, All-from_get_or, All-head, All-map, All-nil, All-tail}
 use Rattle.std.proofs.lemmas.List.Sums.{fails_before_first}
 use Rattle.std.proofs.lemmas.Slice.Eq.{bytes_eq-Decides}
 use Rattle.std.proofs.lemmas.Str.{is_utf8-from_IsUtf8, IsUtf8-from_is_utf8, IsUtf8-nil}
-use Rattle.link_base.specs.Fault.{or_else}
-use Rattle.link_base.specs.declared.fault.Fault.{Fault}
-use Rattle.link_base.specs.declared.fault.Fault.TheVariants as fault
-use Rattle.link_base.specs.declared.fault.FileRole.{FileRole}
+use Rattle.link_base.specs.Words.{or_else}
 use Rattle.link_limits.specs.declared.TheConstants.{MOST_FIELD_BYTES}
-use Rattle.file_reader.specs.FaultLaws.{table_is_whole}
-use Rattle.file_reader.specs.Faults.{AreWhole, row_fault_at}
-use Rattle.file_reader.specs.Layout.{cell, cells_of, columns_of, Heading, heading_under, place_in, Wanted}
-use Rattle.file_reader.specs.Rows.{ids_of, known_ids, row_of_cells, TableRow}
-use Rattle.file_reader.specs.Table.{fault_by, fields_fault, id_fault, IsFieldText, IsTextRow, key_fault, row_fault, rows_read, table_of, taken, text_fault, unless_fault}
 use Rattle.file_reader.specs.Takers.{IsTableFor}
 use Rattle.file_reader.specs.declared.layout.Column.{Column}
+use Rattle.csv.specs.Machine.{next_record, Read}
+use Rattle.csv.specs.Reading.{is_bom, records_from, records_next, strip_bom}
+use Rattle.csv.specs.declared.parser.Config.{Config}
+use Rattle.csv.specs.declared.parser.State.{State}
+use Rattle.link_base.specs.declared.fault.Fault.TheVariants as fault
+use Rattle.csv.specs.declared.parser.State.TheVariants as st
+
+-- Laws of the rows of a file, which are read up to the least faulty one: the fault of a file is its first (law `first_fault`), and a file
+-- that has a table has no fault (law `whole_table`). Proofs of the crates above cite them here.
 
 abbrev Records : Type 0
 Records = List (List (List ℕ))
+
+-- the fault of a row, after a table and the rows before it
+abbrev fault_after : Heading → List TableRow → Records → ℕ → Option Fault
+fault_after heading table rows at = row_fault heading (length table + at + 1) (known_ids heading.has_id (table ++ map (taken heading) (take at rows))) (get_or rows at [])
+
+same_fault : (heading : Heading) (m n : ℕ) (s t : List TableRow) (row : List (List ℕ)) → m ≡ n → s ≡ t → row_fault heading m (known_ids heading.has_id s) row ≡ row_fault heading n (known_ids heading.has_id t) row
+same_fault heading m n s t row number rows = λ i. row_fault heading (number i) (known_ids heading.has_id (rows i)) row
+
+-- the first row
+here : (heading : Heading) (table : List TableRow) (row : List (List ℕ)) (rows : Records) → fault_after heading table (row ∷ rows) 0 ≡ row_fault heading (length table + 1) (known_ids heading.has_id table) row
+here heading table row rows = same_fault heading (length table + 0 + 1) (length table + 1) (table ++ []) table row (omega arith) (append-nil table)
+
+-- a row after the first
+later : (heading : Heading) (table : List TableRow) (row : List (List ℕ)) (rows : Records) (at : ℕ) → fault_after heading table (row ∷ rows) (suc at) ≡ fault_after heading (table ++ taken heading row ∷ []) rows at
+later heading table row rows at =
+    same_fault heading (length table + suc at + 1) (length (table ++ taken heading row ∷ []) + at + 1) (table ++ taken heading row ∷ map (taken heading) (take at rows)) ((table ++ taken heading row ∷ []) ++ map (taken heading) (take at rows)) (get_or rows at [])
+    (omega (arith, length-append table (taken heading row ∷ []))) (sym (append_assoc table (taken heading row ∷ []) (map (taken heading) (take at rows))))
+
+-- the first row of a file
+start : (heading : Heading) (rows : Records) (at : ℕ) → fault_after heading [] rows at ≡ row_fault_at heading rows at
+start heading rows at = same_fault heading (length {A = TableRow} [] + at + 1) (at + 1) (map (taken heading) (take at rows)) (map (taken heading) (take at rows)) (get_or rows at []) (omega arith) refl
+
+record IsLeastAfter (heading : Heading) (table : List TableRow) (rows : Records) (f : Fault) (at : ℕ) : Type 0 where
+  within : at < length rows
+  faulty : fault_after heading table rows at ≡ Some f
+  least : (k : ℕ) → k < at → fault_after heading table rows k ≡ None
+
+abbrev HasLeastAfter : Heading → List TableRow → Records → Fault → Type 0
+HasLeastAfter heading table rows f = (at : ℕ) × IsLeastAfter heading table rows f at
+
+none_before : (heading : Heading) (table : List TableRow) (row : List (List ℕ)) (rows : Records) (count : ℕ) → row_fault heading (length table + 1) (known_ids heading.has_id table) row ≡ None
+    → ((k : ℕ) → k < count → fault_after heading (table ++ taken heading row ∷ []) rows k ≡ None) → (k : ℕ) → k < suc count → fault_after heading table (row ∷ rows) k ≡ None
+none_before heading table row rows count none more zero lt = here heading table row rows ∙ none
+none_before heading table row rows count none more (suc k) lt = later heading table row rows k ∙ more k (omega arith)
+
+record AreWholeAfter (heading : Heading) (table : List TableRow) (rows : Records) (whole : List TableRow) : Type 0 where
+  all : whole ≡ table ++ map (taken heading) rows
+  sound : (k : ℕ) → k < length rows → fault_after heading table rows k ≡ None
+
+-- what rows that are read come to
+abbrev IsTold : Heading → List TableRow → Records → Result (List TableRow) Fault → Type 0
+IsTold heading table rows (Ok whole) = AreWholeAfter heading table rows whole
+IsTold heading table rows (Err f) = HasLeastAfter heading table rows f
+
+-- with a row without a fault in front
+told_next : (heading : Heading) (table : List TableRow) (row : List (List ℕ)) (rows : Records) → row_fault heading (length table + 1) (known_ids heading.has_id table) row ≡ None
+    → (r : Result (List TableRow) Fault) → IsTold heading (table ++ taken heading row ∷ []) rows r → IsTold heading table (row ∷ rows) r
+told_next heading table row rows none (Ok whole) told = record {
+  all = told.all ∙ append_assoc table (taken heading row ∷ []) (map (taken heading) rows);
+  sound = λ k lt. none_before heading table row rows (length rows) none told.sound k (omega arith);
+}
+told_next heading table row rows none (Err f) told =
+    (suc told.0, record { within = omega (arith, told.1.within); faulty = later heading table row rows told.0 ∙ told.1.faulty; least = none_before heading table row rows told.0 none told.1.least })
+
+rows_told : (heading : Heading) (table : List TableRow) (rows : Records) → IsTold heading table rows (rows_read heading table rows)
+rows_told heading table [] = record { all = sym (append-nil table); sound = λ k lt. absurd (omega arith) }
+rows_told heading table (row ∷ rows) =
+    by_fault (row_fault heading (length table + 1) (known_ids heading.has_id table) row) refl (rows_told heading (table ++ taken heading row ∷ []) rows)
+  where
+    by_fault : (o : Option Fault) → row_fault heading (length table + 1) (known_ids heading.has_id table) row ≡ o
+        → IsTold heading (table ++ taken heading row ∷ []) rows (rows_read heading (table ++ taken heading row ∷ []) rows)
+        → IsTold heading table (row ∷ rows) (unless_fault o (rows_read heading (table ++ taken heading row ∷ []) rows))
+    by_fault None none rest = told_next heading table row rows none (rows_read heading (table ++ taken heading row ∷ []) rows) rest
+    by_fault (Some f) some rest = (0, record { within = omega arith; faulty = here heading table row rows ∙ some; least = λ k lt. absurd (omega arith) })
+
+-- the fault of a file is its first
+pub fault_is_first : (role : FileRole) (wanted : Wanted) (records : Records) (f : Fault) → table_of role wanted records ≡ Err f → IsFirstFault role wanted records f
+fault_is_first _ wanted [] f e = cc e
+fault_is_first role wanted (header ∷ rows) f e = by_header (header_fault role (needed_of wanted) header) e
+  where
+    by_header : (o : Option Fault) → unless_fault o (rows_read (heading_under role wanted header) [] rows) ≡ Err f → MatchOption o ((at : ℕ) × IsLeastFaulty (heading_under role wanted header) rows f at) (λ g. f ≡ g)
+    by_header None e =
+        let r : HasLeastAfter (heading_under role wanted header) [] rows f = subst (IsTold (heading_under role wanted header) [] rows) e (rows_told (heading_under role wanted header) [] rows) in
+        (r.0, record { within = r.1.within; faulty = sym (start (heading_under role wanted header) rows r.0) ∙ r.1.faulty; least = λ k lt. sym (start (heading_under role wanted header) rows k) ∙ r.1.least k lt })
+    by_header (Some g) e = cc e
+
+-- a file that has a table has no fault
+pub table_is_whole : (role : FileRole) (wanted : Wanted) (records : Records) (table : List TableRow) → table_of role wanted records ≡ Ok table → IsWholeTable role wanted records table
+table_is_whole _ wanted [] table e = cc e
+table_is_whole role wanted (header ∷ rows) table e = by_header (header_fault role (needed_of wanted) header) e
+  where
+    by_header : (o : Option Fault) → unless_fault o (rows_read (heading_under role wanted header) [] rows) ≡ Ok table → (o ≡ None) × AreWhole (heading_under role wanted header) rows table
+    by_header None e =
+        let r : AreWholeAfter (heading_under role wanted header) [] rows table = subst (IsTold (heading_under role wanted header) [] rows) e (rows_told (heading_under role wanted header) [] rows) in
+        (refl, record { all = r.all; sound = λ k lt. sym (start (heading_under role wanted header) rows k) ∙ r.sound k lt })
+    by_header (Some g) e = cc e
 
 -- where nothing is found, no element passes
 find_none : {X : Type 0} (p : X → Bool) (xs : List X) → find p xs ≡ None → All (λ x. p x ≡ false) xs
@@ -241,3 +332,47 @@ rows_whole heading table (row ∷ rows) no_id sound few =
     ap (λ (o : Option Fault). unless_fault o (rows_read heading (table ++ taken heading row ∷ []) rows)) here
     ∙ rows_whole heading (table ++ taken heading row ∷ []) rows no_id (All-tail (IsRowOf heading.width) row rows sound) (omega (arith, length-append table (taken heading row ∷ [])))
     ∙ ap Ok (append_assoc table (taken heading row ∷ []) (map (taken heading) rows))
+
+-- Law of the records of a text: they are no more than its bytes, and one. Proofs of the crates above cite it.
+
+next_few : (n : ℕ) (more : State → List ℕ → List (List (List ℕ))) → ((s : State) (xs : List ℕ) → length (more s xs) ≤ n) → (o : Option Read) → length (records_next more o) ≤ n + 1
+next_few n more h None = omega arith
+next_few n more h (Some p) = omega (arith, h p.1 p.2)
+
+from_few : (cfg : Config) (n : ℕ) (s : State) (xs : List ℕ) → length (records_from cfg n s xs) ≤ n
+unfolding records_from
+from_few cfg zero s xs = omega arith
+from_few cfg (suc n) s xs = omega (arith, next_few n (records_from cfg n) (from_few cfg n) (next_record cfg s [] [] xs))
+
+stripped : (a b c : ℕ) (rest : List ℕ) (t : Bool) → length (if t then rest else a ∷ b ∷ c ∷ rest) ≤ length rest + 3
+stripped a b c rest true = omega arith
+stripped a b c rest false = omega arith
+
+strip_few : (bytes : List ℕ) → length (strip_bom bytes) ≤ length bytes
+unfolding strip_bom
+strip_few [] = omega arith
+strip_few (a ∷ []) = omega arith
+strip_few (a ∷ b ∷ []) = omega arith
+strip_few (a ∷ b ∷ c ∷ rest) = omega (arith, stripped a b c rest (is_bom a b c))
+
+pub records_few : (delimiter : ℕ) (bytes : List ℕ) → length (records_in delimiter bytes) ≤ length bytes + 1
+records_few delimiter bytes = omega (arith, strip_few bytes, from_few (config_of delimiter) (length (strip_bom bytes) + 1) st.StartRecord (strip_bom bytes))
+
+-- Laws of rows with ids, which proofs of the crates above cite: they are as many as the rows, and have their fields.
+
+abbrev Cells : Type 0
+Cells = List (List ℕ)
+
+pub length_with : (rows : List Cells) (ids : List (List ℕ)) → length (with_ids rows ids) ≡ length rows
+length_with [] ids = refl
+length_with (r ∷ rows) [] = ap suc (length_with rows [])
+length_with (r ∷ rows) (id ∷ ids) = ap suc (length_with rows ids)
+
+pub length_ids : (rows : List TableRow) → length (ids_of rows) ≡ length rows
+length_ids [] = refl
+length_ids (r ∷ rows) = ap suc (length_ids rows)
+
+pub fields_with : (rows : List Cells) (ids : List (List ℕ)) → map (λ (r : TableRow). r.fields) (with_ids rows ids) ≡ rows
+fields_with [] ids = refl
+fields_with (r ∷ rows) [] = ap (λ (l : List Cells). r ∷ l) (fields_with rows [])
+fields_with (r ∷ rows) (id ∷ ids) = ap (λ (l : List Cells). r ∷ l) (fields_with rows ids)

@@ -1,10 +1,8 @@
 // The header of a table.
 ghost use Rattle.std.specs.Prelude.{◌≡◌, ◌++◌, ◌∷◌, [], IfOk, OnOk};
 ghost use Rattle.csv.specs.Records.{fields_of};
-ghost use Rattle.file_reader.specs.Left.{records_in};
-ghost use Rattle.file_reader.specs.Header.{header_has};
-ghost use Rattle.file_reader.specs.Layout.{column_in, columns_of, needed_of, wanted_of};
-ghost use Rattle.file_reader.specs.Table.{header_fault, missing_fault, repeated_fault, Tests};
+ghost use Rattle.file_reader.specs.Table.{records_in, header_fault, missing_fault, repeated_fault, Tests};
+ghost use Rattle.file_reader.specs.Rows.{header_has, column_in, columns_of, needed_of, wanted_of};
 
 use crate::fields::{count_of, place_of};
 use crate::layout::{Column, Layout};

@@ -1,6 +1,6 @@
 // What is wanted of a file.
 ghost use Rattle.std.specs.Prelude.{◌≡◌, IfOk, None, map};
-ghost use Rattle.file_reader.specs.Layout.{wanted_of};
+ghost use Rattle.file_reader.specs.Rows.{wanted_of};
 
 use link_base::{FileRole, NoMemory, Text};
 use std::alloc::Global;

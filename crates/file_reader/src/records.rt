@@ -2,7 +2,7 @@
 ghost use Rattle.std.specs.Prelude.{◌≡◌, [], ◌∷◌};
 ghost use Rattle.csv.specs.Records.{fields_of};
 ghost use Rattle.csv.specs.Reading.{error_kind};
-ghost use Rattle.file_reader.specs.Left.{records_in, Took};
+ghost use Rattle.file_reader.specs.Table.{records_in, Took};
 ghost use Rattle.file_reader.specs.Reader.{IsOfMemory};
 
 use csv::{ByteRecord, Error, ErrorKind, Reader, ReaderBuilder};

@@ -1,14 +1,12 @@
 // The rows of a table.
 ghost use Rattle.std.specs.Prelude.{◌≡◌, ◌↔◌, ◌≤◌, ◌<◌, [], All, IfOk, is_some, IsTrue, None, length, ℕ};
 ghost use Rattle.csv.specs.Records.{fields_of, text_of};
-ghost use Rattle.file_reader.specs.Left.{records_in};
+ghost use Rattle.file_reader.specs.Table.{records_in, header_fault, id_fault, length_fault, row_fault, rows_read, table_of, taken, Tests, text_fault, under_header, utf8_fault};
 ghost use Rattle.link_base.specs.Fault.{IsAnswer};
-ghost use Rattle.file_reader.specs.Layout.{cell, field_columns, heading_of, heading_under, needed_of, wanted_of};
-ghost use Rattle.file_reader.specs.Plain.{IsPlain};
+ghost use Rattle.file_reader.specs.Rows.{cell, field_columns, heading_of, heading_under, needed_of, wanted_of};
+ghost use Rattle.file_reader.specs.Reader.{IsPlain, FillsRows, KeepsId, TakesTableRow};
 ghost use Rattle.file_reader.specs.declared.layout.Column.{Column as Needed};
-ghost use Rattle.file_reader.specs.Steps.{FillsRows, KeepsId, TakesTableRow};
 ghost use Rattle.file_reader.specs.Takers.{IsTableFor, ReadsInto};
-ghost use Rattle.file_reader.specs.Table.{header_fault, id_fault, length_fault, row_fault, rows_read, table_of, taken, Tests, text_fault, under_header, utf8_fault};
 
 use crate::fields::{field_of, is_plain, is_text};
 use crate::header::{find_columns, needed_names, test_header};

@@ -1,7 +1,7 @@
 // What takes the rows of a table.
 ghost use Rattle.std.specs.Prelude.{◌≡◌, ◌<◌, ◌++◌, ◌∷◌, [], ℕ, All, List, length, OnOk, slice_index_or};
 ghost use Rattle.csv.specs.Records.{fields_of};
-ghost use Rattle.file_reader.specs.Layout.{cells_of};
+ghost use Rattle.file_reader.specs.Rows.{cells_of};
 ghost use Rattle.file_reader.specs.Table.{IsFieldText};
 ghost use Rattle.file_reader.specs.Takers.{HasRoom};
 
@@ -29,7 +29,7 @@ pub struct RowFields<'a> {
 impl<'a> Model for RowFields<'a> {
     ghost use Rattle.std.specs.Prelude.{ℕ, List};
     ghost use Rattle.csv.specs.Records.{fields_of};
-    ghost use Rattle.file_reader.specs.Layout.{cells_of};
+    ghost use Rattle.file_reader.specs.Rows.{cells_of};
 
     ghost Value = { List (List ℕ) };
 

@@ -1,3 +1,1 @@
-pub mod Extends
 pub mod HostFile
-pub mod Places

@@ -2,8 +2,7 @@
 ghost use Rattle.std.specs.Prelude.{◌≡◌, ◌≢◌, ◌+◌, ◌^◌, ◌<◌, [], ℕ, List, None, false, true, string_bytes, take, vec_capacity, vec_len, All, Any, IfOk, IfSome, IsTrue, OnOk};
 ghost use Rattle.std.specs.Bool.{OnFalse, OnTrue};
 ghost use Rattle.link_outside.specs.Outside.{IsLogged, IsWithinLimit, LogsFailure, Shows};
-ghost use Rattle.host_outside.specs.Extends.{KeepsAll};
-ghost use Rattle.host_outside.specs.HostFile.{IsNoted, IsRead, IsReadIn, IsSameFile, IsStateOf, IsUnchanged, IsWritten};
+ghost use Rattle.host_outside.specs.HostFile.{KeepsAll, IsNoted, IsRead, IsReadIn, IsSameFile, IsStateOf, IsUnchanged, IsWritten};
 
 use super::host_error::HostError;
 use super::host_file::{FileState, HostFile};

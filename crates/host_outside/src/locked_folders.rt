@@ -1,7 +1,6 @@
 // The folders that a store has locked.
 ghost use Rattle.std.specs.Prelude.{◌<◌, length, HoldsAt, IfOk, IfSome, IsTrue, OnOk};
-ghost use Rattle.host_outside.specs.Extends.{KeepsAll};
-ghost use Rattle.host_outside.specs.HostFile.{IsFolderOf, IsSameFile};
+ghost use Rattle.host_outside.specs.HostFile.{KeepsAll, IsFolderOf, IsSameFile};
 
 use super::host_error::HostError;
 use super::host_file::{FileState, HostFile};

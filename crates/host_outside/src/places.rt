@@ -1,7 +1,7 @@
 // Where names of the host lead.
 ghost use Rattle.std.specs.Prelude.{◌≡◌, ◌↔◌, ◌⊎◌, IfOk, IsTrue, string_bytes};
 ghost use Rattle.std.specs.declared.io.ErrorKind.TheVariants as kind;
-ghost use Rattle.host_outside.specs.Places.{folder_of, led_to};
+ghost use Rattle.host_outside.specs.HostFile.{folder_of, led_to};
 
 use super::host_error::HostError;
 use std::alloc::{AllocError, Global};

@@ -6,25 +6,21 @@ use Rattle.std.specs.List.{sum_by, All, find, AllByRecursion, AllZip}
 use Rattle.std.proofs.lemmas.List.{length-reverse, get_or-reverse, get_or-set_same, get_or-set_other}
 use Rattle.std.proofs.lemmas.List.Sorted.{IsPermutation-reverse, sum_by-IsPermutation, All-permutation}
 use Rattle.std.proofs.lemmas.List.Sums.{sum_by-le}
-use Rattle.link_base.specs.Rule.{empty_cell}
+use Rattle.link_base.specs.Words.{empty_cell}
 use Rattle.decision_rule.specs.Rule.{Rule, possible_of, mu_of, lambda_of, possible_m_of, possible_u_of, rule_mu, rule_lambda}
 use Rattle.decision_rule.specs.Exchange.{IsCell, LinksEndAt, NonlinksStartAt, cell_at}
-use Rattle.decision_rule.specs.Cut.{IsBorder, level_of}
-use Rattle.decision_rule.specs.Filled.{IsFilled, asked_of, chances_of}
-use Rattle.decision_rule.specs.Least.{sum_over}
-use Rattle.level_frontier.specs.Asked.{IsWithinAsked}
-use Rattle.patterns.specs.Chances.{m_of, u_of}
+use Rattle.decision_rule.specs.Filled.{IsBorder, level_of, IsFilled, asked_of, chances_of, sum_over}
+use Rattle.level_frontier.specs.Frontier.{IsWithinAsked, FallsTo, IsFrontierRow, IsNearLeast}
+use Rattle.patterns.specs.Patterns.{m_of, u_of}
 use Rattle.level_frontier.specs.Borders.{border_m, border_u, link_border_of, nonlink_border_of, slack_m_of, slack_u_of}
 use Rattle.link_base.specs.declared.rule.RuleCell.{RuleCell}
 use Rattle.link_base.specs.declared.shares.FieldShares.{FieldShares}
 use Rattle.decision_rule.specs.ExchangeLaws.{possible_bound_m, possible_bound_u, total, total-sum_by}
-use Rattle.decision_rule.specs.FilledLaws.{turned, positive_cells, same_chances, same_by_map, map_turned, same_length, cells_hold}
-use Rattle.decision_rule.specs.RuleLaws.{over_patterns, rule_over}
+use Rattle.decision_rule.specs.FilledLaws.{turned, positive_cells, same_chances, same_by_map, map_turned, same_length, cells_hold, over_patterns, rule_over}
 use Rattle.std.proofs.lemmas.List.Elements.{recursion_from_All, AllZip-get_or}
 use Rattle.decision_rule.specs.Walk.{CutBy, room_after}
 use Rattle.decision_rule.specs.CutLaws.{walk_from_IsCut, room_after_full, room_after_less, taken_fits, taken_bound}
-use Rattle.patterns.specs.ChanceLaws.{m_of_small, u_of_small}
-use Rattle.level_frontier.specs.Frontier.{FallsTo, IsFrontierRow, IsNearLeast}
+use Rattle.patterns.specs.PatternLaws.{m_of_small, u_of_small}
 use Rattle.level_frontier.specs.declared.levels.FrontierRow.{FrontierRow}
 
 no_sum : (f : RuleCell → ℕ) (g : RuleCell → ℕ) (cells : List RuleCell) → All (λ c. g c ≡ 0) cells → sum_by (λ c. f c * g c) cells ≡ 0

@@ -1,3 +1,2 @@
 pub mod Borders
-pub mod Asked
 pub mod Frontier

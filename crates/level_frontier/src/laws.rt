@@ -3,11 +3,10 @@ ghost use Rattle.std.specs.Prelude.{◌≡◌, ℕ, ◌+◌, ◌*◌, ◌<◌, �
 ghost use Rattle.link_limits.specs.declared.TheConstants.{WHOLE_RULE};
 ghost use Rattle.link_base.specs.declared.rule.RuleCell.{RuleCell};
 ghost use Rattle.link_base.specs.declared.shares.FieldShares.{FieldShares};
-ghost use Rattle.patterns.specs.Chances.{m_of, u_of};
+ghost use Rattle.patterns.specs.Patterns.{m_of, u_of};
 ghost use Rattle.decision_rule.specs.Rule.{Rule, possible_of, possible_m_of, possible_u_of};
-ghost use Rattle.decision_rule.specs.Filled.{IsFilled};
-ghost use Rattle.decision_rule.specs.Least.{sum_over};
-ghost use Rattle.level_frontier.specs.Asked.{IsWithinAsked};
+ghost use Rattle.decision_rule.specs.Filled.{IsFilled, sum_over};
+ghost use Rattle.level_frontier.specs.Frontier.{IsWithinAsked};
 ghost use Rattle.level_frontier.specs.Borders.{slack_m_of, slack_u_of};
 
 /// No randomised rule at the asked levels has a chance of a possible link that is lower than that of the filled table

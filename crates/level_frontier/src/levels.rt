@@ -1,6 +1,6 @@
 // The rows of the frontier.
 ghost use Rattle.std.specs.Prelude.{◌≡◌, ℕ, ◌<◌, ◌≤◌, length, slice_index, slice_index_or, vec_len, All};
-ghost use Rattle.patterns.specs.Chances.{pattern_count_of};
+ghost use Rattle.patterns.specs.Patterns.{pattern_count_of};
 
 use crate::borders::{chances, link_border, nonlink_border};
 use decision_rule::{attained, cut_rule};

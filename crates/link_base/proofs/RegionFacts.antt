@@ -3,7 +3,7 @@ use Rattle.std.proofs.Common.{◌≡◌, ◌<◌, ◌≤◌, ◌+◌, ◌-◌, �
 use Rattle.std.proofs.lemmas.List.{drop-append-le, drop-map, length-take-le, take-append-le, take-map, get_or-map, get_or_append_left, length-map, map-append, take-append-drop, take_more, length_push}
 use Rattle.std.proofs.lemmas.List.Sums.{sum_by-cons, fails_before_first}
 use Rattle.std.proofs.lemmas.Grind.{common_steps}
-use Rattle.link_base.specs.Region.{EndsAt, pieces_from, start_at}
+use Rattle.link_base.specs.Words.{EndsAt, pieces_from, start_at, AreCells, BeginsAs, IsPlaced, value_in, values_in, IsNewId, Keeps, position_among}
 use Rattle.std.specs.List.{All, list_any, position_or_len}
 use Rattle.std.proofs.Math.Seq.{take-append_seam, take-length}
 use Rattle.std.proofs.lemmas.List.Elements.{All-append, All-cons, All-drop, All-head, All-nil, All-tail, All-take}
@@ -11,12 +11,10 @@ use Rattle.link_base.specs.declared.rows.Cell.{Cell}
 use Rattle.link_base.specs.declared.rows.Cell.TheVariants as cell
 use Rattle.link_base.specs.declared.standard.Value.{Value}
 use Rattle.link_base.specs.declared.standard.Value.TheVariants as value
-use Rattle.link_base.specs.Rows.{AreCells, BeginsAs, IsPlaced, value_in, values_in}
 use Rattle.std.proofs.lemmas.Bool.{cases_Bool}
 use Rattle.std.proofs.lemmas.Bool.Decides.{nat_tests}
 use Rattle.std.proofs.lemmas.Option.{get_or_from_slice_get, slice_get_within}
 use Rattle.std.proofs.lemmas.Slice.Eq.{bytes_eq-Decides}
-use Rattle.link_base.specs.Ids.{IsNewId, Keeps, position_among}
 use Rattle.link_texts.specs.Texts.{stands_among}
 use Rattle.value_pool.proofs.PlaceLemmas.{found-place, held-turned}
 use Rattle.value_pool.proofs.SearchLemmas.{held_where}

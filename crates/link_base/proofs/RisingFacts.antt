@@ -1,26 +1,18 @@
 -- Records by their ids and their rows.
-use Rattle.std.proofs.Common.{◌≡◌, ◌+◌, ◌<◌, ◌∷◌, ◌∙◌, ℕ, zero, suc, List, [], length, get_or, not, cond, Option, Some, None, refl, sym, ap, arith, IfNone, replicate, ◌≢◌, ◌≤◌, ◌-◌, ◌==◌, ◌⊎◌, Bool, true, false, inl, inr, nat_lt, subst, eqb-true, eq-eqb, ltb-true, take, All, IsTrue, if◌then◌else◌, slice_get, ◌++◌, drop, length-drop, sum_by}
+use Rattle.std.proofs.Common.{◌≡◌, ◌+◌, ◌<◌, ◌∷◌, ◌∙◌, ℕ, zero, suc, List, [], length, get_or, not, cond, Option, Some, None, refl, sym, ap, arith, IfNone, replicate, ◌≢◌, ◌≤◌, ◌-◌, ◌==◌, ◌⊎◌, Bool, true, false, inl, inr, nat_lt, subst, eqb-true, eq-eqb, ltb-true, take, All, IsTrue, if◌then◌else◌, slice_get, ◌++◌, drop, length-drop, sum_by, bytes_eq}
 use Rattle.std.specs.List.{position_or_len}
-use Rattle.std.specs.Str.{bytes_eq}
 use Rattle.link_base.specs.declared.standard.Value.{Value}
-use Rattle.link_base.specs.IdsAlone.{ids_alone}
-use Rattle.link_base.specs.Ids.{AreDistinct, IsNewId, position_among}
-use Rattle.link_base.specs.Standard.{HaveDistinctIds, IsFreshId, position_of_id, Record, records_of}
+use Rattle.link_base.specs.Words.{ids_alone, HaveDistinctIds, IsFreshId, position_of_id, Record, records_of, BeginsAs, IsPlaced, value_in, values_in, AreDistinct, IsNewId, position_among, AreRising, comes_before, is_lesser, EndsAt, pieces_from, AreOpen, WrittenRows, with_row, with_value, written_rows}
 use Rattle.std.proofs.lemmas.Bool.{cases_Bool, false≢true}
 use Rattle.std.proofs.lemmas.Bool.Decides.{nat_tests}
 use Rattle.std.proofs.lemmas.List.{ext_get_or, get_or-take, get_or_default, length-take, take_more, drop-append-le, length_push}
 use Rattle.std.proofs.lemmas.Option.{get_or_from_slice_get, slice_get-get_or, slice_get_within}
-use Rattle.link_base.specs.RisingIds.{AreRising, comes_before, is_lesser}
 use Rattle.link_base.proofs.RegionFacts.{found_at_place, length_values, none_added, one_added, among_first, count_items, ends_push, rest_closed}
 use Rattle.link_texts.specs.Texts.{stands_among}
 use Rattle.value_pool.proofs.SearchLemmas.{held_where, none-held}
-use Rattle.value_pool.specs.Pool.{with_text}
-use Rattle.value_pool.specs.Texts.{PoolState}
+use Rattle.value_pool.specs.Pool.{with_text, PoolState}
 use Rattle.std.proofs.Math.Seq.{drop-length}
 use Rattle.link_base.specs.declared.rows.Cell.{Cell}
-use Rattle.link_base.specs.Region.{EndsAt, pieces_from}
-use Rattle.link_base.specs.Rows.{BeginsAs, IsPlaced, value_in, values_in}
-use Rattle.link_base.specs.RowsWriter.{AreOpen, WrittenRows, with_row, with_value, written_rows}
 
 abbrev Rows : Type 0
 Rows = List (List Value)

@@ -2,13 +2,11 @@ pub mod Answers
 pub mod AnswerLaws
 pub mod Fault
 pub mod Pieces
-pub mod Ids
-pub mod IdsAlone
 pub mod Region
-pub mod RisingIds
-pub mod Rows
+pub mod Ids
 pub mod RowsWriter
 pub mod Rule
 pub mod Shares
 pub mod Standard
 pub mod Tables
+pub mod Words

@@ -2,7 +2,7 @@
 -- `with_row`), and, as its machinery, how its cells stand.
 use Rattle.std.specs.Prelude.{◌≤◌, ℕ, List, [], ◌∷◌, ◌++◌, drop, length}
 use Rattle.link_base.specs.Region.{EndsAt, pieces_from}
-use Rattle.link_base.specs.Rows.{AreCells, values_in}
+use Rattle.link_base.specs.Standard.{AreCells, values_in}
 use Rattle.link_base.specs.declared.rows.Cell.{Cell}
 use Rattle.link_base.specs.declared.standard.Value.{Value}
 

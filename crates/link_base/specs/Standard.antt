@@ -1,9 +1,12 @@
 -- Standard values, records and files: what `StdFile` is seen as (`of`; `find`, clauses `position` and
 -- `fresh`; `distinct_ids`).
-use Rattle.std.specs.Prelude.{◌≢◌, ℕ, List, [], ◌∷◌, All, AllPairs, map, position, bytes_eq, slice_index_or, Option, ⊤, ℤ, pos, negsuc, ◌≤ℤ◌}
-use Rattle.std.specs.Str.{IsUtf8}
+use Rattle.std.specs.Prelude.{◌≢◌, ℕ, List, [], ◌∷◌, All, AllPairs, map, position, bytes_eq, slice_index_or, Option, ⊤, ℤ, pos, negsuc, ◌≤ℤ◌, ◌≡◌, ◌≤◌, ◌<◌, length, take, IsUtf8}
 use Rattle.link_base.specs.declared.standard.Value.{Value}
+use Rattle.link_base.specs.declared.row.ValueRef.{ValueRef}
+use Rattle.link_base.specs.declared.rows.Cell.{Cell}
 use Rattle.link_base.specs.declared.standard.Value.TheVariants as value
+use Rattle.link_base.specs.declared.row.ValueRef.TheVariants as here
+use Rattle.link_base.specs.declared.rows.Cell.TheVariants as cell
 
 -- a record: its id, and its value in each field
 pub record Record : Type 0 where
@@ -53,3 +56,45 @@ abbrev pub IsValid : Value → Type 0
 IsValid value.Absent = ⊤
 IsValid (value.Word text) = IsUtf8 text
 IsValid (value.Day day) = IsDay day
+
+-- Files of which only the ids are left (`StdFile::ids_alone`, its lone clause).
+
+-- a record without its values
+abbrev pub id_alone : Record → Record
+id_alone r = record { id = r.id; row = [] }
+
+-- records without their values
+abbrev pub ids_alone : List Record → List Record
+ids_alone records = map id_alone records
+
+-- Values of records where they stand: the value that a `ValueRef` is (`Row::value`, `Value::as_ref`), and, as machinery of
+-- `StdRows` and `Row`, the values of cells.
+
+-- the value that stands there
+abbrev pub value_seen : ValueRef → Value
+value_seen here.Absent = value.Absent
+value_seen (here.Word text) = value.Word text.now
+value_seen (here.Day day) = value.Day day
+
+-- the value of a cell, where these are the words, and the values of cells
+abbrev pub value_in : List (List ℕ) → Cell → Value
+value_in words cell.Absent = value.Absent
+value_in words (cell.Word at) = value.Word (slice_index_or words at [])
+value_in words (cell.Day day) = value.Day day
+
+abbrev pub values_in : List (List ℕ) → List Cell → List Value
+values_in words cells = map (value_in words) cells
+
+-- a cell's word is one of so many
+abbrev pub IsPlaced : ℕ → Cell → Type 0
+IsPlaced count (cell.Word at) = at < count
+IsPlaced count c = ⊤
+
+-- cells whose words are among these, with no more words than cells
+pub record AreCells (words : List (List ℕ)) (cells : List Cell) : Type 0 where
+  pub placed : All (IsPlaced (length words)) cells
+  pub few : length words ≤ length cells
+
+-- a list that is longer than before, or as it was
+abbrev pub BeginsAs : {T : Type 0} → List T → List T → Type 0
+BeginsAs old new = take (length old) new ≡ old

@@ -1,7 +1,6 @@
 // Distinct ids with their places.
 ghost use Rattle.std.specs.Prelude.{◌≡◌, ◌<◌, ◌^◌, [], length, IfNone, IfOk, IfSome, None, OnErr, slice_index_or};
-ghost use Rattle.link_base.specs.Ids.{AreDistinct, IsNewId, Keeps, position_among};
-ghost use Rattle.link_base.specs.RisingIds.{AreRising, KeepsIds, ids_in};
+ghost use Rattle.link_base.specs.Ids.{AreDistinct, IsNewId, Keeps, position_among, AreRising, KeepsIds, ids_in};
 
 use crate::region::TextRegion;
 use crate::rising_ids::{USUAL_BYTES, comes_last, find_rising, pooled, rising_are_distinct};
@@ -22,7 +21,7 @@ pub struct IdSet {
 
 impl Model for IdSet {
     ghost use Rattle.std.specs.Prelude.{ℕ, List};
-    ghost use Rattle.link_base.specs.RisingIds.{KeepsIds, ids_in};
+    ghost use Rattle.link_base.specs.Ids.{KeepsIds, ids_in};
 
     ghost Value = { List (List ℕ) };
 

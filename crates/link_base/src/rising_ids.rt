@@ -1,7 +1,6 @@
 // Ids that rise, of which each comes after the one before it.
 ghost use Rattle.std.specs.Prelude.{◌≡◌, ◌<◌, All, IfNone, IfOk, IfSome, IsTrue, OnOk, length};
-ghost use Rattle.link_base.specs.Ids.{AreDistinct, IsNewId, position_among};
-ghost use Rattle.link_base.specs.RisingIds.{AreRising, comes_before, is_lesser};
+ghost use Rattle.link_base.specs.Ids.{AreDistinct, IsNewId, position_among, AreRising, comes_before, is_lesser};
 ghost use Rattle.link_limits.specs.declared.TheConstants.{MOST_POOL_LIMIT};
 ghost use Rattle.value_pool.specs.Pool.{with_text};
 

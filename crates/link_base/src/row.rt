@@ -1,7 +1,6 @@
 // The values of a record, where they stand.
 ghost use Rattle.std.specs.Prelude.{◌≡◌, ◌<◌, All, length, slice_index_or};
-ghost use Rattle.link_base.specs.Rows.{IsPlaced, value_in, value_seen, values_in};
-ghost use Rattle.link_base.specs.Standard.{absent_value};
+ghost use Rattle.link_base.specs.Standard.{IsPlaced, value_in, value_seen, values_in, absent_value};
 
 use crate::region::TextRegion;
 use crate::rows::Cell;
@@ -41,7 +40,7 @@ pub struct Row<'a> {
 
 impl<'a> Model for Row<'a> {
     ghost use Rattle.std.specs.Prelude.{All, length, List};
-    ghost use Rattle.link_base.specs.Rows.{IsPlaced, values_in};
+    ghost use Rattle.link_base.specs.Standard.{IsPlaced, values_in};
     ghost use Rattle.link_base.specs.declared.standard.Value.{Value as FieldValue};
 
     ghost Value = { List FieldValue };

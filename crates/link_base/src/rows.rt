@@ -1,7 +1,7 @@
 // The values of records, row by row.
 ghost use Rattle.std.specs.Prelude.{◌≡◌, ◌<◌, [], IfOk, length, replicate, slice_index_or};
 ghost use Rattle.link_base.specs.Region.{EndsAt, pieces_from};
-ghost use Rattle.link_base.specs.Rows.{AreCells, values_in};
+ghost use Rattle.link_base.specs.Standard.{AreCells, values_in};
 
 use crate::region::{TextRegion, piece_in};
 use crate::row::Row;
@@ -31,7 +31,7 @@ pub struct StdRows {
 impl Model for StdRows {
     ghost use Rattle.std.specs.Prelude.{List, length};
     ghost use Rattle.link_base.specs.Region.{EndsAt, pieces_from};
-    ghost use Rattle.link_base.specs.Rows.{AreCells, values_in};
+    ghost use Rattle.link_base.specs.Standard.{AreCells, values_in};
     ghost use Rattle.link_base.specs.declared.standard.Value.{Value as FieldValue};
 
     ghost Value = { List (List FieldValue) };

@@ -1,6 +1,6 @@
 // Rows that are being made, value by value.
 ghost use Rattle.std.specs.Prelude.{◌≡◌, ◌+◌, ◌^◌, ◌≤◌, ◌<◌, [], IfOk, IfSome, OnErr, OnOk, length, slice_index_or, sum_by};
-ghost use Rattle.link_base.specs.Rows.{BeginsAs, IsPlaced, value_in};
+ghost use Rattle.link_base.specs.Standard.{BeginsAs, IsPlaced, value_in};
 ghost use Rattle.link_base.specs.RowsWriter.{no_rows, with_row, with_value};
 ghost use Rattle.link_base.specs.declared.standard.Value.TheVariants as value;
 

@@ -1,7 +1,6 @@
 // Standard values, rows and files.
 ghost use Rattle.std.specs.Prelude.{◌≡◌, ◌<◌, IfNone, IfOk, IfSome, length, slice_index_or};
-ghost use Rattle.link_base.specs.IdsAlone.{ids_alone};
-ghost use Rattle.link_base.specs.Standard.{HaveDistinctIds, IsFreshId, no_record, position_of_id, records_of};
+ghost use Rattle.link_base.specs.Standard.{ids_alone, HaveDistinctIds, IsFreshId, no_record, position_of_id, records_of};
 
 use crate::ids::IdSet;
 use crate::row::Row;

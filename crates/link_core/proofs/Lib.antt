@@ -1,3 +1,2 @@
 pub mod StepLemmas
-pub mod RuleLemmas
 pub mod ResultLemmas

@@ -1,52 +1,245 @@
 -- What the steps of a run give, over the prepared files of a plan.
-use Rattle.std.proofs.Common.{◌≡◌, ◌<◌, ◌∙◌, ℕ, List, length, Result, Ok, Err, ap, arith, refl, subst, sym, filter, All, Contains, IfOk, not, ◌++◌, ◌∷◌, [], suc, Bool, Option, Some, None, ℤ, map, get_or}
-use Rattle.std.proofs.lemmas.List.Elements.{All-contains, All-filter, All-map, All-weaker, All-push}
-use Rattle.price_check.specs.Assignment.{Certifies, IsGreatest, IsWithin}
-use Rattle.candidate_links.specs.PassLaws.{not_more}
-use Rattle.candidate_links.specs.Candidates.{AreCandidates, candidates_of}
-use Rattle.candidate_links.specs.Choice.{dropped, dropped_of, is_chosen, IsChoice}
-use Rattle.candidate_links.specs.declared.choice.ChosenLinks.{ChosenLinks}
-use Rattle.comparators.specs.declared.ids.IdValue.{IdValue}
-use Rattle.link_base.specs.IdsAlone.{ids_alone}
-use Rattle.link_base.specs.Standard.{Record, absent_value, no_record}
-use Rattle.link_base.specs.declared.rule.Candidate.{Candidate}
+use Rattle.std.proofs.Common.{◌≡◌, ◌≤◌, ◌<◌, ◌+◌, ◌∷◌, ◌++◌, ◌∙◌, ℕ, zero, suc, List, [], Ok, Err, length, map, filter, drop, get_or, refl, sym, ap, append_assoc, arith, Some, slice_get, Bool, take, Result, subst, IfOk, slice_index, ℤ, true, false, if◌then◌else◌, codes, decimal, Contains, not, Option, None}
+use Rattle.std.proofs.lemmas.List.{append-nil, drop_all, drop_more, length-append, length-map, get_or_default, get_or-map}
 use Rattle.link_base.specs.declared.rule.PairAt.{PairAt}
-use Rattle.link_report.specs.LinksText.{text_of_links}
-use Rattle.link_report.specs.PairsText.{text_of_pairs}
-use Rattle.link_report.specs.PricesText.{text_of_prices}
-use Rattle.link_report.specs.ReportText.{text_of_report}
+use Rattle.link_limits.specs.declared.TheConstants.{MOST_PAIRS, MOST_FIELD_BYTES}
+use Rattle.pair_decisions.specs.Words.{past_limit, within_limit, sides_of_fields, pairs_within, rares_of, AreSidesOf, plain_all, comparators_of, StandForFile, AreDecisionsOn, DecidedView, shown_rows, side_rule, pattern_over, pattern_of_pair}
+use Rattle.std.proofs.lemmas.List.Elements.{filter-append, All-contains, All-filter, All-map, All-weaker, All-push}
+use Rattle.pair_walk.specs.Rows.{pair, pairs_of_row, product_from, same_text}
+use Rattle.pair_walk.specs.PairLaws.{row-pairs}
+use Rattle.link_core.specs.Pairs.{column_pairs, is_column_pair, first_field, present, matched_rows, pairs_from, rows_with_field, compared_field}
+use Rattle.std.specs.List.{All, range_with_len, concat, flat_map}
+use Rattle.std.proofs.lemmas.Option.{slice_get-get_or}
+use Rattle.block_passes.specs.Keys.{rows_with_number}
+use Rattle.block_passes.specs.Numbering.{AreNumbered, AreNumbers, KeepNumbers, no_number, number_among}
+use Rattle.block_passes.specs.NumberingLaws.{numbered-rows, place-within}
+use Rattle.file_reader.specs.Words.{no_row, TableRow, HasTexts}
+use Rattle.value_pool.specs.Pool.{with_text, PoolState, place_among}
+use Rattle.value_pool.proofs.PlaceLemmas.{at-place, held-turned}
+use Rattle.std.proofs.Math.Seq.{take-append_seam}
+use Rattle.link_base.specs.Words.{Record, id_at, id_alone, ids_alone, absent_value, no_record, and_then, IsAnswer, Refuses}
+use Rattle.link_base.specs.declared.rule.RuleCell.{RuleCell}
+use Rattle.link_base.specs.declared.shares.FieldShares.{FieldShares}
+use Rattle.comparators.specs.declared.ids.IdValue.{IdValue}
+use Rattle.decision_rule.specs.Filled.{IsFilled, IsLeast}
+use Rattle.level_frontier.specs.Frontier.{FallsTo, IsFrontierRow, IsNearLeast}
+use Rattle.level_frontier.specs.declared.levels.FrontierRow.{FrontierRow}
+use Rattle.link_report.specs.LinksText.{text_of_frontier, text_of_rule, outcome_letters, links_header, source_of_link, text_of_links, is_priced, price_row, price_rows, prices_header, text_of_prices}
+use Rattle.patterns.specs.Patterns.{rare_in}
+use Rattle.link_plan.specs.Plan.{FieldKeys, PlainShares}
+use Rattle.link_plan.specs.declared.plan.Plan.{Plan}
+use Rattle.standard_files.specs.Ready.{AreFileSides}
+use Rattle.link_core.specs.Rules.{IsFrontierText, IsRuleText, shared_rares, IsDecidedIn, rule_in, IsPreparedFor}
+use Rattle.std.specs.Fmt.{signed_decimal}
+use Rattle.csv.specs.Writing.{default_writer, row_text}
+use Rattle.link_base.specs.declared.rule.Candidate.{Candidate}
+use Rattle.link_report.specs.PairsText.{decision_word, pairs_header, printed_verdict, text_of_pairs}
+use Rattle.link_report.specs.ReportText.{cause_of_drop, level_lines, line, link_lines, pair_lines, text_of_report}
+use Rattle.link_report.specs.declared.open.PairRow.{PairRow}
 use Rattle.link_report.specs.declared.report.Dropped.{Dropped}
 use Rattle.link_report.specs.declared.report.Report.{Report}
-use Rattle.pair_decisions.specs.Comparators.{rares_of, comparators_of}
-use Rattle.pair_decisions.specs.Decisions.{AreDecisionsOn, DecidedView}
-use Rattle.pair_decisions.specs.PairRows.{shown_rows}
-use Rattle.pair_decisions.specs.PairRule.{side_rule, pattern_over}
+use Rattle.price_check.specs.Assignment.{Certifies, IsGreatest, IsWithin}
+use Rattle.candidate_links.specs.PassLaws.{not_more}
+use Rattle.candidate_links.specs.Candidates.{AreCandidates, candidates_of, dropped, dropped_of, is_chosen, IsChoice}
+use Rattle.candidate_links.specs.declared.choice.ChosenLinks.{ChosenLinks}
 use Rattle.review_journal.specs.declared.entry.Entry.{Entry}
-use Rattle.link_plan.specs.declared.plan.Plan.{Plan}
-use Rattle.link_core.specs.Decisions.{IsDecidedIn, rule_in}
 use Rattle.link_core.specs.Prepared.{PreparedView, kinds_of}
 use Rattle.link_core.specs.Results.{AreRunTexts, AreTextsBy, candidates_in, compared_in, IsBegun, IsDecidedFor, IsPlaced, KeepsRows, pair_rows_in, RunTexts, with_links}
-use Rattle.link_core.proofs.RuleLemmas.{length_alone, links_stay, pairs_stay, prices_stay, report_stays}
-use Rattle.link_base.specs.Answers.{and_then}
-use Rattle.link_base.specs.Fault.{IsAnswer, Refuses}
 use Rattle.link_base.specs.declared.fault.Fault.{Fault}
-use Rattle.review_journal.specs.Adding.{added, batch_fault, entry_after, ok_unless, with_verdicts}
-use Rattle.review_journal.specs.Journal.{IsWithinFiles}
+use Rattle.review_journal.specs.Batch.{added, batch_fault, entry_after, ok_unless, with_verdicts, NamesRecords}
+use Rattle.review_journal.specs.Verdict.{IsWithinFiles}
 use Rattle.review_journal.specs.declared.batch.NewVerdict.{NewVerdict}
-use Rattle.review_journal.specs.Batch.{NamesRecords}
-use Rattle.std.proofs.lemmas.List.{get_or-map, length-map}
-use Rattle.comparators.specs.OfPool.{StandsFor}
-use Rattle.comparators.specs.declared.ids.IdValue.TheVariants as id
+use Rattle.comparators.specs.Fields.{StandsFor}
 use Rattle.value_forms.specs.Canons.{exact}
 use Rattle.value_forms.specs.declared.canons.CompareKind.{CompareKind}
-use Rattle.link_plan.specs.Plan.{FieldKeys}
 use Rattle.link_plan.specs.Ranges.{KeepsRanges}
 use Rattle.standard_files.specs.Files.{AreOfPlan}
-use Rattle.standard_files.specs.Ready.{AreFileSides}
-use Rattle.pair_decisions.specs.FieldComparators.{pattern_of_pair}
-use Rattle.pair_decisions.specs.RareValues.{StandForFile}
 use Rattle.link_core.proofs.StepLemmas.{plan_rows}
-use Rattle.link_core.specs.Rules.{IsPreparedFor}
+use Rattle.link_base.specs.declared.fault.Fault.TheVariants as fault
+use Rattle.comparators.specs.declared.ids.IdValue.TheVariants as id
+
+-- The rows with the same field, listed pair by pair, are the pairs of the column.
+
+pairs_on : (a b : List (List ℕ)) (at : ℕ) (fields : List (List ℕ)) → ((k : ℕ) → get_or a (at + k) [] ≡ get_or fields k [])
+    → pairs_from at (matched_rows fields b) ≡ filter (is_column_pair a b) (product_from (length b) at (length fields))
+pairs_on a b at [] are = refl
+pairs_on a b at (field ∷ fields) are =
+    let p = is_column_pair a b in
+    let later : (k : ℕ) → get_or a ((at + 1) + k) [] ≡ get_or fields k [] = λ k. let next : (at + 1) + k ≡ at + suc k = omega arith in ap (λ n. get_or a n []) next ∙ are (suc k) in
+    let first : get_or a at [] ≡ field = let start : at ≡ at + 0 = omega arith in ap (λ n. get_or a n []) start ∙ are zero in
+    let here : map (pair at) (rows_with_field b field) ≡ filter p (pairs_of_row at 0 (length b)) =
+    ap (λ f. map (pair at) (rows_with_field b f)) (sym first) ∙ row-pairs p at 0 (length b) in
+    ap (λ ps. ps ++ pairs_from (at + 1) (matched_rows fields b)) here
+    ∙ ap (λ ps. filter p (pairs_of_row at 0 (length b)) ++ ps) (pairs_on a b (at + 1) fields later)
+    ∙ sym (filter-append p (pairs_of_row at 0 (length b)) (product_from (length b) (at + 1) (length fields)))
+
+-- the pairs of the matched rows are those with the same field
+pub columns_paired : (a b : List (List ℕ)) → pairs_from 0 (matched_rows a b) ≡ column_pairs a b
+columns_paired a b = pairs_on a b 0 a (λ k. let same : 0 + k ≡ k = omega arith in ap (λ n. get_or a n []) same)
+
+-- the pairs of a row, and those of the rows after it
+rows_from : (rows : List (List ℕ)) (at : ℕ) (bs : List ℕ) → at < length rows → bs ≡ get_or rows at [] → pairs_from at (drop at rows) ≡ map (pair at) bs ++ pairs_from (at + 1) (drop (at + 1) rows)
+rows_from rows at bs lt is = ap (pairs_from at) (drop_more rows at [] lt) ∙ ap (λ row. map (pair at) row ++ pairs_from (at + 1) (drop (at + 1) rows)) (sym is)
+
+-- one row more of the pairs that are told
+pub row_told : (rows : List (List ℕ)) (at : ℕ) (bs : List ℕ) (old new : List PairAt) → at < length rows → bs ≡ get_or rows at [] → new ≡ old ++ map (pair at) bs
+    → old ++ pairs_from at (drop at rows) ≡ pairs_from 0 rows → new ++ pairs_from (at + 1) (drop (at + 1) rows) ≡ pairs_from 0 rows
+row_told rows at bs old new lt is kept told =
+    let rest = pairs_from (at + 1) (drop (at + 1) rows) in
+    ap (λ ps. ps ++ rest) kept ∙ append_assoc old (map (pair at) bs) rest ∙ ap (λ ps. old ++ ps) (sym (rows_from rows at bs lt is)) ∙ told
+
+-- all rows are told
+pub all_told : (rows : List (List ℕ)) (at : ℕ) (pairs : List PairAt) → length rows ≤ at → length pairs ≤ MOST_PAIRS
+    → pairs ++ pairs_from at (drop at rows) ≡ pairs_from 0 rows → pairs_within (pairs_from 0 rows) ≡ Ok pairs
+all_told rows at pairs past few told =
+    let all : pairs ≡ pairs_from 0 rows = sym (append-nil pairs) ∙ ap (λ rest. pairs ++ pairs_from at rest) (sym (drop_all at rows past)) ∙ told in
+    ap pairs_within (sym all) ∙ within_limit pairs few
+
+-- with the next row the pairs are too many
+pub too_many_told : (rows : List (List ℕ)) (at : ℕ) (bs : List ℕ) (pairs : List PairAt) → at < length rows → bs ≡ get_or rows at [] → MOST_PAIRS < length pairs + length bs
+    → pairs ++ pairs_from at (drop at rows) ≡ pairs_from 0 rows → pairs_within (pairs_from 0 rows) ≡ Err (fault.TooManyPairs MOST_PAIRS)
+too_many_told rows at bs pairs lt is many told =
+    let row = map (pair at) bs in
+    let rest = pairs_from (at + 1) (drop (at + 1) rows) in
+    let both = ap length (sym told) ∙ ap (λ ps. length (pairs ++ ps)) (rows_from rows at bs lt is) in
+    past_limit (pairs_from 0 rows) (omega (arith, many, both, length-append pairs (row ++ rest), length-append row rest, length-map bs (pair at)))
+
+-- The number of a field that is taken is the place of its text, and texts that are taken keep their numbers.
+
+pub present_is : (field : List ℕ) → (length field ≡ 0 → ⊥) → present field ≡ Some field
+present_is [] some = absurd (some refl)
+present_is (byte ∷ bytes) some = refl
+
+-- a text that is taken stands among the others
+pub taken_within : (old : PoolState) (new : List (List ℕ)) (text : List ℕ) → new ≡ with_text old text → place_among new text < length new
+taken_within old new text is = rw (is, held-turned text old.texts) (place-within old.texts text)
+
+-- at the place that it was given
+pub taken_place : (old : PoolState) (new : List (List ℕ)) (text : List ℕ) (id : ℕ) → new ≡ with_text old text
+    → ((a b : ℕ) → a < length new → slice_get new a ≡ slice_get new b → a ≡ b) → slice_get new id ≡ Some text → id ≡ place_among new text
+taken_place old new text id is same found =
+    let within = taken_within old new text is in
+    let reads : slice_get new (place_among new text) ≡ Some text = slice_get-get_or new (place_among new text) [] within ∙ ap Some (sym (at-place new text within)) in
+    sym (same (place_among new text) id within (reads ∙ sym found))
+
+pub kept_on : (old mid new : List (List ℕ)) → KeepNumbers old mid → KeepNumbers mid new → KeepNumbers old new
+kept_on old mid new first second code h =
+    let one = first code h in
+    let two = second code one.1 in
+    (two.0 ∙ one.0, two.1)
+
+-- a field of a table keeps the limit
+pub field_short : (rows : List TableRow) (at : ℕ) → HasTexts rows → All (λ (r : TableRow). length r.fields ≡ 1) rows → at < length rows → length (first_field (get_or rows at no_row)) ≤ MOST_FIELD_BYTES
+field_short rows at texts width lt =
+    let one = width at no_row lt in
+    let text = (texts at no_row lt).fields 0 [] (omega (arith, one)) in
+    text.short
+
+mapped_both : (f : ℕ → List ℕ) (g : List ℕ → List ℕ) (numbers : List ℕ) (fields : List (List ℕ)) → length numbers ≡ length fields
+    → ((j : ℕ) → j < length fields → f (get_or numbers j 0) ≡ g (get_or fields j [])) → map f numbers ≡ map g fields
+mapped_both f g [] [] len same = refl
+mapped_both f g [] (field ∷ fields) len same = absurd (omega (arith, len))
+mapped_both f g (n ∷ numbers) [] len same = absurd (omega (arith, len))
+mapped_both f g (n ∷ numbers) (field ∷ fields) len same =
+    let rest = mapped_both f g numbers fields (omega (arith, len)) (λ j lt. same (suc j) (omega (arith, lt))) in
+    rw (same zero (omega arith), rest) refl
+
+-- the rows of B with the number of a field of A are those with the field
+pub rows_matched : (mid texts : List (List ℕ)) (a b : List TableRow) (numbers_a numbers_b : List ℕ) → length texts ≤ no_number
+    → AreNumbers mid (compared_field (map first_field a)) (length a) numbers_a → AreNumbered mid (compared_field (map first_field a)) (length a) → KeepNumbers mid texts
+    → AreNumbers texts (compared_field (map first_field b)) (length b) numbers_b → AreNumbered texts (compared_field (map first_field b)) (length b)
+    → map (rows_with_number numbers_b (length texts)) numbers_a ≡ matched_rows (map first_field a) (map first_field b)
+rows_matched mid texts a b numbers_a numbers_b few told_a known_a kept told_b known_b =
+    let fields_a = map first_field a in
+    let fields_b = map first_field b in
+    let wide_a : length fields_a ≡ length a = length-map a first_field in
+    let wide_b : length fields_b ≡ length b = length-map b first_field in
+    let number : (j : ℕ) → j < length a → get_or numbers_a j 0 ≡ number_among texts (compared_field fields_a j) = λ j lt. told_a.1 j lt ∙ sym (kept (compared_field fields_a j) (known_a j lt)).0 in
+    mapped_both (rows_with_number numbers_b (length texts)) (rows_with_field fields_b) numbers_a fields_a (told_a.0 ∙ sym wide_a)
+    (λ j lt.
+    ap (rows_with_number numbers_b (length texts)) (number j (omega (arith, lt, wide_a)))
+    ∙ numbered-rows texts few numbers_b (compared_field fields_b) (length b) told_b.0 told_b.1 known_b (compared_field fields_a j)
+    ∙ ap (λ count. filter (λ k. same_text (compared_field fields_a j) (compared_field fields_b k)) (range_with_len 0 count)) (sym wide_b))
+
+-- The sides of prepared files are those that the comparators of a plan take.
+
+-- the sides of all rows of a file
+pub sides_of_plan : (texts : List (List ℕ)) (n : ℕ) (fields : List FieldKeys) (file : List Record) (rows : List (List IdValue)) → n ≡ length texts → AreFileSides texts (map (λ (f : FieldKeys). f.compare) fields) file rows → All (AreSidesOf n fields) rows
+sides_of_plan texts n fields file rows many h k d within =
+    let P : ℕ → Type 0 = λ m. AreSidesOf m fields (get_or rows k d) in
+    let Q : List IdValue → Type 0 = λ sides. AreSidesOf (length texts) fields sides in
+    let row = h.of_row k (omega (arith, h.as_many)) in
+    subst P (sym many) (subst Q (get_or_default rows k [] d within) (sides_of_fields texts fields _ (get_or rows k []) row.as_many row.stand row.valid))
+
+-- what is seen of shares tells in which fields a rare value is an outcome
+pub rares_seen : (all : List FieldShares) → shared_rares (plain_all all) ≡ rare_in all
+rares_seen [] = refl
+rares_seen (s ∷ all) = ap (λ rares. s.rare ∷ rares) (rares_seen all)
+
+-- a text of these cells is the text of the plan's rule
+pub rule_text_is : {E : Type 0} (result : Result (List ℕ) E) (plan : Plan) (shares : List PlainShares) (by_shares : List FieldShares) (cells : List RuleCell) (rares : List Bool)
+    → plain_all by_shares ≡ shares → IsFilled by_shares plan.terms.mu_ppm plan.terms.lambda_ppm cells → IsLeast by_shares cells → rares ≡ rares_of plan.fields
+    → IfOk result (λ text. text ≡ text_of_rule rares cells) → IfOk result (IsRuleText plan shares)
+rule_text_is (Ok text) plan shares by_shares cells rares same filled least flags told =
+    record { cells = cells; rule = record { by_shares = by_shares; same = same; filled = filled }; least = least; lines = told ∙ ap (λ rs. text_of_rule rs cells) flags }
+rule_text_is (Err e) plan shares by_shares cells rares same filled least flags told = tt
+
+-- a slice of all of a vector, written back
+pub written_whole : {X : Type 0} (xs ys : List X) (n : ℕ) → n ≡ length xs → take n (xs ++ ys) ≡ xs
+written_whole xs ys n e = rw e (take-append_seam xs ys)
+
+-- a text of these rows is the text of the plan's frontier
+pub frontier_text_is : {E : Type 0} (result : Result (List ℕ) E) (plan : Plan) (shares : List PlainShares) (by_shares : List FieldShares) (mus : List ℕ) (rows written : List FrontierRow)
+    → plain_all by_shares ≡ shares → length rows ≡ length mus → written ≡ rows
+    → ((k : ℕ) (d : FrontierRow) → k < length mus → IsFrontierRow by_shares (slice_index mus k) plan.terms.lambda_ppm (get_or rows k d))
+    → ((j k : ℕ) (d : FrontierRow) → j < length mus → k < length mus → slice_index mus j ≤ slice_index mus k → FallsTo (get_or rows j d) (get_or rows k d))
+    → ((k : ℕ) (d : FrontierRow) → k < length mus → IsNearLeast by_shares (slice_index mus k) plan.terms.lambda_ppm (get_or rows k d))
+    → IfOk result (λ text. text ≡ text_of_frontier mus written) → IfOk result (IsFrontierText plan shares mus)
+frontier_text_is (Ok text) plan shares by_shares mus rows written same many is each falling near told =
+    record { by_shares = by_shares; same = same; rows = rows; as_many = many; each = each; falling = falling; near_least = near; lines = told ∙ ap (λ rs. text_of_frontier mus rs) is }
+frontier_text_is (Err e) plan shares by_shares mus rows written same many is each falling near told = tt
+
+-- The texts of a run read no more of records than their ids.
+
+pub length_alone : (records : List Record) → length (ids_alone records) ≡ length records
+length_alone records = length-map records id_alone
+
+id_stays : (records : List Record) (at : ℕ) → id_at (ids_alone records) at ≡ id_at records at
+id_stays [] at = refl
+id_stays (r ∷ rest) zero = refl
+id_stays (r ∷ rest) (suc at) = id_stays rest at
+
+pub pairs_stay : (rares : List Bool) (a b : List Record) (rows : List PairRow) → text_of_pairs rares (ids_alone a) (ids_alone b) rows ≡ text_of_pairs rares a b rows
+pairs_stay rares a b rows i =
+    row_text default_writer pairs_header
+    ++ flat_map (λ (row : PairRow). row_text default_writer (id_stays a row.at.a i ∷ id_stays b row.at.b i ∷ decimal row.pattern ∷ outcome_letters rares row.pattern
+    ∷ signed_decimal row.weight ∷ decision_word row.decision ∷ printed_verdict row.verdict ∷ [])) rows
+
+pub links_stay : (a b : List Record) (links : List Candidate) → text_of_links (ids_alone a) (ids_alone b) links ≡ text_of_links a b links
+links_stay a b links i =
+    row_text default_writer links_header
+    ++ flat_map (λ (link : Candidate). row_text default_writer (id_stays a link.a i ∷ id_stays b link.b i ∷ signed_decimal link.weight ∷ signed_decimal link.value
+    ∷ source_of_link link.reviewed ∷ [])) links
+
+row_stays : (side : List ℕ) (told : Bool) (p q : ℤ × Record) (xs ys : List (ℤ × Record)) → price_row side p ≡ price_row side q → flat_map (price_row side) xs ≡ flat_map (price_row side) ys
+    → flat_map (price_row side) (if told then p ∷ xs else xs) ≡ flat_map (price_row side) (if told then q ∷ ys else ys)
+row_stays side true p q xs ys same rest i = same i ++ rest i
+row_stays side false p q xs ys same rest i = rest i
+
+rows_stay : (side : List ℕ) (prices : List ℤ) (file : List Record) → price_rows side prices (ids_alone file) ≡ price_rows side prices file
+rows_stay side [] file = refl
+rows_stay side (price ∷ prices) [] = refl
+rows_stay side (price ∷ prices) (r ∷ file) = row_stays side (is_priced (price, r)) (price, id_alone r) (price, r) _ _ refl (rows_stay side prices file)
+
+pub prices_stay : (prices_a prices_b : List ℤ) (a b : List Record) → text_of_prices prices_a prices_b (ids_alone a) (ids_alone b) ≡ text_of_prices prices_a prices_b a b
+prices_stay prices_a prices_b a b i =
+    row_text default_writer prices_header ++ (rows_stay (codes "A") prices_a a i ++ rows_stay (codes "B") prices_b b i)
+
+pub report_stays : (a b : List Record) (r : Report) → text_of_report (ids_alone a) (ids_alone b) r ≡ text_of_report a b r
+report_stays a b r i =
+    concat ((line (codes "rows") (decimal (length_alone a i) ∷ decimal (length_alone b i) ∷ [])
+    ∷ line (codes "unreadable") (decimal r.unreadable_a ∷ decimal r.unreadable_b ∷ []) ∷ []) ++ pair_lines r ++ level_lines r.levels ++ link_lines r)
+    ++ flat_map (λ (d : Dropped). row_text default_writer (id_stays a d.at.a i ∷ id_stays b d.at.b i ∷ cause_of_drop d.conflict ∷ [])) r.dropped.items
 
 pub if_ok : {T E : Type 0} (P Q : T → Type 0) (r : Result T E) → ((x : T) → P x → Q x) → IfOk r P → IfOk r Q
 if_ok P Q (Ok x) h p = h x p

@@ -1,50 +1,34 @@
 -- The blocks of prepared files hold their compared pairs, which lie in both files and rise.
-use Rattle.std.proofs.Common.{◌≡◌, ◌∙◌, ℕ, List, length, ap, subst, All, AllPairs, ◌+◌, ◌<◌, ◌≤◌, ◌++◌, ◌∷◌, [], Bool, true, false, filter, map, take, drop, get_or, append_assoc, append-nil, sym, refl, zero, suc, arith, Result, Ok, Err, IfOk}
-use Rattle.link_base.specs.Rule.{IsPairBefore}
-use Rattle.pair_decisions.specs.PairLaws.{compared_inside, compared_rise}
-use Rattle.pair_decisions.specs.Pairs.{IsInside, pairs_within}
-use Rattle.pair_walk.specs.PairLaws.{all-pairs}
-use Rattle.pair_walk.specs.Pairs.{pairs_of_rows, pair}
-use Rattle.pair_walk.specs.Rows.{RowAt, all_rows, AreAllReady}
+use Rattle.std.proofs.Common.{◌≡◌, ◌∙◌, ℕ, List, length, ap, subst, All, AllPairs, ◌+◌, ◌<◌, ◌≤◌, ◌++◌, ◌∷◌, [], Bool, true, false, filter, map, take, drop, get_or, append_assoc, append-nil, sym, refl, zero, suc, arith, Result, Ok, Err, IfOk, flat_map}
+use Rattle.link_base.specs.Words.{IsPairBefore, absent_value, IsValid, no_record, Record, and_then, Gives, Refuses, refuses_then}
+use Rattle.pair_decisions.specs.Words.{compared_inside, compared_rise, IsInside, pairs_within, DecidedView, pairs_with, AreRowsIn, decided_rows, IsDecidedOn, kept_rows, AreCellsOf, AreSidesFor, FileRule, PairRuleView, side_rule, rares_of, IsRuleOf}
+use Rattle.pair_walk.specs.PairLaws.{all-pairs, pair_holds}
+use Rattle.pair_walk.specs.Rows.{pairs_of_rows, pair, RowAt, all_rows, AreAllReady}
 use Rattle.link_plan.specs.declared.plan.Plan.{Plan}
 use Rattle.link_core.specs.Prepared.{PreparedView, kinds_of, files_of, pool_fault, pooled, prepared, with_fault, with_room}
 use Rattle.link_core.specs.Results.{compared_in, IsDecidedFor, KeepsRows}
 use Rattle.std.proofs.lemmas.List.{drop_all, drop_more, map_push, take_more, length-map, get_or_default}
 use Rattle.std.proofs.lemmas.List.Elements.{filter-append, All-get_or, All-weaker}
-use Rattle.link_base.specs.Standard.{absent_value, IsValid, no_record, Record}
 use Rattle.link_base.specs.declared.plan.FieldSort.{FieldSort}
 use Rattle.link_base.specs.declared.plan.FieldSort.TheVariants as sort
 use Rattle.value_forms.specs.declared.passes.Part.{Part}
 use Rattle.link_base.specs.declared.standard.Value.{Value}
 use Rattle.link_base.specs.declared.standard.Value.TheVariants as value
-use Rattle.block_passes.specs.Index.{row_at}
-use Rattle.block_passes.specs.Keys.{AreReadable, InRange, no_part}
+use Rattle.block_passes.specs.Keys.{row_at, AreReadable, InRange, no_part}
 use Rattle.value_forms.proofs.ReadableLemmas.{readable_valid}
 use Rattle.standard_files.specs.Ready.{AreInRange, IsRowFor}
 use Rattle.link_plan.specs.Plan.{FieldKeys, PlainShares}
 use Rattle.link_plan.specs.Ranges.{IsPart, IsPass, KeepsRanges}
 use Rattle.standard_files.specs.Files.{AreOfPlan, sorts_of, standard_files, StandardPair}
 use Rattle.standard_files.specs.Values.{AreOfSorts, IsOfSort}
-use Rattle.link_base.specs.Answers.{and_then}
-use Rattle.link_base.specs.Fault.{Gives, Refuses}
 use Rattle.link_base.specs.declared.fault.Fault.{Fault}
-use Rattle.link_base.specs.AnswerLaws.{refuses_then}
-use Rattle.standard_files.specs.Sides.{pooled_values, PooledView}
-use Rattle.standard_files.specs.Texts.{pooled_texts}
+use Rattle.standard_files.specs.Sides.{pooled_values, PooledView, pooled_texts}
 use Rattle.value_pool.specs.declared.pool.PoolFault.{PoolFault}
-use Rattle.std.specs.List.{flat_map}
 use Rattle.std.proofs.lemmas.Grind.{flat_map-append}
 use Rattle.link_base.specs.declared.rule.PairAt.{PairAt}
-use Rattle.pair_walk.specs.RowLaws.{pair_holds}
 use Rattle.comparators.specs.declared.ids.IdValue.{IdValue}
-use Rattle.pair_decisions.specs.Decisions.{DecidedView, pairs_with}
-use Rattle.pair_decisions.specs.PairRows.{AreRowsIn, decided_rows, IsDecidedOn, kept_rows}
-use Rattle.pair_decisions.specs.PairRule.{AreCellsOf, AreSidesFor, FileRule, PairRuleView, side_rule}
-use Rattle.patterns.specs.Shapes.{pattern_count_by}
-use Rattle.pair_decisions.specs.Comparators.{rares_of}
-use Rattle.pair_decisions.specs.PlanRule.{IsRuleOf}
-use Rattle.link_core.specs.Decisions.{decided, decided_by, Decisions, decisions_of, IsDecidedIn, rule_in, rule_over}
-use Rattle.link_core.specs.Rules.{IsPreparedFor}
+use Rattle.patterns.specs.Patterns.{pattern_count_by}
+use Rattle.link_core.specs.Rules.{decided, decided_by, Decisions, decisions_of, IsDecidedIn, rule_in, rule_over, IsPreparedFor}
 
 module _ (plan : Plan) (p : PreparedView) where
   pub walked_pairs : (rows : List RowAt) → rows ≡ all_rows p.files.a.records p.files.b.records plan.passes → pairs_of_rows rows ≡ compared_in plan p.files

@@ -1,15 +1,9 @@
-pub mod Prepared
 pub mod Pairs
-pub mod ColumnPairs
-pub mod ColumnRows
 pub mod NameKeys
 pub mod Rules
-pub mod Decisions
 pub mod Review
 pub mod Results
 pub mod Verify
-pub mod Duplicates
+pub mod Prepared
 pub mod Many
-pub mod ReadLaws
-pub mod FileLaws
 pub mod RunLaws

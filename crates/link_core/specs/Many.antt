@@ -2,13 +2,12 @@
 -- of links of greatest worth within them and of prices that certify it (`many_lines`, its lone clause). Which greatest list is printed
 -- is not said.
 use Rattle.std.specs.Prelude.{◌≡◌, ◌++◌, ℕ, ℤ, List, length, Result}
-use Rattle.price_check.specs.Capacities.{CertifiesWithin, IsGreatestWithin}
+use Rattle.price_check.specs.Assignment.{CertifiesWithin, IsGreatestWithin}
 use Rattle.candidate_links.specs.Capacities.{AreCapacities, capacities_in}
 use Rattle.link_base.specs.declared.fault.Fault.{Fault}
 use Rattle.link_base.specs.declared.rule.Candidate.{Candidate}
-use Rattle.link_report.specs.LinksText.{text_of_links}
-use Rattle.link_report.specs.PricesText.{text_of_prices}
-use Rattle.pair_decisions.specs.PairRule.{FileRule}
+use Rattle.link_report.specs.LinksText.{text_of_links, text_of_prices}
+use Rattle.pair_decisions.specs.Words.{FileRule}
 use Rattle.review_journal.specs.declared.entry.Entry.{Entry}
 use Rattle.link_plan.specs.declared.plan.Plan.{Plan}
 use Rattle.standard_files.specs.Files.{StandardPair}

@@ -1,13 +1,11 @@
 -- The text of words as names with their phonetic keys: the clause of `key_lines`.
-use Rattle.std.specs.Prelude.{ℕ, List, [], ◌++◌, codes, unwrap_or}
-use Rattle.std.specs.List.{flat_map}
-use Rattle.link_base.specs.Tables.{missing_marks, name_suffixes, name_titles}
+use Rattle.std.specs.Prelude.{ℕ, List, [], ◌++◌, codes, unwrap_or, flat_map}
+use Rattle.link_base.specs.Words.{missing_marks, name_suffixes, name_titles}
 use Rattle.link_base.specs.declared.standard.Value.{Value}
 use Rattle.link_base.specs.declared.standard.Value.TheVariants as value
 use Rattle.phonetic_keys.specs.Nysiis.{nysiis_of}
 use Rattle.phonetic_keys.specs.Soundex.{soundex_of}
-use Rattle.standardise.specs.Names.{text_value}
-use Rattle.standardise.specs.Tables.{TextView}
+use Rattle.standardise.specs.Names.{text_value, TextView}
 
 -- the tables of a settings file that names none
 abbrev pub standard_names : TextView

@@ -1,20 +1,22 @@
 -- What is prepared of the two files of a plan: their standard values, whose distinct texts have room. `prepare` and `prepare_texts`
 -- carry it (clause `answer`, by `prepared`), and say of the pool of these texts what later steps need (clauses `pooled` and `ready`).
-use Rattle.std.specs.Prelude.{◌≡◌, ℕ, List, map, Result, Ok, Err, ⊤}
-use Rattle.link_base.specs.Answers.{and_then}
+use Rattle.std.specs.Prelude.{◌≡◌, ℕ, List, map, Result, Ok, Err, ⊤, filter, length, nat_lt}
+use Rattle.link_base.specs.Words.{and_then, Record}
 use Rattle.link_base.specs.declared.fault.Fault.{Fault}
-use Rattle.link_base.specs.declared.fault.Fault.TheVariants as fault
 use Rattle.link_base.specs.declared.fault.FileRole.{FileRole}
-use Rattle.link_base.specs.declared.fault.FileRole.TheVariants as role
 use Rattle.value_forms.specs.declared.canons.CompareKind.{CompareKind}
-use Rattle.comparators.specs.Rows.{IdRows}
+use Rattle.comparators.specs.Fields.{IdRows}
 use Rattle.value_pool.specs.declared.pool.PoolFault.{PoolFault}
-use Rattle.value_pool.specs.declared.pool.PoolFault.TheVariants as pool
 use Rattle.link_plan.specs.Plan.{FieldKeys}
 use Rattle.link_plan.specs.declared.plan.Plan.{Plan}
 use Rattle.standard_files.specs.Files.{standard_files, StandardPair}
-use Rattle.standard_files.specs.Sides.{pooled_values, PooledView}
-use Rattle.standard_files.specs.Texts.{pooled_texts}
+use Rattle.standard_files.specs.Sides.{pooled_values, PooledView, pooled_texts}
+use Rattle.dedup_groups.specs.Groups.{GroupLists, IsForest}
+use Rattle.dedup_groups.specs.GroupsText.{text_of_groups}
+use Rattle.link_base.specs.declared.rule.PairAt.{PairAt}
+use Rattle.link_base.specs.declared.fault.Fault.TheVariants as fault
+use Rattle.link_base.specs.declared.fault.FileRole.TheVariants as role
+use Rattle.value_pool.specs.declared.pool.PoolFault.TheVariants as pool
 
 -- the comparisons of a plan's fields
 abbrev pub kinds_of : Plan → List CompareKind
@@ -63,3 +65,16 @@ sides_in p r = p.values.a
 abbrev pub unreadable_of : PreparedView → FileRole → ℕ
 unreadable_of p role.B = p.files.b.unreadable
 unreadable_of p r = p.files.a.unreadable
+
+-- The groups of the records of one file that links join (`duplicate_lines`, its lone clause). Which forest is printed is not said; its
+-- leaders are those of the groups, by the law `forest_leaders`.
+
+-- the links of two records of one file: those whose first record stands before the second
+abbrev pub links_within : List PairAt → List PairAt
+links_within links = filter (λ at. nat_lt at.a at.b) links
+
+-- the text of a forest of these links
+pub record IsGroupsText (records : List Record) (links : List PairAt) (text : List ℕ) : Type 0 where
+  pub lists : GroupLists
+  pub forest : IsForest (length records) (links_within links) lists
+  pub lines : text ≡ text_of_groups lists.leaders lists.vias records

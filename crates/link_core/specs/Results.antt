@@ -3,34 +3,28 @@
 use Rattle.std.specs.Prelude.{◌≡◌, ◌<◌, ◌≤◌, All, ℕ, ℤ, List, length}
 use Rattle.link_limits.specs.declared.TheConstants.{MOST_PAIRS}
 use Rattle.price_check.specs.Assignment.{Certifies, IsGreatest, worth}
-use Rattle.candidate_links.specs.Candidates.{candidates_of}
-use Rattle.candidate_links.specs.Choice.{dropped_of, IsChoice}
+use Rattle.candidate_links.specs.Candidates.{candidates_of, dropped_of, IsChoice}
 use Rattle.candidate_links.specs.declared.choice.ChosenLinks.{ChosenLinks}
 use Rattle.decision_rule.specs.Rule.{AreLevelsOf}
-use Rattle.link_base.specs.Standard.{Record}
+use Rattle.link_base.specs.Words.{Record}
 use Rattle.link_base.specs.declared.rule.Candidate.{Candidate}
 use Rattle.link_base.specs.declared.rule.Decision.{Decision}
 use Rattle.link_base.specs.declared.rule.Decision.TheVariants.{Link, NonLink, Possible}
 use Rattle.link_base.specs.declared.rule.PairAt.{PairAt}
-use Rattle.link_report.specs.LinksText.{text_of_links}
+use Rattle.link_report.specs.LinksText.{text_of_links, text_of_prices, text_of_rule}
 use Rattle.link_report.specs.PairsText.{text_of_pairs}
-use Rattle.link_report.specs.PricesText.{text_of_prices}
 use Rattle.link_report.specs.ReportText.{text_of_report}
-use Rattle.link_report.specs.RuleText.{text_of_rule}
 use Rattle.link_report.specs.declared.open.PairRow.{PairRow}
 use Rattle.link_report.specs.declared.report.Dropped.{Dropped}
 use Rattle.link_report.specs.declared.report.Report.{Report}
-use Rattle.pair_decisions.specs.Decisions.{AreDecisionsOn, count_with, DecidedView, pairs_with}
-use Rattle.pair_decisions.specs.PairRule.{AreCellsOf, FileRule}
-use Rattle.pair_decisions.specs.PairRows.{decided_rows, pair_rows_of, shown_rows}
-use Rattle.pair_walk.specs.Pairs.{compared_pairs}
-use Rattle.patterns.specs.Shapes.{pattern_count_by}
-use Rattle.pair_decisions.specs.Comparators.{rares_of}
-use Rattle.review_journal.specs.Idle.{idle_count}
+use Rattle.pair_decisions.specs.Words.{AreDecisionsOn, count_with, DecidedView, pairs_with, AreCellsOf, FileRule, decided_rows, pair_rows_of, shown_rows, rares_of}
+use Rattle.pair_walk.specs.Rows.{compared_pairs}
+use Rattle.patterns.specs.Patterns.{pattern_count_by}
+use Rattle.review_journal.specs.Batch.{idle_count}
 use Rattle.review_journal.specs.declared.entry.Entry.{Entry}
 use Rattle.link_plan.specs.declared.plan.Plan.{Plan}
 use Rattle.standard_files.specs.Files.{StandardPair}
-use Rattle.link_core.specs.Decisions.{rule_in}
+use Rattle.link_core.specs.Rules.{rule_in}
 use Rattle.link_core.specs.Prepared.{PreparedView}
 use Rattle.link_core.specs.Review.{open_pairs}
 use Rattle.link_core.specs.declared.results.RunResult.{RunResult}

@@ -2,26 +2,23 @@
 -- its text with new verdicts (`add_verdicts`), each by its clause `answer`, and what is open (`open_lines`).
 use Rattle.std.specs.Prelude.{ℕ, ℤ, List, Bool, true, false, filter, length, map, nat_le, if◌then◌else◌, Option, Some, None, Result, Ok, Err, All}
 use Rattle.link_limits.specs.declared.TheConstants.{MOST_FILE_BYTES}
-use Rattle.link_base.specs.Answers.{and_then}
+use Rattle.link_base.specs.Words.{and_then}
 use Rattle.link_base.specs.declared.fault.Fault.{Fault}
-use Rattle.link_base.specs.declared.fault.Fault.TheVariants as fault
-use Rattle.link_base.specs.declared.fault.FileRole.TheVariants as role
 use Rattle.link_base.specs.declared.rule.Decision.TheVariants.{Possible}
 use Rattle.link_base.specs.declared.rule.PairAt.{PairAt}
 use Rattle.link_base.specs.declared.rule.Verdict.{Verdict}
 use Rattle.link_base.specs.declared.rule.Verdict.TheVariants.{Undecided}
-use Rattle.review_journal.specs.Adding.{added}
-use Rattle.review_journal.specs.Journal.{IsWithinFiles}
-use Rattle.review_journal.specs.Verdict.{verdict_on}
+use Rattle.review_journal.specs.Batch.{added, verdicts_of}
+use Rattle.review_journal.specs.Verdict.{IsWithinFiles, verdict_on}
 use Rattle.review_journal.specs.declared.entry.Entry.{Entry}
-use Rattle.review_journal.specs.Batch.{verdicts_of}
-use Rattle.review_journal.specs.Reading.{journal_in}
-use Rattle.review_journal.specs.Text.{text_of_journal}
-use Rattle.link_report.specs.OpenText.{text_of_open}
+use Rattle.review_journal.specs.Reading.{journal_in, text_of_journal}
+use Rattle.link_report.specs.LinksText.{text_of_open}
 use Rattle.link_report.specs.declared.open.PairRow.{PairRow}
-use Rattle.pair_decisions.specs.PairRule.{cell_of}
-use Rattle.link_core.specs.Decisions.{Decisions}
+use Rattle.pair_decisions.specs.Words.{cell_of}
+use Rattle.link_core.specs.Rules.{Decisions}
 use Rattle.standard_files.specs.Files.{StandardPair}
+use Rattle.link_base.specs.declared.fault.Fault.TheVariants as fault
+use Rattle.link_base.specs.declared.fault.FileRole.TheVariants as role
 
 -- the journal in these bytes, over prepared files
 abbrev pub journal_in_files : StandardPair → List ℕ → Result (List Entry) Fault

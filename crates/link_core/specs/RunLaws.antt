@@ -1,41 +1,152 @@
 -- Laws of what a run writes: it is small enough to be verified, and its candidates stand in its files.
-use Rattle.std.proofs.Common.{◌≡◌, ◌<◌, ◌≤◌, ◌+◌, ◌∷◌, ◌^◌, ◌∙◌, ℕ, List, [], All, length, map, get_or, Ok, Option, Some, None, sym, ap, subst, arith, ◌≤ℤ◌, is_some}
+use Rattle.std.proofs.Common.{◌≡◌, ◌∷◌, ◌∙◌, ℕ, List, [], length, Option, Some, None, Result, Ok, Err, ap, sym, refl, ◌≤◌, get_or, subst, arith, All, AllPairs, ◌≢◌, IsTrue, is_some, ◌<◌, ◌+◌, ◌^◌, map, ◌≤ℤ◌}
+use Rattle.std.proofs.lemmas.List.{length-map, get_or-map}
+use Rattle.file_reader.specs.Words.{records_in, IsWholeTable, taken, unless_fault, IsTextRow, table_of, table_is_whole, table_sound, heading_under, Wanted, TableRow, no_row}
+use Rattle.link_base.specs.Words.{and_then, HaveDistinctIds, Record, empty_cell}
+use Rattle.link_base.specs.declared.fault.Fault.{Fault}
+use Rattle.link_base.specs.declared.fault.FileRole.{FileRole}
+use Rattle.link_plan.specs.Within.{plan_within}
+use Rattle.link_plan.specs.declared.plan.Plan.{Plan}
+use Rattle.standard_files.specs.Files.{sorts_a, sorts_b, standard_file, standard_files, standard_pair, StandardFile, StandardPair, table_a, table_b, wanted_a, wanted_b}
+use Rattle.standard_files.specs.Values.{standard_record, standard_records}
+use Rattle.standard_files.specs.declared.sorts.TextSort.{TextSort}
+use Rattle.standard_files.specs.Sides.{pooled_texts}
+use Rattle.link_core.specs.Prepared.{kinds_of, prepared, with_fault}
+use Rattle.std.proofs.lemmas.List.Elements.{All-map, All-weaker, All-from_get_or}
+use Rattle.link_base.specs.declared.tables.Tables.{Tables}
+use Rattle.link_limits.specs.declared.TheConstants.{MOST_FIELD_BYTES, MOST_ROWS, GREATEST_WEIGHT, LEAST_WEIGHT, MOST_FIELDS, MOST_PATTERNS}
+use Rattle.review_journal.specs.Reading.{IsIdText}
+use Rattle.written_check.specs.Laws.{HasShortId, IsSmallFile, AreSmallCells, HasAllowedWeight, IsSmallCell, AreCandidatesOf}
 use Rattle.std.specs.List.{cons_option, enumerate_from, range_with_len}
 use Rattle.std.proofs.Math.Nat.{pow-le-pow_right}
 use Rattle.std.proofs.lemmas.Int.{ints}
-use Rattle.std.proofs.lemmas.List.{get_or-map, length-map}
-use Rattle.std.proofs.lemmas.List.Elements.{All-from_get_or, All-weaker}
 use Rattle.std.proofs.lemmas.List.FromFn.{get_or-map-range_with_len, length-enumerate_from, length-map-range_with_len}
 use Rattle.std.proofs.lemmas.List.Sorted.{All-permutation}
 use Rattle.candidate_links.specs.CandidateLaws.{candidate_stands, given_rise, given_within}
 use Rattle.candidate_links.specs.Candidates.{candidate_of, HasBounds}
 use Rattle.decision_rule.specs.FilledLaws.{length_filled}
 use Rattle.decision_rule.specs.Filled.{Chances, chances_at, chances_of, IsFilled}
-use Rattle.link_base.specs.Rule.{empty_cell}
 use Rattle.link_base.specs.declared.rule.RuleCell.{RuleCell}
 use Rattle.link_base.specs.declared.shares.FieldShares.{FieldShares}
-use Rattle.link_limits.specs.declared.TheConstants.{GREATEST_WEIGHT, LEAST_WEIGHT, MOST_FIELDS, MOST_PATTERNS}
-use Rattle.pair_decisions.specs.PairLaws.{compared_inside, compared_rise}
-use Rattle.pair_decisions.specs.PairRule.{FileRule}
-use Rattle.patterns.specs.ChanceLaws.{m_of_small, pattern_count_small, u_of_small, weight_range}
-use Rattle.patterns.specs.Chances.{pattern_count_of}
-use Rattle.pair_decisions.specs.Comparators.{rares_of}
-use Rattle.pair_decisions.specs.FieldComparators.{pattern_of_pair}
-use Rattle.pair_decisions.specs.PlanRule.{IsRuleOf}
-use Rattle.pair_decisions.specs.PlanShares.{counts_by_pattern, given_in, shares_at}
+use Rattle.pair_decisions.specs.Words.{compared_inside, compared_rise, FileRule, pattern_of_pair, rares_of, IsRuleOf, counts_by_pattern, given_in, shares_at}
+use Rattle.patterns.specs.PatternLaws.{m_of_small, pattern_count_small, u_of_small, weight_range}
+use Rattle.patterns.specs.Patterns.{pattern_count_of}
 use Rattle.price_check.specs.Verdict.{HasAllowedValue}
 use Rattle.review_journal.specs.declared.entry.Entry.{Entry}
 use Rattle.sample_counts.specs.Sample.{sample_of}
-use Rattle.file_reader.specs.Left.{records_in}
 use Rattle.link_plan.specs.Plan.{FieldKeys, plain_shares, PlainShares}
-use Rattle.link_plan.specs.declared.plan.Plan.{Plan}
-use Rattle.written_check.specs.Laws.{AreCandidatesOf}
-use Rattle.written_check.specs.Short.{AreSmallCells, HasAllowedWeight, IsSmallCell}
-use Rattle.link_core.specs.ReadLaws.{came, ok_is}
-use Rattle.link_core.specs.FileLaws.{AreReadFiles}
-use Rattle.standard_files.specs.Files.{StandardPair}
 use Rattle.link_core.specs.Results.{candidates_in, compared_in}
 use Rattle.link_core.specs.Rules.{counted_by}
+use Rattle.link_base.specs.declared.fault.FileRole.TheVariants as role
+
+-- Laws of a file that is read as both files of a plan: it has as many records as itself.
+
+abbrev pub okay : (T : Type 0) → T → Result T Fault
+okay T x = Ok x
+
+pub ok_is : (T : Type 0) (x y : T) → okay T x ≡ okay T y → x ≡ y
+ok_is T x y e = cc e
+
+-- a chain that came to a value came to one at its first step
+pub came : (A B : Type 0) (r : Result A Fault) (f : A → Result B Fault) (y : B) → and_then r f ≡ Ok y → (x : A) × (r ≡ Ok x) × (f x ≡ Ok y)
+came A B (Ok x) f y e = (x, refl, e)
+came A B (Err g) f y e = absurd (cc e)
+
+-- a table has a row for each record under its header
+whole_rows : (r s : FileRole) (v w : Wanted) (records : List (List (List ℕ))) (t u : List TableRow) → IsWholeTable r v records t → IsWholeTable s w records u → length t ≡ length u
+whole_rows r s v w [] t u h g = absurd h
+whole_rows r s v w (header ∷ rows) t u h g =
+    ap (λ (x : List TableRow). length x) h.1.all ∙ length-map rows (taken (heading_under r v header))
+    ∙ sym (length-map rows (taken (heading_under s w header))) ∙ sym (ap (λ (x : List TableRow). length x) g.1.all)
+
+-- a file in standard values has the rows of its table
+pub unless_is : (o : Option Fault) (x y : StandardFile) → unless_fault o (Ok x) ≡ Ok y → x ≡ y
+unless_is None x y e = ok_is StandardFile x y e
+unless_is (Some f) x y e = absurd (cc e)
+
+file_rows : (r : FileRole) (plan : Plan) (sorts : List TextSort) (table : List TableRow) (file : StandardFile) → standard_file r plan sorts table ≡ Ok file → length file.records ≡ length table
+file_rows r plan sorts table file e =
+    ap (λ (f : StandardFile). length f.records) (sym (unless_is _ _ file e)) ∙ length-map table (standard_record plan.tables sorts)
+
+pair_rows : (plan : Plan) (t u : List TableRow) (files : StandardPair) → length u ≡ length t → standard_pair plan t u ≡ Ok files → length files.b.records ≡ length files.a.records
+pair_rows plan t u files same e =
+    let of_a = came StandardFile StandardPair (standard_file role.A plan (sorts_a plan) t) _ files e in
+    let of_b = came StandardFile StandardPair (standard_file role.B plan (sorts_b plan) u) _ files of_a.2 in
+    let is = ok_is StandardPair (record { a = of_a.0; b = of_b.0 }) files of_b.2 in
+    ap (λ (p : StandardPair). length p.b.records) (sym is) ∙ file_rows role.B plan (sorts_b plan) u of_b.0 of_b.1 ∙ same
+    ∙ sym (file_rows role.A plan (sorts_a plan) t of_a.0 of_a.1) ∙ ap (λ (p : StandardPair). length p.a.records) is
+
+pub same_rows : (plan : Plan) (limit : ℕ) (bytes : List ℕ) (files : StandardPair) → prepared (plan_within plan) limit bytes bytes ≡ Ok files → length files.b.records ≡ length files.a.records
+same_rows plan limit bytes files e =
+    let w = plan_within plan in
+    let read = came StandardPair StandardPair (standard_files w bytes bytes) _ files e in
+    let of_a = came (List TableRow) StandardPair (table_a w bytes) _ read.0 read.1 in
+    let of_b = came (List TableRow) StandardPair (table_b w bytes) _ read.0 of_a.2 in
+    let records = records_in plan.delimiter_a bytes in
+    let same : length of_b.0 ≡ length of_a.0 =
+    whole_rows role.B role.A (wanted_b w) (wanted_a w) records of_b.0 of_a.0 (table_is_whole role.B (wanted_b w) records of_b.0 of_b.1) (table_is_whole role.A (wanted_a w) records of_a.0 of_a.1) in
+    let room = came (List (List ℕ)) StandardPair (with_fault (pooled_texts limit (kinds_of w) w.passes read.0.a.records read.0.b.records)) _ files read.2 in
+    let is = ok_is StandardPair read.0 files room.2 in
+    ap (λ (v : StandardPair). length v.b.records) (sym is) ∙ pair_rows w of_a.0 of_b.0 read.0 same of_b.2 ∙ ap (λ (v : StandardPair). length v.a.records) is
+
+-- Laws of the records of prepared files (`prepared`), by their bytes alone: they are not too many, and their ids are distinct texts as tables
+-- have them.
+
+pub record IsReadFile (file : List Record) : Type 0 where
+  pub small : IsSmallFile file
+  pub texts : All IsIdText file
+  pub distinct : HaveDistinctIds file
+
+pub record AreReadFiles (files : StandardPair) : Type 0 where
+  pub of_a : IsReadFile files.a.records
+  pub of_b : IsReadFile files.b.records
+
+-- the id of a row is a text
+not_empty : (id : List ℕ) → id ≢ [] → 1 ≤ length id
+not_empty [] none = absurd (none refl)
+not_empty (byte ∷ bytes) none = omega arith
+
+-- records have the ids of their rows
+distinct_records : (t : Tables) (sorts : List TextSort) (table : List TableRow) → AllPairs (λ (x y : TableRow). x.id ≢ y.id) table → HaveDistinctIds (standard_records t sorts table)
+distinct_records t sorts table distinct i j d lt within same =
+    let many : length (standard_records t sorts table) ≡ length table = length-map table (standard_record t sorts) in
+    let at_i : get_or (standard_records t sorts table) i d ≡ standard_record t sorts (get_or table i no_row) = get_or-map (standard_record t sorts) table i no_row d (omega (arith, many)) in
+    let at_j : get_or (standard_records t sorts table) j d ≡ standard_record t sorts (get_or table j no_row) = get_or-map (standard_record t sorts) table j no_row d (omega (arith, many)) in
+    distinct i j no_row lt (omega (arith, many)) (ap (λ (r : Record). r.id) (sym at_i) ∙ same ∙ ap (λ (r : Record). r.id) at_j)
+
+read_file : (r : FileRole) (wanted : Wanted) (records : List (List (List ℕ))) (table : List TableRow) (plan : Plan) (sorts : List TextSort) (file : StandardFile)
+    → IsTrue (is_some wanted.id) → wanted.most ≤ MOST_ROWS → table_of r wanted records ≡ Ok table → standard_file r plan sorts table ≡ Ok file → IsReadFile file.records
+read_file r wanted records table plan sorts file has_id most read made =
+    let sound = table_sound r wanted records table read in
+    let is = ap (λ (f : StandardFile). f.records) (unless_is _ _ file made) in
+    let whole : IsReadFile (standard_records plan.tables sorts table) = record {
+      small = record {
+        few = omega (arith, length-map table (standard_record plan.tables sorts), sound.few, most);
+        ids = All-map HasShortId (standard_record plan.tables sorts) table (All-weaker IsTextRow (λ (x : TableRow). length x.id ≤ MOST_FIELD_BYTES) (λ x h. h.id.short) table sound.texts);
+      };
+      texts = All-map IsIdText (standard_record plan.tables sorts) table (λ k d within.
+          let id = (sound.texts k d within).id in record { some = not_empty _ (sound.ids has_id k d within); few = id.short; text = id.utf8 });
+      distinct = distinct_records plan.tables sorts table (sound.distinct has_id);
+    } in
+    subst IsReadFile is whole
+
+pub read_files : (plan : Plan) (limit : ℕ) (bytes_a bytes_b : List ℕ) (files : StandardPair) → prepared plan limit bytes_a bytes_b ≡ Ok files → AreReadFiles files
+read_files plan limit bytes_a bytes_b files e =
+    let read = came StandardPair StandardPair (standard_files plan bytes_a bytes_b) _ files e in
+    let of_a = came (List TableRow) StandardPair (table_a plan bytes_a) _ read.0 read.1 in
+    let of_b = came (List TableRow) StandardPair (table_b plan bytes_b) _ read.0 of_a.2 in
+    let a = came StandardFile StandardPair (standard_file role.A plan (sorts_a plan) of_a.0) _ read.0 of_b.2 in
+    let b = came StandardFile StandardPair (standard_file role.B plan (sorts_b plan) of_b.0) _ read.0 a.2 in
+    let pair : StandardPair = record { a = a.0; b = b.0 } in
+    let pair_is = ok_is StandardPair pair read.0 b.2 in
+    let room = came (List (List ℕ)) StandardPair (with_fault (pooled_texts limit (kinds_of plan) plan.passes read.0.a.records read.0.b.records)) _ files read.2 in
+    let is = ok_is StandardPair read.0 files room.2 in
+    let made : AreReadFiles pair = record {
+      of_a = read_file role.A (wanted_a plan) (records_in plan.delimiter_a bytes_a) of_a.0 plan (sorts_a plan) a.0 refl (omega arith) of_a.1 a.1;
+      of_b = read_file role.B (wanted_b plan) (records_in plan.delimiter_b bytes_b) of_b.0 plan (sorts_b plan) b.0 refl (omega arith) of_b.1 b.1;
+    } in
+    let of_pair : AreReadFiles read.0 = subst AreReadFiles {x = pair} {y = read.0} pair_is made in
+    subst AreReadFiles {x = read.0} {y = files} is of_pair
 
 -- chances of a pattern of six fields at most
 record AreSmall (ch : Chances) : Type 0 where

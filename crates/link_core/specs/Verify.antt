@@ -3,18 +3,15 @@
 use Rattle.std.specs.Prelude.{◌≡◌, ◌≤◌, ◌++◌, ℕ, ℤ, Bool, true, false, List, [], codes, decimal, length, Result, Ok, Err}
 use Rattle.std.specs.Fmt.{signed_decimal}
 use Rattle.price_check.specs.Assignment.{Certifies, IsOneToOne}
-use Rattle.link_base.specs.Standard.{id_at, Record}
+use Rattle.link_base.specs.Words.{id_at, Record}
 use Rattle.link_base.specs.declared.rule.Candidate.{Candidate}
 use Rattle.link_limits.specs.declared.TheConstants.{MOST_FIELDS}
-use Rattle.pair_decisions.specs.PairRule.{FileRule}
-use Rattle.pair_decisions.specs.Comparators.{rares_of}
-use Rattle.pair_decisions.specs.PlanRule.{IsRuleOf}
+use Rattle.pair_decisions.specs.Words.{FileRule, rares_of, IsRuleOf}
 use Rattle.review_journal.specs.declared.entry.Entry.{Entry}
 use Rattle.link_plan.specs.Plan.{PlainShares}
 use Rattle.settings.specs.Settings.{settings}
 use Rattle.link_plan.specs.declared.plan.Plan.{Plan}
-use Rattle.written_check.specs.Laws.{written_texts}
-use Rattle.written_check.specs.Short.{AreShort}
+use Rattle.written_check.specs.Laws.{written_texts, AreShort}
 use Rattle.written_check.specs.Verified.{verified, WrittenTexts}
 use Rattle.written_check.specs.declared.refutation.Refutation.{Refutation}
 use Rattle.written_check.specs.declared.refutation.Refutation.TheVariants as refutation

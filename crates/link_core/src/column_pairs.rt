@@ -1,11 +1,9 @@
 // The pairs of rows with the same field in one column.
 ghost use Rattle.std.specs.Prelude.{◌≡◌, IfOk, map};
 ghost use Rattle.link_base.specs.Fault.{Gives, IsAnswer};
-ghost use Rattle.file_reader.specs.Layout.{wanted_of};
-ghost use Rattle.file_reader.specs.Table.{table_of};
-ghost use Rattle.file_reader.specs.Left.{records_in};
-ghost use Rattle.link_core.specs.ColumnPairs.{compared_columns, first_field, pairs_of_fields, pairs_of_files, rows_of_pairs, wanted_column};
-ghost use Rattle.link_core.specs.ColumnRows.{IsColumn, items_of};
+ghost use Rattle.file_reader.specs.Rows.{wanted_of};
+ghost use Rattle.file_reader.specs.Table.{table_of, records_in};
+ghost use Rattle.link_core.specs.Pairs.{compared_columns, first_field, pairs_of_fields, pairs_of_files, rows_of_pairs, wanted_column, IsColumn, items_of};
 ghost use Rattle.link_core.specs.declared.column_pairs.Columns.{Columns};
 
 use crate::column_rows::{list_pairs, match_rows};

@@ -1,12 +1,11 @@
 // The rows with the same field in one column, found by the places of the fields among their distinct texts.
 ghost use Rattle.std.specs.Prelude.{◌≡◌, ◌≤◌, ◌<◌, ◌+◌, ◌*◌, ◌++◌, ◌^◌, IfOk, OnOk, length, map};
-ghost use Rattle.block_passes.specs.Index.{rows_with_number};
+ghost use Rattle.block_passes.specs.Keys.{rows_with_number};
 ghost use Rattle.block_passes.specs.Numbering.{AreNumbered, AreNumbers, IsNumbered, KeepNumbers, number_among};
 ghost use Rattle.link_base.specs.Fault.{Gives};
-ghost use Rattle.link_core.specs.ColumnPairs.{first_field, present};
-ghost use Rattle.link_core.specs.ColumnRows.{compared_field, IsColumn, items_of, matched_rows, pairs_from};
-ghost use Rattle.pair_decisions.specs.Pairs.{pairs_within};
-ghost use Rattle.pair_walk.specs.Pairs.{pair};
+ghost use Rattle.link_core.specs.Pairs.{first_field, present, compared_field, IsColumn, items_of, matched_rows, pairs_from};
+ghost use Rattle.pair_decisions.specs.Decisions.{pairs_within};
+ghost use Rattle.pair_walk.specs.Rows.{pair};
 
 use block_passes::PassRows;
 use file_reader::Table;

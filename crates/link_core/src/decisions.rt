@@ -1,13 +1,12 @@
 // The decisions on the compared pairs of a plan.
 ghost use Rattle.std.specs.Prelude.{◌≡◌, All, IfOk, true};
 ghost use Rattle.link_base.specs.Fault.{Gives};
-ghost use Rattle.link_core.specs.Decisions.{decided, decisions_of, IsDecidedIn, rule_over};
+ghost use Rattle.link_core.specs.Rules.{decided, decisions_of, IsDecidedIn, rule_over, IsPreparedFor, shared_rares};
 ghost use Rattle.link_core.specs.Results.{IsDecidedFor, KeepsRows};
-ghost use Rattle.link_core.specs.Rules.{IsPreparedFor, shared_rares};
 ghost use Rattle.pair_decisions.specs.PairRule.{AreCellsOf, AreSidesFor, side_rule};
-ghost use Rattle.patterns.specs.Shapes.{pattern_count_by};
+ghost use Rattle.patterns.specs.Patterns.{pattern_count_by};
 ghost use Rattle.pair_decisions.specs.Comparators.{rares_of};
-ghost use Rattle.pair_decisions.specs.PlanRule.{IsRuleOf};
+ghost use Rattle.pair_decisions.specs.PlanShares.{IsRuleOf};
 ghost use Rattle.link_plan.specs.Ranges.{KeepsRanges};
 
 use crate::preparing::Prepared;

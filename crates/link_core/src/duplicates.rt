@@ -2,8 +2,8 @@
 ghost use Rattle.std.specs.Prelude.{◌≡◌, ◌<◌, ◌≤◌, All, IfOk, length};
 ghost use Rattle.dedup_groups.specs.Groups.{IsLinkWithin};
 ghost use Rattle.link_base.specs.declared.rule.PairAt.{PairAt as Pair};
-ghost use Rattle.link_core.specs.Decisions.{IsDecidedIn};
-ghost use Rattle.link_core.specs.Duplicates.{IsGroupsText, links_within};
+ghost use Rattle.link_core.specs.Rules.{IsDecidedIn};
+ghost use Rattle.link_core.specs.Prepared.{IsGroupsText, links_within};
 ghost use Rattle.link_limits.specs.declared.TheConstants.{MOST_PAIRS, MOST_ROWS};
 
 use crate::preparing::Prepared;

@@ -2,11 +2,10 @@
 ghost use Rattle.std.specs.Prelude.{◌≡◌, ◌<◌, ◌++◌, All, IfOk, length};
 ghost use Rattle.link_base.specs.Fault.{IsAnswer};
 ghost use Rattle.link_base.specs.declared.rule.Candidate.{Candidate as Link};
-ghost use Rattle.link_core.specs.Decisions.{IsDecidedIn, rule_in};
+ghost use Rattle.link_core.specs.Rules.{IsDecidedIn, rule_in};
 ghost use Rattle.link_core.specs.Many.{AreCapacitiesOf, capacities_in_file, IsManyText};
 ghost use Rattle.link_core.specs.Results.{IsDecidedFor};
-ghost use Rattle.link_report.specs.LinksText.{text_of_links};
-ghost use Rattle.link_report.specs.PricesText.{text_of_prices};
+ghost use Rattle.link_report.specs.LinksText.{text_of_links, text_of_prices};
 ghost use Rattle.link_plan.specs.Ranges.{KeepsRanges};
 
 use crate::preparing::Prepared;

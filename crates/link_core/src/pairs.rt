@@ -1,13 +1,12 @@
 // The compared pairs of a plan.
-ghost use Rattle.std.specs.Prelude.{◌≡◌, ◌++◌, All, IfErr, IfOk, Ok, OnOk, length};
-ghost use Rattle.std.specs.List.{flat_map};
+ghost use Rattle.std.specs.Prelude.{◌≡◌, ◌++◌, All, IfErr, IfOk, Ok, OnOk, length, flat_map};
 ghost use Rattle.link_base.specs.Answers.{and_then};
 ghost use Rattle.link_base.specs.Fault.{IsAnswer, Refuses};
-ghost use Rattle.link_report.specs.Lines.{ids_line, ids_text};
-ghost use Rattle.pair_decisions.specs.Pairs.{IsInside, pairs_within};
+ghost use Rattle.link_report.specs.PairsText.{ids_line, ids_text};
+ghost use Rattle.pair_decisions.specs.Decisions.{IsInside, pairs_within};
 ghost use Rattle.link_core.specs.Pairs.{ids_of_prepared};
 ghost use Rattle.link_core.specs.Rules.{IsPreparedFor};
-ghost use Rattle.pair_walk.specs.Pairs.{pairs_of_rows};
+ghost use Rattle.pair_walk.specs.Rows.{pairs_of_rows};
 
 use crate::preparing::Prepared;
 use link_base::{Fault, StdFile, Text};

@@ -1,7 +1,7 @@
 // Two files ready to be compared.
 ghost use Rattle.std.specs.Prelude.{◌≡◌, ◌≤◌, All, IfOk, Ok, length};
 ghost use Rattle.link_base.specs.Fault.{Gives, IsAnswer};
-ghost use Rattle.link_base.specs.IdsAlone.{ids_alone};
+ghost use Rattle.link_base.specs.Standard.{ids_alone};
 ghost use Rattle.link_core.specs.Prepared.{files_of, IsOneOfBoth, kinds_of, pooled, prepared, sides_in, unreadable_of, with_fault, with_room};
 ghost use Rattle.standard_files.specs.Ready.{AreInRange, ArePooled, IsRowFor};
 ghost use Rattle.standard_files.specs.Sides.{pooled_values};

@@ -1,22 +1,19 @@
 // What a run comes to.
 ghost use Rattle.std.specs.Prelude.{◌≡◌, ◌<◌, ◌≤◌, All, IfOk, length};
-ghost use Rattle.candidate_links.specs.Candidates.{AreCandidates};
-ghost use Rattle.candidate_links.specs.Choice.{IsChoice};
-ghost use Rattle.link_core.specs.Decisions.{IsDecidedIn, rule_in};
+ghost use Rattle.candidate_links.specs.Candidates.{AreCandidates, IsChoice};
+ghost use Rattle.link_core.specs.Rules.{IsDecidedIn, rule_in};
 ghost use Rattle.link_base.specs.Rule.{HasBoundedSums};
 ghost use Rattle.link_limits.specs.declared.TheConstants.{MOST_PAIRS};
 ghost use Rattle.decision_rule.specs.Rule.{AreLevelsOf};
 ghost use Rattle.link_core.specs.Results.{AreRunTexts, AreTextsBy, candidates_in, IsBegun, IsDecidedFor, IsPlaced, KeepsRows, five_texts, with_links};
 ghost use Rattle.link_core.specs.Review.{open_pairs};
 ghost use Rattle.link_base.specs.declared.rule.Candidate.{Candidate as Link};
-ghost use Rattle.link_report.specs.LinksText.{text_of_links};
+ghost use Rattle.link_report.specs.LinksText.{text_of_links, text_of_prices, text_of_rule};
 ghost use Rattle.link_report.specs.PairsText.{text_of_pairs};
-ghost use Rattle.link_report.specs.PricesText.{text_of_prices};
-ghost use Rattle.link_report.specs.RuleText.{text_of_rule};
 ghost use Rattle.pair_decisions.specs.Comparators.{rares_of};
 ghost use Rattle.pair_decisions.specs.PairRows.{AreRowsIn, shown_rows};
 ghost use Rattle.pair_decisions.specs.PairRule.{AreCellsOf};
-ghost use Rattle.patterns.specs.Shapes.{pattern_count_by};
+ghost use Rattle.patterns.specs.Patterns.{pattern_count_by};
 ghost use Rattle.link_plan.specs.Ranges.{KeepsRanges};
 
 use crate::preparing::{FileIds, Prepared};

@@ -2,10 +2,10 @@
 ghost use Rattle.std.specs.Prelude.{◌≡◌, ◌<◌, All, IfOk, length};
 ghost use Rattle.link_base.specs.Fault.{IsAnswer};
 ghost use Rattle.link_base.specs.Standard.{IsDay};
-ghost use Rattle.link_core.specs.Decisions.{decisions_of, IsDecidedIn};
+ghost use Rattle.link_core.specs.Rules.{decisions_of, IsDecidedIn};
 ghost use Rattle.link_core.specs.Review.{IsJournalOf, is_open, journal_lines_of, journal_in_files, open_row_of, open_rows_of, open_text_of, reviewed_lines_of, text_within};
 ghost use Rattle.link_report.specs.declared.open.PairRow.{PairRow as Row};
-ghost use Rattle.review_journal.specs.Journal.{IsReviewer};
+ghost use Rattle.review_journal.specs.Verdict.{IsReviewer};
 
 use crate::preparing::Prepared;
 use link_base::{Decision, Fault, FileRole, NoMemory, PairAt, Sides, Text, Verdict};

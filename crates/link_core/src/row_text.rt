@@ -1,6 +1,6 @@
 // The text of pairs of rows.
 ghost use Rattle.std.specs.Prelude.{◌≡◌, ◌++◌, IfOk, OnOk, decimal};
-ghost use Rattle.link_core.specs.ColumnPairs.{pair_line, pairs_text};
+ghost use Rattle.link_core.specs.Pairs.{pair_line, pairs_text};
 
 use itoa::Buffer;
 use link_base::{NoMemory, PairAt};

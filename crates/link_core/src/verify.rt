@@ -1,12 +1,12 @@
 // What an auditor is told of written files.
 ghost use Rattle.std.specs.Prelude.{◌≡◌, ◌++◌, ◌≤◌, [], Err, IfOk, OnOk, decimal, length};
 ghost use Rattle.std.specs.Fmt.{signed_decimal};
-ghost use Rattle.link_core.specs.Decisions.{IsDecidedIn, rule_in};
+ghost use Rattle.link_core.specs.Rules.{IsDecidedIn, rule_in};
 ghost use Rattle.link_core.specs.Results.{IsDecidedFor};
 ghost use Rattle.link_core.specs.Verify.{RunIsVerified, TellsVerdict, line_of, reason_text, verified_in};
 ghost use Rattle.link_limits.specs.declared.TheConstants.{MOST_WRITTEN_BYTES};
 ghost use Rattle.link_plan.specs.Ranges.{KeepsRanges};
-ghost use Rattle.written_check.specs.Refuted.{IsRefutationWithin};
+ghost use Rattle.written_check.specs.LinkRows.{IsRefutationWithin};
 ghost use Rattle.written_check.specs.Verified.{texts_in};
 ghost use Rattle.written_check.specs.declared.refutation.Refutation.TheVariants as refutation;
 

@@ -1,5 +1,3 @@
 pub mod Outside
-pub mod Holdings
-pub mod Planned
 pub mod Fakes
 pub mod Refusal

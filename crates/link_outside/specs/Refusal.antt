@@ -1,6 +1,6 @@
 -- The statuses and lines of the refusals of commands (`Refusal::status`, `write_refusal`).
 use Rattle.std.specs.Prelude.{ℕ, List, ◌++◌, codes}
-use Rattle.link_base.specs.Fault.{fault_status, fault_text}
+use Rattle.link_base.specs.Words.{fault_status, fault_text}
 use Rattle.link_outside.specs.declared.refusal.Refusal.{Refusal}
 use Rattle.link_outside.specs.declared.refusal.Refusal.TheVariants as refusal
 

@@ -2,17 +2,14 @@
 //! command is refused, with its line.
 #![tactic(auto)]
 
-mod holdings;
 mod line;
 mod memory_sink;
 mod memory_store;
 mod outside;
 mod refusal;
-mod sure;
 
 pub use line::write_refusal;
 pub use memory_sink::MemorySink;
 pub use memory_store::{Failure, MemoryStore};
 pub use outside::{Load, Sink, SinkError, Store, StoreCall, StoreError, entry_of_call};
 pub use refusal::Refusal;
-pub use sure::{SureSink, SureStore};

@@ -1,7 +1,7 @@
 // A sink in memory that fails at the calls that it is given.
-ghost use Rattle.std.specs.Prelude.{◌≡◌, [], false, IfOk, ⊤};
+ghost use Rattle.std.specs.Prelude.{◌≡◌, [], IfOk, ⊤};
 ghost use Rattle.link_outside.specs.Outside.{Appends, HasCause};
-ghost use Rattle.link_outside.specs.Planned.{is_planned, next_call, TakesByPlan};
+ghost use Rattle.link_outside.specs.Fakes.{is_planned, next_call, TakesByPlan};
 
 use crate::outside::{Sink, SinkError};
 use link_base::NoMemory;
@@ -44,19 +44,6 @@ impl MemorySink {
     {
         &self.bytes
     }
-
-    // Takes bytes at a call that is not planned to fail.
-    fn take(&mut self, bytes: &[u8]) -> Result<(), SinkError>
-        ensures planned { TakesByPlan false bytes.now self.old.bytes self.new.bytes result }
-        ensures plan { self.new.plan ≡ self.old.plan }
-        ensures calls { self.new.calls ≡ self.old.calls }
-        ensures faults { self.new.faults ≡ self.old.faults }
-    {
-        match self.bytes.extend_from_slice(bytes) {
-            Ok(()) => Ok(()),
-            Err(_) => Err(SinkError::NoMemory),
-        }
-    }
 }
 
 impl Sink for MemorySink {
@@ -78,6 +65,9 @@ impl Sink for MemorySink {
             self.faults = self.faults.saturating_add(1);
             return Err(SinkError::Failed);
         }
-        self.take(bytes)
+        match self.bytes.extend_from_slice(bytes) {
+            Ok(()) => Ok(()),
+            Err(_) => Err(SinkError::NoMemory),
+        }
     }
 }

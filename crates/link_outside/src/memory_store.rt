@@ -1,13 +1,10 @@
 // A store in memory that fails at the calls that it is given.
-ghost use Rattle.std.specs.Prelude.{◌≡◌, ◌+◌, ◌^◌, ◌<◌, [], false, true, IfOk, OnErr, OnOk, option_map, ⊤};
-ghost use Rattle.link_outside.specs.Fakes.{memory_held, StoreInMemory};
-ghost use Rattle.link_outside.specs.Holdings.{held_in};
-ghost use Rattle.link_outside.specs.Outside.{held_with, IsWithinLimit, Loads, LogsFailure, PutsAs};
-ghost use Rattle.link_outside.specs.Planned.{failure_at, is_put, LoadsByPlan, next_call, PutsByPlan, unless_planned};
+ghost use Rattle.std.specs.Prelude.{◌≡◌, ◌+◌, ◌^◌, ◌<◌, ◌∷◌, [], false, true, IfOk, OnErr, OnOk, option_map, ⊤};
+ghost use Rattle.link_outside.specs.Fakes.{held_in, memory_held, StoreInMemory, failure_at, LoadsByPlan, next_call, PutsByPlan};
+ghost use Rattle.link_outside.specs.Outside.{held_with, IsWithinLimit, Loads, LogsFailure, PutsAs, Shows};
 
-use crate::holdings::{Holdings, cut_to};
 use crate::outside::{Load, Store, StoreCall, StoreError, entry_of_call};
-use link_base::NoMemory;
+use link_base::{NoMemory, Text};
 use std::alloc::Global;
 use std::marker::Model;
 
@@ -19,10 +16,17 @@ pub struct Failure {
     pub applied: bool,
 }
 
-/// A store in memory with planned failures. A load of a name that is not held fails too.
+#[derive(Drop)]
+struct Entry {
+    name: Text,
+    bytes: Text,
+}
+
+/// A store in memory with planned failures, in which the first entry with a name counts. A load of a name that is not
+/// held fails too.
 #[derive(Drop)]
 pub struct MemoryStore {
-    holdings: Holdings,
+    entries: Vec<Entry>,
     plan: Vec<Failure>,
     calls: u32,
     faults: Vec<StoreCall>,
@@ -34,7 +38,7 @@ impl Model for MemoryStore {
     ghost Value = { StoreInMemory };
 
     ghost view = { λ s. record {
-      entries = s.holdings.entries.items;
+      entries = s.entries.items;
       plan = s.plan.items;
       calls = s.calls;
       faults = s.faults.items;
@@ -47,7 +51,7 @@ impl MemoryStore {
         ensures { IfOk result (λ store. store ≡ record { entries = []; plan = plan.now; calls = 0; faults = [] }) }
     {
         Ok(MemoryStore {
-            holdings: Holdings::new(alloc),
+            entries: Vec::new(alloc),
             plan: Vec::from_slice(alloc, plan)?,
             calls: 0,
             faults: Vec::new(alloc),
@@ -62,15 +66,14 @@ impl MemoryStore {
         ensures calls { self.new.calls ≡ self.old.calls }
         ensures faults { self.new.faults ≡ self.old.faults }
     {
-        self.holdings.hold(alloc, name.as_bytes(), bytes)?;
-        Ok(())
+        add(alloc, &mut self.entries, name.as_bytes(), bytes)
     }
 
     /// What a name holds.
     pub fn held(&self, name: &str) -> Option<&[u8]>
         ensures { option_map (λ s. s.now) result ≡ memory_held self.now name.now }
     {
-        self.holdings.find(name.as_bytes())
+        find(&self.entries, name.as_bytes())
     }
 }
 
@@ -81,24 +84,39 @@ fn failure_of(plan: &[Failure], call: u32) -> Option<Failure>
     plan.iter().copied().find(|fail| fail.call == call)
 }
 
-// Whether a put writes: one that is not planned to fail, or fails once it is applied.
-fn is_written(planned: Option<Failure>) -> bool
-    ensures { result ≡ is_put planned }
+// What a name holds.
+fn find<'a>(entries: &'a [Entry], name: &[u8]) -> Option<&'a [u8]>
+    ensures { option_map (λ s. s.now) result ≡ held_in entries.now name.now }
 {
-    match planned {
-        None => true,
-        Some(failure) => failure.applied,
+    for entry in entries {
+        if entry.name.bytes() == name {
+            return Some(entry.bytes.bytes());
+        }
     }
+    None
 }
 
-// What a load of a name reads: what it holds, but nothing where the call is planned to fail.
-fn loaded<'a>(holdings: &'a Holdings, name: &str, planned: Option<Failure>) -> Option<&'a [u8]>
-    ensures { option_map (λ s. s.now) result ≡ unless_planned planned (held_in holdings.now.entries.items name.now) }
+fn add(alloc: Global, entries: &mut Vec<Entry>, name: &[u8], bytes: &[u8]) -> Result<(), NoMemory>
+    ensures ok { OnOk result (entries.new.items ≡ record { name = name.now; bytes = bytes.now } ∷ entries.old.items) }
+    ensures err { OnErr result (entries.new.items ≡ entries.old.items) }
 {
-    match planned {
-        None => holdings.find(name.as_bytes()),
-        Some(_) => None,
+    let name = Text::new(alloc, name)?;
+    let bytes = Text::new(alloc, bytes)?;
+    entries.insert(0, Entry { name, bytes })?;
+    Ok(())
+}
+
+// What a load of these bytes gives.
+fn cut_to(alloc: Global, bytes: &[u8], limit: u64) -> Result<Load, NoMemory>
+    requires { limit + 1 < 2 ^ 64 }
+    ensures within { IfOk result (IsWithinLimit limit) }
+    ensures content { IfOk result (Shows bytes.now limit) }
+{
+    if bytes.len() as u64 <= limit {
+        return Ok(Load::Whole(Text::new(alloc, bytes)?));
     }
+    let front = &bytes[..limit as usize + 1];
+    Ok(Load::Over(Text::new(alloc, front)?))
 }
 
 impl Store for MemoryStore {
@@ -120,10 +138,15 @@ impl Store for MemoryStore {
     {
         self.calls = self.calls.saturating_add(1);
         let entry = entry_of_call(alloc, &mut self.faults, false, name)?;
-        let failure = failure_of(&self.plan, self.calls);
-        match loaded(&self.holdings, name, failure) {
-            Some(bytes) => Ok(cut_to(alloc, bytes, limit)?),
-            None => {
+        match failure_of(&self.plan, self.calls) {
+            None => match find(&self.entries, name.as_bytes()) {
+                Some(bytes) => Ok(cut_to(alloc, bytes, limit)?),
+                None => {
+                    self.faults.push_reserved(entry);
+                    Err(StoreError::Failed)
+                }
+            },
+            Some(_) => {
                 self.faults.push_reserved(entry);
                 Err(StoreError::Failed)
             }
@@ -139,13 +162,12 @@ impl Store for MemoryStore {
     {
         self.calls = self.calls.saturating_add(1);
         let entry = entry_of_call(alloc, &mut self.faults, true, name)?;
-        let failure = failure_of(&self.plan, self.calls);
-        if is_written(failure) {
-            self.holdings.hold(alloc, name.as_bytes(), bytes)?;
-        }
-        match failure {
-            None => Ok(()),
-            Some(_) => {
+        match failure_of(&self.plan, self.calls) {
+            None => Ok(add(alloc, &mut self.entries, name.as_bytes(), bytes)?),
+            Some(failure) => {
+                if failure.applied {
+                    add(alloc, &mut self.entries, name.as_bytes(), bytes)?;
+                }
                 self.faults.push_reserved(entry);
                 Err(StoreError::Failed)
             }

@@ -2,11 +2,9 @@
 -- with it the plan of a file with itself (`Plan::within`, clauses `ranges` and `files`). By `AreFiles` no file that is read, the
 -- journal among them, has the name of one of the five files that a run writes, and the journal, which `review` and `migrate` alone
 -- write, has the name of no other file that is read.
-use Rattle.std.specs.Prelude.{◌≡◌, ◌≢◌, ◌<◌, ◌≤◌, ℕ, List, ◌∷◌, length, Bool, true, false, not, Option, Some, None, is_some, option_to_list, IfSome, IsTrue, IsUtf8, All, AllPairs, nat_le, ◌&&◌, ◌||◌, ◌==◌}
-use Rattle.std.specs.List.{HoldsAt}
+use Rattle.std.specs.Prelude.{◌≡◌, ◌≢◌, ◌<◌, ◌≤◌, ℕ, List, ◌∷◌, length, Bool, true, false, not, Option, Some, None, is_some, option_to_list, IfSome, IsTrue, IsUtf8, All, AllPairs, nat_le, ◌&&◌, ◌||◌, ◌==◌, HoldsAt}
 use Rattle.value_forms.specs.Canons.{letters_of}
-use Rattle.link_base.specs.Shares.{IsShares, outcomes_of}
-use Rattle.link_base.specs.Tables.{AreWordPairs, is_word}
+use Rattle.link_base.specs.Words.{IsShares, outcomes_of, AreWordPairs, is_word}
 use Rattle.link_base.specs.declared.plan.FieldSort.{FieldSort}
 use Rattle.link_base.specs.declared.plan.FieldSort.TheVariants as sort
 use Rattle.value_forms.specs.declared.canons.Canon.{Canon}
@@ -17,8 +15,7 @@ use Rattle.value_forms.specs.declared.passes.Part.{Part}
 use Rattle.link_base.specs.declared.tables.Tables.{Tables}
 use Rattle.link_base.specs.declared.tables.WordPair.{WordPair}
 use Rattle.link_limits.specs.declared.TheConstants.{MOST_FIELDS, MOST_NAME_BYTES}
-use Rattle.link_plan.specs.Plan.{FieldKeys, PlainShares}
-use Rattle.link_plan.specs.Names.{is_name_byte, is_output}
+use Rattle.link_plan.specs.Plan.{FieldKeys, PlainShares, is_name_byte, is_output}
 use Rattle.link_plan.specs.Terms.{KeepsTerms}
 use Rattle.link_plan.specs.declared.limits.TheConstants.{LEAST_RARE, MOST_DAYS, MOST_FIELD_NAME_BYTES, MOST_LABEL_BYTES, MOST_LETTERS, MOST_LISTED_WORDS, MOST_MARK_BYTES, MOST_MARKS, MOST_PARTS, MOST_PASSES, MOST_RARE, MOST_WORD_PAIRS, MOST_YEARS}
 use Rattle.link_plan.specs.declared.plan.Plan.{Plan}

@@ -1,7 +1,7 @@
 -- The terms of a plan: how they are read, key by key, and their ranges (`Terms::read`, clauses `gives` and `ranges`).
 use Rattle.std.specs.Prelude.{◌≤◌, List, [], ◌∷◌, ℕ, Bool, codes, Option, Some, None, Result, Ok}
 use Rattle.link_limits.specs.declared.TheConstants.{PER_MILLION}
-use Rattle.link_base.specs.Answers.{and_then}
+use Rattle.link_base.specs.Words.{and_then}
 use Rattle.link_plan.specs.declared.terms.TheConstants.{MOST_AWARD, MOST_SEED}
 use Rattle.link_plan.specs.declared.terms.Terms.{Terms}
 

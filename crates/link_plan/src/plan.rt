@@ -97,7 +97,7 @@ pub struct Plan {
 
 impl Plan {
     ghost use Rattle.link_plan.specs.Ranges.{KeepsRanges, NamesFiles};
-    ghost use Rattle.link_plan.specs.Shape.{rare_flags};
+    ghost use Rattle.link_plan.specs.Plan.{rare_flags};
     ghost use Rattle.link_plan.specs.Within.{plan_within};
 
     /// The shape of comparison patterns: a field for each field of the plan, and rare where that field

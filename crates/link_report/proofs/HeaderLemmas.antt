@@ -1,5 +1,5 @@
 -- The first lines of a text of lines: those of a report are its head.
-use Rattle.std.proofs.Common.{◌≡◌, ◌<◌, ◌*◌, ◌%◌, ◌/◌, ◌==◌, ◌++◌, ◌∷◌, ◌∙◌, ◌&&◌, ℕ, zero, suc, ℤ, pos, negsuc, Bool, true, false, not, List, [], length, codes, decimal, map, if◌then◌else◌, sym, ap, arith, refl, ◌≤◌, ◌+◌, ◌-◌, drop, get_or, take, add-one, ◌≢◌, All, Some, None, Ok, bytes_eq, filter, zip}
+use Rattle.std.proofs.Common.{◌≡◌, ◌<◌, ◌*◌, ◌%◌, ◌/◌, ◌==◌, ◌++◌, ◌∷◌, ◌∙◌, ◌&&◌, ℕ, zero, suc, ℤ, pos, negsuc, Bool, true, false, not, List, [], length, codes, decimal, map, if◌then◌else◌, sym, ap, arith, refl, ◌≤◌, ◌+◌, ◌-◌, drop, get_or, take, add-one, ◌≢◌, All, Some, None, Ok, bytes_eq, filter, zip, drop-cons, take-suc}
 use Rattle.std.specs.Fmt.{digit_glyph, digits, digits_onto, signed_decimal}
 use Rattle.std.specs.Prelude.{⊤}
 use Rattle.std.specs.List.{concat, flat_map, list_all}
@@ -7,28 +7,21 @@ use Rattle.std.proofs.lemmas.List.{append_assoc, append-nil, drop_all, take_all,
 use Rattle.std.proofs.lemmas.List.Folds.{list_all-append, concat-append, flat_map-map}
 use Rattle.std.proofs.lemmas.Bool.{and_parts, not-true, false_from_ne_true, true≢false}
 use Rattle.link_limits.specs.declared.TheConstants.{PER_MILLION}
-use Rattle.link_base.specs.Standard.{Record}
-use Rattle.link_report.specs.FirstLines.{first_lines_of}
-use Rattle.link_report.specs.ReportText.{dropped_row, file_lines, level_lines, line, link_lines, pair_lines, report_head, text_of_report}
+use Rattle.link_base.specs.Words.{Record}
+use Rattle.link_report.specs.ReportText.{first_lines_of, dropped_row, file_lines, level_lines, line, link_lines, pair_lines, report_head, text_of_report}
 use Rattle.link_report.specs.declared.report.Report.{Report}
 use Rattle.csv.specs.Writing.{default_writer, fields_text, is_blank, row_text}
-use Rattle.link_report.specs.FrontierText.{frontier_header}
-use Rattle.link_report.specs.LinksText.{links_header, link_fields, text_of_links}
-use Rattle.link_report.specs.OpenText.{open_header}
-use Rattle.link_report.specs.PricesText.{prices_header, is_priced, price_fields, price_rows, text_of_prices}
+use Rattle.link_report.specs.LinksText.{frontier_header, links_header, link_fields, text_of_links, open_header, prices_header, is_priced, price_fields, price_rows, text_of_prices, rule_header, cell_fields, text_of_rule}
 use Rattle.link_report.specs.PairsText.{pairs_header}
-use Rattle.link_report.specs.RuleText.{rule_header, cell_fields, text_of_rule}
-use Rattle.std.proofs.Math.Seq.{drop-cons, take-suc}
 use Rattle.std.proofs.lemmas.List.Elements.{All-append, All-cons, All-map, filter-append}
 use Rattle.std.proofs.lemmas.Grind.{flat_map-append}
 use Rattle.std.proofs.lemmas.Option.{cond_some}
 use Rattle.std.proofs.lemmas.Slice.Eq.{bytes_eq-Decides}
-use Rattle.file_reader.specs.Left.{records_in}
-use Rattle.csv_rows.specs.ReadAgain.{HasNoMark, no_mark}
+use Rattle.file_reader.specs.Words.{records_in}
+use Rattle.csv_rows.specs.Numbers.{HasNoMark, no_mark}
 use Rattle.link_base.specs.declared.rule.Candidate.{Candidate}
 use Rattle.link_base.specs.declared.rule.RuleCell.{RuleCell}
-use Rattle.link_report.specs.ReadingLaws.{fits, row_same, same_itself}
-use Rattle.link_report.specs.Reading.{rows_begun, rows_of_prices, rows_under, same_row, side_rows}
+use Rattle.link_report.specs.Reading.{fits, row_same, same_itself, rows_begun, rows_of_prices, rows_under, same_row, side_rows}
 use Rattle.std.proofs.lemmas.Slice.Zip.{get_or-zip, length-zip}
 
 -- no byte ends a line

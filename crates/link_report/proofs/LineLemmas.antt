@@ -4,15 +4,12 @@ use Rattle.std.proofs.lemmas.List.Folds.{flat_map-map}
 use Rattle.std.specs.Fmt.{signed_decimal}
 use Rattle.std.specs.List.{flat_map, list_all}
 use Rattle.csv.specs.Writing.{default_writer, field_text, fields_text, is_blank, needs_byte, needs_quotes, row_text}
-use Rattle.link_base.specs.Standard.{id_at, Record}
+use Rattle.link_base.specs.Words.{id_at, Record}
 use Rattle.link_base.specs.declared.rule.Candidate.{Candidate}
 use Rattle.link_base.specs.declared.rule.PairAt.{PairAt}
-use Rattle.link_report.specs.LineParts.{line_start, pair_end, two_fields}
-use Rattle.link_report.specs.LinkEnds.{end_of_link, pair_of}
-use Rattle.link_report.specs.LinksText.{link_row, source_of_link}
-use Rattle.link_report.specs.Lines.{ids_line, pair_with}
-use Rattle.link_report.specs.PairsText.{decision_word, pair_row, printed_verdict}
-use Rattle.link_report.specs.RuleText.{outcome_letters}
+use Rattle.link_report.specs.LineParts.{line_start, pair_end, two_fields, end_of_link, pair_of}
+use Rattle.link_report.specs.LinksText.{link_row, source_of_link, outcome_letters}
+use Rattle.link_report.specs.PairsText.{ids_line, pair_with, decision_word, pair_row, printed_verdict}
 use Rattle.link_report.specs.declared.open.PairRow.{PairRow}
 use Rattle.std.specs.Char.{is_ascii_digit}
 use Rattle.std.proofs.lemmas.Bool.{cases_Bool, false≢true}

@@ -1,13 +1,5 @@
-pub mod FirstLines
-pub mod FrontierText
 pub mod LineParts
-pub mod Lines
-pub mod LinkEnds
-pub mod LinksText
-pub mod OpenText
-pub mod PricesText
-pub mod Reading
 pub mod ReportText
 pub mod PairsText
-pub mod RuleText
-pub mod ReadingLaws
+pub mod LinksText
+pub mod Reading

@@ -3,12 +3,14 @@
 use Rattle.std.specs.Prelude.{◌≡◌, All, Bool, List, ℕ, [], ◌∷◌, ◌++◌, decimal, map, Option, Some, None}
 use Rattle.std.specs.Fmt.{signed_decimal}
 use Rattle.csv.specs.Writing.{default_writer, field_text, row_text}
-use Rattle.link_base.specs.Standard.{id_at, Record}
+use Rattle.link_base.specs.Words.{id_at, Record}
 use Rattle.link_base.specs.declared.rule.PairAt.{PairAt}
 use Rattle.link_report.specs.PairsText.{decision_word, printed_verdict}
-use Rattle.link_report.specs.RuleText.{outcome_letters}
+use Rattle.link_report.specs.LinksText.{outcome_letters, source_of_link}
 use Rattle.link_report.specs.declared.ends.LineEnd.{LineEnd}
 use Rattle.link_report.specs.declared.open.PairRow.{PairRow}
+use Rattle.link_base.specs.declared.rule.Candidate.{Candidate}
+use Rattle.link_report.specs.declared.links.LinkEnd.{LinkEnd}
 
 -- the ids of records as fields of a line
 abbrev pub id_fields : List Record → List (List ℕ)
@@ -40,3 +42,17 @@ pair_end rares row =
 -- an end that is kept is that of the pair that it was written for
 abbrev pub IsEnd : List Bool → LineEnd → Type 0
 IsEnd rares end = end.text.items ≡ pair_end rares end.of
+
+-- Machinery of the text of the final links: the end of a line. No public clause names it.
+
+-- the pair of a link
+abbrev pub pair_of : Candidate → PairAt
+pair_of link = record { a = link.a; b = link.b }
+
+-- the end of the line of a link, from the comma behind its ids on: the row of an empty field and of those that follow the ids
+abbrev pub end_of_link : Candidate → List ℕ
+end_of_link link = row_text default_writer ([] ∷ signed_decimal link.weight ∷ signed_decimal link.value ∷ source_of_link link.reviewed ∷ [])
+
+-- an end that is kept is that of the link that it was written for
+abbrev pub IsLinkEnd : LinkEnd → Type 0
+IsLinkEnd end = end.text.items ≡ end_of_link end.of

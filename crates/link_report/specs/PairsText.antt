@@ -1,16 +1,16 @@
 -- The text of the compared pairs: a header, and a row for each pair, as a `PairsWriter` writes it row by row
 -- (`PairsWriter::push`, clause `text`).
-use Rattle.std.specs.Prelude.{ℕ, Bool, List, [], ◌∷◌, ◌++◌, codes, decimal, Option, Some, None}
+use Rattle.std.specs.Prelude.{ℕ, Bool, List, [], ◌∷◌, ◌++◌, codes, decimal, Option, Some, None, flat_map}
 use Rattle.std.specs.Fmt.{signed_decimal}
-use Rattle.std.specs.List.{flat_map}
 use Rattle.csv.specs.Writing.{default_writer, row_text}
-use Rattle.link_base.specs.Standard.{id_at, Record}
+use Rattle.link_base.specs.Words.{id_at, Record}
 use Rattle.link_base.specs.declared.rule.Decision.{Decision}
-use Rattle.link_base.specs.declared.rule.Decision.TheVariants as decision
 use Rattle.link_base.specs.declared.rule.Verdict.{Verdict}
-use Rattle.link_base.specs.declared.rule.Verdict.TheVariants as verdict
-use Rattle.link_report.specs.RuleText.{outcome_letters}
+use Rattle.link_report.specs.LinksText.{outcome_letters}
 use Rattle.link_report.specs.declared.open.PairRow.{PairRow}
+use Rattle.link_base.specs.declared.rule.PairAt.{PairAt}
+use Rattle.link_base.specs.declared.rule.Decision.TheVariants as decision
+use Rattle.link_base.specs.declared.rule.Verdict.TheVariants as verdict
 
 abbrev pub pairs_header : List (List ℕ)
 pairs_header =
@@ -45,3 +45,21 @@ text_of_pairs rares a b rows = row_text default_writer pairs_header ++ flat_map 
 pub record PairsWritten : Type 0 where
   pub rares : List Bool
   pub text : List ℕ
+
+-- The texts of ids that are printed: lines of fields, as RFC 4180 has them (`IdsWriter`).
+
+-- a line for the ids of a pair
+abbrev pub ids_line : List Record → List Record → PairAt → List ℕ
+ids_line a b at = row_text default_writer (id_at a at.a ∷ id_at b at.b ∷ [])
+
+-- the header of a text of ids
+abbrev pub ids_header : List ℕ
+ids_header = row_text default_writer (codes "id_a" ∷ codes "id_b" ∷ [])
+
+-- a header, and a line for each pair
+abbrev pub ids_text : List Record → List Record → List PairAt → List ℕ
+ids_text a b pairs = ids_header ++ flat_map (ids_line a b) pairs
+
+-- a record of A with one of B
+abbrev pub pair_with : ℕ → ℕ → PairAt
+pair_with at j = record { a = at; b = j }

@@ -2,10 +2,12 @@
 -- `texts_read_again` says that they give the rows of the texts that are written.
 use Rattle.std.specs.Prelude.{◌==◌, ◌+◌, ◌<◌, ◌^◌, ℕ, Bool, List, [], ◌∷◌, ◌++◌, ℤ, bytes_eq, codes, filter, if◌then◌else◌, IfSome, length, map, Option, Some, None, Result, Ok, Err, zip, ⊤}
 use Rattle.std.specs.Cmp.Lexicographic.{pointwise}
-use Rattle.link_base.specs.Standard.{Record}
-use Rattle.link_report.specs.PricesText.{is_priced, price_fields}
+use Rattle.link_base.specs.Words.{Record}
+use Rattle.link_report.specs.LinksText.{is_priced, price_fields}
 use Rattle.link_report.specs.declared.reading.ReadRows.{ReadRows}
 use Rattle.link_report.specs.declared.reading.ReadRows.TheVariants.{Rows, Bad}
+use Rattle.std.proofs.Common.{◌≡◌, suc, true, All, arith, refl}
+use Rattle.std.proofs.lemmas.Slice.Eq.{bytes_eq-Decides, slice_eq-Decides}
 
 -- two rows have the same fields
 abbrev pub same_row : List (List ℕ) → List (List ℕ) → Bool
@@ -51,3 +53,23 @@ side_rows side prices file = map (price_fields side) (filter is_priced (zip pric
 
 abbrev pub rows_of_prices : List ℤ → List ℤ → List Record → List Record → List (List (List ℕ))
 rows_of_prices prices_a prices_b a b = side_rows (codes "A") prices_a a ++ side_rows (codes "B") prices_b b
+
+-- Laws of rows that are read again: two are the same exactly where the test says so, and those of one width have no misfit. Proofs of the
+-- crates above cite them.
+
+-- rows have the same fields exactly where the test says so
+pub row_same : (x y : List (List ℕ)) → same_row x y ≡ true → x ≡ y
+row_same x y e = (slice_eq-Decides bytes_eq-Decides x y (same_row x y) refl).0 e
+
+pub same_itself : (x : List (List ℕ)) → same_row x x ≡ true
+same_itself x = (slice_eq-Decides bytes_eq-Decides x x (same_row x x) refl).1 refl
+
+-- rows of one width have no misfit
+pub fits : (width n : ℕ) (rows : List (List (List ℕ))) → All (λ (r : List (List ℕ)). length r ≡ width) rows → first_misfit width n rows ≡ None
+fits width n [] all = refl
+fits width n (row ∷ rows) all =
+    let here : length row ≡ width = all 0 [] (omega arith) in
+    rw here (rw (eq_itself width) (fits width (n + 1) rows (λ k d lt. all (suc k) d (omega arith))))
+  where
+    eq_itself : (m : ℕ) → (m == m) ≡ true
+    eq_itself m = grind arith

@@ -1,11 +1,11 @@
 -- The text of the report of a run: its head of sixteen lines, and a row for each candidate that is not among the links
 -- (`report_text`, its lone clause).
-use Rattle.std.specs.Prelude.{ℕ, ◌*◌, ◌/◌, Bool, length, List, [], ◌∷◌, ◌++◌, codes, decimal, if◌then◌else◌}
+use Rattle.std.specs.Prelude.{ℕ, ◌*◌, ◌/◌, Bool, length, List, [], ◌∷◌, ◌++◌, codes, decimal, if◌then◌else◌, ◌==◌, zero, suc}
 use Rattle.std.specs.Fmt.{signed_decimal}
 use Rattle.std.specs.List.{concat, flat_map}
 use Rattle.csv.specs.Writing.{default_writer, row_text}
 use Rattle.link_limits.specs.declared.TheConstants.{PER_MILLION}
-use Rattle.link_base.specs.Standard.{id_at, Record}
+use Rattle.link_base.specs.Words.{id_at, Record}
 use Rattle.link_base.specs.declared.rule.Levels.{Levels}
 use Rattle.link_report.specs.declared.report.Dropped.{Dropped}
 use Rattle.link_report.specs.declared.report.Report.{Report}
@@ -63,3 +63,11 @@ dropped_row a b dropped = row_text default_writer (id_at a dropped.at.a ∷ id_a
 
 abbrev pub text_of_report : List Record → List Record → Report → List ℕ
 text_of_report a b report = report_head a b report ++ flat_map (dropped_row a b) report.dropped.items
+
+-- The first lines of a text: what `first_lines` gives, and that those of a report are its head (law `head_of_report`).
+
+-- the front of a text through so many line feeds, or the whole text where it has fewer
+abbrev pub first_lines_of : ℕ → List ℕ → List ℕ
+first_lines_of zero text = []
+first_lines_of (suc count) [] = []
+first_lines_of (suc count) (c ∷ text) = c ∷ (if c == 10 then first_lines_of count text else first_lines_of (suc count) text)

@@ -2,9 +2,9 @@
 ghost use Rattle.std.specs.Prelude.{◌≡◌, ◌<◌, ◌++◌, All, Bool, IfOk, IsTrue, List, OnOk, length, slice_index_or};
 ghost use Rattle.link_report.specs.LineParts.{IsEnd, pair_end};
 ghost use Rattle.link_report.specs.PairsText.{decision_word, printed_verdict};
-ghost use Rattle.link_report.specs.RuleText.{outcome_letters};
+ghost use Rattle.link_report.specs.LinksText.{outcome_letters};
 ghost use Rattle.link_report.specs.declared.ends.LineEnd.{LineEnd as End};
-ghost use Rattle.patterns.specs.Shapes.{pattern_count_by, rare_of};
+ghost use Rattle.patterns.specs.Patterns.{pattern_count_by, rare_of};
 
 use crate::open::PairRow;
 use crate::rule::letters_of;
@@ -152,7 +152,7 @@ pub(crate) struct LineEnds {
 impl Model for LineEnds {
     ghost use Rattle.std.specs.Prelude.{◌≡◌, All, Bool, List, length};
     ghost use Rattle.link_report.specs.LineParts.{IsEnd};
-    ghost use Rattle.patterns.specs.Shapes.{pattern_count_by, rare_of};
+    ghost use Rattle.patterns.specs.Patterns.{pattern_count_by, rare_of};
 
     ghost Value = { List Bool };
 

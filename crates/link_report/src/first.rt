@@ -1,8 +1,7 @@
 // The first lines of a text.
 ghost use Rattle.std.specs.Prelude.{◌≡◌, ◌≤◌, List, length, take};
 ghost use Rattle.link_base.specs.Standard.{Record};
-ghost use Rattle.link_report.specs.FirstLines.{first_lines_of};
-ghost use Rattle.link_report.specs.ReportText.{report_head, text_of_report};
+ghost use Rattle.link_report.specs.ReportText.{first_lines_of, report_head, text_of_report};
 ghost use Rattle.link_report.specs.declared.report.Report.{Report};
 
 // Where so many lines end.

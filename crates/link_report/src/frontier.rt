@@ -1,6 +1,6 @@
 // The text of the frontier of levels.
 ghost use Rattle.std.specs.Prelude.{◌≡◌, ◌++◌, IfOk, OnOk, length};
-ghost use Rattle.link_report.specs.FrontierText.{level_row, text_of_frontier};
+ghost use Rattle.link_report.specs.LinksText.{level_row, text_of_frontier};
 
 use csv_rows::push_row;
 use itoa::Buffer;

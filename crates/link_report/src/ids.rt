@@ -1,10 +1,9 @@
 // The ids of pairs.
-ghost use Rattle.std.specs.Prelude.{◌≡◌, ◌<◌, ◌++◌, ◌∷◌, [], All, OnOk, length, map};
-ghost use Rattle.std.specs.List.{flat_map};
+ghost use Rattle.std.specs.Prelude.{◌≡◌, ◌<◌, ◌++◌, ◌∷◌, [], All, OnOk, length, map, flat_map};
 ghost use Rattle.csv.specs.Writing.{default_writer, field_text};
 ghost use Rattle.link_base.specs.Standard.{id_at};
 ghost use Rattle.link_report.specs.LineParts.{two_fields};
-ghost use Rattle.link_report.specs.Lines.{ids_header, ids_line, pair_with};
+ghost use Rattle.link_report.specs.PairsText.{ids_header, ids_line, pair_with};
 
 use crate::id_fields::{IdFields, push_two};
 use link_base::{NoMemory, Text};

@@ -1,7 +1,7 @@
 // The final links.
 ghost use Rattle.std.specs.Prelude.{◌≡◌, ◌<◌, ◌++◌, All, IfOk, IsTrue, OnOk, length, slice_index_or};
 ghost use Rattle.link_base.specs.declared.rule.Candidate.{Candidate as Link};
-ghost use Rattle.link_report.specs.LinkEnds.{IsLinkEnd, end_of_link};
+ghost use Rattle.link_report.specs.LineParts.{IsLinkEnd, end_of_link};
 ghost use Rattle.link_report.specs.declared.links.LinkEnd.{LinkEnd as End};
 ghost use Rattle.link_report.specs.LinksText.{link_row, source_of_link, text_of_links};
 

@@ -1,6 +1,6 @@
 // The possible links that wait for a verdict.
 ghost use Rattle.std.specs.Prelude.{◌≡◌, ◌<◌, ◌++◌, All, IfOk, OnOk, length};
-ghost use Rattle.link_report.specs.OpenText.{open_row, text_of_open};
+ghost use Rattle.link_report.specs.LinksText.{open_row, text_of_open};
 ghost use Rattle.link_report.specs.declared.open.PairRow.{PairRow as Row};
 
 use csv_rows::push_row;

@@ -2,7 +2,7 @@
 ghost use Rattle.std.specs.Prelude.{◌≡◌, ◌<◌, ◌++◌, IfOk, OnOk, length};
 ghost use Rattle.csv.specs.Writing.{default_writer, row_text};
 ghost use Rattle.link_report.specs.PairsText.{pair_row, pairs_header};
-ghost use Rattle.patterns.specs.Shapes.{pattern_count_by, rare_of};
+ghost use Rattle.patterns.specs.Patterns.{pattern_count_by, rare_of};
 
 use crate::ends::LineEnds;
 use crate::id_fields::{IdFields, push_ids};

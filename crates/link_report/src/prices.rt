@@ -2,7 +2,7 @@
 ghost use Rattle.std.specs.Prelude.{◌≡◌, ◌<◌, ◌++◌, ◌∷◌, [], IfOk, OnOk, false, length, slice_index_or};
 ghost use Rattle.csv.specs.Writing.{default_writer, needs_quotes, row_text};
 ghost use Rattle.link_base.specs.Standard.{id_at, no_record};
-ghost use Rattle.link_report.specs.PricesText.{price_rows, text_of_prices};
+ghost use Rattle.link_report.specs.LinksText.{price_rows, text_of_prices};
 
 use crate::id_fields::IdFields;
 use itoa::Buffer;

@@ -1,14 +1,12 @@
 // The rows of written files, read again.
 ghost use Rattle.std.specs.Prelude.{◌≡◌, ◌<◌, ◌≤◌, ◌+◌, ◌^◌, Bool, IfOk, List, Ok, length, map, ℤ};
 ghost use Rattle.csv.specs.Records.{fields_of};
-ghost use Rattle.file_reader.specs.Left.{records_in};
+ghost use Rattle.file_reader.specs.Table.{records_in};
 ghost use Rattle.link_base.specs.Standard.{Record};
 ghost use Rattle.link_base.specs.declared.rule.Candidate.{Candidate as Link};
 ghost use Rattle.link_base.specs.declared.rule.RuleCell.{RuleCell as Cell};
-ghost use Rattle.link_report.specs.LinksText.{link_fields, links_header, text_of_links};
-ghost use Rattle.link_report.specs.PricesText.{prices_header, text_of_prices};
+ghost use Rattle.link_report.specs.LinksText.{link_fields, links_header, text_of_links, prices_header, text_of_prices, cell_fields, rule_header, text_of_rule};
 ghost use Rattle.link_report.specs.Reading.{HasFewRows, HaveFewBegun, first_misfit, rows_begun, rows_of_prices, rows_under, same_row, shown_rows};
-ghost use Rattle.link_report.specs.RuleText.{cell_fields, rule_header, text_of_rule};
 
 use csv::ByteRecord;
 use csv_rows::rows_read_again;

@@ -2,8 +2,8 @@
 ghost use Rattle.std.specs.Prelude.{◌≡◌, ◌<◌, ◌++◌, All, Bool, IfOk, List, OnOk};
 ghost use Rattle.link_base.specs.Rule.{IsWithinRanges};
 ghost use Rattle.link_base.specs.declared.rule.RuleCell.{RuleCell as Cell};
-ghost use Rattle.link_report.specs.RuleText.{cell_row, outcome_letter, outcome_letters, text_of_rule};
-ghost use Rattle.patterns.specs.Shapes.{pattern_count_by, rare_of};
+ghost use Rattle.link_report.specs.LinksText.{cell_row, outcome_letter, outcome_letters, text_of_rule};
+ghost use Rattle.patterns.specs.Patterns.{pattern_count_by, rare_of};
 
 use csv_rows::push_row;
 use itoa::Buffer;

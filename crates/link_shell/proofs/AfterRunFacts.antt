@@ -3,13 +3,13 @@ use Rattle.std.proofs.Common.{◌≡◌, ◌≤◌, ◌∙◌, inl, inr, ℕ, Li
 use Rattle.std.specs.Prelude.{bytes_eq, IfSome, ⊤}
 use Rattle.std.proofs.lemmas.Bool.{le-leb, or_parts, true≢false}
 use Rattle.std.proofs.lemmas.Slice.Eq.{bytes_eq-Decides}
-use Rattle.link_base.specs.Answers.{and_then}
+use Rattle.link_base.specs.Words.{and_then}
 use Rattle.link_base.specs.declared.fault.Fault.TheVariants as fault
 use Rattle.link_base.specs.declared.fault.FileRole.{FileRole}
 use Rattle.link_base.specs.declared.fault.FileRole.TheVariants as role
 use Rattle.link_base.specs.declared.rule.Candidate.{Candidate}
 use Rattle.link_core.specs.RunLaws.{counted_few, given_few}
-use Rattle.link_core.specs.Decisions.{decided}
+use Rattle.link_core.specs.Rules.{decided}
 use Rattle.standard_files.specs.Files.{StandardPair}
 use Rattle.link_core.specs.Results.{RunTexts}
 use Rattle.link_core.specs.Verify.{line_of, run_texts, RunIsVerified, verified_in}
@@ -21,32 +21,25 @@ use Rattle.link_outside.specs.declared.outside.StoreCall.{StoreCall}
 use Rattle.link_outside.specs.declared.refusal.Refusal.{Refusal}
 use Rattle.link_outside.specs.declared.refusal.Refusal.TheVariants as refusal
 use Rattle.settings.proofs.Ranges.{read_plan}
-use Rattle.link_plan.specs.Plan.{PlainShares}
+use Rattle.link_plan.specs.Plan.{PlainShares, is_output}
 use Rattle.link_plan.specs.Ranges.{AreFiles, IsFileName}
-use Rattle.link_plan.specs.Names.{is_output}
 use Rattle.link_plan.specs.declared.plan.Plan.{Plan}
-use Rattle.written_check.specs.Short.{AreShort}
+use Rattle.written_check.specs.Laws.{AreShort}
 use Rattle.written_check.specs.Verified.{WrittenTexts}
 use Rattle.written_check.specs.declared.refutation.Refutation.{Refutation}
-use Rattle.command_scripts.specs.StepLaws.{no_err, ok_same, outcome_go}
-use Rattle.command_scripts.specs.Does.{Ends, Answers, DoesPart, FailsAt, FailsBy, IsDue, Script}
-use Rattle.command_scripts.specs.Due.{after_puts, ended_of, HoldsAll, prints, puts, TakesAll, Due, HoldsSome, Put, PutFails, puts_of, PutsSome}
+use Rattle.command_scripts.specs.Words.{no_err, ok_same, outcome_go, Ends, Answers, DoesPart, FailsAt, FailsBy, IsDue, Script, after_puts, ended_of, HoldsAll, prints, puts, TakesAll, Due, HoldsSome, Put, PutFails, puts_of, PutsSome, loaded, IsUncalled, SinkSeen, StoreSeen, ComesTo, file, file_within, gives, load, outcome, refused_by, Steps, Cause, cause_of, the_input, the_memory, the_output, the_store, the_words}
 use Rattle.command_steps.specs.Front.{both_files, plan_file, prepared_files, shares_over}
-use Rattle.command_scripts.specs.Loads.{loaded}
+use Rattle.command_scripts.specs.Steps.{◌>>=◌}
 use Rattle.command_steps.specs.Reviewed.{decided_plan, journal_file, Review, reviewed_plan, reviewed_settings, ReviewedPlan}
-use Rattle.command_scripts.specs.Seen.{IsUncalled, SinkSeen, StoreSeen}
-use Rattle.command_scripts.specs.Steps.{◌>>=◌, ComesTo, file, file_within, gives, load, outcome, refused_by, Steps}
 use Rattle.command_scripts.specs.declared.ends.Ended.{Ended}
 use Rattle.command_scripts.specs.declared.ends.Ended.TheVariants.{Done, Refuted}
 use Rattle.link_shell.proofs.Laws.{KeepsSettings, keeps_settings}
 use Rattle.link_shell.proofs.HeadlineFacts.{came, FoundBy, given_ok, settings_found, told_above}
-use Rattle.link_shell.specs.AfterRun.{HoldsProof, ProvedByRun, SaysYes, YesAfterRun, YesWhereProved}
+use Rattle.link_shell.specs.Meaning.{HoldsProof, ProvedByRun, SaysYes, YesAfterRun, YesWhereProved}
 use Rattle.link_shell.specs.Commands.{command_of, run_of_settings, verification_of_settings}
 use Rattle.link_shell.specs.Linked.{Follows, IsComplete, Performed, Reported, status_after}
-use Rattle.link_shell.specs.RunSettings.{run_puts, run_script}
+use Rattle.link_shell.specs.SettingsCommands.{run_puts, run_script, is_one_put}
 use Rattle.link_shell.specs.VerifySettings.{ended_by, proved_by, verified_settings, verify_script, written_files, WrittenPlan}
-use Rattle.command_scripts.specs.Causes.{Cause, cause_of, the_input, the_memory, the_output, the_store, the_words}
-use Rattle.link_shell.specs.MigrateSettings.{is_one_put}
 
 -- each name that steps load has a property
 abbrev pub AllLoads : {T : Type 0} → (List ℕ → Type 0) → Steps T → Type 0

@@ -3,8 +3,8 @@ use Rattle.std.proofs.Common.{◌≡◌, ◌⊎◌, ◌∙◌, inl, inr, ◌∷�
 use Rattle.std.specs.List.{cons_option}
 use Rattle.std.proofs.lemmas.List.Elements.{All-cons, All-contains, All-weaker}
 use Rattle.candidate_links.specs.Candidates.{by_decision, candidate_by_verdict, candidate_of, candidates_of, linked, weight_of_pair}
-use Rattle.decision_rule.specs.RuleLaws.{least}
-use Rattle.link_base.specs.Answers.{and_then}
+use Rattle.decision_rule.specs.FilledLaws.{least}
+use Rattle.link_base.specs.Words.{and_then, Gives, IsAnswer, is_want}
 use Rattle.link_outside.specs.Refusal.{refusal_status}
 use Rattle.link_base.specs.declared.rule.Candidate.{Candidate}
 use Rattle.link_base.specs.declared.rule.Decision.{Decision}
@@ -12,7 +12,7 @@ use Rattle.link_base.specs.declared.rule.Decision.TheVariants as decision
 use Rattle.link_base.specs.declared.rule.PairAt.{PairAt}
 use Rattle.link_base.specs.declared.rule.Verdict.{Verdict}
 use Rattle.link_base.specs.declared.rule.Verdict.TheVariants as verdict
-use Rattle.link_core.specs.Decisions.{decided, decided_by, Decisions, rule_over}
+use Rattle.link_core.specs.Rules.{decided, decided_by, Decisions, rule_over}
 use Rattle.link_core.specs.Pairs.{plan_pairs}
 use Rattle.standard_files.specs.Files.{StandardPair}
 use Rattle.link_core.specs.Results.{candidates_in, compared_in}
@@ -23,27 +23,20 @@ use Rattle.link_base.specs.declared.fault.Fault.{Fault}
 use Rattle.link_outside.specs.declared.refusal.Refusal.{Refusal}
 use Rattle.link_outside.specs.declared.refusal.Refusal.TheVariants as refusal
 use Rattle.price_check.specs.Assignment.{Certifies, IsGreatest}
-use Rattle.pair_decisions.specs.PairLaws.{compared_rise}
-use Rattle.pair_decisions.specs.Decisions.{decision_at}
-use Rattle.pair_decisions.specs.PairRule.{FileRule}
+use Rattle.pair_decisions.specs.Words.{compared_rise, decision_at, FileRule}
 use Rattle.review_journal.specs.Verdict.{verdict_on}
 use Rattle.review_journal.specs.declared.entry.Entry.{Entry}
 use Rattle.link_plan.specs.declared.plan.Plan.{Plan}
-use Rattle.command_scripts.specs.StepLaws.{no_ok, ok_same, at_err}
-use Rattle.command_scripts.specs.Does.{Ends}
-use Rattle.command_scripts.specs.Due.{after_puts, HoldsAll, puts, TakesAll}
+use Rattle.command_scripts.specs.Words.{no_ok, ok_same, at_err, Ends, after_puts, HoldsAll, puts, TakesAll, loaded, IsUncalled, SinkSeen, StoreSeen, gives, load, outcome, refused_by, Steps}
 use Rattle.command_steps.specs.Front.{plan_file, prepared_files, shares_over}
-use Rattle.command_scripts.specs.Loads.{loaded}
+use Rattle.command_scripts.specs.Steps.{◌>>=◌}
 use Rattle.command_steps.specs.Reviewed.{decided_plan, journal_file, Review, reviewed_plan, reviewed_settings, ReviewedPlan, SharedDecisions}
-use Rattle.command_scripts.specs.Seen.{IsUncalled, SinkSeen, StoreSeen}
-use Rattle.command_scripts.specs.Steps.{◌>>=◌, gives, load, outcome, refused_by, Steps}
 use Rattle.command_scripts.specs.declared.ends.Ended.{Ended}
 use Rattle.command_scripts.specs.declared.ends.Ended.TheVariants.{Done, Refuted}
 use Rattle.link_shell.specs.Headline.{AreGreatestLinks, Headline, IsByRuleOrReview, RunWrites}
 use Rattle.link_shell.specs.Linked.{Follows, Performed, Reported, status_after}
-use Rattle.link_shell.specs.RunSettings.{run_puts, run_script}
+use Rattle.link_shell.specs.SettingsCommands.{run_puts, run_script}
 use Rattle.std.specs.Prelude.{MatchBool, ⊤}
-use Rattle.link_base.specs.Fault.{Gives, IsAnswer, is_want}
 
 -- steps that came to a value were passed, one after the other
 came_read : {A B : Type 0} (read : Result (List ℕ) Refusal) (p : List ℕ → Result A Refusal) (q : List ℕ → Result B Refusal) (Q : A → Type 0) (y : B)

@@ -6,10 +6,10 @@ use Rattle.std.proofs.lemmas.Bool.Decides.{nat_tests}
 use Rattle.std.proofs.lemmas.List.Elements.{All-tail}
 use Rattle.std.proofs.lemmas.Slice.Eq.{bytes_eq-Decides}
 use Rattle.std.proofs.lemmas.Str.{IsUtf8-nil}
-use Rattle.link_base.specs.Standard.{IsDay, Record}
+use Rattle.link_base.specs.Words.{IsDay, Record}
 use Rattle.link_base.specs.declared.fault.Fault.TheVariants as fault
 use Rattle.link_base.specs.declared.fault.FileRole.TheVariants as role
-use Rattle.link_core.specs.FileLaws.{AreReadFiles, IsReadFile, read_files}
+use Rattle.link_core.specs.RunLaws.{AreReadFiles, IsReadFile, read_files}
 use Rattle.standard_files.specs.Files.{StandardPair}
 use Rattle.link_core.specs.Review.{journal_in_files, text_within}
 use Rattle.link_limits.specs.declared.TheConstants.{MOST_FILE_BYTES, MOST_DISTINCT_BYTES}
@@ -18,21 +18,18 @@ use Rattle.link_outside.specs.declared.refusal.Refusal.{Refusal}
 use Rattle.link_plan.specs.Ranges.{AreFiles, files_read}
 use Rattle.link_plan.specs.declared.plan.Plan.{Plan}
 use Rattle.review_journal.specs.DayLaws.{iso_is_day}
-use Rattle.review_journal.specs.Adding.{added}
-use Rattle.review_journal.specs.Batch.{verdicts_of}
-use Rattle.review_journal.specs.Journal.{IsReviewer}
+use Rattle.review_journal.specs.Batch.{added, verdicts_of}
+use Rattle.review_journal.specs.Verdict.{IsReviewer}
 use Rattle.review_journal.specs.Kept.{MigrationKeepsAll, ReviewKeepsAll}
-use Rattle.review_journal.specs.Text.{HasIds, text_of_journal}
+use Rattle.review_journal.specs.Reading.{HasIds, text_of_journal}
 use Rattle.review_journal.specs.declared.batch.NewVerdict.{NewVerdict}
 use Rattle.review_journal.specs.declared.entry.Entry.{Entry}
 use Rattle.settings.proofs.Ranges.{read_plan}
 use Rattle.value_forms.specs.Days.{iso_day}
-use Rattle.command_scripts.specs.StepLaws.{no_ok, ok_same, outcome_go}
-use Rattle.command_scripts.specs.Due.{Put}
+use Rattle.command_scripts.specs.Words.{no_ok, ok_same, outcome_go, Put, SinkSeen, StoreSeen, file, outcome, refused_by, Steps}
 use Rattle.command_steps.specs.Front.{both_files, plan_file, prepared_files}
 use Rattle.command_steps.specs.Reviewed.{journal_file, journal_plan, named_journal, put_of_journal, reviewed_plan, with_journal}
-use Rattle.command_scripts.specs.Seen.{SinkSeen, StoreSeen}
-use Rattle.command_scripts.specs.Steps.{◌>>=◌, file, outcome, refused_by, Steps}
+use Rattle.command_scripts.specs.Steps.{◌>>=◌}
 use Rattle.command_scripts.specs.declared.ends.Ended.{Ended}
 use Rattle.link_shell.proofs.AfterRunFacts.{AllLoads, file_held, kept_if, loads_then, same_outcome, IsMade, made_at_zero, made_or_kept}
 use Rattle.link_shell.proofs.Laws.{of_each}
@@ -40,7 +37,7 @@ use Rattle.link_shell.proofs.HeadlineFacts.{came, found_by, given_ok, step_came}
 use Rattle.link_shell.specs.Commands.{are_words, Command, command_in, command_of, migration_of_settings, review_of_settings}
 use Rattle.link_shell.specs.KeptVerdicts.{LoadsAs, MigrateKeeps, NoVerdictLost, ReviewKeeps, StillGives}
 use Rattle.link_shell.specs.Linked.{Follows, Performed, Reported}
-use Rattle.link_shell.specs.MigrateSettings.{migrate_script, written_journal}
+use Rattle.link_shell.specs.SettingsCommands.{migrate_script, written_journal}
 use Rattle.link_shell.specs.ReviewSettings.{NewReview, review_script, reviewed_journal}
 use Rattle.link_shell.specs.Words.{is_settings_word, is_short_word, word}
 use Rattle.link_shell.specs.declared.command.Form.{Form}

@@ -1,17 +1,14 @@
 -- The bytes of a word.
-use Rattle.std.proofs.Common.{◌≡◌, ◌<◌, ◌∷◌, ℕ, zero, suc, List, [], length, drop, map, get_or, refl, arith, ◌≢◌, ◌≤◌, ◌⊎◌, inl, inr, ◌+◌, ◌++◌, length-append, Bool, true, if◌then◌else◌, Option, Some, None, Result, Ok, Err, ap, ◌∙◌, subst, sym, add-one, append_assoc, drop-cons, ◌&&◌, All, nat_le, false}
+use Rattle.std.proofs.Common.{◌≡◌, ◌<◌, ◌∷◌, ℕ, zero, suc, List, [], length, drop, map, get_or, refl, arith, ◌≢◌, ◌≤◌, ◌⊎◌, inl, inr, ◌+◌, ◌++◌, length-append, Bool, true, if◌then◌else◌, Option, Some, None, Result, Ok, Err, ap, ◌∙◌, subst, sym, add-one, append_assoc, drop-cons, ◌&&◌, All, nat_le, false, option_map}
 use Rattle.link_outside.specs.Outside.{Rose}
 use Rattle.link_outside.specs.declared.outside.StoreCall.{StoreCall}
 use Rattle.link_outside.specs.declared.refusal.Refusal.{Refusal}
 use Rattle.link_outside.specs.declared.refusal.Refusal.TheVariants as refusal
-use Rattle.command_scripts.specs.Causes.{Cause, cause_of, the_input, the_memory, the_output, the_store, the_words}
-use Rattle.command_scripts.specs.Does.{Answers, Does, DoesPart, FailsAt, FailsBy, IsDue, Script}
-use Rattle.command_scripts.specs.Due.{Due, HoldsAll, HoldsSome, prints, Prints, PutFails, puts, puts_of, TakesAll, TakesSome}
-use Rattle.command_scripts.specs.Seen.{IsUncalled, SinkSeen, StoreSeen}
+use Rattle.command_scripts.specs.Words.{Cause, cause_of, the_input, the_memory, the_output, the_store, the_words, Answers, Does, DoesPart, FailsAt, FailsBy, IsDue, Script, Due, HoldsAll, HoldsSome, prints, Prints, PutFails, puts, puts_of, TakesAll, TakesSome, IsUncalled, SinkSeen, StoreSeen}
 use Rattle.command_scripts.specs.declared.ends.Ended.{Ended}
 use Rattle.link_shell.specs.Commands.{are_words, Command, command_in, command_of, form_command, or_form, script_of, forms, of_settings}
 use Rattle.link_shell.specs.Linked.{Follows, IsComplete, IsExactUsage, IsSilent, IsStill, NeverPrints, NeverPuts, Performed, RefusesBy}
-use Rattle.link_shell.specs.SettingsCommands.{OfFile, settings_script, are_verb_and_settings, settings_verbs}
+use Rattle.link_shell.specs.SettingsCommands.{OfFile, settings_script, are_verb_and_settings, settings_verbs, are_levels_from, is_level_word}
 use Rattle.link_shell.specs.declared.command.Form.{Form}
 use Rattle.std.specs.List.{list_all}
 use Rattle.std.proofs.lemmas.Bool.{and_parts, not-true}
@@ -19,12 +16,10 @@ use Rattle.std.proofs.lemmas.Bool.Decides.{nat_tests}
 use Rattle.std.proofs.lemmas.List.{append-nil, drop_all}
 use Rattle.std.proofs.lemmas.List.Elements.{All-cons, All-nil}
 use Rattle.link_limits.specs.declared.TheConstants.{PER_MILLION}
-use Rattle.link_shell.specs.FrontierSettings.{are_levels_from, is_level_word}
 use Rattle.csv_rows.specs.Numbers.{is_decimal, number_in}
 use Rattle.std.specs.Prelude.{◌==◌, IfSome, not, ⊤}
-use Rattle.std.specs.Option.{option_map}
 use Rattle.settings_readers.specs.Values.{named_in}
-use Rattle.link_plan.specs.Names.{is_output}
+use Rattle.link_plan.specs.Plan.{is_output}
 use Rattle.link_shell.specs.Words.{is_settings_word, is_short_word, word}
 use Rattle.link_shell.specs.declared.command.Form.TheVariants as form
 use Rattle.link_shell.specs.declared.settings_commands.SettingsVerb.{SettingsVerb}

@@ -1,21 +1,18 @@
 -- What `verify` tells, by what names hold.
-use Rattle.std.proofs.Common.{◌≡◌, ◌≤◌, ◌∙◌, ℕ, List, Bool, true, false, length, codes, if◌then◌else◌, Result, Ok, Err, refl, sym, ap, subst, arith, All, nat_le, Option, Some, None, IfSome, is_some}
-use Rattle.std.proofs.lemmas.Bool.{le-leb, leb-true, true≢false}
+use Rattle.std.proofs.Common.{◌≡◌, ◌≤◌, ◌∙◌, ℕ, List, Bool, true, false, length, codes, if◌then◌else◌, Result, Ok, Err, refl, sym, ap, subst, arith, All, nat_le, Option, Some, None, IfSome, is_some, le-leb, leb-true, true≢false}
 use Rattle.std.proofs.lemmas.List.Elements.{All-weaker, All-map}
 use Rattle.candidate_links.specs.Candidates.{HasBounds}
-use Rattle.decision_rule.specs.RuleLaws.{least}
-use Rattle.link_base.specs.Answers.{and_then}
+use Rattle.decision_rule.specs.FilledLaws.{least}
+use Rattle.link_base.specs.Words.{and_then, IsWithinRanges, Record}
 use Rattle.link_outside.specs.Refusal.{refusal_status}
-use Rattle.link_base.specs.Rule.{IsWithinRanges}
 use Rattle.link_base.specs.declared.fault.Fault.{Fault}
 use Rattle.link_base.specs.declared.fault.Fault.TheVariants as fault
 use Rattle.link_base.specs.declared.fault.FileRole.TheVariants as role
 use Rattle.link_base.specs.declared.rule.Candidate.{Candidate}
 use Rattle.link_base.specs.declared.rule.PairAt.{PairAt}
 use Rattle.link_base.specs.declared.rule.RuleCell.{RuleCell}
-use Rattle.link_core.specs.FileLaws.{read_files}
-use Rattle.link_core.specs.RunLaws.{candidates_are, small_cells}
-use Rattle.link_core.specs.Decisions.{decided, decided_by, Decisions, rule_over}
+use Rattle.link_core.specs.RunLaws.{read_files, candidates_are, small_cells}
+use Rattle.link_core.specs.Rules.{decided, decided_by, Decisions, rule_over, counted_by}
 use Rattle.link_core.specs.Pairs.{plan_pairs}
 use Rattle.standard_files.specs.Files.{StandardPair}
 use Rattle.link_core.specs.Results.{candidates_in, compared_in}
@@ -27,41 +24,29 @@ use Rattle.link_outside.specs.declared.outside.SinkError.TheVariants as sink
 use Rattle.link_outside.specs.declared.refusal.Refusal.{Refusal}
 use Rattle.link_plan.specs.Plan.{PlainShares, FieldKeys}
 use Rattle.link_plan.specs.declared.plan.Plan.{Plan}
-use Rattle.pair_decisions.specs.Comparators.{rares_of}
-use Rattle.pair_decisions.specs.PairRule.{FileRule}
-use Rattle.pair_decisions.specs.PlanRule.{IsRuleOf}
-use Rattle.pair_decisions.specs.TheRule.{the_rule}
+use Rattle.pair_decisions.specs.Words.{rares_of, FileRule, pattern_of_pair, IsRuleOf, counted_in, given_in, HaveValidShares, the_rule}
 use Rattle.price_check.specs.Law.{CertifiedIsGreatest}
 use Rattle.review_journal.specs.declared.entry.Entry.{Entry}
 use Rattle.settings.proofs.Ranges.{read_plan}
-use Rattle.written_check.specs.Short.{IsSmallCell}
+use Rattle.written_check.specs.Laws.{IsSmallCell, HaveCertifiedRows, RowsAreVerified, VerifiedHaveRows}
 use Rattle.written_check.specs.Verified.{WrittenTexts}
 use Rattle.written_check.specs.declared.refutation.Refutation.{Refutation}
-use Rattle.command_scripts.specs.StepLaws.{no_ok, ok_same}
-use Rattle.command_scripts.specs.Does.{Ends}
-use Rattle.command_scripts.specs.Due.{Due, ended_of, HoldsAll, prints, TakesAll}
+use Rattle.command_scripts.specs.Words.{no_ok, ok_same, Ends, Due, ended_of, HoldsAll, prints, TakesAll, SinkSeen, StoreSeen, file, outcome, gives}
 use Rattle.command_steps.specs.Front.{both_files, plan_file, shares_over}
 use Rattle.command_steps.specs.Reviewed.{Review, reviewed_settings, ReviewedPlan, decided_plan, reviewed_plan, SharedDecisions}
-use Rattle.command_scripts.specs.Seen.{SinkSeen, StoreSeen}
-use Rattle.command_scripts.specs.Steps.{file, outcome, gives}
 use Rattle.command_scripts.specs.declared.ends.Ended.{Ended}
 use Rattle.command_scripts.specs.declared.ends.Ended.TheVariants.{Done, Refuted}
 use Rattle.link_shell.proofs.AfterRunFacts.{all_loads, review_loads, shares_few, yes_where_proved}
 use Rattle.link_shell.proofs.HeadlineFacts.{are_greatest, came, FoundBy, given_ok, rule_is, settings_found, told_above, found_by}
 use Rattle.link_shell.specs.Linked.{Follows, Performed, Reported, status_after}
-use Rattle.written_check.specs.Laws.{HaveCertifiedRows, RowsAreVerified, VerifiedHaveRows}
 use Rattle.link_shell.specs.Meaning.{HoldsRows, rule_with, RowsAreProof, SaidYes, TellsRows, VerifyTells, YesMeans, RowsSayYes}
 use Rattle.link_shell.specs.VerifySettings.{ended_by, IsHeldToRule, proved_by, verified_settings, verify_script, written_files, WrittenPlan}
-use Rattle.link_base.specs.Standard.{Record}
 use Rattle.link_core.specs.Prepared.{prepared}
-use Rattle.link_core.specs.Rules.{counted_by}
 use Rattle.link_plan.specs.Ranges.{AreShares, IsField}
 use Rattle.link_plan.specs.Within.{field_within, plan_within}
-use Rattle.pair_decisions.specs.FieldComparators.{pattern_of_pair}
-use Rattle.pair_decisions.specs.PlanShares.{counted_in, given_in, HaveValidShares}
 use Rattle.settings.specs.Settings.{settings}
 use Rattle.link_shell.specs.DuplicatesSettings.{decided_within, prepared_within, Within}
-use Rattle.link_shell.specs.FilledRule.{AreByFilledRule, FilledRule}
+use Rattle.link_shell.specs.Headline.{AreByFilledRule, FilledRule}
 use Rattle.link_shell.specs.Generate.{decided_input, decided_sample}
 
 -- pairs that were found are not too many, and those that are not too many are found

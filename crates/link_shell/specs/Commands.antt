@@ -2,14 +2,11 @@
 -- `follows` says is followed.
 use Rattle.std.specs.Prelude.{◌∷◌, [], ℕ, List, Bool, drop, if◌then◌else◌, codes, Option, Some, None}
 use Rattle.settings_readers.specs.Values.{named_in}
-use Rattle.command_scripts.specs.Does.{Script}
-use Rattle.link_shell.specs.Generate.{are_generate_words, generate_script, rows_asked}
-use Rattle.link_shell.specs.FrontierSettings.{are_frontier_words, Asked, asked_in, frontier_script}
-use Rattle.link_shell.specs.Keys.{are_keys_words, keys_script}
-use Rattle.link_shell.specs.ManySettings.{are_many_words, many_in, many_script, ManyFiles}
+use Rattle.command_scripts.specs.Words.{Script}
+use Rattle.link_shell.specs.Generate.{are_generate_words, generate_script, rows_asked, are_keys_words, keys_script, are_column_words, Columns, columns_in, columns_script}
+use Rattle.link_shell.specs.SettingsCommands.{are_frontier_words, Asked, asked_in, frontier_script, OfFile, settings_named, settings_script}
+use Rattle.link_shell.specs.DuplicatesSettings.{are_many_words, many_in, many_script, ManyFiles}
 use Rattle.link_shell.specs.ReviewSettings.{are_review_words, NewReview, review_in, review_script}
-use Rattle.link_shell.specs.PairsColumns.{are_column_words, Columns, columns_in, columns_script}
-use Rattle.link_shell.specs.SettingsCommands.{OfFile, settings_named, settings_script}
 use Rattle.link_shell.specs.Words.{word}
 use Rattle.link_shell.specs.declared.command.Form.{Form}
 use Rattle.link_shell.specs.declared.command.Form.TheVariants as form

@@ -4,41 +4,54 @@
 -- included, with prices that certify it.
 --
 -- Chances are those of the plan's shares, under independence of the fields (Fellegi and Sunter 1969, section 2), not those of a population.
-use Rattle.std.specs.Prelude.{◌≡◌, ◌⊎◌, ◌≤ℤ◌, ℕ, ℤ, List, length, filter, All, AllPairs, Some, Ok}
+use Rattle.std.specs.Prelude.{◌≡◌, ℕ, List, Ok, ◌⊎◌, ◌≤ℤ◌, ℤ, length, filter, All, AllPairs, Some}
+use Rattle.link_core.specs.Rules.{Decisions, rule_over}
+use Rattle.link_outside.specs.Outside.{Held}
+use Rattle.link_plan.specs.Plan.{PlainShares}
+use Rattle.link_plan.specs.Within.{plan_within}
+use Rattle.link_plan.specs.declared.plan.Plan.{Plan}
+use Rattle.pair_decisions.specs.Words.{IsRuleOf, decision_at, FileRule, pair_rows_of, rares_of}
+use Rattle.command_steps.specs.Front.{plan_file, prepared_files, shares_over}
+use Rattle.command_steps.specs.Reviewed.{journal_plan, Review, reviewed_plan, reviewed_settings, ReviewedPlan, journal_file}
+use Rattle.command_scripts.specs.Words.{outcome, IsUncalled, SinkSeen, StoreSeen, after_puts}
+use Rattle.link_shell.specs.DuplicatesSettings.{decided_within, Within}
+use Rattle.link_shell.specs.Generate.{decided_input}
 use Rattle.price_check.specs.Assignment.{Certifies, IsOneToOne, worth}
-use Rattle.decision_rule.specs.Least.{IsLeast}
+use Rattle.decision_rule.specs.Filled.{IsLeast}
 use Rattle.link_base.specs.declared.rule.Candidate.{Candidate}
 use Rattle.link_base.specs.declared.rule.Decision.TheVariants.{Link, Possible}
 use Rattle.link_base.specs.declared.rule.PairAt.{PairAt}
-use Rattle.link_base.specs.declared.rule.Verdict.TheVariants as verdict
-use Rattle.link_core.specs.Decisions.{rule_over}
 use Rattle.link_core.specs.Results.{candidates_in, IsReportOf, RunTexts}
-use Rattle.link_outside.specs.Outside.{Held}
-use Rattle.link_report.specs.LinksText.{text_of_links}
+use Rattle.link_report.specs.LinksText.{text_of_links, text_of_prices, text_of_rule}
 use Rattle.link_report.specs.PairsText.{text_of_pairs}
-use Rattle.link_report.specs.PricesText.{text_of_prices}
 use Rattle.link_report.specs.ReportText.{text_of_report}
-use Rattle.link_report.specs.RuleText.{text_of_rule}
 use Rattle.link_report.specs.declared.report.Report.{Report}
-use Rattle.pair_decisions.specs.Decisions.{decision_at}
-use Rattle.pair_decisions.specs.PairRule.{FileRule}
-use Rattle.link_base.specs.Rule.{IsPairBefore}
-use Rattle.pair_decisions.specs.PairRows.{pair_rows_of}
-use Rattle.pair_walk.specs.Pairs.{is_compared, product_from}
-use Rattle.pair_decisions.specs.Comparators.{rares_of}
-use Rattle.pair_decisions.specs.PlanRule.{IsRuleOf}
+use Rattle.link_base.specs.Words.{IsPairBefore}
+use Rattle.pair_walk.specs.Rows.{is_compared, product_from}
 use Rattle.review_journal.specs.Verdict.{verdict_on}
 use Rattle.review_journal.specs.declared.entry.Entry.{Entry}
-use Rattle.link_plan.specs.Plan.{PlainShares}
-use Rattle.link_plan.specs.declared.plan.Plan.{Plan}
 use Rattle.standard_files.specs.Files.{StandardPair}
-use Rattle.command_scripts.specs.Due.{after_puts}
-use Rattle.command_steps.specs.Front.{plan_file, prepared_files, shares_over}
-use Rattle.command_steps.specs.Reviewed.{journal_file}
-use Rattle.command_scripts.specs.Seen.{IsUncalled, SinkSeen, StoreSeen}
-use Rattle.command_scripts.specs.Steps.{outcome}
 use Rattle.link_shell.specs.Commands.{command_of, run_of_settings}
-use Rattle.link_shell.specs.RunSettings.{run_puts}
+use Rattle.link_shell.specs.SettingsCommands.{run_puts}
+use Rattle.link_base.specs.declared.rule.Verdict.TheVariants as verdict
+
+-- Each command that decides goes by the filled table of its plan and of the shares of its fields, of which there is one (Fellegi and Sunter
+-- 1969, section 2), whatever names hold: the clause `always` of `linkage`, by the law `commands_go_by_filled_rule`.
+
+-- decisions go by the filled table of a plan and of the shares of its fields
+abbrev pub AreByFilledRule : Plan → List PlainShares → Decisions → Type 0
+AreByFilledRule plan shares decided = IsRuleOf plan shares decided.rule.cells
+
+-- of `run`, `verify`, `open` and `many`; of `review`; of `duplicates`, by the plan of the file with itself; and of `generate`
+pub record FilledRule : Type 0 where
+  pub of_settings : (name : List ℕ) (held : Held) (found : ReviewedPlan) → outcome (reviewed_settings name) held ≡ Ok found
+      → AreByFilledRule found.plan found.review.shares found.review.decided
+  pub of_review : (name : List ℕ) (held : Held) (plan : Plan) (review : Review) → outcome (journal_plan name) held ≡ Ok plan
+      → outcome (reviewed_plan plan) held ≡ Ok review → AreByFilledRule plan review.shares review.decided
+  pub of_one_file : (name : List ℕ) (held : Held) (plan : Plan) (found : Within) → outcome (plan_file name) held ≡ Ok plan
+      → outcome (decided_within (plan_within plan)) held ≡ Ok found → AreByFilledRule (plan_within plan) found.shares found.decided
+  pub of_made_input : (settings a b sample : List ℕ) (found : ReviewedPlan) → decided_input settings a b sample ≡ Ok found
+      → AreByFilledRule found.plan found.review.shares found.review.decided
 
 -- an accepted input: what names hold has a plan, two files, the shares of the plan's fields, and a journal
 pub record Accepted (name : List ℕ) (held : Held) : Type 0 where

@@ -13,8 +13,7 @@ use Rattle.review_journal.specs.declared.entry.Entry.{Entry}
 use Rattle.standard_files.specs.Files.{StandardPair}
 use Rattle.command_steps.specs.Front.{prepared_files}
 use Rattle.command_steps.specs.Reviewed.{journal_file, journal_plan, named_journal}
-use Rattle.command_scripts.specs.Seen.{StoreSeen}
-use Rattle.command_scripts.specs.Steps.{◌>>=◌, file, gives, outcome, Steps}
+use Rattle.command_scripts.specs.Words.{StoreSeen, ◌>>=◌, file, gives, outcome, Steps}
 use Rattle.link_shell.specs.Commands.{command_of, migration_of_settings, review_of_settings}
 use Rattle.link_shell.specs.ReviewSettings.{NewReview}
 

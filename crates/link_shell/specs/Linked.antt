@@ -1,19 +1,19 @@
 -- What the top calls do: the clauses of `perform` and `linkage`.
-use Rattle.std.specs.Prelude.{◌≡◌, ◌≢◌, ◌≤◌, ℕ, List, Option, Some, None, Result, Ok, Err, ⊤}
+use Rattle.std.specs.Prelude.{◌≡◌, ◌≢◌, ◌≤◌, ℕ, List, Option, Some, None, Result, Ok, Err, ⊤, []}
 use Rattle.link_outside.specs.Refusal.{refusal_line, refusal_status}
 use Rattle.link_outside.specs.Outside.{Appends, HasCause, Rose}
 use Rattle.link_outside.specs.declared.outside.SinkError.{SinkError}
-use Rattle.link_outside.specs.declared.outside.SinkError.TheVariants as sink
 use Rattle.link_outside.specs.declared.refusal.Refusal.{Refusal}
-use Rattle.link_outside.specs.declared.refusal.Refusal.TheVariants as refusal
-use Rattle.command_scripts.specs.Causes.{Cause, cause_of, the_memory}
-use Rattle.command_scripts.specs.Does.{Does, IsDue, Script}
-use Rattle.command_scripts.specs.Due.{Due, ended_of, Prints}
-use Rattle.command_scripts.specs.Seen.{IsUncalled, IsUntouched, SinkSeen, StoreSeen}
-use Rattle.command_scripts.specs.Steps.{ComesTo}
+use Rattle.command_scripts.specs.Words.{Cause, cause_of, the_memory, Does, IsDue, Script, Due, ended_of, Prints, IsUncalled, IsUntouched, SinkSeen, StoreSeen, ComesTo}
 use Rattle.command_scripts.specs.declared.ends.Ended.{Ended}
 use Rattle.command_scripts.specs.declared.ends.Ended.TheVariants.{Done, Refuted}
 use Rattle.link_shell.specs.Commands.{Command, command_of, script_of}
+use Rattle.link_shell.specs.Meaning.{ProvedByRun, YesWhereProved, RowsSayYes, YesMeans}
+use Rattle.link_shell.specs.Headline.{Headline, FilledRule}
+use Rattle.link_shell.specs.KeptVerdicts.{NoVerdictLost}
+use Rattle.link_shell.specs.Limits.{TheLimits}
+use Rattle.link_outside.specs.declared.outside.SinkError.TheVariants as sink
+use Rattle.link_outside.specs.declared.refusal.Refusal.TheVariants as refusal
 
 -- words that are no form of a command: `Usage` is answered, and nothing is done
 pub record IsNoForm (store : StoreSeen) (out : SinkSeen) (answer : Result Ended Refusal) : Type 0 where
@@ -86,3 +86,31 @@ abbrev pub Reported : SinkSeen → Result Ended Refusal → ℕ → Type 0
 Reported err (Ok Done) status = (status ≡ 0) × IsUncalled err
 Reported err (Ok Refuted) status = (status ≡ 9) × IsUncalled err
 Reported err (Err f) status = Told err f status
+
+-- What `linkage` says of the store, of `out` and of the status holds of `perform` and its answer too: the clause `carried` of `perform`.
+
+-- the status of an answer
+abbrev pub status_of_answer : Result Ended Refusal → ℕ
+status_of_answer (Ok Done) = 0
+status_of_answer (Ok Refuted) = 9
+status_of_answer (Err f) = refusal_status f
+
+-- a sink that is not called
+abbrev pub uncalled : SinkSeen
+uncalled = record { tells = ⊥; taken_before = []; taken_after = []; faults_before = 0; faults_after = 0 }
+
+-- what `run` writes, that it is verified, what `verify` tells, and that no verdict is lost, at the status of the answer
+pub record Carried (words : List (List ℕ)) (store : StoreSeen) (out : SinkSeen) (answer : Result Ended Refusal) : Type 0 where
+  pub headline : Headline words store out uncalled (status_of_answer answer)
+  pub proved_by_run : ProvedByRun words store (status_of_answer answer)
+  pub yes_where_proved : YesWhereProved words store out (status_of_answer answer)
+  pub yes_means : YesMeans words store out (status_of_answer answer)
+  pub rows_say_yes : RowsSayYes words store out (status_of_answer answer)
+  pub no_verdict_lost : NoVerdictLost words store (status_of_answer answer)
+
+-- What holds of the program whatever it is asked and whatever names hold: the clause `always` of `linkage`.
+
+-- its limits are the numbers that users are told, and each command that decides goes by the filled table
+pub record Always : Type 0 where
+  pub limits : TheLimits
+  pub filled_rule : FilledRule

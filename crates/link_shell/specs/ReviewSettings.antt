@@ -1,17 +1,15 @@
 -- The command `review SETTINGS VERDICTS DATE REVIEWER`: its words, its steps and what is due, by the part `follows` of the clause `performed` of
 -- `perform`: new verdicts on possible links, added to the journal.
 use Rattle.std.specs.Prelude.{ℕ, ℤ, pos, List, length, Bool, ◌==◌, ◌&&◌, is_some, unwrap_or, Ok}
-use Rattle.link_base.specs.Standard.{IsDay}
-use Rattle.review_journal.specs.Journal.{IsReviewer}
+use Rattle.link_base.specs.Words.{IsDay}
+use Rattle.review_journal.specs.Verdict.{IsReviewer}
 use Rattle.link_plan.specs.declared.plan.Plan.{Plan}
 use Rattle.value_forms.specs.Days.{iso_day}
 use Rattle.link_core.specs.Review.{reviewed_lines_of}
-use Rattle.command_scripts.specs.Does.{Script}
-use Rattle.command_scripts.specs.Due.{Put}
+use Rattle.command_scripts.specs.Words.{Script, Put, ◌>>=◌, file, gives, Steps}
 use Rattle.command_steps.specs.Reviewed.{journal_plan, put_of_journal, Review, reviewed_plan}
 use Rattle.link_base.specs.declared.fault.FileRole.TheVariants as role
-use Rattle.command_scripts.specs.Steps.{◌>>=◌, file, gives, Steps}
-use Rattle.link_shell.specs.MigrateSettings.{is_one_put}
+use Rattle.link_shell.specs.SettingsCommands.{is_one_put}
 use Rattle.link_shell.specs.Words.{is_settings_word, is_short_word, word}
 use Rattle.link_shell.specs.declared.review_settings.ReviewRequest.{ReviewRequest}
 

@@ -6,13 +6,11 @@ use Rattle.link_base.specs.declared.rule.Candidate.{Candidate}
 use Rattle.link_core.specs.Verify.{is_proved, line_of, verified_in, TellsVerdict}
 use Rattle.link_core.specs.declared.verify.Verification.{Verification}
 use Rattle.link_limits.specs.declared.TheConstants.{MOST_WRITTEN_BYTES}
-use Rattle.pair_decisions.specs.PlanRule.{IsRuleOf}
+use Rattle.pair_decisions.specs.Words.{IsRuleOf}
 use Rattle.written_check.specs.Verified.{WrittenTexts}
 use Rattle.written_check.specs.declared.refutation.Refutation.{Refutation}
-use Rattle.command_scripts.specs.Does.{Script}
-use Rattle.command_scripts.specs.Due.{Due, prints}
+use Rattle.command_scripts.specs.Words.{Script, Due, prints, ◌>>=◌, file_within, gives, Steps}
 use Rattle.command_steps.specs.Reviewed.{reviewed_settings, ReviewedPlan}
-use Rattle.command_scripts.specs.Steps.{◌>>=◌, file_within, gives, Steps}
 use Rattle.command_scripts.specs.declared.ends.Ended.{Ended}
 use Rattle.command_scripts.specs.declared.ends.Ended.TheVariants.{Done, Refuted}
 

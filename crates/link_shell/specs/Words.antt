@@ -1,7 +1,7 @@
 -- The words of a command: which are in their place, by the part `usage` of the clause `performed` of `perform`.
 use Rattle.std.specs.Prelude.{ℕ, List, length, Bool, ◌&&◌, not, nat_le, slice_index_or, []}
 use Rattle.link_limits.specs.declared.TheConstants.{MOST_NAME_BYTES}
-use Rattle.link_plan.specs.Names.{is_output}
+use Rattle.link_plan.specs.Plan.{is_output}
 
 -- a file, a column, a reviewer: 1 to 255 bytes
 abbrev pub is_short_word : List ℕ → Bool

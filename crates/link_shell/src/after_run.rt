@@ -1,7 +1,7 @@
 // A run, and then what an auditor is told of it.
 ghost use Rattle.std.specs.Prelude.{map, string_bytes};
-ghost use Rattle.command_scripts.specs.Seen.{sink_seen, store_seen};
-ghost use Rattle.link_shell.specs.AfterRun.{YesAfterRun};
+ghost use Rattle.command_scripts.specs.Steps.{sink_seen, store_seen};
+ghost use Rattle.link_shell.specs.Meaning.{YesAfterRun};
 
 use crate::command::linkage;
 use link_outside::{Refusal, Sink, Store};

@@ -1,16 +1,13 @@
 // The top calls.
 ghost use Rattle.std.specs.Prelude.{◌≡◌, map, Result, Some, string_bytes};
-ghost use Rattle.command_scripts.specs.Seen.{sink_seen, store_seen};
+ghost use Rattle.command_scripts.specs.Steps.{sink_seen, store_seen};
 ghost use Rattle.command_scripts.specs.declared.ends.Ended.{Ended as AnyEnded};
 ghost use Rattle.link_outside.specs.declared.refusal.Refusal.{Refusal as AnyRefusal};
-ghost use Rattle.link_shell.specs.AfterRun.{ProvedByRun, YesWhereProved};
-ghost use Rattle.link_shell.specs.Always.{Always};
-ghost use Rattle.link_shell.specs.Carried.{Carried};
+ghost use Rattle.link_shell.specs.Meaning.{ProvedByRun, YesWhereProved, RowsSayYes, YesMeans};
+ghost use Rattle.link_shell.specs.Linked.{Always, Carried, Follows, Performed, Reported};
 ghost use Rattle.link_shell.specs.Commands.{command_of, form_command, forms};
 ghost use Rattle.link_shell.specs.Headline.{Headline};
 ghost use Rattle.link_shell.specs.KeptVerdicts.{NoVerdictLost};
-ghost use Rattle.link_shell.specs.Linked.{Follows, Performed, Reported};
-ghost use Rattle.link_shell.specs.Meaning.{RowsSayYes, YesMeans};
 ghost use Rattle.link_shell.specs.Words.{word};
 ghost use Rattle.settings_readers.specs.Values.{named_in};
 

@@ -1,8 +1,7 @@
 // The command `duplicates SETTINGS`.
 ghost use Rattle.std.specs.Prelude.{◌≡◌, IfOk, length};
 ghost use Rattle.command_scripts.specs.Does.{Does};
-ghost use Rattle.command_scripts.specs.Seen.{sink_seen, store_seen};
-ghost use Rattle.command_scripts.specs.Steps.{seen_by, Takes};
+ghost use Rattle.command_scripts.specs.Steps.{sink_seen, store_seen, seen_by, Takes};
 ghost use Rattle.link_core.specs.Prepared.{files_of};
 ghost use Rattle.link_core.specs.Rules.{IsPreparedFor};
 ghost use Rattle.link_shell.specs.DuplicatesSettings.{decided_within, duplicates_script, IsDecidedWithin, prepared_within, IsOfOneFile, within_of};

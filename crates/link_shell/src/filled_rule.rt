@@ -1,5 +1,5 @@
 // The rule that the commands go by.
-ghost use Rattle.link_shell.specs.FilledRule.{FilledRule};
+ghost use Rattle.link_shell.specs.Headline.{FilledRule};
 
 use pair_decisions::shares_have_a_rule;
 

@@ -2,11 +2,11 @@
 ghost use Rattle.std.specs.Prelude.{◌≡◌, ◌≤◌, All, IfOk, IfSome, is_some, map, string_bytes, true};
 ghost use Rattle.std.specs.List.{list_all};
 ghost use Rattle.command_scripts.specs.Does.{Does};
-ghost use Rattle.command_scripts.specs.Seen.{sink_seen, store_seen};
+ghost use Rattle.command_scripts.specs.Steps.{sink_seen, store_seen};
 ghost use Rattle.csv_rows.specs.Numbers.{number_in};
 ghost use Rattle.link_core.specs.Rules.{IsFrontierText};
 ghost use Rattle.link_limits.specs.declared.TheConstants.{PER_MILLION};
-ghost use Rattle.link_shell.specs.FrontierSettings.{are_frontier_words, are_levels_from, asked_in, asked_of_request, frontier_script, is_level_word};
+ghost use Rattle.link_shell.specs.SettingsCommands.{are_frontier_words, are_levels_from, asked_in, asked_of_request, frontier_script, is_level_word};
 ghost use Rattle.link_plan.specs.Ranges.{KeepsRanges};
 
 use crate::words::{MOST_LISTED, is_settings, word_at};

@@ -2,15 +2,14 @@
 ghost use Rattle.std.specs.Prelude.{◌≡◌, IfOk, IfSome, is_some, map, string_bytes, true};
 ghost use Rattle.command_scripts.specs.Does.{Does};
 ghost use Rattle.command_steps.specs.Reviewed.{found_of, IsDecidedPlan, IsReviewed, shared_decisions_of};
-ghost use Rattle.command_scripts.specs.Seen.{sink_seen, store_seen};
+ghost use Rattle.command_scripts.specs.Steps.{sink_seen, store_seen};
 ghost use Rattle.csv_rows.specs.Numbers.{number_in};
 ghost use Rattle.link_base.specs.Fault.{Gives};
 ghost use Rattle.link_core.specs.Results.{KeepsRows};
 ghost use Rattle.link_core.specs.Rules.{IsPreparedFor};
 ghost use Rattle.link_shell.specs.Generate.{are_generate_words, decided_input, decided_sample, generate_script, IsMadeNumber, is_rows_word, rows_asked};
 ghost use Rattle.link_plan.specs.Ranges.{KeepsRanges};
-ghost use Rattle.workload.specs.Made.{text_of_a, text_of_b, text_of_sample};
-ghost use Rattle.workload.specs.MadeSettings.{text_of_settings};
+ghost use Rattle.workload.specs.Made.{text_of_a, text_of_b, text_of_sample, text_of_settings};
 
 use crate::run_settings::finish_found;
 use crate::words::word_at;

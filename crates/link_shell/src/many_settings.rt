@@ -2,10 +2,9 @@
 ghost use Rattle.std.specs.Prelude.{◌≡◌, IfOk, IfSome, is_some, map, string_bytes};
 ghost use Rattle.command_scripts.specs.Does.{Does};
 ghost use Rattle.command_steps.specs.Reviewed.{found_of, IsReviewed};
-ghost use Rattle.command_scripts.specs.Seen.{sink_seen, store_seen};
-ghost use Rattle.command_scripts.specs.Steps.{Makes, Takes};
+ghost use Rattle.command_scripts.specs.Steps.{sink_seen, store_seen, Makes, Takes};
 ghost use Rattle.link_core.specs.Many.{AreCapacitiesOf};
-ghost use Rattle.link_shell.specs.ManySettings.{are_many_words, capacity_file, capacity_plan, IsLinksText, many_in, many_of_request, many_script};
+ghost use Rattle.link_shell.specs.DuplicatesSettings.{are_many_words, capacity_file, capacity_plan, IsLinksText, many_in, many_of_request, many_script};
 
 use crate::words::{is_settings, is_short, word_at};
 use command_scripts::{Ended, load_file, print_text};

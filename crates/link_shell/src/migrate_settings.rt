@@ -1,8 +1,7 @@
 // The command `migrate SETTINGS`.
 ghost use Rattle.command_scripts.specs.Does.{Does};
-ghost use Rattle.command_scripts.specs.Seen.{sink_seen, store_seen};
-ghost use Rattle.command_scripts.specs.Steps.{Takes};
-ghost use Rattle.link_shell.specs.MigrateSettings.{journal_text, migrate_script, written_journal};
+ghost use Rattle.command_scripts.specs.Steps.{sink_seen, store_seen, Takes};
+ghost use Rattle.link_shell.specs.SettingsCommands.{journal_text, migrate_script, written_journal};
 ghost use Rattle.link_plan.specs.Ranges.{KeepsRanges, NamesFiles};
 
 use command_scripts::Ended;

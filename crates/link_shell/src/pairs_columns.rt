@@ -1,8 +1,8 @@
 // The command `pairs A B COLUMN`.
 ghost use Rattle.std.specs.Prelude.{◌≡◌, IfSome, is_some, map, string_bytes};
 ghost use Rattle.command_scripts.specs.Does.{Does};
-ghost use Rattle.command_scripts.specs.Seen.{sink_seen, store_seen};
-ghost use Rattle.link_shell.specs.PairsColumns.{are_column_words, columns_in, columns_of_request, columns_script};
+ghost use Rattle.command_scripts.specs.Steps.{sink_seen, store_seen};
+ghost use Rattle.link_shell.specs.Generate.{are_column_words, columns_in, columns_of_request, columns_script};
 
 use crate::words::{is_short, word_at};
 use command_scripts::{Ended, print_text};

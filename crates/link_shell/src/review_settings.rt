@@ -2,9 +2,8 @@
 ghost use Rattle.std.specs.Prelude.{◌≡◌, IfSome, is_some, map, string_bytes, Some};
 ghost use Rattle.command_scripts.specs.Does.{Does};
 ghost use Rattle.command_steps.specs.Reviewed.{review_of};
-ghost use Rattle.command_scripts.specs.Seen.{sink_seen, store_seen};
-ghost use Rattle.command_scripts.specs.Steps.{Takes};
-ghost use Rattle.link_core.specs.Decisions.{IsDecidedIn};
+ghost use Rattle.command_scripts.specs.Steps.{sink_seen, store_seen, Takes};
+ghost use Rattle.link_core.specs.Rules.{IsDecidedIn};
 ghost use Rattle.link_core.specs.Review.{IsJournalOf};
 ghost use Rattle.link_shell.specs.ReviewSettings.{added_verdicts, are_review_words, IsReviewRequest, review_in, review_of_request, review_script, reviewed_journal};
 ghost use Rattle.link_plan.specs.Ranges.{KeepsRanges, NamesFiles};

@@ -1,12 +1,12 @@
 // The command `run SETTINGS`.
 ghost use Rattle.std.specs.Prelude.{IfOk};
 ghost use Rattle.command_scripts.specs.Does.{Does};
-ghost use Rattle.command_scripts.specs.Seen.{sink_seen, store_seen};
-ghost use Rattle.command_scripts.specs.Ways.{PutsAll};
+ghost use Rattle.command_scripts.specs.Steps.{sink_seen, store_seen};
+ghost use Rattle.command_scripts.specs.Due.{PutsAll};
 ghost use Rattle.command_steps.specs.Reviewed.{IsReviewed};
-ghost use Rattle.link_core.specs.Decisions.{rule_in};
+ghost use Rattle.link_core.specs.Rules.{rule_in};
 ghost use Rattle.link_core.specs.Results.{AreRunTexts, five_texts, KeepsRows};
-ghost use Rattle.link_shell.specs.RunSettings.{run_puts, run_script};
+ghost use Rattle.link_shell.specs.SettingsCommands.{run_puts, run_script};
 
 use command_scripts::{Ended, Output, put_each};
 use command_steps::{Reviewed, ReviewedSettings, load_reviewed_settings};

@@ -1,9 +1,8 @@
 // The commands of a settings file alone: their verbs, and those of them that print a text of it.
-ghost use Rattle.std.specs.Prelude.{◌≡◌, map, string_bytes};
-ghost use Rattle.std.specs.Option.{option_map};
+ghost use Rattle.std.specs.Prelude.{◌≡◌, map, string_bytes, option_map};
 ghost use Rattle.command_scripts.specs.Does.{Does};
 ghost use Rattle.command_scripts.specs.Due.{Due};
-ghost use Rattle.command_scripts.specs.Seen.{sink_seen, store_seen};
+ghost use Rattle.command_scripts.specs.Steps.{sink_seen, store_seen};
 ghost use Rattle.command_steps.specs.declared.front.Shared.{Shared as AnyShared};
 ghost use Rattle.link_shell.specs.SettingsCommands.{of_file, open_script, pairs_script, PrintsLeastRule, rule_is_printed, rule_script, settings_named, settings_script};
 

@@ -2,8 +2,7 @@
 ghost use Rattle.std.specs.Prelude.{◌≡◌, ◌≤◌, IfOk, length};
 ghost use Rattle.command_scripts.specs.Does.{Does};
 ghost use Rattle.command_steps.specs.Reviewed.{found_of, IsReviewed};
-ghost use Rattle.command_scripts.specs.Seen.{sink_seen, store_seen};
-ghost use Rattle.command_scripts.specs.Steps.{Makes, seen_by, Takes};
+ghost use Rattle.command_scripts.specs.Steps.{sink_seen, store_seen, Makes, seen_by, Takes};
 ghost use Rattle.link_limits.specs.declared.TheConstants.{MOST_WRITTEN_BYTES};
 ghost use Rattle.link_shell.specs.VerifySettings.{ended_if, TellsOf, verify_script, written_files, written_plan};
 ghost use Rattle.written_check.specs.Verified.{texts_in};

@@ -5,28 +5,21 @@ use Rattle.std.proofs.lemmas.List.Kept.{AllPairs-filter}
 use Rattle.link_base.specs.declared.rule.Decision.{Decision}
 use Rattle.link_base.specs.declared.rule.Decision.TheVariants.{Link, NonLink, Possible}
 use Rattle.link_base.specs.declared.rule.PairAt.{PairAt}
-use Rattle.link_base.specs.Rule.{IsPairBefore}
-use Rattle.pair_decisions.specs.Decisions.{DecidedView, count_with, decision_at, is_same, pairs_with}
-use Rattle.pair_decisions.specs.PairRule.{FileRule, has_pattern, pattern_by, rares_in, pattern_over, AreSidesFor, PairRuleView, side_rule}
-use Rattle.pair_decisions.specs.Pairs.{IsInside}
+use Rattle.link_base.specs.Words.{IsPairBefore, and_then, RefusesBut, is_want}
+use Rattle.pair_decisions.specs.Words.{DecidedView, count_with, decision_at, is_same, pairs_with, IsInside, FileRule, has_pattern, pattern_by, rares_in, pattern_over, AreSidesFor, PairRuleView, side_rule, place_of, SideComparator, answers_of, comparator_at, comparator_by, id_counts, rares_of, AreSidesOf, IsOfTexts, counts_by_pattern, AreRowsIn, decided_row, decided_rows, kept_rows}
 use Rattle.std.proofs.lemmas.List.Folds.{find_at}
 use Rattle.std.proofs.lemmas.Option.{slice_get-get_or}
 use Rattle.link_base.specs.declared.rule.RuleCell.{RuleCell}
-use Rattle.pair_decisions.specs.Places.{place_of}
+use Rattle.std.proofs.lemmas.Simd.{map-map}
 use Rattle.comparators.specs.Fields.{field_outcome, field_rare, IsCounted, IsFieldSide, field_of, field_laws}
 use Rattle.comparators.specs.declared.ids.FieldById.{FieldById}
 use Rattle.comparators.specs.declared.ids.IdValue.{IdValue}
 use Rattle.link_base.specs.declared.rule.Outcome.{Outcome}
-use Rattle.patterns.specs.Patterns.{number_of, outcomes, AreSides}
-use Rattle.pair_decisions.specs.CellLaws.{map_via}
-use Rattle.pair_decisions.specs.Comparators.{SideComparator, answers_of, comparator_at, comparator_by, id_counts, rares_of}
+use Rattle.patterns.specs.Patterns.{number_of, outcomes, AreSides, pattern_count_by}
 use Rattle.std.specs.Prelude.{MatchBool, Result, Ok, Err, ⊤}
-use Rattle.link_base.specs.Answers.{and_then, RefusesBut}
-use Rattle.link_base.specs.Fault.{is_want}
 use Rattle.link_base.specs.declared.fault.Fault.{Fault}
 use Rattle.sample_counts.specs.Counts.{counts_by, judged_by}
 use Rattle.sample_counts.specs.declared.reviewed.Reviewed.{Reviewed}
-use Rattle.pair_decisions.specs.PlanShares.{counts_by_pattern}
 use Rattle.std.specs.List.{enumerate_from}
 use Rattle.std.proofs.Math.ListN.{get_or-append}
 use Rattle.std.proofs.Math.Seq.{get_or-append_seam}
@@ -39,10 +32,7 @@ use Rattle.link_base.specs.declared.plan.FieldSort.TheVariants as sort
 use Rattle.comparators.specs.declared.ids.IdValue.TheVariants as id
 use Rattle.link_plan.specs.Ranges.{IsRareNumber, may_be_rare}
 use Rattle.link_plan.specs.Plan.{FieldKeys}
-use Rattle.pair_decisions.specs.Sides.{AreSidesOf, IsOfTexts}
-use Rattle.patterns.specs.ShapeLaws.{pattern-lt}
-use Rattle.patterns.specs.Shapes.{pattern_count_by}
-use Rattle.pair_decisions.specs.PairRows.{AreRowsIn, decided_row, decided_rows, kept_rows}
+use Rattle.patterns.specs.PatternLaws.{pattern-lt}
 use Rattle.pair_decisions.specs.declared.rows.DecidedRow.{DecidedRow}
 
 -- a list that is a filter of pairs lies in the files, and rises
@@ -93,7 +83,7 @@ found_at cells pattern place d e lt = find_at (has_pattern pattern) cells ∙ sl
 -- What the comparators of a rule answer.
 
 pub rares_seen : (all : List FieldById) → map field_rare all ≡ rares_in (map answers_of all)
-rares_seen all = sym (map_via answers_of (λ (c : SideComparator IdValue). c.rare) all)
+rares_seen all = sym (map-map (λ (c : SideComparator IdValue). c.rare) answers_of all)
 
 abbrev pub outcome_in : SideComparator IdValue → IdValue → IdValue → Outcome
 outcome_in c = c.outcome
@@ -179,7 +169,7 @@ module _ (texts : ℕ) (rows_a rows_b : List (List IdValue)) where
   rares_from n (f ∷ fs) = λ i. rare_by f.compare (id_counts texts rows_a rows_b n) f.rare i ∷ rares_from (n + 1) fs i
 
   pub rares_answered : (fields : List FieldKeys) (all : List FieldById) → map answers_of all ≡ map (comparator_at texts rows_a rows_b) (enumerate_from 0 fields) → map field_rare all ≡ rares_of fields
-  rares_answered fields all e = sym (map_via answers_of (λ (c : SideComparator IdValue). c.rare) all) ∙ ap (map (λ (c : SideComparator IdValue). c.rare)) e ∙ rares_from 0 fields
+  rares_answered fields all e = sym (map-map (λ (c : SideComparator IdValue). c.rare) answers_of all) ∙ ap (map (λ (c : SideComparator IdValue). c.rare)) e ∙ rares_from 0 fields
 
 -- what the comparators of the first fields may be asked of
 abbrev pub AskedOf : ℕ → List FieldKeys → List FieldById → ℕ → Type 0

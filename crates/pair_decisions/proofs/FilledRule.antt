@@ -1,7 +1,6 @@
 -- The rule as a function is a filled table, and so the only one.
-use Rattle.std.proofs.Common.{◌≡◌, ◌+◌, ◌-◌, ◌/◌, ◌<◌, ◌≤◌, ◌∙◌, ℕ, List, map, ap, arith, refl, reverse, subst, sym, suc, Bool, true, false, [], ◌∷◌, length, get_or, Option, Some, None, inl, inr, nat_le, MatchBool, is_some, slice_get, slice_index}
+use Rattle.std.proofs.Common.{◌≡◌, ◌+◌, ◌-◌, ◌/◌, ◌<◌, ◌≤◌, ◌∙◌, ℕ, List, map, ap, arith, refl, reverse, subst, sym, suc, Bool, true, false, [], ◌∷◌, length, get_or, Option, Some, None, inl, inr, nat_le, MatchBool, is_some, slice_get, slice_index, IsPermutation}
 use Rattle.std.specs.List.{All, AllPairs, enumerate_from}
-use Rattle.std.specs.List.Sorted.{IsPermutation}
 use Rattle.std.proofs.lemmas.List.{reverse-reverse, get_or-map, get_or_past, length-map}
 use Rattle.std.proofs.lemmas.List.Elements.{All-from_recursion, recursion_from_All}
 use Rattle.std.proofs.lemmas.List.Sorted.{All-permutation, IsPermutation-reverse, IsPermutation-sym}
@@ -9,27 +8,24 @@ use Rattle.link_base.specs.declared.rule.RuleCell.{RuleCell}
 use Rattle.link_base.specs.declared.shares.FieldShares.{FieldShares}
 use Rattle.link_limits.specs.declared.TheConstants.{PER_MILLION, WHOLE_RULE}
 use Rattle.decision_rule.specs.Filled.{IsFilled, LinksAreCut, NonlinksAreCut, asked_of, chances_of, all_chances}
-use Rattle.decision_rule.specs.Order.{RanksBefore}
+use Rattle.decision_rule.specs.Rule.{RanksBefore}
 use Rattle.decision_rule.specs.Walk.{CutBy}
 use Rattle.decision_rule.specs.CutLaws.{IsCut-from_walk}
-use Rattle.decision_rule.specs.FilledLaws.{links_kept, one_filled, positive_cells, map_turned}
-use Rattle.decision_rule.specs.RuleLaws.{in_order, order_kept, permuted}
+use Rattle.decision_rule.specs.FilledLaws.{links_kept, one_filled, positive_cells, map_turned, in_order, order_kept, permuted}
 use Rattle.link_plan.specs.Plan.{PlainShares, FieldKeys}
 use Rattle.link_plan.specs.declared.plan.Plan.{Plan}
-use Rattle.pair_decisions.specs.PlanRule.{IsRuleOf}
-use Rattle.pair_decisions.specs.PlanShares.{plain_all}
-use Rattle.pair_decisions.specs.TheRule.{cells_of_patterns, ranked, the_rule, with_links, with_nonlinks}
+use Rattle.pair_decisions.specs.Words.{IsRuleOf, plain_all, cells_of_patterns, ranked, with_links, with_nonlinks, comparator_at, comparator_by, comparators_of, count_of_id, id_counts, rares_of, SideComparator, StandForFile, StandInField, field_comparator, field_comparator_at, field_comparators, holders_of, is_rare_canon, pattern_of_pair, values_of, pattern_over, rares_in}
+use Rattle.pair_decisions.specs.TheRule.{the_rule}
 use Rattle.pair_decisions.proofs.ListSteps.{give_all, give_keeps, give_walks, all_chances_are, room_is, ranked_in_order, ranked_permutes, rare_counted}
 use Rattle.std.proofs.lemmas.Bool.{cases_lt}
 use Rattle.std.proofs.lemmas.List.FromFn.{get_or-map-range_with_len}
 use Rattle.std.proofs.lemmas.Option.{slice_get_within}
-use Rattle.comparators.specs.OfPoolLaws.{outcomes_alike, rare_alike}
-use Rattle.comparators.specs.Fields.{id_in, kind_outcome}
+use Rattle.comparators.specs.OfPoolLaws.{names_as, outcomes_alike, rare_alike}
+use Rattle.comparators.specs.Fields.{id_in, kind_outcome, IsDayItself, NamesCanon, rare_where, StandsFor}
 use Rattle.comparators.specs.Laws.{outcome_by, outcome_of_counted, outcome_of_texts}
-use Rattle.comparators.specs.OfPool.{IsDayItself, NamesCanon, rare_where, StandsFor}
 use Rattle.comparators.specs.declared.ids.IdValue.{IdValue}
 use Rattle.comparators.specs.declared.ids.IdValue.TheVariants as id
-use Rattle.link_base.specs.Standard.{Record, absent_value, no_record}
+use Rattle.link_base.specs.Words.{Record, absent_value, no_record}
 use Rattle.value_forms.specs.declared.canons.CompareKind.{CompareKind}
 use Rattle.value_forms.specs.declared.canons.CompareKind.TheVariants as by
 use Rattle.link_base.specs.declared.rule.Outcome.{Outcome}
@@ -39,10 +35,6 @@ use Rattle.link_plan.specs.Ranges.{KeepsRanges, may_be_rare}
 use Rattle.patterns.specs.Patterns.{number_of, outcomes}
 use Rattle.value_forms.specs.Canons.{canon_of, compares_days, day_in}
 use Rattle.pair_decisions.proofs.ComparatorLemmas.{canon_of_rare, rares_from}
-use Rattle.pair_decisions.specs.Comparators.{comparator_at, comparator_by, comparators_of, count_of_id, id_counts, rares_of, SideComparator}
-use Rattle.pair_decisions.specs.FieldComparators.{field_comparator, field_comparator_at, field_comparators, holders_of, is_rare_canon, pattern_of_pair, values_of}
-use Rattle.pair_decisions.specs.PairRule.{pattern_over, rares_in}
-use Rattle.pair_decisions.specs.RareValues.{StandForFile, StandInField}
 
 -- ---- cells of all patterns
 
@@ -193,18 +185,10 @@ module _ (texts : List (List ℕ)) (distinct : (a b : ℕ) → a < length texts 
 
   rare_of_canons : (most : ℕ) (counts : List ℕ) (holders : List ℕ → ℕ) → Counts counts holders → (x y : Option (List ℕ)) (a b : IdValue) → NamesCanon texts x a → NamesCanon texts y b
       → outcome_by (outcome_of_counted most counts) (id_in a) (id_in b) ≡ rare_where (is_rare_canon most holders x) (outcome_by outcome_of_texts x y)
-  rare_of_canons most counts holders of None y id.Absent b h k = refl
-  rare_of_canons most counts holders of None y (id.Id m) b h k = absurd h
-  rare_of_canons most counts holders of None y (id.Day m) b h k = absurd h
-  rare_of_canons most counts holders of (Some c) y id.Absent b h k = absurd h
-  rare_of_canons most counts holders of (Some c) y (id.Day m) b h k = absurd h
-  rare_of_canons most counts holders of (Some c) None (id.Id m) id.Absent h k = missing_stays (nat_le (holders c) most)
-  rare_of_canons most counts holders of (Some c) None (id.Id m) (id.Id n) h k = absurd k
-  rare_of_canons most counts holders of (Some c) None (id.Id m) (id.Day n) h k = absurd k
-  rare_of_canons most counts holders of (Some c) (Some d) (id.Id m) id.Absent h k = absurd k
-  rare_of_canons most counts holders of (Some c) (Some d) (id.Id m) (id.Day n) h k = absurd k
-  rare_of_canons most counts holders of (Some c) (Some d) (id.Id m) (id.Id n) h k =
-      rare_alike texts distinct most counts m n c d h k ∙ ap (λ held. rare_where (nat_le held most) (outcome_of_texts c d)) (of m c h)
+  rare_of_canons most counts holders of x y a b h k =
+      names_as texts distinct x a h (λ u i. outcome_by (outcome_of_counted most counts) i (id_in b) ≡ rare_where (is_rare_canon most holders u) (outcome_by outcome_of_texts u y)) refl
+      (λ c m at. names_as texts distinct y b k (λ v j. outcome_by (outcome_of_counted most counts) (Some m) j ≡ rare_where (nat_le (holders c) most) (outcome_by outcome_of_texts (Some c) v)) (missing_stays (nat_le (holders c) most))
+      (λ d n there. rare_alike texts distinct most counts m n c d at there ∙ ap (λ held. rare_where (nat_le held most) (outcome_of_texts c d)) (of m c at)))
 
   -- a side that is no day names the canon of its value
   named : (kind : CompareKind) (x : Value) (side : IdValue) → compares_days kind ≡ false → StandsFor texts kind x side → NamesCanon texts (canon_of kind x) side

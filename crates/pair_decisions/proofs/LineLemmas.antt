@@ -5,12 +5,8 @@ use Rattle.std.proofs.lemmas.List.{get_or-map, length-map, append-nil, map-appen
 use Rattle.std.proofs.lemmas.List.Elements.{All-from_recursion, recursion_from_All}
 use Rattle.std.proofs.lemmas.List.FromFn.{get_or-enumerate_from, length-enumerate_from}
 use Rattle.std.proofs.lemmas.Nat.{mul-add-lt}
-use Rattle.file_reader.specs.Left.{records_in}
-use Rattle.file_reader.specs.Rows.{TableRow}
-use Rattle.file_reader.specs.Table.{table_of}
-use Rattle.link_base.specs.Answers.{and_then}
-use Rattle.link_base.specs.Shares.{IsShares, outcomes_of}
-use Rattle.link_base.specs.Standard.{Record}
+use Rattle.file_reader.specs.Words.{records_in, table_of, TableRow}
+use Rattle.link_base.specs.Words.{and_then, IsShares, outcomes_of, Record}
 use Rattle.link_base.specs.declared.fault.Fault.{Fault}
 use Rattle.link_base.specs.declared.fault.FileRole.TheVariants as role
 use Rattle.value_forms.specs.declared.canons.CompareKind.{CompareKind}
@@ -22,21 +18,14 @@ use Rattle.comparators.specs.Fields.{kind_laws}
 use Rattle.link_plan.specs.Plan.{FieldKeys, PlainShares}
 use Rattle.link_plan.specs.Ranges.{AreShares}
 use Rattle.link_plan.specs.declared.plan.Plan.{Plan}
-use Rattle.patterns.specs.Patterns.{number_of, outcomes}
-use Rattle.patterns.specs.Shapes.{digit_of, pattern_count_by}
-use Rattle.patterns.specs.ShapeLaws.{count-pos, digit-lt}
+use Rattle.patterns.specs.Patterns.{number_of, outcomes, digit_of, pattern_count_by}
+use Rattle.patterns.specs.PatternLaws.{count-pos, digit-lt}
 use Rattle.sample_counts.specs.Counts.{CountsState, count_of, has_status}
 use Rattle.sample_counts.specs.Sample.{reviewed_rows, sample_of, sample_under, sample_wanted, with_both}
 use Rattle.sample_counts.specs.declared.counts.Judged.{Judged}
 use Rattle.sample_counts.specs.declared.reviewed.Reviewed.{Reviewed}
-use Rattle.sample_counts.specs.CountLaws.{all-digits, none-rare, some-matched, some-unmatched}
-use Rattle.sample_counts.specs.ShareLaws.{valid_shares, valid_shares4}
-use Rattle.pair_decisions.specs.Comparators.{SideComparator, rares_of}
-use Rattle.pair_decisions.specs.FieldComparators.{field_comparator, field_comparator_at, field_comparators, holders_of, pattern_of_pair, values_of}
-use Rattle.pair_decisions.specs.PairRule.{rares_in}
-use Rattle.pair_decisions.specs.PlanRule.{IsRuleOf}
-use Rattle.pair_decisions.specs.PlanShares.{counted_in, counts_by_pattern, given_in, HaveValidShares, outcome_counts, plain_all, shares_at, shares_in, status_shares}
-use Rattle.pair_decisions.specs.TheRule.{the_rule}
+use Rattle.sample_counts.specs.CountLaws.{all-digits, none-rare, some-matched, some-unmatched, valid_shares, valid_shares4}
+use Rattle.pair_decisions.specs.Words.{SideComparator, rares_of, field_comparator, field_comparator_at, field_comparators, holders_of, pattern_of_pair, values_of, rares_in, IsRuleOf, counted_in, counts_by_pattern, given_in, HaveValidShares, outcome_counts, plain_all, shares_at, shares_in, status_shares, the_rule}
 use Rattle.pair_decisions.proofs.FilledRule.{the_rule_of_plan, value_rares}
 use Rattle.std.proofs.lemmas.Grind.{flat_map-append}
 use Rattle.link_report.specs.declared.open.PairRow.{PairRow}

@@ -1,36 +1,28 @@
 -- How many rows have an id.
-use Rattle.std.proofs.Common.{◌≡◌, ◌≤◌, ℕ, zero, suc, Bool, List, ◌++◌, length, get_or, take, refl, ◌∙◌, arith, replicate, ◌+◌, ◌<◌, [], ◌∷◌, map, ap, sym, ◌*◌, ◌/◌, ◌%◌, ◌^◌, ◌+ℤ◌, true, false, if◌then◌else◌, Option, Some, None, subst, MatchBool, slice_get, IfSome, is_some, not, min}
+use Rattle.std.proofs.Common.{◌≡◌, ◌≤◌, ℕ, zero, suc, Bool, List, length, get_or, take, refl, arith, replicate, ◌+◌, ◌<◌, [], ◌∷◌, ◌++◌, map, ap, sym, ◌∙◌, ◌*◌, ◌/◌, ◌%◌, ◌^◌, ◌+ℤ◌, true, false, if◌then◌else◌, Option, Some, None, subst, MatchBool, slice_get, IfSome, is_some, not, min, IsPermutation}
 use Rattle.std.specs.List.{filter, enumerate_from, range_with_len, All, AllPairs, filter_map, AllByRecursion}
-use Rattle.std.proofs.lemmas.List.{length-take-le, take_all, take-append-le, ext_get_or, map_push, take_more, length-map, get_or-map}
+use Rattle.std.proofs.lemmas.List.{length-take-le, map_push, take_more, length-map, get_or-map}
 use Rattle.std.proofs.lemmas.List.Sums.{length-filter, count_by-le-length}
-use Rattle.std.proofs.lemmas.List.FromFn.{get_or-map-range_with_len, length-map-range_with_len}
+use Rattle.std.proofs.lemmas.Simd.{map-map}
 use Rattle.link_base.specs.declared.shares.FieldShares.{FieldShares}
 use Rattle.link_limits.specs.declared.TheConstants.{PER_MILLION, WHOLE_FIELD, WHOLE_RULE}
 use Rattle.decision_rule.specs.Filled.{asked_of, chances_at, chances_of, all_chances}
-use Rattle.patterns.specs.Chances.{chance_of, pattern_count_of, weight_of, rare_in}
-use Rattle.patterns.specs.Shapes.{pattern_count_by}
-use Rattle.patterns.specs.Weight.{eighth_weight_of}
+use Rattle.patterns.specs.Patterns.{chance_of, pattern_count_of, weight_of, rare_in, pattern_count_by, eighth_weight_of}
 use Rattle.link_plan.specs.Plan.{PlainShares, plain_shares, FieldKeys}
-use Rattle.pair_decisions.specs.PlanShares.{plain_all}
-use Rattle.pair_decisions.specs.TheRule.{cells_of_patterns, cell_of_pattern, plain_chance, plain_count, plain_weight, room_for, ranked, ranked_with, give}
-use Rattle.pair_decisions.specs.CellLaws.{map_via}
-use Rattle.std.specs.List.Sorted.{IsPermutation}
+use Rattle.pair_decisions.specs.Words.{plain_all, cells_of_patterns, cell_of_pattern, plain_chance, plain_count, plain_weight, room_for, ranked, ranked_with, give, count_of_id, has_id, is_id, rares_of, StandInField, is_canon, records_with}
 use Rattle.std.proofs.lemmas.List.Elements.{All-cons, All-nil, filter_map-append}
 use Rattle.std.proofs.lemmas.List.Kept.{AllPairs-cons}
 use Rattle.std.proofs.lemmas.List.Sorted.{All-permutation, IsPermutation-cons, IsPermutation-middle, IsPermutation-refl, IsPermutation-sym, IsPermutation-trans}
 use Rattle.link_base.specs.declared.rule.RuleCell.{RuleCell}
 use Rattle.decision_rule.specs.Sorting.{ranks_before}
-use Rattle.decision_rule.specs.SortingLaws.{ranks_before-IsStrictWeakOrder}
-use Rattle.link_base.specs.Standard.{Record, absent_value, no_record}
+use Rattle.decision_rule.specs.CutLaws.{ranks_before-IsStrictWeakOrder}
+use Rattle.link_base.specs.Words.{Record, absent_value, no_record}
 use Rattle.value_forms.specs.declared.canons.CompareKind.{CompareKind}
 use Rattle.comparators.specs.OfPoolLaws.{ids_alike}
-use Rattle.comparators.specs.OfPool.{IsDayItself, NamesCanon}
+use Rattle.comparators.specs.Fields.{IsDayItself, NamesCanon}
 use Rattle.comparators.specs.declared.ids.IdValue.{IdValue}
 use Rattle.comparators.specs.declared.ids.IdValue.TheVariants as id
 use Rattle.value_forms.specs.Canons.{canon_of, compares_days, day_in}
-use Rattle.pair_decisions.specs.Comparators.{count_of_id, has_id, is_id, rares_of}
-use Rattle.pair_decisions.specs.FieldComparators.{is_canon, records_with}
-use Rattle.pair_decisions.specs.RareValues.{StandInField}
 use Rattle.link_plan.specs.Ranges.{AreShares, IsField}
 use Rattle.std.proofs.Math.Nat.{min-le_left}
 use Rattle.decision_rule.specs.Walk.{CutBy, room_after}
@@ -46,9 +38,6 @@ pub zeros : (n k : ℕ) → get_or (replicate {A = ℕ} n 0) k 0 ≡ zero
 zeros zero k = refl
 zeros (suc n) zero = refl
 zeros (suc n) (suc k) = zeros n k
-
-pub front_is : (xs ys : List ℕ) (n : ℕ) → n ≡ length xs → take n (xs ++ ys) ≡ xs
-front_is xs ys n e = take-append-le n xs ys (omega arith) ∙ take_all n xs (omega arith)
 
 -- One element more, in lists that are made from elements with their places.
 
@@ -75,16 +64,10 @@ pub made_more : {X Y Z : Type 0} (f : Y → Z) (g : X → Z) (xs : List X) (i : 
 made_more f g xs i x ys y lt is same so_far =
     map_push f ys y ∙ (λ j. so_far j ++ (same ∙ ap g is) j ∷ []) ∙ sym (map_push g (take i xs) (get_or xs i x)) ∙ ap (map g) (sym (take_more xs i x lt))
 
--- a list that is known by its elements
-pub known_by : (f : ℕ → ℕ) (n : ℕ) (xs : List ℕ) → length xs ≡ n → ((k : ℕ) → k < n → get_or xs k 0 ≡ f k) → xs ≡ map f (range_with_len 0 n)
-known_by f n xs len at =
-    ext_get_or 0 xs (map f (range_with_len 0 n)) (len ∙ sym (length-map-range_with_len f 0 n))
-    (λ k lt. at k (omega arith) ∙ sym (get_or-map-range_with_len f 0 n k k 0 (omega arith) (omega arith)))
-
 -- The patterns of plain shares are those of the shares.
 
 count_is : (xs : List FieldShares) → plain_count (plain_all xs) ≡ pattern_count_of xs
-count_is xs = ap pattern_count_by (map_via plain_shares (λ (s : PlainShares). s.rare) xs)
+count_is xs = ap pattern_count_by (map-map (λ (s : PlainShares). s.rare) plain_shares xs)
 
 chance_is : (part : PlainShares → List ℕ) (xs : List FieldShares) (p : ℕ) → plain_chance part (plain_all xs) p ≡ chance_of (λ (f : FieldShares). part (plain_shares f)) xs p
 chance_is part [] p = refl
@@ -109,7 +92,7 @@ chances_are xs p = λ i. record {
 -- the cells of all patterns have the chances of all patterns
 pub all_chances_are : (xs : List FieldShares) → map chances_of (cells_of_patterns (plain_all xs)) ≡ all_chances xs
 all_chances_are xs =
-    map_via (cell_of_pattern (plain_all xs)) chances_of (range_with_len 0 (plain_count (plain_all xs))) ∙ (λ i. map (λ p. chances_are xs p i) (range_with_len 0 (count_is xs i)))
+    map-map chances_of (cell_of_pattern (plain_all xs)) (range_with_len 0 (plain_count (plain_all xs))) ∙ (λ i. map (λ p. chances_are xs p i) (range_with_len 0 (count_is xs i)))
 
 -- the room is what the level asks for
 pub room_is : (xs : List FieldShares) (ppm : ℕ) → room_for (plain_all xs) ppm ≡ asked_of xs ppm / PER_MILLION

@@ -1,17 +1,29 @@
 -- The decisions of a rule on pairs of two files (Fellegi and Sunter 1969, section 2). `decide_pairs` carries them (clause
 -- `decided`); the decision on one pair is by `decide_in_cell`.
-use Rattle.std.specs.Prelude.{◌≡◌, ◌+◌, ◌-◌, ◌≤◌, ℕ, Bool, true, false, List, All, AllPairs, filter, length}
+use Rattle.std.specs.Prelude.{◌<◌, ℕ, List, length, nat_le, if◌then◌else◌, Result, Ok, Err, ◌≡◌, ◌+◌, ◌-◌, ◌≤◌, Bool, true, false, All, AllPairs, filter}
 use Rattle.link_limits.specs.declared.TheConstants.{MOST_PAIRS}
+use Rattle.link_base.specs.declared.fault.Fault.{Fault}
+use Rattle.link_base.specs.declared.rule.PairAt.{PairAt}
 use Rattle.comparators.specs.declared.ids.IdValue.{IdValue}
 use Rattle.decision_rule.specs.Border.{border_word}
-use Rattle.decision_rule.specs.Decide.{decision_of}
+use Rattle.decision_rule.specs.Rule.{decision_of}
 use Rattle.link_base.specs.declared.rule.Decision.{Decision}
 use Rattle.link_base.specs.declared.rule.Decision.TheVariants.{Link, NonLink, Possible}
-use Rattle.link_base.specs.declared.rule.PairAt.{PairAt}
-use Rattle.link_base.specs.Rule.{IsPairBefore}
+use Rattle.link_base.specs.Words.{IsPairBefore}
 use Rattle.pair_decisions.specs.PairRule.{cell_of, FileRule, PairRuleView, side_rule}
-use Rattle.pair_decisions.specs.Pairs.{IsInside}
 use Rattle.pair_decisions.specs.declared.rows.DecidedRow.{DecidedRow}
+use Rattle.link_base.specs.declared.fault.Fault.TheVariants as fault
+
+-- Lists of pairs: the compared pairs where they are not too many (`decide_pairs`, clause `answer`), and pairs that stand in two files (clause
+-- `decided`).
+
+-- pairs, where they are not too many
+abbrev pub pairs_within : List PairAt → Result (List PairAt) Fault
+pairs_within pairs = if nat_le (length pairs) MOST_PAIRS then Ok pairs else Err (fault.TooManyPairs MOST_PAIRS)
+
+-- a pair of positions in files of so many records
+abbrev pub IsInside : ℕ → ℕ → PairAt → Type 0
+IsInside rows_a rows_b at = (at.a < rows_a) × (at.b < rows_b)
 
 -- the decision on the pair at positions, by the cell of its comparison pattern and its border word
 unfoldable pub decision_at : FileRule → PairAt → Decision

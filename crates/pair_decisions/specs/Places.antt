@@ -5,7 +5,7 @@ use Rattle.comparators.specs.Fields.{field_rare}
 use Rattle.comparators.specs.declared.ids.FieldById.{FieldById}
 use Rattle.link_base.specs.declared.rule.RuleCell.{RuleCell}
 use Rattle.link_limits.specs.declared.TheConstants.{MOST_FIELDS}
-use Rattle.patterns.specs.Shapes.{pattern_count_by}
+use Rattle.patterns.specs.Patterns.{pattern_count_by}
 use Rattle.pair_decisions.specs.PairRule.{has_pattern}
 
 -- the place of the first cell of a pattern

@@ -2,9 +2,8 @@
 -- sample, by the comparison patterns of its pairs (`counted_shares`, clause `answer`).
 use Rattle.std.specs.Prelude.{◌≡◌, ◌≤◌, ℕ, Bool, true, false, List, [], ◌∷◌, ◌++◌, All, IfSome, is_some, length, map, Result, Ok, if◌then◌else◌}
 use Rattle.std.specs.List.{enumerate_from, filter_map, range_with_len}
-use Rattle.file_reader.specs.Left.{records_in}
-use Rattle.link_base.specs.Answers.{and_then}
-use Rattle.link_base.specs.Standard.{Record}
+use Rattle.file_reader.specs.Words.{records_in}
+use Rattle.link_base.specs.Words.{and_then, Record}
 use Rattle.link_base.specs.declared.fault.Fault.{Fault}
 use Rattle.link_base.specs.declared.rule.PairAt.{PairAt}
 use Rattle.link_base.specs.declared.shares.FieldShares.{FieldShares}
@@ -15,8 +14,11 @@ use Rattle.link_plan.specs.Plan.{FieldKeys, PlainShares, plain_shares}
 use Rattle.link_plan.specs.Ranges.{AreShares}
 use Rattle.sample_counts.specs.Remainders.{share_of}
 use Rattle.link_limits.specs.declared.TheConstants.{MOST_FIELDS}
-use Rattle.patterns.specs.Chances.{rare_in}
+use Rattle.patterns.specs.Patterns.{rare_in}
 use Rattle.pair_decisions.specs.Comparators.{rares_of}
+use Rattle.link_base.specs.declared.rule.RuleCell.{RuleCell}
+use Rattle.decision_rule.specs.Filled.{IsFilled}
+use Rattle.link_plan.specs.declared.plan.Plan.{Plan}
 
 abbrev pub plain_all : List FieldShares → List PlainShares
 plain_all shares = map plain_shares shares
@@ -72,3 +74,12 @@ abbrev pub counted_in : List FieldKeys → (PairAt → ℕ) → List Record → 
 counted_in fields pattern a b bytes =
     and_then (sample_of a b (records_in 44 bytes)) (λ sample.
     Ok (shares_in (counts_by_pattern (rares_of fields) pattern sample)))
+
+-- The decision rule of a plan for given shares: the filled table at the levels that the plan asks for. `rule_of_shares`
+-- carries it (clause `rule`), and the law `the_rule_is_filled` says that there is one at most (clause `one`).
+
+-- the cells of the rule of a plan for these shares of its fields
+pub record IsRuleOf (plan : Plan) (shares : List PlainShares) (cells : List RuleCell) : Type 0 where
+  pub by_shares : List FieldShares
+  pub same : plain_all by_shares ≡ shares
+  pub filled : IsFilled by_shares plan.terms.mu_ppm plan.terms.lambda_ppm cells

@@ -8,8 +8,7 @@ use Rattle.link_limits.specs.declared.TheConstants.{PER_MILLION, WHOLE_FIELD, WH
 use Rattle.link_base.specs.declared.rule.RuleCell.{RuleCell}
 use Rattle.decision_rule.specs.Sorting.{ranks_before}
 use Rattle.decision_rule.specs.Walk.{room_after}
-use Rattle.patterns.specs.Shapes.{pattern_count_by}
-use Rattle.patterns.specs.Weight.{eighth_weight_of}
+use Rattle.patterns.specs.Patterns.{pattern_count_by, eighth_weight_of}
 use Rattle.link_plan.specs.Plan.{PlainShares}
 
 -- how many patterns there are, and the chances and the weight of one: as in `Chances` of `patterns`, of plain shares

@@ -3,8 +3,7 @@ ghost use Rattle.std.specs.Prelude.{◌≡◌, ◌<◌, ◌≤◌, List, All, If
 ghost use Rattle.comparators.specs.Fields.{IsFieldSide, field_of};
 ghost use Rattle.comparators.specs.declared.ids.IdValue.{IdValue as SideValue};
 ghost use Rattle.comparators.specs.declared.ids.IdValue.TheVariants as id;
-ghost use Rattle.pair_decisions.specs.Comparators.{answers_of, comparator_by, id_counts};
-ghost use Rattle.pair_decisions.specs.Sides.{AreComparatorsOver, AreSidesOf, IsOfTexts};
+ghost use Rattle.pair_decisions.specs.Comparators.{answers_of, comparator_by, id_counts, AreComparatorsOver, AreSidesOf, IsOfTexts};
 ghost use Rattle.link_plan.specs.Ranges.{IsRareNumber, KeepsRanges};
 
 use crate::id_counts::counts_in;

@@ -2,15 +2,14 @@
 ghost use Rattle.std.specs.Prelude.{◌≡◌, ◌≤◌, All, AllPairs, IfOk, length};
 ghost use Rattle.link_base.specs.Fault.{Gives};
 ghost use Rattle.link_base.specs.Rule.{IsPairBefore};
-ghost use Rattle.pair_decisions.specs.Decisions.{count_with};
+ghost use Rattle.pair_decisions.specs.Decisions.{count_with, IsInside, pairs_within};
 ghost use Rattle.pair_decisions.specs.PairRule.{AreSidesFor};
 ghost use Rattle.pair_decisions.specs.PairRows.{IsDecidedOn};
-ghost use Rattle.pair_decisions.specs.Pairs.{IsInside, pairs_within};
-ghost use Rattle.pair_walk.specs.Pairs.{pairs_of_rows};
+ghost use Rattle.pair_walk.specs.Rows.{pairs_of_rows};
 
 use crate::pair_rule::PairRule;
 use crate::rows::DecidedRow;
-use crate::walking::decide_rows;
+use crate::walking::{Found, decide_rows};
 use comparators::IdTable;
 use link_base::{Decision, Fault, PairAt};
 use link_limits::MOST_ROWS;
@@ -23,10 +22,7 @@ use std::marker::Model;
 #[derive(Drop)]
 pub struct Decided {
     rule: PairRule,
-    rows: Vec<DecidedRow>,
-    compared: u32,
-    links: Vec<PairAt>,
-    possible: Vec<PairAt>,
+    found: Found,
 }
 
 impl Model for Decided {
@@ -35,9 +31,9 @@ impl Model for Decided {
 
     ghost Value = { DecidedView };
 
-    ghost view = { λ d. record { rule = d.rule; rows = d.rows.items; compared = d.compared; links = d.links.items; possible = d.possible.items } };
+    ghost view = { λ d. record { rule = d.rule; rows = d.found.rows.items; compared = d.found.compared; links = d.found.links.items; possible = d.found.possible.items } };
 
-    ghost invariant = { λ d. length d.links.items + length d.possible.items ≤ d.compared };
+    ghost invariant = { λ d. length d.found.links.items + length d.found.possible.items ≤ d.found.compared };
 }
 
 impl Decided {
@@ -52,37 +48,37 @@ impl Decided {
     pub fn rows(&self) -> &[DecidedRow]
         ensures { result.now ≡ self.now.rows }
     {
-        &self.rows
+        &self.found.rows
     }
 
     /// The links, rising by the positions in A and then in B.
     pub fn links(&self) -> &[PairAt]
         ensures { result.now ≡ self.now.links }
     {
-        &self.links
+        &self.found.links
     }
 
     /// The possible links, which go to clerical review, rising by the positions in A and then in B.
     pub fn possible(&self) -> &[PairAt]
         ensures { result.now ≡ self.now.possible }
     {
-        &self.possible
+        &self.found.possible
     }
 
     /// How many pairs were compared.
     pub fn compared(&self) -> u32
         ensures { result ≡ self.now.compared }
     {
-        self.compared
+        self.found.compared
     }
 
     /// How many of the compared pairs have a decision.
     pub fn count(&self, kind: Decision) -> u32
         ensures { result ≡ count_with self.now kind }
     {
-        let compared = self.compared;
-        let links = self.links.len() as u32;
-        let possible = self.possible.len() as u32;
+        let compared = self.found.compared;
+        let links = self.found.links.len() as u32;
+        let possible = self.found.possible.len() as u32;
         match kind {
             Decision::Link => links,
             Decision::Possible => possible,
@@ -113,13 +109,7 @@ pub fn decide_pairs(
 {
     rule.has_cells();
     match decide_rows(alloc, blocks.walk(), &rule, sides_a, sides_b, with_rows) {
-        Ok(found) => Ok(Decided {
-            rule,
-            rows: found.rows,
-            compared: found.compared,
-            links: found.links,
-            possible: found.possible,
-        }),
+        Ok(found) => Ok(Decided { rule, found }),
         Err(WalkFault::TooManyPairs { limit }) => Err(Fault::TooManyPairs { limit }),
         Err(WalkFault::NoMemory) => Err(Fault::NoMemory),
     }

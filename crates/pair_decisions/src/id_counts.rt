@@ -2,8 +2,7 @@
 ghost use Rattle.std.specs.Prelude.{◌≡◌, ◌+◌, ◌<◌, ◌≤◌, ◌^◌, ℕ, List, All, IfOk, length, filter, slice_index, slice_index_or, if◌then◌else◌};
 ghost use Rattle.comparators.specs.declared.ids.IdValue.{IdValue as SideValue};
 ghost use Rattle.comparators.specs.declared.ids.IdValue.TheVariants as id;
-ghost use Rattle.pair_decisions.specs.Comparators.{AddsCounts, has_id, id_counts, is_id};
-ghost use Rattle.pair_decisions.specs.Sides.{IsOfTexts};
+ghost use Rattle.pair_decisions.specs.Comparators.{AddsCounts, has_id, id_counts, is_id, IsOfTexts};
 
 use comparators::{IdTable, IdValue};
 use link_base::{NoMemory, Sides};

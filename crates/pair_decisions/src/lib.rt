@@ -6,7 +6,6 @@ mod choice;
 mod comparisons;
 mod deciding;
 mod id_counts;
-mod laws;
 mod lines;
 mod pair_rule;
 mod places;
@@ -15,18 +14,16 @@ mod rows;
 mod rule_laws;
 mod table;
 mod walking;
-mod writing;
 
 pub use choice::decide_in_cell;
 pub use comparisons::comparisons_of;
 pub use deciding::{Decided, decide_pairs};
-pub use laws::rule_has_patterns;
 pub use lines::pair_lines;
 pub use pair_rule::PairRule;
 pub use plan_shares::{counted_shares, given_shares, shares_of_counts};
 pub use rows::DecidedRow;
 pub use rule_laws::{
-    is_the_rule, one_rule, rare_counts, rule_is_least, same_patterns, shares_have_a_rule,
+    is_the_rule, rare_counts, rule_has_patterns, same_patterns, shares_have_a_rule,
     the_rule_is_filled,
 };
 pub use table::rule_of_shares;

@@ -3,9 +3,8 @@ ghost use Rattle.std.specs.Prelude.{◌≡◌, ◌<◌, ◌≤◌, All, IfOk, So
 ghost use Rattle.comparators.specs.Fields.{field_rare};
 ghost use Rattle.link_base.specs.Rule.{IsWithinRanges};
 ghost use Rattle.pair_decisions.specs.PairRule.{AreCellsOf, AreSidesFor, has_pattern, IsRuleOver, pattern_by};
-ghost use Rattle.patterns.specs.Shapes.{pattern_count_by};
-ghost use Rattle.pair_decisions.specs.Comparators.{answers_of, rares_of};
-ghost use Rattle.pair_decisions.specs.Sides.{AreSidesOf};
+ghost use Rattle.patterns.specs.Patterns.{pattern_count_by};
+ghost use Rattle.pair_decisions.specs.Comparators.{answers_of, rares_of, AreSidesOf};
 ghost use Rattle.link_plan.specs.Ranges.{KeepsRanges};
 
 use crate::comparisons::comparisons_of;

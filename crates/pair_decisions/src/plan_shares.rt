@@ -2,10 +2,9 @@
 ghost use Rattle.std.specs.Prelude.{◌≡◌, ◌<◌, ◌≤◌, All, None, false, IfOk, length, slice_index_or, true};
 ghost use Rattle.link_base.specs.Fault.{Gives};
 ghost use Rattle.link_base.specs.Shares.{IsShares};
-ghost use Rattle.pair_decisions.specs.Comparators.{comparators_of, rares_of};
+ghost use Rattle.pair_decisions.specs.Comparators.{comparators_of, rares_of, AreSidesOf};
 ghost use Rattle.pair_decisions.specs.PairRule.{pattern_over};
 ghost use Rattle.pair_decisions.specs.PlanShares.{AreFieldShares, counted_in, given_in, plain_all, shares_at, shares_in, status_shares};
-ghost use Rattle.pair_decisions.specs.Sides.{AreSidesOf};
 ghost use Rattle.link_plan.specs.Plan.{plain_shares};
 ghost use Rattle.link_plan.specs.Ranges.{KeepsRanges};
 

@@ -1,7 +1,7 @@
 // The row of a compared pair, as it is kept and as it is shown.
 ghost use Rattle.std.specs.Prelude.{◌≡◌, ◌<◌, ◌≤◌, All, length};
 ghost use Rattle.pair_decisions.specs.PairRule.{AreSidesFor, side_rule};
-ghost use Rattle.pair_decisions.specs.Pairs.{IsInside};
+ghost use Rattle.pair_decisions.specs.Decisions.{IsInside};
 ghost use Rattle.pair_decisions.specs.PairRows.{decided_row, shown_row, shown_verdict};
 
 use crate::choice::decide_in_cell;

@@ -1,13 +1,10 @@
 // The rule of a plan.
 ghost use Rattle.std.specs.Prelude.{◌≡◌, ◌<◌, ◌≤◌, All, IfOk, length};
 ghost use Rattle.link_base.specs.declared.rule.RuleCell.{RuleCell};
-ghost use Rattle.decision_rule.specs.Filled.{IsFilled};
-ghost use Rattle.decision_rule.specs.Least.{IsLeast};
-ghost use Rattle.patterns.specs.Shapes.{pattern_count_by};
-ghost use Rattle.patterns.specs.Chances.{pattern_count_of, rare_in};
+ghost use Rattle.decision_rule.specs.Filled.{IsFilled, IsLeast};
+ghost use Rattle.patterns.specs.Patterns.{pattern_count_by, pattern_count_of, rare_in};
 ghost use Rattle.pair_decisions.specs.Comparators.{rares_of};
-ghost use Rattle.pair_decisions.specs.PlanRule.{IsRuleOf};
-ghost use Rattle.pair_decisions.specs.PlanShares.{plain_all};
+ghost use Rattle.pair_decisions.specs.PlanShares.{IsRuleOf, plain_all};
 ghost use Rattle.link_plan.specs.Ranges.{KeepsRanges};
 
 use decision_rule::cut_rule;

@@ -1,10 +1,10 @@
 // The decisions on the pairs of a walk.
-ghost use Rattle.std.specs.Prelude.{◌≡◌, ◌<◌, ◌≤◌, ◌+◌, [], All, IfErr, IfOk, OnOk, length, map};
+ghost use Rattle.std.specs.Prelude.{◌≡◌, ◌<◌, ◌≤◌, ◌+◌, All, IfErr, IfOk, OnOk, length, map};
 ghost use Rattle.pair_decisions.specs.Found.{AddsDecisions, AddsRow, IsFoundOf};
 ghost use Rattle.pair_decisions.specs.PairRule.{AreSidesFor, side_rule};
-ghost use Rattle.pair_decisions.specs.Pairs.{IsInside};
-ghost use Rattle.pair_walk.specs.Pairs.{pair, pairs_of_rows};
-ghost use Rattle.pair_walk.specs.Walk.{RefusesPairs};
+ghost use Rattle.pair_decisions.specs.Decisions.{IsInside};
+ghost use Rattle.pair_walk.specs.Rows.{pair, pairs_of_rows};
+ghost use Rattle.pair_walk.specs.Walker.{RefusesPairs};
 
 use crate::pair_rule::PairRule;
 use crate::rows::{DecidedRow, row_at};
@@ -23,21 +23,6 @@ pub(crate) struct Found {
     pub(crate) links: Vec<PairAt>,
     pub(crate) possible: Vec<PairAt>,
     pub(crate) compared: u32,
-}
-
-// Room for the rows of the pairs of a walk, where they are to be kept.
-fn room_for_rows(
-    alloc: Global,
-    walker: &Walker<'_>,
-    with_rows: bool,
-) -> Result<Vec<DecidedRow>, NoMemory>
-    ensures { IfOk result (λ rows. rows.items ≡ []) }
-{
-    if !with_rows {
-        return Ok(Vec::new(alloc));
-    }
-    let room = walker.most_pairs().min(MOST_PAIRS as usize);
-    Ok(Vec::with_capacity(alloc, room)?)
 }
 
 // Keeps the row of a pair, where rows are kept, and the pair, where it is a link or a possible link.
@@ -104,9 +89,12 @@ pub(crate) fn decide_rows(
     ensures found { IfOk result (IsFoundOf (side_rule rule.now sides_a.now.rows sides_b.now.rows) with_rows (pairs_of_rows walker.entry.left)) }
 {
     let mut words = BorderWords::new(rule.seed());
-    let kept = match room_for_rows(alloc, &walker, with_rows) {
-        Ok(kept) => kept,
-        Err(NoMemory) => return Err(WalkFault::NoMemory),
+    let mut room = 0;
+    if with_rows {
+        room = walker.most_pairs().min(MOST_PAIRS as usize);
+    }
+    let Ok(kept) = Vec::with_capacity(alloc, room) else {
+        return Err(WalkFault::NoMemory);
     };
     let mut found = Found {
         rows: kept,

@@ -1,10 +1,8 @@
 // The rows of B that share a key with each row of A.
-ghost use Rattle.std.specs.Prelude.{◌≡◌, ◌<◌, ◌≤◌, ◌-◌, ◌^◌, length, slice_index_or, take, IfOk, IfSome, OnOk};
-ghost use Rattle.std.specs.List.{sum_by};
-ghost use Rattle.block_passes.specs.KeyIds.{key_ids};
+ghost use Rattle.std.specs.Prelude.{◌≡◌, ◌<◌, ◌≤◌, ◌-◌, ◌^◌, length, slice_index_or, take, IfOk, IfSome, OnOk, sum_by};
+ghost use Rattle.block_passes.specs.Keys.{key_ids};
 ghost use Rattle.pair_walk.specs.Joining.{AreKeyed};
-ghost use Rattle.pair_walk.specs.Pairs.{pairs_of_rows};
-ghost use Rattle.pair_walk.specs.Rows.{AreAllReady, AreKeysHeld, all_rows, no_partners};
+ghost use Rattle.pair_walk.specs.Rows.{pairs_of_rows, AreAllReady, AreKeysHeld, all_rows, no_partners};
 
 use crate::merging::join_row;
 use crate::passes::find_passes;

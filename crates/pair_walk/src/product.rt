@@ -2,9 +2,8 @@
 ghost use Rattle.std.specs.Prelude.{◌≡◌, ◌++◌, map, List, IfOk, OnOk};
 ghost use Rattle.link_base.specs.Standard.{Record};
 ghost use Rattle.value_forms.specs.declared.passes.Part.{Part};
-ghost use Rattle.pair_walk.specs.Pairs.{compared_pairs, pair, pairs_of_rows};
-ghost use Rattle.pair_walk.specs.Rows.{AreAllReady, AreKeysHeld, all_rows};
-ghost use Rattle.pair_walk.specs.Walk.{GivesPairs};
+ghost use Rattle.pair_walk.specs.Rows.{compared_pairs, pair, pairs_of_rows, AreAllReady, AreKeysHeld, all_rows};
+ghost use Rattle.pair_walk.specs.Walker.{GivesPairs};
 
 use crate::blocks::Blocks;
 use crate::fault::WalkFault;

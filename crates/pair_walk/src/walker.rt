@@ -1,6 +1,6 @@
 // The pairs row by row.
 ghost use Rattle.std.specs.Prelude.{◌≡◌, ◌<◌, ◌≤◌, ◌-◌, ◌^◌, [], length};
-ghost use Rattle.pair_walk.specs.Pairs.{pairs_of_rows};
+ghost use Rattle.pair_walk.specs.Rows.{pairs_of_rows};
 
 use crate::blocks::Blocks;
 use crate::fault::WalkFault;
@@ -51,7 +51,7 @@ impl<'b> Model for Walker<'b> {
 }
 
 impl<'b> Walker<'b> {
-    ghost use Rattle.pair_walk.specs.Next.{NextRow};
+    ghost use Rattle.pair_walk.specs.Walker.{NextRow};
 
     /// At most how many pairs are still to come, for the making of room, or 2^64 - 1 where they are too many to count: a pair
     /// that shares a key in two passes is counted in both, and what was given is counted too.

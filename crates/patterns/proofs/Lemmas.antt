@@ -5,15 +5,13 @@ use Rattle.std.proofs.lemmas.Bool.{cases_lt, le-leb, lt-leb}
 use Rattle.std.specs.List.{count_by, range_with_len}
 use Rattle.std.proofs.lemmas.List.Sums.{sum_by-cons}
 use Rattle.std.proofs.lemmas.Int.{ints}
-use Rattle.patterns.specs.Weight.{FitsWeight, IsEighthWeight, eighth_weight_of}
-use Rattle.link_base.specs.Shares.{outcomes_of}
-use Rattle.patterns.specs.Shapes.{outcome_at, outcome_with, pattern_count_by}
+use Rattle.patterns.specs.Patterns.{FitsWeight, IsEighthWeight, eighth_weight_of, outcome_at, outcome_with, pattern_count_by, number_of, outcomes}
+use Rattle.link_base.specs.Words.{outcomes_of}
 use Rattle.std.proofs.lemmas.List.{length-map}
 use Rattle.link_limits.specs.declared.TheConstants.{MOST_FIELDS, MOST_PATTERNS}
 use Rattle.link_base.specs.declared.rule.Outcome.{Outcome}
 use Rattle.link_base.specs.declared.rule.Outcome.TheVariants.{Rare}
-use Rattle.patterns.specs.Patterns.{number_of, outcomes}
-use Rattle.patterns.specs.ShapeLaws.{outcomes_bounds, count-pos, count-le, pattern-lt}
+use Rattle.patterns.specs.PatternLaws.{outcomes_bounds, count-pos, count-le, pattern-lt}
 
 -- a power that some multiple of keeps below another is the smaller
 pub exponent_below : (low i j n : ℕ) → 1 ≤ low → low * 2 ^ i ≤ n → n < 2 ^ j → i < j

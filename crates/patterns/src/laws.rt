@@ -3,7 +3,7 @@ ghost use Rattle.std.specs.Prelude.{◌≡◌, ℕ, ◌^◌, ◌<◌, List, leng
 ghost use Rattle.std.specs.List.{range_with_len};
 ghost use Rattle.link_base.specs.declared.shares.FieldShares.{FieldShares};
 ghost use Rattle.link_limits.specs.declared.TheConstants.{WHOLE_FIELD};
-ghost use Rattle.patterns.specs.Chances.{m_of, pattern_count_of, u_of};
+ghost use Rattle.patterns.specs.Patterns.{m_of, pattern_count_of, u_of};
 
 /// The chances of a pattern among matched and among unmatched pairs are positive, and those of all patterns add up to
 /// 1,024 to the number of fields.

@@ -1,8 +1,7 @@
 // The number of a comparison pattern, and its shape.
 ghost use Rattle.std.specs.Prelude.{◌≡◌, ◌<◌, ◌≤◌, ℕ, false, length, map, slice_index_or};
 ghost use Rattle.link_base.specs.declared.rule.Outcome.{Outcome};
-ghost use Rattle.patterns.specs.Shapes.{digit_of, outcome_at, pattern_count_by, rare_of};
-ghost use Rattle.patterns.specs.Patterns.{AreSides, number_of, outcomes};
+ghost use Rattle.patterns.specs.Patterns.{digit_of, outcome_at, pattern_count_by, rare_of, AreSides, number_of, outcomes};
 
 use crate::shapes::outcome_count;
 use comparators::Comparator;

@@ -1,8 +1,7 @@
 // How many comparison patterns there are, and the outcomes of one.
 ghost use Rattle.std.specs.Prelude.{◌≡◌, ◌<◌, ◌≤◌, length};
 ghost use Rattle.link_base.specs.Shares.{outcomes_of};
-ghost use Rattle.patterns.specs.Chances.{pattern_count_of};
-ghost use Rattle.patterns.specs.Shapes.{outcome_at, outcome_with, pattern_count_by, rare_of};
+ghost use Rattle.patterns.specs.Patterns.{pattern_count_of, outcome_at, outcome_with, pattern_count_by, rare_of};
 
 use link_base::{FieldShares, Outcome, Shape};
 use link_limits::{MOST_FIELDS, MOST_PATTERNS};

@@ -1,6 +1,6 @@
 // The weight of an outcome: a logarithm in whole eighths.
 ghost use Rattle.std.specs.Prelude.{◌≡◌, ℤ, pos, ◌-ℤ◌, ◌≤ℤ◌, ◌+◌, ◌-◌, ◌*◌, ◌^◌, ◌<◌, ◌≤◌};
-ghost use Rattle.patterns.specs.Weight.{IsEighthWeight, eighth_weight_of};
+ghost use Rattle.patterns.specs.Patterns.{IsEighthWeight, eighth_weight_of};
 
 /// The base-2 logarithm of `m` over `u`, in whole eighths, rounded down.
 pub fn eighth_weight(m: u16, u: u16) -> i16

@@ -6,10 +6,8 @@ use Rattle.std.proofs.lemmas.Grind.{common_steps}
 use Rattle.phonetic_keys.specs.Soundex.{letter_code, code_at, counts, counted_places, parts_codes, carried, code_behind, is_new_behind}
 use Rattle.std.proofs.lemmas.List.Elements.{All-from_recursion}
 use Rattle.std.proofs.lemmas.Bool.Decides.{nat_tests}
-use Rattle.phonetic_keys.specs.Alphabet.{A, C, D, E, F, G, H, I, K, M, N, P, Q, R, S, T, V, W, Y, Z, in_vowels}
-use Rattle.phonetic_keys.specs.Letters.{in_alphabet, letters_of}
-use Rattle.phonetic_keys.specs.Keys.{IsKey}
-use Rattle.phonetic_keys.specs.Nysiis.{body, body_over, body_rule, end_rule, ended, front, front_rule, last_of, rewritten_behind, spelled_on, tail_of, three_letters, with_ay_joined, without_last_letter}
+use Rattle.phonetic_keys.specs.Alphabet.{A, C, D, E, F, G, H, I, K, M, N, P, Q, R, S, T, V, W, Y, Z, in_vowels, in_alphabet, letters_of}
+use Rattle.phonetic_keys.specs.Nysiis.{IsKey, body, body_over, body_rule, end_rule, ended, front, front_rule, last_of, rewritten_behind, spelled_on, tail_of, three_letters, with_ay_joined, without_last_letter}
 use Rattle.phonetic_keys.specs.declared.rewriting.Three.{Three}
 
 -- the code that a front leaves

@@ -1,12 +1,10 @@
 -- The tail of a long key is its front.
-use Rattle.std.proofs.Common.{◌≡◌, ℕ, ◌+◌, ◌-◌, ◌≤◌, List, [], ◌∷◌, ◌++◌, Bool, true, false, cond, take, length, refl, ap, sym, ◌∙◌, arith, ◌↔◌, zero, suc, ◌<◌, min, slice_index}
+use Rattle.std.proofs.Common.{◌≡◌, ℕ, ◌+◌, ◌-◌, ◌≤◌, List, [], ◌∷◌, ◌++◌, Bool, true, false, cond, take, length, refl, ap, sym, ◌∙◌, arith, ◌↔◌, zero, suc, ◌<◌, min, slice_index, take-take}
 use Rattle.std.proofs.lemmas.Grind.{common_steps}
-use Rattle.std.proofs.lemmas.List.{take-take}
 use Rattle.phonetic_keys.specs.Alphabet.{A, S, Y}
 use Rattle.phonetic_keys.specs.Nysiis.{tail_to, without_last_letter, with_ay_joined, body, body_over, ended, rewritten_behind, body_rule, spelled_on}
 use Rattle.phonetic_keys.specs.declared.rewriting.Three.{Three}
-use Rattle.phonetic_keys.specs.Window.{KeepsLetters}
-use Rattle.phonetic_keys.specs.Walks.{HasNoGaps, StepsOverPlace, shown, text_of}
+use Rattle.phonetic_keys.specs.Walks.{KeepsLetters, HasNoGaps, StepsOverPlace, shown, text_of}
 use Rattle.phonetic_keys.specs.declared.walk.Walk.{Walk}
 
 -- the first n letters are the same, and there are at least k

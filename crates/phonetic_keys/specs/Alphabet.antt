@@ -1,5 +1,14 @@
 -- Letters by their codes, and the vowels, as the rules of NYSIIS name them (`nysiis`, clause `key`).
-use Rattle.std.specs.Prelude.{ℕ, Bool, ◌==◌, ◌||◌}
+use Rattle.std.specs.Prelude.{ℕ, List, Bool, ◌&&◌, nat_le, filter, ◌==◌, ◌||◌}
+
+-- The letters A to Z of a text, of which both keys are made (`soundex`, clause `letter`; `nysiis`).
+
+abbrev pub in_alphabet : ℕ → Bool
+in_alphabet b = nat_le 65 b && nat_le b 90
+
+-- the letters A to Z of a text, in their order
+abbrev pub letters_of : List ℕ → List ℕ
+letters_of text = filter in_alphabet text
 
 abbrev pub A : ℕ
 A = 65

@@ -1,8 +1,15 @@
 -- This project's NYSIIS: tail(body(end(front(letters)))). `nysiis` carries it (clause `key`).
-use Rattle.std.specs.Prelude.{ℕ, zero, suc, List, [], ◌∷◌, ◌++◌, ◌-◌, ◌&&◌, ◌||◌, not, ◌==◌, nat_lt, if◌then◌else◌, Option, Some, None, take, length, slice_index}
-use Rattle.phonetic_keys.specs.Letters.{letters_of}
+use Rattle.std.specs.Prelude.{ℕ, List, ◌≤◌, All, IsTrue, length, zero, suc, [], ◌∷◌, ◌++◌, ◌-◌, ◌&&◌, ◌||◌, not, ◌==◌, nat_lt, if◌then◌else◌, Option, Some, None, take, slice_index}
+use Rattle.phonetic_keys.specs.Alphabet.{in_alphabet, letters_of, A, C, D, E, F, G, H, I, K, M, N, P, Q, R, S, T, V, W, Y, Z, in_vowels}
 use Rattle.phonetic_keys.specs.declared.rewriting.Three.{Three}
-use Rattle.phonetic_keys.specs.Alphabet.{A, C, D, E, F, G, H, I, K, M, N, P, Q, R, S, T, V, W, Y, Z, in_vowels}
+
+-- The form of a NYSIIS key: what `Nysiis` is seen as (`Nysiis::bytes`, clause `letters`).
+
+-- one to six letters A to Z
+pub record IsKey (key : List ℕ) : Type 0 where
+  pub some : 1 ≤ length key
+  pub few : length key ≤ 6
+  pub letters : All (λ letter. IsTrue (in_alphabet letter)) key
 
 -- three letters in a row, 0 where there is none
 abbrev pub three_letters : ℕ → ℕ → ℕ → Three

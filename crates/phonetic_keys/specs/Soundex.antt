@@ -3,7 +3,7 @@
 use Rattle.std.specs.Prelude.{ℕ, List, [], ◌∷◌, ◌++◌, Bool, true, ◌-◌, ◌&&◌, ◌||◌, not, ◌==◌, if◌then◌else◌, Option, Some, None, codes, find, filter, map, reverse, take, length, slice_index}
 use Rattle.std.specs.List.{range_with_len}
 use Rattle.std.specs.Option.{option_map_or}
-use Rattle.phonetic_keys.specs.Letters.{letters_of}
+use Rattle.phonetic_keys.specs.Alphabet.{letters_of}
 
 -- the codes of A to Z in turn, as digits:
 --   ABCDEFGHIJKLMNOPQRSTUVWXYZ

@@ -1,6 +1,6 @@
 // The letters of a text.
 ghost use Rattle.std.specs.Prelude.{◌≡◌, [], ◌∷◌, IsTrue, MatchOption};
-ghost use Rattle.phonetic_keys.specs.Letters.{in_alphabet, letters_of};
+ghost use Rattle.phonetic_keys.specs.Alphabet.{in_alphabet, letters_of};
 
 pub(crate) fn is_letter(byte: u8) -> bool
     ensures { result ≡ in_alphabet byte }

@@ -2,7 +2,7 @@
 ghost use Rattle.std.specs.Prelude.{◌≡◌, ◌<◌};
 ghost use Rattle.phonetic_keys.specs.Alphabet.{in_vowels};
 ghost use Rattle.phonetic_keys.specs.Nysiis.{body_rule, end_rule, front_rule, three_letters};
-ghost use Rattle.phonetic_keys.specs.Window.{KeepsLetters};
+ghost use Rattle.phonetic_keys.specs.Walks.{KeepsLetters};
 
 /// Three letters in a row.
 #[derive(Clone, Copy)]

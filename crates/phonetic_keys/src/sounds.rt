@@ -1,6 +1,6 @@
 // Soundex: the code goes once over the bytes and carries the code of the nearest letter.
 ghost use Rattle.std.specs.Prelude.{◌≡◌, ◌↔◌, IsNone, [], ◌∷◌, ◌++◌, ℕ, List, IsTrue, map, take, codes};
-ghost use Rattle.phonetic_keys.specs.Letters.{in_alphabet, letters_of};
+ghost use Rattle.phonetic_keys.specs.Alphabet.{in_alphabet, letters_of};
 ghost use Rattle.phonetic_keys.specs.Carry.{IsCarry, key_to_come, key_with};
 ghost use Rattle.phonetic_keys.specs.Soundex.{code_at, letter_code, carried, code_behind, counted_places, soundex_of};
 

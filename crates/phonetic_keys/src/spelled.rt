@@ -1,8 +1,7 @@
 // A key as it is spelled letter by letter: its first letters, its length as far as it matters, its last letter.
 ghost use Rattle.std.specs.Prelude.{◌≡◌, ◌≤◌, ℕ, List, take};
-ghost use Rattle.phonetic_keys.specs.Keys.{IsKey};
-ghost use Rattle.phonetic_keys.specs.Nysiis.{spelled_on, tail_of, with_ay_joined, without_last_letter};
-ghost use Rattle.phonetic_keys.specs.Window.{KeepsKey};
+ghost use Rattle.phonetic_keys.specs.Nysiis.{IsKey, spelled_on, tail_of, with_ay_joined, without_last_letter};
+ghost use Rattle.phonetic_keys.specs.Walks.{KeepsKey};
 
 use std::marker::Model;
 
@@ -15,7 +14,7 @@ pub struct Nysiis {
 
 impl Model for Nysiis {
     ghost use Rattle.std.specs.Prelude.{◌≤◌, ℕ, List, take};
-    ghost use Rattle.phonetic_keys.specs.Keys.{IsKey};
+    ghost use Rattle.phonetic_keys.specs.Nysiis.{IsKey};
 
     ghost Value = { List ℕ };
 

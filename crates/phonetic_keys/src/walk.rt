@@ -1,9 +1,8 @@
 // NYSIIS: the code goes once over the letters, with the letter before and four letters at hand.
 ghost use Rattle.std.specs.Prelude.{◌≡◌, ◌↔◌, IsNone, ◌<◌, [], ℕ, List, MatchOption};
-ghost use Rattle.phonetic_keys.specs.Letters.{letters_of};
+ghost use Rattle.phonetic_keys.specs.Alphabet.{letters_of};
 ghost use Rattle.phonetic_keys.specs.Nysiis.{body, ended, front, nysiis_of, tail_of};
-ghost use Rattle.phonetic_keys.specs.Window.{KeepsKey};
-ghost use Rattle.phonetic_keys.specs.Walks.{HasNoGaps, StepsOverPlace, Starts, shown, text_of};
+ghost use Rattle.phonetic_keys.specs.Walks.{KeepsKey, HasNoGaps, StepsOverPlace, Starts, shown, text_of};
 
 use crate::letters::{is_letter, next_letter};
 use crate::rewriting::{end_of, front_of, rewritten};

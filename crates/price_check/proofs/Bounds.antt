@@ -6,14 +6,11 @@ use Rattle.std.proofs.lemmas.Bool.Decides.{nat_tests}
 use Rattle.std.proofs.lemmas.List.{get_or_default, get_or-map, length-map, get_or-set_other}
 use Rattle.std.proofs.lemmas.List.Elements.{All-head, All-tail, All-cons, All-nil, All-contains, Contains-get_or, All-contains_itself, All-map}
 use Rattle.link_base.specs.declared.rule.Candidate.{Candidate}
-use Rattle.price_check.specs.Assignment.{price_sum, price_of, worth, IsBefore, SharesNoRecord, IsCovered, IsOneToOne, Certifies, greatest_value}
-use Rattle.price_check.specs.Parts.{added_prices, prices_together, in_part, AreCertifiedParts}
-use Rattle.price_check.specs.PriceLaws.{IsFloored, IsTight, AllPairs-head, AllPairs-tail, price_sum-without, without}
+use Rattle.price_check.specs.Assignment.{price_sum, price_of, worth, IsBefore, SharesNoRecord, IsCovered, IsOneToOne, Certifies, greatest_value, capacity_of, links_at, place_sum}
+use Rattle.price_check.specs.Law.{added_prices, prices_together, in_part, AreCertifiedParts}
+use Rattle.price_check.specs.PlaceLaws.{IsFloored, IsTight, AllPairs-head, AllPairs-tail, price_sum-without, without, Contains-filter, clash, Contains-later, AreApart, fits-tail, links_at-here, one_less, place_sum-one_less}
 use Rattle.price_check.proofs.Order.{price_of-floor, IsTight-from_sums, covered_links, unlinked_a, unlinked_b, IsFloored-without, price_sum-floor}
-use Rattle.price_check.specs.CandidateLaws.{Contains-filter, clash, Contains-later}
 use Rattle.std.proofs.Math.IntN.{pos-*ℤ-pos}
-use Rattle.price_check.specs.Capacities.{capacity_of, links_at, place_sum}
-use Rattle.price_check.specs.PlaceLaws.{AreApart, fits-tail, links_at-here, one_less, place_sum-one_less}
 
 -- Sums over the parts.
 

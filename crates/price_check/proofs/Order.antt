@@ -1,30 +1,25 @@
 -- Candidates found at links.
-use Rattle.std.proofs.Common.{◌≡◌, ℕ, ◌+◌, ◌<◌, ◌≤◌, inl, inr, List, [], ◌∷◌, zero, suc, ℤ, ◌+ℤ◌, take, refl, sym, ◌∙◌, get_or, length, arith, AllPairs, Contains, All, ◌≢◌, ◌==◌, ◌↔◌, ◌-◌, ◌*◌, pos, negsuc, neg_ℤ, ◌*ℤ◌, ◌≤ℤ◌, take_all, Bool, true, false, cond, ap, set}
+use Rattle.std.proofs.Common.{◌≡◌, ℕ, ◌+◌, ◌<◌, ◌≤◌, inl, inr, List, [], ◌∷◌, zero, suc, ℤ, ◌+ℤ◌, take, refl, sym, ◌∙◌, get_or, length, arith, AllPairs, Contains, All, ◌≢◌, ◌==◌, ◌↔◌, ◌-◌, ◌*◌, pos, negsuc, neg_ℤ, ◌*ℤ◌, ◌≤ℤ◌, take_all, Bool, true, false, cond, ap, set, mul-le-mul}
 use Rattle.std.proofs.lemmas.Bool.{cases_lt, cases_eq}
 use Rattle.std.proofs.lemmas.List.{get_or_default, get_or-set_other, get_or-set_same}
 use Rattle.std.proofs.lemmas.List.Elements.{Contains-get_or, All-cons, All-head, All-tail, All-set, All-contains}
 use Rattle.std.proofs.lemmas.Int.{ints}
 use Rattle.link_base.specs.declared.rule.Candidate.{Candidate}
-use Rattle.price_check.specs.Assignment.{IsBefore, total, worth, no_candidate, price_sum, price_of, SharesNoRecord, IsCovered}
-use Rattle.price_check.specs.CandidateLaws.{same_member}
+use Rattle.price_check.specs.Assignment.{IsBefore, total, worth, no_candidate, price_sum, price_of, SharesNoRecord, IsCovered, IsWithinCapacities, capacity_of, links_at, place_sum}
+use Rattle.price_check.specs.PlaceLaws.{same_member, links_at-here, links_at-other, AllPairs-head, AllPairs-tail, IsFloored, IsTight, price_sum-without, without}
 use Rattle.link_base.specs.declared.rule.PairAt.{PairAt}
-use Rattle.link_base.specs.Rule.{IsPairBefore}
+use Rattle.link_base.specs.Words.{IsPairBefore}
 use Rattle.price_check.specs.Search.{IsCandidateBefore, AreUsed}
-use Rattle.price_check.specs.Verdict.{IsCandidate, HasPositions, AreLinks, IsCandidateAt, IsFirstNegative}
+use Rattle.price_check.specs.Verdict.{IsCandidate, HasPositions, AreLinks, IsCandidateAt, IsFirstNegative, AreCertifiedWithin, HasPlace, IsFirstReasonWithin, IsVerdictWithin, pairs_at}
 use Rattle.std.proofs.lemmas.Bool.Decides.{nat_tests}
 use Rattle.std.proofs.lemmas.List.Sums.{count_by_more_no, count_by_more_yes, sum_by-cons, sum_by-take-le}
 use Rattle.std.proofs.Math.IntN.{pos-*ℤ-pos, pos-*ℤ-negsuc}
-use Rattle.std.proofs.Math.Nat.{mul-le-mul}
 use Rattle.link_base.specs.declared.fault.FileRole.{FileRole}
 use Rattle.link_base.specs.declared.fault.FileRole.TheVariants.{Settings, A, B, Sample, Journal, Verdicts, Rule, Links, Prices, Capacities}
-use Rattle.price_check.specs.Capacities.{IsWithinCapacities, capacity_of, links_at, place_sum}
-use Rattle.price_check.specs.PlaceLaws.{links_at-here, links_at-other}
 use Rattle.price_check.specs.declared.verdict.Reason.{Reason}
 use Rattle.price_check.specs.declared.verdict.Reason.TheVariants.{NotCandidate, Reused, Negative, Uncovered, Sum}
 use Rattle.price_check.specs.declared.verdict.Verified.{Verified}
 use Rattle.price_check.specs.declared.verdict.Verified.TheVariants.{Yes, No}
-use Rattle.price_check.specs.CapacityVerdict.{AreCertifiedWithin, HasPlace, IsFirstReasonWithin, IsVerdictWithin, pairs_at}
-use Rattle.price_check.specs.PriceLaws.{AllPairs-head, AllPairs-tail, IsFloored, IsTight, price_sum-without, without}
 
 -- what stands before a candidate that stands before the link stands before it too
 pub down : (x y : Candidate) (l : PairAt) → IsBefore x y → IsCandidateBefore y l → IsCandidateBefore x l

@@ -7,14 +7,11 @@ use Rattle.std.proofs.lemmas.List.{get_or_default, get_or_past, length-replicate
 use Rattle.std.proofs.lemmas.List.Elements.{All-head, All-tail, All-contains, All-replicate}
 use Rattle.link_base.specs.declared.rule.Candidate.{Candidate}
 use Rattle.link_base.specs.declared.rule.PairAt.{PairAt}
-use Rattle.price_check.specs.Assignment.{Certifies, IsOneToOne, no_candidate, price_sum, SharesNoRecord}
-use Rattle.price_check.specs.Capacities.{capacity_of, CertifiesWithin, IsWithinCapacities, links_at, place_sum}
-use Rattle.price_check.specs.CapacityVerdict.{AreCertifiedWithin, HasPlace, IsVerdictWithin, pairs_at}
+use Rattle.price_check.specs.Assignment.{Certifies, IsOneToOne, no_candidate, price_sum, SharesNoRecord, capacity_of, CertifiesWithin, IsWithinCapacities, links_at, place_sum}
+use Rattle.price_check.specs.Verdict.{AreCertifiedWithin, HasPlace, IsVerdictWithin, pairs_at, AreCertified, IsCandidate, IsChecked, IsFirstReasonBy, IsFirstUnfit, IsFresh, IsVerdict}
 use Rattle.price_check.specs.Law.{CertifiedIsGreatest}
-use Rattle.price_check.specs.PlaceLaws.{links_at-here, links_at-other}
-use Rattle.price_check.specs.PriceLaws.{AllPairs-head, AllPairs-tail}
+use Rattle.price_check.specs.PlaceLaws.{links_at-here, links_at-other, AllPairs-head, AllPairs-tail}
 use Rattle.price_check.specs.Search.{IsPairWithin}
-use Rattle.price_check.specs.Verdict.{AreCertified, IsCandidate, IsChecked, IsFirstReasonBy, IsFirstUnfit, IsFresh, IsVerdict}
 use Rattle.price_check.specs.declared.verdict.Reason.{Reason}
 use Rattle.price_check.specs.declared.verdict.Reason.TheVariants.{NotCandidate, Reused, Negative, Uncovered, Sum}
 use Rattle.price_check.specs.declared.verdict.Verified.{Verified}

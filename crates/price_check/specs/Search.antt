@@ -2,7 +2,7 @@
 use Rattle.std.specs.Prelude.{◌≡◌, ◌⊎◌, ℕ, ◌<◌, List, slice_index, take}
 use Rattle.link_base.specs.declared.rule.Candidate.{Candidate}
 use Rattle.link_base.specs.declared.rule.PairAt.{PairAt}
-use Rattle.price_check.specs.CapacityVerdict.{pairs_at}
+use Rattle.price_check.specs.Verdict.{pairs_at}
 
 -- the link's record of B is there
 abbrev pub IsPairWithin : ℕ → PairAt → Type 0

@@ -2,8 +2,7 @@
 ghost use Rattle.std.specs.Prelude.{◌≡◌, ◌<◌, ◌^◌, length, AllPairs, All, IfOk, ◌↔◌};
 ghost use Rattle.link_base.specs.Rule.{IsPairBefore};
 ghost use Rattle.price_check.specs.Assignment.{IsBefore, IsWithin};
-ghost use Rattle.price_check.specs.Verdict.{IsAllowedPrice, IsChecked, HasAllowedValue};
-ghost use Rattle.price_check.specs.CapacityVerdict.{AreCertifiedWithin, AreGreatestWithin, IsAllowedCapacity, IsVerdictWithin};
+ghost use Rattle.price_check.specs.Verdict.{IsAllowedPrice, IsChecked, HasAllowedValue, AreCertifiedWithin, AreGreatestWithin, IsAllowedCapacity, IsVerdictWithin};
 
 use crate::capacity_laws::certified_within_is_greatest;
 use crate::certificate::{links_worth, price_total};

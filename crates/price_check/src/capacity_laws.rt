@@ -1,5 +1,5 @@
 // Laws of lists within capacities, each the contract of a function that does nothing.
-ghost use Rattle.price_check.specs.CapacityLaw.{CertifiedWithinIsGreatest, SingleCertifies, SingleIsGreatest, SingleIsOneToOne};
+ghost use Rattle.price_check.specs.Law.{CertifiedWithinIsGreatest, SingleCertifies, SingleIsGreatest, SingleIsOneToOne};
 
 /// A list within capacities with a certificate is greatest (weak duality).
 pub fn certified_within_is_greatest()

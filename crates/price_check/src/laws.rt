@@ -1,6 +1,5 @@
 // Laws of certificates, each the contract of a function that does nothing.
-ghost use Rattle.price_check.specs.Law.{CertifiedIsGreatest, GreatestValueIsLeast, LinkedIsTight, PricesAreBoundedByCandidates, PricesAreBoundedByLinks, UnlinkedHasNoPrice};
-ghost use Rattle.price_check.specs.Parts.{PartsTogether};
+ghost use Rattle.price_check.specs.Law.{CertifiedIsGreatest, GreatestValueIsLeast, LinkedIsTight, PricesAreBoundedByCandidates, PricesAreBoundedByLinks, UnlinkedHasNoPrice, PartsTogether};
 
 /// A one-to-one list with a certificate is greatest (weak duality).
 pub fn certified_is_greatest()

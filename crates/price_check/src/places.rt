@@ -2,10 +2,9 @@
 ghost use Rattle.std.specs.Prelude.{◌≡◌, ◌*◌, ◌<◌, ◌≤◌, ◌^◌, pos, ◌*ℤ◌, ◌≤ℤ◌, neg_ℤ, length, All, AllPairs, IfOk, MatchBool};
 ghost use Rattle.link_limits.specs.declared.TheConstants.{MOST_CAPACITY, MOST_VALUE};
 ghost use Rattle.link_base.specs.Rule.{IsPairBefore};
-ghost use Rattle.price_check.specs.Capacities.{place_sum};
+ghost use Rattle.price_check.specs.Assignment.{place_sum};
 ghost use Rattle.price_check.specs.Search.{AreUsed, IsPairWithin};
-ghost use Rattle.price_check.specs.Verdict.{IsAllowedPrice, IsFirstReused};
-ghost use Rattle.price_check.specs.CapacityVerdict.{HasPlace, IsAllowedCapacity, IsFirstUnplaced};
+ghost use Rattle.price_check.specs.Verdict.{IsAllowedPrice, IsFirstReused, HasPlace, IsAllowedCapacity, IsFirstUnplaced};
 
 use link_base::{NoMemory, PairAt};
 use std::alloc::Global;

@@ -1,7 +1,6 @@
 -- The text of a journal reads as this journal.
-use Rattle.std.proofs.Common.{◌≡◌, ◌<◌, ◌≤◌, ◌+◌, ◌∷◌, ◌++◌, ◌∙◌, ◌≤ℤ◌, ℕ, ℤ, true, List, [], All, length, map, get_or, Result, Ok, Some, refl, sym, ap, subst, arith, append_assoc, length-append, nat_lt, codes, decimal, int_le}
+use Rattle.std.proofs.Common.{◌≡◌, ◌<◌, ◌≤◌, ◌+◌, ◌∷◌, ◌++◌, ◌∙◌, ◌≤ℤ◌, ℕ, ℤ, true, List, [], All, length, map, get_or, Result, Ok, Some, refl, sym, ap, subst, arith, append_assoc, length-append, nat_lt, codes, decimal, int_le, IsAscii, bytes_eq}
 use Rattle.std.specs.List.{AllPairs, enumerate_from, flat_map, list_all, position_or_len}
-use Rattle.std.specs.Str.{IsAscii, bytes_eq}
 use Rattle.std.proofs.lemmas.Bool.Decides.{nat_tests}
 use Rattle.std.proofs.lemmas.Fmt.{IsAscii-decimal, length-decimal-le}
 use Rattle.std.proofs.lemmas.List.{append-nil, length-map, get_or_append_left}
@@ -12,10 +11,9 @@ use Rattle.std.proofs.lemmas.List.FromFn.{length-enumerate_from}
 use Rattle.std.proofs.lemmas.Str.{IsUtf8-from_ascii}
 use Rattle.std.proofs.lemmas.Str.Ascii.{IsAscii-from_all}
 use Rattle.csv.specs.Writing.{default_writer, fields_text, is_blank, row_text}
-use Rattle.file_reader.specs.Left.{records_in}
-use Rattle.csv_rows.specs.ReadAgain.{HasNoMark, no_mark}
-use Rattle.link_base.specs.Answers.{and_then}
-use Rattle.link_base.specs.Standard.{id_at, IsDay, no_record, Record, HaveDistinctIds, position_of_id}
+use Rattle.file_reader.specs.Words.{records_in, IsFieldText, table_of, taken, header_has, Heading, heading_under, TableRow, IsRowOf, rows_whole}
+use Rattle.csv_rows.specs.Numbers.{HasNoMark, no_mark}
+use Rattle.link_base.specs.Words.{and_then, id_at, IsDay, no_record, Record, HaveDistinctIds, position_of_id}
 use Rattle.link_base.specs.declared.fault.Fault.{Fault}
 use Rattle.link_base.specs.declared.fault.FileRole.TheVariants as role
 use Rattle.link_base.specs.declared.rule.Step.{Step}
@@ -23,23 +21,16 @@ use Rattle.link_base.specs.declared.rule.Step.TheVariants.{Single, First, Confir
 use Rattle.link_base.specs.declared.rule.Verdict.{Verdict}
 use Rattle.link_base.specs.declared.rule.Verdict.TheVariants as verdict
 use Rattle.link_limits.specs.declared.TheConstants.{MOST_ENTRIES, MOST_FIELD_BYTES}
-use Rattle.file_reader.specs.Header.{header_has}
-use Rattle.file_reader.specs.Layout.{Heading, heading_under}
-use Rattle.file_reader.specs.Rows.{TableRow}
-use Rattle.file_reader.specs.Table.{IsFieldText, table_of, taken}
-use Rattle.review_journal.specs.Journal.{all_fit, IsJournal, IsReviewer, IsWithinFiles}
-use Rattle.review_journal.specs.Steps.{fits_after}
+use Rattle.review_journal.specs.Verdict.{all_fit, IsJournal, IsReviewer, IsWithinFiles, fits_after}
 use Rattle.review_journal.specs.declared.entry.Entry.{Entry}
 use Rattle.value_forms.specs.Days.{iso_day, text_of_day}
-use Rattle.review_journal.specs.Reading.{entries_read, entry_in, journal_in, journal_under, journal_wanted, signed}
+use Rattle.review_journal.specs.Reading.{entries_read, entry_in, journal_in, journal_under, journal_wanted, signed, entry_fields, entry_line, HasIds, IsIdText, text_of_journal}
 use Rattle.review_journal.specs.Rows.{journal_columns, step_word, verdict_word, written_in, step_named, verdict_named}
-use Rattle.review_journal.specs.Text.{entry_fields, entry_line, HasIds, IsIdText, text_of_journal}
-use Rattle.file_reader.specs.TableLaws.{IsRowOf, rows_whole}
 use Rattle.std.proofs.lemmas.Bool.{and_parts, false_from_ne_true}
 use Rattle.std.proofs.lemmas.Int.{ints}
 use Rattle.std.proofs.lemmas.Slice.Eq.{bytes_eq-Decides}
 use Rattle.std.proofs.Math.Seq.{get_or-append_seam}
-use Rattle.review_journal.specs.Adding.{is_not_before}
+use Rattle.review_journal.specs.Batch.{is_not_before}
 
 same_bytes : (text : List ℕ) → bytes_eq text text ≡ true
 same_bytes text = (bytes_eq-Decides text text).1 refl

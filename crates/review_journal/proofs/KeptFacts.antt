@@ -1,13 +1,11 @@
 -- New verdicts after the entries of a journal: what is kept.
-use Rattle.std.proofs.Common.{◌≡◌, ◌≤◌, ◌+◌, ◌∷◌, ◌++◌, ◌∙◌, ℕ, ℤ, Bool, true, false, cond, List, [], All, length, map, Option, Some, None, Ok, refl, sym, ap, arith, append_assoc, length-append, nat_lt, subst, ◌&&◌, ◌==◌, int_le, if◌then◌else◌, option_map}
+use Rattle.std.proofs.Common.{◌≡◌, ◌≤◌, ◌+◌, ◌∷◌, ◌++◌, ◌∙◌, ℕ, ℤ, Bool, true, false, cond, List, [], All, length, map, Option, Some, None, Ok, refl, sym, ap, arith, append_assoc, length-append, nat_lt, subst, ◌&&◌, ◌==◌, int_le, if◌then◌else◌, option_map, append-nil}
 use Rattle.std.proofs.lemmas.Bool.{false_from_ne_true}
 use Rattle.std.proofs.lemmas.Bool.Decides.{nat_tests}
 use Rattle.std.proofs.lemmas.Int.{ints}
-use Rattle.std.proofs.lemmas.List.{append-nil}
 use Rattle.std.proofs.lemmas.List.Elements.{All-cons, All-nil, All-push, All-tail}
 use Rattle.std.proofs.lemmas.List.Sums.{AllPass-from_list_all, list_all-from_AllPass}
-use Rattle.link_base.specs.Fault.{or_else}
-use Rattle.link_base.specs.Standard.{IsDay, Record}
+use Rattle.link_base.specs.Words.{or_else, IsDay, Record}
 use Rattle.link_base.specs.declared.fault.Fault.{Fault}
 use Rattle.link_base.specs.declared.fault.Fault.TheVariants as fault
 use Rattle.link_base.specs.declared.fault.FileRole.TheVariants as role
@@ -15,12 +13,9 @@ use Rattle.link_base.specs.declared.rule.PairAt.{PairAt}
 use Rattle.link_base.specs.declared.rule.Verdict.{Verdict}
 use Rattle.link_base.specs.declared.rule.Verdict.TheVariants as verdict
 use Rattle.link_limits.specs.declared.TheConstants.{MOST_ENTRIES}
-use Rattle.review_journal.specs.Adding.{added, batch_fault, date_back_fault, entries_fault, entry_after, is_not_before, ok_unless, pair_fault, with_verdicts}
-use Rattle.review_journal.specs.Batch.{NamesRecords}
-use Rattle.review_journal.specs.Journal.{IsReviewer}
+use Rattle.review_journal.specs.Batch.{added, batch_fault, date_back_fault, entries_fault, entry_after, is_not_before, ok_unless, pair_fault, with_verdicts, NamesRecords}
+use Rattle.review_journal.specs.Verdict.{IsReviewer, confirms_in, step_by, step_fits, is_on, last_on, standing_verdict, verdict_on}
 use Rattle.review_journal.specs.Kept.{IsSignedBy, KeepsAll, NoneIsOn, said_by}
-use Rattle.review_journal.specs.Steps.{confirms_in, step_by, step_fits}
-use Rattle.review_journal.specs.Verdict.{is_on, last_on, standing_verdict, verdict_on}
 use Rattle.review_journal.specs.declared.batch.NewVerdict.{NewVerdict}
 use Rattle.review_journal.specs.declared.entry.Entry.{Entry}
 use Rattle.review_journal.proofs.PlaceLemmas.{last_on-push}

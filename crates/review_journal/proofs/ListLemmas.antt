@@ -1,38 +1,27 @@
 -- What is made of each of some values, one more.
-use Rattle.std.proofs.Common.{◌≡◌, ◌<◌, ◌≤◌, ◌+◌, ◌++◌, ◌∙◌, ℕ, List, length, drop, get_or, ap, sym, All, ◌∷◌, [], Result, Ok, subst, ℤ, Bool, true, false, Option, Some, None, refl, arith, length-append, nat_lt, Err, codes, slice_index_or}
+use Rattle.std.proofs.Common.{◌≡◌, ◌<◌, ◌≤◌, ◌+◌, ◌++◌, ◌∙◌, ℕ, List, length, drop, get_or, ap, sym, All, ◌∷◌, [], Result, Ok, subst, ℤ, Bool, true, false, Option, Some, None, refl, arith, length-append, nat_lt, Err, codes, slice_index_or, bytes_eq}
 use Rattle.std.specs.List.{enumerate_from, flat_map, position_or_len}
 use Rattle.std.proofs.lemmas.List.{append_assoc, append-nil, drop_all, drop_more}
 use Rattle.std.proofs.lemmas.List.Elements.{All-push, All-nil, All-tail}
-use Rattle.link_base.specs.Answers.{and_then}
-use Rattle.link_base.specs.Fault.{Refuses}
+use Rattle.link_base.specs.Words.{and_then, Refuses, IsDay, position_of_id, Record}
 use Rattle.link_base.specs.declared.fault.Fault.{Fault}
-use Rattle.std.specs.Str.{bytes_eq}
 use Rattle.std.proofs.lemmas.Bool.Decides.{nat_tests}
 use Rattle.std.proofs.lemmas.Option.{cond_some}
-use Rattle.file_reader.specs.Header.{header_has}
-use Rattle.file_reader.specs.Known.{known_in, or_fault, pair_in}
-use Rattle.file_reader.specs.Left.{records_in}
-use Rattle.file_reader.specs.Rows.{TableRow}
-use Rattle.file_reader.specs.Table.{HasTexts, IsFieldText, IsTextRow, table_of}
-use Rattle.file_reader.specs.TableLaws.{table_sound, text_at}
-use Rattle.link_base.specs.Standard.{IsDay, position_of_id, Record}
+use Rattle.file_reader.specs.Words.{header_has, TableRow, known_in, or_fault, pair_in, records_in, HasTexts, IsFieldText, IsTextRow, table_of, table_sound, text_at, each_read}
 use Rattle.link_base.specs.declared.fault.Fault.TheVariants as fault
 use Rattle.link_base.specs.declared.fault.FileRole.{FileRole}
 use Rattle.link_base.specs.declared.fault.FileRole.TheVariants as role
 use Rattle.link_base.specs.declared.rule.PairAt.{PairAt}
 use Rattle.link_limits.specs.declared.TheConstants.{MOST_ENTRIES}
 use Rattle.value_forms.specs.Days.{iso_day}
-use Rattle.review_journal.specs.Adding.{is_not_before}
-use Rattle.review_journal.specs.Batch.{NamesRecords, verdict_in, verdicts_of, verdicts_read, verdicts_wanted}
-use Rattle.review_journal.specs.Journal.{IsJournal, IsReviewer, IsWithinFiles}
+use Rattle.review_journal.specs.Batch.{is_not_before, NamesRecords, verdict_in, verdicts_of, verdicts_read, verdicts_wanted}
+use Rattle.review_journal.specs.Verdict.{IsJournal, IsReviewer, IsWithinFiles, fits_after}
 use Rattle.review_journal.specs.Reading.{CanFollow, dated, entries_read, entry_in, journal_in, journal_under, journal_wanted, numbered, signed, unless}
 use Rattle.review_journal.specs.Rows.{step_named, verdict_named, Written, written_in}
-use Rattle.review_journal.specs.Steps.{fits_after}
 use Rattle.review_journal.specs.declared.batch.NewVerdict.{NewVerdict}
 use Rattle.review_journal.specs.declared.entry.Entry.{Entry}
 use Rattle.review_journal.specs.DayLaws.{iso_is_day}
 use Rattle.review_journal.proofs.PlaceLemmas.{journal_push}
-use Rattle.file_reader.specs.EachRow.{each_read}
 use Rattle.link_base.specs.declared.rule.Step.TheVariants.{Single}
 
 -- a text, and the lines of what is left

@@ -1,5 +1,5 @@
 -- What a journal keeps, of one entry more.
-use Rattle.std.proofs.Common.{◌≡◌, ◌<◌, ◌+◌, ◌∷◌, ◌++◌, ◌∙◌, ℕ, ℤ, List, [], AllPairs, length, get_or, slice_get, Some, Bool, true, false, nat_lt, arith, ap, refl, subst, length-append, append_assoc, ◌≤ℤ◌, int_le, Option, None, sym, if◌then◌else◌, option_and_then, ◌≤◌, inl, inr, nat_eq, ◌&&◌, Err, suc, All, option_map, reverse}
+use Rattle.std.proofs.Common.{◌≡◌, ◌<◌, ◌+◌, ◌∷◌, ◌++◌, ◌∙◌, ℕ, ℤ, List, [], AllPairs, length, get_or, slice_get, Some, Bool, true, false, nat_lt, arith, ap, refl, subst, length-append, append_assoc, ◌≤ℤ◌, int_le, Option, None, sym, if◌then◌else◌, option_and_then, ◌≤◌, inl, inr, nat_eq, ◌&&◌, Err, suc, All, option_map, reverse, Equal, find}
 use Rattle.std.proofs.lemmas.Bool.{and_parts, cases_lt}
 use Rattle.std.proofs.lemmas.Bool.Decides.{nat_tests}
 use Rattle.std.proofs.lemmas.Int.{ints}
@@ -10,24 +10,18 @@ use Rattle.std.proofs.lemmas.List.Folds.{list_all_at, list_any_at, list_any_none
 use Rattle.std.proofs.lemmas.List.Sums.{AllPass-from_list_all, list_all-from_AllPass}
 use Rattle.std.proofs.lemmas.Option.{get_or_from_slice_get, slice_get-get_or}
 use Rattle.link_limits.specs.declared.TheConstants.{MOST_ENTRIES}
-use Rattle.link_base.specs.Standard.{IsDay}
-use Rattle.review_journal.specs.Adding.{is_not_before, is_among}
-use Rattle.review_journal.specs.Journal.{all_fit, IsJournal, IsReviewer}
-use Rattle.review_journal.specs.Steps.{fits_after}
+use Rattle.link_base.specs.Words.{IsDay, IsPairBefore}
+use Rattle.review_journal.specs.Batch.{is_not_before, is_among}
+use Rattle.review_journal.specs.Verdict.{all_fit, IsJournal, IsReviewer, fits_after, is_on, last_on, standing_verdict, verdict_on}
 use Rattle.review_journal.specs.declared.entry.Entry.{Entry}
 use Rattle.std.proofs.Math.Seq.{get_or-append_seam}
 use Rattle.std.specs.Map.{lookup}
 use Rattle.std.specs.Ordering.{is_eq, ordering_index}
 use Rattle.std.specs.BTreeMap.{is_at, Updates}
-use Rattle.review_journal.specs.Places.{IsIndexed, pair_cmp, place_of_pair, Places}
-use Rattle.review_journal.specs.Verdict.{is_on, last_on, standing_verdict, verdict_on}
-use Rattle.std.specs.declared.cmp.Ordering.TheVariants.{Equal}
+use Rattle.review_journal.specs.Places.{IsIndexed, pair_cmp, place_of_pair, Places, order_of}
 use Rattle.std.specs.List.Sorted.{IsBinarySearchResult, IsNonDecreasingBy}
 use Rattle.link_base.specs.declared.rule.PairAt.{PairAt}
-use Rattle.link_base.specs.Rule.{IsPairBefore}
 use Rattle.review_journal.specs.declared.batch.NewVerdict.{NewVerdict}
-use Rattle.review_journal.specs.Search.{order_of}
-use Rattle.std.specs.List.{find}
 use Rattle.std.proofs.lemmas.List.Sorted.{All-permutation, IsPermutation-reverse}
 use Rattle.link_base.specs.declared.rule.Step.TheVariants.{Single}
 use Rattle.link_base.specs.declared.rule.Verdict.{Verdict}

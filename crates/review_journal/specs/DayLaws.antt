@@ -7,7 +7,7 @@ use Rattle.jiff_core.specs.Calendar.{days_from_civil, days_in_month}
 use Rattle.jiff_core.specs.Date.{epoch_day}
 use Rattle.jiff_core.proofs.DateLemmas.{epoch_day_range}
 use Rattle.jiff_core.proofs.SignedLemmas.{signed_arith}
-use Rattle.link_base.specs.Standard.{IsDay}
+use Rattle.link_base.specs.Words.{IsDay}
 use Rattle.value_forms.specs.Days.{civil_day, is_civil, iso_day}
 use Rattle.value_forms.proofs.DayLemmas.{near_year, from_first_day}
 use Rattle.value_forms.proofs.TextLemmas.{iso_to_text}

@@ -1,14 +1,11 @@
 -- What review keeps: no entry of a journal is lost where new verdicts are added to it, and no verdict on another pair; and the text that
 -- is written of it reads as its entries (law `no_verdict_is_lost`).
 use Rattle.std.specs.Prelude.{◌≡◌, ◌++◌, ◌∷◌, ℕ, ℤ, List, Bool, false, All, map, Some, Ok}
-use Rattle.link_base.specs.Standard.{IsDay, Record}
+use Rattle.link_base.specs.Words.{IsDay, Record}
 use Rattle.link_base.specs.declared.rule.PairAt.{PairAt}
-use Rattle.review_journal.specs.Adding.{added, with_verdicts}
-use Rattle.review_journal.specs.Batch.{verdicts_of}
-use Rattle.review_journal.specs.Journal.{IsReviewer}
-use Rattle.review_journal.specs.Reading.{journal_in}
-use Rattle.review_journal.specs.Text.{HasIds, text_of_journal}
-use Rattle.review_journal.specs.Verdict.{verdict_on}
+use Rattle.review_journal.specs.Batch.{added, with_verdicts, verdicts_of}
+use Rattle.review_journal.specs.Verdict.{IsReviewer, verdict_on}
+use Rattle.review_journal.specs.Reading.{journal_in, HasIds, text_of_journal}
 use Rattle.review_journal.specs.declared.batch.NewVerdict.{NewVerdict}
 use Rattle.review_journal.specs.declared.entry.Entry.{Entry}
 

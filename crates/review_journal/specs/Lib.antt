@@ -1,14 +1,8 @@
 pub mod Verdict
-pub mod Steps
-pub mod Journal
 pub mod Places
-pub mod Adding
-pub mod Search
-pub mod Idle
 pub mod Rows
 pub mod Row
-pub mod Reading
 pub mod Batch
-pub mod Text
+pub mod Reading
 pub mod Kept
 pub mod DayLaws

@@ -1,24 +1,18 @@
 -- The journal in a file, or its first fault: of the table, then row by row (`read_journal`, clause `answer`).
-use Rattle.std.specs.Prelude.{◌≡◌, ℕ, ℤ, List, [], ◌∷◌, Bool, true, false, bytes_eq, decimal, codes, None, Result, Ok, Err}
-use Rattle.file_reader.specs.Left.{records_in}
-use Rattle.link_limits.specs.declared.TheConstants.{MOST_ENTRIES}
-use Rattle.link_base.specs.Answers.{and_then}
-use Rattle.link_base.specs.Standard.{IsDay, Record}
+use Rattle.std.specs.Prelude.{◌≡◌, ℕ, ℤ, List, [], ◌∷◌, Bool, true, false, bytes_eq, decimal, codes, None, Result, Ok, Err, All, ◌++◌, ◌+◌, ◌≤◌, length, IsUtf8}
+use Rattle.file_reader.specs.Words.{records_in, table_of, or_fault, pair_in, header_has, Wanted, TableRow, each_read}
+use Rattle.link_limits.specs.declared.TheConstants.{MOST_ENTRIES, MOST_FIELD_BYTES}
+use Rattle.link_base.specs.Words.{and_then, IsDay, Record, HaveDistinctIds, id_at}
 use Rattle.link_base.specs.declared.fault.Fault.{Fault}
+use Rattle.value_forms.specs.Days.{iso_day, text_of_day}
+use Rattle.review_journal.specs.Batch.{is_not_before}
+use Rattle.review_journal.specs.Verdict.{IsReviewer, fits_after}
+use Rattle.review_journal.specs.declared.entry.Entry.{Entry}
+use Rattle.review_journal.specs.Rows.{journal_columns, step_named, verdict_named, Written, written_in, step_word, verdict_word}
+use Rattle.std.specs.List.{enumerate_from, flat_map}
+use Rattle.csv.specs.Writing.{default_writer, row_text}
 use Rattle.link_base.specs.declared.fault.Fault.TheVariants as fault
 use Rattle.link_base.specs.declared.fault.FileRole.TheVariants as role
-use Rattle.file_reader.specs.Known.{or_fault, pair_in}
-use Rattle.file_reader.specs.Header.{header_has}
-use Rattle.file_reader.specs.EachRow.{each_read}
-use Rattle.file_reader.specs.Layout.{Wanted}
-use Rattle.file_reader.specs.Rows.{TableRow}
-use Rattle.file_reader.specs.Table.{table_of}
-use Rattle.value_forms.specs.Days.{iso_day}
-use Rattle.review_journal.specs.Adding.{is_not_before}
-use Rattle.review_journal.specs.Journal.{IsReviewer}
-use Rattle.review_journal.specs.Steps.{fits_after}
-use Rattle.review_journal.specs.declared.entry.Entry.{Entry}
-use Rattle.review_journal.specs.Rows.{journal_columns, step_named, verdict_named, Written, written_in}
 
 abbrev pub journal_wanted : Bool → Wanted
 journal_wanted second = record { id = None; columns = journal_columns second; most = MOST_ENTRIES }
@@ -78,3 +72,34 @@ pub record CanFollow (done : List Entry) (e : Entry) : Type 0 where
   pub not_back : is_not_before done e.date ≡ true
   pub reviewer : IsReviewer e.reviewer
   pub fits : fits_after done e ≡ true
+
+-- The text of a journal, which is of the second version (`journal_text`, its lone clause). The law `read_again` says that it
+-- reads as the journal.
+
+-- the fields of an entry, with its number and its date as texts
+abbrev pub fields_with : List ℕ → List ℕ → List Record → List Record → Entry → List (List ℕ)
+fields_with number date a b e =
+    number ∷ date ∷ e.reviewer ∷ step_word e.step ∷ id_at a e.a ∷ id_at b e.b ∷ verdict_word e.verdict ∷ []
+
+-- the fields of an entry, which is numbered from 1
+abbrev pub entry_fields : List Record → List Record → ℕ × Entry → List (List ℕ)
+entry_fields a b at = fields_with (decimal (at.0 + 1)) (text_of_day at.1.date) a b at.1
+
+abbrev pub entry_line : List Record → List Record → ℕ × Entry → List ℕ
+entry_line a b at = row_text default_writer (entry_fields a b at)
+
+-- a header, and a line for each entry
+abbrev pub text_of_journal : List Record → List Record → List Entry → List ℕ
+text_of_journal a b entries =
+    row_text default_writer (journal_columns true) ++ flat_map (entry_line a b) (enumerate_from 0 entries)
+
+-- an id as a table has it: some bytes of UTF-8, and not too many
+pub record IsIdText (r : Record) : Type 0 where
+  pub some : 1 ≤ length r.id
+  pub few : length r.id ≤ MOST_FIELD_BYTES
+  pub text : IsUtf8 r.id
+
+-- the ids of a file as a table has them: such texts, and no two the same
+pub record HasIds (file : List Record) : Type 0 where
+  pub texts : All IsIdText file
+  pub distinct : HaveDistinctIds file

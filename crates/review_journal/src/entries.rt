@@ -3,9 +3,8 @@ ghost use Rattle.std.specs.Prelude.{◌≡◌, IfOk, OnOk, length, true};
 ghost use Rattle.link_base.specs.Fault.{Gives, IsAnswer};
 ghost use Rattle.link_base.specs.Standard.{IsDay};
 ghost use Rattle.file_reader.specs.Table.{IsFieldText};
-ghost use Rattle.review_journal.specs.Adding.{is_not_before};
-ghost use Rattle.review_journal.specs.Journal.{IsReviewer, IsWithinFiles};
-ghost use Rattle.review_journal.specs.Steps.{fits_after};
+ghost use Rattle.review_journal.specs.Batch.{is_not_before};
+ghost use Rattle.review_journal.specs.Verdict.{IsReviewer, IsWithinFiles, fits_after};
 ghost use Rattle.review_journal.specs.Reading.{dated, entry_in, fitting, numbered, signed, CanFollow};
 ghost use Rattle.review_journal.specs.Row.{written_of};
 

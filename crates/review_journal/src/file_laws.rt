@@ -1,15 +1,13 @@
 // The laws of verdicts and of journal files.
 ghost use Rattle.std.specs.Prelude.{◌≡◌, All, List, Ok, codes, false, length, option_map, ℕ};
-ghost use Rattle.file_reader.specs.Left.{records_in};
+ghost use Rattle.file_reader.specs.Table.{records_in};
 ghost use Rattle.link_base.specs.Standard.{Record};
 ghost use Rattle.link_base.specs.declared.rule.Step.TheVariants.{Single};
-ghost use Rattle.file_reader.specs.Header.{header_has};
-ghost use Rattle.review_journal.specs.Journal.{IsJournal, IsWithinFiles};
+ghost use Rattle.file_reader.specs.Rows.{header_has};
+ghost use Rattle.review_journal.specs.Verdict.{IsJournal, IsWithinFiles, last_on, verdict_on};
 ghost use Rattle.review_journal.specs.Kept.{MigrationKeepsAll, ReviewKeepsAll};
-ghost use Rattle.review_journal.specs.Verdict.{last_on, verdict_on};
 ghost use Rattle.review_journal.specs.declared.entry.Entry.{Entry as JournalEntry};
-ghost use Rattle.review_journal.specs.Reading.{journal_in};
-ghost use Rattle.review_journal.specs.Text.{HasIds, text_of_journal};
+ghost use Rattle.review_journal.specs.Reading.{journal_in, HasIds, text_of_journal};
 
 use csv_rows::rows_read_again;
 use value_forms::day_read_again;

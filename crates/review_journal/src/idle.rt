@@ -1,7 +1,7 @@
 // The entries of a journal that are on no possible link.
 ghost use Rattle.std.specs.Prelude.{◌≡◌, AllPairs};
 ghost use Rattle.link_base.specs.Rule.{IsPairBefore};
-ghost use Rattle.review_journal.specs.Idle.{idle_count, is_idle};
+ghost use Rattle.review_journal.specs.Batch.{idle_count, is_idle};
 
 use crate::batch::NewVerdict;
 use crate::entry::Entry;

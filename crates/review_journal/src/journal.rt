@@ -4,10 +4,8 @@ ghost use Rattle.std.specs.Option.{option_map_or};
 ghost use Rattle.link_base.specs.Standard.{IsDay};
 ghost use Rattle.link_limits.specs.declared.TheConstants.{MOST_ENTRIES};
 ghost use Rattle.link_base.specs.Rule.{IsPairBefore};
-ghost use Rattle.review_journal.specs.Verdict.{last_on, verdict_on};
-ghost use Rattle.review_journal.specs.Steps.{confirms_in, fits_after};
-ghost use Rattle.review_journal.specs.Journal.{IsJournal, IsReviewer};
-ghost use Rattle.review_journal.specs.Adding.{added, batch_fault, IsAdded, is_not_before, last_date, with_verdicts};
+ghost use Rattle.review_journal.specs.Verdict.{last_on, verdict_on, confirms_in, fits_after, IsJournal, IsReviewer};
+ghost use Rattle.review_journal.specs.Batch.{added, batch_fault, IsAdded, is_not_before, last_date, with_verdicts};
 
 use crate::batch::{NewVerdict, Verdicts};
 use crate::entry::Entry;
@@ -33,7 +31,7 @@ impl Model for Journal {
 
     ghost Value = { List Entry };
 
-    ghost use Rattle.review_journal.specs.Journal.{IsJournal};
+    ghost use Rattle.review_journal.specs.Verdict.{IsJournal};
     ghost use Rattle.review_journal.specs.Places.{IsIndexed};
 
     ghost view = { λ j. j.entries.items };

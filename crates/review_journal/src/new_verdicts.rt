@@ -2,8 +2,7 @@
 ghost use Rattle.std.specs.Prelude.{◌≡◌, ◌≤◌, ◌<◌, ◌+◌, All, [], IfOk, length, slice_index_or};
 ghost use Rattle.link_base.specs.Fault.{IsAnswer};
 ghost use Rattle.link_limits.specs.declared.TheConstants.{MOST_ROWS};
-ghost use Rattle.file_reader.specs.Layout.{wanted_of};
-ghost use Rattle.file_reader.specs.Rows.{TableRow, no_row};
+ghost use Rattle.file_reader.specs.Rows.{wanted_of, TableRow, no_row};
 ghost use Rattle.review_journal.specs.Batch.{NamesRecords, verdict_in, verdicts_of, verdicts_read, verdicts_wanted};
 
 use crate::batch::{NewVerdict, Verdicts};

@@ -1,8 +1,8 @@
 // New verdicts whose pairs are possible links.
 ghost use Rattle.std.specs.Prelude.{◌≡◌, AllPairs, not, position};
 ghost use Rattle.link_base.specs.Rule.{IsPairBefore};
-ghost use Rattle.review_journal.specs.Adding.{is_among};
-ghost use Rattle.review_journal.specs.Search.{order_of};
+ghost use Rattle.review_journal.specs.Batch.{is_among};
+ghost use Rattle.review_journal.specs.Places.{order_of};
 
 use crate::batch::NewVerdict;
 use link_base::PairAt;

@@ -1,12 +1,10 @@
 // The journal in a file.
 ghost use Rattle.std.specs.Prelude.{◌≡◌, ◌≤◌, All, [], IfOk, length};
-ghost use Rattle.file_reader.specs.Left.{records_in};
+ghost use Rattle.file_reader.specs.Table.{records_in, HasTexts};
 ghost use Rattle.link_base.specs.Fault.{IsAnswer};
 ghost use Rattle.link_limits.specs.declared.TheConstants.{MOST_ENTRIES};
-ghost use Rattle.file_reader.specs.Layout.{wanted_of};
-ghost use Rattle.file_reader.specs.Rows.{TableRow};
-ghost use Rattle.file_reader.specs.Table.{HasTexts};
-ghost use Rattle.review_journal.specs.Journal.{IsWithinFiles};
+ghost use Rattle.file_reader.specs.Rows.{wanted_of, TableRow};
+ghost use Rattle.review_journal.specs.Verdict.{IsWithinFiles};
 ghost use Rattle.review_journal.specs.Reading.{entries_read, journal_in, journal_under, journal_wanted};
 ghost use Rattle.review_journal.specs.Rows.{journal_columns};
 

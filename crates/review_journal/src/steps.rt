@@ -1,6 +1,6 @@
 // Which step of review a verdict is.
 ghost use Rattle.std.specs.Prelude.{◌≡◌};
-ghost use Rattle.review_journal.specs.Steps.{is_decided, step_by};
+ghost use Rattle.review_journal.specs.Verdict.{is_decided, step_by};
 
 use link_base::{Step, Verdict};
 

@@ -2,8 +2,8 @@
 ghost use Rattle.std.specs.Prelude.{◌≡◌, ◌<◌, ◌+◌, ◌^◌, ◌++◌, All, IfOk, OnOk, length};
 ghost use Rattle.csv.specs.Writing.{default_writer, row_text};
 ghost use Rattle.link_base.specs.Standard.{IsDay};
-ghost use Rattle.review_journal.specs.Journal.{IsWithinFiles};
-ghost use Rattle.review_journal.specs.Text.{entry_line, fields_with, text_of_journal};
+ghost use Rattle.review_journal.specs.Verdict.{IsWithinFiles};
+ghost use Rattle.review_journal.specs.Reading.{entry_line, fields_with, text_of_journal};
 
 use crate::entry::Entry;
 use crate::journal::Journal;

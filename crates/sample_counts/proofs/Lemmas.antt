@@ -1,29 +1,24 @@
 -- Counts of pairs by status and outcome.
-use Rattle.std.proofs.Common.{◌≡◌, ◌<◌, ◌≤◌, ◌+◌, ◌∷◌, ◌∙◌, ℕ, Bool, true, false, not, cond, List, [], length, map, take, get_or, sum, Option, sym, ap, arith, ◌&&◌, suc, Some, None, Result, Ok, refl, subst, if◌then◌else◌, ◌++◌, length-append, position, zero, ltb, eqb, ◌||◌, ◌-◌, ◌*◌, ◌%◌}
+use Rattle.std.proofs.Common.{◌≡◌, ◌<◌, ◌≤◌, ◌+◌, ◌∷◌, ◌∙◌, ℕ, Bool, true, false, not, cond, List, [], length, map, take, get_or, sum, Option, sym, ap, arith, ◌&&◌, suc, Some, None, Result, Ok, refl, subst, if◌then◌else◌, ◌++◌, length-append, position, zero, ltb, eqb, ◌||◌, ◌-◌, ◌*◌, ◌%◌, is_eq}
 use Rattle.std.specs.List.{All, filter, list_any, count_by, range_with_len, sum_by}
 use Rattle.std.proofs.lemmas.List.{length-map, length-take}
 use Rattle.std.proofs.lemmas.List.Sums.{length-filter, count_by-le-length, prefix_len-le-length, sum_by_more, sum_by-take-le, sum_by_push}
 use Rattle.std.proofs.lemmas.List.Filters.{length-filter_more}
 use Rattle.link_limits.specs.declared.TheConstants.{MOST_ROWS}
-use Rattle.patterns.specs.Shapes.{pattern_count_by, digit_of}
+use Rattle.patterns.specs.Patterns.{pattern_count_by, digit_of, AreSides}
 use Rattle.sample_counts.specs.declared.counts.Judged.{Judged}
 use Rattle.sample_counts.specs.declared.reviewed.Reviewed.{Reviewed}
-use Rattle.sample_counts.specs.CountLaws.{all-digits, some-matched, some-unmatched, filter-cons}
+use Rattle.sample_counts.specs.CountLaws.{all-digits, some-matched, some-unmatched, filter-cons, quotas_le}
 use Rattle.sample_counts.specs.Counts.{AreJudged, digit_in, has_status, is_digit, AreOutcomeCounts, CountsState, is_reviewed_as, judged_by, outcome_in, same_outcome}
 use Rattle.link_base.specs.declared.fault.Fault.{Fault}
 use Rattle.link_base.specs.declared.rule.Outcome.{Outcome}
 use Rattle.link_base.specs.declared.rule.Outcome.TheVariants.{Missing, Rare}
-use Rattle.patterns.specs.Patterns.{AreSides}
-use Rattle.patterns.specs.ShapeLaws.{outcome-pattern}
+use Rattle.patterns.specs.PatternLaws.{outcome-pattern}
 use Rattle.sample_counts.specs.Sample.{IsInFiles, field_at, is_matched_by, named_pair, reviewed_row, is_pair}
-use Rattle.link_base.specs.Answers.{and_then}
-use Rattle.link_base.specs.Fault.{Refuses}
-use Rattle.link_base.specs.Standard.{Record}
-use Rattle.link_base.specs.AnswerLaws.{refuses_then}
+use Rattle.link_base.specs.Words.{and_then, Refuses, Record, refuses_then}
 use Rattle.link_base.specs.declared.fault.Fault.TheVariants as fault
 use Rattle.link_base.specs.declared.fault.FileRole.TheVariants as role
-use Rattle.file_reader.specs.Known.{or_fault, pair_in}
-use Rattle.std.specs.Ordering.{is_eq}
+use Rattle.file_reader.specs.Words.{or_fault, pair_in}
 use Rattle.std.specs.BTreeMap.{BTreeMap, get, Updates}
 use Rattle.std.proofs.lemmas.Bool.Decides.{nat_tests}
 use Rattle.std.proofs.lemmas.List.Folds.{position_or_len_push}
@@ -31,7 +26,6 @@ use Rattle.std.proofs.lemmas.List.Quantifiers.{position-Some}
 use Rattle.sample_counts.specs.Places.{HasPlaces, pair_cmp}
 use mir.Val.{bool_byte}
 use Rattle.sample_counts.specs.Remainders.{is_ahead, quota_of, spread_of}
-use Rattle.sample_counts.specs.ShareLaws.{quotas_le}
 
 pub filter-le : (p : Judged → Bool) (rows : List Judged) (n : ℕ) → length rows ≤ n → length (filter p rows) ≤ n
 filter-le p rows n h = omega (arith, length-filter p rows, count_by-le-length p rows, h)

@@ -5,8 +5,7 @@ use Rattle.std.specs.Prelude.{◌≡◌, ◌<◌, ◌≤◌, ◌==◌, ◌&&◌,
 use Rattle.link_limits.specs.declared.TheConstants.{MOST_ROWS}
 use Rattle.link_base.specs.declared.rule.Outcome.{Outcome}
 use Rattle.link_base.specs.declared.rule.Outcome.TheVariants.{Missing}
-use Rattle.patterns.specs.Shapes.{digit_of, outcome_at, pattern_count_by}
-use Rattle.patterns.specs.Patterns.{number_of, outcomes}
+use Rattle.patterns.specs.Patterns.{digit_of, outcome_at, pattern_count_by, number_of, outcomes}
 use Rattle.sample_counts.specs.declared.counts.Judged.{Judged}
 use Rattle.sample_counts.specs.declared.reviewed.Reviewed.{Reviewed}
 

@@ -4,4 +4,3 @@ pub mod Places
 pub mod Tallies
 pub mod Remainders
 pub mod CountLaws
-pub mod ShareLaws

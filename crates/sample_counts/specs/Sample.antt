@@ -3,16 +3,11 @@
 use Rattle.std.specs.Prelude.{◌≡◌, ◌+◌, ◌==◌, ◌&&◌, ◌<◌, ◌≤◌, All, ℕ, Bool, true, false, not, List, [], ◌∷◌, length, position, Option, Some, None, Result, Ok, Err, codes, bytes_eq, slice_index_or, if◌then◌else◌}
 use Rattle.std.specs.List.{list_any}
 use Rattle.link_limits.specs.declared.TheConstants.{MOST_ROWS}
-use Rattle.link_base.specs.Answers.{and_then}
-use Rattle.link_base.specs.Standard.{Record}
+use Rattle.link_base.specs.Words.{and_then, Record}
 use Rattle.link_base.specs.declared.fault.Fault.{Fault}
 use Rattle.link_base.specs.declared.fault.Fault.TheVariants as fault
 use Rattle.link_base.specs.declared.fault.FileRole.TheVariants as role
-use Rattle.file_reader.specs.EachRow.{each_read}
-use Rattle.file_reader.specs.Known.{or_fault, pair_in}
-use Rattle.file_reader.specs.Layout.{Wanted}
-use Rattle.file_reader.specs.Rows.{TableRow}
-use Rattle.file_reader.specs.Table.{table_of}
+use Rattle.file_reader.specs.Words.{each_read, or_fault, pair_in, Wanted, TableRow, table_of}
 use Rattle.sample_counts.specs.declared.reviewed.Reviewed.{Reviewed}
 
 -- the columns of a sample, and the most rows that it may have

@@ -1,6 +1,6 @@
 // Reviewed pairs with their patterns, and their counts.
 ghost use Rattle.std.specs.Prelude.{◌≡◌, ◌≤◌, ◌<◌, ◌+◌, ℕ, All, false, length, filter, sum, slice_index, slice_index_or, if◌then◌else◌};
-ghost use Rattle.patterns.specs.Shapes.{pattern_count_by, rare_of};
+ghost use Rattle.patterns.specs.Patterns.{pattern_count_by, rare_of};
 ghost use Rattle.sample_counts.specs.Counts.{AreJudged, count_of, digit_in, is_digit};
 ghost use Rattle.sample_counts.specs.Tallies.{counted_at};
 
@@ -25,7 +25,7 @@ pub struct Counts {
 }
 
 impl Model for Counts {
-    ghost use Rattle.patterns.specs.Shapes.{rare_of};
+    ghost use Rattle.patterns.specs.Patterns.{rare_of};
     ghost use Rattle.sample_counts.specs.Counts.{AreJudged, CountsState};
 
     ghost Value = { CountsState };

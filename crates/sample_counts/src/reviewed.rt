@@ -1,6 +1,6 @@
 // The reviewed pairs of a sample.
 ghost use Rattle.std.specs.Prelude.{◌≡◌, ◌≤◌, ◌<◌, ◌+◌, ◌++◌, ◌∷◌, [], All, IfOk, length, slice_index_or};
-ghost use Rattle.file_reader.specs.Left.{records_in};
+ghost use Rattle.file_reader.specs.Table.{records_in};
 ghost use Rattle.link_base.specs.Fault.{Gives, IsAnswer};
 ghost use Rattle.file_reader.specs.Rows.{TableRow, no_row};
 ghost use Rattle.sample_counts.specs.Sample.{IsInFiles, is_matched_by, reviewed_row, reviewed_rows, sample_of, sample_row, sample_under, IsSample};

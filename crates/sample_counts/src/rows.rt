@@ -1,10 +1,9 @@
 // The counts of a sample.
 ghost use Rattle.std.specs.Prelude.{◌≡◌, ◌≤◌, ◌<◌, All, IfOk, List, Ok, length, map};
-ghost use Rattle.file_reader.specs.Left.{records_in};
+ghost use Rattle.file_reader.specs.Table.{records_in};
 ghost use Rattle.link_base.specs.Answers.{and_then};
 ghost use Rattle.link_base.specs.Fault.{IsAnswer};
-ghost use Rattle.patterns.specs.Shapes.{pattern_count_by};
-ghost use Rattle.patterns.specs.Patterns.{AreSides};
+ghost use Rattle.patterns.specs.Patterns.{pattern_count_by, AreSides};
 ghost use Rattle.sample_counts.specs.Counts.{AreOutcomeCounts, counts_by, judged_by};
 ghost use Rattle.sample_counts.specs.declared.reviewed.Reviewed.{Reviewed as ReviewedPair};
 ghost use Rattle.sample_counts.specs.Sample.{IsInFiles, sample_of};

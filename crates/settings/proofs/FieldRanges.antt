@@ -1,7 +1,6 @@
 -- A field is in its ranges, and its name is new.
-use Rattle.std.proofs.Common.{◌≡◌, ◌≢◌, ℕ, ◌≤◌, List, [], ◌∷◌, ◌++◌, ◌∙◌, length, codes, Bool, true, false, not, Option, None, refl, sym, arith, is_some, IfSome, All, suc, ◌+◌, ◌<◌, Some, inl, inr}
+use Rattle.std.proofs.Common.{◌≡◌, ◌≢◌, ℕ, ◌≤◌, List, [], ◌∷◌, ◌++◌, ◌∙◌, length, codes, Bool, true, false, not, Option, None, refl, sym, arith, is_some, IfSome, All, suc, ◌+◌, ◌<◌, Some, inl, inr, bytes_eq}
 use Rattle.std.specs.List.{list_any, HoldsAt}
-use Rattle.std.specs.Str.{bytes_eq}
 use Rattle.std.proofs.lemmas.Bool.{false≢true, not-true, cases_Bool}
 use Rattle.std.proofs.lemmas.List.Elements.{All-nil, All-push, All-weaker}
 use Rattle.std.proofs.lemmas.List.Quantifiers.{all_pairs_push}
@@ -10,14 +9,11 @@ use Rattle.toml.specs.Data.{Members}
 use Rattle.link_texts.specs.Texts.{stands_among}
 use Rattle.link_limits.specs.declared.TheConstants.{MOST_FIELDS}
 use Rattle.settings_readers.specs.KeptLaws.{array_keeps, defaulted_keeps, in_range_keeps, Keeps, keeps_so, keeps_value, needed_keeps, next_keeps, on_table_keeps, Reads, then_keeps, choice_keeps}
-use Rattle.settings_readers.specs.Parts.{defaulted, in_range, known, needed, without_both}
-use Rattle.settings_readers.specs.Values.{choice}
-use Rattle.settings_readers.specs.Lists.{on_table}
+use Rattle.settings_readers.specs.Values.{defaulted, in_range, known, needed, without_both, choice, on_table}
 use Rattle.link_plan.specs.Plan.{FieldKeys, PlainShares}
 use Rattle.link_plan.specs.Ranges.{AreShares, has_comparison, HaveDistinctNames, IsField, IsFieldName, IsLabel, IsRareNumber, may_be_rare, is_keyed, IsPart, IsPass, AreListedWords, AreMarks, AreTables}
-use Rattle.settings.specs.Words.{compare_named, kind_named, key_named}
-use Rattle.settings.specs.Field.{compare_by, compare_keys, field, field_keys, field_shares, fields, given_shares, measure_keys, name_keys, rare_number, shares, sort_of}
-use Rattle.settings.specs.Values.{text, fits}
+use Rattle.settings.specs.Words.{compare_named, kind_named, key_named, text, fits, numbered, texts, word_table}
+use Rattle.settings.specs.Field.{compare_by, compare_keys, field, field_keys, field_shares, fields, given_shares, name_keys, rare_number, shares, sort_of}
 use Rattle.settings.specs.declared.fields.CompareKeys.{CompareKeys}
 use Rattle.settings.specs.declared.fields.NameKeys.{NameKeys}
 use Rattle.settings.specs.declared.texts.TextRule.TheVariants as rule
@@ -26,13 +22,11 @@ use Rattle.settings.proofs.TextRanges.{shares_keep, label_keeps, name_as_label, 
 use Rattle.link_base.specs.declared.plan.FieldSort.{FieldSort}
 use Rattle.value_forms.specs.declared.passes.Part.{Part}
 use Rattle.link_plan.specs.declared.limits.TheConstants.{MOST_PARTS, MOST_PASSES, MOST_LISTED_WORDS, MOST_MARK_BYTES, MOST_MARKS}
-use Rattle.settings.specs.CanonKeys.{numbered}
 use Rattle.settings.specs.Pass.{field_named, part, part_keys, parts, pass, pass_keys, passes}
 use Rattle.std.proofs.lemmas.List.Sums.{AllPass-from_list_all}
-use Rattle.link_base.specs.Tables.{AreWordPairs, missing_marks, name_suffixes, name_titles}
+use Rattle.link_base.specs.Words.{AreWordPairs, missing_marks, name_suffixes, name_titles}
 use Rattle.link_base.specs.declared.tables.Tables.{Tables}
 use Rattle.settings.specs.Settings.{standard_tables, tables_over}
-use Rattle.settings.specs.WordTables.{texts, word_table}
 use Rattle.settings.specs.declared.texts.TextRule.{TextRule}
 
 -- shares, exactly where there is no sample
@@ -80,17 +74,6 @@ compare_keys_are t above =
     then_keeps _ _ (compare_by word t above) _ (compare_keeps t above sort word suits) (λ compare is.
     then_keeps _ _ (rare_number compare t above) _ (rare_where t above compare (may_be_rare compare) refl) (λ rare also. keeps_value _ _ (record { compare = is; rare = also }))))))
 
-record AreMeasured (sampled : Bool) (x : CompareKeys × Option PlainShares) : Type 0 where
-  compared : AreCompareKeys x.0
-  shares : SharesAre sampled (is_some x.0.rare) x.1
-
-measure_keys_are : (sampled : Bool) (t : Members) (above : List ℕ) → Keeps (measure_keys sampled t above) (AreMeasured sampled)
-unfolding measure_keys
-measure_keys_are sampled t above =
-    then_keeps _ _ (compare_keys t above) _ (compare_keys_are t above) (λ compared are.
-    then_keeps _ _ (field_shares sampled (is_some compared.rare) t above) _ (shares_are sampled (is_some compared.rare) t above) (λ shares also.
-    keeps_value _ _ (record { compared = are; shares = also })))
-
 -- a field after those before it
 record IsNext (sampled : Bool) (before : List FieldKeys) (x : FieldKeys) : Type 0 where
   field : IsField sampled x
@@ -101,19 +84,20 @@ unfolding field
 field_is sampled before t above =
     next_keeps _ (known (stands_among field_keys) t above) _ (λ listed.
     then_keeps _ _ (name_keys before t above) _ (name_keys_are before t above) (λ names named.
-    then_keeps _ _ (measure_keys sampled t above) _ (measure_keys_are sampled t above) (λ both are.
+    then_keeps _ _ (compare_keys t above) _ (compare_keys_are t above) (λ compared are.
+    then_keeps _ _ (field_shares sampled (is_some compared.rare) t above) _ (shares_are sampled (is_some compared.rare) t above) (λ shares also.
     keeps_value _ _ (record {
       field = record {
         name = named.name;
         column_a = named.column_a;
         column_b = named.column_b;
-        compare = are.compared.compare;
-        rare = are.compared.rare;
-        given = are.shares.0;
-        shares = are.shares.1;
+        compare = are.compare;
+        rare = are.rare;
+        given = also.0;
+        shares = also.1;
       };
       is_new = named.is_new;
-    }))))
+    })))))
 
 -- fields of distinct names
 pub record AreFields (sampled : Bool) (xs : List FieldKeys) : Type 0 where

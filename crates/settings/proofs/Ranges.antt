@@ -1,24 +1,22 @@
 -- A plan keeps the ranges of the settings.
-use Rattle.std.proofs.Common.{◌≡◌, ◌≢◌, ℕ, ◌≤◌, List, [], ◌++◌, length, codes, Bool, true, Option, Some, None, Result, Ok, Err, refl, sym, ◌∙◌, arith, is_some, IfSome, All, ap, inl, inr, IsUtf8, ◌<◌, ◌+◌, ◌∷◌, ℤ, false, get_or, drop, string_bytes, ◌&&◌}
+use Rattle.std.proofs.Common.{◌≡◌, ◌≢◌, ℕ, ◌≤◌, List, [], ◌++◌, length, codes, Bool, true, Option, Some, None, Result, Ok, Err, refl, sym, ◌∙◌, arith, is_some, IfSome, All, ap, inl, inr, IsUtf8, ◌<◌, ◌+◌, ◌∷◌, ℤ, false, get_or, drop, string_bytes, ◌&&◌, option_and_then, option_map}
 use Rattle.std.specs.Str.{bytes_eq, is_utf8}
 use Rattle.std.proofs.lemmas.Bool.{false≢true, not-true, cases_Bool}
 use Rattle.std.proofs.lemmas.Slice.Eq.{bytes_eq-Decides}
 use Rattle.toml.specs.Data.{Members, as_integer}
 use Rattle.link_texts.specs.Texts.{stands_among}
-use Rattle.link_base.specs.Tables.{AreWordPairs}
+use Rattle.link_base.specs.Words.{AreWordPairs}
 use Rattle.link_limits.specs.declared.TheConstants.{MOST_FIELDS}
 use Rattle.settings_readers.specs.declared.fault.KeyFault.{KeyFault}
 use Rattle.settings_readers.specs.KeptLaws.{choice_keeps, defaulted_keeps, in_range_keeps, Keeps, keeps_value, kept, named_passes, needed_keeps, next_keeps, optional_keeps, Reads, then_keeps}
-use Rattle.settings_readers.specs.Parts.{defaulted, known, needed, optional}
-use Rattle.settings_readers.specs.Values.{choice}
+use Rattle.settings_readers.specs.Values.{defaulted, known, needed, optional, choice}
 use Rattle.link_plan.specs.Ranges.{AreFiles, files_read, is_delimiter, IsField, IsFileName, IsLabel, KeepsRanges}
 use Rattle.link_plan.specs.Terms.{KeepsTerms, term_keys}
 use Rattle.link_plan.specs.declared.plan.Plan.{Plan}
-use Rattle.settings.specs.Words.{delimiters, delimiter_named}
+use Rattle.settings.specs.Words.{delimiters, delimiter_named, text, pairs, word_pair}
 use Rattle.settings.specs.Field.{fields, wholes}
 use Rattle.settings.specs.Pass.{passes, field_named}
 use Rattle.settings.specs.Settings.{document, file_keys, is_free, journal_of, link_keys, of_keys, other_sources, plan_of, plan_or_not_toml, settings, standard_tables, tables_over, terms, top_keys, IsSettingsFault}
-use Rattle.settings.specs.Values.{text}
 use Rattle.settings.specs.declared.texts.TextRule.TheVariants as rule
 use Rattle.settings.specs.declared.top.FileKeys.{FileKeys}
 use Rattle.settings.specs.declared.top.LinkKeys.{LinkKeys}
@@ -33,14 +31,12 @@ use Rattle.link_base.specs.Fault as run_fault
 use Rattle.settings_readers.specs.declared.fault.KeyFault.TheVariants as key_fault
 use Rattle.settings_readers.specs.KeyFaults.{fault_of, Refuses}
 use Rattle.std.specs.List.{list_all}
-use Rattle.std.specs.Option.{option_and_then, option_map}
 use Rattle.std.proofs.lemmas.List.{drop_more}
 use Rattle.toml.specs.View.{items_view, members_view, view}
 use Rattle.toml.specs.declared.value.Value.{Value}
 use Rattle.link_base.specs.declared.plan.FieldSort.{FieldSort}
 use Rattle.link_base.specs.declared.tables.WordPair.{WordPair}
 use Rattle.link_plan.specs.Plan.{FieldKeys}
-use Rattle.settings.specs.WordTables.{pairs, word_pair}
 use Rattle.settings.proofs.WordTables.{Entry}
 
 abbrev IsDelimiter : ℕ → Type 0

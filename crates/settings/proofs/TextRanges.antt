@@ -6,13 +6,12 @@ use Rattle.toml.specs.declared.value.Value.{Value}
 use Rattle.std.proofs.lemmas.Bool.{ne_eqb, and_parts, cases_Bool, leb-true, eqb-true, false≢true, not-true}
 use Rattle.std.proofs.lemmas.List.{length-map, get_or-append_right, get_or_past}
 use Rattle.std.specs.Option.{option_map_or}
-use Rattle.settings_readers.specs.Values.{magnitude, whole}
+use Rattle.settings_readers.specs.Values.{magnitude, whole, typed}
 use Rattle.settings.specs.Field.{wholes, share_at, shares_or_none, are_shares, four, shares}
 use Rattle.std.specs.List.{list_all, list_any}
 use Rattle.std.proofs.Math.ListN.{get_or-append}
 use Rattle.std.proofs.lemmas.List.Sums.{AllPass-from_list_all, sum_by-append}
-use Rattle.link_base.specs.Shares.{IsShares, outcomes_of}
-use Rattle.settings_readers.specs.Parts.{typed}
+use Rattle.link_base.specs.Words.{IsShares, outcomes_of}
 use Rattle.settings_readers.specs.KeptLaws.{next_keeps, ranged_keeps, Reads, defaulted_keeps, IsWithin, Keeps, needed_keeps, whole_keeps, in_range_keeps, keeps_so}
 use Rattle.settings_readers.specs.declared.fault.KeyFault.{KeyFault}
 use Rattle.link_plan.specs.Terms.{IsIn, KeepsTerms, terms_by}
@@ -21,8 +20,8 @@ use Rattle.settings.specs.Settings.{number_at, terms, truth_at}
 use Rattle.std.proofs.lemmas.List.Folds.{list_any_at}
 use Rattle.link_limits.specs.declared.TheConstants.{MOST_NAME_BYTES}
 use Rattle.link_plan.specs.Ranges.{IsFieldName, IsFileName, IsLabel}
-use Rattle.settings.specs.Values.{fits, has_len, text}
-use Rattle.link_plan.specs.Names.{is_name_byte, is_output}
+use Rattle.settings.specs.Words.{fits, has_len, text}
+use Rattle.link_plan.specs.Plan.{is_name_byte, is_output}
 use Rattle.link_plan.specs.declared.limits.TheConstants.{MOST_FIELD_NAME_BYTES, MOST_LABEL_BYTES, MOST_MARK_BYTES}
 use Rattle.settings.specs.declared.texts.TextRule.{TextRule}
 use Rattle.settings.specs.declared.texts.TextRule.TheVariants as rule

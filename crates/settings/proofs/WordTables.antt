@@ -7,14 +7,13 @@ use Rattle.toml.specs.Data.{Data, Members, no_members, member, as_table, is_befo
 use Rattle.toml.specs.View.{members_view}
 use Rattle.toml.specs.declared.value.Value.{Value}
 use Rattle.link_base.specs.declared.tables.WordPair.{WordPair}
-use Rattle.link_base.specs.Tables.{AreWordPairs, is_word, StandsBefore}
-use Rattle.settings_readers.specs.Parts.{typed, in_range, ◌>>=◌, needed, optional, without}
+use Rattle.link_base.specs.Words.{AreWordPairs, is_word, StandsBefore}
+use Rattle.settings_readers.specs.Values.{typed, in_range, ◌>>=◌, needed, optional, without, choice, whole}
 use Rattle.settings_readers.specs.KeptLaws.{in_range_keeps, Keeps, keeps_so, keeps_value, kept, next_keeps, Reads, then_keeps, choice_keeps, IsWithin, named_passes, needed_keeps, optional_keeps, whole_keeps, without_both_keeps, without_keeps}
-use Rattle.settings_readers.specs.Laws.{above, IsKeyOf, keys_ascend}
+use Rattle.settings_readers.specs.KeyFaults.{above, IsKeyOf, keys_ascend}
 use Rattle.link_plan.specs.declared.limits.TheConstants.{MOST_WORD_PAIRS, LEAST_RARE, MOST_DAYS, MOST_LETTERS, MOST_RARE, MOST_YEARS}
 use Rattle.settings.specs.declared.texts.TextRule.TheVariants as rule
-use Rattle.settings.specs.Values.{text}
-use Rattle.settings.specs.WordTables.{members_len, word_pair, pairs, small_table, word_table}
+use Rattle.settings.specs.Words.{text, members_len, word_pair, pairs, small_table, word_table, numbered, compare_named, comparisons, key_named, key_words}
 use Rattle.settings.proofs.TextRanges.{text_keeps}
 use Rattle.std.specs.List.{list_all}
 use Rattle.value_forms.specs.Canons.{letters_of, with_letters}
@@ -25,11 +24,8 @@ use Rattle.value_forms.specs.declared.canons.CompareKind.{CompareKind}
 use Rattle.value_forms.specs.declared.canons.CompareKind.TheVariants as by
 use Rattle.link_base.specs.declared.plan.FieldSort.{FieldSort}
 use Rattle.link_base.specs.declared.plan.FieldSort.TheVariants as sort
-use Rattle.settings_readers.specs.Values.{choice, whole}
 use Rattle.link_plan.specs.Ranges.{has_comparison, is_keyed, is_of_words, IsRareNumber, may_be_rare}
-use Rattle.settings.specs.CanonKeys.{numbered}
 use Rattle.settings.specs.Field.{compare_by, span}
-use Rattle.settings.specs.Words.{compare_named, comparisons, key_named, key_words}
 
 -- an entry of a table's map
 abbrev pub Entry : Type 0

@@ -1,9 +1,8 @@
 -- A field's table: its keys in order, with what each gives (`Fields`, by the clause of `Reader::read`; the parts, by the
 -- one clause of the function of their name).
-use Rattle.std.specs.Prelude.{List, ℕ, ℤ, Bool, not, ◌++◌, [], ◌∷◌, codes, length, map, sum, Option, Some, None, is_some, option_map, Result, Ok, ◌&&◌, nat_le, ◌==◌, if◌then◌else◌, option_and_then}
+use Rattle.std.specs.Prelude.{List, ℕ, ℤ, Bool, not, ◌++◌, [], ◌∷◌, codes, length, map, sum, Option, Some, None, is_some, option_map, Result, Ok, ◌&&◌, nat_le, ◌==◌, if◌then◌else◌, option_and_then, bytes_eq}
 use Rattle.std.specs.List.{list_any, list_all}
 use Rattle.std.specs.Option.{option_map_or}
-use Rattle.std.specs.Str.{bytes_eq}
 use Rattle.toml.specs.Data.{Data, Items, no_items, item, Members, as_array, as_integer}
 use Rattle.link_limits.specs.declared.TheConstants.{MOST_FIELDS, WHOLE_FIELD}
 use Rattle.link_texts.specs.Texts.{stands_among}
@@ -12,15 +11,11 @@ use Rattle.link_base.specs.declared.plan.FieldSort.{FieldSort}
 use Rattle.link_base.specs.declared.plan.FieldSort.TheVariants as sort
 use Rattle.value_forms.specs.declared.canons.CompareKind.{CompareKind}
 use Rattle.value_forms.specs.declared.canons.CompareKind.TheVariants as by
-use Rattle.link_base.specs.Shares.{outcomes_of}
-use Rattle.settings_readers.specs.Parts.{◌>>=◌, typed, ranged, in_range, needed, optional, defaulted, without, without_both, known}
-use Rattle.settings_readers.specs.Values.{choice, whole, magnitude}
-use Rattle.settings_readers.specs.Lists.{array_of, on_table}
+use Rattle.link_base.specs.Words.{outcomes_of}
+use Rattle.settings_readers.specs.Values.{◌>>=◌, typed, ranged, in_range, needed, optional, defaulted, without, without_both, known, choice, whole, magnitude, array_of, on_table}
 use Rattle.link_plan.specs.Plan.{FieldKeys, PlainShares}
 use Rattle.link_plan.specs.Ranges.{may_be_rare}
-use Rattle.settings.specs.Values.{text}
-use Rattle.settings.specs.CanonKeys.{numbered}
-use Rattle.settings.specs.Words.{kind_named, form_named, compare_named}
+use Rattle.settings.specs.Words.{text, numbered, kind_named, form_named, compare_named}
 use Rattle.settings.specs.declared.fields.CompareKeys.{CompareKeys}
 use Rattle.settings.specs.declared.fields.NameKeys.{NameKeys}
 use Rattle.link_plan.specs.declared.limits.TheConstants.{LEAST_RARE, MOST_DAYS, MOST_RARE, MOST_YEARS}
@@ -104,20 +99,14 @@ compare_keys t above = do
   rare ← rare_number compare t above
   Ok (record { sort = sort; compare = compare; rare = rare })
 
--- how a field is compared, and its shares; sampled says that the settings name a sample
-unfoldable pub measure_keys : Bool → Members → List ℕ → Result (CompareKeys × Option PlainShares) KeyFault
-measure_keys sampled t above = do
-  compared ← compare_keys t above
-  shares ← field_shares sampled (is_some compared.rare) t above
-  Ok (compared, shares)
-
--- a field, after those before it
+-- a field, after those before it; sampled says that the settings name a sample
 unfoldable pub field : Bool → List FieldKeys → Members → List ℕ → Result FieldKeys KeyFault
 field sampled before t above = do
   listed ← known (stands_among field_keys) t above
   named ← name_keys before t above
-  measured ← measure_keys sampled t above
-  Ok (record { name = named.name; column_a = named.column_a; column_b = named.column_b; sort = measured.0.sort; compare = measured.0.compare; rare = measured.0.rare; shares = measured.1 })
+  compared ← compare_keys t above
+  shares ← field_shares sampled (is_some compared.rare) t above
+  Ok (record { name = named.name; column_a = named.column_a; column_b = named.column_b; sort = compared.sort; compare = compared.compare; rare = compared.rare; shares = shares })
 
 -- an array of fields
 abbrev pub fields : Bool → List ℕ → Data → Result (List FieldKeys) KeyFault

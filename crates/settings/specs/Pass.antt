@@ -1,7 +1,6 @@
 -- A pass's table, and its parts (`Passes`, by the clause of `Reader::read`; the parts, by the one clause of the function
 -- of their name).
-use Rattle.std.specs.Prelude.{List, ℕ, ◌+◌, [], ◌∷◌, codes, Option, Some, None, Result, Ok, if◌then◌else◌}
-use Rattle.std.specs.Str.{bytes_eq}
+use Rattle.std.specs.Prelude.{List, ℕ, ◌+◌, [], ◌∷◌, codes, Option, Some, None, Result, Ok, if◌then◌else◌, bytes_eq}
 use Rattle.toml.specs.Data.{Data, Members}
 use Rattle.link_texts.specs.Texts.{stands_among}
 use Rattle.settings_readers.specs.declared.fault.KeyFault.{KeyFault}
@@ -9,11 +8,8 @@ use Rattle.link_base.specs.declared.plan.FieldSort.{FieldSort}
 use Rattle.value_forms.specs.declared.passes.Part.{Part}
 use Rattle.link_plan.specs.Plan.{FieldKeys}
 use Rattle.link_plan.specs.declared.limits.TheConstants.{MOST_PARTS, MOST_PASSES}
-use Rattle.settings_readers.specs.Parts.{◌>>=◌, needed, known}
-use Rattle.settings_readers.specs.Values.{choice}
-use Rattle.settings_readers.specs.Lists.{array_of, on_table}
-use Rattle.settings.specs.CanonKeys.{numbered}
-use Rattle.settings.specs.Words.{key_named}
+use Rattle.settings_readers.specs.Values.{◌>>=◌, needed, known, choice, array_of, on_table}
+use Rattle.settings.specs.Words.{numbered, key_named}
 
 -- the keys of a pass and of a part
 abbrev pub pass_keys : List (List ℕ)

@@ -9,14 +9,11 @@ use Rattle.link_texts.specs.Texts.{stands_among}
 use Rattle.link_base.specs.declared.fault.Fault.{Fault}
 use Rattle.link_base.specs.declared.fault.Fault.TheVariants as fault
 use Rattle.link_base.specs.declared.tables.Tables.{Tables}
-use Rattle.link_base.specs.Tables.{missing_marks, name_titles, name_suffixes}
+use Rattle.link_base.specs.Words.{missing_marks, name_titles, name_suffixes}
 use Rattle.settings_readers.specs.declared.fault.KeyFault.{KeyFault}
 use Rattle.settings_readers.specs.KeyFaults.{fault_of}
-use Rattle.settings_readers.specs.Parts.{◌>>=◌, in_range, needed, optional, defaulted, known}
-use Rattle.settings_readers.specs.Values.{choice, whole, truth}
-use Rattle.settings.specs.Values.{text}
-use Rattle.settings.specs.Words.{delimiter_named}
-use Rattle.settings.specs.WordTables.{texts, word_table}
+use Rattle.settings_readers.specs.Values.{◌>>=◌, in_range, needed, optional, defaulted, known, choice, whole, truth}
+use Rattle.settings.specs.Words.{text, delimiter_named, texts, word_table}
 use Rattle.settings.specs.Field.{fields}
 use Rattle.settings.specs.Pass.{passes}
 use Rattle.link_plan.specs.Terms.{term_keys, terms_by}

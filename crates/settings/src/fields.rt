@@ -1,11 +1,10 @@
 // A field's table.
-ghost use Rattle.std.specs.Prelude.{◌≡◌, option_map};
+ghost use Rattle.std.specs.Prelude.{◌≡◌, option_map, bytes_eq};
 ghost use Rattle.std.specs.List.{list_any};
-ghost use Rattle.std.specs.Str.{bytes_eq};
 ghost use Rattle.toml.specs.View.{table_view};
 ghost use Rattle.settings_readers.specs.KeyFaults.{Gives, IsAnswer};
 ghost use Rattle.link_plan.specs.Plan.{plain_shares};
-ghost use Rattle.settings.specs.Field.{compare_keys, field, field_shares, fields, measure_keys, name_keys};
+ghost use Rattle.settings.specs.Field.{compare_keys, field, field_shares, fields, name_keys};
 
 use crate::kinds::{compare_by, rare_number, sort_of};
 use crate::shares::Shares;
@@ -98,25 +97,6 @@ fn field_shares(
     Ok(Some(FieldShares { rare, m, u }))
 }
 
-// How a field is compared, and its shares.
-fn measure_keys(
-    alloc: Global,
-    sampled: bool,
-    keys: &Keys,
-) -> Result<(CompareKeys, Option<FieldShares>), KeyFault>
-    ensures { Gives (λ m. (m.0, option_map plain_shares m.1)) (measure_keys sampled (table_view keys.now.table.now) keys.now.above.now) result }
-{
-    match compare_keys(alloc, keys) {
-        Ok(compared) => {
-            match field_shares(alloc, sampled, compared.rare.is_some(), keys) {
-                Ok(shares) => Ok((compared, shares)),
-                Err(fault) => Err(fault),
-            }
-        }
-        Err(fault) => Err(fault),
-    }
-}
-
 /// One to six fields; `sampled` says that the settings name a sample.
 #[derive(Clone, Copy)]
 pub(crate) struct Fields {
@@ -137,7 +117,8 @@ impl Row for Fields {
     ) -> Result<FieldPlan, KeyFault> {
         keys.known(alloc, &FIELD_KEYS, &[])?;
         let named = name_keys(alloc, before, keys)?;
-        let (compared, shares) = measure_keys(alloc, self.sampled, keys)?;
+        let compared = compare_keys(alloc, keys)?;
+        let shares = field_shares(alloc, self.sampled, compared.rare.is_some(), keys)?;
         Ok(FieldPlan {
             name: named.name,
             column_a: named.column_a,

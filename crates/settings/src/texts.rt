@@ -4,10 +4,10 @@ ghost use Rattle.std.specs.List.{list_all};
 ghost use Rattle.toml.specs.View.{table_view, view};
 ghost use Rattle.settings_readers.specs.KeyFaults.{Gives, IsAnswer};
 ghost use Rattle.link_base.specs.Tables.{is_word_byte};
-ghost use Rattle.settings_readers.specs.Parts.{defaulted};
+ghost use Rattle.settings_readers.specs.Values.{defaulted};
 ghost use Rattle.settings.specs.declared.texts.TextRule.TheVariants as rule;
-ghost use Rattle.link_plan.specs.Names.{is_output, is_name_byte};
-ghost use Rattle.settings.specs.Values.{fits, text};
+ghost use Rattle.link_plan.specs.Plan.{is_output, is_name_byte};
+ghost use Rattle.settings.specs.Words.{fits, text};
 
 use link_base::Text;
 use link_limits::{MOST_NAME_BYTES, MOST_WORD_BYTES};

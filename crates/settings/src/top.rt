@@ -4,8 +4,7 @@ ghost use Rattle.toml.specs.View.{table_view};
 ghost use Rattle.link_texts.specs.Texts.{stands_among};
 ghost use Rattle.link_base.specs.declared.fault.Fault.TheVariants as fault;
 ghost use Rattle.link_base.specs.Fault as run_fault;
-ghost use Rattle.settings_readers.specs.KeyFaults.{Gives, IsAnswer};
-ghost use Rattle.settings_readers.specs.Parts.{defaulted};
+ghost use Rattle.settings_readers.specs.KeyFaults.{IsAnswer};
 ghost use Rattle.settings.specs.Settings.{document, file_keys, is_free, IsSettingsFault, journal_of, link_keys, of_keys, other_sources, plan_from, plan_of, settings, standard_tables, tables_over};
 ghost use Rattle.link_plan.specs.Ranges.{KeepsRanges, NamesFiles};
 
@@ -17,7 +16,7 @@ use crate::word_tables::{Texts, WordTable};
 use crate::words::Delimiters;
 use link_base::{Fault, NoMemory, Tables, Text};
 use link_plan::{FieldList, MOST_LISTED_WORDS, MOST_MARKS, Plan, TERM_KEYS, Terms};
-use settings_readers::{Choice, KeyFault, Keys, Place, Reader};
+use settings_readers::{Choice, KeyFault, Keys, Place};
 use std::alloc::Global;
 use toml::Table;
 use value_forms::PassList;
@@ -140,29 +139,9 @@ fn other_sources(alloc: Global, files: &FileKeys, keys: &Keys) -> Result<OtherSo
     })
 }
 
-// What stands at a key takes the place of the default, which stays where the key is not there.
-fn replace<R: Reader>(
-    alloc: Global,
-    item: &mut R::Item,
-    reader: &R,
-    keys: &Keys,
-    key: &str,
-) -> Result<(), KeyFault>
-    ensures { Gives (λ _. item.new) (defaulted (R.gives reader.now) item.old (table_view keys.now.table.now) keys.now.above.now key.now) result }
-{
-    match keys.optional(alloc, reader, key) {
-        Ok(None) => Ok(()),
-        Ok(Some(given)) => {
-            *item = given;
-            Ok(())
-        }
-        Err(fault) => Err(fault),
-    }
-}
-
 #[tactic(auto, unfolding(crate::specs::Settings::tables_over))]
-fn replace_tables(alloc: Global, tables: &mut Tables, keys: &Keys) -> Result<(), KeyFault>
-    ensures { Gives (λ _. tables.new) (tables_over tables.old (table_view keys.now.table.now) keys.now.above.now) result }
+fn tables_over(alloc: Global, tables: Tables, keys: &Keys) -> Result<Tables, KeyFault>
+    ensures { IsAnswer (tables_over tables (table_view keys.now.table.now) keys.now.above.now) result }
 {
     let marks = Texts {
         most: MOST_MARKS,
@@ -172,11 +151,18 @@ fn replace_tables(alloc: Global, tables: &mut Tables, keys: &Keys) -> Result<(),
         most: MOST_LISTED_WORDS,
         rule: TextRule::Word,
     };
-    replace(alloc, &mut tables.missing, &marks, keys, "missing")?;
-    replace(alloc, &mut tables.titles, &words, keys, "titles")?;
-    replace(alloc, &mut tables.suffixes, &words, keys, "suffixes")?;
-    replace(alloc, &mut tables.names, &WordTable, keys, "names")?;
-    replace(alloc, &mut tables.places, &WordTable, keys, "places")
+    let missing = keys.defaulted(alloc, &marks, tables.missing, "missing")?;
+    let titles = keys.defaulted(alloc, &words, tables.titles, "titles")?;
+    let suffixes = keys.defaulted(alloc, &words, tables.suffixes, "suffixes")?;
+    let names = keys.defaulted(alloc, &WordTable, tables.names, "names")?;
+    let places = keys.defaulted(alloc, &WordTable, tables.places, "places")?;
+    Ok(Tables {
+        missing,
+        titles,
+        suffixes,
+        names,
+        places,
+    })
 }
 
 // The tables of a settings file that names none.
@@ -189,9 +175,8 @@ fn standard_tables(alloc: Global) -> Result<Tables, NoMemory>
 fn tables(alloc: Global, keys: &Keys) -> Result<Tables, KeyFault>
     ensures { IsAnswer (tables_over standard_tables (table_view keys.now.table.now) keys.now.above.now) result }
 {
-    let mut tables = standard_tables(alloc)?;
-    replace_tables(alloc, &mut tables, keys)?;
-    Ok(tables)
+    let standard = standard_tables(alloc)?;
+    tables_over(alloc, standard, keys)
 }
 
 fn optional_text(name: Option<FileName>) -> Option<Text>

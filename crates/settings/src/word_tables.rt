@@ -1,10 +1,8 @@
 // Lists of texts, and tables from word to word.
 ghost use Rattle.std.specs.Prelude.{◌≡◌, [], IfOk, true};
 ghost use Rattle.toml.specs.View.{view, table_view};
-ghost use Rattle.settings_readers.specs.KeyFaults.{Gives, IsAnswer};
-ghost use Rattle.settings_readers.specs.Laws.{keys_ascend};
-ghost use Rattle.settings.specs.Values.{text};
-ghost use Rattle.settings.specs.WordTables.{texts, word_pair, pairs, small_table, word_table};
+ghost use Rattle.settings_readers.specs.KeyFaults.{Gives, IsAnswer, keys_ascend};
+ghost use Rattle.settings.specs.Words.{text, texts, word_pair, pairs, small_table, word_table};
 
 use crate::texts::{TextRule, fits};
 use link_base::{Text, TextList, WordPair, WordPairs};

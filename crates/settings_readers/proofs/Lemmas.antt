@@ -1,25 +1,20 @@
 -- A walk over the members of a table, in a loop over its map.
-use Rattle.std.proofs.Common.{◌≡◌, Bool, true, false, List, ◌∷◌, ◌++◌, ℕ, Err, Result, string_bytes, sym, ◌∙◌, refl, ◌<◌, ◌+◌, [], Ok, length, length-append, drop, map, get_or, Option, Some, ap, subst, arith, decimal, nat_le, ◌&&◌, ◌||◌, ◌⊎◌, Less, nat_cmp, inl, inr}
+use Rattle.std.proofs.Common.{◌≡◌, Bool, true, false, List, ◌∷◌, ◌++◌, ℕ, Err, Result, string_bytes, sym, ◌∙◌, refl, ◌<◌, ◌+◌, [], Ok, length, length-append, drop, map, get_or, Option, Some, ap, subst, arith, decimal, nat_le, ◌&&◌, ◌||◌, ◌⊎◌, Less, nat_cmp, inl, inr, bytes_eq, string_cmp}
 use Rattle.toml.proofs.Views.{Entry, is_before-sorted}
 use Rattle.toml.specs.View.{members_view, items_view, view}
 use Rattle.settings_readers.specs.declared.fault.KeyFault.{KeyFault}
 use Rattle.settings_readers.specs.declared.fault.KeyFault.TheVariants.{UnknownKey}
-use Rattle.settings_readers.specs.Parts.{known, ◌>>=◌, in_range}
+use Rattle.settings_readers.specs.Values.{known, ◌>>=◌, in_range, each, items_len, sized, named_in}
 use Rattle.std.specs.List.{list_any}
-use Rattle.std.specs.Str.{bytes_eq}
 use Rattle.std.proofs.lemmas.List.{drop_more}
 use Rattle.toml.specs.Data.{Data, as_array, Members, no_members, member, is_before}
 use Rattle.toml.specs.declared.value.Value.{Value}
-use Rattle.settings_readers.specs.KeyFaults.{Refuses}
-use Rattle.settings_readers.specs.StepLaws.{refuses_then}
-use Rattle.settings_readers.specs.Lists.{each, items_len, sized}
-use Rattle.settings_readers.specs.Values.{named_in}
+use Rattle.settings_readers.specs.KeyFaults.{Refuses, above, IsKeyOf, keys_ascend, IsLeastUnknown}
+use Rattle.settings_readers.specs.KeptLaws.{refuses_then}
 use Rattle.std.proofs.lemmas.Bool.{and_parts, cases_Bool, false≢true}
 use Rattle.std.specs.Cmp.Lexicographic.{slice_cmp}
 use Rattle.std.specs.List.Sorted.{IsStrictlySortedBy}
 use Rattle.std.specs.Map.{keys_of}
-use Rattle.std.specs.String.{string_cmp}
-use Rattle.settings_readers.specs.Laws.{above, IsKeyOf, keys_ascend, IsLeastUnknown}
 
 -- a known key at the front
 pub known_more : (is_known : List ℕ → Bool) (all rest : List Entry) (e : Entry) (path key : List ℕ) (total : Result (Unit {0}) KeyFault) → all ≡ e ∷ rest → key ≡ string_bytes e.0 → is_known key ≡ true
@@ -118,7 +113,7 @@ names_least is_known (member k d ms) path f sorted h =
           (k, cc, record { there = inl refl; unknown = unlisted; least = least_here is_known k ms front more })
     ]
 
-pub keys_ascend-sorted : (es : List Entry) → IsStrictlySortedBy string_cmp (keys_of es) → keys_ascend (members_view es) ≡ true
+pub sorted_ascend : (es : List Entry) → IsStrictlySortedBy string_cmp (keys_of es) → keys_ascend (members_view es) ≡ true
 unfolding IsStrictlySortedBy
-keys_ascend-sorted [] h = refl
-keys_ascend-sorted (e ∷ es) h = rw (is_before-sorted e.0 es h.0, keys_ascend-sorted es h.1)
+sorted_ascend [] h = refl
+sorted_ascend (e ∷ es) h = rw (is_before-sorted e.0 es h.0, sorted_ascend es h.1)

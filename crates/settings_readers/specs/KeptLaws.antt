@@ -1,15 +1,14 @@
 -- What all that a part of a settings file gives keeps, and its laws: a part keeps what its readers keep. They are said over all readers
 -- and all ranges, which no clause of a call can range over, so they stand here; the ranges of a plan follow by them.
-use Rattle.std.proofs.Common.{◌≡◌, ℕ, ℤ, pos, negsuc, ◌+◌, ◌≤◌, List, [], ◌∷◌, ◌++◌, length, codes, Bool, true, false, Option, Some, None, Result, Ok, Err, refl, subst, ◌∙◌, arith, length-append, inl, inr}
-use Rattle.std.specs.Prelude.{⊤, decimal, nat_le, unwrap_or, IfSome}
+use Rattle.std.proofs.Common.{◌≡◌, ℕ, ℤ, pos, negsuc, ◌+◌, ◌≤◌, List, [], ◌∷◌, ◌++◌, length, codes, Bool, true, false, Option, Some, None, Result, Ok, Err, refl, subst, ◌∙◌, arith, length-append, inl, inr, ap, bytes_eq}
+use Rattle.std.specs.Prelude.{⊤, decimal, nat_le, unwrap_or, IfSome, MatchBool}
 use Rattle.std.specs.List.{list_all}
-use Rattle.std.specs.Str.{bytes_eq}
 use Rattle.std.proofs.lemmas.Bool.{and_parts, cases_Bool, leb-true}
 use Rattle.toml.specs.Data.{Data, Items, no_items, item, Members, get_member, as_str, as_integer, as_array, as_table}
 use Rattle.settings_readers.specs.declared.fault.KeyFault.{KeyFault}
-use Rattle.settings_readers.specs.Parts.{◌>>=◌, typed, ranged, in_range, read_needed, read_optional, read_without, needed, optional, without, without_both, defaulted}
-use Rattle.settings_readers.specs.Values.{choice, is_within, magnitude, named_in, whole}
-use Rattle.settings_readers.specs.Lists.{items_len, each, sized, array_of, on_table}
+use Rattle.settings_readers.specs.Values.{◌>>=◌, typed, ranged, in_range, read_needed, read_optional, read_without, needed, optional, without, without_both, defaulted, choice, is_within, magnitude, named_in, whole, items_len, each, sized, array_of, on_table}
+use Rattle.link_base.specs.Words.{refuses-then}
+use Rattle.settings_readers.specs.KeyFaults.{Gives, is_want, IsAnswer, Refuses}
 
 -- what a part gives has a property
 unfoldable pub Keeps : {A : Type 0} → Result A KeyFault → (A → Type 0) → Type 0
@@ -139,3 +138,31 @@ without_keeps P x t above key h = at_without P x (above ++ key) (get_member key 
 
 pub without_both_keeps : {A : Type 0} (P : A → Type 0) (x : A) (t : Members) (above key other : List ℕ) → P x → Keeps (without_both x t above key other) P
 without_both_keeps P x t above key other h = next_keeps _ (without {A = Unit {0}} tt t above key) _ (λ no_key. without_keeps _ x t above other h)
+
+-- Laws of parts that are read one after the other: what is given goes on to the next part, and what is refused is refused by all. They
+-- are said over all parts, which no clause of a call can range over, so they stand here, and the proofs of readers cite them.
+
+-- where the first part is refused, all are
+pub refuses_then : {A B : Type 0} (r : Result A KeyFault) (next : A → Result B KeyFault) (f : KeyFault) → Refuses r f → Refuses (r >>= next) f
+refuses_then r next f h = refuses-then is_want r next f h
+
+-- a refusal after a part that gave a value
+pub then_refused : {A B : Type 0} (r : Result A KeyFault) (x : A) (next : A → Result B KeyFault) (f : KeyFault) → r ≡ Ok x → Refuses (next x) f → Refuses (r >>= next) f
+then_refused r x next f is h = rw is h
+
+-- what is given after a part that gave a value
+pub then_given : {A B : Type 0} (r : Result A KeyFault) (x : A) (next : A → Result B KeyFault) (all : Result B KeyFault) → r ≡ Ok x → next x ≡ all → (r >>= next) ≡ all
+then_given r x next all is h = ap (λ q. q >>= next) is ∙ h
+
+-- a refusal of an equal part
+pub refused_same : {A : Type 0} (x y : Result A KeyFault) (f : KeyFault) → x ≡ y → Refuses x f → Refuses y f
+refused_same x y f same h = rw (← same) h
+
+same_refusal : {X T : Type 0} (b : Bool) (f g : KeyFault) (given : Result X KeyFault) (expected : Result T KeyFault) → given ≡ Err f → expected ≡ Err f → MatchBool b ⊤ (given ≡ Err g) → MatchBool b ⊤ (expected ≡ Err g)
+same_refusal true f g given expected is same h = tt
+same_refusal false f g given expected is same h = cc
+
+-- a refusal by the fault that is defined
+pub refused_as : {X T : Type 0} (view : X → T) (f : KeyFault) (expected : Result T KeyFault) (r : Result X KeyFault) → expected ≡ Err f → IsAnswer (Err f) r → Gives view expected r
+refused_as view f expected (Ok x) is h = absurd cc
+refused_as view f expected (Err g) is h = same_refusal (is_want g) f g _ expected refl is h

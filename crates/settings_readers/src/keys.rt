@@ -4,7 +4,7 @@ ghost use Rattle.toml.specs.Data.{get_member};
 ghost use Rattle.toml.specs.View.{view, table_view};
 ghost use Rattle.link_texts.specs.Texts.{stands_among};
 ghost use Rattle.settings_readers.specs.KeyFaults.{IsAnswer};
-ghost use Rattle.settings_readers.specs.Parts.{defaulted, known, needed, optional, without, without_both};
+ghost use Rattle.settings_readers.specs.Values.{defaulted, known, needed, optional, without, without_both};
 
 use crate::fault::KeyFault;
 use crate::place::Place;
@@ -20,6 +20,7 @@ pub struct Keys<'a> {
 }
 
 /// The value at a key.
+#[tactic(auto, using(toml::proofs::Views::table_get))]
 fn find<'a>(table: &'a Table, key: &str) -> Option<&'a Value>
     ensures { option_map (λ v. view v.now) result ≡ get_member key.now (table_view table.now) }
 {

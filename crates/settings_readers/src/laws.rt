@@ -4,12 +4,13 @@ ghost use Rattle.toml.specs.Data.{Members};
 ghost use Rattle.toml.specs.View.{table_view};
 ghost use Rattle.settings_readers.specs.declared.fault.KeyFault.{KeyFault};
 ghost use Rattle.settings_readers.specs.declared.fault.KeyFault.TheVariants as fault;
-ghost use Rattle.settings_readers.specs.Parts.{known};
-ghost use Rattle.settings_readers.specs.Laws.{keys_ascend, IsLeastUnknown};
+ghost use Rattle.settings_readers.specs.Values.{known};
+ghost use Rattle.settings_readers.specs.KeyFaults.{keys_ascend, IsLeastUnknown};
 
 use toml::Table;
 
 /// The keys of every table ascend by their bytes.
+#[tactic(auto, using(crate::proofs::Lemmas::sorted_ascend))]
 pub fn keys_ascend(table: &Table)
     ensures { keys_ascend (table_view table.now) ≡ true }
 {

@@ -2,7 +2,7 @@
 ghost use Rattle.std.specs.Prelude.{◌≡◌, ◌≤◌, ◌++◌, [], IfOk, decimal, length, ◌&&◌, nat_le};
 ghost use Rattle.toml.specs.View.{view, items_view};
 ghost use Rattle.settings_readers.specs.KeyFaults.{Gives, IsAnswer};
-ghost use Rattle.settings_readers.specs.Lists.{array_of, each, on_table, sized};
+ghost use Rattle.settings_readers.specs.Values.{array_of, each, on_table, sized};
 
 use crate::fault::KeyFault;
 use crate::keys::Keys;

@@ -1,27 +1,17 @@
 -- The values of a file, row by row, and its first unreadable date.
-use Rattle.std.proofs.Common.{◌≡◌, ◌<◌, ◌≤◌, ◌+◌, ◌*◌, ◌∷◌, ◌++◌, ◌∙◌, ℕ, Bool, true, false, List, [], length, map, Option, Some, None, Result, Ok, Err, refl, subst, sym, ap, arith, length-append}
-use Rattle.std.specs.List.{All, sum_by}
+use Rattle.std.proofs.Common.{◌≡◌, ◌<◌, ◌≤◌, ◌+◌, ◌*◌, ◌∷◌, ◌++◌, ◌∙◌, ℕ, true, List, [], length, map, Option, Some, None, Result, Ok, Err, refl, subst, sym, ap, arith, length-append, All, sum_by, IfSome, is_some}
 use Rattle.std.specs.Option.{option_or}
-use Rattle.std.specs.Prelude.{IfSome, is_some, MatchBool, ⊤}
 use Rattle.std.proofs.lemmas.List.{length-map, map_push}
 use Rattle.std.proofs.lemmas.List.Elements.{All-cons, All-head, All-nil, All-push, All-tail}
 use Rattle.std.proofs.lemmas.List.Sums.{sum_by-cons, sum_by_push}
-use Rattle.link_base.specs.Answers.{and_then}
-use Rattle.link_base.specs.Fault.{is_want, Refuses}
-use Rattle.link_base.specs.Standard.{IsValid, Record, records_of}
+use Rattle.link_base.specs.Words.{and_then, refuses_then, Refuses, IsValid, Record, records_of}
 use Rattle.link_base.specs.declared.fault.Fault.{Fault}
 use Rattle.link_base.specs.declared.fault.FileRole.{FileRole}
 use Rattle.link_base.specs.declared.fault.FileRole.TheVariants as role
 use Rattle.link_base.specs.declared.standard.Value.{Value}
 use Rattle.link_base.specs.declared.tables.Tables.{Tables}
 use Rattle.link_limits.specs.declared.TheConstants.{MOST_FIELDS, MOST_ROWS}
-use Rattle.file_reader.specs.Layout.{Wanted}
-use Rattle.file_reader.specs.Left.{records_in}
-use Rattle.file_reader.specs.Rows.{ids_of, known_ids, TableRow, with_ids}
-use Rattle.file_reader.specs.Table.{table_of, unless_fault}
-use Rattle.file_reader.specs.Takers.{IsTableFor, IsTaken}
-use Rattle.file_reader.specs.RowLaws.{fields_with, length_ids, length_with}
-use Rattle.file_reader.specs.TableLaws.{table_sound}
+use Rattle.file_reader.specs.Words.{Wanted, ids_of, known_ids, TableRow, with_ids, records_in, table_of, unless_fault, IsTableFor, IsTaken, fields_with, length_ids, length_with, table_sound}
 use Rattle.link_plan.specs.declared.plan.Plan.{Plan}
 use Rattle.standard_files.specs.Files.{date_in_row, delimiter_in, first_unreadable, sorts_a, sorts_b, sorts_in, StandardFile, standard_files, StandardPair, standard_pair, strict_fault, table_a, table_b, table_in, wanted_in}
 use Rattle.standard_files.specs.Kept.{dated_file, dated_pair, dated_table, HasTaken, HasValues, IsMade}
@@ -202,11 +192,8 @@ pub files_ok : (plan : Plan) (bytes_a bytes_b : List ℕ) (a b : DatedFile) → 
 files_ok plan bytes_a bytes_b a b of_a of_b =
     (λ i. and_then (sym of_a i) (λ a. and_then (sym of_b i) (λ b. dated_pair plan a b))) ∙ files_are plan bytes_a bytes_b
 
-refuses_so : (free : Bool) (P Q : Type 0) → (P → Q) → MatchBool free ⊤ P → MatchBool free ⊤ Q
-refuses_so true P Q so h = tt
-refuses_so false P Q so h = so h
-
 pub files_refused : (plan : Plan) (bytes_a bytes_b : List ℕ) (a : DatedFile) (f : Fault) → dated_file role.A plan bytes_a ≡ Ok a → Refuses (dated_file role.B plan bytes_b) f → Refuses (standard_files plan bytes_a bytes_b) f
-files_refused plan bytes_a bytes_b a f of_a =
-    refuses_so (is_want f) (dated_file role.B plan bytes_b ≡ Err f) (standard_files plan bytes_a bytes_b ≡ Err f)
-    (λ of_b. sym (files_are plan bytes_a bytes_b) ∙ (λ i. and_then (of_a i) (λ a. and_then (of_b i) (λ b. dated_pair plan a b))))
+files_refused plan bytes_a bytes_b a f of_a of_b =
+    subst (λ (expected : Result StandardPair Fault). Refuses expected f)
+    ((λ i. and_then (sym of_a i) (λ a. and_then (dated_file role.B plan bytes_b) (λ b. dated_pair plan a b))) ∙ files_are plan bytes_a bytes_b)
+    (refuses_then (dated_file role.B plan bytes_b) (λ b. dated_pair plan a b) f of_b)

@@ -1,24 +1,19 @@
 -- Texts by their ids, and canons that are known.
-use Rattle.std.proofs.Common.{◌≡◌, ◌<◌, ◌≤◌, ◌+◌, ℕ, zero, suc, true, List, [], ◌∷◌, ◌++◌, length, get_or, take, drop, Option, Some, None, Ok, IfSome, option_to_list, refl, ap, sym, subst, arith, length-append, ◌≢◌, false, ◌∙◌, Result, Err, option_map}
-use Rattle.std.specs.List.{slice_get, All, AllPairs}
-use Rattle.std.specs.Str.{bytes_eq}
-use Rattle.link_base.specs.Standard.{absent_value, no_record, Record}
+use Rattle.std.proofs.Common.{◌≡◌, ◌<◌, ◌≤◌, ◌+◌, ℕ, zero, suc, true, List, [], ◌∷◌, ◌++◌, length, get_or, take, drop, Option, Some, None, Ok, IfSome, option_to_list, refl, ap, sym, subst, arith, length-append, ◌≢◌, false, ◌∙◌, Result, Err, option_map, slice_get, All, AllPairs, bytes_eq}
+use Rattle.link_base.specs.Words.{absent_value, no_record, Record}
 use Rattle.value_forms.specs.declared.canons.CompareKind.{CompareKind}
 use Rattle.value_forms.specs.Canons.{exact, canon_of, exact_canon, compares_days, canon_by}
 use Rattle.link_base.specs.declared.standard.Value.{Value}
 use Rattle.link_base.specs.declared.standard.Value.TheVariants as value
-use Rattle.value_pool.specs.Texts.{stands_among, place_among, PoolState}
-use Rattle.standard_files.specs.Known.{AreKnown, AreKnownCanons, AreKnownDays, AreTextIds, IsIdOf, IsKnownAt, IsKnownDay, file_values, no_day, side_by_id, HoldsTexts, IsKnownFile, IsKnownRow}
-use Rattle.standard_files.specs.Sides.{id_side, side_of, sides_of_file, sides_of_row}
-use Rattle.standard_files.specs.Taking.{Extends, HasTakenTexts, TakesTexts}
-use Rattle.standard_files.specs.Texts.{standard_text, texts_taken, canons_of_row, file_texts}
+use Rattle.value_pool.specs.Pool.{stands_among, place_among, PoolState}
+use Rattle.standard_files.specs.Taking.{AreKnown, AreKnownCanons, AreKnownDays, AreTextIds, IsIdOf, IsKnownAt, IsKnownDay, file_values, no_day, side_by_id, HoldsTexts, IsKnownFile, IsKnownRow, Extends, HasTakenTexts, TakesTexts}
+use Rattle.standard_files.specs.Sides.{id_side, side_of, sides_of_file, sides_of_row, standard_text, texts_taken, canons_of_row, file_texts}
 use Rattle.standard_files.specs.declared.known.Known.{Known}
 use Rattle.standard_files.specs.declared.known.KnownCanon.{KnownCanon}
 use Rattle.standard_files.specs.declared.known.KnownDay.{KnownDay}
 use Rattle.standard_files.proofs.TakingLemmas.{values-row, row-many, row-valid, takes-held, held-more, held-row, side-in, before, extends-self, kept, place-in, itself, or-left, or-right}
 use Rattle.std.proofs.lemmas.List.{at_drop_more, get_or-map}
-use Rattle.block_passes.specs.KeyIds.{ids_in_pass, ids_of_row, key_ids, part_id}
-use Rattle.block_passes.specs.Keys.{no_part}
+use Rattle.block_passes.specs.Keys.{ids_in_pass, ids_of_row, key_ids, part_id, no_part}
 use Rattle.comparators.specs.Fields.{id_in}
 use Rattle.comparators.specs.declared.ids.IdValue.{IdValue}
 use Rattle.comparators.specs.declared.ids.IdValue.TheVariants as id
@@ -82,7 +77,7 @@ module _ (held new : List (List ℕ)) (keeps : Keeps held new) where
   days-kept days h slot = known-day-kept (get_or days slot no_day) (h slot)
 
   pub known-kept : (kinds : List CompareKind) (known : Known) → AreKnown held kinds known → AreKnown new kinds known
-  known-kept kinds known h = record { canons = canons-kept kinds known.canons.at.items h.canons; days = days-kept known.days.at.items h.days }
+  known-kept kinds known h = record { canons = canons-kept kinds known.canons.items h.canons; days = days-kept known.days.items h.days }
 
 -- lists of ids
 module _ (held : List (List ℕ)) where
@@ -113,18 +108,24 @@ module _ (held : List (List ℕ)) where
   ids-read vs is k i lt of_id h = subst (IsIdOf held (standard_text (get_or vs k absent_value))) (sym of_id) (ids-at vs is k absent_value i lt h)
 
 -- the ids of the rows of a file that are left
-module _ (held : List (List ℕ)) (file : List Record) (at : ℕ) (row : List Value) (left : List (Option ℕ)) (width : ℕ) where
-  pub ids-room : at < length file → row ≡ (get_or file at no_record).row → length row ≡ width → AreTextIds held (file_values (drop at file)) left → width ≤ length left
-  ids-room lt e many h =
+module _ (held : List (List ℕ)) (kinds : List CompareKind) (file : List Record) (at : ℕ) (row : List Value) (left : List (Option ℕ)) (lt : at < length file) (e : row ≡ (get_or file at no_record).row)
+    (for_kinds : All (IsRowFor kinds) file) (h : AreTextIds held (file_values (drop at file)) left) where
+  pub ids-room : length kinds ≤ length left
+  ids-room =
       let rest = file_values (drop (at + 1) file) in
-      omega (arith, ids-many held (file_values (drop at file)) left h, ap length (values-row file at row lt e), length-append row rest)
+      omega (arith, row-many kinds file at row lt e for_kinds, ids-many held (file_values (drop at file)) left h, ap length (values-row file at row lt e), length-append row rest)
 
-  pub ids-next : at < length file → row ≡ (get_or file at no_record).row → length row ≡ width → AreTextIds held (file_values (drop at file)) left
-      → AreTextIds held row (take width left) × AreTextIds held (file_values (drop (at + 1) file)) (drop width left)
-  ids-next lt e many h =
+  pub ids-next : AreTextIds held row (take (length kinds) left) × AreTextIds held (file_values (drop (at + 1) file)) (drop (length kinds) left)
+  ids-next =
       let rest = file_values (drop (at + 1) file) in
-      subst (λ n. AreTextIds held row (take n left) × AreTextIds held rest (drop n left)) many
+      subst (λ n. AreTextIds held row (take n left) × AreTextIds held rest (drop n left)) (row-many kinds file at row lt e for_kinds)
       (ids-split held row rest left (subst (λ vs. AreTextIds held vs left) (values-row file at row lt e) h))
+
+  -- those of the rows behind it, in a pool that took more
+  pub ids-later : (new : List (List ℕ)) (later : List (Option ℕ)) → Keeps held new → later ≡ drop (length kinds) left → AreTextIds new (file_values (drop (at + 1) file)) later
+  ids-later new later keeps is =
+      let rest = file_values (drop (at + 1) file) in
+      subst (AreTextIds new rest) (sym is) (ids-kept held new keeps rest (drop (length kinds) left) ids-next.1)
 
 pub ids-push : (held new : List (List ℕ)) (vs : List Value) (v : Value) (is : List (Option ℕ)) (i : Option ℕ) → Keeps held new → AreTextIds held vs is → IsIdOf new (standard_text v) i → AreTextIds new (vs ++ v ∷ []) (is ++ i ∷ [])
 ids-push held new vs v is i keeps h k = ids-append new vs (v ∷ []) is (i ∷ []) (ids-kept held new keeps vs is h) (k, tt)
@@ -221,7 +222,7 @@ module _ (held : List (List ℕ)) (kinds : List CompareKind) (file : List Record
       record {
         as_many = many;
         valid = row-valid kinds file at row lt is for_kinds;
-        texts = subst (AreTextIds held row) (sym front) (ids-next held file at row left (length kinds) lt is many texts).0;
+        texts = subst (AreTextIds held row) (sym front) (ids-next held kinds file at row left lt is for_kinds texts).0;
         canons = held-row (canons_of_row kinds) file at row held lt is canons;
         width = ap length (sym (same held (extends-self held distinct))) ∙ sides-many held kinds row many;
         sides = same;

@@ -1,27 +1,22 @@
 -- The sides of rows, one by one.
-use Rattle.std.proofs.Common.{◌≡◌, ◌<◌, ◌++◌, ◌∙◌, ℕ, zero, suc, true, List, [], ◌∷◌, length, get_or, take, drop, Option, Some, None, refl, ap, sym, arith, Bool, false, MatchBool, if◌then◌else◌, ◌≢◌, ◌≤◌, ◌+◌, ◌&&◌, ◌||◌, not, Ok, Err, inl, inr, nat_lt, append-nil, append_assoc}
-use Rattle.std.specs.List.{All, AllPairs, filter, sum_by}
+use Rattle.std.proofs.Common.{◌≡◌, ◌<◌, ◌++◌, ◌∙◌, ℕ, zero, suc, true, List, [], ◌∷◌, length, get_or, take, drop, Option, Some, None, refl, ap, sym, arith, Bool, false, MatchBool, if◌then◌else◌, ◌≢◌, ◌≤◌, ◌+◌, ◌&&◌, ◌||◌, not, Ok, Err, inl, inr, nat_lt, append-nil, append_assoc, All, AllPairs, filter, sum_by, bytes_eq}
 use Rattle.std.proofs.lemmas.List.{drop-append-le, drop_all, get_or-map, take-append-le, take_all}
-use Rattle.comparators.specs.Rows.{rows_of_width}
-use Rattle.value_pool.specs.Texts.{IsHeld, stands_among}
+use Rattle.comparators.specs.Fields.{rows_of_width, field_of, IsDayOrAbsent, IsFieldSide, IsIdOrAbsent, IsDayItself, NamesCanon, StandsFor}
+use Rattle.value_pool.specs.Pool.{IsHeld, stands_among}
 use Rattle.value_forms.specs.Canons.{canon_of, compares_days, day_in, exact}
-use Rattle.block_passes.specs.Index.{row_at}
-use Rattle.comparators.specs.Fields.{field_of, IsDayOrAbsent, IsFieldSide, IsIdOrAbsent}
-use Rattle.comparators.specs.OfPool.{IsDayItself, NamesCanon, StandsFor}
+use Rattle.block_passes.specs.Keys.{row_at}
 use Rattle.comparators.specs.declared.ids.IdValue.{IdValue}
 use Rattle.comparators.specs.declared.ids.IdValue.TheVariants as id
-use Rattle.link_base.specs.Standard.{absent_value, IsValid, no_record, Record}
+use Rattle.link_base.specs.Words.{absent_value, IsValid, no_record, Record}
 use Rattle.comparators.specs.OfPoolLaws.{side-valid}
 use Rattle.value_pool.proofs.PlaceLemmas.{place-reads}
 use Rattle.value_forms.specs.declared.canons.CompareKind.{CompareKind}
 use Rattle.link_base.specs.declared.standard.Value.{Value}
 use Rattle.link_base.specs.declared.standard.Value.TheVariants as value
-use Rattle.standard_files.specs.Known.{flat_sides}
+use Rattle.standard_files.specs.Taking.{flat_sides}
 use Rattle.standard_files.specs.Ready.{AreFileSides, AreRowSides, IsRowFor}
-use Rattle.standard_files.specs.Sides.{day_side, id_side, side_of, sides_of_file, sides_of_row}
-use Rattle.standard_files.specs.Texts.{canons_of_row, file_texts, texts_taken}
+use Rattle.standard_files.specs.Sides.{day_side, id_side, side_of, sides_of_file, sides_of_row, canons_of_row, file_texts, texts_taken, distinct_texts, IsFullAt}
 use Rattle.standard_files.proofs.TakingLemmas.{held-by, stands-canons, stands-flat}
-use Rattle.std.specs.Str.{bytes_eq}
 use Rattle.std.proofs.lemmas.Bool.{cases_Bool, ltb-true, ltb-false}
 use Rattle.std.proofs.lemmas.List.Elements.{filter_passes}
 use Rattle.std.proofs.lemmas.List.Folds.{list_any-append}
@@ -30,7 +25,6 @@ use Rattle.std.proofs.lemmas.List.Sums.{sum_by-cons, sum_by_push}
 use Rattle.std.proofs.lemmas.Map.Views.{any-filter_same}
 use Rattle.std.proofs.lemmas.Slice.Eq.{bytes_eq-Decides}
 use Rattle.value_pool.specs.declared.pool.PoolFault.TheVariants as fault
-use Rattle.standard_files.specs.Distinct.{distinct_texts, IsFullAt}
 
 names : (texts : List (List ℕ)) (canon : Option (List ℕ)) → IsHeld texts canon → NamesCanon texts canon (id_side texts canon)
 names texts None h = tt

@@ -1,31 +1,27 @@
 -- One field more of a row.
-use Rattle.std.proofs.Common.{◌≡◌, ◌<◌, ◌≤◌, ◌+◌, ◌++◌, ◌∷◌, ◌∙◌, ℕ, Bool, true, false, List, [], Option, None, Some, length, get_or, drop, if◌then◌else◌, ap, refl, sym, arith, IfSome, cond, map}
+use Rattle.std.proofs.Common.{◌≡◌, ◌<◌, ◌≤◌, ◌+◌, ◌++◌, ◌∷◌, ◌∙◌, ℕ, Bool, true, false, List, [], Option, None, Some, length, get_or, drop, if◌then◌else◌, ap, refl, sym, arith, IfSome, cond, map, All}
 use Rattle.std.specs.Option.{option_or}
 use Rattle.std.proofs.lemmas.List.{append_assoc, drop_more, length-map}
 use Rattle.link_base.specs.declared.standard.Value.{Value}
 use Rattle.link_base.specs.declared.tables.Tables.{Tables}
 use Rattle.standard_files.specs.Values.{is_unreadable, standard_value, standard_values, unreadable_from, unreadable_in_row, AreOfSorts, form_in, IsOfSort, sort_in, standard_record, standard_records, value_of_read}
 use Rattle.standard_files.specs.declared.sorts.TextSort.{TextSort}
-use Rattle.std.specs.List.{All}
 use Rattle.std.specs.Str.{trim}
 use Rattle.std.proofs.lemmas.List.Elements.{All-cons, All-head, All-nil, All-tail}
-use Rattle.link_base.specs.Standard.{HaveDistinctIds, IsValid, Record}
+use Rattle.link_base.specs.Words.{HaveDistinctIds, IsValid, Record}
 use Rattle.link_base.specs.declared.fault.FileRole.{FileRole}
 use Rattle.link_base.specs.declared.plan.DateForm.{DateForm}
 use Rattle.link_base.specs.declared.plan.FieldSort.{FieldSort}
 use Rattle.link_base.specs.declared.plan.FieldSort.TheVariants as sort
 use Rattle.link_base.specs.declared.standard.Value.TheVariants as value
 use Rattle.link_base.specs.declared.tables.WordPair.{WordPair}
-use Rattle.file_reader.specs.Rows.{TableRow}
-use Rattle.file_reader.specs.Takers.{IsTableFor}
+use Rattle.file_reader.specs.Words.{TableRow, IsTableFor}
 use Rattle.link_plan.specs.Plan.{FieldKeys}
 use Rattle.link_plan.specs.declared.plan.Plan.{Plan}
 use Rattle.standard_files.specs.Files.{AreOfPlan, field_column, sorts_in, wanted_in}
 use Rattle.standardise.specs.DateReads.{date_read}
-use Rattle.standardise.specs.Names.{word_or_absent, words_of_text}
+use Rattle.standardise.specs.Names.{word_or_absent, words_of_text, names_of, places_of, TextView, joined, replaced, without_titles}
 use Rattle.link_texts.specs.Texts.{stands_among}
-use Rattle.standardise.specs.Tables.{names_of, places_of, TextView}
-use Rattle.standardise.specs.Words.{joined, replaced, without_titles}
 use Rattle.standardise.specs.declared.date_read.DateRead.{DateRead}
 use Rattle.standardise.specs.declared.date_read.DateRead.TheVariants as read
 

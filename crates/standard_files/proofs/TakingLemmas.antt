@@ -1,33 +1,26 @@
 -- Texts taken one after the other.
-use Rattle.std.proofs.Common.{◌≡◌, ◌+◌, ℕ, Bool, true, false, not, ◌&&◌, List, [], ◌∷◌, ◌++◌, length, Some, Result, Ok, Err, IfOk, OnOk, ◌⊎◌, inl, inr, nat_lt, if◌then◌else◌, refl, ap, sym, subst, ◌∙◌, ◌<◌, ◌≢◌, get_or, arith, length-append, drop, take, option_to_list, append_assoc, append-nil, ◌||◌, zero, suc, Option, None}
-use Rattle.std.specs.List.{slice_get, sum_by, AllPairs, All, flat_map}
-use Rattle.link_base.specs.Answers.{RefusesBut, and_then}
-use Rattle.value_pool.specs.Pool.{FullExactly, HasTaken, is_want_of_pool}
-use Rattle.value_pool.specs.Texts.{PoolState, stands_among, place_among, IsHeld}
+use Rattle.std.proofs.Common.{◌≡◌, ◌+◌, ℕ, Bool, true, false, not, ◌&&◌, List, [], ◌∷◌, ◌++◌, length, Some, Result, Ok, Err, IfOk, OnOk, ◌⊎◌, inl, inr, nat_lt, if◌then◌else◌, refl, ap, sym, subst, ◌∙◌, ◌<◌, ◌≢◌, get_or, arith, length-append, drop, take, option_to_list, append_assoc, append-nil, ◌||◌, zero, suc, Option, None, slice_get, sum_by, AllPairs, All, flat_map, IsErrAnd, bytes_eq}
+use Rattle.link_base.specs.Words.{RefusesBut, and_then, absent_value, IsValid, no_record, Record}
+use Rattle.value_pool.specs.Pool.{FullExactly, HasTaken, is_want_of_pool, PoolState, stands_among, place_among, IsHeld}
 use Rattle.value_pool.specs.declared.pool.PoolFault.{PoolFault}
 use Rattle.value_pool.specs.declared.pool.PoolFault.TheVariants as fault
-use Rattle.standard_files.specs.Taking.{HasTakenTexts, TakesTexts, Extends}
-use Rattle.standard_files.specs.Texts.{text_taken, texts_taken, canons_of_row, file_texts, parts_in_pass, parts_of_row, standard_text, texts_of_row, all_texts, both_texts}
-use Rattle.std.specs.Str.{bytes_eq}
+use Rattle.standard_files.specs.Taking.{HasTakenTexts, TakesTexts, Extends, canon_at, file_values, flat_sides, side_at, HoldsTexts}
+use Rattle.standard_files.specs.Sides.{text_taken, texts_taken, canons_of_row, file_texts, parts_in_pass, parts_of_row, standard_text, texts_of_row, id_side, sides_of_row}
 use Rattle.std.proofs.lemmas.Bool.{cases_Bool}
 use Rattle.std.proofs.lemmas.Slice.Eq.{bytes_eq-Decides}
 use Rattle.std.proofs.lemmas.List.{get_or_append_left, at_drop_more, drop_more, take_more}
 use Rattle.std.proofs.lemmas.List.Sums.{position_or_len_is}
 use Rattle.std.proofs.lemmas.Option.{get_or_from_slice_get, slice_get-get_or, slice_get_within}
 use Rattle.comparators.specs.declared.ids.IdValue.TheVariants as id
-use Rattle.standard_files.specs.Sides.{id_side, sides_of_row}
 use Rattle.std.proofs.lemmas.Grind.{flat_map-append}
-use Rattle.link_base.specs.Standard.{absent_value, IsValid, no_record, Record}
 use Rattle.value_forms.specs.declared.canons.CompareKind.{CompareKind}
 use Rattle.value_forms.specs.Canons.{exact, canon_of, canon_by}
 use Rattle.value_forms.specs.declared.passes.Part.{Part}
 use Rattle.link_base.specs.declared.standard.Value.{Value}
-use Rattle.block_passes.specs.Keys.{no_part, part_key}
-use Rattle.standard_files.specs.Known.{canon_at, file_values, flat_sides, side_at, HoldsTexts}
+use Rattle.block_passes.specs.Keys.{no_part, part_key, row_at}
 use Rattle.standard_files.specs.Ready.{IsRowFor}
 use Rattle.std.proofs.lemmas.List.Folds.{list_any-append}
 use Rattle.block_passes.specs.Ids.{AreKeysHeld}
-use Rattle.block_passes.specs.Index.{row_at}
 use Rattle.value_forms.specs.declared.canons.Canon.{Canon}
 
 then-then : {A B C : Type 0} (r : Result A PoolFault) (f : A → Result B PoolFault) (g : B → Result C PoolFault) → and_then (and_then r f) g ≡ and_then r (λ x. and_then (f x) g)
@@ -46,6 +39,11 @@ pub refused-append : (limit : ℕ) (held xs ys : List (List ℕ)) (f : PoolFault
 refused-append limit held xs ys (fault.Full used most) h = taken-append limit xs held ys ∙ ap (λ r. and_then r (λ more. texts_taken limit more ys)) h
 refused-append limit held xs ys fault.NoMemory h = tt
 
+-- a fault that is handed on
+pub is-err : {T : Type 0} {f : PoolFault} (r : Result T PoolFault) → IsErrAnd r (λ e. e ≡ f) → r ≡ Err f
+is-err (Ok x) h = absurd h
+is-err (Err g) h = ap Err h
+
 -- what the pool at the start has to take is what the pool now has still to take
 pub record Goes (start now : PoolState) (rest whole : List (List ℕ)) : Type 0 where
   pub limit : now.limit ≡ start.limit
@@ -61,6 +59,10 @@ goes-on {now = now} {new = new} {xs = xs} next g h e =
       limit = h.limit ∙ g.limit;
       texts = ap (λ n. texts_taken n new.texts next) h.limit ∙ sym front ∙ sym (taken-append now.limit xs now.texts next) ∙ ap (texts_taken now.limit now.texts) (sym e) ∙ g.texts;
     }
+
+-- nothing is left to take
+pub goes-end : {start now : PoolState} {rest whole : List (List ℕ)} {told : Type 0} → Goes start now rest whole → rest ≡ [] → told → HasTakenTexts start now whole told
+goes-end {now = now} g e holds = record { limit = g.limit; taken = sym g.texts ∙ ap (texts_taken now.limit now.texts) e; holds = holds }
 
 pub whole-is : {start now : PoolState} {rest whole other : List (List ℕ)} → whole ≡ other → Goes start now rest whole → Goes start now rest other
 whole-is {start = start} e g = record { limit = g.limit; texts = g.texts ∙ ap (texts_taken start.limit start.texts) e }
@@ -289,20 +291,6 @@ taken-stands limit (t ∷ ts) held new text h e =
             | inr x ↦ taken-stands limit ts (held ++ t ∷ []) new text x.1 rest
           ]
     ]
-
--- each of the six lists of texts
-module _ (kinds : List CompareKind) (passes : List (List Part)) (a b : List Record) (text : List ℕ) where
-  pub in-canons-a : stands_among (file_texts (canons_of_row kinds) a) text ≡ true → stands_among (all_texts kinds passes a b) text ≡ true
-  in-canons-a h = stands-left (both_texts texts_of_row a b ++ both_texts (canons_of_row kinds) a b) _ text (stands-right (both_texts texts_of_row a b) _ text (stands-left (file_texts (canons_of_row kinds) a) _ text h))
-
-  pub in-canons-b : stands_among (file_texts (canons_of_row kinds) b) text ≡ true → stands_among (all_texts kinds passes a b) text ≡ true
-  in-canons-b h = stands-left (both_texts texts_of_row a b ++ both_texts (canons_of_row kinds) a b) _ text (stands-right (both_texts texts_of_row a b) _ text (stands-right (file_texts (canons_of_row kinds) a) _ text h))
-
-  pub in-parts-a : stands_among (file_texts (parts_of_row passes) a) text ≡ true → stands_among (all_texts kinds passes a b) text ≡ true
-  in-parts-a h = stands-right (both_texts texts_of_row a b ++ both_texts (canons_of_row kinds) a b) _ text (stands-left (file_texts (parts_of_row passes) a) _ text h)
-
-  pub in-parts-b : stands_among (file_texts (parts_of_row passes) b) text ≡ true → stands_among (all_texts kinds passes a b) text ≡ true
-  in-parts-b h = stands-right (both_texts texts_of_row a b ++ both_texts (canons_of_row kinds) a b) _ text (stands-right (file_texts (parts_of_row passes) a) _ text h)
 
 -- the parts of the keys of a file
 part-stands : (passes : List (List Part)) (file : List Record) (k at j : ℕ) (text : List ℕ) → k < length passes → at < length file → j < length (get_or passes k [])

@@ -2,19 +2,15 @@
 -- `answer`; what their records keep: `of_a` and `of_b`).
 use Rattle.std.specs.Prelude.{◌+◌, ◌≤◌, ℕ, List, [], ◌∷◌, length, map, All, Option, Some, None, Result, Ok, if◌then◌else◌, slice_index_or}
 use Rattle.std.specs.Option.{option_or}
-use Rattle.link_base.specs.Answers.{and_then}
+use Rattle.link_base.specs.Words.{and_then, HaveDistinctIds, Record}
 use Rattle.link_limits.specs.declared.TheConstants.{MOST_ROWS}
-use Rattle.link_base.specs.Standard.{HaveDistinctIds, Record}
 use Rattle.link_base.specs.declared.fault.Fault.{Fault}
 use Rattle.link_base.specs.declared.fault.Fault.TheVariants as fault
 use Rattle.link_base.specs.declared.fault.FileRole.{FileRole}
 use Rattle.link_base.specs.declared.fault.FileRole.TheVariants as role
 use Rattle.link_base.specs.declared.plan.FieldSort.{FieldSort}
 use Rattle.link_base.specs.declared.tables.Tables.{Tables}
-use Rattle.file_reader.specs.Left.{records_in}
-use Rattle.file_reader.specs.Layout.{Wanted}
-use Rattle.file_reader.specs.Rows.{TableRow}
-use Rattle.file_reader.specs.Table.{table_of, unless_fault}
+use Rattle.file_reader.specs.Words.{records_in, table_of, unless_fault, Wanted, TableRow}
 use Rattle.link_plan.specs.Plan.{FieldKeys}
 use Rattle.link_plan.specs.declared.plan.Plan.{Plan}
 use Rattle.standard_files.specs.Values.{AreOfSorts, sort_in, standard_records, unreadable_from, unreadable_in}

@@ -1,17 +1,14 @@
 -- Machinery of `read_files`: the standard values of the rows of a file as they are read, and its first unreadable date, which
 -- is told after both files were read. No public clause names it.
 use Rattle.std.specs.Prelude.{◌≡◌, ◌<◌, ◌≤◌, ◌*◌, ℕ, Bool, List, [], All, length, map, sum_by, Option, Result, Ok, IfSome}
-use Rattle.link_base.specs.Answers.{and_then}
-use Rattle.link_base.specs.RowsWriter.{with_value, WrittenRows}
-use Rattle.link_base.specs.Standard.{IsValid}
+use Rattle.link_base.specs.Words.{and_then, with_value, WrittenRows, IsValid}
 use Rattle.link_base.specs.declared.fault.Fault.{Fault}
 use Rattle.link_base.specs.declared.fault.FileRole.{FileRole}
 use Rattle.link_base.specs.declared.fault.FileRole.TheVariants as role
 use Rattle.link_base.specs.declared.standard.Value.{Value}
 use Rattle.link_base.specs.declared.tables.Tables.{Tables}
 use Rattle.link_limits.specs.declared.TheConstants.{MOST_FIELDS}
-use Rattle.file_reader.specs.Rows.{TableRow}
-use Rattle.file_reader.specs.Table.{unless_fault}
+use Rattle.file_reader.specs.Words.{TableRow, unless_fault}
 use Rattle.link_plan.specs.declared.plan.Plan.{Plan}
 use Rattle.standard_files.specs.Files.{first_unreadable, sorts_in, StandardPair, strict_fault, table_in}
 use Rattle.standard_files.specs.Values.{is_unreadable, standard_records, standard_value, standard_values, unreadable_from, unreadable_in, unreadable_in_row}

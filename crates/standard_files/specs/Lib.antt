@@ -1,9 +1,6 @@
 pub mod Values
 pub mod Files
 pub mod Kept
-pub mod Texts
-pub mod Sides
 pub mod Ready
+pub mod Sides
 pub mod Taking
-pub mod Distinct
-pub mod Known

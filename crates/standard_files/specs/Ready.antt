@@ -2,13 +2,11 @@
 -- keys stand there, and the ids of these are kept (`pool_values`, clause `pooled`).
 use Rattle.std.specs.Prelude.{◌≡◌, ◌<◌, ℕ, List, [], Option, length, slice_index_or, All}
 use Rattle.block_passes.specs.Ids.{AreKeysHeld}
-use Rattle.block_passes.specs.Index.{row_at}
-use Rattle.block_passes.specs.KeyIds.{key_ids}
-use Rattle.comparators.specs.Fields.{field_of, IsFieldSide}
-use Rattle.comparators.specs.OfPool.{StandsFor}
+use Rattle.block_passes.specs.Keys.{row_at, key_ids}
+use Rattle.comparators.specs.Fields.{field_of, IsFieldSide, StandsFor}
 use Rattle.comparators.specs.declared.ids.IdValue.{IdValue}
 use Rattle.comparators.specs.declared.ids.IdValue.TheVariants as id
-use Rattle.link_base.specs.Standard.{absent_value, IsValid, Record}
+use Rattle.link_base.specs.Words.{absent_value, IsValid, Record}
 use Rattle.value_forms.specs.declared.canons.CompareKind.{CompareKind}
 use Rattle.value_forms.specs.Canons.{exact}
 use Rattle.value_forms.specs.declared.passes.Part.{Part}

@@ -1,6 +1,6 @@
 -- The standard values of the texts of a file, of which `standard_files` makes its records (`read_files`, clause `answer`).
 use Rattle.std.specs.Prelude.{◌+◌, ℕ, List, [], ◌∷◌, map, Bool, true, false, Option, Some, None, IsUtf8, if◌then◌else◌, sum_by, ⊤}
-use Rattle.link_base.specs.Standard.{IsDay, Record}
+use Rattle.link_base.specs.Words.{IsDay, Record}
 use Rattle.link_base.specs.declared.fault.FileRole.{FileRole}
 use Rattle.link_base.specs.declared.fault.FileRole.TheVariants as role
 use Rattle.link_base.specs.declared.plan.DateForm.{DateForm}
@@ -9,10 +9,9 @@ use Rattle.link_base.specs.declared.plan.FieldSort.TheVariants as sort
 use Rattle.link_base.specs.declared.standard.Value.{Value}
 use Rattle.link_base.specs.declared.standard.Value.TheVariants as value
 use Rattle.link_base.specs.declared.tables.Tables.{Tables}
-use Rattle.file_reader.specs.Rows.{TableRow}
-use Rattle.standardise.specs.Names.{text_value}
+use Rattle.file_reader.specs.Words.{TableRow}
+use Rattle.standardise.specs.Names.{text_value, names_of, places_of}
 use Rattle.standardise.specs.DateReads.{date_read}
-use Rattle.standardise.specs.Tables.{names_of, places_of}
 use Rattle.standardise.specs.declared.date_read.DateRead.{DateRead}
 use Rattle.standardise.specs.declared.date_read.DateRead.TheVariants as read
 use Rattle.standard_files.specs.declared.sorts.TextSort.{TextSort}

@@ -1,13 +1,10 @@
 // What values are compared by, and their canons taken into a pool.
-ghost use Rattle.std.specs.Prelude.{◌≡◌, ◌≤◌, ◌*◌, All, length, option_to_list};
+ghost use Rattle.std.specs.Prelude.{◌≡◌, ◌≤◌, All, length, option_to_list};
 ghost use Rattle.value_forms.specs.Canons.{IsReadable, canon_by, canon_of, initials_canon};
-ghost use Rattle.link_base.specs.Rows.{value_seen};
-ghost use Rattle.link_base.specs.Standard.{IsValid};
-ghost use Rattle.standard_files.specs.Known.{AreKnown, AreTextIds, IsIdOf, IsKnownField, canon_at, file_values, flat_sides, side_at, side_by_id};
+ghost use Rattle.link_base.specs.Standard.{value_seen, IsValid};
+ghost use Rattle.standard_files.specs.Taking.{AreKnown, AreTextIds, IsIdOf, IsKnownField, canon_at, file_values, side_at, side_by_id, GoesOn, InLater, IsCompared, TakesTexts};
 ghost use Rattle.standard_files.specs.Ready.{IsRowFor};
-ghost use Rattle.standard_files.specs.Sides.{day_side, sides_of_row};
-ghost use Rattle.standard_files.specs.Taking.{GoesOn, InLater, IsCompared, TakesTexts};
-ghost use Rattle.standard_files.specs.Texts.{both_texts, canons_of_row, file_texts};
+ghost use Rattle.standard_files.specs.Sides.{day_side, sides_of_row, both_texts, canons_of_row, file_texts};
 
 use crate::known::Known;
 use crate::texts::{TextIds, take_text};
@@ -172,31 +169,6 @@ fn take_row(
     Ok(())
 }
 
-// Takes the canons of the rows of a file, and appends what they are compared by, row by row.
-fn take_rows(
-    alloc: Global,
-    pool: &mut Pool,
-    kinds: &[CompareKind],
-    known: &mut Known,
-    file: &StdFile,
-    ids: &[MaybeId],
-    sides: &mut Vec<IdValue>,
-) -> Result<(), PoolFault>
-    requires few { length kinds.now ≤ MOST_FIELDS }
-    requires rows { All (IsRowFor kinds.now) file.now }
-    requires ids { AreTextIds pool.old.texts (file_values file.now) ids.now }
-    requires known { AreKnown pool.old.texts kinds.now known.old }
-    ensures { TakesTexts pool.old pool.new (file_texts (canons_of_row kinds.now) file.now) (λ _. GoesOn pool.new.texts sides.old.items sides.new.items (length file.now * length kinds.now) (λ final. flat_sides final kinds.now file.now) × AreKnown pool.new.texts kinds.now known.new) result }
-{
-    let mut left = ids;
-    for at in 0..file.rows() {
-        let (here, later) = left.split_at(kinds.len());
-        take_row(alloc, pool, kinds, known, &file.row(at), here, sides)?;
-        left = later;
-    }
-    Ok(())
-}
-
 // Takes the canons of a file, and gives what its rows are compared by.
 fn take_file(
     alloc: Global,
@@ -216,7 +188,12 @@ fn take_file(
     let Ok(mut sides) = Vec::with_capacity(alloc, room) else {
         return Err(PoolFault::NoMemory);
     };
-    take_rows(alloc, pool, kinds, known, file, ids, &mut sides)?;
+    let mut left = ids;
+    for at in 0..file.rows() {
+        let (here, later) = left.split_at(kinds.len());
+        take_row(alloc, pool, kinds, known, &file.row(at), here, &mut sides)?;
+        left = later;
+    }
     Ok(IdTable::of(kinds.len() as u8, file.rows(), sides))
 }
 

@@ -90,32 +90,6 @@ fn pair_of(alloc: Global, plan: &Plan, a: DatedFile, b: DatedFile) -> Result<Sta
     }
 }
 
-// Both files in standard values, by the words of the plan.
-fn read_by(
-    alloc: Global,
-    plan: &Plan,
-    tables: &ValueTables,
-    a: &[u8],
-    b: &[u8],
-) -> Result<StandardPair, Fault>
-    requires { tables.now ≡ plan.now.tables }
-    ensures answer { IsAnswer (standard_files plan.now a.now b.now) result }
-    ensures of_a { IfOk result (λ pair. AreOfPlan plan.now pair.a.records) }
-    ensures of_b { IfOk result (λ pair. AreOfPlan plan.now pair.b.records) }
-{
-    let of_a = match read_file(alloc, plan, tables, FileRole::A, a) {
-        Ok(file) => file,
-        Err(fault) => return Err(fault),
-    };
-    match read_file(alloc, plan, tables, FileRole::B, b) {
-        Ok(of_b) => pair_of(alloc, plan, of_a, of_b),
-        Err(fault) => {
-            drop(of_a);
-            Err(fault)
-        }
-    }
-}
-
 /// Reads the two files of a plan and gives their standard values: the table of A, the table of B, and
 /// then the values of A and of B. A date that cannot be read is absent and counted; a strict plan
 /// refuses the first one by file, row and field. Values are made as rows are read, and no table is kept.
@@ -125,7 +99,15 @@ pub fn read_files(alloc: Global, plan: &Plan, a: &[u8], b: &[u8]) -> Result<Stan
     ensures of_b { IfOk result (λ pair. AreOfPlan plan.now pair.b.records) }
 {
     let tables = ValueTables::new(alloc, &plan.tables)?;
-    let pair = read_by(alloc, plan, &tables, a, b);
-    drop(tables);
-    pair
+    let of_a = match read_file(alloc, plan, &tables, FileRole::A, a) {
+        Ok(file) => file,
+        Err(fault) => return Err(fault),
+    };
+    match read_file(alloc, plan, &tables, FileRole::B, b) {
+        Ok(of_b) => pair_of(alloc, plan, of_a, of_b),
+        Err(fault) => {
+            drop(of_a);
+            Err(fault)
+        }
+    }
 }

@@ -1,14 +1,12 @@
 // The parts of the keys of blocking passes taken into a pool, and their ids.
 ghost use Rattle.std.specs.Prelude.{◌≡◌, ◌≤◌, ◌<◌, ◌++◌, [], All, IfSome, IsTrue, List, Some, false, length, option_to_list, ℕ};
-ghost use Rattle.block_passes.specs.KeyIds.{ids_in_pass, ids_of_row, key_ids, part_id};
-ghost use Rattle.block_passes.specs.Keys.{IsPartReadable, part_key};
+ghost use Rattle.block_passes.specs.Keys.{ids_in_pass, ids_of_row, key_ids, part_id, IsPartReadable, part_key};
 ghost use Rattle.comparators.specs.Fields.{id_in};
 ghost use Rattle.value_forms.specs.declared.passes.Part.{Part as KeyPart};
 ghost use Rattle.link_base.specs.declared.standard.Value.{Value as FieldValue};
-ghost use Rattle.standard_files.specs.Known.{IsIdOf, IsKnownFile, IsKnownRow};
+ghost use Rattle.standard_files.specs.Taking.{IsIdOf, IsKnownFile, IsKnownRow, InLater, TakesTexts};
 ghost use Rattle.standard_files.specs.Ready.{AreInRange, IsRowFor};
-ghost use Rattle.standard_files.specs.Taking.{InLater, TakesTexts};
-ghost use Rattle.standard_files.specs.Texts.{both_texts, file_texts, parts_in_pass, parts_of_row, standard_text};
+ghost use Rattle.standard_files.specs.Sides.{both_texts, file_texts, parts_in_pass, parts_of_row, standard_text};
 ghost use Rattle.value_forms.specs.Canons.{canon_of, compares_days, canon_by};
 
 use crate::canons::take_part;
@@ -19,13 +17,6 @@ use link_base::{NoMemory, Row, Sides, StdFile};
 use std::alloc::Global;
 use value_forms::{Canon, CompareKind, Part, Pass, PassList};
 use value_pool::{Id, MaybeId, Pool, PoolFault};
-
-/// The ids of the parts of the keys of two files, record by record and pass by pass, `None` where a part is missing.
-#[derive(Drop)]
-pub(crate) struct KeyIds {
-    pub(crate) a: Vec<MaybeId>,
-    pub(crate) b: Vec<MaybeId>,
-}
 
 // The id of the part that a word makes by its standard text, if the part is this text.
 fn id_of_text(key: Canon, text: Option<Id>) -> Option<Id>
@@ -178,7 +169,7 @@ pub(crate) fn take_keys(
     b: &StdFile,
     texts: TextIds,
     tables: &(IdTable, IdTable),
-) -> Result<KeyIds, PoolFault>
+) -> Result<TextIds, PoolFault>
     requires parts { AreInRange (length kinds.now) passes.now }
     requires rows_a { All (IsRowFor kinds.now) a.now }
     requires rows_b { All (IsRowFor kinds.now) b.now }
@@ -193,5 +184,5 @@ pub(crate) fn take_keys(
     let ids_a = take_file(alloc, pool, kinds, passes, a, &texts_a, &tables.0)?;
     drop(texts_a);
     let ids_b = take_file(alloc, pool, kinds, passes, b, &texts_b, &tables.1)?;
-    Ok(KeyIds { a: ids_a, b: ids_b })
+    Ok(TextIds { a: ids_a, b: ids_b })
 }

@@ -1,8 +1,7 @@
 // Which texts are taken, and which limits they keep.
 ghost use Rattle.std.specs.Prelude.{◌≡◌, ◌≢◌, ◌<◌, ◌≤◌, [], AllPairs, List, Ok, ℕ, length, sum_by};
-ghost use Rattle.value_pool.specs.Texts.{stands_among};
-ghost use Rattle.standard_files.specs.Distinct.{IsFullAt, distinct_texts};
-ghost use Rattle.standard_files.specs.Texts.{texts_taken};
+ghost use Rattle.value_pool.specs.Pool.{stands_among};
+ghost use Rattle.standard_files.specs.Sides.{IsFullAt, distinct_texts, texts_taken};
 
 /// The texts that an empty pool takes of a list are its distinct texts: each text of the list and no other, none twice.
 /// They are taken where their lengths together keep the limit, and else refused as full.

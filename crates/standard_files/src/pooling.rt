@@ -3,13 +3,12 @@ ghost use Rattle.std.specs.Prelude.{◌≡◌, ◌≤◌, [], All, IfOk, length}
 ghost use Rattle.link_base.specs.Answers.{GivesBut};
 ghost use Rattle.value_pool.specs.Pool.{is_want_of_pool};
 ghost use Rattle.standard_files.specs.Ready.{AreInRange, ArePooled, IsRowFor};
-ghost use Rattle.standard_files.specs.Sides.{pooled_values};
+ghost use Rattle.standard_files.specs.Sides.{pooled_values, all_texts};
 ghost use Rattle.standard_files.specs.Taking.{IsTaken, TakesTexts};
-ghost use Rattle.standard_files.specs.Texts.{all_texts};
 
 use crate::canons::take_canons;
-use crate::keys::{KeyIds, take_keys};
-use crate::texts::take_texts;
+use crate::keys::take_keys;
+use crate::texts::{TextIds, take_texts};
 use comparators::IdTable;
 use link_base::{NoMemory, StdFile};
 use link_limits::{MOST_FIELDS, MOST_POOL_LIMIT};
@@ -44,7 +43,7 @@ impl Model for PooledValues {
 struct TakenValues {
     a: IdTable,
     b: IdTable,
-    keys: KeyIds,
+    keys: TextIds,
 }
 
 /// How many bytes a text of the pool may have for which room is made beforehand.

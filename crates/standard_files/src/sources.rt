@@ -1,7 +1,7 @@
 // The files of a plan, read in standard values.
 ghost use Rattle.std.specs.Prelude.{◌≡◌, ◌<◌, length, map, IfOk, IfSome};
 ghost use Rattle.link_base.specs.Fault.{IsAnswer};
-ghost use Rattle.file_reader.specs.Layout.{wanted_of};
+ghost use Rattle.file_reader.specs.Rows.{wanted_of};
 ghost use Rattle.link_plan.specs.Plan.{FieldKeys};
 ghost use Rattle.standard_files.specs.Files.{AreOfPlan, field_column, delimiter_in, wanted_in};
 ghost use Rattle.standard_files.specs.Kept.{dated_file};

@@ -1,16 +1,16 @@
 // Texts taken into a pool.
 ghost use Rattle.std.specs.Prelude.{◌≡◌, ◌≤◌, ◌++◌, ◌∷◌, ◌*◌, ◌-◌, ◌^◌, [], IfOk, List, Some, min, option_to_list, slice_get, vec_capacity};
-ghost use Rattle.link_base.specs.Rows.{value_seen};
+ghost use Rattle.link_base.specs.Standard.{value_seen};
 ghost use Rattle.link_base.specs.declared.standard.Value.{Value as FieldValue};
-ghost use Rattle.standard_files.specs.Known.{AreTextIds, IsIdOf, file_values};
-ghost use Rattle.standard_files.specs.Taking.{TakesTexts};
-ghost use Rattle.standard_files.specs.Texts.{both_texts, file_texts, standard_text, texts_of_row};
+ghost use Rattle.standard_files.specs.Taking.{AreTextIds, IsIdOf, file_values, TakesTexts};
+ghost use Rattle.standard_files.specs.Sides.{both_texts, file_texts, standard_text, texts_of_row};
 
 use link_base::{NoMemory, Row, StdFile, ValueRef};
 use std::alloc::Global;
 use value_pool::{Id, MaybeId, Pool, PoolFault};
 
-/// The ids of the standard texts of two files, row by row, `None` where a value has no text.
+/// The ids of texts of two files, row by row, `None` where there is none: of the standard texts, or of the parts of the keys, pass by
+/// pass.
 #[derive(Drop)]
 pub(crate) struct TextIds {
     pub(crate) a: Vec<MaybeId>,

@@ -1,6 +1,5 @@
 -- A binary search in texts that rise finds what stands there.
-use Rattle.std.proofs.Common.{◌≡◌, ℕ, zero, suc, ◌+◌, ◌<◌, ◌≤◌, inl, inr, List, [], ◌∷◌, take, Bool, true, false, ◌||◌, cond, Some, None, Err, Ordering, length, get_or, IsTrue, bytes_eq, refl, ap, sym, ◌∙◌, subst, arith, ◌≢◌, ◌++◌, ◌==◌, not, Option, length-append, MatchOption, is_some, ◌-◌, ◌&&◌, encode_utf8_all}
-use Rattle.std.specs.declared.cmp.Ordering.TheVariants.{Less, Equal, Greater}
+use Rattle.std.proofs.Common.{◌≡◌, ℕ, zero, suc, ◌+◌, ◌<◌, ◌≤◌, inl, inr, List, [], ◌∷◌, take, Bool, true, false, ◌||◌, cond, Some, None, Err, Ordering, length, get_or, IsTrue, bytes_eq, refl, ap, sym, ◌∙◌, subst, arith, ◌≢◌, ◌++◌, ◌==◌, not, Option, length-append, MatchOption, is_some, ◌-◌, ◌&&◌, encode_utf8_all, Less, Equal, Greater, All}
 use Rattle.std.specs.Ordering.{is_eq, is_lt, ordering_index, ordering_reverse}
 use Rattle.std.specs.List.Sorted.{IsBinarySearchResult, IsNonDecreasingBy, IsSortedBy}
 use Rattle.std.proofs.lemmas.Bool.{cases_lt}
@@ -11,16 +10,14 @@ use Rattle.std.proofs.lemmas.List.Sorted.{IsNonDecreasingBy-from_all_adjacent}
 use Rattle.std.proofs.lemmas.Map.Lookups.{exact_bytes}
 use Rattle.std.proofs.lemmas.Map.Text.{is_eq-slice_cmp}
 use Rattle.std.proofs.lemmas.Slice.Eq.{bytes_eq-Decides}
-use Rattle.std.specs.List.{All}
-use Rattle.standardise.specs.Outlines.{AreWithin, may_be}
+use Rattle.standardise.specs.Kept.{AreWithin, may_be}
 use Rattle.standardise.specs.declared.outline.Outline.{Outline}
 use Rattle.link_base.specs.declared.tables.WordPair.{WordPair}
-use Rattle.link_base.specs.Tables.{AreWordPairs}
+use Rattle.link_base.specs.Words.{AreWordPairs}
 use Rattle.link_texts.specs.Texts.{stands_among}
-use Rattle.standardise.specs.Tables.{text_cmp, word_for}
+use Rattle.standardise.specs.Names.{text_cmp, word_for, run_words, words}
 use Rattle.std.proofs.lemmas.Bool.Decides.{nat_tests}
 use Rattle.std.proofs.lemmas.List.{append-nil, take_more}
-use Rattle.standardise.specs.Words.{run_words, words}
 use Rattle.standardise.proofs.WordLemmas.{run_none}
 use Rattle.std.specs.Char.{IsAsciiGraphic, is_whitespace}
 use Rattle.std.specs.Str.{IsUtf8, chars, drop_trailing_whitespace, skip_leading_whitespace, trim, trim_end, trim_start}

@@ -1,5 +1,5 @@
 -- Words, titles, and where spaces stand.
-use Rattle.std.proofs.Common.{◌≡◌, ℕ, ◌+◌, ◌<◌, ◌≤◌, List, [], ◌∷◌, ◌++◌, Bool, true, false, not, ◌&&◌, ◌||◌, cond, ◌==◌, ◌/◌, ◌%◌, nat_le, nat_lt, map, reverse, take, drop, length, get_or, IsTrue, encode_utf8_all, refl, ap, sym, ◌∙◌, append_assoc, arith, zero, suc, inl, inr, Option, Some, None, subst, bytes_eq, if◌then◌else◌}
+use Rattle.std.proofs.Common.{◌≡◌, ℕ, ◌+◌, ◌<◌, ◌≤◌, List, [], ◌∷◌, ◌++◌, Bool, true, false, not, ◌&&◌, ◌||◌, cond, ◌==◌, ◌/◌, ◌%◌, nat_le, nat_lt, map, reverse, take, drop, length, get_or, IsTrue, encode_utf8_all, refl, ap, sym, ◌∙◌, append_assoc, arith, zero, suc, inl, inr, Option, Some, None, subst, bytes_eq, if◌then◌else◌, option_to_list}
 use lib.Utf8.{encode}
 use Rattle.std.specs.List.{list_all, list_any, flat_map, range_with_len}
 use Rattle.std.specs.Str.{IsAscii, IsUtf8, trim}
@@ -8,17 +8,15 @@ use Rattle.std.proofs.lemmas.Bool.Decides.{nat_tests}
 use Rattle.std.proofs.lemmas.List.{append-nil, drop_more, take_more}
 use Rattle.std.proofs.lemmas.Str.{encode_ascii, encodes-append, length-le-encodes, IsCharBoundary-after_ascii, IsCharBoundary-before_ascii, IsUtf8-drop, IsUtf8-from_ascii, IsUtf8-take, chars-IsAscii}
 use Rattle.std.proofs.lemmas.Str.Ascii.{IsAscii-cons, IsAscii-nil, All-from_ascii, encodes-IsAscii}
-use Rattle.link_base.specs.Tables.{is_word, is_word_byte}
+use Rattle.link_base.specs.Words.{is_word, is_word_byte}
 use Rattle.link_texts.specs.Texts.{stands_among}
-use Rattle.standardise.specs.Words.{run_words, without_first, without_last, words, words_after, replaced, without_titles}
+use Rattle.standardise.specs.Names.{run_words, without_first, without_last, words, words_after, replaced, without_titles, characters_of, text_value, word_or_absent, words_of_text, TextView}
 use Rattle.std.proofs.lemmas.Bool.{cases_lt, not-true}
 use Rattle.std.proofs.lemmas.List.Concat.{flat_map-append}
 use Rattle.std.proofs.lemmas.Slice.Eq.{bytes_eq-Decides}
 use Rattle.unicode_normalization.specs.Forms.{nfd}
 use Rattle.unicode_normalization.specs.declared.Form.TheVariants.{Nfd}
 use Rattle.unicode_normalization.proofs.FormsLemmas.{normalize-ascii}
-use Rattle.standardise.specs.Names.{characters_of, text_value, word_or_absent, words_of_text}
-use Rattle.std.specs.Option.{option_to_list}
 use Rattle.ucd_category.specs.GeneralCategory.{general_category}
 use Rattle.ucd_category.specs.GeneralCategoryRows.{general_category_rows}
 use Rattle.ucd_table.specs.Rows.{value_in}
@@ -26,7 +24,6 @@ use Rattle.std.specs.Char.{to_ascii_uppercase}
 use Rattle.standardise.specs.Cleaning.{ascii_cleaned, cleaned, cleaned_char, in_capitals, in_apostrophes, is_combining, letter_of, with_letters, with_spaces, without_apostrophes, without_marks}
 use Rattle.link_base.specs.declared.tables.WordPair.{WordPair}
 use Rattle.link_base.specs.declared.standard.Value.TheVariants as value
-use Rattle.standardise.specs.Tables.{TextView}
 
 abbrev pub has_space : List ℕ → Bool
 has_space cs = list_any (λ c. c == 32) cs

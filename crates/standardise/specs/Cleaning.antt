@@ -1,6 +1,5 @@
 -- The steps of a name on its characters, in turn (`clean`, clause `text`; each step, by the one clause of its function).
-use Rattle.std.specs.Prelude.{ℕ, List, [], ◌∷◌, ◌-◌, Option, Some, None, Bool, ◌&&◌, ◌||◌, not, nat_le, ◌==◌, if◌then◌else◌, filter, map, codes}
-use Rattle.std.specs.List.{flat_map}
+use Rattle.std.specs.Prelude.{ℕ, List, [], ◌∷◌, ◌-◌, Option, Some, None, Bool, ◌&&◌, ◌||◌, not, nat_le, ◌==◌, if◌then◌else◌, filter, map, codes, flat_map}
 use Rattle.std.specs.Char.{to_ascii_uppercase}
 use Rattle.ucd_category.specs.GeneralCategory.{general_category}
 use Rattle.ucd_category.specs.GeneralCategoryGroup.{in_group}

@@ -1,7 +1,7 @@
 -- What a text is as a date (`std_date`, clauses `read` and `valid`).
 use Rattle.std.specs.Prelude.{ℕ, List, Option, Some, None, ℤ, if◌then◌else◌, ⊤}
 use Rattle.std.specs.Str.{trim}
-use Rattle.link_base.specs.Standard.{IsDay}
+use Rattle.link_base.specs.Words.{IsDay}
 use Rattle.link_base.specs.declared.plan.DateForm.{DateForm}
 use Rattle.value_forms.specs.Written.{date_day}
 use Rattle.link_texts.specs.Texts.{stands_among}

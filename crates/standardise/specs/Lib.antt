@@ -1,7 +1,4 @@
 pub mod Cleaning
 pub mod DateReads
+pub mod Kept
 pub mod Names
-pub mod Outlines
-pub mod Tables
-pub mod WordSets
-pub mod Words

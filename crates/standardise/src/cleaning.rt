@@ -1,12 +1,7 @@
 // The characters of a name, cleaned.
-ghost use Rattle.std.specs.Prelude.{◌≡◌, ◌++◌, ◌∷◌, [], IsTrue, OnOk, IfOk, IfSome, chars, encode_utf8_all};
-ghost use Rattle.std.specs.List.{flat_map};
-ghost use Rattle.std.specs.Option.{option_to_list};
-ghost use Rattle.std.specs.Str.{IsAscii, IsUtf8};
-ghost use Rattle.std.specs.String.{string_bytes};
+ghost use Rattle.std.specs.Prelude.{◌≡◌, ◌++◌, ◌∷◌, [], IsTrue, OnOk, IfOk, IfSome, chars, encode_utf8_all, flat_map, option_to_list, IsAscii, IsUtf8, string_bytes};
 ghost use Rattle.standardise.specs.Cleaning.{ascii_cleaned, cleaned_char, in_apostrophes, in_capitals, letter_of, stays_in_words, with_spaces, without_apostrophes};
-ghost use Rattle.standardise.specs.Names.{characters_of};
-ghost use Rattle.standardise.specs.Words.{words};
+ghost use Rattle.standardise.specs.Names.{characters_of, words};
 
 use crate::words::is_one_word;
 use link_base::NoMemory;

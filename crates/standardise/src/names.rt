@@ -1,9 +1,7 @@
 // Names and places.
-ghost use Rattle.std.specs.Prelude.{◌≡◌, ◌∷◌, [], IfOk, option_map};
-ghost use Rattle.std.specs.Str.{IsUtf8};
+ghost use Rattle.std.specs.Prelude.{◌≡◌, ◌∷◌, [], IfOk, option_map, IsUtf8};
 ghost use Rattle.link_base.specs.Standard.{IsValid};
-ghost use Rattle.standardise.specs.Names.{found_value, text_value, word_or_absent, words_of_text};
-ghost use Rattle.standardise.specs.Words.{joined, replaced, without_titles, words};
+ghost use Rattle.standardise.specs.Names.{found_value, text_value, word_or_absent, words_of_text, joined, replaced, without_titles, words};
 
 use crate::cleaning::{clean, is_clean};
 use crate::pairs::{WordTable, in_place, push_words};

@@ -1,6 +1,6 @@
 // What texts are told by before they are searched for.
 ghost use Rattle.std.specs.Prelude.{◌≡◌, List, ℕ, IsTrue};
-ghost use Rattle.standardise.specs.Outlines.{may_be};
+ghost use Rattle.standardise.specs.Kept.{may_be};
 
 /// Which bytes texts begin with, and how long they are at most: most texts that are none of them are told by these alone.
 #[derive(Drop)]

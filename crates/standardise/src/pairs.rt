@@ -1,9 +1,7 @@
 // Words that stand in the place of words.
-ghost use Rattle.std.specs.Prelude.{◌≡◌, ◌++◌, length, map, IfOk, IfSome, OnOk, option_map};
+ghost use Rattle.std.specs.Prelude.{◌≡◌, ◌++◌, length, map, IfOk, IfSome, OnOk, option_map, IsUtf8};
 ghost use Rattle.std.specs.List.Sorted.{IsBinarySearchResult, IsSearchInRange};
-ghost use Rattle.std.specs.Str.{IsUtf8};
-ghost use Rattle.standardise.specs.Tables.{text_cmp, word_for};
-ghost use Rattle.standardise.specs.Words.{replaced, spaced_words, words};
+ghost use Rattle.standardise.specs.Names.{text_cmp, word_for, replaced, spaced_words, words};
 
 use crate::outline::Outline;
 use crate::words::next_word;
@@ -36,7 +34,7 @@ pub(crate) struct WordTable {
 impl Model for WordTable {
     ghost use Rattle.std.specs.Prelude.{List};
     ghost use Rattle.link_base.specs.declared.tables.WordPair.{WordPair};
-    ghost use Rattle.standardise.specs.Outlines.{AreWithin};
+    ghost use Rattle.standardise.specs.Kept.{AreWithin};
 
     ghost Value = { List WordPair };
 

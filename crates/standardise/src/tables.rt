@@ -1,9 +1,7 @@
 // The tables of names and of places.
-ghost use Rattle.std.specs.Prelude.{◌≡◌, IfOk};
-ghost use Rattle.std.specs.Str.{IsUtf8};
+ghost use Rattle.std.specs.Prelude.{◌≡◌, IfOk, IsUtf8};
 ghost use Rattle.link_texts.specs.Texts.{stands_among};
-ghost use Rattle.standardise.specs.Tables.{names_of, places_of};
-ghost use Rattle.standardise.specs.Words.{without_titles, words};
+ghost use Rattle.standardise.specs.Names.{names_of, places_of, without_titles, words};
 
 use crate::pairs::WordTable;
 use crate::word_set::WordSet;
@@ -22,7 +20,7 @@ pub struct TextTables {
 }
 
 impl Model for TextTables {
-    ghost use Rattle.standardise.specs.Tables.{TextView};
+    ghost use Rattle.standardise.specs.Names.{TextView};
 
     ghost Value = { TextView };
 

@@ -2,9 +2,8 @@
 ghost use Rattle.std.specs.Prelude.{◌≡◌, IfOk, length};
 ghost use Rattle.std.specs.List.Sorted.{IsBinarySearchResult, IsSearchInRange};
 ghost use Rattle.link_texts.specs.Texts.{stands_among};
-ghost use Rattle.standardise.specs.Tables.{text_cmp};
-ghost use Rattle.standardise.specs.Outlines.{AreWithin};
-ghost use Rattle.standardise.specs.WordSets.{IsOrdered};
+ghost use Rattle.standardise.specs.Names.{text_cmp};
+ghost use Rattle.standardise.specs.Kept.{AreWithin, IsOrdered};
 
 use crate::outline::Outline;
 use link_base::{NoMemory, Text};
@@ -23,8 +22,7 @@ pub(crate) struct WordSet {
 
 impl Model for WordSet {
     ghost use Rattle.std.specs.Prelude.{List, ℕ};
-    ghost use Rattle.standardise.specs.Outlines.{AreWithin};
-    ghost use Rattle.standardise.specs.WordSets.{IsOrdered};
+    ghost use Rattle.standardise.specs.Kept.{AreWithin, IsOrdered};
 
     ghost Value = { List (List ℕ) };
 

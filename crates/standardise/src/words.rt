@@ -1,8 +1,7 @@
 // The words of a text: the longest runs without a space.
-ghost use Rattle.std.specs.Prelude.{◌≡◌, ◌+◌, ◌++◌, ◌∷◌, [], ◌<◌, take, drop, length, IfSome, MatchOption, IsTrue, ◌↔◌, ◌≢◌};
-ghost use Rattle.std.specs.Str.{IsUtf8};
+ghost use Rattle.std.specs.Prelude.{◌≡◌, ◌+◌, ◌++◌, ◌∷◌, [], ◌<◌, take, drop, length, IfSome, MatchOption, IsTrue, ◌↔◌, ◌≢◌, IsUtf8};
 ghost use Rattle.link_texts.specs.Texts.{stands_among};
-ghost use Rattle.standardise.specs.Words.{run_words, without_first, without_last, words};
+ghost use Rattle.standardise.specs.Names.{run_words, without_first, without_last, words};
 
 use crate::word_set::WordSet;
 

@@ -1,5 +1,6 @@
 -- The parts of a day's date, counted.
-use Rattle.std.proofs.Common.{◌≡◌, ℕ, zero, suc, ◌+◌, ◌-◌, ◌<◌, ◌≤◌, min, inl, inr, List, ◌∷◌, Bool, true, false, cond, nat_le, filter, length, refl, ap, sym, ◌∙◌, arith, ℤ, pos, ◌≤ℤ◌, ◌<ℤ◌, int_le, ◌&&◌, Some, None, subst, rules, negsuc, neg_ℤ, to_z, of_z, w16, w32, ◌/◌, ◌%◌, ◌==◌, [], ◌++◌, not, ◌||◌, take, chars, encode_utf8_all, nat_lt, if◌then◌else◌, eqb-true}
+use Rattle.std.proofs.Common.{◌≡◌, ℕ, zero, suc, ◌+◌, ◌-◌, ◌<◌, ◌≤◌, min, inl, inr, List, ◌∷◌, Bool, true, false, cond, nat_le, filter, length, refl, ap, sym, ◌∙◌, arith, ℤ, pos, ◌≤ℤ◌, ◌<ℤ◌, int_le, ◌&&◌, Some, None, subst, rules, negsuc, neg_ℤ, to_z, of_z, w16, w32, ◌/◌, ◌%◌, ◌==◌, [], ◌++◌, not, ◌||◌, take, chars, encode_utf8_all, nat_lt, if◌then◌else◌, eqb-true, IsUtf8}
+use Rattle.std.specs.Char.{encode_utf8}
 use Rattle.std.specs.List.{range_with_len, flat_map}
 use Rattle.std.proofs.lemmas.Bool.{cases_lt}
 use Rattle.std.proofs.lemmas.Bool.Decides.{nat_tests}
@@ -12,16 +13,13 @@ use Rattle.jiff_core.proofs.CalendarLemmas.{days_in_month_bounds, days_from_civi
 use Rattle.jiff_core.proofs.DateLemmas.{cases_date, days_from_civil-day, epoch_day-lt, epoch_day_same, IsEarlier}
 use Rattle.value_forms.specs.Days.{begun_by, month_day_of_day, month_of_day, year_of_day, civil_day, is_civil}
 use Rattle.jiff_core.proofs.MarchLemmas.{day_count-early}
-use Rattle.link_base.specs.Standard.{IsDay}
+use Rattle.link_base.specs.Words.{IsDay}
 use Rattle.std.proofs.lemmas.Option.{cond_some}
 use lib.IntN.{nat_abs}
 use Rattle.std.specs.Prelude.{⊤}
-use Rattle.std.specs.Str.{IsUtf8}
-use Rattle.std.specs.Char.{encode_utf8}
 use Rattle.std.proofs.lemmas.Str.{encodes-chars}
 use Rattle.value_forms.specs.InitialBytes.{goes_on, initials_from}
-use Rattle.value_forms.specs.Initials.{initials_of}
-use Rattle.value_forms.specs.Words.{words_after}
+use Rattle.value_forms.specs.Initials.{initials_of, words_after}
 
 -- the numbers of a run that are at most y
 one_step : (b : Bool) (k from y : ℕ) (rest : List ℕ) → nat_le from y ≡ b → length rest ≡ min k (y + 1 - (from + 1)) → length (cond b (from ∷ rest) rest) ≡ min (suc k) (y + 1 - from)

@@ -8,7 +8,7 @@ use Rattle.link_base.specs.declared.plan.DateForm.{DateForm}
 use Rattle.link_base.specs.declared.plan.DateForm.TheVariants.{Dmy, Mdy, Ymd}
 use Rattle.value_forms.specs.Days.{two_of, ◌>>=◌}
 use Rattle.value_forms.specs.Written.{day_of_parts, day_with_signs, first_length, in_form, in_signs, short_number, year_number}
-use Rattle.link_base.specs.Standard.{IsValid}
+use Rattle.link_base.specs.Words.{IsValid}
 use Rattle.link_base.specs.declared.standard.Value.{Value}
 use Rattle.link_base.specs.declared.standard.Value.TheVariants.{Absent, Word, Day}
 use Rattle.value_forms.specs.declared.canons.Canon.{Canon}

@@ -1,8 +1,7 @@
 -- What a value is compared or blocked by: its canon of each kind (`canon_text`; `Canon::letters`, `Canon::with_letters`), and its
 -- initials (`initials_text`). Comparators and blocking passes cite these definitions, so that both speak of the same canons.
-use Rattle.std.specs.Prelude.{◌≡◌, Bool, true, false, Option, Some, None, List, ℕ, ℤ, pos, ⊤}
-use Rattle.std.specs.Str.{IsUtf8}
-use Rattle.link_base.specs.Standard.{IsDay}
+use Rattle.std.specs.Prelude.{◌≡◌, Bool, true, false, Option, Some, None, List, ℕ, ℤ, pos, ⊤, IsUtf8}
+use Rattle.link_base.specs.Words.{IsDay}
 use Rattle.link_base.specs.declared.standard.Value.{Value}
 use Rattle.link_base.specs.declared.standard.Value.TheVariants.{Absent, Word, Day}
 use Rattle.value_forms.specs.declared.canons.Canon.{Canon}
@@ -12,8 +11,7 @@ use Rattle.value_forms.specs.declared.canons.End.TheVariants as end
 use Rattle.value_forms.specs.declared.canons.CompareKind.{CompareKind}
 use Rattle.value_forms.specs.declared.canons.CompareKind.TheVariants as by
 use Rattle.value_forms.specs.Days.{four_digits, text_of_day, year_of_day}
-use Rattle.value_forms.specs.Firsts.{first_characters}
-use Rattle.value_forms.specs.Initials.{initials_of}
+use Rattle.value_forms.specs.Initials.{first_characters, initials_of}
 use Rattle.phonetic_keys.specs.Soundex.{soundex_of}
 use Rattle.phonetic_keys.specs.Nysiis.{nysiis_of}
 

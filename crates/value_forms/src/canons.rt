@@ -1,7 +1,6 @@
 // What values are compared and blocked by: canons, how two values are compared, and the canon of a value.
 ghost use Rattle.std.specs.Prelude.{◌≡◌, option_map};
-ghost use Rattle.link_base.specs.Rows.{value_seen};
-ghost use Rattle.link_base.specs.Standard.{IsDay};
+ghost use Rattle.link_base.specs.Standard.{value_seen, IsDay};
 ghost use Rattle.value_forms.specs.CanonTexts.{canon_bytes};
 ghost use Rattle.link_base.specs.declared.standard.Value.TheVariants.{Day, Word};
 ghost use Rattle.value_forms.specs.Canons.{IsReadable, canon_by, compares_days as is_of_days, letters_of, with_letters};

@@ -1,6 +1,5 @@
 // Civil days of the years 0001 to 9999, and their texts.
-ghost use Rattle.std.specs.Prelude.{◌≡◌, ◌≤◌, ℤ, Some, IfSome, MatchOption, length};
-ghost use Rattle.std.specs.Str.{IsAscii};
+ghost use Rattle.std.specs.Prelude.{◌≡◌, ◌≤◌, ℤ, Some, IfSome, MatchOption, length, IsAscii};
 ghost use Rattle.link_base.specs.Standard.{IsDay};
 ghost use Rattle.value_forms.specs.Days.{civil_day, four_of, IsDayText, iso_day, month_day_of_day, month_of_day, one_of, text_of_day, two_of, year_of_day};
 

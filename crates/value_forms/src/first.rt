@@ -1,7 +1,6 @@
 // The first characters of a text.
-ghost use Rattle.std.specs.Prelude.{◌≡◌, ◌++◌};
-ghost use Rattle.std.specs.Str.{IsUtf8};
-ghost use Rattle.value_forms.specs.Firsts.{first_characters, later_characters};
+ghost use Rattle.std.specs.Prelude.{◌≡◌, ◌++◌, IsUtf8};
+ghost use Rattle.value_forms.specs.Initials.{first_characters, later_characters};
 
 /// The first `n` characters of a text in UTF-8, or all where there are fewer.
 pub fn first_chars(text: &[u8], n: u8) -> &[u8]

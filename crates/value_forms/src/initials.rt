@@ -1,6 +1,5 @@
 // The initials of a text, byte by byte and without memory.
-ghost use Rattle.std.specs.Prelude.{◌≡◌, ◌∷◌, [], IfOk, MatchOption, bytes_eq};
-ghost use Rattle.std.specs.Str.{IsUtf8};
+ghost use Rattle.std.specs.Prelude.{◌≡◌, ◌∷◌, [], IfOk, MatchOption, bytes_eq, IsUtf8};
 ghost use Rattle.value_forms.specs.InitialBytes.{is_initial};
 ghost use Rattle.value_forms.specs.Initials.{initials_of};
 

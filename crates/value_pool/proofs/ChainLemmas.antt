@@ -1,25 +1,22 @@
 -- Chains of the places whose hashes have one bucket, the last first.
-use Rattle.std.proofs.Common.{◌≡◌, ◌<◌, ◌≤◌, ◌==◌, ℕ, zero, suc, Bool, true, false, ◌≢◌, List, [], ◌∷◌, ◌++◌, length, map, get_or, refl, ap, sym, ◌∙◌, arith, inl, inr, eqb-true, eq-eqb, if◌then◌else◌, set, length-set, ◌+◌, ◌*◌, ◌-◌, ◌^◌, nat_le, ◌||◌, take, drop, length-append, length-drop, Some, slice_get, slice_range}
+use Rattle.std.proofs.Common.{◌≡◌, ◌<◌, ◌≤◌, ◌==◌, ℕ, zero, suc, Bool, true, false, ◌≢◌, List, [], ◌∷◌, ◌++◌, length, map, get_or, refl, ap, sym, ◌∙◌, arith, inl, inr, eqb-true, eq-eqb, if◌then◌else◌, set, length-set, ◌+◌, ◌*◌, ◌-◌, ◌^◌, nat_le, ◌||◌, take, drop, length-append, length-drop, Some, slice_get, slice_range, bytes_eq}
 use Rattle.std.proofs.lemmas.Grind.{common_steps}
 use Rattle.std.proofs.lemmas.Bool.{cases_lt, false≢true}
 use Rattle.std.proofs.lemmas.Bool.Decides.{nat_tests}
 use Rattle.std.proofs.lemmas.List.{get_or-map, get_or_append_left, get_or_push, get_or_read, length_push, ext_get_or, drop-append-le, length-map, map-append, take-append-le}
 use Rattle.value_pool.specs.declared.chains.Slot.{Slot}
-use Rattle.value_pool.specs.Chains.{IsChained, bucket_of, last_in}
+use Rattle.value_pool.specs.Table.{IsChained, bucket_of, last_in, IsHashed, IsSlotWithin, most_texts, texts_at}
 use Rattle.std.proofs.lemmas.Slice.Eq.{bytes_eq-Decides}
-use Rattle.std.specs.Str.{bytes_eq}
 use Rattle.std.specs.Int.{to_le_bytes, w32, w64}
 use Rattle.std.proofs.lemmas.Nat.{le_bytes_4, le_bytes_8}
 use Rattle.value_pool.specs.Hashes.{eight_bytes_at, few_bytes, four_bytes_at, last_word, hash_of}
-use Rattle.value_pool.specs.Table.{IsHashed}
 use Rattle.std.specs.List.{All, AllPairs, list_any, sum_by}
 use Rattle.std.proofs.lemmas.List.Sums.{sum_by_push}
 use Rattle.std.proofs.lemmas.List.Quantifiers.{all_pairs_push}
 use Rattle.std.proofs.lemmas.List.Folds.{list_any-append, list_any_at}
 use Rattle.std.proofs.lemmas.Option.{slice_get-get_or}
 use Rattle.std.proofs.lemmas.List.Elements.{All-push}
-use Rattle.value_pool.specs.Texts.{stands_among}
-use Rattle.value_pool.specs.Region.{IsSlotWithin, most_texts, texts_at}
+use Rattle.value_pool.specs.Pool.{stands_among}
 
 module _ (m : ℕ) where
   pub last-le : (hashes : List ℕ) (b n : ℕ) → last_in m hashes b n ≤ n

@@ -1,20 +1,16 @@
 -- One text more in the order.
-use Rattle.std.proofs.Common.{◌≡◌, ◌<◌, ◌+◌, ◌++◌, ◌∷◌, ◌∙◌, ◌||◌, ℕ, zero, suc, List, [], Bool, true, false, Option, Some, None, length, get_or, take, refl, ap, sym, subst, arith, IfSome, if◌then◌else◌, bytes_eq, is_some, slice_get, slice_range, inl, inr}
+use Rattle.std.proofs.Common.{◌≡◌, ◌<◌, ◌+◌, ◌++◌, ◌∷◌, ◌∙◌, ◌||◌, ℕ, zero, suc, List, [], Bool, true, false, Option, Some, None, length, get_or, take, refl, ap, sym, subst, arith, IfSome, if◌then◌else◌, bytes_eq, is_some, slice_get, slice_range, inl, inr, Global, Ordering, Vec}
 use Rattle.std.specs.BTreeMap.{BTreeMap, Updates, is_at}
 use Rattle.std.specs.Cmp.Lexicographic.{nat_list_eq_equiv, slice_cmp}
 use Rattle.std.specs.Map.{KeepsOthers}
 use Rattle.std.specs.Ordering.{eq_by_cmp, is_eq, nat_cmp}
-use Rattle.std.specs.declared.alloc.Global.{Global}
-use Rattle.std.specs.declared.cmp.Ordering.{Ordering}
-use Rattle.std.specs.declared.vec.Vec.{Vec}
 use Rattle.std.proofs.lemmas.Cmp.{eq_by_cmp_equiv, nat_list_cmp_total}
 use Rattle.std.proofs.lemmas.List.{length-map, length-take-le, take_more}
 use Rattle.std.proofs.lemmas.List.Folds.{list_any-append}
 use Rattle.std.proofs.lemmas.Map.Text.{is_eq-slice_cmp}
 use Rattle.std.proofs.lemmas.Slice.Eq.{bytes_eq-Decides}
-use Rattle.value_pool.specs.Order.{HasPlaces, place_in}
-use Rattle.value_pool.specs.Region.{texts_at}
-use Rattle.value_pool.specs.Texts.{stands_among, place_among}
+use Rattle.value_pool.specs.Table.{HasPlaces, place_in, texts_at}
+use Rattle.value_pool.specs.Pool.{stands_among, place_among}
 use Rattle.value_pool.specs.declared.chains.Slot.{Slot}
 use Rattle.value_pool.proofs.ChainLemmas.{text_at}
 use Rattle.std.specs.List.{list_any, position_or_len}

@@ -1,20 +1,16 @@
 -- What a search along a chain has still to look at.
-use Rattle.std.proofs.Common.{◌≡◌, ◌<◌, ◌≤◌, ◌+◌, ◌-◌, ◌==◌, ℕ, suc, true, false, ◌≢◌, List, [], length, get_or, ap, sym, ◌∙◌, arith, eq-eqb, inl, inr, slice_range, All, subst, ◌++◌, ◌∷◌, if◌then◌else◌, refl}
-use Rattle.std.specs.Str.{bytes_eq}
+use Rattle.std.proofs.Common.{◌≡◌, ◌<◌, ◌≤◌, ◌+◌, ◌-◌, ◌==◌, ℕ, suc, true, false, ◌≢◌, List, [], length, get_or, ap, sym, ◌∙◌, arith, eq-eqb, inl, inr, slice_range, All, subst, ◌++◌, ◌∷◌, if◌then◌else◌, refl, bytes_eq}
 use Rattle.std.proofs.lemmas.Slice.Eq.{bytes_eq-Decides}
 use Rattle.std.proofs.lemmas.Bool.{and_from, and_parts, cases_order, false_from_ne_true, false≢true}
 use Rattle.std.proofs.lemmas.List.{get_or_read, length-map}
 use Rattle.std.proofs.lemmas.List.Elements.{All-from_get_or}
 use Rattle.std.proofs.lemmas.List.Folds.{list_any_at, list_any_none}
 use Rattle.value_pool.specs.declared.chains.Slot.{Slot}
-use Rattle.value_pool.specs.Texts.{stands_among, PoolState}
-use Rattle.value_pool.specs.Region.{hashes_of, nexts_of, texts_at, IsSlotWithin}
-use Rattle.value_pool.specs.Chains.{IsChained, bucket_of, last_in}
+use Rattle.value_pool.specs.Pool.{stands_among, PoolState, HasTaken, KeepsRoom, with_text}
+use Rattle.value_pool.specs.Table.{hashes_of, nexts_of, texts_at, IsSlotWithin, IsChained, bucket_of, last_in, IsHashed, has_text, IsTable, texts_of, HasAppended, state_of}
 use Rattle.value_pool.specs.Hashes.{hash_of}
-use Rattle.value_pool.specs.Table.{IsHashed, has_text, IsTable, texts_of, HasAppended, state_of}
 use Rattle.value_pool.proofs.ChainLemmas.{at-bucket, last-le, last-same, last-skip, slot_at}
 use Rattle.value_pool.specs.declared.table.Table.{Table}
-use Rattle.value_pool.specs.Pool.{HasTaken, KeepsRoom, with_text}
 
 pub none-held : (texts : List (List ℕ)) (text : List ℕ) → ((q : ℕ) → q < length texts → get_or texts q [] ≢ text) → stands_among texts text ≡ false
 none-held texts text h =

@@ -1,15 +1,79 @@
 -- Machinery of the pool: a table of distinct texts, and what is seen of it. No public clause names it; the invariant of
 -- `Pool` does.
-use Rattle.std.specs.Prelude.{◌≡◌, ◌≢◌, ◌<◌, ◌≤◌, ◌+◌, ◌-◌, ℕ, Bool, ◌&&◌, ◌==◌, List, [], ◌∷◌, ◌++◌, All, AllPairs, bytes_eq, length, slice_index_or, slice_range, sum_by, vec_capacity, vec_len}
-use Rattle.link_limits.specs.declared.TheConstants.{MOST_POOL_LIMIT}
-use Rattle.value_pool.specs.Chains.{IsChained}
-use Rattle.value_pool.specs.Hashes.{hash_of}
-use Rattle.value_pool.specs.Order.{IsOrder}
-use Rattle.value_pool.specs.Pool.{KeepsRoom}
-use Rattle.value_pool.specs.Region.{IsSlotWithin, hashes_of, most_texts, nexts_of, texts_at}
-use Rattle.value_pool.specs.Texts.{PoolState}
+use Rattle.std.specs.Prelude.{◌≡◌, ◌<◌, ◌≤◌, length, ℕ, zero, suc, ◌-◌, ◌==◌, List, bit_and, slice_index_or, if◌then◌else◌, ◌+◌, [], map, slice_range, Option, Some, IfSome, is_some, slice_get, ⊤, ◌≢◌, Bool, ◌&&◌, ◌∷◌, ◌++◌, All, AllPairs, bytes_eq, sum_by, vec_capacity, vec_len, Vec}
+use Rattle.value_pool.specs.Hashes.{last_word, hash_of}
+use Rattle.value_pool.specs.Pool.{stands_among, PoolState, KeepsRoom}
 use Rattle.value_pool.specs.declared.chains.Slot.{Slot}
+use Rattle.std.specs.BTreeMap.{BTreeMap, get_by}
+use Rattle.std.specs.Cmp.Lexicographic.{slice_cmp}
+use Rattle.std.specs.Ordering.{nat_cmp}
+use Rattle.std.specs.declared.alloc.Global.{Global}
+use Rattle.value_pool.specs.declared.order.Order.{Order}
+use Rattle.link_limits.specs.declared.TheConstants.{MOST_POOL_LIMIT}
 use Rattle.value_pool.specs.declared.table.Table.{Table}
+use Rattle.value_pool.specs.declared.order.Order.TheVariants as order
+
+-- Machinery of the pool: buckets of hashes, and their chains (Knuth, vol. 3, 6.4: hashing with separate chaining). No
+-- public clause names it; the invariant of `Pool` does.
+
+-- the low bits of a hash, where the buckets are a power of 2
+abbrev pub bucket_of : ℕ → ℕ → ℕ
+bucket_of buckets hash = bit_and hash (buckets - 1)
+
+-- one more than the last place below n whose hash has this bucket, or 0
+abbrev pub last_in : ℕ → List ℕ → ℕ → ℕ → ℕ
+last_in buckets hashes bucket zero = 0
+last_in buckets hashes bucket (suc n) =
+    if bucket_of buckets (slice_index_or hashes n 0) == bucket then suc n else last_in buckets hashes bucket n
+
+-- each chain goes from the last place of its bucket down
+pub record IsChained (heads : List ℕ) (hashes : List ℕ) (nexts : List ℕ) : Type 0 where
+  pub some : 1 ≤ length heads
+  pub head_at : (b : ℕ) → b < length heads → slice_index_or heads b 0 ≡ last_in (length heads) hashes b (length hashes)
+  pub next_at : (p : ℕ) → p < length hashes →
+      slice_index_or nexts p 0 ≡ last_in (length heads) hashes (bucket_of (length heads) (slice_index_or hashes p 0)) p
+
+-- Machinery of the pool: texts as parts of one list of bytes. No public clause names it; the invariant of `Pool` does.
+
+-- the texts of the slots
+abbrev pub texts_at : List ℕ → List Slot → List (List ℕ)
+texts_at bytes slots = map (λ (s : Slot). slice_range bytes s.start s.end) slots
+
+-- what the chain of each slot goes on with
+abbrev pub nexts_of : List Slot → List ℕ
+nexts_of slots = map (λ (s : Slot). s.next) slots
+
+-- the hashes that the slots have
+abbrev pub hashes_of : List Slot → List ℕ
+hashes_of slots = map (λ (s : Slot). s.hash) slots
+
+-- the text of a slot is a part of these bytes, and ends with the last word of the slot
+pub record IsSlotWithin (bytes : List ℕ) (slot : Slot) : Type 0 where
+  pub ordered : slot.start ≤ slot.end
+  pub within : slot.end ≤ length bytes
+  pub last : slot.last ≡ last_word (slice_range bytes slot.start slot.end)
+
+-- how many distinct texts of so many bytes there may be: one of them may be empty
+abbrev pub most_texts : ℕ → List (List ℕ) → ℕ
+most_texts bytes texts = bytes + (if stands_among texts [] then 1 else 0)
+
+-- Machinery of the pool: the order of its texts, kept once a chain has been long. No public clause names it; the invariant of
+-- `Pool` does.
+
+-- the place of a text in the order
+abbrev pub place_in : BTreeMap (Vec ℕ Global) ℕ → List ℕ → Option ℕ
+place_in places text = get_by (λ (key : Vec ℕ Global). slice_cmp nat_cmp text key.items) places
+
+-- the order has these texts alone, each with its place
+pub record HasPlaces (places : BTreeMap (Vec ℕ Global) ℕ) (texts : List (List ℕ)) : Type 0 where
+  pub found : (text : List ℕ) → IfSome (place_in places text) (λ place. slice_get texts place ≡ Some text)
+  pub held : (text : List ℕ) → is_some (place_in places text) ≡ stands_among texts text
+
+-- if there is an order, it is that of these texts
+abbrev pub IsOrder : Order → List (List ℕ) → Type 0
+IsOrder order.Unneeded texts = ⊤
+IsOrder (order.Places places) texts = HasPlaces places texts
+IsOrder order.Refused texts = ⊤
 
 -- the slot has this hash, and its bytes are this text
 abbrev pub has_text : List ℕ → Slot → ℕ → List ℕ → Bool

@@ -1,7 +1,6 @@
 // Chains of the texts of one bucket (Knuth, vol. 3, 6.4: hashing with separate chaining).
 ghost use Rattle.std.specs.Prelude.{◌≡◌, ◌≤◌, ◌<◌, ◌^◌, All, List, ℕ, IfOk, length, slice_index_or};
-ghost use Rattle.value_pool.specs.Chains.{IsChained, bucket_of};
-ghost use Rattle.value_pool.specs.Region.{IsSlotWithin, hashes_of, nexts_of, texts_at};
+ghost use Rattle.value_pool.specs.Table.{IsChained, bucket_of, IsSlotWithin, hashes_of, nexts_of, texts_at};
 
 use link_texts::NoMemory;
 use std::alloc::Global;

@@ -1,7 +1,6 @@
 // The order of the texts of a pool, by which a text is found in few comparisons, whichever texts they are.
 ghost use Rattle.std.specs.Prelude.{◌≡◌, ◌<◌, ◌^◌, ◌++◌, ◌∷◌, [], List, ℕ, OnOk, IfOk, All, length};
-ghost use Rattle.value_pool.specs.Order.{HasPlaces, IsOrder, place_in};
-ghost use Rattle.value_pool.specs.Region.{IsSlotWithin, texts_at};
+ghost use Rattle.value_pool.specs.Table.{HasPlaces, IsOrder, place_in, IsSlotWithin, texts_at};
 
 use crate::chains::Slot;
 use link_texts::NoMemory;

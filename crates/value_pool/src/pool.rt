@@ -1,7 +1,6 @@
 // Distinct texts, a limit of their bytes, and room for more of them.
 ghost use Rattle.std.specs.Prelude.{◌≡◌, ◌≤◌, ◌↔◌, IsTrue, ◌≢◌, AllPairs, ◌<◌, ◌+◌, [], ℕ, is_some, IfOk, IfSome, OnErr, OnOk, length, slice_get, sum_by};
-ghost use Rattle.value_pool.specs.Pool.{FullExactly, HasRoom, HasTaken, IsAsBefore, KeepsRoom};
-ghost use Rattle.value_pool.specs.Texts.{stands_among};
+ghost use Rattle.value_pool.specs.Pool.{FullExactly, HasRoom, HasTaken, IsAsBefore, KeepsRoom, stands_among};
 
 use crate::hashes::{hash, last_word};
 use crate::id::Id;
@@ -31,7 +30,7 @@ impl Model for Pool {
     ghost use Rattle.std.specs.Prelude.{◌≤◌, length};
     ghost use Rattle.link_limits.specs.declared.TheConstants.{MOST_POOL_LIMIT};
     ghost use Rattle.value_pool.specs.Table.{IsTable, state_of};
-    ghost use Rattle.value_pool.specs.Texts.{PoolState};
+    ghost use Rattle.value_pool.specs.Pool.{PoolState};
 
     ghost Value = { PoolState };
 

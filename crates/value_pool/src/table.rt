@@ -2,10 +2,8 @@
 ghost use Rattle.std.specs.Prelude.{◌≡◌, ◌≤◌, ◌<◌, ◌+◌, ◌-◌, ◌^◌, [], false, is_some, IfOk, IfSome, OnErr, OnOk, length, slice_get};
 ghost use Rattle.link_limits.specs.declared.TheConstants.{MOST_POOL_LIMIT};
 ghost use Rattle.value_pool.specs.Hashes.{hash_of, last_word};
-ghost use Rattle.value_pool.specs.Pool.{HasRoom, IsAsBefore};
-ghost use Rattle.value_pool.specs.Region.{IsSlotWithin};
-ghost use Rattle.value_pool.specs.Table.{HasAppended, IsTable, has_text, state_of, texts_of};
-ghost use Rattle.value_pool.specs.Texts.{stands_among};
+ghost use Rattle.value_pool.specs.Pool.{HasRoom, IsAsBefore, stands_among};
+ghost use Rattle.value_pool.specs.Table.{IsSlotWithin, HasAppended, IsTable, has_text, state_of, texts_of};
 
 use crate::chains::{Slot, bucket, empty_heads, thread};
 use crate::order::{Order, place_in};

@@ -1,12 +1,11 @@
 -- The headers of the made files, byte by byte.
-use Rattle.std.proofs.Common.{◌≡◌, refl, codes, ◌+◌, ◌++◌, ◌∷◌, ◌∙◌, ℕ, List, [], map, sym, ap, zero-add, ◌<◌, ◌/◌, ◌%◌, length, slice_index_or, arith}
+use Rattle.std.proofs.Common.{◌≡◌, refl, codes, ◌+◌, ◌++◌, ◌∷◌, ◌∙◌, ℕ, List, [], map, sym, ap, zero-add, ◌<◌, ◌/◌, ◌%◌, length, slice_index_or, arith, append_assoc, append-nil}
 use Rattle.csv.specs.Writing.{default_writer, fields_text, is_blank, row_text}
 use Rattle.workload.specs.Made.{file_header, sample_header, rows_text}
 use Rattle.std.specs.List.{range_with_len}
 use Rattle.std.proofs.lemmas.Grind.{flat_map-append}
-use Rattle.std.proofs.lemmas.List.{append_assoc, append-nil}
 use Rattle.std.proofs.lemmas.List.FromFn.{map-range_with_len_more}
-use Rattle.workload.specs.Words.{syllable, word}
+use Rattle.workload.specs.People.{syllable, word}
 
 pub file_header_text : row_text default_writer file_header ≡ codes "id,surname,given,birth\n"
 unfolding fields_text is_blank

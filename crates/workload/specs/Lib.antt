@@ -1,4 +1,2 @@
 pub mod Made
-pub mod MadeSettings
 pub mod People
-pub mod Words

@@ -1,8 +1,7 @@
 // The made input.
 ghost use Rattle.std.specs.Prelude.{◌≡◌, ◌≤◌, IfOk};
 ghost use Rattle.link_limits.specs.declared.TheConstants.{MOST_ROWS};
-ghost use Rattle.workload.specs.Made.{text_of_a, text_of_b, text_of_sample};
-ghost use Rattle.workload.specs.MadeSettings.{text_of_settings};
+ghost use Rattle.workload.specs.Made.{text_of_a, text_of_b, text_of_sample, text_of_settings};
 
 use crate::files::{a_text, b_text};
 use crate::samples::sample_text;

@@ -1,6 +1,6 @@
 // The settings of the made input.
 ghost use Rattle.std.specs.Prelude.{◌≡◌, IfOk};
-ghost use Rattle.workload.specs.MadeSettings.{text_of_settings};
+ghost use Rattle.workload.specs.Made.{text_of_settings};
 
 use link_base::{NoMemory, Text, push_number};
 use std::alloc::Global;

@@ -1,13 +1,13 @@
 // Words of numbers: a syllable for each digit of base 16.
 ghost use Rattle.std.specs.Prelude.{◌≡◌, ◌<◌};
-ghost use Rattle.workload.specs.Words.{syllable, word};
+ghost use Rattle.workload.specs.People.{syllable, word};
 
 const SYLLABLES: [[u8; 2]; 16] = [
     *b"BA", *b"DE", *b"FI", *b"GO", *b"KU", *b"LA", *b"ME", *b"NI", *b"RO", *b"SU", *b"TA", *b"VE",
     *b"WI", *b"ZO", *b"HA", *b"PE",
 ];
 
-#[tactic(auto, unfolding(crate::specs::Words::syllable))]
+#[tactic(auto, unfolding(crate::specs::People::syllable))]
 fn syllable_of(digit: u8) -> [u8; 2]
     requires { digit < 16 }
     ensures { result ≡ syllable digit }

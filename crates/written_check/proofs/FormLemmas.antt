@@ -1,30 +1,21 @@
 -- Written files that are verified: what their links are.
-use Rattle.std.proofs.Common.{◌≡◌, ◌≤◌, ◌+◌, ◌∷◌, ◌++◌, ◌∙◌, ℕ, Bool, true, false, List, [], All, length, if◌then◌else◌, map, Option, Some, None, Result, Ok, Err, refl, sym, ap, subst, arith, AllPairs, Contains, ◌==◌, not, is_some, IsTrue, ◌<◌, ◌-◌, ℤ, pos, zero, suc, drop, get_or, ◌&&◌, decimal, nat_le, replicate, slice_set}
+use Rattle.std.proofs.Common.{◌≡◌, ◌≤◌, ◌+◌, ◌∷◌, ◌++◌, ◌∙◌, ℕ, Bool, true, false, List, [], All, length, if◌then◌else◌, map, Option, Some, None, Result, Ok, Err, refl, sym, ap, subst, arith, AllPairs, Contains, ◌==◌, not, is_some, IsTrue, ◌<◌, ◌-◌, ℤ, pos, zero, suc, drop, get_or, ◌&&◌, decimal, nat_le, replicate, slice_set, int_eq}
 use Rattle.std.proofs.lemmas.List.{append_assoc, append-nil, length-map, map-append, drop-set-lt, get_or-drop, get_or-set_same, length-drop, length-set}
 use Rattle.std.proofs.lemmas.List.Elements.{All-nil, All-push, All-map}
 use Rattle.std.proofs.lemmas.Option.{cond_some}
 use Rattle.price_check.specs.Assignment.{IsBefore}
-use Rattle.file_reader.specs.Left.{records_in}
-use Rattle.link_base.specs.Answers.{and_then}
-use Rattle.link_base.specs.Standard.{Record, position_of_id}
+use Rattle.file_reader.specs.Words.{records_in, records_few}
+use Rattle.link_base.specs.Words.{and_then, Record, position_of_id}
 use Rattle.link_base.specs.declared.rule.Candidate.{Candidate}
-use Rattle.file_reader.specs.LeftLaws.{records_few}
-use Rattle.link_report.specs.ReadingLaws.{row_same, fits}
-use Rattle.link_report.specs.LinksText.{link_fields, links_header}
-use Rattle.link_report.specs.Reading.{first_misfit, rows_under, same_row, unless_at, rows_begun}
-use Rattle.written_check.proofs.LinkLemmas.{Row, found_some, taken_rising}
-use Rattle.written_check.specs.Certified.{AreTaken}
-use Rattle.written_check.specs.LinkRows.{after_all, candidate_in, links_in, links_verified, taken_more}
-use Rattle.written_check.specs.Refuted.{refuted_by, rows_of_file, unless_row}
+use Rattle.link_report.specs.Reading.{row_same, fits, first_misfit, rows_under, same_row, unless_at, rows_begun}
+use Rattle.link_report.specs.LinksText.{link_fields, links_header, prices_header, cell_fields, rule_header}
+use Rattle.written_check.proofs.LinkLemmas.{found_some, Row, taken_rising}
+use Rattle.written_check.specs.Certified.{AreTaken, no_prices, PricePair, prices_in, prices_verified, have_none, IsReadTo, price_in, priced_at, side_priced}
+use Rattle.written_check.specs.LinkRows.{after_all, candidate_in, links_in, links_verified, taken_more, refuted_by, rows_of_file, unless_row, first_difference, rule_verified}
 use Rattle.written_check.specs.declared.refutation.Refutation.{Refutation}
 use Rattle.written_check.specs.declared.refutation.Refutation.TheVariants as refutation
 use Rattle.std.proofs.lemmas.Bool.{true≢false, and_parts, leb-true}
 use Rattle.link_base.specs.declared.rule.RuleCell.{RuleCell}
-use Rattle.link_report.specs.PricesText.{prices_header}
-use Rattle.link_report.specs.RuleText.{cell_fields, rule_header}
-use Rattle.written_check.specs.PriceRows.{no_prices, PricePair, prices_in, prices_verified, have_none, IsReadTo, price_in, priced_at, side_priced}
-use Rattle.written_check.specs.RuleRows.{first_difference, rule_verified}
-use Rattle.std.specs.Ordering.{int_eq}
 use Rattle.std.proofs.lemmas.Int.{ints}
 use Rattle.std.proofs.lemmas.List.Folds.{list_all_at}
 use Rattle.std.proofs.lemmas.List.Sums.{AllPass-from_list_all, list_all-from_AllPass}
@@ -219,18 +210,18 @@ module _ (file : List Record) (row : List (List ℕ)) (prices : List ℤ) (at pr
   pub price_refused : (next : ℕ) → IsReadTo prices next → at < next → side_priced file row prices ≡ None
   price_refused next read before = priced false (some_after prices next at read before)
 
+pub some_price : (p : ℕ) → 1 ≤ p → int_eq (pos p) (pos 0) ≡ false
+some_price p some = grind (arith, ints)
+
 pub read_more : (prices : List ℤ) (next at price : ℕ) → IsReadTo prices next → next ≤ at → at < length prices → 1 ≤ price → IsReadTo (slice_set prices at (pos price)) (at + 1)
 read_more prices next at price read later within some = record {
   within = omega (arith, length-set prices at (pos price));
   last = λ _.
       let place : at + 1 - 1 ≡ at = omega arith in
       ap (λ n. int_eq (get_or (slice_set prices at (pos price)) n (pos 0)) (pos 0)) place
-      ∙ ap (λ p. int_eq p (pos 0)) (get_or-set_same prices at (pos price) (pos 0) within) ∙ is_some_price price some;
+      ∙ ap (λ p. int_eq p (pos 0)) (get_or-set_same prices at (pos price) (pos 0) within) ∙ some_price price some;
   none = ap have_none (drop-set-lt (at + 1) prices at (pos price) (omega arith)) ∙ none_after prices next (at + 1) (omega arith) read.none;
 }
-  where
-    is_some_price : (p : ℕ) → 1 ≤ p → int_eq (pos p) (pos 0) ≡ false
-    is_some_price p some = grind (arith, ints)
 
 -- a price is from 1 to the greatest that is allowed, and its text is that of its number
 pub price_is : (text : List ℕ) (n : ℕ) → price_in text ≡ Some n → (1 ≤ n) × (n ≤ MOST_VALUE) × (decimal n ≡ text)

@@ -1,32 +1,28 @@
 -- Links of which no two share a record.
-use Rattle.std.proofs.Common.{◌≡◌, ◌<◌, ◌≤◌, ◌+◌, ◌∷◌, ◌++◌, ◌∙◌, ℕ, zero, suc, Bool, true, false, List, [], All, length, get_or, if◌then◌else◌, map, Option, Some, None, inl, inr, refl, sym, ap, subst, arith, length-append, AllPairs, option_map, take, ◌≢◌, ◌-◌, ◌⊎◌, nat_lt, ◌&&◌, Contains, find, MatchOption}
+use Rattle.std.proofs.Common.{◌≡◌, ◌<◌, ◌≤◌, ◌+◌, ◌∷◌, ◌++◌, ◌∙◌, ℕ, Bool, true, false, List, [], All, length, get_or, if◌then◌else◌, map, Option, Some, None, inl, inr, refl, sym, ap, subst, arith, length-append, AllPairs, option_map, ◌≢◌, ◌-◌, ◌⊎◌, zero, suc, nat_lt, ◌&&◌, Contains, find, MatchOption, bytes_eq}
 use Rattle.std.specs.List.{list_any, list_all, position_or_len, slice_get}
 use Rattle.std.proofs.Math.Seq.{get_or-append_seam}
 use Rattle.std.proofs.lemmas.Bool.{cases_lt, false_from_ne_true, true≢false, and_parts, cases_Bool}
 use Rattle.std.proofs.lemmas.Bool.Decides.{nat_tests}
-use Rattle.std.proofs.lemmas.List.{append_assoc, append-nil, get_or_append_left, get_or-map, length-map, map-append, take_more, get_or_default}
-use Rattle.std.proofs.lemmas.List.Elements.{All-map, All-cons, All-contains, All-nil, Contains-get_or}
-use Rattle.std.proofs.lemmas.List.Folds.{list_any_none, list_all_at}
+use Rattle.std.proofs.lemmas.List.{append_assoc, append-nil, get_or_append_left, get_or-map, length-map, get_or_default}
+use Rattle.std.proofs.lemmas.List.Elements.{All-map, All-contains, Contains-get_or}
+use Rattle.std.proofs.lemmas.List.Folds.{list_any_at, list_any_none, find_at, list_all_at}
 use Rattle.std.proofs.lemmas.List.Quantifiers.{all_pairs_push}
 use Rattle.price_check.specs.Assignment.{IsBefore, no_candidate, SharesNoRecord, IsWithin}
-use Rattle.link_base.specs.Rule.{IsPairBefore}
+use Rattle.link_base.specs.Words.{IsPairBefore, HaveDistinctIds, id_at, no_record, position_of_id, Record}
 use Rattle.link_base.specs.declared.rule.Candidate.{Candidate}
 use Rattle.link_base.specs.declared.rule.PairAt.{PairAt}
 use Rattle.price_check.specs.Search.{IsPairWithin}
 use Rattle.price_check.specs.Verdict.{IsFirstReused, IsFresh, IsCandidate, IsCandidateAt}
 use Rattle.written_check.specs.Certified.{pair_of}
-use Rattle.written_check.specs.LinkRows.{apart_verified, first_reused, shares_record, after_all, candidate_in, HasRowIds, goes_before, IsPlaceOf, IsPlaceWithIds, links_in, taken_more}
-use Rattle.written_check.specs.Refuted.{unless_row}
+use Rattle.written_check.specs.LinkRows.{apart_verified, first_reused, shares_record, after_all, candidate_in, HasRowIds, goes_before, IsPlaceOf, IsPlaceWithIds, links_in, taken_more, unless_row}
 use Rattle.written_check.specs.declared.refutation.Refutation.TheVariants as refutation
-use Rattle.std.specs.Str.{bytes_eq}
-use Rattle.std.proofs.lemmas.List.Sums.{AllPass-from_list_all, list_all-from_AllPass, position_or_len_is}
-use Rattle.std.proofs.lemmas.Option.{cond_some, get_or_from_slice_get, slice_get_cases}
+use Rattle.std.proofs.lemmas.List.Sums.{AllPass-from_list_all, fails_before_first, list_all-from_AllPass, passes_at_first, position_or_len_is}
+use Rattle.std.proofs.lemmas.Option.{cond_some, get_or_from_slice_get, same_Some, slice_get-get_or, slice_get_cases, slice_get_within}
 use Rattle.std.proofs.lemmas.Slice.Eq.{bytes_eq-Decides}
-use Rattle.price_check.specs.CandidateLaws.{Contains-later, same_member}
-use Rattle.link_base.specs.Standard.{HaveDistinctIds, id_at, no_record, position_of_id, Record}
-use Rattle.link_report.specs.ReadingLaws.{row_same, same_itself}
+use Rattle.price_check.specs.PlaceLaws.{same_member}
+use Rattle.link_report.specs.Reading.{row_same, same_itself, same_row}
 use Rattle.link_report.specs.LinksText.{link_fields}
-use Rattle.link_report.specs.Reading.{same_row}
 
 -- the records of links, one by one
 pub pair_at : (links : List Candidate) (k : ℕ) (d : PairAt) → k < length links → get_or (map pair_of links) k d ≡ pair_of (get_or links k no_candidate)
@@ -48,9 +44,7 @@ shared_so : (c d : Candidate) → shares_record c d ≡ false → SharesNoRecord
 shared_so c d e = (λ same. grind (arith, nat_tests), λ same. grind (arith, nat_tests))
 
 none_pass : {X : Type 0} (p : X → Bool) (xs : List X) → list_any p xs ≡ false → (k : ℕ) (d : X) → k < length xs → p (get_or xs k d) ≡ false
-none_pass p [] e k d lt = absurd (omega (arith, lt))
-none_pass p (x ∷ xs) e zero d lt = grind arith
-none_pass p (x ∷ xs) e (suc k) d lt = none_pass p xs (grind arith) k d (omega (arith, lt))
+none_pass p xs e k d lt = false_from_ne_true (p (get_or xs k d)) (λ yes. true≢false (sym (list_any_at p xs k d lt yes) ∙ e))
 
 -- a link that shares no record with those that stand before it
 abbrev pub IsApartAt : List Candidate → ℕ → Type 0
@@ -143,20 +137,10 @@ module _ (links : List Candidate) where
       ap (unless_row refutation.Reused links)
       (reused_at i [] links links refl within (omega arith) (λ k lt. apart_of_fresh links k (omega arith) (h.1 k lt)) (λ apart. h.2 (fresh_of_apart links i within apart)))
 
--- Rows, values that are found, and what is made of each of some values, one more.
+-- The candidates of the rows of written links.
 
 abbrev pub Row : Type 0
 Row = List (List ℕ)
-
-pub some_is : {X : Type 0} (x y : X) → Some x ≡ Some y → x ≡ y
-some_is x y e = cc e
-
-pub map_more : {A B : Type 0} (f : A → B) (xs : List A) (i : ℕ) (none : A) (old new : List B) → i < length xs
-    → old ≡ map f (take i xs) → new ≡ old ++ f (get_or xs i none) ∷ [] → new ≡ map f (take (i + 1) xs)
-map_more f xs i none old new within told more =
-    more ∙ ap (λ ys. ys ++ f (get_or xs i none) ∷ []) told ∙ sym (map-append f (take i xs) (get_or xs i none ∷ [])) ∙ ap (map f) (sym (take_more xs i none within))
-
--- The candidates of the rows of written links.
 
 pub found_none : {X : Type 0} (p : X → Bool) (xs : List X) → All (λ x. p x ≡ false) xs → find p xs ≡ None
 found_none p [] all = refl
@@ -166,27 +150,21 @@ pub record IsFound {X : Type 0} (p : X → Bool) (xs : List X) (x : X) : Type 0 
   pub passes : p x ≡ true
   pub among : Contains xs x
 
-some_same : {X : Type 0} (x y : X) (P : X → Type 0) → Some x ≡ Some y → P x → P y
-some_same x y P e h = subst P (some_is x y e) h
-
 no_some : {X : Type 0} {P : Type 0} (x : X) → None ≡ Some x → P
 no_some x e = absurd (cc e)
 
-fails_if : {X : Type 0} (p : X → Bool) (y : X) (ys : List X) → (b : Bool) → p y ≡ b → (find p ys ≡ None → All (λ x. p x ≡ false) ys) → (if b then Some y else find p ys) ≡ None → All (λ x. p x ≡ false) (y ∷ ys)
-fails_if p y ys true e rest is = no_some y (sym is)
-fails_if p y ys false e rest is = All-cons (λ x. p x ≡ false) y ys e (rest is)
-
 pub all_fail : {X : Type 0} (p : X → Bool) (xs : List X) → find p xs ≡ None → All (λ x. p x ≡ false) xs
-all_fail p [] is = All-nil (λ x. p x ≡ false)
-all_fail p (y ∷ ys) is = fails_if p y ys (p y) refl (all_fail p ys) is
-
-found_if : {X : Type 0} (p : X → Bool) (y : X) (ys : List X) (x : X) → (b : Bool) → p y ≡ b → (find p ys ≡ Some x → IsFound p ys x) → (if b then Some y else find p ys) ≡ Some x → IsFound p (y ∷ ys) x
-found_if p y ys x true e rest is = some_same y x (λ z. IsFound p (y ∷ ys) z) is (record { passes = e; among = (0, omega arith, refl) })
-found_if p y ys x false e rest is = let h = rest is in record { passes = h.passes; among = Contains-later y ys x h.among }
+all_fail p xs is k d lt = elim (cases_lt (position_or_len p xs) (length xs)) [
+  | inl found ↦ no_some (get_or xs (position_or_len p xs) d) (sym is ∙ find_at p xs ∙ slice_get-get_or xs (position_or_len p xs) d found)
+  | inr past ↦ fails_before_first p xs k d (omega arith)
+]
 
 pub found_some : {X : Type 0} (p : X → Bool) (xs : List X) (x : X) → find p xs ≡ Some x → IsFound p xs x
-found_some p [] x is = no_some x is
-found_some p (y ∷ ys) x is = found_if p y ys x (p y) refl (found_some p ys x) is
+found_some p xs x is =
+    let at = sym (find_at p xs) ∙ is in
+    let within = slice_get_within xs (position_or_len p xs) x at in
+    let there = get_or_from_slice_get xs (position_or_len p xs) x x at in
+    record { passes = subst (λ y. p y ≡ true) there (passes_at_first p xs x within); among = (position_or_len p xs, within, there) }
 
 found_is : {X : Type 0} (p : X → Bool) (xs : List X) (x : X) (o : Option X) → find p xs ≡ o → Contains xs x → p x ≡ true → ((y : X) → IsFound p xs y → y ≡ x) → o ≡ Some x
 found_is p xs x None is among passes only = absurd (true≢false (sym passes ∙ All-contains (λ y. p y ≡ false) xs x (all_fail p xs is) among))
@@ -196,26 +174,20 @@ found_is p xs x (Some y) is among passes only = ap Some (only y (found_some p xs
 pub found_only : {X : Type 0} (p : X → Bool) (xs : List X) (x : X) → Contains xs x → p x ≡ true → ((y : X) → IsFound p xs y → y ≡ x) → find p xs ≡ Some x
 found_only p xs x among passes only = found_is p xs x (find p xs) refl among passes only
 
-same_bytes : (text : List ℕ) → bytes_eq text text ≡ true
-same_bytes text = (bytes_eq-Decides text text).1 refl
-
-other_bytes : (x y : List ℕ) → x ≢ y → bytes_eq x y ≡ false
-other_bytes x y apart = false_from_ne_true (bytes_eq x y) (λ same. apart ((bytes_eq-Decides x y).0 same))
-
 -- the record at a position is the one that its id names
 pub known_again : (file : List Record) (at : ℕ) → HaveDistinctIds file → at < length file → position_of_id (id_at file at) file ≡ Some at
 known_again file at distinct within =
     let here : position_or_len (λ (r : Record). bytes_eq (id_at file at) r.id) file ≡ at =
     position_or_len_is (λ (r : Record). bytes_eq (id_at file at) r.id) file at no_record (omega arith)
-    (λ k lt. other_bytes (id_at file at) (get_or file k no_record).id (λ e. distinct k at no_record lt within (sym e)))
-    (λ lt. same_bytes (id_at file at)) in
+    (λ k lt. false_from_ne_true (bytes_eq (id_at file at) (id_at file k)) (λ same. distinct k at no_record lt within (sym ((bytes_eq-Decides (id_at file at) (id_at file k)).0 same))))
+    (λ lt. (bytes_eq-Decides (id_at file at) (id_at file at)).1 refl) in
     let test : nat_lt at (length file) ≡ true = grind (arith, nat_tests) in
     rw (here, test) refl
 
 -- a record whose id is found stands where it was found
 pub stands_there : (file : List Record) (id : List ℕ) (at found : ℕ) → HaveDistinctIds file → at < length file → id_at file at ≡ id → Some found ≡ position_of_id id file → at ≡ found
 stands_there file id at found distinct within is place =
-    some_is at found (sym (known_again file at distinct within) ∙ ap (λ (t : List ℕ). position_of_id t file) is ∙ sym place)
+    same_Some at found (sym (known_again file at distinct within) ∙ ap (λ (t : List ℕ). position_of_id t file) is ∙ sym place)
 
 module _ (cs : List Candidate) (a b : List Record) (row : Row) (within : All (IsWithin (length a) (length b)) cs) where
   module _ (distinct_a : HaveDistinctIds a) (distinct_b : HaveDistinctIds b) (of_a of_b : ℕ) (is_a : Some of_a ≡ position_of_id (get_or row 0 []) a) (is_b : Some of_b ≡ position_of_id (get_or row 1 []) b) where

@@ -1,35 +1,29 @@
 -- The rows of written files that are verified, and written files with such rows.
-use Rattle.std.proofs.Common.{◌≡◌, ◌<◌, ◌≤◌, ◌≤ℤ◌, ◌+ℤ◌, ◌+◌, ◌==◌, ◌∷◌, ◌++◌, ◌∙◌, ℕ, ℤ, pos, zero, suc, Bool, true, false, List, [], All, length, drop, get_or, if◌then◌else◌, map, Option, Some, None, Ok, Err, refl, sym, ap, subst, arith, bytes_eq, codes, decimal, filter, not, replicate, slice_set, zip}
-use Rattle.std.specs.Ordering.{int_eq}
+use Rattle.std.proofs.Common.{◌≡◌, ◌<◌, ◌≤◌, ◌≤ℤ◌, ◌+ℤ◌, ◌+◌, ◌==◌, ◌∷◌, ◌++◌, ◌∙◌, ℕ, ℤ, pos, zero, suc, Bool, true, false, List, [], All, length, drop, get_or, if◌then◌else◌, map, Option, Some, None, Ok, Err, refl, sym, ap, subst, arith, bytes_eq, codes, decimal, filter, not, replicate, slice_set, zip, int_eq}
 use Rattle.std.proofs.lemmas.Bool.{and_parts, eqb-true, not-false}
 use Rattle.std.proofs.lemmas.Bool.Decides.{Decides-int_eq}
 use Rattle.std.proofs.lemmas.Int.{ints}
 use Rattle.std.proofs.lemmas.List.{append_assoc, append-nil, length-replicate, length-set}
 use Rattle.std.proofs.lemmas.List.Elements.{All-replicate, All-set}
 use Rattle.std.proofs.lemmas.List.Quantifiers.{position-Some}
-use Rattle.std.proofs.lemmas.Option.{cond_some}
+use Rattle.std.proofs.lemmas.Option.{cond_some, same_Some}
 use Rattle.std.proofs.lemmas.Slice.Eq.{bytes_eq-Decides}
-use Rattle.file_reader.specs.Left.{records_in}
-use Rattle.link_base.specs.Answers.{and_then}
-use Rattle.link_base.specs.Standard.{id_at, no_record, position_of_id, Record}
+use Rattle.file_reader.specs.Words.{records_in}
+use Rattle.link_base.specs.Words.{and_then, id_at, no_record, position_of_id, Record}
 use Rattle.link_base.specs.declared.rule.Candidate.{Candidate}
 use Rattle.link_base.specs.declared.rule.RuleCell.{RuleCell}
 use Rattle.link_limits.specs.declared.TheConstants.{MOST_VALUE}
-use Rattle.link_report.specs.PricesText.{is_priced, price_fields, prices_header}
+use Rattle.link_report.specs.LinksText.{is_priced, price_fields, prices_header, cell_fields, rule_header}
 use Rattle.link_report.specs.Reading.{first_misfit, rows_of_prices, rows_under, side_rows}
-use Rattle.link_report.specs.RuleText.{cell_fields, rule_header}
 use Rattle.price_check.specs.Assignment.{IsCovered, price_sum, worth}
 use Rattle.price_check.specs.Law.{GreatestValueIsLeast, PricesAreBoundedByCandidates}
-use Rattle.written_check.proofs.LinkLemmas.{Row, some_is, apart_none, all_fail}
-use Rattle.written_check.proofs.FormLemmas.{same_rows, none_of_none, price_is, came, links_are, ok_is, okay, rows_read, under_fit}
+use Rattle.written_check.proofs.LinkLemmas.{apart_none, all_fail, Row}
+use Rattle.written_check.proofs.FormLemmas.{same_rows, none_of_none, price_is, some_price, came, links_are, ok_is, okay, rows_read, under_fit}
 use Rattle.written_check.proofs.StepLemmas.{small_a, small_b, after_prices, apart_links, covered_so, sums_ok, unless_none}
 use Rattle.written_check.proofs.WrittenLemmas.{DecimalsRead, links_read, no_difference, prices_read}
-use Rattle.written_check.specs.Certified.{balanced, covered_then, first_uncovered, is_covered}
+use Rattle.written_check.specs.Certified.{balanced, covered_then, first_uncovered, is_covered, ArePrices, have_none, no_prices, price_in, priced_at, priced_more, PricePair, prices_in, prices_verified, row_priced, side_priced, with_a, with_b}
 use Rattle.written_check.specs.Laws.{HaveCertifiedRows, RowsAreVerified, VerifiedHaveRows}
-use Rattle.written_check.specs.LinkRows.{apart_verified, links_in, links_verified}
-use Rattle.written_check.specs.PriceRows.{ArePrices, have_none, no_prices, price_in, priced_at, priced_more, PricePair, prices_in, prices_verified, row_priced, side_priced, with_a, with_b}
-use Rattle.written_check.specs.Refuted.{refuted_by, rows_of_file, unless_row}
-use Rattle.written_check.specs.RuleRows.{first_difference, rule_verified}
+use Rattle.written_check.specs.LinkRows.{apart_verified, links_in, links_verified, refuted_by, rows_of_file, unless_row, first_difference, rule_verified}
 use Rattle.written_check.specs.declared.refutation.Refutation.{Refutation}
 use Rattle.written_check.specs.declared.refutation.Refutation.TheVariants as refutation
 
@@ -57,9 +51,6 @@ three (x ∷ y ∷ z ∷ []) e = refl
 three (x ∷ y ∷ z ∷ w ∷ rest) e = absurd (omega (arith, e))
 
 -- ---- the rows of the prices of a side
-
-some_price : (p : ℕ) → 1 ≤ p → int_eq (pos p) (pos 0) ≡ false
-some_price p some = grind (arith, ints)
 
 module _ (side : List ℕ) where
   abbrev told : Bool → ℤ → Record → List ℤ → List Record → List Row
@@ -145,7 +136,7 @@ module _ (a b : List Record) (row : Row) (s more : PricePair) (wide : length row
       let one = side_told (codes "A") a row s.a qs long_a is in
       let last : side_rows (codes "A") qs a ≡ side_rows (codes "A") s.a a ++ row ∷ [] =
       one.rows ∙ ap (λ (r : Row). side_rows (codes "A") s.a a ++ r ∷ []) (whole_row (codes "A") row wide side) in
-      subst (Told a b (row ∷ []) s) (some_is (record { a = qs; b = s.b }) more e)
+      subst (Told a b (row ∷ []) s) (same_Some (record { a = qs; b = s.b }) more e)
       (record { long_a = one.long; long_b = refl; small_a = one.small; small_b = λ h. h; rows = before_none (side_rows (codes "A") s.a a) (side_rows (codes "A") qs a) (side_rows (codes "B") s.b b) row (none_told (codes "B") s.b b none) last })
 
   b_told : (o : Option (List ℤ)) → side_priced b row s.b ≡ o → get_or row 0 [] ≡ codes "B" → with_b s o ≡ Some more → Told a b (row ∷ []) s more
@@ -155,7 +146,7 @@ module _ (a b : List Record) (row : Row) (s more : PricePair) (wide : length row
       let of_a = side_rows (codes "A") s.a a in
       let last : side_rows (codes "B") qs b ≡ side_rows (codes "B") s.b b ++ row ∷ [] =
       one.rows ∙ ap (λ (r : Row). side_rows (codes "B") s.b b ++ r ∷ []) (whole_row (codes "B") row wide side) in
-      subst (Told a b (row ∷ []) s) (some_is (record { a = s.a; b = qs }) more e)
+      subst (Told a b (row ∷ []) s) (same_Some (record { a = s.a; b = qs }) more e)
       (record { long_a = refl; long_b = one.long; small_a = λ h. h; small_b = one.small; rows = ap (λ (rows : List Row). of_a ++ rows) last ∙ sym (append_assoc of_a (side_rows (codes "B") s.b b) (row ∷ [])) })
 
   choice_told : (in_a none in_b : Bool) → bytes_eq (get_or row 0 []) (codes "A") ≡ in_a → have_none s.b ≡ none → bytes_eq (get_or row 0 []) (codes "B") ≡ in_b

@@ -1,7 +1,6 @@
 -- How long written texts are at most.
-use Rattle.std.proofs.Common.{◌≡◌, ◌<◌, ◌≤◌, ◌+◌, ◌*◌, ◌^◌, ◌∷◌, ◌++◌, ℕ, ℤ, pos, negsuc, zero, suc, Bool, true, false, List, [], All, length, get_or, if◌then◌else◌, arith, inl, inr, length-append, ◌==◌, ◌≤ℤ◌, ◌-◌, AllPairs, codes, decimal, filter, neg_ℤ, zip, subst, ◌∙◌, Option, Some, None, Ok, Err, Result, ap, sym, IfOk, IfSome, ◌+ℤ◌, refl, find, not}
+use Rattle.std.proofs.Common.{◌≡◌, ◌<◌, ◌≤◌, ◌+◌, ◌*◌, ◌^◌, ◌∷◌, ◌++◌, ℕ, ℤ, pos, negsuc, zero, suc, Bool, true, false, List, [], All, length, get_or, if◌then◌else◌, arith, inl, inr, length-append, ◌==◌, ◌≤ℤ◌, ◌-◌, AllPairs, codes, decimal, filter, neg_ℤ, zip, subst, ◌∙◌, Option, Ok, Result, ap, sym, IfOk, IfSome, ◌+ℤ◌, Some, None, Err, refl, find, not, slice_get, flat_map, int_eq}
 use Rattle.std.specs.Fmt.{signed_decimal}
-use Rattle.std.specs.List.{flat_map}
 use Rattle.std.proofs.lemmas.Fmt.{length-decimal-le, length_signed_le}
 use Rattle.std.proofs.lemmas.Int.{ints}
 use Rattle.std.proofs.lemmas.List.FromFn.{length-map-range_with_len}
@@ -9,30 +8,27 @@ use Rattle.std.proofs.lemmas.List.Elements.{All-contains, All-head, All-tail, Al
 use Rattle.csv.specs.Writing.{default_writer, escaped, field_text, fields_text, is_blank, needs_quotes, quoted, row_body, row_text}
 use Rattle.csv.specs.declared.writer.WriterBuilder.{WriterBuilder}
 use Rattle.price_check.specs.Assignment.{IsBefore, IsOneToOne, IsWithin, SharesNoRecord, Certifies, greatest_value, IsCovered, price_sum, worth}
-use Rattle.link_base.specs.Standard.{id_at, no_record, Record}
+use Rattle.link_base.specs.Words.{id_at, no_record, Record, and_then, RefusesBut}
 use Rattle.link_base.specs.declared.rule.Candidate.{Candidate}
 use Rattle.link_base.specs.declared.rule.RuleCell.{RuleCell}
 use Rattle.link_limits.specs.declared.TheConstants.{MOST_VALUE, MOST_WRITTEN_BYTES, WHOLE_RULE}
-use Rattle.link_report.specs.LinksText.{link_fields, link_row, links_header, source_of_link, text_of_links}
-use Rattle.link_report.specs.PricesText.{is_priced, price_fields, price_row, price_rows, prices_header, text_of_prices}
-use Rattle.link_report.specs.RuleText.{cell_fields, cell_row, outcome_letter, outcome_letters, rule_header, text_of_rule}
-use Rattle.patterns.specs.Shapes.{outcome_at}
+use Rattle.link_report.specs.LinksText.{link_fields, link_row, links_header, source_of_link, text_of_links, is_priced, price_fields, price_row, price_rows, prices_header, text_of_prices, cell_fields, cell_row, outcome_letter, outcome_letters, rule_header, text_of_rule}
+use Rattle.patterns.specs.Patterns.{outcome_at}
 use Rattle.price_check.specs.Verdict.{HasAllowedValue, IsFirstBad}
-use Rattle.written_check.specs.PriceRows.{ArePrices, PricePair, prices_verified}
-use Rattle.written_check.specs.Short.{AreSmallCells, HasAllowedWeight, HasShortId, IsSmallCell, IsSmallFile}
+use Rattle.written_check.specs.Certified.{ArePrices, PricePair, prices_verified, sums_verified, balanced, covered_then, first_uncovered, is_covered, pair_of}
+use Rattle.written_check.specs.Laws.{AreSmallCells, HasAllowedWeight, HasShortId, IsSmallCell, IsSmallFile}
 use Rattle.std.proofs.lemmas.List.{get_or_default}
 use Rattle.price_check.specs.Law.{GreatestValueIsLeast, PricesAreBoundedByCandidates}
-use Rattle.link_base.specs.Answers.{and_then, RefusesBut}
-use Rattle.written_check.specs.Certified.{sums_verified, balanced, covered_then, first_uncovered, is_covered, pair_of}
-use Rattle.written_check.specs.LinkRows.{apart_verified, links_verified, first_reused}
-use Rattle.written_check.specs.Refuted.{is_want, unless_row}
-use Rattle.written_check.specs.RuleRows.{rule_verified}
+use Rattle.std.proofs.lemmas.Option.{IfSome_then, slice_get-get_or}
+use Rattle.std.proofs.lemmas.Result.{IfOk-weaker}
+use Rattle.written_check.specs.LinkRows.{apart_verified, links_verified, first_reused, is_want, unless_row, rule_verified}
 use Rattle.written_check.specs.Verified.{verified, WrittenTexts}
 use Rattle.written_check.specs.declared.refutation.Refutation.{Refutation}
 use Rattle.written_check.specs.declared.refutation.Refutation.TheVariants as refutation
-use Rattle.std.specs.Ordering.{int_eq}
 use Rattle.std.proofs.lemmas.Bool.{false_from_ne_true}
 use Rattle.std.proofs.lemmas.Bool.Decides.{Decides-int_eq}
+use Rattle.std.proofs.lemmas.List.Folds.{find_at}
+use Rattle.std.proofs.lemmas.List.Sums.{position_or_len_is}
 use Rattle.written_check.proofs.LinkLemmas.{apart_all, found_none}
 
 -- each byte of a field is written twice at most, and the field stands between two quotes at most
@@ -255,9 +251,7 @@ module _ (rares : List Bool) (cells : List RuleCell) (cs : List Candidate) (a b 
 
 -- what follows for what is given, where something is
 pub given_weaker : {X E : Type 0} (r : Result (Option X) E) (P Q : X → Type 0) → ((x : X) → P x → Q x) → IfOk r (λ given. IfSome given P) → IfOk r (λ given. IfSome given Q)
-given_weaker (Ok (Some x)) P Q follows h = follows x h
-given_weaker (Ok None) P Q follows h = tt
-given_weaker (Err e) P Q follows h = tt
+given_weaker r P Q follows h = IfOk-weaker r (λ given. IfSome given P) (λ given. IfSome given Q) (λ given some. IfSome_then given some follows) h
 
 -- What the sums of links and prices come to.
 
@@ -272,15 +266,8 @@ all_covered : (cs : List Candidate) (prices : PricePair) → All (IsCovered pric
 all_covered cs prices all = found_none (λ c. not (is_covered prices.a prices.b c)) cs (λ k d lt. ap not (so_covered prices.a prices.b (get_or cs k d) (all k d lt)))
 
 -- the first that passes
-first_if : {X : Type 0} (p : X → Bool) (x : X) (xs : List X) (i : ℕ) (d : X) → i < length (x ∷ xs) → ((k : ℕ) → k < i → p (get_or (x ∷ xs) k d) ≡ false) → p (get_or (x ∷ xs) i d) ≡ true
-    → ((j : ℕ) → j < length xs → ((k : ℕ) → k < j → p (get_or xs k d) ≡ false) → p (get_or xs j d) ≡ true → find p xs ≡ Some (get_or xs j d))
-    → find p (x ∷ xs) ≡ Some (get_or (x ∷ xs) i d)
-first_if p x xs zero d lt below here go = rw here refl
-first_if p x xs (suc i) d lt below here go = rw (below 0 (omega arith)) (go i (omega (arith, lt)) (λ k less. below (suc k) (omega (arith, less))) here)
-
 first_found : {X : Type 0} (p : X → Bool) (xs : List X) (i : ℕ) (d : X) → i < length xs → ((k : ℕ) → k < i → p (get_or xs k d) ≡ false) → p (get_or xs i d) ≡ true → find p xs ≡ Some (get_or xs i d)
-first_found p [] i d lt below here = absurd (omega (arith, lt))
-first_found p (x ∷ xs) i d lt below here = first_if p x xs i d lt below here (λ j. first_found p xs j d)
+first_found p xs i d lt below here = find_at p xs ∙ ap (slice_get xs) (position_or_len_is p xs i d (omega arith) below (λ _. here)) ∙ slice_get-get_or xs i d lt
 
 first_not_covered : (cs : List Candidate) (prices : PricePair) (i : ℕ) (d : Candidate) → IsFirstBad (IsCovered prices.a prices.b) cs (Some i) → first_uncovered cs prices ≡ Some (get_or cs i d)
 first_not_covered cs prices i d h =

@@ -1,29 +1,26 @@
 -- What a run writes is verified.
-use Rattle.std.proofs.Common.{◌≡◌, ◌<◌, ◌≤◌, ◌≤ℤ◌, ◌+◌, ◌^◌, ◌∷◌, ◌++◌, ◌∙◌, ℕ, ℤ, pos, negsuc, zero, suc, Bool, true, false, List, [], All, length, drop, get_or, if◌then◌else◌, map, Option, Some, None, Ok, refl, sym, ap, subst, arith, length-append, ◌&&◌, AllPairs, codes, Contains, decimal, filter, nat_le, not, replicate, slice_set, zip}
+use Rattle.std.proofs.Common.{◌≡◌, ◌<◌, ◌≤◌, ◌≤ℤ◌, ◌+◌, ◌^◌, ◌∷◌, ◌++◌, ◌∙◌, ℕ, ℤ, pos, negsuc, zero, suc, Bool, true, false, List, [], All, length, drop, get_or, if◌then◌else◌, map, Option, Some, None, Ok, refl, sym, ap, subst, arith, length-append, ◌&&◌, AllPairs, codes, Contains, decimal, filter, nat_le, not, replicate, slice_set, zip, int_eq}
 use Rattle.std.specs.Fmt.{signed_decimal}
 use Rattle.std.specs.List.{list_all}
-use Rattle.std.specs.Ordering.{int_eq}
 use Rattle.std.proofs.Math.Seq.{drop-append_seam, get_or-append_seam, set-append_seam}
 use Rattle.std.proofs.lemmas.Bool.Decides.{Decides-int_eq, nat_tests}
 use Rattle.std.proofs.lemmas.Int.{ints}
 use Rattle.std.proofs.lemmas.List.{append_assoc, append-nil, get_or_append_left}
 use Rattle.std.proofs.lemmas.List.Elements.{All-contains, All-head, All-tail}
 use Rattle.std.proofs.lemmas.List.Sums.{list_all-from_AllPass}
-use Rattle.price_check.specs.CandidateLaws.{same_member}
+use Rattle.std.proofs.lemmas.Option.{same_Some}
+use Rattle.price_check.specs.PlaceLaws.{same_member}
 use Rattle.price_check.specs.Assignment.{IsBefore, IsWithin}
 use Rattle.csv_rows.specs.Numbers.{is_decimal, number_in}
-use Rattle.link_base.specs.Standard.{HaveDistinctIds, id_at, no_record, position_of_id, Record}
+use Rattle.link_base.specs.Words.{HaveDistinctIds, id_at, no_record, position_of_id, Record}
 use Rattle.link_base.specs.declared.rule.Candidate.{Candidate}
 use Rattle.link_limits.specs.declared.TheConstants.{MOST_VALUE}
-use Rattle.link_report.specs.ReadingLaws.{same_itself, row_same}
-use Rattle.link_report.specs.LinksText.{link_fields}
-use Rattle.link_report.specs.PricesText.{is_priced, price_fields}
-use Rattle.link_report.specs.Reading.{rows_of_prices, same_row, side_rows}
-use Rattle.written_check.proofs.LinkLemmas.{Row, some_is, before_so, found_only, IsFound, known_again}
+use Rattle.link_report.specs.Reading.{same_itself, row_same, rows_of_prices, same_row, side_rows}
+use Rattle.link_report.specs.LinksText.{link_fields, is_priced, price_fields}
+use Rattle.written_check.proofs.LinkLemmas.{before_so, found_only, IsFound, known_again, Row}
 use Rattle.written_check.proofs.FormLemmas.{none_of_none}
-use Rattle.written_check.specs.LinkRows.{after_all, candidate_in, goes_before, links_in, taken_more}
-use Rattle.written_check.specs.PriceRows.{ArePrices, have_none, no_prices, price_in, priced_at, priced_more, PricePair, prices_in, row_priced, side_priced, with_a, with_b}
-use Rattle.written_check.specs.RuleRows.{first_difference}
+use Rattle.written_check.specs.LinkRows.{after_all, candidate_in, goes_before, links_in, taken_more, first_difference}
+use Rattle.written_check.specs.Certified.{ArePrices, have_none, no_prices, price_in, priced_at, priced_more, PricePair, prices_in, row_priced, side_priced, with_a, with_b}
 
 -- rows do not differ from themselves
 pub no_difference : (number : ℕ) (rows : List Row) → first_difference number rows rows ≡ None
@@ -32,7 +29,7 @@ no_difference number (row ∷ rows) = rw (same_itself row) (no_difference (numbe
 
 -- a record is known by its id
 known_at : (file : List Record) (i j : ℕ) → HaveDistinctIds file → i < length file → j < length file → id_at file i ≡ id_at file j → i ≡ j
-known_at file i j distinct in_i in_j e = some_is i j (sym (known_again file i distinct in_i) ∙ ap (λ (t : List ℕ). position_of_id t file) e ∙ known_again file j distinct in_j)
+known_at file i j distinct in_i in_j e = same_Some i j (sym (known_again file i distinct in_i) ∙ ap (λ (t : List ℕ). position_of_id t file) e ∙ known_again file j distinct in_j)
 
 module _ (cs : List Candidate) (a b : List Record) (distinct_a : HaveDistinctIds a) (distinct_b : HaveDistinctIds b) (rising : AllPairs IsBefore cs) (within : All (IsWithin (length a) (length b)) cs) where
   -- the row of a candidate is its own
@@ -152,7 +149,7 @@ module _ (a b : List Record) (rest : List Row) (side : List ℕ) (file : List Re
 
   rows_read : (number : ℕ) (ps : List ℤ) (xs : List (ℤ × Record)) (qs : List ℤ) → side_all file (map (price_fields side) xs) ps ≡ Some qs
       → ReadsOn a b number (put ps) (map (price_fields side) xs) (put qs) rest
-  rows_read number ps [] qs e = record { last = number; same = ap (λ (more : List ℤ). prices_in a b number (put more) rest) (some_is ps qs e) }
+  rows_read number ps [] qs e = record { last = number; same = ap (λ (more : List ℤ). prices_in a b number (put more) rest) (same_Some ps qs e) }
   rows_read number ps (x ∷ xs) qs e = row_read number ps x xs qs (side_priced file (price_fields side x) ps) refl (λ more f. rows_read (number + 1) more xs qs f) e
 
 -- the rows of prices are read as these prices

@@ -1,16 +1,51 @@
 -- What refutes written links: the first row that is not that of a candidate after those before it (`verify_links`, clause `answer`), and
 -- then the first link with a record of an earlier one (`verify_apart`, clause `answer`).
-use Rattle.std.specs.Prelude.{◌≡◌, ◌==◌, ◌&&◌, ◌||◌, ◌+◌, ◌<◌, ℕ, All, Bool, true, List, [], ◌∷◌, ◌++◌, bytes_eq, find, if◌then◌else◌, length, MatchOption, nat_lt, Option, Some, None, Result, Ok, Err, slice_index_or}
+use Rattle.std.specs.Prelude.{◌<◌, ℕ, Bool, true, false, List, Option, Some, None, Result, Ok, Err, ⊤, ◌≡◌, ◌==◌, ◌&&◌, ◌||◌, ◌+◌, All, [], ◌∷◌, ◌++◌, bytes_eq, find, if◌then◌else◌, length, MatchOption, nat_lt, slice_index_or, map}
+use Rattle.file_reader.specs.Words.{records_in}
+use Rattle.link_base.specs.Words.{GivesBut, and_then, id_at, Record}
+use Rattle.link_report.specs.Reading.{rows_under, same_row}
+use Rattle.written_check.specs.declared.refutation.Refutation.{Refutation}
 use Rattle.std.specs.List.{list_all, list_any}
 use Rattle.price_check.specs.Assignment.{no_candidate}
-use Rattle.link_base.specs.Answers.{and_then}
-use Rattle.link_base.specs.Standard.{id_at, Record}
 use Rattle.link_base.specs.declared.rule.Candidate.{Candidate}
-use Rattle.link_report.specs.LinksText.{link_fields, links_header}
-use Rattle.link_report.specs.Reading.{same_row}
-use Rattle.written_check.specs.Refuted.{rows_of_file, unless_row}
-use Rattle.written_check.specs.declared.refutation.Refutation.{Refutation}
+use Rattle.link_report.specs.LinksText.{link_fields, links_header, cell_fields, rule_header}
+use Rattle.link_base.specs.declared.rule.RuleCell.{RuleCell}
 use Rattle.written_check.specs.declared.refutation.Refutation.TheVariants as refutation
+
+-- Answers that are as defined, but for want of memory, and what refutes the form of a file (`verify_written`, clauses `answer` and
+-- `within`).
+
+-- want of memory refutes nothing
+abbrev pub is_want : Refutation → Bool
+is_want refutation.NoMemory = true
+is_want r = false
+
+-- an answer, seen by a view, is as defined, but for want of memory
+abbrev pub Verifies : {X T : Type 0} → (X → T) → Result T Refutation → Result X Refutation → Type 0
+Verifies view expected result = GivesBut is_want view expected result
+
+-- what was found, or what the number of a row refutes
+abbrev pub refuted_by : {T : Type 0} → (ℕ → Refutation) → Result T ℕ → Result T Refutation
+refuted_by refutes (Ok x) = Ok x
+refuted_by refutes (Err number) = Err (refutes number)
+
+abbrev pub unless_row : {T : Type 0} → (ℕ → Refutation) → T → Option ℕ → Result T Refutation
+unless_row refutes x None = Ok x
+unless_row refutes x (Some number) = Err (refutes number)
+
+-- the rows of a file under its header: its form comes before what its rows hold
+abbrev pub rows_of_file : (ℕ → Refutation) → List (List ℕ) → List ℕ → Result (List (List (List ℕ))) Refutation
+rows_of_file refutes header text = refuted_by refutes (rows_under header (records_in 44 text))
+
+-- machinery of the steps: a reason of the rows of a file (clauses `kind`)
+abbrev pub IsOfRows : Refutation → Type 0
+IsOfRows (refutation.Uncovered at) = ⊥
+IsOfRows r = ⊤
+
+-- a candidate that is named has records of both files
+abbrev pub IsRefutationWithin : ℕ → ℕ → Refutation → Type 0
+IsRefutationWithin rows_a rows_b (refutation.Uncovered at) = (at.a < rows_a) × (at.b < rows_b)
+IsRefutationWithin rows_a rows_b r = ⊤
 
 -- the candidate whose row this is, if there is one
 abbrev pub candidate_in : List Candidate → List Record → List Record → List (List ℕ) → Option Candidate
@@ -74,3 +109,22 @@ IsPlaceOf candidates a b row place = MatchOption place
 abbrev pub at_place : List Candidate → Option ℕ → Option Candidate
 at_place candidates None = None
 at_place candidates (Some k) = Some (slice_index_or candidates k no_candidate)
+
+-- What refutes a written rule: its first row that is not the row of its cell (`verify_rule`, clause `answer`).
+
+-- the number of the first row, counted from `number` on, that is not the one that is wanted in its place, is missing, or is one too many
+abbrev pub first_difference : ℕ → List (List (List ℕ)) → List (List (List ℕ)) → Option ℕ
+first_difference number [] [] = None
+first_difference number [] (w ∷ wanted) = Some number
+first_difference number (row ∷ rows) [] = Some number
+first_difference number (row ∷ rows) (w ∷ wanted) = if same_row row w then first_difference (number + 1) rows wanted else Some number
+
+-- a written rule whose rows are those of the cells, in their order
+abbrev pub rule_verified : List Bool → List RuleCell → List ℕ → Result (List ℕ) Refutation
+rule_verified rares cells text =
+    and_then (rows_of_file refutation.Rule rule_header text) (λ rows. unless_row refutation.Rule text (first_difference 1 rows (map (cell_fields rares) cells)))
+
+-- machinery: a call takes the next row, and says whether there was one and it is the one that is wanted
+abbrev pub TakesCellRow : List (List ℕ) → List (List (List ℕ)) → List (List (List ℕ)) → Bool → Type 0
+TakesCellRow wanted [] new takes = (takes ≡ false) × (new ≡ [])
+TakesCellRow wanted (row ∷ rows) new takes = (takes ≡ same_row row wanted) × (new ≡ rows)

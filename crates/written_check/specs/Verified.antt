@@ -2,14 +2,11 @@
 -- uncovered, sum (`verify_written`, clause `answer`). The laws `written_is_verified` and `verified_is_greatest` say that it is the right
 -- question.
 use Rattle.std.specs.Prelude.{ℕ, Bool, List, Result}
-use Rattle.link_base.specs.Answers.{and_then}
-use Rattle.link_base.specs.Standard.{Record}
+use Rattle.link_base.specs.Words.{and_then, Record}
 use Rattle.link_base.specs.declared.rule.Candidate.{Candidate}
 use Rattle.link_base.specs.declared.rule.RuleCell.{RuleCell}
-use Rattle.written_check.specs.Certified.{sums_verified}
-use Rattle.written_check.specs.LinkRows.{apart_verified, links_verified}
-use Rattle.written_check.specs.PriceRows.{prices_verified}
-use Rattle.written_check.specs.RuleRows.{rule_verified}
+use Rattle.written_check.specs.Certified.{sums_verified, prices_verified}
+use Rattle.written_check.specs.LinkRows.{apart_verified, links_verified, rule_verified}
 use Rattle.written_check.specs.declared.refutation.Refutation.{Refutation}
 use Rattle.written_check.specs.declared.written.Written.{Written}
 

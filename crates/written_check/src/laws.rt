@@ -1,6 +1,5 @@
 // The laws of verified files.
-ghost use Rattle.written_check.specs.Laws.{RowsAreVerified, VerifiedHaveRows, VerifiedIsGreatest, WrittenIsVerified};
-ghost use Rattle.written_check.specs.Short.{WrittenIsShort};
+ghost use Rattle.written_check.specs.Laws.{RowsAreVerified, VerifiedHaveRows, VerifiedIsGreatest, WrittenIsVerified, WrittenIsShort};
 
 use csv_rows::decimals_are_read;
 use link_base::distinct_ids;

@@ -5,8 +5,7 @@ ghost use Rattle.price_check.specs.Assignment.{IsBefore, IsWithin};
 ghost use Rattle.csv.specs.Records.{fields_of};
 ghost use Rattle.link_report.specs.LinksText.{link_fields};
 ghost use Rattle.link_report.specs.Reading.{same_row};
-ghost use Rattle.written_check.specs.LinkRows.{IsPlaceOf, IsPlaceWithIds, after_all, at_place, candidate_in, has_ids, goes_before, links_in, links_verified};
-ghost use Rattle.written_check.specs.Refuted.{IsOfRows, Verifies};
+ghost use Rattle.written_check.specs.LinkRows.{IsPlaceOf, IsPlaceWithIds, after_all, at_place, candidate_in, has_ids, goes_before, links_in, links_verified, IsOfRows, Verifies};
 
 use crate::refutation::{Refutation, unless_refuted};
 use csv::ByteRecord;
@@ -83,29 +82,6 @@ fn place_of(
     candidate_at(candidates, PairAt { a: of_a, b: of_b })
 }
 
-// The place of the candidate whose row this is, which is likely to be one of those from a place on.
-fn place_of_row(
-    row: &ByteRecord,
-    candidates: &[Candidate],
-    from: usize,
-    a: &StdFile,
-    b: &StdFile,
-) -> Option<usize>
-    requires rising { AllPairs IsBefore candidates.now }
-    requires within { All (IsWithin (length a.now) (length b.now)) candidates.now }
-    ensures candidate { at_place candidates.now result ≡ candidate_in candidates.now a.now b.now (fields_of row.now) }
-    ensures within { IfSome result (λ place. place < length candidates.now) }
-{
-    let Some(place) = place_of(row, candidates, from, a, b) else {
-        return None;
-    };
-    if is_row_of(row, candidates[place], a, b) {
-        Some(place)
-    } else {
-        None
-    }
-}
-
 // Whether one candidate stands before another.
 fn stands_before(x: Candidate, y: Candidate) -> bool
     ensures { result ≡ goes_before x y }
@@ -124,7 +100,7 @@ fn stands_after(taken: &[Candidate], c: Candidate) -> bool
     }
 }
 
-// The place of the candidate of a row that stands after those that were taken.
+// The place of the candidate of a row that stands after those that were taken, which is likely to be one of those from a place on.
 fn next_link(
     row: &ByteRecord,
     taken: &[Candidate],
@@ -139,10 +115,17 @@ fn next_link(
     ensures candidate { at_place candidates.now result ≡ after_all taken.now (candidate_in candidates.now a.now b.now (fields_of row.now)) }
     ensures within { IfSome result (λ place. place < length candidates.now) }
 {
-    match place_of_row(row, candidates, from, a, b) {
-        Some(place) if stands_after(taken, candidates[place]) => Some(place),
-        _ => None,
+    let Some(place) = place_of(row, candidates, from, a, b) else {
+        return None;
+    };
+    let c = candidates[place];
+    if !is_row_of(row, c, a, b) {
+        return None;
     }
+    if !stands_after(taken, c) {
+        return None;
+    }
+    Some(place)
 }
 
 // The candidates of the rows that are left. Links rise, so that the next is sought from the last on.
@@ -193,27 +176,8 @@ fn links_in_order(
     unless_refuted(links_of_rows(alloc, &mut rows, candidates, a, b))
 }
 
-// The links of a text whose form is tested before its rows, as reasons go.
-fn links_by_form(
-    alloc: Global,
-    text: &[u8],
-    candidates: &[Candidate],
-    a: &StdFile,
-    b: &StdFile,
-) -> Result<Vec<Candidate>, Refutation>
-    requires few { length text.now + 1 < 2 ^ 32 }
-    requires rising { AllPairs IsBefore candidates.now }
-    requires within { All (IsWithin (length a.now) (length b.now)) candidates.now }
-    ensures kind { IfErr result IsOfRows }
-    ensures answer { Verifies (λ links. links.items) (links_verified candidates.now a.now b.now text.now) result }
-{
-    match read_rows(alloc, text, &LINKS_HEADER)? {
-        ReadRows::Rows(mut rows) => links_of_rows(alloc, &mut rows, candidates, a, b),
-        ReadRows::Bad { row } => Err(Refutation::Link { row }),
-    }
-}
-
-// Verifies the text of links, and gives them.
+// Verifies the text of links, and gives them: in one pass where all rows are taken, and else with the form tested before the rows, as
+// reasons go.
 pub(crate) fn verify_links(
     alloc: Global,
     text: &[u8],
@@ -230,5 +194,8 @@ pub(crate) fn verify_links(
     if let Some(links) = links_in_order(alloc, text, candidates, a, b)? {
         return Ok(links);
     }
-    links_by_form(alloc, text, candidates, a, b)
+    match read_rows(alloc, text, &LINKS_HEADER)? {
+        ReadRows::Rows(mut rows) => links_of_rows(alloc, &mut rows, candidates, a, b),
+        ReadRows::Bad { row } => Err(Refutation::Link { row }),
+    }
 }

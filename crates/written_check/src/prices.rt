@@ -2,9 +2,9 @@
 ghost use Rattle.std.specs.Prelude.{◌≡◌, ◌+◌, ◌<◌, ◌^◌, IfErr, IfOk, IfSome, MatchBool, None, Ok, Some, length, pos, replicate};
 ghost use Rattle.csv.specs.Records.{fields_of};
 ghost use Rattle.link_report.specs.Reading.{first_misfit};
-ghost use Rattle.written_check.specs.PriceRows.{have_none, no_prices, price_in, prices_in, prices_verified, row_priced, side_priced};
+ghost use Rattle.written_check.specs.Certified.{have_none, no_prices, price_in, prices_in, prices_verified, row_priced, side_priced};
 ghost use Rattle.written_check.specs.PricesSeen.{prices_seen};
-ghost use Rattle.written_check.specs.Refuted.{IsOfRows, Verifies};
+ghost use Rattle.written_check.specs.LinkRows.{IsOfRows, Verifies};
 
 use crate::near::position_near;
 use crate::refutation::{Refutation, unless_refuted};
@@ -29,7 +29,7 @@ pub(crate) struct SidePrices {
 
 impl Model for SidePrices {
     ghost use Rattle.std.specs.Prelude.{List, ℤ};
-    ghost use Rattle.written_check.specs.PriceRows.{IsReadTo};
+    ghost use Rattle.written_check.specs.Certified.{IsReadTo};
 
     ghost Value = { List ℤ };
 
@@ -115,41 +115,6 @@ fn take_row(prices: &mut Prices, row: &ByteRecord, a: &StdFile, b: &StdFile) -> 
     side == b"B".as_slice() && prices.b.take(b, row)
 }
 
-// Takes the prices of the rows that are left, each of which has the fields of a price.
-fn take_rows(
-    alloc: Global,
-    prices: &mut Prices,
-    rows: &mut Records<'_>,
-    a: &StdFile,
-    b: &StdFile,
-) -> Result<(), Refutation>
-    requires few { length rows.old + 1 < 2 ^ 32 }
-    requires of_a { length prices.old.a ≡ length a.now }
-    requires of_b { length prices.old.b ≡ length b.now }
-    ensures kind { IfErr result IsOfRows }
-    ensures form { IfOk result (λ _. first_misfit PRICE_FIELDS 1 rows.old ≡ None) }
-    ensures answer { first_misfit PRICE_FIELDS 1 rows.old ≡ None → Verifies (λ _. prices_seen prices.new) (prices_in a.now b.now 1 (prices_seen prices.old) rows.old) result }
-{
-    let mut row = ByteRecord::new(alloc);
-    let mut number = 1;
-    'rows: while rows.next(&mut row)? {
-        if row.len() != PRICE_FIELDS || !take_row(prices, &row, a, b) {
-            return Err(Refutation::Price { row: number });
-        }
-        number += 1;
-    }
-    Ok(())
-}
-
-// No prices of the records of both files.
-fn no_prices_of(alloc: Global, a: &StdFile, b: &StdFile) -> Result<Prices, NoMemory>
-    ensures { IfOk result (λ prices. prices_seen prices ≡ no_prices a.now b.now) }
-{
-    let of_a = SidePrices::new(alloc, a.rows())?;
-    let of_b = SidePrices::new(alloc, b.rows())?;
-    Ok(Prices { a: of_a, b: of_b })
-}
-
 // The prices of the rows that are left, of which the first has the number 1.
 fn prices_of_rows(
     alloc: Global,
@@ -162,11 +127,19 @@ fn prices_of_rows(
     ensures form { IfOk result (λ _. first_misfit PRICE_FIELDS 1 rows.old ≡ None) }
     ensures answer { first_misfit PRICE_FIELDS 1 rows.old ≡ None → Verifies prices_seen (prices_in a.now b.now 1 (no_prices a.now b.now) rows.old) result }
 {
-    let mut prices = no_prices_of(alloc, a, b)?;
-    match take_rows(alloc, &mut prices, rows, a, b) {
-        Ok(()) => Ok(prices),
-        Err(refutation) => Err(refutation),
+    let mut prices = Prices {
+        a: SidePrices::new(alloc, a.rows())?,
+        b: SidePrices::new(alloc, b.rows())?,
+    };
+    let mut row = ByteRecord::new(alloc);
+    let mut number = 1;
+    'rows: while rows.next(&mut row)? {
+        if row.len() != PRICE_FIELDS || !take_row(&mut prices, &row, a, b) {
+            return Err(Refutation::Price { row: number });
+        }
+        number += 1;
     }
+    Ok(prices)
 }
 
 // The prices of a text whose rows are all taken, in one pass.
@@ -185,24 +158,8 @@ fn prices_in_order(
     unless_refuted(prices_of_rows(alloc, &mut rows, a, b))
 }
 
-// The prices of a text whose form is tested before its rows, as reasons go.
-fn prices_by_form(
-    alloc: Global,
-    text: &[u8],
-    a: &StdFile,
-    b: &StdFile,
-) -> Result<Prices, Refutation>
-    requires few { length text.now + 1 < 2 ^ 32 }
-    ensures kind { IfErr result IsOfRows }
-    ensures answer { Verifies prices_seen (prices_verified a.now b.now text.now) result }
-{
-    match read_rows(alloc, text, &PRICES_HEADER)? {
-        ReadRows::Rows(mut rows) => prices_of_rows(alloc, &mut rows, a, b),
-        ReadRows::Bad { row } => Err(Refutation::Price { row }),
-    }
-}
-
-// Verifies the text of prices, and gives them.
+// Verifies the text of prices, and gives them: in one pass where all rows are taken, and else with the form tested before the rows,
+// as reasons go.
 pub(crate) fn verify_prices(
     alloc: Global,
     text: &[u8],
@@ -216,5 +173,8 @@ pub(crate) fn verify_prices(
     if let Some(prices) = prices_in_order(alloc, text, a, b)? {
         return Ok(prices);
     }
-    prices_by_form(alloc, text, a, b)
+    match read_rows(alloc, text, &PRICES_HEADER)? {
+        ReadRows::Rows(mut rows) => prices_of_rows(alloc, &mut rows, a, b),
+        ReadRows::Bad { row } => Err(Refutation::Price { row }),
+    }
 }

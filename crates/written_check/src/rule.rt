@@ -4,11 +4,9 @@ ghost use Rattle.csv.specs.Records.{fields_of};
 ghost use Rattle.link_base.specs.Rule.{IsWithinRanges};
 ghost use Rattle.link_base.specs.declared.rule.RuleCell.{RuleCell as Cell};
 ghost use Rattle.link_report.specs.Reading.{same_row};
-ghost use Rattle.link_report.specs.RuleText.{cell_fields, outcome_letters};
-ghost use Rattle.patterns.specs.Shapes.{pattern_count_by, rare_of};
-ghost use Rattle.written_check.specs.Refuted.{IsOfRows, Verifies, unless_row};
-ghost use Rattle.written_check.specs.declared.refutation.Refutation.TheVariants as refutation;
-ghost use Rattle.written_check.specs.RuleRows.{TakesCellRow, first_difference, rule_verified};
+ghost use Rattle.link_report.specs.LinksText.{cell_fields, outcome_letters};
+ghost use Rattle.patterns.specs.Patterns.{pattern_count_by, rare_of};
+ghost use Rattle.written_check.specs.LinkRows.{IsOfRows, Verifies, TakesCellRow, first_difference, rule_verified};
 
 use crate::refutation::Refutation;
 use csv::ByteRecord;
@@ -47,23 +45,6 @@ fn has_fields_of(row: &ByteRecord, letters: &[u8], cell: &RuleCell) -> bool
     has_fields(row, &fields)
 }
 
-// Whether a row is that of a cell.
-fn is_row_of(
-    alloc: Global,
-    row: &ByteRecord,
-    cell: &RuleCell,
-    shape: &Shape,
-) -> Result<bool, NoMemory>
-    requires shape { cell.now.pattern < pattern_count_by (rare_of shape.now) }
-    requires ranges { IsWithinRanges cell.now }
-    ensures { IfOk result (λ is. is ≡ same_row (fields_of row.now) (cell_fields (rare_of shape.now) cell.now)) }
-{
-    let outcomes = letters_of(alloc, shape, cell.pattern)?;
-    let is = has_fields_of(row, &outcomes, cell);
-    drop(outcomes);
-    Ok(is)
-}
-
 // Whether the next of the rows that are left is that of a cell.
 fn takes_row_of(
     alloc: Global,
@@ -79,7 +60,8 @@ fn takes_row_of(
     if !rows.next(row)? {
         return Ok(false);
     }
-    is_row_of(alloc, row, cell, shape)
+    let outcomes = letters_of(alloc, shape, cell.pattern)?;
+    Ok(has_fields_of(row, &outcomes, cell))
 }
 
 // The first row that is not that of its cell, by its number.
@@ -124,25 +106,8 @@ fn is_rule_in_order(
     }
 }
 
-// The first row of the text of a rule that is not as it must be, by its number. The form of the text is tested before its rows, as
+// Verifies the text of a rule: in one pass where it has the rows of the cells, and else with the form tested before the rows, as
 // reasons go.
-fn difference_by_form(
-    alloc: Global,
-    text: &[u8],
-    table: &RuleTable,
-    shape: &Shape,
-) -> Result<Option<u32>, NoMemory>
-    requires few { length text.now + 1 < 2 ^ 32 }
-    requires shape { All (λ (c : Cell). c.pattern < pattern_count_by (rare_of shape.now)) table.now.cells.items }
-    ensures { IfOk result (λ number. unless_row refutation.Rule text.now number ≡ rule_verified (rare_of shape.now) table.now.cells.items text.now) }
-{
-    match read_rows(alloc, text, &RULE_HEADER)? {
-        ReadRows::Rows(mut rows) => difference_in(alloc, &mut rows, table, shape),
-        ReadRows::Bad { row } => Ok(Some(row)),
-    }
-}
-
-// Verifies the text of a rule.
 pub(crate) fn verify_rule(
     alloc: Global,
     text: &[u8],
@@ -157,8 +122,11 @@ pub(crate) fn verify_rule(
     if is_rule_in_order(alloc, text, table, shape)? {
         return Ok(());
     }
-    match difference_by_form(alloc, text, table, shape)? {
-        Some(row) => Err(Refutation::Rule { row }),
-        None => Ok(()),
+    match read_rows(alloc, text, &RULE_HEADER)? {
+        ReadRows::Rows(mut rows) => match difference_in(alloc, &mut rows, table, shape)? {
+            Some(row) => Err(Refutation::Rule { row }),
+            None => Ok(()),
+        },
+        ReadRows::Bad { row } => Err(Refutation::Rule { row }),
     }
 }

@@ -1,33 +1,17 @@
 // Links and prices that are read, as a certificate.
-ghost use Rattle.std.specs.Prelude.{◌≡◌, ◌+◌, ◌<◌, ◌^◌, All, AllPairs, IfErr, IfOk, Ok, length, map};
+ghost use Rattle.std.specs.Prelude.{◌≡◌, ◌+◌, ◌<◌, ◌^◌, All, AllPairs, IfErr, length};
 ghost use Rattle.price_check.specs.Assignment.{IsBefore, IsWithin};
 ghost use Rattle.link_base.specs.declared.rule.Candidate.{Candidate as Link};
 ghost use Rattle.price_check.specs.Verdict.{HasAllowedValue};
-ghost use Rattle.written_check.specs.Certified.{AreTaken, pair_of, sums_verified};
-ghost use Rattle.written_check.specs.LinkRows.{apart_verified};
-ghost use Rattle.written_check.specs.PriceRows.{ArePrices};
+ghost use Rattle.written_check.specs.Certified.{AreTaken, sums_verified, ArePrices};
+ghost use Rattle.written_check.specs.LinkRows.{apart_verified, IsOfRows, IsRefutationWithin, Verifies};
 ghost use Rattle.written_check.specs.PricesSeen.{prices_seen};
-ghost use Rattle.written_check.specs.Refuted.{IsOfRows, IsRefutationWithin, Verifies};
 
 use crate::prices::Prices;
 use crate::refutation::Refutation;
-use link_base::{Candidate, NoMemory, PairAt};
+use link_base::{Candidate, PairAt};
 use price_check::{first_reused, first_uncovered, price_total, value_total};
 use std::alloc::Global;
-
-// The records of links.
-fn pairs_of(alloc: Global, links: &[Candidate]) -> Result<Vec<PairAt>, NoMemory>
-    ensures { IfOk result (λ pairs. pairs.items ≡ map pair_of links.now) }
-{
-    let mut pairs = Vec::new(alloc);
-    for link in links {
-        pairs.push(PairAt {
-            a: link.a,
-            b: link.b,
-        })?;
-    }
-    Ok(pairs)
-}
 
 // Verifies that no record stands in two links.
 pub(crate) fn verify_apart(
@@ -41,7 +25,13 @@ pub(crate) fn verify_apart(
     ensures kind { IfErr result IsOfRows }
     ensures answer { Verifies (λ _. links.now) (apart_verified links.now) result }
 {
-    let pairs = pairs_of(alloc, links)?;
+    let mut pairs = Vec::new(alloc);
+    for link in links {
+        pairs.push(PairAt {
+            a: link.a,
+            b: link.b,
+        })?;
+    }
     match first_reused(alloc, rows_b, &pairs)? {
         Some(index) => Err(Refutation::Reused { row: index + 1 }),
         None => Ok(()),

@@ -3,9 +3,9 @@ ghost use Rattle.std.specs.Prelude.{◌≡◌, ◌+◌, ◌<◌, ◌≤◌, ◌^
 ghost use Rattle.price_check.specs.Assignment.{IsBefore, IsGreatest, IsWithin};
 ghost use Rattle.link_base.specs.declared.rule.RuleCell.{RuleCell as Cell};
 ghost use Rattle.link_limits.specs.declared.TheConstants.{MOST_WRITTEN_BYTES};
-ghost use Rattle.patterns.specs.Shapes.{pattern_count_by, rare_of};
+ghost use Rattle.patterns.specs.Patterns.{pattern_count_by, rare_of};
 ghost use Rattle.price_check.specs.Verdict.{HasAllowedValue};
-ghost use Rattle.written_check.specs.Refuted.{IsRefutationWithin, Verifies};
+ghost use Rattle.written_check.specs.LinkRows.{IsRefutationWithin, Verifies};
 ghost use Rattle.written_check.specs.Verified.{texts_in, verified};
 
 use crate::laws::verified_is_greatest;

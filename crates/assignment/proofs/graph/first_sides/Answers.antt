@@ -1,7 +1,6 @@
 use Rattle.std.proofs.Common.{ℕ, ◌∙◌, ap, length}
 use Rattle.std.proofs.lemmas.List.{length-replicate}
-use Rattle.assignment_steps.specs.Between.{ReachAll}
-use Rattle.assignment_steps.specs.DistanceLaws.{all_zero}
+use Rattle.assignment_steps.specs.Words.{ReachAll, all_zero}
 use Rattle.assignment.proofs.graph.first_sides.Goals as goal
 
 pub first_prices-requires-clause-small : goal.first_prices-requires-clause-small

@@ -1,9 +1,5 @@
 use Rattle.std.proofs.Common.{arith}
-use Rattle.assignment_steps.specs.Market.{AreStarts}
-use Rattle.assignment_steps.specs.Turned.{AreTurned}
-use Rattle.assignment_steps.specs.TurnedLaws.{turned_in_range, turned_small}
-use Rattle.assignment_steps.specs.Candidates.{edges_of}
-use Rattle.assignment_steps.specs.CandidatesLaws.{range_edges, small_edges, rising_edges}
+use Rattle.assignment_steps.specs.Words.{AreStarts, AreTurned, edges_of, turned_in_range, turned_small, range_edges, small_edges, rising_edges}
 use Rattle.assignment.proofs.graph.graph_of.Goals as goal
 
 pub starts_of-requires-clause-rising : goal.starts_of-requires-clause-rising

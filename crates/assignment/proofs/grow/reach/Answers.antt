@@ -1,5 +1,5 @@
 use Rattle.std.proofs.Common.{ap, inl, inr, refl}
-use Rattle.assignment_steps.specs.ReachedLaws.{room_kept}
+use Rattle.assignment_steps.specs.Words.{room_kept}
 use Rattle.assignment.proofs.grow.reach.Goals as goal
 
 pub returns-then-first : goal.returns-then-first

@@ -1,7 +1,5 @@
 use Rattle.std.proofs.Common.{◌<◌, length, refl, ap, arith, get_or-set_same}
-use Rattle.assignment_steps.specs.Distances.{far}
-use Rattle.assignment_steps.specs.RelaxedLaws.{left_any, left_few}
-use Rattle.assignment_steps.specs.ReachedLaws.{room_kept}
+use Rattle.assignment_steps.specs.Words.{far, left_any, left_few, room_kept}
 use Rattle.assignment.specs.Growth.{growth}
 use Rattle.assignment.proofs.Growing.{tree_any, tree_planted}
 use Rattle.assignment.proofs.grow.search.Goals as goal

@@ -1,5 +1,5 @@
 use Rattle.std.proofs.Common.{◌≡◌, ◌<◌, ◌∙◌, Some, length, sym, rules}
-use Rattle.assignment_steps.specs.Market.{edge, link}
+use Rattle.assignment_steps.specs.Words.{edge, link}
 use Rattle.assignment.proofs.round.relink.Goals as goal
 
 pub bounds-edges-j : goal.bounds-edges-j

@@ -1,5 +1,5 @@
 use Rattle.std.proofs.Common.{arith}
-use Rattle.assignment_steps.specs.BetweenLaws.{one_more_done}
+use Rattle.assignment_steps.specs.Words.{one_more_done}
 use Rattle.assignment.proofs.round.search_each.Goals as goal
 
 pub loop-root-init : goal.loop-root-init

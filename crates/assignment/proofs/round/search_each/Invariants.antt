@@ -1,4 +1,4 @@
-use Rattle.assignment.specs.Round.{AreTakenUp}
+use Rattle.assignment.specs.Growth.{AreTakenUp}
 use Rattle.assignment.proofs.round.search_each.Given as goal
 
 abbrev pub invariant-loop-root : goal.invariant-loop-root

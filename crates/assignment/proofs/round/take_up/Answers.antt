@@ -1,11 +1,7 @@
-use Rattle.std.proofs.Common.{length, ap, sym, ◌∙◌, arith}
-use Rattle.std.specs.Option.{is_some}
+use Rattle.std.proofs.Common.{length, ap, sym, ◌∙◌, arith, is_some}
 use Rattle.std.proofs.lemmas.Bool.{false≢true}
-use Rattle.assignment_steps.specs.LinkLaws.{not_linked}
+use Rattle.assignment_steps.specs.Words.{not_linked, HasNoLink, spread, done_kept, falls_within, root_done, searchable, stop_free, stop_within, ways_after}
 use Rattle.assignment.specs.Growth.{growth, with_waiting}
-use Rattle.assignment_steps.specs.Between.{HasNoLink}
-use Rattle.assignment_steps.specs.Spread.{spread}
-use Rattle.assignment_steps.specs.StoppedLaws.{done_kept, falls_within, root_done, searchable, stop_free, stop_within, ways_after}
 use Rattle.assignment.proofs.Growing.{between_after, between_kept, tight_after}
 use Rattle.assignment.proofs.round.take_up.Goals.{else-bounded-via-then-bounded+else-tree-eq0, else-bounded-via-else-bounded, then-has_link-via-then-has_link, then-has_link-via-else-has_link+then-price_a-root-eq0}
 use Rattle.assignment.proofs.round.take_up.Goals as goal

@@ -1,6 +1,6 @@
 use Rattle.std.proofs.Common.{length, refl, inl, inr}
 use Rattle.std.proofs.lemmas.Bool.{cases_eq}
-use Rattle.assignment_steps.specs.Market.{IsInRange}
+use Rattle.assignment_steps.specs.Words.{IsInRange}
 use Rattle.assignment.proofs.Ways.{walking_more, walked}
 use Rattle.assignment.proofs.round.walk.Goals as goal
 

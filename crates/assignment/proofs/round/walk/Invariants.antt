@@ -1,5 +1,4 @@
-use Rattle.assignment_steps.specs.Market.{number}
-use Rattle.assignment_steps.specs.Ways.{above}
+use Rattle.assignment_steps.specs.Words.{number, above}
 use Rattle.assignment.proofs.Ways.{IsWalking}
 use Rattle.assignment.proofs.round.walk.Given as goal
 

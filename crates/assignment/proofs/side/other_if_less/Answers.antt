@@ -1,7 +1,6 @@
-use Rattle.std.proofs.Common.{◌≡◌, None, length, sym, ap, ◌∙◌, arith}
-use Rattle.std.proofs.lemmas.Bool.{le-ltb, lt-ltb}
+use Rattle.std.proofs.Common.{◌≡◌, None, length, sym, ap, ◌∙◌, arith, le-ltb, lt-ltb}
 use Rattle.std.proofs.lemmas.List.{length-replicate}
-use Rattle.assignment_steps.specs.LinkLaws.{none_linked}
+use Rattle.assignment_steps.specs.Words.{none_linked}
 use Rattle.assignment.proofs.side.other_if_less.Goals as goal
 
 pub first_side-requires : goal.first_side-requires

@@ -1,6 +1,6 @@
 use Rattle.std.proofs.Common.{◌∙◌, length, ap, sym, refl}
 use Rattle.std.proofs.lemmas.List.{with_items_is}
-use Rattle.assignment_steps.specs.LinkLaws.{none_matched}
+use Rattle.assignment_steps.specs.Words.{none_matched}
 use Rattle.assignment.proofs.side.run_other.Goals as goal
 
 pub returns-in_default-clause-side : goal.returns-in_default-clause-side

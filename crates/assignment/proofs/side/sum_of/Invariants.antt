@@ -1,5 +1,4 @@
-use Rattle.std.proofs.Common.{◌≡◌, ◌≤◌, ◌*◌, take}
-use Rattle.std.specs.List.{sum}
+use Rattle.std.proofs.Common.{◌≡◌, ◌≤◌, ◌*◌, take, sum}
 use Rattle.assignment.proofs.side.sum_of.Given as goal
 
 abbrev pub invariant-loop-i : goal.invariant-loop-i

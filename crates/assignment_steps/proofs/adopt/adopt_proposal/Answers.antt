@@ -1,5 +1,5 @@
 use Rattle.std.proofs.Common.{◌∙◌}
-use Rattle.assignment_steps.specs.LinkLaws.{none_matched}
+use Rattle.assignment_steps.specs.Words.{none_matched}
 use Rattle.assignment_steps.proofs.adopt.adopt_proposal.Goals.{then-proposal-price_a-via-then-proposal-price_a, then-proposal-price_a-via-else-proposal-price_a+then-proposal-price_b}
 use Rattle.assignment_steps.proofs.adopt.adopt_proposal.Goals as goal
 

@@ -1,6 +1,6 @@
 use Rattle.std.proofs.Common.{ℕ, ◌<◌, ◌≤◌}
 use Rattle.link_limits.specs.declared.TheConstants.{MOST_VALUE}
-use Rattle.assignment_steps.specs.Market.{number}
+use Rattle.assignment_steps.specs.Words.{number}
 use Rattle.assignment_steps.proofs.adopt.are_small.Given as goal
 
 abbrev pub invariant-loop-price : goal.invariant-loop-price

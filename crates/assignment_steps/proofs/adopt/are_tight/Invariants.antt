@@ -1,5 +1,5 @@
 use Rattle.std.proofs.Common.{◌≡◌, ℕ, ◌<◌, Some}
-use Rattle.assignment_steps.specs.Market.{link, IsTight}
+use Rattle.assignment_steps.specs.Words.{link, IsTight}
 use Rattle.assignment_steps.proofs.adopt.are_tight.Given as goal
 
 abbrev pub invariant-loop-a : goal.invariant-loop-a

@@ -1,5 +1,5 @@
 use Rattle.std.proofs.Common.{◌≡◌, ◌<◌, ◌↔◌, ℕ, None}
-use Rattle.assignment_steps.specs.Market.{link, number}
+use Rattle.assignment_steps.specs.Words.{link, number}
 use Rattle.assignment_steps.proofs.left.waiting.Given as goal
 
 abbrev pub invariant-loop-a : goal.invariant-loop-a

@@ -1,8 +1,6 @@
-use Rattle.std.proofs.Common.{◌≡◌, ℕ, None, Some, set, ap, sym, ◌∙◌, get_or-set_same}
-use Rattle.std.specs.Option.{is_some}
+use Rattle.std.proofs.Common.{◌≡◌, ℕ, None, Some, set, ap, sym, ◌∙◌, get_or-set_same, is_some}
 use Rattle.std.proofs.lemmas.Bool.{false≢true}
-use Rattle.assignment_steps.specs.Market.{link, edge, IsMatched}
-use Rattle.assignment_steps.specs.LinkLaws.{matched_joined, none_before, not_linked}
+use Rattle.assignment_steps.specs.Words.{link, edge, IsMatched, matched_joined, none_before, not_linked}
 use Rattle.assignment_steps.proofs.other_links.join.Goals as goal
 
 pub returns : goal.returns

@@ -1,5 +1,4 @@
-use Rattle.assignment_steps.specs.Joined.{AreJoinedAs}
-use Rattle.assignment_steps.specs.Market.{IsMatched}
+use Rattle.assignment_steps.specs.Words.{AreJoinedAs, IsMatched}
 use Rattle.assignment_steps.proofs.other_links.join_as_turned.Given as goal
 
 abbrev pub invariant-loop-i : goal.invariant-loop-i

@@ -1,5 +1,4 @@
-use Rattle.assignment_steps.specs.Joined.{AreJoinedWith}
-use Rattle.assignment_steps.specs.Market.{IsMatched}
+use Rattle.assignment_steps.specs.Words.{AreJoinedWith, IsMatched}
 use Rattle.assignment_steps.proofs.other_links.join_mates.Given as goal
 
 abbrev pub invariant-loop-a : goal.invariant-loop-a

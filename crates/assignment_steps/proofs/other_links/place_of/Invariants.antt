@@ -1,5 +1,5 @@
 use Rattle.std.proofs.Common.{◌≢◌, ℕ, ◌<◌, ◌≤◌}
-use Rattle.assignment_steps.specs.Market.{edge, number}
+use Rattle.assignment_steps.specs.Words.{edge, number}
 use Rattle.assignment_steps.proofs.other_links.place_of.Given as goal
 
 abbrev pub invariant-loop-k : goal.invariant-loop-k

@@ -1,7 +1,6 @@
 use Rattle.std.proofs.Common.{◌<◌, length, arith}
 use Rattle.std.proofs.lemmas.List.{get_or_default}
-use Rattle.assignment_steps.specs.Spread.{edge_of}
-use Rattle.assignment_steps.specs.Distances.{far}
+use Rattle.assignment_steps.specs.Words.{edge_of, far}
 use Rattle.assignment_steps.proofs.reaching.reach_over.Goals as goal
 
 pub returns : goal.returns

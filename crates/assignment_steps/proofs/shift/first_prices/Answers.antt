@@ -2,7 +2,7 @@ use Rattle.std.proofs.Common.{◌≤◌, ◌-◌, ◌∙◌, ap, length, inl, in
 use Rattle.std.proofs.lemmas.Bool.{cases_eq}
 use Rattle.std.proofs.lemmas.List.{with_items_is}
 use Rattle.link_limits.specs.declared.TheConstants.{MOST_VALUE}
-use Rattle.assignment_steps.specs.Market.{edge, number}
+use Rattle.assignment_steps.specs.Words.{edge, number}
 use Rattle.assignment_steps.proofs.shift.first_prices.Goals as goal
 
 pub raise_to-requires : goal.raise_to-requires

@@ -1,6 +1,6 @@
 use Rattle.std.proofs.Common.{◌≡◌, ℕ, ◌+◌, ◌<◌, ◌≤◌, length}
 use Rattle.link_limits.specs.declared.TheConstants.{MOST_VALUE}
-use Rattle.assignment_steps.specs.Market.{edge, number}
+use Rattle.assignment_steps.specs.Words.{edge, number}
 use Rattle.assignment_steps.proofs.shift.first_prices.Given as goal
 
 abbrev pub invariant-loop-k : goal.invariant-loop-k

@@ -1,7 +1,6 @@
 use Rattle.std.proofs.Common.{◌≡◌, ◌+◌, ◌-◌, ◌<◌, ◌∙◌, length, refl, arith}
 use Rattle.std.proofs.lemmas.List.{get_or_default}
-use Rattle.assignment_steps.specs.Market.{number}
-use Rattle.assignment_steps.specs.Distances.{distance, far}
+use Rattle.assignment_steps.specs.Words.{number, distance, far}
 use Rattle.assignment_steps.proofs.Members.{left_put_back, price_raised, top_put_back}
 use Rattle.assignment_steps.proofs.shift.raise.Goals as goal
 

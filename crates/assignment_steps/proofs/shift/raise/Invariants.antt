@@ -1,6 +1,5 @@
 use Rattle.std.proofs.Common.{◌≡◌, ℕ, ◌+◌, ◌-◌, ◌<◌, ◌≤◌, drop, Contains}
-use Rattle.assignment_steps.specs.Market.{number}
-use Rattle.assignment_steps.specs.Distances.{distance, far}
+use Rattle.assignment_steps.specs.Words.{number, distance, far}
 use Rattle.assignment_steps.proofs.shift.raise.Given as goal
 
 abbrev pub invariant-loop-position : goal.invariant-loop-position

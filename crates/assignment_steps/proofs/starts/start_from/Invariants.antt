@@ -1,5 +1,5 @@
 use Rattle.std.proofs.Common.{ℕ, ◌-◌, ◌<◌, ◌≤◌, length}
-use Rattle.assignment_steps.specs.Market.{edge}
+use Rattle.assignment_steps.specs.Words.{edge}
 use Rattle.assignment_steps.proofs.starts.start_from.Given as goal
 
 abbrev pub invariant-loop-start : goal.invariant-loop-start

@@ -1,5 +1,5 @@
 use Rattle.std.proofs.Common.{◌≡◌, ℕ, ◌<◌, ◌≤◌, length}
-use Rattle.assignment_steps.specs.Market.{edge, number, IsStart}
+use Rattle.assignment_steps.specs.Words.{edge, number, IsStart}
 use Rattle.assignment_steps.proofs.starts.starts_of.Given as goal
 
 abbrev pub invariant-loop-a : goal.invariant-loop-a

@@ -1,7 +1,6 @@
 use Rattle.std.proofs.Common.{ℕ, List, Option}
 use Rattle.assignment_steps.specs.declared.market.Edge.{Edge}
-use Rattle.assignment_steps.specs.Between.{IsBetween}
-use Rattle.assignment_steps.specs.Free.{AreSettled, HasLink}
+use Rattle.assignment_steps.specs.Words.{IsBetween, AreSettled, HasLink}
 use Rattle.assignment_steps.proofs.tight.link_tight.Given as goal
 
 -- the first `count` edges were tried

@@ -1,10 +1,6 @@
-use Rattle.std.proofs.Common.{◌≡◌, ℕ, None, Some, set, ap, sym, ◌∙◌, length, ◌<◌, arith, get_or-set_same}
-use Rattle.std.specs.Option.{is_some}
+use Rattle.std.proofs.Common.{◌≡◌, ℕ, None, Some, set, ap, sym, ◌∙◌, length, ◌<◌, arith, get_or-set_same, is_some}
 use Rattle.std.proofs.lemmas.Bool.{false≢true}
-use Rattle.assignment_steps.specs.Market.{link, edge, IsTight}
-use Rattle.assignment_steps.specs.Between.{IsBetween}
-use Rattle.assignment_steps.specs.BetweenLaws.{between_joined}
-use Rattle.assignment_steps.specs.LinkLaws.{none_before, not_linked}
+use Rattle.assignment_steps.specs.Words.{link, edge, IsTight, IsBetween, between_joined, none_before, not_linked}
 use Rattle.assignment_steps.proofs.tight.take.Goals as goal
 
 pub returns : goal.returns

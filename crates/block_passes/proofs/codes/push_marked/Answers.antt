@@ -1,5 +1,5 @@
 use Rattle.std.proofs.Common.{◌++◌, refl}
-use Rattle.block_passes.specs.Codes.{coded_text, marked}
+use Rattle.block_passes.specs.Numbering.{coded_text, marked}
 use Rattle.block_passes.proofs.StepLemmas.{joined_more}
 use Rattle.block_passes.proofs.codes.push_marked.Goals as goal
 

@@ -1,5 +1,5 @@
 use Rattle.std.proofs.Common.{◌≡◌, ◌++◌, drop}
-use Rattle.block_passes.specs.Codes.{coded_text}
+use Rattle.block_passes.specs.Numbering.{coded_text}
 use Rattle.block_passes.proofs.codes.push_marked.Given as goal
 
 abbrev pub invariant-loop-byte : goal.invariant-loop-byte

@@ -1,10 +1,9 @@
 use Rattle.std.proofs.Common.{◌∙◌, ℕ, Some, length, option_map}
-use Rattle.block_passes.specs.FilterLaws.{filter-agree}
-use Rattle.block_passes.specs.IdCodes.{bytes_of_ids}
+use Rattle.block_passes.specs.NumberingLaws.{filter-agree}
+use Rattle.block_passes.specs.Numbering.{bytes_of_ids}
 use Rattle.block_passes.specs.Ids.{id_key_in, same_ids}
-use Rattle.block_passes.specs.Index.{row_at}
+use Rattle.block_passes.specs.Keys.{row_at, same_text}
 use Rattle.block_passes.specs.IndexRows.{id_index_rows}
-use Rattle.block_passes.specs.Keys.{same_text}
 use Rattle.block_passes.proofs.ChainLemmas.{codes-same}
 use Rattle.block_passes.proofs.id_index.build_index_in.Goals as goal
 

@@ -1,7 +1,7 @@
 use Rattle.std.proofs.Common.{◌≡◌, ◌∷◌, ◌++◌, ◌∙◌, [], sym, ap, rules, option_map}
 use Rattle.std.proofs.lemmas.List.{flat_map_more}
-use Rattle.value_pool.specs.Texts.{place_among}
-use Rattle.block_passes.specs.IdCodes.{bytes_of_ids, id_bytes}
+use Rattle.value_pool.specs.Pool.{place_among}
+use Rattle.block_passes.specs.Numbering.{bytes_of_ids, id_bytes}
 use Rattle.block_passes.specs.Ids.{id_key_in}
 use Rattle.block_passes.specs.Keys.{no_part, part_key}
 use Rattle.block_passes.proofs.ChainLemmas.{ids-joined}

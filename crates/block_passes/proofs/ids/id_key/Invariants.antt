@@ -1,5 +1,5 @@
 use Rattle.std.proofs.Common.{◌≡◌, drop}
-use Rattle.block_passes.specs.IdCodes.{bytes_of_ids}
+use Rattle.block_passes.specs.Numbering.{bytes_of_ids}
 use Rattle.block_passes.specs.Ids.{id_key_in}
 use Rattle.block_passes.specs.Keys.{extended}
 use Rattle.block_passes.proofs.ids.id_key.Given as goal

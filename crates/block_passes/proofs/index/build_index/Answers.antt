@@ -1,5 +1,5 @@
 use Rattle.std.proofs.Common.{◌∙◌, Some}
-use Rattle.block_passes.specs.Codes.{coded_texts}
+use Rattle.block_passes.specs.Numbering.{coded_texts}
 use Rattle.block_passes.specs.IndexRows.{index_rows}
 use Rattle.block_passes.proofs.ChainLemmas.{rows-are-keys}
 use Rattle.block_passes.proofs.index.build_index.Goals as goal

@@ -1,6 +1,6 @@
 use Rattle.std.proofs.Common.{◌≡◌, ◌∷◌, ◌++◌, ◌∙◌, [], Some, refl, sym, ap, rules}
 use Rattle.std.proofs.lemmas.List.{flat_map_more}
-use Rattle.block_passes.specs.Codes.{coded_text, coded_texts}
+use Rattle.block_passes.specs.Numbering.{coded_text, coded_texts}
 use Rattle.block_passes.specs.Keys.{key_in_pass, no_part, part_key}
 use Rattle.block_passes.proofs.StepLemmas.{no_part_more, part_more}
 use Rattle.block_passes.proofs.keys.pass_key.Goals as goal

@@ -1,7 +1,7 @@
 use Rattle.std.proofs.Common.{refl}
-use Rattle.block_passes.specs.KeyIds.{ids_of_row, key_ids}
+use Rattle.block_passes.specs.Keys.{ids_of_row, key_ids}
 use Rattle.block_passes.proofs.StepLemmas.{joined_more}
-use Rattle.link_base.specs.Standard.{no_record}
+use Rattle.link_base.specs.Words.{no_record}
 use Rattle.block_passes.proofs.part_ids.key_ids.Goals as goal
 
 pub push_row-requires-clause-in_range : goal.push_row-requires-clause-in_range

@@ -1,5 +1,5 @@
 use Rattle.std.proofs.Common.{◌≡◌, ◌++◌, drop}
-use Rattle.block_passes.specs.KeyIds.{key_ids}
+use Rattle.block_passes.specs.Keys.{key_ids}
 use Rattle.block_passes.proofs.part_ids.key_ids.Given as goal
 
 abbrev pub invariant-loop-at : goal.invariant-loop-at

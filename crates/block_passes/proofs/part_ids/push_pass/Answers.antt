@@ -1,6 +1,5 @@
 use Rattle.std.proofs.Common.{◌≡◌, ◌∷◌, ◌++◌, [], refl, get_or, rules}
-use Rattle.block_passes.specs.KeyIds.{ids_in_pass, part_id}
-use Rattle.block_passes.specs.Keys.{no_part}
+use Rattle.block_passes.specs.Keys.{ids_in_pass, part_id, no_part}
 use Rattle.block_passes.proofs.StepLemmas.{joined_more}
 use Rattle.block_passes.proofs.part_ids.push_pass.Goals as goal
 

@@ -1,5 +1,5 @@
 use Rattle.std.proofs.Common.{◌≡◌, ◌++◌, drop}
-use Rattle.block_passes.specs.KeyIds.{ids_in_pass}
+use Rattle.block_passes.specs.Keys.{ids_in_pass}
 use Rattle.block_passes.proofs.part_ids.push_pass.Given as goal
 
 abbrev pub invariant-loop-part : goal.invariant-loop-part

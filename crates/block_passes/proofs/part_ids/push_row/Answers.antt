@@ -1,6 +1,6 @@
 use Rattle.std.proofs.Common.{◌++◌, [], refl}
 use Rattle.std.proofs.lemmas.List.{get_or_read}
-use Rattle.block_passes.specs.KeyIds.{ids_in_pass, ids_of_row}
+use Rattle.block_passes.specs.Keys.{ids_in_pass, ids_of_row}
 use Rattle.block_passes.proofs.StepLemmas.{joined_more}
 use Rattle.block_passes.proofs.part_ids.push_row.Goals as goal
 

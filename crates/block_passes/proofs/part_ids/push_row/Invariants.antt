@@ -1,5 +1,5 @@
 use Rattle.std.proofs.Common.{◌≡◌, ◌++◌, drop}
-use Rattle.block_passes.specs.KeyIds.{ids_of_row}
+use Rattle.block_passes.specs.Keys.{ids_of_row}
 use Rattle.block_passes.proofs.part_ids.push_row.Given as goal
 
 abbrev pub invariant-loop-pass : goal.invariant-loop-pass

@@ -1,6 +1,6 @@
 use Rattle.std.proofs.Common.{◌≡◌, ◌+◌, ◌-◌, ◌^◌, ℕ, length, get_or, drop, [], arith, ap, ◌∙◌, min}
 use Rattle.std.proofs.lemmas.List.{drop_all, drop_more, get_or_read}
-use Rattle.block_passes.specs.KeyIds.{parts_in}
+use Rattle.block_passes.specs.Keys.{parts_in}
 use Rattle.block_passes.proofs.pass_ids.count_parts.Goals as goal
 
 pub returns : goal.returns

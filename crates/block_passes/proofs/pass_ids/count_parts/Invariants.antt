@@ -1,5 +1,5 @@
 use Rattle.std.proofs.Common.{◌≡◌, ◌≤◌, ◌+◌, ◌-◌, ◌^◌, drop, min}
-use Rattle.block_passes.specs.KeyIds.{parts_in}
+use Rattle.block_passes.specs.Keys.{parts_in}
 use Rattle.block_passes.proofs.pass_ids.count_parts.Given as goal
 
 abbrev pub invariant-loop-pass : goal.invariant-loop-pass

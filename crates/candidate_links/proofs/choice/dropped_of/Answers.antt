@@ -2,9 +2,9 @@ use Rattle.std.proofs.Common.{◌≡◌, ◌∙◌, ◌++◌, ◌∷◌, [], ◌
 use Rattle.price_check.specs.Assignment.{no_candidate}
 use Rattle.link_base.specs.declared.rule.Candidate.{Candidate}
 use Rattle.candidate_links.specs.PassLaws.{all_passed, link_passed, one_dropped}
-use Rattle.candidate_links.specs.Choice.{dropped}
+use Rattle.candidate_links.specs.Candidates.{dropped}
 use Rattle.link_report.specs.declared.report.Dropped.{Dropped}
-use Rattle.candidate_links.specs.Passing.{is_next, unlinked}
+use Rattle.candidate_links.specs.Merging.{is_next, unlinked}
 use Rattle.candidate_links.proofs.choice.dropped_of.Goals as goal
 
 pub loop-candidate-preserved-then-is_next : goal.loop-candidate-preserved-then-is_next

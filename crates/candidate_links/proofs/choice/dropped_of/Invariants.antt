@@ -1,6 +1,6 @@
 use Rattle.std.proofs.Common.{◌≡◌, ◌++◌, drop, map}
-use Rattle.candidate_links.specs.Choice.{dropped}
-use Rattle.candidate_links.specs.Passing.{unlinked}
+use Rattle.candidate_links.specs.Candidates.{dropped}
+use Rattle.candidate_links.specs.Merging.{unlinked}
 use Rattle.candidate_links.proofs.choice.dropped_of.Given as goal
 
 abbrev pub invariant-loop-candidate : goal.invariant-loop-candidate

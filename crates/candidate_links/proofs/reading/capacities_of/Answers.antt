@@ -1,9 +1,9 @@
 use Rattle.std.proofs.Common.{◌≡◌, ◌<◌, ◌≤◌, ◌+◌, ◌∙◌, ℕ, List, [], All, length, map, set, take, get_or, replicate, Result, subst, sym, ap, arith, refl}
 use Rattle.std.proofs.lemmas.List.{length-map, length-set}
 use Rattle.std.proofs.lemmas.List.Elements.{All-replicate, All-set}
-use Rattle.link_base.specs.Fault.{Refuses}
+use Rattle.link_base.specs.Words.{Refuses}
 use Rattle.link_base.specs.declared.fault.Fault.{Fault}
-use Rattle.file_reader.specs.Rows.{no_row}
+use Rattle.file_reader.specs.Words.{no_row}
 use Rattle.link_limits.specs.declared.TheConstants.{MOST_CAPACITY}
 use Rattle.candidate_links.specs.Capacities.{listed_capacity}
 use Rattle.candidate_links.proofs.ListedLemmas.{listed_more, unlisted, capacity_is, row_refused, row_told}
@@ -12,7 +12,7 @@ use Rattle.candidate_links.proofs.reading.capacities_of.Goals as goal
 pub loop-at-init : goal.loop-at-init
 loop-at-init c =
     let b = c.args.b.now in
-    let ones : c.in_ok-each.each.items ≡ replicate (length b) 1 = c.in_ok-each.ensures ∙ ap (λ n. replicate n 1) c.rows.ensures in
+    let ones : c.in_ok-each.each.items ≡ replicate (length b) 1 = c.in_ok-each.ensures.items_if_clones_equal (λ y is. is) ∙ ap (λ n. replicate n 1) c.rows.ensures in
     record {
       told = refl;
       listed = ones ∙ unlisted b;

@@ -1,5 +1,5 @@
 use Rattle.std.proofs.Common.{◌≡◌, ◌+◌, ◌-◌, sym, arith}
-use Rattle.assignment_steps.specs.Market.{IsStart, number}
+use Rattle.assignment_steps.specs.Words.{IsStart, number}
 use Rattle.capacity_assign.proofs.Final.{copies_of_equal, equal_back, starts_rise}
 use Rattle.capacity_assign.proofs.alike.are_alike.Goals as goal
 

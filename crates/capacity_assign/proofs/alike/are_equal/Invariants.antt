@@ -1,4 +1,4 @@
-use Rattle.capacity_assign.specs.Alike.{AreEqual}
+use Rattle.capacity_assign.specs.Seating.{AreEqual}
 use Rattle.capacity_assign.proofs.alike.are_equal.Given as goal
 
 abbrev pub invariant-loop-i : goal.invariant-loop-i

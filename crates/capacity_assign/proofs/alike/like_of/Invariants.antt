@@ -1,5 +1,5 @@
 use Rattle.std.proofs.Common.{◌≡◌, length}
-use Rattle.capacity_assign.specs.Alike.{AreAlike}
+use Rattle.capacity_assign.specs.Seating.{AreAlike}
 use Rattle.capacity_assign.proofs.alike.like_of.Given as goal
 
 abbrev pub invariant-loop-a : goal.invariant-loop-a

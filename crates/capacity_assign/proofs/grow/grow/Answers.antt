@@ -1,11 +1,8 @@
 use Rattle.std.proofs.Common.{◌≡◌, ◌<◌, length, inl, inr, arith}
 use Rattle.std.proofs.lemmas.List.{get_or_read}
 use Rattle.capacity_assign.specs.Growth.{growth, places_left}
-use Rattle.assignment_steps.specs.Distances.{distance, far}
+use Rattle.assignment_steps.specs.Words.{distance, far, cons_first, Contains-cons_cases, room_kept, nearest_taken}
 use Rattle.capacity_assign.proofs.Growing.{grown_best, tree_dropped, tree_taken}
-use Rattle.assignment_steps.specs.QueueLaws.{cons_first, Contains-cons_cases}
-use Rattle.assignment_steps.specs.SpreadLaws.{nearest_taken}
-use Rattle.assignment_steps.specs.ReachedLaws.{room_kept}
 use Rattle.capacity_assign.proofs.grow.grow.Goals as goal
 
 pub index-requires : goal.index-requires

@@ -1,6 +1,6 @@
 use Rattle.std.proofs.Common.{◌≡◌, ◌≤◌, None, length}
 use Rattle.capacity_assign.specs.Growth.{IsTree, growth}
-use Rattle.assignment_steps.specs.Reached.{HasRoomForRecords, work, FitsQueue}
+use Rattle.assignment_steps.specs.Words.{HasRoomForRecords, work, FitsQueue}
 use Rattle.capacity_assign.proofs.grow.grow.Given as goal
 
 abbrev pub invariant-loop-near : goal.invariant-loop-near

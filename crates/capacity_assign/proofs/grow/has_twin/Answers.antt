@@ -1,6 +1,6 @@
 use Rattle.std.proofs.Common.{◌≡◌, ◌<◌, length, sym, ◌∙◌, arith}
 use Rattle.std.proofs.lemmas.List.{get_or_read}
-use Rattle.assignment_steps.specs.Distances.{far}
+use Rattle.assignment_steps.specs.Words.{far}
 use Rattle.capacity_assign.proofs.Growing.{copies_through}
 use Rattle.capacity_assign.proofs.grow.has_twin.Goals as goal
 

@@ -1,5 +1,5 @@
 use Rattle.std.proofs.Common.{length, refl, sym, ap}
-use Rattle.assignment_steps.specs.ReachedLaws.{room_at, room_own}
+use Rattle.assignment_steps.specs.Words.{room_at, room_own}
 use Rattle.capacity_assign.proofs.grow.join.Goals as goal
 
 pub join-requires-clause-room : goal.join-requires-clause-room

@@ -1,11 +1,8 @@
 use Rattle.std.proofs.Common.{◌≡◌, ◌<◌, length, sym, ap, ◌∙◌, refl, arith}
 use Rattle.std.proofs.lemmas.List.{get_or_read, get_or-set_same}
 use Rattle.capacity_assign.specs.Growth.{IsTree, Joins, growth}
-use Rattle.assignment_steps.specs.Spread.{edge_of}
-use Rattle.assignment_steps.specs.Distances.{distance, far}
-use Rattle.assignment_steps.specs.Relaxed.{left}
+use Rattle.assignment_steps.specs.Words.{edge_of, distance, far, left, left_joined, left_any}
 use Rattle.capacity_assign.proofs.Growing.{at_seat, joins_stays, tree_joining, tree_any}
-use Rattle.assignment_steps.specs.RelaxedLaws.{left_joined, left_any}
 use Rattle.capacity_assign.proofs.grow.join_seat.Goals as goal
 
 pub index-position-requires : goal.index-position-requires

@@ -1,9 +1,6 @@
 use Rattle.std.proofs.Common.{length, ◌+◌, ◌<◌, refl, sym, ap, arith}
 use Rattle.capacity_assign.specs.Growth.{growth}
-use Rattle.assignment_steps.specs.Spread.{IsNearer, edge_of, spread}
-use Rattle.assignment_steps.specs.Distances.{distance, far}
-use Rattle.assignment_steps.specs.RelaxedLaws.{left_later, left_relaxed}
-use Rattle.assignment_steps.specs.ReachedLaws.{room_at, room_own}
+use Rattle.assignment_steps.specs.Words.{IsNearer, edge_of, spread, distance, far, left_later, left_relaxed, room_at, room_own}
 use Rattle.capacity_assign.proofs.Growing.{tree_passed, tree_reached}
 use Rattle.capacity_assign.proofs.grow.relax.Goals as goal
 

@@ -1,6 +1,5 @@
 use Rattle.std.proofs.Common.{◌<◌, length, refl, arith}
-use Rattle.assignment_steps.specs.Distances.{distance, far}
-use Rattle.assignment_steps.specs.RelaxedLaws.{left_later}
+use Rattle.assignment_steps.specs.Words.{distance, far, left_later}
 use Rattle.capacity_assign.specs.Growth.{growth}
 use Rattle.capacity_assign.proofs.Growing.{tree_twin}
 use Rattle.capacity_assign.proofs.grow.relax_joined.Goals as goal

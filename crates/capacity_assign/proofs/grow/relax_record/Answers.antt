@@ -1,8 +1,7 @@
 use Rattle.std.proofs.Common.{◌≡◌, ◌+◌, ◌∙◌, length, refl, inl, inr, arith}
 use Rattle.std.proofs.lemmas.Bool.{cases_lt}
-use Rattle.assignment_steps.specs.Market.{number}
+use Rattle.assignment_steps.specs.Words.{number, left_later}
 use Rattle.capacity_assign.specs.Growth.{Relaxes, growth}
-use Rattle.assignment_steps.specs.RelaxedLaws.{left_later}
 use Rattle.capacity_assign.proofs.Growing.{tree_skip}
 use Rattle.capacity_assign.proofs.grow.relax_record.Goals as goal
 

@@ -1,7 +1,6 @@
 use Rattle.std.proofs.Common.{◌≡◌, ℕ, ◌<◌, ◌≤◌, ◌-◌, length}
 use Rattle.capacity_assign.specs.Growth.{Relaxes}
-use Rattle.assignment_steps.specs.Spread.{edge_of}
-use Rattle.assignment_steps.specs.Distances.{distance}
+use Rattle.assignment_steps.specs.Words.{edge_of, distance}
 use Rattle.capacity_assign.proofs.grow.relax_record.Given as goal
 
 abbrev pub invariant-loop-k : goal.invariant-loop-k

@@ -1,7 +1,6 @@
 use Rattle.std.proofs.Common.{Some, ◌≡◌, ◌<◌, None, length, refl, ap, sym, ◌∙◌, arith}
 use Rattle.std.proofs.lemmas.List.{get_or_default}
-use Rattle.assignment_steps.specs.Market.{link, number}
-use Rattle.assignment_steps.specs.ReachedLaws.{room_kept}
+use Rattle.assignment_steps.specs.Words.{link, number, room_kept}
 use Rattle.capacity_assign.specs.Growth.{growth}
 use Rattle.capacity_assign.specs.Seating.{IsLastSeat}
 use Rattle.capacity_assign.proofs.Growing.{grown_holding, last_past, last_within, past_more, steps_fewer, tree_held, tree_let_go}

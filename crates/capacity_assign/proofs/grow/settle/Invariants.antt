@@ -1,9 +1,6 @@
 use Rattle.std.proofs.Common.{◌≡◌, ℕ, ◌<◌, ◌≤◌, Some, length}
-use Rattle.assignment_steps.specs.Market.{link, number}
+use Rattle.assignment_steps.specs.Words.{link, number, distance, far, edge_of, FitsQueue, HasRoomForRecords, work}
 use Rattle.capacity_assign.specs.Growth.{IsTree, growth}
-use Rattle.assignment_steps.specs.Spread.{edge_of}
-use Rattle.assignment_steps.specs.Reached.{FitsQueue, HasRoomForRecords, work}
-use Rattle.assignment_steps.specs.Distances.{distance, far}
 use Rattle.capacity_assign.proofs.Growing.{IsPast, steps_left}
 use Rattle.capacity_assign.proofs.grow.settle.Given as goal
 

@@ -1,5 +1,5 @@
 use Rattle.std.proofs.Common.{length}
-use Rattle.assignment_steps.specs.Reached.{IsAtRest}
+use Rattle.assignment_steps.specs.Words.{IsAtRest}
 use Rattle.capacity_assign.specs.Round.{Advances}
 use Rattle.capacity_assign.specs.Seating.{seating}
 use Rattle.capacity_assign.proofs.round.all_rounds.Given as goal

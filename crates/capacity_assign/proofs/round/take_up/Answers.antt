@@ -1,11 +1,6 @@
-use Rattle.std.proofs.Common.{◌+◌, length, refl, ap, sym, ◌∙◌, arith}
+use Rattle.std.proofs.Common.{◌+◌, length, refl, ap, sym, ◌∙◌, arith, is_some}
 use Rattle.std.proofs.lemmas.Bool.{false≢true}
-use Rattle.std.specs.Option.{is_some}
-use Rattle.assignment_steps.specs.Market.{link}
-use Rattle.assignment_steps.specs.LinkLaws.{not_linked}
-use Rattle.assignment_steps.specs.BetweenLaws.{one_more_done}
-use Rattle.assignment_steps.specs.StoppedLaws.{done_kept, falls_within, root_done, searchable, stop_free, stop_within, ways_after}
-use Rattle.assignment_steps.specs.Spread.{spread}
+use Rattle.assignment_steps.specs.Words.{link, not_linked, one_more_done, done_kept, falls_within, root_done, searchable, stop_free, stop_within, ways_after, spread}
 use Rattle.capacity_assign.specs.Growth.{growth, with_waiting}
 use Rattle.capacity_assign.specs.Seating.{HasPlace, seating}
 use Rattle.capacity_assign.proofs.Growing.{between_after, between_any, tight_after}

@@ -1,14 +1,9 @@
-use Rattle.std.proofs.Common.{◌≡◌, ℕ, ◌<◌, length, set, None, Some, refl, ap, sym, ◌∙◌, inl, inr, arith}
-use Rattle.std.specs.Option.{is_some}
+use Rattle.std.proofs.Common.{◌≡◌, ℕ, ◌<◌, length, set, None, Some, refl, ap, sym, ◌∙◌, inl, inr, arith, is_some}
 use Rattle.std.proofs.lemmas.List.{get_or_default, length-set, with_items_is}
 use Rattle.price_check.specs.PlaceLaws.{place_there}
-use Rattle.assignment_steps.specs.Market.{edge, link, number, AreLinked, AreTight}
-use Rattle.assignment_steps.specs.Ways.{LeadsBy}
-use Rattle.capacity_assign.specs.Core.{WalksBack}
-use Rattle.capacity_assign.specs.Seating.{HasHole, seating}
+use Rattle.assignment_steps.specs.Words.{edge, link, number, AreLinked, AreTight, LeadsBy, link-set, leads_parted}
+use Rattle.capacity_assign.specs.Seating.{WalksBack, HasHole, seating}
 use Rattle.capacity_assign.proofs.Links.{free_record_counts, linked_parted, hole_parted, places_after_added, places_after_parted, free_records_after_parted, seats_after_added, seats_after_parted, vacant_after_added}
-use Rattle.assignment_steps.specs.LinkLaws.{link-set}
-use Rattle.assignment_steps.specs.WaysLaws.{leads_parted}
 use Rattle.capacity_assign.proofs.round.turn.Goals as goal
 
 pub add_seat-seat-requires : goal.add_seat-seat-requires

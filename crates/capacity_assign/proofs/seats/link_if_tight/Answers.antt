@@ -1,11 +1,9 @@
-use Rattle.std.proofs.Common.{◌≡◌, ◌<◌, ◌∙◌, None, Some, length, refl, ap, arith, sym, get_or-set_same}
+use Rattle.std.proofs.Common.{◌≡◌, ◌<◌, ◌∙◌, None, Some, length, refl, ap, arith, sym, get_or-set_same, is_some}
 use Rattle.std.proofs.lemmas.Bool.{false≢true}
 use Rattle.std.proofs.lemmas.List.{get_or_read, with_items_is}
-use Rattle.std.specs.Option.{is_some}
-use Rattle.assignment_steps.specs.Market.{edge, link, number}
+use Rattle.assignment_steps.specs.Words.{edge, link, number, none_before, not_linked}
 use Rattle.capacity_assign.specs.Seating.{seating}
 use Rattle.capacity_assign.proofs.Links.{between_linked, places_linked, still_none, free_record_counts}
-use Rattle.assignment_steps.specs.LinkLaws.{none_before, not_linked}
 use Rattle.capacity_assign.proofs.seats.link_if_tight.Goals as goal
 
 pub index-requires : goal.index-requires

@@ -1,5 +1,5 @@
 use Rattle.std.proofs.Common.{◌∙◌, refl, arith}
-use Rattle.assignment_steps.specs.BetweenLaws.{one_more_settled}
+use Rattle.assignment_steps.specs.Words.{one_more_settled}
 use Rattle.capacity_assign.proofs.seats.link_tight.Goals as goal
 
 pub loop-k-preserved : goal.loop-k-preserved

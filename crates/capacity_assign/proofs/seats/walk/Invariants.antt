@@ -1,5 +1,4 @@
-use Rattle.assignment_steps.specs.Ways.{above}
-use Rattle.assignment_steps.specs.Market.{number}
+use Rattle.assignment_steps.specs.Words.{above, number}
 use Rattle.capacity_assign.proofs.Ways.{IsWalking}
 use Rattle.capacity_assign.proofs.seats.walk.Given as goal
 

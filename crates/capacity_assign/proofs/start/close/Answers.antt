@@ -1,5 +1,5 @@
 use Rattle.std.proofs.Common.{◌≡◌, ap, arith}
-use Rattle.price_check.specs.Capacities.{capacity_of}
+use Rattle.price_check.specs.Assignment.{capacity_of}
 use Rattle.capacity_assign.proofs.start.close.Goals as goal
 
 pub returns : goal.returns

@@ -1,7 +1,7 @@
 use Rattle.std.proofs.Common.{◌∙◌, ap, length, inl, inr, arith}
 use Rattle.std.proofs.lemmas.Bool.{cases_eq}
 use Rattle.std.proofs.lemmas.List.{with_items_is}
-use Rattle.assignment_steps.specs.Market.{edge}
+use Rattle.assignment_steps.specs.Words.{edge}
 use Rattle.capacity_assign.proofs.start.closed_prices.Goals as goal
 
 pub close-requires : goal.close-requires

@@ -1,7 +1,7 @@
 use Rattle.std.proofs.Common.{◌≡◌, ℕ, ◌<◌, ◌≤◌, length}
 use Rattle.link_limits.specs.declared.TheConstants.{MOST_VALUE}
-use Rattle.price_check.specs.Capacities.{capacity_of}
-use Rattle.assignment_steps.specs.Market.{edge, number}
+use Rattle.price_check.specs.Assignment.{capacity_of}
+use Rattle.assignment_steps.specs.Words.{edge, number}
 use Rattle.capacity_assign.proofs.start.closed_prices.Given as goal
 
 abbrev pub invariant-loop-k : goal.invariant-loop-k

@@ -1,5 +1,5 @@
 use Rattle.std.proofs.Common.{arith}
-use Rattle.assignment_steps.specs.CandidatesLaws.{few_edges, rising_edges}
+use Rattle.assignment_steps.specs.Words.{few_edges, rising_edges}
 use Rattle.capacity_assign.proofs.start.listed_edges.Goals as goal
 
 pub starts_of-requires-clause-rising : goal.starts_of-requires-clause-rising

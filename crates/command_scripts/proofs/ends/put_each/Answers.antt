@@ -1,7 +1,6 @@
 use Rattle.std.proofs.Common.{◌<◌, arith, length, ◌∙◌}
 use Rattle.std.proofs.lemmas.List.{get_or-map, length-map}
-use Rattle.command_scripts.specs.Due.{no_put, put_in, puts_in}
-use Rattle.command_scripts.specs.PutLaws.{puts_go, puts_stop}
+use Rattle.command_scripts.specs.Words.{no_put, put_in, puts_in, puts_go, puts_stop}
 use Rattle.command_scripts.proofs.ends.put_each.Goals as goal
 
 pub returns-in-Err : goal.returns-in-Err

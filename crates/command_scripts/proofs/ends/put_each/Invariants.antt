@@ -1,5 +1,5 @@
 use Rattle.std.proofs.Common.{◌≡◌, take}
-use Rattle.command_scripts.specs.Due.{after_puts, puts_in}
+use Rattle.command_scripts.specs.Words.{after_puts, puts_in}
 use Rattle.command_scripts.proofs.ends.put_each.Given as goal
 
 abbrev pub invariant-loop-output : goal.invariant-loop-output

@@ -1,5 +1,5 @@
 use Rattle.link_limits.specs.declared.TheConstants.{MOST_WRITTEN_BYTES}
-use Rattle.command_scripts.specs.StepLaws.{takes_load}
+use Rattle.command_scripts.specs.Words.{takes_load}
 use Rattle.command_scripts.proofs.load.load_written.Goals as goal
 
 pub returns-clause-takes : goal.returns-clause-takes

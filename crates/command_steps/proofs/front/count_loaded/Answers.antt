@@ -1,4 +1,4 @@
-use Rattle.command_scripts.specs.StepLaws.{takes_go, takes_stop}
+use Rattle.command_scripts.specs.Words.{takes_go, takes_stop}
 use Rattle.command_steps.proofs.front.count_loaded.Goals as goal
 
 pub returns-in_err-files-clause-takes : goal.returns-in_err-files-clause-takes

@@ -1,7 +1,7 @@
 use Rattle.std.proofs.Common.{◌≡◌, ℕ, List, Ok, subst}
-use Rattle.link_base.specs.Fault.{Refuses}
+use Rattle.link_base.specs.Words.{Refuses}
 use Rattle.settings.specs.Settings.{settings}
-use Rattle.command_scripts.specs.StepLaws.{takes_go, takes_ok, takes_refused, takes_stop}
+use Rattle.command_scripts.specs.Words.{takes_go, takes_ok, takes_refused, takes_stop}
 use Rattle.command_steps.proofs.front.load_plan.Goals as goal
 
 pub returns-in_err-bytes-clause-takes : goal.returns-in_err-bytes-clause-takes

@@ -1,5 +1,5 @@
 use Rattle.link_core.specs.Prepared.{files_of}
-use Rattle.command_scripts.specs.StepLaws.{seen_err, takes_go, takes_ok, takes_refused, takes_stop}
+use Rattle.command_scripts.specs.Words.{seen_err, takes_go, takes_ok, takes_refused, takes_stop}
 use Rattle.command_steps.proofs.front.load_prepared.Goals as goal
 
 pub returns-in_err-inputs-clause-takes : goal.returns-in_err-inputs-clause-takes

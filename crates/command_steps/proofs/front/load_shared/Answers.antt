@@ -1,5 +1,5 @@
 use Rattle.std.proofs.Common.{refl}
-use Rattle.command_scripts.specs.StepLaws.{takes_go, takes_ok, takes_stop}
+use Rattle.command_scripts.specs.Words.{takes_go, takes_ok, takes_stop}
 use Rattle.command_steps.proofs.front.load_shared.Goals as goal
 
 pub returns-in_err-plan-clause-takes : goal.returns-in_err-plan-clause-takes

@@ -1,7 +1,7 @@
 use Rattle.std.proofs.Common.{refl}
-use Rattle.link_core.specs.Decisions.{decisions_of}
+use Rattle.link_core.specs.Rules.{decisions_of}
 use Rattle.command_steps.specs.Reviewed.{shared_decisions_of}
-use Rattle.command_scripts.specs.StepLaws.{seen_err, takes_fault, takes_go, takes_ok, takes_stop}
+use Rattle.command_scripts.specs.Words.{seen_err, takes_fault, takes_go, takes_ok, takes_stop}
 use Rattle.command_steps.proofs.reviewed.load_decisions.Goals as goal
 
 pub returns-in_err-shares-clause-takes : goal.returns-in_err-shares-clause-takes

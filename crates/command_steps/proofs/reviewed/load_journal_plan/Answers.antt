@@ -1,10 +1,9 @@
-use Rattle.std.proofs.Common.{◌≡◌, ◌∙◌, Bool, true, false, codes, if◌then◌else◌, Result, Ok, Err, refl, sym}
-use Rattle.std.proofs.lemmas.Bool.{true≢false}
-use Rattle.link_base.specs.Fault.{Refuses}
+use Rattle.std.proofs.Common.{◌≡◌, ◌∙◌, Bool, true, false, codes, if◌then◌else◌, Result, Ok, Err, refl, sym, true≢false}
+use Rattle.link_base.specs.Words.{Refuses}
 use Rattle.link_base.specs.declared.fault.Fault.{Fault}
 use Rattle.link_base.specs.declared.fault.Fault.TheVariants as fault
 use Rattle.link_plan.specs.declared.plan.Plan.{Plan}
-use Rattle.command_scripts.specs.StepLaws.{takes_fault, takes_go, takes_ok, takes_stop}
+use Rattle.command_scripts.specs.Words.{takes_fault, takes_go, takes_ok, takes_stop}
 use Rattle.command_steps.proofs.reviewed.load_journal_plan.Goals as goal
 
 -- a plan that names a journal, and one that names none

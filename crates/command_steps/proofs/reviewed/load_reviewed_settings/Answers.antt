@@ -1,6 +1,6 @@
 use Rattle.std.proofs.Common.{refl}
 use Rattle.command_steps.specs.Reviewed.{found_of}
-use Rattle.command_scripts.specs.StepLaws.{seen_err, takes_go, takes_ok, takes_stop}
+use Rattle.command_scripts.specs.Words.{seen_err, takes_go, takes_ok, takes_stop}
 use Rattle.command_steps.proofs.reviewed.load_reviewed_settings.Goals as goal
 
 pub returns-in_err-plan-clause-takes : goal.returns-in_err-plan-clause-takes

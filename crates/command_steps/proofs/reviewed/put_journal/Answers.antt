@@ -1,4 +1,4 @@
-use Rattle.command_scripts.specs.PutLaws.{journal_put, puts_as}
+use Rattle.command_scripts.specs.Words.{journal_put, puts_as}
 use Rattle.command_steps.proofs.reviewed.put_journal.Goals as goal
 
 pub returns : goal.returns

@@ -1,5 +1,4 @@
-use Rattle.std.proofs.Common.{◌≡◌, ◌≢◌, ◌+◌, ◌*◌, ◌%◌, ◌^◌, ◌<◌, length, ap, arith, get_or-set_same, get_or-set_other, below_more, ◌∙◌}
-use Rattle.std.proofs.lemmas.List.{length-set}
+use Rattle.std.proofs.Common.{◌≡◌, ◌≢◌, ◌+◌, ◌*◌, ◌%◌, ◌^◌, ◌<◌, length, ap, arith, get_or-set_same, get_or-set_other, below_more, ◌∙◌, length-set}
 use Rattle.rand_chacha.specs.ChaCha.{word_at}
 use Rattle.decision_rule.proofs.border.block_of.Goals as goal
 

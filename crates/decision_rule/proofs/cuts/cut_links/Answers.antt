@@ -4,7 +4,7 @@ use Rattle.std.proofs.lemmas.List.{take_more_set}
 use Rattle.std.proofs.lemmas.List.Elements.{AllWithin-more_set}
 use Rattle.decision_rule.specs.Filled.{chances_of}
 use Rattle.link_base.specs.declared.rule.RuleCell.{RuleCell}
-use Rattle.link_base.specs.Rule.{empty_cell}
+use Rattle.link_base.specs.Words.{empty_cell}
 use Rattle.decision_rule.specs.FilledLaws.{same_length, same_at}
 use Rattle.decision_rule.proofs.Lemmas.{walk_step, links_cut}
 use Rattle.decision_rule.proofs.cuts.cut_links.Goals as goal

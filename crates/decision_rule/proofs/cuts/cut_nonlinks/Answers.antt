@@ -3,7 +3,7 @@ use Rattle.std.proofs.Math.Seq.{map-set_same}
 use Rattle.std.proofs.lemmas.List.{drop-set, length-set, reverse-append}
 use Rattle.decision_rule.specs.Filled.{chances_of}
 use Rattle.link_base.specs.declared.rule.RuleCell.{RuleCell}
-use Rattle.link_base.specs.Rule.{empty_cell}
+use Rattle.link_base.specs.Words.{empty_cell}
 use Rattle.decision_rule.specs.FilledLaws.{same_length, same_at}
 use Rattle.decision_rule.proofs.Lemmas.{walk_step, bound_step_down, nonlinks_cut}
 use Rattle.decision_rule.proofs.cuts.cut_nonlinks.Goals as goal

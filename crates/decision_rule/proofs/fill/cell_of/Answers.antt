@@ -1,7 +1,7 @@
 use Rattle.std.proofs.Common.{◌/◌, arith, rules}
 use Rattle.std.proofs.lemmas.Int.{ints}
 use Rattle.std.proofs.lemmas.Nat.{mod_below}
-use Rattle.patterns.specs.ChanceLaws.{product_small}
+use Rattle.patterns.specs.PatternLaws.{product_small}
 use Rattle.decision_rule.proofs.Lemmas.{step, product_step, product_fits}
 use Rattle.decision_rule.proofs.fill.cell_of.Goals as goal
 

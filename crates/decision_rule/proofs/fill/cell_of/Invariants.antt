@@ -1,5 +1,5 @@
 use Rattle.std.proofs.Common.{◌≡◌, ◌*◌, ◌^◌, ◌≤◌, ◌<◌, drop, ◌+ℤ◌, ◌-ℤ◌, ◌≤ℤ◌, pos}
-use Rattle.patterns.specs.Chances.{pattern_count_of, m_of, u_of, weight_of}
+use Rattle.patterns.specs.Patterns.{pattern_count_of, m_of, u_of, weight_of}
 use Rattle.decision_rule.proofs.fill.cell_of.Given as goal
 
 abbrev pub invariant-loop-field : goal.invariant-loop-field

@@ -1,5 +1,5 @@
 use Rattle.std.proofs.Common.{arith, rules}
-use Rattle.patterns.specs.ChanceLaws.{pattern_count_small}
+use Rattle.patterns.specs.PatternLaws.{pattern_count_small}
 use Rattle.decision_rule.proofs.Lemmas.{filled_all}
 use Rattle.decision_rule.proofs.fill.fill.Goals as goal
 

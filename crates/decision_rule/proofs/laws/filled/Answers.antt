@@ -1,5 +1,4 @@
-use Rattle.decision_rule.specs.FilledLaws.{cut_form_from_filled, one_filled}
-use Rattle.decision_rule.specs.RuleLaws.{least}
+use Rattle.decision_rule.specs.FilledLaws.{cut_form_from_filled, one_filled, least}
 use Rattle.decision_rule.proofs.laws.filled.Goals as goal
 
 pub returns-clause-least : goal.returns-clause-least

@@ -1,8 +1,7 @@
-use Rattle.decision_rule.specs.FilledLaws.{links_kept, positive_cells}
+use Rattle.decision_rule.specs.FilledLaws.{links_kept, positive_cells, permuted, in_order, order_kept, least, within_ranges}
 use Rattle.std.proofs.Common.{◌≡◌, ℕ, ◌*◌, ◌^◌, ◌∙◌, arith, length, map, reverse, rules, subst}
 use Rattle.std.proofs.lemmas.Nat.{mul-le}
 use Rattle.decision_rule.specs.Filled.{asked_of, chances_of, LinksAreCut, NonlinksAreCut}
-use Rattle.decision_rule.specs.RuleLaws.{permuted, in_order, order_kept, least, within_ranges}
 use Rattle.decision_rule.proofs.rule.cut_cells.Goals as goal
 
 pub overflow_mul-from : goal.overflow_mul-from

@@ -1,5 +1,5 @@
-use Rattle.dedup_groups.proofs.ForestLemmas.{law}
+use Rattle.dedup_groups.proofs.ForestLemmas.{leaders_of_forest}
 use Rattle.dedup_groups.proofs.laws.forest_leaders.Goals as goal
 
 pub returns : goal.returns
-returns c = law
+returns c = leaders_of_forest

@@ -1,6 +1,5 @@
 use Rattle.std.proofs.Common.{◌≡◌, ◌++◌, ◌∷◌, ◌∙◌, ℕ, List, [], length, ap, arith}
-use Rattle.dedup_groups.specs.Search.{waiting_room}
-use Rattle.dedup_groups.specs.Trees.{lists_of}
+use Rattle.dedup_groups.specs.Forest.{waiting_room, lists_of}
 use Rattle.dedup_groups.proofs.SearchLemmas.{room_first, search_first, search_last}
 use Rattle.dedup_groups.proofs.search.search_from.Goals as goal
 

@@ -1,6 +1,5 @@
 use Rattle.std.proofs.Common.{◌-◌, ◌<◌, ◌^◌}
-use Rattle.dedup_groups.specs.Search.{IsSearch, waiting_room}
-use Rattle.dedup_groups.specs.Trees.{lists_of}
+use Rattle.dedup_groups.specs.Forest.{IsSearch, waiting_room, lists_of}
 use Rattle.dedup_groups.proofs.search.search_from.Given as goal
 
 abbrev pub invariant-search : goal.invariant-search

@@ -1,6 +1,6 @@
 use Rattle.std.proofs.Common.{◌∙◌, arith}
 use Rattle.std.proofs.lemmas.List.{get_or_read}
-use Rattle.dedup_groups.specs.Trees.{lists_of}
+use Rattle.dedup_groups.specs.Forest.{lists_of}
 use Rattle.dedup_groups.proofs.SearchLemmas.{found_first, found_next}
 use Rattle.dedup_groups.proofs.search.trees_of.Goals as goal
 use Rattle.dedup_groups.proofs.search.trees_of.Goals.{then-index-leader+in_ok-search_from, else-index-leader}

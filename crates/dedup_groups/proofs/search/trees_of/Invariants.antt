@@ -1,5 +1,4 @@
-use Rattle.dedup_groups.specs.Search.{AreFound}
-use Rattle.dedup_groups.specs.Trees.{lists_of}
+use Rattle.dedup_groups.specs.Forest.{AreFound, lists_of}
 use Rattle.dedup_groups.proofs.search.trees_of.Given as goal
 
 abbrev pub invariant-loop-leader : goal.invariant-loop-leader

@@ -1,5 +1,4 @@
-use Rattle.dedup_groups.specs.Search.{waiting_room}
-use Rattle.dedup_groups.specs.Trees.{lists_of}
+use Rattle.dedup_groups.specs.Forest.{waiting_room, lists_of}
 use Rattle.dedup_groups.proofs.SearchLemmas.{IsVisit}
 use Rattle.dedup_groups.proofs.search.visit_all.Given as goal
 

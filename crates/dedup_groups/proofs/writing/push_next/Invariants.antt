@@ -1,5 +1,4 @@
-use Rattle.std.proofs.Common.{◌≡◌, ◌++◌, take}
-use Rattle.std.specs.List.{flat_map}
+use Rattle.std.proofs.Common.{◌≡◌, ◌++◌, take, flat_map}
 use Rattle.dedup_groups.specs.GroupsText.{group_row}
 use Rattle.dedup_groups.proofs.writing.push_next.Given as goal
 

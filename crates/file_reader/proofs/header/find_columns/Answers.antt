@@ -1,6 +1,6 @@
 use Rattle.std.proofs.Common.{[], arith}
 use Rattle.csv.specs.Records.{fields_of}
-use Rattle.file_reader.specs.Layout.{column_in}
+use Rattle.file_reader.specs.Words.{column_in}
 use Rattle.file_reader.proofs.FindFacts.{made_more}
 use Rattle.file_reader.proofs.header.find_columns.Goals as goal
 

@@ -1,6 +1,6 @@
 use Rattle.std.proofs.Common.{◌≡◌, drop, find, ◌==◌}
 use Rattle.csv.specs.Records.{fields_of}
-use Rattle.file_reader.specs.Layout.{count_in}
+use Rattle.file_reader.specs.Words.{count_in}
 use Rattle.file_reader.proofs.header.test_missing.Given as goal
 
 abbrev pub invariant-loop-name : goal.invariant-loop-name

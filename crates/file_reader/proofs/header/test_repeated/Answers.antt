@@ -1,7 +1,7 @@
 use Rattle.std.proofs.Common.{◌∙◌, ap, arith, nat_lt, sym}
 use Rattle.csv.specs.Records.{fields_of}
 use Rattle.link_base.specs.declared.fault.Fault.TheVariants as fault
-use Rattle.file_reader.specs.Layout.{count_in}
+use Rattle.file_reader.specs.Words.{count_in}
 use Rattle.file_reader.proofs.FindFacts.{fault_here, find_next, more_than, no_more}
 use Rattle.file_reader.proofs.header.test_repeated.Goals as goal
 

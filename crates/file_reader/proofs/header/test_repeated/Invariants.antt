@@ -1,6 +1,6 @@
 use Rattle.std.proofs.Common.{◌≡◌, drop, find, nat_lt}
 use Rattle.csv.specs.Records.{fields_of}
-use Rattle.file_reader.specs.Layout.{count_in}
+use Rattle.file_reader.specs.Words.{count_in}
 use Rattle.file_reader.proofs.header.test_repeated.Given as goal
 
 abbrev pub invariant-loop-name : goal.invariant-loop-name

@@ -3,7 +3,7 @@ use Rattle.std.specs.Str.{is_utf8}
 use Rattle.std.proofs.lemmas.Str.{is_utf8-from_IsUtf8, IsUtf8-from_ascii}
 use Rattle.csv.specs.Records.{fields_of}
 use Rattle.link_limits.specs.declared.TheConstants.{MOST_FIELD_BYTES}
-use Rattle.file_reader.specs.Layout.{cell}
+use Rattle.file_reader.specs.Words.{cell}
 use Rattle.file_reader.specs.declared.layout.Column.{Column}
 use Rattle.file_reader.proofs.FindFacts.{find_next, no_more, none_found}
 use Rattle.file_reader.proofs.rows.are_plain.Goals as goal

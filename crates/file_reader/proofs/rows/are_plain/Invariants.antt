@@ -2,7 +2,7 @@ use Rattle.std.proofs.Common.{◌≡◌, drop, length, find, nat_lt, not}
 use Rattle.std.specs.Str.{is_utf8}
 use Rattle.csv.specs.Records.{fields_of}
 use Rattle.link_limits.specs.declared.TheConstants.{MOST_FIELD_BYTES}
-use Rattle.file_reader.specs.Layout.{cell}
+use Rattle.file_reader.specs.Words.{cell}
 use Rattle.file_reader.proofs.rows.are_plain.Given as goal
 
 abbrev pub invariant-loop-needed : goal.invariant-loop-needed

@@ -1,11 +1,7 @@
-use Rattle.std.proofs.Common.{◌≡◌, ◌+◌, ◌∷◌, ◌∙◌, arith, rules, subst, sym, List, [], ℕ}
-use Rattle.std.specs.List.{All}
+use Rattle.std.proofs.Common.{◌≡◌, ◌+◌, ◌∷◌, ◌∙◌, arith, rules, subst, sym, List, [], ℕ, All}
 use Rattle.csv.specs.Records.{fields_of}
-use Rattle.file_reader.specs.Layout.{cells_of, field_columns, heading_of}
-use Rattle.file_reader.specs.Rows.{with_ids}
-use Rattle.file_reader.specs.Table.{IsFieldText}
+use Rattle.file_reader.specs.Words.{cells_of, field_columns, heading_of, with_ids, IsFieldText, length_with}
 use Rattle.file_reader.proofs.ReadFacts.{one_too_many, refuses}
-use Rattle.file_reader.specs.RowLaws.{length_with}
 use Rattle.file_reader.proofs.RowFacts.{all_taken, fields_texts, underway_more}
 use Rattle.file_reader.proofs.rows.fill_rows.Goals as goal
 

@@ -1,6 +1,5 @@
 use Rattle.std.proofs.Common.{◌≡◌, ◌≤◌, length}
-use Rattle.file_reader.specs.Layout.{field_columns, heading_of}
-use Rattle.file_reader.specs.Steps.{IsUnderway}
+use Rattle.file_reader.specs.Words.{field_columns, heading_of, IsUnderway}
 use Rattle.file_reader.proofs.rows.fill_rows.Given as goal
 
 abbrev pub invariant-rows : goal.invariant-rows

@@ -1,10 +1,6 @@
 use Rattle.std.proofs.Common.{◌∙◌, ap, sym, Ok, is_some}
-use Rattle.file_reader.specs.Left.{records_in}
-use Rattle.file_reader.specs.Layout.{wanted_of}
-use Rattle.file_reader.specs.Table.{table_of}
-use Rattle.file_reader.specs.Takers.{HasCells}
+use Rattle.file_reader.specs.Words.{records_in, table_of, wanted_of, HasCells, table_sound}
 use Rattle.file_reader.proofs.RowFacts.{table_taken, taken_ids}
-use Rattle.file_reader.specs.TableLaws.{table_sound}
 use Rattle.file_reader.proofs.rows.read_table.Goals as goal
 
 pub new-requires-clause-ids : goal.new-requires-clause-ids

@@ -2,7 +2,7 @@ use Rattle.std.proofs.Common.{◌∙◌, ap, arith, length, nat_lt, sym}
 use Rattle.csv.specs.Records.{fields_of}
 use Rattle.link_base.specs.declared.fault.Fault.TheVariants as fault
 use Rattle.link_limits.specs.declared.TheConstants.{MOST_FIELD_BYTES}
-use Rattle.file_reader.specs.Layout.{cell}
+use Rattle.file_reader.specs.Words.{cell}
 use Rattle.file_reader.specs.declared.layout.Column.{Column}
 use Rattle.file_reader.proofs.FindFacts.{fault_here, find_next, more_than, no_more}
 use Rattle.file_reader.proofs.rows.test_lengths.Goals as goal

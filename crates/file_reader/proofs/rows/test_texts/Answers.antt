@@ -1,4 +1,4 @@
-use Rattle.file_reader.specs.Layout.{heading_of}
+use Rattle.file_reader.specs.Words.{heading_of}
 use Rattle.file_reader.proofs.ReadFacts.{plain_faultless}
 use Rattle.file_reader.proofs.rows.test_texts.Goals as goal
 use Rattle.file_reader.proofs.rows.test_texts.Goals.{then-is_plain_row-via-then-is_plain_row, then-is_plain_row-via-else-is_plain_row+then-are_plain}

@@ -2,7 +2,7 @@ use Rattle.std.proofs.Common.{◌∙◌, ap, arith, length, sym, not}
 use Rattle.std.specs.Str.{is_utf8}
 use Rattle.csv.specs.Records.{fields_of}
 use Rattle.link_base.specs.declared.fault.Fault.TheVariants as fault
-use Rattle.file_reader.specs.Layout.{cell}
+use Rattle.file_reader.specs.Words.{cell}
 use Rattle.file_reader.specs.declared.layout.Column.{Column}
 use Rattle.file_reader.proofs.FindFacts.{fault_here, find_next}
 use Rattle.file_reader.proofs.rows.test_utf8.Goals as goal

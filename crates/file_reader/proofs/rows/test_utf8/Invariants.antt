@@ -1,7 +1,7 @@
 use Rattle.std.proofs.Common.{◌≡◌, drop, find, not}
 use Rattle.std.specs.Str.{is_utf8}
 use Rattle.csv.specs.Records.{fields_of}
-use Rattle.file_reader.specs.Layout.{cell}
+use Rattle.file_reader.specs.Words.{cell}
 use Rattle.file_reader.proofs.rows.test_utf8.Given as goal
 
 abbrev pub invariant-loop-needed : goal.invariant-loop-needed

@@ -1,6 +1,5 @@
-use Rattle.std.proofs.Common.{◌≢◌, arith, subst}
+use Rattle.std.proofs.Common.{◌≢◌, arith, subst, take_all}
 use Rattle.std.proofs.lemmas.List.Elements.{All-more}
-use Rattle.std.proofs.lemmas.List.{take_all}
 use Rattle.host_outside.specs.declared.loads.Loaded.{Loaded}
 use Rattle.host_outside.proofs.loads.is_loaded.Goals as goal
 

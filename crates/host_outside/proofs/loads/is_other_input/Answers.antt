@@ -1,5 +1,4 @@
-use Rattle.std.proofs.Common.{arith}
-use Rattle.std.proofs.lemmas.List.{take_all}
+use Rattle.std.proofs.Common.{arith, take_all}
 use Rattle.host_outside.proofs.loads.is_other_input.Goals as goal
 
 pub returns-clause-none : goal.returns-clause-none

@@ -1,5 +1,4 @@
-use Rattle.std.proofs.Common.{arith}
-use Rattle.std.proofs.lemmas.List.{length-set}
+use Rattle.std.proofs.Common.{arith, length-set}
 use Rattle.level_frontier.proofs.Lemmas.{row_step, rows_fall, row_near}
 use Rattle.level_frontier.proofs.levels.frontier.Goals as goal
 

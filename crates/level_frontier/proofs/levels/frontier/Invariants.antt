@@ -1,5 +1,5 @@
 use Rattle.std.proofs.Common.{◌≡◌, ℕ, ◌<◌, length, slice_index, slice_index_or, vec_len}
-use Rattle.patterns.specs.Chances.{pattern_count_of}
+use Rattle.patterns.specs.Patterns.{pattern_count_of}
 use Rattle.level_frontier.specs.Frontier.{IsFrontierRow}
 use Rattle.level_frontier.specs.declared.levels.FrontierRow.{FrontierRow}
 use Rattle.level_frontier.proofs.levels.frontier.Given as goal

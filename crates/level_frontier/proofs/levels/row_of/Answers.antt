@@ -1,5 +1,5 @@
 use Rattle.std.proofs.Common.{◌≡◌, ap, arith, ◌∙◌}
-use Rattle.patterns.specs.ChanceLaws.{pattern_count_small}
+use Rattle.patterns.specs.PatternLaws.{pattern_count_small}
 use Rattle.level_frontier.specs.Borders.{border_m, border_u, link_border_of, nonlink_border_of}
 use Rattle.level_frontier.proofs.Lemmas.{slack_small}
 use Rattle.level_frontier.proofs.levels.row_of.Goals as goal

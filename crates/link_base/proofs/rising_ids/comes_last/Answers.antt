@@ -1,6 +1,6 @@
 use Rattle.std.proofs.Common.{◌∙◌, ◌-◌, [], ap, get_or, sym}
 use Rattle.link_base.proofs.RisingFacts.{after_last}
-use Rattle.link_base.specs.RisingIds.{comes_before}
+use Rattle.link_base.specs.Words.{comes_before}
 use Rattle.link_base.proofs.rising_ids.comes_last.Goals as goal
 
 pub returns : goal.returns

@@ -1,7 +1,7 @@
 use Rattle.std.proofs.Common.{◌∙◌, ◌+◌, ◌-◌, ◌/◌, ap, arith, sym}
 use Rattle.link_base.proofs.RegionFacts.{new_if_none}
 use Rattle.link_base.proofs.RisingFacts.{above_middle, below_middle, place_found, place_none}
-use Rattle.link_base.specs.RisingIds.{comes_before}
+use Rattle.link_base.specs.Words.{comes_before}
 use Rattle.link_base.proofs.rising_ids.find_rising.Goals as goal
 
 pub halves-preserved-then-comes_before : goal.halves-preserved-then-comes_before

@@ -1,5 +1,5 @@
 use Rattle.std.proofs.Common.{◌≡◌, ◌<◌, ◌≤◌, ◌-◌, ℕ, [], get_or, length, true}
-use Rattle.link_base.specs.RisingIds.{comes_before}
+use Rattle.link_base.specs.Words.{comes_before}
 use Rattle.link_base.proofs.rising_ids.find_rising.Given as goal
 
 abbrev pub invariant-halves : goal.invariant-halves

@@ -1,6 +1,6 @@
 use Rattle.std.proofs.Common.{map}
-use Rattle.link_core.specs.ColumnPairs.{first_field}
-use Rattle.link_core.proofs.RuleLemmas.{columns_paired}
+use Rattle.link_core.specs.Pairs.{first_field}
+use Rattle.link_core.proofs.ResultLemmas.{columns_paired}
 use Rattle.link_core.proofs.column_pairs.compare_columns.Goals as goal
 
 pub returns : goal.returns

@@ -1,7 +1,7 @@
 use Rattle.std.proofs.Common.{◌<◌, ap, arith, length, map}
 use Rattle.std.proofs.lemmas.List.{length-append, length-map}
-use Rattle.pair_walk.specs.Pairs.{pair}
-use Rattle.link_core.proofs.RuleLemmas.{all_told, row_told, too_many_told}
+use Rattle.pair_walk.specs.Rows.{pair}
+use Rattle.link_core.proofs.ResultLemmas.{all_told, row_told, too_many_told}
 use Rattle.link_core.proofs.column_rows.list_pairs.Goals as goal
 
 pub loop-at-preserved : goal.loop-at-preserved

@@ -1,6 +1,6 @@
 use Rattle.std.proofs.Common.{◌≡◌, ◌≤◌, ◌++◌, drop, length}
 use Rattle.link_limits.specs.declared.TheConstants.{MOST_PAIRS}
-use Rattle.link_core.specs.ColumnRows.{pairs_from}
+use Rattle.link_core.specs.Pairs.{pairs_from}
 use Rattle.link_core.proofs.column_rows.list_pairs.Given as goal
 
 abbrev pub invariant-loop-at : goal.invariant-loop-at

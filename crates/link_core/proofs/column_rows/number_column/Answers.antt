@@ -1,10 +1,9 @@
 use Rattle.std.proofs.Common.{◌≡◌, ◌∷◌, ◌++◌, ◌∙◌, [], ap, arith, length, map, rules, sym}
 use Rattle.std.proofs.lemmas.List.{get_or-map}
 use Rattle.block_passes.specs.NumberingLaws.{given_more, numbered_more}
-use Rattle.file_reader.specs.Rows.{no_row}
-use Rattle.link_core.specs.ColumnPairs.{first_field, present}
-use Rattle.link_core.specs.ColumnRows.{compared_field}
-use Rattle.link_core.proofs.RuleLemmas.{field_short, kept_on}
+use Rattle.file_reader.specs.Words.{no_row}
+use Rattle.link_core.specs.Pairs.{first_field, present, compared_field}
+use Rattle.link_core.proofs.ResultLemmas.{field_short, kept_on}
 use Rattle.link_core.proofs.column_rows.number_column.Goals as goal
 
 pub loop-at-preserved : goal.loop-at-preserved

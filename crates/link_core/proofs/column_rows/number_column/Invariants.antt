@@ -1,7 +1,6 @@
 use Rattle.std.proofs.Common.{◌≡◌, ◌≤◌, ◌+◌, ◌*◌, map}
 use Rattle.block_passes.specs.Numbering.{AreNumbered, AreNumbers, KeepNumbers}
-use Rattle.link_core.specs.ColumnPairs.{first_field}
-use Rattle.link_core.specs.ColumnRows.{compared_field}
+use Rattle.link_core.specs.Pairs.{first_field, compared_field}
 use Rattle.link_limits.specs.declared.TheConstants.{MOST_FIELD_BYTES}
 use Rattle.link_core.proofs.column_rows.number_column.Given as goal
 

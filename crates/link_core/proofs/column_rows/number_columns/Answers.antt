@@ -1,5 +1,5 @@
 use Rattle.std.proofs.Common.{arith}
-use Rattle.link_core.proofs.RuleLemmas.{rows_matched}
+use Rattle.link_core.proofs.ResultLemmas.{rows_matched}
 use Rattle.link_core.proofs.column_rows.number_columns.Goals as goal
 
 pub returns-clause-matched : goal.returns-clause-matched

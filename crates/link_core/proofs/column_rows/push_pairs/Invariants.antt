@@ -1,5 +1,5 @@
 use Rattle.std.proofs.Common.{◌≡◌, ◌++◌, map, take}
-use Rattle.pair_walk.specs.Pairs.{pair}
+use Rattle.pair_walk.specs.Rows.{pair}
 use Rattle.link_core.proofs.column_rows.push_pairs.Given as goal
 
 abbrev pub invariant-loop-b : goal.invariant-loop-b

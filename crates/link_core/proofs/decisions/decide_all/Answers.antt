@@ -1,11 +1,10 @@
 use Rattle.std.proofs.Common.{◌≡◌, ◌∙◌, ◌≤◌, ℕ, List, ap, length, subst, sym, All, AllPairs}
 use Rattle.comparators.specs.declared.ids.IdValue.{IdValue}
-use Rattle.link_base.specs.Rule.{IsPairBefore}
+use Rattle.link_base.specs.Words.{IsPairBefore}
 use Rattle.link_base.specs.declared.rule.PairAt.{PairAt}
 use Rattle.link_limits.specs.declared.TheConstants.{MOST_ROWS}
-use Rattle.pair_decisions.specs.PairRule.{AreSidesFor}
-use Rattle.pair_decisions.specs.Pairs.{IsInside}
-use Rattle.pair_walk.specs.Pairs.{pairs_of_rows}
+use Rattle.pair_decisions.specs.Words.{AreSidesFor, IsInside}
+use Rattle.pair_walk.specs.Rows.{pairs_of_rows}
 use Rattle.link_core.specs.Results.{compared_in}
 use Rattle.link_core.proofs.StepLemmas.{answered, decided_for_plan, decided_in_files, rows_kept, rule_of_plan, told_of, pairs_inside, pairs_rise, walked_pairs}
 use Rattle.link_core.proofs.decisions.decide_all.Goals as goal

@@ -2,19 +2,12 @@ use Rattle.std.proofs.Common.{◌≡◌, ◌≤◌, ◌∙◌, ℕ, ap, List, ma
 use Rattle.comparators.specs.declared.ids.IdValue.{IdValue}
 use Rattle.link_limits.specs.declared.TheConstants.{MOST_ROWS}
 use Rattle.standard_files.specs.Ready.{AreFileSides}
-use Rattle.link_core.proofs.RuleLemmas.{rares_seen, sides_of_plan}
-use Rattle.link_core.specs.Decisions.{rule_over}
+use Rattle.link_core.proofs.ResultLemmas.{rares_seen, sides_of_plan, patterns_are, if_ok}
+use Rattle.link_core.specs.Rules.{rule_over, shared_rares}
 use Rattle.link_core.specs.Prepared.{kinds_of}
-use Rattle.link_core.specs.Rules.{shared_rares}
 use Rattle.link_base.specs.declared.rule.RuleCell.{RuleCell}
-use Rattle.link_core.proofs.ResultLemmas.{patterns_are, if_ok}
-use Rattle.pair_decisions.specs.FieldComparators.{pattern_of_pair}
-use Rattle.pair_decisions.specs.PairRule.{AreCellsOf, AreSidesFor, IsRuleOver, PairRuleView, pattern_over, side_rule}
-use Rattle.patterns.specs.Shapes.{pattern_count_by}
-use Rattle.pair_decisions.specs.Comparators.{answers_of, rares_of}
-use Rattle.pair_decisions.specs.PlanRule.{IsRuleOf}
-use Rattle.pair_decisions.specs.PlanShares.{plain_all}
-use Rattle.pair_decisions.specs.TheRule.{the_rule}
+use Rattle.pair_decisions.specs.Words.{pattern_of_pair, AreCellsOf, AreSidesFor, IsRuleOver, PairRuleView, pattern_over, side_rule, answers_of, rares_of, IsRuleOf, plain_all, the_rule}
+use Rattle.patterns.specs.Patterns.{pattern_count_by}
 use Rattle.link_plan.specs.Plan.{PlainShares}
 use Rattle.link_core.proofs.decisions.rule_for.Goals as goal
 

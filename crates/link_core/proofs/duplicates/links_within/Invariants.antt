@@ -1,6 +1,6 @@
 use Rattle.std.proofs.Common.{◌≡◌, ◌≤◌, length, take, All}
 use Rattle.dedup_groups.specs.Groups.{IsLinkWithin}
-use Rattle.link_core.specs.Duplicates.{links_within}
+use Rattle.link_core.specs.Prepared.{links_within}
 use Rattle.link_core.proofs.duplicates.links_within.Given as goal
 
 abbrev pub invariant-loop-at : goal.invariant-loop-at

@@ -1,11 +1,10 @@
 use Rattle.std.proofs.Common.{◌<◌, ◌≡◌, ◌++◌, ◌∙◌, ℕ, List, ap, length, subst, sym, All}
-use Rattle.price_check.specs.Capacities.{CertifiesWithin, IsGreatestWithin}
+use Rattle.price_check.specs.Assignment.{CertifiesWithin, IsGreatestWithin}
 use Rattle.capacity_assign.specs.Solution.{IsAllowedCapacity}
-use Rattle.link_base.specs.Standard.{Record}
+use Rattle.link_base.specs.Words.{Record}
 use Rattle.link_base.specs.declared.rule.Candidate.{Candidate}
-use Rattle.link_report.specs.LinksText.{text_of_links}
-use Rattle.link_report.specs.PricesText.{text_of_prices}
-use Rattle.link_core.specs.Decisions.{rule_in}
+use Rattle.link_report.specs.LinksText.{text_of_links, text_of_prices}
+use Rattle.link_core.specs.Rules.{rule_in}
 use Rattle.link_core.specs.Many.{IsManyText}
 use Rattle.link_core.specs.Results.{candidates_in}
 use Rattle.link_core.proofs.ResultLemmas.{handed, if_ok}

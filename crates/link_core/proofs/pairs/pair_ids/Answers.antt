@@ -1,8 +1,8 @@
 use Rattle.std.proofs.Common.{◌≡◌, ◌∙◌, List, ap, length, subst, sym, All}
-use Rattle.link_base.specs.Standard.{Record}
+use Rattle.link_base.specs.Words.{Record}
 use Rattle.link_base.specs.declared.rule.PairAt.{PairAt}
-use Rattle.pair_decisions.specs.Pairs.{IsInside}
-use Rattle.pair_walk.specs.Pairs.{pairs_of_rows}
+use Rattle.pair_decisions.specs.Words.{IsInside}
+use Rattle.pair_walk.specs.Rows.{pairs_of_rows}
 use Rattle.link_core.specs.Results.{compared_in}
 use Rattle.link_core.proofs.StepLemmas.{pairs_inside, walked_pairs}
 use Rattle.link_core.proofs.pairs.pair_ids.Goals as goal

@@ -1,9 +1,9 @@
 use Rattle.std.proofs.Common.{◌<◌, ℕ, List, arith, length, subst, sym, All}
-use Rattle.link_report.specs.Lines.{ids_line}
+use Rattle.link_report.specs.PairsText.{ids_line}
 use Rattle.link_core.proofs.StepLemmas.{lines_more, row_in_a, row_in_b}
-use Rattle.pair_walk.specs.RowLaws.{count_more, rest_holds, row_holds}
-use Rattle.pair_decisions.specs.Pairs.{IsInside}
-use Rattle.pair_walk.specs.Next.{GivesRow}
+use Rattle.pair_walk.specs.PairLaws.{count_more, rest_holds, row_holds}
+use Rattle.pair_decisions.specs.Words.{IsInside}
+use Rattle.pair_walk.specs.Walker.{GivesRow}
 use Rattle.link_core.proofs.pairs.push_rows.Goals as goal
 
 pub push_row-requires : goal.push_row-requires

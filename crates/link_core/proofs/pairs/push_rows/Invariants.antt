@@ -1,9 +1,8 @@
-use Rattle.std.proofs.Common.{◌≡◌, ◌≤◌, ◌+◌, ◌++◌, length, All}
-use Rattle.std.specs.List.{flat_map}
+use Rattle.std.proofs.Common.{◌≡◌, ◌≤◌, ◌+◌, ◌++◌, length, All, flat_map}
 use Rattle.link_limits.specs.declared.TheConstants.{MOST_PAIRS}
-use Rattle.link_report.specs.Lines.{ids_line}
-use Rattle.pair_decisions.specs.Pairs.{IsInside}
-use Rattle.pair_walk.specs.Pairs.{pairs_of_rows}
+use Rattle.link_report.specs.PairsText.{ids_line}
+use Rattle.pair_decisions.specs.Words.{IsInside}
+use Rattle.pair_walk.specs.Rows.{pairs_of_rows}
 use Rattle.link_core.proofs.pairs.push_rows.Given as goal
 
 abbrev pub invariant-rows : goal.invariant-rows

@@ -1,5 +1,5 @@
 use Rattle.std.proofs.Common.{◌≡◌, All, List, rules, subst, sym, IfOk}
-use Rattle.link_base.specs.Fault.{IsAnswer}
+use Rattle.link_base.specs.Words.{IsAnswer}
 use Rattle.value_forms.specs.declared.canons.CompareKind.{CompareKind}
 use Rattle.standard_files.specs.Ready.{ArePooled, IsRowFor}
 use Rattle.standard_files.specs.Sides.{pooled_values}

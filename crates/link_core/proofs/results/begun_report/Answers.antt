@@ -2,8 +2,8 @@ use Rattle.std.proofs.Common.{Bool, ap, arith, length}
 use Rattle.std.proofs.lemmas.List.Sums.{length-filter, count_by-le-length}
 use Rattle.link_base.specs.declared.rule.Decision.TheVariants.{Possible}
 use Rattle.link_base.specs.declared.rule.PairAt.{PairAt}
-use Rattle.pair_decisions.specs.Decisions.{decision_at, is_same}
-use Rattle.link_core.specs.Decisions.{rule_in}
+use Rattle.pair_decisions.specs.Words.{decision_at, is_same}
+use Rattle.link_core.specs.Rules.{rule_in}
 use Rattle.link_core.specs.Results.{compared_in}
 use Rattle.link_core.proofs.results.begun_report.Goals as goal
 

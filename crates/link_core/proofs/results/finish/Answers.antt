@@ -1,10 +1,9 @@
 use Rattle.std.proofs.Common.{◌≡◌, ◌∙◌, List, ap, length, refl, subst, sym}
-use Rattle.link_base.specs.Standard.{Record}
-use Rattle.pair_decisions.specs.PairRows.{AreRowsIn}
-use Rattle.link_core.specs.Decisions.{rule_in}
+use Rattle.link_base.specs.Words.{Record}
+use Rattle.pair_decisions.specs.Words.{AreRowsIn}
+use Rattle.link_core.specs.Rules.{rule_in}
 use Rattle.link_core.specs.Results.{AreRunTexts, AreTextsBy, candidates_in, five_texts}
-use Rattle.link_core.proofs.RuleLemmas.{length_alone}
-use Rattle.link_core.proofs.ResultLemmas.{as_they_are, handed, if_ok, run_texts}
+use Rattle.link_core.proofs.ResultLemmas.{length_alone, as_they_are, handed, if_ok, run_texts}
 use Rattle.link_core.proofs.results.finish.Goals as goal
 
 pub texts_by_ids-made-requires : goal.texts_by_ids-made-requires

@@ -1,8 +1,6 @@
 use Rattle.std.proofs.Common.{◌≡◌, ◌∙◌, ap, arith, length}
-use Rattle.pair_decisions.specs.CellLaws.{cells_many, few_patterns}
-use Rattle.pair_decisions.specs.PairRule.{PairRuleView}
-use Rattle.patterns.specs.Shapes.{pattern_count_by}
-use Rattle.pair_decisions.specs.Comparators.{rares_of}
+use Rattle.pair_decisions.specs.Words.{cells_many, few_patterns, PairRuleView, rares_of}
+use Rattle.patterns.specs.Patterns.{pattern_count_by}
 use Rattle.link_core.proofs.results.levels_of.Goals as goal
 
 pub attained-requires-clause-size : goal.attained-requires-clause-size

@@ -1,5 +1,5 @@
 use Rattle.std.proofs.Common.{refl}
-use Rattle.candidate_links.specs.Choice.{IsChoice}
+use Rattle.candidate_links.specs.Candidates.{IsChoice}
 use Rattle.link_core.specs.Results.{IsPlaced}
 use Rattle.link_core.proofs.ResultLemmas.{choice_placed, handed, if_ok}
 use Rattle.link_core.proofs.results.links_of.Goals as goal

@@ -1,11 +1,8 @@
 use Rattle.std.proofs.Common.{◌≡◌, ◌<◌, ◌∙◌, Bool, List, ap, subst, sym, All}
 use Rattle.link_base.specs.declared.rule.RuleCell.{RuleCell}
-use Rattle.link_report.specs.RuleText.{text_of_rule}
-use Rattle.pair_decisions.specs.CellLaws.{cells_below}
-use Rattle.pair_decisions.specs.PairRule.{PairRuleView}
-use Rattle.patterns.specs.Shapes.{pattern_count_by, rare_of}
-use Rattle.pair_decisions.specs.SideLaws.{shape_rares}
-use Rattle.pair_decisions.specs.Comparators.{rares_of}
+use Rattle.link_report.specs.LinksText.{text_of_rule}
+use Rattle.pair_decisions.specs.Words.{cells_below, shape_rares, PairRuleView, rares_of}
+use Rattle.patterns.specs.Patterns.{pattern_count_by, rare_of}
 use Rattle.link_core.proofs.ResultLemmas.{if_ok}
 use Rattle.link_core.proofs.results.rule_of.Goals as goal
 

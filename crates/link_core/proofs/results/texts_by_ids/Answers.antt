@@ -1,12 +1,10 @@
 use Rattle.std.proofs.Common.{◌≡◌, ◌<◌, ◌∙◌, length, refl, subst, All}
-use Rattle.candidate_links.specs.Choice.{IsChoice}
-use Rattle.link_report.specs.LinksText.{text_of_links}
+use Rattle.candidate_links.specs.Candidates.{IsChoice}
+use Rattle.link_report.specs.LinksText.{text_of_links, text_of_prices}
 use Rattle.link_report.specs.PairsText.{text_of_pairs}
-use Rattle.link_report.specs.PricesText.{text_of_prices}
 use Rattle.link_report.specs.ReportText.{text_of_report}
 use Rattle.link_report.specs.declared.report.Dropped.{Dropped}
-use Rattle.pair_decisions.specs.Comparators.{rares_of}
-use Rattle.pair_decisions.specs.PairRows.{shown_rows}
+use Rattle.pair_decisions.specs.Words.{rares_of, shown_rows}
 use Rattle.link_core.specs.Results.{with_links}
 use Rattle.link_core.proofs.ResultLemmas.{handed}
 use Rattle.link_core.proofs.results.texts_by_ids.Goals as goal

@@ -1,14 +1,10 @@
 use Rattle.std.proofs.Common.{◌≡◌, ◌∙◌, All, List, Result, Ok, ap, sym, subst, length, w32, ℤ, to_z, of_z, AllPairs, FitsSigned, rules}
 use Rattle.std.proofs.lemmas.Int.{to_z-of_z}
-use Rattle.link_base.specs.AnswerLaws.{refuses_then}
-use Rattle.link_base.specs.Fault.{Refuses}
+use Rattle.link_base.specs.Words.{refuses_then, Refuses, IsPairBefore, Record}
 use Rattle.link_base.specs.declared.fault.Fault.{Fault}
 use Rattle.review_journal.specs.declared.entry.Entry.{Entry}
-use Rattle.link_base.specs.Rule.{IsPairBefore}
-use Rattle.link_base.specs.Standard.{Record}
 use Rattle.link_base.specs.declared.rule.PairAt.{PairAt}
-use Rattle.review_journal.specs.Adding.{added}
-use Rattle.review_journal.specs.Batch.{NamesRecords, verdicts_of}
+use Rattle.review_journal.specs.Batch.{added, NamesRecords, verdicts_of}
 use Rattle.link_core.specs.Review.{journal_lines_of}
 use Rattle.link_core.proofs.ResultLemmas.{added_within, answer_next, refuses_next}
 use Rattle.link_core.proofs.review.add_verdicts.Goals as goal

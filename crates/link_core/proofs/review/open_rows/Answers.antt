@@ -3,7 +3,7 @@ use Rattle.std.proofs.lemmas.List.{map_push}
 use Rattle.std.proofs.lemmas.List.Elements.{All-push}
 use Rattle.link_base.specs.declared.rule.PairAt.{PairAt}
 use Rattle.link_report.specs.declared.open.PairRow.{PairRow}
-use Rattle.link_core.specs.Decisions.{decisions_of}
+use Rattle.link_core.specs.Rules.{decisions_of}
 use Rattle.link_core.specs.Review.{is_open, open_row_of}
 use Rattle.review_journal.specs.Verdict.{verdict_on}
 use Rattle.link_core.proofs.StepLemmas.{kept_more, left_more}

@@ -1,6 +1,6 @@
 use Rattle.std.proofs.Common.{◌≡◌, ◌<◌, All, length, map, take}
 use Rattle.link_report.specs.declared.open.PairRow.{PairRow}
-use Rattle.link_core.specs.Decisions.{decisions_of}
+use Rattle.link_core.specs.Rules.{decisions_of}
 use Rattle.link_core.specs.Review.{open_pairs, open_row_of}
 use Rattle.link_core.proofs.review.open_rows.Given as goal
 

@@ -1,7 +1,6 @@
-use Rattle.std.proofs.Common.{refl}
-use Rattle.std.specs.List.{flat_map}
+use Rattle.std.proofs.Common.{refl, flat_map}
 use Rattle.link_base.specs.declared.rule.PairAt.{PairAt}
-use Rattle.link_core.specs.ColumnPairs.{pair_line, pairs_text}
+use Rattle.link_core.specs.Pairs.{pair_line, pairs_text}
 use Rattle.link_core.proofs.StepLemmas.{line_more, line_none}
 use Rattle.link_core.proofs.row_text.rows_text.Goals as goal
 

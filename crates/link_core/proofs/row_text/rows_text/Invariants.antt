@@ -1,6 +1,5 @@
-use Rattle.std.proofs.Common.{◌≡◌, ◌++◌, drop}
-use Rattle.std.specs.List.{flat_map}
-use Rattle.link_core.specs.ColumnPairs.{pair_line, pairs_text}
+use Rattle.std.proofs.Common.{◌≡◌, ◌++◌, drop, flat_map}
+use Rattle.link_core.specs.Pairs.{pair_line, pairs_text}
 use Rattle.link_core.proofs.row_text.rows_text.Given as goal
 
 abbrev pub invariant-loop-pair : goal.invariant-loop-pair

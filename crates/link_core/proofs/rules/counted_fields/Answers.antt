@@ -1,15 +1,13 @@
 use Rattle.std.proofs.Common.{◌≡◌, ◌∙◌, ℕ, Result, ap, List, subst, sym, length}
 use Rattle.comparators.specs.declared.ids.IdValue.{IdValue}
 use Rattle.standard_files.specs.Ready.{AreFileSides}
-use Rattle.link_core.proofs.RuleLemmas.{sides_of_plan}
-use Rattle.link_base.specs.Fault.{Gives}
-use Rattle.link_base.specs.Standard.{Record}
+use Rattle.link_core.proofs.ResultLemmas.{sides_of_plan, patterns_are}
+use Rattle.link_base.specs.Words.{Gives, Record}
 use Rattle.link_base.specs.declared.fault.Fault.{Fault}
 use Rattle.link_base.specs.declared.rule.PairAt.{PairAt}
 use Rattle.link_plan.specs.Plan.{FieldKeys, PlainShares}
-use Rattle.link_core.proofs.ResultLemmas.{patterns_are}
 use Rattle.link_core.specs.Prepared.{kinds_of}
-use Rattle.pair_decisions.specs.PlanShares.{counted_in}
+use Rattle.pair_decisions.specs.Words.{counted_in}
 use Rattle.link_core.proofs.rules.counted_fields.Goals as goal
 
 pub counted_shares-requires-clause-sides_a : goal.counted_shares-requires-clause-sides_a

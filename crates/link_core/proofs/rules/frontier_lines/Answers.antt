@@ -1,6 +1,6 @@
 use Rattle.std.proofs.Common.{◌≡◌, ◌∙◌, ap, length, rules}
-use Rattle.link_core.proofs.RuleLemmas.{frontier_text_is, written_whole}
-use Rattle.pair_decisions.specs.PlanShares.{plain_all}
+use Rattle.link_core.proofs.ResultLemmas.{frontier_text_is, written_whole}
+use Rattle.pair_decisions.specs.Words.{plain_all}
 use Rattle.link_core.proofs.rules.frontier_lines.Goals as goal
 
 pub returns : goal.returns

@@ -1,9 +1,8 @@
 use Rattle.std.proofs.Common.{◌∙◌, ap, sym}
-use Rattle.link_core.proofs.RuleLemmas.{rares_seen, rule_text_is}
+use Rattle.link_core.proofs.ResultLemmas.{rares_seen, rule_text_is}
 use Rattle.link_core.specs.Rules.{shared_rares}
-use Rattle.patterns.specs.Chances.{rare_in}
-use Rattle.pair_decisions.specs.SideLaws.{shape_rares}
-use Rattle.pair_decisions.specs.PlanShares.{plain_all}
+use Rattle.patterns.specs.Patterns.{rare_in}
+use Rattle.pair_decisions.specs.Words.{shape_rares, plain_all}
 use Rattle.link_core.proofs.rules.rule_lines.Goals as goal
 
 pub rule_of_shares-requires-clause-rares : goal.rule_of_shares-requires-clause-rares

@@ -1,11 +1,10 @@
 use Rattle.std.specs.Prelude.{All}
 use Rattle.std.proofs.lemmas.List.Elements.{All-weaker}
 use Rattle.candidate_links.specs.Candidates.{HasBounds}
-use Rattle.link_base.specs.Rule.{IsWithinRanges}
-use Rattle.pair_decisions.specs.Comparators.{rares_of}
-use Rattle.written_check.specs.Short.{IsSmallCell}
-use Rattle.link_core.specs.FileLaws.{read_files}
-use Rattle.link_core.specs.RunLaws.{candidates_are, small_cells, weights_are}
+use Rattle.link_base.specs.Words.{IsWithinRanges}
+use Rattle.pair_decisions.specs.Words.{rares_of}
+use Rattle.written_check.specs.Laws.{IsSmallCell}
+use Rattle.link_core.specs.RunLaws.{read_files, candidates_are, small_cells, weights_are}
 use Rattle.link_core.specs.Results.{candidates_in, compared_in}
 use Rattle.settings.proofs.Ranges.{read_plan}
 use Rattle.link_core.proofs.verify.run_is_verified.Goals as goal

@@ -1,20 +1,16 @@
 use Rattle.std.proofs.Common.{◌≡◌, ◌<◌, ◌≤◌, ◌^◌, ◌∙◌, ℕ, Bool, List, Result, Ok, ap, arith, length, subst, sym, All}
 use Rattle.std.proofs.lemmas.Int.{ints}
 use Rattle.candidate_links.specs.Candidates.{HasBounds}
-use Rattle.link_base.specs.Rule.{IsWithinRanges}
-use Rattle.link_base.specs.Standard.{Record}
+use Rattle.link_base.specs.Words.{IsWithinRanges, Record}
 use Rattle.link_base.specs.declared.rule.Candidate.{Candidate}
 use Rattle.link_base.specs.declared.rule.RuleCell.{RuleCell}
 use Rattle.link_core.proofs.ResultLemmas.{handed}
-use Rattle.link_core.specs.Decisions.{rule_in}
+use Rattle.link_core.specs.Rules.{rule_in}
 use Rattle.link_core.specs.Results.{candidates_in, compared_in}
 use Rattle.link_core.specs.Verify.{line_of, is_proved, verified_in}
 use Rattle.link_limits.specs.declared.TheConstants.{MOST_PAIRS}
-use Rattle.pair_decisions.specs.CellLaws.{cells_below}
-use Rattle.pair_decisions.specs.PairRule.{PairRuleView}
-use Rattle.patterns.specs.Shapes.{pattern_count_by, rare_of}
-use Rattle.pair_decisions.specs.SideLaws.{shape_rares}
-use Rattle.pair_decisions.specs.Comparators.{rares_of}
+use Rattle.pair_decisions.specs.Words.{cells_below, shape_rares, PairRuleView, rares_of}
+use Rattle.patterns.specs.Patterns.{pattern_count_by, rare_of}
 use Rattle.price_check.specs.Verdict.{HasAllowedValue}
 use Rattle.written_check.specs.Verified.{texts_in, verified, WrittenTexts}
 use Rattle.written_check.specs.declared.refutation.Refutation.{Refutation}

@@ -1,7 +1,7 @@
 use Rattle.std.proofs.Common.{◌++◌, ◌∙◌, ◌∷◌, [], ap, arith, length, length-append, sym}
 use Rattle.std.proofs.lemmas.List.Elements.{All-push, All-same}
 use Rattle.link_report.specs.LineParts.{IsEnd, pair_end}
-use Rattle.patterns.specs.Shapes.{rare_of}
+use Rattle.patterns.specs.Patterns.{rare_of}
 use Rattle.link_report.proofs.ends.ends_by_pattern.Goals as goal
 
 pub loop-pattern-preserved : goal.loop-pattern-preserved

@@ -1,6 +1,6 @@
 use Rattle.std.proofs.Common.{◌≡◌, length, All}
 use Rattle.link_report.specs.LineParts.{IsEnd}
-use Rattle.patterns.specs.Shapes.{rare_of}
+use Rattle.patterns.specs.Patterns.{rare_of}
 use Rattle.link_report.proofs.ends.ends_by_pattern.Given as goal
 
 abbrev pub invariant-loop-pattern : goal.invariant-loop-pattern

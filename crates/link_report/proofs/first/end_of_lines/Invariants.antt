@@ -1,5 +1,5 @@
 use Rattle.std.proofs.Common.{◌≡◌, ◌++◌, drop, take}
-use Rattle.link_report.specs.FirstLines.{first_lines_of}
+use Rattle.link_report.specs.ReportText.{first_lines_of}
 use Rattle.link_report.proofs.first.end_of_lines.Given as goal
 
 abbrev pub invariant-loop-at : goal.invariant-loop-at

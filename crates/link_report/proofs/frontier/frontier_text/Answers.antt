@@ -1,6 +1,6 @@
 use Rattle.std.proofs.Common.{◌∙◌, arith}
 use Rattle.csv.specs.Writing.{default_writer, row_text}
-use Rattle.link_report.specs.FrontierText.{frontier_header, level_row}
+use Rattle.link_report.specs.LinksText.{frontier_header, level_row}
 use Rattle.link_report.proofs.HeaderLemmas.{zip_all, zip_more}
 use Rattle.link_report.proofs.frontier.frontier_text.Goals as goal
 

@@ -1,7 +1,6 @@
-use Rattle.std.proofs.Common.{◌≡◌, ◌++◌, take, zip}
-use Rattle.std.specs.List.{flat_map}
+use Rattle.std.proofs.Common.{◌≡◌, ◌++◌, take, zip, flat_map}
 use Rattle.csv.specs.Writing.{default_writer, row_text}
-use Rattle.link_report.specs.FrontierText.{frontier_header, level_row}
+use Rattle.link_report.specs.LinksText.{frontier_header, level_row}
 use Rattle.link_report.proofs.frontier.frontier_text.Given as goal
 
 abbrev pub invariant-loop-at : goal.invariant-loop-at

@@ -1,6 +1,4 @@
-use Rattle.std.proofs.Common.{◌≡◌, ◌++◌, ◌∷◌, ◌∙◌, ap, decimal, take}
-use Rattle.std.specs.List.{flat_map}
-use Rattle.std.proofs.lemmas.List.{take_all}
+use Rattle.std.proofs.Common.{◌≡◌, ◌++◌, ◌∷◌, ◌∙◌, ap, decimal, take, flat_map, take_all}
 use Rattle.link_report.proofs.HeaderLemmas.{line_written}
 use Rattle.link_report.proofs.head.push_line.Goals as goal
 

@@ -1,5 +1,4 @@
-use Rattle.std.proofs.Common.{◌≡◌, ◌∷◌, ◌++◌, decimal, take}
-use Rattle.std.specs.List.{flat_map}
+use Rattle.std.proofs.Common.{◌≡◌, ◌∷◌, ◌++◌, decimal, take, flat_map}
 use Rattle.link_report.proofs.head.push_line.Given as goal
 
 abbrev pub invariant-loop-number : goal.invariant-loop-number

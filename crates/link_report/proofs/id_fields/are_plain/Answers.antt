@@ -1,8 +1,7 @@
-use Rattle.std.proofs.Common.{◌≡◌, ◌∙◌, List, ℕ, ap, arith, false, get_or, refl, sym}
-use Rattle.std.proofs.lemmas.List.{take_all}
+use Rattle.std.proofs.Common.{◌≡◌, ◌∙◌, List, ℕ, ap, arith, false, get_or, refl, sym, take_all}
 use Rattle.std.proofs.lemmas.List.Elements.{All-more}
 use Rattle.csv.specs.Writing.{default_writer, field_text, needs_quotes}
-use Rattle.link_base.specs.Standard.{no_record, Record}
+use Rattle.link_base.specs.Words.{no_record, Record}
 use Rattle.link_report.proofs.id_fields.are_plain.Goals as goal
 
 plain : (id : List ℕ) → needs_quotes default_writer id ≡ false → field_text default_writer id ≡ id

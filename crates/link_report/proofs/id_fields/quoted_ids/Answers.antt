@@ -1,7 +1,7 @@
 use Rattle.std.proofs.Common.{◌∙◌, ◌++◌, ◌∷◌, ℕ, List, [], ap, arith, sym}
 use Rattle.std.proofs.lemmas.List.{map_more, take_all}
 use Rattle.csv.specs.Writing.{default_writer, field_text}
-use Rattle.link_base.specs.Standard.{Record, no_record}
+use Rattle.link_base.specs.Words.{Record, no_record}
 use Rattle.link_report.specs.LineParts.{id_fields}
 use Rattle.link_report.proofs.id_fields.quoted_ids.Goals as goal
 

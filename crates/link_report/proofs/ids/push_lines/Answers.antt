@@ -1,8 +1,6 @@
-use Rattle.std.proofs.Common.{◌≡◌, ◌++◌, ◌∷◌, [], ◌∙◌, ℕ, List, ap, arith, take}
-use Rattle.std.proofs.lemmas.List.{take_all}
-use Rattle.std.specs.List.{flat_map}
+use Rattle.std.proofs.Common.{◌≡◌, ◌++◌, ◌∷◌, [], ◌∙◌, ℕ, List, ap, arith, take, take_all, flat_map}
 use Rattle.csv.specs.Writing.{default_writer, field_text}
-use Rattle.link_base.specs.Standard.{id_at}
+use Rattle.link_base.specs.Words.{id_at}
 use Rattle.link_report.specs.LineParts.{two_fields}
 use Rattle.link_report.proofs.HeaderLemmas.{rows_more}
 use Rattle.link_report.proofs.ids.push_lines.Goals as goal

@@ -1,7 +1,6 @@
-use Rattle.std.proofs.Common.{◌≡◌, ◌++◌, ◌∷◌, [], take}
-use Rattle.std.specs.List.{flat_map}
+use Rattle.std.proofs.Common.{◌≡◌, ◌++◌, ◌∷◌, [], take, flat_map}
 use Rattle.csv.specs.Writing.{default_writer, field_text}
-use Rattle.link_base.specs.Standard.{id_at}
+use Rattle.link_base.specs.Words.{id_at}
 use Rattle.link_report.specs.LineParts.{two_fields}
 use Rattle.link_report.proofs.ids.push_lines.Given as goal
 

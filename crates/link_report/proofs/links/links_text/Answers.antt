@@ -1,5 +1,4 @@
-use Rattle.std.proofs.Common.{◌∙◌, arith}
-use Rattle.std.proofs.lemmas.List.{take_all}
+use Rattle.std.proofs.Common.{◌∙◌, arith, take_all}
 use Rattle.csv.specs.Writing.{default_writer, row_text}
 use Rattle.link_report.specs.LinksText.{link_row, links_header}
 use Rattle.link_report.proofs.HeaderLemmas.{rows_more}

@@ -1,5 +1,5 @@
 use Rattle.std.proofs.Common.{◌≡◌, length, take, All}
-use Rattle.link_report.specs.LinkEnds.{IsLinkEnd}
+use Rattle.link_report.specs.LineParts.{IsLinkEnd}
 use Rattle.link_report.specs.LinksText.{text_of_links}
 use Rattle.link_report.specs.declared.links.TheConstants.{KEPT_ENDS}
 use Rattle.link_report.proofs.links.links_text.Given as goal

@@ -1,5 +1,5 @@
 use Rattle.std.proofs.Common.{◌≡◌, ◌∙◌, ◌++◌, ap}
-use Rattle.link_report.specs.LinkEnds.{end_of_link}
+use Rattle.link_report.specs.LineParts.{end_of_link}
 use Rattle.link_report.specs.declared.links.LinkEnd.{LinkEnd}
 use Rattle.link_report.proofs.LineLemmas.{link_written}
 use Rattle.link_report.proofs.links.push_link.Goals as goal

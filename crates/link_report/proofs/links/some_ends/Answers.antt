@@ -1,6 +1,6 @@
 use Rattle.std.proofs.Common.{◌++◌, ◌∙◌, ◌∷◌, [], ap, arith, length, length-append, sym}
 use Rattle.std.proofs.lemmas.List.Elements.{All-push, All-same}
-use Rattle.link_report.specs.LinkEnds.{IsLinkEnd, end_of_link}
+use Rattle.link_report.specs.LineParts.{IsLinkEnd, end_of_link}
 use Rattle.link_report.proofs.links.some_ends.Goals as goal
 
 pub loop-place-preserved : goal.loop-place-preserved

@@ -1,5 +1,5 @@
 use Rattle.std.proofs.Common.{◌≡◌, length, All}
-use Rattle.link_report.specs.LinkEnds.{IsLinkEnd}
+use Rattle.link_report.specs.LineParts.{IsLinkEnd}
 use Rattle.link_report.proofs.links.some_ends.Given as goal
 
 abbrev pub invariant-loop-place : goal.invariant-loop-place

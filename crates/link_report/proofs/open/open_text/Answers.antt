@@ -1,7 +1,6 @@
-use Rattle.std.proofs.Common.{◌∙◌, arith}
-use Rattle.std.proofs.lemmas.List.{take_all}
+use Rattle.std.proofs.Common.{◌∙◌, arith, take_all}
 use Rattle.csv.specs.Writing.{default_writer, row_text}
-use Rattle.link_report.specs.OpenText.{open_header, open_row}
+use Rattle.link_report.specs.LinksText.{open_header, open_row}
 use Rattle.link_report.proofs.HeaderLemmas.{rows_more}
 use Rattle.link_report.proofs.open.open_text.Goals as goal
 

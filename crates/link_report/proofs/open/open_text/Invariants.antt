@@ -1,5 +1,5 @@
 use Rattle.std.proofs.Common.{◌≡◌, take}
-use Rattle.link_report.specs.OpenText.{text_of_open}
+use Rattle.link_report.specs.LinksText.{text_of_open}
 use Rattle.link_report.proofs.open.open_text.Given as goal
 
 abbrev pub invariant-loop-row : goal.invariant-loop-row

@@ -1,8 +1,7 @@
-use Rattle.std.proofs.Common.{◌∷◌, ◌∙◌, ◌++◌, [], ap, arith, filter, get_or, pos, rules, ℤ, w64, FitsSigned, zip}
-use Rattle.std.specs.List.{flat_map}
+use Rattle.std.proofs.Common.{◌∷◌, ◌∙◌, ◌++◌, [], ap, arith, filter, get_or, pos, rules, ℤ, w64, FitsSigned, zip, flat_map}
 use Rattle.std.proofs.lemmas.Int.{to_z-of_z}
-use Rattle.link_base.specs.Standard.{no_record, Record}
-use Rattle.link_report.specs.PricesText.{is_priced, price_row, price_rows}
+use Rattle.link_base.specs.Words.{no_record, Record}
+use Rattle.link_report.specs.LinksText.{is_priced, price_row, price_rows}
 use Rattle.link_report.proofs.HeaderLemmas.{rows_of_passed, zip_all, zip_more}
 use Rattle.link_report.proofs.prices.push_side.Goals as goal
 

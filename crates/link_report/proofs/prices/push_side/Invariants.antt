@@ -1,6 +1,5 @@
-use Rattle.std.proofs.Common.{◌≡◌, ◌++◌, ◌∷◌, [], filter, take, zip}
-use Rattle.std.specs.List.{flat_map}
-use Rattle.link_report.specs.PricesText.{is_priced, price_row}
+use Rattle.std.proofs.Common.{◌≡◌, ◌++◌, ◌∷◌, [], filter, take, zip, flat_map}
+use Rattle.link_report.specs.LinksText.{is_priced, price_row}
 use Rattle.link_report.proofs.prices.push_side.Given as goal
 
 abbrev pub invariant-loop-at : goal.invariant-loop-at

@@ -1,7 +1,6 @@
 use Rattle.std.proofs.Common.{◌≡◌, arith, map, rules, Some}
-use Rattle.file_reader.specs.Left.{records_in}
+use Rattle.file_reader.specs.Words.{records_in, records_few}
 use Rattle.link_report.specs.Reading.{rows_begun}
-use Rattle.file_reader.specs.LeftLaws.{records_few}
 use Rattle.link_report.proofs.HeaderLemmas.{begun_few}
 use Rattle.link_report.proofs.reading.rows_begun.Goals as goal
 

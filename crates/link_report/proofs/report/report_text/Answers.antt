@@ -1,6 +1,4 @@
-use Rattle.std.proofs.Common.{◌≡◌, ◌∙◌, ◌++◌, List, ap, arith, length, take}
-use Rattle.std.specs.List.{flat_map}
-use Rattle.std.proofs.lemmas.List.{take_all}
+use Rattle.std.proofs.Common.{◌≡◌, ◌∙◌, ◌++◌, List, ap, arith, length, take, flat_map, take_all}
 use Rattle.link_report.specs.declared.report.Dropped.{Dropped}
 use Rattle.link_report.specs.ReportText.{dropped_row, report_head}
 use Rattle.link_report.proofs.HeaderLemmas.{rows_more}

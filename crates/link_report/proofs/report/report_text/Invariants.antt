@@ -1,5 +1,4 @@
-use Rattle.std.proofs.Common.{◌≡◌, ◌++◌, take}
-use Rattle.std.specs.List.{flat_map}
+use Rattle.std.proofs.Common.{◌≡◌, ◌++◌, take, flat_map}
 use Rattle.link_report.specs.ReportText.{dropped_row, report_head}
 use Rattle.link_report.proofs.report.report_text.Given as goal
 

@@ -1,7 +1,7 @@
 use Rattle.std.proofs.Common.{zero-add, arith}
 use Rattle.std.proofs.lemmas.List.FromFn.{map-range_with_len_more}
-use Rattle.link_report.specs.RuleText.{outcome_letter}
-use Rattle.patterns.specs.Shapes.{outcome_at, rare_of}
+use Rattle.link_report.specs.LinksText.{outcome_letter}
+use Rattle.patterns.specs.Patterns.{outcome_at, rare_of}
 use Rattle.link_report.proofs.rule.letters_of.Goals as goal
 
 pub loop-field-preserved : goal.loop-field-preserved

@@ -1,7 +1,7 @@
 use Rattle.std.proofs.Common.{◌≡◌, map}
 use Rattle.std.specs.List.{range_with_len}
-use Rattle.link_report.specs.RuleText.{outcome_letter}
-use Rattle.patterns.specs.Shapes.{outcome_at, rare_of}
+use Rattle.link_report.specs.LinksText.{outcome_letter}
+use Rattle.patterns.specs.Patterns.{outcome_at, rare_of}
 use Rattle.link_report.proofs.rule.letters_of.Given as goal
 
 abbrev pub invariant-loop-field : goal.invariant-loop-field

@@ -1,9 +1,8 @@
-use Rattle.std.proofs.Common.{◌≡◌, ◌∙◌, ap, arith, take}
-use Rattle.std.proofs.lemmas.List.{take_all}
+use Rattle.std.proofs.Common.{◌≡◌, ◌∙◌, ap, arith, take, take_all}
 use Rattle.csv.specs.Writing.{default_writer, row_text}
-use Rattle.link_report.specs.RuleText.{cell_row, rule_header, text_of_rule}
+use Rattle.link_report.specs.LinksText.{cell_row, rule_header, text_of_rule}
 use Rattle.link_report.proofs.HeaderLemmas.{rows_more}
-use Rattle.patterns.specs.Shapes.{rare_of}
+use Rattle.patterns.specs.Patterns.{rare_of}
 use Rattle.link_report.proofs.rule.rule_text.Goals as goal
 
 pub loop-cell-preserved : goal.loop-cell-preserved

@@ -1,6 +1,6 @@
 use Rattle.std.proofs.Common.{◌≡◌, take}
-use Rattle.link_report.specs.RuleText.{text_of_rule}
-use Rattle.patterns.specs.Shapes.{rare_of}
+use Rattle.link_report.specs.LinksText.{text_of_rule}
+use Rattle.patterns.specs.Patterns.{rare_of}
 use Rattle.link_report.proofs.rule.rule_text.Given as goal
 
 abbrev pub invariant-loop-cell : goal.invariant-loop-cell

@@ -2,10 +2,10 @@ use Rattle.std.proofs.Common.{Bool, ap, arith, length, refl}
 use Rattle.std.proofs.lemmas.List.Sums.{count_by-le-length, length-filter}
 use Rattle.link_base.specs.declared.rule.Decision.TheVariants.{Link}
 use Rattle.link_base.specs.declared.rule.PairAt.{PairAt}
-use Rattle.link_core.specs.Decisions.{rule_in}
+use Rattle.link_core.specs.Rules.{rule_in}
 use Rattle.link_core.specs.Results.{compared_in}
-use Rattle.pair_decisions.specs.Decisions.{decision_at, is_same}
-use Rattle.command_scripts.specs.StepLaws.{seen_err, takes_go, takes_ok, takes_stop}
+use Rattle.pair_decisions.specs.Words.{decision_at, is_same}
+use Rattle.command_scripts.specs.Words.{seen_err, takes_go, takes_ok, takes_stop}
 use Rattle.link_shell.specs.DuplicatesSettings.{within_of}
 use Rattle.link_shell.proofs.duplicates_settings.load_decided.Goals as goal
 

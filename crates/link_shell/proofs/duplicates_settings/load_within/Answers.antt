@@ -1,13 +1,11 @@
 use Rattle.std.proofs.Common.{◌≡◌, ℕ, List, Result, Ok, subst}
-use Rattle.link_base.specs.Fault.{Refuses}
+use Rattle.link_base.specs.Words.{Refuses}
 use Rattle.link_base.specs.declared.fault.FileRole.TheVariants as role
 use Rattle.link_outside.specs.declared.refusal.Refusal.{Refusal}
-use Rattle.link_core.specs.ReadLaws.{same_rows}
+use Rattle.link_core.specs.RunLaws.{same_rows}
 use Rattle.link_core.specs.Prepared.{files_of, prepared}
 use Rattle.link_limits.specs.declared.TheConstants.{MOST_DISTINCT_BYTES}
-use Rattle.command_scripts.specs.Seen.{StoreSeen}
-use Rattle.command_scripts.specs.Steps.{file, Takes}
-use Rattle.command_scripts.specs.StepLaws.{of_bytes, seen_err, takes_go, takes_ok, takes_refused, takes_stop}
+use Rattle.command_scripts.specs.Words.{StoreSeen, file, Takes, of_bytes, seen_err, takes_go, takes_ok, takes_refused, takes_stop}
 use Rattle.link_shell.proofs.duplicates_settings.load_within.Goals as goal
 
 -- the load of a file by its name

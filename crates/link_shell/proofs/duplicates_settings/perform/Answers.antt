@@ -4,15 +4,12 @@ use Rattle.std.proofs.lemmas.List.Elements.{All-filter, filter_passes}
 use Rattle.dedup_groups.specs.Groups.{IsLinkWithin}
 use Rattle.link_base.specs.declared.rule.PairAt.{PairAt}
 use Rattle.link_outside.specs.declared.refusal.Refusal.{Refusal}
-use Rattle.link_core.specs.Duplicates.{IsGroupsText, links_within}
-use Rattle.pair_decisions.specs.Pairs.{IsInside}
+use Rattle.link_core.specs.Prepared.{IsGroupsText, links_within}
+use Rattle.pair_decisions.specs.Words.{IsInside}
 use Rattle.link_plan.specs.Within.{plan_within}
 use Rattle.link_plan.specs.declared.plan.Plan.{Plan}
-use Rattle.command_scripts.specs.Due.{prints}
-use Rattle.command_scripts.specs.Seen.{StoreSeen}
-use Rattle.command_scripts.specs.Steps.{Takes}
+use Rattle.command_scripts.specs.Words.{prints, StoreSeen, Takes, does_fail, does_go, does_lines, does_stop, does_want}
 use Rattle.command_scripts.specs.declared.ends.Ended.TheVariants.{Done}
-use Rattle.command_scripts.specs.DoesLaws.{does_fail, does_go, does_lines, does_stop, does_want}
 use Rattle.link_shell.specs.DuplicatesSettings.{AreGroupsPrinted, decided_within, Within, within_of}
 use Rattle.link_shell.proofs.duplicates_settings.perform.Goals as goal
 

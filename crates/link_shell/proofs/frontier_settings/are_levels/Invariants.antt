@@ -1,6 +1,6 @@
 use Rattle.std.proofs.Common.{◌≡◌, ◌≤◌, ◌+◌, drop, map, string_bytes}
 use Rattle.link_limits.specs.declared.TheConstants.{PER_MILLION}
-use Rattle.link_shell.specs.FrontierSettings.{are_levels_from}
+use Rattle.link_shell.specs.SettingsCommands.{are_levels_from}
 use Rattle.link_shell.proofs.frontier_settings.are_levels.Given as goal
 
 abbrev pub invariant-loop-word : goal.invariant-loop-word

@@ -1,6 +1,6 @@
 use Rattle.std.proofs.Common.{◌≡◌, ◌++◌, drop, map, string_bytes, true}
 use Rattle.std.specs.List.{list_all}
-use Rattle.link_shell.specs.FrontierSettings.{is_level_word}
+use Rattle.link_shell.specs.SettingsCommands.{is_level_word}
 use Rattle.csv_rows.specs.Numbers.{number_in}
 use Rattle.link_shell.proofs.frontier_settings.levels_of.Given as goal
 

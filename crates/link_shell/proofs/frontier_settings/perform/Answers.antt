@@ -1,8 +1,8 @@
 use Rattle.std.proofs.Common.{map, refl, string_bytes}
 use Rattle.csv_rows.specs.Numbers.{number_in}
 use Rattle.link_core.specs.Rules.{IsFrontierText}
-use Rattle.command_scripts.specs.DoesLaws.{does_fail, does_lines}
-use Rattle.link_shell.specs.FrontierSettings.{frontier_is_printed}
+use Rattle.command_scripts.specs.Words.{does_fail, does_lines}
+use Rattle.link_shell.specs.SettingsCommands.{frontier_is_printed}
 use Rattle.link_shell.proofs.frontier_settings.perform.Goals as goal
 
 pub returns-in_err-shared : goal.returns-in_err-shared

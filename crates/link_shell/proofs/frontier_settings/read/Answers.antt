@@ -1,8 +1,7 @@
-use Rattle.std.proofs.Common.{◌≡◌, ◌+◌, ◌-◌, ◌∙◌, ◌∷◌, [], Bool, List, ap, arith, drop, false, length, map, nat_le, refl, suc, sym, take, true, ◌&&◌, string_bytes}
-use Rattle.std.proofs.lemmas.Bool.{le-leb}
+use Rattle.std.proofs.Common.{◌≡◌, ◌+◌, ◌-◌, ◌∙◌, ◌∷◌, [], Bool, List, ap, arith, drop, false, length, map, nat_le, refl, suc, sym, take, true, ◌&&◌, string_bytes, le-leb}
 use Rattle.std.proofs.lemmas.List.{length-map, take_all}
 use Rattle.csv_rows.specs.Numbers.{number_in}
-use Rattle.link_shell.specs.FrontierSettings.{are_levels_from}
+use Rattle.link_shell.specs.SettingsCommands.{are_levels_from}
 use Rattle.link_shell.specs.Words.{is_settings_word, word}
 use Rattle.link_shell.specs.declared.words.TheConstants.{MOST_LISTED}
 use Rattle.link_shell.proofs.Laws.{rising_are_levels}

@@ -1,5 +1,5 @@
 use Rattle.std.proofs.Common.{◌≡◌, List, ℕ, Result, Ok, Err, ap, refl, subst, sym}
-use Rattle.link_base.specs.Fault.{Gives, IsAnswer}
+use Rattle.link_base.specs.Words.{Gives, IsAnswer}
 use Rattle.link_base.specs.declared.fault.Fault.{Fault}
 use Rattle.link_limits.specs.declared.TheConstants.{MOST_DISTINCT_BYTES}
 use Rattle.link_core.specs.Prepared.{files_of, prepared}

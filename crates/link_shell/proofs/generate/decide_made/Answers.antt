@@ -1,5 +1,5 @@
 use Rattle.std.proofs.Common.{Result, subst}
-use Rattle.link_base.specs.Fault.{Gives}
+use Rattle.link_base.specs.Words.{Gives}
 use Rattle.link_base.specs.declared.fault.Fault.{Fault}
 use Rattle.command_steps.specs.Reviewed.{found_of, ReviewedPlan}
 use Rattle.link_shell.specs.Generate.{decided_input}

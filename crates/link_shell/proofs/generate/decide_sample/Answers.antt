@@ -1,8 +1,7 @@
 use Rattle.std.proofs.Common.{Result, Err}
-use Rattle.link_base.specs.Fault.{Gives}
+use Rattle.link_base.specs.Words.{Gives}
 use Rattle.link_base.specs.declared.fault.Fault.{Fault}
-use Rattle.link_core.specs.Decisions.{decided}
-use Rattle.link_core.specs.Rules.{counted_by}
+use Rattle.link_core.specs.Rules.{decided, counted_by}
 use Rattle.command_steps.specs.Reviewed.{shared_decisions_of, SharedDecisions}
 use Rattle.link_shell.proofs.HeadlineFacts.{answer_as, goes_on, refuses_here}
 use Rattle.link_shell.proofs.generate.decide_sample.Goals as goal

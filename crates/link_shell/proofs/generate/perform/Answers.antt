@@ -1,11 +1,9 @@
 use Rattle.std.proofs.Common.{Err, ap, ◌∙◌}
 use Rattle.link_core.specs.Results.{five_texts}
-use Rattle.link_report.specs.FirstLines.{first_lines_of}
-use Rattle.command_scripts.specs.Due.{prints}
+use Rattle.link_report.specs.ReportText.{first_lines_of}
+use Rattle.command_scripts.specs.Words.{prints, does_fail, does_print, does_want_after, takes_ok, takes_seen}
 use Rattle.command_steps.specs.Reviewed.{found_of}
 use Rattle.command_scripts.specs.declared.ends.Ended.TheVariants.{Done}
-use Rattle.command_scripts.specs.DoesLaws.{does_fail, does_print, does_want_after}
-use Rattle.command_scripts.specs.StepLaws.{takes_ok, takes_seen}
 use Rattle.link_shell.proofs.generate.perform.Goals as goal
 
 pub returns-in_err-found : goal.returns-in_err-found

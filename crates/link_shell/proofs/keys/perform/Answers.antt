@@ -1,9 +1,7 @@
 use Rattle.std.proofs.Common.{◌≡◌, ap, refl, map, string_bytes}
 use Rattle.link_core.specs.NameKeys.{keys_text}
-use Rattle.command_scripts.specs.Due.{is_printed, prints}
+use Rattle.command_scripts.specs.Words.{is_printed, prints, does_lines, takes_ok}
 use Rattle.command_scripts.specs.declared.ends.Ended.TheVariants.{Done}
-use Rattle.command_scripts.specs.DoesLaws.{does_lines}
-use Rattle.command_scripts.specs.StepLaws.{takes_ok}
 use Rattle.link_shell.proofs.keys.perform.Goals as goal
 
 pub returns : goal.returns

@@ -1,6 +1,6 @@
 use Rattle.std.proofs.Common.{refl}
-use Rattle.command_scripts.specs.DoesLaws.{does_fail, does_go, does_print, does_stop}
-use Rattle.link_shell.specs.ManySettings.{AreLinksPrinted}
+use Rattle.command_scripts.specs.Words.{does_fail, does_go, does_print, does_stop}
+use Rattle.link_shell.specs.DuplicatesSettings.{AreLinksPrinted}
 use Rattle.link_shell.proofs.many_settings.perform.Goals as goal
 
 pub returns-in_err-found : goal.returns-in_err-found

@@ -1,8 +1,7 @@
 use Rattle.std.proofs.Common.{Ok, refl}
 use Rattle.command_steps.specs.Reviewed.{found_of}
-use Rattle.command_scripts.specs.Steps.{gives}
-use Rattle.command_scripts.specs.StepLaws.{makes_end, makes_go, makes_want, takes_go, takes_ok}
-use Rattle.link_shell.specs.ManySettings.{IsLinksText, within_capacities}
+use Rattle.command_scripts.specs.Words.{gives, makes_end, makes_go, makes_want, takes_go, takes_ok}
+use Rattle.link_shell.specs.DuplicatesSettings.{IsLinksText, within_capacities}
 use Rattle.link_shell.proofs.many_settings.text_of_found.Goals as goal
 
 pub returns-in_err-capacities : goal.returns-in_err-capacities

@@ -1,4 +1,4 @@
-use Rattle.command_scripts.specs.StepLaws.{takes_go, takes_stop}
+use Rattle.command_scripts.specs.Words.{takes_go, takes_stop}
 use Rattle.link_shell.proofs.migrate_settings.load_text.Goals as goal
 
 pub returns-in_err-files : goal.returns-in_err-files

@@ -1,4 +1,4 @@
-use Rattle.command_scripts.specs.StepLaws.{takes_go, takes_ok, takes_refused, takes_stop}
+use Rattle.command_scripts.specs.Words.{takes_go, takes_ok, takes_refused, takes_stop}
 use Rattle.link_shell.proofs.migrate_settings.text_over.Goals as goal
 
 pub returns-in_err-journal : goal.returns-in_err-journal

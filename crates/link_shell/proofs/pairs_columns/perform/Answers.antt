@@ -1,7 +1,5 @@
 use Rattle.std.proofs.Common.{refl}
-use Rattle.command_scripts.specs.Due.{is_printed}
-use Rattle.command_scripts.specs.DoesLaws.{does_fail, does_go, does_print, does_stop}
-use Rattle.command_scripts.specs.StepLaws.{takes_fault, takes_ok}
+use Rattle.command_scripts.specs.Words.{is_printed, does_fail, does_go, does_print, does_stop, takes_fault, takes_ok}
 use Rattle.link_shell.proofs.pairs_columns.perform.Goals as goal
 
 pub returns-in_err-inputs : goal.returns-in_err-inputs

@@ -1,9 +1,9 @@
 use Rattle.std.proofs.Common.{◌≡◌, List, ℕ, ℤ, rules, subst, Result, Ok, w32, FitsSigned}
 use Rattle.std.proofs.lemmas.Int.{to_z-of_z}
-use Rattle.link_base.specs.Fault.{Refuses}
+use Rattle.link_base.specs.Words.{Refuses}
 use Rattle.link_base.specs.declared.fault.Fault.{Fault}
 use Rattle.link_core.specs.Review.{reviewed_lines_of}
-use Rattle.command_scripts.specs.StepLaws.{takes_go, takes_ok, takes_refused, takes_stop}
+use Rattle.command_scripts.specs.Words.{takes_go, takes_ok, takes_refused, takes_stop}
 use Rattle.link_shell.proofs.review_settings.add_loaded.Goals as goal
 
 -- the text of the day and of the bytes that are handed on

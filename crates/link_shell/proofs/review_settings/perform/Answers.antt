@@ -1,10 +1,7 @@
 use Rattle.std.proofs.Common.{refl, Ok}
-use Rattle.command_scripts.specs.Due.{Put}
+use Rattle.command_scripts.specs.Words.{Put, gives, does_go, does_puts, does_stop, takes_ok}
 use Rattle.command_steps.specs.Reviewed.{put_of_journal}
-use Rattle.command_scripts.specs.Steps.{gives}
-use Rattle.command_scripts.specs.DoesLaws.{does_go, does_puts, does_stop}
-use Rattle.command_scripts.specs.StepLaws.{takes_ok}
-use Rattle.link_shell.specs.MigrateSettings.{is_one_put}
+use Rattle.link_shell.specs.SettingsCommands.{is_one_put}
 use Rattle.link_shell.proofs.review_settings.perform.Goals as goal
 
 pub returns-in_err-plan : goal.returns-in_err-plan

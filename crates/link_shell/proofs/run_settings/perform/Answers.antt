@@ -1,8 +1,8 @@
 use Rattle.std.proofs.Common.{refl}
 use Rattle.link_core.specs.Results.{five_texts}
 use Rattle.command_steps.specs.Reviewed.{found_of}
-use Rattle.command_scripts.specs.DoesLaws.{does_fail, does_puts, does_want_after}
-use Rattle.link_shell.specs.RunSettings.{ArePut}
+use Rattle.command_scripts.specs.Words.{does_fail, does_puts, does_want_after}
+use Rattle.link_shell.specs.SettingsCommands.{ArePut}
 use Rattle.link_shell.proofs.run_settings.perform.Goals as goal
 
 pub returns-in_err-found : goal.returns-in_err-found

@@ -1,6 +1,5 @@
 use Rattle.std.proofs.Common.{◌∷◌, [], codes}
-use Rattle.command_scripts.specs.PutLaws.{puts_as}
-use Rattle.command_scripts.specs.Due.{a_put}
+use Rattle.command_scripts.specs.Words.{puts_as, a_put}
 use Rattle.link_shell.proofs.run_settings.put_results.Goals as goal
 
 pub returns : goal.returns

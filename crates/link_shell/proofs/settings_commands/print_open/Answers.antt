@@ -1,9 +1,8 @@
 use Rattle.std.proofs.Common.{◌≡◌, ap}
 use Rattle.link_core.specs.Review.{open_text_of}
-use Rattle.command_scripts.specs.Due.{is_printed, prints}
+use Rattle.command_scripts.specs.Words.{is_printed, prints, does_fail, does_lines}
 use Rattle.command_steps.specs.Reviewed.{found_of, ReviewedPlan}
 use Rattle.command_scripts.specs.declared.ends.Ended.TheVariants.{Done}
-use Rattle.command_scripts.specs.DoesLaws.{does_fail, does_lines}
 use Rattle.link_shell.proofs.settings_commands.print_open.Goals as goal
 
 pub returns-in_err-found : goal.returns-in_err-found

@@ -1,6 +1,6 @@
 use Rattle.std.proofs.Common.{refl}
 use Rattle.link_core.specs.Rules.{IsRuleText}
-use Rattle.command_scripts.specs.DoesLaws.{does_fail, does_lines}
+use Rattle.command_scripts.specs.Words.{does_fail, does_lines}
 use Rattle.link_shell.specs.SettingsCommands.{rule_is_printed}
 use Rattle.link_shell.proofs.settings_commands.print_rule.Goals as goal
 

@@ -1,5 +1,5 @@
 use Rattle.std.proofs.Common.{◌∙◌, ap}
-use Rattle.command_scripts.specs.Due.{prints}
+use Rattle.command_scripts.specs.Words.{prints}
 use Rattle.command_scripts.specs.declared.ends.Ended.TheVariants.{Done}
 use Rattle.link_shell.proofs.settings_commands.printed_rule_is_least.Goals as goal
 

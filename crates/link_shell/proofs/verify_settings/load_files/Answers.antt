@@ -1,6 +1,6 @@
 use Rattle.std.proofs.Common.{refl}
 use Rattle.written_check.specs.Verified.{texts_in}
-use Rattle.command_scripts.specs.StepLaws.{seen_err, takes_go, takes_ok, takes_stop}
+use Rattle.command_scripts.specs.Words.{seen_err, takes_go, takes_ok, takes_stop}
 use Rattle.link_shell.proofs.verify_settings.load_files.Goals as goal
 
 pub returns-in_err-rule-clause-takes : goal.returns-in_err-rule-clause-takes

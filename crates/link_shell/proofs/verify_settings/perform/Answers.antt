@@ -1,7 +1,6 @@
 use Rattle.std.proofs.Common.{◌≡◌, ◌∙◌, ap}
 use Rattle.link_core.specs.Verify.{line_of}
-use Rattle.command_scripts.specs.Due.{prints}
-use Rattle.command_scripts.specs.DoesLaws.{does_fail, does_go, does_print, does_stop}
+use Rattle.command_scripts.specs.Words.{prints, does_fail, does_go, does_print, does_stop}
 use Rattle.link_shell.specs.VerifySettings.{ended_by, ended_if, IsTold, proved_by}
 use Rattle.link_shell.proofs.verify_settings.perform.Goals as goal
 

@@ -1,7 +1,6 @@
 use Rattle.std.proofs.Common.{Ok, refl}
 use Rattle.command_steps.specs.Reviewed.{found_of, ReviewedPlan}
-use Rattle.command_scripts.specs.Steps.{gives}
-use Rattle.command_scripts.specs.StepLaws.{makes_end, makes_go, makes_want, takes_go, takes_ok}
+use Rattle.command_scripts.specs.Words.{gives, makes_end, makes_go, makes_want, takes_go, takes_ok}
 use Rattle.written_check.specs.Verified.{texts_in}
 use Rattle.written_check.specs.declared.written.Written.{Written}
 use Rattle.link_shell.specs.VerifySettings.{TellsOf, WrittenPlan}

@@ -3,7 +3,7 @@ use Rattle.std.proofs.lemmas.List.FromFn.{length-map-range_with_len}
 use Rattle.comparators.specs.Fields.{IsCounted}
 use Rattle.link_plan.specs.Ranges.{may_be_rare}
 use Rattle.link_plan.specs.Plan.{FieldKeys}
-use Rattle.pair_decisions.specs.Comparators.{count_of_id}
+use Rattle.pair_decisions.specs.Words.{count_of_id}
 use Rattle.pair_decisions.proofs.ComparatorLemmas.{canon_of_rare, counted_side}
 use Rattle.pair_decisions.proofs.comparisons.comparison_at.Goals as goal
 

@@ -1,7 +1,6 @@
-use Rattle.std.proofs.Common.{◌≡◌, ◌<◌, ◌∙◌, ap, arith, length, length-append, map, subst, take, get_or}
+use Rattle.std.proofs.Common.{◌≡◌, ◌<◌, ◌∙◌, ap, arith, length, length-append, map, subst, take, get_or, take_all}
 use Rattle.std.specs.List.{enumerate_from}
-use Rattle.std.proofs.lemmas.List.{take_all}
-use Rattle.pair_decisions.specs.Comparators.{answers_of, comparator_at}
+use Rattle.pair_decisions.specs.Words.{answers_of, comparator_at}
 use Rattle.pair_decisions.proofs.ComparatorLemmas.{AskedOf, asked_more, rares_answered, sides_valid}
 use Rattle.pair_decisions.proofs.ListSteps.{placed_more}
 use Rattle.pair_decisions.proofs.comparisons.comparisons_of.Goals as goal

@@ -4,8 +4,7 @@ use Rattle.comparators.specs.Fields.{IsFieldSide, field_of}
 use Rattle.comparators.specs.declared.ids.FieldById.{FieldById}
 use Rattle.comparators.specs.declared.ids.IdValue.{IdValue}
 use Rattle.link_plan.specs.Plan.{FieldKeys}
-use Rattle.pair_decisions.specs.Comparators.{answers_of, comparator_at}
-use Rattle.pair_decisions.specs.Sides.{IsOfTexts}
+use Rattle.pair_decisions.specs.Words.{answers_of, comparator_at, IsOfTexts}
 use Rattle.pair_decisions.proofs.comparisons.comparisons_of.Given as goal
 
 abbrev pub invariant-loop-at : goal.invariant-loop-at

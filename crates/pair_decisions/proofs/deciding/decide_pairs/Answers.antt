@@ -1,17 +1,13 @@
-use Rattle.std.proofs.Common.{◌≡◌, ◌≤◌, ◌<◌, ◌∙◌, Bool, List, Err, ap, length, refl, subst, sym, All}
+use Rattle.std.proofs.Common.{◌≡◌, ◌<◌, ◌∙◌, Bool, List, Err, ap, length, refl, subst, sym, All}
 use Rattle.link_base.specs.declared.fault.Fault.TheVariants as fault
 use Rattle.link_base.specs.declared.rule.Decision.{Decision}
 use Rattle.link_base.specs.declared.rule.Decision.TheVariants.{Link, Possible}
 use Rattle.link_base.specs.declared.rule.PairAt.{PairAt}
 use Rattle.link_limits.specs.declared.TheConstants.{MOST_PAIRS}
 use Rattle.pair_decisions.proofs.ComparatorLemmas.{counted, found_inside, found_rise, not_more, kept_in}
-use Rattle.pair_decisions.specs.PairLaws.{past_limit, within_limit}
-use Rattle.pair_decisions.specs.PairRows.{decided_rows, kept_rows}
-use Rattle.pair_decisions.specs.Decisions.{DecidedView, decision_at, is_same, pairs_with}
-use Rattle.pair_decisions.specs.PairRule.{side_rule}
-use Rattle.pair_decisions.specs.Pairs.{IsInside}
-use Rattle.pair_walk.specs.Pairs.{pairs_of_rows}
-use Rattle.pair_walk.specs.Walk.{RefusesPairs}
+use Rattle.pair_decisions.specs.Words.{IsFoundOf, past_limit, within_limit, DecidedView, decision_at, is_same, IsInside, FileRule, side_rule}
+use Rattle.pair_walk.specs.Rows.{pairs_of_rows}
+use Rattle.pair_walk.specs.Walker.{RefusesPairs}
 use Rattle.pair_walk.specs.declared.fault.WalkFault.{WalkFault}
 use Rattle.pair_walk.specs.declared.fault.WalkFault.TheVariants as walk_fault
 use Rattle.pair_decisions.proofs.deciding.decide_pairs.Goals.{In-Ok}
@@ -25,61 +21,49 @@ decide_rows-requires-clause-inside c =
 abbrev all_of : In-Ok → List PairAt
 all_of c = pairs_of_rows c.args.blocks.now
 
-walked : (c : In-Ok) → pairs_of_rows c.walk.result.left ≡ all_of c
-walked c = ap pairs_of_rows c.walk.ensures.left
+abbrev rule_of : In-Ok → FileRule
+rule_of c = side_rule c.args.rule c.args.sides_a.now.rows c.args.sides_b.now.rows
 
-few : (c : In-Ok) → length (all_of c) ≤ MOST_PAIRS
-few c = subst (λ (ps : List PairAt). length ps ≤ MOST_PAIRS) (walked c) c.in-Ok.ensures.found.few
-
-compared : (c : In-Ok) → c.in-Ok.found.compared ≡ length (all_of c)
-compared c = c.in-Ok.ensures.found.compared ∙ ap length (walked c)
-
-links : (c : In-Ok) → c.in-Ok.found.links.items ≡ pairs_with Link (side_rule c.args.rule c.args.sides_a.now.rows c.args.sides_b.now.rows) (all_of c)
-links c = c.in-Ok.ensures.found.links ∙ ap (pairs_with Link (side_rule c.args.rule c.args.sides_a.now.rows c.args.sides_b.now.rows)) (walked c)
-
-possible : (c : In-Ok) → c.in-Ok.found.possible.items ≡ pairs_with Possible (side_rule c.args.rule c.args.sides_a.now.rows c.args.sides_b.now.rows) (all_of c)
-possible c = c.in-Ok.ensures.found.possible ∙ ap (pairs_with Possible (side_rule c.args.rule c.args.sides_a.now.rows c.args.sides_b.now.rows)) (walked c)
+found : (c : In-Ok) → IsFoundOf (rule_of c) c.args.with_rows (all_of c) c.in-Ok.found
+found c = subst (λ (ps : List PairAt). IsFoundOf (rule_of c) c.args.with_rows ps c.in-Ok.found) (ap pairs_of_rows c.walk.ensures.left) c.in-Ok.ensures.found
 
 abbrev view_of : In-Ok → DecidedView
 view_of c = record { rule = c.args.rule; rows = c.in-Ok.found.rows.items; compared = c.in-Ok.found.compared; links = c.in-Ok.found.links.items; possible = c.in-Ok.found.possible.items }
 
 pub invariant_of-result : goal.invariant_of-result
-invariant_of-result c = not_more (side_rule c.args.rule c.args.sides_a.now.rows c.args.sides_b.now.rows) (all_of c) (view_of c) (compared c) (links c) (possible c)
+invariant_of-result c = not_more (rule_of c) (all_of c) (view_of c) (found c).compared (found c).links (found c).possible
 
 pub returns-in-Ok-clause-answer : goal.returns-in-Ok-clause-answer
-returns-in-Ok-clause-answer c = within_limit (all_of c) (few c)
-
-rows : (c : In-Ok) → c.in-Ok.found.rows.items ≡ kept_rows c.args.with_rows (decided_rows (side_rule c.args.rule c.args.sides_a.now.rows c.args.sides_b.now.rows) (all_of c))
-rows c =
-    c.in-Ok.ensures.found.rows ∙ ap (λ ps. kept_rows c.args.with_rows (decided_rows (side_rule c.args.rule c.args.sides_a.now.rows c.args.sides_b.now.rows) ps)) (walked c)
+returns-in-Ok-clause-answer c = within_limit (all_of c) (found c).few
 
 abbrev has : In-Ok → Decision → PairAt → Bool
-has c kind at = is_same kind (decision_at (side_rule c.args.rule c.args.sides_a.now.rows c.args.sides_b.now.rows) at)
+has c kind at = is_same kind (decision_at (rule_of c) at)
 
 pub returns-in-Ok-clause-decided : goal.returns-in-Ok-clause-decided
 returns-in-Ok-clause-decided c =
     let rows_a = length c.args.sides_a.now.rows in
     let rows_b = length c.args.sides_b.now.rows in
+    let f = found c in
     record {
       by_rule = refl;
       decisions = record {
-        few = few c;
+        few = f.few;
         rising = c.requires.rising;
         inside = c.requires.inside;
-        compared = compared c;
-        links = links c;
-        possible = possible c;
+        compared = f.compared;
+        links = f.links;
+        possible = f.possible;
       };
-      counts = counted (side_rule c.args.rule c.args.sides_a.now.rows c.args.sides_b.now.rows) (all_of c) (view_of c) (compared c) (links c) (possible c);
+      counts = counted (rule_of c) (all_of c) (view_of c) f.compared f.links f.possible;
       lists = record {
-        links = found_inside (has c Link) (all_of c) _ (links c) rows_a rows_b c.requires.inside;
-        possible = found_inside (has c Possible) (all_of c) _ (possible c) rows_a rows_b c.requires.inside;
-        links_rise = found_rise (has c Link) (all_of c) _ (links c) c.requires.rising;
-        possible_rise = found_rise (has c Possible) (all_of c) _ (possible c) c.requires.rising;
+        links = found_inside (has c Link) (all_of c) _ f.links rows_a rows_b c.requires.inside;
+        possible = found_inside (has c Possible) (all_of c) _ f.possible rows_a rows_b c.requires.inside;
+        links_rise = found_rise (has c Link) (all_of c) _ f.links c.requires.rising;
+        possible_rise = found_rise (has c Possible) (all_of c) _ f.possible c.requires.rising;
       };
-      rows = rows c;
+      rows = f.rows;
       rows_in = kept_in c.args.rule c.args.sides_a.now.rows c.args.sides_b.now.rows (all_of c) c.requires.sides_a c.requires.sides_b c.has_cells.ensures c.requires.inside c.requires.rising
-          c.args.with_rows c.in-Ok.found.rows.items (rows c);
+          c.args.with_rows c.in-Ok.found.rows.items f.rows;
     }
 
 pub returns-in-Err-TooManyPairs-clause-answer : goal.returns-in-Err-TooManyPairs-clause-answer

@@ -1,5 +1,5 @@
 use Rattle.std.proofs.Common.{◌<◌, arith, length}
-use Rattle.pair_decisions.specs.Comparators.{has_id}
+use Rattle.pair_decisions.specs.Words.{has_id}
 use Rattle.pair_decisions.proofs.ListSteps.{filter_taken}
 use Rattle.pair_decisions.proofs.id_counts.count_rows.Goals as goal
 

@@ -1,5 +1,5 @@
 use Rattle.std.proofs.Common.{◌≡◌, ◌+◌, ◌<◌, ℕ, length, take, filter, slice_index}
-use Rattle.pair_decisions.specs.Comparators.{has_id}
+use Rattle.pair_decisions.specs.Words.{has_id}
 use Rattle.pair_decisions.proofs.id_counts.count_rows.Given as goal
 
 abbrev pub invariant-loop-at : goal.invariant-loop-at

@@ -1,6 +1,7 @@
-use Rattle.std.proofs.Common.{◌≡◌, ◌<◌, ◌∙◌, ap, arith, get_or, length, rules, replicate}
-use Rattle.pair_decisions.specs.Comparators.{count_of_id, has_id}
-use Rattle.pair_decisions.proofs.ListSteps.{filter_all, front_is, zeros, known_by}
+use Rattle.std.proofs.Common.{◌≡◌, ◌<◌, ◌∙◌, ap, arith, get_or, length, rules, sym, replicate, take_at}
+use Rattle.std.proofs.lemmas.List.FromFn.{fill_by_all}
+use Rattle.pair_decisions.specs.Words.{count_of_id, has_id}
+use Rattle.pair_decisions.proofs.ListSteps.{filter_all, zeros}
 use Rattle.pair_decisions.proofs.id_counts.counts_in.Goals as goal
 
 pub count_rows-requires-2-clause-room : goal.count_rows-requires-2-clause-room
@@ -16,8 +17,8 @@ returns c =
     let made : c.in_ok-counts.counts.items ≡ replicate c.args.texts 0 = search rules in
     let size : length c.count_rows-2.new.counts ≡ c.args.texts = search rules in
     let full : c.in_ok-counts.counts.len ≡ length c.count_rows-2.new.counts = search rules in
-    front_is c.count_rows-2.new.counts _ c.in_ok-counts.counts.len full
-    ∙ known_by (count_of_id c.args.a.now.rows c.args.b.now.rows c.args.field) c.args.texts c.count_rows-2.new.counts size
+    take_at c.count_rows-2.new.counts _ c.in_ok-counts.counts.len (sym full)
+    ∙ fill_by_all (count_of_id c.args.a.now.rows c.args.b.now.rows c.args.field) c.count_rows-2.new.counts c.args.texts 0 size
     (λ k lt.
     let later : k < length c.count_rows.new.counts = omega (arith, c.count_rows-2.ensures.as_many) in
     let here : k < length c.as_mut_slice-slots.result.now = omega (arith, c.count_rows.ensures.as_many) in

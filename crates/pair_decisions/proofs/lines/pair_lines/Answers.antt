@@ -1,12 +1,7 @@
-use Rattle.std.proofs.Common.{◌≡◌, ◌++◌, ◌∙◌, ap, length, sym}
-use Rattle.std.specs.List.{flat_map}
+use Rattle.std.proofs.Common.{◌≡◌, ◌++◌, ◌∙◌, ap, length, sym, flat_map}
 use Rattle.link_report.specs.PairsText.{pair_row}
-use Rattle.patterns.specs.Shapes.{pattern_count_by}
-use Rattle.pair_decisions.specs.CellLaws.{cells_many}
-use Rattle.pair_decisions.specs.Comparators.{rares_of}
-use Rattle.pair_decisions.specs.PairRows.{shown_rows}
-use Rattle.pair_decisions.specs.PairRule.{PairRuleView}
-use Rattle.pair_decisions.specs.SideLaws.{shape_rares}
+use Rattle.patterns.specs.Patterns.{pattern_count_by}
+use Rattle.pair_decisions.specs.Words.{cells_many, shape_rares, rares_of, shown_rows, PairRuleView}
 use Rattle.pair_decisions.proofs.lines.pair_lines.Goals as goal
 
 pub write_lines-requires-clause-cells : goal.write_lines-requires-clause-cells

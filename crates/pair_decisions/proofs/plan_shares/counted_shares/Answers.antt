@@ -1,12 +1,10 @@
 use Rattle.std.proofs.Common.{◌≡◌, ◌∙◌, Ok, ap, sym}
-use Rattle.file_reader.specs.Left.{records_in}
-use Rattle.link_base.specs.Answers.{and_then}
+use Rattle.file_reader.specs.Words.{records_in}
+use Rattle.link_base.specs.Words.{and_then}
 use Rattle.comparators.specs.Fields.{field_outcome, field_rare}
 use Rattle.sample_counts.specs.Counts.{counts_by}
 use Rattle.sample_counts.specs.Sample.{sample_of}
-use Rattle.pair_decisions.specs.Comparators.{comparators_of, rares_of}
-use Rattle.pair_decisions.specs.PairRule.{pattern_over}
-use Rattle.pair_decisions.specs.PlanShares.{counts_by_pattern, shares_in}
+use Rattle.pair_decisions.specs.Words.{comparators_of, rares_of, pattern_over, counts_by_pattern, shares_in}
 use Rattle.pair_decisions.proofs.ComparatorLemmas.{counts_by_answers, given_then, refuses_as}
 use Rattle.pair_decisions.proofs.plan_shares.counted_shares.Goals as goal
 

@@ -1,11 +1,9 @@
-use Rattle.std.proofs.Common.{◌≡◌, ◌<◌, ◌∙◌, Option, Some, None, ap, arith, get_or, length, subst, sym, take, is_some, option_map}
-use Rattle.std.proofs.lemmas.List.{take_all}
+use Rattle.std.proofs.Common.{◌≡◌, ◌<◌, ◌∙◌, Option, Some, None, ap, arith, get_or, length, subst, sym, take, is_some, option_map, take_all}
 use Rattle.link_base.specs.declared.shares.FieldShares.{FieldShares}
 use Rattle.link_plan.specs.Plan.{FieldKeys, plain_shares}
 use Rattle.link_plan.specs.Ranges.{IsField}
-use Rattle.patterns.specs.Chances.{rare_in}
-use Rattle.pair_decisions.specs.Comparators.{rares_of}
-use Rattle.pair_decisions.specs.PlanShares.{given_in}
+use Rattle.patterns.specs.Patterns.{rare_in}
+use Rattle.pair_decisions.specs.Words.{rares_of, given_in}
 use Rattle.pair_decisions.proofs.ListSteps.{made_more, as_many_shares, is_given, kept_more, rare_given}
 use Rattle.pair_decisions.proofs.plan_shares.given_shares.Goals.{in-Some+in_ok-push, in_default}
 use Rattle.pair_decisions.proofs.plan_shares.given_shares.Goals as goal

@@ -1,7 +1,6 @@
 use Rattle.std.proofs.Common.{◌≡◌, take}
-use Rattle.patterns.specs.Chances.{rare_in}
-use Rattle.pair_decisions.specs.Comparators.{rares_of}
-use Rattle.pair_decisions.specs.PlanShares.{given_in, plain_all}
+use Rattle.patterns.specs.Patterns.{rare_in}
+use Rattle.pair_decisions.specs.Words.{rares_of, given_in, plain_all}
 use Rattle.pair_decisions.proofs.plan_shares.given_shares.Given as goal
 
 abbrev pub invariant-loop-field : goal.invariant-loop-field

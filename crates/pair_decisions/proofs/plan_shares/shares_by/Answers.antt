@@ -3,9 +3,8 @@ use Rattle.std.specs.List.{enumerate_from}
 use Rattle.std.proofs.lemmas.List.{length-map, take_all}
 use Rattle.link_base.specs.declared.shares.FieldShares.{FieldShares}
 use Rattle.link_plan.specs.Plan.{FieldKeys, PlainShares, plain_shares}
-use Rattle.patterns.specs.Chances.{rare_in}
-use Rattle.pair_decisions.specs.Comparators.{rares_of}
-use Rattle.pair_decisions.specs.PlanShares.{shares_at}
+use Rattle.patterns.specs.Patterns.{rare_in}
+use Rattle.pair_decisions.specs.Words.{rares_of, shares_at}
 use Rattle.pair_decisions.proofs.ListSteps.{made_more, placed_more, as_many_shares, rare_at}
 use Rattle.pair_decisions.proofs.plan_shares.shares_by.Goals as goal
 

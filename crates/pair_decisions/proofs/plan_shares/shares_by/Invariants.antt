@@ -1,8 +1,7 @@
 use Rattle.std.proofs.Common.{◌≡◌, take, map}
 use Rattle.std.specs.List.{enumerate_from}
-use Rattle.patterns.specs.Chances.{rare_in}
-use Rattle.pair_decisions.specs.Comparators.{rares_of}
-use Rattle.pair_decisions.specs.PlanShares.{plain_all, shares_at}
+use Rattle.patterns.specs.Patterns.{rare_in}
+use Rattle.pair_decisions.specs.Words.{rares_of, plain_all, shares_at}
 use Rattle.pair_decisions.proofs.plan_shares.shares_by.Given as goal
 
 abbrev pub invariant-loop-at : goal.invariant-loop-at

@@ -1,11 +1,9 @@
-use Rattle.std.proofs.Common.{◌≡◌, ◌∙◌, ap, map, sym}
-use Rattle.std.specs.Prelude.{unwrap_or}
+use Rattle.std.proofs.Common.{◌≡◌, ◌∙◌, ap, map, sym, unwrap_or}
 use Rattle.decision_rule.specs.Border.{border_word}
-use Rattle.decision_rule.specs.Decide.{decision_of}
-use Rattle.link_base.specs.Rule.{empty_cell}
-use Rattle.pair_decisions.specs.Comparators.{answers_of}
+use Rattle.decision_rule.specs.Rule.{decision_of}
+use Rattle.link_base.specs.Words.{empty_cell}
+use Rattle.pair_decisions.specs.Words.{answers_of, cell_of, pattern_by, side_rule}
 use Rattle.pair_decisions.specs.Decisions.{decision_at}
-use Rattle.pair_decisions.specs.PairRule.{cell_of, pattern_by, side_rule}
 use Rattle.pair_decisions.proofs.rows.row_at.Goals as goal
 
 pub returns-clause-row : goal.returns-clause-row

@@ -1,7 +1,7 @@
 use Rattle.std.proofs.Common.{◌<◌, Bool, List, All, subst}
 use Rattle.link_base.specs.declared.rule.RuleCell.{RuleCell}
-use Rattle.patterns.specs.Shapes.{pattern_count_by}
-use Rattle.decision_rule.specs.RuleLaws.{patterns_in_range}
+use Rattle.patterns.specs.Patterns.{pattern_count_by}
+use Rattle.decision_rule.specs.FilledLaws.{patterns_in_range}
 use Rattle.pair_decisions.proofs.table.rule_of_shares.Goals as goal
 
 pub returns-clause-patterns : goal.returns-clause-patterns

@@ -4,13 +4,10 @@ use Rattle.link_base.specs.declared.rule.Decision.{Decision}
 use Rattle.link_base.specs.declared.rule.Decision.TheVariants.{Link, Possible}
 use Rattle.link_base.specs.declared.rule.PairAt.{PairAt}
 use Rattle.pair_decisions.proofs.ComparatorLemmas.{kept_joined}
-use Rattle.pair_walk.specs.RowLaws.{pair_holds, pair_more}
-use Rattle.pair_decisions.specs.Decisions.{decision_at, is_same, pairs_with}
-use Rattle.pair_decisions.specs.PairRows.{decided_row, decided_rows, kept_rows}
-use Rattle.pair_decisions.specs.PairRule.{side_rule}
-use Rattle.pair_decisions.specs.Pairs.{IsInside}
+use Rattle.pair_walk.specs.PairLaws.{pair_holds, pair_more}
+use Rattle.pair_decisions.specs.Words.{decision_at, is_same, pairs_with, IsInside, decided_row, decided_rows, kept_rows, side_rule}
 use Rattle.pair_decisions.specs.declared.rows.DecidedRow.{DecidedRow}
-use Rattle.pair_walk.specs.Pairs.{pair}
+use Rattle.pair_walk.specs.Rows.{pair}
 use Rattle.pair_decisions.proofs.walking.decide_row.Goals as goal
 
 pub row_at-decided-requires-clause-inside : goal.row_at-decided-requires-clause-inside

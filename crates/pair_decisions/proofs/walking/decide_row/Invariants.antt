@@ -1,9 +1,7 @@
 use Rattle.std.proofs.Common.{◌≡◌, ◌+◌, ◌++◌, length, map, take}
 use Rattle.link_base.specs.declared.rule.Decision.TheVariants.{Link, Possible}
-use Rattle.pair_decisions.specs.Decisions.{pairs_with}
-use Rattle.pair_decisions.specs.PairRows.{decided_rows, kept_rows}
-use Rattle.pair_decisions.specs.PairRule.{side_rule}
-use Rattle.pair_walk.specs.Pairs.{pair}
+use Rattle.pair_decisions.specs.Words.{pairs_with, decided_rows, kept_rows, side_rule}
+use Rattle.pair_walk.specs.Rows.{pair}
 use Rattle.pair_decisions.proofs.walking.decide_row.Given as goal
 
 abbrev pub invariant-loop-b : goal.invariant-loop-b

@@ -3,13 +3,10 @@ use Rattle.std.proofs.lemmas.List.Elements.{filter-append}
 use Rattle.link_base.specs.declared.rule.Decision.{Decision}
 use Rattle.link_base.specs.declared.rule.Decision.TheVariants.{Link, Possible}
 use Rattle.link_base.specs.declared.rule.PairAt.{PairAt}
-use Rattle.pair_walk.specs.RowLaws.{count_more, rest_holds, row_holds, row_more}
+use Rattle.pair_walk.specs.PairLaws.{count_more, rest_holds, row_holds, row_more}
 use Rattle.pair_decisions.proofs.ComparatorLemmas.{kept_joined}
-use Rattle.pair_decisions.specs.Decisions.{decision_at, is_same, pairs_with}
-use Rattle.pair_decisions.specs.PairRows.{decided_row, decided_rows, kept_rows}
-use Rattle.pair_decisions.specs.PairRule.{side_rule}
-use Rattle.pair_decisions.specs.Pairs.{IsInside}
-use Rattle.pair_walk.specs.Next.{GivesRow}
+use Rattle.pair_decisions.specs.Words.{decision_at, is_same, pairs_with, IsInside, decided_row, decided_rows, kept_rows, side_rule}
+use Rattle.pair_walk.specs.Walker.{GivesRow}
 use Rattle.pair_decisions.proofs.walking.decide_rows.Goals as goal
 
 pub decide_row-requires-clause-inside : goal.decide_row-requires-clause-inside

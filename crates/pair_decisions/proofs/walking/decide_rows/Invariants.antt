@@ -1,11 +1,8 @@
 use Rattle.std.proofs.Common.{◌≡◌, ◌≤◌, ◌+◌, ◌++◌, length, All}
 use Rattle.link_base.specs.declared.rule.Decision.TheVariants.{Link, Possible}
 use Rattle.link_limits.specs.declared.TheConstants.{MOST_PAIRS}
-use Rattle.pair_decisions.specs.Decisions.{pairs_with}
-use Rattle.pair_decisions.specs.PairRows.{decided_rows, kept_rows}
-use Rattle.pair_decisions.specs.PairRule.{side_rule}
-use Rattle.pair_decisions.specs.Pairs.{IsInside}
-use Rattle.pair_walk.specs.Pairs.{pairs_of_rows}
+use Rattle.pair_decisions.specs.Words.{pairs_with, IsInside, decided_rows, kept_rows, side_rule}
+use Rattle.pair_walk.specs.Rows.{pairs_of_rows}
 use Rattle.pair_decisions.proofs.walking.decide_rows.Given as goal
 
 abbrev pub invariant-rows : goal.invariant-rows

@@ -1,5 +1,4 @@
-use Rattle.std.proofs.Common.{◌-◌, ◌^◌, ◌<◌, ◌≤◌, length, take}
-use Rattle.std.specs.List.{sum_by}
+use Rattle.std.proofs.Common.{◌-◌, ◌^◌, ◌<◌, ◌≤◌, length, take, sum_by}
 use Rattle.pair_walk.proofs.blocks.listed_in.Given as goal
 
 abbrev pub invariant-loop-at : goal.invariant-loop-at

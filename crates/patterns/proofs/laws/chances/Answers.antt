@@ -1,4 +1,4 @@
-use Rattle.patterns.specs.ChanceLaws.{m_of_pos, u_of_pos, m_whole, u_whole}
+use Rattle.patterns.specs.PatternLaws.{m_of_pos, u_of_pos, m_whole, u_whole}
 use Rattle.patterns.proofs.laws.chances.Goals as goal
 
 pub returns-clause-matched_some : goal.returns-clause-matched_some

@@ -1,7 +1,7 @@
 use Rattle.std.proofs.Common.{◌≡◌, ◌*◌, ap, arith, map, ◌∙◌}
 use Rattle.std.proofs.lemmas.Grind.{common_steps}
 use Rattle.patterns.specs.Patterns.{number_of, outcomes}
-use Rattle.patterns.specs.ShapeLaws.{digit-le, outcome-pattern, outcomes-swap, pattern-lt}
+use Rattle.patterns.specs.PatternLaws.{digit-le, outcome-pattern, outcomes-swap, pattern-lt}
 use Rattle.patterns.proofs.Lemmas.{front-lt, next-le}
 use Rattle.patterns.proofs.numbers.pattern_over.Goals as goal
 

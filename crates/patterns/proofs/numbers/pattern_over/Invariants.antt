@@ -1,6 +1,5 @@
 use Rattle.std.proofs.Common.{◌≡◌, ◌+◌, ◌*◌, map, drop}
-use Rattle.patterns.specs.Shapes.{pattern_count_by}
-use Rattle.patterns.specs.Patterns.{number_of, outcomes}
+use Rattle.patterns.specs.Patterns.{pattern_count_by, number_of, outcomes}
 use Rattle.patterns.proofs.numbers.pattern_over.Given as goal
 
 abbrev pub invariant-loop-i : goal.invariant-loop-i

@@ -1,7 +1,7 @@
 use Rattle.std.proofs.Common.{◌≡◌, ◌*◌, arith, ap, false, get_or}
 use Rattle.std.proofs.lemmas.Grind.{common_steps}
-use Rattle.patterns.specs.Shapes.{pattern_count_by}
-use Rattle.patterns.specs.ShapeLaws.{count-le, count-pos, count-some}
+use Rattle.patterns.specs.Patterns.{pattern_count_by}
+use Rattle.patterns.specs.PatternLaws.{count-le, count-pos, count-some}
 use Rattle.patterns.proofs.Lemmas.{count-next}
 use Rattle.patterns.proofs.shapes.count.Goals as goal
 

@@ -1,5 +1,5 @@
 use Rattle.std.proofs.Common.{◌≡◌, ◌*◌, drop}
-use Rattle.patterns.specs.Shapes.{pattern_count_by}
+use Rattle.patterns.specs.Patterns.{pattern_count_by}
 use Rattle.patterns.proofs.shapes.count.Given as goal
 
 abbrev pub invariant-loop-rare : goal.invariant-loop-rare

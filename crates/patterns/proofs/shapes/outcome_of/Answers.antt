@@ -1,6 +1,5 @@
-use Rattle.std.proofs.Common.{◌≡◌, ◌<◌, ◌+◌, ◌-◌, ap, arith, drop, length, length-drop, sym, take, ◌∙◌}
-use Rattle.std.proofs.lemmas.List.{length-take, take_all}
-use Rattle.patterns.specs.Shapes.{outcome_at, pattern_count_by}
+use Rattle.std.proofs.Common.{◌≡◌, ◌<◌, ◌+◌, ◌-◌, ap, arith, drop, length, length-drop, sym, take, ◌∙◌, length-take, take_all}
+use Rattle.patterns.specs.Patterns.{outcome_at, pattern_count_by}
 use Rattle.patterns.proofs.Lemmas.{outcome-last, outcome-step}
 use Rattle.patterns.proofs.shapes.outcome_of.Goals as goal
 

@@ -1,5 +1,5 @@
 use Rattle.std.proofs.Common.{◌≡◌, ◌-◌, drop}
-use Rattle.patterns.specs.Shapes.{outcome_at}
+use Rattle.patterns.specs.Patterns.{outcome_at}
 use Rattle.patterns.proofs.shapes.outcome_of.Given as goal
 
 abbrev pub invariant-loop-i : goal.invariant-loop-i

@@ -1,5 +1,5 @@
 use Rattle.std.proofs.Common.{◌≡◌, length, take}
-use Rattle.patterns.specs.Chances.{rare_in}
+use Rattle.patterns.specs.Patterns.{rare_in}
 use Rattle.patterns.proofs.shapes.patterns_of.Given as goal
 
 abbrev pub invariant-loop-i : goal.invariant-loop-i

@@ -1,7 +1,7 @@
 use Rattle.std.proofs.Common.{◌≡◌, ℕ, zero, suc, ◌≤◌, ◌<◌, List, [], ◌∷◌, ◌++◌, Some, codes, take, drop, length, get_or, ap, sym, ◌∙◌, arith}
 use Rattle.std.proofs.lemmas.List.{at_drop_all}
 use Rattle.phonetic_keys.specs.Carry.{key_with}
-use Rattle.phonetic_keys.specs.Letters.{letters_of}
+use Rattle.phonetic_keys.specs.Alphabet.{letters_of}
 use Rattle.phonetic_keys.specs.Soundex.{carried, code_behind, soundex_key}
 use Rattle.phonetic_keys.proofs.CarryingLaw.{counted_carried}
 use Rattle.phonetic_keys.proofs.sounds.soundex.Goals as goal

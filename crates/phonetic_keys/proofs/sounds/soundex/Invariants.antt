@@ -1,5 +1,5 @@
 use Rattle.std.proofs.Common.{◌≡◌, ◌∷◌, ◌++◌, codes, take, drop}
-use Rattle.phonetic_keys.specs.Letters.{letters_of}
+use Rattle.phonetic_keys.specs.Alphabet.{letters_of}
 use Rattle.phonetic_keys.specs.Carry.{IsCarry, key_to_come}
 use Rattle.phonetic_keys.specs.Soundex.{carried, code_behind}
 use Rattle.phonetic_keys.proofs.sounds.soundex.Given as goal

@@ -1,13 +1,11 @@
 use Rattle.std.proofs.Common.{◌≡◌, ℕ, ◌+◌, ◌<◌, ◌≤◌, List, [], ◌∷◌, Bool, Some, cond, true, false, drop, length, get_or, refl, ap, sym, ◌∙◌, subst, arith}
 use Rattle.std.proofs.lemmas.List.{at_drop_all, at_drop_more}
 use Rattle.std.proofs.lemmas.Bool.Decides.{nat_tests}
-use Rattle.phonetic_keys.specs.Letters.{in_alphabet, letters_of}
-use Rattle.phonetic_keys.specs.Nysiis.{body, ended, front, nysiis_key, spelled_on, tail_of}
-use Rattle.phonetic_keys.specs.Keys.{IsKey}
-use Rattle.phonetic_keys.specs.Window.{KeepsKey}
+use Rattle.phonetic_keys.specs.Alphabet.{in_alphabet, letters_of}
+use Rattle.phonetic_keys.specs.Nysiis.{body, ended, front, nysiis_key, spelled_on, tail_of, IsKey}
+use Rattle.phonetic_keys.specs.Walks.{KeepsKey, HasNoGaps, StepsOverPlace, text_of}
 use Rattle.phonetic_keys.specs.declared.walk.Walk.{Walk}
 use Rattle.phonetic_keys.proofs.CarryingLaw.{text_key}
-use Rattle.phonetic_keys.specs.Walks.{HasNoGaps, StepsOverPlace, text_of}
 use Rattle.phonetic_keys.proofs.WalkLemmas.{full, filled_more, step_over}
 use Rattle.phonetic_keys.proofs.walk.nysiis.Goals as goal
 use Rattle.phonetic_keys.proofs.walk.nysiis.Goals.{then-is_letter, else-is_letter}

@@ -1,5 +1,4 @@
-use Rattle.std.proofs.Common.{sym, ◌∙◌, arith, slice_index}
-use Rattle.std.proofs.lemmas.List.{length-set}
+use Rattle.std.proofs.Common.{sym, ◌∙◌, arith, slice_index, length-set}
 use Rattle.price_check.proofs.Tops.{points_up-set, tops_halved, top_above, top_itself}
 use Rattle.price_check.proofs.forest.top_of.Goals as goal
 

@@ -1,5 +1,4 @@
-use Rattle.std.proofs.Common.{arith}
-use Rattle.std.proofs.lemmas.List.{length-set}
+use Rattle.std.proofs.Common.{arith, length-set}
 use Rattle.price_check.proofs.Chains.{by_top_first, by_top_later}
 use Rattle.price_check.proofs.numbering.number.Goals as goal
 

@@ -1,7 +1,7 @@
 use Rattle.std.proofs.Common.{◌≡◌, ◌<◌, get_or, length, arith, inl, inr}
 use Rattle.std.proofs.lemmas.Bool.{cases_lt}
 use Rattle.std.proofs.lemmas.List.{get_or_read, length-set}
-use Rattle.price_check.specs.CapacityVerdict.{HasPlace}
+use Rattle.price_check.specs.Verdict.{HasPlace}
 use Rattle.price_check.proofs.Order.{no_pair, room_used, used_more}
 use Rattle.price_check.proofs.places.first_unplaced.Goals as goal
 

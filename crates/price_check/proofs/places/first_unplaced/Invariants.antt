@@ -1,6 +1,6 @@
 use Rattle.std.proofs.Common.{◌≡◌, ℕ, ◌<◌, length}
 use Rattle.price_check.specs.Search.{AreUsed}
-use Rattle.price_check.specs.CapacityVerdict.{HasPlace}
+use Rattle.price_check.specs.Verdict.{HasPlace}
 use Rattle.price_check.proofs.places.first_unplaced.Given as goal
 
 abbrev pub invariant-loop-i : goal.invariant-loop-i

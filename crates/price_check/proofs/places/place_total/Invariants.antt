@@ -1,6 +1,6 @@
 use Rattle.std.proofs.Common.{◌≡◌, ◌*◌, take, pos, neg_ℤ, ◌≤ℤ◌}
 use Rattle.link_limits.specs.declared.TheConstants.{MOST_CAPACITY, MOST_VALUE}
-use Rattle.price_check.specs.Capacities.{place_sum}
+use Rattle.price_check.specs.Assignment.{place_sum}
 use Rattle.price_check.proofs.places.place_total.Given as goal
 
 abbrev pub invariant-loop-i : goal.invariant-loop-i

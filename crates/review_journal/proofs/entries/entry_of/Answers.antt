@@ -1,4 +1,4 @@
-use Rattle.link_base.specs.AnswerLaws.{refuses_then}
+use Rattle.link_base.specs.Words.{refuses_then}
 use Rattle.review_journal.proofs.ListLemmas.{refused_after}
 use Rattle.review_journal.proofs.entries.entry_of.Goals as goal
 

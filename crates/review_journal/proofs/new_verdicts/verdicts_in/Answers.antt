@@ -1,8 +1,7 @@
 use Rattle.std.proofs.Common.{◌<◌, ◌∙◌, length, arith, subst, sym, List, Result}
 use Rattle.std.proofs.lemmas.Grind.{common_steps}
-use Rattle.file_reader.specs.EachRow.{row_refused, row_taken}
-use Rattle.file_reader.specs.Rows.{no_row, TableRow}
-use Rattle.link_base.specs.Fault.{Refuses}
+use Rattle.file_reader.specs.Words.{row_refused, row_taken, no_row, TableRow}
+use Rattle.link_base.specs.Words.{Refuses}
 use Rattle.link_base.specs.declared.fault.Fault.{Fault}
 use Rattle.review_journal.specs.declared.batch.NewVerdict.{NewVerdict}
 use Rattle.review_journal.specs.Batch.{NamesRecords, verdict_in}

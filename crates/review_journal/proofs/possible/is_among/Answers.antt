@@ -1,7 +1,7 @@
 use Rattle.std.proofs.Common.{rules, sym}
 use Rattle.std.proofs.lemmas.Fn.{always_returns_same}
 use Rattle.link_base.specs.declared.rule.PairAt.{PairAt}
-use Rattle.review_journal.specs.Search.{order_of}
+use Rattle.review_journal.specs.Places.{order_of}
 use Rattle.review_journal.proofs.PlaceLemmas.{found_pair, missed_pair}
 use Rattle.review_journal.proofs.possible.is_among.Goals as goal
 

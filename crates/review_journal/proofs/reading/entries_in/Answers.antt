@@ -1,11 +1,10 @@
 use Rattle.std.proofs.Common.{◌<◌, ◌+◌, ◌∙◌, ap, sym, length, arith, subst, List, Result}
 use Rattle.std.proofs.lemmas.Grind.{common_steps}
-use Rattle.file_reader.specs.EachRow.{row_refused, row_taken}
-use Rattle.file_reader.specs.Rows.{no_row, TableRow}
-use Rattle.link_base.specs.Fault.{Refuses}
+use Rattle.file_reader.specs.Words.{row_refused, row_taken, no_row, TableRow}
+use Rattle.link_base.specs.Words.{Refuses}
 use Rattle.link_base.specs.declared.fault.Fault.{Fault}
 use Rattle.review_journal.specs.declared.entry.Entry.{Entry}
-use Rattle.review_journal.specs.Journal.{IsWithinFiles}
+use Rattle.review_journal.specs.Verdict.{IsWithinFiles}
 use Rattle.review_journal.specs.Reading.{entry_in}
 use Rattle.review_journal.specs.Rows.{written_in, Written}
 use Rattle.review_journal.proofs.ListLemmas.{all_more}

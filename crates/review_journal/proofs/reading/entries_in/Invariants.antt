@@ -1,5 +1,5 @@
 use Rattle.std.proofs.Common.{◌≡◌, All, [], length, drop}
-use Rattle.review_journal.specs.Journal.{IsWithinFiles}
+use Rattle.review_journal.specs.Verdict.{IsWithinFiles}
 use Rattle.review_journal.specs.Reading.{entries_read}
 use Rattle.review_journal.proofs.reading.entries_in.Given as goal
 

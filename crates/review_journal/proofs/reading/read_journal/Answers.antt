@@ -1,8 +1,6 @@
 use Rattle.std.proofs.Common.{◌≡◌, ◌∷◌, ◌==◌, ℕ, List, [], Bool, false, length, subst, Result, codes}
-use Rattle.file_reader.specs.Left.{records_in}
-use Rattle.file_reader.specs.Header.{header_has}
-use Rattle.link_base.specs.Fault.{IsAnswer}
-use Rattle.link_base.specs.Standard.{Record}
+use Rattle.file_reader.specs.Words.{records_in, header_has}
+use Rattle.link_base.specs.Words.{IsAnswer, Record}
 use Rattle.link_base.specs.declared.fault.Fault.{Fault}
 use Rattle.review_journal.specs.declared.entry.Entry.{Entry}
 use Rattle.review_journal.specs.Reading.{journal_in, journal_under}

@@ -1,6 +1,6 @@
 use Rattle.std.proofs.Common.{◌∙◌, ◌++◌, ap, arith}
 use Rattle.review_journal.specs.declared.entry.Entry.{Entry}
-use Rattle.review_journal.specs.Text.{entry_line, text_of_journal}
+use Rattle.review_journal.specs.Reading.{entry_line, text_of_journal}
 use Rattle.review_journal.proofs.ListLemmas.{line_more, lines_all}
 use Rattle.review_journal.proofs.text.journal_text.Goals as goal
 

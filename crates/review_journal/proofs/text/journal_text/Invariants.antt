@@ -1,6 +1,6 @@
 use Rattle.std.proofs.Common.{◌≡◌, ◌++◌, drop}
 use Rattle.std.specs.List.{enumerate_from, flat_map}
-use Rattle.review_journal.specs.Text.{entry_line, text_of_journal}
+use Rattle.review_journal.specs.Reading.{entry_line, text_of_journal}
 use Rattle.review_journal.proofs.text.journal_text.Given as goal
 
 abbrev pub invariant-loop-at : goal.invariant-loop-at

@@ -1,8 +1,6 @@
-use Rattle.std.proofs.Common.{◌∙◌, List, ap, arith, false, length}
-use Rattle.std.specs.List.{filter}
-use Rattle.std.proofs.lemmas.List.{take_all}
+use Rattle.std.proofs.Common.{◌∙◌, List, ap, arith, false, length, filter, take_all}
 use Rattle.link_limits.specs.declared.TheConstants.{MOST_ROWS}
-use Rattle.patterns.specs.Shapes.{rare_of}
+use Rattle.patterns.specs.Patterns.{rare_of}
 use Rattle.sample_counts.specs.declared.counts.Judged.{Judged}
 use Rattle.sample_counts.specs.Counts.{digit_in, is_digit}
 use Rattle.sample_counts.specs.Tallies.{counted_at}

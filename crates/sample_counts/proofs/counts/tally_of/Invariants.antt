@@ -1,6 +1,5 @@
-use Rattle.std.proofs.Common.{◌≡◌, ◌<◌, ℕ, length, take}
-use Rattle.std.specs.List.{filter}
-use Rattle.patterns.specs.Shapes.{rare_of}
+use Rattle.std.proofs.Common.{◌≡◌, ◌<◌, ℕ, length, take, filter}
+use Rattle.patterns.specs.Patterns.{rare_of}
 use Rattle.sample_counts.specs.Counts.{digit_in, is_digit}
 use Rattle.sample_counts.specs.Tallies.{counted_at}
 use Rattle.sample_counts.proofs.counts.tally_of.Given as goal

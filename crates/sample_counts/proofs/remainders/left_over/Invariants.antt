@@ -1,5 +1,4 @@
-use Rattle.std.proofs.Common.{◌≡◌, ◌+◌, take}
-use Rattle.std.specs.List.{sum_by}
+use Rattle.std.proofs.Common.{◌≡◌, ◌+◌, take, sum_by}
 use Rattle.sample_counts.specs.Remainders.{quota_of, spread_of}
 use Rattle.sample_counts.proofs.remainders.left_over.Given as goal
 

@@ -1,5 +1,5 @@
 use Rattle.std.proofs.Common.{arith}
-use Rattle.sample_counts.specs.ShareLaws.{valid_shares}
+use Rattle.sample_counts.specs.CountLaws.{valid_shares}
 use Rattle.sample_counts.proofs.remainders.shares.Goals as goal
 
 pub returns-clause-valid : goal.returns-clause-valid

@@ -1,5 +1,5 @@
 use Rattle.std.proofs.Common.{◌+◌, get_or}
-use Rattle.file_reader.specs.Rows.{no_row}
+use Rattle.file_reader.specs.Words.{no_row}
 use Rattle.sample_counts.proofs.Lemmas.{pair_refused}
 use Rattle.sample_counts.proofs.reviewed.reviewed_at.Goals as goal
 

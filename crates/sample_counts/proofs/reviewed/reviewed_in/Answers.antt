@@ -1,9 +1,8 @@
 use Rattle.std.proofs.Common.{◌<◌, ◌∙◌, List, Result, arith, length, subst, sym}
 use Rattle.std.proofs.lemmas.Grind.{common_steps}
 use Rattle.std.proofs.lemmas.List.Elements.{All-push}
-use Rattle.file_reader.specs.EachRow.{row_refused, row_taken}
-use Rattle.file_reader.specs.Rows.{no_row, TableRow}
-use Rattle.link_base.specs.Fault.{Refuses}
+use Rattle.file_reader.specs.Words.{row_refused, row_taken, no_row, TableRow}
+use Rattle.link_base.specs.Words.{Refuses}
 use Rattle.link_base.specs.declared.fault.Fault.{Fault}
 use Rattle.sample_counts.specs.Sample.{IsInFiles, sample_row}
 use Rattle.sample_counts.specs.declared.reviewed.Reviewed.{Reviewed}

@@ -2,7 +2,7 @@ use Rattle.std.proofs.Common.{◌≡◌, ◌∙◌, List, Result, ap, false, not
 use Rattle.std.specs.List.{list_any}
 use Rattle.std.proofs.lemmas.Iterator.{YieldsList-from_slice}
 use Rattle.std.proofs.lemmas.Iterator.Search.{any_from_yields_List}
-use Rattle.link_base.specs.Answers.{and_then}
+use Rattle.link_base.specs.Words.{and_then}
 use Rattle.link_base.specs.declared.fault.Fault.{Fault}
 use Rattle.sample_counts.specs.Sample.{with_both}
 use Rattle.sample_counts.specs.declared.reviewed.Reviewed.{Reviewed}

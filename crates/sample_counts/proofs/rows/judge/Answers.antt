@@ -1,7 +1,7 @@
 use Rattle.std.proofs.Common.{◌++◌, ◌∷◌, ◌∙◌, ◌<◌, [], ℕ, List, ap, arith, get_or, map, sym}
 use Rattle.std.proofs.lemmas.List.{map_more}
 use Rattle.std.proofs.lemmas.List.Elements.{All-push}
-use Rattle.patterns.specs.Shapes.{pattern_count_by}
+use Rattle.patterns.specs.Patterns.{pattern_count_by}
 use Rattle.sample_counts.specs.Counts.{judged_by}
 use Rattle.sample_counts.specs.declared.counts.Judged.{Judged}
 use Rattle.sample_counts.specs.declared.reviewed.Reviewed.{Reviewed}

@@ -1,5 +1,5 @@
 use Rattle.std.proofs.Common.{◌≡◌, ◌<◌, All, map, take}
-use Rattle.patterns.specs.Shapes.{pattern_count_by}
+use Rattle.patterns.specs.Patterns.{pattern_count_by}
 use Rattle.sample_counts.specs.declared.counts.Judged.{Judged}
 use Rattle.sample_counts.specs.Counts.{judged_by}
 use Rattle.sample_counts.proofs.rows.judge.Given as goal

@@ -1,8 +1,7 @@
 use Rattle.std.proofs.Common.{arith, codes}
 use Rattle.toml.specs.View.{table_view}
 use Rattle.settings_readers.specs.KeptLaws.{IsWithin, kept, needed_keeps, whole_keeps}
-use Rattle.settings_readers.specs.Parts.{needed}
-use Rattle.settings_readers.specs.Values.{whole}
+use Rattle.settings_readers.specs.Values.{needed, whole}
 use Rattle.link_plan.specs.declared.limits.TheConstants.{MOST_LETTERS}
 use Rattle.settings.proofs.canons.numbered.Goals as goal
 

@@ -1,7 +1,7 @@
 use Rattle.std.proofs.Common.{codes}
 use Rattle.toml.specs.View.{table_view}
 use Rattle.settings_readers.specs.KeptLaws.{kept, needed_keeps}
-use Rattle.settings_readers.specs.Parts.{needed}
+use Rattle.settings_readers.specs.Values.{needed}
 use Rattle.settings.specs.Field.{shares}
 use Rattle.settings.proofs.TextRanges.{shares_keep}
 use Rattle.settings.proofs.fields.field_shares.Goals as goal

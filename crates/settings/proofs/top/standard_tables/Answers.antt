@@ -1,6 +1,6 @@
 use Rattle.std.proofs.Common.{◌≡◌, [], Result, Ok, Err, IfOk}
 use Rattle.link_base.specs.declared.tables.Tables.{Tables}
-use Rattle.link_base.specs.Tables.{missing_marks, name_suffixes, name_titles}
+use Rattle.link_base.specs.Words.{missing_marks, name_suffixes, name_titles}
 use Rattle.settings.specs.Settings.{standard_tables}
 use Rattle.settings.proofs.top.standard_tables.Goals as goal
 

@@ -1,6 +1,6 @@
 use Rattle.std.proofs.Common.{◌≡◌, []}
 use Rattle.toml.specs.View.{members_view}
-use Rattle.settings.specs.WordTables.{pairs}
+use Rattle.settings.specs.Words.{pairs}
 use Rattle.settings.proofs.word_tables.pairs.Given as goal
 
 abbrev pub invariant-loop-key : goal.invariant-loop-key

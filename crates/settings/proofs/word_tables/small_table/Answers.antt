@@ -1,6 +1,6 @@
 use Rattle.std.proofs.Common.{◌∙◌}
 use Rattle.std.proofs.lemmas.Bool.{lt-leb, le-leb}
-use Rattle.settings_readers.specs.StepLaws.{refused_as}
+use Rattle.settings_readers.specs.KeptLaws.{refused_as}
 use Rattle.link_plan.specs.declared.limits.TheConstants.{MOST_WORD_PAIRS}
 use Rattle.settings.proofs.WordTables.{small_table_is}
 use Rattle.settings.proofs.word_tables.small_table.Goals as goal

@@ -1,7 +1,6 @@
-use Rattle.std.proofs.Common.{◌∙◌, rules, sym, tests}
+use Rattle.std.proofs.Common.{◌∙◌, rules, sym, tests, bytes_eq}
 use Rattle.std.proofs.lemmas.Iterator.{YieldsList-from_slice}
 use Rattle.std.proofs.lemmas.Iterator.Search.{any_from_yields_List}
-use Rattle.std.specs.Str.{bytes_eq}
 use Rattle.settings_readers.proofs.Lemmas.{any-map}
 use Rattle.settings_readers.proofs.keys.is_listed.Goals as goal
 

@@ -1,6 +1,6 @@
 use Rattle.std.proofs.Common.{[], arith}
 use Rattle.toml.specs.View.{items_view}
-use Rattle.settings_readers.specs.Lists.{each}
+use Rattle.settings_readers.specs.Values.{each}
 use Rattle.settings_readers.proofs.Lemmas.{each_more, each_refused, one_longer}
 use Rattle.settings_readers.proofs.lists.each.Goals as goal
 

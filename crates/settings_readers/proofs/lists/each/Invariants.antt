@@ -1,6 +1,6 @@
 use Rattle.std.proofs.Common.{◌≡◌, ◌+◌, drop, [], length}
 use Rattle.toml.specs.View.{items_view}
-use Rattle.settings_readers.specs.Lists.{each}
+use Rattle.settings_readers.specs.Values.{each}
 use Rattle.settings_readers.proofs.lists.each.Given as goal
 
 abbrev pub invariant-loop-i : goal.invariant-loop-i

@@ -1,6 +1,6 @@
 use Rattle.std.proofs.Common.{◌≡◌, true, false, sym, ◌∙◌, arith, nat_le, ◌&&◌}
 use Rattle.settings_readers.proofs.Lemmas.{sized_is}
-use Rattle.settings_readers.specs.StepLaws.{refused_as}
+use Rattle.settings_readers.specs.KeptLaws.{refused_as}
 use Rattle.settings_readers.proofs.lists.sized.Goals as goal
 
 pub returns-then-not-is_sized-clause-gives : goal.returns-then-not-is_sized-clause-gives

@@ -1,23 +1,21 @@
-use Rattle.std.proofs.Common.{◌≡◌, Err, subst, sym, rules}
-use Rattle.standard_files.specs.Known.{AreTextIds, file_values}
-use Rattle.standard_files.specs.Texts.{canons_of_row, file_texts}
+use Rattle.std.proofs.Common.{subst, sym}
+use Rattle.standard_files.specs.Taking.{AreTextIds, file_values}
+use Rattle.standard_files.specs.Sides.{canons_of_row, file_texts}
 use Rattle.standard_files.proofs.KnownLemmas.{ids-kept}
-use Rattle.standard_files.proofs.TakingLemmas.{before, kept, refused-append, refused-then, taken-then}
+use Rattle.standard_files.proofs.TakingLemmas.{before, kept, refused-append, refused-then, taken-then, is-err}
 use Rattle.standard_files.proofs.canons.take_canons.Goals as goal
 
 pub returns-in_err-a : goal.returns-in_err-a
 returns-in_err-a c =
     let pool = c.args.pool.now in
     let texts = file_texts (canons_of_row c.args.kinds.now) in
-    let f = c.in_err-a.field-0.0 in
-    let is : c.from_residual.result ≡ Err f = search rules in
-    rw is (refused-append pool.limit pool.texts (texts c.args.a.now) (texts c.args.b.now) f c.in_err-a.ensures)
+    rw (is-err c.from_residual.result c.from_residual.ensures.1)
+    (refused-append pool.limit pool.texts (texts c.args.a.now) (texts c.args.b.now) c.in_err-a.field-0.0 c.in_err-a.ensures)
 
 pub returns-in_err-b : goal.returns-in_err-b
 returns-in_err-b c =
-    let f = c.in_err-b.field-0.0 in
-    let is : c.from_residual-in_err-b.result ≡ Err f = search rules in
-    rw is (refused-then (file_texts (canons_of_row c.args.kinds.now) c.args.b.now) f c.in_ok-a.ensures c.in_err-b.ensures)
+    rw (is-err c.from_residual-in_err-b.result c.from_residual-in_err-b.ensures.1)
+    (refused-then (file_texts (canons_of_row c.args.kinds.now) c.args.b.now) c.in_err-b.field-0.0 c.in_ok-a.ensures c.in_err-b.ensures)
 
 pub returns : goal.returns
 returns c =

@@ -1,8 +1,8 @@
 use Rattle.std.proofs.Common.{Some, get_or, refl, rules, sym, subst}
 use Rattle.value_forms.specs.Canons.{exact, canon_of}
-use Rattle.link_base.specs.Rows.{value_seen}
-use Rattle.standard_files.specs.Known.{IsIdOf}
-use Rattle.standard_files.specs.Texts.{standard_text}
+use Rattle.link_base.specs.Words.{value_seen}
+use Rattle.standard_files.specs.Taking.{IsIdOf}
+use Rattle.standard_files.specs.Sides.{standard_text}
 use Rattle.standard_files.proofs.KnownLemmas.{id-kept, known-kept}
 use Rattle.standard_files.proofs.TakingLemmas.{kept}
 use Rattle.standard_files.proofs.canons.take_new.Goals as goal

@@ -1,9 +1,8 @@
-use Rattle.std.proofs.Common.{◌≡◌, ◌+◌, ◌++◌, ◌∷◌, [], Err, drop, option_to_list, arith, rules, length-append}
-use Rattle.link_base.specs.Standard.{absent_value}
-use Rattle.standard_files.specs.Known.{canon_at, side_at}
-use Rattle.standard_files.specs.Sides.{sides_of_row}
-use Rattle.standard_files.specs.Texts.{canons_of_row}
-use Rattle.standard_files.proofs.TakingLemmas.{canons-at, push-sides, sides-at, before, kept, goes-on, goes-refused}
+use Rattle.std.proofs.Common.{◌≡◌, ◌+◌, ◌++◌, ◌∷◌, [], drop, option_to_list, arith, rules, length-append}
+use Rattle.link_base.specs.Words.{absent_value}
+use Rattle.standard_files.specs.Taking.{canon_at, side_at}
+use Rattle.standard_files.specs.Sides.{sides_of_row, canons_of_row}
+use Rattle.standard_files.proofs.TakingLemmas.{canons-at, push-sides, sides-at, before, kept, goes-on, goes-refused, is-err}
 use Rattle.standard_files.proofs.KnownLemmas.{ids-kept, ids-many, ids-read}
 use Rattle.standard_files.proofs.canons.take_row.Goals as goal
 
@@ -44,6 +43,5 @@ returns-in_err-side c =
     let kinds = c.args.kinds.now in
     let row = c.args.row.now in
     let at = c.loop-field.field in
-    let f = c.in_err-side.field-0.0 in
-    let is : c.from_residual.result ≡ Err f = search rules in
-    rw is (goes-refused (option_to_list (canon_at kinds row at)) (canons_of_row (drop (at + 1) kinds) (drop (at + 1) row)) f c.loop-field.invariant.goes (canons-at kinds row at (omega arith) c.requires.as_many) c.in_err-side.ensures)
+    rw (is-err c.from_residual.result c.from_residual.ensures.1)
+    (goes-refused (option_to_list (canon_at kinds row at)) (canons_of_row (drop (at + 1) kinds) (drop (at + 1) row)) c.in_err-side.field-0.0 c.loop-field.invariant.goes (canons-at kinds row at (omega arith) c.requires.as_many) c.in_err-side.ensures)

@@ -1,8 +1,6 @@
 use Rattle.std.proofs.Common.{◌≡◌, ◌+◌, ◌++◌, drop, length}
-use Rattle.standard_files.specs.Known.{AreKnown, AreTextIds}
-use Rattle.standard_files.specs.Sides.{sides_of_row}
-use Rattle.standard_files.specs.Taking.{InLater}
-use Rattle.standard_files.specs.Texts.{canons_of_row}
+use Rattle.standard_files.specs.Taking.{AreKnown, AreTextIds, InLater}
+use Rattle.standard_files.specs.Sides.{sides_of_row, canons_of_row}
 use Rattle.standard_files.proofs.TakingLemmas.{Goes}
 use Rattle.standard_files.proofs.canons.take_row.Given as goal
 

@@ -1,6 +1,6 @@
 use Rattle.std.proofs.Common.{◌≡◌, Some, false, get_or, refl, sym, ◌∙◌}
 use Rattle.value_forms.specs.Canons.{compares_days, exact}
-use Rattle.standard_files.specs.Known.{canon_at}
+use Rattle.standard_files.specs.Taking.{canon_at}
 use Rattle.standard_files.proofs.KnownLemmas.{id-sides, id-taken}
 use Rattle.standard_files.proofs.canons.take_side.Goals as goal
 

@@ -1,10 +1,9 @@
-use Rattle.std.proofs.Common.{◌≡◌, ◌+◌, Err, drop, get_or, length, arith, refl, rules, subst, sym}
-use Rattle.block_passes.specs.KeyIds.{ids_of_row, key_ids}
-use Rattle.link_base.specs.Standard.{no_record}
-use Rattle.standard_files.specs.Known.{AreTextIds, file_values}
-use Rattle.standard_files.specs.Texts.{canons_of_row, file_texts, parts_of_row}
-use Rattle.standard_files.proofs.TakingLemmas.{file-row, push-ids, row-many, held-more, before, kept, goes-on, goes-refused}
-use Rattle.standard_files.proofs.KnownLemmas.{ids-row, row-known, rows-many, ids-kept, ids-next, ids-room}
+use Rattle.std.proofs.Common.{◌+◌, drop, get_or, arith, refl}
+use Rattle.block_passes.specs.Keys.{ids_of_row, key_ids}
+use Rattle.link_base.specs.Words.{no_record}
+use Rattle.standard_files.specs.Sides.{canons_of_row, file_texts, parts_of_row}
+use Rattle.standard_files.proofs.TakingLemmas.{file-row, push-ids, held-more, before, kept, goes-on, goes-refused, is-err}
+use Rattle.standard_files.proofs.KnownLemmas.{ids-row, row-known, rows-many, ids-later, ids-room}
 use Rattle.standard_files.proofs.keys.take_file.Goals as goal
 
 pub loop-at-preserved : goal.loop-at-preserved
@@ -15,16 +14,10 @@ loop-at-preserved c =
     let file = c.args.file.now in
     let at = c.loop-at.at in
     let row = c.row.result in
-    let pool = c.loop-at.pool in
     let taken = c.in_ok-take_row.ensures in
-    let new = c.take_row.new.pool.texts in
-    let left = c.loop-at.left.now in
-    let later = file_values (drop (at + 1) file) in
     record {
       goes = goes-on (file_texts texts (drop (at + 1) file)) c.loop-at.invariant.goes taken (file-row texts file at row (omega arith) c.row.ensures);
-      left = subst (AreTextIds new later) (sym c.split_at.ensures.back)
-          (ids-kept pool.texts new (kept taken) later (drop (length kinds) left)
-          (ids-next pool.texts file at row left (length kinds) (omega arith) c.row.ensures (row-many kinds file at row (omega arith) c.row.ensures c.requires.rows) c.loop-at.invariant.left).1);
+      left = ids-later c.loop-at.pool.texts kinds file at row c.loop-at.left.now (omega arith) c.row.ensures c.requires.rows c.loop-at.invariant.left c.take_row.new.pool.texts _ (kept taken) c.split_at.ensures.back;
       canons = held-more (file_texts (canons_of_row kinds) file) taken c.loop-at.invariant.canons;
       sides = λ final e. c.loop-at.invariant.sides final (before taken final e);
       ids = λ final e.
@@ -35,18 +28,14 @@ loop-at-preserved c =
 pub returns-in_err-take_row : goal.returns-in_err-take_row
 returns-in_err-take_row c =
     let texts = parts_of_row c.args.passes.now in
-    let f = c.in_err-take_row.field-0.0 in
-    let is : c.from_residual.result ≡ Err f = search rules in
-    rw is (goes-refused (texts c.row.result) (file_texts texts (drop (c.loop-at.at + 1) c.args.file.now)) f c.loop-at.invariant.goes
+    rw (is-err c.from_residual.result c.from_residual.ensures.1)
+    (goes-refused (texts c.row.result) (file_texts texts (drop (c.loop-at.at + 1) c.args.file.now)) c.in_err-take_row.field-0.0 c.loop-at.invariant.goes
     (file-row texts c.args.file.now c.loop-at.at c.row.result (omega arith) c.row.ensures) c.in_err-take_row.ensures)
 
 pub split_at-requires : goal.split_at-requires
 split_at-requires c =
-    let kinds = c.args.kinds.now in
-    let file = c.args.file.now in
-    let at = c.loop-at.at in
-    let row = (get_or file at no_record).row in
-    ids-room c.loop-at.pool.texts file at row c.loop-at.left.now (length kinds) (omega arith) refl (row-many kinds file at row (omega arith) refl c.requires.rows) c.loop-at.invariant.left
+    let row = (get_or c.args.file.now c.loop-at.at no_record).row in
+    ids-room c.loop-at.pool.texts c.args.kinds.now c.args.file.now c.loop-at.at row c.loop-at.left.now (omega arith) refl c.requires.rows c.loop-at.invariant.left
 
 pub sides-sides-requires : goal.sides-sides-requires
 sides-sides-requires c =

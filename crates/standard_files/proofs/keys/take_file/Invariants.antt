@@ -1,9 +1,7 @@
 use Rattle.std.proofs.Common.{◌≡◌, ◌++◌, drop}
-use Rattle.block_passes.specs.KeyIds.{key_ids}
-use Rattle.standard_files.specs.Known.{AreTextIds, HoldsTexts, file_values}
-use Rattle.standard_files.specs.Sides.{sides_of_file}
-use Rattle.standard_files.specs.Taking.{InLater}
-use Rattle.standard_files.specs.Texts.{canons_of_row, file_texts, parts_of_row}
+use Rattle.block_passes.specs.Keys.{key_ids}
+use Rattle.standard_files.specs.Taking.{AreTextIds, HoldsTexts, file_values, InLater}
+use Rattle.standard_files.specs.Sides.{sides_of_file, canons_of_row, file_texts, parts_of_row}
 use Rattle.standard_files.proofs.TakingLemmas.{Goes}
 use Rattle.standard_files.proofs.keys.take_file.Given as goal
 

@@ -1,8 +1,7 @@
-use Rattle.std.proofs.Common.{◌≡◌, ◌+◌, ◌++◌, ◌∷◌, [], Err, get_or, drop, arith, rules, ap, option_to_list}
-use Rattle.block_passes.specs.KeyIds.{ids_in_pass, part_id}
-use Rattle.block_passes.specs.Keys.{no_part, part_key}
-use Rattle.standard_files.specs.Texts.{parts_in_pass}
-use Rattle.standard_files.proofs.TakingLemmas.{part-texts, push-sides, before, goes-on, goes-refused, whole-is}
+use Rattle.std.proofs.Common.{◌≡◌, ◌+◌, ◌++◌, ◌∷◌, [], get_or, drop, arith, rules, ap, option_to_list}
+use Rattle.block_passes.specs.Keys.{ids_in_pass, part_id, no_part, part_key}
+use Rattle.standard_files.specs.Sides.{parts_in_pass}
+use Rattle.standard_files.proofs.TakingLemmas.{part-texts, push-sides, before, goes-on, goes-refused, whole-is, is-err}
 use Rattle.standard_files.proofs.KnownLemmas.{ids-part, row-kept}
 use Rattle.standard_files.proofs.keys.take_key.Goals as goal
 
@@ -27,7 +26,6 @@ returns-in_err-id c =
     let row = c.args.row.now in
     let parts = c.parts-part-items.result.now in
     let at = c.loop-part.part-index in
-    let f = c.in_err-id.field-0.0 in
-    let is : c.from_residual.result ≡ Err f = search rules in
-    rw is (goes-refused (option_to_list (part_key row (get_or parts at no_part))) (parts_in_pass row (drop (at + 1) parts)) f
+    rw (is-err c.from_residual.result c.from_residual.ensures.1)
+    (goes-refused (option_to_list (part_key row (get_or parts at no_part))) (parts_in_pass row (drop (at + 1) parts)) c.in_err-id.field-0.0
     (whole-is (ap (parts_in_pass row) c.parts-part-items.ensures) c.loop-part.invariant.goes) (part-texts row parts at (omega arith)) c.in_err-id.ensures)

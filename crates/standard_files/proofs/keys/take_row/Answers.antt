@@ -1,7 +1,7 @@
-use Rattle.std.proofs.Common.{◌≡◌, ◌+◌, ◌++◌, Err, drop, arith, rules, ap}
-use Rattle.block_passes.specs.KeyIds.{ids_in_pass, ids_of_row}
-use Rattle.standard_files.specs.Texts.{parts_in_pass, parts_of_row}
-use Rattle.standard_files.proofs.TakingLemmas.{pass-parts, push-ids, before, goes-on, goes-refused, whole-is}
+use Rattle.std.proofs.Common.{◌+◌, ◌++◌, drop, arith, ap}
+use Rattle.block_passes.specs.Keys.{ids_in_pass, ids_of_row}
+use Rattle.standard_files.specs.Sides.{parts_in_pass, parts_of_row}
+use Rattle.standard_files.proofs.TakingLemmas.{pass-parts, push-ids, before, goes-on, goes-refused, whole-is, is-err}
 use Rattle.standard_files.proofs.KnownLemmas.{ids-pass, row-kept}
 use Rattle.standard_files.proofs.keys.take_row.Goals as goal
 
@@ -26,7 +26,5 @@ returns-in_err-take_key c =
     let passes = c.passes-pass-items.result.now in
     let at = c.loop-pass.pass-index in
     let pass = c.pass-item.result in
-    let f = c.in_err-take_key.field-0.0 in
-    let is : c.from_residual.result ≡ Err f = search rules in
-    rw is (goes-refused (parts_in_pass row pass) (parts_of_row (drop (at + 1) passes) row) f
+    rw (is-err c.from_residual.result c.from_residual.ensures.1) (goes-refused (parts_in_pass row pass) (parts_of_row (drop (at + 1) passes) row) c.in_err-take_key.field-0.0
     (whole-is (ap (λ p. parts_of_row p row) c.passes-pass-items.ensures) c.loop-pass.invariant.goes) (pass-parts row passes at pass (omega arith) c.pass-item.is) c.in_err-take_key.ensures)

@@ -1,8 +1,7 @@
 use Rattle.std.proofs.Common.{◌≡◌, ◌++◌, drop}
-use Rattle.block_passes.specs.KeyIds.{ids_of_row}
-use Rattle.standard_files.specs.Known.{IsKnownRow}
-use Rattle.standard_files.specs.Taking.{InLater}
-use Rattle.standard_files.specs.Texts.{parts_of_row}
+use Rattle.block_passes.specs.Keys.{ids_of_row}
+use Rattle.standard_files.specs.Taking.{IsKnownRow, InLater}
+use Rattle.standard_files.specs.Sides.{parts_of_row}
 use Rattle.standard_files.proofs.TakingLemmas.{Goes}
 use Rattle.standard_files.proofs.keys.take_row.Given as goal
 

@@ -1,14 +1,12 @@
 use Rattle.std.proofs.Common.{◌≡◌, ◌∙◌, ◌<◌, ℕ, Option, Some, ap, arith, get_or, length, option_to_list, refl, subst, sym}
 use Rattle.std.proofs.lemmas.List.{get_or_read_under}
-use Rattle.block_passes.specs.KeyIds.{part_id}
-use Rattle.block_passes.specs.Keys.{part_key}
+use Rattle.block_passes.specs.Keys.{part_id, part_key}
 use Rattle.comparators.specs.Fields.{id_in}
 use Rattle.comparators.specs.declared.ids.IdValue.TheVariants as id
-use Rattle.link_base.specs.Standard.{absent_value}
+use Rattle.link_base.specs.Words.{absent_value}
 use Rattle.value_forms.specs.Canons.{canon_by}
-use Rattle.standard_files.specs.Known.{IsIdOf}
-use Rattle.standard_files.specs.Taking.{InLater, TakesTexts}
-use Rattle.standard_files.specs.Texts.{standard_text}
+use Rattle.standard_files.specs.Taking.{IsIdOf, InLater, TakesTexts}
+use Rattle.standard_files.specs.Sides.{standard_text}
 use Rattle.standard_files.proofs.TakingLemmas.{canon-held, takes-held}
 use Rattle.standard_files.proofs.KnownLemmas.{holds-more, id-part, known-part, id-taken, ids-at, ids-many}
 use Rattle.standard_files.proofs.keys.take_row_part.Goals.{In-Some}

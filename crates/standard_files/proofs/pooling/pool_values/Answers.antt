@@ -1,7 +1,6 @@
-use Rattle.std.proofs.Common.{◌≡◌, List, true, ℕ, sym}
-use Rattle.value_pool.specs.Texts.{stands_among}
-use Rattle.standard_files.specs.Texts.{all_texts}
-use Rattle.standard_files.proofs.TakingLemmas.{extends-self, holds-parts, in-canons-a, in-canons-b, in-parts-a, in-parts-b, taken-stands}
+use Rattle.std.proofs.Common.{◌++◌, sym}
+use Rattle.standard_files.specs.Sides.{both_texts, canons_of_row, file_texts, parts_of_row, texts_of_row}
+use Rattle.standard_files.proofs.TakingLemmas.{extends-self, held-left, held-right, held-taken, holds-parts}
 use Rattle.standard_files.proofs.SideLemmas.{file-sides}
 use Rattle.standard_files.proofs.pooling.pool_values.Goals as goal
 
@@ -12,21 +11,22 @@ returns-clause-pooled c =
     let passes = c.args.passes.now in
     let a = c.args.a.now in
     let b = c.args.b.now in
-    let all = all_texts kinds passes a b in
     let taken = c.in_ok-taken.ensures in
-    let a_taken = taken.holds.0 in
-    let b_taken = taken.holds.1 in
     let later = extends-self texts c.are_distinct.ensures.distinct in
-    let held : (text : List ℕ) → stands_among all text ≡ true → stands_among texts text ≡ true = λ text h. taken-stands _ all _ texts text taken.taken h in
+    let first = both_texts texts_of_row a b in
+    let second = both_texts (canons_of_row kinds) a b in
+    let third = both_texts (parts_of_row passes) a b in
+    let canons = held-right first second texts (held-left (first ++ second) third texts (held-taken taken)) in
+    let parts = held-right (first ++ second) third texts (held-taken taken) in
     record {
       a = record {
-        sides = file-sides texts kinds a c.in_ok-taken.taken.a.rows c.requires.rows_a (a_taken.compared.sides texts later) (λ text h. held text (in-canons-a kinds passes a b text h));
-        held = holds-parts texts passes a (λ text h. held text (in-parts-a kinds passes a b text h));
-        keys = sym (a_taken.keys texts later);
+        sides = file-sides texts kinds a c.in_ok-taken.taken.a.rows c.requires.rows_a (taken.holds.0.compared.sides texts later) (held-left (file_texts (canons_of_row kinds) a) (file_texts (canons_of_row kinds) b) texts canons);
+        held = holds-parts texts passes a (held-left (file_texts (parts_of_row passes) a) (file_texts (parts_of_row passes) b) texts parts);
+        keys = sym (taken.holds.0.keys texts later);
       };
       b = record {
-        sides = file-sides texts kinds b c.in_ok-taken.taken.b.rows c.requires.rows_b (b_taken.compared.sides texts later) (λ text h. held text (in-canons-b kinds passes a b text h));
-        held = holds-parts texts passes b (λ text h. held text (in-parts-b kinds passes a b text h));
-        keys = sym (b_taken.keys texts later);
+        sides = file-sides texts kinds b c.in_ok-taken.taken.b.rows c.requires.rows_b (taken.holds.1.compared.sides texts later) (held-right (file_texts (canons_of_row kinds) a) (file_texts (canons_of_row kinds) b) texts canons);
+        held = holds-parts texts passes b (held-right (file_texts (parts_of_row passes) a) (file_texts (parts_of_row passes) b) texts parts);
+        keys = sym (taken.holds.1.keys texts later);
       };
     }

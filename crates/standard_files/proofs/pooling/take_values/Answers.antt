@@ -1,7 +1,7 @@
-use Rattle.std.proofs.Common.{◌≡◌, ◌++◌, Err, rules}
-use Rattle.standard_files.specs.Known.{file_values}
-use Rattle.standard_files.specs.Texts.{both_texts, canons_of_row, file_texts, parts_of_row, texts_of_row}
-use Rattle.standard_files.proofs.TakingLemmas.{held-left, held-right, held-taken, before, kept, refused-append, refused-then, taken-then}
+use Rattle.std.proofs.Common.{◌++◌}
+use Rattle.standard_files.specs.Taking.{file_values}
+use Rattle.standard_files.specs.Sides.{both_texts, canons_of_row, file_texts, parts_of_row, texts_of_row}
+use Rattle.standard_files.proofs.TakingLemmas.{held-left, held-right, held-taken, before, kept, refused-append, refused-then, taken-then, is-err}
 use Rattle.standard_files.proofs.KnownLemmas.{ids-kept}
 use Rattle.standard_files.proofs.pooling.take_values.Goals as goal
 
@@ -13,9 +13,8 @@ returns-in_err-texts c =
     let first = both_texts texts_of_row a b in
     let second = both_texts (canons_of_row c.args.kinds.now) a b in
     let third = both_texts (parts_of_row c.args.passes.now) a b in
-    let f = c.in_err-texts.field-0.0 in
-    let is : c.from_residual.result ≡ Err f = search rules in
-    rw is (refused-append pool.limit pool.texts (first ++ second) third f (refused-append pool.limit pool.texts first second f c.in_err-texts.ensures))
+    rw (is-err c.from_residual.result c.from_residual.ensures.1)
+    (refused-append pool.limit pool.texts (first ++ second) third c.in_err-texts.field-0.0 (refused-append pool.limit pool.texts first second c.in_err-texts.field-0.0 c.in_err-texts.ensures))
 
 pub returns-in_err-tables : goal.returns-in_err-tables
 returns-in_err-tables c =
@@ -25,17 +24,15 @@ returns-in_err-tables c =
     let first = both_texts texts_of_row a b in
     let second = both_texts (canons_of_row c.args.kinds.now) a b in
     let third = both_texts (parts_of_row c.args.passes.now) a b in
-    let f = c.in_err-tables.field-0.0 in
-    let is : c.from_residual-in_err-tables.result ≡ Err f = search rules in
-    rw is (refused-append pool.limit pool.texts (first ++ second) third f (refused-then second f c.in_ok-texts.ensures c.in_err-tables.ensures))
+    rw (is-err c.from_residual-in_err-tables.result c.from_residual-in_err-tables.ensures.1)
+    (refused-append pool.limit pool.texts (first ++ second) third c.in_err-tables.field-0.0 (refused-then second c.in_err-tables.field-0.0 c.in_ok-texts.ensures c.in_err-tables.ensures))
 
 pub returns-in_err-keys : goal.returns-in_err-keys
 returns-in_err-keys c =
     let third = both_texts (parts_of_row c.args.passes.now) c.args.a.now c.args.b.now in
-    let f = c.in_err-keys.field-0.0 in
     let tables = c.in_ok-tables.ensures in
-    let is : c.from_residual-in_err-keys.result ≡ Err f = search rules in
-    rw is (refused-then third f (taken-then c.in_ok-texts.ensures tables tables.holds) c.in_err-keys.ensures)
+    rw (is-err c.from_residual-in_err-keys.result c.from_residual-in_err-keys.ensures.1)
+    (refused-then third c.in_err-keys.field-0.0 (taken-then c.in_ok-texts.ensures tables tables.holds) c.in_err-keys.ensures)
 
 pub returns : goal.returns
 returns c =

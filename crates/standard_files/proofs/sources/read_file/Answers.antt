@@ -1,5 +1,5 @@
 use Rattle.std.proofs.Common.{◌∙◌, Ok, ap, map, refl, sym}
-use Rattle.file_reader.specs.Layout.{wanted_of}
+use Rattle.file_reader.specs.Words.{wanted_of}
 use Rattle.link_plan.specs.Plan.{FieldKeys}
 use Rattle.standard_files.specs.Values.{sort_in}
 use Rattle.standard_files.specs.declared.file_values.DatedFile.{DatedFile}

@@ -1,7 +1,7 @@
-use Rattle.std.proofs.Common.{◌≡◌, ◌+◌, ◌++◌, Err, drop, take, arith, rules}
-use Rattle.standard_files.specs.Known.{AreTextIds, file_values}
-use Rattle.standard_files.specs.Texts.{file_texts, texts_of_row}
-use Rattle.standard_files.proofs.TakingLemmas.{file-row, values-more, goes-on, goes-refused}
+use Rattle.std.proofs.Common.{◌+◌, ◌++◌, drop, take, arith}
+use Rattle.standard_files.specs.Taking.{AreTextIds, file_values}
+use Rattle.standard_files.specs.Sides.{file_texts, texts_of_row}
+use Rattle.standard_files.proofs.TakingLemmas.{file-row, values-more, goes-on, goes-refused, is-err}
 use Rattle.standard_files.proofs.texts.take_file.Goals as goal
 
 pub loop-at-preserved : goal.loop-at-preserved
@@ -18,7 +18,6 @@ loop-at-preserved c =
 
 pub returns-in_err-take_row : goal.returns-in_err-take_row
 returns-in_err-take_row c =
-    let f = c.in_err-take_row.field-0.0 in
-    let is : c.from_residual.result ≡ Err f = search rules in
-    rw is (goes-refused (texts_of_row c.row-in-loop-at.result) (file_texts texts_of_row (drop (c.loop-at.at + 1) c.args.file.now)) f c.loop-at.invariant.goes
+    rw (is-err c.from_residual.result c.from_residual.ensures.1)
+    (goes-refused (texts_of_row c.row-in-loop-at.result) (file_texts texts_of_row (drop (c.loop-at.at + 1) c.args.file.now)) c.in_err-take_row.field-0.0 c.loop-at.invariant.goes
     (file-row texts_of_row c.args.file.now c.loop-at.at c.row-in-loop-at.result (omega arith) c.row-in-loop-at.ensures) c.in_err-take_row.ensures)

@@ -1,6 +1,6 @@
 use Rattle.std.proofs.Common.{drop, take}
-use Rattle.standard_files.specs.Known.{AreTextIds, file_values}
-use Rattle.standard_files.specs.Texts.{file_texts, texts_of_row}
+use Rattle.standard_files.specs.Taking.{AreTextIds, file_values}
+use Rattle.standard_files.specs.Sides.{file_texts, texts_of_row}
 use Rattle.standard_files.proofs.TakingLemmas.{Goes}
 use Rattle.standard_files.proofs.texts.take_file.Given as goal
 

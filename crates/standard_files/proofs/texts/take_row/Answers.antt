@@ -1,7 +1,7 @@
-use Rattle.std.proofs.Common.{◌≡◌, ◌+◌, ◌++◌, ◌∷◌, [], Err, drop, take, option_to_list, arith, rules}
-use Rattle.link_base.specs.Rows.{value_seen}
-use Rattle.standard_files.specs.Texts.{standard_text, texts_of_row}
-use Rattle.standard_files.proofs.TakingLemmas.{row-texts, values-push, kept, goes-on, goes-refused}
+use Rattle.std.proofs.Common.{◌≡◌, ◌+◌, ◌++◌, ◌∷◌, [], drop, take, option_to_list, arith, rules}
+use Rattle.link_base.specs.Words.{value_seen}
+use Rattle.standard_files.specs.Sides.{standard_text, texts_of_row}
+use Rattle.standard_files.proofs.TakingLemmas.{row-texts, values-push, kept, goes-on, goes-refused, is-err}
 use Rattle.standard_files.proofs.KnownLemmas.{ids-push}
 use Rattle.standard_files.proofs.texts.take_row.Goals as goal
 
@@ -25,6 +25,5 @@ returns-in_err-id c =
     let row = c.args.row.now in
     let at = c.loop-at.at in
     let v = value_seen c.value.result in
-    let f = c.in_err-id.field-0.0 in
-    let is : c.from_residual.result ≡ Err f = search rules in
-    rw is (goes-refused (option_to_list (standard_text v)) (texts_of_row (drop (at + 1) row)) f c.loop-at.invariant.goes (row-texts row at v (omega arith) c.value.ensures) c.in_err-id.ensures)
+    rw (is-err c.from_residual.result c.from_residual.ensures.1)
+    (goes-refused (option_to_list (standard_text v)) (texts_of_row (drop (at + 1) row)) c.in_err-id.field-0.0 c.loop-at.invariant.goes (row-texts row at v (omega arith) c.value.ensures) c.in_err-id.ensures)

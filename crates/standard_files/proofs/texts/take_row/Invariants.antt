@@ -1,7 +1,7 @@
 use Rattle.std.proofs.Common.{◌++◌, List, drop, take}
 use Rattle.link_base.specs.declared.standard.Value.{Value}
-use Rattle.standard_files.specs.Known.{AreTextIds}
-use Rattle.standard_files.specs.Texts.{texts_of_row}
+use Rattle.standard_files.specs.Taking.{AreTextIds}
+use Rattle.standard_files.specs.Sides.{texts_of_row}
 use Rattle.standard_files.proofs.TakingLemmas.{Goes}
 use Rattle.standard_files.proofs.texts.take_row.Given as goal
 

@@ -1,6 +1,4 @@
-use Rattle.std.proofs.Common.{◌≡◌, ◌≤◌, ◌<◌, ℕ, get_or, length, take, vec_capacity, vec_len}
-use Rattle.std.specs.List.{flat_map}
-use Rattle.std.specs.Option.{option_to_list}
+use Rattle.std.proofs.Common.{◌≡◌, ◌≤◌, ◌<◌, ℕ, get_or, length, take, vec_capacity, vec_len, flat_map, option_to_list}
 use Rattle.standardise.specs.Cleaning.{ascii_cleaned}
 use Rattle.standardise.proofs.WordLemmas.{has_space}
 use Rattle.standardise.proofs.cleaning.clean_ascii.Given as goal

@@ -1,6 +1,6 @@
 use Rattle.std.proofs.Common.{◌≡◌, ◌<◌, ◌∙◌, ℕ, arith, get_or, length, sym, true}
 use Rattle.std.proofs.lemmas.Bool.Decides.{nat_tests}
-use Rattle.link_base.specs.Tables.{is_word_byte}
+use Rattle.link_base.specs.Words.{is_word_byte}
 use Rattle.standardise.proofs.WordLemmas.{ascii_text, stays_as_is, one_word}
 use Rattle.standardise.proofs.cleaning.is_clean.Goals as goal
 

@@ -1,5 +1,5 @@
 use Rattle.std.proofs.Common.{◌≡◌, ◌<◌, ℕ, get_or, true}
-use Rattle.link_base.specs.Tables.{is_word_byte}
+use Rattle.link_base.specs.Words.{is_word_byte}
 use Rattle.standardise.proofs.cleaning.is_clean.Given as goal
 
 abbrev pub invariant-loop-byte : goal.invariant-loop-byte

@@ -1,6 +1,4 @@
-use Rattle.std.proofs.Common.{◌++◌, encode_utf8_all, take, append_assoc, ap, sym, ◌∙◌}
-use Rattle.std.specs.List.{flat_map}
-use Rattle.std.specs.String.{string_bytes}
+use Rattle.std.proofs.Common.{◌++◌, encode_utf8_all, take, append_assoc, ap, sym, ◌∙◌, flat_map, string_bytes}
 use Rattle.standardise.specs.Cleaning.{cleaned_char}
 use Rattle.standardise.proofs.WordLemmas.{cleaned_more}
 use Rattle.standardise.proofs.cleaning.push_all_cleaned.Goals as goal

@@ -1,6 +1,4 @@
-use Rattle.std.proofs.Common.{◌≡◌, ◌++◌, take, encode_utf8_all}
-use Rattle.std.specs.List.{flat_map}
-use Rattle.std.specs.String.{string_bytes}
+use Rattle.std.proofs.Common.{◌≡◌, ◌++◌, take, encode_utf8_all, flat_map, string_bytes}
 use Rattle.standardise.specs.Cleaning.{cleaned_char}
 use Rattle.standardise.proofs.cleaning.push_all_cleaned.Given as goal
 

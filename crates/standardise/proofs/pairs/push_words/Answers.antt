@@ -1,8 +1,7 @@
-use Rattle.std.proofs.Common.{◌≡◌, ◌++◌, ◌∷◌, [], map, ap, sym, ◌∙◌, subst, arith}
-use Rattle.std.specs.Str.{IsUtf8}
+use Rattle.std.proofs.Common.{◌≡◌, ◌++◌, ◌∷◌, [], map, ap, sym, ◌∙◌, subst, arith, IsUtf8}
 use Rattle.std.proofs.lemmas.Grind.{common_steps}
 use Rattle.std.proofs.lemmas.Str.{IsUtf8-append}
-use Rattle.standardise.specs.Words.{replaced, spaced_words, words}
+use Rattle.standardise.specs.Names.{replaced, spaced_words, words}
 use Rattle.standardise.proofs.WordLemmas.{one_more, one_space}
 use Rattle.standardise.proofs.pairs.push_words.Goals as goal
 

@@ -1,6 +1,5 @@
-use Rattle.std.proofs.Common.{◌≡◌, ◌++◌, map, length}
-use Rattle.std.specs.Str.{IsUtf8}
-use Rattle.standardise.specs.Words.{replaced, spaced_words, words}
+use Rattle.std.proofs.Common.{◌≡◌, ◌++◌, map, length, IsUtf8}
+use Rattle.standardise.specs.Names.{replaced, spaced_words, words}
 use Rattle.standardise.proofs.pairs.push_words.Given as goal
 
 abbrev pub invariant-loop-word : goal.invariant-loop-word

@@ -1,9 +1,8 @@
-use Rattle.std.proofs.Common.{rules}
-use Rattle.std.specs.Ordering.{is_lt}
+use Rattle.std.proofs.Common.{rules, is_lt}
 use Rattle.std.proofs.lemmas.Cmp.{nat_list_cmp_total}
 use Rattle.std.proofs.lemmas.List.Sorted.{ranks_by}
 use Rattle.std.proofs.lemmas.Fn.{always_returns_same}
-use Rattle.standardise.specs.Tables.{text_cmp}
+use Rattle.standardise.specs.Names.{text_cmp}
 use Rattle.standardise.proofs.StepLemmas.{sorted_rises}
 use Rattle.standardise.proofs.word_set.in_order.Goals as goal
 

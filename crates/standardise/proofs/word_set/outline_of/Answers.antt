@@ -1,6 +1,5 @@
-use Rattle.std.proofs.Common.{arith, subst}
-use Rattle.std.proofs.lemmas.List.{take_all}
-use Rattle.standardise.specs.Outlines.{AreWithin}
+use Rattle.std.proofs.Common.{arith, subst, take_all}
+use Rattle.standardise.specs.Kept.{AreWithin}
 use Rattle.standardise.proofs.StepLemmas.{within_more}
 use Rattle.standardise.proofs.word_set.outline_of.Goals as goal
 

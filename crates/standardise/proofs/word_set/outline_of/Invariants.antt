@@ -1,5 +1,5 @@
 use Rattle.std.proofs.Common.{take}
-use Rattle.standardise.specs.Outlines.{AreWithin}
+use Rattle.standardise.specs.Kept.{AreWithin}
 use Rattle.standardise.proofs.word_set.outline_of.Given as goal
 
 abbrev pub invariant-loop-text : goal.invariant-loop-text

@@ -1,6 +1,6 @@
 use Rattle.std.proofs.Common.{rules}
 use Rattle.std.proofs.lemmas.Fn.{always_returns_same}
-use Rattle.standardise.specs.Tables.{text_cmp}
+use Rattle.standardise.specs.Names.{text_cmp}
 use Rattle.standardise.proofs.word_set.place_in.Goals as goal
 
 -- the closure gives the order of what is held and the text, and stays as it is

@@ -1,5 +1,5 @@
 use Rattle.std.proofs.Common.{◌++◌, ◌∙◌, ap, sym}
-use Rattle.standardise.specs.Words.{without_last, words}
+use Rattle.standardise.specs.Names.{without_last, words}
 use Rattle.standardise.proofs.StepLemmas.{some_last}
 use Rattle.standardise.proofs.WordLemmas.{title_last}
 use Rattle.standardise.proofs.words.dropped_at_end.Goals as goal

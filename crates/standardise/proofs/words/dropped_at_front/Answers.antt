@@ -1,5 +1,5 @@
 use Rattle.std.proofs.Common.{◌∙◌, ap, sym}
-use Rattle.standardise.specs.Words.{without_first, words}
+use Rattle.standardise.specs.Names.{without_first, words}
 use Rattle.standardise.proofs.StepLemmas.{some_first}
 use Rattle.standardise.proofs.WordLemmas.{title}
 use Rattle.standardise.proofs.words.dropped_at_front.Goals as goal

@@ -1,6 +1,5 @@
-use Rattle.std.proofs.Common.{◌≡◌, length}
-use Rattle.std.specs.Str.{IsUtf8}
-use Rattle.standardise.specs.Words.{without_first, words}
+use Rattle.std.proofs.Common.{◌≡◌, length, IsUtf8}
+use Rattle.standardise.specs.Names.{without_first, words}
 use Rattle.standardise.proofs.words.dropped_at_front.Given as goal
 
 abbrev pub invariant-loop-word : goal.invariant-loop-word

@@ -1,6 +1,6 @@
 use Rattle.std.proofs.Common.{◌≡◌, ◌∙◌, drop, get_or, take}
 use Rattle.std.proofs.lemmas.List.{get_or_default}
-use Rattle.standardise.specs.Words.{words, words_after}
+use Rattle.standardise.specs.Names.{words, words_after}
 use Rattle.standardise.proofs.StepLemmas.{no_space_here}
 use Rattle.standardise.proofs.WordLemmas.{past_letter, utf8_parted}
 use Rattle.standardise.proofs.words.first_space.Goals as goal

@@ -1,5 +1,5 @@
 use Rattle.std.proofs.Common.{◌≡◌, take, drop}
-use Rattle.standardise.specs.Words.{words, words_after}
+use Rattle.standardise.specs.Names.{words, words_after}
 use Rattle.standardise.proofs.words.first_space.Given as goal
 
 abbrev pub invariant-loop-i : goal.invariant-loop-i

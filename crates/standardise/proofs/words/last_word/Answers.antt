@@ -1,5 +1,4 @@
-use Rattle.std.proofs.Common.{ap, arith, length, length-take, subst, sym}
-use Rattle.std.specs.Str.{IsUtf8}
+use Rattle.std.proofs.Common.{ap, arith, length, length-take, subst, sym, IsUtf8}
 use Rattle.standardise.proofs.StepLemmas.{before_space}
 use Rattle.standardise.proofs.words.last_word.Goals as goal
 

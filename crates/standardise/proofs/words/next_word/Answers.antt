@@ -1,5 +1,4 @@
-use Rattle.std.proofs.Common.{◌+◌, ap, arith, length, length-drop, subst, sym}
-use Rattle.std.specs.Str.{IsUtf8}
+use Rattle.std.proofs.Common.{◌+◌, ap, arith, length, length-drop, subst, sym, IsUtf8}
 use Rattle.standardise.proofs.StepLemmas.{past_space}
 use Rattle.standardise.proofs.words.next_word.Goals as goal
 

@@ -1,6 +1,5 @@
-use Rattle.std.proofs.Common.{◌≡◌, ◌≤◌, length}
-use Rattle.std.specs.Str.{IsUtf8}
-use Rattle.standardise.specs.Words.{words}
+use Rattle.std.proofs.Common.{◌≡◌, ◌≤◌, length, IsUtf8}
+use Rattle.standardise.specs.Names.{words}
 use Rattle.standardise.proofs.words.next_word.Given as goal
 
 abbrev pub invariant-loop-at : goal.invariant-loop-at

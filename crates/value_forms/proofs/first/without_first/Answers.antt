@@ -1,6 +1,6 @@
 use Rattle.std.proofs.Common.{◌≡◌, ◌++◌, chars, ap, sym, ◌∙◌, arith}
 use Rattle.std.proofs.lemmas.Str.{encodes-chars}
-use Rattle.value_forms.specs.Firsts.{first_characters, later_characters}
+use Rattle.value_forms.specs.Initials.{first_characters, later_characters}
 use Rattle.value_forms.proofs.TextLemmas.{first_and_later, one_later}
 use Rattle.value_forms.proofs.first.without_first.Goals as goal
 

@@ -1,5 +1,4 @@
-use Rattle.std.proofs.Common.{◌≡◌, length}
-use Rattle.std.specs.Str.{bytes_eq}
+use Rattle.std.proofs.Common.{◌≡◌, length, bytes_eq}
 use Rattle.value_forms.specs.Initials.{initials_of}
 use Rattle.value_forms.proofs.initials.same_initials.Given as goal
 

@@ -3,8 +3,7 @@ use Rattle.std.proofs.Math.Seq.{map-set_same}
 use Rattle.std.proofs.lemmas.List.{get_or-map, get_or-set_other, get_or-set_same, length-map, map-set}
 use Rattle.std.proofs.lemmas.List.Elements.{All-set}
 use Rattle.value_pool.specs.declared.chains.Slot.{Slot}
-use Rattle.value_pool.specs.Chains.{bucket_of}
-use Rattle.value_pool.specs.Region.{IsSlotWithin, hashes_of, nexts_of}
+use Rattle.value_pool.specs.Table.{bucket_of, IsSlotWithin, hashes_of, nexts_of}
 use Rattle.value_pool.proofs.ChainLemmas.{threaded_step}
 use Rattle.value_pool.proofs.chains.thread.Goals as goal
 

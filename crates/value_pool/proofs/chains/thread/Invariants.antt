@@ -1,5 +1,5 @@
 use Rattle.std.proofs.Common.{◌≡◌, ℕ, List, All, length}
-use Rattle.value_pool.specs.Region.{IsSlotWithin, hashes_of, nexts_of, texts_at}
+use Rattle.value_pool.specs.Table.{IsSlotWithin, hashes_of, nexts_of, texts_at}
 use Rattle.value_pool.proofs.ChainLemmas.{IsThreaded}
 use Rattle.value_pool.proofs.chains.thread.Given as goal
 

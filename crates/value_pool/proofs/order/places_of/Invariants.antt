@@ -1,6 +1,5 @@
 use Rattle.std.proofs.Common.{take}
-use Rattle.value_pool.specs.Order.{HasPlaces}
-use Rattle.value_pool.specs.Region.{texts_at}
+use Rattle.value_pool.specs.Table.{HasPlaces, texts_at}
 use Rattle.value_pool.proofs.order.places_of.Given as goal
 
 abbrev pub invariant-loop-place : goal.invariant-loop-place

@@ -1,5 +1,5 @@
 use Rattle.std.proofs.Common.{◌++◌, ◌∙◌, ap, decimal}
-use Rattle.workload.specs.MadeSettings.{birth_field, birth_pass, given_field, surname_field, surname_pass, up_to_seed}
+use Rattle.workload.specs.Made.{birth_field, birth_pass, given_field, surname_field, surname_pass, up_to_seed}
 use Rattle.workload.proofs.Lemmas.{seven_pieces}
 use Rattle.workload.proofs.settings.settings_text.Goals as goal
 

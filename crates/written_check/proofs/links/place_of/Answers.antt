@@ -1,6 +1,6 @@
 use Rattle.std.proofs.Common.{◌∙◌, List, ap, ℕ}
 use Rattle.csv.specs.Records.{fields_of}
-use Rattle.link_base.specs.Standard.{position_of_id}
+use Rattle.link_base.specs.Words.{position_of_id}
 use Rattle.written_check.proofs.LinkLemmas.{near_is, place_is}
 use Rattle.written_check.proofs.links.place_of.Goals as goal
 

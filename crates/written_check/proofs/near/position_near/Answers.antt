@@ -1,6 +1,6 @@
 use Rattle.std.proofs.Common.{◌≡◌, ◌∙◌, List, ap, arith, sym, ℕ}
 use Rattle.std.proofs.lemmas.Slice.Eq.{bytes_eq-Decides}
-use Rattle.link_base.specs.Standard.{id_at, position_of_id}
+use Rattle.link_base.specs.Words.{id_at, position_of_id}
 use Rattle.written_check.proofs.LinkLemmas.{known_again}
 use Rattle.written_check.proofs.near.position_near.Goals as goal
 

@@ -1,9 +1,9 @@
 use Rattle.std.proofs.Common.{◌≡◌, ◌+◌, ◌<◌, ◌∙◌, ◌∷◌, [], ℕ, List, Bool, true, ap, arith, drop, get_or, length, map, refl, rules, sym}
 use Rattle.std.proofs.lemmas.List.{drop_all, drop_more}
 use Rattle.link_base.specs.declared.rule.RuleCell.{RuleCell}
-use Rattle.link_report.specs.RuleText.{cell_fields}
-use Rattle.patterns.specs.Shapes.{rare_of}
-use Rattle.written_check.specs.RuleRows.{TakesCellRow, first_difference}
+use Rattle.link_report.specs.LinksText.{cell_fields}
+use Rattle.patterns.specs.Patterns.{rare_of}
+use Rattle.written_check.specs.LinkRows.{TakesCellRow, first_difference}
 use Rattle.written_check.proofs.rule.difference_in.Goals as goal
 
 -- one row less, which is the one that is wanted

@@ -1,7 +1,7 @@
 use Rattle.std.proofs.Common.{◌≡◌, ◌≤◌, ◌+◌, drop, length, map}
-use Rattle.link_report.specs.RuleText.{cell_fields}
-use Rattle.patterns.specs.Shapes.{rare_of}
-use Rattle.written_check.specs.RuleRows.{first_difference}
+use Rattle.link_report.specs.LinksText.{cell_fields}
+use Rattle.patterns.specs.Patterns.{rare_of}
+use Rattle.written_check.specs.LinkRows.{first_difference}
 use Rattle.written_check.proofs.rule.difference_in.Given as goal
 
 abbrev pub invariant-loop-cell : goal.invariant-loop-cell

@@ -1,5 +1,5 @@
 use Rattle.std.proofs.Common.{◌∙◌, sym}
-use Rattle.patterns.specs.Shapes.{rare_of}
+use Rattle.patterns.specs.Patterns.{rare_of}
 use Rattle.written_check.proofs.FormLemmas.{none_is, rule_in_order}
 use Rattle.written_check.proofs.rule.is_rule_in_order.Goals as goal
 

@@ -3,8 +3,8 @@ use Rattle.std.proofs.lemmas.List.Elements.{All-contains}
 use Rattle.price_check.specs.Assignment.{IsBefore, IsWithin}
 use Rattle.link_base.specs.declared.rule.Candidate.{Candidate}
 use Rattle.written_check.specs.Certified.{AreTaken}
-use Rattle.link_base.specs.AnswerLaws.{refuses-then}
-use Rattle.written_check.specs.Refuted.{is_want}
+use Rattle.link_base.specs.Words.{refuses-then}
+use Rattle.written_check.specs.LinkRows.{is_want}
 use Rattle.written_check.proofs.StepLemmas.{after_apart, after_links, after_prices, after_rule, refuses_whole}
 use Rattle.written_check.proofs.FormLemmas.{links_are}
 use Rattle.written_check.proofs.RowFacts.{prices_are}

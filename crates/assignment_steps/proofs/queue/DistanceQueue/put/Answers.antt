@@ -1,5 +1,5 @@
 use Rattle.std.proofs.Common.{◌≡◌, ◌-◌, ◌*◌, ◌/◌, ◌∙◌, ℕ, ap, heap_items, rules}
-use Rattle.assignment_steps.specs.Entries.{ranked_of, waiting_of}
+use Rattle.assignment_steps.specs.Words.{ranked_of, waiting_of}
 use Rattle.assignment_steps.specs.declared.queue.TheConstants.{LAST, TURNS}
 use Rattle.assignment_steps.proofs.Members.{mapped_stays, mapped_added, mapped_only, rank_of_entry}
 use Rattle.assignment_steps.proofs.queue.DistanceQueue.put.Goals as goal

@@ -1,8 +1,7 @@
-use Rattle.std.proofs.Common.{◌*◌, ◌/◌, ℕ, ◌≤◌, ap, sym, refl, heap_items, rules, All}
-use Rattle.std.specs.Ordering.{nat_cmp}
+use Rattle.std.proofs.Common.{◌*◌, ◌/◌, ℕ, ◌≤◌, ap, sym, refl, heap_items, rules, All, nat_cmp}
 use Rattle.std.proofs.lemmas.List.Sorted.{first_le_from_greatest}
 use Rattle.std.proofs.lemmas.List.Elements.{All-map}
-use Rattle.assignment_steps.specs.Entries.{ranked_of, waiting_of}
+use Rattle.assignment_steps.specs.Words.{ranked_of, waiting_of}
 use Rattle.assignment_steps.specs.declared.queue.TheConstants.{TURNS}
 use Rattle.assignment_steps.proofs.Members.{falls_with_entry, distances_rise, left_inside, left_only, left_stays}
 use Rattle.assignment_steps.proofs.queue.DistanceQueue.take.Goals as goal

@@ -1,7 +1,6 @@
 use Rattle.std.proofs.Common.{◌<◌, ◌≡◌, ◌∙◌, length, sym, arith}
 use Rattle.std.proofs.lemmas.List.{get_or_read}
-use Rattle.assignment_steps.specs.Distances.{distance, far}
-use Rattle.assignment_steps.specs.DistanceLaws.{unreached-set}
+use Rattle.assignment_steps.specs.Words.{distance, far, unreached-set}
 use Rattle.assignment_steps.proofs.reaching.Reached.note_first.Goals as goal
 
 pub push_reserved-requires : goal.push_reserved-requires

@@ -1,7 +1,5 @@
 use Rattle.std.proofs.Common.{◌≡◌, ◌<◌, length, set, ap, inl, inr, arith, rules, vec_len}
-use Rattle.assignment_steps.specs.Distances.{far}
-use Rattle.assignment_steps.specs.ReachedLaws.{noted_count, noted_in}
-use Rattle.assignment_steps.specs.DistanceLaws.{distance-set}
+use Rattle.assignment_steps.specs.Words.{far, noted_count, noted_in, distance-set}
 use Rattle.assignment_steps.proofs.reaching.Reached.reach.Goals as goal
 
 pub returns : goal.returns

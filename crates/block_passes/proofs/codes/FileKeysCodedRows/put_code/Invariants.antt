@@ -1,5 +1,5 @@
 use Rattle.std.proofs.Common.{◌≡◌, ℕ, List, drop}
-use Rattle.block_passes.specs.Codes.{coded_texts}
+use Rattle.block_passes.specs.Numbering.{coded_texts}
 use Rattle.block_passes.specs.Keys.{extended, key_in_pass}
 use Rattle.block_passes.proofs.codes.FileKeysCodedRows.put_code.Given as goal
 

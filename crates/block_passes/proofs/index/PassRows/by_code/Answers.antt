@@ -2,13 +2,14 @@ use Rattle.std.proofs.Common.{◌≡◌, ◌<◌, ◌∷◌, ◌++◌, ◌∙◌
 use Rattle.std.proofs.lemmas.List.{get_or-map, length-map}
 use Rattle.block_passes.specs.CodedRows.{rows_of_code}
 use Rattle.block_passes.specs.Numbering.{number_among}
-use Rattle.block_passes.specs.NumberingLaws.{found_more}
+use Rattle.block_passes.specs.NumberingLaws.{told_more}
 use Rattle.block_passes.proofs.index.PassRows.by_code.Goals as goal
 
 pub loop-at-preserved : goal.loop-at-preserved
 loop-at-preserved g c =
     let grown : c.push.new.self.items ≡ c.loop-at.numbers.items ++ c.find.result ∷ [] = search (rules, c.in_ok-push.ensures.items) in
-    found_more c.in_ok-index.index.numbering (g.K.CodedRows.code_of c.args.a.now) c.loop-at.at c.loop-at.numbers.items c.push.new.self.items c.find.result c.loop-at.invariant grown (rw (c.deref.ensures.value, c.in_ok-has_code.ensures) at c.find.ensures)
+    let told = c.loop-at.invariant in
+    told_more (λ j. number_among c.in_ok-index.index.numbering (g.K.CodedRows.code_of c.args.a.now j)) c.loop-at.at c.loop-at.numbers.items c.push.new.self.items c.find.result told.0 told.1 grown (rw (c.deref.ensures.value, c.in_ok-has_code.ensures) at c.find.ensures)
 
 -- a row of a list is that of its number
 row-is : (groups : List (List ℕ)) (numbers : List ℕ) (at n : ℕ) (rows : List ℕ) → at < length numbers → get_or numbers at 0 ≡ n → get_or groups n [] ≡ rows → get_or (map (λ n. get_or groups n []) numbers) at [] ≡ rows

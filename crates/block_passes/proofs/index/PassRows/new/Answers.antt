@@ -1,6 +1,5 @@
 use Rattle.std.proofs.Common.{◌∙◌}
-use Rattle.block_passes.specs.Index.{row_at}
-use Rattle.block_passes.specs.Keys.{key_in_pass}
+use Rattle.block_passes.specs.Keys.{row_at, key_in_pass}
 use Rattle.block_passes.proofs.ChainLemmas.{rows-are-keys}
 use Rattle.block_passes.proofs.index.PassRows.new.Goals as goal
 

@@ -1,5 +1,5 @@
 use Rattle.std.proofs.Common.{◌∙◌, ◌<◌, length}
-use Rattle.value_pool.specs.Texts.{place_among}
+use Rattle.value_pool.specs.Pool.{place_among}
 use Rattle.block_passes.specs.NumberingLaws.{place-read, place-within}
 use Rattle.block_passes.proofs.StepLemmas.{text-taken}
 use Rattle.block_passes.proofs.numbering.Numbering.take.Goals as goal

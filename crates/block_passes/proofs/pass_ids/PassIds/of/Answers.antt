@@ -1,6 +1,6 @@
 use Rattle.std.proofs.Common.{[], length, take, get_or, arith, ap, ◌∙◌}
 use Rattle.std.proofs.lemmas.List.{get_or_read}
-use Rattle.block_passes.specs.KeyIds.{parts_in}
+use Rattle.block_passes.specs.Keys.{parts_in}
 use Rattle.block_passes.proofs.StepLemmas.{pass-fits, row-within, rows-counted}
 use Rattle.block_passes.proofs.pass_ids.PassIds.of.Goals as goal
 

@@ -1,6 +1,6 @@
 use Rattle.std.proofs.Common.{◌∷◌, ◌++◌, ◌∙◌, [], None, Some, refl, sym, ap, rules, option_map}
 use Rattle.std.proofs.lemmas.List.{flat_map_more, get_or_read}
-use Rattle.block_passes.specs.IdCodes.{bytes_of_ids, id_bytes}
+use Rattle.block_passes.specs.Numbering.{bytes_of_ids, id_bytes}
 use Rattle.block_passes.specs.PassIds.{all_ids}
 use Rattle.block_passes.proofs.StepLemmas.{extended-nil, no_more_parts, no_part_more, part_more}
 use Rattle.block_passes.proofs.pass_ids.PassIdsCodedRows.put_code.Goals as goal

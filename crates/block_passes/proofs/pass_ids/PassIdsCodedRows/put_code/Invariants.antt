@@ -1,5 +1,5 @@
 use Rattle.std.proofs.Common.{◌≡◌, ℕ, List, drop}
-use Rattle.block_passes.specs.IdCodes.{bytes_of_ids}
+use Rattle.block_passes.specs.Numbering.{bytes_of_ids}
 use Rattle.block_passes.specs.Keys.{extended}
 use Rattle.block_passes.specs.PassIds.{all_ids}
 use Rattle.block_passes.proofs.pass_ids.PassIdsCodedRows.put_code.Given as goal

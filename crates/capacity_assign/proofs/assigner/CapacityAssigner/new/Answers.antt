@@ -1,8 +1,7 @@
 use Rattle.std.proofs.Common.{length, sym, ap, ◌∙◌}
-use Rattle.assignment_steps.specs.Candidates.{edges_of}
+use Rattle.assignment_steps.specs.Words.{edges_of, range_edges, small_edges, rising_edges}
 use Rattle.capacity_assign.specs.Seating.{seating}
-use Rattle.capacity_assign.specs.Start.{IsAtStart}
-use Rattle.assignment_steps.specs.CandidatesLaws.{range_edges, small_edges, rising_edges}
+use Rattle.capacity_assign.specs.Prepared.{IsAtStart}
 use Rattle.capacity_assign.proofs.Final.{between_first, places_first}
 use Rattle.capacity_assign.proofs.assigner.CapacityAssigner.new.Goals as goal
 

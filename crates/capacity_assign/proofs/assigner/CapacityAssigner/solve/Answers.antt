@@ -1,11 +1,9 @@
 use Rattle.std.proofs.Common.{◌≡◌, ℕ, ◌+◌, pos, length, filter, sym, ap, ◌∙◌, arith}
 use Rattle.std.proofs.lemmas.List.{get_or_default, length-map}
-use Rattle.price_check.specs.Capacities.{capacity_of}
-use Rattle.capacity_assign.specs.Core.{linked_at}
-use Rattle.assignment_steps.specs.Market.{number}
+use Rattle.price_check.specs.Assignment.{capacity_of}
+use Rattle.capacity_assign.specs.Seating.{linked_at, seating}
+use Rattle.assignment_steps.specs.Words.{number, edges_of, is_linked}
 use Rattle.capacity_assign.specs.Round.{IsBetweenRounds}
-use Rattle.capacity_assign.specs.Seating.{seating}
-use Rattle.assignment_steps.specs.Candidates.{edges_of, is_linked}
 use Rattle.capacity_assign.specs.Solution.{Problem}
 use Rattle.capacity_assign.proofs.Final.{within, certifies}
 use Rattle.capacity_assign.proofs.assigner.CapacityAssigner.solve.Goals as goal

@@ -1,5 +1,5 @@
 use Rattle.std.proofs.Common.{◌≡◌, ◌∙◌, length, rules, sym}
-use Rattle.link_base.specs.Rows.{values_in}
+use Rattle.link_base.specs.Words.{values_in}
 use Rattle.link_base.proofs.RegionFacts.{length_pieces}
 use Rattle.link_base.proofs.rows.StdRows.len.Goals as goal
 

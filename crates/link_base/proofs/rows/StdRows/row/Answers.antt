@@ -1,5 +1,5 @@
 use Rattle.std.proofs.Common.{◌<◌, ◌∙◌, ap, length, sym}
-use Rattle.link_base.specs.Rows.{IsPlaced, values_in}
+use Rattle.link_base.specs.Words.{IsPlaced, values_in}
 use Rattle.link_base.proofs.RegionFacts.{row_at, row_placed, length_pieces}
 use Rattle.link_base.proofs.rows.StdRows.row.Goals as goal
 

@@ -1,5 +1,5 @@
 use Rattle.std.proofs.Common.{◌<◌, ◌∙◌, arith, length, sym}
-use Rattle.link_base.specs.Standard.{no_record}
+use Rattle.link_base.specs.Words.{no_record}
 use Rattle.link_base.proofs.RisingFacts.{length_records, record_at}
 use Rattle.link_base.proofs.standard.StdFile.row.Goals as goal
 

@@ -1,5 +1,5 @@
 use Rattle.std.proofs.Common.{List, subst, sym}
-use Rattle.link_base.specs.Standard.{Record}
+use Rattle.link_base.specs.Words.{Record}
 use Rattle.pair_walk.specs.Rows.{AreAllReady}
 use Rattle.link_core.proofs.preparing.Prepared.blocks.Goals as goal
 

@@ -1,5 +1,5 @@
 use Rattle.std.proofs.Common.{◌∙◌}
-use Rattle.link_core.proofs.RuleLemmas.{rares_seen}
+use Rattle.link_core.proofs.ResultLemmas.{rares_seen}
 use Rattle.link_core.proofs.rules.PlanShares.given.Goals as goal
 
 pub returns-clause-rares : goal.returns-clause-rares

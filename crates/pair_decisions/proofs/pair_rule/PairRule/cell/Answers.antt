@@ -1,10 +1,9 @@
 use Rattle.std.proofs.Common.{◌≡◌, ◌<◌, ◌∙◌, List, Some, ap, arith, get_or, length, subst, sym, find}
 use Rattle.std.proofs.lemmas.List.{get_or_default}
-use Rattle.link_base.specs.Rule.{empty_cell}
+use Rattle.link_base.specs.Words.{empty_cell}
 use Rattle.link_base.specs.declared.rule.RuleCell.{RuleCell}
 use Rattle.pair_decisions.proofs.ComparatorLemmas.{found_at}
-use Rattle.pair_decisions.specs.PairRule.{PairRuleView, has_pattern}
-use Rattle.pair_decisions.specs.Places.{place_of}
+use Rattle.pair_decisions.specs.Words.{PairRuleView, has_pattern, place_of}
 use Rattle.pair_decisions.proofs.pair_rule.PairRule.cell.Goals as goal
 
 pub returns-clause-found : goal.returns-clause-found

@@ -1,9 +1,7 @@
 use Rattle.std.proofs.Common.{◌≡◌, ◌<◌, ℕ, List, length, ap, arith, subst, sym, ◌∙◌, All, slice_index}
 use Rattle.link_base.specs.declared.rule.RuleCell.{RuleCell}
-use Rattle.patterns.specs.Shapes.{pattern_count_by}
-use Rattle.pair_decisions.specs.Comparators.{rares_of}
-use Rattle.pair_decisions.specs.CellLaws.{cells_below, cells_many, cells_stand, few_patterns}
-use Rattle.pair_decisions.specs.Places.{place_of}
+use Rattle.patterns.specs.Patterns.{pattern_count_by}
+use Rattle.pair_decisions.specs.Words.{rares_of, cells_below, cells_many, cells_stand, few_patterns, place_of}
 use Rattle.pair_decisions.proofs.pair_rule.PairRule.new.Goals as goal
 
 pub places_of-requires-clause-few : goal.places_of-requires-clause-few

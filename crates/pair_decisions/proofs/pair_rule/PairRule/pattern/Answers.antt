@@ -1,8 +1,7 @@
 use Rattle.std.proofs.Common.{◌∙◌, ℕ, List, ap, map}
 use Rattle.comparators.specs.declared.ids.FieldById.{FieldById}
-use Rattle.pair_decisions.specs.Comparators.{answers_of}
+use Rattle.pair_decisions.specs.Words.{answers_of, PairRuleView, pattern_by}
 use Rattle.pair_decisions.proofs.ComparatorLemmas.{pattern_seen}
-use Rattle.pair_decisions.specs.PairRule.{PairRuleView, pattern_by}
 use Rattle.pair_decisions.proofs.pair_rule.PairRule.pattern.Goals as goal
 
 pub returns-clause-number : goal.returns-clause-number

@@ -1,6 +1,6 @@
 use Rattle.std.proofs.Common.{ap, arith, length}
 use Rattle.pair_walk.proofs.JoinLemmas.{pairs_left}
-use Rattle.pair_walk.specs.Pairs.{pairs_of_rows}
+use Rattle.pair_walk.specs.Rows.{pairs_of_rows}
 use Rattle.pair_walk.proofs.walker.Walker.most_pairs.Goals as goal
 
 pub returns : goal.returns

@@ -1,5 +1,5 @@
 use Rattle.std.proofs.Common.{◌≡◌, ◌+◌, ◌<◌, length, take, drop, true}
-use Rattle.review_journal.specs.Adding.{is_not_before, with_verdicts}
+use Rattle.review_journal.specs.Batch.{is_not_before, with_verdicts}
 use Rattle.review_journal.proofs.journal.Journal.push_verdicts.Given as goal
 
 abbrev pub invariant-loop-row : goal.invariant-loop-row

@@ -1,7 +1,6 @@
-use Rattle.std.proofs.Common.{◌≡◌, ◌∙◌, ◌∷◌, [], arith, length, sum}
-use Rattle.std.specs.List.{filter}
+use Rattle.std.proofs.Common.{◌≡◌, ◌∙◌, ◌∷◌, [], arith, length, sum, filter}
 use Rattle.link_limits.specs.declared.TheConstants.{MOST_ROWS}
-use Rattle.patterns.specs.Shapes.{rare_of}
+use Rattle.patterns.specs.Patterns.{rare_of}
 use Rattle.sample_counts.specs.Counts.{has_status}
 use Rattle.sample_counts.proofs.Lemmas.{filter-le, some-of, total-of}
 use Rattle.sample_counts.specs.CountLaws.{none-rare}

@@ -1,5 +1,4 @@
-use Rattle.std.proofs.Common.{◌+◌, ◌∙◌, ap, sym}
-use Rattle.std.specs.Str.{bytes_eq}
+use Rattle.std.proofs.Common.{◌+◌, ◌∙◌, ap, sym, bytes_eq}
 use Rattle.settings.proofs.Ranges.{named_more}
 use Rattle.settings.proofs.passes.PartsChoices.named.Goals as goal
 

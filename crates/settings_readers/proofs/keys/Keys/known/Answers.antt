@@ -1,7 +1,7 @@
 use Rattle.std.proofs.Common.{◌++◌, ◌∙◌, ap, sym}
 use Rattle.std.specs.Map.Iter.{deref_pair}
 use Rattle.std.proofs.lemmas.Map.Iter.{rest_more}
-use Rattle.settings_readers.specs.StepLaws.{refused_as}
+use Rattle.settings_readers.specs.KeptLaws.{refused_as}
 use Rattle.settings_readers.proofs.Lemmas.{known_more, known_stops}
 use Rattle.settings_readers.proofs.keys.Keys.known.Goals as goal
 

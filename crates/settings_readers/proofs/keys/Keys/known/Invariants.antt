@@ -1,7 +1,7 @@
 use Rattle.std.proofs.Common.{◌≡◌, ◌++◌, map}
 use Rattle.toml.specs.View.{members_view}
 use Rattle.link_texts.specs.Texts.{stands_among}
-use Rattle.settings_readers.specs.Parts.{known}
+use Rattle.settings_readers.specs.Values.{known}
 use Rattle.settings_readers.proofs.keys.Keys.known.Given as goal
 
 abbrev pub invariant-loop-key : goal.invariant-loop-key

@@ -1,6 +1,6 @@
 use Rattle.std.proofs.Common.{◌++◌, ◌∷◌, ◌∙◌, [], List, ap, refl}
 use Rattle.std.specs.Option.{option_or}
-use Rattle.link_base.specs.RowsWriter.{WrittenRows}
+use Rattle.link_base.specs.Words.{WrittenRows}
 use Rattle.link_base.specs.declared.standard.Value.{Value}
 use Rattle.standard_files.proofs.FileSteps.{has_more}
 use Rattle.standard_files.proofs.file_values.FileValues.take.Goals as goal

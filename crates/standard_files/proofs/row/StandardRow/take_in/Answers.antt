@@ -1,7 +1,6 @@
 use Rattle.std.proofs.Common.{◌≡◌, ◌<◌, ◌∙◌, [], ap, arith, get_or, length, length-append}
 use Rattle.std.proofs.lemmas.List.Elements.{All-push}
-use Rattle.link_base.specs.RowsWriter.{WrittenRows}
-use Rattle.link_base.specs.Standard.{IsValid}
+use Rattle.link_base.specs.Words.{WrittenRows, IsValid}
 use Rattle.standard_files.specs.Values.{standard_values, unreadable_from, unreadable_in_row}
 use Rattle.standard_files.proofs.SortFacts.{first_more, few_more, unreadable_more, values_more, within_more}
 use Rattle.standard_files.proofs.row.StandardRow.take_in.Goals as goal

@@ -1,7 +1,6 @@
-use Rattle.std.proofs.Common.{◌≡◌, ◌<◌, ◌≤◌, ◌+◌, ◌++◌, drop, length, IfSome}
-use Rattle.std.specs.List.{All}
+use Rattle.std.proofs.Common.{◌≡◌, ◌<◌, ◌≤◌, ◌+◌, ◌++◌, drop, length, IfSome, All}
 use Rattle.std.specs.Option.{option_or}
-use Rattle.link_base.specs.Standard.{IsValid}
+use Rattle.link_base.specs.Words.{IsValid}
 use Rattle.standard_files.specs.Values.{standard_values, unreadable_from, unreadable_in_row}
 use Rattle.standard_files.proofs.row.StandardRow.take_in.Given as goal
 

@@ -1,7 +1,6 @@
-use Rattle.std.proofs.Common.{◌∙◌, Some, ap, get_or, subst, sym}
-use Rattle.std.specs.Str.{IsUtf8}
-use Rattle.standardise.specs.Outlines.{may_be}
-use Rattle.standardise.specs.Tables.{word_for}
+use Rattle.std.proofs.Common.{◌∙◌, Some, ap, get_or, subst, sym, IsUtf8}
+use Rattle.standardise.specs.Kept.{may_be}
+use Rattle.standardise.specs.Names.{word_for}
 use Rattle.standardise.proofs.StepLemmas.{found_pair, missed_pair, unlike_word}
 use Rattle.standardise.proofs.WordLemmas.{word_is_utf8}
 use Rattle.standardise.proofs.pairs.WordTable.found.Goals as goal

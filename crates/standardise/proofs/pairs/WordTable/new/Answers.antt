@@ -1,5 +1,4 @@
-use Rattle.std.proofs.Common.{◌∙◌, arith}
-use Rattle.std.proofs.lemmas.List.{take_all}
+use Rattle.std.proofs.Common.{◌∙◌, arith, take_all}
 use Rattle.link_base.specs.declared.tables.WordPair.{WordPair}
 use Rattle.standardise.proofs.StepLemmas.{within_more, taken_more}
 use Rattle.standardise.proofs.pairs.WordTable.new.Goals as goal

@@ -1,6 +1,6 @@
 use Rattle.std.proofs.Common.{◌≡◌, take}
 use Rattle.link_base.specs.declared.tables.WordPair.{WordPair}
-use Rattle.standardise.specs.Outlines.{AreWithin}
+use Rattle.standardise.specs.Kept.{AreWithin}
 use Rattle.standardise.proofs.pairs.WordTable.new.Given as goal
 
 abbrev pub invariant-loop-pair : goal.invariant-loop-pair

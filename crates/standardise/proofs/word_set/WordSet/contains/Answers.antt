@@ -3,8 +3,8 @@ use Rattle.std.specs.Ordering.{ordering_index}
 use Rattle.std.specs.List.Sorted.{IsNonDecreasingBy}
 use Rattle.std.proofs.lemmas.List.Sorted.{list_any-IsPermutation}
 use Rattle.link_texts.specs.Texts.{stands_among}
-use Rattle.standardise.specs.Outlines.{may_be}
-use Rattle.standardise.specs.Tables.{text_cmp}
+use Rattle.standardise.specs.Kept.{may_be}
+use Rattle.standardise.specs.Names.{text_cmp}
 use Rattle.standardise.proofs.StepLemmas.{found_text, missed_text, unlike_text}
 use Rattle.standardise.proofs.word_set.WordSet.contains.Goals as goal
 

@@ -1,7 +1,6 @@
 use Rattle.std.proofs.Common.{◌≡◌, ◌≤◌, ◌+◌, ◌-◌, ◌++◌, ◌∷◌, [], ℕ, length, vec_capacity, vec_len, arith, rules, sym, ◌∙◌, ap, length-append}
 use Rattle.value_pool.specs.declared.chains.Slot.{Slot}
-use Rattle.value_pool.specs.Region.{hashes_of, nexts_of, texts_at}
-use Rattle.value_pool.specs.Table.{texts_of}
+use Rattle.value_pool.specs.Table.{hashes_of, nexts_of, texts_at, texts_of}
 use Rattle.std.proofs.lemmas.List.{length-map, map-append}
 use Rattle.value_pool.proofs.ChainLemmas.{appended, texts-push, chained-push, hashed-push}
 use Rattle.value_pool.proofs.SearchLemmas.{as_many}

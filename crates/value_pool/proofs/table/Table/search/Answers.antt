@@ -1,7 +1,6 @@
 use Rattle.std.proofs.Common.{◌-◌, sym, ◌∙◌, rules, arith}
 use Rattle.std.proofs.lemmas.List.{length-map}
-use Rattle.value_pool.specs.Region.{hashes_of, nexts_of}
-use Rattle.value_pool.specs.Table.{texts_of}
+use Rattle.value_pool.specs.Table.{hashes_of, nexts_of, texts_of}
 use Rattle.value_pool.proofs.ChainLemmas.{found_at}
 use Rattle.value_pool.proofs.SearchLemmas.{as_many, held_where, inside_slots, left-start, next_left, none-held, text_at_slot, text_by_hash}
 use Rattle.value_pool.proofs.table.Table.search.Goals as goal

@@ -1,6 +1,5 @@
 use Rattle.std.proofs.Common.{◌<◌, ◌+◌, ◌^◌, length}
-use Rattle.value_pool.specs.Region.{hashes_of}
-use Rattle.value_pool.specs.Table.{texts_of}
+use Rattle.value_pool.specs.Table.{hashes_of, texts_of}
 use Rattle.value_pool.proofs.SearchLemmas.{IsLeft}
 use Rattle.value_pool.proofs.table.Table.search.Given as goal
 

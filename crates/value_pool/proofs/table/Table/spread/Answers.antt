@@ -1,7 +1,6 @@
 use Rattle.std.proofs.Common.{◌≡◌, ap, ◌∙◌, rules}
 use Rattle.std.proofs.lemmas.List.{places, with_items_is}
-use Rattle.value_pool.specs.Region.{hashes_of, texts_at}
-use Rattle.value_pool.specs.Table.{IsHashed, texts_of}
+use Rattle.value_pool.specs.Table.{hashes_of, texts_at, IsHashed, texts_of}
 use Rattle.value_pool.proofs.SearchLemmas.{anew}
 use Rattle.value_pool.proofs.table.Table.spread.Goals as goal
 

@@ -1,5 +1,5 @@
 use Rattle.std.proofs.Common.{◌≡◌, pos, replicate, rules, subst, sym}
-use Rattle.written_check.specs.PriceRows.{IsReadTo}
+use Rattle.written_check.specs.Certified.{IsReadTo}
 use Rattle.written_check.proofs.FormLemmas.{no_price_read}
 use Rattle.written_check.proofs.prices.SidePrices.new.Goals as goal
 

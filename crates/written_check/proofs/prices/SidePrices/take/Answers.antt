@@ -1,8 +1,8 @@
 use Rattle.std.proofs.Common.{◌∙◌, FitsSigned, List, ap, arith, length, of_z, rules, to_z, w64, ℕ, ℤ, pos}
 use Rattle.std.proofs.lemmas.Int.{to_z-of_z}
 use Rattle.csv.specs.Records.{fields_of}
-use Rattle.link_base.specs.Standard.{position_of_id}
-use Rattle.written_check.specs.PriceRows.{price_in}
+use Rattle.link_base.specs.Words.{position_of_id}
+use Rattle.written_check.specs.Certified.{price_in}
 use Rattle.written_check.proofs.FormLemmas.{stored_read, stored_refused, stored_taken}
 use Rattle.written_check.proofs.prices.SidePrices.take.Goals as goal
 
