@@ -166,5 +166,5 @@ SHAPES = {
     "quotes": Shape(quotes, 10_000, 100_000, COLUMN, most=2.5),
     "long_ids": Shape(long_ids("i" * 251), 400, 1_414, PAIRS, most_memory=35),
     "quoted_ids": Shape(long_ids('""' * 251), 400, 1_414, PAIRS, most=2.5, most_memory=65),
-    "names_grow": Shape(names_grow, 1_500, 100_000, PAIRS, known="2.25 times the instructions, half of the memory"),
+    "names_grow": Shape(names_grow, 1_500, 100_000, PAIRS),
 }

@@ -95,11 +95,6 @@ chained-push heads hashes nexts t b next v h long low is_b is_next is_v =
 pub slot_at : {X : Type 0} (f : Slot → X) (slots : List Slot) (p : ℕ) (s : Slot) (d : X) → p < length slots → s ≡ get_or slots p s → f s ≡ get_or (map f slots) p d
 slot_at f slots p s d lt e = ap f e ∙ sym (get_or-map f slots p s d lt)
 
--- Equal texts, byte by byte.
-
-pub alike : (a b : List ℕ) → length a ≡ length b → ((k : ℕ) → k < length a → get_or a k 0 ≡ get_or b k 0) → true ≡ bytes_eq a b
-alike a b long each = sym ((bytes_eq-Decides a b).1 (ext_get_or 0 a b long each))
-
 -- Last words tell short texts apart.
 
 abbrev IsBytes : List ℕ → Type 0

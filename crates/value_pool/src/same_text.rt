@@ -5,21 +5,6 @@ ghost use Rattle.value_pool.specs.Hashes.{last_word};
 /// How many bytes a word has.
 const WORD_BYTES: usize = 8;
 
-// Whether two texts are equal, byte by byte.
-fn same_bytes(a: &[u8], b: &[u8]) -> bool
-    ensures { result ≡ bytes_eq a.now b.now }
-{
-    if a.len() != b.len() {
-        return false;
-    }
-    for at in 0..a.len() {
-        if a[at] != b[at] {
-            return false;
-        }
-    }
-    true
-}
-
 /// Whether two texts with these last words are equal.
 pub(crate) fn same_text(held: &[u8], held_last: u64, text: &[u8], last: u64) -> bool
     requires held { held_last ≡ last_word held.now }
@@ -29,5 +14,5 @@ pub(crate) fn same_text(held: &[u8], held_last: u64, text: &[u8], last: u64) -> 
     if held_last != last || held.len() != text.len() {
         return false;
     }
-    held.len() <= WORD_BYTES || same_bytes(held, text)
+    held.len() <= WORD_BYTES || held == text
 }

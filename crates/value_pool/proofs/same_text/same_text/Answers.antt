@@ -9,5 +9,5 @@ returns-then-held-le-WORD_BYTES c =
     let text = c.args.text.now in
     let few : nat_le (length held) 8 ≡ true = search rules in
     let last : c.args.held_last ≡ c.args.last = omega (arith, c.if-held_last-last.false) in
-    let same : held ≡ text = word_whole held text (λ i. omega (arith, c.type_inv.held i)) (λ i. omega (arith, c.type_inv.text i)) (omega (arith, c.if-held-text.false)) (omega (arith, c.if-held-le-WORD_BYTES.true)) (sym c.requires.held ∙ last ∙ c.requires.text) in
+    let same : held ≡ text = word_whole held text (λ i. search rules) (λ i. search rules) (omega (arith, c.if-held-text.false)) (omega (arith, c.if-held-le-WORD_BYTES.true)) (sym c.requires.held ∙ last ∙ c.requires.text) in
     few ∙ sym ((bytes_eq-Decides held text).1 same)
