@@ -25,7 +25,7 @@ INSTRUCTIONS = re.compile(r"I +refs: +([0-9,]+)")
 
 
 class Refused(Exception):
-    """A command that was to end with 0 and did not, and what it said."""
+    """A command that ended in another way than it was to, and what it said."""
 
 
 @dataclass(frozen=True)
@@ -42,23 +42,23 @@ def adopt() -> None:
         raise CannotRun("prctl: this system gives no process to another parent than the first")
 
 
-def spend(words: list[str], folder: Path) -> Cost:
-    """What one run of a command costs; its output is thrown away. Raises Refused where it does not end with 0.
+def spend(words: list[str], folder: Path, ends: int = 0) -> Cost:
+    """What one run of a command costs; its output is thrown away. Raises Refused where it does not end with this status.
 
     The command is started by a shell that ends at once, and is waited for here. The kernel counts for the memory of a process also that of
     the process from which it was made, which would be this one with all its lists; so it is a shell's, about one megabyte.
     """
     subprocess.run(["/bin/sh", "-c", '"$@" > /dev/null 2> said &', "sh", *words], cwd=folder, env=ENVIRONMENT, check=True)
     _, status, used = os.wait4(-1, 0)
-    if status != 0:
+    if os.waitstatus_to_exitcode(status) != ends:
         said = (folder / "said").read_text("utf-8", "replace").strip()
         raise Refused(f"{' '.join(words[1:])}: status {os.waitstatus_to_exitcode(status)}: {said}")
     return Cost(used.ru_utime + used.ru_stime, used.ru_maxrss)
 
 
-def least(words: list[str], folder: Path, rounds: int) -> Cost:
-    """The least time and the least memory of some runs."""
-    costs = [spend(words, folder) for _ in range(rounds)]
+def least(words: list[str], folder: Path, rounds: int, ends: int = 0) -> Cost:
+    """The least time and the least memory of some runs, each of which ends with this status."""
+    costs = [spend(words, folder, ends) for _ in range(rounds)]
     return Cost(min(it.seconds for it in costs), min(it.kilobytes for it in costs))
 
 
@@ -70,14 +70,14 @@ def valgrind() -> str:
     return found
 
 
-def count(words: list[str], folder: Path) -> int:
-    """The instructions of one run of a command and of all that it starts. Raises Refused where it does not end with 0."""
+def count(words: list[str], folder: Path, ends: int = 0) -> int:
+    """The instructions of one run of a command and of all that it starts. Raises Refused where it does not end with this status."""
     tool = [valgrind(), "--tool=cachegrind", "--cache-sim=no", "--cachegrind-out-file=/dev/null", "--trace-children=yes"]
     ended = subprocess.run([*tool, *words], cwd=folder, env=ENVIRONMENT, stdin=subprocess.DEVNULL, stdout=subprocess.DEVNULL,
                            stderr=subprocess.PIPE, check=False)
     said = ended.stderr.decode("utf-8", "replace")
     found = INSTRUCTIONS.findall(said)
-    if ended.returncode != 0 or not found:
+    if ended.returncode != ends or not found:
         raise Refused(f"{' '.join(words[1:])}: status {ended.returncode} under valgrind: {said.strip()[-600:]}")
     return sum(int(number.replace(",", "")) for number in found)
 

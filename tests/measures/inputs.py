@@ -103,6 +103,15 @@ def made(folder: Path, rows: int) -> None:
     put_settings(folder, fields, [["surname"], ["birth"]], top)
 
 
+def tripled(folder: Path, rows: int) -> None:
+    """One file of so many rows in which three stand for a person, the third with another given name; the other file has none."""
+    erring = lambda row: described(*changed(10 * (row // 3) + 3)) if row % 3 == 2 else described(*person(10 * (row // 3) + 3))
+    put(folder, "a.csv", "id,surname,given,birth", (f"A{row},{erring(row)}" for row in range(rows)))
+    put(folder, "b.csv", "id,surname,given,birth", ())
+    fields = [Field("surname", compare="soundex"), Field("given"), Field("birth", kind="date")]
+    put_settings(folder, fields, [["surname"], ["birth"]], ALL_LINKS)
+
+
 def shuffled(count: int, draw: random.Random) -> list[int]:
     """The numbers from 0 in some order."""
     numbers = list(range(count))

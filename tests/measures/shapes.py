@@ -30,6 +30,7 @@ class Shape:
     command: tuple[str, ...]
     most: float = 2.0  # times the instructions (at full size the time) of the ordinary files
     most_memory: float = 1.5  # times their memory
+    ends: int = 0  # the status with which the command ends on the hostile files
     known: str = ""  # why it is not yet held, and what it comes to at full size
 
 
@@ -153,8 +154,42 @@ def quotes(hostile: Path, ordinary: Path, size: int) -> None:
             put(folder, f"{side}.csv", "id,x", (f'{at},"{inner}{at:06}"' for at in range(size)))
 
 
+def ordinary_rows(folder: Path, side: str, length: int) -> None:
+    """A table of about so many bytes, in rows of 600."""
+    notes = ",".join("n" * 195 for _ in range(3))
+    put(folder, f"{side}.csv", "id,x,p,q,r", (f"{at:06},{place_text(at)},{notes}" for at in range(length // 600)))
+
+
+def long_settings(filler: str) -> Callable[[Path, Path, int], None]:
+    """Settings with so many bytes that say nothing. Ordinary files have as many in their rows: settings say no more than some pages."""
+
+    def write(hostile: Path, ordinary: Path, size: int) -> None:
+        for folder, length in ((hostile, 6_000), (ordinary, size // 2)):
+            for side in "ab":
+                ordinary_rows(folder, side, length)
+            one_field(folder)
+        with (hostile / "s.toml").open("a", encoding="utf-8") as out:
+            out.write(filler * (size // len(filler)))
+
+    return write
+
+
+def long_table(begins: str, filler: str) -> Callable[[Path, Path, int], None]:
+    """A table of so many bytes that is one row, or what no row ends. The ordinary one has as many bytes in rows of 600."""
+
+    def write(hostile: Path, ordinary: Path, size: int) -> None:
+        for folder in (hostile, ordinary):
+            ordinary_rows(folder, "b", 6_000)
+        ordinary_rows(ordinary, "a", size)
+        (hostile / "a.csv").write_text(begins + filler * (size // len(filler)), "utf-8")
+
+    return write
+
+
 COLUMN = ("pairs", "a.csv", "b.csv", "x")
 PAIRS = ("pairs", "s.toml")
+# The kit's reader keeps eight bytes for each field of a record, in room that doubles.
+COMMAS = {"header": "12.6 times the time, 19 times the memory", "row": "3.4 times the time, 7 times the memory"}
 
 SHAPES = {
     "ids_one_chain": Shape(ids_one_chain, 4_000, 100_000, ("rule", "s.toml")),
@@ -167,4 +202,15 @@ SHAPES = {
     "long_ids": Shape(long_ids("i" * 251), 400, 1_414, PAIRS, most_memory=35),
     "quoted_ids": Shape(long_ids('""' * 251), 400, 1_414, PAIRS, most=2.5, most_memory=65),
     "names_grow": Shape(names_grow, 1_500, 100_000, PAIRS),
+    "settings_of_blanks": Shape(long_settings(" " * 79 + "\n"), 500_000, 60_000_000, PAIRS, most=2.5),
+    "settings_of_one_blank_line": Shape(long_settings(" "), 500_000, 60_000_000, PAIRS, most=2.5),
+    "settings_of_comments": Shape(long_settings("# " + "x" * 77 + "\n"), 500_000, 60_000_000, PAIRS, most=2.5),
+    "settings_of_short_comments": Shape(long_settings("#\n"), 500_000, 60_000_000, PAIRS, most=2.5),
+    "open_quote": Shape(long_table('id,x\n"', "x"), 500_000, 60_000_000, COLUMN, ends=4),
+    "long_header": Shape(long_table("id,x", "x"), 500_000, 60_000_000, COLUMN, most_memory=2.5, ends=4),
+    "header_of_commas": Shape(long_table("id,x", ","), 500_000, 60_000_000, COLUMN, ends=5, known=COMMAS["header"]),
+    "row_of_commas": Shape(long_table("id,x\n", ","), 500_000, 60_000_000, COLUMN, ends=4, known=COMMAS["row"]),
+    "empty_lines": Shape(long_table("id,x\n", "\n"), 500_000, 60_000_000, COLUMN, most=3),
+    "lone_quotes": Shape(long_table("id,x\n", '"\n'), 500_000, 60_000_000, COLUMN, ends=4),
+    "nul_bytes": Shape(long_table("id,x\n", "\0"), 500_000, 60_000_000, COLUMN, ends=4),
 }
